@@ -1,0 +1,99 @@
+ghost use Rattle.std.specs.Prelude.{◌≡◌, ◌<◌, ◌-◌, ◌^◌, ℕ, List, [], ◌∷◌, ◌++◌, length, min, remove, sum_by, OnOk, OnErr, MatchOption, slice_get, Some};
+ghost use Rattle.std.specs.List.{list_any};
+ghost use Rattle.std.specs.Str.{bytes_eq};
+ghost use Rattle.zre_values.specs.Lists.{without};
+
+use crate::{Octets, OutOfMemory};
+use std::alloc::Global;
+use std::marker::Model;
+
+/// A list of frames, or of other lists of octets: the parts of a message, the groups of a peer.
+#[derive(Debug, Drop)]
+pub struct Frames {
+    items: Vec<Octets>,
+}
+
+impl Model for Frames {
+    ghost Value = { List (List ℕ) };
+
+    ghost view = { λ frames. frames.items.items };
+}
+
+impl Frames {
+    /// The empty list, which takes no memory.
+    pub fn new(alloc: Global) -> Self
+        ensures { result ≡ [] }
+    {
+        Frames {
+            items: Vec::new(alloc),
+        }
+    }
+
+    pub fn len(&self) -> usize
+        ensures { result ≡ length self.now }
+    {
+        self.items.len()
+    }
+
+    pub fn get(&self, i: usize) -> &[u8]
+        requires { i < length self.now }
+        ensures { slice_get self.now i ≡ Some result.now }
+    {
+        self.items[i].as_slice()
+    }
+
+    /// The members, to be gone over by `for`.
+    pub fn as_slice(&self) -> &[Octets]
+        ensures { result.now ≡ self.now }
+    {
+        self.items.as_slice()
+    }
+
+    /// Appends a member, or nothing.
+    pub fn push(&mut self, frame: Octets) -> Result<(), OutOfMemory>
+        ensures ok { OnOk result (self.new ≡ self.old ++ frame ∷ []) }
+        ensures err { OnErr result (self.new ≡ self.old) }
+    {
+        self.items.push(frame)?;
+        Ok(())
+    }
+
+    /// The sum of the lengths, or the greatest u64 where the sum is above that.
+    pub fn total(&self) -> u64
+        ensures { result ≡ min (sum_by length self.now) (2 ^ 64 - 1) }
+    {
+        let mut total: u64 = 0;
+        for frame in &self.items {
+            total = total.saturating_add(frame.len() as u64);
+        }
+        total
+    }
+
+    /// Whether a member equals this one. It looks at one member after the other.
+    pub fn contains(&self, frame: &[u8]) -> bool
+        ensures { result ≡ list_any (λ x. bytes_eq x frame.now) self.now }
+    {
+        self.items.iter().any(|x| x.as_slice() == frame)
+    }
+
+    /// Removes the first member that equals this one, if there is one.
+    pub fn remove_first(&mut self, frame: &[u8])
+        ensures { self.new ≡ without frame.now self.old }
+    {
+        if let Some(i) = place_of(&self.items, frame) {
+            let _ = self.items.remove(i);
+        }
+    }
+}
+
+fn place_of(items: &[Octets], frame: &[u8]) -> Option<usize>
+    ensures { MatchOption result (without frame.now items.now ≡ items.now)
+        (λ i. (i < length items.now) × (without frame.now items.now ≡ remove items.now i)) }
+{
+    for (i, x) in items.iter().enumerate() {
+        if x.as_slice() == frame {
+            return Some(i);
+        }
+    }
+    None
+}

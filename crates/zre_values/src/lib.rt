@@ -1,0 +1,23 @@
+//! The small values of a ZRE node: octets and lists of them, the identity of a peer, the texts in which
+//! they are printed, and the limits of this node.
+#![tactic(auto)]
+
+mod frames;
+pub mod limits;
+mod memory;
+mod octets;
+mod pairs;
+mod peer_id;
+mod quoting;
+mod texts;
+
+pub use frames::Frames;
+pub use memory::OutOfMemory;
+pub use octets::Octets;
+pub use pairs::Pairs;
+pub use peer_id::PeerId;
+pub use quoting::{push_quoted, push_quoted_frames, push_quoted_pairs, quote};
+pub use texts::push_decimal;
+
+#[cfg(test)]
+mod tests;

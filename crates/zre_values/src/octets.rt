@@ -1,0 +1,109 @@
+ghost use Rattle.std.specs.Prelude.{◌≡◌, ◌==◌, ◌<◌, ◌≤◌, ℕ, drop, List, [], ◌∷◌, ◌++◌, length, IfOk, OnOk, OnErr, Some, slice_get};
+
+use crate::OutOfMemory;
+use std::alloc::Global;
+use std::marker::Model;
+
+/// A list of octets that owns its memory: a name, a group, a frame, or a text that grows.
+#[derive(Debug, Drop)]
+pub struct Octets {
+    items: Vec<u8>,
+}
+
+impl Model for Octets {
+    ghost Value = { List ℕ };
+
+    ghost view = { λ octets. octets.items.items };
+}
+
+impl Octets {
+    /// The empty list, which takes no memory.
+    pub fn new(alloc: Global) -> Self
+        ensures { result ≡ [] }
+    {
+        Octets {
+            items: Vec::new(alloc),
+        }
+    }
+
+    /// The same list, in memory of its own.
+    pub fn copy(alloc: Global, bytes: &[u8]) -> Result<Self, OutOfMemory>
+        ensures { IfOk result (λ octets. octets ≡ bytes.now) }
+    {
+        Ok(Octets {
+            items: Vec::from_slice(alloc, bytes)?,
+        })
+    }
+
+    /// The octets of a vector, which keeps its memory.
+    pub fn from_vec(items: Vec<u8>) -> Self
+        ensures { result ≡ items.items }
+    {
+        Octets { items }
+    }
+
+    #[inline]
+    pub fn as_slice(&self) -> &[u8]
+        ensures { result.now ≡ self.now }
+    {
+        self.items.as_slice()
+    }
+
+    #[inline]
+    pub fn len(&self) -> usize
+        ensures { result ≡ length self.now }
+    {
+        self.items.len()
+    }
+
+    #[inline]
+    pub fn is_empty(&self) -> bool
+        ensures { result ≡ (length self.now == 0) }
+    {
+        self.items.is_empty()
+    }
+
+    #[inline]
+    pub fn get(&self, i: usize) -> &u8
+        requires { i < length self.now }
+        ensures { slice_get self.now i ≡ Some result.now }
+    {
+        &self.items[i]
+    }
+
+    #[inline]
+    pub fn push(&mut self, octet: u8) -> Result<(), OutOfMemory>
+        ensures ok { OnOk result (self.new ≡ self.old ++ octet ∷ []) }
+        ensures err { OnErr result (self.new ≡ self.old) }
+    {
+        self.items.push(octet)?;
+        Ok(())
+    }
+
+    /// Appends a copy of these octets, or nothing.
+    #[inline]
+    pub fn append(&mut self, bytes: &[u8]) -> Result<(), OutOfMemory>
+        ensures ok { OnOk result (self.new ≡ self.old ++ bytes.now) }
+        ensures err { OnErr result (self.new ≡ self.old) }
+    {
+        self.items.extend_from_slice(bytes)?;
+        Ok(())
+    }
+
+    /// Empties the list. It keeps its memory, so that a buffer is filled again without a new allocation.
+    pub fn clear(&mut self)
+        ensures { self.new ≡ [] }
+    {
+        self.items.clear();
+    }
+
+    /// Removes the first `n` octets, and keeps the memory.
+    pub fn remove_front(&mut self, n: usize)
+        requires { n ≤ length self.old }
+        ensures { self.new ≡ drop n self.old }
+    {
+        let len = self.items.len();
+        self.items.copy_within(n.., 0);
+        self.items.truncate(len - n);
+    }
+}

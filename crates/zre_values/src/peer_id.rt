@@ -1,0 +1,49 @@
+ghost use Rattle.std.specs.Prelude.{◌≡◌, ◌++◌, length, option_map, OnOk, OnErr};
+ghost use Rattle.uuid.specs.Text.{parsed};
+
+use crate::{Octets, OutOfMemory};
+use uuid::Uuid;
+
+/// The identity of a peer: the sixteen octets of its UUID, as RFC 36 sends them.
+#[derive(Clone, Copy, Debug, PartialEq, Eq, PartialOrd, Ord, Hash)]
+pub struct PeerId(pub [u8; 16]);
+
+impl PeerId {
+    ghost use Rattle.zre_values.specs.Text.{id_text};
+
+    /// Reads a UUID in any text form that `uuid` reads: plain, hyphenated, in braces or as a URN.
+    pub fn read(text: &str) -> Option<PeerId>
+        ensures { option_map (λ id. id.0) result ≡ parsed text.now }
+    {
+        PeerId::read_octets(text.as_bytes())
+    }
+
+    /// The same of octets, which may be no text.
+    pub fn read_octets(text: &[u8]) -> Option<PeerId>
+        ensures { option_map (λ id. id.0) result ≡ parsed text.now }
+    {
+        match Uuid::try_parse_ascii(text) {
+            Ok(uuid) => Some(PeerId(uuid.into_bytes())),
+            Err(_) => None,
+        }
+    }
+
+    /// The thirty-two upper-case digits.
+    #[tactic(auto, unfolding(crate::specs::Text::id_text))]
+    pub fn write(self) -> [u8; 32]
+        ensures { result ≡ id_text self }
+    {
+        let mut buffer = [0u8; 32];
+        let mut text = [0u8; 32];
+        text.copy_from_slice(Uuid::from_bytes(self.0).simple().encode_upper(&mut buffer).as_bytes());
+        text
+    }
+
+    /// Appends the thirty-two digits to a text, or nothing.
+    pub fn push_to(self, out: &mut Octets) -> Result<(), OutOfMemory>
+        ensures ok { OnOk result (out.new ≡ out.old ++ id_text self) }
+        ensures err { OnErr result (out.new ≡ out.old) }
+    {
+        out.append(&self.write())
+    }
+}

@@ -1,0 +1,15 @@
+//! Numbers in texts.
+
+ghost use Rattle.std.specs.Prelude.{◌≡◌, ◌++◌, decimal, OnOk, OnErr};
+
+use crate::{Octets, OutOfMemory};
+use itoa::Buffer;
+
+/// Appends a number in decimal digits, or nothing.
+pub fn push_decimal(out: &mut Octets, n: u64) -> Result<(), OutOfMemory>
+    ensures ok { OnOk result (out.new ≡ out.old ++ decimal n) }
+    ensures err { OnErr result (out.new ≡ out.old) }
+{
+    let mut buffer = Buffer::new();
+    out.append(buffer.format(n).as_bytes())
+}
