@@ -1,0 +1,12 @@
+-- What a call does to the octets that an object tells, where it tells them.
+use Rattle.std.specs.Prelude.{◌≡◌, ℕ, List, ◌++◌, Option}
+use Rattle.std.specs.Io.KnownBytes.{Appends, Consumes}
+
+-- a call moved some octets: they are gone from the front of what was left, and stand behind what was taken
+pub record Moves (left left' taken taken' : Option (List ℕ)) (octets : List ℕ) : Type 0 where
+  pub consumed : Consumes left left' octets
+  pub recorded : Appends taken taken' octets
+
+-- the known octets grew by a front of these
+abbrev pub AppendsFront : Option (List ℕ) → Option (List ℕ) → List ℕ → Type 0
+AppendsFront old new octets = (front : List ℕ) × (rest : List ℕ) × (octets ≡ front ++ rest) × Appends old new front

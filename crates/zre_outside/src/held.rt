@@ -1,0 +1,37 @@
+ghost use Rattle.std.specs.Prelude.{◌≡◌, ◌<◌, ◌≤◌, length, min, take, Some, []};
+ghost use Rattle.zre_outside.specs.Told.{Moves};
+
+use zre_values::Octets;
+
+/// Octets in memory that are given away from the front.
+#[derive(Debug, Drop)]
+pub(crate) struct Held {
+    all: Octets,
+    at: usize,
+    ghost within: { at ≤ length all },
+}
+
+impl Held {
+    ghost use Rattle.zre_outside.specs.Held.{left_in, taken_from};
+
+    pub(crate) fn new(all: Octets) -> Self
+        ensures left { left_in result ≡ all }
+        ensures taken { taken_from result ≡ [] }
+    {
+        Held { all, at: 0 }
+    }
+
+    /// Copies as many octets as there are and as fit into the front of `buf`.
+    pub(crate) fn give(&mut self, buf: &mut [u8]) -> usize
+        ensures most { result ≡ min (length (left_in self.old)) (length buf.old) }
+        ensures moved { Moves (Some (left_in self.old)) (Some (left_in self.new))
+            (Some (taken_from self.old)) (Some (taken_from self.new)) (take result buf.new) }
+    {
+        let rest = &self.all.as_slice()[self.at..];
+        let n = rest.len().min(buf.len());
+        let room = &mut buf[..n];
+        room.copy_from_slice(&rest[..n]);
+        self.at += n;
+        n
+    }
+}

@@ -1,0 +1,35 @@
+ghost use Rattle.std.specs.Prelude.{◌≡◌, ◌<◌, ◌≤◌, ℕ, List, Option, length, take, IfOk, OnErr};
+ghost use Rattle.std.specs.Io.{ReadsAtMost};
+ghost use Rattle.std.specs.Io.KnownBytes.{Keeps, IsAtEnd};
+ghost use Rattle.zre_outside.specs.Causes.{Rose};
+ghost use Rattle.zre_outside.specs.Told.{Moves};
+
+use thiserror::Error;
+
+/// The outside failed. The count of faults of the object that answers this rose in the call.
+#[derive(Clone, Copy, Debug, PartialEq, Eq, Error)]
+#[error("the outside failed")]
+pub struct Failed;
+
+/// Where octets come from: a file, a pipe, standard input.
+pub trait Source {
+    /// The octets that are left to read, where the object tells them.
+    ghost left: { Self → Option (List ℕ) };
+
+    /// The octets that were read so far, where the object tells them.
+    ghost taken: { Self → Option (List ℕ) };
+
+    /// How often it failed. At the last value of a u64 the count stands still, and is read as risen.
+    ghost faults: { Self → ℕ };
+
+    /// Reads some octets into the front of `buf`. `Ok(0)` comes at the end of input, and nowhere else.
+    fn read(&mut self, buf: &mut [u8]) -> Result<usize, Failed>
+        requires { 0 < length buf.old }
+        ensures bound { ReadsAtMost result buf.new }
+        ensures moved { IfOk result (λ n. Moves (left self.old) (left self.new) (taken self.old) (taken self.new) (take n buf.new)) }
+        ensures end { IfOk result (λ n. n ≡ 0 → IsAtEnd (left self.new)) }
+        ensures refused_left { OnErr result (Keeps (left self.old) (left self.new)) }
+        ensures refused_taken { OnErr result (Keeps (taken self.old) (taken self.new)) }
+        ensures later { faults self.old ≤ faults self.new }
+        ensures failed { OnErr result (Rose (faults self.old) (faults self.new)) };
+}

@@ -1,0 +1,56 @@
+//! Each object through its bound, and a read and a write that fail in mid-stream.
+
+use crate::*;
+use std::test::Fail;
+use zre_values::Octets;
+
+fn read_once<S: Source>(source: &mut S, buf: &mut [u8; 3]) -> Result<usize, Failed> {
+    source.read(buf)
+}
+
+#[test]
+fn a_source_in_memory_fails_at_the_listed_reads_and_loses_nothing(rt: HostRuntime) -> Result<(), Fail> {
+    let mut buf = [0u8; 3];
+    let fails = [2].to_vec(rt.alloc())?;
+    let mut source = MemSource::new(Octets::copy(rt.alloc(), b"abcde")?, fails);
+    assert_eq!(rt; read_once(&mut source, &mut buf), Ok(3));
+    assert_eq!(rt; buf, *b"abc");
+    assert_eq!(rt; read_once(&mut source, &mut buf), Err(Failed));
+    assert_eq!(rt; read_once(&mut source, &mut buf), Ok(2));
+    assert_eq!(rt; buf, *b"dec");
+    assert_eq!(rt; read_once(&mut source, &mut buf), Ok(0));
+    let mut source = SureSource::new(Octets::copy(rt.alloc(), b"xy")?);
+    assert_eq!(rt; read_once(&mut source, &mut buf), Ok(2));
+    assert_eq!(rt; read_once(&mut source, &mut buf), Ok(0));
+    Ok(())
+}
+
+#[test]
+fn a_sink_in_memory_fails_at_the_listed_writes_and_keeps_the_front(rt: HostRuntime) -> Result<(), Fail> {
+    let fails = [2].to_vec(rt.alloc())?;
+    let mut sink = MemSink::new(rt.alloc(), fails);
+    assert_eq!(rt; write_all(&mut sink, b"ab"), Ok(()));
+    assert_eq!(rt; write_all(&mut sink, b"cd"), Err(NextFault::Failed));
+    assert_eq!(rt; write_all(&mut sink, b"ef"), Ok(()));
+    assert_eq!(rt; sink.written(), b"abef".as_slice());
+    let mut sink = SureSink::new(rt.alloc());
+    assert_eq!(rt; write_all(&mut sink, b"ab"), Ok(()));
+    assert_eq!(rt; sink.written(), b"ab".as_slice());
+    Ok(())
+}
+
+#[test]
+fn the_adapters_pass_octets_on(rt: HostRuntime) -> Result<(), Fail> {
+    let mut buf = [0u8; 3];
+    let bytes: &[u8] = b"abcd";
+    let mut source = StdSource::new(bytes);
+    assert_eq!(rt; read_once(&mut source, &mut buf), Ok(3));
+    assert_eq!(rt; read_once(&mut source, &mut buf), Ok(1));
+    assert_eq!(rt; buf, *b"dbc");
+    assert_eq!(rt; read_once(&mut source, &mut buf), Ok(0));
+    let mut room = [0u8; 4];
+    let mut sink = StdSink::new(room.as_mut_slice());
+    assert_eq!(rt; write_all(&mut sink, b"abc"), Ok(()));
+    assert_eq!(rt; write_all(&mut sink, b"de"), Err(NextFault::Failed));
+    Ok(())
+}

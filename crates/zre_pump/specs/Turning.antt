@@ -1,0 +1,40 @@
+-- What one turn of the pump does, and what the end of the input does.
+use Rattle.std.specs.Prelude.{◌≡◌, ℕ, ◌<◌, true, false, List, [], ◌++◌, length, Option}
+use Rattle.std.specs.Io.KnownBytes.{Appends, IsAtEnd, Keeps}
+use Rattle.zre_outside.specs.Told.{AppendsFront}
+use Rattle.zre_pump.specs.Meaning.{Meaning}
+use Rattle.zre_pump.specs.declared.pumping.Next.{Next}
+use Rattle.zre_pump.specs.declared.pumping.Next.TheVariants as nexts
+use Rattle.zre_pump.specs.declared.status.Status.{Status}
+use Rattle.zre_pump.specs.declared.status.Status.TheVariants.{Done, Usage, BadInput, ReadFault, WriteFault, TooLong, OutOfMemory}
+
+-- the text of a piece behind o was written
+pub record WritesText (m : Meaning) (o piece : List ℕ) (written written' : Option (List ℕ)) : Type 0 where
+  pub added : List ℕ
+  pub longer : m.text (o ++ piece) ≡ m.text o ++ added
+  pub appended : Appends written written' added
+
+-- a front of it was
+pub record WritesFront (m : Meaning) (o piece : List ℕ) (written written' : Option (List ℕ)) : Type 0 where
+  pub added : List ℕ
+  pub longer : m.text (o ++ piece) ≡ m.text o ++ added
+  pub appended : AppendsFront written written' added
+
+-- one turn behind the octets o, in which a piece was read
+abbrev pub Turned : Next → (fed : List ℕ → Type 0) (m : Meaning) (o piece : List ℕ) (left written written' : Option (List ℕ)) (read write : Type 0) → Type 0
+Turned nexts.Go fed m o piece left written written' read write = fed (o ++ piece) × (m.is_stopped (o ++ piece) ≡ false) × (0 < length piece) × WritesText m o piece written written'
+Turned nexts.Stop fed m o piece left written written' read write = fed (o ++ piece) × (m.is_stopped (o ++ piece) ≡ true) × (m.is_bad (o ++ piece) ≡ true) × WritesText m o piece written written'
+Turned nexts.End fed m o piece left written written' read write = fed o × (piece ≡ []) × IsAtEnd left × Keeps written written'
+Turned nexts.ReadFault fed m o piece left written written' read write = (piece ≡ []) × read × Keeps written written'
+Turned nexts.WriteFault fed m o piece left written written' read write = write × WritesFront m o piece written written'
+Turned nexts.OutOfMemory fed m o piece left written written' read write = WritesFront m o piece written written'
+
+-- the end of the input o, behind its text
+abbrev pub Finishes : Status → (m : Meaning) (o : List ℕ) (written written' : Option (List ℕ)) (write : Type 0) → Type 0
+Finishes Done m o written written' write = (m.is_bad o ≡ false) × Appends written written' (m.ending o)
+Finishes BadInput m o written written' write = (m.is_bad o ≡ true) × Appends written written' (m.ending o)
+Finishes WriteFault m o written written' write = write × AppendsFront written written' (m.ending o)
+Finishes OutOfMemory m o written written' write = AppendsFront written written' (m.ending o)
+Finishes Usage m o written written' write = ⊥
+Finishes ReadFault m o written written' write = ⊥
+Finishes TooLong m o written written' write = ⊥

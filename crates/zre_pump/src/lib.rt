@@ -1,0 +1,12 @@
+//! The loop under every command that reads a stream: a machine makes text of octets, and the pump reads a source
+//! in pieces, feeds the machine, writes its text to a sink, and says how it ended.
+#![tactic(auto)]
+
+mod machine;
+mod pumping;
+mod status;
+
+pub use machine::{Going, Machine};
+pub use pumping::{PIECE, pump};
+pub use status::Status;
+

@@ -1,0 +1,185 @@
+//! Reads a source in pieces, feeds a machine, and writes its text.
+
+ghost use Rattle.std.specs.Prelude.{◌≡◌, ◌<◌, ◌≤◌, ◌+◌, ◌++◌, ℕ, List, [], false, length, take, vec_len, IfOk};
+ghost use Rattle.zre_outside.specs.Causes.{Rose};
+ghost use Rattle.zre_outside.specs.Told.{Moves};
+ghost use Rattle.zre_pump.specs.Outcome.{Pumped};
+ghost use Rattle.zre_pump.specs.Turning.{Finishes, Turned};
+
+use crate::machine::{Going, Machine};
+use crate::status::Status;
+use std::alloc::{AllocError, Global};
+use zre_outside::{Failed, NextFault, Sink, Source, write_all};
+use zre_values::{Octets, OutOfMemory};
+
+/// The most octets that one read asks for.
+pub const PIECE: usize = 65536;
+
+/// How a turn ended.
+#[derive(Clone, Copy, Debug, PartialEq, Eq)]
+enum Next {
+    Go,
+    Stop,
+    End,
+    ReadFault,
+    WriteFault,
+    OutOfMemory,
+}
+
+/// One turn: how many octets it read, and how it ended.
+#[derive(Clone, Copy, Debug, PartialEq, Eq)]
+struct Turn {
+    read: usize,
+    next: Next,
+}
+
+// Reads one piece, feeds it and writes its text.
+fn take_turn<M: Machine, I: Source, O: Sink>(
+    machine: &mut M,
+    input: &mut I,
+    out: &mut O,
+    buf: &mut [u8],
+    text: &mut Octets,
+) -> Turn
+    requires { 0 < length buf.old }
+    ensures bound { result.read ≤ length buf.new }
+    ensures moved { Moves (I.left input.old) (I.left input.new) (I.taken input.old) (I.taken input.new) (take result.read buf.new) }
+    ensures turned { (o : List ℕ) → M.fed machine.old o →
+        Turned result.next (M.fed machine.new) (M.says machine.old) o (take result.read buf.new)
+        (I.left input.new) (O.written out.old) (O.written out.new)
+        (Rose (I.faults input.old) (I.faults input.new)) (Rose (O.faults out.old) (O.faults out.new)) }
+    ensures same { M.says machine.new ≡ M.says machine.old }
+    ensures reads { I.faults input.old ≤ I.faults input.new }
+    ensures writes { O.faults out.old ≤ O.faults out.new }
+{
+    let read = match input.read(buf) {
+        Ok(read) => read,
+        Err(Failed) => {
+            return Turn {
+                read: 0,
+                next: Next::ReadFault,
+            };
+        }
+    };
+    if read == 0 {
+        return Turn {
+            read,
+            next: Next::End,
+        };
+    }
+    text.clear();
+    let going = match machine.feed(&buf[..read], text) {
+        Ok(going) => going,
+        Err(OutOfMemory) => {
+            return Turn {
+                read,
+                next: Next::OutOfMemory,
+            };
+        }
+    };
+    match write_all(out, text.as_slice()) {
+        Ok(()) => {}
+        Err(NextFault::Failed) => {
+            return Turn {
+                read,
+                next: Next::WriteFault,
+            };
+        }
+        Err(NextFault::OutOfMemory) => {
+            return Turn {
+                read,
+                next: Next::OutOfMemory,
+            };
+        }
+    }
+    match going {
+        Going::On => Turn {
+            read,
+            next: Next::Go,
+        },
+        Going::Stop => Turn {
+            read,
+            next: Next::Stop,
+        },
+    }
+}
+
+// Takes the end of the input, of which so many octets were taken, and writes the last text.
+fn finish<M: Machine, O: Sink>(machine: &M, taken: u64, out: &mut O, text: &mut Octets) -> Status
+    ensures finishes { (o : List ℕ) → M.fed machine.now o → length o ≡ taken →
+        Finishes result (M.says machine.now) o (O.written out.old) (O.written out.new) (Rose (O.faults out.old) (O.faults out.new)) }
+    ensures writes { O.faults out.old ≤ O.faults out.new }
+{
+    text.clear();
+    let is_bad = match machine.finish(taken, text) {
+        Ok(is_bad) => is_bad,
+        Err(OutOfMemory) => return Status::OutOfMemory,
+    };
+    match write_all(out, text.as_slice()) {
+        Ok(()) if is_bad => Status::BadInput,
+        Ok(()) => Status::Done,
+        Err(NextFault::Failed) => Status::WriteFault,
+        Err(NextFault::OutOfMemory) => Status::OutOfMemory,
+    }
+}
+
+// How many octets to ask for, where so many may still be taken.
+fn room_for(left: u64) -> usize
+    requires { 0 < left }
+    ensures some { 0 < result }
+    ensures most { result ≤ PIECE }
+    ensures within { result ≤ left }
+{
+    if left < PIECE as u64 {
+        left as usize
+    } else {
+        PIECE
+    }
+}
+
+// A buffer. Its clause says no more than the length, since a proof would compute so many octets.
+fn zeros(alloc: Global, len: usize) -> Result<Vec<u8>, AllocError>
+    ensures { IfOk result (λ v. vec_len v ≡ len) }
+{
+    vec![in alloc; 0u8; len]
+}
+
+/// Reads the source to its end, feeds the machine with it and writes its text, up to a limit of octets. It keeps
+/// one piece of the input and that piece's text, and asks for no octet past the limit.
+pub fn pump<M: Machine, I: Source, O: Sink>(
+    alloc: Global,
+    machine: &mut M,
+    input: &mut I,
+    out: &mut O,
+    limit: u64,
+) -> Status
+    requires start { M.fed machine.old [] }
+    requires nothing { (M.says machine.old).text [] ≡ [] }
+    requires going { (M.says machine.old).is_stopped [] ≡ false }
+    ensures pumped { Pumped result limit (M.says machine.old)
+        (I.left input.old) (I.left input.new) (I.taken input.old) (I.taken input.new) (O.written out.old) (O.written out.new)
+        (Rose (I.faults input.old) (I.faults input.new)) (Rose (O.faults out.old) (O.faults out.new)) }
+    ensures reads { I.faults input.old ≤ I.faults input.new }
+    ensures writes { O.faults out.old ≤ O.faults out.new }
+{
+    let mut buf = match zeros(alloc, PIECE) {
+        Ok(buf) => buf,
+        Err(_) => return Status::OutOfMemory,
+    };
+    let mut text = Octets::new(alloc);
+    let mut taken: u64 = 0;
+    while taken < limit {
+        let room = room_for(limit - taken);
+        let turn = take_turn(machine, input, out, &mut buf[..room], &mut text);
+        taken += turn.read as u64;
+        match turn.next {
+            Next::Go => {}
+            Next::Stop => return finish(machine, taken, out, &mut text),
+            Next::End => return finish(machine, taken, out, &mut text),
+            Next::ReadFault => return Status::ReadFault,
+            Next::WriteFault => return Status::WriteFault,
+            Next::OutOfMemory => return Status::OutOfMemory,
+        }
+    }
+    Status::TooLong
+}

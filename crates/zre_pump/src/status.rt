@@ -1,0 +1,38 @@
+ghost use Rattle.std.specs.Prelude.{◌≡◌};
+ghost use Rattle.zre_pump.specs.Codes.{code_of};
+
+/// How a call of the program ended. The first to occur is the status.
+#[derive(Clone, Copy, Debug, PartialEq, Eq)]
+pub enum Status {
+    /// The input was read to its end, and its text is written.
+    Done,
+    /// The words of the command line are no command. `USAGE` is written, and nothing is read.
+    Usage,
+    /// The input isn't in the command's grammar. The last line names the place.
+    BadInput,
+    /// The source failed.
+    ReadFault,
+    /// The sink failed.
+    WriteFault,
+    /// As many octets as the limit were taken, and a further read was due.
+    TooLong,
+    /// No memory was left.
+    OutOfMemory,
+}
+
+impl Status {
+    /// The exit status of the program.
+    pub fn code(self) -> u8
+        ensures { result ≡ code_of self }
+    {
+        match self {
+            Status::Done => 0,
+            Status::Usage => 2,
+            Status::BadInput => 3,
+            Status::ReadFault => 4,
+            Status::WriteFault => 5,
+            Status::TooLong => 8,
+            Status::OutOfMemory => 9,
+        }
+    }
+}
