@@ -76,13 +76,20 @@ impl Frames {
         self.items.iter().any(|x| x.as_slice() == frame)
     }
 
-    /// Removes the first member that equals this one, if there is one.
-    pub fn remove_first(&mut self, frame: &[u8])
-        ensures { self.new ≡ without frame.now self.old }
+    /// Where the first member that equals this one stands, if there is one.
+    pub fn place_of(&self, frame: &[u8]) -> Option<usize>
+        ensures { MatchOption result (without frame.now self.now ≡ self.now)
+            (λ i. (i < length self.now) × (without frame.now self.now ≡ remove self.now i)) }
     {
-        if let Some(i) = place_of(&self.items, frame) {
-            let _ = self.items.remove(i);
-        }
+        place_of(self.as_slice(), frame)
+    }
+
+    /// Removes the member at a place. The others keep their order.
+    pub fn remove_at(&mut self, i: usize)
+        requires { i < length self.old }
+        ensures { self.new ≡ remove self.old i }
+    {
+        let _ = self.items.remove(i);
     }
 }
 

@@ -70,9 +70,11 @@ fn lists_keep_their_order(rt: HostRuntime) -> Result<(), Fail> {
     for name in [b"a", b"b", b"a"] {
         groups.push(octets(rt.alloc(), name.as_slice())?)?;
     }
-    groups.remove_first(b"a");
-    groups.remove_first(b"c");
+    assert_eq!(rt; groups.place_of(b"c"), None);
+    let place = groups.place_of(b"a").ok_or("not there")?;
+    groups.remove_at(place);
     assert_eq!(rt; groups.len(), 2);
+    assert_eq!(rt; groups.get(1), b"a".as_slice());
     let first = groups.as_slice().first().ok_or("empty")?;
     assert_eq!(rt; first.as_slice(), b"b".as_slice());
     let mut text = octets(rt.alloc(), b"abcd")?;

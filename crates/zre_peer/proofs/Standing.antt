@@ -1,0 +1,65 @@
+-- A run that has taken messages, and one more.
+use Rattle.std.proofs.Common.{◌≡◌, ℕ, ◌+◌, ◌%◌, Bool, true, false, ◌&&◌, List, [], ◌∷◌, ◌++◌, length, Option, Some, None, refl, sym, ap, ◌∙◌, arith, cond, eqb}
+use Rattle.std.proofs.lemmas.List.Sums.{fold_push}
+use Rattle.std.proofs.lemmas.Bool.{and_parts, and_from}
+use Rattle.std.proofs.lemmas.List.{append-nil, length_push, append_assoc}
+use Rattle.zre_values.specs.declared.peer_id.PeerId.{PeerId}
+use Rattle.zre_msg.specs.declared.message.Message.{Message}
+use Rattle.zre_peer.specs.declared.event.Event.{Event}
+use Rattle.zre_peer.specs.declared.view.View.{View}
+use Rattle.zre_peer.specs.declared.peer_run.RunFault.{RunFault}
+use Rattle.zre_peer.specs.Later.{goes_on, later_fault}
+use Rattle.zre_peer.specs.Runs.{due, may_follow, fault_of, shown, in_order, in_order_behind}
+use Rattle.zre_peer.specs.Views.{view_of, after, blank}
+
+and_false : (b : Bool) → (b && false) ≡ false
+and_false true = refl
+and_false false = refl
+
+pub view_of_more : (ms : List Message) (m : Message) → view_of (ms ++ m ∷ []) ≡ after (view_of ms) m.body
+unfolding view_of
+view_of_more ms m = fold_push (λ (v : View) (n : Message). after v n.body) blank ms m
+
+-- some messages were taken, and the view after them
+pub shown_some : (ms : List Message) (v : View) → Some v ≡ shown ms → (d : Message) × (ds : List Message) × (ms ≡ d ∷ ds) × (v ≡ view_of ms)
+shown_some [] v e = absurd cc
+shown_some (d ∷ ds) v e = (d, ds, refl, cc)
+
+pub follows_later : (ms : List Message) (v : View) (m : Message) (number : ℕ) → Some v ≡ shown ms → number ≡ due ms → may_follow ms m ≡ goes_on v number m
+follows_later [] v m number e n = absurd cc
+follows_later (d ∷ ds) v m number e n =
+    let is : v ≡ view_of (d ∷ ds) = cc in
+    rw (view_of_more (d ∷ ds) m, ← is, ← n) refl
+
+pub fault_later : (ms : List Message) (v : View) (m : Message) (number : ℕ) → Some v ≡ shown ms → number ≡ due ms → fault_of ms m ≡ later_fault number m
+fault_later [] v m number e n = absurd cc
+fault_later (d ∷ ds) v m number e n = ap (λ k. later_fault k m) (sym n)
+
+pub shown_more : (ms : List Message) (m : Message) → shown (ms ++ m ∷ []) ≡ Some (view_of (ms ++ m ∷ []))
+shown_more [] m = refl
+shown_more (d ∷ ds) m = refl
+
+-- in order behind others, with one more
+pub in_order-push : (done ms : List Message) (m : Message) → in_order_behind done ms ≡ true → may_follow (done ++ ms) m ≡ true → in_order_behind done (ms ++ m ∷ []) ≡ true
+in_order-push done [] m e f = and_from (may_follow done m) true (rw append-nil at f) refl
+in_order-push done (n ∷ ms) m e f =
+    let p = and_parts (may_follow done n) (in_order_behind (done ++ n ∷ []) ms) e in
+    let g : may_follow ((done ++ n ∷ []) ++ ms) m ≡ true = ap (λ x. may_follow x m) (append_assoc done (n ∷ []) ms) ∙ f in
+    and_from (may_follow done n) (in_order_behind (done ++ n ∷ []) (ms ++ m ∷ [])) p.0 (in_order-push (done ++ n ∷ []) ms m p.1 g)
+
+-- not in order with one that may not follow
+pub in_order-refused : (done ms : List Message) (m : Message) → may_follow (done ++ ms) m ≡ false → in_order_behind done (ms ++ m ∷ []) ≡ false
+in_order-refused done [] m f = ap (λ b. b && true) (rw append-nil at f)
+in_order-refused done (n ∷ ms) m f =
+    let g : may_follow ((done ++ n ∷ []) ++ ms) m ≡ false = ap (λ x. may_follow x m) (append_assoc done (n ∷ []) ms) ∙ f in
+    ap (λ b. may_follow done n && b) (in_order-refused (done ++ n ∷ []) ms m g) ∙ and_false (may_follow done n)
+
+-- the count of a run, which wraps, and the number that is due
+pub count_more : (count : ℕ) (ms : List Message) → count ≡ length ms % 65536 → (count + 1) % 65536 ≡ due ms
+count_more count ms e = omega (arith, e)
+
+pub view_before : (ms : List Message) (v : View) → Some v ≡ shown ms → v ≡ view_of ms
+view_before ms v e = (shown_some ms v e).3
+
+pub shown_after : (ms : List Message) (v w : View) (m : Message) → Some v ≡ shown ms → w ≡ after v m.body → Some w ≡ shown (ms ++ m ∷ [])
+shown_after ms v w m e h = ap (λ x. Some x) (h ∙ ap (λ x. after x m.body) (view_before ms v e) ∙ sym (view_of_more ms m)) ∙ sym (shown_more ms m)

@@ -1,0 +1,211 @@
+ghost use Rattle.std.specs.Prelude.{ℕ, ◌≡◌, ◌≢◌, ◌++◌, [], ◌∷◌, List, Err, true, false, IfOk, IfErr, OnOk, OnErr};
+ghost use Rattle.std.specs.Option.{ForSome};
+ghost use Rattle.zre_msg.specs.declared.message.Message.{Message};
+ghost use Rattle.zre_peer.specs.declared.peer_run.RunFault.TheVariants as faults;
+ghost use Rattle.zre_peer.specs.Later.{goes_on, later_fault};
+ghost use Rattle.zre_peer.specs.Runs.{events_of, may_follow, fault_of, in_order};
+ghost use Rattle.zre_peer.specs.Views.{after, is_small, view_of};
+
+use crate::changes::change;
+use crate::event::Events;
+use crate::hello::{is_hello, is_small, opened, tell_hello};
+use crate::view::View;
+use std::alloc::Global;
+use thiserror::Error;
+use zre_msg::Message;
+use zre_values::{OutOfMemory, PeerId};
+
+/// Why a message doesn't belong to the run. The tests stand in this order.
+#[derive(Clone, Copy, Debug, PartialEq, Eq, Error)]
+pub enum RunFault {
+    /// The first message isn't HELLO with number 1.
+    #[error("the first message isn't HELLO with number 1")]
+    NotHello,
+
+    /// A later message is HELLO.
+    #[error("a second HELLO came")]
+    SecondHello,
+
+    /// Its number isn't the one that is due.
+    #[error("another number is due")]
+    Broken { due: u16, got: u16 },
+
+    /// The view would pass a limit.
+    #[error("the view would pass a limit")]
+    Limit,
+
+    /// No memory was left. The run is unchanged.
+    #[error("out of memory")]
+    OutOfMemory,
+}
+
+impl From<OutOfMemory> for RunFault {
+    ghost from_gives = { λ _ e. e ≡ faults.OutOfMemory };
+
+    fn from(_: OutOfMemory) -> Self {
+        RunFault::OutOfMemory
+    }
+}
+
+/// The messages of one connection of a peer, from its HELLO on: RFC 36 numbers them 1, 2, 3 and so on in sixteen
+/// bits, and the run takes each with the number that is due and no other.
+#[derive(Debug, Drop)]
+pub struct Run {
+    alloc: Global,
+    id: PeerId,
+    view: Option<View>,
+    count: u16,
+    spent: bool,
+    ghost within: { ForSome view (λ v. is_small v ≡ true) },
+}
+
+// The first message of a run.
+fn first(
+    alloc: Global,
+    id: PeerId,
+    message: Message,
+    events: &mut Events,
+) -> Result<View, RunFault>
+    ensures ok { IfOk result (λ view. (may_follow [] message ≡ true)
+        × (view ≡ view_of (message ∷ [])) × (events.new ≡ events.old ++ events_of id (view_of []) message.body)) }
+    ensures refused { IfErr result (λ e. e ≢ RunFault.OutOfMemory →
+        (may_follow [] message ≡ false) × (e ≡ fault_of [] message) × (events.new ≡ events.old)) }
+{
+    let Message { sequence, body } = message;
+    let view = opened(alloc, body)?;
+    let Some(view) = view else {
+        return Err(RunFault::NotHello);
+    };
+    if sequence != 1 {
+        return Err(RunFault::NotHello);
+    }
+    if !is_small(&view) {
+        return Err(RunFault::Limit);
+    }
+    tell_hello(alloc, id, &view, events)?;
+    Ok(view)
+}
+
+// A message behind the first.
+fn later(
+    alloc: Global,
+    id: PeerId,
+    view: &mut View,
+    due: u16,
+    message: Message,
+    events: &mut Events,
+) -> Result<(), RunFault>
+    requires { is_small view.old ≡ true }
+    ensures ok { OnOk result ((goes_on view.old due message ≡ true)
+        × (view.new ≡ after view.old message.body) × (events.new ≡ events.old ++ events_of id view.old message.body)) }
+    ensures kept { OnErr result (view.new ≡ view.old) }
+    ensures refused { IfErr result (λ e. e ≢ RunFault.OutOfMemory →
+        (goes_on view.old due message ≡ false) × (e ≡ later_fault due message) × (events.new ≡ events.old)) }
+{
+    if is_hello(&message.body) {
+        return Err(RunFault::SecondHello);
+    }
+    if message.sequence != due {
+        return Err(RunFault::Broken {
+            due,
+            got: message.sequence,
+        });
+    }
+    change(alloc, id, view, message.body, events)
+}
+
+impl Run {
+    ghost use Rattle.zre_peer.specs.Standing.{Stands, id_of, view_in, is_spent};
+    ghost use Rattle.std.specs.Prelude.{option_copied};
+
+    /// The run of a peer of which no message was taken yet. It takes no memory.
+    pub fn new(alloc: Global, id: PeerId) -> Self
+        ensures stands { Stands result [] }
+        ensures id { id_of result ≡ id }
+    {
+        Run {
+            alloc,
+            id,
+            view: None,
+            count: 0,
+            spent: false,
+        }
+    }
+
+    /// The peer that the run is of.
+    pub fn id(&self) -> PeerId
+        ensures { result ≡ id_of self.now }
+    {
+        self.id
+    }
+
+    /// What the peer has told, from its HELLO on. After a refusal it is as before the refused message.
+    pub fn view(&self) -> Option<&View>
+        ensures { option_copied result ≡ view_in self.now }
+    {
+        self.view.as_ref()
+    }
+
+    /// Whether a message was refused. Then no further message is taken.
+    pub fn spent(&self) -> bool
+        ensures { result ≡ is_spent self.now }
+    {
+        self.spent
+    }
+
+    /// Takes the next message, and gives its events.
+    pub fn next(&mut self, message: Message) -> Result<Events, RunFault>
+        requires { is_spent self.old ≡ false }
+        ensures ok { (ms : List Message) → Stands self.old ms → IfOk result (λ events.
+            Stands self.new (ms ++ message ∷ []) × (events ≡ events_of (id_of self.old) (view_of ms) message.body)) }
+        ensures refused { (ms : List Message) → Stands self.old ms → IfErr result (λ e. e ≢ RunFault.OutOfMemory →
+            (in_order (ms ++ message ∷ []) ≡ false) × (e ≡ fault_of ms message)) }
+        ensures spent { IfErr result (λ e. e ≢ RunFault.OutOfMemory → is_spent self.new ≡ true) }
+        ensures unchanged { result ≡ Err RunFault.OutOfMemory → self.new ≡ self.old }
+        ensures kept { OnErr result (view_in self.new ≡ view_in self.old) }
+        ensures id { id_of self.new ≡ id_of self.old }
+    {
+        let mut events = Events::new(self.alloc);
+        self.take(message, &mut events)?;
+        Ok(events)
+    }
+
+    /// The same, with the events appended to a list. After `OutOfMemory` some of them may stand there.
+    pub fn take(&mut self, message: Message, events: &mut Events) -> Result<(), RunFault>
+        requires { is_spent self.old ≡ false }
+        ensures ok { (ms : List Message) → Stands self.old ms → OnOk result (
+            (may_follow ms message ≡ true) × Stands self.new (ms ++ message ∷ [])
+            × (events.new ≡ events.old ++ events_of (id_of self.old) (view_of ms) message.body)) }
+        ensures refused { (ms : List Message) → Stands self.old ms → IfErr result (λ e. e ≢ RunFault.OutOfMemory →
+            (may_follow ms message ≡ false) × (in_order (ms ++ message ∷ []) ≡ false) × (e ≡ fault_of ms message) × (events.new ≡ events.old)) }
+        ensures spent { IfErr result (λ e. e ≢ RunFault.OutOfMemory → is_spent self.new ≡ true) }
+        ensures unchanged { result ≡ Err RunFault.OutOfMemory → self.new ≡ self.old }
+        ensures kept { OnErr result (view_in self.new ≡ view_in self.old) }
+        ensures id { id_of self.new ≡ id_of self.old }
+    {
+        let next = self.count.wrapping_add(1);
+        match &mut self.view {
+            None => match first(self.alloc, self.id, message, events) {
+                Ok(view) => {
+                    self.view = Some(view);
+                    self.count = next;
+                    Ok(())
+                }
+                Err(fault) => {
+                    self.spent = fault != RunFault::OutOfMemory;
+                    Err(fault)
+                }
+            },
+            Some(view) => match later(self.alloc, self.id, view, next, message, events) {
+                Ok(()) => {
+                    self.count = next;
+                    Ok(())
+                }
+                Err(fault) => {
+                    self.spent = fault != RunFault::OutOfMemory;
+                    Err(fault)
+                }
+            },
+        }
+    }
+}
