@@ -158,6 +158,7 @@ impl Run {
         requires { is_spent self.old ≡ false }
         ensures ok { (ms : List Message) → Stands self.old ms → IfOk result (λ events.
             Stands self.new (ms ++ message ∷ []) × (events ≡ events_of (id_of self.old) (view_of ms) message.body)) }
+        ensures going { OnOk result (is_spent self.new ≡ false) }
         ensures refused { (ms : List Message) → Stands self.old ms → IfErr result (λ e. e ≢ RunFault.OutOfMemory →
             (in_order (ms ++ message ∷ []) ≡ false) × (e ≡ fault_of ms message)) }
         ensures spent { IfErr result (λ e. e ≢ RunFault.OutOfMemory → is_spent self.new ≡ true) }
@@ -176,6 +177,7 @@ impl Run {
         ensures ok { (ms : List Message) → Stands self.old ms → OnOk result (
             (may_follow ms message ≡ true) × Stands self.new (ms ++ message ∷ [])
             × (events.new ≡ events.old ++ events_of (id_of self.old) (view_of ms) message.body)) }
+        ensures going { OnOk result (is_spent self.new ≡ false) }
         ensures refused { (ms : List Message) → Stands self.old ms → IfErr result (λ e. e ≢ RunFault.OutOfMemory →
             (may_follow ms message ≡ false) × (in_order (ms ++ message ∷ []) ≡ false) × (e ≡ fault_of ms message) × (events.new ≡ events.old)) }
         ensures spent { IfErr result (λ e. e ≢ RunFault.OutOfMemory → is_spent self.new ≡ true) }

@@ -2,10 +2,12 @@
 //! in pieces, feeds the machine, writes its text to a sink, and says how it ended.
 #![tactic(auto)]
 
+mod lines;
 mod machine;
 mod pumping;
 mod status;
 
+pub use lines::push_bad_line;
 pub use machine::{Going, Machine};
 pub use pumping::{PIECE, pump};
 pub use status::Status;

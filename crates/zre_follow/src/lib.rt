@@ -1,0 +1,10 @@
+//! The command `follow`: the events of one connection, from the octets of its traffic.
+#![tactic(auto)]
+
+mod ends;
+mod follower;
+mod simple;
+mod taking;
+
+pub use follower::Follower;
+

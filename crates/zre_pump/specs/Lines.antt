@@ -1,0 +1,6 @@
+-- The last line of an input that is refused.
+use Rattle.std.specs.Prelude.{ℕ, List, ◌++◌, codes, decimal}
+
+-- with the place of the octet, counted from 0
+abbrev pub bad_line : ℕ → List ℕ
+bad_line place = codes "BADINPUT " ++ decimal place ++ codes "\n"

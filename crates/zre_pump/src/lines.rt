@@ -1,0 +1,13 @@
+ghost use Rattle.std.specs.Prelude.{◌≡◌, ◌++◌, OnOk};
+ghost use Rattle.zre_pump.specs.Lines.{bad_line};
+
+use zre_values::{Octets, OutOfMemory, push_decimal};
+
+/// Appends the last line of an input that is refused at an octet. After an error a front of it may stand there.
+pub fn push_bad_line(out: &mut Octets, place: u64) -> Result<(), OutOfMemory>
+    ensures { OnOk result (out.new ≡ out.old ++ bad_line place) }
+{
+    out.append(b"BADINPUT ")?;
+    push_decimal(out, place)?;
+    out.push(b'\n')
+}
