@@ -1,4 +1,4 @@
-ghost use Rattle.std.specs.Prelude.{◌≡◌, []};
+ghost use Rattle.std.specs.Prelude.{◌≡◌, [], false};
 
 use crate::simple::is_partial;
 use crate::taking::take_messages;
@@ -18,12 +18,16 @@ pub struct Follower {
 }
 
 impl Follower {
+    ghost use Rattle.zre_follow.specs.Follow.{follow};
     ghost use Rattle.zre_follow.specs.Follower.{Fed, peer_of};
 
     /// Follows a connection of this peer, of which no octet has come yet.
     pub fn new(alloc: Global, id: PeerId) -> Self
         ensures fed { Fed result [] }
         ensures peer { peer_of result ≡ id }
+        // No octets have no text, and may go on.
+        ensures nothing { (follow id).text [] ≡ [] }
+        ensures going { (follow id).is_stopped [] ≡ false }
     {
         Follower {
             alloc,

@@ -1,6 +1,6 @@
 use Rattle.std.proofs.Common.{sym, subst, ◌∙◌}
 use Rattle.zre_peer.specs.Standing.{Stands}
-use Rattle.zre_follow.proofs.Growing.{nothing_over, no_messages, no_rest}
+use Rattle.zre_follow.proofs.Growing.{nothing_over, no_messages, no_rest, text_nothing, nothing_stopped}
 use Rattle.zre_follow.proofs.follower.Follower.new.Goals as goal
 
 pub returns-clause-fed : goal.returns-clause-fed
@@ -9,3 +9,9 @@ returns-clause-fed c = record {
   stands = λ _. subst (Stands c.new.result) (sym no_messages) c.new.ensures.stands;
   pending = λ _. c.new-2.ensures ∙ sym no_rest;
 }
+
+pub returns-clause-nothing : goal.returns-clause-nothing
+returns-clause-nothing c = text_nothing c.args.id
+
+pub returns-clause-going : goal.returns-clause-going
+returns-clause-going c = nothing_stopped

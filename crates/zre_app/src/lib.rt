@@ -1,0 +1,11 @@
+//! The program behind `main`: the words of its command line, and the top call that does what they ask for over a
+//! source and a sink.
+#![tactic(auto)]
+
+mod top;
+mod words;
+
+pub use top::{Ended, LIMIT, run, zre};
+pub use words::{Command, command_of};
+pub use zre_pump::Status;
+

@@ -1,0 +1,109 @@
+//! The top call: the command that the words ask for, over a source and a sink.
+
+ghost use Rattle.std.specs.Prelude.{◌≡◌, ◌≤◌, Some, None};
+ghost use Rattle.zre_values.specs.declared.peer_id.PeerId.{PeerId};
+ghost use Rattle.zre_outside.specs.Causes.{Rose};
+ghost use Rattle.zre_pump.specs.Outcome.{Pumped};
+ghost use Rattle.zre_follow.specs.Follow.{follow};
+ghost use Rattle.zre_app.specs.declared.words.Command.TheVariants as commands;
+ghost use Rattle.zre_app.specs.Usage.{UsageOutcome};
+ghost use Rattle.zre_app.specs.Words.{command_of};
+
+use crate::words::{Command, command_of};
+use std::alloc::Global;
+use zre_follow::Follower;
+use zre_outside::{NextFault, Sink, Source, write_all};
+use zre_pump::{Status, pump};
+use zre_values::{Frames, PeerId};
+
+/// The most octets that `zre` reads.
+pub const LIMIT: u64 = (1 << 63) - 1;
+
+/// How a call ended, and the source that was handed in.
+#[derive(Debug, Drop)]
+pub struct Ended<I> {
+    pub status: Status,
+    pub input: I,
+}
+
+fn usage<O: Sink>(out: &mut O) -> Status
+    ensures written { UsageOutcome result (O.written out.old) (O.written out.new) (Rose (O.faults out.old) (O.faults out.new)) }
+    ensures writes { O.faults out.old ≤ O.faults out.new }
+{
+    match write_all(out, b"USAGE\n") {
+        Ok(()) => Status::Usage,
+        Err(NextFault::Failed) => Status::WriteFault,
+        Err(NextFault::OutOfMemory) => Status::OutOfMemory,
+    }
+}
+
+fn follow<I: Source, O: Sink>(
+    alloc: Global,
+    id: PeerId,
+    input: &mut I,
+    out: &mut O,
+    limit: u64,
+) -> Status
+    ensures pumped { Pumped result limit (follow id)
+        (I.left input.old) (I.left input.new) (I.taken input.old) (I.taken input.new) (O.written out.old) (O.written out.new)
+        (Rose (I.faults input.old) (I.faults input.new)) (Rose (O.faults out.old) (O.faults out.new)) }
+    ensures reads { I.faults input.old ≤ I.faults input.new }
+    ensures writes { O.faults out.old ≤ O.faults out.new }
+{
+    let mut machine = Follower::new(alloc, id);
+    pump(alloc, &mut machine, input, out, limit)
+}
+
+/// Does what the words ask for, and reads at most `limit` octets. The source comes back as it was left.
+pub fn run<R: AllocGlobal + Copy, I: Source, O: Sink>(
+    rt: R,
+    words: &Frames,
+    input: I,
+    out: &mut O,
+    limit: u64,
+) -> Ended<I>
+    // Where the words are no command, nothing is read.
+    ensures unread { command_of words.now ≡ None → result.input ≡ input }
+    ensures usage { command_of words.now ≡ None →
+        UsageOutcome result.status (O.written out.old) (O.written out.new) (Rose (O.faults out.old) (O.faults out.new)) }
+
+    // Some octets of the source are taken, and the status says what is written of them.
+    ensures follow { (id : PeerId) → command_of words.now ≡ Some (commands.Follow id) →
+        Pumped result.status limit (follow id)
+        (I.left input) (I.left result.input) (I.taken input) (I.taken result.input) (O.written out.old) (O.written out.new)
+        (Rose (I.faults input) (I.faults result.input)) (Rose (O.faults out.old) (O.faults out.new)) }
+    ensures reads { I.faults input ≤ I.faults result.input }
+    ensures writes { O.faults out.old ≤ O.faults out.new }
+{
+    match command_of(words) {
+        None => Ended {
+            status: usage(out),
+            input,
+        },
+        Some(Command::Follow { id }) => {
+            let mut input = input;
+            let status = follow(rt.alloc(), id, &mut input, out, limit);
+            Ended { status, input }
+        }
+    }
+}
+
+/// Does what the words ask for. It is `run` with a limit that no input reaches.
+pub fn zre<R: AllocGlobal + Copy, I: Source, O: Sink>(
+    rt: R,
+    words: &Frames,
+    input: I,
+    out: &mut O,
+) -> Ended<I>
+    ensures unread { command_of words.now ≡ None → result.input ≡ input }
+    ensures usage { command_of words.now ≡ None →
+        UsageOutcome result.status (O.written out.old) (O.written out.new) (Rose (O.faults out.old) (O.faults out.new)) }
+    ensures follow { (id : PeerId) → command_of words.now ≡ Some (commands.Follow id) →
+        Pumped result.status LIMIT (follow id)
+        (I.left input) (I.left result.input) (I.taken input) (I.taken result.input) (O.written out.old) (O.written out.new)
+        (Rose (I.faults input) (I.faults result.input)) (Rose (O.faults out.old) (O.faults out.new)) }
+    ensures reads { I.faults input ≤ I.faults result.input }
+    ensures writes { O.faults out.old ≤ O.faults out.new }
+{
+    run(rt, words, input, out, LIMIT)
+}
