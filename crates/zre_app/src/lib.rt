@@ -9,3 +9,6 @@ pub use top::{Ended, LIMIT, run, zre};
 pub use words::{Command, command_of};
 pub use zre_pump::Status;
 
+#[cfg(test)]
+mod tests;
+
