@@ -1,6 +1,6 @@
 //! The frames behind the first.
 
-ghost use Rattle.std.specs.Prelude.{◌≡◌, ◌==◌, length, IfOk};
+ghost use Rattle.std.specs.Prelude.{◌≡◌, ◌==◌, ◌++◌, length, IfOk, OnOk};
 
 use std::alloc::Global;
 use zre_values::{Frames, Octets, OutOfMemory};
@@ -29,18 +29,22 @@ impl<'a> Further<'a> {
         ensures { IfOk result (λ frames. frames ≡ frames_of self.entry) }
     {
         match self {
-            Further::Lent(frames) => copy_all(alloc, frames),
+            Further::Lent(frames) => {
+                let mut copied = Frames::new(alloc);
+                push_copies(alloc, &mut copied, frames)?;
+                Ok(copied)
+            }
             Further::Given(frames) => Ok(frames),
         }
     }
 }
 
-fn copy_all(alloc: Global, frames: &[Octets]) -> Result<Frames, OutOfMemory>
-    ensures { IfOk result (λ copied. copied ≡ frames.now) }
+/// Appends copies of the frames. After an error some of them may stand there.
+pub fn push_copies(alloc: Global, out: &mut Frames, frames: &[Octets]) -> Result<(), OutOfMemory>
+    ensures { OnOk result (out.new ≡ out.old ++ frames.now) }
 {
-    let mut copied = Frames::new(alloc);
     for frame in frames {
-        copied.push(Octets::copy(alloc, frame.as_slice())?)?;
+        out.push(Octets::copy(alloc, frame.as_slice())?)?;
     }
-    Ok(copied)
+    Ok(())
 }
