@@ -49,7 +49,11 @@ fn read_leave(alloc: Global, octets: &[u8]) -> Result<(Body, &[u8]), Stop>
 }
 
 #[tactic(auto, unfolding(crate::specs::Reading::shout_at))]
-fn read_shout<'a>(alloc: Global, octets: &'a [u8], further: Further<'_>) -> Result<(Body, &'a [u8]), Stop>
+fn read_shout<'a>(
+    alloc: Global,
+    octets: &'a [u8],
+    further: Further<'_>,
+) -> Result<(Body, &'a [u8]), Stop>
     ensures { Gives (λ x. (x.0, x.1.now)) result (shout_at (frames_of further.entry) octets.now) }
 {
     let (group, rest) = string_at(alloc, octets)?;
@@ -57,7 +61,12 @@ fn read_shout<'a>(alloc: Global, octets: &'a [u8], further: Further<'_>) -> Resu
     Ok((Body::Shout { group, content }, rest))
 }
 
-fn read_body<'a>(alloc: Global, number: u8, octets: &'a [u8], further: Further<'_>) -> Result<(Body, &'a [u8]), Stop>
+fn read_body<'a>(
+    alloc: Global,
+    number: u8,
+    octets: &'a [u8],
+    further: Further<'_>,
+) -> Result<(Body, &'a [u8]), Stop>
     ensures { Gives (λ x. (x.0, x.1.now)) result (body_at number (frames_of further.entry) octets.now) }
 {
     match number {
@@ -82,7 +91,11 @@ fn read_body<'a>(alloc: Global, number: u8, octets: &'a [u8], further: Further<'
 
 /// The command of a first frame with its fields, and the octets that are left over.
 #[tactic(auto, unfolding(crate::specs::Reading::command_of))]
-pub fn read_command<'a>(alloc: Global, first: &'a [u8], further: Further<'_>) -> Result<(Body, &'a [u8]), Stop>
+pub fn read_command<'a>(
+    alloc: Global,
+    first: &'a [u8],
+    further: Further<'_>,
+) -> Result<(Body, &'a [u8]), Stop>
     ensures command { Gives (λ x. (x.0, x.1.now)) result (command_of first.now (frames_of further.entry)) }
     ensures long { OnOk result (6 ≤ length first.now) }
 {

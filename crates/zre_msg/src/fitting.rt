@@ -49,8 +49,12 @@ impl Message {
                 name,
                 headers,
                 ..
-            } => is_string(endpoint) && are_strings(groups) && is_string(name) && is_dictionary(headers),
-            Body::Shout { group, .. } | Body::Join { group, .. } | Body::Leave { group, .. } => is_string(group),
+            } => is_string(endpoint)
+                && are_strings(groups)
+                && is_string(name)
+                && is_dictionary(headers),
+            Body::Shout { group, .. } | Body::Join { group, .. } | Body::Leave { group, .. } =>
+                is_string(group),
             Body::Other { number, .. } => *number == 0 || *number > 7,
             Body::Whisper { .. } | Body::Ping | Body::PingOk => true,
         }

@@ -90,7 +90,7 @@ impl Body {
     }
 
     // The frames behind the first.
-    fn further(&self) -> Option<&Frames>
+    pub(crate) fn further(&self) -> Option<&Frames>
         ensures { MatchOption result (further self.now ≡ []) (λ frames. further self.now ≡ frames.now) }
     {
         match self {
@@ -120,14 +120,16 @@ fn push_fields(out: &mut Octets, body: &Body) -> Result<(), OutOfMemory>
             push_dictionary(out, headers)
         }
         Body::Shout { group, .. } => push_string(out, group.as_slice()),
-        Body::Join { group, status } | Body::Leave { group, status } => push_group(out, group, *status),
+        Body::Join { group, status } | Body::Leave { group, status } => push_group(
+            out, group, *status,
+        ),
         Body::Other { rest, .. } => out.append(rest.as_slice()),
         Body::Whisper { .. } | Body::Ping | Body::PingOk => Ok(()),
     }
 }
 
 impl Message {
-    fn write_first(&self, alloc: Global) -> Result<Octets, OutOfMemory>
+    pub(crate) fn write_first(&self, alloc: Global) -> Result<Octets, OutOfMemory>
         requires { Fits self.now }
         ensures { IfOk result (λ octets. octets ≡ first_frame self.now) }
     {
