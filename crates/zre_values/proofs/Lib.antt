@@ -1,1 +1,4 @@
+pub mod Addresses
+pub mod Digits
 pub mod Plain
+pub mod Splits

@@ -1,3 +1,5 @@
+pub mod Address
+pub mod Endpoint
 pub mod Framing
 pub mod Lists
 pub mod Text

@@ -2,6 +2,8 @@
 //! they are printed, and the limits of this node.
 #![tactic(auto)]
 
+mod decimals;
+mod endpoint;
 mod frames;
 pub mod limits;
 mod memory;
@@ -11,6 +13,8 @@ mod peer_id;
 mod quoting;
 mod texts;
 
+pub use decimals::read_decimal;
+pub use endpoint::{Endpoint, push_address, read_address};
 pub use frames::Frames;
 pub use memory::OutOfMemory;
 pub use octets::Octets;
