@@ -10,8 +10,10 @@ mod memory;
 mod octets;
 mod pairs;
 mod peer_id;
+mod plain_id;
 mod quoting;
 mod texts;
+mod unquoting;
 
 pub use decimals::read_decimal;
 pub use endpoint::{Endpoint, push_address, read_address};
