@@ -73,6 +73,6 @@ impl Groups {
         requires { i < length self.old }
         ensures { self.new ≡ remove self.old i }
     {
-        self.items.remove_at(i);
+        let _ = self.items.remove(i);
     }
 }

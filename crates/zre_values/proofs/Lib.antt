@@ -1,1 +1,5 @@
+pub mod Addresses
+pub mod Digits
 pub mod Plain
+pub mod PlainIds
+pub mod Splits

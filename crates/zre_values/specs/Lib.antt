@@ -1,3 +1,6 @@
+pub mod Address
+pub mod Endpoint
 pub mod Framing
 pub mod Lists
+pub mod PlainId
 pub mod Text

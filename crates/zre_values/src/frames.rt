@@ -58,6 +58,15 @@ impl Frames {
         Ok(())
     }
 
+    /// Removes the member at this place, and gives it.
+    pub fn remove(&mut self, i: usize) -> Octets
+        requires { i < length self.old }
+        ensures value { slice_get self.old i ≡ Some result }
+        ensures rest { self.new ≡ remove self.old i }
+    {
+        self.items.remove(i)
+    }
+
     /// The sum of the lengths, or the greatest u64 where the sum is above that.
     pub fn total(&self) -> u64
         ensures { result ≡ min (sum_by length self.now) (2 ^ 64 - 1) }
@@ -82,14 +91,6 @@ impl Frames {
             (λ i. (i < length self.now) × (without frame.now self.now ≡ remove self.now i)) }
     {
         place_of(self.as_slice(), frame)
-    }
-
-    /// Removes the member at a place. The others keep their order.
-    pub fn remove_at(&mut self, i: usize)
-        requires { i < length self.old }
-        ensures { self.new ≡ remove self.old i }
-    {
-        let _ = self.items.remove(i);
     }
 }
 

@@ -2,15 +2,21 @@
 //! they are printed, and the limits of this node.
 #![tactic(auto)]
 
+mod decimals;
+mod endpoint;
 mod frames;
 pub mod limits;
 mod memory;
 mod octets;
 mod pairs;
 mod peer_id;
+mod plain_id;
 mod quoting;
 mod texts;
+mod unquoting;
 
+pub use decimals::read_decimal;
+pub use endpoint::{Endpoint, push_address, read_address};
 pub use frames::Frames;
 pub use memory::OutOfMemory;
 pub use octets::Octets;

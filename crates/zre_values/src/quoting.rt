@@ -9,7 +9,7 @@ use std::alloc::Global;
 
 // The upper-case digit of a number below sixteen.
 #[inline]
-fn hex_digit(n: u8) -> u8
+pub(crate) fn hex_digit(n: u8) -> u8
     requires { n < 16 }
     ensures { result ≡ hex_digit n }
 {
@@ -17,13 +17,13 @@ fn hex_digit(n: u8) -> u8
 }
 
 #[inline]
-fn is_plain(octet: u8) -> bool
+pub(crate) fn is_plain(octet: u8) -> bool
     ensures { result ≡ is_plain octet }
 {
     b'!' <= octet && octet <= b'~' && octet != b'%' && octet != b'~' && octet != b'=' && octet != b','
 }
 
-fn are_plain(bytes: &[u8]) -> bool
+pub(crate) fn are_plain(bytes: &[u8]) -> bool
     ensures { result ≡ list_all is_plain bytes.now }
 {
     bytes.iter().all(|octet| is_plain(*octet))

@@ -72,7 +72,7 @@ fn lists_keep_their_order(rt: HostRuntime) -> Result<(), Fail> {
     }
     assert_eq!(rt; groups.place_of(b"c"), None);
     let place = groups.place_of(b"a").ok_or("not there")?;
-    groups.remove_at(place);
+    assert_eq!(rt; groups.remove(place).as_slice(), b"a".as_slice());
     assert_eq!(rt; groups.len(), 2);
     assert_eq!(rt; groups.get(1), b"a".as_slice());
     let first = groups.as_slice().first().ok_or("empty")?;

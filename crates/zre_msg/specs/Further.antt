@@ -1,0 +1,9 @@
+-- The frames behind the first.
+use Rattle.std.specs.Prelude.{ℕ, List}
+use Rattle.zre_msg.specs.declared.further.Further.{Further}
+use Rattle.zre_msg.specs.declared.further.Further.TheVariants.{Lent, Given}
+
+-- which they are, lent or given
+abbrev pub frames_of : Further → List (List ℕ)
+frames_of (Lent frames) = frames.now
+frames_of (Given frames) = frames

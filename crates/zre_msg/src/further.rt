@@ -1,0 +1,50 @@
+//! The frames behind the first.
+
+ghost use Rattle.std.specs.Prelude.{◌≡◌, ◌==◌, ◌++◌, length, IfOk, OnOk};
+
+use std::alloc::Global;
+use zre_values::{Frames, Octets, OutOfMemory};
+
+/// The frames behind the first of a message: lent, so that a message that holds them holds copies, or given, so
+/// that it holds them themselves.
+#[derive(Drop)]
+pub enum Further<'a> {
+    Lent(&'a [Octets]),
+    Given(Frames),
+}
+
+impl<'a> Further<'a> {
+    ghost use Rattle.zre_msg.specs.Further.{frames_of};
+
+    pub fn is_empty(&self) -> bool
+        ensures { result ≡ (length (frames_of self.now) == 0) }
+    {
+        match self {
+            Further::Lent(frames) => frames.is_empty(),
+            Further::Given(frames) => frames.len() == 0,
+        }
+    }
+
+    pub fn take(self, alloc: Global) -> Result<Frames, OutOfMemory>
+        ensures { IfOk result (λ frames. frames ≡ frames_of self.entry) }
+    {
+        match self {
+            Further::Lent(frames) => {
+                let mut copied = Frames::new(alloc);
+                push_copies(alloc, &mut copied, frames)?;
+                Ok(copied)
+            }
+            Further::Given(frames) => Ok(frames),
+        }
+    }
+}
+
+/// Appends copies of the frames. After an error some of them may stand there.
+pub fn push_copies(alloc: Global, out: &mut Frames, frames: &[Octets]) -> Result<(), OutOfMemory>
+    ensures { OnOk result (out.new ≡ out.old ++ frames.now) }
+{
+    for frame in frames {
+        out.push(Octets::copy(alloc, frame.as_slice())?)?;
+    }
+    Ok(())
+}

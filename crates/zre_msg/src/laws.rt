@@ -1,0 +1,24 @@
+//! Laws of messages, each the contract of a function without a body, so that a caller has it by a call.
+
+ghost use Rattle.std.specs.Prelude.{◌≡◌, ℕ, List, ◌++◌, Ok};
+ghost use Rattle.zre_msg.specs.Spelling.{Means, HasOctets, spell, octets};
+ghost use Rattle.zre_msg.specs.Reading.{read_frames};
+ghost use Rattle.zre_msg.specs.declared.message.Message.{Message as MessageValue};
+
+/// What is spelled is read as the message that was spelled.
+#[inline]
+pub fn spelled_is_read()
+    ensures { (m : MessageValue) → Means (spell m) m → read_frames (spell m) ≡ Ok m }
+{}
+
+/// A list of frames means one message at most.
+#[inline]
+pub fn frames_mean_one_message()
+    ensures { (frames : List (List ℕ)) (m n : MessageValue) → Means frames m → Means frames n → m ≡ n }
+{}
+
+/// No message's octets begin another's: where several stand in a row, each is the one that was sent.
+#[inline]
+pub fn octets_hold_one_message()
+    ensures { (m n : MessageValue) (a b : List ℕ) → HasOctets m → HasOctets n → octets m ++ a ≡ octets n ++ b → m ≡ n }
+{}

@@ -1,0 +1,126 @@
+//! Messages read from their frames.
+
+ghost use Rattle.std.specs.Prelude.{◌≡◌, ◌<◌, ◌^◌, [], ◌∷◌, length, Ok, Err, IfOk};
+ghost use Rattle.zre_msg.specs.Reading.{is_other as other_test, first_row, head_rows, read_of, read_frames, Answers};
+ghost use Rattle.zre_msg.specs.Further.{frames_of};
+ghost use Rattle.zre_msg.specs.Spelling.{Means};
+ghost use Rattle.zre_msg.specs.declared.message.Message.{Message as MessageValue};
+
+use crate::commands::{is_single, read_command};
+use crate::fields::Stop;
+use crate::further::Further;
+use crate::message::{Bad, BadWhy, Message, ReadFault};
+use std::alloc::Global;
+use zre_values::Frames;
+
+// Whether the octet is there, and is another one.
+fn is_other(octets: &[u8], i: usize, wanted: u8) -> bool
+    ensures { result ≡ other_test octets.now i wanted }
+{
+    i < octets.len() && octets[i] != wanted
+}
+
+// What is wrong in front of the fields.
+fn head_fault(first: &[u8]) -> Option<Bad>
+    ensures { result ≡ first_row (head_rows first.now) }
+{
+    let bad = |why, place| Bad {
+        why,
+        frame: 0,
+        place,
+    };
+    if is_other(first, 0, 0xaa) {
+        return Some(bad(BadWhy::Signature, 0));
+    }
+    if is_other(first, 1, 0xa1) {
+        return Some(bad(BadWhy::Signature, 1));
+    }
+    if is_other(first, 3, 2) {
+        return Some(bad(BadWhy::Version, 3));
+    }
+    None
+}
+
+fn fault(why: BadWhy, frame: u32, place: usize) -> ReadFault
+    requires { place < 2 ^ 32 }
+    ensures { result ≡ ReadFault.Bad (record { why = why; frame = frame; place = place }) }
+{
+    ReadFault::Bad(Bad {
+        why,
+        frame,
+        place: place as u32,
+    })
+}
+
+// The message that a first frame and those behind it mean.
+#[tactic(auto, unfolding(crate::specs::Reading::read_of))]
+fn read_parts(alloc: Global, first: &[u8], further: Further<'_>) -> Result<Message, ReadFault>
+    requires { length first.now < 2 ^ 32 }
+    ensures { Answers result (read_of first.now (frames_of further.entry)) }
+{
+    if let Some(bad) = head_fault(first) {
+        return Err(ReadFault::Bad(bad));
+    }
+    let alone = further.is_empty();
+    let (body, rest) = match read_command(alloc, first, further) {
+        Ok(command) => command,
+        Err(Stop::Memory) => return Err(ReadFault::OutOfMemory),
+        Err(Stop::Short) => return Err(fault(BadWhy::Short, 0, first.len())),
+    };
+    if !rest.is_empty() {
+        return Err(fault(BadWhy::Trailing, 0, first.len().saturating_sub(rest.len())));
+    }
+    if is_single(first[2]) && !alone {
+        return Err(fault(BadWhy::ExtraFrames, 1, 0));
+    }
+    let sequence = u16::from_be_bytes([first[4], first[5]]);
+    Ok(Message { sequence, body })
+}
+
+// The same with the laws of what is read, for a first frame of any length.
+fn read_from(alloc: Global, first: &[u8], further: Further<'_>) -> Result<Message, ReadFault>
+    ensures found { IfOk result (λ m. Means (first.now ∷ frames_of further.entry) m) }
+    ensures only { (m : MessageValue) → Means (first.now ∷ frames_of further.entry) m → Answers result (Ok m) }
+    ensures exact { Answers result (read_of first.now (frames_of further.entry)) }
+{
+    if first.len() > u32::MAX as usize {
+        return Err(ReadFault::OutOfMemory);
+    }
+    read_parts(alloc, first, further)
+}
+
+// What is wrong with no frames at all.
+#[tactic(auto, unfolding(crate::specs::Reading::read_of, crate::specs::Reading::command_of))]
+fn no_frames() -> ReadFault
+    ensures { Answers (Err result) (read_frames []) }
+{
+    fault(BadWhy::Short, 0, 0)
+}
+
+impl Message {
+    /// The message that the frames mean. Its content, where it has any, is copied. `Bad` names the first fault of
+    /// frames that mean none; no frames at all are `Short`, as a first frame without octets is.
+    pub fn read(alloc: Global, frames: &Frames) -> Result<Message, ReadFault>
+        ensures found { IfOk result (λ m. Means frames.now m) }
+        ensures only { (m : MessageValue) → Means frames.now m → Answers result (Ok m) }
+        ensures exact { Answers result (read_frames frames.now) }
+    {
+        match frames.as_slice().split_first() {
+            Some((first, further)) => read_from(alloc, first.as_slice(), Further::Lent(further)),
+            None => Err(no_frames()),
+        }
+    }
+
+    /// The same of frames that are given: content is moved into the message.
+    pub fn from_frames(alloc: Global, mut frames: Frames) -> Result<Message, ReadFault>
+        ensures found { IfOk result (λ m. Means frames m) }
+        ensures only { (m : MessageValue) → Means frames m → Answers result (Ok m) }
+        ensures exact { Answers result (read_frames frames) }
+    {
+        if frames.len() == 0 {
+            return Err(no_frames());
+        }
+        let first = frames.remove(0);
+        read_from(alloc, first.as_slice(), Further::Given(frames))
+    }
+}

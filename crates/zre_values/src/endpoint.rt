@@ -1,0 +1,127 @@
+//! Addresses and endpoints in their texts.
+
+ghost use Rattle.std.specs.Prelude.{◌≡◌, ℕ, ◌<◌, ◌^◌, ◌==◌, ◌∷◌, ◌++◌, [], List, false, codes, decimal, IfOk, IfSome, IsSomeAnd, OnOk, Some, position};
+ghost use Rattle.std.specs.List.{list_any};
+ghost use Rattle.zre_values.specs.Address.{address_text, IsAddress};
+
+use crate::{Octets, OutOfMemory, push_decimal, read_decimal};
+use std::alloc::Global;
+
+/// The address and the port of a node, as its HELLO names them.
+#[derive(Clone, Copy, Debug, PartialEq, Eq)]
+pub struct Endpoint {
+    pub addr: [u8; 4],
+    pub port: u16,
+}
+
+fn place_of(text: &[u8], octet: u8) -> Option<usize>
+    ensures { result ≡ position (λ b. b == octet) text.now }
+{
+    text.iter().position(|b| *b == octet)
+}
+
+// What stands before and behind the first of these octets.
+fn split_once(text: &[u8], octet: u8) -> Option<(&[u8], &[u8])>
+    ensures value { IfSome result (λ parts. text.now ≡ parts.0.now ++ (octet ∷ parts.1.now)) }
+    ensures back { (x y : List ℕ) → list_any (λ b. b == octet) x ≡ false → text.now ≡ x ++ (octet ∷ y) → IsSomeAnd result (λ parts. (parts.0.now ≡ x) × (parts.1.now ≡ y)) }
+{
+    let i = place_of(text, octet)?;
+    let (front, rest) = text.split_at(i);
+    let (_, behind) = rest.split_at(1);
+    Some((front, behind))
+}
+
+fn read_octet(text: &[u8]) -> Option<u8>
+    ensures value { IfSome result (λ n. text.now ≡ decimal n) }
+    ensures back { (n : ℕ) → n < 2 ^ 8 → text.now ≡ decimal n → result ≡ Some n }
+{
+    u8::try_from(read_decimal(text)?).ok()
+}
+
+// A number before the first dot, and what stands behind that.
+fn octet_before_dot(text: &[u8]) -> Option<(u8, &[u8])>
+    ensures value { IfSome result (λ x. text.now ≡ decimal x.0 ++ (46 ∷ x.1.now)) }
+    ensures back { (n : ℕ) (y : List ℕ) → n < 2 ^ 8 → text.now ≡ decimal n ++ (46 ∷ y) → IsSomeAnd result (λ x. (x.0 ≡ n) × (x.1.now ≡ y)) }
+{
+    let (front, rest) = split_once(text, b'.')?;
+    Some((read_octet(front)?, rest))
+}
+
+/// Reads an address `a.b.c.d`: four numbers from 0 to 255 in decimal, without leading zeros.
+pub fn read_address(text: &[u8]) -> Option<[u8; 4]>
+    ensures value { IfSome result (λ addr. text.now ≡ address_text addr) }
+    ensures back { (addr : List ℕ) → IsAddress addr → text.now ≡ address_text addr → IsSomeAnd result (λ read. read ≡ addr) }
+{
+    let (a, rest) = octet_before_dot(text)?;
+    let (b, rest) = octet_before_dot(rest)?;
+    let (c, rest) = octet_before_dot(rest)?;
+    let d = read_octet(rest)?;
+    Some([a, b, c, d])
+}
+
+#[tactic(auto, using(crate::proofs::Addresses::address_text_four))]
+fn push_four(out: &mut Octets, a: u8, b: u8, c: u8, d: u8) -> Result<(), OutOfMemory>
+    ensures { OnOk result (out.new ≡ out.old ++ address_text (a ∷ b ∷ c ∷ d ∷ [])) }
+{
+    push_decimal(out, a as u64)?;
+    out.push(b'.')?;
+    push_decimal(out, b as u64)?;
+    out.push(b'.')?;
+    push_decimal(out, c as u64)?;
+    out.push(b'.')?;
+    push_decimal(out, d as u64)
+}
+
+/// Appends an address `a.b.c.d`. After an error a front of it may stand there.
+pub fn push_address(out: &mut Octets, addr: [u8; 4]) -> Result<(), OutOfMemory>
+    ensures { OnOk result (out.new ≡ out.old ++ address_text addr) }
+{
+    let [a, b, c, d] = addr;
+    push_four(out, a, b, c, d)
+}
+
+fn read_port(text: &[u8]) -> Option<u16>
+    ensures value { IfSome result (λ n. (text.now ≡ decimal n) × (0 < n)) }
+    ensures back { (n : ℕ) → 0 < n → n < 2 ^ 16 → text.now ≡ decimal n → result ≡ Some n }
+{
+    let port = u16::try_from(read_decimal(text)?).ok()?;
+    if port == 0 { None } else { Some(port) }
+}
+
+fn behind_scheme(text: &[u8]) -> Option<&[u8]>
+    ensures value { IfSome result (λ rest. text.now ≡ codes "tcp://" ++ rest.now) }
+    ensures back { (y : List ℕ) → text.now ≡ codes "tcp://" ++ y → IsSomeAnd result (λ rest. rest.now ≡ y) }
+{
+    match text {
+        [b't', b'c', b'p', b':', b'/', b'/', rest @ ..] => Some(rest),
+        _ => None,
+    }
+}
+
+impl Endpoint {
+    ghost use Rattle.zre_values.specs.Endpoint.{endpoint_text, IsEndpoint};
+
+    /// Reads `tcp://a.b.c.d:port`: the numbers in decimal without leading zeros, the port from 1 to 65,535.
+    pub fn read(text: &[u8]) -> Option<Endpoint>
+        ensures value { IfSome result (λ endpoint. (text.now ≡ endpoint_text endpoint) × (0 < endpoint.port)) }
+        ensures back { (endpoint : Endpoint) → IsEndpoint endpoint → text.now ≡ endpoint_text endpoint → result ≡ Some endpoint }
+    {
+        let rest = behind_scheme(text)?;
+        let (addr, port) = split_once(rest, b':')?;
+        let addr = read_address(addr)?;
+        let port = read_port(port)?;
+        Some(Endpoint { addr, port })
+    }
+
+    /// The text that [`Endpoint::read`] reads.
+    pub fn write(self, alloc: Global) -> Result<Octets, OutOfMemory>
+        requires { 0 < self.port }
+        ensures { IfOk result (λ text. text ≡ endpoint_text self) }
+    {
+        let mut text = Octets::copy(alloc, b"tcp://")?;
+        push_address(&mut text, self.addr)?;
+        text.push(b':')?;
+        push_decimal(&mut text, self.port as u64)?;
+        Ok(text)
+    }
+}

@@ -1,0 +1,11 @@
+mod Examples
+pub mod Grow
+pub mod Stay
+pub mod Cuts
+pub mod Properties
+pub mod Exact
+pub mod Later
+pub mod Kept
+pub mod Framed
+pub mod Turning
+pub mod Feeding

@@ -1,0 +1,6 @@
+pub mod Frame
+pub mod Ready
+pub mod Stream
+pub mod Run
+pub mod Shown
+pub mod Reading

@@ -1,0 +1,69 @@
+-- How the fields of a reader are seen, and what a turn over some octets does.
+use Rattle.std.specs.Prelude.{◌≡◌, ℕ, ◌+◌, ◌-◌, ◌==◌, if◌then◌else◌, nat_le, List, ◌++◌, length, Option, Some, None, option_map}
+use Rattle.std.specs.Option.{option_or}
+use Rattle.zre_zmtp.specs.declared.fault.ZmtpWhy.{ZmtpWhy}
+use Rattle.zre_zmtp.specs.declared.fault.ZmtpFault.{ZmtpFault}
+use Rattle.zre_zmtp.specs.declared.progress.Progress.{Progress}
+use Rattle.zre_zmtp.specs.declared.partial.Partial.{Partial}
+use Rattle.zre_zmtp.specs.declared.header.Header.{Header}
+use Rattle.zre_zmtp.specs.declared.expected.Expected.{Expected}
+use Rattle.zre_zmtp.specs.declared.expected.Expected.TheVariants as expect
+use Rattle.zre_zmtp.specs.declared.item.Item.{Item}
+use Rattle.zre_zmtp.specs.Frame.{flags, size, has_header}
+use Rattle.zre_zmtp.specs.Stream.{Want, Before, once, flags_fault, size_fault, fault_of, whole_len, said, start_of, opened_by}
+use Rattle.zre_zmtp.specs.Run.{Found, run_all}
+use Rattle.zre_zmtp.specs.Reading.{ReadsAll}
+
+-- what the whole parts of a reader tell
+abbrev pub before_of : Progress → Before
+before_of p = record { expected = p.expected; place = p.place; opened = p.opened; start = p.start }
+
+-- the octets behind them
+abbrev pub left_by : Expected → List ℕ → List ℕ → List ℕ → List ℕ
+left_by expect.Greeting greeting head body = greeting
+left_by expect.Ready greeting head body = head ++ body
+left_by expect.Traffic greeting head body = head ++ body
+
+abbrev pub left_of : Progress → List ℕ
+left_of p = left_by p.expected p.greeting p.partial.head p.partial.body
+
+-- what is wrong with the header of a frame, or with what is there of it
+abbrev pub header_fault : Before → List ℕ → Option ZmtpWhy
+header_fault b o = option_or (once (nat_le 1 (length o)) (flags_fault b (flags o))) (once (has_header o) (size_fault b (flags o) (size o)))
+
+-- the item that ends with a frame of so many octets, by its flags, size and body
+abbrev pub frame_item : Before → Header → List ℕ → ℕ → Option Item
+frame_item b h o len = option_map (λ says. record { start = start_of b.expected b h.flags; end = b.place + len; what = says }) (said b.expected b.opened h.flags h.size o)
+
+-- what is known behind such a frame, where no greeting is expected
+abbrev pub frame_after : Before → Header → List ℕ → ℕ → Before
+frame_after b h o len = record {
+  expected = expect.Traffic;
+  place = b.place + len;
+  opened = opened_by b.expected b.opened h.flags o;
+  start = if length (opened_by b.expected b.opened h.flags o) == 0 then b.place + len else b.start;
+}
+
+-- The reader stands behind whole parts that tell b, and the octets o are no whole part and have no fault.
+pub record Waits (want : Want) (b : Before) (o : List ℕ) : Type 0 where
+  pub faultless : fault_of want b o ≡ None
+  pub partial : whole_len b.expected o ≡ None
+
+-- The octets o were read behind b, and have no fault.
+pub record Advances (want : Want) (b : Before) (o : List ℕ) (old new : List Item) (now : Before) (behind : List ℕ) : Type 0 where
+  pub reads : ReadsAll (run_all want b o) old new now behind
+  pub faultless : fault_of want now behind ≡ None
+
+-- how many octets the next turn of a reader takes at most: one of a greeting or of a header, and else what is missing of a body
+abbrev pub room : Expected → Option Header → List ℕ → ℕ
+room expect.Greeting header body = 1
+room expect.Ready None body = 1
+room expect.Ready (Some h) body = h.size - length body
+room expect.Traffic None body = 1
+room expect.Traffic (Some h) body = h.size - length body
+
+-- What was found in all of the octets is what was found so far, and what is found in the rest.
+pub record GoesOn (front out : List Item) (whole rest : Found) : Type 0 where
+  pub given : front ++ whole.given ≡ out ++ rest.given
+  pub before : whole.before ≡ rest.before
+  pub left : whole.left ≡ rest.left

@@ -1,0 +1,65 @@
+//! The header of a frame: its flags and its size (RFC 23, framing).
+
+ghost use Rattle.std.specs.Prelude.{◌≡◌, ◌≤◌, length};
+ghost use Rattle.zre_zmtp.specs.Frame.{is_message as message_test, is_long as long_test, has_more as more_test, header_len as len_of_header, size, header_of};
+
+/// What a header says.
+#[derive(Clone, Copy, Debug, PartialEq, Eq)]
+pub struct Header {
+    pub flags: u8,
+    /// How many octets the body has.
+    pub size: u64,
+}
+
+pub fn is_message(flags: u8) -> bool
+    ensures { result ≡ message_test flags }
+{
+    flags < 4
+}
+
+pub fn has_more(flags: u8) -> bool
+    ensures { result ≡ more_test flags }
+{
+    flags == 1 || flags == 3
+}
+
+fn is_long(flags: u8) -> bool
+    ensures { result ≡ long_test flags }
+{
+    flags == 2 || flags == 3 || flags == 6
+}
+
+fn header_len(octets: &[u8]) -> usize
+    requires { 1 ≤ length octets.now }
+    ensures { result ≡ len_of_header octets.now }
+{
+    if is_long(octets[0]) { 9 } else { 2 }
+}
+
+// The size field, behind the flags octet.
+fn size_field(octets: &[u8]) -> u64
+    requires some { 1 ≤ length octets.now }
+    requires header { len_of_header octets.now ≤ length octets.now }
+    ensures { result ≡ size octets.now }
+{
+    if is_long(octets[0]) {
+        u64::from_be_bytes([
+            octets[1], octets[2], octets[3], octets[4], octets[5], octets[6], octets[7], octets[8],
+        ])
+    } else {
+        u64::from(octets[1])
+    }
+}
+
+/// What the header at the front of some octets says, where all of it is there.
+pub fn read_header(octets: &[u8]) -> Option<Header>
+    ensures { result ≡ header_of octets.now }
+{
+    if octets.is_empty() || octets.len() < header_len(octets) {
+        return None;
+    }
+    Some(Header {
+        flags: octets[0],
+        size: size_field(octets),
+    })
+}

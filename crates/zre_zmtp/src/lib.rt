@@ -1,0 +1,21 @@
+//! Streams of ZMTP 3.0 with the NULL mechanism (RFC 23): a reader that takes them in any pieces, and what this node
+//! writes of them.
+#![tactic(auto)]
+
+mod command;
+mod expected;
+mod fault;
+mod faults;
+mod header;
+mod item;
+mod opened;
+mod partial;
+mod progress;
+mod reader;
+mod turns;
+mod want;
+
+pub use fault::{FeedFault, ZmtpFault, ZmtpWhy};
+pub use item::{Item, Items, What};
+pub use reader::Reader;
+pub use want::Want;

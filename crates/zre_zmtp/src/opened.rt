@@ -1,0 +1,68 @@
+//! The message that isn't whole yet.
+
+ghost use Rattle.std.specs.Prelude.{◌≡◌, ◌-◌, ◌^◌, [], ◌∷◌, ◌++◌, length, min, sum_by, OnOk, OnErr};
+
+use std::alloc::Global;
+use std::marker::Model;
+use std::mem;
+use zre_values::{Frames, Octets, OutOfMemory};
+
+/// The bodies of the frames of a message that isn't whole, with the sum of their lengths.
+#[derive(Debug, Drop)]
+pub struct Opened {
+    bodies: Frames,
+    octets: u64,
+}
+
+impl Model for Opened {
+    ghost use Rattle.std.specs.Prelude.{◌≡◌, ◌-◌, ◌^◌, ℕ, List, length, min, sum_by};
+
+    ghost Value = { List (List ℕ) };
+
+    ghost view = { λ opened. opened.bodies };
+
+    ghost invariant = { λ opened. opened.octets ≡ min (sum_by length opened.bodies) (2 ^ 64 - 1) };
+}
+
+impl Opened {
+    pub fn new(alloc: Global) -> Self
+        ensures { result ≡ [] }
+    {
+        Opened {
+            bodies: Frames::new(alloc),
+            octets: 0,
+        }
+    }
+
+    pub fn len(&self) -> usize
+        ensures { result ≡ length self.now }
+    {
+        self.bodies.len()
+    }
+
+    /// The sum of the lengths, or the greatest u64 where the sum is above that.
+    pub fn octets(&self) -> u64
+        ensures { result ≡ min (sum_by length self.now) (2 ^ 64 - 1) }
+    {
+        self.octets
+    }
+
+    pub fn push(&mut self, body: Octets) -> Result<(), OutOfMemory>
+        ensures ok { OnOk result (self.new ≡ self.old ++ body ∷ []) }
+        ensures err { OnErr result (self.new ≡ self.old) }
+    {
+        let octets = self.octets.saturating_add(body.len() as u64);
+        self.bodies.push(body)?;
+        self.octets = octets;
+        Ok(())
+    }
+
+    /// Hands the bodies out, and has none any more.
+    pub fn take(&mut self, alloc: Global) -> Frames
+        ensures taken { result ≡ self.old }
+        ensures empty { self.new ≡ [] }
+    {
+        self.octets = 0;
+        mem::replace(&mut self.bodies, Frames::new(alloc))
+    }
+}

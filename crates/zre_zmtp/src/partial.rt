@@ -1,0 +1,37 @@
+//! The frame that isn't whole yet.
+
+ghost use Rattle.std.specs.Prelude.{◌≡◌, ◌≤◌, ◌<◌, [], length, None};
+ghost use Rattle.std.specs.Option.{ForSome, ForNone};
+ghost use Rattle.zre_zmtp.specs.Frame.{header_len, header_of};
+
+use crate::header::Header;
+use std::alloc::Global;
+use zre_values::Octets;
+
+/// The octets of a frame that isn't whole: those of its header, and apart from them those of its body, which are handed
+/// out as they stand.
+#[derive(Debug, Drop)]
+pub struct Partial {
+    pub head: Octets,
+    /// What the header says, once it is there.
+    pub header: Option<Header>,
+    pub body: Octets,
+    ghost known: { header ≡ header_of head },
+    ghost within: { length head ≤ header_len head },
+    ghost apart: { ForNone header (body ≡ []) },
+    ghost unfinished: { ForSome header (λ said. length body < said.size) },
+}
+
+impl Partial {
+    pub fn new(alloc: Global) -> Self
+        ensures head { result.head ≡ [] }
+        ensures header { result.header ≡ None }
+        ensures body { result.body ≡ [] }
+    {
+        Partial {
+            head: Octets::new(alloc),
+            header: None,
+            body: Octets::new(alloc),
+        }
+    }
+}

@@ -1,0 +1,22 @@
+//! How far a stream has come.
+
+use crate::expected::Expected;
+use crate::opened::Opened;
+use crate::partial::Partial;
+use zre_values::Octets;
+
+/// What the octets so far tell: the whole parts, and the part that isn't whole.
+#[derive(Debug, Drop)]
+pub struct Progress {
+    pub expected: Expected,
+    /// How many octets the whole parts have.
+    pub place: u64,
+    /// The bodies of the frames of a message that isn't whole.
+    pub opened: Opened,
+    /// Where the message begins that the next message frame belongs to.
+    pub start: u64,
+    /// The octets of a greeting that isn't whole, where that is expected.
+    pub greeting: Octets,
+    /// The octets of a frame that isn't whole, where a frame is expected.
+    pub partial: Partial,
+}

@@ -1,0 +1,152 @@
+//! A reader of a stream that comes in pieces.
+
+ghost use Rattle.std.specs.Prelude.{◌≡◌, ℕ, ◌+◌, ◌-◌, ◌^◌, ◌≤◌, ◌↔◌, min, false, List, [], ◌++◌, length, OnOk, IfErr, IsErr, IsTrue};
+ghost use Rattle.zre_values.specs.declared.limits.TheConstants.{MESSAGE_OCTETS, COMMAND_OCTETS};
+ghost use Rattle.zre_zmtp.specs.Stream.{Want as WantValue, Any, Kind, Whole as whole_kind, Traffic as traffic_kind, fault, fault_of, IsAtRest};
+ghost use Rattle.zre_zmtp.specs.Run.{run_all};
+ghost use Rattle.zre_zmtp.specs.Shown.{before_of, left_of, Waits, Advances};
+ghost use Rattle.zre_zmtp.specs.Reading.{Reads, Refuses, Adds, IsOver, kept};
+
+use crate::expected::Expected;
+use crate::fault::FeedFault;
+use crate::item::Items;
+use crate::opened::Opened;
+use crate::partial::Partial;
+use crate::progress::Progress;
+use crate::turns::{room, take};
+use crate::want::Want;
+use std::alloc::Global;
+use std::marker::Model;
+use zre_values::Octets;
+
+// Reads octets turn by turn. Each is looked at once.
+fn read(
+    alloc: Global,
+    want: &Want,
+    progress: &mut Progress,
+    octets: &[u8],
+    out: &mut Items,
+) -> Result<(), FeedFault>
+    ensures ok { Waits want.now (before_of progress.old) (left_of progress.old) →
+        OnOk result (Advances want.now (before_of progress.old) (left_of progress.old ++ octets.now) out.old out.new (before_of progress.new) (left_of progress.new)) }
+    ensures refused { Waits want.now (before_of progress.old) (left_of progress.old) →
+        IfErr result (λ e. let found = run_all want.now (before_of progress.old) (left_of progress.old ++ octets.now) in Refuses e (fault_of want.now found.before found.left) (out.new ≡ out.old ++ found.given)) }
+{
+    let mut rest = octets;
+    while !rest.is_empty() {
+        let len = room(progress).min(rest.len() as u64) as usize;
+        let (front, behind) = rest.split_at(len);
+        take(alloc, want, progress, front, out)?;
+        rest = behind;
+    }
+    Ok(())
+}
+
+/// A reader of a stream, or of traffic alone, that is handed the octets in any pieces. It keeps the octets of the greeting
+/// or frame that isn't whole and the bodies of the message that isn't, and looks at each octet once.
+#[derive(Debug, Drop)]
+pub struct Reader {
+    alloc: Global,
+    want: Want,
+    progress: Progress,
+    spent: bool,
+}
+
+impl Model for Reader {
+    ghost use Rattle.zre_zmtp.specs.Shown.{before_of, left_of};
+    ghost use Rattle.zre_zmtp.specs.Reading.{Reading};
+
+    ghost Value = { Reading };
+
+    ghost view = { λ r. record { before = before_of r.progress; left = left_of r.progress; spent = r.spent; wanted = r.want } };
+}
+
+impl Reader {
+    /// Expects a greeting, READY and traffic (RFC 23). Every socket type and every identity is let pass.
+    pub fn stream(alloc: Global) -> Self
+        ensures { Reads Any whole_kind [] result }
+    {
+        Reader::expecting(alloc, Want::Any, Expected::Greeting)
+    }
+
+    /// Expects a greeting, READY of the peer that is wanted, and traffic.
+    pub fn wanting(alloc: Global, want: Want) -> Self
+        ensures { Reads want whole_kind [] result }
+    {
+        Reader::expecting(alloc, want, Expected::Greeting)
+    }
+
+    /// Expects traffic alone: what stands behind READY.
+    pub fn traffic(alloc: Global) -> Self
+        ensures { Reads Any traffic_kind [] result }
+    {
+        Reader::expecting(alloc, Want::Any, Expected::Traffic)
+    }
+
+    /// Reads one more piece: the items whose last octet is now there are appended. A fault is told with the very octet that
+    /// makes it certain, behind the items before it; no octet that comes later changes it or adds an item. After a refusal
+    /// the reader is spent. Want of memory is also told where a place would be above 2^64 - 1.
+    pub fn feed(&mut self, piece: &[u8], out: &mut Items) -> Result<(), FeedFault>
+        requires { self.old.spent ≡ false }
+        ensures ok { (want : WantValue) (kind : Kind) (o : List ℕ) → Reads want kind o self.old →
+            OnOk result (Reads want kind (o ++ piece.now) self.new × Adds want kind o piece.now out.old out.new) }
+        ensures refused { (want : WantValue) (kind : Kind) (o : List ℕ) → Reads want kind o self.old →
+            IfErr result (λ e. Refuses e (fault want kind (o ++ piece.now)) (Adds want kind o piece.now out.old out.new × IsOver want kind (o ++ piece.now))) }
+        ensures spent { IsTrue self.new.spent ↔ IsErr result }
+    {
+        self.spent = true;
+        read(self.alloc, &self.want, &mut self.progress, piece, out)?;
+        self.spent = false;
+        Ok(())
+    }
+
+    /// Whether no message is unfinished, and no octet stands behind the last item.
+    pub fn at_rest(&self) -> bool
+        ensures { (want : WantValue) (kind : Kind) (o : List ℕ) → Reads want kind o self.now → (IsTrue result ↔ IsAtRest want kind o) }
+    {
+        self.left_len() == 0 && self.progress.opened.len() == 0
+    }
+
+    /// Whether a piece was refused.
+    pub fn spent(&self) -> bool
+        ensures { result ≡ self.now.spent }
+    {
+        self.spent
+    }
+
+    /// How many octets are kept: those of the bodies of an unfinished message, and those of an unfinished greeting or frame.
+    pub fn kept(&self) -> u64
+        ensures { (want : WantValue) (kind : Kind) (o : List ℕ) → Reads want kind o self.now → (result ≡ kept self.now) × (result ≤ MESSAGE_OCTETS + 9 + COMMAND_OCTETS) }
+    {
+        self.progress.opened.octets().saturating_add(self.left_len())
+    }
+
+    fn left_len(&self) -> u64
+        ensures { result ≡ min (length self.now.left) (2 ^ 64 - 1) }
+    {
+        match self.progress.expected {
+            Expected::Greeting => self.progress.greeting.len() as u64,
+            Expected::Ready | Expected::Traffic => {
+                (self.progress.partial.head.len() as u64).saturating_add(self.progress.partial.body.len() as u64)
+            }
+        }
+    }
+
+    fn expecting(alloc: Global, want: Want, expected: Expected) -> Self
+        ensures { result ≡ record { before = record { expected = expected; place = 0; opened = []; start = 0 }; left = []; spent = false; wanted = want } }
+    {
+        Reader {
+            alloc,
+            want,
+            progress: Progress {
+                expected,
+                place: 0,
+                opened: Opened::new(alloc),
+                start: 0,
+                greeting: Octets::new(alloc),
+                partial: Partial::new(alloc),
+            },
+            spent: false,
+        }
+    }
+}

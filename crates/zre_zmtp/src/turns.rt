@@ -1,0 +1,302 @@
+//! The turns of a reader: each takes an octet of a greeting, an octet of a header, or octets of a body.
+
+ghost use Rattle.std.specs.Prelude.{◌≡◌, ℕ, ◌+◌, ◌≤◌, ◌<◌, ◌≢◌, List, [], ◌∷◌, ◌++◌, length, IfOk, IfSome, OnOk, IfErr, Some, None, option_map, option_copied, option_to_list};
+ghost use Rattle.zre_zmtp.specs.Frame.{header_of, header_len as header_len_of};
+ghost use Rattle.zre_zmtp.specs.Stream.{Want as WantValue, said as said_by, opened_by, body_fault, fault_of, item as item_of};
+ghost use Rattle.zre_zmtp.specs.Run.{run_all, after as after_of};
+ghost use Rattle.zre_zmtp.specs.Shown.{before_of, left_of, frame_item, frame_after, header_fault, Waits, Advances, room as room_of};
+ghost use Rattle.zre_zmtp.specs.Reading.{Refuses};
+
+use crate::command::{command_fault, identity, name, socket_type};
+use crate::expected::Expected;
+use crate::fault::{FeedFault, ZmtpFault, ZmtpWhy};
+use crate::faults::{GREETING_OCTETS, fault_of_header, fault_of_octet};
+use crate::header::{Header, has_more, is_message, read_header};
+use crate::item::{Item, Items, What};
+use crate::partial::Partial;
+use crate::progress::Progress;
+use crate::want::Want;
+use std::alloc::Global;
+use std::mem;
+use zre_values::{Octets, OutOfMemory};
+
+/// How many octets the next turn takes at most.
+pub fn room(progress: &Progress) -> u64
+    ensures exact { result ≡ room_of progress.now.expected progress.now.partial.header progress.now.partial.body }
+    ensures some { 1 ≤ result }
+{
+    match (progress.expected, progress.partial.header) {
+        (Expected::Greeting, _) | (_, None) => 1,
+        (_, Some(header)) => header.size - progress.partial.body.len() as u64,
+    }
+}
+
+fn copy(alloc: Global, octets: Option<&[u8]>) -> Result<Option<Octets>, OutOfMemory>
+    ensures { IfOk result (λ copied. copied ≡ option_copied octets.entry) }
+{
+    match octets {
+        Some(octets) => Ok(Some(Octets::copy(alloc, octets)?)),
+        None => Ok(None),
+    }
+}
+
+// What a whole frame says. The message that it belongs to is kept or handed out.
+fn said(
+    alloc: Global,
+    progress: &mut Progress,
+    header: Header,
+    body: Octets,
+) -> Result<Option<What>, OutOfMemory>
+    requires { progress.old.expected ≢ Expected.Greeting }
+    ensures says { IfOk result (λ what. what ≡ said_by progress.old.expected progress.old.opened header.flags header.size body) }
+    ensures opened { OnOk result (progress.new.opened ≡ opened_by progress.old.expected progress.old.opened header.flags body) }
+    ensures rest { progress.new ≡ record progress.old { opened = progress.new.opened } }
+{
+    if progress.expected == Expected::Ready {
+        return Ok(Some(What::Ready {
+            size: header.size,
+            socket_type: copy(alloc, socket_type(body.as_slice()))?,
+            identity: copy(alloc, identity(body.as_slice()))?,
+        }));
+    }
+    if !is_message(header.flags) {
+        return Ok(Some(What::Command {
+            size: header.size,
+            name: Octets::copy(alloc, name(body.as_slice()))?,
+            body,
+        }));
+    }
+    progress.opened.push(body)?;
+    if has_more(header.flags) {
+        return Ok(None);
+    }
+    Ok(Some(What::Message(progress.opened.take(alloc))))
+}
+
+// The item that ends with a whole frame, and what is known behind it. A place past the last one is want of memory.
+fn finish_frame(
+    alloc: Global,
+    want: &Want,
+    progress: &mut Progress,
+    header: Header,
+    header_len: usize,
+    body: Octets,
+) -> Result<Option<Item>, FeedFault>
+    requires { progress.old.expected ≢ Expected.Greeting }
+    ensures says { IfOk result (λ item. item ≡ frame_item (before_of progress.old) header body (header_len + length body)) }
+    ensures after { OnOk result (before_of progress.new ≡ frame_after (before_of progress.old) header body (header_len + length body)) }
+    ensures partial { OnOk result (progress.new.partial ≡ progress.old.partial) }
+    ensures faultless { OnOk result (body_fault want.now (before_of progress.old) header.flags body ≡ None) }
+    ensures refused { IfErr result (λ e. Refuses e (option_map (λ why. record { why = why; place = progress.old.place }) (body_fault want.now (before_of progress.old) header.flags body)) (Unit {0})) }
+{
+    if let Some(why) = fault_of_body(want, progress, header.flags, body.as_slice()) {
+        let place = progress.place;
+        return Err(FeedFault::Zmtp(ZmtpFault { why, place }));
+    }
+    let Some(end) = end_of(progress.place, header_len, body.len()) else {
+        return Err(FeedFault::OutOfMemory);
+    };
+    let start = if progress.expected == Expected::Traffic && is_message(header.flags) {
+        progress.start
+    } else {
+        progress.place
+    };
+    let what = said(alloc, progress, header, body)?;
+    progress.expected = Expected::Traffic;
+    progress.place = end;
+    if progress.opened.len() == 0 {
+        progress.start = end;
+    }
+    Ok(what.map(|what| Item { start, end, what }))
+}
+
+fn fault_of_body(want: &Want, progress: &Progress, flags: u8, body: &[u8]) -> Option<ZmtpWhy>
+    ensures { result ≡ body_fault want.now (before_of progress.now) flags body.now }
+{
+    if is_message(flags) {
+        None
+    } else {
+        command_fault(want, progress.expected, body)
+    }
+}
+
+// The place behind a part, if there is a number for it.
+fn end_of(place: u64, header_len: usize, body_len: usize) -> Option<u64>
+    ensures { IfSome result (λ end. end ≡ place + (header_len + body_len)) }
+{
+    place
+        .checked_add(header_len as u64)?
+        .checked_add(body_len as u64)
+}
+
+// A whole frame: the item that ends with it is appended, and nothing stands behind it.
+fn take_frame(
+    alloc: Global,
+    want: &Want,
+    progress: &mut Progress,
+    header: Header,
+    mut head: Octets,
+    body: Octets,
+    out: &mut Items,
+) -> Result<(), FeedFault>
+    requires frame { progress.old.expected ≢ Expected.Greeting }
+    requires header { header_of head ≡ Some header }
+    requires within { length head ≤ header_len_of head }
+    requires whole { length body ≡ header.size }
+    ensures ok { header_fault (before_of progress.old) head ≡ None →
+        OnOk result (Advances want.now (before_of progress.old) (head ++ body) out.old out.new (before_of progress.new) (left_of progress.new)) }
+    ensures refused { header_fault (before_of progress.old) head ≡ None →
+        IfErr result (λ e. let found = run_all want.now (before_of progress.old) (head ++ body) in Refuses e (fault_of want.now found.before found.left) (out.new ≡ out.old ++ found.given)) }
+{
+    let header_len = head.len();
+    head.clear();
+    progress.partial = Partial {
+        head,
+        header: None,
+        body: Octets::new(alloc),
+    };
+    if let Some(item) = finish_frame(alloc, want, progress, header, header_len, body)? {
+        out.push(item)?;
+    }
+    Ok(())
+}
+
+// The item that ends with the greeting, and what is known behind it.
+#[tactic(auto, unfolding(crate::specs::Stream::item))]
+fn finish_greeting(alloc: Global, progress: &mut Progress) -> Result<Item, FeedFault>
+    requires expected { progress.old.expected ≡ Expected.Greeting }
+    requires some { 12 ≤ length progress.old.greeting }
+    ensures says { IfOk result (λ found. item_of (before_of progress.old) progress.old.greeting ≡ Some found) }
+    ensures after { OnOk result (before_of progress.new ≡ after_of (before_of progress.old) progress.old.greeting) }
+    ensures left { OnOk result (left_of progress.new ≡ []) }
+    ensures err { IfErr result (λ e. e ≡ FeedFault.OutOfMemory) }
+{
+    let start = progress.place;
+    let Some(end) = start.checked_add(progress.greeting.len() as u64) else {
+        return Err(FeedFault::OutOfMemory);
+    };
+    let what = What::Greeting {
+        major: *progress.greeting.get(10),
+        minor: *progress.greeting.get(11),
+    };
+    progress.expected = Expected::Ready;
+    progress.place = end;
+    if progress.opened.len() == 0 {
+        progress.start = end;
+    }
+    progress.greeting = Octets::new(alloc);
+    progress.partial = Partial::new(alloc);
+    Ok(Item { start, end, what })
+}
+
+// One octet more of the greeting.
+fn take_greeting(
+    alloc: Global,
+    progress: &mut Progress,
+    octet: u8,
+    out: &mut Items,
+) -> Result<(), FeedFault>
+    requires { progress.old.expected ≡ Expected.Greeting }
+    ensures ok { (want : WantValue) → Waits want (before_of progress.old) (left_of progress.old) →
+        OnOk result (Advances want (before_of progress.old) (left_of progress.old ++ octet ∷ []) out.old out.new (before_of progress.new) (left_of progress.new)) }
+    ensures refused { (want : WantValue) → Waits want (before_of progress.old) (left_of progress.old) →
+        IfErr result (λ e. let found = run_all want (before_of progress.old) (left_of progress.old ++ octet ∷ []) in Refuses e (fault_of want found.before found.left) (out.new ≡ out.old ++ found.given)) }
+{
+    let i = progress.greeting.len();
+    if let Some(why) = fault_of_octet(i, octet) {
+        return Err(FeedFault::Zmtp(ZmtpFault {
+            why,
+            place: i as u64,
+        }));
+    }
+    progress.greeting.push(octet)?;
+    if progress.greeting.len() < GREETING_OCTETS {
+        return Ok(());
+    }
+    out.push(finish_greeting(alloc, progress)?)?;
+    Ok(())
+}
+
+// One octet more of a header. A frame without a body ends with it.
+fn take_header(
+    alloc: Global,
+    want: &Want,
+    progress: &mut Progress,
+    octet: u8,
+    out: &mut Items,
+) -> Result<(), FeedFault>
+    requires frame { progress.old.expected ≢ Expected.Greeting }
+    requires header { progress.old.partial.header ≡ None }
+    ensures ok { Waits want.now (before_of progress.old) (left_of progress.old) →
+        OnOk result (Advances want.now (before_of progress.old) (left_of progress.old ++ octet ∷ []) out.old out.new (before_of progress.new) (left_of progress.new)) }
+    ensures refused { Waits want.now (before_of progress.old) (left_of progress.old) →
+        IfErr result (λ e. let found = run_all want.now (before_of progress.old) (left_of progress.old ++ octet ∷ []) in Refuses e (fault_of want.now found.before found.left) (out.new ≡ out.old ++ found.given)) }
+{
+    let Partial { mut head, .. } = mem::replace(&mut progress.partial, Partial::new(alloc));
+    head.push(octet)?;
+    if let Some(why) = fault_of_header(progress, head.as_slice()) {
+        let place = progress.place;
+        return Err(FeedFault::Zmtp(ZmtpFault { why, place }));
+    }
+    let body = Octets::new(alloc);
+    let Some(header) = read_header(head.as_slice()) else {
+        let header = None;
+        progress.partial = Partial { head, header, body };
+        return Ok(());
+    };
+    if header.size > 0 {
+        let header = Some(header);
+        progress.partial = Partial { head, header, body };
+        return Ok(());
+    }
+    take_frame(alloc, want, progress, header, head, body, out)
+}
+
+// Octets more of a body, and no more than are missing.
+fn take_body(
+    alloc: Global,
+    want: &Want,
+    progress: &mut Progress,
+    header: Header,
+    octets: &[u8],
+    out: &mut Items,
+) -> Result<(), FeedFault>
+    requires frame { progress.old.expected ≢ Expected.Greeting }
+    requires header { progress.old.partial.header ≡ Some header }
+    requires within { length progress.old.partial.body + length octets.now ≤ header.size }
+    ensures ok { Waits want.now (before_of progress.old) (left_of progress.old) →
+        OnOk result (Advances want.now (before_of progress.old) (left_of progress.old ++ octets.now) out.old out.new (before_of progress.new) (left_of progress.new)) }
+    ensures refused { Waits want.now (before_of progress.old) (left_of progress.old) →
+        IfErr result (λ e. let found = run_all want.now (before_of progress.old) (left_of progress.old ++ octets.now) in Refuses e (fault_of want.now found.before found.left) (out.new ≡ out.old ++ found.given)) }
+{
+    let Partial { head, mut body, .. } = mem::replace(&mut progress.partial, Partial::new(alloc));
+    body.append(octets)?;
+    if (body.len() as u64) < header.size {
+        let header = Some(header);
+        progress.partial = Partial { head, header, body };
+        return Ok(());
+    }
+    take_frame(alloc, want, progress, header, head, body, out)
+}
+
+/// Takes octets of the part that comes next, no more than there is room for.
+pub fn take(
+    alloc: Global,
+    want: &Want,
+    progress: &mut Progress,
+    octets: &[u8],
+    out: &mut Items,
+) -> Result<(), FeedFault>
+    requires some { 0 < length octets.now }
+    requires room { length octets.now ≤ room_of progress.old.expected progress.old.partial.header progress.old.partial.body }
+    ensures ok { Waits want.now (before_of progress.old) (left_of progress.old) →
+        OnOk result (Advances want.now (before_of progress.old) (left_of progress.old ++ octets.now) out.old out.new (before_of progress.new) (left_of progress.new)) }
+    ensures refused { Waits want.now (before_of progress.old) (left_of progress.old) →
+        IfErr result (λ e. let found = run_all want.now (before_of progress.old) (left_of progress.old ++ octets.now) in Refuses e (fault_of want.now found.before found.left) (out.new ≡ out.old ++ found.given)) }
+{
+    match (progress.expected, progress.partial.header) {
+        (Expected::Greeting, _) => take_greeting(alloc, progress, octets[0], out),
+        (_, None) => take_header(alloc, want, progress, octets[0], out),
+        (_, Some(header)) => take_body(alloc, want, progress, header, octets, out),
+    }
+}
