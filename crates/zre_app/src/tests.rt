@@ -139,7 +139,7 @@ fn follow_tells_the_place_of_what_it_refuses(rt: HostRuntime) -> Result<(), Fail
         (&[HELLO, JOIN_2], 56, Status::TooLong, &[ENTER, JOIN]),
         (&[HELLO, JOIN_2], 57, Status::Done, &[ENTER, JOIN]),
         (&[&JOIN_2[..7]], 99, Status::BadInput, &[b"BADINPUT 7\n"]),
-        (&[HELLO, b"\x04"], 99, Status::BadInput, &[ENTER, b"BADINPUT 42\n"]),
+        (&[HELLO, b"\x04"], 99, Status::BadInput, &[ENTER, b"BADINPUT 43\n"]),
         (&[b"\x05"], 1, Status::BadInput, &[b"BADINPUT 0\n"]),
     ];
     for (input, limit, status, text) in rows {

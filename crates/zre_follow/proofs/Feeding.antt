@@ -1,5 +1,6 @@
 -- The machine of `follow`, fed one more piece.
-use Rattle.std.proofs.Common.{◌≡◌, ℕ, Bool, true, false, not, ◌&&◌, List, [], ◌++◌, length, drop, refl, sym, ap, ◌∙◌, subst}
+use Rattle.std.proofs.Common.{◌≡◌, ℕ, Bool, true, false, not, ◌&&◌, List, [], ◌++◌, length, Option, Some, None, refl, sym, ap, ◌∙◌, subst}
+use Rattle.std.specs.Prelude.{is_some}
 use Rattle.std.proofs.lemmas.List.{append-nil}
 use Rattle.zre_values.specs.declared.peer_id.PeerId.{PeerId}
 use Rattle.zre_msg.specs.declared.message.Message.{Message}
@@ -7,60 +8,104 @@ use Rattle.zre_peer.specs.Lines.{lines}
 use Rattle.zre_peer.specs.Standing.{Stands, is_spent}
 use Rattle.zre_peer.specs.declared.peer_run.Run.{Run}
 use Rattle.zre_pump.specs.Meaning.{Grows}
+use Rattle.zre_zmtp.specs.Reading.{Reading, Reads, new_items}
+use Rattle.zre_zmtp.specs.Stream.{Traffic, fault}
+use Rattle.zre_zmtp.specs.declared.want.Want.TheVariants.{Any}
+use Rattle.zre_zmtp.specs.declared.fault.ZmtpFault.{ZmtpFault}
+use Rattle.zre_zmtp.specs.declared.item.Item.{Item}
 use Rattle.zre_follow.specs.declared.follower.Follower.{Follower}
-use Rattle.zre_follow.specs.declared.taking.Taken.{Taken}
 use Rattle.zre_follow.specs.Follow.{follow, over, is_stopped}
 use Rattle.zre_follow.specs.Follower.{Fed, peer_of}
+use Rattle.zre_follow.specs.Messages.{messages, messages_in}
+use Rattle.zre_follow.specs.Piece.{ReadPiece}
 use Rattle.zre_follow.specs.Runs.{events_behind}
-use Rattle.zre_follow.specs.Simple.{messages, rest, is_partial}
 use Rattle.zre_follow.specs.Taken.{Took}
-use Rattle.zre_follow.proofs.Growing.{messages_more, rest_more, over_stays, over_later, text_over, text_later}
+use Rattle.zre_follow.proofs.Growing.{newly, messages_more, over_stays, over_later, text_over, text_later}
 
 both_ways : {A : Type 0} (b : Bool) → b ≡ true → b ≡ false → A
 both_ways true e f = absurd cc
 both_ways false e f = absurd cc
 
--- a machine that is spent knows no more than that
-pub spent_fed : (g : Follower) (o : List ℕ) → is_spent g.run ≡ true → over o ≡ true → Fed g o
-spent_fed g o e h = record {
-  spent = e ∙ sym h;
-  stands = λ n. both_ways (over o) h n;
-  pending = λ n. both_ways (over o) h n;
-}
+none_from_test : {X : Type 0} (o : Option X) → is_some o ≡ false → o ≡ None
+none_from_test None e = refl
+none_from_test (Some x) e = absurd cc
+
+-- ---- behind the end of the run
 
 pub over_fed : (f : Follower) (o x : List ℕ) → is_spent f.run ≡ true → Fed f o → Fed f (o ++ x)
-over_fed f o x e h = spent_fed f (o ++ x) e (over_stays o x (sym h.spent ∙ e))
+over_fed f o x e h =
+    let all : over (o ++ x) ≡ true = over_stays o x (sym h.spent ∙ e) in
+    record {
+      spent = e ∙ sym all;
+      stands = λ n. both_ways (over (o ++ x)) all n;
+      faulty = λ n. both_ways (over (o ++ x)) all n;
+      reads = λ n. both_ways (over (o ++ x)) all n;
+    }
 
 pub over_grows : (f : Follower) (o x out : List ℕ) → is_spent f.run ≡ true → Fed f o → Grows (follow (peer_of f)) o x out out
 over_grows f o x out e h = record { added = []; longer = text_over (peer_of f) o x (sym h.spent ∙ e); appended = sym (append-nil out) }
 
--- what is over isn't stopped
-pub over_now : (o : List ℕ) → over o ≡ true → false ≡ is_stopped o
-over_now o e = sym (ap (λ b. not b && not (is_partial (rest o))) e)
-
 pub over_goes : (f : Follower) (o x : List ℕ) → is_spent f.run ≡ true → Fed f o → false ≡ is_stopped (o ++ x)
-over_goes f o x e h = over_now (o ++ x) (over_stays o x (sym h.spent ∙ e))
+over_goes f o x e h = sym (ap (λ b. not b && is_some (fault Any Traffic (o ++ x))) (over_stays o x (sym h.spent ∙ e)))
 
--- after the messages at the front were taken
-pub record Fed-more (id : PeerId) (o x pending : List ℕ) (t : Taken) (run : Run) (out out' : List ℕ) : Type 0 where
-  pub over : t.over ≡ over (o ++ x)
-  pub stands : t.over ≡ false → Stands run (messages (o ++ x))
-  pub used : t.over ≡ false → drop t.used pending ≡ rest (o ++ x)
+-- ---- before it
+
+-- what goes on has no fault, so its reader stands behind it
+pub going_reads : (f : Follower) (o : List ℕ) → is_spent f.run ≡ false → Fed f o → is_stopped o ≡ false → Reads Any Traffic o f.reader
+going_reads f o e h going =
+    let on : over o ≡ false = sym h.spent ∙ e in
+    let none : fault Any Traffic o ≡ None = none_from_test (fault Any Traffic o) (sym (ap (λ b. not b && is_some (fault Any Traffic o)) on) ∙ going) in
+    h.reads on (h.faulty on ∙ none)
+
+-- a reader that is spent is of no octets that go on
+pub not_spent : {A : Type 0} (f : Follower) (o : List ℕ) → is_spent f.run ≡ false → f.reader.spent ≡ true → Fed f o → is_stopped o ≡ false → A
+not_spent f o e s h going = both_ways f.reader.spent s (going_reads f o e h going).unspent
+
+-- a piece was read, and its messages were taken
+pub record Fed-more (id : PeerId) (o x : List ℕ) (run : Run) (out out' : List ℕ) : Type 0 where
+  pub spent : is_spent run ≡ over (o ++ x)
+  pub stands : is_spent run ≡ false → Stands run (messages (o ++ x))
   pub text : Grows (follow id) o x out out'
 
-pub feeds_more : (f : Follower) (o x pending : List ℕ) (t : Taken) (run : Run) (out out' : List ℕ) → is_spent f.run ≡ false → Fed f o → pending ≡ f.pending ++ x
-    → ((ms : List Message) → Stands f.run ms → Took (peer_of f) ms pending t run out out') → Fed-more (peer_of f) o x pending t run out out'
-feeds_more f o x pending t run out out' e h is took =
-    let going : over o ≡ false = sym h.spent ∙ e in
-    let all : pending ≡ rest o ++ x = is ∙ ap (λ r. r ++ x) (h.pending going) in
-    let k = subst (λ p. Took (peer_of f) (messages o) p t run out out') all (took (messages o) (h.stands going)) in
+feeds_more : (f : Follower) (o x : List ℕ) (run : Run) (out out' : List ℕ) → is_spent f.run ≡ false → Fed f o → Took (peer_of f) (messages o) (newly o x) run out out' → Fed-more (peer_of f) o x run out out'
+feeds_more f o x run out out' e h t =
+    let on : over o ≡ false = sym h.spent ∙ e in
     record {
-      over = k.over ∙ sym (over_later o x going);
-      stands = λ n. subst (Stands run) (sym (messages_more o x)) (k.stands n);
-      used = λ n. ap (drop t.used) all ∙ k.used n ∙ sym (rest_more o x);
-      text = record { added = lines (events_behind (peer_of f) (messages o) (messages (rest o ++ x))); longer = text_later (peer_of f) o x going; appended = k.lines_of };
+      spent = t.over ∙ sym (over_later o x on);
+      stands = λ g. subst (Stands run) (sym (messages_more o x)) (t.stands g);
+      text = record { added = lines (events_behind (peer_of f) (messages o) (newly o x)); longer = text_later (peer_of f) o x on; appended = t.lines_of };
     }
 
--- whether it stops, by what is pending
-pub stops : (o pending : List ℕ) (b : Bool) → over o ≡ false → pending ≡ rest o → is_partial pending ≡ b → not b ≡ is_stopped o
-stops o pending b e is p = ap not (sym p ∙ ap is_partial is) ∙ sym (ap (λ c. not c && not (is_partial (rest o))) e)
+-- where no items stood before, those that were read are the new ones
+items_are : (o x : List ℕ) (found : Option ZmtpFault) (reader : Reading) (before items : List Item) → before ≡ [] → ReadPiece o x found reader before items → items ≡ new_items Any Traffic o x
+items_are o x found reader before items e r = r.appended ∙ ap (λ is. is ++ new_items Any Traffic o x) e
+
+taken_are : (id : PeerId) (o x : List ℕ) (found : Option ZmtpFault) (reader : Reading) (before items : List Item) (run : Run) (out out' : List ℕ) → before ≡ [] → ReadPiece o x found reader before items
+    → Took id (messages o) (messages_in items) run out out' → Took id (messages o) (newly o x) run out out'
+taken_are id o x found reader before items run out out' e r t =
+    let P : List Item → Type 0 = λ is. Took id (messages o) (messages_in is) run out out' in subst P (items_are o x found reader before items e r) t
+
+pub stands_on : (f : Follower) (o : List ℕ) → is_spent f.run ≡ false → Fed f o → Stands f.run (messages o)
+stands_on f o e h = h.stands (sym h.spent ∙ e)
+
+-- what the machine knows behind the piece
+pub feeds_on : (f g : Follower) (o x out out' : List ℕ) (found : Option ZmtpFault) (reader : Reading) (before items : List Item) → is_spent f.run ≡ false → Fed f o → ReadPiece o x found reader before items → before ≡ []
+    → Took (peer_of f) (messages o) (messages_in items) g.run out out' → g.reader ≡ reader → g.fault ≡ found → Fed g (o ++ x)
+feeds_on f g o x out out' found reader before items e h r none t same is =
+    let k = feeds_more f o x g.run out out' e h (taken_are (peer_of f) o x found reader before items g.run out out' none r t) in
+    record {
+      spent = k.spent;
+      stands = λ n. k.stands (k.spent ∙ n);
+      faulty = λ n. is ∙ r.told;
+      reads = λ n nothing. subst (Reads Any Traffic (o ++ x)) (sym same) (r.reads (sym is ∙ nothing));
+    }
+
+pub text_on : (f : Follower) (o x : List ℕ) (run : Run) (out out' : List ℕ) (found : Option ZmtpFault) (reader : Reading) (before items : List Item) → is_spent f.run ≡ false → Fed f o → ReadPiece o x found reader before items → before ≡ []
+    → Took (peer_of f) (messages o) (messages_in items) run out out' → Grows (follow (peer_of f)) o x out out'
+text_on f o x run out out' found reader before items e h r none t = (feeds_more f o x run out out' e h (taken_are (peer_of f) o x found reader before items run out out' none r t)).text
+
+pub stop_on : (f : Follower) (o x : List ℕ) (run : Run) (out out' : List ℕ) (found : Option ZmtpFault) (reader : Reading) (before items : List Item) → is_spent f.run ≡ false → Fed f o → ReadPiece o x found reader before items → before ≡ []
+    → Took (peer_of f) (messages o) (messages_in items) run out out' → (not (is_spent run) && is_some found) ≡ is_stopped (o ++ x)
+stop_on f o x run out out' found reader before items e h r none t =
+    let k = feeds_more f o x run out out' e h (taken_are (peer_of f) o x found reader before items run out out' none r t) in
+    ap (λ b. not b && is_some found) k.spent ∙ ap (λ f. not (over (o ++ x)) && is_some f) r.told

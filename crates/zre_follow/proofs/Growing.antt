@@ -1,18 +1,22 @@
 -- The text of more octets begins with that of fewer.
-use Rattle.std.proofs.Common.{◌≡◌, ℕ, ◌-◌, length, eqb, Option, Some, None, Bool, true, false, cond, not, ◌&&◌, List, [], ◌∷◌, ◌++◌, refl, sym, ap, ◌∙◌, append_assoc, inl, inr, arith}
+use Rattle.std.proofs.Common.{◌≡◌, ℕ, ◌-◌, length, eqb, Option, Some, None, Bool, true, false, cond, not, ◌&&◌, ◌||◌, is_some, List, [], ◌∷◌, ◌++◌, refl, sym, ap, ◌∙◌, append_assoc, inl, inr, arith}
 use Rattle.std.proofs.lemmas.Bool.{cases_Bool, ne_eqb}
 use Rattle.std.proofs.lemmas.List.{append-nil}
+use Rattle.std.proofs.lemmas.List.Elements.{filter_map-append}
 use Rattle.std.proofs.lemmas.List.Concat.{flat_map-append}
 use Rattle.zre_values.specs.declared.peer_id.PeerId.{PeerId}
 use Rattle.zre_msg.specs.declared.message.Message.{Message}
 use Rattle.zre_peer.specs.Lines.{line, lines}
 use Rattle.zre_peer.specs.Runs.{may_follow}
 use Rattle.zre_peer.specs.declared.event.Event.{Event}
-use Rattle.zre_pump.specs.Lines.{bad_line}
-use Rattle.zre_follow.specs.Follow.{follow, over, text, is_stopped, is_bad, place}
+use Rattle.zre_zmtp.specs.Reading.{new_items}
+use Rattle.zre_zmtp.specs.Stream.{Traffic, items, fault, cut, frame_why}
+use Rattle.zre_zmtp.specs.declared.want.Want.TheVariants.{Any}
+use Rattle.zre_zmtp.specs.declared.item.Item.{Item}
+use Rattle.zre_zmtp.proofs.Feeding.{extends}
+use Rattle.zre_follow.specs.Follow.{over, text, is_stopped, is_bad}
+use Rattle.zre_follow.specs.Messages.{meant, messages_in, messages}
 use Rattle.zre_follow.specs.Runs.{told, events_behind, is_over}
-use Rattle.zre_follow.specs.Simple.{split, split_within, messages, rest, is_partial}
-use Rattle.zre_follow.proofs.Splits.{split_more}
 
 more_cond : (b c : Bool) (one all first others : List Event) → (b ≡ true → all ≡ first ++ cond c [] others) → one ++ cond b all [] ≡ (one ++ cond b first []) ++ cond (cond b c true) [] others
 more_cond true c one all first others h = ap (λ (r : List Event). one ++ r) (h refl) ∙ sym (append_assoc one first (cond c [] others))
@@ -37,43 +41,43 @@ over_more done (m ∷ ms) ns =
       | inr f ↦ rw f refl
     ]
 
-pub messages_more : (o x : List ℕ) → messages (o ++ x) ≡ messages o ++ messages (rest o ++ x)
-messages_more o x = ap (λ (q : List Message × List ℕ). q.0) (split_more o x)
+pub messages_in-append : (xs ys : List Item) → messages_in (xs ++ ys) ≡ messages_in xs ++ messages_in ys
+messages_in-append xs ys = filter_map-append (λ item. meant item.what) xs ys
 
-pub rest_more : (o x : List ℕ) → rest (o ++ x) ≡ rest (rest o ++ x)
-rest_more o x = ap (λ (q : List Message × List ℕ). q.1) (split_more o x)
+-- the messages of one more piece
+abbrev pub newly : List ℕ → List ℕ → List Message
+newly o x = messages_in (new_items Any Traffic o x)
 
-text_more : (id : PeerId) (o x : List ℕ) → text id (o ++ x) ≡ text id o ++ lines (cond (over o) [] (events_behind id (messages o) (messages (rest o ++ x))))
+pub messages_more : (o x : List ℕ) → messages (o ++ x) ≡ messages o ++ newly o x
+messages_more o x = ap messages_in (extends Any Traffic o x) ∙ messages_in-append (items Any Traffic o) (new_items Any Traffic o x)
+
+text_more : (id : PeerId) (o x : List ℕ) → text id (o ++ x) ≡ text id o ++ lines (cond (over o) [] (events_behind id (messages o) (newly o x)))
 text_more id o x =
     ap (λ ms. lines (events_behind id [] ms)) (messages_more o x)
-    ∙ ap lines (events_more id [] (messages o) (messages (rest o ++ x)))
-    ∙ flat_map-append line (events_behind id [] (messages o)) (cond (over o) [] (events_behind id (messages o) (messages (rest o ++ x))))
+    ∙ ap lines (events_more id [] (messages o) (newly o x))
+    ∙ flat_map-append line (events_behind id [] (messages o)) (cond (over o) [] (events_behind id (messages o) (newly o x)))
 
 pub text_grows : (id : PeerId) (o x : List ℕ) → (added : List ℕ) × (text id (o ++ x) ≡ text id o ++ added)
 text_grows id o x = (_, text_more id o x)
 
-over_cond : (o x : List ℕ) → over (o ++ x) ≡ cond (over o) true (is_over (messages o) (messages (rest o ++ x)))
-over_cond o x = ap (is_over []) (messages_more o x) ∙ over_more [] (messages o) (messages (rest o ++ x))
+over_cond : (o x : List ℕ) → over (o ++ x) ≡ cond (over o) true (is_over (messages o) (newly o x))
+over_cond o x = ap (is_over []) (messages_more o x) ∙ over_more [] (messages o) (newly o x)
 
 pub over_stays : (o x : List ℕ) → over o ≡ true → over (o ++ x) ≡ true
-over_stays o x e = over_cond o x ∙ ap (λ b. cond b true (is_over (messages o) (messages (rest o ++ x)))) e
+over_stays o x e = over_cond o x ∙ ap (λ b. cond b true (is_over (messages o) (newly o x))) e
 
-pub over_later : (o x : List ℕ) → over o ≡ false → over (o ++ x) ≡ is_over (messages o) (messages (rest o ++ x))
-over_later o x e = over_cond o x ∙ ap (λ b. cond b true (is_over (messages o) (messages (rest o ++ x)))) e
+pub over_later : (o x : List ℕ) → over o ≡ false → over (o ++ x) ≡ is_over (messages o) (newly o x)
+over_later o x e = over_cond o x ∙ ap (λ b. cond b true (is_over (messages o) (newly o x))) e
 
 pub text_over : (id : PeerId) (o x : List ℕ) → over o ≡ true → text id (o ++ x) ≡ text id o ++ []
-text_over id o x e = text_more id o x ∙ ap (λ b. text id o ++ lines (cond b [] (events_behind id (messages o) (messages (rest o ++ x))))) e
+text_over id o x e = text_more id o x ∙ ap (λ b. text id o ++ lines (cond b [] (events_behind id (messages o) (newly o x)))) e
 
-pub text_later : (id : PeerId) (o x : List ℕ) → over o ≡ false → text id (o ++ x) ≡ text id o ++ lines (events_behind id (messages o) (messages (rest o ++ x)))
-text_later id o x e = text_more id o x ∙ ap (λ b. text id o ++ lines (cond b [] (events_behind id (messages o) (messages (rest o ++ x))))) e
+pub text_later : (id : PeerId) (o x : List ℕ) → over o ≡ false → text id (o ++ x) ≡ text id o ++ lines (events_behind id (messages o) (newly o x))
+text_later id o x e = text_more id o x ∙ ap (λ b. text id o ++ lines (cond b [] (events_behind id (messages o) (newly o x)))) e
 
 pub no_messages : messages [] ≡ []
-unfolding split split_within
+unfolding cut
 no_messages = refl
-
-pub no_rest : rest [] ≡ []
-unfolding split split_within
-no_rest = refl
 
 pub nothing_over : over [] ≡ false
 unfolding is_over
@@ -83,19 +87,18 @@ pub text_nothing : (id : PeerId) → text id [] ≡ []
 unfolding events_behind
 text_nothing id = ap (λ ms. lines (events_behind id [] ms)) no_messages
 
+pub no_fault : fault Any Traffic [] ≡ None
+unfolding cut frame_why
+no_fault = refl
+
 pub nothing_stopped : is_stopped [] ≡ false
-nothing_stopped = ap (λ b. not b && not (is_partial (rest []))) nothing_over ∙ ap (λ r. not (is_partial r)) no_rest
+nothing_stopped = ap (λ b. not b && is_some (fault Any Traffic [])) nothing_over ∙ ap is_some no_fault
 
--- what is no part of a simple frame isn't empty
-partial_nothing : (r : List ℕ) → is_partial r ≡ false → eqb (length r) 0 ≡ false
-partial_nothing [] e = absurd cc
-partial_nothing (x ∷ xs) e = ne_eqb _ _ (λ n. absurd (omega (arith, n)))
-
-stopped_bad : (over' partial nothing : Bool) → (partial ≡ false → nothing ≡ false) → (not over' && not partial) ≡ true → (not over' && not nothing) ≡ true
-stopped_bad true partial nothing h e = absurd cc
-stopped_bad false true nothing h e = absurd cc
-stopped_bad false false nothing h e = ap not (h refl)
+stopped_bad : (a b c : Bool) → (a && b) ≡ true → (a && (b || c)) ≡ true
+stopped_bad true true c e = refl
+stopped_bad true false c e = absurd cc
+stopped_bad false b c e = absurd cc
 
 -- what is refused however it goes on is refused as it is
 pub stopped_is_bad : (o : List ℕ) → is_stopped o ≡ true → is_bad o ≡ true
-stopped_is_bad o e = stopped_bad (over o) (is_partial (rest o)) (eqb (length (rest o)) 0) (partial_nothing (rest o)) e
+stopped_is_bad o e = stopped_bad (not (over o)) (is_some (fault Any Traffic o)) _ e

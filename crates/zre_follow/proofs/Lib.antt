@@ -1,4 +1,3 @@
 pub mod Feeding
-pub mod Fronts
 pub mod Growing
-pub mod Splits
+pub mod Steps

@@ -1,11 +1,14 @@
--- What `follow` makes of the octets of one connection of a peer.
-use Rattle.std.specs.Prelude.{ℕ, ◌-◌, Bool, not, ◌&&◌, ◌==◌, List, [], length, if◌then◌else◌}
+-- What `follow` makes of the octets of one connection of a peer, behind its handshake.
+use Rattle.std.specs.Prelude.{ℕ, Bool, not, ◌&&◌, ◌||◌, ◌==◌, List, [], length, Option, Some, None, is_some, if◌then◌else◌}
 use Rattle.zre_values.specs.declared.peer_id.PeerId.{PeerId}
 use Rattle.zre_peer.specs.Lines.{lines}
 use Rattle.zre_pump.specs.Lines.{bad_line}
 use Rattle.zre_pump.specs.Meaning.{Meaning}
+use Rattle.zre_zmtp.specs.Stream.{Traffic, fault, opened, split}
+use Rattle.zre_zmtp.specs.declared.want.Want.TheVariants.{Any}
+use Rattle.zre_zmtp.specs.declared.fault.ZmtpFault.{ZmtpFault}
+use Rattle.zre_follow.specs.Messages.{messages}
 use Rattle.zre_follow.specs.Runs.{events_behind, is_over}
-use Rattle.zre_follow.specs.Simple.{messages, rest, is_partial}
 
 -- the run has ended: what follows isn't examined
 abbrev pub over : List ℕ → Bool
@@ -15,17 +18,22 @@ over o = is_over [] (messages o)
 abbrev pub text : PeerId → List ℕ → List ℕ
 text id o = lines (events_behind id [] (messages o))
 
--- what isn't over is refused where a frame that isn't simple is at hand
+-- no message is unfinished, and nothing stands behind the last item
+abbrev pub at_rest : List ℕ → Bool
+at_rest o = length (split Any Traffic o).1 == 0 && length (opened Traffic (split Any Traffic o).0) == 0
+
+-- what isn't over is refused where it has a fault of ZMTP
 abbrev pub is_stopped : List ℕ → Bool
-is_stopped o = not (over o) && not (is_partial (rest o))
+is_stopped o = not (over o) && is_some (fault Any Traffic o)
 
--- and at its end where anything is left
+-- and at its end where it isn't at rest
 abbrev pub is_bad : List ℕ → Bool
-is_bad o = not (over o) && not (length (rest o) == 0)
+is_bad o = not (over o) && (is_some (fault Any Traffic o) || not (at_rest o))
 
--- the flags octet of the first frame that isn't simple; where that isn't whole, the end of the input
-abbrev pub place : List ℕ → ℕ
-place o = if is_partial (rest o) then length o else length o - length (rest o)
+-- the place of a fault, or of the end of the input
+abbrev pub place_of : Option ZmtpFault → ℕ → ℕ
+place_of None end = end
+place_of (Some f) end = f.place
 
 -- all that `follow` makes of octets
 abbrev pub follow : PeerId → Meaning
@@ -33,5 +41,5 @@ follow id = record {
   text = text id;
   is_stopped = is_stopped;
   is_bad = is_bad;
-  ending = λ o. if is_bad o then bad_line (place o) else [];
+  ending = λ o. if is_bad o then bad_line (place_of (fault Any Traffic o) (length o)) else [];
 }

@@ -1,19 +1,25 @@
-ghost use Rattle.std.specs.Prelude.{◌≡◌, [], false};
+ghost use Rattle.std.specs.Prelude.{◌≡◌, ℕ, List, [], false, not, ◌&&◌, is_some, IfOk};
+ghost use Rattle.zre_zmtp.specs.Reading.{Reads};
+ghost use Rattle.zre_zmtp.specs.Stream.{Traffic};
+ghost use Rattle.zre_zmtp.specs.declared.want.Want.TheVariants.{Any};
+ghost use Rattle.zre_pump.specs.Meaning.{is_stop};
+ghost use Rattle.zre_follow.specs.Piece.{ReadPiece};
 
-use crate::simple::is_partial;
-use crate::taking::take_messages;
+use crate::taking::take_items;
 use std::alloc::Global;
 use zre_peer::{Events, Run};
 use zre_pump::{Going, Machine, push_bad_line};
 use zre_values::{Octets, OutOfMemory, PeerId};
+use zre_zmtp::{FeedFault, Items, Reader, ZmtpFault};
 
 /// The machine of `follow`: the traffic of one connection, behind its handshake, of a peer that is known. It keeps
-/// the octets of an unfinished frame, and none once the run has ended.
+/// the octets of an unfinished message, and reads no more once the run has ended.
 #[derive(Debug, Drop)]
 pub struct Follower {
     alloc: Global,
+    reader: Reader,
+    fault: Option<ZmtpFault>,
     run: Run,
-    pending: Octets,
     events: Events,
 }
 
@@ -31,10 +37,38 @@ impl Follower {
     {
         Follower {
             alloc,
+            reader: Reader::traffic(alloc),
+            fault: None,
             run: Run::new(alloc, id),
-            pending: Octets::new(alloc),
             events: Events::new(alloc),
         }
+    }
+}
+
+// Reads a piece of traffic. Gives the fault that is found, if one is.
+fn read_piece(
+    reader: &mut Reader,
+    piece: &[u8],
+    items: &mut Items,
+) -> Result<Option<ZmtpFault>, OutOfMemory>
+    requires { reader.old.spent ≡ false }
+    ensures { (o : List ℕ) → Reads Any Traffic o reader.old →
+        IfOk result (λ found. ReadPiece o piece.now found reader.new items.old items.new) }
+{
+    match reader.feed(piece, items) {
+        Ok(()) => Ok(None),
+        Err(FeedFault::Zmtp(fault)) => Ok(Some(fault)),
+        Err(FeedFault::OutOfMemory) => Err(OutOfMemory),
+    }
+}
+
+fn going_behind(fault: &Option<ZmtpFault>, is_over: bool) -> Going
+    ensures { is_stop result ≡ (not is_over && is_some fault.now) }
+{
+    if is_over || fault.is_none() {
+        Going::On
+    } else {
+        Going::Stop
     }
 }
 
@@ -51,30 +85,25 @@ impl Machine for Follower {
         if self.run.spent() {
             return Ok(Going::On);
         }
-        self.pending.append(piece)?;
-        let pending = self.pending.as_slice();
-        let taken = take_messages(self.alloc, pending, &mut self.run, &mut self.events, out)?;
-        if taken.over {
-            self.pending.clear();
-            return Ok(Going::On);
+        if self.reader.spent() {
+            return Ok(Going::Stop);
         }
-        self.pending.remove_front(taken.used);
-        if is_partial(self.pending.as_slice()) {
-            Ok(Going::On)
-        } else {
-            Ok(Going::Stop)
-        }
+        let mut items = Items::new(self.alloc);
+        let fault = read_piece(&mut self.reader, piece, &mut items)?;
+        take_items(self.alloc, items.as_slice(), &mut self.run, &mut self.events, out)?;
+        self.fault = fault;
+        Ok(going_behind(&self.fault, self.run.spent()))
     }
 
     fn finish(&self, taken: u64, out: &mut Octets) -> Result<bool, OutOfMemory> {
-        if self.run.spent() || self.pending.is_empty() {
+        if self.run.spent() {
             return Ok(false);
         }
-        let mut place = taken;
-        if !is_partial(self.pending.as_slice()) {
-            place = taken.saturating_sub(self.pending.len() as u64);
+        match self.fault {
+            Some(fault) => push_bad_line(out, fault.place)?,
+            None if self.reader.at_rest() => return Ok(false),
+            None => push_bad_line(out, taken)?,
         }
-        push_bad_line(out, place)?;
         Ok(true)
     }
 }

@@ -3,7 +3,6 @@
 
 mod ends;
 mod follower;
-mod simple;
 mod taking;
 
 pub use follower::Follower;

@@ -1,24 +1,30 @@
-//! Takes the messages at the front of some octets.
+//! Takes the messages of items.
 
-ghost use Rattle.std.specs.Prelude.{◌≡◌, ◌≤◌, ◌++◌, List, false, not, length, IfOk};
+ghost use Rattle.std.specs.Prelude.{◌≡◌, ◌∷◌, [], List, false, not, IfOk, OnOk};
 ghost use Rattle.zre_msg.specs.declared.message.Message.{Message};
 ghost use Rattle.zre_peer.specs.Standing.{Stands, id_of, is_spent};
+ghost use Rattle.zre_follow.specs.Messages.{meant, messages_in};
 ghost use Rattle.zre_follow.specs.Taken.{TookOne, Took};
 
 use crate::ends::push_end;
-use crate::simple::first_message;
 use std::alloc::Global;
-use zre_msg::Message;
+use zre_msg::{Message, ReadFault};
 use zre_peer::{Events, Run, RunFault, push_lines};
 use zre_values::{Octets, OutOfMemory};
+use zre_zmtp::{Item, What};
 
-/// How far the messages at the front were taken.
-#[derive(Clone, Copy, Debug, PartialEq, Eq)]
-pub(crate) struct Taken {
-    /// The octets of the frames that were taken.
-    pub(crate) used: usize,
-    /// Whether the run ended.
-    pub(crate) over: bool,
+// The message that an item means, if it means one.
+fn meant(alloc: Global, what: &What) -> Result<Option<Message>, OutOfMemory>
+    ensures { IfOk result (λ m. m ≡ meant what.now) }
+{
+    match what {
+        What::Message(frames) => match Message::read(alloc, frames) {
+            Ok(message) => Ok(Some(message)),
+            Err(ReadFault::Bad(_)) => Ok(None),
+            Err(ReadFault::OutOfMemory) => Err(OutOfMemory),
+        },
+        _ => Ok(None),
+    }
 }
 
 // Takes one message and appends its lines. Says whether the run goes on. The events are a list to work in.
@@ -49,33 +55,43 @@ fn take_message(
     }
 }
 
-/// Takes the messages at the front, up to the end of the run, and appends the lines of their events.
-pub(crate) fn take_messages(
+// Takes the message that an item means, if it means one. Says whether the run goes on.
+fn take_item(
     alloc: Global,
-    bytes: &[u8],
+    item: &Item,
     run: &mut Run,
     events: &mut Events,
     out: &mut Octets,
-) -> Result<Taken, OutOfMemory>
+) -> Result<bool, OutOfMemory>
     requires { is_spent run.old ≡ false }
     ensures took { (ms : List Message) → Stands run.old ms →
-        IfOk result (λ t. Took (id_of run.old) ms bytes.now t run.new out.old out.new) }
-    ensures within { IfOk result (λ t. t.used ≤ length bytes.now) }
-    ensures spent { IfOk result (λ t. is_spent run.new ≡ t.over) }
+        OnOk result (Took (id_of run.old) ms (messages_in (item.now ∷ [])) run.new out.old out.new) }
+    ensures spent { IfOk result (λ on. is_spent run.new ≡ not on) }
     ensures id { id_of run.new ≡ id_of run.old }
 {
-    let mut others = bytes;
-    while let Some((message, after)) = first_message(alloc, others)? {
-        if !take_message(alloc, message, run, events, out)? {
-            return Ok(Taken {
-                used: bytes.len(),
-                over: true,
-            });
-        }
-        others = after;
+    match meant(alloc, &item.what)? {
+        Some(message) => take_message(alloc, message, run, events, out),
+        None => Ok(true),
     }
-    Ok(Taken {
-        used: bytes.len() - others.len(),
-        over: false,
-    })
+}
+
+/// Takes the messages of the items, up to the end of the run, and appends the lines of their events.
+pub(crate) fn take_items(
+    alloc: Global,
+    items: &[Item],
+    run: &mut Run,
+    events: &mut Events,
+    out: &mut Octets,
+) -> Result<(), OutOfMemory>
+    requires { is_spent run.old ≡ false }
+    ensures took { (ms : List Message) → Stands run.old ms →
+        OnOk result (Took (id_of run.old) ms (messages_in items.now) run.new out.old out.new) }
+    ensures id { id_of run.new ≡ id_of run.old }
+{
+    for item in items {
+        if !take_item(alloc, item, run, events, out)? {
+            return Ok(());
+        }
+    }
+    Ok(())
 }

@@ -1,4 +1,4 @@
-ghost use Rattle.std.specs.Prelude.{◌≡◌, ◌++◌, ℕ, List, true, length, IfOk, OnOk};
+ghost use Rattle.std.specs.Prelude.{◌≡◌, ◌++◌, ℕ, List, true, false, length, IfOk, OnOk};
 ghost use Rattle.zre_pump.specs.Meaning.{Meaning, Grows, is_stop};
 
 use zre_values::{Octets, OutOfMemory};
@@ -24,9 +24,9 @@ pub trait Machine {
 
     /// Takes the next piece, and appends the text that it adds.
     fn feed(&mut self, piece: &[u8], out: &mut Octets) -> Result<Going, OutOfMemory>
-        ensures fed { (o : List ℕ) → fed self.old o → OnOk result (fed self.new (o ++ piece.now)) }
-        ensures text { (o : List ℕ) → fed self.old o → OnOk result (Grows (says self.old) o piece.now out.old out.new) }
-        ensures stop { (o : List ℕ) → fed self.old o → IfOk result (λ going. is_stop going ≡ (says self.old).is_stopped (o ++ piece.now)) }
+        ensures fed { (o : List ℕ) → fed self.old o → (says self.old).is_stopped o ≡ false → OnOk result (fed self.new (o ++ piece.now)) }
+        ensures text { (o : List ℕ) → fed self.old o → (says self.old).is_stopped o ≡ false → OnOk result (Grows (says self.old) o piece.now out.old out.new) }
+        ensures stop { (o : List ℕ) → fed self.old o → (says self.old).is_stopped o ≡ false → IfOk result (λ going. is_stop going ≡ (says self.old).is_stopped (o ++ piece.now)) }
         ensures same { says self.new ≡ says self.old }
         // The text of more octets begins with that of fewer, and what is refused however it goes on is refused as it is.
         ensures longer { (o : List ℕ) → (added : List ℕ) × ((says self.old).text (o ++ piece.now) ≡ (says self.old).text o ++ added) }

@@ -74,4 +74,3 @@ part-none want b o f e = rw (f, e) refl
 pub part-fault : (want : Want) (b : Before) (o : List ℕ) (x : ZmtpFault) → fault_of want b o ≡ Some x → part_len want b o ≡ None
 unfolding part_len
 part-fault want b o x f = rw f refl
-

@@ -53,6 +53,10 @@ follows want kind o p =
       all = same;
     }
 
+-- the items of more octets extend those of fewer
+pub extends : (want : Want) (kind : Kind) (o p : List ℕ) → items want kind (o ++ p) ≡ items want kind o ++ new_items want kind o p
+extends want kind o p = let w = follows want kind o p in w.all ∙ ap (λ is. items want kind o ++ is) (sym w.newly)
+
 -- the same of a reader that stands behind o
 follows_reader : (want : Want) (kind : Kind) (o p : List ℕ) (r : Reading) → Reads want kind o r → Follows want kind o p (run_all want r.before (r.left ++ p))
 follows_reader want kind o p r h =

@@ -215,8 +215,8 @@ unfolding frame_why
 waits_at_header want b o frame fine not_whole =
     record {
       faultless = fault-frame b.expected want b o frame
-      ∙ ap (λ x. option_map (λ reason. record { why = reason; place = b.place }) x)
-      (option_or-none (once (leb 1 (length o)) (flags_fault b (flags o))) (once (has_header o) (size_fault b (flags o) (size o))) (is_whole o) (body_fault want b (flags o) (body o)) fine not_whole);
+          ∙ ap (λ x. option_map (λ reason. record { why = reason; place = b.place }) x)
+          (option_or-none (once (leb 1 (length o)) (flags_fault b (flags o))) (once (has_header o) (size_fault b (flags o) (size o))) (is_whole o) (body_fault want b (flags o) (body o)) fine not_whole);
       partial = whole-frame b.expected o frame ∙ ap (λ t. cond t (Some (frame_len o)) None) not_whole;
     }
 
@@ -251,8 +251,8 @@ waits-body want b h head o frame is fine lt =
     let not_whole = framed-waits h head o is lt in
     record {
       faultless = fault-frame b.expected want b (head ++ o) frame
-      ∙ ap (λ x. option_map (λ reason. record { why = reason; place = b.place }) x)
-      (why_behind want b (head ++ o) (header_fine b head o is.headed fine) ∙ ap (λ t. once t (body_fault want b (flags (head ++ o)) (body (head ++ o)))) not_whole);
+          ∙ ap (λ x. option_map (λ reason. record { why = reason; place = b.place }) x)
+          (why_behind want b (head ++ o) (header_fine b head o is.headed fine) ∙ ap (λ t. once t (body_fault want b (flags (head ++ o)) (body (head ++ o)))) not_whole);
       partial = whole-frame b.expected (head ++ o) frame ∙ ap (λ t. cond t (Some (frame_len (head ++ o))) None) not_whole;
     }
 

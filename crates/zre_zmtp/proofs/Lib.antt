@@ -9,3 +9,5 @@ pub mod Kept
 pub mod Framed
 pub mod Turning
 pub mod Feeding
+pub mod Pieces
+pub mod Written

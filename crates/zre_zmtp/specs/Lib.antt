@@ -4,3 +4,4 @@ pub mod Stream
 pub mod Run
 pub mod Shown
 pub mod Reading
+pub mod Written

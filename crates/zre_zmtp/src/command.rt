@@ -7,8 +7,8 @@ ghost use Rattle.std.specs.Option.{option_or};
 ghost use Rattle.std.specs.Str.{str_eq_ignore_ascii_case};
 ghost use Rattle.zre_zmtp.specs.Stream.{command_fault as fault_of_command, has_socket as socket_test, has_identity as identity_test, is_value as value_is, is_other as other_test};
 
-use crate::fault::ZmtpWhy;
 use crate::expected::Expected;
+use crate::fault::ZmtpWhy;
 use crate::want::Want;
 use zre_values::PeerId;
 

@@ -19,7 +19,10 @@ pub struct Item {
 #[derive(Debug, Drop)]
 pub enum What {
     /// The greeting, with the version of the peer.
-    Greeting { major: u8, minor: u8 },
+    Greeting {
+        major: u8,
+        minor: u8,
+    },
     /// READY, with the octets of its body and the first value under each of the two names that count, which are
     /// compared without regard to case.
     Ready {

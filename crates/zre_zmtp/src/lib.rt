@@ -14,8 +14,13 @@ mod progress;
 mod reader;
 mod turns;
 mod want;
+mod writing;
 
 pub use fault::{FeedFault, ZmtpFault, ZmtpWhy};
 pub use item::{Item, Items, What};
 pub use reader::Reader;
 pub use want::Want;
+pub use writing::{SocketType, greeting, ready, write_message};
+
+#[cfg(test)]
+mod tests;

@@ -1,6 +1,7 @@
 //! A reader of a stream that comes in pieces.
 
 ghost use Rattle.std.specs.Prelude.{◌≡◌, ℕ, ◌+◌, ◌-◌, ◌^◌, ◌≤◌, ◌↔◌, min, false, List, [], ◌++◌, length, OnOk, IfErr, IsErr, IsTrue};
+ghost use Rattle.std.specs.List.{concat};
 ghost use Rattle.zre_values.specs.declared.limits.TheConstants.{MESSAGE_OCTETS, COMMAND_OCTETS};
 ghost use Rattle.zre_zmtp.specs.Stream.{Want as WantValue, Any, Kind, Whole as whole_kind, Traffic as traffic_kind, fault, fault_of, IsAtRest};
 ghost use Rattle.zre_zmtp.specs.Run.{run_all};
@@ -17,7 +18,7 @@ use crate::turns::{room, take};
 use crate::want::Want;
 use std::alloc::Global;
 use std::marker::Model;
-use zre_values::Octets;
+use zre_values::{Frames, Octets};
 
 // Reads octets turn by turn. Each is looked at once.
 fn read(
@@ -100,6 +101,22 @@ impl Reader {
         Ok(())
     }
 
+    /// Reads pieces one after another, as if they were one: however a stream is cut, the same items and the same fault come
+    /// of it.
+    pub fn feed_pieces(&mut self, pieces: &Frames, out: &mut Items) -> Result<(), FeedFault>
+        requires { self.old.spent ≡ false }
+        ensures ok { (want : WantValue) (kind : Kind) (o : List ℕ) → Reads want kind o self.old →
+            OnOk result (Reads want kind (o ++ concat pieces.now) self.new × Adds want kind o (concat pieces.now) out.old out.new) }
+        ensures refused { (want : WantValue) (kind : Kind) (o : List ℕ) → Reads want kind o self.old →
+            IfErr result (λ e. Refuses e (fault want kind (o ++ concat pieces.now)) (Adds want kind o (concat pieces.now) out.old out.new × IsOver want kind (o ++ concat pieces.now))) }
+        ensures spent { IsTrue self.new.spent ↔ IsErr result }
+    {
+        for piece in pieces.as_slice() {
+            self.feed(piece.as_slice(), out)?;
+        }
+        Ok(())
+    }
+
     /// Whether no message is unfinished, and no octet stands behind the last item.
     pub fn at_rest(&self) -> bool
         ensures { (want : WantValue) (kind : Kind) (o : List ℕ) → Reads want kind o self.now → (IsTrue result ↔ IsAtRest want kind o) }
@@ -118,7 +135,10 @@ impl Reader {
     pub fn kept(&self) -> u64
         ensures { (want : WantValue) (kind : Kind) (o : List ℕ) → Reads want kind o self.now → (result ≡ kept self.now) × (result ≤ MESSAGE_OCTETS + 9 + COMMAND_OCTETS) }
     {
-        self.progress.opened.octets().saturating_add(self.left_len())
+        self.progress
+            .opened
+            .octets()
+            .saturating_add(self.left_len())
     }
 
     fn left_len(&self) -> u64
@@ -127,7 +147,9 @@ impl Reader {
         match self.progress.expected {
             Expected::Greeting => self.progress.greeting.len() as u64,
             Expected::Ready | Expected::Traffic => {
-                (self.progress.partial.head.len() as u64).saturating_add(self.progress.partial.body.len() as u64)
+                (self.progress.partial.head.len() as u64).saturating_add(
+                    self.progress.partial.body.len() as u64,
+                )
             }
         }
     }

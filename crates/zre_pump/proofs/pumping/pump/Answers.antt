@@ -24,7 +24,7 @@ loop-taken-preserved g c =
     let turn = c.take_turn-turn in
     let piece = take turn.result.read turn.new.buf in
     let len = length-take-le turn.result.read turn.new.buf turn.ensures.bound in
-    let t = rw (inv.same, c.in-Go.is) at (turn.ensures.turned inv.reached.octets inv.reached.known) in
+    let t = rw (inv.same, c.in-Go.is) at (turn.ensures.turned inv.reached.octets inv.reached.known (ap (λ m. m.is_stopped inv.reached.octets) inv.same ∙ inv.reached.going)) in
     record {
       reached = goes_on _ _ (g.M.Machine.says c.args.machine.now) _ _ _ _ _ _ _ _ _ c.loop-taken.taken turn.result.read piece inv.reached len turn.ensures.moved t.0 t.1 t.3;
       same = turn.ensures.same ∙ inv.same;
@@ -40,7 +40,7 @@ returns-in-Stop-clause-pumped g c =
     let turn = c.take_turn-turn in
     let piece = take turn.result.read turn.new.buf in
     let len = length-take-le turn.result.read turn.new.buf turn.ensures.bound in
-    let t = rw (inv.same, c.in-Stop.is) at (turn.ensures.turned inv.reached.octets inv.reached.known) in
+    let t = rw (inv.same, c.in-Stop.is) at (turn.ensures.turned inv.reached.octets inv.reached.known (ap (λ m. m.is_stopped inv.reached.octets) inv.same ∙ inv.reached.going)) in
     let o = inv.reached.octets ++ piece in
     let f = rw (turn.ensures.same, inv.same) at (c.finish.ensures.finishes o t.0 (counted_more inv.reached.octets piece c.loop-taken.taken turn.result.read inv.reached.counted len)) in
     record {
@@ -57,7 +57,7 @@ returns-in-End-clause-pumped g c =
     let piece = take turn.result.read turn.new.buf in
     let len = length-take-le turn.result.read turn.new.buf turn.ensures.bound in
     let o = inv.reached.octets in
-    let t = rw (inv.same, c.in-End.is) at (turn.ensures.turned o inv.reached.known) in
+    let t = rw (inv.same, c.in-End.is) at (turn.ensures.turned o inv.reached.known (ap (λ m. m.is_stopped o) inv.same ∙ inv.reached.going)) in
     let nothing : turn.result.read ≡ 0 = sym len ∙ ap length t.1 in
     let f = rw (turn.ensures.same, inv.same) at (c.finish-in-End.ensures.finishes o t.0 (inv.reached.counted ∙ omega arith)) in
     let all : o ++ piece ≡ o = ap (λ r. o ++ r) t.1 ∙ append-nil o in
@@ -74,7 +74,7 @@ returns-in-ReadFault-clause-pumped g c =
     let turn = c.take_turn-turn in
     let piece = take turn.result.read turn.new.buf in
     let o = inv.reached.octets in
-    let t = rw (inv.same, c.in-ReadFault.is) at (turn.ensures.turned o inv.reached.known) in
+    let t = rw (inv.same, c.in-ReadFault.is) at (turn.ensures.turned o inv.reached.known (ap (λ m. m.is_stopped o) inv.same ∙ inv.reached.going)) in
     let all : o ++ piece ≡ o = ap (λ r. o ++ r) t.0 ∙ append-nil o in
     record {
       octets = o;
@@ -87,7 +87,7 @@ returns-in-WriteFault-clause-pumped g c =
     let inv = c.loop-taken.invariant in
     let turn = c.take_turn-turn in
     let piece = take turn.result.read turn.new.buf in
-    let t = rw (inv.same, c.in-WriteFault.is) at (turn.ensures.turned inv.reached.octets inv.reached.known) in
+    let t = rw (inv.same, c.in-WriteFault.is) at (turn.ensures.turned inv.reached.octets inv.reached.known (ap (λ m. m.is_stopped inv.reached.octets) inv.same ∙ inv.reached.going)) in
     record {
       octets = inv.reached.octets ++ piece;
       moved = Moves-trans _ _ _ _ _ _ inv.reached.octets piece inv.reached.moved turn.ensures.moved;
@@ -99,7 +99,7 @@ returns-in-OutOfMemory-clause-pumped g c =
     let inv = c.loop-taken.invariant in
     let turn = c.take_turn-turn in
     let piece = take turn.result.read turn.new.buf in
-    let t = rw (inv.same, c.in-OutOfMemory.is) at (turn.ensures.turned inv.reached.octets inv.reached.known) in
+    let t = rw (inv.same, c.in-OutOfMemory.is) at (turn.ensures.turned inv.reached.octets inv.reached.known (ap (λ m. m.is_stopped inv.reached.octets) inv.same ∙ inv.reached.going)) in
     record {
       octets = inv.reached.octets ++ piece;
       moved = Moves-trans _ _ _ _ _ _ inv.reached.octets piece inv.reached.moved turn.ensures.moved;
