@@ -50,7 +50,11 @@ fn octet_at(text: &[u8]) -> Option<(u8, &[u8])>
     if *first == b'%' {
         return octet_behind(rest);
     }
-    if is_plain(*first) { Some((*first, rest)) } else { None }
+    if is_plain(*first) {
+        Some((*first, rest))
+    } else {
+        None
+    }
 }
 
 // Octets whose quoted texts stand one behind the other.
@@ -108,3 +112,9 @@ pub fn is_quoted(text: &[u8]) -> bool
 {
     !text.is_empty() && (text == b"~".as_slice() || are_quoted_octets(text))
 }
+
+/// A law, for callers that compare quoted texts in place of octets: no two lists of octets have the same one.
+#[inline]
+pub fn octets_are_quoted_once()
+    ensures { (u v : List ℕ) → All (λ b. b < 2 ^ 8) u → All (λ b. b < 2 ^ 8) v → quoted u ≡ quoted v → v ≡ u }
+{}
