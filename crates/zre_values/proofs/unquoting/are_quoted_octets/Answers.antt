@@ -1,4 +1,4 @@
-use Rattle.std.proofs.Common.{arith, ◌<◌, ◌^◌, ◌∙◌, ◌∷◌, ◌++◌, [], length, sym, ap, ◌≡◌, List, ℕ, All}
+use Rattle.std.proofs.Common.{arith, ◌<◌, ◌^◌, ◌∙◌, ◌∷◌, ◌++◌, [], length}
 use Rattle.std.proofs.lemmas.Grind.{common_steps}
 use Rattle.std.proofs.lemmas.List.Elements.{All-push}
 use Rattle.zre_values.proofs.Quotes.{next, more}

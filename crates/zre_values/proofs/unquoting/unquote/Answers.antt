@@ -1,4 +1,4 @@
-use Rattle.std.proofs.Common.{arith, ◌<◌, ◌^◌, ◌∙◌, sym, ap, ◌≡◌, Option, Some, List, ℕ, All}
+use Rattle.std.proofs.Common.{◌∙◌, sym, ap, Some, List, ℕ}
 use Rattle.zre_values.specs.Text.{quoted}
 use Rattle.zre_values.proofs.Plain.{quoted-plain}
 use Rattle.zre_values.proofs.Quotes.{quoted-one, plain-fits}

@@ -1,4 +1,4 @@
-use Rattle.std.proofs.Common.{arith, ◌<◌, ◌∙◌, length, sym, ap, Some, ◌≡◌, Option, List, ℕ}
+use Rattle.std.proofs.Common.{arith, ◌<◌, ◌∙◌, length, sym, ap, Some, ◌≡◌, List, ℕ}
 use Rattle.std.proofs.lemmas.Grind.{common_steps}
 use Rattle.zre_values.proofs.Quotes.{next, whole}
 use Rattle.zre_values.proofs.unquoting.unquote_octets.Goals as goal
