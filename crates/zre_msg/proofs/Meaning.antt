@@ -4,11 +4,12 @@ use Rattle.std.specs.Int.{w16, w32, from_be_bytes, to_be_bytes}
 use Rattle.std.proofs.lemmas.Bool.{ltb-false, le-ltb, ne_eqb, and_right, and_left}
 use Rattle.std.proofs.lemmas.List.{length-append}
 use Rattle.std.proofs.lemmas.Nat.{from_be_bytes-to_be_bytes_2}
+use Rattle.zre_msg.specs.declared.message.Bad.{Bad}
 use Rattle.zre_msg.specs.declared.message.Message.{Message}
 use Rattle.zre_msg.specs.declared.message.Body.{Body}
 use Rattle.zre_msg.specs.declared.message.Body.TheVariants.{Hello, Whisper, Shout, Join, Leave, Ping, PingOk, Other}
 use Rattle.zre_msg.specs.Spelling.{number_of, fields, further, head, spell, FitsString, FitsBody, FitsHello, Fits, Means}
-use Rattle.zre_msg.specs.Reading.{body_at, command_of, read_of, read_frames, is_single, is_other}
+use Rattle.zre_msg.specs.Reading.{body_at, command_of, read_of, read_frames, bad, unless, is_single, is_other}
 use Rattle.zre_msg.proofs.Again.{hello_again, join_again, leave_again, shout_again}
 
 read-ok : (first : List ℕ) (more : List (List ℕ)) (b : Body) → is_other first 0 170 ≡ false → is_other first 1 161 ≡ false → is_other first 3 2 ≡ false → command_of first more ≡ Some (b, [])
@@ -75,3 +76,12 @@ read-means frames m means = ap read_frames means.spelled ∙ read-spell m means.
 -- frames mean one message at most
 pub Means-one : (frames : List (List ℕ)) (m n : Message) → Means frames m → Means frames n → m ≡ n
 Means-one frames m n p q = let r = sym (read-means frames m p) ∙ read-means frames n q in cc
+
+no_bad : (o : Option Bad) (m n : Message) → unless o m ≡ Ok n → o ≡ None
+no_bad None m n e = refl
+no_bad (Some b) m n e = absurd cc
+
+-- nothing is wrong with frames that mean a message
+pub Means-good : (frames : List (List ℕ)) (m : Message) → Means frames m → bad frames ≡ None
+unfolding read_of
+Means-good frames m means = no_bad (bad frames) _ m (read-means frames m means)

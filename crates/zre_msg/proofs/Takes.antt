@@ -13,7 +13,7 @@ use Rattle.zre_msg.specs.declared.message.Message.{Message}
 use Rattle.zre_msg.specs.declared.message.Body.{Body}
 use Rattle.zre_msg.specs.declared.message.Body.TheVariants.{Hello, Whisper, Shout, Join, Leave, Ping, PingOk, Other}
 use Rattle.zre_msg.specs.Spelling.{string, long_string, strings, pair, dictionary, number_of, fields, further, head, spell, FitsString, FitsLong, FitsPair, FitsHello, FitsBody, Means}
-use Rattle.zre_msg.specs.Reading.{◌>>=◌, octet_at, count_at, octets_at, string_at, long_string_at, pair_at, each_at, strings_at, dictionary_at, hello_at, join_at, leave_at, shout_at, body_at, command_of, read_of, read_frames, bad_rows, head_rows, first_row, left_over, is_single, is_other, unless, no_command}
+use Rattle.zre_msg.specs.Reading.{◌>>=◌, octet_at, count_at, octets_at, string_at, long_string_at, pair_at, each_at, strings_at, dictionary_at, hello_at, join_at, leave_at, shout_at, body_at, command_of, read_of, read_frames, bad_rows, bad_of, first_row, left_over, is_single, is_other, unless, no_command}
 
 abbrev pub IsBytes : List ℕ → Type 0
 IsBytes bytes = (i : ℕ) → get_or bytes i 0 < 256
@@ -138,6 +138,27 @@ pub record TakesBody (o : List ℕ) (number : ℕ) (more : List (List ℕ)) (x :
   pub fits : FitsBody x.0
   pub number_is : number_of x.0 ≡ number
 
+hello_parts : (o o1 o2 o3 o4 rest : List ℕ) (more : List (List ℕ)) (endpoint : List ℕ) (groups : List (List ℕ)) (status : ℕ) (name : List ℕ) (headers : List (List ℕ × List ℕ))
+    → Takes o (string endpoint) o1 × FitsString endpoint
+    → Takes o1 (strings groups) o2 × ((length groups < 2 ^ 32) × All FitsLong groups)
+    → Takes o2 (status ∷ []) o3 × (status < 2 ^ 8)
+    → Takes o3 (string name) o4 × FitsString name
+    → Takes o4 (dictionary headers) rest × ((length headers < 2 ^ 32) × All FitsPair headers)
+    → TakesBody o 1 more (Hello endpoint groups status name headers, rest)
+hello_parts o o1 o2 o3 o4 rest more endpoint groups status name headers ta tb tc td tf =
+    let e4 = Takes-then o3 (string name) o4 (dictionary headers) rest td.0 tf.0 in
+    let e3 = Takes-then o2 (status ∷ []) o3 (string name ++ dictionary headers) rest tc.0 e4 in
+    let e2 = Takes-then o1 (strings groups) o2 (status ∷ (string name ++ dictionary headers)) rest tb.0 e3 in
+    let e1 = Takes-then o (string endpoint) o1 (strings groups ++ (status ∷ (string name ++ dictionary headers))) rest ta.0 e2 in
+    record {
+      text = e1;
+      fits = record { endpoint_fits = ta.1; group_count = tb.1.0; groups_fit = tb.1.1; name_fits = td.1; header_count = tf.1.0; headers_fit = tf.1.1 };
+      number_is = refl;
+    }
+
+hello_is : (o : List ℕ) (more : List (List ℕ)) (x y : Body × List ℕ) → Some y ≡ Some x → TakesBody o 1 more y × (further y.0 ≡ []) → TakesBody o 1 more x × (further x.0 ≡ [])
+hello_is o more x y e takes = subst (λ (z : Body × List ℕ). TakesBody o 1 more z × (further z.0 ≡ [])) (some_is y x e) takes
+
 hello_takes : (o : List ℕ) (more : List (List ℕ)) (x : Body × List ℕ) → IsBytes o → hello_at o ≡ Some x → TakesBody o 1 more x × (further x.0 ≡ [])
 unfolding hello_at
 hello_takes o more x fits e =
@@ -151,12 +172,8 @@ hello_takes o more x fits e =
     let tc = octet_takes b.0.1 c.0 tb.0.rest_fits c.1 in
     let td = string_takes c.0.1 d.0 tc.0.rest_fits d.1 in
     let tf = dictionary_takes d.0.1 f.0 td.0.rest_fits f.1 in
-    let e4 = Takes-then c.0.1 (string d.0.0) d.0.1 (dictionary f.0.0) f.0.1 td.0 tf.0 in
-    let e3 = Takes-then b.0.1 (c.0.0 ∷ []) c.0.1 (string d.0.0 ++ dictionary f.0.0) f.0.1 tc.0 e4 in
-    let e2 = Takes-then a.0.1 (strings b.0.0) b.0.1 (c.0.0 ∷ (string d.0.0 ++ dictionary f.0.0)) f.0.1 tb.0 e3 in
-    let e1 = Takes-then o (string a.0.0) a.0.1 (strings b.0.0 ++ (c.0.0 ∷ (string d.0.0 ++ dictionary f.0.0))) f.0.1 ta.0 e2 in
-    subst (λ (y : Body × List ℕ). TakesBody o 1 more y × (further y.0 ≡ [])) (some_is _ x f.2)
-    (record { text = e1; fits = record { endpoint_fits = ta.1; group_count = tb.1.0; groups_fit = tb.1.1; name_fits = td.1; header_count = tf.1.0; headers_fit = tf.1.1 }; number_is = refl }, refl)
+    let whole = hello_parts o a.0.1 b.0.1 c.0.1 d.0.1 f.0.1 more a.0.0 b.0.0 c.0.0 d.0.0 f.0.0 ta tb tc td tf in
+    hello_is o more x (Hello a.0.0 b.0.0 c.0.0 d.0.0 f.0.0, f.0.1) f.2 (whole, refl)
 
 join_takes : (o : List ℕ) (more : List (List ℕ)) (x : Body × List ℕ) → IsBytes o → join_at o ≡ Some x → TakesBody o 4 more x × (further x.0 ≡ [])
 unfolding join_at
@@ -165,7 +182,7 @@ join_takes o more x fits e =
     let b = bind_some (octet_at a.0.1) (λ status. Some (Join a.0.0 status.0, status.1)) x a.2 in
     let ta = string_takes o a.0 fits a.1 in
     let tb = octet_takes a.0.1 b.0 ta.0.rest_fits b.1 in
-    subst (λ (y : Body × List ℕ). TakesBody o 4 more y × (further y.0 ≡ [])) (some_is _ x b.2)
+    subst (λ (y : Body × List ℕ). TakesBody o 4 more y × (further y.0 ≡ [])) (some_is (Join a.0.0 b.0.0, b.0.1) x b.2)
     (record { text = Takes-then o (string a.0.0) a.0.1 (b.0.0 ∷ []) b.0.1 ta.0 tb.0; fits = ta.1; number_is = refl }, refl)
 
 leave_takes : (o : List ℕ) (more : List (List ℕ)) (x : Body × List ℕ) → IsBytes o → leave_at o ≡ Some x → TakesBody o 5 more x × (further x.0 ≡ [])
@@ -175,7 +192,7 @@ leave_takes o more x fits e =
     let b = bind_some (octet_at a.0.1) (λ status. Some (Leave a.0.0 status.0, status.1)) x a.2 in
     let ta = string_takes o a.0 fits a.1 in
     let tb = octet_takes a.0.1 b.0 ta.0.rest_fits b.1 in
-    subst (λ (y : Body × List ℕ). TakesBody o 5 more y × (further y.0 ≡ [])) (some_is _ x b.2)
+    subst (λ (y : Body × List ℕ). TakesBody o 5 more y × (further y.0 ≡ [])) (some_is (Leave a.0.0 b.0.0, b.0.1) x b.2)
     (record { text = Takes-then o (string a.0.0) a.0.1 (b.0.0 ∷ []) b.0.1 ta.0 tb.0; fits = ta.1; number_is = refl }, refl)
 
 shout_takes : (o : List ℕ) (more : List (List ℕ)) (x : Body × List ℕ) → IsBytes o → shout_at more o ≡ Some x → TakesBody o 3 more x × (further x.0 ≡ more)
@@ -296,34 +313,62 @@ no_more false more e = refl
 be_bytes_2_below : (bytes : List ℕ) → IsBytes bytes → from_be_bytes w16 bytes < 2 ^ 16
 be_bytes_2_below bytes f = omega (arith, f 0, f 1)
 
--- what is read is spelled so
-pub read-takes : (first : List ℕ) (more : List (List ℕ)) (m : Message) → IsBytes first → read_of first more ≡ Ok m → Means (first ∷ more) m
-unfolding read_of command_of
-read-takes first more m fits e =
-    let command = command_of first more in
-    let u = unless_ok (first_row (bad_rows first more command)) (record { sequence = from_be_bytes w16 (take 2 (drop 4 first)); body = (unwrap_or command no_command).0 }) m e in
-    let r0 = row_off _ _ _ u.0 in
+-- no row of what may be wrong holds
+record Right (first : List ℕ) (more : List (List ℕ)) (command : Option (Body × List ℕ)) : Type 0 where
+  first_octet : is_other first 0 170 ≡ false
+  second_octet : is_other first 1 161 ≡ false
+  version : is_other first 3 2 ≡ false
+  is_whole : is_none command ≡ false
+  is_spent : ltb 0 (left_over command) ≡ false
+  is_alone : (is_single (get_or first 2 0) && ltb 0 (length more)) ≡ false
+
+none_wrong : (first : List ℕ) (more : List (List ℕ)) (command : Option (Body × List ℕ)) → first_row (bad_rows first more command) ≡ None → Right first more command
+none_wrong first more command e =
+    let r0 = row_off _ _ _ e in
     let r1 = row_off _ _ _ r0.1 in
     let r3 = row_off _ _ _ r1.1 in
     let rs = row_off _ _ _ r3.1 in
     let rt = row_off _ _ _ rs.1 in
     let rx = row_off _ _ _ rt.1 in
-    let c = is_there command rs.0 in
-    let g = guard_long (ltb (length first) 6) _ c.0 c.1 in
-    let long : 6 ≤ length first = ltb-false _ _ g.0 in
+    record { first_octet = r0.0; second_octet = r1.0; version = r3.0; is_whole = rs.0; is_spent = rt.0; is_alone = rx.0 }
+
+-- the sequence of a first frame
+abbrev sequence_of : List ℕ → ℕ
+sequence_of first = from_be_bytes w16 (take 2 (drop 4 first))
+
+-- the head of a first frame, and what stands behind it
+head_parts : (first : List ℕ) → 6 ≤ length first → IsBytes first → is_other first 0 170 ≡ false → is_other first 1 161 ≡ false → is_other first 3 2 ≡ false
+    → first ≡ head (get_or first 2 0) (sequence_of first) ++ drop 6 first
+head_parts first long fits e0 e1 e3 =
+    let two : length (take 2 (drop 4 first)) ≡ 2 = omega (arith, long, length-take 2 (drop 4 first), length-drop 4 first) in
+    let octets : to_be_bytes w16 (sequence_of first) ≡ take 2 (drop 4 first) = be_bytes_2 (take 2 (drop 4 first)) (sequence_of first) two (IsBytes-take 2 (drop 4 first) (IsBytes-drop 4 first fits)) refl in
+    let front = front_is first long (octet_is first 0 170 (omega (arith, long)) e0) (octet_is first 1 161 (omega (arith, long)) e1) (octet_is first 3 2 (omega (arith, long)) e3) in
+    front ∙ ap (λ (l : List ℕ). 170 ∷ 161 ∷ get_or first 2 0 ∷ 2 ∷ (l ++ drop 6 first)) (sym octets)
+
+nothing_left : (command : Option (Body × List ℕ)) (x : Body × List ℕ) → command ≡ Some x → ltb 0 (left_over command) ≡ false → x.1 ≡ []
+nothing_left command x is e =
+    let left : ltb 0 (length x.1) ≡ false = subst (λ (y : Option (Body × List ℕ)). ltb 0 (left_over y) ≡ false) is e in
+    nil_from_length x.1 (let h = ltb-false 0 (length x.1) left in omega (arith, h))
+
+-- what is read is spelled so
+pub read-takes : (first : List ℕ) (more : List (List ℕ)) (m : Message) → IsBytes first → read_of first more ≡ Ok m → Means (first ∷ more) m
+unfolding read_of command_of
+read-takes first more m fits e =
+    let command = command_of first more in
     let number = get_or first 2 0 in
+    let sequence = sequence_of first in
+    let u = unless_ok (bad_of first more) (record { sequence = sequence; body = (unwrap_or command no_command).0 }) m e in
+    let right = none_wrong first more command u.0 in
+    let c = is_there command right.is_whole in
+    let g = guard_long (ltb (length first) 6) (body_at number more (drop 6 first)) c.0 c.1 in
     let t = body_takes number more (drop 6 first) c.0 (IsBytes-drop 6 first fits) g.1 in
-    let left : ltb 0 (length c.0.1) ≡ false = subst (λ (x : Option (Body × List ℕ)). ltb 0 (left_over x) ≡ false) c.1 rt.0 in
-    let none : c.0.1 ≡ [] = (let h = ltb-false 0 _ left in nil_from_length c.0.1 (omega (arith, h))) in
+    let none = nothing_left command c.0 c.1 right.is_spent in
     let text : drop 6 first ≡ fields c.0.0 = t.body.text.parts ∙ ap (λ (l : List ℕ). fields c.0.0 ++ l) none ∙ append-nil (fields c.0.0) in
-    let sequence = from_be_bytes w16 (take 2 (drop 4 first)) in
-    let octets : to_be_bytes w16 sequence ≡ take 2 (drop 4 first) = be_bytes_2 (take 2 (drop 4 first)) _ (omega (arith, long, length-take 2 (drop 4 first), length-drop 4 first)) (IsBytes-take 2 (drop 4 first) (IsBytes-drop 4 first fits)) refl in
-    let below : sequence < 2 ^ 16 = be_bytes_2_below (take 2 (drop 4 first)) (IsBytes-take 2 (drop 4 first) (IsBytes-drop 4 first fits)) in
-    let front = front_is first long (octet_is first 0 170 (omega (arith, long)) r0.0) (octet_is first 1 161 (omega (arith, long)) r1.0) (octet_is first 3 2 (omega (arith, long)) r3.0) in
-    let spelled_first : first ≡ head number sequence ++ drop 6 first = front ∙ ap (λ (l : List ℕ). 170 ∷ 161 ∷ number ∷ 2 ∷ (l ++ drop 6 first)) (sym octets) in
+    let front = head_parts first (ltb-false (length first) 6 g.0) fits right.first_octet right.second_octet right.version in
     let whole : first ∷ more ≡ spell (record { sequence = sequence; body = c.0.0 }) =
-    ap (λ (l : List ℕ). l ∷ more) (spelled_first ∙ ap (λ (l : List ℕ). head number sequence ++ l) text ∙ ap (λ (k : ℕ). head k sequence ++ fields c.0.0) (sym t.body.number_is))
-    ∙ ap (λ (l : List (List ℕ)). (head (number_of c.0.0) sequence ++ fields c.0.0) ∷ l) (sym (t.further_is ∙ no_more (is_single number) more rx.0)) in
+    ap (λ (l : List ℕ). l ∷ more) (front ∙ ap (λ (l : List ℕ). head number sequence ++ l) text ∙ ap (λ (k : ℕ). head k sequence ++ fields c.0.0) (sym t.body.number_is))
+    ∙ ap (λ (l : List (List ℕ)). (head (number_of c.0.0) sequence ++ fields c.0.0) ∷ l) (sym (t.further_is ∙ no_more (is_single number) more right.is_alone)) in
     let body_is : (unwrap_or command no_command).0 ≡ c.0.0 = ap (λ (x : Option (Body × List ℕ)). (unwrap_or x no_command).0) c.1 in
     let same : record { sequence = sequence; body = c.0.0 } ≡ m = ap (λ (b : Body). record { sequence = sequence; body = b }) (sym body_is) ∙ u.1 in
+    let below = be_bytes_2_below (take 2 (drop 4 first)) (IsBytes-take 2 (drop 4 first) (IsBytes-drop 4 first fits)) in
     subst (λ (x : Message). Means (first ∷ more) x) same (record { spelled = whole; fits = t.body.fits; sequence_fits = below })

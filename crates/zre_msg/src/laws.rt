@@ -1,8 +1,8 @@
 //! Laws of messages, each the contract of a function without a body, so that a caller has it by a call.
 
-ghost use Rattle.std.specs.Prelude.{◌≡◌, ℕ, List, ◌++◌, Ok};
+ghost use Rattle.std.specs.Prelude.{◌≡◌, ℕ, List, ◌++◌, Ok, None};
 ghost use Rattle.zre_msg.specs.Spelling.{Means, HasOctets, spell, octets};
-ghost use Rattle.zre_msg.specs.Reading.{read_frames};
+ghost use Rattle.zre_msg.specs.Reading.{bad, read_frames};
 ghost use Rattle.zre_msg.specs.declared.message.Message.{Message as MessageValue};
 
 /// What is spelled is read as the message that was spelled.
@@ -11,10 +11,11 @@ pub fn spelled_is_read()
     ensures { (m : MessageValue) → Means (spell m) m → read_frames (spell m) ≡ Ok m }
 {}
 
-/// A list of frames means one message at most.
+/// A list of frames means one message at most, and where it means one nothing is wrong with it.
 #[inline]
 pub fn frames_mean_one_message()
-    ensures { (frames : List (List ℕ)) (m n : MessageValue) → Means frames m → Means frames n → m ≡ n }
+    ensures good { (frames : List (List ℕ)) (m : MessageValue) → Means frames m → bad frames ≡ None }
+    ensures one { (frames : List (List ℕ)) (m n : MessageValue) → Means frames m → Means frames n → m ≡ n }
 {}
 
 /// No message's octets begin another's: where several stand in a row, each is the one that was sent.

@@ -1,52 +1,68 @@
 //! Messages as octets on a connection.
 
-ghost use Rattle.std.specs.Prelude.{◌≡◌, ◌<◌, ◌∷◌, ◌++◌, OnOk};
+ghost use Rattle.std.specs.Prelude.{◌≡◌, ◌<◌, ℕ, List, ◌∷◌, ◌++◌, length, OnOk};
 ghost use Rattle.zre_values.specs.Framing.{frame, frames};
+ghost use Rattle.zre_msg.specs.Flags.{flag_of};
 ghost use Rattle.zre_msg.specs.Spelling.{Fits, octets};
 
 use crate::message::Message;
-use std::alloc::Global;
 use zre_values::{Octets, OutOfMemory};
 
-// Appends a frame: `more` is 1 where another follows, and 0 where none does.
+// What stands in front of the body in a frame. `more` is 1 where another frame follows, and 0 where none does.
+fn push_size(out: &mut Octets, more: u8, len: u64) -> Result<(), OutOfMemory>
+    requires { more < 2 }
+    ensures { (body : List ℕ) → length body ≡ len → OnOk result (out.new ++ body ≡ out.old ++ frame more body) }
+{
+    if len < 256 {
+        return out.append(&[more, len as u8]);
+    }
+    out.push(more + 2)?;
+    out.append(&len.to_be_bytes())
+}
+
 fn push_frame(out: &mut Octets, more: u8, body: &[u8]) -> Result<(), OutOfMemory>
     requires { more < 2 }
     ensures { OnOk result (out.new ≡ out.old ++ frame more body.now) }
 {
-    if body.len() < 256 {
-        out.append(&[more, body.len() as u8])?;
-    } else {
-        out.push(more + 2)?;
-        out.append(&(body.len() as u64).to_be_bytes())?;
-    }
+    push_size(out, more, body.len() as u64)?;
     out.append(body)
 }
 
-// Appends a first frame and those behind it.
-fn push_frames(out: &mut Octets, first: &[u8], further: &[Octets]) -> Result<(), OutOfMemory>
-    ensures { OnOk result (out.new ≡ out.old ++ frames (first.now ∷ further.now)) }
+// Whether another frame follows, as a flag.
+fn more_flag(behind: &[Octets]) -> u8
+    ensures { result ≡ flag_of behind.now }
 {
-    let mut body = first;
-    let mut rest = further;
-    'frames: while let Some((next, behind)) = rest.split_first() {
-        push_frame(out, 1, body)?;
-        body = next.as_slice();
+    if behind.is_empty() { 0 } else { 1 }
+}
+
+fn push_frames(out: &mut Octets, bodies: &[Octets]) -> Result<(), OutOfMemory>
+    ensures { OnOk result (out.new ≡ out.old ++ frames bodies.now) }
+{
+    let mut rest = bodies;
+    'frames: while let Some((body, behind)) = rest.split_first() {
+        push_frame(out, more_flag(behind), body.as_slice())?;
         rest = behind;
     }
-    push_frame(out, 0, body)
+    Ok(())
 }
 
 impl Message {
     /// Appends the octets of the message on a connection: its frames in their shortest form. After an error a front
     /// of them may stand there.
-    pub fn push_to(&self, alloc: Global, out: &mut Octets) -> Result<(), OutOfMemory>
+    pub fn push_to(&self, out: &mut Octets) -> Result<(), OutOfMemory>
         requires { Fits self.now }
         ensures { OnOk result (out.new ≡ out.old ++ octets self.now) }
     {
-        let first = self.write_first(alloc)?;
-        match self.body.further() {
-            Some(further) => push_frames(out, first.as_slice(), further.as_slice()),
-            None => push_frame(out, 0, first.as_slice()),
+        let len = self.first_len();
+        if len == u64::MAX {
+            return Err(OutOfMemory);
         }
+        let Some(further) = self.body.further() else {
+            push_size(out, 0, len)?;
+            return self.push_first(out);
+        };
+        push_size(out, more_flag(further.as_slice()), len)?;
+        self.push_first(out)?;
+        push_frames(out, further.as_slice())
     }
 }

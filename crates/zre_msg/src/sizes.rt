@@ -84,7 +84,7 @@ fn frames_len(bodies: &Frames) -> u64
 }
 
 impl Message {
-    fn first_len(&self) -> u64
+    pub(crate) fn first_len(&self) -> u64
         ensures { result ≡ min (length (first_frame self.now)) (2 ^ 64 - 1) }
     {
         fields_len(&self.body).saturating_add(6)

@@ -249,7 +249,7 @@ fn assert_written(
         assert_eq!(rt; frame.as_slice(), *body);
     }
     let mut out = octets(rt.alloc(), b">")?;
-    message.push_to(rt.alloc(), &mut out)?;
+    message.push_to(&mut out)?;
     assert_eq!(rt; out.len(), spelled.len() + 1);
     out.remove_front(1);
     assert_eq!(rt; out.as_slice(), spelled);
@@ -325,7 +325,7 @@ fn sizes_and_limits(rt: HostRuntime) -> Result<(), Fail> {
     assert_eq!(rt; message.octets_len(), 8 + 9 + 256);
     let mut out = Octets::new(rt.alloc());
     assert!(rt; message.fits());
-    message.push_to(rt.alloc(), &mut out)?;
+    message.push_to(&mut out)?;
     assert!(rt;
         out.as_slice().starts_with(
             b"\x01\x06\xaa\xa1\x02\x02\x00\x09\x02\x00\x00\x00\x00\x00\x00\x01\x00xx"

@@ -129,15 +129,13 @@ fn push_fields(out: &mut Octets, body: &Body) -> Result<(), OutOfMemory>
 }
 
 impl Message {
-    pub(crate) fn write_first(&self, alloc: Global) -> Result<Octets, OutOfMemory>
+    pub(crate) fn push_first(&self, out: &mut Octets) -> Result<(), OutOfMemory>
         requires { Fits self.now }
-        ensures { IfOk result (λ octets. octets ≡ first_frame self.now) }
+        ensures { OnOk result (out.new ≡ out.old ++ first_frame self.now) }
     {
-        let mut octets = Octets::new(alloc);
-        octets.append(&[0xaa, 0xa1, self.body.number(), 2])?;
-        octets.append(&self.sequence.to_be_bytes())?;
-        push_fields(&mut octets, &self.body)?;
-        Ok(octets)
+        out.append(&[0xaa, 0xa1, self.body.number(), 2])?;
+        out.append(&self.sequence.to_be_bytes())?;
+        push_fields(out, &self.body)
     }
 
     /// The frames of the message, which mean this message alone. Its content, where it has any, is copied.
@@ -145,8 +143,10 @@ impl Message {
         requires { Fits self.now }
         ensures { IfOk result (λ frames. frames ≡ spell self.now) }
     {
+        let mut first = Octets::new(alloc);
+        self.push_first(&mut first)?;
         let mut frames = Frames::new(alloc);
-        frames.push(self.write_first(alloc)?)?;
+        frames.push(first)?;
         if let Some(further) = self.body.further() {
             push_copies(alloc, &mut frames, further.as_slice())?;
         }

@@ -2,4 +2,5 @@ pub mod Addresses
 pub mod Digits
 pub mod Plain
 pub mod PlainIds
+pub mod Quotes
 pub mod Splits

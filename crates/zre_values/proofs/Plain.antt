@@ -1,9 +1,9 @@
 -- Octets that stand for themselves.
-use Rattle.std.proofs.Common.{◌≡◌, ℕ, Bool, true, false, eqb, length, List, [], ◌∷◌, ◌++◌, refl, sym, ap, ◌∙◌}
+use Rattle.std.proofs.Common.{◌≡◌, ℕ, true, false, eqb, length, List, [], ◌∷◌, ◌++◌, refl, ap, ◌∙◌}
 use Rattle.std.specs.List.{flat_map, list_all}
 use Rattle.std.proofs.lemmas.Bool.{and_parts}
 use Rattle.std.proofs.lemmas.List.Concat.{flat_map-cons}
-use Rattle.zre_values.specs.Text.{hex_digit, is_plain, quoted_octet, quoted}
+use Rattle.zre_values.specs.Text.{is_plain, quoted_octet, quoted}
 
 plain_octet : (b : ℕ) → is_plain b ≡ true → quoted_octet b ≡ b ∷ []
 plain_octet b e = rw e refl

@@ -1,11 +1,11 @@
 -- The plain text of an identity, and its octets.
-use Rattle.std.proofs.Common.{◌≡◌, ℕ, ◌+◌, ◌*◌, ◌/◌, ◌%◌, ◌<◌, ◌^◌, ◌==◌, ◌&&◌, Bool, true, false, List, length, get_or, slice_index, Option, Some, None, refl, sym, ap, ◌∙◌, arith, inl, inr, All}
-use Rattle.std.specs.List.{list_all, AllPass}
+use Rattle.std.proofs.Common.{◌≡◌, ℕ, ◌+◌, ◌*◌, ◌/◌, ◌%◌, ◌<◌, ◌==◌, true, List, length, get_or, Some, refl, sym, ap, ◌∙◌, arith, inl, inr}
+use Rattle.std.specs.List.{list_all}
 use Rattle.std.proofs.lemmas.Bool.{and_parts, and_from, eqb-true, eq-eqb, cases_eq}
 use Rattle.std.proofs.lemmas.Bool.Decides.{nat_tests}
 use Rattle.std.proofs.lemmas.List.{get_or_default}
 use Rattle.std.proofs.lemmas.List.Sums.{AllPass-from_list_all, list_all-from_AllPass}
-use Rattle.uuid.specs.Text.{by_index, simple_text, upper, hex_digit, nibble, parsed, parsed_simple, is_hex_digit, value_of, byte_of_digits}
+use Rattle.uuid.specs.Text.{by_index, simple_text, upper, hex_digit, nibble, parsed, is_hex_digit, value_of, byte_of_digits}
 use Rattle.uuid.proofs.TextLemmas.{by_index_length, by_index_at, by_index_same, nibble_even, nibble_odd, nibble_small}
 use Rattle.uuid.proofs.RoundTrips.{parses_simple}
 use Rattle.zre_values.specs.declared.peer_id.PeerId.{PeerId}

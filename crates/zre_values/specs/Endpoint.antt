@@ -1,5 +1,5 @@
 -- Endpoints in their text.
-use Rattle.std.specs.Prelude.{◌≡◌, ℕ, ◌<◌, ◌^◌, List, ◌∷◌, ◌++◌, codes, decimal}
+use Rattle.std.specs.Prelude.{ℕ, ◌<◌, ◌^◌, List, ◌∷◌, ◌++◌, codes, decimal}
 use Rattle.zre_values.specs.Address.{address_text, IsAddress}
 use Rattle.zre_values.specs.declared.endpoint.Endpoint.{Endpoint}
 

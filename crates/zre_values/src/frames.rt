@@ -4,13 +4,15 @@ ghost use Rattle.std.specs.Str.{bytes_eq};
 ghost use Rattle.zre_values.specs.Lists.{without};
 
 use crate::{Octets, OutOfMemory};
+use smallvec::SmallVec;
 use std::alloc::Global;
 use std::marker::Model;
 
-/// A list of frames, or of other lists of octets: the parts of a message, the groups of a peer.
+/// A list of frames, or of other lists of octets: the parts of a message, the groups of a peer. One alone lies in the
+/// value itself.
 #[derive(Debug, Drop)]
 pub struct Frames {
-    items: Vec<Octets>,
+    items: SmallVec<Octets, 1>,
 }
 
 impl Model for Frames {
@@ -25,7 +27,7 @@ impl Frames {
         ensures { result ≡ [] }
     {
         Frames {
-            items: Vec::new(alloc),
+            items: SmallVec::new(alloc),
         }
     }
 
@@ -39,7 +41,7 @@ impl Frames {
         requires { i < length self.now }
         ensures { slice_get self.now i ≡ Some result.now }
     {
-        self.items[i].as_slice()
+        self.items.as_slice()[i].as_slice()
     }
 
     /// The members, to be gone over by `for`.
@@ -72,7 +74,7 @@ impl Frames {
         ensures { result ≡ min (sum_by length self.now) (2 ^ 64 - 1) }
     {
         let mut total: u64 = 0;
-        for frame in &self.items {
+        for frame in self.as_slice() {
             total = total.saturating_add(frame.len() as u64);
         }
         total
@@ -82,7 +84,7 @@ impl Frames {
     pub fn contains(&self, frame: &[u8]) -> bool
         ensures { result ≡ list_any (λ x. bytes_eq x frame.now) self.now }
     {
-        self.items.iter().any(|x| x.as_slice() == frame)
+        self.as_slice().iter().any(|x| x.as_slice() == frame)
     }
 
     /// Where the first member that equals this one stands, if there is one.

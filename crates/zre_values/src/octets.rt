@@ -1,13 +1,19 @@
-ghost use Rattle.std.specs.Prelude.{◌≡◌, ◌==◌, ◌<◌, ◌≤◌, ℕ, drop, List, [], ◌∷◌, ◌++◌, length, IfOk, OnOk, OnErr, Some, slice_get};
+ghost use Rattle.std.specs.Prelude.{◌≡◌, ◌==◌, ◌<◌, ℕ, List, [], ◌∷◌, ◌++◌, length, IfOk, OnOk, OnErr, Some, slice_get};
 
 use crate::OutOfMemory;
+use smallvec::SmallVec;
 use std::alloc::Global;
+use std::default::MadeWith;
 use std::marker::Model;
 
-/// A list of octets that owns its memory: a name, a group, a frame, or a text that grows.
+/// As many octets as most names, groups and first frames have.
+const INLINE: usize = 24;
+
+/// A list of octets that owns its memory: a name, a group, a frame, or a text that grows. Up to 24 octets lie in the
+/// value itself, and take none.
 #[derive(Debug, Drop)]
 pub struct Octets {
-    items: Vec<u8>,
+    items: SmallVec<u8, INLINE>,
 }
 
 impl Model for Octets {
@@ -22,7 +28,7 @@ impl Octets {
         ensures { result ≡ [] }
     {
         Octets {
-            items: Vec::new(alloc),
+            items: SmallVec::new(alloc),
         }
     }
 
@@ -31,15 +37,17 @@ impl Octets {
         ensures { IfOk result (λ octets. octets ≡ bytes.now) }
     {
         Ok(Octets {
-            items: Vec::from_slice(alloc, bytes)?,
+            items: SmallVec::from_slice(alloc, bytes)?,
         })
     }
 
-    /// The octets of a vector, which keeps its memory.
+    /// The octets of a vector. Its memory is kept where they don't fit into the value.
     pub fn from_vec(items: Vec<u8>) -> Self
         ensures { result ≡ items.items }
     {
-        Octets { items }
+        Octets {
+            items: SmallVec::from_vec(items),
+        }
     }
 
     #[inline]
@@ -68,7 +76,7 @@ impl Octets {
         requires { i < length self.now }
         ensures { slice_get self.now i ≡ Some result.now }
     {
-        &self.items[i]
+        &self.items.as_slice()[i]
     }
 
     #[inline]
@@ -96,14 +104,14 @@ impl Octets {
     {
         self.items.clear();
     }
+}
 
-    /// Removes the first `n` octets, and keeps the memory.
-    pub fn remove_front(&mut self, n: usize)
-        requires { n ≤ length self.old }
-        ensures { self.new ≡ drop n self.old }
-    {
-        let len = self.items.len();
-        self.items.copy_within(n.., 0);
-        self.items.truncate(len - n);
+impl MadeWith<Global> for Octets {
+    ghost use Rattle.std.specs.Prelude.{◌≡◌, []};
+
+    ghost is_made_with = { λ octets. octets ≡ [] };
+
+    fn made_with(alloc: Global) -> Self {
+        Octets::new(alloc)
     }
 }

@@ -20,7 +20,12 @@ pub(crate) fn hex_digit(n: u8) -> u8
 pub(crate) fn is_plain(octet: u8) -> bool
     ensures { result ≡ is_plain octet }
 {
-    b'!' <= octet && octet <= b'~' && octet != b'%' && octet != b'~' && octet != b'=' && octet != b','
+    b'!' <= octet
+        && octet <= b'~'
+        && octet != b'%'
+        && octet != b'~'
+        && octet != b'='
+        && octet != b','
 }
 
 pub(crate) fn are_plain(bytes: &[u8]) -> bool

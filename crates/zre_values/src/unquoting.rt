@@ -50,5 +50,71 @@ fn octet_at(text: &[u8]) -> Option<(u8, &[u8])>
     if *first == b'%' {
         return octet_behind(rest);
     }
-    if is_plain(*first) { Some((*first, rest)) } else { None }
+    if is_plain(*first) {
+        Some((*first, rest))
+    } else {
+        None
+    }
 }
+
+// Octets whose quoted texts stand one behind the other.
+fn unquote_octets(alloc: Global, text: &[u8]) -> Result<Option<Octets>, OutOfMemory>
+    ensures value { IfOk result (λ found. IfSome found (λ octets. text.now ≡ flat_map quoted_octet octets)) }
+    ensures back { (v : List ℕ) → All (λ b. b < 2 ^ 8) v → text.now ≡ flat_map quoted_octet v → IfOk result (λ found. found ≡ Some v) }
+{
+    let mut octets = Octets::new(alloc);
+    let mut rest = text;
+    'octets: while !rest.is_empty() {
+        let Some((octet, behind)) = octet_at(rest) else {
+            return Ok(None);
+        };
+        octets.push(octet)?;
+        rest = behind;
+    }
+    Ok(Some(octets))
+}
+
+/// Reads octets from the text that [`quote`](crate::quote) gives them, or tells that no octets have this text. Each
+/// octet has one text alone: `%41`, `%7e` and a bare `=` or `,` are none.
+pub fn unquote(alloc: Global, text: &[u8]) -> Result<Option<Octets>, OutOfMemory>
+    ensures value { IfOk result (λ found. IfSome found (λ octets. text.now ≡ quoted octets)) }
+    ensures back { (v : List ℕ) → All (λ b. b < 2 ^ 8) v → text.now ≡ quoted v → IfOk result (λ found. found ≡ Some v) }
+{
+    if text.is_empty() {
+        return Ok(None);
+    }
+    if text == b"~".as_slice() {
+        return Ok(Some(Octets::new(alloc)));
+    }
+    if are_plain(text) {
+        return Ok(Some(Octets::copy(alloc, text)?));
+    }
+    unquote_octets(alloc, text)
+}
+
+// Whether quoted texts of octets stand one behind the other.
+fn are_quoted_octets(text: &[u8]) -> bool
+    ensures { IsTrue result ↔ ((v : List ℕ) × All (λ b. b < 2 ^ 8) v × (text.now ≡ flat_map quoted_octet v)) }
+{
+    let mut rest = text;
+    'octets: while !rest.is_empty() {
+        let Some((_, behind)) = octet_at(rest) else {
+            return false;
+        };
+        rest = behind;
+    }
+    true
+}
+
+/// Whether some octets have this quoted text, that is, whether [`unquote`] finds them. It takes no memory.
+pub fn is_quoted(text: &[u8]) -> bool
+    ensures { IsTrue result ↔ ((v : List ℕ) × All (λ b. b < 2 ^ 8) v × (text.now ≡ quoted v)) }
+{
+    !text.is_empty() && (text == b"~".as_slice() || are_quoted_octets(text))
+}
+
+/// A law, for callers that compare quoted texts in place of octets: no two lists of octets have the same one.
+#[inline]
+pub fn octets_are_quoted_once()
+    ensures { (u v : List ℕ) → All (λ b. b < 2 ^ 8) u → All (λ b. b < 2 ^ 8) v → quoted u ≡ quoted v → v ≡ u }
+{}

@@ -39,7 +39,7 @@ pub record Follows (want : Want) (kind : Kind) (o p : List ℕ) (f : Found) : Ty
   pub newly : new_items want kind o p ≡ f.given
   pub all : items want kind (o ++ p) ≡ items want kind o ++ f.given
 
-follows : (want : Want) (kind : Kind) (o p : List ℕ) → let s = split want kind o in Follows want kind o p (run_all want (before kind s.0) (s.1 ++ p))
+pub follows : (want : Want) (kind : Kind) (o p : List ℕ) → let s = split want kind o in Follows want kind o p (run_all want (before kind s.0) (s.1 ++ p))
 follows want kind o p =
     let s = split want kind o in
     let f = run_all want (before kind s.0) (s.1 ++ p) in
@@ -63,7 +63,7 @@ follows_reader want kind o p r h =
     subst (λ (l : List ℕ). Follows want kind o p (run_all want r.before (l ++ p))) (sym h.left)
     (subst (λ (b : Before). Follows want kind o p (run_all want b ((split want kind o).1 ++ p))) (sym h.before) (follows want kind o p))
 
-fault-follows : (want : Want) (kind : Kind) (o p : List ℕ) (f : Found) → Follows want kind o p f → fault_of want f.before f.left ≡ fault want kind (o ++ p)
+pub fault-follows : (want : Want) (kind : Kind) (o p : List ℕ) (f : Found) → Follows want kind o p f → fault_of want f.before f.left ≡ fault want kind (o ++ p)
 fault-follows want kind o p f h = ap (λ b. fault_of want b f.left) h.before ∙ ap (λ l. fault_of want (before kind (split want kind (o ++ p)).0) l) h.left
 
 adds : (want : Want) (kind : Kind) (o p : List ℕ) (f : Found) (old new : List Item) → Follows want kind o p f → new ≡ old ++ f.given → Adds want kind o p old new

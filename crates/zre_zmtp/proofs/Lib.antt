@@ -10,4 +10,7 @@ pub mod Framed
 pub mod Turning
 pub mod Feeding
 pub mod Pieces
+pub mod Spelled
+pub mod Messages
+pub mod Handshakes
 pub mod Written

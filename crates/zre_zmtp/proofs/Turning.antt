@@ -103,13 +103,13 @@ turn_waits want b o out new now left f e is p q =
       faultless = ap (λ x. fault_of want x left) p ∙ ap (λ x. fault_of want b x) q ∙ f;
     }
 
-no_octets : (want : Want) (e : Expected) (b : Before) → fault_at e want b [] ≡ None
+pub no_octets : (want : Want) (e : Expected) (b : Before) → fault_at e want b [] ≡ None
 unfolding frame_why greeting_fault
 no_octets want expect.Greeting b = refl
 no_octets want expect.Ready b = refl
 no_octets want expect.Traffic b = refl
 
-no_part : (want : Want) (b : Before) → part_len want b [] ≡ None
+pub no_part : (want : Want) (b : Before) → part_len want b [] ≡ None
 no_part want b =
     elim (cases_Option (part_len want b [])) [
       | inl e ↦ e

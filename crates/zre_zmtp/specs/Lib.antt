@@ -5,3 +5,4 @@ pub mod Run
 pub mod Shown
 pub mod Reading
 pub mod Written
+pub mod Laws

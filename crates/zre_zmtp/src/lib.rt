@@ -8,6 +8,7 @@ mod fault;
 mod faults;
 mod header;
 mod item;
+mod laws;
 mod opened;
 mod partial;
 mod progress;
@@ -18,6 +19,7 @@ mod writing;
 
 pub use fault::{FeedFault, ZmtpFault, ZmtpWhy};
 pub use item::{Item, Items, What};
+pub use laws::{handshakes_are_read, messages_are_read};
 pub use reader::Reader;
 pub use want::Want;
 pub use writing::{SocketType, greeting, ready, write_message};

@@ -135,10 +135,8 @@ impl Reader {
     pub fn kept(&self) -> u64
         ensures { (want : WantValue) (kind : Kind) (o : List ℕ) → Reads want kind o self.now → (result ≡ kept self.now) × (result ≤ MESSAGE_OCTETS + 9 + COMMAND_OCTETS) }
     {
-        self.progress
-            .opened
-            .octets()
-            .saturating_add(self.left_len())
+        let bodies = self.progress.opened.octets();
+        bodies.saturating_add(self.left_len())
     }
 
     fn left_len(&self) -> u64
@@ -147,9 +145,8 @@ impl Reader {
         match self.progress.expected {
             Expected::Greeting => self.progress.greeting.len() as u64,
             Expected::Ready | Expected::Traffic => {
-                (self.progress.partial.head.len() as u64).saturating_add(
-                    self.progress.partial.body.len() as u64,
-                )
+                let head = self.progress.partial.head.len() as u64;
+                head.saturating_add(self.progress.partial.body.len() as u64)
             }
         }
     }

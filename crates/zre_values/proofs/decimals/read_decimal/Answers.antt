@@ -1,4 +1,4 @@
-use Rattle.std.proofs.Common.{sym, subst, ◌≡◌, List, ℕ}
+use Rattle.std.proofs.Common.{sym, subst}
 use Rattle.std.specs.Str.{IsUtf8}
 use Rattle.zre_values.proofs.Digits.{IsUtf8-decimal}
 use Rattle.zre_values.proofs.decimals.read_decimal.Goals as goal

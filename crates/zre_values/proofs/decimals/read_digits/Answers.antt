@@ -1,4 +1,4 @@
-use Rattle.std.proofs.lemmas.Fmt.{parse-decimal, decimal_injective}
+use Rattle.std.proofs.lemmas.Fmt.{parse-decimal}
 use Rattle.std.proofs.Common.{◌≡◌, ◌∙◌, sym, ap}
 use Rattle.std.specs.Prelude.{decimal}
 use Rattle.zre_values.proofs.Digits.{bytes_eq-same}

@@ -1,4 +1,4 @@
-use Rattle.std.proofs.Common.{◌≡◌, ◌<◌, ◌^◌, ◌∷◌, ◌==◌, ◌⊎◌, Bool, false, ℕ, List, arith, inl}
+use Rattle.std.proofs.Common.{◌≡◌, ◌<◌, ◌^◌, ◌==◌, false, ℕ, arith, inl}
 use Rattle.std.specs.Prelude.{decimal}
 use Rattle.std.specs.List.{list_any}
 use Rattle.zre_values.proofs.Digits.{decimal-lacks}

@@ -1,4 +1,4 @@
-use Rattle.std.proofs.Common.{◌≡◌, ℕ, List, [], ◌∷◌, ap, sym, ◌∙◌}
+use Rattle.std.proofs.Common.{◌≡◌, [], ◌∷◌, sym, ◌∙◌}
 use Rattle.zre_values.proofs.Addresses.{four, text-four}
 use Rattle.zre_values.proofs.endpoint.read_address.Goals as goal
 

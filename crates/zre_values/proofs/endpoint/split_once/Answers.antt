@@ -1,4 +1,4 @@
-use Rattle.std.proofs.Common.{◌≡◌, ◌==◌, ℕ, ◌∷◌, ◌++◌, List, Option, Some, None, length, take, drop, sym, ap, ◌∙◌, refl}
+use Rattle.std.proofs.Common.{◌≡◌, ◌==◌, ◌∷◌, None, length, take, drop, sym, ap, ◌∙◌}
 use Rattle.std.specs.Prelude.{position}
 use Rattle.std.proofs.lemmas.List.{take_at, drop_at}
 use Rattle.zre_values.proofs.Splits.{position-split, position-parts}

@@ -1,4 +1,4 @@
-use Rattle.std.proofs.Common.{◌≡◌, ◌∷◌, ◌++◌, List, ℕ, Option, Some, ap, drop, sym, ◌∙◌}
+use Rattle.std.proofs.Common.{◌≡◌, ◌∷◌, ◌++◌, List, ℕ, Some, ap, ◌∙◌}
 use Rattle.std.specs.Prelude.{decimal}
 use Rattle.zre_values.specs.declared.endpoint.Endpoint.{Endpoint}
 use Rattle.zre_values.specs.Address.{address_text}

@@ -8,4 +8,4 @@ pub returns : goal.returns
 returns c = λ want kind o h.
     let most = kept_most want kind o c.args.self.now h in
     let bodies : sum_by length c.args.self.now.before.opened ≡ sum_by length c.self.inside.progress.opened = ap (λ (r : Reading). sum_by length r.before.opened) (sym c.self.view_is) in
-    (omega (arith, most, bodies, c.octets.ensures, c.left_len.ensures, c.saturating_add.ensures), omega (arith, most, bodies, c.octets.ensures, c.left_len.ensures, c.saturating_add.ensures))
+    (omega (arith, most, bodies, c.octets-bodies.ensures, c.left_len.ensures, c.saturating_add.ensures), omega (arith, most, bodies, c.octets-bodies.ensures, c.left_len.ensures, c.saturating_add.ensures))
