@@ -36,18 +36,6 @@ returns-in_default-read_header-clause-ok c =
     let now = left-frame c.args.progress.now.expected c.args.progress.now.greeting c.push.new.self c.new-body.result c.requires.frame ∙ ap (λ (o : List ℕ). c.push.new.self ++ o) c.new-body.ensures ∙ append-nil c.push.new.self in
     λ w. rw all (turn_waits c.args.want.now b c.push.new.self c.args.out.now c.args.out.now b _ still.faultless still.partial refl refl now)
 
-pub invariant_of-drop-then-header-gt0 : goal.invariant_of-drop-then-header-gt0
-invariant_of-drop-then-header-gt0 c =
-    let p = c.replace-head.result in
-    let none = sym p.known ∙ ap (λ (x : Partial). x.header) c.replace-head.ensures.value ∙ c.requires.header in
-    let said : header_of c.push.new.self ≡ Some c.in-Some-read_header.header = ap header_of (sym c.as_slice-2.ensures) ∙ sym c.read_header.ensures ∙ c.in-Some-read_header.is in
-    record {
-      known = sym said;
-      within = header-within p.head c.push.new.self c.args.octet none p.within c.in_ok-push.ensures.ok;
-      apart = λ e. c.new-body.ensures;
-      unfinished = λ x e. (let s : c.in-Some-read_header.header.size ≡ x.size = ap (λ (y : Header). y.size) (same_Some _ _ e) in omega (arith, s, c.if-header-gt0.true, ap length c.new-body.ensures));
-    }
-
 pub returns-then-header-gt0-clause-ok : goal.returns-then-header-gt0-clause-ok
 returns-then-header-gt0-clause-ok c =
     let b = before_of c.args.progress.now in
