@@ -118,6 +118,8 @@ pub(crate) fn change(
                 content,
             })?)
         }
-        _other => Ok(()),
+        Body::Ping | Body::PingOk => Ok(()),
+        Body::Other { .. } => Ok(()),
+        Body::Hello { .. } => Ok(()),
     }
 }
