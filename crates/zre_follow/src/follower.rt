@@ -20,6 +20,7 @@ pub struct Follower {
     reader: Reader,
     fault: Option<ZmtpFault>,
     run: Run,
+    items: Items,
     events: Events,
 }
 
@@ -40,6 +41,7 @@ impl Follower {
             reader: Reader::traffic(alloc),
             fault: None,
             run: Run::new(alloc, id),
+            items: Items::new(alloc),
             events: Events::new(alloc),
         }
     }
@@ -88,9 +90,9 @@ impl Machine for Follower {
         if self.reader.spent() {
             return Ok(Going::Stop);
         }
-        let mut items = Items::new(self.alloc);
-        let fault = read_piece(&mut self.reader, piece, &mut items)?;
-        take_items(self.alloc, items.as_slice(), &mut self.run, &mut self.events, out)?;
+        self.items.clear();
+        let fault = read_piece(&mut self.reader, piece, &mut self.items)?;
+        take_items(self.alloc, self.items.as_slice(), &mut self.run, &mut self.events, out)?;
         self.fault = fault;
         Ok(going_behind(&self.fault, self.run.spent()))
     }

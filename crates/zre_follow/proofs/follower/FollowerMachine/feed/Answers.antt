@@ -30,14 +30,14 @@ returns-clause-fed c = λ o h going.
     let e = sym c.spent.ensures ∙ c.if-spent.false in
     let p = c.in_ok-fault.ensures o (going_reads c.args.self.now o e h going) in
     let t = c.in_ok-take_items.ensures.took (messages o) (stands_on c.args.self.now o e h) in
-    feeds_on c.args.self.now _ o c.args.piece.now c.args.out.now c.take_items.new.out c.in_ok-fault.fault c.read_piece.new.reader c.new-items.result c.read_piece.new.items e h p c.new-items.ensures (subst (λ is. Took (peer_of c.args.self.now) (messages o) (messages_in is) c.take_items.new.run c.args.out.now c.take_items.new.out) c.as_slice.ensures t) refl refl
+    feeds_on c.args.self.now _ o c.args.piece.now c.args.out.now c.take_items.new.out c.in_ok-fault.fault c.read_piece.new.reader c.clear.new.self c.read_piece.new.items e h p c.clear.ensures (subst (λ is. Took (peer_of c.args.self.now) (messages o) (messages_in is) c.take_items.new.run c.args.out.now c.take_items.new.out) c.as_slice.ensures t) refl refl
 
 pub returns-clause-text : goal.returns-clause-text
 returns-clause-text c = λ o h going.
     let e = sym c.spent.ensures ∙ c.if-spent.false in
     let p = c.in_ok-fault.ensures o (going_reads c.args.self.now o e h going) in
     let t = c.in_ok-take_items.ensures.took (messages o) (stands_on c.args.self.now o e h) in
-    text_on c.args.self.now o c.args.piece.now c.take_items.new.run c.args.out.now c.take_items.new.out c.in_ok-fault.fault c.read_piece.new.reader c.new-items.result c.read_piece.new.items e h p c.new-items.ensures (subst (λ is. Took (peer_of c.args.self.now) (messages o) (messages_in is) c.take_items.new.run c.args.out.now c.take_items.new.out) c.as_slice.ensures t)
+    text_on c.args.self.now o c.args.piece.now c.take_items.new.run c.args.out.now c.take_items.new.out c.in_ok-fault.fault c.read_piece.new.reader c.clear.new.self c.read_piece.new.items e h p c.clear.ensures (subst (λ is. Took (peer_of c.args.self.now) (messages o) (messages_in is) c.take_items.new.run c.args.out.now c.take_items.new.out) c.as_slice.ensures t)
 
 pub returns-clause-stop : goal.returns-clause-stop
 returns-clause-stop c = λ o h going.
@@ -45,4 +45,4 @@ returns-clause-stop c = λ o h going.
     let p = c.in_ok-fault.ensures o (going_reads c.args.self.now o e h going) in
     let t = c.in_ok-take_items.ensures.took (messages o) (stands_on c.args.self.now o e h) in
     c.going_behind.ensures ∙ ap (λ b. not b && is_some c.in_ok-fault.fault) c.spent-3.ensures
-    ∙ stop_on c.args.self.now o c.args.piece.now c.take_items.new.run c.args.out.now c.take_items.new.out c.in_ok-fault.fault c.read_piece.new.reader c.new-items.result c.read_piece.new.items e h p c.new-items.ensures (subst (λ is. Took (peer_of c.args.self.now) (messages o) (messages_in is) c.take_items.new.run c.args.out.now c.take_items.new.out) c.as_slice.ensures t)
+    ∙ stop_on c.args.self.now o c.args.piece.now c.take_items.new.run c.args.out.now c.take_items.new.out c.in_ok-fault.fault c.read_piece.new.reader c.clear.new.self c.read_piece.new.items e h p c.clear.ensures (subst (λ is. Took (peer_of c.args.self.now) (messages o) (messages_in is) c.take_items.new.run c.args.out.now c.take_items.new.out) c.as_slice.ensures t)
