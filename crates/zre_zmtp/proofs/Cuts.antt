@@ -1,11 +1,10 @@
 -- A longer stream has the same parts, and then those of what was left with what came.
-use Rattle.std.proofs.Common.{◌≡◌, ◌≢◌, ℕ, zero, suc, ◌+◌, ◌-◌, ◌≤◌, ◌<◌, Bool, true, false, List, [], ◌∷◌, ◌++◌, length, take, drop, Option, Some, None, refl, sym, ap, subst, ◌∙◌, arith, inl, inr, append_assoc}
-use Rattle.std.specs.Prelude.{◌⊎◌, option_map, unwrap_or, option_to_list}
-use Rattle.std.proofs.lemmas.List.{length-append, length-take, length-drop, take-append-le, drop-append-le, append-nil, nil_from_length}
-use Rattle.zre_zmtp.specs.declared.item.Item.{Item}
-use Rattle.zre_zmtp.specs.Stream.{Want, Before, Kind, Whole, Traffic, Parts, before, expected, part_len, cut, split, item, items_of, fault_of}
+use Rattle.std.proofs.Common.{◌≡◌, ℕ, zero, suc, ◌≤◌, List, [], ◌∷◌, ◌++◌, length, take, drop, Option, Some, None, refl, sym, ap, subst, ◌∙◌, arith, inl, inr, append_assoc}
+use Rattle.std.specs.Prelude.{◌⊎◌, option_to_list}
+use Rattle.std.proofs.lemmas.List.{length-drop, take-append-le, drop-append-le, append-nil}
+use Rattle.zre_zmtp.specs.Stream.{Want, Before, Kind, Whole, Traffic, Parts, before, part_len, cut, split, item, items_of}
 use Rattle.zre_zmtp.specs.Run.{after, Found, with_item, run}
-use Rattle.zre_zmtp.proofs.Stay.{part_len-stays, part_len-bounds, fault_of-stays}
+use Rattle.zre_zmtp.proofs.Stay.{part_len-stays, part_len-bounds}
 
 -- whether there is a value, with the equation
 pub cases_Option : {A : Type 0} (o : Option A) → (o ≡ None) ⊎ ((x : A) × (o ≡ Some x))

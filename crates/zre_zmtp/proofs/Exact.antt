@@ -1,19 +1,11 @@
 -- A whole frame, taken from the octets in front of which it stands; and how many parts there can be.
-use Rattle.std.proofs.Common.{◌≡◌, ℕ, zero, suc, ◌+◌, ◌-◌, ◌≤◌, ◌<◌, Bool, true, false, cond, leb, List, [], ◌∷◌, ◌++◌, length, take, drop, get_or, Option, Some, None, refl, sym, ap, subst, ◌∙◌, arith, inl, inr, append_assoc, is_some}
-use Rattle.std.specs.Prelude.{option_to_list}
-use Rattle.std.specs.Int.{w64, from_be_bytes}
-use Rattle.std.proofs.lemmas.Bool.{leb-true}
-use Rattle.std.proofs.lemmas.Option.{cond_some, none-some}
-use Rattle.std.proofs.lemmas.List.{length-append, length-take-le, length-drop, get_or-take, append-nil, take-append-drop}
-use Rattle.zre_zmtp.specs.Frame.{flags, header_len, has_header, size, frame_len, is_whole, body, is_long}
+use Rattle.std.proofs.Common.{◌≡◌, ℕ, zero, suc, ◌≤◌, Bool, true, false, cond, List, [], ◌∷◌, ◌++◌, length, take, drop, Some, None, refl, sym, ap, ◌∙◌, arith, inl, inr}
+use Rattle.std.proofs.lemmas.List.{length-take-le, take-append-drop}
+use Rattle.zre_zmtp.specs.Frame.{flags, header_len, size, frame_len, is_long}
 use Rattle.zre_zmtp.specs.declared.fault.ZmtpFault.{ZmtpFault}
-use Rattle.zre_zmtp.specs.declared.item.Item.{Item}
-use Rattle.zre_zmtp.specs.declared.expected.Expected.{Expected}
-use Rattle.zre_zmtp.specs.declared.expected.Expected.TheVariants as expect
-use Rattle.zre_zmtp.specs.Stream.{Want, Before, item, part_len, whole_len, fault_of, fault_at}
-use Rattle.zre_zmtp.specs.Run.{after, Found, with_item, run, run_all}
-use Rattle.zre_zmtp.proofs.Grow.{Headed, IsWhole, whole, header_len-more, size-more, flags-more}
-use Rattle.zre_zmtp.proofs.Stay.{is_part, part_len-from, part_len-bounds, frame-len}
+use Rattle.zre_zmtp.specs.Stream.{Want, Before, item, part_len, whole_len, fault_of}
+use Rattle.zre_zmtp.specs.Run.{after, with_item, run, run_all}
+use Rattle.zre_zmtp.proofs.Grow.{Headed, IsWhole, size-more, flags-more}
 use Rattle.zre_zmtp.proofs.Cuts.{cases_Option, run-none, run-some, shorter, not_empty}
 
 -- the octets are one whole frame

@@ -1,10 +1,8 @@
 -- Small streams, computed.
-use Rattle.std.proofs.Common.{◌≡◌, ℕ, List, [], ◌∷◌, ◌++◌, Option, Some, None, refl, codes}
-use Rattle.zre_zmtp.specs.declared.fault.ZmtpFault.{ZmtpFault}
+use Rattle.std.proofs.Common.{◌≡◌, [], ◌∷◌, Some, None, refl, codes}
 use Rattle.zre_zmtp.specs.declared.fault.ZmtpWhy.TheVariants as why
-use Rattle.zre_zmtp.specs.declared.item.Item.{Item}
 use Rattle.zre_zmtp.specs.declared.item.What.TheVariants.{Greeting, Ready, Command, Message}
-use Rattle.zre_zmtp.specs.Stream.{Want, Any, Router, Dealer, Kind, Whole, Traffic, items, fault, split, cut, part_len, frame_why, greeting_fault, item}
+use Rattle.zre_zmtp.specs.Stream.{Any, Router, Dealer, Whole, Traffic, items, fault, split, cut, part_len, frame_why, greeting_fault, item}
 use Rattle.zre_zmtp.specs.Ready.{properties_within}
 
 half_a_header-items : items Any Traffic (2 ∷ 0 ∷ 0 ∷ 0 ∷ 0 ∷ 0 ∷ []) ≡ []

@@ -1,14 +1,14 @@
 -- A reader and the octets that it has read.
-use Rattle.std.proofs.Common.{◌≡◌, ℕ, ◌+◌, ◌≤◌, Bool, true, false, List, [], ◌∷◌, ◌++◌, length, take, drop, Option, Some, None, refl, sym, ap, subst, ◌∙◌, arith}
+use Rattle.std.proofs.Common.{◌≡◌, ℕ, false, List, [], ◌++◌, length, drop, Some, None, refl, sym, ap, subst, ◌∙◌, arith}
 use Rattle.std.proofs.lemmas.List.{drop_at}
 use Rattle.zre_zmtp.specs.declared.item.Item.{Item}
 use Rattle.zre_zmtp.specs.declared.fault.ZmtpFault.{ZmtpFault}
 use Rattle.zre_zmtp.specs.declared.fault.FeedFault.{FeedFault}
 use Rattle.zre_zmtp.specs.declared.fault.FeedFault.TheVariants.{Zmtp, OutOfMemory}
 use Rattle.zre_zmtp.specs.Stream.{Want, Before, Kind, Whole, Traffic, Parts, before, cut, split, items, items_of, fault, fault_of, frame_why, greeting_fault}
-use Rattle.zre_zmtp.specs.Run.{Found, run, run_all}
+use Rattle.zre_zmtp.specs.Run.{Found, run_all}
 use Rattle.zre_zmtp.specs.Shown.{Waits, Advances}
-use Rattle.zre_zmtp.specs.Reading.{Reading, Reads, ReadsAll, Refuses, Adds, IsOver, new_items}
+use Rattle.zre_zmtp.specs.Reading.{Reading, Reads, Refuses, Adds, IsOver, new_items}
 use Rattle.zre_zmtp.proofs.Stay.{fault_of-stays}
 use Rattle.zre_zmtp.proofs.Cuts.{cut_on, cut-none, cut-ends, split-more, run-finds, Finds}
 use Rattle.zre_zmtp.proofs.Exact.{part-fault}

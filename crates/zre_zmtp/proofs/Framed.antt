@@ -2,12 +2,9 @@
 use Rattle.std.proofs.Common.{◌≡◌, ◌≢◌, ℕ, ◌+◌, ◌==◌, ◌≤◌, ◌<◌, Bool, true, false, cond, leb, List, [], ◌∷◌, ◌++◌, length, take, drop, get_or, Option, Some, None, refl, sym, ap, ◌∙◌, arith, inl, inr, option_map}
 use Rattle.std.specs.Option.{option_or}
 use Rattle.std.proofs.lemmas.Bool.{le-leb, lt-leb, and_left, and_right, and_cases, cases_Bool, cases_lt, leb-false}
-use Rattle.std.proofs.lemmas.Option.{cond_some, none-some, same_Some}
-use Rattle.std.proofs.lemmas.List.{length-append, take_all, take_at, drop_at}
+use Rattle.std.proofs.lemmas.Option.{cond_some, none-some}
+use Rattle.std.proofs.lemmas.List.{length-append, take_all, drop_at}
 use Rattle.zre_zmtp.specs.declared.fault.ZmtpWhy.{ZmtpWhy}
-use Rattle.zre_zmtp.specs.declared.fault.ZmtpFault.{ZmtpFault}
-use Rattle.zre_zmtp.specs.declared.item.Item.{Item}
-use Rattle.zre_zmtp.specs.declared.item.What.{What}
 use Rattle.zre_zmtp.specs.declared.header.Header.{Header}
 use Rattle.zre_zmtp.specs.declared.expected.Expected.{Expected}
 use Rattle.zre_zmtp.specs.declared.expected.Expected.TheVariants as expect

@@ -1,15 +1,9 @@
 -- What is known of the octets so far stays when more come.
-use Rattle.std.proofs.Common.{◌≡◌, ◌≢◌, ℕ, zero, suc, ◌+◌, ◌-◌, ◌≤◌, ◌<◌, Bool, true, false, cond, not, ◌&&◌, leb, ltb, List, [], ◌∷◌, ◌++◌, length, take, drop, get_or, Option, Some, None, refl, sym, ap, subst, ◌∙◌, arith, inl, inr, option_map, is_some}
-use Rattle.std.specs.Option.{option_or}
+use Rattle.std.proofs.Common.{◌≡◌, ℕ, ◌≤◌, Bool, true, false, cond, leb, List, ◌++◌, length, take, drop, get_or, refl, ap, ◌∙◌, arith}
 use Rattle.std.specs.Int.{w64, from_be_bytes}
-use Rattle.std.proofs.lemmas.Bool.{cases_Bool, and_parts, and_from, leb-true, leb-false, le-leb, lt-leb, both_ways, and_left, and_right}
-use Rattle.std.proofs.lemmas.List.{length-append, length-take, length-drop, take-append-le, drop-append-le, get_or_append_left, take-take}
+use Rattle.std.proofs.lemmas.Bool.{and_parts, and_from, leb-true, le-leb}
+use Rattle.std.proofs.lemmas.List.{length-append, length-drop, take-append-le, drop-append-le, get_or_append_left}
 use Rattle.zre_zmtp.specs.Frame.{flags, header_len, has_header, size, frame_len, is_whole, body, is_long}
-use Rattle.zre_zmtp.specs.declared.fault.ZmtpWhy.{ZmtpWhy}
-use Rattle.zre_zmtp.specs.declared.fault.ZmtpFault.{ZmtpFault}
-use Rattle.zre_zmtp.specs.declared.expected.Expected.{Expected}
-use Rattle.zre_zmtp.specs.declared.expected.Expected.TheVariants as expect
-use Rattle.zre_zmtp.specs.Stream.{Want, Before, once, flags_fault, size_fault, body_fault, frame_why, frame_fault, fault_of, fault_at, greeting_fault, octet_fault, whole_len, part_len}
 
 pub flags-more : (o p : List ℕ) → 1 ≤ length o → flags (o ++ p) ≡ flags o
 flags-more o p h = get_or_append_left o p 0 0 (omega (arith, h))

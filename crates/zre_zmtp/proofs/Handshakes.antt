@@ -1,5 +1,5 @@
 -- The greeting and READY of a node, as they are read.
-use Rattle.std.proofs.Common.{◌≡◌, ◌≢◌, ℕ, ◌+◌, ◌≤◌, ◌<◌, Bool, true, false, not, cond, ltb, List, [], ◌∷◌, ◌++◌, length, take, drop, Option, Some, None, refl, sym, ap, subst, ◌∙◌, arith, option_map, is_some, inl, inr}
+use Rattle.std.proofs.Common.{◌≡◌, ◌≢◌, ℕ, ◌+◌, ◌<◌, true, false, List, [], ◌∷◌, ◌++◌, length, drop, Option, Some, None, refl, sym, ap, subst, ◌∙◌, arith, option_map, is_some, inl, inr}
 use Rattle.std.specs.Prelude.{option_to_list, bytes_eq, IfSome}
 use Rattle.zre_values.specs.Framing.{frame}
 use Rattle.std.proofs.lemmas.Bool.{le-ltb, lt-ltb, cases_Bool}
@@ -8,19 +8,17 @@ use Rattle.std.proofs.lemmas.List.{length-append, take_at, drop_at}
 use Rattle.zre_values.specs.declared.limits.TheConstants.{COMMAND_OCTETS}
 use Rattle.zre_values.specs.declared.peer_id.PeerId.{PeerId}
 use Rattle.zre_zmtp.specs.declared.item.Item.{Item}
-use Rattle.zre_zmtp.specs.declared.item.What.TheVariants.{Greeting, Ready}
+use Rattle.zre_zmtp.specs.declared.item.What.TheVariants.{Ready}
 use Rattle.zre_zmtp.specs.declared.header.Header.{Header}
 use Rattle.zre_zmtp.specs.declared.writing.SocketType.{SocketType}
 use Rattle.zre_zmtp.specs.declared.writing.SocketType.TheVariants as socket
-use Rattle.zre_zmtp.specs.declared.expected.Expected.{Expected}
 use Rattle.zre_zmtp.specs.declared.expected.Expected.TheVariants as expect
-use Rattle.zre_zmtp.specs.Frame.{header_of, header_len}
 use Rattle.zre_zmtp.specs.Ready.{has_name, properties, properties_within, rest, socket_type, identity}
-use Rattle.zre_zmtp.specs.Stream.{Want, Any, Router, Dealer, Before, Kind, Whole, before, split, cut, items, fault, part_len, greeting_fault, frame_why, item, is_error, is_ready, has_socket, has_identity, is_other, command_fault, body_fault}
-use Rattle.zre_zmtp.specs.Run.{Found, with_item, after, run, run_all}
-use Rattle.zre_zmtp.specs.Shown.{header_fault, frame_item, frame_after, Advances}
+use Rattle.zre_zmtp.specs.Stream.{Want, Any, Router, Dealer, Before, Whole, before, cut, part_len, greeting_fault, item, is_error, is_ready, has_socket, has_identity, is_other, command_fault, body_fault}
+use Rattle.zre_zmtp.specs.Run.{Found, with_item, after, run_all}
+use Rattle.zre_zmtp.specs.Shown.{header_fault}
 use Rattle.zre_zmtp.specs.Written.{own_greeting, ready_body, ready_frame, socket_name}
-use Rattle.zre_zmtp.specs.Laws.{IsWanted, IsOther, handshake, greeting_item, ready_item, ReadsHandshake}
+use Rattle.zre_zmtp.specs.Laws.{IsWanted, handshake, greeting_item, ReadsHandshake}
 use Rattle.zre_zmtp.proofs.Stay.{part_len-stays}
 use Rattle.zre_zmtp.proofs.Exact.{run_all-some}
 use Rattle.zre_zmtp.proofs.Framed.{is_framed, IsFramed}

@@ -1,19 +1,19 @@
 -- How much a reader keeps.
-use Rattle.std.proofs.Common.{◌≡◌, ℕ, zero, suc, ◌+◌, ◌-◌, ◌≤◌, ◌<◌, Bool, true, false, cond, not, ◌&&◌, leb, ltb, List, [], ◌∷◌, ◌++◌, length, take, drop, Option, Some, None, refl, sym, ap, subst, ◌∙◌, arith, inl, inr, option_map, is_some}
+use Rattle.std.proofs.Common.{◌≡◌, ℕ, zero, suc, ◌+◌, ◌≤◌, ◌<◌, Bool, true, false, cond, not, ◌&&◌, leb, ltb, List, [], ◌∷◌, length, take, drop, Option, Some, None, refl, sym, ap, subst, ◌∙◌, arith, inl, inr, option_map, is_some}
 use Rattle.std.specs.Prelude.{sum_by, ◌⊎◌}
-use Rattle.std.proofs.lemmas.Bool.{ltb-false, leb-true, leb-false, lt-leb, le-leb, cases_Bool, and_cases, cases_lt, true≢false}
+use Rattle.std.proofs.lemmas.Bool.{ltb-false, leb-false, cases_Bool, and_cases, true≢false}
 use Rattle.std.proofs.lemmas.Option.{none-some}
-use Rattle.std.proofs.lemmas.List.{length-take, length-take-le, length-drop, get_or-take}
+use Rattle.std.proofs.lemmas.List.{length-take, length-take-le, get_or-take}
 use Rattle.std.proofs.lemmas.List.Sums.{sum_by-append}
 use Rattle.zre_zmtp.specs.Frame.{flags, header_len, has_header, size, frame_len, is_whole, body, is_long, is_message, has_more}
 use Rattle.zre_zmtp.specs.declared.fault.ZmtpWhy.{ZmtpWhy}
 use Rattle.zre_zmtp.specs.declared.fault.ZmtpFault.{ZmtpFault}
 use Rattle.zre_zmtp.specs.declared.expected.Expected.{Expected}
 use Rattle.zre_zmtp.specs.declared.expected.Expected.TheVariants as expect
-use Rattle.zre_zmtp.specs.Stream.{Want, Before, Kind, Parts, before, expected, opened, opened_with, cut, split, fault, fault_of, fault_at, frame_why, frame_fault, size_fault, whole_len, part_len}
+use Rattle.zre_zmtp.specs.Stream.{Want, Before, Kind, Parts, before, expected, opened, opened_with, cut, split, fault_at, frame_why, frame_fault, size_fault, whole_len, part_len}
 use Rattle.zre_values.specs.declared.limits.TheConstants.{MESSAGE_OCTETS, COMMAND_OCTETS}
 use Rattle.zre_zmtp.specs.Reading.{Reading, Reads, kept}
-use Rattle.zre_zmtp.proofs.Grow.{Headed, headed, IsWhole, whole}
+use Rattle.zre_zmtp.proofs.Grow.{headed, IsWhole}
 use Rattle.zre_zmtp.proofs.Stay.{is_part, IsPart, frame-len}
 use Rattle.zre_zmtp.proofs.Cuts.{cases_Option, cut-none, cut-some, cut-ends}
 use Rattle.zre_zmtp.proofs.Later.{HeadFine, head_fine}

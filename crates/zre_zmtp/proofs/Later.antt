@@ -1,14 +1,14 @@
 -- For a reader that looks at each octet once: what more octets of one part tell.
-use Rattle.std.proofs.Common.{◌≡◌, ℕ, zero, suc, ◌+◌, ◌-◌, ◌≤◌, ◌<◌, Bool, true, false, cond, leb, List, [], ◌∷◌, ◌++◌, length, take, drop, Option, Some, None, refl, sym, ap, ◌∙◌, arith, option_map, is_some}
+use Rattle.std.proofs.Common.{◌≡◌, ℕ, ◌+◌, ◌<◌, Bool, true, false, leb, List, [], ◌∷◌, ◌++◌, length, drop, Option, Some, None, refl, sym, ap, ◌∙◌, arith}
 use Rattle.std.specs.Option.{option_or}
-use Rattle.std.proofs.lemmas.Bool.{le-leb, lt-leb, and_right, leb-true}
+use Rattle.std.proofs.lemmas.Bool.{le-leb, lt-leb, and_right}
 use Rattle.std.proofs.lemmas.Option.{none-some}
 use Rattle.std.proofs.lemmas.List.{length-append, length-drop, take_all}
 use Rattle.zre_zmtp.specs.Frame.{flags, header_len, has_header, size, frame_len, is_whole, body}
 use Rattle.zre_zmtp.specs.declared.fault.ZmtpWhy.{ZmtpWhy}
 use Rattle.zre_zmtp.specs.declared.fault.ZmtpFault.{ZmtpFault}
-use Rattle.zre_zmtp.specs.Stream.{Want, Before, once, flags_fault, size_fault, body_fault, frame_why, greeting_fault, octet_fault}
-use Rattle.zre_zmtp.proofs.Grow.{flags-more, Headed, headed, has_header-from, Headed-more, size-more, header_len-more, frame_len-more, IsWhole, whole, is_whole-from}
+use Rattle.zre_zmtp.specs.Stream.{Want, Before, once, flags_fault, size_fault, body_fault, frame_why, greeting_fault}
+use Rattle.zre_zmtp.proofs.Grow.{flags-more, Headed, has_header-from, Headed-more, size-more, header_len-more, frame_len-more, IsWhole, is_whole-from}
 
 -- the header is there, and has no fault
 pub record HeadFine (b : Before) (o : List ℕ) : Type 0 where

@@ -1,14 +1,11 @@
 -- The frames of a message, behind a stream that awaits one.
-use Rattle.std.proofs.Common.{◌≡◌, ℕ, zero, suc, ◌+◌, ◌≤◌, List, [], ◌∷◌, ◌++◌, length, take, drop, Option, Some, None, refl, sym, ap, subst, ◌∙◌, arith, inl, inr, cond, eqb}
-use Rattle.std.specs.Prelude.{sum_by}
+use Rattle.std.proofs.Common.{◌≡◌, ℕ, zero, suc, ◌+◌, ◌≤◌, List, [], ◌∷◌, ◌++◌, length, take, drop, Some, refl, sym, ap, subst, ◌∙◌, arith, inl, inr}
 use Rattle.std.proofs.lemmas.List.{length-append, length-take-le, length-drop, append-nil}
 use Rattle.zre_values.specs.Framing.{frames}
-use Rattle.zre_zmtp.specs.declared.item.Item.{Item}
 use Rattle.zre_zmtp.specs.declared.item.What.TheVariants.{Message}
-use Rattle.zre_zmtp.specs.declared.expected.Expected.{Expected}
 use Rattle.zre_zmtp.specs.declared.expected.Expected.TheVariants as expect
-use Rattle.zre_zmtp.specs.Stream.{Want, Before, Kind, Whole, Traffic, Parts, before, expected, place, opened, start, part_len, cut, split, items, fault, fault_of, frame_why, IsAtRest}
-use Rattle.zre_zmtp.specs.Run.{Found, with_item, run, run_all}
+use Rattle.zre_zmtp.specs.Stream.{Want, Before, Kind, Parts, before, place, opened, start, part_len, cut, split}
+use Rattle.zre_zmtp.specs.Run.{Found, with_item, run_all}
 use Rattle.zre_zmtp.specs.Laws.{AwaitsMessage, IsWithinLimits, ReadsMessage}
 use Rattle.zre_zmtp.proofs.Stay.{part_len-bounds}
 use Rattle.zre_zmtp.proofs.Cuts.{cases_Option, cut-none, cut-some}

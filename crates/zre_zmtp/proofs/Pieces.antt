@@ -1,7 +1,7 @@
 -- Pieces one after another.
 use Rattle.std.proofs.Common.{◌≡◌, ℕ, ◌+◌, ◌<◌, ◌≤◌, List, [], ◌∷◌, ◌++◌, length, take, drop, get_or, Some, refl, sym, ap, subst, ◌∙◌, append_assoc, arith}
 use Rattle.std.specs.List.{concat}
-use Rattle.std.proofs.lemmas.List.{take_more, append-nil, drop_at, drop_more, drop_all, take_all, take-append-drop}
+use Rattle.std.proofs.lemmas.List.{take_more, append-nil, drop_at, drop_all, take_all, take-append-drop}
 use Rattle.zre_zmtp.specs.declared.item.Item.{Item}
 use Rattle.zre_zmtp.specs.declared.fault.FeedFault.{FeedFault}
 use Rattle.zre_zmtp.specs.declared.fault.FeedFault.TheVariants.{Zmtp, OutOfMemory}

@@ -1,11 +1,11 @@
 -- Properties one after another.
-use Rattle.std.proofs.Common.{◌≡◌, ℕ, zero, suc, ◌+◌, ◌-◌, ◌≤◌, ◌<◌, Bool, true, false, cond, ◌&&◌, leb, List, [], ◌∷◌, length, take, drop, map, Option, Some, None, refl, sym, ap, ◌∙◌, arith, inl, inr, option_map, is_some}
-use Rattle.std.specs.Option.{option_or, option_copied}
-use Rattle.std.proofs.lemmas.Bool.{and_parts, leb-true, cases_Bool}
+use Rattle.std.proofs.Common.{◌≡◌, ℕ, zero, suc, ◌+◌, ◌≤◌, ◌<◌, Bool, true, false, cond, List, [], ◌∷◌, length, drop, Option, Some, None, refl, sym, ap, ◌∙◌, arith, inl, inr, option_map}
+use Rattle.std.specs.Option.{option_or}
+use Rattle.std.proofs.lemmas.Bool.{cases_Bool}
 use Rattle.std.proofs.lemmas.List.{length-drop}
 use Rattle.std.specs.Str.{str_eq_ignore_ascii_case}
-use Rattle.zre_zmtp.specs.Ready.{has_name, name, rest, has_value, has_property, property, behind_property, properties_within, properties, value_of, value_len, is_name_octet}
-use Rattle.std.specs.List.{list_all, find}
+use Rattle.zre_zmtp.specs.Ready.{name, has_property, property, behind_property, properties_within, properties, value_of, value_len}
+use Rattle.std.specs.List.{find}
 
 pub behind-shorter : (o : List ℕ) → has_property o ≡ true → length (behind_property o) < length o
 behind-shorter [] h = absurd cc

@@ -1,9 +1,9 @@
 -- Frames in their shortest form are read as the message that they spell.
-use Rattle.std.proofs.Common.{◌≡◌, ℕ, zero, suc, ◌+◌, ◌-◌, ◌^◌, ◌≤◌, ◌<◌, Bool, true, false, cond, not, ◌&&◌, leb, ltb, eqb, List, [], ◌∷◌, ◌++◌, length, take, drop, get_or, Option, Some, None, refl, sym, ap, subst, ◌∙◌, arith, inl, inr, append_assoc}
+use Rattle.std.proofs.Common.{◌≡◌, ℕ, ◌+◌, ◌^◌, ◌≤◌, ◌<◌, Bool, true, false, cond, leb, ltb, eqb, List, [], ◌∷◌, ◌++◌, length, take, drop, get_or, Option, Some, None, refl, ap, ◌∙◌, arith, inl, inr, append_assoc}
 use Rattle.std.specs.Prelude.{sum_by}
 use Rattle.std.specs.Int.{w64, from_be_bytes, to_be_bytes}
-use Rattle.std.proofs.lemmas.Bool.{cases_Bool, le-leb, ltb-true, ltb-false, le-ltb, and_from}
-use Rattle.std.proofs.lemmas.List.{length-append, length-take, take_all, take_at, drop_at, append-nil}
+use Rattle.std.proofs.lemmas.Bool.{cases_Bool, le-leb, le-ltb}
+use Rattle.std.proofs.lemmas.List.{length-append, take_all, take_at, drop_at}
 use Rattle.std.proofs.lemmas.Nat.{from_be_bytes-to_be_bytes_8}
 use Rattle.zre_zmtp.specs.Frame.{flags, header_len, has_header, size, frame_len, is_whole, body, is_long, is_message, has_more, is_flags}
 use Rattle.zre_values.specs.Framing.{frame, frames}
@@ -15,10 +15,10 @@ use Rattle.zre_zmtp.specs.declared.fault.ZmtpWhy.{ZmtpWhy}
 use Rattle.zre_zmtp.specs.declared.item.Item.{Item}
 use Rattle.zre_zmtp.specs.declared.item.What.TheVariants.{Message}
 use Rattle.zre_zmtp.specs.declared.expected.Expected.TheVariants as expect
-use Rattle.zre_zmtp.specs.Stream.{Want, Before, once, flags_fault, size_fault, body_fault, frame_why, frame_fault, part_len, item}
-use Rattle.zre_zmtp.specs.Run.{Found, with_item, after, run, run_all}
-use Rattle.zre_zmtp.proofs.Grow.{Headed, IsWhole, is_whole-from, IsWhole-more, frame_len-more, has_header-from}
-use Rattle.zre_zmtp.proofs.Stay.{IsPart, part_len-from, frame_why-whole}
+use Rattle.zre_zmtp.specs.Stream.{Want, Before, once, flags_fault, size_fault, body_fault, frame_why, part_len, item}
+use Rattle.zre_zmtp.specs.Run.{with_item, after, run_all}
+use Rattle.zre_zmtp.proofs.Grow.{IsWhole, is_whole-from, IsWhole-more, frame_len-more}
+use Rattle.zre_zmtp.proofs.Stay.{part_len-from, frame_why-whole}
 use Rattle.zre_zmtp.proofs.Exact.{run_all-some}
 
 -- what a spelled frame is

@@ -1,17 +1,17 @@
 -- A fault stays, and so does a whole part, whatever comes behind it.
-use Rattle.std.proofs.Common.{◌≡◌, ◌≢◌, ℕ, zero, suc, ◌+◌, ◌-◌, ◌≤◌, ◌<◌, Bool, true, false, cond, not, ◌&&◌, leb, ltb, List, [], ◌∷◌, ◌++◌, length, take, drop, get_or, Option, Some, None, refl, sym, ap, subst, ◌∙◌, arith, inl, inr, option_map, is_some}
+use Rattle.std.proofs.Common.{◌≡◌, ℕ, ◌+◌, ◌-◌, ◌≤◌, ◌<◌, Bool, true, false, cond, leb, List, [], ◌∷◌, ◌++◌, length, take, Option, Some, None, refl, sym, ap, subst, ◌∙◌, arith, inl, inr, option_map, is_some}
 use Rattle.std.specs.Option.{option_or}
-use Rattle.std.proofs.lemmas.Bool.{cases_Bool, and_parts, and_from, leb-true, leb-false, le-leb, lt-leb, both_ways, and_left, and_right, cases_lt, true≢false}
-use Rattle.std.proofs.lemmas.List.{length-append, length-take, length-drop, take-append-le, drop-append-le, append-nil, take_all}
-use Rattle.std.proofs.lemmas.Option.{cond_some, none-some, same_Some}
+use Rattle.std.proofs.lemmas.Bool.{leb-true, le-leb, and_left, cases_lt}
+use Rattle.std.proofs.lemmas.List.{length-append, take-append-le, append-nil, take_all}
+use Rattle.std.proofs.lemmas.Option.{cond_some, none-some}
 use Rattle.std.proofs.Math.Seq.{take-append-add}
-use Rattle.zre_zmtp.specs.Frame.{flags, header_len, has_header, size, frame_len, is_whole, body, is_long}
+use Rattle.zre_zmtp.specs.Frame.{flags, has_header, size, frame_len, is_whole, body, is_long}
 use Rattle.zre_zmtp.specs.declared.fault.ZmtpWhy.{ZmtpWhy}
 use Rattle.zre_zmtp.specs.declared.fault.ZmtpFault.{ZmtpFault}
 use Rattle.zre_zmtp.specs.declared.expected.Expected.{Expected}
 use Rattle.zre_zmtp.specs.declared.expected.Expected.TheVariants as expect
-use Rattle.zre_zmtp.specs.Stream.{Want, Before, once, flags_fault, size_fault, body_fault, frame_why, frame_fault, fault_of, fault_at, greeting_fault, octet_fault, whole_len, part_len}
-use Rattle.zre_zmtp.proofs.Grow.{flags-more, Headed, headed, has_header-from, Headed-more, size-more, frame_len-more, IsWhole, whole, is_whole-from, IsWhole-more, body-more}
+use Rattle.zre_zmtp.specs.Stream.{Want, Before, once, flags_fault, size_fault, body_fault, frame_why, frame_fault, fault_of, fault_at, greeting_fault, whole_len, part_len}
+use Rattle.zre_zmtp.proofs.Grow.{flags-more, headed, has_header-from, Headed-more, size-more, frame_len-more, IsWhole, whole, is_whole-from, IsWhole-more, body-more}
 
 -- ---- one test, and those behind it
 

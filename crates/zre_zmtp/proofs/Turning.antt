@@ -1,11 +1,11 @@
 -- The turns of a reader.
-use Rattle.std.proofs.Common.{◌≡◌, ◌≢◌, ℕ, zero, suc, ◌+◌, ◌≤◌, ◌<◌, Bool, true, false, cond, List, [], ◌∷◌, ◌++◌, length, take, drop, Option, Some, None, refl, sym, ap, subst, ◌∙◌, arith, inl, inr, append_assoc, is_some, option_map}
+use Rattle.std.proofs.Common.{◌≡◌, ℕ, zero, suc, ◌+◌, ◌≤◌, ◌<◌, Bool, true, false, cond, List, [], ◌∷◌, ◌++◌, length, take, drop, Option, Some, None, refl, sym, ap, subst, ◌∙◌, arith, inl, inr, append_assoc, is_some, option_map}
 use Rattle.std.specs.Prelude.{option_to_list, nat_le, if◌then◌else◌}
 use Rattle.std.specs.Option.{option_or}
 use Rattle.std.proofs.lemmas.Bool.{leb-false, le-leb, lt-leb}
 use Rattle.zre_zmtp.specs.declared.fault.ZmtpWhy.{ZmtpWhy}
 use Rattle.zre_zmtp.specs.declared.header.Header.{Header}
-use Rattle.std.proofs.lemmas.List.{length-append, take-append-le, drop-append-le, append-nil, take_all, drop_all, take-append-drop}
+use Rattle.std.proofs.lemmas.List.{length-append, take-append-le, drop-append-le, append-nil, take_all, drop_all}
 use Rattle.std.proofs.lemmas.Option.{none-some}
 use Rattle.zre_zmtp.specs.declared.fault.ZmtpFault.{ZmtpFault}
 use Rattle.zre_zmtp.specs.declared.fault.FeedFault.{FeedFault}
@@ -15,7 +15,7 @@ use Rattle.zre_zmtp.specs.declared.expected.Expected.{Expected}
 use Rattle.zre_zmtp.specs.declared.expected.Expected.TheVariants as expect
 use Rattle.zre_zmtp.specs.Stream.{Want, Before, item, part_len, whole_len, fault_of, fault_at, frame_why, greeting_fault, octet_fault, body_fault}
 use Rattle.zre_zmtp.specs.Run.{after, Found, with_item, run, run_all}
-use Rattle.zre_zmtp.specs.Reading.{ReadsAll, Refuses}
+use Rattle.zre_zmtp.specs.Reading.{Refuses}
 use Rattle.zre_zmtp.specs.Shown.{Waits, Advances, GoesOn, frame_item, frame_after}
 use Rattle.zre_zmtp.proofs.Stay.{part_len-from, part_len-stays, part_len-bounds, fault_of-stays}
 use Rattle.zre_zmtp.proofs.Cuts.{cases_Option, run-none, run-some, shorter, not_empty}

@@ -1,10 +1,10 @@
 -- What contracts see of a reader, and of which octets it is the reader.
-use Rattle.std.specs.Prelude.{◌≡◌, ℕ, ◌+◌, Bool, false, List, [], ◌++◌, length, drop, Option, Some, None, sum_by}
+use Rattle.std.specs.Prelude.{◌≡◌, ℕ, ◌+◌, Bool, false, List, ◌++◌, length, drop, Option, Some, None, sum_by}
 use Rattle.zre_zmtp.specs.declared.fault.ZmtpFault.{ZmtpFault}
 use Rattle.zre_zmtp.specs.declared.fault.FeedFault.{FeedFault}
 use Rattle.zre_zmtp.specs.declared.fault.FeedFault.TheVariants.{Zmtp, OutOfMemory}
 use Rattle.zre_zmtp.specs.declared.item.Item.{Item}
-use Rattle.zre_zmtp.specs.Stream.{Before, Want, Kind, before, split, items, fault, fault_of}
+use Rattle.zre_zmtp.specs.Stream.{Before, Want, Kind, before, split, items, fault}
 use Rattle.zre_zmtp.specs.Run.{Found}
 
 -- What a reader keeps of the octets so far: what the whole parts tell, and the octets behind them.

@@ -1,9 +1,9 @@
 -- What a reader finds that stands behind some parts of a stream and knows of them only what they tell.
-use Rattle.std.specs.Prelude.{◌≡◌, ℕ, zero, suc, ◌+◌, Bool, ◌==◌, if◌then◌else◌, List, [], ◌∷◌, ◌++◌, length, take, drop, Option, Some, None, option_map, option_to_list, unwrap_or}
+use Rattle.std.specs.Prelude.{ℕ, zero, suc, ◌+◌, ◌==◌, if◌then◌else◌, List, [], ◌++◌, length, take, drop, Option, option_map, option_to_list, unwrap_or}
 use Rattle.zre_zmtp.specs.declared.item.Item.{Item}
 use Rattle.zre_zmtp.specs.declared.expected.Expected.{Expected}
 use Rattle.zre_zmtp.specs.declared.expected.Expected.TheVariants as expect
-use Rattle.zre_zmtp.specs.Stream.{Want, Before, Kind, Parts, before, opened_with, part_len, item}
+use Rattle.zre_zmtp.specs.Stream.{Want, Before, opened_with, part_len, item}
 
 -- what comes behind the next part
 abbrev pub next_expected : Expected → Expected

@@ -2,9 +2,7 @@
 use Rattle.std.specs.Prelude.{◌≡◌, ℕ, ◌+◌, ◌-◌, ◌==◌, if◌then◌else◌, nat_le, List, ◌++◌, length, Option, Some, None, option_map}
 use Rattle.std.specs.Option.{option_or}
 use Rattle.zre_zmtp.specs.declared.fault.ZmtpWhy.{ZmtpWhy}
-use Rattle.zre_zmtp.specs.declared.fault.ZmtpFault.{ZmtpFault}
 use Rattle.zre_zmtp.specs.declared.progress.Progress.{Progress}
-use Rattle.zre_zmtp.specs.declared.partial.Partial.{Partial}
 use Rattle.zre_zmtp.specs.declared.header.Header.{Header}
 use Rattle.zre_zmtp.specs.declared.expected.Expected.{Expected}
 use Rattle.zre_zmtp.specs.declared.expected.Expected.TheVariants as expect
@@ -12,7 +10,8 @@ use Rattle.zre_zmtp.specs.declared.item.Item.{Item}
 use Rattle.zre_zmtp.specs.Frame.{flags, size, has_header}
 use Rattle.zre_zmtp.specs.Stream.{Want, Before, once, flags_fault, size_fault, fault_of, whole_len, said, start_of, opened_by}
 use Rattle.zre_zmtp.specs.Run.{Found, run_all}
-use Rattle.zre_zmtp.specs.Reading.{ReadsAll}
+use Rattle.zre_zmtp.specs.declared.fault.FeedFault.{FeedFault}
+use Rattle.zre_zmtp.specs.Reading.{ReadsAll, Refuses}
 
 -- what the whole parts of a reader tell
 abbrev pub before_of : Progress → Before
@@ -53,6 +52,12 @@ pub record Waits (want : Want) (b : Before) (o : List ℕ) : Type 0 where
 pub record Advances (want : Want) (b : Before) (o : List ℕ) (old new : List Item) (now : Before) (behind : List ℕ) : Type 0 where
   pub reads : ReadsAll (run_all want b o) old new now behind
   pub faultless : fault_of want now behind ≡ None
+
+-- A refusal names the fault that is in the octets o behind b, and the items in front of it were appended.
+abbrev pub RefusesAt : FeedFault → Want → Before → List ℕ → List Item → List Item → Type 0
+RefusesAt e want b o old new =
+    let found = run_all want b o in
+    Refuses e (fault_of want found.before found.left) (new ≡ old ++ found.given)
 
 -- how many octets the next turn of a reader takes at most: one of a greeting or of a header, and else what is missing of a body
 abbrev pub room : Expected → Option Header → List ℕ → ℕ

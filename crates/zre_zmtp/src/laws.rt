@@ -8,10 +8,13 @@ ghost use Rattle.zre_zmtp.specs.Laws.{AwaitsMessage, IsWithinLimits, ReadsMessag
 
 /// Whatever stream a message within the limits is written behind, it is read as that message.
 pub fn messages_are_read()
-    ensures { (want : WantValue) (kind : Kind) (o : List ℕ) (message : List (List ℕ)) → AwaitsMessage want kind o → IsWithinLimits message → ReadsMessage want kind o message }
+    ensures { (want : WantValue) (kind : Kind) (o : List ℕ) (message : List (List ℕ)) →
+        AwaitsMessage want kind o → IsWithinLimits message → ReadsMessage want kind o message }
 {}
 
 /// The greeting and READY of a node are read as what they say, where READY is the one that is wanted.
 pub fn handshakes_are_read()
-    ensures { (want : WantValue) (kind : SocketType) (identity : Option PeerId) → IfSome identity (λ id. length id.0 ≡ 16) → IsWanted want kind identity → ReadsHandshake want kind identity }
+    ensures { (want : WantValue) (kind : SocketType) (identity : Option PeerId) →
+        IfSome identity (λ id. length id.0 ≡ 16) → IsWanted want kind identity →
+        ReadsHandshake want kind identity }
 {}

@@ -3,9 +3,8 @@
 ghost use Rattle.std.specs.Prelude.{◌≡◌, ℕ, ◌+◌, ◌-◌, ◌^◌, ◌≤◌, ◌↔◌, min, false, List, [], ◌++◌, length, OnOk, IfErr, IsErr, IsTrue};
 ghost use Rattle.std.specs.List.{concat};
 ghost use Rattle.zre_values.specs.declared.limits.TheConstants.{MESSAGE_OCTETS, COMMAND_OCTETS};
-ghost use Rattle.zre_zmtp.specs.Stream.{Want as WantValue, Any, Kind, Whole as whole_kind, Traffic as traffic_kind, fault, fault_of, IsAtRest};
-ghost use Rattle.zre_zmtp.specs.Run.{run_all};
-ghost use Rattle.zre_zmtp.specs.Shown.{before_of, left_of, Waits, Advances};
+ghost use Rattle.zre_zmtp.specs.Stream.{Want as WantValue, Any, Kind, Whole as whole_kind, Traffic as traffic_kind, fault, IsAtRest};
+ghost use Rattle.zre_zmtp.specs.Shown.{before_of, left_of, Waits, Advances, RefusesAt};
 ghost use Rattle.zre_zmtp.specs.Reading.{Reads, Refuses, Adds, IsOver, kept};
 
 use crate::expected::Expected;
@@ -29,9 +28,11 @@ fn read(
     out: &mut Items,
 ) -> Result<(), FeedFault>
     ensures ok { Waits want.now (before_of progress.old) (left_of progress.old) →
-        OnOk result (Advances want.now (before_of progress.old) (left_of progress.old ++ octets.now) out.old out.new (before_of progress.new) (left_of progress.new)) }
+        OnOk result (Advances want.now (before_of progress.old) (left_of progress.old ++ octets.now) out.old out.new
+        (before_of progress.new) (left_of progress.new)) }
     ensures refused { Waits want.now (before_of progress.old) (left_of progress.old) →
-        IfErr result (λ e. let found = run_all want.now (before_of progress.old) (left_of progress.old ++ octets.now) in Refuses e (fault_of want.now found.before found.left) (out.new ≡ out.old ++ found.given)) }
+        IfErr result (λ e.
+        RefusesAt e want.now (before_of progress.old) (left_of progress.old ++ octets.now) out.old out.new) }
 {
     let mut rest = octets;
     while !rest.is_empty() {
@@ -59,7 +60,12 @@ impl Model for Reader {
 
     ghost Value = { Reading };
 
-    ghost view = { λ r. record { before = before_of r.progress; left = left_of r.progress; spent = r.spent; wanted = r.want } };
+    ghost view = { λ r. record {
+      before = before_of r.progress;
+      left = left_of r.progress;
+      spent = r.spent;
+      wanted = r.want;
+    } };
 }
 
 impl Reader {
@@ -90,9 +96,11 @@ impl Reader {
     pub fn feed(&mut self, piece: &[u8], out: &mut Items) -> Result<(), FeedFault>
         requires { self.old.spent ≡ false }
         ensures ok { (want : WantValue) (kind : Kind) (o : List ℕ) → Reads want kind o self.old →
-            OnOk result (Reads want kind (o ++ piece.now) self.new × Adds want kind o piece.now out.old out.new) }
+            OnOk result (Reads want kind (o ++ piece.now) self.new
+            × Adds want kind o piece.now out.old out.new) }
         ensures refused { (want : WantValue) (kind : Kind) (o : List ℕ) → Reads want kind o self.old →
-            IfErr result (λ e. Refuses e (fault want kind (o ++ piece.now)) (Adds want kind o piece.now out.old out.new × IsOver want kind (o ++ piece.now))) }
+            IfErr result (λ e. Refuses e (fault want kind (o ++ piece.now))
+            (Adds want kind o piece.now out.old out.new × IsOver want kind (o ++ piece.now))) }
         ensures spent { IsTrue self.new.spent ↔ IsErr result }
     {
         self.spent = true;
@@ -106,9 +114,12 @@ impl Reader {
     pub fn feed_pieces(&mut self, pieces: &Frames, out: &mut Items) -> Result<(), FeedFault>
         requires { self.old.spent ≡ false }
         ensures ok { (want : WantValue) (kind : Kind) (o : List ℕ) → Reads want kind o self.old →
-            OnOk result (Reads want kind (o ++ concat pieces.now) self.new × Adds want kind o (concat pieces.now) out.old out.new) }
+            OnOk result (Reads want kind (o ++ concat pieces.now) self.new
+            × Adds want kind o (concat pieces.now) out.old out.new) }
         ensures refused { (want : WantValue) (kind : Kind) (o : List ℕ) → Reads want kind o self.old →
-            IfErr result (λ e. Refuses e (fault want kind (o ++ concat pieces.now)) (Adds want kind o (concat pieces.now) out.old out.new × IsOver want kind (o ++ concat pieces.now))) }
+            IfErr result (λ e. Refuses e (fault want kind (o ++ concat pieces.now))
+            (Adds want kind o (concat pieces.now) out.old out.new
+            × IsOver want kind (o ++ concat pieces.now))) }
         ensures spent { IsTrue self.new.spent ↔ IsErr result }
     {
         for piece in pieces.as_slice() {
@@ -119,7 +130,8 @@ impl Reader {
 
     /// Whether no message is unfinished, and no octet stands behind the last item.
     pub fn at_rest(&self) -> bool
-        ensures { (want : WantValue) (kind : Kind) (o : List ℕ) → Reads want kind o self.now → (IsTrue result ↔ IsAtRest want kind o) }
+        ensures { (want : WantValue) (kind : Kind) (o : List ℕ) → Reads want kind o self.now →
+            (IsTrue result ↔ IsAtRest want kind o) }
     {
         self.left_len() == 0 && self.progress.opened.len() == 0
     }
@@ -133,7 +145,8 @@ impl Reader {
 
     /// How many octets are kept: those of the bodies of an unfinished message, and those of an unfinished greeting or frame.
     pub fn kept(&self) -> u64
-        ensures { (want : WantValue) (kind : Kind) (o : List ℕ) → Reads want kind o self.now → (result ≡ kept self.now) × (result ≤ MESSAGE_OCTETS + 9 + COMMAND_OCTETS) }
+        ensures { (want : WantValue) (kind : Kind) (o : List ℕ) → Reads want kind o self.now →
+            (result ≡ kept self.now) × (result ≤ MESSAGE_OCTETS + 9 + COMMAND_OCTETS) }
     {
         let bodies = self.progress.opened.octets();
         bodies.saturating_add(self.left_len())
@@ -152,7 +165,12 @@ impl Reader {
     }
 
     fn expecting(alloc: Global, want: Want, expected: Expected) -> Self
-        ensures { result ≡ record { before = record { expected = expected; place = 0; opened = []; start = 0 }; left = []; spent = false; wanted = want } }
+        ensures { result ≡ record {
+          before = record { expected = expected; place = 0; opened = []; start = 0 };
+          left = [];
+          spent = false;
+          wanted = want;
+        } }
     {
         Reader {
             alloc,

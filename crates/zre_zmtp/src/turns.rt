@@ -2,9 +2,9 @@
 
 ghost use Rattle.std.specs.Prelude.{◌≡◌, ℕ, ◌+◌, ◌≤◌, ◌<◌, ◌≢◌, List, [], ◌∷◌, ◌++◌, length, IfOk, IfSome, OnOk, IfErr, Some, None, option_map, option_copied, option_to_list};
 ghost use Rattle.zre_zmtp.specs.Frame.{header_of, header_len as header_len_of};
-ghost use Rattle.zre_zmtp.specs.Stream.{Want as WantValue, said as said_by, opened_by, body_fault, fault_of, item as item_of};
-ghost use Rattle.zre_zmtp.specs.Run.{run_all, after as after_of};
-ghost use Rattle.zre_zmtp.specs.Shown.{before_of, left_of, frame_item, frame_after, header_fault, Waits, Advances, room as room_of};
+ghost use Rattle.zre_zmtp.specs.Stream.{Want as WantValue, said as said_by, opened_by, body_fault, item as item_of};
+ghost use Rattle.zre_zmtp.specs.Run.{after as after_of};
+ghost use Rattle.zre_zmtp.specs.Shown.{before_of, left_of, frame_item, frame_after, header_fault, Waits, Advances, RefusesAt, room as room_of};
 ghost use Rattle.zre_zmtp.specs.Reading.{Refuses};
 
 use crate::command::{command_fault, identity, name, socket_type};
@@ -22,7 +22,8 @@ use zre_values::{Octets, OutOfMemory};
 
 /// How many octets the next turn takes at most.
 pub fn room(progress: &Progress) -> u64
-    ensures exact { result ≡ room_of progress.now.expected progress.now.partial.header progress.now.partial.body }
+    ensures exact { result
+        ≡ room_of progress.now.expected progress.now.partial.header progress.now.partial.body }
     ensures some { 1 ≤ result }
 {
     match (progress.expected, progress.partial.header) {
@@ -48,8 +49,10 @@ fn said(
     body: Octets,
 ) -> Result<Option<What>, OutOfMemory>
     requires { progress.old.expected ≢ Expected.Greeting }
-    ensures says { IfOk result (λ what. what ≡ said_by progress.old.expected progress.old.opened header.flags header.size body) }
-    ensures opened { OnOk result (progress.new.opened ≡ opened_by progress.old.expected progress.old.opened header.flags body) }
+    ensures says { IfOk result (λ what.
+        what ≡ said_by progress.old.expected progress.old.opened header.flags header.size body) }
+    ensures opened { OnOk result
+        (progress.new.opened ≡ opened_by progress.old.expected progress.old.opened header.flags body) }
     ensures rest { progress.new ≡ record progress.old { opened = progress.new.opened } }
 {
     if progress.expected == Expected::Ready {
@@ -83,11 +86,17 @@ fn finish_frame(
     body: Octets,
 ) -> Result<Option<Item>, FeedFault>
     requires { progress.old.expected ≢ Expected.Greeting }
-    ensures says { IfOk result (λ item. item ≡ frame_item (before_of progress.old) header body (header_len + length body)) }
-    ensures after { OnOk result (before_of progress.new ≡ frame_after (before_of progress.old) header body (header_len + length body)) }
+    ensures says { IfOk result (λ item.
+        item ≡ frame_item (before_of progress.old) header body (header_len + length body)) }
+    ensures after { OnOk result
+        (before_of progress.new ≡ frame_after (before_of progress.old) header body (header_len + length body)) }
     ensures partial { OnOk result (progress.new.partial ≡ progress.old.partial) }
-    ensures faultless { OnOk result (body_fault want.now (before_of progress.old) header.flags body ≡ None) }
-    ensures refused { IfErr result (λ e. Refuses e (option_map (λ why. record { why = why; place = progress.old.place }) (body_fault want.now (before_of progress.old) header.flags body)) (Unit {0})) }
+    ensures faultless { OnOk result
+        (body_fault want.now (before_of progress.old) header.flags body ≡ None) }
+    ensures refused { IfErr result (λ e. Refuses e
+        (option_map (λ why. record { why = why; place = progress.old.place })
+        (body_fault want.now (before_of progress.old) header.flags body))
+        (Unit {0})) }
 {
     if let Some(why) = fault_of_body(want, progress, header.flags, body.as_slice()) {
         let place = progress.place;
@@ -144,9 +153,11 @@ fn take_frame(
     requires within { length head ≤ header_len_of head }
     requires whole { length body ≡ header.size }
     ensures ok { header_fault (before_of progress.old) head ≡ None →
-        OnOk result (Advances want.now (before_of progress.old) (head ++ body) out.old out.new (before_of progress.new) (left_of progress.new)) }
+        OnOk result (Advances want.now (before_of progress.old) (head ++ body) out.old out.new
+        (before_of progress.new) (left_of progress.new)) }
     ensures refused { header_fault (before_of progress.old) head ≡ None →
-        IfErr result (λ e. let found = run_all want.now (before_of progress.old) (head ++ body) in Refuses e (fault_of want.now found.before found.left) (out.new ≡ out.old ++ found.given)) }
+        IfErr result (λ e.
+        RefusesAt e want.now (before_of progress.old) (head ++ body) out.old out.new) }
 {
     let header_len = head.len();
     head.clear();
@@ -198,9 +209,11 @@ fn take_greeting(
 ) -> Result<(), FeedFault>
     requires { progress.old.expected ≡ Expected.Greeting }
     ensures ok { (want : WantValue) → Waits want (before_of progress.old) (left_of progress.old) →
-        OnOk result (Advances want (before_of progress.old) (left_of progress.old ++ octet ∷ []) out.old out.new (before_of progress.new) (left_of progress.new)) }
+        OnOk result (Advances want (before_of progress.old) (left_of progress.old ++ octet ∷ []) out.old out.new
+        (before_of progress.new) (left_of progress.new)) }
     ensures refused { (want : WantValue) → Waits want (before_of progress.old) (left_of progress.old) →
-        IfErr result (λ e. let found = run_all want (before_of progress.old) (left_of progress.old ++ octet ∷ []) in Refuses e (fault_of want found.before found.left) (out.new ≡ out.old ++ found.given)) }
+        IfErr result (λ e.
+        RefusesAt e want (before_of progress.old) (left_of progress.old ++ octet ∷ []) out.old out.new) }
 {
     let i = progress.greeting.len();
     if let Some(why) = fault_of_octet(i, octet) {
@@ -228,9 +241,11 @@ fn take_header(
     requires frame { progress.old.expected ≢ Expected.Greeting }
     requires header { progress.old.partial.header ≡ None }
     ensures ok { Waits want.now (before_of progress.old) (left_of progress.old) →
-        OnOk result (Advances want.now (before_of progress.old) (left_of progress.old ++ octet ∷ []) out.old out.new (before_of progress.new) (left_of progress.new)) }
+        OnOk result (Advances want.now (before_of progress.old) (left_of progress.old ++ octet ∷ []) out.old out.new
+        (before_of progress.new) (left_of progress.new)) }
     ensures refused { Waits want.now (before_of progress.old) (left_of progress.old) →
-        IfErr result (λ e. let found = run_all want.now (before_of progress.old) (left_of progress.old ++ octet ∷ []) in Refuses e (fault_of want.now found.before found.left) (out.new ≡ out.old ++ found.given)) }
+        IfErr result (λ e.
+        RefusesAt e want.now (before_of progress.old) (left_of progress.old ++ octet ∷ []) out.old out.new) }
 {
     let Partial { mut head, .. } = mem::replace(&mut progress.partial, Partial::new(alloc));
     head.push(octet)?;
@@ -265,9 +280,11 @@ fn take_body(
     requires header { progress.old.partial.header ≡ Some header }
     requires within { length progress.old.partial.body + length octets.now ≤ header.size }
     ensures ok { Waits want.now (before_of progress.old) (left_of progress.old) →
-        OnOk result (Advances want.now (before_of progress.old) (left_of progress.old ++ octets.now) out.old out.new (before_of progress.new) (left_of progress.new)) }
+        OnOk result (Advances want.now (before_of progress.old) (left_of progress.old ++ octets.now) out.old out.new
+        (before_of progress.new) (left_of progress.new)) }
     ensures refused { Waits want.now (before_of progress.old) (left_of progress.old) →
-        IfErr result (λ e. let found = run_all want.now (before_of progress.old) (left_of progress.old ++ octets.now) in Refuses e (fault_of want.now found.before found.left) (out.new ≡ out.old ++ found.given)) }
+        IfErr result (λ e.
+        RefusesAt e want.now (before_of progress.old) (left_of progress.old ++ octets.now) out.old out.new) }
 {
     let Partial { head, mut body, .. } = mem::replace(&mut progress.partial, Partial::new(alloc));
     body.append(octets)?;
@@ -288,11 +305,14 @@ pub fn take(
     out: &mut Items,
 ) -> Result<(), FeedFault>
     requires some { 0 < length octets.now }
-    requires room { length octets.now ≤ room_of progress.old.expected progress.old.partial.header progress.old.partial.body }
+    requires room { length octets.now
+        ≤ room_of progress.old.expected progress.old.partial.header progress.old.partial.body }
     ensures ok { Waits want.now (before_of progress.old) (left_of progress.old) →
-        OnOk result (Advances want.now (before_of progress.old) (left_of progress.old ++ octets.now) out.old out.new (before_of progress.new) (left_of progress.new)) }
+        OnOk result (Advances want.now (before_of progress.old) (left_of progress.old ++ octets.now) out.old out.new
+        (before_of progress.new) (left_of progress.new)) }
     ensures refused { Waits want.now (before_of progress.old) (left_of progress.old) →
-        IfErr result (λ e. let found = run_all want.now (before_of progress.old) (left_of progress.old ++ octets.now) in Refuses e (fault_of want.now found.before found.left) (out.new ≡ out.old ++ found.given)) }
+        IfErr result (λ e.
+        RefusesAt e want.now (before_of progress.old) (left_of progress.old ++ octets.now) out.old out.new) }
 {
     match (progress.expected, progress.partial.header) {
         (Expected::Greeting, _) => take_greeting(alloc, progress, octets[0], out),

@@ -1,4 +1,4 @@
-use Rattle.std.proofs.Common.{◌≡◌, ◌≤◌, ◌<◌, length, sym, arith, false, true, eqb}
+use Rattle.std.proofs.Common.{◌≤◌, ◌<◌, length, sym, arith}
 use Rattle.std.specs.Option.{option_copied}
 use Rattle.std.proofs.lemmas.Bool.{eqb-false, eqb-true}
 use Rattle.zre_zmtp.proofs.Properties.{value-stops, value-goes_on, value-ends}

@@ -1,8 +1,7 @@
-use Rattle.std.proofs.Common.{◌≡◌, ◌++◌, [], length, sym, ap, ◌∙◌, refl}
+use Rattle.std.proofs.Common.{◌≡◌, ◌++◌, [], sym, ap, ◌∙◌, refl}
 use Rattle.std.specs.Prelude.{option_to_list}
 use Rattle.std.proofs.lemmas.List.{append-nil}
 use Rattle.std.proofs.lemmas.Result.{err_from_is_err_and}
-use Rattle.zre_zmtp.specs.declared.item.Item.{Item}
 use Rattle.zre_zmtp.specs.declared.partial.Partial.{Partial}
 use Rattle.zre_zmtp.specs.Stream.{Before}
 use Rattle.zre_zmtp.specs.Shown.{before_of}

@@ -1,6 +1,5 @@
-use Rattle.std.proofs.Common.{◌≡◌, ◌<◌, ◌≤◌, ◌∙◌, ◌∷◌, [], ◌++◌, List, ℕ, length, sym, ap, arith, None}
+use Rattle.std.proofs.Common.{◌≡◌, ◌<◌, ◌≤◌, ◌∙◌, ◌∷◌, [], ◌++◌, List, ℕ, length, sym, ap, arith}
 use Rattle.zre_zmtp.specs.Shown.{before_of, left_of}
-use Rattle.zre_zmtp.specs.Stream.{octet_fault}
 use Rattle.zre_zmtp.proofs.Framed.{left-greeting}
 use Rattle.zre_zmtp.proofs.Turning.{greeting_refused, greeting_waits, greeting_whole}
 use Rattle.zre_zmtp.proofs.turns.take_greeting.Goals as goal

@@ -1,9 +1,9 @@
-use Rattle.std.proofs.Common.{◌≡◌, ◌<◌, ◌≤◌, ◌∷◌, [], ◌++◌, List, ℕ, length, Some, None, refl, sym, ap, subst, ◌∙◌, arith}
+use Rattle.std.proofs.Common.{◌≡◌, ◌∷◌, [], ◌++◌, List, ℕ, length, Some, None, refl, sym, ap, ◌∙◌, arith}
 use Rattle.std.proofs.lemmas.List.{append-nil}
 use Rattle.std.proofs.lemmas.Option.{same_Some}
 use Rattle.zre_zmtp.specs.declared.header.Header.{Header}
 use Rattle.zre_zmtp.specs.declared.partial.Partial.{Partial}
-use Rattle.zre_zmtp.specs.Frame.{header_of, header_len}
+use Rattle.zre_zmtp.specs.Frame.{header_of}
 use Rattle.zre_zmtp.specs.Shown.{before_of, left_of, header_fault}
 use Rattle.zre_zmtp.proofs.Framed.{left-frame, header-within, header-refused, waits-no_header, waits-header}
 use Rattle.zre_zmtp.proofs.Turning.{turn_waits, turn_refused}
