@@ -1,14 +1,14 @@
 -- The one spelling of a message is read as that message.
-use Rattle.std.proofs.Common.{◌≡◌, ℕ, zero, suc, ◌+◌, ◌^◌, ◌<◌, ◌≤◌, Bool, true, false, cond, not, ◌&&◌, ◌⊎◌, ltb, eqb, List, [], ◌∷◌, ◌++◌, length, take, drop, get_or, Option, Some, None, Result, Ok, Err, refl, sym, ap, subst, ◌∙◌, append_assoc, arith, inl, inr}
-use Rattle.std.specs.Int.{w16, w32, from_be_bytes, to_be_bytes}
-use Rattle.std.proofs.lemmas.Bool.{ltb-false, le-ltb, ne_eqb, and_right, and_left}
+use Rattle.std.proofs.Common.{◌≡◌, ℕ, ◌^◌, ◌<◌, ◌≤◌, Bool, false, ◌&&◌, ◌⊎◌, ltb, eqb, List, [], ◌∷◌, ◌++◌, length, take, drop, get_or, Option, Some, None, Ok, refl, sym, ap, ◌∙◌, arith, inl, inr}
+use Rattle.std.specs.Int.{w16, from_be_bytes}
+use Rattle.std.proofs.lemmas.Bool.{le-ltb, ne_eqb, and_right}
 use Rattle.std.proofs.lemmas.List.{length-append}
 use Rattle.std.proofs.lemmas.Nat.{from_be_bytes-to_be_bytes_2}
 use Rattle.zre_msg.specs.declared.message.Bad.{Bad}
 use Rattle.zre_msg.specs.declared.message.Message.{Message}
 use Rattle.zre_msg.specs.declared.message.Body.{Body}
 use Rattle.zre_msg.specs.declared.message.Body.TheVariants.{Hello, Whisper, Shout, Join, Leave, Ping, PingOk, Other}
-use Rattle.zre_msg.specs.Spelling.{number_of, fields, further, head, spell, FitsString, FitsBody, FitsHello, Fits, Means}
+use Rattle.zre_msg.specs.Spelling.{number_of, fields, further, head, spell, FitsBody, Fits, Means}
 use Rattle.zre_msg.specs.Reading.{body_at, command_of, read_of, read_frames, bad, unless, is_single, is_other}
 use Rattle.zre_msg.proofs.Again.{hello_again, join_again, leave_again, shout_again}
 

@@ -1,11 +1,10 @@
 -- The clauses of a read, from the two laws.
-use Rattle.std.proofs.Common.{◌≡◌, ℕ, ◌^◌, ◌<◌, ◌≤◌, ◌+◌, List, [], ◌∷◌, length, drop, get_or, Result, Ok, Err, IfOk, refl, sym, ap, subst, ◌∙◌, arith}
+use Rattle.std.proofs.Common.{ℕ, List, ◌∷◌, Result, Ok, Err, IfOk, subst}
 use Rattle.zre_msg.specs.declared.message.Bad.{Bad}
 use Rattle.zre_msg.specs.declared.message.Message.{Message}
 use Rattle.zre_msg.specs.declared.message.ReadFault.{ReadFault}
-use Rattle.zre_msg.specs.declared.message.ReadFault.TheVariants as read
-use Rattle.zre_msg.specs.Spelling.{Means, spell}
-use Rattle.zre_msg.specs.Reading.{Answers, read_of, read_frames}
+use Rattle.zre_msg.specs.Spelling.{Means}
+use Rattle.zre_msg.specs.Reading.{Answers, read_of}
 use Rattle.zre_msg.proofs.Meaning.{read-means}
 use Rattle.zre_msg.proofs.Takes.{IsBytes, read-takes}
 

@@ -1,19 +1,19 @@
 -- What is read is spelled so.
-use Rattle.std.proofs.Common.{◌≡◌, ℕ, zero, suc, ◌+◌, ◌^◌, ◌<◌, ◌≤◌, Bool, true, false, cond, not, ◌&&◌, ◌||◌, ◌⊎◌, ltb, leb, eqb, List, [], ◌∷◌, ◌++◌, length, take, drop, get_or, Option, Some, None, Result, Ok, Err, refl, sym, ap, subst, ◌∙◌, append_assoc, arith, inl, inr, is_none, is_some}
-use Rattle.std.specs.Prelude.{flat_map, unwrap_or, slice_index_or}
+use Rattle.std.proofs.Common.{◌≡◌, ℕ, zero, suc, ◌+◌, ◌^◌, ◌<◌, ◌≤◌, Bool, true, false, cond, not, ◌&&◌, ◌⊎◌, ltb, eqb, List, [], ◌∷◌, ◌++◌, length, take, drop, get_or, Option, Some, None, Ok, refl, sym, ap, subst, ◌∙◌, append_assoc, arith, inl, inr, is_none}
+use Rattle.std.specs.Prelude.{flat_map, unwrap_or}
 use Rattle.std.specs.List.{All}
 use Rattle.std.proofs.lemmas.List.Elements.{All-nil, All-cons}
 use Rattle.std.specs.Int.{w16, w32, from_be_bytes, to_be_bytes}
-use Rattle.std.proofs.lemmas.Bool.{cases_lt, cases_Bool, ltb-false, ltb-true, le-ltb, eqb-true, eqb-false, and_cases, not-false, cases_eq}
-use Rattle.std.proofs.lemmas.List.{take_at, drop_at, take-append-drop, length-append, length-take, length-drop, get_or-drop, get_or-take, get_or_past, append-nil, nil_from_length, drop_more}
+use Rattle.std.proofs.lemmas.Bool.{cases_lt, ltb-false, eqb-true, eqb-false, and_cases, not-false, cases_eq}
+use Rattle.std.proofs.lemmas.List.{take-append-drop, length-take, length-drop, get_or-drop, get_or-take, get_or_past, append-nil, nil_from_length}
 use Rattle.std.proofs.lemmas.List.Concat.{flat_map-cons}
 use Rattle.std.proofs.lemmas.Nat.{be_bytes_4, be_bytes_2}
 use Rattle.zre_msg.specs.declared.message.Bad.{Bad}
 use Rattle.zre_msg.specs.declared.message.Message.{Message}
 use Rattle.zre_msg.specs.declared.message.Body.{Body}
 use Rattle.zre_msg.specs.declared.message.Body.TheVariants.{Hello, Whisper, Shout, Join, Leave, Ping, PingOk, Other}
-use Rattle.zre_msg.specs.Spelling.{string, long_string, strings, pair, dictionary, number_of, fields, further, head, spell, FitsString, FitsLong, FitsPair, FitsHello, FitsBody, Means}
-use Rattle.zre_msg.specs.Reading.{◌>>=◌, octet_at, count_at, octets_at, string_at, long_string_at, pair_at, each_at, strings_at, dictionary_at, hello_at, join_at, leave_at, shout_at, body_at, command_of, read_of, read_frames, bad_rows, bad_of, first_row, left_over, is_single, is_other, unless, no_command}
+use Rattle.zre_msg.specs.Spelling.{string, long_string, strings, pair, dictionary, number_of, fields, further, head, spell, FitsString, FitsLong, FitsPair, FitsBody, Means}
+use Rattle.zre_msg.specs.Reading.{◌>>=◌, octet_at, count_at, octets_at, string_at, long_string_at, pair_at, each_at, strings_at, dictionary_at, hello_at, join_at, leave_at, shout_at, body_at, command_of, read_of, bad_rows, bad_of, first_row, left_over, is_single, is_other, unless, no_command}
 
 abbrev pub IsBytes : List ℕ → Type 0
 IsBytes bytes = (i : ℕ) → get_or bytes i 0 < 256

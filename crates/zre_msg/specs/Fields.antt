@@ -1,5 +1,5 @@
 -- A field that a function read, against the field that is there.
-use Rattle.std.specs.Prelude.{◌≡◌, List, Option, Some, None, Result, Ok, Err, drop}
+use Rattle.std.specs.Prelude.{◌≡◌, Option, Some, None, Result, Ok, Err}
 use Rattle.zre_msg.specs.declared.fields.Stop.{Stop}
 use Rattle.zre_msg.specs.declared.fields.Stop.TheVariants as stop
 

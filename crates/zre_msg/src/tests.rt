@@ -2,7 +2,6 @@
 
 use crate::*;
 use std::alloc::{AllocError, Global};
-use std::process::Abort;
 use std::test::Fail;
 use zre_values::{Frames, Octets, OutOfMemory, Pairs};
 
@@ -232,53 +231,59 @@ fn message(alloc: Global, i: usize) -> Result<Message, OutOfMemory> {
     Ok(Message { sequence, body })
 }
 
-fn told(alloc: Global, message: &Message) -> Result<String, AllocError> {
-    format!(in alloc; "{message:?}")
+fn is_told(alloc: Global, read: &Message, wanted: &Message) -> Result<bool, AllocError> {
+    let read = format!(in alloc; "{read:?}")?;
+    let wanted = format!(in alloc; "{wanted:?}")?;
+    Ok(read.as_str() == wanted.as_str())
 }
 
-fn assert_written(
-    rt: &(impl Abort + AllocGlobal),
+fn is_read(alloc: Global, wanted: &Message, bodies: &[&[u8]]) -> Result<bool, AllocError> {
+    let Ok(frames) = frames_of(alloc, bodies) else {
+        return Ok(false);
+    };
+    let Ok(read) = Message::read(alloc, &frames) else {
+        return Ok(false);
+    };
+    let Ok(given) = Message::from_frames(alloc, frames) else {
+        return Ok(false);
+    };
+    Ok(is_told(alloc, &read, wanted)? && is_told(alloc, &given, wanted)?)
+}
+
+fn are_frames(frames: &Frames, bodies: &[&[u8]]) -> bool {
+    frames.len() == bodies.len()
+        && frames
+            .as_slice()
+            .iter()
+            .zip(bodies)
+            .all(|(frame, body)| frame.as_slice() == *body)
+}
+
+fn is_written(
+    alloc: Global,
     message: &Message,
     spelled: &[u8],
     bodies: &[&[u8]],
-) -> Result<(), Fail> {
-    assert!(rt; message.fits());
-    let frames = message.write(rt.alloc())?;
-    assert_eq!(rt; frames.len(), bodies.len());
-    for (frame, body) in frames.as_slice().iter().zip(bodies) {
-        assert_eq!(rt; frame.as_slice(), *body);
+) -> Result<bool, OutOfMemory> {
+    if !message.fits() {
+        return Ok(false);
     }
-    let mut out = octets(rt.alloc(), b">")?;
+    let frames = message.write(alloc)?;
+    let mut out = Octets::new(alloc);
     message.push_to(&mut out)?;
-    let mut wanted = octets(rt.alloc(), b">")?;
-    wanted.append(spelled)?;
-    assert_eq!(rt; out.as_slice(), wanted.as_slice());
-    assert_eq!(rt; message.octets_len(), spelled.len() as u64);
-    Ok(())
-}
-
-fn assert_read(
-    rt: &(impl Abort + AllocGlobal),
-    message: &Message,
-    bodies: &[&[u8]],
-) -> Result<(), Fail> {
-    let wanted = told(rt.alloc(), message)?;
-    let frames = frames_of(rt.alloc(), bodies)?;
-    let read = Message::read(rt.alloc(), &frames).ok().ok_or("not read")?;
-    assert_eq!(rt; told(rt.alloc(), &read)?.as_str(), wanted.as_str());
-    let given = Message::from_frames(rt.alloc(), frames)
-        .ok()
-        .ok_or("not read")?;
-    assert_eq!(rt; told(rt.alloc(), &given)?.as_str(), wanted.as_str());
-    Ok(())
+    Ok(
+        are_frames(&frames, bodies)
+            && out.as_slice() == spelled
+            && message.octets_len() == spelled.len() as u64,
+    )
 }
 
 #[test]
 fn every_command_is_read_and_written(rt: HostRuntime) -> Result<(), Fail> {
     for (i, (spelled, bodies)) in SPELLED.iter().enumerate() {
         let message = message(rt.alloc(), i)?;
-        assert_written(&rt, &message, *spelled, *bodies)?;
-        assert_read(&rt, &message, *bodies)?;
+        assert!(rt; is_written(rt.alloc(), &message, *spelled, *bodies)?, "{i}");
+        assert!(rt; is_read(rt.alloc(), &message, *bodies)?, "{i}");
     }
     Ok(())
 }
@@ -306,6 +311,14 @@ fn every_fault_has_its_place(rt: HostRuntime) -> Result<(), Fail> {
     Ok(())
 }
 
+fn long(alloc: Global) -> Result<Octets, OutOfMemory> {
+    let mut octets = Octets::new(alloc);
+    for _ in 0..256 {
+        octets.push(b'x')?;
+    }
+    Ok(octets)
+}
+
 fn whisper(alloc: Global, count: usize, body: &[u8]) -> Result<Message, OutOfMemory> {
     let mut content = Frames::new(alloc);
     for _ in 0..count {
@@ -317,26 +330,33 @@ fn whisper(alloc: Global, count: usize, body: &[u8]) -> Result<Message, OutOfMem
     })
 }
 
-// A frame of 256 octets is long, a string of 256 octets has no length, and 1,025 frames are too many.
+// A frame of 256 octets is long, and has eight octets of size.
 #[test]
-fn sizes_and_limits(rt: HostRuntime) -> Result<(), Fail> {
-    let long = [b'x'; 256];
-    let message = whisper(rt.alloc(), 1, &long)?;
+fn long_frames_are_long(rt: HostRuntime) -> Result<(), Fail> {
+    let message = whisper(rt.alloc(), 1, long(rt.alloc())?.as_slice())?;
     assert_eq!(rt; message.octets_len(), 8 + 9 + 256);
-    let mut out = Octets::new(rt.alloc());
     assert!(rt; message.fits());
+    let mut out = Octets::new(rt.alloc());
     message.push_to(&mut out)?;
     assert!(rt;
         out.as_slice().starts_with(
             b"\x01\x06\xaa\xa1\x02\x02\x00\x09\x02\x00\x00\x00\x00\x00\x00\x01\x00xx"
         )
     );
+    Ok(())
+}
+
+// A string of 256 octets has no length, and 1,025 frames are too many.
+#[test]
+fn limits_are_kept(rt: HostRuntime) -> Result<(), Fail> {
     assert!(rt; !whisper(rt.alloc(), 1023, b"")?.is_big());
     assert!(rt; whisper(rt.alloc(), 1024, b"")?.is_big());
-    let group = octets(rt.alloc(), &long)?;
     let join = Message {
         sequence: 9,
-        body: Body::Join { group, status: 0 },
+        body: Body::Join {
+            group: long(rt.alloc())?,
+            status: 0,
+        },
     };
     assert!(rt; !join.fits());
     Ok(())

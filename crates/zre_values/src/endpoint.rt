@@ -1,6 +1,7 @@
 //! Addresses and endpoints in their texts.
 
-ghost use Rattle.std.specs.Prelude.{◌≡◌, ℕ, ◌<◌, ◌^◌, ◌==◌, ◌∷◌, ◌++◌, [], List, false, codes, decimal, IfOk, IfSome, IsSomeAnd, OnOk, Some, position};
+ghost use Rattle.std.specs.Prelude.{◌≡◌, ℕ, ◌<◌, ◌^◌, ◌==◌, ◌∷◌, ◌++◌, [], List, false, codes, decimal};
+ghost use Rattle.std.specs.Prelude.{IfOk, IfSome, IsSomeAnd, OnOk, Some, position};
 ghost use Rattle.std.specs.List.{list_any};
 ghost use Rattle.zre_values.specs.Address.{address_text, IsAddress};
 
@@ -23,7 +24,8 @@ fn place_of(text: &[u8], octet: u8) -> Option<usize>
 // What stands before and behind the first of these octets.
 fn split_once(text: &[u8], octet: u8) -> Option<(&[u8], &[u8])>
     ensures value { IfSome result (λ parts. text.now ≡ parts.0.now ++ (octet ∷ parts.1.now)) }
-    ensures back { (x y : List ℕ) → list_any (λ b. b == octet) x ≡ false → text.now ≡ x ++ (octet ∷ y) → IsSomeAnd result (λ parts. (parts.0.now ≡ x) × (parts.1.now ≡ y)) }
+    ensures back { (x y : List ℕ) → list_any (λ b. b == octet) x ≡ false → text.now ≡ x ++ (octet ∷ y)
+        → IsSomeAnd result (λ parts. (parts.0.now ≡ x) × (parts.1.now ≡ y)) }
 {
     let i = place_of(text, octet)?;
     let (front, rest) = text.split_at(i);
@@ -41,7 +43,8 @@ fn read_octet(text: &[u8]) -> Option<u8>
 // A number before the first dot, and what stands behind that.
 fn octet_before_dot(text: &[u8]) -> Option<(u8, &[u8])>
     ensures value { IfSome result (λ x. text.now ≡ decimal x.0 ++ (46 ∷ x.1.now)) }
-    ensures back { (n : ℕ) (y : List ℕ) → n < 2 ^ 8 → text.now ≡ decimal n ++ (46 ∷ y) → IsSomeAnd result (λ x. (x.0 ≡ n) × (x.1.now ≡ y)) }
+    ensures back { (n : ℕ) (y : List ℕ) → n < 2 ^ 8 → text.now ≡ decimal n ++ (46 ∷ y)
+        → IsSomeAnd result (λ x. (x.0 ≡ n) × (x.1.now ≡ y)) }
 {
     let (front, rest) = split_once(text, b'.')?;
     Some((read_octet(front)?, rest))
@@ -50,7 +53,8 @@ fn octet_before_dot(text: &[u8]) -> Option<(u8, &[u8])>
 /// Reads an address `a.b.c.d`: four numbers from 0 to 255 in decimal, without leading zeros.
 pub fn read_address(text: &[u8]) -> Option<[u8; 4]>
     ensures value { IfSome result (λ addr. text.now ≡ address_text addr) }
-    ensures back { (addr : List ℕ) → IsAddress addr → text.now ≡ address_text addr → IsSomeAnd result (λ read. read ≡ addr) }
+    ensures back { (addr : List ℕ) → IsAddress addr → text.now ≡ address_text addr
+        → IsSomeAnd result (λ read. read ≡ addr) }
 {
     let (a, rest) = octet_before_dot(text)?;
     let (b, rest) = octet_before_dot(rest)?;
@@ -104,7 +108,8 @@ impl Endpoint {
     /// Reads `tcp://a.b.c.d:port`: the numbers in decimal without leading zeros, the port from 1 to 65,535.
     pub fn read(text: &[u8]) -> Option<Endpoint>
         ensures value { IfSome result (λ endpoint. (text.now ≡ endpoint_text endpoint) × (0 < endpoint.port)) }
-        ensures back { (endpoint : Endpoint) → IsEndpoint endpoint → text.now ≡ endpoint_text endpoint → result ≡ Some endpoint }
+        ensures back { (endpoint : Endpoint) → IsEndpoint endpoint → text.now ≡ endpoint_text endpoint
+            → result ≡ Some endpoint }
     {
         let rest = behind_scheme(text)?;
         let (addr, port) = split_once(rest, b':')?;
@@ -116,7 +121,9 @@ impl Endpoint {
     /// The text that [`Endpoint::read`] reads.
     pub fn write(self, alloc: Global) -> Result<Octets, OutOfMemory>
         requires { 0 < self.port }
-        ensures { IfOk result (λ text. text ≡ endpoint_text self) }
+        ensures value { IfOk result (λ text. text ≡ endpoint_text self) }
+        // So it is read back from this text.
+        ensures again { IsEndpoint self }
     {
         let mut text = Octets::copy(alloc, b"tcp://")?;
         push_address(&mut text, self.addr)?;

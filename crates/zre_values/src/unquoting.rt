@@ -31,7 +31,8 @@ fn escaped(high: u8, low: u8) -> Option<u8>
 // The octet whose two digits stand at the front, behind a `%`.
 fn octet_behind(text: &[u8]) -> Option<(u8, &[u8])>
     ensures value { IfSome result (λ x. 37 ∷ text.now ≡ quoted_octet x.0 ++ x.1.now) }
-    ensures back { (b : ℕ) (y : List ℕ) → b < 2 ^ 8 → 37 ∷ text.now ≡ quoted_octet b ++ y → IsSomeAnd result (λ x. (x.0 ≡ b) × (x.1.now ≡ y)) }
+    ensures back { (b : ℕ) (y : List ℕ) → b < 2 ^ 8 → 37 ∷ text.now ≡ quoted_octet b ++ y
+        → IsSomeAnd result (λ x. (x.0 ≡ b) × (x.1.now ≡ y)) }
 {
     let [high, low, ..] = text else { return None };
     let octet = escaped(*high, *low)?;
@@ -44,7 +45,8 @@ fn octet_at(text: &[u8]) -> Option<(u8, &[u8])>
     ensures octet { IfSome result (λ x. x.0 < 2 ^ 8) }
     ensures value { IfSome result (λ x. text.now ≡ quoted_octet x.0 ++ x.1.now) }
     ensures shorter { IfSome result (λ x. length x.1.now < length text.now) }
-    ensures back { (b : ℕ) (y : List ℕ) → b < 2 ^ 8 → text.now ≡ quoted_octet b ++ y → IsSomeAnd result (λ x. (x.0 ≡ b) × (x.1.now ≡ y)) }
+    ensures back { (b : ℕ) (y : List ℕ) → b < 2 ^ 8 → text.now ≡ quoted_octet b ++ y
+        → IsSomeAnd result (λ x. (x.0 ≡ b) × (x.1.now ≡ y)) }
 {
     let (first, rest) = text.split_first()?;
     if *first == b'%' {
@@ -60,7 +62,8 @@ fn octet_at(text: &[u8]) -> Option<(u8, &[u8])>
 // Octets whose quoted texts stand one behind the other.
 fn unquote_octets(alloc: Global, text: &[u8]) -> Result<Option<Octets>, OutOfMemory>
     ensures value { IfOk result (λ found. IfSome found (λ octets. text.now ≡ flat_map quoted_octet octets)) }
-    ensures back { (v : List ℕ) → All (λ b. b < 2 ^ 8) v → text.now ≡ flat_map quoted_octet v → IfOk result (λ found. found ≡ Some v) }
+    ensures back { (v : List ℕ) → All (λ b. b < 2 ^ 8) v → text.now ≡ flat_map quoted_octet v
+        → IfOk result (λ found. found ≡ Some v) }
 {
     let mut octets = Octets::new(alloc);
     let mut rest = text;
@@ -78,7 +81,8 @@ fn unquote_octets(alloc: Global, text: &[u8]) -> Result<Option<Octets>, OutOfMem
 /// octet has one text alone: `%41`, `%7e` and a bare `=` or `,` are none.
 pub fn unquote(alloc: Global, text: &[u8]) -> Result<Option<Octets>, OutOfMemory>
     ensures value { IfOk result (λ found. IfSome found (λ octets. text.now ≡ quoted octets)) }
-    ensures back { (v : List ℕ) → All (λ b. b < 2 ^ 8) v → text.now ≡ quoted v → IfOk result (λ found. found ≡ Some v) }
+    ensures back { (v : List ℕ) → All (λ b. b < 2 ^ 8) v → text.now ≡ quoted v
+        → IfOk result (λ found. found ≡ Some v) }
 {
     if text.is_empty() {
         return Ok(None);
@@ -116,5 +120,6 @@ pub fn is_quoted(text: &[u8]) -> bool
 /// A law, for callers that compare quoted texts in place of octets: no two lists of octets have the same one.
 #[inline]
 pub fn octets_are_quoted_once()
-    ensures { (u v : List ℕ) → All (λ b. b < 2 ^ 8) u → All (λ b. b < 2 ^ 8) v → quoted u ≡ quoted v → v ≡ u }
+    ensures { (u v : List ℕ) → All (λ b. b < 2 ^ 8) u → All (λ b. b < 2 ^ 8) v
+        → quoted u ≡ quoted v → v ≡ u }
 {}

@@ -1,4 +1,4 @@
-use Rattle.std.proofs.Common.{arith, ◌≡◌, ◌∷◌, ◌++◌, List, ℕ, ap, ◌∙◌, length}
+use Rattle.std.proofs.Common.{arith, ◌∷◌, List, ℕ, ap, ◌∙◌, length}
 use Rattle.std.proofs.lemmas.Grind.{common_steps}
 use Rattle.zre_values.specs.Framing.{frames}
 use Rattle.zre_msg.specs.Spelling.{first_frame}
