@@ -3,6 +3,7 @@
 #![tactic(auto)]
 
 mod frames;
+mod keys;
 pub mod limits;
 mod memory;
 mod octets;
@@ -12,6 +13,7 @@ mod quoting;
 mod texts;
 
 pub use frames::Frames;
+pub use keys::Keys;
 pub use memory::OutOfMemory;
 pub use octets::Octets;
 pub use pairs::Pairs;
