@@ -35,12 +35,7 @@ impl PeerId {
     {
         let mut buffer = [0u8; 32];
         let mut text = [0u8; 32];
-        text.copy_from_slice(
-            Uuid::from_bytes(self.0)
-                .simple()
-                .encode_upper(&mut buffer)
-                .as_bytes(),
-        );
+        text.copy_from_slice(Uuid::from_bytes(self.0).simple().encode_upper(&mut buffer).as_bytes());
         text
     }
 

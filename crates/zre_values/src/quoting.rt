@@ -20,12 +20,7 @@ fn hex_digit(n: u8) -> u8
 fn is_plain(octet: u8) -> bool
     ensures { result ≡ is_plain octet }
 {
-    b'!' <= octet
-        && octet <= b'~'
-        && octet != b'%'
-        && octet != b'~'
-        && octet != b'='
-        && octet != b','
+    b'!' <= octet && octet <= b'~' && octet != b'%' && octet != b'~' && octet != b'=' && octet != b','
 }
 
 fn are_plain(bytes: &[u8]) -> bool

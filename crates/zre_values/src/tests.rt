@@ -39,10 +39,7 @@ fn lists_are_quoted_with_commas(rt: HostRuntime) -> Result<(), Fail> {
     pairs.push(octets(rt.alloc(), b"Y")?, octets(rt.alloc(), b"")?)?;
     push_quoted_pairs(&mut out, &Pairs::copy(rt.alloc(), &pairs)?)?;
     push_decimal(&mut out, 18446744073709551615)?;
-    assert_eq!(rt;
-        out.as_slice(),
-        b"%a%20b,~%X=1%2C2,Y=~18446744073709551615".as_slice()
-    );
+    assert_eq!(rt; out.as_slice(), b"%a%20b,~%X=1%2C2,Y=~18446744073709551615".as_slice());
     Ok(())
 }
 
@@ -57,10 +54,7 @@ fn an_identity_is_read_in_four_forms_and_written_in_one(rt: HostRuntime) -> Resu
     let mut out = Octets::new(rt.alloc());
     for text in texts {
         let id = PeerId::read(text).ok_or("no identity")?;
-        assert_eq!(rt;
-            id.write().as_slice(),
-            b"000102030405060708090A0B0C0D0E0F".as_slice()
-        );
+        assert_eq!(rt; id.write().as_slice(), b"000102030405060708090A0B0C0D0E0F".as_slice());
         out.clear();
         id.push_to(&mut out)?;
         assert_eq!(rt; out.len(), 32);
