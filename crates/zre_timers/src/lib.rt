@@ -1,13 +1,6 @@
-// A library with one function.
+//! Timers: when each key was last heard of, and which keys have been silent for how long.
 #![tactic(auto)]
 
-ghost use Rattle.std.specs.Prelude.{◌≡◌};
-ghost use Rattle.zre_timers.specs.Echo.{echo_of};
+mod timers;
 
-// The `ensures` clause is the contract: what `echo` returns is `echo_of` of its argument, a definition
-// in `specs/Echo.antt`, which a caller's clause can cite too.
-pub fn echo(x: usize) -> usize
-    ensures { result ≡ echo_of x }
-{
-    x
-}
+pub use timers::{Due, Timers};

@@ -1,3 +1,4 @@
 pub mod Framing
+pub mod Keys
 pub mod Lists
 pub mod Text
