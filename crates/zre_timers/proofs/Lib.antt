@@ -1,2 +1,3 @@
-pub mod Pairs
 pub mod Map
+pub mod Pairs
+pub mod Rising

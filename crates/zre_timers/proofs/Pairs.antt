@@ -24,11 +24,11 @@ both_equal Greater Equal = refl
 both_equal Greater Greater = refl
 
 -- two pairs are the same where their keys and their moments are
-same_pair : (at key a k : ℕ) → is_at (by_moment (at, key)) (a, k) ≡ ((key == k) && (at == a))
+pub same_pair : (at key a k : ℕ) → is_at (by_moment (at, key)) (a, k) ≡ ((key == k) && (at == a))
 same_pair at key a k = both_equal (nat_cmp at a) (nat_cmp key k) ∙ (λ i. unsigned_tied key k i && unsigned_tied at a i)
 
 -- the moment is there, and is this one
-abbrev is_this : Option ℕ → ℕ → Bool
+abbrev pub is_this : Option ℕ → ℕ → Bool
 is_this o at = option_map_or (λ moment. moment == at) o false
 
 itself : (b : Bool) → cond b true b ≡ b
@@ -100,25 +100,25 @@ module _ (m n : tree.BTreeMap ℕ ℕ) (s t u : set.BTreeSet (ℕ × ℕ)) (key 
   pub Agree-moved : (at moment : ℕ) → QueueUpdates s t at key true → MapUpdates m n key (Some at) → QueueUpdates t u moment key false → tree.get nat_cmp m key ≡ Some moment → moment ≢ at → key < 2 ^ 64 → Agree n u
   Agree-moved at moment comes changes goes was apart fits = record {
     pairs = λ a k. queue_step t u moment key false goes a k
-      ∙ ap (cond ((key == k) && (moment == a)) false) (queue_step s t at key true comes a k ∙ ap (cond ((key == k) && (at == a)) true) (agree.pairs a k))
-      ∙ moved (key == k) at moment a (tree.get nat_cmp m k) (at_key m key (Some moment) was k) apart
-      ∙ ap (λ o. is_this o a) (sym (map_step m n key (Some at) changes k));
+        ∙ ap (cond ((key == k) && (moment == a)) false) (queue_step s t at key true comes a k ∙ ap (cond ((key == k) && (at == a)) true) (agree.pairs a k))
+        ∙ moved (key == k) at moment a (tree.get nat_cmp m k) (at_key m key (Some moment) was k) apart
+        ∙ ap (λ o. is_this o a) (sym (map_step m n key (Some at) changes k));
     small = small_step m n key (Some at) changes fits agree.small;
   }
 
   pub Agree-entered : (at : ℕ) → QueueUpdates s t at key true → MapUpdates m n key (Some at) → tree.get nat_cmp m key ≡ None → key < 2 ^ 64 → Agree n t
   Agree-entered at comes changes was fits = record {
     pairs = λ a k. queue_step s t at key true comes a k ∙ ap (cond ((key == k) && (at == a)) true) (agree.pairs a k)
-      ∙ entered (key == k) at a (tree.get nat_cmp m k) (at_key m key None was k)
-      ∙ ap (λ o. is_this o a) (sym (map_step m n key (Some at) changes k));
+        ∙ entered (key == k) at a (tree.get nat_cmp m k) (at_key m key None was k)
+        ∙ ap (λ o. is_this o a) (sym (map_step m n key (Some at) changes k));
     small = small_step m n key (Some at) changes fits agree.small;
   }
 
   pub Agree-stayed : (at : ℕ) → QueueUpdates s t at key true → MapUpdates m n key (Some at) → tree.get nat_cmp m key ≡ Some at → key < 2 ^ 64 → Agree n t
   Agree-stayed at comes changes was fits = record {
     pairs = λ a k. queue_step s t at key true comes a k ∙ ap (cond ((key == k) && (at == a)) true) (agree.pairs a k)
-      ∙ stayed (key == k) at a (tree.get nat_cmp m k) (at_key m key (Some at) was k)
-      ∙ ap (λ o. is_this o a) (sym (map_step m n key (Some at) changes k));
+        ∙ stayed (key == k) at a (tree.get nat_cmp m k) (at_key m key (Some at) was k)
+        ∙ ap (λ o. is_this o a) (sym (map_step m n key (Some at) changes k));
     small = small_step m n key (Some at) changes fits agree.small;
   }
 
@@ -127,16 +127,16 @@ module _ (m n : tree.BTreeMap ℕ ℕ) (s t u : set.BTreeSet (ℕ × ℕ)) (key 
       let unchanged : (k : ℕ) → tree.get nat_cmp m k ≡ tree.get nat_cmp n k = λ k i. lookup (is_at (nat_cmp k)) (sym same i) in
       record {
         pairs = λ a k. queue_step t u at key false goes a k
-          ∙ ap (cond ((key == k) && (at == a)) false) (queue_step s t at key true comes a k ∙ ap (cond ((key == k) && (at == a)) true) (agree.pairs a k))
-          ∙ left_alone (key == k) at a (tree.get nat_cmp m k) (at_key m key None was k)
-          ∙ ap (λ o. is_this o a) (unchanged k);
+            ∙ ap (cond ((key == k) && (at == a)) false) (queue_step s t at key true comes a k ∙ ap (cond ((key == k) && (at == a)) true) (agree.pairs a k))
+            ∙ left_alone (key == k) at a (tree.get nat_cmp m k) (at_key m key None was k)
+            ∙ ap (λ o. is_this o a) (unchanged k);
         small = λ k h. agree.small k (subst IsSome (sym (unchanged k)) h);
       }
 
   pub Agree-gone : (moment : ℕ) → QueueUpdates s t moment key false → MapUpdates m n key None → tree.get nat_cmp m key ≡ Some moment → key < 2 ^ 64 → Agree n t
   Agree-gone moment goes changes was fits = record {
     pairs = λ a k. queue_step s t moment key false goes a k ∙ ap (cond ((key == k) && (moment == a)) false) (agree.pairs a k)
-      ∙ gone (key == k) moment a (tree.get nat_cmp m k) (at_key m key (Some moment) was k)
-      ∙ ap (λ o. is_this o a) (sym (map_step m n key None changes k));
+        ∙ gone (key == k) moment a (tree.get nat_cmp m k) (at_key m key (Some moment) was k)
+        ∙ ap (λ o. is_this o a) (sym (map_step m n key None changes k));
     small = small_step m n key None changes fits agree.small;
   }
