@@ -4,3 +4,6 @@
 mod timers;
 
 pub use timers::{Due, Timers};
+
+#[cfg(test)]
+mod tests;

@@ -1,6 +1,6 @@
-ghost use Rattle.std.specs.Prelude.{◌≡◌, ℕ, ◌≤◌, not, ◌&&◌, IfOk, OnOk, OnErr, IfSome};
+ghost use Rattle.std.specs.Prelude.{◌≡◌, ◌≤◌, not, ◌&&◌, IfOk, OnOk, OnErr};
 ghost use Rattle.std.specs.FinMap as map;
-ghost use Rattle.zre_timers.specs.Moments.{moment_of, has_rested, has_moment_between};
+ghost use Rattle.zre_timers.specs.Moments.{NoneAfter, has_rested, has_moment_between};
 ghost use Rattle.zre_values.specs.Keys.{IsRisingListOf};
 
 use std::alloc::Global;
@@ -82,7 +82,7 @@ impl Timers {
     /// whose moment lies at least `evasive` back. It looks at these keys alone.
     pub fn due(&self, now: u64, evasive: u64, expired: u64) -> Result<Due, OutOfMemory>
         requires order { evasive ≤ expired }
-        requires past { (key : ℕ) → IfSome (moment_of self.now key) (λ at. at ≤ now) }
+        requires past { NoneAfter now self.now }
         ensures expired { IfOk result (λ due. IsRisingListOf (has_rested self.now now expired) due.expired) }
         ensures evasive { IfOk result (λ due. IsRisingListOf
             (λ key. has_rested self.now now evasive key && not (has_rested self.now now expired key)) due.evasive) }
