@@ -1,0 +1,2 @@
+pub mod JoinFault
+pub mod Own

@@ -1,13 +1,6 @@
-// A library with one function.
+//! Groups: those that this node is in, and which peers are in which.
 #![tactic(auto)]
 
-ghost use Rattle.std.specs.Prelude.{◌≡◌};
-ghost use Rattle.zre_group.specs.Echo.{echo_of};
+mod own;
 
-// The `ensures` clause is the contract: what `echo` returns is `echo_of` of its argument, a definition
-// in `specs/Echo.antt`, which a caller's clause can cite too.
-pub fn echo(x: usize) -> usize
-    ensures { result ≡ echo_of x }
-{
-    x
-}
+pub use own::{JoinFault, NoGroup, Own};
