@@ -1,2 +1,4 @@
+pub mod Grouping
+pub mod Index
 pub mod JoinFault
 pub mod Own
