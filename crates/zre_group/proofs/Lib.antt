@@ -1,2 +1,4 @@
-pub mod Reading
 pub mod Changing
+pub mod Listing
+pub mod Reading
+pub mod Rising

@@ -1,4 +1,5 @@
 pub mod Grouping
 pub mod Index
 pub mod JoinFault
+pub mod Joined
 pub mod Own

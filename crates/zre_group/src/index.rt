@@ -1,35 +1,36 @@
 ghost use Rattle.std.specs.Prelude.{◌≡◌, IfOk, OnOk, OnErr};
 ghost use Rattle.std.specs.FinSet as set;
-ghost use Rattle.zre_group.specs.Index.{Memberships, is_member, without_key};
+ghost use Rattle.zre_group.specs.Index.{is_member, without_key};
 ghost use Rattle.zre_values.specs.Keys.{IsRisingListOf};
 
+use crate::joined::{list, unlist};
+use crate::members::Members;
 use std::alloc::Global;
-use std::collections::{BTreeMap, BTreeSet};
+use std::collections::BTreeMap;
 use std::marker::Model;
-use zre_values::{Keys, OutOfMemory};
+use zre_values::{Frames, Keys, OutOfMemory};
 
 /// Which keys are in which groups.
 #[derive(Drop)]
 pub struct Index {
-    // No set is empty.
-    groups: BTreeMap<Vec<u8>, BTreeSet<u64>>,
+    members: Members,
+    joined: BTreeMap<u64, Frames>,
     alloc: Global,
 }
 
 impl Model for Index {
-    ghost use Rattle.std.specs.BTreeMap as tree;
     ghost use Rattle.std.specs.Coded.{coded_ℕ, coded_list, coded×};
     ghost use Rattle.std.specs.FinSet as set;
-    ghost use Rattle.zre_group.specs.Grouping.{by_octets, pairs_of};
     ghost use Rattle.zre_group.specs.Index.{Memberships};
+    ghost use Rattle.zre_group.specs.Joined.{AreListed};
 
     ghost Value = { Memberships };
 
     ghost coded = { set.code (coded× (coded_list coded_ℕ) coded_ℕ) };
 
-    ghost view = { λ index. set.from_list (pairs_of index.groups.entries) };
+    ghost view = { λ index. index.members };
 
-    ghost invariant = { λ index. tree.IsOrdered by_octets index.groups };
+    ghost invariant = { λ index. AreListed index.members index.joined };
 }
 
 impl Index {
@@ -38,7 +39,8 @@ impl Index {
         ensures { result ≡ set.empty }
     {
         Index {
-            groups: BTreeMap::new(alloc),
+            members: Members::new(alloc),
+            joined: BTreeMap::new(alloc),
             alloc,
         }
     }
@@ -48,14 +50,14 @@ impl Index {
         ensures ok { OnOk result (self.new ≡ set.insert self.old (group.now, key)) }
         ensures err { OnErr result (self.new ≡ self.old) }
     {
-        if let Some(keys) = self.groups.get_mut(group) {
-            keys.insert(key)?;
+        if self.members.contains(group, key) {
             return Ok(());
         }
-        let name = Vec::from_slice(self.alloc, group)?;
-        let mut keys = BTreeSet::new(self.alloc);
-        keys.insert(key)?;
-        self.groups.insert(name, keys)?;
+        self.members.insert(group, key)?;
+        if let Err(fault) = list(&mut self.joined, self.alloc, key, group) {
+            self.members.remove(group, key);
+            return Err(fault);
+        }
         Ok(())
     }
 
@@ -63,12 +65,26 @@ impl Index {
     pub fn remove(&mut self, group: &[u8], key: u64)
         ensures { self.new ≡ set.remove self.old (group.now, key) }
     {
-        let Some(keys) = self.groups.get_mut(group) else {
+        self.members.remove(group, key);
+        unlist(&mut self.joined, key, group);
+    }
+
+    /// Takes a key out of every group.
+    pub fn forget(&mut self, key: u64)
+        ensures { self.new ≡ without_key self.old key }
+    {
+        let Some(groups) = self.joined.remove(&key) else {
             return;
         };
-        keys.remove(&key);
-        if keys.is_empty() {
-            self.groups.remove(group);
+        for group in groups.as_slice() {
+            self.members.remove(group.as_slice(), key);
         }
+    }
+
+    /// The keys that are in a group, rising.
+    pub fn members(&self, group: &[u8]) -> Result<Keys, OutOfMemory>
+        ensures { IfOk result (IsRisingListOf (is_member self.now group.now)) }
+    {
+        self.members.of(group)
     }
 }

@@ -2,6 +2,8 @@
 #![tactic(auto)]
 
 mod index;
+mod joined;
+mod members;
 mod own;
 
 pub use index::Index;

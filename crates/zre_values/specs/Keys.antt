@@ -13,7 +13,8 @@ pub record IsRisingListOf (test : ℕ → Bool) (keys : List ℕ) : Type 0 where
   pub rising : IsStrictlyIncreasing keys
   pub members : (key : ℕ) → list_any (λ k. k == key) keys ≡ test key
 
-by_order : (keys : List ℕ) (key : ℕ) → list_any (eq_by_cmp nat_cmp key) keys ≡ list_any (λ k. k == key) keys
+-- a search by order finds what a search by `==` finds
+pub by_order : (keys : List ℕ) (key : ℕ) → list_any (eq_by_cmp nat_cmp key) keys ≡ list_any (λ k. k == key) keys
 by_order [] key = refl
 by_order (k ∷ keys) key = λ i. (unsigned_tied key k ∙ nat_eq_equiv.symm key k) i || by_order keys key i
 
