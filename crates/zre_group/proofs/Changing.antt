@@ -12,7 +12,8 @@ use Rattle.std.proofs.lemmas.Map.Steps.{set_value_same}
 use Rattle.std.specs.Ordering.{nat_cmp, eq_by_cmp}
 use Rattle.zre_group.specs.Grouping.{Name, by_octets, pairs_of}
 use Rattle.zre_group.specs.Index.{by_group, Memberships}
-use Rattle.zre_group.proofs.Reading.{total, exact, both_equal, same, same_is, same_itself, named, set_of, has, read}
+use Rattle.zre_group.specs.Membership.{total, exact, both_equal, same, same_is, same_itself}
+use Rattle.zre_group.proofs.Reading.{named, set_of, has, read}
 
 abbrev pub Groups : Type 0
 Groups = tree.BTreeMap Name (sorted.BTreeSet ℕ)
@@ -27,8 +28,8 @@ Changes-from_update m n group o here others g =
     elim (same group g) as (λ b. same group g ≡ b → set_of n g ≡ cond b o (set_of m g)) [
       | true ↦ λ e. ap (set_of n) (sym (same_is group g e)) ∙ here
       | false ↦ λ e. others (named g)
-        (λ x y t. ap (λ h. same h y.items) (same_is g x.items t))
-        (λ x t. ap (same g) (sym (same_is group x.items t)) ∙ (eq_by_cmp_equiv nat_list_cmp_total).symm g group ∙ e)
+          (λ x y t. ap (λ h. same h y.items) (same_is g x.items t))
+          (λ x t. ap (same g) (sym (same_is group x.items t)) ∙ (eq_by_cmp_equiv nat_list_cmp_total).symm g group ∙ e)
     ] refl
 
 pub Changes-nothing : (m : Groups) (group : List ℕ) → set_of m group ≡ None → Changes m m group None

@@ -15,7 +15,7 @@ use Rattle.std.proofs.lemmas.Slice.Eq.{bytes_eq-Decides}
 use Rattle.zre_values.specs.Lists.{without}
 use Rattle.zre_group.specs.Index.{by_group, Memberships, is_member, without_key}
 use Rattle.zre_group.specs.Joined.{is_listed, AreListed}
-use Rattle.zre_group.proofs.Reading.{total, exact, both_equal, same, same_is, same_itself}
+use Rattle.zre_group.specs.Membership.{total, exact, both_equal, same, same_is, same_itself, same_bytes, is_pair, contains-without_key}
 
 abbrev pub Lists : Type 0
 Lists = tree.BTreeMap ℕ (List (List ℕ))
@@ -53,7 +53,7 @@ still_listed m n key group ys o was update stays g k other listed =
     ap (λ p. is_in p g) (update k ∙ ap (λ b. cond b o (tree.get nat_cmp m k)) (unsigned_tied key k))
     ∙ elim (key == k) as (λ b. (key == k) ≡ b → is_in (cond b o (tree.get nat_cmp m k)) g ≡ true) [
       | true ↦ λ e. let here : key ≡ k = eqb-true key k e in
-        stays g (other (sym here)) (sym (ap (λ p. is_in p g) (ap (tree.get nat_cmp m) (sym here) ∙ was)) ∙ listed)
+          stays g (other (sym here)) (sym (ap (λ p. is_in p g) (ap (tree.get nat_cmp m) (sym here) ∙ was)) ∙ listed)
       | false ↦ λ _. listed
     ] refl
 
@@ -68,10 +68,6 @@ unlisted_last m n p key group ys zs was is empty first then =
     (λ g other one. none_is_in zs g empty (ap (list_any (λ y. bytes_eq y g)) is ∙ others_stay group ys g other one))
 
 -- ---- sets of pairs
-
--- the test of a pair, by its parts
-is_pair : (g : List ℕ) (k : ℕ) (group : List ℕ) (key : ℕ) → eq_by_cmp by_group (g, k) (group, key) ≡ ((k == key) && same g group)
-is_pair g k group key = both_equal _ _ ∙ ap (λ b. b && same g group) (unsigned_tied k key)
 
 pair_itself : (group : List ℕ) (key : ℕ) → eq_by_cmp by_group (group, key) (group, key) ≡ true
 pair_itself group key = is_pair group key group key ∙ and_from (key == key) (same group group) (eq-eqb key key refl) (same_itself group)
@@ -109,7 +105,7 @@ insert_then_remove v group key new = set.same_set total exact _ _ (λ q.
 pub AreListed-remove : (v w : Memberships) (m n : Lists) (group : List ℕ) (key : ℕ) → AreListed v m → w ≡ set.remove v (group, key) → ((g : List ℕ) (k : ℕ) → (k ≡ key → g ≢ group) → is_listed m g k ≡ true → is_listed n g k ≡ true) → AreListed w n
 AreListed-remove v w m n group key listed is stays g k there =
     let parts = and_parts (not (eq_by_cmp by_group (g, k) (group, key))) (set.contains v (g, k))
-        (sym (set.contains-remove total v (group, key) (g, k)) ∙ ap (λ (s : Memberships). set.contains s (g, k)) (sym is) ∙ there) in
+    (sym (set.contains-remove total v (group, key) (g, k)) ∙ ap (λ (s : Memberships). set.contains s (g, k)) (sym is) ∙ there) in
     stays g k
     (λ same_key same_group. false≢true (ap not (sym (ap (λ h. eq_by_cmp by_group (h, k) (group, key)) same_group ∙ ap (λ x. eq_by_cmp by_group (group, x) (group, key)) same_key ∙ pair_itself group key)) ∙ parts.0))
     (listed g k parts.1)
@@ -119,9 +115,9 @@ AreListed-insert v w m n group key listed is lists g k there =
     lists g k
     ∙ elim (eq_by_cmp by_group (g, k) (group, key)) as (λ b. eq_by_cmp by_group (g, k) (group, key) ≡ b → (b || set.contains v (g, k)) ≡ true → (((key == k) && bytes_eq group g) || is_listed m g k) ≡ true) [
       | true ↦ λ e _.
-        let parts = and_parts (k == key) (same g group) (sym (is_pair g k group key) ∙ e) in
-        or_left ((key == k) && bytes_eq group g) (is_listed m g k)
-        (and_from (key == k) (bytes_eq group g) (eq-eqb key k (sym (eqb-true k key parts.0))) ((bytes_eq-Decides group g).1 (sym (same_is g group parts.1))))
+          let parts = and_parts (k == key) (same g group) (sym (is_pair g k group key) ∙ e) in
+          or_left ((key == k) && bytes_eq group g) (is_listed m g k)
+          (and_from (key == k) (bytes_eq group g) (eq-eqb key k (sym (eqb-true k key parts.0))) ((bytes_eq-Decides group g).1 (sym (same_is g group parts.1))))
       | false ↦ λ _ old. or_right ((key == k) && bytes_eq group g) (is_listed m g k) (listed g k old)
     ] refl (sym (set.contains-insert total v (group, key) (g, k)) ∙ ap (λ (s : Memberships). set.contains s (g, k)) (sym is) ∙ there)
 
@@ -132,9 +128,6 @@ AreListed-same v w m n listed is lists g k there = lists g k ∙ listed g k (ap 
 
 listed_in : (m : Lists) (key : ℕ) (ys : List (List ℕ)) (g : List ℕ) → tree.get nat_cmp m key ≡ Some ys → is_listed m g key ≡ true → list_any (λ y. bytes_eq y g) ys ≡ true
 listed_in m key ys g is listed = sym (ap (λ o. is_in o g) is) ∙ listed
-
-contains-without_key : (v : Memberships) (key : ℕ) (q : List ℕ × ℕ) → set.contains (without_key v key) q ≡ (set.contains v q && not (q.1 == key))
-contains-without_key v key q = set.contains-retain v (λ pair. not (pair.1 == key)) q (λ x tie. ap (λ (p : List ℕ × ℕ). not (p.1 == key)) (sym (exact q x tie)))
 
 -- the pairs of the key that are gone
 abbrev pub are_gone : Memberships → ℕ → List (List ℕ) → List ℕ → ℕ → Bool
@@ -181,16 +174,6 @@ one_more true true true true = refl
 one_more true true true false = refl
 one_more true true false true = refl
 one_more true true false false = refl
-
-same_bytes : (g x : List ℕ) → same g x ≡ bytes_eq x g
-same_bytes g x =
-    elim (same g x) as (λ b. same g x ≡ b → b ≡ bytes_eq x g) [
-      | true ↦ λ e. sym ((bytes_eq-Decides x g).1 (sym (same_is g x e)))
-      | false ↦ λ e. elim (bytes_eq x g) as (λ t. bytes_eq x g ≡ t → false ≡ t) [
-        | true ↦ λ t. sym e ∙ ap (same g) ((bytes_eq-Decides x g).0 t) ∙ same_itself g
-        | false ↦ λ _. refl
-      ] refl
-    ] refl
 
 pub one_group_more : (v w x : Memberships) (key : ℕ) (ys : List (List ℕ)) (i : ℕ) (group : List ℕ) → i < length ys → group ≡ get_or ys i group → ((g : List ℕ) (k : ℕ) → set.contains w (g, k) ≡ are_gone v key (take i ys) g k) → x ≡ set.remove w (group, key) → (g : List ℕ) (k : ℕ) → set.contains x (g, k) ≡ are_gone v key (take (i + 1) ys) g k
 one_group_more v w x key ys i group below item so_far is g k =

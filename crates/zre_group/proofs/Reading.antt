@@ -21,40 +21,7 @@ use Rattle.std.proofs.lemmas.Map.Keys.{IsDistinct-from_sorted, sorted_tail}
 use Rattle.std.proofs.lemmas.Map.Lookups.{exact_bytes, exact_unsigned, exact_pairs}
 use Rattle.zre_group.specs.Grouping.{Name, by_octets, pairs_of}
 use Rattle.zre_group.specs.Index.{by_group}
-
--- ---- the orders
-
-pub total : IsTotalOrder by_group
-total = then_total (on_total (λ p. p.0) nat_list_cmp_total) (on_total (λ p. p.1) nat_cmp_total)
-
-pub exact : set.IsAntisymmetric by_group
-exact = exact_pairs (slice_cmp nat_cmp) nat_cmp exact_bytes exact_unsigned
-
-pub both_equal : (r s : Ordering) → is_eq (ordering_then r s) ≡ (is_eq s && is_eq r)
-both_equal Less Less = refl
-both_equal Less Equal = refl
-both_equal Less Greater = refl
-both_equal Equal Less = refl
-both_equal Equal Equal = refl
-both_equal Equal Greater = refl
-both_equal Greater Less = refl
-both_equal Greater Equal = refl
-both_equal Greater Greater = refl
-
-equal_from_test : (r : Ordering) → is_eq r ≡ true → r ≡ Equal
-equal_from_test Less e = cc
-equal_from_test Equal e = refl
-equal_from_test Greater e = cc
-
--- two lists of octets are the same
-abbrev pub same : List ℕ → List ℕ → Bool
-same g h = eq_by_cmp (slice_cmp nat_cmp) g h
-
-pub same_is : (g h : List ℕ) → same g h ≡ true → g ≡ h
-same_is g h e = exact_bytes g h (equal_from_test (slice_cmp nat_cmp g h) e)
-
-pub same_itself : (g : List ℕ) → same g g ≡ true
-same_itself g = ap is_eq (tied_itself nat_list_cmp_total g)
+use Rattle.zre_group.specs.Membership.{total, both_equal, same, same_is, same_itself}
 
 -- ---- a map of names
 
@@ -95,8 +62,8 @@ found [] ordered g key = refl
 found (e ∷ es) ordered g key =
     let rest = found es (sorted_tail by_octets e.0 (keys_of es) ordered) g key in
     let none : named g e.0 ≡ true → lookup (named g) es ≡ None = λ t.
-        ap (λ h. lookup (named h) es) (same_is g e.0.items t)
-        ∙ lookup-none (named e.0.items) es (none_past_head (eq_by_cmp_equiv by_octets_total) e.0 e es (IsDistinct-from_sorted by_octets (keys_of (e ∷ es)) ordered) (same_itself e.0.items)) in
+    ap (λ h. lookup (named h) es) (same_is g e.0.items t)
+    ∙ lookup-none (named e.0.items) es (none_past_head (eq_by_cmp_equiv by_octets_total) e.0 e es (IsDistinct-from_sorted by_octets (keys_of (e ∷ es)) ordered) (same_itself e.0.items)) in
     ap (list_any (eq_by_cmp by_group (g, key))) (flat_map-cons (λ (p : Name × sorted.BTreeSet ℕ). map (λ k. (p.0.items, k)) p.1.keys) e es)
     ∙ list_any-append (eq_by_cmp by_group (g, key)) (map (λ k. (e.0.items, k)) e.1.keys) (pairs_of es)
     ∙ (λ i. in_one g e.0.items key e.1.keys i || rest i)

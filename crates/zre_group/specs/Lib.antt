@@ -2,4 +2,5 @@ pub mod Grouping
 pub mod Index
 pub mod JoinFault
 pub mod Joined
+pub mod Membership
 pub mod Own

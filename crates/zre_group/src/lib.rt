@@ -8,3 +8,6 @@ mod own;
 
 pub use index::Index;
 pub use own::{JoinFault, NoGroup, Own};
+
+#[cfg(test)]
+mod tests;

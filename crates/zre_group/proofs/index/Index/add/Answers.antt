@@ -14,7 +14,7 @@ pub invariant_of-self-in-Err : goal.invariant_of-self-in-Err
 invariant_of-self-in-Err c =
     AreListed-same c.self.inside.members c.remove.new.self c.self.inside.joined c.list.new.joined c.self.invariant
     (c.remove.ensures ∙ ap (λ (v : Memberships). set.remove v (c.args.group.now, c.args.key)) c.in_ok-insert.ensures.ok
-      ∙ insert_then_remove c.self.inside.members c.args.group.now c.args.key (sym c.contains.ensures ∙ c.if-contains.false))
+    ∙ insert_then_remove c.self.inside.members c.args.group.now c.args.key (sym c.contains.ensures ∙ c.if-contains.false))
     c.in-Err.ensures.err
 
 pub returns-in-Err-clause-err : goal.returns-in-Err-clause-err

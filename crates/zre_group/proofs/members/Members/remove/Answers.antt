@@ -27,12 +27,12 @@ returns-then-is_empty c =
     let update = written.3 (ap is_some some) in
     let last = c.remove-then-is_empty.ensures.updates in
     let view : set.from_list (pairs_of p.entries) ≡ set.remove c.args.self.now (c.args.group.now, c.args.key) =
-        removed m p c.args.self.now c.args.group.now c.args.key None c.self.invariant c.remove-then-is_empty.ensures.ordered c.self.view_is
-        (Changes-twice m n p c.args.group.now (Some w) None
-          (Changes-from_update m n c.args.group.now (Some w) update.1 update.3)
-          (Changes-from_update n p c.args.group.now None last.1 last.3))
-        (has-emptied w (set_of m c.args.group.now) c.args.key (c.is_empty.ensures.0 c.if-is_empty.true)
-          (has-remove c.in-Some.keys.now w (set_of m c.args.group.now) c.args.key some c.remove.ensures.updates.0)) in
+    removed m p c.args.self.now c.args.group.now c.args.key None c.self.invariant c.remove-then-is_empty.ensures.ordered c.self.view_is
+    (Changes-twice m n p c.args.group.now (Some w) None
+    (Changes-from_update m n c.args.group.now (Some w) update.1 update.3)
+    (Changes-from_update n p c.args.group.now None last.1 last.3))
+    (has-emptied w (set_of m c.args.group.now) c.args.key (c.is_empty.ensures.0 c.if-is_empty.true)
+    (has-remove c.in-Some.keys.now w (set_of m c.args.group.now) c.args.key some c.remove.ensures.updates.0)) in
     grind (arith, common_steps, view)
 
 -- the set keeps other keys
