@@ -1,5 +1,5 @@
 -- What a change of the set of one group does to the pairs.
-use Rattle.std.proofs.Common.{◌≡◌, ℕ, ◌&&◌, ◌||◌, not, Bool, true, false, cond, List, [], ◌∷◌, length, arith, Option, Some, None, refl, sym, ap, ◌∙◌, subst}
+use Rattle.std.proofs.Common.{◌≡◌, ℕ, ◌&&◌, ◌||◌, not, Bool, true, false, cond, List, [], ◌∷◌, length, arith, Option, Some, None, refl, sym, ap, ◌∙◌}
 use Rattle.std.specs.BTreeMap as tree
 use Rattle.std.specs.BTreeMap.{is_at}
 use Rattle.std.specs.BTreeSet as sorted
@@ -7,12 +7,12 @@ use Rattle.std.specs.Cmp.{eq_by_cmp_equiv, nat_cmp_total}
 use Rattle.std.specs.Cmp.Lexicographic.{slice_cmp, nat_list_cmp_total}
 use Rattle.std.specs.FinSet as set
 use Rattle.std.specs.List.{list_any}
-use Rattle.std.specs.Map.{KeepsOthers, lookup, set_value}
+use Rattle.std.specs.Map.{KeepsOthers, set_value}
 use Rattle.std.proofs.lemmas.Map.Steps.{set_value_same}
 use Rattle.std.specs.Ordering.{nat_cmp, eq_by_cmp}
 use Rattle.zre_group.specs.Grouping.{Name, by_octets, pairs_of}
 use Rattle.zre_group.specs.Index.{by_group, Memberships}
-use Rattle.zre_group.specs.Membership.{total, exact, both_equal, same, same_is, same_itself}
+use Rattle.zre_group.specs.Membership.{total, exact, both_equal, same, same_is}
 use Rattle.zre_group.proofs.Reading.{named, set_of, has, read}
 
 abbrev pub Groups : Type 0

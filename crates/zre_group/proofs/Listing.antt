@@ -1,5 +1,5 @@
 -- What is listed with each key, as groups come and go.
-use Rattle.std.proofs.Common.{◌≡◌, ◌≢◌, ℕ, ◌==◌, ◌&&◌, ◌||◌, ◌+◌, ◌≤◌, ◌<◌, not, Bool, true, false, cond, List, [], ◌∷◌, Option, Some, None, length, get_or, take, refl, sym, ap, ◌∙◌, subst, arith}
+use Rattle.std.proofs.Common.{◌≡◌, ◌≢◌, ℕ, ◌==◌, ◌&&◌, ◌||◌, ◌+◌, ◌≤◌, ◌<◌, not, Bool, true, false, cond, List, [], ◌∷◌, Option, Some, None, length, get_or, take, refl, sym, ap, ◌∙◌, arith}
 use Rattle.std.specs.BTreeMap as tree
 use Rattle.std.specs.BTreeMap.{is_at}
 use Rattle.std.specs.Cmp.{unsigned_tied, nat_eq_equiv}
@@ -8,14 +8,14 @@ use Rattle.std.specs.List.{list_any}
 use Rattle.std.specs.Option.{option_map_or}
 use Rattle.std.specs.Ordering.{nat_cmp, eq_by_cmp}
 use Rattle.std.specs.Str.{bytes_eq}
-use Rattle.std.proofs.lemmas.Bool.{false≢true, eqb-true, eq-eqb, not-true, and_parts, and_from, or_cases, or_right, or_left}
+use Rattle.std.proofs.lemmas.Bool.{false≢true, eqb-true, eq-eqb, not-true, and_parts, and_from, or_right, or_left}
 use Rattle.std.proofs.lemmas.List.{take_all}
 use Rattle.std.proofs.lemmas.List.Folds.{list_any_more}
 use Rattle.std.proofs.lemmas.Slice.Eq.{bytes_eq-Decides}
 use Rattle.zre_values.specs.Lists.{without}
 use Rattle.zre_group.specs.Index.{by_group, Memberships, is_member, without_key}
 use Rattle.zre_group.specs.Joined.{is_listed, AreListed}
-use Rattle.zre_group.specs.Membership.{total, exact, both_equal, same, same_is, same_itself, same_bytes, is_pair, contains-without_key}
+use Rattle.zre_group.specs.Membership.{total, exact, same, same_is, same_itself, same_bytes, is_pair, contains-without_key}
 
 abbrev pub Lists : Type 0
 Lists = tree.BTreeMap ℕ (List (List ℕ))

@@ -2,21 +2,39 @@
 
 use crate::{Index, JoinFault, NoGroup, Own};
 use std::test::Fail;
+use zre_values::OutOfMemory;
+
+enum Change {
+    Join(&'static [u8], Result<u8, JoinFault>),
+    Leave(&'static [u8], Result<u8, NoGroup>),
+}
+
+const CHANGES: [Change; 11] = [
+    Change::Join(b"g", Ok(1)),
+    Change::Join(b"g", Err(JoinFault::Same)),
+    Change::Leave(b"h", Err(NoGroup)),
+    Change::Leave(b"g", Ok(2)),
+    Change::Join(b"b", Ok(3)),
+    Change::Join(b"a", Ok(4)),
+    Change::Join(b"c", Ok(5)),
+    Change::Leave(b"a", Ok(6)),
+    Change::Join(b"", Ok(7)),
+    Change::Join(b"a", Ok(8)),
+    Change::Join(b"c", Err(JoinFault::Same)),
+];
 
 #[test]
 fn own_groups_keep_the_order_of_joining(rt: HostRuntime) -> Result<(), Fail> {
     let mut own = Own::new(rt.alloc());
-    assert_eq!(rt; own.status(), 0);
-    assert_eq!(rt; own.join(b"g"), Ok(1));
-    assert_eq!(rt; own.join(b"g"), Err(JoinFault::Same));
-    assert_eq!(rt; own.leave(b"h"), Err(NoGroup));
-    assert_eq!(rt; own.leave(b"g"), Ok(2));
-    for (group, status) in [(b"b", 3), (b"a", 4), (b"c", 5)] {
-        assert_eq!(rt; own.join(group), Ok(status));
+    for change in &CHANGES {
+        match change {
+            Change::Join(group, answer) => {
+                assert!(rt; group.len() <= 255);
+                assert_eq!(rt; own.join(group), *answer);
+            }
+            Change::Leave(group, answer) => assert_eq!(rt; own.leave(group), *answer),
+        }
     }
-    assert_eq!(rt; own.leave(b"a"), Ok(6));
-    assert_eq!(rt; own.join(b""), Ok(7));
-    assert_eq!(rt; own.join(b"a"), Ok(8));
     let wanted: [&[u8]; 4] = [b"b", b"c", b"", b"a"];
     assert_eq!(rt; own.len(), wanted.len());
     for (i, group) in wanted.iter().enumerate() {
@@ -43,31 +61,64 @@ fn the_node_is_in_so_many_groups(rt: HostRuntime) -> Result<(), Fail> {
     Ok(())
 }
 
+enum Step {
+    Add(&'static [u8], u64),
+    Remove(&'static [u8], u64),
+    Forget(u64),
+    Members(&'static [u8], &'static [u64]),
+}
+
 const LAST: u64 = 18446744073709551615;
+
+const STEPS: [Step; 27] = [
+    Step::Add(b"g", 2),
+    Step::Add(b"g", 1),
+    Step::Remove(b"g", 2),
+    Step::Members(b"g", &[1]),
+    Step::Forget(1),
+    Step::Members(b"g", &[]),
+    // rising, each key once, and the groups apart
+    Step::Add(b"g", 5),
+    Step::Add(b"g", LAST),
+    Step::Add(b"g", 0),
+    Step::Add(b"g", 5),
+    Step::Add(b"g", 7),
+    Step::Add(b"", 7),
+    Step::Add(b"", 0),
+    Step::Add(b"gg", 7),
+    Step::Members(b"g", &[0, 5, 7, LAST]),
+    Step::Members(b"", &[0, 7]),
+    // what isn't there
+    Step::Remove(b"gg", 8),
+    Step::Remove(b"h", 5),
+    Step::Forget(9),
+    Step::Remove(b"", 0),
+    Step::Members(b"", &[7]),
+    // a key that is in several groups, and comes back to one
+    Step::Forget(7),
+    Step::Members(b"", &[]),
+    Step::Members(b"gg", &[]),
+    Step::Add(b"gg", 7),
+    Step::Members(b"g", &[0, 5, LAST]),
+    Step::Members(b"gg", &[7]),
+];
+
+// What the index says of a group, where the step asks for it.
+fn asked(index: &mut Index, step: &Step) -> Result<bool, OutOfMemory> {
+    match step {
+        Step::Add(group, key) => index.add(group, *key)?,
+        Step::Remove(group, key) => index.remove(group, *key),
+        Step::Forget(key) => index.forget(*key),
+        Step::Members(group, wanted) => return Ok(index.members(group)?.as_slice() == *wanted),
+    }
+    Ok(true)
+}
 
 #[test]
 fn members_rise_and_are_forgotten(rt: HostRuntime) -> Result<(), Fail> {
     let mut index = Index::new(rt.alloc());
-    index.add(b"g", 2)?;
-    index.add(b"g", 1)?;
-    index.remove(b"g", 2);
-    assert_eq!(rt; index.members(b"g")?.as_slice(), [1].as_slice());
-    index.forget(1);
-    assert_eq!(rt; index.members(b"g")?.len(), 0);
-    for key in [5, LAST, 0, 5, 7] {
-        index.add(b"g", key)?;
-        index.add(b"", key)?;
+    for (i, step) in STEPS.iter().enumerate() {
+        assert!(rt; asked(&mut index, step)?, "step {i}");
     }
-    index.add(b"gg", 7)?;
-    index.remove(b"gg", 8);
-    index.remove(b"h", 5);
-    index.remove(b"", 0);
-    index.forget(7);
-    index.forget(9);
-    assert_eq!(rt; index.members(b"g")?.as_slice(), [0, 5, LAST].as_slice());
-    assert_eq!(rt; index.members(b"")?.as_slice(), [5, LAST].as_slice());
-    assert_eq!(rt; index.members(b"gg")?.len(), 0);
-    index.add(b"gg", 7)?;
-    assert_eq!(rt; index.members(b"gg")?.as_slice(), [7].as_slice());
     Ok(())
 }

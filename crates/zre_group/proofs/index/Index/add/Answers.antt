@@ -1,4 +1,4 @@
-use Rattle.std.proofs.Common.{◌≡◌, ◌∙◌, ap, sym, true, false}
+use Rattle.std.proofs.Common.{◌∙◌, ap, sym}
 use Rattle.std.specs.FinSet as set
 use Rattle.zre_group.specs.Index.{Memberships, is_member}
 use Rattle.zre_group.proofs.Listing.{AreListed-insert, AreListed-same, insert_same, insert_then_remove}

@@ -1,6 +1,3 @@
-use Rattle.std.proofs.Common.{◌∙◌, ap}
-use Rattle.std.specs.FinSet as set
-use Rattle.zre_group.specs.Index.{Memberships}
 use Rattle.zre_group.proofs.Listing.{AreListed-remove}
 use Rattle.zre_group.proofs.index.Index.remove.Goals as goal
 

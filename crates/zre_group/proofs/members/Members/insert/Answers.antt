@@ -4,7 +4,7 @@ use Rattle.zre_values.specs.declared.memory.OutOfMemory.{OutOfMemory}
 use Rattle.std.specs.FinSet as set
 use Rattle.zre_group.specs.Grouping.{pairs_of}
 use Rattle.zre_group.proofs.Reading.{set_of}
-use Rattle.zre_group.proofs.Changing.{Groups, Changes, Changes-from_update, inserted, has-insert, has-first, same_groups}
+use Rattle.zre_group.proofs.Changing.{Groups, Changes-from_update, inserted, has-insert, has-first, same_groups}
 use Rattle.zre_group.proofs.members.Members.insert.Goals as goal
 
 on_err : (r : Result (Unit {0}) OutOfMemory) (P : Type 0) → P → OnErr r P

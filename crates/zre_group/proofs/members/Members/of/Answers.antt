@@ -1,7 +1,5 @@
-use Rattle.std.proofs.Common.{◌≡◌, ap, sym, ◌∙◌, subst, rules, List, ℕ, Some, None}
-use Rattle.std.specs.FinSet as set
-use Rattle.zre_group.specs.Index.{Memberships, is_member}
-use Rattle.zre_group.proofs.Reading.{read, has, set_of}
+use Rattle.std.proofs.Common.{◌≡◌, sym, ◌∙◌, subst, rules, List, ℕ}
+use Rattle.zre_group.specs.Index.{is_member}
 use Rattle.zre_group.proofs.Rising.{rising_of, rising_none}
 use Rattle.zre_values.specs.Keys.{IsRisingListOf}
 use Rattle.zre_group.proofs.members.Members.of.Goals as goal

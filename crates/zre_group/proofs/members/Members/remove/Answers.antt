@@ -1,9 +1,9 @@
-use Rattle.std.proofs.Common.{◌≡◌, ap, sym, ◌∙◌, refl, Some, None, is_some, arith}
+use Rattle.std.proofs.Common.{◌≡◌, ap, sym, ◌∙◌, Some, None, is_some, arith}
 use Rattle.std.proofs.lemmas.Grind.{common_steps}
 use Rattle.std.specs.FinSet as set
 use Rattle.zre_group.specs.Grouping.{pairs_of}
 use Rattle.zre_group.proofs.Reading.{set_of}
-use Rattle.zre_group.proofs.Changing.{Groups, Changes, Changes-from_update, Changes-nothing, Changes-twice, removed, has-remove, has-none, has-emptied}
+use Rattle.zre_group.proofs.Changing.{Groups, Changes-from_update, Changes-nothing, Changes-twice, removed, has-remove, has-none, has-emptied}
 use Rattle.zre_group.proofs.members.Members.remove.Goals as goal
 
 -- the group has no set

@@ -1,4 +1,4 @@
-use Rattle.std.proofs.Common.{ℕ, ◌≤◌, ◌+◌, List, [], ◌∷◌, length, true, false, cond, arith, ap}
+use Rattle.std.proofs.Common.{ℕ, ◌≤◌, List, [], ◌∷◌, length, true, false, cond, arith}
 use Rattle.std.specs.Str.{bytes_eq}
 use Rattle.zre_values.specs.Lists.{without}
 use Rattle.zre_group.proofs.own.Own.leave.Goals as goal
