@@ -3,7 +3,6 @@ ghost use Rattle.zre_group.specs.Own.{OwnGroups, none_joined, is_joined, next_st
 
 use std::alloc::Global;
 use std::marker::Model;
-use thiserror::Error;
 use zre_values::limits::{GROUP_OCTETS, OWN_GROUPS};
 use zre_values::{Frames, Octets, OutOfMemory};
 
@@ -28,13 +27,12 @@ impl Model for Own {
 }
 
 /// Why a group isn't joined. Nothing has changed then.
-#[derive(Clone, Copy, Debug, PartialEq, Eq, Error)]
+#[derive(Clone, Copy, Debug, PartialEq, Eq)]
 pub enum JoinFault {
-    #[error("the group is joined already")]
+    /// The group is joined already.
     Same,
-    #[error("too many groups are joined")]
+    /// `OWN_GROUPS` others are joined.
     Limit,
-    #[error("out of memory")]
     OutOfMemory,
 }
 
@@ -49,8 +47,7 @@ impl From<OutOfMemory> for JoinFault {
 }
 
 /// The group to be left isn't joined. Nothing has changed.
-#[derive(Clone, Copy, Debug, PartialEq, Eq, Error)]
-#[error("the group is not joined")]
+#[derive(Clone, Copy, Debug, PartialEq, Eq)]
 pub struct NoGroup;
 
 impl Own {
@@ -88,7 +85,7 @@ impl Own {
         self.groups.get(i)
     }
 
-    /// Joins a group and answers the new status.
+    /// Joins a group of at most `GROUP_OCTETS` octets and answers the new status.
     pub fn join(&mut self, group: &[u8]) -> Result<u8, JoinFault>
         requires { length group.now ≤ GROUP_OCTETS }
         ensures ok { OnOk result (self.new ≡ with_joined self.old group.now) }
