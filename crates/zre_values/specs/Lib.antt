@@ -1,6 +1,7 @@
 pub mod Address
 pub mod Endpoint
 pub mod Framing
+pub mod Keys
 pub mod Lists
 pub mod PlainId
 pub mod Text

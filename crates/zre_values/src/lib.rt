@@ -5,6 +5,7 @@
 mod decimals;
 mod endpoint;
 mod frames;
+mod keys;
 pub mod limits;
 mod memory;
 mod octets;
@@ -18,6 +19,7 @@ mod unquoting;
 pub use decimals::read_decimal;
 pub use endpoint::{Endpoint, push_address, read_address};
 pub use frames::Frames;
+pub use keys::Keys;
 pub use memory::OutOfMemory;
 pub use octets::Octets;
 pub use pairs::Pairs;

@@ -1,0 +1,4 @@
+pub mod Changing
+pub mod Listing
+pub mod Reading
+pub mod Rising
