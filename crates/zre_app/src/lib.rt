@@ -11,4 +11,3 @@ pub use zre_pump::Status;
 
 #[cfg(test)]
 mod tests;
-

@@ -139,7 +139,12 @@ fn follow_tells_the_place_of_what_it_refuses(rt: HostRuntime) -> Result<(), Fail
         (&[HELLO, JOIN_2], 56, Status::TooLong, &[ENTER, JOIN]),
         (&[HELLO, JOIN_2], 57, Status::Done, &[ENTER, JOIN]),
         (&[&JOIN_2[..7]], 99, Status::BadInput, &[b"BADINPUT 7\n"]),
-        (&[HELLO, b"\x04"], 99, Status::BadInput, &[ENTER, b"BADINPUT 43\n"]),
+        (
+            &[HELLO, b"\x04"],
+            99,
+            Status::BadInput,
+            &[ENTER, b"BADINPUT 43\n"],
+        ),
         (&[b"\x05"], 1, Status::BadInput, &[b"BADINPUT 0\n"]),
     ];
     for (input, limit, status, text) in rows {
@@ -166,7 +171,14 @@ fn words_outside_the_list_are_usage(rt: HostRuntime) -> Result<(), Fail> {
         expect(rt, words, &[HELLO], 99, Status::Usage, usage)?;
     }
     let hyphenated = "id=00010203-0405-0607-0809-0A0B0C0D0E0F";
-    expect(rt, &["follow", hyphenated], &[HELLO], 99, Status::Done, &[ENTER])?;
+    expect(
+        rt,
+        &["follow", hyphenated],
+        &[HELLO],
+        99,
+        Status::Done,
+        &[ENTER],
+    )?;
     let mut words = words_of(&rt, &["follow", id])?;
     words.push(Octets::copy(rt.alloc(), b"id=\xff")?)?;
     let mut out = MemSink::new(rt.alloc(), Vec::new(rt.alloc()));

@@ -53,11 +53,11 @@ took_more id ms ns ks run run' out now next t going u =
     let goes : is_over ms ns ≡ false = sym t.over ∙ going in
     record {
       lines_of =
-        u.lines_of ∙ ap (λ (r : List ℕ). r ++ lines (events_behind id (ms ++ ns) ks)) t.lines_of
-        ∙ append_assoc out (lines (events_behind id ms ns)) (lines (events_behind id (ms ++ ns) ks))
-        ∙ ap (λ (r : List ℕ). out ++ r) (sym (flat_map-append line (events_behind id ms ns) (events_behind id (ms ++ ns) ks)))
-        ∙ ap (λ b. out ++ lines (events_behind id ms ns ++ cond b [] (events_behind id (ms ++ ns) ks))) (sym goes)
-        ∙ ap (λ es. out ++ lines es) (sym (events_more id ms ns ks));
+          u.lines_of ∙ ap (λ (r : List ℕ). r ++ lines (events_behind id (ms ++ ns) ks)) t.lines_of
+          ∙ append_assoc out (lines (events_behind id ms ns)) (lines (events_behind id (ms ++ ns) ks))
+          ∙ ap (λ (r : List ℕ). out ++ r) (sym (flat_map-append line (events_behind id ms ns) (events_behind id (ms ++ ns) ks)))
+          ∙ ap (λ b. out ++ lines (events_behind id ms ns ++ cond b [] (events_behind id (ms ++ ns) ks))) (sym goes)
+          ∙ ap (λ es. out ++ lines es) (sym (events_more id ms ns ks));
       over = u.over ∙ ap (λ b. cond b true (is_over (ms ++ ns) ks)) (sym goes) ∙ sym (over_more ms ns ks);
       stands = λ g. subst (Stands run') (append_assoc ms ns ks) (u.stands g);
     }
@@ -72,9 +72,9 @@ took_enough id ms ns ks run out now t ended =
     let over : is_over ms ns ≡ true = sym t.over ∙ ended in
     record {
       lines_of =
-        t.lines_of ∙ ap (λ es. out ++ lines es) (sym (append-nil (events_behind id ms ns)))
-        ∙ ap (λ b. out ++ lines (events_behind id ms ns ++ cond b [] (events_behind id (ms ++ ns) ks))) (sym over)
-        ∙ ap (λ es. out ++ lines es) (sym (events_more id ms ns ks));
+          t.lines_of ∙ ap (λ es. out ++ lines es) (sym (append-nil (events_behind id ms ns)))
+          ∙ ap (λ b. out ++ lines (events_behind id ms ns ++ cond b [] (events_behind id (ms ++ ns) ks))) (sym over)
+          ∙ ap (λ es. out ++ lines es) (sym (events_more id ms ns ks));
       over = ended ∙ ap (λ b. cond b true (is_over (ms ++ ns) ks)) (sym over) ∙ sym (over_more ms ns ks);
       stands = λ going. both_ways (is_spent run) ended going;
     }

@@ -6,4 +6,3 @@ mod follower;
 mod taking;
 
 pub use follower::Follower;
-

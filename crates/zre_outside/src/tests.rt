@@ -9,7 +9,9 @@ fn read_once<S: Source>(source: &mut S, buf: &mut [u8; 3]) -> Result<usize, Fail
 }
 
 #[test]
-fn a_source_in_memory_fails_at_the_listed_reads_and_loses_nothing(rt: HostRuntime) -> Result<(), Fail> {
+fn a_source_in_memory_fails_at_the_listed_reads_and_loses_nothing(
+    rt: HostRuntime,
+) -> Result<(), Fail> {
     let mut buf = [0u8; 3];
     let fails = [2].to_vec(rt.alloc())?;
     let mut source = MemSource::new(Octets::copy(rt.alloc(), b"abcde")?, fails);
@@ -26,7 +28,9 @@ fn a_source_in_memory_fails_at_the_listed_reads_and_loses_nothing(rt: HostRuntim
 }
 
 #[test]
-fn a_sink_in_memory_fails_at_the_listed_writes_and_keeps_the_front(rt: HostRuntime) -> Result<(), Fail> {
+fn a_sink_in_memory_fails_at_the_listed_writes_and_keeps_the_front(
+    rt: HostRuntime,
+) -> Result<(), Fail> {
     let fails = [2].to_vec(rt.alloc())?;
     let mut sink = MemSink::new(rt.alloc(), fails);
     assert_eq!(rt; write_all(&mut sink, b"ab"), Ok(()));

@@ -66,7 +66,10 @@ pub enum Event {
         cause: Cause,
     },
     /// A connection is ignored from now on.
-    Ignored { conn: u64, why: IgnoreWhy },
+    Ignored {
+        conn: u64,
+        why: IgnoreWhy,
+    },
 }
 
 /// A list of events.

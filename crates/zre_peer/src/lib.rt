@@ -17,4 +17,3 @@ pub use headers::Headers;
 pub use line::{push_line, push_lines};
 pub use peer_run::{Run, RunFault};
 pub use view::View;
-

@@ -60,12 +60,7 @@ pub struct Run {
 }
 
 // The first message of a run.
-fn first(
-    alloc: Global,
-    id: PeerId,
-    message: Message,
-    events: &mut Events,
-) -> Result<View, RunFault>
+fn first(alloc: Global, id: PeerId, message: Message, events: &mut Events) -> Result<View, RunFault>
     ensures ok { IfOk result (λ view. (may_follow [] message ≡ true)
         × (view ≡ view_of (message ∷ [])) × (events.new ≡ events.old ++ events_of id (view_of []) message.body)) }
     ensures refused { IfErr result (λ e. e ≢ RunFault.OutOfMemory →

@@ -11,4 +11,3 @@ pub use lines::push_bad_line;
 pub use machine::{Going, Machine};
 pub use pumping::{PIECE, pump};
 pub use status::Status;
-

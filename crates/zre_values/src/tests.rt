@@ -88,7 +88,10 @@ fn lists_keep_their_order(rt: HostRuntime) -> Result<(), Fail> {
     assert_eq!(rt; text.len(), 5);
     assert_eq!(rt; text.get(4), &b'e');
     text.append(b"a text that doesn't fit into the value")?;
-    assert_eq!(rt; text.as_slice(), b"abcdea text that doesn't fit into the value".as_slice());
+    assert_eq!(rt;
+        text.as_slice(),
+        b"abcdea text that doesn't fit into the value".as_slice()
+    );
     text.clear();
     assert_eq!(rt; text.as_slice(), b"".as_slice());
     Ok(())
