@@ -118,6 +118,15 @@ impl Endpoint {
         Some(Endpoint { addr, port })
     }
 
+    fn push_to(self, out: &mut Octets) -> Result<(), OutOfMemory>
+        ensures { OnOk result (out.new ≡ out.old ++ endpoint_text self) }
+    {
+        out.append(b"tcp://")?;
+        push_address(out, self.addr)?;
+        out.push(b':')?;
+        push_decimal(out, u64::from(self.port))
+    }
+
     /// The text that [`Endpoint::read`] reads.
     pub fn write(self, alloc: Global) -> Result<Octets, OutOfMemory>
         requires { 0 < self.port }
@@ -125,10 +134,8 @@ impl Endpoint {
         // So it is read back from this text.
         ensures again { IsEndpoint self }
     {
-        let mut text = Octets::copy(alloc, b"tcp://")?;
-        push_address(&mut text, self.addr)?;
-        text.push(b':')?;
-        push_decimal(&mut text, self.port as u64)?;
+        let mut text = Octets::new(alloc);
+        self.push_to(&mut text)?;
         Ok(text)
     }
 }

@@ -94,6 +94,15 @@ impl Frames {
     {
         place_of(self.as_slice(), frame)
     }
+
+    /// Removes the first member that equals this one, if there is one.
+    pub fn remove_first(&mut self, frame: &[u8])
+        ensures { self.new ≡ without frame.now self.old }
+    {
+        if let Some(i) = self.place_of(frame) {
+            let _ = self.remove(i);
+        }
+    }
 }
 
 fn place_of(items: &[Octets], frame: &[u8]) -> Option<usize>

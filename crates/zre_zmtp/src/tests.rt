@@ -1,5 +1,4 @@
-//! Streams by hand and from outside: examples of what the definitions mean, and each call that takes memory once with
-//! enough of it.
+//! Streams by hand and from outside: what the definitions mean, and each call that takes memory once.
 
 use crate::*;
 use std::alloc::Global;
@@ -153,8 +152,7 @@ const GREETINGS: [(&[u8], ZmtpWhy, u64); 5] = [
     ),
 ];
 
-// Traffic, or what stands behind a greeting where something is wanted; its items, a line each; whether it is at rest; and
-// how many octets are kept of it.
+// The same; the items, a line each; whether the stream is at rest; and how many octets are kept of it.
 const STREAMS: [(Option<Want>, &[u8], &[u8], bool, u64); 12] = [
     (None, b"\x02\0\0\0\0\0", b"", false, 6),
     (
@@ -406,7 +404,6 @@ fn a_message_has_as_many_frames_as_the_limit(rt: HostRuntime) -> Result<(), Fail
     let why = ZmtpWhy::TooManyFrames;
     let fault = first_fault(rt.alloc(), None, octets.as_slice())?;
     assert_eq!(rt; fault, Some((2048, ZmtpFault { why, place: 2048 })));
-
     octets.clear();
     for _ in 1..MESSAGE_FRAMES {
         octets.append(b"\x01\0")?;
@@ -429,7 +426,6 @@ fn a_message_has_as_many_octets_as_the_limit(rt: HostRuntime) -> Result<(), Fail
         text.as_slice(),
         b"0-1048585 message 1 1048576\n".as_slice()
     );
-
     octets.clear();
     octets.append(b"\x03\0\0\0\0\0\x10\0\0")?;
     octets.append(zeros.as_slice())?;
@@ -453,7 +449,6 @@ fn what_is_written_is_read(rt: HostRuntime) -> Result<(), Fail> {
     assert_eq!(rt; router.as_slice(), READY_ROUTER);
     let dealer = ready(rt.alloc(), SocketType::Dealer, Some(PEER))?;
     assert_eq!(rt; dealer.as_slice(), READY_DEALER);
-
     let mut frames = Frames::new(rt.alloc());
     for len in [0usize, 255, 256] {
         frames.push(Octets::from_vec(vec![in rt.alloc(); 7u8; len]?))?;
@@ -469,7 +464,6 @@ fn what_is_written_is_read(rt: HostRuntime) -> Result<(), Fail> {
         message.as_slice().last_chunk::<5>(),
         Some(b"\x07\x07\0\x01a")
     );
-
     let mut pieces = Frames::new(rt.alloc());
     pieces.push(Octets::copy(rt.alloc(), &own)?)?;
     pieces.push(dealer)?;
