@@ -3,7 +3,7 @@ use Rattle.std.proofs.Common.{◌≡◌, ◌≢◌, ℕ, ◌+◌, ◌==◌, ◌�
 use Rattle.std.specs.Option.{option_or}
 use Rattle.std.proofs.lemmas.Bool.{le-leb, lt-leb, and_left, and_right, and_cases, cases_Bool, cases_lt, leb-false}
 use Rattle.std.proofs.lemmas.Option.{cond_some, none-some}
-use Rattle.std.proofs.lemmas.List.{length-append, take_all, drop_at}
+use Rattle.std.proofs.lemmas.List.{length-append, take_all, drop_at, take-append-drop, length-take-le}
 use Rattle.zre_zmtp.specs.declared.fault.ZmtpWhy.{ZmtpWhy}
 use Rattle.zre_zmtp.specs.declared.header.Header.{Header}
 use Rattle.zre_zmtp.specs.declared.expected.Expected.{Expected}
@@ -82,6 +82,33 @@ pub framed-waits : (h : Header) (head o : List ℕ) → IsHeader h head → leng
 framed-waits h head o is lt =
     let n = framed-len h head o is in
     and_right (has_header (head ++ o)) (leb (frame_len (head ++ o)) (length (head ++ o))) (lt-leb (frame_len (head ++ o)) (length (head ++ o)) (omega (arith, n, lt, length-append head o)))
+
+pub header_low : (l : Bool) → 2 ≤ cond l 9 2
+header_low true = omega arith
+header_low false = omega arith
+
+-- the header at the front of some octets, apart from what stands behind it
+pub record HeadOf (h : Header) (o head behind : List ℕ) : Type 0 where
+  pub header : header_of head ≡ Some h
+  pub within : length head ≤ header_len head
+  pub whole : o ≡ head ++ behind
+  pub exact : length head ≡ header_len o
+
+pub head_of : (h : Header) (o head behind : List ℕ) → header_of o ≡ Some h → head ≡ take (header_len o) o → behind ≡ drop (header_len o) o → HeadOf h o head behind
+head_of h o head behind e p q =
+    let said = cond_some (has_header o) (record { flags = flags o; size = size o }) h e in
+    let there : Headed o = headed o said.0 in
+    let whole : o ≡ head ++ behind = sym (take-append-drop (header_len o) o) ∙ ap (λ (x : List ℕ). x ++ drop (header_len o) o) (sym p) ∙ ap (λ (x : List ℕ). head ++ x) (sym q) in
+    let exact : length head ≡ header_len o = ap length p ∙ length-take-le (header_len o) o there.all in
+    let some : 1 ≤ length head = omega (arith, exact, header_low (is_long (flags o))) in
+    let same_len : header_len o ≡ header_len head = ap header_len whole ∙ header_len-more head behind some in
+    let headed_alone : Headed head = record { some = some; all = omega (arith, exact, same_len) } in
+    let same_flags : flags o ≡ flags head = ap flags whole ∙ flags-more head behind some in
+    let same_size : size o ≡ size head = ap size whole ∙ size-more head behind headed_alone in
+    let alone : header_of head ≡ Some (record { flags = flags head; size = size head }) = ap (λ (t : Bool). let x : Header = record { flags = flags head; size = size head } in cond t (Some x) None) (has_header-from head headed_alone) in
+    let one : (let x : Header = record { flags = flags head; size = size head } in x) ≡ record { flags = flags o; size = size o } =
+    ap (λ (f : ℕ). let x : Header = record { flags = f; size = size head } in x) (sym same_flags) ∙ ap (λ (n : ℕ). let x : Header = record { flags = flags o; size = n } in x) (sym same_size) in
+    record { header = alone ∙ ap (λ (x : Header). Some x) (one ∙ said.1); within = omega (arith, exact, same_len); whole = whole; exact = exact }
 
 -- ---- its faults
 
@@ -175,10 +202,6 @@ no_header o e =
       | inr f ↦ f
       | inl t ↦ (let said : Header = record { flags = flags o; size = size o } in absurd (none-some said (sym e ∙ ap (λ (x : Bool). cond x (Some said) None) t)))
     ]
-
-header_low : (l : Bool) → 2 ≤ cond l 9 2
-header_low true = omega arith
-header_low false = omega arith
 
 pub header-within : (head o : List ℕ) (x : ℕ) → header_of head ≡ None → length head ≤ header_len head → o ≡ head ++ x ∷ [] → length o ≤ header_len o
 header-within head o x e within is =

@@ -29,7 +29,8 @@ fn is_long(flags: u8) -> bool
     flags == 2 || flags == 3 || flags == 6
 }
 
-fn header_len(octets: &[u8]) -> usize
+/// How many octets the flags and the size field have.
+pub fn header_len(octets: &[u8]) -> usize
     requires { 1 ≤ length octets.now }
     ensures { result ≡ len_of_header octets.now }
 {

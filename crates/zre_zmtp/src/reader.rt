@@ -13,7 +13,7 @@ use crate::item::Items;
 use crate::opened::Opened;
 use crate::partial::Partial;
 use crate::progress::Progress;
-use crate::turns::{room, take};
+use crate::turns::take_turn;
 use crate::want::Want;
 use std::alloc::Global;
 use std::marker::Model;
@@ -36,9 +36,8 @@ fn read(
 {
     let mut rest = octets;
     while !rest.is_empty() {
-        let len = room(progress).min(rest.len() as u64) as usize;
-        let (front, behind) = rest.split_at(len);
-        take(alloc, want, progress, front, out)?;
+        let len = take_turn(alloc, want, progress, rest, out)?;
+        let (_, behind) = rest.split_at(len);
         rest = behind;
     }
     Ok(())

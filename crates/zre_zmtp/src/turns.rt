@@ -1,17 +1,17 @@
 //! The turns of a reader: each takes an octet of a greeting, an octet of a header, or octets of a body.
 
-ghost use Rattle.std.specs.Prelude.{◌≡◌, ℕ, ◌+◌, ◌≤◌, ◌<◌, ◌≢◌, List, [], ◌∷◌, ◌++◌, length, IfOk, IfSome, OnOk, IfErr, Some, None, option_map, option_copied, option_to_list};
+ghost use Rattle.std.specs.Prelude.{◌≡◌, ℕ, ◌+◌, ◌≤◌, ◌<◌, ◌≢◌, List, [], ◌∷◌, ◌++◌, length, take, IfOk, IfSome, OnOk, IfErr, Some, None, option_map, option_copied, option_to_list};
 ghost use Rattle.zre_zmtp.specs.Frame.{header_of, header_len as header_len_of};
 ghost use Rattle.zre_zmtp.specs.Stream.{Want as WantValue, said as said_by, opened_by, body_fault, item as item_of};
 ghost use Rattle.zre_zmtp.specs.Run.{after as after_of};
-ghost use Rattle.zre_zmtp.specs.Shown.{before_of, left_of, frame_item, frame_after, header_fault, Waits, Advances, RefusesAt, room as room_of};
+ghost use Rattle.zre_zmtp.specs.Shown.{before_of, left_of, frame_item, frame_after, header_fault, Waits, Advances, RefusesAt, BeginsFrame, room as room_of};
 ghost use Rattle.zre_zmtp.specs.Reading.{Refuses};
 
 use crate::command::{command_fault, identity, name, socket_type};
 use crate::expected::Expected;
 use crate::fault::{FeedFault, ZmtpFault, ZmtpWhy};
 use crate::faults::{GREETING_OCTETS, fault_of_header, fault_of_octet};
-use crate::header::{Header, has_more, is_message, read_header};
+use crate::header::{Header, has_more, header_len, is_message, read_header};
 use crate::item::{Item, Items, What};
 use crate::partial::Partial;
 use crate::progress::Progress;
@@ -20,8 +20,8 @@ use std::alloc::Global;
 use std::mem;
 use zre_values::{Octets, OutOfMemory};
 
-/// How many octets the next turn takes at most.
-pub fn room(progress: &Progress) -> u64
+// How many octets the next turn takes at most.
+fn room(progress: &Progress) -> u64
     ensures exact { result
         ≡ room_of progress.now.expected progress.now.partial.header progress.now.partial.body }
     ensures some { 1 ≤ result }
@@ -138,34 +138,30 @@ fn end_of(place: u64, header_len: usize, body_len: usize) -> Option<u64>
         .checked_add(body_len as u64)
 }
 
-// A whole frame: the item that ends with it is appended, and nothing stands behind it.
+// A whole frame, where nothing else is kept: the item that ends with it is appended.
 fn take_frame(
     alloc: Global,
     want: &Want,
     progress: &mut Progress,
     header: Header,
-    mut head: Octets,
+    head: &[u8],
     body: Octets,
     out: &mut Items,
 ) -> Result<(), FeedFault>
     requires frame { progress.old.expected ≢ Expected.Greeting }
-    requires header { header_of head ≡ Some header }
-    requires within { length head ≤ header_len_of head }
+    requires no_head { progress.old.partial.head ≡ [] }
+    requires no_body { progress.old.partial.body ≡ [] }
+    requires header { header_of head.now ≡ Some header }
+    requires within { length head.now ≤ header_len_of head.now }
     requires whole { length body ≡ header.size }
-    ensures ok { header_fault (before_of progress.old) head ≡ None →
-        OnOk result (Advances want.now (before_of progress.old) (head ++ body) out.old out.new
+    ensures ok { header_fault (before_of progress.old) head.now ≡ None →
+        OnOk result (Advances want.now (before_of progress.old) (head.now ++ body) out.old out.new
         (before_of progress.new) (left_of progress.new)) }
-    ensures refused { header_fault (before_of progress.old) head ≡ None →
+    ensures refused { header_fault (before_of progress.old) head.now ≡ None →
         IfErr result (λ e.
-        RefusesAt e want.now (before_of progress.old) (head ++ body) out.old out.new) }
+        RefusesAt e want.now (before_of progress.old) (head.now ++ body) out.old out.new) }
 {
     let header_len = head.len();
-    head.clear();
-    progress.partial = Partial {
-        head,
-        header: None,
-        body: Octets::new(alloc),
-    };
     if let Some(item) = finish_frame(alloc, want, progress, header, header_len, body)? {
         out.push(item)?;
     }
@@ -264,7 +260,7 @@ fn take_header(
         progress.partial = Partial { head, header, body };
         return Ok(());
     }
-    take_frame(alloc, want, progress, header, head, body, out)
+    take_frame(alloc, want, progress, header, head.as_slice(), body, out)
 }
 
 // Octets more of a body, and no more than are missing.
@@ -293,11 +289,55 @@ fn take_body(
         progress.partial = Partial { head, header, body };
         return Ok(());
     }
-    take_frame(alloc, want, progress, header, head, body, out)
+    take_frame(alloc, want, progress, header, head.as_slice(), body, out)
 }
 
-/// Takes octets of the part that comes next, no more than there is room for.
-pub fn take(
+// What the header at the front of some octets says, where nothing is kept and all of that frame is there.
+fn whole_frame(progress: &Progress, octets: &[u8]) -> Option<Header>
+    ensures { IfSome result (λ header. BeginsFrame progress.now header octets.now) }
+{
+    if progress.expected == Expected::Greeting || progress.partial.head.len() > 0 {
+        return None;
+    }
+    let header = read_header(octets)?;
+    let (_, behind) = octets.split_at(header_len(octets));
+    if header.size <= behind.len() as u64 {
+        Some(header)
+    } else {
+        None
+    }
+}
+
+// A whole frame from the octets that it begins. It gives how many octets that frame has.
+fn take_whole(
+    alloc: Global,
+    want: &Want,
+    progress: &mut Progress,
+    header: Header,
+    octets: &[u8],
+    out: &mut Items,
+) -> Result<usize, FeedFault>
+    requires { BeginsFrame progress.old header octets.now }
+    ensures ok { IfOk result (λ len. Advances want.now (before_of progress.old) (take len octets.now) out.old out.new
+        (before_of progress.new) (left_of progress.new)) }
+    ensures refused { IfErr result (λ e.
+        RefusesAt e want.now (before_of progress.old) octets.now out.old out.new) }
+    ensures within { IfOk result (λ len. 0 < len × len ≤ length octets.now) }
+{
+    let (head, behind) = octets.split_at(header_len(octets));
+    if let Some(why) = fault_of_header(progress, head) {
+        let place = progress.place;
+        return Err(FeedFault::Zmtp(ZmtpFault { why, place }));
+    }
+    let (body, _) = behind.split_at(header.size as usize);
+    let len = head.len() + body.len();
+    let body = Octets::copy(alloc, body)?;
+    take_frame(alloc, want, progress, header, head, body, out)?;
+    Ok(len)
+}
+
+// Takes octets of the part that comes next, no more than there is room for.
+fn take_part(
     alloc: Global,
     want: &Want,
     progress: &mut Progress,
@@ -319,4 +359,31 @@ pub fn take(
         (_, None) => take_header(alloc, want, progress, octets[0], out),
         (_, Some(header)) => take_body(alloc, want, progress, header, octets, out),
     }
+}
+
+/// Takes octets from the front of these: a whole frame, where one begins there, and else octets of the part that isn't whole.
+/// It gives how many it took.
+pub fn take_turn(
+    alloc: Global,
+    want: &Want,
+    progress: &mut Progress,
+    octets: &[u8],
+    out: &mut Items,
+) -> Result<usize, FeedFault>
+    requires { 0 < length octets.now }
+    ensures ok { Waits want.now (before_of progress.old) (left_of progress.old) →
+        IfOk result (λ len. Advances want.now (before_of progress.old) (left_of progress.old ++ take len octets.now)
+        out.old out.new (before_of progress.new) (left_of progress.new)) }
+    ensures refused { Waits want.now (before_of progress.old) (left_of progress.old) →
+        IfErr result (λ e.
+        RefusesAt e want.now (before_of progress.old) (left_of progress.old ++ octets.now) out.old out.new) }
+    ensures within { IfOk result (λ len. 0 < len × len ≤ length octets.now) }
+{
+    if let Some(header) = whole_frame(progress, octets) {
+        return take_whole(alloc, want, progress, header, octets, out);
+    }
+    let len = room(progress).min(octets.len() as u64) as usize;
+    let (front, _) = octets.split_at(len);
+    take_part(alloc, want, progress, front, out)?;
+    Ok(len)
 }

@@ -1,31 +1,31 @@
-use Rattle.std.proofs.Common.{◌≡◌, ◌≤◌, ◌∙◌, ◌++◌, length, sym, ap, List, ℕ, take, drop, arith}
+use Rattle.std.proofs.Common.{◌≡◌, ◌≤◌, ◌∙◌, ◌++◌, length, sym, ap, List, [], ℕ, take, drop, arith}
 use Rattle.std.proofs.lemmas.Bool.{eqb-true}
-use Rattle.std.proofs.lemmas.List.{take-append-drop}
+use Rattle.std.proofs.lemmas.List.{append-nil, take-append-drop}
 use Rattle.std.proofs.lemmas.Result.{err_from_is_err_and}
 use Rattle.zre_zmtp.specs.Run.{run_all}
 use Rattle.zre_zmtp.specs.Shown.{before_of, left_of}
 use Rattle.zre_zmtp.proofs.Turning.{one_turn, all_read, refused_turn}
 use Rattle.zre_zmtp.proofs.reader.read.Goals as goal
 
-joined : (n : ℕ) (o front behind : List ℕ) → front ≡ take n o → behind ≡ drop n o → o ≡ front ++ behind
-joined n o front behind p q = sym (take-append-drop n o) ∙ ap (λ (x : List ℕ). x ++ drop n o) (sym p) ∙ ap (λ (x : List ℕ). front ++ x) (sym q)
+joined : (n : ℕ) (o behind : List ℕ) → behind ≡ drop n o → o ≡ take n o ++ behind
+joined n o behind q = sym (take-append-drop n o) ∙ ap (λ (x : List ℕ). take n o ++ x) (sym q)
 
-pub returns-in_err-take-clause-refused : goal.returns-in_err-take-clause-refused
-returns-in_err-take-clause-refused c =
+pub returns-in_err-len-clause-refused : goal.returns-in_err-len-clause-refused
+returns-in_err-len-clause-refused c =
     let p = err_from_is_err_and c.from_residual.result c.from_residual.ensures.1 in
     let all = run_all c.args.want.now (before_of c.args.progress.now) (left_of c.args.progress.now ++ c.args.octets.now) in
     λ w.
     let amid = c.loop-rest.invariant w in
-    rw (p.1, p.2) (refused_turn c.args.want.now c.args.out.now c.loop-rest.out c.take.new.out all (before_of c.loop-rest.progress) (left_of c.loop-rest.progress) c.split_at.result.0.now c.split_at.result.1.now c.loop-rest.rest.now
-    c.in_err-take.field-0.0 (joined _ c.loop-rest.rest.now _ _ c.split_at.ensures.front c.split_at.ensures.back) amid (c.in_err-take.ensures.refused amid.waits))
+    rw (p.1, p.2) (refused_turn c.args.want.now c.args.out.now c.loop-rest.out c.take_turn.new.out all (before_of c.loop-rest.progress) (left_of c.loop-rest.progress) c.loop-rest.rest.now [] c.loop-rest.rest.now
+    c.in_err-len.field-0.0 (sym (append-nil c.loop-rest.rest.now)) amid (c.in_err-len.ensures.refused amid.waits))
 
 pub loop-rest-preserved : goal.loop-rest-preserved
 loop-rest-preserved c =
     let all = run_all c.args.want.now (before_of c.args.progress.now) (left_of c.args.progress.now ++ c.args.octets.now) in
     λ w.
     let amid = c.loop-rest.invariant w in
-    one_turn c.args.want.now c.args.out.now c.loop-rest.out c.take.new.out all (before_of c.loop-rest.progress) (before_of c.take.new.progress) (left_of c.loop-rest.progress) c.split_at.result.0.now c.split_at.result.1.now
-    (left_of c.take.new.progress) c.loop-rest.rest.now (joined _ c.loop-rest.rest.now _ _ c.split_at.ensures.front c.split_at.ensures.back) amid (c.in_ok-take.ensures.ok amid.waits)
+    one_turn c.args.want.now c.args.out.now c.loop-rest.out c.take_turn.new.out all (before_of c.loop-rest.progress) (before_of c.take_turn.new.progress) (left_of c.loop-rest.progress) (take c.in_ok-len.len c.loop-rest.rest.now) c.split_at.result.1.now
+    (left_of c.take_turn.new.progress) c.loop-rest.rest.now (joined c.in_ok-len.len c.loop-rest.rest.now _ c.split_at.ensures.back) amid (c.in_ok-len.ensures.ok amid.waits)
 
 pub returns-clause-ok : goal.returns-clause-ok
 returns-clause-ok c =

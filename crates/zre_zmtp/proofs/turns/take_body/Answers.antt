@@ -1,7 +1,7 @@
 use Rattle.std.proofs.Common.{◌≡◌, ◌<◌, ◌++◌, length, sym, ap, subst, ◌∙◌, refl, List, ℕ, Some, append_assoc, arith}
 use Rattle.zre_zmtp.specs.declared.partial.Partial.{Partial}
 use Rattle.zre_zmtp.specs.Frame.{header_of}
-use Rattle.zre_zmtp.specs.Shown.{before_of, left_of, Waits}
+use Rattle.zre_zmtp.specs.Shown.{before_of, left_of, Waits, header_fault}
 use Rattle.zre_zmtp.proofs.Framed.{IsHeader, is_header, left-frame, fine-from_waits, waits-body}
 use Rattle.zre_zmtp.proofs.Turning.{turn_waits}
 use Rattle.zre_zmtp.proofs.turns.take_body.Goals as goal
@@ -31,11 +31,11 @@ returns-clause-ok c =
     let left : left_of c.args.progress.now ≡ p.head ++ p.body = left-frame c.args.progress.now.expected c.args.progress.now.greeting _ _ c.requires.frame ∙ ap (λ (x : Partial). x.head ++ x.body) (sym was) in
     let said : header_of p.head ≡ Some c.args.header = sym p.known ∙ ap (λ (x : Partial). x.header) was ∙ c.requires.header in
     let is : IsHeader c.args.header p.head = is_header c.args.header p.head said p.within in
-    let all : left_of c.args.progress.now ++ c.args.octets.now ≡ p.head ++ c.append.new.self =
-    ap (λ (x : List ℕ). x ++ c.args.octets.now) left ∙ append_assoc p.head p.body c.args.octets.now ∙ ap (λ (x : List ℕ). p.head ++ x) (sym c.in_ok-append.ensures.ok) in
+    let all : left_of c.args.progress.now ++ c.args.octets.now ≡ c.as_slice.result.now ++ c.append.new.self =
+    ap (λ (x : List ℕ). x ++ c.args.octets.now) left ∙ append_assoc p.head p.body c.args.octets.now ∙ ap (λ (x : List ℕ). p.head ++ x) (sym c.in_ok-append.ensures.ok) ∙ ap (λ (x : List ℕ). x ++ c.append.new.self) (sym c.as_slice.ensures) in
     λ w.
     let w' : Waits c.args.want.now b (p.head ++ p.body) = subst (λ (x : List ℕ). Waits c.args.want.now b x) left w in
-    rw all (c.take_frame.ensures.ok (fine-from_waits c.args.want.now b c.args.header p.head p.body c.requires.frame is w'))
+    rw all (c.take_frame.ensures.ok (ap (λ (o : List ℕ). header_fault b o) c.as_slice.ensures ∙ fine-from_waits c.args.want.now b c.args.header p.head p.body c.requires.frame is w'))
 
 pub returns-clause-refused : goal.returns-clause-refused
 returns-clause-refused c =
@@ -45,8 +45,8 @@ returns-clause-refused c =
     let left : left_of c.args.progress.now ≡ p.head ++ p.body = left-frame c.args.progress.now.expected c.args.progress.now.greeting _ _ c.requires.frame ∙ ap (λ (x : Partial). x.head ++ x.body) (sym was) in
     let said : header_of p.head ≡ Some c.args.header = sym p.known ∙ ap (λ (x : Partial). x.header) was ∙ c.requires.header in
     let is : IsHeader c.args.header p.head = is_header c.args.header p.head said p.within in
-    let all : left_of c.args.progress.now ++ c.args.octets.now ≡ p.head ++ c.append.new.self =
-    ap (λ (x : List ℕ). x ++ c.args.octets.now) left ∙ append_assoc p.head p.body c.args.octets.now ∙ ap (λ (x : List ℕ). p.head ++ x) (sym c.in_ok-append.ensures.ok) in
+    let all : left_of c.args.progress.now ++ c.args.octets.now ≡ c.as_slice.result.now ++ c.append.new.self =
+    ap (λ (x : List ℕ). x ++ c.args.octets.now) left ∙ append_assoc p.head p.body c.args.octets.now ∙ ap (λ (x : List ℕ). p.head ++ x) (sym c.in_ok-append.ensures.ok) ∙ ap (λ (x : List ℕ). x ++ c.append.new.self) (sym c.as_slice.ensures) in
     λ w.
     let w' : Waits c.args.want.now b (p.head ++ p.body) = subst (λ (x : List ℕ). Waits c.args.want.now b x) left w in
-    rw all (c.take_frame.ensures.refused (fine-from_waits c.args.want.now b c.args.header p.head p.body c.requires.frame is w'))
+    rw all (c.take_frame.ensures.refused (ap (λ (o : List ℕ). header_fault b o) c.as_slice.ensures ∙ fine-from_waits c.args.want.now b c.args.header p.head p.body c.requires.frame is w'))

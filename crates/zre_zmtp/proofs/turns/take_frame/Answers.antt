@@ -1,4 +1,4 @@
-use Rattle.std.proofs.Common.{◌≡◌, ◌++◌, [], sym, ap, ◌∙◌, refl}
+use Rattle.std.proofs.Common.{◌≡◌, ◌++◌, [], length, sym, ap, ◌∙◌, refl}
 use Rattle.std.specs.Prelude.{option_to_list}
 use Rattle.std.proofs.lemmas.List.{append-nil}
 use Rattle.std.proofs.lemmas.Result.{err_from_is_err_and}
@@ -13,18 +13,18 @@ pub returns-in_err-item-clause-refused : goal.returns-in_err-item-clause-refused
 returns-in_err-item-clause-refused c =
     let p = err_from_is_err_and c.from_residual.result c.from_residual.ensures.1 in
     let b = before_of c.args.progress.now in
-    λ fine. rw (p.1, p.2) (frame_refused c.args.want.now b c.args.header c.args.head c.args.body c.args.out.now c.args.out.now c.in_err-item.field-0.0
-    (is_framed c.args.want.now b c.args.header c.args.head c.args.body c.requires.frame c.requires.header c.requires.within c.requires.whole fine) refl c.in_err-item.ensures.refused)
+    λ fine. rw (p.1, p.2) (frame_refused c.args.want.now b c.args.header c.args.head.now c.args.body c.args.out.now c.args.out.now c.in_err-item.field-0.0
+    (is_framed c.args.want.now b c.args.header c.args.head.now c.args.body c.requires.frame c.requires.header c.requires.within c.requires.whole fine) refl c.in_err-item.ensures.refused)
 
 pub returns-in_ok-push-clause-ok : goal.returns-in_ok-push-clause-ok
 returns-in_ok-push-clause-ok c =
     let b = before_of c.args.progress.now in
     let e = c.in_ok-item.ensures in
-    let none : c.finish_frame.new.progress.partial.head ≡ [] = ap (λ (p : Partial). p.head) e.partial ∙ c.clear.ensures in
-    let none' : c.finish_frame.new.progress.partial.body ≡ [] = ap (λ (p : Partial). p.body) e.partial ∙ c.new.ensures in
-    λ fine. frame_taken c.args.want.now b c.args.header c.args.head c.args.body c.len-header_len.result c.args.out.now c.push.new.self _ _
-    (is_framed c.args.want.now b c.args.header c.args.head c.args.body c.requires.frame c.requires.header c.requires.within c.requires.whole fine)
-    e.faultless c.len-header_len.ensures
+    let none : c.finish_frame.new.progress.partial.head ≡ [] = ap (λ (p : Partial). p.head) e.partial ∙ c.requires.no_head in
+    let none' : c.finish_frame.new.progress.partial.body ≡ [] = ap (λ (p : Partial). p.body) e.partial ∙ c.requires.no_body in
+    λ fine. frame_taken c.args.want.now b c.args.header c.args.head.now c.args.body (length c.args.head.now) c.args.out.now c.push.new.self _ _
+    (is_framed c.args.want.now b c.args.header c.args.head.now c.args.body c.requires.frame c.requires.header c.requires.within c.requires.whole fine)
+    e.faultless refl
     (c.in_ok-push.ensures.ok ∙ ap (λ i. c.args.out.now ++ option_to_list i) (sym c.in-Some.is ∙ e.says)) e.after
     (left-nothing c.finish_frame.new.progress.expected c.finish_frame.new.progress.greeting _ _ (ap (λ (x : Before). x.expected) e.after) none none')
 
@@ -32,10 +32,10 @@ pub returns-in_default-clause-ok : goal.returns-in_default-clause-ok
 returns-in_default-clause-ok c =
     let b = before_of c.args.progress.now in
     let e = c.in_ok-item.ensures in
-    let none : c.finish_frame.new.progress.partial.head ≡ [] = ap (λ (p : Partial). p.head) e.partial ∙ c.clear.ensures in
-    let none' : c.finish_frame.new.progress.partial.body ≡ [] = ap (λ (p : Partial). p.body) e.partial ∙ c.new.ensures in
-    λ fine. frame_taken c.args.want.now b c.args.header c.args.head c.args.body c.len-header_len.result c.args.out.now c.args.out.now _ _
-    (is_framed c.args.want.now b c.args.header c.args.head c.args.body c.requires.frame c.requires.header c.requires.within c.requires.whole fine)
-    e.faultless c.len-header_len.ensures
+    let none : c.finish_frame.new.progress.partial.head ≡ [] = ap (λ (p : Partial). p.head) e.partial ∙ c.requires.no_head in
+    let none' : c.finish_frame.new.progress.partial.body ≡ [] = ap (λ (p : Partial). p.body) e.partial ∙ c.requires.no_body in
+    λ fine. frame_taken c.args.want.now b c.args.header c.args.head.now c.args.body (length c.args.head.now) c.args.out.now c.args.out.now _ _
+    (is_framed c.args.want.now b c.args.header c.args.head.now c.args.body c.requires.frame c.requires.header c.requires.within c.requires.whole fine)
+    e.faultless refl
     (sym (append-nil c.args.out.now) ∙ ap (λ i. c.args.out.now ++ option_to_list i) (sym c.in_default.is ∙ e.says)) e.after
     (left-nothing c.finish_frame.new.progress.expected c.finish_frame.new.progress.greeting _ _ (ap (λ (x : Before). x.expected) e.after) none none')

@@ -1,7 +1,5 @@
-use Rattle.std.proofs.Common.{◌≡◌, ◌∷◌, [], ◌++◌, List, ℕ, length, Some, None, refl, sym, ap, ◌∙◌, arith}
+use Rattle.std.proofs.Common.{◌≡◌, ◌∷◌, [], ◌++◌, List, ℕ, Some, None, refl, sym, ap, ◌∙◌}
 use Rattle.std.proofs.lemmas.List.{append-nil}
-use Rattle.std.proofs.lemmas.Option.{same_Some}
-use Rattle.zre_zmtp.specs.declared.header.Header.{Header}
 use Rattle.zre_zmtp.specs.declared.partial.Partial.{Partial}
 use Rattle.zre_zmtp.specs.Frame.{header_of}
 use Rattle.zre_zmtp.specs.Shown.{before_of, left_of, header_fault}
@@ -53,7 +51,7 @@ returns-then-header-gt0-clause-ok c =
 pub take_frame-requires-clause-within : goal.take_frame-requires-clause-within
 take_frame-requires-clause-within c =
     let p = c.replace-head.result in
-    header-within p.head c.push.new.self c.args.octet (sym p.known ∙ ap (λ (x : Partial). x.header) c.replace-head.ensures.value ∙ c.requires.header) p.within c.in_ok-push.ensures.ok
+    rw c.as_slice-3.ensures (header-within p.head c.push.new.self c.args.octet (sym p.known ∙ ap (λ (x : Partial). x.header) c.replace-head.ensures.value ∙ c.requires.header) p.within c.in_ok-push.ensures.ok)
 
 pub returns-clause-ok : goal.returns-clause-ok
 returns-clause-ok c =
@@ -63,8 +61,8 @@ returns-clause-ok c =
     let left : left_of c.args.progress.now ≡ p.head ++ p.body = left-frame c.args.progress.now.expected c.args.progress.now.greeting _ _ c.requires.frame ∙ ap (λ (x : Partial). x.head ++ x.body) (sym was) in
     let all = grown (left_of c.args.progress.now) p.head p.body c.push.new.self c.args.octet left (p.apart (ap (λ (x : Partial). x.header) was ∙ c.requires.header)) c.in_ok-push.ensures.ok in
     let fine : header_fault b c.push.new.self ≡ None = ap (λ (o : List ℕ). header_fault b o) (sym c.as_slice.ensures) ∙ sym c.fault_of_header.ensures ∙ c.in_default.is in
-    let whole : c.push.new.self ++ c.new-body.result ≡ c.push.new.self = ap (λ (o : List ℕ). c.push.new.self ++ o) c.new-body.ensures ∙ append-nil c.push.new.self in
-    λ w. rw (all ∙ sym whole) (c.take_frame.ensures.ok fine)
+    let whole : c.as_slice-3.result.now ++ c.new-body.result ≡ c.push.new.self = ap (λ (o : List ℕ). o ++ c.new-body.result) c.as_slice-3.ensures ∙ ap (λ (o : List ℕ). c.push.new.self ++ o) c.new-body.ensures ∙ append-nil c.push.new.self in
+    λ w. rw (all ∙ sym whole) (c.take_frame.ensures.ok (ap (λ (o : List ℕ). header_fault b o) c.as_slice-3.ensures ∙ fine))
 
 pub returns-clause-refused : goal.returns-clause-refused
 returns-clause-refused c =
@@ -74,5 +72,5 @@ returns-clause-refused c =
     let left : left_of c.args.progress.now ≡ p.head ++ p.body = left-frame c.args.progress.now.expected c.args.progress.now.greeting _ _ c.requires.frame ∙ ap (λ (x : Partial). x.head ++ x.body) (sym was) in
     let all = grown (left_of c.args.progress.now) p.head p.body c.push.new.self c.args.octet left (p.apart (ap (λ (x : Partial). x.header) was ∙ c.requires.header)) c.in_ok-push.ensures.ok in
     let fine : header_fault b c.push.new.self ≡ None = ap (λ (o : List ℕ). header_fault b o) (sym c.as_slice.ensures) ∙ sym c.fault_of_header.ensures ∙ c.in_default.is in
-    let whole : c.push.new.self ++ c.new-body.result ≡ c.push.new.self = ap (λ (o : List ℕ). c.push.new.self ++ o) c.new-body.ensures ∙ append-nil c.push.new.self in
-    λ w. rw (all ∙ sym whole) (c.take_frame.ensures.refused fine)
+    let whole : c.as_slice-3.result.now ++ c.new-body.result ≡ c.push.new.self = ap (λ (o : List ℕ). o ++ c.new-body.result) c.as_slice-3.ensures ∙ ap (λ (o : List ℕ). c.push.new.self ++ o) c.new-body.ensures ∙ append-nil c.push.new.self in
+    λ w. rw (all ∙ sym whole) (c.take_frame.ensures.refused (ap (λ (o : List ℕ). header_fault b o) c.as_slice-3.ensures ∙ fine))

@@ -1,5 +1,5 @@
 use Rattle.zre_zmtp.proofs.Framed.{one_octet, room-greeting, room-header}
-use Rattle.zre_zmtp.proofs.turns.take.Goals as goal
+use Rattle.zre_zmtp.proofs.turns.take_part.Goals as goal
 
 pub returns-in-Greeting-default-clause-ok : goal.returns-in-Greeting-default-clause-ok
 returns-in-Greeting-default-clause-ok c =

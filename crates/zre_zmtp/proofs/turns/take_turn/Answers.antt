@@ -1,0 +1,20 @@
+use Rattle.std.proofs.Common.{◌≡◌, ◌∙◌, ◌++◌, sym, ap, List, ℕ, take, drop}
+use Rattle.std.proofs.lemmas.List.{take-append-drop}
+use Rattle.std.proofs.lemmas.Result.{err_from_is_err_and}
+use Rattle.zre_zmtp.specs.Run.{run_all}
+use Rattle.zre_zmtp.specs.Shown.{before_of, left_of}
+use Rattle.zre_zmtp.proofs.Turning.{begins, refused_turn}
+use Rattle.zre_zmtp.proofs.turns.take_turn.Goals as goal
+
+joined : (n : ℕ) (o front : List ℕ) → front ≡ take n o → o ≡ front ++ drop n o
+joined n o front p = sym (take-append-drop n o) ∙ ap (λ (x : List ℕ). x ++ drop n o) (sym p)
+
+pub returns-in_err-take_part-clause-refused : goal.returns-in_err-take_part-clause-refused
+returns-in_err-take_part-clause-refused c =
+    let p = err_from_is_err_and c.from_residual.result c.from_residual.ensures.1 in
+    let b = before_of c.args.progress.now in
+    let left = left_of c.args.progress.now in
+    let o = c.args.octets.now in
+    let out = c.args.out.now in
+    λ w. rw (p.1, p.2) (refused_turn c.args.want.now out out c.take_part.new.out (run_all c.args.want.now b (left ++ o)) b left c.split_at.result.0.now _ o c.in_err-take_part.field-0.0
+    (joined _ o _ c.split_at.ensures.front) (begins c.args.want.now b left o out w) (c.in_err-take_part.ensures.refused w))

@@ -1,0 +1,65 @@
+use Rattle.std.proofs.Common.{◌≡◌, ℕ, ◌+◌, List, [], ◌++◌, length, take, drop, Some, None, refl, sym, ap, ◌∙◌, arith, append_assoc}
+use Rattle.std.proofs.lemmas.List.{take-append-drop, take-append-le, take_all, length-append}
+use Rattle.std.proofs.lemmas.Result.{err_from_is_err_and}
+use Rattle.zre_zmtp.specs.Stream.{fault_of}
+use Rattle.zre_zmtp.specs.Run.{run_all}
+use Rattle.zre_zmtp.specs.Shown.{before_of, header_fault}
+use Rattle.zre_zmtp.proofs.Stay.{fault_of-stays}
+use Rattle.zre_zmtp.proofs.Framed.{head_of, header-refused}
+use Rattle.zre_zmtp.proofs.Turning.{begins, waits_from, no_part, no_octets, turn_refused, refused_turn}
+use Rattle.zre_zmtp.proofs.turns.take_whole.Goals as goal
+
+joined : (n : ℕ) (o front : List ℕ) → front ≡ take n o → o ≡ front ++ drop n o
+joined n o front p = sym (take-append-drop n o) ∙ ap (λ (x : List ℕ). x ++ drop n o) (sym p)
+
+-- a header, a body and what stands behind them
+parted : (o head behind body rest : List ℕ) → o ≡ head ++ behind → behind ≡ body ++ rest → o ≡ (head ++ body) ++ rest
+parted o head behind body rest p q = p ∙ ap (λ (x : List ℕ). head ++ x) q ∙ sym (append_assoc head body rest)
+
+front_of : (o head body rest : List ℕ) → o ≡ (head ++ body) ++ rest → take (length head + length body) o ≡ head ++ body
+front_of o head body rest is =
+    ap (λ (x : List ℕ). take (length head + length body) x) is
+    ∙ ap (λ n. take n ((head ++ body) ++ rest)) (sym (length-append head body))
+    ∙ take-append-le (length (head ++ body)) (head ++ body) rest (omega arith)
+    ∙ take_all (length (head ++ body)) (head ++ body) (omega arith)
+
+pub returns-in-Some-clause-refused : goal.returns-in-Some-clause-refused
+returns-in-Some-clause-refused c =
+    let b = before_of c.args.progress.now in
+    let o = c.args.octets.now in
+    let at = head_of c.args.header o c.split_at.result.0.now c.split_at.result.1.now c.requires.header
+    (c.split_at.ensures.front ∙ ap (λ n. take n o) c.header_len.ensures) (c.split_at.ensures.back ∙ ap (λ n. drop n o) c.header_len.ensures) in
+    let bad : header_fault b c.split_at.result.0.now ≡ Some c.in-Some.why = sym c.fault_of_header.ensures ∙ c.in-Some.is in
+    turn_refused c.args.want.now b o c.args.out.now c.args.out.now _
+    (ap (λ (x : List ℕ). fault_of c.args.want.now b x) at.whole
+    ∙ fault_of-stays c.args.want.now b c.split_at.result.0.now c.split_at.result.1.now _ (header-refused c.args.want.now b c.split_at.result.0.now c.in-Some.why c.requires.frame bad)) refl
+
+pub returns-in_err-take_frame-clause-refused : goal.returns-in_err-take_frame-clause-refused
+returns-in_err-take_frame-clause-refused c =
+    let p = err_from_is_err_and c.from_residual-in_err-take_frame.result c.from_residual-in_err-take_frame.ensures.1 in
+    let b = before_of c.args.progress.now in
+    let o = c.args.octets.now in
+    let out = c.args.out.now in
+    let head = c.split_at.result.0.now in
+    let at = head_of c.args.header o head c.split_at.result.1.now c.requires.header
+    (c.split_at.ensures.front ∙ ap (λ n. take n o) c.header_len.ensures) (c.split_at.ensures.back ∙ ap (λ n. drop n o) c.header_len.ensures) in
+    let fine : header_fault b head ≡ None = sym c.fault_of_header.ensures ∙ c.in_default.is in
+    let whole = parted o head c.split_at.result.1.now c.in_ok-body.body _ at.whole
+    (joined _ c.split_at.result.1.now c.in_ok-body.body (c.in_ok-body.ensures ∙ c.split_at-2.ensures.front)) in
+    rw (p.1, p.2) (refused_turn c.args.want.now out out c.take_frame.new.out (run_all c.args.want.now b o) b [] (head ++ c.in_ok-body.body) _ o c.in_err-take_frame.field-0.0 whole
+    (begins c.args.want.now b [] o out (waits_from c.args.want.now b [] (no_part c.args.want.now b) (no_octets c.args.want.now b.expected b))) (c.in_err-take_frame.ensures.refused fine))
+
+pub returns-clause-ok : goal.returns-clause-ok
+returns-clause-ok c =
+    let b = before_of c.args.progress.now in
+    let o = c.args.octets.now in
+    let head = c.split_at.result.0.now in
+    let at = head_of c.args.header o head c.split_at.result.1.now c.requires.header
+    (c.split_at.ensures.front ∙ ap (λ n. take n o) c.header_len.ensures) (c.split_at.ensures.back ∙ ap (λ n. drop n o) c.header_len.ensures) in
+    let fine : header_fault b head ≡ None = sym c.fault_of_header.ensures ∙ c.in_default.is in
+    let same : c.in_ok-body.body ≡ c.split_at-2.result.0.now = c.in_ok-body.ensures in
+    let whole = parted o head c.split_at.result.1.now c.in_ok-body.body _ at.whole
+    (joined _ c.split_at.result.1.now c.in_ok-body.body (same ∙ c.split_at-2.ensures.front)) in
+    let front : take (length head + length c.split_at-2.result.0.now) o ≡ head ++ c.in_ok-body.body =
+    ap (λ (x : List ℕ). take (length head + length x) o) (sym same) ∙ front_of o head c.in_ok-body.body _ whole in
+    rw front (c.in_ok-take_frame.ensures.ok fine)
