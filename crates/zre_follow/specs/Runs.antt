@@ -4,10 +4,10 @@ use Rattle.zre_values.specs.declared.peer_id.PeerId.{PeerId}
 use Rattle.zre_msg.specs.declared.message.Message.{Message}
 use Rattle.zre_peer.specs.Runs.{events_of, may_follow, fault_of, shown}
 use Rattle.zre_peer.specs.Views.{view_of}
-use Rattle.zre_peer.specs.declared.event.Cause.{Cause}
-use Rattle.zre_peer.specs.declared.event.Cause.TheVariants as causes
-use Rattle.zre_peer.specs.declared.event.IgnoreWhy.{IgnoreWhy}
-use Rattle.zre_peer.specs.declared.event.IgnoreWhy.TheVariants as whys
+use Rattle.zre_peer.specs.declared.causes.Cause.{Cause}
+use Rattle.zre_peer.specs.declared.causes.Cause.TheVariants as causes
+use Rattle.zre_peer.specs.declared.causes.IgnoreWhy.{IgnoreWhy}
+use Rattle.zre_peer.specs.declared.causes.IgnoreWhy.TheVariants as whys
 use Rattle.zre_peer.specs.declared.event.Event.{Event}
 use Rattle.zre_peer.specs.declared.event.Event.TheVariants.{Exit, Ignored}
 use Rattle.zre_peer.specs.declared.peer_run.RunFault.{RunFault}

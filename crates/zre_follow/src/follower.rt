@@ -7,7 +7,7 @@ ghost use Rattle.zre_follow.specs.Piece.{ReadPiece};
 
 use crate::taking::take_items;
 use std::alloc::Global;
-use zre_peer::{Events, Run};
+use zre_peer::Teller;
 use zre_pump::{Going, Machine, push_bad_line};
 use zre_values::{Octets, OutOfMemory, PeerId};
 use zre_zmtp::{FeedFault, Items, Reader, ZmtpFault};
@@ -19,9 +19,8 @@ pub struct Follower {
     alloc: Global,
     reader: Reader,
     fault: Option<ZmtpFault>,
-    run: Run,
+    run: Teller,
     items: Items,
-    events: Events,
 }
 
 impl Follower {
@@ -40,9 +39,8 @@ impl Follower {
             alloc,
             reader: Reader::traffic(alloc),
             fault: None,
-            run: Run::new(alloc, id),
+            run: Teller::new(alloc, id),
             items: Items::new(alloc),
-            events: Events::new(alloc),
         }
     }
 }
@@ -96,7 +94,6 @@ impl Machine for Follower {
             self.alloc,
             self.items.as_slice(),
             &mut self.run,
-            &mut self.events,
             out,
         )?;
         self.fault = fault;

@@ -9,7 +9,7 @@ ghost use Rattle.zre_follow.specs.Taken.{TookOne, Took};
 use crate::ends::push_end;
 use std::alloc::Global;
 use zre_msg::{Message, ReadFault};
-use zre_peer::{Events, Run, RunFault, push_lines};
+use zre_peer::{RunFault, Teller};
 use zre_values::{Octets, OutOfMemory};
 use zre_zmtp::{Item, What};
 
@@ -27,12 +27,11 @@ fn meant(alloc: Global, what: &What) -> Result<Option<Message>, OutOfMemory>
     }
 }
 
-// Takes one message and appends its lines. Says whether the run goes on. The events are a list to work in.
+// Takes one message and appends its lines. Says whether the run goes on.
 fn take_message(
     alloc: Global,
     message: Message,
-    run: &mut Run,
-    events: &mut Events,
+    run: &mut Teller,
     out: &mut Octets,
 ) -> Result<bool, OutOfMemory>
     requires { is_spent run.old ≡ false }
@@ -41,15 +40,11 @@ fn take_message(
     ensures spent { IfOk result (λ on. is_spent run.new ≡ not on) }
     ensures id { id_of run.new ≡ id_of run.old }
 {
-    events.clear();
-    match run.take(message, events) {
-        Ok(()) => {
-            push_lines(out, events.as_slice())?;
-            Ok(true)
-        }
+    match run.take(message, out) {
+        Ok(()) => Ok(true),
         Err(RunFault::OutOfMemory) => Err(OutOfMemory),
         Err(fault) => {
-            push_end(alloc, run, fault, out)?;
+            push_end(alloc, run.run(), fault, out)?;
             Ok(false)
         }
     }
@@ -59,8 +54,7 @@ fn take_message(
 fn take_item(
     alloc: Global,
     item: &Item,
-    run: &mut Run,
-    events: &mut Events,
+    run: &mut Teller,
     out: &mut Octets,
 ) -> Result<bool, OutOfMemory>
     requires { is_spent run.old ≡ false }
@@ -70,7 +64,7 @@ fn take_item(
     ensures id { id_of run.new ≡ id_of run.old }
 {
     match meant(alloc, &item.what)? {
-        Some(message) => take_message(alloc, message, run, events, out),
+        Some(message) => take_message(alloc, message, run, out),
         None => Ok(true),
     }
 }
@@ -79,8 +73,7 @@ fn take_item(
 pub(crate) fn take_items(
     alloc: Global,
     items: &[Item],
-    run: &mut Run,
-    events: &mut Events,
+    run: &mut Teller,
     out: &mut Octets,
 ) -> Result<(), OutOfMemory>
     requires { is_spent run.old ≡ false }
@@ -89,7 +82,7 @@ pub(crate) fn take_items(
     ensures id { id_of run.new ≡ id_of run.old }
 {
     for item in items {
-        if !take_item(alloc, item, run, events, out)? {
+        if !take_item(alloc, item, run, out)? {
             return Ok(());
         }
     }

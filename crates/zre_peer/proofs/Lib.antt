@@ -2,3 +2,4 @@ pub mod Limits
 pub mod Members
 pub mod Opening
 pub mod Standing
+pub mod Named

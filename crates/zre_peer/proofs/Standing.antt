@@ -1,15 +1,12 @@
 -- A run that has taken messages, and one more.
-use Rattle.std.proofs.Common.{◌≡◌, ℕ, ◌+◌, ◌%◌, Bool, true, false, ◌&&◌, List, [], ◌∷◌, ◌++◌, length, Option, Some, None, refl, sym, ap, ◌∙◌, arith, cond, eqb}
+use Rattle.std.proofs.Common.{◌≡◌, ℕ, ◌+◌, ◌%◌, Bool, true, false, ◌&&◌, List, [], ◌∷◌, ◌++◌, length, Some, refl, sym, ap, ◌∙◌, arith}
 use Rattle.std.proofs.lemmas.List.Sums.{fold_push}
 use Rattle.std.proofs.lemmas.Bool.{and_parts, and_from}
-use Rattle.std.proofs.lemmas.List.{append-nil, length_push, append_assoc}
-use Rattle.zre_values.specs.declared.peer_id.PeerId.{PeerId}
+use Rattle.std.proofs.lemmas.List.{append-nil, append_assoc}
 use Rattle.zre_msg.specs.declared.message.Message.{Message}
-use Rattle.zre_peer.specs.declared.event.Event.{Event}
 use Rattle.zre_peer.specs.declared.view.View.{View}
-use Rattle.zre_peer.specs.declared.peer_run.RunFault.{RunFault}
 use Rattle.zre_peer.specs.Later.{goes_on, later_fault}
-use Rattle.zre_peer.specs.Runs.{due, may_follow, fault_of, shown, in_order, in_order_behind}
+use Rattle.zre_peer.specs.Runs.{due, may_follow, fault_of, shown, in_order_behind}
 use Rattle.zre_peer.specs.Views.{view_of, after, blank}
 
 and_false : (b : Bool) → (b && false) ≡ false

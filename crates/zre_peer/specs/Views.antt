@@ -1,5 +1,5 @@
 -- The view that messages lead to, and its limits.
-use Rattle.std.specs.Prelude.{ℕ, Bool, ◌&&◌, nat_le, List, [], length}
+use Rattle.std.specs.Prelude.{Bool, ◌&&◌, nat_le, List, [], length}
 use Rattle.std.specs.List.{fold, list_all}
 use Rattle.zre_values.specs.Lists.{without}
 use Rattle.zre_values.specs.declared.limits.TheConstants.{GROUPS, GROUP_OCTETS, HEADERS}

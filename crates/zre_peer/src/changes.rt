@@ -14,7 +14,7 @@ use zre_values::limits::{GROUP_OCTETS, GROUPS};
 use zre_values::{Octets, PeerId};
 
 // Whether the view stays within the limits with one more group.
-fn can_join(view: &View, group: &[u8]) -> bool
+pub(crate) fn can_join(view: &View, group: &[u8]) -> bool
     requires { is_small view.now ≡ true }
     ensures { (status : ℕ) → result ≡ is_small (after view.now (bodies.Join group.now status)) }
 {
@@ -22,6 +22,29 @@ fn can_join(view: &View, group: &[u8]) -> bool
         return true;
     }
     view.groups.len() < GROUPS && group.len() <= GROUP_OCTETS
+}
+
+/// Adds the group of a JOIN. After an error the view is as it was.
+pub(crate) fn join(view: &mut View, group: Octets, status: u8) -> Result<(), RunFault>
+    ensures ok { OnOk result (view.new ≡ after view.old (bodies.Join group status)) }
+    ensures kept { OnErr result (view.new ≡ view.old) }
+    ensures refused { IfErr result (λ e. e ≡ RunFault.OutOfMemory) }
+{
+    view.groups.insert(group)?;
+    view.status = status;
+    Ok(())
+}
+
+/// Takes away the group of a LEAVE.
+pub(crate) fn leave(view: &mut View, group: &[u8], status: u8)
+    requires { is_small view.old ≡ true }
+    ensures small { is_small (after view.old (bodies.Leave group.now status)) ≡ true }
+    ensures after { view.new ≡ after view.old (bodies.Leave group.now status) }
+{
+    if let Some(i) = view.groups.place_of(group) {
+        view.groups.remove_at(i);
+    }
+    view.status = status;
 }
 
 fn joined(
@@ -47,9 +70,7 @@ fn joined(
         name: Octets::copy(alloc, view.name.as_slice())?,
         group: Octets::copy(alloc, group.as_slice())?,
     })?;
-    view.groups.insert(group)?;
-    view.status = status;
-    Ok(())
+    join(view, group, status)
 }
 
 fn left(
@@ -66,16 +87,12 @@ fn left(
     ensures kept { OnErr result (view.new ≡ view.old) }
     ensures refused { IfErr result (λ e. e ≡ RunFault.OutOfMemory) }
 {
-    let place = view.groups.place_of(group.as_slice());
     events.push(Event::Leave {
         id,
         name: Octets::copy(alloc, view.name.as_slice())?,
-        group,
+        group: Octets::copy(alloc, group.as_slice())?,
     })?;
-    if let Some(i) = place {
-        view.groups.remove_at(i);
-    }
-    view.status = status;
+    leave(view, group.as_slice(), status);
     Ok(())
 }
 

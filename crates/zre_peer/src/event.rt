@@ -1,28 +1,9 @@
 ghost use Rattle.std.specs.Prelude.{◌≡◌, ◌<◌, List, [], ◌∷◌, ◌++◌, length, OnOk, OnErr, slice_get, Some};
 
+use crate::causes::{Cause, CloseWhy, IgnoreWhy, RefuseWhy};
 use std::alloc::Global;
 use std::marker::Model;
 use zre_values::{Frames, Octets, OutOfMemory, Pairs, PeerId};
-
-/// Why a peer's run ended.
-#[derive(Clone, Copy, Debug, PartialEq, Eq)]
-pub enum Cause {
-    /// A second HELLO came.
-    Hello,
-    /// A message was lost, repeated or out of order: the number that was due, and the one that came.
-    Order { due: u16, got: u16 },
-    /// The view would have passed a limit.
-    Limit,
-}
-
-/// Why a connection is ignored.
-#[derive(Clone, Copy, Debug, PartialEq, Eq)]
-pub enum IgnoreWhy {
-    /// Its first message isn't HELLO with number 1.
-    NotHello,
-    /// The view of its HELLO passes a limit.
-    Limit,
-}
 
 /// What the node tells. The events are those of the zyre manual; `name` is the peer's own.
 #[derive(Debug, Drop)]
@@ -59,16 +40,32 @@ pub enum Event {
         group: Octets,
         content: Frames,
     },
+    /// Nothing has come from it for a while.
+    Evasive {
+        id: PeerId,
+        name: Octets,
+    },
     /// It has gone, or broken off.
     Exit {
         id: PeerId,
         name: Octets,
         cause: Cause,
     },
+    /// This node has stopped. Nothing comes behind it.
+    Stop,
+    /// The node closes a connection.
+    Closed {
+        conn: u64,
+        why: CloseWhy,
+    },
     /// A connection is ignored from now on.
     Ignored {
         conn: u64,
         why: IgnoreWhy,
+    },
+    /// A command isn't done.
+    Refused {
+        why: RefuseWhy,
     },
 }
 

@@ -2,6 +2,8 @@
 //! run that takes them one after the other and says where they break off.
 #![tactic(auto)]
 
+mod cause_text;
+mod causes;
 mod changes;
 mod event;
 mod groups;
@@ -9,11 +11,15 @@ mod headers;
 mod hello;
 mod line;
 mod peer_run;
+mod teller;
+mod telling;
 mod view;
 
-pub use event::{Cause, Event, Events, IgnoreWhy};
+pub use causes::{Cause, CloseWhy, IgnoreWhy, RefuseWhy};
+pub use event::{Event, Events};
 pub use groups::Groups;
 pub use headers::Headers;
 pub use line::{push_line, push_lines};
 pub use peer_run::{Run, RunFault};
+pub use teller::Teller;
 pub use view::View;

@@ -1,124 +1,121 @@
 //! The lines of events.
 
-ghost use Rattle.std.specs.Prelude.{◌≡◌, ◌++◌, OnOk, IfOk};
-ghost use Rattle.zre_peer.specs.Lines.{cause_text, why_text, head_text, enter_line, group_line, whisper_line, shout_line, exit_line, ignored_line, line, lines};
+ghost use Rattle.std.specs.Prelude.{◌≡◌, ◌++◌, OnOk, IfOk, codes};
+ghost use Rattle.zre_peer.specs.Lines.{who_text, content_end, enter_end, group_end, shout_end, line, lines};
+ghost use Rattle.zre_peer.specs.declared.event.Event.TheVariants as kinds;
 
-use crate::event::{Cause, Event, IgnoreWhy};
+use crate::cause_text::{push_cause, push_close, push_ignore, push_refusal};
+use crate::causes::{Cause, CloseWhy, IgnoreWhy, RefuseWhy};
+use crate::event::Event;
 use std::alloc::Global;
 use zre_values::{
     Frames, Octets, OutOfMemory, Pairs, PeerId, push_decimal, push_quoted, push_quoted_frames,
     push_quoted_pairs,
 };
 
-fn push_cause(out: &mut Octets, cause: Cause) -> Result<(), OutOfMemory>
-    ensures { OnOk result (out.new ≡ out.old ++ cause_text cause) }
+/// Appends who a peer is, as it stands behind the word of each of its events that have further fields.
+pub(crate) fn push_who(out: &mut Octets, id: PeerId, name: &[u8]) -> Result<(), OutOfMemory>
+    ensures { OnOk result (out.new ≡ out.old ++ who_text id name.now) }
 {
-    match cause {
-        Cause::Hello => out.append(b"hello"),
-        Cause::Limit => out.append(b"limit"),
-        Cause::Order { due, got } => {
-            out.append(b"order ")?;
-            push_decimal(out, u64::from(due))?;
-            out.push(b' ')?;
-            push_decimal(out, u64::from(got))
-        }
-    }
+    id.push_to(out)?;
+    out.push(b' ')?;
+    push_quoted(out, name)?;
+    out.push(b' ')
 }
 
-fn push_why(out: &mut Octets, why: IgnoreWhy) -> Result<(), OutOfMemory>
-    ensures { OnOk result (out.new ≡ out.old ++ why_text why) }
+/// Appends a group that ends a line.
+pub(crate) fn push_group_end(out: &mut Octets, group: &Octets) -> Result<(), OutOfMemory>
+    ensures { OnOk result (out.new ≡ out.old ++ group_end group.now) }
 {
-    match why {
-        IgnoreWhy::NotHello => out.append(b"NotHello"),
-        IgnoreWhy::Limit => out.append(b"Limit"),
-    }
+    push_quoted(out, group.as_slice())?;
+    out.push(b'\n')
+}
+
+/// Appends frames of content that end a line.
+pub(crate) fn push_content_end(out: &mut Octets, content: &Frames) -> Result<(), OutOfMemory>
+    ensures { OnOk result (out.new ≡ out.old ++ content_end content.now) }
+{
+    push_quoted_frames(out, content)?;
+    out.push(b'\n')
+}
+
+/// Appends a group and frames of content that end a line.
+pub(crate) fn push_shout_end(
+    out: &mut Octets,
+    group: &Octets,
+    content: &Frames,
+) -> Result<(), OutOfMemory>
+    ensures { OnOk result (out.new ≡ out.old ++ shout_end group.now content.now) }
+{
+    push_quoted(out, group.as_slice())?;
+    out.push(b' ')?;
+    push_content_end(out, content)
 }
 
 // The word of an event, and who it is of.
 fn push_head(out: &mut Octets, word: &[u8], id: PeerId, name: &Octets) -> Result<(), OutOfMemory>
-    ensures { OnOk result (out.new ≡ out.old ++ head_text word.now id name.now) }
+    ensures { OnOk result (out.new ≡ out.old ++ word.now ++ who_text id name.now) }
 {
     out.append(word)?;
-    id.push_to(out)?;
-    out.push(b' ')?;
-    push_quoted(out, name.as_slice())?;
-    out.push(b' ')
+    push_who(out, id, name.as_slice())
 }
 
-fn push_enter(
+fn push_enter_end(
     out: &mut Octets,
-    id: PeerId,
-    name: &Octets,
     endpoint: &Octets,
     headers: &Pairs,
 ) -> Result<(), OutOfMemory>
-    ensures { OnOk result (out.new ≡ out.old ++ enter_line id name.now endpoint.now headers.now) }
+    ensures { OnOk result (out.new ≡ out.old ++ enter_end endpoint.now headers.now) }
 {
-    push_head(out, b"ENTER ", id, name)?;
     push_quoted(out, endpoint.as_slice())?;
     out.push(b' ')?;
     push_quoted_pairs(out, headers)?;
     out.push(b'\n')
 }
 
-fn push_group_line(
-    out: &mut Octets,
-    word: &[u8],
-    id: PeerId,
-    name: &Octets,
-    group: &Octets,
-) -> Result<(), OutOfMemory>
-    ensures { OnOk result (out.new ≡ out.old ++ group_line word.now id name.now group.now) }
+fn push_evasive(out: &mut Octets, id: PeerId, name: &Octets) -> Result<(), OutOfMemory>
+    ensures { OnOk result (out.new ≡ out.old ++ line (kinds.Evasive id name.now)) }
 {
-    push_head(out, word, id, name)?;
-    push_quoted(out, group.as_slice())?;
-    out.push(b'\n')
-}
-
-fn push_whisper(
-    out: &mut Octets,
-    id: PeerId,
-    name: &Octets,
-    content: &Frames,
-) -> Result<(), OutOfMemory>
-    ensures { OnOk result (out.new ≡ out.old ++ whisper_line id name.now content.now) }
-{
-    push_head(out, b"WHISPER ", id, name)?;
-    push_quoted_frames(out, content)?;
-    out.push(b'\n')
-}
-
-fn push_shout(
-    out: &mut Octets,
-    id: PeerId,
-    name: &Octets,
-    group: &Octets,
-    content: &Frames,
-) -> Result<(), OutOfMemory>
-    ensures { OnOk result (out.new ≡ out.old ++ shout_line id name.now group.now content.now) }
-{
-    push_head(out, b"SHOUT ", id, name)?;
-    push_quoted(out, group.as_slice())?;
+    out.append(b"EVASIVE ")?;
+    id.push_to(out)?;
     out.push(b' ')?;
-    push_quoted_frames(out, content)?;
+    push_quoted(out, name.as_slice())?;
     out.push(b'\n')
 }
 
 fn push_exit(out: &mut Octets, id: PeerId, name: &Octets, cause: Cause) -> Result<(), OutOfMemory>
-    ensures { OnOk result (out.new ≡ out.old ++ exit_line id name.now cause) }
+    ensures { OnOk result (out.new ≡ out.old ++ line (kinds.Exit id name.now cause)) }
 {
     push_head(out, b"EXIT ", id, name)?;
     push_cause(out, cause)?;
     out.push(b'\n')
 }
 
+fn push_closed(out: &mut Octets, conn: u64, why: CloseWhy) -> Result<(), OutOfMemory>
+    ensures { OnOk result (out.new ≡ out.old ++ line (kinds.Closed conn why)) }
+{
+    out.append(b"CLOSED ")?;
+    push_decimal(out, conn)?;
+    out.push(b' ')?;
+    push_close(out, why)?;
+    out.push(b'\n')
+}
+
 fn push_ignored(out: &mut Octets, conn: u64, why: IgnoreWhy) -> Result<(), OutOfMemory>
-    ensures { OnOk result (out.new ≡ out.old ++ ignored_line conn why) }
+    ensures { OnOk result (out.new ≡ out.old ++ line (kinds.Ignored conn why)) }
 {
     out.append(b"IGNORED ")?;
     push_decimal(out, conn)?;
     out.push(b' ')?;
-    push_why(out, why)?;
+    push_ignore(out, why)?;
+    out.push(b'\n')
+}
+
+fn push_refused(out: &mut Octets, why: &RefuseWhy) -> Result<(), OutOfMemory>
+    ensures { OnOk result (out.new ≡ out.old ++ line (kinds.Refused why.now)) }
+{
+    out.append(b"REFUSED ")?;
+    push_refusal(out, why)?;
     out.push(b'\n')
 }
 
@@ -132,18 +129,37 @@ pub fn push_line(out: &mut Octets, event: &Event) -> Result<(), OutOfMemory>
             name,
             endpoint,
             headers,
-        } => push_enter(out, *id, name, endpoint, headers),
-        Event::Join { id, name, group } => push_group_line(out, b"JOIN ", *id, name, group),
-        Event::Leave { id, name, group } => push_group_line(out, b"LEAVE ", *id, name, group),
-        Event::Whisper { id, name, content } => push_whisper(out, *id, name, content),
+        } => {
+            push_head(out, b"ENTER ", *id, name)?;
+            push_enter_end(out, endpoint, headers)
+        }
+        Event::Join { id, name, group } => {
+            push_head(out, b"JOIN ", *id, name)?;
+            push_group_end(out, group)
+        }
+        Event::Leave { id, name, group } => {
+            push_head(out, b"LEAVE ", *id, name)?;
+            push_group_end(out, group)
+        }
+        Event::Whisper { id, name, content } => {
+            push_head(out, b"WHISPER ", *id, name)?;
+            push_content_end(out, content)
+        }
         Event::Shout {
             id,
             name,
             group,
             content,
-        } => push_shout(out, *id, name, group, content),
+        } => {
+            push_head(out, b"SHOUT ", *id, name)?;
+            push_shout_end(out, group, content)
+        }
+        Event::Evasive { id, name } => push_evasive(out, *id, name),
         Event::Exit { id, name, cause } => push_exit(out, *id, name, *cause),
+        Event::Stop => out.append(b"STOP\n"),
+        Event::Closed { conn, why } => push_closed(out, *conn, *why),
         Event::Ignored { conn, why } => push_ignored(out, *conn, *why),
+        Event::Refused { why } => push_refused(out, why),
     }
 }
 

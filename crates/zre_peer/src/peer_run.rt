@@ -1,19 +1,21 @@
-ghost use Rattle.std.specs.Prelude.{ℕ, ◌≡◌, ◌≢◌, ◌++◌, [], ◌∷◌, List, Err, true, false, IfOk, IfErr, OnOk, OnErr};
+ghost use Rattle.std.specs.Prelude.{ℕ, ◌+◌, ◌%◌, ◌≡◌, ◌≢◌, ◌++◌, [], ◌∷◌, List, Err, None, Some, true, false, IfOk, IfErr, OnOk, OnErr, is_some};
 ghost use Rattle.std.specs.Option.{ForSome};
 ghost use Rattle.zre_msg.specs.declared.message.Message.{Message};
 ghost use Rattle.zre_peer.specs.declared.peer_run.RunFault.TheVariants as faults;
 ghost use Rattle.zre_peer.specs.Later.{goes_on, later_fault};
-ghost use Rattle.zre_peer.specs.Runs.{events_of, may_follow, fault_of, in_order};
-ghost use Rattle.zre_peer.specs.Views.{after, is_small, view_of};
+ghost use Rattle.zre_peer.specs.Lines.{lines, who_text};
+ghost use Rattle.zre_peer.specs.Runs.{events_of, may_follow, fault_of, in_order, is_hello};
+ghost use Rattle.zre_peer.specs.Views.{after, blank, is_small, view_of};
 
 use crate::changes::change;
 use crate::event::Events;
 use crate::hello::{is_hello, is_small, opened, tell_hello};
+use crate::telling::tell_change;
 use crate::view::View;
 use std::alloc::Global;
 use thiserror::Error;
 use zre_msg::Message;
-use zre_values::{OutOfMemory, PeerId};
+use zre_values::{Octets, OutOfMemory, PeerId};
 
 /// Why a message doesn't belong to the run. The tests stand in this order.
 #[derive(Clone, Copy, Debug, PartialEq, Eq, Error)]
@@ -61,6 +63,7 @@ pub struct Run {
 
 // The first message of a run.
 fn first(alloc: Global, id: PeerId, message: Message, events: &mut Events) -> Result<View, RunFault>
+    ensures hello { IfOk result (λ view. (is_hello message.body ≡ true) × (view ≡ after blank message.body)) }
     ensures ok { IfOk result (λ view. (may_follow [] message ≡ true)
         × (view ≡ view_of (message ∷ [])) × (events.new ≡ events.old ++ events_of id (view_of []) message.body)) }
     ensures refused { IfErr result (λ e. e ≢ RunFault.OutOfMemory →
@@ -81,6 +84,23 @@ fn first(alloc: Global, id: PeerId, message: Message, events: &mut Events) -> Re
     Ok(view)
 }
 
+// Whether a message behind the first may come, but for what it does to the view.
+fn expect(due: u16, message: &Message) -> Result<(), RunFault>
+    ensures ok { OnOk result ((is_hello message.now.body ≡ false) × (message.now.sequence ≡ due)) }
+    ensures refused { IfErr result (λ e. ((view : View) → goes_on view due message.now ≡ false) × (e ≡ later_fault due message.now)) }
+{
+    if is_hello(&message.body) {
+        return Err(RunFault::SecondHello);
+    }
+    if message.sequence != due {
+        return Err(RunFault::Broken {
+            due,
+            got: message.sequence,
+        });
+    }
+    Ok(())
+}
+
 // A message behind the first.
 fn later(
     alloc: Global,
@@ -97,20 +117,33 @@ fn later(
     ensures refused { IfErr result (λ e. e ≢ RunFault.OutOfMemory →
         (goes_on view.old due message ≡ false) × (e ≡ later_fault due message) × (events.new ≡ events.old)) }
 {
-    if is_hello(&message.body) {
-        return Err(RunFault::SecondHello);
-    }
-    if message.sequence != due {
-        return Err(RunFault::Broken {
-            due,
-            got: message.sequence,
-        });
-    }
+    expect(due, &message)?;
     change(alloc, id, view, message.body, events)
 }
 
+// The same, with the lines of the events, in which `who` stands for the peer.
+fn tell_later(
+    view: &mut View,
+    due: u16,
+    message: Message,
+    who: &[u8],
+    out: &mut Octets,
+) -> Result<(), RunFault>
+    requires { is_small view.old ≡ true }
+    ensures ok { OnOk result ((goes_on view.old due message ≡ true) × (view.new ≡ after view.old message.body)) }
+    ensures told { (id : PeerId) → who.now ≡ who_text id view.old.name → OnOk result (out.new ≡ out.old ++ lines (events_of id view.old message.body)) }
+    ensures name { view.new.name ≡ view.old.name }
+    ensures small { is_small view.new ≡ true }
+    ensures kept { OnErr result (view.new ≡ view.old) }
+    ensures refused { IfErr result (λ e. e ≢ RunFault.OutOfMemory →
+        (goes_on view.old due message ≡ false) × (e ≡ later_fault due message) × (out.new ≡ out.old)) }
+{
+    expect(due, &message)?;
+    tell_change(view, message.body, who, out)
+}
+
 impl Run {
-    ghost use Rattle.zre_peer.specs.Standing.{Stands, id_of, view_in, is_spent};
+    ghost use Rattle.zre_peer.specs.Standing.{Stands, IsReady, id_of, view_in, is_spent};
     ghost use Rattle.std.specs.Prelude.{option_copied};
 
     /// The run of a peer of which no message was taken yet. It takes no memory.
@@ -148,6 +181,13 @@ impl Run {
         self.spent
     }
 
+    // The number of the next message.
+    fn due(&self) -> u16
+        ensures { result ≡ (self.now.count + 1) % 65536 }
+    {
+        self.count.wrapping_add(1)
+    }
+
     /// Takes the next message, and gives its events.
     pub fn next(&mut self, message: Message) -> Result<Events, RunFault>
         requires { is_spent self.old ≡ false }
@@ -169,6 +209,8 @@ impl Run {
     /// The same, with the events appended to a list. After `OutOfMemory` some of them may stand there.
     pub fn take(&mut self, message: Message, events: &mut Events) -> Result<(), RunFault>
         requires { is_spent self.old ≡ false }
+        ensures first { view_in self.old ≡ None → OnOk result (
+            (is_hello message.body ≡ true) × (view_in self.new ≡ Some (after blank message.body))) }
         ensures ok { (ms : List Message) → Stands self.old ms → OnOk result (
             (may_follow ms message ≡ true) × Stands self.new (ms ++ message ∷ [])
             × (events.new ≡ events.old ++ events_of (id_of self.old) (view_of ms) message.body)) }
@@ -180,7 +222,7 @@ impl Run {
         ensures kept { OnErr result (view_in self.new ≡ view_in self.old) }
         ensures id { id_of self.new ≡ id_of self.old }
     {
-        let next = self.count.wrapping_add(1);
+        let next = self.due();
         match &mut self.view {
             None => match first(self.alloc, self.id, message, events) {
                 Ok(view) => {
@@ -203,6 +245,44 @@ impl Run {
                     Err(fault)
                 }
             },
+        }
+    }
+
+    /// The same for a message behind HELLO, with the lines of its events appended to a text; in them `who` stands for
+    /// the peer. After `OutOfMemory` a front of them may stand there.
+    pub(crate) fn tell(
+        &mut self,
+        message: Message,
+        who: &[u8],
+        out: &mut Octets,
+    ) -> Result<(), RunFault>
+        requires going { is_spent self.old ≡ false }
+        requires behind { is_some (view_in self.old) ≡ true }
+        requires ready { IsReady self.old who.now }
+        ensures ok { (ms : List Message) → Stands self.old ms → OnOk result (
+            (may_follow ms message ≡ true) × Stands self.new (ms ++ message ∷ [])
+            × (out.new ≡ out.old ++ lines (events_of (id_of self.old) (view_of ms) message.body))) }
+        ensures going { OnOk result (is_spent self.new ≡ false) }
+        ensures refused { (ms : List Message) → Stands self.old ms → IfErr result (λ e. e ≢ RunFault.OutOfMemory →
+            (may_follow ms message ≡ false) × (e ≡ fault_of ms message) × (out.new ≡ out.old)) }
+        ensures spent { IfErr result (λ e. e ≢ RunFault.OutOfMemory → is_spent self.new ≡ true) }
+        ensures kept { OnErr result (view_in self.new ≡ view_in self.old) }
+        ensures ready { IsReady self.new who.now }
+        ensures id { id_of self.new ≡ id_of self.old }
+    {
+        let next = self.due();
+        let Some(view) = &mut self.view else {
+            return Err(RunFault::NotHello);
+        };
+        match tell_later(view, next, message, who, out) {
+            Ok(()) => {
+                self.count = next;
+                Ok(())
+            }
+            Err(fault) => {
+                self.spent = fault != RunFault::OutOfMemory;
+                Err(fault)
+            }
         }
     }
 }

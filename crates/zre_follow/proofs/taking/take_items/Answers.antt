@@ -1,8 +1,4 @@
-use Rattle.std.proofs.Common.{◌≡◌, ◌∷◌, ◌++◌, ◌+◌, [], List, not, refl, sym, ap, ◌∙◌, subst, take, drop}
-use Rattle.std.proofs.lemmas.Bool.{not-true, not-false}
-use Rattle.zre_peer.specs.Standing.{Stands, id_of}
-use Rattle.zre_zmtp.specs.declared.item.Item.{Item}
-use Rattle.zre_follow.specs.Messages.{messages_in}
+use Rattle.std.proofs.Common.{not, refl, ap, ◌∙◌}
 use Rattle.zre_follow.proofs.Steps.{took_none, took_next, took_last, take_next}
 use Rattle.zre_follow.proofs.taking.take_items.Goals as goal
 

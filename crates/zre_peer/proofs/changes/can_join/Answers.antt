@@ -1,4 +1,4 @@
-use Rattle.std.proofs.Common.{◌≡◌, ◌&&◌, length, leb, sym, ◌∙◌, ap, arith}
+use Rattle.std.proofs.Common.{◌&&◌, length, leb, sym, ◌∙◌, ap, arith}
 use Rattle.std.proofs.lemmas.Bool.{lt-ltb, le-ltb}
 use Rattle.zre_peer.proofs.Limits.{there_is_small, joined_is_small}
 use Rattle.zre_peer.proofs.changes.can_join.Goals as goal

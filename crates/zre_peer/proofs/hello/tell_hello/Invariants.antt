@@ -1,4 +1,4 @@
-use Rattle.std.proofs.Common.{◌≡◌, ◌++◌, ◌∷◌, [], drop}
+use Rattle.std.proofs.Common.{◌≡◌, ◌++◌, ◌∷◌, drop}
 use Rattle.std.specs.Prelude.{map}
 use Rattle.zre_peer.specs.declared.event.Event.TheVariants as kinds
 use Rattle.zre_peer.proofs.hello.tell_hello.Given as goal

@@ -1,6 +1,5 @@
-use Rattle.std.proofs.Common.{◌≡◌, ◌++◌, List, not, ◌&&◌, refl, sym, ap, ◌∙◌, subst}
+use Rattle.std.proofs.Common.{not, ◌&&◌, refl, sym, ap, ◌∙◌, subst}
 use Rattle.std.specs.Prelude.{is_some}
-use Rattle.zre_peer.specs.Standing.{Stands, is_spent}
 use Rattle.zre_follow.specs.Follower.{peer_of}
 use Rattle.zre_follow.specs.Messages.{messages, messages_in}
 use Rattle.zre_follow.specs.Taken.{Took}

@@ -1,6 +1,6 @@
-use Rattle.std.proofs.Common.{◌≡◌, ◌+◌, ◌++◌, ◌%◌, true, List, [], length, Some, sym, ap, ◌∙◌, arith}
+use Rattle.std.proofs.Common.{◌≡◌, ◌++◌, ◌%◌, [], Some, sym, ap, ◌∙◌}
 use Rattle.std.proofs.lemmas.List.{length_push}
-use Rattle.zre_peer.specs.Runs.{due, events_of, shown}
+use Rattle.zre_peer.specs.Runs.{events_of, shown}
 use Rattle.zre_peer.proofs.Standing.{follows_later, fault_later, in_order-push, in_order-refused, count_more, view_before, shown_after}
 use Rattle.zre_peer.proofs.peer_run.Run.take.Goals as goal
 
@@ -9,7 +9,7 @@ returns-in-Ok-later-clause-ok c = λ ms s.
     let m = c.args.message in
     let v = c.in-Some.view in
     let e : Some v ≡ shown ms = sym c.in-Some.is ∙ s.view in
-    let number = count_more c.args.self.now.count ms s.count in
+    let number = c.due-next.ensures ∙ count_more c.args.self.now.count ms s.count in
     let may = follows_later ms v m _ e number ∙ c.in-Ok-later.ensures.ok.0 in (
       may,
       record {
@@ -26,7 +26,7 @@ returns-in-Err-later-clause-refused c = λ ms s ne.
     let m = c.args.message in
     let v = c.in-Some.view in
     let e : Some v ≡ shown ms = sym c.in-Some.is ∙ s.view in
-    let number = count_more c.args.self.now.count ms s.count in
+    let number = c.due-next.ensures ∙ count_more c.args.self.now.count ms s.count in
     let h = c.in-Err-later.ensures.refused ne in
     let may = follows_later ms v m _ e number ∙ h.0 in
     (may, in_order-refused [] ms m may, h.1 ∙ sym (fault_later ms v m _ e number), h.2)

@@ -1,0 +1,42 @@
+-- A message behind HELLO, told by its lines.
+use Rattle.std.proofs.Common.{◌≡◌, true, false, Result, Ok, Err, Option, Some, None, List, ℕ, refl, sym, ap, ◌∙◌}
+use Rattle.std.specs.Prelude.{OnOk, OnErr, is_some}
+use Rattle.std.specs.Option.{ForSome}
+use Rattle.zre_values.specs.declared.peer_id.PeerId.{PeerId}
+use Rattle.zre_msg.specs.declared.message.Body.{Body}
+use Rattle.zre_msg.specs.declared.message.Body.TheVariants.{Hello, Whisper, Shout, Join, Leave, Ping, PingOk, Other}
+use Rattle.zre_peer.specs.Runs.{is_hello}
+use Rattle.zre_peer.specs.Lines.{who_text}
+use Rattle.zre_peer.specs.Views.{after, is_small}
+use Rattle.zre_peer.specs.declared.view.View.{View}
+
+-- only HELLO sets the name
+pub name_stays : (v : View) (b : Body) → is_hello b ≡ false → (after v b).name ≡ v.name
+name_stays v (Hello endpoint groups status name headers) e = absurd cc
+name_stays v (Whisper content) e = refl
+name_stays v (Shout group content) e = refl
+name_stays v (Join group status) e = refl
+name_stays v (Leave group status) e = refl
+name_stays v Ping e = refl
+name_stays v PingOk e = refl
+name_stays v (Other number rest more) e = refl
+
+-- whether it is taken or not
+pub same_name : {X E : Type 0} (result : Result X E) (v w : View) (b : Body) → is_hello b ≡ false → OnOk result ((is_small (after v b) ≡ true) × (w ≡ after v b)) → OnErr result (w ≡ v) → w.name ≡ v.name
+same_name (Ok x) v w b e ok err = ap (λ (u : View). u.name) ok.1 ∙ name_stays v b e
+same_name (Err x) v w b e ok err = ap (λ (u : View). u.name) err
+
+pub still_small : {X E : Type 0} (result : Result X E) (v w : View) (b : Body) → is_small v ≡ true → OnOk result ((is_small (after v b) ≡ true) × (w ≡ after v b)) → OnErr result (w ≡ v) → is_small w ≡ true
+still_small (Ok x) v w b small ok err = ap is_small ok.1 ∙ ok.0
+still_small (Err e) v w b small ok err = ap is_small err ∙ small
+
+some_is : (v w : View) → Some v ≡ Some w → v ≡ w
+some_is v w e = cc
+
+pub none_is : (o : Option View) → is_some o ≡ false → o ≡ None
+none_is None e = refl
+none_is (Some v) e = absurd cc
+
+-- the text of who the peer is, made from its HELLO
+pub ready_first : (id same : PeerId) (o : Option View) (v : View) (who : List ℕ) → o ≡ Some v → same ≡ id → who ≡ who_text id v.name → ForSome o (λ w. who ≡ who_text same w.name)
+ready_first id same o v who e f is = λ w here. is ∙ ap (λ (n : List ℕ). who_text id n) (ap (λ (u : View). u.name) (some_is v w (sym e ∙ here))) ∙ ap (λ i. who_text i w.name) (sym f)

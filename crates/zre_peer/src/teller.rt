@@ -1,0 +1,141 @@
+//! A run whose events are wanted as lines.
+
+ghost use Rattle.std.specs.Prelude.{◌≡◌, ◌≢◌, ◌++◌, [], ◌∷◌, List, true, false, is_some, IfErr, IfOk, OnOk, OnErr};
+ghost use Rattle.std.specs.Option.{ForSome};
+ghost use Rattle.zre_msg.specs.declared.message.Message.{Message};
+ghost use Rattle.zre_peer.specs.Lines.{lines, who_text};
+ghost use Rattle.zre_peer.specs.Runs.{events_of, fault_of, is_hello, may_follow};
+ghost use Rattle.zre_peer.specs.Standing.{IsReady};
+ghost use Rattle.zre_peer.specs.Views.{after, blank, view_of};
+
+use crate::event::Events;
+use crate::line::{push_lines, push_who};
+use crate::peer_run::{Run, RunFault};
+use std::alloc::Global;
+use std::marker::Model;
+use zre_msg::{Body, Message};
+use zre_values::{Octets, OutOfMemory, PeerId};
+
+/// A run that writes the lines of its events and makes no events: who the peer is stands ready as a text from its
+/// HELLO on, for the many lines that begin with it.
+#[derive(Debug, Drop)]
+pub struct Teller {
+    alloc: Global,
+    run: Run,
+    who: Octets,
+    events: Events,
+    ghost within: { IsReady run who },
+}
+
+impl Model for Teller {
+    ghost use Rattle.zre_peer.specs.declared.peer_run.Run.{Run};
+
+    ghost Value = { Run };
+
+    ghost view = { λ t. t.run };
+}
+
+// Who the peer is by the name in its HELLO; nothing for other messages.
+fn who_of(alloc: Global, id: PeerId, body: &Body) -> Result<Octets, OutOfMemory>
+    ensures { IfOk result (λ who. is_hello body.now ≡ true → who ≡ who_text id (after blank body.now).name) }
+{
+    let mut who = Octets::new(alloc);
+    if let Body::Hello { name, .. } = body {
+        push_who(&mut who, id, name.as_slice())?;
+    }
+    Ok(who)
+}
+
+impl Teller {
+    ghost use Rattle.zre_peer.specs.Standing.{Stands, id_of, view_in, is_spent};
+
+    /// The run of a peer of which no message was taken yet. It takes no memory.
+    pub fn new(alloc: Global, id: PeerId) -> Self
+        ensures stands { Stands result [] }
+        ensures id { id_of result ≡ id }
+    {
+        Teller {
+            alloc,
+            run: Run::new(alloc, id),
+            who: Octets::new(alloc),
+            events: Events::new(alloc),
+        }
+    }
+
+    /// The run itself.
+    pub fn run(&self) -> &Run
+        ensures { result.now ≡ self.now }
+    {
+        &self.run
+    }
+
+    /// Whether a message was refused. Then no further message is taken.
+    pub fn spent(&self) -> bool
+        ensures { result ≡ is_spent self.now }
+    {
+        self.run.spent()
+    }
+
+    /// Takes the next message, and appends the lines of its events. After `OutOfMemory` a front of them may stand
+    /// there, and nothing is said of the run.
+    pub fn take(&mut self, message: Message, out: &mut Octets) -> Result<(), RunFault>
+        requires { is_spent self.old ≡ false }
+        ensures ok { (ms : List Message) → Stands self.old ms → OnOk result (
+            (may_follow ms message ≡ true) × Stands self.new (ms ++ message ∷ [])
+            × (out.new ≡ out.old ++ lines (events_of (id_of self.old) (view_of ms) message.body))) }
+        ensures going { OnOk result (is_spent self.new ≡ false) }
+        ensures refused { (ms : List Message) → Stands self.old ms → IfErr result (λ e. e ≢ RunFault.OutOfMemory →
+            (may_follow ms message ≡ false) × (e ≡ fault_of ms message) × (out.new ≡ out.old)) }
+        ensures spent { IfErr result (λ e. e ≢ RunFault.OutOfMemory →
+            (is_spent self.new ≡ true) × (view_in self.new ≡ view_in self.old)) }
+        ensures id { id_of self.new ≡ id_of self.old }
+    {
+        if self.is_behind() {
+            return self.take_later(message, out);
+        }
+        self.take_first(message, out)
+    }
+
+    // Whether HELLO was taken.
+    fn is_behind(&self) -> bool
+        ensures { result ≡ is_some (view_in self.now) }
+    {
+        self.run.view().is_some()
+    }
+
+    fn take_later(&mut self, message: Message, out: &mut Octets) -> Result<(), RunFault>
+        requires going { is_spent self.old ≡ false }
+        requires behind { is_some (view_in self.old) ≡ true }
+        ensures ok { (ms : List Message) → Stands self.old ms → OnOk result (
+            (may_follow ms message ≡ true) × Stands self.new (ms ++ message ∷ [])
+            × (out.new ≡ out.old ++ lines (events_of (id_of self.old) (view_of ms) message.body))) }
+        ensures going { OnOk result (is_spent self.new ≡ false) }
+        ensures refused { (ms : List Message) → Stands self.old ms → IfErr result (λ e. e ≢ RunFault.OutOfMemory →
+            (may_follow ms message ≡ false) × (e ≡ fault_of ms message) × (out.new ≡ out.old)) }
+        ensures spent { IfErr result (λ e. e ≢ RunFault.OutOfMemory →
+            (is_spent self.new ≡ true) × (view_in self.new ≡ view_in self.old)) }
+        ensures id { id_of self.new ≡ id_of self.old }
+    {
+        self.run.tell(message, self.who.as_slice(), out)
+    }
+
+    fn take_first(&mut self, message: Message, out: &mut Octets) -> Result<(), RunFault>
+        requires going { is_spent self.old ≡ false }
+        requires first { is_some (view_in self.old) ≡ false }
+        ensures ok { (ms : List Message) → Stands self.old ms → OnOk result (
+            (may_follow ms message ≡ true) × Stands self.new (ms ++ message ∷ [])
+            × (out.new ≡ out.old ++ lines (events_of (id_of self.old) (view_of ms) message.body))) }
+        ensures going { OnOk result (is_spent self.new ≡ false) }
+        ensures refused { (ms : List Message) → Stands self.old ms → IfErr result (λ e. e ≢ RunFault.OutOfMemory →
+            (may_follow ms message ≡ false) × (e ≡ fault_of ms message) × (out.new ≡ out.old)) }
+        ensures spent { IfErr result (λ e. e ≢ RunFault.OutOfMemory →
+            (is_spent self.new ≡ true) × (view_in self.new ≡ view_in self.old)) }
+        ensures id { id_of self.new ≡ id_of self.old }
+    {
+        let who = who_of(self.alloc, self.run.id(), &message.body)?;
+        self.events.clear();
+        self.run.take(message, &mut self.events)?;
+        self.who = who;
+        Ok(push_lines(out, self.events.as_slice())?)
+    }
+}
