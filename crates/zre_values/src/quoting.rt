@@ -1,7 +1,6 @@
 //! The quoted text of octets, in which every event and every capture is written.
 
-ghost use Rattle.std.specs.Prelude.{◌≡◌, ◌<◌, ◌++◌, IfOk, OnOk};
-ghost use Rattle.std.specs.List.{list_all};
+ghost use Rattle.std.specs.Prelude.{◌≡◌, ◌<◌, ◌≤◌, ◌+◌, ◌++◌, flat_map, length, take, IfOk, OnOk};
 ghost use Rattle.zre_values.specs.Text.{hex_digit, is_plain, quoted_octet, quoted, quoted_list, quoted_pair, quoted_pairs};
 
 use crate::{Frames, Octets, OutOfMemory, Pairs};
@@ -20,27 +19,44 @@ pub(crate) fn hex_digit(n: u8) -> u8
 pub(crate) fn is_plain(octet: u8) -> bool
     ensures { result ≡ is_plain octet }
 {
-    b'!' <= octet
-        && octet <= b'~'
-        && octet != b'%'
-        && octet != b'~'
-        && octet != b'='
-        && octet != b','
+    (b'!' <= octet)
+        & (octet <= b'~')
+        & (octet != b'%')
+        & (octet != b'~')
+        & (octet != b'=')
+        & (octet != b',')
 }
 
-pub(crate) fn are_plain(bytes: &[u8]) -> bool
-    ensures { result ≡ list_all is_plain bytes.now }
+// How many octets are quoted before their text is appended, and how many octets that text has at most.
+const CHUNK: usize = 32;
+
+const CHUNK_TEXT: usize = 96;
+
+// Writes the text of an octet at a place, and gives the place behind it. Three octets are written whichever it is, so
+// that no jump depends on the octet.
+#[inline]
+fn write_octet(text: &mut [u8; CHUNK_TEXT], at: usize, octet: u8) -> usize
+    requires { at + 3 ≤ CHUNK_TEXT }
+    ensures text { take result text.new ≡ take at text.old ++ quoted_octet octet }
+    ensures place { result ≤ at + 3 }
 {
-    bytes.iter().all(|octet| is_plain(*octet))
+    let is_plain = is_plain(octet);
+    text[at] = if is_plain { octet } else { b'%' };
+    text[at + 1] = hex_digit(octet / 16);
+    text[at + 2] = hex_digit(octet % 16);
+    if is_plain { at + 1 } else { at + 3 }
 }
 
-fn push_octet(out: &mut Octets, octet: u8) -> Result<(), OutOfMemory>
-    ensures { OnOk result (out.new ≡ out.old ++ quoted_octet octet) }
+fn push_chunk(out: &mut Octets, bytes: &[u8]) -> Result<(), OutOfMemory>
+    requires { length bytes.now ≤ CHUNK }
+    ensures { OnOk result (out.new ≡ out.old ++ flat_map quoted_octet bytes.now) }
 {
-    if is_plain(octet) {
-        return out.push(octet);
+    let mut text = [0; CHUNK_TEXT];
+    let mut len = 0;
+    for octet in bytes {
+        len = write_octet(&mut text, len, *octet);
     }
-    out.append(&[b'%', hex_digit(octet / 16), hex_digit(octet % 16)])
+    out.append(&text[..len])
 }
 
 /// Appends the quoted text of some octets. After an error a front of it may stand there.
@@ -50,11 +66,11 @@ pub fn push_quoted(out: &mut Octets, bytes: &[u8]) -> Result<(), OutOfMemory>
     if bytes.is_empty() {
         return out.push(b'~');
     }
-    if are_plain(bytes) {
-        return out.append(bytes);
-    }
-    for octet in bytes {
-        push_octet(out, *octet)?;
+    let mut rest = bytes;
+    while !rest.is_empty() {
+        let (front, behind) = rest.split_at(rest.len().min(CHUNK));
+        push_chunk(out, front)?;
+        rest = behind;
     }
     Ok(())
 }
