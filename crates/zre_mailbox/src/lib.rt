@@ -3,7 +3,11 @@
 #![tactic(auto)]
 
 mod arrival;
+mod conn;
 mod laws;
+mod phase;
+mod taking;
 
 pub use arrival::{Arrival, Arrivals};
+pub use conn::Conn;
 pub use laws::{completed_in_turn, nothing_said, talk_grows};
