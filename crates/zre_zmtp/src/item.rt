@@ -87,6 +87,13 @@ impl Items {
         self.items.as_slice()
     }
 
+    /// The items themselves, to be gone over by `for`, so that what they hold can be kept.
+    pub fn into_vec(self) -> Vec<Item>
+        ensures { result.items ≡ self }
+    {
+        self.items
+    }
+
     /// Appends an item, or nothing.
     pub fn push(&mut self, item: Item) -> Result<(), OutOfMemory>
         ensures ok { OnOk result (self.new ≡ self.old ++ item ∷ []) }

@@ -1,0 +1,5 @@
+use Rattle.zre_mailbox.proofs.Growing.{nothing_said}
+use Rattle.zre_mailbox.proofs.laws.nothing_said.Goals as goal
+
+pub returns : goal.returns
+returns c = nothing_said

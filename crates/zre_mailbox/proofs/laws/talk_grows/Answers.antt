@@ -1,0 +1,5 @@
+use Rattle.zre_mailbox.proofs.Growing.{goes}
+use Rattle.zre_mailbox.proofs.laws.talk_grows.Goals as goal
+
+pub returns : goal.returns
+returns c = goes

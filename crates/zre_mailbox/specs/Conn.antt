@@ -1,0 +1,97 @@
+-- What an incoming connection keeps, as a function of the octets that it was fed.
+use Rattle.std.specs.Prelude.{◌≡◌, ℕ, Bool, true, false, List, [], ◌∷◌, ◌++◌, Option, Some, None}
+use Rattle.std.specs.Option.{option_or}
+use Rattle.std.specs.Prelude.{map}
+use Rattle.zre_values.specs.declared.peer_id.PeerId.{PeerId}
+use Rattle.zre_zmtp.specs.Stream.{Kind, Whole, before, split}
+use Rattle.zre_zmtp.specs.declared.want.Want.{Want}
+use Rattle.zre_zmtp.specs.Reading.{Reading, kept}
+use Rattle.zre_zmtp.specs.declared.want.Want.TheVariants.{Dealer}
+use Rattle.zre_zmtp.specs.declared.fault.ZmtpFault.{ZmtpFault}
+use Rattle.zre_mailbox.specs.declared.arrival.Arrival.{Arrival}
+use Rattle.zre_mailbox.specs.declared.arrival.Arrival.TheVariants.{Greeted, Shaken, Message}
+use Rattle.zre_mailbox.specs.declared.phase.Phase.{Phase}
+use Rattle.zre_mailbox.specs.declared.phase.Phase.TheVariants.{Live, Spent, Ignored}
+use Rattle.zre_mailbox.specs.Talk.{Arrived, arrivals, fault_in, fault_said, new_arrivals, completed}
+
+-- ---- whom it shook hands with
+
+-- the peer that an arrival introduces
+abbrev pub introduced : Arrival → Option PeerId
+introduced Greeted = None
+introduced (Shaken peer) = Some peer
+introduced (Message m) = None
+
+-- the first peer that arrivals introduce
+abbrev pub identity_in : List Arrival → Option PeerId
+identity_in [] = None
+identity_in (a ∷ rest) = option_or (introduced a) (identity_in rest)
+
+-- ---- what contracts see of a connection
+
+-- what it does with octets, and whom it shook hands with
+pub record Hearing : Type 0 where
+  pub phase : Phase
+  pub identity : Option PeerId
+
+-- what a reader keeps behind octets without a fault
+abbrev pub reading : Want → Kind → List ℕ → Reading
+reading want kind o = record { before = before kind (split want kind o).0; left = (split want kind o).1; spent = false; wanted = want }
+
+-- a fault ends the reading
+abbrev pub phase_by : Option ZmtpFault → Reading → Phase
+phase_by None r = Live r
+phase_by (Some f) r = Spent
+
+-- the connection behind the octets o, which came in whichever pieces
+abbrev pub conn_after : PeerId → List ℕ → Hearing
+conn_after own o = record { phase = phase_by (fault_in own o) (reading (Dealer own) Whole o); identity = identity_in (arrivals own o) }
+
+-- the same connection, ignored from now on
+abbrev pub ignoring : Hearing → Hearing
+ignoring h = record { phase = Ignored; identity = h.identity }
+
+-- the connection behind the octets o, ignored
+abbrev pub ignored_after : PeerId → List ℕ → Hearing
+ignored_after own o = ignoring (conn_after own o)
+
+-- it is ignored
+abbrev pub is_ignored_in : Phase → Bool
+is_ignored_in (Live r) = false
+is_ignored_in Spent = false
+is_ignored_in Ignored = true
+
+abbrev pub is_ignored : Hearing → Bool
+is_ignored h = is_ignored_in h.phase
+
+-- a piece was refused
+abbrev pub is_spent_in : Phase → Bool
+is_spent_in (Live r) = r.spent
+is_spent_in Spent = true
+is_spent_in Ignored = false
+
+abbrev pub is_spent : Hearing → Bool
+is_spent h = is_spent_in h.phase
+
+-- how many octets are kept
+abbrev pub kept_in : Phase → ℕ
+kept_in (Live r) = kept r
+kept_in Spent = 0
+kept_in Ignored = 0
+
+abbrev pub kept_of : Hearing → ℕ
+kept_of h = kept_in h.phase
+
+-- ---- what a piece does
+
+-- These arrivals were appended, and whom they introduce is known, unless somebody was before.
+pub record Takes (taken : List Arrival) (known known' : Option PeerId) (out out' : List Arrival) : Type 0 where
+  pub appended : out' ≡ out ++ taken
+  pub identity : known' ≡ option_or known (identity_in taken)
+
+-- Behind the octets o a piece was read: what it completes of all that is said is what was appended, and the fault, where there is one.
+pub record Hears (own : PeerId) (o piece : List ℕ) (now : Hearing) (out out' : List Arrival) : Type 0 where
+  pub now_is : now ≡ conn_after own (o ++ piece)
+  pub appended : out' ≡ out ++ new_arrivals own o piece
+  pub arrived : arrivals own (o ++ piece) ≡ arrivals own o ++ new_arrivals own o piece
+  pub completes : completed own o piece ≡ map (λ a. Arrived a) (new_arrivals own o piece) ++ fault_said (fault_in own (o ++ piece))

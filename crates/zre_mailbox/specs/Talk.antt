@@ -1,0 +1,65 @@
+-- What an incoming connection says, read off all of its octets: its greeting, READY, the messages of ZRE, and its fault.
+use Rattle.std.specs.Prelude.{◌≡◌, ℕ, ◌==◌, ◌&&◌, if◌then◌else◌, List, [], ◌++◌, length, drop, map, slice_index, Option, Some, None, option_map, option_and_then, option_to_list}
+use Rattle.std.specs.Result.{result_ok}
+use Rattle.std.specs.List.{filter_map}
+use Rattle.zre_values.specs.declared.peer_id.PeerId.{PeerId}
+use Rattle.zre_zmtp.specs.Stream.{Whole, items, fault}
+use Rattle.zre_zmtp.specs.declared.want.Want.TheVariants.{Dealer}
+use Rattle.zre_zmtp.specs.declared.item.Item.{Item}
+use Rattle.zre_zmtp.specs.declared.item.What.{What}
+use Rattle.zre_zmtp.specs.declared.item.What.TheVariants as says
+use Rattle.zre_zmtp.specs.declared.fault.ZmtpFault.{ZmtpFault}
+use Rattle.zre_msg.specs.Reading.{read_frames}
+use Rattle.zre_mailbox.specs.declared.arrival.Arrival.{Arrival}
+use Rattle.zre_mailbox.specs.declared.arrival.Arrival.TheVariants.{Greeted, Shaken, Message}
+
+-- the peer with that identity, which is 01 and a UUID (RFC 36)
+abbrev pub peer_of : List ℕ → Option PeerId
+peer_of identity = if length identity == 17 && slice_index identity 0 == 1 then Some (record { 0 = drop 1 identity }) else None
+
+-- what arrives with an item: commands are none, and neither are messages outside the grammar
+abbrev pub arrival_of : What → Option Arrival
+arrival_of (says.Greeting major minor) = Some Greeted
+arrival_of (says.Ready size socket identity) = option_map (λ p. Shaken p) (option_and_then peer_of identity)
+arrival_of (says.Command size name body) = None
+arrival_of (says.Message frames) = option_map (λ m. Message m) (result_ok (read_frames frames))
+
+-- the same of each item
+abbrev pub arrivals_in : List Item → List Arrival
+arrivals_in items = filter_map (λ item. arrival_of item.what) items
+
+-- all that arrives, in order: the stream is that of a DEALER whose identity isn't one's own
+abbrev pub arrivals : PeerId → List ℕ → List Arrival
+arrivals own o = arrivals_in (items (Dealer own) Whole o)
+
+-- its first fault: one of RFC 23, or READY of another
+abbrev pub fault_in : PeerId → List ℕ → Option ZmtpFault
+fault_in own o = fault (Dealer own) Whole o
+
+-- what a connection says
+pub data Said : Type 0 where
+  Arrived : Arrival → Said
+  Fault : ZmtpFault → Said
+
+-- a fault, where there is one
+abbrev pub fault_said : Option ZmtpFault → List Said
+fault_said f = option_to_list (option_map (λ x. Fault x) f)
+
+-- all that the octets o say, in order: the arrivals, and last the fault
+abbrev pub talk : PeerId → List ℕ → List Said
+talk own o = map (λ a. Arrived a) (arrivals own o) ++ fault_said (fault_in own o)
+
+-- what more octets complete of it
+abbrev pub completed : PeerId → List ℕ → List ℕ → List Said
+completed own o more = drop (length (talk own o)) (talk own (o ++ more))
+
+-- what arrives with more octets
+abbrev pub new_arrivals : PeerId → List ℕ → List ℕ → List Arrival
+new_arrivals own o more = drop (length (arrivals own o)) (arrivals own (o ++ more))
+
+-- What was said stays, and more may come behind it, up to a fault.
+pub record Goes (own : PeerId) (o more : List ℕ) : Type 0 where
+  pub said : talk own (o ++ more) ≡ talk own o ++ completed own o more
+  pub arrived : arrivals own (o ++ more) ≡ arrivals own o ++ new_arrivals own o more
+  pub faultless : fault_in own o ≡ None → completed own o more ≡ map (λ a. Arrived a) (new_arrivals own o more) ++ fault_said (fault_in own (o ++ more))
+  pub over : (f : ZmtpFault) → fault_in own o ≡ Some f → (talk own (o ++ more) ≡ talk own o) × (completed own o more ≡ [])

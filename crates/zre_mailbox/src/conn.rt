@@ -1,0 +1,144 @@
+//! One incoming connection.
+
+ghost use Rattle.std.specs.Prelude.{◌≡◌, ℕ, ◌+◌, ◌≤◌, true, false, List, [], ◌++◌, None, IfOk, OnOk, IfErr, is_err};
+ghost use Rattle.zre_values.specs.declared.limits.TheConstants.{MESSAGE_OCTETS, COMMAND_OCTETS};
+ghost use Rattle.zre_values.specs.declared.peer_id.PeerId.{PeerId as PeerIdValue};
+ghost use Rattle.zre_zmtp.specs.Reading.{Reads, Refuses};
+ghost use Rattle.zre_zmtp.specs.Stream.{Whole};
+ghost use Rattle.zre_zmtp.specs.declared.want.Want.TheVariants.{Dealer};
+ghost use Rattle.zre_mailbox.specs.Talk.{fault_in, new_arrivals};
+ghost use Rattle.zre_mailbox.specs.Conn.{conn_after, ignoring, is_ignored, is_spent, kept_of, Takes, Hears};
+
+use crate::arrival::Arrivals;
+use crate::phase::Phase;
+use crate::taking::take_items;
+use std::alloc::Global;
+use std::marker::Model;
+use std::mem;
+use zre_values::PeerId;
+use zre_zmtp::{FeedFault, Items, Reader, Want};
+
+/// A connection that another node opened, read as a ROUTER: its other end has to be a DEALER whose identity is 01 and the
+/// UUID of another node.
+#[derive(Debug, Drop)]
+pub struct Conn {
+    alloc: Global,
+    phase: Phase,
+    identity: Option<PeerId>,
+}
+
+impl Model for Conn {
+    ghost use Rattle.zre_mailbox.specs.Conn.{Hearing};
+
+    ghost Value = { Hearing };
+
+    ghost view = { λ c. record { phase = c.phase; identity = c.identity } };
+}
+
+// Reads a piece, and takes what becomes whole with it. The reader is given up where the piece is refused.
+fn read_piece(
+    alloc: Global,
+    mut reader: Reader,
+    piece: &[u8],
+    identity: &mut Option<PeerId>,
+    out: &mut Arrivals,
+) -> Result<Reader, FeedFault>
+    requires { reader.spent ≡ false }
+    ensures ok { (own : PeerIdValue) (o : List ℕ) → Reads (Dealer own) Whole o reader →
+        IfOk result (λ r. Reads (Dealer own) Whole (o ++ piece.now) r
+        × Takes (new_arrivals own o piece.now) identity.old identity.new out.old out.new) }
+    ensures refused { (own : PeerIdValue) (o : List ℕ) → Reads (Dealer own) Whole o reader →
+        IfErr result (λ e. Refuses e (fault_in own (o ++ piece.now))
+        (Takes (new_arrivals own o piece.now) identity.old identity.new out.old out.new)) }
+    ensures unspent { IfOk result (λ r. r.spent ≡ false) }
+{
+    let mut items = Items::new(alloc);
+    let fed = reader.feed(piece, &mut items);
+    take_items(alloc, items, identity, out)?;
+    match fed {
+        Ok(()) => Ok(reader),
+        Err(fault) => Err(fault),
+    }
+}
+
+impl Conn {
+    /// A connection of which no octet has come yet, to the node with this UUID.
+    pub fn accept(alloc: Global, own: PeerId) -> Self
+        ensures { result ≡ conn_after own [] }
+    {
+        Conn {
+            alloc,
+            phase: Phase::Live(Reader::wanting(alloc, Want::Dealer(own))),
+            identity: None,
+        }
+    }
+
+    /// Reads one more piece: what becomes whole with it is appended, and messages outside the grammar are left out. A
+    /// fault is told behind the arrivals before it, and READY of another socket or without a good identity is one. After
+    /// a refusal the connection is spent, and keeps nothing; after want of memory what was appended is left open.
+    pub fn feed(&mut self, piece: &[u8], out: &mut Arrivals) -> Result<(), FeedFault>
+        requires heard { is_ignored self.old ≡ false }
+        requires unspent { is_spent self.old ≡ false }
+        ensures ok { (own : PeerIdValue) (o : List ℕ) → self.old ≡ conn_after own o →
+            OnOk result ((fault_in own (o ++ piece.now) ≡ None) × Hears own o piece.now self.new out.old out.new) }
+        ensures refused { (own : PeerIdValue) (o : List ℕ) → self.old ≡ conn_after own o →
+            IfErr result (λ e. Refuses e (fault_in own (o ++ piece.now)) (Hears own o piece.now self.new out.old out.new)) }
+        ensures spent { is_spent self.new ≡ is_err result }
+        ensures heard { is_ignored self.new ≡ false }
+    {
+        let Phase::Live(reader) = mem::replace(&mut self.phase, Phase::Spent) else {
+            return Err(FeedFault::OutOfMemory);
+        };
+        match read_piece(self.alloc, reader, piece, &mut self.identity, out) {
+            Ok(reader) => {
+                self.phase = Phase::Live(reader);
+                Ok(())
+            }
+            Err(fault) => Err(fault),
+        }
+    }
+
+    /// From now on nothing that comes is looked at. All octets are given up; the identity stays.
+    pub fn ignore(&mut self)
+        ensures ignored { self.new ≡ ignoring self.old }
+        ensures empty { kept_of self.new ≡ 0 }
+    {
+        self.phase = Phase::Ignored;
+    }
+
+    /// How many octets are kept: those of the bodies of an unfinished message, and those of an unfinished greeting or frame.
+    pub fn kept(&self) -> u64
+        ensures kept { (own : PeerIdValue) (o : List ℕ) → self.now ≡ conn_after own o →
+            (result ≡ kept_of self.now) × (result ≤ MESSAGE_OCTETS + 9 + COMMAND_OCTETS) }
+        ensures ignored { is_ignored self.now ≡ true → result ≡ 0 }
+    {
+        match &self.phase {
+            Phase::Live(reader) => reader.kept(),
+            Phase::Spent | Phase::Ignored => 0,
+        }
+    }
+
+    /// Whom READY introduced, if it came.
+    pub fn identity(&self) -> Option<PeerId>
+        ensures { result ≡ self.now.identity }
+    {
+        self.identity
+    }
+
+    pub fn ignored(&self) -> bool
+        ensures { result ≡ is_ignored self.now }
+    {
+        matches!(&self.phase, Phase::Ignored)
+    }
+
+    /// Whether a piece was refused.
+    pub fn spent(&self) -> bool
+        ensures { result ≡ is_spent self.now }
+    {
+        match &self.phase {
+            Phase::Live(reader) => reader.spent(),
+            Phase::Spent => true,
+            Phase::Ignored => false,
+        }
+    }
+}

@@ -1,0 +1,13 @@
+//! Incoming connections: a ROUTER reads what its DEALERs say (RFC 23) as arrivals: the greeting, the identity of READY,
+//! and the messages of ZRE (RFC 36).
+#![tactic(auto)]
+
+mod arrival;
+mod conn;
+mod laws;
+mod phase;
+mod taking;
+
+pub use arrival::{Arrival, Arrivals};
+pub use conn::Conn;
+pub use laws::{completed_in_turn, nothing_said, talk_grows};
