@@ -4,4 +4,5 @@ pub mod Framing
 pub mod Keys
 pub mod Lists
 pub mod PlainId
+pub mod Quoting
 pub mod Text

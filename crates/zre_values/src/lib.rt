@@ -12,6 +12,7 @@ mod octets;
 mod pairs;
 mod peer_id;
 mod plain_id;
+mod quoted_table;
 mod quoting;
 mod texts;
 mod unquoting;

@@ -3,17 +3,9 @@
 ghost use Rattle.std.specs.Prelude.{◌≡◌, ◌<◌, ◌≤◌, ◌+◌, ◌++◌, flat_map, length, take, IfOk, OnOk};
 ghost use Rattle.zre_values.specs.Text.{hex_digit, is_plain, quoted_octet, quoted, quoted_list, quoted_pair, quoted_pairs};
 
+use crate::quoted_table::{first_of, hex_digit, len_of};
 use crate::{Frames, Octets, OutOfMemory, Pairs};
 use std::alloc::Global;
-
-// The upper-case digit of a number below sixteen.
-#[inline]
-pub(crate) fn hex_digit(n: u8) -> u8
-    requires { n < 16 }
-    ensures { result ≡ hex_digit n }
-{
-    if n < 10 { b'0' + n } else { b'A' + (n - 10) }
-}
 
 #[inline]
 pub(crate) fn is_plain(octet: u8) -> bool
@@ -40,11 +32,10 @@ fn write_octet(text: &mut [u8; CHUNK_TEXT], at: usize, octet: u8) -> usize
     ensures text { take result text.new ≡ take at text.old ++ quoted_octet octet }
     ensures place { result ≤ at + 3 }
 {
-    let is_plain = is_plain(octet);
-    text[at] = if is_plain { octet } else { b'%' };
+    text[at] = first_of(octet);
     text[at + 1] = hex_digit(octet / 16);
     text[at + 2] = hex_digit(octet % 16);
-    if is_plain { at + 1 } else { at + 3 }
+    at + len_of(octet)
 }
 
 fn push_chunk(out: &mut Octets, bytes: &[u8]) -> Result<(), OutOfMemory>
