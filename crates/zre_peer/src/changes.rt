@@ -25,12 +25,12 @@ pub(crate) fn can_join(view: &View, group: &[u8]) -> bool
 }
 
 /// Adds the group of a JOIN. After an error the view is as it was.
-pub(crate) fn join(view: &mut View, group: Octets, status: u8) -> Result<(), RunFault>
-    ensures ok { OnOk result (view.new ≡ after view.old (bodies.Join group status)) }
+pub(crate) fn join(alloc: Global, view: &mut View, group: &[u8], status: u8) -> Result<(), RunFault>
+    ensures ok { OnOk result (view.new ≡ after view.old (bodies.Join group.now status)) }
     ensures kept { OnErr result (view.new ≡ view.old) }
     ensures refused { IfErr result (λ e. e ≡ RunFault.OutOfMemory) }
 {
-    view.groups.insert(group)?;
+    view.groups.insert(alloc, group)?;
     view.status = status;
     Ok(())
 }
@@ -70,7 +70,7 @@ fn joined(
         name: Octets::copy(alloc, view.name.as_slice())?,
         group: Octets::copy(alloc, group.as_slice())?,
     })?;
-    join(view, group, status)
+    join(alloc, view, group.as_slice(), status)
 }
 
 fn left(

@@ -50,14 +50,14 @@ impl Groups {
     }
 
     /// Adds a group at the end, unless it is there. After an error nothing has changed.
-    pub fn insert(&mut self, group: Octets) -> Result<(), OutOfMemory>
-        ensures ok { OnOk result (self.new ≡ with_group self.old group) }
+    pub fn insert(&mut self, alloc: Global, group: &[u8]) -> Result<(), OutOfMemory>
+        ensures ok { OnOk result (self.new ≡ with_group self.old group.now) }
         ensures err { OnErr result (self.new ≡ self.old) }
     {
-        if self.items.contains(group.as_slice()) {
+        if self.items.contains(group) {
             return Ok(());
         }
-        self.items.push(group)
+        self.items.push(Octets::copy(alloc, group)?)
     }
 
     /// Where a group stands, if it is there.

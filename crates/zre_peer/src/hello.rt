@@ -30,7 +30,7 @@ fn distinct_of(alloc: Global, groups: &Frames) -> Result<Groups, OutOfMemory>
 {
     let mut found = Groups::new(alloc);
     for group in groups.as_slice() {
-        found.insert(Octets::copy(alloc, group.as_slice())?)?;
+        found.insert(alloc, group.as_slice())?;
     }
     Ok(found)
 }

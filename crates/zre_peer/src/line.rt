@@ -60,11 +60,7 @@ fn push_head(out: &mut Octets, word: &[u8], id: PeerId, name: &Octets) -> Result
     push_who(out, id, name.as_slice())
 }
 
-fn push_enter_end(
-    out: &mut Octets,
-    endpoint: &Octets,
-    headers: &Pairs,
-) -> Result<(), OutOfMemory>
+fn push_enter_end(out: &mut Octets, endpoint: &Octets, headers: &Pairs) -> Result<(), OutOfMemory>
     ensures { OnOk result (out.new ≡ out.old ++ enter_end endpoint.now headers.now) }
 {
     push_quoted(out, endpoint.as_slice())?;

@@ -123,23 +123,24 @@ fn later(
 
 // The same, with the lines of the events, in which `who` stands for the peer.
 fn tell_later(
+    alloc: Global,
     view: &mut View,
     due: u16,
-    message: Message,
+    message: &Message,
     who: &[u8],
     out: &mut Octets,
 ) -> Result<(), RunFault>
     requires { is_small view.old ≡ true }
-    ensures ok { OnOk result ((goes_on view.old due message ≡ true) × (view.new ≡ after view.old message.body)) }
-    ensures told { (id : PeerId) → who.now ≡ who_text id view.old.name → OnOk result (out.new ≡ out.old ++ lines (events_of id view.old message.body)) }
+    ensures ok { OnOk result ((goes_on view.old due message.now ≡ true) × (view.new ≡ after view.old message.now.body)) }
+    ensures told { (id : PeerId) → who.now ≡ who_text id view.old.name → OnOk result (out.new ≡ out.old ++ lines (events_of id view.old message.now.body)) }
     ensures name { view.new.name ≡ view.old.name }
     ensures small { is_small view.new ≡ true }
     ensures kept { OnErr result (view.new ≡ view.old) }
     ensures refused { IfErr result (λ e. e ≢ RunFault.OutOfMemory →
-        (goes_on view.old due message ≡ false) × (e ≡ later_fault due message) × (out.new ≡ out.old)) }
+        (goes_on view.old due message.now ≡ false) × (e ≡ later_fault due message.now) × (out.new ≡ out.old)) }
 {
-    expect(due, &message)?;
-    tell_change(view, message.body, who, out)
+    expect(due, message)?;
+    tell_change(alloc, view, &message.body, who, out)
 }
 
 impl Run {
@@ -252,7 +253,7 @@ impl Run {
     /// the peer. After `OutOfMemory` a front of them may stand there.
     pub(crate) fn tell(
         &mut self,
-        message: Message,
+        message: &Message,
         who: &[u8],
         out: &mut Octets,
     ) -> Result<(), RunFault>
@@ -260,11 +261,11 @@ impl Run {
         requires behind { is_some (view_in self.old) ≡ true }
         requires ready { IsReady self.old who.now }
         ensures ok { (ms : List Message) → Stands self.old ms → OnOk result (
-            (may_follow ms message ≡ true) × Stands self.new (ms ++ message ∷ [])
-            × (out.new ≡ out.old ++ lines (events_of (id_of self.old) (view_of ms) message.body))) }
+            (may_follow ms message.now ≡ true) × Stands self.new (ms ++ message.now ∷ [])
+            × (out.new ≡ out.old ++ lines (events_of (id_of self.old) (view_of ms) message.now.body))) }
         ensures going { OnOk result (is_spent self.new ≡ false) }
         ensures refused { (ms : List Message) → Stands self.old ms → IfErr result (λ e. e ≢ RunFault.OutOfMemory →
-            (may_follow ms message ≡ false) × (e ≡ fault_of ms message) × (out.new ≡ out.old)) }
+            (may_follow ms message.now ≡ false) × (e ≡ fault_of ms message.now) × (out.new ≡ out.old)) }
         ensures spent { IfErr result (λ e. e ≢ RunFault.OutOfMemory → is_spent self.new ≡ true) }
         ensures kept { OnErr result (view_in self.new ≡ view_in self.old) }
         ensures ready { IsReady self.new who.now }
@@ -274,7 +275,7 @@ impl Run {
         let Some(view) = &mut self.view else {
             return Err(RunFault::NotHello);
         };
-        match tell_later(view, next, message, who, out) {
+        match tell_later(self.alloc, view, next, message, who, out) {
             Ok(()) => {
                 self.count = next;
                 Ok(())

@@ -91,7 +91,7 @@ impl Teller {
         ensures id { id_of self.new ≡ id_of self.old }
     {
         if self.is_behind() {
-            return self.take_later(message, out);
+            return self.take_later(&message, out);
         }
         self.take_first(message, out)
     }
@@ -103,15 +103,15 @@ impl Teller {
         self.run.view().is_some()
     }
 
-    fn take_later(&mut self, message: Message, out: &mut Octets) -> Result<(), RunFault>
+    fn take_later(&mut self, message: &Message, out: &mut Octets) -> Result<(), RunFault>
         requires going { is_spent self.old ≡ false }
         requires behind { is_some (view_in self.old) ≡ true }
         ensures ok { (ms : List Message) → Stands self.old ms → OnOk result (
-            (may_follow ms message ≡ true) × Stands self.new (ms ++ message ∷ [])
-            × (out.new ≡ out.old ++ lines (events_of (id_of self.old) (view_of ms) message.body))) }
+            (may_follow ms message.now ≡ true) × Stands self.new (ms ++ message.now ∷ [])
+            × (out.new ≡ out.old ++ lines (events_of (id_of self.old) (view_of ms) message.now.body))) }
         ensures going { OnOk result (is_spent self.new ≡ false) }
         ensures refused { (ms : List Message) → Stands self.old ms → IfErr result (λ e. e ≢ RunFault.OutOfMemory →
-            (may_follow ms message ≡ false) × (e ≡ fault_of ms message) × (out.new ≡ out.old)) }
+            (may_follow ms message.now ≡ false) × (e ≡ fault_of ms message.now) × (out.new ≡ out.old)) }
         ensures spent { IfErr result (λ e. e ≢ RunFault.OutOfMemory →
             (is_spent self.new ≡ true) × (view_in self.new ≡ view_in self.old)) }
         ensures id { id_of self.new ≡ id_of self.old }

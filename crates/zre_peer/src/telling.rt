@@ -11,16 +11,12 @@ use crate::changes::{can_join, join, leave};
 use crate::line::{push_content_end, push_group_end, push_shout_end};
 use crate::peer_run::RunFault;
 use crate::view::View;
+use std::alloc::Global;
 use zre_msg::Body;
 use zre_values::{Frames, Octets, OutOfMemory};
 
 // The word of an event, who it is of, and a group.
-fn push_group(
-    out: &mut Octets,
-    word: &[u8],
-    who: &[u8],
-    group: &Octets,
-) -> Result<(), OutOfMemory>
+fn push_group(out: &mut Octets, word: &[u8], who: &[u8], group: &Octets) -> Result<(), OutOfMemory>
     ensures { OnOk result (out.new ≡ out.old ++ word.now ++ who.now ++ group_end group.now) }
 {
     out.append(word)?;
@@ -52,24 +48,25 @@ fn push_shout(
 }
 
 fn tell_join(
+    alloc: Global,
     view: &mut View,
-    group: Octets,
+    group: &Octets,
     status: u8,
     who: &[u8],
     out: &mut Octets,
 ) -> Result<(), RunFault>
     requires { is_small view.old ≡ true }
-    ensures ok { OnOk result ((is_small (after view.old (bodies.Join group status)) ≡ true) × (view.new ≡ after view.old (bodies.Join group status))) }
-    ensures told { (id : PeerId) → who.now ≡ who_text id view.old.name → OnOk result (out.new ≡ out.old ++ lines (events_of id view.old (bodies.Join group status))) }
+    ensures ok { OnOk result ((is_small (after view.old (bodies.Join group.now status)) ≡ true) × (view.new ≡ after view.old (bodies.Join group.now status))) }
+    ensures told { (id : PeerId) → who.now ≡ who_text id view.old.name → OnOk result (out.new ≡ out.old ++ lines (events_of id view.old (bodies.Join group.now status))) }
     ensures kept { OnErr result (view.new ≡ view.old) }
     ensures refused { IfErr result (λ e. e ≢ RunFault.OutOfMemory →
-        (is_small (after view.old (bodies.Join group status)) ≡ false) × (e ≡ RunFault.Limit) × (out.new ≡ out.old)) }
+        (is_small (after view.old (bodies.Join group.now status)) ≡ false) × (e ≡ RunFault.Limit) × (out.new ≡ out.old)) }
 {
     if !can_join(view, group.as_slice()) {
         return Err(RunFault::Limit);
     }
-    push_group(out, b"JOIN ", who, &group)?;
-    join(view, group, status)
+    push_group(out, b"JOIN ", who, group)?;
+    join(alloc, view, group.as_slice(), status)
 }
 
 fn tell_leave(
@@ -93,24 +90,25 @@ fn tell_leave(
 /// Takes a message that is no HELLO: changes the view, and appends the lines of its events, in which `who` stands for
 /// the peer. After an error the view is as it was.
 pub(crate) fn tell_change(
+    alloc: Global,
     view: &mut View,
-    body: Body,
+    body: &Body,
     who: &[u8],
     out: &mut Octets,
 ) -> Result<(), RunFault>
     requires within { is_small view.old ≡ true }
-    requires no_hello { is_hello body ≡ false }
-    ensures ok { OnOk result ((is_small (after view.old body) ≡ true) × (view.new ≡ after view.old body)) }
-    ensures told { (id : PeerId) → who.now ≡ who_text id view.old.name → OnOk result (out.new ≡ out.old ++ lines (events_of id view.old body)) }
+    requires no_hello { is_hello body.now ≡ false }
+    ensures ok { OnOk result ((is_small (after view.old body.now) ≡ true) × (view.new ≡ after view.old body.now)) }
+    ensures told { (id : PeerId) → who.now ≡ who_text id view.old.name → OnOk result (out.new ≡ out.old ++ lines (events_of id view.old body.now)) }
     ensures kept { OnErr result (view.new ≡ view.old) }
     ensures refused { IfErr result (λ e. e ≢ RunFault.OutOfMemory →
-        (is_small (after view.old body) ≡ false) × (e ≡ RunFault.Limit) × (out.new ≡ out.old)) }
+        (is_small (after view.old body.now) ≡ false) × (e ≡ RunFault.Limit) × (out.new ≡ out.old)) }
 {
     match body {
-        Body::Join { group, status } => tell_join(view, group, status, who, out),
-        Body::Leave { group, status } => tell_leave(view, &group, status, who, out),
-        Body::Whisper { content } => Ok(push_whisper(out, who, &content)?),
-        Body::Shout { group, content } => Ok(push_shout(out, who, &group, &content)?),
+        Body::Join { group, status } => tell_join(alloc, view, group, *status, who, out),
+        Body::Leave { group, status } => tell_leave(view, group, *status, who, out),
+        Body::Whisper { content } => Ok(push_whisper(out, who, content)?),
+        Body::Shout { group, content } => Ok(push_shout(out, who, group, content)?),
         Body::Ping | Body::PingOk => Ok(()),
         Body::Other { .. } => Ok(()),
         Body::Hello { .. } => Ok(()),

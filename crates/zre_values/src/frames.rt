@@ -12,7 +12,7 @@ use std::marker::Model;
 /// value itself.
 #[derive(Debug, Drop)]
 pub struct Frames {
-    items: SmallVec<Octets, 2>,
+    items: SmallVec<Octets, 1>,
 }
 
 impl Model for Frames {

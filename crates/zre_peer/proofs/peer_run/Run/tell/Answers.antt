@@ -7,7 +7,7 @@ use Rattle.zre_peer.proofs.peer_run.Run.tell.Goals as goal
 
 pub returns-in-Ok-clause-ok : goal.returns-in-Ok-clause-ok
 returns-in-Ok-clause-ok c = λ ms s.
-    let m = c.args.message in
+    let m = c.args.message.now in
     let v = c.in-Some.view in
     let e : Some v ≡ shown ms = sym c.in-Some.is ∙ s.view in
     let number = c.due-next.ensures ∙ count_more c.args.self.now.count ms s.count in
@@ -24,7 +24,7 @@ returns-in-Ok-clause-ok c = λ ms s.
 
 pub returns-in-Err-clause-refused : goal.returns-in-Err-clause-refused
 returns-in-Err-clause-refused c = λ ms s ne.
-    let m = c.args.message in
+    let m = c.args.message.now in
     let v = c.in-Some.view in
     let e : Some v ≡ shown ms = sym c.in-Some.is ∙ s.view in
     let number = c.due-next.ensures ∙ count_more c.args.self.now.count ms s.count in

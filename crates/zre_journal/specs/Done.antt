@@ -1,0 +1,63 @@
+-- Acts: what the node asks of the outside, mark by mark, and the offers at the end of each entry.
+use Rattle.std.specs.Prelude.{ℕ, Bool, true, false, not, ◌&&◌, ◌||◌, List, [], ◌∷◌, ◌++◌, Option, Some, None, cond, nat_eq, length, map, replicate}
+use Rattle.std.specs.List.{filter, list_any}
+use Rattle.zre_values.specs.declared.peer_id.PeerId.{PeerId}
+use Rattle.zre_beacon.specs.Beacon.{beacon_octets}
+use Rattle.zre_zmtp.specs.declared.writing.SocketType.TheVariants as socket
+use Rattle.zre_zmtp.specs.Written.{own_greeting, ready_frame}
+use Rattle.zre_outside.specs.declared.entry.Entry.{Entry}
+use Rattle.zre_outside.specs.declared.entry.Input.{Input}
+use Rattle.zre_outside.specs.declared.entry.Input.TheVariants as input
+use Rattle.zre_peer.specs.declared.causes.Cause.{Cause}
+use Rattle.zre_peer.specs.declared.causes.Cause.TheVariants as cause
+use Rattle.zre_outside.specs.declared.act.Act.{Act}
+use Rattle.zre_outside.specs.declared.act.Act.TheVariants as act
+use Rattle.zre_journal.specs.declared.config.Config.{Config}
+use Rattle.zre_journal.specs.Chronicle.{Mark, Comes, Opens, TurnsAway, Greets, Closes, Drops, Born, Ends, Puts, Calls, after}
+use Rattle.zre_journal.specs.Peers.{Life, lives}
+use Rattle.zre_journal.specs.Links.{gate, taken}
+use Rattle.zre_journal.specs.Happens.{marks}
+
+-- a link that broke needn't be closed
+abbrev pub close_link : ℕ → Cause → List Act
+close_link l cause.Link = []
+close_link l _ = act.CloseLink l ∷ []
+
+-- what a mark does
+abbrev pub done_at : PeerId → Mark → List Act
+done_at own (Born l p e) = act.Connect l e ∷ []
+done_at own (Ends l why) = close_link l why
+done_at own (TurnsAway c) = act.CloseConn c ∷ []
+done_at own (Closes c why) = act.CloseConn c ∷ []
+done_at own (Drops c) = act.CloseConn c ∷ []
+done_at own (Opens c) = act.Answer c own_greeting ∷ []
+done_at own (Greets c) = act.Answer c (ready_frame socket.Router None) ∷ []
+done_at own (Calls port) = act.Beacon (beacon_octets own port) ∷ []
+done_at own _ = []
+
+-- what marks do, one after the other; own is the node's identity
+abbrev pub done : PeerId → List Mark → List Act
+done own [] = []
+done own (h ∷ hs) = done_at own h ++ done own hs
+
+-- whether the mark puts something on link l, and whether the entry names l
+abbrev pub puts : ℕ → Mark → Bool
+puts l (Puts k b) = nat_eq l k
+puts l _ = false
+
+abbrev pub names : ℕ → Input → Bool
+names l (input.Linked k) = nat_eq l k
+names l (input.Reply k o) = nat_eq l k
+names l (input.Took k n) = nat_eq l k
+names l _ = false
+
+abbrev pub is_offered : Config → Entry → List Mark → List Mark → Life → Bool
+is_offered g e hs K v = (list_any (puts v.link) hs || names v.link e.input) && not (nat_eq (gate g v.link K) (taken v.link K))
+
+-- the known peers' links with something to offer, after the marks hs of the entry e
+abbrev pub offers : Config → Entry → List Mark → List Mark → List Act
+offers g e hs K = map (λ (v : Life). act.Offer v.link) (filter (is_offered g e hs K) (lives K))
+
+-- the acts of one entry behind H
+abbrev pub acts_at : Config → Entry → List Mark → List Act
+acts_at g e H = done g.id (marks g e H) ++ offers g e (marks g e H) (after (marks g e H) (Comes e ∷ H))

@@ -1,0 +1,49 @@
+-- The octets that a node holds of its peers.
+use Rattle.std.specs.Prelude.{ℕ, ◌+◌, ◌*◌, Bool, List, length, if◌then◌else◌, sum_by}
+use Rattle.std.specs.List.{filter}
+use Rattle.zre_values.specs.declared.peer_id.PeerId.{PeerId}
+use Rattle.zre_zmtp.specs.Stream.{Want, Router, Dealer, Whole, opened, split}
+use Rattle.zre_peer.specs.declared.view.View.{View}
+use Rattle.zre_journal.specs.declared.config.Config.{Config}
+use Rattle.zre_journal.specs.Chronicle.{Mark}
+use Rattle.zre_journal.specs.Heard.{bytes}
+use Rattle.zre_journal.specs.Connections.{open_ones, is_live}
+use Rattle.zre_journal.specs.Peers.{Life, lives, is_entered, view}
+use Rattle.zre_journal.specs.Links.{groups, is_linked, replies, unsent}
+
+-- of the octets of a stream: the bodies of an unfinished message, and an unfinished greeting or frame
+abbrev pub unfinished : Want → List ℕ → ℕ
+unfinished want o = sum_by length (opened Whole (split want Whole o).0) + length (split want Whole o).1
+
+-- of the names and values of headers
+abbrev pub header_octets : List (List ℕ × List ℕ) → ℕ
+header_octets hs = sum_by (λ (h : List ℕ × List ℕ). length h.0 + length h.1) hs
+
+-- of a view
+abbrev pub view_octets : View → ℕ
+view_octets v = length v.name + length v.endpoint + header_octets v.headers + sum_by length v.groups
+
+module _ (g : Config) (H : List Mark) where
+  -- of a connection that is live
+  abbrev pub conn_octets : ℕ → ℕ
+  conn_octets c = unfinished (Dealer g.id) (bytes c H)
+
+  -- of the replies on a link
+  abbrev pub reply_octets : ℕ → ℕ
+  reply_octets l = if is_linked l H then unfinished Router (replies l H) else 0
+
+  -- of a known peer: replies, what is unsent, and its view where it is entered
+  abbrev pub peer_octets : Life → ℕ
+  peer_octets v = reply_octets v.link + unsent g v.link H + (if is_entered H v then view_octets (view v.link H) else 0)
+
+  -- of the node itself
+  abbrev pub own_octets : ℕ
+  own_octets = length g.name + header_octets g.headers + sum_by length (groups H)
+
+  -- all of them
+  abbrev pub held : ℕ
+  held = sum_by conn_octets (filter (λ c. is_live c H) (open_ones H)) + sum_by peer_octets (lives H) + own_octets
+
+-- what a node holds at most, with this many known peers and open connections
+abbrev pub bound : ℕ → ℕ → ℕ
+bound peers connections = 6618121 * peers + 1114121 * connections + 588799

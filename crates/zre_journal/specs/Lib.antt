@@ -1,0 +1,12 @@
+pub mod Chronicle
+pub mod Config
+pub mod Connections
+pub mod Done
+pub mod Events
+pub mod Happens
+pub mod Heard
+pub mod Held
+pub mod Journal
+pub mod Links
+pub mod Peers
+pub mod Told
