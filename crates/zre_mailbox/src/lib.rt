@@ -11,3 +11,6 @@ mod taking;
 pub use arrival::{Arrival, Arrivals};
 pub use conn::Conn;
 pub use laws::{completed_in_turn, nothing_said, talk_grows};
+
+#[cfg(test)]
+mod tests;
