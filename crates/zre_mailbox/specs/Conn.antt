@@ -51,10 +51,6 @@ conn_after own o = record { phase = phase_by (fault_in own o) (reading (Dealer o
 abbrev pub ignoring : Hearing → Hearing
 ignoring h = record { phase = Ignored; identity = h.identity }
 
--- the connection behind the octets o, ignored
-abbrev pub ignored_after : PeerId → List ℕ → Hearing
-ignored_after own o = ignoring (conn_after own o)
-
 -- it is ignored
 abbrev pub is_ignored_in : Phase → Bool
 is_ignored_in (Live r) = false
