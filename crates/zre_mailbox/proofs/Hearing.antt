@@ -29,6 +29,11 @@ pub identity_in-append : (xs ys : List Arrival) → identity_in (xs ++ ys) ≡ o
 identity_in-append [] ys = refl
 identity_in-append (x ∷ xs) ys = ap (λ p. option_or (introduced x) p) (identity_in-append xs ys) ∙ sym (option_or-assoc (introduced x) (identity_in xs) (identity_in ys))
 
+pub identity_kept : (own : PeerId) (o more : List ℕ) (peer : PeerId) → identity_in (arrivals own o) ≡ Some peer → identity_in (arrivals own (o ++ more)) ≡ Some peer
+identity_kept own o more peer e =
+    ap identity_in (arrivals_grow own o more) ∙ identity_in-append (arrivals own o) (new_arrivals own o more)
+    ∙ ap (λ p. option_or p (identity_in (new_arrivals own o more))) e
+
 -- ---- items, one after the other
 
 pub takes_more : (xs ys : List Arrival) (known now next : Option PeerId) (out mid end : List Arrival) → Takes xs known now out mid → Takes ys now next mid end → Takes (xs ++ ys) known next out end

@@ -1,7 +1,6 @@
 -- What an incoming connection keeps, as a function of the octets that it was fed.
-use Rattle.std.specs.Prelude.{◌≡◌, ℕ, Bool, true, false, List, [], ◌∷◌, ◌++◌, Option, Some, None}
+use Rattle.std.specs.Prelude.{◌≡◌, ℕ, Bool, true, false, List, [], ◌∷◌, ◌++◌, Option, Some, None, map}
 use Rattle.std.specs.Option.{option_or}
-use Rattle.std.specs.Prelude.{map}
 use Rattle.zre_values.specs.declared.peer_id.PeerId.{PeerId}
 use Rattle.zre_zmtp.specs.Stream.{Kind, Whole, before, split}
 use Rattle.zre_zmtp.specs.declared.want.Want.{Want}
@@ -51,34 +50,33 @@ conn_after own o = record { phase = phase_by (fault_in own o) (reading (Dealer o
 abbrev pub ignoring : Hearing → Hearing
 ignoring h = record { phase = Ignored; identity = h.identity }
 
--- the connection behind the octets o, ignored
-abbrev pub ignored_after : PeerId → List ℕ → Hearing
-ignored_after own o = ignoring (conn_after own o)
-
--- it is ignored
+-- it is ignored, by its phase
 abbrev pub is_ignored_in : Phase → Bool
 is_ignored_in (Live r) = false
 is_ignored_in Spent = false
 is_ignored_in Ignored = true
 
+-- it is ignored
 abbrev pub is_ignored : Hearing → Bool
 is_ignored h = is_ignored_in h.phase
 
--- a piece was refused
+-- a piece was refused, by its phase
 abbrev pub is_spent_in : Phase → Bool
 is_spent_in (Live r) = r.spent
 is_spent_in Spent = true
 is_spent_in Ignored = false
 
+-- a piece was refused
 abbrev pub is_spent : Hearing → Bool
 is_spent h = is_spent_in h.phase
 
--- how many octets are kept
+-- how many octets are kept, by its phase
 abbrev pub kept_in : Phase → ℕ
 kept_in (Live r) = kept r
 kept_in Spent = 0
 kept_in Ignored = 0
 
+-- how many octets are kept
 abbrev pub kept_of : Hearing → ℕ
 kept_of h = kept_in h.phase
 

@@ -1,7 +1,7 @@
 -- What an incoming connection says, read off all of its octets: its greeting, READY, the messages of ZRE, and its fault.
-use Rattle.std.specs.Prelude.{◌≡◌, ℕ, ◌==◌, ◌&&◌, if◌then◌else◌, List, [], ◌++◌, length, drop, map, slice_index, Option, Some, None, option_map, option_and_then, option_to_list}
+use Rattle.std.specs.Prelude.{◌≡◌, ◌≢◌, ◌⊎◌, ℕ, Bool, true, false, ◌==◌, ◌&&◌, if◌then◌else◌, List, [], ◌∷◌, ◌++◌, length, drop, map, slice_index, Option, Some, None, option_map, option_and_then, option_to_list}
 use Rattle.std.specs.Result.{result_ok}
-use Rattle.std.specs.List.{filter_map}
+use Rattle.std.specs.List.{filter_map, list_any}
 use Rattle.zre_values.specs.declared.peer_id.PeerId.{PeerId}
 use Rattle.zre_zmtp.specs.Stream.{Whole, items, fault}
 use Rattle.zre_zmtp.specs.declared.want.Want.TheVariants.{Dealer}
@@ -10,6 +10,7 @@ use Rattle.zre_zmtp.specs.declared.item.What.{What}
 use Rattle.zre_zmtp.specs.declared.item.What.TheVariants as says
 use Rattle.zre_zmtp.specs.declared.fault.ZmtpFault.{ZmtpFault}
 use Rattle.zre_msg.specs.Reading.{read_frames}
+use Rattle.zre_msg.specs.declared.message.Message.{Message as MessageValue}
 use Rattle.zre_mailbox.specs.declared.arrival.Arrival.{Arrival}
 use Rattle.zre_mailbox.specs.declared.arrival.Arrival.TheVariants.{Greeted, Shaken, Message}
 
@@ -63,3 +64,26 @@ pub record Goes (own : PeerId) (o more : List ℕ) : Type 0 where
   pub arrived : arrivals own (o ++ more) ≡ arrivals own o ++ new_arrivals own o more
   pub faultless : fault_in own o ≡ None → completed own o more ≡ map (λ a. Arrived a) (new_arrivals own o more) ++ fault_said (fault_in own (o ++ more))
   pub over : (f : ZmtpFault) → fault_in own o ≡ Some f → (talk own (o ++ more) ≡ talk own o) × (completed own o more ≡ [])
+
+-- The greeting came, then READY of one peer, which isn't the node itself, and then messages.
+pub record Introduced (own : PeerId) (came : List Arrival) : Type 0 where
+  pub peer : PeerId
+  pub messages : List MessageValue
+  pub other : peer.0 ≢ own.0
+  pub sixteen : length peer.0 ≡ 16
+  pub is : came ≡ Greeted ∷ Shaken peer ∷ map (λ m. Message m) messages
+
+-- Nothing came, or the greeting alone, or all of that.
+abbrev pub IsInOrder : PeerId → List Arrival → Type 0
+IsInOrder own came = (came ≡ []) ⊎ ((came ≡ Greeted ∷ []) ⊎ Introduced own came)
+
+-- READY
+abbrev pub is_ready : What → Bool
+is_ready (says.Greeting major minor) = false
+is_ready (says.Ready size socket identity) = true
+is_ready (says.Command size name body) = false
+is_ready (says.Message frames) = false
+
+-- READY is whole, and passes.
+abbrev pub has_ready : PeerId → List ℕ → Bool
+has_ready own o = list_any (λ item. is_ready item.what) (items (Dealer own) Whole o)

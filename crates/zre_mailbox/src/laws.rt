@@ -1,8 +1,9 @@
 //! Laws of what connections say. The functions do nothing: what they ensure is for proofs.
 
-ghost use Rattle.std.specs.Prelude.{◌≡◌, ℕ, List, [], ◌++◌};
+ghost use Rattle.std.specs.Prelude.{◌≡◌, ℕ, List, [], ◌++◌, true, Some};
 ghost use Rattle.zre_values.specs.declared.peer_id.PeerId.{PeerId};
-ghost use Rattle.zre_mailbox.specs.Talk.{talk, completed, Goes};
+ghost use Rattle.zre_mailbox.specs.Talk.{arrivals, talk, completed, has_ready, Goes, Introduced, IsInOrder};
+ghost use Rattle.zre_mailbox.specs.Conn.{identity_in};
 
 /// What was said stays said: more octets say more behind it, and behind a fault nothing.
 pub fn talk_grows()
@@ -17,4 +18,19 @@ pub fn completed_in_turn()
 /// No octets say nothing.
 pub fn nothing_said()
     ensures { (own : PeerId) → talk own [] ≡ [] }
+{}
+
+/// What arrives is the greeting, then one peer, which isn't the node itself, and then messages: as much of that as came.
+pub fn arrivals_are_in_order()
+    ensures { (own : PeerId) (o : List ℕ) → IsInOrder own (arrivals own o) }
+{}
+
+/// READY that is whole and passes introduces its peer.
+pub fn ready_introduces()
+    ensures { (own : PeerId) (o : List ℕ) → has_ready own o ≡ true → Introduced own (arrivals own o) }
+{}
+
+/// Who was introduced stays so.
+pub fn identity_stays()
+    ensures { (own : PeerId) (o more : List ℕ) (peer : PeerId) → identity_in (arrivals own o) ≡ Some peer → identity_in (arrivals own (o ++ more)) ≡ Some peer }
 {}

@@ -10,4 +10,10 @@ mod taking;
 
 pub use arrival::{Arrival, Arrivals};
 pub use conn::Conn;
-pub use laws::{completed_in_turn, nothing_said, talk_grows};
+pub use laws::{
+    arrivals_are_in_order, completed_in_turn, identity_stays, nothing_said, ready_introduces,
+    talk_grows,
+};
+
+#[cfg(test)]
+mod tests;

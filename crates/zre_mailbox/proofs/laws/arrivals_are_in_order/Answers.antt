@@ -1,0 +1,5 @@
+use Rattle.zre_mailbox.proofs.InOrder.{in_order}
+use Rattle.zre_mailbox.proofs.laws.arrivals_are_in_order.Goals as goal
+
+pub returns : goal.returns
+returns c = in_order

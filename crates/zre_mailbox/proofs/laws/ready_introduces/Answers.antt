@@ -1,0 +1,5 @@
+use Rattle.zre_mailbox.proofs.InOrder.{ready_introduces}
+use Rattle.zre_mailbox.proofs.laws.ready_introduces.Goals as goal
+
+pub returns : goal.returns
+returns c = ready_introduces
