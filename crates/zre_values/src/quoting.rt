@@ -60,10 +60,10 @@ pub fn push_quoted(out: &mut Octets, bytes: &[u8]) -> Result<(), OutOfMemory>
 }
 
 /// Appends the quoted members of a list, joined by commas. After an error a front of it may stand there.
-pub fn push_quoted_frames(out: &mut Octets, frames: &Frames) -> Result<(), OutOfMemory>
-    ensures { OnOk result (out.new ≡ out.old ++ quoted_list frames.now) }
+pub fn push_quoted_list(out: &mut Octets, list: &[Octets]) -> Result<(), OutOfMemory>
+    ensures { OnOk result (out.new ≡ out.old ++ quoted_list list.now) }
 {
-    let Some((first, others)) = frames.as_slice().split_first() else {
+    let Some((first, others)) = list.split_first() else {
         return out.push(b'%');
     };
     push_quoted(out, first.as_slice())?;
@@ -72,6 +72,13 @@ pub fn push_quoted_frames(out: &mut Octets, frames: &Frames) -> Result<(), OutOf
         push_quoted(out, frame.as_slice())?;
     }
     Ok(())
+}
+
+/// The same of frames.
+pub fn push_quoted_frames(out: &mut Octets, frames: &Frames) -> Result<(), OutOfMemory>
+    ensures { OnOk result (out.new ≡ out.old ++ quoted_list frames.now) }
+{
+    push_quoted_list(out, frames.as_slice())
 }
 
 fn push_pair(out: &mut Octets, name: &[u8], value: &[u8]) -> Result<(), OutOfMemory>
