@@ -11,6 +11,7 @@ use std::alloc::Global;
 use zre_msg::{Body, Message, ReadFault};
 use zre_values::{Frames, Octets, OutOfMemory};
 
+// Appends what the frames mean, with all of them read into a message.
 fn push_read(alloc: Global, out: &mut Octets, frames: &Frames) -> Result<(), OutOfMemory>
     ensures { OnOk result (out.new ≡ out.old ++ meaning_text (read_frames frames.now)) }
 {
@@ -30,7 +31,7 @@ fn read_first(alloc: Global, first: &[u8]) -> Result<Message, ReadFault>
     Message::read(alloc, &alone)
 }
 
-// The same of frames of which there are several.
+// Appends what the frames mean, where there are several: a first one and more.
 fn push_several(
     alloc: Global,
     out: &mut Octets,
