@@ -1,11 +1,11 @@
 -- The words of the command line: the name of a command, and then keys with their values in any order.
 use Rattle.std.specs.Prelude.{ℕ, Bool, true, not, ◌&&◌, ◌==◌, nat_le, List, [], ◌∷◌, Option, Some, None, is_some, option_and_then, option_map, codes, count_by, if◌then◌else◌}
-use Rattle.std.specs.List.{list_any, list_all, filter_map}
+use Rattle.std.specs.List.{list_any, list_all}
 use Rattle.std.specs.Str.{bytes_eq, is_utf8}
 use Rattle.uuid.specs.Text.{parsed}
 use Rattle.zre_values.specs.declared.peer_id.PeerId.{PeerId}
 use Rattle.zre_app.specs.declared.words.Command.{Command}
-use Rattle.zre_app.specs.declared.words.Command.TheVariants.{Follow}
+use Rattle.zre_app.specs.declared.words.Command.TheVariants.{Follow, Show}
 use Rattle.zre_app.specs.declared.words.Often.{Often}
 use Rattle.zre_app.specs.declared.words.Often.TheVariants.{Once, AtMostOnce, AnyTimes}
 
@@ -49,10 +49,15 @@ follow_of words =
     then option_map Follow (option_and_then identity (value_of (codes "id=") words))
     else None
 
+-- `show` has no words
+abbrev pub show_of : List (List ℕ) → Option Command
+show_of words = if are_words_of [] words then Some Show else None
+
 -- the command that the words are; none where they are in no list of words, or one isn't text
 abbrev pub command_of : List (List ℕ) → Option Command
 command_of [] = None
 command_of (name ∷ words) =
     if not (list_all is_utf8 (name ∷ words)) then None
     else if bytes_eq name (codes "follow") then follow_of words
+    else if bytes_eq name (codes "show") then show_of words
     else None

@@ -1,4 +1,4 @@
-//! Worked examples of the commands, each over a source that gives all it has and over one that gives an octet a read.
+//! Worked examples of the commands, each over a source that gives an octet a read and over one that gives all it has.
 
 use crate::{Status, run};
 use std::process::Abort;
@@ -15,6 +15,10 @@ const LONG_HELLO: &[u8] =
 const FULL_HELLO: &[u8] =
     b"\x00\x40\xaa\xa1\x01\x02\x00\x01\x14tcp://10.0.0.2:49152\x00\x00\x00\x02\x00\x00\x00\x03a b\x00\x00\x00\x01x\x02\x06Jos\xe9 B\x00\x00\x00\x01\x03X-K\x00\x00\x00\x01v";
 
+/// A group and the name of a header stand in it twice.
+const TWICE_HELLO: &[u8] =
+    b"\x00\x2b\xaa\xa1\x01\x02\x00\x01\x01e\x00\x00\x00\x02\x00\x00\x00\x01g\x00\x00\x00\x01g\x03\x01n\x00\x00\x00\x02\x01k\x00\x00\x00\x01v\x01k\x00\x00\x00\x01w";
+
 const JOIN_1: &[u8] = b"\x00\x0c\xaa\xa1\x04\x02\x00\x01\x04chat\x01";
 
 const JOIN_2: &[u8] = b"\x00\x0c\xaa\xa1\x04\x02\x00\x02\x04chat\x01";
@@ -25,19 +29,41 @@ const LEAVE_3: &[u8] = b"\x00\x0c\xaa\xa1\x05\x02\x00\x03\x04chat\x02";
 
 const JOIN_9: &[u8] = b"\x00\x0c\xaa\xa1\x04\x02\x00\x09\x04chat\x01";
 
+/// A command that RFC 36 doesn't name, with number 2.
+const OTHER_2: &[u8] = b"\x00\x06\xaa\xa1\x09\x02\x00\x02";
+
+/// A frame's flags and size, of the most octets that a message may have, and of one more.
+const MOST: &[u8] = b"\x02\x00\x00\x00\x00\x00\x10\x00\x00";
+
+const ONE_MORE: &[u8] = b"\x02\x00\x00\x00\x00\x00\x10\x00\x01";
+
 const ENTER: &[u8] = b"ENTER 000102030405060708090A0B0C0D0E0F Ann tcp://10.0.0.2:49152 %\n";
 
 const JOIN: &[u8] = b"JOIN 000102030405060708090A0B0C0D0E0F Ann chat\n";
 
-const FOLLOW: &[&str] = &["follow", "id=000102030405060708090a0b0c0d0e0f"];
+const LEAVE: &[u8] = b"LEAVE 000102030405060708090A0B0C0D0E0F Ann chat\n";
 
-/// A source that gives one octet a read, and tells nothing.
+const GREETING: &[u8] =
+    b"\xff\x00\x00\x00\x00\x00\x00\x00\x00\x7f\x03\x00NULL\x00\x00\x00\x00\x00\x00\x00\x00\x00\x00\x00\x00\x00\x00\x00\x00\x00\x00\x00\x00\x00\x00\x00\x00\x00\x00\x00\x00\x00\x00\x00\x00\x00\x00\x00\x00\x00\x00\x00\x00\x00\x00\x00\x00\x00\x00\x00\x00";
+
+const READY: &[u8] =
+    b"\x04\x3a\x05READY\x0bSocket-Type\x00\x00\x00\x06DEALER\x08Identity\x00\x00\x00\x11\x01\x00\x01\x02\x03\x04\x05\x06\x07\x08\x09\x0a\x0b\x0c\x0d\x0e\x0f";
+
+const FOLLOW: &[&[u8]] = &[b"follow", b"id=000102030405060708090a0b0c0d0e0f"];
+
+const SHOW: &[&[u8]] = &[b"show"];
+
+/// What a command is given, how many octets of zero behind that, the most octets to read, and what it must answer.
+type Row<'a> = (&'a [&'a [u8]], usize, u64, Status, &'a [&'a [u8]]);
+
+/// A source that gives at most so many octets a read, but one at least, and tells nothing.
 #[derive(Drop)]
-struct Drops<S> {
+struct Cut<S> {
     inner: S,
+    most: usize,
 }
 
-impl<S: Source> Source for Drops<S> {
+impl<S: Source> Source for Cut<S> {
     ghost use Rattle.std.specs.Prelude.{None};
 
     ghost left = { λ _. None };
@@ -47,52 +73,41 @@ impl<S: Source> Source for Drops<S> {
     ghost faults = { λ s. S.faults s.inner };
 
     fn read(&mut self, buf: &mut [u8]) -> Result<usize, Failed> {
-        let mut one = [0u8; 1];
-        let n = self.inner.read(&mut one)?;
-        if n == 0 {
-            return Ok(0);
-        }
-        buf[0] = one[0];
-        Ok(1)
+        let n = buf.len().min(self.most).max(1);
+        self.inner.read(&mut buf[..n])
     }
 }
 
-fn words_of<R: AllocGlobal>(rt: &R, words: &[&str]) -> Result<Frames, OutOfMemory> {
+fn words_of<R: AllocGlobal>(rt: &R, words: &[&[u8]]) -> Result<Frames, OutOfMemory> {
     let mut list = Frames::new(rt.alloc());
     for word in words {
-        list.push(Octets::copy(rt.alloc(), word.as_bytes())?)?;
+        list.push(Octets::copy(rt.alloc(), word)?)?;
     }
     Ok(list)
 }
 
-fn joined<R: AllocGlobal>(rt: &R, parts: &[&[u8]]) -> Result<Octets, OutOfMemory> {
+fn joined<R: AllocGlobal>(rt: &R, parts: &[&[u8]], zeros: usize) -> Result<Octets, OutOfMemory> {
     let mut all = Octets::new(rt.alloc());
     for part in parts {
         all.append(part)?;
     }
+    for _ in 0..zeros {
+        all.push(0)?;
+    }
     Ok(all)
 }
 
-fn expect<R: AllocGlobal + Abort + Copy>(
-    rt: R,
-    words: &[&str],
-    input: &[&[u8]],
-    limit: u64,
-    status: Status,
-    text: &[&[u8]],
-) -> Result<(), Fail> {
+fn expect<R: AllocGlobal + Abort + Copy>(rt: R, words: &[&[u8]], row: Row<'_>) -> Result<(), Fail> {
+    let (input, zeros, limit, status, text) = row;
     let words = words_of(&rt, words)?;
-    let text = joined(&rt, text)?;
-    let mut out = MemSink::new(rt.alloc(), Vec::new(rt.alloc()));
-    let source = MemSource::new(joined(&rt, input)?, Vec::new(rt.alloc()));
-    let ended = run(rt, &words, source, &mut out, limit);
-    assert_eq!(rt; ended.status, status, "the status at {text:?}");
-    assert_eq!(rt; out.written(), text.as_slice());
-    let mut out = MemSink::new(rt.alloc(), Vec::new(rt.alloc()));
-    let inner = MemSource::new(joined(&rt, input)?, Vec::new(rt.alloc()));
-    let ended = run(rt, &words, Drops { inner }, &mut out, limit);
-    assert_eq!(rt; ended.status, status, "the status by octets at {text:?}");
-    assert_eq!(rt; out.written(), text.as_slice());
+    let text = joined(&rt, text, 0)?;
+    for most in [1, usize::MAX] {
+        let mut out = MemSink::new(rt.alloc(), Vec::new(rt.alloc()));
+        let inner = MemSource::new(joined(&rt, input, zeros)?, Vec::new(rt.alloc()));
+        let ended = run(rt, &words, Cut { inner, most }, &mut out, limit);
+        assert_eq!(rt; ended.status, status, "the status at {text:?}, by {most}");
+        assert_eq!(rt; out.written(), text.as_slice(), "by {most}");
+    }
     Ok(())
 }
 
@@ -101,7 +116,6 @@ fn follow_writes_the_events_of_a_run(rt: HostRuntime) -> Result<(), Fail> {
     let most = u64::MAX;
     let id = b"000102030405060708090A0B0C0D0E0F".as_slice();
     let exit: &[u8] = b"EXIT 000102030405060708090A0B0C0D0E0F Ann ";
-    let leave: &[u8] = b"LEAVE 000102030405060708090A0B0C0D0E0F Ann chat\n";
     let full: &[&[u8]] = &[
         b"ENTER ",
         id,
@@ -111,79 +125,214 @@ fn follow_writes_the_events_of_a_run(rt: HostRuntime) -> Result<(), Fail> {
         id,
         b" Jos%E9%20B x\n",
     ];
-    let rows: [(&[&[u8]], &[&[u8]]); 10] = [
-        (&[HELLO, JOIN_2], &[ENTER, JOIN]),
-        (&[], &[]),
-        (&[FULL_HELLO], full),
-        (&[HELLO, JOIN_2, LEAVE_3], &[ENTER, JOIN, leave]),
-        (&[HELLO, JOIN_1], &[ENTER, exit, b"order 2 1\n"]),
+    let rows: [Row<'_>; 22] = [
+        (&[HELLO, JOIN_2], 0, most, Status::Done, &[ENTER, JOIN]),
+        (&[], 0, most, Status::Done, &[]),
+        (&[FULL_HELLO], 0, most, Status::Done, full),
+        (&[LONG_HELLO], 0, most, Status::Done, &[ENTER]),
+        (
+            &[HELLO, JOIN_2, LEAVE_3],
+            0,
+            most,
+            Status::Done,
+            &[ENTER, JOIN, LEAVE],
+        ),
+        (
+            &[HELLO, JOIN_1],
+            0,
+            most,
+            Status::Done,
+            &[ENTER, exit, b"order 2 1\n"],
+        ),
         (
             &[HELLO, JOIN_2, JOIN_2, JOIN_3],
+            0,
+            most,
+            Status::Done,
             &[ENTER, JOIN, exit, b"order 3 2\n"],
         ),
-        (&[HELLO, JOIN_3], &[ENTER, exit, b"order 2 3\n"]),
-        (&[HELLO, HELLO], &[ENTER, exit, b"hello\n"]),
-        (&[JOIN_9], &[b"IGNORED 1 NotHello\n"]),
-        (&[JOIN_9, b"\x05\x05\x05"], &[b"IGNORED 1 NotHello\n"]),
+        (
+            &[HELLO, JOIN_3],
+            0,
+            most,
+            Status::Done,
+            &[ENTER, exit, b"order 2 3\n"],
+        ),
+        (
+            &[HELLO, HELLO],
+            0,
+            most,
+            Status::Done,
+            &[ENTER, exit, b"hello\n"],
+        ),
+        (
+            &[HELLO, OTHER_2, JOIN_3],
+            0,
+            most,
+            Status::Done,
+            &[ENTER, JOIN],
+        ),
+        (&[JOIN_9], 0, most, Status::Done, &[b"IGNORED 1 NotHello\n"]),
+        (
+            &[JOIN_9, b"\x05\x05\x05"],
+            0,
+            most,
+            Status::Done,
+            &[b"IGNORED 1 NotHello\n"],
+        ),
+        (
+            &[b"\x02\x00\x00\x00\x00\x00\x00\x00\x03abc"],
+            0,
+            most,
+            Status::Done,
+            &[],
+        ),
+        (&[MOST], 1048576, most, Status::Done, &[]),
+        (&[ONE_MORE], 0, most, Status::BadInput, &[b"BADINPUT 0\n"]),
+        (&[HELLO, JOIN_2], 0, 5, Status::TooLong, &[]),
+        (&[HELLO, JOIN_2], 0, 56, Status::TooLong, &[ENTER, JOIN]),
+        (&[HELLO, JOIN_2], 0, 57, Status::Done, &[ENTER, JOIN]),
+        (&[&JOIN_2[..7]], 0, 99, Status::BadInput, &[b"BADINPUT 7\n"]),
+        (&[b"\x02"], 5, 99, Status::BadInput, &[b"BADINPUT 6\n"]),
+        (
+            &[HELLO, b"\x04"],
+            0,
+            99,
+            Status::BadInput,
+            &[ENTER, b"BADINPUT 43\n"],
+        ),
+        (&[b"\x05"], 0, 1, Status::BadInput, &[b"BADINPUT 0\n"]),
     ];
-    for (input, text) in rows {
-        expect(rt, FOLLOW, input, most, Status::Done, text)?;
+    for row in rows {
+        expect(rt, FOLLOW, row)?;
     }
     Ok(())
 }
 
 #[test]
-fn follow_tells_the_place_of_what_it_refuses(rt: HostRuntime) -> Result<(), Fail> {
-    let rows: [(&[&[u8]], u64, Status, &[&[u8]]); 6] = [
-        (&[HELLO, JOIN_2], 5, Status::TooLong, &[]),
-        (&[HELLO, JOIN_2], 56, Status::TooLong, &[ENTER, JOIN]),
-        (&[HELLO, JOIN_2], 57, Status::Done, &[ENTER, JOIN]),
-        (&[&JOIN_2[..7]], 99, Status::BadInput, &[b"BADINPUT 7\n"]),
-        (
-            &[HELLO, b"\x04"],
-            99,
-            Status::BadInput,
-            &[ENTER, b"BADINPUT 43\n"],
-        ),
-        (&[b"\x05"], 1, Status::BadInput, &[b"BADINPUT 0\n"]),
+fn show_writes_the_items_of_a_stream(rt: HostRuntime) -> Result<(), Fail> {
+    let most = u64::MAX;
+    let opened: &[u8] = b"greeting 3.0\ncommand READY 58\n";
+    let messages: &[&[u8]] = &[
+        GREETING,
+        READY,
+        TWICE_HELLO,
+        JOIN_2,
+        LEAVE_3,
+        b"\x01\x06\xaa\xa1\x02\x02\x00\x04\x04\x05\x04PING\x00\x02hi",
+        b"\x01\x0b\xaa\xa1\x03\x02\x00\x05\x04chat\x00\x00",
+        b"\x00\x06\xaa\xa1\x06\x02\x00\x06\x00\x06\xaa\xa1\x07\x02\x00\x07",
+        b"\x00\x07\xaa\xa1\x09\x02\x00\x08\xff\x00\x06\xaa\xa1\x02\x02\x00\x09",
     ];
-    for (input, limit, status, text) in rows {
-        expect(rt, FOLLOW, input, limit, status, text)?;
+    let shown: &[&[u8]] = &[
+        opened,
+        b"message 1 43 HELLO 1 e g,g 3 n k=v,k=w\n",
+        b"message 1 12 JOIN 2 chat 1\nmessage 1 12 LEAVE 3 chat 2\n",
+        b"command PING 5\nmessage 2 8 WHISPER 4 hi\n",
+        b"message 2 11 SHOUT 5 chat ~\n",
+        b"message 1 6 PING 6\nmessage 1 6 PING-OK 7\n",
+        b"message 1 7 OTHER 8 9\nmessage 1 6 WHISPER 9 %\n",
+    ];
+    let outside: &[&[u8]] = &[
+        GREETING,
+        b"\x06\x00\x00\x00\x00\x00\x00\x00\x06\x05READY",
+        b"\x00\x05\xaa\xa1\x08\x02\x00\x00\x00\x00\x01\xab\x00\x02\xaa\xa2",
+        b"\x00\x04\xaa\xa1\x04\x03\x00\x07\xaa\xa1\x06\x02\x00\x06\x00",
+        b"\x01\x06\xaa\xa1\x06\x02\x00\x06\x00\x00",
+    ];
+    let bad: &[&[u8]] = &[
+        b"greeting 3.0\ncommand READY 6\n",
+        b"message 1 5 BAD Short 0 5\nmessage 1 0 BAD Short 0 0\n",
+        b"message 1 1 BAD Signature 0 0\nmessage 1 2 BAD Signature 0 1\n",
+        b"message 1 4 BAD Version 0 3\nmessage 1 7 BAD Trailing 0 6\n",
+        b"message 2 6 BAD ExtraFrames 1 0\n",
+    ];
+    let hello: &[u8] = b"message 1 40 HELLO 1 tcp://10.0.0.2:49152 % 0 Ann %\n";
+    let rows: [Row<'_>; 9] = [
+        (
+            &[GREETING, READY, HELLO],
+            0,
+            most,
+            Status::Done,
+            &[opened, hello],
+        ),
+        (
+            &[GREETING, READY, b"\x00\x05\xaa\xa1\x08\x02\x00"],
+            0,
+            most,
+            Status::Done,
+            &[opened, b"message 1 5 BAD Short 0 5\n"],
+        ),
+        (messages, 0, most, Status::Done, shown),
+        (outside, 0, most, Status::Done, bad),
+        (&[], 0, most, Status::Done, &[]),
+        (
+            &[&GREETING[..12], b"PLAIN"],
+            0,
+            most,
+            Status::BadInput,
+            &[b"BADINPUT 12\n"],
+        ),
+        (
+            &[GREETING, READY, &HELLO[..41]],
+            0,
+            most,
+            Status::BadInput,
+            &[opened, b"BADINPUT 165\n"],
+        ),
+        (
+            &[GREETING, READY, HELLO, b"\x05"],
+            0,
+            most,
+            Status::BadInput,
+            &[opened, hello, b"BADINPUT 166\n"],
+        ),
+        (&[GREETING, READY], 0, 124, Status::TooLong, &[opened]),
+    ];
+    for row in rows {
+        expect(rt, SHOW, row)?;
     }
     Ok(())
 }
 
 #[test]
 fn words_outside_the_list_are_usage(rt: HostRuntime) -> Result<(), Fail> {
-    let id = "id=000102030405060708090a0b0c0d0e0f";
+    let id: &[u8] = b"id=000102030405060708090a0b0c0d0e0f";
+    let hyphens: &[u8] = b"id=00010203-0405-0607-0809-0A0B0C0D0E0F";
     let usage: &[&[u8]] = &[b"USAGE\n"];
-    let refused: [&[&str]; 8] = [
-        &[],
-        &["follow"],
-        &["follow", id, id],
-        &["follow", id, "name=x"],
-        &["follow", "id=0"],
-        &["follow", "id"],
-        &["Follow", id],
-        &["--help"],
+    let rows: [(&[&[u8]], Row<'_>); 13] = [
+        (&[], (&[HELLO], 0, 99, Status::Usage, usage)),
+        (&[b"follow"], (&[HELLO], 0, 99, Status::Usage, usage)),
+        (
+            &[b"follow", id, id],
+            (&[HELLO], 0, 99, Status::Usage, usage),
+        ),
+        (
+            &[b"follow", id, b"name=x"],
+            (&[HELLO], 0, 99, Status::Usage, usage),
+        ),
+        (
+            &[b"follow", id, b"id=\xff"],
+            (&[HELLO], 0, 99, Status::Usage, usage),
+        ),
+        (
+            &[b"follow", b"id=0"],
+            (&[HELLO], 0, 99, Status::Usage, usage),
+        ),
+        (&[b"follow", b"id"], (&[HELLO], 0, 99, Status::Usage, usage)),
+        (&[b"Follow", id], (&[HELLO], 0, 99, Status::Usage, usage)),
+        (&[b"--help"], (&[HELLO], 0, 99, Status::Usage, usage)),
+        (&[b"show", id], (&[HELLO], 0, 99, Status::Usage, usage)),
+        (&[b"show", b""], (&[HELLO], 0, 99, Status::Usage, usage)),
+        (&[b"show="], (&[HELLO], 0, 99, Status::Usage, usage)),
+        (
+            &[b"follow", hyphens],
+            (&[HELLO], 0, 99, Status::Done, &[ENTER]),
+        ),
     ];
-    for words in refused {
-        expect(rt, words, &[HELLO], 99, Status::Usage, usage)?;
+    for (words, row) in rows {
+        expect(rt, words, row)?;
     }
-    let hyphenated = "id=00010203-0405-0607-0809-0A0B0C0D0E0F";
-    expect(
-        rt,
-        &["follow", hyphenated],
-        &[HELLO],
-        99,
-        Status::Done,
-        &[ENTER],
-    )?;
-    let mut words = words_of(&rt, &["follow", id])?;
-    words.push(Octets::copy(rt.alloc(), b"id=\xff")?)?;
-    let mut out = MemSink::new(rt.alloc(), Vec::new(rt.alloc()));
-    let source = MemSource::new(Octets::new(rt.alloc()), Vec::new(rt.alloc()));
-    assert_eq!(rt; run(rt, &words, source, &mut out, 9).status, Status::Usage);
     Ok(())
 }
 
@@ -199,7 +348,7 @@ fn faults_of_the_source_and_the_sink_are_told(rt: HostRuntime) -> Result<(), Fai
     ];
     for (reads, writes, status, text) in rows {
         let mut out = MemSink::new(rt.alloc(), writes.to_vec(rt.alloc())?);
-        let source = MemSource::new(joined(&rt, &[HELLO])?, reads.to_vec(rt.alloc())?);
+        let source = MemSource::new(Octets::copy(rt.alloc(), HELLO)?, reads.to_vec(rt.alloc())?);
         assert_eq!(rt; run(rt, &words, source, &mut out, 1000).status, status);
         assert_eq!(rt; out.written(), text);
     }

@@ -5,6 +5,7 @@ ghost use Rattle.zre_values.specs.declared.peer_id.PeerId.{PeerId};
 ghost use Rattle.zre_outside.specs.Causes.{Rose};
 ghost use Rattle.zre_pump.specs.Outcome.{Pumped};
 ghost use Rattle.zre_follow.specs.Follow.{follow};
+ghost use Rattle.zre_show.specs.Show.{show};
 ghost use Rattle.zre_app.specs.declared.words.Command.TheVariants as commands;
 ghost use Rattle.zre_app.specs.Usage.{UsageOutcome};
 ghost use Rattle.zre_app.specs.Words.{command_of};
@@ -14,6 +15,7 @@ use std::alloc::Global;
 use zre_follow::Follower;
 use zre_outside::{NextFault, Sink, Source, write_all};
 use zre_pump::{Status, pump};
+use zre_show::Lister;
 use zre_values::{Frames, PeerId};
 
 /// The most octets that `zre` reads.
@@ -54,6 +56,17 @@ fn follow<I: Source, O: Sink>(
     pump(alloc, &mut machine, input, out, limit)
 }
 
+fn show<I: Source, O: Sink>(alloc: Global, input: &mut I, out: &mut O, limit: u64) -> Status
+    ensures pumped { Pumped result limit show
+        (I.left input.old) (I.left input.new) (I.taken input.old) (I.taken input.new) (O.written out.old) (O.written out.new)
+        (Rose (I.faults input.old) (I.faults input.new)) (Rose (O.faults out.old) (O.faults out.new)) }
+    ensures reads { I.faults input.old ≤ I.faults input.new }
+    ensures writes { O.faults out.old ≤ O.faults out.new }
+{
+    let mut machine = Lister::new(alloc);
+    pump(alloc, &mut machine, input, out, limit)
+}
+
 /// Does what the words ask for, and reads at most `limit` octets. The source comes back as it was left.
 pub fn run<R: AllocGlobal + Copy, I: Source, O: Sink>(
     rt: R,
@@ -72,6 +85,10 @@ pub fn run<R: AllocGlobal + Copy, I: Source, O: Sink>(
         Pumped result.status limit (follow id)
         (I.left input) (I.left result.input) (I.taken input) (I.taken result.input) (O.written out.old) (O.written out.new)
         (Rose (I.faults input) (I.faults result.input)) (Rose (O.faults out.old) (O.faults out.new)) }
+    ensures show { command_of words.now ≡ Some commands.Show →
+        Pumped result.status limit show
+        (I.left input) (I.left result.input) (I.taken input) (I.taken result.input) (O.written out.old) (O.written out.new)
+        (Rose (I.faults input) (I.faults result.input)) (Rose (O.faults out.old) (O.faults out.new)) }
     ensures reads { I.faults input ≤ I.faults result.input }
     ensures writes { O.faults out.old ≤ O.faults out.new }
 {
@@ -83,6 +100,11 @@ pub fn run<R: AllocGlobal + Copy, I: Source, O: Sink>(
         Some(Command::Follow { id }) => {
             let mut input = input;
             let status = follow(rt.alloc(), id, &mut input, out, limit);
+            Ended { status, input }
+        }
+        Some(Command::Show) => {
+            let mut input = input;
+            let status = show(rt.alloc(), &mut input, out, limit);
             Ended { status, input }
         }
     }
@@ -100,6 +122,10 @@ pub fn zre<R: AllocGlobal + Copy, I: Source, O: Sink>(
         UsageOutcome result.status (O.written out.old) (O.written out.new) (Rose (O.faults out.old) (O.faults out.new)) }
     ensures follow { (id : PeerId) → command_of words.now ≡ Some (commands.Follow id) →
         Pumped result.status LIMIT (follow id)
+        (I.left input) (I.left result.input) (I.taken input) (I.taken result.input) (O.written out.old) (O.written out.new)
+        (Rose (I.faults input) (I.faults result.input)) (Rose (O.faults out.old) (O.faults out.new)) }
+    ensures show { command_of words.now ≡ Some commands.Show →
+        Pumped result.status LIMIT show
         (I.left input) (I.left result.input) (I.taken input) (I.taken result.input) (O.written out.old) (O.written out.new)
         (Rose (I.faults input) (I.faults result.input)) (Rose (O.faults out.old) (O.faults out.new)) }
     ensures reads { I.faults input ≤ I.faults result.input }

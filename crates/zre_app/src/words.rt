@@ -1,7 +1,7 @@
 ghost use Rattle.std.specs.Prelude.{◌≡◌, map, count_by, is_some, option_copied, option_map, option_and_then};
 ghost use Rattle.std.specs.List.{list_all, list_any};
 ghost use Rattle.std.specs.Str.{is_utf8};
-ghost use Rattle.zre_app.specs.Words.{are_words_of, begins, behind, command_of, follow_of, identity, may_stand, value_of};
+ghost use Rattle.zre_app.specs.Words.{are_words_of, begins, behind, command_of, follow_of, identity, may_stand, show_of, value_of};
 
 use std::str;
 use zre_values::{Frames, Octets, PeerId};
@@ -11,6 +11,8 @@ use zre_values::{Frames, Octets, PeerId};
 pub enum Command {
     /// Write the events of one connection of this peer.
     Follow { id: PeerId },
+    /// Write a line for each item of a whole stream.
+    Show,
 }
 
 /// In how many words a key may stand.
@@ -148,6 +150,16 @@ fn follow_of(words: &[Octets]) -> Option<Command>
     }
 }
 
+fn show_of(words: &[Octets]) -> Option<Command>
+    ensures { result ≡ show_of words.now }
+{
+    if are_words_of(&[], words) {
+        Some(Command::Show)
+    } else {
+        None
+    }
+}
+
 /// The command that the words are: those behind the program's name, each as its octets. None where they are in no
 /// command's list, or where one isn't UTF-8.
 pub fn command_of(words: &Frames) -> Option<Command>
@@ -162,6 +174,9 @@ pub fn command_of(words: &Frames) -> Option<Command>
     }
     if name.as_slice() == b"follow".as_slice() {
         return follow_of(others);
+    }
+    if name.as_slice() == b"show".as_slice() {
+        return show_of(others);
     }
     None
 }
