@@ -10,6 +10,7 @@ use zre_values::{Octets, Pairs, PeerId};
 
 // Octets of the node's name, and of the name and the value of one of its headers.
 const NAME_OCTETS: usize = 255;
+
 const VALUE_OCTETS: usize = 1024;
 
 // The milliseconds of a day, the longest time after which a silent peer expires.
@@ -56,9 +57,7 @@ fn are_apart(headers: &[(Octets, Octets)]) -> bool
 fn are_fitting(headers: &[(Octets, Octets)]) -> bool
     ensures { result ≡ list_all is_fitting headers.now }
 {
-    headers
-        .iter()
-        .all(|header| header.0.len() <= NAME_OCTETS && header.1.len() <= VALUE_OCTETS)
+    headers.iter().all(|header| header.0.len() <= NAME_OCTETS && header.1.len() <= VALUE_OCTETS)
 }
 
 impl Config {
