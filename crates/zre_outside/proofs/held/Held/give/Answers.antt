@@ -1,4 +1,4 @@
-use Rattle.std.proofs.Common.{◌∙◌, ◌-◌, length, take, drop, ap, arith}
+use Rattle.std.proofs.Common.{arith}
 use Rattle.std.proofs.lemmas.List.{take_rest, length-drop}
 use Rattle.std.proofs.lemmas.Grind.{common_steps}
 use Rattle.zre_outside.proofs.Moved.{moved}
