@@ -1,0 +1,8 @@
+//! Captures: journals of a node as texts. A capture has a head line and a line for each entry.
+#![tactic(auto)]
+
+mod hexadecimal;
+mod line;
+mod word;
+
+pub use line::{HEAD, LINE_OCTETS, push_entry, write_entry};
