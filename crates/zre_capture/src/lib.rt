@@ -1,6 +1,7 @@
 //! Captures: journals of a node as texts. A capture has a head line and a line for each entry.
 #![tactic(auto)]
 
+mod field;
 mod hexadecimal;
 mod line;
 mod word;
