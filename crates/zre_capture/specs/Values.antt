@@ -1,5 +1,5 @@
 -- The values of fields. A field has a value where it is that value's text, and no value else: so it has one text alone.
-use Rattle.std.specs.Prelude.{ℕ, ◌+◌, ◌-◌, ◌*◌, ◌^◌, ◌==◌, ◌&&◌, nat_lt, Bool, if◌then◌else◌, List, [], ◌∷◌, ◌++◌, length, Option, Some, None, unwrap_or, decimal, codes, map}
+use Rattle.std.specs.Prelude.{ℕ, ◌+◌, ◌-◌, ◌*◌, ◌^◌, ◌==◌, ◌&&◌, ◌||◌, nat_le, nat_lt, Bool, if◌then◌else◌, List, [], ◌∷◌, ◌++◌, length, Option, Some, None, unwrap_or, decimal, codes, map}
 use Rattle.std.specs.List.{list_all, slice_split}
 use Rattle.std.specs.Result.{result_unwrap_or}
 use Rattle.std.specs.Str.{bytes_eq}
@@ -85,6 +85,10 @@ id_in field = record { 0 = unwrap_or (parsed field) [] }
 -- an identity
 unfoldable pub id_of : List ℕ → Option PeerId
 id_of field = where_spelled id_text ((length (unwrap_or (parsed field) []) == 16) && are_octets (unwrap_or (parsed field) [])) (id_in field) field
+
+-- a lower-case digit
+abbrev pub is_lower_digit : ℕ → Bool
+is_lower_digit b = (nat_le 48 b && nat_le b 57) || (nat_le 97 b && nat_le b 102)
 
 -- the first of some words that a field is
 abbrev pub first_of : {W : Type 0} → (W → List ℕ) → List W → List ℕ → Option W

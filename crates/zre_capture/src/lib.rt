@@ -4,6 +4,9 @@
 mod field;
 mod hexadecimal;
 mod line;
+mod list;
+mod split;
+mod value;
 mod word;
 
 pub use line::{HEAD, LINE_OCTETS, push_entry, write_entry};
