@@ -1,5 +1,5 @@
 -- The values of fields. A field has a value where it is that value's text, and no value else: so it has one text alone.
-use Rattle.std.specs.Prelude.{ℕ, ◌+◌, ◌-◌, ◌*◌, ◌^◌, ◌==◌, ◌&&◌, ◌||◌, nat_le, nat_lt, Bool, if◌then◌else◌, List, [], ◌∷◌, ◌++◌, length, Option, Some, None, unwrap_or, decimal, codes, map}
+use Rattle.std.specs.Prelude.{ℕ, ◌+◌, ◌-◌, ◌*◌, ◌^◌, ◌==◌, ◌&&◌, ◌||◌, nat_le, nat_lt, Bool, if◌then◌else◌, List, [], ◌∷◌, ◌++◌, length, Option, Some, None, is_some, unwrap_or, decimal, codes, map}
 use Rattle.std.specs.List.{list_all, slice_split}
 use Rattle.std.specs.Result.{result_unwrap_or}
 use Rattle.std.specs.Str.{bytes_eq}
@@ -69,6 +69,10 @@ unquoted field = if bytes_eq field (codes "~") then [] else unescaped [] field
 -- a group
 unfoldable pub group_of : List ℕ → Option (List ℕ)
 group_of field = where_spelled quoted (are_octets (unquoted field)) (unquoted field) field
+
+-- each is one
+abbrev pub are_groups : List (List ℕ) → Bool
+are_groups fields = list_all (λ field. is_some (group_of field)) fields
 
 -- what a list of quoted members stands for
 abbrev pub unquoted_list : List ℕ → List (List ℕ)

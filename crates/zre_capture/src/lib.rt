@@ -5,6 +5,7 @@ mod field;
 mod hexadecimal;
 mod line;
 mod list;
+mod read;
 mod split;
 mod value;
 mod word;

@@ -1,23 +1,7 @@
-use Rattle.std.proofs.Common.{◌≡◌, ◌==◌, Bool, true, false, not, List, ℕ, ◌∷◌, [], refl, sym, ap, ◌∙◌}
-use Rattle.std.specs.Prelude.{is_some}
-use Rattle.std.specs.List.{list_all}
-use Rattle.zre_capture.specs.Parts.{between}
-use Rattle.zre_capture.specs.Values.{group_of}
+use Rattle.std.proofs.Common.{sym, ◌∙◌}
 use Rattle.zre_capture.proofs.Parts.{between-cut, between-whole}
+use Rattle.zre_capture.proofs.Members.{cut_bad, cut_good, last_one}
 use Rattle.zre_capture.proofs.list.are_members.Goals as goal
-
-abbrev good : List ℕ → Bool
-good member = is_some (group_of member)
-
-cut_bad : (rest member behind : List ℕ) → between 44 rest ≡ member ∷ between 44 behind → good member ≡ false → list_all good (between 44 rest) ≡ false
-cut_bad rest member behind cut bad = ap (list_all good) cut ∙ (rw bad refl)
-
-cut_good : (rest member behind : List ℕ) → between 44 rest ≡ member ∷ between 44 behind → good member ≡ true → list_all good (between 44 rest) ≡ list_all good (between 44 behind)
-cut_good rest member behind cut ok = ap (list_all good) cut ∙ (rw ok refl)
-
-last_one : (b : Bool) (rest : List ℕ) → between 44 rest ≡ rest ∷ [] → b ≡ good rest → b ≡ list_all good (between 44 rest)
-last_one true rest whole e = sym (ap (list_all good) whole ∙ (rw (sym e) refl))
-last_one false rest whole e = sym (ap (list_all good) whole ∙ (rw (sym e) refl))
 
 pub returns-then-not-is_group : goal.returns-then-not-is_group
 returns-then-not-is_group c =
@@ -31,4 +15,4 @@ members-preserved c =
 
 pub returns : goal.returns
 returns c =
-    last_one c.is_group-2.result c.members.rest.now (between-whole 44 c.members.rest.now c.in_default.ensures.none) c.is_group-2.ensures ∙ c.members.invariant
+    c.is_group-2.ensures ∙ sym (last_one c.members.rest.now (between-whole 44 c.members.rest.now c.in_default.ensures.none)) ∙ c.members.invariant
