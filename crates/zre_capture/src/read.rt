@@ -1,7 +1,7 @@
 //! Entries read from their lines.
 
-ghost use Rattle.std.specs.Prelude.{◌≡◌, [], ◌∷◌, ◌++◌, Option, Some, None, is_some, option_map, IfOk, IfNone, IfSome};
-ghost use Rattle.zre_capture.specs.Reading.{◌>>=◌, fields_in, one, two, command_from, command_in, input_from, input_in, entry_of};
+ghost use Rattle.std.specs.Prelude.{◌≡◌, [], ◌∷◌, Option, Some, None, option_map, IfOk};
+ghost use Rattle.zre_capture.specs.Reading.{fields_in, one, two, one_number, one_group, two_numbers, number_and_hex, address_and_hex, id_and_frames, group_and_frames, command_from, command_in, input_from, input_in, entry_of};
 ghost use Rattle.zre_capture.specs.Values.{number_of, address_of, id_of, group_of, frames_of, hex_of};
 
 use crate::hexadecimal::hex;
@@ -32,8 +32,111 @@ fn two_fields(text: &[u8]) -> Option<(&[u8], &[u8])>
     Some((first, second))
 }
 
+#[tactic(auto, unfolding(crate::specs::Reading::one_number))]
 fn one_number(text: &[u8]) -> Option<u64>
-    ensures { result ≡ (one (fields_in text.now) >>= number_of) }
+    ensures { result ≡ one_number (fields_in text.now) }
 {
     number(one_field(text)?)
+}
+
+#[tactic(auto, unfolding(crate::specs::Reading::two_numbers))]
+fn two_numbers(text: &[u8]) -> Option<(u64, u64)>
+    ensures { result ≡ two_numbers (fields_in text.now) }
+{
+    let (first, second) = two_fields(text)?;
+    Some((number(first)?, number(second)?))
+}
+
+#[tactic(auto, unfolding(crate::specs::Reading::one_group))]
+fn one_group(alloc: Global, text: &[u8]) -> Result<Option<Octets>, OutOfMemory>
+    ensures { IfOk result (λ found. found ≡ one_group (fields_in text.now)) }
+{
+    let Some(field) = one_field(text) else {
+        return Ok(None);
+    };
+    group(alloc, field)
+}
+
+#[tactic(auto, unfolding(crate::specs::Reading::number_and_hex))]
+fn number_and_hex(alloc: Global, text: &[u8]) -> Result<Option<(u64, Octets)>, OutOfMemory>
+    ensures { IfOk result (λ found. found ≡ number_and_hex (fields_in text.now)) }
+{
+    let Some((first, second)) = two_fields(text) else {
+        return Ok(None);
+    };
+    let Some(n) = number(first) else {
+        return Ok(None);
+    };
+    match hex(alloc, second)? {
+        Some(bytes) => Ok(Some((n, bytes))),
+        None => Ok(None),
+    }
+}
+
+#[tactic(auto, unfolding(crate::specs::Reading::address_and_hex))]
+fn address_and_hex(alloc: Global, text: &[u8]) -> Result<Option<([u8; 4], Octets)>, OutOfMemory>
+    ensures { IfOk result (λ found. found ≡ address_and_hex (fields_in text.now)) }
+{
+    let Some((first, second)) = two_fields(text) else {
+        return Ok(None);
+    };
+    let Some(host) = address(first) else {
+        return Ok(None);
+    };
+    match hex(alloc, second)? {
+        Some(bytes) => Ok(Some((host, bytes))),
+        None => Ok(None),
+    }
+}
+
+#[tactic(auto, unfolding(crate::specs::Reading::id_and_frames))]
+fn id_and_frames(alloc: Global, text: &[u8]) -> Result<Option<(PeerId, Frames)>, OutOfMemory>
+    ensures { IfOk result (λ found. found ≡ id_and_frames (fields_in text.now)) }
+{
+    let Some((first, second)) = two_fields(text) else {
+        return Ok(None);
+    };
+    let Some(peer) = id(first) else {
+        return Ok(None);
+    };
+    match frames(alloc, second)? {
+        Some(content) => Ok(Some((peer, content))),
+        None => Ok(None),
+    }
+}
+
+#[tactic(auto, unfolding(crate::specs::Reading::group_and_frames))]
+fn group_and_frames(alloc: Global, text: &[u8]) -> Result<Option<(Octets, Frames)>, OutOfMemory>
+    ensures { IfOk result (λ found. found ≡ group_and_frames (fields_in text.now)) }
+{
+    let Some((first, second)) = two_fields(text) else {
+        return Ok(None);
+    };
+    let Some(name) = group(alloc, first)? else {
+        return Ok(None);
+    };
+    match frames(alloc, second)? {
+        Some(content) => Ok(Some((name, content))),
+        None => Ok(None),
+    }
+}
+
+// The command of a word and the fields behind it, of which there is one at least.
+fn command_with(
+    alloc: Global,
+    word: CommandWord,
+    rest: &[u8],
+) -> Result<Option<Command>, OutOfMemory>
+    ensures { IfOk result (λ found. found ≡ command_from word (fields_in rest.now)) }
+{
+    match word {
+        CommandWord::Join => Ok(one_group(alloc, rest)?.map(|group| Command::Join { group })),
+        CommandWord::Leave => Ok(one_group(alloc, rest)?.map(|group| Command::Leave { group })),
+        CommandWord::Whisper => Ok(id_and_frames(alloc, rest)?
+            .map(|(peer, content)| Command::Whisper { peer, content })),
+        CommandWord::Shout => Ok(group_and_frames(alloc, rest)?
+            .map(|(group, content)| Command::Shout { group, content })),
+        CommandWord::Bad => Ok(one_number(rest).map(|line| Command::Bad { line })),
+        CommandWord::Quit => Ok(None),
+    }
 }
