@@ -3,7 +3,7 @@ use Rattle.std.proofs.Common.{◌≡◌, ℕ, ◌<◌, ◌==◌, List, [], ◌�
 use Rattle.std.specs.Prelude.{option_map}
 use Rattle.std.proofs.lemmas.List.Splits.{length-slice_split}
 use Rattle.zre_capture.specs.Parts.{between, Lacks}
-use Rattle.zre_capture.specs.Reading.{fields_in, one, two}
+use Rattle.zre_capture.specs.Reading.{fields_in, one, two, alone}
 use Rattle.zre_capture.proofs.Parts.{between-cut, between-whole}
 
 pub some_fields : (text : List ℕ) → 0 < length (fields_in text)
@@ -29,3 +29,17 @@ two-whole text none = ap two (between-whole 32 text none)
 
 pub two-cut : (text first rest : List ℕ) → text ≡ first ++ (32 ∷ rest) → Lacks 32 first → two (fields_in text) ≡ option_map (λ g. (first, g)) (one (fields_in rest))
 two-cut text first rest e none = ap two (between-cut 32 text first rest e none) ∙ two_of first (fields_in rest)
+
+not_alone : {V : Type 0} (value : V) (fs : List (List ℕ)) → 0 < length fs → alone value fs ≡ None
+not_alone value [] some = absurd (omega (arith, some))
+not_alone value (f ∷ fs) some = refl
+
+-- a field stands behind
+pub never_alone : {V : Type 0} (value : V) (text : List ℕ) → None ≡ alone value (fields_in text)
+never_alone value text = sym (not_alone value (fields_in text) (some_fields text))
+
+pub fields-cut : (text first rest : List ℕ) → text ≡ first ++ (32 ∷ rest) → Lacks 32 first → fields_in text ≡ first ∷ fields_in rest
+fields-cut text first rest e none = between-cut 32 text first rest e none
+
+pub fields-whole : (text : List ℕ) → Lacks 32 text → fields_in text ≡ text ∷ []
+fields-whole text none = between-whole 32 text none

@@ -1,5 +1,5 @@
 -- Lines as they are read: the entry of a line, and where a line is bad.
-use Rattle.std.specs.Prelude.{ℕ, ◌+◌, ◌-◌, ◌==◌, ◌&&◌, nat_le, nat_lt, Bool, if◌then◌else◌, List, [], ◌∷◌, length, take, Option, Some, None, is_some, option_and_then, option_map, unwrap_or, codes}
+use Rattle.std.specs.Prelude.{ℕ, ◌+◌, ◌==◌, nat_lt, Bool, false, if◌then◌else◌, List, [], ◌∷◌, length, take, Option, Some, None, is_some, option_and_then, option_map, unwrap_or, codes}
 use Rattle.std.specs.Option.{option_map_or}
 use Rattle.std.specs.List.{slice_split}
 use Rattle.std.specs.Str.{bytes_eq}
@@ -139,3 +139,90 @@ entry_in (t ∷ fs) = do
 -- the entry of a line, if it is the line of one
 abbrev pub entry_of : List ℕ → Option Entry
 entry_of text = entry_in (fields_in text)
+
+-- ---- where a line is bad
+
+-- a field is as required
+abbrev pub is_field : Field → List ℕ → Bool
+is_field field.Mark f = bytes_eq f (codes "zre-capture")
+is_field field.Format f = bytes_eq f (codes "1")
+is_field field.Number f = is_some (number_of f)
+is_field field.Input f = is_some (input_word_of f)
+is_field field.Command f = is_some (command_word_of f)
+is_field field.Address f = is_some (address_of f)
+is_field field.Hex f = is_some (hex_of f)
+is_field field.Group f = is_some (group_of f)
+is_field field.Frames f = is_some (frames_of f)
+is_field field.Id f = is_some (id_of f)
+
+-- the fields that are required behind the word of a command
+abbrev pub command_form : CommandWord → List Field
+command_form order.Join = field.Group ∷ []
+command_form order.Leave = field.Group ∷ []
+command_form order.Whisper = field.Id ∷ field.Frames ∷ []
+command_form order.Shout = field.Group ∷ field.Frames ∷ []
+command_form order.Bad = field.Number ∷ []
+command_form order.Quit = []
+
+-- the fields that are required behind the word of an entry
+abbrev pub input_form : InputWord → List Field
+input_form word.Datagram = field.Address ∷ field.Hex ∷ []
+input_form word.Opened = field.Number ∷ []
+input_form word.Piece = field.Number ∷ field.Hex ∷ []
+input_form word.Shut = field.Number ∷ []
+input_form word.Linked = field.Number ∷ []
+input_form word.Reply = field.Number ∷ field.Hex ∷ []
+input_form word.Unlinked = field.Number ∷ []
+input_form word.Took = field.Number ∷ field.Number ∷ []
+input_form word.Tick = []
+input_form word.Do = field.Command ∷ []
+input_form word.End = []
+
+-- a field is what is required next, if anything is
+abbrev pub meets : List Field → List ℕ → Bool
+meets [] f = false
+meets (k ∷ ks) f = is_field k f
+
+-- what is required behind it, where these were required behind the field before
+abbrev pub behind_field : Field → List Field → List ℕ → List Field
+behind_field field.Mark more f = more
+behind_field field.Format more f = more
+behind_field field.Number more f = more
+behind_field field.Input more f = option_map_or input_form (input_word_of f) []
+behind_field field.Command more f = option_map_or command_form (command_word_of f) []
+behind_field field.Address more f = more
+behind_field field.Hex more f = more
+behind_field field.Group more f = more
+behind_field field.Frames more f = more
+behind_field field.Id more f = more
+
+abbrev pub behind : List Field → List ℕ → List Field
+behind [] f = []
+behind (k ∷ ks) f = behind_field k ks f
+
+-- the column of the first field that isn't as required, where the first of all stands at column at
+abbrev pub first_bad : List Field → List (List ℕ) → ℕ → Option ℕ
+first_bad required [] at = None
+first_bad required (f ∷ fs) at = if meets required f then first_bad (behind required f) fs (at + (length f + 1)) else Some at
+
+-- the fields that a line begins with, by its number from 1: those of the head, or of an entry
+abbrev pub form : ℕ → List Field
+form n = if n == 1 then field.Mark ∷ field.Format ∷ [] else field.Number ∷ field.Input ∷ []
+
+-- all but the last
+abbrev pub but_last : List (List ℕ) → List (List ℕ)
+but_last [] = []
+but_last (f ∷ []) = []
+but_last (f ∷ g ∷ fs) = f ∷ but_last (g ∷ fs)
+
+-- where a line that isn't too long is bad: at its first bad field, or behind its end
+abbrev pub column : ℕ → List ℕ → ℕ
+column n text = unwrap_or (first_bad (form n) (fields_in text) 1) (length text + 1)
+
+-- the same of one that is too long: of its fields those count that lie whole before the column of the first octet too many
+abbrev pub long_column : ℕ → List ℕ → ℕ
+long_column n text = unwrap_or (first_bad (form n) (but_last (fields_in (take (LINE_OCTETS + 1) text))) 1) (LINE_OCTETS + 1)
+
+-- where a bad line is bad
+abbrev pub bad_column : ℕ → List ℕ → ℕ
+bad_column n text = if nat_lt LINE_OCTETS (length text) then long_column n text else column n text
