@@ -81,6 +81,13 @@ pub record Adds (o piece : List ℕ) (old new : List Entry) : Type 0 where
   pub added : new ≡ old ++ entries
   pub more : journal (o ++ piece) ≡ journal o ++ entries
 
+-- the same of a front of what it adds
+pub record AddsFront (o piece : List ℕ) (old new : List Entry) : Type 0 where
+  pub entries : List Entry
+  pub others : List Entry
+  pub added : new ≡ old ++ entries
+  pub more : journal (o ++ piece) ≡ journal o ++ (entries ++ others)
+
 -- a refusal tells the bad place; want of memory has no cause
 abbrev pub Refuses : CaptureFault → (BadCapture → Type 0) → Type 0
 Refuses (Bad place) P = P place
