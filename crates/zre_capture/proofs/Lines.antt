@@ -1,5 +1,5 @@
 -- Lines, one after the other.
-use Rattle.std.proofs.Common.{◌≡◌, ℕ, suc, ◌+◌, ◌-◌, ◌≤◌, ◌<◌, ◌==◌, ◌&&◌, not, ltb, Bool, true, false, cond, List, [], ◌∷◌, ◌++◌, length, take, Option, Some, None, refl, sym, ap, ◌∙◌, arith, append_assoc}
+use Rattle.std.proofs.Common.{subst, ◌≡◌, ℕ, suc, ◌+◌, ◌-◌, ◌≤◌, ◌<◌, ◌==◌, ◌&&◌, not, ltb, Bool, true, false, cond, List, [], ◌∷◌, ◌++◌, length, take, Option, Some, None, refl, sym, ap, ◌∙◌, arith, append_assoc}
 use Rattle.std.specs.Prelude.{is_some, unwrap_or, option_map}
 use Rattle.std.specs.Option.{option_map_or, option_or}
 use Rattle.std.proofs.Math.Seq.{take-append-add}
@@ -10,7 +10,9 @@ use Rattle.std.proofs.lemmas.List.Splits.{length-slice_split}
 use Rattle.zre_outside.specs.declared.entry.Entry.{Entry}
 use Rattle.zre_capture.specs.Parts.{between, Lacks}
 use Rattle.zre_capture.specs.Reading.{form, first_bad, but_last, fields_in, column, long_column, bad_column}
-use Rattle.zre_capture.specs.Journal.{said, line_of, bad_line, lines_in, entries_from, bad_from, end_from, journal, bad, bad_at_end, Reading, Waits, Reads, Adds, AddsFront}
+use Rattle.zre_capture.specs.Journal.{said, line_of, bad_line, lines_in, entries_from, bad_from, end_from, journal, bad, bad_at_end, Reading, Waits, Reads, Adds, AddsFront, Refuses}
+use Rattle.zre_capture.specs.declared.fault.CaptureFault.{CaptureFault}
+use Rattle.zre_capture.specs.declared.fault.CaptureFault.TheVariants.{Bad, OutOfMemory}
 use Rattle.zre_capture.specs.declared.fault.BadCapture.{BadCapture}
 use Rattle.zre_capture.proofs.Parts.{between-cut, between-whole}
 
@@ -115,3 +117,104 @@ amid-line first piece old now new es r rest text behind amid e none says grown =
       ends = λ x. amid.ends x ∙ ap (end_from r.line) (cut x) ∙ end-more r.line (r.left ++ text) (lines_in (behind ++ x)) (some_lines (behind ++ x));
       waits = record { unfinished = λ k d lt. absurd (omega (arith, lt)); short = omega arith };
     }
+
+-- ---- whole readings
+
+pub reads-start : Reads [] (record { line = 1; left = [] })
+unfolding entries_from
+reads-start = record { entries = λ x. refl; faults = λ x. refl; ends = λ x. refl }
+
+-- what a reader has read so far isn't bad
+pub faultless : (o : List ℕ) (r : Reading) → Reads o r → Waits r → bad o ≡ None
+faultless o r reads w =
+    ap bad (sym (append-nil o)) ∙ reads.faults [] ∙ ap (λ (l : List ℕ). bad_from r.line (lines_in l)) (append-nil r.left) ∙ bad-last_short r.line r.left w.unfinished w.short
+
+-- what the end makes of a line that isn't finished
+abbrev ended : ℕ → List ℕ → Option BadCapture
+ended n last = cond ((length last == 0) && not (n == 1)) None (Some (record { line = n; column = column n last }))
+
+end-last : (n : ℕ) (last : List ℕ) → Lacks 10 last → end_from n (lines_in last) ≡ ended n last
+unfolding end_from
+end-last n last none = ap (end_from n) (between-whole 10 last none)
+
+pub at_end : (o : List ℕ) (r : Reading) → Reads o r → Waits r → bad_at_end o ≡ cond ((length r.left == 0) && not (r.line == 1)) None (Some (record { line = r.line; column = column r.line r.left }))
+at_end o r reads w =
+    let ends : end_from 1 (lines_in o) ≡ ended r.line r.left =
+    ap (λ (l : List ℕ). end_from 1 (lines_in l)) (sym (append-nil o)) ∙ reads.ends [] ∙ ap (λ (l : List ℕ). end_from r.line (lines_in l)) (append-nil r.left) ∙ end-last r.line r.left w.unfinished in
+    ap (λ (b : Option BadCapture). option_or b (end_from 1 (lines_in o))) (faultless o r reads w) ∙ ends
+
+-- ---- a piece behind some octets
+
+module _ (o piece : List ℕ) (first r : Reading) (old now : List Entry) (rest : List ℕ) (reads : Reads o first) (amid : IsAmid first piece old now r rest) where
+  whole : o ++ piece ≡ o ++ (piece ++ [])
+  whole = ap (λ (p : List ℕ). o ++ p) (sym (append-nil piece))
+
+  entries-amid : journal (o ++ piece) ≡ journal o ++ (amid.entries ++ entries_from r.line (lines_in (r.left ++ (rest ++ []))))
+  entries-amid = ap journal whole ∙ reads.entries (piece ++ []) ∙ ap (λ (l : List Entry). journal o ++ l) (amid.more [])
+
+  faults-amid : bad (o ++ piece) ≡ bad_from r.line (lines_in (r.left ++ (rest ++ [])))
+  faults-amid = ap bad whole ∙ reads.faults (piece ++ []) ∙ amid.faults []
+
+  pub adds-front : AddsFront o piece old now
+  adds-front = record { entries = amid.entries; others = entries_from r.line (lines_in (r.left ++ (rest ++ []))); added = amid.added; more = entries-amid }
+
+  adds-all : entries_from r.line (lines_in (r.left ++ (rest ++ []))) ≡ [] → Adds o piece old now
+  adds-all none = record {
+    entries = amid.entries;
+    added = amid.added;
+    more = entries-amid ∙ ap (λ (l : List Entry). journal o ++ (amid.entries ++ l)) none ∙ ap (λ (l : List Entry). journal o ++ l) (append-nil amid.entries);
+  }
+
+  -- a bad line that a line feed ends
+  pub refused-line : (text behind : List ℕ) → rest ≡ text ++ (10 ∷ behind) → Lacks 10 text → line_of r.line (r.left ++ text) ≡ None → (bad (o ++ piece) ≡ Some (bad_line r.line (r.left ++ text))) × Adds o piece old now
+  refused-line text behind e none isnt =
+      let cut = first_line r.left text behind [] rest e amid.waits.unfinished none in
+      let others = some_lines (behind ++ []) in (
+        faults-amid ∙ ap (bad_from r.line) cut ∙ bad-bad r.line (r.left ++ text) (lines_in (behind ++ [])) others isnt,
+        adds-all (ap (entries_from r.line) cut ∙ entries-bad r.line (r.left ++ text) (lines_in (behind ++ [])) others isnt),
+      )
+
+  unended : Lacks 10 rest → Lacks 10 (r.left ++ rest)
+  unended none = lacks-append 10 r.left rest amid.waits.unfinished none
+
+  no_more : r.left ++ (rest ++ []) ≡ r.left ++ rest
+  no_more = ap (λ (l : List ℕ). r.left ++ l) (append-nil rest)
+
+  none-added : Lacks 10 rest → Adds o piece old now
+  none-added none = adds-all (ap (λ (l : List ℕ). entries_from r.line (lines_in l)) no_more ∙ entries-last r.line (r.left ++ rest) (unended none))
+
+  -- a line that is too long, with no line feed yet
+  pub refused-end : Lacks 10 rest → 4194304 < length (r.left ++ rest) → (bad (o ++ piece) ≡ Some (bad_line r.line (r.left ++ rest))) × Adds o piece old now
+  refused-end none long = (
+    faults-amid ∙ ap (λ (l : List ℕ). bad_from r.line (lines_in l)) no_more ∙ bad-last_long r.line (r.left ++ rest) (unended none) long,
+    none-added none,
+  )
+
+  -- all of the piece is read
+  pub read-all : Lacks 10 rest → length (r.left ++ rest) ≤ 4194304 → Reads (o ++ piece) (record { line = r.line; left = r.left ++ rest }) × Adds o piece old now × (bad (o ++ piece) ≡ None)
+  unfolding none-added adds-all
+  read-all none short =
+      let more = none-added none in
+      let again = λ (x : List ℕ). sym (append_assoc r.left rest x) in (
+        record {
+          entries = λ x. ap journal (append_assoc o piece x) ∙ reads.entries (piece ++ x) ∙ ap (λ (l : List Entry). journal o ++ l) (amid.more x)
+          ∙ sym (append_assoc (journal o) amid.entries (entries_from r.line (lines_in (r.left ++ (rest ++ x)))))
+          ∙ ap (λ (l : List Entry). l ++ entries_from r.line (lines_in (r.left ++ (rest ++ x)))) (sym more.more)
+          ∙ ap (λ (l : List ℕ). journal (o ++ piece) ++ entries_from r.line (lines_in l)) (again x);
+          faults = λ x. ap bad (append_assoc o piece x) ∙ reads.faults (piece ++ x) ∙ amid.faults x ∙ ap (λ (l : List ℕ). bad_from r.line (lines_in l)) (again x);
+          ends = λ x. ap (λ (l : List ℕ). end_from 1 (lines_in l)) (append_assoc o piece x) ∙ reads.ends (piece ++ x) ∙ amid.ends x ∙ ap (λ (l : List ℕ). end_from r.line (lines_in l)) (again x);
+        },
+        more,
+        faults-amid ∙ ap (λ (l : List ℕ). bad_from r.line (lines_in l)) no_more ∙ bad-last_short r.line (r.left ++ rest) (unended none) short,
+      )
+
+pub refuses-weaker : (e : CaptureFault) (P Q : BadCapture → Type 0) → ((b : BadCapture) → P b → Q b) → Refuses e P → Refuses e Q
+refuses-weaker (Bad b) P Q f p = f b p
+refuses-weaker OutOfMemory P Q f p = tt
+
+-- the same list under another name
+pub amid-out : (first : Reading) (piece : List ℕ) (old now new : List Entry) (r : Reading) (rest : List ℕ) → IsAmid first piece old now r rest → new ≡ now → IsAmid first piece old new r rest
+amid-out first piece old now new r rest amid e = subst (λ (l : List Entry). IsAmid first piece old l r rest) (sym e) amid
+
+pub amid-at : (first : Reading) (piece : List ℕ) (old now : List Entry) (r s : Reading) (rest : List ℕ) → IsAmid first piece old now r rest → s ≡ r → IsAmid first piece old now s rest
+amid-at first piece old now r s rest amid e = subst (λ (q : Reading). IsAmid first piece old now q rest) (sym e) amid

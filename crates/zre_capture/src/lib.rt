@@ -14,3 +14,4 @@ mod word;
 
 pub use fault::{BadCapture, CaptureFault};
 pub use line::{HEAD, LINE_OCTETS, push_entry, write_entry};
+pub use reader::CaptureReader;
