@@ -15,3 +15,6 @@ mod word;
 pub use fault::{BadCapture, CaptureFault};
 pub use line::{HEAD, LINE_OCTETS, push_entry, write_entry};
 pub use reader::CaptureReader;
+
+#[cfg(test)]
+mod tests;
