@@ -140,7 +140,7 @@ pub hex_of-decoded : (s v : List ℕ) → hex_of s ≡ Some v → decoded s ≡ 
 unfolding hex_of
 hex_of-decoded s v e = (found hex_text _ (decoded s) s v e).same
 
-encoded-lower : (v : List ℕ) → All (λ b. b < 2 ^ 8) v → lower (encode_lower v) ≡ true
+pub encoded-lower : (v : List ℕ) → All (λ b. b < 2 ^ 8) v → lower (encode_lower v) ≡ true
 unfolding encode_with
 encoded-lower [] h = refl
 encoded-lower (b ∷ v) h =

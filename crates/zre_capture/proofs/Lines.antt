@@ -34,21 +34,21 @@ long-place n left text front short long e =
 
 -- ---- one line
 
-some_lines : (o : List ℕ) → 0 < length (lines_in o)
+pub some_lines : (o : List ℕ) → 0 < length (lines_in o)
 some_lines o = omega (arith, length-slice_split (λ b. b == 10) o)
 
 -- a line that says entries, with others behind it
-entries-good : (n : ℕ) (t : List ℕ) (es : List Entry) (ls : List (List ℕ)) → 0 < length ls → line_of n t ≡ Some es → entries_from n (t ∷ ls) ≡ es ++ entries_from (n + 1) ls
+pub entries-good : (n : ℕ) (t : List ℕ) (es : List Entry) (ls : List (List ℕ)) → 0 < length ls → line_of n t ≡ Some es → entries_from n (t ∷ ls) ≡ es ++ entries_from (n + 1) ls
 unfolding entries_from
 entries-good n t es [] some e = absurd (omega (arith, some))
 entries-good n t es (next ∷ more) some e = ap (λ (o : Option (List Entry)). option_map_or (λ (fs : List Entry). fs ++ entries_from (n + 1) (next ∷ more)) o []) e
 
-bad-good : (n : ℕ) (t : List ℕ) (es : List Entry) (ls : List (List ℕ)) → 0 < length ls → line_of n t ≡ Some es → bad_from n (t ∷ ls) ≡ bad_from (n + 1) ls
+pub bad-good : (n : ℕ) (t : List ℕ) (es : List Entry) (ls : List (List ℕ)) → 0 < length ls → line_of n t ≡ Some es → bad_from n (t ∷ ls) ≡ bad_from (n + 1) ls
 unfolding bad_from
 bad-good n t es [] some e = absurd (omega (arith, some))
 bad-good n t es (next ∷ more) some e = ap (λ (o : Option (List Entry)). cond (is_some o) (bad_from (n + 1) (next ∷ more)) (Some (bad_line n t))) e
 
-end-more : (n : ℕ) (t : List ℕ) (ls : List (List ℕ)) → 0 < length ls → end_from n (t ∷ ls) ≡ end_from (n + 1) ls
+pub end-more : (n : ℕ) (t : List ℕ) (ls : List (List ℕ)) → 0 < length ls → end_from n (t ∷ ls) ≡ end_from (n + 1) ls
 unfolding end_from
 end-more n t [] some = absurd (omega (arith, some))
 end-more n t (next ∷ more) some = refl

@@ -57,6 +57,12 @@ bad o = bad_from 1 (lines_in o)
 abbrev pub bad_at_end : List ℕ → Option BadCapture
 bad_at_end o = option_or (bad o) (end_from 1 (lines_in o))
 
+-- a whole capture of these entries: they are its journal, and nothing in it is bad
+pub record IsCaptureOf (es : List Entry) (o : List ℕ) : Type 0 where
+  pub entries : journal o ≡ es
+  pub faultless : bad o ≡ None
+  pub whole : bad_at_end o ≡ None
+
 -- ---- reading
 
 -- what a reader keeps: the number of the line that it reads, and what has come of that

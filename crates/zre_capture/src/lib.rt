@@ -4,6 +4,7 @@
 mod fault;
 mod field;
 mod hexadecimal;
+pub mod laws;
 mod line;
 mod list;
 mod read;

@@ -1,0 +1,17 @@
+//! Laws of captures. The functions do nothing: what they ensure is for proofs.
+
+ghost use Rattle.std.specs.Prelude.{◌≡◌, ◌++◌, List, Some, All};
+ghost use Rattle.zre_outside.specs.declared.entry.Entry.{Entry};
+ghost use Rattle.zre_capture.specs.Lines.{head, lines, text, IsEntry, IsWritable};
+ghost use Rattle.zre_capture.specs.Reading.{entry_of};
+ghost use Rattle.zre_capture.specs.Journal.{IsCaptureOf};
+
+/// A line that is written is read as its entry.
+pub fn lines_are_read()
+    ensures { (e : Entry) → IsEntry e → entry_of (text e) ≡ Some e }
+{}
+
+/// The head and the lines of entries are read as the journal of these entries, where no line is too long.
+pub fn captures_are_read()
+    ensures { (es : List Entry) → All IsEntry es → All IsWritable es → IsCaptureOf es (head ++ lines es) }
+{}
