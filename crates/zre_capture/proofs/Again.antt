@@ -1,8 +1,8 @@
 -- What is written is read again.
-use Rattle.std.proofs.Common.{◌≡◌, ℕ, ◌+◌, ◌≤◌, ◌<◌, ◌^◌, ◌==◌, ◌&&◌, Bool, true, false, cond, List, [], ◌∷◌, ◌++◌, length, Option, Some, None, refl, sym, ap, ◌∙◌, arith, All, append_assoc}
-use Rattle.std.specs.Prelude.{decimal, flat_map, codes, option_map, option_and_then}
-use Rattle.std.specs.List.{list_all, join_with_byte}
-use Rattle.std.proofs.lemmas.Bool.{and_from, le-ltb}
+use Rattle.std.proofs.Common.{◌≡◌, ℕ, true, List, [], ◌∷◌, Some, refl, ap, ◌∙◌}
+use Rattle.std.specs.Prelude.{decimal}
+use Rattle.std.specs.List.{list_all}
+use Rattle.std.proofs.lemmas.Bool.{and_from}
 use Rattle.zre_outside.specs.declared.entry.Entry.{Entry}
 use Rattle.zre_outside.specs.declared.entry.Input.{Input}
 use Rattle.zre_outside.specs.declared.entry.Input.TheVariants as got
@@ -14,8 +14,8 @@ use Rattle.zre_capture.specs.declared.word.CommandWord.{CommandWord}
 use Rattle.zre_capture.specs.declared.word.CommandWord.TheVariants as order
 use Rattle.zre_values.specs.Address.{address_text}
 use Rattle.zre_values.specs.Text.{quoted, quoted_list, id_text}
-use Rattle.zre_capture.specs.Lines.{hex_text, command_word_text, command_word, command_fields, input_word_text, input_word, input_fields, fields, text, line, lines, head, IsCommand, IsInput, IsEntry}
-use Rattle.zre_capture.specs.Values.{input_word_of, command_word_of, number_of, hex_of, address_of, id_of, group_of, frames_of}
+use Rattle.zre_capture.specs.Lines.{hex_text, command_word_text, command_word, command_fields, input_word_text, input_word, input_fields, fields, text, IsCommand, IsInput, IsEntry}
+use Rattle.zre_capture.specs.Values.{input_word_of, command_word_of}
 use Rattle.zre_capture.specs.Reading.{one_number, one_group, two_numbers, number_and_hex, address_and_hex, id_and_frames, group_and_frames, command_from, command_in, input_from, input_in, entry_in, entry_of}
 use Rattle.zre_capture.proofs.Spelled.{number_of-decimal, hex_of-text, address_of-text, id_of-text, group_of-quoted}
 use Rattle.zre_capture.proofs.Members.{frames_of-list}

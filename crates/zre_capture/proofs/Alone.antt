@@ -1,11 +1,10 @@
 -- Words that need fields behind them.
-use Rattle.std.proofs.Common.{◌≡◌, ℕ, List, [], ◌∷◌, Option, Some, None, refl, sym, ap, ◌∙◌}
+use Rattle.std.proofs.Common.{◌≡◌, ℕ, List, [], ◌∷◌, Option, Some, None, refl}
 use Rattle.zre_capture.specs.declared.word.InputWord.{InputWord}
 use Rattle.zre_capture.specs.declared.word.InputWord.TheVariants as word
 use Rattle.zre_capture.specs.declared.word.CommandWord.{CommandWord}
 use Rattle.zre_capture.specs.declared.word.CommandWord.TheVariants as order
 use Rattle.std.specs.Prelude.{option_and_then}
-use Rattle.zre_outside.specs.declared.entry.Entry.{Entry}
 use Rattle.zre_capture.specs.Values.{number_of}
 use Rattle.zre_capture.specs.Reading.{one_number, one_group, two_numbers, number_and_hex, address_and_hex, id_and_frames, group_and_frames, command_from, command_in, input_from, input_in, entry_in}
 

@@ -1,5 +1,5 @@
 -- What is read is spelled so.
-use Rattle.std.proofs.Common.{◌≡◌, ℕ, List, [], ◌∷◌, ◌++◌, Option, Some, None, inl, inr, refl, sym, ap, ◌∙◌, subst}
+use Rattle.std.proofs.Common.{◌≡◌, ℕ, List, [], ◌∷◌, Option, Some, None, inl, inr, refl, sym, ap, ◌∙◌, subst}
 use Rattle.std.specs.Prelude.{decimal, option_map, option_and_then}
 use Rattle.std.specs.List.{join_with_byte}
 use Rattle.std.proofs.lemmas.Option.{same_Some}
@@ -170,9 +170,9 @@ entry_in-back [] e h = absurd cc
 entry_in-back (f ∷ fs) e h =
     stepped (λ (at : ℕ). option_and_then (λ (input : Input). Some (record { at = at; input = input })) (input_in fs)) (number_of f) e (fields e ≡ f ∷ fs) h
     (λ at is more. stepped (λ (input : Input). Some (record { at = at; input = input })) (input_in fs) e (fields e ≡ f ∷ fs) more
-        (λ input there same.
-            let both_parts : fields (record { at = at; input = input }) ≡ f ∷ fs = ap (λ (g : List ℕ). g ∷ input_word_text (input_word input) ∷ input_fields input) (number_of-some f at is).text ∙ ap (λ (r : List (List ℕ)). f ∷ r) (input_in-back fs input there) in
-            ap fields (sym (same_Some (record { at = at; input = input }) e same)) ∙ both_parts))
+    (λ input there same.
+    let both_parts : fields (record { at = at; input = input }) ≡ f ∷ fs = ap (λ (g : List ℕ). g ∷ input_word_text (input_word input) ∷ input_fields input) (number_of-some f at is).text ∙ ap (λ (r : List (List ℕ)). f ∷ r) (input_in-back fs input there) in
+    ap fields (sym (same_Some (record { at = at; input = input }) e same)) ∙ both_parts))
 
 -- a line is that of its entry
 pub text-entry_of : (t : List ℕ) (e : Entry) → entry_of t ≡ Some e → text e ≡ t

@@ -1,16 +1,16 @@
 -- Lines, one after the other.
-use Rattle.std.proofs.Common.{subst, ◌≡◌, ℕ, suc, ◌+◌, ◌-◌, ◌≤◌, ◌<◌, ◌==◌, ◌&&◌, not, ltb, Bool, true, false, cond, List, [], ◌∷◌, ◌++◌, length, take, Option, Some, None, refl, sym, ap, ◌∙◌, arith, append_assoc}
-use Rattle.std.specs.Prelude.{is_some, unwrap_or, option_map}
+use Rattle.std.proofs.Common.{subst, ◌≡◌, ℕ, ◌+◌, ◌-◌, ◌≤◌, ◌<◌, ◌==◌, ◌&&◌, not, false, cond, List, [], ◌∷◌, ◌++◌, length, take, Option, Some, None, refl, sym, ap, ◌∙◌, arith, append_assoc}
+use Rattle.std.specs.Prelude.{is_some, unwrap_or}
 use Rattle.std.specs.Option.{option_map_or, option_or}
 use Rattle.std.proofs.Math.Seq.{take-append-add}
 use Rattle.std.proofs.lemmas.Bool.{lt-ltb, le-ltb}
-use Rattle.std.proofs.lemmas.List.{append-nil, length-append}
+use Rattle.std.proofs.lemmas.List.{append-nil}
 use Rattle.std.proofs.lemmas.List.Elements.{All-append}
 use Rattle.std.proofs.lemmas.List.Splits.{length-slice_split}
 use Rattle.zre_outside.specs.declared.entry.Entry.{Entry}
-use Rattle.zre_capture.specs.Parts.{between, Lacks}
+use Rattle.zre_capture.specs.Parts.{Lacks}
 use Rattle.zre_capture.specs.Reading.{form, first_bad, but_last, fields_in, column, long_column, bad_column}
-use Rattle.zre_capture.specs.Journal.{said, line_of, bad_line, lines_in, entries_from, bad_from, end_from, journal, bad, bad_at_end, Reading, Waits, Reads, Adds, AddsFront, Refuses}
+use Rattle.zre_capture.specs.Journal.{line_of, bad_line, lines_in, entries_from, bad_from, end_from, journal, bad, bad_at_end, Reading, Waits, Reads, Adds, AddsFront, Refuses}
 use Rattle.zre_capture.specs.declared.fault.CaptureFault.{CaptureFault}
 use Rattle.zre_capture.specs.declared.fault.CaptureFault.TheVariants.{Bad, OutOfMemory}
 use Rattle.zre_capture.specs.declared.fault.BadCapture.{BadCapture}
@@ -111,8 +111,8 @@ amid-line first piece old now new es r rest text behind amid e none says grown =
       entries = amid.entries ++ es;
       added = grown ∙ ap (λ (l : List Entry). l ++ es) amid.added ∙ append_assoc old amid.entries es;
       more = λ x. amid.more x ∙ ap (λ (ls : List (List ℕ)). amid.entries ++ entries_from r.line ls) (cut x)
-      ∙ ap (λ (l : List Entry). amid.entries ++ l) (entries-good r.line (r.left ++ text) es (lines_in (behind ++ x)) (some_lines (behind ++ x)) says)
-      ∙ sym (append_assoc amid.entries es (entries_from (r.line + 1) (lines_in (behind ++ x))));
+          ∙ ap (λ (l : List Entry). amid.entries ++ l) (entries-good r.line (r.left ++ text) es (lines_in (behind ++ x)) (some_lines (behind ++ x)) says)
+          ∙ sym (append_assoc amid.entries es (entries_from (r.line + 1) (lines_in (behind ++ x))));
       faults = λ x. amid.faults x ∙ ap (bad_from r.line) (cut x) ∙ bad-good r.line (r.left ++ text) es (lines_in (behind ++ x)) (some_lines (behind ++ x)) says;
       ends = λ x. amid.ends x ∙ ap (end_from r.line) (cut x) ∙ end-more r.line (r.left ++ text) (lines_in (behind ++ x)) (some_lines (behind ++ x));
       waits = record { unfinished = λ k d lt. absurd (omega (arith, lt)); short = omega arith };
@@ -198,9 +198,9 @@ module _ (o piece : List ℕ) (first r : Reading) (old now : List Entry) (rest :
       let again = λ (x : List ℕ). sym (append_assoc r.left rest x) in (
         record {
           entries = λ x. ap journal (append_assoc o piece x) ∙ reads.entries (piece ++ x) ∙ ap (λ (l : List Entry). journal o ++ l) (amid.more x)
-          ∙ sym (append_assoc (journal o) amid.entries (entries_from r.line (lines_in (r.left ++ (rest ++ x)))))
-          ∙ ap (λ (l : List Entry). l ++ entries_from r.line (lines_in (r.left ++ (rest ++ x)))) (sym more.more)
-          ∙ ap (λ (l : List ℕ). journal (o ++ piece) ++ entries_from r.line (lines_in l)) (again x);
+              ∙ sym (append_assoc (journal o) amid.entries (entries_from r.line (lines_in (r.left ++ (rest ++ x)))))
+              ∙ ap (λ (l : List Entry). l ++ entries_from r.line (lines_in (r.left ++ (rest ++ x)))) (sym more.more)
+              ∙ ap (λ (l : List ℕ). journal (o ++ piece) ++ entries_from r.line (lines_in l)) (again x);
           faults = λ x. ap bad (append_assoc o piece x) ∙ reads.faults (piece ++ x) ∙ amid.faults x ∙ ap (λ (l : List ℕ). bad_from r.line (lines_in l)) (again x);
           ends = λ x. ap (λ (l : List ℕ). end_from 1 (lines_in l)) (append_assoc o piece x) ∙ reads.ends (piece ++ x) ∙ amid.ends x ∙ ap (λ (l : List ℕ). end_from r.line (lines_in l)) (again x);
         },

@@ -1,7 +1,7 @@
 -- Lists of quoted members, and their parts.
-use Rattle.std.proofs.Common.{length, ◌≡◌, ℕ, ◌+◌, ◌-◌, ◌/◌, ◌%◌, ◌<◌, ◌^◌, ◌==◌, ◌&&◌, ltb, Bool, true, false, cond, List, [], ◌∷◌, ◌++◌, Option, Some, None, refl, sym, ap, ◌∙◌, arith, All, append_assoc, get_or}
+use Rattle.std.proofs.Common.{length, ◌≡◌, ℕ, ◌/◌, ◌%◌, ◌<◌, ◌^◌, ◌==◌, ◌&&◌, Bool, true, false, cond, List, [], ◌∷◌, ◌++◌, Option, Some, None, refl, sym, ap, ◌∙◌, arith, All, append_assoc, get_or}
 use Rattle.std.specs.Prelude.{is_some, codes, flat_map, map, MatchOption}
-use Rattle.std.specs.List.{list_all, list_any, join_by, join_with_byte, slice_split}
+use Rattle.std.specs.List.{list_all, list_any, join_with_byte}
 use Rattle.std.specs.Str.{bytes_eq}
 use Rattle.std.proofs.lemmas.Bool.{and_parts, and_from, ne_eqb, false_from_ne_true}
 use Rattle.std.proofs.lemmas.Bool.Decides.{nat_tests}
@@ -13,10 +13,10 @@ use Rattle.std.proofs.lemmas.List.Sums.{AllPass-from_list_all}
 use Rattle.std.proofs.lemmas.List.Splits.{slice_split_at, slice_split_none, join_with_byte-slice_split, length-slice_split}
 use Rattle.std.proofs.lemmas.Slice.Eq.{bytes_eq-Decides}
 use Rattle.zre_values.specs.Text.{hex_digit, is_plain, quoted_octet, quoted, quoted_list}
-use Rattle.zre_capture.specs.Parts.{between, Lacks}
+use Rattle.zre_capture.specs.Parts.{between}
 use Rattle.zre_capture.specs.Values.{group_of, frames_of, unquoted, unquoted_list, are_octets, are_groups}
 use Rattle.zre_capture.proofs.Parts.{lacks-from_any}
-use Rattle.zre_capture.proofs.Spelled.{found, spelled-one, group_of-quoted, group_of-some, octets-from, octets-true, value_there, some_is, none_spec}
+use Rattle.zre_capture.proofs.Spelled.{found, spelled-one, group_of-quoted, octets-from, octets-true, value_there, some_is, none_spec}
 use Rattle.zre_capture.proofs.Unquoting.{unquoted-quoted}
 
 -- ---- octets that don't stand in quoted texts

@@ -1,5 +1,5 @@
 -- Values of fields and their texts.
-use Rattle.std.proofs.Common.{◌+◌, ◌*◌, ◌⊎◌, inl, inr, zero, suc, subst, Result, length, ◌≡◌, ℕ, ◌<◌, ◌^◌, ◌==◌, ◌&&◌, ltb, Bool, true, false, cond, List, [], ◌∷◌, ◌++◌, Option, Some, None, refl, sym, ap, ◌∙◌, arith, All, get_or}
+use Rattle.std.proofs.Common.{◌+◌, ◌*◌, ◌⊎◌, inl, zero, suc, subst, Result, length, ◌≡◌, ℕ, ◌<◌, ◌^◌, ◌==◌, ◌&&◌, ltb, Bool, true, false, List, [], ◌∷◌, ◌++◌, Option, Some, None, refl, sym, ap, ◌∙◌, arith, All, get_or}
 use Rattle.std.specs.Prelude.{decimal, IfSome, unwrap_or, is_some, map}
 use Rattle.std.specs.Result.{result_unwrap_or}
 use Rattle.std.specs.List.{list_all, list_any, slice_split}

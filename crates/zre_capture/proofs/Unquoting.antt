@@ -1,16 +1,15 @@
 -- Quoted texts and what they stand for.
-use Rattle.std.proofs.Common.{◌≡◌, ℕ, ◌+◌, ◌*◌, ◌/◌, ◌%◌, ◌<◌, ◌^◌, ◌==◌, Bool, true, false, cond, List, [], ◌∷◌, ◌++◌, refl, sym, ap, ◌∙◌, arith, All, append_assoc, inl, inr}
+use Rattle.std.proofs.Common.{◌≡◌, ℕ, ◌+◌, ◌*◌, ◌/◌, ◌%◌, ◌<◌, ◌^◌, ◌==◌, Bool, true, false, cond, List, [], ◌∷◌, ◌++◌, refl, sym, ap, ◌∙◌, arith, All}
 use Rattle.std.specs.Prelude.{codes, flat_map}
 use Rattle.std.specs.Str.{bytes_eq}
-use Rattle.std.proofs.lemmas.Bool.{cases_Bool, ne_eqb, false_from_ne_true}
+use Rattle.std.proofs.lemmas.Bool.{ne_eqb, false_from_ne_true}
 use Rattle.std.proofs.lemmas.Bool.Decides.{nat_tests}
-use Rattle.std.proofs.lemmas.List.{append-nil}
 use Rattle.std.proofs.lemmas.List.Concat.{flat_map-cons}
 use Rattle.std.proofs.lemmas.List.Elements.{All-head, All-tail}
 use Rattle.std.proofs.lemmas.Slice.Eq.{bytes_eq-Decides}
 use Rattle.zre_values.specs.Text.{hex_digit, is_plain, quoted_octet, quoted}
 use Rattle.zre_values.proofs.Quotes.{quoted-one}
-use Rattle.zre_capture.specs.Values.{digit_value, completed, escape_after, unescaped, unquoted}
+use Rattle.zre_capture.specs.Values.{digit_value, unescaped, unquoted}
 
 value-digit : (n : ℕ) → n < 16 → digit_value (hex_digit n) ≡ n
 value-digit n lt = grind (arith, nat_tests)
@@ -40,9 +39,9 @@ unescaped-octets (b ∷ v) h =
 no_tilde : (b : ℕ) (v : List ℕ) → All (λ n. n < 2 ^ 8) (b ∷ v) → bytes_eq (flat_map quoted_octet (b ∷ v)) (codes "~") ≡ false
 no_tilde b v h =
     false_from_ne_true _ (λ is.
-        let same : flat_map quoted_octet (b ∷ v) ≡ codes "~" = (bytes_eq-Decides (flat_map quoted_octet (b ∷ v)) (codes "~")).0 is in
-        let one : b ∷ v ≡ [] = quoted-one [] (b ∷ v) (λ k d lt. absurd (omega (arith, lt))) h (sym same) in
-        absurd cc)
+    let same : flat_map quoted_octet (b ∷ v) ≡ codes "~" = (bytes_eq-Decides (flat_map quoted_octet (b ∷ v)) (codes "~")).0 is in
+    let one : b ∷ v ≡ [] = quoted-one [] (b ∷ v) (λ k d lt. absurd (omega (arith, lt))) h (sym same) in
+    absurd cc)
 
 -- octets are read back from their quoted text
 pub unquoted-quoted : (v : List ℕ) → All (λ b. b < 2 ^ 8) v → unquoted (quoted v) ≡ v

@@ -1,15 +1,12 @@
 -- Whole captures.
-use Rattle.std.proofs.Common.{◌≡◌, ℕ, ◌+◌, ◌≤◌, ◌<◌, ◌==◌, ◌&&◌, not, Bool, true, false, cond, List, [], ◌∷◌, ◌++◌, length, Option, Some, None, refl, sym, ap, ◌∙◌, arith, All, append_assoc}
-use Rattle.std.specs.Prelude.{flat_map, codes, option_map}
-use Rattle.std.specs.Option.{option_or}
-use Rattle.std.specs.List.{list_any}
+use Rattle.std.proofs.Common.{◌≡◌, ℕ, ◌+◌, ◌≤◌, ◌<◌, List, [], ◌∷◌, ◌++◌, length, Some, None, refl, ap, ◌∙◌, arith, All, append_assoc}
+use Rattle.std.specs.Prelude.{codes}
 use Rattle.std.proofs.lemmas.Bool.{le-ltb, ne_eqb}
 use Rattle.std.proofs.lemmas.List.Concat.{flat_map-cons}
 use Rattle.std.proofs.lemmas.List.Elements.{All-head, All-tail}
 use Rattle.zre_outside.specs.declared.entry.Entry.{Entry}
 use Rattle.zre_capture.specs.Lines.{fields, text, line, lines, head, IsEntry, IsWritable}
-use Rattle.zre_capture.specs.Parts.{between, Lacks}
-use Rattle.zre_capture.specs.Journal.{said, line_of, lines_in, entries_from, bad_from, end_from, journal, bad, bad_at_end, IsCaptureOf}
+use Rattle.zre_capture.specs.Journal.{said, line_of, lines_in, entries_from, bad_from, end_from, bad, IsCaptureOf}
 use Rattle.zre_capture.proofs.Parts.{between-cut, lacks-from_any}
 use Rattle.zre_capture.proofs.Lines.{entries-good, bad-good, end-more, some_lines}
 use Rattle.zre_capture.proofs.Visible.{no_line_feed}

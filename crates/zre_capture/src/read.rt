@@ -141,10 +141,14 @@ fn command_with(
     match word {
         CommandWord::Join => Ok(one_group(alloc, rest)?.map(|group| Command::Join { group })),
         CommandWord::Leave => Ok(one_group(alloc, rest)?.map(|group| Command::Leave { group })),
-        CommandWord::Whisper => Ok(id_and_frames(alloc, rest)?
-            .map(|(peer, content)| Command::Whisper { peer, content })),
-        CommandWord::Shout => Ok(group_and_frames(alloc, rest)?
-            .map(|(group, content)| Command::Shout { group, content })),
+        CommandWord::Whisper => Ok(id_and_frames(alloc, rest)?.map(|(
+            peer,
+            content,
+        )| Command::Whisper { peer, content })),
+        CommandWord::Shout => Ok(group_and_frames(alloc, rest)?.map(|(
+            group,
+            content,
+        )| Command::Shout { group, content })),
         CommandWord::Bad => Ok(one_number(rest).map(|line| Command::Bad { line })),
         CommandWord::Quit => Ok(None),
     }
@@ -181,8 +185,10 @@ fn input_with(alloc: Global, word: InputWord, rest: &[u8]) -> Result<Option<Inpu
     ensures { IfOk result (λ found. found ≡ input_from word (fields_in rest.now)) }
 {
     match word {
-        InputWord::Datagram => Ok(address_and_hex(alloc, rest)?
-            .map(|(from, bytes)| Input::Datagram { from, bytes })),
+        InputWord::Datagram => Ok(address_and_hex(alloc, rest)?.map(|(
+            from,
+            bytes,
+        )| Input::Datagram { from, bytes })),
         InputWord::Opened => Ok(one_number(rest).map(|conn| Input::Opened { conn })),
         InputWord::Piece => {
             Ok(number_and_hex(alloc, rest)?.map(|(conn, bytes)| Input::Piece { conn, bytes }))

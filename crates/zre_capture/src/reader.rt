@@ -34,12 +34,7 @@ fn long_column(line: u64, front: &[u8]) -> u64
 
 // Reads a whole line.
 #[tactic(auto, unfolding(crate::specs::Journal::said))]
-fn read_line(
-    alloc: Global,
-    line: u64,
-    text: &[u8],
-    out: &mut Entries,
-) -> Result<(), CaptureFault>
+fn read_line(alloc: Global, line: u64, text: &[u8], out: &mut Entries) -> Result<(), CaptureFault>
     requires { length text.now ≤ LINE_OCTETS }
     ensures kept { OnErr result (out.new ≡ out.old) }
     ensures ok { OnOk result ((es : List EntryValue) × (said line text.now ≡ Some es) × (out.new ≡ out.old ++ es)) }
@@ -63,8 +58,10 @@ fn read_line(
 // Refuses a line that is too long, by its octets up to the first too many.
 fn too_long(line: u64, front: &[u8]) -> CaptureFault
     requires { length front.now ≤ LINE_OCTETS + 1 }
-    ensures { result ≡ CaptureFault.Bad (record { line = line;
-        column = unwrap_or (first_bad (form line) (but_last (fields_in front.now)) 1) (LINE_OCTETS + 1) }) }
+    ensures { result ≡ CaptureFault.Bad (record {
+      line = line;
+      column = unwrap_or (first_bad (form line) (but_last (fields_in front.now)) 1) (LINE_OCTETS + 1);
+    }) }
 {
     CaptureFault::Bad(BadCapture {
         line,
@@ -73,12 +70,7 @@ fn too_long(line: u64, front: &[u8]) -> CaptureFault
 }
 
 // Reads a whole line of any length.
-fn read_whole(
-    alloc: Global,
-    line: u64,
-    text: &[u8],
-    out: &mut Entries,
-) -> Result<(), CaptureFault>
+fn read_whole(alloc: Global, line: u64, text: &[u8], out: &mut Entries) -> Result<(), CaptureFault>
     ensures ok { OnOk result ((es : List EntryValue) × (line_of line text.now ≡ Some es) × (out.new ≡ out.old ++ es)) }
     ensures refused { IfErr result (λ e. Refuses e (λ b. (line_of line text.now ≡ None) × (b ≡ bad_line line text.now))) }
     ensures kept { OnErr result (out.new ≡ out.old) }

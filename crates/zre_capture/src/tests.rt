@@ -72,7 +72,11 @@ const BAD: &[(&[u8], u64, u64)] = &[
     (b"zre-capture 1\n0 do join %7e\n", 2, 11),
     (b"zre-capture 1\n0 do shout a b,\n", 2, 14),
     (b"zre-capture 1\n0 do shout a =\n", 2, 14),
-    (b"zre-capture 1\n0 do whisper ff0102030405060708090A0B0C0D0E0F %\n", 2, 14),
+    (
+        b"zre-capture 1\n0 do whisper ff0102030405060708090A0B0C0D0E0F %\n",
+        2,
+        14,
+    ),
     (b"zre-capture 1\n0 datagram 10.0.0.256 00\n", 2, 12),
     (b"zre-capture 1\n0 datagram 10.0.0.1 0\n", 2, 21),
     (b"zre-capture 1\n0 piece 1 0F\n", 2, 11),
@@ -147,7 +151,10 @@ fn long_line(alloc: Global, begin: &[u8]) -> Result<Octets, OutOfMemory> {
 
 #[test]
 fn long_lines_are_bad_where_they_get_too_long(rt: HostRuntime) -> Result<(), Fail> {
-    for (begin, column) in [(b"0 tick ".as_slice(), 4194305), (b"0 tick x ".as_slice(), 8)] {
+    for (begin, column) in [
+        (b"0 tick ".as_slice(), 4194305),
+        (b"0 tick x ".as_slice(), 8),
+    ] {
         let capture = long_line(rt.alloc(), begin)?;
         let (_, bad) = told(rt.alloc(), capture.as_slice(), 65536)?;
         assert_eq!(rt; bad, Some(BadCapture { line: 2, column }));
@@ -161,6 +168,9 @@ fn an_entry_has_its_line(rt: HostRuntime) -> Result<(), Fail> {
         at: 5,
         input: zre_outside::Input::Shut { conn: 3 },
     };
-    assert_eq!(rt; write_entry(rt.alloc(), &entry)?.as_slice(), b"5 shut 3\n".as_slice());
+    assert_eq!(rt;
+        write_entry(rt.alloc(), &entry)?.as_slice(),
+        b"5 shut 3\n".as_slice()
+    );
     Ok(())
 }

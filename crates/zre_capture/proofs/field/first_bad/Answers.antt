@@ -1,7 +1,7 @@
-use Rattle.std.proofs.Common.{◌≡◌, ◌+◌, ℕ, Bool, cond, List, Option, Some, None, length, sym, ap, ◌∙◌, arith}
+use Rattle.std.proofs.Common.{◌≡◌, ◌+◌, Bool, cond, List, Some, length, sym, ap, ◌∙◌, arith}
 use Rattle.zre_capture.specs.declared.field.Field.{Field}
 use Rattle.zre_capture.specs.Reading.{first_bad, but_last, fields_in, form}
-use Rattle.zre_capture.proofs.Columns.{Cut, cut, cut-length, all-bad, whole_ones-bad, all-good, whole_ones-good, last-bad, last-good, last-left_out, either}
+use Rattle.zre_capture.proofs.Columns.{cut, cut-length, all-bad, whole_ones-bad, all-good, whole_ones-good, last-bad, last-good, last-left_out, either}
 use Rattle.zre_capture.proofs.field.first_bad.Goals as goal
 
 pub returns-then-not-meets : goal.returns-then-not-meets
@@ -20,9 +20,9 @@ fields-preserved c =
     record {
       place = omega (arith, long, c.fields.invariant.place);
       all = ap (λ (r : List Field). first_bad r (fields_in c.in-Some.others.now) (c.fields.column + (length c.in-Some.field.now + 1))) c.behind-required.ensures
-      ∙ sym (all-good c.fields.required.now c.fields.rest.now c.in-Some.field.now c.in-Some.others.now c.fields.column k is) ∙ c.fields.invariant.all;
+          ∙ sym (all-good c.fields.required.now c.fields.rest.now c.in-Some.field.now c.in-Some.others.now c.fields.column k is) ∙ c.fields.invariant.all;
       whole_ones = ap (λ (r : List Field). first_bad r (but_last (fields_in c.in-Some.others.now)) (c.fields.column + (length c.in-Some.field.now + 1))) c.behind-required.ensures
-      ∙ sym (whole_ones-good c.fields.required.now c.fields.rest.now c.in-Some.field.now c.in-Some.others.now c.fields.column k is) ∙ c.fields.invariant.whole_ones;
+          ∙ sym (whole_ones-good c.fields.required.now c.fields.rest.now c.in-Some.field.now c.in-Some.others.now c.fields.column k is) ∙ c.fields.invariant.whole_ones;
     }
 
 pub returns-then-not-whole : goal.returns-then-not-whole

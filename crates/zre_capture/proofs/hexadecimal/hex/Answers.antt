@@ -1,4 +1,4 @@
-use Rattle.std.proofs.Common.{◌≡◌, Some, List, ℕ, [], ◌∷◌, true, Result, sym, ap, ◌∙◌}
+use Rattle.std.proofs.Common.{◌≡◌, Some, List, ℕ, [], true, Result, sym, ap, ◌∙◌}
 use Rattle.std.specs.Prelude.{codes, is_some}
 use Rattle.std.specs.Result.{result_unwrap_or}
 use Rattle.hex.specs.declared.error.FromHexError.{FromHexError}

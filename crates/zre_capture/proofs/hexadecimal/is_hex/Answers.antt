@@ -1,5 +1,5 @@
-use Rattle.std.proofs.Common.{◌≡◌, Some, [], ◌∷◌, sym, ap, ◌∙◌}
-use Rattle.std.specs.Prelude.{codes, is_some}
+use Rattle.std.proofs.Common.{[], sym, ap, ◌∙◌}
+use Rattle.std.specs.Prelude.{codes}
 use Rattle.zre_capture.specs.Values.{hex_of}
 use Rattle.zre_capture.proofs.Parts.{equal, unequal}
 use Rattle.zre_capture.proofs.Spelled.{tested, some_is}

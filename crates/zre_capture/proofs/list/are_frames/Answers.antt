@@ -1,4 +1,4 @@
-use Rattle.std.proofs.Common.{◌≡◌, Some, [], sym, ap, ◌∙◌}
+use Rattle.std.proofs.Common.{[], sym, ap, ◌∙◌}
 use Rattle.std.specs.Prelude.{codes, map}
 use Rattle.zre_capture.specs.Parts.{between}
 use Rattle.zre_capture.specs.Values.{frames_of, unquoted}

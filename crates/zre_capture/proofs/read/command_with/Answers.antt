@@ -1,7 +1,4 @@
-use Rattle.std.proofs.Common.{◌∙◌, ap}
 use Rattle.zre_outside.specs.declared.entry.Command.TheVariants as ask
-use Rattle.zre_capture.specs.declared.word.CommandWord.{CommandWord}
-use Rattle.zre_capture.specs.Reading.{fields_in, command_from}
 use Rattle.zre_capture.proofs.Fields.{never_alone}
 use Rattle.zre_capture.proofs.read.command_with.Goals as goal
 

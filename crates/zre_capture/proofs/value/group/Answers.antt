@@ -1,4 +1,4 @@
-use Rattle.std.proofs.Common.{Some, sym, ap, ◌∙◌, ◌≡◌, true}
+use Rattle.std.proofs.Common.{sym, ◌∙◌, ◌≡◌, true}
 use Rattle.std.specs.Prelude.{is_some}
 use Rattle.std.proofs.lemmas.Result.{IfOk-weaker}
 use Rattle.zre_capture.proofs.Spelled.{value_there, group_of-some}

@@ -1,4 +1,3 @@
-use Rattle.std.proofs.Common.{◌≡◌, sym, ap, ◌∙◌}
 use Rattle.zre_capture.proofs.Spelled.{read_ids}
 use Rattle.zre_capture.proofs.value.id.Goals as goal
 

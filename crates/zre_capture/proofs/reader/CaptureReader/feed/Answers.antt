@@ -1,4 +1,4 @@
-use Rattle.std.proofs.Common.{◌≡◌, ◌++◌, List, ℕ, Some, length, sym, ap, ◌∙◌, subst}
+use Rattle.std.proofs.Common.{◌++◌, List, ℕ, Some, sym, ap, ◌∙◌, subst}
 use Rattle.std.proofs.lemmas.Result.{err_from_is_err_and}
 use Rattle.zre_capture.specs.declared.fault.BadCapture.{BadCapture}
 use Rattle.zre_capture.specs.Journal.{Reading, Reads}
@@ -11,7 +11,7 @@ returns-in_err-take_line-clause-refused c = λ o reads.
     let amid = amid-out c.args.self.now c.args.piece.now c.args.out.now c.lines.out c.take_line.new.out c.lines.self c.lines.rest.now c.lines.invariant c.in_err-take_line.ensures.kept in
     rw (p.1, p.2) (refuses-weaker c.in_err-take_line.field-0.0 _ _
     (λ b f. let w = refused-line o c.args.piece.now c.args.self.now c.lines.self c.args.out.now c.take_line.new.out c.lines.rest.now reads amid c.in-Some.text.now c.in-Some.behind.now c.in-Some.ensures.parts c.in-Some.ensures.first f.0 in
-        (w.0 ∙ ap (λ (place : BadCapture). Some place) (sym f.1), w.1)) c.in_err-take_line.ensures.refused)
+    (w.0 ∙ ap (λ (place : BadCapture). Some place) (sym f.1), w.1)) c.in_err-take_line.ensures.refused)
 
 pub returns-in_err-take_line-clause-front : goal.returns-in_err-take_line-clause-front
 returns-in_err-take_line-clause-front c = λ o reads.
@@ -33,7 +33,7 @@ returns-in_err-gather-clause-refused c = λ o reads.
     let amid = amid-at c.args.self.now c.args.piece.now c.args.out.now c.lines.out c.lines.self now c.lines.rest.now c.lines.invariant c.self.view_is in
     rw (p.1, p.2) (refuses-weaker c.in_err-gather.field-0.0 _ _
     (λ b f. let w = refused-end o c.args.piece.now c.args.self.now now c.args.out.now c.lines.out c.lines.rest.now reads amid c.in_default.ensures.none f.0 in
-        (w.0 ∙ ap (λ (place : BadCapture). Some place) (sym f.1), w.1)) c.in_err-gather.ensures.refused)
+    (w.0 ∙ ap (λ (place : BadCapture). Some place) (sym f.1), w.1)) c.in_err-gather.ensures.refused)
 
 pub returns-in_err-gather-clause-front : goal.returns-in_err-gather-clause-front
 returns-in_err-gather-clause-front c = λ o reads.

@@ -1,5 +1,4 @@
-use Rattle.std.proofs.Common.{◌≡◌, ℕ, List, Bool, cond, Option, Some, None, sym, ap, ◌∙◌, ◌==◌, ◌&&◌, not, length}
-use Rattle.zre_capture.specs.declared.fault.BadCapture.{BadCapture}
+use Rattle.std.proofs.Common.{ℕ, List, Bool, cond, Some, None, sym, ap, ◌∙◌}
 use Rattle.zre_capture.specs.Reading.{column}
 use Rattle.zre_capture.specs.Journal.{Reading}
 use Rattle.zre_capture.proofs.Lines.{at_end}
