@@ -1,6 +1,7 @@
 -- Worked journals, whose events and acts the definitions compute.
-use Rattle.std.specs.Prelude.{◌≡◌, ℕ, List, [], ◌∷◌, ◌++◌, codes, map, length}
+use Rattle.std.specs.Prelude.{◌≡◌, ℕ, List, [], ◌∷◌, ◌++◌, codes, map}
 use Rattle.std.proofs.Common.{refl}
+use Rattle.std.specs.Fmt.{digits}
 use Rattle.zre_values.specs.declared.peer_id.PeerId.{PeerId}
 use Rattle.zre_outside.specs.declared.entry.Entry.{Entry}
 use Rattle.zre_outside.specs.declared.entry.Input.{Input}
@@ -8,6 +9,7 @@ use Rattle.zre_outside.specs.declared.entry.Input.TheVariants as input
 use Rattle.zre_outside.specs.declared.entry.Command.{Command}
 use Rattle.zre_outside.specs.declared.entry.Command.TheVariants as command
 use Rattle.zre_msg.specs.Reading.{string_at, long_string_at, pair_at, each_at, strings_at, dictionary_at, hello_at, join_at, leave_at, shout_at, command_of, read_of}
+use Rattle.zre_zmtp.specs.Ready.{properties_within}
 use Rattle.zre_zmtp.specs.Stream.{greeting_fault, frame_why, part_len, cut, item}
 use Rattle.zre_zmtp.specs.declared.fault.ZmtpWhy.TheVariants as zmtp
 use Rattle.zre_peer.specs.Views.{view_of, is_small}
@@ -98,7 +100,7 @@ base = beacon 0 B ∷ opened 0 1 ∷ piece 100 1 (G ++ RP ++ H) ∷ []
 
 -- the peer enters
 enters : events me base ≡ enter ∷ []
-unfolding greeting_fault frame_why part_len cut item string_at long_string_at pair_at each_at strings_at dictionary_at hello_at join_at leave_at shout_at command_of read_of view_of is_small
+unfolding digits properties_within greeting_fault frame_why part_len cut item string_at long_string_at pair_at each_at strings_at dictionary_at hello_at join_at leave_at shout_at command_of read_of view_of is_small
 enters = refl
 
 abbrev taken : List Entry
@@ -106,12 +108,12 @@ taken = base ++ piece 200 1 (J 2) ∷ opened 300 2 ∷ piece 300 2 (G ++ RP ++ H
 
 -- the same identity comes on another connection, and the view begins anew
 takes_over : events me taken ≡ enter ∷ event.Join P ann (codes "chat") ∷ exit cause.Taken ∷ event.Closed 1 close.Taken ∷ enter ∷ []
-unfolding greeting_fault frame_why part_len cut item string_at long_string_at pair_at each_at strings_at dictionary_at hello_at join_at leave_at shout_at command_of read_of view_of is_small
+unfolding digits properties_within greeting_fault frame_why part_len cut item string_at long_string_at pair_at each_at strings_at dictionary_at hello_at join_at leave_at shout_at command_of read_of view_of is_small
 takes_over = refl
 
 -- so it has no groups
 view_begins_anew : map (λ (v : Life). (view v.link (chronicle me taken)).groups) (lives (chronicle me taken)) ≡ [] ∷ []
-unfolding greeting_fault frame_why part_len cut item string_at long_string_at pair_at each_at strings_at dictionary_at hello_at join_at leave_at shout_at command_of read_of view_of is_small
+unfolding digits properties_within greeting_fault frame_why part_len cut item string_at long_string_at pair_at each_at strings_at dictionary_at hello_at join_at leave_at shout_at command_of read_of view_of is_small
 view_begins_anew = refl
 
 abbrev shut : List Entry
@@ -119,32 +121,32 @@ shut = base ++ at 200 (input.Shut 1) ∷ opened 300 2 ∷ piece 300 2 (G ++ RP +
 
 -- a connection that doesn't begin with HELLO is ignored, and closed in time
 is_ignored : events me (shut ++ tick 30300 ∷ []) ≡ enter ∷ exit cause.Shut ∷ event.Ignored 2 ignore.NotHello ∷ event.Closed 2 close.Timeout ∷ []
-unfolding greeting_fault frame_why part_len cut item string_at long_string_at pair_at each_at strings_at dictionary_at hello_at join_at leave_at shout_at command_of read_of view_of is_small
+unfolding digits properties_within greeting_fault frame_why part_len cut item string_at long_string_at pair_at each_at strings_at dictionary_at hello_at join_at leave_at shout_at command_of read_of view_of is_small
 is_ignored = refl
 
 -- the peer that came back has another link
 second_link : map (λ (v : Life). v.link) (lives (chronicle me shut)) ≡ 2 ∷ []
-unfolding greeting_fault frame_why part_len cut item string_at long_string_at pair_at each_at strings_at dictionary_at hello_at join_at leave_at shout_at command_of read_of view_of is_small
+unfolding digits properties_within greeting_fault frame_why part_len cut item string_at long_string_at pair_at each_at strings_at dictionary_at hello_at join_at leave_at shout_at command_of read_of view_of is_small
 second_link = refl
 
 -- with the greeting, READY and HELLO on it
 second_link_unsent : unsent me 2 (chronicle me shut) ≡ 165
-unfolding greeting_fault frame_why part_len cut item string_at long_string_at pair_at each_at strings_at dictionary_at hello_at join_at leave_at shout_at command_of read_of view_of is_small
+unfolding digits properties_within greeting_fault frame_why part_len cut item string_at long_string_at pair_at each_at strings_at dictionary_at hello_at join_at leave_at shout_at command_of read_of view_of is_small
 second_link_unsent = refl
 
 -- its last beacon ends it
 leaves : events me (base ++ beacon 200 (90 ∷ 82 ∷ 69 ∷ 1 ∷ []) ∷ beacon 200 B0 ∷ []) ≡ enter ∷ exit cause.Beacon ∷ []
-unfolding greeting_fault frame_why part_len cut item string_at long_string_at pair_at each_at strings_at dictionary_at hello_at join_at leave_at shout_at command_of read_of view_of is_small
+unfolding digits properties_within greeting_fault frame_why part_len cut item string_at long_string_at pair_at each_at strings_at dictionary_at hello_at join_at leave_at shout_at command_of read_of view_of is_small
 leaves = refl
 
 -- silence makes it evasive, and then it expires
 falls_silent : events me (base ++ tick 5099 ∷ tick 5100 ∷ tick 4000 ∷ tick 30099 ∷ tick 30100 ∷ []) ≡ enter ∷ event.Evasive P ann ∷ event.Evasive P ann ∷ event.Evasive P ann ∷ exit cause.Expired ∷ []
-unfolding greeting_fault frame_why part_len cut item string_at long_string_at pair_at each_at strings_at dictionary_at hello_at join_at leave_at shout_at command_of read_of view_of is_small
+unfolding digits properties_within greeting_fault frame_why part_len cut item string_at long_string_at pair_at each_at strings_at dictionary_at hello_at join_at leave_at shout_at command_of read_of view_of is_small
 falls_silent = refl
 
 -- a beacon shows that it is there
 beacon_refreshes : events me (base ++ beacon 5000 B ∷ tick 9999 ∷ tick 10000 ∷ []) ≡ enter ∷ event.Evasive P ann ∷ []
-unfolding greeting_fault frame_why part_len cut item string_at long_string_at pair_at each_at strings_at dictionary_at hello_at join_at leave_at shout_at command_of read_of view_of is_small
+unfolding digits properties_within greeting_fault frame_why part_len cut item string_at long_string_at pair_at each_at strings_at dictionary_at hello_at join_at leave_at shout_at command_of read_of view_of is_small
 beacon_refreshes = refl
 
 abbrev commands : List Entry
@@ -152,15 +154,15 @@ commands = base ++ asks (command.Whisper P (codes "x" ∷ [])) ∷ asks (command
 
 -- commands that can't be done
 refuses_commands : events me commands ≡ enter ∷ event.Refused (refuse.NoGroup (codes "h")) ∷ event.Refused (refuse.Same (codes "g")) ∷ []
-unfolding greeting_fault frame_why part_len cut item string_at long_string_at pair_at each_at strings_at dictionary_at hello_at join_at leave_at shout_at command_of read_of view_of is_small
+unfolding digits properties_within greeting_fault frame_why part_len cut item string_at long_string_at pair_at each_at strings_at dictionary_at hello_at join_at leave_at shout_at command_of read_of view_of is_small
 refuses_commands = refl
 
 -- and what the others put on the link
 commands_unsent : unsent me 1 (chronicle me commands) ≡ 187
-unfolding greeting_fault frame_why part_len cut item string_at long_string_at pair_at each_at strings_at dictionary_at hello_at join_at leave_at shout_at command_of read_of view_of is_small
+unfolding digits properties_within greeting_fault frame_why part_len cut item string_at long_string_at pair_at each_at strings_at dictionary_at hello_at join_at leave_at shout_at command_of read_of view_of is_small
 commands_unsent = refl
 
 -- a reply that isn't a ROUTER's
 reply_of_dealer : events me (base ++ at 200 (input.Linked 1) ∷ at 200 (input.Reply 1 (G ++ RP)) ∷ []) ≡ enter ∷ exit (cause.Reply (record { why = zmtp.SocketType; place = 64 })) ∷ []
-unfolding greeting_fault frame_why part_len cut item string_at long_string_at pair_at each_at strings_at dictionary_at hello_at join_at leave_at shout_at command_of read_of view_of is_small
+unfolding digits properties_within greeting_fault frame_why part_len cut item string_at long_string_at pair_at each_at strings_at dictionary_at hello_at join_at leave_at shout_at command_of read_of view_of is_small
 reply_of_dealer = refl

@@ -1,9 +1,9 @@
 -- Connections: open, waiting, running or ignored.
-use Rattle.std.specs.Prelude.{ℕ, Bool, true, false, not, ◌&&◌, ◌||◌, List, [], ◌∷◌, ◌++◌, Option, Some, None, cond, if◌then◌else◌, nat_eq, nat_lt, nat_le, length, is_some, is_none}
+use Rattle.std.specs.Prelude.{ℕ, Bool, true, false, not, ◌&&◌, ◌||◌, List, [], ◌∷◌, ◌++◌, Option, Some, None, if◌then◌else◌, nat_eq, nat_lt, is_some, is_none}
 use Rattle.std.specs.List.{list_any, filter, find}
 use Rattle.zre_values.specs.declared.peer_id.PeerId.{PeerId}
 use Rattle.std.specs.Str.{bytes_eq}
-use Rattle.zre_journal.specs.Chronicle.{Mark, Comes, Opens, TurnsAway, Greets, Shakes, Starts, Counts, Ignores, Closes, IsShut, Drops, Ends, latest, ever}
+use Rattle.zre_journal.specs.Chronicle.{Mark, Opens, TurnsAway, Shakes, Starts, Ignores, Closes, IsShut, Drops, Ends, latest, ever}
 use Rattle.zre_journal.specs.Heard.{clock}
 
 -- the numbers but n

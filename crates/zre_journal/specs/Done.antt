@@ -1,5 +1,5 @@
 -- Acts: what the node asks of the outside, mark by mark, and the offers at the end of each entry.
-use Rattle.std.specs.Prelude.{ℕ, Bool, true, false, not, ◌&&◌, ◌||◌, List, [], ◌∷◌, ◌++◌, Option, Some, None, cond, nat_eq, length, map, replicate}
+use Rattle.std.specs.Prelude.{ℕ, Bool, false, not, ◌&&◌, ◌||◌, List, [], ◌∷◌, ◌++◌, None, nat_eq, map}
 use Rattle.std.specs.List.{filter, list_any}
 use Rattle.zre_values.specs.declared.peer_id.PeerId.{PeerId}
 use Rattle.zre_beacon.specs.Beacon.{beacon_octets}

@@ -1,5 +1,5 @@
 -- What comes about at an entry, as the marks that it leaves in the chronicle.
-use Rattle.std.specs.Prelude.{ℕ, ◌+◌, ◌-◌, ◌*◌, ◌%◌, min, Bool, true, false, not, ◌&&◌, ◌||◌, List, [], ◌∷◌, ◌++◌, Option, Some, None, cond, if◌then◌else◌, nat_eq, nat_lt, nat_le, length, map, take, drop, slice_index, is_some, is_none}
+use Rattle.std.specs.Prelude.{ℕ, ◌+◌, ◌-◌, ◌%◌, min, Bool, true, false, not, ◌&&◌, ◌||◌, List, [], ◌∷◌, ◌++◌, Option, Some, None, if◌then◌else◌, nat_eq, nat_lt, nat_le, length, map, is_none}
 use Rattle.std.specs.List.{filter, list_any}
 use Rattle.std.specs.Str.{bytes_eq}
 use Rattle.zre_values.specs.declared.peer_id.PeerId.{PeerId}
@@ -28,7 +28,7 @@ use Rattle.zre_peer.specs.declared.causes.CloseWhy.TheVariants as close
 use Rattle.zre_peer.specs.declared.causes.IgnoreWhy.TheVariants as ignore
 use Rattle.zre_peer.specs.declared.causes.RefuseWhy.TheVariants as refuse
 use Rattle.zre_journal.specs.declared.config.Config.{Config}
-use Rattle.zre_journal.specs.Chronicle.{Mark, Comes, Opens, TurnsAway, Greets, Shakes, Starts, Counts, Ignores, Closes, IsShut, Drops, Born, Beacons, Ends, Falters, Puts, Links, Takes, Joins, Leaves, Refuses, Calls, Stops, after, ever, each, in_turn}
+use Rattle.zre_journal.specs.Chronicle.{Mark, Comes, Opens, TurnsAway, Greets, Shakes, Starts, Counts, Ignores, Closes, IsShut, Drops, Born, Beacons, Ends, Falters, Puts, Links, Takes, Joins, Leaves, Refuses, Calls, Stops, after, ever, in_turn}
 use Rattle.zre_journal.specs.Config.{own_endpoint}
 use Rattle.zre_journal.specs.Heard.{clock, newly_said}
 use Rattle.zre_journal.specs.Connections.{open_ones, is_open, is_new, identity, runs, is_live, since, other_with}

@@ -1,7 +1,6 @@
 -- The clock, the octets of a connection, and what an entry completes of what they say.
 use Rattle.std.specs.Prelude.{ℕ, max, Bool, false, List, [], ◌∷◌, ◌++◌, if◌then◌else◌, nat_eq, length, drop}
 use Rattle.zre_values.specs.declared.peer_id.PeerId.{PeerId}
-use Rattle.zre_outside.specs.declared.entry.Entry.{Entry}
 use Rattle.zre_outside.specs.declared.entry.Input.{Input}
 use Rattle.zre_outside.specs.declared.entry.Input.TheVariants as input
 use Rattle.zre_mailbox.specs.Talk.{Said, talk}

@@ -1,8 +1,9 @@
 -- The octets that a node holds of its peers.
-use Rattle.std.specs.Prelude.{ℕ, ◌+◌, ◌*◌, Bool, List, length, if◌then◌else◌, sum_by}
+use Rattle.std.specs.Prelude.{ℕ, ◌+◌, ◌*◌, List, length, if◌then◌else◌, sum_by}
 use Rattle.std.specs.List.{filter}
-use Rattle.zre_values.specs.declared.peer_id.PeerId.{PeerId}
-use Rattle.zre_zmtp.specs.Stream.{Want, Router, Dealer, Whole, opened, split}
+use Rattle.zre_zmtp.specs.declared.want.Want.{Want}
+use Rattle.zre_zmtp.specs.declared.want.Want.TheVariants.{Router, Dealer}
+use Rattle.zre_zmtp.specs.Stream.{Whole, opened, split}
 use Rattle.zre_peer.specs.declared.view.View.{View}
 use Rattle.zre_journal.specs.declared.config.Config.{Config}
 use Rattle.zre_journal.specs.Chronicle.{Mark}

@@ -6,7 +6,6 @@ pub mod Events
 pub mod Happens
 pub mod Heard
 pub mod Held
-pub mod Journal
 pub mod Links
 pub mod Peers
 pub mod Told

@@ -1,5 +1,5 @@
 -- The node's own groups, and what it puts on its links.
-use Rattle.std.specs.Prelude.{ℕ, ◌+◌, ◌-◌, ◌%◌, ◌^◌, Bool, true, false, List, [], ◌∷◌, ◌++◌, Option, Some, None, if◌then◌else◌, nat_eq, length, drop, take, flat_map}
+use Rattle.std.specs.Prelude.{ℕ, ◌+◌, ◌-◌, ◌%◌, ◌^◌, Bool, false, List, [], ◌∷◌, ◌++◌, Option, Some, None, if◌then◌else◌, nat_eq, length, drop, take, flat_map}
 use Rattle.zre_values.specs.declared.peer_id.PeerId.{PeerId}
 use Rattle.zre_values.specs.Lists.{without}
 use Rattle.zre_outside.specs.declared.entry.Input.{Input}
@@ -8,7 +8,8 @@ use Rattle.zre_zmtp.specs.declared.fault.ZmtpFault.{ZmtpFault}
 use Rattle.zre_zmtp.specs.declared.expected.Expected.{Expected}
 use Rattle.zre_zmtp.specs.declared.expected.Expected.TheVariants as expect
 use Rattle.zre_zmtp.specs.declared.writing.SocketType.TheVariants as socket
-use Rattle.zre_zmtp.specs.Stream.{Router, Whole, expected, split, fault}
+use Rattle.zre_zmtp.specs.declared.want.Want.TheVariants.{Router}
+use Rattle.zre_zmtp.specs.Stream.{Whole, expected, split, fault}
 use Rattle.zre_zmtp.specs.Laws.{handshake}
 use Rattle.zre_msg.specs.declared.message.Body.{Body}
 use Rattle.zre_msg.specs.declared.message.Message.{Message}

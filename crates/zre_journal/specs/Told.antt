@@ -1,12 +1,11 @@
 -- Events: what the user is told, mark by mark.
-use Rattle.std.specs.Prelude.{ℕ, Bool, true, false, List, [], ◌∷◌, ◌++◌, Option, Some, None, cond, if◌then◌else◌}
-use Rattle.zre_values.specs.declared.peer_id.PeerId.{PeerId}
+use Rattle.std.specs.Prelude.{List, [], ◌∷◌, ◌++◌, Option, Some, None, if◌then◌else◌}
 use Rattle.zre_peer.specs.declared.causes.Cause.{Cause}
 use Rattle.zre_peer.specs.declared.causes.CloseWhy.TheVariants as close
 use Rattle.zre_peer.specs.declared.event.Event.{Event}
 use Rattle.zre_peer.specs.declared.event.Event.TheVariants as event
 use Rattle.zre_msg.specs.declared.message.Message.{Message}
-use Rattle.zre_journal.specs.Chronicle.{Mark, Comes, TurnsAway, Starts, Counts, Ignores, Closes, Ends, Falters, Refuses, Stops, after}
+use Rattle.zre_journal.specs.Chronicle.{Mark, TurnsAway, Starts, Counts, Ignores, Closes, Ends, Falters, Refuses, Stops}
 use Rattle.zre_peer.specs.Runs.{events_of}
 use Rattle.zre_journal.specs.Peers.{Life, life, is_entered, view}
 

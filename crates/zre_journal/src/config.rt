@@ -34,19 +34,20 @@ pub struct Config {
     pub expired: u64,
 }
 
-// Whether no header has this name.
-fn is_absent(headers: &[(Octets, Octets)], name: &[u8]) -> bool
-    ensures { result ≡ not (list_any (λ other. bytes_eq other.0 name.now) headers.now) }
+// Whether a header has this name.
+fn has_name(headers: &[(Octets, Octets)], name: &[u8]) -> bool
+    ensures { result ≡ list_any (λ other. bytes_eq other.0 name.now) headers.now }
 {
-    !headers.iter().any(|header| header.0.as_slice() == name)
+    headers.iter().any(|header| header.0.as_slice() == name)
 }
 
+// Whether no two headers have one name. There are few of them, so each is compared with all behind it.
 fn are_apart(headers: &[(Octets, Octets)]) -> bool
     ensures { result ≡ are_apart headers.now }
 {
     let mut rest = headers;
     while let Some((first, others)) = rest.split_first() {
-        if !is_absent(others, first.0.as_slice()) {
+        if has_name(others, first.0.as_slice()) {
             return false;
         }
         rest = others;
