@@ -1,5 +1,5 @@
 -- Worked journals, whose events and acts the definitions compute.
-use Rattle.std.specs.Prelude.{◌≡◌, ℕ, List, [], ◌∷◌, ◌++◌, codes, map}
+use Rattle.std.specs.Prelude.{◌≡◌, ℕ, List, [], ◌∷◌, ◌++◌, codes, map, take, drop}
 use Rattle.std.proofs.Common.{refl}
 use Rattle.std.specs.Fmt.{digits}
 use Rattle.zre_values.specs.declared.peer_id.PeerId.{PeerId}
@@ -166,3 +166,23 @@ commands_unsent = refl
 reply_of_dealer : events me (base ++ at 200 (input.Linked 1) ∷ at 200 (input.Reply 1 (G ++ RP)) ∷ []) ≡ enter ∷ exit (cause.Reply (record { why = zmtp.SocketType; place = 64 })) ∷ []
 unfolding digits properties_within greeting_fault frame_why part_len cut item string_at long_string_at pair_at each_at strings_at dictionary_at hello_at join_at leave_at shout_at command_of read_of view_of is_small
 reply_of_dealer = refl
+
+-- the greeting of a later minor version in two pieces, and a READY with one more property
+abbrev G1 : List ℕ
+G1 = take 11 G ++ 1 ∷ drop 12 G
+
+abbrev RX : List ℕ
+RX = 4 ∷ 68 ∷ 5 ∷ 82 ∷ 69 ∷ 65 ∷ 68 ∷ 89 ∷ 11 ∷ 83 ∷ 111 ∷ 99 ∷ 107 ∷ 101 ∷ 116 ∷ 45 ∷ 84 ∷ 121 ∷ 112 ∷ 101 ∷ 0 ∷ 0 ∷ 0 ∷ 6 ∷ 68 ∷ 69 ∷ 65 ∷ 76 ∷ 69 ∷ 82 ∷ 8 ∷ 73 ∷ 100 ∷ 101 ∷ 110 ∷ 116 ∷ 105 ∷ 116 ∷ 121 ∷ 0 ∷ 0 ∷ 0 ∷ 17 ∷ 1 ∷ 0 ∷ 1 ∷ 2 ∷ 3 ∷ 4 ∷ 5 ∷ 6 ∷ 7 ∷ 8 ∷ 9 ∷ 10 ∷ 11 ∷ 12 ∷ 13 ∷ 14 ∷ 15 ∷ 5 ∷ 88 ∷ 45 ∷ 70 ∷ 111 ∷ 111 ∷ 0 ∷ 0 ∷ 0 ∷ 0 ∷ []
+
+abbrev in_pieces : List Entry
+in_pieces = opened 0 1 ∷ piece 0 1 (take 10 G1) ∷ piece 0 1 (drop 10 G1) ∷ piece 0 1 RX ∷ piece 0 1 H ∷ piece 0 1 (J 2) ∷ beacon 900 B0 ∷ []
+
+-- a connection without a beacon before it
+enters_by_hello : events me in_pieces ≡ enter ∷ event.Join P ann (codes "chat") ∷ exit cause.Beacon ∷ []
+unfolding digits properties_within greeting_fault frame_why part_len cut item string_at long_string_at pair_at each_at strings_at dictionary_at hello_at join_at leave_at shout_at command_of read_of view_of is_small
+enters_by_hello = refl
+
+-- another mechanism closes the connection, and nothing comes of what it says then
+other_mechanism : events me (opened 0 1 ∷ piece 0 1 (255 ∷ 0 ∷ 0 ∷ 0 ∷ 0 ∷ 0 ∷ 0 ∷ 0 ∷ 0 ∷ 127 ∷ 3 ∷ 0 ∷ codes "PLAIN") ∷ piece 0 1 RX ∷ piece 0 1 H ∷ []) ≡ event.Closed 1 (close.Zmtp (record { why = zmtp.Mechanism; place = 12 })) ∷ []
+unfolding digits properties_within greeting_fault frame_why part_len cut item string_at long_string_at pair_at each_at strings_at dictionary_at hello_at join_at leave_at shout_at command_of read_of view_of is_small
+other_mechanism = refl

@@ -1,5 +1,5 @@
 -- Acts: what the node asks of the outside, mark by mark, and the offers at the end of each entry.
-use Rattle.std.specs.Prelude.{ℕ, Bool, false, not, ◌&&◌, ◌||◌, List, [], ◌∷◌, ◌++◌, None, nat_eq, map}
+use Rattle.std.specs.Prelude.{ℕ, if◌then◌else◌, Bool, false, not, ◌&&◌, ◌||◌, List, [], ◌∷◌, ◌++◌, None, nat_eq, map}
 use Rattle.std.specs.List.{filter, list_any}
 use Rattle.zre_values.specs.declared.peer_id.PeerId.{PeerId}
 use Rattle.zre_beacon.specs.Beacon.{beacon_octets}
@@ -13,10 +13,10 @@ use Rattle.zre_peer.specs.declared.causes.Cause.TheVariants as cause
 use Rattle.zre_outside.specs.declared.act.Act.{Act}
 use Rattle.zre_outside.specs.declared.act.Act.TheVariants as act
 use Rattle.zre_journal.specs.declared.config.Config.{Config}
-use Rattle.zre_journal.specs.Chronicle.{Mark, Comes, Opens, TurnsAway, Greets, Closes, Drops, Born, Ends, Puts, Calls, after}
+use Rattle.zre_journal.specs.Chronicle.{Mark, Opens, TurnsAway, Greets, Closes, Drops, Born, Ends, Puts, Calls}
 use Rattle.zre_journal.specs.Peers.{Life, lives}
 use Rattle.zre_journal.specs.Links.{gate, taken}
-use Rattle.zre_journal.specs.Happens.{marks}
+use Rattle.zre_journal.specs.Happens.{has_stopped, marks, with_entry}
 
 -- a link that broke needn't be closed
 abbrev pub close_link : ℕ → Cause → List Act
@@ -58,6 +58,6 @@ is_offered g e hs K v = (list_any (puts v.link) hs || names v.link e.input) && n
 abbrev pub offers : Config → Entry → List Mark → List Mark → List Act
 offers g e hs K = map (λ (v : Life). act.Offer v.link) (filter (is_offered g e hs K) (lives K))
 
--- the acts of one entry behind H
+-- the acts of one entry behind H; after a stop there are none
 abbrev pub acts_at : Config → Entry → List Mark → List Act
-acts_at g e H = done g.id (marks g e H) ++ offers g e (marks g e H) (after (marks g e H) (Comes e ∷ H))
+acts_at g e H = if has_stopped H then [] else done g.id (marks g e H) ++ offers g e (marks g e H) (with_entry g e H)

@@ -3,5 +3,7 @@
 #![tactic(auto)]
 
 mod config;
+mod laws;
 
 pub use config::Config;
+pub use laws::{a_stop_is_the_end, journals_continue};

@@ -1,0 +1,5 @@
+use Rattle.zre_journal.proofs.Joined.{continues}
+use Rattle.zre_journal.proofs.laws.journals_continue.Goals as goal
+
+pub returns : goal.returns
+returns c = λ g J K. continues g J K
