@@ -1,1 +1,5 @@
+pub mod Journal
 pub mod Lines
+pub mod Parts
+pub mod Reading
+pub mod Values

@@ -1,10 +1,13 @@
 //! Octets in their hexadecimal text.
 
-ghost use Rattle.std.specs.Prelude.{◌≡◌, ◌≤◌, ◌++◌, length, OnOk};
+ghost use Rattle.std.specs.Prelude.{◌≡◌, ◌≤◌, ◌==◌, ◌%◌, ◌&&◌, ◌++◌, nat_lt, length, is_some, IfOk, OnOk};
+ghost use Rattle.std.specs.List.{list_all};
 ghost use Rattle.hex.specs.Hex.{encode_lower};
 ghost use Rattle.zre_capture.specs.Lines.{hex_text};
+ghost use Rattle.zre_capture.specs.Values.{hex_of, is_lower_digit};
 
-use hex::encode_to_slice;
+use hex::{decode, encode_to_slice};
+use std::alloc::Global;
 use zre_values::{Octets, OutOfMemory};
 
 /// As many octets as are turned into digits in one go.
@@ -43,4 +46,46 @@ pub fn push_hex(out: &mut Octets, bytes: &[u8]) -> Result<(), OutOfMemory>
         return out.push(b'-');
     }
     push_digits(out, bytes)
+}
+
+fn is_digit(octet: u8) -> bool
+    ensures { result ≡ is_lower_digit octet }
+{
+    matches!(octet, b'0'..=b'9' | b'a'..=b'f')
+}
+
+fn are_digits(field: &[u8]) -> bool
+    ensures { result ≡ list_all is_lower_digit field.now }
+{
+    field.iter().all(|octet| is_digit(*octet))
+}
+
+// Whether two digits stand for each of some octets.
+fn are_pairs(field: &[u8]) -> bool
+    ensures { result ≡ ((length field.now % 2 == 0) && (nat_lt 0 (length field.now) && list_all is_lower_digit field.now)) }
+{
+    field.len() % 2 == 0 && !field.is_empty() && are_digits(field)
+}
+
+/// Whether the field is octets in hexadecimal digits. It takes no memory.
+pub fn is_hex(field: &[u8]) -> bool
+    ensures { result ≡ is_some (hex_of field.now) }
+{
+    field == b"-".as_slice() || are_pairs(field)
+}
+
+/// The octets of a field, decoded into memory of their own. A field that is none takes no memory.
+pub fn hex(alloc: Global, field: &[u8]) -> Result<Option<Octets>, OutOfMemory>
+    ensures { IfOk result (λ found. found ≡ hex_of field.now) }
+{
+    if field == b"-".as_slice() {
+        return Ok(Some(Octets::new(alloc)));
+    }
+    if !is_hex(field) {
+        return Ok(None);
+    }
+    match decode(alloc, field) {
+        Ok(octets) => Ok(Some(Octets::from_vec(octets))),
+        Err(_) => Err(OutOfMemory),
+    }
 }

@@ -1,0 +1,5 @@
+use Rattle.zre_capture.proofs.Whole.{captured}
+use Rattle.zre_capture.proofs.laws.captures_are_read.Goals as goal
+
+pub returns : goal.returns
+returns c = captured

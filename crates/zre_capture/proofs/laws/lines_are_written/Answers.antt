@@ -1,0 +1,5 @@
+use Rattle.zre_capture.proofs.Back.{text-entry_of}
+use Rattle.zre_capture.proofs.laws.lines_are_written.Goals as goal
+
+pub returns : goal.returns
+returns c = text-entry_of

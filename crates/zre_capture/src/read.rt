@@ -1,0 +1,251 @@
+//! Entries read from their lines.
+
+ghost use Rattle.std.specs.Prelude.{◌≡◌, [], ◌∷◌, Option, Some, None, option_map, IfOk, MatchOption};
+ghost use Rattle.zre_capture.specs.Reading.{fields_in, one, two, one_number, one_group, two_numbers, number_and_hex, address_and_hex, id_and_frames, group_and_frames, command_from, command_in, input_from, input_in, entry_of};
+ghost use Rattle.zre_capture.specs.Values.{number_of, address_of, id_of, group_of, frames_of, hex_of};
+
+use crate::hexadecimal::hex;
+use crate::list::frames;
+use crate::split::split_once;
+use crate::value::{address, group, id, number};
+use crate::word::{CommandWord, InputWord, command_word, input_word};
+use std::alloc::Global;
+use zre_outside::{Command, Entry, Input};
+use zre_values::{Frames, Octets, OutOfMemory, PeerId};
+
+// The first field, and the text of those behind it, if there are any.
+fn first_field(text: &[u8]) -> Option<(&[u8], &[u8])>
+    ensures { MatchOption result (fields_in text.now ≡ text.now ∷ [])
+        (λ p. fields_in text.now ≡ p.0.now ∷ fields_in p.1.now) }
+{
+    let (first, rest) = split_once(text, b' ')?;
+    Some((first, rest))
+}
+
+// A field with no other behind it.
+fn one_field(text: &[u8]) -> Option<&[u8]>
+    ensures { option_map (λ f. f.now) result ≡ one (fields_in text.now) }
+{
+    match split_once(text, b' ') {
+        None => Some(text),
+        Some(_) => None,
+    }
+}
+
+// Two fields with no other behind them.
+fn two_fields(text: &[u8]) -> Option<(&[u8], &[u8])>
+    ensures { option_map (λ p. (p.0.now, p.1.now)) result ≡ two (fields_in text.now) }
+{
+    let (first, rest) = split_once(text, b' ')?;
+    let second = one_field(rest)?;
+    Some((first, second))
+}
+
+#[tactic(auto, unfolding(crate::specs::Reading::one_number))]
+fn one_number(text: &[u8]) -> Option<u64>
+    ensures { result ≡ one_number (fields_in text.now) }
+{
+    number(one_field(text)?)
+}
+
+#[tactic(auto, unfolding(crate::specs::Reading::two_numbers))]
+fn two_numbers(text: &[u8]) -> Option<(u64, u64)>
+    ensures { result ≡ two_numbers (fields_in text.now) }
+{
+    let (first, second) = two_fields(text)?;
+    Some((number(first)?, number(second)?))
+}
+
+#[tactic(auto, unfolding(crate::specs::Reading::one_group))]
+fn one_group(alloc: Global, text: &[u8]) -> Result<Option<Octets>, OutOfMemory>
+    ensures { IfOk result (λ found. found ≡ one_group (fields_in text.now)) }
+{
+    let Some(field) = one_field(text) else {
+        return Ok(None);
+    };
+    group(alloc, field)
+}
+
+#[tactic(auto, unfolding(crate::specs::Reading::number_and_hex))]
+fn number_and_hex(alloc: Global, text: &[u8]) -> Result<Option<(u64, Octets)>, OutOfMemory>
+    ensures { IfOk result (λ found. found ≡ number_and_hex (fields_in text.now)) }
+{
+    let Some((first, second)) = two_fields(text) else {
+        return Ok(None);
+    };
+    let Some(n) = number(first) else {
+        return Ok(None);
+    };
+    match hex(alloc, second)? {
+        Some(bytes) => Ok(Some((n, bytes))),
+        None => Ok(None),
+    }
+}
+
+#[tactic(auto, unfolding(crate::specs::Reading::address_and_hex))]
+fn address_and_hex(alloc: Global, text: &[u8]) -> Result<Option<([u8; 4], Octets)>, OutOfMemory>
+    ensures { IfOk result (λ found. found ≡ address_and_hex (fields_in text.now)) }
+{
+    let Some((first, second)) = two_fields(text) else {
+        return Ok(None);
+    };
+    let Some(host) = address(first) else {
+        return Ok(None);
+    };
+    match hex(alloc, second)? {
+        Some(bytes) => Ok(Some((host, bytes))),
+        None => Ok(None),
+    }
+}
+
+#[tactic(auto, unfolding(crate::specs::Reading::id_and_frames))]
+fn id_and_frames(alloc: Global, text: &[u8]) -> Result<Option<(PeerId, Frames)>, OutOfMemory>
+    ensures { IfOk result (λ found. found ≡ id_and_frames (fields_in text.now)) }
+{
+    let Some((first, second)) = two_fields(text) else {
+        return Ok(None);
+    };
+    let Some(peer) = id(first) else {
+        return Ok(None);
+    };
+    match frames(alloc, second)? {
+        Some(content) => Ok(Some((peer, content))),
+        None => Ok(None),
+    }
+}
+
+#[tactic(auto, unfolding(crate::specs::Reading::group_and_frames))]
+fn group_and_frames(alloc: Global, text: &[u8]) -> Result<Option<(Octets, Frames)>, OutOfMemory>
+    ensures { IfOk result (λ found. found ≡ group_and_frames (fields_in text.now)) }
+{
+    let Some((first, second)) = two_fields(text) else {
+        return Ok(None);
+    };
+    let Some(name) = group(alloc, first)? else {
+        return Ok(None);
+    };
+    match frames(alloc, second)? {
+        Some(content) => Ok(Some((name, content))),
+        None => Ok(None),
+    }
+}
+
+// The command of a word and the fields behind it, of which there is one at least.
+fn command_with(
+    alloc: Global,
+    word: CommandWord,
+    rest: &[u8],
+) -> Result<Option<Command>, OutOfMemory>
+    ensures { IfOk result (λ found. found ≡ command_from word (fields_in rest.now)) }
+{
+    match word {
+        CommandWord::Join => Ok(one_group(alloc, rest)?.map(|group| Command::Join { group })),
+        CommandWord::Leave => Ok(one_group(alloc, rest)?.map(|group| Command::Leave { group })),
+        CommandWord::Whisper => Ok(id_and_frames(alloc, rest)?.map(|(
+            peer,
+            content,
+        )| Command::Whisper { peer, content })),
+        CommandWord::Shout => Ok(group_and_frames(alloc, rest)?.map(|(
+            group,
+            content,
+        )| Command::Shout { group, content })),
+        CommandWord::Bad => Ok(one_number(rest).map(|line| Command::Bad { line })),
+        CommandWord::Quit => Ok(None),
+    }
+}
+
+// The command of a word that no field stands behind.
+fn command_alone(word: CommandWord) -> Option<Command>
+    ensures { result ≡ command_from word [] }
+{
+    match word {
+        CommandWord::Quit => Some(Command::Quit),
+        _ => None,
+    }
+}
+
+#[tactic(auto, unfolding(crate::specs::Reading::command_in))]
+fn command(alloc: Global, text: &[u8]) -> Result<Option<Command>, OutOfMemory>
+    ensures { IfOk result (λ found. found ≡ command_in (fields_in text.now)) }
+{
+    match first_field(text) {
+        None => match command_word(text) {
+            Some(word) => Ok(command_alone(word)),
+            None => Ok(None),
+        },
+        Some((field, rest)) => match command_word(field) {
+            Some(word) => command_with(alloc, word, rest),
+            None => Ok(None),
+        },
+    }
+}
+
+// What happened, of a word and the fields behind it, of which there is one at least.
+fn input_with(alloc: Global, word: InputWord, rest: &[u8]) -> Result<Option<Input>, OutOfMemory>
+    ensures { IfOk result (λ found. found ≡ input_from word (fields_in rest.now)) }
+{
+    match word {
+        InputWord::Datagram => Ok(address_and_hex(alloc, rest)?.map(|(
+            from,
+            bytes,
+        )| Input::Datagram { from, bytes })),
+        InputWord::Opened => Ok(one_number(rest).map(|conn| Input::Opened { conn })),
+        InputWord::Piece => {
+            Ok(number_and_hex(alloc, rest)?.map(|(conn, bytes)| Input::Piece { conn, bytes }))
+        }
+        InputWord::Shut => Ok(one_number(rest).map(|conn| Input::Shut { conn })),
+        InputWord::Linked => Ok(one_number(rest).map(|link| Input::Linked { link })),
+        InputWord::Reply => {
+            Ok(number_and_hex(alloc, rest)?.map(|(link, bytes)| Input::Reply { link, bytes }))
+        }
+        InputWord::Unlinked => Ok(one_number(rest).map(|link| Input::Unlinked { link })),
+        InputWord::Took => Ok(two_numbers(rest).map(|(link, count)| Input::Took { link, count })),
+        InputWord::Do => Ok(command(alloc, rest)?.map(Input::Do)),
+        InputWord::Tick => Ok(None),
+        InputWord::End => Ok(None),
+    }
+}
+
+// What happened, of a word that no field stands behind.
+fn input_alone(word: InputWord) -> Option<Input>
+    ensures { result ≡ input_from word [] }
+{
+    match word {
+        InputWord::Tick => Some(Input::Tick),
+        InputWord::End => Some(Input::End),
+        _ => None,
+    }
+}
+
+#[tactic(auto, unfolding(crate::specs::Reading::input_in))]
+fn input(alloc: Global, text: &[u8]) -> Result<Option<Input>, OutOfMemory>
+    ensures { IfOk result (λ found. found ≡ input_in (fields_in text.now)) }
+{
+    match first_field(text) {
+        None => match input_word(text) {
+            Some(word) => Ok(input_alone(word)),
+            None => Ok(None),
+        },
+        Some((field, rest)) => match input_word(field) {
+            Some(word) => input_with(alloc, word, rest),
+            None => Ok(None),
+        },
+    }
+}
+
+/// The entry of a line, if the line, without its line feed, is that of one.
+#[tactic(auto, unfolding(crate::specs::Reading::entry_in))]
+pub fn entry(alloc: Global, text: &[u8]) -> Result<Option<Entry>, OutOfMemory>
+    ensures { IfOk result (λ found. found ≡ entry_of text.now) }
+{
+    let Some((field, rest)) = first_field(text) else {
+        return Ok(None);
+    };
+    let Some(at) = number(field) else {
+        return Ok(None);
+    };
+    match input(alloc, rest)? {
+        Some(input) => Ok(Some(Entry { at, input })),
+        None => Ok(None),
+    }
+}

@@ -1,0 +1,18 @@
+//! Texts that are cut at octets of one kind.
+
+ghost use Rattle.std.specs.Prelude.{◌≡◌, ◌∷◌, ◌++◌, IfNone, IfSome};
+ghost use Rattle.zre_capture.specs.Parts.{Lacks};
+
+use memchr::memchr;
+
+/// What stands before and behind the first of these octets.
+pub fn split_once(text: &[u8], octet: u8) -> Option<(&[u8], &[u8])>
+    ensures none { IfNone result (Lacks octet text.now) }
+    ensures parts { IfSome result (λ p. text.now ≡ p.0.now ++ (octet ∷ p.1.now)) }
+    ensures first { IfSome result (λ p. Lacks octet p.0.now) }
+{
+    let place = memchr(octet, text)?;
+    let (front, rest) = text.split_at(place);
+    let (_, behind) = rest.split_at(1);
+    Some((front, behind))
+}
