@@ -6,7 +6,8 @@ use Rattle.zre_values.specs.declared.peer_id.PeerId.{PeerId}
 use Rattle.zre_msg.specs.declared.message.Body.{Body}
 use Rattle.zre_msg.specs.declared.message.Body.TheVariants.{Hello, Whisper, Shout, Join, Leave, Ping, PingOk, Other}
 use Rattle.zre_peer.specs.Runs.{is_hello}
-use Rattle.zre_peer.specs.Lines.{who_text}
+use Rattle.zre_peer.specs.Heads.{heads_of}
+use Rattle.zre_peer.specs.declared.heads.Heads.{Heads}
 use Rattle.zre_peer.specs.Views.{after, is_small}
 use Rattle.zre_peer.specs.declared.view.View.{View}
 
@@ -37,6 +38,6 @@ pub none_is : (o : Option View) → is_some o ≡ false → o ≡ None
 none_is None e = refl
 none_is (Some v) e = absurd cc
 
--- the text of who the peer is, made from its HELLO
-pub ready_first : (id same : PeerId) (o : Option View) (v : View) (who : List ℕ) → o ≡ Some v → same ≡ id → who ≡ who_text id v.name → ForSome o (λ w. who ≡ who_text same w.name)
-ready_first id same o v who e f is = λ w here. is ∙ ap (λ (n : List ℕ). who_text id n) (ap (λ (u : View). u.name) (some_is v w (sym e ∙ here))) ∙ ap (λ i. who_text i w.name) (sym f)
+-- the beginnings of lines, made from HELLO
+pub ready_first : (id same : PeerId) (o : Option View) (v : View) (heads : Heads) → o ≡ Some v → same ≡ id → heads ≡ heads_of id v.name → ForSome o (λ w. heads ≡ heads_of same w.name)
+ready_first id same o v heads e f is = λ w here. is ∙ ap (λ (n : List ℕ). heads_of id n) (ap (λ (u : View). u.name) (some_is v w (sym e ∙ here))) ∙ ap (λ i. heads_of i w.name) (sym f)

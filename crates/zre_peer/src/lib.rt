@@ -8,6 +8,7 @@ mod changes;
 mod event;
 mod groups;
 mod headers;
+mod heads;
 mod hello;
 mod line;
 mod peer_run;

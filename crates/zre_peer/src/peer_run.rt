@@ -2,13 +2,15 @@ ghost use Rattle.std.specs.Prelude.{ℕ, ◌+◌, ◌%◌, ◌≡◌, ◌≢◌,
 ghost use Rattle.std.specs.Option.{ForSome};
 ghost use Rattle.zre_msg.specs.declared.message.Message.{Message};
 ghost use Rattle.zre_peer.specs.declared.peer_run.RunFault.TheVariants as faults;
+ghost use Rattle.zre_peer.specs.Heads.{heads_of};
 ghost use Rattle.zre_peer.specs.Later.{goes_on, later_fault};
-ghost use Rattle.zre_peer.specs.Lines.{lines, who_text};
+ghost use Rattle.zre_peer.specs.Lines.{lines};
 ghost use Rattle.zre_peer.specs.Runs.{events_of, may_follow, fault_of, in_order, is_hello};
 ghost use Rattle.zre_peer.specs.Views.{after, blank, is_small, view_of};
 
 use crate::changes::change;
 use crate::event::Events;
+use crate::heads::Heads;
 use crate::hello::{is_hello, is_small, opened, tell_hello};
 use crate::telling::tell_change;
 use crate::view::View;
@@ -121,18 +123,18 @@ fn later(
     change(alloc, id, view, message.body, events)
 }
 
-// The same, with the lines of the events, in which `who` stands for the peer.
+// The same, with the lines of the events, which begin with `heads`.
 fn tell_later(
     alloc: Global,
     view: &mut View,
     due: u16,
     message: &Message,
-    who: &[u8],
+    heads: &Heads,
     out: &mut Octets,
 ) -> Result<(), RunFault>
     requires { is_small view.old ≡ true }
     ensures ok { OnOk result ((goes_on view.old due message.now ≡ true) × (view.new ≡ after view.old message.now.body)) }
-    ensures told { (id : PeerId) → who.now ≡ who_text id view.old.name → OnOk result (out.new ≡ out.old ++ lines (events_of id view.old message.now.body)) }
+    ensures told { (id : PeerId) → heads.now ≡ heads_of id view.old.name → OnOk result (out.new ≡ out.old ++ lines (events_of id view.old message.now.body)) }
     ensures name { view.new.name ≡ view.old.name }
     ensures small { is_small view.new ≡ true }
     ensures kept { OnErr result (view.new ≡ view.old) }
@@ -140,7 +142,7 @@ fn tell_later(
         (goes_on view.old due message.now ≡ false) × (e ≡ later_fault due message.now) × (out.new ≡ out.old)) }
 {
     expect(due, message)?;
-    tell_change(alloc, view, &message.body, who, out)
+    tell_change(alloc, view, &message.body, heads, out)
 }
 
 impl Run {
@@ -249,17 +251,17 @@ impl Run {
         }
     }
 
-    /// The same for a message behind HELLO, with the lines of its events appended to a text; in them `who` stands for
-    /// the peer. After `OutOfMemory` a front of them may stand there.
+    /// The same for a message behind HELLO, with the lines of its events appended to a text; they begin with
+    /// `heads`. After `OutOfMemory` a front of them may stand there.
     pub(crate) fn tell(
         &mut self,
         message: &Message,
-        who: &[u8],
+        heads: &Heads,
         out: &mut Octets,
     ) -> Result<(), RunFault>
         requires going { is_spent self.old ≡ false }
         requires behind { is_some (view_in self.old) ≡ true }
-        requires ready { IsReady self.old who.now }
+        requires ready { IsReady self.old heads.now }
         ensures ok { (ms : List Message) → Stands self.old ms → OnOk result (
             (may_follow ms message.now ≡ true) × Stands self.new (ms ++ message.now ∷ [])
             × (out.new ≡ out.old ++ lines (events_of (id_of self.old) (view_of ms) message.now.body))) }
@@ -268,14 +270,14 @@ impl Run {
             (may_follow ms message.now ≡ false) × (e ≡ fault_of ms message.now) × (out.new ≡ out.old)) }
         ensures spent { IfErr result (λ e. e ≢ RunFault.OutOfMemory → is_spent self.new ≡ true) }
         ensures kept { OnErr result (view_in self.new ≡ view_in self.old) }
-        ensures ready { IsReady self.new who.now }
+        ensures ready { IsReady self.new heads.now }
         ensures id { id_of self.new ≡ id_of self.old }
     {
         let next = self.due();
         let Some(view) = &mut self.view else {
             return Err(RunFault::NotHello);
         };
-        match tell_later(self.alloc, view, next, message, who, out) {
+        match tell_later(self.alloc, view, next, message, heads, out) {
             Ok(()) => {
                 self.count = next;
                 Ok(())

@@ -3,28 +3,30 @@
 ghost use Rattle.std.specs.Prelude.{◌≡◌, ◌≢◌, ◌++◌, [], ◌∷◌, List, true, false, is_some, IfErr, IfOk, OnOk, OnErr};
 ghost use Rattle.std.specs.Option.{ForSome};
 ghost use Rattle.zre_msg.specs.declared.message.Message.{Message};
-ghost use Rattle.zre_peer.specs.Lines.{lines, who_text};
+ghost use Rattle.zre_peer.specs.Heads.{heads_of};
+ghost use Rattle.zre_peer.specs.Lines.{lines};
 ghost use Rattle.zre_peer.specs.Runs.{events_of, fault_of, is_hello, may_follow};
 ghost use Rattle.zre_peer.specs.Standing.{IsReady};
 ghost use Rattle.zre_peer.specs.Views.{after, blank, view_of};
 
 use crate::event::Events;
-use crate::line::{push_lines, push_who};
+use crate::heads::Heads;
+use crate::line::push_lines;
 use crate::peer_run::{Run, RunFault};
 use std::alloc::Global;
 use std::marker::Model;
 use zre_msg::{Body, Message};
 use zre_values::{Octets, OutOfMemory, PeerId};
 
-/// A run that writes the lines of its events and makes no events: who the peer is stands ready as a text from its
-/// HELLO on, for the many lines that begin with it.
+/// A run that writes the lines of its events and makes no events: from its HELLO on their beginnings stand ready as
+/// texts.
 #[derive(Debug, Drop)]
 pub struct Teller {
     alloc: Global,
     run: Run,
-    who: Octets,
+    heads: Heads,
     events: Events,
-    ghost within: { IsReady run who },
+    ghost within: { IsReady run heads },
 }
 
 impl Model for Teller {
@@ -35,15 +37,20 @@ impl Model for Teller {
     ghost view = { λ t. t.run };
 }
 
-// Who the peer is by the name in its HELLO; nothing for other messages.
-fn who_of(alloc: Global, id: PeerId, body: &Body) -> Result<Octets, OutOfMemory>
-    ensures { IfOk result (λ who. is_hello body.now ≡ true → who ≡ who_text id (after blank body.now).name) }
+// The beginnings of the peer's lines by the name in its HELLO; nothing for other messages.
+fn heads_of(alloc: Global, id: PeerId, body: &Body) -> Result<Heads, OutOfMemory>
+    ensures { IfOk result (λ heads. is_hello body.now ≡ true → heads ≡ heads_of id (after blank body.now).name) }
 {
-    let mut who = Octets::new(alloc);
-    if let Body::Hello { name, .. } = body {
-        push_who(&mut who, id, name.as_slice())?;
+    match body {
+        Body::Hello { name, .. } => Heads::of(alloc, id, name.as_slice()),
+        _ => Ok(Heads::new(alloc)),
     }
-    Ok(who)
+}
+
+fn put(place: &mut Heads, heads: Heads)
+    ensures { place.new ≡ heads }
+{
+    *place = heads;
 }
 
 impl Teller {
@@ -57,7 +64,7 @@ impl Teller {
         Teller {
             alloc,
             run: Run::new(alloc, id),
-            who: Octets::new(alloc),
+            heads: Heads::new(alloc),
             events: Events::new(alloc),
         }
     }
@@ -116,7 +123,7 @@ impl Teller {
             (is_spent self.new ≡ true) × (view_in self.new ≡ view_in self.old)) }
         ensures id { id_of self.new ≡ id_of self.old }
     {
-        self.run.tell(message, self.who.as_slice(), out)
+        self.run.tell(message, &self.heads, out)
     }
 
     fn take_first(&mut self, message: Message, out: &mut Octets) -> Result<(), RunFault>
@@ -132,10 +139,10 @@ impl Teller {
             (is_spent self.new ≡ true) × (view_in self.new ≡ view_in self.old)) }
         ensures id { id_of self.new ≡ id_of self.old }
     {
-        let who = who_of(self.alloc, self.run.id(), &message.body)?;
+        let heads = heads_of(self.alloc, self.run.id(), &message.body)?;
         self.events.clear();
         self.run.take(message, &mut self.events)?;
-        self.who = who;
+        put(&mut self.heads, heads);
         Ok(push_lines(out, self.events.as_slice())?)
     }
 }

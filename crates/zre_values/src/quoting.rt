@@ -20,9 +20,9 @@ pub(crate) fn is_plain(octet: u8) -> bool
 }
 
 // How many octets are quoted before their text is appended, and how many octets that text has at most.
-const CHUNK: usize = 32;
+const CHUNK: usize = 16;
 
-const CHUNK_TEXT: usize = 96;
+const CHUNK_TEXT: usize = 48;
 
 // Writes the text of an octet at a place, and gives the place behind it. Three octets are written whichever it is, so
 // that no jump depends on the octet.
@@ -56,6 +56,9 @@ pub fn push_quoted(out: &mut Octets, bytes: &[u8]) -> Result<(), OutOfMemory>
 {
     if bytes.is_empty() {
         return out.push(b'~');
+    }
+    if bytes.len() <= CHUNK {
+        return push_chunk(out, bytes);
     }
     let mut rest = bytes;
     while !rest.is_empty() {

@@ -1,0 +1,53 @@
+//! The beginnings of a peer's lines.
+
+ghost use Rattle.std.specs.Prelude.{◌≡◌, ◌++◌, IfOk};
+ghost use Rattle.zre_peer.specs.Lines.{who_text};
+ghost use Rattle.zre_peer.specs.Heads.{heads_of};
+
+use crate::line::push_who;
+use std::alloc::Global;
+use zre_values::{Octets, OutOfMemory, PeerId};
+
+/// The words of events with who the peer is behind each, ready for the lines that begin with them.
+#[derive(Debug, Drop)]
+pub struct Heads {
+    pub join: Octets,
+    pub leave: Octets,
+    pub whisper: Octets,
+    pub shout: Octets,
+}
+
+fn head_of(alloc: Global, word: &[u8], who: &Octets) -> Result<Octets, OutOfMemory>
+    ensures { IfOk result (λ head. head ≡ word.now ++ who.now) }
+{
+    let mut head = Octets::new(alloc);
+    head.append(word)?;
+    head.append(who.as_slice())?;
+    Ok(head)
+}
+
+impl Heads {
+    /// No texts, which take no memory.
+    pub(crate) fn new(alloc: Global) -> Self {
+        Heads {
+            join: Octets::new(alloc),
+            leave: Octets::new(alloc),
+            whisper: Octets::new(alloc),
+            shout: Octets::new(alloc),
+        }
+    }
+
+    /// Those of this peer.
+    pub(crate) fn of(alloc: Global, id: PeerId, name: &[u8]) -> Result<Self, OutOfMemory>
+        ensures { IfOk result (λ heads. heads ≡ heads_of id name.now) }
+    {
+        let mut who = Octets::new(alloc);
+        push_who(&mut who, id, name)?;
+        Ok(Heads {
+            join: head_of(alloc, b"JOIN ", &who)?,
+            leave: head_of(alloc, b"LEAVE ", &who)?,
+            whisper: head_of(alloc, b"WHISPER ", &who)?,
+            shout: head_of(alloc, b"SHOUT ", &who)?,
+        })
+    }
+}
