@@ -1,8 +1,8 @@
 //! The beacon: the datagram by which a node of RFC 36 shows that it is there, and where its mailbox is.
 #![tactic(auto)]
 
-ghost use Rattle.std.specs.Prelude.{◌≡◌, ℕ, IfSome, Some};
-ghost use Rattle.zre_beacon.specs.Beacon.{IsBeacon};
+ghost use Rattle.std.specs.Prelude.{◌≡◌, ℕ, IfSome, Some, option_map};
+ghost use Rattle.zre_beacon.specs.Beacon.{IsBeacon, beacon_in};
 ghost use Rattle.zre_values.specs.declared.peer_id.PeerId.{PeerId};
 
 use zre_values::PeerId;
@@ -22,6 +22,7 @@ impl Beacon {
     /// Reads a datagram. Only what `write` gives is a beacon.
     pub fn read(bytes: &[u8]) -> Option<Beacon>
         ensures sound { IfSome result (λ beacon. IsBeacon bytes.now beacon.id beacon.port) }
+        ensures read { option_map (λ beacon. (beacon.id, beacon.port)) result ≡ beacon_in bytes.now }
         ensures complete { (id : PeerId) (port : ℕ) → IsBeacon bytes.now id port → result ≡ Some (record { id = id; port = port }) }
     {
         let (head, rest) = bytes.split_first_chunk::<4>()?;

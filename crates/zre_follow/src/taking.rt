@@ -3,29 +3,18 @@
 ghost use Rattle.std.specs.Prelude.{◌≡◌, ◌∷◌, [], List, false, not, IfOk, OnOk};
 ghost use Rattle.zre_msg.specs.declared.message.Message.{Message};
 ghost use Rattle.zre_peer.specs.Standing.{Stands, id_of, is_spent};
-ghost use Rattle.zre_follow.specs.Messages.{meant, messages_in};
+ghost use Rattle.std.specs.List.{cons_option};
+ghost use Rattle.std.specs.Result.{result_ok};
+ghost use Rattle.zre_msg.specs.Reading.{read_frames};
+ghost use Rattle.zre_follow.specs.Messages.{messages_in};
 ghost use Rattle.zre_follow.specs.Taken.{TookOne, Took};
 
 use crate::ends::push_end;
 use std::alloc::Global;
 use zre_msg::{Message, ReadFault};
 use zre_peer::{RunFault, Teller};
-use zre_values::{Octets, OutOfMemory};
+use zre_values::{Frames, Octets, OutOfMemory};
 use zre_zmtp::{Item, What};
-
-// The message that an item means, if it means one.
-fn meant(alloc: Global, what: &What) -> Result<Option<Message>, OutOfMemory>
-    ensures { IfOk result (λ m. m ≡ meant what.now) }
-{
-    match what {
-        What::Message(frames) => match Message::read(alloc, frames) {
-            Ok(message) => Ok(Some(message)),
-            Err(ReadFault::Bad(_)) => Ok(None),
-            Err(ReadFault::OutOfMemory) => Err(OutOfMemory),
-        },
-        _ => Ok(None),
-    }
-}
 
 // Takes one message and appends its lines. Says whether the run goes on.
 fn take_message(
@@ -50,6 +39,26 @@ fn take_message(
     }
 }
 
+// Takes the message that frames mean, if they mean one. Says whether the run goes on.
+fn take_frames(
+    alloc: Global,
+    frames: &Frames,
+    run: &mut Teller,
+    out: &mut Octets,
+) -> Result<bool, OutOfMemory>
+    requires { is_spent run.old ≡ false }
+    ensures took { (ms : List Message) → Stands run.old ms →
+        OnOk result (Took (id_of run.old) ms (cons_option (result_ok (read_frames frames.now)) []) run.new out.old out.new) }
+    ensures spent { IfOk result (λ on. is_spent run.new ≡ not on) }
+    ensures id { id_of run.new ≡ id_of run.old }
+{
+    match Message::read(alloc, frames) {
+        Ok(message) => take_message(alloc, message, run, out),
+        Err(ReadFault::Bad(_)) => Ok(true),
+        Err(ReadFault::OutOfMemory) => Err(OutOfMemory),
+    }
+}
+
 // Takes the message that an item means, if it means one. Says whether the run goes on.
 fn take_item(
     alloc: Global,
@@ -63,9 +72,11 @@ fn take_item(
     ensures spent { IfOk result (λ on. is_spent run.new ≡ not on) }
     ensures id { id_of run.new ≡ id_of run.old }
 {
-    match meant(alloc, &item.what)? {
-        Some(message) => take_message(alloc, message, run, out),
-        None => Ok(true),
+    match &item.what {
+        What::Message(frames) => take_frames(alloc, frames, run, out),
+        What::Greeting { .. } => Ok(true),
+        What::Ready { .. } => Ok(true),
+        What::Command { .. } => Ok(true),
     }
 }
 

@@ -8,7 +8,7 @@ use Rattle.zre_values.specs.Text.{is_plain, quoted_octet, quoted}
 plain_octet : (b : ℕ) → is_plain b ≡ true → quoted_octet b ≡ b ∷ []
 plain_octet b e = rw e refl
 
-plain_octets : (bytes : List ℕ) → list_all is_plain bytes ≡ true → flat_map quoted_octet bytes ≡ bytes
+pub plain_octets : (bytes : List ℕ) → list_all is_plain bytes ≡ true → flat_map quoted_octet bytes ≡ bytes
 plain_octets [] e = refl
 plain_octets (b ∷ bs) e =
     let p = and_parts (is_plain b) (list_all is_plain bs) e in

@@ -1,6 +1,7 @@
 //! The quoted text of octets, in which every event and every capture is written.
 
 ghost use Rattle.std.specs.Prelude.{◌≡◌, ◌<◌, ◌≤◌, ◌+◌, ◌++◌, flat_map, length, take, IfOk, OnOk};
+ghost use Rattle.std.specs.List.{list_all};
 ghost use Rattle.zre_values.specs.Text.{hex_digit, is_plain, quoted_octet, quoted, quoted_list, quoted_pair, quoted_pairs};
 
 use crate::quoted_table::{first_of, hex_digit, len_of};
@@ -17,6 +18,12 @@ pub(crate) fn is_plain(octet: u8) -> bool
         & (octet != b'~')
         & (octet != b'=')
         & (octet != b',')
+}
+
+pub(crate) fn are_plain(bytes: &[u8]) -> bool
+    ensures { result ≡ list_all is_plain bytes.now }
+{
+    bytes.iter().all(|octet| is_plain(*octet))
 }
 
 // How many octets are quoted before their text is appended, and how many octets that text has at most.
@@ -50,6 +57,17 @@ fn push_chunk(out: &mut Octets, bytes: &[u8]) -> Result<(), OutOfMemory>
     out.append(&text[..len])
 }
 
+// Appends the text of few octets. Names and groups are mostly plain, so that is looked for first.
+fn push_short(out: &mut Octets, bytes: &[u8]) -> Result<(), OutOfMemory>
+    requires { length bytes.now ≤ CHUNK }
+    ensures { OnOk result (out.new ≡ out.old ++ flat_map quoted_octet bytes.now) }
+{
+    if are_plain(bytes) {
+        return out.append(bytes);
+    }
+    push_chunk(out, bytes)
+}
+
 /// Appends the quoted text of some octets. After an error a front of it may stand there.
 pub fn push_quoted(out: &mut Octets, bytes: &[u8]) -> Result<(), OutOfMemory>
     ensures { OnOk result (out.new ≡ out.old ++ quoted bytes.now) }
@@ -58,7 +76,7 @@ pub fn push_quoted(out: &mut Octets, bytes: &[u8]) -> Result<(), OutOfMemory>
         return out.push(b'~');
     }
     if bytes.len() <= CHUNK {
-        return push_chunk(out, bytes);
+        return push_short(out, bytes);
     }
     let mut rest = bytes;
     while !rest.is_empty() {

@@ -4,15 +4,9 @@ ghost use Rattle.std.specs.Prelude.{◌≡◌, ℕ, ◌<◌, ◌^◌, [], ◌∷
 ghost use Rattle.std.specs.List.{list_all};
 ghost use Rattle.zre_values.specs.Text.{hex_digit, is_plain, quoted_octet, quoted};
 
-use crate::quoting::is_plain;
+use crate::quoting::{are_plain, is_plain};
 use crate::{Octets, OutOfMemory};
 use std::alloc::Global;
-
-fn are_plain(bytes: &[u8]) -> bool
-    ensures { result ≡ list_all is_plain bytes.now }
-{
-    bytes.iter().all(|octet| is_plain(*octet))
-}
 
 // The number below sixteen that an upper-case digit stands for.
 fn digit_value(digit: u8) -> Option<u8>
