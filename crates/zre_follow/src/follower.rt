@@ -90,12 +90,7 @@ impl Machine for Follower {
         }
         self.items.clear();
         let fault = read_piece(&mut self.reader, piece, &mut self.items)?;
-        take_items(
-            self.alloc,
-            self.items.as_slice(),
-            &mut self.run,
-            out,
-        )?;
+        take_items(self.alloc, self.items.as_slice(), &mut self.run, out)?;
         self.fault = fault;
         Ok(going_behind(&self.fault, self.run.spent()))
     }
