@@ -1,2 +1,4 @@
 pub mod Joined
+pub mod Kept
+pub mod Listed
 mod Rows

@@ -131,9 +131,14 @@ module _ (g : Config) where
   at_message c None m K = at_first c (identity c K) m K
   at_message c (Some l) m K = at_later c l m K
 
+  -- READY introduces the peer p, and takes over from another connection of p; a second READY would have no effect
+  abbrev pub at_shaken : ℕ → PeerId → Option PeerId → List Mark → List Mark
+  at_shaken c p None K = taken_over (other_with p c K) K ++ Shakes c p ∷ []
+  at_shaken c p (Some q) K = []
+
   abbrev pub at_arrival : ℕ → Arrival → List Mark → List Mark
   at_arrival c arrival.Greeted K = Greets c ∷ []
-  at_arrival c (arrival.Shaken p) K = taken_over (other_with p c K) K ++ Shakes c p ∷ []
+  at_arrival c (arrival.Shaken p) K = at_shaken c p (identity c K) K
   at_arrival c (arrival.Message m) K = at_message c (runs c K) m K
 
   abbrev pub at_said : ℕ → Said → List Mark → List Mark

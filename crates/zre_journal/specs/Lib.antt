@@ -9,4 +9,5 @@ pub mod Held
 pub mod Laws
 pub mod Links
 pub mod Peers
+pub mod Proper
 pub mod Told
