@@ -27,13 +27,15 @@ use Rattle.zre_peer.specs.declared.causes.Cause.TheVariants as cause
 use Rattle.zre_peer.specs.declared.causes.CloseWhy.TheVariants as close
 use Rattle.zre_peer.specs.declared.causes.IgnoreWhy.TheVariants as ignore
 use Rattle.zre_peer.specs.declared.causes.RefuseWhy.TheVariants as refuse
+use Rattle.zre_link.specs.Text.{size_of}
+use Rattle.zre_link.specs.Heard.{reply_fault}
 use Rattle.zre_journal.specs.declared.config.Config.{Config}
 use Rattle.zre_journal.specs.Chronicle.{Mark, Comes, Opens, TurnsAway, Greets, Shakes, Starts, Counts, Ignores, Closes, IsShut, Drops, Born, Beacons, Ends, Falters, Puts, Links, Takes, Joins, Leaves, Refuses, Calls, Stops, after, ever, in_turn}
 use Rattle.zre_journal.specs.Config.{own_endpoint}
 use Rattle.zre_journal.specs.Heard.{clock, newly_said}
 use Rattle.zre_journal.specs.Connections.{open_ones, is_open, is_new, identity, runs, is_live, since, other_with}
 use Rattle.zre_journal.specs.Peers.{Life, lives, births, life_of, life, is_entered, counted, view, active}
-use Rattle.zre_journal.specs.Links.{groups, status, bodies, size_of, unsent, is_linked, replies, reply_fault, gate, taken}
+use Rattle.zre_journal.specs.Links.{groups, status, bodies, unsent, is_linked, replies, gate, taken}
 
 -- the group is one of these
 abbrev pub has_group : List ℕ → List (List ℕ) → Bool
