@@ -1,0 +1,5 @@
+use Rattle.zre_link.proofs.Behind.{heard_nothing}
+use Rattle.zre_link.proofs.replies.Replies.new.Goals as goal
+
+pub returns : goal.returns
+returns c = heard_nothing c.wanting.result c.wanting.ensures

@@ -1,0 +1,64 @@
+-- What comes back on a link, and what is kept of it.
+use Rattle.std.specs.Prelude.{ℕ, zero, suc, false, List, Option, Some, None}
+use Rattle.zre_zmtp.specs.declared.fault.ZmtpFault.{ZmtpFault}
+use Rattle.zre_zmtp.specs.declared.fault.FeedFault.TheVariants.{Zmtp}
+use Rattle.zre_zmtp.specs.declared.expected.Expected.{Expected}
+use Rattle.zre_zmtp.specs.declared.expected.Expected.TheVariants as expect
+use Rattle.zre_zmtp.specs.declared.want.Want.TheVariants.{Router}
+use Rattle.zre_zmtp.specs.Stream.{Whole, expected, before, split, fault}
+use Rattle.zre_zmtp.specs.Reading.{Reading, kept}
+use Rattle.zre_link.specs.declared.awaits.Awaits.{Awaits}
+use Rattle.zre_link.specs.declared.awaits.Awaits.TheVariants as awaits
+use Rattle.zre_link.specs.declared.hearing.Hearing.{Hearing}
+use Rattle.zre_link.specs.declared.hearing.Hearing.TheVariants.{Reads, Refused}
+
+-- the first fault of replies: they are the stream of a ROUTER
+abbrev pub reply_fault : List ℕ → Option ZmtpFault
+reply_fault o = fault Router Whole o
+
+-- what comes next in replies
+abbrev pub awaited : List ℕ → Expected
+awaited o = expected Whole (split Router Whole o).0
+
+-- ---- what is kept
+
+-- what a reader keeps behind replies without a fault
+abbrev pub reading : List ℕ → Reading
+reading o = record { before = before Whole (split Router Whole o).0; left = (split Router Whole o).1; spent = false; wanted = Router }
+
+-- a fault ends the reading, and stays
+abbrev pub hearing_by : Option ZmtpFault → Reading → Hearing
+hearing_by None r = Reads r
+hearing_by (Some f) r = Refused (Zmtp f)
+
+-- what contracts see of replies: what comes next, and what was read or found wrong
+pub record Heard : Type 0 where
+  pub awaits : Expected
+  pub hearing : Hearing
+
+-- behind the replies o, which came in whichever pieces
+abbrev pub heard_after : List ℕ → Heard
+heard_after o = record { awaits = awaited o; hearing = hearing_by (reply_fault o) (reading o) }
+
+-- how many octets are kept, by what is done with octets
+abbrev pub kept_in : Hearing → ℕ
+kept_in (Reads r) = kept r
+kept_in (Refused f) = 0
+
+-- how many octets are kept
+abbrev pub kept_of : Heard → ℕ
+kept_of h = kept_in h.hearing
+
+-- ---- how far the other end has come
+
+-- the same part, as zre_zmtp names it
+abbrev pub expected_of : Awaits → Expected
+expected_of awaits.Greeting = expect.Greeting
+expected_of awaits.Ready = expect.Ready
+expected_of awaits.Traffic = expect.Traffic
+
+-- what comes next behind so many items more
+abbrev pub expected_behind : Expected → ℕ → Expected
+expected_behind e zero = e
+expected_behind expect.Greeting (suc zero) = expect.Ready
+expected_behind e (suc n) = expect.Traffic

@@ -1,0 +1,12 @@
+//! Whether replies are read.
+
+use zre_zmtp::{FeedFault, Reader};
+
+/// What is done with the octets of replies.
+#[derive(Debug, Drop)]
+pub enum Hearing {
+    /// They are read.
+    Reads(Reader),
+    /// A piece was refused: the answer stays, and nothing is kept.
+    Refused(FeedFault),
+}

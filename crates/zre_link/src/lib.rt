@@ -1,0 +1,16 @@
+//! Outgoing connections: a node speaks as a DEALER (RFC 23), and numbers the messages of ZRE that it puts on the link
+//! (RFC 36). What comes back is read as the stream of a ROUTER, and tells how much may go out.
+#![tactic(auto)]
+
+mod awaits;
+mod fault;
+mod hearing;
+mod link;
+mod queue;
+mod replies;
+
+pub use fault::PushFault;
+pub use link::Link;
+
+#[cfg(test)]
+mod tests;

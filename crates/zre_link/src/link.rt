@@ -1,0 +1,239 @@
+//! One outgoing connection.
+
+ghost use Rattle.std.specs.Prelude.{◌≡◌, ℕ, ◌+◌, ◌-◌, ◌<◌, ◌≤◌, ◌∷◌, Bool, true, false, List, [], ◌++◌, length, None, IfOk, OnOk, IfErr, OnErr};
+ghost use Rattle.zre_values.specs.declared.limits.TheConstants.{MESSAGE_OCTETS, COMMAND_OCTETS, UNSENT_OCTETS};
+ghost use Rattle.zre_values.specs.declared.peer_id.PeerId.{PeerId as PeerIdValue};
+ghost use Rattle.zre_zmtp.specs.Laws.{handshake};
+ghost use Rattle.zre_zmtp.specs.declared.writing.SocketType.TheVariants.{Dealer};
+ghost use Rattle.zre_zmtp.specs.Reading.{Refuses};
+ghost use Rattle.zre_msg.specs.declared.message.Body.{Body as BodyValue};
+ghost use Rattle.zre_msg.specs.Spelling.{FitsBody, Fits, octets as octets_of};
+ghost use Rattle.zre_link.specs.Text.{text_of, size_of};
+ghost use Rattle.zre_link.specs.Heard.{reply_fault, heard_after, kept_of};
+ghost use Rattle.zre_link.specs.Link.{link_after, gate_at, front_of, taken_by, unsent_of, RefusesPush};
+
+use crate::awaits::Awaits;
+use crate::fault::PushFault;
+use crate::queue::Queue;
+use crate::replies::Replies;
+use std::alloc::Global;
+use std::marker::Model;
+use std::mem;
+use zre_msg::{Body, Message};
+use zre_values::limits::UNSENT_OCTETS;
+use zre_values::{Octets, OutOfMemory, PeerId};
+use zre_zmtp::{FeedFault, SocketType, greeting, ready};
+
+/// The connection of a node to the mailbox of a peer. The node speaks as a DEALER with the identity 01 and its UUID:
+/// its greeting, READY, and then the messages that are put, numbered from 1. The octets wait here until the socket takes
+/// them, each kind once the other end has come far enough.
+#[derive(Debug, Drop)]
+pub struct Link {
+    alloc: Global,
+    queue: Queue,
+    sent: u64,
+    /// All octets so far: those that wait and those that were taken.
+    written: u64,
+    taken: u64,
+    linked: bool,
+    replies: Replies,
+}
+
+impl Model for Link {
+    ghost use Rattle.std.specs.Prelude.{◌≡◌, ◌+◌, ◌≤◌, length};
+    ghost use Rattle.zre_values.specs.declared.limits.TheConstants.{UNSENT_OCTETS};
+    ghost use Rattle.zre_link.specs.Link.{Sending};
+
+    ghost Value = { Sending };
+
+    ghost view = { λ l. record {
+      queue = l.queue;
+      sent = l.sent;
+      written = l.written;
+      taken = l.taken;
+      linked = l.linked;
+      replies = l.replies;
+    } };
+
+    ghost invariant = { λ l. (l.taken + length l.queue ≡ l.written)
+        × (124 ≤ l.written)
+        × (length l.queue ≤ UNSENT_OCTETS) };
+}
+
+// The greeting and READY of a node with this UUID.
+fn handshake_of(alloc: Global, own: PeerId) -> Result<Octets, OutOfMemory>
+    ensures is { IfOk result (λ octets. octets ≡ handshake Dealer (Some own)) }
+    ensures count { IfOk result (λ octets. length octets ≡ 124) }
+{
+    let mut octets = Octets::copy(alloc, &greeting())?;
+    octets.append(ready(alloc, SocketType::Dealer, Some(own))?.as_slice())?;
+    Ok(octets)
+}
+
+// Queues a message behind `written` octets, unless it passes the limit, and answers how many there are with it.
+fn queue_message(
+    alloc: Global,
+    queue: &mut Queue,
+    written: u64,
+    message: &Message,
+) -> Result<u64, PushFault>
+    requires fits { Fits message.now }
+    requires some { 0 < written }
+    ensures ok { IfOk result (λ all. (queue.new ≡ queue.old ++ octets_of message.now)
+        × (all ≡ written + length (octets_of message.now))
+        × (length queue.old + length (octets_of message.now) ≤ UNSENT_OCTETS)) }
+    ensures refused { IfErr result (λ e. RefusesPush e (length queue.old) (length (octets_of message.now))) }
+    ensures unchanged { OnErr result (queue.new ≡ queue.old) }
+{
+    let unsent = queue.len() as u64;
+    let size = message.octets_len();
+    let Some(all) = written.checked_add(size) else {
+        return Err(PushFault::OutOfMemory);
+    };
+    if unsent.saturating_add(size) > UNSENT_OCTETS as u64 {
+        return Err(PushFault::Slow { unsent, size });
+    }
+    let mut octets = Octets::new(alloc);
+    message.push_to(&mut octets)?;
+    queue.append(octets)?;
+    Ok(all)
+}
+
+impl Link {
+    /// The link of the node with this UUID: its greeting and READY wait, 124 octets.
+    pub fn new(alloc: Global, own: PeerId) -> Result<Link, OutOfMemory>
+        ensures { IfOk result (λ link. link ≡ link_after own [] false [] 0) }
+    {
+        Ok(Link {
+            alloc,
+            queue: Queue::new(alloc, handshake_of(alloc, own)?),
+            sent: 0,
+            written: 124,
+            taken: 0,
+            linked: false,
+            replies: Replies::new(alloc),
+        })
+    }
+
+    /// Puts a body: it goes out in a message with the next number. The body is lent, and handed back as it was.
+    pub fn push(&mut self, body: &mut Body) -> Result<(), PushFault>
+        requires { FitsBody body.old }
+        ensures ok { (own : PeerIdValue) (bodies : List BodyValue) (linked : Bool) (o : List ℕ) (n : ℕ) →
+            self.old ≡ link_after own bodies linked o n →
+            OnOk result ((unsent_of own bodies n + size_of bodies body.old ≤ UNSENT_OCTETS)
+            × (self.new ≡ link_after own (bodies ++ body.old ∷ []) linked o n)) }
+        ensures refused { (own : PeerIdValue) (bodies : List BodyValue) (linked : Bool) (o : List ℕ) (n : ℕ) →
+            self.old ≡ link_after own bodies linked o n →
+            IfErr result (λ e. RefusesPush e (unsent_of own bodies n) (size_of bodies body.old)) }
+        ensures unchanged { OnErr result (self.new ≡ self.old) }
+        ensures lent { body.new ≡ body.old }
+    {
+        let Some(sent) = self.sent.checked_add(1) else {
+            return Err(PushFault::OutOfMemory);
+        };
+        let mut message = Message {
+            sequence: (sent % 65536) as u16,
+            body: Body::Ping,
+        };
+        mem::swap(&mut message.body, body);
+        let queued = queue_message(self.alloc, &mut self.queue, self.written, &message);
+        mem::swap(&mut message.body, body);
+        self.written = queued?;
+        self.sent = sent;
+        Ok(())
+    }
+
+    /// From now on the link stands. A second call does nothing.
+    pub fn linked(&mut self)
+        ensures { (own : PeerIdValue) (bodies : List BodyValue) (linked : Bool) (o : List ℕ) (n : ℕ) →
+            self.old ≡ link_after own bodies linked o n → self.new ≡ link_after own bodies true o n }
+    {
+        self.linked = true;
+    }
+
+    pub fn is_linked(&self) -> bool
+        ensures { result ≡ self.now.linked }
+    {
+        self.linked
+    }
+
+    /// Reads one more piece of what comes back, which is the stream of a ROUTER (RFC 23). Its messages and commands are
+    /// dropped. A fault stays: each further piece is refused with it. After want of memory what is kept of the replies is
+    /// left open.
+    pub fn reply(&mut self, piece: &[u8]) -> Result<(), FeedFault>
+        requires { self.old.linked ≡ true }
+        ensures ok { (own : PeerIdValue) (bodies : List BodyValue) (linked : Bool) (o : List ℕ) (n : ℕ) →
+            self.old ≡ link_after own bodies linked o n →
+            OnOk result ((reply_fault (o ++ piece.now) ≡ None)
+            × (self.new ≡ link_after own bodies linked (o ++ piece.now) n)) }
+        ensures refused { (own : PeerIdValue) (bodies : List BodyValue) (linked : Bool) (o : List ℕ) (n : ℕ) →
+            self.old ≡ link_after own bodies linked o n →
+            IfErr result (λ e. Refuses e (reply_fault (o ++ piece.now))
+            (self.new ≡ link_after own bodies linked (o ++ piece.now) n)) }
+        ensures rest { let now = self.new in now ≡ record self.old { replies = now.replies } }
+    {
+        self.replies.feed(piece)
+    }
+
+    /// The octets that may go out now, all of them in one piece.
+    pub fn front(&self) -> &[u8]
+        ensures { (own : PeerIdValue) (bodies : List BodyValue) (linked : Bool) (o : List ℕ) (n : ℕ) →
+            self.now ≡ link_after own bodies linked o n → result.now ≡ front_of own bodies linked o n }
+    {
+        let (front, _) = self.queue.as_slice().split_at(self.open());
+        front
+    }
+
+    /// So many octets of the front have gone out, or all of it where it has fewer.
+    pub fn took(&mut self, count: u64)
+        ensures { (own : PeerIdValue) (bodies : List BodyValue) (linked : Bool) (o : List ℕ) (n : ℕ) →
+            self.old ≡ link_after own bodies linked o n →
+            self.new ≡ link_after own bodies linked o (taken_by own bodies linked o n count) }
+    {
+        let taken = count.min(self.open() as u64);
+        self.queue.remove(taken as usize);
+        self.taken += taken;
+    }
+
+    /// How many octets wait.
+    pub fn unsent(&self) -> u64
+        ensures unsent { (own : PeerIdValue) (bodies : List BodyValue) (linked : Bool) (o : List ℕ) (n : ℕ) →
+            self.now ≡ link_after own bodies linked o n →
+            (result ≡ unsent_of own bodies n) × (n ≤ length (text_of own bodies)) }
+        ensures within { result ≤ UNSENT_OCTETS }
+    {
+        self.queue.len() as u64
+    }
+
+    /// How many bodies were put.
+    pub fn sent(&self) -> u64
+        ensures { (own : PeerIdValue) (bodies : List BodyValue) (linked : Bool) (o : List ℕ) (n : ℕ) →
+            self.now ≡ link_after own bodies linked o n → result ≡ length bodies }
+    {
+        self.sent
+    }
+
+    /// How many octets of the replies are kept: those of the bodies of an unfinished message, and those of an unfinished
+    /// greeting or frame.
+    pub fn kept(&self) -> u64
+        ensures { (own : PeerIdValue) (bodies : List BodyValue) (linked : Bool) (o : List ℕ) (n : ℕ) →
+            self.now ≡ link_after own bodies linked o n →
+            (result ≡ kept_of (heard_after o)) × (result ≤ MESSAGE_OCTETS + 9 + COMMAND_OCTETS) }
+    {
+        self.replies.kept()
+    }
+
+    // How many octets of the queue may go out.
+    fn open(&self) -> usize
+        ensures open { result ≡ gate_at self.now.linked self.now.replies.awaits self.now.written - self.now.taken }
+        ensures within { result ≤ length self.now.queue }
+    {
+        let gate = match self.replies.awaits() {
+            Awaits::Greeting => 64,
+            Awaits::Ready => 124,
+            Awaits::Traffic => self.written,
+        };
+        let gate = if self.linked { gate } else { 0 };
+        gate.saturating_sub(self.taken) as usize
+    }
+}

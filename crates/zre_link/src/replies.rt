@@ -1,0 +1,114 @@
+//! What comes back.
+
+ghost use Rattle.std.specs.Prelude.{◌≡◌, ℕ, ◌+◌, ◌≤◌, List, [], ◌++◌, None, IfOk, OnOk, IfErr};
+ghost use Rattle.zre_values.specs.declared.limits.TheConstants.{MESSAGE_OCTETS, COMMAND_OCTETS};
+ghost use Rattle.zre_zmtp.specs.Reading.{Reads as IsBehind, Refuses};
+ghost use Rattle.zre_zmtp.specs.Stream.{Whole};
+ghost use Rattle.zre_zmtp.specs.declared.want.Want.TheVariants.{Router};
+ghost use Rattle.zre_link.specs.Heard.{reply_fault, awaited, heard_after, kept_of, expected_of};
+
+use crate::awaits::Awaits;
+use crate::hearing::Hearing;
+use std::alloc::Global;
+use std::marker::Model;
+use std::mem;
+use zre_zmtp::{FeedFault, Items, Reader, Want};
+
+/// The replies on a link, read as the stream of a ROUTER. Their messages and commands are dropped.
+#[derive(Debug, Drop)]
+pub struct Replies {
+    alloc: Global,
+    awaits: Awaits,
+    hearing: Hearing,
+}
+
+impl Model for Replies {
+    ghost use Rattle.zre_link.specs.Heard.{Heard, expected_of};
+
+    ghost Value = { Heard };
+
+    ghost view = { λ r. record { awaits = expected_of r.awaits; hearing = r.hearing } };
+}
+
+// Reads a piece, and notes what is awaited behind it. The reader is given up where the piece is refused.
+fn read_piece(
+    alloc: Global,
+    mut reader: Reader,
+    piece: &[u8],
+    awaits: &mut Awaits,
+) -> Result<Reader, FeedFault>
+    ensures ok { (o : List ℕ) → IsBehind Router Whole o reader → expected_of awaits.old ≡ awaited o →
+        IfOk result (λ r. IsBehind Router Whole (o ++ piece.now) r × (expected_of awaits.new ≡ awaited (o ++ piece.now))) }
+    ensures refused { (o : List ℕ) → IsBehind Router Whole o reader → expected_of awaits.old ≡ awaited o →
+        IfErr result (λ e. Refuses e (reply_fault (o ++ piece.now)) (expected_of awaits.new ≡ awaited (o ++ piece.now))) }
+{
+    if reader.spent() {
+        return Err(FeedFault::OutOfMemory);
+    }
+    let mut items = Items::new(alloc);
+    let fed = reader.feed(piece, &mut items);
+    *awaits = awaits.behind(items.len());
+    match fed {
+        Ok(()) => Ok(reader),
+        Err(fault) => Err(fault),
+    }
+}
+
+impl Replies {
+    /// No octet has come yet.
+    pub fn new(alloc: Global) -> Self
+        ensures { result ≡ heard_after [] }
+    {
+        Replies {
+            alloc,
+            awaits: Awaits::Greeting,
+            hearing: Hearing::Reads(Reader::wanting(alloc, Want::Router)),
+        }
+    }
+
+    /// Reads one more piece. A refusal stays, and is answered to each further piece.
+    pub fn feed(&mut self, piece: &[u8]) -> Result<(), FeedFault>
+        ensures ok { (o : List ℕ) → self.old ≡ heard_after o →
+            OnOk result ((reply_fault (o ++ piece.now) ≡ None) × (self.new ≡ heard_after (o ++ piece.now))) }
+        ensures refused { (o : List ℕ) → self.old ≡ heard_after o →
+            IfErr result (λ e. Refuses e (reply_fault (o ++ piece.now)) (self.new ≡ heard_after (o ++ piece.now))) }
+    {
+        let none = Hearing::Refused(FeedFault::OutOfMemory);
+        match mem::replace(&mut self.hearing, none) {
+            Hearing::Reads(reader) => {
+                match read_piece(self.alloc, reader, piece, &mut self.awaits) {
+                    Ok(reader) => {
+                        self.hearing = Hearing::Reads(reader);
+                        Ok(())
+                    }
+                    Err(fault) => {
+                        self.hearing = Hearing::Refused(fault);
+                        Err(fault)
+                    }
+                }
+            }
+            Hearing::Refused(fault) => {
+                self.hearing = Hearing::Refused(fault);
+                Err(fault)
+            }
+        }
+    }
+
+    /// What the other end has to send next.
+    pub fn awaits(&self) -> Awaits
+        ensures { expected_of result ≡ self.now.awaits }
+    {
+        self.awaits
+    }
+
+    /// How many octets are kept: those of the bodies of an unfinished message, and those of an unfinished greeting or frame.
+    pub fn kept(&self) -> u64
+        ensures { (o : List ℕ) → self.now ≡ heard_after o →
+            (result ≡ kept_of (heard_after o)) × (result ≤ MESSAGE_OCTETS + 9 + COMMAND_OCTETS) }
+    {
+        match &self.hearing {
+            Hearing::Reads(reader) => reader.kept(),
+            Hearing::Refused(_) => 0,
+        }
+    }
+}
