@@ -1,0 +1,169 @@
+-- What a node keeps of a chronicle.
+use Rattle.std.specs.Prelude.{◌≡◌, ℕ, ◌≤◌, Bool, true, false, ◌||◌, not, ◌&&◌, List, [], ◌∷◌, ◌++◌, Option, Some, None, if◌then◌else◌, nat_lt, nat_eq, IsSome, length}
+use Rattle.std.specs.List.{AllByRecursion, list_any}
+use Rattle.std.specs.Str.{bytes_eq}
+use Rattle.std.specs.Ordering.{nat_cmp}
+use Rattle.std.specs.BTreeMap.{is_at}
+use Rattle.std.specs.Map.{lookup, remove_entry}
+use Rattle.zre_values.specs.declared.peer_id.PeerId.{PeerId}
+use Rattle.zre_msg.specs.declared.message.Message.{Message}
+use Rattle.zre_peer.specs.Runs.{shown}
+use Rattle.zre_peer.specs.Standing.{Stands, id_of, view_in}
+use Rattle.zre_mailbox.specs.Conn.{Hearing, conn_after}
+use Rattle.zre_link.specs.Link.{Sending, link_after}
+use Rattle.zre_journal.specs.declared.config.Config.{Config}
+use Rattle.zre_journal.specs.Chronicle.{Mark, after}
+use Rattle.zre_journal.specs.Config.{is_valid}
+use Rattle.zre_journal.specs.Heard.{clock, bytes}
+use Rattle.zre_journal.specs.Connections.{open_ones, is_new, is_ignored, identity, runs, since, is_same, has_ended}
+use Rattle.zre_journal.specs.Peers.{Life, life, lives, other_lives, births, active, runner, counted}
+use Rattle.zre_journal.specs.Proper.{IsProper}
+use Rattle.zre_journal.specs.Links.{bodies, is_linked, replies, taken, groups, status}
+use Rattle.zre_journal.specs.Happens.{has_stopped, at_stop}
+use Rattle.zre_journal.specs.Told.{told}
+use Rattle.zre_journal.specs.Done.{done, puts}
+use Rattle.zre_node.specs.declared.peer.Peer.{Peer}
+use Rattle.zre_node.specs.declared.peer.Running.{Running}
+use Rattle.zre_node.specs.declared.connection.Connection.{Connection}
+use Rattle.zre_node.specs.declared.tables.Tables.{Tables}
+use Rattle.zre_node.specs.declared.effects.Effects.{Effects}
+use Rattle.zre_node.specs.Tabled.{Tabled}
+
+-- ---- a known peer
+
+-- the run that connection c carries has taken these messages of this peer
+pub record IsRunning (c : ℕ) (id : PeerId) (messages : List Message) (x : Running) : Type 0 where
+  pub conn : x.conn ≡ c
+  pub stands : Stands x.run messages
+  pub of : id_of x.run ≡ id
+
+-- a run, where some connection carries one
+abbrev pub HasRun : Option ℕ → PeerId → List Message → Option Running → Type 0
+HasRun None id messages o = o ≡ None
+HasRun (Some c) id messages o = (x : Running) × (o ≡ Some x) × IsRunning c id messages x
+
+pub record IsKept (id : PeerId) (now : ℕ) (run : Option ℕ) (messages : List Message) (link : Sending) (k : Peer) : Type 0 where
+  pub id_is : k.id ≡ id
+  pub active_is : k.active ≡ now
+  pub run_is : HasRun run id messages k.run
+  pub link_is : k.link ≡ link
+
+-- what stands on the link of a life
+abbrev pub link_of_life : Config → List Mark → ℕ → Sending
+link_of_life g H l = link_after g.id (bodies l H) (is_linked l H) (replies l H) (taken l H)
+
+-- what is kept of a life
+abbrev pub IsPeer : Config → List Mark → Life → Peer → Type 0
+IsPeer g H v k = IsKept v.id (active v.link H) (runner v.link H) (counted v.link H) (link_of_life g H v.link) k
+
+-- ---- an open connection
+
+-- what reads it: nothing, where it is ignored
+abbrev pub heard_by : Bool → PeerId → List ℕ → Option Hearing
+heard_by true own o = None
+heard_by false own o = Some (conn_after own o)
+
+-- what is kept of an open connection
+abbrev pub kept_conn : Config → List Mark → ℕ → Connection
+kept_conn g H c = record { since = since c H; identity = identity c H; run = runs c H; conn = heard_by (is_ignored c H) g.id (bytes c H) }
+
+abbrev pub IsConn : Config → List Mark → ℕ → Connection → Type 0
+IsConn g H c k = k ≡ kept_conn g H c
+
+-- ---- the tables
+
+abbrev pub is_above : Option ℕ → ℕ → Bool
+is_above None c = true
+is_above (Some n) c = nat_lt n c
+
+-- all but the table of peers
+pub record Keeps (g : Config) (H : List Mark) (t : Tables) : Type 0 where
+  pub valid : is_valid g ≡ true
+  pub proper : IsProper H
+  pub going : has_stopped H ≡ false
+  pub awake : t.stopped ≡ false
+  pub config : t.config ≡ g
+  pub clock_is : t.clock ≡ clock H
+  pub births_is : t.births ≡ births H
+  pub last_is : (c : ℕ) → is_new c H ≡ is_above t.last c
+  pub groups_fit : AllByRecursion (λ group. length group ≤ 255) (groups H)
+  pub own : t.own ≡ record { groups = groups H; status = status H }
+  pub conns : Tabled (λ (c : ℕ). c) (IsConn g H) (open_ones H) t.conns.entries
+
+-- the node keeps what follows from the chronicle H, and goes on
+pub record Holds (g : Config) (H : List Mark) (t : Tables) : Type 0 where
+  pub keeps : Keeps g H t
+  pub peers : Tabled (λ (v : Life). v.link) (IsPeer g H) (lives H) t.peers.entries
+
+-- ---- a peer that ends
+
+-- the view of its run is the one before a refused message
+abbrev pub HadRun : Option ℕ → List Message → Option Running → Type 0
+HadRun None messages o = o ≡ None
+HadRun (Some c) messages o = (x : Running) × (o ≡ Some x) × (x.conn ≡ c) × (view_in x.run ≡ shown messages)
+
+-- what its end needs of a peer
+pub record IsLeaving (H : List Mark) (v : Life) (k : Peer) : Type 0 where
+  pub id_is : k.id ≡ v.id
+  pub run_is : HadRun (runner v.link H) (counted v.link H) k.run
+
+-- the row of link l may be that of a run that has refused a message
+pub record IsBut (g : Config) (H : List Mark) (l : ℕ) (v : Life) (k : Peer) : Type 0 where
+  pub leaving : IsLeaving H v k
+  pub staying : nat_eq l v.link ≡ false → IsPeer g H v k
+
+-- the node keeps what follows from H but for the peer of link l, which is to end
+pub record Nearly (g : Config) (H : List Mark) (l : ℕ) (t : Tables) : Type 0 where
+  pub keeps : Keeps g H t
+  pub peers : Tabled (λ (v : Life). v.link) (IsBut g H l) (lives H) t.peers.entries
+
+-- the same, with that peer taken out
+pub record Parted (g : Config) (H : List Mark) (l : ℕ) (k : Peer) (t : Tables) : Type 0 where
+  pub keeps : Keeps g H t
+  pub gone : Life
+  pub known : life l H ≡ Some gone
+  pub leaving : IsLeaving H gone k
+  pub peers : Tabled (λ (v : Life). v.link) (IsPeer g H) (other_lives l (lives H)) t.peers.entries
+
+-- ---- what calls do
+
+-- a call has left these marks, behind H
+pub record Did (g : Config) (hs H : List Mark) (t : Tables) (before now : Effects) : Type 0 where
+  pub holds : Holds g (after hs H) t
+  pub events : now.events ≡ before.events ++ told hs H
+  pub acts : now.acts ≡ before.acts ++ done g.id hs
+  pub pushed : (l : ℕ) → list_any (nat_eq l) now.pushed ≡ (list_any (nat_eq l) before.pushed || list_any (puts l) hs)
+
+-- the node has stopped
+pub record Rests (H : List Mark) (t : Tables) : Type 0 where
+  pub stopped : has_stopped H ≡ true
+  pub asleep : t.stopped ≡ true
+  pub none_known : lives H ≡ []
+  pub no_peers : t.peers.entries ≡ []
+
+-- a stop has left its marks, behind H
+pub record Stopped (g : Config) (H : List Mark) (t : Tables) (before now : Effects) : Type 0 where
+  pub rests : Rests (after (at_stop g H) H) t
+  pub events : now.events ≡ before.events ++ told (at_stop g H) H
+  pub acts : now.acts ≡ before.acts ++ done g.id (at_stop g H)
+
+-- ---- searches
+
+-- the number of the first row with this id
+abbrev pub link_among : PeerId → List (ℕ × Peer) → Option ℕ
+link_among p [] = None
+link_among p (e ∷ es) = if bytes_eq p.0 e.1.id.0 then Some e.0 else link_among p es
+
+-- the number of the first other row with this identity
+abbrev pub other_among : PeerId → ℕ → List (ℕ × Connection) → Option ℕ
+other_among p c [] = None
+other_among p c (e ∷ es) = if not (nat_eq c e.0) && is_same p e.1.identity then Some e.0 else other_among p c es
+
+-- these are links of known peers, each once
+abbrev pub AreKnown : List Mark → List ℕ → Type 0
+AreKnown H [] = Unit {0}
+AreKnown H (l ∷ ls) = IsSome (life l H) × AllByRecursion (λ k. nat_eq l k ≡ false) ls × AreKnown H ls
+
+-- no connection runs a peer
+abbrev pub RunNone : List Mark → Type 0
+RunNone H = (c : ℕ) → runs c H ≡ None

@@ -1,0 +1,139 @@
+//! Peers are born, and their beacons are heard.
+
+ghost use Rattle.std.specs.Prelude.{◌≡◌, List, ℕ, ◌∷◌, [], OnOk, IfOk, IsSome, false, length};
+ghost use Rattle.zre_journal.specs.declared.config.Config.{Config};
+ghost use Rattle.zre_journal.specs.Chronicle.{Mark, Ends, Beacons};
+ghost use Rattle.zre_journal.specs.Config.{own_endpoint};
+ghost use Rattle.zre_journal.specs.Peers.{life};
+ghost use Rattle.zre_journal.specs.Happens.{hello, is_welcome as welcome, at_datagram, birth};
+ghost use Rattle.zre_beacon.specs.Beacon.{beacon_in};
+ghost use Rattle.zre_msg.specs.declared.message.Body.{Body as BodyValue};
+ghost use Rattle.zre_link.specs.Link.{link_after};
+ghost use Rattle.zre_node.specs.Stands.{Keeps, Holds, Did};
+
+use crate::effects::Effects;
+use crate::peer::Peer;
+use crate::tables::{Tables, link_of};
+use zre_beacon::Beacon;
+use zre_link::{Link, PushFault};
+use zre_msg::Body;
+use zre_outside::Act;
+use zre_peer::Cause;
+use zre_values::limits::PEERS;
+use zre_values::{Endpoint, Frames, Octets, OutOfMemory, Pairs, PeerId};
+
+impl Tables {
+    // The groups that the node is in, copied.
+    fn groups(&self) -> Result<Frames, OutOfMemory>
+        ensures { IfOk result (λ groups. groups ≡ self.now.own.groups) }
+    {
+        let mut groups = Frames::new(self.alloc);
+        for i in 0..self.own.len() {
+            groups.push(Octets::copy(self.alloc, self.own.get(i))?)?;
+        }
+        Ok(groups)
+    }
+
+    // HELLO, as it is put on a link that is made now.
+    fn hello(&self) -> Result<Body, OutOfMemory>
+        ensures { IfOk result (λ b. b ≡ BodyValue.Hello (own_endpoint self.now.config) self.now.own.groups
+            self.now.own.status self.now.config.name self.now.config.headers) }
+    {
+        let mailbox = Endpoint {
+            addr: self.config.host,
+            port: self.config.port,
+        };
+        Ok(Body::Hello {
+            endpoint: mailbox.write(self.alloc)?,
+            groups: self.groups()?,
+            status: self.own.status(),
+            name: Octets::copy(self.alloc, self.config.name.as_slice())?,
+            headers: Pairs::copy(self.alloc, &self.config.headers)?,
+        })
+    }
+
+    // A link on which HELLO is put.
+    fn greeted_link(&self) -> Result<Link, OutOfMemory>
+        ensures { (g : Config) (H : List Mark) → Keeps g H self.now →
+            IfOk result (λ link. link ≡ link_after g.id (hello g H ∷ []) false [] 0) }
+    {
+        let mut link = Link::new(self.alloc, self.config.id)?;
+        match link.push(&mut self.hello()?) {
+            Ok(()) => Ok(link),
+            Err(PushFault::OutOfMemory) => Err(OutOfMemory),
+            Err(PushFault::Slow { .. }) => Err(OutOfMemory),
+        }
+    }
+
+    /// A peer is born: a link to its endpoint is asked for, and HELLO is put on it.
+    pub fn born(
+        &mut self,
+        out: &mut Effects,
+        id: PeerId,
+        to: Endpoint,
+    ) -> Result<(), OutOfMemory>
+        ensures { (g : Config) (H : List Mark) → Holds g H self.old →
+            OnOk result (Did g (birth g id to H) H self.new out.old out.new) }
+    {
+        let Some(births) = self.births.checked_add(1) else {
+            return Err(OutOfMemory);
+        };
+        let peer = Peer {
+            id,
+            active: self.clock,
+            run: None,
+            link: self.greeted_link()?,
+        };
+        self.births = births;
+        self.peers.insert(births, peer)?;
+        out.pushed.push(births)?;
+        out.act(Act::Connect { link: births, to })
+    }
+
+    // A beacon of a known peer is heard.
+    fn renew(&mut self, link: u64)
+        ensures { (g : Config) (H : List Mark) → Holds g H self.old → IsSome (life link H) →
+            Holds g (Beacons link ∷ H) self.new }
+    {
+        if let Some(peer) = self.peers.get_mut(&link) {
+            peer.active = self.clock;
+        }
+    }
+
+    // Whether a beacon of an unknown peer makes it known.
+    fn is_welcome(&self, id: PeerId, port: u16) -> bool
+        ensures { result ≡ welcome self.now.config id port (length self.now.peers.entries) }
+    {
+        port != 0 && id != self.config.id && self.peers.len() < PEERS
+    }
+
+    /// A datagram comes.
+    pub fn datagram(
+        &mut self,
+        out: &mut Effects,
+        from: [u8; 4],
+        bytes: &[u8],
+    ) -> Result<(), OutOfMemory>
+        ensures { (g : Config) (H : List Mark) → Holds g H self.old →
+            OnOk result (Did g (at_datagram g from (beacon_in bytes.now) H) H self.new out.old out.new) }
+    {
+        let Some(Beacon { id, port }) = Beacon::read(bytes) else {
+            return Ok(());
+        };
+        match link_of(&self.peers, id) {
+            Some(link) => {
+                if port == 0 {
+                    return self.end(out, link, Cause::Beacon);
+                }
+                self.renew(link);
+                Ok(())
+            }
+            None => {
+                if !self.is_welcome(id, port) {
+                    return Ok(());
+                }
+                self.born(out, id, Endpoint { addr: from, port })
+            }
+        }
+    }
+}

@@ -1,0 +1,112 @@
+//! What a step gives.
+
+ghost use Rattle.std.specs.Prelude.{◌≡◌, ◌∷◌, [], ◌++◌, List, IfOk, OnOk};
+ghost use Rattle.zre_peer.specs.declared.event.Event.{Event as EventValue};
+ghost use Rattle.zre_outside.specs.declared.act.Act.{Act as ActValue};
+ghost use Rattle.zre_journal.specs.Done.{close_link as closing};
+ghost use Rattle.zre_peer.specs.Views.{view_of};
+ghost use Rattle.zre_msg.specs.declared.message.Message.{Message};
+ghost use Rattle.zre_peer.specs.Runs.{shown};
+ghost use Rattle.zre_peer.specs.Standing.{view_in};
+
+use std::alloc::Global;
+use zre_outside::{Act, Acts};
+use zre_peer::{Cause, CloseWhy, Event, Events, IgnoreWhy, Run};
+use zre_values::{Keys, Octets, OutOfMemory, PeerId};
+
+/// What one entry brought about: what the user is told, and what the node asks of the outside.
+#[derive(Drop)]
+pub struct Step {
+    pub events: Events,
+    pub acts: Acts,
+}
+
+/// The same while an entry is taken, with the links on which something was put.
+#[derive(Drop)]
+pub struct Effects {
+    pub events: Events,
+    pub acts: Acts,
+    pub pushed: Keys,
+}
+
+impl Effects {
+    /// Nothing yet.
+    pub fn new(alloc: Global) -> Self
+        ensures { result ≡ record { events = []; acts = []; pushed = [] } }
+    {
+        Effects {
+            events: Events::new(alloc),
+            acts: Acts::new(alloc),
+            pushed: Keys::new(alloc),
+        }
+    }
+
+    pub fn act(&mut self, act: Act) -> Result<(), OutOfMemory>
+        ensures { OnOk result (self.new ≡ record self.old { acts = self.old.acts ++ act ∷ [] }) }
+    {
+        self.acts.push(act)
+    }
+
+    pub fn tell(&mut self, event: Event) -> Result<(), OutOfMemory>
+        ensures { OnOk result (self.new ≡ record self.old { events = self.old.events ++ event ∷ [] }) }
+    {
+        self.events.push(event)
+    }
+
+    /// EXIT of an entered peer, with the name that it has told.
+    pub fn exit(
+        &mut self,
+        alloc: Global,
+        id: PeerId,
+        run: &Run,
+        cause: Cause,
+    ) -> Result<(), OutOfMemory>
+        ensures { (ms : List Message) → view_in run.now ≡ shown ms →
+            OnOk result (self.new ≡ record self.old { events = self.old.events ++ EventValue.Exit id (view_of ms).name cause ∷ [] }) }
+    {
+        let name = name_of(alloc, run)?;
+        self.tell(Event::Exit { id, name, cause })
+    }
+
+    /// A connection is closed, and the user is told why.
+    pub fn close(&mut self, conn: u64, why: CloseWhy) -> Result<(), OutOfMemory>
+        ensures { OnOk result (self.new ≡ record self.old {
+            events = self.old.events ++ EventValue.Closed conn why ∷ []; acts = self.old.acts ++ ActValue.CloseConn conn ∷ [] }) }
+    {
+        self.tell(Event::Closed { conn, why })?;
+        self.act(Act::CloseConn { conn })
+    }
+
+    /// The first message of a connection is refused.
+    pub fn ignored(&mut self, conn: u64, why: IgnoreWhy) -> Result<(), OutOfMemory>
+        ensures { OnOk result (self.new ≡ record self.old { events = self.old.events ++ EventValue.Ignored conn why ∷ [] }) }
+    {
+        self.tell(Event::Ignored { conn, why })
+    }
+
+    pub fn answer(&mut self, conn: u64, bytes: Octets) -> Result<(), OutOfMemory>
+        ensures { OnOk result (self.new ≡ record self.old { acts = self.old.acts ++ ActValue.Answer conn bytes ∷ [] }) }
+    {
+        self.act(Act::Answer { conn, bytes })
+    }
+
+    /// The link of a peer that ends is closed, unless it was lost.
+    pub fn close_link(&mut self, link: u64, cause: Cause) -> Result<(), OutOfMemory>
+        ensures { OnOk result (self.new ≡ record self.old { acts = self.old.acts ++ closing link cause }) }
+    {
+        match cause {
+            Cause::Link => Ok(()),
+            _ => self.act(Act::CloseLink { link }),
+        }
+    }
+}
+
+// The name that a peer has told, and none before its HELLO.
+fn name_of(alloc: Global, run: &Run) -> Result<Octets, OutOfMemory>
+    ensures { (ms : List Message) → view_in run.now ≡ shown ms → IfOk result (λ name. name ≡ (view_of ms).name) }
+{
+    match run.view() {
+        Some(view) => Octets::copy(alloc, view.name()),
+        None => Ok(Octets::new(alloc)),
+    }
+}

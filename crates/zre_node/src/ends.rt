@@ -1,0 +1,79 @@
+//! Peers end.
+
+ghost use Rattle.std.specs.Prelude.{◌≡◌, List, ℕ, ◌∷◌, [], None, OnOk, IsSome, Some, map};
+ghost use Rattle.std.specs.Ordering.{nat_cmp};
+ghost use Rattle.std.specs.BTreeMap.{is_at};
+ghost use Rattle.std.specs.Map.{lookup, set_value};
+ghost use Rattle.zre_journal.specs.declared.config.Config.{Config};
+ghost use Rattle.zre_journal.specs.Chronicle.{Mark, Ends};
+ghost use Rattle.zre_journal.specs.Peers.{life};
+ghost use Rattle.zre_node.specs.Stands.{Holds, Nearly, Parted, Did, AreKnown};
+ghost use Rattle.zre_node.specs.declared.connection.Connection.{Connection as ConnectionValue};
+
+use crate::connection::Connection;
+use crate::effects::Effects;
+use crate::peer::Peer;
+use crate::tables::Tables;
+use std::collections::BTreeMap;
+use zre_peer::Cause;
+use zre_values::OutOfMemory;
+
+/// The connection is ignored from now on, if it is open.
+pub fn ignore(conns: &mut BTreeMap<u64, Connection>, conn: u64, now: u64)
+    ensures found { (x : ConnectionValue) → lookup (is_at (nat_cmp conn)) conns.old.entries ≡ Some x →
+        conns.new.entries ≡ set_value (is_at (nat_cmp conn)) conns.old.entries (record x { since = now; run = None; conn = None }) }
+{
+    if let Some(found) = conns.get_mut(&conn) {
+        found.since = now;
+        found.run = None;
+        found.conn = None;
+    }
+}
+
+impl Tables {
+    // What is left to do where a peer that has ended was taken out of its table.
+    fn part(
+        &mut self,
+        out: &mut Effects,
+        link: u64,
+        peer: Peer,
+        cause: Cause,
+    ) -> Result<(), OutOfMemory>
+        ensures { (g : Config) (H : List Mark) → Parted g H link peer self.old →
+            OnOk result (Did g (Ends link cause ∷ []) H self.new out.old out.new) }
+    {
+        if let Some(running) = &peer.run {
+            ignore(&mut self.conns, running.conn, self.clock);
+            out.exit(self.alloc, peer.id, &running.run, cause)?;
+        }
+        out.close_link(link, cause)
+    }
+
+    /// The known peer of this link ends: the user is told, where it was entered, its connection is ignored from now on, and
+    /// its link is closed.
+    pub fn end(&mut self, out: &mut Effects, link: u64, cause: Cause) -> Result<(), OutOfMemory>
+        ensures { (g : Config) (H : List Mark) → Nearly g H link self.old → IsSome (life link H) →
+            OnOk result (Did g (Ends link cause ∷ []) H self.new out.old out.new) }
+    {
+        let Some(peer) = self.peers.remove(&link) else {
+            return Ok(());
+        };
+        self.part(out, link, peer, cause)
+    }
+
+    /// The known peers of these links end, one after the other.
+    pub fn end_all(
+        &mut self,
+        out: &mut Effects,
+        links: &[u64],
+        cause: Cause,
+    ) -> Result<(), OutOfMemory>
+        ensures { (g : Config) (H : List Mark) → Holds g H self.old → AreKnown H links.now →
+            OnOk result (Did g (map (λ l. Ends l cause) links.now) H self.new out.old out.new) }
+    {
+        for link in links {
+            self.end(out, *link, cause)?;
+        }
+        Ok(())
+    }
+}

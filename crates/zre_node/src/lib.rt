@@ -1,0 +1,15 @@
+//! The core of a node: entries of a journal come in one by one, and events and acts come out. It has no clock, no socket
+//! and no thread; what the journal means stands in `zre_journal`.
+#![tactic(auto)]
+
+mod births;
+mod connection;
+mod connections;
+mod effects;
+mod ends;
+mod peer;
+mod pushes;
+mod stops;
+mod tables;
+
+pub use effects::Step;
