@@ -107,6 +107,7 @@ module _ (g : Config) (H : List Mark) (l : ℕ) (k : Peer) (t : Tables) (p : Par
       going = p.keeps.going;
       awake = p.keeps.awake;
       config = p.keeps.config;
+      mailbox = p.keeps.mailbox;
       clock_is = p.keeps.clock_is;
       births_is = p.keeps.births_is;
       last_is = p.keeps.last_is;
@@ -165,3 +166,11 @@ module _ (g : Config) (H : List Mark) (l : ℕ) (k : Peer) (t : Tables) (p : Par
       ended t.conns a s (with_conns t.conns (retold (λ (c : ℕ). c) (IsConn g H) (IsConn g (Ends l why ∷ H))
         (λ c w is. is ∙ unmoved g H l why known.0 c (λ z. let u : None ≡ Some c = sym r ∙ run_is H p.keeps.proper c l z in cc)) (open_ones H) t.conns.entries p.keeps.conns))
       (ev ∙ sym (append-nil a.events) ∙ ap (λ es. a.events ++ es) (sym (no_exit r))) ac pu
+
+-- whether a number has a row
+pub some_row : (g : Config) (H : List Mark) (t : Tables) → Keeps g H t → (c : ℕ) → is_some (lookup (is_at (nat_cmp c)) t.conns.entries) ≡ is_open c H
+some_row g H t k c = by (lookup (is_at (nat_cmp c)) t.conns.entries) refl
+  where
+    by : (o : Option Connection) → lookup (is_at (nat_cmp c)) t.conns.entries ≡ o → is_some o ≡ is_open c H
+    by None e = sym (no_conn g H t k c (sym e))
+    by (Some x) e = sym (row_conn g H t k c x (sym e)).0

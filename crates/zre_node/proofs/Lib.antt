@@ -1,6 +1,10 @@
+pub mod Birth
+pub mod Copying
 pub mod Ending
 pub mod Entries
 pub mod Many
 pub mod Naming
 pub mod Opening
 pub mod Parting
+pub mod Pushing
+pub mod Stopping

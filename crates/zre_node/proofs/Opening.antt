@@ -4,6 +4,7 @@ use Rattle.std.specs.List.{AllByRecursion, list_any}
 use Rattle.std.specs.BTreeMap.{BTreeMap, is_at, insert_entry}
 use Rattle.std.specs.Map.{lookup, remove_entry}
 use Rattle.zre_peer.specs.declared.causes.Cause.{Cause}
+use Rattle.zre_peer.specs.declared.causes.Cause.TheVariants as cause
 use Rattle.zre_peer.specs.declared.causes.CloseWhy.{CloseWhy}
 use Rattle.zre_mailbox.specs.Conn.{conn_after}
 use Rattle.zre_journal.specs.declared.config.Config.{Config}
@@ -14,7 +15,7 @@ use Rattle.zre_journal.specs.Peers.{Life, lives, births}
 use Rattle.zre_journal.specs.Links.{groups, status}
 use Rattle.zre_journal.specs.Proper.{IsProper}
 use Rattle.zre_journal.specs.Happens.{has_stopped, at_opened, at_shut, end_of_run}
-use Rattle.zre_journal.proofs.Kept.{Opens-proper, TurnsAway-proper, Closes-proper, IsShut-proper, Drops-proper}
+use Rattle.zre_journal.proofs.Kept.{has_started, Opens-proper, TurnsAway-proper, Closes-proper, IsShut-proper, Drops-proper}
 use Rattle.zre_journal.proofs.Listed.{All-map}
 use Rattle.zre_node.specs.declared.connection.Connection.{Connection}
 use Rattle.zre_node.specs.declared.tables.Tables.{Tables}
@@ -38,6 +39,7 @@ with_conns g H K t o C h proper same_clock same_births same_lives peers going sa
     going = going ∙ h.keeps.going;
     awake = h.keeps.awake;
     config = h.keeps.config;
+    mailbox = h.keeps.mailbox;
     clock_is = h.keeps.clock_is ∙ sym same_clock;
     births_is = h.keeps.births_is ∙ sym same_births;
     last_is = last;
@@ -106,3 +108,24 @@ module _ (g : Config) (H : List Mark) (t : Tables) (h : Holds g H t) (c : ℕ) (
 pub drops_run : (cs : List ℕ) (H : List Mark) → RunNone H → RunNone (after (map (λ c. Drops c) cs) H)
 drops_run [] H none = none
 drops_run (c ∷ cs) H none = drops_run cs (Drops c ∷ H) none
+
+-- ---- the run of a connection ends
+
+-- then it runs no peer
+pub idle_then : (g : Config) (H : List Mark) → IsProper H → (c : ℕ) (why : Cause) → runs c (after (end_of_run g (runs c H) why) H) ≡ None
+idle_then g H p c why = by (runs c H) refl
+  where
+    by : (o : Option ℕ) → runs c H ≡ o → runs c (after (end_of_run g o why) H) ≡ None
+    by None e = e
+    by (Some l) e = let s = has_started H p c l e in let me : eqb l l ≡ true = eq-eqb l l refl in rw (s.0, me) refl
+
+-- and is open as before
+pub open_then : (g : Config) (o : Option ℕ) (why : Cause) (c : ℕ) (H : List Mark) → is_open c (after (end_of_run g o why) H) ≡ is_open c H
+open_then g None why c H = refl
+open_then g (Some l) why c H = refl
+
+pub shut_not_open : (g : Config) (c : ℕ) (H : List Mark) → is_open c H ≡ false → at_shut g c H ≡ []
+shut_not_open g c H e = rw e refl
+
+pub shut_open : (g : Config) (c : ℕ) (H : List Mark) → is_open c H ≡ true → at_shut g c H ≡ end_of_run g (runs c H) cause.Shut ++ IsShut c ∷ []
+shut_open g c H e = rw e refl

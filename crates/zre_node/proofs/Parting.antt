@@ -23,6 +23,7 @@ keeps_with g H t k P = record {
   going = k.going;
   awake = k.awake;
   config = k.config;
+  mailbox = k.mailbox;
   clock_is = k.clock_is;
   births_is = k.births_is;
   last_is = k.last_is;

@@ -13,7 +13,7 @@ use Rattle.zre_mailbox.specs.Conn.{Hearing, conn_after}
 use Rattle.zre_link.specs.Link.{Sending, link_after}
 use Rattle.zre_journal.specs.declared.config.Config.{Config}
 use Rattle.zre_journal.specs.Chronicle.{Mark, after}
-use Rattle.zre_journal.specs.Config.{is_valid}
+use Rattle.zre_journal.specs.Config.{is_valid, own_endpoint}
 use Rattle.zre_journal.specs.Heard.{clock, bytes}
 use Rattle.zre_journal.specs.Connections.{open_ones, is_new, is_ignored, identity, runs, since, is_same, has_ended}
 use Rattle.zre_journal.specs.Peers.{Life, life, lives, other_lives, births, active, runner, counted}
@@ -83,6 +83,7 @@ pub record Keeps (g : Config) (H : List Mark) (t : Tables) : Type 0 where
   pub going : has_stopped H ≡ false
   pub awake : t.stopped ≡ false
   pub config : t.config ≡ g
+  pub mailbox : t.mailbox ≡ own_endpoint g
   pub clock_is : t.clock ≡ clock H
   pub births_is : t.births ≡ births H
   pub last_is : (c : ℕ) → is_new c H ≡ is_above t.last c

@@ -1,9 +1,10 @@
 //! Peers are born, and their beacons are heard.
 
 ghost use Rattle.std.specs.Prelude.{◌≡◌, List, ℕ, ◌∷◌, [], OnOk, IfOk, IsSome, false, length};
+ghost use Rattle.std.specs.Ordering.{nat_cmp};
+ghost use Rattle.std.specs.BTreeMap.{insert_entry};
 ghost use Rattle.zre_journal.specs.declared.config.Config.{Config};
 ghost use Rattle.zre_journal.specs.Chronicle.{Mark, Ends, Beacons};
-ghost use Rattle.zre_journal.specs.Config.{own_endpoint};
 ghost use Rattle.zre_journal.specs.Peers.{life};
 ghost use Rattle.zre_journal.specs.Happens.{hello, is_welcome as welcome, at_datagram, birth};
 ghost use Rattle.zre_beacon.specs.Beacon.{beacon_in};
@@ -14,13 +15,26 @@ ghost use Rattle.zre_node.specs.Stands.{Keeps, Holds, Did};
 use crate::effects::Effects;
 use crate::peer::Peer;
 use crate::tables::{Tables, link_of};
+use std::collections::BTreeMap;
 use zre_beacon::Beacon;
 use zre_link::{Link, PushFault};
-use zre_msg::Body;
+use zre_msg::{Body, Message};
 use zre_outside::Act;
 use zre_peer::Cause;
 use zre_values::limits::PEERS;
 use zre_values::{Endpoint, Frames, Octets, OutOfMemory, Pairs, PeerId};
+
+// A new peer is listed.
+fn list(
+    peers: &mut BTreeMap<u64, Peer>,
+    link: u64,
+    peer: Peer,
+) -> Result<(), OutOfMemory>
+    ensures { OnOk result (peers.new.entries ≡ insert_entry nat_cmp peers.old.entries link peer) }
+{
+    peers.insert(link, peer)?;
+    Ok(())
+}
 
 impl Tables {
     // The groups that the node is in, copied.
@@ -36,15 +50,11 @@ impl Tables {
 
     // HELLO, as it is put on a link that is made now.
     fn hello(&self) -> Result<Body, OutOfMemory>
-        ensures { IfOk result (λ b. b ≡ BodyValue.Hello (own_endpoint self.now.config) self.now.own.groups
+        ensures { IfOk result (λ b. b ≡ BodyValue.Hello self.now.mailbox self.now.own.groups
             self.now.own.status self.now.config.name self.now.config.headers) }
     {
-        let mailbox = Endpoint {
-            addr: self.config.host,
-            port: self.config.port,
-        };
         Ok(Body::Hello {
-            endpoint: mailbox.write(self.alloc)?,
+            endpoint: Octets::copy(self.alloc, self.mailbox.as_slice())?,
             groups: self.groups()?,
             status: self.own.status(),
             name: Octets::copy(self.alloc, self.config.name.as_slice())?,
@@ -52,16 +62,22 @@ impl Tables {
         })
     }
 
-    // A link on which HELLO is put.
+    // A link on which HELLO is put. HELLO of settings that are valid fits, and is far from the limit of a link.
     fn greeted_link(&self) -> Result<Link, OutOfMemory>
         ensures { (g : Config) (H : List Mark) → Keeps g H self.now →
             IfOk result (λ link. link ≡ link_after g.id (hello g H ∷ []) false [] 0) }
     {
         let mut link = Link::new(self.alloc, self.config.id)?;
-        match link.push(&mut self.hello()?) {
+        let mut hello = Message {
+            sequence: 1,
+            body: self.hello()?,
+        };
+        if !hello.fits() {
+            return Err(OutOfMemory);
+        }
+        match link.push(&mut hello.body) {
             Ok(()) => Ok(link),
-            Err(PushFault::OutOfMemory) => Err(OutOfMemory),
-            Err(PushFault::Slow { .. }) => Err(OutOfMemory),
+            Err(PushFault::OutOfMemory) | Err(PushFault::Slow { .. }) => Err(OutOfMemory),
         }
     }
 
@@ -85,7 +101,7 @@ impl Tables {
             link: self.greeted_link()?,
         };
         self.births = births;
-        self.peers.insert(births, peer)?;
+        list(&mut self.peers, births, peer)?;
         out.pushed.push(births)?;
         out.act(Act::Connect { link: births, to })
     }

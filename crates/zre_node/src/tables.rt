@@ -11,7 +11,7 @@ use std::alloc::Global;
 use std::collections::BTreeMap;
 use zre_group::Own;
 use zre_journal::Config;
-use zre_values::{OutOfMemory, PeerId};
+use zre_values::{Octets, OutOfMemory, PeerId};
 
 /// The tables of a node: the known peers by their links, which rise with their births, and the open connections by their
 /// numbers.
@@ -19,6 +19,8 @@ use zre_values::{OutOfMemory, PeerId};
 pub struct Tables {
     pub alloc: Global,
     pub config: Config,
+    /// The endpoint that its HELLO names.
+    pub mailbox: Octets,
     pub clock: u64,
     pub births: u64,
     /// The greatest number of a connection that came.

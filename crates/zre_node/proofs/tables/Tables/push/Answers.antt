@@ -1,20 +1,35 @@
-use Rattle.std.proofs.Common.{rules, ◌≡◌, List, ◌∷◌, [], OnOk, IsSome, ℕ, ◌+◌, ◌-◌, ◌*◌, ◌<◌, ◌≤◌, length, ◌/◌, ◌%◌, Bool, true, false, nat_eq, nat_lt, ◌++◌, slice_index_or, slice_set, bit_and, bit_or, Fits, w8, w32, w64, Bor, MutBor}
-use Rattle.zre_journal.specs.declared.config.Config.{Config}
-use Rattle.zre_journal.specs.Chronicle.{Mark}
+use Rattle.std.proofs.Common.{◌≡◌, [], ◌∷◌, refl, ap, ◌∙◌}
+use Rattle.zre_journal.specs.Chronicle.{Puts}
+use Rattle.zre_journal.specs.Links.{bodies, is_linked, replies, taken}
 use Rattle.zre_journal.specs.Peers.{life}
-use Rattle.zre_journal.specs.Happens.{push as pushing}
-use Rattle.zre_msg.specs.Spelling.{FitsBody}
-use Rattle.zre_node.specs.Stands.{Holds, Did}
+use Rattle.zre_node.specs.Stands.{IsPeer}
+use Rattle.zre_node.proofs.Ending.{on_ok}
+use Rattle.zre_node.proofs.Many.{did_as}
+use Rattle.zre_node.proofs.Parting.{nearly, no_row, not_missing}
+use Rattle.zre_node.proofs.Pushing.{row_link, written_back, puts_it, fits, is_slow, put_did}
 use Rattle.zre_node.proofs.tables.Tables.push.Goals as goal
 
--- src/pushes.rt:32:13
 pub returns-in_default-clause-did : goal.returns-in_default-clause-did
-returns-in_default-clause-did c = ?
+returns-in_default-clause-did c = λ g K h s.
+    not_missing (life c.args.link K) s (no_row (IsPeer g K) K c.args.self.now.peers.entries h.peers c.args.link c.in_default.ensures.value)
 
--- src/pushes.rt:20:5
 pub returns-in-Ok-clause-did : goal.returns-in-Ok-clause-did
-returns-in-Ok-clause-did c = ?
+returns-in-Ok-clause-did c = λ g K h s.
+    let l = c.args.link in
+    let k = c.in-Some.peer.now in
+    let link = row_link g K c.args.self.now h l k c.in-Some.ensures.value in
+    let put = c.in-Ok.ensures.ok g.id (bodies l K) (is_linked l K) (replies l K) (taken l K) link in
+    on_ok c.push-in-Ok.result c.push-in-Ok.ensures.ok (λ noted. did_as g _ (Puts l c.args.body.now ∷ []) K _ _ _ (fits g l c.args.body.now K put.0)
+    (put_did g l c.args.body.now K _ c.args.out.now _
+      (puts_it g K c.args.self.now h l k c.in-Some.ensures.value c.args.body.now c.push.new.self (c.get_mut.follows.lender (record k { link = c.push.new.self })) put.1 (c.get_mut.follows.holds (record k { link = c.push.new.self })).0)
+      refl refl noted))
 
--- src/pushes.rt:20:5
 pub returns-in-Err-Slow-clause-did : goal.returns-in-Err-Slow-clause-did
-returns-in-Err-Slow-clause-did c = ?
+returns-in-Err-Slow-clause-did c = λ g K h s.
+    let l = c.args.link in
+    let k = c.in-Some.peer.now in
+    let link = row_link g K c.args.self.now h l k c.in-Some.ensures.value in
+    let all = rw c.in-Err-Slow.field-0-is at c.in-Err-Slow.ensures.refused in
+    let slow = all g.id (bodies l K) (is_linked l K) (replies l K) (taken l K) link in
+    let back = written_back g K c.args.self.now h l k c.in-Some.ensures.value c.push.new.self (c.get_mut.follows.lender (record k { link = c.push.new.self })) c.in-Err-Slow.ensures.unchanged (c.get_mut.follows.holds (record k { link = c.push.new.self })).0 in
+    rw (is_slow g l c.args.body.now K c.in-Err-Slow.unsent c.in-Err-Slow.size slow.unsent_is slow.size_is slow.above) (c.end.ensures g K (nearly g K l _ back) s)

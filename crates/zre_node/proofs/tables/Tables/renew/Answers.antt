@@ -1,21 +1,12 @@
-use Rattle.std.proofs.Common.{rules, ◌≡◌, List, ℕ, ◌∷◌, [], OnOk, IfOk, IsSome, false, length, ◌+◌, ◌-◌, ◌*◌, ◌<◌, ◌≤◌, ◌/◌, ◌%◌, Bool, true, nat_eq, nat_lt, ◌++◌, slice_index_or, slice_set, bit_and, bit_or, Fits, w8, w32, w64, Bor, MutBor}
-use Rattle.zre_journal.specs.declared.config.Config.{Config}
-use Rattle.zre_journal.specs.Chronicle.{Mark, Ends, Beacons}
-use Rattle.zre_journal.specs.Config.{own_endpoint}
 use Rattle.zre_journal.specs.Peers.{life}
-use Rattle.zre_journal.specs.Happens.{hello}
-use Rattle.zre_journal.specs.Happens.{is_welcome as welcome}
-use Rattle.zre_journal.specs.Happens.{at_datagram, birth}
-use Rattle.zre_beacon.specs.Beacon.{beacon_in}
-use Rattle.zre_msg.specs.declared.message.Body.{Body as BodyValue}
-use Rattle.zre_link.specs.Link.{link_after}
-use Rattle.zre_node.specs.Stands.{Keeps, Holds, Did}
+use Rattle.zre_node.specs.Stands.{IsPeer}
+use Rattle.zre_node.proofs.Birth.{renewed}
+use Rattle.zre_node.proofs.Parting.{no_row, not_missing}
 use Rattle.zre_node.proofs.tables.Tables.renew.Goals as goal
 
--- src/births.rt:94:5
-pub returns-in-Some : goal.returns-in-Some
-returns-in-Some c = ?
-
--- src/births.rt:94:5
 pub returns-in_default : goal.returns-in_default
-returns-in_default c = ?
+returns-in_default c = λ g H h s.
+    not_missing (life c.args.link H) s (no_row (IsPeer g H) H c.args.self.now.peers.entries h.peers c.args.link c.in_default.ensures.value)
+
+pub returns-in-Some : goal.returns-in-Some
+returns-in-Some c = λ g H h s. renewed g H c.args.self.now h c.args.link c.in-Some.peer.now (c.get_mut.follows.lender _) c.in-Some.ensures.value (c.get_mut.follows.holds _).0

@@ -1,16 +1,23 @@
-use Rattle.std.proofs.Common.{rules, ◌≡◌, List, ◌∷◌, [], ◌++◌, true, false, None, OnOk, IfSome, MatchOption, map, ℕ, ◌+◌, ◌-◌, ◌*◌, ◌<◌, ◌≤◌, length, ◌/◌, ◌%◌, Bool, nat_eq, nat_lt, slice_index_or, slice_set, bit_and, bit_or, Fits, w8, w32, w64, Bor, MutBor}
-use Rattle.std.specs.Option.{option_map}
-use Rattle.zre_journal.specs.declared.config.Config.{Config}
-use Rattle.zre_journal.specs.Chronicle.{Mark, Closes, Drops}
-use Rattle.zre_journal.specs.Connections.{is_open, runs}
-use Rattle.zre_journal.specs.Happens.{at_opened, at_shut, end_of_run}
-use Rattle.zre_node.specs.Stands.{Holds, Did, RunNone}
+use Rattle.std.proofs.Common.{◌≡◌, ◌++◌, [], ◌∷◌, refl, sym, ◌∙◌}
+use Rattle.zre_journal.specs.Chronicle.{IsShut}
+use Rattle.zre_journal.specs.Connections.{runs}
+use Rattle.zre_journal.specs.Happens.{end_of_run}
+use Rattle.zre_peer.specs.declared.causes.Cause.TheVariants as cause
+use Rattle.zre_node.proofs.Ending.{some_row}
+use Rattle.zre_node.proofs.Many.{did_as, did_then, silent_did, idle_did}
+use Rattle.zre_node.proofs.Opening.{idle_then, is_shut, shut_not_open, shut_open}
 use Rattle.zre_node.proofs.tables.Tables.shut.Goals as goal
 
--- src/connections.rt:84:13
 pub returns-then-not-contains_key : goal.returns-then-not-contains_key
-returns-then-not-contains_key c = ?
+returns-then-not-contains_key c = λ g H h.
+    let o = sym (c.contains_key.ensures ∙ some_row g H c.args.self.now h.keeps c.args.conn) ∙ c.if-not-contains_key.true in
+    did_as g _ [] H _ _ _ (shut_not_open g c.args.conn H o) (idle_did g H c.args.self.now c.args.out.now h)
 
--- src/connections.rt:79:5
 pub returns : goal.returns
-returns c = ?
+returns c = λ g H h.
+    let o = sym (c.contains_key.ensures ∙ some_row g H c.args.self.now h.keeps c.args.conn) ∙ c.if-not-contains_key.false in
+    let ended = c.in_ok-end_run.ensures g H h o in
+    let idle = idle_then g H h.keeps.proper c.args.conn cause.Shut in
+    did_as g _ _ H _ _ _ (shut_open g c.args.conn H o)
+    (did_then g (end_of_run g (runs c.args.conn H) cause.Shut) (IsShut c.args.conn ∷ []) H c.end_run.new.self _ c.args.out.now c.end_run.new.out c.end_run.new.out ended
+    (silent_did g (IsShut c.args.conn) _ _ c.end_run.new.out (is_shut g _ c.end_run.new.self ended.holds c.args.conn idle c.remove.new.self c.remove.ensures.entries) refl refl (λ l. refl)))

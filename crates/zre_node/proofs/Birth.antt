@@ -1,0 +1,108 @@
+-- A birth and a beacon, at the tables.
+use Rattle.std.proofs.Common.{◌≡◌, ℕ, ◌+◌, ◌<◌, ◌≤◌, Bool, true, false, cond, not, ◌||◌, eqb, List, [], ◌∷◌, ◌++◌, length, Option, Some, None, IsSome, find, refl, sym, ap, ◌∙◌, nat_cmp, subst, arith, ne_eqb, eq-eqb, eqb-true, append-nil}
+use Rattle.std.specs.List.{AllByRecursion, list_any}
+use Rattle.std.specs.BTreeMap.{BTreeMap, is_at, insert_entry}
+use Rattle.std.specs.Map.{lookup, set_value}
+use Rattle.zre_values.specs.declared.peer_id.PeerId.{PeerId}
+use Rattle.zre_values.specs.declared.endpoint.Endpoint.{Endpoint}
+use Rattle.zre_msg.specs.declared.message.Body.{Body}
+use Rattle.zre_msg.specs.declared.message.Message.{Message}
+use Rattle.zre_outside.specs.declared.act.Act.TheVariants as act
+use Rattle.zre_link.specs.Link.{Sending, link_after}
+use Rattle.zre_journal.specs.declared.config.Config.{Config}
+use Rattle.zre_journal.specs.Chronicle.{Mark, Born, Puts, Beacons, after}
+use Rattle.zre_journal.specs.Heard.{clock}
+use Rattle.zre_journal.specs.Peers.{Life, lives, life, births, active, runner, counted}
+use Rattle.zre_journal.specs.Links.{groups, status, bodies, is_linked, replies, taken}
+use Rattle.zre_journal.specs.Happens.{hello, birth}
+use Rattle.zre_journal.specs.Done.{puts}
+use Rattle.zre_journal.proofs.Kept.{born, newborn, born-proper, Beacons-proper}
+use Rattle.zre_journal.proofs.Listed.{eqb-comm, found_passes}
+use Rattle.zre_node.specs.declared.peer.Peer.{Peer}
+use Rattle.zre_node.specs.declared.tables.Tables.{Tables}
+use Rattle.zre_node.specs.declared.effects.Effects.{Effects}
+use Rattle.zre_node.specs.Tabled.{Tabled}
+use Rattle.zre_node.specs.Stands.{Holds, Keeps, Did, HasRun, IsKept, IsPeer, link_of_life}
+use Rattle.std.proofs.lemmas.List.Folds.{list_any-append}
+use Rattle.zre_node.proofs.Entries.{inserted, changed}
+use Rattle.zre_node.proofs.Parting.{its_row}
+
+module _ (g : Config) (H : List Mark) (t : Tables) (h : Holds g H t) (p : PeerId) (e : Endpoint) where
+  -- the others are as before
+  others : (v : Life) (k : Peer) → v.link < births H + 1 → IsPeer g H v k → IsPeer g (born p e (hello g H) H) v k
+  others v k low is = let far : eqb v.link (births H + 1) ≡ false = ne_eqb v.link (births H + 1) (λ q. omega arith) in rw far is
+
+  -- the new row is that of the new life
+  fresh : (k : Peer) → k.id ≡ p → k.active ≡ clock H → k.run ≡ None → k.link ≡ link_after g.id (hello g H ∷ []) false [] 0 → IsPeer g (born p e (hello g H) H) (newborn (births H + 1) p e) k
+  fresh k id now run link =
+      let u = h.keeps.proper.living.fresh (births H + 1) (omega arith) in
+      let me : eqb (births H + 1) (births H + 1) ≡ true = eq-eqb (births H + 1) (births H + 1) refl in
+      let silent : counted (births H + 1) H ≡ [] = h.keeps.proper.running.is_silent (births H + 1) u.no_run in
+      rw (me, u.no_run, u.no_body, u.not_linked, u.no_reply, u.none_taken, silent) record { id_is = id; active_is = now; run_is = run; link_is = link }
+
+  pub is_born : (k : Peer) (P : BTreeMap ℕ Peer) → k.id ≡ p → k.active ≡ clock H → k.run ≡ None → k.link ≡ link_after g.id (hello g H ∷ []) false [] 0
+      → P.entries ≡ insert_entry nat_cmp t.peers.entries (births H + 1) k → Holds g (born p e (hello g H) H) (record t { births = births H + 1; peers = P })
+  is_born k P id now run link put = record {
+    keeps = record {
+      valid = h.keeps.valid;
+      proper = born-proper H h.keeps.proper p e (hello g H);
+      going = h.keeps.going;
+      awake = h.keeps.awake;
+      config = h.keeps.config;
+      mailbox = h.keeps.mailbox;
+      clock_is = h.keeps.clock_is;
+      births_is = refl;
+      last_is = h.keeps.last_is;
+      groups_fit = h.keeps.groups_fit;
+      own = h.keeps.own;
+      conns = h.keeps.conns;
+    };
+    peers = subst (λ es. Tabled (λ (v : Life). v.link) (IsPeer g (born p e (hello g H) H)) (lives H ++ newborn (births H + 1) p e ∷ []) es) (sym put)
+      (inserted (λ (v : Life). v.link) (IsPeer g H) (IsPeer g (born p e (hello g H) H)) (newborn (births H + 1) p e) k (lives H) t.peers.entries
+        (below (lives H) h.keeps.proper.living.numbered) others (fresh k id now run link) h.peers);
+  }
+    where
+      below : (vs : List Life) → AllByRecursion (λ (v : Life). v.link ≤ births H) vs → AllByRecursion (λ (v : Life). v.link < births H + 1) vs
+      below [] a = tt
+      below (v ∷ vs) a = (let low : v.link ≤ births H = a.0 in omega arith, below vs a.1)
+
+  -- a birth, with its act
+  pub birth_did : (n : Tables) (a s : Effects) → Holds g (born p e (hello g H) H) n → s.events ≡ a.events → s.acts ≡ a.acts ++ act.Connect (births H + 1) e ∷ [] → s.pushed ≡ a.pushed ++ (births H + 1) ∷ []
+      → Did g (birth g p e H) H n a s
+  birth_did n a s holds ev ac pu = record {
+    holds = holds;
+    events = ev ∙ sym (append-nil a.events);
+    acts = ac;
+    pushed = λ l. ap (λ (ks : List ℕ). list_any (eqb l) ks) pu ∙ list_any-append (eqb l) a.pushed ((births H + 1) ∷ []);
+  }
+
+-- ---- a beacon
+
+module _ (g : Config) (H : List Mark) (t : Tables) (h : Holds g H t) (l : ℕ) where
+  pub renewed : (k : Peer) (P : BTreeMap ℕ Peer) → Some k ≡ lookup (is_at (nat_cmp l)) t.peers.entries → P.entries ≡ set_value (is_at (nat_cmp l)) t.peers.entries (record k { active = t.clock })
+      → Holds g (Beacons l ∷ H) (record t { peers = P })
+  renewed k P was put =
+      let r = its_row (IsPeer g H) H t.peers.entries h.peers l k was in
+      record {
+        keeps = record {
+          valid = h.keeps.valid;
+          proper = Beacons-proper H h.keeps.proper l;
+          going = h.keeps.going;
+          awake = h.keeps.awake;
+          config = h.keeps.config;
+          mailbox = h.keeps.mailbox;
+          clock_is = h.keeps.clock_is;
+          births_is = h.keeps.births_is;
+          last_is = h.keeps.last_is;
+          groups_fit = h.keeps.groups_fit;
+          own = h.keeps.own;
+          conns = h.keeps.conns;
+        };
+        peers = subst (λ es. Tabled (λ (v : Life). v.link) (IsPeer g (Beacons l ∷ H)) (lives H) es) (sym put)
+          (changed (λ (v : Life). v.link) (IsPeer g H) (IsPeer g (Beacons l ∷ H)) l (record k { active = t.clock })
+          (λ v w far is. let off : eqb v.link l ≡ false = eqb-comm v.link l ∙ far in rw off is) (lives H) t.peers.entries h.keeps.proper.living.apart
+          (λ v f. let same : v ≡ r.0 = (let z : Some v ≡ Some r.0 = sym f ∙ r.1 in cc) in
+            let me : eqb v.link l ≡ true = eq-eqb v.link l (sym (eqb-true l v.link (found_passes (λ (u : Life). eqb l u.link) (lives H) v f))) in
+            let is = subst (λ u. IsPeer g H u k) (sym same) r.2 in
+            rw me record { id_is = is.id_is; active_is = h.keeps.clock_is; run_is = is.run_is; link_is = is.link_is }) h.peers);
+      }

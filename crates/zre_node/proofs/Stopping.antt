@@ -1,0 +1,159 @@
+-- The stop of a node.
+use Rattle.std.proofs.Common.{◌≡◌, ℕ, Bool, true, false, cond, not, ◌||◌, eqb, List, [], ◌∷◌, ◌++◌, map, Option, Some, None, IsSome, find, filter, refl, sym, ap, ◌∙◌, eq-eqb, append-nil, append_assoc, subst}
+use Rattle.std.specs.List.{AllByRecursion, list_any}
+use Rattle.std.specs.Map.{keys_of}
+use Rattle.zre_beacon.specs.Beacon.{beacon_octets}
+use Rattle.zre_peer.specs.declared.causes.Cause.{Cause}
+use Rattle.zre_peer.specs.declared.causes.Cause.TheVariants as cause
+use Rattle.zre_outside.specs.declared.act.Act.TheVariants as act
+use Rattle.zre_peer.specs.declared.event.Event.TheVariants as event
+use Rattle.zre_journal.specs.declared.config.Config.{Config}
+use Rattle.zre_journal.specs.Chronicle.{Mark, Ends, Drops, Calls, Stops, after}
+use Rattle.zre_journal.specs.Connections.{open_ones, runs}
+use Rattle.zre_journal.specs.Peers.{Life, lives, life, other_lives}
+use Rattle.zre_journal.specs.Proper.{IsProper, Apart}
+use Rattle.zre_journal.specs.Happens.{at_stop}
+use Rattle.zre_journal.specs.Told.{told}
+use Rattle.zre_journal.specs.Done.{done}
+use Rattle.zre_journal.proofs.Joined.{after-append, told-append, done-append}
+use Rattle.zre_journal.proofs.Kept.{run_known}
+use Rattle.zre_journal.proofs.Listed.{All-map, eqb-comm}
+use Rattle.zre_node.specs.declared.tables.Tables.{Tables}
+use Rattle.zre_node.specs.declared.effects.Effects.{Effects}
+use Rattle.zre_node.specs.declared.peer.Peer.{Peer}
+use Rattle.zre_node.specs.Tabled.{Tabled}
+use Rattle.zre_node.specs.Stands.{Holds, Did, Rests, Stopped, AreKnown, RunNone, IsPeer, IsConn}
+use Rattle.zre_node.proofs.Entries.{keys_are}
+use Rattle.zre_node.proofs.Many.{did_then}
+
+map-map : {A B C : Type 0} (f : A → B) (g : B → C) (xs : List A) → map g (map f xs) ≡ map (λ x. g (f x)) xs
+map-map f g [] = refl
+map-map f g (x ∷ xs) = ap (λ ys. g (f x) ∷ ys) (map-map f g xs)
+
+map-same : (xs : List ℕ) → map (λ x. x) xs ≡ xs
+map-same [] = refl
+map-same (x ∷ xs) = ap (λ ys. x ∷ ys) (map-same xs)
+
+abbrev pub link_list : List Life → List ℕ
+link_list vs = map (λ (v : Life). v.link) vs
+
+each_found : (vs : List Life) → AllByRecursion (λ (v : Life). IsSome (find (λ (u : Life). eqb v.link u.link) vs)) vs
+each_found [] = tt
+each_found (v ∷ vs) = (
+  let me : eqb v.link v.link ≡ true = eq-eqb v.link v.link refl in rw me refl,
+  All-map (λ (u : Life). IsSome (find (λ (w : Life). eqb u.link w.link) vs)) (λ (u : Life). IsSome (find (λ (w : Life). eqb u.link w.link) (v ∷ vs)))
+      (λ u h. further (eqb u.link v.link) v (find (λ (w : Life). eqb u.link w.link) vs) h) vs (each_found vs),
+)
+  where
+    further : (b : Bool) (v : Life) (o : Option Life) → IsSome o → IsSome (cond b (Some v) o)
+    further true v o h = refl
+    further false v o h = h
+
+apart_links : (l : ℕ) (vs : List Life) → AllByRecursion (λ (v : Life). eqb l v.link ≡ false) vs → AllByRecursion (λ k. eqb l k ≡ false) (link_list vs)
+apart_links l [] h = tt
+apart_links l (v ∷ vs) h = (h.0, apart_links l vs h.1)
+
+known_from : (H : List Mark) (vs : List Life) → Apart (λ (v : Life). v.link) vs → AllByRecursion (λ (v : Life). IsSome (life v.link H)) vs → AreKnown H (link_list vs)
+known_from H [] a h = tt
+known_from H (v ∷ vs) a h = (h.0, apart_links v.link vs a.0, known_from H vs a.1 h.1)
+
+module _ (g : Config) (H : List Mark) (t : Tables) (h : Holds g H t) where
+  -- the keys of the tables are the links and the numbers
+  pub links_are : keys_of t.peers.entries ≡ link_list (lives H)
+  links_are = keys_are (λ (v : Life). v.link) (IsPeer g H) (lives H) t.peers.entries h.peers
+
+  pub numbers_are : keys_of t.conns.entries ≡ open_ones H
+  numbers_are = keys_are (λ (c : ℕ). c) (IsConn g H) (open_ones H) t.conns.entries h.keeps.conns ∙ map-same (open_ones H)
+
+  pub all_known : AreKnown H (link_list (lives H))
+  all_known = known_from H (lives H) h.keeps.proper.living.apart (each_found (lives H))
+
+-- ends leave the open connections open
+ends_open : (why : Cause) (ls : List ℕ) (H : List Mark) → open_ones (after (map (λ l. Ends l why) ls) H) ≡ open_ones H
+ends_open why [] H = refl
+ends_open why (l ∷ ls) H = ends_open why ls (Ends l why ∷ H)
+
+-- what is left of lives where those on these links end
+abbrev pub without_all : List ℕ → List Life → List Life
+without_all [] vs = vs
+without_all (l ∷ ls) vs = without_all ls (other_lives l vs)
+
+ends_lives : (why : Cause) (ls : List ℕ) (H : List Mark) → lives (after (map (λ l. Ends l why) ls) H) ≡ without_all ls (lives H)
+ends_lives why [] H = refl
+ends_lives why (l ∷ ls) H = ends_lives why ls (Ends l why ∷ H)
+
+-- each of these lives is on one of these links
+abbrev pub AreOn : List ℕ → List Life → Type 0
+AreOn ls vs = AllByRecursion (λ (v : Life). list_any (eqb v.link) ls ≡ true) vs
+
+still_on : (l : ℕ) (ls : List ℕ) (vs : List Life) → AreOn (l ∷ ls) vs → AreOn ls (other_lives l vs)
+still_on l ls [] h = tt
+still_on l ls (v ∷ vs) h = by (still_on l ls vs h.1) (eqb l v.link) refl
+  where
+    by : AreOn ls (other_lives l vs) → (b : Bool) → eqb l v.link ≡ b → AreOn ls (other_lives l (v ∷ vs))
+    by r true q = rw q r
+    by r false q = let far : eqb v.link l ≡ false = eqb-comm v.link l ∙ q in rw q ((let k : (false || list_any (eqb v.link) ls) ≡ true = rw far at h.0 in k), r)
+
+none_on : (ls : List ℕ) (vs : List Life) → AreOn ls vs → without_all ls vs ≡ []
+none_on [] [] h = refl
+none_on [] (v ∷ vs) h = let z : false ≡ true = h.0 in absurd cc
+none_on (l ∷ ls) vs h = none_on ls (other_lives l vs) (still_on l ls vs h)
+
+all_on : (vs : List Life) → AreOn (link_list vs) vs
+all_on [] = tt
+all_on (v ∷ vs) = (
+  let me : eqb v.link v.link ≡ true = eq-eqb v.link v.link refl in rw me refl,
+  All-map (λ (u : Life). list_any (eqb u.link) (link_list vs) ≡ true) (λ (u : Life). list_any (eqb u.link) (link_list (v ∷ vs)) ≡ true) (λ u h. further (eqb u.link v.link) (list_any (eqb u.link) (link_list vs)) h) vs (all_on vs),
+)
+  where
+    further : (b c : Bool) → c ≡ true → (b || c) ≡ true
+    further true c h = refl
+    further false c h = h
+
+drops_lives : (cs : List ℕ) (H : List Mark) → lives (after (map (λ c. Drops c) cs) H) ≡ lives H
+drops_lives [] H = refl
+drops_lives (c ∷ cs) H = drops_lives cs (Drops c ∷ H)
+
+-- behind the ends of all lives
+none_known : (H : List Mark) → lives (after (map (λ l. Ends l cause.Stop) (link_list (lives H))) H) ≡ []
+none_known H = ends_lives cause.Stop (link_list (lives H)) H ∙ none_on (link_list (lives H)) (lives H) (all_on (lives H))
+
+pub none_known_by : (H : List Mark) (ls : List ℕ) → ls ≡ link_list (lives H) → lives (after (map (λ l. Ends l cause.Stop) ls) H) ≡ []
+none_known_by H ls e = ap (λ xs. lives (after (map (λ l. Ends l cause.Stop) xs) H)) e ∙ none_known H
+
+-- no connection runs a peer where none is known
+pub run_none : (g : Config) (H : List Mark) (t : Tables) → Holds g H t → lives H ≡ [] → RunNone H
+run_none g H t h e c = by (runs c H) refl
+  where
+    by : (o : Option ℕ) → runs c H ≡ o → o ≡ None
+    by None q = refl
+    by (Some l) q = let k = run_known H h.keeps.proper c l q in let z : IsSome (find (λ (v : Life). eqb l v.link) []) = subst (λ vs. IsSome (find (λ (v : Life). eqb l v.link) vs)) e k in absurd cc
+
+no_entries : (P : Life → Peer → Type 0) (vs : List Life) (es : List (ℕ × Peer)) → vs ≡ [] → Tabled (λ (v : Life). v.link) P vs es → es ≡ []
+no_entries P [] [] e t = refl
+no_entries P [] (x ∷ es) e t = absurd t
+no_entries P (v ∷ vs) es e t = absurd cc
+
+-- the whole stop from its parts
+pub stops : (g : Config) (H : List Mark) (ls cs : List ℕ) (t m : Tables) (a b c d : Effects) → ls ≡ link_list (lives H) → cs ≡ open_ones H
+    → Did g (map (λ l. Ends l cause.Stop) ls) H t a b → Did g (map (λ c. Drops c) cs) (after (map (λ l. Ends l cause.Stop) ls) H) m b c
+    → d.events ≡ c.events ++ event.Stop ∷ [] → d.acts ≡ c.acts ++ act.Beacon (beacon_octets g.id 0) ∷ [] → Stopped g H (record m { stopped = true }) a d
+stops g H ls cs t m a b c d le ce first second ev ac =
+    let marks = ap (λ xs. map (λ l. Ends l cause.Stop) xs) le ∙ map-map (λ (v : Life). v.link) (λ l. Ends l cause.Stop) (lives H) in
+    let both = did_then g (map (λ l. Ends l cause.Stop) ls) (map (λ c. Drops c) cs) H t m a b c first second in
+    let hs = map (λ l. Ends l cause.Stop) ls ++ map (λ c. Drops c) cs in
+    let whole : (hs ++ Calls 0 ∷ Stops ∷ []) ≡ at_stop g H = 
+      ap (λ es. es ++ map (λ c. Drops c) cs ++ Calls 0 ∷ Stops ∷ []) marks ∙ ap (λ es. map (λ (v : Life). Ends v.link cause.Stop) (lives H) ++ map (λ c. Drops c) es ++ Calls 0 ∷ Stops ∷ []) ce in
+    let none : lives (after (map (λ l. Ends l cause.Stop) ls) H) ≡ [] = none_known_by H ls le in
+    let left : lives (after (map (λ c. Drops c) cs) (after (map (λ l. Ends l cause.Stop) ls) H)) ≡ [] = drops_lives cs (after (map (λ l. Ends l cause.Stop) ls) H) ∙ none in
+    let end : after (hs ++ Calls 0 ∷ Stops ∷ []) H ≡ Stops ∷ Calls 0 ∷ after hs H = after-append hs (Calls 0 ∷ Stops ∷ []) H in
+    let gone : lives (after hs H) ≡ [] = ap lives (after-append (map (λ l. Ends l cause.Stop) ls) (map (λ c. Drops c) cs) H) ∙ left in
+    let rests : Rests (after (hs ++ Calls 0 ∷ Stops ∷ []) H) (record m { stopped = true }) = subst (λ K. Rests K (record m { stopped = true })) (sym end)
+      record { stopped = refl; asleep = refl; none_known = gone; no_peers = no_entries (IsPeer g (after hs H)) (lives (after hs H)) m.peers.entries gone both.holds.peers } in
+    let events : d.events ≡ a.events ++ told (hs ++ Calls 0 ∷ Stops ∷ []) H = ev ∙ ap (λ es. es ++ event.Stop ∷ []) both.events ∙ append_assoc a.events (told hs H) (event.Stop ∷ []) ∙ ap (λ es. a.events ++ es) (sym (told-append hs (Calls 0 ∷ Stops ∷ []) H)) in
+    let acts : d.acts ≡ a.acts ++ done g.id (hs ++ Calls 0 ∷ Stops ∷ []) = ac ∙ ap (λ es. es ++ act.Beacon (beacon_octets g.id 0) ∷ []) both.acts ∙ append_assoc a.acts (done g.id hs) (act.Beacon (beacon_octets g.id 0) ∷ []) ∙ ap (λ es. a.acts ++ es) (sym (done-append g.id hs (Calls 0 ∷ Stops ∷ []))) in
+    record {
+      rests = subst (λ ks. Rests (after ks H) (record m { stopped = true })) whole rests;
+      events = subst (λ ks. d.events ≡ a.events ++ told ks H) whole events;
+      acts = subst (λ ks. d.acts ≡ a.acts ++ done g.id ks) whole acts;
+    }

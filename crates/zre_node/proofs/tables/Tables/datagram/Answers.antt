@@ -1,0 +1,1 @@
+use Rattle.zre_node.proofs.tables.Tables.datagram.Goals as goal
