@@ -7,13 +7,13 @@ use Rattle.zre_zmtp.specs.declared.expected.Expected.TheVariants as expect
 use Rattle.zre_msg.specs.declared.message.Body.{Body}
 use Rattle.zre_link.specs.declared.fault.PushFault.{PushFault}
 use Rattle.zre_link.specs.declared.fault.PushFault.TheVariants.{Slow, OutOfMemory}
-use Rattle.zre_link.specs.Text.{text_of, size_of}
+use Rattle.zre_link.specs.Text.{text_of}
 use Rattle.zre_link.specs.Heard.{awaited, Heard, heard_after}
 
 -- ---- what contracts see of a link
 
--- the octets that haven't gone out, how many bodies were put, how many octets they make with the handshake, how many have
--- gone out, whether the link stands, and what is kept of the replies
+-- the octets that haven't gone out (queue), how many bodies were put (sent), how many octets they make with the greeting
+-- and READY (written), how many have gone out (taken), whether the link stands, and what is kept of the replies
 pub record Sending : Type 0 where
   pub queue : List ℕ
   pub sent : ℕ

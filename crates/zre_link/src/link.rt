@@ -115,7 +115,8 @@ impl Link {
         })
     }
 
-    /// Puts a body: it goes out in a message with the next number. The body is lent, and handed back as it was.
+    /// Puts a body: it goes out in a message with the next number. `Slow` comes where more than 4,194,304 octets would
+    /// wait then. The body is lent, and handed back as it was.
     pub fn push(&mut self, body: &mut Body) -> Result<(), PushFault>
         requires { FitsBody body.old }
         ensures ok { (own : PeerIdValue) (bodies : List BodyValue) (linked : Bool) (o : List ℕ) (n : ℕ) →
