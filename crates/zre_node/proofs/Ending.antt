@@ -3,6 +3,7 @@ use Rattle.std.proofs.Common.{◌≡◌, ℕ, ◌≤◌, Bool, true, false, cond
 use Rattle.std.specs.BTreeMap.{BTreeMap, is_at}
 use Rattle.std.specs.Map.{lookup, remove_entry, set_value}
 use Rattle.std.specs.List.{AllByRecursion, list_any}
+use Rattle.zre_values.specs.declared.peer_id.PeerId.{PeerId}
 use Rattle.zre_peer.specs.declared.causes.Cause.{Cause}
 use Rattle.zre_peer.specs.declared.event.Event.{Event}
 use Rattle.zre_peer.specs.declared.event.Event.TheVariants as event
@@ -11,7 +12,7 @@ use Rattle.zre_peer.specs.Views.{view_of}
 use Rattle.zre_journal.specs.declared.config.Config.{Config}
 use Rattle.zre_journal.specs.Chronicle.{Mark, Ends, ever}
 use Rattle.zre_journal.specs.Heard.{clock, bytes}
-use Rattle.zre_journal.specs.Connections.{runs, open_ones, is_open, since, has_ended, started, identity, is_ignored, refuses, is_link, unless}
+use Rattle.zre_journal.specs.Connections.{runs, open_ones, is_open, since, has_ended, started, identity, is_ignored, is_live, refuses, is_link, unless}
 use Rattle.zre_journal.specs.Peers.{Life, lives, life, births, runner, counted, other_lives}
 use Rattle.zre_journal.specs.Told.{exit, told}
 use Rattle.zre_journal.specs.Done.{close_link, done}
@@ -174,3 +175,20 @@ some_row g H t k c = by (lookup (is_at (nat_cmp c)) t.conns.entries) refl
     by : (o : Option Connection) → lookup (is_at (nat_cmp c)) t.conns.entries ≡ o → is_some o ≡ is_open c H
     by None e = sym (no_conn g H t k c (sym e))
     by (Some x) e = sym (row_conn g H t k c x (sym e)).0
+
+-- ---- live connections
+
+pub heard_some : (b : Bool) (own : PeerId) (o : List ℕ) → is_some (heard_by b own o) ≡ not b
+heard_some true own o = refl
+heard_some false own o = refl
+
+not_not : (b c : Bool) → not b ≡ c → b ≡ not c
+not_not true c e = ap not e
+not_not false c e = ap not e
+
+-- what its row says of an open connection
+pub live_by : (g : Config) (H : List Mark) (c : ℕ) (x : Connection) → is_open c H ≡ true → x ≡ kept_conn g H c → is_live c H ≡ is_some x.conn
+live_by g H c x o e = rw o (sym (ap (λ (y : Connection). is_some y.conn) e ∙ heard_some (is_ignored c H) g.id (bytes c H)))
+
+pub not_live : (c : ℕ) (H : List Mark) → is_open c H ≡ false → is_live c H ≡ false
+not_live c H e = rw e refl

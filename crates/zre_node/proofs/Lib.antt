@@ -1,5 +1,7 @@
 pub mod Birth
 pub mod Copying
+pub mod Counting
+pub mod Datagram
 pub mod Ending
 pub mod Entries
 pub mod Many
@@ -7,4 +9,5 @@ pub mod Naming
 pub mod Opening
 pub mod Parting
 pub mod Pushing
+pub mod Shaking
 pub mod Stopping

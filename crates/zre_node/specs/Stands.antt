@@ -7,6 +7,8 @@ use Rattle.std.specs.BTreeMap.{is_at}
 use Rattle.std.specs.Map.{lookup, remove_entry}
 use Rattle.zre_values.specs.declared.peer_id.PeerId.{PeerId}
 use Rattle.zre_msg.specs.declared.message.Message.{Message}
+use Rattle.zre_msg.specs.declared.message.Body.{Body}
+use Rattle.zre_msg.specs.declared.message.Body.TheVariants as body
 use Rattle.zre_peer.specs.Runs.{shown}
 use Rattle.zre_peer.specs.Standing.{Stands, id_of, view_in}
 use Rattle.zre_mailbox.specs.Conn.{Hearing, conn_after}
@@ -15,7 +17,7 @@ use Rattle.zre_journal.specs.declared.config.Config.{Config}
 use Rattle.zre_journal.specs.Chronicle.{Mark, after}
 use Rattle.zre_journal.specs.Config.{is_valid, own_endpoint}
 use Rattle.zre_journal.specs.Heard.{clock, bytes}
-use Rattle.zre_journal.specs.Connections.{open_ones, is_new, is_ignored, identity, runs, since, is_same, has_ended}
+use Rattle.zre_journal.specs.Connections.{open_ones, is_open, is_new, is_ignored, identity, runs, since, is_same, has_ended}
 use Rattle.zre_journal.specs.Peers.{Life, life, lives, other_lives, births, active, runner, counted}
 use Rattle.zre_journal.specs.Proper.{IsProper}
 use Rattle.zre_journal.specs.Links.{bodies, is_linked, replies, taken, groups, status}
@@ -168,3 +170,13 @@ AreKnown H (l ∷ ls) = IsSome (life l H) × AllByRecursion (λ k. nat_eq l k �
 -- no connection runs a peer
 abbrev pub RunNone : List Mark → Type 0
 RunNone H = (c : ℕ) → runs c H ≡ None
+
+-- the connection is open, where there is one
+abbrev pub IsOpenIfAny : Option ℕ → List Mark → Type 0
+IsOpenIfAny None H = Unit {0}
+IsOpenIfAny (Some c) H = is_open c H ≡ true
+
+-- PING, which is answered
+abbrev pub is_ping : Body → Bool
+is_ping body.Ping = true
+is_ping _ = false

@@ -2,6 +2,7 @@
 //! and no thread; what the journal means stands in `zre_journal`.
 #![tactic(auto)]
 
+mod arrivals;
 mod births;
 mod connection;
 mod connections;
@@ -9,6 +10,7 @@ mod effects;
 mod ends;
 mod peer;
 mod pushes;
+mod runs;
 mod stops;
 mod tables;
 

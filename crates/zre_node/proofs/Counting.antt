@@ -1,0 +1,107 @@
+-- A later message on a connection that runs a peer.
+use Rattle.std.proofs.Common.{◌≡◌, ◌≢◌, ℕ, ◌+◌, ◌%◌, Bool, true, false, cond, not, ◌&&◌, eqb, if◌then◌else◌, List, [], ◌∷◌, ◌++◌, length, Option, Some, None, IsSome, find, Result, Ok, Err, OnOk, OnErr, IfErr, refl, sym, ap, ◌∙◌, nat_cmp, subst, eq-eqb, eqb-true, append-nil}
+use Rattle.std.specs.List.{list_any}
+use Rattle.std.specs.BTreeMap.{BTreeMap, is_at}
+use Rattle.std.specs.Map.{lookup, set_value}
+use Rattle.zre_values.specs.declared.peer_id.PeerId.{PeerId}
+use Rattle.zre_msg.specs.declared.message.Message.{Message}
+use Rattle.zre_peer.specs.declared.peer_run.Run.{Run}
+use Rattle.zre_peer.specs.Runs.{shown}
+use Rattle.zre_peer.specs.Standing.{Stands, view_in, id_of}
+use Rattle.std.proofs.lemmas.Bool.{and_parts}
+use Rattle.zre_msg.specs.declared.message.Body.{Body}
+use Rattle.zre_msg.specs.declared.message.Body.TheVariants as body
+use Rattle.zre_peer.specs.declared.causes.Cause.{Cause}
+use Rattle.zre_peer.specs.declared.causes.Cause.TheVariants as cause
+use Rattle.zre_peer.specs.declared.peer_run.RunFault.{RunFault}
+use Rattle.zre_peer.specs.declared.peer_run.RunFault.TheVariants as fault
+use Rattle.zre_peer.specs.Runs.{is_hello, due, may_follow, fault_of, events_of}
+use Rattle.zre_peer.specs.Views.{view_of, is_small}
+use Rattle.zre_journal.specs.declared.config.Config.{Config}
+use Rattle.zre_journal.specs.Chronicle.{Mark, Starts, Counts, Ends}
+use Rattle.zre_journal.specs.Connections.{runs}
+use Rattle.zre_journal.specs.Heard.{clock}
+use Rattle.zre_journal.specs.Peers.{Life, lives, life, runner, counted, view}
+use Rattle.zre_journal.specs.Happens.{at_later, answer_to, push}
+use Rattle.zre_journal.proofs.Kept.{run_is, Counts-proper}
+use Rattle.zre_journal.proofs.Listed.{eqb-comm, found_passes}
+use Rattle.zre_node.specs.declared.peer.Peer.{Peer}
+use Rattle.zre_node.specs.declared.peer.Running.{Running}
+use Rattle.zre_node.specs.declared.tables.Tables.{Tables}
+use Rattle.zre_node.specs.declared.effects.Effects.{Effects}
+use Rattle.zre_node.specs.Tabled.{Tabled}
+use Rattle.zre_node.specs.Stands.{Holds, Keeps, Nearly, Did, HasRun, HadRun, IsRunning, IsPeer, IsBut, IsKept, is_ping}
+use Rattle.zre_node.proofs.Entries.{changed}
+use Rattle.zre_node.proofs.Parting.{its_row, keeps_with, leaves}
+use Rattle.zre_node.proofs.Shaking.{not_true}
+
+pub if_err : {T E B : Type 0} {P Q : E → Type 0} (r : Result T E) → IfErr r P → OnErr r B → ((e : E) → P e → B → Q e) → IfErr r Q
+if_err (Ok x) p b f = tt
+if_err (Err e) p b f = f e p b
+
+pub run_in : (c : ℕ) (id : PeerId) (ms : List Message) (o : Option Running) (x : Running) → HasRun (Some c) id ms o → o ≡ Some x → IsRunning c id ms x
+run_in c id ms o x h e = let z : Some h.0 ≡ Some x = sym h.1 ∙ e in let same : h.0 ≡ x = cc in subst (IsRunning c id ms) same h.2
+
+-- ---- a peer that is run has told something
+
+abbrev pub IsCons : List Message → Type 0
+IsCons ms = (d : Message) × (ds : List Message) × (ms ≡ d ∷ ds)
+
+more_is_cons : (ms : List Message) (m : Message) → IsCons (ms ++ m ∷ [])
+more_is_cons [] m = (m, [], refl)
+more_is_cons (d ∷ ds) m = (d, ds ++ m ∷ [], refl)
+
+pub counted_some : (l c : ℕ) (H : List Mark) → runner l H ≡ Some c → IsCons (counted l H)
+counted_some l c [] e = absurd cc
+counted_some l c (Starts d k m ∷ H) e = by (counted_some l c H) (eqb l k) refl e
+  where
+    by : (runner l H ≡ Some c → IsCons (counted l H)) → (b : Bool) → eqb l k ≡ b → runner l (Starts d k m ∷ H) ≡ Some c → IsCons (counted l (Starts d k m ∷ H))
+    by r true q z = rw q (more_is_cons (counted l H) m)
+    by r false q z = rw q (r (let w : runner l H ≡ Some c = rw q at z in w))
+counted_some l c (Counts d k m ∷ H) e = by (counted_some l c H e) (eqb l k) refl
+  where
+    by : IsCons (counted l H) → (b : Bool) → eqb l k ≡ b → IsCons (counted l (Counts d k m ∷ H))
+    by r true q = rw q (more_is_cons (counted l H) m)
+    by r false q = rw q r
+counted_some l c (_ ∷ H) e = counted_some l c H e
+
+-- ---- what comes about
+
+abbrev pub cause_by : RunFault → Cause
+cause_by fault.NotHello = cause.Limit
+cause_by fault.SecondHello = cause.Hello
+cause_by (fault.Broken d n) = cause.Order d n
+cause_by fault.Limit = cause.Limit
+cause_by fault.OutOfMemory = cause.Limit
+
+pub refuses_it : (g : Config) (c l : ℕ) (m : Message) (H : List Mark) → IsCons (counted l H) → may_follow (counted l H) m ≡ false → at_later g c l m H ≡ Ends l (cause_by (fault_of (counted l H) m)) ∷ []
+refuses_it g c l m H some e = by (counted l H) some.0 some.1 some.2 e
+  where
+    by : (ms : List Message) (d : Message) (ds : List Message) → ms ≡ d ∷ ds → may_follow ms m ≡ false
+      → (if is_hello m.body then Ends l cause.Hello ∷ [] else if not (eqb m.sequence (due ms)) then Ends l (cause.Order (due ms) m.sequence) ∷ []
+        else if not (is_small (view_of (ms ++ m ∷ []))) then Ends l cause.Limit ∷ [] else Counts c l m ∷ answer_to g l m.body H) ≡ Ends l (cause_by (fault_of ms m)) ∷ []
+    by ms d ds q k = rw q (tests (is_hello m.body) refl (eqb m.sequence (due (d ∷ ds))) refl (is_small (view_of ((d ∷ ds) ++ m ∷ []))) refl (subst (λ xs. may_follow xs m ≡ false) q k))
+      where
+        tests : (a : Bool) → is_hello m.body ≡ a → (b : Bool) → eqb m.sequence (due (d ∷ ds)) ≡ b → (s : Bool) → is_small (view_of ((d ∷ ds) ++ m ∷ [])) ≡ s → may_follow (d ∷ ds) m ≡ false
+          → (if is_hello m.body then Ends l cause.Hello ∷ [] else if not (eqb m.sequence (due (d ∷ ds))) then Ends l (cause.Order (due (d ∷ ds)) m.sequence) ∷ []
+            else if not (is_small (view_of ((d ∷ ds) ++ m ∷ []))) then Ends l cause.Limit ∷ [] else Counts c l m ∷ answer_to g l m.body H) ≡ Ends l (cause_by (fault_of (d ∷ ds) m)) ∷ []
+        tests true x b y s z k = rw x refl
+        tests false x false y s z k = rw (x, y) refl
+        tests false x true y false z k = rw (x, y, z) refl
+        tests false x true y true z k = let w : true ≡ false = rw (x, y, z) at k in absurd cc
+
+answers_it : (g : Config) (l : ℕ) (b : Body) (H : List Mark) → answer_to g l b H ≡ (if is_ping b then push g l body.PingOk H else [])
+answers_it g l body.Ping H = refl
+answers_it g l _ H = refl
+
+pub counts_it : (g : Config) (c l : ℕ) (m : Message) (H : List Mark) → IsCons (counted l H) → may_follow (counted l H) m ≡ true → at_later g c l m H ≡ (Counts c l m ∷ []) ++ (if is_ping m.body then push g l body.PingOk H else [])
+counts_it g c l m H some e = by (counted l H) some.0 some.1 some.2 e
+  where
+    by : (ms : List Message) (d : Message) (ds : List Message) → ms ≡ d ∷ ds → may_follow ms m ≡ true
+      → (if is_hello m.body then Ends l cause.Hello ∷ [] else if not (eqb m.sequence (due ms)) then Ends l (cause.Order (due ms) m.sequence) ∷ []
+        else if not (is_small (view_of (ms ++ m ∷ []))) then Ends l cause.Limit ∷ [] else Counts c l m ∷ answer_to g l m.body H) ≡ Counts c l m ∷ (if is_ping m.body then push g l body.PingOk H else [])
+    by ms d ds q k =
+        let all = and_parts (not (is_hello m.body) && eqb m.sequence (due (d ∷ ds))) (is_small (view_of ((d ∷ ds) ++ m ∷ []))) (subst (λ xs. may_follow xs m ≡ true) q k) in
+        let two = and_parts (not (is_hello m.body)) (eqb m.sequence (due (d ∷ ds))) all.0 in
+        let x : is_hello m.body ≡ false = not_true (is_hello m.body) two.0 in
+        rw (q, x, two.1, all.1) (ap (λ hs. Counts c l m ∷ hs) (answers_it g l m.body H))

@@ -1,0 +1,73 @@
+-- A datagram: which marks it leaves, by what the code tests.
+use Rattle.std.proofs.Common.{◌≡◌, ℕ, ◌+◌, ◌<◌, Bool, true, false, cond, not, ◌&&◌, eqb, List, [], ◌∷◌, length, Option, Some, None, IsSome, option_map, find, refl, sym, ap, ◌∙◌, subst, ne_eqb, eq-eqb, bytes_eq}
+use Rattle.zre_values.specs.declared.peer_id.PeerId.{PeerId}
+use Rattle.zre_beacon.specs.Beacon.{beacon_in}
+use Rattle.zre_peer.specs.declared.causes.Cause.TheVariants as cause
+use Rattle.zre_journal.specs.declared.config.Config.{Config}
+use Rattle.zre_journal.specs.Chronicle.{Mark, Ends, Beacons}
+use Rattle.zre_journal.specs.Peers.{Life, lives, life, life_of}
+use Rattle.zre_journal.specs.Happens.{is_welcome, at_datagram, birth}
+use Rattle.zre_node.specs.declared.peer.Peer.{Peer}
+use Rattle.zre_node.specs.declared.tables.Tables.{Tables}
+use Rattle.zre_node.specs.Tabled.{Tabled}
+use Rattle.zre_node.specs.Stands.{Holds, IsPeer, link_among}
+use Rattle.zre_node.proofs.Entries.{as_many}
+
+among : (g : Config) (H : List Mark) (p : PeerId) (vs : List Life) (es : List (ℕ × Peer)) → Tabled (λ (v : Life). v.link) (IsPeer g H) vs es
+    → link_among p es ≡ option_map (λ (v : Life). v.link) (find (λ (v : Life). bytes_eq p.0 v.id.0) vs)
+among g H p [] [] t = refl
+among g H p [] (e ∷ es) t = absurd t
+among g H p (v ∷ vs) [] t = absurd t
+among g H p (v ∷ vs) (e ∷ es) t = rw (t.0, t.1.id_is) (by (among g H p vs es t.2) (bytes_eq p.0 v.id.0))
+  where
+    by : link_among p es ≡ option_map (λ (u : Life). u.link) (find (λ (u : Life). bytes_eq p.0 u.id.0) vs) → (b : Bool)
+      → cond b (Some v.link) (link_among p es) ≡ option_map (λ (u : Life). u.link) (cond b (Some v) (find (λ (u : Life). bytes_eq p.0 u.id.0) vs))
+    by r true = refl
+    by r false = r
+
+-- the code's search finds the known peer
+pub link_found : (g : Config) (H : List Mark) (t : Tables) (p : PeerId) → Holds g H t → link_among p t.peers.entries ≡ option_map (λ (v : Life). v.link) (life_of p H)
+link_found g H t p h = among g H p (lives H) t.peers.entries h.peers
+
+-- what one test finds, a search by the link finds too
+by_link : (test : Life → Bool) (vs : List Life) (v : Life) → find test vs ≡ Some v → IsSome (find (λ (u : Life). eqb v.link u.link) vs)
+by_link test [] v e = cc
+by_link test (u ∷ us) v e = by (by_link test us v) (test u) refl e (eqb v.link u.link) refl
+  where
+    by : (find test us ≡ Some v → IsSome (find (λ (w : Life). eqb v.link w.link) us)) → (b : Bool) → test u ≡ b → cond b (Some u) (find test us) ≡ Some v
+        → (d : Bool) → eqb v.link u.link ≡ d → IsSome (cond d (Some u) (find (λ (w : Life). eqb v.link w.link) us))
+    by r b q k true z = refl
+    by r true q k false z = let same : u ≡ v = cc in let yes : eqb v.link u.link ≡ true = eq-eqb v.link u.link (ap (λ (w : Life). w.link) (sym same)) in cc
+    by r false q k false z = r k
+
+pub known_link : (H : List Mark) (p : PeerId) (v : Life) → life_of p H ≡ Some v → IsSome (life v.link H)
+known_link H p v e = by_link (λ (u : Life). bytes_eq p.0 u.id.0) (lives H) v e
+
+-- the peer of a found link
+pub its_life : (o : Option Life) (l : ℕ) → Some l ≡ option_map (λ (v : Life). v.link) o → (v : Life) × (o ≡ Some v) × (v.link ≡ l)
+its_life None l e = cc
+its_life (Some v) l e = (v, refl, cc)
+
+pub no_life : (o : Option Life) → None ≡ option_map (λ (v : Life). v.link) o → o ≡ None
+no_life None e = refl
+no_life (Some v) e = cc
+
+module _ (g : Config) (from o : List ℕ) (H : List Mark) (p : PeerId) (port : ℕ) (b : beacon_in o ≡ Some (p, port)) where
+  pub ends_it : (v : Life) → life_of p H ≡ Some v → port ≡ 0 → at_datagram g from (beacon_in o) H ≡ Ends v.link cause.Beacon ∷ []
+  ends_it v k z = rw (b, k, z) refl
+
+  pub renews_it : (v : Life) → life_of p H ≡ Some v → (port ≡ 0 → ⊥) → at_datagram g from (beacon_in o) H ≡ Beacons v.link ∷ []
+  renews_it v k z = let off : eqb port 0 ≡ false = ne_eqb port 0 z in rw (b, k, off) refl
+
+  pub bears_it : life_of p H ≡ None → is_welcome g p port (length (lives H)) ≡ true → at_datagram g from (beacon_in o) H ≡ birth g p (record { addr = from; port = port }) H
+  bears_it k w = rw (b, k, w) refl
+
+  pub leaves_it : life_of p H ≡ None → is_welcome g p port (length (lives H)) ≡ false → at_datagram g from (beacon_in o) H ≡ []
+  leaves_it k w = rw (b, k, w) refl
+
+pub no_beacon : (g : Config) (from o : List ℕ) (H : List Mark) → beacon_in o ≡ None → at_datagram g from (beacon_in o) H ≡ []
+no_beacon g from o H b = rw b refl
+
+-- the code's test is that of the chronicle
+pub welcome_is : (g : Config) (H : List Mark) (t : Tables) (p : PeerId) (port : ℕ) → Holds g H t → is_welcome t.config p port (length t.peers.entries) ≡ is_welcome g p port (length (lives H))
+welcome_is g H t p port h = ap (λ (c : Config). is_welcome c p port (length t.peers.entries)) h.keeps.config ∙ ap (is_welcome g p port) (as_many (λ (v : Life). v.link) (IsPeer g H) (lives H) t.peers.entries h.peers)

@@ -1,0 +1,86 @@
+//! What connections say.
+
+ghost use Rattle.std.specs.Prelude.{◌≡◌, List, ◌∷◌, [], ◌++◌, None, Some, OnOk, IfOk, MatchOption, map, true, false};
+ghost use Rattle.zre_mailbox.specs.Talk.{Arrived, Fault, fault_said};
+ghost use Rattle.zre_outside.specs.declared.entry.Entry.{Entry as EntryValue};
+ghost use Rattle.zre_outside.specs.declared.entry.Input.TheVariants as input;
+ghost use Rattle.zre_journal.specs.declared.config.Config.{Config};
+ghost use Rattle.zre_journal.specs.Chronicle.{Mark, Comes, Shakes};
+ghost use Rattle.zre_journal.specs.Heard.{newly_said};
+ghost use Rattle.zre_journal.specs.Connections.{is_live, is_open, identity, runs, other_with as other_in};
+ghost use Rattle.zre_journal.specs.Happens.{at_place, at_places, at_shaken, taken_over};
+ghost use Rattle.zre_node.specs.Stands.{Holds, Did, IsOpenIfAny};
+
+use crate::effects::Effects;
+use crate::tables::{Tables, other_with};
+use zre_mailbox::{Arrival, Arrivals};
+use zre_peer::{Cause, CloseWhy};
+use zre_values::{OutOfMemory, PeerId};
+use zre_zmtp::{FeedFault, SocketType, ZmtpFault, ready};
+
+/// What a live connection runs, and whom it introduced.
+#[derive(Clone, Copy)]
+pub struct Standing {
+    pub run: Option<u64>,
+    pub identity: Option<PeerId>,
+}
+
+/// What a piece completes of what its connection says.
+#[derive(Drop)]
+pub struct Heard {
+    pub arrivals: Arrivals,
+    pub fault: Option<ZmtpFault>,
+}
+
+impl Tables {
+    // How a connection stands, where it is live.
+    fn standing(&self, conn: u64) -> Option<Standing>
+        ensures { (g : Config) (H : List Mark) → Holds g H self.now →
+            MatchOption result (is_live conn H ≡ false)
+            (λ s. (is_live conn H ≡ true) × (s.run ≡ runs conn H) × (s.identity ≡ identity conn H)) }
+    {
+        let Some(found) = self.conns.get(&conn) else {
+            return None;
+        };
+        if found.conn.is_none() {
+            return None;
+        }
+        Some(Standing {
+            run: found.run,
+            identity: found.identity,
+        })
+    }
+
+    // An older connection gives way, where there is one.
+    fn take_over(&mut self, out: &mut Effects, older: Option<u64>) -> Result<(), OutOfMemory>
+        ensures { (g : Config) (H : List Mark) → Holds g H self.old → IsOpenIfAny older H →
+            OnOk result (Did g (taken_over g older H) H self.new out.old out.new) }
+    {
+        let Some(older) = older else {
+            return Ok(());
+        };
+        self.end_run(out, older, Cause::Taken)?;
+        self.close(out, older, CloseWhy::Taken)
+    }
+
+    // READY introduced this peer on a connection, and it is the only one of that peer.
+    fn introduce(&mut self, conn: u64, peer: PeerId)
+        ensures { (g : Config) (H : List Mark) → Holds g H self.old → is_open conn H ≡ true → identity conn H ≡ None →
+            other_in peer conn H ≡ None → Holds g (Shakes conn peer ∷ H) self.new }
+    {
+        if let Some(found) = self.conns.get_mut(&conn) {
+            found.identity = Some(peer);
+        }
+    }
+
+    // READY of a connection that had none.
+    fn shaken(&mut self, out: &mut Effects, conn: u64, peer: PeerId) -> Result<(), OutOfMemory>
+        ensures { (g : Config) (H : List Mark) → Holds g H self.old → is_open conn H ≡ true → identity conn H ≡ None →
+            OnOk result (Did g (at_shaken g conn peer None H) H self.new out.old out.new) }
+    {
+        let older = other_with(&self.conns, peer, conn);
+        self.take_over(out, older)?;
+        self.introduce(conn, peer);
+        Ok(())
+    }
+}
