@@ -11,6 +11,8 @@ use Rattle.zre_peer.specs.Standing.{Stands, view_in, id_of}
 use Rattle.std.proofs.lemmas.Bool.{and_parts}
 use Rattle.zre_msg.specs.declared.message.Body.{Body}
 use Rattle.zre_msg.specs.declared.message.Body.TheVariants as body
+use Rattle.zre_peer.specs.declared.event.Event.{Event}
+use Rattle.zre_values.specs.declared.memory.OutOfMemory.{OutOfMemory}
 use Rattle.zre_peer.specs.declared.causes.Cause.{Cause}
 use Rattle.zre_peer.specs.declared.causes.Cause.TheVariants as cause
 use Rattle.zre_peer.specs.declared.peer_run.RunFault.{RunFault}
@@ -30,9 +32,11 @@ use Rattle.zre_node.specs.declared.peer.Running.{Running}
 use Rattle.zre_node.specs.declared.tables.Tables.{Tables}
 use Rattle.zre_node.specs.declared.effects.Effects.{Effects}
 use Rattle.zre_node.specs.Tabled.{Tabled}
-use Rattle.zre_node.specs.Stands.{Holds, Keeps, Nearly, Did, HasRun, HadRun, IsRunning, IsPeer, IsBut, IsKept, is_ping}
+use Rattle.zre_node.specs.Stands.{Holds, Keeps, Nearly, Did, HasRun, HadRun, IsRunning, IsPeer, IsBut, IsKept, IsLeaving, is_ping}
 use Rattle.zre_node.proofs.Entries.{changed}
 use Rattle.zre_node.proofs.Parting.{its_row, keeps_with, leaves}
+use Rattle.zre_journal.specs.Told.{told}
+use Rattle.zre_node.proofs.Many.{did_by}
 use Rattle.zre_node.proofs.Shaking.{not_true}
 
 pub if_err : {T E B : Type 0} {P Q : E → Type 0} (r : Result T E) → IfErr r P → OnErr r B → ((e : E) → P e → B → Q e) → IfErr r Q
@@ -105,3 +109,90 @@ counts_it g c l m H some e = by (counted l H) some.0 some.1 some.2 e
         let two = and_parts (not (is_hello m.body)) (eqb m.sequence (due (d ∷ ds))) all.0 in
         let x : is_hello m.body ≡ false = not_true (is_hello m.body) two.0 in
         rw (q, x, two.1, all.1) (ap (λ hs. Counts c l m ∷ hs) (answers_it g l m.body H))
+
+-- ---- at the tables
+
+module _ (g : Config) (H : List Mark) (t : Tables) (h : Holds g H t) (c l : ℕ) (r : runs c H ≡ Some l) (k : Peer) (was : Some k ≡ lookup (is_at (nat_cmp l)) t.peers.entries) where
+  pub its : (v : Life) × (life l H ≡ Some v) × IsPeer g H v k
+  its = its_row (IsPeer g H) H t.peers.entries h.peers l k was
+
+  link_is : l ≡ its.0.link
+  link_is = eqb-true l its.0.link (found_passes (λ (u : Life). eqb l u.link) (lives H) its.0 its.1)
+
+  run_here : runner its.0.link H ≡ Some c
+  run_here = ap (λ j. runner j H) (sym link_is) ∙ run_is H h.keeps.proper c l r
+
+  pub some_counted : IsCons (counted l H)
+  some_counted = counted_some l c H (run_is H h.keeps.proper c l r)
+
+  -- its run carries what was counted
+  pub row_runs : HasRun (Some c) its.0.id (counted l H) k.run
+  row_runs = subst (λ ms. HasRun (Some c) its.0.id ms k.run) (ap (λ j. counted j H) (sym link_is)) (subst (λ o. HasRun o its.0.id (counted its.0.link H) k.run) run_here its.2.run_is)
+
+  that : (u : Life) → life l H ≡ Some u → u ≡ its.0
+  that u f = let z : Some u ≡ Some its.0 = sym f ∙ its.1 in cc
+
+  pub counts : (m : Message) (w : Peer) (P : BTreeMap ℕ Peer) → w.id ≡ k.id → w.link ≡ k.link → w.active ≡ t.clock → HasRun (Some c) its.0.id (counted l H ++ m ∷ []) w.run
+      → P.entries ≡ set_value (is_at (nat_cmp l)) t.peers.entries w → Holds g (Counts c l m ∷ H) (record t { peers = P })
+  counts m w P id link now run put = record {
+    keeps = record {
+      valid = h.keeps.valid;
+      proper = Counts-proper H h.keeps.proper c l m r;
+      going = h.keeps.going;
+      awake = h.keeps.awake;
+      config = h.keeps.config;
+      mailbox = h.keeps.mailbox;
+      clock_is = h.keeps.clock_is;
+      births_is = h.keeps.births_is;
+      last_is = h.keeps.last_is;
+      groups_fit = h.keeps.groups_fit;
+      own = h.keeps.own;
+      conns = h.keeps.conns;
+    };
+    peers = subst (λ es. Tabled (λ (v : Life). v.link) (IsPeer g (Counts c l m ∷ H)) (lives H) es) (sym put)
+      (changed (λ (v : Life). v.link) (IsPeer g H) (IsPeer g (Counts c l m ∷ H)) l w
+      (λ v x far is. let off : eqb v.link l ≡ false = eqb-comm v.link l ∙ far in rw off is) (lives H) t.peers.entries h.keeps.proper.living.apart
+      (λ v f. subst (λ u. IsPeer g (Counts c l m ∷ H) u w) (sym (that v f)) here) h.peers);
+  }
+    where
+      me : eqb its.0.link l ≡ true
+      me = eq-eqb its.0.link l (sym link_is)
+      runs_on : HasRun (runner its.0.link H) its.0.id (counted its.0.link H ++ m ∷ []) w.run
+      runs_on = subst (λ o. HasRun o its.0.id (counted its.0.link H ++ m ∷ []) w.run) (sym run_here) (subst (λ j. HasRun (Some c) its.0.id (counted j H ++ m ∷ []) w.run) link_is run)
+      here : IsPeer g (Counts c l m ∷ H) its.0 w
+      here = rw me record { id_is = id ∙ its.2.id_is; active_is = now ∙ h.keeps.clock_is; run_is = runs_on; link_is = link ∙ its.2.link_is }
+
+  -- a run that has refused is that of a peer that is to end
+  pub breaks : (w : Peer) (P : BTreeMap ℕ Peer) → w.id ≡ k.id → HadRun (Some c) (counted l H) w.run → P.entries ≡ set_value (is_at (nat_cmp l)) t.peers.entries w → Nearly g H l (record t { peers = P })
+  breaks w P id run put = record {
+    keeps = keeps_with g H t h.keeps P;
+    peers = subst (λ es. Tabled (λ (v : Life). v.link) (IsBut g H l) (lives H) es) (sym put)
+      (changed (λ (v : Life). v.link) (IsPeer g H) (IsBut g H l) l w
+      (λ v x far is. record { leaving = leaves g H v x is; staying = λ o. is }) (lives H) t.peers.entries h.keeps.proper.living.apart
+      (λ v f. record {
+        leaving = subst (λ u. IsLeaving H u w) (sym (that v f)) record { id_is = id ∙ its.2.id_is; run_is = had };
+        staying = λ off. let here : eqb l v.link ≡ true = found_passes (λ (u : Life). eqb l u.link) (lives H) v f in absurd cc;
+      }) h.peers);
+  }
+    where
+      had : HadRun (runner its.0.link H) (counted its.0.link H) w.run
+      had = subst (λ o. HadRun o (counted its.0.link H) w.run) (sym run_here) (subst (λ j. HadRun (Some c) (counted j H) w.run) link_is run)
+
+  -- what it tells
+  pub its_events : (m : Message) → told (Counts c l m ∷ []) H ≡ events_of its.0.id (view_of (counted l H)) m.body
+  its_events m = rw (its.1, ← link_is) (append-nil (events_of its.0.id (view_of (counted l H)) m.body))
+
+pub known_here : (H : List Mark) (l : ℕ) (v : Life) → life l H ≡ Some v → IsSome (life l H)
+known_here H l v e = rw e refl
+
+pub counted_did : (g : Config) (H : List Mark) (n : Tables) (c l : ℕ) (m : Message) (a s : Effects) → Holds g (Counts c l m ∷ H) n → s.events ≡ a.events ++ told (Counts c l m ∷ []) H → s.acts ≡ a.acts → s.pushed ≡ a.pushed → Did g (Counts c l m ∷ []) H n a s
+counted_did g H n c l m a s h ev ac pu = did_by g (Counts c l m ∷ []) H n a s h ev (ac ∙ sym (append-nil a.acts)) pu (λ j. refl)
+
+-- an end for a refused message, which has told nothing
+pub ended_from : (g : Config) (c l : ℕ) (m : Message) (H : List Mark) (n : Tables) (a : Effects) (es : List Event) (s : Effects) (r : Result (Unit {0}) OutOfMemory) → IsCons (counted l H) → may_follow (counted l H) m ≡ false
+    → (f : RunFault) → f ≡ fault_of (counted l H) m → es ≡ a.events → OnOk r (Did g (Ends l (cause_by f) ∷ []) H n (record a { events = es }) s) → OnOk r (Did g (at_later g c l m H) H n a s)
+ended_from g c l m H n a es s (Ok x) some e f is same d =
+    let marks = refuses_it g c l m H some e ∙ ap (λ k. Ends l (cause_by k) ∷ []) (sym is) in
+    let from : record a { events = es } ≡ a = ap (λ xs. record a { events = xs }) same in
+    rw marks (subst (λ b. Did g (Ends l (cause_by f) ∷ []) H n b s) from d)
+ended_from g c l m H n a es s (Err x) some e f is same d = tt

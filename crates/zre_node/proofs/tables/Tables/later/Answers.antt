@@ -1,0 +1,79 @@
+use Rattle.std.proofs.Common.{◌≡◌, Bool, ◌++◌, [], ◌∷◌, Some, Ok, Err, refl, sym, ap, ◌∙◌, subst, if◌then◌else◌}
+use Rattle.zre_msg.specs.declared.message.Body.TheVariants as body
+use Rattle.zre_peer.specs.Runs.{fault_of}
+use Rattle.zre_peer.specs.declared.event.Event.{Event}
+use Rattle.zre_peer.specs.declared.peer_run.RunFault.{RunFault}
+use Rattle.zre_peer.specs.declared.peer_run.RunFault.TheVariants as fault
+use Rattle.zre_journal.specs.Chronicle.{Counts, Ends}
+use Rattle.zre_journal.specs.Happens.{push}
+use Rattle.zre_journal.specs.Peers.{counted, life}
+use Rattle.zre_journal.proofs.Kept.{run_known}
+use Rattle.zre_node.specs.declared.effects.Effects.{Effects}
+use Rattle.zre_node.specs.Stands.{IsPeer, is_ping}
+use Rattle.zre_node.proofs.Counting.{its, some_counted, row_runs, counts, breaks, its_events, counted_did, counts_it, refuses_it, cause_by, ended_from}
+use Rattle.zre_node.proofs.Ending.{on_ok}
+use Rattle.zre_node.proofs.Many.{did_as, did_then}
+use Rattle.zre_node.proofs.Parting.{no_row, not_missing}
+use Rattle.zre_node.proofs.tables.Tables.later.Goals as goal
+
+pub returns-in_default : goal.returns-in_default
+returns-in_default c = λ g H h r.
+    not_missing (life c.args.link H) (run_known H h.keeps.proper c.args.conn c.args.link r) (no_row (IsPeer g H) H c.args.self.now.peers.entries h.peers c.args.link c.in_default.ensures.value)
+
+pub returns-in-Ok : goal.returns-in-Ok
+returns-in-Ok c = λ g H h r.
+    let t = c.args.self.now in
+    let l = c.args.link in
+    let m = c.args.message in
+    let k = c.in-Some.peer.now in
+    let was = c.in-Some.ensures.value in
+    let its_row = its g H t h c.args.conn l r k was in
+    let runs_it = row_runs g H t h c.args.conn l r k was in
+    let took = c.in-Ok.ensures.ok c.args.conn its_row.0.id (counted l H) runs_it in
+    let held = counts g H t h c.args.conn l r k was m c.take.new.peer (c.get_mut.follows.lender c.take.new.peer) c.in-Ok.ensures.id c.in-Ok.ensures.link took.2 took.1 (c.get_mut.follows.holds c.take.new.peer).0 in
+    let told_it = took.3 ∙ ap (λ es. c.args.out.now.events ++ es) (sym (its_events g H t h c.args.conn l r k was m)) in
+    let first = counted_did g H _ c.args.conn l m c.args.out.now (record c.args.out.now { events = c.take.new.events }) held told_it refl refl in
+    on_ok c.answer_ping.result (c.answer_ping.ensures g (Counts c.args.conn l m ∷ H) held (run_known H h.keeps.proper c.args.conn l r)) (λ second.
+    did_as g _ _ H _ _ _ (counts_it g c.args.conn l m H (some_counted g H t h c.args.conn l r k was) took.0)
+    (did_then g (Counts c.args.conn l m ∷ []) (if is_ping m.body then push g l body.PingOk H else []) H _ c.answer_ping.new.self c.args.out.now (record c.args.out.now { events = c.take.new.events }) c.answer_ping.new.out first
+    (did_as g _ _ (Counts c.args.conn l m ∷ H) _ _ _ (ap (λ (b : Bool). if b then push g l body.PingOk H else []) (sym c.is_ping-ping.ensures)) second)))
+
+pub returns-in-Err-SecondHello : goal.returns-in-Err-SecondHello
+returns-in-Err-SecondHello c = λ g H h r.
+    let t = c.args.self.now in
+    let l = c.args.link in
+    let k = c.in-Some.peer.now in
+    let was = c.in-Some.ensures.value in
+    let all = rw c.in-Err-SecondHello.field-0-is at c.in-Err-SecondHello.ensures.refused in
+    let no_memory = λ (e : fault.SecondHello ≡ fault.OutOfMemory). absurd cc in
+    let took = all c.args.conn (its g H t h c.args.conn l r k was).0.id (counted l H) (row_runs g H t h c.args.conn l r k was) no_memory in
+    let near = breaks g H t h c.args.conn l r k was c.take.new.peer (c.get_mut.follows.lender c.take.new.peer) c.in-Err-SecondHello.ensures.id took.2 (c.get_mut.follows.holds c.take.new.peer).0 in
+    ended_from g c.args.conn l c.args.message H c.end.new.self c.args.out.now c.take.new.events c.end.new.out c.end.result (some_counted g H t h c.args.conn l r k was) took.0 fault.SecondHello took.1 took.3
+    (c.end.ensures g H near (run_known H h.keeps.proper c.args.conn l r))
+
+pub returns-in-Err-Broken : goal.returns-in-Err-Broken
+returns-in-Err-Broken c = λ g H h r.
+    let t = c.args.self.now in
+    let l = c.args.link in
+    let k = c.in-Some.peer.now in
+    let was = c.in-Some.ensures.value in
+    let why = fault.Broken c.in-Err-Broken.due c.in-Err-Broken.got in
+    let all = rw c.in-Err-Broken.field-0-is at c.in-Err-Broken.ensures.refused in
+    let no_memory = λ (e : fault.Broken c.in-Err-Broken.due c.in-Err-Broken.got ≡ fault.OutOfMemory). absurd cc in
+    let took = all c.args.conn (its g H t h c.args.conn l r k was).0.id (counted l H) (row_runs g H t h c.args.conn l r k was) no_memory in
+    let near = breaks g H t h c.args.conn l r k was c.take.new.peer (c.get_mut.follows.lender c.take.new.peer) c.in-Err-Broken.ensures.id took.2 (c.get_mut.follows.holds c.take.new.peer).0 in
+    ended_from g c.args.conn l c.args.message H c.end-in-Err-Broken.new.self c.args.out.now c.take.new.events c.end-in-Err-Broken.new.out c.end-in-Err-Broken.result (some_counted g H t h c.args.conn l r k was) took.0 why took.1 took.3
+    (c.end-in-Err-Broken.ensures g H near (run_known H h.keeps.proper c.args.conn l r))
+
+pub returns-in-Err-Limit : goal.returns-in-Err-Limit
+returns-in-Err-Limit c = λ g H h r.
+    let t = c.args.self.now in
+    let l = c.args.link in
+    let k = c.in-Some.peer.now in
+    let was = c.in-Some.ensures.value in
+    let all = rw c.in-Err-Limit.field-0-is at c.in-Err-Limit.ensures.refused in
+    let no_memory = λ (e : fault.Limit ≡ fault.OutOfMemory). absurd cc in
+    let took = all c.args.conn (its g H t h c.args.conn l r k was).0.id (counted l H) (row_runs g H t h c.args.conn l r k was) no_memory in
+    let near = breaks g H t h c.args.conn l r k was c.take.new.peer (c.get_mut.follows.lender c.take.new.peer) c.in-Err-Limit.ensures.id took.2 (c.get_mut.follows.holds c.take.new.peer).0 in
+    ended_from g c.args.conn l c.args.message H c.end-in-Err-Limit.new.self c.args.out.now c.take.new.events c.end-in-Err-Limit.new.out c.end-in-Err-Limit.result (some_counted g H t h c.args.conn l r k was) took.0 fault.Limit took.1 took.3
+    (c.end-in-Err-Limit.ensures g H near (run_known H h.keeps.proper c.args.conn l r))
