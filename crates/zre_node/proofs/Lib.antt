@@ -10,4 +10,5 @@ pub mod Opening
 pub mod Parting
 pub mod Pushing
 pub mod Shaking
+pub mod Starting
 pub mod Stopping

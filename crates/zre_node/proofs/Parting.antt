@@ -94,3 +94,11 @@ parts g H l t n k e P is =
       peers = subst (λ es. Tabled (λ (v : Life). v.link) (IsPeer g H) (other_lives l (lives H)) es) (sym is)
         (removed (λ (v : Life). v.link) (IsBut g H l) (IsPeer g H) l (λ v w far b. b.staying far) (lives H) t.peers.entries n.keeps.proper.living.apart n.peers);
     }
+
+-- a known peer has its row
+pub peer_of : (P : Life → Peer → Type 0) (H : List Mark) (es : List (ℕ × Peer)) → Tabled (λ (v : Life). v.link) P (lives H) es → (l : ℕ) (v : Life) → life l H ≡ Some v → (k : Peer) × (lookup (is_at (nat_cmp l)) es ≡ Some k)
+peer_of P H es t l v e = by (peer_row P H es t l)
+  where
+    by : PeerRow P H l (lookup (is_at (nat_cmp l)) es) → (k : Peer) × (lookup (is_at (nat_cmp l)) es ≡ Some k)
+    by (Found u k f o p) = (k, o)
+    by (Missing f o) = let z : None ≡ Some v = sym f ∙ e in absurd cc

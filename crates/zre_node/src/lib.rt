@@ -8,6 +8,7 @@ mod connection;
 mod connections;
 mod effects;
 mod ends;
+mod first;
 mod peer;
 mod pushes;
 mod runs;
