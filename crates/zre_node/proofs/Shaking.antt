@@ -59,7 +59,7 @@ other_open p c H (Some d) e = open_one (λ x. not (eqb c x) && is_same p (identi
 
 -- ---- it gives way
 
-same_id : (p q : PeerId) → bytes_eq p.0 q.0 ≡ true → q ≡ p
+pub same_id : (p q : PeerId) → bytes_eq p.0 q.0 ≡ true → q ≡ p
 same_id p q e = let same : p.0 ≡ q.0 = (bytes_eq-Decides p.0 q.0).0 e in let back : q ≡ p = ap (λ (xs : List ℕ). record { 0 = xs }) (sym same) in back
 
 -- one with the identity of p

@@ -1,7 +1,21 @@
 -- The first message of a connection.
-use Rattle.std.proofs.Common.{◌≡◌, ℕ, ◌<◌, ◌≤◌, Bool, true, false, cond, not, ◌&&◌, ◌||◌, eqb, ltb, if◌then◌else◌, List, [], ◌∷◌, ◌++◌, length, Option, Some, None, IsSome, is_some, is_none, find, Result, Ok, Err, OnOk, refl, sym, ap, ◌∙◌, nat_cmp, subst, eq-eqb, eqb-true, append-nil}
+use Rattle.std.proofs.Common.{◌≡◌, ◌≢◌, ℕ, ◌+◌, ◌<◌, ◌≤◌, Bool, true, false, cond, not, ◌&&◌, ◌||◌, eqb, ltb, if◌then◌else◌, List, [], ◌∷◌, ◌++◌, length, Option, Some, None, IsSome, is_some, is_none, find, Result, Ok, Err, OnOk, refl, sym, ap, ◌∙◌, nat_cmp, subst, eq-eqb, ne_eqb, arith, lt-ltb, le-ltb, eqb-true, append-nil}
 use Rattle.std.proofs.lemmas.Bool.{and_parts}
-use Rattle.std.specs.List.{list_any}
+use Rattle.std.specs.List.{AllByRecursion, list_any}
+use Rattle.std.specs.Str.{bytes_eq}
+use Rattle.zre_values.specs.declared.endpoint.Endpoint.{Endpoint}
+use Rattle.zre_peer.specs.declared.causes.IgnoreWhy.TheVariants as ignore
+use Rattle.zre_peer.specs.declared.peer_run.RunFault.{RunFault}
+use Rattle.zre_peer.specs.declared.peer_run.RunFault.TheVariants as fault
+use Rattle.zre_peer.specs.Runs.{is_hello, may_follow, fault_of, events_of}
+use Rattle.zre_peer.specs.Views.{view_of, is_small}
+use Rattle.zre_values.specs.Endpoint.{endpoint_in}
+use Rattle.zre_peer.specs.declared.event.Event.{Event}
+use Rattle.zre_values.specs.declared.memory.OutOfMemory.{OutOfMemory}
+use Rattle.std.specs.Result.{is_err}
+use Rattle.zre_node.specs.declared.effects.Effects.{Effects}
+use Rattle.zre_journal.specs.Happens.{at_first, start, start_unknown, birth}
+use Rattle.zre_journal.specs.Told.{told}
 use Rattle.std.specs.BTreeMap.{BTreeMap, is_at}
 use Rattle.std.specs.Map.{lookup, set_value}
 use Rattle.zre_values.specs.declared.peer_id.PeerId.{PeerId}
@@ -10,23 +24,23 @@ use Rattle.zre_peer.specs.declared.causes.IgnoreWhy.{IgnoreWhy}
 use Rattle.zre_peer.specs.declared.peer_run.Run.{Run}
 use Rattle.zre_peer.specs.Standing.{Stands, id_of}
 use Rattle.zre_journal.specs.declared.config.Config.{Config}
-use Rattle.zre_journal.specs.Chronicle.{Mark, Starts, Ignores, ever}
+use Rattle.zre_journal.specs.Chronicle.{Mark, Starts, Ignores, after, ever}
 use Rattle.zre_journal.specs.Heard.{clock, bytes}
 use Rattle.zre_journal.specs.Connections.{open_ones, is_open, is_live, is_ignored, was_used, identity, runs, started, since, refuses, has_ended, unless}
-use Rattle.zre_journal.specs.Peers.{Life, lives, life, runner, counted}
-use Rattle.zre_journal.specs.Proper.{IsProper}
-use Rattle.zre_journal.proofs.Kept.{known_lives, runner_runs, Starts-proper, Ignores-proper}
-use Rattle.zre_journal.proofs.Listed.{eqb-comm, found_passes}
+use Rattle.zre_journal.specs.Peers.{Life, lives, life, life_of, births, runner, counted}
+use Rattle.zre_journal.specs.Proper.{IsProper, Apart}
+use Rattle.zre_journal.proofs.Kept.{known_lives, newborn, runner_runs, Starts-proper, Ignores-proper}
+use Rattle.zre_journal.proofs.Listed.{eqb-comm, found, found_passes, All-map}
 use Rattle.zre_node.specs.declared.connection.Connection.{Connection}
 use Rattle.zre_node.specs.declared.peer.Peer.{Peer}
 use Rattle.zre_node.specs.declared.peer.Running.{Running}
 use Rattle.zre_node.specs.declared.tables.Tables.{Tables}
 use Rattle.zre_node.specs.Tabled.{Tabled}
-use Rattle.zre_node.specs.Stands.{Holds, Keeps, HasRun, IsRunning, IsPeer, IsConn, kept_conn, heard_by}
+use Rattle.zre_node.specs.Stands.{Holds, Keeps, Did, HasRun, IsRunning, IsPeer, IsConn, kept_conn, heard_by}
 use Rattle.zre_node.proofs.Entries.{changed}
 use Rattle.zre_node.proofs.Opening.{with_conns}
 use Rattle.zre_node.proofs.Parting.{its_row}
-use Rattle.zre_node.proofs.Shaking.{not_true}
+use Rattle.zre_node.proofs.Shaking.{not_true, same_id}
 
 -- ---- a waiting connection has started nothing and was not refused
 
@@ -128,3 +142,103 @@ module _ (g : Config) (H : List Mark) (t : Tables) (h : Holds g H t) (c l : ℕ)
     };
     peers = peers_after x w P was id link now run put;
   }
+
+-- ---- which marks a first message leaves
+
+module _ (g : Config) (c : ℕ) (p : PeerId) (m : Message) (H : List Mark) where
+  -- a message that makes no run
+  pub first_refused : (f : RunFault) → (may_follow [] m ≡ false) × (f ≡ fault_of [] m) → (f ≡ fault.NotHello → at_first g c (Some p) m H ≡ Ignores c ignore.NotHello ∷ []) × (f ≡ fault.Limit → at_first g c (Some p) m H ≡ Ignores c ignore.Limit ∷ [])
+  first_refused f why = by (is_hello m.body && eqb m.sequence 1) refl (is_small (view_of (m ∷ []))) refl why.0 why.1
+    where
+      by : (a : Bool) → (is_hello m.body && eqb m.sequence 1) ≡ a → (b : Bool) → is_small (view_of (m ∷ [])) ≡ b → may_follow [] m ≡ false → f ≡ fault_of [] m
+        → (f ≡ fault.NotHello → at_first g c (Some p) m H ≡ Ignores c ignore.NotHello ∷ []) × (f ≡ fault.Limit → at_first g c (Some p) m H ≡ Ignores c ignore.Limit ∷ [])
+      by false x b y e is = (λ k. rw x refl, λ k. let z : fault.NotHello ≡ fault.Limit = sym (rw x at is) ∙ k in absurd cc)
+      by true x false y e is = (λ k. let z : fault.Limit ≡ fault.NotHello = sym (rw x at is) ∙ k in absurd cc, λ k. rw (x, y) refl)
+      by true x true y e is = let z : true ≡ false = rw (x, y) at e in absurd cc
+
+  -- one that makes a run
+  pub first_starts : may_follow [] m ≡ true → at_first g c (Some p) m H ≡ start g c p m (life_of p H) H
+  first_starts e =
+      let q = and_parts (is_hello m.body && eqb m.sequence 1) (is_small (view_of (m ∷ []))) e in
+      rw (q.0, q.1) refl
+
+-- ---- the peer of an identity, by its link
+
+same_life : (p : PeerId) (vs : List Life) (v : Life) → Apart (λ (u : Life). u.link) vs → find (λ (u : Life). bytes_eq p.0 u.id.0) vs ≡ Some v → find (λ (u : Life). eqb v.link u.link) vs ≡ Some v
+same_life p [] v a e = absurd cc
+same_life p (u ∷ us) v a e = by (λ k. same_life p us v a.1 k) (bytes_eq p.0 u.id.0) e
+  where
+    by : (find (λ (w : Life). bytes_eq p.0 w.id.0) us ≡ Some v → find (λ (w : Life). eqb v.link w.link) us ≡ Some v) → (b : Bool) → cond b (Some u) (find (λ (w : Life). bytes_eq p.0 w.id.0) us) ≡ Some v
+        → cond (eqb v.link u.link) (Some u) (find (λ (w : Life). eqb v.link w.link) us) ≡ Some v
+    by r true k = let same : u ≡ v = cc in let me : eqb v.link u.link ≡ true = eq-eqb v.link u.link (ap (λ (w : Life). w.link) (sym same)) in rw me k
+    by r false k =
+        let far : eqb u.link v.link ≡ false = (found (λ (w : Life). eqb u.link w.link ≡ false) (λ (w : Life). bytes_eq p.0 w.id.0) us v a.0 k).0 in
+        let off : eqb v.link u.link ≡ false = eqb-comm v.link u.link ∙ far in
+        rw off (r k)
+
+-- the life with an identity is the one of its link, and has that identity
+pub its_own_life : (H : List Mark) → IsProper H → (p : PeerId) (v : Life) → life_of p H ≡ Some v → (life v.link H ≡ Some v) × (v.id ≡ p)
+its_own_life H q p v e = (same_life p (lives H) v q.living.apart e, same_id p v.id (found_passes (λ (u : Life). bytes_eq p.0 u.id.0) (lives H) v e))
+
+-- what starting a run tells
+pub starts_tell : (g : Config) (H : List Mark) (t : Tables) → Holds g H t → (c : ℕ) (m : Message) (v : Life) (p : PeerId) → is_live c H ≡ true → runs c H ≡ None → identity c H ≡ Some p → life v.link H ≡ Some v → v.id ≡ p
+    → told (Starts c v.link m ∷ []) H ≡ events_of p (view_of []) m.body
+starts_tell g H t h c m v p live idle who k id =
+    let none = free g H t h c v.link m v live idle k (who ∙ ap (λ (x : PeerId). Some x) (sym id)) in
+    let silent : counted v.link H ≡ [] = h.keeps.proper.running.is_silent v.link none in
+    rw (k, silent, id) (append-nil (events_of p (view_of []) m.body))
+
+-- ---- a newborn peer
+
+pub last_found : (n : ℕ) (vs : List Life) (v : Life) → eqb n v.link ≡ true → AllByRecursion (λ (u : Life). u.link < n) vs → find (λ (u : Life). eqb n u.link) (vs ++ v ∷ []) ≡ Some v
+last_found n [] v e a = rw e refl
+last_found n (u ∷ us) v e a = let low : u.link < n = a.0 in let far : eqb n u.link ≡ false = ne_eqb n u.link (λ q. omega arith) in rw far (last_found n us v e a.1)
+
+pub newborn_known : (g : Config) (H : List Mark) → IsProper H → (p : PeerId) (e : Endpoint) → life (births H + 1) (after (birth g p e H) H) ≡ Some (newborn (births H + 1) p e)
+newborn_known g H q p e = last_found (births H + 1) (lives H) (newborn (births H + 1) p e) (eq-eqb (births H + 1) (births H + 1) refl)
+    (All-map (λ (v : Life). v.link ≤ births H) (λ (v : Life). v.link < births H + 1) (λ v h. omega arith) (lives H) q.living.numbered)
+
+-- the marks of a start, by the place
+pub known_starts : (g : Config) (c : ℕ) (p : PeerId) (m : Message) (H : List Mark) (v : Life) → life_of p H ≡ Some v → start g c p m (life_of p H) H ≡ Starts c v.link m ∷ []
+known_starts g c p m H v e = rw e refl
+
+pub new_starts : (g : Config) (c : ℕ) (p : PeerId) (m : Message) (H : List Mark) (e : Endpoint) → life_of p H ≡ None → endpoint_in (view_of (m ∷ [])).endpoint ≡ Some e → length (lives H) < 256
+    → start g c p m (life_of p H) H ≡ birth g p e H ++ Starts c (births H + 1) m ∷ []
+new_starts g c p m H e k to low = let room : ltb (length (lives H)) 256 ≡ true = lt-ltb (length (lives H)) 256 low in rw (k, to, room) refl
+
+pub nowhere_starts : (g : Config) (c : ℕ) (p : PeerId) (m : Message) (H : List Mark) (why : IgnoreWhy) → life_of p H ≡ None → start_unknown g c p m (endpoint_in (view_of (m ∷ [])).endpoint) H ≡ Ignores c why ∷ []
+    → start g c p m (life_of p H) H ≡ Ignores c why ∷ []
+nowhere_starts g c p m H why k is = rw k is
+
+pub no_endpoint : (g : Config) (p : PeerId) (m : Message) (H : List Mark) → endpoint_in (view_of (m ∷ [])).endpoint ≡ None → (c : ℕ) → start_unknown g c p m (endpoint_in (view_of (m ∷ [])).endpoint) H ≡ Ignores c ignore.NoEndpoint ∷ []
+no_endpoint g p m H e c = rw e refl
+
+pub full : (g : Config) (p : PeerId) (m : Message) (H : List Mark) (to : Endpoint) → endpoint_in (view_of (m ∷ [])).endpoint ≡ Some to → 256 ≤ length (lives H) → (c : ℕ) → start_unknown g c p m (endpoint_in (view_of (m ∷ [])).endpoint) H ≡ Ignores c ignore.Full ∷ []
+full g p m H to e high c = let none : ltb (length (lives H)) 256 ≡ false = le-ltb (length (lives H)) 256 high in rw (e, none) refl
+
+-- a birth and a start, with what both tell
+pub new_did : (g : Config) (H : List Mark) (t b : Tables) (n : Tables) (c : ℕ) (m : Message) (p : PeerId) (e : Endpoint) (a : Effects) (es : List Event) (s : Effects) → Holds g H t → is_live c H ≡ true → runs c H ≡ None → identity c H ≡ Some p
+    → es ≡ a.events ++ events_of p (view_of []) m.body → Did g (birth g p e H) H b (record a { events = es }) s → Holds g (Starts c (births H + 1) m ∷ after (birth g p e H) H) n
+    → Did g (birth g p e H ++ Starts c (births H + 1) m ∷ []) H n a s
+new_did g H t b n c m p e a es s h live idle who ev d holds =
+    let K = after (birth g p e H) H in
+    let tells = starts_tell g K b d.holds c m (newborn (births H + 1) p e) p live idle who (newborn_known g H h.keeps.proper p e) refl in
+    record {
+      holds = holds;
+      events = d.events ∙ append-nil es ∙ ev ∙ ap (λ xs. a.events ++ xs) (sym tells);
+      acts = d.acts;
+      pushed = d.pushed;
+    }
+
+pub on_did_as : (g : Config) (hs ks H : List Mark) (t : Tables) (a b : Effects) {T E : Type 0} (r : Result T E) → hs ≡ ks → OnOk r (Did g ks H t a b) → OnOk r (Did g hs H t a b)
+on_did_as g hs ks H t a b r e d = rw e d
+
+-- a refusal tells nothing before it
+pub untold_did : (g : Config) (hs H : List Mark) (n : Tables) (a : Effects) (es : List Event) (s : Effects) (f : RunFault) (r : Result (Unit {0}) OutOfMemory) → (f ≢ fault.OutOfMemory → es ≡ a.events) → (f ≡ fault.OutOfMemory → is_err r ≡ true)
+    → OnOk r (Did g hs H n (record a { events = es }) s) → OnOk r (Did g hs H n a s)
+untold_did g hs H n a es s f (Err x) u m d = tt
+untold_did g hs H n a es s fault.OutOfMemory (Ok x) u m d = let z : false ≡ true = m refl in absurd cc
+untold_did g hs H n a es s fault.NotHello (Ok x) u m d = subst (λ b. Did g hs H n b s) (ap (λ xs. record a { events = xs }) (u (λ e. absurd cc))) d
+untold_did g hs H n a es s fault.SecondHello (Ok x) u m d = subst (λ b. Did g hs H n b s) (ap (λ xs. record a { events = xs }) (u (λ e. absurd cc))) d
+untold_did g hs H n a es s (fault.Broken p q) (Ok x) u m d = subst (λ b. Did g hs H n b s) (ap (λ xs. record a { events = xs }) (u (λ e. absurd cc))) d
+untold_did g hs H n a es s fault.Limit (Ok x) u m d = subst (λ b. Did g hs H n b s) (ap (λ xs. record a { events = xs }) (u (λ e. absurd cc))) d

@@ -1,6 +1,10 @@
 //! The first message of a connection.
 
-ghost use Rattle.std.specs.Prelude.{◌≡◌, List, ◌∷◌, [], ◌++◌, None, Some, OnOk, MatchOption, true};
+ghost use Rattle.std.specs.Prelude.{◌≡◌, ◌≢◌, List, ◌∷◌, [], ◌++◌, None, Some, OnOk, IfOk, IfErr, is_err, true};
+ghost use Rattle.zre_values.specs.declared.peer_id.PeerId.{PeerId as PeerIdValue};
+ghost use Rattle.zre_peer.specs.Runs.{events_of, may_follow};
+ghost use Rattle.zre_node.specs.declared.first.Place.{Place as PlaceValue};
+ghost use Rattle.zre_node.specs.First.{IsPlace, IsFirstFault};
 ghost use Rattle.zre_msg.specs.declared.message.Message.{Message as MessageValue};
 ghost use Rattle.zre_values.specs.Endpoint.{endpoint_in};
 ghost use Rattle.zre_peer.specs.Views.{view_of};
@@ -23,6 +27,7 @@ use crate::ends::ignore;
 use crate::peer::{Peer, Running};
 use crate::tables::{Tables, link_of};
 use std::collections::BTreeMap;
+use std::alloc::Global;
 use zre_msg::{Body, Message};
 use zre_peer::{Events, IgnoreWhy, Run, RunFault};
 use zre_values::limits::PEERS;
@@ -45,6 +50,25 @@ fn mailbox_of(message: &Message) -> Option<Endpoint>
     match &message.body {
         Body::Hello { endpoint, .. } => Endpoint::read(endpoint.as_slice()),
         _ => None,
+    }
+}
+
+// The run that a first message makes, with its events.
+fn opened(
+    alloc: Global,
+    peer: PeerId,
+    message: Message,
+    events: &mut Events,
+) -> Result<Run, RunFault>
+    ensures ok { IfOk result (λ run. (may_follow [] message ≡ true) × Stands run (message ∷ []) × (id_of run ≡ peer)
+        × (events.new ≡ events.old ++ events_of peer (view_of []) message.body)) }
+    ensures refused { IfErr result (λ e. IsFirstFault e message) }
+    ensures untold { IfErr result (λ e. e ≢ RunFault.OutOfMemory → events.new ≡ events.old) }
+{
+    let mut run = Run::new(alloc, peer);
+    match run.take(message, events) {
+        Ok(()) => Ok(run),
+        Err(fault) => Err(fault),
     }
 }
 
@@ -87,5 +111,121 @@ impl Tables {
     {
         carry(&mut self.conns, conn, link);
         enter(&mut self.peers, link, Running { conn, run }, self.clock);
+    }
+
+    // Where the peer of a first message is to be reached.
+    fn place(&self, peer: PeerId, message: &Message) -> Place
+        ensures { (g : Config) (H : List Mark) → Holds g H self.now → IsPlace g peer message.now H result }
+    {
+        if let Some(link) = link_of(&self.peers, peer) {
+            return Place::Known(link);
+        }
+        match mailbox_of(message) {
+            Some(to) if self.peers.len() < PEERS => Place::New(to),
+            Some(_) => Place::Nowhere(IgnoreWhy::Full),
+            None => Place::Nowhere(IgnoreWhy::NoEndpoint),
+        }
+    }
+
+    // A first message that isn't one of a run.
+    fn refuse_by(
+        &mut self,
+        out: &mut Effects,
+        conn: u64,
+        fault: RunFault,
+    ) -> Result<(), OutOfMemory>
+        ensures did { (g : Config) (H : List Mark) (p : PeerIdValue) (m : MessageValue) → Holds g H self.old → is_live conn H ≡ true →
+            runs conn H ≡ None → IsFirstFault fault m →
+            OnOk result (Did g (at_first g conn (Some p) m H) H self.new out.old out.new) }
+        ensures memory { fault ≡ RunFault.OutOfMemory → is_err result ≡ true }
+    {
+        match fault {
+            RunFault::NotHello => self.refuse(out, conn, IgnoreWhy::NotHello),
+            RunFault::Limit => self.refuse(out, conn, IgnoreWhy::Limit),
+            _ => Err(OutOfMemory),
+        }
+    }
+
+    // HELLO of a peer that is known.
+    fn start_known(
+        &mut self,
+        out: &mut Effects,
+        conn: u64,
+        link: u64,
+        peer: PeerId,
+        message: Message,
+    ) -> Result<(), OutOfMemory>
+        ensures { (g : Config) (H : List Mark) → Holds g H self.old → is_live conn H ≡ true → runs conn H ≡ None →
+            identity conn H ≡ Some peer → IsPlace g peer message H (PlaceValue.Known link) →
+            OnOk result (Did g (at_first g conn (Some peer) message H) H self.new out.old out.new) }
+    {
+        match opened(self.alloc, peer, message, &mut out.events) {
+            Ok(run) => {
+                self.start(conn, link, run);
+                Ok(())
+            }
+            Err(fault) => self.refuse_by(out, conn, fault),
+        }
+    }
+
+    // HELLO of a peer that becomes known by it.
+    fn start_new(
+        &mut self,
+        out: &mut Effects,
+        conn: u64,
+        to: Endpoint,
+        peer: PeerId,
+        message: Message,
+    ) -> Result<(), OutOfMemory>
+        ensures { (g : Config) (H : List Mark) → Holds g H self.old → is_live conn H ≡ true → runs conn H ≡ None →
+            identity conn H ≡ Some peer → IsPlace g peer message H (PlaceValue.New to) →
+            OnOk result (Did g (at_first g conn (Some peer) message H) H self.new out.old out.new) }
+    {
+        match opened(self.alloc, peer, message, &mut out.events) {
+            Ok(run) => {
+                self.born(out, peer, to)?;
+                self.start(conn, self.births, run);
+                Ok(())
+            }
+            Err(fault) => self.refuse_by(out, conn, fault),
+        }
+    }
+
+    // HELLO of a peer that can't become known.
+    fn start_nowhere(
+        &mut self,
+        out: &mut Effects,
+        conn: u64,
+        why: IgnoreWhy,
+        peer: PeerId,
+        message: Message,
+    ) -> Result<(), OutOfMemory>
+        ensures { (g : Config) (H : List Mark) → Holds g H self.old → is_live conn H ≡ true → runs conn H ≡ None →
+            identity conn H ≡ Some peer → IsPlace g peer message H (PlaceValue.Nowhere why) →
+            OnOk result (Did g (at_first g conn (Some peer) message H) H self.new out.old out.new) }
+    {
+        match opened(self.alloc, peer, message, &mut Events::new(self.alloc)) {
+            Ok(_) => self.refuse(out, conn, why),
+            Err(fault) => self.refuse_by(out, conn, fault),
+        }
+    }
+
+    /// The first message of a connection on which this peer was introduced.
+    pub fn first(
+        &mut self,
+        out: &mut Effects,
+        conn: u64,
+        peer: PeerId,
+        message: Message,
+    ) -> Result<(), OutOfMemory>
+        ensures { (g : Config) (H : List Mark) → Holds g H self.old → is_live conn H ≡ true → runs conn H ≡ None →
+            identity conn H ≡ Some peer →
+            OnOk result (Did g (at_first g conn (Some peer) message H) H self.new out.old out.new) }
+    {
+        match self.place(peer, &message) {
+            Place::Known(link) => self.start_known(out, conn, link, peer, message),
+            Place::New(to) => self.start_new(out, conn, to, peer, message),
+            Place::Nowhere(why) => self.start_nowhere(out, conn, why, peer, message),
+        }
     }
 }
