@@ -31,6 +31,15 @@ impl Frames {
         }
     }
 
+    /// The list of this one alone, which takes no memory.
+    pub fn of(alloc: Global, frame: Octets) -> Self
+        ensures { result ≡ frame ∷ [] }
+    {
+        Frames {
+            items: SmallVec::from_buf(alloc, [frame]),
+        }
+    }
+
     pub fn len(&self) -> usize
         ensures { result ≡ length self.now }
     {

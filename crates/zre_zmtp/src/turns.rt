@@ -69,11 +69,11 @@ fn said(
             body,
         }));
     }
-    progress.opened.push(body)?;
     if has_more(header.flags) {
+        progress.opened.push(body)?;
         return Ok(None);
     }
-    Ok(Some(What::Message(progress.opened.take(alloc))))
+    Ok(Some(What::Message(progress.opened.finish(alloc, body)?)))
 }
 
 // The item that ends with a whole frame, and what is known behind it. A place past the last one is want of memory.
