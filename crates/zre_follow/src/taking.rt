@@ -77,8 +77,7 @@ fn take_later_frames(
     ensures spent { IfOk result (λ on. is_spent run.new ≡ not on) }
     ensures id { id_of run.new ≡ id_of run.old }
 {
-    let read = Message::read(alloc, frames);
-    match &read {
+    match &Message::read(alloc, frames) {
         Ok(message) => take_later(alloc, message, run, out),
         Err(fault) => match *fault {
             ReadFault::Bad(_) => Ok(true),
