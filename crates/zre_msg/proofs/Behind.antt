@@ -23,7 +23,7 @@ command_is first more found long e = rw (le-ltb _ _ long) e
 
 -- behind a faultless head and whole fields
 bad_behind : (first : List ℕ) (more : List (List ℕ)) (b : Body × List ℕ) → first_row (head_rows first) ≡ None → command_of first more ≡ Some b → bad_of first more ≡ first_row (end_rows first (length b.1) more)
-bad_behind first more b head e = 
+bad_behind first more b head e =
     ap (λ c. first_row (bad_rows first more c)) e ∙ front_fine (head_rows first) ((false, record { why = Short; frame = 0; place = length first }) ∷ end_rows first (length b.1) more) head
 
 read_behind : (first : List ℕ) (more : List (List ℕ)) (b : Body × List ℕ) → first_row (head_rows first) ≡ None → 6 ≤ length first → body_at (get_or first 2 0) more (drop 6 first) ≡ Some b
