@@ -4,12 +4,13 @@ use Rattle.zre_outside.specs.declared.entry.Entry.{Entry}
 use Rattle.zre_outside.specs.declared.act.Act.{Act}
 use Rattle.zre_peer.specs.declared.event.Event.{Event}
 use Rattle.zre_journal.specs.declared.config.Config.{Config}
-use Rattle.zre_journal.specs.Chronicle.{Mark, Comes, after}
-use Rattle.zre_journal.specs.Done.{acts_at, done, offers}
+use Rattle.zre_values.specs.declared.peer_id.PeerId.{PeerId}
+use Rattle.zre_journal.specs.Chronicle.{Mark, Comes, after, in_turn}
+use Rattle.zre_journal.specs.Done.{acts_at, done, done_at, offers}
 use Rattle.zre_journal.specs.Events.{events_at, events_behind, acts_behind, chronicle}
 use Rattle.zre_journal.specs.Happens.{at_input, marks, with_entry, chronicle_behind, has_stopped}
 use Rattle.zre_journal.specs.Laws.{Continues, HasEnded}
-use Rattle.zre_journal.specs.Told.{told}
+use Rattle.zre_journal.specs.Told.{told, told_at}
 
 chronicle-append : (g : Config) (J K : List Entry) (H : List Mark) → chronicle_behind g (J ++ K) H ≡ chronicle_behind g K (chronicle_behind g J H)
 chronicle-append g [] K H = refl
@@ -64,3 +65,24 @@ ends g J K s =
       told = c.told ∙ ap (λ (r : List Event). events_behind g J [] ++ r) (no_events g K (chronicle g J) s) ∙ append-nil (events_behind g J []);
       done = c.done ∙ ap (λ (r : List Act). acts_behind g J [] ++ r) (no_acts g K (chronicle g J) s) ∙ append-nil (acts_behind g J []);
     }
+
+-- ---- marks behind marks
+
+pub after-append : (hs ks H : List Mark) → after (hs ++ ks) H ≡ after ks (after hs H)
+after-append [] ks H = refl
+after-append (h ∷ hs) ks H = after-append hs ks (h ∷ H)
+
+pub told-append : (hs ks H : List Mark) → told (hs ++ ks) H ≡ told hs H ++ told ks (after hs H)
+told-append [] ks H = refl
+told-append (h ∷ hs) ks H = ap (λ es. told_at h H ++ es) (told-append hs ks (h ∷ H)) ∙ sym (append_assoc (told_at h H) (told hs (h ∷ H)) (told ks (after hs (h ∷ H))))
+
+pub done-append : (own : PeerId) (hs ks : List Mark) → done own (hs ++ ks) ≡ done own hs ++ done own ks
+done-append own [] ks = refl
+done-append own (h ∷ hs) ks = ap (λ as_. done_at own h ++ as_) (done-append own hs ks) ∙ sym (append_assoc (done_at own h) (done own hs) (done own ks))
+
+pub in_turn-append : {A : Type 0} (f : A → List Mark → List Mark) (xs ys : List A) (K : List Mark) → in_turn f (xs ++ ys) K ≡ in_turn f xs K ++ in_turn f ys (after (in_turn f xs K) K)
+in_turn-append f [] ys K = refl
+in_turn-append f (x ∷ xs) ys K =
+    ap (λ hs. f x K ++ hs) (in_turn-append f xs ys (after (f x K) K))
+    ∙ sym (append_assoc (f x K) (in_turn f xs (after (f x K) K)) (in_turn f ys (after (in_turn f xs (after (f x K) K)) (after (f x K) K))))
+    ∙ ap (λ J. (f x K ++ in_turn f xs (after (f x K) K)) ++ in_turn f ys J) (sym (after-append (f x K) (in_turn f xs (after (f x K) K)) K))
