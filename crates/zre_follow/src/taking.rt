@@ -1,8 +1,8 @@
 //! Takes the messages of items.
 
-ghost use Rattle.std.specs.Prelude.{◌≡◌, ◌∷◌, [], List, false, not, IfOk, OnOk};
+ghost use Rattle.std.specs.Prelude.{◌≡◌, ◌∷◌, [], List, true, false, not, is_some, IfOk, OnOk};
 ghost use Rattle.zre_msg.specs.declared.message.Message.{Message};
-ghost use Rattle.zre_peer.specs.Standing.{Stands, id_of, is_spent};
+ghost use Rattle.zre_peer.specs.Standing.{Stands, id_of, is_spent, view_in};
 ghost use Rattle.std.specs.List.{cons_option};
 ghost use Rattle.std.specs.Result.{result_ok};
 ghost use Rattle.zre_msg.specs.Reading.{read_frames};
@@ -16,8 +16,8 @@ use zre_peer::{RunFault, Teller};
 use zre_values::{Frames, Octets, OutOfMemory};
 use zre_zmtp::{Item, What};
 
-// Takes one message and appends its lines. Says whether the run goes on.
-fn take_message(
+// Takes the first message of the run and appends its lines. Says whether the run goes on.
+fn take_first(
     alloc: Global,
     message: Message,
     run: &mut Teller,
@@ -39,6 +39,53 @@ fn take_message(
     }
 }
 
+// The same of a message behind HELLO, which is only looked at.
+fn take_later(
+    alloc: Global,
+    message: &Message,
+    run: &mut Teller,
+    out: &mut Octets,
+) -> Result<bool, OutOfMemory>
+    requires going { is_spent run.old ≡ false }
+    requires behind { is_some (view_in run.old) ≡ true }
+    ensures took { (ms : List Message) → Stands run.old ms →
+        IfOk result (λ on. TookOne (id_of run.old) ms message.now on run.new out.old out.new) }
+    ensures spent { IfOk result (λ on. is_spent run.new ≡ not on) }
+    ensures id { id_of run.new ≡ id_of run.old }
+{
+    match run.take_later(message, out) {
+        Ok(()) => Ok(true),
+        Err(RunFault::OutOfMemory) => Err(OutOfMemory),
+        Err(fault) => {
+            push_end(alloc, run.run(), fault, out)?;
+            Ok(false)
+        }
+    }
+}
+
+// Takes the message that frames behind HELLO mean, if they mean one. Says whether the run goes on.
+fn take_later_frames(
+    alloc: Global,
+    frames: &Frames,
+    run: &mut Teller,
+    out: &mut Octets,
+) -> Result<bool, OutOfMemory>
+    requires going { is_spent run.old ≡ false }
+    requires behind { is_some (view_in run.old) ≡ true }
+    ensures took { (ms : List Message) → Stands run.old ms →
+        OnOk result (Took (id_of run.old) ms (cons_option (result_ok (read_frames frames.now)) []) run.new out.old out.new) }
+    ensures spent { IfOk result (λ on. is_spent run.new ≡ not on) }
+    ensures id { id_of run.new ≡ id_of run.old }
+{
+    match &Message::read(alloc, frames) {
+        Ok(message) => take_later(alloc, message, run, out),
+        Err(fault) => match *fault {
+            ReadFault::Bad(_) => Ok(true),
+            ReadFault::OutOfMemory => Err(OutOfMemory),
+        },
+    }
+}
+
 // Takes the message that frames mean, if they mean one. Says whether the run goes on.
 fn take_frames(
     alloc: Global,
@@ -52,8 +99,11 @@ fn take_frames(
     ensures spent { IfOk result (λ on. is_spent run.new ≡ not on) }
     ensures id { id_of run.new ≡ id_of run.old }
 {
+    if run.is_behind() {
+        return take_later_frames(alloc, frames, run, out);
+    }
     match Message::read(alloc, frames) {
-        Ok(message) => take_message(alloc, message, run, out),
+        Ok(message) => take_first(alloc, message, run, out),
         Err(ReadFault::Bad(_)) => Ok(true),
         Err(ReadFault::OutOfMemory) => Err(OutOfMemory),
     }

@@ -1,18 +1,32 @@
 //! The fields of each command, read from the front of what stands behind the sequence.
 
-ghost use Rattle.std.specs.Prelude.{◌≡◌, ℕ, ◌≤◌, length, OnOk};
-ghost use Rattle.zre_msg.specs.Reading.{is_single as single_test, hello_at, join_at, leave_at, shout_at, body_at, command_of};
+ghost use Rattle.std.specs.Prelude.{◌≡◌, ◌≢◌, ℕ, List, Result};
+ghost use Rattle.zre_msg.specs.declared.message.Bad.{Bad};
+ghost use Rattle.zre_msg.specs.Reading.{is_single as single_test, hello_at, join_at, leave_at, shout_at, body_at, Answers};
+ghost use Rattle.zre_msg.specs.Commands.{body_of, Says};
 ghost use Rattle.zre_msg.specs.Fields.{Gives};
 ghost use Rattle.zre_msg.specs.Further.{frames_of};
 
-use crate::fields::{Stop, dictionary_at, octet_at, string_at, strings_at};
+use crate::fields::{Stop, dictionary_at, lent_string_at, octet_at, string_at, strings_at};
 use crate::further::Further;
-use crate::message::Body;
+use crate::message::{Body, Message, ReadFault};
 use std::alloc::Global;
 use zre_values::Octets;
 
+/// A command other than HELLO, with the fields that its frame lends.
+#[derive(Clone, Copy)]
+pub enum Command<'a> {
+    Whisper,
+    Shout { group: &'a [u8] },
+    Join { group: &'a [u8], status: u8 },
+    Leave { group: &'a [u8], status: u8 },
+    Ping,
+    PingOk,
+    Other { number: u8, rest: &'a [u8] },
+}
+
 #[tactic(auto, unfolding(crate::specs::Reading::hello_at))]
-fn read_hello(alloc: Global, octets: &[u8]) -> Result<(Body, &[u8]), Stop>
+pub fn read_hello(alloc: Global, octets: &[u8]) -> Result<(Body, &[u8]), Stop>
     ensures { Gives (λ x. (x.0, x.1.now)) result (hello_at octets.now) }
 {
     let (endpoint, rest) = string_at(alloc, octets)?;
@@ -31,79 +45,98 @@ fn read_hello(alloc: Global, octets: &[u8]) -> Result<(Body, &[u8]), Stop>
 }
 
 #[tactic(auto, unfolding(crate::specs::Reading::join_at))]
-fn read_join(alloc: Global, octets: &[u8]) -> Result<(Body, &[u8]), Stop>
-    ensures { Gives (λ x. (x.0, x.1.now)) result (join_at octets.now) }
+fn read_join(octets: &[u8]) -> Result<(Command<'_>, &[u8]), Stop>
+    ensures { (more : List (List ℕ)) → Gives (λ x. (body_of x.0 more, x.1.now)) result (join_at octets.now) }
 {
-    let (group, rest) = string_at(alloc, octets)?;
+    let (group, rest) = lent_string_at(octets)?;
     let (status, rest) = octet_at(rest)?;
-    Ok((Body::Join { group, status }, rest))
+    Ok((Command::Join { group, status }, rest))
 }
 
 #[tactic(auto, unfolding(crate::specs::Reading::leave_at))]
-fn read_leave(alloc: Global, octets: &[u8]) -> Result<(Body, &[u8]), Stop>
-    ensures { Gives (λ x. (x.0, x.1.now)) result (leave_at octets.now) }
+fn read_leave(octets: &[u8]) -> Result<(Command<'_>, &[u8]), Stop>
+    ensures { (more : List (List ℕ)) → Gives (λ x. (body_of x.0 more, x.1.now)) result (leave_at octets.now) }
 {
-    let (group, rest) = string_at(alloc, octets)?;
+    let (group, rest) = lent_string_at(octets)?;
     let (status, rest) = octet_at(rest)?;
-    Ok((Body::Leave { group, status }, rest))
+    Ok((Command::Leave { group, status }, rest))
 }
 
 #[tactic(auto, unfolding(crate::specs::Reading::shout_at))]
-fn read_shout<'a>(
-    alloc: Global,
-    octets: &'a [u8],
-    further: Further<'_>,
-) -> Result<(Body, &'a [u8]), Stop>
-    ensures { Gives (λ x. (x.0, x.1.now)) result (shout_at (frames_of further.entry) octets.now) }
+fn read_shout(octets: &[u8]) -> Result<(Command<'_>, &[u8]), Stop>
+    ensures { (more : List (List ℕ)) → Gives (λ x. (body_of x.0 more, x.1.now)) result (shout_at more octets.now) }
 {
-    let (group, rest) = string_at(alloc, octets)?;
-    let content = further.take(alloc)?;
-    Ok((Body::Shout { group, content }, rest))
+    let (group, rest) = lent_string_at(octets)?;
+    Ok((Command::Shout { group }, rest))
 }
 
-fn read_body<'a>(
-    alloc: Global,
-    number: u8,
-    octets: &'a [u8],
-    further: Further<'_>,
-) -> Result<(Body, &'a [u8]), Stop>
-    ensures { Gives (λ x. (x.0, x.1.now)) result (body_at number (frames_of further.entry) octets.now) }
+/// The command with this number, which isn't that of HELLO, and the octets that are left over behind its fields.
+pub fn read_command(number: u8, octets: &[u8]) -> Result<(Command<'_>, &[u8]), Stop>
+    requires { number ≢ 1 }
+    ensures { (more : List (List ℕ)) → Gives (λ x. (body_of x.0 more, x.1.now)) result (body_at number more octets.now) }
 {
     match number {
-        1 => read_hello(alloc, octets),
-        2 => {
-            let content = further.take(alloc)?;
-            Ok((Body::Whisper { content }, octets))
-        }
-        3 => read_shout(alloc, octets, further),
-        4 => read_join(alloc, octets),
-        5 => read_leave(alloc, octets),
-        6 => Ok((Body::Ping, octets)),
-        7 => Ok((Body::PingOk, octets)),
+        2 => Ok((Command::Whisper, octets)),
+        3 => read_shout(octets),
+        4 => read_join(octets),
+        5 => read_leave(octets),
+        6 => Ok((Command::Ping, octets)),
+        7 => Ok((Command::PingOk, octets)),
         _ => {
             let (rest, end) = octets.split_at(octets.len());
-            let rest = Octets::copy(alloc, rest)?;
-            let more = further.take(alloc)?;
-            Ok((Body::Other { number, rest, more }, end))
+            Ok((Command::Other { number, rest }, end))
         }
     }
 }
 
-/// The command of a first frame with its fields, and the octets that are left over.
-#[tactic(auto, unfolding(crate::specs::Reading::command_of))]
-pub fn read_command<'a>(
-    alloc: Global,
-    first: &'a [u8],
-    further: Further<'_>,
-) -> Result<(Body, &'a [u8]), Stop>
-    ensures command { Gives (λ x. (x.0, x.1.now)) result (command_of first.now (frames_of further.entry)) }
-    ensures long { OnOk result (6 ≤ length first.now) }
-{
-    if first.len() < 6 {
-        return Err(Stop::Short);
+impl<'a> Command<'a> {
+    /// The message of the command. Its content is the frames behind the first.
+    pub fn message(
+        self,
+        alloc: Global,
+        sequence: u16,
+        further: Further<'_>,
+    ) -> Result<Message, ReadFault>
+        ensures { Says sequence (body_of self.entry (frames_of further.entry)) result }
+    {
+        match self {
+            Command::Whisper => {
+                let content = further.take(alloc)?;
+                let body = Body::Whisper { content };
+                Ok(Message { sequence, body })
+            }
+            Command::Shout { group } => {
+                let content = further.take(alloc)?;
+                let group = Octets::copy(alloc, group)?;
+                let body = Body::Shout { group, content };
+                Ok(Message { sequence, body })
+            }
+            Command::Join { group, status } => {
+                let group = Octets::copy(alloc, group)?;
+                let body = Body::Join { group, status };
+                Ok(Message { sequence, body })
+            }
+            Command::Leave { group, status } => {
+                let group = Octets::copy(alloc, group)?;
+                let body = Body::Leave { group, status };
+                Ok(Message { sequence, body })
+            }
+            Command::Ping => {
+                let body = Body::Ping;
+                Ok(Message { sequence, body })
+            }
+            Command::PingOk => {
+                let body = Body::PingOk;
+                Ok(Message { sequence, body })
+            }
+            Command::Other { number, rest } => {
+                let rest = Octets::copy(alloc, rest)?;
+                let more = further.take(alloc)?;
+                let body = Body::Other { number, rest, more };
+                Ok(Message { sequence, body })
+            }
+        }
     }
-    let (head, rest) = first.split_at(6);
-    read_body(alloc, head[2], rest, further)
 }
 
 /// Whether the command with this number has one frame alone.

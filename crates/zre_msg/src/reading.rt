@@ -1,12 +1,13 @@
 //! Messages read from their frames.
 
-ghost use Rattle.std.specs.Prelude.{◌≡◌, ◌<◌, ◌^◌, [], ◌∷◌, length, Ok, Err, IfOk};
-ghost use Rattle.zre_msg.specs.Reading.{is_other as other_test, first_row, head_rows, read_of, read_frames, Answers};
+ghost use Rattle.std.specs.Prelude.{◌≡◌, ◌≤◌, ◌<◌, ◌^◌, [], ◌∷◌, length, take, drop, slice_index, Ok, Err, None, IfOk};
+ghost use Rattle.std.specs.Int.{w16, from_be_bytes};
+ghost use Rattle.zre_msg.specs.Reading.{is_other as other_test, first_row, head_rows, end_rows, read_of, read_frames, Answers};
 ghost use Rattle.zre_msg.specs.Further.{frames_of};
 ghost use Rattle.zre_msg.specs.Spelling.{Means};
 ghost use Rattle.zre_msg.specs.declared.message.Message.{Message as MessageValue};
 
-use crate::commands::{is_single, read_command};
+use crate::commands::{is_single, read_command, read_hello};
 use crate::fields::Stop;
 use crate::further::Further;
 use crate::message::{Bad, BadWhy, Message, ReadFault};
@@ -52,8 +53,65 @@ fn fault(why: BadWhy, frame: u32, place: usize) -> ReadFault
     })
 }
 
-// The message that a first frame and those behind it mean.
-#[tactic(auto, unfolding(crate::specs::Reading::read_of))]
+// What is wrong behind the fields, where so many octets are left over.
+fn end_fault(first: &[u8], left: usize, further: &Further<'_>) -> Option<Bad>
+    requires long { 3 ≤ length first.now }
+    requires places { length first.now < 2 ^ 32 }
+    ensures { result ≡ first_row (end_rows first.now left (frames_of further.now)) }
+{
+    if left > 0 {
+        return Some(Bad {
+            why: BadWhy::Trailing,
+            frame: 0,
+            place: first.len().saturating_sub(left) as u32,
+        });
+    }
+    if is_single(first[2]) && !further.is_empty() {
+        return Some(Bad {
+            why: BadWhy::ExtraFrames,
+            frame: 1,
+            place: 0,
+        });
+    }
+    None
+}
+
+// The number of the message.
+fn sequence_of(first: &[u8]) -> u16
+    requires { 6 ≤ length first.now }
+    ensures { result ≡ from_be_bytes w16 (take 2 (drop 4 first.now)) }
+{
+    u16::from_be_bytes([first[4], first[5]])
+}
+
+// The message of a first frame that begins as HELLO does.
+#[tactic(auto, unfolding(crate::specs::Reading::read_of, crate::specs::Reading::command_of))]
+fn read_hello_frame(
+    alloc: Global,
+    first: &[u8],
+    further: &Further<'_>,
+) -> Result<Message, ReadFault>
+    requires places { length first.now < 2 ^ 32 }
+    requires long { 6 ≤ length first.now }
+    requires hello { slice_index first.now 2 ≡ 1 }
+    requires head { first_row (head_rows first.now) ≡ None }
+    ensures { Answers result (read_of first.now (frames_of further.now)) }
+{
+    let (_, fields) = first.split_at(6);
+    let (body, rest) = match read_hello(alloc, fields) {
+        Ok(found) => found,
+        Err(Stop::Memory) => return Err(ReadFault::OutOfMemory),
+        Err(Stop::Short) => return Err(fault(BadWhy::Short, 0, first.len())),
+    };
+    if let Some(bad) = end_fault(first, rest.len(), further) {
+        return Err(ReadFault::Bad(bad));
+    }
+    let sequence = sequence_of(first);
+    Ok(Message { sequence, body })
+}
+
+// The message that a first frame and those behind it mean. It is made once nothing can be wrong with them any more.
+#[tactic(auto, unfolding(crate::specs::Reading::read_of, crate::specs::Reading::command_of))]
 fn read_parts(alloc: Global, first: &[u8], further: Further<'_>) -> Result<Message, ReadFault>
     requires { length first.now < 2 ^ 32 }
     ensures { Answers result (read_of first.now (frames_of further.entry)) }
@@ -61,20 +119,22 @@ fn read_parts(alloc: Global, first: &[u8], further: Further<'_>) -> Result<Messa
     if let Some(bad) = head_fault(first) {
         return Err(ReadFault::Bad(bad));
     }
-    let alone = further.is_empty();
-    let (body, rest) = match read_command(alloc, first, further) {
-        Ok(command) => command,
+    if first.len() < 6 {
+        return Err(fault(BadWhy::Short, 0, first.len()));
+    }
+    if first[2] == 1 {
+        return read_hello_frame(alloc, first, &further);
+    }
+    let (_, fields) = first.split_at(6);
+    let (command, rest) = match read_command(first[2], fields) {
+        Ok(found) => found,
         Err(Stop::Memory) => return Err(ReadFault::OutOfMemory),
         Err(Stop::Short) => return Err(fault(BadWhy::Short, 0, first.len())),
     };
-    if !rest.is_empty() {
-        return Err(fault(BadWhy::Trailing, 0, first.len().saturating_sub(rest.len())));
+    if let Some(bad) = end_fault(first, rest.len(), &further) {
+        return Err(ReadFault::Bad(bad));
     }
-    if is_single(first[2]) && !alone {
-        return Err(fault(BadWhy::ExtraFrames, 1, 0));
-    }
-    let sequence = u16::from_be_bytes([first[4], first[5]]);
-    Ok(Message { sequence, body })
+    command.message(alloc, sequence_of(first), further)
 }
 
 // The same with the laws of what is read, for a first frame of any length.

@@ -3,3 +3,5 @@ pub mod Members
 pub mod Opening
 pub mod Standing
 pub mod Named
+pub mod Tables
+pub mod Entries

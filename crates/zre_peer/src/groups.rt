@@ -1,23 +1,32 @@
-ghost use Rattle.std.specs.Prelude.{◌≡◌, ◌<◌, ℕ, List, [], ◌∷◌, ◌++◌, length, remove, OnOk, OnErr, MatchOption, slice_get, Some};
+ghost use Rattle.std.specs.Prelude.{◌≡◌, ◌<◌, ◌≤◌, ℕ, List, [], ◌∷◌, ◌++◌, length, remove, OnOk, OnErr, MatchOption, slice_get, Some};
 ghost use Rattle.std.specs.List.{list_any};
 ghost use Rattle.std.specs.Str.{bytes_eq};
 ghost use Rattle.zre_values.specs.Lists.{without};
 ghost use Rattle.zre_peer.specs.Members.{with_group};
+ghost use Rattle.zre_peer.specs.declared.groups.TheConstants.{FEW};
 
+use crate::group_table::GroupTable;
 use std::alloc::Global;
 use std::marker::Model;
 use zre_values::{Frames, Octets, OutOfMemory};
 
-/// The groups of a peer, each once, in the order in which it joined them.
+/// So many groups are looked through one by one.
+const FEW: usize = 8;
+
+/// The groups of a peer, each once, in the order in which it joined them. A few lie in a list, and those that were
+/// joined behind them have an index, so that finding one of many looks at a few.
 #[derive(Debug, Drop)]
 pub struct Groups {
-    items: Frames,
+    few: Frames,
+    more: GroupTable,
 }
 
 impl Model for Groups {
     ghost Value = { List (List ℕ) };
 
-    ghost view = { λ groups. groups.items };
+    ghost view = { λ groups. groups.few ++ groups.more };
+
+    ghost invariant = { λ groups. length groups.few ≤ FEW };
 }
 
 impl Groups {
@@ -26,27 +35,33 @@ impl Groups {
         ensures { result ≡ [] }
     {
         Groups {
-            items: Frames::new(alloc),
+            few: Frames::new(alloc),
+            more: GroupTable::new(alloc),
         }
     }
 
     pub fn len(&self) -> usize
         ensures { result ≡ length self.now }
     {
-        self.items.len()
+        self.few.len() + self.more.len()
     }
 
     pub fn get(&self, i: usize) -> &[u8]
         requires { i < length self.now }
         ensures { slice_get self.now i ≡ Some result.now }
     {
-        self.items.get(i)
+        let few = self.few.len();
+        if i < few {
+            self.few.get(i)
+        } else {
+            self.more.get(i - few)
+        }
     }
 
     pub fn contains(&self, group: &[u8]) -> bool
         ensures { result ≡ list_any (λ x. bytes_eq x group.now) self.now }
     {
-        self.items.contains(group)
+        self.few.contains(group) || self.more.contains(group)
     }
 
     /// Adds a group at the end, unless it is there. After an error nothing has changed.
@@ -54,10 +69,13 @@ impl Groups {
         ensures ok { OnOk result (self.new ≡ with_group self.old group.now) }
         ensures err { OnErr result (self.new ≡ self.old) }
     {
-        if self.items.contains(group) {
+        if self.few.contains(group) {
             return Ok(());
         }
-        self.items.push(Octets::copy(alloc, group)?)
+        if self.more.is_empty() && self.few.len() < FEW {
+            return self.few.push(Octets::copy(alloc, group)?);
+        }
+        self.more.insert(alloc, group)
     }
 
     /// Where a group stands, if it is there.
@@ -65,7 +83,13 @@ impl Groups {
         ensures { MatchOption result (without group.now self.now ≡ self.now)
             (λ i. (i < length self.now) × (without group.now self.now ≡ remove self.now i)) }
     {
-        self.items.place_of(group)
+        match self.few.place_of(group) {
+            Some(i) => Some(i),
+            None => {
+                let i = self.more.place_of(group)?;
+                Some(self.few.len() + i)
+            }
+        }
     }
 
     /// Removes the group at a place. The others keep their order.
@@ -73,6 +97,11 @@ impl Groups {
         requires { i < length self.old }
         ensures { self.new ≡ remove self.old i }
     {
-        let _ = self.items.remove(i);
+        let few = self.few.len();
+        if i < few {
+            let _ = self.few.remove(i);
+        } else {
+            self.more.remove_at(i - few);
+        }
     }
 }

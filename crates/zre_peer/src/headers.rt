@@ -1,20 +1,22 @@
-ghost use Rattle.std.specs.Prelude.{◌≡◌, ◌<◌, ℕ, List, [], ◌∷◌, ◌++◌, length, IfOk, OnOk, OnErr, slice_get, Some};
+ghost use Rattle.std.specs.Prelude.{◌≡◌, ◌<◌, ℕ, List, [], ◌∷◌, ◌++◌, length, IfOk, OnOk, OnErr, map, slice_get, Some};
 ghost use Rattle.zre_peer.specs.Members.{with_header};
 
+use indexmap::IndexMap;
 use std::alloc::Global;
 use std::marker::Model;
 use zre_values::{Octets, OutOfMemory, Pairs};
 
-/// The headers of a peer in the order in which it told them, of equal names the first.
+/// The headers of a peer in the order in which it told them, of equal names the first. One is found by the hash of its
+/// name, with no look at the others.
 #[derive(Debug, Drop)]
 pub struct Headers {
-    items: Pairs,
+    named: IndexMap<Vec<u8>, Octets>,
 }
 
 impl Model for Headers {
     ghost Value = { List (List ℕ × List ℕ) };
 
-    ghost view = { λ headers. headers.items };
+    ghost view = { λ headers. map (λ header. (header.0.items, header.1)) headers.named.entries };
 }
 
 impl Headers {
@@ -23,14 +25,14 @@ impl Headers {
         ensures { result ≡ [] }
     {
         Headers {
-            items: Pairs::new(alloc),
+            named: IndexMap::new(alloc),
         }
     }
 
     pub fn len(&self) -> usize
         ensures { result ≡ length self.now }
     {
-        self.items.len()
+        self.named.len()
     }
 
     /// The name and the value at a place.
@@ -38,7 +40,8 @@ impl Headers {
         requires { i < length self.now }
         ensures { slice_get self.now i ≡ Some (result.0.now, result.1.now) }
     {
-        self.items.get(i)
+        let (name, value) = self.named.get_index(i).unwrap();
+        (name.as_slice(), value.as_slice())
     }
 
     /// Adds a header at the end, unless its name is there. After an error nothing has changed.
@@ -46,17 +49,24 @@ impl Headers {
         ensures ok { OnOk result (self.new ≡ with_header self.old (name.now, value.now)) }
         ensures err { OnErr result (self.new ≡ self.old) }
     {
-        if self.items.has_name(name) {
+        if self.named.contains_key(name) {
             return Ok(());
         }
-        let name = Octets::copy(alloc, name)?;
-        self.items.push(name, Octets::copy(alloc, value)?)
+        let name = Vec::from_slice(alloc, name)?;
+        self.named.insert(name, Octets::copy(alloc, value)?)?;
+        Ok(())
     }
 
     /// The same list, in memory of its own.
     pub fn to_pairs(&self, alloc: Global) -> Result<Pairs, OutOfMemory>
         ensures { IfOk result (λ pairs. pairs ≡ self.now) }
     {
-        Pairs::copy(alloc, &self.items)
+        let mut pairs = Pairs::new(alloc);
+        for i in 0..self.len() {
+            let (name, value) = self.get(i);
+            let name = Octets::copy(alloc, name)?;
+            pairs.push(name, Octets::copy(alloc, value)?)?;
+        }
+        Ok(pairs)
     }
 }

@@ -6,6 +6,7 @@ mod cause_text;
 mod causes;
 mod changes;
 mod event;
+mod group_table;
 mod groups;
 mod headers;
 mod heads;

@@ -72,13 +72,13 @@ fn first(alloc: Global, id: PeerId, message: Message, events: &mut Events) -> Re
         (may_follow [] message ≡ false) × (e ≡ fault_of [] message) × (events.new ≡ events.old)) }
 {
     let Message { sequence, body } = message;
+    if sequence != 1 {
+        return Err(RunFault::NotHello);
+    }
     let view = opened(alloc, body)?;
     let Some(view) = view else {
         return Err(RunFault::NotHello);
     };
-    if sequence != 1 {
-        return Err(RunFault::NotHello);
-    }
     if !is_small(&view) {
         return Err(RunFault::Limit);
     }

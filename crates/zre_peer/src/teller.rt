@@ -103,14 +103,15 @@ impl Teller {
         self.take_first(message, out)
     }
 
-    // Whether HELLO was taken.
-    fn is_behind(&self) -> bool
+    /// Whether HELLO was taken.
+    pub fn is_behind(&self) -> bool
         ensures { result ≡ is_some (view_in self.now) }
     {
         self.run.view().is_some()
     }
 
-    fn take_later(&mut self, message: &Message, out: &mut Octets) -> Result<(), RunFault>
+    /// The same for a message behind HELLO, of which the run keeps nothing.
+    pub fn take_later(&mut self, message: &Message, out: &mut Octets) -> Result<(), RunFault>
         requires going { is_spent self.old ≡ false }
         requires behind { is_some (view_in self.old) ≡ true }
         ensures ok { (ms : List Message) → Stands self.old ms → OnOk result (

@@ -1,6 +1,9 @@
 //! Runs of hand-made messages with the lines that they tell, the ends of runs, and the line of each event.
 
-use crate::{Cause, CloseWhy, Event, IgnoreWhy, RefuseWhy, Run, RunFault, Teller, push_line};
+use crate::{
+    Cause, CloseWhy, Event, Events, IgnoreWhy, RefuseWhy, Run, RunFault, Teller, View, push_line,
+    push_lines,
+};
 use std::alloc::Global;
 use std::test::Fail;
 use zre_msg::Message;
@@ -86,48 +89,75 @@ fn message_of(alloc: Global, frames: &[Frame]) -> Result<Message, OutOfMemory> {
     }
 }
 
-// The lines of a run's events, with its fault.
-fn told_by_events(alloc: Global, row: &Row) -> Result<(Octets, Option<RunFault>), OutOfMemory> {
-    let mut run = Run::new(alloc, PEER);
-    let mut text = Octets::new(alloc);
+fn push_events(text: &mut Octets, events: Events) -> Result<(), OutOfMemory> {
+    push_lines(text, events.as_slice())
+}
+
+// Appends the lines of a row's events, and gives the fault at its end if it has one.
+fn take_events(
+    alloc: Global,
+    run: &mut Run,
+    row: &Row,
+    text: &mut Octets,
+) -> Result<Option<RunFault>, OutOfMemory> {
     for frames in row.messages {
         if run.spent() {
             return Err(OutOfMemory);
         }
         match run.next(message_of(alloc, frames)?) {
-            Ok(events) => {
-                for event in events.as_slice() {
-                    push_line(&mut text, event)?;
-                }
-            }
-            Err(fault) => return Ok((text, Some(fault))),
+            Ok(events) => push_events(text, events)?,
+            Err(fault) => return Ok(Some(fault)),
         }
     }
-    Ok((text, None))
+    Ok(None)
 }
 
 // The same, with the lines as the run writes them itself.
-fn told_by_lines(alloc: Global, row: &Row) -> Result<(Octets, Option<RunFault>), OutOfMemory> {
-    let mut run = Teller::new(alloc, PEER);
-    let mut text = Octets::new(alloc);
+fn take_lines(
+    alloc: Global,
+    run: &mut Teller,
+    row: &Row,
+    text: &mut Octets,
+) -> Result<Option<RunFault>, OutOfMemory> {
     for frames in row.messages {
         if run.spent() {
             return Err(OutOfMemory);
         }
-        if let Err(fault) = run.take(message_of(alloc, frames)?, &mut text) {
-            return Ok((text, Some(fault)));
+        if let Err(fault) = run.take(message_of(alloc, frames)?, text) {
+            return Ok(Some(fault));
         }
     }
-    Ok((text, None))
+    Ok(None)
+}
+
+fn told_by_events(
+    alloc: Global,
+    row: &Row,
+    text: &mut Octets,
+) -> Result<Option<RunFault>, OutOfMemory> {
+    let mut run = Run::new(alloc, PEER);
+    take_events(alloc, &mut run, row, text)
+}
+
+fn told_by_lines(
+    alloc: Global,
+    row: &Row,
+    text: &mut Octets,
+) -> Result<Option<RunFault>, OutOfMemory> {
+    let mut run = Teller::new(alloc, PEER);
+    take_lines(alloc, &mut run, row, text)
 }
 
 #[test]
 fn runs_tell_their_messages_and_their_ends(rt: HostRuntime) -> Result<(), Fail> {
+    let mut text = Octets::new(rt.alloc());
     for (i, row) in ROWS.iter().enumerate() {
-        let (text, fault) = told_by_events(rt.alloc(), row)?;
+        text.clear();
+        let fault = told_by_events(rt.alloc(), row, &mut text)?;
         assert_eq!(rt; text.as_slice(), row.text, "events of row {i}");
         assert_eq!(rt; fault, row.fault, "fault of row {i}");
-        let (text, fault) = told_by_lines(rt.alloc(), row)?;
+        text.clear();
+        let fault = told_by_lines(rt.alloc(), row, &mut text)?;
         assert_eq!(rt; text.as_slice(), row.text, "lines of row {i}");
         assert_eq!(rt; fault, row.fault, "fault of row {i} by lines");
     }
@@ -171,17 +201,21 @@ EXIT 000102030405060708090A0B0C0D0E0F Ann limit
 EXIT 000102030405060708090A0B0C0D0E0F Ann stop
 ";
 
+fn push_exit(alloc: Global, text: &mut Octets, cause: Cause) -> Result<(), OutOfMemory> {
+    let name = Octets::copy(alloc, b"Ann")?;
+    let exit = Event::Exit {
+        id: PEER,
+        name,
+        cause,
+    };
+    push_line(text, &exit)
+}
+
 #[test]
 fn each_cause_has_its_words(rt: HostRuntime) -> Result<(), Fail> {
     let mut text = Octets::new(rt.alloc());
-    for cause in CAUSES {
-        let name = Octets::copy(rt.alloc(), b"Ann")?;
-        let exit = Event::Exit {
-            id: PEER,
-            name,
-            cause,
-        };
-        push_line(&mut text, &exit)?;
+    for cause in &CAUSES {
+        push_exit(rt.alloc(), &mut text, *cause)?;
     }
     assert_eq!(rt; text.as_slice(), CAUSE_LINES);
     Ok(())
@@ -205,16 +239,12 @@ REFUSED LIMIT ~
 REFUSED BADLINE 7
 ";
 
-fn group_of(alloc: Global, group: &[u8]) -> Result<Octets, OutOfMemory> {
-    Octets::copy(alloc, group)
-}
-
-// The events that no message tells, in the order of their lines above.
-fn other_events(alloc: Global) -> Result<[Event; 16], OutOfMemory> {
+// The events that no message tells, in the order of their lines above; three of them have a group.
+fn other_events(alloc: Global, same: Octets, no_group: Octets) -> [Event; 16] {
     let closed = |conn, why| Event::Closed { conn, why };
     let ignored = |conn, why| Event::Ignored { conn, why };
     let refused = |why| Event::Refused { why };
-    Ok([
+    [
         Event::Evasive {
             id: PEER,
             name: Octets::new(alloc),
@@ -230,19 +260,86 @@ fn other_events(alloc: Global) -> Result<[Event; 16], OutOfMemory> {
         ignored(18446744073709551615, IgnoreWhy::Full),
         refused(RefuseWhy::NoPeer(PEER)),
         refused(RefuseWhy::TooBig),
-        refused(RefuseWhy::NoGroup(group_of(alloc, b"h,")?)),
-        refused(RefuseWhy::Same(group_of(alloc, b"g")?)),
-        refused(RefuseWhy::Limit(group_of(alloc, b"")?)),
+        refused(RefuseWhy::NoGroup(no_group)),
+        refused(RefuseWhy::Same(same)),
+        refused(RefuseWhy::Limit(Octets::new(alloc))),
         refused(RefuseWhy::BadLine(7)),
-    ])
+    ]
+}
+
+fn push_written(alloc: Global, text: &mut Octets, event: &Event) -> Result<(), OutOfMemory> {
+    let line = event.write(alloc)?;
+    text.append(line.as_slice())
+}
+
+fn write_all(alloc: Global, text: &mut Octets, events: &[Event]) -> Result<(), OutOfMemory> {
+    for event in events {
+        push_written(alloc, text, event)?;
+    }
+    Ok(())
+}
+
+fn write_others(alloc: Global, text: &mut Octets) -> Result<(), OutOfMemory> {
+    let same = Octets::copy(alloc, b"g")?;
+    let no_group = Octets::copy(alloc, b"h,")?;
+    let events = other_events(alloc, same, no_group);
+    write_all(alloc, text, &events)
 }
 
 #[test]
 fn each_other_event_has_its_line(rt: HostRuntime) -> Result<(), Fail> {
     let mut text = Octets::new(rt.alloc());
-    for event in other_events(rt.alloc())? {
-        text.append(event.write(rt.alloc())?.as_slice())?;
-    }
+    write_others(rt.alloc(), &mut text)?;
     assert_eq!(rt; text.as_slice(), OTHER_LINES);
+    Ok(())
+}
+
+/// A HELLO with the groups a to j; then b and i leave, b joins, and j joins again.
+const MANY: Row = Row {
+    messages: &[
+        &[
+            b"\xaa\xa1\x01\x02\x00\x01\x14tcp://10.0.0.2:49152\x00\x00\x00\x0a\x00\x00\x00\x01a\x00\x00\x00\x01b\x00\x00\x00\x01c\x00\x00\x00\x01d\x00\x00\x00\x01e\x00\x00\x00\x01f\x00\x00\x00\x01g\x00\x00\x00\x01h\x00\x00\x00\x01i\x00\x00\x00\x01j\x00\x03Ann\x00\x00\x00\x00",
+        ],
+        &[b"\xaa\xa1\x05\x02\x00\x02\x01b\x01"],
+        &[b"\xaa\xa1\x05\x02\x00\x03\x01i\x02"],
+        &[b"\xaa\xa1\x04\x02\x00\x04\x01b\x03"],
+        &[b"\xaa\xa1\x04\x02\x00\x05\x01j\x04"],
+    ],
+    text: b"",
+    fault: None,
+};
+
+fn push_groups(text: &mut Octets, view: &View) -> Result<(), OutOfMemory> {
+    for i in 0..view.groups_len() {
+        text.append(view.group(i))?;
+    }
+    Ok(())
+}
+
+// The groups of the row's peer at its end.
+fn groups_of(alloc: Global, row: &Row, text: &mut Octets) -> Result<(), OutOfMemory> {
+    let mut run = Run::new(alloc, PEER);
+    groups_after(alloc, &mut run, row, text)
+}
+
+fn groups_after(
+    alloc: Global,
+    run: &mut Run,
+    row: &Row,
+    text: &mut Octets,
+) -> Result<(), OutOfMemory> {
+    take_events(alloc, run, row, text)?;
+    text.clear();
+    match run.view() {
+        Some(view) => push_groups(text, view),
+        None => Ok(()),
+    }
+}
+
+#[test]
+fn many_groups_keep_the_order_of_joining(rt: HostRuntime) -> Result<(), Fail> {
+    let mut text = Octets::new(rt.alloc());
+    groups_of(rt.alloc(), &MANY, &mut text)?;
+    assert_eq!(rt; text.as_slice(), b"acdefghjb".as_slice());
     Ok(())
 }

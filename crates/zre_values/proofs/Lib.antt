@@ -1,5 +1,6 @@
 pub mod Addresses
 pub mod Digits
+pub mod Endpoints
 pub mod Plain
 pub mod PlainIds
 pub mod Quotes

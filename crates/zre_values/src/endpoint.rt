@@ -103,19 +103,28 @@ fn behind_scheme(text: &[u8]) -> Option<&[u8]>
 }
 
 impl Endpoint {
-    ghost use Rattle.zre_values.specs.Endpoint.{endpoint_text, IsEndpoint};
+    ghost use Rattle.zre_values.specs.Endpoint.{endpoint_in, endpoint_text, IsEndpoint};
+
+    fn at(addr: [u8; 4], port: u16) -> Endpoint
+        requires { 0 < port }
+        ensures value { (result.addr ≡ addr) × (result.port ≡ port) }
+        ensures fits { IsEndpoint result }
+    {
+        Endpoint { addr, port }
+    }
 
     /// Reads `tcp://a.b.c.d:port`: the numbers in decimal without leading zeros, the port from 1 to 65,535.
     pub fn read(text: &[u8]) -> Option<Endpoint>
         ensures value { IfSome result (λ endpoint. (text.now ≡ endpoint_text endpoint) × (0 < endpoint.port)) }
         ensures back { (endpoint : Endpoint) → IsEndpoint endpoint → text.now ≡ endpoint_text endpoint
             → result ≡ Some endpoint }
+        ensures read { result ≡ endpoint_in text.now }
     {
         let rest = behind_scheme(text)?;
         let (addr, port) = split_once(rest, b':')?;
         let addr = read_address(addr)?;
         let port = read_port(port)?;
-        Some(Endpoint { addr, port })
+        Some(Endpoint::at(addr, port))
     }
 
     fn push_to(self, out: &mut Octets) -> Result<(), OutOfMemory>

@@ -1,4 +1,4 @@
-ghost use Rattle.std.specs.Prelude.{◌≡◌, ◌<◌, ◌-◌, ◌^◌, ℕ, List, [], ◌∷◌, ◌++◌, length, min, remove, sum_by, OnOk, OnErr, MatchOption, slice_get, Some};
+ghost use Rattle.std.specs.Prelude.{◌≡◌, ◌<◌, ◌-◌, ◌^◌, ℕ, List, [], ◌∷◌, ◌++◌, length, min, remove, sum_by, OnOk, OnErr, MatchOption, slice_get, slice_set, slice_index_or, Some};
 ghost use Rattle.std.specs.List.{list_any};
 ghost use Rattle.std.specs.Str.{bytes_eq};
 ghost use Rattle.zre_values.specs.Lists.{without};
@@ -31,6 +31,15 @@ impl Frames {
         }
     }
 
+    /// The list of this one alone, which takes no memory.
+    pub fn of(alloc: Global, frame: Octets) -> Self
+        ensures { result ≡ frame ∷ [] }
+    {
+        Frames {
+            items: SmallVec::from_buf(alloc, [frame]),
+        }
+    }
+
     pub fn len(&self) -> usize
         ensures { result ≡ length self.now }
     {
@@ -58,6 +67,14 @@ impl Frames {
     {
         self.items.push(frame)?;
         Ok(())
+    }
+
+    /// Appends octets to the member at this place, which takes them where it lies.
+    pub fn append_at(&mut self, i: usize, octets: &[u8]) -> Result<(), OutOfMemory>
+        requires { i < length self.old }
+        ensures { OnOk result (self.new ≡ slice_set self.old i (slice_index_or self.old i [] ++ octets.now)) }
+    {
+        self.items.as_mut_slice()[i].append(octets)
     }
 
     /// Removes the member at this place, and gives it.

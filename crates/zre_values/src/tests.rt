@@ -47,6 +47,14 @@ fn lists_are_quoted_with_commas(rt: HostRuntime) -> Result<(), Fail> {
 }
 
 #[test]
+fn a_member_takes_octets_where_it_lies(rt: HostRuntime) -> Result<(), Fail> {
+    let mut frames = Frames::of(rt.alloc(), octets(rt.alloc(), b"a")?);
+    frames.append_at(0, b" b")?;
+    assert_eq!(rt; frames.get(0), b"a b".as_slice());
+    Ok(())
+}
+
+#[test]
 fn an_identity_is_read_in_four_forms_and_written_in_one(rt: HostRuntime) -> Result<(), Fail> {
     let texts = [
         "000102030405060708090a0b0c0d0e0f",

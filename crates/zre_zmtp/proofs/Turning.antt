@@ -5,7 +5,7 @@ use Rattle.std.specs.Option.{option_or}
 use Rattle.std.proofs.lemmas.Bool.{leb-false, le-leb, lt-leb}
 use Rattle.zre_zmtp.specs.declared.fault.ZmtpWhy.{ZmtpWhy}
 use Rattle.zre_zmtp.specs.declared.header.Header.{Header}
-use Rattle.std.proofs.lemmas.List.{length-append, take-append-le, drop-append-le, append-nil, take_all, drop_all}
+use Rattle.std.proofs.lemmas.List.{length-append, take-append-drop, take-append-le, drop-append-le, append-nil, take_all, drop_all}
 use Rattle.std.proofs.lemmas.Option.{none-some}
 use Rattle.zre_zmtp.specs.declared.fault.ZmtpFault.{ZmtpFault}
 use Rattle.zre_zmtp.specs.declared.fault.FeedFault.{FeedFault}
@@ -191,6 +191,10 @@ refused_turn want front out new all b left c behind rest (Zmtp x) is amid r = re
 refused_turn want front out new all b left c behind rest OutOfMemory is amid r = tt
 
 -- ---- a whole frame
+
+-- octets in front, and those behind them
+pub joined : (n : ℕ) (o front : List ℕ) → front ≡ take n o → o ≡ front ++ drop n o
+joined n o front p = sym (take-append-drop n o) ∙ ap (λ (x : List ℕ). x ++ drop n o) (sym p)
 
 pub frame_taken : (want : Want) (b : Before) (h : Header) (head o : List ℕ) (n : ℕ) (out new : List Item) (now : Before) (left : List ℕ) → IsFramed want b h o (head ++ o) (length head + length o)
     → body_fault want b h.flags o ≡ None → n ≡ length head → new ≡ out ++ option_to_list (frame_item b h o (n + length o)) → now ≡ frame_after b h o (n + length o) → left ≡ []

@@ -57,6 +57,17 @@ impl Model for Items {
     ghost view = { λ list. list.items.items };
 }
 
+// Appends the octets of the only frame of a message, of which none are there.
+fn append_body(item: &mut Item, body: &[u8]) -> Result<(), OutOfMemory>
+    requires { item.old.what ≡ What.Message ([] ∷ []) }
+    ensures { OnOk result (item.new ≡ record item.old { what = What.Message (body.now ∷ []) }) }
+{
+    match &mut item.what {
+        What::Message(frames) => frames.append_at(0, body),
+        _ => Ok(()),
+    }
+}
+
 impl Items {
     /// The empty list, which takes no memory.
     pub fn new(alloc: Global) -> Self
@@ -100,6 +111,24 @@ impl Items {
         ensures err { OnErr result (self.new ≡ self.old) }
     {
         self.items.push(item)?;
+        Ok(())
+    }
+
+    /// Appends a message of one frame, and copies its octets to where the item lies. After an error the item may stand
+    /// there without them.
+    pub(crate) fn push_message(
+        &mut self,
+        alloc: Global,
+        start: u64,
+        end: u64,
+        body: &[u8],
+    ) -> Result<(), OutOfMemory>
+        ensures { OnOk result (self.new ≡ self.old ++ record { start = start; end = end; what = What.Message (body.now ∷ []) } ∷ []) }
+    {
+        let what = What::Message(Frames::of(alloc, Octets::new(alloc)));
+        self.push(Item { start, end, what })?;
+        let last = self.items.len() - 1;
+        append_body(&mut self.items[last], body)?;
         Ok(())
     }
 

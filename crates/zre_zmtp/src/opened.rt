@@ -1,6 +1,6 @@
 //! The message that isn't whole yet.
 
-ghost use Rattle.std.specs.Prelude.{◌≡◌, ◌-◌, ◌^◌, [], ◌∷◌, ◌++◌, length, min, sum_by, OnOk, OnErr};
+ghost use Rattle.std.specs.Prelude.{◌≡◌, ◌-◌, ◌^◌, [], ◌∷◌, ◌++◌, length, min, sum_by, IfOk, OnOk, OnErr};
 
 use std::alloc::Global;
 use std::marker::Model;
@@ -57,8 +57,20 @@ impl Opened {
         Ok(())
     }
 
+    /// Hands the bodies out with the last one behind them, and has none any more. One alone is handed on as it is.
+    pub fn finish(&mut self, alloc: Global, last: Octets) -> Result<Frames, OutOfMemory>
+        ensures bodies { IfOk result (λ bodies. bodies ≡ self.old ++ last ∷ []) }
+        ensures empty { OnOk result (self.new ≡ []) }
+    {
+        if self.len() == 0 {
+            return Ok(Frames::of(alloc, last));
+        }
+        self.push(last)?;
+        Ok(self.take(alloc))
+    }
+
     /// Hands the bodies out, and has none any more.
-    pub fn take(&mut self, alloc: Global) -> Frames
+    fn take(&mut self, alloc: Global) -> Frames
         ensures taken { result ≡ self.old }
         ensures empty { self.new ≡ [] }
     {

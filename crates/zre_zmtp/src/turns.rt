@@ -1,10 +1,10 @@
 //! The turns of a reader: each takes an octet of a greeting, an octet of a header, or octets of a body.
 
-ghost use Rattle.std.specs.Prelude.{◌≡◌, ℕ, ◌+◌, ◌≤◌, ◌<◌, ◌≢◌, List, [], ◌∷◌, ◌++◌, length, take, IfOk, IfSome, OnOk, IfErr, Some, None, option_map, option_copied, option_to_list};
+ghost use Rattle.std.specs.Prelude.{◌≡◌, ℕ, ◌+◌, ◌≤◌, ◌<◌, ◌≢◌, List, [], ◌∷◌, ◌++◌, length, take, IfOk, IfSome, OnOk, IfErr, Some, None, option_map, option_copied, option_to_list, true};
 ghost use Rattle.zre_zmtp.specs.Frame.{header_of, header_len as header_len_of};
 ghost use Rattle.zre_zmtp.specs.Stream.{Want as WantValue, said as said_by, opened_by, body_fault, item as item_of};
 ghost use Rattle.zre_zmtp.specs.Run.{after as after_of};
-ghost use Rattle.zre_zmtp.specs.Shown.{before_of, left_of, frame_item, frame_after, header_fault, Waits, Advances, RefusesAt, BeginsFrame, room as room_of};
+ghost use Rattle.zre_zmtp.specs.Shown.{before_of, left_of, frame_item, frame_after, header_fault, Waits, Advances, RefusesAt, BeginsFrame, IsMessage, room as room_of};
 ghost use Rattle.zre_zmtp.specs.Reading.{Refuses};
 
 use crate::command::{command_fault, identity, name, socket_type};
@@ -69,11 +69,11 @@ fn said(
             body,
         }));
     }
-    progress.opened.push(body)?;
     if has_more(header.flags) {
+        progress.opened.push(body)?;
         return Ok(None);
     }
-    Ok(Some(What::Message(progress.opened.take(alloc))))
+    Ok(Some(What::Message(progress.opened.finish(alloc, body)?)))
 }
 
 // The item that ends with a whole frame, and what is known behind it. A place past the last one is want of memory.
@@ -308,6 +308,42 @@ fn whole_frame(progress: &Progress, octets: &[u8]) -> Option<Header>
     }
 }
 
+// Whether a frame with this header is a whole message.
+fn is_whole_message(progress: &Progress, header: Header) -> bool
+    ensures { result ≡ true → IsMessage progress.now header }
+{
+    progress.expected == Expected::Traffic
+        && is_message(header.flags)
+        && !has_more(header.flags)
+        && progress.opened.len() == 0
+}
+
+// A whole message of one frame: most messages are. Its body is copied once, to where its item lies.
+fn take_message(
+    alloc: Global,
+    progress: &mut Progress,
+    header: Header,
+    header_len: usize,
+    body: &[u8],
+    out: &mut Items,
+) -> Result<(), FeedFault>
+    requires { IsMessage progress.old header }
+    ensures given { OnOk result (out.new ≡ out.old
+        ++ option_to_list (frame_item (before_of progress.old) header body.now (header_len + length body.now))) }
+    ensures after { OnOk result
+        (before_of progress.new ≡ frame_after (before_of progress.old) header body.now (header_len + length body.now)) }
+    ensures partial { OnOk result (progress.new.partial ≡ progress.old.partial) }
+    ensures err { IfErr result (λ e. e ≡ FeedFault.OutOfMemory) }
+{
+    let Some(end) = end_of(progress.place, header_len, body.len()) else {
+        return Err(FeedFault::OutOfMemory);
+    };
+    out.push_message(alloc, progress.start, end, body)?;
+    progress.place = end;
+    progress.start = end;
+    Ok(())
+}
+
 // A whole frame from the octets that it begins. It gives how many octets that frame has.
 fn take_whole(
     alloc: Global,
@@ -331,6 +367,10 @@ fn take_whole(
     }
     let (body, _) = behind.split_at(header.size as usize);
     let len = head.len() + body.len();
+    if is_whole_message(progress, header) {
+        take_message(alloc, progress, header, head.len(), body, out)?;
+        return Ok(len);
+    }
     let body = Octets::copy(alloc, body)?;
     take_frame(alloc, want, progress, header, head, body, out)?;
     Ok(len)

@@ -1,13 +1,9 @@
-use Rattle.std.proofs.Common.{◌≡◌, ◌∙◌, ◌++◌, sym, ap, List, ℕ, take, drop}
-use Rattle.std.proofs.lemmas.List.{take-append-drop}
+use Rattle.std.proofs.Common.{◌++◌}
 use Rattle.std.proofs.lemmas.Result.{err_from_is_err_and}
 use Rattle.zre_zmtp.specs.Run.{run_all}
 use Rattle.zre_zmtp.specs.Shown.{before_of, left_of}
-use Rattle.zre_zmtp.proofs.Turning.{begins, refused_turn}
+use Rattle.zre_zmtp.proofs.Turning.{begins, joined, refused_turn}
 use Rattle.zre_zmtp.proofs.turns.take_turn.Goals as goal
-
-joined : (n : ℕ) (o front : List ℕ) → front ≡ take n o → o ≡ front ++ drop n o
-joined n o front p = sym (take-append-drop n o) ∙ ap (λ (x : List ℕ). x ++ drop n o) (sym p)
 
 pub returns-in_err-take_part-clause-refused : goal.returns-in_err-take_part-clause-refused
 returns-in_err-take_part-clause-refused c =

@@ -1,16 +1,14 @@
-use Rattle.std.proofs.Common.{◌≡◌, ℕ, ◌+◌, List, [], ◌++◌, length, take, drop, Some, None, refl, sym, ap, ◌∙◌, arith, append_assoc}
-use Rattle.std.proofs.lemmas.List.{take-append-drop, take-append-le, take_all, length-append}
+use Rattle.std.proofs.Common.{◌≡◌, Bool, cond, ℕ, ◌+◌, List, [], ◌++◌, length, take, drop, Some, None, refl, sym, ap, ◌∙◌, arith, append_assoc}
+use Rattle.std.proofs.lemmas.List.{take-append-le, take_all, length-append}
 use Rattle.std.proofs.lemmas.Result.{err_from_is_err_and}
-use Rattle.zre_zmtp.specs.Stream.{fault_of}
+use Rattle.zre_zmtp.specs.declared.partial.Partial.{Partial}
+use Rattle.zre_zmtp.specs.Stream.{Before, fault_of, command_fault}
 use Rattle.zre_zmtp.specs.Run.{run_all}
-use Rattle.zre_zmtp.specs.Shown.{before_of, header_fault}
+use Rattle.zre_zmtp.specs.Shown.{before_of, left_of, header_fault}
 use Rattle.zre_zmtp.proofs.Stay.{fault_of-stays}
-use Rattle.zre_zmtp.proofs.Framed.{head_of, header-refused}
-use Rattle.zre_zmtp.proofs.Turning.{begins, waits_from, no_part, no_octets, turn_refused, refused_turn}
+use Rattle.zre_zmtp.proofs.Framed.{head_of, header-refused, is_framed, left-nothing}
+use Rattle.zre_zmtp.proofs.Turning.{begins, joined, waits_from, no_part, no_octets, turn_refused, refused_turn, frame_taken}
 use Rattle.zre_zmtp.proofs.turns.take_whole.Goals as goal
-
-joined : (n : ℕ) (o front : List ℕ) → front ≡ take n o → o ≡ front ++ drop n o
-joined n o front p = sym (take-append-drop n o) ∙ ap (λ (x : List ℕ). x ++ drop n o) (sym p)
 
 -- a header, a body and what stands behind them
 parted : (o head behind body rest : List ℕ) → o ≡ head ++ behind → behind ≡ body ++ rest → o ≡ (head ++ body) ++ rest
@@ -63,3 +61,24 @@ returns-clause-ok c =
     let front : take (length head + length c.split_at-2.result.0.now) o ≡ head ++ c.in_ok-body.body =
     ap (λ (x : List ℕ). take (length head + length x) o) (sym same) ∙ front_of o head c.in_ok-body.body _ whole in
     rw front (c.in_ok-take_frame.ensures.ok fine)
+
+pub returns-then-is_whole_message-clause-ok : goal.returns-then-is_whole_message-clause-ok
+returns-then-is_whole_message-clause-ok c =
+    let b = before_of c.args.progress.now in
+    let o = c.args.octets.now in
+    let head = c.split_at.result.0.now in
+    let body = c.split_at-2.result.0.now in
+    let at = head_of c.args.header o head c.split_at.result.1.now c.requires.header
+    (c.split_at.ensures.front ∙ ap (λ n. take n o) c.header_len.ensures) (c.split_at.ensures.back ∙ ap (λ n. drop n o) c.header_len.ensures) in
+    let fine : header_fault b head ≡ None = sym c.fault_of_header.ensures ∙ c.in_default.is in
+    let whole = parted o head c.split_at.result.1.now body _ at.whole (joined _ c.split_at.result.1.now body c.split_at-2.ensures.front) in
+    let m = c.if-is_whole_message.ensures refl in
+    let e = c.in_ok-take_message.ensures in
+    let now = c.take_message.new.progress in
+    let none : now.partial.head ≡ [] = ap (λ (p : Partial). p.head) e.partial ∙ c.requires.no_head in
+    let none' : now.partial.body ≡ [] = ap (λ (p : Partial). p.body) e.partial ∙ c.requires.no_body in
+    rw (front_of o head body _ whole)
+    (frame_taken c.args.want.now b c.args.header head body (length head) c.args.out.now c.take_message.new.out (before_of now) (left_of now)
+    (is_framed c.args.want.now b c.args.header head body c.requires.frame at.header at.within c.split_at-2.ensures.front_len fine)
+    (ap (λ (t : Bool). cond t None (command_fault c.args.want.now b.expected body)) m.message) refl e.given e.after
+    (left-nothing now.expected now.greeting now.partial.head now.partial.body (ap (λ (x : Before). x.expected) e.after) none none'))

@@ -1,8 +1,10 @@
-use Rattle.std.proofs.Common.{◌≡◌, ◌∷◌, ◌++◌, List, ℕ, Some, ap, ◌∙◌}
-use Rattle.std.specs.Prelude.{decimal}
+use Rattle.std.proofs.Common.{◌≡◌, ◌∷◌, ◌++◌, List, ℕ, Some, sym, ap, ◌∙◌}
+use Rattle.std.specs.Prelude.{codes, decimal}
 use Rattle.zre_values.specs.declared.endpoint.Endpoint.{Endpoint}
 use Rattle.zre_values.specs.Address.{address_text}
+use Rattle.zre_values.specs.Endpoint.{endpoint_text}
 use Rattle.zre_values.proofs.Addresses.{address_text-lacks}
+use Rattle.zre_values.proofs.Endpoints.{nothing-read, this-read}
 use Rattle.zre_values.proofs.endpoint.Endpoint.read.Goals as goal
 
 abbrev named : Endpoint → List ℕ
@@ -40,4 +42,27 @@ returns-clause-back c = λ endpoint is e.
     let parts = c.in_ok-addr.ensures.back (address_text endpoint.addr) (decimal endpoint.port) (address_text-lacks endpoint.addr is.address) rest in
     let addr = c.in_ok-addr-2.ensures.back endpoint.addr is.address parts.0 in
     let port = c.in_ok-port.ensures.back endpoint.port is.port_is_some is.port_fits parts.1 in
-    made c.in_ok-addr-2.addr c.in_ok-port.port endpoint addr port
+    made c.at.result.addr c.at.result.port endpoint (c.at.ensures.value.0 ∙ addr) (ap (λ (n : ℕ). Some n) c.at.ensures.value.1 ∙ port)
+
+pub returns-in_err-rest-clause-read : goal.returns-in_err-rest-clause-read
+returns-in_err-rest-clause-read c = nothing-read c.args.text.now c.from_residual.result c.from_residual.ensures (returns-in_err-rest-clause-back c)
+
+pub returns-in_err-addr-clause-read : goal.returns-in_err-addr-clause-read
+returns-in_err-addr-clause-read c = nothing-read c.args.text.now c.from_residual-in_err-addr.result c.from_residual-in_err-addr.ensures (returns-in_err-addr-clause-back c)
+
+pub returns-in_err-addr-2-clause-read : goal.returns-in_err-addr-2-clause-read
+returns-in_err-addr-2-clause-read c = nothing-read c.args.text.now c.from_residual-in_err-addr-2.result c.from_residual-in_err-addr-2.ensures (returns-in_err-addr-2-clause-back c)
+
+pub returns-in_err-port-clause-read : goal.returns-in_err-port-clause-read
+returns-in_err-port-clause-read c = nothing-read c.args.text.now c.from_residual-in_err-port.result c.from_residual-in_err-port.ensures (returns-in_err-port-clause-back c)
+
+joined : (e : Endpoint) (addr : List ℕ) (port : ℕ) (text rest front behind : List ℕ) → e.addr ≡ addr → e.port ≡ port →
+    text ≡ codes "tcp://" ++ rest → rest ≡ front ++ (58 ∷ behind) → front ≡ address_text addr → behind ≡ decimal port → text ≡ endpoint_text e
+joined e addr port text rest front behind a n whole parts left right =
+    let named_front = left ∙ sym (ap address_text a) in
+    let named_behind = right ∙ sym (ap decimal n) in
+    let named_rest = parts ∙ ap (λ (f : List ℕ). f ++ (58 ∷ behind)) named_front ∙ ap (λ (b : List ℕ). address_text e.addr ++ (58 ∷ b)) named_behind in
+    whole ∙ ap (λ (r : List ℕ). codes "tcp://" ++ r) named_rest
+
+pub returns-clause-read : goal.returns-clause-read
+returns-clause-read c = this-read c.args.text.now c.at.result c.at.ensures.fits (joined c.at.result c.in_ok-addr-2.addr c.in_ok-port.port c.args.text.now c.in_ok-rest.rest.now c.in_ok-addr.addr.now c.in_ok-addr.port.now c.at.ensures.value.0 c.at.ensures.value.1 c.in_ok-rest.ensures.value c.in_ok-addr.ensures.value c.in_ok-addr-2.ensures.value c.in_ok-port.ensures.value.0)
