@@ -10,12 +10,12 @@ use Rattle.zre_values.specs.declared.peer_id.PeerId.{PeerId}
 use Rattle.zre_peer.specs.declared.causes.Cause.TheVariants as cause
 use Rattle.zre_peer.specs.declared.causes.CloseWhy.TheVariants as close
 use Rattle.zre_journal.specs.declared.config.Config.{Config}
-use Rattle.zre_journal.specs.Chronicle.{Mark, Shakes, Closes, Ends, after}
+use Rattle.zre_journal.specs.Chronicle.{Mark, Greets, Shakes, Closes, Ends, after}
 use Rattle.zre_journal.specs.Connections.{open_ones, is_open, identity, runs, is_same, other_with, others}
 use Rattle.zre_journal.specs.Peers.{Life, lives}
 use Rattle.zre_journal.specs.Proper.{IsProper}
 use Rattle.zre_journal.specs.Happens.{taken_over, end_of_run}
-use Rattle.zre_journal.proofs.Kept.{Shakes-proper}
+use Rattle.zre_journal.proofs.Kept.{Greets-proper, Shakes-proper}
 use Rattle.zre_journal.proofs.Listed.{eqb-comm, found_passes, found_any, any_other}
 use Rattle.zre_node.specs.declared.connection.Connection.{Connection}
 use Rattle.zre_node.specs.declared.tables.Tables.{Tables}
@@ -138,3 +138,8 @@ module _ (g : Config) (H : List Mark) (t : Tables) (h : Holds g H t) (c : ℕ) (
         (λ d f. let same : c ≡ d = eqb-true c d (found_passes (eqb c) (open_ones H) d f) in
           let me : eqb c c ≡ true = eq-eqb c c refl in
           subst (λ x. record (kept_conn g H c) { identity = Some p } ≡ kept_conn g (Shakes c p ∷ H) x) same (rw me refl)) h.keeps.conns))
+
+-- ---- a greeting
+
+pub greets : (g : Config) (H : List Mark) (t : Tables) → Holds g H t → (c : ℕ) → Holds g (Greets c ∷ H) t
+greets g H t h c = with_conns g H (Greets c ∷ H) t t.last t.conns h (Greets-proper H h.keeps.proper c) refl refl refl h.peers refl refl refl h.keeps.last_is h.keeps.conns

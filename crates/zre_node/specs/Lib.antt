@@ -1,3 +1,4 @@
 pub mod First
+pub mod Said
 pub mod Stands
 pub mod Tabled

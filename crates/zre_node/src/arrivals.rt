@@ -5,11 +5,12 @@ ghost use Rattle.zre_mailbox.specs.Talk.{Arrived, Fault, fault_said};
 ghost use Rattle.zre_outside.specs.declared.entry.Entry.{Entry as EntryValue};
 ghost use Rattle.zre_outside.specs.declared.entry.Input.TheVariants as input;
 ghost use Rattle.zre_journal.specs.declared.config.Config.{Config};
-ghost use Rattle.zre_journal.specs.Chronicle.{Mark, Comes, Shakes};
+ghost use Rattle.zre_journal.specs.Chronicle.{Mark, Comes, Shakes, Greets, in_turn};
 ghost use Rattle.zre_journal.specs.Heard.{newly_said};
 ghost use Rattle.zre_journal.specs.Connections.{is_live, is_open, identity, runs, other_with as other_in};
-ghost use Rattle.zre_journal.specs.Happens.{at_place, at_places, at_shaken, taken_over};
+ghost use Rattle.zre_journal.specs.Happens.{at_place, at_places, at_arrival, at_shaken, taken_over};
 ghost use Rattle.zre_node.specs.Stands.{Holds, Did, IsOpenIfAny};
+ghost use Rattle.zre_node.specs.Said.{said_in};
 
 use crate::effects::Effects;
 use crate::tables::{Tables, other_with};
@@ -82,5 +83,102 @@ impl Tables {
         self.take_over(out, older)?;
         self.introduce(conn, peer);
         Ok(())
+    }
+
+    // READY of a router, in answer to a greeting.
+    fn greeted(&mut self, out: &mut Effects, conn: u64) -> Result<(), OutOfMemory>
+        ensures { (g : Config) (H : List Mark) → Holds g H self.old →
+            OnOk result (Did g (Greets conn ∷ []) H self.new out.old out.new) }
+    {
+        let ready = ready(self.alloc, SocketType::Router, None)?;
+        out.answer(conn, ready)
+    }
+
+    // What is whole on a live connection.
+    fn arrive_live(
+        &mut self,
+        out: &mut Effects,
+        conn: u64,
+        standing: Standing,
+        arrival: Arrival,
+    ) -> Result<(), OutOfMemory>
+        ensures { (g : Config) (H : List Mark) → Holds g H self.old → is_live conn H ≡ true → standing.run ≡ runs conn H →
+            standing.identity ≡ identity conn H →
+            OnOk result (Did g (at_arrival g conn arrival H) H self.new out.old out.new) }
+    {
+        match (arrival, standing.run, standing.identity) {
+            (Arrival::Greeted, _, _) => self.greeted(out, conn),
+            (Arrival::Shaken(peer), _, None) => self.shaken(out, conn, peer),
+            (Arrival::Shaken(_), _, Some(_)) => Ok(()),
+            (Arrival::Message(message), Some(link), _) => self.later(out, conn, link, message),
+            (Arrival::Message(message), None, Some(peer)) => self.first(out, conn, peer, message),
+            (Arrival::Message(_), None, None) => Ok(()),
+        }
+    }
+
+    // What is whole on a connection. Where it isn't live, it has no effect.
+    fn arrive(
+        &mut self,
+        out: &mut Effects,
+        conn: u64,
+        arrival: Arrival,
+    ) -> Result<(), OutOfMemory>
+        ensures { (g : Config) (H : List Mark) → Holds g H self.old →
+            OnOk result (Did g (at_place g conn (Arrived arrival) H) H self.new out.old out.new) }
+    {
+        match self.standing(conn) {
+            Some(standing) => self.arrive_live(out, conn, standing, arrival),
+            None => Ok(()),
+        }
+    }
+
+    // All that is whole on a connection, in order.
+    fn arrive_all(
+        &mut self,
+        out: &mut Effects,
+        conn: u64,
+        arrivals: Vec<Arrival>,
+    ) -> Result<(), OutOfMemory>
+        ensures { (g : Config) (K : List Mark) → Holds g K self.old →
+            OnOk result (Did g (in_turn (at_place g conn) (map (λ a. Arrived a) arrivals.items) K) K self.new out.old out.new) }
+    {
+        for arrival in arrivals {
+            self.arrive(out, conn, arrival)?;
+        }
+        Ok(())
+    }
+
+    // A fault on a connection.
+    fn fault(
+        &mut self,
+        out: &mut Effects,
+        conn: u64,
+        fault: Option<ZmtpFault>,
+    ) -> Result<(), OutOfMemory>
+        ensures { (g : Config) (K : List Mark) → Holds g K self.old →
+            OnOk result (Did g (in_turn (at_place g conn) (fault_said fault) K) K self.new out.old out.new) }
+    {
+        let Some(fault) = fault else {
+            return Ok(());
+        };
+        if self.standing(conn).is_none() {
+            return Ok(());
+        }
+        self.end_run(out, conn, Cause::Fault)?;
+        self.close(out, conn, CloseWhy::Zmtp(fault))
+    }
+
+    /// All that a piece completed of what its connection says.
+    pub fn said(
+        &mut self,
+        out: &mut Effects,
+        conn: u64,
+        heard: Heard,
+    ) -> Result<(), OutOfMemory>
+        ensures { (g : Config) (K : List Mark) → Holds g K self.old →
+            OnOk result (Did g (at_places g conn (said_in heard) K) K self.new out.old out.new) }
+    {
+        self.arrive_all(out, conn, heard.arrivals.into_vec())?;
+        self.fault(out, conn, heard.fault)
     }
 }
