@@ -1,6 +1,6 @@
 //! One outgoing connection.
 
-ghost use Rattle.std.specs.Prelude.{◌≡◌, ℕ, ◌+◌, ◌-◌, ◌<◌, ◌≤◌, ◌∷◌, Bool, true, false, List, [], ◌++◌, length, None, IfOk, OnOk, IfErr, OnErr};
+ghost use Rattle.std.specs.Prelude.{not, nat_eq, ◌≡◌, ℕ, ◌+◌, ◌-◌, ◌<◌, ◌≤◌, ◌∷◌, Bool, true, false, List, [], ◌++◌, length, None, IfOk, OnOk, IfErr, OnErr};
 ghost use Rattle.zre_values.specs.declared.limits.TheConstants.{MESSAGE_OCTETS, COMMAND_OCTETS, UNSENT_OCTETS};
 ghost use Rattle.zre_values.specs.declared.peer_id.PeerId.{PeerId as PeerIdValue};
 ghost use Rattle.zre_zmtp.specs.Laws.{handshake};
@@ -10,7 +10,7 @@ ghost use Rattle.zre_msg.specs.declared.message.Body.{Body as BodyValue};
 ghost use Rattle.zre_msg.specs.Spelling.{FitsBody, Fits, octets as octets_of};
 ghost use Rattle.zre_link.specs.Text.{text_of, size_of};
 ghost use Rattle.zre_link.specs.Heard.{reply_fault, heard_after, kept_of};
-ghost use Rattle.zre_link.specs.Link.{link_after, gate_at, front_of, taken_by, unsent_of, RefusesPush};
+ghost use Rattle.zre_link.specs.Link.{link_after, gate_at, gate_of, front_of, taken_by, unsent_of, RefusesPush};
 
 use crate::awaits::Awaits;
 use crate::fault::PushFault;
@@ -185,6 +185,14 @@ impl Link {
         front
     }
 
+    /// Whether there are octets that may go out now.
+    pub fn is_offered(&self) -> bool
+        ensures { (own : PeerIdValue) (bodies : List BodyValue) (linked : Bool) (o : List ℕ) (n : ℕ) →
+            self.now ≡ link_after own bodies linked o n → result ≡ not (nat_eq (gate_of own bodies linked o) n) }
+    {
+        self.gate() != self.taken
+    }
+
     /// So many octets of the front have gone out, or all of it where it has fewer.
     pub fn took(&mut self, count: u64)
         ensures { (own : PeerIdValue) (bodies : List BodyValue) (linked : Bool) (o : List ℕ) (n : ℕ) →
@@ -224,17 +232,25 @@ impl Link {
         self.replies.kept()
     }
 
+    // How many of all octets may go out.
+    fn gate(&self) -> u64
+        ensures { result ≡ gate_at self.now.linked self.now.replies.awaits self.now.written }
+    {
+        if !self.linked {
+            return 0;
+        }
+        match self.replies.awaits() {
+            Awaits::Greeting => 64,
+            Awaits::Ready => 124,
+            Awaits::Traffic => self.written,
+        }
+    }
+
     // How many octets of the queue may go out.
     fn open(&self) -> usize
         ensures open { result ≡ gate_at self.now.linked self.now.replies.awaits self.now.written - self.now.taken }
         ensures within { result ≤ length self.now.queue }
     {
-        let gate = match self.replies.awaits() {
-            Awaits::Greeting => 64,
-            Awaits::Ready => 124,
-            Awaits::Traffic => self.written,
-        };
-        let gate = if self.linked { gate } else { 0 };
-        gate.saturating_sub(self.taken) as usize
+        self.gate().saturating_sub(self.taken) as usize
     }
 }

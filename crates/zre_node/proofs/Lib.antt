@@ -1,10 +1,13 @@
 pub mod Birth
+pub mod Coming
 pub mod Copying
 pub mod Counting
 pub mod Datagram
 pub mod Ending
 pub mod Entries
 pub mod Many
+pub mod Faulting
+pub mod Hearings
 pub mod Naming
 pub mod Opening
 pub mod Parting

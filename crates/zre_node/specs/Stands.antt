@@ -6,6 +6,8 @@ use Rattle.std.specs.Ordering.{nat_cmp}
 use Rattle.std.specs.BTreeMap.{is_at}
 use Rattle.std.specs.Map.{lookup, remove_entry}
 use Rattle.zre_values.specs.declared.peer_id.PeerId.{PeerId}
+use Rattle.zre_outside.specs.declared.entry.Input.{Input}
+use Rattle.zre_outside.specs.declared.entry.Input.TheVariants as input
 use Rattle.zre_msg.specs.declared.message.Message.{Message}
 use Rattle.zre_msg.specs.declared.message.Body.{Body}
 use Rattle.zre_msg.specs.declared.message.Body.TheVariants as body
@@ -180,3 +182,9 @@ IsOpenIfAny (Some c) H = is_open c H ≡ true
 abbrev pub is_ping : Body → Bool
 is_ping body.Ping = true
 is_ping _ = false
+
+-- an entry that brings no octets
+abbrev pub is_quiet : Input → Bool
+is_quiet (input.Piece c o) = false
+is_quiet (input.Reply l o) = false
+is_quiet _ = true

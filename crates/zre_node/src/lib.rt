@@ -9,6 +9,7 @@ mod connections;
 mod effects;
 mod ends;
 mod first;
+mod hearing;
 mod peer;
 mod pushes;
 mod runs;

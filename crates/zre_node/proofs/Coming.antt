@@ -1,0 +1,155 @@
+-- An entry comes: the clock goes on, and a piece is read.
+use Rattle.std.proofs.Common.{◌≡◌, ℕ, Bool, true, false, cond, not, ◌&&◌, ◌||◌, eqb, if◌then◌else◌, max, List, [], ◌∷◌, ◌++◌, length, drop, Option, Some, None, find, Result, Ok, Err, OnOk, IfOk, refl, sym, ap, ◌∙◌, nat_cmp, subst, eq-eqb, eqb-true, append-nil}
+use Rattle.std.specs.List.{AllByRecursion, list_any}
+use Rattle.std.specs.BTreeMap.{BTreeMap, is_at}
+use Rattle.std.specs.Map.{lookup, set_value}
+use Rattle.zre_values.specs.declared.memory.OutOfMemory.{OutOfMemory}
+use Rattle.zre_outside.specs.declared.entry.Entry.{Entry}
+use Rattle.zre_outside.specs.declared.entry.Input.{Input}
+use Rattle.zre_outside.specs.declared.entry.Input.TheVariants as input
+use Rattle.zre_mailbox.specs.Conn.{Hearing, conn_after}
+use Rattle.zre_mailbox.specs.Talk.{Said, talk, completed}
+use Rattle.zre_link.specs.Link.{link_after}
+use Rattle.zre_journal.specs.declared.config.Config.{Config}
+use Rattle.zre_journal.specs.Chronicle.{Mark, Comes}
+use Rattle.zre_journal.specs.Heard.{clock, bytes, piece_of, was_opened, newly_said}
+use Rattle.zre_journal.specs.Connections.{open_ones, is_open, is_live, is_ignored, since, identity, runs}
+use Rattle.zre_journal.specs.Peers.{Life, lives}
+use Rattle.zre_journal.specs.Links.{bodies, is_linked, replies, reply_of, taken}
+use Rattle.zre_journal.specs.Happens.{at_places}
+use Rattle.zre_journal.proofs.Kept.{Comes-proper}
+use Rattle.zre_journal.proofs.Listed.{eqb-comm, found_passes, any_has}
+use Rattle.zre_node.specs.declared.connection.Connection.{Connection}
+use Rattle.zre_node.specs.declared.arrivals.Heard.{Heard}
+use Rattle.zre_node.specs.declared.peer.Peer.{Peer}
+use Rattle.zre_node.specs.declared.tables.Tables.{Tables}
+use Rattle.zre_node.specs.Said.{said_in}
+use Rattle.zre_node.specs.Tabled.{Tabled}
+use Rattle.zre_node.specs.Stands.{Holds, Keeps, IsPeer, IsConn, kept_conn, heard_by, is_quiet}
+use Rattle.zre_node.proofs.Entries.{changed, retold, retold_of}
+use Rattle.zre_node.proofs.Ending.{conn_row, row_conn, no_conn, not_live}
+use Rattle.zre_node.proofs.Faulting.{dead_places}
+
+quiet_piece : (c : ℕ) (i : Input) → is_quiet i ≡ true → piece_of c i ≡ []
+quiet_piece c (input.Piece d o) q = absurd cc
+quiet_piece c _ q = refl
+
+quiet_reply : (l : ℕ) (i : Input) → is_quiet i ≡ true → reply_of l i ≡ []
+quiet_reply l (input.Reply k o) q = absurd cc
+quiet_reply l _ q = refl
+
+module _ (g : Config) (H : List Mark) (t : Tables) (h : Holds g H t) (e : Entry) where
+  no_bytes : (c : ℕ) → piece_of c e.input ≡ [] → bytes c H ≡ bytes c (Comes e ∷ H)
+  no_bytes c p = by (was_opened c H)
+    where
+      by : (b : Bool) → bytes c H ≡ bytes c H ++ (if b then piece_of c e.input else [])
+      by true = rw p (sym (append-nil (bytes c H)))
+      by false = sym (append-nil (bytes c H))
+
+  no_replies : (l : ℕ) → reply_of l e.input ≡ [] → replies l H ≡ replies l (Comes e ∷ H)
+  no_replies l p = by (is_linked l H)
+    where
+      by : (b : Bool) → replies l H ≡ replies l H ++ (if b then reply_of l e.input else [])
+      by true = rw p (sym (append-nil (replies l H)))
+      by false = sym (append-nil (replies l H))
+
+  pub other_conn : (c : ℕ) → piece_of c e.input ≡ [] → kept_conn g H c ≡ kept_conn g (Comes e ∷ H) c
+  other_conn c p = ap (λ o. record { since = since c H; identity = identity c H; run = runs c H; conn = heard_by (is_ignored c H) g.id o }) (no_bytes c p)
+
+  pub comes : (C : BTreeMap ℕ Connection) → ((l : ℕ) → reply_of l e.input ≡ []) → Tabled (λ (c : ℕ). c) (IsConn g (Comes e ∷ H)) (open_ones H) C.entries → Holds g (Comes e ∷ H) (record t { clock = max e.at t.clock; conns = C })
+  comes C none conns = record {
+    keeps = record {
+      valid = h.keeps.valid;
+      proper = Comes-proper H h.keeps.proper e;
+      going = h.keeps.going;
+      awake = h.keeps.awake;
+      config = h.keeps.config;
+      mailbox = h.keeps.mailbox;
+      clock_is = ap (max e.at) h.keeps.clock_is;
+      births_is = h.keeps.births_is;
+      last_is = h.keeps.last_is;
+      groups_fit = h.keeps.groups_fit;
+      own = h.keeps.own;
+      conns = conns;
+    };
+    peers = retold (λ (v : Life). v.link) (IsPeer g H) (IsPeer g (Comes e ∷ H))
+      (λ v k is. record { id_is = is.id_is; active_is = is.active_is; run_is = is.run_is;
+        link_is = is.link_is ∙ ap (λ r. link_after g.id (bodies v.link H) (is_linked v.link H) r (taken v.link H)) (no_replies v.link (none v.link)) })
+      (lives H) t.peers.entries h.peers;
+  }
+
+  -- an entry that brings no octets
+  pub quietly : is_quiet e.input ≡ true → Holds g (Comes e ∷ H) (record t { clock = max e.at t.clock })
+  quietly q = comes t.conns (λ l. quiet_reply l e.input q)
+      (retold (λ (c : ℕ). c) (IsConn g H) (IsConn g (Comes e ∷ H)) (λ c k is. is ∙ other_conn c (quiet_piece c e.input q)) (open_ones H) t.conns.entries h.keeps.conns)
+
+-- ---- a piece
+
+none_is : (c : ℕ) (xs : List ℕ) → list_any (eqb c) xs ≡ false → AllByRecursion (λ d. eqb c d ≡ false) xs
+none_is c [] e = tt
+none_is c (x ∷ xs) e = by (none_is c xs) (eqb c x) refl e
+  where
+    by : (list_any (eqb c) xs ≡ false → AllByRecursion (λ d. eqb c d ≡ false) xs) → (b : Bool) → eqb c x ≡ b → (b || list_any (eqb c) xs) ≡ false → (eqb c x ≡ false) × AllByRecursion (λ d. eqb c d ≡ false) xs
+    by r true q k = absurd cc
+    by r false q k = (q, r k)
+
+module _ (g : Config) (H : List Mark) (t : Tables) (h : Holds g H t) (e : Entry) (c : ℕ) (o : List ℕ) (is : e.input ≡ input.Piece c o) where
+  no_reply : (l : ℕ) → reply_of l e.input ≡ []
+  no_reply l = rw is refl
+
+  another : (d : ℕ) → eqb c d ≡ false → kept_conn g H d ≡ kept_conn g (Comes e ∷ H) d
+  another d far = other_conn g H t h e d (let off : eqb d c ≡ false = eqb-comm d c ∙ far in rw (is, off) refl)
+
+  -- it isn't open
+  pub not_heard : is_open c H ≡ false → Holds g (Comes e ∷ H) (record t { clock = max e.at t.clock })
+  not_heard shut = comes g H t h e t.conns no_reply
+      (retold_of (λ (d : ℕ). d) (λ d. eqb c d ≡ false) (IsConn g H) (IsConn g (Comes e ∷ H)) (λ d k far q. q ∙ another d far) (open_ones H) t.conns.entries (none_is c (open_ones H) shut) h.keeps.conns)
+
+  pub silent : (heard : Heard) → is_live c H ≡ false → at_places g c (said_in heard) (Comes e ∷ H) ≡ at_places g c (newly_said g.id c H (Comes e ∷ H)) (Comes e ∷ H)
+  silent heard dead = dead_places g c (Comes e ∷ H) dead (said_in heard) ∙ sym (dead_places g c (Comes e ∷ H) dead (newly_said g.id c H (Comes e ∷ H)))
+
+  -- it is open, and its row is this one now
+  with_row : is_open c H ≡ true → (x : Connection) → x ≡ kept_conn g (Comes e ∷ H) c → (C : BTreeMap ℕ Connection) → C.entries ≡ set_value (is_at (nat_cmp c)) t.conns.entries x → Holds g (Comes e ∷ H) (record t { clock = max e.at t.clock; conns = C })
+  with_row there x row C put = comes g H t h e C no_reply
+      (subst (λ es. Tabled (λ (d : ℕ). d) (IsConn g (Comes e ∷ H)) (open_ones H) es) (sym put)
+        (changed (λ (d : ℕ). d) (IsConn g H) (IsConn g (Comes e ∷ H)) c x (λ d k far q. q ∙ another d far) (open_ones H) t.conns.entries h.keeps.proper.opening.open_apart
+        (λ d f. subst (λ y. x ≡ kept_conn g (Comes e ∷ H) y) (eqb-true c d (found_passes (eqb c) (open_ones H) d f)) row) h.keeps.conns))
+
+  grown : is_open c H ≡ true → bytes c (Comes e ∷ H) ≡ bytes c H ++ o
+  grown there =
+      let w : was_opened c H ≡ true = any_has (λ d. was_opened d H ≡ true) c (open_ones H) h.keeps.proper.opening.were_opened there in
+      let me : eqb c c ≡ true = eq-eqb c c refl in rw (w, is, me) refl
+
+  said_is : is_open c H ≡ true → completed g.id (bytes c H) o ≡ newly_said g.id c H (Comes e ∷ H)
+  said_is there = ap (λ (all : List ℕ). drop (length (talk g.id (bytes c H))) (talk g.id all)) (sym (grown there))
+
+  -- what was heard of it
+  pub heard_it : is_open c H ≡ true → (x x' : Connection) (heard : Heard) → x ≡ kept_conn g H c → (C : BTreeMap ℕ Connection) → C.entries ≡ set_value (is_at (nat_cmp c)) t.conns.entries x'
+      → ((q : List ℕ) → x.conn ≡ Some (conn_after g.id q) → (x' ≡ record x { conn = Some (conn_after g.id (q ++ o)) }) × (said_in heard ≡ completed g.id q o)) → (x.conn ≡ None → x' ≡ x)
+      → Holds g (Comes e ∷ H) (record t { clock = max e.at t.clock; conns = C }) × (at_places g c (said_in heard) (Comes e ∷ H) ≡ at_places g c (newly_said g.id c H (Comes e ∷ H)) (Comes e ∷ H))
+  heard_it there x x' heard row C put live dead = by (is_ignored c H) refl
+    where
+      by : (b : Bool) → is_ignored c H ≡ b → Holds g (Comes e ∷ H) (record t { clock = max e.at t.clock; conns = C }) × (at_places g c (said_in heard) (Comes e ∷ H) ≡ at_places g c (newly_said g.id c H (Comes e ∷ H)) (Comes e ∷ H))
+      by true q =
+          let deaf : x.conn ≡ None = ap (λ (y : Connection). y.conn) row ∙ rw q refl in
+          let same : x' ≡ kept_conn g (Comes e ∷ H) c = dead deaf ∙ row ∙ rw q refl in
+          (with_row there x' same C put, silent heard (rw (there, q) refl))
+      by false q =
+          let hears : x.conn ≡ Some (conn_after g.id (bytes c H)) = ap (λ (y : Connection). y.conn) row ∙ rw q refl in
+          let l = live (bytes c H) hears in
+          let same : x' ≡ kept_conn g (Comes e ∷ H) c = l.0 ∙ ap (λ (y : Connection). record y { conn = Some (conn_after g.id (bytes c H ++ o)) }) row ∙ rw (q, grown there) refl in
+          (with_row there x' same C put, ap (λ xs. at_places g c xs (Comes e ∷ H)) (l.1 ∙ said_is there))
+
+-- ---- answers that are Ok
+
+pub ok_of : {T E : Type 0} (Q : T → Type 0) (r : Result T E) → ((x : T) → r ≡ Ok x → Q x) → IfOk r Q
+ok_of Q (Ok x) f = f x refl
+ok_of Q (Err e) f = tt
+
+pub at_ok : {T E : Type 0} (P : T → Type 0) (r : Result T E) (x : T) → r ≡ Ok x → IfOk r P → P x
+at_ok P (Ok y) x e h = let same : y ≡ x = cc in subst P same h
+at_ok P (Err y) x e h = absurd cc
+
+pub on_at : {T E : Type 0} {B : Type 0} (r : Result T E) (x : T) → r ≡ Ok x → OnOk r B → B
+on_at (Ok y) x e h = h
+on_at (Err y) x e h = absurd cc
