@@ -1,5 +1,5 @@
 -- What a link keeps, as a function of what was put on it, of what came back and of what went out.
-use Rattle.std.specs.Prelude.{◌≡◌, ℕ, ◌+◌, ◌-◌, ◌<◌, min, Bool, if◌then◌else◌, List, length, take, drop}
+use Rattle.std.specs.Prelude.{◌≡◌, ℕ, ◌+◌, ◌-◌, ◌<◌, min, not, nat_eq, Bool, if◌then◌else◌, List, length, take, drop}
 use Rattle.zre_values.specs.declared.limits.TheConstants.{UNSENT_OCTETS}
 use Rattle.zre_values.specs.declared.peer_id.PeerId.{PeerId}
 use Rattle.zre_zmtp.specs.declared.expected.Expected.{Expected}
@@ -44,6 +44,10 @@ gate_by expect.Traffic all = all
 -- the same once the link stands, and none before
 abbrev pub gate_at : Bool → Expected → ℕ → ℕ
 gate_at linked e all = if linked then gate_by e all else 0
+
+-- there are octets that may go out
+abbrev pub has_front : Sending → Bool
+has_front s = not (nat_eq (gate_at s.linked s.replies.awaits s.written) s.taken)
 
 -- how many of all octets of a link may go out
 abbrev pub gate_of : PeerId → List Body → Bool → List ℕ → ℕ

@@ -1,6 +1,6 @@
 //! One outgoing connection.
 
-ghost use Rattle.std.specs.Prelude.{not, nat_eq, ◌≡◌, ℕ, ◌+◌, ◌-◌, ◌<◌, ◌≤◌, ◌∷◌, Bool, true, false, List, [], ◌++◌, length, None, IfOk, OnOk, IfErr, OnErr};
+ghost use Rattle.std.specs.Prelude.{◌≡◌, ℕ, ◌+◌, ◌-◌, ◌<◌, ◌≤◌, ◌∷◌, Bool, true, false, List, [], ◌++◌, length, None, IfOk, OnOk, IfErr, OnErr};
 ghost use Rattle.zre_values.specs.declared.limits.TheConstants.{MESSAGE_OCTETS, COMMAND_OCTETS, UNSENT_OCTETS};
 ghost use Rattle.zre_values.specs.declared.peer_id.PeerId.{PeerId as PeerIdValue};
 ghost use Rattle.zre_zmtp.specs.Laws.{handshake};
@@ -10,7 +10,7 @@ ghost use Rattle.zre_msg.specs.declared.message.Body.{Body as BodyValue};
 ghost use Rattle.zre_msg.specs.Spelling.{FitsBody, Fits, octets as octets_of};
 ghost use Rattle.zre_link.specs.Text.{text_of, size_of};
 ghost use Rattle.zre_link.specs.Heard.{reply_fault, heard_after, kept_of};
-ghost use Rattle.zre_link.specs.Link.{link_after, gate_at, gate_of, front_of, taken_by, unsent_of, RefusesPush};
+ghost use Rattle.zre_link.specs.Link.{link_after, gate_at, has_front, front_of, taken_by, unsent_of, RefusesPush};
 
 use crate::awaits::Awaits;
 use crate::fault::PushFault;
@@ -187,8 +187,7 @@ impl Link {
 
     /// Whether there are octets that may go out now.
     pub fn is_offered(&self) -> bool
-        ensures { (own : PeerIdValue) (bodies : List BodyValue) (linked : Bool) (o : List ℕ) (n : ℕ) →
-            self.now ≡ link_after own bodies linked o n → result ≡ not (nat_eq (gate_of own bodies linked o) n) }
+        ensures { result ≡ has_front self.now }
     {
         self.gate() != self.taken
     }
