@@ -1,4 +1,9 @@
+pub mod Brings
+pub mod Idle
 pub mod Joined
 pub mod Kept
+pub mod Known
 pub mod Listed
 mod Rows
+pub mod Says
+pub mod Steps
