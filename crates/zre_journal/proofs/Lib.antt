@@ -1,3 +1,4 @@
+pub mod Always
 pub mod Brings
 pub mod Idle
 pub mod Joined
