@@ -1,5 +1,5 @@
 -- What comes about at an entry may come: pushes, births, datagrams, links, the tick, commands and the stop.
-use Rattle.std.proofs.Common.{◌≡◌, ℕ, ◌+◌, ◌-◌, ◌%◌, ◌≤◌, min, Bool, true, false, cond, not, ◌&&◌, ◌||◌, eqb, ltb, leb, List, [], ◌∷◌, ◌++◌, length, map, Option, Some, None, IsSome, is_none, find, filter, refl, sym, ap, ◌∙◌}
+use Rattle.std.proofs.Common.{◌≡◌, ℕ, ◌+◌, ◌-◌, ◌%◌, Bool, true, false, cond, not, ◌&&◌, ◌||◌, eqb, ltb, leb, List, [], ◌∷◌, ◌++◌, length, map, Option, Some, None, IsSome, is_none, filter, refl, ◌∙◌}
 use Rattle.std.proofs.lemmas.Bool.{and_parts}
 use Rattle.std.specs.List.{AllByRecursion}
 use Rattle.zre_values.specs.declared.peer_id.PeerId.{PeerId}
@@ -16,14 +16,14 @@ use Rattle.zre_msg.specs.declared.message.Body.TheVariants as body
 use Rattle.zre_link.specs.Text.{size_of}
 use Rattle.zre_link.specs.Heard.{reply_fault}
 use Rattle.zre_journal.specs.declared.config.Config.{Config}
-use Rattle.zre_journal.specs.Chronicle.{Mark, Opens, TurnsAway, Closes, IsShut, Drops, Born, Beacons, Ends, Falters, Puts, Links, Joins, Leaves, Refuses, Calls, Stops, after}
+use Rattle.zre_journal.specs.Chronicle.{Mark, Opens, TurnsAway, Closes, IsShut, Drops, Beacons, Ends, Falters, Puts, Links, Joins, Leaves, Refuses, Calls, Stops, after}
 use Rattle.zre_journal.specs.Heard.{clock}
 use Rattle.zre_journal.specs.Connections.{open_ones, is_open, is_new, runs, since}
 use Rattle.zre_journal.specs.Peers.{Life, lives, life, life_of, is_entered}
 use Rattle.zre_journal.specs.Links.{bodies, unsent, is_linked, replies, groups, status}
 use Rattle.zre_journal.specs.Proper.{IsProper, Apart}
-use Rattle.zre_journal.specs.Happens.{push, push_all, end_of_run, hello, birth, is_welcome, at_beacon, at_datagram, at_opened, at_shut, at_linked, fault_of_reply, at_reply, at_unlinked, at_took, is_silent, is_faltering, falter, is_stale, at_tick, has_group, at_join, at_leave, is_too_big, at_whisper, is_member, at_shout, at_stop, at_command}
-use Rattle.zre_journal.proofs.Listed.{All-map, All-kept, Apart-kept}
+use Rattle.zre_journal.specs.Happens.{push, push_all, end_of_run, birth, is_welcome, at_beacon, at_datagram, at_opened, at_shut, at_linked, fault_of_reply, at_reply, at_unlinked, at_took, is_silent, is_faltering, falter, is_stale, at_tick, has_group, at_join, at_leave, is_too_big, at_whisper, is_member, at_shout, at_stop, at_command}
+use Rattle.zre_journal.proofs.Listed.{All-kept, Apart-kept}
 use Rattle.zre_journal.proofs.Known.{known_of, AreKnown, each_known, newborn_known, still_known, end_all, ends_allowed, ends_known, kept_far}
 use Rattle.zre_journal.proofs.Idle.{idle_behind, AreNoStarts, none_and_none, ends_start_none, all_idle, drops_allowed, closes_allowed, ends_and}
 use Rattle.zre_journal.proofs.Steps.{Allowed, in_both, either}
@@ -56,14 +56,20 @@ module _ (g : Config) where
 
   falters_allowed : (vs : List Life) (I H : List Mark) → Apart (λ (v : Life). v.link) vs → AreKnown H vs → Allowed (falter g vs I) H
   falters_allowed [] I H a k = tt
-  falters_allowed (v ∷ vs) I H a k = (tt, in_both (push g v.link body.Ping I) (falter g vs (after (push g v.link body.Ping I) (Falters v.link ∷ I))) (Falters v.link ∷ H)
-      (push_allowed v.link body.Ping I (Falters v.link ∷ H) k.0)
-      (falters_allowed vs (after (push g v.link body.Ping I) (Falters v.link ∷ I)) (after (push g v.link body.Ping I) (Falters v.link ∷ H)) a.1 (push_keeps v.link body.Ping I (Falters v.link ∷ H) vs a.0 k.1)))
+  falters_allowed (v ∷ vs) I H a k = (
+    tt,
+    in_both (push g v.link body.Ping I) (falter g vs (after (push g v.link body.Ping I) (Falters v.link ∷ I))) (Falters v.link ∷ H)
+        (push_allowed v.link body.Ping I (Falters v.link ∷ H) k.0)
+        (falters_allowed vs (after (push g v.link body.Ping I) (Falters v.link ∷ I)) (after (push g v.link body.Ping I) (Falters v.link ∷ H)) a.1 (push_keeps v.link body.Ping I (Falters v.link ∷ H) vs a.0 k.1)),
+  )
 
   falters_start_none : (vs : List Life) (I : List Mark) → AreNoStarts (falter g vs I)
   falters_start_none [] I = tt
-  falters_start_none (v ∷ vs) I = (λ c. refl, none_and_none (push g v.link body.Ping I) (falter g vs (after (push g v.link body.Ping I) (Falters v.link ∷ I)))
-      (push_starts_none v.link body.Ping I) (falters_start_none vs (after (push g v.link body.Ping I) (Falters v.link ∷ I))))
+  falters_start_none (v ∷ vs) I = (
+    λ c. refl,
+    none_and_none (push g v.link body.Ping I) (falter g vs (after (push g v.link body.Ping I) (Falters v.link ∷ I)))
+        (push_starts_none v.link body.Ping I) (falters_start_none vs (after (push g v.link body.Ping I) (Falters v.link ∷ I))),
+  )
 
 -- what passes a test
 passing : {A : Type 0} (P : A → Type 0) (t : A → Bool) → ((x : A) → t x ≡ true → P x) → (xs : List A) → AllByRecursion P (filter t xs)
@@ -118,6 +124,7 @@ module _ (g : Config) (K : List Mark) (q : IsProper K) where
       fault : IsSome (life l K) → (f : Option ZmtpFault) → Allowed (fault_of_reply g l f) K
       fault k None = tt
       fault k (Some f) = (k, tt)
+
       by : (o : Option Life) → life l K ≡ o → Allowed (at_reply g l o K) K
       by None e = tt
       by (Some v) e = either (is_linked l K) (fault_of_reply g l (reply_fault (replies l K))) [] K (λ z. fault (if_some (Some v) l e v refl) (reply_fault (replies l K))) (λ z. tt)
@@ -143,39 +150,52 @@ module _ (g : Config) (K : List Mark) (q : IsProper K) where
     where
       s : Life → Bool
       s = is_silent g g.expired K
+
       t : Life → Bool
       t = is_faltering g K
+
       silent : List Life
       silent = filter s (lives K)
+
       wavering : List Life
       wavering = filter t (lives K)
+
       stale : List ℕ
       stale = filter (is_stale g K) (open_ones K)
+
       E : List Mark
       E = end_all cause.Expired silent
+
       F : List Mark
       F = falter g wavering K
+
       C : List Mark
       C = map (λ c. Closes c close.Timeout) stale
+
       Z : List Mark
       Z = Calls g.port ∷ []
+
       excludes : (v : Life) → is_silent g g.expired K v ≡ true → is_faltering g K v ≡ false
       excludes v e = rw e (by (is_entered K v))
         where
           by : (b : Bool) → (b && not true && is_silent g g.evasive K v) ≡ false
           by true = refl
           by false = refl
+
       idle : (c : ℕ) → is_stale g K c ≡ true → runs c K ≡ None
       idle c e = none (runs c K) (and_parts (is_none (runs c K)) (leb g.expired (clock K - since c K)) e).0
         where
           none : (o : Option ℕ) → is_none o ≡ true → o ≡ None
           none None z = refl
           none (Some l) z = cc
+
       ends : Allowed E K
       ends = ends_allowed cause.Expired silent K (Apart-kept (λ (v : Life). v.link) s (lives K) q.living.apart) (All-kept (λ (v : Life). IsSome (life v.link K)) s (lives K) (each_known K))
+
       falters : Allowed F (after E K)
       falters = falters_allowed g wavering K (after E K) (Apart-kept (λ (v : Life). v.link) t (lives K) q.living.apart)
           (ends_known cause.Expired silent wavering K (kept_far s t excludes (lives K) q.living.apart) (All-kept (λ (v : Life). IsSome (life v.link K)) t (lives K) (each_known K)))
+
       closes : Allowed C (after (E ++ F) K)
       closes = closes_allowed close.Timeout stale (after (E ++ F) K) (passing (λ c. runs c (after (E ++ F) K) ≡ None) (is_stale g K)
           (λ c e. idle_behind (E ++ F) K c (none_and_none E F (ends_start_none cause.Expired silent) (falters_start_none g wavering K)) (idle c e)) (open_ones K))
@@ -190,10 +210,13 @@ module _ (g : Config) (K : List Mark) (q : IsProper K) where
     where
       b : Body
       b = body.Join group ((status K + 1) % 256)
+
       joins : List Mark
       joins = Joins group ∷ push_all g (lives K) b K
+
       new : List Mark
       new = cond (leb OWN_GROUPS (length (groups K))) (Refuses (refuse.Limit group) ∷ []) joins
+
       fits : List Mark
       fits = cond (has_group group (groups K)) (Refuses (refuse.Same group) ∷ []) new
 
@@ -222,6 +245,7 @@ module _ (g : Config) (K : List Mark) (q : IsProper K) where
     where
       E : List Mark
       E = end_all cause.Stop (lives K)
+
       D : List Mark
       D = map (λ c. Drops c) (open_ones K)
 

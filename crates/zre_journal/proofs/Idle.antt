@@ -1,15 +1,14 @@
 -- Connections that run no peer, and the one that gives way to READY on another.
-use Rattle.std.proofs.Common.{◌≡◌, ℕ, Bool, true, false, cond, not, ◌&&◌, ◌||◌, eqb, List, [], ◌∷◌, ◌++◌, map, Option, Some, None, IsSome, find, filter, refl, sym, ap, ◌∙◌, subst, eq-eqb, eqb-true}
+use Rattle.std.proofs.Common.{◌≡◌, ℕ, Bool, true, false, cond, not, ◌&&◌, ◌||◌, eqb, List, [], ◌∷◌, ◌++◌, map, Option, Some, None, find, refl, sym, ap, ◌∙◌, eq-eqb}
 use Rattle.std.proofs.lemmas.Bool.{and_parts}
 use Rattle.std.specs.List.{AllByRecursion, list_any}
-use Rattle.std.specs.Str.{bytes_eq}
 use Rattle.zre_values.specs.declared.peer_id.PeerId.{PeerId}
 use Rattle.zre_peer.specs.declared.causes.Cause.{Cause}
 use Rattle.zre_peer.specs.declared.causes.Cause.TheVariants as cause
 use Rattle.zre_peer.specs.declared.causes.CloseWhy.{CloseWhy}
 use Rattle.zre_peer.specs.declared.causes.CloseWhy.TheVariants as close
 use Rattle.zre_journal.specs.declared.config.Config.{Config}
-use Rattle.zre_journal.specs.Chronicle.{Mark, Shakes, Closes, Drops, Ends, Falters, after, in_turn, newer}
+use Rattle.zre_journal.specs.Chronicle.{Mark, Closes, Drops, Ends, after, newer}
 use Rattle.zre_journal.specs.Connections.{open_ones, is_open, identity, runs, started, start_at, has_ended, ends, unless, is_same, other_with, others}
 use Rattle.zre_journal.specs.Peers.{Life, lives, life}
 use Rattle.zre_journal.specs.Proper.{IsProper}
@@ -79,9 +78,11 @@ all_idle H p why c = by (runs c H) refl
     started_same : (vs : List Life) (K : List Mark) → started c (after (end_all why vs) K) ≡ started c K
     started_same [] K = refl
     started_same (v ∷ vs) K = started_same vs (Ends v.link why ∷ K)
+
     ended_before : (l : ℕ) (vs : List Life) (K : List Mark) → has_ended l K ≡ true → has_ended l (after (end_all why vs) K) ≡ true
     ended_before l [] K e = e
     ended_before l (v ∷ vs) K e = ended_before l vs (Ends v.link why ∷ K) (stays_ended (Ends v.link why) K l e)
+
     ended_now : (l : ℕ) (vs : List Life) (K : List Mark) → list_any (λ (v : Life). eqb l v.link) vs ≡ true → has_ended l (after (end_all why vs) K) ≡ true
     ended_now l [] K e = cc
     ended_now l (v ∷ vs) K e = at (ended_now l vs (Ends v.link why ∷ K)) (eqb l v.link) refl e
@@ -89,6 +90,7 @@ all_idle H p why c = by (runs c H) refl
         at : (list_any (λ (u : Life). eqb l u.link) vs ≡ true → has_ended l (after (end_all why vs) (Ends v.link why ∷ K)) ≡ true) → (b : Bool) → eqb l v.link ≡ b → (b || list_any (λ (u : Life). eqb l u.link) vs) ≡ true → has_ended l (after (end_all why vs) (Ends v.link why ∷ K)) ≡ true
         at r true q z = ended_before l vs (Ends v.link why ∷ K) (rw q refl)
         at r false q z = r z
+
     by : (o : Option ℕ) → runs c H ≡ o → runs c (after (end_all why (lives H)) H) ≡ None
     by None e = idle_behind (end_all why (lives H)) H c (ends_start_none why (lives H)) e
     by (Some l) e =
@@ -182,12 +184,16 @@ gave_way g H q p c (Some d) e is_there = by (runs d H)
   where
     t : ℕ → Bool
     t = λ x. not (eqb c x) && is_same p (identity x H)
+
     far : eqb d c ≡ false
     far = eqb-comm d c ∙ not_true (eqb c d) (and_parts (not (eqb c d)) (is_same p (identity d H)) (found_passes t (open_ones H) d e)).0
+
     none : find t (others d (open_ones H)) ≡ None
     none = gone t d (open_ones H) (all_that H q p c d e)
+
     left : list_any (eqb c) (others d (open_ones H)) ≡ list_any (eqb c) (open_ones H)
     left = any_other d c far (open_ones H) is_there ∙ sym is_there
+
     by : (r : Option ℕ) → GaveWay p c H (after (end_of_run g r cause.Taken ++ Closes d close.Taken ∷ []) H)
     by None = record { alone = none; same_open = left; same_identity = refl }
     by (Some l) = record { alone = none; same_open = left; same_identity = refl }

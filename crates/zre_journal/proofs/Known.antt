@@ -1,14 +1,12 @@
 -- Known peers, found and kept: what marks on other links leave of them.
-use Rattle.std.proofs.Common.{◌≡◌, ℕ, ◌+◌, ◌<◌, ◌≤◌, Bool, true, false, cond, not, ◌&&◌, ◌||◌, eqb, List, [], ◌∷◌, ◌++◌, map, Option, Some, None, IsSome, find, filter, refl, sym, ap, ◌∙◌, arith, eqb-true, eq-eqb, ne_eqb, subst}
-use Rattle.std.proofs.lemmas.Bool.{and_parts, and_from}
+use Rattle.std.proofs.Common.{◌≡◌, ℕ, ◌+◌, ◌≤◌, Bool, true, false, cond, eqb, List, [], ◌∷◌, ◌++◌, map, Option, Some, IsSome, find, filter, refl, sym, ap, ◌∙◌, arith, eq-eqb, ne_eqb, subst}
 use Rattle.std.proofs.lemmas.Slice.Eq.{bytes_eq-Decides}
-use Rattle.std.specs.List.{AllByRecursion, list_any}
+use Rattle.std.specs.List.{AllByRecursion}
 use Rattle.std.specs.Str.{bytes_eq}
 use Rattle.zre_values.specs.declared.peer_id.PeerId.{PeerId}
 use Rattle.zre_values.specs.declared.endpoint.Endpoint.{Endpoint}
 use Rattle.zre_peer.specs.declared.causes.Cause.{Cause}
 use Rattle.zre_journal.specs.Chronicle.{Mark, Ends, Born, after}
-use Rattle.zre_journal.specs.Connections.{open_ones, identity, is_open, is_same, other_with}
 use Rattle.zre_journal.specs.Peers.{Life, lives, life, life_of, births}
 use Rattle.zre_journal.specs.Proper.{IsProper, Apart}
 use Rattle.zre_journal.proofs.Listed.{eqb-comm, All-map, All-kept, others_find, found_passes}
@@ -28,6 +26,7 @@ by_number t (u ∷ us) v a e = by (by_number t us v a.1) (t u) refl e
         at : (find t ws ≡ Some w → AllByRecursion (λ (y : Life). eqb u.link y.link ≡ false) ws → eqb u.link w.link ≡ false) → (b : Bool) → cond b (Some x) (find t ws) ≡ Some w → eqb u.link w.link ≡ false
         at r true q = let same : x ≡ w = cc in subst (λ (y : Life). eqb u.link y.link ≡ false) same h.0
         at r false q = r q h.1
+
     by : (find t us ≡ Some v → find (λ (w : Life). eqb v.link w.link) us ≡ Some v) → (b : Bool) → t u ≡ b → cond b (Some u) (find t us) ≡ Some v → find (λ (w : Life). eqb v.link w.link) (u ∷ us) ≡ Some v
     by r true q k = let same : u ≡ v = cc in let yes : eqb v.link u.link ≡ true = eq-eqb v.link u.link (ap (λ (w : Life). w.link) (sym same)) in rw yes k
     by r false q k = let far : eqb v.link u.link ≡ false = eqb-comm v.link u.link ∙ later us v k a.0 in rw far (r k)
@@ -51,6 +50,7 @@ each_known H = each_found (lives H)
     further : (b : Bool) (v : Life) (o : Option Life) → IsSome o → IsSome (cond b (Some v) o)
     further true v o h = refl
     further false v o h = h
+
     each_found : (vs : List Life) → AllByRecursion (λ (v : Life). IsSome (find (λ (u : Life). eqb v.link u.link) vs)) vs
     each_found [] = tt
     each_found (v ∷ vs) = (
@@ -65,6 +65,7 @@ newborn_known H q p e = last (lives H) q.living.numbered
   where
     n : ℕ
     n = births H + 1
+
     last : (vs : List Life) → AllByRecursion (λ (v : Life). v.link ≤ births H) vs
         → find (λ (u : Life). eqb (births H + 1) u.link) (vs ++ record { link = births H + 1; id = p; endpoint = e } ∷ []) ≡ Some (record { link = births H + 1; id = p; endpoint = e })
     last [] h = let me : eqb (births H + 1) (births H + 1) ≡ true = eq-eqb (births H + 1) (births H + 1) refl in rw me refl
@@ -102,9 +103,11 @@ kept_far s t x (v ∷ vs) a = by (kept_far s t x vs a.1) (s v) refl (t v) refl
   where
     here : AllByRecursion (λ (w : Life). eqb v.link w.link ≡ false) (filter t vs)
     here = All-kept (λ (w : Life). eqb v.link w.link ≡ false) t vs a.0
+
     with_one : (us : List Life) → AllByRecursion (λ (u : Life). eqb v.link u.link ≡ false) us → AreFar us (filter t vs) → AreFar us (v ∷ filter t vs)
     with_one [] h f = tt
     with_one (u ∷ us) h f = ((eqb-comm u.link v.link ∙ h.0, f.0), with_one us h.1 f.1)
+
     by : AreFar (filter s vs) (filter t vs) → (b : Bool) → s v ≡ b → (d : Bool) → t v ≡ d → AreFar (cond b (v ∷ filter s vs) (filter s vs)) (cond d (v ∷ filter t vs) (filter t vs))
     by r true e true f = let z : true ≡ false = sym f ∙ x v e in cc
     by r true e false f = (here, r)

@@ -4,6 +4,7 @@ pub mod Idle
 pub mod Joined
 pub mod Kept
 pub mod Known
+pub mod Lawful
 pub mod Listed
 mod Rows
 pub mod Says

@@ -1,11 +1,10 @@
 -- What comes about as something is said on a live connection may come.
-use Rattle.std.proofs.Common.{◌≡◌, ℕ, ◌+◌, ◌<◌, Bool, true, false, cond, not, ◌&&◌, ◌||◌, eqb, ltb, List, [], ◌∷◌, ◌++◌, length, Option, Some, None, IsSome, is_some, is_none, refl, sym, ap, ◌∙◌, arith, subst}
+use Rattle.std.proofs.Common.{◌≡◌, ℕ, ◌+◌, Bool, true, false, cond, not, ◌&&◌, ◌||◌, eqb, ltb, List, [], ◌∷◌, ◌++◌, length, Option, Some, None, IsSome, is_some, is_none, refl, sym, ap, ◌∙◌, arith, subst}
 use Rattle.std.proofs.lemmas.Bool.{and_parts}
 use Rattle.zre_values.specs.declared.peer_id.PeerId.{PeerId}
 use Rattle.zre_values.specs.declared.endpoint.Endpoint.{Endpoint}
 use Rattle.zre_values.specs.declared.limits.TheConstants.{PEERS}
 use Rattle.zre_values.specs.Endpoint.{endpoint_in}
-use Rattle.zre_mailbox.specs.declared.arrival.Arrival.{Arrival}
 use Rattle.zre_mailbox.specs.declared.arrival.Arrival.TheVariants as arrival
 use Rattle.zre_mailbox.specs.Talk.{Said, Arrived, Fault}
 use Rattle.zre_msg.specs.declared.message.Body.{Body}
@@ -17,16 +16,15 @@ use Rattle.zre_peer.specs.declared.causes.Cause.TheVariants as cause
 use Rattle.zre_peer.specs.declared.causes.CloseWhy.TheVariants as close
 use Rattle.zre_peer.specs.declared.causes.IgnoreWhy.TheVariants as ignore
 use Rattle.zre_journal.specs.declared.config.Config.{Config}
-use Rattle.zre_journal.specs.Chronicle.{Mark, Shakes, Starts, Counts, Ignores, Closes, Born, Ends, Puts, after, ever, in_turn}
+use Rattle.zre_journal.specs.Chronicle.{Mark, Shakes, Starts, Counts, Ignores, Closes, Born, Ends, Puts, after, ever}
 use Rattle.zre_journal.specs.Connections.{is_open, identity, started, runs, refuses, was_used, is_ignored, is_live, other_with}
 use Rattle.zre_journal.specs.Peers.{Life, lives, life, life_of, births, runner, counted}
 use Rattle.zre_journal.specs.Proper.{IsProper}
-use Rattle.zre_journal.specs.Happens.{hello, birth, taken_over, start_unknown, start, at_first, answer_to, at_later, at_message, at_shaken, at_arrival, at_said, at_place, at_places}
-use Rattle.zre_journal.proofs.Joined.{after-append}
+use Rattle.zre_journal.specs.Happens.{hello, birth, taken_over, start_unknown, start, at_first, answer_to, at_later, at_message, at_shaken, at_said, at_place, at_places}
 use Rattle.zre_journal.proofs.Kept.{known_lives, run_known}
 use Rattle.zre_journal.proofs.Known.{known_of, id_of, newborn_known}
 use Rattle.zre_journal.proofs.Idle.{not_true, not_false, gave_way, taken_over_allowed, ends_and}
-use Rattle.zre_journal.proofs.Steps.{May, MayStart, MayCount, Allowed, in_both, either, steps}
+use Rattle.zre_journal.proofs.Steps.{MayStart, Allowed, in_both, either, steps}
 use Rattle.zre_journal.proofs.Brings.{push_allowed}
 
 -- one that runs no peer and isn't ignored has started none
@@ -39,7 +37,6 @@ unstarted c H i r = let u : was_used c H ≡ false = subst (λ (o : Option ℕ).
     by false (Some l) e = cc
 
 module _ (g : Config) (K : List Mark) (q : IsProper K) (c : ℕ) (there : is_open c K ≡ true) where
-
   -- ---- a first message
 
   module _ (idle : started c K ≡ None) (p : PeerId) (who : identity c K ≡ Some p) (m : Message) (first : may_follow [] m ≡ true) where
@@ -77,6 +74,7 @@ module _ (g : Config) (K : List Mark) (q : IsProper K) (c : ℕ) (there : is_ope
         unknown None = (there, tt)
         unknown (Some e) = either (ltb (length (lives K)) PEERS) (birth g p e K ++ Starts c (births K + 1) m ∷ []) (Ignores c ignore.Full ∷ []) K
             (λ z. (refl, (rw (newborn_known K q p e) refl, (by_newborn e, tt)))) (λ z. (there, tt))
+
         by : (o : Option Life) → life_of p K ≡ o → Allowed (start g c p m o K) K
         by (Some v) e = (by_known v e, tt)
         by None e = unknown (endpoint_in (view_of (m ∷ [])).endpoint)
@@ -108,8 +106,10 @@ module _ (g : Config) (K : List Mark) (q : IsProper K) (c : ℕ) (there : is_ope
       where
         k : IsSome (life l K)
         k = run_known K q c l r
+
         small_one : List Mark
         small_one = cond (not (is_small (view_of (counted l K ++ m ∷ [])))) (Ends l cause.Limit ∷ []) (Counts c l m ∷ answer_to g l m.body K)
+
         due_one : List Mark
         due_one = cond (not (eqb m.sequence (due (counted l K)))) (Ends l (cause.Order (due (counted l K)) m.sequence) ∷ []) small_one
 

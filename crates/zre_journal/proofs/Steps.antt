@@ -1,5 +1,5 @@
 -- When each mark may come, and that a chronicle stays proper behind marks that may.
-use Rattle.std.proofs.Common.{◌≡◌, ℕ, ◌+◌, ◌<◌, ◌≤◌, Bool, true, false, cond, eqb, List, [], ◌∷◌, ◌++◌, Option, Some, None, IsSome, refl, sym, arith, subst}
+use Rattle.std.proofs.Common.{◌≡◌, ℕ, ◌+◌, ◌≤◌, Bool, true, false, cond, eqb, List, [], ◌∷◌, ◌++◌, Some, None, IsSome, refl, sym, arith, subst}
 use Rattle.zre_values.specs.declared.peer_id.PeerId.{PeerId}
 use Rattle.zre_values.specs.declared.endpoint.Endpoint.{Endpoint}
 use Rattle.zre_msg.specs.declared.message.Message.{Message}
@@ -9,7 +9,7 @@ use Rattle.zre_peer.specs.Views.{view_of, is_small}
 use Rattle.zre_journal.specs.Chronicle.{Mark, Comes, Opens, TurnsAway, Greets, Shakes, Starts, Counts, Ignores, Closes, IsShut, Drops, Born, Beacons, Ends, Falters, Puts, Links, Takes, Joins, Leaves, Refuses, Calls, Stops, after}
 use Rattle.zre_journal.specs.Connections.{is_open, is_new, identity, started, runs, other_with}
 use Rattle.zre_journal.specs.Peers.{Life, life, births, runner, counted}
-use Rattle.zre_journal.specs.Proper.{IsProper, AreLives}
+use Rattle.zre_journal.specs.Proper.{IsProper}
 use Rattle.zre_journal.proofs.Listed.{some_is}
 use Rattle.zre_journal.proofs.Kept.{known_lives, Comes-proper, Opens-proper, TurnsAway-proper, Greets-proper, Shakes-proper, Starts-proper, Counts-proper, Ignores-proper, Closes-proper, IsShut-proper, Drops-proper, born-proper, Beacons-proper, Ends-proper, Falters-proper, Puts-proper, Links-proper, Takes-proper, Joins-proper, Leaves-proper, Refuses-proper, Calls-proper, Stops-proper}
 

@@ -5,7 +5,8 @@ ghost use Rattle.zre_outside.specs.declared.entry.Entry.{Entry};
 ghost use Rattle.zre_journal.specs.declared.config.Config.{Config};
 ghost use Rattle.zre_journal.specs.Events.{chronicle};
 ghost use Rattle.zre_journal.specs.Happens.{has_stopped};
-ghost use Rattle.zre_journal.specs.Laws.{Continues, HasEnded};
+ghost use Rattle.zre_journal.specs.Laws.{Continues, HasEnded, RunsAlone, AreStrangers, EndsOnce, ShowsItsMessages};
+ghost use Rattle.zre_journal.specs.Proper.{IsProper};
 
 /// The events of a journal begin those of every longer one, and so do its acts.
 pub fn journals_continue()
@@ -15,4 +16,32 @@ pub fn journals_continue()
 /// After a stop nothing begins, ends, is told or is done.
 pub fn a_stop_is_the_end()
     ensures { (g : Config) (J K : List Entry) → has_stopped (chronicle g J) ≡ true → HasEnded g J K }
+{}
+
+/// What holds of the chronicle of every journal: links are numbered by births, nothing has come about on a new link or
+/// connection, and a peer is run by one connection, its own.
+pub fn journals_are_proper()
+    ensures { (g : Config) (J : List Entry) → IsProper (chronicle g J) }
+{}
+
+/// A peer is run by one connection alone, which is open and has introduced itself as that peer.
+pub fn a_peer_has_one_run()
+    ensures { (g : Config) (J : List Entry) → RunsAlone (chronicle g J) }
+{}
+
+/// No two open connections have introduced themselves as one peer.
+pub fn identities_are_apart()
+    ensures { (g : Config) (J : List Entry) → AreStrangers (chronicle g J) }
+{}
+
+/// A peer ends at most once, so with one cause, and isn't known from then on.
+pub fn a_peer_ends_once()
+    ensures { (g : Config) (J : List Entry) → EndsOnce (chronicle g J) }
+{}
+
+/// The messages that were counted on a connection are in order: HELLO first, numbered 1, and each further one with the
+/// number that is due and a view within the limits. The view of an entered peer that is known is what the messages
+/// of the connection that runs it lead to.
+pub fn views_follow_messages()
+    ensures { (g : Config) (J : List Entry) → ShowsItsMessages (chronicle g J) }
 {}
