@@ -1,13 +1,15 @@
 -- What comes about at an entry may come: pushes, births, datagrams, links, the tick, commands and the stop.
-use Rattle.std.proofs.Common.{◌≡◌, ℕ, ◌+◌, ◌-◌, ◌%◌, Bool, true, false, cond, not, ◌&&◌, ◌||◌, eqb, ltb, leb, List, [], ◌∷◌, ◌++◌, length, map, Option, Some, None, IsSome, is_none, filter, refl, ◌∙◌}
+use Rattle.std.proofs.Common.{◌≡◌, ℕ, ◌+◌, ◌-◌, ◌%◌, Bool, true, false, cond, not, ◌&&◌, ◌||◌, eqb, ltb, leb, List, [], ◌∷◌, ◌++◌, length, map, Option, Some, None, IsSome, is_none, filter, refl, ◌∙◌, ltb-true, is_some, ◌<◌, ap}
 use Rattle.std.proofs.lemmas.Bool.{and_parts}
 use Rattle.std.specs.List.{AllByRecursion}
+use Rattle.std.specs.Str.{bytes_eq}
 use Rattle.zre_values.specs.declared.peer_id.PeerId.{PeerId}
-use Rattle.zre_values.specs.declared.limits.TheConstants.{CONNECTIONS, UNSENT_OCTETS, OWN_GROUPS, GROUP_OCTETS}
+use Rattle.zre_values.specs.declared.limits.TheConstants.{PEERS, CONNECTIONS, UNSENT_OCTETS, OWN_GROUPS, GROUP_OCTETS}
 use Rattle.zre_values.specs.declared.endpoint.Endpoint.{Endpoint}
 use Rattle.zre_zmtp.specs.declared.fault.ZmtpFault.{ZmtpFault}
 use Rattle.zre_outside.specs.declared.entry.Command.{Command}
 use Rattle.zre_outside.specs.declared.entry.Command.TheVariants as command
+use Rattle.zre_peer.specs.declared.causes.Cause.{Cause}
 use Rattle.zre_peer.specs.declared.causes.Cause.TheVariants as cause
 use Rattle.zre_peer.specs.declared.causes.CloseWhy.TheVariants as close
 use Rattle.zre_peer.specs.declared.causes.RefuseWhy.TheVariants as refuse
@@ -19,14 +21,22 @@ use Rattle.zre_journal.specs.declared.config.Config.{Config}
 use Rattle.zre_journal.specs.Chronicle.{Mark, Opens, TurnsAway, Closes, IsShut, Drops, Beacons, Ends, Falters, Puts, Links, Joins, Leaves, Refuses, Calls, Stops, after}
 use Rattle.zre_journal.specs.Heard.{clock}
 use Rattle.zre_journal.specs.Connections.{open_ones, is_open, is_new, runs, since}
-use Rattle.zre_journal.specs.Peers.{Life, lives, life, life_of, is_entered}
+use Rattle.zre_journal.specs.Peers.{Life, lives, life, life_of, is_entered, births, runner}
 use Rattle.zre_journal.specs.Links.{bodies, unsent, is_linked, replies, groups, status}
 use Rattle.zre_journal.specs.Proper.{IsProper, Apart}
 use Rattle.zre_journal.specs.Happens.{push, push_all, end_of_run, birth, is_welcome, at_beacon, at_datagram, at_opened, at_shut, at_linked, fault_of_reply, at_reply, at_unlinked, at_took, is_silent, is_faltering, falter, is_stale, at_tick, has_group, at_join, at_leave, is_too_big, at_whisper, is_member, at_shout, at_stop, at_command}
 use Rattle.zre_journal.proofs.Listed.{All-kept, Apart-kept}
 use Rattle.zre_journal.proofs.Known.{known_of, AreKnown, each_known, newborn_known, still_known, end_all, ends_allowed, ends_known, kept_far}
 use Rattle.zre_journal.proofs.Idle.{idle_behind, AreNoStarts, none_and_none, ends_start_none, all_idle, drops_allowed, closes_allowed, ends_and}
-use Rattle.zre_journal.proofs.Steps.{Allowed, in_both, either}
+use Rattle.zre_journal.proofs.Steps.{MayBear, Allowed, in_both, either}
+
+-- each of these is entered
+abbrev AreEntered : List Mark → List Life → Type 0
+AreEntered H vs = AllByRecursion (λ (v : Life). is_some (runner v.link H) ≡ true) vs
+
+ends_run : (why : Cause) (vs : List Life) (k : ℕ) (H : List Mark) → runner k (after (end_all why vs) H) ≡ runner k H
+ends_run why [] k H = refl
+ends_run why (v ∷ vs) k H = ends_run why vs k (Ends v.link why ∷ H)
 
 -- ---- pushes
 
@@ -54,13 +64,20 @@ module _ (g : Config) where
   pushes_allowed b (v ∷ vs) I H a k = in_both (push g v.link b I) (push_all g vs b (after (push g v.link b I) I)) H (push_allowed v.link b I H k.0)
       (pushes_allowed b vs (after (push g v.link b I) I) (after (push g v.link b I) H) a.1 (push_keeps v.link b I H vs a.0 k.1))
 
-  falters_allowed : (vs : List Life) (I H : List Mark) → Apart (λ (v : Life). v.link) vs → AreKnown H vs → Allowed (falter g vs I) H
-  falters_allowed [] I H a k = tt
-  falters_allowed (v ∷ vs) I H a k = (
-    tt,
+  push_runs : (l : ℕ) (b : Body) (I H : List Mark) (vs : List Life) → AreEntered H vs → AreEntered (after (push g l b I) H) vs
+  push_runs l b I H vs e = by (ltb UNSENT_OCTETS (unsent g l I + size_of (bodies l I) b))
+    where
+      by : (t : Bool) → AreEntered (after (cond t (Ends l (cause.Slow (unsent g l I) (size_of (bodies l I) b)) ∷ []) (Puts l b ∷ [])) H) vs
+      by true = e
+      by false = e
+
+  falters_allowed : (vs : List Life) (I H : List Mark) → Apart (λ (v : Life). v.link) vs → AreKnown H vs → AreEntered H vs → Allowed (falter g vs I) H
+  falters_allowed [] I H a k e = tt
+  falters_allowed (v ∷ vs) I H a k e = (
+    record { is_known = k.0; is_run = e.0 },
     in_both (push g v.link body.Ping I) (falter g vs (after (push g v.link body.Ping I) (Falters v.link ∷ I))) (Falters v.link ∷ H)
         (push_allowed v.link body.Ping I (Falters v.link ∷ H) k.0)
-        (falters_allowed vs (after (push g v.link body.Ping I) (Falters v.link ∷ I)) (after (push g v.link body.Ping I) (Falters v.link ∷ H)) a.1 (push_keeps v.link body.Ping I (Falters v.link ∷ H) vs a.0 k.1)),
+        (falters_allowed vs (after (push g v.link body.Ping I) (Falters v.link ∷ I)) (after (push g v.link body.Ping I) (Falters v.link ∷ H)) a.1 (push_keeps v.link body.Ping I (Falters v.link ∷ H) vs a.0 k.1) (push_runs v.link body.Ping I (Falters v.link ∷ H) vs e.1)),
   )
 
   falters_start_none : (vs : List Life) (I : List Mark) → AreNoStarts (falter g vs I)
@@ -81,8 +98,11 @@ passing P t f (x ∷ xs) = by (passing P t f xs) (t x) refl
     by r false e = r
 
 module _ (g : Config) (K : List Mark) (q : IsProper K) where
-  pub birth_allowed : (p : PeerId) (e : Endpoint) → Allowed (birth g p e K) K
-  birth_allowed p e = (refl, (rw (newborn_known K q p e) refl, tt))
+  pub may_bear : (p : PeerId) → life_of p K ≡ None → ltb (length (lives K)) PEERS ≡ true → MayBear (births K + 1) p K
+  may_bear p u r = record { next_link = refl; is_unknown = u; has_room = ltb-true (length (lives K)) PEERS r }
+
+  birth_allowed : (p : PeerId) (e : Endpoint) → life_of p K ≡ None → ltb (length (lives K)) PEERS ≡ true → Allowed (birth g p e K) K
+  birth_allowed p e u r = (may_bear p u r, (rw (newborn_known K q p e) refl, tt))
 
   known_link : (p : PeerId) (v : Life) → life_of p K ≡ Some v → IsSome (life v.link K)
   known_link p v e = rw (known_of K q p v e) refl
@@ -95,10 +115,12 @@ module _ (g : Config) (K : List Mark) (q : IsProper K) where
     where
       by : (o : Option Life) → life_of b.0 K ≡ o → Allowed (at_beacon g from b.0 b.1 o K) K
       by (Some v) e = either (eqb b.1 0) (Ends v.link cause.Beacon ∷ []) (Beacons v.link ∷ []) K (λ z. (known_link b.0 v e, tt)) (λ z. (tt, tt))
-      by None e = either (is_welcome g b.0 b.1 (length (lives K))) (birth g b.0 (record { addr = from; port = b.1 }) K) [] K (λ z. birth_allowed b.0 (record { addr = from; port = b.1 })) (λ z. tt)
+      by None e = either (is_welcome g b.0 b.1 (length (lives K))) (birth g b.0 (record { addr = from; port = b.1 }) K) [] K (λ z.
+          birth_allowed b.0 (record { addr = from; port = b.1 }) e (and_parts (not (bytes_eq b.0.0 g.id.0)) (ltb (length (lives K)) PEERS)
+          (and_parts (not (eqb b.1 0)) (not (bytes_eq b.0.0 g.id.0) && ltb (length (lives K)) PEERS) z).1).1) (λ z. tt)
 
   pub opened_allowed : (c : ℕ) → Allowed (at_opened g c K) K
-  opened_allowed c = either (is_new c K) (cond room (Opens c ∷ []) (TurnsAway c ∷ [])) [] K (λ new. either room (Opens c ∷ []) (TurnsAway c ∷ []) K (λ z. (new, tt)) (λ z. (tt, tt))) (λ z. tt)
+  opened_allowed c = either (is_new c K) (cond room (Opens c ∷ []) (TurnsAway c ∷ [])) [] K (λ new. either room (Opens c ∷ []) (TurnsAway c ∷ []) K (λ z. (record { is_fresh = new; has_place = ltb-true (length (open_ones K)) CONNECTIONS z }, tt)) (λ z. (tt, tt))) (λ z. tt)
     where
       room : Bool
       room = ltb (length (open_ones K)) CONNECTIONS
@@ -182,6 +204,13 @@ module _ (g : Config) (K : List Mark) (q : IsProper K) where
           by true = refl
           by false = refl
 
+      entered : (v : Life) → is_faltering g K v ≡ true → is_some (runner v.link K) ≡ true
+      entered v e = by (is_some (runner v.link K)) e
+        where
+          by : (b : Bool) → (b && not (is_silent g g.expired K v) && is_silent g g.evasive K v) ≡ true → b ≡ true
+          by true z = refl
+          by false z = cc
+
       idle : (c : ℕ) → is_stale g K c ≡ true → runs c K ≡ None
       idle c e = none (runs c K) (and_parts (is_none (runs c K)) (leb g.expired (clock K - since c K)) e).0
         where
@@ -195,6 +224,7 @@ module _ (g : Config) (K : List Mark) (q : IsProper K) where
       falters : Allowed F (after E K)
       falters = falters_allowed g wavering K (after E K) (Apart-kept (λ (v : Life). v.link) t (lives K) q.living.apart)
           (ends_known cause.Expired silent wavering K (kept_far s t excludes (lives K) q.living.apart) (All-kept (λ (v : Life). IsSome (life v.link K)) t (lives K) (each_known K)))
+          (passing (λ (v : Life). is_some (runner v.link (after E K)) ≡ true) t (λ v e. ap is_some (ends_run cause.Expired silent v.link K) ∙ entered v e) (lives K))
 
       closes : Allowed C (after (E ++ F) K)
       closes = closes_allowed close.Timeout stale (after (E ++ F) K) (passing (λ c. runs c (after (E ++ F) K) ≡ None) (is_stale g K)

@@ -1,5 +1,6 @@
 pub mod Always
 pub mod Brings
+pub mod Few
 pub mod Idle
 pub mod Joined
 pub mod Kept

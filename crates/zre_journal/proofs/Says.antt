@@ -25,7 +25,7 @@ use Rattle.zre_journal.proofs.Kept.{known_lives, run_known}
 use Rattle.zre_journal.proofs.Known.{known_of, id_of, newborn_known}
 use Rattle.zre_journal.proofs.Idle.{not_true, not_false, gave_way, taken_over_allowed, ends_and}
 use Rattle.zre_journal.proofs.Steps.{MayStart, Allowed, in_both, either, steps}
-use Rattle.zre_journal.proofs.Brings.{push_allowed}
+use Rattle.zre_journal.proofs.Brings.{may_bear, push_allowed}
 
 -- one that runs no peer and isn't ignored has started none
 unstarted : (c : ℕ) (H : List Mark) → is_ignored c H ≡ false → runs c H ≡ None → started c H ≡ None
@@ -70,14 +70,14 @@ module _ (g : Config) (K : List Mark) (q : IsProper K) (c : ℕ) (there : is_ope
     start_allowed : Allowed (start g c p m (life_of p K) K) K
     start_allowed = by (life_of p K) refl
       where
-        unknown : (o : Option Endpoint) → Allowed (start_unknown g c p m o K) K
-        unknown None = (there, tt)
-        unknown (Some e) = either (ltb (length (lives K)) PEERS) (birth g p e K ++ Starts c (births K + 1) m ∷ []) (Ignores c ignore.Full ∷ []) K
-            (λ z. (refl, (rw (newborn_known K q p e) refl, (by_newborn e, tt)))) (λ z. (there, tt))
+        unknown : life_of p K ≡ None → (o : Option Endpoint) → Allowed (start_unknown g c p m o K) K
+        unknown u None = (there, tt)
+        unknown u (Some e) = either (ltb (length (lives K)) PEERS) (birth g p e K ++ Starts c (births K + 1) m ∷ []) (Ignores c ignore.Full ∷ []) K
+            (λ z. (may_bear g K q p u z, (rw (newborn_known K q p e) refl, (by_newborn e, tt)))) (λ z. (there, tt))
 
         by : (o : Option Life) → life_of p K ≡ o → Allowed (start g c p m o K) K
         by (Some v) e = (by_known v e, tt)
-        by None e = unknown (endpoint_in (view_of (m ∷ [])).endpoint)
+        by None e = unknown e (endpoint_in (view_of (m ∷ [])).endpoint)
 
   first_allowed : started c K ≡ None → (m : Message) → Allowed (at_first g c (identity c K) m K) K
   first_allowed idle m = by (identity c K) refl

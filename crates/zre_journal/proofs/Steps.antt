@@ -1,14 +1,15 @@
 -- When each mark may come, and that a chronicle stays proper behind marks that may.
-use Rattle.std.proofs.Common.{◌≡◌, ℕ, ◌+◌, ◌≤◌, Bool, true, false, cond, eqb, List, [], ◌∷◌, ◌++◌, Some, None, IsSome, refl, sym, arith, subst}
+use Rattle.std.proofs.Common.{◌≡◌, ℕ, ◌+◌, ◌<◌, ◌≤◌, Bool, true, false, cond, eqb, List, [], ◌∷◌, ◌++◌, length, Option, Some, None, IsSome, is_some, refl, sym, arith, subst}
 use Rattle.zre_values.specs.declared.peer_id.PeerId.{PeerId}
+use Rattle.zre_values.specs.declared.limits.TheConstants.{PEERS, CONNECTIONS}
 use Rattle.zre_values.specs.declared.endpoint.Endpoint.{Endpoint}
 use Rattle.zre_msg.specs.declared.message.Message.{Message}
 use Rattle.zre_msg.specs.declared.message.Body.TheVariants as body
 use Rattle.zre_peer.specs.Runs.{may_follow, is_hello, due}
 use Rattle.zre_peer.specs.Views.{view_of, is_small}
 use Rattle.zre_journal.specs.Chronicle.{Mark, Comes, Opens, TurnsAway, Greets, Shakes, Starts, Counts, Ignores, Closes, IsShut, Drops, Born, Beacons, Ends, Falters, Puts, Links, Takes, Joins, Leaves, Refuses, Calls, Stops, after}
-use Rattle.zre_journal.specs.Connections.{is_open, is_new, identity, started, runs, other_with}
-use Rattle.zre_journal.specs.Peers.{Life, life, births, runner, counted}
+use Rattle.zre_journal.specs.Connections.{open_ones, is_open, is_new, identity, started, runs, other_with}
+use Rattle.zre_journal.specs.Peers.{Life, lives, life_of, life, births, runner, counted}
 use Rattle.zre_journal.specs.Proper.{IsProper}
 use Rattle.zre_journal.proofs.Listed.{some_is}
 use Rattle.zre_journal.proofs.Kept.{known_lives, Comes-proper, Opens-proper, TurnsAway-proper, Greets-proper, Shakes-proper, Starts-proper, Counts-proper, Ignores-proper, Closes-proper, IsShut-proper, Drops-proper, born-proper, Beacons-proper, Ends-proper, Falters-proper, Puts-proper, Links-proper, Takes-proper, Joins-proper, Leaves-proper, Refuses-proper, Calls-proper, Stops-proper}
@@ -30,9 +31,25 @@ pub record MayCount (c l : ℕ) (m : Message) (H : List Mark) : Type 0 where
   pub next : eqb m.sequence (due (counted l H)) ≡ true
   pub small : is_small (view_of (counted l H ++ m ∷ [])) ≡ true
 
+-- a connection opens under a new number, where fewer than 512 are open
+pub record MayOpen (c : ℕ) (H : List Mark) : Type 0 where
+  pub is_fresh : is_new c H ≡ true
+  pub has_place : length (open_ones H) < CONNECTIONS
+
+-- a peer that isn't known is born on the next link, where fewer than 256 are known
+pub record MayBear (l : ℕ) (p : PeerId) (H : List Mark) : Type 0 where
+  pub next_link : l ≡ births H + 1
+  pub is_unknown : life_of p H ≡ None
+  pub has_room : length (lives H) < PEERS
+
+-- a known peer that is entered is silent
+pub record MayFalter (l : ℕ) (H : List Mark) : Type 0 where
+  pub is_known : IsSome (life l H)
+  pub is_run : is_some (runner l H) ≡ true
+
 -- whether a mark may come behind H
 abbrev pub May : Mark → List Mark → Type 0
-May (Opens c) H = is_new c H ≡ true
+May (Opens c) H = MayOpen c H
 May (Shakes c p) H = (is_open c H ≡ true) × (identity c H ≡ None) × (other_with p c H ≡ None)
 May (Starts c l m) H = MayStart c l m H
 May (Counts c l m) H = MayCount c l m H
@@ -40,7 +57,8 @@ May (Ignores c why) H = is_open c H ≡ true
 May (Closes c why) H = runs c H ≡ None
 May (IsShut c) H = runs c H ≡ None
 May (Drops c) H = runs c H ≡ None
-May (Born l p e) H = l ≡ births H + 1
+May (Born l p e) H = MayBear l p H
+May (Falters l) H = MayFalter l H
 May (Ends l why) H = IsSome (life l H)
 May (Puts l b) H = IsSome (life l H)
 May (Links l) H = IsSome (life l H)
@@ -65,7 +83,7 @@ Born-proper H q p e = let b = born-proper H q p e body.Ping in record {
 
 pub step : (h : Mark) (H : List Mark) → IsProper H → May h H → IsProper (h ∷ H)
 step (Comes e) H p m = Comes-proper H p e
-step (Opens c) H p m = Opens-proper H p c m
+step (Opens c) H p m = Opens-proper H p c m.is_fresh
 step (TurnsAway c) H p m = TurnsAway-proper H p c
 step (Greets c) H p m = Greets-proper H p c
 step (Shakes c i) H p m = Shakes-proper H p c i m.0 m.1 m.2
@@ -75,7 +93,7 @@ step (Ignores c why) H p m = Ignores-proper H p c why m
 step (Closes c why) H p m = Closes-proper H p c why m
 step (IsShut c) H p m = IsShut-proper H p c m
 step (Drops c) H p m = Drops-proper H p c m
-step (Born l i e) H p m = subst (λ k. IsProper (Born k i e ∷ H)) (sym m) (Born-proper H p i e)
+step (Born l i e) H p m = subst (λ k. IsProper (Born k i e ∷ H)) (sym m.next_link) (Born-proper H p i e)
 step (Beacons l) H p m = Beacons-proper H p l
 step (Ends l why) H p m = Ends-proper H p l why (low H p l m)
 step (Falters l) H p m = Falters-proper H p l

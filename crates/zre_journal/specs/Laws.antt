@@ -1,6 +1,7 @@
 -- What holds of every journal.
 use Rattle.std.specs.Prelude.{◌≡◌, ℕ, ◌≤◌, true, false, List, ◌++◌, Option, Some, None, IsSome, if◌then◌else◌, nat_eq, length}
 use Rattle.std.specs.List.{filter}
+use Rattle.zre_values.specs.declared.limits.TheConstants.{PEERS, CONNECTIONS}
 use Rattle.zre_values.specs.declared.peer_id.PeerId.{PeerId}
 use Rattle.zre_msg.specs.declared.message.Message.{Message}
 use Rattle.zre_peer.specs.Runs.{in_order}
@@ -8,8 +9,8 @@ use Rattle.zre_peer.specs.Views.{view_of}
 use Rattle.zre_outside.specs.declared.entry.Entry.{Entry}
 use Rattle.zre_journal.specs.declared.config.Config.{Config}
 use Rattle.zre_journal.specs.Chronicle.{Mark, Starts, Counts, each}
-use Rattle.zre_journal.specs.Connections.{is_open, identity, runs, ends, has_ended}
-use Rattle.zre_journal.specs.Peers.{Life, life, runner, counted, view}
+use Rattle.zre_journal.specs.Connections.{open_ones, is_open, identity, runs, ends, has_ended}
+use Rattle.zre_journal.specs.Peers.{Life, lives, life, runner, counted, view}
 use Rattle.zre_journal.specs.Happens.{has_stopped, chronicle_behind}
 use Rattle.zre_journal.specs.Events.{events_behind, acts_behind, chronicle, events, acts}
 
@@ -34,6 +35,12 @@ pub record RunsAlone (H : List Mark) : Type 0 where
 -- No two open connections have one identity.
 abbrev pub AreStrangers : List Mark → Type 0
 AreStrangers H = (c d : ℕ) (p : PeerId) → is_open c H ≡ true → is_open d H ≡ true → identity c H ≡ Some p → identity d H ≡ Some p → c ≡ d
+
+-- No two known peers have one id, and at most 256 are known; at most 512 connections are open.
+pub record AreFew (H : List Mark) : Type 0 where
+  pub each_once : (l k : ℕ) (v w : Life) → life l H ≡ Some v → life k H ≡ Some w → v.id ≡ w.id → v ≡ w
+  pub few_peers : length (lives H) ≤ PEERS
+  pub few_connections : length (open_ones H) ≤ CONNECTIONS
 
 -- A peer ends at most once, so with one cause, and isn't known from then on.
 pub record EndsOnce (H : List Mark) : Type 0 where

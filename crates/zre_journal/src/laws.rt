@@ -5,7 +5,7 @@ ghost use Rattle.zre_outside.specs.declared.entry.Entry.{Entry};
 ghost use Rattle.zre_journal.specs.declared.config.Config.{Config};
 ghost use Rattle.zre_journal.specs.Events.{chronicle};
 ghost use Rattle.zre_journal.specs.Happens.{has_stopped};
-ghost use Rattle.zre_journal.specs.Laws.{Continues, HasEnded, RunsAlone, AreStrangers, EndsOnce, ShowsItsMessages};
+ghost use Rattle.zre_journal.specs.Laws.{Continues, HasEnded, RunsAlone, AreStrangers, AreFew, EndsOnce, ShowsItsMessages};
 ghost use Rattle.zre_journal.specs.Proper.{IsProper};
 
 /// The events of a journal begin those of every longer one, and so do its acts.
@@ -32,6 +32,11 @@ pub fn a_peer_has_one_run()
 /// No two open connections have introduced themselves as one peer.
 pub fn identities_are_apart()
     ensures { (g : Config) (J : List Entry) → AreStrangers (chronicle g J) }
+{}
+
+/// No two known peers have one id. At most 256 peers are known, and at most 512 connections are open.
+pub fn peers_and_connections_are_few()
+    ensures { (g : Config) (J : List Entry) → AreFew (chronicle g J) }
 {}
 
 /// A peer ends at most once, so with one cause, and isn't known from then on.
