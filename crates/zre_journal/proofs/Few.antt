@@ -98,7 +98,7 @@ another H l k why v p e = by (eqb k l) refl (known_lives (Ends l why ∷ H) p k 
     by true q z = cc
     by false q z = eqb-comm l k ∙ q
 
-named_more : (h : Mark) (H : List Mark) → IsProper H → May h H → IsProper (h ∷ H) → AreNamed H → AreNamed (h ∷ H)
+pub named_more : (h : Mark) (H : List Mark) → IsProper H → May h H → IsProper (h ∷ H) → AreNamed H → AreNamed (h ∷ H)
 named_more (Born n p e) H q m r o = λ l v f. by l v (at_end (λ (u : Life). eqb l u.link) (lives H) (record { link = n; id = p; endpoint = e }) v f) (o l v)
   where
     by : (l : ℕ) (v : Life) → AtEnd (λ (u : Life). eqb l u.link) (lives H) (record { link = n; id = p; endpoint = e }) v → (life l H ≡ Some v → life_of v.id H ≡ Some v) → life_of v.id (Born n p e ∷ H) ≡ Some v

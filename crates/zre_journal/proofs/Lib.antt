@@ -10,3 +10,4 @@ pub mod Listed
 mod Rows
 pub mod Says
 pub mod Steps
+pub mod Telling

@@ -3,10 +3,11 @@
 ghost use Rattle.std.specs.Prelude.{◌≡◌, true, List};
 ghost use Rattle.zre_outside.specs.declared.entry.Entry.{Entry};
 ghost use Rattle.zre_journal.specs.declared.config.Config.{Config};
-ghost use Rattle.zre_journal.specs.Events.{chronicle};
+ghost use Rattle.zre_journal.specs.Events.{chronicle, events};
 ghost use Rattle.zre_journal.specs.Happens.{has_stopped};
 ghost use Rattle.zre_journal.specs.Laws.{Continues, HasEnded, RunsAlone, AreStrangers, AreFew, EndsOnce, ShowsItsMessages};
 ghost use Rattle.zre_journal.specs.Proper.{IsProper};
+ghost use Rattle.zre_journal.specs.Spoken.{AreInTurn};
 
 /// The events of a journal begin those of every longer one, and so do its acts.
 pub fn journals_continue()
@@ -37,6 +38,12 @@ pub fn identities_are_apart()
 /// No two known peers have one id. At most 256 peers are known, and at most 512 connections are open.
 pub fn peers_and_connections_are_few()
     ensures { (g : Config) (J : List Entry) → AreFew (chronicle g J) }
+{}
+
+/// All that is told of a peer stands between an ENTER and the EXIT behind it: an ENTER comes only where the peer isn't
+/// in, and all else only where it is. A peer is in exactly where it is known and entered.
+pub fn events_of_a_peer_are_in_turn()
+    ensures { (g : Config) (J : List Entry) → AreInTurn (events g J) (chronicle g J) }
 {}
 
 /// A peer ends at most once, so with one cause, and isn't known from then on.
