@@ -1,8 +1,7 @@
 -- Known peers have ids of their own, and neither they nor the open connections pass their limits.
-use Rattle.std.proofs.Common.{◌≡◌, ℕ, ◌+◌, ◌<◌, ◌≤◌, zero, suc, Bool, true, false, cond, not, eqb, List, [], ◌∷◌, ◌++◌, length, Option, Some, None, IsSome, find, filter, refl, sym, ap, ◌∙◌, arith, eqb-true, eq-eqb, subst}
+use Rattle.std.proofs.Common.{◌≡◌, ℕ, ◌+◌, ◌≤◌, Bool, true, false, cond, not, eqb, List, [], ◌∷◌, ◌++◌, length, Some, None, find, filter, refl, sym, ap, ◌∙◌, arith, subst}
 use Rattle.std.specs.Str.{bytes_eq}
 use Rattle.zre_values.specs.declared.peer_id.PeerId.{PeerId}
-use Rattle.zre_values.specs.declared.endpoint.Endpoint.{Endpoint}
 use Rattle.zre_values.specs.declared.limits.TheConstants.{PEERS, CONNECTIONS}
 use Rattle.zre_values.proofs.Digits.{bytes_eq-same}
 use Rattle.zre_outside.specs.declared.entry.Entry.{Entry}
@@ -10,14 +9,14 @@ use Rattle.zre_peer.specs.declared.causes.Cause.{Cause}
 use Rattle.zre_journal.specs.declared.config.Config.{Config}
 use Rattle.zre_journal.specs.Chronicle.{Mark, Opens, Closes, IsShut, Drops, Born, Ends}
 use Rattle.zre_journal.specs.Connections.{open_ones, has_ended, others}
-use Rattle.zre_journal.specs.Peers.{Life, lives, life, life_of, births, other_lives}
+use Rattle.zre_journal.specs.Peers.{Life, lives, life, life_of, other_lives}
 use Rattle.zre_journal.specs.Events.{chronicle}
 use Rattle.zre_journal.specs.Proper.{IsProper}
 use Rattle.zre_journal.specs.Laws.{AreFew}
-use Rattle.zre_journal.proofs.Always.{always, is_proper}
+use Rattle.zre_journal.proofs.Always.{always}
 use Rattle.zre_journal.proofs.Kept.{known_lives}
 use Rattle.zre_journal.proofs.Known.{life_stays}
-use Rattle.zre_journal.proofs.Listed.{eqb-comm, found_passes, found_before}
+use Rattle.zre_journal.proofs.Listed.{eqb-comm, found_before}
 use Rattle.zre_journal.proofs.Steps.{May, step}
 
 -- ---- lists
@@ -143,14 +142,15 @@ within_more _ H q m o = record { peers = o.peers; connections = o.connections }
 pub are_few : (g : Config) (journal : List Entry) → AreFew (chronicle g journal)
 are_few g journal = record {
   each_once = λ l k v w e f same.
-    let one : life_of v.id H ≡ Some v = named g journal l v e in
-    let z : Some v ≡ Some w = sym one ∙ ap (λ (i : PeerId). life_of i H) same ∙ named g journal k w f in
-    cc;
+      let one : life_of v.id H ≡ Some v = named g journal l v e in
+      let z : Some v ≡ Some w = sym one ∙ ap (λ (i : PeerId). life_of i H) same ∙ named g journal k w f in
+      cc;
   few_peers = within.peers;
   few_connections = within.connections;
 }
   where
     H : List Mark
     H = chronicle g journal
+
     within : IsWithin (chronicle g journal)
     within = always g IsWithin within_more (record { peers = omega arith; connections = omega arith }) journal

@@ -7,6 +7,7 @@ pub mod Kept
 pub mod Known
 pub mod Lawful
 pub mod Listed
+pub mod Passing
 mod Rows
 pub mod Says
 pub mod Steps

@@ -1,5 +1,5 @@
 -- When each mark may come, and that a chronicle stays proper behind marks that may.
-use Rattle.std.proofs.Common.{◌≡◌, ℕ, ◌+◌, ◌<◌, ◌≤◌, Bool, true, false, cond, eqb, List, [], ◌∷◌, ◌++◌, length, Option, Some, None, IsSome, is_some, refl, sym, arith, subst}
+use Rattle.std.proofs.Common.{◌≡◌, ℕ, ◌+◌, ◌<◌, ◌≤◌, Bool, true, false, cond, eqb, List, [], ◌∷◌, ◌++◌, length, Some, None, IsSome, is_some, refl, sym, arith, subst}
 use Rattle.zre_values.specs.declared.peer_id.PeerId.{PeerId}
 use Rattle.zre_values.specs.declared.limits.TheConstants.{PEERS, CONNECTIONS}
 use Rattle.zre_values.specs.declared.endpoint.Endpoint.{Endpoint}

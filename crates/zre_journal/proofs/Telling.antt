@@ -1,7 +1,6 @@
 -- What is told of a peer stands between its ENTER and its EXIT.
-use Rattle.std.proofs.Common.{◌≡◌, ℕ, ◌+◌, Bool, true, false, cond, not, ◌&&◌, eqb, List, [], ◌∷◌, ◌++◌, map, Option, Some, None, IsSome, is_some, find, filter, refl, sym, ap, ◌∙◌, subst, arith, eqb-true, eq-eqb, append_assoc, append-nil}
+use Rattle.std.proofs.Common.{◌≡◌, ℕ, ◌+◌, Bool, true, false, cond, not, ◌&&◌, eqb, List, [], ◌∷◌, ◌++◌, map, Option, Some, None, is_some, find, refl, sym, ap, ◌∙◌, subst, arith, eqb-true, eq-eqb, append_assoc, append-nil}
 use Rattle.std.proofs.lemmas.List.Sums.{fold-append}
-use Rattle.std.proofs.lemmas.Bool.{and_parts}
 use Rattle.std.specs.List.{AllByRecursion, fold}
 use Rattle.std.specs.Str.{bytes_eq}
 use Rattle.zre_values.specs.declared.peer_id.PeerId.{PeerId}
@@ -19,15 +18,15 @@ use Rattle.zre_peer.specs.declared.causes.Cause.{Cause}
 use Rattle.zre_peer.specs.declared.event.Event.{Event}
 use Rattle.zre_peer.specs.declared.event.Event.TheVariants as event
 use Rattle.zre_journal.specs.declared.config.Config.{Config}
-use Rattle.zre_journal.specs.Chronicle.{Mark, Comes, TurnsAway, Closes, Ignores, Refuses, Stops, Born, Starts, Counts, Ends, Falters, after, newer}
-use Rattle.zre_journal.specs.Peers.{Life, lives, life, life_of, births, runner, is_entered, view, other_lives}
+use Rattle.zre_journal.specs.Chronicle.{Mark, Comes, TurnsAway, Closes, Ignores, Refuses, Stops, Born, Starts, Counts, Ends, Falters, after}
+use Rattle.zre_journal.specs.Peers.{Life, lives, life, life_of, births, runner, is_entered, view}
 use Rattle.zre_journal.specs.Told.{told, told_at, by_message, exit, faltering}
 use Rattle.zre_journal.specs.Happens.{marks, with_entry, chronicle_behind}
 use Rattle.zre_journal.specs.Events.{events_at, events_behind, events, chronicle}
 use Rattle.zre_journal.specs.Proper.{IsProper}
 use Rattle.zre_journal.specs.Spoken.{subject, is_enter, in_behind, is_in, entered_if, has_entered, AreInTurn}
-use Rattle.zre_journal.proofs.Always.{always, is_proper}
-use Rattle.zre_journal.proofs.Few.{AreNamed, named, named_more, found_kept, none_kept, none_end, another}
+use Rattle.zre_journal.proofs.Always.{always}
+use Rattle.zre_journal.proofs.Few.{AreNamed, named_more, found_kept, none_kept, none_end, another}
 use Rattle.zre_journal.proofs.Kept.{known_lives, run_known, run_is}
 use Rattle.zre_journal.proofs.Known.{known_of, id_of, same_id, life_stays}
 use Rattle.zre_journal.proofs.Listed.{some_is, found_before, eqb-comm}
@@ -35,17 +34,15 @@ use Rattle.zre_journal.proofs.Steps.{May, step}
 
 -- ---- the events of a chronicle
 
-told_by : List Mark → List Event
+abbrev pub told_by : List Mark → List Event
 told_by [] = []
 told_by (h ∷ H) = told_by H ++ told_at h H
 
 told_after : (hs H : List Mark) → told_by (after hs H) ≡ told_by H ++ told hs H
-unfolding told_by
 told_after [] H = sym (append-nil (told_by H))
 told_after (h ∷ hs) H = told_after hs (h ∷ H) ∙ append_assoc (told_by H) (told_at h H) (told hs (h ∷ H))
 
 told_behind : (g : Config) (es : List Entry) (H : List Mark) → told_by (chronicle_behind g es H) ≡ told_by H ++ events_behind g es H
-unfolding told_by
 told_behind g [] H = sym (append-nil (told_by H))
 told_behind g (e ∷ es) H =
     told_behind g es (with_entry g e H)
@@ -108,6 +105,7 @@ enters p q v b d (body.Hello endpoint groups status name headers) h f g = by (by
   where
     joins : List Event
     joins = map (λ group. event.Join q name group) (distinct groups)
+
     by : (t : Bool) → bytes_eq p.0 q.0 ≡ t → Lead p b (events_of q v (body.Hello endpoint groups status name headers)) d
     by true e =
         let r = mild p q true joins (mild_joins q name (distinct groups)) (λ z. refl) in
@@ -130,6 +128,13 @@ enters p q v b d (body.Leave group status) h f g = cc
 enters p q v b d (body.Other number rest more) h f g = cc
 
 -- ---- who is in, behind each mark
+
+pub first_is_hello : (m : Message) → may_follow [] m ≡ true → is_hello m.body ≡ true
+first_is_hello m first = by (is_hello m.body) (eqb m.sequence 1) (is_small (view_of (m ∷ []))) first
+  where
+    by : (a b d : Bool) → (a && b && d) ≡ true → a ≡ true
+    by true b d z = refl
+    by false b d z = cc
 
 module _ (p : PeerId) (H : List Mark) (q : IsProper H) (n : AreNamed H) where
   -- the known peer of this id, by its link
@@ -157,14 +162,16 @@ module _ (p : PeerId) (H : List Mark) (q : IsProper H) (n : AreNamed H) where
     where
       unrun : runner l H ≡ None
       unrun = subst (λ k. runner k H ≡ None) (sym m.next_link) (q.living.fresh (births H + 1) (omega arith)).no_run
+
       none : (vs : List Life) → find (λ (v : Life). bytes_eq p.0 v.id.0) vs ≡ None → bytes_eq p.0 i.0 ≡ false → find (λ (v : Life). bytes_eq p.0 v.id.0) (vs ++ record { link = l; id = i; endpoint = e } ∷ []) ≡ None
       none [] f k = rw k refl
       none (v ∷ vs) f k = at (λ z. none vs z k) (bytes_eq p.0 v.id.0) f
         where
           at : (find (λ (u : Life). bytes_eq p.0 u.id.0) vs ≡ None → find (λ (u : Life). bytes_eq p.0 u.id.0) (vs ++ record { link = l; id = i; endpoint = e } ∷ []) ≡ None) → (b : Bool)
-            → cond b (Some v) (find (λ (u : Life). bytes_eq p.0 u.id.0) vs) ≡ None → cond b (Some v) (find (λ (u : Life). bytes_eq p.0 u.id.0) (vs ++ record { link = l; id = i; endpoint = e } ∷ [])) ≡ None
+              → cond b (Some v) (find (λ (u : Life). bytes_eq p.0 u.id.0) vs) ≡ None → cond b (Some v) (find (λ (u : Life). bytes_eq p.0 u.id.0) (vs ++ record { link = l; id = i; endpoint = e } ∷ [])) ≡ None
           at r true z = cc
           at r false z = r z
+
       by : (o : Option Life) → life_of p H ≡ o → (b : Bool) → bytes_eq p.0 i.0 ≡ b → has_entered p H ≡ has_entered p (Born l i e ∷ H)
       by (Some v) f b k = let later : life_of p (Born l i e ∷ H) ≡ Some v = found_before (λ (u : Life). bytes_eq p.0 u.id.0) (lives H) (record { link = l; id = i; endpoint = e } ∷ []) v f in rw (f, later) refl
       by None f true k = let later : life_of p (Born l i e ∷ H) ≡ Some (record { link = l; id = i; endpoint = e }) = none_end (λ (u : Life). bytes_eq p.0 u.id.0) (lives H) (record { link = l; id = i; endpoint = e }) f k in rw (f, later, unrun) refl
@@ -175,17 +182,17 @@ module _ (p : PeerId) (H : List Mark) (q : IsProper H) (n : AreNamed H) where
       (enters p y.who.id (view y.who.link H) (has_entered p H) (has_entered p (Starts c l m ∷ H)) m.body hello (λ s. (before s, behind s)) other)
     where
       hello : is_hello m.body ≡ true
-      hello = and_first (is_hello m.body) (eqb m.sequence 1) (is_small (view_of (m ∷ []))) y.first
-        where
-          and_first : (a b d : Bool) → (a && b && d) ≡ true → a ≡ true
-          and_first true b d z = refl
-          and_first false b d z = cc
+      hello = first_is_hello m y.first
+
       link : l ≡ y.who.link
       link = (known_lives H q l y.who y.known).2
+
       before : bytes_eq p.0 y.who.id.0 ≡ true → has_entered p H ≡ false
       before s = rw (it_is l y.who y.known s) (ap (λ x. is_some (runner x H)) (sym link) ∙ ap is_some y.free)
+
       behind : bytes_eq p.0 y.who.id.0 ≡ true → has_entered p (Starts c l m ∷ H) ≡ true
       behind s = let here : eqb y.who.link l ≡ true = eq-eqb y.who.link l (sym link) in rw (it_is l y.who y.known s, here) refl
+
       other : bytes_eq p.0 y.who.id.0 ≡ false → has_entered p (Starts c l m ∷ H) ≡ has_entered p H
       other far = by (life_of p H) refl
         where
@@ -212,6 +219,7 @@ module _ (p : PeerId) (H : List Mark) (q : IsProper H) (n : AreNamed H) where
     where
       r : IsProper (Ends l why ∷ H)
       r = step (Ends l why) H q y
+
       -- none of this id is left
       gone : (v : Life) → life l H ≡ Some v → bytes_eq p.0 v.id.0 ≡ true → life_of p (Ends l why ∷ H) ≡ None
       gone v e s = at (life_of p (Ends l why ∷ H)) refl
@@ -227,6 +235,7 @@ module _ (p : PeerId) (H : List Mark) (q : IsProper H) (n : AreNamed H) where
               let link : l ≡ u.link = (known_lives H q l v e).2 ∙ ap (λ (x : Life). x.link) (sym same) in
               let w : true ≡ false = sym (eq-eqb l u.link link) ∙ far in
               cc
+
       -- one of another id is as before
       kept : (v : Life) → life l H ≡ Some v → bytes_eq p.0 v.id.0 ≡ false → has_entered p (Ends l why ∷ H) ≡ has_entered p H
       kept v e far = at (life_of p H) refl
@@ -237,6 +246,7 @@ module _ (p : PeerId) (H : List Mark) (q : IsProper H) (n : AreNamed H) where
               let off : eqb l u.link ≡ false = eqb-comm l u.link ∙ far_link l v u e far f in
               let left : life_of p (Ends l why ∷ H) ≡ Some u = found_kept (λ (x : Life). bytes_eq p.0 x.id.0) (λ (x : Life). not (eqb l x.link)) (lives H) u f (rw off refl) in
               rw left refl
+
       by : (v : Life) → life l H ≡ Some v → (t : Bool) → bytes_eq p.0 v.id.0 ≡ t → Lead p (has_entered p H) (exit (Some v) why H) (has_entered p (Ends l why ∷ H))
       by v e true s = let a = it_is l v e s in let b = gone v e s in rw (a, b) (at (is_entered H v))
         where
@@ -276,7 +286,6 @@ record IsSpoken (H : List Mark) : Type 0 where
   ends : (p : PeerId) → is_in p (told_by H) ≡ has_entered p H
 
 spoken_more : (h : Mark) (H : List Mark) → IsProper H → May h H → IsSpoken H → IsSpoken (h ∷ H)
-unfolding told_by
 spoken_more h H q m o = record {
   are_named = named_more h H q m (step h H q m) o.are_named;
   fits = λ p. fit_both p false (told_by H) (told_at h H) (o.fits p) (subst (λ b. AreFit p b (told_at h H)) (sym (o.ends p)) (leads p h H q m o.are_named).fit);
@@ -284,11 +293,9 @@ spoken_more h H q m o = record {
 }
 
 none_spoken : IsSpoken []
-unfolding told_by
 none_spoken = record { are_named = λ l v e. cc; fits = λ p. tt; ends = λ p. refl }
 
-events_are : (g : Config) (journal : List Entry) → told_by (chronicle g journal) ≡ events g journal
-unfolding told_by
+pub events_are : (g : Config) (journal : List Entry) → told_by (chronicle g journal) ≡ events g journal
 events_are g journal = told_behind g journal []
 
 pub are_in_turn : (g : Config) (journal : List Entry) → AreInTurn (events g journal) (chronicle g journal)

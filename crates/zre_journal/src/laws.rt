@@ -7,7 +7,7 @@ ghost use Rattle.zre_journal.specs.Events.{chronicle, events};
 ghost use Rattle.zre_journal.specs.Happens.{has_stopped};
 ghost use Rattle.zre_journal.specs.Laws.{Continues, HasEnded, RunsAlone, AreStrangers, AreFew, EndsOnce, ShowsItsMessages};
 ghost use Rattle.zre_journal.specs.Proper.{IsProper};
-ghost use Rattle.zre_journal.specs.Spoken.{AreInTurn};
+ghost use Rattle.zre_journal.specs.Spoken.{AreInTurn, FollowsMessages};
 
 /// The events of a journal begin those of every longer one, and so do its acts.
 pub fn journals_continue()
@@ -44,6 +44,12 @@ pub fn peers_and_connections_are_few()
 /// in, and all else only where it is. A peer is in exactly where it is known and entered.
 pub fn events_of_a_peer_are_in_turn()
     ensures { (g : Config) (J : List Entry) → AreInTurn (events g J) (chronicle g J) }
+{}
+
+/// What was told of an entered peer since its ENTER, but for EVASIVE, is what the messages that were counted on its
+/// connection tell: all of them, each once and in their order.
+pub fn events_follow_messages()
+    ensures { (g : Config) (J : List Entry) → FollowsMessages (events g J) (chronicle g J) }
 {}
 
 /// A peer ends at most once, so with one cause, and isn't known from then on.
