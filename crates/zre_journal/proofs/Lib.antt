@@ -10,5 +10,6 @@ pub mod Listed
 pub mod Passing
 mod Rows
 pub mod Says
+pub mod Silent
 pub mod Steps
 pub mod Telling
