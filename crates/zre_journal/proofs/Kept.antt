@@ -1,128 +1,23 @@
 -- What each mark leaves of a proper chronicle.
-use Rattle.std.proofs.Common.{◌≡◌, ℕ, ◌+◌, ◌<◌, ◌≤◌, Bool, true, false, cond, not, ◌||◌, ◌&&◌, eqb, ltb, List, [], ◌∷◌, ◌++◌, Option, Some, None, IsSome, is_some, is_none, refl, sym, ap, ◌∙◌, arith, eqb-true, eq-eqb, ne_eqb, ltb-true, lt-ltb, subst, find, filter}
-use Rattle.std.proofs.lemmas.Bool.{and_parts, and_from, false≢true}
+use Rattle.std.proofs.Common.{◌≡◌, ℕ, ◌+◌, ◌<◌, ◌≤◌, Bool, true, false, cond, not, ◌||◌, ◌&&◌, eqb, ltb, List, [], ◌∷◌, ◌++◌, Option, Some, None, IsSome, refl, sym, ap, ◌∙◌, arith, eqb-true, eq-eqb, ne_eqb, ltb-true, lt-ltb, subst, find}
+use Rattle.std.proofs.lemmas.Bool.{and_parts, and_from}
 use Rattle.std.specs.List.{AllByRecursion, list_any}
 use Rattle.std.specs.Str.{bytes_eq}
 use Rattle.zre_values.specs.declared.peer_id.PeerId.{PeerId}
 use Rattle.zre_values.specs.declared.endpoint.Endpoint.{Endpoint}
 use Rattle.zre_msg.specs.declared.message.Body.{Body}
 use Rattle.zre_msg.specs.declared.message.Message.{Message}
-use Rattle.zre_outside.specs.declared.entry.Entry.{Entry}
 use Rattle.zre_peer.specs.declared.causes.Cause.{Cause}
 use Rattle.zre_peer.specs.declared.causes.CloseWhy.{CloseWhy}
 use Rattle.zre_peer.specs.declared.causes.IgnoreWhy.{IgnoreWhy}
-use Rattle.zre_peer.specs.declared.causes.RefuseWhy.{RefuseWhy}
 use Rattle.zre_values.proofs.Digits.{bytes_eq-same}
-use Rattle.zre_journal.specs.Chronicle.{Mark, Comes, Opens, TurnsAway, Greets, Shakes, Starts, Counts, Ignores, Closes, IsShut, Drops, Born, Beacons, Ends, Falters, Puts, Links, Takes, Joins, Leaves, Refuses, Calls, Stops, ever}
-use Rattle.zre_journal.specs.Heard.{was_opened, bytes}
-use Rattle.zre_journal.specs.Connections.{open_ones, is_open, is_new, identity, started, has_ended, runs, unless, refuses, other_with, is_same, others}
-use Rattle.zre_journal.specs.Links.{bodies, is_linked, replies, taken}
+use Rattle.zre_journal.specs.Chronicle.{Mark, Opens, TurnsAway, Shakes, Starts, Counts, Ignores, Closes, IsShut, Drops, Born, Ends, Puts}
+use Rattle.zre_journal.specs.Heard.{was_opened}
+use Rattle.zre_journal.specs.Connections.{open_ones, is_open, is_new, identity, started, has_ended, runs, other_with, is_same, others}
 use Rattle.zre_journal.specs.Peers.{Life, lives, births, life, runner, counted, other_lives}
-use Rattle.zre_journal.specs.Proper.{IsProper, AreLives, AreOpen, AreRuns, IsUnused, IsUnheard, AreUnused, AreUnheard, Apart}
-use Rattle.zre_journal.proofs.Listed.{eqb-comm, some_is, All-kept, All-append, All-map, found, found_passes, found_before, Apart-append, Apart-kept, others_find, any_append, any_of_append, any_left, any_other, any_has}
-
--- ---- known peers and connections
-
-module _ (H : List Mark) (p : IsProper H) where
-  -- a known peer hasn't ended, and its number is that of a birth
-  pub known_lives : (l : ℕ) (v : Life) → life l H ≡ Some v → (has_ended l H ≡ false) × (l ≤ births H) × (l ≡ v.link)
-  known_lives l v e =
-      let q = eqb-true l v.link (found_passes (λ (u : Life). eqb l u.link) (lives H) v e) in
-      let f = found (λ (u : Life). has_ended u.link H ≡ false) (λ (u : Life). eqb l u.link) (lives H) v p.living.living e in
-      let n = found (λ (u : Life). u.link ≤ births H) (λ (u : Life). eqb l u.link) (lives H) v p.living.numbered e in
-      (subst (λ k. has_ended k H ≡ false) (sym q) f.0, subst (λ k. k ≤ births H) (sym q) n.0, q)
-
-  -- an open connection isn't new
-  pub open_is_old : (c d : ℕ) → is_open c H ≡ true → is_new d H ≡ true → eqb d c ≡ false
-  open_is_old c d o n = let less : c < d = any_has (λ x. x < d) c (open_ones H) (p.opening.open_old d n) o in ne_eqb d c (λ e. omega arith)
-
-  -- what runs a peer has started it, and the peer is known
-  pub has_started : (c l : ℕ) → runs c H ≡ Some l → (started c H ≡ Some l) × (has_ended l H ≡ false)
-  has_started c l r = by (started c H) refl r
-    where
-      by : (o : Option ℕ) → started c H ≡ o → unless (λ k. has_ended k H) o ≡ Some l → (started c H ≡ Some l) × (has_ended l H ≡ false)
-      by None q e = cc
-      by (Some k) q e = alive (has_ended k H) refl e
-        where
-          alive : (b : Bool) → has_ended k H ≡ b → cond b None (Some k) ≡ Some l → (started c H ≡ Some l) × (has_ended l H ≡ false)
-          alive true w e = cc
-          alive false w e = let same : k ≡ l = cc in (q ∙ ap (λ j. Some j) same, subst (λ j. has_ended j H ≡ false) same w)
-
-  pub run_known : (c l : ℕ) → runs c H ≡ Some l → IsSome (life l H)
-  run_known c l r = let s = has_started c l r in p.running.in_life c l s.0 s.1
-
-  pub run_is : (c l : ℕ) → runs c H ≡ Some l → runner l H ≡ Some c
-  run_is c l r = let s = has_started c l r in p.running.one_run c l s.0 s.1
-
-  -- the one that a peer is run by, runs it
-  pub runner_runs : (c l : ℕ) → runner l H ≡ Some c → has_ended l H ≡ false → runs c H ≡ Some l
-  runner_runs c l r n = let s = p.running.its_run c l r n in rw (s, n) refl
-
--- ---- marks that concern no peer and no connection
-
-module _ (H : List Mark) (p : IsProper H) where
-  pub Beacons-proper : (l : ℕ) → IsProper (Beacons l ∷ H)
-  Beacons-proper l = record { living = p.living; opening = p.opening; running = p.running }
-
-  pub Greets-proper : (c : ℕ) → IsProper (Greets c ∷ H)
-  Greets-proper c = record { living = p.living; opening = p.opening; running = p.running }
-
-  pub Falters-proper : (l : ℕ) → IsProper (Falters l ∷ H)
-  Falters-proper l = record { living = p.living; opening = p.opening; running = p.running }
-
-  pub Joins-proper : (group : List ℕ) → IsProper (Joins group ∷ H)
-  Joins-proper group = record { living = p.living; opening = p.opening; running = p.running }
-
-  pub Leaves-proper : (group : List ℕ) → IsProper (Leaves group ∷ H)
-  Leaves-proper group = record { living = p.living; opening = p.opening; running = p.running }
-
-  pub Refuses-proper : (why : RefuseWhy) → IsProper (Refuses why ∷ H)
-  Refuses-proper why = record { living = p.living; opening = p.opening; running = p.running }
-
-  pub Calls-proper : (port : ℕ) → IsProper (Calls port ∷ H)
-  Calls-proper port = record { living = p.living; opening = p.opening; running = p.running }
-
-  pub Stops-proper : IsProper (Stops ∷ H)
-  Stops-proper = record { living = p.living; opening = p.opening; running = p.running }
-
--- ---- an entry, and what is put, stands or goes out on the link of a known peer
-
-module _ (H : List Mark) (p : IsProper H) where
-  with_fresh : ((l : ℕ) → births H < l → IsUnused l H) → AreLives (lives H) (births H) (λ l. has_ended l H) (λ l. IsUnused l H)
-  with_fresh f = record { numbered = p.living.numbered; apart = p.living.apart; living = p.living.living; fresh = f }
-
-  pub Comes-proper : (e : Entry) → IsProper (Comes e ∷ H)
-  Comes-proper e = record {
-    living = record { numbered = p.living.numbered; apart = p.living.apart; living = p.living.living; fresh = λ l h. let u = p.living.fresh l h in
-      record { no_end = u.no_end; no_run = u.no_run; no_body = u.no_body; not_linked = u.not_linked; no_reply = rw (u.no_reply, u.not_linked) refl; none_taken = u.none_taken } };
-    opening = record { open_apart = p.opening.open_apart; open_old = p.opening.open_old; were_opened = p.opening.were_opened; rises = p.opening.rises; unheard = λ c n. let u = p.opening.unheard c n in
-      record { not_opened = u.not_opened; not_refused = u.not_refused; not_started = u.not_started; unknown = u.unknown; no_octets = rw (u.no_octets, u.not_opened) refl } };
-    running = p.running;
-  }
-
-  pub Puts-proper : (l : ℕ) (b : Body) → l ≤ births H → IsProper (Puts l b ∷ H)
-  Puts-proper l b low = record {
-    living = record { numbered = p.living.numbered; apart = p.living.apart; living = p.living.living; fresh = λ k h. let u = p.living.fresh k h in let far : eqb k l ≡ false = ne_eqb k l (λ e. omega arith) in
-      record { no_end = u.no_end; no_run = u.no_run; no_body = rw far u.no_body; not_linked = u.not_linked; no_reply = u.no_reply; none_taken = u.none_taken } };
-    opening = p.opening;
-    running = p.running;
-  }
-
-  pub Links-proper : (l : ℕ) → l ≤ births H → IsProper (Links l ∷ H)
-  Links-proper l low = record {
-    living = record { numbered = p.living.numbered; apart = p.living.apart; living = p.living.living; fresh = λ k h. let u = p.living.fresh k h in let far : eqb k l ≡ false = ne_eqb k l (λ e. omega arith) in
-      record { no_end = u.no_end; no_run = u.no_run; no_body = u.no_body; not_linked = rw far u.not_linked; no_reply = u.no_reply; none_taken = u.none_taken } };
-    opening = p.opening;
-    running = p.running;
-  }
-
-  pub Takes-proper : (l n : ℕ) → l ≤ births H → IsProper (Takes l n ∷ H)
-  Takes-proper l n low = record {
-    living = record { numbered = p.living.numbered; apart = p.living.apart; living = p.living.living; fresh = λ k h. let u = p.living.fresh k h in let far : eqb k l ≡ false = ne_eqb k l (λ e. omega arith) in
-      record { no_end = u.no_end; no_run = u.no_run; no_body = u.no_body; not_linked = u.not_linked; no_reply = u.no_reply; none_taken = rw far u.none_taken } };
-    opening = p.opening;
-    running = p.running;
-  }
+use Rattle.zre_journal.specs.Proper.{IsProper, AreOpen, AreRuns, IsUnused, IsUnheard}
+use Rattle.zre_journal.proofs.Listed.{eqb-comm, some_is, All-kept, All-append, All-map, found_before, Apart-append, Apart-kept, others_find, any_append, any_of_append, any_left, any_other}
+pub use Rattle.zre_journal.proofs.Silent.{known_lives, open_is_old, has_started, run_known, run_is, runner_runs, Beacons-proper, Greets-proper, Falters-proper, Joins-proper, Leaves-proper, Refuses-proper, Calls-proper, Stops-proper, Comes-proper, Puts-proper, Links-proper, Takes-proper}
 
 -- ---- an end
 
@@ -160,7 +55,7 @@ module _ (H : List Mark) (p : IsProper H) (l : ℕ) (why : Cause) (low : l ≤ b
       apart = Apart-kept (λ (v : Life). v.link) (λ (v : Life). not (eqb l v.link)) (lives H) p.living.apart;
       living = still (lives H) p.living.living;
       fresh = λ k h. let above : eqb k l ≡ false = ne_eqb k l (λ e. omega arith) in let u = p.living.fresh k h in
-        record { no_end = rw above u.no_end; no_run = u.no_run; no_body = u.no_body; not_linked = u.not_linked; no_reply = u.no_reply; none_taken = u.none_taken };
+          record { no_end = rw above u.no_end; no_run = u.no_run; no_body = u.no_body; not_linked = u.not_linked; no_reply = u.no_reply; none_taken = u.none_taken };
     };
     opening = p.opening;
     running = record {
@@ -195,11 +90,11 @@ module _ (H : List Mark) (q : IsProper H) (p : PeerId) (e : Endpoint) (b : Body)
   born-proper = record {
     living = record {
       numbered = All-append (λ (v : Life). v.link ≤ births H + 1) (lives H) (newborn (births H + 1) p e)
-        (All-map (λ (v : Life). v.link ≤ births H) (λ (v : Life). v.link ≤ births H + 1) (λ v h. omega arith) (lives H) q.living.numbered) (omega arith);
+          (All-map (λ (v : Life). v.link ≤ births H) (λ (v : Life). v.link ≤ births H + 1) (λ v h. omega arith) (lives H) q.living.numbered) (omega arith);
       apart = Apart-append (λ (v : Life). v.link) (newborn (births H + 1) p e) (lives H)
-        (All-map (λ (v : Life). v.link ≤ births H) (λ (v : Life). v.link < births H + 1) (λ v h. omega arith) (lives H) q.living.numbered) q.living.apart;
+          (All-map (λ (v : Life). v.link ≤ births H) (λ (v : Life). v.link < births H + 1) (λ v h. omega arith) (lives H) q.living.numbered) q.living.apart;
       living = All-append (λ (v : Life). has_ended v.link H ≡ false) (lives H) (newborn (births H + 1) p e) q.living.living
-        (q.living.fresh (births H + 1) (omega arith)).no_end;
+          (q.living.fresh (births H + 1) (omega arith)).no_end;
       fresh = λ k h. unused k h (q.living.fresh k (omega arith));
     };
     opening = q.opening;
@@ -210,10 +105,10 @@ module _ (H : List Mark) (q : IsProper H) (p : PeerId) (e : Endpoint) (b : Body)
       is_introduced = q.running.is_introduced;
       is_silent = q.running.is_silent;
       is_its_own = λ c k v r n f.
-        let old = some_is (life k H) (q.running.in_life c k (q.running.its_run c k r n) n) in
-        let z : Some old.0 ≡ Some v = sym (kept_life k old.0 old.1) ∙ f in
-        let same : old.0 ≡ v = cc in
-        q.running.is_its_own c k v r n (old.1 ∙ ap (λ (u : Life). Some u) same);
+          let old = some_is (life k H) (q.running.in_life c k (q.running.its_run c k r n) n) in
+          let z : Some old.0 ≡ Some v = sym (kept_life k old.0 old.1) ∙ f in
+          let same : old.0 ≡ v = cc in
+          q.running.is_its_own c k v r n (old.1 ∙ ap (λ (u : Life). Some u) same);
       is_heard = q.running.is_heard;
       is_sole = q.running.is_sole;
     };
@@ -236,11 +131,11 @@ module _ (H : List Mark) (p : IsProper H) (c : ℕ) where
       open_apart = Apart-append (λ (d : ℕ). d) c (open_ones H) (p.opening.open_old c new) p.opening.open_apart;
       open_old = λ d n. let q = and_parts (ltb c d) (is_new d H) n in All-append (λ e. e < d) (open_ones H) c (p.opening.open_old d q.1) (ltb-true c d q.0);
       were_opened = All-append (λ d. was_opened d (Opens c ∷ H) ≡ true) (open_ones H) c
-        (All-map (λ d. was_opened d H ≡ true) (λ d. was_opened d (Opens c ∷ H) ≡ true) opened_at (open_ones H) p.opening.were_opened)
-        (let me : eqb c c ≡ true = eq-eqb c c refl in rw me refl);
+          (All-map (λ d. was_opened d H ≡ true) (λ d. was_opened d (Opens c ∷ H) ≡ true) opened_at (open_ones H) p.opening.were_opened)
+          (let me : eqb c c ≡ true = eq-eqb c c refl in rw me refl);
       rises = λ d e n b. let q = and_parts (ltb c d) (is_new d H) n in let less : c < d = ltb-true c d q.0 in and_from (ltb c e) (is_new e H) (lt-ltb c e (omega arith)) (p.opening.rises d e q.1 b);
       unheard = λ d n. let q = and_parts (ltb c d) (is_new d H) n in let less : c < d = ltb-true c d q.0 in let far : eqb d c ≡ false = ne_eqb d c (λ e. omega arith) in
-        let u = p.opening.unheard d q.1 in record { not_opened = rw far u.not_opened; not_refused = u.not_refused; not_started = u.not_started; unknown = u.unknown; no_octets = u.no_octets };
+          let u = p.opening.unheard d q.1 in record { not_opened = rw far u.not_opened; not_refused = u.not_refused; not_started = u.not_started; unknown = u.unknown; no_octets = u.no_octets };
     };
     running = record {
       one_run = p.running.one_run;
@@ -277,22 +172,25 @@ module _ (H : List Mark) (p : IsProper H) (c : ℕ) where
   -- the others, behind a closing of one that runs no peer
   closing : runs c H ≡ None → AreOpen (others c (open_ones H)) (λ d. is_new d H) (λ d. was_opened d H) (λ d. IsUnheard d H)
       × AreRuns (lives H) (others c (open_ones H)) (λ l. has_ended l H) (λ l. runner l H) (λ d. started d H) (λ d. identity d H) (λ l. counted l H)
-  closing idle = (record {
-    open_apart = Apart-kept (λ (d : ℕ). d) (λ d. not (eqb c d)) (open_ones H) p.opening.open_apart;
-    open_old = λ d n. All-kept (λ e. e < d) (λ e. not (eqb c e)) (open_ones H) (p.opening.open_old d n);
-    were_opened = All-kept (λ d. was_opened d H ≡ true) (λ d. not (eqb c d)) (open_ones H) p.opening.were_opened;
-    rises = p.opening.rises;
-    unheard = p.opening.unheard;
-  }, record {
-    one_run = p.running.one_run;
-    in_life = p.running.in_life;
-    its_run = p.running.its_run;
-    is_introduced = p.running.is_introduced;
-    is_silent = p.running.is_silent;
-    is_its_own = p.running.is_its_own;
-    is_heard = λ d l r n. any_other c d (another d l r n) (open_ones H) (p.running.is_heard d l r n);
-    is_sole = λ d e q a b x y. p.running.is_sole d e q (any_left c d (open_ones H) a) (any_left c e (open_ones H) b) x y;
-  })
+  closing idle = (
+    record {
+      open_apart = Apart-kept (λ (d : ℕ). d) (λ d. not (eqb c d)) (open_ones H) p.opening.open_apart;
+      open_old = λ d n. All-kept (λ e. e < d) (λ e. not (eqb c e)) (open_ones H) (p.opening.open_old d n);
+      were_opened = All-kept (λ d. was_opened d H ≡ true) (λ d. not (eqb c d)) (open_ones H) p.opening.were_opened;
+      rises = p.opening.rises;
+      unheard = p.opening.unheard;
+    },
+    record {
+      one_run = p.running.one_run;
+      in_life = p.running.in_life;
+      its_run = p.running.its_run;
+      is_introduced = p.running.is_introduced;
+      is_silent = p.running.is_silent;
+      is_its_own = p.running.is_its_own;
+      is_heard = λ d l r n. any_other c d (another d l r n) (open_ones H) (p.running.is_heard d l r n);
+      is_sole = λ d e q a b x y. p.running.is_sole d e q (any_left c d (open_ones H) a) (any_left c e (open_ones H) b) x y;
+    },
+  )
     where
       another : (d l : ℕ) → runner l H ≡ Some d → has_ended l H ≡ false → eqb c d ≡ false
       another d l r n = ne_eqb c d (λ same. let z : Some l ≡ None = sym (runner_runs H p d l r n) ∙ ap (λ m. runs m H) (sym same) ∙ idle in cc)
@@ -317,7 +215,7 @@ module _ (H : List Mark) (p : IsProper H) (c : ℕ) where
       were_opened = p.opening.were_opened;
       rises = p.opening.rises;
       unheard = λ d n. let u = p.opening.unheard d n in let far : eqb d c ≡ false = open_is_old H p c d o n in
-        record { not_opened = u.not_opened; not_refused = rw far u.not_refused; not_started = u.not_started; unknown = u.unknown; no_octets = u.no_octets };
+          record { not_opened = u.not_opened; not_refused = rw far u.not_refused; not_started = u.not_started; unknown = u.unknown; no_octets = u.no_octets };
     };
     running = p.running;
   }
@@ -330,11 +228,11 @@ none_with p c H [] e d o f x me = cc
 none_with p c H (y ∷ ys) e d o f x me = by (λ k q. none_with p c H ys k d q f x me) (eqb d y) refl o e
   where
     by : (find (λ d. not (eqb c d) && is_same p (identity d H)) ys ≡ None → list_any (eqb d) ys ≡ true → ⊥) → (b : Bool) → eqb d y ≡ b → (b || list_any (eqb d) ys) ≡ true
-      → cond (not (eqb c y) && is_same p (identity y H)) (Some y) (find (λ d. not (eqb c d) && is_same p (identity d H)) ys) ≡ None → ⊥
+        → cond (not (eqb c y) && is_same p (identity y H)) (Some y) (find (λ d. not (eqb c d) && is_same p (identity d H)) ys) ≡ None → ⊥
     by r true q k z = let same : d ≡ y = eqb-true d y q in
-      let far2 : eqb c y ≡ false = subst (λ m. eqb c m ≡ false) same f in
-      let x2 : identity y H ≡ Some p = subst (λ m. identity m H ≡ Some p) same x in
-      let w : Some y ≡ None = rw (far2, x2, me) at z in cc
+        let far2 : eqb c y ≡ false = subst (λ m. eqb c m ≡ false) same f in
+        let x2 : identity y H ≡ Some p = subst (λ m. identity m H ≡ Some p) same x in
+        let w : Some y ≡ None = rw (far2, x2, me) at z in cc
     by r false q k z = rest (not (eqb c y) && is_same p (identity y H)) z
       where
         rest : (b : Bool) → cond b (Some y) (find (λ d. not (eqb c d) && is_same p (identity d H)) ys) ≡ None → ⊥
@@ -366,7 +264,7 @@ module _ (H : List Mark) (q : IsProper H) (c : ℕ) (p : PeerId) (o : is_open c 
       were_opened = q.opening.were_opened;
       rises = q.opening.rises;
       unheard = λ d n. let u = q.opening.unheard d n in let far : eqb d c ≡ false = open_is_old H q c d o n in
-        record { not_opened = u.not_opened; not_refused = u.not_refused; not_started = u.not_started; unknown = at_other d far ∙ u.unknown; no_octets = u.no_octets };
+          record { not_opened = u.not_opened; not_refused = u.not_refused; not_started = u.not_started; unknown = at_other d far ∙ u.unknown; no_octets = u.no_octets };
     };
     running = record {
       one_run = q.running.one_run;
@@ -388,6 +286,7 @@ module _ (H : List Mark) (q : IsProper H) (c : ℕ) (p : PeerId) (o : is_open c 
         where
           clash : (y : ℕ) → eqb y c ≡ false → list_any (eqb y) (open_ones H) ≡ true → identity y H ≡ Some p → ⊥
           clash y far there x = none_with p c H (open_ones H) alone y there (eqb-comm c y ∙ far) x me
+
           by : (s : Bool) → eqb d c ≡ s → (t : Bool) → eqb e c ≡ t → identity d (Shakes c p ∷ H) ≡ Some r → identity e (Shakes c p ∷ H) ≡ Some r → d ≡ e
           by true s true t x y = eqb-true d c s ∙ sym (eqb-true e c t)
           by true s false t x y = let z : Some p ≡ Some r = rw s at x in let same : p ≡ r = cc in absurd (clash e t b (sym (at_other e t) ∙ y ∙ ap (λ (w : PeerId). Some w) (sym same)))
@@ -433,7 +332,7 @@ module _ (H : List Mark) (q : IsProper H) (c l : ℕ) (m : Message) (v : Life) (
       by : (b : Bool) → eqb j l ≡ b → OfRun d j
       by true e = let same : j ≡ l = eqb-true j l e in let z : Some c ≡ Some d = sym run_here ∙ ap (λ x. runner x (Starts c l m ∷ H)) (sym same) ∙ r in Here (let w : c ≡ d = cc in sym w) same
       by false e = let old = sym (run_else j e) ∙ r in let s = q.running.its_run d j old n in
-        Before (ne_eqb d c (λ same. let z : Some j ≡ None = sym s ∙ ap (λ x. started x H) same ∙ idle in cc)) e old
+          Before (ne_eqb d c (λ same. let z : Some j ≡ None = sym s ∙ ap (λ x. started x H) same ∙ idle in cc)) e old
 
   pub Starts-proper : IsProper (Starts c l m ∷ H)
   Starts-proper = record {
@@ -442,7 +341,7 @@ module _ (H : List Mark) (q : IsProper H) (c l : ℕ) (m : Message) (v : Life) (
       apart = q.living.apart;
       living = q.living.living;
       fresh = λ j h. let low = (known_lives H q l v k).1 in let far : eqb j l ≡ false = ne_eqb j l (λ e. omega arith) in let u = q.living.fresh j h in
-        record { no_end = u.no_end; no_run = run_else j far ∙ u.no_run; no_body = u.no_body; not_linked = u.not_linked; no_reply = u.no_reply; none_taken = u.none_taken };
+          record { no_end = u.no_end; no_run = run_else j far ∙ u.no_run; no_body = u.no_body; not_linked = u.not_linked; no_reply = u.no_reply; none_taken = u.none_taken };
     };
     opening = record {
       open_apart = q.opening.open_apart;
@@ -450,7 +349,7 @@ module _ (H : List Mark) (q : IsProper H) (c l : ℕ) (m : Message) (v : Life) (
       were_opened = q.opening.were_opened;
       rises = q.opening.rises;
       unheard = λ d n. let u = q.opening.unheard d n in let far : eqb d c ≡ false = open_is_old H q c d o n in
-        record { not_opened = u.not_opened; not_refused = u.not_refused; not_started = start_else d far ∙ u.not_started; unknown = u.unknown; no_octets = u.no_octets };
+          record { not_opened = u.not_opened; not_refused = u.not_refused; not_started = start_else d far ∙ u.not_started; unknown = u.unknown; no_octets = u.no_octets };
     };
     running = record {
       one_run = λ d j s n. one d j (started_by d j s n);

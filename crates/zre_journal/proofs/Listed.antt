@@ -1,5 +1,5 @@
 -- Lists of numbered things: found by number, taken out by number, put at the end.
-use Rattle.std.proofs.Common.{◌≡◌, ℕ, ◌+◌, ◌<◌, ◌≤◌, Bool, true, false, cond, not, ◌||◌, eqb, List, [], ◌∷◌, ◌++◌, Option, Some, None, IsSome, refl, sym, ap, ◌∙◌, arith, eqb-true, eq-eqb, ne_eqb, subst, find, filter}
+use Rattle.std.proofs.Common.{◌≡◌, ℕ, ◌<◌, Bool, true, false, cond, not, ◌||◌, eqb, List, [], ◌∷◌, ◌++◌, Option, Some, None, IsSome, refl, sym, ap, ◌∙◌, arith, eqb-true, eq-eqb, ne_eqb, subst, find, filter}
 use Rattle.std.proofs.lemmas.Bool.{eqb-false}
 use Rattle.std.specs.List.{AllByRecursion, list_any}
 use Rattle.zre_journal.specs.Proper.{Apart}
@@ -93,7 +93,7 @@ module _ {A : Type 0} (key : A → ℕ) where
   others_find n k ne (x ∷ xs) = by (others_find n k ne xs) (eqb n (key x)) refl
     where
       by : find (λ x. eqb k (key x)) (filter (λ x. not (eqb n (key x))) xs) ≡ find (λ x. eqb k (key x)) xs → (b : Bool) → eqb n (key x) ≡ b
-        → find (λ y. eqb k (key y)) (filter (λ y. not (eqb n (key y))) (x ∷ xs)) ≡ find (λ y. eqb k (key y)) (x ∷ xs)
+          → find (λ y. eqb k (key y)) (filter (λ y. not (eqb n (key y))) (x ∷ xs)) ≡ find (λ y. eqb k (key y)) (x ∷ xs)
       by r true q = let same : n ≡ key x = eqb-true n (key x) q in let far : eqb k (key x) ≡ false = eqb-comm k (key x) ∙ ap (λ m. eqb m k) (sym same) ∙ ne in rw (q, far) r
       by r false q = rw q (ap (λ o. cond (eqb k (key x)) (Some x) o) r)
 
@@ -121,7 +121,7 @@ any_left n c [] h = h
 any_left n c (x ∷ xs) h = by (any_left n c xs) (eqb n x) h
   where
     by : (list_any (eqb c) (filter (λ y. not (eqb n y)) xs) ≡ true → list_any (eqb c) xs ≡ true) → (b : Bool)
-      → list_any (eqb c) (cond (not b) (x ∷ filter (λ y. not (eqb n y)) xs) (filter (λ y. not (eqb n y)) xs)) ≡ true → (eqb c x || list_any (eqb c) xs) ≡ true
+        → list_any (eqb c) (cond (not b) (x ∷ filter (λ y. not (eqb n y)) xs) (filter (λ y. not (eqb n y)) xs)) ≡ true → (eqb c x || list_any (eqb c) xs) ≡ true
     by r true k = there (eqb c x)
       where
         there : (b : Bool) → (b || list_any (eqb c) xs) ≡ true
@@ -139,7 +139,7 @@ any_other n c far [] h = h
 any_other n c far (x ∷ xs) h = by (any_other n c far xs) (eqb n x) refl h
   where
     by : (list_any (eqb c) xs ≡ true → list_any (eqb c) (filter (λ y. not (eqb n y)) xs) ≡ true) → (b : Bool) → eqb n x ≡ b → (eqb c x || list_any (eqb c) xs) ≡ true
-      → list_any (eqb c) (cond (not b) (x ∷ filter (λ y. not (eqb n y)) xs) (filter (λ y. not (eqb n y)) xs)) ≡ true
+        → list_any (eqb c) (cond (not b) (x ∷ filter (λ y. not (eqb n y)) xs) (filter (λ y. not (eqb n y)) xs)) ≡ true
     by r true q k = let same : n ≡ x = eqb-true n x q in let other : eqb c x ≡ false = eqb-comm c x ∙ ap (λ m. eqb m c) (sym same) ∙ far in r (subst (λ b. (b || list_any (eqb c) xs) ≡ true) other k)
     by r false q k = here (eqb c x) k
       where

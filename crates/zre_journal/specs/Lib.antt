@@ -10,4 +10,5 @@ pub mod Laws
 pub mod Links
 pub mod Peers
 pub mod Proper
+pub mod Spoken
 pub mod Told

@@ -3,9 +3,11 @@
 ghost use Rattle.std.specs.Prelude.{◌≡◌, true, List};
 ghost use Rattle.zre_outside.specs.declared.entry.Entry.{Entry};
 ghost use Rattle.zre_journal.specs.declared.config.Config.{Config};
-ghost use Rattle.zre_journal.specs.Events.{chronicle};
+ghost use Rattle.zre_journal.specs.Events.{chronicle, events};
 ghost use Rattle.zre_journal.specs.Happens.{has_stopped};
-ghost use Rattle.zre_journal.specs.Laws.{Continues, HasEnded};
+ghost use Rattle.zre_journal.specs.Laws.{Continues, HasEnded, RunsAlone, AreStrangers, AreFew, EndsOnce, ShowsItsMessages};
+ghost use Rattle.zre_journal.specs.Proper.{IsProper};
+ghost use Rattle.zre_journal.specs.Spoken.{AreInTurn, FollowsMessages};
 
 /// The events of a journal begin those of every longer one, and so do its acts.
 pub fn journals_continue()
@@ -15,4 +17,49 @@ pub fn journals_continue()
 /// After a stop nothing begins, ends, is told or is done.
 pub fn a_stop_is_the_end()
     ensures { (g : Config) (J K : List Entry) → has_stopped (chronicle g J) ≡ true → HasEnded g J K }
+{}
+
+/// What holds of the chronicle of every journal: links are numbered by births, nothing has come about on a new link or
+/// connection, and a peer is run by one connection, its own.
+pub fn journals_are_proper()
+    ensures { (g : Config) (J : List Entry) → IsProper (chronicle g J) }
+{}
+
+/// A peer is run by one connection alone, which is open and has introduced itself as that peer.
+pub fn a_peer_has_one_run()
+    ensures { (g : Config) (J : List Entry) → RunsAlone (chronicle g J) }
+{}
+
+/// No two open connections have introduced themselves as one peer.
+pub fn identities_are_apart()
+    ensures { (g : Config) (J : List Entry) → AreStrangers (chronicle g J) }
+{}
+
+/// No two known peers have one id. At most 256 peers are known, and at most 512 connections are open.
+pub fn peers_and_connections_are_few()
+    ensures { (g : Config) (J : List Entry) → AreFew (chronicle g J) }
+{}
+
+/// All that is told of a peer stands between an ENTER and the EXIT behind it: an ENTER comes only where the peer isn't
+/// in, and all else only where it is. A peer is in exactly where it is known and entered.
+pub fn events_of_a_peer_are_in_turn()
+    ensures { (g : Config) (J : List Entry) → AreInTurn (events g J) (chronicle g J) }
+{}
+
+/// What was told of an entered peer since its ENTER, but for EVASIVE, is what the messages that were counted on its
+/// connection tell: all of them, each once and in their order.
+pub fn events_follow_messages()
+    ensures { (g : Config) (J : List Entry) → FollowsMessages (events g J) (chronicle g J) }
+{}
+
+/// A peer ends at most once, so with one cause, and isn't known from then on.
+pub fn a_peer_ends_once()
+    ensures { (g : Config) (J : List Entry) → EndsOnce (chronicle g J) }
+{}
+
+/// The messages that were counted on a connection are in order: HELLO first, numbered 1, and each further one with the
+/// number that is due and a view within the limits. The view of an entered peer that is known is what the messages
+/// of the connection that runs it lead to.
+pub fn views_follow_messages()
+    ensures { (g : Config) (J : List Entry) → ShowsItsMessages (chronicle g J) }
 {}

@@ -1,0 +1,73 @@
+-- The chronicle of every journal is proper, and has what each mark that may come keeps.
+use Rattle.std.proofs.Common.{List, [], ◌∷◌, refl}
+use Rattle.zre_beacon.specs.Beacon.{beacon_in}
+use Rattle.zre_outside.specs.declared.entry.Entry.{Entry}
+use Rattle.zre_outside.specs.declared.entry.Input.{Input}
+use Rattle.zre_outside.specs.declared.entry.Input.TheVariants as input
+use Rattle.zre_journal.specs.declared.config.Config.{Config}
+use Rattle.zre_journal.specs.Chronicle.{Mark, Comes, after}
+use Rattle.zre_journal.specs.Heard.{newly_said}
+use Rattle.zre_journal.specs.Happens.{has_stopped, at_input, marks, with_entry, chronicle_behind}
+use Rattle.zre_journal.specs.Events.{chronicle}
+use Rattle.zre_journal.specs.Proper.{IsProper}
+use Rattle.zre_journal.proofs.Kept.{Comes-proper}
+use Rattle.zre_journal.proofs.Brings.{datagram_allowed, opened_allowed, shut_allowed, linked_allowed, reply_allowed, unlinked_allowed, took_allowed, tick_allowed, command_allowed, stop_allowed}
+use Rattle.zre_journal.proofs.Says.{places_allowed}
+use Rattle.zre_journal.proofs.Steps.{May, Allowed, step, either}
+
+pub empty : IsProper []
+empty = record {
+  living = record { numbered = tt; apart = tt; living = tt; fresh = λ l h. record { no_end = refl; no_run = refl; no_body = refl; not_linked = refl; no_reply = refl; none_taken = refl } };
+  opening = record {
+    open_apart = tt;
+    open_old = λ c n. tt;
+    were_opened = tt;
+    rises = λ c d n b. refl;
+    unheard = λ c n. record { not_opened = refl; not_refused = refl; not_started = refl; unknown = refl; no_octets = refl };
+  };
+  running = record {
+    one_run = λ c l s n. cc;
+    in_life = λ c l s n. cc;
+    its_run = λ c l r n. cc;
+    is_introduced = λ c l s. cc;
+    is_silent = λ l r. refl;
+    is_its_own = λ c l v r n f. cc;
+    is_heard = λ c l r n. cc;
+    is_sole = λ c d p a b x y. cc;
+  };
+}
+
+module _ (g : Config) where
+  input_allowed : (i : Input) (H K : List Mark) → IsProper K → Allowed (at_input g i H K) K
+  input_allowed (input.Datagram from o) H K p = datagram_allowed g K p from (beacon_in o)
+  input_allowed (input.Opened c) H K p = opened_allowed g K p c
+  input_allowed (input.Piece c o) H K p = places_allowed g c (newly_said g.id c H K) K p
+  input_allowed (input.Shut c) H K p = shut_allowed g K p c
+  input_allowed (input.Linked l) H K p = linked_allowed g K p l
+  input_allowed (input.Reply l o) H K p = reply_allowed g K p l
+  input_allowed (input.Unlinked l) H K p = unlinked_allowed g K p l
+  input_allowed (input.Took l n) H K p = took_allowed g K p l n
+  input_allowed input.Tick H K p = tick_allowed g K p
+  input_allowed (input.Do c) H K p = command_allowed g K p c
+  input_allowed input.End H K p = stop_allowed g K p
+
+  marks_allowed : (e : Entry) (H : List Mark) → IsProper H → Allowed (marks g e H) (Comes e ∷ H)
+  marks_allowed e H p = either (has_stopped H) [] (at_input g e.input H (Comes e ∷ H)) (Comes e ∷ H) (λ z. tt) (λ z. input_allowed e.input H (Comes e ∷ H) (Comes-proper H p e))
+
+  -- what each mark keeps that may come
+  module _ (P : List Mark → Type 0) (keeps : (h : Mark) (H : List Mark) → IsProper H → May h H → P H → P (h ∷ H)) where
+    behind_marks : (hs H : List Mark) → Allowed hs H → IsProper H → P H → IsProper (after hs H) × P (after hs H)
+    behind_marks [] H a p x = (p, x)
+    behind_marks (h ∷ hs) H a p x = behind_marks hs (h ∷ H) a.1 (step h H p a.0) (keeps h H p a.0 x)
+
+    behind_entries : (es : List Entry) (H : List Mark) → IsProper H → P H → IsProper (chronicle_behind g es H) × P (chronicle_behind g es H)
+    behind_entries [] H p x = (p, x)
+    behind_entries (e ∷ es) H p x =
+        let b = behind_marks (marks g e H) (Comes e ∷ H) (marks_allowed e H p) (Comes-proper H p e) (keeps (Comes e) H p tt x) in
+        behind_entries es (with_entry g e H) b.0 b.1
+
+    pub always : P [] → (journal : List Entry) → P (chronicle g journal)
+    always x journal = (behind_entries journal [] empty x).1
+
+  pub is_proper : (journal : List Entry) → IsProper (chronicle g journal)
+  is_proper journal = always IsProper (λ h H p m x. step h H p m) empty journal

@@ -1,0 +1,120 @@
+-- When each mark may come, and that a chronicle stays proper behind marks that may.
+use Rattle.std.proofs.Common.{◌≡◌, ℕ, ◌+◌, ◌<◌, ◌≤◌, Bool, true, false, cond, eqb, List, [], ◌∷◌, ◌++◌, length, Some, None, IsSome, is_some, refl, sym, arith, subst}
+use Rattle.zre_values.specs.declared.peer_id.PeerId.{PeerId}
+use Rattle.zre_values.specs.declared.limits.TheConstants.{PEERS, CONNECTIONS}
+use Rattle.zre_values.specs.declared.endpoint.Endpoint.{Endpoint}
+use Rattle.zre_msg.specs.declared.message.Message.{Message}
+use Rattle.zre_msg.specs.declared.message.Body.TheVariants as body
+use Rattle.zre_peer.specs.Runs.{may_follow, is_hello, due}
+use Rattle.zre_peer.specs.Views.{view_of, is_small}
+use Rattle.zre_journal.specs.Chronicle.{Mark, Comes, Opens, TurnsAway, Greets, Shakes, Starts, Counts, Ignores, Closes, IsShut, Drops, Born, Beacons, Ends, Falters, Puts, Links, Takes, Joins, Leaves, Refuses, Calls, Stops, after}
+use Rattle.zre_journal.specs.Connections.{open_ones, is_open, is_new, identity, started, runs, other_with}
+use Rattle.zre_journal.specs.Peers.{Life, lives, life_of, life, births, runner, counted}
+use Rattle.zre_journal.specs.Proper.{IsProper}
+use Rattle.zre_journal.proofs.Listed.{some_is}
+use Rattle.zre_journal.proofs.Kept.{known_lives, Comes-proper, Opens-proper, TurnsAway-proper, Greets-proper, Shakes-proper, Starts-proper, Counts-proper, Ignores-proper, Closes-proper, IsShut-proper, Drops-proper, born-proper, Beacons-proper, Ends-proper, Falters-proper, Puts-proper, Links-proper, Takes-proper, Joins-proper, Leaves-proper, Refuses-proper, Calls-proper, Stops-proper}
+
+-- an open connection that has started nothing begins to run a known peer that nothing has run, its own, by a first message
+pub record MayStart (c l : ℕ) (m : Message) (H : List Mark) : Type 0 where
+  pub who : Life
+  pub is_there : is_open c H ≡ true
+  pub idle : started c H ≡ None
+  pub known : life l H ≡ Some who
+  pub its_own : identity c H ≡ Some who.id
+  pub free : runner l H ≡ None
+  pub first : may_follow [] m ≡ true
+
+-- a message behind the first is counted for the peer that its connection runs
+pub record MayCount (c l : ℕ) (m : Message) (H : List Mark) : Type 0 where
+  pub running : runs c H ≡ Some l
+  pub later : is_hello m.body ≡ false
+  pub next : eqb m.sequence (due (counted l H)) ≡ true
+  pub small : is_small (view_of (counted l H ++ m ∷ [])) ≡ true
+
+-- a connection opens under a new number, where fewer than 512 are open
+pub record MayOpen (c : ℕ) (H : List Mark) : Type 0 where
+  pub is_fresh : is_new c H ≡ true
+  pub has_place : length (open_ones H) < CONNECTIONS
+
+-- a peer that isn't known is born on the next link, where fewer than 256 are known
+pub record MayBear (l : ℕ) (p : PeerId) (H : List Mark) : Type 0 where
+  pub next_link : l ≡ births H + 1
+  pub is_unknown : life_of p H ≡ None
+  pub has_room : length (lives H) < PEERS
+
+-- a known peer that is entered is silent
+pub record MayFalter (l : ℕ) (H : List Mark) : Type 0 where
+  pub is_known : IsSome (life l H)
+  pub is_run : is_some (runner l H) ≡ true
+
+-- whether a mark may come behind H
+abbrev pub May : Mark → List Mark → Type 0
+May (Opens c) H = MayOpen c H
+May (Shakes c p) H = (is_open c H ≡ true) × (identity c H ≡ None) × (other_with p c H ≡ None)
+May (Starts c l m) H = MayStart c l m H
+May (Counts c l m) H = MayCount c l m H
+May (Ignores c why) H = is_open c H ≡ true
+May (Closes c why) H = runs c H ≡ None
+May (IsShut c) H = runs c H ≡ None
+May (Drops c) H = runs c H ≡ None
+May (Born l p e) H = MayBear l p H
+May (Falters l) H = MayFalter l H
+May (Ends l why) H = IsSome (life l H)
+May (Puts l b) H = IsSome (life l H)
+May (Links l) H = IsSome (life l H)
+May (Takes l n) H = IsSome (life l H)
+May _ H = Unit {0}
+
+-- whether marks may come behind H, each behind those before it
+abbrev pub Allowed : List Mark → List Mark → Type 0
+Allowed [] H = Unit {0}
+Allowed (h ∷ hs) H = May h H × Allowed hs (h ∷ H)
+
+-- the number of a known peer is that of a birth
+low : (H : List Mark) → IsProper H → (l : ℕ) → IsSome (life l H) → l ≤ births H
+low H p l k = let v = some_is (life l H) k in (known_lives H p l v.0 v.1).1
+
+Born-proper : (H : List Mark) → IsProper H → (p : PeerId) (e : Endpoint) → IsProper (Born (births H + 1) p e ∷ H)
+Born-proper H q p e = let b = born-proper H q p e body.Ping in record {
+  living = record { numbered = b.living.numbered; apart = b.living.apart; living = b.living.living; fresh = λ k h. q.living.fresh k (omega arith) };
+  opening = b.opening;
+  running = b.running;
+}
+
+pub step : (h : Mark) (H : List Mark) → IsProper H → May h H → IsProper (h ∷ H)
+step (Comes e) H p m = Comes-proper H p e
+step (Opens c) H p m = Opens-proper H p c m.is_fresh
+step (TurnsAway c) H p m = TurnsAway-proper H p c
+step (Greets c) H p m = Greets-proper H p c
+step (Shakes c i) H p m = Shakes-proper H p c i m.0 m.1 m.2
+step (Starts c l s) H p m = Starts-proper H p c l s m.who m.is_there m.idle m.known m.its_own m.free
+step (Counts c l s) H p m = Counts-proper H p c l s m.running
+step (Ignores c why) H p m = Ignores-proper H p c why m
+step (Closes c why) H p m = Closes-proper H p c why m
+step (IsShut c) H p m = IsShut-proper H p c m
+step (Drops c) H p m = Drops-proper H p c m
+step (Born l i e) H p m = subst (λ k. IsProper (Born k i e ∷ H)) (sym m.next_link) (Born-proper H p i e)
+step (Beacons l) H p m = Beacons-proper H p l
+step (Ends l why) H p m = Ends-proper H p l why (low H p l m)
+step (Falters l) H p m = Falters-proper H p l
+step (Puts l b) H p m = Puts-proper H p l b (low H p l m)
+step (Links l) H p m = Links-proper H p l (low H p l m)
+step (Takes l n) H p m = Takes-proper H p l n (low H p l m)
+step (Joins group) H p m = Joins-proper H p group
+step (Leaves group) H p m = Leaves-proper H p group
+step (Refuses why) H p m = Refuses-proper H p why
+step (Calls port) H p m = Calls-proper H p port
+step Stops H p m = Stops-proper H p
+
+pub steps : (hs H : List Mark) → IsProper H → Allowed hs H → IsProper (after hs H)
+steps [] H p a = p
+steps (h ∷ hs) H p a = steps hs (h ∷ H) (step h H p a.0) a.1
+
+pub in_both : (hs ks H : List Mark) → Allowed hs H → Allowed ks (after hs H) → Allowed (hs ++ ks) H
+in_both [] ks H a b = b
+in_both (h ∷ hs) ks H a b = (a.0, in_both hs ks (h ∷ H) a.1 b)
+
+-- those of a choice
+pub either : (b : Bool) (hs ks H : List Mark) → (b ≡ true → Allowed hs H) → (b ≡ false → Allowed ks H) → Allowed (cond b hs ks) H
+either true hs ks H f g = f refl
+either false hs ks H f g = g refl

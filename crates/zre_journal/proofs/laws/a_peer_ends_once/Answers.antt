@@ -1,0 +1,5 @@
+use Rattle.zre_journal.proofs.Lawful.{ends_once}
+use Rattle.zre_journal.proofs.laws.a_peer_ends_once.Goals as goal
+
+pub returns : goal.returns
+returns c = λ g J. ends_once g J

@@ -1,0 +1,5 @@
+use Rattle.zre_journal.proofs.Always.{is_proper}
+use Rattle.zre_journal.proofs.laws.journals_are_proper.Goals as goal
+
+pub returns : goal.returns
+returns c = λ g J. is_proper g J

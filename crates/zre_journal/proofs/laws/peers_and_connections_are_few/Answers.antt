@@ -1,0 +1,5 @@
+use Rattle.zre_journal.proofs.Few.{are_few}
+use Rattle.zre_journal.proofs.laws.peers_and_connections_are_few.Goals as goal
+
+pub returns : goal.returns
+returns c = λ g J. are_few g J

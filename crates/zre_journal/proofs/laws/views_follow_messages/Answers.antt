@@ -1,0 +1,5 @@
+use Rattle.zre_journal.proofs.Lawful.{shows_messages}
+use Rattle.zre_journal.proofs.laws.views_follow_messages.Goals as goal
+
+pub returns : goal.returns
+returns c = λ g J. shows_messages g J
