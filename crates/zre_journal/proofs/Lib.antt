@@ -2,6 +2,7 @@ pub mod Always
 pub mod Brings
 pub mod Few
 pub mod Idle
+pub mod Introduction
 pub mod Joined
 pub mod Kept
 pub mod Known

@@ -6,6 +6,7 @@ pub mod Events
 pub mod Happens
 pub mod Heard
 pub mod Held
+pub mod Introducing
 pub mod Laws
 pub mod Links
 pub mod Peers

@@ -3,7 +3,9 @@
 ghost use Rattle.std.specs.Prelude.{◌≡◌, true, List};
 ghost use Rattle.zre_outside.specs.declared.entry.Entry.{Entry};
 ghost use Rattle.zre_journal.specs.declared.config.Config.{Config};
+ghost use Rattle.zre_journal.specs.Chronicle.{Mark};
 ghost use Rattle.zre_journal.specs.Events.{chronicle, events};
+ghost use Rattle.zre_journal.specs.Introducing.{CanIntroduce, Introduces};
 ghost use Rattle.zre_journal.specs.Happens.{has_stopped};
 ghost use Rattle.zre_journal.specs.Laws.{Continues, HasEnded, RunsAlone, AreStrangers, AreFew, EndsOnce, ShowsItsMessages};
 ghost use Rattle.zre_journal.specs.Proper.{IsProper};
@@ -62,4 +64,10 @@ pub fn a_peer_ends_once()
 /// of the connection that runs it lead to.
 pub fn views_follow_messages()
     ensures { (g : Config) (J : List Entry) → ShowsItsMessages (chronicle g J) }
+{}
+
+/// HELLO of a valid node in up to 1,024 groups of up to 255 octets each fits: it has a spelling, within the limit of a
+/// message, and no new link is slow with it.
+pub fn hello_fits()
+    ensures { (g : Config) (H : List Mark) → CanIntroduce g H → Introduces g H }
 {}

@@ -1,11 +1,12 @@
 -- The text of an endpoint is read as that endpoint.
-use Rattle.std.proofs.Common.{◌≡◌, ℕ, ◌+◌, ◌-◌, ◌*◌, ◌<◌, ◌^◌, ◌==◌, ◌&&◌, Bool, true, false, cond, ltb, List, [], ◌∷◌, ◌++◌, length, map, drop, Option, Some, None, refl, sym, ap, ◌∙◌, arith, inl, inr}
+use Rattle.std.proofs.Common.{◌≡◌, ℕ, ◌+◌, ◌-◌, ◌*◌, ◌<◌, ◌≤◌, ◌^◌, ◌==◌, ◌&&◌, Bool, true, false, cond, ltb, List, [], ◌∷◌, ◌++◌, length, map, drop, Option, Some, None, refl, sym, ap, ◌∙◌, arith, inl, inr}
 use Rattle.std.specs.Prelude.{decimal}
 use Rattle.std.specs.List.{fold, list_any, list_all}
 use Rattle.std.specs.Str.{bytes_eq}
 use Rattle.std.specs.Str.Parse.{AllDigits}
 use Rattle.std.proofs.lemmas.Bool.{or_parts, and_parts, eq-eqb, eqb-true, lt-ltb, ltb-true, cases_Bool}
-use Rattle.std.proofs.lemmas.Fmt.{digits_value-decimal}
+use Rattle.std.proofs.lemmas.Fmt.{digits_value-decimal, length-decimal-le}
+use Rattle.std.proofs.lemmas.List.{length-append}
 use Rattle.std.proofs.lemmas.Slice.Eq.{bytes_eq-Decides}
 use Rattle.std.proofs.lemmas.List.Sums.{AllPass-from_list_all}
 use Rattle.std.proofs.lemmas.Str.Parse.{IsNumeralModel, numerals_by_fold, tells_digits}
@@ -141,3 +142,25 @@ nothing-read text r is_none back =
 -- the endpoint whose text it is
 pub this-read : (text : List ℕ) (e : Endpoint) → IsEndpoint e → text ≡ endpoint_text e → Some e ≡ endpoint_in text
 this-read text e is text_is = sym (ap endpoint_in text_is ∙ endpoint_in-text e is)
+
+-- ---- how long texts are
+short_four : (a b c d : List ℕ) → length a ≤ 3 → length b ≤ 3 → length c ≤ 3 → length d ≤ 3 → length (a ++ (46 ∷ (b ++ (46 ∷ (c ++ (46 ∷ d)))))) ≤ 15
+short_four a b c d la lb lc ld =
+    omega (arith, length-append a (46 ∷ (b ++ (46 ∷ (c ++ (46 ∷ d))))), length-append b (46 ∷ (c ++ (46 ∷ d))), length-append c (46 ∷ d))
+
+short_octet : (n : ℕ) → n < 2 ^ 8 → length (decimal n) ≤ 3
+short_octet n lt = length-decimal-le 3 n (omega arith) (omega (arith, lt)) (omega (arith, lt))
+
+-- the text of an address has at most 15 octets
+pub address_text-short : (addr : List ℕ) → IsAddress addr → length (address_text addr) ≤ 15
+address_text-short addr is =
+    let f = four addr is in
+    let short = short_four (decimal f.a) (decimal f.b) (decimal f.c) (decimal f.d) (short_octet f.a f.a_fits) (short_octet f.b f.b_fits) (short_octet f.c f.c_fits) (short_octet f.d f.d_fits) in
+    omega (arith, short, ap (length {A = ℕ}) (text-four addr (address_text addr) f refl))
+
+-- the text of an endpoint has at most 27 octets
+pub endpoint_text-short : (e : Endpoint) → IsEndpoint e → length (endpoint_text e) ≤ 27
+endpoint_text-short e is =
+    let addr = address_text-short e.addr is.address in
+    let port = length-decimal-le 5 e.port (omega arith) (omega (arith, is.port_fits)) (omega (arith, is.port_fits)) in
+    omega (arith, addr, port, length-append (address_text e.addr) (58 ∷ decimal e.port))
