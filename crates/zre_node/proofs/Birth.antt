@@ -58,7 +58,7 @@ module _ (g : Config) (H : List Mark) (t : Tables) (h : Holds g H t) (p : PeerId
       conns = h.keeps.conns;
     };
     peers = subst (λ es. Tabled (λ (v : Life). v.link) (IsPeer g (born p e (hello g H) H)) (lives H ++ newborn (births H + 1) p e ∷ []) es) (sym put)
-      (inserted (λ (v : Life). v.link) (IsPeer g H) (IsPeer g (born p e (hello g H) H)) (newborn (births H + 1) p e) k (lives H) t.peers.entries
+        (inserted (λ (v : Life). v.link) (IsPeer g H) (IsPeer g (born p e (hello g H) H)) (newborn (births H + 1) p e) k (lives H) t.peers.entries
         (below (lives H) h.keeps.proper.living.numbered) others (fresh k id now run link) h.peers);
   }
     where
@@ -99,9 +99,9 @@ module _ (g : Config) (H : List Mark) (t : Tables) (h : Holds g H t) (l : ℕ) w
           conns = h.keeps.conns;
         };
         peers = subst (λ es. Tabled (λ (v : Life). v.link) (IsPeer g (Beacons l ∷ H)) (lives H) es) (sym put)
-          (changed (λ (v : Life). v.link) (IsPeer g H) (IsPeer g (Beacons l ∷ H)) l (record k { active = t.clock })
-          (λ v w far is. let off : eqb v.link l ≡ false = eqb-comm v.link l ∙ far in rw off is) (lives H) t.peers.entries h.keeps.proper.living.apart
-          (λ v f. let same : v ≡ r.0 = (let z : Some v ≡ Some r.0 = sym f ∙ r.1 in cc) in
+            (changed (λ (v : Life). v.link) (IsPeer g H) (IsPeer g (Beacons l ∷ H)) l (record k { active = t.clock })
+            (λ v w far is. let off : eqb v.link l ≡ false = eqb-comm v.link l ∙ far in rw off is) (lives H) t.peers.entries h.keeps.proper.living.apart
+            (λ v f. let same : v ≡ r.0 = (let z : Some v ≡ Some r.0 = sym f ∙ r.1 in cc) in
             let me : eqb v.link l ≡ true = eq-eqb v.link l (sym (eqb-true l v.link (found_passes (λ (u : Life). eqb l u.link) (lives H) v f))) in
             let is = subst (λ u. IsPeer g H u k) (sym same) r.2 in
             rw me record { id_is = is.id_is; active_is = h.keeps.clock_is; run_is = is.run_is; link_is = is.link_is }) h.peers);

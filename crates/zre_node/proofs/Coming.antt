@@ -73,9 +73,13 @@ module _ (g : Config) (H : List Mark) (t : Tables) (h : Holds g H t) (e : Entry)
       conns = conns;
     };
     peers = retold (λ (v : Life). v.link) (IsPeer g H) (IsPeer g (Comes e ∷ H))
-      (λ v k is. record { id_is = is.id_is; active_is = is.active_is; run_is = is.run_is;
-        link_is = is.link_is ∙ ap (λ r. link_after g.id (bodies v.link H) (is_linked v.link H) r (taken v.link H)) (no_replies v.link (none v.link)) })
-      (lives H) t.peers.entries h.peers;
+        (λ v k is. record {
+          id_is = is.id_is;
+          active_is = is.active_is;
+          run_is = is.run_is;
+          link_is = is.link_is ∙ ap (λ r. link_after g.id (bodies v.link H) (is_linked v.link H) r (taken v.link H)) (no_replies v.link (none v.link));
+        })
+        (lives H) t.peers.entries h.peers;
   }
 
   -- an entry that brings no octets
@@ -112,8 +116,8 @@ module _ (g : Config) (H : List Mark) (t : Tables) (h : Holds g H t) (e : Entry)
   with_row : is_open c H ≡ true → (x : Connection) → x ≡ kept_conn g (Comes e ∷ H) c → (C : BTreeMap ℕ Connection) → C.entries ≡ set_value (is_at (nat_cmp c)) t.conns.entries x → Holds g (Comes e ∷ H) (record t { clock = max e.at t.clock; conns = C })
   with_row there x row C put = comes g H t h e C no_reply
       (subst (λ es. Tabled (λ (d : ℕ). d) (IsConn g (Comes e ∷ H)) (open_ones H) es) (sym put)
-        (changed (λ (d : ℕ). d) (IsConn g H) (IsConn g (Comes e ∷ H)) c x (λ d k far q. q ∙ another d far) (open_ones H) t.conns.entries h.keeps.proper.opening.open_apart
-        (λ d f. subst (λ y. x ≡ kept_conn g (Comes e ∷ H) y) (eqb-true c d (found_passes (eqb c) (open_ones H) d f)) row) h.keeps.conns))
+      (changed (λ (d : ℕ). d) (IsConn g H) (IsConn g (Comes e ∷ H)) c x (λ d k far q. q ∙ another d far) (open_ones H) t.conns.entries h.keeps.proper.opening.open_apart
+      (λ d f. subst (λ y. x ≡ kept_conn g (Comes e ∷ H) y) (eqb-true c d (found_passes (eqb c) (open_ones H) d f)) row) h.keeps.conns))
 
   grown : is_open c H ≡ true → bytes c (Comes e ∷ H) ≡ bytes c H ++ o
   grown there =

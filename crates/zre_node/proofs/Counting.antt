@@ -82,12 +82,12 @@ pub refuses_it : (g : Config) (c l : ℕ) (m : Message) (H : List Mark) → IsCo
 refuses_it g c l m H some e = by (counted l H) some.0 some.1 some.2 e
   where
     by : (ms : List Message) (d : Message) (ds : List Message) → ms ≡ d ∷ ds → may_follow ms m ≡ false
-      → (if is_hello m.body then Ends l cause.Hello ∷ [] else if not (eqb m.sequence (due ms)) then Ends l (cause.Order (due ms) m.sequence) ∷ []
+        → (if is_hello m.body then Ends l cause.Hello ∷ [] else if not (eqb m.sequence (due ms)) then Ends l (cause.Order (due ms) m.sequence) ∷ []
         else if not (is_small (view_of (ms ++ m ∷ []))) then Ends l cause.Limit ∷ [] else Counts c l m ∷ answer_to g l m.body H) ≡ Ends l (cause_by (fault_of ms m)) ∷ []
     by ms d ds q k = rw q (tests (is_hello m.body) refl (eqb m.sequence (due (d ∷ ds))) refl (is_small (view_of ((d ∷ ds) ++ m ∷ []))) refl (subst (λ xs. may_follow xs m ≡ false) q k))
       where
         tests : (a : Bool) → is_hello m.body ≡ a → (b : Bool) → eqb m.sequence (due (d ∷ ds)) ≡ b → (s : Bool) → is_small (view_of ((d ∷ ds) ++ m ∷ [])) ≡ s → may_follow (d ∷ ds) m ≡ false
-          → (if is_hello m.body then Ends l cause.Hello ∷ [] else if not (eqb m.sequence (due (d ∷ ds))) then Ends l (cause.Order (due (d ∷ ds)) m.sequence) ∷ []
+            → (if is_hello m.body then Ends l cause.Hello ∷ [] else if not (eqb m.sequence (due (d ∷ ds))) then Ends l (cause.Order (due (d ∷ ds)) m.sequence) ∷ []
             else if not (is_small (view_of ((d ∷ ds) ++ m ∷ []))) then Ends l cause.Limit ∷ [] else Counts c l m ∷ answer_to g l m.body H) ≡ Ends l (cause_by (fault_of (d ∷ ds) m)) ∷ []
         tests true x b y s z k = rw x refl
         tests false x false y s z k = rw (x, y) refl
@@ -102,7 +102,7 @@ pub counts_it : (g : Config) (c l : ℕ) (m : Message) (H : List Mark) → IsCon
 counts_it g c l m H some e = by (counted l H) some.0 some.1 some.2 e
   where
     by : (ms : List Message) (d : Message) (ds : List Message) → ms ≡ d ∷ ds → may_follow ms m ≡ true
-      → (if is_hello m.body then Ends l cause.Hello ∷ [] else if not (eqb m.sequence (due ms)) then Ends l (cause.Order (due ms) m.sequence) ∷ []
+        → (if is_hello m.body then Ends l cause.Hello ∷ [] else if not (eqb m.sequence (due ms)) then Ends l (cause.Order (due ms) m.sequence) ∷ []
         else if not (is_small (view_of (ms ++ m ∷ []))) then Ends l cause.Limit ∷ [] else Counts c l m ∷ answer_to g l m.body H) ≡ Counts c l m ∷ (if is_ping m.body then push g l body.PingOk H else [])
     by ms d ds q k =
         let all = and_parts (not (is_hello m.body) && eqb m.sequence (due (d ∷ ds))) (is_small (view_of ((d ∷ ds) ++ m ∷ []))) (subst (λ xs. may_follow xs m ≡ true) q k) in
@@ -150,15 +150,17 @@ module _ (g : Config) (H : List Mark) (t : Tables) (h : Holds g H t) (c l : ℕ)
       conns = h.keeps.conns;
     };
     peers = subst (λ es. Tabled (λ (v : Life). v.link) (IsPeer g (Counts c l m ∷ H)) (lives H) es) (sym put)
-      (changed (λ (v : Life). v.link) (IsPeer g H) (IsPeer g (Counts c l m ∷ H)) l w
-      (λ v x far is. let off : eqb v.link l ≡ false = eqb-comm v.link l ∙ far in rw off is) (lives H) t.peers.entries h.keeps.proper.living.apart
-      (λ v f. subst (λ u. IsPeer g (Counts c l m ∷ H) u w) (sym (that v f)) here) h.peers);
+        (changed (λ (v : Life). v.link) (IsPeer g H) (IsPeer g (Counts c l m ∷ H)) l w
+        (λ v x far is. let off : eqb v.link l ≡ false = eqb-comm v.link l ∙ far in rw off is) (lives H) t.peers.entries h.keeps.proper.living.apart
+        (λ v f. subst (λ u. IsPeer g (Counts c l m ∷ H) u w) (sym (that v f)) here) h.peers);
   }
     where
       me : eqb its.0.link l ≡ true
       me = eq-eqb its.0.link l (sym link_is)
+
       runs_on : HasRun (runner its.0.link H) its.0.id (counted its.0.link H ++ m ∷ []) w.run
       runs_on = subst (λ o. HasRun o its.0.id (counted its.0.link H ++ m ∷ []) w.run) (sym run_here) (subst (λ j. HasRun (Some c) its.0.id (counted j H ++ m ∷ []) w.run) link_is run)
+
       here : IsPeer g (Counts c l m ∷ H) its.0 w
       here = rw me record { id_is = id ∙ its.2.id_is; active_is = now ∙ h.keeps.clock_is; run_is = runs_on; link_is = link ∙ its.2.link_is }
 
@@ -167,12 +169,12 @@ module _ (g : Config) (H : List Mark) (t : Tables) (h : Holds g H t) (c l : ℕ)
   breaks w P id run put = record {
     keeps = keeps_with g H t h.keeps P;
     peers = subst (λ es. Tabled (λ (v : Life). v.link) (IsBut g H l) (lives H) es) (sym put)
-      (changed (λ (v : Life). v.link) (IsPeer g H) (IsBut g H l) l w
-      (λ v x far is. record { leaving = leaves g H v x is; staying = λ o. is }) (lives H) t.peers.entries h.keeps.proper.living.apart
-      (λ v f. record {
-        leaving = subst (λ u. IsLeaving H u w) (sym (that v f)) record { id_is = id ∙ its.2.id_is; run_is = had };
-        staying = λ off. let here : eqb l v.link ≡ true = found_passes (λ (u : Life). eqb l u.link) (lives H) v f in absurd cc;
-      }) h.peers);
+        (changed (λ (v : Life). v.link) (IsPeer g H) (IsBut g H l) l w
+        (λ v x far is. record { leaving = leaves g H v x is; staying = λ o. is }) (lives H) t.peers.entries h.keeps.proper.living.apart
+        (λ v f. record {
+          leaving = subst (λ u. IsLeaving H u w) (sym (that v f)) record { id_is = id ∙ its.2.id_is; run_is = had };
+          staying = λ off. let here : eqb l v.link ≡ true = found_passes (λ (u : Life). eqb l u.link) (lives H) v f in absurd cc;
+        }) h.peers);
   }
     where
       had : HadRun (runner its.0.link H) (counted its.0.link H) w.run

@@ -21,7 +21,7 @@ among g H p (v ∷ vs) [] t = absurd t
 among g H p (v ∷ vs) (e ∷ es) t = rw (t.0, t.1.id_is) (by (among g H p vs es t.2) (bytes_eq p.0 v.id.0))
   where
     by : link_among p es ≡ option_map (λ (u : Life). u.link) (find (λ (u : Life). bytes_eq p.0 u.id.0) vs) → (b : Bool)
-      → cond b (Some v.link) (link_among p es) ≡ option_map (λ (u : Life). u.link) (cond b (Some v) (find (λ (u : Life). bytes_eq p.0 u.id.0) vs))
+        → cond b (Some v.link) (link_among p es) ≡ option_map (λ (u : Life). u.link) (cond b (Some v) (find (λ (u : Life). bytes_eq p.0 u.id.0) vs))
     by r true = refl
     by r false = r
 

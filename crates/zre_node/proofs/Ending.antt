@@ -152,12 +152,12 @@ module _ (g : Config) (H : List Mark) (l : ℕ) (k : Peer) (t : Tables) (p : Par
       let there = q.is_heard x.conn l r known.0 in
       let old = conn_row g H t p.keeps x.conn there in
       let at : C.entries ≡ set_value (is_at (nat_cmp x.conn)) t.conns.entries (record (kept_conn g H x.conn) { since = clock H; run = None; conn = None }) =
-        set (kept_conn g H x.conn) old ∙ ap (λ n. set_value (is_at (nat_cmp x.conn)) t.conns.entries (record (kept_conn g H x.conn) { since = n; run = None; conn = None })) p.keeps.clock_is in
+      set (kept_conn g H x.conn) old ∙ ap (λ n. set_value (is_at (nat_cmp x.conn)) t.conns.entries (record (kept_conn g H x.conn) { since = n; run = None; conn = None })) p.keeps.clock_is in
       let conns = changed (λ (c : ℕ). c) (IsConn g H) (IsConn g (Ends l why ∷ H)) x.conn (record (kept_conn g H x.conn) { since = clock H; run = None; conn = None })
-        (λ c w far is. is ∙ unmoved g H l why known.0 c (λ z. let same : Some x.conn ≡ Some c = sym r ∙ run_is H p.keeps.proper c l z in let u : x.conn ≡ c = cc in let w : true ≡ false = sym (eq-eqb x.conn c u) ∙ far in cc))
-        (open_ones H) t.conns.entries p.keeps.proper.opening.open_apart
-        (λ c f. let u : x.conn ≡ c = eqb-true x.conn c (found_passes (eqb x.conn) (open_ones H) c f) in subst (λ d. record (kept_conn g H x.conn) { since = clock H; run = None; conn = None } ≡ kept_conn g (Ends l why ∷ H) d) u (sym (ignored g H l why known.0 x.conn runs_it s0)))
-        p.keeps.conns in
+      (λ c w far is. is ∙ unmoved g H l why known.0 c (λ z. let same : Some x.conn ≡ Some c = sym r ∙ run_is H p.keeps.proper c l z in let u : x.conn ≡ c = cc in let w : true ≡ false = sym (eq-eqb x.conn c u) ∙ far in cc))
+      (open_ones H) t.conns.entries p.keeps.proper.opening.open_apart
+      (λ c f. let u : x.conn ≡ c = eqb-true x.conn c (found_passes (eqb x.conn) (open_ones H) c f) in subst (λ d. record (kept_conn g H x.conn) { since = clock H; run = None; conn = None } ≡ kept_conn g (Ends l why ∷ H) d) u (sym (ignored g H l why known.0 x.conn runs_it s0)))
+      p.keeps.conns in
       ended C a s (with_conns C (subst (λ es. Tabled (λ (c : ℕ). c) (IsConn g (Ends l why ∷ H)) (open_ones H) es) (sym at) conns))
       (ev ∙ ap (λ es. a.events ++ es) (sym (its_exit (rw r refl)))) ac pu
 
@@ -165,7 +165,7 @@ module _ (g : Config) (H : List Mark) (l : ℕ) (k : Peer) (t : Tables) (p : Par
   without_run e a s ev ac pu =
       let r : runner l H ≡ None = ap (λ m. runner m H) known.2 ∙ had_none (runner p.gone.link H) (counted p.gone.link H) k.run p.leaving.run_is e in
       ended t.conns a s (with_conns t.conns (retold (λ (c : ℕ). c) (IsConn g H) (IsConn g (Ends l why ∷ H))
-        (λ c w is. is ∙ unmoved g H l why known.0 c (λ z. let u : None ≡ Some c = sym r ∙ run_is H p.keeps.proper c l z in cc)) (open_ones H) t.conns.entries p.keeps.conns))
+      (λ c w is. is ∙ unmoved g H l why known.0 c (λ z. let u : None ≡ Some c = sym r ∙ run_is H p.keeps.proper c l z in cc)) (open_ones H) t.conns.entries p.keeps.conns))
       (ev ∙ sym (append-nil a.events) ∙ ap (λ es. a.events ++ es) (sym (no_exit r))) ac pu
 
 -- whether a number has a row

@@ -10,8 +10,8 @@ use Rattle.zre_node.specs.Tabled.{Tabled}
 at-eqb : (a b : ℕ) → is_at (nat_cmp a) b ≡ eqb a b
 at-eqb a b = ⊎_elim (λ e. let w : eqb a b ≡ true = eq-eqb a b e in let u : ltb a b ≡ false = le-ltb a b (omega arith) in rw (u, w) refl)
     (λ h. ⊎_elim
-        (λ l. let w : eqb a b ≡ false = ne_eqb a b (λ e. omega arith) in let u : ltb a b ≡ true = lt-ltb a b l in rw (u, w) refl)
-        (λ l. let w : eqb a b ≡ false = ne_eqb a b (λ e. omega arith) in let u : ltb a b ≡ false = le-ltb a b (omega arith) in rw (u, w) refl) h)
+    (λ l. let w : eqb a b ≡ false = ne_eqb a b (λ e. omega arith) in let u : ltb a b ≡ true = lt-ltb a b l in rw (u, w) refl)
+    (λ l. let w : eqb a b ≡ false = ne_eqb a b (λ e. omega arith) in let u : ltb a b ≡ false = le-ltb a b (omega arith) in rw (u, w) refl) h)
     (cases_order a b)
 
 -- the map's own test of a key is that of numbers
@@ -76,9 +76,9 @@ module _ {A V : Type 0} (key : A → ℕ) where
   removed_by P Q n a (x ∷ xs) (e ∷ es) p t = by (removed_by P Q n a xs es p.1 t.2) (eqb n (key x)) refl
     where
       by : Tabled key Q (filter (λ y. not (eqb n (key y))) xs) (remove_entry (eqb n) es) → (b : Bool) → eqb n (key x) ≡ b
-        → Tabled key Q (filter (λ y. not (eqb n (key y))) (x ∷ xs)) (remove_entry (eqb n) (e ∷ es))
+          → Tabled key Q (filter (λ y. not (eqb n (key y))) (x ∷ xs)) (remove_entry (eqb n) (e ∷ es))
       by r true q = let k : eqb n e.0 ≡ true = rw t.0 q in
-        rw (q, k) (subst (λ ys. Tabled key Q ys es) (sym (all_left key n xs (moved key n x xs q p.0))) (others_retold P Q n a xs es (moved key n x xs q p.0) t.2))
+          rw (q, k) (subst (λ ys. Tabled key Q ys es) (sym (all_left key n xs (moved key n x xs q p.0))) (others_retold P Q n a xs es (moved key n x xs q p.0) t.2))
       by r false q = let k : eqb n e.0 ≡ false = rw t.0 q in rw (q, k) (t.0, a x e.1 q t.1, r)
 
   -- one taken out

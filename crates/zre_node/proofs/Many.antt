@@ -30,7 +30,7 @@ did_then g hs ks H t n a b c d e = record {
   events = e.events ∙ ap (λ es. es ++ told ks (after hs H)) d.events ∙ append_assoc a.events (told hs H) (told ks (after hs H)) ∙ ap (λ es. a.events ++ es) (sym (told-append hs ks H));
   acts = e.acts ∙ ap (λ as_. as_ ++ done g.id ks) d.acts ∙ append_assoc a.acts (done g.id hs) (done g.id ks) ∙ ap (λ as_. a.acts ++ as_) (sym (done-append g.id hs ks));
   pushed = λ l. e.pushed l ∙ ap (λ b. b || list_any (puts l) ks) (d.pushed l) ∙ or-assoc (list_any (eqb l) a.pushed) (list_any (puts l) hs) (list_any (puts l) ks)
-    ∙ ap (λ b. list_any (eqb l) a.pushed || b) (sym (list_any-append (puts l) hs ks));
+      ∙ ap (λ b. list_any (eqb l) a.pushed || b) (sym (list_any-append (puts l) hs ks));
 }
 
 -- the marks are those

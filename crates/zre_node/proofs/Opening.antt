@@ -70,8 +70,8 @@ module _ (g : Config) (H : List Mark) (t : Tables) (c : ℕ) (h : Holds g H t) (
       → Holds g (Opens c ∷ H) (record t { last = Some c; conns = C })
   opens C is = with_conns g H (Opens c ∷ H) t (Some c) C h (Opens-proper H h.keeps.proper c new) refl refl refl h.peers refl refl refl last_after
       (subst (λ es. Tabled (λ (d : ℕ). d) (IsConn g (Opens c ∷ H)) (open_ones H ++ c ∷ []) es) (sym is)
-        (inserted (λ (d : ℕ). d) (IsConn g H) (IsConn g (Opens c ∷ H)) c (record { since = t.clock; identity = None; run = None; conn = Some (conn_after t.config.id []) }) (open_ones H) t.conns.entries
-          (h.keeps.proper.opening.open_old c new) (λ d v less e. e ∙ other d less) value h.keeps.conns))
+      (inserted (λ (d : ℕ). d) (IsConn g H) (IsConn g (Opens c ∷ H)) c (record { since = t.clock; identity = None; run = None; conn = Some (conn_after t.config.id []) }) (open_ones H) t.conns.entries
+      (h.keeps.proper.opening.open_old c new) (λ d v less e. e ∙ other d less) value h.keeps.conns))
 
   pub turns_away : Holds g (TurnsAway c ∷ H) (record t { last = Some c })
   turns_away = with_conns g H (TurnsAway c ∷ H) t (Some c) t.conns h (TurnsAway-proper H h.keeps.proper c) refl refl refl h.peers refl refl refl last_after h.keeps.conns
@@ -92,17 +92,17 @@ module _ (g : Config) (H : List Mark) (t : Tables) (h : Holds g H t) (c : ℕ) (
   pub closed : (why : CloseWhy) → Holds g (Closes c why ∷ H) (record t { conns = C })
   closed why = with_conns g H (Closes c why ∷ H) t t.last C h (Closes-proper H h.keeps.proper c why idle) refl refl refl h.peers refl refl refl h.keeps.last_is
       (subst (λ es. Tabled (λ (d : ℕ). d) (IsConn g (Closes c why ∷ H)) (others c (open_ones H)) es) (sym e)
-        (removed (λ (d : ℕ). d) (IsConn g H) (IsConn g (Closes c why ∷ H)) c (λ d w far is. is) (open_ones H) t.conns.entries h.keeps.proper.opening.open_apart h.keeps.conns))
+      (removed (λ (d : ℕ). d) (IsConn g H) (IsConn g (Closes c why ∷ H)) c (λ d w far is. is) (open_ones H) t.conns.entries h.keeps.proper.opening.open_apart h.keeps.conns))
 
   pub is_shut : Holds g (IsShut c ∷ H) (record t { conns = C })
   is_shut = with_conns g H (IsShut c ∷ H) t t.last C h (IsShut-proper H h.keeps.proper c idle) refl refl refl h.peers refl refl refl h.keeps.last_is
       (subst (λ es. Tabled (λ (d : ℕ). d) (IsConn g (IsShut c ∷ H)) (others c (open_ones H)) es) (sym e)
-        (removed (λ (d : ℕ). d) (IsConn g H) (IsConn g (IsShut c ∷ H)) c (λ d w far is. is) (open_ones H) t.conns.entries h.keeps.proper.opening.open_apart h.keeps.conns))
+      (removed (λ (d : ℕ). d) (IsConn g H) (IsConn g (IsShut c ∷ H)) c (λ d w far is. is) (open_ones H) t.conns.entries h.keeps.proper.opening.open_apart h.keeps.conns))
 
   pub dropped : Holds g (Drops c ∷ H) (record t { conns = C })
   dropped = with_conns g H (Drops c ∷ H) t t.last C h (Drops-proper H h.keeps.proper c idle) refl refl refl h.peers refl refl refl h.keeps.last_is
       (subst (λ es. Tabled (λ (d : ℕ). d) (IsConn g (Drops c ∷ H)) (others c (open_ones H)) es) (sym e)
-        (removed (λ (d : ℕ). d) (IsConn g H) (IsConn g (Drops c ∷ H)) c (λ d w far is. is) (open_ones H) t.conns.entries h.keeps.proper.opening.open_apart h.keeps.conns))
+      (removed (λ (d : ℕ). d) (IsConn g H) (IsConn g (Drops c ∷ H)) c (λ d w far is. is) (open_ones H) t.conns.entries h.keeps.proper.opening.open_apart h.keeps.conns))
 
 -- closings at a stop leave no connection running a peer where none did
 pub drops_run : (cs : List ℕ) (H : List Mark) → RunNone H → RunNone (after (map (λ c. Drops c) cs) H)

@@ -92,7 +92,7 @@ parts g H l t n k e P is =
       known = r.1;
       leaving = r.2.leaving;
       peers = subst (λ es. Tabled (λ (v : Life). v.link) (IsPeer g H) (other_lives l (lives H)) es) (sym is)
-        (removed (λ (v : Life). v.link) (IsBut g H l) (IsPeer g H) l (λ v w far b. b.staying far) (lives H) t.peers.entries n.keeps.proper.living.apart n.peers);
+          (removed (λ (v : Life). v.link) (IsBut g H l) (IsPeer g H) l (λ v w far b. b.staying far) (lives H) t.peers.entries n.keeps.proper.living.apart n.peers);
     }
 
 -- a known peer has its row

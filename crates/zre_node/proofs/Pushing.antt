@@ -39,8 +39,8 @@ module _ (g : Config) (K : List Mark) (t : Tables) (h : Holds g K t) (l : ℕ) (
   written_back o P same put = record {
     keeps = keeps_with g K t h.keeps P;
     peers = subst (λ es. Tabled (λ (v : Life). v.link) (IsPeer g K) (lives K) es) (sym put)
-      (changed (λ (v : Life). v.link) (IsPeer g K) (IsPeer g K) l (record k { link = o }) (λ v w far is. is) (lives K) t.peers.entries h.keeps.proper.living.apart
-      (λ v f. let at : v ≡ its.0 = (let z : Some v ≡ Some its.0 = sym f ∙ its.1 in cc) in
+        (changed (λ (v : Life). v.link) (IsPeer g K) (IsPeer g K) l (record k { link = o }) (λ v w far is. is) (lives K) t.peers.entries h.keeps.proper.living.apart
+        (λ v f. let at : v ≡ its.0 = (let z : Some v ≡ Some its.0 = sym f ∙ its.1 in cc) in
         let is = subst (λ u. IsPeer g K u k) (sym at) its.2 in
         record { id_is = is.id_is; active_is = is.active_is; run_is = is.run_is; link_is = same ∙ is.link_is }) h.peers);
   }
@@ -64,14 +64,14 @@ module _ (g : Config) (K : List Mark) (t : Tables) (h : Holds g K t) (l : ℕ) (
       conns = h.keeps.conns;
     };
     peers = subst (λ es. Tabled (λ (v : Life). v.link) (IsPeer g (Puts l b ∷ K)) (lives K) es) (sym put)
-      (changed (λ (v : Life). v.link) (IsPeer g K) (IsPeer g (Puts l b ∷ K)) l (record k { link = o })
-      (λ v w far is. let off : eqb v.link l ≡ false = eqb-comm v.link l ∙ far in rw off is) (lives K) t.peers.entries h.keeps.proper.living.apart
-      (λ v f. let at : v ≡ its.0 = (let z : Some v ≡ Some its.0 = sym f ∙ its.1 in cc) in
+        (changed (λ (v : Life). v.link) (IsPeer g K) (IsPeer g (Puts l b ∷ K)) l (record k { link = o })
+        (λ v w far is. let off : eqb v.link l ≡ false = eqb-comm v.link l ∙ far in rw off is) (lives K) t.peers.entries h.keeps.proper.living.apart
+        (λ v f. let at : v ≡ its.0 = (let z : Some v ≡ Some its.0 = sym f ∙ its.1 in cc) in
         let here : l ≡ v.link = eqb-true l v.link (found_passes (λ (u : Life). eqb l u.link) (lives K) v f) in
         let me : eqb v.link l ≡ true = eq-eqb v.link l (sym here) in
         let is = subst (λ u. IsPeer g K u k) (sym at) its.2 in
         let to : o ≡ link_after g.id (bodies v.link K ++ b ∷ []) (is_linked v.link K) (replies v.link K) (taken v.link K) =
-          new ∙ ap (λ j. link_after g.id (bodies j K ++ b ∷ []) (is_linked j K) (replies j K) (taken j K)) here in
+        new ∙ ap (λ j. link_after g.id (bodies j K ++ b ∷ []) (is_linked j K) (replies j K) (taken j K)) here in
         rw me record { id_is = is.id_is; active_is = is.active_is; run_is = is.run_is; link_is = to }) h.peers);
   }
 

@@ -117,12 +117,16 @@ gave_way g H q p c (Some d) e is_there = by (runs d H)
   where
     t : ℕ → Bool
     t = λ x. not (eqb c x) && is_same p (identity x H)
+
     far : eqb d c ≡ false
     far = eqb-comm d c ∙ not_true (eqb c d) (and_parts (not (eqb c d)) (is_same p (identity d H)) (found_passes t (open_ones H) d e)).0
+
     none : find t (others d (open_ones H)) ≡ None
     none = gone t d (open_ones H) (all_that H q p c d e)
+
     left : list_any (eqb c) (others d (open_ones H)) ≡ list_any (eqb c) (open_ones H)
     left = any_other d c far (open_ones H) is_there ∙ sym is_there
+
     by : (r : Option ℕ) → GaveWay g p c H (after (end_of_run g r cause.Taken ++ Closes d close.Taken ∷ []) H)
     by None = record { alone = none; same_open = left; same_identity = refl }
     by (Some l) = record { alone = none; same_open = left; same_identity = refl }
@@ -133,11 +137,11 @@ module _ (g : Config) (H : List Mark) (t : Tables) (h : Holds g H t) (c : ℕ) (
   pub introduced : (C : BTreeMap ℕ Connection) → C.entries ≡ set_value (is_at (nat_cmp c)) t.conns.entries (record (kept_conn g H c) { identity = Some p }) → Holds g (Shakes c p ∷ H) (record t { conns = C })
   introduced C is = with_conns g H (Shakes c p ∷ H) t t.last C h (Shakes-proper H h.keeps.proper c p is_there unknown alone) refl refl refl h.peers refl refl refl h.keeps.last_is
       (subst (λ es. Tabled (λ (d : ℕ). d) (IsConn g (Shakes c p ∷ H)) (open_ones H) es) (sym is)
-        (changed (λ (d : ℕ). d) (IsConn g H) (IsConn g (Shakes c p ∷ H)) c (record (kept_conn g H c) { identity = Some p })
-        (λ d w far k. let off : eqb d c ≡ false = eqb-comm d c ∙ far in k ∙ rw off refl) (open_ones H) t.conns.entries h.keeps.proper.opening.open_apart
-        (λ d f. let same : c ≡ d = eqb-true c d (found_passes (eqb c) (open_ones H) d f) in
-          let me : eqb c c ≡ true = eq-eqb c c refl in
-          subst (λ x. record (kept_conn g H c) { identity = Some p } ≡ kept_conn g (Shakes c p ∷ H) x) same (rw me refl)) h.keeps.conns))
+      (changed (λ (d : ℕ). d) (IsConn g H) (IsConn g (Shakes c p ∷ H)) c (record (kept_conn g H c) { identity = Some p })
+      (λ d w far k. let off : eqb d c ≡ false = eqb-comm d c ∙ far in k ∙ rw off refl) (open_ones H) t.conns.entries h.keeps.proper.opening.open_apart
+      (λ d f. let same : c ≡ d = eqb-true c d (found_passes (eqb c) (open_ones H) d f) in
+      let me : eqb c c ≡ true = eq-eqb c c refl in
+      subst (λ x. record (kept_conn g H c) { identity = Some p } ≡ kept_conn g (Shakes c p ∷ H) x) same (rw me refl)) h.keeps.conns))
 
 -- ---- a greeting
 

@@ -71,12 +71,12 @@ module _ (g : Config) (H : List Mark) (t : Tables) (h : Holds g H t) (c : ℕ) (
   pub refused : (C : BTreeMap ℕ Connection) → C.entries ≡ set_value (is_at (nat_cmp c)) t.conns.entries (record (kept_conn g H c) { since = t.clock; run = None; conn = None }) → Holds g (Ignores c why ∷ H) (record t { conns = C })
   refused C is = with_conns g H (Ignores c why ∷ H) t t.last C h (Ignores-proper H h.keeps.proper c why (live_open c H live)) refl refl refl h.peers refl refl refl h.keeps.last_is
       (subst (λ es. Tabled (λ (d : ℕ). d) (IsConn g (Ignores c why ∷ H)) (open_ones H) es) (sym is)
-        (changed (λ (d : ℕ). d) (IsConn g H) (IsConn g (Ignores c why ∷ H)) c (record (kept_conn g H c) { since = t.clock; run = None; conn = None })
-        (λ d w far k. let off : eqb d c ≡ false = eqb-comm d c ∙ far in k ∙ rw off refl) (open_ones H) t.conns.entries h.keeps.proper.opening.open_apart
-        (λ d f. let same : c ≡ d = eqb-true c d (found_passes (eqb c) (open_ones H) d f) in
-          let me : eqb c c ≡ true = eq-eqb c c refl in
-          let s = (waits c H live idle).1 in
-          subst (λ x. record (kept_conn g H c) { since = t.clock; run = None; conn = None } ≡ kept_conn g (Ignores c why ∷ H) x) same (rw (me, s, h.keeps.clock_is) refl)) h.keeps.conns))
+      (changed (λ (d : ℕ). d) (IsConn g H) (IsConn g (Ignores c why ∷ H)) c (record (kept_conn g H c) { since = t.clock; run = None; conn = None })
+      (λ d w far k. let off : eqb d c ≡ false = eqb-comm d c ∙ far in k ∙ rw off refl) (open_ones H) t.conns.entries h.keeps.proper.opening.open_apart
+      (λ d f. let same : c ≡ d = eqb-true c d (found_passes (eqb c) (open_ones H) d f) in
+      let me : eqb c c ≡ true = eq-eqb c c refl in
+      let s = (waits c H live idle).1 in
+      subst (λ x. record (kept_conn g H c) { since = t.clock; run = None; conn = None } ≡ kept_conn g (Ignores c why ∷ H) x) same (rw (me, s, h.keeps.clock_is) refl)) h.keeps.conns))
 
 -- ---- it starts a run
 
@@ -104,9 +104,9 @@ module _ (g : Config) (H : List Mark) (t : Tables) (h : Holds g H t) (c l : ℕ)
       (changed (λ (d : ℕ). d) (IsConn g H) (IsConn g (Starts c l m ∷ H)) c (record (kept_conn g H c) { run = Some l })
       (λ d w far z. let off : eqb d c ≡ false = eqb-comm d c ∙ far in z ∙ rw off refl) (open_ones H) t.conns.entries h.keeps.proper.opening.open_apart
       (λ d f. let same : c ≡ d = eqb-true c d (found_passes (eqb c) (open_ones H) d f) in
-        let me : eqb c c ≡ true = eq-eqb c c refl in
-        let quiet = heard c H live in
-        subst (λ x. record (kept_conn g H c) { run = Some l } ≡ kept_conn g (Starts c l m ∷ H) x) same (rw (me, alive, quiet) refl)) h.keeps.conns)
+      let me : eqb c c ≡ true = eq-eqb c c refl in
+      let quiet = heard c H live in
+      subst (λ x. record (kept_conn g H c) { run = Some l } ≡ kept_conn g (Starts c l m ∷ H) x) same (rw (me, alive, quiet) refl)) h.keeps.conns)
 
   peers_after : (x : Peer) (w : Peer) (P : BTreeMap ℕ Peer) → Some x ≡ lookup (is_at (nat_cmp l)) t.peers.entries → w.id ≡ x.id → w.link ≡ x.link → w.active ≡ t.clock → HasRun (Some c) v.id (m ∷ []) w.run
       → P.entries ≡ set_value (is_at (nat_cmp l)) t.peers.entries w → Tabled (λ (u : Life). u.link) (IsPeer g (Starts c l m ∷ H)) (lives H) P.entries
@@ -118,9 +118,9 @@ module _ (g : Config) (H : List Mark) (t : Tables) (h : Holds g H t) (c l : ℕ)
       (changed (λ (u : Life). u.link) (IsPeer g H) (IsPeer g (Starts c l m ∷ H)) l w
       (λ u y far z. let off : eqb u.link l ≡ false = eqb-comm u.link l ∙ far in rw off z) (lives H) t.peers.entries h.keeps.proper.living.apart
       (λ u f. let same : v ≡ u = (let z : Some v ≡ Some u = sym k ∙ f in cc) in
-        let me : eqb v.link l ≡ true = eq-eqb v.link l (sym link_is) in
-        let silent : counted v.link H ≡ [] = ap (λ j. counted j H) (sym link_is) ∙ h.keeps.proper.running.is_silent l free in
-        subst (λ y. IsPeer g (Starts c l m ∷ H) y w) same (rw (me, silent) record { id_is = id ∙ is.id_is; active_is = now ∙ h.keeps.clock_is; run_is = run; link_is = link ∙ is.link_is })) h.peers)
+      let me : eqb v.link l ≡ true = eq-eqb v.link l (sym link_is) in
+      let silent : counted v.link H ≡ [] = ap (λ j. counted j H) (sym link_is) ∙ h.keeps.proper.running.is_silent l free in
+      subst (λ y. IsPeer g (Starts c l m ∷ H) y w) same (rw (me, silent) record { id_is = id ∙ is.id_is; active_is = now ∙ h.keeps.clock_is; run_is = run; link_is = link ∙ is.link_is })) h.peers)
 
   pub starts : (C : BTreeMap ℕ Connection) → C.entries ≡ set_value (is_at (nat_cmp c)) t.conns.entries (record (kept_conn g H c) { run = Some l })
       → (x w : Peer) (P : BTreeMap ℕ Peer) → Some x ≡ lookup (is_at (nat_cmp l)) t.peers.entries → w.id ≡ x.id → w.link ≡ x.link → w.active ≡ t.clock → HasRun (Some c) v.id (m ∷ []) w.run
@@ -151,7 +151,7 @@ module _ (g : Config) (c : ℕ) (p : PeerId) (m : Message) (H : List Mark) where
   first_refused f why = by (is_hello m.body && eqb m.sequence 1) refl (is_small (view_of (m ∷ []))) refl why.0 why.1
     where
       by : (a : Bool) → (is_hello m.body && eqb m.sequence 1) ≡ a → (b : Bool) → is_small (view_of (m ∷ [])) ≡ b → may_follow [] m ≡ false → f ≡ fault_of [] m
-        → (f ≡ fault.NotHello → at_first g c (Some p) m H ≡ Ignores c ignore.NotHello ∷ []) × (f ≡ fault.Limit → at_first g c (Some p) m H ≡ Ignores c ignore.Limit ∷ [])
+          → (f ≡ fault.NotHello → at_first g c (Some p) m H ≡ Ignores c ignore.NotHello ∷ []) × (f ≡ fault.Limit → at_first g c (Some p) m H ≡ Ignores c ignore.Limit ∷ [])
       by false x b y e is = (λ k. rw x refl, λ k. let z : fault.NotHello ≡ fault.Limit = sym (rw x at is) ∙ k in absurd cc)
       by true x false y e is = (λ k. let z : fault.Limit ≡ fault.NotHello = sym (rw x at is) ∙ k in absurd cc, λ k. rw (x, y) refl)
       by true x true y e is = let z : true ≡ false = rw (x, y) at e in absurd cc

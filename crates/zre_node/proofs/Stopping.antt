@@ -142,14 +142,14 @@ stops g H ls cs t m a b c d le ce first second ev ac =
     let marks = ap (λ xs. map (λ l. Ends l cause.Stop) xs) le ∙ map-map (λ (v : Life). v.link) (λ l. Ends l cause.Stop) (lives H) in
     let both = did_then g (map (λ l. Ends l cause.Stop) ls) (map (λ c. Drops c) cs) H t m a b c first second in
     let hs = map (λ l. Ends l cause.Stop) ls ++ map (λ c. Drops c) cs in
-    let whole : (hs ++ Calls 0 ∷ Stops ∷ []) ≡ at_stop g H = 
-      ap (λ es. es ++ map (λ c. Drops c) cs ++ Calls 0 ∷ Stops ∷ []) marks ∙ ap (λ es. map (λ (v : Life). Ends v.link cause.Stop) (lives H) ++ map (λ c. Drops c) es ++ Calls 0 ∷ Stops ∷ []) ce in
+    let whole : (hs ++ Calls 0 ∷ Stops ∷ []) ≡ at_stop g H =
+    ap (λ es. es ++ map (λ c. Drops c) cs ++ Calls 0 ∷ Stops ∷ []) marks ∙ ap (λ es. map (λ (v : Life). Ends v.link cause.Stop) (lives H) ++ map (λ c. Drops c) es ++ Calls 0 ∷ Stops ∷ []) ce in
     let none : lives (after (map (λ l. Ends l cause.Stop) ls) H) ≡ [] = none_known_by H ls le in
     let left : lives (after (map (λ c. Drops c) cs) (after (map (λ l. Ends l cause.Stop) ls) H)) ≡ [] = drops_lives cs (after (map (λ l. Ends l cause.Stop) ls) H) ∙ none in
     let end : after (hs ++ Calls 0 ∷ Stops ∷ []) H ≡ Stops ∷ Calls 0 ∷ after hs H = after-append hs (Calls 0 ∷ Stops ∷ []) H in
     let gone : lives (after hs H) ≡ [] = ap lives (after-append (map (λ l. Ends l cause.Stop) ls) (map (λ c. Drops c) cs) H) ∙ left in
     let rests : Rests (after (hs ++ Calls 0 ∷ Stops ∷ []) H) (record m { stopped = true }) = subst (λ K. Rests K (record m { stopped = true })) (sym end)
-      record { stopped = refl; asleep = refl; none_known = gone; no_peers = no_entries (IsPeer g (after hs H)) (lives (after hs H)) m.peers.entries gone both.holds.peers } in
+    record { stopped = refl; asleep = refl; none_known = gone; no_peers = no_entries (IsPeer g (after hs H)) (lives (after hs H)) m.peers.entries gone both.holds.peers } in
     let events : d.events ≡ a.events ++ told (hs ++ Calls 0 ∷ Stops ∷ []) H = ev ∙ ap (λ es. es ++ event.Stop ∷ []) both.events ∙ append_assoc a.events (told hs H) (event.Stop ∷ []) ∙ ap (λ es. a.events ++ es) (sym (told-append hs (Calls 0 ∷ Stops ∷ []) H)) in
     let acts : d.acts ≡ a.acts ++ done g.id (hs ++ Calls 0 ∷ Stops ∷ []) = ac ∙ ap (λ es. es ++ act.Beacon (beacon_octets g.id 0) ∷ []) both.acts ∙ append_assoc a.acts (done g.id hs) (act.Beacon (beacon_octets g.id 0) ∷ []) ∙ ap (λ es. a.acts ++ es) (sym (done-append g.id hs (Calls 0 ∷ Stops ∷ []))) in
     record {

@@ -117,12 +117,7 @@ impl Tables {
     }
 
     // What is whole on a connection. Where it isn't live, it has no effect.
-    fn arrive(
-        &mut self,
-        out: &mut Effects,
-        conn: u64,
-        arrival: Arrival,
-    ) -> Result<(), OutOfMemory>
+    fn arrive(&mut self, out: &mut Effects, conn: u64, arrival: Arrival) -> Result<(), OutOfMemory>
         ensures { (g : Config) (H : List Mark) → Holds g H self.old →
             OnOk result (Did g (at_place g conn (Arrived arrival) H) H self.new out.old out.new) }
     {
@@ -169,12 +164,7 @@ impl Tables {
     }
 
     /// All that a piece completed of what its connection says.
-    pub fn said(
-        &mut self,
-        out: &mut Effects,
-        conn: u64,
-        heard: Heard,
-    ) -> Result<(), OutOfMemory>
+    pub fn said(&mut self, out: &mut Effects, conn: u64, heard: Heard) -> Result<(), OutOfMemory>
         ensures { (g : Config) (K : List Mark) → Holds g K self.old →
             OnOk result (Did g (at_places g conn (said_in heard) K) K self.new out.old out.new) }
     {

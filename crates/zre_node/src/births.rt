@@ -25,11 +25,7 @@ use zre_values::limits::PEERS;
 use zre_values::{Endpoint, Frames, Octets, OutOfMemory, Pairs, PeerId};
 
 // A new peer is listed.
-fn list(
-    peers: &mut BTreeMap<u64, Peer>,
-    link: u64,
-    peer: Peer,
-) -> Result<(), OutOfMemory>
+fn list(peers: &mut BTreeMap<u64, Peer>, link: u64, peer: Peer) -> Result<(), OutOfMemory>
     ensures { OnOk result (peers.new.entries ≡ insert_entry nat_cmp peers.old.entries link peer) }
 {
     peers.insert(link, peer)?;
@@ -82,12 +78,7 @@ impl Tables {
     }
 
     /// A peer is born: a link to its endpoint is asked for, and HELLO is put on it.
-    pub fn born(
-        &mut self,
-        out: &mut Effects,
-        id: PeerId,
-        to: Endpoint,
-    ) -> Result<(), OutOfMemory>
+    pub fn born(&mut self, out: &mut Effects, id: PeerId, to: Endpoint) -> Result<(), OutOfMemory>
         ensures { (g : Config) (H : List Mark) → Holds g H self.old →
             OnOk result (Did g (birth g id to H) H self.new out.old out.new) }
     {

@@ -71,7 +71,9 @@ impl Effects {
     /// A connection is closed, and the user is told why.
     pub fn close(&mut self, conn: u64, why: CloseWhy) -> Result<(), OutOfMemory>
         ensures { OnOk result (self.new ≡ record self.old {
-            events = self.old.events ++ EventValue.Closed conn why ∷ []; acts = self.old.acts ++ ActValue.CloseConn conn ∷ [] }) }
+          events = self.old.events ++ EventValue.Closed conn why ∷ [];
+          acts = self.old.acts ++ ActValue.CloseConn conn ∷ [];
+        }) }
     {
         self.tell(Event::Closed { conn, why })?;
         self.act(Act::CloseConn { conn })

@@ -21,12 +21,7 @@ use zre_peer::{Cause, Events, RunFault};
 use zre_values::OutOfMemory;
 
 // The run of a peer takes one more message, which shows that the peer is there.
-fn take(
-    peer: &mut Peer,
-    now: u64,
-    message: Message,
-    events: &mut Events,
-) -> Result<(), RunFault>
+fn take(peer: &mut Peer, now: u64, message: Message, events: &mut Events) -> Result<(), RunFault>
     ensures ok { (c : ℕ) (id : PeerIdValue) (ms : List MessageValue) → HasRun (Some c) id ms peer.old.run →
         OnOk result ((may_follow ms message ≡ true) × HasRun (Some c) id (ms ++ message ∷ []) peer.new.run
         × (peer.new.active ≡ now) × (events.new ≡ events.old ++ events_of id (view_of ms) message.body)) }
@@ -83,12 +78,7 @@ impl Tables {
     }
 
     // PING is answered.
-    fn answer_ping(
-        &mut self,
-        out: &mut Effects,
-        link: u64,
-        ping: bool,
-    ) -> Result<(), OutOfMemory>
+    fn answer_ping(&mut self, out: &mut Effects, link: u64, ping: bool) -> Result<(), OutOfMemory>
         ensures { (g : Config) (K : List Mark) → Holds g K self.old → IsSome (life link K) →
             OnOk result (Did g (if ping then pushing g link PingOk K else []) K self.new out.old out.new) }
     {

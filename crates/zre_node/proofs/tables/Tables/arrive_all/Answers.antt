@@ -13,5 +13,5 @@ loop-arrival-preserved c = λ g K h.
     let so_far = c.loop-arrival.invariant g K h in
     let f = at_place g c.args.conn in
     let all = one_more_turn g f (map (λ (a : Arrival). Arrived a) c.loop-arrival.yielded) (Arrived c.in-Some.arrival) K c.loop-arrival.self c.arrive.new.self c.args.out.now c.loop-arrival.out c.arrive.new.out so_far
-      (c.in_ok-arrive.ensures g _ so_far.holds) in
+    (c.in_ok-arrive.ensures g _ so_far.holds) in
     subst (λ (xs : List Said). Did g (in_turn f xs K) K c.arrive.new.self c.args.out.now c.arrive.new.out) (sym (map-append (λ (a : Arrival). Arrived a) c.loop-arrival.yielded (c.in-Some.arrival ∷ []))) all

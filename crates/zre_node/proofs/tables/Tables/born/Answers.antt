@@ -17,7 +17,7 @@ returns c = λ g H h.
     let link = c.in_ok-greeted_link.ensures g H h.keeps in
     on_ok c.act.result c.act.ensures (λ out.
     rw number (birth_did g H t h c.args.id c.args.to _ c.args.out.now c.act.new.self
-      (is_born g H t h c.args.id c.args.to k c.list.new.peers refl h.keeps.clock_is refl link put)
-      (ap (λ (s : Effects). s.events) out)
-      (ap (λ (s : Effects). s.acts) out ∙ ap (λ n. c.args.out.now.acts ++ act.Connect n c.args.to ∷ []) number)
-      (ap (λ (s : Effects). s.pushed) out ∙ c.in_ok-push.ensures.ok ∙ ap (λ n. c.args.out.now.pushed ++ n ∷ []) number)))
+    (is_born g H t h c.args.id c.args.to k c.list.new.peers refl h.keeps.clock_is refl link put)
+    (ap (λ (s : Effects). s.events) out)
+    (ap (λ (s : Effects). s.acts) out ∙ ap (λ n. c.args.out.now.acts ++ act.Connect n c.args.to ∷ []) number)
+    (ap (λ (s : Effects). s.pushed) out ∙ c.in_ok-push.ensures.ok ∙ ap (λ n. c.args.out.now.pushed ++ n ∷ []) number)))

@@ -16,7 +16,7 @@ returns-in-Some c = λ g H e at_is is h.
     let now = ap (λ (m : ℕ). max m t.clock) at_is ∙ sym c.max-self.ensures in
     ok_of _ c.hear.result (λ heard ok.
     let both = heard_it g H t h e n c.args.bytes.now is row.0 x c.hear.new.found heard row.1 (c.get_mut.follows.lender c.hear.new.found) (c.get_mut.follows.holds c.hear.new.found).0
-      (λ q k. at_ok _ c.hear.result heard ok (c.hear.ensures.live g.id q k)) (λ k. on_at c.hear.result heard ok (c.hear.ensures.ignored k)) in
+    (λ q k. at_ok _ c.hear.result heard ok (c.hear.ensures.live g.id q k)) (λ k. on_at c.hear.result heard ok (c.hear.ensures.ignored k)) in
     (subst (λ (m : ℕ). Holds g (Comes e ∷ H) (record t { clock = m; conns = c.get_mut.follows.lender c.hear.new.found })) now both.0, both.1))
 
 pub returns-in-None : goal.returns-in-None
@@ -25,6 +25,7 @@ returns-in-None c = λ g H e at_is is h.
     let n = c.args.conn in
     let shut = no_conn g H t h.keeps n c.in-None.ensures.value in
     let now = ap (λ (m : ℕ). max m t.clock) at_is ∙ sym c.max-self.ensures in
-    let held = subst (λ (m : ℕ). Holds g (Comes e ∷ H) (record t { clock = m })) now (not_heard g H t h e n c.args.bytes.now is shut) in
-    (subst (λ (C : BTreeMap ℕ Connection). Holds g (Comes e ∷ H) (record t { clock = c.max-self.result; conns = C })) (sym c.get_mut.follows.holds-at-none) held,
-    silent g H t h e n c.args.bytes.now is c.nothing.result (not_live n H shut))
+    let held = subst (λ (m : ℕ). Holds g (Comes e ∷ H) (record t { clock = m })) now (not_heard g H t h e n c.args.bytes.now is shut) in (
+      subst (λ (C : BTreeMap ℕ Connection). Holds g (Comes e ∷ H) (record t { clock = c.max-self.result; conns = C })) (sym c.get_mut.follows.holds-at-none) held,
+      silent g H t h e n c.args.bytes.now is c.nothing.result (not_live n H shut),
+    )

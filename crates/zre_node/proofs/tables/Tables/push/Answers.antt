@@ -21,8 +21,8 @@ returns-in-Ok-clause-did c = λ g K h s.
     let put = c.in-Ok.ensures.ok g.id (bodies l K) (is_linked l K) (replies l K) (taken l K) link in
     on_ok c.push-in-Ok.result c.push-in-Ok.ensures.ok (λ noted. did_as g _ (Puts l c.args.body.now ∷ []) K _ _ _ (fits g l c.args.body.now K put.0)
     (put_did g l c.args.body.now K _ c.args.out.now _
-      (puts_it g K c.args.self.now h l k c.in-Some.ensures.value c.args.body.now c.push.new.self (c.get_mut.follows.lender (record k { link = c.push.new.self })) put.1 (c.get_mut.follows.holds (record k { link = c.push.new.self })).0)
-      refl refl noted))
+    (puts_it g K c.args.self.now h l k c.in-Some.ensures.value c.args.body.now c.push.new.self (c.get_mut.follows.lender (record k { link = c.push.new.self })) put.1 (c.get_mut.follows.holds (record k { link = c.push.new.self })).0)
+    refl refl noted))
 
 pub returns-in-Err-Slow-clause-did : goal.returns-in-Err-Slow-clause-did
 returns-in-Err-Slow-clause-did c = λ g K h s.
