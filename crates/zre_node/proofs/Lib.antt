@@ -9,9 +9,12 @@ pub mod Many
 pub mod Faulting
 pub mod Hearings
 pub mod Naming
+pub mod Offering
 pub mod Opening
 pub mod Parting
 pub mod Pushing
 pub mod Shaking
 pub mod Starting
+pub mod Stepping
 pub mod Stopping
+pub mod Taking

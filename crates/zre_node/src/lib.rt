@@ -10,10 +10,14 @@ mod effects;
 mod ends;
 mod first;
 mod hearing;
+mod node;
+mod offers;
 mod peer;
 mod pushes;
 mod runs;
+mod steps;
 mod stops;
 mod tables;
 
 pub use effects::Step;
+pub use node::Node;

@@ -1,0 +1,44 @@
+-- One entry, at the node.
+use Rattle.std.proofs.Common.{◌≡◌, Bool, true, false, cond, List, [], ◌∷◌, ◌++◌, refl, sym, ap, ◌∙◌, subst, append-nil}
+use Rattle.zre_outside.specs.declared.entry.Entry.{Entry}
+use Rattle.zre_outside.specs.declared.act.Act.{Act}
+use Rattle.zre_peer.specs.declared.event.Event.{Event}
+use Rattle.zre_journal.specs.declared.config.Config.{Config}
+use Rattle.zre_journal.specs.Chronicle.{Mark, Comes, after}
+use Rattle.zre_journal.specs.Done.{acts_at}
+use Rattle.zre_journal.specs.Events.{chronicle, events, acts, events_at}
+use Rattle.zre_journal.specs.Happens.{marks, with_entry, has_stopped}
+use Rattle.zre_journal.specs.Peers.{lives}
+use Rattle.zre_journal.specs.Told.{told}
+use Rattle.zre_journal.proofs.Joined.{continues}
+use Rattle.zre_node.specs.declared.effects.Effects.{Effects}
+use Rattle.zre_node.specs.declared.effects.Step.{Step}
+use Rattle.zre_node.specs.declared.node.Node.{Node}
+use Rattle.zre_node.specs.declared.tables.Tables.{Tables}
+use Rattle.zre_node.specs.Journal.{StandsIn, StandsFor, Took, Steps}
+use Rattle.zre_node.specs.Stands.{Holds, Rests}
+
+-- an entry behind a stop changes nothing
+pub took_nothing : (g : Config) (e : Entry) (H : List Mark) (t : Tables) (a : Effects) → has_stopped H ≡ true → StandsIn g H t → Took g e H t a a
+took_nothing g e H t a z s =
+    let m : marks g e H ≡ [] = rw z refl in
+    let r = s.resting z in
+    record {
+      stands = subst (λ ks. StandsIn g (after ks (Comes e ∷ H)) t) (sym m) record {
+        stopped = s.stopped;
+        going = λ w. let k : true ≡ false = sym z ∙ w in absurd cc;
+        resting = λ w. record { stopped = z; asleep = r.asleep; none_known = r.none_known; no_peers = r.no_peers };
+      };
+      events = sym (append-nil a.events) ∙ ap (λ ks. a.events ++ told ks (Comes e ∷ H)) (sym m);
+      acts = sym (append-nil a.acts) ∙ ap (λ xs. a.acts ++ xs) (let k : acts_at g e H ≡ [] = rw z refl in sym k);
+    }
+
+-- what was taken is a step
+pub steps : (g : Config) (J : List Entry) (e : Entry) (t : Tables) (a s : Effects) → a.events ≡ [] → a.acts ≡ [] → Took g e (chronicle g J) t a s → Steps g J e (record { tables = t }) (record { events = s.events; acts = s.acts })
+steps g J e t a s ev ac w =
+    let c = continues g J (e ∷ []) in
+    record {
+      stands = record { stands = subst (λ K. StandsIn g K t) (sym c.happened) w.stands };
+      told = c.told ∙ ap (λ (xs : List Event). events g J ++ xs) (append-nil (events_at g e (chronicle g J)) ∙ sym (w.events ∙ ap (λ (xs : List Event). xs ++ events_at g e (chronicle g J)) ev));
+      done = c.done ∙ ap (λ (xs : List Act). acts g J ++ xs) (append-nil (acts_at g e (chronicle g J)) ∙ sym (w.acts ∙ ap (λ (xs : List Act). xs ++ acts_at g e (chronicle g J)) ac));
+    }

@@ -1,0 +1,71 @@
+//! Whole entries.
+
+ghost use Rattle.std.specs.Prelude.{◌≡◌, List, [], true, OnOk};
+ghost use Rattle.zre_outside.specs.declared.entry.Entry.{Entry as EntryValue};
+ghost use Rattle.zre_outside.specs.declared.entry.Input.TheVariants as given;
+ghost use Rattle.zre_journal.specs.declared.config.Config.{Config};
+ghost use Rattle.zre_journal.specs.Chronicle.{Mark};
+ghost use Rattle.zre_journal.specs.Happens.{at_input, at_stop};
+ghost use Rattle.zre_node.specs.Journal.{Took};
+ghost use Rattle.zre_node.specs.Covered.{is_incoming, is_end};
+ghost use Rattle.zre_node.specs.Stands.{Holds, Did};
+
+use crate::effects::Effects;
+use crate::tables::Tables;
+use zre_outside::Input;
+use zre_values::OutOfMemory;
+
+impl Tables {
+    // What a datagram, or a connection that comes or goes, brings.
+    fn bring(&mut self, out: &mut Effects, input: Input) -> Result<(), OutOfMemory>
+        ensures { (g : Config) (H K : List Mark) → is_incoming input ≡ true → Holds g K self.old →
+            OnOk result (Did g (at_input g input H K) K self.new out.old out.new) }
+    {
+        match input {
+            Input::Datagram { from, bytes } => self.datagram(out, from, bytes.as_slice()),
+            Input::Opened { conn } => self.opened(out, conn),
+            Input::Shut { conn } => self.shut(out, conn),
+            _ => Ok(()),
+        }
+    }
+
+    /// A datagram comes, or a connection comes or goes.
+    pub fn take_incoming(
+        &mut self,
+        out: &mut Effects,
+        at: u64,
+        input: Input,
+    ) -> Result<(), OutOfMemory>
+        ensures { (g : Config) (H : List Mark) (e : EntryValue) → e.at ≡ at → e.input ≡ input → is_incoming input ≡ true →
+            out.old.pushed ≡ [] → Holds g H self.old → OnOk result (Took g e H self.new out.old out.new) }
+    {
+        self.come(at);
+        self.bring(out, input)?;
+        self.offer(out)
+    }
+
+    /// A piece of a connection comes.
+    pub fn take_piece(
+        &mut self,
+        out: &mut Effects,
+        at: u64,
+        conn: u64,
+        bytes: &[u8],
+    ) -> Result<(), OutOfMemory>
+        ensures { (g : Config) (H : List Mark) (e : EntryValue) → e.at ≡ at → e.input ≡ given.Piece conn bytes.now →
+            out.old.pushed ≡ [] → Holds g H self.old → OnOk result (Took g e H self.new out.old out.new) }
+    {
+        let heard = self.come_piece(at, conn, bytes)?;
+        self.said(out, conn, heard)?;
+        self.offer(out)
+    }
+
+    /// The node stops.
+    pub fn take_stop(&mut self, out: &mut Effects, at: u64) -> Result<(), OutOfMemory>
+        ensures { (g : Config) (H : List Mark) (e : EntryValue) → e.at ≡ at → is_end e.input ≡ true →
+            Holds g H self.old → OnOk result (Took g e H self.new out.old out.new) }
+    {
+        self.come(at);
+        self.stop(out)
+    }
+}
