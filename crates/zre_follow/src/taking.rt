@@ -5,19 +5,20 @@ ghost use Rattle.zre_msg.specs.declared.message.Message.{Message};
 ghost use Rattle.zre_peer.specs.Standing.{Stands, id_of, is_spent, view_in};
 ghost use Rattle.std.specs.List.{cons_option};
 ghost use Rattle.std.specs.Result.{result_ok};
+ghost use Rattle.zre_msg.specs.Lent.{message_of};
 ghost use Rattle.zre_msg.specs.Reading.{read_frames};
 ghost use Rattle.zre_follow.specs.Messages.{messages_in};
 ghost use Rattle.zre_follow.specs.Taken.{TookOne, Took};
 
 use crate::ends::push_end;
 use std::alloc::Global;
-use zre_msg::{Message, ReadFault};
+use zre_msg::{LentMessage, Message, ReadFault};
 use zre_peer::{RunFault, Teller};
 use zre_values::{Frames, Octets, OutOfMemory};
 use zre_zmtp::{Item, What};
 
-// Takes the first message of the run and appends its lines. Says whether the run goes on.
-fn take_first(
+// Takes a message and appends its lines. Says whether the run goes on.
+fn take_message(
     alloc: Global,
     message: Message,
     run: &mut Teller,
@@ -39,21 +40,21 @@ fn take_first(
     }
 }
 
-// The same of a message behind HELLO, which is only looked at.
-fn take_later(
+// The same of a message behind HELLO that lies in its frames.
+fn take_lent(
     alloc: Global,
-    message: &Message,
+    lent: &LentMessage<'_>,
     run: &mut Teller,
     out: &mut Octets,
 ) -> Result<bool, OutOfMemory>
     requires going { is_spent run.old ≡ false }
     requires behind { is_some (view_in run.old) ≡ true }
     ensures took { (ms : List Message) → Stands run.old ms →
-        IfOk result (λ on. TookOne (id_of run.old) ms message.now on run.new out.old out.new) }
+        IfOk result (λ on. TookOne (id_of run.old) ms (message_of lent.now) on run.new out.old out.new) }
     ensures spent { IfOk result (λ on. is_spent run.new ≡ not on) }
     ensures id { id_of run.new ≡ id_of run.old }
 {
-    match run.take_later(message, out) {
+    match run.take_lent(lent, out) {
         Ok(()) => Ok(true),
         Err(RunFault::OutOfMemory) => Err(OutOfMemory),
         Err(fault) => {
@@ -63,7 +64,30 @@ fn take_later(
     }
 }
 
-// Takes the message that frames behind HELLO mean, if they mean one. Says whether the run goes on.
+// Takes the message that frames mean, if they mean one, with all of it made. Says whether the run goes on. It stands
+// apart, so that the room for such a message is taken where one comes.
+#[cold]
+#[inline(never)]
+fn take_whole(
+    alloc: Global,
+    frames: &Frames,
+    run: &mut Teller,
+    out: &mut Octets,
+) -> Result<bool, OutOfMemory>
+    requires { is_spent run.old ≡ false }
+    ensures took { (ms : List Message) → Stands run.old ms →
+        OnOk result (Took (id_of run.old) ms (cons_option (result_ok (read_frames frames.now)) []) run.new out.old out.new) }
+    ensures spent { IfOk result (λ on. is_spent run.new ≡ not on) }
+    ensures id { id_of run.new ≡ id_of run.old }
+{
+    match Message::read(alloc, frames) {
+        Ok(message) => take_message(alloc, message, run, out),
+        Err(ReadFault::Bad(_)) => Ok(true),
+        Err(ReadFault::OutOfMemory) => Err(OutOfMemory),
+    }
+}
+
+// The same behind HELLO, with the message looked at where it lies: a further HELLO alone is made.
 fn take_later_frames(
     alloc: Global,
     frames: &Frames,
@@ -77,12 +101,11 @@ fn take_later_frames(
     ensures spent { IfOk result (λ on. is_spent run.new ≡ not on) }
     ensures id { id_of run.new ≡ id_of run.old }
 {
-    match &Message::read(alloc, frames) {
-        Ok(message) => take_later(alloc, message, run, out),
-        Err(fault) => match *fault {
-            ReadFault::Bad(_) => Ok(true),
-            ReadFault::OutOfMemory => Err(OutOfMemory),
-        },
+    match Message::see(frames) {
+        Ok(Some(lent)) => take_lent(alloc, &lent, run, out),
+        Ok(None) => take_whole(alloc, frames, run, out),
+        Err(ReadFault::Bad(_)) => Ok(true),
+        Err(ReadFault::OutOfMemory) => Err(OutOfMemory),
     }
 }
 
@@ -102,11 +125,7 @@ fn take_frames(
     if run.is_behind() {
         return take_later_frames(alloc, frames, run, out);
     }
-    match Message::read(alloc, frames) {
-        Ok(message) => take_first(alloc, message, run, out),
-        Err(ReadFault::Bad(_)) => Ok(true),
-        Err(ReadFault::OutOfMemory) => Err(OutOfMemory),
-    }
+    take_whole(alloc, frames, run, out)
 }
 
 // Takes the message that an item means, if it means one. Says whether the run goes on.

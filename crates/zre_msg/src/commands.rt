@@ -13,7 +13,7 @@ use crate::message::{Body, Message, ReadFault};
 use std::alloc::Global;
 use zre_values::Octets;
 
-/// A command other than HELLO, with the fields that its frame lends.
+/// A command other than HELLO, with the fields that its frame lends: those of `Body`, but for the content.
 #[derive(Clone, Copy)]
 pub enum Command<'a> {
     Whisper,

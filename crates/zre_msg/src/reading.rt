@@ -4,15 +4,17 @@ ghost use Rattle.std.specs.Prelude.{◌≡◌, ◌≤◌, ◌<◌, ◌^◌, [], 
 ghost use Rattle.std.specs.Int.{w16, from_be_bytes};
 ghost use Rattle.zre_msg.specs.Reading.{is_other as other_test, first_row, head_rows, end_rows, read_of, read_frames, Answers};
 ghost use Rattle.zre_msg.specs.Further.{frames_of};
+ghost use Rattle.zre_msg.specs.Lent.{Opens, Sees};
 ghost use Rattle.zre_msg.specs.Spelling.{Means};
 ghost use Rattle.zre_msg.specs.declared.message.Message.{Message as MessageValue};
 
-use crate::commands::{is_single, read_command, read_hello};
+use crate::commands::{Command, is_single, read_command, read_hello};
 use crate::fields::Stop;
 use crate::further::Further;
+use crate::lent::LentMessage;
 use crate::message::{Bad, BadWhy, Message, ReadFault};
 use std::alloc::Global;
-use zre_values::Frames;
+use zre_values::{Frames, Octets};
 
 // Whether the octet is there, and is another one.
 fn is_other(octets: &[u8], i: usize, wanted: u8) -> bool
@@ -110,11 +112,16 @@ fn read_hello_frame(
     Ok(Message { sequence, body })
 }
 
-// The message that a first frame and those behind it mean. It is made once nothing can be wrong with them any more.
+// The sequence and the command of a first frame, once nothing can be wrong with it and those behind it any more; none
+// where it begins as HELLO does. It is part of each read.
+#[inline(always)]
 #[tactic(auto, unfolding(crate::specs::Reading::read_of, crate::specs::Reading::command_of))]
-fn read_parts(alloc: Global, first: &[u8], further: Further<'_>) -> Result<Message, ReadFault>
+fn read_first<'a>(
+    first: &'a [u8],
+    further: &Further<'_>,
+) -> Result<Option<(u16, Command<'a>)>, ReadFault>
     requires { length first.now < 2 ^ 32 }
-    ensures { Answers result (read_of first.now (frames_of further.entry)) }
+    ensures { Opens result first.now (frames_of further.now) }
 {
     if let Some(bad) = head_fault(first) {
         return Err(ReadFault::Bad(bad));
@@ -123,7 +130,7 @@ fn read_parts(alloc: Global, first: &[u8], further: Further<'_>) -> Result<Messa
         return Err(fault(BadWhy::Short, 0, first.len()));
     }
     if first[2] == 1 {
-        return read_hello_frame(alloc, first, &further);
+        return Ok(None);
     }
     let (_, fields) = first.split_at(6);
     let (command, rest) = match read_command(first[2], fields) {
@@ -131,10 +138,43 @@ fn read_parts(alloc: Global, first: &[u8], further: Further<'_>) -> Result<Messa
         Err(Stop::Memory) => return Err(ReadFault::OutOfMemory),
         Err(Stop::Short) => return Err(fault(BadWhy::Short, 0, first.len())),
     };
-    if let Some(bad) = end_fault(first, rest.len(), &further) {
+    if let Some(bad) = end_fault(first, rest.len(), further) {
         return Err(ReadFault::Bad(bad));
     }
-    command.message(alloc, sequence_of(first), further)
+    Ok(Some((sequence_of(first), command)))
+}
+
+// The message that a first frame and those behind it mean.
+fn read_parts(alloc: Global, first: &[u8], further: Further<'_>) -> Result<Message, ReadFault>
+    requires { length first.now < 2 ^ 32 }
+    ensures { Answers result (read_of first.now (frames_of further.entry)) }
+{
+    match read_first(first, &further) {
+        Ok(Some((sequence, command))) => command.message(alloc, sequence, further),
+        Ok(None) => read_hello_frame(alloc, first, &further),
+        Err(fault) => Err(fault),
+    }
+}
+
+// The message that lies in a first frame and those behind it.
+fn see_parts<'a>(
+    first: &'a [u8],
+    content: &'a [Octets],
+) -> Result<Option<LentMessage<'a>>, ReadFault>
+    ensures { Sees result (first.now ∷ content.now) }
+{
+    if first.len() > u32::MAX as usize {
+        return Err(ReadFault::OutOfMemory);
+    }
+    match read_first(first, &Further::Lent(content)) {
+        Ok(Some((sequence, command))) => Ok(Some(LentMessage {
+            sequence,
+            command,
+            content,
+        })),
+        Ok(None) => Ok(None),
+        Err(fault) => Err(fault),
+    }
 }
 
 // The same with the laws of what is read, for a first frame of any length.
@@ -171,7 +211,18 @@ impl Message {
         }
     }
 
-    /// The same of frames that are given: content is moved into the message.
+    /// The message that the frames mean, where they don't begin as HELLO does, with its fields and its content where they
+    /// lie. It takes no memory; `OutOfMemory` is told of a first frame of 2^32 octets alone.
+    pub fn see(frames: &Frames) -> Result<Option<LentMessage<'_>>, ReadFault>
+        ensures { Sees result frames.now }
+    {
+        match frames.as_slice().split_first() {
+            Some((first, further)) => see_parts(first.as_slice(), further),
+            None => Err(no_frames()),
+        }
+    }
+
+    /// What `read` gives, of frames that are given: content is moved into the message.
     pub fn from_frames(alloc: Global, mut frames: Frames) -> Result<Message, ReadFault>
         ensures found { IfOk result (λ m. Means frames m) }
         ensures only { (m : MessageValue) → Means frames m → Answers result (Ok m) }

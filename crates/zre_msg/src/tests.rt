@@ -314,11 +314,44 @@ fn is_given(alloc: Global, frames: Frames, row: &Row) -> Result<bool, OutOfMemor
     }
 }
 
+// Whether the frames are seen as the row: HELLO isn't, and every other message with its content where it lies.
+fn is_seen(frames: &Frames, row: &Row) -> bool {
+    match (Message::see(frames), &row.body) {
+        (Ok(None), Wanted::Hello { .. }) => true,
+        (Ok(Some(lent)), body) => {
+            lent.sequence == row.sequence
+                && lent.content.len() + 1 == row.frames.len()
+                && is_command(lent.command, body)
+        }
+        _ => false,
+    }
+}
+
+fn is_command(command: Command<'_>, wanted: &Wanted) -> bool {
+    match (command, wanted) {
+        (Command::Whisper, Wanted::Whisper(_)) => true,
+        (Command::Shout { group }, Wanted::Shout(to, _)) => group == *to,
+        (Command::Join { group, status }, Wanted::Join(to, number)) => {
+            group == *to && status == *number
+        }
+        (Command::Leave { group, status }, Wanted::Leave(to, number)) => {
+            group == *to && status == *number
+        }
+        (Command::Ping, Wanted::Ping) => true,
+        (Command::PingOk, Wanted::PingOk) => true,
+        (Command::Other { number, rest }, Wanted::Other(of, octets, _)) => {
+            number == *of && rest == *octets
+        }
+        _ => false,
+    }
+}
+
 #[test]
 fn every_command_is_read_and_written(rt: HostRuntime) -> Result<(), Fail> {
     for (i, row) in ROWS.iter().enumerate() {
         let frames = frames_of(rt.alloc(), row.frames)?;
         assert!(rt; is_read(rt.alloc(), &frames, row)?, "{i}");
+        assert!(rt; is_seen(&frames, row), "{i}");
         assert!(rt; is_given(rt.alloc(), frames, row)?, "{i}");
     }
     Ok(())

@@ -5,6 +5,11 @@ use Rattle.std.specs.Option.{ForSome}
 use Rattle.zre_values.specs.declared.peer_id.PeerId.{PeerId}
 use Rattle.zre_msg.specs.declared.message.Body.{Body}
 use Rattle.zre_msg.specs.declared.message.Body.TheVariants.{Hello, Whisper, Shout, Join, Leave, Ping, PingOk, Other}
+use Rattle.zre_msg.specs.Commands.{body_of}
+use Rattle.zre_msg.specs.Lent.{message_of}
+use Rattle.zre_msg.specs.declared.commands.Command.{Command}
+use Rattle.zre_msg.specs.declared.commands.Command.TheVariants as lent
+use Rattle.zre_msg.specs.declared.lent.LentMessage.{LentMessage}
 use Rattle.zre_peer.specs.Runs.{is_hello}
 use Rattle.zre_peer.specs.Heads.{heads_of}
 use Rattle.zre_peer.specs.declared.heads.Heads.{Heads}
@@ -41,3 +46,16 @@ none_is (Some v) e = absurd cc
 -- the beginnings of lines, made from HELLO
 pub ready_first : (id same : PeerId) (o : Option View) (v : View) (heads : Heads) → o ≡ Some v → same ≡ id → heads ≡ heads_of id v.name → ForSome o (λ w. heads ≡ heads_of same w.name)
 ready_first id same o v heads e f is = λ w here. is ∙ ap (λ (n : List ℕ). heads_of id n) (ap (λ (u : View). u.name) (some_is v w (sym e ∙ here))) ∙ ap (λ i. heads_of i w.name) (sym f)
+
+command_is_later : (c : Command) (more : List (List ℕ)) → is_hello (body_of c more) ≡ false
+command_is_later lent.Whisper more = refl
+command_is_later (lent.Shout group) more = refl
+command_is_later (lent.Join group status) more = refl
+command_is_later (lent.Leave group status) more = refl
+command_is_later lent.Ping more = refl
+command_is_later lent.PingOk more = refl
+command_is_later (lent.Other number rest) more = refl
+
+-- a message that lies in frames is no HELLO
+pub lent_is_later : (l : LentMessage) → is_hello (message_of l).body ≡ false
+lent_is_later l = command_is_later l.command l.content.now

@@ -9,7 +9,7 @@ use crate::causes::{Cause, CloseWhy, IgnoreWhy, RefuseWhy};
 use crate::event::Event;
 use std::alloc::Global;
 use zre_values::{
-    Frames, Octets, OutOfMemory, Pairs, PeerId, push_decimal, push_quoted, push_quoted_frames,
+    Octets, OutOfMemory, Pairs, PeerId, push_decimal, push_quoted, push_quoted_list,
     push_quoted_pairs,
 };
 
@@ -24,30 +24,30 @@ pub(crate) fn push_who(out: &mut Octets, id: PeerId, name: &[u8]) -> Result<(), 
 }
 
 /// Appends a group that ends a line.
-pub(crate) fn push_group_end(out: &mut Octets, group: &Octets) -> Result<(), OutOfMemory>
+pub(crate) fn push_group_end(out: &mut Octets, group: &[u8]) -> Result<(), OutOfMemory>
     ensures { OnOk result (out.new ≡ out.old ++ group_end group.now) }
 {
-    push_quoted(out, group.as_slice())?;
+    push_quoted(out, group)?;
     out.push(b'\n')
 }
 
 /// Appends frames of content that end a line.
-pub(crate) fn push_content_end(out: &mut Octets, content: &Frames) -> Result<(), OutOfMemory>
+pub(crate) fn push_content_end(out: &mut Octets, content: &[Octets]) -> Result<(), OutOfMemory>
     ensures { OnOk result (out.new ≡ out.old ++ content_end content.now) }
 {
-    push_quoted_frames(out, content)?;
+    push_quoted_list(out, content)?;
     out.push(b'\n')
 }
 
 /// Appends a group and frames of content that end a line.
 pub(crate) fn push_shout_end(
     out: &mut Octets,
-    group: &Octets,
-    content: &Frames,
+    group: &[u8],
+    content: &[Octets],
 ) -> Result<(), OutOfMemory>
     ensures { OnOk result (out.new ≡ out.old ++ shout_end group.now content.now) }
 {
-    push_quoted(out, group.as_slice())?;
+    push_quoted(out, group)?;
     out.push(b' ')?;
     push_content_end(out, content)
 }
@@ -131,15 +131,15 @@ pub fn push_line(out: &mut Octets, event: &Event) -> Result<(), OutOfMemory>
         }
         Event::Join { id, name, group } => {
             push_head(out, b"JOIN ", *id, name)?;
-            push_group_end(out, group)
+            push_group_end(out, group.as_slice())
         }
         Event::Leave { id, name, group } => {
             push_head(out, b"LEAVE ", *id, name)?;
-            push_group_end(out, group)
+            push_group_end(out, group.as_slice())
         }
         Event::Whisper { id, name, content } => {
             push_head(out, b"WHISPER ", *id, name)?;
-            push_content_end(out, content)
+            push_content_end(out, content.as_slice())
         }
         Event::Shout {
             id,
@@ -148,7 +148,7 @@ pub fn push_line(out: &mut Octets, event: &Event) -> Result<(), OutOfMemory>
             content,
         } => {
             push_head(out, b"SHOUT ", *id, name)?;
-            push_shout_end(out, group, content)
+            push_shout_end(out, group.as_slice(), content.as_slice())
         }
         Event::Evasive { id, name } => push_evasive(out, *id, name),
         Event::Exit { id, name, cause } => push_exit(out, *id, name, *cause),

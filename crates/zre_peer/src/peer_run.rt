@@ -1,6 +1,7 @@
 ghost use Rattle.std.specs.Prelude.{ℕ, ◌+◌, ◌%◌, ◌≡◌, ◌≢◌, ◌++◌, [], ◌∷◌, List, Err, None, Some, true, false, IfOk, IfErr, OnOk, OnErr, is_some};
 ghost use Rattle.std.specs.Option.{ForSome};
 ghost use Rattle.zre_msg.specs.declared.message.Message.{Message};
+ghost use Rattle.zre_msg.specs.Lent.{message_of};
 ghost use Rattle.zre_peer.specs.declared.peer_run.RunFault.TheVariants as faults;
 ghost use Rattle.zre_peer.specs.Heads.{heads_of};
 ghost use Rattle.zre_peer.specs.Later.{goes_on, later_fault};
@@ -16,7 +17,7 @@ use crate::telling::tell_change;
 use crate::view::View;
 use std::alloc::Global;
 use thiserror::Error;
-use zre_msg::Message;
+use zre_msg::{LentMessage, Message};
 use zre_values::{Octets, OutOfMemory, PeerId};
 
 /// Why a message doesn't belong to the run. The tests stand in this order.
@@ -86,6 +87,16 @@ fn first(alloc: Global, id: PeerId, message: Message, events: &mut Events) -> Re
     Ok(view)
 }
 
+fn expect_number(due: u16, got: u16) -> Result<(), RunFault>
+    ensures ok { OnOk result (got ≡ due) }
+    ensures refused { IfErr result (λ e. (got ≢ due) × (e ≡ RunFault.Broken due got)) }
+{
+    if got != due {
+        return Err(RunFault::Broken { due, got });
+    }
+    Ok(())
+}
+
 // Whether a message behind the first may come, but for what it does to the view.
 fn expect(due: u16, message: &Message) -> Result<(), RunFault>
     ensures ok { OnOk result ((is_hello message.now.body ≡ false) × (message.now.sequence ≡ due)) }
@@ -94,13 +105,7 @@ fn expect(due: u16, message: &Message) -> Result<(), RunFault>
     if is_hello(&message.body) {
         return Err(RunFault::SecondHello);
     }
-    if message.sequence != due {
-        return Err(RunFault::Broken {
-            due,
-            got: message.sequence,
-        });
-    }
-    Ok(())
+    expect_number(due, message.sequence)
 }
 
 // A message behind the first.
@@ -124,25 +129,26 @@ fn later(
 }
 
 // The same, with the lines of the events, which begin with `heads`.
+#[tactic(auto, using(crate::proofs::Named::lent_is_later))]
 fn tell_later(
     alloc: Global,
     view: &mut View,
     due: u16,
-    message: &Message,
+    lent: &LentMessage<'_>,
     heads: &Heads,
     out: &mut Octets,
 ) -> Result<(), RunFault>
     requires { is_small view.old ≡ true }
-    ensures ok { OnOk result ((goes_on view.old due message.now ≡ true) × (view.new ≡ after view.old message.now.body)) }
-    ensures told { (id : PeerId) → heads.now ≡ heads_of id view.old.name → OnOk result (out.new ≡ out.old ++ lines (events_of id view.old message.now.body)) }
+    ensures ok { OnOk result ((goes_on view.old due (message_of lent.now) ≡ true) × (view.new ≡ after view.old (message_of lent.now).body)) }
+    ensures told { (id : PeerId) → heads.now ≡ heads_of id view.old.name → OnOk result (out.new ≡ out.old ++ lines (events_of id view.old (message_of lent.now).body)) }
     ensures name { view.new.name ≡ view.old.name }
     ensures small { is_small view.new ≡ true }
     ensures kept { OnErr result (view.new ≡ view.old) }
     ensures refused { IfErr result (λ e. e ≢ RunFault.OutOfMemory →
-        (goes_on view.old due message.now ≡ false) × (e ≡ later_fault due message.now) × (out.new ≡ out.old)) }
+        (goes_on view.old due (message_of lent.now) ≡ false) × (e ≡ later_fault due (message_of lent.now)) × (out.new ≡ out.old)) }
 {
-    expect(due, message)?;
-    tell_change(alloc, view, &message.body, heads, out)
+    expect_number(due, lent.sequence)?;
+    tell_change(alloc, view, lent, heads, out)
 }
 
 impl Run {
@@ -251,11 +257,11 @@ impl Run {
         }
     }
 
-    /// The same for a message behind HELLO, with the lines of its events appended to a text; they begin with
-    /// `heads`. After `OutOfMemory` a front of them may stand there.
+    /// The same for a message behind HELLO that lies in its frames, with the lines of its events appended to a text;
+    /// they begin with `heads`. After `OutOfMemory` a front of them may stand there.
     pub(crate) fn tell(
         &mut self,
-        message: &Message,
+        lent: &LentMessage<'_>,
         heads: &Heads,
         out: &mut Octets,
     ) -> Result<(), RunFault>
@@ -263,11 +269,11 @@ impl Run {
         requires behind { is_some (view_in self.old) ≡ true }
         requires ready { IsReady self.old heads.now }
         ensures ok { (ms : List Message) → Stands self.old ms → OnOk result (
-            (may_follow ms message.now ≡ true) × Stands self.new (ms ++ message.now ∷ [])
-            × (out.new ≡ out.old ++ lines (events_of (id_of self.old) (view_of ms) message.now.body))) }
+            (may_follow ms (message_of lent.now) ≡ true) × Stands self.new (ms ++ (message_of lent.now) ∷ [])
+            × (out.new ≡ out.old ++ lines (events_of (id_of self.old) (view_of ms) (message_of lent.now).body))) }
         ensures going { OnOk result (is_spent self.new ≡ false) }
         ensures refused { (ms : List Message) → Stands self.old ms → IfErr result (λ e. e ≢ RunFault.OutOfMemory →
-            (may_follow ms message.now ≡ false) × (e ≡ fault_of ms message.now) × (out.new ≡ out.old)) }
+            (may_follow ms (message_of lent.now) ≡ false) × (e ≡ fault_of ms (message_of lent.now)) × (out.new ≡ out.old)) }
         ensures spent { IfErr result (λ e. e ≢ RunFault.OutOfMemory → is_spent self.new ≡ true) }
         ensures kept { OnErr result (view_in self.new ≡ view_in self.old) }
         ensures ready { IsReady self.new heads.now }
@@ -277,7 +283,7 @@ impl Run {
         let Some(view) = &mut self.view else {
             return Err(RunFault::NotHello);
         };
-        match tell_later(self.alloc, view, next, message, heads, out) {
+        match tell_later(self.alloc, view, next, lent, heads, out) {
             Ok(()) => {
                 self.count = next;
                 Ok(())
@@ -287,5 +293,16 @@ impl Run {
                 Err(fault)
             }
         }
+    }
+    /// Refuses a HELLO behind the first.
+    pub(crate) fn refuse_hello(&mut self) -> RunFault
+        requires { is_some (view_in self.old) ≡ true }
+        ensures refused { (ms : List Message) (m : Message) → Stands self.old ms → is_hello m.body ≡ true →
+            (may_follow ms m ≡ false) × (result ≡ fault_of ms m) }
+        ensures fault { result ≡ RunFault.SecondHello }
+        ensures only { self.new ≡ record self.old { spent = true } }
+    {
+        self.spent = true;
+        RunFault::SecondHello
     }
 }

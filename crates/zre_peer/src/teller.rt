@@ -2,6 +2,7 @@
 
 ghost use Rattle.std.specs.Prelude.{◌≡◌, ◌≢◌, ◌++◌, [], ◌∷◌, List, true, false, is_some, IfErr, IfOk, OnOk, OnErr};
 ghost use Rattle.std.specs.Option.{ForSome};
+ghost use Rattle.zre_msg.specs.Lent.{message_of};
 ghost use Rattle.zre_msg.specs.declared.message.Message.{Message};
 ghost use Rattle.zre_peer.specs.Heads.{heads_of};
 ghost use Rattle.zre_peer.specs.Lines.{lines};
@@ -11,11 +12,12 @@ ghost use Rattle.zre_peer.specs.Views.{after, blank, view_of};
 
 use crate::event::Events;
 use crate::heads::Heads;
+use crate::lending::lent;
 use crate::line::push_lines;
 use crate::peer_run::{Run, RunFault};
 use std::alloc::Global;
 use std::marker::Model;
-use zre_msg::{Body, Message};
+use zre_msg::{Body, LentMessage, Message};
 use zre_values::{Octets, OutOfMemory, PeerId};
 
 /// A run that writes the lines of its events and makes no events: from its HELLO on their beginnings stand ready as
@@ -124,7 +126,27 @@ impl Teller {
             (is_spent self.new ≡ true) × (view_in self.new ≡ view_in self.old)) }
         ensures id { id_of self.new ≡ id_of self.old }
     {
-        self.run.tell(message, &self.heads, out)
+        match lent(message) {
+            Some(lent) => self.take_lent(&lent, out),
+            None => Err(self.run.refuse_hello()),
+        }
+    }
+
+    /// The same for a message that lies in its frames.
+    pub fn take_lent(&mut self, lent: &LentMessage<'_>, out: &mut Octets) -> Result<(), RunFault>
+        requires going { is_spent self.old ≡ false }
+        requires behind { is_some (view_in self.old) ≡ true }
+        ensures ok { (ms : List Message) → Stands self.old ms → OnOk result (
+            (may_follow ms (message_of lent.now) ≡ true) × Stands self.new (ms ++ (message_of lent.now) ∷ [])
+            × (out.new ≡ out.old ++ lines (events_of (id_of self.old) (view_of ms) (message_of lent.now).body))) }
+        ensures going { OnOk result (is_spent self.new ≡ false) }
+        ensures refused { (ms : List Message) → Stands self.old ms → IfErr result (λ e. e ≢ RunFault.OutOfMemory →
+            (may_follow ms (message_of lent.now) ≡ false) × (e ≡ fault_of ms (message_of lent.now)) × (out.new ≡ out.old)) }
+        ensures spent { IfErr result (λ e. e ≢ RunFault.OutOfMemory →
+            (is_spent self.new ≡ true) × (view_in self.new ≡ view_in self.old)) }
+        ensures id { id_of self.new ≡ id_of self.old }
+    {
+        self.run.tell(lent, &self.heads, out)
     }
 
     fn take_first(&mut self, message: Message, out: &mut Octets) -> Result<(), RunFault>

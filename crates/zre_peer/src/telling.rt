@@ -2,9 +2,10 @@
 
 ghost use Rattle.std.specs.Prelude.{◌≡◌, ◌≢◌, ◌++◌, true, false, IfErr, OnOk, OnErr};
 ghost use Rattle.zre_msg.specs.declared.message.Body.TheVariants as bodies;
+ghost use Rattle.zre_msg.specs.Lent.{message_of};
 ghost use Rattle.zre_peer.specs.Lines.{content_end, group_end, lines, shout_end};
 ghost use Rattle.zre_peer.specs.Heads.{heads_of};
-ghost use Rattle.zre_peer.specs.Runs.{events_of, is_hello};
+ghost use Rattle.zre_peer.specs.Runs.{events_of};
 ghost use Rattle.zre_peer.specs.Views.{after, is_small};
 ghost use Rattle.zre_values.specs.declared.peer_id.PeerId.{PeerId};
 
@@ -14,18 +15,18 @@ use crate::line::{push_content_end, push_group_end, push_shout_end};
 use crate::peer_run::RunFault;
 use crate::view::View;
 use std::alloc::Global;
-use zre_msg::Body;
-use zre_values::{Frames, Octets, OutOfMemory};
+use zre_msg::{Command, LentMessage};
+use zre_values::{Octets, OutOfMemory};
 
 // The beginning of a line, and a group.
-fn push_group(out: &mut Octets, head: &Octets, group: &Octets) -> Result<(), OutOfMemory>
+fn push_group(out: &mut Octets, head: &Octets, group: &[u8]) -> Result<(), OutOfMemory>
     ensures { OnOk result (out.new ≡ out.old ++ head.now ++ group_end group.now) }
 {
     out.append(head.as_slice())?;
     push_group_end(out, group)
 }
 
-fn push_whisper(out: &mut Octets, heads: &Heads, content: &Frames) -> Result<(), OutOfMemory>
+fn push_whisper(out: &mut Octets, heads: &Heads, content: &[Octets]) -> Result<(), OutOfMemory>
     ensures { (id : PeerId) (view : View) → heads.now ≡ heads_of id view.name →
         OnOk result (out.new ≡ out.old ++ lines (events_of id view (bodies.Whisper content.now))) }
 {
@@ -36,8 +37,8 @@ fn push_whisper(out: &mut Octets, heads: &Heads, content: &Frames) -> Result<(),
 fn push_shout(
     out: &mut Octets,
     heads: &Heads,
-    group: &Octets,
-    content: &Frames,
+    group: &[u8],
+    content: &[Octets],
 ) -> Result<(), OutOfMemory>
     ensures { (id : PeerId) (view : View) → heads.now ≡ heads_of id view.name →
         OnOk result (out.new ≡ out.old ++ lines (events_of id view (bodies.Shout group.now content.now))) }
@@ -49,7 +50,7 @@ fn push_shout(
 fn tell_join(
     alloc: Global,
     view: &mut View,
-    group: &Octets,
+    group: &[u8],
     status: u8,
     heads: &Heads,
     out: &mut Octets,
@@ -61,16 +62,16 @@ fn tell_join(
     ensures refused { IfErr result (λ e. e ≢ RunFault.OutOfMemory →
         (is_small (after view.old (bodies.Join group.now status)) ≡ false) × (e ≡ RunFault.Limit) × (out.new ≡ out.old)) }
 {
-    if !can_join(view, group.as_slice()) {
+    if !can_join(view, group) {
         return Err(RunFault::Limit);
     }
     push_group(out, &heads.join, group)?;
-    join(alloc, view, group.as_slice(), status)
+    join(alloc, view, group, status)
 }
 
 fn tell_leave(
     view: &mut View,
-    group: &Octets,
+    group: &[u8],
     status: u8,
     heads: &Heads,
     out: &mut Octets,
@@ -82,7 +83,7 @@ fn tell_leave(
     ensures refused { IfErr result (λ e. e ≡ RunFault.OutOfMemory) }
 {
     push_group(out, &heads.leave, group)?;
-    leave(view, group.as_slice(), status);
+    leave(view, group, status);
     Ok(())
 }
 
@@ -90,25 +91,23 @@ fn tell_leave(
 pub(crate) fn tell_change(
     alloc: Global,
     view: &mut View,
-    body: &Body,
+    lent: &LentMessage<'_>,
     heads: &Heads,
     out: &mut Octets,
 ) -> Result<(), RunFault>
-    requires within { is_small view.old ≡ true }
-    requires no_hello { is_hello body.now ≡ false }
-    ensures ok { OnOk result ((is_small (after view.old body.now) ≡ true) × (view.new ≡ after view.old body.now)) }
-    ensures told { (id : PeerId) → heads.now ≡ heads_of id view.old.name → OnOk result (out.new ≡ out.old ++ lines (events_of id view.old body.now)) }
+    requires { is_small view.old ≡ true }
+    ensures ok { OnOk result ((is_small (after view.old (message_of lent.now).body) ≡ true) × (view.new ≡ after view.old (message_of lent.now).body)) }
+    ensures told { (id : PeerId) → heads.now ≡ heads_of id view.old.name → OnOk result (out.new ≡ out.old ++ lines (events_of id view.old (message_of lent.now).body)) }
     ensures kept { OnErr result (view.new ≡ view.old) }
     ensures refused { IfErr result (λ e. e ≢ RunFault.OutOfMemory →
-        (is_small (after view.old body.now) ≡ false) × (e ≡ RunFault.Limit) × (out.new ≡ out.old)) }
+        (is_small (after view.old (message_of lent.now).body) ≡ false) × (e ≡ RunFault.Limit) × (out.new ≡ out.old)) }
 {
-    match body {
-        Body::Join { group, status } => tell_join(alloc, view, group, *status, heads, out),
-        Body::Leave { group, status } => tell_leave(view, group, *status, heads, out),
-        Body::Whisper { content } => Ok(push_whisper(out, heads, content)?),
-        Body::Shout { group, content } => Ok(push_shout(out, heads, group, content)?),
-        Body::Ping | Body::PingOk => Ok(()),
-        Body::Other { .. } => Ok(()),
-        Body::Hello { .. } => Ok(()),
+    match lent.command {
+        Command::Join { group, status } => tell_join(alloc, view, group, status, heads, out),
+        Command::Leave { group, status } => tell_leave(view, group, status, heads, out),
+        Command::Whisper => Ok(push_whisper(out, heads, lent.content)?),
+        Command::Shout { group } => Ok(push_shout(out, heads, group, lent.content)?),
+        Command::Ping | Command::PingOk => Ok(()),
+        Command::Other { .. } => Ok(()),
     }
 }

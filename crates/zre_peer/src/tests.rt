@@ -78,12 +78,16 @@ const ROWS: [Row; 7] = [
     },
 ];
 
-fn message_of(alloc: Global, frames: &[Frame]) -> Result<Message, OutOfMemory> {
+fn list_of(alloc: Global, frames: &[Frame]) -> Result<Frames, OutOfMemory> {
     let mut list = Frames::new(alloc);
     for frame in frames {
         list.push(Octets::copy(alloc, frame)?)?;
     }
-    match Message::read(alloc, &list) {
+    Ok(list)
+}
+
+fn message_of(alloc: Global, frames: &[Frame]) -> Result<Message, OutOfMemory> {
+    match Message::read(alloc, &list_of(alloc, frames)?) {
         Ok(message) => Ok(message),
         Err(_) => Err(OutOfMemory),
     }
@@ -112,7 +116,7 @@ fn take_events(
     Ok(None)
 }
 
-// The same, with the lines as the run writes them itself.
+// The same, with the lines as the run writes them itself, and messages behind HELLO as they lie in their frames.
 fn take_lines(
     alloc: Global,
     run: &mut Teller,
@@ -123,7 +127,12 @@ fn take_lines(
         if run.spent() {
             return Err(OutOfMemory);
         }
-        if let Err(fault) = run.take(message_of(alloc, frames)?, text) {
+        let list = list_of(alloc, frames)?;
+        let taken = match Message::see(&list) {
+            Ok(Some(lent)) if run.is_behind() => run.take_lent(&lent, text),
+            _ => run.take(message_of(alloc, frames)?, text),
+        };
+        if let Err(fault) = taken {
             return Ok(Some(fault));
         }
     }

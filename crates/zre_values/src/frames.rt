@@ -8,11 +8,11 @@ use smallvec::SmallVec;
 use std::alloc::Global;
 use std::marker::Model;
 
-/// A list of frames, or of other lists of octets: the parts of a message, the groups of a peer. One alone lies in the
-/// value itself.
+/// A list of frames, or of other lists of octets: the parts of a message, the groups of a peer. Up to two lie in
+/// the value itself, as the frames of most messages are.
 #[derive(Debug, Drop)]
 pub struct Frames {
-    items: SmallVec<Octets, 1>,
+    items: SmallVec<Octets, 2>,
 }
 
 impl Model for Frames {
@@ -35,9 +35,9 @@ impl Frames {
     pub fn of(alloc: Global, frame: Octets) -> Self
         ensures { result ≡ frame ∷ [] }
     {
-        Frames {
-            items: SmallVec::from_buf(alloc, [frame]),
-        }
+        let mut items = SmallVec::new(alloc);
+        items.push_reserved(frame);
+        Frames { items }
     }
 
     pub fn len(&self) -> usize

@@ -6,10 +6,10 @@ use std::alloc::Global;
 use std::default::MadeWith;
 use std::marker::Model;
 
-/// As many octets as most names, groups and first frames have.
-const INLINE: usize = 24;
+/// As many octets as most names, groups, first frames and short contents have.
+const INLINE: usize = 32;
 
-/// A list of octets that owns its memory: a name, a group, a frame, or a text that grows. Up to 24 octets lie in the
+/// A list of octets that owns its memory: a name, a group, a frame, or a text that grows. Up to 32 octets lie in the
 /// value itself, and take none.
 #[derive(Debug, Drop)]
 pub struct Octets {

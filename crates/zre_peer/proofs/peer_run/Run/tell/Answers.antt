@@ -1,5 +1,6 @@
 use Rattle.std.proofs.Common.{◌≡◌, ◌++◌, ◌%◌, [], Some, sym, ap, ◌∙◌}
 use Rattle.std.proofs.lemmas.List.{length_push}
+use Rattle.zre_msg.specs.Lent.{message_of}
 use Rattle.zre_peer.specs.Lines.{lines}
 use Rattle.zre_peer.specs.Runs.{events_of, shown}
 use Rattle.zre_peer.proofs.Standing.{follows_later, fault_later, in_order-push, count_more, view_before, shown_after}
@@ -7,7 +8,7 @@ use Rattle.zre_peer.proofs.peer_run.Run.tell.Goals as goal
 
 pub returns-in-Ok-clause-ok : goal.returns-in-Ok-clause-ok
 returns-in-Ok-clause-ok c = λ ms s.
-    let m = c.args.message.now in
+    let m = message_of c.args.lent.now in
     let v = c.in-Some.view in
     let e : Some v ≡ shown ms = sym c.in-Some.is ∙ s.view in
     let number = c.due-next.ensures ∙ count_more c.args.self.now.count ms s.count in
@@ -24,7 +25,7 @@ returns-in-Ok-clause-ok c = λ ms s.
 
 pub returns-in-Err-clause-refused : goal.returns-in-Err-clause-refused
 returns-in-Err-clause-refused c = λ ms s ne.
-    let m = c.args.message.now in
+    let m = message_of c.args.lent.now in
     let v = c.in-Some.view in
     let e : Some v ≡ shown ms = sym c.in-Some.is ∙ s.view in
     let number = c.due-next.ensures ∙ count_more c.args.self.now.count ms s.count in

@@ -6,12 +6,12 @@ use Rattle.zre_msg.specs.declared.message.Message.{Message}
 use Rattle.zre_follow.proofs.Steps.{took_none, took_by}
 use Rattle.zre_follow.specs.Taken.{Took}
 use Rattle.zre_peer.specs.Standing.{id_of}
-use Rattle.zre_follow.proofs.taking.take_frames.Goals as goal
+use Rattle.zre_follow.proofs.taking.take_whole.Goals as goal
 
 pub returns-in-Ok-clause-took : goal.returns-in-Ok-clause-took
 returns-in-Ok-clause-took c = λ ms s.
-    let P : List Message → _ = λ ns. OnOk c.take_first.result (Took (id_of c.args.run.now) ms ns c.take_first.new.run c.args.out.now c.take_first.new.out) in
-    subst P (sym (ap (λ r. cons_option (result_ok r) []) c.in-Ok.ensures.exact)) (took_by _ ms c.in-Ok.message c.take_first.result c.take_first.new.run c.args.out.now c.take_first.new.out (c.take_first.ensures.took ms s) c.take_first.ensures.spent)
+    let P : List Message → _ = λ ns. OnOk c.take_message.result (Took (id_of c.args.run.now) ms ns c.take_message.new.run c.args.out.now c.take_message.new.out) in
+    subst P (sym (ap (λ r. cons_option (result_ok r) []) c.in-Ok.ensures.exact)) (took_by _ ms c.in-Ok.message c.take_message.result c.take_message.new.run c.args.out.now c.take_message.new.out (c.take_message.ensures.took ms s) c.take_message.ensures.spent)
 
 pub returns-in-Err-Bad-clause-took : goal.returns-in-Err-Bad-clause-took
 returns-in-Err-Bad-clause-took c = λ ms s.
