@@ -1,3 +1,4 @@
+pub mod Asking
 pub mod Birth
 pub mod Coming
 pub mod Copying

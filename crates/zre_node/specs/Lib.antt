@@ -1,3 +1,4 @@
+pub mod Asked
 pub mod Covered
 pub mod First
 pub mod Journal

@@ -2,6 +2,7 @@
 //! and no thread; what the journal means stands in `zre_journal`.
 #![tactic(auto)]
 
+mod accessors;
 mod arrivals;
 mod births;
 mod connection;
@@ -10,6 +11,7 @@ mod effects;
 mod ends;
 mod first;
 mod hearing;
+mod ids;
 mod node;
 mod offers;
 mod peer;
@@ -20,4 +22,5 @@ mod stops;
 mod tables;
 
 pub use effects::Step;
+pub use ids::Ids;
 pub use node::Node;
