@@ -19,3 +19,4 @@ pub mod Starting
 pub mod Stepping
 pub mod Stopping
 pub mod Taking
+pub mod Ticking

@@ -6,3 +6,4 @@ pub mod Offers
 pub mod Said
 pub mod Stands
 pub mod Tabled
+pub mod Ticks

@@ -20,6 +20,7 @@ mod runs;
 mod steps;
 mod stops;
 mod tables;
+mod ticks;
 
 pub use effects::Step;
 pub use ids::Ids;
