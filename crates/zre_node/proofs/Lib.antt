@@ -1,5 +1,7 @@
 pub mod Birth
+pub mod Broadcasting
 pub mod Coming
+pub mod Commanding
 pub mod Copying
 pub mod Counting
 pub mod Datagram
@@ -8,6 +10,7 @@ pub mod Entries
 pub mod Many
 pub mod Faulting
 pub mod Hearings
+pub mod Linking
 pub mod Naming
 pub mod Offering
 pub mod Opening

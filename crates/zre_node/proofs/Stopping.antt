@@ -37,7 +37,7 @@ map-same (x ∷ xs) = ap (λ ys. x ∷ ys) (map-same xs)
 abbrev pub link_list : List Life → List ℕ
 link_list vs = map (λ (v : Life). v.link) vs
 
-each_found : (vs : List Life) → AllByRecursion (λ (v : Life). IsSome (find (λ (u : Life). eqb v.link u.link) vs)) vs
+pub each_found : (vs : List Life) → AllByRecursion (λ (v : Life). IsSome (find (λ (u : Life). eqb v.link u.link) vs)) vs
 each_found [] = tt
 each_found (v ∷ vs) = (
   let me : eqb v.link v.link ≡ true = eq-eqb v.link v.link refl in rw me refl,
@@ -53,7 +53,7 @@ apart_links : (l : ℕ) (vs : List Life) → AllByRecursion (λ (v : Life). eqb 
 apart_links l [] h = tt
 apart_links l (v ∷ vs) h = (h.0, apart_links l vs h.1)
 
-known_from : (H : List Mark) (vs : List Life) → Apart (λ (v : Life). v.link) vs → AllByRecursion (λ (v : Life). IsSome (life v.link H)) vs → AreKnown H (link_list vs)
+pub known_from : (H : List Mark) (vs : List Life) → Apart (λ (v : Life). v.link) vs → AllByRecursion (λ (v : Life). IsSome (life v.link H)) vs → AreKnown H (link_list vs)
 known_from H [] a h = tt
 known_from H (v ∷ vs) a h = (h.0, apart_links v.link vs a.0, known_from H vs a.1 h.1)
 

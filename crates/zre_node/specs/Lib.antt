@@ -1,6 +1,8 @@
 pub mod Covered
 pub mod First
+pub mod Groups
 pub mod Journal
+pub mod Links
 pub mod Offers
 pub mod Said
 pub mod Stands

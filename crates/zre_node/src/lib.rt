@@ -4,12 +4,15 @@
 
 mod arrivals;
 mod births;
+mod broadcasts;
+mod commands;
 mod connection;
 mod connections;
 mod effects;
 mod ends;
 mod first;
 mod hearing;
+mod links;
 mod node;
 mod offers;
 mod peer;
