@@ -1,32 +1,41 @@
 -- Commands: which marks they leave, and the node's own groups.
-use Rattle.std.proofs.Common.{◌≡◌, ℕ, ◌+◌, ◌%◌, ◌<◌, ◌≤◌, Bool, true, false, cond, not, ◌||◌, ltb, leb, filter, List, [], ◌∷◌, ◌++◌, length, Option, Some, None, refl, sym, ap, ◌∙◌, subst, arith, lt-ltb, le-ltb, append-nil}
+use Rattle.std.proofs.Common.{◌≡◌, ℕ, ◌+◌, ◌%◌, ◌<◌, ◌≤◌, Bool, true, false, cond, IsTrue, not, ◌||◌, ltb, leb, filter, List, [], ◌∷◌, ◌++◌, length, Option, Some, None, is_some, nat_cmp, refl, sym, ap, ◌∙◌, subst, arith, lt-ltb, le-ltb, append-nil}
 use Rattle.std.specs.List.{AllByRecursion, list_any}
+use Rattle.std.specs.BTreeMap.{is_at}
+use Rattle.std.specs.Map.{lookup}
 use Rattle.std.specs.Str.{bytes_eq}
 use Rattle.std.proofs.lemmas.Bool.{le-leb, lt-leb}
 use Rattle.std.proofs.lemmas.Slice.Eq.{bytes_eq-Decides}
 use Rattle.zre_values.specs.declared.limits.TheConstants.{OWN_GROUPS}
 use Rattle.zre_values.specs.declared.peer_id.PeerId.{PeerId}
 use Rattle.zre_values.specs.Lists.{without}
-use Rattle.zre_group.specs.Own.{OwnGroups, with_joined, with_left}
+use Rattle.zre_group.specs.Own.{OwnGroups, is_joined, next_status, with_joined, with_left}
 use Rattle.zre_msg.specs.declared.message.Body.{Body}
+use Rattle.zre_msg.specs.declared.message.Message.{Message}
 use Rattle.zre_msg.specs.declared.message.Body.TheVariants as body
 use Rattle.zre_outside.specs.declared.entry.Command.{Command}
-use Rattle.zre_outside.specs.declared.entry.Command.TheVariants as command
+use Rattle.zre_outside.specs.declared.entry.Entry.{Entry}
 use Rattle.zre_outside.specs.declared.entry.Input.TheVariants as input
 use Rattle.zre_peer.specs.declared.causes.RefuseWhy.{RefuseWhy}
 use Rattle.zre_peer.specs.declared.causes.RefuseWhy.TheVariants as refuse
 use Rattle.zre_journal.specs.declared.config.Config.{Config}
 use Rattle.zre_journal.specs.Chronicle.{Mark, Joins, Leaves, Refuses, after}
-use Rattle.zre_journal.specs.Peers.{Life, lives, is_entered}
+use Rattle.zre_journal.specs.Done.{names}
+use Rattle.zre_journal.specs.Peers.{Life, lives, life, life_of, runner, counted, is_entered}
 use Rattle.zre_journal.specs.Links.{groups, status}
 use Rattle.zre_journal.specs.Happens.{has_group, is_member, is_too_big, push, push_all, at_join, at_leave, at_whisper, at_shout}
 use Rattle.zre_journal.proofs.Kept.{Joins-proper, Leaves-proper, Refuses-proper}
 use Rattle.zre_journal.proofs.Listed.{All-append}
+use Rattle.zre_node.specs.declared.peer.Peer.{Peer}
+use Rattle.zre_node.specs.declared.peer.Running.{Running}
 use Rattle.zre_node.specs.declared.tables.Tables.{Tables}
 use Rattle.zre_node.specs.declared.effects.Effects.{Effects}
-use Rattle.zre_node.specs.Stands.{Holds, Did}
+use Rattle.zre_node.specs.Stands.{Holds, Did, HasRun, IsPeer, link_among, is_quiet}
 use Rattle.zre_node.proofs.Broadcasting.{pushed_behind}
+use Rattle.zre_node.proofs.Datagram.{link_found, its_life, no_life}
 use Rattle.zre_node.proofs.Many.{did_as, did_then, silent_did}
+use Rattle.zre_node.proofs.Parting.{its_row, no_row}
+use Rattle.zre_node.proofs.Starting.{its_own_life}
 
 -- ---- a refusal
 
@@ -96,6 +105,37 @@ module _ (g : Config) (K : List Mark) (t : Tables) (h : Holds g K t) (group : Li
     peers = h.peers;
   }
 
+-- a test that can't be passed
+unpassed : (b : Bool) → (IsTrue b → ⊥) → b ≡ false
+unpassed true n = absurd (n refl)
+unpassed false n = refl
+
+passed : (b : Bool) → (b ≡ false → ⊥) → b ≡ true
+passed true n = refl
+passed false n = absurd (n refl)
+
+-- what the node's own groups said of a group that was joined, or left
+module _ (g : Config) (K : List Mark) (t : Tables) (h : Holds g K t) (group o : List ℕ) (is : o ≡ group) where
+  pub same_test : is_joined t.own o ≡ has_group group (groups K)
+  same_test = ap (λ (w : OwnGroups). is_joined w o) h.keeps.own ∙ ap (λ (x : List ℕ). has_group x (groups K)) is
+
+  pub next_is : next_status t.own ≡ (status K + 1) % 256
+  next_is = ap next_status h.keeps.own
+
+  -- it was none of them, and there was room
+  pub had_room : (IsTrue (is_joined t.own o) → ⊥) → (is_joined t.own o ≡ false → length t.own.groups ≡ OWN_GROUPS → ⊥) → length t.own.groups ≤ OWN_GROUPS → (has_group group (groups K) ≡ false) × (length (groups K) < OWN_GROUPS)
+  had_room other free within =
+      let new = unpassed (is_joined t.own o) other in
+      let count : length t.own.groups ≡ length (groups K) = ap (λ (w : OwnGroups). length w.groups) h.keeps.own in
+      (sym same_test ∙ new, subst (λ (n : ℕ). n < OWN_GROUPS) count (below (length t.own.groups) within (free new)))
+    where
+      below : (n : ℕ) → n ≤ OWN_GROUPS → (n ≡ OWN_GROUPS → ⊥) → n < OWN_GROUPS
+      below n low other_ = omega (arith, low, other_)
+
+  -- it was one of them
+  pub had_group : (is_joined t.own o ≡ false → ⊥) → has_group group (groups K) ≡ true
+  had_group other = sym same_test ∙ passed (is_joined t.own o) other
+
 -- no group with a long name is joined
 pub not_joined : (group : List ℕ) (gs : List (List ℕ)) → 255 < length group → AllByRecursion (λ x. length x ≤ 255) gs → has_group group gs ≡ false
 not_joined group [] long a = refl
@@ -119,6 +159,40 @@ joins_tell g K group b m n a s held second =
 pub leaves_tell : (g : Config) (K : List Mark) (group : List ℕ) (b : Body) (m n : Tables) (a s : Effects) → Holds g (Leaves group ∷ K) m → Did g (push_all g (lives (Leaves group ∷ K)) b (Leaves group ∷ K)) (Leaves group ∷ K) n a s → Did g (Leaves group ∷ push_all g (lives K) b K) K n a s
 leaves_tell g K group b m n a s held second =
     told_all g K (Leaves group) b m n a s (silent_did g (Leaves group) K m a held refl refl (λ l. refl)) refl (pushed_behind g (lives K) b (Leaves group) K (λ l. (refl, refl))) second
+
+-- ---- the known peer with an id, by its row
+
+runs_some : (o : Option ℕ) (id : PeerId) (ms : List Message) (r : Option Running) → HasRun o id ms r → is_some o ≡ is_some r
+runs_some None id ms r h = rw h refl
+runs_some (Some c) id ms r h = rw h.1 refl
+
+module _ (g : Config) (K : List Mark) (t : Tables) (h : Holds g K t) (p : PeerId) where
+  pub unknown : None ≡ link_among p t.peers.entries → (v : Life) → life_of p K ≡ Some v → is_entered K v ≡ false
+  unknown n v e = let z : None ≡ Some v = sym (no_life (life_of p K) (n ∙ link_found g K t p h)) ∙ e in absurd cc
+
+  module _ (l : ℕ) (found : Some l ≡ link_among p t.peers.entries) where
+    its : (v : Life) × (life_of p K ≡ Some v) × (v.link ≡ l)
+    its = its_life (life_of p K) l (found ∙ link_found g K t p h)
+
+    here : life l K ≡ Some its.0
+    here = ap (λ (j : ℕ). life j K) (sym its.2) ∙ (its_own_life K h.keeps.proper p its.0 its.1).0
+
+    -- a known peer has a row
+    pub has_row : {C : Type 0} → None ≡ lookup (is_at (nat_cmp l)) t.peers.entries → C
+    has_row n = let z : None ≡ Some its.0 = sym (no_row (IsPeer g K) K t.peers.entries h.peers l n) ∙ here in absurd cc
+
+    pub entered_by : (k : Peer) → Some k ≡ lookup (is_at (nat_cmp l)) t.peers.entries → (v : Life) × (life_of p K ≡ Some v) × (is_entered K v ≡ is_some k.run) × (v.link ≡ l)
+    entered_by k was =
+        let r = its_row (IsPeer g K) K t.peers.entries h.peers l k was in
+        let same : r.0 ≡ its.0 = (let z : Some r.0 ≡ Some its.0 = sym r.1 ∙ here in cc) in
+        let row : IsPeer g K its.0 k = subst (λ u. IsPeer g K u k) same r.2 in
+        (its.0, its.1, runs_some (runner its.0.link K) its.0.id (counted its.0.link K) k.run row.run_is, its.2)
+
+    pub not_entered : (k : Peer) → Some k ≡ lookup (is_at (nat_cmp l)) t.peers.entries → is_some k.run ≡ false → (v : Life) → life_of p K ≡ Some v → is_entered K v ≡ false
+    not_entered k was none v e =
+        let r = entered_by k was in
+        let same : r.0 ≡ v = (let z : Some r.0 ≡ Some v = sym r.1 ∙ e in cc) in
+        subst (λ u. is_entered K u ≡ false) same (r.2 ∙ none)
 
 -- ---- which marks a command leaves, by what the code tests
 
@@ -161,3 +235,7 @@ module _ (g : Config) (K : List Mark) (group : List ℕ) (content : List (List �
 
   pub shouts : length group ≤ 255 → is_too_big g (body.Shout group content) ≡ false → at_shout g group content K ≡ push_all g (filter (is_member g group K) (lives K)) (body.Shout group content) K
   shouts short big = let e : ltb 255 (length group) ≡ false = le-ltb 255 (length group) short in rw (e, big) refl
+
+-- an entry with a command names no link, and brings no octets
+pub command_quiet : (e : Entry) (c : Command) → e.input ≡ input.Do c → ((l : ℕ) → names l e.input ≡ false) × (is_quiet e.input ≡ true)
+command_quiet e c is = (λ l. rw is refl, rw is refl)

@@ -71,10 +71,13 @@ impl Tables {
         let Some(link) = link_of(&self.peers, id) else {
             return None;
         };
-        match self.peers.get(&link) {
-            Some(peer) if peer.run.is_some() => Some(link),
-            _ => None,
+        let Some(peer) = self.peers.get(&link) else {
+            return None;
+        };
+        if peer.run.is_none() {
+            return None;
         }
+        Some(link)
     }
 
     // Content is sent to one peer.
