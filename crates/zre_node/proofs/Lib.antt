@@ -1,3 +1,4 @@
+pub mod Asking
 pub mod Birth
 pub mod Broadcasting
 pub mod Coming
@@ -21,3 +22,4 @@ pub mod Starting
 pub mod Stepping
 pub mod Stopping
 pub mod Taking
+pub mod Ticking

@@ -1,3 +1,4 @@
+pub mod Asked
 pub mod Covered
 pub mod First
 pub mod Groups
@@ -7,3 +8,4 @@ pub mod Offers
 pub mod Said
 pub mod Stands
 pub mod Tabled
+pub mod Ticks

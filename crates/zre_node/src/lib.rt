@@ -2,6 +2,7 @@
 //! and no thread; what the journal means stands in `zre_journal`.
 #![tactic(auto)]
 
+mod accessors;
 mod arrivals;
 mod births;
 mod broadcasts;
@@ -12,6 +13,7 @@ mod effects;
 mod ends;
 mod first;
 mod hearing;
+mod ids;
 mod links;
 mod node;
 mod offers;
@@ -21,6 +23,8 @@ mod runs;
 mod steps;
 mod stops;
 mod tables;
+mod ticks;
 
 pub use effects::Step;
+pub use ids::Ids;
 pub use node::Node;
