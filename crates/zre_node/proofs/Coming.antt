@@ -46,7 +46,7 @@ module _ (g : Config) (H : List Mark) (t : Tables) (h : Holds g H t) (e : Entry)
       by true = rw p (sym (append-nil (bytes c H)))
       by false = sym (append-nil (bytes c H))
 
-  no_replies : (l : ℕ) → reply_of l e.input ≡ [] → replies l H ≡ replies l (Comes e ∷ H)
+  pub no_replies : (l : ℕ) → reply_of l e.input ≡ [] → replies l H ≡ replies l (Comes e ∷ H)
   no_replies l p = by (is_linked l H)
     where
       by : (b : Bool) → replies l H ≡ replies l H ++ (if b then reply_of l e.input else [])

@@ -5,6 +5,8 @@
 mod accessors;
 mod arrivals;
 mod births;
+mod broadcasts;
+mod commands;
 mod connection;
 mod connections;
 mod effects;
@@ -12,6 +14,7 @@ mod ends;
 mod first;
 mod hearing;
 mod ids;
+mod links;
 mod node;
 mod offers;
 mod peer;
