@@ -9,7 +9,6 @@ ghost use Rattle.zre_journal.specs.Happens.{has_stopped};
 ghost use Rattle.zre_journal.specs.Peers.{lives};
 ghost use Rattle.zre_journal.specs.Chronicle.{Mark};
 ghost use Rattle.zre_node.specs.Stands.{Holds};
-ghost use Rattle.zre_node.specs.Covered.{is_covered};
 ghost use Rattle.zre_node.specs.Journal.{StandsFor, Steps, Took};
 
 use crate::effects::{Effects, Step};
@@ -56,7 +55,6 @@ impl Node {
     /// One entry of the journal: what it tells, and what it asks of the outside. After a stop nothing has an effect.
     /// After want of memory the node is left open.
     pub fn step(&mut self, entry: Entry) -> Result<Step, OutOfMemory>
-        requires { is_covered entry.input ≡ true }
         ensures { (g : ConfigValue) (J : List EntryValue) → StandsFor g J self.old →
             IfOk result (λ s. Steps g J entry self.new s) }
     {
@@ -70,7 +68,6 @@ impl Node {
 
     // What an entry brings to a node that hasn't stopped.
     fn take(&mut self, out: &mut Effects, entry: Entry) -> Result<(), OutOfMemory>
-        requires { is_covered entry.input ≡ true }
         ensures { (g : ConfigValue) (H : List Mark) → out.old.pushed ≡ [] → Holds g H self.old.tables →
             OnOk result (Took g entry H self.new.tables out.old out.new) }
     {
@@ -79,6 +76,12 @@ impl Node {
             Input::Piece { conn, bytes } => self.tables.take_piece(out, at, conn, bytes.as_slice()),
             Input::Do(Command::Quit) => self.tables.take_stop(out, at),
             Input::End => self.tables.take_stop(out, at),
+            Input::Tick => self.tables.take_tick(out, at),
+            Input::Linked { .. } => Err(OutOfMemory),
+            Input::Reply { .. } => Err(OutOfMemory),
+            Input::Unlinked { .. } => Err(OutOfMemory),
+            Input::Took { .. } => Err(OutOfMemory),
+            Input::Do(_) => Err(OutOfMemory),
             other => self.tables.take_incoming(out, at, other),
         }
     }
