@@ -74,7 +74,7 @@ impl Tables {
         let Some(peer) = self.peers.get(&link) else {
             return None;
         };
-        if peer.run.is_none() {
+        if !peer.is_entered() {
             return None;
         }
         Some(link)
