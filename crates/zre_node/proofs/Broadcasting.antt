@@ -1,17 +1,15 @@
 -- A body put on several links, one after the other.
-use Rattle.std.proofs.Common.{◌≡◌, ℕ, ◌+◌, ◌-◌, ◌<◌, ◌≤◌, zero, suc, Bool, true, false, cond, ◌&&◌, eqb, ltb, if◌then◌else◌, List, [], ◌∷◌, ◌++◌, map, filter, take, length, get_or, Option, Some, None, IsSome, is_some, find, refl, sym, ap, ◌∙◌, subst, arith}
-use Rattle.std.proofs.lemmas.List.{take_more, take_all}
+use Rattle.std.proofs.Common.{◌≡◌, ℕ, ◌+◌, ◌<◌, zero, suc, Bool, true, false, ◌&&◌, eqb, ltb, if◌then◌else◌, List, [], ◌∷◌, ◌++◌, map, filter, take, length, get_or, Option, Some, None, IsSome, is_some, refl, sym, ap, ◌∙◌, subst, arith}
 use Rattle.std.specs.List.{AllByRecursion}
 use Rattle.zre_msg.specs.declared.message.Body.{Body}
 use Rattle.zre_msg.specs.declared.message.Message.{Message}
 use Rattle.zre_values.specs.declared.peer_id.PeerId.{PeerId}
 use Rattle.zre_peer.specs.declared.causes.Cause.TheVariants as cause
 use Rattle.zre_peer.specs.Runs.{shown}
-use Rattle.zre_peer.specs.Standing.{view_in}
 use Rattle.zre_peer.specs.Views.{view_of}
-use Rattle.zre_link.specs.Text.{text_of, size_of}
+use Rattle.zre_link.specs.Text.{size_of}
 use Rattle.zre_journal.specs.declared.config.Config.{Config}
-use Rattle.zre_journal.specs.Chronicle.{Mark, Puts, Ends, Takes, after, followed, in_turn}
+use Rattle.zre_journal.specs.Chronicle.{Mark, Puts, Ends, after, followed, in_turn}
 use Rattle.zre_journal.specs.Peers.{Life, lives, life, runner, counted}
 use Rattle.zre_journal.specs.Links.{bodies, put_on, taken, unsent}
 use Rattle.zre_journal.specs.Happens.{has_group, is_member, push, push_all}
@@ -19,12 +17,10 @@ use Rattle.zre_journal.proofs.Joined.{after-append}
 use Rattle.zre_journal.proofs.Known.{each_known}
 use Rattle.zre_journal.proofs.Listed.{All-kept, Apart-kept}
 use Rattle.zre_node.specs.declared.peer.Peer.{Peer}
-use Rattle.zre_node.specs.declared.peer.Running.{Running}
 use Rattle.zre_node.specs.declared.tables.Tables.{Tables}
-use Rattle.zre_node.specs.declared.effects.Effects.{Effects}
 use Rattle.zre_node.specs.Groups.{lists_group, row_in}
 use Rattle.zre_node.specs.Ticks.{numbers_of}
-use Rattle.zre_node.specs.Stands.{Holds, Did, AreKnown, HasRun, IsPeer}
+use Rattle.zre_node.specs.Stands.{Holds, AreKnown, HasRun, IsPeer}
 use Rattle.zre_node.proofs.Many.{still_known}
 use Rattle.zre_node.proofs.Pushing.{Alike, alike_after, same_push}
 use Rattle.zre_node.proofs.Stopping.{link_list, known_from}

@@ -1,6 +1,6 @@
 -- Commands: which marks they leave, and the node's own groups.
-use Rattle.std.proofs.Common.{◌≡◌, ℕ, ◌+◌, ◌%◌, ◌<◌, ◌≤◌, Bool, true, false, cond, IsTrue, not, ◌||◌, ltb, leb, filter, List, [], ◌∷◌, ◌++◌, length, Option, Some, None, is_some, nat_cmp, refl, sym, ap, ◌∙◌, subst, arith, lt-ltb, le-ltb, append-nil}
-use Rattle.std.specs.List.{AllByRecursion, list_any}
+use Rattle.std.proofs.Common.{◌≡◌, ℕ, ◌+◌, ◌%◌, ◌<◌, ◌≤◌, Bool, true, false, cond, IsTrue, ◌||◌, ltb, leb, filter, List, [], ◌∷◌, length, Option, Some, None, is_some, nat_cmp, refl, sym, ap, ◌∙◌, subst, arith, lt-ltb, le-ltb}
+use Rattle.std.specs.List.{AllByRecursion}
 use Rattle.std.specs.BTreeMap.{is_at}
 use Rattle.std.specs.Map.{lookup}
 use Rattle.std.specs.Str.{bytes_eq}
@@ -11,7 +11,6 @@ use Rattle.zre_values.specs.declared.peer_id.PeerId.{PeerId}
 use Rattle.zre_values.specs.Lists.{without}
 use Rattle.zre_group.specs.Own.{OwnGroups, is_joined, next_status, with_joined, with_left}
 use Rattle.zre_msg.specs.declared.message.Body.{Body}
-use Rattle.zre_msg.specs.declared.message.Message.{Message}
 use Rattle.zre_msg.specs.declared.message.Body.TheVariants as body
 use Rattle.zre_outside.specs.declared.entry.Command.{Command}
 use Rattle.zre_outside.specs.declared.entry.Entry.{Entry}
@@ -19,7 +18,7 @@ use Rattle.zre_outside.specs.declared.entry.Input.TheVariants as input
 use Rattle.zre_peer.specs.declared.causes.RefuseWhy.{RefuseWhy}
 use Rattle.zre_peer.specs.declared.causes.RefuseWhy.TheVariants as refuse
 use Rattle.zre_journal.specs.declared.config.Config.{Config}
-use Rattle.zre_journal.specs.Chronicle.{Mark, Joins, Leaves, Refuses, after}
+use Rattle.zre_journal.specs.Chronicle.{Mark, Joins, Leaves, Refuses}
 use Rattle.zre_journal.specs.Done.{names}
 use Rattle.zre_journal.specs.Peers.{Life, lives, life, life_of, runner, counted, is_entered}
 use Rattle.zre_journal.specs.Links.{groups, status}
@@ -27,10 +26,9 @@ use Rattle.zre_journal.specs.Happens.{has_group, is_member, is_too_big, push, pu
 use Rattle.zre_journal.proofs.Kept.{Joins-proper, Leaves-proper, Refuses-proper}
 use Rattle.zre_journal.proofs.Listed.{All-append}
 use Rattle.zre_node.specs.declared.peer.Peer.{Peer}
-use Rattle.zre_node.specs.declared.peer.Running.{Running}
 use Rattle.zre_node.specs.declared.tables.Tables.{Tables}
 use Rattle.zre_node.specs.declared.effects.Effects.{Effects}
-use Rattle.zre_node.specs.Stands.{Holds, Did, HasRun, IsPeer, link_among, is_quiet}
+use Rattle.zre_node.specs.Stands.{Holds, Did, IsPeer, link_among, is_quiet}
 use Rattle.zre_node.proofs.Broadcasting.{pushed_behind}
 use Rattle.zre_node.proofs.Datagram.{link_found, its_life, no_life}
 use Rattle.zre_node.proofs.Many.{did_as, did_then, silent_did}

@@ -1,16 +1,16 @@
 -- A body put on a link, at the tables.
-use Rattle.std.proofs.Common.{◌≡◌, ℕ, ◌+◌, ◌-◌, ◌<◌, ◌≤◌, Bool, true, false, cond, ◌||◌, eqb, ltb, if◌then◌else◌, List, [], ◌∷◌, ◌++◌, length, Option, Some, None, IsSome, find, refl, sym, ap, ◌∙◌, nat_cmp, subst, arith, eq-eqb, eqb-true, lt-ltb, le-ltb, append-nil}
+use Rattle.std.proofs.Common.{◌≡◌, ℕ, ◌+◌, ◌-◌, ◌<◌, ◌≤◌, true, false, eqb, ltb, if◌then◌else◌, List, [], ◌∷◌, ◌++◌, length, Some, refl, sym, ap, ◌∙◌, nat_cmp, subst, eq-eqb, eqb-true, lt-ltb, le-ltb, append-nil}
 use Rattle.std.specs.List.{list_any}
 use Rattle.std.specs.BTreeMap.{BTreeMap, is_at}
 use Rattle.std.specs.Map.{lookup, set_value}
 use Rattle.std.proofs.lemmas.List.Folds.{list_any-append}
 use Rattle.zre_msg.specs.declared.message.Body.{Body}
 use Rattle.zre_peer.specs.declared.causes.Cause.TheVariants as cause
-use Rattle.zre_link.specs.Link.{Sending, link_after, unsent_of}
+use Rattle.zre_link.specs.Link.{Sending, link_after}
 use Rattle.zre_link.specs.Text.{text_of, size_of}
 use Rattle.zre_journal.specs.declared.config.Config.{Config}
 use Rattle.zre_journal.specs.Chronicle.{Mark, Puts, Takes, Ends, after, followed}
-use Rattle.zre_journal.specs.Peers.{Life, lives, life, births}
+use Rattle.zre_journal.specs.Peers.{Life, lives, life}
 use Rattle.zre_journal.specs.Links.{bodies, put_on, is_linked, replies, taken, unsent}
 use Rattle.zre_journal.specs.Happens.{push}
 use Rattle.zre_journal.proofs.Kept.{known_lives, Puts-proper}
@@ -19,7 +19,7 @@ use Rattle.zre_node.specs.declared.peer.Peer.{Peer}
 use Rattle.zre_node.specs.declared.tables.Tables.{Tables}
 use Rattle.zre_node.specs.declared.effects.Effects.{Effects}
 use Rattle.zre_node.specs.Tabled.{Tabled}
-use Rattle.zre_node.specs.Stands.{Holds, Keeps, Did, IsPeer, link_of_life}
+use Rattle.zre_node.specs.Stands.{Holds, Did, IsPeer, link_of_life}
 use Rattle.zre_node.proofs.Entries.{changed}
 use Rattle.zre_node.proofs.Parting.{its_row, keeps_with}
 

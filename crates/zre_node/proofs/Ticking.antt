@@ -1,13 +1,13 @@
 -- A tick, at the tables.
-use Rattle.std.proofs.Common.{◌≡◌, ℕ, ◌+◌, ◌-◌, ◌<◌, ◌≤◌, zero, suc, Bool, true, false, cond, not, ◌||◌, ◌&&◌, eqb, ltb, leb, List, [], ◌∷◌, ◌++◌, map, filter, take, length, get_or, Option, Some, None, IsSome, is_some, is_none, refl, sym, ap, ◌∙◌, arith, nat_cmp, append_assoc, append-nil, eqb-true, subst}
+use Rattle.std.proofs.Common.{◌≡◌, ℕ, ◌+◌, ◌-◌, ◌<◌, zero, suc, Bool, true, false, cond, not, ◌&&◌, eqb, ltb, leb, List, [], ◌∷◌, ◌++◌, map, filter, take, length, get_or, Option, Some, None, IsSome, is_some, is_none, refl, sym, ap, ◌∙◌, arith, nat_cmp, append_assoc, eqb-true, subst}
 use Rattle.std.proofs.lemmas.Bool.{and_parts}
-use Rattle.std.specs.List.{AllByRecursion, list_any}
+use Rattle.std.specs.List.{AllByRecursion}
 use Rattle.std.specs.BTreeMap.{is_at}
 use Rattle.std.specs.Map.{lookup}
 use Rattle.zre_values.specs.declared.peer_id.PeerId.{PeerId}
 use Rattle.zre_msg.specs.declared.message.Body.TheVariants as body
 use Rattle.zre_msg.specs.declared.message.Message.{Message}
-use Rattle.zre_link.specs.Text.{size_of, text_of}
+use Rattle.zre_link.specs.Text.{size_of}
 use Rattle.zre_outside.specs.declared.entry.Entry.{Entry}
 use Rattle.zre_outside.specs.declared.entry.Input.TheVariants as input
 use Rattle.zre_peer.specs.declared.causes.Cause.{Cause}
@@ -18,13 +18,13 @@ use Rattle.zre_peer.specs.declared.event.Event.TheVariants as event
 use Rattle.zre_peer.specs.Runs.{shown}
 use Rattle.zre_peer.specs.Standing.{view_in}
 use Rattle.zre_journal.specs.declared.config.Config.{Config}
-use Rattle.zre_journal.specs.Chronicle.{Mark, Comes, Ends, Closes, Falters, Puts, Calls, after, in_turn, followed}
+use Rattle.zre_journal.specs.Chronicle.{Mark, Ends, Closes, Falters, Puts, Calls, after, in_turn}
 use Rattle.zre_journal.specs.Connections.{open_ones, runs, since}
 use Rattle.zre_journal.specs.Done.{names}
-use Rattle.zre_journal.specs.Happens.{at_input, at_tick, falter, is_silent, is_faltering, is_stale, push}
+use Rattle.zre_journal.specs.Happens.{at_input, at_tick, falter, is_silent, is_faltering, is_stale}
 use Rattle.zre_journal.specs.Heard.{clock}
-use Rattle.zre_journal.specs.Links.{bodies, taken, unsent, put_on}
-use Rattle.zre_journal.specs.Peers.{Life, lives, life, active, runner, counted, is_entered, view}
+use Rattle.zre_journal.specs.Links.{bodies, unsent}
+use Rattle.zre_journal.specs.Peers.{Life, lives, life, runner, counted, is_entered, view}
 use Rattle.zre_journal.specs.Proper.{Apart}
 use Rattle.zre_journal.specs.Told.{told, faltering}
 use Rattle.zre_journal.proofs.Idle.{idle_behind, AreNoStarts, ends_start_none, none_and_none}
@@ -40,7 +40,7 @@ use Rattle.zre_node.specs.declared.tables.Tables.{Tables}
 use Rattle.zre_node.specs.Tabled.{Tabled}
 use Rattle.zre_node.specs.Ticks.{row_silent, row_faltering, row_stale, numbers_of, falters, IsEntered, AreEntered, AreIdle}
 use Rattle.zre_node.specs.Stands.{Holds, Did, HasRun, IsPeer, IsConn, AreKnown, is_quiet}
-use Rattle.zre_node.proofs.Many.{did_as, did_then, one_more_turn}
+use Rattle.zre_node.proofs.Many.{did_as, did_then}
 use Rattle.zre_node.proofs.Opening.{with_conns}
 use Rattle.zre_node.proofs.Parting.{its_row, shows}
 use Rattle.zre_node.proofs.Pushing.{Alike, alike_after}

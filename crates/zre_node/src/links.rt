@@ -122,12 +122,7 @@ impl Tables {
     }
 
     /// A link stands, breaks, or has taken octets.
-    pub fn take_link(
-        &mut self,
-        out: &mut Effects,
-        at: u64,
-        input: Input,
-    ) -> Result<(), OutOfMemory>
+    pub fn take_link(&mut self, out: &mut Effects, at: u64, input: Input) -> Result<(), OutOfMemory>
         ensures { (g : Config) (H : List Mark) (e : EntryValue) → e.at ≡ at → e.input ≡ input → is_about_link input ≡ true →
             out.old.pushed ≡ [] → Holds g H self.old → OnOk result (Took g e H self.new out.old out.new) }
     {

@@ -1,4 +1,4 @@
-use Rattle.std.proofs.Common.{◌≡◌, sym, ◌∙◌}
+use Rattle.std.proofs.Common.{sym, ◌∙◌}
 use Rattle.zre_node.proofs.Commanding.{unknown, has_row, entered_by, not_entered}
 use Rattle.zre_node.proofs.tables.Tables.entered.Goals as goal
 

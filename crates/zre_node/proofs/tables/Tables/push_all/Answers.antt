@@ -1,4 +1,4 @@
-use Rattle.std.proofs.Common.{◌≡◌, subst, ap, sym, ◌∙◌, List, take, get_or}
+use Rattle.std.proofs.Common.{subst, sym, ◌∙◌, List, take, get_or}
 use Rattle.zre_msg.specs.declared.message.Body.{Body}
 use Rattle.zre_msg.specs.Spelling.{FitsBody}
 use Rattle.zre_journal.specs.Chronicle.{Mark, in_turn, after}
