@@ -17,7 +17,7 @@ use Rattle.zre_journal.specs.Peers.{Life, lives}
 use Rattle.zre_journal.specs.Told.{told}
 use Rattle.zre_node.specs.declared.effects.Effects.{Effects}
 use Rattle.zre_node.specs.declared.tables.Tables.{Tables}
-use Rattle.zre_node.specs.Covered.{is_incoming, is_end}
+use Rattle.zre_node.specs.Kinds.{is_incoming, is_end}
 use Rattle.zre_node.specs.Journal.{StandsIn, Took}
 use Rattle.zre_node.specs.Links.{Notes}
 use Rattle.zre_node.specs.Offers.{offered}

@@ -1,8 +1,8 @@
 pub mod Asked
-pub mod Covered
 pub mod First
 pub mod Groups
 pub mod Journal
+pub mod Kinds
 pub mod Links
 pub mod Offers
 pub mod Said

@@ -28,3 +28,6 @@ mod ticks;
 pub use effects::Step;
 pub use ids::Ids;
 pub use node::Node;
+
+#[cfg(test)]
+mod tests;

@@ -1,5 +1,5 @@
--- The entries that a node takes so far.
-use Rattle.std.specs.Prelude.{Bool, true, false, ◌||◌}
+-- Kinds of entries.
+use Rattle.std.specs.Prelude.{Bool, true, false}
 use Rattle.zre_outside.specs.declared.entry.Input.{Input}
 use Rattle.zre_outside.specs.declared.entry.Input.TheVariants as input
 use Rattle.zre_outside.specs.declared.entry.Command.TheVariants as command
@@ -16,11 +16,3 @@ abbrev pub is_end : Input → Bool
 is_end input.End = true
 is_end (input.Do command.Quit) = true
 is_end _ = false
-
-abbrev pub is_piece : Input → Bool
-is_piece (input.Piece c o) = true
-is_piece _ = false
-
--- what comes in, and the end
-abbrev pub is_covered : Input → Bool
-is_covered i = is_incoming i || (is_piece i || is_end i)
