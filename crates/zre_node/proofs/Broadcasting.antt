@@ -1,31 +1,30 @@
 -- A body put on several links, one after the other.
-use Rattle.std.proofs.Common.{◌≡◌, ℕ, ◌+◌, ◌-◌, ◌<◌, ◌≤◌, zero, suc, Bool, true, false, cond, ◌&&◌, eqb, ltb, if◌then◌else◌, List, [], ◌∷◌, ◌++◌, map, filter, take, length, get_or, Option, Some, None, IsSome, is_some, find, refl, sym, ap, ◌∙◌, subst, arith}
-use Rattle.std.proofs.lemmas.List.{take_more, take_all}
+use Rattle.std.proofs.Common.{◌≡◌, ℕ, ◌+◌, ◌<◌, zero, suc, Bool, true, false, ◌&&◌, eqb, ltb, if◌then◌else◌, List, [], ◌∷◌, ◌++◌, map, filter, take, length, get_or, Option, Some, None, IsSome, is_some, refl, sym, ap, ◌∙◌, subst, arith}
 use Rattle.std.specs.List.{AllByRecursion}
 use Rattle.zre_msg.specs.declared.message.Body.{Body}
 use Rattle.zre_msg.specs.declared.message.Message.{Message}
 use Rattle.zre_values.specs.declared.peer_id.PeerId.{PeerId}
 use Rattle.zre_peer.specs.declared.causes.Cause.TheVariants as cause
 use Rattle.zre_peer.specs.Runs.{shown}
-use Rattle.zre_peer.specs.Standing.{view_in}
 use Rattle.zre_peer.specs.Views.{view_of}
-use Rattle.zre_link.specs.Text.{text_of, size_of}
+use Rattle.zre_link.specs.Text.{size_of}
 use Rattle.zre_journal.specs.declared.config.Config.{Config}
-use Rattle.zre_journal.specs.Chronicle.{Mark, Puts, Ends, Takes, after, followed, in_turn}
+use Rattle.zre_journal.specs.Chronicle.{Mark, Puts, Ends, after, followed, in_turn}
 use Rattle.zre_journal.specs.Peers.{Life, lives, life, runner, counted}
 use Rattle.zre_journal.specs.Links.{bodies, put_on, taken, unsent}
 use Rattle.zre_journal.specs.Happens.{has_group, is_member, push, push_all}
 use Rattle.zre_journal.proofs.Joined.{after-append}
+use Rattle.zre_journal.proofs.Known.{each_known}
 use Rattle.zre_journal.proofs.Listed.{All-kept, Apart-kept}
 use Rattle.zre_node.specs.declared.peer.Peer.{Peer}
-use Rattle.zre_node.specs.declared.peer.Running.{Running}
 use Rattle.zre_node.specs.declared.tables.Tables.{Tables}
-use Rattle.zre_node.specs.declared.effects.Effects.{Effects}
-use Rattle.zre_node.specs.Groups.{lists_group, tells_group, links_in}
-use Rattle.zre_node.specs.Tabled.{Tabled}
-use Rattle.zre_node.specs.Stands.{Holds, Did, AreKnown, HasRun, IsPeer}
-use Rattle.zre_node.proofs.Many.{one_more_turn, still_known}
-use Rattle.zre_node.proofs.Stopping.{link_list, known_from, each_found}
+use Rattle.zre_node.specs.Groups.{lists_group, row_in}
+use Rattle.zre_node.specs.Ticks.{numbers_of}
+use Rattle.zre_node.specs.Stands.{Holds, AreKnown, HasRun, IsPeer}
+use Rattle.zre_node.proofs.Many.{still_known}
+use Rattle.zre_node.proofs.Pushing.{Alike, alike_after, same_push}
+use Rattle.zre_node.proofs.Stopping.{link_list, known_from}
+use Rattle.zre_node.proofs.Ticking.{numbers_are}
 
 -- ---- each of the peers is known when its turn comes
 
@@ -48,14 +47,6 @@ known_in_turn g b (l ∷ ls) K (suc i) low k =
     subst (λ J. IsSome (life (get_or ls i 0) J)) (sym (after-append (push g l b K) (in_turn (λ m J. push g m b J) (take i ls) (after (push g l b K) K)) K))
     (known_in_turn g b ls (after (push g l b K) K) i (omega arith) (pushed_known g l b K ls k.1 k.2))
 
--- one more of the pushes, and all of them
-pub one_more_push : (g : Config) (f : ℕ → List Mark → List Mark) (xs : List ℕ) (i : ℕ) (K : List Mark) (t n : Tables) (a b c : Effects) → i < length xs
-    → Did g (in_turn f (take i xs) K) K t a b → Did g (f (get_or xs i 0) (after (in_turn f (take i xs) K) K)) (after (in_turn f (take i xs) K) K) n b c → Did g (in_turn f (take (i + 1) xs) K) K n a c
-one_more_push g f xs i K t n a b c low d e = subst (λ ys. Did g (in_turn f ys K) K n a c) (sym (take_more xs i 0 low)) (one_more_turn g f (take i xs) (get_or xs i 0) K t n a b c d e)
-
-pub all_pushed : (g : Config) (f : ℕ → List Mark → List Mark) (xs : List ℕ) (i : ℕ) (K : List Mark) (n : Tables) (a c : Effects) → length xs ≤ i → Did g (in_turn f (take i xs) K) K n a c → Did g (in_turn f xs K) K n a c
-all_pushed g f xs i K n a c high d = subst (λ ys. Did g (in_turn f ys K) K n a c) (take_all i xs high) d
-
 -- ---- links of lives
 
 in_turn-map : {A B : Type 0} (f : B → List Mark → List Mark) (key : A → B) (xs : List A) (K : List Mark) → in_turn f (map key xs) K ≡ in_turn (λ x J. f (key x) J) xs K
@@ -68,38 +59,15 @@ push_links g ls vs b K e = sym (ap (λ (xs : List ℕ). in_turn (λ l J. push g 
 
 -- ---- a push looks at its own link alone
 
--- the same was put and has gone out on each link
-Agree : List Mark → List Mark → Type 0
-Agree I K = (l : ℕ) → (bodies l I ≡ bodies l K) × (taken l I ≡ taken l K)
+same_pushes : (g : Config) (vs : List Life) (b : Body) (I K : List Mark) → Alike I K → push_all g vs b I ≡ push_all g vs b K
+same_pushes g [] b I K a = refl
+same_pushes g (v ∷ vs) b I K a =
+    ap (λ hs. hs ++ push_all g vs b (after hs I)) (same_push g v.link b I K a)
+    ∙ ap (λ ks. push g v.link b K ++ ks) (same_pushes g vs b (after (push g v.link b K) I) (after (push g v.link b K) K) (alike_after (push g v.link b K) I K a))
 
-module _ (g : Config) where
-  agree_mark : (h : Mark) (I K : List Mark) → Agree I K → Agree (h ∷ I) (h ∷ K)
-  unfolding Agree
-  agree_mark (Takes k n) I K a = λ l. ((a l).0, ap (λ (m : ℕ). if eqb l k then m + n else m) (a l).1)
-  agree_mark h I K a = λ l. (ap (λ (bs : List Body). followed bs (put_on l h)) (a l).0, (a l).1)
-
-  agree_after : (hs I K : List Mark) → Agree I K → Agree (after hs I) (after hs K)
-  agree_after [] I K a = a
-  agree_after (h ∷ hs) I K a = agree_after hs (h ∷ I) (h ∷ K) (agree_mark h I K a)
-
-  -- what a push brings, by what was put on its link and has gone out of it
-  push_of : ℕ → Body → List Body → ℕ → List Mark
-  push_of l b bs n = let size = size_of bs b in if ltb 4194304 (length (text_of g.id bs) - n + size) then Ends l (cause.Slow (length (text_of g.id bs) - n) size) ∷ [] else Puts l b ∷ []
-
-  same_push : (l : ℕ) (b : Body) (I K : List Mark) → Agree I K → push g l b I ≡ push g l b K
-  unfolding push_of Agree
-  same_push l b I K a = ap (λ (bs : List Body). push_of l b bs (taken l I)) (a l).0 ∙ ap (λ (n : ℕ). push_of l b (bodies l K) n) (a l).1
-
-  same_pushes : (vs : List Life) (b : Body) (I K : List Mark) → Agree I K → push_all g vs b I ≡ push_all g vs b K
-  same_pushes [] b I K a = refl
-  same_pushes (v ∷ vs) b I K a =
-      ap (λ hs. hs ++ push_all g vs b (after hs I)) (same_push v.link b I K a)
-      ∙ ap (λ ks. push g v.link b K ++ ks) (same_pushes vs b (after (push g v.link b K) I) (after (push g v.link b K) K) (agree_after (push g v.link b K) I K a))
-
-  -- a mark that puts nothing and takes nothing changes no push
-  pub pushed_behind : (vs : List Life) (b : Body) (h : Mark) (K : List Mark) → ((l : ℕ) → (put_on l h ≡ None) × (taken l (h ∷ K) ≡ taken l K)) → push_all g vs b (h ∷ K) ≡ push_all g vs b K
-  unfolding Agree
-  pushed_behind vs b h K n = same_pushes vs b (h ∷ K) K (λ l. (ap (λ (o : Option Body). followed (bodies l K) o) (n l).0, (n l).1))
+-- a mark that puts nothing and takes nothing changes no push
+pub pushed_behind : (g : Config) (vs : List Life) (b : Body) (h : Mark) (K : List Mark) → ((l : ℕ) → (put_on l h ≡ None) × (taken l (h ∷ K) ≡ taken l K)) → push_all g vs b (h ∷ K) ≡ push_all g vs b K
+pushed_behind g vs b h K n = same_pushes g vs b (h ∷ K) K (λ l. (ap (λ (o : Option Body). followed (bodies l K) o) (n l).0, (n l).1))
 
 -- ---- members
 
@@ -109,26 +77,15 @@ unfolding view_of
 shows group [] = refl
 shows group (m ∷ ms) = refl
 
--- a run tells what the messages of its peer told
-tells : (o : Option ℕ) (id : PeerId) (ms : List Message) (r : Option Running) (group : List ℕ) → HasRun o id ms r → tells_group group r ≡ (is_some o && has_group group (view_of ms).groups)
-tells None id ms r group h = rw h refl
-tells (Some c) id ms r group h = rw (h.1, h.2.stands.view) (shows group ms)
+-- a row tells what the messages of its peer told
+in_row : (o : Option ℕ) (id : PeerId) (ms : List Message) (k : Peer) (group : List ℕ) → HasRun o id ms k.run → row_in group k ≡ (is_some o && has_group group (view_of ms).groups)
+in_row None id ms k group h = rw h refl
+in_row (Some c) id ms k group h = rw (h.1, h.2.stands.view) (shows group ms)
 
-pub members_are : (g : Config) (K : List Mark) (group : List ℕ) (vs : List Life) (es : List (ℕ × Peer)) → Tabled (λ (v : Life). v.link) (IsPeer g K) vs es → links_in group es ≡ link_list (filter (is_member g group K) vs)
-members_are g K group [] [] t = refl
-members_are g K group [] (e ∷ es) t = absurd t
-members_are g K group (v ∷ vs) [] t = absurd t
-members_are g K group (v ∷ vs) (e ∷ es) t =
-    rw (t.0, tells (runner v.link K) v.id (counted v.link K) e.1.run group t.1.run_is) (by (members_are g K group vs es t.2) (is_member g group K v))
-  where
-    by : links_in group es ≡ link_list (filter (is_member g group K) vs) → (b : Bool) → cond b (v.link ∷ links_in group es) (links_in group es) ≡ link_list (cond b (v ∷ filter (is_member g group K) vs) (filter (is_member g group K) vs))
-    by r true = ap (λ (ls : List ℕ). v.link ∷ ls) r
-    by r false = r
+pub members_are : (g : Config) (K : List Mark) (t : Tables) → Holds g K t → (group : List ℕ) → numbers_of (row_in group) t.peers.entries ≡ link_list (filter (is_member g group K) (lives K))
+members_are g K t h group =
+    numbers_are (λ (v : Life). v.link) (IsPeer g K) (row_in group) (is_member g group K) (λ v k is. in_row (runner v.link K) v.id (counted v.link K) k group is.run_is) (lives K) t.peers.entries h.peers
 
 -- some of the known peers are known
 pub some_known : (g : Config) (K : List Mark) (t : Tables) → Holds g K t → (p : Life → Bool) → AreKnown K (link_list (filter p (lives K)))
-some_known g K t h p = known_from K (filter p (lives K)) (Apart-kept (λ (v : Life). v.link) p (lives K) h.keeps.proper.living.apart) (All-kept (λ (v : Life). IsSome (life v.link K)) p (lives K) (each_found (lives K)))
-
--- one row more, whose peer isn't in the group
-pub none_more : (group : List ℕ) (l : ℕ) (k : Peer) (es : List (ℕ × Peer)) (ls start : List ℕ) → tells_group group k.run ≡ false → ls ++ links_in group ((l, k) ∷ es) ≡ start → ls ++ links_in group es ≡ start
-none_more group l k es ls start a e = rw a at e
+some_known g K t h p = known_from K (filter p (lives K)) (Apart-kept (λ (v : Life). v.link) p (lives K) h.keeps.proper.living.apart) (All-kept (λ (v : Life). IsSome (life v.link K)) p (lives K) (each_known K))

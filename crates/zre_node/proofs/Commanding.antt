@@ -1,6 +1,6 @@
 -- Commands: which marks they leave, and the node's own groups.
-use Rattle.std.proofs.Common.{◌≡◌, ℕ, ◌+◌, ◌%◌, ◌<◌, ◌≤◌, Bool, true, false, cond, IsTrue, not, ◌||◌, ltb, leb, filter, List, [], ◌∷◌, ◌++◌, length, Option, Some, None, is_some, nat_cmp, refl, sym, ap, ◌∙◌, subst, arith, lt-ltb, le-ltb, append-nil}
-use Rattle.std.specs.List.{AllByRecursion, list_any}
+use Rattle.std.proofs.Common.{◌≡◌, ℕ, ◌+◌, ◌%◌, ◌<◌, ◌≤◌, Bool, true, false, cond, IsTrue, ◌||◌, ltb, leb, filter, List, [], ◌∷◌, length, Option, Some, None, is_some, nat_cmp, refl, sym, ap, ◌∙◌, subst, arith, lt-ltb, le-ltb}
+use Rattle.std.specs.List.{AllByRecursion}
 use Rattle.std.specs.BTreeMap.{is_at}
 use Rattle.std.specs.Map.{lookup}
 use Rattle.std.specs.Str.{bytes_eq}
@@ -11,7 +11,6 @@ use Rattle.zre_values.specs.declared.peer_id.PeerId.{PeerId}
 use Rattle.zre_values.specs.Lists.{without}
 use Rattle.zre_group.specs.Own.{OwnGroups, is_joined, next_status, with_joined, with_left}
 use Rattle.zre_msg.specs.declared.message.Body.{Body}
-use Rattle.zre_msg.specs.declared.message.Message.{Message}
 use Rattle.zre_msg.specs.declared.message.Body.TheVariants as body
 use Rattle.zre_outside.specs.declared.entry.Command.{Command}
 use Rattle.zre_outside.specs.declared.entry.Entry.{Entry}
@@ -19,7 +18,7 @@ use Rattle.zre_outside.specs.declared.entry.Input.TheVariants as input
 use Rattle.zre_peer.specs.declared.causes.RefuseWhy.{RefuseWhy}
 use Rattle.zre_peer.specs.declared.causes.RefuseWhy.TheVariants as refuse
 use Rattle.zre_journal.specs.declared.config.Config.{Config}
-use Rattle.zre_journal.specs.Chronicle.{Mark, Joins, Leaves, Refuses, after}
+use Rattle.zre_journal.specs.Chronicle.{Mark, Joins, Leaves, Refuses}
 use Rattle.zre_journal.specs.Done.{names}
 use Rattle.zre_journal.specs.Peers.{Life, lives, life, life_of, runner, counted, is_entered}
 use Rattle.zre_journal.specs.Links.{groups, status}
@@ -27,36 +26,21 @@ use Rattle.zre_journal.specs.Happens.{has_group, is_member, is_too_big, push, pu
 use Rattle.zre_journal.proofs.Kept.{Joins-proper, Leaves-proper, Refuses-proper}
 use Rattle.zre_journal.proofs.Listed.{All-append}
 use Rattle.zre_node.specs.declared.peer.Peer.{Peer}
-use Rattle.zre_node.specs.declared.peer.Running.{Running}
 use Rattle.zre_node.specs.declared.tables.Tables.{Tables}
 use Rattle.zre_node.specs.declared.effects.Effects.{Effects}
-use Rattle.zre_node.specs.Stands.{Holds, Did, HasRun, IsPeer, link_among, is_quiet}
+use Rattle.zre_node.specs.Stands.{Holds, Did, IsPeer, link_among, is_quiet}
 use Rattle.zre_node.proofs.Broadcasting.{pushed_behind}
 use Rattle.zre_node.proofs.Datagram.{link_found, its_life, no_life}
 use Rattle.zre_node.proofs.Many.{did_as, did_then, silent_did}
+use Rattle.zre_node.proofs.Opening.{with_conns}
 use Rattle.zre_node.proofs.Parting.{its_row, no_row}
 use Rattle.zre_node.proofs.Starting.{its_own_life}
+use Rattle.zre_node.proofs.Ticking.{enters}
 
 -- ---- a refusal
 
 pub refused : (g : Config) (K : List Mark) (t : Tables) → Holds g K t → (why : RefuseWhy) → Holds g (Refuses why ∷ K) t
-refused g K t h why = record {
-  keeps = record {
-    valid = h.keeps.valid;
-    proper = Refuses-proper K h.keeps.proper why;
-    going = h.keeps.going;
-    awake = h.keeps.awake;
-    config = h.keeps.config;
-    mailbox = h.keeps.mailbox;
-    clock_is = h.keeps.clock_is;
-    births_is = h.keeps.births_is;
-    last_is = h.keeps.last_is;
-    groups_fit = h.keeps.groups_fit;
-    own = h.keeps.own;
-    conns = h.keeps.conns;
-  };
-  peers = h.peers;
-}
+refused g K t h why = with_conns g K (Refuses why ∷ K) t t.last t.conns h (Refuses-proper K h.keeps.proper why) refl refl refl h.peers refl refl refl h.keeps.last_is h.keeps.conns
 
 -- ---- the node's own groups
 
@@ -162,10 +146,6 @@ leaves_tell g K group b m n a s held second =
 
 -- ---- the known peer with an id, by its row
 
-runs_some : (o : Option ℕ) (id : PeerId) (ms : List Message) (r : Option Running) → HasRun o id ms r → is_some o ≡ is_some r
-runs_some None id ms r h = rw h refl
-runs_some (Some c) id ms r h = rw h.1 refl
-
 module _ (g : Config) (K : List Mark) (t : Tables) (h : Holds g K t) (p : PeerId) where
   pub unknown : None ≡ link_among p t.peers.entries → (v : Life) → life_of p K ≡ Some v → is_entered K v ≡ false
   unknown n v e = let z : None ≡ Some v = sym (no_life (life_of p K) (n ∙ link_found g K t p h)) ∙ e in absurd cc
@@ -186,7 +166,7 @@ module _ (g : Config) (K : List Mark) (t : Tables) (h : Holds g K t) (p : PeerId
         let r = its_row (IsPeer g K) K t.peers.entries h.peers l k was in
         let same : r.0 ≡ its.0 = (let z : Some r.0 ≡ Some its.0 = sym r.1 ∙ here in cc) in
         let row : IsPeer g K its.0 k = subst (λ u. IsPeer g K u k) same r.2 in
-        (its.0, its.1, runs_some (runner its.0.link K) its.0.id (counted its.0.link K) k.run row.run_is, its.2)
+        (its.0, its.1, sym (enters (runner its.0.link K) its.0.id (counted its.0.link K) k.run row.run_is), its.2)
 
     pub not_entered : (k : Peer) → Some k ≡ lookup (is_at (nat_cmp l)) t.peers.entries → is_some k.run ≡ false → (v : Life) → life_of p K ≡ Some v → is_entered K v ≡ false
     not_entered k was none v e =

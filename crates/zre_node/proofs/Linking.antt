@@ -1,5 +1,5 @@
 -- What comes about on links, at the tables.
-use Rattle.std.proofs.Common.{◌≡◌, ℕ, ◌+◌, ◌-◌, ◌≤◌, min, max, Bool, true, false, cond, ◌||◌, eqb, if◌then◌else◌, List, [], ◌∷◌, ◌++◌, length, Option, Some, None, IsSome, is_some, find, refl, sym, ap, ◌∙◌, nat_cmp, subst, eq-eqb, eqb-true, append-nil}
+use Rattle.std.proofs.Common.{◌≡◌, ℕ, ◌+◌, ◌-◌, ◌≤◌, min, max, Bool, true, false, cond, ◌||◌, eqb, if◌then◌else◌, List, [], ◌∷◌, ◌++◌, length, Option, Some, None, IsSome, is_some, find, refl, sym, ap, ◌∙◌, nat_cmp, subst, eq-eqb, append-nil}
 use Rattle.std.specs.List.{AllByRecursion, list_any}
 use Rattle.std.specs.BTreeMap.{BTreeMap, is_at}
 use Rattle.std.specs.Map.{lookup, set_value}
@@ -16,12 +16,12 @@ use Rattle.zre_journal.specs.Chronicle.{Mark, Comes, Ends, Links, Takes, after}
 use Rattle.zre_journal.specs.Connections.{open_ones, is_new}
 use Rattle.zre_journal.specs.Done.{names}
 use Rattle.zre_journal.specs.Heard.{clock, piece_of}
-use Rattle.zre_journal.specs.Links.{bodies, groups, status, is_linked, replies, reply_of, gate, taken}
+use Rattle.zre_journal.specs.Links.{bodies, groups, status, is_linked, replies, gate, taken}
 use Rattle.zre_journal.specs.Peers.{Life, lives, life, births}
 use Rattle.zre_journal.specs.Happens.{has_stopped, at_input, at_linked, at_reply, at_unlinked, at_took, fault_of_reply}
 use Rattle.zre_journal.specs.Proper.{IsProper}
 use Rattle.zre_journal.proofs.Kept.{known_lives, Comes-proper, Links-proper, Takes-proper}
-use Rattle.zre_journal.proofs.Listed.{eqb-comm, found_passes}
+use Rattle.zre_journal.proofs.Listed.{eqb-comm}
 use Rattle.zre_node.specs.declared.effects.Effects.{Effects}
 use Rattle.zre_node.specs.declared.peer.Peer.{Peer}
 use Rattle.zre_node.specs.declared.tables.Tables.{Tables}

@@ -37,7 +37,7 @@ map-same (x ∷ xs) = ap (λ ys. x ∷ ys) (map-same xs)
 abbrev pub link_list : List Life → List ℕ
 link_list vs = map (λ (v : Life). v.link) vs
 
-pub each_found : (vs : List Life) → AllByRecursion (λ (v : Life). IsSome (find (λ (u : Life). eqb v.link u.link) vs)) vs
+each_found : (vs : List Life) → AllByRecursion (λ (v : Life). IsSome (find (λ (u : Life). eqb v.link u.link) vs)) vs
 each_found [] = tt
 each_found (v ∷ vs) = (
   let me : eqb v.link v.link ≡ true = eq-eqb v.link v.link refl in rw me refl,

@@ -1,11 +1,10 @@
 -- Whole entries, from what calls did.
-use Rattle.std.proofs.Common.{◌≡◌, ℕ, Bool, true, false, cond, not, ◌&&◌, ◌||◌, eqb, if◌then◌else◌, List, [], ◌∷◌, ◌++◌, map, filter, Result, Ok, Err, OnOk, refl, sym, ap, ◌∙◌, append_assoc, append-nil, subst}
+use Rattle.std.proofs.Common.{◌≡◌, ℕ, Bool, true, false, not, ◌&&◌, ◌||◌, eqb, List, [], ◌∷◌, ◌++◌, map, filter, refl, sym, ap, ◌∙◌, append_assoc, append-nil, subst}
 use Rattle.std.specs.List.{list_any}
 use Rattle.zre_outside.specs.declared.entry.Entry.{Entry}
 use Rattle.zre_outside.specs.declared.entry.Input.{Input}
 use Rattle.zre_outside.specs.declared.entry.Input.TheVariants as input
 use Rattle.zre_outside.specs.declared.entry.Command.TheVariants as command
-use Rattle.zre_outside.specs.declared.act.Act.{Act}
 use Rattle.zre_outside.specs.declared.act.Act.TheVariants as act
 use Rattle.zre_journal.specs.declared.config.Config.{Config}
 use Rattle.zre_journal.specs.Chronicle.{Mark, Comes, after}
@@ -66,10 +65,10 @@ took_named g e H t a b c going named d is =
       stands = subst (λ ks. StandsIn g (after ks (Comes e ∷ H)) t) (sym m) (goes_on g (after hs (Comes e ∷ H)) t d.holds);
       events = ap (λ (s : Effects). s.events) is ∙ d.events ∙ ap (λ ks. a.events ++ told ks (Comes e ∷ H)) (sym m);
       acts = ap (λ (s : Effects). s.acts) is ∙ ap (λ xs. xs ++ offered g (after hs (Comes e ∷ H)) b.pushed) d.acts
-        ∙ append_assoc a.acts (done g.id hs) (offered g (after hs (Comes e ∷ H)) b.pushed)
-        ∙ ap (λ xs. a.acts ++ (done g.id hs ++ xs)) gives
-        ∙ ap (λ ks. a.acts ++ (done g.id ks ++ offers g e ks (after ks (Comes e ∷ H)))) (sym m)
-        ∙ ap (λ xs. a.acts ++ xs) (sym (its_acts g e H going));
+          ∙ append_assoc a.acts (done g.id hs) (offered g (after hs (Comes e ∷ H)) b.pushed)
+          ∙ ap (λ xs. a.acts ++ (done g.id hs ++ xs)) gives
+          ∙ ap (λ ks. a.acts ++ (done g.id ks ++ offers g e ks (after ks (Comes e ∷ H)))) (sym m)
+          ∙ ap (λ xs. a.acts ++ xs) (sym (its_acts g e H going));
     }
 
 -- the same of an entry that names none
@@ -102,7 +101,7 @@ took_stop g e H t a c going is s =
       };
       events = s.events ∙ ap (λ ks. a.events ++ told ks (Comes e ∷ H)) (sym m);
       acts = s.acts ∙ sym (ap (λ xs. a.acts ++ xs) (its_acts g e H going
-        ∙ ap (λ ks. done g.id ks ++ offers g e ks (after ks (Comes e ∷ H))) m ∙ ap (λ xs. done g.id hs ++ xs) none ∙ append-nil (done g.id hs)));
+          ∙ ap (λ ks. done g.id ks ++ offers g e ks (after ks (Comes e ∷ H))) m ∙ ap (λ xs. done g.id hs ++ xs) none ∙ append-nil (done g.id hs)));
     }
 
 -- ---- entries

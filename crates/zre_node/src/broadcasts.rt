@@ -6,11 +6,12 @@ ghost use Rattle.zre_journal.specs.Chronicle.{Mark, in_turn};
 ghost use Rattle.zre_journal.specs.Peers.{lives};
 ghost use Rattle.zre_journal.specs.Happens.{push as pushing, push_all as pushing_all};
 ghost use Rattle.zre_msg.specs.Spelling.{FitsBody};
-ghost use Rattle.zre_node.specs.Groups.{tells_group, links_in};
+ghost use Rattle.zre_node.specs.Groups.{row_in};
 ghost use Rattle.zre_node.specs.Stands.{Holds, Did, AreKnown};
+ghost use Rattle.zre_node.specs.Ticks.{numbers_of};
 
 use crate::effects::Effects;
-use crate::peer::{Peer, Running};
+use crate::peer::Peer;
 use crate::tables::Tables;
 use std::alloc::Global;
 use std::collections::BTreeMap;
@@ -18,13 +19,10 @@ use zre_msg::Body;
 use zre_values::{Keys, OutOfMemory};
 
 // Whether a peer has told that it is in the group.
-fn is_in(run: &Option<Running>, group: &[u8]) -> bool
-    ensures { result ≡ tells_group group.now run.now }
+fn is_in(peer: &Peer, group: &[u8]) -> bool
+    ensures { result ≡ row_in group.now peer.now }
 {
-    let Some(running) = run else {
-        return false;
-    };
-    match running.run.view() {
+    match peer.view() {
         Some(view) => view.in_group(group),
         None => false,
     }
@@ -36,11 +34,11 @@ pub fn members(
     peers: &BTreeMap<u64, Peer>,
     group: &[u8],
 ) -> Result<Keys, OutOfMemory>
-    ensures { IfOk result (λ links. links ≡ links_in group.now peers.now.entries) }
+    ensures { IfOk result (λ links. links ≡ numbers_of (row_in group.now) peers.now.entries) }
 {
     let mut links = Keys::new(alloc);
     for (link, peer) in peers {
-        if is_in(&peer.run, group) {
+        if is_in(peer, group) {
             links.push(*link)?;
         }
     }

@@ -48,7 +48,7 @@ impl Tables {
         }
     }
 
-    // The node leaves a group, and tells all peers so. No group that it is in has a longer name than is joined.
+    // The node leaves a group, and tells all peers so. None of its groups has a name that is too long to be joined.
     fn leave(&mut self, out: &mut Effects, group: Octets) -> Result<(), OutOfMemory>
         ensures { (g : Config) (K : List Mark) → Holds g K self.old →
             OnOk result (Did g (at_leave g group K) K self.new out.old out.new) }
@@ -74,7 +74,7 @@ impl Tables {
         let Some(peer) = self.peers.get(&link) else {
             return None;
         };
-        if peer.run.is_none() {
+        if !peer.is_entered() {
             return None;
         }
         Some(link)

@@ -53,8 +53,8 @@ fn hear_reply(link: &mut Link, bytes: &[u8]) -> Result<Option<ZmtpFault>, OutOfM
 }
 
 impl Tables {
-    /// The link of a known peer stands.
-    pub fn linked(&mut self, link: u64)
+    // The link of a known peer stands.
+    fn linked(&mut self, link: u64)
         ensures { (g : Config) (K : List Mark) → Holds g K self.old →
             Holds g (after (at_linked g link (life link K) K) K) self.new }
     {
@@ -63,8 +63,8 @@ impl Tables {
         }
     }
 
-    /// So many octets of the link of a known peer have gone out, or as many as might.
-    pub fn took(&mut self, link: u64, count: u64)
+    // So many octets of the link of a known peer have gone out, or as many as might.
+    fn took(&mut self, link: u64, count: u64)
         ensures { (g : Config) (K : List Mark) → Holds g K self.old →
             Holds g (after (at_took g link count (life link K) K) K) self.new }
     {
@@ -73,8 +73,8 @@ impl Tables {
         }
     }
 
-    /// The link of a known peer broke, and the peer ends.
-    pub fn unlinked(&mut self, out: &mut Effects, link: u64) -> Result<(), OutOfMemory>
+    // The link of a known peer broke, and the peer ends.
+    fn unlinked(&mut self, out: &mut Effects, link: u64) -> Result<(), OutOfMemory>
         ensures { (g : Config) (K : List Mark) → Holds g K self.old →
             OnOk result (Did g (at_unlinked g link (life link K)) K self.new out.old out.new) }
     {
@@ -122,12 +122,7 @@ impl Tables {
     }
 
     /// A link stands, breaks, or has taken octets.
-    pub fn take_link(
-        &mut self,
-        out: &mut Effects,
-        at: u64,
-        input: Input,
-    ) -> Result<(), OutOfMemory>
+    pub fn take_link(&mut self, out: &mut Effects, at: u64, input: Input) -> Result<(), OutOfMemory>
         ensures { (g : Config) (H : List Mark) (e : EntryValue) → e.at ≡ at → e.input ≡ input → is_about_link input ≡ true →
             out.old.pushed ≡ [] → Holds g H self.old → OnOk result (Took g e H self.new out.old out.new) }
     {

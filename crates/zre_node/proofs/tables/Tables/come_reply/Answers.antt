@@ -1,8 +1,7 @@
-use Rattle.std.proofs.Common.{◌≡◌, ℕ, ◌∷◌, List, max, ap, sym, ◌∙◌, subst}
+use Rattle.std.proofs.Common.{ℕ, ◌∷◌, max, ap, sym, ◌∙◌, subst}
 use Rattle.std.specs.BTreeMap.{BTreeMap}
 use Rattle.zre_journal.specs.Chronicle.{Comes}
 use Rattle.zre_journal.specs.Links.{bodies, replies, taken}
-use Rattle.zre_journal.specs.Peers.{life}
 use Rattle.zre_node.specs.declared.peer.Peer.{Peer}
 use Rattle.zre_node.specs.Stands.{Holds, IsPeer}
 use Rattle.zre_node.proofs.Coming.{ok_of, at_ok}

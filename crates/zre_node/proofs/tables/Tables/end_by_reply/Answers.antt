@@ -1,4 +1,4 @@
-use Rattle.std.proofs.Common.{◌≡◌, ap, sym, ◌∙◌, Some}
+use Rattle.std.proofs.Common.{ap, ◌∙◌}
 use Rattle.zre_journal.specs.Happens.{fault_of_reply}
 use Rattle.zre_journal.specs.Peers.{life}
 use Rattle.zre_node.proofs.Linking.{fault_known}

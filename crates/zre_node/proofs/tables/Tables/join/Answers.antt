@@ -1,4 +1,4 @@
-use Rattle.std.proofs.Common.{◌≡◌, ℕ, ◌≤◌, List, [], ◌∷◌, length, sym, ap, ◌∙◌, subst}
+use Rattle.std.proofs.Common.{◌≡◌, ℕ, ◌≤◌, List, ◌∷◌, length, sym, ap, ◌∙◌, subst}
 use Rattle.zre_group.specs.Own.{with_joined}
 use Rattle.zre_msg.specs.declared.message.Body.TheVariants as body
 use Rattle.zre_journal.specs.Chronicle.{Joins}

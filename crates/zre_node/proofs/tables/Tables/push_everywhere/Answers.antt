@@ -1,4 +1,4 @@
-use Rattle.std.proofs.Common.{◌≡◌, ℕ, sym, ap, ◌∙◌, subst, List}
+use Rattle.std.proofs.Common.{ℕ, sym, ◌∙◌, subst, List}
 use Rattle.zre_journal.specs.Peers.{lives}
 use Rattle.zre_node.specs.Stands.{AreKnown}
 use Rattle.zre_node.proofs.Broadcasting.{push_links}

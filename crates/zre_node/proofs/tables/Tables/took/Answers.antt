@@ -1,4 +1,4 @@
-use Rattle.std.proofs.Common.{◌≡◌, ℕ, List, sym, subst}
+use Rattle.std.proofs.Common.{ℕ, sym, subst}
 use Rattle.std.specs.BTreeMap.{BTreeMap}
 use Rattle.zre_journal.specs.Chronicle.{after}
 use Rattle.zre_journal.specs.Happens.{at_took}

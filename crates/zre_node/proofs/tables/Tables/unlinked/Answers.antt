@@ -1,4 +1,4 @@
-use Rattle.std.proofs.Common.{◌≡◌, [], sym, ◌∙◌}
+use Rattle.std.proofs.Common.{[], sym, ◌∙◌}
 use Rattle.zre_journal.specs.Peers.{life}
 use Rattle.zre_node.proofs.Linking.{some_peer, no_break, break}
 use Rattle.zre_node.proofs.Many.{did_as, idle_did}

@@ -1,4 +1,4 @@
-use Rattle.std.proofs.Common.{◌≡◌, ℕ, IsSome, sym, ap, ◌∙◌, subst}
+use Rattle.std.proofs.Common.{ℕ, IsSome, sym, ap, ◌∙◌, subst}
 use Rattle.zre_msg.specs.declared.message.Body.TheVariants as body
 use Rattle.zre_journal.specs.Happens.{push}
 use Rattle.zre_journal.specs.Peers.{life, life_of}
