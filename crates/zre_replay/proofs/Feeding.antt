@@ -1,28 +1,23 @@
 -- The machine of `replay`, fed one more piece: the text of more octets begins with that of fewer.
-use Rattle.std.proofs.Common.{◌≡◌, ℕ, Bool, true, false, Option, Some, None, List, [], ◌++◌, refl, sym, ap, ◌∙◌, subst}
+use Rattle.std.proofs.Common.{◌≡◌, ℕ, true, false, None, List, [], ◌++◌, refl, sym, ap, ◌∙◌, subst}
 use Rattle.std.specs.Prelude.{is_some}
-use Rattle.std.specs.Option.{option_or}
 use Rattle.std.proofs.lemmas.List.Concat.{flat_map-append}
-use Rattle.zre_capture.specs.Journal.{journal, bad, bad_at_end, end_from, lines_in, bad_from, entries_from, Adds, Reads, Waits}
+use Rattle.zre_capture.specs.Journal.{journal, bad, bad_from, entries_from, Reads}
 use Rattle.zre_capture.proofs.Growing.{journal_grows}
 use Rattle.zre_journal.specs.declared.config.Config.{Config}
 use Rattle.zre_journal.specs.Events.{events}
-use Rattle.zre_journal.specs.Laws.{Continues}
 use Rattle.zre_journal.proofs.Joined.{continues}
-use Rattle.zre_node.specs.declared.node.Node.{Node}
 use Rattle.zre_node.specs.Journal.{StandsFor}
 use Rattle.zre_outside.specs.declared.entry.Entry.{Entry}
 use Rattle.zre_peer.specs.Lines.{line, lines}
 use Rattle.zre_peer.specs.declared.event.Event.{Event}
-use Rattle.zre_pump.specs.Meaning.{Grows}
 use Rattle.zre_replay.specs.declared.reading.State.{State}
 use Rattle.zre_replay.specs.declared.reading.State.TheVariants.{Going, Bad, Lost}
 use Rattle.zre_replay.specs.declared.replayer.Replayer.{Replayer}
 use Rattle.zre_replay.specs.declared.waiting.Waiting.{Waiting}
-use Rattle.zre_replay.specs.Replay.{text, replay}
+use Rattle.zre_replay.specs.Replay.{text}
 use Rattle.zre_replay.specs.Replayer.{Fed}
 use Rattle.zre_replay.specs.State.{IsState}
-use Rattle.zre_replay.specs.Taken.{Took}
 
 -- more events have more lines
 lines_more : (g : Config) (J K : List Entry) (told : List Event) → events g (J ++ K) ≡ events g J ++ told → lines (events g (J ++ K)) ≡ lines (events g J) ++ lines told
@@ -55,30 +50,8 @@ nothing_fed r w e reads stands = record {
   stands = subst (λ J. StandsFor r.config J r.node) (sym no_entries) stands;
 }
 
--- what is bad however it goes on is bad as it is
-pub stopped_is_bad : (o : List ℕ) → is_some (bad o) ≡ true → is_some (bad_at_end o) ≡ true
-stopped_is_bad o e = by (bad o) e
-  where
-    by : (b : Option _) → is_some b ≡ true → is_some (option_or b (end_from 1 (lines_in o))) ≡ true
-    by None z = absurd cc
-    by (Some b) z = refl
-
 -- a capture that isn't bad so far has a reader
 pub goes_on : {C : Type 0} (s : State) (o : List ℕ) → IsState s o → is_some (bad o) ≡ false → ((w : _) → s ≡ Going w → ⊥) → C
 goes_on (Going w) o h e no_reader = absurd (no_reader w refl)
 goes_on (Bad b) o h e no_reader = let z : true ≡ false = sym (ap is_some h) ∙ e in absurd cc
 goes_on Lost o h e no_reader = absurd h
-
--- the entries of a piece were read and taken
-module _ (g : Config) (o x : List ℕ) (before es : List Entry) (n : Node) (out out' : List ℕ) (none : before ≡ []) (adds : Adds o x before es) (t : Took g (journal o) es n out out') where
-  same : es ≡ adds.entries
-  same = adds.added ∙ ap (λ fs. fs ++ adds.entries) none
-
-  journal_is : journal (o ++ x) ≡ journal o ++ es
-  journal_is = adds.more ∙ ap (λ fs. journal o ++ fs) (sym same)
-
-  pub stands_on : StandsFor g (journal (o ++ x)) n
-  stands_on = subst (λ J. StandsFor g J n) (sym journal_is) t.stands
-
-  pub text_on : Grows (replay g) o x out out'
-  text_on = record { added = lines t.told; longer = text_by g o x es t.told journal_is t.more; appended = t.appended }

@@ -1,4 +1,4 @@
-use Rattle.std.proofs.Common.{◌≡◌, ◌++◌, List, ap, ◌∙◌}
+use Rattle.std.proofs.Common.{◌++◌, List, ap, ◌∙◌}
 use Rattle.zre_peer.specs.Lines.{lines}
 use Rattle.zre_peer.specs.declared.event.Event.{Event}
 use Rattle.zre_replay.proofs.Telling.{on_ok}

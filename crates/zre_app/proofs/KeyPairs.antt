@@ -3,9 +3,9 @@ use Rattle.std.proofs.Common.{◌≡◌, ℕ, Bool, ◌&&◌, List, [], ◌∷�
 use Rattle.std.specs.Prelude.{◌||◌, count_by}
 use Rattle.std.specs.List.{list_all, list_any}
 use Rattle.std.proofs.lemmas.List.Folds.{list_all-map}
-use Rattle.zre_app.specs.Words.{are_words_of, begins, may_stand}
-use Rattle.zre_app.specs.declared.words.Key.{Key}
-use Rattle.zre_app.specs.declared.words.Often.{Often}
+use Rattle.zre_app.specs.Keys.{are_words_of, begins, may_stand}
+use Rattle.zre_app.specs.declared.keys.Key.{Key}
+use Rattle.zre_app.specs.declared.keys.Often.{Often}
 
 abbrev pub pair_of : Key → List ℕ × Often
 pair_of key = (key.name.now, key.often)
