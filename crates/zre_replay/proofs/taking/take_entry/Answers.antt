@@ -6,7 +6,7 @@ use Rattle.zre_replay.proofs.taking.take_entry.Goals as goal
 
 pub returns : goal.returns
 returns c = λ g J s.
-    let step = c.in_ok-step.ensures g J s in
+    let step = c.in_ok-step.ensures.steps g J s in
     on_ok c.push_lines.result c.push_lines.ensures (λ p. record {
       stands = step.stands;
       told = c.in_ok-step.step.events;
