@@ -12,4 +12,6 @@ pub use words::{Command, command_of};
 pub use zre_pump::Status;
 
 #[cfg(test)]
+mod replay_tests;
+#[cfg(test)]
 mod tests;

@@ -166,10 +166,7 @@ fn header_of(alloc: Global, text: &[u8]) -> Result<Option<(Octets, Octets)>, Out
     };
     let (front, rest) = text.split_at(i);
     let (_, behind) = rest.split_at(1);
-    Ok(Some((
-        Octets::copy(alloc, front)?,
-        Octets::copy(alloc, behind)?,
-    )))
+    Ok(Some((Octets::copy(alloc, front)?, Octets::copy(alloc, behind)?)))
 }
 
 // The header of a word that begins with the key of one.

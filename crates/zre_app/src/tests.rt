@@ -54,7 +54,7 @@ const FOLLOW: &[&[u8]] = &[b"follow", b"id=000102030405060708090a0b0c0d0e0f"];
 const SHOW: &[&[u8]] = &[b"show"];
 
 /// What a command is given, how many octets of zero behind that, the most octets to read, and what it must answer.
-type Row<'a> = (&'a [&'a [u8]], usize, u64, Status, &'a [&'a [u8]]);
+pub type Row<'a> = (&'a [&'a [u8]], usize, u64, Status, &'a [&'a [u8]]);
 
 /// A source that gives at most so many octets a read, but one at least, and tells nothing.
 #[derive(Drop)]
@@ -97,7 +97,12 @@ fn joined<R: AllocGlobal>(rt: &R, parts: &[&[u8]], zeros: usize) -> Result<Octet
     Ok(all)
 }
 
-fn expect<R: AllocGlobal + Abort + Copy>(rt: R, words: &[&[u8]], row: Row<'_>) -> Result<(), Fail> {
+/// Runs a command on a row, by an octet a read and by all that there is.
+pub fn expect<R: AllocGlobal + Abort + Copy>(
+    rt: R,
+    words: &[&[u8]],
+    row: Row<'_>,
+) -> Result<(), Fail> {
     let (input, zeros, limit, status, text) = row;
     let words = words_of(&rt, words)?;
     let text = joined(&rt, text, 0)?;

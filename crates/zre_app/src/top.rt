@@ -121,17 +121,31 @@ pub fn run<R: AllocGlobal + Copy, I: Source, O: Sink>(
     ensures reads { I.faults input ≤ I.faults result.input }
     ensures writes { O.faults out.old ≤ O.faults out.new }
 {
-    let mut input = input;
-    let status = match command_of(rt.alloc(), words) {
-        Ok(None) => usage(out),
-        Ok(Some(Command::Follow { id })) => follow(rt.alloc(), id, &mut input, out, limit),
-        Ok(Some(Command::Show)) => show(rt.alloc(), &mut input, out, limit),
-        Ok(Some(Command::Replay { config })) => {
-            replay(rt.alloc(), config, &mut input, out, limit)
+    match command_of(rt.alloc(), words) {
+        Err(OutOfMemory) => Ended {
+            status: Status::OutOfMemory,
+            input,
+        },
+        Ok(None) => Ended {
+            status: usage(out),
+            input,
+        },
+        Ok(Some(Command::Follow { id })) => {
+            let mut input = input;
+            let status = follow(rt.alloc(), id, &mut input, out, limit);
+            Ended { status, input }
         }
-        Err(OutOfMemory) => Status::OutOfMemory,
-    };
-    Ended { status, input }
+        Ok(Some(Command::Show)) => {
+            let mut input = input;
+            let status = show(rt.alloc(), &mut input, out, limit);
+            Ended { status, input }
+        }
+        Ok(Some(Command::Replay { config })) => {
+            let mut input = input;
+            let status = replay(rt.alloc(), config, &mut input, out, limit);
+            Ended { status, input }
+        }
+    }
 }
 
 /// Does what the words ask for. It is `run` with a limit that no input reaches.

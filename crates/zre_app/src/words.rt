@@ -37,7 +37,8 @@ fn are_texts(words: &[Octets]) -> bool
 }
 
 fn follow_of(words: &[Octets]) -> Option<Command>
-    ensures { result ≡ follow_of words.now }
+    ensures value { result ≡ follow_of words.now }
+    ensures ready { IsReady result }
 {
     let keys = [Key {
         name: b"id=",
@@ -56,7 +57,8 @@ fn follow_of(words: &[Octets]) -> Option<Command>
 }
 
 fn show_of(words: &[Octets]) -> Option<Command>
-    ensures { result ≡ show_of words.now }
+    ensures value { result ≡ show_of words.now }
+    ensures ready { IsReady result }
 {
     if are_words_of(&[], words) {
         Some(Command::Show)
