@@ -1,3 +1,4 @@
+pub mod Asked
 pub mod Chronicle
 pub mod Config
 pub mod Connections

@@ -13,12 +13,13 @@ use Rattle.zre_node.specs.Tabled.{Tabled}
 use Rattle.zre_node.specs.Stands.{Holds, IsPeer, link_among}
 use Rattle.zre_node.proofs.Entries.{as_many}
 
-among : (g : Config) (H : List Mark) (p : PeerId) (vs : List Life) (es : List (ℕ × Peer)) → Tabled (λ (v : Life). v.link) (IsPeer g H) vs es
+-- a search of the rows by an id finds the link of the known peer
+pub link_in_rows : (g : Config) (H : List Mark) (p : PeerId) (vs : List Life) (es : List (ℕ × Peer)) → Tabled (λ (v : Life). v.link) (IsPeer g H) vs es
     → link_among p es ≡ option_map (λ (v : Life). v.link) (find (λ (v : Life). bytes_eq p.0 v.id.0) vs)
-among g H p [] [] t = refl
-among g H p [] (e ∷ es) t = absurd t
-among g H p (v ∷ vs) [] t = absurd t
-among g H p (v ∷ vs) (e ∷ es) t = rw (t.0, t.1.id_is) (by (among g H p vs es t.2) (bytes_eq p.0 v.id.0))
+link_in_rows g H p [] [] t = refl
+link_in_rows g H p [] (e ∷ es) t = absurd t
+link_in_rows g H p (v ∷ vs) [] t = absurd t
+link_in_rows g H p (v ∷ vs) (e ∷ es) t = rw (t.0, t.1.id_is) (by (link_in_rows g H p vs es t.2) (bytes_eq p.0 v.id.0))
   where
     by : link_among p es ≡ option_map (λ (u : Life). u.link) (find (λ (u : Life). bytes_eq p.0 u.id.0) vs) → (b : Bool)
         → cond b (Some v.link) (link_among p es) ≡ option_map (λ (u : Life). u.link) (cond b (Some v) (find (λ (u : Life). bytes_eq p.0 u.id.0) vs))
@@ -27,7 +28,7 @@ among g H p (v ∷ vs) (e ∷ es) t = rw (t.0, t.1.id_is) (by (among g H p vs es
 
 -- the code's search finds the known peer
 pub link_found : (g : Config) (H : List Mark) (t : Tables) (p : PeerId) → Holds g H t → link_among p t.peers.entries ≡ option_map (λ (v : Life). v.link) (life_of p H)
-link_found g H t p h = among g H p (lives H) t.peers.entries h.peers
+link_found g H t p h = link_in_rows g H p (lives H) t.peers.entries h.peers
 
 -- what one test finds, a search by the link finds too
 by_link : (test : Life → Bool) (vs : List Life) (v : Life) → find test vs ≡ Some v → IsSome (find (λ (u : Life). eqb v.link u.link) vs)

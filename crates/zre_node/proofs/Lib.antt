@@ -1,3 +1,4 @@
+pub mod Asking
 pub mod Birth
 pub mod Coming
 pub mod Copying
@@ -18,3 +19,4 @@ pub mod Starting
 pub mod Stepping
 pub mod Stopping
 pub mod Taking
+pub mod Ticking

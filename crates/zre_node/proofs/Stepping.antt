@@ -34,11 +34,11 @@ took_nothing g e H t a z s =
     }
 
 -- what was taken is a step
-pub steps : (g : Config) (J : List Entry) (e : Entry) (t : Tables) (a s : Effects) → a.events ≡ [] → a.acts ≡ [] → Took g e (chronicle g J) t a s → Steps g J e (record { tables = t }) (record { events = s.events; acts = s.acts })
+pub steps : (g : Config) (J : List Entry) (e : Entry) (t : Tables) (a s : Effects) → a.events ≡ [] → a.acts ≡ [] → Took g e (chronicle g J) t a s → Steps g J e (record { tables = t; spent = false }) (record { events = s.events; acts = s.acts })
 steps g J e t a s ev ac w =
     let c = continues g J (e ∷ []) in
     record {
-      stands = record { stands = subst (λ K. StandsIn g K t) (sym c.happened) w.stands };
+      stands = record { stands = subst (λ K. StandsIn g K t) (sym c.happened) w.stands; whole = refl };
       told = c.told ∙ ap (λ (xs : List Event). events g J ++ xs) (append-nil (events_at g e (chronicle g J)) ∙ sym (w.events ∙ ap (λ (xs : List Event). xs ++ events_at g e (chronicle g J)) ev));
       done = c.done ∙ ap (λ (xs : List Act). acts g J ++ xs) (append-nil (acts_at g e (chronicle g J)) ∙ sym (w.acts ∙ ap (λ (xs : List Act). xs ++ acts_at g e (chronicle g J)) ac));
     }

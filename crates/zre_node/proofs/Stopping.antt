@@ -26,11 +26,11 @@ use Rattle.zre_node.specs.Stands.{Holds, Did, Rests, Stopped, AreKnown, RunNone,
 use Rattle.zre_node.proofs.Entries.{keys_are}
 use Rattle.zre_node.proofs.Many.{did_then}
 
-map-map : {A B C : Type 0} (f : A → B) (g : B → C) (xs : List A) → map g (map f xs) ≡ map (λ x. g (f x)) xs
+pub map-map : {A B C : Type 0} (f : A → B) (g : B → C) (xs : List A) → map g (map f xs) ≡ map (λ x. g (f x)) xs
 map-map f g [] = refl
 map-map f g (x ∷ xs) = ap (λ ys. g (f x) ∷ ys) (map-map f g xs)
 
-map-same : (xs : List ℕ) → map (λ x. x) xs ≡ xs
+pub map-same : (xs : List ℕ) → map (λ x. x) xs ≡ xs
 map-same [] = refl
 map-same (x ∷ xs) = ap (λ ys. x ∷ ys) (map-same xs)
 
@@ -49,11 +49,11 @@ each_found (v ∷ vs) = (
     further true v o h = refl
     further false v o h = h
 
-apart_links : (l : ℕ) (vs : List Life) → AllByRecursion (λ (v : Life). eqb l v.link ≡ false) vs → AllByRecursion (λ k. eqb l k ≡ false) (link_list vs)
+pub apart_links : (l : ℕ) (vs : List Life) → AllByRecursion (λ (v : Life). eqb l v.link ≡ false) vs → AllByRecursion (λ k. eqb l k ≡ false) (link_list vs)
 apart_links l [] h = tt
 apart_links l (v ∷ vs) h = (h.0, apart_links l vs h.1)
 
-known_from : (H : List Mark) (vs : List Life) → Apart (λ (v : Life). v.link) vs → AllByRecursion (λ (v : Life). IsSome (life v.link H)) vs → AreKnown H (link_list vs)
+pub known_from : (H : List Mark) (vs : List Life) → Apart (λ (v : Life). v.link) vs → AllByRecursion (λ (v : Life). IsSome (life v.link H)) vs → AreKnown H (link_list vs)
 known_from H [] a h = tt
 known_from H (v ∷ vs) a h = (h.0, apart_links v.link vs a.0, known_from H vs a.1 h.1)
 

@@ -1,5 +1,5 @@
 -- A node stands for a journal.
-use Rattle.std.specs.Prelude.{◌≡◌, true, false, List, [], ◌∷◌, ◌++◌}
+use Rattle.std.specs.Prelude.{◌≡◌, Bool, true, false, List, [], ◌∷◌, ◌++◌}
 use Rattle.zre_outside.specs.declared.entry.Entry.{Entry}
 use Rattle.zre_journal.specs.declared.config.Config.{Config}
 use Rattle.zre_journal.specs.Chronicle.{Mark}
@@ -24,8 +24,14 @@ pub record Took (g : Config) (e : Entry) (H : List Mark) (t : Tables) (before no
   pub events : now.events ≡ before.events ++ events_at g e H
   pub acts : now.acts ≡ before.acts ++ acts_at g e H
 
+-- the node found no memory for a step, and takes no more of them
+abbrev pub is_spent : Node → Bool
+is_spent n = n.spent
+
+-- the node stands for the journal J: its tables hold what follows from it
 pub record StandsFor (g : Config) (J : List Entry) (n : Node) : Type 0 where
   pub stands : StandsIn g (chronicle g J) n.tables
+  pub whole : is_spent n ≡ false
 
 -- from J to J and one entry, with what it tells and asks for
 pub record Steps (g : Config) (J : List Entry) (e : Entry) (n : Node) (s : Step) : Type 0 where

@@ -1,3 +1,4 @@
+pub mod Asked
 pub mod Covered
 pub mod First
 pub mod Journal
@@ -5,3 +6,4 @@ pub mod Offers
 pub mod Said
 pub mod Stands
 pub mod Tabled
+pub mod Ticks

@@ -104,7 +104,7 @@ impl Effects {
 }
 
 // The name that a peer has told, and none before its HELLO.
-fn name_of(alloc: Global, run: &Run) -> Result<Octets, OutOfMemory>
+pub fn name_of(alloc: Global, run: &Run) -> Result<Octets, OutOfMemory>
     ensures { (ms : List Message) → view_in run.now ≡ shown ms → IfOk result (λ name. name ≡ (view_of ms).name) }
 {
     match run.view() {

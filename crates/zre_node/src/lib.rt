@@ -2,6 +2,7 @@
 //! and no thread; what the journal means stands in `zre_journal`.
 #![tactic(auto)]
 
+mod accessors;
 mod arrivals;
 mod births;
 mod connection;
@@ -10,6 +11,7 @@ mod effects;
 mod ends;
 mod first;
 mod hearing;
+mod ids;
 mod node;
 mod offers;
 mod peer;
@@ -18,6 +20,8 @@ mod runs;
 mod steps;
 mod stops;
 mod tables;
+mod ticks;
 
 pub use effects::Step;
+pub use ids::Ids;
 pub use node::Node;

@@ -1,7 +1,10 @@
 //! What is kept of a known peer.
 
+ghost use Rattle.std.specs.Prelude.{◌≡◌, is_some, option_copied};
+ghost use Rattle.zre_node.specs.Asked.{view_of_row};
+
 use zre_link::Link;
-use zre_peer::Run;
+use zre_peer::{Run, View};
 use zre_values::PeerId;
 
 /// The run of an entered peer, and the connection that carries it.
@@ -20,4 +23,23 @@ pub struct Peer {
     /// There where it is entered.
     pub run: Option<Running>,
     pub link: Link,
+}
+
+impl Peer {
+    /// Whether a connection runs it.
+    pub fn is_entered(&self) -> bool
+        ensures { result ≡ is_some self.now.run }
+    {
+        self.run.is_some()
+    }
+
+    /// What it has told in its run.
+    pub fn view(&self) -> Option<&View>
+        ensures { option_copied result ≡ view_of_row self.now }
+    {
+        match &self.run {
+            Some(running) => running.run.view(),
+            None => None,
+        }
+    }
 }

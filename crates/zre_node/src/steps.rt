@@ -7,12 +7,12 @@ ghost use Rattle.zre_journal.specs.declared.config.Config.{Config};
 ghost use Rattle.zre_journal.specs.Chronicle.{Mark};
 ghost use Rattle.zre_journal.specs.Happens.{at_input, at_stop};
 ghost use Rattle.zre_node.specs.Journal.{Took};
-ghost use Rattle.zre_node.specs.Covered.{is_incoming, is_end};
+ghost use Rattle.zre_node.specs.Covered.{is_covered, is_incoming, is_end};
 ghost use Rattle.zre_node.specs.Stands.{Holds, Did};
 
 use crate::effects::Effects;
 use crate::tables::Tables;
-use zre_outside::Input;
+use zre_outside::{Command, Entry, Input};
 use zre_values::OutOfMemory;
 
 impl Tables {
@@ -67,5 +67,20 @@ impl Tables {
     {
         self.come(at);
         self.stop(out)
+    }
+
+    /// What an entry brings, where the node hasn't stopped.
+    pub fn take(&mut self, out: &mut Effects, entry: Entry) -> Result<(), OutOfMemory>
+        requires { is_covered entry.input ≡ true }
+        ensures { (g : Config) (H : List Mark) → out.old.pushed ≡ [] → Holds g H self.old →
+            OnOk result (Took g entry H self.new out.old out.new) }
+    {
+        let Entry { at, input } = entry;
+        match input {
+            Input::Piece { conn, bytes } => self.take_piece(out, at, conn, bytes.as_slice()),
+            Input::Do(Command::Quit) => self.take_stop(out, at),
+            Input::End => self.take_stop(out, at),
+            other => self.take_incoming(out, at, other),
+        }
     }
 }

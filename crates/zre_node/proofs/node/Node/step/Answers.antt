@@ -5,8 +5,8 @@ use Rattle.zre_node.proofs.Stepping.{steps, took_nothing}
 use Rattle.zre_node.proofs.node.Node.step.Goals as goal
 use Rattle.zre_node.proofs.node.Node.step.Goals.{then-not-self+in_ok-take, else-not-self}
 
-pub returns : goal.returns
-returns c = λ g J s.
+pub returns-clause-steps : goal.returns-clause-steps
+returns-clause-steps c = λ g J s.
     let H = chronicle g J in
     let e = c.args.entry in
     let none = c.new-out.result in
@@ -17,7 +17,7 @@ returns c = λ g J s.
       | then-not-self+in_ok-take w ↦
           let going = sym s.stands.stopped ∙ w.if-not-self.true in
           let took = w.in_ok-take.ensures g H (ap (λ (a : Effects). a.pushed) fresh) (s.stands.going going) in
-          rw (w.self-is, w.out-is) (steps g J e w.take.new.self.tables none w.take.new.out told done took)
+          rw (w.self-is, w.out-is) (steps g J e w.take.new.self none w.take.new.out told done took)
       | else-not-self w ↦
           let stopped = sym s.stands.stopped ∙ w.if-not-self.false in
           rw (w.self-is, w.out-is) (steps g J e c.args.self.now.tables none none told done (took_nothing g e H c.args.self.now.tables none stopped s.stands))

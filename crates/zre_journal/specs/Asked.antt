@@ -1,0 +1,46 @@
+-- What a node is asked behind a journal: who is entered and with what view, and what the links of known peers have to send.
+use Rattle.std.specs.Prelude.{◌≡◌, ◌≢◌, ℕ, List, [], ◌++◌, Option, Some, None, option_map, option_and_then, map, if◌then◌else◌}
+use Rattle.std.specs.List.{filter}
+use Rattle.zre_values.specs.declared.peer_id.PeerId.{PeerId}
+use Rattle.zre_outside.specs.declared.entry.Entry.{Entry}
+use Rattle.zre_peer.specs.declared.view.View.{View}
+use Rattle.zre_journal.specs.declared.config.Config.{Config}
+use Rattle.zre_journal.specs.Chronicle.{Mark}
+use Rattle.zre_journal.specs.Events.{chronicle}
+use Rattle.zre_journal.specs.Links.{front, unsent}
+use Rattle.zre_journal.specs.Peers.{Life, is_entered, life, life_of, lives, view}
+
+-- the view of a known peer, where it is entered
+abbrev pub view_if_entered : List Mark → Life → Option View
+view_if_entered H v = if is_entered H v then Some (view v.link H) else None
+
+-- the view of the peer with this id, where it is entered
+abbrev pub view_behind : Config → List Entry → PeerId → Option View
+view_behind g J p = option_and_then (view_if_entered (chronicle g J)) (life_of p (chronicle g J))
+
+-- the link of the peer with this id, where it is known
+abbrev pub link_behind : Config → List Entry → PeerId → Option ℕ
+link_behind g J p = option_map (λ (v : Life). v.link) (life_of p (chronicle g J))
+
+-- the entered peers, in order of birth
+abbrev pub entered_behind : Config → List Entry → List PeerId
+entered_behind g J = map (λ (v : Life). v.id) (filter (is_entered (chronicle g J)) (lives (chronicle g J)))
+
+-- how many octets wait on a link, where it is that of a known peer
+abbrev pub unsent_behind : Config → List Entry → ℕ → Option ℕ
+unsent_behind g J l = option_map (λ (v : Life). unsent g v.link (chronicle g J)) (life l (chronicle g J))
+
+-- the octets that may go out on a link, where it is that of a known peer
+abbrev pub front_behind : Config → List Entry → ℕ → Option (List ℕ)
+front_behind g J l = option_map (λ (v : Life). front g v.link (chronicle g J)) (life l (chronicle g J))
+
+-- some of the first of these octets, where there are any
+pub record IsFront (whole part : List ℕ) : Type 0 where
+  pub rest : List ℕ
+  pub begins : whole ≡ part ++ rest
+  pub some : whole ≢ [] → part ≢ []
+
+-- the same where there are octets to speak of
+abbrev pub HasFront : Option (List ℕ) → Option (List ℕ) → Type 0
+HasFront None o = o ≡ None
+HasFront (Some whole) o = (part : List ℕ) × (o ≡ Some part) × IsFront whole part

@@ -1,0 +1,337 @@
+-- A tick, at the tables.
+use Rattle.std.proofs.Common.{◌≡◌, ℕ, ◌+◌, ◌-◌, ◌<◌, ◌≤◌, zero, suc, Bool, true, false, cond, not, ◌||◌, ◌&&◌, eqb, ltb, leb, List, [], ◌∷◌, ◌++◌, map, filter, take, length, get_or, Option, Some, None, IsSome, is_some, is_none, refl, sym, ap, ◌∙◌, arith, nat_cmp, append_assoc, append-nil, eqb-true, subst}
+use Rattle.std.proofs.lemmas.Bool.{and_parts}
+use Rattle.std.proofs.lemmas.List.{take_more, take_all, map-append}
+use Rattle.std.specs.List.{AllByRecursion, list_any}
+use Rattle.std.specs.BTreeMap.{is_at}
+use Rattle.std.specs.Map.{lookup}
+use Rattle.zre_values.specs.declared.peer_id.PeerId.{PeerId}
+use Rattle.zre_msg.specs.declared.message.Body.TheVariants as body
+use Rattle.zre_msg.specs.declared.message.Message.{Message}
+use Rattle.zre_link.specs.Text.{size_of, text_of}
+use Rattle.zre_outside.specs.declared.entry.Entry.{Entry}
+use Rattle.zre_outside.specs.declared.entry.Input.TheVariants as input
+use Rattle.zre_peer.specs.declared.causes.Cause.{Cause}
+use Rattle.zre_peer.specs.declared.causes.Cause.TheVariants as cause
+use Rattle.zre_peer.specs.declared.causes.CloseWhy.{CloseWhy}
+use Rattle.zre_peer.specs.declared.causes.CloseWhy.TheVariants as close
+use Rattle.zre_peer.specs.declared.event.Event.TheVariants as event
+use Rattle.zre_peer.specs.Runs.{shown}
+use Rattle.zre_peer.specs.Standing.{view_in}
+use Rattle.zre_journal.specs.declared.config.Config.{Config}
+use Rattle.zre_journal.specs.Chronicle.{Mark, Comes, Ends, Closes, Falters, Puts, Calls, after, in_turn, followed}
+use Rattle.zre_journal.specs.Connections.{open_ones, runs, since}
+use Rattle.zre_journal.specs.Done.{names}
+use Rattle.zre_journal.specs.Happens.{at_input, at_tick, falter, is_silent, is_faltering, is_stale, push}
+use Rattle.zre_journal.specs.Heard.{clock}
+use Rattle.zre_journal.specs.Links.{bodies, taken, unsent, put_on}
+use Rattle.zre_journal.specs.Peers.{Life, lives, life, active, runner, counted, is_entered, view}
+use Rattle.zre_journal.specs.Proper.{Apart}
+use Rattle.zre_journal.specs.Told.{told, faltering}
+use Rattle.zre_journal.proofs.Idle.{idle_behind, AreNoStarts, ends_start_none, none_and_none}
+use Rattle.zre_journal.proofs.Joined.{after-append}
+use Rattle.zre_journal.proofs.Kept.{Falters-proper, Calls-proper}
+use Rattle.zre_journal.proofs.Known.{each_known, life_stays, end_all, ends_known, kept_far}
+use Rattle.zre_journal.proofs.Listed.{All-kept, Apart-kept, found_passes}
+use Rattle.zre_node.specs.declared.connection.Connection.{Connection}
+use Rattle.zre_node.specs.declared.effects.Effects.{Effects}
+use Rattle.zre_node.specs.declared.peer.Peer.{Peer}
+use Rattle.zre_node.specs.declared.peer.Running.{Running}
+use Rattle.zre_node.specs.declared.tables.Tables.{Tables}
+use Rattle.zre_node.specs.Tabled.{Tabled}
+use Rattle.zre_node.specs.Ticks.{row_silent, row_faltering, row_stale, numbers_of, falters, IsEntered, AreEntered, AreIdle}
+use Rattle.zre_node.specs.Stands.{Holds, Did, HasRun, IsPeer, IsConn, AreKnown, is_quiet}
+use Rattle.zre_node.proofs.Many.{did_as, did_then, one_more_turn}
+use Rattle.zre_node.proofs.Opening.{with_conns}
+use Rattle.zre_node.proofs.Parting.{its_row, shows}
+use Rattle.zre_node.proofs.Stopping.{link_list, map-map, map-same, apart_links, known_from}
+
+-- ---- which rows pass
+
+-- one row more
+pub one_row : {V : Type 0} (test : V → Bool) (n : ℕ) (k : V) (es : List (ℕ × V)) (found found' start : List ℕ) → test k ≡ true → found' ≡ found ++ n ∷ [] → found ++ numbers_of test ((n, k) ∷ es) ≡ start → found' ++ numbers_of test es ≡ start
+one_row test n k es found found' start t f e =
+    let whole : found ++ n ∷ numbers_of test es ≡ start = rw t at e in
+    ap (λ (ns : List ℕ). ns ++ numbers_of test es) f ∙ append_assoc found (n ∷ []) (numbers_of test es) ∙ whole
+
+-- one row that doesn't pass
+pub no_row_more : {V : Type 0} (test : V → Bool) (n : ℕ) (k : V) (es : List (ℕ × V)) (found start : List ℕ) → test k ≡ false → found ++ numbers_of test ((n, k) ∷ es) ≡ start → found ++ numbers_of test es ≡ start
+no_row_more test n k es found start t e = rw t at e
+
+-- the rows that pass are those of the things that pass
+pub numbers_are : {A V : Type 0} (key : A → ℕ) (P : A → V → Type 0) (s : V → Bool) (t : A → Bool) → ((x : A) (w : V) → P x w → s w ≡ t x) → (xs : List A) (es : List (ℕ × V)) → Tabled key P xs es → numbers_of s es ≡ map key (filter t xs)
+numbers_are key P s t same [] [] h = refl
+numbers_are key P s t same [] (e ∷ es) h = absurd h
+numbers_are key P s t same (x ∷ xs) [] h = absurd h
+numbers_are key P s t same (x ∷ xs) (e ∷ es) h = rw (h.0, same x e.1 h.1) (by (numbers_are key P s t same xs es h.2) (t x))
+  where
+    by : numbers_of s es ≡ map key (filter t xs) → (b : Bool) → cond b (key x ∷ numbers_of s es) (numbers_of s es) ≡ map key (cond b (x ∷ filter t xs) (filter t xs))
+    by r true = ap (λ ns. key x ∷ ns) r
+    by r false = r
+
+enters : (o : Option ℕ) (id : PeerId) (ms : List Message) (r : Option Running) → HasRun o id ms r → is_some r ≡ is_some o
+enters None id ms r h = ap is_some h
+enters (Some c) id ms r h = ap is_some h.1
+
+module _ (g : Config) (H : List Mark) (t : Tables) (h : Holds g H t) where
+  silent_row : (limit now : ℕ) → now ≡ clock H → (v : Life) (k : Peer) → IsPeer g H v k → row_silent limit now k ≡ is_silent g limit H v
+  silent_row limit now e v k is = rw (e, is.active_is) refl
+
+  faltering_row : (evasive expired now : ℕ) → evasive ≡ g.evasive → expired ≡ g.expired → now ≡ clock H → (v : Life) (k : Peer) → IsPeer g H v k → row_faltering evasive expired now k ≡ is_faltering g H v
+  faltering_row evasive expired now a b e v k is =
+      rw (a, b, enters (runner v.link H) v.id (counted v.link H) k.run is.run_is, silent_row g.expired now e v k is, silent_row g.evasive now e v k is) refl
+
+  stale_row : (limit now : ℕ) → limit ≡ g.expired → now ≡ clock H → (c : ℕ) (k : Connection) → IsConn g H c k → row_stale limit now k ≡ is_stale g H c
+  stale_row limit now b e c k is = rw (b, e, is) refl
+
+  pub silent_are : numbers_of (row_silent t.config.expired t.clock) t.peers.entries ≡ link_list (filter (is_silent g g.expired H) (lives H))
+  silent_are =
+      let same : t.config.expired ≡ g.expired = ap (λ (f : Config). f.expired) h.keeps.config in
+      numbers_are (λ (v : Life). v.link) (IsPeer g H) (row_silent t.config.expired t.clock) (is_silent g g.expired H)
+      (λ v k is. ap (λ n. row_silent n t.clock k) same ∙ silent_row g.expired t.clock h.keeps.clock_is v k is) (lives H) t.peers.entries h.peers
+
+  pub faltering_are : numbers_of (row_faltering t.config.evasive t.config.expired t.clock) t.peers.entries ≡ link_list (filter (is_faltering g H) (lives H))
+  faltering_are =
+      numbers_are (λ (v : Life). v.link) (IsPeer g H) (row_faltering t.config.evasive t.config.expired t.clock) (is_faltering g H)
+      (faltering_row t.config.evasive t.config.expired t.clock (ap (λ (f : Config). f.evasive) h.keeps.config) (ap (λ (f : Config). f.expired) h.keeps.config) h.keeps.clock_is) (lives H) t.peers.entries h.peers
+
+  pub stale_are : numbers_of (row_stale t.config.expired t.clock) t.conns.entries ≡ filter (is_stale g H) (open_ones H)
+  stale_are =
+      numbers_are (λ (c : ℕ). c) (IsConn g H) (row_stale t.config.expired t.clock) (is_stale g H)
+      (stale_row t.config.expired t.clock (ap (λ (f : Config). f.expired) h.keeps.config) h.keeps.clock_is) (open_ones H) t.conns.entries h.keeps.conns
+      ∙ map-same (filter (is_stale g H) (open_ones H))
+
+-- ---- EVASIVE
+
+module _ (g : Config) (K : List Mark) (t : Tables) (h : Holds g K t) where
+  pub holds_falters : (l : ℕ) → Holds g (Falters l ∷ K) t
+  holds_falters l = with_conns g K (Falters l ∷ K) t t.last t.conns h (Falters-proper K h.keeps.proper l) refl refl refl h.peers refl refl refl h.keeps.last_is h.keeps.conns
+
+  pub holds_calls : (port : ℕ) → Holds g (Calls port ∷ K) t
+  holds_calls port = with_conns g K (Calls port ∷ K) t t.last t.conns h (Calls-proper K h.keeps.proper port) refl refl refl h.peers refl refl refl h.keeps.last_is h.keeps.conns
+
+run_shows : (o : Option ℕ) (id : PeerId) (ms : List Message) (r : Option Running) (x : Running) → HasRun o id ms r → r ≡ Some x → view_in x.run ≡ shown ms
+run_shows None id ms r x h e = let z : None ≡ Some x = sym h ∙ e in absurd cc
+run_shows (Some c) id ms r x h e = let z : Some h.0 ≡ Some x = sym h.1 ∙ e in let same : h.0 ≡ x = cc in subst (λ (y : Running). view_in y.run ≡ shown ms) same (shows h.0 c id ms h.2).1
+
+-- what is told of an entered peer that falters, by its row
+pub record Wavers (g : Config) (K : List Mark) (l : ℕ) (k : Peer) (x : Running) : Type 0 where
+  pub its_view : view_in x.run ≡ shown (counted l K)
+  pub tells : told (Falters l ∷ []) K ≡ event.Evasive k.id (view l K).name ∷ []
+
+pub wavers : (g : Config) (K : List Mark) (t : Tables) → Holds g K t → (l : ℕ) (k : Peer) → Some k ≡ lookup (is_at (nat_cmp l)) t.peers.entries → (x : Running) → k.run ≡ Some x → Wavers g K l k x
+wavers g K t h l k was x e =
+    let its = its_row (IsPeer g K) K t.peers.entries h.peers l k was in
+    let here : l ≡ its.0.link = found_link its.0 its.1 in
+    record {
+      its_view = run_shows (runner its.0.link K) its.0.id (counted its.0.link K) k.run x its.2.run_is e ∙ ap (λ n. shown (counted n K)) (sym here);
+      tells = ap (λ o. faltering o K ++ []) its.1 ∙ ap (λ i. event.Evasive i (view its.0.link K).name ∷ []) (sym its.2.id_is)
+          ∙ ap (λ n. event.Evasive k.id (view n K).name ∷ []) (sym here);
+    }
+  where
+    found_link : (v : Life) → life l K ≡ Some v → l ≡ v.link
+    found_link v f = eqb-true l v.link (found_passes (λ (u : Life). eqb l u.link) (lives K) v f)
+
+-- an entered peer has a run
+pub has_run : {C : Type 0} (g : Config) (K : List Mark) (t : Tables) → Holds g K t → (l : ℕ) (k : Peer) → Some k ≡ lookup (is_at (nat_cmp l)) t.peers.entries → is_some (runner l K) ≡ true → k.run ≡ None → C
+has_run g K t h l k was r e =
+    let its = its_row (IsPeer g K) K t.peers.entries h.peers l k was in
+    let here : l ≡ its.0.link = eqb-true l its.0.link (found_passes (λ (u : Life). eqb l u.link) (lives K) its.0 its.1) in
+    let none : false ≡ is_some (runner l K) = ap is_some (sym e) ∙ enters (runner its.0.link K) its.0.id (counted its.0.link K) k.run its.2.run_is ∙ ap (λ n. is_some (runner n K)) (sym here) in
+    let z : false ≡ true = none ∙ r in absurd cc
+
+-- ---- one after the other
+
+-- what was put on each link, and how much of it has gone out, is the same
+abbrev pub Alike : List Mark → List Mark → Type 0
+Alike J K = (l : ℕ) → (bodies l J ≡ bodies l K) × (taken l J ≡ taken l K)
+
+ends_alike : (why : Cause) (vs : List Life) (K : List Mark) → Alike (after (end_all why vs) K) K
+ends_alike why [] K l = (refl, refl)
+ends_alike why (v ∷ vs) K l = ends_alike why vs (Ends v.link why ∷ K) l
+
+module _ (g : Config) where
+  falters_alike : (l : ℕ) (J K : List Mark) → Alike J K → falters g l J ≡ falters g l K
+  falters_alike l J K a = rw ((a l).0, (a l).1) refl
+
+  then_alike : (l : ℕ) (I J K : List Mark) → Alike J K → Alike (after (falters g l I) J) (after (falters g l I) K)
+  then_alike l I J K a = by (ltb 4194304 (unsent g l I + size_of (bodies l I) body.Ping))
+    where
+      by : (b : Bool) → Alike (after (cond b (Ends l (cause.Slow (unsent g l I) (size_of (bodies l I) body.Ping)) ∷ []) (Puts l body.Ping ∷ [])) (Falters l ∷ J)) (after (cond b (Ends l (cause.Slow (unsent g l I) (size_of (bodies l I) body.Ping)) ∷ []) (Puts l body.Ping ∷ [])) (Falters l ∷ K))
+      by true m = a m
+      by false m = (ap (λ bs. followed bs (put_on m (Puts l body.Ping))) (a m).0, (a m).1)
+
+  -- those of links are those of lives, also where they were found before
+  pub falters_are : (vs : List Life) (J K : List Mark) → Alike J K → in_turn (falters g) (link_list vs) J ≡ falter g vs K
+  falters_are [] J K a = refl
+  falters_are (v ∷ vs) J K a =
+      ap (λ hs. hs ++ in_turn (falters g) (link_list vs) (after hs J)) (falters_alike v.link J K a)
+      ∙ ap (λ hs. falters g v.link K ++ hs) (falters_are vs (after (falters g v.link K) J) (after (falters g v.link K) K) (then_alike v.link K J K a))
+
+  ends_entered : (l : ℕ) (why : Cause) (K : List Mark) (ls : List ℕ) → AllByRecursion (λ k. eqb l k ≡ false) ls → AreEntered K ls → AreEntered (Ends l why ∷ K) ls
+  ends_entered l why K [] far k = tt
+  ends_entered l why K (m ∷ ls) far k = ((subst IsSome (sym (life_stays K l m why far.0)) k.0.0, k.0.1), k.1, ends_entered l why K ls far.1 k.2)
+
+  same_entered : (J K : List Mark) → ((l : ℕ) → life l J ≡ life l K) → ((l : ℕ) → runner l J ≡ runner l K) → (ls : List ℕ) → AreEntered K ls → AreEntered J ls
+  same_entered J K a b [] k = tt
+  same_entered J K a b (m ∷ ls) k = ((subst IsSome (sym (a m)) k.0.0, ap is_some (b m) ∙ k.0.1), k.1, same_entered J K a b ls k.2)
+
+  still_entered : (l : ℕ) (K : List Mark) (ls : List ℕ) → AllByRecursion (λ k. eqb l k ≡ false) ls → AreEntered K ls → AreEntered (after (falters g l K) K) ls
+  still_entered l K ls far k = by (ltb 4194304 (unsent g l K + size_of (bodies l K) body.Ping))
+    where
+      here : AreEntered (Falters l ∷ K) ls
+      here = same_entered (Falters l ∷ K) K (λ m. refl) (λ m. refl) ls k
+
+      by : (b : Bool) → AreEntered (after (cond b (Ends l (cause.Slow (unsent g l K) (size_of (bodies l K) body.Ping)) ∷ []) (Puts l body.Ping ∷ [])) (Falters l ∷ K)) ls
+      by true = ends_entered l (cause.Slow (unsent g l K) (size_of (bodies l K) body.Ping)) (Falters l ∷ K) ls far here
+      by false = same_entered (Puts l body.Ping ∷ Falters l ∷ K) (Falters l ∷ K) (λ m. refl) (λ m. refl) ls here
+
+  -- each is entered when its turn comes
+  pub entered_at : (ls : List ℕ) (K : List Mark) (i : ℕ) → i < length ls → AreEntered K ls → IsEntered (get_or ls i 0) (after (in_turn (falters g) (take i ls) K) K)
+  entered_at [] K i low k = absurd (omega arith)
+  entered_at (l ∷ ls) K zero low k = k.0
+  entered_at (l ∷ ls) K (suc i) low k =
+      let J = after (falters g l K) K in
+      subst (λ I. IsEntered (get_or ls i 0) I) (sym (after-append (falters g l K) (in_turn (falters g) (take i ls) J) K)) (entered_at ls J i (omega arith) (still_entered l K ls k.1 k.2))
+
+  -- one more of them
+  pub one_more_falters : (ls : List ℕ) (i : ℕ) (K : List Mark) (t n : Tables) (a b c : Effects) → i < length ls → Did g (in_turn (falters g) (take i ls) K) K t a b
+      → Did g (falters g (get_or ls i 0) (after (in_turn (falters g) (take i ls) K) K)) (after (in_turn (falters g) (take i ls) K) K) n b c → Did g (in_turn (falters g) (take (i + 1) ls) K) K n a c
+  one_more_falters ls i K t n a b c low d e =
+      subst (λ ks. Did g (in_turn (falters g) ks K) K n a c) (sym (take_more ls i 0 low)) (one_more_turn g (falters g) (take i ls) (get_or ls i 0) K t n a b c d e)
+
+  pub all_falter : (ls : List ℕ) (i : ℕ) (K : List Mark) (n : Tables) (a c : Effects) → length ls ≤ i → Did g (in_turn (falters g) (take i ls) K) K n a c → Did g (in_turn (falters g) ls K) K n a c
+  all_falter ls i K n a c high d = subst (λ ks. Did g (in_turn (falters g) ks K) K n a c) (take_all i ls high) d
+
+  falters_start_none : (ls : List ℕ) (K : List Mark) → AreNoStarts (in_turn (falters g) ls K)
+  falters_start_none [] K = tt
+  falters_start_none (l ∷ ls) K = none_and_none (falters g l K) (in_turn (falters g) ls (after (falters g l K) K)) (λ c. refl, by (ltb 4194304 (unsent g l K + size_of (bodies l K) body.Ping))) (falters_start_none ls (after (falters g l K) K))
+    where
+      by : (b : Bool) → AreNoStarts (cond b (Ends l (cause.Slow (unsent g l K) (size_of (bodies l K) body.Ping)) ∷ []) (Puts l body.Ping ∷ []))
+      by true = (λ c. refl, tt)
+      by false = (λ c. refl, tt)
+
+-- ---- connections that have waited
+
+-- each runs no peer when its turn comes
+pub idle_at : (why : CloseWhy) (cs : List ℕ) (H : List Mark) (i : ℕ) → i < length cs → AreIdle H cs → runs (get_or cs i 0) (after (map (λ c. Closes c why) (take i cs)) H) ≡ None
+idle_at why [] H i low k = absurd (omega arith)
+idle_at why (c ∷ cs) H zero low k = k.0
+idle_at why (c ∷ cs) H (suc i) low k = idle_at why cs (Closes c why ∷ H) i (omega arith) (same cs k.1)
+  where
+    same : (ds : List ℕ) → AreIdle H ds → AreIdle (Closes c why ∷ H) ds
+    same [] m = tt
+    same (d ∷ ds) m = (m.0, same ds m.1)
+
+-- ---- the whole tick
+
+passing : {A : Type 0} (P : A → Type 0) (t : A → Bool) → ((x : A) → t x ≡ true → P x) → (xs : List A) → AllByRecursion P (filter t xs)
+passing P t f [] = tt
+passing P t f (x ∷ xs) = by (passing P t f xs) (t x) refl
+  where
+    by : AllByRecursion P (filter t xs) → (b : Bool) → t x ≡ b → AllByRecursion P (cond b (x ∷ filter t xs) (filter t xs))
+    by r true e = (f x e, r)
+    by r false e = r
+
+entered_from : (K : List Mark) (vs : List Life) → Apart (λ (v : Life). v.link) vs → AllByRecursion (λ (v : Life). IsSome (life v.link K)) vs → AllByRecursion (λ (v : Life). is_some (runner v.link K) ≡ true) vs → AreEntered K (link_list vs)
+entered_from K [] a k e = tt
+entered_from K (v ∷ vs) a k e = ((k.0, e.0), apart_links v.link vs a.0, entered_from K vs a.1 k.1 e.1)
+
+ends_run : (why : Cause) (vs : List Life) (l : ℕ) (K : List Mark) → runner l (after (end_all why vs) K) ≡ runner l K
+ends_run why [] l K = refl
+ends_run why (v ∷ vs) l K = ends_run why vs l (Ends v.link why ∷ K)
+
+-- the peers that expire, those that falter, and the connections that have waited too long
+abbrev pub expiring : Config → List Mark → List Life
+expiring g K = filter (is_silent g g.expired K) (lives K)
+
+abbrev pub wavering : Config → List Mark → List Life
+wavering g K = filter (is_faltering g K) (lives K)
+
+abbrev pub stale : Config → List Mark → List ℕ
+stale g K = filter (is_stale g K) (open_ones K)
+
+-- the chronicle where those that expire have ended, and where the others have faltered too
+abbrev pub expired : Config → List Mark → List Mark
+expired g K = after (end_all cause.Expired (expiring g K)) K
+
+abbrev pub faltered : Config → List Mark → List Mark
+faltered g K = after (in_turn (falters g) (link_list (wavering g K)) (expired g K)) (expired g K)
+
+module _ (g : Config) (K : List Mark) (t : Tables) (h : Holds g K t) where
+  excludes : (v : Life) → is_silent g g.expired K v ≡ true → is_faltering g K v ≡ false
+  excludes v e = rw e (by (is_entered K v))
+    where
+      by : (b : Bool) → (b && not true && is_silent g g.evasive K v) ≡ false
+      by true = refl
+      by false = refl
+
+  enters_it : (v : Life) → is_faltering g K v ≡ true → is_some (runner v.link K) ≡ true
+  enters_it v e = by (is_some (runner v.link K)) e
+    where
+      by : (b : Bool) → (b && not (is_silent g g.expired K v) && is_silent g g.evasive K v) ≡ true → b ≡ true
+      by true z = refl
+      by false z = absurd cc
+
+  idles : (c : ℕ) → is_stale g K c ≡ true → runs c K ≡ None
+  idles c e = none (runs c K) (and_parts (is_none (runs c K)) (leb g.expired (clock K - since c K)) e).0
+    where
+      none : (o : Option ℕ) → is_none o ≡ true → o ≡ None
+      none None z = refl
+      none (Some l) z = absurd cc
+
+  -- those that expire are known
+  pub expiring_known : (ls : List ℕ) → ls ≡ link_list (expiring g K) → AreKnown K ls
+  expiring_known ls e = subst (AreKnown K) (sym e)
+      (known_from K (expiring g K) (Apart-kept (λ (v : Life). v.link) (is_silent g g.expired K) (lives K) h.keeps.proper.living.apart)
+      (All-kept (λ (v : Life). IsSome (life v.link K)) (is_silent g g.expired K) (lives K) (each_known K)))
+
+  pub expire : (ls : List ℕ) (n : Tables) (a b : Effects) → ls ≡ link_list (expiring g K) → Did g (map (λ l. Ends l cause.Expired) ls) K n a b → Did g (end_all cause.Expired (expiring g K)) K n a b
+  expire ls n a b e d =
+      did_as g (end_all cause.Expired (expiring g K)) (map (λ l. Ends l cause.Expired) ls) K n a b
+      (sym (ap (λ ks. map (λ l. Ends l cause.Expired) ks) e ∙ map-map (λ (v : Life). v.link) (λ l. Ends l cause.Expired) (expiring g K))) d
+
+  -- the others are entered behind their ends
+  pub wavering_entered : (ls : List ℕ) → ls ≡ link_list (wavering g K) → AreEntered (expired g K) ls
+  wavering_entered ls e = subst (AreEntered (expired g K)) (sym e)
+      (entered_from (expired g K) (wavering g K) (Apart-kept (λ (v : Life). v.link) (is_faltering g K) (lives K) h.keeps.proper.living.apart)
+      (ends_known cause.Expired (expiring g K) (wavering g K) K (kept_far (is_silent g g.expired K) (is_faltering g K) excludes (lives K) h.keeps.proper.living.apart)
+      (All-kept (λ (v : Life). IsSome (life v.link K)) (is_faltering g K) (lives K) (each_known K)))
+      (passing (λ (v : Life). is_some (runner v.link (expired g K)) ≡ true) (is_faltering g K) (λ v p. ap is_some (ends_run cause.Expired (expiring g K) v.link K) ∙ enters_it v p) (lives K)))
+
+  pub falter_then : (ls : List ℕ) (n : Tables) (a b : Effects) → ls ≡ link_list (wavering g K) → Did g (in_turn (falters g) ls (expired g K)) (expired g K) n a b → Did g (in_turn (falters g) (link_list (wavering g K)) (expired g K)) (expired g K) n a b
+  falter_then ls n a b e d = subst (λ ks. Did g (in_turn (falters g) ks (expired g K)) (expired g K) n a b) e d
+
+  -- the connections run no peer even then
+  pub stale_idle : (cs : List ℕ) → cs ≡ stale g K → AreIdle (faltered g K) cs
+  stale_idle cs e = subst (AreIdle (faltered g K)) (sym e)
+      (passing (λ c. runs c (faltered g K) ≡ None) (is_stale g K)
+      (λ c p. idle_behind (in_turn (falters g) (link_list (wavering g K)) (expired g K)) (expired g K) c (falters_start_none g (link_list (wavering g K)) (expired g K))
+      (idle_behind (end_all cause.Expired (expiring g K)) K c (ends_start_none cause.Expired (expiring g K)) (idles c p))) (open_ones K))
+
+-- the marks of a tick, as they were left
+tick_marks : (g : Config) (K : List Mark) → at_tick g K ≡ end_all cause.Expired (expiring g K) ++ in_turn (falters g) (link_list (wavering g K)) (expired g K) ++ map (λ c. Closes c close.Timeout) (stale g K) ++ Calls g.port ∷ []
+tick_marks g K =
+    ap (λ hs. end_all cause.Expired (expiring g K) ++ hs ++ map (λ c. Closes c close.Timeout) (stale g K) ++ Calls g.port ∷ [])
+    (sym (falters_are g (wavering g K) (expired g K) K (ends_alike cause.Expired (expiring g K) K)))
+
+-- the whole tick from its parts
+pub ticks : (g : Config) (K : List Mark) (cs : List ℕ) (t n m : Tables) (a b c d e : Effects) → cs ≡ stale g K → Did g (end_all cause.Expired (expiring g K)) K t a b
+    → Did g (in_turn (falters g) (link_list (wavering g K)) (expired g K)) (expired g K) n b c → Did g (map (λ k. Closes k close.Timeout) cs) (faltered g K) m c d
+    → Did g (Calls g.port ∷ []) (after (map (λ k. Closes k close.Timeout) cs) (faltered g K)) m d e → Did g (at_tick g K) K m a e
+ticks g K cs t n m a b c d e is first second third fourth =
+    let E = end_all cause.Expired (expiring g K) in
+    let F = in_turn (falters g) (link_list (wavering g K)) (expired g K) in
+    let C = map (λ k. Closes k close.Timeout) cs in
+    let Z = Calls g.port ∷ [] in
+    did_as g (at_tick g K) (E ++ (F ++ (C ++ Z))) K m a e
+    (tick_marks g K ∙ ap (λ ks. E ++ F ++ map (λ k. Closes k close.Timeout) ks ++ Z) (sym is) ∙ append_assoc (E ++ F) C Z ∙ append_assoc E F (C ++ Z))
+    (did_then g E (F ++ (C ++ Z)) K t m a b e first (did_then g F (C ++ Z) (expired g K) n m b c e second (did_then g C Z (faltered g K) m m c d e third fourth)))
+
+-- ---- its entry
+
+pub tick_named : (e : Entry) → e.input ≡ input.Tick → ((l : ℕ) → names l e.input ≡ false) × (is_quiet e.input ≡ true)
+tick_named e is = (λ l. rw is refl, rw is refl)
+
+pub tick_input : (g : Config) (e : Entry) (H K : List Mark) → e.input ≡ input.Tick → at_input g e.input H K ≡ at_tick g K
+tick_input g e H K is = ap (λ i. at_input g i H K) is

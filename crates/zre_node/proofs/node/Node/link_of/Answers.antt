@@ -1,0 +1,11 @@
+use Rattle.std.proofs.Common.{◌≡◌, ◌∙◌}
+use Rattle.zre_journal.specs.Events.{chronicle}
+use Rattle.zre_journal.specs.Peers.{lives}
+use Rattle.zre_node.proofs.Asking.{rows}
+use Rattle.zre_node.proofs.Datagram.{link_in_rows}
+use Rattle.zre_node.proofs.node.Node.link_of.Goals as goal
+
+pub returns : goal.returns
+returns c = λ g J s.
+    let H = chronicle g J in
+    c.link_of.ensures ∙ link_in_rows g H c.args.id (lives H) c.args.self.now.tables.peers.entries (rows g H c.args.self.now.tables s.stands)

@@ -1,0 +1,105 @@
+//! What a node is asked between its steps. After want of memory nothing is said of the answers.
+
+ghost use Rattle.std.specs.Prelude.{◌≡◌, ◌<◌, ℕ, List, [], Some, None, is_some, length, option_map, option_copied, IfOk};
+ghost use Rattle.zre_outside.specs.declared.entry.Entry.{Entry as EntryValue};
+ghost use Rattle.zre_journal.specs.Asked.{entered_behind, front_behind, link_behind, unsent_behind, view_behind, HasFront};
+ghost use Rattle.zre_journal.specs.declared.config.Config.{Config as ConfigValue};
+ghost use Rattle.zre_journal.specs.Events.{chronicle};
+ghost use Rattle.zre_journal.specs.Happens.{has_stopped};
+ghost use Rattle.zre_journal.specs.Peers.{lives};
+ghost use Rattle.zre_node.specs.Journal.{StandsFor};
+ghost use Rattle.zre_node.specs.Asked.{ids_entered, view_among};
+
+use crate::ids::Ids;
+use crate::node::Node;
+use crate::peer::Peer;
+use crate::tables::link_of;
+use std::alloc::Global;
+use std::collections::BTreeMap;
+use zre_peer::View;
+use zre_values::{OutOfMemory, PeerId};
+
+// The peers among these that are entered, in order.
+fn entered(alloc: Global, peers: &BTreeMap<u64, Peer>) -> Result<Ids, OutOfMemory>
+    ensures { IfOk result (λ ids. ids ≡ ids_entered peers.now.entries) }
+{
+    let mut ids = Ids::new(alloc);
+    for (_, peer) in peers {
+        if peer.is_entered() {
+            ids.push(peer.id)?;
+        }
+    }
+    Ok(ids)
+}
+
+// The view of the peer with this id, where it is entered.
+fn view_of(peers: &BTreeMap<u64, Peer>, id: PeerId) -> Option<&View>
+    ensures { option_copied result ≡ view_among id peers.now.entries }
+{
+    for (_, peer) in peers {
+        if id == peer.id {
+            return peer.view();
+        }
+    }
+    None
+}
+
+impl Node {
+    /// What the peer with this id has told in its run: its name, its endpoint, its headers and its groups. None where it isn't
+    /// entered.
+    pub fn peer(&self, id: PeerId) -> Option<&View>
+        ensures { (g : ConfigValue) (J : List EntryValue) → StandsFor g J self.now → option_copied result ≡ view_behind g J id }
+    {
+        view_of(&self.tables.peers, id)
+    }
+
+    /// The entered peers, in order of birth.
+    pub fn peers(&self) -> Result<Ids, OutOfMemory>
+        ensures { (g : ConfigValue) (J : List EntryValue) → StandsFor g J self.now → IfOk result (λ ids. ids ≡ entered_behind g J) }
+    {
+        entered(self.tables.alloc, &self.tables.peers)
+    }
+
+    /// How many peers are known.
+    pub fn known(&self) -> usize
+        ensures { (g : ConfigValue) (J : List EntryValue) → StandsFor g J self.now → result ≡ length (lives (chronicle g J)) }
+    {
+        self.tables.peers.len()
+    }
+
+    /// The link of the peer with this id. None where it isn't known.
+    pub fn link_of(&self, id: PeerId) -> Option<u64>
+        ensures { (g : ConfigValue) (J : List EntryValue) → StandsFor g J self.now → result ≡ link_behind g J id }
+    {
+        link_of(&self.tables.peers, id)
+    }
+
+    /// Octets that may go out on a link now: the first of them at least, where there are any. None where the link isn't that of
+    /// a known peer.
+    pub fn front(&self, link: u64) -> Option<&[u8]>
+        ensures { (g : ConfigValue) (J : List EntryValue) → StandsFor g J self.now →
+            HasFront (front_behind g J link) (option_map (λ r. r.now) result) }
+    {
+        match self.tables.peers.get(&link) {
+            Some(peer) => Some(peer.link.front()),
+            None => None,
+        }
+    }
+
+    /// How many octets wait on a link. None where the link isn't that of a known peer.
+    pub fn unsent(&self, link: u64) -> Option<u64>
+        ensures { (g : ConfigValue) (J : List EntryValue) → StandsFor g J self.now → result ≡ unsent_behind g J link }
+    {
+        match self.tables.peers.get(&link) {
+            Some(peer) => Some(peer.link.unsent()),
+            None => None,
+        }
+    }
+
+    /// Whether the node has stopped.
+    pub fn stopped(&self) -> bool
+        ensures { (g : ConfigValue) (J : List EntryValue) → StandsFor g J self.now → result ≡ has_stopped (chronicle g J) }
+    {
+        self.tables.stopped
+    }
+}
