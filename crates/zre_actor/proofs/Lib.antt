@@ -5,3 +5,5 @@ pub mod EventSteps
 pub mod Callers
 pub mod Rows
 pub mod Finishing
+pub mod Deeds
+pub mod Taking

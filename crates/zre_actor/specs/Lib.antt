@@ -1,3 +1,4 @@
 pub mod Commands
 pub mod Events
 pub mod Passes
+pub mod Work

@@ -3,6 +3,7 @@
 //! a rule that each step keeps.
 #![tactic(auto)]
 
+mod doing;
 mod ending;
 mod passes;
 mod rules;

@@ -9,6 +9,7 @@ use crate::rules::{Commands, Heard, Sends, Takes};
 use crate::views::View;
 use zre_outside::Command;
 use crossbeam_queue::Pass;
+use std::alloc::Global;
 
 mod actor;
 mod callers;
@@ -22,6 +23,7 @@ pub use finish::Finished;
 /// The two pipes.
 #[derive(Drop)]
 pub struct Pipes {
+    alloc: Global,
     commands: Commands,
     events_in: Sends,
     events_out: Takes,

@@ -45,6 +45,7 @@ impl Pipes {
         }
         Ok(Made {
             pipes: Pipes {
+                alloc,
                 commands,
                 events_in,
                 events_out,

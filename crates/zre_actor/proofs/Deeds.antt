@@ -1,0 +1,67 @@
+-- What worlds tell, step by step, and the deeds of acts.
+use Rattle.std.proofs.Common.{◌≡◌, ℕ, ◌+◌, Bool, List, [], ◌∷◌, ◌++◌, map, take, Option, Some, None, refl, sym, ap, ◌∙◌, arith, subst, length, get_or, ◌<◌, add-one, append_assoc, append-nil}
+use Rattle.std.proofs.Math.Seq.{take-suc}
+use Rattle.std.specs.Prelude.{option_map, option_to_list}
+use Rattle.zre_outside.specs.declared.act.Act.{Act}
+use Rattle.zre_outside.specs.declared.deed.Deed.{Deed}
+use Rattle.zre_outside.specs.declared.entry.Entry.{Entry}
+use Rattle.zre_outside.specs.declared.entry.Command.{Command}
+use Rattle.zre_outside.specs.declared.turn.Turn.TheVariants as turn
+use Rattle.zre_outside.specs.Worlds.{Log, after_turn, with_deed}
+use Rattle.zre_journal.specs.declared.config.Config.{Config}
+use Rattle.zre_actor.specs.Work.{went, IsDeed, AreDeeds, beside, DoesAll}
+
+alike : (l : Log) (g g' : List Entry) (n n' : ℕ) (h h' : List Command) (d d' : List Deed) → g ≡ g' → n ≡ n' → h ≡ h' → d ≡ d'
+    → (let log : List Entry → ℕ → List Command → List Deed → Log = λ a b c e. record { begun = l.begun; given = a; looks = b; handed = c; done = e } in log g n h d ≡ log g' n' h' d')
+alike l g g' n n' h h' d d' eg en eh ed = λ i. record { begun = l.begun; given = eg i; looks = en i; handed = eh i; done = ed i }
+
+pub went-none : (told : Option Log) → told ≡ option_map (went [] 0 [] []) told
+went-none None = refl
+went-none (Some l) = ap Some (alike l l.given (l.given ++ []) l.looks (l.looks + 0) l.handed (l.handed ++ []) l.done (l.done ++ []) (sym (append-nil l.given)) (omega arith) (sym (append-nil l.handed)) (sym (append-nil l.done)))
+
+pub went-went : (told : Option Log) (g g' : List Entry) (n n' : ℕ) (h h' : List Command) (d d' : List Deed)
+    → option_map (went g' n' h' d') (option_map (went g n h d) told) ≡ option_map (went (g ++ g') (n + n') (h ++ h') (d ++ d')) told
+went-went None g g' n n' h h' d d' = refl
+went-went (Some l) g g' n n' h h' d d' = ap Some (alike l ((l.given ++ g) ++ g') (l.given ++ (g ++ g')) (l.looks + n + n') (l.looks + (n + n')) ((l.handed ++ h) ++ h') (l.handed ++ (h ++ h')) ((l.done ++ d) ++ d') (l.done ++ (d ++ d'))
+    (append_assoc l.given g g') (omega arith) (append_assoc l.handed h h') (append_assoc l.done d d'))
+
+pub one_deed : (told : Option Log) (d : Deed) → option_map (with_deed d) told ≡ option_map (went [] 0 [] (d ∷ [])) told
+one_deed None d = refl
+one_deed (Some l) d = ap Some (alike l l.given (l.given ++ []) l.looks (l.looks + 0) l.handed (l.handed ++ []) (l.done ++ d ∷ []) (l.done ++ d ∷ []) (sym (append-nil l.given)) (omega arith) (sym (append-nil l.handed)) refl)
+
+pub one_look : (told : Option Log) (c : Option Command) → option_map (after_turn c turn.Look) told ≡ option_map (went [] 1 [] []) told
+one_look None c = refl
+one_look (Some l) c = ap Some (alike l l.given (l.given ++ []) (l.looks + 1) (l.looks + 1) l.handed (l.handed ++ []) l.done (l.done ++ []) (sym (append-nil l.given)) refl (sym (append-nil l.handed)) (sym (append-nil l.done)))
+
+pub one_entry : (told : Option Log) (c : Option Command) (e : Entry) → option_map (after_turn c (turn.Entry e)) told ≡ option_map (went (e ∷ []) 0 (option_to_list c) []) told
+one_entry None c e = refl
+one_entry (Some l) c e = ap Some (alike l (l.given ++ e ∷ []) (l.given ++ e ∷ []) l.looks (l.looks + 0) (l.handed ++ option_to_list c) (l.handed ++ option_to_list c) l.done (l.done ++ []) refl (omega arith) refl (sym (append-nil l.done)))
+
+-- ---- deeds of acts
+
+pub AreDeeds-append : (g : Config) (xs ys : List (List Entry × Act)) (ds es : List Deed) → AreDeeds g xs ds → AreDeeds g ys es → AreDeeds g (xs ++ ys) (ds ++ es)
+AreDeeds-append g [] ys [] es a b = b
+AreDeeds-append g [] ys (d ∷ ds) es a b = absurd a
+AreDeeds-append g (x ∷ xs) ys [] es a b = absurd a
+AreDeeds-append g (x ∷ xs) ys (d ∷ ds) es a b = (a.0, AreDeeds-append g xs ys ds es a.1 b)
+
+pub beside-append : (J : List Entry) (acts more : List Act) → beside J (acts ++ more) ≡ beside J acts ++ beside J more
+beside-append J [] more = refl
+beside-append J (a ∷ acts) more = let x : List Entry × Act = (J, a) in ap (λ l. x ∷ l) (beside-append J acts more)
+
+-- one act more was done
+pub did_more : (g : Config) (J : List Entry) (acts : List Act) (a : Act) (d : Deed) (ds : List Deed) (told told' told'' : Option Log) → AreDeeds g (beside J acts) ds → told' ≡ option_map (went [] 0 [] ds) told
+    → IsDeed g J a d → told'' ≡ option_map (with_deed d) told'
+    → (es : List Deed) × AreDeeds g (beside J (acts ++ a ∷ [])) es × (told'' ≡ option_map (went [] 0 [] es) told)
+did_more g J acts a d ds told told' told'' old is one new =
+    let both : AreDeeds g (beside J acts ++ (J, a) ∷ []) (ds ++ d ∷ []) = AreDeeds-append g (beside J acts) ((J, a) ∷ []) ds (d ∷ []) old (one, tt) in
+    let along : beside J (acts ++ a ∷ []) ≡ beside J acts ++ (J, a) ∷ [] = beside-append J acts (a ∷ []) in
+    (
+      ds ++ d ∷ [],
+      subst (λ xs. AreDeeds g xs (ds ++ d ∷ [])) (sym along) both,
+      new ∙ ap (option_map (with_deed d)) is ∙ one_deed (option_map (went [] 0 [] ds) told) d ∙ went-went told [] [] 0 0 [] [] ds (d ∷ []),
+    )
+
+-- the act at this place
+pub take_next : (acts : List Act) (i : ℕ) (a : Act) → i < length acts → a ≡ get_or acts i a → take (i + 1) acts ≡ take i acts ++ a ∷ []
+take_next acts i a lt is = ap (λ n. take n acts) (add-one i) ∙ take-suc acts i a lt ∙ ap (λ x. take i acts ++ x ∷ []) (sym is)
