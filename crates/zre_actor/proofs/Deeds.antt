@@ -9,7 +9,8 @@ use Rattle.zre_outside.specs.declared.entry.Command.{Command}
 use Rattle.zre_outside.specs.declared.turn.Turn.TheVariants as turn
 use Rattle.zre_outside.specs.Worlds.{Log, after_turn, with_deed}
 use Rattle.zre_journal.specs.declared.config.Config.{Config}
-use Rattle.zre_actor.specs.Work.{went, IsDeed, AreDeeds, beside, DoesAll}
+use Rattle.zre_journal.specs.Events.{chronicle, acts_behind}
+use Rattle.zre_actor.specs.Work.{went, IsDeed, AreDeeds, beside, acts_of}
 
 alike : (l : Log) (g g' : List Entry) (n n' : ℕ) (h h' : List Command) (d d' : List Deed) → g ≡ g' → n ≡ n' → h ≡ h' → d ≡ d'
     → (let log : List Entry → ℕ → List Command → List Deed → Log = λ a b c e. record { begun = l.begun; given = a; looks = b; handed = c; done = e } in log g n h d ≡ log g' n' h' d')
@@ -65,3 +66,33 @@ did_more g J acts a d ds told told' told'' old is one new =
 -- the act at this place
 pub take_next : (acts : List Act) (i : ℕ) (a : Act) → i < length acts → a ≡ get_or acts i a → take (i + 1) acts ≡ take i acts ++ a ∷ []
 take_next acts i a lt is = ap (λ n. take n acts) (add-one i) ∙ take-suc acts i a lt ∙ ap (λ x. take i acts ++ x ∷ []) (sym is)
+
+-- ---- turns
+
+same_went : (told : Option Log) (g g' : List Entry) (n n' : ℕ) (h h' : List Command) (d d' : List Deed) → g ≡ g' → n ≡ n' → h ≡ h' → d ≡ d' → option_map (went g n h d) told ≡ option_map (went g' n' h' d') told
+same_went told g g' n n' h h' d d' eg en eh ed = λ i. option_map (went (eg i) (en i) (eh i) (ed i)) told
+
+-- a look was answered
+pub after_look : (s t t' : Option Log) (c : Option Command) (es : List Entry) (n : ℕ) (h : List Command) (ds : List Deed) → t ≡ option_map (went es n h ds) s → t' ≡ option_map (after_turn c turn.Look) t → t' ≡ option_map (went es (n + 1) h ds) s
+after_look s t t' c es n h ds is new = new ∙ one_look t c ∙ ap (option_map (went [] 1 [] [])) is ∙ went-went s es [] n 1 h [] ds []
+    ∙ same_went s (es ++ []) es (n + 1) (n + 1) (h ++ []) h (ds ++ []) ds (append-nil es) refl (append-nil h) (append-nil ds)
+
+-- an entry was given, and these deeds done
+pub after_entry : (s t u t' : Option Log) (c : Option Command) (e : Entry) (es : List Entry) (n : ℕ) (h : List Command) (ds more : List Deed)
+    → t ≡ option_map (went es n h ds) s → u ≡ option_map (after_turn c (turn.Entry e)) t → t' ≡ option_map (went [] 0 [] more) u → t' ≡ option_map (went (es ++ e ∷ []) n (h ++ option_to_list c) (ds ++ more)) s
+after_entry s t u t' c e es n h ds more is given done =
+    done ∙ ap (option_map (went [] 0 [] more)) (given ∙ one_entry t c e ∙ ap (option_map (went (e ∷ []) 0 (option_to_list c) [])) is ∙ went-went s es (e ∷ []) n 0 h (option_to_list c) ds [])
+    ∙ went-went s (es ++ e ∷ []) [] (n + 0) 0 (h ++ option_to_list c) [] (ds ++ []) more
+    ∙ same_went s ((es ++ e ∷ []) ++ []) (es ++ e ∷ []) (n + 0 + 0) n ((h ++ option_to_list c) ++ []) (h ++ option_to_list c) ((ds ++ []) ++ more) (ds ++ more)
+        (append-nil (es ++ e ∷ [])) (omega arith) (append-nil (h ++ option_to_list c)) (ap (λ x. x ++ more) (append-nil ds))
+
+-- ---- the acts of entries
+
+abbrev its_acts : Config → Entry → List Entry → List (List Entry × Act)
+its_acts g e J = beside (J ++ e ∷ []) (acts_behind g (e ∷ []) (chronicle g J))
+
+pub acts_of-snoc : (g : Config) (J es : List Entry) (e : Entry) → acts_of g J (es ++ e ∷ []) ≡ acts_of g J es ++ beside ((J ++ es) ++ e ∷ []) (acts_behind g (e ∷ []) (chronicle g (J ++ es)))
+acts_of-snoc g J [] e = append-nil (its_acts g e J) ∙ ap (its_acts g e) (sym (append-nil J))
+acts_of-snoc g J (x ∷ xs) e =
+    ap (λ l. its_acts g x J ++ l) (acts_of-snoc g (J ++ x ∷ []) xs e ∙ ap (λ M. acts_of g (J ++ x ∷ []) xs ++ its_acts g e M) (append_assoc J (x ∷ []) xs))
+    ∙ sym (append_assoc (its_acts g x J) (acts_of g (J ++ x ∷ []) xs) (its_acts g e (J ++ x ∷ xs)))

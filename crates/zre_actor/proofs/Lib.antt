@@ -7,3 +7,4 @@ pub mod Rows
 pub mod Finishing
 pub mod Deeds
 pub mod Taking
+pub mod Working

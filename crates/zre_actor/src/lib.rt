@@ -9,7 +9,9 @@ mod passes;
 mod rules;
 mod told;
 mod views;
+mod work;
 
 pub use ending::Ending;
 pub use passes::{ActorPass, CallerPass, CallerPasses, Finished, Full, Made, Pipes, TakerPass};
 pub use told::Told;
+pub use work::Worked;

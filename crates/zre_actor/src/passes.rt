@@ -23,7 +23,7 @@ pub use finish::Finished;
 /// The two pipes.
 #[derive(Drop)]
 pub struct Pipes {
-    alloc: Global,
+    pub(crate) alloc: Global,
     commands: Commands,
     events_in: Sends,
     events_out: Takes,
