@@ -9,7 +9,8 @@ use zre_outside::Command;
 use std::sync::Wait;
 
 impl Pipes {
-    /// Puts a command. It comes back only where the pipe was full at one moment of the call.
+    /// Puts a command at the end of the pipe. It comes back only where the pipe held as many as it may at one moment of the
+    /// call. It may spin while a step of another thread is under way.
     pub fn put<R: Wait + Copy>(
         &self,
         rt: R,
@@ -40,8 +41,10 @@ impl Pipes {
         }
     }
 
-    /// One pass in place of two. Nothing is put under the other's number any more.
-    pub fn absorb(&self, pass: CallerPass, other: CallerPass) -> CallerPass
+    /// One pass in place of two: that of `pass`, which keeps what both put. Nothing is put under the other's number any
+    /// more, and what was put under it comes in front of all that is put with this pass from now on. It waits for nobody: it
+    /// asks nothing of the runtime.
+    pub fn absorb<R: Copy>(&self, _rt: R, pass: CallerPass, other: CallerPass) -> CallerPass
         requires { IsCallerOf self.now pass × IsCallerOf self.now other }
         ensures pipes { IsCallerOf self.now result }
         ensures number { number result ≡ number pass }
