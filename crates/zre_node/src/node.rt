@@ -13,7 +13,7 @@ use std::alloc::Global;
 use std::collections::BTreeMap;
 use zre_group::Own;
 use zre_journal::Config;
-use zre_outside::{Command, Entry, Input};
+use zre_outside::Entry;
 use zre_values::{Endpoint, OutOfMemory};
 
 /// A node of RFC 36, to which the entries of a journal are told one by one.
@@ -53,13 +53,13 @@ impl Node {
     /// One entry of the journal: what it tells, and what it asks of the outside. After a stop nothing has an effect. After want
     /// of memory the node is spent: it answers that to every later entry.
     pub fn step(&mut self, entry: Entry) -> Result<Step, OutOfMemory>
+        requires { is_covered entry.input ≡ true }
         ensures steps { (g : ConfigValue) (J : List EntryValue) → StandsFor g J self.old →
             IfOk result (λ s. Steps g J entry self.new s) }
         ensures spent { IsTrue (is_spent self.new) ↔ IsErr result }
         ensures ended { IsTrue (is_spent self.old) → IsErr result }
     {
-        if self.spent || !is_known(&entry.input) {
-            self.spent = true;
+        if self.spent {
             return Err(OutOfMemory);
         }
         self.spent = true;
@@ -70,19 +70,5 @@ impl Node {
         self.spent = false;
         let Effects { events, acts, .. } = out;
         Ok(Step { events, acts })
-    }
-}
-
-fn is_known(input: &Input) -> bool
-    ensures { result ≡ is_covered input.now }
-{
-    match input {
-        Input::Datagram { .. } => true,
-        Input::Opened { .. } => true,
-        Input::Shut { .. } => true,
-        Input::Piece { .. } => true,
-        Input::End => true,
-        Input::Do(Command::Quit) => true,
-        _ => false,
     }
 }
