@@ -2,6 +2,8 @@
 //! source and a sink.
 #![tactic(auto)]
 
+mod keys;
+mod node_words;
 mod top;
 mod words;
 

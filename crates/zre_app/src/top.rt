@@ -1,10 +1,13 @@
 //! The top call: the command that the words ask for, over a source and a sink.
 
-ghost use Rattle.std.specs.Prelude.{◌≡◌, ◌≤◌, Some, None};
+ghost use Rattle.std.specs.Prelude.{◌≡◌, ◌≤◌, Some, None, true};
 ghost use Rattle.zre_values.specs.declared.peer_id.PeerId.{PeerId};
 ghost use Rattle.zre_outside.specs.Causes.{Rose};
 ghost use Rattle.zre_pump.specs.Outcome.{Pumped};
 ghost use Rattle.zre_follow.specs.Follow.{follow};
+ghost use Rattle.zre_journal.specs.Config.{is_valid};
+ghost use Rattle.zre_journal.specs.declared.config.Config.{Config as ConfigValue};
+ghost use Rattle.zre_replay.specs.Replay.{replay};
 ghost use Rattle.zre_show.specs.Show.{show};
 ghost use Rattle.zre_app.specs.declared.words.Command.TheVariants as commands;
 ghost use Rattle.zre_app.specs.Usage.{UsageOutcome};
@@ -13,10 +16,12 @@ ghost use Rattle.zre_app.specs.Words.{command_of};
 use crate::words::{Command, command_of};
 use std::alloc::Global;
 use zre_follow::Follower;
+use zre_journal::Config;
 use zre_outside::{NextFault, Sink, Source, write_all};
 use zre_pump::{Status, pump};
+use zre_replay::Replayer;
 use zre_show::Lister;
-use zre_values::{Frames, PeerId};
+use zre_values::{Frames, OutOfMemory, PeerId};
 
 /// The most octets that `zre` reads.
 pub const LIMIT: u64 = (1 << 63) - 1;
@@ -67,6 +72,26 @@ fn show<I: Source, O: Sink>(alloc: Global, input: &mut I, out: &mut O, limit: u6
     pump(alloc, &mut machine, input, out, limit)
 }
 
+fn replay<I: Source, O: Sink>(
+    alloc: Global,
+    config: Config,
+    input: &mut I,
+    out: &mut O,
+    limit: u64,
+) -> Status
+    requires { is_valid config ≡ true }
+    ensures pumped { Pumped result limit (replay config)
+        (I.left input.old) (I.left input.new) (I.taken input.old) (I.taken input.new) (O.written out.old) (O.written out.new)
+        (Rose (I.faults input.old) (I.faults input.new)) (Rose (O.faults out.old) (O.faults out.new)) }
+    ensures reads { I.faults input.old ≤ I.faults input.new }
+    ensures writes { O.faults out.old ≤ O.faults out.new }
+{
+    match Replayer::new(alloc, config) {
+        Ok(mut machine) => pump(alloc, &mut machine, input, out, limit),
+        Err(OutOfMemory) => Status::OutOfMemory,
+    }
+}
+
 /// Does what the words ask for, and reads at most `limit` octets. The source comes back as it was left.
 pub fn run<R: AllocGlobal + Copy, I: Source, O: Sink>(
     rt: R,
@@ -89,25 +114,24 @@ pub fn run<R: AllocGlobal + Copy, I: Source, O: Sink>(
         Pumped result.status limit show
         (I.left input) (I.left result.input) (I.taken input) (I.taken result.input) (O.written out.old) (O.written out.new)
         (Rose (I.faults input) (I.faults result.input)) (Rose (O.faults out.old) (O.faults out.new)) }
+    ensures replay { (g : ConfigValue) → command_of words.now ≡ Some (commands.Replay g) →
+        Pumped result.status limit (replay g)
+        (I.left input) (I.left result.input) (I.taken input) (I.taken result.input) (O.written out.old) (O.written out.new)
+        (Rose (I.faults input) (I.faults result.input)) (Rose (O.faults out.old) (O.faults out.new)) }
     ensures reads { I.faults input ≤ I.faults result.input }
     ensures writes { O.faults out.old ≤ O.faults out.new }
 {
-    match command_of(words) {
-        None => Ended {
-            status: usage(out),
-            input,
-        },
-        Some(Command::Follow { id }) => {
-            let mut input = input;
-            let status = follow(rt.alloc(), id, &mut input, out, limit);
-            Ended { status, input }
+    let mut input = input;
+    let status = match command_of(rt.alloc(), words) {
+        Ok(None) => usage(out),
+        Ok(Some(Command::Follow { id })) => follow(rt.alloc(), id, &mut input, out, limit),
+        Ok(Some(Command::Show)) => show(rt.alloc(), &mut input, out, limit),
+        Ok(Some(Command::Replay { config })) => {
+            replay(rt.alloc(), config, &mut input, out, limit)
         }
-        Some(Command::Show) => {
-            let mut input = input;
-            let status = show(rt.alloc(), &mut input, out, limit);
-            Ended { status, input }
-        }
-    }
+        Err(OutOfMemory) => Status::OutOfMemory,
+    };
+    Ended { status, input }
 }
 
 /// Does what the words ask for. It is `run` with a limit that no input reaches.
@@ -126,6 +150,10 @@ pub fn zre<R: AllocGlobal + Copy, I: Source, O: Sink>(
         (Rose (I.faults input) (I.faults result.input)) (Rose (O.faults out.old) (O.faults out.new)) }
     ensures show { command_of words.now ≡ Some commands.Show →
         Pumped result.status LIMIT show
+        (I.left input) (I.left result.input) (I.taken input) (I.taken result.input) (O.written out.old) (O.written out.new)
+        (Rose (I.faults input) (I.faults result.input)) (Rose (O.faults out.old) (O.faults out.new)) }
+    ensures replay { (g : ConfigValue) → command_of words.now ≡ Some (commands.Replay g) →
+        Pumped result.status LIMIT (replay g)
         (I.left input) (I.left result.input) (I.taken input) (I.taken result.input) (O.written out.old) (O.written out.new)
         (Rose (I.faults input) (I.faults result.input)) (Rose (O.faults out.old) (O.faults out.new)) }
     ensures reads { I.faults input ≤ I.faults result.input }

@@ -1,33 +1,24 @@
-ghost use Rattle.std.specs.Prelude.{◌≡◌, map, count_by, is_some, option_copied, option_map, option_and_then};
-ghost use Rattle.std.specs.List.{list_all, list_any};
+ghost use Rattle.std.specs.Prelude.{◌≡◌, IfOk};
+ghost use Rattle.std.specs.List.{list_all};
 ghost use Rattle.std.specs.Str.{is_utf8};
-ghost use Rattle.zre_app.specs.Words.{are_words_of, begins, behind, command_of, follow_of, identity, may_stand, show_of, value_of};
+ghost use Rattle.zre_app.specs.Words.{command_of, follow_of, show_of, replay_of, IsReady};
 
+use crate::keys::{Key, Often, are_words_of, identity, value_of};
+use crate::node_words::{config_in, node_keys};
+use std::alloc::Global;
 use std::str;
-use zre_values::{Frames, Octets, PeerId};
+use zre_journal::Config;
+use zre_values::{Frames, Octets, OutOfMemory, PeerId};
 
 /// What the words ask for.
-#[derive(Clone, Copy, Debug, PartialEq, Eq)]
+#[derive(Debug, Drop)]
 pub enum Command {
     /// Write the events of one connection of this peer.
     Follow { id: PeerId },
     /// Write a line for each item of a whole stream.
     Show,
-}
-
-/// In how many words a key may stand.
-#[derive(Clone, Copy, Debug, PartialEq, Eq)]
-enum Often {
-    Once,
-    AtMostOnce,
-    AnyTimes,
-}
-
-/// A key of a command, with its `=`, and how often it may stand.
-#[derive(Clone, Copy, Debug)]
-struct Key<'a> {
-    name: &'a [u8],
-    often: Often,
+    /// Write the events of a node with these settings, from a capture of its journal.
+    Replay { config: Config },
 }
 
 fn is_text(word: &[u8]) -> bool
@@ -43,92 +34,6 @@ fn are_texts(words: &[Octets]) -> bool
     ensures { result ≡ list_all is_utf8 words.now }
 {
     words.iter().all(|word| is_text(word.as_slice()))
-}
-
-fn behind<'a>(key: &[u8], word: &'a [u8]) -> Option<&'a [u8]>
-    ensures { option_copied result ≡ behind key.now word.now }
-{
-    let mut rest = word;
-    for k in key {
-        match rest.split_first() {
-            None => return None,
-            Some((c, others)) => {
-                if *c != *k {
-                    return None;
-                }
-                rest = others;
-            }
-        }
-    }
-    Some(rest)
-}
-
-fn begins(key: &[u8], word: &[u8]) -> bool
-    ensures { result ≡ begins key.now word.now }
-{
-    behind(key, word).is_some()
-}
-
-fn is_known(keys: &[Key<'_>], word: &[u8]) -> bool
-    ensures { result ≡ list_any (λ key. begins key.name.now word.now) keys.now }
-{
-    keys.iter().any(|key| begins(key.name, word))
-}
-
-fn count_of(key: &[u8], words: &[Octets]) -> usize
-    ensures { result ≡ count_by (begins key.now) words.now }
-{
-    words
-        .iter()
-        .filter(|word| begins(key, word.as_slice()))
-        .count()
-}
-
-fn may_stand(often: Often, count: usize) -> bool
-    ensures { result ≡ may_stand often count }
-{
-    match often {
-        Often::Once => count == 1,
-        Often::AtMostOnce => count <= 1,
-        Often::AnyTimes => true,
-    }
-}
-
-fn all_known(keys: &[Key<'_>], words: &[Octets]) -> bool
-    ensures { result ≡ list_all (λ word. list_any (λ key. begins key.name.now word) keys.now) words.now }
-{
-    words.iter().all(|word| is_known(keys, word.as_slice()))
-}
-
-fn all_stand(keys: &[Key<'_>], words: &[Octets]) -> bool
-    ensures { result ≡ list_all (λ key. may_stand key.often (count_by (begins key.name.now) words.now)) keys.now }
-{
-    keys.iter()
-        .all(|key| may_stand(key.often, count_of(key.name, words)))
-}
-
-// Whether the words are those of a command with these keys.
-fn are_words_of(keys: &[Key<'_>], words: &[Octets]) -> bool
-    ensures { result ≡ are_words_of (map (λ key. (key.name.now, key.often)) keys.now) words.now }
-{
-    all_known(keys, words) && all_stand(keys, words)
-}
-
-fn value_of<'a>(key: &[u8], words: &'a [Octets]) -> Option<&'a [u8]>
-    ensures { option_copied result ≡ value_of key.now words.now }
-{
-    for word in words {
-        if begins(key, word.as_slice()) {
-            return behind(key, word.as_slice());
-        }
-    }
-    None
-}
-
-fn identity(text: &[u8]) -> Option<PeerId>
-    ensures { result ≡ identity text.now }
-{
-    PeerId::read_octets(text)
 }
 
 fn follow_of(words: &[Octets]) -> Option<Command>
@@ -160,23 +65,40 @@ fn show_of(words: &[Octets]) -> Option<Command>
     }
 }
 
+fn replay_of(alloc: Global, words: &[Octets]) -> Result<Option<Command>, OutOfMemory>
+    ensures value { IfOk result (λ command. command ≡ replay_of words.now) }
+    ensures ready { IfOk result IsReady }
+{
+    if !are_words_of(&node_keys(), words) {
+        return Ok(None);
+    }
+    match config_in(alloc, words)? {
+        Some(config) => Ok(Some(Command::Replay { config })),
+        None => Ok(None),
+    }
+}
+
 /// The command that the words are: those behind the program's name, each as its octets. None where they are in no
 /// command's list, or where one isn't UTF-8.
-pub fn command_of(words: &Frames) -> Option<Command>
-    ensures { result ≡ command_of words.now }
+pub fn command_of(alloc: Global, words: &Frames) -> Result<Option<Command>, OutOfMemory>
+    ensures value { IfOk result (λ command. command ≡ command_of words.now) }
+    ensures ready { IfOk result IsReady }
 {
     let words = words.as_slice();
     let Some((name, others)) = words.split_first() else {
-        return None;
+        return Ok(None);
     };
     if !are_texts(words) {
-        return None;
+        return Ok(None);
     }
     if name.as_slice() == b"follow".as_slice() {
-        return follow_of(others);
+        return Ok(follow_of(others));
     }
     if name.as_slice() == b"show".as_slice() {
-        return show_of(others);
+        return Ok(show_of(others));
     }
-    None
+    if name.as_slice() == b"replay".as_slice() {
+        return replay_of(alloc, others);
+    }
+    Ok(None)
 }

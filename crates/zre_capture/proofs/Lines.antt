@@ -54,7 +54,7 @@ end-more n t [] some = absurd (omega (arith, some))
 end-more n t (next ∷ more) some = refl
 
 -- a bad line, with others behind it
-entries-bad : (n : ℕ) (t : List ℕ) (ls : List (List ℕ)) → 0 < length ls → line_of n t ≡ None → entries_from n (t ∷ ls) ≡ []
+pub entries-bad : (n : ℕ) (t : List ℕ) (ls : List (List ℕ)) → 0 < length ls → line_of n t ≡ None → entries_from n (t ∷ ls) ≡ []
 unfolding entries_from
 entries-bad n t [] some e = absurd (omega (arith, some))
 entries-bad n t (next ∷ more) some e = ap (λ (o : Option (List Entry)). option_map_or (λ (fs : List Entry). fs ++ entries_from (n + 1) (next ∷ more)) o []) e

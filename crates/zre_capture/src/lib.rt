@@ -16,6 +16,7 @@ mod word;
 pub use fault::{BadCapture, CaptureFault};
 pub use line::{HEAD, LINE_OCTETS, push_entry, write_entry};
 pub use reader::CaptureReader;
+pub use value::{address, number};
 
 #[cfg(test)]
 mod tests;

@@ -6,6 +6,7 @@ ghost use Rattle.zre_capture.specs.Values.{number_of, address_of, id_of, group_o
 use std::alloc::Global;
 use zre_values::{Octets, OutOfMemory, PeerId, is_quoted, read_address, read_decimal, unquote};
 
+/// A number in decimal digits, without a sign or leading zeros.
 pub fn number(field: &[u8]) -> Option<u64>
     ensures { result ≡ number_of field.now }
 {
@@ -13,6 +14,7 @@ pub fn number(field: &[u8]) -> Option<u64>
     Some(n)
 }
 
+/// An address `a.b.c.d`.
 pub fn address(field: &[u8]) -> Option<[u8; 4]>
     ensures { result ≡ address_of field.now }
 {

@@ -1,12 +1,13 @@
 //! The settings of a node.
 
-ghost use Rattle.std.specs.Prelude.{◌≡◌, not, ◌&&◌, nat_le, length};
+ghost use Rattle.std.specs.Prelude.{◌≡◌, not, ◌&&◌, nat_le, length, IfOk};
 ghost use Rattle.std.specs.List.{list_all, list_any};
 ghost use Rattle.std.specs.Str.{bytes_eq};
 ghost use Rattle.zre_journal.specs.Config.{is_valid, are_apart, is_fitting};
 
+use std::alloc::Global;
 use zre_values::limits::HEADERS;
-use zre_values::{Octets, Pairs, PeerId};
+use zre_values::{Octets, OutOfMemory, Pairs, PeerId};
 
 // Octets of the node's name, and of the name and the value of one of its headers.
 const NAME_OCTETS: usize = 255;
@@ -71,6 +72,21 @@ impl Config {
             && self.headers.len() <= HEADERS
             && are_fitting(self.headers.as_slice())
             && are_apart(self.headers.as_slice())
+    }
+
+    /// The same settings once more.
+    pub fn copy(alloc: Global, other: &Config) -> Result<Config, OutOfMemory>
+        ensures { IfOk result (λ config. config ≡ other.now) }
+    {
+        Ok(Config {
+            id: other.id,
+            name: Octets::copy(alloc, other.name.as_slice())?,
+            headers: Pairs::copy(alloc, &other.headers)?,
+            host: other.host,
+            port: other.port,
+            evasive: other.evasive,
+            expired: other.expired,
+        })
     }
 
     /// Whether a node can be with these settings: the name has at most 255 octets, the headers are at most 256, of

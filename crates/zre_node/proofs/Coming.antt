@@ -1,18 +1,17 @@
 -- An entry comes: the clock goes on, and a piece is read.
-use Rattle.std.proofs.Common.{◌≡◌, ℕ, Bool, true, false, cond, not, ◌&&◌, ◌||◌, eqb, if◌then◌else◌, max, List, [], ◌∷◌, ◌++◌, length, drop, Option, Some, None, find, Result, Ok, Err, OnOk, IfOk, refl, sym, ap, ◌∙◌, nat_cmp, subst, eq-eqb, eqb-true, append-nil}
+use Rattle.std.proofs.Common.{◌≡◌, ℕ, Bool, true, false, ◌||◌, eqb, if◌then◌else◌, max, List, [], ◌∷◌, ◌++◌, length, drop, Some, None, Result, Ok, Err, OnOk, IfOk, refl, sym, ap, ◌∙◌, nat_cmp, subst, eq-eqb, eqb-true, append-nil}
 use Rattle.std.specs.List.{AllByRecursion, list_any}
 use Rattle.std.specs.BTreeMap.{BTreeMap, is_at}
-use Rattle.std.specs.Map.{lookup, set_value}
-use Rattle.zre_values.specs.declared.memory.OutOfMemory.{OutOfMemory}
+use Rattle.std.specs.Map.{set_value}
 use Rattle.zre_outside.specs.declared.entry.Entry.{Entry}
 use Rattle.zre_outside.specs.declared.entry.Input.{Input}
 use Rattle.zre_outside.specs.declared.entry.Input.TheVariants as input
-use Rattle.zre_mailbox.specs.Conn.{Hearing, conn_after}
-use Rattle.zre_mailbox.specs.Talk.{Said, talk, completed}
+use Rattle.zre_mailbox.specs.Conn.{conn_after}
+use Rattle.zre_mailbox.specs.Talk.{talk, completed}
 use Rattle.zre_link.specs.Link.{link_after}
 use Rattle.zre_journal.specs.declared.config.Config.{Config}
 use Rattle.zre_journal.specs.Chronicle.{Mark, Comes}
-use Rattle.zre_journal.specs.Heard.{clock, bytes, piece_of, was_opened, newly_said}
+use Rattle.zre_journal.specs.Heard.{bytes, piece_of, was_opened, newly_said}
 use Rattle.zre_journal.specs.Connections.{open_ones, is_open, is_live, is_ignored, since, identity, runs}
 use Rattle.zre_journal.specs.Peers.{Life, lives}
 use Rattle.zre_journal.specs.Links.{bodies, is_linked, replies, reply_of, taken}
@@ -21,13 +20,11 @@ use Rattle.zre_journal.proofs.Kept.{Comes-proper}
 use Rattle.zre_journal.proofs.Listed.{eqb-comm, found_passes, any_has}
 use Rattle.zre_node.specs.declared.connection.Connection.{Connection}
 use Rattle.zre_node.specs.declared.arrivals.Heard.{Heard}
-use Rattle.zre_node.specs.declared.peer.Peer.{Peer}
 use Rattle.zre_node.specs.declared.tables.Tables.{Tables}
 use Rattle.zre_node.specs.Said.{said_in}
 use Rattle.zre_node.specs.Tabled.{Tabled}
-use Rattle.zre_node.specs.Stands.{Holds, Keeps, IsPeer, IsConn, kept_conn, heard_by, is_quiet}
+use Rattle.zre_node.specs.Stands.{Holds, IsPeer, IsConn, kept_conn, heard_by, is_quiet}
 use Rattle.zre_node.proofs.Entries.{changed, retold, retold_of}
-use Rattle.zre_node.proofs.Ending.{conn_row, row_conn, no_conn, not_live}
 use Rattle.zre_node.proofs.Faulting.{dead_places}
 
 quiet_piece : (c : ℕ) (i : Input) → is_quiet i ≡ true → piece_of c i ≡ []
@@ -46,7 +43,7 @@ module _ (g : Config) (H : List Mark) (t : Tables) (h : Holds g H t) (e : Entry)
       by true = rw p (sym (append-nil (bytes c H)))
       by false = sym (append-nil (bytes c H))
 
-  no_replies : (l : ℕ) → reply_of l e.input ≡ [] → replies l H ≡ replies l (Comes e ∷ H)
+  pub no_replies : (l : ℕ) → reply_of l e.input ≡ [] → replies l H ≡ replies l (Comes e ∷ H)
   no_replies l p = by (is_linked l H)
     where
       by : (b : Bool) → replies l H ≡ replies l H ++ (if b then reply_of l e.input else [])

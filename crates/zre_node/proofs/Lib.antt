@@ -1,6 +1,8 @@
 pub mod Asking
 pub mod Birth
+pub mod Broadcasting
 pub mod Coming
+pub mod Commanding
 pub mod Copying
 pub mod Counting
 pub mod Datagram
@@ -9,6 +11,7 @@ pub mod Entries
 pub mod Many
 pub mod Faulting
 pub mod Hearings
+pub mod Linking
 pub mod Naming
 pub mod Offering
 pub mod Opening

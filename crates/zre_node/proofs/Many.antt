@@ -1,5 +1,5 @@
 -- Marks behind marks, at the tables.
-use Rattle.std.proofs.Common.{◌≡◌, ℕ, ◌+◌, ◌<◌, ◌≤◌, zero, suc, Bool, true, false, cond, not, ◌||◌, eqb, List, [], ◌∷◌, ◌++◌, map, take, length, get_or, Option, Some, None, IsSome, Result, Ok, Err, OnOk, refl, sym, ap, ◌∙◌, arith, append_assoc, append-nil, subst}
+use Rattle.std.proofs.Common.{◌≡◌, ℕ, ◌+◌, ◌<◌, ◌≤◌, zero, suc, Bool, true, false, ◌||◌, eqb, List, [], ◌∷◌, ◌++◌, map, take, length, get_or, IsSome, refl, sym, ap, ◌∙◌, arith, append_assoc, append-nil, subst}
 use Rattle.std.proofs.lemmas.List.{take_more, map-append, take_all}
 use Rattle.std.proofs.lemmas.List.Folds.{list_any-append}
 use Rattle.std.specs.List.{AllByRecursion, list_any}
@@ -76,6 +76,15 @@ pub one_more_turn : {A : Type 0} (g : Config) (f : A → List Mark → List Mark
 one_more_turn g f xs x K t n a b c d e =
     did_as g _ _ K n a c (in_turn-append f xs (x ∷ []) K ∙ ap (λ hs. in_turn f xs K ++ hs) (append-nil (f x (after (in_turn f xs K) K))))
     (did_then g (in_turn f xs K) (f x (after (in_turn f xs K) K)) K t n a b c d e)
+
+-- the same of a list of links, of which the first i have had their turn
+pub one_more_link : (g : Config) (f : ℕ → List Mark → List Mark) (ls : List ℕ) (i : ℕ) (K : List Mark) (t n : Tables) (a b c : Effects) → i < length ls → Did g (in_turn f (take i ls) K) K t a b
+    → Did g (f (get_or ls i 0) (after (in_turn f (take i ls) K) K)) (after (in_turn f (take i ls) K) K) n b c → Did g (in_turn f (take (i + 1) ls) K) K n a c
+one_more_link g f ls i K t n a b c low d e =
+    subst (λ ks. Did g (in_turn f ks K) K n a c) (sym (take_more ls i 0 low)) (one_more_turn g f (take i ls) (get_or ls i 0) K t n a b c d e)
+
+pub all_links : (g : Config) (f : ℕ → List Mark → List Mark) (ls : List ℕ) (i : ℕ) (K : List Mark) (n : Tables) (a c : Effects) → length ls ≤ i → Did g (in_turn f (take i ls) K) K n a c → Did g (in_turn f ls K) K n a c
+all_links g f ls i K n a c high d = subst (λ ks. Did g (in_turn f ks K) K n a c) (take_all i ls high) d
 
 -- what a call has told and asked for, where nothing was put on a link
 pub did_by : (g : Config) (hs H : List Mark) (t : Tables) (a s : Effects) → Holds g (after hs H) t → s.events ≡ a.events ++ told hs H → s.acts ≡ a.acts ++ done g.id hs → s.pushed ≡ a.pushed

@@ -1,17 +1,17 @@
 -- A body put on a link, at the tables.
-use Rattle.std.proofs.Common.{◌≡◌, ℕ, ◌+◌, ◌-◌, ◌<◌, ◌≤◌, Bool, true, false, cond, ◌||◌, eqb, ltb, List, [], ◌∷◌, ◌++◌, length, Option, Some, None, IsSome, find, refl, sym, ap, ◌∙◌, nat_cmp, subst, arith, eq-eqb, eqb-true, lt-ltb, le-ltb, append-nil}
+use Rattle.std.proofs.Common.{◌≡◌, ℕ, ◌+◌, ◌-◌, ◌<◌, ◌≤◌, true, false, eqb, ltb, if◌then◌else◌, List, [], ◌∷◌, ◌++◌, length, Some, refl, sym, ap, ◌∙◌, nat_cmp, subst, eq-eqb, eqb-true, lt-ltb, le-ltb, append-nil}
 use Rattle.std.specs.List.{list_any}
 use Rattle.std.specs.BTreeMap.{BTreeMap, is_at}
 use Rattle.std.specs.Map.{lookup, set_value}
 use Rattle.std.proofs.lemmas.List.Folds.{list_any-append}
 use Rattle.zre_msg.specs.declared.message.Body.{Body}
 use Rattle.zre_peer.specs.declared.causes.Cause.TheVariants as cause
-use Rattle.zre_link.specs.Link.{Sending, link_after, unsent_of}
-use Rattle.zre_link.specs.Text.{size_of}
+use Rattle.zre_link.specs.Link.{Sending, link_after}
+use Rattle.zre_link.specs.Text.{text_of, size_of}
 use Rattle.zre_journal.specs.declared.config.Config.{Config}
-use Rattle.zre_journal.specs.Chronicle.{Mark, Puts, Ends}
-use Rattle.zre_journal.specs.Peers.{Life, lives, life, births}
-use Rattle.zre_journal.specs.Links.{bodies, is_linked, replies, taken, unsent}
+use Rattle.zre_journal.specs.Chronicle.{Mark, Puts, Takes, Ends, after, followed}
+use Rattle.zre_journal.specs.Peers.{Life, lives, life}
+use Rattle.zre_journal.specs.Links.{bodies, put_on, is_linked, replies, taken, unsent}
 use Rattle.zre_journal.specs.Happens.{push}
 use Rattle.zre_journal.proofs.Kept.{known_lives, Puts-proper}
 use Rattle.zre_journal.proofs.Listed.{eqb-comm, found_passes}
@@ -19,7 +19,7 @@ use Rattle.zre_node.specs.declared.peer.Peer.{Peer}
 use Rattle.zre_node.specs.declared.tables.Tables.{Tables}
 use Rattle.zre_node.specs.declared.effects.Effects.{Effects}
 use Rattle.zre_node.specs.Tabled.{Tabled}
-use Rattle.zre_node.specs.Stands.{Holds, Keeps, Did, IsPeer, link_of_life}
+use Rattle.zre_node.specs.Stands.{Holds, Did, IsPeer, link_of_life}
 use Rattle.zre_node.proofs.Entries.{changed}
 use Rattle.zre_node.proofs.Parting.{its_row, keeps_with}
 
@@ -90,3 +90,25 @@ put_did g l b K n a s h ev ac pu = record {
   acts = ac ∙ sym (append-nil a.acts);
   pushed = λ j. ap (λ (ks : List ℕ). list_any (eqb j) ks) pu ∙ list_any-append (eqb j) a.pushed (l ∷ []);
 }
+
+-- ---- a push looks at its own link alone
+
+-- what was put on each link, and how much of it has gone out, is the same
+abbrev pub Alike : List Mark → List Mark → Type 0
+Alike I K = (l : ℕ) → (bodies l I ≡ bodies l K) × (taken l I ≡ taken l K)
+
+alike_mark : (h : Mark) (I K : List Mark) → Alike I K → Alike (h ∷ I) (h ∷ K)
+alike_mark (Takes k n) I K a l = ((a l).0, ap (λ (m : ℕ). if eqb l k then m + n else m) (a l).1)
+alike_mark h I K a l = (ap (λ (bs : List Body). followed bs (put_on l h)) (a l).0, (a l).1)
+
+pub alike_after : (hs I K : List Mark) → Alike I K → Alike (after hs I) (after hs K)
+alike_after [] I K a = a
+alike_after (h ∷ hs) I K a = alike_after hs (h ∷ I) (h ∷ K) (alike_mark h I K a)
+
+-- what a push brings, by what was put on its link and has gone out of it
+push_of : Config → ℕ → Body → List Body → ℕ → List Mark
+push_of g l b bs n = let size = size_of bs b in if ltb 4194304 (length (text_of g.id bs) - n + size) then Ends l (cause.Slow (length (text_of g.id bs) - n) size) ∷ [] else Puts l b ∷ []
+
+pub same_push : (g : Config) (l : ℕ) (b : Body) (I K : List Mark) → Alike I K → push g l b I ≡ push g l b K
+unfolding push_of
+same_push g l b I K a = ap (λ (bs : List Body). push_of g l b bs (taken l I)) (a l).0 ∙ ap (λ (n : ℕ). push_of g l b (bodies l K) n) (a l).1

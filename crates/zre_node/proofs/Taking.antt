@@ -1,11 +1,10 @@
 -- Whole entries, from what calls did.
-use Rattle.std.proofs.Common.{◌≡◌, ℕ, Bool, true, false, cond, not, ◌&&◌, ◌||◌, eqb, if◌then◌else◌, List, [], ◌∷◌, ◌++◌, map, filter, Result, Ok, Err, OnOk, refl, sym, ap, ◌∙◌, append_assoc, append-nil, subst}
+use Rattle.std.proofs.Common.{◌≡◌, ℕ, Bool, true, false, not, ◌&&◌, ◌||◌, eqb, List, [], ◌∷◌, ◌++◌, map, filter, refl, sym, ap, ◌∙◌, append_assoc, append-nil, subst}
 use Rattle.std.specs.List.{list_any}
 use Rattle.zre_outside.specs.declared.entry.Entry.{Entry}
 use Rattle.zre_outside.specs.declared.entry.Input.{Input}
 use Rattle.zre_outside.specs.declared.entry.Input.TheVariants as input
 use Rattle.zre_outside.specs.declared.entry.Command.TheVariants as command
-use Rattle.zre_outside.specs.declared.act.Act.{Act}
 use Rattle.zre_outside.specs.declared.act.Act.TheVariants as act
 use Rattle.zre_journal.specs.declared.config.Config.{Config}
 use Rattle.zre_journal.specs.Chronicle.{Mark, Comes, after}
@@ -18,11 +17,11 @@ use Rattle.zre_journal.specs.Peers.{Life, lives}
 use Rattle.zre_journal.specs.Told.{told}
 use Rattle.zre_node.specs.declared.effects.Effects.{Effects}
 use Rattle.zre_node.specs.declared.tables.Tables.{Tables}
-use Rattle.zre_node.specs.Covered.{is_incoming, is_end}
+use Rattle.zre_node.specs.Kinds.{is_incoming, is_end}
 use Rattle.zre_node.specs.Journal.{StandsIn, Took}
+use Rattle.zre_node.specs.Links.{Notes}
 use Rattle.zre_node.specs.Offers.{offered}
 use Rattle.zre_node.specs.Stands.{Holds, Did, Stopped, is_quiet}
-use Rattle.zre_node.proofs.Many.{or-nil}
 
 module _ (g : Config) (e : Entry) (H : List Mark) (going : has_stopped H ≡ false) where
   pub its_marks : marks g e H ≡ at_input g e.input H (Comes e ∷ H)
@@ -31,14 +30,20 @@ module _ (g : Config) (e : Entry) (H : List Mark) (going : has_stopped H ≡ fal
   pub its_acts : acts_at g e H ≡ done g.id (marks g e H) ++ offers g e (marks g e H) (with_entry g e H)
   its_acts = rw going refl
 
--- the links that are offered are those on which something was put, where the entry names none
-same_test : (g : Config) (e : Entry) (hs K : List Mark) (pushed : List ℕ) → ((l : ℕ) → list_any (eqb l) pushed ≡ list_any (puts l) hs) → ((l : ℕ) → names l e.input ≡ false) → (v : Life)
-    → (list_any (eqb v.link) pushed && not (eqb (gate g v.link K) (taken v.link K))) ≡ is_offered g e hs K v
-same_test g e hs K pushed p n v = rw (p v.link, n v.link) (ap (λ b. b && not (eqb (gate g v.link K) (taken v.link K))) (or-nil (list_any (puts v.link) hs)))
+or-swap : (b c : Bool) → (b || c) ≡ (c || b)
+or-swap true true = refl
+or-swap true false = refl
+or-swap false true = refl
+or-swap false false = refl
 
-same_offers : (g : Config) (e : Entry) (hs K : List Mark) (pushed : List ℕ) → ((l : ℕ) → list_any (eqb l) pushed ≡ list_any (puts l) hs) → ((l : ℕ) → names l e.input ≡ false) → offered g K pushed ≡ offers g e hs K
-same_offers g e hs K pushed p n =
-    let same : (λ (v : Life). list_any (eqb v.link) pushed && not (eqb (gate g v.link K) (taken v.link K))) ≡ is_offered g e hs K = λ i v. same_test g e hs K pushed p n v i in
+-- the links that are offered are those on which something was put, and the one that the entry names
+same_test : (g : Config) (e : Entry) (hs K : List Mark) (pushed : List ℕ) → ((l : ℕ) → list_any (eqb l) pushed ≡ (names l e.input || list_any (puts l) hs)) → (v : Life)
+    → (list_any (eqb v.link) pushed && not (eqb (gate g v.link K) (taken v.link K))) ≡ is_offered g e hs K v
+same_test g e hs K pushed p v = ap (λ b. b && not (eqb (gate g v.link K) (taken v.link K))) (p v.link ∙ or-swap (names v.link e.input) (list_any (puts v.link) hs))
+
+same_offers : (g : Config) (e : Entry) (hs K : List Mark) (pushed : List ℕ) → ((l : ℕ) → list_any (eqb l) pushed ≡ (names l e.input || list_any (puts l) hs)) → offered g K pushed ≡ offers g e hs K
+same_offers g e hs K pushed p =
+    let same : (λ (v : Life). list_any (eqb v.link) pushed && not (eqb (gate g v.link K) (taken v.link K))) ≡ is_offered g e hs K = λ i v. same_test g e hs K pushed p v i in
     ap (λ (t : Life → Bool). map (λ (v : Life). act.Offer v.link) (filter t (lives K))) same
 
 -- the tables of a node that goes on
@@ -49,22 +54,37 @@ goes_on g K t h = record {
   resting = λ z. let w : true ≡ false = sym z ∙ h.keeps.going in absurd cc;
 }
 
--- what an entry's marks did, and then the offers
-pub took : (g : Config) (e : Entry) (H : List Mark) (t : Tables) (a b c : Effects) → has_stopped H ≡ false → ((l : ℕ) → names l e.input ≡ false) → a.pushed ≡ []
+-- what an entry's marks did, and then the offers, where the link that it names was noted before
+pub took_named : (g : Config) (e : Entry) (H : List Mark) (t : Tables) (a b c : Effects) → has_stopped H ≡ false → ((l : ℕ) → list_any (eqb l) a.pushed ≡ names l e.input)
     → Did g (at_input g e.input H (Comes e ∷ H)) (Comes e ∷ H) t a b → c ≡ record b { acts = b.acts ++ offered g (after (at_input g e.input H (Comes e ∷ H)) (Comes e ∷ H)) b.pushed } → Took g e H t a c
-took g e H t a b c going unnamed none d is =
+took_named g e H t a b c going named d is =
     let hs = at_input g e.input H (Comes e ∷ H) in
     let m = its_marks g e H going in
-    let put : (l : ℕ) → list_any (eqb l) b.pushed ≡ list_any (puts l) hs = λ l. d.pushed l ∙ ap (λ (ks : List ℕ). list_any (eqb l) ks || list_any (puts l) hs) none in
-    let gives = same_offers g e hs (after hs (Comes e ∷ H)) b.pushed put unnamed in
+    let gives = same_offers g e hs (after hs (Comes e ∷ H)) b.pushed (λ l. d.pushed l ∙ ap (λ q. q || list_any (puts l) hs) (named l)) in
     record {
       stands = subst (λ ks. StandsIn g (after ks (Comes e ∷ H)) t) (sym m) (goes_on g (after hs (Comes e ∷ H)) t d.holds);
       events = ap (λ (s : Effects). s.events) is ∙ d.events ∙ ap (λ ks. a.events ++ told ks (Comes e ∷ H)) (sym m);
       acts = ap (λ (s : Effects). s.acts) is ∙ ap (λ xs. xs ++ offered g (after hs (Comes e ∷ H)) b.pushed) d.acts
-        ∙ append_assoc a.acts (done g.id hs) (offered g (after hs (Comes e ∷ H)) b.pushed)
-        ∙ ap (λ xs. a.acts ++ (done g.id hs ++ xs)) gives
-        ∙ ap (λ ks. a.acts ++ (done g.id ks ++ offers g e ks (after ks (Comes e ∷ H)))) (sym m)
-        ∙ ap (λ xs. a.acts ++ xs) (sym (its_acts g e H going));
+          ∙ append_assoc a.acts (done g.id hs) (offered g (after hs (Comes e ∷ H)) b.pushed)
+          ∙ ap (λ xs. a.acts ++ (done g.id hs ++ xs)) gives
+          ∙ ap (λ ks. a.acts ++ (done g.id ks ++ offers g e ks (after ks (Comes e ∷ H)))) (sym m)
+          ∙ ap (λ xs. a.acts ++ xs) (sym (its_acts g e H going));
+    }
+
+-- the same of an entry that names none
+pub took : (g : Config) (e : Entry) (H : List Mark) (t : Tables) (a b c : Effects) → has_stopped H ≡ false → ((l : ℕ) → names l e.input ≡ false) → a.pushed ≡ []
+    → Did g (at_input g e.input H (Comes e ∷ H)) (Comes e ∷ H) t a b → c ≡ record b { acts = b.acts ++ offered g (after (at_input g e.input H (Comes e ∷ H)) (Comes e ∷ H)) b.pushed } → Took g e H t a c
+took g e H t a b c going unnamed none d is = took_named g e H t a b c going (λ l. ap (λ (ks : List ℕ). list_any (eqb l) ks) none ∙ sym (unnamed l)) d is
+
+-- the same from effects to which a link was noted
+pub took_noted : (g : Config) (e : Entry) (H : List Mark) (t : Tables) (a n b c : Effects) → has_stopped H ≡ false → a.pushed ≡ [] → Notes e.input a n
+    → Did g (at_input g e.input H (Comes e ∷ H)) (Comes e ∷ H) t n b → c ≡ record b { acts = b.acts ++ offered g (after (at_input g e.input H (Comes e ∷ H)) (Comes e ∷ H)) b.pushed } → Took g e H t a c
+took_noted g e H t a n b c going none notes d is =
+    let w = took_named g e H t n b c going (λ l. notes.pushed l ∙ ap (λ (ks : List ℕ). list_any (eqb l) ks || names l e.input) none) d is in
+    record {
+      stands = w.stands;
+      events = w.events ∙ ap (λ xs. xs ++ events_at g e H) notes.events;
+      acts = w.acts ∙ ap (λ xs. xs ++ acts_at g e H) notes.acts;
     }
 
 -- a stop, behind which no peer is known, so nothing is offered
@@ -81,7 +101,7 @@ took_stop g e H t a c going is s =
       };
       events = s.events ∙ ap (λ ks. a.events ++ told ks (Comes e ∷ H)) (sym m);
       acts = s.acts ∙ sym (ap (λ xs. a.acts ++ xs) (its_acts g e H going
-        ∙ ap (λ ks. done g.id ks ++ offers g e ks (after ks (Comes e ∷ H))) m ∙ ap (λ xs. done g.id hs ++ xs) none ∙ append-nil (done g.id hs)));
+          ∙ ap (λ ks. done g.id ks ++ offers g e ks (after ks (Comes e ∷ H))) m ∙ ap (λ xs. done g.id hs ++ xs) none ∙ append-nil (done g.id hs)));
     }
 
 -- ---- entries

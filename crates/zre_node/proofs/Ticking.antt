@@ -1,14 +1,13 @@
 -- A tick, at the tables.
-use Rattle.std.proofs.Common.{◌≡◌, ℕ, ◌+◌, ◌-◌, ◌<◌, ◌≤◌, zero, suc, Bool, true, false, cond, not, ◌||◌, ◌&&◌, eqb, ltb, leb, List, [], ◌∷◌, ◌++◌, map, filter, take, length, get_or, Option, Some, None, IsSome, is_some, is_none, refl, sym, ap, ◌∙◌, arith, nat_cmp, append_assoc, append-nil, eqb-true, subst}
+use Rattle.std.proofs.Common.{◌≡◌, ℕ, ◌+◌, ◌-◌, ◌<◌, zero, suc, Bool, true, false, cond, not, ◌&&◌, eqb, ltb, leb, List, [], ◌∷◌, ◌++◌, map, filter, take, length, get_or, Option, Some, None, IsSome, is_some, is_none, refl, sym, ap, ◌∙◌, arith, nat_cmp, append_assoc, eqb-true, subst}
 use Rattle.std.proofs.lemmas.Bool.{and_parts}
-use Rattle.std.proofs.lemmas.List.{take_more, take_all, map-append}
-use Rattle.std.specs.List.{AllByRecursion, list_any}
+use Rattle.std.specs.List.{AllByRecursion}
 use Rattle.std.specs.BTreeMap.{is_at}
 use Rattle.std.specs.Map.{lookup}
 use Rattle.zre_values.specs.declared.peer_id.PeerId.{PeerId}
 use Rattle.zre_msg.specs.declared.message.Body.TheVariants as body
 use Rattle.zre_msg.specs.declared.message.Message.{Message}
-use Rattle.zre_link.specs.Text.{size_of, text_of}
+use Rattle.zre_link.specs.Text.{size_of}
 use Rattle.zre_outside.specs.declared.entry.Entry.{Entry}
 use Rattle.zre_outside.specs.declared.entry.Input.TheVariants as input
 use Rattle.zre_peer.specs.declared.causes.Cause.{Cause}
@@ -19,13 +18,13 @@ use Rattle.zre_peer.specs.declared.event.Event.TheVariants as event
 use Rattle.zre_peer.specs.Runs.{shown}
 use Rattle.zre_peer.specs.Standing.{view_in}
 use Rattle.zre_journal.specs.declared.config.Config.{Config}
-use Rattle.zre_journal.specs.Chronicle.{Mark, Comes, Ends, Closes, Falters, Puts, Calls, after, in_turn, followed}
+use Rattle.zre_journal.specs.Chronicle.{Mark, Ends, Closes, Falters, Puts, Calls, after, in_turn}
 use Rattle.zre_journal.specs.Connections.{open_ones, runs, since}
 use Rattle.zre_journal.specs.Done.{names}
-use Rattle.zre_journal.specs.Happens.{at_input, at_tick, falter, is_silent, is_faltering, is_stale, push}
+use Rattle.zre_journal.specs.Happens.{at_input, at_tick, falter, is_silent, is_faltering, is_stale}
 use Rattle.zre_journal.specs.Heard.{clock}
-use Rattle.zre_journal.specs.Links.{bodies, taken, unsent, put_on}
-use Rattle.zre_journal.specs.Peers.{Life, lives, life, active, runner, counted, is_entered, view}
+use Rattle.zre_journal.specs.Links.{bodies, unsent}
+use Rattle.zre_journal.specs.Peers.{Life, lives, life, runner, counted, is_entered, view}
 use Rattle.zre_journal.specs.Proper.{Apart}
 use Rattle.zre_journal.specs.Told.{told, faltering}
 use Rattle.zre_journal.proofs.Idle.{idle_behind, AreNoStarts, ends_start_none, none_and_none}
@@ -41,9 +40,10 @@ use Rattle.zre_node.specs.declared.tables.Tables.{Tables}
 use Rattle.zre_node.specs.Tabled.{Tabled}
 use Rattle.zre_node.specs.Ticks.{row_silent, row_faltering, row_stale, numbers_of, falters, IsEntered, AreEntered, AreIdle}
 use Rattle.zre_node.specs.Stands.{Holds, Did, HasRun, IsPeer, IsConn, AreKnown, is_quiet}
-use Rattle.zre_node.proofs.Many.{did_as, did_then, one_more_turn}
+use Rattle.zre_node.proofs.Many.{did_as, did_then}
 use Rattle.zre_node.proofs.Opening.{with_conns}
 use Rattle.zre_node.proofs.Parting.{its_row, shows}
+use Rattle.zre_node.proofs.Pushing.{Alike, alike_after}
 use Rattle.zre_node.proofs.Stopping.{link_list, map-map, map-same, apart_links, known_from}
 
 -- ---- which rows pass
@@ -69,7 +69,8 @@ numbers_are key P s t same (x ∷ xs) (e ∷ es) h = rw (h.0, same x e.1 h.1) (b
     by r true = ap (λ ns. key x ∷ ns) r
     by r false = r
 
-enters : (o : Option ℕ) (id : PeerId) (ms : List Message) (r : Option Running) → HasRun o id ms r → is_some r ≡ is_some o
+-- a peer is entered where its row has a run
+pub enters : (o : Option ℕ) (id : PeerId) (ms : List Message) (r : Option Running) → HasRun o id ms r → is_some r ≡ is_some o
 enters None id ms r h = ap is_some h
 enters (Some c) id ms r h = ap is_some h.1
 
@@ -142,10 +143,6 @@ has_run g K t h l k was r e =
 
 -- ---- one after the other
 
--- what was put on each link, and how much of it has gone out, is the same
-abbrev pub Alike : List Mark → List Mark → Type 0
-Alike J K = (l : ℕ) → (bodies l J ≡ bodies l K) × (taken l J ≡ taken l K)
-
 ends_alike : (why : Cause) (vs : List Life) (K : List Mark) → Alike (after (end_all why vs) K) K
 ends_alike why [] K l = (refl, refl)
 ends_alike why (v ∷ vs) K l = ends_alike why vs (Ends v.link why ∷ K) l
@@ -154,19 +151,12 @@ module _ (g : Config) where
   falters_alike : (l : ℕ) (J K : List Mark) → Alike J K → falters g l J ≡ falters g l K
   falters_alike l J K a = rw ((a l).0, (a l).1) refl
 
-  then_alike : (l : ℕ) (I J K : List Mark) → Alike J K → Alike (after (falters g l I) J) (after (falters g l I) K)
-  then_alike l I J K a = by (ltb 4194304 (unsent g l I + size_of (bodies l I) body.Ping))
-    where
-      by : (b : Bool) → Alike (after (cond b (Ends l (cause.Slow (unsent g l I) (size_of (bodies l I) body.Ping)) ∷ []) (Puts l body.Ping ∷ [])) (Falters l ∷ J)) (after (cond b (Ends l (cause.Slow (unsent g l I) (size_of (bodies l I) body.Ping)) ∷ []) (Puts l body.Ping ∷ [])) (Falters l ∷ K))
-      by true m = a m
-      by false m = (ap (λ bs. followed bs (put_on m (Puts l body.Ping))) (a m).0, (a m).1)
-
   -- those of links are those of lives, also where they were found before
   pub falters_are : (vs : List Life) (J K : List Mark) → Alike J K → in_turn (falters g) (link_list vs) J ≡ falter g vs K
   falters_are [] J K a = refl
   falters_are (v ∷ vs) J K a =
       ap (λ hs. hs ++ in_turn (falters g) (link_list vs) (after hs J)) (falters_alike v.link J K a)
-      ∙ ap (λ hs. falters g v.link K ++ hs) (falters_are vs (after (falters g v.link K) J) (after (falters g v.link K) K) (then_alike v.link K J K a))
+      ∙ ap (λ hs. falters g v.link K ++ hs) (falters_are vs (after (falters g v.link K) J) (after (falters g v.link K) K) (alike_after (falters g v.link K) J K a))
 
   ends_entered : (l : ℕ) (why : Cause) (K : List Mark) (ls : List ℕ) → AllByRecursion (λ k. eqb l k ≡ false) ls → AreEntered K ls → AreEntered (Ends l why ∷ K) ls
   ends_entered l why K [] far k = tt
@@ -193,15 +183,6 @@ module _ (g : Config) where
   entered_at (l ∷ ls) K (suc i) low k =
       let J = after (falters g l K) K in
       subst (λ I. IsEntered (get_or ls i 0) I) (sym (after-append (falters g l K) (in_turn (falters g) (take i ls) J) K)) (entered_at ls J i (omega arith) (still_entered l K ls k.1 k.2))
-
-  -- one more of them
-  pub one_more_falters : (ls : List ℕ) (i : ℕ) (K : List Mark) (t n : Tables) (a b c : Effects) → i < length ls → Did g (in_turn (falters g) (take i ls) K) K t a b
-      → Did g (falters g (get_or ls i 0) (after (in_turn (falters g) (take i ls) K) K)) (after (in_turn (falters g) (take i ls) K) K) n b c → Did g (in_turn (falters g) (take (i + 1) ls) K) K n a c
-  one_more_falters ls i K t n a b c low d e =
-      subst (λ ks. Did g (in_turn (falters g) ks K) K n a c) (sym (take_more ls i 0 low)) (one_more_turn g (falters g) (take i ls) (get_or ls i 0) K t n a b c d e)
-
-  pub all_falter : (ls : List ℕ) (i : ℕ) (K : List Mark) (n : Tables) (a c : Effects) → length ls ≤ i → Did g (in_turn (falters g) (take i ls) K) K n a c → Did g (in_turn (falters g) ls K) K n a c
-  all_falter ls i K n a c high d = subst (λ ks. Did g (in_turn (falters g) ks K) K n a c) (take_all i ls high) d
 
   falters_start_none : (ls : List ℕ) (K : List Mark) → AreNoStarts (in_turn (falters g) ls K)
   falters_start_none [] K = tt

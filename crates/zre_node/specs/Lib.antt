@@ -1,7 +1,9 @@
 pub mod Asked
-pub mod Covered
 pub mod First
+pub mod Groups
 pub mod Journal
+pub mod Kinds
+pub mod Links
 pub mod Offers
 pub mod Said
 pub mod Stands

@@ -5,6 +5,8 @@
 mod accessors;
 mod arrivals;
 mod births;
+mod broadcasts;
+mod commands;
 mod connection;
 mod connections;
 mod effects;
@@ -12,6 +14,7 @@ mod ends;
 mod first;
 mod hearing;
 mod ids;
+mod links;
 mod node;
 mod offers;
 mod peer;
@@ -25,3 +28,6 @@ mod ticks;
 pub use effects::Step;
 pub use ids::Ids;
 pub use node::Node;
+
+#[cfg(test)]
+mod tests;

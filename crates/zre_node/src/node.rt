@@ -4,7 +4,6 @@ ghost use Rattle.std.specs.Prelude.{◌≡◌, ◌↔◌, List, [], true, IfOk, 
 ghost use Rattle.zre_outside.specs.declared.entry.Entry.{Entry as EntryValue};
 ghost use Rattle.zre_journal.specs.declared.config.Config.{Config as ConfigValue};
 ghost use Rattle.zre_journal.specs.Config.{is_valid};
-ghost use Rattle.zre_node.specs.Covered.{is_covered};
 ghost use Rattle.zre_node.specs.Journal.{is_spent, StandsFor, Steps};
 
 use crate::effects::{Effects, Step};
@@ -53,7 +52,6 @@ impl Node {
     /// One entry of the journal: what it tells, and what it asks of the outside. After a stop nothing has an effect. After want
     /// of memory the node is spent: it answers that to every later entry.
     pub fn step(&mut self, entry: Entry) -> Result<Step, OutOfMemory>
-        requires { is_covered entry.input ≡ true }
         ensures steps { (g : ConfigValue) (J : List EntryValue) → StandsFor g J self.old →
             IfOk result (λ s. Steps g J entry self.new s) }
         ensures spent { IsTrue (is_spent self.new) ↔ IsErr result }

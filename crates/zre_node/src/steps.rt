@@ -7,7 +7,7 @@ ghost use Rattle.zre_journal.specs.declared.config.Config.{Config};
 ghost use Rattle.zre_journal.specs.Chronicle.{Mark};
 ghost use Rattle.zre_journal.specs.Happens.{at_input, at_stop};
 ghost use Rattle.zre_node.specs.Journal.{Took};
-ghost use Rattle.zre_node.specs.Covered.{is_covered, is_incoming, is_end};
+ghost use Rattle.zre_node.specs.Kinds.{is_incoming, is_end};
 ghost use Rattle.zre_node.specs.Stands.{Holds, Did};
 
 use crate::effects::Effects;
@@ -71,14 +71,19 @@ impl Tables {
 
     /// What an entry brings, where the node hasn't stopped.
     pub fn take(&mut self, out: &mut Effects, entry: Entry) -> Result<(), OutOfMemory>
-        requires { is_covered entry.input ≡ true }
         ensures { (g : Config) (H : List Mark) → out.old.pushed ≡ [] → Holds g H self.old →
             OnOk result (Took g entry H self.new out.old out.new) }
     {
         let Entry { at, input } = entry;
         match input {
             Input::Piece { conn, bytes } => self.take_piece(out, at, conn, bytes.as_slice()),
+            Input::Reply { link, bytes } => self.take_reply(out, at, link, bytes.as_slice()),
+            Input::Linked { link } => self.take_link(out, at, Input::Linked { link }),
+            Input::Unlinked { link } => self.take_link(out, at, Input::Unlinked { link }),
+            Input::Took { link, count } => self.take_link(out, at, Input::Took { link, count }),
+            Input::Tick => self.take_tick(out, at),
             Input::Do(Command::Quit) => self.take_stop(out, at),
+            Input::Do(command) => self.take_command(out, at, command),
             Input::End => self.take_stop(out, at),
             other => self.take_incoming(out, at, other),
         }

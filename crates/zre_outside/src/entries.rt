@@ -30,6 +30,13 @@ impl Entries {
         }
     }
 
+    /// The entries of a vector, which keeps its memory.
+    pub fn from_vec(items: Vec<Entry>) -> Self
+        ensures { result ≡ items.items }
+    {
+        Entries { items }
+    }
+
     /// Appends an entry, or nothing.
     pub fn push(&mut self, entry: Entry) -> Result<(), OutOfMemory>
         ensures ok { OnOk result (self.new ≡ self.old ++ entry ∷ []) }

@@ -4,3 +4,7 @@ use Rattle.std.specs.Prelude.{ℕ, List, ◌++◌, codes, decimal}
 -- with the place of the octet, counted from 0
 abbrev pub bad_line : ℕ → List ℕ
 bad_line place = codes "BADINPUT " ++ decimal place ++ codes "\n"
+
+-- with the line and the column, counted from 1
+abbrev pub bad_line_at : ℕ → ℕ → List ℕ
+bad_line_at line column = codes "BADINPUT " ++ decimal line ++ codes " " ++ decimal column ++ codes "\n"

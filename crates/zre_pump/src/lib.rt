@@ -7,7 +7,7 @@ mod machine;
 mod pumping;
 mod status;
 
-pub use lines::push_bad_line;
+pub use lines::{push_bad_line, push_bad_line_at};
 pub use machine::{Going, Machine};
 pub use pumping::{PIECE, pump};
 pub use status::Status;

@@ -1,5 +1,5 @@
 ghost use Rattle.std.specs.Prelude.{◌≡◌, ◌++◌, OnOk};
-ghost use Rattle.zre_pump.specs.Lines.{bad_line};
+ghost use Rattle.zre_pump.specs.Lines.{bad_line, bad_line_at};
 
 use zre_values::{Octets, OutOfMemory, push_decimal};
 
@@ -9,5 +9,16 @@ pub fn push_bad_line(out: &mut Octets, place: u64) -> Result<(), OutOfMemory>
 {
     out.append(b"BADINPUT ")?;
     push_decimal(out, place)?;
+    out.push(b'\n')
+}
+
+/// The same of an input of lines: with a line and a column in it, each from 1.
+pub fn push_bad_line_at(out: &mut Octets, line: u64, column: u64) -> Result<(), OutOfMemory>
+    ensures { OnOk result (out.new ≡ out.old ++ bad_line_at line column) }
+{
+    out.append(b"BADINPUT ")?;
+    push_decimal(out, line)?;
+    out.push(b' ')?;
+    push_decimal(out, column)?;
     out.push(b'\n')
 }

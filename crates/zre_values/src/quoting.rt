@@ -4,7 +4,7 @@ ghost use Rattle.std.specs.Prelude.{◌≡◌, ◌<◌, ◌≤◌, ◌+◌, ◌+
 ghost use Rattle.std.specs.List.{list_all};
 ghost use Rattle.zre_values.specs.Text.{hex_digit, is_plain, quoted_octet, quoted, quoted_list, quoted_pair, quoted_pairs};
 
-use crate::quoted_table::{first_of, hex_digit, len_of};
+use crate::quoted_table::row_of;
 use crate::{Frames, Octets, OutOfMemory, Pairs};
 use std::alloc::Global;
 
@@ -26,23 +26,26 @@ pub(crate) fn are_plain(bytes: &[u8]) -> bool
     bytes.iter().all(|octet| is_plain(*octet))
 }
 
-// How many octets are quoted before their text is appended, and how many octets that text has at most.
-const CHUNK: usize = 16;
+// How many octets are quoted before their text is appended, and how many octets that text takes at most, with one more that
+// may be written behind it.
+const CHUNK: usize = 32;
 
-const CHUNK_TEXT: usize = 48;
+const CHUNK_TEXT: usize = 97;
 
-// Writes the text of an octet at a place, and gives the place behind it. Three octets are written whichever it is, so
-// that no jump depends on the octet.
+// Writes the text of an octet at a place, and gives the place behind it. Four octets are written whichever it is, so
+// that no jump depends on the octet, and in one go.
 #[inline]
 fn write_octet(text: &mut [u8; CHUNK_TEXT], at: usize, octet: u8) -> usize
-    requires { at + 3 ≤ CHUNK_TEXT }
+    requires { at + 4 ≤ CHUNK_TEXT }
     ensures text { take result text.new ≡ take at text.old ++ quoted_octet octet }
     ensures place { result ≤ at + 3 }
 {
-    text[at] = first_of(octet);
-    text[at + 1] = hex_digit(octet / 16);
-    text[at + 2] = hex_digit(octet % 16);
-    at + len_of(octet)
+    let [first, high, low, len] = row_of(octet);
+    text[at] = first;
+    text[at + 1] = high;
+    text[at + 2] = low;
+    text[at + 3] = len;
+    at + len as usize
 }
 
 fn push_chunk(out: &mut Octets, bytes: &[u8]) -> Result<(), OutOfMemory>

@@ -1,6 +1,7 @@
 mod Examples
 pub mod Grow
 pub mod Stay
+pub mod Contents
 pub mod Cuts
 pub mod Properties
 pub mod Exact

@@ -1,5 +1,5 @@
 -- How the fields of a reader are seen, and what a turn over some octets does.
-use Rattle.std.specs.Prelude.{◌≡◌, ◌≢◌, ℕ, ◌+◌, ◌-◌, ◌≤◌, ◌==◌, if◌then◌else◌, nat_le, true, false, List, [], ◌++◌, length, Option, Some, None, option_map}
+use Rattle.std.specs.Prelude.{◌≡◌, ◌≢◌, ℕ, ◌+◌, ◌-◌, ◌≤◌, ◌==◌, if◌then◌else◌, nat_le, Bool, true, false, List, [], ◌++◌, length, Option, Some, None, option_map}
 use Rattle.std.specs.Option.{option_or}
 use Rattle.zre_zmtp.specs.declared.fault.ZmtpWhy.{ZmtpWhy}
 use Rattle.zre_zmtp.specs.declared.progress.Progress.{Progress}
@@ -75,12 +75,10 @@ pub record BeginsFrame (p : Progress) (h : Header) (o : List ℕ) : Type 0 where
   pub header : header_of o ≡ Some h
   pub whole : header_len o + h.size ≤ length o
 
--- A frame with this header is a whole message.
-pub record IsMessage (p : Progress) (h : Header) : Type 0 where
-  pub traffic : p.expected ≡ expect.Traffic
-  pub message : is_message h.flags ≡ true
-  pub last : has_more h.flags ≡ false
-  pub alone : p.opened ≡ []
+-- a frame with these flags belongs to a message behind READY
+abbrev pub is_content : Expected → ℕ → Bool
+is_content expect.Traffic f = is_message f
+is_content _ f = false
 
 -- What was found in all of the octets is what was found so far, and what is found in the rest.
 pub record GoesOn (front out : List Item) (whole rest : Found) : Type 0 where

@@ -57,6 +57,23 @@ impl Opened {
         Ok(())
     }
 
+    /// The same with a copy of these octets.
+    pub fn push_copy(&mut self, alloc: Global, body: &[u8]) -> Result<(), OutOfMemory>
+        ensures ok { OnOk result (self.new ≡ self.old ++ body.now ∷ []) }
+        ensures err { OnErr result (self.new ≡ self.old) }
+    {
+        self.push(Octets::copy(alloc, body)?)
+    }
+
+    /// Hands the bodies out with a copy of the last one behind them, and has none any more.
+    pub fn close(&mut self, alloc: Global, last: &[u8]) -> Result<Frames, OutOfMemory>
+        ensures bodies { IfOk result (λ bodies. bodies ≡ self.old ++ last.now ∷ []) }
+        ensures empty { OnOk result (self.new ≡ []) }
+    {
+        self.push_copy(alloc, last)?;
+        Ok(self.take(alloc))
+    }
+
     /// Hands the bodies out with the last one behind them, and has none any more. One alone is handed on as it is.
     pub fn finish(&mut self, alloc: Global, last: Octets) -> Result<Frames, OutOfMemory>
         ensures bodies { IfOk result (λ bodies. bodies ≡ self.old ++ last ∷ []) }

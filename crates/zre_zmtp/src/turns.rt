@@ -4,7 +4,7 @@ ghost use Rattle.std.specs.Prelude.{◌≡◌, ℕ, ◌+◌, ◌≤◌, ◌<◌,
 ghost use Rattle.zre_zmtp.specs.Frame.{header_of, header_len as header_len_of};
 ghost use Rattle.zre_zmtp.specs.Stream.{Want as WantValue, said as said_by, opened_by, body_fault, item as item_of};
 ghost use Rattle.zre_zmtp.specs.Run.{after as after_of};
-ghost use Rattle.zre_zmtp.specs.Shown.{before_of, left_of, frame_item, frame_after, header_fault, Waits, Advances, RefusesAt, BeginsFrame, IsMessage, room as room_of};
+ghost use Rattle.zre_zmtp.specs.Shown.{before_of, left_of, frame_item, frame_after, header_fault, Waits, Advances, RefusesAt, BeginsFrame, is_content as is_content_of, room as room_of};
 ghost use Rattle.zre_zmtp.specs.Reading.{Refuses};
 
 use crate::command::{command_fault, identity, name, socket_type};
@@ -308,18 +308,37 @@ fn whole_frame(progress: &Progress, octets: &[u8]) -> Option<Header>
     }
 }
 
-// Whether a frame with this header is a whole message.
-fn is_whole_message(progress: &Progress, header: Header) -> bool
-    ensures { result ≡ true → IsMessage progress.now header }
+// Whether a frame with this header belongs to a message behind READY.
+fn is_content(progress: &Progress, header: Header) -> bool
+    ensures { result ≡ is_content_of progress.now.expected header.flags }
 {
-    progress.expected == Expected::Traffic
-        && is_message(header.flags)
-        && !has_more(header.flags)
-        && progress.opened.len() == 0
+    match progress.expected {
+        Expected::Traffic => is_message(header.flags),
+        Expected::Greeting | Expected::Ready => false,
+    }
 }
 
-// A whole message of one frame: most messages are. Its body is copied once, to where its item lies.
-fn take_message(
+// The last frame of a message. Most messages have no other, and then its body is copied to where the item lies.
+fn end_message(
+    alloc: Global,
+    progress: &mut Progress,
+    end: u64,
+    body: &[u8],
+    out: &mut Items,
+) -> Result<(), OutOfMemory>
+    ensures given { OnOk result (out.new ≡ out.old ++ record { start = progress.old.start; end = end; what = What.Message (progress.old.opened ++ body.now ∷ []) } ∷ []) }
+    ensures rest { OnOk result (progress.new ≡ record progress.old { opened = [] }) }
+{
+    let start = progress.start;
+    if progress.opened.len() == 0 {
+        return out.push_message(alloc, start, end, body);
+    }
+    let what = What::Message(progress.opened.close(alloc, body)?);
+    out.push(Item { start, end, what })
+}
+
+// A whole frame of a message behind READY. Its body is copied once.
+fn take_content(
     alloc: Global,
     progress: &mut Progress,
     header: Header,
@@ -327,7 +346,7 @@ fn take_message(
     body: &[u8],
     out: &mut Items,
 ) -> Result<(), FeedFault>
-    requires { IsMessage progress.old header }
+    requires { is_content_of progress.old.expected header.flags ≡ true }
     ensures given { OnOk result (out.new ≡ out.old
         ++ option_to_list (frame_item (before_of progress.old) header body.now (header_len + length body.now))) }
     ensures after { OnOk result
@@ -338,7 +357,12 @@ fn take_message(
     let Some(end) = end_of(progress.place, header_len, body.len()) else {
         return Err(FeedFault::OutOfMemory);
     };
-    out.push_message(alloc, progress.start, end, body)?;
+    if has_more(header.flags) {
+        progress.opened.push_copy(alloc, body)?;
+        progress.place = end;
+        return Ok(());
+    }
+    end_message(alloc, progress, end, body, out)?;
     progress.place = end;
     progress.start = end;
     Ok(())
@@ -367,8 +391,8 @@ fn take_whole(
     }
     let (body, _) = behind.split_at(header.size as usize);
     let len = head.len() + body.len();
-    if is_whole_message(progress, header) {
-        take_message(alloc, progress, header, head.len(), body, out)?;
+    if is_content(progress, header) {
+        take_content(alloc, progress, header, head.len(), body, out)?;
         return Ok(len);
     }
     let body = Octets::copy(alloc, body)?;

@@ -1,10 +1,11 @@
-use Rattle.std.proofs.Common.{◌≡◌, Bool, cond, ℕ, ◌+◌, List, [], ◌++◌, length, take, drop, Some, None, refl, sym, ap, ◌∙◌, arith, append_assoc}
+use Rattle.std.proofs.Common.{◌≡◌, true, ℕ, ◌+◌, List, [], ◌++◌, length, take, drop, Some, None, refl, sym, ap, ◌∙◌, arith, append_assoc}
 use Rattle.std.proofs.lemmas.List.{take-append-le, take_all, length-append}
 use Rattle.std.proofs.lemmas.Result.{err_from_is_err_and}
 use Rattle.zre_zmtp.specs.declared.partial.Partial.{Partial}
-use Rattle.zre_zmtp.specs.Stream.{Before, fault_of, command_fault}
+use Rattle.zre_zmtp.specs.Stream.{Before, fault_of}
 use Rattle.zre_zmtp.specs.Run.{run_all}
-use Rattle.zre_zmtp.specs.Shown.{before_of, left_of, header_fault}
+use Rattle.zre_zmtp.specs.Shown.{before_of, left_of, header_fault, is_content}
+use Rattle.zre_zmtp.proofs.Contents.{content_is_faultless}
 use Rattle.zre_zmtp.proofs.Stay.{fault_of-stays}
 use Rattle.zre_zmtp.proofs.Framed.{head_of, header-refused, is_framed, left-nothing}
 use Rattle.zre_zmtp.proofs.Turning.{begins, joined, waits_from, no_part, no_octets, turn_refused, refused_turn, frame_taken}
@@ -62,8 +63,8 @@ returns-clause-ok c =
     ap (λ (x : List ℕ). take (length head + length x) o) (sym same) ∙ front_of o head c.in_ok-body.body _ whole in
     rw front (c.in_ok-take_frame.ensures.ok fine)
 
-pub returns-then-is_whole_message-clause-ok : goal.returns-then-is_whole_message-clause-ok
-returns-then-is_whole_message-clause-ok c =
+pub returns-then-is_content-clause-ok : goal.returns-then-is_content-clause-ok
+returns-then-is_content-clause-ok c =
     let b = before_of c.args.progress.now in
     let o = c.args.octets.now in
     let head = c.split_at.result.0.now in
@@ -72,13 +73,13 @@ returns-then-is_whole_message-clause-ok c =
     (c.split_at.ensures.front ∙ ap (λ n. take n o) c.header_len.ensures) (c.split_at.ensures.back ∙ ap (λ n. drop n o) c.header_len.ensures) in
     let fine : header_fault b head ≡ None = sym c.fault_of_header.ensures ∙ c.in_default.is in
     let whole = parted o head c.split_at.result.1.now body _ at.whole (joined _ c.split_at.result.1.now body c.split_at-2.ensures.front) in
-    let m = c.if-is_whole_message.ensures refl in
-    let e = c.in_ok-take_message.ensures in
-    let now = c.take_message.new.progress in
+    let m : is_content b.expected c.args.header.flags ≡ true = sym c.is_content.ensures ∙ c.if-is_content.true in
+    let e = c.in_ok-take_content.ensures in
+    let now = c.take_content.new.progress in
     let none : now.partial.head ≡ [] = ap (λ (p : Partial). p.head) e.partial ∙ c.requires.no_head in
     let none' : now.partial.body ≡ [] = ap (λ (p : Partial). p.body) e.partial ∙ c.requires.no_body in
     rw (front_of o head body _ whole)
-    (frame_taken c.args.want.now b c.args.header head body (length head) c.args.out.now c.take_message.new.out (before_of now) (left_of now)
+    (frame_taken c.args.want.now b c.args.header head body (length head) c.args.out.now c.take_content.new.out (before_of now) (left_of now)
     (is_framed c.args.want.now b c.args.header head body c.requires.frame at.header at.within c.split_at-2.ensures.front_len fine)
-    (ap (λ (t : Bool). cond t None (command_fault c.args.want.now b.expected body)) m.message) refl e.given e.after
+    (content_is_faultless c.args.want.now b c.args.header.flags body m) refl e.given e.after
     (left-nothing now.expected now.greeting now.partial.head now.partial.body (ap (λ (x : Before). x.expected) e.after) none none'))

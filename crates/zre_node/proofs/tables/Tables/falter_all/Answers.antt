@@ -1,10 +1,12 @@
-use Rattle.zre_node.proofs.Ticking.{entered_at, one_more_falters, all_falter}
+use Rattle.zre_node.specs.Ticks.{falters}
+use Rattle.zre_node.proofs.Many.{one_more_link, all_links}
+use Rattle.zre_node.proofs.Ticking.{entered_at}
 use Rattle.zre_node.proofs.tables.Tables.falter_all.Goals as goal
 
 pub loop-link-preserved : goal.loop-link-preserved
 loop-link-preserved c = λ g K h k. let so_far = c.loop-link.invariant g K h k in
-    one_more_falters g c.args.links.now c.loop-link.link-index K c.loop-link.self c.falter.new.self c.args.out.now c.loop-link.out c.falter.new.out c.loop-link-test.true so_far
+    one_more_link g (falters g) c.args.links.now c.loop-link.link-index K c.loop-link.self c.falter.new.self c.args.out.now c.loop-link.out c.falter.new.out c.loop-link-test.true so_far
     (c.in_ok-falter.ensures g _ so_far.holds (entered_at g c.args.links.now K c.loop-link.link-index c.loop-link-test.true k))
 
 pub returns : goal.returns
-returns c = λ g K h k. all_falter g c.args.links.now c.loop-link.link-index K c.loop-link.self c.args.out.now c.loop-link.out c.loop-link-test.false (c.loop-link.invariant g K h k)
+returns c = λ g K h k. all_links g (falters g) c.args.links.now c.loop-link.link-index K c.loop-link.self c.args.out.now c.loop-link.out c.loop-link-test.false (c.loop-link.invariant g K h k)

@@ -2,7 +2,7 @@ use Rattle.std.proofs.Common.{◌≡◌, ◌∷◌, sym, ap, ◌∙◌, subst, t
 use Rattle.zre_outside.specs.declared.entry.Input.{Input}
 use Rattle.zre_journal.specs.Chronicle.{Comes}
 use Rattle.zre_journal.specs.Happens.{at_input}
-use Rattle.zre_node.specs.Covered.{is_incoming}
+use Rattle.zre_node.specs.Kinds.{is_incoming}
 use Rattle.zre_node.specs.Stands.{Did}
 use Rattle.zre_node.proofs.Ending.{on_ok}
 use Rattle.zre_node.proofs.Taking.{unnamed_incoming, took}

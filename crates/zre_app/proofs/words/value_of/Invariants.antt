@@ -1,6 +1,0 @@
-use Rattle.std.proofs.Common.{◌≡◌, drop}
-use Rattle.zre_app.specs.Words.{value_of}
-use Rattle.zre_app.proofs.words.value_of.Given as goal
-
-abbrev pub invariant-loop-word : goal.invariant-loop-word
-invariant-loop-word l = value_of l.key (drop l.word-index l.words) ≡ value_of l.key l.words

@@ -1,0 +1,239 @@
+//! The words that set up a node.
+
+ghost use Rattle.std.specs.Prelude.{◌≡◌, ◌==◌, ◌∷◌, ℕ, List, [], true, None, if◌then◌else◌, map, option_and_then, position, codes, IfOk, IfSome};
+ghost use Rattle.zre_app.specs.NodeWords.{node_keys, number_or, port_of, id_in, host_in, port_in, evasive_in, expired_in, fixed_in, name_in, header_of, headers_from, config_in};
+ghost use Rattle.zre_app.specs.Keys.{behind as behind_key, value_of as value_of_key};
+ghost use Rattle.zre_journal.specs.Config.{is_valid};
+
+use crate::keys::{Key, Often, begins, behind, identity, value_of};
+use std::alloc::Global;
+use zre_capture::{address, number};
+use zre_journal::Config;
+use zre_values::{Octets, OutOfMemory, Pairs, PeerId};
+
+/// The settings of fixed size.
+#[derive(Clone, Copy, Debug)]
+pub(crate) struct Fixed {
+    pub id: PeerId,
+    pub host: [u8; 4],
+    pub port: u16,
+    pub evasive: u64,
+    pub expired: u64,
+}
+
+/// The keys of a node.
+pub(crate) fn node_keys() -> [Key<'static>; 7]
+    ensures { map (λ key. (key.name.now, key.often)) result ≡ node_keys }
+{
+    [
+        Key {
+            name: b"id=",
+            often: Often::Once,
+        },
+        Key {
+            name: b"host=",
+            often: Often::Once,
+        },
+        Key {
+            name: b"port=",
+            often: Often::Once,
+        },
+        Key {
+            name: b"name=",
+            often: Often::AtMostOnce,
+        },
+        Key {
+            name: b"header=",
+            often: Often::AnyTimes,
+        },
+        Key {
+            name: b"evasive=",
+            often: Often::AtMostOnce,
+        },
+        Key {
+            name: b"expired=",
+            often: Often::AtMostOnce,
+        },
+    ]
+}
+
+// The number of a key that may be left out.
+fn number_or(default: u64, key: &[u8], words: &[Octets]) -> Option<u64>
+    ensures { result ≡ number_or default (value_of_key key.now words.now) }
+{
+    match value_of(key, words) {
+        Some(text) => number(text),
+        None => Some(default),
+    }
+}
+
+fn port_of(text: &[u8]) -> Option<u16>
+    ensures { result ≡ port_of text.now }
+{
+    match number(text) {
+        Some(n) if n < 65536 => Some(n as u16),
+        _ => None,
+    }
+}
+
+fn id_in(words: &[Octets]) -> Option<PeerId>
+    ensures { result ≡ id_in words.now }
+{
+    match value_of(b"id=", words) {
+        Some(text) => identity(text),
+        None => None,
+    }
+}
+
+fn host_in(words: &[Octets]) -> Option<[u8; 4]>
+    ensures { result ≡ host_in words.now }
+{
+    match value_of(b"host=", words) {
+        Some(text) => address(text),
+        None => None,
+    }
+}
+
+fn port_in(words: &[Octets]) -> Option<u16>
+    ensures { result ≡ port_in words.now }
+{
+    match value_of(b"port=", words) {
+        Some(text) => port_of(text),
+        None => None,
+    }
+}
+
+fn evasive_in(words: &[Octets]) -> Option<u64>
+    ensures { result ≡ evasive_in words.now }
+{
+    number_or(5000, b"evasive=", words)
+}
+
+fn expired_in(words: &[Octets]) -> Option<u64>
+    ensures { result ≡ expired_in words.now }
+{
+    number_or(30000, b"expired=", words)
+}
+
+fn fixed_in(words: &[Octets]) -> Option<Fixed>
+    ensures { result ≡ fixed_in words.now }
+{
+    let Some(id) = id_in(words) else {
+        return None;
+    };
+    let Some(host) = host_in(words) else {
+        return None;
+    };
+    let Some(port) = port_in(words) else {
+        return None;
+    };
+    let Some(evasive) = evasive_in(words) else {
+        return None;
+    };
+    let Some(expired) = expired_in(words) else {
+        return None;
+    };
+    Some(Fixed {
+        id,
+        host,
+        port,
+        evasive,
+        expired,
+    })
+}
+
+fn name_in(alloc: Global, id: PeerId, words: &[Octets]) -> Result<Octets, OutOfMemory>
+    ensures { IfOk result (λ name. name ≡ name_in id words.now) }
+{
+    match value_of(b"name=", words) {
+        Some(text) => Octets::copy(alloc, text),
+        None => Octets::copy(alloc, &id.write()[..6]),
+    }
+}
+
+fn place_of(text: &[u8], octet: u8) -> Option<usize>
+    ensures { result ≡ position (λ b. b == octet) text.now }
+{
+    text.iter().position(|b| *b == octet)
+}
+
+// The header of a text, copied.
+fn header_of(alloc: Global, text: &[u8]) -> Result<Option<(Octets, Octets)>, OutOfMemory>
+    ensures { IfOk result (λ header. header ≡ header_of text.now) }
+{
+    let Some(i) = place_of(text, b'=') else {
+        return Ok(None);
+    };
+    let (front, rest) = text.split_at(i);
+    let (_, behind) = rest.split_at(1);
+    Ok(Some((
+        Octets::copy(alloc, front)?,
+        Octets::copy(alloc, behind)?,
+    )))
+}
+
+// The header of a word that begins with the key of one.
+fn header_in(alloc: Global, word: &[u8]) -> Result<Option<(Octets, Octets)>, OutOfMemory>
+    ensures { IfOk result (λ header. header ≡ option_and_then header_of (behind_key (codes "header=") word.now)) }
+{
+    match behind(b"header=", word) {
+        Some(text) => header_of(alloc, text),
+        None => Ok(None),
+    }
+}
+
+// A word's header is appended, if it is the word of one. Says whether it isn't a bad one.
+fn take_header(alloc: Global, word: &[u8], headers: &mut Pairs) -> Result<bool, OutOfMemory>
+    ensures { (words : List (List ℕ)) → IfOk result (λ good. headers_from headers.old (word.now ∷ words)
+        ≡ (if good then headers_from headers.new words else None)) }
+{
+    if !begins(b"header=", word) {
+        return Ok(true);
+    }
+    match header_in(alloc, word)? {
+        Some((name, value)) => {
+            headers.push(name, value)?;
+            Ok(true)
+        }
+        None => Ok(false),
+    }
+}
+
+fn headers_in(alloc: Global, words: &[Octets]) -> Result<Option<Pairs>, OutOfMemory>
+    ensures { IfOk result (λ headers. headers ≡ headers_from [] words.now) }
+{
+    let mut headers = Pairs::new(alloc);
+    for word in words {
+        if !take_header(alloc, word.as_slice(), &mut headers)? {
+            return Ok(None);
+        }
+    }
+    Ok(Some(headers))
+}
+
+/// The settings that the words name, where a node can be with them.
+pub(crate) fn config_in(alloc: Global, words: &[Octets]) -> Result<Option<Config>, OutOfMemory>
+    ensures value { IfOk result (λ config. config ≡ config_in words.now) }
+    ensures valid { IfOk result (λ config. IfSome config (λ g. is_valid g ≡ true)) }
+{
+    let Some(fixed) = fixed_in(words) else {
+        return Ok(None);
+    };
+    let Some(headers) = headers_in(alloc, words)? else {
+        return Ok(None);
+    };
+    let config = Config {
+        id: fixed.id,
+        name: name_in(alloc, fixed.id, words)?,
+        headers,
+        host: fixed.host,
+        port: fixed.port,
+        evasive: fixed.evasive,
+        expired: fixed.expired,
+    };
+    if config.valid() {
+        Ok(Some(config))
+    } else {
+        Ok(None)
+    }
+}

@@ -1,0 +1,294 @@
+-- What comes about on links, at the tables.
+use Rattle.std.proofs.Common.{◌≡◌, ℕ, ◌+◌, ◌-◌, ◌≤◌, min, max, Bool, true, false, cond, ◌||◌, eqb, if◌then◌else◌, List, [], ◌∷◌, ◌++◌, length, Option, Some, None, IsSome, is_some, find, refl, sym, ap, ◌∙◌, nat_cmp, subst, eq-eqb, append-nil}
+use Rattle.std.specs.List.{AllByRecursion, list_any}
+use Rattle.std.specs.BTreeMap.{BTreeMap, is_at}
+use Rattle.std.specs.Map.{lookup, set_value}
+use Rattle.std.proofs.lemmas.List.Folds.{list_any-append}
+use Rattle.zre_zmtp.specs.declared.fault.ZmtpFault.{ZmtpFault}
+use Rattle.zre_outside.specs.declared.entry.Entry.{Entry}
+use Rattle.zre_outside.specs.declared.entry.Input.{Input}
+use Rattle.zre_outside.specs.declared.entry.Input.TheVariants as input
+use Rattle.zre_peer.specs.declared.causes.Cause.TheVariants as cause
+use Rattle.zre_link.specs.Heard.{reply_fault}
+use Rattle.zre_link.specs.Link.{Sending, link_after, taken_by}
+use Rattle.zre_journal.specs.declared.config.Config.{Config}
+use Rattle.zre_journal.specs.Chronicle.{Mark, Comes, Ends, Links, Takes, after}
+use Rattle.zre_journal.specs.Connections.{open_ones, is_new}
+use Rattle.zre_journal.specs.Done.{names}
+use Rattle.zre_journal.specs.Heard.{clock, piece_of}
+use Rattle.zre_journal.specs.Links.{bodies, groups, status, is_linked, replies, gate, taken}
+use Rattle.zre_journal.specs.Peers.{Life, lives, life, births}
+use Rattle.zre_journal.specs.Happens.{has_stopped, at_input, at_linked, at_reply, at_unlinked, at_took, fault_of_reply}
+use Rattle.zre_journal.specs.Proper.{IsProper}
+use Rattle.zre_journal.proofs.Kept.{known_lives, Comes-proper, Links-proper, Takes-proper}
+use Rattle.zre_journal.proofs.Listed.{eqb-comm}
+use Rattle.zre_node.specs.declared.effects.Effects.{Effects}
+use Rattle.zre_node.specs.declared.peer.Peer.{Peer}
+use Rattle.zre_node.specs.declared.tables.Tables.{Tables}
+use Rattle.zre_node.specs.Links.{is_about_link, Notes}
+use Rattle.zre_node.specs.Tabled.{Tabled}
+use Rattle.zre_node.specs.Stands.{Holds, Keeps, Did, IsPeer, IsConn, link_of_life, is_quiet}
+use Rattle.zre_node.proofs.Coming.{other_conn, no_replies}
+use Rattle.zre_node.proofs.Entries.{Agree, changed, retold, retold_of}
+use Rattle.zre_node.proofs.Many.{or-nil, idle_did, silent_did}
+use Rattle.zre_node.proofs.Parting.{PeerRow, Found, Missing, peer_row, its_row}
+use Rattle.zre_node.proofs.Pushing.{row_link, written_back}
+
+abbrev key : Life → ℕ
+key v = v.link
+
+-- all but the table of peers, behind a mark that says nothing of it
+keeps_behind : (g : Config) (K H : List Mark) (t : Tables) (P : BTreeMap ℕ Peer) → Keeps g K t → IsProper H → has_stopped H ≡ has_stopped K → clock H ≡ clock K → births H ≡ births K → ((c : ℕ) → is_new c H ≡ is_new c K)
+    → groups H ≡ groups K → status H ≡ status K → Tabled (λ (c : ℕ). c) (IsConn g H) (open_ones H) t.conns.entries → Keeps g H (record t { peers = P })
+keeps_behind g K H t P k proper going same_clock same_births same_new same_groups same_status conns = record {
+  valid = k.valid;
+  proper = proper;
+  going = going ∙ k.going;
+  awake = k.awake;
+  config = k.config;
+  mailbox = k.mailbox;
+  clock_is = k.clock_is ∙ sym same_clock;
+  births_is = k.births_is ∙ sym same_births;
+  last_is = λ c. same_new c ∙ k.last_is c;
+  groups_fit = subst (λ gs. AllByRecursion (λ group. length group ≤ 255) gs) (sym same_groups) k.groups_fit;
+  own = k.own ∙ rw (same_groups, same_status) refl;
+  conns = conns;
+}
+
+module _ (g : Config) (K : List Mark) (t : Tables) (h : Holds g K t) (l : ℕ) (k : Peer) (was : Some k ≡ lookup (is_at (nat_cmp l)) t.peers.entries) where
+  its : (v : Life) × (life l K ≡ Some v) × IsPeer g K v k
+  its = its_row (IsPeer g K) K t.peers.entries h.peers l k was
+
+  link_is : l ≡ its.0.link
+  link_is = (known_lives K h.keeps.proper l its.0 its.1).2
+
+  pub its_known : IsSome (life l K)
+  its_known = rw its.1 refl
+
+  me : eqb its.0.link l ≡ true
+  me = eq-eqb its.0.link l (sym link_is)
+
+  -- the rows with another link in that of l
+  relinked : (H : List Mark) (o : Sending) (P : BTreeMap ℕ Peer) → Agree key l (IsPeer g K) (IsPeer g H) → IsPeer g H its.0 (record k { link = o }) → P.entries ≡ set_value (is_at (nat_cmp l)) t.peers.entries (record k { link = o })
+      → Tabled key (IsPeer g H) (lives K) P.entries
+  relinked H o P others here put = subst (λ es. Tabled key (IsPeer g H) (lives K) es) (sym put)
+      (changed key (IsPeer g K) (IsPeer g H) l (record k { link = o }) others (lives K) t.peers.entries h.keeps.proper.living.apart
+      (λ v f. let that : its.0 ≡ v = (let z : Some its.0 ≡ Some v = sym its.1 ∙ f in cc) in subst (λ u. IsPeer g H u (record k { link = o })) that here) h.peers)
+
+  -- ---- it stands
+
+  stands_now : (o : Sending) (P : BTreeMap ℕ Peer) → o ≡ link_after g.id (bodies l K) true (replies l K) (taken l K) → P.entries ≡ set_value (is_at (nat_cmp l)) t.peers.entries (record k { link = o })
+      → Holds g (Links l ∷ K) (record t { peers = P })
+  stands_now o P new put = record {
+    keeps = keeps_behind g K (Links l ∷ K) t P h.keeps (Links-proper K h.keeps.proper l (known_lives K h.keeps.proper l its.0 its.1).1) refl refl refl (λ c. refl) refl refl h.keeps.conns;
+    peers = relinked (Links l ∷ K) o P (λ v w far is. let off : eqb v.link l ≡ false = eqb-comm v.link l ∙ far in rw off is)
+        (rw me record { id_is = its.2.id_is; active_is = its.2.active_is; run_is = its.2.run_is; link_is = new ∙ ap (λ j. link_after g.id (bodies j K) true (replies j K) (taken j K)) link_is }) put;
+  }
+
+  pub linked_holds : (o : Sending) (P : BTreeMap ℕ Peer) → o ≡ link_after g.id (bodies l K) true (replies l K) (taken l K) → P.entries ≡ set_value (is_at (nat_cmp l)) t.peers.entries (record k { link = o })
+      → Holds g (after (at_linked g l (life l K) K) K) (record t { peers = P })
+  linked_holds o P new put = subst (λ (x : Option Life). Holds g (after (at_linked g l x K) K) (record t { peers = P })) (sym its.1) (by (is_linked l K) refl)
+    where
+      by : (b : Bool) → is_linked l K ≡ b → Holds g (after (if b then [] else Links l ∷ []) K) (record t { peers = P })
+      by true e = written_back g K t h l k was o P (new ∙ ap (λ b. link_after g.id (bodies l K) b (replies l K) (taken l K)) (sym e) ∙ sym (row_link g K t h l k was)) put
+      by false e = stands_now o P new put
+
+  -- ---- it takes octets
+
+  takes_now : (n : ℕ) (o : Sending) (P : BTreeMap ℕ Peer) → o ≡ link_after g.id (bodies l K) (is_linked l K) (replies l K) (taken l K + n) → P.entries ≡ set_value (is_at (nat_cmp l)) t.peers.entries (record k { link = o })
+      → Holds g (Takes l n ∷ K) (record t { peers = P })
+  takes_now n o P new put = record {
+    keeps = keeps_behind g K (Takes l n ∷ K) t P h.keeps (Takes-proper K h.keeps.proper l n (known_lives K h.keeps.proper l its.0 its.1).1) refl refl refl (λ c. refl) refl refl h.keeps.conns;
+    peers = relinked (Takes l n ∷ K) o P (λ v w far is. let off : eqb v.link l ≡ false = eqb-comm v.link l ∙ far in rw off is)
+        (rw me record { id_is = its.2.id_is; active_is = its.2.active_is; run_is = its.2.run_is; link_is = new ∙ ap (λ j. link_after g.id (bodies j K) (is_linked j K) (replies j K) (taken j K + n)) link_is }) put;
+  }
+
+  pub took_holds : (n : ℕ) (o : Sending) (P : BTreeMap ℕ Peer) → o ≡ link_after g.id (bodies l K) (is_linked l K) (replies l K) (taken_by g.id (bodies l K) (is_linked l K) (replies l K) (taken l K) n)
+      → P.entries ≡ set_value (is_at (nat_cmp l)) t.peers.entries (record k { link = o }) → Holds g (after (at_took g l n (life l K) K) K) (record t { peers = P })
+  took_holds n o P new put = subst (λ (x : Option Life). Holds g (after (at_took g l n x K) K) (record t { peers = P })) (sym its.1) (takes_now (min n (gate g l K - taken l K)) o P new put)
+
+-- no mark comes about on a link of no known peer
+pub unlinked_holds : (g : Config) (K : List Mark) (t : Tables) (l : ℕ) → Holds g K t → life l K ≡ None → Holds g (after (at_linked g l (life l K) K) K) t
+unlinked_holds g K t l h e = subst (λ (x : Option Life). Holds g (after (at_linked g l x K) K) t) (sym e) h
+
+pub untaken_holds : (g : Config) (K : List Mark) (t : Tables) (l n : ℕ) → Holds g K t → life l K ≡ None → Holds g (after (at_took g l n (life l K) K) K) t
+untaken_holds g K t l n h e = subst (λ (x : Option Life). Holds g (after (at_took g l n x K) K) t) (sym e) h
+
+-- these marks tell nothing and ask for nothing
+pub linked_did : (g : Config) (K : List Mark) (l : ℕ) (n : Tables) (a : Effects) → Holds g (after (at_linked g l (life l K) K) K) n → Did g (at_linked g l (life l K) K) K n a a
+linked_did g K l n a = known (life l K)
+  where
+    by : (b : Bool) → Holds g (after (if b then [] else Links l ∷ []) K) n → Did g (if b then [] else Links l ∷ []) K n a a
+    by true h = idle_did g K n a h
+    by false h = silent_did g (Links l) K n a h refl refl (λ j. refl)
+
+    known : (o : Option Life) → Holds g (after (at_linked g l o K) K) n → Did g (at_linked g l o K) K n a a
+    known None h = idle_did g K n a h
+    known (Some v) h = by (is_linked l K) h
+
+pub took_did : (g : Config) (K : List Mark) (l m : ℕ) (n : Tables) (a : Effects) → Holds g (after (at_took g l m (life l K) K) K) n → Did g (at_took g l m (life l K) K) K n a a
+took_did g K l m n a = known (life l K)
+  where
+    known : (o : Option Life) → Holds g (after (at_took g l m o K) K) n → Did g (at_took g l m o K) K n a a
+    known None h = idle_did g K n a h
+    known (Some v) h = silent_did g (Takes l (min m (gate g l K - taken l K))) K n a h refl refl (λ j. refl)
+
+-- ---- it breaks
+
+-- whether a link has a row
+pub some_peer : (g : Config) (K : List Mark) (t : Tables) → Holds g K t → (l : ℕ) → is_some (lookup (is_at (nat_cmp l)) t.peers.entries) ≡ is_some (life l K)
+some_peer g K t h l = by (peer_row (IsPeer g K) K t.peers.entries h.peers l)
+  where
+    by : PeerRow (IsPeer g K) K l (lookup (is_at (nat_cmp l)) t.peers.entries) → is_some (lookup (is_at (nat_cmp l)) t.peers.entries) ≡ is_some (life l K)
+    by (Found v k f o p) = rw (f, o) refl
+    by (Missing f o) = rw (f, o) refl
+
+pub no_break : (g : Config) (l : ℕ) (o : Option Life) → is_some o ≡ false → at_unlinked g l o ≡ []
+no_break g l None e = refl
+no_break g l (Some v) e = absurd cc
+
+pub break : (g : Config) (l : ℕ) (o : Option Life) → is_some o ≡ true → (IsSome o) × (at_unlinked g l o ≡ Ends l cause.Link ∷ [])
+break g l None e = absurd cc
+break g l (Some v) e = (refl, refl)
+
+-- ---- a reply
+
+-- a fault is that of a known peer's link
+pub fault_known : (g : Config) (l : ℕ) (K : List Mark) (o : Option Life) (f : ZmtpFault) → at_reply g l o K ≡ fault_of_reply g l (Some f) → IsSome o
+fault_known g l K None f e = absurd cc
+fault_known g l K (Some v) f e = refl
+
+-- a reply, by whether the link stands
+reply_up : (g : Config) (l : ℕ) (K : List Mark) (o : Option Life) (v : Life) → o ≡ Some v → is_linked l K ≡ true → at_reply g l o K ≡ fault_of_reply g l (reply_fault (replies l K))
+reply_up g l K o v e up = rw (e, up) refl
+
+reply_down : (g : Config) (l : ℕ) (K : List Mark) (o : Option Life) (v : Life) → o ≡ Some v → is_linked l K ≡ false → at_reply g l o K ≡ []
+reply_down g l K o v e down = rw (e, down) refl
+
+none_found : (l : ℕ) (vs : List Life) → find (λ (v : Life). eqb l v.link) vs ≡ None → AllByRecursion (λ (v : Life). eqb l v.link ≡ false) vs
+none_found l [] e = tt
+none_found l (v ∷ vs) e = by (none_found l vs) (eqb l v.link) refl e
+  where
+    by : (find (λ (u : Life). eqb l u.link) vs ≡ None → AllByRecursion (λ (u : Life). eqb l u.link ≡ false) vs) → (b : Bool) → eqb l v.link ≡ b → cond b (Some v) (find (λ (u : Life). eqb l u.link) vs) ≡ None
+        → (eqb l v.link ≡ false) × AllByRecursion (λ (u : Life). eqb l u.link ≡ false) vs
+    by r true q k = absurd cc
+    by r false q k = (q, r k)
+
+module _ (g : Config) (H : List Mark) (t : Tables) (h : Holds g H t) (e : Entry) (l : ℕ) (o : List ℕ) (is : e.input ≡ input.Reply l o) where
+  no_piece : (c : ℕ) → piece_of c e.input ≡ []
+  no_piece c = rw is refl
+
+  -- the links of the others are as before
+  another : Agree key l (IsPeer g H) (IsPeer g (Comes e ∷ H))
+  another v w far p = record {
+    id_is = p.id_is;
+    active_is = p.active_is;
+    run_is = p.run_is;
+    link_is = p.link_is ∙ ap (λ r. link_after g.id (bodies v.link H) (is_linked v.link H) r (taken v.link H)) (no_replies g H t h e v.link (let off : eqb v.link l ≡ false = eqb-comm v.link l ∙ far in rw (is, off) refl));
+  }
+
+  comes : (P : BTreeMap ℕ Peer) → Tabled key (IsPeer g (Comes e ∷ H)) (lives H) P.entries → Holds g (Comes e ∷ H) (record t { clock = max e.at t.clock; peers = P })
+  comes P peers = record {
+    keeps = record {
+      valid = h.keeps.valid;
+      proper = Comes-proper H h.keeps.proper e;
+      going = h.keeps.going;
+      awake = h.keeps.awake;
+      config = h.keeps.config;
+      mailbox = h.keeps.mailbox;
+      clock_is = ap (max e.at) h.keeps.clock_is;
+      births_is = h.keeps.births_is;
+      last_is = h.keeps.last_is;
+      groups_fit = h.keeps.groups_fit;
+      own = h.keeps.own;
+      conns = retold (λ (c : ℕ). c) (IsConn g H) (IsConn g (Comes e ∷ H)) (λ c k q. q ∙ other_conn g H t h e c (no_piece c)) (open_ones H) t.conns.entries h.keeps.conns;
+    };
+    peers = peers;
+  }
+
+  -- no known peer has the link
+  pub not_replied : life l H ≡ None → Holds g (Comes e ∷ H) (record t { clock = max e.at t.clock }) × (at_reply g l (life l H) (Comes e ∷ H) ≡ fault_of_reply g l None)
+  not_replied none = (
+    comes t.peers (retold_of key (λ (v : Life). eqb l v.link ≡ false) (IsPeer g H) (IsPeer g (Comes e ∷ H)) (λ v k far p. another v k far p) (lives H) t.peers.entries (none_found l (lives H) none) h.peers),
+    rw none refl,
+  )
+
+  module _ (k : Peer) (was : Some k ≡ lookup (is_at (nat_cmp l)) t.peers.entries) where
+    -- the replies with this one
+    grown : is_linked l H ≡ true → replies l (Comes e ∷ H) ≡ replies l H ++ o
+    grown up = let this : eqb l l ≡ true = eq-eqb l l refl in rw (up, is, this) refl
+
+    dropped : is_linked l H ≡ false → replies l (Comes e ∷ H) ≡ replies l H
+    dropped down = rw down (append-nil (replies l H))
+
+    with_row : (s : Sending) (P : BTreeMap ℕ Peer) → s ≡ link_after g.id (bodies l H) (is_linked l H) (replies l (Comes e ∷ H)) (taken l H) → P.entries ≡ set_value (is_at (nat_cmp l)) t.peers.entries (record k { link = s })
+        → Holds g (Comes e ∷ H) (record t { clock = max e.at t.clock; peers = P })
+    with_row s P new put =
+        let p = (its g H t h l k was).2 in
+        comes P (relinked g H t h l k was (Comes e ∷ H) s P another
+        record { id_is = p.id_is; active_is = p.active_is; run_is = p.run_is; link_is = new ∙ ap (λ j. link_of_life g (Comes e ∷ H) j) (link_is g H t h l k was) } put)
+
+    pub replied : (s : Sending) (P : BTreeMap ℕ Peer) (fault : Option ZmtpFault) → P.entries ≡ set_value (is_at (nat_cmp l)) t.peers.entries (record k { link = s })
+        → (k.link ≡ link_after g.id (bodies l H) true (replies l H) (taken l H) → (s ≡ link_after g.id (bodies l H) true (replies l H ++ o) (taken l H)) × (fault ≡ reply_fault (replies l H ++ o)))
+        → (k.link.linked ≡ false → (s ≡ k.link) × (fault ≡ None))
+        → Holds g (Comes e ∷ H) (record t { clock = max e.at t.clock; peers = P }) × (at_reply g l (life l H) (Comes e ∷ H) ≡ fault_of_reply g l fault)
+    replied s P fault put live dead = by (is_linked l H) refl
+      where
+        row : k.link ≡ link_after g.id (bodies l H) (is_linked l H) (replies l H) (taken l H)
+        row = row_link g H t h l k was
+
+        by : (b : Bool) → is_linked l H ≡ b → Holds g (Comes e ∷ H) (record t { clock = max e.at t.clock; peers = P }) × (at_reply g l (life l H) (Comes e ∷ H) ≡ fault_of_reply g l fault)
+        by true q =
+            let r = live (row ∙ ap (λ b. link_after g.id (bodies l H) b (replies l H) (taken l H)) q) in (
+              with_row s P (r.0 ∙ ap (λ b. link_after g.id (bodies l H) b (replies l H ++ o) (taken l H)) (sym q) ∙ ap (λ (rs : List ℕ). link_after g.id (bodies l H) (is_linked l H) rs (taken l H)) (sym (grown q))) put,
+              reply_up g l (Comes e ∷ H) (life l H) (its g H t h l k was).0 (its g H t h l k was).1 q ∙ ap (λ (rs : List ℕ). fault_of_reply g l (reply_fault rs)) (grown q) ∙ ap (fault_of_reply g l) (sym r.1),
+            )
+        by false q =
+            let r = dead (ap (λ (x : Sending). x.linked) row ∙ q) in (
+              with_row s P (r.0 ∙ row ∙ ap (λ (rs : List ℕ). link_after g.id (bodies l H) (is_linked l H) rs (taken l H)) (sym (dropped q))) put,
+              reply_down g l (Comes e ∷ H) (life l H) (its g H t h l k was).0 (its g H t h l k was).1 q ∙ ap (fault_of_reply g l) (sym r.1),
+            )
+
+-- ---- entries that name a link
+
+or-false : (b c : Bool) → (b || (c || false)) ≡ (b || c)
+or-false true c = refl
+or-false false true = refl
+or-false false false = refl
+
+-- the link that is named was noted behind the others
+pub noted : (l : ℕ) (i : Input) (a s : Effects) → ((j : ℕ) → names j i ≡ eqb j l) → s.events ≡ a.events → s.acts ≡ a.acts → s.pushed ≡ a.pushed ++ l ∷ [] → Notes i a s
+noted l i a s n ev ac pu = record {
+  events = ev;
+  acts = ac;
+  pushed = λ j. ap (λ (ks : List ℕ). list_any (eqb j) ks) pu ∙ list_any-append (eqb j) a.pushed (l ∷ []) ∙ or-false (list_any (eqb j) a.pushed) (eqb j l) ∙ ap (λ b. list_any (eqb j) a.pushed || b) (sym (n j));
+}
+
+-- no link is named
+pub not_noted : (i : Input) (a : Effects) → ((j : ℕ) → names j i ≡ false) → Notes i a a
+not_noted i a n = record { events = refl; acts = refl; pushed = λ j. or-nil (list_any (eqb j) a.pushed) ∙ ap (λ b. list_any (eqb j) a.pushed || b) (sym (n j)) }
+
+pub unnamed : (i : Input) → ((l : ℕ) → i ≡ input.Linked l → ⊥) → ((l : ℕ) (o : List ℕ) → i ≡ input.Reply l o → ⊥) → ((l n : ℕ) → i ≡ input.Took l n → ⊥) → (j : ℕ) → names j i ≡ false
+unnamed (input.Linked l) a b c j = absurd (a l refl)
+unnamed (input.Reply l o) a b c j = absurd (b l o refl)
+unnamed (input.Took l n) a b c j = absurd (c l n refl)
+unnamed _ a b c j = refl
+
+pub about_quiet : (i : Input) → is_about_link i ≡ true → is_quiet i ≡ true
+about_quiet (input.Linked l) e = refl
+about_quiet (input.Unlinked l) e = refl
+about_quiet (input.Took l n) e = refl
+about_quiet _ e = absurd cc
+
+pub other_input : {C : Type 0} (i : Input) → ((l : ℕ) → i ≡ input.Linked l → ⊥) → ((l : ℕ) → i ≡ input.Unlinked l → ⊥) → ((l n : ℕ) → i ≡ input.Took l n → ⊥) → is_about_link i ≡ true → C
+other_input (input.Linked l) a b c e = absurd (a l refl)
+other_input (input.Unlinked l) a b c e = absurd (b l refl)
+other_input (input.Took l n) a b c e = absurd (c l n refl)
+other_input _ a b c e = absurd cc
+
+-- an entry with a reply
+pub reply_names : (e : Entry) (l : ℕ) (o : List ℕ) → e.input ≡ input.Reply l o → (j : ℕ) → names j e.input ≡ eqb j l
+reply_names e l o is j = rw is refl
+
+pub reply_marks : (g : Config) (e : Entry) (H : List Mark) (l : ℕ) (o : List ℕ) → e.input ≡ input.Reply l o → at_input g e.input H (Comes e ∷ H) ≡ at_reply g l (life l H) (Comes e ∷ H)
+reply_marks g e H l o is = ap (λ i. at_input g i H (Comes e ∷ H)) is

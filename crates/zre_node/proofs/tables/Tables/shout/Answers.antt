@@ -1,0 +1,23 @@
+use Rattle.std.proofs.Common.{◌≡◌, ℕ, ◌≤◌, List, filter, length, sym, ap, ◌∙◌, subst}
+use Rattle.zre_msg.specs.declared.message.Body.TheVariants as body
+use Rattle.zre_journal.specs.Happens.{is_member}
+use Rattle.zre_journal.specs.Peers.{lives}
+use Rattle.zre_node.specs.Groups.{row_in}
+use Rattle.zre_node.specs.Stands.{AreKnown}
+use Rattle.zre_node.specs.Ticks.{numbers_of}
+use Rattle.zre_node.proofs.Broadcasting.{push_links, members_are, some_known}
+use Rattle.zre_node.proofs.Commanding.{shouts}
+use Rattle.zre_node.proofs.Starting.{on_did_as}
+use Rattle.zre_node.proofs.Stopping.{link_list}
+use Rattle.zre_node.proofs.tables.Tables.shout.Goals as goal
+
+pub returns : goal.returns
+returns c = λ g K h.
+    let t = c.args.self.now in
+    let group = c.args.group in
+    let content = c.args.content in
+    let vs = filter (is_member g group K) (lives K) in
+    let short : length group ≤ 255 = subst (λ (n : ℕ). n ≤ 255) c.len.ensures c.if-len-gt-GROUP_OCTETS.false in
+    let links : c.as_slice-2.result.now ≡ link_list vs = c.as_slice-2.ensures ∙ c.in_ok-links.ensures ∙ ap (λ (x : List ℕ). numbers_of (row_in x) t.peers.entries) c.as_slice.ensures ∙ members_are g K t h group in
+    on_did_as g _ _ K _ _ _ c.push_all.result (shouts g K group content short (sym c.is_big.ensures ∙ c.if-is_big.false) ∙ push_links g c.as_slice-2.result.now vs (body.Shout group content) K links)
+    (c.push_all.ensures.did g K h (subst (λ (ls : List ℕ). AreKnown K ls) (sym links) (some_known g K t h (is_member g group K))))

@@ -1,0 +1,17 @@
+use Rattle.std.proofs.Common.{◌≡◌, ◌∷◌, sym, subst, true}
+use Rattle.zre_outside.specs.declared.entry.Input.{Input}
+use Rattle.zre_journal.specs.Chronicle.{Comes}
+use Rattle.zre_journal.specs.Happens.{at_input}
+use Rattle.zre_node.specs.Links.{is_about_link, Notes}
+use Rattle.zre_node.specs.Stands.{Did}
+use Rattle.zre_node.proofs.Ending.{on_ok}
+use Rattle.zre_node.proofs.Linking.{about_quiet}
+use Rattle.zre_node.proofs.Taking.{took_noted}
+use Rattle.zre_node.proofs.tables.Tables.take_link.Goals as goal
+
+pub returns : goal.returns
+returns c = λ g H e at_is is about none h.
+    let held = c.come.ensures g H e at_is (about_quiet e.input (subst (λ (i : Input). is_about_link i ≡ true) (sym is) about)) h in
+    let d = subst (λ (i : Input). Did g (at_input g i H (Comes e ∷ H)) (Comes e ∷ H) c.bring_link.new.self c.note.new.out c.bring_link.new.out) (sym is) (c.in_ok-bring_link.ensures g H _ about held) in
+    let notes = subst (λ (i : Input). Notes i c.args.out.now c.note.new.out) (sym is) c.in_ok-note.ensures in
+    on_ok c.offer.result (c.offer.ensures g _ d.holds) (λ o. took_noted g e H c.bring_link.new.self c.args.out.now c.note.new.out c.bring_link.new.out c.offer.new.out h.keeps.going none notes d o)

@@ -1,0 +1,18 @@
+use Rattle.std.proofs.Common.{[], sym, ◌∙◌}
+use Rattle.zre_journal.specs.Peers.{life}
+use Rattle.zre_node.proofs.Linking.{some_peer, no_break, break}
+use Rattle.zre_node.proofs.Many.{did_as, idle_did}
+use Rattle.zre_node.proofs.Parting.{nearly}
+use Rattle.zre_node.proofs.Starting.{on_did_as}
+use Rattle.zre_node.proofs.tables.Tables.unlinked.Goals as goal
+
+pub returns-then-not-contains_key : goal.returns-then-not-contains_key
+returns-then-not-contains_key c = λ g K h.
+    let o = sym (c.contains_key.ensures ∙ some_peer g K c.args.self.now h c.args.link) ∙ c.if-not-contains_key.true in
+    did_as g _ [] K _ _ _ (no_break g c.args.link (life c.args.link K) o) (idle_did g K c.args.self.now c.args.out.now h)
+
+pub returns : goal.returns
+returns c = λ g K h.
+    let o = sym (c.contains_key.ensures ∙ some_peer g K c.args.self.now h c.args.link) ∙ c.if-not-contains_key.false in
+    let b = break g c.args.link (life c.args.link K) o in
+    on_did_as g _ _ K _ _ _ c.end.result b.1 (c.end.ensures g K (nearly g K c.args.link c.args.self.now h) b.0)

@@ -1,0 +1,167 @@
+//! Links stand, are answered, take what they were offered, and break.
+
+ghost use Rattle.std.specs.Prelude.{◌≡◌, ℕ, List, [], ◌∷◌, ◌++◌, true, false, None, OnOk, IfOk, if◌then◌else◌, nat_eq, ◌||◌};
+ghost use Rattle.std.specs.List.{list_any};
+ghost use Rattle.zre_values.specs.declared.peer_id.PeerId.{PeerId as PeerIdValue};
+ghost use Rattle.zre_msg.specs.declared.message.Body.{Body as BodyValue};
+ghost use Rattle.zre_outside.specs.declared.entry.Entry.{Entry as EntryValue};
+ghost use Rattle.zre_outside.specs.declared.entry.Input.TheVariants as given;
+ghost use Rattle.zre_link.specs.Heard.{reply_fault};
+ghost use Rattle.zre_link.specs.Link.{link_after};
+ghost use Rattle.zre_journal.specs.declared.config.Config.{Config};
+ghost use Rattle.zre_journal.specs.Chronicle.{Mark, Comes, after};
+ghost use Rattle.zre_journal.specs.Peers.{life};
+ghost use Rattle.zre_journal.specs.Happens.{at_input, at_linked, at_reply, at_unlinked, at_took, fault_of_reply};
+ghost use Rattle.zre_node.specs.Journal.{Took};
+ghost use Rattle.zre_node.specs.Links.{is_about_link, Notes};
+ghost use Rattle.zre_node.specs.Stands.{Holds, Did};
+
+use crate::effects::Effects;
+use crate::tables::Tables;
+use zre_link::Link;
+use zre_outside::Input;
+use zre_peer::Cause;
+use zre_values::OutOfMemory;
+use zre_zmtp::{FeedFault, ZmtpFault};
+
+// The link that an entry names is noted, so that what it has to send is offered.
+fn note(out: &mut Effects, input: &Input) -> Result<(), OutOfMemory>
+    ensures { OnOk result (Notes input.now out.old out.new) }
+{
+    match input {
+        Input::Linked { link } | Input::Reply { link, .. } | Input::Took { link, .. } => {
+            out.pushed.push(*link)
+        }
+        _ => Ok(()),
+    }
+}
+
+// A reply on a link, which tells the fault of all replies so far. Before the link stands, a reply is dropped.
+fn hear_reply(link: &mut Link, bytes: &[u8]) -> Result<Option<ZmtpFault>, OutOfMemory>
+    ensures standing { (own : PeerIdValue) (bodies : List BodyValue) (o : List ℕ) (n : ℕ) → link.old ≡ link_after own bodies true o n →
+        IfOk result (λ fault. (link.new ≡ link_after own bodies true (o ++ bytes.now) n) × (fault ≡ reply_fault (o ++ bytes.now))) }
+    ensures waiting { link.old.linked ≡ false → IfOk result (λ fault. (link.new ≡ link.old) × (fault ≡ None)) }
+{
+    if !link.is_linked() {
+        return Ok(None);
+    }
+    match link.reply(bytes) {
+        Ok(()) => Ok(None),
+        Err(FeedFault::Zmtp(fault)) => Ok(Some(fault)),
+        Err(FeedFault::OutOfMemory) => Err(OutOfMemory),
+    }
+}
+
+impl Tables {
+    // The link of a known peer stands.
+    fn linked(&mut self, link: u64)
+        ensures { (g : Config) (K : List Mark) → Holds g K self.old →
+            Holds g (after (at_linked g link (life link K) K) K) self.new }
+    {
+        if let Some(peer) = self.peers.get_mut(&link) {
+            peer.link.linked();
+        }
+    }
+
+    // So many octets of the link of a known peer have gone out, or as many as might.
+    fn took(&mut self, link: u64, count: u64)
+        ensures { (g : Config) (K : List Mark) → Holds g K self.old →
+            Holds g (after (at_took g link count (life link K) K) K) self.new }
+    {
+        if let Some(peer) = self.peers.get_mut(&link) {
+            peer.link.took(count);
+        }
+    }
+
+    // The link of a known peer broke, and the peer ends.
+    fn unlinked(&mut self, out: &mut Effects, link: u64) -> Result<(), OutOfMemory>
+        ensures { (g : Config) (K : List Mark) → Holds g K self.old →
+            OnOk result (Did g (at_unlinked g link (life link K)) K self.new out.old out.new) }
+    {
+        if !self.peers.contains_key(&link) {
+            return Ok(());
+        }
+        self.end(out, link, Cause::Link)
+    }
+
+    // The clock goes on to the reading of an entry with a reply on a link: the fault of that link's replies so far.
+    fn come_reply(
+        &mut self,
+        at: u64,
+        link: u64,
+        bytes: &[u8],
+    ) -> Result<Option<ZmtpFault>, OutOfMemory>
+        ensures { (g : Config) (H : List Mark) (e : EntryValue) → e.at ≡ at → e.input ≡ given.Reply link bytes.now → Holds g H self.old →
+            IfOk result (λ fault. Holds g (Comes e ∷ H) self.new
+            × (at_reply g link (life link H) (Comes e ∷ H) ≡ fault_of_reply g link fault)) }
+    {
+        self.clock = at.max(self.clock);
+        match self.peers.get_mut(&link) {
+            Some(peer) => hear_reply(&mut peer.link, bytes),
+            None => Ok(None),
+        }
+    }
+
+    // What an entry about a link brings, but for replies.
+    fn bring_link(&mut self, out: &mut Effects, input: Input) -> Result<(), OutOfMemory>
+        ensures { (g : Config) (H K : List Mark) → is_about_link input ≡ true → Holds g K self.old →
+            OnOk result (Did g (at_input g input H K) K self.new out.old out.new) }
+    {
+        match input {
+            Input::Linked { link } => {
+                self.linked(link);
+                Ok(())
+            }
+            Input::Unlinked { link } => self.unlinked(out, link),
+            Input::Took { link, count } => {
+                self.took(link, count);
+                Ok(())
+            }
+            _ => Ok(()),
+        }
+    }
+
+    /// A link stands, breaks, or has taken octets.
+    pub fn take_link(&mut self, out: &mut Effects, at: u64, input: Input) -> Result<(), OutOfMemory>
+        ensures { (g : Config) (H : List Mark) (e : EntryValue) → e.at ≡ at → e.input ≡ input → is_about_link input ≡ true →
+            out.old.pushed ≡ [] → Holds g H self.old → OnOk result (Took g e H self.new out.old out.new) }
+    {
+        note(out, &input)?;
+        self.come(at);
+        self.bring_link(out, input)?;
+        self.offer(out)
+    }
+
+    /// A reply comes on a link. Where it makes the replies no stream of a ROUTER, the peer ends.
+    pub fn take_reply(
+        &mut self,
+        out: &mut Effects,
+        at: u64,
+        link: u64,
+        bytes: &[u8],
+    ) -> Result<(), OutOfMemory>
+        ensures { (g : Config) (H : List Mark) (e : EntryValue) → e.at ≡ at → e.input ≡ given.Reply link bytes.now →
+            out.old.pushed ≡ [] → Holds g H self.old → OnOk result (Took g e H self.new out.old out.new) }
+    {
+        out.pushed.push(link)?;
+        let fault = self.come_reply(at, link, bytes)?;
+        self.end_by_reply(out, link, fault)?;
+        self.offer(out)
+    }
+
+    // The known peer of a link ends for a fault of its replies, where there is one.
+    fn end_by_reply(
+        &mut self,
+        out: &mut Effects,
+        link: u64,
+        fault: Option<ZmtpFault>,
+    ) -> Result<(), OutOfMemory>
+        ensures { (g : Config) (K : List Mark) → Holds g K self.old → at_reply g link (life link K) K ≡ fault_of_reply g link fault →
+            OnOk result (Did g (fault_of_reply g link fault) K self.new out.old out.new) }
+    {
+        match fault {
+            Some(fault) => self.end(out, link, Cause::Reply(fault)),
+            None => Ok(()),
+        }
+    }
+}

@@ -1,0 +1,4 @@
+pub mod Replay
+pub mod Replayer
+pub mod State
+pub mod Taken

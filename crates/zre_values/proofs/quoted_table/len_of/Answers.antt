@@ -1,7 +1,0 @@
-use Rattle.std.proofs.Common.{arith}
-use Rattle.std.proofs.lemmas.List.FromFn.{get_or-map-range_with_len}
-use Rattle.zre_values.specs.Quoting.{len_of}
-use Rattle.zre_values.proofs.quoted_table.len_of.Goals as goal
-
-pub returns : goal.returns
-returns c = get_or-map-range_with_len len_of 0 256 c.args.octet c.args.octet 0 (omega (arith, c.ranges.octet.fits)) (omega arith)
