@@ -2,3 +2,4 @@ pub mod Commands
 pub mod Events
 pub mod Passes
 pub mod Work
+pub mod Ready

@@ -1,6 +1,7 @@
 //! The pipes with their callers, and the actor over worlds in memory.
 
-ghost use Rattle.std.specs.Prelude.{◌≡◌, ◌+◌, ◌<◌, ◌^◌, ◌++◌, ◌∷◌, [], None, IsSome};
+ghost use Rattle.std.specs.Prelude.{◌≡◌, ◌+◌, ◌<◌, ◌^◌, ◌++◌, ◌∷◌, [], None, IsSome, IfOk, IfSome};
+ghost use Rattle.zre_actor.specs.Ready.{IsReady};
 ghost use Rattle.zre_actor.specs.Passes.{IsActorOf, IsCallerOf, IsTakerOf, AreCallersOf, given_of, room_of, unused_by, ending_of, ended, how_many, last_of};
 
 use crate::{ActorPass, CallerPass, CallerPasses, Ending, Full, Made, Pipes, TakerPass, Told, Worked};
@@ -136,18 +137,51 @@ fn talk_absorbed<R: Wait + Copy>(
     callers
 }
 
-/// The callers put, then the actor works, then the taker takes. How often the node stopped, the ending, and what was left.
-fn row<R: Wait + AllocGlobal + Copy>(
+fn talk<R: Wait + Copy>(
     rt: R,
-    limit: u64,
+    pipes: &Pipes,
+    callers: CallerPasses,
+    first: CallerPass,
+    second: CallerPass,
+    groups: (Octets, Octets),
     absorbs: bool,
-) -> Result<Option<(u64, Ending, u32)>, OutOfMemory> {
-    let alloc = rt.alloc();
-    let groups = (Octets::copy(alloc, b"g")?, Octets::copy(alloc, b"g")?);
+) -> CallerPasses
+    requires pipes { IsCallerOf pipes.now first × IsCallerOf pipes.now second }
+    requires new { (ended first ≡ []) × (ended second ≡ []) }
+    requires callers { (given_of callers ≡ []) × (1 < room_of callers) }
+    ensures pipes { AreCallersOf pipes.now (given_of result) }
+    ensures many { how_many (given_of result) ≡ 2 }
+{
+    if absorbs {
+        talk_absorbed(rt, pipes, callers, first, second, groups)
+    } else {
+        talk_apart(rt, pipes, callers, first, second, groups)
+    }
+}
+
+/// All that a run needs: two callers' pipes, a node, a world of three looks, and the groups to be named.
+#[derive(Drop)]
+struct Stand {
+    pipes: Pipes,
+    actor: ActorPass,
+    callers: CallerPasses,
+    first: CallerPass,
+    second: CallerPass,
+    taker: TakerPass,
+    node: Node,
+    world: SureWorld,
+    rec: SureRecorder,
+    groups: (Octets, Octets),
+}
+
+fn stand(alloc: Global) -> Result<Option<Stand>, OutOfMemory>
+    ensures { IfOk result (λ o. IfSome o (λ s. IsReady s.pipes s.actor s.callers s.first s.second s.taker)) }
+{
     let Some(node) = node_of(alloc)? else {
         return Ok(None);
     };
     let world = looks(alloc, 3)?;
+    let groups = (Octets::copy(alloc, b"g")?, Octets::copy(alloc, b"g")?);
     let Made {
         pipes,
         actor,
@@ -160,23 +194,157 @@ fn row<R: Wait + AllocGlobal + Copy>(
     let Some(first) = callers.take() else {
         return Ok(None);
     };
-    let callers = if absorbs {
-        talk_absorbed(rt, &pipes, callers, first, second, groups)
-    } else {
-        talk_apart(rt, &pipes, callers, first, second, groups)
-    };
-    let rec = SureRecorder::new(alloc);
+    Ok(Some(Stand {
+        pipes,
+        actor,
+        callers,
+        first,
+        second,
+        taker,
+        node,
+        world,
+        rec: SureRecorder::new(alloc),
+        groups,
+    }))
+}
+
+/// The callers put, then the actor works, then the taker takes. How often the node stopped, the ending, and what was left.
+fn one_by_one<R: Wait + Copy>(rt: R, s: Stand, limit: u64, absorbs: bool) -> (u64, Ending, u32)
+    requires { IsReady s.pipes s.actor s.callers s.first s.second s.taker }
+{
+    let Stand {
+        pipes,
+        actor,
+        callers,
+        first,
+        second,
+        taker,
+        node,
+        world,
+        rec,
+        groups,
+    } = s;
+    let callers = talk(rt, &pipes, callers, first, second, groups, absorbs);
     let worked = pipes.work(rt, world, node, actor, rec, false, limit);
     let (taker, stops, ending) = take_all(rt, &pipes, taker);
     let finished = pipes.finish(rt, worked.pass, callers, taker);
-    Ok(Some((stops, ending, finished.left)))
+    (stops, ending, finished.left)
+}
+
+/// What two callers do, each in a thread of its own.
+fn both_talk<R: Threads + Wait + Sync + Send + Copy>(
+    rt: R,
+    pipes: &Pipes,
+    first: CallerPass,
+    second: CallerPass,
+    groups: (Octets, Octets),
+) -> (CallerPass, CallerPass)
+    requires pipes { IsCallerOf pipes.now first × IsCallerOf pipes.now second }
+    ensures pipes { IsCallerOf pipes.now result.0 × IsCallerOf pipes.now result.1 }
+    ensures ended { (ended result.0 ≡ ended first) × (ended result.1 ≡ ended second) }
+{
+    join(
+        &rt,
+        move ||
+            requires { IsCallerOf pipes.now first }
+            ensures { IsCallerOf pipes.entry.now result × (ended result ≡ ended first) }
+        {
+            let first = put_again(rt, pipes, first, Command::Join { group: groups.0 });
+            put_again(rt, pipes, first, Command::Leave { group: groups.1 })
+        },
+        move ||
+            requires { IsCallerOf pipes.now second }
+            ensures { IsCallerOf pipes.entry.now result × (ended result ≡ ended second) }
+        { put_again(rt, pipes, second, Command::Quit) },
+    )
+}
+
+/// The callers put and the taker takes, side by side, and the passes come back.
+fn talk_and_take<R: Threads + Wait + Sync + Send + Copy>(
+    rt: R,
+    pipes: &Pipes,
+    first: CallerPass,
+    second: CallerPass,
+    taker: TakerPass,
+    groups: (Octets, Octets),
+) -> ((CallerPass, CallerPass), (TakerPass, u64, Ending))
+    requires pipes { IsCallerOf pipes.now first × IsCallerOf pipes.now second × IsTakerOf pipes.now taker }
+    requires open { last_of taker ≡ None }
+    ensures pipes { IsCallerOf pipes.now result.0.0 × IsCallerOf pipes.now result.0.1 × IsTakerOf pipes.now result.1.0 }
+    ensures ended { (ended result.0.0 ≡ ended first) × (ended result.0.1 ≡ ended second) }
+    ensures last { IsSome (last_of result.1.0) }
+{
+    join(
+        &rt,
+        move ||
+            requires { IsCallerOf pipes.now first × IsCallerOf pipes.now second }
+            ensures { IsCallerOf pipes.entry.now result.0 × IsCallerOf pipes.entry.now result.1 × (ended result.0 ≡ ended first) × (ended result.1 ≡ ended second) }
+        { both_talk(rt, pipes, first, second, groups) },
+        move ||
+            requires { IsTakerOf pipes.now taker × (last_of taker ≡ None) }
+            ensures { IsTakerOf pipes.entry.now result.0 × IsSome (last_of result.0) }
+        { take_all(rt, pipes, taker) },
+    )
+}
+
+/// Two callers, the actor and the taker, each in a thread of its own, to the end.
+fn side_by_side<R: Threads + Wait + Sync + Send + Copy>(
+    rt: R,
+    s: Stand,
+    limit: u64,
+) -> (u64, Ending, u32)
+    requires { IsReady s.pipes s.actor s.callers s.first s.second s.taker }
+{
+    let Stand {
+        pipes,
+        actor,
+        mut callers,
+        first,
+        second,
+        taker,
+        node,
+        world,
+        rec,
+        groups,
+    } = s;
+    let shared = &pipes;
+    let (worked, ((first, second), (taker, stops, ending))) = join(
+        &rt,
+        move ||
+            requires { IsActorOf shared.now actor × (ending_of actor ≡ None) × (actor.empties + limit < 2 ^ 64) }
+            ensures { IsActorOf shared.entry.now result.pass × (unused_by result.pass ≡ unused_by actor) }
+        { shared.work(rt, world, node, actor, rec, false, limit) },
+        move ||
+            requires { IsCallerOf shared.now first × IsCallerOf shared.now second × IsTakerOf shared.now taker × (last_of taker ≡ None) }
+            ensures { IsCallerOf shared.entry.now result.0.0 × IsCallerOf shared.entry.now result.0.1 × IsTakerOf shared.entry.now result.1.0
+                × (ended result.0.0 ≡ ended first) × (ended result.0.1 ≡ ended second) × IsSome (last_of result.1.0) }
+        { talk_and_take(rt, shared, first, second, taker, groups) },
+    );
+    callers.give(first);
+    callers.give(second);
+    let finished = pipes.finish(rt, worked.pass, callers, taker);
+    (stops, ending, finished.left)
 }
 
 #[test]
-fn two_callers_and_the_actor_one_after_the_other(rt: HostRuntime) -> Result<(), Fail> {
+fn two_callers_and_the_actor_one_by_one(rt: HostRuntime) -> Result<(), Fail> {
     for absorbs in [false, true] {
-        assert_eq!(rt; row(rt, 100, absorbs)?, Some((1, Ending::Stopped, 0)));
-        assert_eq!(rt; row(rt, 1, absorbs)?, Some((0, Ending::TooLong, 3)));
+        if let Some(s) = stand(rt.alloc())? {
+            assert_eq!(rt; one_by_one(rt, s, 100, absorbs), (1, Ending::Stopped, 0));
+        }
+        if let Some(s) = stand(rt.alloc())? {
+            assert_eq!(rt; one_by_one(rt, s, 1, absorbs), (0, Ending::TooLong, 3));
+        }
+    }
+    Ok(())
+}
+
+#[test]
+fn two_callers_the_actor_and_the_taker_side_by_side(rt: HostRuntime) -> Result<(), Fail> {
+    if let Some(s) = stand(rt.alloc())? {
+        let (stops, ending, left) = side_by_side(rt, s, 1000000000000);
+        assert_eq!(rt; (stops, ending), (1, Ending::Stopped));
+        assert!(rt; left <= 2);
     }
     Ok(())
 }

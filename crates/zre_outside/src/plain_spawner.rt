@@ -1,10 +1,8 @@
-ghost use Rattle.std.specs.Prelude.{◌≡◌, ◌≤◌, ◌==◌, true, false, [], OnOk, OnErr, IfOk, IfErr};
+ghost use Rattle.std.specs.Prelude.{◌≡◌, ◌≤◌, ◌==◌, false, not};
 ghost use Rattle.std.specs.List.{list_any};
 ghost use Rattle.zre_outside.specs.Causes.{Rose, raised};
-ghost use Rattle.zre_outside.specs.Spawners.{job_of};
 
-use crate::starting::start_job;
-use crate::{Job, Refused, Running};
+use crate::Spawner;
 use std::alloc::Global;
 use std::sync::Wait;
 use std::thread::Threads;
@@ -37,33 +35,38 @@ impl<R> PlainSpawner<R> {
     }
 }
 
-impl<R: Threads + Wait + Copy + Send + 'static> PlainSpawner<R> {
-    ghost use Rattle.std.specs.Prelude.{is_ok};
+impl<R: Threads + Wait + Copy + Send + 'static> Spawner for PlainSpawner<R> {
     ghost use Rattle.zre_outside.specs.Spawners.{spawner_fails_of, spawner_starts_of, spawner_faults_of};
 
-    /// Starts a job in a thread of its own, or hands it back. Want of memory is a refusal as any other.
-    /// Beside the calls whose numbers are listed, those fail for which no thread or no memory is found.
-    pub fn start<J: Job>(&mut self, job: J) -> Result<Running<J>, Refused<J>>
-        ensures started { IfOk result (λ r. job_of r ≡ job) }
-        ensures refused { IfErr result (λ r. r.job ≡ job) }
+    type Runtime = R;
+
+    ghost faults = { spawner_faults_of };
+
+    /// The calls whose numbers are listed are refused, and no others.
+    fn admit(&mut self) -> bool
         ensures later { spawner_faults_of self.old ≤ spawner_faults_of self.new }
-        ensures failed { OnErr result (Rose (spawner_faults_of self.old) (spawner_faults_of self.new)) }
-        ensures listed { list_any (λ n. n == raised (spawner_starts_of self.old)) (spawner_fails_of self.old) ≡ true → is_ok result ≡ false }
+        ensures failed { result ≡ false → Rose (spawner_faults_of self.old) (spawner_faults_of self.new) }
+        ensures listed { result ≡ not (list_any (λ n. n == raised (spawner_starts_of self.old)) (spawner_fails_of self.old)) }
         ensures calls { spawner_starts_of self.new ≡ raised (spawner_starts_of self.old) }
         ensures fails { spawner_fails_of self.new ≡ spawner_fails_of self.old }
-        ensures same { OnOk result (spawner_faults_of self.new ≡ spawner_faults_of self.old) }
     {
         self.starts = self.starts.saturating_add(1);
         if self.start_fails.contains(&self.starts) {
             self.faults = self.faults.saturating_add(1);
-            return Err(Refused { job });
+            return false;
         }
-        match start_job(self.rt, self.alloc, job) {
-            Ok(running) => Ok(running),
-            Err(job) => {
-                self.faults = self.faults.saturating_add(1);
-                Err(Refused { job })
-            }
-        }
+        true
+    }
+
+    fn refuse(&mut self) {
+        self.faults = self.faults.saturating_add(1);
+    }
+
+    fn runtime(&self) -> R {
+        self.rt
+    }
+
+    fn alloc(&self) -> Global {
+        self.alloc
     }
 }

@@ -1,9 +1,6 @@
-ghost use Rattle.std.specs.Prelude.{◌≡◌, ◌≤◌, OnOk, OnErr, IfOk, IfErr};
-ghost use Rattle.zre_outside.specs.Causes.{Rose};
-ghost use Rattle.zre_outside.specs.Spawners.{job_of};
+ghost use Rattle.std.specs.Prelude.{◌≡◌};
 
-use crate::starting::start_job;
-use crate::{Job, Refused, Running};
+use crate::Spawner;
 use std::alloc::Global;
 use std::sync::Wait;
 use std::thread::Threads;
@@ -30,23 +27,26 @@ impl<R> ThreadSpawner<R> {
     }
 }
 
-impl<R: Threads + Wait + Copy + Send + 'static> ThreadSpawner<R> {
+impl<R: Threads + Wait + Copy + Send + 'static> Spawner for ThreadSpawner<R> {
     ghost use Rattle.zre_outside.specs.Spawners.{thread_faults_of};
 
-    /// Starts a job in a thread of its own, or hands it back. Want of memory is a refusal as any other.
-    pub fn start<J: Job>(&mut self, job: J) -> Result<Running<J>, Refused<J>>
-        ensures started { IfOk result (λ r. job_of r ≡ job) }
-        ensures refused { IfErr result (λ r. r.job ≡ job) }
-        ensures later { thread_faults_of self.old ≤ thread_faults_of self.new }
-        ensures failed { OnErr result (Rose (thread_faults_of self.old) (thread_faults_of self.new)) }
-        ensures same { OnOk result (thread_faults_of self.new ≡ thread_faults_of self.old) }
-    {
-        match start_job(self.rt, self.alloc, job) {
-            Ok(running) => Ok(running),
-            Err(job) => {
-                self.faults = self.faults.saturating_add(1);
-                Err(Refused { job })
-            }
-        }
+    type Runtime = R;
+
+    ghost faults = { thread_faults_of };
+
+    fn admit(&mut self) -> bool {
+        true
+    }
+
+    fn refuse(&mut self) {
+        self.faults = self.faults.saturating_add(1);
+    }
+
+    fn runtime(&self) -> R {
+        self.rt
+    }
+
+    fn alloc(&self) -> Global {
+        self.alloc
     }
 }
