@@ -425,9 +425,9 @@ module _ (g : Config) (K : List Entry) (keep : Bool) (limit : ℕ) (s : Scene) w
         how
 
     -- the world's refusal is the ending
-    pub refused_ends : (f : NextFault) → (f ≡ fault.Failed → Rose s.world_faults t.world_faults) → has_stopped (chronicle g (K ++ k.entries)) ≡ false → IsWork g K keep limit s t n (world_ending f)
-    refused_ends fault.Failed rose going = leaves ending.WorldFault (going, refl, few command, rose refl)
-    refused_ends fault.OutOfMemory rose going = leaves ending.OutOfMemory (omega arith, few command)
+    pub refused_ends : (f : NextFault) → turns < limit → (f ≡ fault.Failed → Rose s.world_faults t.world_faults) → has_stopped (chronicle g (K ++ k.entries)) ≡ false → IsWork g K keep limit s t n (world_ending f)
+    refused_ends fault.Failed less rose going = leaves ending.WorldFault (going, refl, few command, less, rose refl)
+    refused_ends fault.OutOfMemory less rose going = leaves ending.OutOfMemory (omega arith, few command)
 
   -- Last was pushed, and what the work came to is handed back
   pub handed_back : (t t' : Scene) (n n' : Node) (e e' : Ending) → IsWork g K keep limit s t n e → t' ≡ t → n' ≡ n → e' ≡ e → IsWork g K keep limit s t' n' e'

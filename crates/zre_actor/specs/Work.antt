@@ -1,5 +1,5 @@
 -- What the actor's work comes to.
-use Rattle.std.specs.Prelude.{◌≡◌, ◌≢◌, ◌⊎◌, ℕ, ◌+◌, ◌≤◌, ◌==◌, ◌&&◌, Bool, true, false, cond, nat_lt, List, [], ◌∷◌, ◌++◌, map, length, Option, Some, None, option_map, IsTrue}
+use Rattle.std.specs.Prelude.{◌≡◌, ◌≢◌, ◌⊎◌, ℕ, ◌+◌, ◌≤◌, ◌<◌, ◌==◌, ◌&&◌, Bool, true, false, cond, nat_lt, List, [], ◌∷◌, ◌++◌, map, length, Option, Some, None, option_map, IsTrue}
 use Rattle.std.specs.Io.KnownBytes.{Appends}
 use Rattle.zre_outside.specs.declared.act.Act.{Act}
 use Rattle.zre_outside.specs.declared.act.Act.TheVariants as act
@@ -96,10 +96,10 @@ abbrev pub world_ending : NextFault → Ending
 world_ending fault.Failed = ending.WorldFault
 world_ending fault.OutOfMemory = ending.OutOfMemory
 
--- what each ending says: whether the node stopped, how many turns there were, whose count rose, which entry wasn't stepped, which command wasn't handed on
+-- what each ending says: whether the node stopped, how many turns were answered, whose count rose, which entry wasn't stepped, which command wasn't handed on
 abbrev pub Ends : Ending → Bool → ℕ → ℕ → Bool → Scene → Scene → List Entry → List Command → Type 0
 Ends ending.Stopped stopped turns limit keep s t unstepped pending = (stopped ≡ true) × (unstepped ≡ []) × (pending ≡ [])
-Ends ending.WorldFault stopped turns limit keep s t unstepped pending = (stopped ≡ false) × (unstepped ≡ []) × (length pending ≤ 1) × Rose s.world_faults t.world_faults
+Ends ending.WorldFault stopped turns limit keep s t unstepped pending = (stopped ≡ false) × (unstepped ≡ []) × (length pending ≤ 1) × (turns < limit) × Rose s.world_faults t.world_faults
 Ends ending.RecordFault stopped turns limit keep s t unstepped pending = (stopped ≡ false) × (length unstepped ≡ 1) × (pending ≡ []) × (keep ≡ true) × Rose s.record_faults t.record_faults
 Ends ending.TooLong stopped turns limit keep s t unstepped pending = (stopped ≡ false) × (unstepped ≡ []) × (pending ≡ []) × (turns ≡ limit)
 Ends ending.OutOfMemory stopped turns limit keep s t unstepped pending = (length unstepped ≤ 1) × (length pending ≤ 1)

@@ -6,7 +6,7 @@ use Rattle.zre_actor.proofs.Callers.{caller_joined}
 use Rattle.zre_actor.proofs.passes.Pipes.absorb.Goals as goal
 
 pub absorb-requires-clause-rule : goal.absorb-requires-clause-rule
-absorb-requires-clause-rule c = merges _ _ _ _ c.args.other.is_caller.0
+absorb-requires-clause-rule g c = merges _ _ _ _ c.args.other.is_caller.0
 
 pub invariant_of-result : goal.invariant_of-result
-invariant_of-result c = record { is_caller = subst IsCaller (sym c.absorb.ensures.rule) (caller_joined (view c.args.pass.commands) (view c.args.other.commands) c.args.pass.is_caller c.args.other.is_caller) }
+invariant_of-result g c = record { is_caller = subst IsCaller (sym c.absorb.ensures.rule) (caller_joined (view c.args.pass.commands) (view c.args.other.commands) c.args.pass.is_caller c.args.other.is_caller) }

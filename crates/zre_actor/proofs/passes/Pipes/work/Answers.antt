@@ -45,7 +45,7 @@ returns-in-Err-clause-work g c = λ f K here. (
       rose = λ e. c.in-Err.ensures.failed (ap Err e); world_later = c.in-Err.ensures.later; record_same = refl;
     } in
     working.handed_back f K c.args.keep c.args.limit s u _ l.node _ (world_ending c.in-Err.fault) _
-    (working.refused_ends f K c.args.keep c.args.limit s l.turn u l.node l.command (working.refused f K c.args.keep c.args.limit s l.turn t l.node l.command k c.in-Err.fault u refuses) c.in-Err.fault
+    (working.refused_ends f K c.args.keep c.args.limit s l.turn u l.node l.command (working.refused f K c.args.keep c.args.limit s l.turn t l.node l.command k c.in-Err.fault u refuses) c.in-Err.fault c.loop-turn-test.true
         (λ e. working.rose_later s.world_faults t.world_faults u.world_faults k.world_later (refuses.rose e)) going)
     (λ i. record { told = w.told (same.0 i); looked = w.looked (same.0 i); world_faults = w.faults (same.0 i); kept = r.kept (same.2 i); record_faults = r.faults (same.2 i); popped = p.0 i; raised = p.1 i; empties = p.2 i })
     same.1 (same.3 ∙ c.ending_by.ensures))
