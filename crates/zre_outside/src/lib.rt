@@ -6,22 +6,57 @@
 
 mod act;
 mod adapters;
+mod addresses;
+mod copies;
+mod deed;
 mod entries;
 mod entry;
 mod held;
+mod job;
+mod mem_recorder;
 mod memory;
+mod plain_spawner;
+mod recorder;
+mod running;
+mod script;
+mod script_world;
 mod sink;
 mod source;
+mod spawner;
+mod stage;
+mod start;
+mod starting;
 mod sure;
+mod sure_recorder;
+mod sure_world;
+mod thread_spawner;
+mod turn;
+mod world;
 
 pub use act::{Act, Acts};
 pub use adapters::{StdSink, StdSource};
+pub use addresses::Addresses;
+pub use deed::Deed;
 pub use entries::Entries;
 pub use entry::{Command, Entry, Input};
+pub use job::Job;
+pub use mem_recorder::MemRecorder;
 pub use memory::{MemSink, MemSource};
+pub use plain_spawner::PlainSpawner;
+pub use recorder::Recorder;
+pub use running::{Refused, Running, Works};
+pub use script::Script;
+pub use script_world::{LOOKS_IN_A_ROW, ScriptWorld};
 pub use sink::{NextFault, Sink, write_all};
 pub use source::{Failed, Source};
+pub use spawner::Spawner;
+pub use start::Start;
 pub use sure::{SureSink, SureSource};
+pub use sure_recorder::SureRecorder;
+pub use sure_world::SureWorld;
+pub use thread_spawner::ThreadSpawner;
+pub use turn::Turn;
+pub use world::World;
 
 #[cfg(test)]
 mod tests;

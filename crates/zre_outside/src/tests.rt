@@ -1,7 +1,11 @@
 //! Each object through its bound, and a read and a write that fail in mid-stream.
 
+ghost use Rattle.std.specs.Prelude.{◌≡◌, ◌*◌, true, IsSome, IfOk, IfSome, is_none};
+
 use crate::*;
+use std::sync::Wait;
 use std::test::Fail;
+use std::thread::Threads;
 use zre_values::Octets;
 
 fn read_once<S: Source>(source: &mut S, buf: &mut [u8; 3]) -> Result<usize, Failed> {
@@ -56,5 +60,97 @@ fn the_adapters_pass_octets_on(rt: HostRuntime) -> Result<(), Fail> {
     let mut sink = StdSink::new(room.as_mut_slice());
     assert_eq!(rt; write_all(&mut sink, b"abc"), Ok(()));
     assert_eq!(rt; write_all(&mut sink, b"de"), Err(NextFault::Failed));
+    Ok(())
+}
+
+fn next_of<W: World>(
+    world: &mut W,
+    command: Option<Command>,
+) -> Result<Option<(u64, bool, bool)>, NextFault>
+    requires { IsSome command → W.looked world.old ≡ true }
+    ensures { IfOk result (λ o. W.looked world.new ≡ is_none o) }
+{
+    match world.next(command)? {
+        Turn::Look => Ok(None),
+        Turn::Entry(Entry { at, input }) => Ok(Some((
+            at,
+            matches!(input, Input::Tick),
+            matches!(input, Input::Do(Command::Quit)),
+        ))),
+    }
+}
+
+#[test]
+fn a_script_waits_at_a_look_and_ends_behind_its_last_item(rt: HostRuntime) -> Result<(), Fail> {
+    let mut script = Script::new(rt.alloc());
+    script.push(Turn::Entry(Entry {
+        at: 7,
+        input: Input::Tick,
+    }))?;
+    script.push(Turn::Look)?;
+    let fails = [3].to_vec(rt.alloc())?;
+    let mut world = ScriptWorld::new(rt.alloc(), script, Vec::new(rt.alloc()), fails);
+    assert_eq!(rt; next_of(&mut world, None), Ok(Some((7, true, false))));
+    assert_eq!(rt; next_of(&mut world, None), Ok(None));
+    assert_eq!(rt; next_of(&mut world, None), Err(NextFault::Failed));
+    if let Ok(None) = next_of(&mut world, None) {
+        assert_eq!(rt; next_of(&mut world, Some(Command::Quit)), Ok(Some((7, false, true))));
+    }
+    assert_eq!(rt; next_of(&mut world, None), Ok(Some((7, false, false))));
+    Ok(())
+}
+
+#[test]
+fn a_capture_in_memory_begins_anew(rt: HostRuntime) -> Result<(), Fail> {
+    let fails = [2].to_vec(rt.alloc())?;
+    let mut rec = MemRecorder::new(rt.alloc(), fails, Vec::new(rt.alloc()));
+    if let Ok(()) = rec.begin("a") {
+        assert_eq!(rt; rec.put(b"xy"), Ok(()));
+    }
+    assert_eq!(rt; rec.kept(), b"xy".as_slice());
+    assert_eq!(rt; rec.begin("b"), Err(NextFault::Failed));
+    assert_eq!(rt; rec.kept(), b"xy".as_slice());
+    if let Ok(()) = rec.begin("c") {
+        assert_eq!(rt; rec.put(b"z"), Ok(()));
+    }
+    assert_eq!(rt; rec.kept(), b"z".as_slice());
+    Ok(())
+}
+
+/// A number to be doubled.
+#[derive(Drop)]
+struct Double {
+    n: u32,
+}
+
+impl Job for Double {
+    ghost use Rattle.std.specs.Prelude.{◌≡◌, ◌*◌};
+
+    type Out = u64;
+
+    ghost means = { λ job out. out ≡ 2 * job.n };
+
+    fn run<R: Threads + Wait + Copy + Send + 'static>(self, _rt: R) -> u64 {
+        2 * u64::from(self.n)
+    }
+}
+
+fn doubled<R: Threads + Copy, P: Spawner>(rt: R, spawner: &mut P, n: u32) -> Option<u64>
+    ensures { IfSome result (λ out. out ≡ 2 * n) }
+{
+    match spawner.start(Double { n }) {
+        Ok(running) => Some(running.join(rt)),
+        Err(_) => None,
+    }
+}
+
+#[test]
+fn a_job_runs_in_its_thread_or_comes_back(rt: HostRuntime) -> Result<(), Fail> {
+    let fails = [1].to_vec(rt.alloc())?;
+    let mut spawner = PlainSpawner::new(rt, rt.alloc(), fails);
+    assert_eq!(rt; doubled(rt, &mut spawner, 4), None);
+    assert_eq!(rt; doubled(rt, &mut spawner, 5), Some(10));
+    let mut spawner = ThreadSpawner::new(rt, rt.alloc());
+    assert_eq!(rt; doubled(rt, &mut spawner, 6), Some(12));
     Ok(())
 }

@@ -123,6 +123,13 @@ impl Events {
         self.items.as_slice()
     }
 
+    /// The members themselves, to be raised one by one.
+    pub fn into_vec(self) -> Vec<Event>
+        ensures { result.items ≡ self }
+    {
+        self.items
+    }
+
     /// Empties the list. It keeps its memory.
     pub fn clear(&mut self)
         ensures { self.new ≡ [] }

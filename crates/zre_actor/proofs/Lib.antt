@@ -1,0 +1,11 @@
+pub mod Sums
+pub mod Counting
+pub mod Steps
+pub mod EventSteps
+pub mod Callers
+pub mod Rows
+pub mod Finishing
+pub mod Deeds
+pub mod Taking
+pub mod Working
+pub mod Given

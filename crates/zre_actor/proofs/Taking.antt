@@ -1,0 +1,51 @@
+-- One entry: put, stepped, done.
+use Rattle.std.proofs.Common.{◌≡◌, ℕ, Bool, true, false, List, [], ◌∷◌, ◌++◌, Option, refl, sym, ap, ◌∙◌, subst, append-nil}
+use Rattle.std.specs.Prelude.{option_map}
+use Rattle.std.specs.Io.KnownBytes.{Appends}
+use Rattle.std.proofs.lemmas.List.{append_cancel_left}
+use Rattle.zre_outside.specs.declared.act.Act.{Act}
+use Rattle.zre_outside.specs.declared.entry.Entry.{Entry}
+use Rattle.zre_outside.specs.Worlds.{Log}
+use Rattle.zre_journal.specs.declared.config.Config.{Config}
+use Rattle.zre_journal.specs.Events.{chronicle, acts, acts_behind}
+use Rattle.zre_journal.specs.Laws.{Continues}
+use Rattle.zre_journal.proofs.Joined.{continues}
+use Rattle.zre_node.specs.declared.node.Node.{Node}
+use Rattle.zre_node.specs.declared.effects.Step.{Step}
+use Rattle.zre_node.specs.Journal.{Steps}
+use Rattle.zre_capture.specs.Lines.{line}
+use Rattle.zre_actor.specs.declared.ending.Ending.TheVariants as ending
+use Rattle.zre_actor.specs.Work.{AreDeeds, beside, DoesAll, Went, IsUndone}
+use Rattle.zre_actor.proofs.Deeds.{beside-append}
+
+module _ (g : Config) (J : List Entry) (e : Entry) (keep : Bool) (told told' : Option Log) (kept kept' : Option (List ℕ)) (n : Node) (s : Step) (st : Steps g J e n s) (k : keep ≡ true → Appends kept kept' (line e)) where
+  -- the acts of a step are those of its entry
+  its_acts : acts_behind g (e ∷ []) (chronicle g J) ≡ s.acts
+  its_acts = append_cancel_left (acts g J) (acts_behind g (e ∷ []) (chronicle g J)) s.acts (let c : Continues g J (e ∷ []) = continues g J (e ∷ []) in sym c.done ∙ st.done)
+
+  pub went_on : DoesAll g (J ++ e ∷ []) s.acts true told told' → Went g J e keep told told' kept kept' n s.events
+  went_on d =
+      let all : acts_behind g (e ∷ []) (chronicle g J) ≡ d.did = its_acts ∙ d.are_acts ∙ ap (λ x. d.did ++ x) (d.all_done refl) ∙ append-nil d.did in
+      record {
+        stands = st.stands;
+        deeds = d.deeds;
+        are_deeds = subst (λ x. AreDeeds g (beside (J ++ e ∷ []) x) d.deeds) (sym all) d.are_deeds;
+        is_told = d.is_told;
+        are_events = st.told;
+        is_kept = k;
+      }
+
+  pub left_undone : DoesAll g (J ++ e ∷ []) s.acts false told told' → IsUndone g J e keep told told' kept kept' n ending.OutOfMemory
+  left_undone d = record {
+    stands = st.stands;
+    did = beside (J ++ e ∷ []) d.did;
+    undone = beside (J ++ e ∷ []) d.undone;
+    deeds = d.deeds;
+    are_acts = ap (beside (J ++ e ∷ [])) (its_acts ∙ d.are_acts) ∙ beside-append (J ++ e ∷ []) d.did d.undone;
+    are_deeds = d.are_deeds;
+    is_told = d.is_told;
+    untold = s.events;
+    are_events = st.told;
+    is_kept = k;
+    ends = refl;
+  }

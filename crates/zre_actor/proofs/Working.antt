@@ -1,0 +1,434 @@
+-- The work so far, and what each turn adds.
+use Rattle.std.proofs.Common.{◌≡◌, ◌≢◌, ℕ, zero, suc, ◌+◌, ◌-◌, ◌^◌, ◌≤◌, ◌<◌, ◌==◌, ◌&&◌, min, Bool, true, false, true≢false, cond, nat_lt, List, [], ◌∷◌, ◌++◌, map, length, Option, Some, None, refl, sym, ap, ◌∙◌, subst, arith, append_assoc, append-nil, length-append, eq-eqb, ne_eqb, ⊎_elim}
+use mathlib.Core.Logic.{inl, inr}
+use Rattle.std.specs.Prelude.{◌⊎◌, option_map, option_to_list, IsTrue}
+use Rattle.std.specs.Io.KnownBytes.{Appends}
+use Rattle.std.proofs.KnownBytes.{Appends-nil, Appends-trans}
+use Rattle.std.proofs.lemmas.List.{map-append}
+use Rattle.std.proofs.lemmas.Grind.{flat_map-append}
+use Rattle.std.proofs.lemmas.Bool.Decides.{nat_tests}
+use Rattle.zre_outside.specs.declared.act.Act.{Act}
+use Rattle.zre_outside.specs.declared.deed.Deed.{Deed}
+use Rattle.zre_outside.specs.declared.entry.Entry.{Entry}
+use Rattle.zre_outside.specs.declared.entry.Command.{Command}
+use Rattle.zre_outside.specs.declared.turn.Turn.TheVariants as turn
+use Rattle.zre_outside.specs.declared.sink.NextFault.{NextFault}
+use Rattle.zre_outside.specs.declared.sink.NextFault.TheVariants as fault
+use Rattle.zre_outside.specs.Causes.{Rose, raised}
+use Rattle.zre_outside.specs.Worlds.{Log, IsTurn, after_turn}
+use Rattle.zre_peer.specs.declared.event.Event.{Event}
+use Rattle.zre_journal.specs.declared.config.Config.{Config}
+use Rattle.zre_journal.specs.Events.{chronicle, events}
+use Rattle.zre_journal.specs.Happens.{has_stopped}
+use Rattle.zre_node.specs.declared.node.Node.{Node}
+use Rattle.zre_node.specs.Journal.{StandsFor, is_spent}
+use Rattle.zre_capture.specs.Lines.{line, lines}
+use Rattle.zre_actor.specs.declared.ending.Ending.{Ending}
+use Rattle.zre_actor.specs.declared.ending.Ending.TheVariants as ending
+use Rattle.zre_actor.specs.declared.views.Placed.{Placed}
+use Rattle.zre_actor.specs.declared.passes.ActorPass.{ActorPass}
+use Rattle.zre_actor.specs.Commands.{command_of}
+use Rattle.zre_actor.specs.Passes.{IsPopped}
+use Rattle.zre_actor.specs.Work.{Scene, scene, went, AreDeeds, acts_of, late, Goes, world_ending, Ends, KeptLines, IsWork, Went, IsRefusal, IsUnput, IsUnstepped, IsUndone, Broke}
+use Rattle.zre_actor.proofs.Deeds.{went-none, after_look, after_entry, AreDeeds-append, acts_of-snoc}
+
+not_late : (turns limit : ℕ) (looked : Bool) → turns ≢ limit → late turns limit looked ≡ 0
+not_late turns limit looked ne = let differ : (turns == limit) ≡ false = ne_eqb turns limit ne in
+    let count : Bool → ℕ = λ b. cond b 1 0 in let none : count false ≡ 0 = refl in
+    elim (nat_lt 0 limit) as (λ b. count (b && (turns == limit) && looked) ≡ count false) [ true ↦ ap (λ b. count (b && looked)) differ | false ↦ refl ]
+
+never_late : (turns limit : ℕ) → late turns limit false ≡ 0
+never_late turns limit = let count : Bool → ℕ = λ b. cond b 1 0 in
+    elim (nat_lt 0 limit && (turns == limit)) as (λ b. count (b && false) ≡ count false) [ true ↦ refl | false ↦ refl ]
+
+start_late : (limit : ℕ) (looked : Bool) → late 0 limit looked ≡ 0
+start_late zero looked = refl
+start_late (suc n) looked = not_late 0 (suc n) looked (λ e. omega arith)
+
+is_late : (turns limit : ℕ) → turns ≡ limit → 0 < limit → late turns limit true ≡ 1
+is_late turns limit e pos = let same : (turns == limit) ≡ true = eq-eqb turns limit e in let some_ : nat_lt 0 limit ≡ true = grind (arith, nat_tests) in
+    ap (λ b. cond (b && (turns == limit) && true) 1 0) some_ ∙ ap (λ b. cond (b && true) 1 0) same
+
+pub rose_later : (a b c : ℕ) → a ≤ b → Rose b c → Rose a c
+rose_later a b c le rose = omega (arith, le, rose)
+
+-- one line more
+lines-snoc : (es : List Entry) (e : Entry) → lines (es ++ e ∷ []) ≡ lines es ++ line e
+lines-snoc es e = flat_map-append line es (e ∷ []) ∙ ap (λ l. lines es ++ l) (append-nil (line e))
+
+kept_more : (a b c : Option (List ℕ)) (es : List Entry) (e : Entry) → Appends a b (lines es) → Appends b c (line e) → Appends a c (lines (es ++ e ∷ []))
+kept_more a b c es e p q = subst (Appends a c) (sym (lines-snoc es e)) (Appends-trans a b c (lines es) (line e) p q)
+
+few : (c : Option Command) → length (option_to_list c) ≤ 1
+few None = omega arith
+few (Some c) = omega arith
+
+-- what the actor popped: nothing, and one find of an empty pipe more, or a command
+abbrev pub Pops : Scene → Option Command → Scene → Type 0
+Pops t None u = (u.popped ≡ t.popped) × (u.empties ≡ t.empties + 1)
+Pops t (Some c) u = ((e : Placed) × (e.command ≡ c) × (u.popped ≡ t.popped ++ e ∷ [])) × (u.empties ≡ t.empties)
+
+-- a pop, where the count of finds doesn't stand at its end
+pub pops : (a b : ActorPass) (found : Option Command) (told told' : Option Log) (looked looked' : Bool) (wf wf' : ℕ) (kept : Option (List ℕ)) (rf : ℕ) → a.empties + 1 < 2 ^ 64 → IsPopped a found b
+    → Pops (scene told looked wf kept rf a) found (scene told' looked' wf' kept rf b)
+pops a b None told told' looked looked' wf wf' kept rf room p = (p.0, omega (arith, p.1))
+pops a b (Some c) told told' looked looked' wf wf' kept rf room p = p
+
+module _ (g : Config) (K : List Entry) (keep : Bool) (limit : ℕ) (s : Scene) where
+  -- after so many turns: the node took all that was given, its acts are done, its events raised and its lines kept
+  pub record Running (turns : ℕ) (t : Scene) (n : Node) (command : Option Command) : Type 0 where
+    pub entries : List Entry
+    pub deeds : List Deed
+    pub goes : Goes turns limit s t entries deeds (option_to_list command)
+    pub node : StandsFor g (K ++ entries) n
+    pub are_deeds : AreDeeds g (acts_of g K entries) deeds
+    pub told : List Event
+    pub are_events : events g (K ++ entries) ≡ events g K ++ told
+    pub are_raised : t.raised ≡ s.raised ++ told
+    pub are_kept : keep ≡ true → Appends s.kept t.kept (lines entries)
+    pub busy : (c : Command) → command ≡ Some c → has_stopped (chronicle g (K ++ entries)) ≡ false
+    pub world_later : s.world_faults ≤ t.world_faults
+    pub record_later : s.record_faults ≤ t.record_faults
+
+  pub running_start : (n : Node) → StandsFor g K n → Running 0 s n None
+  running_start n here = record {
+    entries = [];
+    deeds = [];
+    goes = record {
+      looks = 0;
+      handed = [];
+      is_told = went-none s.told;
+      counted = refl;
+      popped = [];
+      is_popped = sym (append-nil s.popped);
+      are_handed = refl;
+      are_looks = (let z : late 0 limit s.looked ≡ 0 = start_late limit s.looked in omega arith);
+    };
+    node = subst (λ J. StandsFor g J n) (sym (append-nil K)) here;
+    are_deeds = tt;
+    told = [];
+    are_events = ap (events g) (append-nil K) ∙ sym (append-nil (events g K));
+    are_raised = sym (append-nil s.raised);
+    are_kept = λ _. Appends-nil s.kept;
+    busy = λ c is. absurd (cc);
+    world_later = omega arith;
+    record_later = omega arith;
+  }
+
+  module _ (turns : ℕ) (t : Scene) (n : Node) (command : Option Command) (k : Running turns t n command) where
+    -- the pipe was not found empty more often than there were turns
+    pub rare : t.empties ≤ s.empties + turns
+    rare = let h = k.goes in omega (arith, h.counted, h.are_looks)
+
+    -- a command in hand is no answer to a look
+    no_command : (c : Option Command) → IsTurn c turn.Look → option_to_list c ≡ []
+    no_command None is = refl
+    no_command (Some c) is = absurd is
+
+    looks_again : (u : Scene) (found : Option Command) → u.told ≡ option_map (after_turn command turn.Look) t.told → Pops t found u → late turns limit t.looked ≡ 0 → late (turns + 1) limit u.looked ≡ 0
+        → map command_of k.goes.popped ≡ k.goes.handed ++ [] → Goes (turns + 1) limit s u k.entries k.deeds (option_to_list found)
+    looks_again u None new popped now later hands = let h = k.goes in record {
+      looks = h.looks + 1;
+      handed = h.handed;
+      is_told = after_look s.told t.told u.told command k.entries h.looks h.handed k.deeds h.is_told new;
+      counted = omega (arith, h.counted);
+      popped = h.popped;
+      is_popped = popped.0 ∙ h.is_popped;
+      are_handed = hands;
+      are_looks = omega (arith, h.are_looks, popped.1);
+    }
+    looks_again u (Some c) new popped now later hands = let h = k.goes in let e = popped.0.0 in record {
+      looks = h.looks + 1;
+      handed = h.handed;
+      is_told = after_look s.told t.told u.told command k.entries h.looks h.handed k.deeds h.is_told new;
+      counted = omega (arith, h.counted);
+      popped = h.popped ++ e ∷ [];
+      is_popped = popped.0.2 ∙ ap (λ l. l ++ e ∷ []) h.is_popped ∙ append_assoc s.popped h.popped (e ∷ []);
+      are_handed = map-append command_of h.popped (e ∷ []) ∙ ap (λ l. l ++ e.command ∷ []) (hands ∙ append-nil h.handed) ∙ ap (λ x. h.handed ++ x ∷ []) popped.0.1;
+      are_looks = omega (arith, h.are_looks, popped.1, length-append h.popped (e ∷ []));
+    }
+
+    -- a look was answered, and the rest stands as it stood
+    pub record Looks (u : Scene) : Type 0 where
+      pub told : u.told ≡ option_map (after_turn command turn.Look) t.told
+      pub looked : u.looked ≡ true
+      pub raised : u.raised ≡ t.raised
+      pub kept : u.kept ≡ t.kept
+      pub world_later : t.world_faults ≤ u.world_faults
+      pub record_same : u.record_faults ≡ t.record_faults
+
+    -- a look, and then a pop
+    pub looked_again : (u : Scene) (found : Option Command) → Looks u → Pops t found u → turns + 1 < limit → IsTurn command turn.Look → has_stopped (chronicle g (K ++ k.entries)) ≡ false → Running (turns + 1) u n found
+    looked_again u found w popped more is going =
+        let h = k.goes in
+        let now : late turns limit t.looked ≡ 0 = not_late turns limit t.looked (λ e. omega arith) in
+        let later : late (turns + 1) limit u.looked ≡ 0 = not_late (turns + 1) limit u.looked (λ e. omega arith) in
+        record {
+          entries = k.entries;
+          deeds = k.deeds;
+          goes = looks_again u found w.told popped now later (h.are_handed ∙ ap (λ l. h.handed ++ l) (no_command command is));
+          node = k.node;
+          are_deeds = k.are_deeds;
+          told = k.told;
+          are_events = k.are_events;
+          are_raised = w.raised ∙ k.are_raised;
+          are_kept = λ i. subst (λ x. Appends s.kept x (lines k.entries)) (sym w.kept) (k.are_kept i);
+          busy = λ c is. going;
+          world_later = omega (arith, k.world_later, w.world_later);
+          record_later = omega (arith, k.record_later, w.record_same);
+        }
+
+    -- a look in the last turn, behind which nothing is popped
+    pub looked_last : (u : Scene) → Looks u → u.popped ≡ t.popped → u.empties ≡ t.empties → turns + 1 ≡ limit → IsTurn command turn.Look → Running (turns + 1) u n None
+    looked_last u w popped empties last is =
+        let h = k.goes in
+        let now : late turns limit t.looked ≡ 0 = not_late turns limit t.looked (λ e. omega arith) in
+        let later : late (turns + 1) limit u.looked ≡ 1 = ap (late (turns + 1) limit) w.looked ∙ is_late (turns + 1) limit last (omega arith) in
+        record {
+          entries = k.entries;
+          deeds = k.deeds;
+          goes = record {
+            looks = h.looks + 1;
+            handed = h.handed;
+            is_told = after_look s.told t.told u.told command k.entries h.looks h.handed k.deeds h.is_told w.told;
+            counted = omega (arith, h.counted);
+            popped = h.popped;
+            is_popped = popped ∙ h.is_popped;
+            are_handed = h.are_handed ∙ ap (λ l. h.handed ++ l) (no_command command is);
+            are_looks = omega (arith, h.are_looks);
+          };
+          node = k.node;
+          are_deeds = k.are_deeds;
+          told = k.told;
+          are_events = k.are_events;
+          are_raised = w.raised ∙ k.are_raised;
+          are_kept = λ i. subst (λ x. Appends s.kept x (lines k.entries)) (sym w.kept) (k.are_kept i);
+          busy = λ c is. absurd (cc);
+          world_later = omega (arith, k.world_later, w.world_later);
+          record_later = omega (arith, k.record_later, w.record_same);
+        }
+
+    -- an entry was given, and the rest of the scene stands as it stood but for the events that are raised
+    pub record Gives (e : Entry) (told : Option Log) (u : Scene) : Type 0 where
+      pub given : told ≡ option_map (after_turn command (turn.Entry e)) t.told
+      pub looked : u.looked ≡ false
+      pub popped : u.popped ≡ t.popped
+      pub empties : u.empties ≡ t.empties
+      pub world_later : t.world_faults ≤ u.world_faults
+      pub record_later : t.record_faults ≤ u.record_faults
+
+    given_goes : (e : Entry) (told : Option Log) (u : Scene) (more : List Deed) → Gives e told u → turns < limit → u.told ≡ option_map (went [] 0 [] more) told → Goes (turns + 1) limit s u (k.entries ++ e ∷ []) (k.deeds ++ more) []
+    given_goes e told u more w less done =
+        let h = k.goes in
+        let now : late turns limit t.looked ≡ 0 = not_late turns limit t.looked (λ e. omega arith) in
+        let later : late (turns + 1) limit u.looked ≡ 0 = ap (late (turns + 1) limit) w.looked ∙ never_late (turns + 1) limit in
+        record {
+          looks = h.looks;
+          handed = h.handed ++ option_to_list command;
+          is_told = after_entry s.told t.told told u.told command e k.entries h.looks h.handed k.deeds more h.is_told w.given done;
+          counted = omega (arith, h.counted, length-append k.entries (e ∷ []));
+          popped = h.popped;
+          is_popped = w.popped ∙ h.is_popped;
+          are_handed = h.are_handed ∙ sym (append-nil (h.handed ++ option_to_list command));
+          are_looks = omega (arith, h.are_looks, w.empties);
+        }
+
+    along : (e : Entry) → (K ++ k.entries) ++ e ∷ [] ≡ K ++ (k.entries ++ e ∷ [])
+    along e = append_assoc K k.entries (e ∷ [])
+
+    -- an entry was given, put, stepped and done, and its events were raised
+    pub went_on : (e : Entry) (told : Option Log) (u : Scene) (n' : Node) (es : List Event) → Gives e told u → turns < limit → Went g (K ++ k.entries) e keep told u.told t.kept u.kept n' es → u.raised ≡ t.raised ++ es
+        → Running (turns + 1) u n' None
+    went_on e told u n' es w less x raised = record {
+      entries = k.entries ++ e ∷ [];
+      deeds = k.deeds ++ x.deeds;
+      goes = given_goes e told u x.deeds w less x.is_told;
+      node = subst (λ J. StandsFor g J n') (along e) x.stands;
+      are_deeds = subst (λ l. AreDeeds g l (k.deeds ++ x.deeds)) (sym (acts_of-snoc g K k.entries e)) (AreDeeds-append g (acts_of g K k.entries) _ k.deeds x.deeds k.are_deeds x.are_deeds);
+      told = k.told ++ es;
+      are_events = ap (events g) (sym (along e)) ∙ x.are_events ∙ ap (λ l. l ++ es) k.are_events ∙ append_assoc (events g K) k.told es;
+      are_raised = raised ∙ ap (λ l. l ++ es) k.are_raised ∙ append_assoc s.raised k.told es;
+      are_kept = λ i. kept_more s.kept t.kept u.kept k.entries e (k.are_kept i) (x.is_kept i);
+      busy = λ c is. absurd (cc);
+      world_later = omega (arith, k.world_later, w.world_later);
+      record_later = omega (arith, k.record_later, w.record_later);
+    }
+
+    -- ---- the work ends
+
+    idle : (c : Option Command) → ((x : Command) → c ≡ Some x → has_stopped (chronicle g (K ++ k.entries)) ≡ false) → has_stopped (chronicle g (K ++ k.entries)) ≡ true → option_to_list c ≡ []
+    idle None busy stopped = refl
+    idle (Some x) busy stopped = absurd (true≢false (sym stopped ∙ busy x refl))
+
+    -- where it stands, with nothing unstepped
+    leaves : (e : Ending) → Ends e (has_stopped (chronicle g (K ++ k.entries))) turns limit keep s t [] (option_to_list command) → IsWork g K keep limit s t n e
+    leaves e ends = record {
+      turns = turns;
+      entries = k.entries;
+      unstepped = [];
+      pending = option_to_list command;
+      deeds = k.deeds;
+      goes = subst (λ l. Goes turns limit s t l k.deeds (option_to_list command)) (sym (append-nil k.entries)) k.goes;
+      node = inl k.node;
+      did = acts_of g K k.entries;
+      undone = [];
+      are_acts = sym (append-nil (acts_of g K k.entries));
+      are_deeds = k.are_deeds;
+      all_done = λ _. refl;
+      raised = k.told;
+      untold = [];
+      are_events = k.are_events ∙ ap (λ l. events g K ++ l) (sym (append-nil k.told));
+      are_raised = k.are_raised;
+      all_raised = λ _. refl;
+      are_kept = λ i. record { part = []; rest = []; is_kept = subst (Appends s.kept t.kept) (sym (append-nil (lines k.entries))) (k.are_kept i); is_part = refl };
+      ends = ends;
+    }
+
+    pub leaves_stopped : has_stopped (chronicle g (K ++ k.entries)) ≡ true → IsWork g K keep limit s t n ending.Stopped
+    leaves_stopped stopped = leaves ending.Stopped (stopped, refl, idle command k.busy stopped)
+
+    late_end : (stopped : Bool) → has_stopped (chronicle g (K ++ k.entries)) ≡ stopped → command ≡ None → turns ≡ limit → IsWork g K keep limit s t n (cond stopped ending.Stopped ending.TooLong)
+    late_end true is none last = leaves_stopped is
+    late_end false is none last = leaves ending.TooLong (is, refl, ap option_to_list none, last)
+
+    -- all turns were taken
+    pub leaves_at_end : command ≡ None → turns ≡ limit → (e : Ending) → e ≡ cond (has_stopped (chronicle g (K ++ k.entries))) ending.Stopped ending.TooLong → IsWork g K keep limit s t n e
+    leaves_at_end none last e is = subst (IsWork g K keep limit s t n) (sym is) (late_end (has_stopped (chronicle g (K ++ k.entries))) refl none last)
+
+    -- the world refused a turn: its count rose, or it had no memory
+    pub record Refuses (f : NextFault) (u : Scene) : Type 0 where
+      pub told : u.told ≡ t.told
+      pub looked : u.looked ≡ t.looked
+      pub popped : u.popped ≡ t.popped
+      pub raised : u.raised ≡ t.raised
+      pub empties : u.empties ≡ t.empties
+      pub kept : u.kept ≡ t.kept
+      pub rose : f ≡ fault.Failed → Rose t.world_faults u.world_faults
+      pub world_later : t.world_faults ≤ u.world_faults
+      pub record_same : u.record_faults ≡ t.record_faults
+
+    -- the scene went on, and nothing of it but counts of faults, and what is kept
+    pub same_goes : (u : Scene) (more : List Entry) → u.told ≡ t.told → u.looked ≡ t.looked → u.popped ≡ t.popped → u.empties ≡ t.empties → Goes turns limit s u k.entries k.deeds (option_to_list command)
+    same_goes u more told looked popped empties = let h = k.goes in let same : late turns limit u.looked ≡ late turns limit t.looked = ap (late turns limit) looked in record {
+      looks = h.looks;
+      handed = h.handed;
+      is_told = told ∙ h.is_told;
+      counted = h.counted;
+      popped = h.popped;
+      is_popped = popped ∙ h.is_popped;
+      are_handed = h.are_handed;
+      are_looks = omega (arith, h.are_looks, empties, same);
+    }
+
+    abbrev pub refused : (f : NextFault) (u : Scene) → Refuses f u → Running turns u n command
+    refused f u w = record {
+      entries = k.entries;
+      deeds = k.deeds;
+      goes = same_goes u [] w.told w.looked w.popped w.empties;
+      node = k.node;
+      are_deeds = k.are_deeds;
+      told = k.told;
+      are_events = k.are_events;
+      are_raised = w.raised ∙ k.are_raised;
+      are_kept = λ i. subst (λ x. Appends s.kept x (lines k.entries)) (sym w.kept) (k.are_kept i);
+      busy = k.busy;
+      world_later = omega (arith, k.world_later, w.world_later);
+      record_later = omega (arith, k.record_later, w.record_same);
+    }
+
+    -- ---- an entry that broke off
+
+    -- the node has its entry, or not: one entry was given that it didn't take
+    given_up : (e : Entry) (told : Option Log) (u : Scene) (n' : Node) (ended : Ending) → Gives e told u → turns < limit → u.told ≡ told → u.raised ≡ t.raised
+        → StandsFor g (K ++ k.entries) n' ⊎ (IsTrue (is_spent n') × (ended ≡ ending.OutOfMemory) × (length (e ∷ []) ≡ 1))
+        → (keep ≡ true → KeptLines s.kept u.kept k.entries (e ∷ []))
+        → Ends ended (has_stopped (chronicle g (K ++ k.entries))) (turns + 1) limit keep s u (e ∷ []) []
+        → IsWork g K keep limit s u n' ended
+    given_up e told u n' ended w less same raised node kept ends = record {
+      turns = turns + 1;
+      entries = k.entries;
+      unstepped = e ∷ [];
+      pending = [];
+      deeds = k.deeds;
+      goes = subst (λ d. Goes (turns + 1) limit s u (k.entries ++ e ∷ []) d []) (append-nil k.deeds) (given_goes e told u [] w less (same ∙ went-none told));
+      node = node;
+      did = acts_of g K k.entries;
+      undone = [];
+      are_acts = sym (append-nil (acts_of g K k.entries));
+      are_deeds = k.are_deeds;
+      all_done = λ _. refl;
+      raised = k.told;
+      untold = [];
+      are_events = k.are_events ∙ ap (λ l. events g K ++ l) (sym (append-nil k.told));
+      are_raised = raised ∙ k.are_raised;
+      all_raised = λ _. refl;
+      are_kept = kept;
+      ends = ends;
+    }
+
+    one_line : (e : Entry) → lines (e ∷ []) ≡ line e
+    one_line e = append-nil (line e)
+
+    whole_line : (e : Entry) (u : Scene) → (keep ≡ true → Appends t.kept u.kept (line e)) → keep ≡ true → KeptLines s.kept u.kept k.entries (e ∷ [])
+    whole_line e u kept i = record { part = line e; rest = []; is_kept = Appends-trans s.kept t.kept u.kept (lines k.entries) (line e) (k.are_kept i) (kept i); is_part = refl }
+
+    unput_ends : (e : Entry) (u : Scene) (ended : Ending) → IsRefusal t.record_faults u.record_faults ended → keep ≡ true → has_stopped (chronicle g (K ++ k.entries)) ≡ false
+        → Ends ended (has_stopped (chronicle g (K ++ k.entries))) (turns + 1) limit keep s u (e ∷ []) []
+    unput_ends e u ended how keeps going = ⊎_elim
+        (λ (none : ended ≡ ending.OutOfMemory). subst (λ x. Ends x (has_stopped (chronicle g (K ++ k.entries))) (turns + 1) limit keep s u (e ∷ []) []) (sym none) (omega arith, omega arith))
+        (λ (fails : (ended ≡ ending.RecordFault) × Rose t.record_faults u.record_faults). subst (λ x. Ends x (has_stopped (chronicle g (K ++ k.entries))) (turns + 1) limit keep s u (e ∷ []) []) (sym fails.0)
+            (going, refl, refl, keeps, rose_later s.record_faults t.record_faults u.record_faults k.record_later fails.1))
+        how
+
+    -- the world found no memory for an act
+    left_undone : (e : Entry) (told : Option Log) (u : Scene) (n' : Node) (ended : Ending) → Gives e told u → turns < limit → u.raised ≡ t.raised → IsUndone g (K ++ k.entries) e keep told u.told t.kept u.kept n' ended → IsWork g K keep limit s u n' ended
+    left_undone e told u n' ended w less raised x = record {
+      turns = turns + 1;
+      entries = k.entries ++ e ∷ [];
+      unstepped = [];
+      pending = [];
+      deeds = k.deeds ++ x.deeds;
+      goes = subst (λ l. Goes (turns + 1) limit s u l (k.deeds ++ x.deeds) []) (sym (append-nil (k.entries ++ e ∷ []))) (given_goes e told u x.deeds w less x.is_told);
+      node = inl (subst (λ J. StandsFor g J n') (along e) x.stands);
+      did = acts_of g K k.entries ++ x.did;
+      undone = x.undone;
+      are_acts = acts_of-snoc g K k.entries e ∙ ap (λ l. acts_of g K k.entries ++ l) x.are_acts ∙ sym (append_assoc (acts_of g K k.entries) x.did x.undone);
+      are_deeds = AreDeeds-append g (acts_of g K k.entries) x.did k.deeds x.deeds k.are_deeds x.are_deeds;
+      all_done = λ other. absurd (other x.ends);
+      raised = k.told;
+      untold = x.untold;
+      are_events = ap (events g) (sym (along e)) ∙ x.are_events ∙ ap (λ l. l ++ x.untold) k.are_events ∙ append_assoc (events g K) k.told x.untold;
+      are_raised = raised ∙ k.are_raised;
+      all_raised = λ other. absurd (other x.ends);
+      are_kept = λ i. record {
+        part = [];
+        rest = [];
+        is_kept = subst (Appends s.kept u.kept) (sym (append-nil (lines (k.entries ++ e ∷ [])))) (kept_more s.kept t.kept u.kept k.entries e (k.are_kept i) (x.is_kept i));
+        is_part = refl;
+      };
+      ends = subst (λ y. Ends y (has_stopped (chronicle g (K ++ (k.entries ++ e ∷ [])))) (turns + 1) limit keep s u [] []) (sym x.ends) (omega arith, omega arith);
+    }
+
+    pub broke : (e : Entry) (told : Option Log) (u : Scene) (n' : Node) (ended : Ending) → Gives e told u → turns < limit → u.raised ≡ t.raised → has_stopped (chronicle g (K ++ k.entries)) ≡ false
+        → Broke g (K ++ k.entries) e keep told u.told t.kept u.kept t.record_faults u.record_faults n' ended → IsWork g K keep limit s u n' ended
+    broke e told u n' ended w less raised going how = ⊎_elim
+        (λ (x : IsUnput g (K ++ k.entries) e keep told u.told t.kept u.kept t.record_faults u.record_faults n' ended).
+            given_up e told u n' ended w less x.is_told raised (inl x.stands)
+            (λ i. record { part = x.part; rest = x.rest; is_kept = Appends-trans s.kept t.kept u.kept (lines k.entries) x.part (k.are_kept i) x.is_kept; is_part = one_line e ∙ x.is_part })
+            (unput_ends e u ended x.ends x.keeps going))
+        (λ rest. ⊎_elim
+            (λ (x : IsUnstepped e keep told u.told t.kept u.kept n' ended).
+                given_up e told u n' ended w less x.is_told raised (inr (x.spent, x.ends, refl)) (whole_line e u x.is_kept)
+                (subst (λ y. Ends y (has_stopped (chronicle g (K ++ k.entries))) (turns + 1) limit keep s u (e ∷ []) []) (sym x.ends) (omega arith, omega arith)))
+            (λ (x : IsUndone g (K ++ k.entries) e keep told u.told t.kept u.kept n' ended). left_undone e told u n' ended w less raised x)
+            rest)
+        how
+
+    -- the world's refusal is the ending
+    pub refused_ends : (f : NextFault) → turns < limit → (f ≡ fault.Failed → Rose s.world_faults t.world_faults) → has_stopped (chronicle g (K ++ k.entries)) ≡ false → IsWork g K keep limit s t n (world_ending f)
+    refused_ends fault.Failed less rose going = leaves ending.WorldFault (going, refl, few command, less, rose refl)
+    refused_ends fault.OutOfMemory less rose going = leaves ending.OutOfMemory (omega arith, few command)
+
+  -- Last was pushed, and what the work came to is handed back
+  pub handed_back : (t t' : Scene) (n n' : Node) (e e' : Ending) → IsWork g K keep limit s t n e → t' ≡ t → n' ≡ n → e' ≡ e → IsWork g K keep limit s t' n' e'
+  handed_back t t' n n' e e' w is_t is_n is_e = subst (λ (x : Scene × Node × Ending). IsWork g K keep limit s x.0 x.1 x.2) (λ i. (sym is_t i, sym is_n i, sym is_e i)) w

@@ -1,0 +1,21 @@
+use Rattle.std.proofs.Common.{◌≡◌, true, false, None, List, IsSome}
+use Rattle.zre_outside.specs.declared.entry.Entry.{Entry}
+use Rattle.zre_journal.specs.declared.config.Config.{Config}
+use Rattle.zre_node.specs.Journal.{StandsFor}
+use Rattle.zre_actor.specs.Passes.{IsActorOf, unused_by, ending_of}
+use Rattle.zre_actor.specs.Work.{scene}
+use Rattle.zre_actor.proofs.Working.{Running}
+use Rattle.zre_actor.proofs.passes.Pipes.work.Given as goal
+
+abbrev pub invariant-loop-turn : goal.invariant-loop-turn
+invariant-loop-turn g l = record {
+  pipes : IsActorOf l.self l.pass × (unused_by l.pass ≡ unused_by l.fn.pass);
+  open_ : ending_of l.pass ≡ None;
+  looked : IsSome l.command → g.W.World.looked l.world ≡ true;
+  last : l.turn ≡ l.limit → l.command ≡ None;
+  unkept : l.keep ≡ false → l.rec ≡ l.fn.rec;
+  begun : g.R.Recorder.begun l.rec ≡ g.R.Recorder.begun l.fn.rec;
+  running : (c : Config) (K : List Entry) → StandsFor c K l.fn.node → Running c K l.keep l.limit
+      (scene (g.W.World.told l.fn.world) (g.W.World.looked l.fn.world) (g.W.World.faults l.fn.world) (g.R.Recorder.kept l.fn.rec) (g.R.Recorder.faults l.fn.rec) l.fn.pass)
+      l.turn (scene (g.W.World.told l.world) (g.W.World.looked l.world) (g.W.World.faults l.world) (g.R.Recorder.kept l.rec) (g.R.Recorder.faults l.rec) l.pass) l.node l.command;
+}

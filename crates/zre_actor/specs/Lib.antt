@@ -1,0 +1,5 @@
+pub mod Commands
+pub mod Events
+pub mod Passes
+pub mod Work
+pub mod Ready

@@ -1,0 +1,81 @@
+//! What the actor does with the pipes.
+ghost use Rattle.std.specs.Prelude.{◌≡◌, ◌++◌, ◌∷◌, [], None, Some};
+ghost use Rattle.zre_actor.specs.Passes.{IsActorOf, popped_by, unused_by, raised_by, ending_of, IsPopped};
+
+use super::{ActorPass, Pipes};
+use crate::rules::Pops;
+use crate::{Ending, Told};
+use zre_outside::Command;
+use zre_peer::Event;
+use std::sync::Wait;
+
+impl Pipes {
+    // A command, or nothing where the pipe was empty at one moment of the call.
+    pub(crate) fn pop<R: Wait + Copy>(&self, rt: R, pass: ActorPass) -> (ActorPass, Option<Command>)
+        requires { IsActorOf self.now pass }
+        ensures pipes { IsActorOf self.now result.0 }
+        ensures popped { IsPopped pass result.1 result.0 }
+        ensures unused { unused_by result.0 ≡ unused_by pass }
+        ensures events { (raised_by result.0 ≡ raised_by pass) × (ending_of result.0 ≡ ending_of pass) }
+    {
+        let ActorPass {
+            mut commands,
+            events,
+            mut empties,
+        } = pass;
+        let found = self.commands.pop_as::<Pops, R>(&rt, &mut commands);
+        if found.is_none() {
+            empties = empties.saturating_add(1);
+        }
+        let pass = ActorPass {
+            commands,
+            events,
+            empties,
+        };
+        (pass, found)
+    }
+
+    // Pushes an event.
+    pub(crate) fn raise<R: Wait + Copy>(&self, rt: R, pass: ActorPass, event: Event) -> ActorPass
+        requires pipes { IsActorOf self.now pass }
+        requires open { ending_of pass ≡ None }
+        ensures pipes { IsActorOf self.now result }
+        ensures raised { raised_by result ≡ raised_by pass ++ event ∷ [] }
+        ensures open { ending_of result ≡ None }
+        ensures commands { (popped_by result ≡ popped_by pass) × (result.empties ≡ pass.empties) × (unused_by result ≡ unused_by pass) }
+    {
+        let ActorPass {
+            commands,
+            mut events,
+            empties,
+        } = pass;
+        self.tell(rt, &mut events, Told::Event(event));
+        ActorPass {
+            commands,
+            events,
+            empties,
+        }
+    }
+
+    // Pushes Last.
+    pub(crate) fn end<R: Wait + Copy>(&self, rt: R, pass: ActorPass, ending: Ending) -> ActorPass
+        requires pipes { IsActorOf self.now pass }
+        requires open { ending_of pass ≡ None }
+        ensures pipes { IsActorOf self.now result }
+        ensures raised { raised_by result ≡ raised_by pass }
+        ensures ended { ending_of result ≡ Some ending }
+        ensures commands { (popped_by result ≡ popped_by pass) × (result.empties ≡ pass.empties) × (unused_by result ≡ unused_by pass) }
+    {
+        let ActorPass {
+            commands,
+            mut events,
+            empties,
+        } = pass;
+        self.tell(rt, &mut events, Told::Last(ending));
+        ActorPass {
+            commands,
+            events,
+            empties,
+        }
+    }
+}

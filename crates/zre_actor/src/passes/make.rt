@@ -1,0 +1,78 @@
+//! The pipes are made.
+ghost use Rattle.std.specs.Prelude.{◌≡◌, ◌≤◌, ◌<◌, ◌+◌, [], length, IfOk, None, All};
+ghost use Rattle.crossbeam_queue.specs.Passes.{view, IsPassOf, IsSamePass};
+ghost use Rattle.zre_actor.specs.Passes.{IsCallerOf, IsActorOf, IsTakerOf, AreCallersOf, numbers_of, fresh_of, given_of, room_of, IsNew, popped_by, unused_by, raised_by, ending_of, taken_by, last_of};
+ghost use Rattle.zre_actor.specs.Commands.{row, without_one, one_caller};
+
+use super::{ActorPass, CallerPass, CallerPasses, Made, Pipes, TakerPass};
+use crate::rules::{Commands, Cut, Ends, EventsInOrder};
+use crate::views::{Hearing, View};
+use crate::Told;
+use zre_outside::Command;
+use crossbeam_channel::bounded_with;
+use crossbeam_queue::Pass;
+use std::alloc::Global;
+use zre_values::OutOfMemory;
+
+// How many commands, or events, a pipe holds.
+const ROOM: usize = 1024;
+
+impl Pipes {
+    /// The pipes, and the passes of the actor, of the callers and of the taker.
+    pub fn make(alloc: Global, callers: u8) -> Result<Made, OutOfMemory>
+        requires { (1 ≤ callers) × (callers ≤ 16) }
+        ensures pipes { IfOk result (λ m. IsActorOf m.pipes m.actor × IsTakerOf m.pipes m.taker × AreCallersOf m.pipes (fresh_of m.callers)) }
+        ensures numbers { IfOk result (λ m. numbers_of (fresh_of m.callers) ≡ row 1 callers) }
+        ensures new { IfOk result (λ m. All IsNew (fresh_of m.callers)) }
+        ensures unused { IfOk result (λ m. length (unused_by m.actor) + callers ≡ 16) }
+        ensures given { IfOk result (λ m. (given_of m.callers ≡ []) × (callers ≤ room_of m.callers)) }
+        ensures popped { IfOk result (λ m. (popped_by m.actor ≡ []) × (m.actor.empties ≡ 0)) }
+        ensures events { IfOk result (λ m. (raised_by m.actor ≡ []) × (ending_of m.actor ≡ None) × (taken_by m.taker ≡ []) × (last_of m.taker ≡ None)) }
+    {
+        let mut fresh = Vec::with_capacity(alloc, usize::from(callers))?;
+        let given = Vec::with_capacity(alloc, usize::from(callers))?;
+        let (commands, mut actor) = Commands::ruled(alloc, ROOM)?;
+        let (events_in, events_out, mut events) = bounded_with::<
+            Told,
+            Hearing,
+            EventsInOrder,
+            Global,
+        >(alloc, ROOM)?;
+        let taker = events_in.another::<Ends>(&mut events);
+        for number in 0..callers {
+            prove!(number < 16);
+            fresh.push(new_caller(&commands, &mut actor))?;
+        }
+        Ok(Made {
+            pipes: Pipes {
+                alloc,
+                commands,
+                events_in,
+                events_out,
+            },
+            actor: ActorPass {
+                commands: actor,
+                events,
+                empties: 0,
+            },
+            callers: CallerPasses { fresh, given },
+            taker: TakerPass { events: taker },
+        })
+    }
+}
+
+// A caller with the first unused number.
+fn new_caller(commands: &Commands, actor: &mut Pass<Command, View>) -> CallerPass
+    requires queue { IsPassOf commands.now actor.old }
+    requires unused { 1 ≤ length (view actor.old).unused }
+    ensures queue { IsSamePass actor.old actor.new × IsPassOf commands.now result.commands }
+    ensures actor { view actor.new ≡ without_one (view actor.old) }
+    ensures caller { view result.commands ≡ one_caller (view actor.old) }
+    ensures fulls { result.fulls ≡ 0 }
+{
+    let caller = commands.another::<Cut>(actor);
+    CallerPass {
+        commands: caller,
+        fulls: 0,
+    }
+}

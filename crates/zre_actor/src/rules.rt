@@ -1,0 +1,145 @@
+//! The rule of the command pipe, and what each of its steps tells.
+ghost use Rattle.std.specs.Prelude.{◌≡◌, ◌++◌, ◌∷◌, []};
+ghost use Rattle.zre_actor.specs.Commands.{placed, first, without_one, one_caller, joined, nobody, wrote, Reads, Accounts};
+
+use crate::views::{Placed, Hearing, View};
+use crate::Told;
+use zre_outside::Command;
+use crossbeam_channel::{RuledReceiver, RuledSender, protocol as channel};
+use crossbeam_queue::RuledArrayQueue;
+use crossbeam_queue::protocol::{Join, Lesson, Outcome, Protocol, Split};
+
+pub(crate) struct InOrder;
+
+impl Protocol<Command, View> for InOrder {
+    ghost use Rattle.zre_actor.specs.Commands.{first, Rule};
+
+    ghost holds = { Rule };
+
+    ghost first = { first };
+}
+
+/// A caller of its own is made of an unused number.
+pub(crate) struct Cut;
+
+impl Split<View> for Cut {
+    ghost left = { without_one };
+
+    ghost right = { one_caller };
+}
+
+/// A pass takes in what another's callers put.
+pub(crate) struct TakeIn;
+
+impl Join<View> for TakeIn {
+    ghost both = { joined };
+
+    ghost spent = { nobody };
+}
+
+pub(crate) struct Puts;
+
+impl Outcome<Command, View> for Puts {
+    ghost then = { λ v x w. w ≡ wrote v x };
+}
+
+impl Lesson<Command, View> for Puts {
+    ghost use Rattle.std.specs.Prelude.{⊤};
+
+    ghost fact = { λ v items. ⊤ };
+}
+
+pub(crate) struct Pops;
+
+impl Outcome<Command, View> for Pops {
+    ghost then = { Reads };
+}
+
+impl Lesson<Command, View> for Pops {
+    ghost use Rattle.std.specs.Prelude.{⊤};
+
+    ghost fact = { λ v items. ⊤ };
+}
+
+/// What a pass with every number learns.
+pub(crate) struct Total;
+
+impl Lesson<Command, View> for Total {
+    ghost fact = { Accounts };
+}
+
+pub(crate) type Commands = RuledArrayQueue<Command, View, InOrder>;
+
+pub(crate) struct EventsInOrder;
+
+impl channel::Protocol<Told, Hearing> for EventsInOrder {
+    ghost use Rattle.zre_actor.specs.Events.{first_hearing, EventRule};
+
+    ghost holds = { EventRule };
+
+    ghost first = { first_hearing };
+}
+
+/// The taker's pass is cut from the actor's.
+pub(crate) struct Ends;
+
+impl channel::Split<Hearing> for Ends {
+    ghost use Rattle.zre_actor.specs.Events.{actors, takers};
+
+    ghost left = { actors };
+
+    ghost right = { takers };
+}
+
+impl channel::Join<Hearing> for Ends {
+    ghost use Rattle.zre_actor.specs.Events.{met, deaf};
+
+    ghost both = { met };
+
+    ghost spent = { deaf };
+}
+
+pub(crate) struct Raises;
+
+impl channel::Outcome<Told, Hearing> for Raises {
+    ghost use Rattle.std.specs.Prelude.{◌≡◌};
+    ghost use Rattle.zre_actor.specs.Events.{sent};
+
+    ghost then = { λ v m w. w ≡ sent v m };
+}
+
+impl channel::Lesson<Told, Hearing> for Raises {
+    ghost use Rattle.std.specs.Prelude.{⊤};
+
+    ghost fact = { λ v items. ⊤ };
+}
+
+pub(crate) struct Hears;
+
+impl channel::Outcome<Told, Hearing> for Hears {
+    ghost use Rattle.std.specs.Prelude.{◌≡◌, None};
+    ghost use Rattle.zre_actor.specs.Events.{heard};
+
+    ghost then = { λ v m w. (v.last ≡ None) × (w ≡ heard v m) };
+}
+
+impl channel::Lesson<Told, Hearing> for Hears {
+    ghost use Rattle.std.specs.Prelude.{⊤};
+
+    ghost fact = { λ v items. ⊤ };
+}
+
+/// What the two ends learn, once Last was taken.
+pub(crate) struct AllTaken;
+
+impl channel::Lesson<Told, Hearing> for AllTaken {
+    ghost use Rattle.zre_actor.specs.Events.{AllHeard};
+
+    ghost fact = { λ v items. AllHeard v };
+}
+
+pub(crate) type Heard = crossbeam_channel::Pass<Told, Hearing>;
+
+pub(crate) type Sends = RuledSender<Told, Hearing, EventsInOrder>;
+
+pub(crate) type Takes = RuledReceiver<Told, Hearing, EventsInOrder>;

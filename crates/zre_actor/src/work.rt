@@ -1,0 +1,153 @@
+//! The actor's work: turn after turn, until it ends.
+
+ghost use Rattle.std.specs.Prelude.{◌≡◌, ◌≤◌, ◌<◌, ◌+◌, ◌++◌, ◌^◌, [], List, true, false, None, Some, cond};
+ghost use Rattle.zre_outside.specs.declared.entry.Entry.{Entry as EntryValue};
+ghost use Rattle.zre_journal.specs.declared.config.Config.{Config};
+ghost use Rattle.zre_journal.specs.Events.{chronicle};
+ghost use Rattle.zre_journal.specs.Happens.{has_stopped};
+ghost use Rattle.zre_node.specs.Journal.{StandsFor};
+ghost use Rattle.zre_actor.specs.declared.ending.Ending.TheVariants as ending;
+ghost use Rattle.zre_actor.specs.Passes.{IsActorOf, popped_by, raised_by, unused_by, ending_of};
+ghost use Rattle.zre_actor.specs.Work.{IsWork, scene, world_ending};
+
+use crate::Ending;
+use crate::doing::take_entry;
+use crate::passes::{ActorPass, Pipes};
+use std::sync::Wait;
+use zre_node::Node;
+use zre_outside::{NextFault, Recorder, Turn, World};
+use zre_peer::Events;
+
+/// What the work left.
+#[derive(Drop)]
+pub struct Worked<W, R> {
+    pub world: W,
+    pub node: Node,
+    pub rec: R,
+    pub pass: ActorPass,
+    pub ending: Ending,
+}
+
+impl Pipes {
+    /// Takes one turn of the world after the other, and raises what the node tells. Behind each look the command pipe is popped once,
+    /// and a command found goes into the next turn; behind a look in the last turn it isn't. It ends at a node that has stopped, at
+    /// a fault, for want of memory or behind so many turns, and raises last why.
+    pub fn work<W: World, R: Recorder, T: Wait + Copy>(
+        &self,
+        rt: T,
+        mut world: W,
+        mut node: Node,
+        mut pass: ActorPass,
+        mut rec: R,
+        keep: bool,
+        limit: u64,
+    ) -> Worked<W, R>
+        requires pipes { IsActorOf self.now pass }
+        requires open { ending_of pass ≡ None }
+        requires begun { keep ≡ true → R.begun rec ≡ true }
+        requires room { pass.empties + limit < 2 ^ 64 }
+        ensures pipes { IsActorOf self.now result.pass × (unused_by result.pass ≡ unused_by pass) }
+        ensures ending { ending_of result.pass ≡ Some result.ending }
+        ensures unkept { keep ≡ false → result.rec ≡ rec }
+        ensures begun { R.begun result.rec ≡ R.begun rec }
+        ensures work { (g : Config) (K : List EntryValue) → StandsFor g K node → IsWork g K keep limit
+            (scene (W.told world) (W.looked world) (W.faults world) (R.kept rec) (R.faults rec) pass)
+            (scene (W.told result.world) (W.looked result.world) (W.faults result.world) (R.kept result.rec) (R.faults result.rec) result.pass)
+            result.node result.ending }
+    {
+        let alloc = self.alloc;
+        let mut command = None;
+        for turn in 0..limit {
+            if node.stopped() {
+                return self.leave(rt, world, node, rec, pass, Ending::Stopped);
+            }
+            let answer = match world.next(command) {
+                Ok(answer) => answer,
+                Err(fault) => {
+                    return self.leave(rt, world, node, rec, pass, ending_by(fault));
+                }
+            };
+            command = None;
+            match answer {
+                Turn::Look => {
+                    if turn + 1 < limit {
+                        (pass, command) = self.pop(rt, pass);
+                    }
+                }
+                Turn::Entry(entry) => {
+                    match take_entry(alloc, &mut world, &mut node, &mut rec, keep, entry) {
+                        Ok(events) => pass = self.raise_all(rt, pass, events),
+                        Err(ending) => {
+                            return self.leave(rt, world, node, rec, pass, ending);
+                        }
+                    }
+                }
+            }
+        }
+        let ending = last_ending(&node);
+        self.leave(rt, world, node, rec, pass, ending)
+    }
+
+    // Pushes Last.
+    fn leave<W, R, T: Wait + Copy>(
+        &self,
+        rt: T,
+        world: W,
+        node: Node,
+        rec: R,
+        pass: ActorPass,
+        ending: Ending,
+    ) -> Worked<W, R>
+        requires pipes { IsActorOf self.now pass }
+        requires open { ending_of pass ≡ None }
+        ensures pipes { IsActorOf self.now result.pass × (unused_by result.pass ≡ unused_by pass) }
+        ensures same { (result.world ≡ world) × (result.node ≡ node) × (result.rec ≡ rec) × (result.ending ≡ ending) }
+        ensures ending { ending_of result.pass ≡ Some ending }
+        ensures pass { (popped_by result.pass ≡ popped_by pass) × (raised_by result.pass ≡ raised_by pass) × (result.pass.empties ≡ pass.empties) }
+    {
+        let pass = self.end(rt, pass, ending);
+        Worked {
+            world,
+            node,
+            rec,
+            pass,
+            ending,
+        }
+    }
+
+    // Pushes these events, in order.
+    fn raise_all<T: Wait + Copy>(&self, rt: T, mut pass: ActorPass, events: Events) -> ActorPass
+        requires pipes { IsActorOf self.now pass }
+        requires open { ending_of pass ≡ None }
+        ensures pipes { IsActorOf self.now result × (unused_by result ≡ unused_by pass) }
+        ensures raised { raised_by result ≡ raised_by pass ++ events }
+        ensures open { ending_of result ≡ None }
+        ensures commands { (popped_by result ≡ popped_by pass) × (result.empties ≡ pass.empties) }
+    {
+        for event in events.into_vec() {
+            pass = self.raise(rt, pass, event);
+        }
+        pass
+    }
+}
+
+// The ending where the world refuses a turn.
+fn ending_by(fault: NextFault) -> Ending
+    ensures { result ≡ world_ending fault }
+{
+    match fault {
+        NextFault::Failed => Ending::WorldFault,
+        NextFault::OutOfMemory => Ending::OutOfMemory,
+    }
+}
+
+// The ending where all turns were taken.
+fn last_ending(node: &Node) -> Ending
+    ensures { (g : Config) (K : List EntryValue) → StandsFor g K node.now → result ≡ cond (has_stopped (chronicle g K)) ending.Stopped ending.TooLong }
+{
+    if node.stopped() {
+        Ending::Stopped
+    } else {
+        Ending::TooLong
+    }
+}

@@ -1,0 +1,136 @@
+//! The same values, in memory of their own.
+
+ghost use Rattle.std.specs.Prelude.{◌≡◌, IfOk};
+
+use crate::{Act, Addresses, Command, Entry, Input, Start};
+use std::alloc::Global;
+use zre_values::{Frames, Octets, OutOfMemory};
+
+fn copy_frames(alloc: Global, frames: &Frames) -> Result<Frames, OutOfMemory>
+    ensures { IfOk result (λ copy. copy ≡ frames.now) }
+{
+    let mut copy = Frames::new(alloc);
+    for frame in frames.as_slice() {
+        copy.push(Octets::copy(alloc, frame.as_slice())?)?;
+    }
+    Ok(copy)
+}
+
+fn copy_addresses(alloc: Global, addresses: &Addresses) -> Result<Addresses, OutOfMemory>
+    ensures { IfOk result (λ copy. copy ≡ addresses.now) }
+{
+    let mut copy = Addresses::new(alloc);
+    for address in addresses.as_slice() {
+        copy.push(*address)?;
+    }
+    Ok(copy)
+}
+
+impl Command {
+    /// The same command.
+    pub fn copy(&self, alloc: Global) -> Result<Command, OutOfMemory>
+        ensures { IfOk result (λ copy. copy ≡ self.now) }
+    {
+        match self {
+            Command::Join { group } => Ok(Command::Join {
+                group: Octets::copy(alloc, group.as_slice())?,
+            }),
+            Command::Leave { group } => Ok(Command::Leave {
+                group: Octets::copy(alloc, group.as_slice())?,
+            }),
+            Command::Whisper { peer, content } => Ok(Command::Whisper {
+                peer: *peer,
+                content: copy_frames(alloc, content)?,
+            }),
+            Command::Shout { group, content } => Ok(Command::Shout {
+                group: Octets::copy(alloc, group.as_slice())?,
+                content: copy_frames(alloc, content)?,
+            }),
+            Command::Bad { line } => Ok(Command::Bad { line: *line }),
+            Command::Quit => Ok(Command::Quit),
+        }
+    }
+}
+
+impl Input {
+    /// The same input.
+    pub fn copy(&self, alloc: Global) -> Result<Input, OutOfMemory>
+        ensures { IfOk result (λ copy. copy ≡ self.now) }
+    {
+        match self {
+            Input::Datagram { from, bytes } => Ok(Input::Datagram {
+                from: *from,
+                bytes: Octets::copy(alloc, bytes.as_slice())?,
+            }),
+            Input::Opened { conn } => Ok(Input::Opened { conn: *conn }),
+            Input::Piece { conn, bytes } => Ok(Input::Piece {
+                conn: *conn,
+                bytes: Octets::copy(alloc, bytes.as_slice())?,
+            }),
+            Input::Shut { conn } => Ok(Input::Shut { conn: *conn }),
+            Input::Linked { link } => Ok(Input::Linked { link: *link }),
+            Input::Reply { link, bytes } => Ok(Input::Reply {
+                link: *link,
+                bytes: Octets::copy(alloc, bytes.as_slice())?,
+            }),
+            Input::Unlinked { link } => Ok(Input::Unlinked { link: *link }),
+            Input::Took { link, count } => Ok(Input::Took {
+                link: *link,
+                count: *count,
+            }),
+            Input::Tick => Ok(Input::Tick),
+            Input::Do(command) => Ok(Input::Do(command.copy(alloc)?)),
+            Input::End => Ok(Input::End),
+        }
+    }
+}
+
+impl Entry {
+    /// The same entry.
+    pub fn copy(&self, alloc: Global) -> Result<Entry, OutOfMemory>
+        ensures { IfOk result (λ copy. copy ≡ self.now) }
+    {
+        Ok(Entry {
+            at: self.at,
+            input: self.input.copy(alloc)?,
+        })
+    }
+}
+
+impl Act {
+    /// The same act.
+    pub fn copy(&self, alloc: Global) -> Result<Act, OutOfMemory>
+        ensures { IfOk result (λ copy. copy ≡ self.now) }
+    {
+        match self {
+            Act::Connect { link, to } => Ok(Act::Connect {
+                link: *link,
+                to: *to,
+            }),
+            Act::CloseLink { link } => Ok(Act::CloseLink { link: *link }),
+            Act::CloseConn { conn } => Ok(Act::CloseConn { conn: *conn }),
+            Act::Answer { conn, bytes } => Ok(Act::Answer {
+                conn: *conn,
+                bytes: Octets::copy(alloc, bytes.as_slice())?,
+            }),
+            Act::Offer { link } => Ok(Act::Offer { link: *link }),
+            Act::Beacon { bytes } => Ok(Act::Beacon { bytes: *bytes }),
+        }
+    }
+}
+
+impl Start {
+    /// The same settings.
+    pub fn copy(&self, alloc: Global) -> Result<Start, OutOfMemory>
+        ensures { IfOk result (λ copy. copy ≡ self.now) }
+    {
+        Ok(Start {
+            host: self.host,
+            port: self.port,
+            listen: self.listen,
+            beacon_port: self.beacon_port,
+            to: copy_addresses(alloc, &self.to)?,
+            interval: self.interval,
+        })
+    }
+}

@@ -1,0 +1,48 @@
+use crate::Job;
+use std::snapshot::Snapshot;
+use std::thread::{Promise, PromisedHandle, Threads};
+
+/// What a job's thread promises of its answer.
+#[derive(Drop)]
+pub struct Works<J: Job> {
+    job: Snapshot<J>,
+}
+
+impl<J: Job> Works<J> {
+    ghost use Rattle.std.specs.Prelude.{◌≡◌};
+
+    pub(crate) fn of(job: &J) -> Self
+        ensures { result.job.value ≡ job.now }
+    {
+        Works {
+            job: Snapshot::of(job),
+        }
+    }
+}
+
+impl<J: Job> Promise<J::Out> for Works<J> {
+    ghost kept_by = { λ w out. J.means w.job.value out };
+}
+
+/// A job that was started.
+#[derive(Drop)]
+pub struct Running<J: Job> {
+    pub(crate) handle: PromisedHandle<J::Out, Works<J>>,
+}
+
+impl<J: Job> Running<J> {
+    ghost use Rattle.zre_outside.specs.Spawners.{job_of};
+
+    /// Waits for the answer.
+    pub fn join<R: Threads + Copy>(self, rt: R) -> J::Out
+        ensures { J.means (job_of self) result }
+    {
+        self.handle.join(&rt)
+    }
+}
+
+/// A job that wasn't started.
+#[derive(Drop)]
+pub struct Refused<J: Job> {
+    pub job: J,
+}

@@ -1,0 +1,18 @@
+use crate::Addresses;
+
+/// How a node goes on the network: with a mailbox at an address and a port, and with beacons by UDP.
+#[derive(Drop)]
+pub struct Start {
+    /// The address of the mailbox.
+    pub host: [u8; 4],
+    /// The port of the mailbox.
+    pub port: u16,
+    /// The address at which beacons are heard.
+    pub listen: [u8; 4],
+    /// The port from and to which beacons are sent.
+    pub beacon_port: u16,
+    /// Where beacons are sent to.
+    pub to: Addresses,
+    /// The milliseconds from one beacon to the next.
+    pub interval: u64,
+}

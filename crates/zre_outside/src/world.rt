@@ -1,0 +1,53 @@
+ghost use Rattle.std.specs.Prelude.{◌≡◌, ◌≤◌, ℕ, Bool, true, Option, option_map, IsSome, IfOk, OnOk, OnErr, IsErrOf};
+ghost use Rattle.zre_outside.specs.declared.deed.Deed.{Deed as DeedValue};
+ghost use Rattle.zre_outside.specs.Causes.{Rose};
+ghost use Rattle.zre_outside.specs.Worlds.{Log, with_start, IsTurn, is_look, after_turn, with_deed};
+
+use crate::{Act, Command, NextFault, Start, Turn};
+use zre_values::OutOfMemory;
+
+/// All that a node has to do with: sockets, a clock, and the moments at which its user is looked for. It is asked for
+/// one turn after the other.
+pub trait World {
+    /// What it has seen so far, where it tells that.
+    ghost told: { Self → Option Log };
+
+    /// Whether the last turn that it answered was a look. Each world tells that.
+    ghost looked: { Self → Bool };
+
+    /// How often it failed. At the last value of a u64 the count stands still, and is read as risen.
+    ghost faults: { Self → ℕ };
+
+    /// Goes on the network.
+    fn start(&mut self, s: &Start) -> Result<(), NextFault>
+        ensures told { OnOk result (told self.new ≡ option_map (with_start s.now) (told self.old)) }
+        ensures refused { OnErr result (told self.new ≡ told self.old) }
+        ensures looked { looked self.new ≡ looked self.old }
+        ensures later { faults self.old ≤ faults self.new }
+        ensures failed { IsErrOf result NextFault.Failed → Rose (faults self.old) (faults self.new) };
+
+    /// The next turn. A command may be handed in behind a look, and comes back as the entry to do it.
+    fn next(&mut self, command: Option<Command>) -> Result<Turn, NextFault>
+        requires { IsSome command → looked self.old ≡ true }
+        ensures turn { IfOk result (λ t. IsTurn command t) }
+        ensures told { IfOk result (λ t. told self.new ≡ option_map (after_turn command t) (told self.old)) }
+        ensures looked { IfOk result (λ t. looked self.new ≡ is_look t) }
+        ensures refused { OnErr result ((told self.new ≡ told self.old) × (looked self.new ≡ looked self.old)) }
+        ensures later { faults self.old ≤ faults self.new }
+        ensures failed { IsErrOf result NextFault.Failed → Rose (faults self.old) (faults self.new) };
+
+    /// Does an act of a node. What fails outside comes back as a later entry.
+    fn act(&mut self, act: &Act) -> Result<(), OutOfMemory>
+        ensures ok { OnOk result (told self.new ≡ option_map (with_deed (DeedValue.Done act.now)) (told self.old)) }
+        ensures err { OnErr result (told self.new ≡ told self.old) }
+        ensures looked { looked self.new ≡ looked self.old }
+        ensures faults { faults self.new ≡ faults self.old };
+
+    /// Offers a link what it may send. How much of it was sent comes back as a later entry; before that, a further offer
+    /// on this link sends nothing.
+    fn offer(&mut self, link: u64, bytes: &[u8]) -> Result<(), OutOfMemory>
+        ensures ok { OnOk result (told self.new ≡ option_map (with_deed (DeedValue.Offered link bytes.now)) (told self.old)) }
+        ensures err { OnErr result (told self.new ≡ told self.old) }
+        ensures looked { looked self.new ≡ looked self.old }
+        ensures faults { faults self.new ≡ faults self.old };
+}
