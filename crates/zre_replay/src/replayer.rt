@@ -21,6 +21,7 @@ use zre_values::{Octets, OutOfMemory};
 #[derive(Drop)]
 pub struct Replayer {
     alloc: Global,
+    // The node has its own. What the machine says of octets rests on these, which want of memory leaves as they are.
     config: Config,
     state: State,
     node: Node,
