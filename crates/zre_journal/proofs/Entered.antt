@@ -1,6 +1,5 @@
 -- An entered peer has spoken.
-use Rattle.std.proofs.Common.{◌≡◌, ℕ, Bool, true, false, cond, eqb, List, [], ◌∷◌, ◌++◌, Option, Some, None, refl}
-use Rattle.zre_msg.specs.declared.message.Message.{Message}
+use Rattle.std.proofs.Common.{◌≡◌, ℕ, Bool, true, false, cond, eqb, List, [], ◌∷◌, ◌++◌, Some, None, refl}
 use Rattle.zre_journal.specs.Chronicle.{Mark, Starts, Counts, followed, newer}
 use Rattle.zre_journal.specs.Peers.{runner, counted}
 

@@ -1,10 +1,9 @@
 -- What is read off the rows is what the definitions ask, of a node that goes on and of one that rests.
-use Rattle.std.proofs.Common.{◌≡◌, ◌≢◌, ℕ, Bool, true, false, cond, not, eqb, List, [], ◌∷◌, ◌++◌, map, filter, find, Option, Some, None, is_some, option_map, option_and_then, refl, sym, ap, ◌∙◌, bytes_eq, append_assoc, append-nil}
+use Rattle.std.proofs.Common.{◌≡◌, ℕ, Bool, true, false, cond, List, [], ◌∷◌, ◌++◌, map, filter, find, Option, Some, None, is_some, option_and_then, refl, sym, ap, ◌∙◌, bytes_eq, append_assoc, append-nil}
 use Rattle.zre_values.specs.declared.peer_id.PeerId.{PeerId}
 use Rattle.zre_msg.specs.declared.message.Message.{Message}
 use Rattle.zre_peer.specs.Runs.{shown}
 use Rattle.zre_peer.specs.Views.{view_of}
-use Rattle.zre_peer.specs.declared.view.View.{View}
 use Rattle.zre_journal.specs.Asked.{view_if_entered, HasFront}
 use Rattle.zre_journal.specs.declared.config.Config.{Config}
 use Rattle.zre_journal.specs.Chronicle.{Mark}

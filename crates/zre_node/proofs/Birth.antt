@@ -1,28 +1,24 @@
 -- A birth and a beacon, at the tables.
-use Rattle.std.proofs.Common.{◌≡◌, ℕ, ◌+◌, ◌<◌, ◌≤◌, Bool, true, false, cond, not, ◌||◌, eqb, List, [], ◌∷◌, ◌++◌, length, Option, Some, None, IsSome, find, refl, sym, ap, ◌∙◌, nat_cmp, subst, arith, ne_eqb, eq-eqb, eqb-true, append-nil}
+use Rattle.std.proofs.Common.{◌≡◌, ℕ, ◌+◌, ◌<◌, ◌≤◌, true, false, eqb, List, [], ◌∷◌, ◌++◌, Some, None, refl, sym, ap, ◌∙◌, nat_cmp, subst, arith, ne_eqb, eq-eqb, eqb-true, append-nil}
 use Rattle.std.specs.List.{AllByRecursion, list_any}
 use Rattle.std.specs.BTreeMap.{BTreeMap, is_at, insert_entry}
 use Rattle.std.specs.Map.{lookup, set_value}
 use Rattle.zre_values.specs.declared.peer_id.PeerId.{PeerId}
 use Rattle.zre_values.specs.declared.endpoint.Endpoint.{Endpoint}
-use Rattle.zre_msg.specs.declared.message.Body.{Body}
-use Rattle.zre_msg.specs.declared.message.Message.{Message}
 use Rattle.zre_outside.specs.declared.act.Act.TheVariants as act
-use Rattle.zre_link.specs.Link.{Sending, link_after}
+use Rattle.zre_link.specs.Link.{link_after}
 use Rattle.zre_journal.specs.declared.config.Config.{Config}
-use Rattle.zre_journal.specs.Chronicle.{Mark, Born, Puts, Beacons, after}
+use Rattle.zre_journal.specs.Chronicle.{Mark, Beacons}
 use Rattle.zre_journal.specs.Heard.{clock}
-use Rattle.zre_journal.specs.Peers.{Life, lives, life, births, active, runner, counted}
-use Rattle.zre_journal.specs.Links.{groups, status, bodies, is_linked, replies, taken}
+use Rattle.zre_journal.specs.Peers.{Life, lives, births, active, counted}
 use Rattle.zre_journal.specs.Happens.{hello, birth}
-use Rattle.zre_journal.specs.Done.{puts}
 use Rattle.zre_journal.proofs.Kept.{born, newborn, born-proper, Beacons-proper}
 use Rattle.zre_journal.proofs.Listed.{eqb-comm, found_passes}
 use Rattle.zre_node.specs.declared.peer.Peer.{Peer}
 use Rattle.zre_node.specs.declared.tables.Tables.{Tables}
 use Rattle.zre_node.specs.declared.effects.Effects.{Effects}
 use Rattle.zre_node.specs.Tabled.{Tabled}
-use Rattle.zre_node.specs.Stands.{Holds, Keeps, Did, HasRun, IsKept, IsPeer, link_of_life}
+use Rattle.zre_node.specs.Stands.{Holds, Did, IsPeer}
 use Rattle.std.proofs.lemmas.List.Folds.{list_any-append}
 use Rattle.zre_node.proofs.Entries.{inserted, changed}
 use Rattle.zre_node.proofs.Parting.{its_row}

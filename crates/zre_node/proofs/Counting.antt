@@ -1,13 +1,9 @@
 -- A later message on a connection that runs a peer.
-use Rattle.std.proofs.Common.{◌≡◌, ◌≢◌, ℕ, ◌+◌, ◌%◌, Bool, true, false, cond, not, ◌&&◌, eqb, if◌then◌else◌, List, [], ◌∷◌, ◌++◌, length, Option, Some, None, IsSome, find, Result, Ok, Err, OnOk, OnErr, IfErr, refl, sym, ap, ◌∙◌, nat_cmp, subst, eq-eqb, eqb-true, append-nil}
-use Rattle.std.specs.List.{list_any}
+use Rattle.std.proofs.Common.{◌≡◌, ℕ, ◌+◌, Bool, true, false, not, ◌&&◌, eqb, if◌then◌else◌, List, [], ◌∷◌, ◌++◌, Option, Some, IsSome, Result, Ok, Err, OnOk, OnErr, IfErr, refl, sym, ap, ◌∙◌, nat_cmp, subst, eq-eqb, eqb-true, append-nil}
 use Rattle.std.specs.BTreeMap.{BTreeMap, is_at}
 use Rattle.std.specs.Map.{lookup, set_value}
 use Rattle.zre_values.specs.declared.peer_id.PeerId.{PeerId}
 use Rattle.zre_msg.specs.declared.message.Message.{Message}
-use Rattle.zre_peer.specs.declared.peer_run.Run.{Run}
-use Rattle.zre_peer.specs.Runs.{shown}
-use Rattle.zre_peer.specs.Standing.{Stands, view_in, id_of}
 use Rattle.std.proofs.lemmas.Bool.{and_parts}
 use Rattle.zre_msg.specs.declared.message.Body.{Body}
 use Rattle.zre_msg.specs.declared.message.Body.TheVariants as body
@@ -23,7 +19,7 @@ use Rattle.zre_journal.specs.declared.config.Config.{Config}
 use Rattle.zre_journal.specs.Chronicle.{Mark, Starts, Counts, Ends}
 use Rattle.zre_journal.specs.Connections.{runs}
 use Rattle.zre_journal.specs.Heard.{clock}
-use Rattle.zre_journal.specs.Peers.{Life, lives, life, runner, counted, view}
+use Rattle.zre_journal.specs.Peers.{Life, lives, life, runner, counted}
 use Rattle.zre_journal.specs.Happens.{at_later, answer_to, push}
 use Rattle.zre_journal.proofs.Kept.{run_is, Counts-proper}
 use Rattle.zre_journal.proofs.Listed.{eqb-comm, found_passes}
@@ -32,7 +28,7 @@ use Rattle.zre_node.specs.declared.peer.Running.{Running}
 use Rattle.zre_node.specs.declared.tables.Tables.{Tables}
 use Rattle.zre_node.specs.declared.effects.Effects.{Effects}
 use Rattle.zre_node.specs.Tabled.{Tabled}
-use Rattle.zre_node.specs.Stands.{Holds, Keeps, Nearly, Did, HasRun, HadRun, IsRunning, IsPeer, IsBut, IsKept, IsLeaving, is_ping}
+use Rattle.zre_node.specs.Stands.{Holds, Nearly, Did, HasRun, HadRun, IsRunning, IsPeer, IsBut, IsLeaving, is_ping}
 use Rattle.zre_node.proofs.Entries.{changed}
 use Rattle.zre_node.proofs.Parting.{its_row, keeps_with, leaves}
 use Rattle.zre_journal.specs.Told.{told}

@@ -1,23 +1,21 @@
 -- The end of a known peer, at the tables.
-use Rattle.std.proofs.Common.{◌≡◌, ℕ, ◌≤◌, Bool, true, false, cond, not, ◌||◌, ◌&&◌, eqb, List, [], ◌∷◌, ◌++◌, Option, Some, None, find, IsSome, Result, Ok, Err, OnOk, is_some, is_none, append-nil, refl, sym, ap, ◌∙◌, nat_cmp, eqb-true, eq-eqb, subst}
+use Rattle.std.proofs.Common.{◌≡◌, ℕ, ◌≤◌, Bool, true, false, not, ◌||◌, eqb, List, [], ◌∷◌, ◌++◌, Option, Some, None, Result, Ok, Err, OnOk, is_some, append-nil, refl, sym, ap, ◌∙◌, nat_cmp, eqb-true, eq-eqb, subst}
 use Rattle.std.specs.BTreeMap.{BTreeMap, is_at}
-use Rattle.std.specs.Map.{lookup, remove_entry, set_value}
-use Rattle.std.specs.List.{AllByRecursion, list_any}
+use Rattle.std.specs.Map.{lookup, set_value}
+use Rattle.std.specs.List.{list_any}
 use Rattle.zre_values.specs.declared.peer_id.PeerId.{PeerId}
 use Rattle.zre_peer.specs.declared.causes.Cause.{Cause}
-use Rattle.zre_peer.specs.declared.event.Event.{Event}
 use Rattle.zre_peer.specs.declared.event.Event.TheVariants as event
-use Rattle.zre_outside.specs.declared.act.Act.{Act}
 use Rattle.zre_peer.specs.Views.{view_of}
 use Rattle.zre_journal.specs.declared.config.Config.{Config}
 use Rattle.zre_journal.specs.Chronicle.{Mark, Ends, ever}
 use Rattle.zre_journal.specs.Heard.{clock, bytes}
-use Rattle.zre_journal.specs.Connections.{runs, open_ones, is_open, since, has_ended, started, identity, is_ignored, is_live, refuses, is_link, unless}
-use Rattle.zre_journal.specs.Peers.{Life, lives, life, births, runner, counted, other_lives}
-use Rattle.zre_journal.specs.Told.{exit, told}
-use Rattle.zre_journal.specs.Done.{close_link, done}
+use Rattle.zre_journal.specs.Connections.{runs, open_ones, is_open, since, has_ended, started, is_ignored, is_live, refuses}
+use Rattle.zre_journal.specs.Peers.{life, births, runner, counted}
+use Rattle.zre_journal.specs.Told.{exit}
+use Rattle.zre_journal.specs.Done.{close_link}
 use Rattle.zre_journal.proofs.Kept.{known_lives, run_is, Ends-proper}
-use Rattle.zre_journal.proofs.Listed.{eqb-comm, found_any, none_any, found_passes, some_is}
+use Rattle.zre_journal.proofs.Listed.{eqb-comm, found_any, none_any, found_passes}
 use Rattle.zre_node.specs.declared.peer.Peer.{Peer}
 use Rattle.zre_node.specs.declared.peer.Running.{Running}
 use Rattle.zre_msg.specs.declared.message.Message.{Message}
@@ -27,8 +25,8 @@ use Rattle.zre_node.specs.declared.connection.Connection.{Connection}
 use Rattle.zre_node.specs.declared.tables.Tables.{Tables}
 use Rattle.zre_node.specs.declared.effects.Effects.{Effects}
 use Rattle.zre_node.specs.Tabled.{Tabled}
-use Rattle.zre_node.specs.Stands.{Holds, Keeps, Nearly, Parted, Did, HadRun, HasRun, IsLeaving, IsBut, IsPeer, IsConn, kept_conn, heard_by}
-use Rattle.zre_node.proofs.Entries.{Row, Is, IsNone, row, removed, changed, retold}
+use Rattle.zre_node.specs.Stands.{Holds, Keeps, Parted, Did, HadRun, IsConn, kept_conn, heard_by}
+use Rattle.zre_node.proofs.Entries.{Row, Is, IsNone, row, changed, retold}
 use Rattle.zre_node.proofs.Many.{or-nil}
 
 pub on_ok : {T E A C : Type 0} (r : Result T E) → OnOk r A → (A → C) → OnOk r C

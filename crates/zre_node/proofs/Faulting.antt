@@ -1,5 +1,5 @@
 -- A fault on a connection, and connections that aren't live.
-use Rattle.std.proofs.Common.{◌≡◌, ℕ, Bool, true, false, List, [], ◌∷◌, ◌++◌, Option, Some, None, MatchOption, is_some, refl, sym, ap, ◌∙◌, append-nil}
+use Rattle.std.proofs.Common.{◌≡◌, ℕ, true, false, List, [], ◌∷◌, ◌++◌, Option, Some, None, MatchOption, is_some, refl, append-nil}
 use Rattle.zre_mailbox.specs.Talk.{Said, Fault}
 use Rattle.zre_zmtp.specs.declared.fault.ZmtpFault.{ZmtpFault}
 use Rattle.zre_peer.specs.declared.causes.Cause.TheVariants as cause
@@ -7,7 +7,7 @@ use Rattle.zre_peer.specs.declared.causes.CloseWhy.TheVariants as close
 use Rattle.zre_journal.specs.declared.config.Config.{Config}
 use Rattle.zre_journal.specs.Chronicle.{Mark, Closes, in_turn}
 use Rattle.zre_journal.specs.Connections.{is_live, runs}
-use Rattle.zre_journal.specs.Happens.{at_place, at_places, end_of_run}
+use Rattle.zre_journal.specs.Happens.{at_place, end_of_run}
 
 -- where a connection isn't live, nothing that it says has an effect
 pub dead_places : (g : Config) (c : ℕ) (K : List Mark) → is_live c K ≡ false → (xs : List Said) → in_turn (at_place g c) xs K ≡ []

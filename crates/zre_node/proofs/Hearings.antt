@@ -1,12 +1,12 @@
 -- Connections that are fed.
-use Rattle.std.proofs.Common.{◌≡◌, ℕ, Bool, true, false, cond, not, ◌&&◌, eqb, if◌then◌else◌, List, [], ◌∷◌, ◌++◌, Option, Some, None, refl, sym, ap, ◌∙◌, append-nil, subst}
+use Rattle.std.proofs.Common.{◌≡◌, ℕ, true, false, List, [], ◌++◌, Option, Some, None, refl, ap, ◌∙◌}
 use Rattle.zre_values.specs.declared.peer_id.PeerId.{PeerId}
 use Rattle.zre_zmtp.specs.Stream.{Whole}
 use Rattle.zre_zmtp.specs.declared.want.Want.TheVariants.{Dealer}
 use Rattle.zre_zmtp.specs.declared.fault.ZmtpFault.{ZmtpFault}
 use Rattle.zre_zmtp.specs.Reading.{IsOver}
 use Rattle.zre_zmtp.proofs.Feeding.{is_over}
-use Rattle.zre_mailbox.specs.Conn.{Hearing, conn_after, is_ignored, is_spent, phase_by, reading, identity_in}
+use Rattle.zre_mailbox.specs.Conn.{conn_after, is_ignored, is_spent, identity_in}
 use Rattle.zre_mailbox.specs.declared.phase.Phase.TheVariants.{Spent}
 use Rattle.zre_mailbox.specs.Talk.{arrivals, arrivals_in, fault_in, completed}
 use Rattle.zre_mailbox.proofs.Growing.{goes}

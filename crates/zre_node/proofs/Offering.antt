@@ -1,5 +1,5 @@
 -- Offers, at the tables.
-use Rattle.std.proofs.Common.{◌≡◌, ℕ, Bool, true, false, cond, not, ◌&&◌, eqb, List, [], ◌∷◌, ◌++◌, map, filter, refl, sym, ap, ◌∙◌, append_assoc}
+use Rattle.std.proofs.Common.{◌≡◌, ℕ, Bool, true, false, cond, not, ◌&&◌, eqb, List, [], ◌∷◌, ◌++◌, map, filter, refl, ap, ◌∙◌, append_assoc}
 use Rattle.std.specs.List.{list_any}
 use Rattle.zre_outside.specs.declared.act.Act.{Act}
 use Rattle.zre_outside.specs.declared.act.Act.TheVariants as act
@@ -7,11 +7,11 @@ use Rattle.zre_link.specs.Link.{has_front}
 use Rattle.zre_journal.specs.declared.config.Config.{Config}
 use Rattle.zre_journal.specs.Chronicle.{Mark}
 use Rattle.zre_journal.specs.Links.{gate, taken}
-use Rattle.zre_journal.specs.Peers.{Life, lives}
+use Rattle.zre_journal.specs.Peers.{Life}
 use Rattle.zre_node.specs.declared.peer.Peer.{Peer}
-use Rattle.zre_node.specs.Offers.{offered_among, offered}
+use Rattle.zre_node.specs.Offers.{offered_among}
 use Rattle.zre_node.specs.Tabled.{Tabled}
-use Rattle.zre_node.specs.Stands.{IsPeer, link_of_life}
+use Rattle.zre_node.specs.Stands.{IsPeer}
 
 -- one row more
 pub one_more : (pushed : List ℕ) (l : ℕ) (k : Peer) (es : List (ℕ × Peer)) (acts acts' start : List Act) → list_any (eqb l) pushed ≡ true → has_front k.link ≡ true → acts' ≡ acts ++ act.Offer l ∷ []
@@ -29,7 +29,7 @@ among g K pushed (v ∷ vs) [] t = absurd t
 among g K pushed (v ∷ vs) (e ∷ es) t = rw (t.0, t.1.link_is) (by (among g K pushed vs es t.2) (list_any (eqb v.link) pushed && not (eqb (gate g v.link K) (taken v.link K))))
   where
     by : offered_among pushed es ≡ map (λ (u : Life). act.Offer u.link) (filter (λ (u : Life). list_any (eqb u.link) pushed && not (eqb (gate g u.link K) (taken u.link K))) vs) → (b : Bool)
-      → cond b (act.Offer v.link ∷ offered_among pushed es) (offered_among pushed es)
+        → cond b (act.Offer v.link ∷ offered_among pushed es) (offered_among pushed es)
         ≡ map (λ (u : Life). act.Offer u.link) (cond b (v ∷ filter (λ (u : Life). list_any (eqb u.link) pushed && not (eqb (gate g u.link K) (taken u.link K))) vs) (filter (λ (u : Life). list_any (eqb u.link) pushed && not (eqb (gate g u.link K) (taken u.link K))) vs))
     by r true = ap (λ (xs : List Act). act.Offer v.link ∷ xs) r
     by r false = r

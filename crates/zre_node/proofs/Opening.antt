@@ -1,27 +1,25 @@
 -- Connections come and go, at the tables.
-use Rattle.std.proofs.Common.{◌≡◌, ℕ, ◌<◌, ◌≤◌, Bool, true, false, cond, not, ◌||◌, ◌&&◌, eqb, ltb, List, [], ◌∷◌, ◌++◌, map, length, Option, Some, None, is_some, is_none, refl, sym, ap, ◌∙◌, nat_cmp, subst, arith, ltb-true, lt-ltb, le-ltb, ne_eqb, eq-eqb, append-nil}
-use Rattle.std.specs.List.{AllByRecursion, list_any}
+use Rattle.std.proofs.Common.{◌≡◌, ℕ, ◌<◌, ◌≤◌, Bool, true, false, ◌&&◌, eqb, ltb, List, [], ◌∷◌, ◌++◌, map, length, Option, Some, None, refl, sym, ◌∙◌, nat_cmp, subst, arith, ltb-true, lt-ltb, le-ltb, ne_eqb, eq-eqb}
+use Rattle.std.specs.List.{AllByRecursion}
 use Rattle.std.specs.BTreeMap.{BTreeMap, is_at, insert_entry}
-use Rattle.std.specs.Map.{lookup, remove_entry}
+use Rattle.std.specs.Map.{remove_entry}
 use Rattle.zre_peer.specs.declared.causes.Cause.{Cause}
 use Rattle.zre_peer.specs.declared.causes.Cause.TheVariants as cause
 use Rattle.zre_peer.specs.declared.causes.CloseWhy.{CloseWhy}
 use Rattle.zre_mailbox.specs.Conn.{conn_after}
 use Rattle.zre_journal.specs.declared.config.Config.{Config}
-use Rattle.zre_journal.specs.Chronicle.{Mark, Opens, TurnsAway, Closes, IsShut, Drops, after, ever}
-use Rattle.zre_journal.specs.Heard.{clock, bytes}
-use Rattle.zre_journal.specs.Connections.{open_ones, is_new, is_open, is_ignored, since, identity, runs, started, refuses, has_ended, others}
+use Rattle.zre_journal.specs.Chronicle.{Mark, Opens, TurnsAway, Closes, IsShut, Drops, after}
+use Rattle.zre_journal.specs.Heard.{clock}
+use Rattle.zre_journal.specs.Connections.{open_ones, is_new, is_open, since, identity, runs, others}
 use Rattle.zre_journal.specs.Peers.{Life, lives, births}
 use Rattle.zre_journal.specs.Links.{groups, status}
 use Rattle.zre_journal.specs.Proper.{IsProper}
 use Rattle.zre_journal.specs.Happens.{has_stopped, at_opened, at_shut, end_of_run}
 use Rattle.zre_journal.proofs.Kept.{has_started, Opens-proper, TurnsAway-proper, Closes-proper, IsShut-proper, Drops-proper}
-use Rattle.zre_journal.proofs.Listed.{All-map}
 use Rattle.zre_node.specs.declared.connection.Connection.{Connection}
 use Rattle.zre_node.specs.declared.tables.Tables.{Tables}
-use Rattle.zre_node.specs.declared.effects.Effects.{Effects}
 use Rattle.zre_node.specs.Tabled.{Tabled}
-use Rattle.zre_node.specs.Stands.{Holds, Keeps, Did, IsPeer, IsConn, kept_conn, is_above, heard_by, RunNone}
+use Rattle.zre_node.specs.Stands.{Holds, Keeps, IsPeer, IsConn, kept_conn, is_above, RunNone}
 use Rattle.zre_node.proofs.Entries.{inserted, removed, as_many}
 
 pub open_count : (g : Config) (H : List Mark) (t : Tables) → Keeps g H t → length t.conns.entries ≡ length (open_ones H)

@@ -1,10 +1,10 @@
 -- Peers found in their table, and taken out of it.
-use Rattle.std.proofs.Common.{◌≡◌, ℕ, Bool, true, false, eqb, List, Option, Some, None, IsSome, refl, sym, ap, ◌∙◌, nat_cmp, eqb-true, subst}
+use Rattle.std.proofs.Common.{◌≡◌, ℕ, List, Option, Some, None, IsSome, sym, ◌∙◌, nat_cmp, subst}
 use Rattle.std.specs.BTreeMap.{BTreeMap, is_at}
 use Rattle.std.specs.Map.{lookup, remove_entry}
 use Rattle.zre_msg.specs.declared.message.Message.{Message}
 use Rattle.zre_peer.specs.Runs.{shown}
-use Rattle.zre_peer.specs.Standing.{Stands, view_in}
+use Rattle.zre_peer.specs.Standing.{view_in}
 use Rattle.zre_values.specs.declared.peer_id.PeerId.{PeerId}
 use Rattle.zre_journal.specs.declared.config.Config.{Config}
 use Rattle.zre_journal.specs.Chronicle.{Mark}

@@ -1,7 +1,7 @@
 -- The first message of a connection.
-use Rattle.std.proofs.Common.{◌≡◌, ◌≢◌, ℕ, ◌+◌, ◌<◌, ◌≤◌, Bool, true, false, cond, not, ◌&&◌, ◌||◌, eqb, ltb, if◌then◌else◌, List, [], ◌∷◌, ◌++◌, length, Option, Some, None, IsSome, is_some, is_none, find, Result, Ok, Err, OnOk, refl, sym, ap, ◌∙◌, nat_cmp, subst, eq-eqb, ne_eqb, arith, lt-ltb, le-ltb, eqb-true, append-nil}
+use Rattle.std.proofs.Common.{◌≡◌, ◌≢◌, ℕ, ◌+◌, ◌<◌, ◌≤◌, Bool, true, false, cond, not, ◌&&◌, ◌||◌, eqb, ltb, List, [], ◌∷◌, ◌++◌, length, Option, Some, None, is_some, is_none, find, Result, Ok, Err, OnOk, refl, sym, ap, ◌∙◌, nat_cmp, subst, eq-eqb, ne_eqb, arith, lt-ltb, le-ltb, eqb-true, append-nil}
 use Rattle.std.proofs.lemmas.Bool.{and_parts}
-use Rattle.std.specs.List.{AllByRecursion, list_any}
+use Rattle.std.specs.List.{AllByRecursion}
 use Rattle.std.specs.Str.{bytes_eq}
 use Rattle.zre_values.specs.declared.endpoint.Endpoint.{Endpoint}
 use Rattle.zre_peer.specs.declared.causes.IgnoreWhy.TheVariants as ignore
@@ -21,22 +21,19 @@ use Rattle.std.specs.Map.{lookup, set_value}
 use Rattle.zre_values.specs.declared.peer_id.PeerId.{PeerId}
 use Rattle.zre_msg.specs.declared.message.Message.{Message}
 use Rattle.zre_peer.specs.declared.causes.IgnoreWhy.{IgnoreWhy}
-use Rattle.zre_peer.specs.declared.peer_run.Run.{Run}
-use Rattle.zre_peer.specs.Standing.{Stands, id_of}
 use Rattle.zre_journal.specs.declared.config.Config.{Config}
 use Rattle.zre_journal.specs.Chronicle.{Mark, Starts, Ignores, after, ever}
-use Rattle.zre_journal.specs.Heard.{clock, bytes}
-use Rattle.zre_journal.specs.Connections.{open_ones, is_open, is_live, is_ignored, was_used, identity, runs, started, since, refuses, has_ended, unless}
+use Rattle.zre_journal.specs.Heard.{clock}
+use Rattle.zre_journal.specs.Connections.{open_ones, is_open, is_live, is_ignored, was_used, identity, runs, started, since, refuses, has_ended}
 use Rattle.zre_journal.specs.Peers.{Life, lives, life, life_of, births, runner, counted}
 use Rattle.zre_journal.specs.Proper.{IsProper, Apart}
 use Rattle.zre_journal.proofs.Kept.{known_lives, newborn, runner_runs, Starts-proper, Ignores-proper}
 use Rattle.zre_journal.proofs.Listed.{eqb-comm, found, found_passes, All-map}
 use Rattle.zre_node.specs.declared.connection.Connection.{Connection}
 use Rattle.zre_node.specs.declared.peer.Peer.{Peer}
-use Rattle.zre_node.specs.declared.peer.Running.{Running}
 use Rattle.zre_node.specs.declared.tables.Tables.{Tables}
 use Rattle.zre_node.specs.Tabled.{Tabled}
-use Rattle.zre_node.specs.Stands.{Holds, Keeps, Did, HasRun, IsRunning, IsPeer, IsConn, kept_conn, heard_by}
+use Rattle.zre_node.specs.Stands.{Holds, Did, HasRun, IsPeer, IsConn, kept_conn}
 use Rattle.zre_node.proofs.Entries.{changed}
 use Rattle.zre_node.proofs.Opening.{with_conns}
 use Rattle.zre_node.proofs.Parting.{its_row}

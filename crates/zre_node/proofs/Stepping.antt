@@ -1,5 +1,5 @@
 -- One entry, at the node.
-use Rattle.std.proofs.Common.{◌≡◌, Bool, true, false, cond, List, [], ◌∷◌, ◌++◌, refl, sym, ap, ◌∙◌, subst, append-nil}
+use Rattle.std.proofs.Common.{◌≡◌, true, false, List, [], ◌∷◌, ◌++◌, refl, sym, ap, ◌∙◌, subst, append-nil}
 use Rattle.zre_outside.specs.declared.entry.Entry.{Entry}
 use Rattle.zre_outside.specs.declared.act.Act.{Act}
 use Rattle.zre_peer.specs.declared.event.Event.{Event}
@@ -7,16 +7,12 @@ use Rattle.zre_journal.specs.declared.config.Config.{Config}
 use Rattle.zre_journal.specs.Chronicle.{Mark, Comes, after}
 use Rattle.zre_journal.specs.Done.{acts_at}
 use Rattle.zre_journal.specs.Events.{chronicle, events, acts, events_at}
-use Rattle.zre_journal.specs.Happens.{marks, with_entry, has_stopped}
-use Rattle.zre_journal.specs.Peers.{lives}
+use Rattle.zre_journal.specs.Happens.{marks, has_stopped}
 use Rattle.zre_journal.specs.Told.{told}
 use Rattle.zre_journal.proofs.Joined.{continues}
 use Rattle.zre_node.specs.declared.effects.Effects.{Effects}
-use Rattle.zre_node.specs.declared.effects.Step.{Step}
-use Rattle.zre_node.specs.declared.node.Node.{Node}
 use Rattle.zre_node.specs.declared.tables.Tables.{Tables}
-use Rattle.zre_node.specs.Journal.{StandsIn, StandsFor, Took, Steps}
-use Rattle.zre_node.specs.Stands.{Holds, Rests}
+use Rattle.zre_node.specs.Journal.{StandsIn, Took, Steps}
 
 -- an entry behind a stop changes nothing
 pub took_nothing : (g : Config) (e : Entry) (H : List Mark) (t : Tables) (a : Effects) → has_stopped H ≡ true → StandsIn g H t → Took g e H t a a

@@ -1,5 +1,5 @@
 -- The stop of a node.
-use Rattle.std.proofs.Common.{◌≡◌, ℕ, Bool, true, false, cond, not, ◌||◌, eqb, List, [], ◌∷◌, ◌++◌, map, Option, Some, None, IsSome, find, filter, refl, sym, ap, ◌∙◌, eq-eqb, append-nil, append_assoc, subst}
+use Rattle.std.proofs.Common.{◌≡◌, ℕ, Bool, true, false, cond, ◌||◌, eqb, List, [], ◌∷◌, ◌++◌, map, Option, Some, None, IsSome, find, refl, sym, ap, ◌∙◌, eq-eqb, append_assoc, subst}
 use Rattle.std.specs.List.{AllByRecursion, list_any}
 use Rattle.std.specs.Map.{keys_of}
 use Rattle.zre_beacon.specs.Beacon.{beacon_octets}
@@ -11,7 +11,7 @@ use Rattle.zre_journal.specs.declared.config.Config.{Config}
 use Rattle.zre_journal.specs.Chronicle.{Mark, Ends, Drops, Calls, Stops, after}
 use Rattle.zre_journal.specs.Connections.{open_ones, runs}
 use Rattle.zre_journal.specs.Peers.{Life, lives, life, other_lives}
-use Rattle.zre_journal.specs.Proper.{IsProper, Apart}
+use Rattle.zre_journal.specs.Proper.{Apart}
 use Rattle.zre_journal.specs.Happens.{at_stop}
 use Rattle.zre_journal.specs.Told.{told}
 use Rattle.zre_journal.specs.Done.{done}

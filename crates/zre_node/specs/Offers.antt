@@ -1,5 +1,5 @@
 -- The offers of links.
-use Rattle.std.specs.Prelude.{ℕ, Bool, not, ◌&&◌, List, [], ◌∷◌, map, if◌then◌else◌, nat_eq}
+use Rattle.std.specs.Prelude.{ℕ, not, ◌&&◌, List, [], ◌∷◌, map, if◌then◌else◌, nat_eq}
 use Rattle.std.specs.List.{filter, list_any}
 use Rattle.zre_outside.specs.declared.act.Act.{Act}
 use Rattle.zre_outside.specs.declared.act.Act.TheVariants as act

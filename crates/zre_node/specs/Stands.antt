@@ -2,9 +2,6 @@
 use Rattle.std.specs.Prelude.{◌≡◌, ℕ, ◌≤◌, Bool, true, false, ◌||◌, not, ◌&&◌, List, [], ◌∷◌, ◌++◌, Option, Some, None, if◌then◌else◌, nat_lt, nat_eq, IsSome, length}
 use Rattle.std.specs.List.{AllByRecursion, list_any}
 use Rattle.std.specs.Str.{bytes_eq}
-use Rattle.std.specs.Ordering.{nat_cmp}
-use Rattle.std.specs.BTreeMap.{is_at}
-use Rattle.std.specs.Map.{lookup, remove_entry}
 use Rattle.zre_values.specs.declared.peer_id.PeerId.{PeerId}
 use Rattle.zre_outside.specs.declared.entry.Input.{Input}
 use Rattle.zre_outside.specs.declared.entry.Input.TheVariants as input
@@ -19,7 +16,7 @@ use Rattle.zre_journal.specs.declared.config.Config.{Config}
 use Rattle.zre_journal.specs.Chronicle.{Mark, after}
 use Rattle.zre_journal.specs.Config.{is_valid, own_endpoint}
 use Rattle.zre_journal.specs.Heard.{clock, bytes}
-use Rattle.zre_journal.specs.Connections.{open_ones, is_open, is_new, is_ignored, identity, runs, since, is_same, has_ended}
+use Rattle.zre_journal.specs.Connections.{open_ones, is_open, is_new, is_ignored, identity, runs, since, is_same}
 use Rattle.zre_journal.specs.Peers.{Life, life, lives, other_lives, births, active, runner, counted}
 use Rattle.zre_journal.specs.Proper.{IsProper}
 use Rattle.zre_journal.specs.Links.{bodies, is_linked, replies, taken, groups, status}

@@ -17,9 +17,11 @@ const OWN: PeerId = PeerId([
 const HOST: [u8; 4] = [10, 0, 0, 2];
 
 // The peer's beacon, and its last one.
-const BEACON: &[u8] = b"ZRE\x01\0\x01\x02\x03\x04\x05\x06\x07\x08\x09\x0a\x0b\x0c\x0d\x0e\x0f\xc0\0";
+const BEACON: &[u8] =
+    b"ZRE\x01\0\x01\x02\x03\x04\x05\x06\x07\x08\x09\x0a\x0b\x0c\x0d\x0e\x0f\xc0\0";
 
-const LAST_BEACON: &[u8] = b"ZRE\x01\0\x01\x02\x03\x04\x05\x06\x07\x08\x09\x0a\x0b\x0c\x0d\x0e\x0f\0\0";
+const LAST_BEACON: &[u8] =
+    b"ZRE\x01\0\x01\x02\x03\x04\x05\x06\x07\x08\x09\x0a\x0b\x0c\x0d\x0e\x0f\0\0";
 
 // Its greeting, READY and HELLO (RFC 23, RFC 36), and READY of a ROUTER.
 const GREETING: &[u8] =
@@ -123,9 +125,7 @@ const ROWS: &[Row] = &[
     },
     // The last beacon ends the peer.
     Row {
-        further: &[
-            (200, Beacon(LAST_BEACON)),
-        ],
+        further: &[(200, Beacon(LAST_BEACON))],
         lines: b"ENTER 000102030405060708090A0B0C0D0E0F Ann tcp://10.0.0.2:49152 %\nEXIT 000102030405060708090A0B0C0D0E0F Ann beacon\n",
         link: None,
         waits: [None, None],
@@ -134,12 +134,7 @@ const ROWS: &[Row] = &[
     },
     // Silence makes it evasive, and then ends it. An older reading doesn't set the clock back. PING waits three times.
     Row {
-        further: &[
-            (5099, Tick),
-            (5100, Tick),
-            (4000, Tick),
-            (30099, Tick),
-        ],
+        further: &[(5099, Tick), (5100, Tick), (4000, Tick), (30099, Tick)],
         lines: b"ENTER 000102030405060708090A0B0C0D0E0F Ann tcp://10.0.0.2:49152 %\nEVASIVE 000102030405060708090A0B0C0D0E0F Ann\nEVASIVE 000102030405060708090A0B0C0D0E0F Ann\nEVASIVE 000102030405060708090A0B0C0D0E0F Ann\n",
         link: Some(1),
         waits: [Some(189), None],
@@ -163,11 +158,7 @@ const ROWS: &[Row] = &[
     },
     // A beacon is a sign of life.
     Row {
-        further: &[
-            (5000, Beacon(BEACON)),
-            (9999, Tick),
-            (10000, Tick),
-        ],
+        further: &[(5000, Beacon(BEACON)), (9999, Tick), (10000, Tick)],
         lines: b"ENTER 000102030405060708090A0B0C0D0E0F Ann tcp://10.0.0.2:49152 %\nEVASIVE 000102030405060708090A0B0C0D0E0F Ann\n",
         link: Some(1),
         waits: [Some(173), None],
@@ -176,10 +167,7 @@ const ROWS: &[Row] = &[
     },
     // A reply that no ROUTER sends ends it.
     Row {
-        further: &[
-            (200, Linked(1)),
-            (200, Reply(1, &[GREETING, READY])),
-        ],
+        further: &[(200, Linked(1)), (200, Reply(1, &[GREETING, READY]))],
         lines: b"ENTER 000102030405060708090A0B0C0D0E0F Ann tcp://10.0.0.2:49152 %\nEXIT 000102030405060708090A0B0C0D0E0F Ann reply SocketType 64\n",
         link: None,
         waits: [None, None],
@@ -215,9 +203,7 @@ const ROWS: &[Row] = &[
     },
     // PING is answered.
     Row {
-        further: &[
-            (200, Piece(1, &[PING])),
-        ],
+        further: &[(200, Piece(1, &[PING]))],
         lines: b"ENTER 000102030405060708090A0B0C0D0E0F Ann tcp://10.0.0.2:49152 %\n",
         link: Some(1),
         waits: [Some(173), None],
@@ -226,9 +212,7 @@ const ROWS: &[Row] = &[
     },
     // The greeting may go out on a link that stands, READY behind the other end's greeting, and the messages behind its READY.
     Row {
-        further: &[
-            (200, Linked(1)),
-        ],
+        further: &[(200, Linked(1))],
         lines: b"ENTER 000102030405060708090A0B0C0D0E0F Ann tcp://10.0.0.2:49152 %\n",
         link: Some(1),
         waits: [Some(165), None],
@@ -263,9 +247,7 @@ const ROWS: &[Row] = &[
     },
     // A link that breaks ends its peer.
     Row {
-        further: &[
-            (200, Unlinked(1)),
-        ],
+        further: &[(200, Unlinked(1))],
         lines: b"ENTER 000102030405060708090A0B0C0D0E0F Ann tcp://10.0.0.2:49152 %\nEXIT 000102030405060708090A0B0C0D0E0F Ann link\n",
         link: None,
         waits: [None, None],
@@ -274,9 +256,7 @@ const ROWS: &[Row] = &[
     },
     // A fault ends the peer and closes the connection.
     Row {
-        further: &[
-            (200, Piece(1, &[b"\x05"])),
-        ],
+        further: &[(200, Piece(1, &[b"\x05"]))],
         lines: b"ENTER 000102030405060708090A0B0C0D0E0F Ann tcp://10.0.0.2:49152 %\nEXIT 000102030405060708090A0B0C0D0E0F Ann fault\nCLOSED 1 Flags 166\n",
         link: None,
         waits: [None, None],
@@ -285,9 +265,7 @@ const ROWS: &[Row] = &[
     },
     // A message too large is found by its size.
     Row {
-        further: &[
-            (200, Piece(1, &[b"\x02\0\0\0\0\0\x10\0\x01"])),
-        ],
+        further: &[(200, Piece(1, &[b"\x02\0\0\0\0\0\x10\0\x01"]))],
         lines: b"ENTER 000102030405060708090A0B0C0D0E0F Ann tcp://10.0.0.2:49152 %\nEXIT 000102030405060708090A0B0C0D0E0F Ann fault\nCLOSED 1 TooLarge 166\n",
         link: None,
         waits: [None, None],
@@ -296,10 +274,7 @@ const ROWS: &[Row] = &[
     },
     // A message before READY is a fault of a connection that runs no peer.
     Row {
-        further: &[
-            (200, Opened(2)),
-            (200, Piece(2, &[GREETING, b"\0"])),
-        ],
+        further: &[(200, Opened(2)), (200, Piece(2, &[GREETING, b"\0"]))],
         lines: b"ENTER 000102030405060708090A0B0C0D0E0F Ann tcp://10.0.0.2:49152 %\nCLOSED 2 Order 64\n",
         link: Some(1),
         waits: [Some(165), None],
@@ -308,11 +283,7 @@ const ROWS: &[Row] = &[
     },
     // A stop ends all, and nothing comes behind it.
     Row {
-        further: &[
-            (200, Quit),
-            (300, Beacon(BEACON)),
-            (300, End),
-        ],
+        further: &[(200, Quit), (300, Beacon(BEACON)), (300, End)],
         lines: b"ENTER 000102030405060708090A0B0C0D0E0F Ann tcp://10.0.0.2:49152 %\nEXIT 000102030405060708090A0B0C0D0E0F Ann stop\nSTOP\n",
         link: None,
         waits: [None, None],
@@ -427,7 +398,10 @@ fn worked_journals_give_their_events_and_answers(rt: HostRuntime) -> Result<(), 
         assert_eq!(rt; [node.unsent(1), node.unsent(2)], row.waits);
         assert_eq!(rt; node.front(1).map(|front| front.len()), row.front);
         assert_eq!(rt; node.peer(PEER).map(|view| view.groups_len()), row.groups);
-        assert_eq!(rt; node.peers()?.len(), if row.groups.is_some() { 1 } else { 0 });
+        assert_eq!(rt;
+            node.peers()?.len(),
+            if row.groups.is_some() { 1 } else { 0 }
+        );
         assert_eq!(rt; node.known(), if row.link.is_some() { 1 } else { 0 });
     }
     Ok(())

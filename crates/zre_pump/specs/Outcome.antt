@@ -1,5 +1,5 @@
 -- What a status says of a command that reads its input.
-use Rattle.std.specs.Prelude.{◌≡◌, ℕ, ◌<◌, true, false, List, ◌++◌, ◌⊎◌, length, Option}
+use Rattle.std.specs.Prelude.{◌≡◌, ℕ, ◌<◌, true, false, List, ◌⊎◌, length, Option}
 use Rattle.std.specs.Io.KnownBytes.{Appends, IsAtEnd}
 use Rattle.zre_outside.specs.Told.{Moves, AppendsFront}
 use Rattle.zre_pump.specs.Meaning.{Meaning, whole_text}

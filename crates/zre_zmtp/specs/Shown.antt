@@ -1,5 +1,5 @@
 -- How the fields of a reader are seen, and what a turn over some octets does.
-use Rattle.std.specs.Prelude.{◌≡◌, ◌≢◌, ℕ, ◌+◌, ◌-◌, ◌≤◌, ◌==◌, if◌then◌else◌, nat_le, Bool, true, false, List, [], ◌++◌, length, Option, Some, None, option_map}
+use Rattle.std.specs.Prelude.{◌≡◌, ◌≢◌, ℕ, ◌+◌, ◌-◌, ◌≤◌, ◌==◌, if◌then◌else◌, nat_le, Bool, false, List, [], ◌++◌, length, Option, Some, None, option_map}
 use Rattle.std.specs.Option.{option_or}
 use Rattle.zre_zmtp.specs.declared.fault.ZmtpWhy.{ZmtpWhy}
 use Rattle.zre_zmtp.specs.declared.progress.Progress.{Progress}
@@ -7,7 +7,7 @@ use Rattle.zre_zmtp.specs.declared.header.Header.{Header}
 use Rattle.zre_zmtp.specs.declared.expected.Expected.{Expected}
 use Rattle.zre_zmtp.specs.declared.expected.Expected.TheVariants as expect
 use Rattle.zre_zmtp.specs.declared.item.Item.{Item}
-use Rattle.zre_zmtp.specs.Frame.{is_message, has_more, flags, size, has_header, header_len, header_of}
+use Rattle.zre_zmtp.specs.Frame.{is_message, flags, size, has_header, header_len, header_of}
 use Rattle.zre_zmtp.specs.Stream.{Want, Before, once, flags_fault, size_fault, fault_of, whole_len, said, start_of, opened_by}
 use Rattle.zre_zmtp.specs.Run.{Found, run_all}
 use Rattle.zre_zmtp.specs.declared.fault.FeedFault.{FeedFault}

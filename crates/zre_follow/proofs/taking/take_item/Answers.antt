@@ -1,4 +1,4 @@
-use Rattle.std.proofs.Common.{◌≡◌, sym, ap, subst, [], List}
+use Rattle.std.proofs.Common.{sym, ap, subst, [], List}
 use Rattle.std.specs.List.{cons_option}
 use Rattle.zre_msg.specs.declared.message.Message.{Message}
 use Rattle.zre_zmtp.specs.declared.item.What.{What}

@@ -1,4 +1,4 @@
-use Rattle.std.proofs.Common.{◌≡◌, sym, ap, ◌∙◌, subst, [], List}
+use Rattle.std.proofs.Common.{sym, ap, subst, [], List}
 use Rattle.std.specs.Prelude.{OnOk}
 use Rattle.std.specs.List.{cons_option}
 use Rattle.std.specs.Result.{result_ok}

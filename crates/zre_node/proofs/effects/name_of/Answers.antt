@@ -1,5 +1,4 @@
-use Rattle.std.proofs.Common.{◌≡◌, None, sym, ap, ◌∙◌}
-use Rattle.std.specs.Option.{option_copied}
+use Rattle.std.proofs.Common.{◌≡◌, None, ◌∙◌}
 use Rattle.zre_peer.specs.Standing.{view_in}
 use Rattle.zre_node.proofs.Naming.{no_name}
 use Rattle.zre_node.proofs.effects.name_of.Goals as goal

@@ -1,4 +1,4 @@
-use Rattle.std.proofs.Common.{◌≡◌, ◌∙◌, ap, sym}
+use Rattle.std.proofs.Common.{◌∙◌, ap, sym}
 use Rattle.zre_values.specs.Endpoint.{endpoint_in}
 use Rattle.zre_node.proofs.Naming.{hello_endpoint, other_endpoint}
 use Rattle.zre_node.proofs.first.mailbox_of.Goals as goal

@@ -1,4 +1,4 @@
-use Rattle.std.proofs.Common.{◌≡◌, ◌++◌, true, false, sym, ap, ◌∙◌}
+use Rattle.std.proofs.Common.{◌≡◌, true, false, sym, ap, ◌∙◌}
 use Rattle.zre_mailbox.specs.Conn.{Hearing, is_ignored, is_spent}
 use Rattle.zre_node.proofs.Hearings.{never_ignored, spent_stays}
 use Rattle.zre_node.proofs.hearing.read.Goals as goal

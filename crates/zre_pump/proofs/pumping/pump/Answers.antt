@@ -1,10 +1,7 @@
-use Rattle.std.proofs.Common.{◌≡◌, ◌≤◌, ◌<◌, ◌+◌, List, [], ◌++◌, length, take, refl, sym, ap, ◌∙◌, subst, arith, inl, inr}
+use Rattle.std.proofs.Common.{◌≡◌, ◌+◌, ◌++◌, length, take, refl, sym, ap, ◌∙◌, subst, arith, inl, inr}
 use Rattle.std.proofs.lemmas.List.{length-take, length-take-le, append-nil}
 use Rattle.std.proofs.KnownBytes.{Appends-kept}
-use Rattle.zre_outside.specs.Causes.{Rose}
 use Rattle.zre_outside.specs.Told.{Moves}
-use Rattle.zre_pump.specs.Meaning.{Meaning}
-use Rattle.zre_pump.specs.Turning.{Turned, Finishes}
 use Rattle.zre_pump.proofs.Reach.{Moves-trans, starts, goes_on, written_more, counted_more, Rose-since, finished, front_of_more}
 use Rattle.zre_pump.proofs.pumping.pump.Goals as goal
 

@@ -1,9 +1,6 @@
-use Rattle.std.proofs.Common.{◌≡◌, Some, None, refl, sym, ap, ◌∙◌, append-nil}
-use Rattle.std.specs.Prelude.{Option, option_map}
-use Rattle.zre_journal.specs.Asked.{HasFront}
+use Rattle.std.proofs.Common.{refl}
 use Rattle.zre_journal.specs.Events.{chronicle}
 use Rattle.zre_journal.specs.Links.{bodies, is_linked, replies, taken, front}
-use Rattle.zre_journal.specs.Peers.{Life, lives}
 use Rattle.zre_node.specs.Stands.{IsPeer}
 use Rattle.zre_node.proofs.Asking.{rows, whole_front}
 use Rattle.zre_node.proofs.Parting.{its_row, no_row}

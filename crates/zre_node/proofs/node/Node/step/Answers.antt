@@ -1,4 +1,4 @@
-use Rattle.std.proofs.Common.{◌≡◌, sym, ap, ◌∙◌}
+use Rattle.std.proofs.Common.{sym, ap, ◌∙◌}
 use Rattle.zre_journal.specs.Events.{chronicle}
 use Rattle.zre_node.specs.declared.effects.Effects.{Effects}
 use Rattle.zre_node.proofs.Stepping.{steps, took_nothing}

@@ -1,8 +1,8 @@
-use Rattle.std.proofs.Common.{◌≡◌, Some, None, sym, ap, ◌∙◌}
+use Rattle.std.proofs.Common.{Some, sym, ap, ◌∙◌}
 use Rattle.std.specs.Prelude.{Option, option_map}
 use Rattle.zre_journal.specs.Events.{chronicle}
 use Rattle.zre_journal.specs.Links.{bodies, is_linked, replies, taken, unsent}
-use Rattle.zre_journal.specs.Peers.{Life, lives}
+use Rattle.zre_journal.specs.Peers.{Life}
 use Rattle.zre_node.specs.Stands.{IsPeer}
 use Rattle.zre_node.proofs.Asking.{rows}
 use Rattle.zre_node.proofs.Parting.{its_row, no_row}

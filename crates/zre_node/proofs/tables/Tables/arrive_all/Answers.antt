@@ -1,4 +1,4 @@
-use Rattle.std.proofs.Common.{◌≡◌, ◌++◌, [], ◌∷◌, List, map, sym, subst}
+use Rattle.std.proofs.Common.{[], ◌∷◌, List, map, sym, subst}
 use Rattle.std.proofs.lemmas.List.{map-append}
 use Rattle.zre_mailbox.specs.Talk.{Said, Arrived}
 use Rattle.zre_mailbox.specs.declared.arrival.Arrival.{Arrival}

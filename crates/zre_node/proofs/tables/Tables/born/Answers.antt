@@ -1,4 +1,4 @@
-use Rattle.std.proofs.Common.{◌≡◌, ℕ, ◌+◌, ◌++◌, [], ◌∷◌, List, None, refl, sym, ap, ◌∙◌, nat_cmp}
+use Rattle.std.proofs.Common.{◌≡◌, ◌+◌, ◌++◌, [], ◌∷◌, None, refl, ap, ◌∙◌, nat_cmp}
 use Rattle.std.specs.BTreeMap.{insert_entry}
 use Rattle.zre_journal.specs.Peers.{births}
 use Rattle.zre_outside.specs.declared.act.Act.TheVariants as act

@@ -1,4 +1,4 @@
-use Rattle.std.proofs.Common.{◌≡◌, ℕ, ◌∷◌, max, ap, sym, ◌∙◌, subst}
+use Rattle.std.proofs.Common.{ℕ, ◌∷◌, max, ap, sym, ◌∙◌, subst}
 use Rattle.zre_journal.specs.Chronicle.{Comes}
 use Rattle.zre_node.specs.Stands.{Holds}
 use Rattle.zre_node.proofs.Coming.{quietly}

@@ -1,4 +1,4 @@
-use Rattle.std.proofs.Common.{◌≡◌, ◌≢◌, ℕ, ◌∷◌, List, max, ap, sym, ◌∙◌, subst}
+use Rattle.std.proofs.Common.{ℕ, ◌∷◌, max, ap, sym, ◌∙◌, subst}
 use Rattle.zre_journal.specs.Chronicle.{Comes}
 use Rattle.std.specs.BTreeMap.{BTreeMap}
 use Rattle.zre_node.specs.declared.connection.Connection.{Connection}

@@ -1,10 +1,9 @@
-use Rattle.std.proofs.Common.{◌≡◌, Some, None, refl, sym, ap, ◌∙◌, subst, IsSome, ◌++◌, [], ◌∷◌, ℕ, option_map}
-use Rattle.zre_journal.specs.Chronicle.{Ends, Beacons}
+use Rattle.std.proofs.Common.{◌≡◌, Some, refl, sym, ◌∙◌, subst, IsSome}
+use Rattle.zre_journal.specs.Chronicle.{Beacons}
 use Rattle.zre_journal.specs.Peers.{life_of, life}
 use Rattle.zre_beacon.specs.Beacon.{beacon_in}
-use Rattle.zre_peer.specs.declared.causes.Cause.TheVariants as cause
-use Rattle.zre_node.proofs.Datagram.{link_found, known_link, its_life, no_life, ends_it, renews_it, bears_it, leaves_it, no_beacon, welcome_is}
-use Rattle.zre_node.proofs.Many.{did_as, idle_did, silent_did}
+use Rattle.zre_node.proofs.Datagram.{link_found, known_link, its_life, no_life, ends_it, renews_it, bears_it, leaves_it, welcome_is}
+use Rattle.zre_node.proofs.Many.{idle_did, silent_did}
 use Rattle.zre_node.proofs.Parting.{nearly}
 use Rattle.zre_node.proofs.tables.Tables.datagram.Goals as goal
 

@@ -1,4 +1,4 @@
-use Rattle.std.proofs.Common.{◌≡◌, ◌++◌, [], ◌∷◌, take, refl, sym, ap, ◌∙◌, append-nil}
+use Rattle.std.proofs.Common.{[], ◌∷◌, take, refl, sym, ap, ◌∙◌, append-nil}
 use Rattle.zre_journal.specs.Chronicle.{Drops}
 use Rattle.zre_node.specs.declared.effects.Effects.{Effects}
 use Rattle.zre_node.proofs.Many.{did_by, one_more, all_done}

@@ -1,4 +1,4 @@
-use Rattle.std.proofs.Common.{◌≡◌, ◌++◌, [], ◌∷◌, not, ap, sym, ◌∙◌}
+use Rattle.std.proofs.Common.{[], ◌∷◌, not, ap, ◌∙◌}
 use Rattle.zre_mailbox.specs.Talk.{Fault}
 use Rattle.zre_peer.specs.declared.causes.Cause.TheVariants as cause
 use Rattle.zre_peer.specs.declared.causes.CloseWhy.TheVariants as close

@@ -1,8 +1,7 @@
-use Rattle.std.proofs.Common.{◌≡◌, ◌∙◌, ap, [], ◌∷◌, false, List, refl}
+use Rattle.std.proofs.Common.{◌∙◌, ap, [], ◌∷◌, false}
 use Rattle.zre_msg.specs.declared.message.Body.{Body}
-use Rattle.zre_values.specs.declared.peer_id.PeerId.{PeerId}
 use Rattle.zre_journal.specs.declared.config.Config.{Config}
-use Rattle.zre_link.specs.Link.{Sending, link_after}
+use Rattle.zre_link.specs.Link.{link_after}
 use Rattle.zre_node.proofs.Copying.{same_hello}
 use Rattle.zre_node.proofs.tables.Tables.greeted_link.Goals as goal
 

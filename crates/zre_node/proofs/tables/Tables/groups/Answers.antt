@@ -1,4 +1,4 @@
-use Rattle.std.proofs.Common.{◌≡◌, ◌++◌, ◌∷◌, [], ap, sym, ◌∙◌, List, ℕ, Some}
+use Rattle.std.proofs.Common.{◌++◌, ◌∷◌, [], ap, sym, ◌∙◌, List, ℕ, Some}
 use Rattle.zre_node.proofs.Copying.{take_next}
 use Rattle.zre_node.proofs.tables.Tables.groups.Goals as goal
 

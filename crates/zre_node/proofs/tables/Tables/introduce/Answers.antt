@@ -1,8 +1,7 @@
-use Rattle.std.proofs.Common.{◌≡◌, Some, nat_cmp, ◌∙◌, ap}
+use Rattle.std.proofs.Common.{Some, nat_cmp, ◌∙◌, ap}
 use Rattle.std.specs.BTreeMap.{is_at}
 use Rattle.std.specs.Map.{set_value}
 use Rattle.zre_node.specs.declared.connection.Connection.{Connection}
-use Rattle.zre_node.specs.Stands.{kept_conn}
 use Rattle.zre_node.proofs.Ending.{row_conn, conn_row}
 use Rattle.zre_node.proofs.Shaking.{introduced}
 use Rattle.zre_node.proofs.tables.Tables.introduce.Goals as goal

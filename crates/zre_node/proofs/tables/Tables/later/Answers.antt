@@ -1,16 +1,12 @@
-use Rattle.std.proofs.Common.{◌≡◌, Bool, ◌++◌, [], ◌∷◌, Some, Ok, Err, refl, sym, ap, ◌∙◌, subst, if◌then◌else◌}
+use Rattle.std.proofs.Common.{◌≡◌, Bool, ◌++◌, [], ◌∷◌, refl, sym, ap, ◌∙◌, if◌then◌else◌}
 use Rattle.zre_msg.specs.declared.message.Body.TheVariants as body
-use Rattle.zre_peer.specs.Runs.{fault_of}
-use Rattle.zre_peer.specs.declared.event.Event.{Event}
-use Rattle.zre_peer.specs.declared.peer_run.RunFault.{RunFault}
 use Rattle.zre_peer.specs.declared.peer_run.RunFault.TheVariants as fault
-use Rattle.zre_journal.specs.Chronicle.{Counts, Ends}
+use Rattle.zre_journal.specs.Chronicle.{Counts}
 use Rattle.zre_journal.specs.Happens.{push}
 use Rattle.zre_journal.specs.Peers.{counted, life}
 use Rattle.zre_journal.proofs.Kept.{run_known}
-use Rattle.zre_node.specs.declared.effects.Effects.{Effects}
 use Rattle.zre_node.specs.Stands.{IsPeer, is_ping}
-use Rattle.zre_node.proofs.Counting.{its, some_counted, row_runs, counts, breaks, its_events, counted_did, counts_it, refuses_it, cause_by, ended_from}
+use Rattle.zre_node.proofs.Counting.{its, some_counted, row_runs, counts, breaks, its_events, counted_did, counts_it, ended_from}
 use Rattle.zre_node.proofs.Ending.{on_ok}
 use Rattle.zre_node.proofs.Many.{did_as, did_then}
 use Rattle.zre_node.proofs.Parting.{no_row, not_missing}

@@ -1,12 +1,12 @@
-use Rattle.std.proofs.Common.{◌≡◌, ℕ, ◌≤◌, ◌<◌, ◌++◌, [], ◌∷◌, List, refl, sym, ap, ◌∙◌, nat_cmp, subst, append-nil}
+use Rattle.std.proofs.Common.{ℕ, ◌≤◌, ◌<◌, ◌++◌, [], ◌∷◌, List, refl, sym, ap, ◌∙◌, nat_cmp, subst, append-nil}
 use Rattle.std.specs.BTreeMap.{insert_entry}
 use Rattle.zre_journal.specs.Chronicle.{Opens, TurnsAway}
 use Rattle.zre_outside.specs.declared.act.Act.TheVariants as act
 use Rattle.zre_node.specs.declared.connection.Connection.{Connection}
 use Rattle.zre_node.specs.declared.effects.Effects.{Effects}
 use Rattle.zre_node.proofs.Ending.{on_ok}
-use Rattle.zre_node.proofs.Many.{did_as, did_by, idle_did}
-use Rattle.zre_node.proofs.Opening.{open_count, opens, turns_away, not_new, too_many, has_room}
+use Rattle.zre_node.proofs.Many.{did_as, did_by}
+use Rattle.zre_node.proofs.Opening.{open_count, opens, turns_away, too_many, has_room}
 use Rattle.zre_node.proofs.tables.Tables.opened.Goals as goal
 
 pub returns-then-len-ge-CONNECTIONS : goal.returns-then-len-ge-CONNECTIONS

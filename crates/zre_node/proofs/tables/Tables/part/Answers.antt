@@ -1,4 +1,4 @@
-use Rattle.std.proofs.Common.{◌≡◌, refl, sym, ap, ◌∙◌, ◌++◌, Ok, Err, OnOk, Some}
+use Rattle.std.proofs.Common.{ap, ◌∙◌, ◌++◌}
 use Rattle.zre_journal.specs.Peers.{counted}
 use Rattle.zre_journal.specs.Done.{close_link}
 use Rattle.zre_node.specs.declared.effects.Effects.{Effects}

@@ -1,4 +1,4 @@
-use Rattle.std.proofs.Common.{◌≡◌, [], ◌∷◌, refl, ap, ◌∙◌}
+use Rattle.std.proofs.Common.{[], ◌∷◌, refl}
 use Rattle.zre_journal.specs.Chronicle.{Puts}
 use Rattle.zre_journal.specs.Links.{bodies, is_linked, replies, taken}
 use Rattle.zre_journal.specs.Peers.{life}

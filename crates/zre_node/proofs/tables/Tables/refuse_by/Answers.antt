@@ -1,4 +1,4 @@
-use Rattle.std.proofs.Common.{◌≡◌, ◌≢◌, [], ◌∷◌, sym, ◌∙◌}
+use Rattle.std.proofs.Common.{◌≡◌, ◌≢◌, sym, ◌∙◌}
 use Rattle.zre_peer.specs.declared.peer_run.RunFault.TheVariants as fault
 use Rattle.zre_node.proofs.Starting.{first_refused, on_did_as}
 use Rattle.zre_node.proofs.tables.Tables.refuse_by.Goals as goal

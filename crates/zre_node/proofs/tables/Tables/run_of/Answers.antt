@@ -1,4 +1,4 @@
-use Rattle.std.proofs.Common.{◌≡◌, Some, None, sym, ap, ◌∙◌}
+use Rattle.std.proofs.Common.{ap, ◌∙◌}
 use Rattle.zre_node.specs.declared.connection.Connection.{Connection}
 use Rattle.zre_node.proofs.Ending.{row_conn, conn_row}
 use Rattle.zre_node.proofs.tables.Tables.run_of.Goals as goal

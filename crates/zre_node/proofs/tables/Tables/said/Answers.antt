@@ -1,5 +1,5 @@
-use Rattle.std.proofs.Common.{◌≡◌, ◌++◌, List, map, ap, sym, ◌∙◌, subst}
-use Rattle.zre_mailbox.specs.Talk.{Said, Arrived, fault_said}
+use Rattle.std.proofs.Common.{List, map, subst}
+use Rattle.zre_mailbox.specs.Talk.{Arrived, fault_said}
 use Rattle.zre_mailbox.specs.declared.arrival.Arrival.{Arrival}
 use Rattle.zre_journal.specs.Chronicle.{in_turn}
 use Rattle.zre_journal.specs.Happens.{at_place}

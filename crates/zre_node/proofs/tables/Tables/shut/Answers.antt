@@ -1,4 +1,4 @@
-use Rattle.std.proofs.Common.{◌≡◌, ◌++◌, [], ◌∷◌, refl, sym, ◌∙◌}
+use Rattle.std.proofs.Common.{[], ◌∷◌, refl, sym, ◌∙◌}
 use Rattle.zre_journal.specs.Chronicle.{IsShut}
 use Rattle.zre_journal.specs.Connections.{runs}
 use Rattle.zre_journal.specs.Happens.{end_of_run}

@@ -1,4 +1,4 @@
-use Rattle.std.proofs.Common.{◌≡◌, refl, ◌∙◌, ap, sym, not}
+use Rattle.std.proofs.Common.{◌∙◌, ap, not}
 use Rattle.zre_node.specs.declared.connection.Connection.{Connection}
 use Rattle.zre_node.proofs.Ending.{no_conn, row_conn, live_by, not_live}
 use Rattle.zre_node.proofs.tables.Tables.standing.Goals as goal

@@ -1,4 +1,4 @@
-use Rattle.std.proofs.Common.{◌≡◌, [], ◌∷◌, Some, refl, sym, ◌∙◌}
+use Rattle.std.proofs.Common.{Some, refl, sym}
 use Rattle.zre_node.specs.Stands.{IsPeer, kept_conn}
 use Rattle.zre_node.proofs.Ending.{conn_row}
 use Rattle.zre_node.proofs.Parting.{peer_of}

@@ -2,7 +2,6 @@ use Rattle.std.proofs.Common.{◌≡◌, ℕ, List, Some, [], ◌∷◌, ◌++�
 use Rattle.zre_values.specs.declared.peer_id.PeerId.{PeerId}
 use Rattle.zre_peer.specs.declared.event.Event.{Event}
 use Rattle.zre_journal.specs.Chronicle.{Starts}
-use Rattle.zre_journal.specs.Connections.{identity}
 use Rattle.zre_journal.specs.Peers.{life}
 use Rattle.zre_journal.specs.Told.{told}
 use Rattle.zre_peer.specs.Runs.{events_of}

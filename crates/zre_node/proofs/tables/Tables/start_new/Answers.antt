@@ -1,5 +1,5 @@
-use Rattle.std.proofs.Common.{◌≡◌, ℕ, ◌+◌, Some, [], ◌∷◌, ◌++◌, refl, sym, ap, ◌∙◌, subst}
-use Rattle.zre_journal.specs.Chronicle.{Mark, Starts, after}
+use Rattle.std.proofs.Common.{◌≡◌, ℕ, ◌+◌, Some, [], ◌∷◌, ◌++◌, sym, ◌∙◌, subst}
+use Rattle.zre_journal.specs.Chronicle.{Starts, after}
 use Rattle.zre_journal.specs.Happens.{birth}
 use Rattle.zre_journal.specs.Peers.{births, life}
 use Rattle.zre_journal.proofs.Kept.{newborn}

@@ -1,4 +1,4 @@
-use Rattle.std.proofs.Common.{◌≡◌, [], ◌∷◌, ◌∙◌}
+use Rattle.std.proofs.Common.{◌∙◌}
 use Rattle.zre_node.proofs.Starting.{first_starts, nowhere_starts, on_did_as}
 use Rattle.zre_node.proofs.tables.Tables.start_nowhere.Goals as goal
 

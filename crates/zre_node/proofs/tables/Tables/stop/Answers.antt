@@ -1,10 +1,10 @@
-use Rattle.std.proofs.Common.{◌≡◌, ℕ, ◌++◌, ◌∷◌, [], refl, sym, ap, ◌∙◌, subst, List}
+use Rattle.std.proofs.Common.{ℕ, ◌++◌, ◌∷◌, [], sym, ap, ◌∙◌, subst, List}
 use Rattle.zre_beacon.specs.Beacon.{beacon_octets}
 use Rattle.zre_outside.specs.declared.act.Act.TheVariants as act
 use Rattle.zre_peer.specs.declared.event.Event.TheVariants as event
 use Rattle.zre_journal.specs.declared.config.Config.{Config}
 use Rattle.zre_node.specs.declared.effects.Effects.{Effects}
-use Rattle.zre_node.specs.Stands.{AreKnown, RunNone}
+use Rattle.zre_node.specs.Stands.{AreKnown}
 use Rattle.zre_node.proofs.Stopping.{links_are, numbers_are, all_known, none_known_by, run_none, stops}
 use Rattle.zre_node.proofs.tables.Tables.stop.Goals as goal
 

@@ -1,10 +1,7 @@
-use Rattle.std.proofs.Common.{◌≡◌, ◌∷◌, sym, ap, ◌∙◌, subst}
-use Rattle.zre_outside.specs.declared.entry.Input.{Input}
+use Rattle.std.proofs.Common.{◌∷◌, sym, ◌∙◌}
 use Rattle.zre_outside.specs.declared.entry.Input.TheVariants as input
 use Rattle.zre_journal.specs.Chronicle.{Comes}
-use Rattle.zre_journal.specs.Done.{names}
 use Rattle.zre_journal.specs.Happens.{at_input}
-use Rattle.zre_node.specs.Stands.{Did}
 use Rattle.zre_node.proofs.Ending.{on_ok}
 use Rattle.zre_node.proofs.Many.{did_as}
 use Rattle.zre_node.proofs.Taking.{piece_marks, unnamed_piece, took}
