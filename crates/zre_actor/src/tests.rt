@@ -4,7 +4,9 @@ ghost use Rattle.std.specs.Prelude.{◌≡◌, ◌+◌, ◌<◌, ◌^◌, ◌++�
 ghost use Rattle.zre_actor.specs.Ready.{IsReady};
 ghost use Rattle.zre_actor.specs.Passes.{IsActorOf, IsCallerOf, IsTakerOf, AreCallersOf, given_of, room_of, unused_by, ending_of, ended, how_many, last_of};
 
-use crate::{ActorPass, CallerPass, CallerPasses, Ending, Full, Made, Pipes, TakerPass, Told, Worked};
+use crate::{
+    ActorPass, CallerPass, CallerPasses, Ending, Full, Made, Pipes, TakerPass, Told, Worked,
+};
 use std::alloc::Global;
 use std::sync::Wait;
 use std::test::Fail;
@@ -43,11 +45,7 @@ fn put_again<R: Wait + Copy>(
 }
 
 /// Takes events until Last. How often the node told that it stopped, and the ending.
-fn take_all<R: Wait + Copy>(
-    rt: R,
-    pipes: &Pipes,
-    mut taker: TakerPass,
-) -> (TakerPass, u64, Ending)
+fn take_all<R: Wait + Copy>(rt: R, pipes: &Pipes, mut taker: TakerPass) -> (TakerPass, u64, Ending)
     requires pipes { IsTakerOf pipes.now taker }
     requires open { last_of taker ≡ None }
     ensures pipes { IsTakerOf pipes.now result.0 }
