@@ -56,8 +56,7 @@ pub did_more : (g : Config) (J : List Entry) (acts : List Act) (a : Act) (d : De
     → (es : List Deed) × AreDeeds g (beside J (acts ++ a ∷ [])) es × (told'' ≡ option_map (went [] 0 [] es) told)
 did_more g J acts a d ds told told' told'' old is one new =
     let both : AreDeeds g (beside J acts ++ (J, a) ∷ []) (ds ++ d ∷ []) = AreDeeds-append g (beside J acts) ((J, a) ∷ []) ds (d ∷ []) old (one, tt) in
-    let along : beside J (acts ++ a ∷ []) ≡ beside J acts ++ (J, a) ∷ [] = beside-append J acts (a ∷ []) in
-    (
+    let along : beside J (acts ++ a ∷ []) ≡ beside J acts ++ (J, a) ∷ [] = beside-append J acts (a ∷ []) in (
       ds ++ d ∷ [],
       subst (λ xs. AreDeeds g xs (ds ++ d ∷ [])) (sym along) both,
       new ∙ ap (option_map (with_deed d)) is ∙ one_deed (option_map (went [] 0 [] ds) told) d ∙ went-went told [] [] 0 0 [] [] ds (d ∷ []),
@@ -84,7 +83,7 @@ after_entry s t u t' c e es n h ds more is given done =
     done ∙ ap (option_map (went [] 0 [] more)) (given ∙ one_entry t c e ∙ ap (option_map (went (e ∷ []) 0 (option_to_list c) [])) is ∙ went-went s es (e ∷ []) n 0 h (option_to_list c) ds [])
     ∙ went-went s (es ++ e ∷ []) [] (n + 0) 0 (h ++ option_to_list c) [] (ds ++ []) more
     ∙ same_went s ((es ++ e ∷ []) ++ []) (es ++ e ∷ []) (n + 0 + 0) n ((h ++ option_to_list c) ++ []) (h ++ option_to_list c) ((ds ++ []) ++ more) (ds ++ more)
-        (append-nil (es ++ e ∷ [])) (omega arith) (append-nil (h ++ option_to_list c)) (ap (λ x. x ++ more) (append-nil ds))
+    (append-nil (es ++ e ∷ [])) (omega arith) (append-nil (h ++ option_to_list c)) (ap (λ x. x ++ more) (append-nil ds))
 
 -- ---- the acts of entries
 

@@ -377,7 +377,7 @@ module _ (g : Config) (K : List Entry) (keep : Bool) (limit : ℕ) (s : Scene) w
     unput_ends e u ended how keeps going = ⊎_elim
         (λ (none : ended ≡ ending.OutOfMemory). subst (λ x. Ends x (has_stopped (chronicle g (K ++ k.entries))) (turns + 1) limit keep s u (e ∷ []) []) (sym none) (omega arith, omega arith))
         (λ (fails : (ended ≡ ending.RecordFault) × Rose t.record_faults u.record_faults). subst (λ x. Ends x (has_stopped (chronicle g (K ++ k.entries))) (turns + 1) limit keep s u (e ∷ []) []) (sym fails.0)
-            (going, refl, refl, keeps, rose_later s.record_faults t.record_faults u.record_faults k.record_later fails.1))
+        (going, refl, refl, keeps, rose_later s.record_faults t.record_faults u.record_faults k.record_later fails.1))
         how
 
     -- the world found no memory for an act
@@ -413,15 +413,15 @@ module _ (g : Config) (K : List Entry) (keep : Bool) (limit : ℕ) (s : Scene) w
         → Broke g (K ++ k.entries) e keep told u.told t.kept u.kept t.record_faults u.record_faults n' ended → IsWork g K keep limit s u n' ended
     broke e told u n' ended w less raised going how = ⊎_elim
         (λ (x : IsUnput g (K ++ k.entries) e keep told u.told t.kept u.kept t.record_faults u.record_faults n' ended).
-            given_up e told u n' ended w less x.is_told raised (inl x.stands)
-            (λ i. record { part = x.part; rest = x.rest; is_kept = Appends-trans s.kept t.kept u.kept (lines k.entries) x.part (k.are_kept i) x.is_kept; is_part = one_line e ∙ x.is_part })
-            (unput_ends e u ended x.ends x.keeps going))
+        given_up e told u n' ended w less x.is_told raised (inl x.stands)
+        (λ i. record { part = x.part; rest = x.rest; is_kept = Appends-trans s.kept t.kept u.kept (lines k.entries) x.part (k.are_kept i) x.is_kept; is_part = one_line e ∙ x.is_part })
+        (unput_ends e u ended x.ends x.keeps going))
         (λ rest. ⊎_elim
-            (λ (x : IsUnstepped e keep told u.told t.kept u.kept n' ended).
-                given_up e told u n' ended w less x.is_told raised (inr (x.spent, x.ends, refl)) (whole_line e u x.is_kept)
-                (subst (λ y. Ends y (has_stopped (chronicle g (K ++ k.entries))) (turns + 1) limit keep s u (e ∷ []) []) (sym x.ends) (omega arith, omega arith)))
-            (λ (x : IsUndone g (K ++ k.entries) e keep told u.told t.kept u.kept n' ended). left_undone e told u n' ended w less raised x)
-            rest)
+        (λ (x : IsUnstepped e keep told u.told t.kept u.kept n' ended).
+        given_up e told u n' ended w less x.is_told raised (inr (x.spent, x.ends, refl)) (whole_line e u x.is_kept)
+        (subst (λ y. Ends y (has_stopped (chronicle g (K ++ k.entries))) (turns + 1) limit keep s u (e ∷ []) []) (sym x.ends) (omega arith, omega arith)))
+        (λ (x : IsUndone g (K ++ k.entries) e keep told u.told t.kept u.kept n' ended). left_undone e told u n' ended w less raised x)
+        rest)
         how
 
     -- the world's refusal is the ending

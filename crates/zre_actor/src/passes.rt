@@ -7,9 +7,9 @@ ghost use Rattle.zre_actor.specs.Commands.{IsActor, IsCaller};
 
 use crate::rules::{Commands, Heard, Sends, Takes};
 use crate::views::View;
-use zre_outside::Command;
 use crossbeam_queue::Pass;
 use std::alloc::Global;
+use zre_outside::Command;
 
 mod actor;
 mod callers;

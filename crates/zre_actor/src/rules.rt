@@ -2,12 +2,12 @@
 ghost use Rattle.std.specs.Prelude.{◌≡◌, ◌++◌, ◌∷◌, []};
 ghost use Rattle.zre_actor.specs.Commands.{placed, first, without_one, one_caller, joined, nobody, wrote, Reads, Accounts};
 
-use crate::views::{Placed, Hearing, View};
 use crate::Told;
-use zre_outside::Command;
+use crate::views::{Hearing, Placed, View};
 use crossbeam_channel::{RuledReceiver, RuledSender, protocol as channel};
 use crossbeam_queue::RuledArrayQueue;
 use crossbeam_queue::protocol::{Join, Lesson, Outcome, Protocol, Split};
+use zre_outside::Command;
 
 pub(crate) struct InOrder;
 

@@ -4,7 +4,9 @@ ghost use Rattle.std.specs.Prelude.{◌≡◌, ◌+◌, ◌<◌, ◌^◌, ◌++�
 ghost use Rattle.zre_actor.specs.Ready.{IsReady};
 ghost use Rattle.zre_actor.specs.Passes.{IsActorOf, IsCallerOf, IsTakerOf, AreCallersOf, given_of, room_of, unused_by, ending_of, ended, how_many, last_of};
 
-use crate::{ActorPass, CallerPass, CallerPasses, Ending, Full, Made, Pipes, TakerPass, Told, Worked};
+use crate::{
+    ActorPass, CallerPass, CallerPasses, Ending, Full, Made, Pipes, TakerPass, Told, Worked,
+};
 use std::alloc::Global;
 use std::sync::Wait;
 use std::test::Fail;
@@ -43,11 +45,7 @@ fn put_again<R: Wait + Copy>(
 }
 
 /// Takes events until Last. How often the node told that it stopped, and the ending.
-fn take_all<R: Wait + Copy>(
-    rt: R,
-    pipes: &Pipes,
-    mut taker: TakerPass,
-) -> (TakerPass, u64, Ending)
+fn take_all<R: Wait + Copy>(rt: R, pipes: &Pipes, mut taker: TakerPass) -> (TakerPass, u64, Ending)
     requires pipes { IsTakerOf pipes.now taker }
     requires open { last_of taker ≡ None }
     ensures pipes { IsTakerOf pipes.now result.0 }
@@ -174,7 +172,7 @@ struct Stand {
     groups: (Octets, Octets),
 }
 
-fn stand(alloc: Global) -> Result<Option<Stand>, OutOfMemory>
+fn make_stand(alloc: Global) -> Result<Option<Stand>, OutOfMemory>
     ensures { IfOk result (λ o. IfSome o (λ s. IsReady s.pipes s.actor s.callers s.first s.second s.taker)) }
 {
     let Some(node) = node_of(alloc)? else {
@@ -329,10 +327,10 @@ fn side_by_side<R: Threads + Wait + Sync + Send + Copy>(
 #[test]
 fn two_callers_and_the_actor_one_by_one(rt: HostRuntime) -> Result<(), Fail> {
     for absorbs in [false, true] {
-        if let Some(s) = stand(rt.alloc())? {
+        if let Some(s) = make_stand(rt.alloc())? {
             assert_eq!(rt; one_by_one(rt, s, 100, absorbs), (1, Ending::Stopped, 0));
         }
-        if let Some(s) = stand(rt.alloc())? {
+        if let Some(s) = make_stand(rt.alloc())? {
             assert_eq!(rt; one_by_one(rt, s, 1, absorbs), (0, Ending::TooLong, 3));
         }
     }
@@ -341,7 +339,7 @@ fn two_callers_and_the_actor_one_by_one(rt: HostRuntime) -> Result<(), Fail> {
 
 #[test]
 fn two_callers_the_actor_and_the_taker_side_by_side(rt: HostRuntime) -> Result<(), Fail> {
-    if let Some(s) = stand(rt.alloc())? {
+    if let Some(s) = make_stand(rt.alloc())? {
         let (stops, ending, left) = side_by_side(rt, s, 1000000000000);
         assert_eq!(rt; (stops, ending), (1, Ending::Stopped));
         assert!(rt; left <= 2);

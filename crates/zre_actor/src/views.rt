@@ -1,8 +1,8 @@
 //! What a pass knows. No value of these types is made.
 use crate::Ending;
+use std::collections::LinkedList;
 use zre_outside::Command;
 use zre_peer::Event;
-use std::collections::LinkedList;
 
 /// A command as it was put: under which number, and which numbers its pass had absorbed by then.
 pub struct Placed {

@@ -29,12 +29,7 @@ pub struct ScriptWorld {
 impl ScriptWorld {
     ghost use Rattle.zre_outside.specs.Scripts.{script_left, reading_of, seen_by, has_looked, row_of, start_fails_of, next_fails_of, starts_of, nexts_of, world_faults_of};
 
-    pub fn new(
-        alloc: Global,
-        script: Script,
-        start_fails: Vec<u64>,
-        next_fails: Vec<u64>,
-    ) -> Self
+    pub fn new(alloc: Global, script: Script, start_fails: Vec<u64>, next_fails: Vec<u64>) -> Self
         ensures left { script_left result ≡ script }
         ensures reading { reading_of result ≡ 0 }
         ensures looked { has_looked result ≡ false }

@@ -4,8 +4,8 @@
 ghost use Rattle.std.specs.Prelude.{◌≡◌, Option, Some, None, IfSome, MatchResult};
 ghost use Rattle.zre_outside.specs.Spawners.{job_of};
 
-use crate::running::{Running, Works};
 use crate::Job;
+use crate::running::{Running, Works};
 use crossbeam_channel::{Receiver, bounded};
 use std::alloc::Global;
 use std::marker::{Brand, PhantomData};
@@ -31,20 +31,21 @@ pub(crate) struct Sent<J: Drop, B: Known<J>> {
 }
 
 /// Starts a job in a thread of its own, or hands it back.
-pub(crate) fn start_job<
-    R: Threads + Wait + Copy + Send + 'static,
-    J: Job,
->(rt: R, alloc: Global, job: J) -> Result<Running<J>, J>
+pub(crate) fn start_job<R: Threads + Wait + Copy + Send + 'static, J: Job>(
+    rt: R,
+    alloc: Global,
+    job: J,
+) -> Result<Running<J>, J>
     ensures { MatchResult result (λ r. job_of r ≡ job) (λ j. j ≡ job) }
 {
     start_known::<R, J, Brand>(rt, alloc, job)
 }
 
-fn start_known<
-    R: Threads + Wait + Copy + Send + 'static,
-    J: Job,
-    B: Known<J> + Send + 'static,
->(rt: R, alloc: Global, job: J) -> Result<Running<J>, J>
+fn start_known<R: Threads + Wait + Copy + Send + 'static, J: Job, B: Known<J> + Send + 'static>(
+    rt: R,
+    alloc: Global,
+    job: J,
+) -> Result<Running<J>, J>
     requires { B.the ≡ Some job }
     ensures { MatchResult result (λ r. job_of r ≡ job) (λ j. j ≡ job) }
 {
@@ -72,11 +73,10 @@ fn start_known<
 }
 
 // Runs the job that comes.
-fn run_sent<
-    R: Threads + Wait + Copy + Send + 'static,
-    J: Job,
-    B: Known<J>,
->(rt: R, receiver: Receiver<Sent<J, B>>) -> J::Out
+fn run_sent<R: Threads + Wait + Copy + Send + 'static, J: Job, B: Known<J>>(
+    rt: R,
+    receiver: Receiver<Sent<J, B>>,
+) -> J::Out
     ensures { IfSome B.the (λ other. J.means other result) }
 {
     for _ in rt.forever() {

@@ -94,7 +94,10 @@ fn a_script_waits_at_a_look_and_ends_behind_its_last_item(rt: HostRuntime) -> Re
     assert_eq!(rt; next_of(&mut world, None), Ok(None));
     assert_eq!(rt; next_of(&mut world, None), Err(NextFault::Failed));
     if let Ok(None) = next_of(&mut world, None) {
-        assert_eq!(rt; next_of(&mut world, Some(Command::Quit)), Ok(Some((7, false, true))));
+        assert_eq!(rt;
+            next_of(&mut world, Some(Command::Quit)),
+            Ok(Some((7, false, true)))
+        );
     }
     assert_eq!(rt; next_of(&mut world, None), Ok(Some((7, false, false))));
     Ok(())

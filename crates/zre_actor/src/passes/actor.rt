@@ -5,9 +5,9 @@ ghost use Rattle.zre_actor.specs.Passes.{IsActorOf, popped_by, unused_by, raised
 use super::{ActorPass, Pipes};
 use crate::rules::Pops;
 use crate::{Ending, Told};
+use std::sync::Wait;
 use zre_outside::Command;
 use zre_peer::Event;
-use std::sync::Wait;
 
 impl Pipes {
     // A command, or nothing where the pipe was empty at one moment of the call.

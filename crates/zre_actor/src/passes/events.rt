@@ -6,8 +6,8 @@ ghost use Rattle.zre_actor.specs.Events.{sent};
 ghost use Rattle.zre_actor.specs.Passes.{IsTakerOf, last_of, IsTold};
 
 use super::{Pipes, TakerPass};
-use crate::rules::{Heard, Hears, Raises};
 use crate::Told;
+use crate::rules::{Heard, Hears, Raises};
 use std::sync::Wait;
 
 impl Pipes {

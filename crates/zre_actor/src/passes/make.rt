@@ -5,13 +5,13 @@ ghost use Rattle.zre_actor.specs.Passes.{IsCallerOf, IsActorOf, IsTakerOf, AreCa
 ghost use Rattle.zre_actor.specs.Commands.{row, without_one, one_caller};
 
 use super::{ActorPass, CallerPass, CallerPasses, Made, Pipes, TakerPass};
+use crate::Told;
 use crate::rules::{Commands, Cut, Ends, EventsInOrder};
 use crate::views::{Hearing, View};
-use crate::Told;
-use zre_outside::Command;
 use crossbeam_channel::bounded_with;
 use crossbeam_queue::Pass;
 use std::alloc::Global;
+use zre_outside::Command;
 use zre_values::OutOfMemory;
 
 // How many commands, or events, a pipe holds.

@@ -5,8 +5,8 @@ ghost use Rattle.zre_actor.specs.Passes.{IsCallerOf, number, ended, put_by, Rais
 
 use super::{CallerPass, Full, Pipes};
 use crate::rules::{Puts, TakeIn};
-use zre_outside::Command;
 use std::sync::Wait;
+use zre_outside::Command;
 
 impl Pipes {
     /// Puts a command at the end of the pipe. It comes back only where the pipe held as many as it may at one moment of the
@@ -29,7 +29,10 @@ impl Pipes {
             mut commands,
             fulls,
         } = pass;
-        match self.commands.push_as::<Puts, R>(&rt, &mut commands, command) {
+        match self
+            .commands
+            .push_as::<Puts, R>(&rt, &mut commands, command)
+        {
             Ok(()) => Ok(CallerPass { commands, fulls }),
             Err(command) => Err(Full {
                 pass: CallerPass {

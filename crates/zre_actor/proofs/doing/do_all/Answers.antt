@@ -31,11 +31,11 @@ returns-then-not-do_one-clause-done g c = λ f J stands. (let old = c.loop-act.i
 pub returns-clause-done : goal.returns-clause-done
 returns-clause-done g c = λ f J stands. (let old = c.loop-act.invariant.done f J stands in
     let all = take_all c.loop-act.act-index c.args.acts.now (omega (arith, c.loop-act-test.false)) in record {
-  did = take c.loop-act.act-index c.args.acts.now;
-  undone = [];
-  deeds = old.0;
-  are_acts = sym all ∙ sym (append-nil (take c.loop-act.act-index c.args.acts.now));
-  are_deeds = old.1;
-  is_told = old.2;
-  all_done = λ _. refl;
-})
+      did = take c.loop-act.act-index c.args.acts.now;
+      undone = [];
+      deeds = old.0;
+      are_acts = sym all ∙ sym (append-nil (take c.loop-act.act-index c.args.acts.now));
+      are_deeds = old.1;
+      is_told = old.2;
+      all_done = λ _. refl;
+    })

@@ -41,12 +41,19 @@ returns-in-Err-clause-work g c = λ f K here. (
     let k = l.invariant.running f K here in
     let going = sym (c.stopped.ensures f (K ++ k.entries) k.node) ∙ c.if-stopped.false in
     let refuses : working.Refuses f K c.args.keep c.args.limit s l.turn t l.node l.command k c.in-Err.fault u = record {
-      told = c.in-Err.ensures.refused.0; looked = c.in-Err.ensures.refused.1; popped = refl; raised = refl; empties = refl; kept = refl;
-      rose = λ e. c.in-Err.ensures.failed (ap Err e); world_later = c.in-Err.ensures.later; record_same = refl;
+      told = c.in-Err.ensures.refused.0;
+      looked = c.in-Err.ensures.refused.1;
+      popped = refl;
+      raised = refl;
+      empties = refl;
+      kept = refl;
+      rose = λ e. c.in-Err.ensures.failed (ap Err e);
+      world_later = c.in-Err.ensures.later;
+      record_same = refl;
     } in
     working.handed_back f K c.args.keep c.args.limit s u _ l.node _ (world_ending c.in-Err.fault) _
     (working.refused_ends f K c.args.keep c.args.limit s l.turn u l.node l.command (working.refused f K c.args.keep c.args.limit s l.turn t l.node l.command k c.in-Err.fault u refuses) c.in-Err.fault c.loop-turn-test.true
-        (λ e. working.rose_later s.world_faults t.world_faults u.world_faults k.world_later (refuses.rose e)) going)
+    (λ e. working.rose_later s.world_faults t.world_faults u.world_faults k.world_later (refuses.rose e)) going)
     (λ i. record { told = w.told (same.0 i); looked = w.looked (same.0 i); world_faults = w.faults (same.0 i); kept = r.kept (same.2 i); record_faults = r.faults (same.2 i); popped = p.0 i; raised = p.1 i; empties = p.2 i })
     same.1 (same.3 ∙ c.ending_by.ensures))
 
@@ -61,11 +68,16 @@ returns-in-Err-take_entry-clause-work g c = λ f K here. (
     let going = sym (c.stopped.ensures f (K ++ k.entries) k.node) ∙ c.if-stopped.false in
     let facts = subst (λ (a : Turn). IsTurn l.command a × (w.told x ≡ option_map (after_turn l.command a) (w.told l.world)) × (w.looked x ≡ is_look a)) c.in-Entry.is (c.in-Ok.ensures.turn, c.in-Ok.ensures.told, c.in-Ok.ensures.looked) in
     let gives : working.Gives f K c.args.keep c.args.limit s l.turn t l.node l.command k c.in-Entry.entry (w.told x) u = record {
-      given = facts.1; looked = took.world.0 ∙ facts.2; popped = refl; empties = refl; world_later = omega (arith, c.in-Ok.ensures.later, took.world.1); record_later = took.later;
+      given = facts.1;
+      looked = took.world.0 ∙ facts.2;
+      popped = refl;
+      empties = refl;
+      world_later = omega (arith, c.in-Ok.ensures.later, took.world.1);
+      record_later = took.later;
     } in
     working.handed_back f K c.args.keep c.args.limit s u _ z.node _ c.in-Err-take_entry.ending _
     (working.broke f K c.args.keep c.args.limit s l.turn t l.node l.command k c.in-Entry.entry (w.told x) u z.node c.in-Err-take_entry.ending gives c.loop-turn-test.true refl going
-        (c.in-Err-take_entry.ensures.broke f (K ++ k.entries) k.node))
+    (c.in-Err-take_entry.ensures.broke f (K ++ k.entries) k.node))
     (λ i. record { told = w.told (same.0 i); looked = w.looked (same.0 i); world_faults = w.faults (same.0 i); kept = r.kept (same.2 i); record_faults = r.faults (same.2 i); popped = p.0 i; raised = p.1 i; empties = p.2 i })
     same.1 same.3)
 
@@ -101,9 +113,9 @@ loop-turn-preserved g c =
                 let going = sym (c.stopped.ensures f (K ++ k.entries) k.node) ∙ c.if-stopped.false in
                 let looks : working.Looks f K c.args.keep c.args.limit s l.turn t l.node l.command k u = record { told = facts.1; looked = facts.2; raised = m.pop.ensures.events.0; kept = refl; world_later = c.in-Ok.ensures.later; record_same = refl } in
                 working.looked_again f K c.args.keep c.args.limit s l.turn t l.node l.command k u m.pop.result.1 looks
-                    (working.pops l.pass m.pop.result.0 m.pop.result.1 (w.told l.world) (w.told x) (w.looked l.world) (w.looked x) (w.faults l.world) (w.faults x) (r.kept l.rec) (r.faults l.rec)
-                        (let rare = working.rare f K c.args.keep c.args.limit s l.turn t l.node l.command k in omega (arith, rare, c.requires.room, c.loop-turn-test.true)) m.pop.ensures.popped)
-                    m.if-turn-limit.true facts.0 going);
+                (working.pops l.pass m.pop.result.0 m.pop.result.1 (w.told l.world) (w.told x) (w.looked l.world) (w.looked x) (w.faults l.world) (w.faults x) (r.kept l.rec) (r.faults l.rec)
+                (let rare = working.rare f K c.args.keep c.args.limit s l.turn t l.node l.command k in omega (arith, rare, c.requires.room, c.loop-turn-test.true)) m.pop.ensures.popped)
+                m.if-turn-limit.true facts.0 going);
           })
       | in-Look+else-turn-limit m ↦
           let facts = subst (λ (a : Turn). IsTurn l.command a × (w.told x ≡ option_map (after_turn l.command a) (w.told l.world)) × (w.looked x ≡ is_look a)) m.in-Look.is (c.in-Ok.ensures.turn, c.in-Ok.ensures.told, c.in-Ok.ensures.looked) in
@@ -132,10 +144,14 @@ loop-turn-preserved g c =
             running = λ f K here. (let k = h.running f K here in
                 let u = scene (w.told z.world) (w.looked z.world) (w.faults z.world) (r.kept z.rec) (r.faults z.rec) m.raise_all-pass.result in
                 let gives : working.Gives f K c.args.keep c.args.limit s l.turn t l.node l.command k m.in-Entry.entry (w.told x) u = record {
-                  given = facts.1; looked = took.world.0 ∙ facts.2; popped = m.raise_all-pass.ensures.commands.0; empties = m.raise_all-pass.ensures.commands.1;
-                  world_later = omega (arith, c.in-Ok.ensures.later, took.world.1); record_later = took.later;
+                  given = facts.1;
+                  looked = took.world.0 ∙ facts.2;
+                  popped = m.raise_all-pass.ensures.commands.0;
+                  empties = m.raise_all-pass.ensures.commands.1;
+                  world_later = omega (arith, c.in-Ok.ensures.later, took.world.1);
+                  record_later = took.later;
                 } in
                 working.went_on f K c.args.keep c.args.limit s l.turn t l.node l.command k m.in-Entry.entry (w.told x) u z.node m.in-Ok-take_entry.events gives c.loop-turn-test.true
-                    (m.in-Ok-take_entry.ensures.ok f (K ++ k.entries) k.node) m.raise_all-pass.ensures.raised);
+                (m.in-Ok-take_entry.ensures.ok f (K ++ k.entries) k.node) m.raise_all-pass.ensures.raised);
           })
     ]
