@@ -1,21 +1,30 @@
-//! Captures: journals of a node as texts. A capture has a head line and a line for each entry.
+//! Captures: journals of a node as texts. A capture has a head line and a line for each entry. Beside them stands the
+//! exercise, a large journal that is made from a number.
 #![tactic(auto)]
 
+mod draws;
+mod exercise;
 mod fault;
 mod field;
 mod hexadecimal;
 pub mod laws;
+mod introduction;
 mod line;
 mod list;
 mod read;
 mod reader;
 mod split;
+mod stage;
+mod talk;
 mod value;
 mod word;
 
+pub use exercise::Exercise;
 pub use fault::{BadCapture, CaptureFault};
 pub use line::{HEAD, LINE_OCTETS, push_entry, write_entry};
 pub use reader::CaptureReader;
 
+#[cfg(test)]
+mod exercise_tests;
 #[cfg(test)]
 mod tests;
