@@ -1,9 +1,9 @@
 -- The journal of more octets begins with that of fewer.
 use Rattle.std.proofs.Common.{◌≡◌, ℕ, ◌+◌, ◌<◌, ◌==◌, Bool, true, false, cond, List, [], ◌∷◌, ◌++◌, length, Option, Some, None, refl, sym, ap, ◌∙◌, arith, append_assoc}
-use Rattle.std.specs.List.{slice_split, onto_first}
+use Rattle.std.specs.List.{onto_first}
 use Rattle.zre_outside.specs.declared.entry.Entry.{Entry}
 use Rattle.zre_capture.specs.Journal.{line_of, lines_in, entries_from, journal}
-use Rattle.zre_capture.proofs.Lines.{entries-good, entries-bad, some_lines}
+use Rattle.zre_capture.proofs.Lines.{entries-good, entries-bad}
 
 -- parts behind parts: the first of these goes on with the last of those
 abbrev joined : List (List ℕ) → List (List ℕ) → List (List ℕ)
