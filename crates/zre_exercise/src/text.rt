@@ -16,6 +16,7 @@ fn push_count(out: &mut Octets, word: &[u8], count: u64) -> Result<(), OutOfMemo
 }
 
 /// Appends the lines of counts. After an error a front of them may stand there.
+#[tactic(auto, unfolding(crate::specs::Summary::summary))]
 pub(crate) fn push_counts(out: &mut Octets, counts: &Counts) -> Result<(), OutOfMemory>
     ensures { OnOk result (out.new ≡ out.old ++ summary counts.now) }
 {
