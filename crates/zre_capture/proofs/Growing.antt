@@ -61,7 +61,7 @@ grows_by n (t ∷ u ∷ ls) ms = by (grows_by (n + 1) (u ∷ ls) ms) (line_of n 
     by r (Some es) e = (
       r.0,
       entries-good n t es (joined (u ∷ ls) ms) (some_joined u ls ms) e ∙ ap (λ fs. es ++ fs) r.1 ∙ sym (append_assoc es (entries_from (n + 1) (u ∷ ls)) r.0)
-      ∙ sym (ap (λ fs. fs ++ r.0) (entries-good n t es (u ∷ ls) (omega arith) e)),
+          ∙ sym (ap (λ fs. fs ++ r.0) (entries-good n t es (u ∷ ls) (omega arith) e)),
     )
 
 pub journal_grows : (o x : List ℕ) → (more : List Entry) × (journal (o ++ x) ≡ journal o ++ more)

@@ -50,10 +50,10 @@ pub message_comes : (p x j m : ℕ) (first second : List ℕ) (y : ℕ) (entry :
 message_comes p x j m first second y entry h is f s b =
     let e : m - j ≡ suc (m - (j + 1)) = omega arith in
     ap (messages_from p x j) e ∙ one_message p x j (m - (j + 1))
-        ∙ ap (λ o. comes p j o ∷ comes p j (second_piece (j / p) x) ∷ messages_from p (behind (j / p) x) (j + 1) (m - (j + 1))) (sym f)
-        ∙ ap (λ o. comes p j first ∷ comes p j o ∷ messages_from p (behind (j / p) x) (j + 1) (m - (j + 1))) (sym s)
-        ∙ ap (λ z. comes p j first ∷ comes p j second ∷ messages_from p z (j + 1) (m - (j + 1))) (sym b)
-        ∙ ap (λ e. e ∷ comes p j second ∷ messages_from p y (j + 1) (m - (j + 1))) (sym is)
+    ∙ ap (λ o. comes p j o ∷ comes p j (second_piece (j / p) x) ∷ messages_from p (behind (j / p) x) (j + 1) (m - (j + 1))) (sym f)
+    ∙ ap (λ o. comes p j first ∷ comes p j o ∷ messages_from p (behind (j / p) x) (j + 1) (m - (j + 1))) (sym s)
+    ∙ ap (λ z. comes p j first ∷ comes p j second ∷ messages_from p z (j + 1) (m - (j + 1))) (sym b)
+    ∙ ap (λ e. e ∷ comes p j second ∷ messages_from p y (j + 1) (m - (j + 1))) (sym is)
 
 -- the end comes
 pub messages_end : (p x j m : ℕ) → m ≤ j → messages_from p x j (m - j) ≡ quits j ∷ []

@@ -91,7 +91,10 @@ impl Exercise {
             });
         }
         let Pieces { first, second, x } = talk(
-            self.alloc, &mut self.spelled, message / self.peers as u32, self.x,
+            self.alloc,
+            &mut self.spelled,
+            message / self.peers as u32,
+            self.x,
         )?;
         self.x = x;
         self.second = second;
@@ -110,16 +113,33 @@ impl Exercise {
             Stage::Beacon(peer) => {
                 let bytes = beacon(alloc, peer)?;
                 self.stage = Stage::Opened(peer);
-                Entry { at: 0, input: Input::Datagram { from: host(peer), bytes } }
+                Entry {
+                    at: 0,
+                    input: Input::Datagram {
+                        from: host(peer),
+                        bytes,
+                    },
+                }
             }
             Stage::Opened(peer) => {
                 self.stage = Stage::Introduction(peer);
-                Entry { at: 0, input: Input::Opened { conn: peer as u64 + 1 } }
+                Entry {
+                    at: 0,
+                    input: Input::Opened {
+                        conn: peer as u64 + 1,
+                    },
+                }
             }
             Stage::Introduction(peer) => {
                 let bytes = introduction(alloc, peer)?;
                 self.stage = self.behind(peer);
-                Entry { at: 0, input: Input::Piece { conn: peer as u64 + 1, bytes } }
+                Entry {
+                    at: 0,
+                    input: Input::Piece {
+                        conn: peer as u64 + 1,
+                        bytes,
+                    },
+                }
             }
             Stage::Messages => self.begin()?,
             Stage::Second(message) => {

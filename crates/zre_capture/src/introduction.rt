@@ -54,7 +54,8 @@ fn endpoint(alloc: Global, peer: u8) -> Result<Octets, OutOfMemory>
     Endpoint {
         addr: host(peer),
         port: PORT,
-    }.write(alloc)
+    }
+    .write(alloc)
 }
 
 #[tactic(auto, unfolding(crate::specs::Exercise::hello))]

@@ -60,11 +60,23 @@ fn body(alloc: Global, k: u32, x: u64) -> Result<(Body, u64), OutOfMemory>
     let kind = k % 4;
     if kind == 0 {
         let group = group(alloc)?;
-        return Ok((Body::Join { group, status: status(k) }, x));
+        return Ok((
+            Body::Join {
+                group,
+                status: status(k),
+            },
+            x,
+        ));
     }
     if kind == 3 {
         let group = group(alloc)?;
-        return Ok((Body::Leave { group, status: status(k) }, x));
+        return Ok((
+            Body::Leave {
+                group,
+                status: status(k),
+            },
+            x,
+        ));
     }
     let (content, x) = content(alloc, x)?;
     if kind == 2 {

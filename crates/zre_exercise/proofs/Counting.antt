@@ -51,7 +51,7 @@ pub next_event : (n i : ℕ) (es before : List Event) (e : Event) (c d : Counts)
 next_event n i es before e c d lt is so_far counted =
     let step : take (i + 1) es ≡ take i es ++ e ∷ [] = rw add-one (take-suc es i e lt ∙ ap (λ x. take i es ++ x ∷ []) (sym is)) in
     counted ∙ ap (λ k. with_event k e) so_far ∙ one_event n (before ++ take i es) e
-        ∙ ap (tally n) (append_assoc before (take i es) (e ∷ []) ∙ ap (λ xs. before ++ xs) (sym step))
+    ∙ ap (tally n) (append_assoc before (take i es) (e ∷ []) ∙ ap (λ xs. before ++ xs) (sym step))
 
 -- all of them are
 pub all_events : (n i : ℕ) (es before : List Event) (c : Counts) → length es ≤ i → c ≡ tally n (before ++ take i es) → c ≡ tally n (before ++ es)

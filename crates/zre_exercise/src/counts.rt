@@ -31,7 +31,11 @@ fn octets_of(content: &Frames) -> Result<u64, OutOfMemory>
     ensures { IfOk result (λ octets. octets ≡ sum_by length content.now) }
 {
     let octets = content.total();
-    if octets == u64::MAX { Err(OutOfMemory) } else { Ok(octets) }
+    if octets == u64::MAX {
+        Err(OutOfMemory)
+    } else {
+        Ok(octets)
+    }
 }
 
 impl Counts {

@@ -27,11 +27,7 @@ fn take(node: &mut Node, counts: &mut Counts, entry: Entry) -> Result<(), OutOfM
 }
 
 // The same of all entries that are left.
-fn take_all(
-    exercise: Exercise,
-    node: &mut Node,
-    counts: &mut Counts,
-) -> Result<(), OutOfMemory>
+fn take_all(exercise: Exercise, node: &mut Node, counts: &mut Counts) -> Result<(), OutOfMemory>
     ensures { (g : Config) (J : List EntryValue) → Counted g J node.old counts.old →
         OnOk result (Counted g (J ++ left exercise) node.new counts.new) }
 {

@@ -8,7 +8,7 @@ draws-init c = record { behind = refl; octets = refl }
 pub draws-preserved : goal.draws-preserved
 draws-preserved c =
     next_draw _ _ _ _ c.draws.out _ _ c.to_be_bytes.result _ c.upper_half.result c.draws.invariant c.draws-test.true
-        c.drawn-x.ensures c.upper_half.ensures c.to_be_bytes.ensures c.in_ok-append.ensures.ok
+    c.drawn-x.ensures c.upper_half.ensures c.to_be_bytes.ensures c.in_ok-append.ensures.ok
 
 pub returns : goal.returns
 returns c = record {

@@ -12,5 +12,5 @@ returns c =
     let begun = starts_with c.in_ok-settings.field-0 settings c.in_ok-node.node c.new-counts.result c.in_ok-node.ensures c.in_ok-settings.ensures c.new-counts.ensures in
     let done = c.in_ok-take_all.ensures settings [] begun in
     on_ok c.push_counts.result c.push_counts.ensures
-        (λ p. p ∙ ap (λ (k : Counts). c.args.out.now ++ summary k)
-            (counted_all settings (left c.new-2.result) (exercise c.args.seed c.args.peers c.args.messages) c.take_all.new.node c.take_all.new.counts done c.new-2.ensures))
+    (λ p. p ∙ ap (λ (k : Counts). c.args.out.now ++ summary k)
+    (counted_all settings (left c.new-2.result) (exercise c.args.seed c.args.peers c.args.messages) c.take_all.new.node c.take_all.new.counts done c.new-2.ensures))

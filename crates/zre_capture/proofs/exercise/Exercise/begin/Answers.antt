@@ -8,5 +8,5 @@ returns-then-message-self-clause-given c = at_messages c.args.self.now c.require
 pub returns-clause-given : goal.returns-clause-given
 returns-clause-given c =
     at_messages c.args.self.now c.requires
-        ∙ message_comes c.args.self.now.peers c.args.self.now.x c.args.self.now.message c.args.self.now.messages _ _ _ _ c.if-message-self.false
-            c.comes.ensures c.in_ok-first.ensures.0 c.in_ok-first.ensures.1 c.in_ok-first.ensures.2
+    ∙ message_comes c.args.self.now.peers c.args.self.now.x c.args.self.now.message c.args.self.now.messages _ _ _ _ c.if-message-self.false
+    c.comes.ensures c.in_ok-first.ensures.0 c.in_ok-first.ensures.1 c.in_ok-first.ensures.2
