@@ -1,0 +1,33 @@
+-- What a generator of the exercise has still to give.
+use Rattle.std.specs.Prelude.{◌≡◌, ℕ, ◌+◌, ◌-◌, List, [], ◌∷◌, ◌++◌, Option, Some, None}
+use Rattle.zre_outside.specs.declared.entry.Entry.{Entry}
+use Rattle.zre_capture.specs.Exercise.{heard, opened, introduced, peers_from, comes, messages_from}
+use Rattle.zre_capture.specs.declared.exercise.Exercise.{Exercise}
+use Rattle.zre_capture.specs.declared.stage.Stage.{Stage}
+use Rattle.zre_capture.specs.declared.stage.Stage.TheVariants.{Beacon, Opened, Introduction, Messages, Second, Done}
+
+-- the messages that were not begun, and the end
+abbrev pub messages_left : Exercise → List Entry
+messages_left e = messages_from e.peers e.x e.message (e.messages - e.message)
+
+-- the peers behind this one, and all that follows them
+abbrev pub behind_peer : ℕ → Exercise → List Entry
+behind_peer i e = peers_from (i + 1) (e.peers - (i + 1)) ++ messages_left e
+
+-- what is left at a stage
+abbrev pub left_at : Stage → Exercise → List Entry
+left_at (Beacon i) e = heard i ∷ opened i ∷ introduced i ∷ behind_peer i e
+left_at (Opened i) e = opened i ∷ introduced i ∷ behind_peer i e
+left_at (Introduction i) e = introduced i ∷ behind_peer i e
+left_at Messages e = messages_left e
+left_at (Second j) e = comes e.peers j e.second ∷ messages_left e
+left_at Done e = []
+
+-- the entries that are left, in order
+abbrev pub left : Exercise → List Entry
+left e = left_at e.stage e
+
+-- a call gave the first of what was left, or nothing where nothing was left
+abbrev pub Gives : Option Entry → List Entry → List Entry → Type 0
+Gives (Some e) before now = before ≡ e ∷ now
+Gives None before now = (before ≡ []) × (now ≡ [])

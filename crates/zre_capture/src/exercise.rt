@@ -1,0 +1,154 @@
+//! The journal of the exercise, entry by entry.
+
+ghost use Rattle.std.specs.Prelude.{◌≡◌, ◌≤◌, ◌∷◌, IfOk, OnErr};
+ghost use Rattle.zre_capture.specs.declared.stage.Stage.TheVariants.{Messages};
+
+use crate::introduction::{beacon, host, introduction};
+use crate::stage::Stage;
+use crate::talk::{Pieces, talk};
+use std::alloc::Global;
+use std::mem;
+use zre_outside::{Command, Entry, Input};
+use zre_values::{Octets, OutOfMemory};
+
+/// A generator of a large journal from a number: peers come and introduce themselves, and their messages come in turn.
+/// It keeps one message, and no list of the entries.
+#[derive(Drop)]
+pub struct Exercise {
+    alloc: Global,
+    /// Where the draws stand.
+    x: u64,
+    stage: Stage,
+    peers: u16,
+    messages: u32,
+    /// The number of the next message.
+    message: u32,
+    /// The octets of the message that was begun last.
+    spelled: Octets,
+    /// Its second piece, until that is given.
+    second: Octets,
+    ghost some: { 1 ≤ peers },
+    ghost few: { peers ≤ 256 },
+}
+
+impl Exercise {
+    ghost use Rattle.zre_capture.specs.Exercise.{exercise, comes};
+    ghost use Rattle.zre_capture.specs.Left.{left, left_at, behind_peer, Gives};
+
+    /// The exercise before its first entry.
+    pub fn new(alloc: Global, seed: u64, peers: u16, messages: u32) -> Self
+        requires some { 1 ≤ peers }
+        requires few { peers ≤ 256 }
+        requires short { messages ≤ 1000000 }
+        ensures { left result ≡ exercise seed peers messages }
+    {
+        Exercise {
+            alloc,
+            x: seed,
+            stage: Stage::Beacon(0),
+            peers,
+            messages,
+            message: 0,
+            spelled: Octets::new(alloc),
+            second: Octets::new(alloc),
+        }
+    }
+
+    // The stage behind a peer.
+    fn behind(&self, peer: u8) -> Stage
+        ensures { left_at result self.now ≡ behind_peer peer self.now }
+    {
+        if (peer as u16) + 1 < self.peers {
+            Stage::Beacon(peer + 1)
+        } else {
+            Stage::Messages
+        }
+    }
+
+    // A piece of a message.
+    fn comes(&self, message: u32, bytes: Octets) -> Entry
+        ensures { result ≡ comes self.now.peers message bytes }
+    {
+        let conn = (message % self.peers as u32) as u64 + 1;
+        Entry {
+            at: message as u64,
+            input: Input::Piece { conn, bytes },
+        }
+    }
+
+    // The first piece of the next message, or the end.
+    fn begin(&mut self) -> Result<Entry, OutOfMemory>
+        requires { self.old.stage ≡ Messages }
+        ensures given { IfOk result (λ entry. left self.old ≡ entry ∷ left self.new) }
+        ensures err { OnErr result (left self.new ≡ left self.old) }
+    {
+        let message = self.message;
+        if message >= self.messages {
+            self.stage = Stage::Done;
+            return Ok(Entry {
+                at: message as u64,
+                input: Input::Do(Command::Quit),
+            });
+        }
+        let Pieces { first, second, x } = talk(
+            self.alloc,
+            &mut self.spelled,
+            message / self.peers as u32,
+            self.x,
+        )?;
+        self.x = x;
+        self.second = second;
+        self.stage = Stage::Second(message);
+        self.message = message + 1;
+        Ok(self.comes(message, first))
+    }
+
+    /// The next entry, or None where all were given. After an error the same entry is still to come.
+    pub fn next(&mut self) -> Result<Option<Entry>, OutOfMemory>
+        ensures given { IfOk result (λ given. Gives given (left self.old) (left self.new)) }
+        ensures err { OnErr result (left self.new ≡ left self.old) }
+    {
+        let alloc = self.alloc;
+        let entry = match self.stage {
+            Stage::Beacon(peer) => {
+                let bytes = beacon(alloc, peer)?;
+                self.stage = Stage::Opened(peer);
+                Entry {
+                    at: 0,
+                    input: Input::Datagram {
+                        from: host(peer),
+                        bytes,
+                    },
+                }
+            }
+            Stage::Opened(peer) => {
+                self.stage = Stage::Introduction(peer);
+                Entry {
+                    at: 0,
+                    input: Input::Opened {
+                        conn: peer as u64 + 1,
+                    },
+                }
+            }
+            Stage::Introduction(peer) => {
+                let bytes = introduction(alloc, peer)?;
+                self.stage = self.behind(peer);
+                Entry {
+                    at: 0,
+                    input: Input::Piece {
+                        conn: peer as u64 + 1,
+                        bytes,
+                    },
+                }
+            }
+            Stage::Messages => self.begin()?,
+            Stage::Second(message) => {
+                self.stage = Stage::Messages;
+                let second = mem::replace(&mut self.second, Octets::new(alloc));
+                self.comes(message, second)
+            }
+            Stage::Done => return Ok(None),
+        };
+        Ok(Some(entry))
+    }
+}

@@ -1,0 +1,88 @@
+//! How the peers of the exercise introduce themselves.
+
+ghost use Rattle.std.specs.Prelude.{◌≡◌, ◌++◌, codes, decimal, IfOk, OnOk};
+ghost use Rattle.zre_values.specs.Endpoint.{endpoint_text};
+ghost use Rattle.zre_capture.specs.Exercise.{identity, host, beacon, hello, introduction};
+
+use std::alloc::Global;
+use zre_beacon::Beacon;
+use zre_msg::{Body, Message};
+use zre_values::{Endpoint, Frames, Octets, OutOfMemory, Pairs, PeerId, push_decimal};
+use zre_zmtp::{SocketType, greeting, ready};
+
+// The port of each peer.
+const PORT: u16 = 49152;
+
+fn identity(peer: u8) -> PeerId
+    ensures { result ≡ identity peer }
+{
+    let mut octets = [0u8; 16];
+    octets[12..].copy_from_slice(&(peer as u32 + 1).to_be_bytes());
+    PeerId(octets)
+}
+
+/// The address of a peer.
+pub(crate) fn host(peer: u8) -> [u8; 4]
+    ensures { result ≡ host peer }
+{
+    [10, 1, 0, peer]
+}
+
+/// The beacon of a peer.
+#[tactic(auto, unfolding(crate::specs::Exercise::beacon))]
+pub(crate) fn beacon(alloc: Global, peer: u8) -> Result<Octets, OutOfMemory>
+    ensures { IfOk result (λ octets. octets ≡ beacon peer) }
+{
+    let beacon = Beacon {
+        id: identity(peer),
+        port: PORT,
+    };
+    Octets::copy(alloc, &beacon.write())
+}
+
+fn name(alloc: Global, peer: u8) -> Result<Octets, OutOfMemory>
+    ensures { IfOk result (λ octets. octets ≡ codes "p" ++ decimal peer) }
+{
+    let mut name = Octets::copy(alloc, b"p")?;
+    push_decimal(&mut name, peer as u64)?;
+    Ok(name)
+}
+
+fn endpoint(alloc: Global, peer: u8) -> Result<Octets, OutOfMemory>
+    ensures { IfOk result (λ octets. octets ≡ endpoint_text (record { addr = host peer; port = 49152 })) }
+{
+    Endpoint {
+        addr: host(peer),
+        port: PORT,
+    }
+    .write(alloc)
+}
+
+#[tactic(auto, unfolding(crate::specs::Exercise::hello))]
+fn push_hello(alloc: Global, out: &mut Octets, peer: u8) -> Result<(), OutOfMemory>
+    ensures { OnOk result (out.new ≡ out.old ++ hello peer) }
+{
+    let hello = Message {
+        sequence: 1,
+        body: Body::Hello {
+            endpoint: endpoint(alloc, peer)?,
+            groups: Frames::new(alloc),
+            status: 0,
+            name: name(alloc, peer)?,
+            headers: Pairs::new(alloc),
+        },
+    };
+    hello.push_to(out)
+}
+
+/// What comes first on the connection of a peer.
+#[tactic(auto, unfolding(crate::specs::Exercise::introduction))]
+pub(crate) fn introduction(alloc: Global, peer: u8) -> Result<Octets, OutOfMemory>
+    ensures { IfOk result (λ octets. octets ≡ introduction peer) }
+{
+    let mut octets = Octets::copy(alloc, &greeting())?;
+    let ready = ready(alloc, SocketType::Dealer, Some(identity(peer)))?;
+    octets.append(ready.as_slice())?;
+    push_hello(alloc, &mut octets, peer)?;
+    Ok(octets)
+}
