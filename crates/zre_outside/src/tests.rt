@@ -1,11 +1,9 @@
 //! Each object through its bound, and a read and a write that fail in mid-stream.
 
-ghost use Rattle.std.specs.Prelude.{◌≡◌, ◌*◌, true, IsSome, IfOk, IfSome, is_none};
+ghost use Rattle.std.specs.Prelude.{◌≡◌, true, IsSome, IfOk, is_none};
 
 use crate::*;
-use std::sync::Wait;
 use std::test::Fail;
-use std::thread::Threads;
 use zre_values::Octets;
 
 fn read_once<S: Source>(source: &mut S, buf: &mut [u8; 3]) -> Result<usize, Failed> {
@@ -117,43 +115,5 @@ fn a_capture_in_memory_begins_anew(rt: HostRuntime) -> Result<(), Fail> {
         assert_eq!(rt; rec.put(b"z"), Ok(()));
     }
     assert_eq!(rt; rec.kept(), b"z".as_slice());
-    Ok(())
-}
-
-/// A number to be doubled.
-#[derive(Drop)]
-struct Double {
-    n: u32,
-}
-
-impl Job for Double {
-    ghost use Rattle.std.specs.Prelude.{◌≡◌, ◌*◌};
-
-    type Out = u64;
-
-    ghost means = { λ job out. out ≡ 2 * job.n };
-
-    fn run<R: Threads + Wait + Copy + Send + 'static>(self, _rt: R) -> u64 {
-        2 * u64::from(self.n)
-    }
-}
-
-fn doubled<R: Threads + Copy, P: Spawner>(rt: R, spawner: &mut P, n: u32) -> Option<u64>
-    ensures { IfSome result (λ out. out ≡ 2 * n) }
-{
-    match spawner.start(Double { n }) {
-        Ok(running) => Some(running.join(rt)),
-        Err(_) => None,
-    }
-}
-
-#[test]
-fn a_job_runs_in_its_thread_or_comes_back(rt: HostRuntime) -> Result<(), Fail> {
-    let fails = [1].to_vec(rt.alloc())?;
-    let mut spawner = PlainSpawner::new(rt, rt.alloc(), fails);
-    assert_eq!(rt; doubled(rt, &mut spawner, 4), None);
-    assert_eq!(rt; doubled(rt, &mut spawner, 5), Some(10));
-    let mut spawner = ThreadSpawner::new(rt, rt.alloc());
-    assert_eq!(rt; doubled(rt, &mut spawner, 6), Some(12));
     Ok(())
 }
