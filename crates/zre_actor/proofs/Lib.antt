@@ -8,4 +8,3 @@ pub mod Finishing
 pub mod Deeds
 pub mod Taking
 pub mod Working
-pub mod Given

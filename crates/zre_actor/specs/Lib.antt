@@ -2,4 +2,3 @@ pub mod Commands
 pub mod Events
 pub mod Passes
 pub mod Work
-pub mod Ready

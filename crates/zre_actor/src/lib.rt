@@ -15,6 +15,3 @@ pub use ending::Ending;
 pub use passes::{ActorPass, CallerPass, CallerPasses, Finished, Full, Made, Pipes, TakerPass};
 pub use told::Told;
 pub use work::Worked;
-
-#[cfg(test)]
-mod tests;
