@@ -319,56 +319,68 @@ fn a_bad_line_is_told_with_its_column(rt: HostRuntime) -> Result<(), Fail> {
 
 #[test]
 fn words_of_a_node_are_settings(rt: HostRuntime) -> Result<(), Fail> {
+    let replay: &[u8] = b"replay";
     let id: &[u8] = b"id=ffeeddccbbaa99887766554433221100";
     let host: &[u8] = b"host=10.0.0.1";
     let port: &[u8] = b"port=1";
     let rows: [(&[&[u8]], Status, &[u8]); 14] = [
-        (&[id, host, port], Status::Done, b""),
+        (&[replay, id, host, port], Status::Done, b""),
         (
-            &[port, b"header=a=1=2", id, b"header=b=", host],
+            &[replay, port, b"header=a=1=2", id, b"header=b=", host],
             Status::Done,
             b"",
         ),
         (
-            &[id, host, port, b"evasive=1", b"expired=86400000"],
+            &[replay, id, host, port, b"evasive=1", b"expired=86400000"],
             Status::Done,
             b"",
         ),
         (
-            &[id, host, port, b"evasive=30001"],
-            Status::Usage,
-            b"USAGE\n",
-        ),
-        (&[id, host, port, b"evasive=0"], Status::Usage, b"USAGE\n"),
-        (
-            &[id, host, port, b"expired=86400001"],
+            &[replay, id, host, port, b"evasive=30001"],
             Status::Usage,
             b"USAGE\n",
         ),
         (
-            &[id, host, port, b"header=a=1", b"header=a=2"],
+            &[replay, id, host, port, b"evasive=0"],
             Status::Usage,
             b"USAGE\n",
         ),
-        (&[id, host, port, b"header=a"], Status::Usage, b"USAGE\n"),
-        (&[id, host, b"port=0"], Status::Usage, b"USAGE\n"),
-        (&[id, host, b"port=65536"], Status::Usage, b"USAGE\n"),
-        (&[id, host, b"port=01"], Status::Usage, b"USAGE\n"),
-        (&[id, port, b"host=10.0.0.256"], Status::Usage, b"USAGE\n"),
         (
-            &[id, host, port, b"name=a", b"name=a"],
+            &[replay, id, host, port, b"expired=86400001"],
             Status::Usage,
             b"USAGE\n",
         ),
-        (&[id, host], Status::Usage, b"USAGE\n"),
+        (
+            &[replay, id, host, port, b"header=a=1", b"header=a=2"],
+            Status::Usage,
+            b"USAGE\n",
+        ),
+        (
+            &[replay, id, host, port, b"header=a"],
+            Status::Usage,
+            b"USAGE\n",
+        ),
+        (&[replay, id, host, b"port=0"], Status::Usage, b"USAGE\n"),
+        (
+            &[replay, id, host, b"port=65536"],
+            Status::Usage,
+            b"USAGE\n",
+        ),
+        (&[replay, id, host, b"port=01"], Status::Usage, b"USAGE\n"),
+        (
+            &[replay, id, port, b"host=10.0.0.256"],
+            Status::Usage,
+            b"USAGE\n",
+        ),
+        (
+            &[replay, id, host, port, b"name=a", b"name=a"],
+            Status::Usage,
+            b"USAGE\n",
+        ),
+        (&[replay, id, host], Status::Usage, b"USAGE\n"),
     ];
     for (words, status, text) in rows {
-        let mut all: Vec<&[u8]> = Vec::new(rt.alloc());
-        all.push(b"replay")?;
-        for word in words {
-            all.push(*word)?;
-        }
-        expect(rt, all.as_slice(), (&[HEAD], 0, u64::MAX, status, &[text]))?;
+        expect(rt, words, (&[HEAD], 0, u64::MAX, status, &[text]))?;
     }
     Ok(())
 }
