@@ -1,14 +1,14 @@
-use std::sync::Wait;
-use std::thread::Threads;
-
-/// Work for a thread of its own.
-pub trait Job: Send + Drop + 'static {
+/// A piece of work, and what it answers.
+pub trait Task: Send + Drop + 'static {
     /// Its answer.
     type Out: Send + Drop + 'static;
 
-    /// What its answer says of the job.
+    /// What its answer says of the work.
     ghost means: { Self → Self.Out → Type 0 };
+}
 
-    fn run<R: Threads + Wait + Copy + Send + 'static>(self, rt: R) -> Self::Out
-        ensures { means self result };
+/// A piece of work for a thread of its own, which is handed a runtime of this kind.
+pub trait Job<R>: Task {
+    fn run(self, rt: R) -> Self::Out
+        ensures { Self.means self result };
 }

@@ -1,14 +1,14 @@
-use crate::Job;
+use crate::Task;
 use std::snapshot::Snapshot;
 use std::thread::{Promise, PromisedHandle, Threads};
 
 /// What a job's thread promises of its answer.
 #[derive(Drop)]
-pub struct Works<J: Job> {
+pub struct Works<J: Task> {
     job: Snapshot<J>,
 }
 
-impl<J: Job> Works<J> {
+impl<J: Task> Works<J> {
     ghost use Rattle.std.specs.Prelude.{◌≡◌};
 
     pub(crate) fn of(job: &J) -> Self
@@ -20,17 +20,17 @@ impl<J: Job> Works<J> {
     }
 }
 
-impl<J: Job> Promise<J::Out> for Works<J> {
+impl<J: Task> Promise<J::Out> for Works<J> {
     ghost kept_by = { λ w out. J.means w.job.value out };
 }
 
 /// A job that was started.
 #[derive(Drop)]
-pub struct Running<J: Job> {
+pub struct Running<J: Task> {
     pub(crate) handle: PromisedHandle<J::Out, Works<J>>,
 }
 
-impl<J: Job> Running<J> {
+impl<J: Task> Running<J> {
     ghost use Rattle.zre_outside.specs.Spawners.{job_of};
 
     /// Waits for the answer.
@@ -43,6 +43,6 @@ impl<J: Job> Running<J> {
 
 /// A job that wasn't started.
 #[derive(Drop)]
-pub struct Refused<J: Job> {
+pub struct Refused<J: Task> {
     pub job: J,
 }

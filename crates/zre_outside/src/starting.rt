@@ -31,7 +31,7 @@ pub(crate) struct Sent<J: Drop, B: Known<J>> {
 }
 
 /// Starts a job in a thread of its own, or hands it back.
-pub(crate) fn start_job<R: Threads + Wait + Copy + Send + 'static, J: Job>(
+pub(crate) fn start_job<R: Threads + Wait + Copy + Send + 'static, J: Job<R>>(
     rt: R,
     alloc: Global,
     job: J,
@@ -41,7 +41,7 @@ pub(crate) fn start_job<R: Threads + Wait + Copy + Send + 'static, J: Job>(
     start_known::<R, J, Brand>(rt, alloc, job)
 }
 
-fn start_known<R: Threads + Wait + Copy + Send + 'static, J: Job, B: Known<J> + Send + 'static>(
+fn start_known<R: Threads + Wait + Copy + Send + 'static, J: Job<R>, B: Known<J> + Send + 'static>(
     rt: R,
     alloc: Global,
     job: J,
@@ -73,7 +73,7 @@ fn start_known<R: Threads + Wait + Copy + Send + 'static, J: Job, B: Known<J> + 
 }
 
 // Runs the job that comes.
-fn run_sent<R: Threads + Wait + Copy + Send + 'static, J: Job, B: Known<J>>(
+fn run_sent<R: Threads + Wait + Copy + Send + 'static, J: Job<R>, B: Known<J>>(
     rt: R,
     receiver: Receiver<Sent<J, B>>,
 ) -> J::Out

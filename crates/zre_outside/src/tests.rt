@@ -1,8 +1,9 @@
 //! Each object through its bound, and a read and a write that fail in mid-stream.
 
-ghost use Rattle.std.specs.Prelude.{◌≡◌, true, IsSome, IfOk, is_none};
+ghost use Rattle.std.specs.Prelude.{◌≡◌, ◌*◌, true, IsSome, IfSome, IfOk, is_none};
 
 use crate::*;
+use std::fs;
 use std::test::Fail;
 use zre_values::Octets;
 
@@ -115,5 +116,65 @@ fn a_capture_in_memory_begins_anew(rt: HostRuntime) -> Result<(), Fail> {
         assert_eq!(rt; rec.put(b"z"), Ok(()));
     }
     assert_eq!(rt; rec.kept(), b"z".as_slice());
+    Ok(())
+}
+
+/// A number to be doubled.
+#[derive(Drop)]
+struct Double {
+    n: u32,
+}
+
+impl Task for Double {
+    ghost use Rattle.std.specs.Prelude.{◌≡◌, ◌*◌};
+
+    type Out = u64;
+
+    ghost means = { λ job out. out ≡ 2 * job.n };
+}
+
+impl<R: Copy> Job<R> for Double {
+    ghost use Rattle.std.specs.Prelude.{◌≡◌, ◌*◌};
+
+    fn run(self, _rt: R) -> u64
+        ensures { result ≡ 2 * self.n }
+    {
+        2 * u64::from(self.n)
+    }
+}
+
+fn doubled<P: Spawner>(rt: P::Runtime, spawner: &mut P, n: u32) -> Option<u64>
+    ensures { IfSome result (λ out. out ≡ 2 * n) }
+{
+    match spawner.start(Double { n }) {
+        Ok(running) => Some(running.join(rt)),
+        Err(_) => None,
+    }
+}
+
+#[test]
+fn a_job_runs_in_its_thread_or_comes_back(rt: HostRuntime) -> Result<(), Fail> {
+    let fails = [1].to_vec(rt.alloc())?;
+    let mut spawner = PlainSpawner::new(rt, rt.alloc(), fails);
+    assert_eq!(rt; doubled(rt, &mut spawner, 4), None);
+    assert_eq!(rt; doubled(rt, &mut spawner, 5), Some(10));
+    let mut spawner = ThreadSpawner::new(rt, rt.alloc());
+    assert_eq!(rt; doubled(rt, &mut spawner, 6), Some(12));
+    Ok(())
+}
+
+#[test]
+fn a_file_keeps_what_is_put_and_begins_anew(rt: HostRuntime) -> Result<(), Fail> {
+    let name = "zre_outside.capture";
+    let mut recorder = FileRecorder::new(rt);
+    assert!(rt; recorder.begin("no_such_folder/x") == Err(NextFault::Failed));
+    assert!(rt; recorder.begin(name) == Ok(()));
+    assert!(rt; recorder.put(b"ab") == Ok(()));
+    assert!(rt; recorder.put(b"c") == Ok(()));
+    assert_eq!(rt; fs::read_to_string(&rt, name)?.as_str(), "abc");
+    assert!(rt; recorder.begin(name) == Ok(()));
+    assert!(rt; recorder.put(b"d") == Ok(()));
+    assert_eq!(rt; fs::read_to_string(&rt, name)?.as_str(), "d");
+    fs::remove_file(&rt, name)?;
     Ok(())
 }
