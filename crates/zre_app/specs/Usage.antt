@@ -1,4 +1,4 @@
--- What a status says where the words are no command.
+-- What a status says where nothing is read: of words that are no command, and of a text that is made from the words alone.
 use Rattle.std.specs.Prelude.{ℕ, List, codes, Option}
 use Rattle.std.specs.Io.KnownBytes.{Appends}
 use Rattle.zre_outside.specs.Told.{AppendsFront}
@@ -17,3 +17,13 @@ UsageOutcome Done written written' write = ⊥
 UsageOutcome BadInput written written' write = ⊥
 UsageOutcome ReadFault written written' write = ⊥
 UsageOutcome TooLong written written' write = ⊥
+
+-- a text was written, or the sink failed or memory ran out and a front of it was
+abbrev pub WritesText : Status → (text : List ℕ) → (written written' : Option (List ℕ)) (write : Type 0) → Type 0
+WritesText Done text written written' write = Appends written written' text
+WritesText WriteFault text written written' write = write × AppendsFront written written' text
+WritesText OutOfMemory text written written' write = AppendsFront written written' text
+WritesText Usage text written written' write = ⊥
+WritesText BadInput text written written' write = ⊥
+WritesText ReadFault text written written' write = ⊥
+WritesText TooLong text written written' write = ⊥

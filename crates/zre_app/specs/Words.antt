@@ -1,14 +1,15 @@
 -- The words of the command line: the name of a command, and then its words.
-use Rattle.std.specs.Prelude.{◌≡◌, ℕ, true, not, List, [], ◌∷◌, Option, Some, None, option_and_then, option_map, codes, if◌then◌else◌}
+use Rattle.std.specs.Prelude.{◌≡◌, ◌≤◌, ℕ, true, not, ◌&&◌, nat_le, List, [], ◌∷◌, Option, Some, None, option_and_then, option_map, codes, if◌then◌else◌}
 use Rattle.std.specs.List.{list_all}
 use Rattle.std.specs.Str.{bytes_eq, is_utf8}
+use Rattle.zre_capture.specs.Values.{number_of}
 use Rattle.zre_journal.specs.Config.{is_valid}
 use Rattle.zre_app.specs.Keys.{are_words_of, value_of, identity}
 use Rattle.zre_app.specs.NodeWords.{node_keys, config_in}
 use Rattle.zre_app.specs.declared.keys.Often.{Often}
 use Rattle.zre_app.specs.declared.keys.Often.TheVariants.{Once}
 use Rattle.zre_app.specs.declared.words.Command.{Command}
-use Rattle.zre_app.specs.declared.words.Command.TheVariants.{Follow, Show, Replay}
+use Rattle.zre_app.specs.declared.words.Command.TheVariants.{Follow, Show, Replay, Exercise}
 
 -- the keys of `follow`: the identity of the peer
 abbrev pub follow_keys : List (List ℕ × Often)
@@ -28,12 +29,33 @@ show_of words = if are_words_of [] words then Some Show else None
 abbrev pub replay_of : List (List ℕ) → Option Command
 replay_of words = if are_words_of node_keys words then option_map Replay (config_in words) else None
 
--- the settings that it names are those with which a node can be
+-- the keys of `exercise`: the seed, and how many peers and messages there are
+abbrev pub exercise_keys : List (List ℕ × Often)
+exercise_keys = (codes "seed=", Once) ∷ (codes "peers=", Once) ∷ (codes "messages=", Once) ∷ []
+
+-- a number between these two
+abbrev pub between : ℕ → ℕ → ℕ → Option ℕ
+between low high n = if nat_le low n && nat_le n high then Some n else None
+
+-- the same of the first word of a key
+abbrev pub number_in : List ℕ → ℕ → ℕ → List (List ℕ) → Option ℕ
+number_in key low high words = option_and_then (between low high) (option_and_then number_of (value_of key words))
+
+abbrev pub exercise_in : List (List ℕ) → Option Command
+exercise_in words =
+    option_and_then (λ seed. option_and_then (λ peers. option_map (λ messages. Exercise seed peers messages)
+    (number_in (codes "messages=") 0 1000000 words)) (number_in (codes "peers=") 1 256 words)) (number_in (codes "seed=") 0 18446744073709551615 words)
+
+abbrev pub exercise_of : List (List ℕ) → Option Command
+exercise_of words = if are_words_of exercise_keys words then exercise_in words else None
+
+-- the settings that it names are those with which a node can be, and the numbers those of an exercise
 abbrev pub IsReady : Option Command → Type 0
 IsReady None = Unit {0}
 IsReady (Some (Follow id)) = Unit {0}
 IsReady (Some Show) = Unit {0}
 IsReady (Some (Replay g)) = is_valid g ≡ true
+IsReady (Some (Exercise seed peers messages)) = (1 ≤ peers) × (peers ≤ 256) × (messages ≤ 1000000)
 
 -- the command that the words are; none where they are in no list of words, or one isn't text
 abbrev pub command_of : List (List ℕ) → Option Command
@@ -43,4 +65,5 @@ command_of (name ∷ words) =
     else if bytes_eq name (codes "follow") then follow_of words
     else if bytes_eq name (codes "show") then show_of words
     else if bytes_eq name (codes "replay") then replay_of words
+    else if bytes_eq name (codes "exercise") then exercise_of words
     else None

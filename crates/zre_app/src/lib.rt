@@ -12,6 +12,8 @@ pub use words::{Command, command_of};
 pub use zre_pump::Status;
 
 #[cfg(test)]
+mod exercise_tests;
+#[cfg(test)]
 mod replay_tests;
 #[cfg(test)]
 mod tests;

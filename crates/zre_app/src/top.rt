@@ -1,6 +1,6 @@
 //! The top call: the command that the words ask for, over a source and a sink.
 
-ghost use Rattle.std.specs.Prelude.{◌≡◌, ◌≤◌, Some, None, true};
+ghost use Rattle.std.specs.Prelude.{◌≡◌, ◌≤◌, ℕ, Some, None, true};
 ghost use Rattle.zre_values.specs.declared.peer_id.PeerId.{PeerId};
 ghost use Rattle.zre_outside.specs.Causes.{Rose};
 ghost use Rattle.zre_pump.specs.Outcome.{Pumped};
@@ -10,18 +10,20 @@ ghost use Rattle.zre_journal.specs.declared.config.Config.{Config as ConfigValue
 ghost use Rattle.zre_replay.specs.Replay.{replay};
 ghost use Rattle.zre_show.specs.Show.{show};
 ghost use Rattle.zre_app.specs.declared.words.Command.TheVariants as commands;
-ghost use Rattle.zre_app.specs.Usage.{UsageOutcome};
+ghost use Rattle.zre_exercise.specs.Exercise.{text as exercise_text};
+ghost use Rattle.zre_app.specs.Usage.{UsageOutcome, WritesText};
 ghost use Rattle.zre_app.specs.Words.{command_of};
 
 use crate::words::{Command, command_of};
 use std::alloc::Global;
+use zre_exercise::push_summary;
 use zre_follow::Follower;
 use zre_journal::Config;
 use zre_outside::{NextFault, Sink, Source, write_all};
 use zre_pump::{Status, pump};
 use zre_replay::Replayer;
 use zre_show::Lister;
-use zre_values::{Frames, OutOfMemory, PeerId};
+use zre_values::{Frames, Octets, OutOfMemory, PeerId};
 
 /// The most octets that `zre` reads.
 pub const LIMIT: u64 = (1 << 63) - 1;
@@ -92,6 +94,31 @@ fn replay<I: Source, O: Sink>(
     }
 }
 
+fn write_text<O: Sink>(text: &[u8], out: &mut O) -> Status
+    ensures written { WritesText result text.now (O.written out.old) (O.written out.new) (Rose (O.faults out.old) (O.faults out.new)) }
+    ensures writes { O.faults out.old ≤ O.faults out.new }
+{
+    match write_all(out, text) {
+        Ok(()) => Status::Done,
+        Err(NextFault::Failed) => Status::WriteFault,
+        Err(NextFault::OutOfMemory) => Status::OutOfMemory,
+    }
+}
+
+fn exercise<O: Sink>(alloc: Global, seed: u64, peers: u16, messages: u32, out: &mut O) -> Status
+    requires some { 1 ≤ peers }
+    requires few { peers ≤ 256 }
+    requires short { messages ≤ 1000000 }
+    ensures written { WritesText result (exercise_text seed peers messages) (O.written out.old) (O.written out.new) (Rose (O.faults out.old) (O.faults out.new)) }
+    ensures writes { O.faults out.old ≤ O.faults out.new }
+{
+    let mut summary = Octets::new(alloc);
+    match push_summary(alloc, &mut summary, seed, peers, messages) {
+        Ok(()) => write_text(summary.as_slice(), out),
+        Err(OutOfMemory) => Status::OutOfMemory,
+    }
+}
+
 /// Does what the words ask for, and reads at most `limit` octets. The source comes back as it was left.
 pub fn run<R: AllocGlobal + Copy, I: Source, O: Sink>(
     rt: R,
@@ -118,6 +145,10 @@ pub fn run<R: AllocGlobal + Copy, I: Source, O: Sink>(
         Pumped result.status limit (replay g)
         (I.left input) (I.left result.input) (I.taken input) (I.taken result.input) (O.written out.old) (O.written out.new)
         (Rose (I.faults input) (I.faults result.input)) (Rose (O.faults out.old) (O.faults out.new)) }
+    // The exercise reads nothing, and its summary is written.
+    ensures exercise { (seed peers messages : ℕ) → command_of words.now ≡ Some (commands.Exercise seed peers messages) →
+        WritesText result.status (exercise_text seed peers messages) (O.written out.old) (O.written out.new) (Rose (O.faults out.old) (O.faults out.new)) }
+    ensures untouched { (seed peers messages : ℕ) → command_of words.now ≡ Some (commands.Exercise seed peers messages) → result.input ≡ input }
     ensures reads { I.faults input ≤ I.faults result.input }
     ensures writes { O.faults out.old ≤ O.faults out.new }
 {
@@ -145,6 +176,18 @@ pub fn run<R: AllocGlobal + Copy, I: Source, O: Sink>(
             let status = replay(rt.alloc(), config, &mut input, out, limit);
             Ended { status, input }
         }
+        Ok(
+            Some(
+                Command::Exercise {
+                    seed,
+                    peers,
+                    messages,
+                },
+            ),
+        ) => Ended {
+            status: exercise(rt.alloc(), seed, peers, messages, out),
+            input,
+        },
     }
 }
 
@@ -170,6 +213,10 @@ pub fn zre<R: AllocGlobal + Copy, I: Source, O: Sink>(
         Pumped result.status LIMIT (replay g)
         (I.left input) (I.left result.input) (I.taken input) (I.taken result.input) (O.written out.old) (O.written out.new)
         (Rose (I.faults input) (I.faults result.input)) (Rose (O.faults out.old) (O.faults out.new)) }
+    // The exercise reads nothing, and its summary is written.
+    ensures exercise { (seed peers messages : ℕ) → command_of words.now ≡ Some (commands.Exercise seed peers messages) →
+        WritesText result.status (exercise_text seed peers messages) (O.written out.old) (O.written out.new) (Rose (O.faults out.old) (O.faults out.new)) }
+    ensures untouched { (seed peers messages : ℕ) → command_of words.now ≡ Some (commands.Exercise seed peers messages) → result.input ≡ input }
     ensures reads { I.faults input ≤ I.faults result.input }
     ensures writes { O.faults out.old ≤ O.faults out.new }
 {

@@ -1,12 +1,13 @@
-ghost use Rattle.std.specs.Prelude.{◌≡◌, IfOk};
+ghost use Rattle.std.specs.Prelude.{◌≡◌, ◌≤◌, IfOk, IfSome};
 ghost use Rattle.std.specs.List.{list_all};
 ghost use Rattle.std.specs.Str.{is_utf8};
-ghost use Rattle.zre_app.specs.Words.{command_of, follow_of, show_of, replay_of, IsReady};
+ghost use Rattle.zre_app.specs.Words.{command_of, exercise_of, follow_of, number_in, show_of, replay_of, IsReady};
 
 use crate::keys::{Key, Often, are_words_of, identity, value_of};
 use crate::node_words::{config_in, node_keys};
 use std::alloc::Global;
 use std::str;
+use zre_capture::number;
 use zre_journal::Config;
 use zre_values::{Frames, Octets, OutOfMemory, PeerId};
 
@@ -14,11 +15,21 @@ use zre_values::{Frames, Octets, OutOfMemory, PeerId};
 #[derive(Debug, Drop)]
 pub enum Command {
     /// Write the events of one connection of this peer.
-    Follow { id: PeerId },
+    Follow {
+        id: PeerId,
+    },
     /// Write a line for each item of a whole stream.
     Show,
     /// Write the events of a node with these settings, from a capture of its journal.
-    Replay { config: Config },
+    Replay {
+        config: Config,
+    },
+    /// Write the summary of a large journal that is made from a number.
+    Exercise {
+        seed: u64,
+        peers: u16,
+        messages: u32,
+    },
 }
 
 fn is_text(word: &[u8]) -> bool
@@ -80,6 +91,51 @@ fn replay_of(alloc: Global, words: &[Octets]) -> Result<Option<Command>, OutOfMe
     }
 }
 
+// The number of a key, where it is between these two.
+fn number_in(key: &[u8], low: u64, high: u64, words: &[Octets]) -> Option<u64>
+    ensures value { result ≡ number_in key.now low high words.now }
+    ensures above { IfSome result (λ n. low ≤ n) }
+    ensures below { IfSome result (λ n. n ≤ high) }
+{
+    match value_of(key, words) {
+        Some(text) => match number(text) {
+            Some(n) if low <= n && n <= high => Some(n),
+            _ => None,
+        },
+        None => None,
+    }
+}
+
+fn exercise_of(words: &[Octets]) -> Option<Command>
+    ensures value { result ≡ exercise_of words.now }
+    ensures ready { IsReady result }
+{
+    let once = |name| Key {
+        name,
+        often: Often::Once,
+    };
+    if !are_words_of(
+        &[once(b"seed="), once(b"peers="), once(b"messages=")],
+        words,
+    ) {
+        return None;
+    }
+    let Some(seed) = number_in(b"seed=", 0, u64::MAX, words) else {
+        return None;
+    };
+    let Some(peers) = number_in(b"peers=", 1, 256, words) else {
+        return None;
+    };
+    let Some(messages) = number_in(b"messages=", 0, 1000000, words) else {
+        return None;
+    };
+    Some(Command::Exercise {
+        seed,
+        peers: peers as u16,
+        messages: messages as u32,
+    })
+}
+
 /// The command that the words are: those behind the program's name, each as its octets. None where they are in no
 /// command's list, or where one isn't UTF-8.
 pub fn command_of(alloc: Global, words: &Frames) -> Result<Option<Command>, OutOfMemory>
@@ -101,6 +157,9 @@ pub fn command_of(alloc: Global, words: &Frames) -> Result<Option<Command>, OutO
     }
     if name.as_slice() == b"replay".as_slice() {
         return replay_of(alloc, others);
+    }
+    if name.as_slice() == b"exercise".as_slice() {
+        return Ok(exercise_of(others));
     }
     Ok(None)
 }

@@ -28,6 +28,9 @@ fn push_offers(
 ) -> Result<(), OutOfMemory>
     ensures { OnOk result (acts.new ≡ acts.old ++ offered_among pushed.now peers.now.entries) }
 {
+    if pushed.len() == 0 {
+        return Ok(());
+    }
     for (link, peer) in peers {
         if has_key(pushed, *link) && peer.link.is_offered() {
             acts.push(Act::Offer { link: *link })?;
