@@ -23,7 +23,8 @@ pub use exercise::Exercise;
 pub use fault::{BadCapture, CaptureFault};
 pub use line::{HEAD, LINE_OCTETS, push_entry, write_entry};
 pub use reader::CaptureReader;
-pub use value::{address, number};
+pub use split::split_once;
+pub use value::{address, group, id, number};
 
 #[cfg(test)]
 mod exercise_tests;

@@ -22,6 +22,7 @@ pub fn address(field: &[u8]) -> Option<[u8; 4]>
     Some(host)
 }
 
+/// The identity of thirty-two digits `0` to `9` and `A` to `F`.
 pub fn id(field: &[u8]) -> Option<PeerId>
     ensures { result ≡ id_of field.now }
 {
@@ -35,7 +36,7 @@ pub fn is_group(field: &[u8]) -> bool
     is_quoted(field)
 }
 
-/// The octets of a group. A field that is none takes no memory.
+/// The octets of a group, whose text is quoted. A field that is none takes no memory.
 pub fn group(alloc: Global, field: &[u8]) -> Result<Option<Octets>, OutOfMemory>
     ensures { IfOk result (λ found. found ≡ group_of field.now) }
 {
