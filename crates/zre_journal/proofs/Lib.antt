@@ -1,5 +1,6 @@
 pub mod Always
 pub mod Brings
+pub mod Due
 pub mod Entered
 pub mod Few
 pub mod Idle

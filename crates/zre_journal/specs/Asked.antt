@@ -1,13 +1,15 @@
 -- What a node is asked behind a journal: who is entered and with what view, and what the links of known peers have to send.
-use Rattle.std.specs.Prelude.{◌≡◌, ◌≢◌, ℕ, List, [], ◌++◌, Option, Some, None, option_map, option_and_then, map, if◌then◌else◌}
-use Rattle.std.specs.List.{filter}
+use Rattle.std.specs.Prelude.{◌≡◌, ◌≢◌, ℕ, ◌<◌, List, [], ◌++◌, Option, Some, None, option_map, option_and_then, map, if◌then◌else◌, IsSome}
+use Rattle.std.specs.List.{filter, AllByRecursion}
 use Rattle.zre_values.specs.declared.peer_id.PeerId.{PeerId}
+use Rattle.zre_outside.specs.declared.act.Act.{Act}
+use Rattle.zre_outside.specs.declared.act.Act.TheVariants as act
 use Rattle.zre_outside.specs.declared.entry.Entry.{Entry}
 use Rattle.zre_peer.specs.declared.view.View.{View}
 use Rattle.zre_journal.specs.declared.config.Config.{Config}
 use Rattle.zre_journal.specs.Chronicle.{Mark}
 use Rattle.zre_journal.specs.Events.{chronicle}
-use Rattle.zre_journal.specs.Links.{front, unsent}
+use Rattle.zre_journal.specs.Links.{front, gate, taken, unsent}
 use Rattle.zre_journal.specs.Peers.{Life, is_entered, life, life_of, lives, view}
 
 -- the view of a known peer, where it is entered
@@ -44,3 +46,21 @@ pub record IsFront (whole part : List ℕ) : Type 0 where
 abbrev pub HasFront : Option (List ℕ) → Option (List ℕ) → Type 0
 HasFront None o = o ≡ None
 HasFront (Some whole) o = (part : List ℕ) × (o ≡ Some part) × IsFront whole part
+
+-- octets may go out on a link of a known peer
+pub record IsDue (g : Config) (H : List Mark) (l : ℕ) : Type 0 where
+  pub known : IsSome (life l H)
+  pub some : taken l H < gate g l H
+
+-- there are some of them
+abbrev pub HasSome : Option (List ℕ) → Type 0
+HasSome o = (part : List ℕ) × (o ≡ Some part) × (part ≢ [])
+
+-- a link that is to be looked at has octets that may go out
+abbrev pub IsDueAct : Config → List Mark → Act → Type 0
+IsDueAct g H (act.Offer l) = IsDue g H l
+IsDueAct g H _ = Unit {0}
+
+-- the same of each of these acts
+abbrev pub AreDue : Config → List Mark → List Act → Type 0
+AreDue g H acts = AllByRecursion (IsDueAct g H) acts

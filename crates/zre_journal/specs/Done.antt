@@ -1,5 +1,5 @@
 -- Acts: what the node asks of the outside, mark by mark, and the offers at the end of each entry.
-use Rattle.std.specs.Prelude.{ℕ, if◌then◌else◌, Bool, false, not, ◌&&◌, ◌||◌, List, [], ◌∷◌, ◌++◌, None, nat_eq, map}
+use Rattle.std.specs.Prelude.{ℕ, if◌then◌else◌, Bool, false, ◌&&◌, ◌||◌, List, [], ◌∷◌, ◌++◌, None, nat_eq, nat_lt, map}
 use Rattle.std.specs.List.{filter, list_any}
 use Rattle.zre_values.specs.declared.peer_id.PeerId.{PeerId}
 use Rattle.zre_beacon.specs.Beacon.{beacon_octets}
@@ -52,7 +52,7 @@ names l (input.Took k n) = nat_eq l k
 names l _ = false
 
 abbrev pub is_offered : Config → Entry → List Mark → List Mark → Life → Bool
-is_offered g e hs K v = (list_any (puts v.link) hs || names v.link e.input) && not (nat_eq (gate g v.link K) (taken v.link K))
+is_offered g e hs K v = (list_any (puts v.link) hs || names v.link e.input) && nat_lt (taken v.link K) (gate g v.link K)
 
 -- the known peers' links with something to offer, after the marks hs of the entry e
 abbrev pub offers : Config → Entry → List Mark → List Mark → List Act

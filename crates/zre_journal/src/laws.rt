@@ -1,10 +1,11 @@
 //! Laws of what journals mean. The functions do nothing: what they ensure is for proofs.
 
-ghost use Rattle.std.specs.Prelude.{◌≡◌, true, List};
+ghost use Rattle.std.specs.Prelude.{◌≡◌, ◌++◌, ◌∷◌, [], true, List};
 ghost use Rattle.zre_outside.specs.declared.entry.Entry.{Entry};
 ghost use Rattle.zre_journal.specs.declared.config.Config.{Config};
+ghost use Rattle.zre_journal.specs.Asked.{AreDue};
 ghost use Rattle.zre_journal.specs.Chronicle.{Mark};
-ghost use Rattle.zre_journal.specs.Events.{chronicle, events};
+ghost use Rattle.zre_journal.specs.Events.{acts_behind, chronicle, events};
 ghost use Rattle.zre_journal.specs.Introducing.{CanIntroduce, Introduces};
 ghost use Rattle.zre_journal.specs.Happens.{has_stopped};
 ghost use Rattle.zre_journal.specs.Laws.{Continues, HasEnded, RunsAlone, AreStrangers, AreFew, EndsOnce, ShowsItsMessages};
@@ -70,4 +71,9 @@ pub fn views_follow_messages()
 /// message, and no new link is slow with it.
 pub fn hello_fits()
     ensures { (g : Config) (H : List Mark) → CanIntroduce g H → Introduces g H }
+{}
+
+/// Where a link is to be looked at, its peer is known and it has octets that may go out.
+pub fn offers_are_due()
+    ensures { (g : Config) (J : List Entry) (e : Entry) → AreDue g (chronicle g (J ++ e ∷ [])) (acts_behind g (e ∷ []) (chronicle g J)) }
 {}

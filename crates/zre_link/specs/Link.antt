@@ -1,5 +1,5 @@
 -- What a link keeps, as a function of what was put on it, of what came back and of what went out.
-use Rattle.std.specs.Prelude.{◌≡◌, ℕ, ◌+◌, ◌-◌, ◌<◌, min, not, nat_eq, Bool, if◌then◌else◌, List, length, take, drop}
+use Rattle.std.specs.Prelude.{◌≡◌, ℕ, ◌+◌, ◌-◌, ◌<◌, min, nat_lt, Bool, if◌then◌else◌, List, length, take, drop}
 use Rattle.zre_values.specs.declared.limits.TheConstants.{UNSENT_OCTETS}
 use Rattle.zre_values.specs.declared.peer_id.PeerId.{PeerId}
 use Rattle.zre_zmtp.specs.declared.expected.Expected.{Expected}
@@ -47,7 +47,7 @@ gate_at linked e all = if linked then gate_by e all else 0
 
 -- there are octets that may go out
 abbrev pub has_front : Sending → Bool
-has_front s = not (nat_eq (gate_at s.linked s.replies.awaits s.written) s.taken)
+has_front s = nat_lt s.taken (gate_at s.linked s.replies.awaits s.written)
 
 -- how many of all octets of a link may go out
 abbrev pub gate_of : PeerId → List Body → Bool → List ℕ → ℕ

@@ -1,6 +1,6 @@
 //! One outgoing connection.
 
-ghost use Rattle.std.specs.Prelude.{◌≡◌, ℕ, ◌+◌, ◌-◌, ◌<◌, ◌≤◌, ◌∷◌, Bool, true, false, List, [], ◌++◌, length, None, IfOk, OnOk, IfErr, OnErr};
+ghost use Rattle.std.specs.Prelude.{◌≡◌, ◌≢◌, ℕ, ◌+◌, ◌-◌, ◌<◌, ◌≤◌, ◌∷◌, Bool, true, false, List, [], ◌++◌, length, None, IfOk, OnOk, IfErr, OnErr};
 ghost use Rattle.zre_values.specs.declared.limits.TheConstants.{MESSAGE_OCTETS, COMMAND_OCTETS, UNSENT_OCTETS};
 ghost use Rattle.zre_values.specs.declared.peer_id.PeerId.{PeerId as PeerIdValue};
 ghost use Rattle.zre_zmtp.specs.Laws.{handshake};
@@ -178,8 +178,9 @@ impl Link {
 
     /// The octets that may go out now, all of them in one piece.
     pub fn front(&self) -> &[u8]
-        ensures { (own : PeerIdValue) (bodies : List BodyValue) (linked : Bool) (o : List ℕ) (n : ℕ) →
+        ensures front { (own : PeerIdValue) (bodies : List BodyValue) (linked : Bool) (o : List ℕ) (n : ℕ) →
             self.now ≡ link_after own bodies linked o n → result.now ≡ front_of own bodies linked o n }
+        ensures some { has_front self.now ≡ true → result.now ≢ [] }
     {
         let (front, _) = self.queue.as_slice().split_at(self.open());
         front
@@ -189,7 +190,7 @@ impl Link {
     pub fn is_offered(&self) -> bool
         ensures { result ≡ has_front self.now }
     {
-        self.gate() != self.taken
+        self.taken < self.gate()
     }
 
     /// So many octets of the front have gone out, or all of it where it has fewer.

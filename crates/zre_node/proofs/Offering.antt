@@ -1,5 +1,5 @@
 -- Offers, at the tables.
-use Rattle.std.proofs.Common.{◌≡◌, ℕ, Bool, true, false, cond, not, ◌&&◌, eqb, List, [], ◌∷◌, ◌++◌, map, filter, refl, ap, ◌∙◌, append_assoc}
+use Rattle.std.proofs.Common.{◌≡◌, ℕ, Bool, true, false, cond, ◌&&◌, eqb, ltb, List, [], ◌∷◌, ◌++◌, map, filter, refl, ap, ◌∙◌, append_assoc}
 use Rattle.std.specs.List.{list_any}
 use Rattle.zre_outside.specs.declared.act.Act.{Act}
 use Rattle.zre_outside.specs.declared.act.Act.TheVariants as act
@@ -22,15 +22,15 @@ one_more pushed l k es acts acts' start a b p e =
 
 -- what is offered of the rows is what is offered of the peers
 pub among : (g : Config) (K : List Mark) (pushed : List ℕ) (vs : List Life) (es : List (ℕ × Peer)) → Tabled (λ (v : Life). v.link) (IsPeer g K) vs es
-    → offered_among pushed es ≡ map (λ (v : Life). act.Offer v.link) (filter (λ (v : Life). list_any (eqb v.link) pushed && not (eqb (gate g v.link K) (taken v.link K))) vs)
+    → offered_among pushed es ≡ map (λ (v : Life). act.Offer v.link) (filter (λ (v : Life). list_any (eqb v.link) pushed && ltb (taken v.link K) (gate g v.link K)) vs)
 among g K pushed [] [] t = refl
 among g K pushed [] (e ∷ es) t = absurd t
 among g K pushed (v ∷ vs) [] t = absurd t
-among g K pushed (v ∷ vs) (e ∷ es) t = rw (t.0, t.1.link_is) (by (among g K pushed vs es t.2) (list_any (eqb v.link) pushed && not (eqb (gate g v.link K) (taken v.link K))))
+among g K pushed (v ∷ vs) (e ∷ es) t = rw (t.0, t.1.link_is) (by (among g K pushed vs es t.2) (list_any (eqb v.link) pushed && ltb (taken v.link K) (gate g v.link K)))
   where
-    by : offered_among pushed es ≡ map (λ (u : Life). act.Offer u.link) (filter (λ (u : Life). list_any (eqb u.link) pushed && not (eqb (gate g u.link K) (taken u.link K))) vs) → (b : Bool)
+    by : offered_among pushed es ≡ map (λ (u : Life). act.Offer u.link) (filter (λ (u : Life). list_any (eqb u.link) pushed && ltb (taken u.link K) (gate g u.link K)) vs) → (b : Bool)
         → cond b (act.Offer v.link ∷ offered_among pushed es) (offered_among pushed es)
-        ≡ map (λ (u : Life). act.Offer u.link) (cond b (v ∷ filter (λ (u : Life). list_any (eqb u.link) pushed && not (eqb (gate g u.link K) (taken u.link K))) vs) (filter (λ (u : Life). list_any (eqb u.link) pushed && not (eqb (gate g u.link K) (taken u.link K))) vs))
+        ≡ map (λ (u : Life). act.Offer u.link) (cond b (v ∷ filter (λ (u : Life). list_any (eqb u.link) pushed && ltb (taken u.link K) (gate g u.link K)) vs) (filter (λ (u : Life). list_any (eqb u.link) pushed && ltb (taken u.link K) (gate g u.link K)) vs))
     by r true = ap (λ (xs : List Act). act.Offer v.link ∷ xs) r
     by r false = r
 

@@ -38,12 +38,12 @@ or-swap false false = refl
 
 -- the links that are offered are those on which something was put, and the one that the entry names
 same_test : (g : Config) (e : Entry) (hs K : List Mark) (pushed : List ℕ) → ((l : ℕ) → list_any (eqb l) pushed ≡ (names l e.input || list_any (puts l) hs)) → (v : Life)
-    → (list_any (eqb v.link) pushed && not (eqb (gate g v.link K) (taken v.link K))) ≡ is_offered g e hs K v
-same_test g e hs K pushed p v = ap (λ b. b && not (eqb (gate g v.link K) (taken v.link K))) (p v.link ∙ or-swap (names v.link e.input) (list_any (puts v.link) hs))
+    → (list_any (eqb v.link) pushed && ltb (taken v.link K) (gate g v.link K)) ≡ is_offered g e hs K v
+same_test g e hs K pushed p v = ap (λ b. b && ltb (taken v.link K) (gate g v.link K)) (p v.link ∙ or-swap (names v.link e.input) (list_any (puts v.link) hs))
 
 same_offers : (g : Config) (e : Entry) (hs K : List Mark) (pushed : List ℕ) → ((l : ℕ) → list_any (eqb l) pushed ≡ (names l e.input || list_any (puts l) hs)) → offered g K pushed ≡ offers g e hs K
 same_offers g e hs K pushed p =
-    let same : (λ (v : Life). list_any (eqb v.link) pushed && not (eqb (gate g v.link K) (taken v.link K))) ≡ is_offered g e hs K = λ i v. same_test g e hs K pushed p v i in
+    let same : (λ (v : Life). list_any (eqb v.link) pushed && ltb (taken v.link K) (gate g v.link K)) ≡ is_offered g e hs K = λ i v. same_test g e hs K pushed p v i in
     ap (λ (t : Life → Bool). map (λ (v : Life). act.Offer v.link) (filter t (lives K))) same
 
 -- the tables of a node that goes on

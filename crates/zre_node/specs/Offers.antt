@@ -1,5 +1,5 @@
 -- The offers of links.
-use Rattle.std.specs.Prelude.{ℕ, not, ◌&&◌, List, [], ◌∷◌, map, if◌then◌else◌, nat_eq}
+use Rattle.std.specs.Prelude.{ℕ, ◌&&◌, List, [], ◌∷◌, map, if◌then◌else◌, nat_eq, nat_lt}
 use Rattle.std.specs.List.{filter, list_any}
 use Rattle.zre_outside.specs.declared.act.Act.{Act}
 use Rattle.zre_outside.specs.declared.act.Act.TheVariants as act
@@ -17,4 +17,4 @@ offered_among pushed (e ∷ es) = if list_any (nat_eq e.0) pushed && has_front e
 
 -- the same of the known peers
 abbrev pub offered : Config → List Mark → List ℕ → List Act
-offered g K pushed = map (λ (v : Life). act.Offer v.link) (filter (λ (v : Life). list_any (nat_eq v.link) pushed && not (nat_eq (gate g v.link K) (taken v.link K))) (lives K))
+offered g K pushed = map (λ (v : Life). act.Offer v.link) (filter (λ (v : Life). list_any (nat_eq v.link) pushed && nat_lt (taken v.link K) (gate g v.link K)) (lives K))

@@ -2,7 +2,7 @@
 
 ghost use Rattle.std.specs.Prelude.{◌≡◌, ◌<◌, ℕ, List, [], Some, None, is_some, length, option_map, option_copied, IfOk};
 ghost use Rattle.zre_outside.specs.declared.entry.Entry.{Entry as EntryValue};
-ghost use Rattle.zre_journal.specs.Asked.{entered_behind, front_behind, link_behind, unsent_behind, view_behind, HasFront};
+ghost use Rattle.zre_journal.specs.Asked.{entered_behind, front_behind, link_behind, unsent_behind, view_behind, HasFront, HasSome, IsDue};
 ghost use Rattle.zre_journal.specs.declared.config.Config.{Config as ConfigValue};
 ghost use Rattle.zre_journal.specs.Events.{chronicle};
 ghost use Rattle.zre_journal.specs.Happens.{has_stopped};
@@ -77,8 +77,10 @@ impl Node {
     /// Octets that may go out on a link now: the first of them at least, where there are any. None where the link isn't that of
     /// a known peer.
     pub fn front(&self, link: u64) -> Option<&[u8]>
-        ensures { (g : ConfigValue) (J : List EntryValue) → StandsFor g J self.now →
+        ensures front { (g : ConfigValue) (J : List EntryValue) → StandsFor g J self.now →
             HasFront (front_behind g J link) (option_map (λ r. r.now) result) }
+        ensures due { (g : ConfigValue) (J : List EntryValue) → StandsFor g J self.now → IsDue g (chronicle g J) link →
+            HasSome (option_map (λ r. r.now) result) }
     {
         match self.tables.peers.get(&link) {
             Some(peer) => Some(peer.link.front()),

@@ -1,0 +1,5 @@
+use Rattle.zre_journal.proofs.Due.{entry_due}
+use Rattle.zre_journal.proofs.laws.offers_are_due.Goals as goal
+
+pub returns : goal.returns
+returns c = λ g J e. entry_due g J e
