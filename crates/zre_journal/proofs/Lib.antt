@@ -2,6 +2,7 @@ pub mod Always
 pub mod Brings
 pub mod Entered
 pub mod Few
+pub mod Fields
 pub mod Idle
 pub mod Introduction
 pub mod Joined
@@ -12,6 +13,9 @@ pub mod Listed
 pub mod Passing
 mod Rows
 pub mod Says
+pub mod Sayings
 pub mod Silent
 pub mod Steps
+pub mod Streams
 pub mod Telling
+pub mod Viewed
