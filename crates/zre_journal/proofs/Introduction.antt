@@ -115,7 +115,7 @@ hello-short g H can =
 ready-length : (own : PeerId) → length (ready_body socket.Dealer (Some own)) ≡ length own.0 + 42
 ready-length own = omega arith
 
-new-short : (own : PeerId) → length own.0 ≡ 16 → length (text_of own []) ≤ 200
+pub new-short : (own : PeerId) → length own.0 ≡ 16 → length (text_of own []) ≤ 200
 new-short own sixteen =
     omega (arith, sixteen, ready-length own, frame-short 4 (ready_body socket.Dealer (Some own)), length-append own_greeting (ready_frame socket.Dealer (Some own)), length-append (handshake socket.Dealer (Some own)) [])
 

@@ -11,6 +11,7 @@ pub mod Known
 pub mod Lawful
 pub mod Listed
 pub mod Passing
+pub mod Room
 mod Rows
 pub mod Says
 pub mod Sayings
