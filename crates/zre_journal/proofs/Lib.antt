@@ -3,6 +3,7 @@ pub mod Brings
 pub mod Entered
 pub mod Few
 pub mod Fields
+pub mod Fitting
 pub mod Idle
 pub mod Introduction
 pub mod Joined
