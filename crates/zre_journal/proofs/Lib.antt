@@ -1,6 +1,7 @@
 pub mod Always
 pub mod Brings
 pub mod Entered
+pub mod Faultless
 pub mod Few
 pub mod Fields
 pub mod Fitting
@@ -18,6 +19,7 @@ pub mod Says
 pub mod Sayings
 pub mod Silent
 pub mod Steps
+pub mod Stopping
 pub mod Streams
 pub mod Telling
 pub mod Viewed
