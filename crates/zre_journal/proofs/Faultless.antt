@@ -157,7 +157,7 @@ module _ (g : Config) where
         by l None e s = let z : life l (Ends k why ∷ H) ≡ None = none_kept (λ (u : Life). eqb l u.link) (λ (u : Life). not (eqb k u.link)) (lives H) e in absurd (not_some (life l (Ends k why ∷ H)) z s)
     answers_more _ m f o = o
 
-  faultless_behind : (i : Input) (hs H : List Mark) → IsProper H → Allowed hs H → AllFit g hs H → AreFaultless i H → AreFaultless i (after hs H)
+  pub faultless_behind : (i : Input) (hs H : List Mark) → IsProper H → Allowed hs H → AllFit g hs H → AreFaultless i H → AreFaultless i (after hs H)
   faultless_behind i [] H q a f o = o
   faultless_behind i (h ∷ hs) H q a f o =
       faultless_behind i hs (h ∷ H) (step h H q a.0) a.1 f.1 (record { talks = talks_more i H q h a.0 f.0 o.talks; answers = answers_more i H q h a.0 f.0 o.answers })
@@ -176,11 +176,11 @@ module _ (g : Config) where
   stop_step Stops H f = absurd f
   stop_step _ H f = refl
 
-  bytes_stay : (hs H : List Mark) (c : ℕ) → AllFit g hs H → bytes c (after hs H) ≡ bytes c H
+  pub bytes_stay : (hs H : List Mark) (c : ℕ) → AllFit g hs H → bytes c (after hs H) ≡ bytes c H
   bytes_stay [] H c f = refl
   bytes_stay (h ∷ hs) H c f = bytes_stay hs (h ∷ H) c f.1 ∙ bytes_step h H c f.0
 
-  replies_stay : (hs H : List Mark) (l : ℕ) → AllFit g hs H → replies l (after hs H) ≡ replies l H
+  pub replies_stay : (hs H : List Mark) (l : ℕ) → AllFit g hs H → replies l (after hs H) ≡ replies l H
   replies_stay [] H l f = refl
   replies_stay (h ∷ hs) H l f = replies_stay hs (h ∷ H) l f.1 ∙ replies_step h H l f.0
 
@@ -198,7 +198,7 @@ module _ (g : Config) where
       by r true e = r
       by r false e = rw e r
 
-  not_open : (c : ℕ) (H : List Mark) → is_open c H ≡ false → is_live c H ≡ false
+  pub not_open : (c : ℕ) (H : List Mark) → is_open c H ≡ false → is_live c H ≡ false
   not_open c H e = ap (λ b. b && not (is_ignored c H)) e
 
   dead_then : (c : ℕ) (f : ZmtpFault) (M : List Mark) → is_live c (after (at_place g c (Fault f) M ++ []) M) ≡ false
@@ -240,7 +240,7 @@ module _ (g : Config) where
           let y : true ≡ false = sym v ∙ ap (λ ss. is_live c (after (at_places g c ss K) K)) all ∙ fault_ends c f xs K in
           cc
 
-  conn_ends : (i : Input) (c : ℕ) (H K : List Mark) (more : List ℕ) → names_conn c i ≡ true → bytes c K ≡ bytes c H ++ more → (is_live c K ≡ true → fault_in g.id (bytes c H) ≡ None)
+  pub conn_ends : (i : Input) (c : ℕ) (H K : List Mark) (more : List ℕ) → names_conn c i ≡ true → bytes c K ≡ bytes c H ++ more → (is_live c K ≡ true → fault_in g.id (bytes c H) ≡ None)
       → is_live c (after (at_input g i H K) K) ≡ true → fault_in g.id (bytes c K) ≡ None
   conn_ends (input.Piece d o) c H K more n e was v =
       let same : c ≡ d = eqb-true c d n in
@@ -272,7 +272,7 @@ module _ (g : Config) where
           linked true y u = found (reply_fault (replies l K)) refl u
           linked false y u = was y u
 
-  link_ends : (i : Input) (l : ℕ) (H K : List Mark) → names_link l i ≡ true → (is_linked l K ≡ false → IsSome (life l K) → reply_fault (replies l K) ≡ None)
+  pub link_ends : (i : Input) (l : ℕ) (H K : List Mark) → names_link l i ≡ true → (is_linked l K ≡ false → IsSome (life l K) → reply_fault (replies l K) ≡ None)
       → IsSome (life l (after (at_input g i H K) K)) → reply_fault (replies l K) ≡ None
   link_ends (input.Reply k o) l H K n was s =
       let same : l ≡ k = eqb-true l k n in

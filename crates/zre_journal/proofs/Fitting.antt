@@ -95,9 +95,11 @@ module _ (g : Config) where
   falters_fit (v ∷ vs) I H s =
       let p = push g v.link body.Ping I in
       let t : AreSame (Falters v.link ∷ I) (Falters v.link ∷ H) = record { put = s.put; gone = s.gone } in
-      let u : AreSame I (Falters v.link ∷ H) = record { put = s.put; gone = s.gone } in
-      (tt, fit_both g p (falter g vs (after p (Falters v.link ∷ I))) (Falters v.link ∷ H) (push_fits v.link body.Ping I (Falters v.link ∷ H) u)
-          (falters_fit vs (after p (Falters v.link ∷ I)) (after p (Falters v.link ∷ H)) (same_after p (Falters v.link ∷ I) (Falters v.link ∷ H) t)))
+      let u : AreSame I (Falters v.link ∷ H) = record { put = s.put; gone = s.gone } in (
+        tt,
+        fit_both g p (falter g vs (after p (Falters v.link ∷ I))) (Falters v.link ∷ H) (push_fits v.link body.Ping I (Falters v.link ∷ H) u)
+            (falters_fit vs (after p (Falters v.link ∷ I)) (after p (Falters v.link ∷ H)) (same_after p (Falters v.link ∷ I) (Falters v.link ∷ H) t)),
+      )
 
   -- ---- ends and closings
 

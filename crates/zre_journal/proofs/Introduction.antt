@@ -41,7 +41,7 @@ strings-short [] fit = omega arith
 strings-short (g ∷ gs) fit =
     omega (arith, fit.0, strings-short gs fit.1, ap (length {A = ℕ}) (flat_map-cons long_string g gs), length-append (long_string g) (flat_map long_string gs))
 
-fitting : (h : List ℕ × List ℕ) → is_fitting h ≡ true → (length h.0 ≤ 255) × (length h.1 ≤ 1024)
+pub fitting : (h : List ℕ × List ℕ) → is_fitting h ≡ true → (length h.0 ≤ 255) × (length h.1 ≤ 1024)
 fitting h e =
     let p = and_parts (leb (length h.0) 255) (leb (length h.1) 1024) e in
     (leb-true _ _ p.0, leb-true _ _ p.1)
@@ -59,13 +59,13 @@ pairs-short (h ∷ hs) fit =
 
 -- ---- settings
 -- what valid settings say of HELLO
-record AreSmall (g : Config) : Type 0 where
+pub record AreSmall (g : Config) : Type 0 where
   pub name : length g.name ≤ 255
   pub few : length g.headers ≤ HEADERS
   pub fit : list_all is_fitting g.headers ≡ true
   pub port_is_some : 0 < g.port
 
-small : (g : Config) → is_valid g ≡ true → AreSmall g
+pub small : (g : Config) → is_valid g ≡ true → AreSmall g
 small g valid =
     let name = leb (length g.name) 255 in
     let few = leb (length g.headers) HEADERS in

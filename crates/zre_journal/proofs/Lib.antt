@@ -5,6 +5,7 @@ pub mod Faultless
 pub mod Few
 pub mod Fields
 pub mod Fitting
+pub mod Holding
 pub mod Idle
 pub mod Introduction
 pub mod Joined

@@ -1,10 +1,13 @@
 //! Laws of what journals mean. The functions do nothing: what they ensure is for proofs.
 
-ghost use Rattle.std.specs.Prelude.{◌≡◌, true, List};
+ghost use Rattle.std.specs.Prelude.{◌≡◌, ◌≤◌, true, List};
 ghost use Rattle.zre_outside.specs.declared.entry.Entry.{Entry};
 ghost use Rattle.zre_journal.specs.declared.config.Config.{Config};
 ghost use Rattle.zre_journal.specs.Chronicle.{Mark};
 ghost use Rattle.zre_journal.specs.Events.{chronicle, events};
+ghost use Rattle.zre_journal.specs.Asked.{held_behind, bound_behind};
+ghost use Rattle.zre_journal.specs.Config.{CanBe};
+ghost use Rattle.zre_journal.specs.Held.{Within};
 ghost use Rattle.zre_journal.specs.Introducing.{CanIntroduce, Introduces};
 ghost use Rattle.zre_journal.specs.Happens.{has_stopped};
 ghost use Rattle.zre_journal.specs.Laws.{Continues, HasEnded, RunsAlone, AreStrangers, AreFew, EndsOnce, ShowsItsMessages};
@@ -70,4 +73,11 @@ pub fn views_follow_messages()
 /// message, and no new link is slow with it.
 pub fn hello_fits()
     ensures { (g : Config) (H : List Mark) → CanIntroduce g H → Introduces g H }
+{}
+
+/// What a node holds has a limit in each part, and so altogether one that its known peers and its open connections set:
+/// below 2.3 GB with as many of both as there may be.
+pub fn what_is_held_is_bounded()
+    ensures parts { (g : Config) (J : List Entry) → CanBe g → Within g (chronicle g J) }
+    ensures all { (g : Config) (J : List Entry) → CanBe g → held_behind g J ≤ bound_behind g J }
 {}
