@@ -38,7 +38,7 @@ empty = record {
 }
 
 module _ (g : Config) where
-  input_allowed : (i : Input) (H K : List Mark) → IsProper K → Allowed (at_input g i H K) K
+  pub input_allowed : (i : Input) (H K : List Mark) → IsProper K → Allowed (at_input g i H K) K
   input_allowed (input.Datagram from o) H K p = datagram_allowed g K p from (beacon_in o)
   input_allowed (input.Opened c) H K p = opened_allowed g K p c
   input_allowed (input.Piece c o) H K p = places_allowed g c (newly_said g.id c H K) K p

@@ -25,7 +25,7 @@ pub append-length : {A : Type 0} (xs : List A) (y : A) → length (xs ++ y ∷ [
 append-length [] y = refl
 append-length (x ∷ xs) y = let r : length (xs ++ y ∷ []) ≡ length xs + 1 = append-length xs y in omega (arith, r)
 
-kept-length : {A : Type 0} (t : A → Bool) (xs : List A) → length (filter t xs) ≤ length xs
+pub kept-length : {A : Type 0} (t : A → Bool) (xs : List A) → length (filter t xs) ≤ length xs
 kept-length t [] = omega arith
 kept-length t (x ∷ xs) = by (kept-length t xs) (t x)
   where

@@ -41,7 +41,7 @@ strings-short [] fit = omega arith
 strings-short (g ∷ gs) fit =
     omega (arith, fit.0, strings-short gs fit.1, ap (length {A = ℕ}) (flat_map-cons long_string g gs), length-append (long_string g) (flat_map long_string gs))
 
-fitting : (h : List ℕ × List ℕ) → is_fitting h ≡ true → (length h.0 ≤ 255) × (length h.1 ≤ 1024)
+pub fitting : (h : List ℕ × List ℕ) → is_fitting h ≡ true → (length h.0 ≤ 255) × (length h.1 ≤ 1024)
 fitting h e =
     let p = and_parts (leb (length h.0) 255) (leb (length h.1) 1024) e in
     (leb-true _ _ p.0, leb-true _ _ p.1)
@@ -59,13 +59,13 @@ pairs-short (h ∷ hs) fit =
 
 -- ---- settings
 -- what valid settings say of HELLO
-record AreSmall (g : Config) : Type 0 where
+pub record AreSmall (g : Config) : Type 0 where
   pub name : length g.name ≤ 255
   pub few : length g.headers ≤ HEADERS
   pub fit : list_all is_fitting g.headers ≡ true
   pub port_is_some : 0 < g.port
 
-small : (g : Config) → is_valid g ≡ true → AreSmall g
+pub small : (g : Config) → is_valid g ≡ true → AreSmall g
 small g valid =
     let name = leb (length g.name) 255 in
     let few = leb (length g.headers) HEADERS in
@@ -115,7 +115,7 @@ hello-short g H can =
 ready-length : (own : PeerId) → length (ready_body socket.Dealer (Some own)) ≡ length own.0 + 42
 ready-length own = omega arith
 
-new-short : (own : PeerId) → length own.0 ≡ 16 → length (text_of own []) ≤ 200
+pub new-short : (own : PeerId) → length own.0 ≡ 16 → length (text_of own []) ≤ 200
 new-short own sixteen =
     omega (arith, sixteen, ready-length own, frame-short 4 (ready_body socket.Dealer (Some own)), length-append own_greeting (ready_frame socket.Dealer (Some own)), length-append (handshake socket.Dealer (Some own)) [])
 

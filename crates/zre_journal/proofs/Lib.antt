@@ -2,7 +2,11 @@ pub mod Always
 pub mod Brings
 pub mod Due
 pub mod Entered
+pub mod Faultless
 pub mod Few
+pub mod Fields
+pub mod Fitting
+pub mod Holding
 pub mod Idle
 pub mod Introduction
 pub mod Joined
@@ -11,8 +15,13 @@ pub mod Known
 pub mod Lawful
 pub mod Listed
 pub mod Passing
+pub mod Room
 mod Rows
 pub mod Says
+pub mod Sayings
 pub mod Silent
 pub mod Steps
+pub mod Stopping
+pub mod Streams
 pub mod Telling
+pub mod Viewed

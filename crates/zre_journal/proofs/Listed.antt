@@ -1,5 +1,5 @@
 -- Lists of numbered things: found by number, taken out by number, put at the end.
-use Rattle.std.proofs.Common.{◌≡◌, ℕ, ◌<◌, Bool, true, false, cond, not, ◌||◌, eqb, List, [], ◌∷◌, ◌++◌, Option, Some, None, IsSome, refl, sym, ap, ◌∙◌, arith, eqb-true, eq-eqb, ne_eqb, subst, find, filter}
+use Rattle.std.proofs.Common.{◌≡◌, ℕ, zero, suc, ◌<◌, Bool, true, false, cond, not, ◌||◌, eqb, List, [], ◌∷◌, ◌++◌, Option, Some, None, IsSome, refl, sym, ap, ◌∙◌, arith, eqb-true, eq-eqb, ne_eqb, subst, find, filter, drop}
 use Rattle.std.proofs.lemmas.Bool.{eqb-false}
 use Rattle.std.specs.List.{AllByRecursion, list_any}
 use Rattle.zre_journal.specs.Proper.{Apart}
@@ -25,6 +25,15 @@ module _ {A : Type 0} where
   pub All-append : (P : A → Type 0) (xs : List A) (y : A) → AllByRecursion P xs → P y → AllByRecursion P (xs ++ y ∷ [])
   All-append P [] y h p = (p, tt)
   All-append P (x ∷ xs) y h p = (h.0, All-append P xs y h.1 p)
+
+  pub All-join : (P : A → Type 0) (xs ys : List A) → AllByRecursion P xs → AllByRecursion P ys → AllByRecursion P (xs ++ ys)
+  All-join P [] ys h k = k
+  All-join P (x ∷ xs) ys h k = (h.0, All-join P xs ys h.1 k)
+
+  pub All-drop : (P : A → Type 0) (n : ℕ) (xs : List A) → AllByRecursion P xs → AllByRecursion P (drop n xs)
+  All-drop P zero xs h = h
+  All-drop P (suc n) [] h = tt
+  All-drop P (suc n) (x ∷ xs) h = All-drop P n xs h.1
 
   pub All-map : (P Q : A → Type 0) → ((x : A) → P x → Q x) → (xs : List A) → AllByRecursion P xs → AllByRecursion Q xs
   All-map P Q i [] h = tt

@@ -1,5 +1,5 @@
--- What a node is asked behind a journal: who is entered and with what view, and what the links of known peers have to send.
-use Rattle.std.specs.Prelude.{◌≡◌, ◌≢◌, ℕ, ◌<◌, List, [], ◌++◌, Option, Some, None, option_map, option_and_then, map, if◌then◌else◌, IsSome}
+-- What a node is asked behind a journal: who is entered and with what view, what the links of known peers have to send, and what it holds.
+use Rattle.std.specs.Prelude.{◌≡◌, ◌≢◌, ℕ, ◌<◌, List, [], ◌++◌, Option, Some, None, option_map, option_and_then, map, length, if◌then◌else◌, IsSome}
 use Rattle.std.specs.List.{filter, AllByRecursion}
 use Rattle.zre_values.specs.declared.peer_id.PeerId.{PeerId}
 use Rattle.zre_outside.specs.declared.act.Act.{Act}
@@ -8,7 +8,9 @@ use Rattle.zre_outside.specs.declared.entry.Entry.{Entry}
 use Rattle.zre_peer.specs.declared.view.View.{View}
 use Rattle.zre_journal.specs.declared.config.Config.{Config}
 use Rattle.zre_journal.specs.Chronicle.{Mark}
+use Rattle.zre_journal.specs.Connections.{open_ones}
 use Rattle.zre_journal.specs.Events.{chronicle}
+use Rattle.zre_journal.specs.Held.{held, bound}
 use Rattle.zre_journal.specs.Links.{front, gate, taken, unsent}
 use Rattle.zre_journal.specs.Peers.{Life, is_entered, life, life_of, lives, view}
 
@@ -35,6 +37,14 @@ unsent_behind g J l = option_map (λ (v : Life). unsent g v.link (chronicle g J)
 -- the octets that may go out on a link, where it is that of a known peer
 abbrev pub front_behind : Config → List Entry → ℕ → Option (List ℕ)
 front_behind g J l = option_map (λ (v : Life). front g v.link (chronicle g J)) (life l (chronicle g J))
+
+-- how many octets the node holds
+abbrev pub held_behind : Config → List Entry → ℕ
+held_behind g J = held g (chronicle g J)
+
+-- how many they are at most, with so many known peers and open connections
+abbrev pub bound_behind : Config → List Entry → ℕ
+bound_behind g J = bound (length (lives (chronicle g J))) (length (open_ones (chronicle g J)))
 
 -- some of the first of these octets, where there are any
 pub record IsFront (whole part : List ℕ) : Type 0 where

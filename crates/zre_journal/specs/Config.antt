@@ -1,8 +1,9 @@
 -- The settings of a node.
-use Rattle.std.specs.Prelude.{ℕ, Bool, true, not, ◌&&◌, nat_le, nat_lt, List, [], ◌∷◌, length}
+use Rattle.std.specs.Prelude.{◌≡◌, ℕ, ◌<◌, ◌^◌, Bool, true, not, ◌&&◌, nat_le, nat_lt, List, [], ◌∷◌, length}
 use Rattle.std.specs.List.{list_all, list_any}
 use Rattle.std.specs.Str.{bytes_eq}
 use Rattle.zre_values.specs.declared.limits.TheConstants.{HEADERS}
+use Rattle.zre_values.specs.Address.{IsAddress}
 use Rattle.zre_values.specs.Endpoint.{endpoint_text}
 use Rattle.zre_journal.specs.declared.config.Config.{Config}
 
@@ -24,3 +25,10 @@ is_valid g =
 -- where its mailbox is, as its HELLO says it
 abbrev pub own_endpoint : Config → List ℕ
 own_endpoint g = endpoint_text (record { addr = g.host; port = g.port })
+
+-- a node can be with these settings: they are valid, its id has 16 octets, and it has an address and a port
+pub record CanBe (g : Config) : Type 0 where
+  pub valid : is_valid g ≡ true
+  pub sixteen : length g.id.0 ≡ 16
+  pub host_is : IsAddress g.host
+  pub port_fits : g.port < 2 ^ 16

@@ -1,6 +1,7 @@
--- The octets that a node holds of its peers.
-use Rattle.std.specs.Prelude.{ℕ, ◌+◌, ◌*◌, List, length, if◌then◌else◌, sum_by}
-use Rattle.std.specs.List.{filter}
+-- The octets that a node holds of its peers, and how many they are at most.
+use Rattle.std.specs.Prelude.{ℕ, ◌+◌, ◌*◌, ◌≤◌, List, length, if◌then◌else◌, sum_by}
+use Rattle.std.specs.List.{filter, AllByRecursion}
+use Rattle.zre_values.specs.declared.limits.TheConstants.{PEERS, CONNECTIONS, MESSAGE_OCTETS, COMMAND_OCTETS, GROUPS, HEADERS, GROUP_OCTETS, OWN_GROUPS, UNSENT_OCTETS}
 use Rattle.zre_zmtp.specs.declared.want.Want.{Want}
 use Rattle.zre_zmtp.specs.declared.want.Want.TheVariants.{Router, Dealer}
 use Rattle.zre_zmtp.specs.Stream.{Whole, opened, split}
@@ -44,6 +45,36 @@ module _ (g : Config) (H : List Mark) where
   -- all of them
   abbrev pub held : ℕ
   held = sum_by conn_octets (filter (λ c. is_live c H) (open_ones H)) + sum_by peer_octets (lives H) + own_octets
+
+-- ---- at most
+
+-- of a stream: the bodies of an unfinished message, a header, and the body of a command
+abbrev pub stream_most : ℕ
+stream_most = MESSAGE_OCTETS + 9 + COMMAND_OCTETS
+
+-- of a view: what a HELLO has room for, and its groups
+abbrev pub view_most : ℕ
+view_most = MESSAGE_OCTETS + GROUPS * GROUP_OCTETS
+
+-- of the node itself: its name, its headers and its groups
+abbrev pub own_most : ℕ
+own_most = 255 + HEADERS * (255 + 1024) + OWN_GROUPS * GROUP_OCTETS
+
+pub record Within (g : Config) (H : List Mark) : Type 0 where
+  -- few peers are known
+  pub few_peers : length (lives H) ≤ PEERS
+  -- few connections are open
+  pub few_connections : length (open_ones H) ≤ CONNECTIONS
+  -- each connection that is live leaves no more unfinished than a stream without a fault can
+  pub by_connections : AllByRecursion (λ c. conn_octets g H c ≤ stream_most) (filter (λ c. is_live c H) (open_ones H))
+  -- so do the replies on the link of each known peer
+  pub by_replies : AllByRecursion (λ (v : Life). reply_octets g H v.link ≤ stream_most) (lives H)
+  -- its link has no more to send than makes it slow
+  pub by_unsent : AllByRecursion (λ (v : Life). unsent g v.link H ≤ UNSENT_OCTETS) (lives H)
+  -- its view is no larger than a HELLO and groups make it
+  pub by_views : AllByRecursion (λ (v : Life). view_octets (view v.link H) ≤ view_most) (lives H)
+  -- the node's own texts are within the limits of settings and groups
+  pub by_itself : own_octets g H ≤ own_most
 
 -- what a node holds at most, with this many known peers and open connections
 abbrev pub bound : ℕ → ℕ → ℕ

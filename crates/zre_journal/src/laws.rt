@@ -1,11 +1,14 @@
 //! Laws of what journals mean. The functions do nothing: what they ensure is for proofs.
 
-ghost use Rattle.std.specs.Prelude.{◌≡◌, ◌++◌, ◌∷◌, [], true, List};
+ghost use Rattle.std.specs.Prelude.{◌≡◌, ◌≤◌, ◌++◌, ◌∷◌, [], true, List};
 ghost use Rattle.zre_outside.specs.declared.entry.Entry.{Entry};
 ghost use Rattle.zre_journal.specs.declared.config.Config.{Config};
 ghost use Rattle.zre_journal.specs.Asked.{AreDue};
 ghost use Rattle.zre_journal.specs.Chronicle.{Mark};
 ghost use Rattle.zre_journal.specs.Events.{acts_behind, chronicle, events};
+ghost use Rattle.zre_journal.specs.Asked.{held_behind, bound_behind};
+ghost use Rattle.zre_journal.specs.Config.{CanBe};
+ghost use Rattle.zre_journal.specs.Held.{Within};
 ghost use Rattle.zre_journal.specs.Introducing.{CanIntroduce, Introduces};
 ghost use Rattle.zre_journal.specs.Happens.{has_stopped};
 ghost use Rattle.zre_journal.specs.Laws.{Continues, HasEnded, RunsAlone, AreStrangers, AreFew, EndsOnce, ShowsItsMessages};
@@ -76,4 +79,11 @@ pub fn hello_fits()
 /// Where a link is to be looked at, its peer is known and it has octets that may go out.
 pub fn offers_are_due()
     ensures { (g : Config) (J : List Entry) (e : Entry) → AreDue g (chronicle g (J ++ e ∷ [])) (acts_behind g (e ∷ []) (chronicle g J)) }
+{}
+
+/// What a node holds has a limit in each part, and so altogether one that its known peers and its open connections set:
+/// below 2.3 GB with as many of both as there may be.
+pub fn what_is_held_is_bounded()
+    ensures parts { (g : Config) (J : List Entry) → CanBe g → Within g (chronicle g J) }
+    ensures all { (g : Config) (J : List Entry) → CanBe g → held_behind g J ≤ bound_behind g J }
 {}

@@ -1,0 +1,152 @@
+-- When marks leave what is kept of groups, links and views within its limits, and that it stays so behind marks that do.
+use Rattle.std.proofs.Common.{◌≡◌, ℕ, ◌+◌, ◌-◌, ◌<◌, ◌≤◌, Bool, true, false, cond, ◌&&◌, eqb, List, [], ◌∷◌, ◌++◌, length, Some, None, refl, sym, ap, ◌∙◌, arith, eqb-true, subst, length-append}
+use Rattle.std.specs.List.{AllByRecursion}
+use Rattle.std.specs.Str.{bytes_eq}
+use Rattle.std.proofs.lemmas.Bool.{and_parts}
+use Rattle.zre_values.specs.Lists.{without}
+use Rattle.zre_values.specs.declared.limits.TheConstants.{MESSAGE_OCTETS, UNSENT_OCTETS, OWN_GROUPS, GROUP_OCTETS}
+use Rattle.zre_msg.specs.Spelling.{octets}
+use Rattle.zre_msg.specs.declared.message.Body.{Body}
+use Rattle.zre_msg.specs.declared.message.Message.{Message}
+use Rattle.zre_link.specs.Text.{text_of, next_message, size_of}
+use Rattle.zre_link.proofs.Numbered.{text_more}
+use Rattle.zre_peer.specs.Runs.{is_hello}
+use Rattle.zre_peer.specs.Views.{view_of, is_small}
+use Rattle.zre_journal.specs.declared.config.Config.{Config}
+use Rattle.zre_journal.specs.Chronicle.{Mark, Comes, Starts, Counts, Puts, Takes, Joins, Leaves, Stops, after, ever, followed}
+use Rattle.zre_journal.specs.Config.{CanBe}
+use Rattle.zre_journal.specs.Connections.{refuses}
+use Rattle.zre_journal.specs.Peers.{counted, view}
+use Rattle.zre_journal.specs.Links.{groups, bodies, taken, unsent}
+use Rattle.zre_journal.specs.Proper.{IsProper}
+use Rattle.zre_journal.specs.Introducing.{CanIntroduce}
+use Rattle.zre_journal.proofs.Few.{append-length}
+use Rattle.zre_journal.proofs.Fields.{hello_octets}
+use Rattle.zre_journal.proofs.Introduction.{new-short}
+use Rattle.zre_journal.proofs.Kept.{run_is}
+use Rattle.zre_journal.proofs.Listed.{All-append}
+use Rattle.zre_journal.proofs.Steps.{May, Allowed, step}
+use Rattle.zre_journal.proofs.Viewed.{IsShortView, blank-short, first-short, later-short}
+
+-- what is put and not sent, what is told, and the node's own groups are within their limits
+pub record HasRoom (g : Config) (H : List Mark) : Type 0 where
+  pub unsent_fits : (l : ℕ) → unsent g l H ≤ UNSENT_OCTETS
+  pub views_fit : (l : ℕ) → IsShortView (view l H)
+  pub groups_fit : AllByRecursion (λ group. length group ≤ GROUP_OCTETS) (groups H)
+  pub few_groups : length (groups H) ≤ OWN_GROUPS
+
+module _ (g : Config) where
+  -- whether a mark keeps these limits behind H. Neither an entry nor a stop is among those that are asked
+  abbrev pub Fits : Mark → List Mark → Type 0
+  Fits (Comes e) H = ⊥
+  Fits (Starts c l m) H = (ever (refuses c) H ≡ false) × (hello_octets m.body ≤ MESSAGE_OCTETS)
+  Fits (Puts l b) H = unsent g l H + size_of (bodies l H) b ≤ UNSENT_OCTETS
+  Fits (Joins group) H = (length group ≤ GROUP_OCTETS) × (length (groups H) < OWN_GROUPS)
+  Fits Stops H = ⊥
+  Fits _ H = Unit {0}
+
+  -- whether marks do, each behind those before it
+  abbrev pub AllFit : List Mark → List Mark → Type 0
+  AllFit [] H = Unit {0}
+  AllFit (h ∷ hs) H = Fits h H × AllFit hs (h ∷ H)
+
+  pub fit_both : (hs ks H : List Mark) → AllFit hs H → AllFit ks (after hs H) → AllFit (hs ++ ks) H
+  fit_both [] ks H a b = b
+  fit_both (h ∷ hs) ks H a b = (a.0, fit_both hs ks (h ∷ H) a.1 b)
+
+  pub fit_either : (b : Bool) (hs ks H : List Mark) → (b ≡ true → AllFit hs H) → (b ≡ false → AllFit ks H) → AllFit (cond b hs ks) H
+  fit_either true hs ks H f k = f refl
+  fit_either false hs ks H f k = k refl
+
+  -- ---- mark by mark
+
+  -- one more body on a link
+  put_room : (bs : List Body) (b : Body) (n : ℕ) → length (text_of g.id bs) - n + size_of bs b ≤ UNSENT_OCTETS → length (text_of g.id (bs ++ b ∷ [])) - n ≤ UNSENT_OCTETS
+  put_room bs b n fits =
+      let more : length (text_of g.id (bs ++ b ∷ [])) ≡ length (text_of g.id bs) + size_of bs b = ap length (text_more g.id bs b) ∙ length-append (text_of g.id bs) (octets (next_message bs b)) in
+      omega (arith, more, fits)
+
+  puts : (l : ℕ) (b : Body) (H : List Mark) → unsent g l H + size_of (bodies l H) b ≤ UNSENT_OCTETS → ((k : ℕ) → unsent g k H ≤ UNSENT_OCTETS) → (k : ℕ) → unsent g k (Puts l b ∷ H) ≤ UNSENT_OCTETS
+  puts l b H fits was k = by (eqb k l) refl
+    where
+      by : (t : Bool) → eqb k l ≡ t → length (text_of g.id (followed (bodies k H) (cond t (Some b) None))) - taken k H ≤ UNSENT_OCTETS
+      by true q = put_room (bodies k H) b (taken k H) (subst (λ x. unsent g x H + size_of (bodies x H) b ≤ UNSENT_OCTETS) (sym (eqb-true k l q)) fits)
+      by false q = was k
+
+  takes : (l n : ℕ) (H : List Mark) → ((k : ℕ) → unsent g k H ≤ UNSENT_OCTETS) → (k : ℕ) → unsent g k (Takes l n ∷ H) ≤ UNSENT_OCTETS
+  takes l n H was k = by (eqb k l)
+    where
+      by : (t : Bool) → length (text_of g.id (bodies k H)) - cond t (taken k H + n) (taken k H) ≤ UNSENT_OCTETS
+      by true = let r : length (text_of g.id (bodies k H)) - taken k H ≤ UNSENT_OCTETS = was k in omega (arith, r)
+      by false = was k
+
+  starts : (c l : ℕ) (m : Message) (H : List Mark) → IsProper H → May (Starts c l m) H → hello_octets m.body ≤ MESSAGE_OCTETS → ((k : ℕ) → IsShortView (view k H)) → (k : ℕ) → IsShortView (view k (Starts c l m ∷ H))
+  starts c l m H q may le was k = by (eqb k l) refl
+    where
+      silent : counted l H ≡ []
+      silent = q.running.is_silent l may.free
+
+      by : (t : Bool) → eqb k l ≡ t → IsShortView (view_of (followed (counted k H) (cond t (Some m) None)))
+      by true e =
+          let none : counted k H ≡ [] = ap (λ x. counted x H) (eqb-true k l e) ∙ silent in
+          let p = and_parts (is_hello m.body && eqb m.sequence 1) (is_small (view_of (m ∷ []))) may.first in
+          let h = and_parts (is_hello m.body) (eqb m.sequence 1) p.0 in
+          rw none (first-short m h.0 p.1 le)
+      by false e = was k
+
+  counts : (c l : ℕ) (m : Message) (H : List Mark) → May (Counts c l m) H → ((k : ℕ) → IsShortView (view k H)) → (k : ℕ) → IsShortView (view k (Counts c l m ∷ H))
+  counts c l m H may was k = by (eqb k l) refl
+    where
+      by : (t : Bool) → eqb k l ≡ t → IsShortView (view_of (followed (counted k H) (cond t (Some m) None)))
+      by true e = later-short (counted k H) m may.later (subst (λ x. is_small (view_of (counted x H ++ m ∷ [])) ≡ true) (sym (eqb-true k l e)) may.small) (was k)
+      by false e = was k
+
+  fewer : (group : List ℕ) (gs : List (List ℕ)) → length (without group gs) ≤ length gs
+  fewer group [] = omega arith
+  fewer group (x ∷ gs) = by (fewer group gs) (bytes_eq x group)
+    where
+      by : length (without group gs) ≤ length gs → (b : Bool) → length (cond b gs (x ∷ without group gs)) ≤ length (x ∷ gs)
+      by r true = omega arith
+      by r false = omega (arith, r)
+
+  still_short : (group : List ℕ) (gs : List (List ℕ)) → AllByRecursion (λ x. length x ≤ GROUP_OCTETS) gs → AllByRecursion (λ x. length x ≤ GROUP_OCTETS) (without group gs)
+  still_short group [] h = tt
+  still_short group (x ∷ gs) h = by (still_short group gs h.1) (bytes_eq x group)
+    where
+      by : AllByRecursion (λ y. length y ≤ GROUP_OCTETS) (without group gs) → (b : Bool) → AllByRecursion (λ y. length y ≤ GROUP_OCTETS) (cond b gs (x ∷ without group gs))
+      by r true = h.1
+      by r false = (h.0, r)
+
+  pub room-more : (h : Mark) (H : List Mark) → IsProper H → May h H → Fits h H → HasRoom g H → HasRoom g (h ∷ H)
+  room-more (Puts l b) H q m f o = record { unsent_fits = puts l b H f o.unsent_fits; views_fit = o.views_fit; groups_fit = o.groups_fit; few_groups = o.few_groups }
+  room-more (Takes l n) H q m f o = record { unsent_fits = takes l n H o.unsent_fits; views_fit = o.views_fit; groups_fit = o.groups_fit; few_groups = o.few_groups }
+  room-more (Starts c l s) H q m f o = record { unsent_fits = o.unsent_fits; views_fit = starts c l s H q m f.1 o.views_fit; groups_fit = o.groups_fit; few_groups = o.few_groups }
+  room-more (Counts c l s) H q m f o = record { unsent_fits = o.unsent_fits; views_fit = counts c l s H m o.views_fit; groups_fit = o.groups_fit; few_groups = o.few_groups }
+  room-more (Joins group) H q m f o = record {
+    unsent_fits = o.unsent_fits;
+    views_fit = o.views_fit;
+    groups_fit = All-append (λ x. length x ≤ GROUP_OCTETS) (groups H) group o.groups_fit f.0;
+    few_groups = omega (arith, f.1, append-length (groups H) group);
+  }
+  room-more (Leaves group) H q m f o = record {
+    unsent_fits = o.unsent_fits;
+    views_fit = o.views_fit;
+    groups_fit = still_short group (groups H) o.groups_fit;
+    few_groups = omega (arith, fewer group (groups H), o.few_groups);
+  }
+  room-more _ H q m f o = record { unsent_fits = o.unsent_fits; views_fit = o.views_fit; groups_fit = o.groups_fit; few_groups = o.few_groups }
+
+  pub room-behind : (hs H : List Mark) → IsProper H → Allowed hs H → AllFit hs H → HasRoom g H → HasRoom g (after hs H)
+  room-behind [] H q a f o = o
+  room-behind (h ∷ hs) H q a f o = room-behind hs (h ∷ H) (step h H q a.0) a.1 f.1 (room-more h H q a.0 f.0 o)
+
+  pub room-empty : CanBe g → HasRoom g []
+  room-empty can = record {
+    unsent_fits = λ l. omega (arith, new-short g.id can.sixteen);
+    views_fit = λ l. blank-short;
+    groups_fit = tt;
+    few_groups = omega arith;
+  }
+
+  pub can_introduce : CanBe g → (H : List Mark) → HasRoom g H → CanIntroduce g H
+  can_introduce can H o = record { valid = can.valid; sixteen = can.sixteen; host_is = can.host_is; port_fits = can.port_fits; groups_fit = o.groups_fit; few_groups = o.few_groups }
