@@ -1,0 +1,2 @@
+pub mod RealWorlds
+pub mod Tokens

@@ -1,0 +1,78 @@
+use crate::room::Room;
+use crate::step::Step;
+use crate::trouble::{Trouble, trouble_of};
+use mio::net::UdpSocket;
+use std::alloc::Global;
+use std::io;
+use std::net::{Ipv4Addr, Net, SocketAddr};
+use zre_outside::{Input, NextFault, Start};
+use zre_values::Octets;
+
+/// The socket that beacons come to and go out from, and where they go to.
+#[derive(Drop)]
+pub(crate) struct Beacons {
+    pub(crate) socket: UdpSocket,
+    pub(crate) is_queued: bool,
+    to: Vec<[u8; 4]>,
+    port: u16,
+}
+
+pub(crate) fn address(addr: [u8; 4], port: u16) -> SocketAddr {
+    SocketAddr::from((Ipv4Addr::from(addr), port))
+}
+
+fn bind<R: Net>(rt: &R, s: &Start) -> io::Result<UdpSocket> {
+    let socket = UdpSocket::bind(rt, address(s.listen, s.beacon_port))?;
+    socket.set_broadcast(true)?;
+    Ok(socket)
+}
+
+impl Beacons {
+    pub(crate) fn open<R: Net>(rt: &R, alloc: Global, s: &Start) -> Result<Self, NextFault> {
+        let Ok(socket) = bind(rt, s) else {
+            return Err(NextFault::Failed);
+        };
+        let Ok(to) = Vec::from_slice(alloc, s.to.as_slice()) else {
+            return Err(NextFault::OutOfMemory);
+        };
+        Ok(Beacons {
+            socket,
+            is_queued: false,
+            to,
+            port: s.beacon_port,
+        })
+    }
+
+    /// Sends a beacon to each address. One that can't be sent is dropped, since another follows.
+    pub(crate) fn send(&self, bytes: &[u8]) {
+        for to in &self.to {
+            let _ = self.socket.send_to(bytes, address(*to, self.port));
+        }
+    }
+
+    pub(crate) fn step(&mut self, room: &mut Room) -> Result<Step, NextFault> {
+        let Ok(datagram) = room.receive(&self.socket) else {
+            return Err(NextFault::OutOfMemory);
+        };
+        match datagram {
+            Ok(datagram) => Ok(entry_of(datagram)),
+            Err(e) => match trouble_of(&e) {
+                Trouble::Nothing => Ok(Step::Rest),
+                Trouble::Passing => Ok(Step::Again),
+                Trouble::Lasting => Err(NextFault::Failed),
+            },
+        }
+    }
+}
+
+// The socket is bound to an address of IPv4, so that no others send to it.
+fn entry_of(datagram: (Octets, SocketAddr)) -> Step {
+    let (bytes, from) = datagram;
+    match from {
+        SocketAddr::V4(from) => Step::More(Input::Datagram {
+            from: from.ip().octets(),
+            bytes,
+        }),
+        SocketAddr::V6(_) => Step::Again,
+    }
+}

@@ -1,0 +1,49 @@
+use crate::room::{Heard, Room};
+use crate::step::Step;
+use mio::net::TcpStream;
+use std::io::Write;
+use zre_outside::Input;
+use zre_values::OutOfMemory;
+
+/// A connection that another node opened. It has no stream any more where an answer broke it.
+#[derive(Drop)]
+pub(crate) struct Conn {
+    stream: Option<TcpStream>,
+    pub(crate) is_queued: bool,
+}
+
+impl Conn {
+    pub(crate) fn new(stream: TcpStream) -> Self {
+        Conn {
+            stream: Some(stream),
+            is_queued: false,
+        }
+    }
+
+    /// Writes an answer. One that the socket doesn't take whole closes the connection, since answers are few and small,
+    /// and a peer that leaves them unread for long is none. The result says whether it was closed.
+    pub(crate) fn answer(&mut self, bytes: &[u8]) -> bool {
+        let Some(stream) = &mut self.stream else {
+            return false;
+        };
+        let is_whole = match stream.write(bytes) {
+            Ok(n) => n == bytes.len(),
+            Err(_) => false,
+        };
+        if !is_whole {
+            self.stream = None;
+        }
+        !is_whole
+    }
+
+    pub(crate) fn step(&mut self, conn: u64, room: &mut Room) -> Result<Step, OutOfMemory> {
+        let Some(stream) = &mut self.stream else {
+            return Ok(Step::Last(Input::Shut { conn }));
+        };
+        match room.read(stream)? {
+            Heard::Octets(bytes) => Ok(Step::More(Input::Piece { conn, bytes })),
+            Heard::End => Ok(Step::Last(Input::Shut { conn })),
+            Heard::Nothing => Ok(Step::Rest),
+        }
+    }
+}

@@ -1,0 +1,147 @@
+use crate::beacons::{Beacons, address};
+use crate::pace::Pace;
+use crate::source::{Source, source_of, token_of};
+use crate::sources::Sources;
+use mio::event::Source as Watched;
+use mio::net::TcpListener;
+use mio::{Events, Interest, Poll, Registry};
+use std::alloc::Global;
+use std::net::Net;
+use std::time::Duration;
+use zre_outside::{Act, Input, NextFault, Start};
+use zre_values::OutOfMemory;
+
+/// So many events one poll tells at most. The others come with the next.
+const EVENTS: usize = 256;
+
+/// A node's sockets under one poll.
+#[derive(Drop)]
+pub(crate) struct Network {
+    poll: Poll,
+    events: Events,
+    sources: Sources,
+    pace: Pace,
+    // A look was given since the last poll.
+    is_due_to_poll: bool,
+}
+
+fn watch<S: Watched>(registry: &Registry, socket: &mut S, source: Source) -> Result<(), NextFault> {
+    let Some(token) = token_of(source) else {
+        return Err(NextFault::Failed);
+    };
+    match registry.register(socket, token, Interest::READABLE) {
+        Ok(()) => Ok(()),
+        Err(_) => Err(NextFault::Failed),
+    }
+}
+
+fn no_memory(_: OutOfMemory) -> NextFault {
+    NextFault::OutOfMemory
+}
+
+impl Network {
+    /// Binds both sockets, and has the poll watch them.
+    pub(crate) fn open<R: Net>(
+        rt: &R,
+        alloc: Global,
+        s: &Start,
+        at: u64,
+    ) -> Result<Self, NextFault> {
+        let Ok(poll) = Poll::new(rt) else {
+            return Err(NextFault::Failed);
+        };
+        let Ok(events) = Events::with_capacity(alloc, EVENTS) else {
+            return Err(NextFault::OutOfMemory);
+        };
+        let mut beacons = Beacons::open(rt, alloc, s)?;
+        let Ok(mut listener) = TcpListener::bind(rt, address(s.host, s.port)) else {
+            return Err(NextFault::Failed);
+        };
+        watch(poll.registry(), &mut beacons.socket, Source::Beacons)?;
+        watch(poll.registry(), &mut listener, Source::Mailbox)?;
+        Ok(Network {
+            poll,
+            events,
+            sources: Sources::new(alloc, beacons, listener).map_err(no_memory)?,
+            pace: Pace::new(s.interval, at),
+            is_due_to_poll: true,
+        })
+    }
+
+    /// Whether a look comes before any other entry.
+    pub(crate) fn is_look_due(&self) -> bool {
+        self.pace.is_full()
+    }
+
+    pub(crate) fn gave_look(&mut self, at: u64) {
+        self.pace.gave_look(at);
+        self.is_due_to_poll = true;
+    }
+
+    pub(crate) fn gave_command(&mut self, at: u64) {
+        self.pace.gave_command(at);
+    }
+
+    /// An entry that is there without waiting. The poll is asked behind each look, so that sources which always have
+    /// something don't keep the others out.
+    pub(crate) fn find(&mut self, at: u64) -> Result<Option<Input>, NextFault> {
+        if self.is_due_to_poll {
+            self.gather(Duration::ZERO)?;
+        }
+        let input = if self.pace.tick(at) {
+            Some(Input::Tick)
+        } else {
+            self.sources.next(self.poll.registry())?
+        };
+        if input.is_some() {
+            self.pace.gave_entry();
+        }
+        Ok(input)
+    }
+
+    /// Waits until something comes, a Tick is due, or a look is.
+    pub(crate) fn wait(&mut self, at: u64) -> Result<(), NextFault> {
+        let timeout = self.pace.wait(at);
+        self.gather(timeout)
+    }
+
+    fn gather(&mut self, timeout: Duration) -> Result<(), NextFault> {
+        self.is_due_to_poll = false;
+        if self.poll.poll(&mut self.events, Some(timeout)).is_err() {
+            return Err(NextFault::Failed);
+        }
+        for event in &self.events {
+            let source = source_of(event.token());
+            self.sources
+                .hear(source, event.is_writable())
+                .map_err(no_memory)?;
+        }
+        Ok(())
+    }
+
+    pub(crate) fn act<R: Net>(&mut self, rt: &R, act: &Act) -> Result<(), OutOfMemory> {
+        match act {
+            Act::Connect { link, to } => {
+                self.sources.connect(rt, self.poll.registry(), *link, *to)
+            }
+            Act::CloseLink { link } => {
+                self.sources.close(Source::Link(*link));
+                Ok(())
+            }
+            Act::CloseConn { conn } => {
+                self.sources.close(Source::Conn(*conn));
+                Ok(())
+            }
+            Act::Answer { conn, bytes } => self.sources.answer(*conn, bytes.as_slice()),
+            Act::Offer { .. } => Ok(()),
+            Act::Beacon { bytes } => {
+                self.sources.beacons.send(bytes);
+                Ok(())
+            }
+        }
+    }
+
+    pub(crate) fn offer(&mut self, link: u64, bytes: &[u8]) -> Result<(), OutOfMemory> {
+        self.sources.offer(link, bytes)
+    }
+}

@@ -1,0 +1,87 @@
+//! When the next Tick and the next look are due.
+
+ghost use Rattle.std.specs.Prelude.{◌≡◌, ◌≤◌, ◌<◌, ◌↔◌, ◌^◌, ◌-◌, IsTrue};
+ghost use Rattle.std.specs.Duration.{as_nanos};
+
+use std::time::Duration;
+
+/// A look comes after so many milliseconds at most, where nothing else does.
+const LOOK_MILLIS: u64 = 20;
+
+/// A look comes after so many entries at most.
+const ENTRIES_IN_A_ROW: u32 = 64;
+
+/// The moments are readings in milliseconds.
+#[derive(Drop)]
+pub(crate) struct Pace {
+    interval: u64,
+    tick_at: u64,
+    look_at: u64,
+    entries: u32,
+    ghost positive: { 1 ≤ interval },
+}
+
+impl Pace {
+    /// The first Tick is due at once. An interval of 0 is read as 1, so that Ticks leave room for other entries.
+    pub(crate) fn new(interval: u64, at: u64) -> Self
+        ensures { result.tick_at ≡ at }
+    {
+        Pace {
+            interval: interval.max(1),
+            tick_at: at,
+            look_at: at.saturating_add(LOOK_MILLIS),
+            entries: 0,
+        }
+    }
+
+    /// Whether a Tick is due. It is then given, and the next one is due an interval later: those that were missed aren't
+    /// made up for.
+    pub(crate) fn tick(&mut self, at: u64) -> bool
+        ensures due { IsTrue result ↔ (self.old.tick_at ≤ at) }
+        ensures next { at < 2 ^ 64 - 1 → at < self.new.tick_at }
+    {
+        if at < self.tick_at {
+            return false;
+        }
+        let next = self.tick_at.saturating_add(self.interval);
+        self.tick_at = if next > at {
+            next
+        } else {
+            at.saturating_add(self.interval)
+        };
+        true
+    }
+
+    /// Whether so many entries were given that a look comes before any other.
+    pub(crate) fn is_full(&self) -> bool
+        ensures { IsTrue result ↔ (64 ≤ self.now.entries) }
+    {
+        self.entries >= ENTRIES_IN_A_ROW
+    }
+
+    pub(crate) fn gave_entry(&mut self) {
+        self.entries = self.entries.saturating_add(1);
+    }
+
+    pub(crate) fn gave_look(&mut self, at: u64)
+        ensures { self.new.entries ≡ 0 }
+    {
+        self.look_at = at.saturating_add(LOOK_MILLIS);
+        self.entries = 0;
+    }
+
+    /// A command was handed in, so that there may be others: the next look is due at once.
+    pub(crate) fn gave_command(&mut self, at: u64)
+        ensures { self.new.look_at ≡ at }
+    {
+        self.look_at = at;
+    }
+
+    /// How long to wait for entries.
+    pub(crate) fn wait(&self, at: u64) -> Duration
+        ensures { as_nanos result ≤ 20_000_000 }
+    {
+        let due = self.look_at.min(self.tick_at);
+        Duration::from_millis(due.saturating_sub(at).min(LOOK_MILLIS))
+    }
+}

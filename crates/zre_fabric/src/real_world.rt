@@ -1,0 +1,91 @@
+ghost use Rattle.std.specs.Prelude.{◌≡◌, ◌≤◌, false, None};
+ghost use Rattle.zre_outside.specs.Causes.{Rose};
+
+use crate::fabric::Fabric;
+use std::alloc::Global;
+use std::net::Net;
+use std::rt::Clock;
+use zre_outside::{Act, Command, NextFault, Start, Turn, World};
+use zre_values::OutOfMemory;
+
+/// The real network. It tells nothing of what it gave, since no contract says what a system answers.
+#[derive(Drop)]
+pub struct RealWorld<R> {
+    fabric: Fabric<R>,
+    looked: bool,
+    faults: u64,
+}
+
+impl<R> RealWorld<R> {
+    ghost use Rattle.zre_fabric.specs.RealWorlds.{has_looked, faults_of};
+
+    /// A world that isn't started yet. It takes no memory and opens nothing.
+    pub fn new(rt: R, alloc: Global) -> Self
+        ensures looked { has_looked result ≡ false }
+        ensures faults { faults_of result ≡ 0 }
+    {
+        RealWorld {
+            fabric: Fabric::new(rt, alloc),
+            looked: false,
+            faults: 0,
+        }
+    }
+}
+
+// One more fault, where the outside failed and not for want of memory.
+fn raise(faults: u64, fault: NextFault) -> u64
+    ensures later { faults ≤ result }
+    ensures failed { fault ≡ NextFault.Failed → Rose faults result }
+    ensures other { fault ≡ NextFault.OutOfMemory → result ≡ faults }
+{
+    match fault {
+        NextFault::Failed => faults.saturating_add(1),
+        NextFault::OutOfMemory => faults,
+    }
+}
+
+impl<R: Net + Clock> World for RealWorld<R> {
+    ghost use Rattle.zre_fabric.specs.RealWorlds.{has_looked, faults_of};
+
+    ghost told = { λ _. None };
+
+    ghost looked = { has_looked };
+
+    ghost faults = { faults_of };
+
+    /// Binds UDP at `listen` and the port of beacons, for sending to broadcast addresses too, and TCP at `host` and
+    /// `port`. It fails where one of them can't be bound. What was started before is closed in any case.
+    fn start(&mut self, s: &Start) -> Result<(), NextFault> {
+        match self.fabric.start(s) {
+            Ok(()) => Ok(()),
+            Err(fault) => {
+                self.faults = raise(self.faults, fault);
+                Err(fault)
+            }
+        }
+    }
+
+    /// Waits for 20 milliseconds at most. It fails where the world isn't started, and where the clock, the poll, the UDP
+    /// socket or the listener fails.
+    fn next(&mut self, command: Option<Command>) -> Result<Turn, NextFault> {
+        match self.fabric.next(command) {
+            Ok(turn) => {
+                self.looked = matches!(turn, Turn::Look);
+                Ok(turn)
+            }
+            Err(fault) => {
+                self.faults = raise(self.faults, fault);
+                Err(fault)
+            }
+        }
+    }
+
+    /// Begins what the act asks for, and waits for nothing. An act on a link or connection that is gone does nothing.
+    fn act(&mut self, act: &Act) -> Result<(), OutOfMemory> {
+        self.fabric.act(act)
+    }
+
+    fn offer(&mut self, link: u64, bytes: &[u8]) -> Result<(), OutOfMemory> {
+        self.fabric.offer(link, bytes)
+    }
+}

@@ -1,0 +1,35 @@
+ghost use Rattle.std.specs.Prelude.{◌≡◌, ◌≤◌, IfOk};
+
+use std::rt::Clock;
+use std::time::Duration;
+use zre_outside::NextFault;
+
+/// The milliseconds since the first reading.
+#[derive(Drop)]
+pub(crate) struct Stopwatch {
+    begun: Option<Duration>,
+    last: u64,
+}
+
+impl Stopwatch {
+    pub(crate) fn new() -> Self {
+        Stopwatch {
+            begun: None,
+            last: 0,
+        }
+    }
+
+    /// A reading, which is never below an earlier one. It fails where the clock can't be read.
+    pub(crate) fn read<R: Clock>(&mut self, rt: &R) -> Result<u64, NextFault>
+        ensures now { IfOk result (λ at. at ≡ self.new.last) }
+        ensures later { self.old.last ≤ self.new.last }
+    {
+        let Ok(reading) = rt.monotonic() else {
+            return Err(NextFault::Failed);
+        };
+        let begun = *self.begun.get_or_insert(reading);
+        let passed = reading.saturating_sub(begun).as_millis();
+        self.last = self.last.max(u64::try_from(passed).unwrap_or(u64::MAX));
+        Ok(self.last)
+    }
+}

@@ -1,0 +1,60 @@
+//! What an error of the two sockets means that the whole node stands on, the listener and the one for beacons.
+
+use std::io::{self, ErrorKind};
+
+pub(crate) enum Trouble {
+    /// Nothing is there now.
+    Nothing,
+    /// One connection or one datagram is lost, or the system is short of something; the socket stands.
+    Passing,
+    /// The socket is of no more use.
+    Lasting,
+}
+
+// Numbers of Linux that std has no kind for.
+const ENFILE: i32 = 23;
+
+const EMFILE: i32 = 24;
+
+const ENONET: i32 = 64;
+
+const EPROTO: i32 = 71;
+
+const ENOPROTOOPT: i32 = 92;
+
+const EOPNOTSUPP: i32 = 95;
+
+const ENOBUFS: i32 = 105;
+
+const EHOSTDOWN: i32 = 112;
+
+/// What an `accept` or a receive that failed says of its socket.
+///
+/// Linux hands errors of the network that wait on a new connection to `accept` (accept(2) lists them), and errors that
+/// ICMP messages bring about, as of a port that nobody listens on, to the next receive. Both concern one peer. A
+/// firewall refuses a connection by `EPERM`. Where the process or the system has no descriptor or no buffer left, the
+/// connection waits on, and is there at another try.
+pub(crate) fn trouble_of(e: &io::Error) -> Trouble {
+    match e.kind() {
+        ErrorKind::WouldBlock => Trouble::Nothing,
+        ErrorKind::Interrupted
+        | ErrorKind::ConnectionAborted
+        | ErrorKind::ConnectionRefused
+        | ErrorKind::ConnectionReset
+        | ErrorKind::TimedOut
+        | ErrorKind::PermissionDenied
+        | ErrorKind::NetworkDown
+        | ErrorKind::NetworkUnreachable
+        | ErrorKind::HostUnreachable
+        | ErrorKind::OutOfMemory => Trouble::Passing,
+        _ if is_passing(e.raw_os_error()) => Trouble::Passing,
+        _ => Trouble::Lasting,
+    }
+}
+
+fn is_passing(number: Option<i32>) -> bool {
+    matches!(
+        number,
+        Some(ENFILE | EMFILE | ENONET | EPROTO | ENOPROTOOPT | EOPNOTSUPP | ENOBUFS | EHOSTDOWN)
+    )
+}
