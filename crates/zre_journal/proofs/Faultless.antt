@@ -1,5 +1,5 @@
 -- Behind each entry no live connection has had a fault, and neither have the replies on the link of a known peer.
-use Rattle.std.proofs.Common.{◌≡◌, ℕ, ◌+◌, Bool, true, false, cond, not, ◌&&◌, ◌||◌, eqb, List, [], ◌∷◌, ◌++◌, length, drop, map, Option, Some, None, IsSome, is_some, is_none, find, filter, refl, sym, ap, ◌∙◌, arith, inl, inr, eqb-true, eq-eqb, subst, append-nil}
+use Rattle.std.proofs.Common.{◌≡◌, ℕ, ◌+◌, Bool, true, false, cond, not, ◌&&◌, ◌||◌, eqb, List, [], ◌∷◌, ◌++◌, length, drop, map, Option, Some, None, IsSome, is_some, is_none, find, refl, sym, ap, ◌∙◌, arith, inl, inr, eqb-true, subst}
 use Rattle.std.specs.Prelude.{◌⊎◌}
 use Rattle.std.proofs.lemmas.Bool.{and_parts, and_from}
 use Rattle.std.specs.List.{list_any}
@@ -14,7 +14,7 @@ use Rattle.zre_peer.specs.declared.causes.Cause.TheVariants as cause
 use Rattle.zre_peer.specs.declared.causes.CloseWhy.TheVariants as close
 use Rattle.zre_link.specs.Heard.{reply_fault}
 use Rattle.zre_journal.specs.declared.config.Config.{Config}
-use Rattle.zre_journal.specs.Chronicle.{Mark, Comes, Opens, Starts, Closes, IsShut, Drops, Born, Ends, Stops, after, in_turn, ever, newer}
+use Rattle.zre_journal.specs.Chronicle.{Mark, Comes, Opens, Starts, Closes, IsShut, Drops, Born, Ends, Stops, after, ever, newer}
 use Rattle.zre_journal.specs.Heard.{opens, bytes, newly_said}
 use Rattle.zre_journal.specs.Connections.{open_ones, is_open, started, start_at, runs, refuses, was_used, is_ignored, is_live, others}
 use Rattle.zre_journal.specs.Peers.{Life, lives, life, births, other_lives}
@@ -22,9 +22,8 @@ use Rattle.zre_journal.specs.Links.{is_linked, replies}
 use Rattle.zre_journal.specs.Proper.{IsProper}
 use Rattle.zre_journal.specs.Happens.{has_stopped, end_of_run, at_place, at_places, fault_of_reply, at_reply, at_input}
 use Rattle.zre_journal.proofs.Few.{none_kept, at_end, AtEnd, Front, Back}
-use Rattle.zre_journal.proofs.Idle.{idle_stays, not_true, not_false}
+use Rattle.zre_journal.proofs.Idle.{idle_stays, not_true}
 use Rattle.zre_journal.proofs.Joined.{after-append, in_turn-append}
-use Rattle.zre_journal.proofs.Kept.{known_lives}
 use Rattle.zre_journal.proofs.Listed.{some_is, any_of_append, any_left}
 use Rattle.zre_journal.proofs.Steps.{May, Allowed, step}
 use Rattle.zre_journal.proofs.Room.{Fits, AllFit}

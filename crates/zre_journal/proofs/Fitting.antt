@@ -1,5 +1,5 @@
 -- What comes about at an entry that is no stop keeps the limits of groups, links and views.
-use Rattle.std.proofs.Common.{◌≡◌, ℕ, ◌+◌, ◌-◌, ◌%◌, ◌<◌, ◌≤◌, Bool, true, false, cond, not, ◌&&◌, ◌||◌, eqb, ltb, leb, List, [], ◌∷◌, ◌++◌, length, map, Option, Some, None, is_some, is_none, filter, refl, sym, ap, ◌∙◌, arith, subst}
+use Rattle.std.proofs.Common.{◌≡◌, ℕ, ◌+◌, ◌%◌, ◌≤◌, Bool, true, false, cond, not, ◌&&◌, ◌||◌, eqb, ltb, leb, List, [], ◌∷◌, ◌++◌, length, map, Option, Some, None, is_some, is_none, filter, refl, sym, ap, arith, subst}
 use Rattle.std.proofs.lemmas.Bool.{and_parts, ltb-false, leb-false}
 use Rattle.std.specs.List.{AllByRecursion}
 use Rattle.zre_values.specs.declared.peer_id.PeerId.{PeerId}
@@ -10,7 +10,6 @@ use Rattle.zre_beacon.specs.Beacon.{beacon_in}
 use Rattle.zre_zmtp.specs.declared.fault.ZmtpFault.{ZmtpFault}
 use Rattle.zre_outside.specs.declared.entry.Input.{Input}
 use Rattle.zre_outside.specs.declared.entry.Input.TheVariants as input
-use Rattle.zre_outside.specs.declared.entry.Command.{Command}
 use Rattle.zre_outside.specs.declared.entry.Command.TheVariants as command
 use Rattle.zre_mailbox.specs.declared.arrival.Arrival.TheVariants as arrival
 use Rattle.zre_mailbox.specs.Talk.{Said, Arrived, Fault}
@@ -25,7 +24,7 @@ use Rattle.zre_peer.specs.declared.causes.CloseWhy.{CloseWhy}
 use Rattle.zre_peer.specs.declared.causes.CloseWhy.TheVariants as close
 use Rattle.zre_peer.specs.declared.causes.IgnoreWhy.TheVariants as ignore
 use Rattle.zre_peer.specs.declared.causes.RefuseWhy.TheVariants as refuse
-use Rattle.zre_link.specs.Text.{text_of, size_of}
+use Rattle.zre_link.specs.Text.{size_of}
 use Rattle.zre_link.specs.Heard.{reply_fault}
 use Rattle.zre_link.specs.Link.{unsent_of}
 use Rattle.zre_journal.specs.declared.config.Config.{Config}
@@ -36,7 +35,7 @@ use Rattle.zre_journal.specs.Connections.{open_ones, is_open, is_new, identity, 
 use Rattle.zre_journal.specs.Peers.{Life, lives, life, life_of, is_entered, births, counted}
 use Rattle.zre_journal.specs.Links.{groups, status, put_on, bodies, taken, unsent, is_linked, replies}
 use Rattle.zre_journal.specs.Proper.{IsProper}
-use Rattle.zre_journal.specs.Happens.{hello, push, push_all, birth, is_welcome, at_beacon, at_datagram, at_opened, end_of_run, at_shut, taken_over, start_unknown, start, at_first, answer_to, at_later, at_message, at_shaken, at_said, at_place, at_places, at_linked, fault_of_reply, at_reply, at_unlinked, at_took, is_silent, is_faltering, falter, is_stale, at_tick, has_group, at_join, at_leave, is_too_big, at_whisper, is_member, at_shout, at_command, at_input}
+use Rattle.zre_journal.specs.Happens.{hello, push, push_all, birth, is_welcome, at_beacon, at_datagram, at_opened, end_of_run, at_shut, taken_over, start_unknown, start, at_first, answer_to, at_later, at_message, at_shaken, at_said, at_place, at_places, at_linked, fault_of_reply, at_reply, at_unlinked, at_took, is_silent, is_faltering, falter, is_stale, at_tick, has_group, at_join, at_leave, is_too_big, at_whisper, is_member, at_shout, at_input}
 use Rattle.zre_journal.proofs.Idle.{not_true}
 use Rattle.zre_journal.proofs.Introduction.{introduces}
 use Rattle.zre_journal.proofs.Known.{end_all}

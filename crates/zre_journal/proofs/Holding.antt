@@ -1,11 +1,10 @@
 -- What a node holds stays within its limits.
-use Rattle.std.proofs.Common.{◌≡◌, ℕ, ◌+◌, ◌*◌, ◌≤◌, Bool, true, false, cond, not, ◌&&◌, leb, eqb, List, [], ◌∷◌, ◌++◌, length, filter, find, None, IsSome, refl, sym, ap, ◌∙◌, arith, subst, append-nil}
-use Rattle.std.specs.Prelude.{sum_by}
+use Rattle.std.proofs.Common.{◌≡◌, ℕ, ◌+◌, ◌*◌, ◌≤◌, Bool, true, false, cond, eqb, List, [], ◌∷◌, ◌++◌, length, filter, find, None, IsSome, refl, sym, ap, ◌∙◌, arith, subst, append-nil}
 use Rattle.std.specs.List.{AllByRecursion, list_all, list_any}
-use Rattle.std.proofs.lemmas.Bool.{and_parts, leb-true}
+use Rattle.std.proofs.lemmas.Bool.{and_parts}
 use Rattle.std.proofs.lemmas.List.Elements.{All-from_recursion}
 use Rattle.std.proofs.lemmas.List.Sums.{sum_by-le, sum_by-cons}
-use Rattle.zre_values.specs.declared.limits.TheConstants.{HEADERS, GROUP_OCTETS, OWN_GROUPS, UNSENT_OCTETS}
+use Rattle.zre_values.specs.declared.limits.TheConstants.{UNSENT_OCTETS}
 use Rattle.zre_zmtp.specs.declared.want.Want.TheVariants.{Router, Dealer}
 use Rattle.zre_mailbox.specs.Talk.{fault_in}
 use Rattle.zre_outside.specs.declared.entry.Entry.{Entry}
@@ -15,21 +14,21 @@ use Rattle.zre_outside.specs.declared.entry.Command.TheVariants as command
 use Rattle.zre_link.specs.Heard.{reply_fault}
 use Rattle.zre_journal.specs.declared.config.Config.{Config}
 use Rattle.zre_journal.specs.Chronicle.{Mark, Comes, after}
-use Rattle.zre_journal.specs.Config.{CanBe, is_fitting, are_apart}
+use Rattle.zre_journal.specs.Config.{CanBe, is_fitting}
 use Rattle.zre_journal.specs.Heard.{was_opened, bytes, piece_of}
-use Rattle.zre_journal.specs.Connections.{open_ones, is_open, is_ignored, is_live}
+use Rattle.zre_journal.specs.Connections.{open_ones, is_live}
 use Rattle.zre_journal.specs.Peers.{Life, lives, life, is_entered, view}
 use Rattle.zre_journal.specs.Links.{groups, is_linked, replies, reply_of, unsent}
 use Rattle.zre_journal.specs.Held.{unfinished, header_octets, view_octets, conn_octets, reply_octets, peer_octets, own_octets, held, stream_most, view_most, own_most, Within, bound}
-use Rattle.zre_journal.specs.Happens.{has_stopped, at_input, at_stop, marks, with_entry, chronicle_behind}
+use Rattle.zre_journal.specs.Happens.{has_stopped, at_input, at_stop, with_entry, chronicle_behind}
 use Rattle.zre_journal.specs.Events.{chronicle}
 use Rattle.zre_journal.specs.Proper.{IsProper}
 use Rattle.zre_journal.proofs.Always.{empty, input_allowed}
 use Rattle.zre_journal.proofs.Brings.{stop_allowed}
-use Rattle.zre_journal.proofs.Faultless.{names_conn, names_link, AreFaultless, faultless_behind, bytes_stay, replies_stay, still_going, not_open, conn_ends, link_ends, no_talk, no_replies}
+use Rattle.zre_journal.proofs.Faultless.{names_conn, names_link, AreFaultless, faultless_behind, bytes_stay, replies_stay, still_going, not_open, conn_ends, link_ends}
 use Rattle.zre_journal.proofs.Few.{are_few, kept-length}
 use Rattle.zre_journal.proofs.Fitting.{ends_all, input-fits}
-use Rattle.zre_journal.proofs.Introduction.{AreSmall, small, fitting}
+use Rattle.zre_journal.proofs.Introduction.{small, fitting}
 use Rattle.zre_journal.proofs.Kept.{Comes-proper}
 use Rattle.zre_journal.proofs.Known.{each_known}
 use Rattle.zre_journal.proofs.Listed.{All-map}
@@ -157,6 +156,13 @@ module _ (g : Config) (can : CanBe g) where
 
   sound : (journal : List Entry) → IsSound g (chronicle g journal)
   sound journal = sound_behind journal [] (at_rest [] empty (room-empty g can) refl refl)
+
+  -- nothing that is read has had a fault
+  pub talks-faultless : (journal : List Entry) (c : ℕ) → is_live c (chronicle g journal) ≡ true → fault_in g.id (bytes c (chronicle g journal)) ≡ None
+  talks-faultless journal = (sound journal).talks
+
+  pub answers-faultless : (journal : List Entry) (l : ℕ) → IsSome (life l (chronicle g journal)) → reply_fault (replies l (chronicle g journal)) ≡ None
+  answers-faultless journal = (sound journal).answers
 
   -- ---- the limits
 

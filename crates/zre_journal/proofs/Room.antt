@@ -23,7 +23,6 @@ use Rattle.zre_journal.specs.Introducing.{CanIntroduce}
 use Rattle.zre_journal.proofs.Few.{append-length}
 use Rattle.zre_journal.proofs.Fields.{hello_octets}
 use Rattle.zre_journal.proofs.Introduction.{new-short}
-use Rattle.zre_journal.proofs.Kept.{run_is}
 use Rattle.zre_journal.proofs.Listed.{All-append}
 use Rattle.zre_journal.proofs.Steps.{May, Allowed, step}
 use Rattle.zre_journal.proofs.Viewed.{IsShortView, blank-short, first-short, later-short}

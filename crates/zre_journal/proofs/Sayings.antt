@@ -1,6 +1,6 @@
 -- What is said on a connection is within the limit of a message.
-use Rattle.std.proofs.Common.{◌≡◌, ℕ, ◌≤◌, List, [], ◌∷◌, ◌++◌, length, map, Option, Some, None, Ok, Err, Result, refl, subst, arith, option_map}
-use Rattle.std.specs.Prelude.{sum_by, option_and_then}
+use Rattle.std.proofs.Common.{◌≡◌, ℕ, ◌≤◌, List, [], ◌∷◌, length, map, Option, Some, None, Ok, Err, Result, refl, subst, arith, option_map}
+use Rattle.std.specs.Prelude.{option_and_then}
 use Rattle.std.specs.Result.{result_ok}
 use Rattle.std.specs.List.{AllByRecursion, cons_option}
 use Rattle.zre_values.specs.declared.limits.TheConstants.{MESSAGE_OCTETS}

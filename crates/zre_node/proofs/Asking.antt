@@ -31,7 +31,7 @@ shown_some : (ms : List Message) → (ms ≡ [] → ⊥) → shown ms ≡ Some (
 shown_some [] n = absurd (n refl)
 shown_some (m ∷ ms) n = refl
 
-its_view : (g : Config) (H : List Mark) (v : Life) (k : Peer) → IsPeer g H v k → view_of_row k ≡ view_if_entered H v
+pub its_view : (g : Config) (H : List Mark) (v : Life) (k : Peer) → IsPeer g H v k → view_of_row k ≡ view_if_entered H v
 its_view g H v k i = by (runner v.link H) refl i.run_is
   where
     by : (o : Option ℕ) → runner v.link H ≡ o → HasRun o v.id (counted v.link H) k.run → view_of_row k ≡ view_if_entered H v

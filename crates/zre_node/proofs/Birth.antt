@@ -40,7 +40,7 @@ module _ (g : Config) (H : List Mark) (t : Tables) (h : Holds g H t) (p : PeerId
       → P.entries ≡ insert_entry nat_cmp t.peers.entries (births H + 1) k → Holds g (born p e (hello g H) H) (record t { births = births H + 1; peers = P })
   is_born k P id now run link put = record {
     keeps = record {
-      valid = h.keeps.valid;
+      can = h.keeps.can;
       proper = born-proper H h.keeps.proper p e (hello g H);
       going = h.keeps.going;
       awake = h.keeps.awake;
@@ -81,7 +81,7 @@ module _ (g : Config) (H : List Mark) (t : Tables) (h : Holds g H t) (l : ℕ) w
       let r = its_row (IsPeer g H) H t.peers.entries h.peers l k was in
       record {
         keeps = record {
-          valid = h.keeps.valid;
+          can = h.keeps.can;
           proper = Beacons-proper H h.keeps.proper l;
           going = h.keeps.going;
           awake = h.keeps.awake;

@@ -56,7 +56,7 @@ module _ (g : Config) (H : List Mark) (t : Tables) (h : Holds g H t) (e : Entry)
   pub comes : (C : BTreeMap ℕ Connection) → ((l : ℕ) → reply_of l e.input ≡ []) → Tabled (λ (c : ℕ). c) (IsConn g (Comes e ∷ H)) (open_ones H) C.entries → Holds g (Comes e ∷ H) (record t { clock = max e.at t.clock; conns = C })
   comes C none conns = record {
     keeps = record {
-      valid = h.keeps.valid;
+      can = h.keeps.can;
       proper = Comes-proper H h.keeps.proper e;
       going = h.keeps.going;
       awake = h.keeps.awake;

@@ -54,7 +54,7 @@ module _ (g : Config) (K : List Mark) (t : Tables) (h : Holds g K t) (group : Li
   pub joined : (o : OwnGroups) → o ≡ with_joined t.own group → length group ≤ 255 → Holds g (Joins group ∷ K) (record t { own = o })
   joined o is short = record {
     keeps = record {
-      valid = h.keeps.valid;
+      can = h.keeps.can;
       proper = Joins-proper K h.keeps.proper group;
       going = h.keeps.going;
       awake = h.keeps.awake;
@@ -73,7 +73,7 @@ module _ (g : Config) (K : List Mark) (t : Tables) (h : Holds g K t) (group : Li
   pub left : (o : OwnGroups) → o ≡ with_left t.own group → Holds g (Leaves group ∷ K) (record t { own = o })
   left o is = record {
     keeps = record {
-      valid = h.keeps.valid;
+      can = h.keeps.can;
       proper = Leaves-proper K h.keeps.proper group;
       going = h.keeps.going;
       awake = h.keeps.awake;

@@ -132,7 +132,7 @@ module _ (g : Config) (H : List Mark) (t : Tables) (h : Holds g H t) (c l : ℕ)
       → P.entries ≡ set_value (is_at (nat_cmp l)) t.peers.entries w → Holds g (Counts c l m ∷ H) (record t { peers = P })
   counts m w P id link now run put = record {
     keeps = record {
-      valid = h.keeps.valid;
+      can = h.keeps.can;
       proper = Counts-proper H h.keeps.proper c l m r;
       going = h.keeps.going;
       awake = h.keeps.awake;

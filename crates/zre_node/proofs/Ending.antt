@@ -101,7 +101,7 @@ module _ (g : Config) (H : List Mark) (l : ℕ) (k : Peer) (t : Tables) (p : Par
   with_conns : (C : BTreeMap ℕ Connection) → Tabled (λ (c : ℕ). c) (IsConn g (Ends l why ∷ H)) (open_ones H) C.entries → Holds g (Ends l why ∷ H) (record t { conns = C })
   with_conns C conns = record {
     keeps = record {
-      valid = p.keeps.valid;
+      can = p.keeps.can;
       proper = Ends-proper H p.keeps.proper l why known.1;
       going = p.keeps.going;
       awake = p.keeps.awake;

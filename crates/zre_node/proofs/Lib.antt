@@ -1,3 +1,5 @@
+pub mod Adding
+pub mod Amounts
 pub mod Asking
 pub mod Birth
 pub mod Broadcasting

@@ -41,7 +41,7 @@ key v = v.link
 keeps_behind : (g : Config) (K H : List Mark) (t : Tables) (P : BTreeMap ℕ Peer) → Keeps g K t → IsProper H → has_stopped H ≡ has_stopped K → clock H ≡ clock K → births H ≡ births K → ((c : ℕ) → is_new c H ≡ is_new c K)
     → groups H ≡ groups K → status H ≡ status K → Tabled (λ (c : ℕ). c) (IsConn g H) (open_ones H) t.conns.entries → Keeps g H (record t { peers = P })
 keeps_behind g K H t P k proper going same_clock same_births same_new same_groups same_status conns = record {
-  valid = k.valid;
+  can = k.can;
   proper = proper;
   going = going ∙ k.going;
   awake = k.awake;
@@ -190,7 +190,7 @@ module _ (g : Config) (H : List Mark) (t : Tables) (h : Holds g H t) (e : Entry)
   comes : (P : BTreeMap ℕ Peer) → Tabled key (IsPeer g (Comes e ∷ H)) (lives H) P.entries → Holds g (Comes e ∷ H) (record t { clock = max e.at t.clock; peers = P })
   comes P peers = record {
     keeps = record {
-      valid = h.keeps.valid;
+      can = h.keeps.can;
       proper = Comes-proper H h.keeps.proper e;
       going = h.keeps.going;
       awake = h.keeps.awake;

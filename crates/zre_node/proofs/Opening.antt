@@ -32,7 +32,7 @@ pub with_conns : (g : Config) (H K : List Mark) (t : Tables) (o : Option ℕ) (C
     → ((c : ℕ) → is_new c K ≡ is_above o c) → Tabled (λ (c : ℕ). c) (IsConn g K) (open_ones K) C.entries → Holds g K (record t { last = o; conns = C })
 with_conns g H K t o C h proper same_clock same_births same_lives peers going same_groups same_status last conns = record {
   keeps = record {
-    valid = h.keeps.valid;
+    can = h.keeps.can;
     proper = proper;
     going = going ∙ h.keeps.going;
     awake = h.keeps.awake;

@@ -18,7 +18,7 @@ use Rattle.zre_node.proofs.Entries.{Row, Is, IsNone, row, removed, retold}
 
 pub keeps_with : (g : Config) (H : List Mark) (t : Tables) → Keeps g H t → (P : BTreeMap ℕ Peer) → Keeps g H (record t { peers = P })
 keeps_with g H t k P = record {
-  valid = k.valid;
+  can = k.can;
   proper = k.proper;
   going = k.going;
   awake = k.awake;

@@ -50,7 +50,7 @@ module _ (g : Config) (K : List Mark) (t : Tables) (h : Holds g K t) (l : ℕ) (
       → P.entries ≡ set_value (is_at (nat_cmp l)) t.peers.entries (record k { link = o }) → Holds g (Puts l b ∷ K) (record t { peers = P })
   puts_it b o P new put = record {
     keeps = record {
-      valid = h.keeps.valid;
+      can = h.keeps.can;
       proper = Puts-proper K h.keeps.proper l b (known_lives K h.keeps.proper l its.0 its.1).1;
       going = h.keeps.going;
       awake = h.keeps.awake;

@@ -124,7 +124,7 @@ module _ (g : Config) (H : List Mark) (t : Tables) (h : Holds g H t) (c l : ℕ)
       → P.entries ≡ set_value (is_at (nat_cmp l)) t.peers.entries w → Holds g (Starts c l m ∷ H) (record t { peers = P; conns = C })
   starts C conns x w P was id link now run put = record {
     keeps = record {
-      valid = h.keeps.valid;
+      can = h.keeps.can;
       proper = Starts-proper H h.keeps.proper c l m v (live_open c H live) (waits c H live idle).1 k who free;
       going = h.keeps.going;
       awake = h.keeps.awake;

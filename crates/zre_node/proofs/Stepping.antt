@@ -23,7 +23,7 @@ took_nothing g e H t a z s =
       stands = subst (λ ks. StandsIn g (after ks (Comes e ∷ H)) t) (sym m) record {
         stopped = s.stopped;
         going = λ w. let k : true ≡ false = sym z ∙ w in absurd cc;
-        resting = λ w. record { stopped = z; asleep = r.asleep; none_known = r.none_known; no_peers = r.no_peers };
+        resting = λ w. record { can = r.can; stopped = z; asleep = r.asleep; config = r.config; own = r.own; none_known = r.none_known; no_peers = r.no_peers; none_open = r.none_open; no_conns = r.no_conns };
       };
       events = sym (append-nil a.events) ∙ ap (λ ks. a.events ++ told ks (Comes e ∷ H)) (sym m);
       acts = sym (append-nil a.acts) ∙ ap (λ xs. a.acts ++ xs) (let k : acts_at g e H ≡ [] = rw z refl in sym k);

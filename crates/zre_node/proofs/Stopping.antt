@@ -18,6 +18,7 @@ use Rattle.zre_journal.specs.Done.{done}
 use Rattle.zre_journal.proofs.Joined.{after-append, told-append, done-append}
 use Rattle.zre_journal.proofs.Kept.{run_known}
 use Rattle.zre_journal.proofs.Listed.{All-map, eqb-comm}
+use Rattle.zre_journal.proofs.Stopping.{stop-is, none_open}
 use Rattle.zre_node.specs.declared.tables.Tables.{Tables}
 use Rattle.zre_node.specs.declared.effects.Effects.{Effects}
 use Rattle.zre_node.specs.declared.peer.Peer.{Peer}
@@ -129,10 +130,10 @@ run_none g H t h e c = by (runs c H) refl
     by None q = refl
     by (Some l) q = let k = run_known H h.keeps.proper c l q in let z : IsSome (find (λ (v : Life). eqb l v.link) []) = subst (λ vs. IsSome (find (λ (v : Life). eqb l v.link) vs)) e k in absurd cc
 
-no_entries : (P : Life → Peer → Type 0) (vs : List Life) (es : List (ℕ × Peer)) → vs ≡ [] → Tabled (λ (v : Life). v.link) P vs es → es ≡ []
-no_entries P [] [] e t = refl
-no_entries P [] (x ∷ es) e t = absurd t
-no_entries P (v ∷ vs) es e t = absurd cc
+no_entries : {A V : Type 0} (key : A → ℕ) (P : A → V → Type 0) (xs : List A) (es : List (ℕ × V)) → xs ≡ [] → Tabled key P xs es → es ≡ []
+no_entries key P [] [] e t = refl
+no_entries key P [] (x ∷ es) e t = absurd t
+no_entries key P (x ∷ xs) es e t = absurd cc
 
 -- the whole stop from its parts
 pub stops : (g : Config) (H : List Mark) (ls cs : List ℕ) (t m : Tables) (a b c d : Effects) → ls ≡ link_list (lives H) → cs ≡ open_ones H
@@ -148,12 +149,23 @@ stops g H ls cs t m a b c d le ce first second ev ac =
     let left : lives (after (map (λ c. Drops c) cs) (after (map (λ l. Ends l cause.Stop) ls) H)) ≡ [] = drops_lives cs (after (map (λ l. Ends l cause.Stop) ls) H) ∙ none in
     let end : after (hs ++ Calls 0 ∷ Stops ∷ []) H ≡ Stops ∷ Calls 0 ∷ after hs H = after-append hs (Calls 0 ∷ Stops ∷ []) H in
     let gone : lives (after hs H) ≡ [] = ap lives (after-append (map (λ l. Ends l cause.Stop) ls) (map (λ c. Drops c) cs) H) ∙ left in
-    let rests : Rests (after (hs ++ Calls 0 ∷ Stops ∷ []) H) (record m { stopped = true }) = subst (λ K. Rests K (record m { stopped = true })) (sym end)
-    record { stopped = refl; asleep = refl; none_known = gone; no_peers = no_entries (IsPeer g (after hs H)) (lives (after hs H)) m.peers.entries gone both.holds.peers } in
+    let shut : open_ones (after hs H) ≡ [] = ap open_ones (sym end) ∙ ap (λ ks. open_ones (after ks H)) whole ∙ ap open_ones (stop-is g H) ∙ none_open g H in
+    let rests : Rests g (after (hs ++ Calls 0 ∷ Stops ∷ []) H) (record m { stopped = true }) = subst (λ K. Rests g K (record m { stopped = true })) (sym end)
+    record {
+      can = both.holds.keeps.can;
+      stopped = refl;
+      asleep = refl;
+      config = both.holds.keeps.config;
+      own = both.holds.keeps.own;
+      none_known = gone;
+      no_peers = no_entries (λ (v : Life). v.link) (IsPeer g (after hs H)) (lives (after hs H)) m.peers.entries gone both.holds.peers;
+      none_open = shut;
+      no_conns = no_entries (λ (c : ℕ). c) (IsConn g (after hs H)) (open_ones (after hs H)) m.conns.entries shut both.holds.keeps.conns;
+    } in
     let events : d.events ≡ a.events ++ told (hs ++ Calls 0 ∷ Stops ∷ []) H = ev ∙ ap (λ es. es ++ event.Stop ∷ []) both.events ∙ append_assoc a.events (told hs H) (event.Stop ∷ []) ∙ ap (λ es. a.events ++ es) (sym (told-append hs (Calls 0 ∷ Stops ∷ []) H)) in
     let acts : d.acts ≡ a.acts ++ done g.id (hs ++ Calls 0 ∷ Stops ∷ []) = ac ∙ ap (λ es. es ++ act.Beacon (beacon_octets g.id 0) ∷ []) both.acts ∙ append_assoc a.acts (done g.id hs) (act.Beacon (beacon_octets g.id 0) ∷ []) ∙ ap (λ es. a.acts ++ es) (sym (done-append g.id hs (Calls 0 ∷ Stops ∷ []))) in
     record {
-      rests = subst (λ ks. Rests (after ks H) (record m { stopped = true })) whole rests;
+      rests = subst (λ ks. Rests g (after ks H) (record m { stopped = true })) whole rests;
       events = subst (λ ks. d.events ≡ a.events ++ told ks H) whole events;
       acts = subst (λ ks. d.acts ≡ a.acts ++ done g.id ks) whole acts;
     }

@@ -16,7 +16,7 @@ use Rattle.zre_node.specs.Stands.{Holds, Rests}
 pub record StandsIn (g : Config) (H : List Mark) (t : Tables) : Type 0 where
   pub stopped : t.stopped ≡ has_stopped H
   pub going : has_stopped H ≡ false → Holds g H t
-  pub resting : has_stopped H ≡ true → Rests H t
+  pub resting : has_stopped H ≡ true → Rests g H t
 
 -- an entry was taken behind H: the tables hold with it, and what it tells and asks for was added
 pub record Took (g : Config) (e : Entry) (H : List Mark) (t : Tables) (before now : Effects) : Type 0 where

@@ -1,6 +1,7 @@
 pub mod Asked
 pub mod First
 pub mod Groups
+pub mod Holding
 pub mod Journal
 pub mod Kinds
 pub mod Links

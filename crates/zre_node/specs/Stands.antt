@@ -14,7 +14,7 @@ use Rattle.zre_mailbox.specs.Conn.{Hearing, conn_after}
 use Rattle.zre_link.specs.Link.{Sending, link_after}
 use Rattle.zre_journal.specs.declared.config.Config.{Config}
 use Rattle.zre_journal.specs.Chronicle.{Mark, after}
-use Rattle.zre_journal.specs.Config.{is_valid, own_endpoint}
+use Rattle.zre_journal.specs.Config.{CanBe, own_endpoint}
 use Rattle.zre_journal.specs.Heard.{clock, bytes}
 use Rattle.zre_journal.specs.Connections.{open_ones, is_open, is_new, is_ignored, identity, runs, since, is_same}
 use Rattle.zre_journal.specs.Peers.{Life, life, lives, other_lives, births, active, runner, counted}
@@ -79,7 +79,7 @@ is_above (Some n) c = nat_lt n c
 
 -- all but the table of peers
 pub record Keeps (g : Config) (H : List Mark) (t : Tables) : Type 0 where
-  pub valid : is_valid g ≡ true
+  pub can : CanBe g
   pub proper : IsProper H
   pub going : has_stopped H ≡ false
   pub awake : t.stopped ≡ false
@@ -137,15 +137,20 @@ pub record Did (g : Config) (hs H : List Mark) (t : Tables) (before now : Effect
   pub pushed : (l : ℕ) → list_any (nat_eq l) now.pushed ≡ (list_any (nat_eq l) before.pushed || list_any (puts l) hs)
 
 -- the node has stopped
-pub record Rests (H : List Mark) (t : Tables) : Type 0 where
+pub record Rests (g : Config) (H : List Mark) (t : Tables) : Type 0 where
+  pub can : CanBe g
   pub stopped : has_stopped H ≡ true
   pub asleep : t.stopped ≡ true
+  pub config : t.config ≡ g
+  pub own : t.own ≡ record { groups = groups H; status = status H }
   pub none_known : lives H ≡ []
   pub no_peers : t.peers.entries ≡ []
+  pub none_open : open_ones H ≡ []
+  pub no_conns : t.conns.entries ≡ []
 
 -- a stop has left its marks, behind H
 pub record Stopped (g : Config) (H : List Mark) (t : Tables) (before now : Effects) : Type 0 where
-  pub rests : Rests (after (at_stop g H) H) t
+  pub rests : Rests g (after (at_stop g H) H) t
   pub events : now.events ≡ before.events ++ told (at_stop g H) H
   pub acts : now.acts ≡ before.acts ++ done g.id (at_stop g H)
 

@@ -1,8 +1,8 @@
 //! What a node is asked between its steps. After want of memory nothing is said of the answers.
 
-ghost use Rattle.std.specs.Prelude.{◌≡◌, ◌<◌, ℕ, List, [], Some, None, is_some, length, option_map, option_copied, IfOk};
+ghost use Rattle.std.specs.Prelude.{◌≡◌, ◌<◌, ◌≤◌, ℕ, List, [], Some, None, is_some, length, option_map, option_copied, IfOk};
 ghost use Rattle.zre_outside.specs.declared.entry.Entry.{Entry as EntryValue};
-ghost use Rattle.zre_journal.specs.Asked.{entered_behind, front_behind, link_behind, unsent_behind, view_behind, HasFront, HasSome, IsDue};
+ghost use Rattle.zre_journal.specs.Asked.{bound_behind, entered_behind, front_behind, held_behind, link_behind, unsent_behind, view_behind, HasFront, HasSome, IsDue};
 ghost use Rattle.zre_journal.specs.declared.config.Config.{Config as ConfigValue};
 ghost use Rattle.zre_journal.specs.Events.{chronicle};
 ghost use Rattle.zre_journal.specs.Happens.{has_stopped};
@@ -96,6 +96,17 @@ impl Node {
             Some(peer) => Some(peer.link.unsent()),
             None => None,
         }
+    }
+
+    /// How many octets the node keeps. Of each connection that is heard, and of the replies on each link, they are those of
+    /// the bodies of an unfinished message and of an unfinished greeting or frame; of each link those that wait; of each
+    /// entered peer the name, the endpoint, the headers and the groups that it has told; and of the node itself the name,
+    /// the headers and the groups. Neither room that lists keep in reserve is counted nor what is of one size in each row.
+    pub fn held(&self) -> u64
+        ensures exact { (g : ConfigValue) (J : List EntryValue) → StandsFor g J self.now → result ≡ held_behind g J }
+        ensures within { (g : ConfigValue) (J : List EntryValue) → StandsFor g J self.now → result ≤ bound_behind g J }
+    {
+        self.tables.octets()
     }
 
     /// Whether the node has stopped.

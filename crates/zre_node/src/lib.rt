@@ -13,6 +13,7 @@ mod effects;
 mod ends;
 mod first;
 mod hearing;
+mod holding;
 mod ids;
 mod links;
 mod node;
