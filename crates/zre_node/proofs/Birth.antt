@@ -10,7 +10,7 @@ use Rattle.zre_link.specs.Link.{link_after}
 use Rattle.zre_journal.specs.declared.config.Config.{Config}
 use Rattle.zre_journal.specs.Chronicle.{Mark, Beacons}
 use Rattle.zre_journal.specs.Heard.{clock}
-use Rattle.zre_journal.specs.Peers.{Life, lives, births, active, counted}
+use Rattle.zre_journal.specs.Peers.{Life, lives, births, counted}
 use Rattle.zre_journal.specs.Happens.{hello, birth}
 use Rattle.zre_journal.proofs.Kept.{born, newborn, born-proper, Beacons-proper}
 use Rattle.zre_journal.proofs.Listed.{eqb-comm, found_passes}

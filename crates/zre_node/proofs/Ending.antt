@@ -10,7 +10,7 @@ use Rattle.zre_peer.specs.Views.{view_of}
 use Rattle.zre_journal.specs.declared.config.Config.{Config}
 use Rattle.zre_journal.specs.Chronicle.{Mark, Ends, ever}
 use Rattle.zre_journal.specs.Heard.{clock, bytes}
-use Rattle.zre_journal.specs.Connections.{runs, open_ones, is_open, since, has_ended, started, is_ignored, is_live, refuses}
+use Rattle.zre_journal.specs.Connections.{runs, open_ones, is_open, has_ended, started, is_ignored, is_live, refuses}
 use Rattle.zre_journal.specs.Peers.{life, births, runner, counted}
 use Rattle.zre_journal.specs.Told.{exit}
 use Rattle.zre_journal.specs.Done.{close_link}

@@ -1,5 +1,5 @@
 -- A map that has one entry for each of a list of things, read and changed.
-use Rattle.std.proofs.Common.{◌≡◌, ℕ, ◌+◌, ◌<◌, Bool, true, false, not, eqb, ltb, List, [], ◌∷◌, ◌++◌, map, length, Option, Some, None, find, filter, refl, sym, ap, arith, nat_cmp, eqb-true, eq-eqb, ne_eqb, lt-ltb, le-ltb, ⊎_elim, subst}
+use Rattle.std.proofs.Common.{◌≡◌, ℕ, ◌<◌, Bool, true, false, not, eqb, ltb, List, [], ◌∷◌, ◌++◌, map, length, Option, Some, None, find, filter, refl, sym, ap, arith, nat_cmp, eqb-true, eq-eqb, ne_eqb, lt-ltb, le-ltb, ⊎_elim, subst}
 use Rattle.std.proofs.lemmas.Bool.{cases_order}
 use Rattle.std.specs.BTreeMap.{is_at, insert_entry}
 use Rattle.std.specs.Map.{lookup, remove_entry, set_value, keys_of}

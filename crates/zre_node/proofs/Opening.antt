@@ -10,7 +10,7 @@ use Rattle.zre_mailbox.specs.Conn.{conn_after}
 use Rattle.zre_journal.specs.declared.config.Config.{Config}
 use Rattle.zre_journal.specs.Chronicle.{Mark, Opens, TurnsAway, Closes, IsShut, Drops, after}
 use Rattle.zre_journal.specs.Heard.{clock}
-use Rattle.zre_journal.specs.Connections.{open_ones, is_new, is_open, since, identity, runs, others}
+use Rattle.zre_journal.specs.Connections.{open_ones, is_new, is_open, runs, others}
 use Rattle.zre_journal.specs.Peers.{Life, lives, births}
 use Rattle.zre_journal.specs.Links.{groups, status}
 use Rattle.zre_journal.specs.Proper.{IsProper}

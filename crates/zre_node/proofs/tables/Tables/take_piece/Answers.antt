@@ -1,5 +1,4 @@
 use Rattle.std.proofs.Common.{◌∷◌, sym, ◌∙◌}
-use Rattle.zre_outside.specs.declared.entry.Input.TheVariants as input
 use Rattle.zre_journal.specs.Chronicle.{Comes}
 use Rattle.zre_journal.specs.Happens.{at_input}
 use Rattle.zre_node.proofs.Ending.{on_ok}
