@@ -1,2 +1,4 @@
+pub mod Pieces
+pub mod Readings
 pub mod RealWorlds
 pub mod Tokens

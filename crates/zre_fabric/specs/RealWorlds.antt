@@ -1,6 +1,11 @@
 -- What a world over real sockets tells.
-use Rattle.std.specs.Prelude.{ℕ, Bool}
+use Rattle.std.specs.Prelude.{ℕ, Bool, Option, None}
+use Rattle.zre_outside.specs.Worlds.{Log}
 use Rattle.zre_fabric.specs.declared.real_world.RealWorld.{RealWorld}
+
+-- it tells nothing of what it gave
+abbrev pub told_of : {R : Type 0} → RealWorld R → Option Log
+told_of w = None
 
 -- whether the last turn was a look
 abbrev pub has_looked : {R : Type 0} → RealWorld R → Bool
@@ -9,3 +14,7 @@ has_looked w = w.looked
 -- how often it failed
 abbrev pub faults_of : {R : Type 0} → RealWorld R → ℕ
 faults_of w = w.faults
+
+-- the last reading of its clock
+abbrev pub reading_of : {R : Type 0} → RealWorld R → ℕ
+reading_of w = w.fabric.stopwatch.last

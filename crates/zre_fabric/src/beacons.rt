@@ -1,3 +1,6 @@
+ghost use Rattle.std.specs.Prelude.{◌≤◌, length, IfOk};
+ghost use Rattle.zre_fabric.specs.Pieces.{StepIsShort};
+
 use crate::room::Room;
 use crate::step::Step;
 use crate::trouble::{Trouble, trouble_of};
@@ -50,7 +53,9 @@ impl Beacons {
         }
     }
 
-    pub(crate) fn step(&mut self, room: &mut Room) -> Result<Step, NextFault> {
+    pub(crate) fn step(&mut self, room: &mut Room) -> Result<Step, NextFault>
+        ensures { IfOk result (λ step. StepIsShort step) }
+    {
         let Ok(datagram) = room.receive(&self.socket) else {
             return Err(NextFault::OutOfMemory);
         };
@@ -66,7 +71,10 @@ impl Beacons {
 }
 
 // The socket is bound to an address of IPv4, so that no others send to it.
-fn entry_of(datagram: (Octets, SocketAddr)) -> Step {
+fn entry_of(datagram: (Octets, SocketAddr)) -> Step
+    requires { length datagram.0 ≤ 65536 }
+    ensures { StepIsShort result }
+{
     let (bytes, from) = datagram;
     match from {
         SocketAddr::V4(from) => Step::More(Input::Datagram {

@@ -1,3 +1,6 @@
+ghost use Rattle.std.specs.Prelude.{IfOk};
+ghost use Rattle.zre_fabric.specs.Pieces.{StepIsShort};
+
 use crate::room::{Heard, Room};
 use crate::step::Step;
 use mio::net::TcpStream;
@@ -36,7 +39,9 @@ impl Conn {
         !is_whole
     }
 
-    pub(crate) fn step(&mut self, conn: u64, room: &mut Room) -> Result<Step, OutOfMemory> {
+    pub(crate) fn step(&mut self, conn: u64, room: &mut Room) -> Result<Step, OutOfMemory>
+        ensures { IfOk result (λ step. StepIsShort step) }
+    {
         let Some(stream) = &mut self.stream else {
             return Ok(Step::Last(Input::Shut { conn }));
         };

@@ -1,5 +1,7 @@
-ghost use Rattle.std.specs.Prelude.{IfOk};
+ghost use Rattle.std.specs.Prelude.{◌≡◌, ◌≤◌, IfOk};
 ghost use Rattle.zre_outside.specs.Worlds.{IsTurn};
+ghost use Rattle.zre_fabric.specs.Pieces.{TurnIsShort};
+ghost use Rattle.zre_fabric.specs.Readings.{IsReadAt};
 
 use crate::network::Network;
 use crate::stopwatch::Stopwatch;
@@ -19,7 +21,9 @@ pub(crate) struct Fabric<R> {
 }
 
 impl<R> Fabric<R> {
-    pub(crate) fn new(rt: R, alloc: Global) -> Self {
+    pub(crate) fn new(rt: R, alloc: Global) -> Self
+        ensures { result.stopwatch.last ≡ 0 }
+    {
         Fabric {
             rt,
             alloc,
@@ -31,7 +35,9 @@ impl<R> Fabric<R> {
 
 impl<R: Net + Clock> Fabric<R> {
     /// What was open before is closed first, since the same ports may be asked for.
-    pub(crate) fn start(&mut self, s: &Start) -> Result<(), NextFault> {
+    pub(crate) fn start(&mut self, s: &Start) -> Result<(), NextFault>
+        ensures later { self.old.stopwatch.last ≤ self.new.stopwatch.last }
+    {
         self.network = None;
         let at = self.stopwatch.read(&self.rt)?;
         self.network = Some(Network::open(&self.rt, self.alloc, s, at)?);
@@ -39,7 +45,10 @@ impl<R: Net + Clock> Fabric<R> {
     }
 
     pub(crate) fn next(&mut self, command: Option<Command>) -> Result<Turn, NextFault>
-        ensures { IfOk result (λ t. IsTurn command t) }
+        ensures turn { IfOk result (λ t. IsTurn command t) }
+        ensures short { IfOk result (λ t. TurnIsShort t) }
+        ensures reading { IfOk result (λ t. IsReadAt self.new.stopwatch.last t) }
+        ensures later { self.old.stopwatch.last ≤ self.new.stopwatch.last }
     {
         match command {
             Some(command) => self.obey(command),
@@ -48,7 +57,10 @@ impl<R: Net + Clock> Fabric<R> {
     }
 
     fn obey(&mut self, command: Command) -> Result<Turn, NextFault>
-        ensures { IfOk result (λ t. IsTurn (Some command) t) }
+        ensures turn { IfOk result (λ t. IsTurn (Some command) t) }
+        ensures short { IfOk result (λ t. TurnIsShort t) }
+        ensures reading { IfOk result (λ t. IsReadAt self.new.stopwatch.last t) }
+        ensures later { self.old.stopwatch.last ≤ self.new.stopwatch.last }
     {
         let at = self.stopwatch.read(&self.rt)?;
         if let Some(network) = &mut self.network {
@@ -61,7 +73,11 @@ impl<R: Net + Clock> Fabric<R> {
     }
 
     // An entry that is there, or else one that comes within the wait, or else a look.
-    fn go_on(&mut self) -> Result<Turn, NextFault> {
+    fn go_on(&mut self) -> Result<Turn, NextFault>
+        ensures short { IfOk result (λ t. TurnIsShort t) }
+        ensures reading { IfOk result (λ t. IsReadAt self.new.stopwatch.last t) }
+        ensures later { self.old.stopwatch.last ≤ self.new.stopwatch.last }
+    {
         let at = self.stopwatch.read(&self.rt)?;
         let Some(network) = &mut self.network else {
             return Err(NextFault::Failed);
@@ -84,14 +100,18 @@ impl<R: Net + Clock> Fabric<R> {
         }
     }
 
-    pub(crate) fn act(&mut self, act: &Act) -> Result<(), OutOfMemory> {
+    pub(crate) fn act(&mut self, act: &Act) -> Result<(), OutOfMemory>
+        ensures { self.new.stopwatch ≡ self.old.stopwatch }
+    {
         match &mut self.network {
             Some(network) => network.act(&self.rt, act),
             None => Ok(()),
         }
     }
 
-    pub(crate) fn offer(&mut self, link: u64, bytes: &[u8]) -> Result<(), OutOfMemory> {
+    pub(crate) fn offer(&mut self, link: u64, bytes: &[u8]) -> Result<(), OutOfMemory>
+        ensures { self.new.stopwatch ≡ self.old.stopwatch }
+    {
         match &mut self.network {
             Some(network) => network.offer(link, bytes),
             None => Ok(()),

@@ -1,3 +1,6 @@
+ghost use Rattle.std.specs.Prelude.{IfOk, IfSome};
+ghost use Rattle.zre_fabric.specs.Pieces.{StepIsShort};
+
 use crate::room::{Heard, Room};
 use crate::step::Step;
 use mio::net::TcpStream;
@@ -91,7 +94,9 @@ impl Link {
         !matches!(self.offered, Offered::Waits)
     }
 
-    pub(crate) fn step(&mut self, link: u64, room: &mut Room) -> Result<Step, OutOfMemory> {
+    pub(crate) fn step(&mut self, link: u64, room: &mut Room) -> Result<Step, OutOfMemory>
+        ensures { IfOk result (λ step. StepIsShort step) }
+    {
         if !self.is_linked {
             return Ok(self.settle(link));
         }
@@ -108,7 +113,9 @@ impl Link {
     }
 
     // Whether it stands by now.
-    fn settle(&mut self, link: u64) -> Step {
+    fn settle(&mut self, link: u64) -> Step
+        ensures { StepIsShort result }
+    {
         let Some(stream) = &self.stream else {
             return Step::Last(Input::Unlinked { link });
         };
@@ -128,7 +135,9 @@ impl Link {
         }
     }
 
-    fn count(&mut self, link: u64) -> Option<Step> {
+    fn count(&mut self, link: u64) -> Option<Step>
+        ensures { IfSome result (λ step. StepIsShort step) }
+    {
         let Offered::Took(count) = self.offered else {
             return None;
         };
@@ -137,7 +146,9 @@ impl Link {
         Some(Step::More(Input::Took { link, count }))
     }
 
-    fn read(&mut self, link: u64, room: &mut Room) -> Result<Step, OutOfMemory> {
+    fn read(&mut self, link: u64, room: &mut Room) -> Result<Step, OutOfMemory>
+        ensures { IfOk result (λ step. StepIsShort step) }
+    {
         let Some(stream) = &mut self.stream else {
             return Ok(Step::Last(Input::Unlinked { link }));
         };

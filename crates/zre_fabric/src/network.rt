@@ -1,3 +1,6 @@
+ghost use Rattle.std.specs.Prelude.{IfOk, IfSome};
+ghost use Rattle.zre_fabric.specs.Pieces.{IsShort};
+
 use crate::beacons::{Beacons, address};
 use crate::pace::Pace;
 use crate::source::{Source, source_of, token_of};
@@ -84,7 +87,9 @@ impl Network {
 
     /// An entry that is there without waiting. The poll is asked behind each look, so that sources which always have
     /// something don't keep the others out.
-    pub(crate) fn find(&mut self, at: u64) -> Result<Option<Input>, NextFault> {
+    pub(crate) fn find(&mut self, at: u64) -> Result<Option<Input>, NextFault>
+        ensures { IfOk result (λ input. IfSome input (λ i. IsShort i)) }
+    {
         if self.is_due_to_poll {
             self.gather(Duration::ZERO)?;
         }

@@ -1,5 +1,9 @@
-ghost use Rattle.std.specs.Prelude.{◌≡◌, ◌≤◌, false, None};
+ghost use Rattle.std.specs.Prelude.{◌≡◌, ◌≤◌, false, true, option_map, IsSome, IfOk, OnOk, OnErr, IsErrOf};
+ghost use Rattle.zre_outside.specs.declared.deed.Deed.{Deed as DeedValue};
 ghost use Rattle.zre_outside.specs.Causes.{Rose};
+ghost use Rattle.zre_outside.specs.Worlds.{with_start, IsTurn, is_look, after_turn, with_deed};
+ghost use Rattle.zre_fabric.specs.Pieces.{TurnIsShort};
+ghost use Rattle.zre_fabric.specs.Readings.{IsReadAt};
 
 use crate::fabric::Fabric;
 use std::alloc::Global;
@@ -17,12 +21,13 @@ pub struct RealWorld<R> {
 }
 
 impl<R> RealWorld<R> {
-    ghost use Rattle.zre_fabric.specs.RealWorlds.{has_looked, faults_of};
+    ghost use Rattle.zre_fabric.specs.RealWorlds.{has_looked, faults_of, reading_of};
 
     /// A world that isn't started yet. It takes no memory and opens nothing.
     pub fn new(rt: R, alloc: Global) -> Self
         ensures looked { has_looked result ≡ false }
         ensures faults { faults_of result ≡ 0 }
+        ensures clock { reading_of result ≡ 0 }
     {
         RealWorld {
             fabric: Fabric::new(rt, alloc),
@@ -45,9 +50,9 @@ fn raise(faults: u64, fault: NextFault) -> u64
 }
 
 impl<R: Net + Clock> World for RealWorld<R> {
-    ghost use Rattle.zre_fabric.specs.RealWorlds.{has_looked, faults_of};
+    ghost use Rattle.zre_fabric.specs.RealWorlds.{told_of, has_looked, faults_of, reading_of};
 
-    ghost told = { λ _. None };
+    ghost told = { told_of };
 
     ghost looked = { has_looked };
 
@@ -55,7 +60,14 @@ impl<R: Net + Clock> World for RealWorld<R> {
 
     /// Binds UDP at `listen` and the port of beacons, for sending to broadcast addresses too, and TCP at `host` and
     /// `port`. It fails where one of them can't be bound. What was started before is closed in any case.
-    fn start(&mut self, s: &Start) -> Result<(), NextFault> {
+    fn start(&mut self, s: &Start) -> Result<(), NextFault>
+        ensures told { OnOk result (told_of self.new ≡ option_map (with_start s.now) (told_of self.old)) }
+        ensures refused { OnErr result (told_of self.new ≡ told_of self.old) }
+        ensures looked { has_looked self.new ≡ has_looked self.old }
+        ensures later { faults_of self.old ≤ faults_of self.new }
+        ensures failed { IsErrOf result NextFault.Failed → Rose (faults_of self.old) (faults_of self.new) }
+        ensures clock { reading_of self.old ≤ reading_of self.new }
+    {
         match self.fabric.start(s) {
             Ok(()) => Ok(()),
             Err(fault) => {
@@ -67,7 +79,18 @@ impl<R: Net + Clock> World for RealWorld<R> {
 
     /// Waits for 20 milliseconds at most. It fails where the world isn't started, and where the clock, the poll, the UDP
     /// socket or the listener fails.
-    fn next(&mut self, command: Option<Command>) -> Result<Turn, NextFault> {
+    fn next(&mut self, command: Option<Command>) -> Result<Turn, NextFault>
+        requires { IsSome command → has_looked self.old ≡ true }
+        ensures turn { IfOk result (λ t. IsTurn command t) }
+        ensures told { IfOk result (λ t. told_of self.new ≡ option_map (after_turn command t) (told_of self.old)) }
+        ensures looked { IfOk result (λ t. has_looked self.new ≡ is_look t) }
+        ensures refused { OnErr result ((told_of self.new ≡ told_of self.old) × (has_looked self.new ≡ has_looked self.old)) }
+        ensures later { faults_of self.old ≤ faults_of self.new }
+        ensures failed { IsErrOf result NextFault.Failed → Rose (faults_of self.old) (faults_of self.new) }
+        ensures clock { reading_of self.old ≤ reading_of self.new }
+        ensures reading { IfOk result (λ t. IsReadAt (reading_of self.new) t) }
+        ensures short { IfOk result (λ t. TurnIsShort t) }
+    {
         match self.fabric.next(command) {
             Ok(turn) => {
                 self.looked = matches!(turn, Turn::Look);
@@ -81,11 +104,23 @@ impl<R: Net + Clock> World for RealWorld<R> {
     }
 
     /// Begins what the act asks for, and waits for nothing. An act on a link or connection that is gone does nothing.
-    fn act(&mut self, act: &Act) -> Result<(), OutOfMemory> {
+    fn act(&mut self, act: &Act) -> Result<(), OutOfMemory>
+        ensures ok { OnOk result (told_of self.new ≡ option_map (with_deed (DeedValue.Done act.now)) (told_of self.old)) }
+        ensures err { OnErr result (told_of self.new ≡ told_of self.old) }
+        ensures looked { has_looked self.new ≡ has_looked self.old }
+        ensures faults { faults_of self.new ≡ faults_of self.old }
+        ensures clock { reading_of self.new ≡ reading_of self.old }
+    {
         self.fabric.act(act)
     }
 
-    fn offer(&mut self, link: u64, bytes: &[u8]) -> Result<(), OutOfMemory> {
+    fn offer(&mut self, link: u64, bytes: &[u8]) -> Result<(), OutOfMemory>
+        ensures ok { OnOk result (told_of self.new ≡ option_map (with_deed (DeedValue.Offered link bytes.now)) (told_of self.old)) }
+        ensures err { OnErr result (told_of self.new ≡ told_of self.old) }
+        ensures looked { has_looked self.new ≡ has_looked self.old }
+        ensures faults { faults_of self.new ≡ faults_of self.old }
+        ensures clock { reading_of self.new ≡ reading_of self.old }
+    {
         self.fabric.offer(link, bytes)
     }
 }

@@ -1,5 +1,7 @@
 //! The buffer that every read goes through.
 
+ghost use Rattle.std.specs.Prelude.{◌≡◌, ◌≤◌, length, vec_len, IfOk};
+
 use mio::net::{TcpStream, UdpSocket};
 use std::alloc::Global;
 use std::io::{self, ErrorKind, Read};
@@ -13,6 +15,7 @@ const ROOM: usize = 65536;
 pub(crate) struct Room {
     octets: Vec<u8>,
     alloc: Global,
+    ghost size: { vec_len octets ≡ 65536 },
 }
 
 /// What a read of a stream gave.
@@ -26,6 +29,8 @@ pub(crate) enum Heard {
 }
 
 impl Room {
+    ghost use Rattle.zre_fabric.specs.Pieces.{HeardIsShort};
+
     pub(crate) fn new(alloc: Global) -> Result<Self, OutOfMemory> {
         Ok(Room {
             octets: Vec::from_elem(alloc, 0u8, ROOM)?,
@@ -33,7 +38,9 @@ impl Room {
         })
     }
 
-    pub(crate) fn read(&mut self, stream: &mut TcpStream) -> Result<Heard, OutOfMemory> {
+    pub(crate) fn read(&mut self, stream: &mut TcpStream) -> Result<Heard, OutOfMemory>
+        ensures { IfOk result (λ heard. HeardIsShort heard) }
+    {
         match stream.read(&mut self.octets) {
             Ok(0) => Ok(Heard::End),
             Ok(n) => Ok(Heard::Octets(Octets::copy(self.alloc, &self.octets[..n])?)),
@@ -46,7 +53,9 @@ impl Room {
     pub(crate) fn receive(
         &mut self,
         socket: &UdpSocket,
-    ) -> Result<io::Result<(Octets, SocketAddr)>, OutOfMemory> {
+    ) -> Result<io::Result<(Octets, SocketAddr)>, OutOfMemory>
+        ensures { IfOk result (λ datagram. IfOk datagram (λ d. length d.0 ≤ 65536)) }
+    {
         match socket.recv_from(&mut self.octets) {
             Ok((n, from)) => Ok(Ok((Octets::copy(self.alloc, &self.octets[..n])?, from))),
             Err(e) => Ok(Err(e)),

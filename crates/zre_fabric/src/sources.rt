@@ -1,5 +1,8 @@
 //! The open sockets, and those of them that may have something to say.
 
+ghost use Rattle.std.specs.Prelude.{IfOk, IfSome};
+ghost use Rattle.zre_fabric.specs.Pieces.{IsShort, StepIsShort};
+
 use crate::beacons::{Beacons, address};
 use crate::conn::Conn;
 use crate::link::Link;
@@ -15,8 +18,8 @@ use std::net::Net;
 use zre_outside::{Input, NextFault};
 use zre_values::{Endpoint, OutOfMemory};
 
-/// A source stands in the queue once, where `is_queued` says so, and keeps its place until a look at it finds nothing. So
-/// the queue is no longer than there are sources, and each has its turn.
+/// A source stands in the queue once, where `is_queued` says so, and keeps its place until a look at it finds nothing. One that
+/// is closed leaves it at its turn. So the queue is no longer than there are sources, and each has its turn.
 #[derive(Drop)]
 pub(crate) struct Sources {
     pub(crate) beacons: Beacons,
@@ -82,7 +85,9 @@ impl Sources {
     }
 
     /// The next entry of a source that may have one. Each is looked at once.
-    pub(crate) fn next(&mut self, registry: &Registry) -> Result<Option<Input>, NextFault> {
+    pub(crate) fn next(&mut self, registry: &Registry) -> Result<Option<Input>, NextFault>
+        ensures { IfOk result (λ input. IfSome input (λ i. IsShort i)) }
+    {
         for _ in 0..self.queue.len() {
             let Some(source) = self.queue.pop_front() else {
                 break;
@@ -94,7 +99,9 @@ impl Sources {
         Ok(None)
     }
 
-    fn look_at(&mut self, source: Source, registry: &Registry) -> Result<Option<Input>, NextFault> {
+    fn look_at(&mut self, source: Source, registry: &Registry) -> Result<Option<Input>, NextFault>
+        ensures { IfOk result (λ input. IfSome input (λ i. IsShort i)) }
+    {
         match self.step(source, registry)? {
             Step::More(input) => {
                 self.keep(source)?;
@@ -133,7 +140,9 @@ impl Sources {
         }
     }
 
-    fn step(&mut self, source: Source, registry: &Registry) -> Result<Step, NextFault> {
+    fn step(&mut self, source: Source, registry: &Registry) -> Result<Step, NextFault>
+        ensures { IfOk result (λ step. StepIsShort step) }
+    {
         match source {
             Source::Beacons => self.beacons.step(&mut self.room),
             Source::Mailbox => self.accept(registry),
@@ -148,7 +157,9 @@ impl Sources {
         }
     }
 
-    fn accept(&mut self, registry: &Registry) -> Result<Step, NextFault> {
+    fn accept(&mut self, registry: &Registry) -> Result<Step, NextFault>
+        ensures { IfOk result (λ step. StepIsShort step) }
+    {
         match self.listener.accept() {
             Ok((stream, _)) => self.admit(stream, registry).map_err(no_memory),
             Err(e) => match trouble_of(&e) {
@@ -160,7 +171,9 @@ impl Sources {
     }
 
     // A connection that the poll has no place for is closed.
-    fn admit(&mut self, mut stream: TcpStream, registry: &Registry) -> Result<Step, OutOfMemory> {
+    fn admit(&mut self, mut stream: TcpStream, registry: &Registry) -> Result<Step, OutOfMemory>
+        ensures { IfOk result (λ step. StepIsShort step) }
+    {
         let conn = self.opened.checked_add(1).ok_or(OutOfMemory)?;
         let token = token_of(Source::Conn(conn)).ok_or(OutOfMemory)?;
         let _ = stream.set_nodelay(true);

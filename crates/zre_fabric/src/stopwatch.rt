@@ -12,7 +12,9 @@ pub(crate) struct Stopwatch {
 }
 
 impl Stopwatch {
-    pub(crate) fn new() -> Self {
+    pub(crate) fn new() -> Self
+        ensures { result.last ≡ 0 }
+    {
         Stopwatch {
             begun: None,
             last: 0,
