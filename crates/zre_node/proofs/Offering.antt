@@ -34,6 +34,11 @@ among g K pushed (v ∷ vs) (e ∷ es) t = rw (t.0, t.1.link_is) (by (among g K 
     by r true = ap (λ (xs : List Act). act.Offer v.link ∷ xs) r
     by r false = r
 
+-- nothing is offered where nothing was put
+pub none_pushed : (es : List (ℕ × Peer)) → offered_among [] es ≡ []
+none_pushed [] = refl
+none_pushed (e ∷ es) = none_pushed es
+
 -- one row that isn't offered
 pub none_more : (pushed : List ℕ) (l : ℕ) (k : Peer) (es : List (ℕ × Peer)) (acts start : List Act) → (list_any (eqb l) pushed && has_front k.link) ≡ false → acts ++ offered_among pushed ((l, k) ∷ es) ≡ start → acts ++ offered_among pushed es ≡ start
 none_more pushed l k es acts start b e = rw b at e

@@ -1,11 +1,18 @@
-use Rattle.std.proofs.Common.{ℕ, eqb, List, ◌++◌, sym, ap, ◌∙◌}
+use Rattle.std.proofs.Common.{◌≡◌, ℕ, eqb, List, [], ◌++◌, sym, ap, ◌∙◌}
+use Rattle.std.proofs.lemmas.List.{append-nil, nil_from_length}
+use Rattle.zre_outside.specs.declared.act.Act.{Act}
 use Rattle.std.specs.List.{list_any}
 use Rattle.zre_link.specs.Link.{has_front}
 use Rattle.zre_node.specs.declared.peer.Peer.{Peer}
 use Rattle.zre_node.specs.Offers.{offered_among}
-use Rattle.zre_node.proofs.Offering.{one_more, none_more, not_pushed, no_front}
+use Rattle.zre_node.proofs.Offering.{one_more, none_more, none_pushed, not_pushed, no_front}
 use Rattle.zre_node.proofs.offers.push_offers.Goals as goal
 use Rattle.zre_node.proofs.offers.push_offers.Goals.{else-has_key-via-then-has_key+else-is_offered, else-has_key-via-else-has_key}
+
+pub returns-then-len-eq0 : goal.returns-then-len-eq0
+returns-then-len-eq0 c =
+    let empty : c.args.pushed.now ≡ [] = nil_from_length c.args.pushed.now (sym c.len.ensures ∙ c.if-len-eq0.true) in
+    sym (ap (λ (ks : List ℕ). c.args.acts.now ++ offered_among ks c.args.peers.now.entries) empty ∙ ap (λ (xs : List Act). c.args.acts.now ++ xs) (none_pushed c.args.peers.now.entries) ∙ append-nil c.args.acts.now)
 
 pub loop-link-preserved-then-is_offered : goal.loop-link-preserved-then-is_offered
 loop-link-preserved-then-is_offered c =
