@@ -93,6 +93,12 @@ struct Connection {
     reader: Reader,
 }
 
+impl Connection {
+    fn is_ignored(&self) -> bool {
+        matches!(self.role, Role::Ignored)
+    }
+}
+
 pub struct Node<L> {
     settings: Settings,
     clock: u64,

@@ -15,10 +15,11 @@ impl<L: Listener> Node<L> {
     #[inline]
     pub(super) fn piece(&mut self, number: u64, piece: &[u8]) {
         let Some(slot) = self.connections.slot(number) else { return };
-        if !self.is_read(slot) {
+        let connection = &mut self.connections[slot];
+        if connection.is_ignored() {
             return;
         }
-        let octets = self.connections[slot].reader.take_up(piece);
+        let octets = connection.reader.take_up(piece);
         loop {
             let taken = match self.connections[slot].reader.next(&octets) {
                 Ok(Some(Item::Message)) if !self.message(number, slot, &octets) => return,
@@ -31,10 +32,6 @@ impl<L: Listener> Node<L> {
                 return self.close(number, Cause::Fault, Some(CloseWhy::Zmtp(fault)));
             }
         }
-    }
-
-    fn is_read(&self, slot: usize) -> bool {
-        !matches!(self.connections[slot].role, Role::Ignored)
     }
 
     /// READY tells the peer's identity. An older connection with the same one is closed.
@@ -72,7 +69,7 @@ impl<L: Listener> Node<L> {
         peer.active = self.clock;
         if let Body::Ping = message.body {
             self.push(peer_number, peer_slot, &Written::PingOk);
-            return self.is_read(slot);
+            return !self.connections[slot].is_ignored();
         }
         true
     }
