@@ -1,7 +1,7 @@
-ghost use Rattle.std.specs.Prelude.{◌≡◌, ◌≤◌, IfOk, IfSome};
+ghost use Rattle.std.specs.Prelude.{◌≡◌, ◌≤◌, map, IfOk, IfSome};
 ghost use Rattle.std.specs.List.{list_all};
 ghost use Rattle.std.specs.Str.{is_utf8};
-ghost use Rattle.zre_app.specs.Words.{command_of, exercise_of, follow_of, number_in, show_of, replay_of, IsReady};
+ghost use Rattle.zre_app.specs.Words.{command_of, exercise_in, exercise_keys, exercise_of, follow_of, number_in, show_of, replay_of, IsReady};
 
 use crate::keys::{Key, Often, are_words_of, identity, value_of};
 use crate::node_words::{config_in, node_keys};
@@ -106,20 +106,11 @@ fn number_in(key: &[u8], low: u64, high: u64, words: &[Octets]) -> Option<u64>
     }
 }
 
-fn exercise_of(words: &[Octets]) -> Option<Command>
-    ensures value { result ≡ exercise_of words.now }
+// The numbers of an exercise.
+fn exercise_in(words: &[Octets]) -> Option<Command>
+    ensures value { result ≡ exercise_in words.now }
     ensures ready { IsReady result }
 {
-    let once = |name| Key {
-        name,
-        often: Often::Once,
-    };
-    if !are_words_of(
-        &[once(b"seed="), once(b"peers="), once(b"messages=")],
-        words,
-    ) {
-        return None;
-    }
     let Some(seed) = number_in(b"seed=", 0, u64::MAX, words) else {
         return None;
     };
@@ -134,6 +125,36 @@ fn exercise_of(words: &[Octets]) -> Option<Command>
         peers: peers as u16,
         messages: messages as u32,
     })
+}
+
+// The keys of an exercise.
+fn exercise_keys() -> [Key<'static>; 3]
+    ensures { map (λ key. (key.name.now, key.often)) result ≡ exercise_keys }
+{
+    [
+        Key {
+            name: b"seed=",
+            often: Often::Once,
+        },
+        Key {
+            name: b"peers=",
+            often: Often::Once,
+        },
+        Key {
+            name: b"messages=",
+            often: Often::Once,
+        },
+    ]
+}
+
+fn exercise_of(words: &[Octets]) -> Option<Command>
+    ensures value { result ≡ exercise_of words.now }
+    ensures ready { IsReady result }
+{
+    if !are_words_of(&exercise_keys(), words) {
+        return None;
+    }
+    exercise_in(words)
 }
 
 /// The command that the words are: those behind the program's name, each as its octets. None where they are in no
