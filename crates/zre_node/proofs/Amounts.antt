@@ -1,21 +1,19 @@
 -- What the tables hold is what the chronicle holds.
-use Rattle.std.proofs.Common.{◌≡◌, ℕ, ◌+◌, ◌-◌, ◌^◌, ◌≤◌, min, Bool, true, false, cond, not, ◌&&◌, ◌||◌, eqb, List, [], ◌∷◌, ◌++◌, length, filter, find, Option, Some, None, IsSome, is_some, refl, sym, ap, ◌∙◌, arith, eq-eqb, append-nil, sum_by, subst}
-use Rattle.std.proofs.lemmas.Bool.{and_from, and_left}
+use Rattle.std.proofs.Common.{◌≡◌, ℕ, ◌+◌, ◌≤◌, Bool, true, false, cond, not, ◌&&◌, ◌||◌, eqb, List, [], ◌∷◌, ◌++◌, length, filter, Option, Some, None, IsSome, refl, sym, ap, ◌∙◌, arith, eq-eqb, append-nil, sum_by, subst}
 use Rattle.std.proofs.lemmas.List.{length-drop}
 use Rattle.std.proofs.lemmas.List.Sums.{sum_by-cons}
 use Rattle.std.specs.List.{AllByRecursion, list_any}
 use Rattle.zre_zmtp.specs.Stream.{Whole, cut}
 use Rattle.zre_zmtp.specs.declared.fault.ZmtpFault.{ZmtpFault}
 use Rattle.zre_zmtp.specs.declared.want.Want.TheVariants.{Router, Dealer}
-use Rattle.zre_zmtp.specs.Reading.{kept}
 use Rattle.zre_mailbox.specs.Talk.{fault_in}
-use Rattle.zre_mailbox.specs.Conn.{Hearing, reading, phase_by, conn_after, kept_in, kept_of}
+use Rattle.zre_mailbox.specs.Conn.{reading, phase_by, conn_after, kept_in, kept_of}
 use Rattle.zre_link.specs.Heard.{reply_fault, heard_after, hearing_by, reading as reply_reading, kept_in as kept_in_replies, kept_of as kept_of_replies}
-use Rattle.zre_link.specs.Link.{Sending, link_after}
+use Rattle.zre_link.specs.Link.{Sending}
 use Rattle.zre_link.specs.Text.{text_of}
 use Rattle.zre_journal.specs.declared.config.Config.{Config}
 use Rattle.zre_journal.specs.Asked.{view_if_entered}
-use Rattle.zre_journal.specs.Chronicle.{Mark, Comes, ever}
+use Rattle.zre_journal.specs.Chronicle.{Mark, Comes}
 use Rattle.zre_journal.specs.Heard.{bytes}
 use Rattle.zre_journal.specs.Connections.{open_ones, is_open, is_ignored, is_live}
 use Rattle.zre_journal.specs.Held.{unfinished, header_octets, view_octets, conn_octets, reply_octets, peer_octets, own_octets, held, bound}
@@ -31,7 +29,7 @@ use Rattle.zre_node.specs.declared.tables.Tables.{Tables}
 use Rattle.zre_node.specs.Asked.{view_of_row}
 use Rattle.zre_node.specs.Holding.{capped, reader_octets, conn_row_octets, IsReading, shown_octets, peer_row_octets, IsSending}
 use Rattle.zre_node.specs.Journal.{StandsIn}
-use Rattle.zre_node.specs.Stands.{IsConn, IsPeer, heard_by, kept_conn}
+use Rattle.zre_node.specs.Stands.{IsConn, IsPeer, heard_by}
 use Rattle.zre_node.specs.Tabled.{Tabled}
 use Rattle.zre_node.proofs.Asking.{rows, its_view}
 

@@ -65,6 +65,7 @@ fn groups_octets(view: &View) -> u64
     sum
 }
 
+// Of all that a peer has told.
 fn view_octets(view: &View) -> u64
     ensures { result ≡ capped (view_octets view.now) }
 {
@@ -74,7 +75,7 @@ fn view_octets(view: &View) -> u64
         .saturating_add(groups_octets(view))
 }
 
-// Of what a peer has told, where it is entered.
+// The same, where it is entered.
 fn shown_octets(peer: &Peer) -> u64
     ensures { result ≡ capped (shown_octets (view_of_row peer.now)) }
 {
@@ -84,6 +85,7 @@ fn shown_octets(peer: &Peer) -> u64
     }
 }
 
+// Of the replies on a peer's link, of what waits there, and of what it has told.
 fn peer_octets(peer: &Peer) -> u64
     ensures { IsSending peer.now → result ≡ capped (peer_row_octets peer.now) }
 {
@@ -93,6 +95,7 @@ fn peer_octets(peer: &Peer) -> u64
         .saturating_add(shown_octets(peer))
 }
 
+// Of all known peers.
 fn peers_octets(peers: &BTreeMap<u64, Peer>) -> u64
     ensures { AllByRecursion (λ (e : ℕ × PeerValue). IsSending e.1) peers.now.entries →
         result ≡ capped (sum_by (λ (e : ℕ × PeerValue). peer_row_octets e.1) peers.now.entries) }
@@ -104,6 +107,7 @@ fn peers_octets(peers: &BTreeMap<u64, Peer>) -> u64
     sum
 }
 
+// Of an open connection: where it is ignored nothing is kept.
 fn conn_octets(conn: &Connection) -> u64
     ensures { IsReading conn.now.conn → result ≡ conn_row_octets conn.now }
 {
@@ -113,6 +117,7 @@ fn conn_octets(conn: &Connection) -> u64
     }
 }
 
+// Of all open connections.
 fn conns_octets(conns: &BTreeMap<u64, Connection>) -> u64
     ensures { AllByRecursion (λ (e : ℕ × ConnectionValue). IsReading e.1.conn) conns.now.entries →
         result ≡ capped (sum_by (λ (e : ℕ × ConnectionValue). conn_row_octets e.1) conns.now.entries) }
@@ -125,6 +130,7 @@ fn conns_octets(conns: &BTreeMap<u64, Connection>) -> u64
 }
 
 impl Tables {
+    // Of the node itself.
     fn own_octets(&self) -> u64
         ensures { result ≡ capped (length self.now.config.name + header_octets self.now.config.headers + sum_by length self.now.own.groups) }
     {

@@ -292,6 +292,42 @@ const ROWS: &[Row] = &[
     },
 ];
 
+// What comes about step by step, and how many octets the node holds behind each step: 2 of its name, and then those that are
+// told beside it.
+const HOLDINGS: &[(&[(u64, What)], u64)] = &[
+    // 165 wait on the link, and the peer has told a name of 3 and an endpoint of 20.
+    (BASE, 190),
+    // The node is in a group of 1, and JOIN waits, 11 octets.
+    (&[(200, Join(b"g"))], 202),
+    // The peer is in a group of 4.
+    (&[(200, Piece(1, &[JOIN]))], 206),
+    // A frame that another of its message follows has a body of 2, and 3 octets stand behind it.
+    (&[(200, Piece(1, &[b"\x01\x02hi", b"\0\x0c\xaa"]))], 211),
+    // 10 octets of a greeting on another connection.
+    (
+        &[
+            (200, Opened(2)),
+            (200, Piece(2, &[b"\xff\0\0\0\0\0\0\0\0\x7f"])),
+        ],
+        221,
+    ),
+    // As many on the link.
+    (
+        &[
+            (200, Linked(1)),
+            (200, Reply(1, &[b"\xff\0\0\0\0\0\0\0\0\x7f"])),
+        ],
+        231,
+    ),
+    // The node's greeting has gone out on it.
+    (&[(200, Took(1, 64))], 167),
+    // The peer ends: nothing is kept of it, of its link and of its connection.
+    (&[(300, Beacon(LAST_BEACON))], 13),
+    // A stop leaves the node's own name and group.
+    (&[(300, Quit)], 3),
+    (&[(400, Opened(3)), (400, Piece(3, &[GREETING]))], 3),
+];
+
 fn joined(alloc: Global, parts: &[&[u8]]) -> Result<Octets, OutOfMemory> {
     let mut all = Octets::new(alloc);
     for part in parts {
@@ -403,6 +439,18 @@ fn worked_journals_give_their_events_and_answers(rt: HostRuntime) -> Result<(), 
             if row.groups.is_some() { 1 } else { 0 }
         );
         assert_eq!(rt; node.known(), if row.link.is_some() { 1 } else { 0 });
+    }
+    Ok(())
+}
+
+#[test]
+fn a_node_holds_what_is_unfinished_unsent_and_told(rt: HostRuntime) -> Result<(), Fail> {
+    let alloc = rt.alloc();
+    let mut node = node(alloc)?;
+    let mut lines = Octets::new(alloc);
+    for (entries, held) in HOLDINGS {
+        take_all(alloc, &mut node, entries, &mut lines)?;
+        assert_eq!(rt; node.held(), *held);
     }
     Ok(())
 }

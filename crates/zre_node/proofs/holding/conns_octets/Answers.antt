@@ -1,4 +1,4 @@
-use Rattle.std.proofs.Common.{arith, ap}
+use Rattle.std.proofs.Common.{ap}
 use Rattle.zre_node.specs.declared.connection.Connection.{Connection}
 use Rattle.zre_node.specs.Holding.{capped, conn_row_octets, IsReading}
 use Rattle.zre_node.proofs.Adding.{one_row, no_row_left}

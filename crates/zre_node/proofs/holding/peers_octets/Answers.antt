@@ -1,5 +1,5 @@
-use Rattle.std.proofs.Common.{arith, ap}
-use Rattle.zre_node.specs.Holding.{capped, peer_row_octets, IsSending}
+use Rattle.std.proofs.Common.{arith}
+use Rattle.zre_node.specs.Holding.{peer_row_octets, IsSending}
 use Rattle.zre_node.proofs.Adding.{one_row, no_row_left}
 use Rattle.zre_node.proofs.holding.peers_octets.Goals as goal
 

@@ -1,4 +1,4 @@
-use Rattle.std.proofs.Common.{ℕ, ◌≤◌, length, sym, ap, ◌∙◌, subst}
+use Rattle.std.proofs.Common.{◌≤◌, length, sym, ap, ◌∙◌, subst}
 use Rattle.zre_journal.specs.Asked.{held_behind, bound_behind}
 use Rattle.zre_journal.specs.Connections.{open_ones}
 use Rattle.zre_journal.specs.Events.{chronicle}
