@@ -2,6 +2,7 @@
 
 use std::io::{self, ErrorKind};
 
+#[derive(Clone, Copy)]
 pub(crate) enum Trouble {
     /// Nothing is there now.
     Nothing,
