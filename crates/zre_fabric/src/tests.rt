@@ -154,13 +154,13 @@ fn wait_for<R: Net + Clock>(
 
 /// Whether three looks come with no entry between them but Ticks.
 fn is_quiet<R: Net + Clock>(alloc: Global, world: &mut RealWorld<R>) -> Result<bool, NextFault> {
-    let mut looks = 0;
+    let mut looks = 0u32;
     for _ in 0..TURNS {
         if looks == 3 {
             return Ok(true);
         }
         match world.next(None)? {
-            Turn::Look => looks += 1,
+            Turn::Look => looks = looks.saturating_add(1),
             Turn::Entry(entry) => {
                 if see(alloc, entry.input).kind != "Tick" {
                     return Ok(false);
