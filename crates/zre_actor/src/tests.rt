@@ -383,8 +383,8 @@ fn line_of(command: &Command) -> u64 {
 
 #[test]
 fn a_full_pipe_gives_the_command_back(rt: HostRuntime) -> Result<(), Fail> {
-    if let Some(ready) = make_ready(rt.alloc())? {
-        assert_eq!(rt; put_many(rt, &ready.pipes, ready.first, 1025), (1, 1024));
+    if let Some(Ready { pipes, first, .. }) = make_ready(rt.alloc())? {
+        assert_eq!(rt; put_many(rt, &pipes, first, 1025), (1, 1024));
     }
     Ok(())
 }
