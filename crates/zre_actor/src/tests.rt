@@ -383,9 +383,11 @@ fn line_of(command: &Command) -> u64 {
 
 #[test]
 fn a_full_pipe_gives_the_command_back(rt: HostRuntime) -> Result<(), Fail> {
-    if let Some(Ready { pipes, first, .. }) = make_ready(rt.alloc())? {
-        assert_eq!(rt; put_many(rt, &pipes, first, 1025), (1, 1024));
-    }
+    let Some(Ready { pipes, first, .. }) = make_ready(rt.alloc())? else {
+        assert!(rt; false, "there are two callers");
+        return Ok(());
+    };
+    assert_eq!(rt; put_many(rt, &pipes, first, 1025), (1, 1024));
     Ok(())
 }
 
@@ -424,12 +426,14 @@ fn two_callers_and_the_actor_one_by_one(rt: HostRuntime) -> Result<(), Fail> {
     for run in &RUNS {
         let ready = make_ready(rt.alloc())?;
         let stand = make_stand(rt.alloc())?;
-        if let (Some(ready), Some(stand)) = (ready, stand) {
-            assert_eq!(rt;
-                one_by_one(rt, ready, stand, run.limit, run.absorbs),
-                run.ends
-            );
-        }
+        let (Some(ready), Some(stand)) = (ready, stand) else {
+            assert!(rt; false, "there are two callers and a node");
+            return Ok(());
+        };
+        assert_eq!(rt;
+            one_by_one(rt, ready, stand, run.limit, run.absorbs),
+            run.ends
+        );
     }
     Ok(())
 }
@@ -437,14 +441,15 @@ fn two_callers_and_the_actor_one_by_one(rt: HostRuntime) -> Result<(), Fail> {
 #[test]
 fn two_callers_the_actor_and_the_taker_side_by_side(rt: HostRuntime) -> Result<(), Fail> {
     let mut spawner = ThreadSpawner::new(rt, rt.alloc());
-    let Some(ready) = make_ready(rt.alloc())? else {
-        return Ok(());
-    };
-    let Some(stand) = make_stand(rt.alloc())? else {
+    let ready = make_ready(rt.alloc())?;
+    let stand = make_stand(rt.alloc())?;
+    let (Some(ready), Some(stand)) = (ready, stand) else {
+        assert!(rt; false, "there are two callers and a node");
         return Ok(());
     };
     let Some((stops, ending, left)) = side_by_side(rt, &mut spawner, ready, stand, 1000000000000)?
     else {
+        assert!(rt; false, "the actor starts");
         return Ok(());
     };
     assert_eq!(rt; (stops, ending), (1, Ending::Stopped));
