@@ -1,5 +1,5 @@
 -- What worlds tell, step by step, and the deeds of acts.
-use Rattle.std.proofs.Common.{◌≡◌, ℕ, ◌+◌, Bool, List, [], ◌∷◌, ◌++◌, map, take, Option, Some, None, refl, sym, ap, ◌∙◌, arith, subst, length, get_or, ◌<◌, add-one, append_assoc, append-nil}
+use Rattle.std.proofs.Common.{◌≡◌, ℕ, zero, suc, ◌+◌, Bool, List, [], ◌∷◌, ◌++◌, map, take, Option, Some, None, refl, sym, ap, ◌∙◌, arith, subst, length, get_or, ◌<◌, add-one, append_assoc, append-nil}
 use Rattle.std.proofs.Math.Seq.{take-suc}
 use Rattle.std.specs.Prelude.{option_map, option_to_list}
 use Rattle.zre_outside.specs.declared.act.Act.{Act}
@@ -9,6 +9,8 @@ use Rattle.zre_outside.specs.declared.entry.Command.{Command}
 use Rattle.zre_outside.specs.declared.turn.Turn.TheVariants as turn
 use Rattle.zre_outside.specs.Worlds.{Log, after_turn, with_deed}
 use Rattle.zre_journal.specs.declared.config.Config.{Config}
+use Rattle.zre_journal.specs.Asked.{AreDue, IsDueAct}
+use Rattle.zre_journal.specs.Chronicle.{Mark}
 use Rattle.zre_journal.specs.Events.{chronicle, acts_behind}
 use Rattle.zre_actor.specs.Work.{went, IsDeed, AreDeeds, beside, acts_of}
 
@@ -65,6 +67,12 @@ did_more g J acts a d ds told told' told'' old is one new =
 -- the act at this place
 pub take_next : (acts : List Act) (i : ℕ) (a : Act) → i < length acts → a ≡ get_or acts i a → take (i + 1) acts ≡ take i acts ++ a ∷ []
 take_next acts i a lt is = ap (λ n. take n acts) (add-one i) ∙ take-suc acts i a lt ∙ ap (λ x. take i acts ++ x ∷ []) (sym is)
+
+-- and it may be done
+pub due_at : (g : Config) (H : List Mark) (acts : List Act) (i : ℕ) (a : Act) → i < length acts → a ≡ get_or acts i a → AreDue g H acts → IsDueAct g H a
+due_at g H [] i a lt is due = absurd (omega (arith, lt))
+due_at g H (x ∷ acts) zero a lt is due = subst (IsDueAct g H) (sym is) due.0
+due_at g H (x ∷ acts) (suc i) a lt is due = due_at g H acts i a (omega (arith, lt)) is due.1
 
 -- ---- turns
 

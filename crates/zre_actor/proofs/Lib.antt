@@ -8,3 +8,4 @@ pub mod Finishing
 pub mod Deeds
 pub mod Taking
 pub mod Working
+pub mod Given

@@ -7,8 +7,10 @@ use Rattle.zre_outside.specs.declared.act.Act.{Act}
 use Rattle.zre_outside.specs.declared.entry.Entry.{Entry}
 use Rattle.zre_outside.specs.Worlds.{Log}
 use Rattle.zre_journal.specs.declared.config.Config.{Config}
+use Rattle.zre_journal.specs.Asked.{AreDue}
 use Rattle.zre_journal.specs.Events.{chronicle, acts, acts_behind}
 use Rattle.zre_journal.specs.Laws.{Continues}
+use Rattle.zre_journal.proofs.Due.{entry_due}
 use Rattle.zre_journal.proofs.Joined.{continues}
 use Rattle.zre_node.specs.declared.node.Node.{Node}
 use Rattle.zre_node.specs.declared.effects.Step.{Step}
@@ -22,6 +24,10 @@ module _ (g : Config) (J : List Entry) (e : Entry) (keep : Bool) (told told' : O
   -- the acts of a step are those of its entry
   its_acts : acts_behind g (e ∷ []) (chronicle g J) ≡ s.acts
   its_acts = append_cancel_left (acts g J) (acts_behind g (e ∷ []) (chronicle g J)) s.acts (let c : Continues g J (e ∷ []) = continues g J (e ∷ []) in sym c.done ∙ st.done)
+
+  -- and those that offer something find it
+  pub its_due : AreDue g (chronicle g (J ++ e ∷ [])) s.acts
+  its_due = subst (AreDue g (chronicle g (J ++ e ∷ []))) its_acts (entry_due g J e)
 
   pub went_on : DoesAll g (J ++ e ∷ []) s.acts true told told' → Went g J e keep told told' kept kept' n s.events
   went_on d =

@@ -1,4 +1,5 @@
 pub mod Commands
 pub mod Events
 pub mod Passes
+pub mod Ready
 pub mod Work

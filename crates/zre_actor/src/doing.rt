@@ -8,7 +8,9 @@ ghost use Rattle.zre_outside.specs.declared.entry.Entry.{Entry as EntryValue};
 ghost use Rattle.zre_outside.specs.Causes.{Rose};
 ghost use Rattle.zre_outside.specs.Told.{AppendsFront};
 ghost use Rattle.zre_outside.specs.Worlds.{with_deed};
+ghost use Rattle.zre_journal.specs.Asked.{AreDue, IsDueAct, IsDue};
 ghost use Rattle.zre_journal.specs.declared.config.Config.{Config};
+ghost use Rattle.zre_journal.specs.Events.{chronicle};
 ghost use Rattle.zre_node.specs.Journal.{StandsFor};
 ghost use Rattle.zre_capture.specs.Lines.{line};
 ghost use Rattle.zre_actor.specs.Work.{IsDeed, DoesAll, IsRefusal, Went, Broke};
@@ -94,7 +96,7 @@ fn put_line<R: Recorder>(alloc: Global, rec: &mut R, entry: &Entry) -> Result<()
 
 // Does these acts, in order. False where memory ran out.
 fn do_all<W: World>(world: &mut W, node: &Node, acts: &[Act]) -> bool
-    ensures done { (g : Config) (J : List EntryValue) → StandsFor g J node.now → DoesAll g J acts.now result (W.told world.old) (W.told world.new) }
+    ensures done { (g : Config) (J : List EntryValue) → StandsFor g J node.now → AreDue g (chronicle g J) acts.now → DoesAll g J acts.now result (W.told world.old) (W.told world.new) }
     ensures world { (W.looked world.new ≡ W.looked world.old) × (W.faults world.new ≡ W.faults world.old) }
 {
     for act in acts {
@@ -107,7 +109,7 @@ fn do_all<W: World>(world: &mut W, node: &Node, acts: &[Act]) -> bool
 
 // Does an act. A link that is to be looked at is offered what it may send.
 fn do_one<W: World>(world: &mut W, node: &Node, act: &Act) -> bool
-    ensures done { (g : Config) (J : List EntryValue) → StandsFor g J node.now → result ≡ true →
+    ensures done { (g : Config) (J : List EntryValue) → StandsFor g J node.now → IsDueAct g (chronicle g J) act.now → result ≡ true →
         (d : DeedValue) × IsDeed g J act.now d × (W.told world.new ≡ option_map (with_deed d) (W.told world.old)) }
     ensures undone { result ≡ false → W.told world.new ≡ W.told world.old }
     ensures world { (W.looked world.new ≡ W.looked world.old) × (W.faults world.new ≡ W.faults world.old) }
@@ -118,19 +120,16 @@ fn do_one<W: World>(world: &mut W, node: &Node, act: &Act) -> bool
     }
 }
 
-// Offers a link what it may send. An act to look at a link comes only where it may send something; if it didn't, this would be
-// told as want of memory.
+// Offers a link what it may send. An act to look at a link comes only where it may send something; nothing is offered on a link
+// that isn't known.
 fn offer_front<W: World>(world: &mut W, node: &Node, link: u64) -> bool
-    ensures done { (g : Config) (J : List EntryValue) → StandsFor g J node.now → result ≡ true →
+    ensures done { (g : Config) (J : List EntryValue) → StandsFor g J node.now → IsDue g (chronicle g J) link → result ≡ true →
         (d : DeedValue) × IsDeed g J (ActValue.Offer link) d × (W.told world.new ≡ option_map (with_deed d) (W.told world.old)) }
     ensures undone { result ≡ false → W.told world.new ≡ W.told world.old }
     ensures world { (W.looked world.new ≡ W.looked world.old) × (W.faults world.new ≡ W.faults world.old) }
 {
     let Some(bytes) = node.front(link) else {
-        return false;
+        return true;
     };
-    if bytes.is_empty() {
-        return false;
-    }
     world.offer(link, bytes).is_ok()
 }

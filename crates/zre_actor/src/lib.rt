@@ -5,13 +5,17 @@
 
 mod doing;
 mod ending;
+mod job;
 mod passes;
 mod rules;
+#[cfg(test)]
+mod tests;
 mod told;
 mod views;
 mod work;
 
 pub use ending::Ending;
+pub use job::ActorJob;
 pub use passes::{ActorPass, CallerPass, CallerPasses, Finished, Full, Made, Pipes, TakerPass};
 pub use told::Told;
 pub use work::Worked;

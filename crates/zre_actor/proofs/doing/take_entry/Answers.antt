@@ -1,8 +1,10 @@
-use Rattle.std.proofs.Common.{◌≡◌, ◌∷◌, [], ◌++◌, true, false, refl, ap, ◌∙◌, subst}
+use Rattle.std.proofs.Common.{◌≡◌, ◌∷◌, [], ◌++◌, true, false, refl, sym, ap, ◌∙◌, subst}
 use mathlib.Core.Logic.{inl, inr}
 use Rattle.zre_outside.specs.declared.act.Act.{Act}
+use Rattle.zre_journal.specs.Asked.{AreDue}
+use Rattle.zre_journal.specs.Events.{chronicle}
 use Rattle.zre_actor.specs.Work.{DoesAll}
-use Rattle.zre_actor.proofs.Taking.{went_on, left_undone}
+use Rattle.zre_actor.proofs.Taking.{went_on, left_undone, its_due}
 use Rattle.zre_actor.proofs.doing.take_entry.Goals as goal
 
 pub returns-in-Err-clause-broke : goal.returns-in-Err-clause-broke
@@ -20,9 +22,11 @@ returns-in-Err-clause-broke g c = λ f J stands. (let b = c.in-Err.ensures.broke
 pub returns-then-do_all-clause-ok : goal.returns-then-do_all-clause-ok
 returns-then-do_all-clause-ok g c = λ f J stands. (
     went_on f J c.args.entry c.args.keep (g.W.World.told c.args.world.now) (g.W.World.told c.do_all.new.world) (g.R.Recorder.kept c.args.rec.now) (g.R.Recorder.kept c.keep_line.new.rec) c.step.new.self c.in-Ok.field-0
-    (c.in-Ok.ensures.steps f J stands) c.in_default.ensures.kept (subst (λ x. DoesAll f (J ++ c.args.entry ∷ []) x true (g.W.World.told c.args.world.now) (g.W.World.told c.do_all.new.world)) c.as_slice.ensures (c.if-do_all.ensures.done f (J ++ c.args.entry ∷ []) (c.in-Ok.ensures.steps f J stands).stands)))
+    (c.in-Ok.ensures.steps f J stands) c.in_default.ensures.kept (subst (λ x. DoesAll f (J ++ c.args.entry ∷ []) x true (g.W.World.told c.args.world.now) (g.W.World.told c.do_all.new.world)) c.as_slice.ensures (c.if-do_all.ensures.done f (J ++ c.args.entry ∷ []) (c.in-Ok.ensures.steps f J stands).stands (subst (AreDue f (chronicle f (J ++ c.args.entry ∷ []))) (sym c.as_slice.ensures) (its_due f J c.args.entry c.args.keep (g.W.World.told c.args.world.now) (g.W.World.told c.do_all.new.world) (g.R.Recorder.kept c.args.rec.now) (g.R.Recorder.kept c.keep_line.new.rec) c.step.new.self c.in-Ok.field-0
+    (c.in-Ok.ensures.steps f J stands) c.in_default.ensures.kept)))))
 
 pub returns-else-do_all-clause-broke : goal.returns-else-do_all-clause-broke
 returns-else-do_all-clause-broke g c = λ f J stands. inr (inr (
     left_undone f J c.args.entry c.args.keep (g.W.World.told c.args.world.now) (g.W.World.told c.do_all.new.world) (g.R.Recorder.kept c.args.rec.now) (g.R.Recorder.kept c.keep_line.new.rec) c.step.new.self c.in-Ok.field-0
-    (c.in-Ok.ensures.steps f J stands) c.in_default.ensures.kept (subst (λ x. DoesAll f (J ++ c.args.entry ∷ []) x false (g.W.World.told c.args.world.now) (g.W.World.told c.do_all.new.world)) c.as_slice.ensures (c.if-do_all.ensures.done f (J ++ c.args.entry ∷ []) (c.in-Ok.ensures.steps f J stands).stands))))
+    (c.in-Ok.ensures.steps f J stands) c.in_default.ensures.kept (subst (λ x. DoesAll f (J ++ c.args.entry ∷ []) x false (g.W.World.told c.args.world.now) (g.W.World.told c.do_all.new.world)) c.as_slice.ensures (c.if-do_all.ensures.done f (J ++ c.args.entry ∷ []) (c.in-Ok.ensures.steps f J stands).stands (subst (AreDue f (chronicle f (J ++ c.args.entry ∷ []))) (sym c.as_slice.ensures) (its_due f J c.args.entry c.args.keep (g.W.World.told c.args.world.now) (g.W.World.told c.do_all.new.world) (g.R.Recorder.kept c.args.rec.now) (g.R.Recorder.kept c.keep_line.new.rec) c.step.new.self c.in-Ok.field-0
+    (c.in-Ok.ensures.steps f J stands) c.in_default.ensures.kept))))))
