@@ -16,8 +16,7 @@ fn is_beacon<R: Net + Clock>(alloc: Global, world: &mut RealWorld<R>) -> Result<
 #[test]
 fn a_beacon_goes_to_each_address_that_takes_it(rt: HostRuntime) -> Result<(), Fail> {
     let [near, far, nobody] = hosts(process::id(rt.process()));
-    let nowhere = [240, 0, 0, 1];
-    let mut one = moved(world_at(rt, rt.alloc(), near, &[nowhere, nobody, far, near])?);
+    let mut one = moved(world_at(rt, rt.alloc(), near, &[nobody, far, near])?);
     let mut other = world_at(rt, rt.alloc(), far, &[])?;
     one.act(&Act::Beacon { bytes: [65; 22] })?;
     assert!(rt; is_beacon(rt.alloc(), &mut one)?);
