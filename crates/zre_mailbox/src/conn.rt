@@ -1,6 +1,6 @@
 //! One incoming connection.
 
-ghost use Rattle.std.specs.Prelude.{◌≡◌, ℕ, ◌+◌, ◌≤◌, true, false, List, [], ◌++◌, None, IfOk, OnOk, IfErr, is_err};
+ghost use Rattle.std.specs.Prelude.{◌≡◌, ℕ, ◌+◌, ◌≤◌, true, false, List, [], ◌++◌, None, OnOk, IfErr, is_err};
 ghost use Rattle.zre_values.specs.declared.limits.TheConstants.{MESSAGE_OCTETS, COMMAND_OCTETS};
 ghost use Rattle.zre_values.specs.declared.peer_id.PeerId.{PeerId as PeerIdValue};
 ghost use Rattle.zre_zmtp.specs.Reading.{Reads, Refuses};
@@ -14,7 +14,6 @@ use crate::phase::Phase;
 use crate::taking::take_items;
 use std::alloc::Global;
 use std::marker::Model;
-use std::mem;
 use zre_values::PeerId;
 use zre_zmtp::{FeedFault, Items, Reader, Want};
 
@@ -35,28 +34,28 @@ impl Model for Conn {
     ghost view = { λ c. record { phase = c.phase; identity = c.identity } };
 }
 
-// Reads a piece, and takes what becomes whole with it. The reader is given up where the piece is refused.
+// Reads a piece, and takes what becomes whole with it.
 fn read_piece(
     alloc: Global,
-    mut reader: Reader,
+    reader: &mut Reader,
     piece: &[u8],
     identity: &mut Option<PeerId>,
     out: &mut Arrivals,
-) -> Result<Reader, FeedFault>
-    requires { reader.spent ≡ false }
-    ensures ok { (own : PeerIdValue) (o : List ℕ) → Reads (Dealer own) Whole o reader →
-        IfOk result (λ r. Reads (Dealer own) Whole (o ++ piece.now) r
+) -> Result<(), FeedFault>
+    requires { reader.old.spent ≡ false }
+    ensures ok { (own : PeerIdValue) (o : List ℕ) → Reads (Dealer own) Whole o reader.old →
+        OnOk result (Reads (Dealer own) Whole (o ++ piece.now) reader.new
         × Takes (new_arrivals own o piece.now) identity.old identity.new out.old out.new) }
-    ensures refused { (own : PeerIdValue) (o : List ℕ) → Reads (Dealer own) Whole o reader →
+    ensures refused { (own : PeerIdValue) (o : List ℕ) → Reads (Dealer own) Whole o reader.old →
         IfErr result (λ e. Refuses e (fault_in own (o ++ piece.now))
         (Takes (new_arrivals own o piece.now) identity.old identity.new out.old out.new)) }
-    ensures unspent { IfOk result (λ r. r.spent ≡ false) }
+    ensures unspent { OnOk result (reader.new.spent ≡ false) }
 {
     let mut items = Items::new(alloc);
     let fed = reader.feed(piece, &mut items);
     take_items(alloc, items, identity, out)?;
     match fed {
-        Ok(()) => Ok(reader),
+        Ok(()) => Ok(()),
         Err(fault) => Err(fault),
     }
 }
@@ -86,15 +85,15 @@ impl Conn {
         ensures spent { is_spent self.new ≡ is_err result }
         ensures heard { is_ignored self.new ≡ false }
     {
-        let Phase::Live(reader) = mem::replace(&mut self.phase, Phase::Spent) else {
+        let Phase::Live(reader) = &mut self.phase else {
             return Err(FeedFault::OutOfMemory);
         };
         match read_piece(self.alloc, reader, piece, &mut self.identity, out) {
-            Ok(reader) => {
-                self.phase = Phase::Live(reader);
-                Ok(())
+            Ok(()) => Ok(()),
+            Err(fault) => {
+                self.phase = Phase::Spent;
+                Err(fault)
             }
-            Err(fault) => Err(fault),
         }
     }
 

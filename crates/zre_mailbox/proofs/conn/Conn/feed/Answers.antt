@@ -1,22 +1,23 @@
-use Rattle.std.proofs.Common.{◌++◌, sym, ap, subst, ◌∙◌}
+use Rattle.std.proofs.Common.{◌++◌, refl, sym, ap, subst, ◌∙◌}
 use Rattle.zre_zmtp.specs.Reading.{Refuses}
 use Rattle.zre_mailbox.specs.Talk.{fault_in, new_arrivals}
 use Rattle.zre_mailbox.specs.Conn.{Hearing, Takes}
+use Rattle.zre_mailbox.specs.declared.phase.Phase.TheVariants.{Spent}
 use Rattle.zre_mailbox.proofs.Hearing.{live_reads, heard, refused}
 use Rattle.zre_mailbox.proofs.conn.Conn.feed.Goals as goal
 
 pub returns-in-Ok-clause-ok : goal.returns-in-Ok-clause-ok
 returns-in-Ok-clause-ok c = λ own o e.
-    let live = sym (ap (λ (h : Hearing). h.phase) c.self.view_is) ∙ sym c.replace.ensures.value ∙ c.in-Live.is in
+    let live = sym (ap (λ (h : Hearing). h.phase) c.self.view_is) ∙ c.in-Live.is in
     let piece = c.args.piece.now in
     let read = c.in-Ok.ensures.ok own o (live_reads own o c.args.self.now c.in-Live.reader e live) in
-    heard own o piece c.args.self.now c.in-Live.reader c.in-Ok.reader c.read_piece.new.identity c.args.out.now c.read_piece.new.out e live
+    heard own o piece c.args.self.now c.in-Live.reader c.read_piece.new.reader c.read_piece.new.identity c.args.out.now c.read_piece.new.out e live
     (read.0, subst (λ (h : Hearing). Takes (new_arrivals own o piece) h.identity c.read_piece.new.identity c.args.out.now c.read_piece.new.out) c.self.view_is read.1)
 
 pub returns-in-Err-clause-refused : goal.returns-in-Err-clause-refused
 returns-in-Err-clause-refused c = λ own o e.
-    let live = sym (ap (λ (h : Hearing). h.phase) c.self.view_is) ∙ sym c.replace.ensures.value ∙ c.in-Live.is in
+    let live = sym (ap (λ (h : Hearing). h.phase) c.self.view_is) ∙ c.in-Live.is in
     let piece = c.args.piece.now in
     let read = c.in-Err.ensures.refused own o (live_reads own o c.args.self.now c.in-Live.reader e live) in
-    refused own o piece c.args.self.now c.in-Live.reader c.in-Err.fault c.replace.new.dest c.read_piece.new.identity c.args.out.now c.read_piece.new.out e live c.replace.ensures.after
+    refused own o piece c.args.self.now c.in-Live.reader c.in-Err.fault Spent c.read_piece.new.identity c.args.out.now c.read_piece.new.out e live refl
     (subst (λ (h : Hearing). Refuses c.in-Err.fault (fault_in own (o ++ piece)) (Takes (new_arrivals own o piece) h.identity c.read_piece.new.identity c.args.out.now c.read_piece.new.out)) c.self.view_is read)
