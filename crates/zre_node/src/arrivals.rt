@@ -75,6 +75,7 @@ impl Tables {
     }
 
     // READY of a connection that had none.
+    #[inline(never)]
     fn shaken(&mut self, out: &mut Effects, conn: u64, peer: PeerId) -> Result<(), OutOfMemory>
         ensures { (g : Config) (H : List Mark) → Holds g H self.old → is_open conn H ≡ true → identity conn H ≡ None →
             OnOk result (Did g (at_shaken g conn peer None H) H self.new out.old out.new) }
@@ -86,6 +87,7 @@ impl Tables {
     }
 
     // READY of a router, in answer to a greeting.
+    #[inline(never)]
     fn greeted(&mut self, out: &mut Effects, conn: u64) -> Result<(), OutOfMemory>
         ensures { (g : Config) (H : List Mark) → Holds g H self.old →
             OnOk result (Did g (Greets conn ∷ []) H self.new out.old out.new) }

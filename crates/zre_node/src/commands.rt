@@ -143,6 +143,7 @@ impl Tables {
     }
 
     /// The user asks for something, but not for the stop of the node.
+    #[inline(never)]
     pub fn take_command(
         &mut self,
         out: &mut Effects,

@@ -36,6 +36,7 @@ impl Tables {
     }
 
     /// The peer that an open connection runs ends, if it runs one.
+    #[inline(never)]
     pub fn end_run(&mut self, out: &mut Effects, conn: u64, cause: Cause) -> Result<(), OutOfMemory>
         ensures { (g : Config) (H : List Mark) → Holds g H self.old → is_open conn H ≡ true →
             OnOk result (Did g (end_of_run g (runs conn H) cause) H self.new out.old out.new) }
@@ -57,6 +58,7 @@ impl Tables {
     }
 
     /// An open connection that runs no peer is closed.
+    #[inline(never)]
     pub fn close(&mut self, out: &mut Effects, conn: u64, why: CloseWhy) -> Result<(), OutOfMemory>
         ensures { (g : Config) (H : List Mark) → Holds g H self.old → runs conn H ≡ None →
             OnOk result (Did g (Closes conn why ∷ []) H self.new out.old out.new) }

@@ -51,6 +51,7 @@ impl Tables {
 
     /// The known peer of this link ends: the user is told, where it was entered, its connection is ignored from now on, and
     /// its link is closed.
+    #[inline(never)]
     pub fn end(&mut self, out: &mut Effects, link: u64, cause: Cause) -> Result<(), OutOfMemory>
         ensures { (g : Config) (H : List Mark) → Nearly g H link self.old → IsSome (life link H) →
             OnOk result (Did g (Ends link cause ∷ []) H self.new out.old out.new) }

@@ -211,6 +211,7 @@ impl Tables {
     }
 
     /// The first message of a connection on which this peer was introduced.
+    #[inline(never)]
     pub fn first(
         &mut self,
         out: &mut Effects,

@@ -65,12 +65,10 @@ fn hear(alloc: Global, found: &mut Connection, bytes: &[u8]) -> Result<Heard, Ou
         × (said_in heard ≡ completed own o bytes.now)) }
     ensures ignored { found.old.conn ≡ None → OnOk result (found.new ≡ found.old) }
 {
-    let Some(mut conn) = found.conn.take() else {
-        return Ok(Heard::nothing(alloc));
-    };
-    let heard = read(alloc, &mut conn, bytes)?;
-    found.conn = Some(conn);
-    Ok(heard)
+    match &mut found.conn {
+        Some(conn) => read(alloc, conn, bytes),
+        None => Ok(Heard::nothing(alloc)),
+    }
 }
 
 impl Tables {

@@ -122,6 +122,7 @@ impl Tables {
     }
 
     /// A link stands, breaks, or has taken octets.
+    #[inline(never)]
     pub fn take_link(&mut self, out: &mut Effects, at: u64, input: Input) -> Result<(), OutOfMemory>
         ensures { (g : Config) (H : List Mark) (e : EntryValue) → e.at ≡ at → e.input ≡ input → is_about_link input ≡ true →
             out.old.pushed ≡ [] → Holds g H self.old → OnOk result (Took g e H self.new out.old out.new) }
@@ -133,6 +134,7 @@ impl Tables {
     }
 
     /// A reply comes on a link. Where it makes the replies no stream of a ROUTER, the peer ends.
+    #[inline(never)]
     pub fn take_reply(
         &mut self,
         out: &mut Effects,

@@ -17,6 +17,7 @@ use zre_values::OutOfMemory;
 
 impl Tables {
     /// A body is put on the link of a known peer, or the peer is too slow and ends.
+    #[inline(never)]
     pub fn push(&mut self, out: &mut Effects, link: u64, body: &mut Body) -> Result<(), OutOfMemory>
         requires { FitsBody body.old }
         ensures did { (g : Config) (K : List Mark) → Holds g K self.old → IsSome (life link K) →

@@ -4,21 +4,37 @@ ghost use Rattle.std.specs.Prelude.{◌≡◌, ◌≢◌, List, ◌∷◌, [], �
 ghost use Rattle.zre_msg.specs.declared.message.Message.{Message as MessageValue};
 ghost use Rattle.zre_values.specs.declared.peer_id.PeerId.{PeerId as PeerIdValue};
 ghost use Rattle.zre_peer.specs.Views.{view_of};
-ghost use Rattle.zre_peer.specs.Runs.{events_of, may_follow, fault_of};
+ghost use Rattle.zre_peer.specs.Runs.{events_of, may_follow, fault_of, shown};
+ghost use Rattle.zre_peer.specs.Standing.{view_in};
 ghost use Rattle.zre_journal.specs.declared.config.Config.{Config};
 ghost use Rattle.zre_journal.specs.Chronicle.{Mark};
 ghost use Rattle.zre_journal.specs.Connections.{runs};
 ghost use Rattle.zre_journal.specs.Happens.{at_later, push as pushing};
 ghost use Rattle.zre_journal.specs.Peers.{life};
 ghost use Rattle.zre_msg.specs.declared.message.Body.TheVariants.{PingOk};
-ghost use Rattle.zre_node.specs.Stands.{Holds, Did, HasRun, HadRun, is_ping};
+ghost use Rattle.zre_node.specs.Stands.{Holds, Did, HasRun, HadRun, IsRunning, is_ping};
 
 use crate::effects::Effects;
-use crate::peer::Peer;
+use crate::peer::{Peer, Running};
 use crate::tables::Tables;
 use zre_msg::{Body, Message};
 use zre_peer::{Cause, Events, RunFault};
 use zre_values::OutOfMemory;
+
+// A run takes one more message.
+fn go_on(running: &mut Running, message: Message, events: &mut Events) -> Result<(), RunFault>
+    ensures ok { (c : ℕ) (id : PeerIdValue) (ms : List MessageValue) → IsRunning c id ms running.old →
+        OnOk result ((may_follow ms message ≡ true) × IsRunning c id (ms ++ message ∷ []) running.new
+        × (events.new ≡ events.old ++ events_of id (view_of ms) message.body)) }
+    ensures refused { (c : ℕ) (id : PeerIdValue) (ms : List MessageValue) → IsRunning c id ms running.old →
+        IfErr result (λ e. e ≢ RunFault.OutOfMemory → (may_follow ms message ≡ false) × (e ≡ fault_of ms message)
+        × (running.new.conn ≡ c) × (view_in running.new.run ≡ shown ms) × (events.new ≡ events.old)) }
+{
+    if running.run.spent() {
+        return Err(RunFault::OutOfMemory);
+    }
+    running.run.take(message, events)
+}
 
 // The run of a peer takes one more message, which shows that the peer is there.
 fn take(peer: &mut Peer, now: u64, message: Message, events: &mut Events) -> Result<(), RunFault>
@@ -31,18 +47,11 @@ fn take(peer: &mut Peer, now: u64, message: Message, events: &mut Events) -> Res
     ensures id { peer.new.id ≡ peer.old.id }
     ensures link { peer.new.link ≡ peer.old.link }
 {
-    let Some(mut running) = peer.run.take() else {
-        return Err(RunFault::OutOfMemory);
-    };
-    if running.run.spent() {
-        return Err(RunFault::OutOfMemory);
+    peer.active = now;
+    match &mut peer.run {
+        Some(running) => go_on(running, message, events),
+        None => Err(RunFault::OutOfMemory),
     }
-    let answer = running.run.take(message, events);
-    peer.run = Some(running);
-    if answer.is_ok() {
-        peer.active = now;
-    }
-    answer
 }
 
 fn is_ping(body: &Body) -> bool

@@ -30,6 +30,7 @@ impl Tables {
     }
 
     /// A datagram comes, or a connection comes or goes.
+    #[inline(never)]
     pub fn take_incoming(
         &mut self,
         out: &mut Effects,
@@ -61,6 +62,7 @@ impl Tables {
     }
 
     /// The node stops.
+    #[inline(never)]
     pub fn take_stop(&mut self, out: &mut Effects, at: u64) -> Result<(), OutOfMemory>
         ensures { (g : Config) (H : List Mark) (e : EntryValue) → e.at ≡ at → is_end e.input ≡ true →
             Holds g H self.old → OnOk result (Took g e H self.new out.old out.new) }

@@ -184,6 +184,7 @@ impl Tables {
     }
 
     /// A tick of the clock comes.
+    #[inline(never)]
     pub fn take_tick(&mut self, out: &mut Effects, at: u64) -> Result<(), OutOfMemory>
         ensures { (g : Config) (H : List Mark) (e : EntryValue) → e.at ≡ at → e.input ≡ given.Tick →
             out.old.pushed ≡ [] → Holds g H self.old → OnOk result (Took g e H self.new out.old out.new) }
