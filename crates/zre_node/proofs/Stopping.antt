@@ -1,24 +1,24 @@
 -- The stop of a node.
-use Rattle.std.proofs.Common.{◌≡◌, ℕ, Bool, true, false, cond, ◌||◌, eqb, List, [], ◌∷◌, ◌++◌, map, Option, Some, None, IsSome, find, refl, sym, ap, ◌∙◌, eq-eqb, append_assoc, subst}
-use Rattle.std.specs.List.{AllByRecursion, list_any}
+use Rattle.std.proofs.Common.{◌≡◌, ℕ, Bool, true, false, cond, eqb, List, [], ◌∷◌, ◌++◌, map, Option, Some, None, IsSome, find, refl, sym, ap, ◌∙◌, eq-eqb, append_assoc, subst}
+use Rattle.std.specs.List.{AllByRecursion}
 use Rattle.std.specs.Map.{keys_of}
 use Rattle.zre_beacon.specs.Beacon.{beacon_octets}
-use Rattle.zre_peer.specs.declared.causes.Cause.{Cause}
 use Rattle.zre_peer.specs.declared.causes.Cause.TheVariants as cause
 use Rattle.zre_outside.specs.declared.act.Act.TheVariants as act
 use Rattle.zre_peer.specs.declared.event.Event.TheVariants as event
 use Rattle.zre_journal.specs.declared.config.Config.{Config}
 use Rattle.zre_journal.specs.Chronicle.{Mark, Ends, Drops, Calls, Stops, after}
 use Rattle.zre_journal.specs.Connections.{open_ones, runs}
-use Rattle.zre_journal.specs.Peers.{Life, lives, life, other_lives}
+use Rattle.zre_journal.specs.Peers.{Life, lives, life}
 use Rattle.zre_journal.specs.Proper.{Apart}
 use Rattle.zre_journal.specs.Happens.{at_stop}
 use Rattle.zre_journal.specs.Told.{told}
 use Rattle.zre_journal.specs.Done.{done}
 use Rattle.zre_journal.proofs.Joined.{after-append, told-append, done-append}
 use Rattle.zre_journal.proofs.Kept.{run_known}
-use Rattle.zre_journal.proofs.Listed.{All-map, eqb-comm}
-use Rattle.zre_journal.proofs.Stopping.{stop-is, none_open}
+use Rattle.zre_journal.proofs.Known.{end_all}
+use Rattle.zre_journal.proofs.Listed.{All-map}
+use Rattle.zre_journal.proofs.Stopping.{stop-is, none_known, none_open}
 use Rattle.zre_node.specs.declared.tables.Tables.{Tables}
 use Rattle.zre_node.specs.declared.effects.Effects.{Effects}
 use Rattle.zre_node.specs.declared.peer.Peer.{Peer}
@@ -69,58 +69,15 @@ module _ (g : Config) (H : List Mark) (t : Tables) (h : Holds g H t) where
   pub all_known : AreKnown H (link_list (lives H))
   all_known = known_from H (lives H) h.keeps.proper.living.apart (each_found (lives H))
 
--- ends leave the open connections open
-ends_open : (why : Cause) (ls : List ℕ) (H : List Mark) → open_ones (after (map (λ l. Ends l why) ls) H) ≡ open_ones H
-ends_open why [] H = refl
-ends_open why (l ∷ ls) H = ends_open why ls (Ends l why ∷ H)
-
--- what is left of lives where those on these links end
-abbrev pub without_all : List ℕ → List Life → List Life
-without_all [] vs = vs
-without_all (l ∷ ls) vs = without_all ls (other_lives l vs)
-
-ends_lives : (why : Cause) (ls : List ℕ) (H : List Mark) → lives (after (map (λ l. Ends l why) ls) H) ≡ without_all ls (lives H)
-ends_lives why [] H = refl
-ends_lives why (l ∷ ls) H = ends_lives why ls (Ends l why ∷ H)
-
--- each of these lives is on one of these links
-abbrev pub AreOn : List ℕ → List Life → Type 0
-AreOn ls vs = AllByRecursion (λ (v : Life). list_any (eqb v.link) ls ≡ true) vs
-
-still_on : (l : ℕ) (ls : List ℕ) (vs : List Life) → AreOn (l ∷ ls) vs → AreOn ls (other_lives l vs)
-still_on l ls [] h = tt
-still_on l ls (v ∷ vs) h = by (still_on l ls vs h.1) (eqb l v.link) refl
-  where
-    by : AreOn ls (other_lives l vs) → (b : Bool) → eqb l v.link ≡ b → AreOn ls (other_lives l (v ∷ vs))
-    by r true q = rw q r
-    by r false q = let far : eqb v.link l ≡ false = eqb-comm v.link l ∙ q in rw q ((let k : (false || list_any (eqb v.link) ls) ≡ true = rw far at h.0 in k), r)
-
-none_on : (ls : List ℕ) (vs : List Life) → AreOn ls vs → without_all ls vs ≡ []
-none_on [] [] h = refl
-none_on [] (v ∷ vs) h = let z : false ≡ true = h.0 in absurd cc
-none_on (l ∷ ls) vs h = none_on ls (other_lives l vs) (still_on l ls vs h)
-
-all_on : (vs : List Life) → AreOn (link_list vs) vs
-all_on [] = tt
-all_on (v ∷ vs) = (
-  let me : eqb v.link v.link ≡ true = eq-eqb v.link v.link refl in rw me refl,
-  All-map (λ (u : Life). list_any (eqb u.link) (link_list vs) ≡ true) (λ (u : Life). list_any (eqb u.link) (link_list (v ∷ vs)) ≡ true) (λ u h. further (eqb u.link v.link) (list_any (eqb u.link) (link_list vs)) h) vs (all_on vs),
-)
-  where
-    further : (b c : Bool) → c ≡ true → (b || c) ≡ true
-    further true c h = refl
-    further false c h = h
-
 drops_lives : (cs : List ℕ) (H : List Mark) → lives (after (map (λ c. Drops c) cs) H) ≡ lives H
 drops_lives [] H = refl
 drops_lives (c ∷ cs) H = drops_lives cs (Drops c ∷ H)
 
 -- behind the ends of all lives
-none_known : (H : List Mark) → lives (after (map (λ l. Ends l cause.Stop) (link_list (lives H))) H) ≡ []
-none_known H = ends_lives cause.Stop (link_list (lives H)) H ∙ none_on (link_list (lives H)) (lives H) (all_on (lives H))
-
-pub none_known_by : (H : List Mark) (ls : List ℕ) → ls ≡ link_list (lives H) → lives (after (map (λ l. Ends l cause.Stop) ls) H) ≡ []
-none_known_by H ls e = ap (λ xs. lives (after (map (λ l. Ends l cause.Stop) xs) H)) e ∙ none_known H
+pub none_known_by : (g : Config) (H : List Mark) (ls : List ℕ) → ls ≡ link_list (lives H) → lives (after (map (λ l. Ends l cause.Stop) ls) H) ≡ []
+none_known_by g H ls e =
+    let marks : map (λ l. Ends l cause.Stop) ls ≡ end_all cause.Stop (lives H) = ap (λ xs. map (λ l. Ends l cause.Stop) xs) e ∙ map-map (λ (v : Life). v.link) (λ l. Ends l cause.Stop) (lives H) in
+    ap (λ ks. lives (after ks H)) marks ∙ sym (drops_lives (open_ones H) (after (end_all cause.Stop (lives H)) H)) ∙ none_known g H
 
 -- no connection runs a peer where none is known
 pub run_none : (g : Config) (H : List Mark) (t : Tables) → Holds g H t → lives H ≡ [] → RunNone H
@@ -145,7 +102,7 @@ stops g H ls cs t m a b c d le ce first second ev ac =
     let hs = map (λ l. Ends l cause.Stop) ls ++ map (λ c. Drops c) cs in
     let whole : (hs ++ Calls 0 ∷ Stops ∷ []) ≡ at_stop g H =
     ap (λ es. es ++ map (λ c. Drops c) cs ++ Calls 0 ∷ Stops ∷ []) marks ∙ ap (λ es. map (λ (v : Life). Ends v.link cause.Stop) (lives H) ++ map (λ c. Drops c) es ++ Calls 0 ∷ Stops ∷ []) ce in
-    let none : lives (after (map (λ l. Ends l cause.Stop) ls) H) ≡ [] = none_known_by H ls le in
+    let none : lives (after (map (λ l. Ends l cause.Stop) ls) H) ≡ [] = none_known_by g H ls le in
     let left : lives (after (map (λ c. Drops c) cs) (after (map (λ l. Ends l cause.Stop) ls) H)) ≡ [] = drops_lives cs (after (map (λ l. Ends l cause.Stop) ls) H) ∙ none in
     let end : after (hs ++ Calls 0 ∷ Stops ∷ []) H ≡ Stops ∷ Calls 0 ∷ after hs H = after-append hs (Calls 0 ∷ Stops ∷ []) H in
     let gone : lives (after hs H) ≡ [] = ap lives (after-append (map (λ l. Ends l cause.Stop) ls) (map (λ c. Drops c) cs) H) ∙ left in
