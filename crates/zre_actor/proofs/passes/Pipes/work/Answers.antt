@@ -151,7 +151,8 @@ loop-turn-preserved g c =
                   world_later = omega (arith, c.in-Ok.ensures.later, took.world.1);
                   record_later = took.later;
                 } in
-                working.went_on f K c.args.keep c.args.limit s l.turn t l.node l.command k m.in-Entry.entry (w.told x) u z.node m.in-Ok-take_entry.events gives c.loop-turn-test.true
+                working.went_on f K c.args.keep c.args.limit s l.turn t l.node l.command k m.in-Entry.entry (w.told x) u z.node m.in-Ok-take_entry.events gives c.loop-turn-test.true facts.0
+                (sym (c.stopped.ensures f (K ++ k.entries) k.node) ∙ c.if-stopped.false)
                 (m.in-Ok-take_entry.ensures.ok f (K ++ k.entries) k.node) m.raise_all-pass.ensures.raised);
           })
     ]
