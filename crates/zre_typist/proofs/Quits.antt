@@ -97,9 +97,21 @@ pub quit-found : (o : List ℕ) (front : List Command) (c : Command) (others : L
     → (list_any is_quit (typed o) ≡ true) × (orders o ≡ front ++ c ∷ [])
 quit-found o front c others e none is =
     let some : list_any is_quit (typed o) ≡ true =
-        ap (list_any is_quit) e ∙ list_any-append is_quit front (c ∷ others)
-        ∙ right-true (list_any is_quit front) (list_any is_quit (c ∷ others)) (left-true (is_quit c) (list_any is_quit others) is) in (
+    ap (list_any is_quit) e ∙ list_any-append is_quit front (c ∷ others)
+    ∙ right-true (list_any is_quit front) (list_any is_quit (c ∷ others)) (left-true (is_quit c) (list_any is_quit others) is) in (
       some,
       ap orders (sym (append-nil o)) ∙ quit-ends o [] some ∙ ap through_quit e ∙ without_quit front (c ∷ others) none
           ∙ ap (λ (b : Bool). front ++ (c ∷ cond b [] (through_quit others))) is,
     )
+
+-- ---- the end
+
+-- where no line is a quit, the end is
+pub end-quits : (o : List ℕ) (commands : List Command) → orders_from 1 (ended_lines (lines_in o)) ≡ commands → list_any is_quit commands ≡ false → orders o ≡ commands ++ Quit ∷ []
+end-quits o commands e none = ap (λ (cs : List Command). through_quit (cs ++ Quit ∷ [])) e ∙ without_quit commands (Quit ∷ []) none
+
+-- the last line is a quit
+pub last-quits : (o : List ℕ) (front : List Command) (c : Command) → orders_from 1 (ended_lines (lines_in o)) ≡ front ++ c ∷ [] → list_any is_quit front ≡ false → is_quit c ≡ true → orders o ≡ front ++ c ∷ []
+last-quits o front c e none is =
+    ap (λ (cs : List Command). through_quit (cs ++ Quit ∷ [])) e ∙ ap through_quit (append_assoc front (c ∷ []) (Quit ∷ []))
+    ∙ without_quit front (c ∷ Quit ∷ []) none ∙ ap (λ (b : Bool). front ++ (c ∷ cond b [] (Quit ∷ []))) is
