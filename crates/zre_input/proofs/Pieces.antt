@@ -20,14 +20,14 @@ use Rattle.zre_input.proofs.Puts.{puts-none, puts-then, none-append, none-one}
 
 -- ---- a piece
 
-pub front-fed : {T E A : Type 0} (r : Result T E) (o piece : List ℕ) (old new : List Command) → OnOk r (A × Adds o piece old new) → OnErr r (AddsFront o piece old new) → AddsFront o piece old new
-front-fed (Ok value) o piece old new p q = record {
+pub front-fed : {T E : Type 0} (A : Type 0) (r : Result T E) (o piece : List ℕ) (old new : List Command) → OnOk r (A × Adds o piece old new) → OnErr r (AddsFront o piece old new) → AddsFront o piece old new
+front-fed A (Ok value) o piece old new p q = record {
   commands = p.1.commands;
   others = [];
   added = p.1.added;
   more = p.1.more ∙ ap (λ (cs : List Command). typed o ++ cs) (sym (append-nil p.1.commands));
 }
-front-fed (Err e) o piece old new p q = q
+front-fed A (Err e) o piece old new p q = q
 
 regroup : (a front rest others : List Command) → a ++ ((front ++ rest) ++ others) ≡ (a ++ front) ++ (rest ++ others)
 regroup a front rest others = ap (λ (l : List Command). a ++ l) (append_assoc front rest others) ∙ sym (append_assoc a front (rest ++ others))

@@ -5,6 +5,7 @@ use Rattle.std.specs.Io.KnownBytes.{IsAtEnd}
 use Rattle.std.proofs.KnownBytes.{Appends-nil, Appends-trans, Consumes-nil, Consumes-trans}
 use Rattle.std.proofs.lemmas.List.{append-nil, length-append}
 use Rattle.zre_outside.specs.declared.entry.Command.{Command}
+use Rattle.zre_outside.specs.Causes.{Rose}
 use Rattle.zre_outside.specs.Told.{Moves}
 use Rattle.zre_actor.specs.declared.passes.CallerPass.{CallerPass}
 use Rattle.zre_typist.specs.Orders.{is_quit, typed, orders, Begins}
@@ -50,14 +51,17 @@ pub goes-on : (s t : Typing) (a b c : CallerPass) (l l' l'' k k' k'' : Option (L
     → (r : Reached s a b l l' k k' count) → length piece ≡ read → Moves l' l'' k' k'' piece
     → Typed (r.octets ++ piece) t × (list_any is_quit (typed (r.octets ++ piece)) ≡ false) × PutsTyped b c r.octets (r.octets ++ piece)
     → Reached t a c l l'' k k'' (count + read)
-goes-on s t a b c l l' l'' k k' k'' count read piece r long moves (known, going, more, put, same) = record {
+goes-on s t a b c l l' l'' k k' k'' count read piece r long moves took = record {
   octets = r.octets ++ piece;
   moved = Moves-trans l l' l'' k k' k'' r.octets piece r.moved moves;
   counted = counted_more r.octets piece count read r.counted long;
-  known = known;
-  going = going;
-  puts = subst (λ (cs : List Command). Puts a c cs) same (puts-then a b c (typed r.octets) more r.puts put);
+  known = took.0;
+  going = took.1;
+  puts = subst (λ (cs : List Command). Puts a c cs) took.2.2 (puts-then a b c (typed r.octets) took.2.0 r.puts took.2.1);
 }
+
+pub Rose-since : (before mid now : ℕ) → before ≤ mid → Rose mid now → Rose before now
+Rose-since before mid now le h = omega (arith, h)
 
 -- ---- the ways to end
 
