@@ -1,7 +1,7 @@
 -- The work so far, and what each turn adds.
-use Rattle.std.proofs.Common.{◌≡◌, ◌≢◌, ⊤, ℕ, zero, suc, ◌+◌, ◌-◌, ◌^◌, ◌≤◌, ◌<◌, ◌==◌, ◌&&◌, min, Bool, true, false, true≢false, cond, nat_lt, List, [], ◌∷◌, ◌++◌, map, length, Option, Some, None, refl, sym, ap, ◌∙◌, subst, arith, append_assoc, append-nil, length-append, eq-eqb, ne_eqb, ⊎_elim}
+use Rattle.std.proofs.Common.{◌≡◌, ◌≢◌, ℕ, zero, suc, ◌+◌, ◌-◌, ◌^◌, ◌≤◌, ◌<◌, ◌==◌, ◌&&◌, min, Bool, true, false, true≢false, cond, nat_lt, List, [], ◌∷◌, ◌++◌, map, length, Option, Some, None, refl, sym, ap, ◌∙◌, subst, arith, append_assoc, append-nil, length-append, eq-eqb, ne_eqb, ⊎_elim}
 use mathlib.Core.Logic.{inl, inr}
-use Rattle.std.specs.Prelude.{◌⊎◌, option_map, option_to_list, IsTrue}
+use Rattle.std.specs.Prelude.{◌⊎◌, ⊤, option_map, option_to_list, IsTrue}
 use Rattle.std.specs.Io.KnownBytes.{Appends}
 use Rattle.std.proofs.KnownBytes.{Appends-nil, Appends-trans}
 use Rattle.std.proofs.lemmas.List.{map-append}
@@ -87,8 +87,8 @@ NoQuit (c ∷ cs) = (c ≢ ask.Quit) × NoQuit cs
 
 -- so one more may be
 quits_snoc : (cs : List Command) (c : Command) → NoQuit cs → QuitsLast (cs ++ c ∷ [])
-quits_snoc [] c no = (λ _. refl, tt)
-quits_snoc (d ∷ cs) c no = (λ is. absurd (no.0 is), quits_snoc cs c no.1)
+quits_snoc [] c none = (λ _. refl, tt)
+quits_snoc (d ∷ cs) c none = (λ is. absurd (none.0 is), quits_snoc cs c none.1)
 
 no_quit_more : (cs ds : List Command) → NoQuit cs → NoQuit ds → NoQuit (cs ++ ds)
 no_quit_more [] ds a b = b
@@ -103,7 +103,7 @@ quit_stops g J e is going =
     ap (λ b. after (cond b [] (at_input g e.input H M)) M) going ∙ ap (λ i. after (at_input g i H M) M) is ∙ stop-is g M in
     ap has_stopped (c.happened ∙ stops)
 
--- so a command that is handed to a node that goes on behind it is no Quit
+-- so a command that is handed to a node that goes on behind it is none Quit
 no_quit : (g : Config) (J : List Entry) (e : Entry) (command : Option Command) → IsTurn command (turn.Entry e) → has_stopped (chronicle g J) ≡ false → has_stopped (chronicle g (J ++ e ∷ [])) ≡ false → NoQuit (option_to_list command)
 no_quit g J e None is going on = tt
 no_quit g J e (Some c) is going on = (λ q. true≢false (sym (quit_stops g J e (is ∙ ap input.Do q) going) ∙ on), tt)
@@ -128,7 +128,7 @@ module _ (g : Config) (K : List Entry) (keep : Bool) (limit : ℕ) (s : Scene) w
     pub record_later : s.record_faults ≤ t.record_faults
 
   -- the same with lists that are the same
-  going_same : (es es' : List Entry) (ds ds' : List Deed) (turns : ℕ) (t : Scene) (pending : List Command) → Goes turns limit s t es ds pending → es ≡ es' → ds ≡ ds' → Goes turns limit s t es' ds' pending
+  abbrev going_same : (es es' : List Entry) (ds ds' : List Deed) (turns : ℕ) (t : Scene) (pending : List Command) → Goes turns limit s t es ds pending → es ≡ es' → ds ≡ ds' → Goes turns limit s t es' ds' pending
   going_same es es' ds ds' turns t pending h e d = record {
     looks = h.looks;
     handed = h.handed;
@@ -177,7 +177,7 @@ module _ (g : Config) (K : List Entry) (keep : Bool) (limit : ℕ) (s : Scene) w
     no_command None is = refl
     no_command (Some c) is = absurd is
 
-    looks_again : (u : Scene) (found : Option Command) → u.told ≡ option_map (after_turn command turn.Look) t.told → Pops t found u → late turns limit t.looked ≡ 0 → late (turns + 1) limit u.looked ≡ 0
+    abbrev looks_again : (u : Scene) (found : Option Command) → u.told ≡ option_map (after_turn command turn.Look) t.told → Pops t found u → late turns limit t.looked ≡ 0 → late (turns + 1) limit u.looked ≡ 0
         → map command_of k.goes.popped ≡ k.goes.handed ++ [] → Goes (turns + 1) limit s u k.entries k.deeds (option_to_list found)
     looks_again u None new popped now later hands = let h = k.goes in record {
       looks = h.looks + 1;
@@ -212,9 +212,9 @@ module _ (g : Config) (K : List Entry) (keep : Bool) (limit : ℕ) (s : Scene) w
     -- what is popped behind a look stands behind commands that are no Quit
     look_quits : (u : Scene) (found : Option Command) (told : u.told ≡ option_map (after_turn command turn.Look) t.told) (popped : Pops t found u) (now : late turns limit t.looked ≡ 0) (later : late (turns + 1) limit u.looked ≡ 0)
         (hands : map command_of k.goes.popped ≡ k.goes.handed ++ []) → NoQuit k.goes.handed → QuitsLast (map command_of (looks_again u found told popped now later hands).popped)
-    look_quits u None told popped now later hands no = k.quits_last
-    look_quits u (Some c) told popped now later hands no = let h = k.goes in let e = popped.0.0 in
-        subst QuitsLast (sym (map-append command_of h.popped (e ∷ []) ∙ ap (λ l. l ++ e.command ∷ []) (hands ∙ append-nil h.handed))) (quits_snoc h.handed e.command no)
+    look_quits u None told popped now later hands none = k.quits_last
+    look_quits u (Some c) told popped now later hands none = let h = k.goes in let e = popped.0.0 in
+        subst QuitsLast (sym (map-append command_of h.popped (e ∷ []) ∙ ap (λ l. l ++ e.command ∷ []) (hands ∙ append-nil h.handed))) (quits_snoc h.handed e.command none)
 
     look_handed : (u : Scene) (found : Option Command) (told : u.told ≡ option_map (after_turn command turn.Look) t.told) (popped : Pops t found u) (now : late turns limit t.looked ≡ 0) (later : late (turns + 1) limit u.looked ≡ 0)
         (hands : map command_of k.goes.popped ≡ k.goes.handed ++ []) → (looks_again u found told popped now later hands).handed ≡ k.goes.handed
@@ -286,7 +286,7 @@ module _ (g : Config) (K : List Entry) (keep : Bool) (limit : ℕ) (s : Scene) w
       pub world_later : t.world_faults ≤ u.world_faults
       pub record_later : t.record_faults ≤ u.record_faults
 
-    given_goes : (e : Entry) (told : Option Log) (u : Scene) (more : List Deed) → Gives e told u → turns < limit → u.told ≡ option_map (went [] 0 [] more) told → Goes (turns + 1) limit s u (k.entries ++ e ∷ []) (k.deeds ++ more) []
+    abbrev given_goes : (e : Entry) (told : Option Log) (u : Scene) (more : List Deed) → Gives e told u → turns < limit → u.told ≡ option_map (went [] 0 [] more) told → Goes (turns + 1) limit s u (k.entries ++ e ∷ []) (k.deeds ++ more) []
     given_goes e told u more w less done =
         let h = k.goes in
         let now : late turns limit t.looked ≡ 0 = not_late turns limit t.looked (λ e. omega arith) in
@@ -381,7 +381,7 @@ module _ (g : Config) (K : List Entry) (keep : Bool) (limit : ℕ) (s : Scene) w
       pub record_same : u.record_faults ≡ t.record_faults
 
     -- the scene went on, and nothing of it but counts of faults, and what is kept
-    pub same_goes : (u : Scene) (more : List Entry) → u.told ≡ t.told → u.looked ≡ t.looked → u.popped ≡ t.popped → u.empties ≡ t.empties → Goes turns limit s u k.entries k.deeds (option_to_list command)
+    abbrev pub same_goes : (u : Scene) (more : List Entry) → u.told ≡ t.told → u.looked ≡ t.looked → u.popped ≡ t.popped → u.empties ≡ t.empties → Goes turns limit s u k.entries k.deeds (option_to_list command)
     same_goes u more told looked popped empties = let h = k.goes in let same : late turns limit u.looked ≡ late turns limit t.looked = ap (late turns limit) looked in record {
       looks = h.looks;
       handed = h.handed;

@@ -37,7 +37,7 @@ here : (n : ℕ) (e : Placed) (es : List Placed) → (e.number == n) ≡ true �
 here n e es is = ap (λ b. cond b (e ∷ under n es) (under n es)) is
 
 not_here : (n : ℕ) (e : Placed) (es : List Placed) → (e.number == n) ≡ false → under n (e ∷ es) ≡ under n es
-not_here n e es no = ap (λ b. cond b (e ∷ under n es) (under n es)) no
+not_here n e es isnt = ap (λ b. cond b (e ∷ under n es) (under n es)) isnt
 
 -- nothing is under other numbers than r and q
 abbrev pub TwoAlone : ℕ → ℕ → List Placed → Type 0
@@ -49,7 +49,7 @@ two_left r q e es two = λ n nr nq. by n (two n nr nq) (e.number == n) refl
   where
     by : (n : ℕ) → under n (e ∷ es) ≡ [] → (b : Bool) → (e.number == n) ≡ b → under n es ≡ []
     by n none true is = absurd (let x : e ∷ under n es ≡ [] = sym (here n e es is) ∙ none in cc)
-    by n none false no = sym (not_here n e es no) ∙ none
+    by n none false isnt = sym (not_here n e es isnt) ∙ none
 
 -- under q stands nothing, or a quit: behind it nothing was popped
 pub split : (r q : ℕ) (es : List Placed) → r ≢ q → TwoAlone r q es → QuitsLast (map command_of es)
@@ -77,18 +77,18 @@ split r q (e ∷ es) apart two quits asks = by (e.number == r) refl
     empty (x ∷ xs) is = absurd is
 
     last_one : (e.number == r) ≡ false → (b : Bool) → (e.number == q) ≡ b → (e ∷ es ≡ under r (e ∷ es)) ⊎ ((last : Placed) × (last.command ≡ Quit) × (e ∷ es ≡ under r (e ∷ es) ++ last ∷ []))
-    last_one no true is =
+    last_one isnt true is =
         let none : es ≡ [] = empty es (quits.0 (asked is)) in
-        let nothing : under r (e ∷ es) ≡ [] = not_here r e es no ∙ ap (under r) none in
+        let nothing : under r (e ∷ es) ≡ [] = not_here r e es isnt ∙ ap (under r) none in
         inr (e, asked is, ap (λ l. e ∷ l) none ∙ ap (λ l. l ++ e ∷ []) (sym nothing))
-    last_one no false other = absurd (
+    last_one isnt false other = absurd (
         let self : (e.number == e.number) ≡ true = eq-eqb e.number e.number refl in
-        let gone : under e.number (e ∷ es) ≡ [] = two e.number (λ same. true≢false (sym (eq-eqb e.number r same) ∙ no)) (λ same. true≢false (sym (eq-eqb e.number q same) ∙ other)) in
+        let gone : under e.number (e ∷ es) ≡ [] = two e.number (λ same. true≢false (sym (eq-eqb e.number r same) ∙ isnt)) (λ same. true≢false (sym (eq-eqb e.number q same) ∙ other)) in
         let x : e ∷ under e.number es ≡ [] = sym (here e.number e es self) ∙ gone in cc)
 
     by : (b : Bool) → (e.number == r) ≡ b → (e ∷ es ≡ under r (e ∷ es)) ⊎ ((last : Placed) × (last.command ≡ Quit) × (e ∷ es ≡ under r (e ∷ es) ++ last ∷ []))
     by true is = grown is (rest is)
-    by false no = last_one no (e.number == q) refl
+    by false isnt = last_one isnt (e.number == q) refl
 
 -- nothing is under other numbers than r
 pub alone : (r : ℕ) (es : List Placed) → ((n : ℕ) → n ≢ r → under n es ≡ []) → es ≡ under r es
@@ -100,6 +100,6 @@ alone r (e ∷ es) none = by (e.number == r) refl
 
     by : (b : Bool) → (e.number == r) ≡ b → e ∷ es ≡ under r (e ∷ es)
     by true is = ap (λ l. e ∷ l) (alone r es (others is)) ∙ sym (here r e es is)
-    by false no = absurd (
-        let gone : under e.number (e ∷ es) ≡ [] = none e.number (λ same. true≢false (sym (eq-eqb e.number r same) ∙ no)) in
+    by false isnt = absurd (
+        let gone : under e.number (e ∷ es) ≡ [] = none e.number (λ same. true≢false (sym (eq-eqb e.number r same) ∙ isnt)) in
         let x : e ∷ under e.number es ≡ [] = sym (here e.number e es (eq-eqb e.number e.number refl)) ∙ gone in cc)

@@ -63,19 +63,19 @@ module _ (g : Config) (start : Start) (name : Option (List ℕ)) (keep : Bool) (
     (none_taken : taken_by taker ≡ []) (new_reader : IsNew reader) (new_asker : IsNew asker) (apart : number reader ≢ number asker)
     (fronts : (n : ℕ) → IsPrefix (under n (popped_by actor')) (under n (puts_of (reader' ∷ asker' ∷ []))))
     (all_taken : taken_by taker' ≡ raised_by actor') where
-  statuses : List Status
+  abbrev statuses : List Status
   statuses = of_read stop ∷ of_print broke ∷ of_work how ∷ of_thread refused ∷ []
 
-  status : Status
+  abbrev status : Status
   status = least statuses
 
   -- ---- what the status says of the parts
 
   memory : status ≢ OutOfMemory → how ≢ ending.OutOfMemory
-  memory no is = no (memory_behind (of_read stop) _ (memory_behind (of_print broke) _ (memory_here (of_work how) (of_thread refused ∷ []) (ap of_work is))))
+  memory isnt is = isnt (memory_behind (of_read stop) _ (memory_behind (of_print broke) _ (memory_here (of_work how) (of_thread refused ∷ []) (ap of_work is))))
 
   page : status ≢ OutOfMemory → broke ≢ Some fault.OutOfMemory
-  page no is = no (memory_behind (of_read stop) _ (memory_here (of_print broke) _ (ap of_print is)))
+  page isnt is = isnt (memory_behind (of_read stop) _ (memory_here (of_print broke) _ (ap of_print is)))
 
   read_done : status ≡ Done → of_read stop ≡ Done
   read_done is = done_here (of_read stop) _ is
@@ -106,7 +106,7 @@ module _ (g : Config) (start : Start) (name : Option (List ℕ)) (keep : Bool) (
 
   -- ---- the commands
 
-  popped : List Placed
+  abbrev popped : List Placed
   popped = w.goes.popped
 
   is_popped : popped_by actor' ≡ popped
@@ -133,7 +133,7 @@ module _ (g : Config) (start : Start) (name : Option (List ℕ)) (keep : Bool) (
   few Due = inl refl
   few Put = inr refl
 
-  handed : List Command
+  abbrev handed : List Command
   handed = w.goes.handed
 
   handed_first : IsPrefix handed (map command_of popped)
@@ -177,15 +177,15 @@ module _ (g : Config) (start : Start) (name : Option (List ℕ)) (keep : Bool) (
   front = let f = d.front in (f.0, f.1 ++ lines w.untold, text ∙ ap (λ l. l ++ lines w.untold) f.2 ∙ append_assoc f.0 f.1 (lines w.untold), subst (λ x. Appends x t.written f.0) p.same_written f.3)
 
   whole : status ≢ OutOfMemory → ¬ Rose s.write_faults t.write_faults → Appends s.written t.written (lines (events g w.entries))
-  whole no rose = by broke refl
+  whole isnt rose = by broke refl
     where
       all : lines (events g w.entries) ≡ lines d.events
-      all = text ∙ ap (λ l. lines d.events ++ lines l) (w.all_raised (memory no)) ∙ append-nil (lines d.events)
+      all = text ∙ ap (λ l. lines d.events ++ lines l) (w.all_raised (memory isnt)) ∙ append-nil (lines d.events)
 
       by : (f : Option NextFault) → broke ≡ f → Appends s.written t.written (lines (events g w.entries))
       by None e = subst (λ (x : Option (List ℕ) × List ℕ). Appends x.0 t.written x.1) (λ i. (p.same_written i, sym all i)) (d.whole e)
       by (Some fault.Failed) e = absurd (rose (subst (λ k. Rose k t.write_faults) p.same_writes (write_rose e)))
-      by (Some fault.OutOfMemory) e = absurd (page no e)
+      by (Some fault.OutOfMemory) e = absurd (page isnt e)
 
   -- ---- the entries and the capture
 
@@ -201,11 +201,11 @@ module _ (g : Config) (start : Start) (name : Option (List ℕ)) (keep : Bool) (
     one ending.OutOfMemory h = h.0
 
     none : (e : Ending) → Ends e stopped turns limit keep x y unstepped pending → e ≢ ending.OutOfMemory → ¬ Rose x.record_faults y.record_faults → unstepped ≡ []
-    none ending.Stopped h no rose = h.1
-    none ending.WorldFault h no rose = h.1
-    none ending.RecordFault h no rose = absurd (rose h.4)
-    none ending.TooLong h no rose = h.1
-    none ending.OutOfMemory h no rose = absurd (no refl)
+    none ending.Stopped h isnt rose = h.1
+    none ending.WorldFault h isnt rose = h.1
+    none ending.RecordFault h isnt rose = absurd (rose h.4)
+    none ending.TooLong h isnt rose = h.1
+    none ending.OutOfMemory h isnt rose = absurd (isnt refl)
 
     stops : (e : Ending) → Ends e stopped turns limit keep x y unstepped pending → of_work e ≡ Done → stopped ≡ true
     stops ending.Stopped h is = h.0
@@ -215,12 +215,12 @@ module _ (g : Config) (start : Start) (name : Option (List ℕ)) (keep : Bool) (
     stops ending.OutOfMemory h is = absurd (cc)
 
   given : status ≢ OutOfMemory → ¬ Rose s.record_faults t.record_faults → w.unstepped ≡ []
-  given no rose = none _ _ _ w.turns w.unstepped w.pending how w.ends (memory no) (λ x. rose (record_rose x))
+  given isnt rose = none _ _ _ w.turns w.unstepped w.pending how w.ends (memory isnt) (λ x. rose (record_rose x))
 
   held : (file : List ℕ) → name ≡ Some file → status ≢ OutOfMemory → ¬ Rose s.record_faults t.record_faults → Holds file w.entries s t
-  held file is no rose =
+  held file is isnt rose =
       let k : KeptLines u.kept t.kept w.entries w.unstepped = w.are_kept (p.keeps ∙ ap is_some is) in
-      let nothing : k.part ≡ [] = front_nil k.part k.rest (sym k.is_part ∙ ap capture.lines (given no rose)) in
+      let nothing : k.part ≡ [] = front_nil k.part k.rest (sym k.is_part ∙ ap capture.lines (given isnt rose)) in
       (
         head_held s.kept u.kept t.kept (capture.lines w.entries) (p.head_kept file is) (subst (Appends u.kept t.kept) (ap (λ l. capture.lines w.entries ++ l) nothing ∙ append-nil (capture.lines w.entries)) k.is_kept),
         subst (λ x. Keeps x t.named) (p.file_named file is) named,
@@ -278,7 +278,7 @@ module _ (g : Config) (start : Start) (name : Option (List ℕ)) (keep : Bool) (
     undone = w.undone;
     are_acts = w.are_acts;
     are_deeds = w.are_deeds;
-    all_done = λ no. w.all_done (memory no);
+    all_done = λ isnt. w.all_done (memory isnt);
     front = front;
     whole = whole;
     held = held;

@@ -138,7 +138,7 @@ read_orders e limit commands o left read x = by e x
     by end.TooLong x = breaks x.1
     by end.OutOfMemory x = breaks x
 
--- where nothing went wrong they are a front of them, and hold no quit where the reader was told of the end
+-- where nothing went wrong they are a front of them, and hold isnt quit where the reader was told of the end
 read_front : (e : InputEnd) (limit : ℕ) (commands : List Command) (o : List ℕ) (left : Option (List ℕ)) (read : Type 0) → Outcome e limit commands o left read → of_read e ≡ Done
     → IsPrefix commands (orders o) × (IsAtEnd left ⊎ ((list_any is_quit (typed o) ≡ true) ⊎ (list_any is_quit commands ≡ false)))
 read_front e limit commands o left read x done = by e x done
@@ -185,7 +185,7 @@ module _ (r q : ℕ) (er eq : List ℕ) (cs qs : List Command) (apart : r ≢ q)
         where
           by : (b : Bool) → (n == q) ≡ b → under n es ≡ []
           by true is = prefix_nil (under n es) (subst (IsPrefix (under n es)) (both n ∙ ap (λ l. l ++ under n (all_under q eq qs)) (no_others n r er cs (λ e. nr (sym e))) ∙ ap (λ l. under n (all_under q eq l)) none) (fronts n))
-          by false no = of_none n nr (λ e. true≢false (sym (same e) ∙ no))
+          by false isnt = of_none n nr (λ e. true≢false (sym (same e) ∙ isnt))
             where
               same : n ≡ q → (n == q) ≡ true
               same e = grind (arith, e)
