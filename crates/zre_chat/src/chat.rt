@@ -13,7 +13,7 @@ ghost use Rattle.zre_chat.specs.Tables.{IsLaid};
 use crate::keeping::begin;
 use crate::statuses::{of_fault, status_of};
 use crate::table::Table;
-use crate::talk::{Talk, talk};
+use crate::talk::{Talk, hold_talk};
 use std::alloc::Global;
 use std::sync::Wait;
 use std::thread::Threads;
@@ -188,7 +188,7 @@ where
         read,
         printed,
         refused,
-    } = talk(rt, alloc, &pipes, &over, reader, asker, taker, out, spawner);
+    } = hold_talk(rt, alloc, &pipes, &over, reader, asker, taker, out, spawner);
     let ReaderDone { input, pass, end } = read;
     let worked = working.join(rt);
     callers.give(pass);

@@ -51,7 +51,7 @@ fn unread<I: Source + Send + Drop + 'static>(job: ReaderJob<I>) -> ReaderDone<I>
 
 /// Starts the reader, prints until Last, tells the reader that the chat is over, and waits for it. Where it isn't started, the
 /// node is asked to stop at once.
-pub(crate) fn talk<I, O: Sink, P: Spawner, T: Wait + Threads + Copy>(
+pub(crate) fn hold_talk<I, O: Sink, P: Spawner, T: Wait + Threads + Copy>(
     rt: T,
     alloc: Global,
     pipes: &Pipes,
