@@ -2,6 +2,7 @@
 use Rattle.std.proofs.Common.{◌≡◌, Bool, true, false, true≢false, cond, List, [], ◌∷◌, ◌++◌, map, refl, sym, ap, ◌∙◌, subst, append_assoc, append-nil}
 use Rattle.std.specs.Prelude.{◌||◌, not}
 use Rattle.std.specs.List.{list_any, filter}
+use Rattle.std.proofs.lemmas.List.{map-append}
 use Rattle.std.proofs.lemmas.List.Folds.{list_any-append}
 use mathlib.Core.List.{IsPrefix}
 use Rattle.zre_outside.specs.declared.entry.Command.{Command}
@@ -18,11 +19,11 @@ prefix_trans xs ys zs p q = (p.0 ++ q.0, sym (append_assoc xs p.0 q.0) ∙ ap (�
 
 pub but_quits-append : (xs ys : List Command) → but_quits (xs ++ ys) ≡ but_quits xs ++ but_quits ys
 but_quits-append [] ys = refl
-but_quits-append (c ∷ xs) ys = by (not (is_quit c))
+but_quits-append (c ∷ xs) ys = by (but_quits-append xs ys) (not (is_quit c))
   where
-    by : (b : Bool) → cond b (c ∷ but_quits (xs ++ ys)) (but_quits (xs ++ ys)) ≡ cond b (c ∷ but_quits xs) (but_quits xs) ++ but_quits ys
-    by true = ap (λ l. c ∷ l) (but_quits-append xs ys)
-    by false = but_quits-append xs ys
+    by : but_quits (xs ++ ys) ≡ but_quits xs ++ but_quits ys → (b : Bool) → cond b (c ∷ but_quits (xs ++ ys)) (but_quits (xs ++ ys)) ≡ cond b (c ∷ but_quits xs) (but_quits xs) ++ but_quits ys
+    by rest true = ap (λ l. c ∷ l) rest
+    by rest false = rest
 
 -- a front stays a front without the quits
 pub but_quits-prefix : (xs ys : List Command) → IsPrefix xs ys → IsPrefix (but_quits xs) (but_quits ys)
@@ -30,8 +31,7 @@ but_quits-prefix xs ys p = (but_quits p.0, sym (but_quits-append xs p.0) ∙ ap 
 
 pub map-prefix : {X Y : Type 0} (f : X → Y) (xs ys : List X) → IsPrefix xs ys → IsPrefix (map f xs) (map f ys)
 map-prefix f [] ys p = (map f ys, refl)
-map-prefix f (x ∷ xs) [] p = absurd p.1
-map-prefix f (x ∷ xs) (y ∷ ys) p = p
+map-prefix f (x ∷ xs) ys p = (map f p.0, sym (map-append f (x ∷ xs) p.0) ∙ ap (map f) p.1)
 
 -- ---- a quit stands last
 
@@ -47,25 +47,25 @@ pub quits_through : (cs : List Command) → QuitsLast (through_quit cs)
 quits_through [] = tt
 quits_through (c ∷ cs) = (
   (λ is. ap (λ d. cond (is_quit d) [] (through_quit cs)) is),
-  by (is_quit c),
+  by (quits_through cs) (is_quit c),
 )
   where
-    by : (b : Bool) → QuitsLast (cond b [] (through_quit cs))
-    by true = tt
-    by false = quits_through cs
+    by : QuitsLast (through_quit cs) → (b : Bool) → QuitsLast (cond b [] (through_quit cs))
+    by rest true = tt
+    by rest false = rest
 
 -- in front of more there is none
 pub none_before : (cs : List Command) (d : Command) (ds : List Command) → QuitsLast (cs ++ d ∷ ds) → list_any is_quit cs ≡ false
 none_before [] d ds q = refl
-none_before (c ∷ cs) d ds q = by (is_quit c) refl
+none_before (c ∷ cs) d ds q = by (none_before cs d ds q.1) (is_quit c) refl
   where
     full : (xs : List Command) → xs ++ d ∷ ds ≡ [] → ⊥
     full [] is = cc
     full (x ∷ xs) is = cc
 
-    by : (b : Bool) → is_quit c ≡ b → (b || list_any is_quit cs) ≡ false
-    by true is = absurd (full cs (q.0 (quit_is c is)))
-    by false is = none_before cs d ds q.1
+    by : list_any is_quit cs ≡ false → (b : Bool) → is_quit c ≡ b → (b || list_any is_quit cs) ≡ false
+    by rest true is = absurd (full cs (q.0 (quit_is c is)))
+    by rest false is = rest
 
 -- a front that holds a quit is all
 pub all_front : (cs all : List Command) → IsPrefix cs all → QuitsLast all → list_any is_quit cs ≡ true → cs ≡ all

@@ -30,7 +30,7 @@ commands_under n ended (c ∷ cs) = ap (λ l. c ∷ l) (commands_under n ended c
 
 pub prefix_nil : {X : Type 0} (xs : List X) → IsPrefix xs [] → xs ≡ []
 prefix_nil [] p = refl
-prefix_nil (x ∷ xs) p = absurd (p.1)
+prefix_nil (x ∷ xs) p = absurd (let e : x ∷ (xs ++ p.0) ≡ [] = p.1 in cc)
 
 -- a command under a number of its own is there
 here : (n : ℕ) (e : Placed) (es : List Placed) → (e.number == n) ≡ true → under n (e ∷ es) ≡ e ∷ under n es
@@ -56,13 +56,10 @@ pub split : (r q : ℕ) (es : List Placed) → r ≢ q → TwoAlone r q es → Q
     → ((e : Placed) (more : List Placed) → under q es ≡ e ∷ more → e.command ≡ Quit)
     → (es ≡ under r es) ⊎ ((last : Placed) × (last.command ≡ Quit) × (es ≡ under r es ++ last ∷ []))
 split r q [] apart two quits asks = inl refl
-split r q (e ∷ es) apart two quits asks = by (e.number == r) refl
+split r q (e ∷ es) apart two quits asks = by (split r q es apart (two_left r q e es two) quits.1) (e.number == r) refl
   where
     first_is : (e.number == r) ≡ true → (e.number == q) ≡ false
     first_is is = ne_eqb e.number q (λ same. apart (sym (eqb-true e.number r is) ∙ same))
-
-    rest : (e.number == r) ≡ true → (es ≡ under r es) ⊎ ((last : Placed) × (last.command ≡ Quit) × (es ≡ under r es ++ last ∷ []))
-    rest is = split r q es apart (two_left r q e es two) quits.1 (λ x more at. asks x more (not_here q e es (first_is is) ∙ at))
 
     grown : (e.number == r) ≡ true → (es ≡ under r es) ⊎ ((last : Placed) × (last.command ≡ Quit) × (es ≡ under r es ++ last ∷ []))
         → (e ∷ es ≡ under r (e ∷ es)) ⊎ ((last : Placed) × (last.command ≡ Quit) × (e ∷ es ≡ under r (e ∷ es) ++ last ∷ []))
@@ -74,7 +71,7 @@ split r q (e ∷ es) apart two quits asks = by (e.number == r) refl
 
     empty : (cs : List Placed) → map command_of cs ≡ [] → cs ≡ []
     empty [] is = refl
-    empty (x ∷ xs) is = absurd is
+    empty (x ∷ xs) is = absurd (let y : x.command ∷ map command_of xs ≡ [] = is in cc)
 
     last_one : (e.number == r) ≡ false → (b : Bool) → (e.number == q) ≡ b → (e ∷ es ≡ under r (e ∷ es)) ⊎ ((last : Placed) × (last.command ≡ Quit) × (e ∷ es ≡ under r (e ∷ es) ++ last ∷ []))
     last_one isnt true is =
@@ -86,20 +83,21 @@ split r q (e ∷ es) apart two quits asks = by (e.number == r) refl
         let gone : under e.number (e ∷ es) ≡ [] = two e.number (λ same. true≢false (sym (eq-eqb e.number r same) ∙ isnt)) (λ same. true≢false (sym (eq-eqb e.number q same) ∙ other)) in
         let x : e ∷ under e.number es ≡ [] = sym (here e.number e es self) ∙ gone in cc)
 
-    by : (b : Bool) → (e.number == r) ≡ b → (e ∷ es ≡ under r (e ∷ es)) ⊎ ((last : Placed) × (last.command ≡ Quit) × (e ∷ es ≡ under r (e ∷ es) ++ last ∷ []))
-    by true is = grown is (rest is)
-    by false isnt = last_one isnt (e.number == q) refl
+    by : (((x : Placed) (more : List Placed) → under q es ≡ x ∷ more → x.command ≡ Quit) → (es ≡ under r es) ⊎ ((last : Placed) × (last.command ≡ Quit) × (es ≡ under r es ++ last ∷ [])))
+        → (b : Bool) → (e.number == r) ≡ b → (e ∷ es ≡ under r (e ∷ es)) ⊎ ((last : Placed) × (last.command ≡ Quit) × (e ∷ es ≡ under r (e ∷ es) ++ last ∷ []))
+    by rest true is = grown is (rest (λ x more at. asks x more (not_here q e es (first_is is) ∙ at)))
+    by rest false isnt = last_one isnt (e.number == q) refl
 
 -- nothing is under other numbers than r
 pub alone : (r : ℕ) (es : List Placed) → ((n : ℕ) → n ≢ r → under n es ≡ []) → es ≡ under r es
 alone r [] none = refl
-alone r (e ∷ es) none = by (e.number == r) refl
+alone r (e ∷ es) none = by (alone r es) (e.number == r) refl
   where
     others : (e.number == r) ≡ true → (n : ℕ) → n ≢ r → under n es ≡ []
     others is n nr = sym (not_here n e es (ne_eqb e.number n (λ same. nr (sym same ∙ eqb-true e.number r is)))) ∙ none n nr
 
-    by : (b : Bool) → (e.number == r) ≡ b → e ∷ es ≡ under r (e ∷ es)
-    by true is = ap (λ l. e ∷ l) (alone r es (others is)) ∙ sym (here r e es is)
-    by false isnt = absurd (
+    by : (((n : ℕ) → n ≢ r → under n es ≡ []) → es ≡ under r es) → (b : Bool) → (e.number == r) ≡ b → e ∷ es ≡ under r (e ∷ es)
+    by rest true is = ap (λ l. e ∷ l) (rest (others is)) ∙ sym (here r e es is)
+    by rest false isnt = absurd (
         let gone : under e.number (e ∷ es) ≡ [] = none e.number (λ same. true≢false (sym (eq-eqb e.number r same) ∙ isnt)) in
         let x : e ∷ under e.number es ≡ [] = sym (here e.number e es (eq-eqb e.number e.number refl)) ∙ gone in cc)

@@ -31,8 +31,19 @@ no_memory NoThread = refl
 no_memory TooLong = refl
 no_memory OutOfMemory = refl
 
+memory_first : (r : Status) → first_of OutOfMemory r ≡ OutOfMemory
+memory_first Done = refl
+memory_first Usage = refl
+memory_first BadInput = refl
+memory_first ReadFault = refl
+memory_first WriteFault = refl
+memory_first WorldFault = refl
+memory_first NoThread = refl
+memory_first TooLong = refl
+memory_first OutOfMemory = refl
+
 pub memory_here : (s : Status) (ss : List Status) → s ≡ OutOfMemory → least (s ∷ ss) ≡ OutOfMemory
-memory_here s ss is = ap (λ x. first_of x (least ss)) is
+memory_here s ss is = ap (λ x. first_of x (least ss)) is ∙ memory_first (least ss)
 
 pub memory_behind : (s : Status) (ss : List Status) → least ss ≡ OutOfMemory → least (s ∷ ss) ≡ OutOfMemory
 memory_behind s ss is = ap (first_of s) is ∙ no_memory s

@@ -1,10 +1,11 @@
 -- A chat whose threads were started.
 use Rattle.std.proofs.Common.{◌≡◌, ◌≢◌, ℕ, ◌+◌, ◌≤◌, Bool, true, false, true≢false, cond, List, [], ◌∷◌, ◌++◌, map, length, Option, Some, None, refl, sym, ap, ◌∙◌, subst, arith, append_assoc, append-nil}
-use Rattle.std.specs.Prelude.{◌⊎◌, ¬◌, option_map, is_some}
+use Rattle.std.specs.Prelude.{◌⊎◌, option_map, is_some}
 use mathlib.Core.Logic.{inl, inr}
 use mathlib.Core.List.{IsPrefix}
 use Rattle.std.specs.List.{list_any}
 use Rattle.std.specs.Io.KnownBytes.{Keeps, Appends, IsAtEnd}
+use Rattle.std.proofs.KnownBytes.{Appends-trans, Keeps-trans}
 use Rattle.std.proofs.lemmas.Grind.{flat_map-append}
 use Rattle.zre_outside.specs.declared.entry.Entry.{Entry}
 use Rattle.zre_outside.specs.declared.entry.Command.{Command}
@@ -50,7 +51,7 @@ use Rattle.zre_chat.specs.Statuses.{least, of_read, of_print, of_work, of_thread
 use Rattle.zre_chat.proofs.Fronts.{prefix_trans, but_quits-prefix, quits_through, all_front, none_front}
 use Rattle.zre_chat.proofs.Merged.{all_under}
 use Rattle.zre_chat.proofs.Rows.{memory_here, memory_behind, done_here, done_behind}
-use Rattle.zre_chat.proofs.Whole.{head_held, maps, read_orders, read_front, only, most}
+use Rattle.zre_chat.proofs.Whole.{maps, read_orders, read_front, only, most}
 
 module _ (g : Config) (start : Start) (name : Option (List ℕ)) (keep : Bool) (limit : ℕ) (s u t : Seen) (p : Prepared start name keep s u)
     (n : Node) (how : Ending) (looked looked' : Bool) (actor actor' : ActorPass)
@@ -63,8 +64,17 @@ module _ (g : Config) (start : Start) (name : Option (List ℕ)) (keep : Bool) (
     (none_taken : taken_by taker ≡ []) (new_reader : IsNew reader) (new_asker : IsNew asker) (apart : number reader ≢ number asker)
     (fronts : (n : ℕ) → IsPrefix (under n (popped_by actor')) (under n (puts_of (reader' ∷ asker' ∷ []))))
     (all_taken : taken_by taker' ≡ raised_by actor') where
+  abbrev fourth : List Status
+  fourth = of_thread refused ∷ []
+
+  abbrev third : List Status
+  third = of_work how ∷ fourth
+
+  abbrev second : List Status
+  second = of_print broke ∷ third
+
   abbrev statuses : List Status
-  statuses = of_read stop ∷ of_print broke ∷ of_work how ∷ of_thread refused ∷ []
+  statuses = of_read stop ∷ second
 
   abbrev status : Status
   status = least statuses
@@ -72,22 +82,22 @@ module _ (g : Config) (start : Start) (name : Option (List ℕ)) (keep : Bool) (
   -- ---- what the status says of the parts
 
   memory : status ≢ OutOfMemory → how ≢ ending.OutOfMemory
-  memory isnt is = isnt (memory_behind (of_read stop) _ (memory_behind (of_print broke) _ (memory_here (of_work how) (of_thread refused ∷ []) (ap of_work is))))
+  memory isnt is = isnt (memory_behind (of_read stop) second (memory_behind (of_print broke) third (memory_here (of_work how) fourth (ap of_work is))))
 
   page : status ≢ OutOfMemory → broke ≢ Some fault.OutOfMemory
-  page isnt is = isnt (memory_behind (of_read stop) _ (memory_here (of_print broke) _ (ap of_print is)))
+  page isnt is = isnt (memory_behind (of_read stop) second (memory_here (of_print broke) third (ap of_print is)))
 
   read_done : status ≡ Done → of_read stop ≡ Done
-  read_done is = done_here (of_read stop) _ is
+  read_done is = done_here (of_read stop) second is
 
   print_done : status ≡ Done → of_print broke ≡ Done
-  print_done is = done_here (of_print broke) _ (done_behind (of_read stop) _ is)
+  print_done is = done_here (of_print broke) third (done_behind (of_read stop) second is)
 
   work_done : status ≡ Done → of_work how ≡ Done
-  work_done is = done_here (of_work how) _ (done_behind (of_print broke) _ (done_behind (of_read stop) _ is))
+  work_done is = done_here (of_work how) fourth (done_behind (of_print broke) third (done_behind (of_read stop) second is))
 
   thread_done : status ≡ Done → of_thread refused ≡ Done
-  thread_done is = done_here (of_thread refused) [] (done_behind (of_work how) _ (done_behind (of_print broke) _ (done_behind (of_read stop) _ is)))
+  thread_done is = done_here (of_thread refused) [] (done_behind (of_work how) fourth (done_behind (of_print broke) third (done_behind (of_read stop) second is)))
 
   printed_whole : status ≡ Done → broke ≡ None
   printed_whole is = by broke refl
@@ -222,8 +232,8 @@ module _ (g : Config) (start : Start) (name : Option (List ℕ)) (keep : Bool) (
       let k : KeptLines u.kept t.kept w.entries w.unstepped = w.are_kept (p.keeps ∙ ap is_some is) in
       let nothing : k.part ≡ [] = front_nil k.part k.rest (sym k.is_part ∙ ap capture.lines (given isnt rose)) in
       (
-        head_held s.kept u.kept t.kept (capture.lines w.entries) (p.head_kept file is) (subst (Appends u.kept t.kept) (ap (λ l. capture.lines w.entries ++ l) nothing ∙ append-nil (capture.lines w.entries)) k.is_kept),
-        subst (λ x. Keeps x t.named) (p.file_named file is) named,
+        Appends-trans (option_map (λ _. []) s.kept) u.kept t.kept capture.head (capture.lines w.entries) (p.head_kept file is) (subst (Appends u.kept t.kept) (ap (λ l. capture.lines w.entries ++ l) nothing ∙ append-nil (capture.lines w.entries)) k.is_kept),
+        Keeps-trans (option_map (λ _. file) s.named) u.named t.named (p.file_named file is) named,
       )
     where
       front_nil : (xs ys : List ℕ) → xs ++ ys ≡ [] → xs ≡ []
@@ -286,7 +296,7 @@ module _ (g : Config) (start : Start) (name : Option (List ℕ)) (keep : Bool) (
     all_handed = all_handed;
     occurred = statuses;
     is_status = refl;
-    caused = (read_cause stop r.outcome w.turns (has_stopped (chronicle g w.entries)), print_cause broke refl (length r.octets) w.turns (has_stopped (chronicle g w.entries)), work_cause how (length r.octets) w.turns (has_stopped (chronicle g w.entries)) w.unstepped w.pending w.ends, thread_cause refused refl (length r.octets) w.turns (has_stopped (chronicle g w.entries)), tt);
+    caused = (read_cause stop r.outcome w.turns (has_stopped (chronicle g w.entries)), (print_cause broke refl (length r.octets) w.turns (has_stopped (chronicle g w.entries)), (work_cause how (length r.octets) w.turns (has_stopped (chronicle g w.entries)) w.unstepped w.pending w.ends, (thread_cause refused refl (length r.octets) w.turns (has_stopped (chronicle g w.entries)), tt))));
     done = λ is. (refl, stops _ _ _ w.turns w.unstepped w.pending how w.ends (work_done is));
     ended = has_ended;
   }

@@ -1,6 +1,6 @@
 -- What a chat comes to, from what its parts came to.
 use Rattle.std.proofs.Common.{◌≡◌, ◌≢◌, ℕ, zero, suc, ◌+◌, ◌≤◌, ◌<◌, ◌==◌, Bool, true, false, true≢false, cond, List, [], ◌∷◌, ◌++◌, map, length, Option, Some, None, refl, sym, ap, ◌∙◌, subst, arith, append_assoc, append-nil}
-use Rattle.std.specs.Prelude.{◌⊎◌, ¬◌, ⊤, option_map, is_some}
+use Rattle.std.specs.Prelude.{◌⊎◌, ⊤, option_map, is_some}
 use mathlib.Core.Logic.{inl, inr}
 use mathlib.Core.List.{IsPrefix}
 use Rattle.std.specs.List.{list_any}
@@ -58,14 +58,9 @@ use Rattle.zre_chat.proofs.Fronts.{prefix_self, prefix_trans, but_quits-append, 
 use Rattle.zre_chat.proofs.Merged.{all_under, its_own, no_others, commands_under, prefix_nil, TwoAlone, split, alone}
 use Rattle.zre_chat.proofs.Rows.{one_least, memory_here, memory_behind, done_here, done_behind}
 
--- ---- what a recorder and a world tell, over two steps
+-- ---- what a world tells, over two steps
 
-pub head_held : (kept u t : Option (List ℕ)) (text : List ℕ) → u ≡ option_map (λ _. capture.head) kept → Appends u t text → Appends (option_map (λ _. []) kept) t (capture.head ++ text)
-head_held None u t text is a = tt
-head_held (Some x) u None text is a = absurd (subst (λ k. Appends k None text) is a)
-head_held (Some x) u (Some y) text is a = subst (λ k. Appends k (Some y) text) is a
-
-maps : (f h : Log → Log) (told : Option Log) → option_map f (option_map h told) ≡ option_map (λ l. f (h l)) told
+pub maps : (f h : Log → Log) (told : Option Log) → option_map f (option_map h told) ≡ option_map (λ l. f (h l)) told
 maps f h None = refl
 maps f h (Some l) = refl
 
@@ -113,7 +108,7 @@ module _ (g : Config) (start : Start) (name : Option (List ℕ)) (limit : ℕ) w
 -- ---- the commands
 
 -- those that the reader put begin the orders
-read_orders : (e : InputEnd) (limit : ℕ) (commands : List Command) (o : List ℕ) (left : Option (List ℕ)) (read : Type 0) → Outcome e limit commands o left read → IsPrefix (but_quits commands) (but_quits (orders o))
+pub read_orders : (e : InputEnd) (limit : ℕ) (commands : List Command) (o : List ℕ) (left : Option (List ℕ)) (read : Type 0) → Outcome e limit commands o left read → IsPrefix (but_quits commands) (but_quits (orders o))
 read_orders e limit commands o left read x = by e x
   where
     all : commands ≡ orders o → IsPrefix (but_quits commands) (but_quits (orders o))
@@ -139,7 +134,7 @@ read_orders e limit commands o left read x = by e x
     by end.OutOfMemory x = breaks x
 
 -- where nothing went wrong they are a front of them, and hold isnt quit where the reader was told of the end
-read_front : (e : InputEnd) (limit : ℕ) (commands : List Command) (o : List ℕ) (left : Option (List ℕ)) (read : Type 0) → Outcome e limit commands o left read → of_read e ≡ Done
+pub read_front : (e : InputEnd) (limit : ℕ) (commands : List Command) (o : List ℕ) (left : Option (List ℕ)) (read : Type 0) → Outcome e limit commands o left read → of_read e ≡ Done
     → IsPrefix commands (orders o) × (IsAtEnd left ⊎ ((list_any is_quit (typed o) ≡ true) ⊎ (list_any is_quit commands ≡ false)))
 read_front e limit commands o left read x done = by e x done
   where

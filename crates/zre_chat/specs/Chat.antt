@@ -1,5 +1,5 @@
 -- What a chat comes to.
-use Rattle.std.specs.Prelude.{◌≡◌, ◌≢◌, ◌⊎◌, ¬◌, ℕ, ◌+◌, ◌≤◌, Bool, true, false, not, List, [], ◌∷◌, ◌++◌, length, Option, Some, None, option_map, ⊤}
+use Rattle.std.specs.Prelude.{◌≡◌, ◌≢◌, ◌⊎◌, ℕ, ◌+◌, ◌≤◌, Bool, true, false, not, List, [], ◌∷◌, ◌++◌, length, Option, Some, None, option_map, ⊤}
 use mathlib.Core.List.{IsPrefix}
 use Rattle.std.specs.List.{list_any, filter}
 use Rattle.std.specs.Io.KnownBytes.{Keeps, Appends, IsAtEnd}

@@ -1,5 +1,6 @@
 -- How far a chat has come before the threads are started.
-use Rattle.std.specs.Prelude.{◌≡◌, ◌≤◌, ℕ, Bool, List, Option, Some, option_map, is_some}
+use Rattle.std.specs.Prelude.{◌≡◌, ◌≤◌, ℕ, Bool, List, [], Option, Some, option_map, is_some}
+use Rattle.std.specs.Io.KnownBytes.{Keeps, Appends}
 use Rattle.zre_outside.specs.declared.start.Start.{Start}
 use Rattle.zre_outside.specs.Worlds.{with_start}
 use Rattle.zre_capture.specs.Lines.{head}
@@ -17,5 +18,5 @@ pub record Prepared (start : Start) (name : Option (List ℕ)) (keep : Bool) (s 
   pub world_later : s.world_faults ≤ u.world_faults
   pub record_later : s.record_faults ≤ u.record_faults
   pub keeps : keep ≡ is_some name
-  pub head_kept : (file : List ℕ) → name ≡ Some file → u.kept ≡ option_map (λ _. head) s.kept
-  pub file_named : (file : List ℕ) → name ≡ Some file → u.named ≡ option_map (λ _. file) s.named
+  pub head_kept : (file : List ℕ) → name ≡ Some file → Appends (option_map (λ _. []) s.kept) u.kept head
+  pub file_named : (file : List ℕ) → name ≡ Some file → Keeps (option_map (λ _. file) s.named) u.named

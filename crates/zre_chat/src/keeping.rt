@@ -17,7 +17,8 @@ fn begin_named<R: Recorder>(rec: &mut R, name: &str) -> Result<(), NextFault>
     ensures failed { IsErrOf result NextFault.Failed → Rose (R.faults rec.old) (R.faults rec.new) }
 {
     rec.begin(name)?;
-    rec.put(HEAD)
+    rec.put(HEAD)?;
+    Ok(())
 }
 
 /// The same under the name of a capture, where there is one.
