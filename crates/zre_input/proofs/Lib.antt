@@ -1,3 +1,4 @@
-pub mod Puts
+pub mod Given
 pub mod Pieces
+pub mod Puts
 pub mod Reach
