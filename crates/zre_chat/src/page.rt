@@ -1,6 +1,6 @@
 //! The text that waits to be written.
 
-ghost use Rattle.std.specs.Prelude.{◌≡◌, ◌≤◌, ◌++◌, ◌∷◌, ℕ, List, [], Option, Some, None, ◌⊎◌};
+ghost use Rattle.std.specs.Prelude.{◌≡◌, ◌≤◌, ◌++◌, ◌∷◌, ℕ, List, [], Option, Some, None, IsSome, ◌⊎◌};
 ghost use Rattle.zre_outside.specs.Causes.{Rose};
 ghost use Rattle.zre_outside.specs.declared.sink.NextFault.TheVariants.{Failed};
 ghost use Rattle.zre_peer.specs.declared.event.Event.{Event as EventValue};
@@ -35,6 +35,7 @@ impl Page {
     pub fn print<O: Sink>(&mut self, event: &Event, out: &mut O)
         ensures shows { (w : Option (List ℕ)) (es : List EventValue) → Shows self.old w (O.written out.old) es →
             Shows self.new w (O.written out.new) (es ++ event.now ∷ []) }
+        ensures stays { IsSome self.old.fault → self.new ≡ self.old }
         ensures later { O.faults out.old ≤ O.faults out.new }
         ensures failed { self.new.fault ≡ Some Failed → (self.old.fault ≡ Some Failed) ⊎ Rose (O.faults out.old) (O.faults out.new) }
     {
@@ -55,6 +56,7 @@ impl Page {
         ensures shows { (w : Option (List ℕ)) (es : List EventValue) → Shows self.old w (O.written out.old) es →
             Shows self.new w (O.written out.new) es }
         ensures written { self.new.fault ≡ None → self.new.text ≡ [] }
+        ensures stays { IsSome self.old.fault → self.new ≡ self.old }
         ensures later { O.faults out.old ≤ O.faults out.new }
         ensures failed { self.new.fault ≡ Some Failed → (self.old.fault ≡ Some Failed) ⊎ Rose (O.faults out.old) (O.faults out.new) }
     {

@@ -1,12 +1,14 @@
 //! What the node tells is taken and printed until Last.
 
-ghost use Rattle.std.specs.Prelude.{◌≡◌, ◌≤◌, ℕ, List, Option, None, Some, IsSome, MatchOption, ◌⊎◌};
+ghost use Rattle.std.specs.Prelude.{◌≡◌, ◌≤◌, ℕ, List, [], true, Option, None, Some, IsSome, MatchOption, ◌⊎◌};
 ghost use Rattle.zre_outside.specs.Causes.{Rose};
 ghost use Rattle.zre_outside.specs.declared.sink.NextFault.TheVariants.{Failed};
 ghost use Rattle.zre_peer.specs.declared.event.Event.{Event as EventValue};
 ghost use Rattle.zre_actor.specs.Passes.{IsCallerOf, IsTakerOf, IsTold, taken_by, last_of};
 ghost use Rattle.zre_chat.specs.Pages.{Shows};
-ghost use Rattle.zre_chat.specs.Printing.{HasPrinted};
+ghost use Rattle.zre_actor.specs.declared.passes.TakerPass.{TakerPass as TakerPassValue};
+ghost use Rattle.zre_chat.specs.declared.asker.Asker.{Asker as AskerValue};
+ghost use Rattle.zre_chat.specs.Printing.{HasPrinted, Prints, IsLast};
 
 use crate::asker::{Asker, Wish};
 use crate::page::Page;
@@ -54,6 +56,45 @@ fn next_told<O: Sink, T: Wait + Copy>(
     (taker, Some(told))
 }
 
+// Takes what is next and prints it, if anything is. True behind Last, where all is written that can be.
+fn print_next<O: Sink, T: Wait + Copy>(
+    rt: T,
+    pipes: &Pipes,
+    taker: TakerPass,
+    asker: Asker,
+    page: &mut Page,
+    out: &mut O,
+) -> (TakerPass, Asker, bool)
+    requires pipes { IsTakerOf pipes.now taker × IsCallerOf pipes.now asker.pass }
+    requires open { last_of taker ≡ None }
+    ensures pipes { IsTakerOf pipes.now result.0 × IsCallerOf pipes.now result.1.pass }
+    ensures last { IsLast result.2 (last_of result.0) }
+    ensures written { result.2 ≡ true → page.new.fault ≡ None → page.new.text ≡ [] }
+    ensures prints { (first : AskerValue) (start : TakerPassValue) (w : Option (List ℕ)) → Prints first start w asker taker page.old (O.written out.old) →
+        Prints first start w result.1 result.0 page.new (O.written out.new) }
+    ensures later { O.faults out.old ≤ O.faults out.new }
+    ensures failed { page.new.fault ≡ Some Failed → (page.old.fault ≡ Some Failed) ⊎ Rose (O.faults out.old) (O.faults out.new) }
+{
+    let asker = asker.ask(rt, pipes, page.fault.is_some());
+    let (taker, found) = next_told(rt, pipes, taker, page, out, asker.wish);
+    match found {
+        None => {
+            yield_now();
+            (taker, asker, false)
+        }
+        Some(told) => match told {
+            Told::Event(event) => {
+                page.print(&event, out);
+                (taker, asker, false)
+            }
+            Told::Last(_) => {
+                page.write(out);
+                (taker, asker, true)
+            }
+        },
+    }
+}
+
 /// Prints the lines of all events up to Last. Where one can't be printed, it asks the node to stop, and goes on to take.
 pub(crate) fn print_all<O: Sink, T: Wait + Copy>(
     rt: T,
@@ -73,20 +114,15 @@ pub(crate) fn print_all<O: Sink, T: Wait + Copy>(
 {
     let mut page = Page::new(alloc);
     for _ in rt.forever() {
-        asker = asker.ask(rt, pipes, page.fault.is_some());
-        let (pass, found) = next_told(rt, pipes, taker, &mut page, out, asker.wish);
+        let (pass, caller, is_last) = print_next(rt, pipes, taker, asker, &mut page, out);
         taker = pass;
-        match found {
-            None => yield_now(),
-            Some(Told::Event(event)) => page.print(&event, out),
-            Some(Told::Last(_)) => {
-                page.write(out);
-                return Printed {
-                    taker,
-                    pass: asker.pass,
-                    fault: page.fault,
-                };
-            }
+        asker = caller;
+        if is_last {
+            return Printed {
+                taker,
+                pass: asker.pass,
+                fault: page.fault,
+            };
         }
     }
     unreachable!()

@@ -1,0 +1,1 @@
+use Rattle.zre_chat.proofs.table.Table.lay.Goals as goal
