@@ -1,9 +1,11 @@
 -- The first of several statuses.
 use Rattle.std.proofs.Common.{◌≡◌, ◌≢◌, ℕ, Bool, true, false, true≢false, cond, List, [], ◌∷◌, refl, sym, ap, ◌∙◌, subst}
 use Rattle.std.specs.Prelude.{nat_le}
+use Rattle.zre_outside.specs.declared.sink.NextFault.{NextFault}
+use Rattle.zre_outside.specs.declared.sink.NextFault.TheVariants as fault
 use Rattle.zre_pump.specs.declared.status.Status.{Status}
 use Rattle.zre_pump.specs.declared.status.Status.TheVariants.{Done, Usage, BadInput, ReadFault, WriteFault, WorldFault, NoThread, TooLong, OutOfMemory}
-use Rattle.zre_chat.specs.Statuses.{rank, least}
+use Rattle.zre_chat.specs.Statuses.{rank, least, of_fault}
 
 pub one_least : (s : Status) → s ≡ least (s ∷ [])
 one_least Done = refl
@@ -83,3 +85,21 @@ done_here s ss is = by (nat_le (rank s) (rank (least ss))) refl
 
 pub done_behind : (s : Status) (ss : List Status) → least (s ∷ ss) ≡ Done → least ss ≡ Done
 done_behind s ss is = sym (last_done (least ss)) ∙ ap (λ x. first_of x (least ss)) (sym (done_here s ss is)) ∙ is
+
+-- ---- what isn't Done
+
+pub thread_isnt : NoThread ≢ Done
+thread_isnt is = cc
+
+pub memory_isnt : OutOfMemory ≢ Done
+memory_isnt is = cc
+
+pub fault_isnt : (f : NextFault) (s : Status) → s ≢ Done → of_fault f s ≢ Done
+fault_isnt fault.Failed s isnt = isnt
+fault_isnt fault.OutOfMemory s isnt = memory_isnt
+
+pub write_isnt : WriteFault ≢ Done
+write_isnt is = cc
+
+pub world_isnt : WorldFault ≢ Done
+world_isnt is = cc

@@ -64,6 +64,10 @@ pub maps : (f h : Log → Log) (told : Option Log) → option_map f (option_map 
 maps f h None = refl
 maps f h (Some l) = refl
 
+-- a capture of no entries
+pub head_only : (kept u t : Option (List ℕ)) → Appends (option_map (λ _. []) kept) u capture.head → t ≡ u → Appends (option_map (λ _. []) kept) t (capture.head ++ capture.lines [])
+head_only kept u t is same = subst (λ (x : Option (List ℕ) × List ℕ). Appends (option_map (λ _. []) kept) x.0 x.1) (λ i. (sym same i, sym (append-nil capture.head) i)) is
+
 module _ (g : Config) (start : Start) (name : Option (List ℕ)) (limit : ℕ) where
   untold : (begun : Bool) (told : Option Log) → option_map (started begun start) told ≡ option_map (λ l. went [] 0 [] [] (started begun start l)) told
   untold begun None = refl

@@ -1,0 +1,1 @@
+use Rattle.zre_chat.proofs.chat.Chat.run.Goals as goal
