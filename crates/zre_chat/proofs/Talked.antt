@@ -53,6 +53,15 @@ use Rattle.zre_chat.proofs.Merged.{all_under}
 use Rattle.zre_chat.proofs.Rows.{memory_here, memory_behind, done_here, done_behind}
 use Rattle.zre_chat.proofs.Whole.{maps, read_orders, read_front, only, most}
 
+none_wished : (asker : CallerPass) (refused : Bool) → HasAsked asker (asker_of asker refused)
+none_wished asker true = puts-none asker
+none_wished asker false = puts-none asker
+
+-- the second caller absorbs nothing
+pub asker_ended : (asker : CallerPass) (refused : Bool) (taker taker' : TakerPass) (asker' : CallerPass) (broke : Option NextFault) (written written' : Option (List ℕ))
+    → HasPrinted (asker_of asker refused) taker taker' asker' broke written written' → ended asker' ≡ ended asker
+asker_ended asker refused taker taker' asker' broke written written' d = ap ended (sym d.is_last) ∙ (d.asked asker (none_wished asker refused)).same_ended
+
 module _ (g : Config) (start : Start) (name : Option (List ℕ)) (keep : Bool) (limit : ℕ) (s u t : Seen) (p : Prepared start name keep s u)
     (n : Node) (how : Ending) (looked looked' : Bool) (actor actor' : ActorPass)
     (w : IsWork g [] keep limit (scene u.told looked u.world_faults u.kept u.record_faults actor) (scene t.told looked' t.world_faults t.kept t.record_faults actor') n how)
@@ -122,12 +131,8 @@ module _ (g : Config) (start : Start) (name : Option (List ℕ)) (keep : Bool) (
   is_popped : popped_by actor' ≡ popped
   is_popped = w.goes.is_popped ∙ ap (λ l. l ++ popped) none_popped
 
-  none_asked : (b : Bool) → asked (asker_of asker b).wish ≡ []
-  none_asked true = refl
-  none_asked false = refl
-
   asks : Puts asker d.last.pass (asked d.last.wish)
-  asks = d.asked asker (subst (Puts asker asker) (sym (none_asked refused)) (puts-none asker))
+  asks = d.asked asker (none_wished asker refused)
 
   put_last : put_by asker' ≡ all_under (number asker) (ended asker) (asked d.last.wish)
   put_last = ap put_by (sym d.is_last) ∙ asks.put ∙ ap (λ l. l ++ all_under (number asker) (ended asker) (asked d.last.wish)) new_asker.1

@@ -53,7 +53,7 @@ use Rattle.zre_chat.specs.Asking.{asked, asker_of, HasAsked}
 use Rattle.zre_chat.specs.Chat.{Seen, IsChat, IsCaused, Holds, but_quits, started}
 use Rattle.zre_chat.specs.Printing.{HasPrinted}
 use Rattle.zre_chat.specs.Stages.{Prepared}
-use Rattle.zre_chat.specs.Statuses.{least, of_read, of_print, of_work, of_thread}
+use Rattle.zre_chat.specs.Statuses.{least, of_fault, of_read, of_print, of_work, of_thread}
 use Rattle.zre_chat.proofs.Fronts.{prefix_self, prefix_trans, but_quits-append, but_quits-prefix, map-prefix, quits_through, none_before, all_front, none_front}
 use Rattle.zre_chat.proofs.Merged.{all_under, its_own, no_others, commands_under, prefix_nil, TwoAlone, split, alone}
 use Rattle.zre_chat.proofs.Rows.{one_least, memory_here, memory_behind, done_here, done_behind}
@@ -108,6 +108,21 @@ module _ (g : Config) (start : Start) (name : Option (List ℕ)) (limit : ℕ) w
     done = λ d. absurd (not_done d);
     ended = λ d. absurd (not_done d);
   }
+
+-- ---- a refusal of the outside
+
+pub only_failed : (f : NextFault) (failed : Status) → of_fault f failed ≢ OutOfMemory → f ≡ fault.Failed
+only_failed fault.Failed failed isnt = refl
+only_failed fault.OutOfMemory failed isnt = absurd (isnt refl)
+
+pub fault_cause : (f : NextFault) (failed : Status) (limit octets turns : ℕ) (stopped : Bool) (s t : Seen) → (f ≡ fault.Failed → IsCaused failed limit octets turns stopped s t) → IsCaused (of_fault f failed) limit octets turns stopped s t
+fault_cause fault.Failed failed limit octets turns stopped s t cause = cause refl
+fault_cause fault.OutOfMemory failed limit octets turns stopped s t cause = tt
+
+-- a name that is there
+pub there : (name : Option (List ℕ)) → is_some name ≡ true → (file : List ℕ) × (name ≡ Some file)
+there None is = absurd (true≢false (sym is))
+there (Some file) is = (file, refl)
 
 -- ---- the commands
 

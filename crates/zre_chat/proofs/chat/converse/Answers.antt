@@ -15,7 +15,7 @@ use Rattle.zre_actor.proofs.Working.{rose_later}
 use Rattle.zre_pump.specs.declared.status.Status.TheVariants.{NoThread}
 use Rattle.zre_chat.specs.Chat.{IsChat, seen}
 use Rattle.zre_chat.proofs.Rows.{thread_isnt}
-use Rattle.zre_chat.proofs.Talked.{talked}
+use Rattle.zre_chat.proofs.Talked.{talked, asker_ended}
 use Rattle.zre_chat.proofs.Whole.{untalked, head_only}
 use Rattle.zre_chat.proofs.chat.converse.Goals as goal
 
@@ -52,3 +52,25 @@ returns-clause-chat g c = λ f start name s stands p. (
     told.ensures.failed (λ is. rose_later (g.P.Spawner.faults a.spawner.now) (g.P.Spawner.faults c.start.new.self) (g.P.Spawner.faults told.new.spawner) c.in-Ok.ensures.later (told.ensures.refused is))
     l.none_taken l.new_reader l.new_asker l.apart
     (λ n. subst (λ ps. IsPrefix (under n (popped_by out.pass)) (under n (puts_of ps))) given (c.finish.ensures.fronts n)) c.finish.ensures.taken.0))
+
+pub finish-requires-clause-pipes : goal.finish-requires-clause-pipes
+finish-requires-clause-pipes g c κs within =
+    let l = c.requires.laid in let told = c.hold_talk-read in let read = told.result.read in let printed = told.result.printed in
+    let now = c.deref-3.result.now in
+    let same = c.deref.ensures ∙ sym c.deref-3.ensures in
+    let of_actor = ap (λ j. arc_value j.pipes) c.in-Ok.ensures.started ∙ l.same_actor ∙ sym c.deref-3.ensures in
+    let given = c.give-2.ensures.given ∙ ap (λ ps. ps ++ printed.pass ∷ []) (c.give.ensures.given ∙ ap (λ ps. ps ++ read.pass ∷ []) l.none_given) in
+    let first : IsCallerOf now read.pass = subst (λ ps. IsCallerOf ps read.pass) (l.same_reader ∙ sym c.deref-3.ensures) told.ensures.pipes.2 in
+    let second : IsCallerOf now printed.pass = subst (λ ps. IsCallerOf ps printed.pass) same told.ensures.pipes.1 in (
+      subst (λ ps. IsActorOf ps c.join-worked.result.pass) of_actor c.join-worked.ensures.0,
+      subst (AreCallersOf now) (sym given) (All-push (IsCallerOf now) (read.pass ∷ []) printed.pass (All-push (IsCallerOf now) [] read.pass (λ k d h. absurd (omega arith)) first) second),
+      subst (λ ps. IsTakerOf ps printed.taker) same told.ensures.pipes.0,
+    )
+
+pub finish-requires-clause-back : goal.finish-requires-clause-back
+finish-requires-clause-back g c κs within =
+    let l = c.requires.laid in let told = c.hold_talk-read in let read = told.result.read in let printed = told.result.printed in let o = g.O.Sink in
+    let given = c.give-2.ensures.given ∙ ap (λ ps. ps ++ printed.pass ∷ []) (c.give.ensures.given ∙ ap (λ ps. ps ++ read.pass ∷ []) l.none_given) in
+    let many = ap how_many given ∙ two_alone read.pass printed.pass (told.ensures.read.puts.same_ended ∙ l.new_reader.0)
+    (asker_ended c.args.table.asker told.result.refused c.args.table.taker printed.taker printed.pass printed.fault (o.written c.args.out.now) (o.written told.new.out) told.ensures.printed ∙ l.new_asker.0) in
+    omega (arith, many, ap length (c.join-worked.ensures.1 ∙ ap (λ j. unused_by j.pass) c.in-Ok.ensures.started), l.unused)
