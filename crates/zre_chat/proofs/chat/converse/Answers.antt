@@ -54,7 +54,7 @@ returns-clause-chat g c = λ f start name s stands p. (
     (λ n. subst (λ ps. IsPrefix (under n (popped_by out.pass)) (under n (puts_of ps))) given (c.finish.ensures.fronts n)) c.finish.ensures.taken.0))
 
 pub finish-requires-clause-pipes : goal.finish-requires-clause-pipes
-finish-requires-clause-pipes g c κs within =
+finish-requires-clause-pipes g c =
     let l = c.requires.laid in let told = c.hold_talk-read in let read = told.result.read in let printed = told.result.printed in
     let now = c.deref-3.result.now in
     let same = c.deref.ensures ∙ sym c.deref-3.ensures in
@@ -68,7 +68,7 @@ finish-requires-clause-pipes g c κs within =
     )
 
 pub finish-requires-clause-back : goal.finish-requires-clause-back
-finish-requires-clause-back g c κs within =
+finish-requires-clause-back g c =
     let l = c.requires.laid in let told = c.hold_talk-read in let read = told.result.read in let printed = told.result.printed in let o = g.O.Sink in
     let given = c.give-2.ensures.given ∙ ap (λ ps. ps ++ printed.pass ∷ []) (c.give.ensures.given ∙ ap (λ ps. ps ++ read.pass ∷ []) l.none_given) in
     let many = ap how_many given ∙ two_alone read.pass printed.pass (told.ensures.read.puts.same_ended ∙ l.new_reader.0)
