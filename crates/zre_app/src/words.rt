@@ -9,10 +9,11 @@ use std::alloc::Global;
 use std::str;
 use zre_capture::number;
 use zre_journal::Config;
+use zre_outside::Start;
 use zre_values::{Frames, Octets, OutOfMemory, PeerId};
 
 /// What the words ask for.
-#[derive(Debug, Drop)]
+#[derive(Drop)]
 pub enum Command {
     /// Write the events of one connection of this peer.
     Follow {
@@ -30,9 +31,16 @@ pub enum Command {
         peers: u16,
         messages: u32,
     },
+    /// Be a node with these settings on the network, and keep a capture of what comes to it in this file.
+    Chat {
+        config: Config,
+        start: Start,
+        capture: Option<Octets>,
+    },
 }
 
-fn is_text(word: &[u8]) -> bool
+/// Whether they are UTF-8.
+pub(crate) fn is_text(word: &[u8]) -> bool
     ensures { result ≡ is_utf8 word.now }
 {
     match str::from_utf8(word) {

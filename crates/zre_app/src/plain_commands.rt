@@ -1,4 +1,4 @@
-//! The top call: the command that the words ask for, over a source and a sink.
+//! The commands that read a source and write to a sink, and have to do with nothing else.
 
 ghost use Rattle.std.specs.Prelude.{◌≡◌, ◌≤◌, ℕ, Some, None, true};
 ghost use Rattle.zre_values.specs.declared.peer_id.PeerId.{PeerId};
@@ -25,12 +25,12 @@ use zre_replay::Replayer;
 use zre_show::Lister;
 use zre_values::{Frames, Octets, OutOfMemory, PeerId};
 
-/// The most octets that `zre` reads.
+/// More octets than any input has.
 pub const LIMIT: u64 = (1 << 63) - 1;
 
 /// How a call ended, and the source that was handed in.
 #[derive(Debug, Drop)]
-pub struct Ended<I> {
+pub struct PlainEnded<I> {
     pub status: Status,
     pub input: I,
 }
@@ -120,13 +120,13 @@ fn exercise<O: Sink>(alloc: Global, seed: u64, peers: u16, messages: u32, out: &
 }
 
 /// Does what the words ask for, and reads at most `limit` octets. The source comes back as it was left.
-pub fn run<R: AllocGlobal + Copy, I: Source, O: Sink>(
-    rt: R,
+pub fn plain<I: Source, O: Sink>(
+    alloc: Global,
     words: &Frames,
     input: I,
     out: &mut O,
     limit: u64,
-) -> Ended<I>
+) -> PlainEnded<I>
     // Where the words are no command, nothing is read.
     ensures unread { command_of words.now ≡ None → result.input ≡ input }
     ensures usage { command_of words.now ≡ None →
@@ -152,29 +152,29 @@ pub fn run<R: AllocGlobal + Copy, I: Source, O: Sink>(
     ensures reads { I.faults input ≤ I.faults result.input }
     ensures writes { O.faults out.old ≤ O.faults out.new }
 {
-    match command_of(rt.alloc(), words) {
-        Err(OutOfMemory) => Ended {
+    match command_of(alloc, words) {
+        Err(OutOfMemory) => PlainEnded {
             status: Status::OutOfMemory,
             input,
         },
-        Ok(None) => Ended {
+        Ok(None) => PlainEnded {
             status: usage(out),
             input,
         },
         Ok(Some(Command::Follow { id })) => {
             let mut input = input;
-            let status = follow(rt.alloc(), id, &mut input, out, limit);
-            Ended { status, input }
+            let status = follow(alloc, id, &mut input, out, limit);
+            PlainEnded { status, input }
         }
         Ok(Some(Command::Show)) => {
             let mut input = input;
-            let status = show(rt.alloc(), &mut input, out, limit);
-            Ended { status, input }
+            let status = show(alloc, &mut input, out, limit);
+            PlainEnded { status, input }
         }
         Ok(Some(Command::Replay { config })) => {
             let mut input = input;
-            let status = replay(rt.alloc(), config, &mut input, out, limit);
-            Ended { status, input }
+            let status = replay(alloc, config, &mut input, out, limit);
+            PlainEnded { status, input }
         }
         Ok(
             Some(
@@ -184,41 +184,10 @@ pub fn run<R: AllocGlobal + Copy, I: Source, O: Sink>(
                     messages,
                 },
             ),
-        ) => Ended {
-            status: exercise(rt.alloc(), seed, peers, messages, out),
+        ) => PlainEnded {
+            status: exercise(alloc, seed, peers, messages, out),
             input,
         },
+        Ok(Some(Command::Chat { .. })) => unreachable!(),
     }
-}
-
-/// Does what the words ask for. It is `run` with a limit that no input reaches.
-pub fn zre<R: AllocGlobal + Copy, I: Source, O: Sink>(
-    rt: R,
-    words: &Frames,
-    input: I,
-    out: &mut O,
-) -> Ended<I>
-    ensures unread { command_of words.now ≡ None → result.input ≡ input }
-    ensures usage { command_of words.now ≡ None →
-        UsageOutcome result.status (O.written out.old) (O.written out.new) (Rose (O.faults out.old) (O.faults out.new)) }
-    ensures follow { (id : PeerId) → command_of words.now ≡ Some (commands.Follow id) →
-        Pumped result.status LIMIT (follow id)
-        (I.left input) (I.left result.input) (I.taken input) (I.taken result.input) (O.written out.old) (O.written out.new)
-        (Rose (I.faults input) (I.faults result.input)) (Rose (O.faults out.old) (O.faults out.new)) }
-    ensures show { command_of words.now ≡ Some commands.Show →
-        Pumped result.status LIMIT show
-        (I.left input) (I.left result.input) (I.taken input) (I.taken result.input) (O.written out.old) (O.written out.new)
-        (Rose (I.faults input) (I.faults result.input)) (Rose (O.faults out.old) (O.faults out.new)) }
-    ensures replay { (g : ConfigValue) → command_of words.now ≡ Some (commands.Replay g) →
-        Pumped result.status LIMIT (replay g)
-        (I.left input) (I.left result.input) (I.taken input) (I.taken result.input) (O.written out.old) (O.written out.new)
-        (Rose (I.faults input) (I.faults result.input)) (Rose (O.faults out.old) (O.faults out.new)) }
-    // The exercise reads nothing, and its summary is written.
-    ensures exercise { (seed peers messages : ℕ) → command_of words.now ≡ Some (commands.Exercise seed peers messages) →
-        WritesText result.status (exercise_text seed peers messages) (O.written out.old) (O.written out.new) (Rose (O.faults out.old) (O.faults out.new)) }
-    ensures untouched { (seed peers messages : ℕ) → command_of words.now ≡ Some (commands.Exercise seed peers messages) → result.input ≡ input }
-    ensures reads { I.faults input ≤ I.faults result.input }
-    ensures writes { O.faults out.old ≤ O.faults out.new }
-{
-    run(rt, words, input, out, LIMIT)
 }

@@ -1,5 +1,8 @@
+use Rattle.std.proofs.Common.{ap, ◌∙◌, sym}
+use Rattle.zre_app.specs.Words.{is_plain}
+use Rattle.zre_app.proofs.PlainCommands.{command_is_plain}
 use Rattle.zre_app.proofs.Unread.{nothing_taken, nothing_written}
-use Rattle.zre_app.proofs.top.run.Goals as goal
+use Rattle.zre_app.proofs.plain_commands.plain.Goals as goal
 
 pub returns-in-Err-clause-usage : goal.returns-in-Err-clause-usage
 returns-in-Err-clause-usage g c = λ e. nothing_written _
@@ -12,3 +15,6 @@ returns-in-Err-clause-show g c = λ e. nothing_taken _ _ _ _ _ _ _
 
 pub returns-in-Err-clause-replay : goal.returns-in-Err-clause-replay
 returns-in-Err-clause-replay g c = λ config e. nothing_taken _ _ _ _ _ _ _
+
+pub prove-unreachable-requires : goal.prove-unreachable-requires
+prove-unreachable-requires g c = ?
