@@ -17,4 +17,4 @@ pub returns-in-Err-clause-replay : goal.returns-in-Err-clause-replay
 returns-in-Err-clause-replay g c = λ config e. nothing_taken _ _ _ _ _ _ _
 
 pub prove-unreachable-requires : goal.prove-unreachable-requires
-prove-unreachable-requires g c = ?
+prove-unreachable-requires g c = let e = ap is_plain c.command_of.ensures.value ∙ command_is_plain c.args.words.now in ?
