@@ -1,4 +1,4 @@
-use Rattle.std.proofs.Common.{ap, ◌∙◌, sym}
+use Rattle.std.proofs.Common.{◌≡◌, true, false, Some, sym, ap, ◌∙◌}
 use Rattle.zre_app.specs.Words.{is_plain}
 use Rattle.zre_app.proofs.PlainCommands.{command_is_plain}
 use Rattle.zre_app.proofs.Unread.{nothing_taken, nothing_written}
@@ -16,5 +16,10 @@ returns-in-Err-clause-show g c = λ e. nothing_taken _ _ _ _ _ _ _
 pub returns-in-Err-clause-replay : goal.returns-in-Err-clause-replay
 returns-in-Err-clause-replay g c = λ config e. nothing_taken _ _ _ _ _ _ _
 
-pub prove-unreachable-requires : goal.prove-unreachable-requires
-prove-unreachable-requires g c = let e = ap is_plain c.command_of.ensures.value ∙ command_is_plain c.args.words.now in ?
+apart : false ≡ true → ⊥
+apart e = cc
+
+pub unreachable-requires : goal.unreachable-requires
+unreachable-requires g c =
+    let chat = c.in-Ok-Some-Chat in
+    apart (ap (λ command. is_plain (Some command)) (sym chat.field-0-0-is) ∙ ap is_plain (sym chat.field-0-is ∙ chat.ensures.value) ∙ command_is_plain c.args.words.now)
