@@ -169,10 +169,11 @@ fn other_words_are_not_those_of_chat(rt: HostRuntime) -> Result<(), Fail> {
 
 #[test]
 fn addresses_stand_in_their_order(rt: HostRuntime) -> Result<(), Fail> {
-    match start_of(chat_with(&rt, NODE, TO)?) {
-        Some((start, _)) => assert_eq!(rt; start.to.as_slice(), ADDRESSES.as_slice()),
-        None => assert!(rt; false, "they are words of chat"),
-    }
+    let Some((start, _capture)) = start_of(chat_with(&rt, NODE, TO)?) else {
+        assert!(rt; false, "they are words of chat");
+        return Ok(());
+    };
+    assert_eq!(rt; start.to.as_slice(), ADDRESSES.as_slice());
     Ok(())
 }
 
@@ -188,10 +189,11 @@ fn with_addresses<R: AllocGlobal>(rt: &R, count: usize) -> Result<Frames, OutOfM
 #[test]
 fn there_are_at_most_64_addresses(rt: HostRuntime) -> Result<(), Fail> {
     let most = with_addresses(&rt, 64)?;
-    match start_of(chat_of(rt.alloc(), most.as_slice())?) {
-        Some((start, _)) => assert_eq!(rt; start.to.len(), 64),
-        None => assert!(rt; false, "they are words of chat"),
-    }
+    let Some((start, _capture)) = start_of(chat_of(rt.alloc(), most.as_slice())?) else {
+        assert!(rt; false, "they are words of chat");
+        return Ok(());
+    };
+    assert_eq!(rt; start.to.len(), 64);
     let more = with_addresses(&rt, 65)?;
     assert!(rt; chat_of(rt.alloc(), more.as_slice())?.is_none());
     Ok(())
