@@ -82,9 +82,15 @@ is_plain (Some (Replay g)) = true
 is_plain (Some (Exercise seed peers messages)) = true
 is_plain (Some (Chat g s capture)) = false
 
+-- the name of the command is `chat`
+abbrev pub is_chat : List (List ℕ) → Bool
+is_chat [] = false
+is_chat (name ∷ words) = bytes_eq name (codes "chat")
+
 -- the command that the words are; none where they are in no list of words, or one isn't text
 abbrev pub command_of : List (List ℕ) → Option Command
 command_of [] = None
 command_of (name ∷ words) =
     if not (list_all is_utf8 (name ∷ words)) then None
+    else if bytes_eq name (codes "chat") then chat_of words
     else plain_of name words

@@ -1,6 +1,6 @@
 //! The commands that read a source and write to a sink, and have to do with nothing else.
 
-ghost use Rattle.std.specs.Prelude.{◌≡◌, ◌≤◌, ℕ, Some, None, true};
+ghost use Rattle.std.specs.Prelude.{◌≡◌, ◌≤◌, ℕ, Some, None, true, false};
 ghost use Rattle.zre_values.specs.declared.peer_id.PeerId.{PeerId};
 ghost use Rattle.zre_outside.specs.Causes.{Rose};
 ghost use Rattle.zre_pump.specs.Outcome.{Pumped};
@@ -12,7 +12,7 @@ ghost use Rattle.zre_show.specs.Show.{show};
 ghost use Rattle.zre_app.specs.declared.words.Command.TheVariants as commands;
 ghost use Rattle.zre_exercise.specs.Exercise.{text as exercise_text};
 ghost use Rattle.zre_app.specs.Usage.{UsageOutcome, WritesText};
-ghost use Rattle.zre_app.specs.Words.{command_of};
+ghost use Rattle.zre_app.specs.Words.{command_of, is_chat};
 
 use crate::words::{Command, command_of};
 use std::alloc::Global;
@@ -25,9 +25,6 @@ use zre_replay::Replayer;
 use zre_show::Lister;
 use zre_values::{Frames, Octets, OutOfMemory, PeerId};
 
-/// More octets than any input has.
-pub const LIMIT: u64 = (1 << 63) - 1;
-
 /// How a call ended, and the source that was handed in.
 #[derive(Debug, Drop)]
 pub struct PlainEnded<I> {
@@ -35,7 +32,7 @@ pub struct PlainEnded<I> {
     pub input: I,
 }
 
-fn usage<O: Sink>(out: &mut O) -> Status
+pub(crate) fn usage<O: Sink>(out: &mut O) -> Status
     ensures written { UsageOutcome result (O.written out.old) (O.written out.new) (Rose (O.faults out.old) (O.faults out.new)) }
     ensures writes { O.faults out.old ≤ O.faults out.new }
 {
@@ -119,7 +116,8 @@ fn exercise<O: Sink>(alloc: Global, seed: u64, peers: u16, messages: u32, out: &
     }
 }
 
-/// Does what the words ask for, and reads at most `limit` octets. The source comes back as it was left.
+/// Does what the words of a command other than `chat` ask for, and reads at most `limit` octets. The source comes back
+/// as it was left.
 pub fn plain<I: Source, O: Sink>(
     alloc: Global,
     words: &Frames,
@@ -127,6 +125,7 @@ pub fn plain<I: Source, O: Sink>(
     out: &mut O,
     limit: u64,
 ) -> PlainEnded<I>
+    requires { is_chat words.now ≡ false }
     // Where the words are no command, nothing is read.
     ensures unread { command_of words.now ≡ None → result.input ≡ input }
     ensures usage { command_of words.now ≡ None →

@@ -1,6 +1,6 @@
 //! Worked examples of the commands, each over a source that gives an octet a read and over one that gives all it has.
 
-use crate::{Status, plain};
+use crate::{Status, is_chat, plain};
 use std::process::Abort;
 use std::test::Fail;
 use zre_outside::{Failed, MemSink, MemSource, Source};
@@ -119,6 +119,7 @@ pub fn expect<R: AllocGlobal + Abort + Copy>(
 ) -> Result<(), Fail> {
     let (input, zeros, limit, status, text) = row;
     let words = words_of(&rt, words)?;
+    assert!(rt; !is_chat(&words), "it is another command");
     let text = joined(&rt, text, 0)?;
     for most in [1, usize::MAX] {
         let mut out = MemSink::new(rt.alloc(), Vec::new(rt.alloc()));
@@ -400,6 +401,7 @@ fn words_outside_the_list_are_usage(rt: HostRuntime) -> Result<(), Fail> {
 #[test]
 fn faults_of_the_source_and_the_sink_are_told(rt: HostRuntime) -> Result<(), Fail> {
     let words = words_of(&rt, FOLLOW)?;
+    assert!(rt; !is_chat(&words), "it is another command");
     let none: &[u8] = b"";
     let rows: [(&[u64], &[u64], Status, &[u8]); 4] = [
         (&[1], &[], Status::ReadFault, none),

@@ -1,8 +1,9 @@
 ghost use Rattle.std.specs.Prelude.{◌≡◌, ◌≤◌, map, IfOk, IfSome};
 ghost use Rattle.std.specs.List.{list_all};
 ghost use Rattle.std.specs.Str.{is_utf8};
-ghost use Rattle.zre_app.specs.Words.{command_of, exercise_in, exercise_keys, exercise_of, follow_of, number_in, show_of, replay_of, IsReady};
+ghost use Rattle.zre_app.specs.Words.{command_of, is_chat, exercise_in, exercise_keys, exercise_of, follow_of, number_in, show_of, replay_of, IsReady};
 
+use crate::chat_words::chat_of;
 use crate::keys::{Key, Often, are_words_of, identity, value_of};
 use crate::node_words::{config_in, node_keys};
 use std::alloc::Global;
@@ -165,6 +166,16 @@ fn exercise_of(words: &[Octets]) -> Option<Command>
     exercise_in(words)
 }
 
+/// Whether the name of the command is `chat`.
+pub fn is_chat(words: &Frames) -> bool
+    ensures { result ≡ is_chat words.now }
+{
+    match words.as_slice().split_first() {
+        Some((name, _)) => name.as_slice() == b"chat".as_slice(),
+        None => false,
+    }
+}
+
 /// The command that the words are: those behind the program's name, each as its octets. None where they are in no
 /// command's list, or where one isn't UTF-8.
 pub fn command_of(alloc: Global, words: &Frames) -> Result<Option<Command>, OutOfMemory>
@@ -177,6 +188,9 @@ pub fn command_of(alloc: Global, words: &Frames) -> Result<Option<Command>, OutO
     };
     if !are_texts(words) {
         return Ok(None);
+    }
+    if name.as_slice() == b"chat".as_slice() {
+        return chat_of(alloc, others);
     }
     if name.as_slice() == b"follow".as_slice() {
         return Ok(follow_of(others));

@@ -22,4 +22,4 @@ apart e = cc
 pub unreachable-requires : goal.unreachable-requires
 unreachable-requires g c =
     let chat = c.in-Ok-Some-Chat in
-    apart (ap (λ command. is_plain (Some command)) (sym chat.field-0-0-is) ∙ ap is_plain (sym chat.field-0-is ∙ chat.ensures.value) ∙ command_is_plain c.args.words.now)
+    apart (ap (λ command. is_plain (Some command)) (sym chat.field-0-0-is) ∙ ap is_plain (sym chat.field-0-is ∙ chat.ensures.value) ∙ command_is_plain c.args.words.now c.requires)
