@@ -1,3 +1,5 @@
+use Rattle.std.proofs.Common.{◌≡◌, None, Some, true, refl, sym, ◌∙◌, ap}
+use Rattle.zre_app.proofs.PlainCommands.{command_is_chat}
 use Rattle.zre_app.proofs.Unread.{nothing_taken, nothing_written}
 use Rattle.zre_app.proofs.top.run.Goals as goal
 
