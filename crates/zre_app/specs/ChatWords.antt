@@ -64,7 +64,7 @@ abbrev pub capture_in : List (List ℕ) → Option (Option (List ℕ))
 capture_in words = capture_of (value_of (codes "capture=") words)
 
 -- a node can be with the settings and goes on the network where they say, and the file of the capture has a name
-pub record IsChat (g : Config) (s : Start) (capture : Option (List ℕ)) : Type 0 where
+pub record CanChat (g : Config) (s : Start) (capture : Option (List ℕ)) : Type 0 where
   pub valid : is_valid g ≡ true
   pub host : s.host ≡ g.host
   pub port : s.port ≡ g.port

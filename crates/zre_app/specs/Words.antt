@@ -6,7 +6,7 @@ use Rattle.zre_capture.specs.Values.{number_of}
 use Rattle.zre_journal.specs.Config.{is_valid}
 use Rattle.zre_app.specs.Keys.{are_words_of, value_of, identity}
 use Rattle.zre_app.specs.NodeWords.{node_keys, between, config_in}
-use Rattle.zre_app.specs.ChatWords.{chat_keys, start_in, capture_in, IsChat}
+use Rattle.zre_app.specs.ChatWords.{chat_keys, start_in, capture_in, CanChat}
 use Rattle.zre_app.specs.declared.keys.Often.{Often}
 use Rattle.zre_app.specs.declared.keys.Often.TheVariants.{Once}
 use Rattle.zre_app.specs.declared.words.Command.{Command}
@@ -62,7 +62,7 @@ IsReady (Some (Follow id)) = Unit {0}
 IsReady (Some Show) = Unit {0}
 IsReady (Some (Replay g)) = is_valid g ≡ true
 IsReady (Some (Exercise seed peers messages)) = (1 ≤ peers) × (peers ≤ 256) × (messages ≤ 1000000)
-IsReady (Some (Chat g s capture)) = IsChat g s capture
+IsReady (Some (Chat g s capture)) = CanChat g s capture
 
 -- those but `chat`, by the name of the command
 abbrev pub plain_of : List ℕ → List (List ℕ) → Option Command

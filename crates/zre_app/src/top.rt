@@ -1,9 +1,11 @@
 //! The top call: the command that the words ask for, over a source and a sink, and for `chat` a world, a recorder and a
 //! spawner.
 
-ghost use Rattle.std.specs.Prelude.{◌≡◌, ◌≤◌, ℕ, Some, None, true};
+ghost use Rattle.std.specs.Prelude.{◌≡◌, ◌≤◌, ℕ, List, Option, Some, None, true};
 ghost use Rattle.zre_values.specs.declared.peer_id.PeerId.{PeerId};
 ghost use Rattle.zre_outside.specs.Causes.{Rose};
+ghost use Rattle.zre_outside.specs.declared.start.Start.{Start as StartValue};
+ghost use Rattle.zre_chat.specs.Chat.{IsChat, seen};
 ghost use Rattle.zre_pump.specs.Outcome.{Pumped};
 ghost use Rattle.zre_follow.specs.Follow.{follow};
 ghost use Rattle.zre_journal.specs.declared.config.Config.{Config as ConfigValue};
@@ -18,6 +20,8 @@ use crate::chat::chat;
 use crate::plain_commands::{PlainEnded, plain, usage};
 use crate::words::{Command, command_of, is_chat};
 use std::alloc::Global;
+use std::sync::Wait;
+use std::thread::Threads;
 use zre_outside::{Recorder, Sink, Source, Spawner, World};
 use zre_pump::Status;
 use zre_values::{Frames, OutOfMemory};
@@ -36,7 +40,7 @@ pub struct Ended<I, W, R> {
 
 /// Does what the words ask for, and reads at most `limit` octets. What is handed in comes back as it was left.
 pub fn run<
-    T: Copy,
+    T: Wait + Threads + Copy,
     I: Source + Send + Drop + 'static,
     W: World + Send + Drop + 'static,
     O: Sink,
@@ -75,6 +79,13 @@ pub fn run<
     ensures exercise { (seed peers messages : ℕ) → command_of words.now ≡ Some (commands.Exercise seed peers messages) →
         WritesText result.status (exercise_text seed peers messages) (O.written out.old) (O.written out.new) (Rose (O.faults out.old) (O.faults out.new)) }
     ensures untouched { (seed peers messages : ℕ) → command_of words.now ≡ Some (commands.Exercise seed peers messages) → result.input ≡ input }
+    // A chat tells of the whole of what it was handed.
+    ensures chat { (g : ConfigValue) (start : StartValue) (name : Option (List ℕ)) → command_of words.now ≡ Some (commands.Chat g start name) →
+        IsChat g start name limit
+        (seen (I.left input) (I.taken input) (I.faults input) (W.told world) (W.faults world) (O.written out.old) (O.faults out.old) (R.kept rec) (R.named rec) (R.faults rec) (P.faults spawner.old))
+        (seen (I.left result.input) (I.taken result.input) (I.faults result.input) (W.told result.world) (W.faults result.world) (O.written out.new) (O.faults out.new) (R.kept result.rec) (R.named result.rec) (R.faults result.rec) (P.faults spawner.new))
+        result.status }
+    ensures unkept { (g : ConfigValue) (start : StartValue) → command_of words.now ≡ Some (commands.Chat g start None) → result.rec ≡ rec }
     ensures reads { I.faults input ≤ I.faults result.input }
     ensures writes { O.faults out.old ≤ O.faults out.new }
     // What isn't `chat` has to do with the source and the sink alone.
@@ -126,7 +137,7 @@ pub fn run<
 
 /// Does what the words ask for. It is `run` with a limit that no input reaches.
 pub fn zre<
-    T: Copy,
+    T: Wait + Threads + Copy,
     I: Source + Send + Drop + 'static,
     W: World + Send + Drop + 'static,
     O: Sink,
@@ -164,6 +175,13 @@ pub fn zre<
     ensures exercise { (seed peers messages : ℕ) → command_of words.now ≡ Some (commands.Exercise seed peers messages) →
         WritesText result.status (exercise_text seed peers messages) (O.written out.old) (O.written out.new) (Rose (O.faults out.old) (O.faults out.new)) }
     ensures untouched { (seed peers messages : ℕ) → command_of words.now ≡ Some (commands.Exercise seed peers messages) → result.input ≡ input }
+    // A chat tells of the whole of what it was handed.
+    ensures chat { (g : ConfigValue) (start : StartValue) (name : Option (List ℕ)) → command_of words.now ≡ Some (commands.Chat g start name) →
+        IsChat g start name LIMIT
+        (seen (I.left input) (I.taken input) (I.faults input) (W.told world) (W.faults world) (O.written out.old) (O.faults out.old) (R.kept rec) (R.named rec) (R.faults rec) (P.faults spawner.old))
+        (seen (I.left result.input) (I.taken result.input) (I.faults result.input) (W.told result.world) (W.faults result.world) (O.written out.new) (O.faults out.new) (R.kept result.rec) (R.named result.rec) (R.faults result.rec) (P.faults spawner.new))
+        result.status }
+    ensures unkept { (g : ConfigValue) (start : StartValue) → command_of words.now ≡ Some (commands.Chat g start None) → result.rec ≡ rec }
     ensures reads { I.faults input ≤ I.faults result.input }
     ensures writes { O.faults out.old ≤ O.faults out.new }
     // What isn't `chat` has to do with the source and the sink alone.
