@@ -1,5 +1,5 @@
 -- The commands but `chat`.
-use Rattle.std.proofs.Common.{◌≡◌, ℕ, Bool, true, false, List, [], ◌∷◌, Option, Some, None, refl}
+use Rattle.std.proofs.Common.{◌≡◌, ℕ, Bool, true, false, List, [], ◌∷◌, Option, Some, None, refl, sym, ap, ◌∙◌}
 use Rattle.std.specs.Prelude.{not, codes, option_and_then, option_map, if◌then◌else◌}
 use Rattle.std.specs.List.{list_all}
 use Rattle.std.specs.Str.{bytes_eq, is_utf8}
@@ -87,3 +87,11 @@ pub command_is_chat : (words : List (List ℕ)) → is_chat words ≡ true → i
 command_is_chat [] e h = absurd cc
 command_is_chat (name ∷ words) e h =
     unless (not (list_all is_utf8 (name ∷ words))) _ (chosen (bytes_eq name (codes "chat")) (chat_of words) (plain_of name words) e (chat_chat words)) h
+
+-- so the words of a chat are no other command
+pub chat_apart : (words : List (List ℕ)) (o : Option Command) (c : Command) → is_chat words ≡ true → o ≡ command_of words → o ≡ Some c → is_plain (Some c) ≡ true → ⊥
+chat_apart words o c e value is h = (let none : Some c ≡ None = sym is ∙ value ∙ command_is_chat words e (ap is_plain (sym value ∙ is) ∙ h) in cc)
+
+-- and other words are no chat
+pub plain_apart : (words : List (List ℕ)) (g : Config) (s : Start) (capture : Option (List ℕ)) → is_chat words ≡ false → command_of words ≡ Some (Chat g s capture) → ⊥
+plain_apart words g s capture e is = (let x : false ≡ true = sym (ap is_plain is) ∙ command_is_plain words e in cc)

@@ -16,6 +16,8 @@ pub use words::{Command, command_of, is_chat};
 pub use zre_pump::Status;
 
 #[cfg(test)]
+mod chat_run_tests;
+#[cfg(test)]
 mod chat_tests;
 #[cfg(test)]
 mod exercise_tests;
