@@ -62,8 +62,7 @@ const SCRIPT: &[u8] = b"zre-capture 1\n\
 0 piece 1 0009aaa104020002016701\n\
 0 piece 2 0009aaa104020002016701\n";
 
-const LINES: &[u8] =
-    b"join g\nshout g hi\nwhisper 44444444444444444444444444444444 x\nquit\n";
+const LINES: &[u8] = b"join g\nshout g hi\nwhisper 44444444444444444444444444444444 x\nquit\n";
 
 const QUIT: &[u8] = b"quit\n";
 
@@ -203,7 +202,10 @@ fn each_fault_of_a_chat_has_its_status(rt: HostRuntime) -> Result<(), Fail> {
             ..NONE
         },
     )?;
-    assert_eq!(rt; (begin.status, begin.written.len()), (Status::WriteFault, 0));
+    assert_eq!(rt;
+        (begin.status, begin.written.len()),
+        (Status::WriteFault, 0)
+    );
     Ok(())
 }
 
