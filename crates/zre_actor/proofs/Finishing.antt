@@ -81,6 +81,9 @@ module _ (v : View) (ps : List CallerPass) (items : List Command) (nothing : v.p
   all_put : (n : ℕ) → under n (v.popped ++ known.queued) ≡ under n (puts_of ps)
   all_put n = ap (λ l. under n (l ++ known.queued)) (sym (gathered_popped v ps)) ∙ known.all_put n ∙ ap (under n) (gathered_put v ps ∙ ap (λ l. l ++ puts_of ps) nothing)
 
+  pub fronts : (n : ℕ) → IsPrefix (under n v.popped) (under n (puts_of ps))
+  fronts n = (under n known.queued, sym (under-append n v.popped known.queued) ∙ all_put n)
+
   pub each_prefix : (k : ℕ) (d : CallerPass) → k < length ps → (n : ℕ) → 1 ≤ times n (live_of (get_or ps k d)) → IsPrefix (under n v.popped) (under n (put_by (get_or ps k d)))
   each_prefix k d less n here = (
     under n known.queued,

@@ -1,7 +1,7 @@
 -- The work so far, and what each turn adds.
 use Rattle.std.proofs.Common.{◌≡◌, ◌≢◌, ℕ, zero, suc, ◌+◌, ◌-◌, ◌^◌, ◌≤◌, ◌<◌, ◌==◌, ◌&&◌, min, Bool, true, false, true≢false, cond, nat_lt, List, [], ◌∷◌, ◌++◌, map, length, Option, Some, None, refl, sym, ap, ◌∙◌, subst, arith, append_assoc, append-nil, length-append, eq-eqb, ne_eqb, ⊎_elim}
 use mathlib.Core.Logic.{inl, inr}
-use Rattle.std.specs.Prelude.{◌⊎◌, option_map, option_to_list, IsTrue}
+use Rattle.std.specs.Prelude.{◌⊎◌, ⊤, option_map, option_to_list, IsTrue}
 use Rattle.std.specs.Io.KnownBytes.{Appends}
 use Rattle.std.proofs.KnownBytes.{Appends-nil, Appends-trans}
 use Rattle.std.proofs.lemmas.List.{map-append}
@@ -10,7 +10,9 @@ use Rattle.std.proofs.lemmas.Bool.Decides.{nat_tests}
 use Rattle.zre_outside.specs.declared.act.Act.{Act}
 use Rattle.zre_outside.specs.declared.deed.Deed.{Deed}
 use Rattle.zre_outside.specs.declared.entry.Entry.{Entry}
+use Rattle.zre_outside.specs.declared.entry.Input.TheVariants as input
 use Rattle.zre_outside.specs.declared.entry.Command.{Command}
+use Rattle.zre_outside.specs.declared.entry.Command.TheVariants as ask
 use Rattle.zre_outside.specs.declared.turn.Turn.TheVariants as turn
 use Rattle.zre_outside.specs.declared.sink.NextFault.{NextFault}
 use Rattle.zre_outside.specs.declared.sink.NextFault.TheVariants as fault
@@ -18,8 +20,12 @@ use Rattle.zre_outside.specs.Causes.{Rose, raised}
 use Rattle.zre_outside.specs.Worlds.{Log, IsTurn, after_turn}
 use Rattle.zre_peer.specs.declared.event.Event.{Event}
 use Rattle.zre_journal.specs.declared.config.Config.{Config}
+use Rattle.zre_journal.specs.Chronicle.{Comes, after}
 use Rattle.zre_journal.specs.Events.{chronicle, events}
-use Rattle.zre_journal.specs.Happens.{has_stopped}
+use Rattle.zre_journal.specs.Happens.{has_stopped, at_input, with_entry}
+use Rattle.zre_journal.specs.Laws.{Continues}
+use Rattle.zre_journal.proofs.Joined.{continues}
+use Rattle.zre_journal.proofs.Stopping.{stopped, stop-is}
 use Rattle.zre_node.specs.declared.node.Node.{Node}
 use Rattle.zre_node.specs.Journal.{StandsFor, is_spent}
 use Rattle.zre_capture.specs.Lines.{line, lines}
@@ -29,7 +35,7 @@ use Rattle.zre_actor.specs.declared.views.Placed.{Placed}
 use Rattle.zre_actor.specs.declared.passes.ActorPass.{ActorPass}
 use Rattle.zre_actor.specs.Commands.{command_of}
 use Rattle.zre_actor.specs.Passes.{IsPopped}
-use Rattle.zre_actor.specs.Work.{Scene, scene, went, AreDeeds, acts_of, late, Goes, world_ending, Ends, KeptLines, IsWork, Went, IsRefusal, IsUnput, IsUnstepped, IsUndone, Broke}
+use Rattle.zre_actor.specs.Work.{Scene, scene, went, AreDeeds, acts_of, late, Goes, world_ending, Ends, KeptLines, QuitsLast, IsWork, Went, IsRefusal, IsUnput, IsUnstepped, IsUndone, Broke}
 use Rattle.zre_actor.proofs.Deeds.{went-none, after_look, after_entry, AreDeeds-append, acts_of-snoc}
 
 not_late : (turns limit : ℕ) (looked : Bool) → turns ≢ limit → late turns limit looked ≡ 0
@@ -74,6 +80,34 @@ pub pops : (a b : ActorPass) (found : Option Command) (told told' : Option Log) 
 pops a b None told told' looked looked' wf wf' kept rf room p = (p.0, omega (arith, p.1))
 pops a b (Some c) told told' looked looked' wf wf' kept rf room p = p
 
+-- none of these commands is a Quit
+abbrev pub NoQuit : List Command → Type 0
+NoQuit [] = ⊤
+NoQuit (c ∷ cs) = (c ≢ ask.Quit) × NoQuit cs
+
+-- so one more may be
+quits_snoc : (cs : List Command) (c : Command) → NoQuit cs → QuitsLast (cs ++ c ∷ [])
+quits_snoc [] c none = (λ _. refl, tt)
+quits_snoc (d ∷ cs) c none = (λ is. absurd (none.0 is), quits_snoc cs c none.1)
+
+no_quit_more : (cs ds : List Command) → NoQuit cs → NoQuit ds → NoQuit (cs ++ ds)
+no_quit_more [] ds a b = b
+no_quit_more (c ∷ cs) ds a b = (a.0, no_quit_more cs ds a.1 b)
+
+-- the entry to do a Quit stops the node
+quit_stops : (g : Config) (J : List Entry) (e : Entry) → e.input ≡ input.Do ask.Quit → has_stopped (chronicle g J) ≡ false → has_stopped (chronicle g (J ++ e ∷ [])) ≡ true
+quit_stops g J e is going =
+    let H = chronicle g J in let M = Comes e ∷ H in
+    let c : Continues g J (e ∷ []) = continues g J (e ∷ []) in
+    let stops : with_entry g e H ≡ stopped g M =
+    ap (λ b. after (cond b [] (at_input g e.input H M)) M) going ∙ ap (λ i. after (at_input g i H M) M) is ∙ stop-is g M in
+    ap has_stopped (c.happened ∙ stops)
+
+-- so a command that is handed to a node that goes on behind it is none Quit
+no_quit : (g : Config) (J : List Entry) (e : Entry) (command : Option Command) → IsTurn command (turn.Entry e) → has_stopped (chronicle g J) ≡ false → has_stopped (chronicle g (J ++ e ∷ [])) ≡ false → NoQuit (option_to_list command)
+no_quit g J e None is going on = tt
+no_quit g J e (Some c) is going on = (λ q. true≢false (sym (quit_stops g J e (is ∙ ap input.Do q) going) ∙ on), tt)
+
 module _ (g : Config) (K : List Entry) (keep : Bool) (limit : ℕ) (s : Scene) where
   -- after so many turns: the node took all that was given, its acts are done, its events raised and its lines kept
   pub record Running (turns : ℕ) (t : Scene) (n : Node) (command : Option Command) : Type 0 where
@@ -87,8 +121,24 @@ module _ (g : Config) (K : List Entry) (keep : Bool) (limit : ℕ) (s : Scene) w
     pub are_raised : t.raised ≡ s.raised ++ told
     pub are_kept : keep ≡ true → Appends s.kept t.kept (lines entries)
     pub busy : (c : Command) → command ≡ Some c → has_stopped (chronicle g (K ++ entries)) ≡ false
+    -- no Quit was handed to a node that goes on, and nothing was popped behind one
+    pub unquit : has_stopped (chronicle g (K ++ entries)) ≡ false → NoQuit goes.handed
+    pub quits_last : QuitsLast (map command_of goes.popped)
     pub world_later : s.world_faults ≤ t.world_faults
     pub record_later : s.record_faults ≤ t.record_faults
+
+  -- the same with lists that are the same
+  abbrev going_same : (es es' : List Entry) (ds ds' : List Deed) (turns : ℕ) (t : Scene) (pending : List Command) → Goes turns limit s t es ds pending → es ≡ es' → ds ≡ ds' → Goes turns limit s t es' ds' pending
+  going_same es es' ds ds' turns t pending h e d = record {
+    looks = h.looks;
+    handed = h.handed;
+    is_told = h.is_told ∙ ap (λ (x : List Entry × List Deed). option_map (went x.0 h.looks h.handed x.1) s.told) (λ i. (e i, d i));
+    counted = ap (λ l. length l + h.looks) (sym e) ∙ h.counted;
+    popped = h.popped;
+    is_popped = h.is_popped;
+    are_handed = h.are_handed;
+    are_looks = h.are_looks;
+  }
 
   pub running_start : (n : Node) → StandsFor g K n → Running 0 s n None
   running_start n here = record {
@@ -111,6 +161,8 @@ module _ (g : Config) (K : List Entry) (keep : Bool) (limit : ℕ) (s : Scene) w
     are_raised = sym (append-nil s.raised);
     are_kept = λ _. Appends-nil s.kept;
     busy = λ c is. absurd (cc);
+    unquit = λ _. tt;
+    quits_last = tt;
     world_later = omega arith;
     record_later = omega arith;
   }
@@ -125,7 +177,7 @@ module _ (g : Config) (K : List Entry) (keep : Bool) (limit : ℕ) (s : Scene) w
     no_command None is = refl
     no_command (Some c) is = absurd is
 
-    looks_again : (u : Scene) (found : Option Command) → u.told ≡ option_map (after_turn command turn.Look) t.told → Pops t found u → late turns limit t.looked ≡ 0 → late (turns + 1) limit u.looked ≡ 0
+    abbrev looks_again : (u : Scene) (found : Option Command) → u.told ≡ option_map (after_turn command turn.Look) t.told → Pops t found u → late turns limit t.looked ≡ 0 → late (turns + 1) limit u.looked ≡ 0
         → map command_of k.goes.popped ≡ k.goes.handed ++ [] → Goes (turns + 1) limit s u k.entries k.deeds (option_to_list found)
     looks_again u None new popped now later hands = let h = k.goes in record {
       looks = h.looks + 1;
@@ -157,16 +209,29 @@ module _ (g : Config) (K : List Entry) (keep : Bool) (limit : ℕ) (s : Scene) w
       pub world_later : t.world_faults ≤ u.world_faults
       pub record_same : u.record_faults ≡ t.record_faults
 
+    -- what is popped behind a look stands behind commands that are no Quit
+    look_quits : (u : Scene) (found : Option Command) (told : u.told ≡ option_map (after_turn command turn.Look) t.told) (popped : Pops t found u) (now : late turns limit t.looked ≡ 0) (later : late (turns + 1) limit u.looked ≡ 0)
+        (hands : map command_of k.goes.popped ≡ k.goes.handed ++ []) → NoQuit k.goes.handed → QuitsLast (map command_of (looks_again u found told popped now later hands).popped)
+    look_quits u None told popped now later hands none = k.quits_last
+    look_quits u (Some c) told popped now later hands none = let h = k.goes in let e = popped.0.0 in
+        subst QuitsLast (sym (map-append command_of h.popped (e ∷ []) ∙ ap (λ l. l ++ e.command ∷ []) (hands ∙ append-nil h.handed))) (quits_snoc h.handed e.command none)
+
+    look_handed : (u : Scene) (found : Option Command) (told : u.told ≡ option_map (after_turn command turn.Look) t.told) (popped : Pops t found u) (now : late turns limit t.looked ≡ 0) (later : late (turns + 1) limit u.looked ≡ 0)
+        (hands : map command_of k.goes.popped ≡ k.goes.handed ++ []) → (looks_again u found told popped now later hands).handed ≡ k.goes.handed
+    look_handed u None told popped now later hands = refl
+    look_handed u (Some c) told popped now later hands = refl
+
     -- a look, and then a pop
     pub looked_again : (u : Scene) (found : Option Command) → Looks u → Pops t found u → turns + 1 < limit → IsTurn command turn.Look → has_stopped (chronicle g (K ++ k.entries)) ≡ false → Running (turns + 1) u n found
     looked_again u found w popped more is going =
         let h = k.goes in
         let now : late turns limit t.looked ≡ 0 = not_late turns limit t.looked (λ e. omega arith) in
         let later : late (turns + 1) limit u.looked ≡ 0 = not_late (turns + 1) limit u.looked (λ e. omega arith) in
+        let hands : map command_of h.popped ≡ h.handed ++ [] = h.are_handed ∙ ap (λ l. h.handed ++ l) (no_command command is) in
         record {
           entries = k.entries;
           deeds = k.deeds;
-          goes = looks_again u found w.told popped now later (h.are_handed ∙ ap (λ l. h.handed ++ l) (no_command command is));
+          goes = looks_again u found w.told popped now later hands;
           node = k.node;
           are_deeds = k.are_deeds;
           told = k.told;
@@ -174,6 +239,8 @@ module _ (g : Config) (K : List Entry) (keep : Bool) (limit : ℕ) (s : Scene) w
           are_raised = w.raised ∙ k.are_raised;
           are_kept = λ i. subst (λ x. Appends s.kept x (lines k.entries)) (sym w.kept) (k.are_kept i);
           busy = λ c is. going;
+          unquit = λ on. subst NoQuit (sym (look_handed u found w.told popped now later hands)) (k.unquit going);
+          quits_last = look_quits u found w.told popped now later hands (k.unquit going);
           world_later = omega (arith, k.world_later, w.world_later);
           record_later = omega (arith, k.record_later, w.record_same);
         }
@@ -204,6 +271,8 @@ module _ (g : Config) (K : List Entry) (keep : Bool) (limit : ℕ) (s : Scene) w
           are_raised = w.raised ∙ k.are_raised;
           are_kept = λ i. subst (λ x. Appends s.kept x (lines k.entries)) (sym w.kept) (k.are_kept i);
           busy = λ c is. absurd (cc);
+          unquit = k.unquit;
+          quits_last = k.quits_last;
           world_later = omega (arith, k.world_later, w.world_later);
           record_later = omega (arith, k.record_later, w.record_same);
         }
@@ -217,7 +286,7 @@ module _ (g : Config) (K : List Entry) (keep : Bool) (limit : ℕ) (s : Scene) w
       pub world_later : t.world_faults ≤ u.world_faults
       pub record_later : t.record_faults ≤ u.record_faults
 
-    given_goes : (e : Entry) (told : Option Log) (u : Scene) (more : List Deed) → Gives e told u → turns < limit → u.told ≡ option_map (went [] 0 [] more) told → Goes (turns + 1) limit s u (k.entries ++ e ∷ []) (k.deeds ++ more) []
+    abbrev given_goes : (e : Entry) (told : Option Log) (u : Scene) (more : List Deed) → Gives e told u → turns < limit → u.told ≡ option_map (went [] 0 [] more) told → Goes (turns + 1) limit s u (k.entries ++ e ∷ []) (k.deeds ++ more) []
     given_goes e told u more w less done =
         let h = k.goes in
         let now : late turns limit t.looked ≡ 0 = not_late turns limit t.looked (λ e. omega arith) in
@@ -237,9 +306,9 @@ module _ (g : Config) (K : List Entry) (keep : Bool) (limit : ℕ) (s : Scene) w
     along e = append_assoc K k.entries (e ∷ [])
 
     -- an entry was given, put, stepped and done, and its events were raised
-    pub went_on : (e : Entry) (told : Option Log) (u : Scene) (n' : Node) (es : List Event) → Gives e told u → turns < limit → Went g (K ++ k.entries) e keep told u.told t.kept u.kept n' es → u.raised ≡ t.raised ++ es
+    pub went_on : (e : Entry) (told : Option Log) (u : Scene) (n' : Node) (es : List Event) → Gives e told u → turns < limit → IsTurn command (turn.Entry e) → has_stopped (chronicle g (K ++ k.entries)) ≡ false → Went g (K ++ k.entries) e keep told u.told t.kept u.kept n' es → u.raised ≡ t.raised ++ es
         → Running (turns + 1) u n' None
-    went_on e told u n' es w less x raised = record {
+    went_on e told u n' es w less is going x raised = record {
       entries = k.entries ++ e ∷ [];
       deeds = k.deeds ++ x.deeds;
       goes = given_goes e told u x.deeds w less x.is_told;
@@ -250,6 +319,9 @@ module _ (g : Config) (K : List Entry) (keep : Bool) (limit : ℕ) (s : Scene) w
       are_raised = raised ∙ ap (λ l. l ++ es) k.are_raised ∙ append_assoc s.raised k.told es;
       are_kept = λ i. kept_more s.kept t.kept u.kept k.entries e (k.are_kept i) (x.is_kept i);
       busy = λ c is. absurd (cc);
+      unquit = λ on. no_quit_more k.goes.handed (option_to_list command) (k.unquit going)
+          (no_quit g (K ++ k.entries) e command is going (subst (λ J. has_stopped (chronicle g J) ≡ false) (sym (along e)) on));
+      quits_last = k.quits_last;
       world_later = omega (arith, k.world_later, w.world_later);
       record_later = omega (arith, k.record_later, w.record_later);
     }
@@ -268,7 +340,8 @@ module _ (g : Config) (K : List Entry) (keep : Bool) (limit : ℕ) (s : Scene) w
       unstepped = [];
       pending = option_to_list command;
       deeds = k.deeds;
-      goes = subst (λ l. Goes turns limit s t l k.deeds (option_to_list command)) (sym (append-nil k.entries)) k.goes;
+      goes = going_same k.entries (k.entries ++ []) k.deeds k.deeds turns t (option_to_list command) k.goes (sym (append-nil k.entries)) refl;
+      quits_last = k.quits_last;
       node = inl k.node;
       did = acts_of g K k.entries;
       undone = [];
@@ -308,7 +381,7 @@ module _ (g : Config) (K : List Entry) (keep : Bool) (limit : ℕ) (s : Scene) w
       pub record_same : u.record_faults ≡ t.record_faults
 
     -- the scene went on, and nothing of it but counts of faults, and what is kept
-    pub same_goes : (u : Scene) (more : List Entry) → u.told ≡ t.told → u.looked ≡ t.looked → u.popped ≡ t.popped → u.empties ≡ t.empties → Goes turns limit s u k.entries k.deeds (option_to_list command)
+    abbrev pub same_goes : (u : Scene) (more : List Entry) → u.told ≡ t.told → u.looked ≡ t.looked → u.popped ≡ t.popped → u.empties ≡ t.empties → Goes turns limit s u k.entries k.deeds (option_to_list command)
     same_goes u more told looked popped empties = let h = k.goes in let same : late turns limit u.looked ≡ late turns limit t.looked = ap (late turns limit) looked in record {
       looks = h.looks;
       handed = h.handed;
@@ -332,6 +405,8 @@ module _ (g : Config) (K : List Entry) (keep : Bool) (limit : ℕ) (s : Scene) w
       are_raised = w.raised ∙ k.are_raised;
       are_kept = λ i. subst (λ x. Appends s.kept x (lines k.entries)) (sym w.kept) (k.are_kept i);
       busy = k.busy;
+      unquit = k.unquit;
+      quits_last = k.quits_last;
       world_later = omega (arith, k.world_later, w.world_later);
       record_later = omega (arith, k.record_later, w.record_same);
     }
@@ -350,7 +425,8 @@ module _ (g : Config) (K : List Entry) (keep : Bool) (limit : ℕ) (s : Scene) w
       unstepped = e ∷ [];
       pending = [];
       deeds = k.deeds;
-      goes = subst (λ d. Goes (turns + 1) limit s u (k.entries ++ e ∷ []) d []) (append-nil k.deeds) (given_goes e told u [] w less (same ∙ went-none told));
+      goes = going_same (k.entries ++ e ∷ []) (k.entries ++ e ∷ []) (k.deeds ++ []) k.deeds (turns + 1) u [] (given_goes e told u [] w less (same ∙ went-none told)) refl (append-nil k.deeds);
+      quits_last = k.quits_last;
       node = node;
       did = acts_of g K k.entries;
       undone = [];
@@ -388,7 +464,8 @@ module _ (g : Config) (K : List Entry) (keep : Bool) (limit : ℕ) (s : Scene) w
       unstepped = [];
       pending = [];
       deeds = k.deeds ++ x.deeds;
-      goes = subst (λ l. Goes (turns + 1) limit s u l (k.deeds ++ x.deeds) []) (sym (append-nil (k.entries ++ e ∷ []))) (given_goes e told u x.deeds w less x.is_told);
+      goes = going_same (k.entries ++ e ∷ []) ((k.entries ++ e ∷ []) ++ []) (k.deeds ++ x.deeds) (k.deeds ++ x.deeds) (turns + 1) u [] (given_goes e told u x.deeds w less x.is_told) (sym (append-nil (k.entries ++ e ∷ []))) refl;
+      quits_last = k.quits_last;
       node = inl (subst (λ J. StandsFor g J n') (along e) x.stands);
       did = acts_of g K k.entries ++ x.did;
       undone = x.undone;

@@ -7,6 +7,7 @@ use Rattle.zre_outside.specs.declared.deed.Deed.{Deed}
 use Rattle.zre_outside.specs.declared.deed.Deed.TheVariants as deed
 use Rattle.zre_outside.specs.declared.entry.Entry.{Entry}
 use Rattle.zre_outside.specs.declared.entry.Command.{Command}
+use Rattle.zre_outside.specs.declared.entry.Command.TheVariants as ask
 use Rattle.zre_outside.specs.declared.sink.NextFault.{NextFault}
 use Rattle.zre_outside.specs.declared.sink.NextFault.TheVariants as fault
 use Rattle.zre_outside.specs.Causes.{Rose}
@@ -111,6 +112,11 @@ pub record KeptLines (before now : Option (List ℕ)) (entries unstepped : List 
   pub is_kept : Appends before now (lines entries ++ part)
   pub is_part : lines unstepped ≡ part ++ rest
 
+-- a Quit stands at the end of commands, and nowhere else
+abbrev pub QuitsLast : List Command → Type 0
+QuitsLast [] = Unit {0}
+QuitsLast (c ∷ cs) = (c ≡ ask.Quit → cs ≡ []) × QuitsLast cs
+
 -- the work of a node that stood for K
 pub record IsWork (g : Config) (K : List Entry) (keep : Bool) (limit : ℕ) (s t : Scene) (n : Node) (ended : Ending) : Type 0 where
   pub turns : ℕ
@@ -120,6 +126,8 @@ pub record IsWork (g : Config) (K : List Entry) (keep : Bool) (limit : ℕ) (s t
   pub pending : List Command
   pub deeds : List Deed
   pub goes : Goes turns limit s t (entries ++ unstepped) deeds pending
+  -- nothing was popped behind a Quit
+  pub quits_last : QuitsLast (map command_of goes.popped)
   -- the node stands for what it took, unless it found no memory for its last step
   pub node : StandsFor g (K ++ entries) n ⊎ (IsTrue (is_spent n) × (ended ≡ ending.OutOfMemory) × (length unstepped ≡ 1))
   -- the acts of these steps were done in order, all of them unless memory ran out

@@ -1,7 +1,7 @@
 //! One entry on its way: to the recorder, through the node, and what it asks for to the world.
 
 ghost use Rattle.std.specs.Prelude.{◌≡◌, ◌≤◌, ◌++◌, [], List, true, OnOk, IfOk, IfErr, false, option_map};
-ghost use Rattle.std.specs.Io.KnownBytes.{Appends};
+ghost use Rattle.std.specs.Io.KnownBytes.{Keeps, Appends};
 ghost use Rattle.zre_outside.specs.declared.deed.Deed.{Deed as DeedValue};
 ghost use Rattle.zre_outside.specs.declared.act.Act.{Act as ActValue};
 ghost use Rattle.zre_outside.specs.declared.entry.Entry.{Entry as EntryValue};
@@ -39,6 +39,7 @@ pub(crate) fn take_entry<W: World, R: Recorder>(
     ensures world { (W.looked world.new ≡ W.looked world.old) × (W.faults world.new ≡ W.faults world.old) }
     ensures unkept { keep ≡ false → rec.new ≡ rec.old }
     ensures begun { R.begun rec.new ≡ R.begun rec.old }
+    ensures named { Keeps (R.named rec.old) (R.named rec.new) }
     ensures later { R.faults rec.old ≤ R.faults rec.new }
 {
     if let Err(ending) = keep_line(alloc, rec, keep, &entry) {
@@ -66,6 +67,7 @@ fn keep_line<R: Recorder>(
     ensures broke { IfErr result (λ x. (keep ≡ true) × AppendsFront (R.kept rec.old) (R.kept rec.new) (line entry.now) × IsRefusal (R.faults rec.old) (R.faults rec.new) x) }
     ensures unkept { keep ≡ false → rec.new ≡ rec.old }
     ensures begun { R.begun rec.new ≡ R.begun rec.old }
+    ensures named { Keeps (R.named rec.old) (R.named rec.new) }
     ensures later { R.faults rec.old ≤ R.faults rec.new }
 {
     if keep {
@@ -82,6 +84,7 @@ fn put_line<R: Recorder>(alloc: Global, rec: &mut R, entry: &Entry) -> Result<()
     ensures front { AppendsFront (R.kept rec.old) (R.kept rec.new) (line entry.now) }
     ensures ending { IfErr result (λ x. IsRefusal (R.faults rec.old) (R.faults rec.new) x) }
     ensures begun { R.begun rec.new ≡ R.begun rec.old }
+    ensures named { Keeps (R.named rec.old) (R.named rec.new) }
     ensures later { R.faults rec.old ≤ R.faults rec.new }
 {
     let Ok(line) = write_entry(alloc, entry) else {

@@ -30,6 +30,7 @@ impl<W: World + Send + Drop + 'static, R: Recorder + Send + Drop + 'static> Task
     for ActorJob<W, R> {
     ghost use Rattle.std.specs.Prelude.{◌≡◌, List, false, Some};
     ghost use Rattle.std.specs.Arc.{arc_value};
+    ghost use Rattle.std.specs.Io.KnownBytes.{Keeps};
     ghost use Rattle.zre_outside.specs.declared.entry.Entry.{Entry};
     ghost use Rattle.zre_journal.specs.declared.config.Config.{Config};
     ghost use Rattle.zre_node.specs.Journal.{StandsFor};
@@ -42,6 +43,7 @@ impl<W: World + Send + Drop + 'static, R: Recorder + Send + Drop + 'static> Task
         × (ending_of out.pass ≡ Some out.ending)
         × (job.keep ≡ false → out.rec ≡ job.rec)
         × (R.begun out.rec ≡ R.begun job.rec)
+        × Keeps (R.named job.rec) (R.named out.rec)
         × ((g : Config) (K : List Entry) → StandsFor g K job.node → IsWork g K job.keep job.limit
         (scene (W.told job.world) (W.looked job.world) (W.faults job.world) (R.kept job.rec) (R.faults job.rec) job.pass)
         (scene (W.told out.world) (W.looked out.world) (W.faults out.world) (R.kept out.rec) (R.faults out.rec) out.pass)

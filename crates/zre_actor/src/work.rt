@@ -1,6 +1,7 @@
 //! The actor's work: turn after turn, until it ends.
 
 ghost use Rattle.std.specs.Prelude.{◌≡◌, ◌≤◌, ◌<◌, ◌+◌, ◌++◌, ◌^◌, [], List, true, false, None, Some, cond};
+ghost use Rattle.std.specs.Io.KnownBytes.{Keeps};
 ghost use Rattle.zre_outside.specs.declared.entry.Entry.{Entry as EntryValue};
 ghost use Rattle.zre_journal.specs.declared.config.Config.{Config};
 ghost use Rattle.zre_journal.specs.Events.{chronicle};
@@ -50,6 +51,7 @@ impl Pipes {
         ensures ending { ending_of result.pass ≡ Some result.ending }
         ensures unkept { keep ≡ false → result.rec ≡ rec }
         ensures begun { R.begun result.rec ≡ R.begun rec }
+        ensures named { Keeps (R.named rec) (R.named result.rec) }
         ensures work { (g : Config) (K : List EntryValue) → StandsFor g K node → IsWork g K keep limit
             (scene (W.told world) (W.looked world) (W.faults world) (R.kept rec) (R.faults rec) pass)
             (scene (W.told result.world) (W.looked result.world) (W.faults result.world) (R.kept result.rec) (R.faults result.rec) result.pass)

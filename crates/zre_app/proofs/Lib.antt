@@ -1,2 +1,3 @@
 pub mod KeyPairs
+pub mod PlainCommands
 pub mod Unread

@@ -1,5 +1,5 @@
 -- The words that set up a node.
-use Rattle.std.specs.Prelude.{ℕ, ◌+◌, ◌==◌, List, [], ◌∷◌, ◌++◌, Option, Some, None, nat_lt, take, drop, position, unwrap_or, option_and_then, option_map, codes, if◌then◌else◌}
+use Rattle.std.specs.Prelude.{ℕ, ◌+◌, ◌==◌, ◌&&◌, List, [], ◌∷◌, ◌++◌, Option, Some, None, nat_le, nat_lt, take, drop, position, unwrap_or, option_and_then, option_map, codes, if◌then◌else◌}
 use Rattle.zre_values.specs.Text.{id_text}
 use Rattle.zre_values.specs.declared.peer_id.PeerId.{PeerId}
 use Rattle.zre_capture.specs.Values.{number_of, address_of}
@@ -20,6 +20,10 @@ node_keys =
 abbrev pub number_or : ℕ → Option (List ℕ) → Option ℕ
 number_or default None = Some default
 number_or default (Some text) = number_of text
+
+-- a number between these two
+abbrev pub between : ℕ → ℕ → ℕ → Option ℕ
+between low high n = if nat_le low n && nat_le n high then Some n else None
 
 -- a number of 16 bits
 abbrev pub port_of : List ℕ → Option ℕ

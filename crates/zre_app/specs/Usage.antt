@@ -3,7 +3,7 @@ use Rattle.std.specs.Prelude.{ℕ, List, codes, Option}
 use Rattle.std.specs.Io.KnownBytes.{Appends}
 use Rattle.zre_outside.specs.Told.{AppendsFront}
 use Rattle.zre_pump.specs.declared.status.Status.{Status}
-use Rattle.zre_pump.specs.declared.status.Status.TheVariants.{Done, Usage, BadInput, ReadFault, WriteFault, TooLong, OutOfMemory}
+use Rattle.zre_pump.specs.declared.status.Status.TheVariants.{Done, Usage, BadInput, ReadFault, WriteFault, WorldFault, NoThread, TooLong, OutOfMemory}
 
 abbrev pub usage_line : List ℕ
 usage_line = codes "USAGE\n"
@@ -16,6 +16,8 @@ UsageOutcome OutOfMemory written written' write = AppendsFront written written' 
 UsageOutcome Done written written' write = ⊥
 UsageOutcome BadInput written written' write = ⊥
 UsageOutcome ReadFault written written' write = ⊥
+UsageOutcome WorldFault written written' write = ⊥
+UsageOutcome NoThread written written' write = ⊥
 UsageOutcome TooLong written written' write = ⊥
 
 -- a text was written, or the sink failed or memory ran out and a front of it was
@@ -26,4 +28,6 @@ WritesText OutOfMemory text written written' write = AppendsFront written writte
 WritesText Usage text written written' write = ⊥
 WritesText BadInput text written written' write = ⊥
 WritesText ReadFault text written written' write = ⊥
+WritesText WorldFault text written written' write = ⊥
+WritesText NoThread text written written' write = ⊥
 WritesText TooLong text written written' write = ⊥

@@ -1,16 +1,24 @@
 //! The program behind `main`: the words of its command line, and the top call that does what they ask for over a
-//! source and a sink.
+//! source and a sink, and for `chat` over a world, a recorder and a spawner.
 #![tactic(auto)]
 
+mod chat;
+mod chat_words;
 mod keys;
 mod node_words;
+mod plain_commands;
 mod top;
 mod words;
 
+pub use plain_commands::{PlainEnded, plain};
 pub use top::{Ended, LIMIT, run, zre};
-pub use words::{Command, command_of};
+pub use words::{Command, command_of, is_chat};
 pub use zre_pump::Status;
 
+#[cfg(test)]
+mod chat_run_tests;
+#[cfg(test)]
+mod chat_tests;
 #[cfg(test)]
 mod exercise_tests;
 #[cfg(test)]

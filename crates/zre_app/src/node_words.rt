@@ -57,8 +57,8 @@ pub(crate) fn node_keys() -> [Key<'static>; 7]
     ]
 }
 
-// The number of a key that may be left out.
-fn number_or(default: u64, key: &[u8], words: &[Octets]) -> Option<u64>
+/// The number of a key that may be left out.
+pub(crate) fn number_or(default: u64, key: &[u8], words: &[Octets]) -> Option<u64>
     ensures { result ≡ number_or default (value_of_key key.now words.now) }
 {
     match value_of(key, words) {

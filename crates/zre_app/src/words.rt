@@ -1,18 +1,20 @@
 ghost use Rattle.std.specs.Prelude.{◌≡◌, ◌≤◌, map, IfOk, IfSome};
 ghost use Rattle.std.specs.List.{list_all};
 ghost use Rattle.std.specs.Str.{is_utf8};
-ghost use Rattle.zre_app.specs.Words.{command_of, exercise_in, exercise_keys, exercise_of, follow_of, number_in, show_of, replay_of, IsReady};
+ghost use Rattle.zre_app.specs.Words.{command_of, is_chat, exercise_in, exercise_keys, exercise_of, follow_of, number_in, show_of, replay_of, IsReady};
 
+use crate::chat_words::chat_of;
 use crate::keys::{Key, Often, are_words_of, identity, value_of};
 use crate::node_words::{config_in, node_keys};
 use std::alloc::Global;
 use std::str;
 use zre_capture::number;
 use zre_journal::Config;
+use zre_outside::Start;
 use zre_values::{Frames, Octets, OutOfMemory, PeerId};
 
 /// What the words ask for.
-#[derive(Debug, Drop)]
+#[derive(Drop)]
 pub enum Command {
     /// Write the events of one connection of this peer.
     Follow {
@@ -30,9 +32,16 @@ pub enum Command {
         peers: u16,
         messages: u32,
     },
+    /// Be a node with these settings on the network, and keep a capture of what comes to it in this file.
+    Chat {
+        config: Config,
+        start: Start,
+        capture: Option<Octets>,
+    },
 }
 
-fn is_text(word: &[u8]) -> bool
+/// Whether they are UTF-8.
+pub(crate) fn is_text(word: &[u8]) -> bool
     ensures { result ≡ is_utf8 word.now }
 {
     match str::from_utf8(word) {
@@ -157,6 +166,16 @@ fn exercise_of(words: &[Octets]) -> Option<Command>
     exercise_in(words)
 }
 
+/// Whether the name of the command is `chat`.
+pub fn is_chat(words: &Frames) -> bool
+    ensures { result ≡ is_chat words.now }
+{
+    match words.as_slice().split_first() {
+        Some((name, _)) => name.as_slice() == b"chat".as_slice(),
+        None => false,
+    }
+}
+
 /// The command that the words are: those behind the program's name, each as its octets. None where they are in no
 /// command's list, or where one isn't UTF-8.
 pub fn command_of(alloc: Global, words: &Frames) -> Result<Option<Command>, OutOfMemory>
@@ -169,6 +188,9 @@ pub fn command_of(alloc: Global, words: &Frames) -> Result<Option<Command>, OutO
     };
     if !are_texts(words) {
         return Ok(None);
+    }
+    if name.as_slice() == b"chat".as_slice() {
+        return chat_of(alloc, others);
     }
     if name.as_slice() == b"follow".as_slice() {
         return Ok(follow_of(others));

@@ -95,4 +95,6 @@ finished statuses.WriteFault limit m o left w w' w'' read write write' rises p e
 finished statuses.OutOfMemory limit m o left w w' w'' read write write' rises p ends f = front_behind w w' w'' (m.text o) (m.ending o) p f
 finished statuses.Usage limit m o left w w' w'' read write write' rises p ends f = absurd f
 finished statuses.ReadFault limit m o left w w' w'' read write write' rises p ends f = absurd f
+finished statuses.WorldFault limit m o left w w' w'' read write write' rises p ends f = absurd f
+finished statuses.NoThread limit m o left w w' w'' read write write' rises p ends f = absurd f
 finished statuses.TooLong limit m o left w w' w'' read write write' rises p ends f = absurd f

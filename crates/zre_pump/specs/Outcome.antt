@@ -4,7 +4,7 @@ use Rattle.std.specs.Io.KnownBytes.{Appends, IsAtEnd}
 use Rattle.zre_outside.specs.Told.{Moves, AppendsFront}
 use Rattle.zre_pump.specs.Meaning.{Meaning, whole_text}
 use Rattle.zre_pump.specs.declared.status.Status.{Status}
-use Rattle.zre_pump.specs.declared.status.Status.TheVariants.{Done, Usage, BadInput, ReadFault, WriteFault, TooLong, OutOfMemory}
+use Rattle.zre_pump.specs.declared.status.Status.TheVariants.{Done, Usage, BadInput, ReadFault, WriteFault, WorldFault, NoThread, TooLong, OutOfMemory}
 
 -- the octets o were taken, and then: read and write say that the counts of faults of the source and the sink rose
 abbrev pub Outcome : Status → (limit : ℕ) (m : Meaning) (o : List ℕ) (left written written' : Option (List ℕ)) (read write : Type 0) → Type 0
@@ -25,6 +25,8 @@ Outcome TooLong limit m o left written written' read write =
 -- a front of the text was written
 Outcome OutOfMemory limit m o left written written' read write = AppendsFront written written' (whole_text m o)
 Outcome Usage limit m o left written written' read write = ⊥
+Outcome WorldFault limit m o left written written' read write = ⊥
+Outcome NoThread limit m o left written written' read write = ⊥
 
 -- some octets were taken from the source, and the status says how it ended
 pub record Pumped (status : Status) (limit : ℕ) (m : Meaning) (left left' taken taken' written written' : Option (List ℕ)) (read write : Type 0) : Type 0 where

@@ -6,7 +6,7 @@ use Rattle.zre_pump.specs.Meaning.{Meaning}
 use Rattle.zre_pump.specs.declared.pumping.Next.{Next}
 use Rattle.zre_pump.specs.declared.pumping.Next.TheVariants as nexts
 use Rattle.zre_pump.specs.declared.status.Status.{Status}
-use Rattle.zre_pump.specs.declared.status.Status.TheVariants.{Done, Usage, BadInput, ReadFault, WriteFault, TooLong, OutOfMemory}
+use Rattle.zre_pump.specs.declared.status.Status.TheVariants.{Done, Usage, BadInput, ReadFault, WriteFault, WorldFault, NoThread, TooLong, OutOfMemory}
 
 -- the text of a piece behind o was written
 pub record WritesText (m : Meaning) (o piece : List ℕ) (written written' : Option (List ℕ)) : Type 0 where
@@ -37,4 +37,6 @@ Finishes WriteFault m o written written' write = write × AppendsFront written w
 Finishes OutOfMemory m o written written' write = AppendsFront written written' (m.ending o)
 Finishes Usage m o written written' write = ⊥
 Finishes ReadFault m o written written' write = ⊥
+Finishes WorldFault m o written written' write = ⊥
+Finishes NoThread m o written written' write = ⊥
 Finishes TooLong m o written written' write = ⊥

@@ -14,6 +14,10 @@ pub enum Status {
     ReadFault,
     /// The sink failed.
     WriteFault,
+    /// The world or the recorder failed.
+    WorldFault,
+    /// A thread was refused.
+    NoThread,
     /// As many octets as the limit were taken, and a further read was due.
     TooLong,
     /// No memory was left.
@@ -31,6 +35,8 @@ impl Status {
             Status::BadInput => 3,
             Status::ReadFault => 4,
             Status::WriteFault => 5,
+            Status::WorldFault => 6,
+            Status::NoThread => 7,
             Status::TooLong => 8,
             Status::OutOfMemory => 9,
         }

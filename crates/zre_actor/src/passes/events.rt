@@ -1,9 +1,9 @@
 //! Events are pushed and taken.
-ghost use Rattle.std.specs.Prelude.{◌≡◌, true, None};
+ghost use Rattle.std.specs.Prelude.{◌≡◌, true, None, MatchOption};
 ghost use Rattle.crossbeam_channel.specs.Claims.{view, IsSeatAt};
 ghost use Rattle.crossbeam_channel.specs.Ends.{sends_on};
 ghost use Rattle.zre_actor.specs.Events.{sent};
-ghost use Rattle.zre_actor.specs.Passes.{IsTakerOf, last_of, IsTold};
+ghost use Rattle.zre_actor.specs.Passes.{IsTakerOf, taken_by, last_of, IsTold};
 
 use super::{Pipes, TakerPass};
 use crate::Told;
@@ -25,6 +25,22 @@ impl Pipes {
             }
         }
         unreachable!()
+    }
+
+    /// The next event, or Last, or nothing where the pipe was empty at one moment of the call. So a caller can do what it
+    /// put off, such as to write, before it waits in [`Pipes::take`].
+    pub fn try_take<R: Wait + Copy>(&self, rt: R, pass: TakerPass) -> (TakerPass, Option<Told>)
+        requires pipes { IsTakerOf self.now pass }
+        requires open { last_of pass ≡ None }
+        ensures pipes { IsTakerOf self.now result.0 }
+        ensures told { MatchOption result.1 ((taken_by result.0 ≡ taken_by pass) × (last_of result.0 ≡ last_of pass)) (λ told. IsTold pass told result.0) }
+    {
+        let TakerPass { mut events } = pass;
+        let told = self
+            .events_out
+            .try_recv_as::<Hears, R>(&rt, &mut events)
+            .ok();
+        (TakerPass { events }, told)
     }
 
     // Pushes an event, or Last. It waits while the pipe is full.

@@ -28,6 +28,7 @@ impl Pipes {
         requires back { AllBack actor (given_of callers) }
         requires last { IsSome (last_of taker) }
         ensures put { All (λ p. (n : ℕ) → 1 ≤ times n (live_of p) → IsPrefix (under n (popped_by actor)) (under n (put_by p))) (given_of callers) }
+        ensures fronts { (n : ℕ) → IsPrefix (under n (popped_by actor)) (under n (puts_of (given_of callers))) }
         ensures left { result.left + length (popped_by actor) ≡ length (puts_of (given_of callers)) }
         ensures ended { (before : List Placed) (last : Placed) (n : ℕ) → popped_by actor ≡ before ++ last ∷ [] → 1 ≤ times n last.ended → under n (popped_by actor) ≡ under n (puts_of (given_of callers)) }
         ensures taken { (taken_by taker ≡ raised_by actor) × (last_of taker ≡ ending_of actor) }

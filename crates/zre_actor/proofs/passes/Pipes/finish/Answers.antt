@@ -7,7 +7,7 @@ use Rattle.zre_actor.specs.Passes.{caller}
 use Rattle.zre_actor.proofs.Steps.{merges}
 use Rattle.zre_actor.proofs.EventSteps.{meets, learns_met}
 use Rattle.std.proofs.lemmas.List.{length-map}
-use Rattle.zre_actor.proofs.Finishing.{took_all, learns_all_put, gathered, gathered-snoc, each_prefix, all_left, all_ended}
+use Rattle.zre_actor.proofs.Finishing.{took_all, learns_all_put, gathered, gathered-snoc, fronts, each_prefix, all_left, all_ended}
 use Rattle.zre_actor.proofs.passes.Pipes.finish.Goals as goal
 
 pub absorb-requires-clause-rule : goal.absorb-requires-clause-rule
@@ -34,6 +34,13 @@ returns-clause-put g c = let h = c.loop-pass.invariant in let v = view c.args.ac
     let held = c.len_as-left.ensures.rule.1 in
     let known : Accounts (gathered v ps) held.0 = subst (λ u. Accounts u held.0) (h.view_is ∙ ap (gathered v) all) held.2 in
     each_prefix v ps held.0 c.args.actor.is_actor.3 known
+
+pub returns-clause-fronts : goal.returns-clause-fronts
+returns-clause-fronts g c = let h = c.loop-pass.invariant in let v = view c.args.actor.commands in let ps = c.args.callers.given.items in
+    let all = took_all c.args.callers.given.items c.loop-pass.yielded (into_iter_items c.loop-pass.pass-iterator) c.loop-pass.pass-iterator.rest.len h.rest c.loop-pass.pass-iterator.rest.ok.0 c.in-None.ensures.steps.0 in
+    let held = c.len_as-left.ensures.rule.1 in
+    let known : Accounts (gathered v ps) held.0 = subst (λ u. Accounts u held.0) (h.view_is ∙ ap (gathered v) all) held.2 in
+    fronts v ps held.0 c.args.actor.is_actor.3 known
 
 pub returns-clause-left : goal.returns-clause-left
 returns-clause-left g c = let h = c.loop-pass.invariant in let v = view c.args.actor.commands in let ps = c.args.callers.given.items in

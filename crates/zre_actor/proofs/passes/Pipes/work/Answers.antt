@@ -1,5 +1,6 @@
 use Rattle.std.proofs.Common.{◌≡◌, ◌+◌, ◌++◌, ◌∷◌, true≢false, List, None, refl, sym, ap, ◌∙◌, subst, arith}
 use Rattle.std.specs.Prelude.{option_map, Err}
+use Rattle.std.proofs.KnownBytes.{Keeps-refl, Keeps-trans}
 use Rattle.zre_outside.specs.declared.turn.Turn.{Turn}
 use Rattle.zre_outside.specs.declared.turn.Turn.TheVariants as turn
 use Rattle.zre_outside.specs.Worlds.{IsTurn, is_look, after_turn}
@@ -17,6 +18,7 @@ loop-turn-init g c = record {
   last = λ _. refl;
   unkept = λ _. refl;
   begun = refl;
+  named = Keeps-refl (g.R.Recorder.named c.args.rec);
   running = λ f K here. working.running_start f K c.args.keep c.args.limit
       (scene (g.W.World.told c.args.world) (g.W.World.looked c.args.world) (g.W.World.faults c.args.world) (g.R.Recorder.kept c.args.rec) (g.R.Recorder.faults c.args.rec) c.args.pass) c.args.node here;
 }
@@ -108,6 +110,7 @@ loop-turn-preserved g c =
             last = λ e. absurd (omega (arith, m.if-turn-limit.true));
             unkept = h.unkept;
             begun = h.begun;
+            named = h.named;
             running = λ f K here. (let k = h.running f K here in
                 let u = scene (w.told x) (w.looked x) (w.faults x) (r.kept l.rec) (r.faults l.rec) m.pop.result.0 in
                 let going = sym (c.stopped.ensures f (K ++ k.entries) k.node) ∙ c.if-stopped.false in
@@ -126,6 +129,7 @@ loop-turn-preserved g c =
             last = λ _. refl;
             unkept = h.unkept;
             begun = h.begun;
+            named = h.named;
             running = λ f K here. (let k = h.running f K here in
                 let u = scene (w.told x) (w.looked x) (w.faults x) (r.kept l.rec) (r.faults l.rec) l.pass in
                 let looks : working.Looks f K c.args.keep c.args.limit s l.turn t l.node l.command k u = record { told = facts.1; looked = facts.2; raised = refl; kept = refl; world_later = c.in-Ok.ensures.later; record_same = refl } in
@@ -141,6 +145,7 @@ loop-turn-preserved g c =
             last = λ _. refl;
             unkept = λ i. took.unkept i ∙ h.unkept i;
             begun = took.begun ∙ h.begun;
+            named = Keeps-trans (r.named c.args.rec) (r.named l.rec) (r.named z.rec) h.named took.named;
             running = λ f K here. (let k = h.running f K here in
                 let u = scene (w.told z.world) (w.looked z.world) (w.faults z.world) (r.kept z.rec) (r.faults z.rec) m.raise_all-pass.result in
                 let gives : working.Gives f K c.args.keep c.args.limit s l.turn t l.node l.command k m.in-Entry.entry (w.told x) u = record {
@@ -151,7 +156,8 @@ loop-turn-preserved g c =
                   world_later = omega (arith, c.in-Ok.ensures.later, took.world.1);
                   record_later = took.later;
                 } in
-                working.went_on f K c.args.keep c.args.limit s l.turn t l.node l.command k m.in-Entry.entry (w.told x) u z.node m.in-Ok-take_entry.events gives c.loop-turn-test.true
+                working.went_on f K c.args.keep c.args.limit s l.turn t l.node l.command k m.in-Entry.entry (w.told x) u z.node m.in-Ok-take_entry.events gives c.loop-turn-test.true facts.0
+                (sym (c.stopped.ensures f (K ++ k.entries) k.node) ∙ c.if-stopped.false)
                 (m.in-Ok-take_entry.ensures.ok f (K ++ k.entries) k.node) m.raise_all-pass.ensures.raised);
           })
     ]

@@ -1,4 +1,5 @@
 use Rattle.std.proofs.Common.{◌≡◌, true, false, None, List, IsSome}
+use Rattle.std.specs.Io.KnownBytes.{Keeps}
 use Rattle.zre_outside.specs.declared.entry.Entry.{Entry}
 use Rattle.zre_journal.specs.declared.config.Config.{Config}
 use Rattle.zre_node.specs.Journal.{StandsFor}
@@ -15,6 +16,7 @@ invariant-loop-turn g l = record {
   last : l.turn ≡ l.limit → l.command ≡ None;
   unkept : l.keep ≡ false → l.rec ≡ l.fn.rec;
   begun : g.R.Recorder.begun l.rec ≡ g.R.Recorder.begun l.fn.rec;
+  named : Keeps (g.R.Recorder.named l.fn.rec) (g.R.Recorder.named l.rec);
   running : (c : Config) (K : List Entry) → StandsFor c K l.fn.node → Running c K l.keep l.limit
       (scene (g.W.World.told l.fn.world) (g.W.World.looked l.fn.world) (g.W.World.faults l.fn.world) (g.R.Recorder.kept l.fn.rec) (g.R.Recorder.faults l.fn.rec) l.fn.pass)
       l.turn (scene (g.W.World.told l.world) (g.W.World.looked l.world) (g.W.World.faults l.world) (g.R.Recorder.kept l.rec) (g.R.Recorder.faults l.rec) l.pass) l.node l.command;

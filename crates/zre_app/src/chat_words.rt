@@ -1,0 +1,250 @@
+//! The words of `chat`.
+
+ghost use Rattle.std.specs.Prelude.{◌≡◌, ◌≤◌, ◌∷◌, ℕ, List, [], true, None, if◌then◌else◌, map, option_and_then, length, IfOk, IfSome};
+ghost use Rattle.std.specs.Str.{is_utf8};
+ghost use Rattle.zre_capture.specs.Values.{address_of};
+ghost use Rattle.zre_app.specs.ChatWords.{addresses_from, address_or, beacon_in, capture_in, file_name_of, interval_in, listen_in, start_in, to_in};
+ghost use Rattle.zre_app.specs.Keys.{value_of as value_of_key};
+ghost use Rattle.zre_app.specs.NodeWords.{between, number_or as number_or_default};
+ghost use Rattle.zre_app.specs.Words.{chat_in, chat_of, IsReady};
+ghost use Rattle.zre_journal.specs.Config.{is_valid};
+
+use crate::keys::{Key, Often, are_words_of, behind, value_of};
+use crate::node_words::{config_in, number_or};
+use crate::words::{Command, is_text};
+use std::alloc::Global;
+use zre_capture::address;
+use zre_journal::Config;
+use zre_outside::{Addresses, Start};
+use zre_values::{Octets, OutOfMemory};
+
+// The most addresses to which beacons are sent.
+const ADDRESSES: usize = 64;
+
+// The milliseconds of a day, the longest time from one beacon to the next.
+const DAY: u64 = 86400000;
+
+// The keys of `chat`: those of a node, and five more.
+const KEYS: [Key<'static>; 12] = [
+    Key {
+        name: b"id=",
+        often: Often::Once,
+    },
+    Key {
+        name: b"host=",
+        often: Often::Once,
+    },
+    Key {
+        name: b"port=",
+        often: Often::Once,
+    },
+    Key {
+        name: b"name=",
+        often: Often::AtMostOnce,
+    },
+    Key {
+        name: b"header=",
+        often: Often::AnyTimes,
+    },
+    Key {
+        name: b"evasive=",
+        often: Often::AtMostOnce,
+    },
+    Key {
+        name: b"expired=",
+        often: Often::AtMostOnce,
+    },
+    Key {
+        name: b"to=",
+        often: Often::AnyTimes,
+    },
+    Key {
+        name: b"listen=",
+        often: Often::AtMostOnce,
+    },
+    Key {
+        name: b"beacon=",
+        often: Often::AtMostOnce,
+    },
+    Key {
+        name: b"interval=",
+        often: Often::AtMostOnce,
+    },
+    Key {
+        name: b"capture=",
+        often: Often::AtMostOnce,
+    },
+];
+
+// A word's address is appended, if it is the word of one. Says whether it isn't a bad one.
+fn take_address(word: &[u8], to: &mut Addresses) -> Result<bool, OutOfMemory>
+    ensures { (words : List (List ℕ)) → IfOk result (λ good. addresses_from to.old (word.now ∷ words)
+        ≡ (if good then addresses_from to.new words else None)) }
+{
+    let Some(text) = behind(b"to=", word) else {
+        return Ok(true);
+    };
+    match address(text) {
+        Some(host) => {
+            to.push(host)?;
+            Ok(true)
+        }
+        None => Ok(false),
+    }
+}
+
+fn addresses_in(alloc: Global, words: &[Octets]) -> Result<Option<Addresses>, OutOfMemory>
+    ensures { IfOk result (λ to. to ≡ addresses_from [] words.now) }
+{
+    let mut to = Addresses::new(alloc);
+    for word in words {
+        if !take_address(word.as_slice(), &mut to)? {
+            return Ok(None);
+        }
+    }
+    Ok(Some(to))
+}
+
+// Where beacons are sent to.
+fn to_in(alloc: Global, words: &[Octets]) -> Result<Option<Addresses>, OutOfMemory>
+    ensures value { IfOk result (λ to. to ≡ to_in words.now) }
+    ensures few { IfOk result (λ to. IfSome to (λ list. length list ≤ 64)) }
+{
+    match addresses_in(alloc, words)? {
+        Some(to) if to.len() <= ADDRESSES => Ok(Some(to)),
+        _ => Ok(None),
+    }
+}
+
+// The address of a key that may be left out.
+fn address_or(default: [u8; 4], key: &[u8], words: &[Octets]) -> Option<[u8; 4]>
+    ensures { result ≡ address_or default (value_of_key key.now words.now) }
+{
+    match value_of(key, words) {
+        Some(text) => address(text),
+        None => Some(default),
+    }
+}
+
+fn listen_in(words: &[Octets]) -> Option<[u8; 4]>
+    ensures { result ≡ listen_in words.now }
+{
+    address_or([0, 0, 0, 0], b"listen=", words)
+}
+
+// The number of a key that may be left out, where it is from 1 up to a limit.
+fn number_up_to(high: u64, default: u64, key: &[u8], words: &[Octets]) -> Option<u64>
+    ensures value { result ≡ option_and_then (between 1 high) (number_or_default default (value_of_key key.now words.now)) }
+    ensures above { IfSome result (λ n. 1 ≤ n) }
+    ensures below { IfSome result (λ n. n ≤ high) }
+{
+    match number_or(default, key, words) {
+        Some(n) if 1 <= n && n <= high => Some(n),
+        _ => None,
+    }
+}
+
+fn beacon_in(words: &[Octets]) -> Option<u16>
+    ensures value { result ≡ beacon_in words.now }
+    ensures above { IfSome result (λ n. 1 ≤ n) }
+{
+    match number_up_to(65535, 5670, b"beacon=", words) {
+        Some(n) => Some(n as u16),
+        None => None,
+    }
+}
+
+fn interval_in(words: &[Octets]) -> Option<u64>
+    ensures value { result ≡ interval_in words.now }
+    ensures above { IfSome result (λ n. 1 ≤ n) }
+    ensures below { IfSome result (λ n. n ≤ 86400000) }
+{
+    number_up_to(DAY, 1000, b"interval=", words)
+}
+
+// How a node with these settings goes on the network.
+fn start_in(alloc: Global, config: &Config, words: &[Octets]) -> Result<Option<Start>, OutOfMemory>
+    ensures value { IfOk result (λ start. start ≡ start_in config.now words.now) }
+    ensures host { IfOk result (λ start. IfSome start (λ s. s.host ≡ config.now.host)) }
+    ensures port { IfOk result (λ start. IfSome start (λ s. s.port ≡ config.now.port)) }
+    ensures few { IfOk result (λ start. IfSome start (λ s. length s.to ≤ 64)) }
+    ensures beacon { IfOk result (λ start. IfSome start (λ s. 1 ≤ s.beacon_port)) }
+    ensures interval { IfOk result (λ start. IfSome start (λ s. (1 ≤ s.interval) × (s.interval ≤ 86400000))) }
+{
+    let Some(to) = to_in(alloc, words)? else {
+        return Ok(None);
+    };
+    let Some(listen) = listen_in(words) else {
+        return Ok(None);
+    };
+    let Some(beacon_port) = beacon_in(words) else {
+        return Ok(None);
+    };
+    let Some(interval) = interval_in(words) else {
+        return Ok(None);
+    };
+    Ok(Some(Start {
+        host: config.host,
+        port: config.port,
+        listen,
+        beacon_port,
+        to,
+        interval,
+    }))
+}
+
+// The name of a file, copied.
+fn file_name_of(alloc: Global, text: &[u8]) -> Result<Option<Octets>, OutOfMemory>
+    ensures value { IfOk result (λ name. name ≡ file_name_of text.now) }
+    ensures named { IfOk result (λ name. IfSome name (λ n. (1 ≤ length n) × (is_utf8 n ≡ true))) }
+{
+    if text.is_empty() || !is_text(text) {
+        return Ok(None);
+    }
+    Ok(Some(Octets::copy(alloc, text)?))
+}
+
+// The file of a capture, where one is named.
+fn capture_in(alloc: Global, words: &[Octets]) -> Result<Option<Option<Octets>>, OutOfMemory>
+    ensures value { IfOk result (λ capture. capture ≡ capture_in words.now) }
+    ensures named { IfOk result (λ capture. IfSome capture (λ c. IfSome c (λ n. (1 ≤ length n) × (is_utf8 n ≡ true)))) }
+{
+    let Some(text) = value_of(b"capture=", words) else {
+        return Ok(Some(None));
+    };
+    match file_name_of(alloc, text)? {
+        Some(name) => Ok(Some(Some(name))),
+        None => Ok(None),
+    }
+}
+
+fn chat_in(alloc: Global, words: &[Octets]) -> Result<Option<Command>, OutOfMemory>
+    ensures value { IfOk result (λ command. command ≡ chat_in words.now) }
+    ensures ready { IfOk result IsReady }
+{
+    let Some(config) = config_in(alloc, words)? else {
+        return Ok(None);
+    };
+    let Some(start) = start_in(alloc, &config, words)? else {
+        return Ok(None);
+    };
+    let Some(capture) = capture_in(alloc, words)? else {
+        return Ok(None);
+    };
+    Ok(Some(Command::Chat {
+        config,
+        start,
+        capture,
+    }))
+}
+
+/// The command `chat`, of the words behind its name.
+pub(crate) fn chat_of(alloc: Global, words: &[Octets]) -> Result<Option<Command>, OutOfMemory>
+    ensures value { IfOk result (λ command. command ≡ chat_of words.now) }
+    ensures ready { IfOk result IsReady }
+{
+    if !are_words_of(&KEYS, words) {
+        return Ok(None);
+    }
+    chat_in(alloc, words)
+}

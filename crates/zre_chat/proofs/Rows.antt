@@ -1,0 +1,105 @@
+-- The first of several statuses.
+use Rattle.std.proofs.Common.{◌≡◌, ◌≢◌, ℕ, Bool, true, false, true≢false, cond, List, [], ◌∷◌, refl, sym, ap, ◌∙◌, subst}
+use Rattle.std.specs.Prelude.{nat_le}
+use Rattle.zre_outside.specs.declared.sink.NextFault.{NextFault}
+use Rattle.zre_outside.specs.declared.sink.NextFault.TheVariants as fault
+use Rattle.zre_pump.specs.declared.status.Status.{Status}
+use Rattle.zre_pump.specs.declared.status.Status.TheVariants.{Done, Usage, BadInput, ReadFault, WriteFault, WorldFault, NoThread, TooLong, OutOfMemory}
+use Rattle.zre_chat.specs.Statuses.{rank, least, of_fault}
+
+pub one_least : (s : Status) → s ≡ least (s ∷ [])
+one_least Done = refl
+one_least Usage = refl
+one_least BadInput = refl
+one_least ReadFault = refl
+one_least WriteFault = refl
+one_least WorldFault = refl
+one_least NoThread = refl
+one_least TooLong = refl
+one_least OutOfMemory = refl
+
+abbrev pub first_of : Status → Status → Status
+first_of s r = cond (nat_le (rank s) (rank r)) s r
+
+-- want of memory is the first
+no_memory : (s : Status) → first_of s OutOfMemory ≡ OutOfMemory
+no_memory Done = refl
+no_memory Usage = refl
+no_memory BadInput = refl
+no_memory ReadFault = refl
+no_memory WriteFault = refl
+no_memory WorldFault = refl
+no_memory NoThread = refl
+no_memory TooLong = refl
+no_memory OutOfMemory = refl
+
+memory_first : (r : Status) → first_of OutOfMemory r ≡ OutOfMemory
+memory_first Done = refl
+memory_first Usage = refl
+memory_first BadInput = refl
+memory_first ReadFault = refl
+memory_first WriteFault = refl
+memory_first WorldFault = refl
+memory_first NoThread = refl
+memory_first TooLong = refl
+memory_first OutOfMemory = refl
+
+pub memory_here : (s : Status) (ss : List Status) → s ≡ OutOfMemory → least (s ∷ ss) ≡ OutOfMemory
+memory_here s ss is = ap (λ x. first_of x (least ss)) is ∙ memory_first (least ss)
+
+pub memory_behind : (s : Status) (ss : List Status) → least ss ≡ OutOfMemory → least (s ∷ ss) ≡ OutOfMemory
+memory_behind s ss is = ap (first_of s) is ∙ no_memory s
+
+-- every status comes before Done
+before_done : (s : Status) → nat_le (rank s) (rank Done) ≡ true
+before_done Done = refl
+before_done Usage = refl
+before_done BadInput = refl
+before_done ReadFault = refl
+before_done WriteFault = refl
+before_done WorldFault = refl
+before_done NoThread = refl
+before_done TooLong = refl
+before_done OutOfMemory = refl
+
+last_done : (r : Status) → first_of Done r ≡ r
+last_done Done = refl
+last_done Usage = refl
+last_done BadInput = refl
+last_done ReadFault = refl
+last_done WriteFault = refl
+last_done WorldFault = refl
+last_done NoThread = refl
+last_done TooLong = refl
+last_done OutOfMemory = refl
+
+-- where the first is Done, so is each
+pub done_here : (s : Status) (ss : List Status) → least (s ∷ ss) ≡ Done → s ≡ Done
+done_here s ss is = by (nat_le (rank s) (rank (least ss))) refl
+  where
+    by : (b : Bool) → nat_le (rank s) (rank (least ss)) ≡ b → s ≡ Done
+    by true e = sym (ap (λ b. cond b s (least ss)) e) ∙ is
+    by false e =
+        let other : least ss ≡ Done = sym (ap (λ b. cond b s (least ss)) e) ∙ is in
+        absurd (true≢false (sym (before_done s) ∙ ap (λ r. nat_le (rank s) (rank r)) (sym other) ∙ e))
+
+pub done_behind : (s : Status) (ss : List Status) → least (s ∷ ss) ≡ Done → least ss ≡ Done
+done_behind s ss is = sym (last_done (least ss)) ∙ ap (λ x. first_of x (least ss)) (sym (done_here s ss is)) ∙ is
+
+-- ---- what isn't Done
+
+pub thread_isnt : NoThread ≢ Done
+thread_isnt is = cc
+
+pub memory_isnt : OutOfMemory ≢ Done
+memory_isnt is = cc
+
+pub fault_isnt : (f : NextFault) (s : Status) → s ≢ Done → of_fault f s ≢ Done
+fault_isnt fault.Failed s isnt = isnt
+fault_isnt fault.OutOfMemory s isnt = memory_isnt
+
+pub write_isnt : WriteFault ≢ Done
+write_isnt is = cc
+
+pub world_isnt : WorldFault ≢ Done
+world_isnt is = cc

@@ -1,0 +1,233 @@
+-- What a chat comes to, from what its parts came to.
+use Rattle.std.proofs.Common.{◌≡◌, ◌≢◌, ℕ, zero, suc, ◌+◌, ◌≤◌, ◌<◌, ◌==◌, Bool, true, false, true≢false, cond, List, [], ◌∷◌, ◌++◌, map, length, Option, Some, None, refl, sym, ap, ◌∙◌, subst, arith, append_assoc, append-nil}
+use Rattle.std.specs.Prelude.{◌⊎◌, ⊤, option_map, is_some}
+use mathlib.Core.Logic.{inl, inr}
+use mathlib.Core.List.{IsPrefix}
+use Rattle.std.specs.List.{list_any}
+use Rattle.std.specs.Io.KnownBytes.{Keeps, Appends, Consumes, IsAtEnd}
+use Rattle.std.proofs.KnownBytes.{Appends-nil, Consumes-nil}
+use Rattle.std.proofs.lemmas.List.{map-append}
+use Rattle.std.proofs.lemmas.Grind.{flat_map-append}
+use Rattle.zre_outside.specs.declared.act.Act.{Act}
+use Rattle.zre_outside.specs.declared.deed.Deed.{Deed}
+use Rattle.zre_outside.specs.declared.entry.Entry.{Entry}
+use Rattle.zre_outside.specs.declared.entry.Command.{Command}
+use Rattle.zre_outside.specs.declared.entry.Command.TheVariants.{Quit}
+use Rattle.zre_outside.specs.declared.sink.NextFault.{NextFault}
+use Rattle.zre_outside.specs.declared.sink.NextFault.TheVariants as fault
+use Rattle.zre_outside.specs.declared.start.Start.{Start}
+use Rattle.zre_outside.specs.Causes.{Rose}
+use Rattle.zre_outside.specs.Told.{Moves, AppendsFront}
+use Rattle.zre_outside.specs.Worlds.{Log, with_start}
+use Rattle.zre_peer.specs.declared.event.Event.{Event}
+use Rattle.zre_peer.specs.Lines.{line, lines}
+use Rattle.zre_journal.specs.declared.config.Config.{Config}
+use Rattle.zre_journal.specs.Events.{chronicle, events}
+use Rattle.zre_journal.specs.Happens.{has_stopped}
+use Rattle.zre_node.specs.declared.node.Node.{Node}
+use Rattle.zre_capture.specs.Lines as capture
+use Rattle.zre_actor.specs.declared.ending.Ending.{Ending}
+use Rattle.zre_actor.specs.declared.ending.Ending.TheVariants as ending
+use Rattle.zre_actor.specs.declared.passes.ActorPass.{ActorPass}
+use Rattle.zre_actor.specs.declared.passes.CallerPass.{CallerPass}
+use Rattle.zre_actor.specs.declared.passes.TakerPass.{TakerPass}
+use Rattle.zre_actor.specs.declared.views.Placed.{Placed}
+use Rattle.zre_actor.specs.Commands.{under, command_of}
+use Rattle.zre_actor.specs.Passes.{IsNew, number, put_by, puts_of, popped_by, raised_by, taken_by}
+use Rattle.zre_actor.specs.Work.{Scene, scene, went, IsWork, Ends, QuitsLast, KeptLines}
+use Rattle.zre_actor.proofs.Deeds.{went-none}
+use Rattle.zre_actor.proofs.Sums.{under-append}
+use Rattle.zre_actor.proofs.Working.{rose_later}
+use Rattle.zre_typist.specs.Orders.{is_quit, typed, orders, Begins}
+use Rattle.zre_input.specs.declared.ending.InputEnd.{InputEnd}
+use Rattle.zre_input.specs.declared.ending.InputEnd.TheVariants as end
+use Rattle.zre_input.specs.Putting.{Puts, IsClose}
+use Rattle.zre_input.specs.Reading.{HasRead, Outcome, BreaksOff}
+use Rattle.zre_input.proofs.Puts.{puts-none}
+use Rattle.zre_pump.specs.declared.status.Status.{Status}
+use Rattle.zre_pump.specs.declared.status.Status.TheVariants.{Done, OutOfMemory}
+use Rattle.zre_chat.specs.declared.asker.Asker.{Asker}
+use Rattle.zre_chat.specs.declared.asker.Wish.{Wish}
+use Rattle.zre_chat.specs.declared.asker.Wish.TheVariants.{No, Due, Put}
+use Rattle.zre_chat.specs.Asking.{asked, asker_of, HasAsked}
+use Rattle.zre_chat.specs.Chat.{Seen, IsChat, IsCaused, Holds, but_quits, started}
+use Rattle.zre_chat.specs.Printing.{HasPrinted}
+use Rattle.zre_chat.specs.Stages.{Prepared}
+use Rattle.zre_chat.specs.Statuses.{least, of_fault, of_read, of_print, of_work, of_thread}
+use Rattle.zre_chat.proofs.Fronts.{prefix_self, prefix_trans, but_quits-append, but_quits-prefix, map-prefix, quits_through, none_before, all_front, none_front}
+use Rattle.zre_chat.proofs.Merged.{all_under, its_own, no_others, commands_under, prefix_nil, TwoAlone, split, alone}
+use Rattle.zre_chat.proofs.Rows.{one_least, memory_here, memory_behind, done_here, done_behind}
+
+-- ---- what a world tells, over two steps
+
+pub maps : (f h : Log → Log) (told : Option Log) → option_map f (option_map h told) ≡ option_map (λ l. f (h l)) told
+maps f h None = refl
+maps f h (Some l) = refl
+
+-- a capture of no entries
+pub head_only : (kept u t : Option (List ℕ)) → Appends (option_map (λ _. []) kept) u capture.head → t ≡ u → Appends (option_map (λ _. []) kept) t (capture.head ++ capture.lines [])
+head_only kept u t is same = subst (λ (x : Option (List ℕ) × List ℕ). Appends (option_map (λ _. []) kept) x.0 x.1) (λ i. (sym same i, sym (append-nil capture.head) i)) is
+
+module _ (g : Config) (start : Start) (name : Option (List ℕ)) (limit : ℕ) where
+  untold : (begun : Bool) (told : Option Log) → option_map (started begun start) told ≡ option_map (λ l. went [] 0 [] [] (started begun start l)) told
+  untold begun None = refl
+  untold begun (Some l) = went-none (Some (started begun start l))
+
+  -- a chat that ended before the threads were started
+  pub untalked : (begun : Bool) (s t : Seen) (status : Status) → t.left ≡ s.left → t.taken ≡ s.taken → t.written ≡ s.written → t.told ≡ option_map (started begun start) s.told
+      → status ≢ Done → IsCaused status limit 0 0 false s t
+      → ((file : List ℕ) → name ≡ Some file → status ≢ OutOfMemory → ¬ Rose s.record_faults t.record_faults → Holds file [] s t)
+      → IsChat g start name limit s t status
+  untalked begun s t status left taken written told not_done cause holds = record {
+    octets = [];
+    are_taken = record { consumed = subst (λ x. Consumes s.left x []) (sym left) (Consumes-nil s.left); recorded = subst (λ x. Appends s.taken x []) (sym taken) (Appends-nil s.taken) };
+    begun = begun;
+    turns = 0;
+    looks = 0;
+    entries = [];
+    unstepped = [];
+    handed = [];
+    deeds = [];
+    is_told = told ∙ untold begun s.told;
+    counted = refl;
+    one_unstepped = omega arith;
+    all_taken = λ _ _. refl;
+    did = [];
+    undone = [];
+    are_acts = refl;
+    are_deeds = tt;
+    all_done = λ _. refl;
+    front = ([], [], refl, subst (λ x. Appends s.written x []) (sym written) (Appends-nil s.written));
+    whole = λ _ _. subst (λ x. Appends s.written x []) (sym written) (Appends-nil s.written);
+    held = holds;
+    in_order = (but_quits (orders []), refl);
+    all_handed = λ d. absurd (not_done d);
+    occurred = status ∷ [];
+    is_status = one_least status;
+    caused = (cause, tt);
+    done = λ d. absurd (not_done d);
+    ended = λ d. absurd (not_done d);
+  }
+
+-- ---- a refusal of the outside
+
+pub only_failed : (f : NextFault) (failed : Status) → of_fault f failed ≢ OutOfMemory → f ≡ fault.Failed
+only_failed fault.Failed failed isnt = refl
+only_failed fault.OutOfMemory failed isnt = absurd (isnt refl)
+
+pub fault_cause : (f : NextFault) (failed : Status) (limit octets turns : ℕ) (stopped : Bool) (s t : Seen) → (f ≡ fault.Failed → IsCaused failed limit octets turns stopped s t) → IsCaused (of_fault f failed) limit octets turns stopped s t
+fault_cause fault.Failed failed limit octets turns stopped s t cause = cause refl
+fault_cause fault.OutOfMemory failed limit octets turns stopped s t cause = tt
+
+-- a name that is there
+pub there : (name : Option (List ℕ)) → is_some name ≡ true → (file : List ℕ) × (name ≡ Some file)
+there None is = absurd (true≢false (sym is))
+there (Some file) is = (file, refl)
+
+-- ---- the commands
+
+-- those that the reader put begin the orders
+pub read_orders : (e : InputEnd) (limit : ℕ) (commands : List Command) (o : List ℕ) (left : Option (List ℕ)) (read : Type 0) → Outcome e limit commands o left read → IsPrefix (but_quits commands) (but_quits (orders o))
+read_orders e limit commands o left read x = by e x
+  where
+    all : commands ≡ orders o → IsPrefix (but_quits commands) (but_quits (orders o))
+    all is = subst (λ l. IsPrefix (but_quits commands) (but_quits l)) is (prefix_self (but_quits commands))
+
+    begins : (front : List Command) → Begins front o → IsPrefix (but_quits front) (but_quits (orders o))
+    begins front b = but_quits-prefix front (orders o) (b.rest ++ Quit ∷ [], sym b.parts)
+
+    closed : (tail : List Command) → IsClose tail → but_quits tail ≡ []
+    closed tail (inl is) = ap but_quits is
+    closed tail (inr is) = ap but_quits is
+
+    breaks : BreaksOff commands o → IsPrefix (but_quits commands) (but_quits (orders o))
+    breaks b = let same : but_quits commands ≡ but_quits b.front = ap but_quits b.parts ∙ but_quits-append b.front b.tail ∙ ap (λ l. but_quits b.front ++ l) (closed b.tail b.closes) ∙ append-nil (but_quits b.front) in
+        subst (λ l. IsPrefix l (but_quits (orders o))) (sym same) (begins b.front b.begins)
+
+    by : (e : InputEnd) → Outcome e limit commands o left read → IsPrefix (but_quits commands) (but_quits (orders o))
+    by end.Quit x = all x.1
+    by end.AtEnd x = all x.2
+    by end.Over x = begins commands x
+    by end.ReadFault x = breaks x.1
+    by end.TooLong x = breaks x.1
+    by end.OutOfMemory x = breaks x
+
+-- where nothing went wrong they are a front of them, and hold isnt quit where the reader was told of the end
+pub read_front : (e : InputEnd) (limit : ℕ) (commands : List Command) (o : List ℕ) (left : Option (List ℕ)) (read : Type 0) → Outcome e limit commands o left read → of_read e ≡ Done
+    → IsPrefix commands (orders o) × (IsAtEnd left ⊎ ((list_any is_quit (typed o) ≡ true) ⊎ (list_any is_quit commands ≡ false)))
+read_front e limit commands o left read x done = by e x done
+  where
+    all : commands ≡ orders o → IsPrefix commands (orders o)
+    all is = ([], append-nil commands ∙ is)
+
+    before : (rest : List Command) → orders o ≡ commands ++ (rest ++ Quit ∷ []) → list_any is_quit commands ≡ false
+    before [] is = none_before commands Quit [] (subst QuitsLast is (quits_through _))
+    before (c ∷ cs) is = none_before commands c (cs ++ Quit ∷ []) (subst QuitsLast is (quits_through _))
+
+    by : (e : InputEnd) → Outcome e limit commands o left read → of_read e ≡ Done → IsPrefix commands (orders o) × (IsAtEnd left ⊎ ((list_any is_quit (typed o) ≡ true) ⊎ (list_any is_quit commands ≡ false)))
+    by end.Quit x d = (all x.1, inr (inl x.0))
+    by end.AtEnd x d = (all x.2, inl x.0)
+    by end.Over x d = ((x.rest ++ Quit ∷ [], sym x.parts), inr (inr (before x.rest x.parts)))
+    by end.ReadFault x d = absurd (cc)
+    by end.TooLong x d = absurd (cc)
+    by end.OutOfMemory x d = absurd (cc)
+
+module _ (r q : ℕ) (er eq : List ℕ) (cs qs : List Command) (apart : r ≢ q) (es : List Placed)
+    (fronts : (n : ℕ) → IsPrefix (under n es) (under n (all_under r er cs ++ (all_under q eq qs ++ [])))) where
+  both : (n : ℕ) → under n (all_under r er cs ++ (all_under q eq qs ++ [])) ≡ under n (all_under r er cs) ++ under n (all_under q eq qs)
+  both n = ap (λ l. under n (all_under r er cs ++ l)) (append-nil (all_under q eq qs)) ∙ under-append n (all_under r er cs) (all_under q eq qs)
+
+  of_reader : IsPrefix (under r es) (all_under r er cs)
+  of_reader = subst (IsPrefix (under r es)) (both r ∙ ap (λ l. l ++ under r (all_under q eq qs)) (its_own r er cs) ∙ ap (λ l. all_under r er cs ++ l) (no_others r q eq qs (λ e. apart (sym e))) ∙ append-nil (all_under r er cs)) (fronts r)
+
+  of_asker : IsPrefix (under q es) (all_under q eq qs)
+  of_asker = subst (IsPrefix (under q es)) (both q ∙ ap (λ l. l ++ under q (all_under q eq qs)) (no_others q r er cs apart) ∙ its_own q eq qs) (fronts q)
+
+  of_none : TwoAlone r q es
+  of_none n nr nq = prefix_nil (under n es) (subst (IsPrefix (under n es)) (both n ∙ ap (λ l. l ++ under n (all_under q eq qs)) (no_others n r er cs (λ e. nr (sym e))) ∙ no_others n q eq qs (λ e. nq (sym e))) (fronts n))
+
+  -- the reader's commands in what was popped
+  its_front : IsPrefix (map command_of (under r es)) cs
+  its_front = subst (IsPrefix (map command_of (under r es))) (commands_under r er cs) (map-prefix command_of (under r es) (all_under r er cs) of_reader)
+
+  -- where the other put nothing, they are all that was popped
+  pub only : qs ≡ [] → IsPrefix (map command_of es) cs
+  only none = subst (λ l. IsPrefix (map command_of l) cs) (sym (alone r es others)) its_front
+    where
+      others : (n : ℕ) → n ≢ r → under n es ≡ []
+      others n nr = by (n == q) refl
+        where
+          by : (b : Bool) → (n == q) ≡ b → under n es ≡ []
+          by true is = prefix_nil (under n es) (subst (IsPrefix (under n es)) (both n ∙ ap (λ l. l ++ under n (all_under q eq qs)) (no_others n r er cs (λ e. nr (sym e))) ∙ ap (λ l. under n (all_under q eq l)) none) (fronts n))
+          by false isnt = of_none n nr (λ e. true≢false (sym (same e) ∙ isnt))
+            where
+              same : n ≡ q → (n == q) ≡ true
+              same e = grind (arith, e)
+
+  -- where it put at most a quit, they are but for a quit at the end
+  pub most : (qs ≡ []) ⊎ (qs ≡ Quit ∷ []) → QuitsLast (map command_of es) → IsPrefix (but_quits (map command_of es)) (but_quits cs)
+  most asks quits = by (split r q es apart of_none quits is_quit_there)
+    where
+      is_quit_there : (e : Placed) (more : List Placed) → under q es ≡ e ∷ more → e.command ≡ Quit
+      is_quit_there e more at = from asks
+        where
+          a : IsPrefix (e ∷ more) (all_under q eq qs)
+          a = subst (λ l. IsPrefix l (all_under q eq qs)) at of_asker
+
+          first : (xs : List Placed) → e ∷ xs ≡ all_under q eq (Quit ∷ []) → e.command ≡ Quit
+          first xs is = cc
+
+          from : (qs ≡ []) ⊎ (qs ≡ Quit ∷ []) → e.command ≡ Quit
+          from (inl none) = absurd (let x : e ∷ (more ++ a.0) ≡ [] = a.1 ∙ ap (all_under q eq) none in cc)
+          from (inr one) = first (more ++ a.0) (a.1 ∙ ap (all_under q eq) one)
+
+      front : IsPrefix (but_quits (map command_of (under r es))) (but_quits cs)
+      front = but_quits-prefix (map command_of (under r es)) cs its_front
+
+      by : (es ≡ under r es) ⊎ ((last : Placed) × (last.command ≡ Quit) × (es ≡ under r es ++ last ∷ [])) → IsPrefix (but_quits (map command_of es)) (but_quits cs)
+      by (inl is) = subst (λ l. IsPrefix (but_quits (map command_of l)) (but_quits cs)) (sym is) front
+      by (inr (last, quit, is)) =
+          let same : but_quits (map command_of es) ≡ but_quits (map command_of (under r es)) =
+          ap (λ l. but_quits (map command_of l)) is ∙ ap but_quits (map-append command_of (under r es) (last ∷ [])) ∙ but_quits-append (map command_of (under r es)) (last.command ∷ [])
+          ∙ ap (λ c. but_quits (map command_of (under r es)) ++ but_quits (c ∷ [])) quit ∙ append-nil (but_quits (map command_of (under r es))) in
+          subst (λ l. IsPrefix l (but_quits cs)) (sym same) front

@@ -1,0 +1,2 @@
+use Rattle.zre_chat.proofs.Talked.{talked}
+use Rattle.zre_chat.proofs.statuses.of_thread.Goals as goal

@@ -1,0 +1,127 @@
+-- What a chat comes to.
+use Rattle.std.specs.Prelude.{◌≡◌, ◌≢◌, ◌⊎◌, ℕ, ◌+◌, ◌≤◌, Bool, true, false, not, List, [], ◌∷◌, ◌++◌, length, Option, Some, None, option_map, ⊤}
+use mathlib.Core.List.{IsPrefix}
+use Rattle.std.specs.List.{list_any, filter}
+use Rattle.std.specs.Io.KnownBytes.{Keeps, Appends, IsAtEnd}
+use Rattle.zre_outside.specs.declared.act.Act.{Act}
+use Rattle.zre_outside.specs.declared.deed.Deed.{Deed}
+use Rattle.zre_outside.specs.declared.entry.Entry.{Entry}
+use Rattle.zre_outside.specs.declared.entry.Command.{Command}
+use Rattle.zre_outside.specs.declared.start.Start.{Start}
+use Rattle.zre_outside.specs.Causes.{Rose}
+use Rattle.zre_outside.specs.Told.{Moves, AppendsFront}
+use Rattle.zre_outside.specs.Worlds.{Log, with_start}
+use Rattle.zre_peer.specs.Lines.{lines}
+use Rattle.zre_journal.specs.declared.config.Config.{Config}
+use Rattle.zre_journal.specs.Events.{chronicle, events}
+use Rattle.zre_journal.specs.Happens.{has_stopped}
+use Rattle.zre_capture.specs.Lines as capture
+use Rattle.zre_actor.specs.Work.{went, AreDeeds, acts_of}
+use Rattle.zre_typist.specs.Orders.{is_quit, typed, orders}
+use Rattle.zre_pump.specs.declared.status.Status.{Status}
+use Rattle.zre_pump.specs.declared.status.Status.TheVariants.{Done, Usage, BadInput, ReadFault, WriteFault, WorldFault, NoThread, TooLong, OutOfMemory}
+use Rattle.zre_chat.specs.Statuses.{least}
+
+-- what is seen of all that a chat works with, at one moment
+pub record Seen : Type 0 where
+  -- what the input tells that is left and that was taken, and how often it failed
+  pub left : Option (List ℕ)
+  pub taken : Option (List ℕ)
+  pub read_faults : ℕ
+  -- what the world tells, and how often it failed
+  pub told : Option Log
+  pub world_faults : ℕ
+  -- what was written, and how often that failed
+  pub written : Option (List ℕ)
+  pub write_faults : ℕ
+  -- what the recorder keeps and its name, and how often it failed
+  pub kept : Option (List ℕ)
+  pub named : Option (List ℕ)
+  pub record_faults : ℕ
+  -- how often a thread was refused
+  pub refusals : ℕ
+
+abbrev pub seen : (left taken : Option (List ℕ)) (reads : ℕ) (told : Option Log) (worlds : ℕ) (written : Option (List ℕ)) (writes : ℕ) (kept named : Option (List ℕ)) (records refusals : ℕ) → Seen
+seen left taken reads told worlds written writes kept named records refusals = record {
+  left = left;
+  taken = taken;
+  read_faults = reads;
+  told = told;
+  world_faults = worlds;
+  written = written;
+  write_faults = writes;
+  kept = kept;
+  named = named;
+  record_faults = records;
+  refusals = refusals;
+}
+
+-- commands but for a quit
+abbrev pub but_quits : List Command → List Command
+but_quits commands = filter (λ c. not (is_quit c)) commands
+
+-- what each status needs: a count that rose, or as many octets or turns as the limit
+abbrev pub IsCaused : Status → (limit octets turns : ℕ) → (stopped : Bool) → Seen → Seen → Type 0
+IsCaused Done limit octets turns stopped s t = ⊤
+IsCaused ReadFault limit octets turns stopped s t = Rose s.read_faults t.read_faults
+IsCaused WriteFault limit octets turns stopped s t = Rose s.write_faults t.write_faults ⊎ Rose s.record_faults t.record_faults
+IsCaused WorldFault limit octets turns stopped s t = Rose s.world_faults t.world_faults
+IsCaused NoThread limit octets turns stopped s t = Rose s.refusals t.refusals
+IsCaused TooLong limit octets turns stopped s t = (octets ≡ limit) ⊎ ((turns ≡ limit) × (stopped ≡ false))
+IsCaused OutOfMemory limit octets turns stopped s t = ⊤
+IsCaused Usage limit octets turns stopped s t = ⊥
+IsCaused BadInput limit octets turns stopped s t = ⊥
+
+-- all of these
+abbrev pub AreCaused : List Status → (limit octets turns : ℕ) → (stopped : Bool) → Seen → Seen → Type 0
+AreCaused [] limit octets turns stopped s t = ⊤
+AreCaused (x ∷ xs) limit octets turns stopped s t = IsCaused x limit octets turns stopped s t × AreCaused xs limit octets turns stopped s t
+
+-- the recorder, emptied and named, holds the capture of these entries, where it tells what it holds
+abbrev pub Holds : List ℕ → List Entry → Seen → Seen → Type 0
+Holds name es s t = Appends (option_map (λ _. []) s.kept) t.kept (capture.head ++ capture.lines es) × Keeps (option_map (λ _. name) s.named) t.named
+
+-- a world was started, unless the chat ended before
+abbrev pub started : Bool → Start → Log → Log
+started false start l = l
+started true start l = with_start start l
+
+-- a chat of a node with settings g, which goes on the network by start and keeps a capture under a name
+pub record IsChat (g : Config) (start : Start) (name : Option (List ℕ)) (limit : ℕ) (s t : Seen) (status : Status) : Type 0 where
+  -- what was taken of the input
+  pub octets : List ℕ
+  pub are_taken : Moves s.left t.left s.taken t.taken octets
+  -- what the world gave: the entries that the node took, and at most one that it didn't
+  pub begun : Bool
+  pub turns : ℕ
+  pub looks : ℕ
+  pub entries : List Entry
+  pub unstepped : List Entry
+  pub handed : List Command
+  pub deeds : List Deed
+  pub is_told : t.told ≡ option_map (λ l. went (entries ++ unstepped) looks handed deeds (started begun start l)) s.told
+  pub counted : length (entries ++ unstepped) + looks ≡ turns
+  pub one_unstepped : length unstepped ≤ 1
+  -- each is taken but one whose line wasn't kept
+  pub all_taken : status ≢ OutOfMemory → ¬ Rose s.record_faults t.record_faults → unstepped ≡ []
+  -- the acts were done in order
+  pub did : List (List Entry × Act)
+  pub undone : List (List Entry × Act)
+  pub are_acts : acts_of g [] entries ≡ did ++ undone
+  pub are_deeds : AreDeeds g did deeds
+  pub all_done : status ≢ OutOfMemory → undone ≡ []
+  -- the lines of the journal's events were written
+  pub front : AppendsFront s.written t.written (lines (events g entries))
+  pub whole : status ≢ OutOfMemory → ¬ Rose s.write_faults t.write_faults → Appends s.written t.written (lines (events g entries))
+  -- the capture of all that was given was kept
+  pub held : (file : List ℕ) → name ≡ Some file → status ≢ OutOfMemory → ¬ Rose s.record_faults t.record_faults → Holds file entries s t
+  -- the commands that were handed in are those of the input's lines, in order, up to some place; where a Quit of the input stopped the node, they are all
+  pub in_order : IsPrefix (but_quits handed) (but_quits (orders octets))
+  pub all_handed : status ≡ Done → list_any is_quit handed ≡ true → handed ≡ orders octets
+  -- the status is the first of what occurred, each with its cause
+  pub occurred : List Status
+  pub is_status : status ≡ least occurred
+  pub caused : AreCaused occurred limit (length octets) turns (has_stopped (chronicle g entries)) s t
+  -- where nothing did, the world was started and the node has stopped: the input is at its end, or a line of it is a quit, or the stop is the world's own
+  pub done : status ≡ Done → (begun ≡ true) × (has_stopped (chronicle g entries) ≡ true)
+  pub ended : status ≡ Done → IsAtEnd t.left ⊎ ((list_any is_quit (typed octets) ≡ true) ⊎ (list_any is_quit handed ≡ false))

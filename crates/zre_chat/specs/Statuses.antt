@@ -1,0 +1,49 @@
+-- How a chat ended, from how its parts ended.
+use Rattle.std.specs.Prelude.{ℕ, Bool, true, false, nat_le, List, [], ◌∷◌, Option, Some, None, if◌then◌else◌}
+use Rattle.zre_outside.specs.declared.sink.NextFault.{NextFault}
+use Rattle.zre_outside.specs.declared.sink.NextFault.TheVariants as fault
+use Rattle.zre_pump.specs.declared.status.Status.{Status}
+use Rattle.zre_pump.specs.declared.status.Status.TheVariants.{Done, ReadFault, WriteFault, WorldFault, NoThread, TooLong, OutOfMemory}
+use Rattle.zre_pump.specs.Codes.{code_of}
+use Rattle.zre_actor.specs.declared.ending.Ending.{Ending}
+use Rattle.zre_actor.specs.declared.ending.Ending.TheVariants as ending
+use Rattle.zre_input.specs.declared.ending.InputEnd.{InputEnd}
+use Rattle.zre_input.specs.declared.ending.InputEnd.TheVariants as end
+
+-- want of memory comes first and Done last; the others stand as their numbers
+abbrev pub rank : Status → ℕ
+rank OutOfMemory = 0
+rank Done = 10
+rank s = code_of s
+
+-- the first of what occurred; Done where nothing did
+abbrev pub least : List Status → Status
+least [] = Done
+least (s ∷ ss) = if nat_le (rank s) (rank (least ss)) then s else least ss
+
+abbrev pub of_fault : NextFault → Status → Status
+of_fault fault.Failed failed = failed
+of_fault fault.OutOfMemory failed = OutOfMemory
+
+abbrev pub of_read : InputEnd → Status
+of_read end.Quit = Done
+of_read end.AtEnd = Done
+of_read end.Over = Done
+of_read end.ReadFault = ReadFault
+of_read end.TooLong = TooLong
+of_read end.OutOfMemory = OutOfMemory
+
+abbrev pub of_print : Option NextFault → Status
+of_print None = Done
+of_print (Some f) = of_fault f WriteFault
+
+abbrev pub of_work : Ending → Status
+of_work ending.Stopped = Done
+of_work ending.WorldFault = WorldFault
+of_work ending.RecordFault = WriteFault
+of_work ending.TooLong = TooLong
+of_work ending.OutOfMemory = OutOfMemory
+
+abbrev pub of_thread : Bool → Status
+of_thread true = NoThread
+of_thread false = Done

@@ -1,0 +1,14 @@
+//! The command `chat`: a node in a thread of its own over the world, a reader in another that puts the commands of the
+//! input's lines, and the caller's own thread, which writes the lines of what the node tells.
+#![tactic(auto)]
+
+mod asker;
+mod chat;
+mod keeping;
+mod page;
+mod printing;
+mod statuses;
+mod table;
+mod talk;
+
+pub use chat::{Chat, Chatted};

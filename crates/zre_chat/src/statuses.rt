@@ -1,0 +1,92 @@
+//! How a chat ended, from how its parts ended.
+
+ghost use Rattle.std.specs.Prelude.{◌≡◌, ◌∷◌, []};
+ghost use Rattle.zre_chat.specs.Statuses.{rank, least, of_read, of_print, of_work, of_thread, of_fault};
+
+use zre_actor::Ending;
+use zre_input::InputEnd;
+use zre_outside::NextFault;
+use zre_pump::Status;
+
+// In which place a status stands where several have occurred.
+fn rank(status: Status) -> u8
+    ensures { result ≡ rank status }
+{
+    match status {
+        Status::OutOfMemory => 0,
+        Status::Done => 10,
+        other => other.code(),
+    }
+}
+
+// The first of two.
+fn first(a: Status, b: Status) -> Status
+    ensures { result ≡ least (a ∷ b ∷ []) }
+{
+    if rank(a) <= rank(b) { a } else { b }
+}
+
+/// What a refusal of the outside comes to, where its failing is this status.
+pub(crate) fn of_fault(fault: NextFault, failed: Status) -> Status
+    ensures { result ≡ of_fault fault failed }
+{
+    match fault {
+        NextFault::Failed => failed,
+        NextFault::OutOfMemory => Status::OutOfMemory,
+    }
+}
+
+fn of_read(end: InputEnd) -> Status
+    ensures { result ≡ of_read end }
+{
+    match end {
+        InputEnd::Quit | InputEnd::AtEnd | InputEnd::Over => Status::Done,
+        InputEnd::ReadFault => Status::ReadFault,
+        InputEnd::TooLong => Status::TooLong,
+        InputEnd::OutOfMemory => Status::OutOfMemory,
+    }
+}
+
+fn of_print(fault: Option<NextFault>) -> Status
+    ensures { result ≡ of_print fault }
+{
+    match fault {
+        None => Status::Done,
+        Some(fault) => of_fault(fault, Status::WriteFault),
+    }
+}
+
+fn of_work(ending: Ending) -> Status
+    ensures { result ≡ of_work ending }
+{
+    match ending {
+        Ending::Stopped => Status::Done,
+        Ending::WorldFault => Status::WorldFault,
+        Ending::RecordFault => Status::WriteFault,
+        Ending::TooLong => Status::TooLong,
+        Ending::OutOfMemory => Status::OutOfMemory,
+    }
+}
+
+fn of_thread(refused: bool) -> Status
+    ensures { result ≡ of_thread refused }
+{
+    if refused {
+        Status::NoThread
+    } else {
+        Status::Done
+    }
+}
+
+/// The status where these are how the parts ended.
+pub(crate) fn status_of(
+    end: InputEnd,
+    fault: Option<NextFault>,
+    ending: Ending,
+    refused: bool,
+) -> Status
+    ensures { result ≡ least (of_read end ∷ of_print fault ∷ of_work ending ∷ of_thread refused ∷ []) }
+{
+    let last = first(of_work(ending), of_thread(refused));
+    first(of_read(end), first(of_print(fault), last))
+}

@@ -1,0 +1,12 @@
+//! The reader of a chat: a job that puts the commands of a source's lines into the command pipe.
+#![tactic(auto)]
+
+mod ending;
+mod job;
+mod putting;
+mod reading;
+#[cfg(test)]
+mod tests;
+
+pub use ending::InputEnd;
+pub use job::{ReaderDone, ReaderJob};

@@ -1,0 +1,4 @@
+pub mod Fields
+pub mod Pieces
+pub mod Quits
+pub mod Unfinished
