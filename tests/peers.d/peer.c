@@ -1,7 +1,7 @@
 /*  A small peer of RFC 36 over libzmq, for tests/peers: what the node says to it goes through a foreign ZMTP and a foreign
  *  reader, and what it says to the node through a foreign writer.
  *
- *      peer id=UUID host=A.B.C.D port=N name=NAME to=A.B.C.D [header=NAME=VALUE].. [beacon=PORT] [interval=MS]
+ *      peer ID HOST PORT NAME TO [HEADER=VALUE]..
  *
  *  Its mailbox is a ROUTER with handover; for each peer that it knows it has one DEALER with the identity 01 and its own
  *  UUID. Beacons go and come by plain sockets. It takes lines as `zre chat` does: join GROUP, leave GROUP, shout GROUP
@@ -21,7 +21,7 @@
 #include <zmq.h>
 
 enum { HELLO = 1, WHISPER, SHOUT, JOIN, LEAVE, PING, PING_OK };
-enum { PEERS = 16, GROUPS = 32, HEADERS = 8, LINE = 100000, LIFE = 60 };
+enum { PEERS = 16, GROUPS = 32, LINE = 100000, LIFE = 60, BEACON_PORT = 5670, INTERVAL = 200 };
 
 struct octets { const uint8_t *at; size_t len; };
 struct name { uint8_t at[255]; size_t len; };
@@ -38,11 +38,11 @@ struct peer {
 static struct peer peers[PEERS];
 static struct groups own;
 static uint8_t own_id[16], own_status;
-static char host[16], to[16], endpoint[64];
-static const char *name = "peer", *headers[HEADERS];
-static int port, beacon_port = 5670, interval = 1000, headers_len;
+static char endpoint[64];
+static const char *name, *to;
+static char **headers;
+static int port, udp, headers_len;
 static void *context, *mailbox;
-static int udp;
 static bool is_muted;
 
 /* ---- Text ---- */
@@ -170,9 +170,9 @@ static void send_hello(struct peer *p)
     add_text(name, strlen(name), 1);
     add_number(headers_len, 4);
     for (int i = 0; i < headers_len; i++) {
-        const char *value = strchr(headers[i], '=') + 1;
-        add_text(headers[i], value - 1 - headers[i], 1);
-        add_text(value, strlen(value), 4);
+        size_t len = strcspn(headers[i], "=");
+        add_text(headers[i], len, 1);
+        add_text(headers[i] + len + 1, strlen(headers[i] + len + 1), 4);
     }
     send_out(p, NULL);
 }
@@ -333,7 +333,7 @@ static void receive(void)
 
 static void open_udp(void)
 {
-    struct sockaddr_in a = { .sin_family = AF_INET, .sin_port = htons(beacon_port) };
+    struct sockaddr_in a = { .sin_family = AF_INET, .sin_port = htons(BEACON_PORT) };
     udp = socket(AF_INET, SOCK_DGRAM, 0);
     if (udp < 0 || setsockopt(udp, SOL_SOCKET, SO_BROADCAST, &(int){ 1 }, sizeof(int))
         || bind(udp, (struct sockaddr *)&a, sizeof a)) give_up("beacons");
@@ -341,7 +341,7 @@ static void open_udp(void)
 
 static void send_beacon(int its_port)
 {
-    struct sockaddr_in a = { .sin_family = AF_INET, .sin_port = htons(beacon_port) };
+    struct sockaddr_in a = { .sin_family = AF_INET, .sin_port = htons(BEACON_PORT) };
     uint8_t beacon[22] = { 'Z', 'R', 'E', 1 };
     memcpy(beacon + 4, own_id, 16);
     beacon[20] = its_port >> 8;
@@ -427,31 +427,19 @@ static int64_t now(void)
     return (int64_t)t.tv_sec * 1000 + t.tv_nsec / 1000000;
 }
 
-static bool read_word(char *word)
-{
-    char *value = strchr(word, '=');
-    if (!value) return false;
-    *value++ = 0;
-    if (!strcmp(word, "id")) return read_id(value, own_id);
-    else if (!strcmp(word, "host")) snprintf(host, sizeof host, "%s", value);
-    else if (!strcmp(word, "to")) snprintf(to, sizeof to, "%s", value);
-    else if (!strcmp(word, "name")) name = value;
-    else if (!strcmp(word, "port")) port = atoi(value);
-    else if (!strcmp(word, "beacon")) beacon_port = atoi(value);
-    else if (!strcmp(word, "interval")) interval = atoi(value);
-    else if (!strcmp(word, "header") && strchr(value, '=') && headers_len < HEADERS) headers[headers_len++] = value;
-    else return false;
-    return true;
-}
-
 int main(int count, char **words)
 {
-    for (int i = 1; i < count; i++)
-        if (!read_word(words[i])) { puts("USAGE"); return 2; }
-    if (!*host || !*to || port <= 0) { puts("USAGE"); return 2; }
+    if (count < 6 || !read_id(words[1], own_id)) { puts("USAGE"); return 2; }
+    port = atoi(words[3]);
+    name = words[4];
+    to = words[5];
+    headers = words + 6;
+    headers_len = count - 6;
+    for (int i = 0; i < headers_len; i++)
+        if (!strchr(headers[i], '=')) { puts("USAGE"); return 2; }
+    snprintf(endpoint, sizeof endpoint, "tcp://%s:%d", words[2], port);
     setvbuf(stdout, NULL, _IOLBF, 0);
     alarm(LIFE);
-    snprintf(endpoint, sizeof endpoint, "tcp://%s:%d", host, port);
     context = zmq_ctx_new();
     mailbox = zmq_socket(context, ZMQ_ROUTER);
     if (!mailbox || zmq_setsockopt(mailbox, ZMQ_ROUTER_HANDOVER, &(int){ 1 }, sizeof(int))
@@ -468,7 +456,7 @@ int main(int count, char **words)
         if (items[2].revents) goes_on = read_lines();
         if (now() < due) continue;
         if (!is_muted) send_beacon(port);
-        due = now() + interval;
+        due = now() + INTERVAL;
     }
     /* The last beacon arrives before its connections end, since a node may tell either as the cause. */
     send_beacon(0);
