@@ -235,8 +235,7 @@ module _ (g : Config) (start : Start) (name : Option (List ℕ)) (keep : Bool) (
   held : (file : List ℕ) → name ≡ Some file → status ≢ OutOfMemory → ¬ Rose s.record_faults t.record_faults → Holds file w.entries s t
   held file is isnt rose =
       let k : KeptLines u.kept t.kept w.entries w.unstepped = w.are_kept (p.keeps ∙ ap is_some is) in
-      let nothing : k.part ≡ [] = front_nil k.part k.rest (sym k.is_part ∙ ap capture.lines (given isnt rose)) in
-      (
+      let nothing : k.part ≡ [] = front_nil k.part k.rest (sym k.is_part ∙ ap capture.lines (given isnt rose)) in (
         Appends-trans (option_map (λ _. []) s.kept) u.kept t.kept capture.head (capture.lines w.entries) (p.head_kept file is) (subst (Appends u.kept t.kept) (ap (λ l. capture.lines w.entries ++ l) nothing ∙ append-nil (capture.lines w.entries)) k.is_kept),
         Keeps-trans (option_map (λ _. file) s.named) u.named t.named (p.file_named file is) named,
       )

@@ -109,7 +109,9 @@ impl Chat {
             }
         };
         let keep = capture.is_some();
-        converse(rt, alloc, table, input, world, out, rec, keep, spawner, limit)
+        converse(
+            rt, alloc, table, input, world, out, rec, keep, spawner, limit,
+        )
     }
 }
 

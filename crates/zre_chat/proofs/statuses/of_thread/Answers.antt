@@ -1,2 +1,0 @@
-use Rattle.zre_chat.proofs.Talked.{talked}
-use Rattle.zre_chat.proofs.statuses.of_thread.Goals as goal
