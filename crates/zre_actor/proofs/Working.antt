@@ -1,13 +1,14 @@
 -- The work so far, and what each turn adds.
-use Rattle.std.proofs.Common.{◌≡◌, ◌≢◌, ℕ, zero, suc, ◌+◌, ◌-◌, ◌^◌, ◌≤◌, ◌<◌, ◌==◌, ◌&&◌, min, Bool, true, false, true≢false, cond, nat_lt, List, [], ◌∷◌, ◌++◌, map, length, Option, Some, None, refl, sym, ap, ◌∙◌, subst, arith, append_assoc, append-nil, length-append, eq-eqb, ne_eqb, ⊎_elim}
+use Rattle.std.proofs.Common.{◌≡◌, ◌≢◌, ℕ, zero, suc, ◌+◌, ◌^◌, ◌≤◌, ◌<◌, ◌==◌, ◌&&◌, Bool, true, false, true≢false, cond, nat_lt, List, [], ◌∷◌, ◌++◌, map, length, Option, Some, None, refl, sym, ap, ◌∙◌, subst, arith, append_assoc, append-nil, length-append, eq-eqb, ne_eqb, ⊎_elim}
 use mathlib.Core.Logic.{inl, inr}
+use mathlib.Core.List.{Sublist, nil-sublist}
+use mathlib.Core.List.Sublist as sublists
 use Rattle.std.specs.Prelude.{◌⊎◌, ⊤, option_map, option_to_list, IsTrue}
 use Rattle.std.specs.Io.KnownBytes.{Appends}
 use Rattle.std.proofs.KnownBytes.{Appends-nil, Appends-trans}
 use Rattle.std.proofs.lemmas.List.{map-append}
 use Rattle.std.proofs.lemmas.Grind.{flat_map-append}
 use Rattle.std.proofs.lemmas.Bool.Decides.{nat_tests}
-use Rattle.zre_outside.specs.declared.act.Act.{Act}
 use Rattle.zre_outside.specs.declared.deed.Deed.{Deed}
 use Rattle.zre_outside.specs.declared.entry.Entry.{Entry}
 use Rattle.zre_outside.specs.declared.entry.Input.TheVariants as input
@@ -35,7 +36,7 @@ use Rattle.zre_actor.specs.declared.views.Placed.{Placed}
 use Rattle.zre_actor.specs.declared.passes.ActorPass.{ActorPass}
 use Rattle.zre_actor.specs.Commands.{command_of}
 use Rattle.zre_actor.specs.Passes.{IsPopped}
-use Rattle.zre_actor.specs.Work.{Scene, scene, went, AreDeeds, acts_of, late, Goes, world_ending, Ends, KeptLines, QuitsLast, IsWork, Went, IsRefusal, IsUnput, IsUnstepped, IsUndone, Broke}
+use Rattle.zre_actor.specs.Work.{Scene, scene, went, AreDeeds, acts_of, late, command_in, done_by, Goes, world_ending, Ends, KeptLines, QuitsLast, IsWork, Went, IsRefusal, IsUnput, IsUnstepped, IsUndone, Broke}
 use Rattle.zre_actor.proofs.Deeds.{went-none, after_look, after_entry, AreDeeds-append, acts_of-snoc}
 
 not_late : (turns limit : ℕ) (looked : Bool) → turns ≢ limit → late turns limit looked ≡ 0
@@ -114,6 +115,7 @@ module _ (g : Config) (K : List Entry) (keep : Bool) (limit : ℕ) (s : Scene) w
     pub entries : List Entry
     pub deeds : List Deed
     pub goes : Goes turns limit s t entries deeds (option_to_list command)
+    pub most : turns ≤ limit
     pub node : StandsFor g (K ++ entries) n
     pub are_deeds : AreDeeds g (acts_of g K entries) deeds
     pub told : List Event
@@ -137,6 +139,7 @@ module _ (g : Config) (K : List Entry) (keep : Bool) (limit : ℕ) (s : Scene) w
     popped = h.popped;
     is_popped = h.is_popped;
     are_handed = h.are_handed;
+    are_done = subst (λ l. Sublist h.handed (done_by l)) e h.are_done;
     are_looks = h.are_looks;
   }
 
@@ -152,8 +155,10 @@ module _ (g : Config) (K : List Entry) (keep : Bool) (limit : ℕ) (s : Scene) w
       popped = [];
       is_popped = sym (append-nil s.popped);
       are_handed = refl;
+      are_done = nil-sublist [];
       are_looks = (let z : late 0 limit s.looked ≡ 0 = start_late limit s.looked in omega arith);
     };
+    most = omega arith;
     node = subst (λ J. StandsFor g J n) (sym (append-nil K)) here;
     are_deeds = tt;
     told = [];
@@ -187,6 +192,7 @@ module _ (g : Config) (K : List Entry) (keep : Bool) (limit : ℕ) (s : Scene) w
       popped = h.popped;
       is_popped = popped.0 ∙ h.is_popped;
       are_handed = hands;
+      are_done = h.are_done;
       are_looks = omega (arith, h.are_looks, popped.1);
     }
     looks_again u (Some c) new popped now later hands = let h = k.goes in let e = popped.0.0 in record {
@@ -197,6 +203,7 @@ module _ (g : Config) (K : List Entry) (keep : Bool) (limit : ℕ) (s : Scene) w
       popped = h.popped ++ e ∷ [];
       is_popped = popped.0.2 ∙ ap (λ l. l ++ e ∷ []) h.is_popped ∙ append_assoc s.popped h.popped (e ∷ []);
       are_handed = map-append command_of h.popped (e ∷ []) ∙ ap (λ l. l ++ e.command ∷ []) (hands ∙ append-nil h.handed) ∙ ap (λ x. h.handed ++ x ∷ []) popped.0.1;
+      are_done = h.are_done;
       are_looks = omega (arith, h.are_looks, popped.1, length-append h.popped (e ∷ []));
     }
 
@@ -232,6 +239,7 @@ module _ (g : Config) (K : List Entry) (keep : Bool) (limit : ℕ) (s : Scene) w
           entries = k.entries;
           deeds = k.deeds;
           goes = looks_again u found w.told popped now later hands;
+          most = omega (arith, more);
           node = k.node;
           are_deeds = k.are_deeds;
           told = k.told;
@@ -262,8 +270,10 @@ module _ (g : Config) (K : List Entry) (keep : Bool) (limit : ℕ) (s : Scene) w
             popped = h.popped;
             is_popped = popped ∙ h.is_popped;
             are_handed = h.are_handed ∙ ap (λ l. h.handed ++ l) (no_command command is);
+            are_done = h.are_done;
             are_looks = omega (arith, h.are_looks);
           };
+          most = omega (arith, last);
           node = k.node;
           are_deeds = k.are_deeds;
           told = k.told;
@@ -279,12 +289,18 @@ module _ (g : Config) (K : List Entry) (keep : Bool) (limit : ℕ) (s : Scene) w
 
     -- an entry was given, and the rest of the scene stands as it stood but for the events that are raised
     pub record Gives (e : Entry) (told : Option Log) (u : Scene) : Type 0 where
+      pub is_turn : IsTurn command (turn.Entry e)
       pub given : told ≡ option_map (after_turn command (turn.Entry e)) t.told
       pub looked : u.looked ≡ false
       pub popped : u.popped ≡ t.popped
       pub empties : u.empties ≡ t.empties
       pub world_later : t.world_faults ≤ u.world_faults
       pub record_later : t.record_faults ≤ u.record_faults
+
+    -- the entry of a turn does the command that was handed in
+    does : (c : Option Command) (e : Entry) → IsTurn c (turn.Entry e) → Sublist (option_to_list c) (done_by (e ∷ []))
+    does None e is = nil-sublist (done_by (e ∷ []))
+    does (Some c) e is = subst (λ i. Sublist (c ∷ []) (command_in i ++ [])) (sym is) (sublists.refl (c ∷ []))
 
     abbrev given_goes : (e : Entry) (told : Option Log) (u : Scene) (more : List Deed) → Gives e told u → turns < limit → u.told ≡ option_map (went [] 0 [] more) told → Goes (turns + 1) limit s u (k.entries ++ e ∷ []) (k.deeds ++ more) []
     given_goes e told u more w less done =
@@ -299,6 +315,7 @@ module _ (g : Config) (K : List Entry) (keep : Bool) (limit : ℕ) (s : Scene) w
           popped = h.popped;
           is_popped = w.popped ∙ h.is_popped;
           are_handed = h.are_handed ∙ sym (append-nil (h.handed ++ option_to_list command));
+          are_done = subst (Sublist (h.handed ++ option_to_list command)) (sym (flat_map-append (λ x. command_in x.input) k.entries (e ∷ []))) (sublists.append h.are_done (does command e w.is_turn));
           are_looks = omega (arith, h.are_looks, w.empties);
         }
 
@@ -312,6 +329,7 @@ module _ (g : Config) (K : List Entry) (keep : Bool) (limit : ℕ) (s : Scene) w
       entries = k.entries ++ e ∷ [];
       deeds = k.deeds ++ x.deeds;
       goes = given_goes e told u x.deeds w less x.is_told;
+      most = omega (arith, less);
       node = subst (λ J. StandsFor g J n') (along e) x.stands;
       are_deeds = subst (λ l. AreDeeds g l (k.deeds ++ x.deeds)) (sym (acts_of-snoc g K k.entries e)) (AreDeeds-append g (acts_of g K k.entries) _ k.deeds x.deeds k.are_deeds x.are_deeds);
       told = k.told ++ es;
@@ -341,6 +359,7 @@ module _ (g : Config) (K : List Entry) (keep : Bool) (limit : ℕ) (s : Scene) w
       pending = option_to_list command;
       deeds = k.deeds;
       goes = going_same k.entries (k.entries ++ []) k.deeds k.deeds turns t (option_to_list command) k.goes (sym (append-nil k.entries)) refl;
+      most = k.most;
       quits_last = k.quits_last;
       node = inl k.node;
       did = acts_of g K k.entries;
@@ -390,6 +409,7 @@ module _ (g : Config) (K : List Entry) (keep : Bool) (limit : ℕ) (s : Scene) w
       popped = h.popped;
       is_popped = popped ∙ h.is_popped;
       are_handed = h.are_handed;
+      are_done = h.are_done;
       are_looks = omega (arith, h.are_looks, empties, same);
     }
 
@@ -398,6 +418,7 @@ module _ (g : Config) (K : List Entry) (keep : Bool) (limit : ℕ) (s : Scene) w
       entries = k.entries;
       deeds = k.deeds;
       goes = same_goes u [] w.told w.looked w.popped w.empties;
+      most = k.most;
       node = k.node;
       are_deeds = k.are_deeds;
       told = k.told;
@@ -426,6 +447,7 @@ module _ (g : Config) (K : List Entry) (keep : Bool) (limit : ℕ) (s : Scene) w
       pending = [];
       deeds = k.deeds;
       goes = going_same (k.entries ++ e ∷ []) (k.entries ++ e ∷ []) (k.deeds ++ []) k.deeds (turns + 1) u [] (given_goes e told u [] w less (same ∙ went-none told)) refl (append-nil k.deeds);
+      most = omega (arith, less);
       quits_last = k.quits_last;
       node = node;
       did = acts_of g K k.entries;
@@ -465,6 +487,7 @@ module _ (g : Config) (K : List Entry) (keep : Bool) (limit : ℕ) (s : Scene) w
       pending = [];
       deeds = k.deeds ++ x.deeds;
       goes = going_same (k.entries ++ e ∷ []) ((k.entries ++ e ∷ []) ++ []) (k.deeds ++ x.deeds) (k.deeds ++ x.deeds) (turns + 1) u [] (given_goes e told u x.deeds w less x.is_told) (sym (append-nil (k.entries ++ e ∷ []))) refl;
+      most = omega (arith, less);
       quits_last = k.quits_last;
       node = inl (subst (λ J. StandsFor g J n') (along e) x.stands);
       did = acts_of g K k.entries ++ x.did;

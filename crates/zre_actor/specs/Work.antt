@@ -1,11 +1,14 @@
 -- What the actor's work comes to.
-use Rattle.std.specs.Prelude.{◌≡◌, ◌≢◌, ◌⊎◌, ℕ, ◌+◌, ◌≤◌, ◌<◌, ◌==◌, ◌&&◌, Bool, true, false, cond, nat_lt, List, [], ◌∷◌, ◌++◌, map, length, Option, Some, None, option_map, IsTrue}
+use Rattle.std.specs.Prelude.{◌≡◌, ◌≢◌, ◌⊎◌, ℕ, ◌+◌, ◌≤◌, ◌<◌, ◌==◌, ◌&&◌, Bool, true, false, cond, nat_lt, List, [], ◌∷◌, ◌++◌, map, flat_map, length, Option, Some, option_map, IsTrue}
+use mathlib.Core.List.{Sublist}
 use Rattle.std.specs.Io.KnownBytes.{Appends}
 use Rattle.zre_outside.specs.declared.act.Act.{Act}
 use Rattle.zre_outside.specs.declared.act.Act.TheVariants as act
 use Rattle.zre_outside.specs.declared.deed.Deed.{Deed}
 use Rattle.zre_outside.specs.declared.deed.Deed.TheVariants as deed
 use Rattle.zre_outside.specs.declared.entry.Entry.{Entry}
+use Rattle.zre_outside.specs.declared.entry.Input.{Input}
+use Rattle.zre_outside.specs.declared.entry.Input.TheVariants as input
 use Rattle.zre_outside.specs.declared.entry.Command.{Command}
 use Rattle.zre_outside.specs.declared.entry.Command.TheVariants as ask
 use Rattle.zre_outside.specs.declared.sink.NextFault.{NextFault}
@@ -73,6 +76,15 @@ acts_of g J (e ∷ es) = beside (J ++ e ∷ []) (acts_behind g (e ∷ []) (chron
 
 -- ---- turns
 
+-- the command of an entry to do one
+abbrev pub command_in : Input → List Command
+command_in (input.Do c) = c ∷ []
+command_in i = []
+
+-- the commands that entries do, in order
+abbrev pub done_by : List Entry → List Command
+done_by entries = flat_map (λ e. command_in e.input) entries
+
 -- the last turn that the limit allows was a look, behind which nothing is popped
 abbrev pub late : ℕ → ℕ → Bool → ℕ
 late turns limit looked = cond (nat_lt 0 limit && (turns == limit) && looked) 1 0
@@ -87,6 +99,8 @@ pub record Goes (turns limit : ℕ) (s t : Scene) (given : List Entry) (deeds : 
   pub popped : List Placed
   pub is_popped : t.popped ≡ s.popped ++ popped
   pub are_handed : map command_of popped ≡ handed ++ pending
+  -- each that was handed on is done by an entry, in order
+  pub are_done : Sublist handed (done_by given)
   -- behind each look the pipe was popped once
   pub are_looks : looks + s.empties ≡ length popped + t.empties + late turns limit t.looked
 
@@ -126,6 +140,8 @@ pub record IsWork (g : Config) (K : List Entry) (keep : Bool) (limit : ℕ) (s t
   pub pending : List Command
   pub deeds : List Deed
   pub goes : Goes turns limit s t (entries ++ unstepped) deeds pending
+  -- no more turns were answered than the limit allows
+  pub most : turns ≤ limit
   -- nothing was popped behind a Quit
   pub quits_last : QuitsLast (map command_of goes.popped)
   -- the node stands for what it took, unless it found no memory for its last step

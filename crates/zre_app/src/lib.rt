@@ -5,11 +5,13 @@
 mod chat;
 mod chat_words;
 mod keys;
+mod laws;
 mod node_words;
 mod plain_commands;
 mod top;
 mod words;
 
+pub use laws::kept_captures_are_replayed;
 pub use plain_commands::{PlainEnded, plain};
 pub use top::{Ended, LIMIT, run, zre};
 pub use words::{Command, command_of, is_chat};

@@ -1,18 +1,16 @@
 //! The commands that read a source and write to a sink, and have to do with nothing else.
 
-ghost use Rattle.std.specs.Prelude.{◌≡◌, ◌≤◌, ℕ, Some, None, true, false};
-ghost use Rattle.zre_values.specs.declared.peer_id.PeerId.{PeerId};
+ghost use Rattle.std.specs.Prelude.{◌≡◌, ◌≤◌, true, false};
 ghost use Rattle.zre_outside.specs.Causes.{Rose};
 ghost use Rattle.zre_pump.specs.Outcome.{Pumped};
 ghost use Rattle.zre_follow.specs.Follow.{follow};
 ghost use Rattle.zre_journal.specs.Config.{is_valid};
-ghost use Rattle.zre_journal.specs.declared.config.Config.{Config as ConfigValue};
 ghost use Rattle.zre_replay.specs.Replay.{replay};
 ghost use Rattle.zre_show.specs.Show.{show};
-ghost use Rattle.zre_app.specs.declared.words.Command.TheVariants as commands;
 ghost use Rattle.zre_exercise.specs.Exercise.{text as exercise_text};
 ghost use Rattle.zre_app.specs.Usage.{UsageOutcome, WritesText};
-ghost use Rattle.zre_app.specs.Words.{command_of, is_chat};
+ghost use Rattle.zre_app.specs.Does.{DoesPlain, is_unread};
+ghost use Rattle.zre_app.specs.Words.{command_of, is_chat, is_plain, IsReady};
 
 use crate::words::{Command, command_of};
 use std::alloc::Global;
@@ -116,6 +114,39 @@ fn exercise<O: Sink>(alloc: Global, seed: u64, peers: u16, messages: u32, out: &
     }
 }
 
+// Does a command other than `chat`, or tells that there is none.
+fn obey<I: Source, O: Sink>(
+    alloc: Global,
+    command: Option<Command>,
+    input: &mut I,
+    out: &mut O,
+    limit: u64,
+) -> Status
+    requires plain { is_plain command ≡ true }
+    requires ready { IsReady command }
+    ensures does { DoesPlain command limit result
+        (I.left input.old) (I.left input.new) (I.taken input.old) (I.taken input.new) (O.written out.old) (O.written out.new)
+        (Rose (I.faults input.old) (I.faults input.new)) (Rose (O.faults out.old) (O.faults out.new)) }
+    ensures unread { is_unread command ≡ true → input.new ≡ input.old }
+    ensures reads { I.faults input.old ≤ I.faults input.new }
+    ensures writes { O.faults out.old ≤ O.faults out.new }
+{
+    match command {
+        None => usage(out),
+        Some(Command::Follow { id }) => follow(alloc, id, input, out, limit),
+        Some(Command::Show) => show(alloc, input, out, limit),
+        Some(Command::Replay { config }) => replay(alloc, config, input, out, limit),
+        Some(
+            Command::Exercise {
+                seed,
+                peers,
+                messages,
+            },
+        ) => exercise(alloc, seed, peers, messages, out),
+        Some(Command::Chat { .. }) => unreachable!(),
+    }
+}
+
 /// Does what the words of a command other than `chat` ask for, and reads at most `limit` octets. The source comes back
 /// as it was left.
 pub fn plain<I: Source, O: Sink>(
@@ -126,67 +157,22 @@ pub fn plain<I: Source, O: Sink>(
     limit: u64,
 ) -> PlainEnded<I>
     requires { is_chat words.now ≡ false }
-    // Where the words are no command, nothing is read.
-    ensures unread { command_of words.now ≡ None → result.input ≡ input }
-    ensures usage { command_of words.now ≡ None →
-        UsageOutcome result.status (O.written out.old) (O.written out.new) (Rose (O.faults out.old) (O.faults out.new)) }
-
-    // Some octets of the source are taken, and the status says what is written of them.
-    ensures follow { (id : PeerId) → command_of words.now ≡ Some (commands.Follow id) →
-        Pumped result.status limit (follow id)
+    ensures does { DoesPlain (command_of words.now) limit result.status
         (I.left input) (I.left result.input) (I.taken input) (I.taken result.input) (O.written out.old) (O.written out.new)
         (Rose (I.faults input) (I.faults result.input)) (Rose (O.faults out.old) (O.faults out.new)) }
-    ensures show { command_of words.now ≡ Some commands.Show →
-        Pumped result.status limit show
-        (I.left input) (I.left result.input) (I.taken input) (I.taken result.input) (O.written out.old) (O.written out.new)
-        (Rose (I.faults input) (I.faults result.input)) (Rose (O.faults out.old) (O.faults out.new)) }
-    ensures replay { (g : ConfigValue) → command_of words.now ≡ Some (commands.Replay g) →
-        Pumped result.status limit (replay g)
-        (I.left input) (I.left result.input) (I.taken input) (I.taken result.input) (O.written out.old) (O.written out.new)
-        (Rose (I.faults input) (I.faults result.input)) (Rose (O.faults out.old) (O.faults out.new)) }
-    // The exercise reads nothing, and its summary is written.
-    ensures exercise { (seed peers messages : ℕ) → command_of words.now ≡ Some (commands.Exercise seed peers messages) →
-        WritesText result.status (exercise_text seed peers messages) (O.written out.old) (O.written out.new) (Rose (O.faults out.old) (O.faults out.new)) }
-    ensures untouched { (seed peers messages : ℕ) → command_of words.now ≡ Some (commands.Exercise seed peers messages) → result.input ≡ input }
+    ensures unread { is_unread (command_of words.now) ≡ true → result.input ≡ input }
     ensures reads { I.faults input ≤ I.faults result.input }
     ensures writes { O.faults out.old ≤ O.faults out.new }
 {
     match command_of(alloc, words) {
+        Ok(command) => {
+            let mut input = input;
+            let status = obey(alloc, command, &mut input, out, limit);
+            PlainEnded { status, input }
+        }
         Err(OutOfMemory) => PlainEnded {
             status: Status::OutOfMemory,
             input,
         },
-        Ok(None) => PlainEnded {
-            status: usage(out),
-            input,
-        },
-        Ok(Some(Command::Follow { id })) => {
-            let mut input = input;
-            let status = follow(alloc, id, &mut input, out, limit);
-            PlainEnded { status, input }
-        }
-        Ok(Some(Command::Show)) => {
-            let mut input = input;
-            let status = show(alloc, &mut input, out, limit);
-            PlainEnded { status, input }
-        }
-        Ok(Some(Command::Replay { config })) => {
-            let mut input = input;
-            let status = replay(alloc, config, &mut input, out, limit);
-            PlainEnded { status, input }
-        }
-        Ok(
-            Some(
-                Command::Exercise {
-                    seed,
-                    peers,
-                    messages,
-                },
-            ),
-        ) => PlainEnded {
-            status: exercise(alloc, seed, peers, messages, out),
-            input,
-        },
-        Ok(Some(Command::Chat { .. })) => unreachable!(),
     }
 }

@@ -3,9 +3,7 @@ use Rattle.std.proofs.Common.{◌≡◌, ℕ, List, [], ◌++◌, ◌∙◌, Opt
 use Rattle.std.specs.Prelude.{IsSome}
 use Rattle.std.specs.Io.KnownBytes.{Appends}
 use Rattle.zre_outside.specs.declared.sink.NextFault.{NextFault}
-use Rattle.zre_outside.specs.Told.{AppendsFront}
 use Rattle.zre_peer.specs.declared.event.Event.{Event}
-use Rattle.zre_peer.specs.Lines.{lines}
 use Rattle.zre_actor.specs.declared.passes.CallerPass.{CallerPass}
 use Rattle.zre_actor.specs.declared.passes.TakerPass.{TakerPass}
 use Rattle.zre_actor.specs.Passes.{taken_by}

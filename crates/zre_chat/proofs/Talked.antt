@@ -1,5 +1,5 @@
 -- A chat whose threads were started.
-use Rattle.std.proofs.Common.{◌≡◌, ◌≢◌, ℕ, ◌+◌, ◌≤◌, Bool, true, false, true≢false, cond, List, [], ◌∷◌, ◌++◌, map, length, Option, Some, None, refl, sym, ap, ◌∙◌, subst, arith, append_assoc, append-nil}
+use Rattle.std.proofs.Common.{◌≡◌, ◌≢◌, ℕ, ◌≤◌, Bool, true, false, List, [], ◌∷◌, ◌++◌, map, length, Option, Some, None, refl, sym, ap, ◌∙◌, subst, arith, append_assoc, append-nil}
 use Rattle.std.specs.Prelude.{◌⊎◌, option_map, is_some}
 use mathlib.Core.Logic.{inl, inr}
 use mathlib.Core.List.{IsPrefix}
@@ -16,7 +16,6 @@ use Rattle.zre_outside.specs.declared.start.Start.{Start}
 use Rattle.zre_outside.specs.Causes.{Rose}
 use Rattle.zre_outside.specs.Told.{Moves, AppendsFront}
 use Rattle.zre_outside.specs.Worlds.{with_start}
-use Rattle.zre_peer.specs.declared.event.Event.{Event}
 use Rattle.zre_peer.specs.Lines.{line, lines}
 use Rattle.zre_journal.specs.declared.config.Config.{Config}
 use Rattle.zre_journal.specs.Events.{chronicle, events}
@@ -29,7 +28,7 @@ use Rattle.zre_actor.specs.declared.passes.ActorPass.{ActorPass}
 use Rattle.zre_actor.specs.declared.passes.CallerPass.{CallerPass}
 use Rattle.zre_actor.specs.declared.passes.TakerPass.{TakerPass}
 use Rattle.zre_actor.specs.declared.views.Placed.{Placed}
-use Rattle.zre_actor.specs.Commands.{placed, under, command_of}
+use Rattle.zre_actor.specs.Commands.{under, command_of}
 use Rattle.zre_actor.specs.Passes.{IsNew, number, ended, put_by, puts_of, popped_by, raised_by, taken_by}
 use Rattle.zre_actor.specs.Work.{Scene, scene, went, IsWork, Ends, KeptLines}
 use Rattle.zre_actor.proofs.Working.{rose_later}
@@ -44,7 +43,7 @@ use Rattle.zre_pump.specs.declared.status.Status.TheVariants.{Done, OutOfMemory}
 use Rattle.zre_chat.specs.declared.asker.Wish.{Wish}
 use Rattle.zre_chat.specs.declared.asker.Wish.TheVariants.{No, Due, Put}
 use Rattle.zre_chat.specs.Asking.{asked, asker_of, HasAsked}
-use Rattle.zre_chat.specs.Chat.{Seen, IsChat, IsCaused, AreCaused, Holds, but_quits}
+use Rattle.zre_chat.specs.Chat.{Seen, IsChat, IsCaused, Holds, but_quits}
 use Rattle.zre_chat.specs.Printing.{HasPrinted}
 use Rattle.zre_chat.specs.Stages.{Prepared}
 use Rattle.zre_chat.specs.Statuses.{least, of_read, of_print, of_work, of_thread}
@@ -276,6 +275,7 @@ module _ (g : Config) (start : Start) (name : Option (List ℕ)) (keep : Bool) (
   talked = record {
     octets = r.octets;
     are_taken = subst (λ (x : Option (List ℕ) × Option (List ℕ)). Moves x.0 t.left x.1 t.taken r.octets) (λ i. (p.same_left i, p.same_taken i)) r.moved;
+    within = r.within;
     begun = true;
     turns = w.turns;
     looks = w.goes.looks;
@@ -286,6 +286,7 @@ module _ (g : Config) (start : Start) (name : Option (List ℕ)) (keep : Bool) (
     is_told = w.goes.is_told ∙ ap (option_map (went (w.entries ++ w.unstepped) w.goes.looks w.goes.handed w.deeds)) p.told
         ∙ maps (went (w.entries ++ w.unstepped) w.goes.looks w.goes.handed w.deeds) (with_start start) s.told;
     counted = w.goes.counted;
+    most = w.most;
     one_unstepped = one _ _ _ w.turns w.unstepped w.pending how w.ends;
     all_taken = given;
     did = w.did;
@@ -296,6 +297,7 @@ module _ (g : Config) (start : Start) (name : Option (List ℕ)) (keep : Bool) (
     front = front;
     whole = whole;
     held = held;
+    are_done = w.goes.are_done;
     in_order = in_order;
     all_handed = all_handed;
     occurred = statuses;

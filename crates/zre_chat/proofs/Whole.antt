@@ -1,68 +1,50 @@
 -- What a chat comes to, from what its parts came to.
-use Rattle.std.proofs.Common.{◌≡◌, ◌≢◌, ℕ, zero, suc, ◌+◌, ◌≤◌, ◌<◌, ◌==◌, Bool, true, false, true≢false, cond, List, [], ◌∷◌, ◌++◌, map, length, Option, Some, None, refl, sym, ap, ◌∙◌, subst, arith, append_assoc, append-nil}
-use Rattle.std.specs.Prelude.{◌⊎◌, ⊤, option_map, is_some}
+use Rattle.std.proofs.Common.{◌≡◌, ◌≢◌, ℕ, ◌==◌, Bool, true, false, true≢false, List, [], ◌∷◌, ◌++◌, map, Option, Some, None, refl, sym, ap, ◌∙◌, subst, arith, append-nil}
+use Rattle.std.specs.Prelude.{◌⊎◌, option_map, is_some}
 use mathlib.Core.Logic.{inl, inr}
-use mathlib.Core.List.{IsPrefix}
+use mathlib.Core.List.{IsPrefix, nil-sublist}
 use Rattle.std.specs.List.{list_any}
-use Rattle.std.specs.Io.KnownBytes.{Keeps, Appends, Consumes, IsAtEnd}
+use Rattle.std.specs.Io.KnownBytes.{Appends, Consumes, IsAtEnd}
 use Rattle.std.proofs.KnownBytes.{Appends-nil, Consumes-nil}
 use Rattle.std.proofs.lemmas.List.{map-append}
-use Rattle.std.proofs.lemmas.Grind.{flat_map-append}
-use Rattle.zre_outside.specs.declared.act.Act.{Act}
-use Rattle.zre_outside.specs.declared.deed.Deed.{Deed}
-use Rattle.zre_outside.specs.declared.entry.Entry.{Entry}
 use Rattle.zre_outside.specs.declared.entry.Command.{Command}
 use Rattle.zre_outside.specs.declared.entry.Command.TheVariants.{Quit}
 use Rattle.zre_outside.specs.declared.sink.NextFault.{NextFault}
 use Rattle.zre_outside.specs.declared.sink.NextFault.TheVariants as fault
 use Rattle.zre_outside.specs.declared.start.Start.{Start}
 use Rattle.zre_outside.specs.Causes.{Rose}
-use Rattle.zre_outside.specs.Told.{Moves, AppendsFront}
-use Rattle.zre_outside.specs.Worlds.{Log, with_start}
-use Rattle.zre_peer.specs.declared.event.Event.{Event}
-use Rattle.zre_peer.specs.Lines.{line, lines}
+use Rattle.zre_outside.specs.Worlds.{Log}
 use Rattle.zre_journal.specs.declared.config.Config.{Config}
-use Rattle.zre_journal.specs.Events.{chronicle, events}
-use Rattle.zre_journal.specs.Happens.{has_stopped}
-use Rattle.zre_node.specs.declared.node.Node.{Node}
 use Rattle.zre_capture.specs.Lines as capture
-use Rattle.zre_actor.specs.declared.ending.Ending.{Ending}
-use Rattle.zre_actor.specs.declared.ending.Ending.TheVariants as ending
-use Rattle.zre_actor.specs.declared.passes.ActorPass.{ActorPass}
-use Rattle.zre_actor.specs.declared.passes.CallerPass.{CallerPass}
-use Rattle.zre_actor.specs.declared.passes.TakerPass.{TakerPass}
 use Rattle.zre_actor.specs.declared.views.Placed.{Placed}
 use Rattle.zre_actor.specs.Commands.{under, command_of}
-use Rattle.zre_actor.specs.Passes.{IsNew, number, put_by, puts_of, popped_by, raised_by, taken_by}
-use Rattle.zre_actor.specs.Work.{Scene, scene, went, IsWork, Ends, QuitsLast, KeptLines}
+use Rattle.zre_actor.specs.Work.{went, QuitsLast}
 use Rattle.zre_actor.proofs.Deeds.{went-none}
 use Rattle.zre_actor.proofs.Sums.{under-append}
-use Rattle.zre_actor.proofs.Working.{rose_later}
 use Rattle.zre_typist.specs.Orders.{is_quit, typed, orders, Begins}
 use Rattle.zre_input.specs.declared.ending.InputEnd.{InputEnd}
 use Rattle.zre_input.specs.declared.ending.InputEnd.TheVariants as end
-use Rattle.zre_input.specs.Putting.{Puts, IsClose}
-use Rattle.zre_input.specs.Reading.{HasRead, Outcome, BreaksOff}
-use Rattle.zre_input.proofs.Puts.{puts-none}
+use Rattle.zre_input.specs.Putting.{IsClose}
+use Rattle.zre_input.specs.Reading.{Outcome, BreaksOff}
 use Rattle.zre_pump.specs.declared.status.Status.{Status}
-use Rattle.zre_pump.specs.declared.status.Status.TheVariants.{Done, OutOfMemory}
-use Rattle.zre_chat.specs.declared.asker.Asker.{Asker}
-use Rattle.zre_chat.specs.declared.asker.Wish.{Wish}
-use Rattle.zre_chat.specs.declared.asker.Wish.TheVariants.{No, Due, Put}
-use Rattle.zre_chat.specs.Asking.{asked, asker_of, HasAsked}
+use Rattle.zre_pump.specs.declared.status.Status.TheVariants.{Done, Usage, BadInput, ReadFault, WriteFault, WorldFault, NoThread, TooLong, OutOfMemory}
 use Rattle.zre_chat.specs.Chat.{Seen, IsChat, IsCaused, Holds, but_quits, started}
-use Rattle.zre_chat.specs.Printing.{HasPrinted}
-use Rattle.zre_chat.specs.Stages.{Prepared}
-use Rattle.zre_chat.specs.Statuses.{least, of_fault, of_read, of_print, of_work, of_thread}
-use Rattle.zre_chat.proofs.Fronts.{prefix_self, prefix_trans, but_quits-append, but_quits-prefix, map-prefix, quits_through, none_before, all_front, none_front}
+use Rattle.zre_chat.specs.Stages.{IsEarly, Unprepared}
+use Rattle.zre_chat.specs.Statuses.{of_fault, of_read}
+use Rattle.zre_chat.proofs.Fronts.{prefix_self, but_quits-append, but_quits-prefix, map-prefix, quits_through, none_before}
 use Rattle.zre_chat.proofs.Merged.{all_under, its_own, no_others, commands_under, prefix_nil, TwoAlone, split, alone}
-use Rattle.zre_chat.proofs.Rows.{one_least, memory_here, memory_behind, done_here, done_behind}
+use Rattle.zre_chat.proofs.Rows.{write_isnt, world_isnt, memory_isnt, one_least}
 
 -- ---- what a world tells, over two steps
 
 pub maps : (f h : Log → Log) (told : Option Log) → option_map f (option_map h told) ≡ option_map (λ l. f (h l)) told
 maps f h None = refl
 maps f h (Some l) = refl
+
+-- where it wasn't started, it tells what it told
+pub none_started : {L : Type 0} (told : Option L) → told ≡ option_map (λ l. l) told
+none_started None = refl
+none_started (Some l) = refl
 
 -- a capture of no entries
 pub head_only : (kept u t : Option (List ℕ)) → Appends (option_map (λ _. []) kept) u capture.head → t ≡ u → Appends (option_map (λ _. []) kept) t (capture.head ++ capture.lines [])
@@ -81,6 +63,7 @@ module _ (g : Config) (start : Start) (name : Option (List ℕ)) (limit : ℕ) w
   untalked begun s t status left taken written told not_done cause holds = record {
     octets = [];
     are_taken = record { consumed = subst (λ x. Consumes s.left x []) (sym left) (Consumes-nil s.left); recorded = subst (λ x. Appends s.taken x []) (sym taken) (Appends-nil s.taken) };
+    within = omega arith;
     begun = begun;
     turns = 0;
     looks = 0;
@@ -90,6 +73,7 @@ module _ (g : Config) (start : Start) (name : Option (List ℕ)) (limit : ℕ) w
     deeds = [];
     is_told = told ∙ untold begun s.told;
     counted = refl;
+    most = omega arith;
     one_unstepped = omega arith;
     all_taken = λ _ _. refl;
     did = [];
@@ -100,6 +84,7 @@ module _ (g : Config) (start : Start) (name : Option (List ℕ)) (limit : ℕ) w
     front = ([], [], refl, subst (λ x. Appends s.written x []) (sym written) (Appends-nil s.written));
     whole = λ _ _. subst (λ x. Appends s.written x []) (sym written) (Appends-nil s.written);
     held = holds;
+    are_done = nil-sublist [];
     in_order = (but_quits (orders []), refl);
     all_handed = λ d. absurd (not_done d);
     occurred = status ∷ [];
@@ -109,15 +94,28 @@ module _ (g : Config) (start : Start) (name : Option (List ℕ)) (limit : ℕ) w
     ended = λ d. absurd (not_done d);
   }
 
+  early : (s t : Seen) (status : Status) → IsEarly status s.world_faults t.world_faults s.record_faults t.record_faults → (status ≢ Done) × IsCaused status limit 0 0 false s t
+  early s t WriteFault is = (write_isnt, inr is)
+  early s t WorldFault is = (world_isnt, is)
+  early s t OutOfMemory is = (memory_isnt, tt)
+  early s t Done is = absurd is
+  early s t Usage is = absurd is
+  early s t BadInput is = absurd is
+  early s t ReadFault is = absurd is
+  early s t NoThread is = absurd is
+  early s t TooLong is = absurd is
+
+  -- what was begun was refused, or memory ran out
+  pub unprepared : (s t : Seen) (status : Status) → t.left ≡ s.left → t.taken ≡ s.taken → t.written ≡ s.written
+      → Unprepared start name status s.told t.told s.world_faults t.world_faults s.kept t.kept s.named t.named s.record_faults t.record_faults → IsChat g start name limit s t status
+  unprepared s t status left taken written u = let e = early s t status u.cause in
+      untalked u.begun s t status left taken written u.is_told e.0 e.1 (λ file is isnt still. (let h = u.holds file is isnt still in (head_only s.kept t.kept t.kept h.0 refl, h.1)))
+
 -- ---- a refusal of the outside
 
 pub only_failed : (f : NextFault) (failed : Status) → of_fault f failed ≢ OutOfMemory → f ≡ fault.Failed
 only_failed fault.Failed failed isnt = refl
 only_failed fault.OutOfMemory failed isnt = absurd (isnt refl)
-
-pub fault_cause : (f : NextFault) (failed : Status) (limit octets turns : ℕ) (stopped : Bool) (s t : Seen) → (f ≡ fault.Failed → IsCaused failed limit octets turns stopped s t) → IsCaused (of_fault f failed) limit octets turns stopped s t
-fault_cause fault.Failed failed limit octets turns stopped s t cause = cause refl
-fault_cause fault.OutOfMemory failed limit octets turns stopped s t cause = tt
 
 -- a name that is there
 pub there : (name : Option (List ℕ)) → is_some name ≡ true → (file : List ℕ) × (name ≡ Some file)

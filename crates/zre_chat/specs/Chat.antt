@@ -1,6 +1,6 @@
 -- What a chat comes to.
-use Rattle.std.specs.Prelude.{◌≡◌, ◌≢◌, ◌⊎◌, ℕ, ◌+◌, ◌≤◌, Bool, true, false, not, List, [], ◌∷◌, ◌++◌, length, Option, Some, None, option_map, ⊤}
-use mathlib.Core.List.{IsPrefix}
+use Rattle.std.specs.Prelude.{◌≡◌, ◌≢◌, ◌⊎◌, ℕ, ◌+◌, ◌≤◌, Bool, true, false, not, List, [], ◌∷◌, ◌++◌, length, Option, Some, option_map, ⊤}
+use mathlib.Core.List.{IsPrefix, Sublist}
 use Rattle.std.specs.List.{list_any, filter}
 use Rattle.std.specs.Io.KnownBytes.{Keeps, Appends, IsAtEnd}
 use Rattle.zre_outside.specs.declared.act.Act.{Act}
@@ -16,7 +16,7 @@ use Rattle.zre_journal.specs.declared.config.Config.{Config}
 use Rattle.zre_journal.specs.Events.{chronicle, events}
 use Rattle.zre_journal.specs.Happens.{has_stopped}
 use Rattle.zre_capture.specs.Lines as capture
-use Rattle.zre_actor.specs.Work.{went, AreDeeds, acts_of}
+use Rattle.zre_actor.specs.Work.{went, AreDeeds, acts_of, done_by}
 use Rattle.zre_typist.specs.Orders.{is_quit, typed, orders}
 use Rattle.zre_pump.specs.declared.status.Status.{Status}
 use Rattle.zre_pump.specs.declared.status.Status.TheVariants.{Done, Usage, BadInput, ReadFault, WriteFault, WorldFault, NoThread, TooLong, OutOfMemory}
@@ -91,6 +91,7 @@ pub record IsChat (g : Config) (start : Start) (name : Option (List ℕ)) (limit
   -- what was taken of the input
   pub octets : List ℕ
   pub are_taken : Moves s.left t.left s.taken t.taken octets
+  pub within : length octets ≤ limit
   -- what the world gave: the entries that the node took, and at most one that it didn't
   pub begun : Bool
   pub turns : ℕ
@@ -101,6 +102,7 @@ pub record IsChat (g : Config) (start : Start) (name : Option (List ℕ)) (limit
   pub deeds : List Deed
   pub is_told : t.told ≡ option_map (λ l. went (entries ++ unstepped) looks handed deeds (started begun start l)) s.told
   pub counted : length (entries ++ unstepped) + looks ≡ turns
+  pub most : turns ≤ limit
   pub one_unstepped : length unstepped ≤ 1
   -- each is taken but one whose line wasn't kept
   pub all_taken : status ≢ OutOfMemory → ¬ Rose s.record_faults t.record_faults → unstepped ≡ []
@@ -115,7 +117,9 @@ pub record IsChat (g : Config) (start : Start) (name : Option (List ℕ)) (limit
   pub whole : status ≢ OutOfMemory → ¬ Rose s.write_faults t.write_faults → Appends s.written t.written (lines (events g entries))
   -- the capture of all that was given was kept
   pub held : (file : List ℕ) → name ≡ Some file → status ≢ OutOfMemory → ¬ Rose s.record_faults t.record_faults → Holds file entries s t
-  -- the commands that were handed in are those of the input's lines, in order, up to some place; where a Quit of the input stopped the node, they are all
+  -- the commands that were handed in are done by entries that were given, in order
+  pub are_done : Sublist handed (done_by (entries ++ unstepped))
+  -- they are those of the input's lines, in order, up to some place; where a Quit of the input stopped the node, they are all
   pub in_order : IsPrefix (but_quits handed) (but_quits (orders octets))
   pub all_handed : status ≡ Done → list_any is_quit handed ≡ true → handed ≡ orders octets
   -- the status is the first of what occurred, each with its cause

@@ -1,7 +1,6 @@
 -- What printing comes to.
 use Rattle.std.specs.Prelude.{◌≡◌, ℕ, Bool, true, false, List, ◌++◌, Option, None, IsSome}
 use Rattle.std.specs.Io.KnownBytes.{Appends}
-use Rattle.zre_outside.specs.declared.entry.Command.{Command}
 use Rattle.zre_outside.specs.declared.sink.NextFault.{NextFault}
 use Rattle.zre_outside.specs.Told.{AppendsFront}
 use Rattle.zre_peer.specs.declared.event.Event.{Event}

@@ -1,10 +1,13 @@
 -- How far a chat has come before the threads are started.
-use Rattle.std.specs.Prelude.{◌≡◌, ◌≤◌, ℕ, Bool, List, [], Option, Some, option_map, is_some}
+use Rattle.std.specs.Prelude.{◌≡◌, ◌≢◌, ◌≤◌, ℕ, Bool, List, [], Option, Some, option_map, is_some, ⊤}
 use Rattle.std.specs.Io.KnownBytes.{Keeps, Appends}
 use Rattle.zre_outside.specs.declared.start.Start.{Start}
-use Rattle.zre_outside.specs.Worlds.{with_start}
+use Rattle.zre_outside.specs.Causes.{Rose}
+use Rattle.zre_outside.specs.Worlds.{Log, with_start}
 use Rattle.zre_capture.specs.Lines.{head}
-use Rattle.zre_chat.specs.Chat.{Seen}
+use Rattle.zre_pump.specs.declared.status.Status.{Status}
+use Rattle.zre_pump.specs.declared.status.Status.TheVariants.{Done, Usage, BadInput, ReadFault, WriteFault, WorldFault, NoThread, TooLong, OutOfMemory}
+use Rattle.zre_chat.specs.Chat.{Seen, started}
 
 -- the recorder was begun where a capture is kept, and the world was started; nothing was read or written
 pub record Prepared (start : Start) (name : Option (List ℕ)) (keep : Bool) (s u : Seen) : Type 0 where
@@ -20,3 +23,22 @@ pub record Prepared (start : Start) (name : Option (List ℕ)) (keep : Bool) (s 
   pub keeps : keep ≡ is_some name
   pub head_kept : (file : List ℕ) → name ≡ Some file → Appends (option_map (λ _. []) s.kept) u.kept head
   pub file_named : (file : List ℕ) → name ≡ Some file → Keeps (option_map (λ _. file) s.named) u.named
+
+-- what ends a chat before its threads are started
+abbrev pub IsEarly : Status → (worlds worlds' records records' : ℕ) → Type 0
+IsEarly WriteFault worlds worlds' records records' = Rose records records'
+IsEarly WorldFault worlds worlds' records records' = Rose worlds worlds'
+IsEarly OutOfMemory worlds worlds' records records' = ⊤
+IsEarly Done worlds worlds' records records' = ⊥
+IsEarly Usage worlds worlds' records records' = ⊥
+IsEarly BadInput worlds worlds' records records' = ⊥
+IsEarly ReadFault worlds worlds' records records' = ⊥
+IsEarly NoThread worlds worlds' records records' = ⊥
+IsEarly TooLong worlds worlds' records records' = ⊥
+
+-- it did not come that far: the recorder or the world refused, or memory ran out
+pub record Unprepared (start : Start) (name : Option (List ℕ)) (status : Status) (told told' : Option Log) (worlds worlds' : ℕ) (kept kept' named named' : Option (List ℕ)) (records records' : ℕ) : Type 0 where
+  pub begun : Bool
+  pub is_told : told' ≡ option_map (started begun start) told
+  pub cause : IsEarly status worlds worlds' records records'
+  pub holds : (file : List ℕ) → name ≡ Some file → status ≢ OutOfMemory → ¬ Rose records records' → Appends (option_map (λ _. []) kept) kept' head × Keeps (option_map (λ _. file) named) named'

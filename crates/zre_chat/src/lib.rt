@@ -10,5 +10,6 @@ mod printing;
 mod statuses;
 mod table;
 mod talk;
+mod threads;
 
 pub use chat::{Chat, Chatted};

@@ -1,5 +1,5 @@
 -- What is put of one piece, and of the end.
-use Rattle.std.proofs.Common.{◌≡◌, ℕ, ◌<◌, Bool, true, false, List, [], ◌∷◌, ◌++◌, length, Option, refl, sym, ap, ◌∙◌, append_assoc}
+use Rattle.std.proofs.Common.{◌≡◌, ℕ, ◌<◌, true, false, List, [], ◌∷◌, ◌++◌, length, Option, refl, sym, ap, ◌∙◌, append_assoc}
 use Rattle.std.specs.Prelude.{Result, Ok, Err, OnOk, OnErr}
 use Rattle.std.specs.List.{list_any}
 use Rattle.std.proofs.lemmas.List.{append-nil}
@@ -7,7 +7,7 @@ use Rattle.zre_outside.specs.declared.entry.Command.{Command}
 use Rattle.zre_outside.specs.declared.entry.Command.TheVariants.{Quit}
 use Rattle.zre_capture.specs.Journal.{lines_in}
 use Rattle.zre_actor.specs.declared.passes.CallerPass.{CallerPass}
-use Rattle.zre_typist.specs.Orders.{is_quit, typed, orders, orders_from, ended_lines, Begins}
+use Rattle.zre_typist.specs.Orders.{is_quit, typed, orders_from, ended_lines}
 use Rattle.zre_typist.specs.Typing.{Typing, Typed, Adds, AddsFront}
 use Rattle.zre_typist.proofs.Quits.{quit-found, orders-begin, typed-begin, end-quits, last-quits}
 use Rattle.zre_input.specs.declared.reading.Next.{Next}
@@ -16,7 +16,7 @@ use Rattle.zre_input.specs.declared.ending.InputEnd.{InputEnd}
 use Rattle.zre_input.specs.declared.ending.InputEnd.TheVariants as ends
 use Rattle.zre_input.specs.Putting.{Puts, PutsQuit, PutsFront}
 use Rattle.zre_input.specs.Turning.{PutsTyped, PutsOrders, PutsBegin, Took, Turned, Ends, Finishes}
-use Rattle.zre_input.proofs.Puts.{puts-none, puts-then, none-append, none-one}
+use Rattle.zre_input.proofs.Puts.{puts-then, none-append}
 
 -- ---- a piece
 

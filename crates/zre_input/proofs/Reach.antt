@@ -1,5 +1,5 @@
 -- How far a reader has come.
-use Rattle.std.proofs.Common.{◌≡◌, ℕ, ◌+◌, ◌<◌, ◌≤◌, Bool, true, false, List, [], ◌∷◌, ◌++◌, length, Option, refl, sym, ap, ◌∙◌, subst, append_assoc, arith}
+use Rattle.std.proofs.Common.{◌≡◌, ℕ, ◌+◌, ◌<◌, ◌≤◌, true, false, List, [], ◌++◌, length, Option, refl, sym, ap, ◌∙◌, subst, arith}
 use Rattle.std.specs.List.{list_any}
 use Rattle.std.specs.Io.KnownBytes.{IsAtEnd}
 use Rattle.std.proofs.KnownBytes.{Appends-nil, Appends-trans, Consumes-nil, Consumes-trans}
@@ -8,13 +8,13 @@ use Rattle.zre_outside.specs.declared.entry.Command.{Command}
 use Rattle.zre_outside.specs.Causes.{Rose}
 use Rattle.zre_outside.specs.Told.{Moves}
 use Rattle.zre_actor.specs.declared.passes.CallerPass.{CallerPass}
-use Rattle.zre_typist.specs.Orders.{is_quit, typed, orders, Begins}
+use Rattle.zre_typist.specs.Orders.{is_quit, typed, Begins}
 use Rattle.zre_typist.specs.Typing.{Typing, Typed}
 use Rattle.zre_typist.proofs.Quits.{typed-begin}
 use Rattle.zre_input.specs.declared.ending.InputEnd.{InputEnd}
 use Rattle.zre_input.specs.declared.ending.InputEnd.TheVariants as ends
 use Rattle.zre_input.specs.Putting.{Puts, Closes}
-use Rattle.zre_input.specs.Reading.{BreaksOff, Outcome, HasRead}
+use Rattle.zre_input.specs.Reading.{BreaksOff, HasRead}
 use Rattle.zre_input.specs.Turning.{PutsTyped, PutsOrders, PutsBegin, Finishes}
 use Rattle.zre_input.proofs.Puts.{puts-none, puts-then}
 

@@ -1,5 +1,5 @@
 -- Pipes of one caller whose pass was taken, before any step.
-use Rattle.std.specs.Prelude.{◌≡◌, ℕ, ◌+◌, ◌<◌, [], None, length}
+use Rattle.std.specs.Prelude.{◌≡◌, ◌+◌, ◌<◌, [], None, length}
 use Rattle.zre_actor.specs.declared.passes.Pipes.{Pipes}
 use Rattle.zre_actor.specs.declared.passes.ActorPass.{ActorPass}
 use Rattle.zre_actor.specs.declared.passes.CallerPass.{CallerPass}

@@ -1,6 +1,6 @@
 //! A source is read in pieces, and the commands of its lines are put.
 
-ghost use Rattle.std.specs.Prelude.{◌≡◌, ◌<◌, ◌≤◌, ℕ, List, false, length, take, vec_len, IfOk};
+ghost use Rattle.std.specs.Prelude.{◌≡◌, ◌<◌, ◌≤◌, ℕ, List, false, length, take};
 ghost use Rattle.std.specs.List.{list_any};
 ghost use Rattle.zre_outside.specs.Causes.{Rose};
 ghost use Rattle.zre_outside.specs.Told.{Moves};
@@ -12,15 +12,13 @@ ghost use Rattle.zre_input.specs.Turning.{Took, Turned, Finishes, Ends};
 
 use crate::InputEnd;
 use crate::putting::{Sent, close, put_all, put_one};
-use std::alloc::{AllocError, Global};
+use std::alloc::Global;
 use std::sync::Wait;
 use std::sync::atomic::{AtomicBool, Ordering};
 use zre_actor::{CallerPass, Pipes};
 use zre_outside::{Command, Failed, Source};
+use zre_pump::{PIECE, room_for, zeros};
 use zre_typist::Typist;
-
-// The most octets that one read asks for.
-const PIECE: usize = 65536;
 
 /// How a turn ended.
 #[derive(Clone, Copy, Debug, PartialEq, Eq)]
@@ -153,27 +151,6 @@ fn finish<R: Wait + Copy>(
         Sent::Quit => (pass, InputEnd::AtEnd),
         Sent::Over => (pass, InputEnd::Over),
     }
-}
-
-// How many octets to ask for, where so many may still be taken.
-fn room_for(left: u64) -> usize
-    requires { 0 < left }
-    ensures some { 0 < result }
-    ensures most { result ≤ PIECE }
-    ensures within { result ≤ left }
-{
-    if left < PIECE as u64 {
-        left as usize
-    } else {
-        PIECE
-    }
-}
-
-// A buffer. Its clause says no more than the length, since a proof would compute so many octets.
-fn zeros(alloc: Global, len: usize) -> Result<Vec<u8>, AllocError>
-    ensures { IfOk result (λ v. vec_len v ≡ len) }
-{
-    vec![in alloc; 0u8; len]
 }
 
 // Reads the source and puts the commands of its lines, up to a limit of octets.

@@ -2,12 +2,14 @@
 //! in pieces, feeds the machine, writes its text to a sink, and says how it ended.
 #![tactic(auto)]
 
+mod buffer;
 mod lines;
 mod machine;
 mod pumping;
 mod status;
 
+pub use buffer::{PIECE, room_for, zeros};
 pub use lines::{push_bad_line, push_bad_line_at};
 pub use machine::{Going, Machine};
-pub use pumping::{PIECE, pump};
+pub use pumping::pump;
 pub use status::Status;

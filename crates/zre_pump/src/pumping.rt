@@ -1,19 +1,17 @@
 //! Reads a source in pieces, feeds a machine, and writes its text.
 
-ghost use Rattle.std.specs.Prelude.{◌≡◌, ◌<◌, ◌≤◌, ◌+◌, ◌++◌, ℕ, List, [], false, length, take, vec_len, IfOk};
+ghost use Rattle.std.specs.Prelude.{◌≡◌, ◌<◌, ◌≤◌, ◌+◌, ◌++◌, ℕ, List, [], false, length, take};
 ghost use Rattle.zre_outside.specs.Causes.{Rose};
 ghost use Rattle.zre_outside.specs.Told.{Moves};
 ghost use Rattle.zre_pump.specs.Outcome.{Pumped};
 ghost use Rattle.zre_pump.specs.Turning.{Finishes, Turned};
 
+use crate::buffer::{PIECE, room_for, zeros};
 use crate::machine::{Going, Machine};
 use crate::status::Status;
-use std::alloc::{AllocError, Global};
+use std::alloc::Global;
 use zre_outside::{Failed, NextFault, Sink, Source, write_all};
 use zre_values::{Octets, OutOfMemory};
-
-/// The most octets that one read asks for.
-pub const PIECE: usize = 65536;
 
 /// How a turn ended.
 #[derive(Clone, Copy, Debug, PartialEq, Eq)]
@@ -121,27 +119,6 @@ fn finish<M: Machine, O: Sink>(machine: &M, taken: u64, out: &mut O, text: &mut 
         Err(NextFault::Failed) => Status::WriteFault,
         Err(NextFault::OutOfMemory) => Status::OutOfMemory,
     }
-}
-
-// How many octets to ask for, where so many may still be taken.
-fn room_for(left: u64) -> usize
-    requires { 0 < left }
-    ensures some { 0 < result }
-    ensures most { result ≤ PIECE }
-    ensures within { result ≤ left }
-{
-    if left < PIECE as u64 {
-        left as usize
-    } else {
-        PIECE
-    }
-}
-
-// A buffer. Its clause says no more than the length, since a proof would compute so many octets.
-fn zeros(alloc: Global, len: usize) -> Result<Vec<u8>, AllocError>
-    ensures { IfOk result (λ v. vec_len v ≡ len) }
-{
-    vec![in alloc; 0u8; len]
 }
 
 /// Reads the source to its end, feeds the machine with it and writes its text, up to a limit of octets. It keeps

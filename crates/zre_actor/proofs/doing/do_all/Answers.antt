@@ -1,7 +1,6 @@
-use Rattle.std.proofs.Common.{◌≡◌, ◌++◌, ◌∷◌, [], take, drop, true, false, true≢false, refl, sym, ap, ◌∙◌, arith, append-nil}
+use Rattle.std.proofs.Common.{[], take, drop, true≢false, refl, sym, ◌∙◌, arith, append-nil}
 use Rattle.std.proofs.lemmas.List.{take-append-drop, take_all}
 use Rattle.zre_journal.specs.Events.{chronicle}
-use Rattle.zre_actor.specs.Work.{beside}
 use Rattle.zre_actor.proofs.Deeds.{went-none, did_more, take_next, due_at}
 use Rattle.zre_actor.proofs.doing.do_all.Goals as goal
 

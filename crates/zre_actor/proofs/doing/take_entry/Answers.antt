@@ -1,6 +1,5 @@
-use Rattle.std.proofs.Common.{◌≡◌, ◌∷◌, [], ◌++◌, true, false, refl, sym, ap, ◌∙◌, subst}
+use Rattle.std.proofs.Common.{◌∷◌, [], ◌++◌, true, false, refl, sym, subst}
 use mathlib.Core.Logic.{inl, inr}
-use Rattle.zre_outside.specs.declared.act.Act.{Act}
 use Rattle.zre_journal.specs.Asked.{AreDue}
 use Rattle.zre_journal.specs.Events.{chronicle}
 use Rattle.zre_actor.specs.Work.{DoesAll}

@@ -1,8 +1,7 @@
-use Rattle.std.proofs.Common.{◌≡◌, ◌∷◌, ◌++◌, [], length, ap, ◌∙◌, subst, sym, arith}
+use Rattle.std.proofs.Common.{◌∷◌, ◌++◌, [], length, ap, ◌∙◌, subst, sym, arith}
 use Rattle.std.proofs.lemmas.List.Elements.{All-push}
 use Rattle.std.specs.Arc.{arc_value}
-use Rattle.zre_outside.specs.Spawners.{job_of}
-use Rattle.zre_actor.specs.Passes.{IsActorOf, IsCallerOf, IsTakerOf, AreCallersOf, given_of, unused_by, how_many}
+use Rattle.zre_actor.specs.Passes.{IsActorOf, IsCallerOf, IsTakerOf, AreCallersOf, unused_by, how_many}
 use Rattle.zre_actor.proofs.Given.{two_alone}
 use Rattle.zre_actor.proofs.tests.side_by_side.Goals as goal
 

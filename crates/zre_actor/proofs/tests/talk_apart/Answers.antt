@@ -1,4 +1,4 @@
-use Rattle.std.proofs.Common.{◌≡◌, ◌∷◌, ◌++◌, [], ap, ◌∙◌, subst, sym, arith}
+use Rattle.std.proofs.Common.{◌∷◌, ◌++◌, [], ap, ◌∙◌, subst, sym, arith}
 use Rattle.std.proofs.lemmas.List.Elements.{All-push}
 use Rattle.zre_actor.specs.Passes.{IsCallerOf, AreCallersOf, how_many}
 use Rattle.zre_actor.proofs.Given.{two_alone}

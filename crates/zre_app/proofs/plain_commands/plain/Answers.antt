@@ -1,25 +1,15 @@
-use Rattle.std.proofs.Common.{◌≡◌, true, false, Some, sym, ap, ◌∙◌}
+use Rattle.std.proofs.Common.{◌≡◌, true, sym, ap, ◌∙◌, subst}
+use Rattle.std.specs.Prelude.{Option}
+use Rattle.zre_outside.specs.Causes.{Rose}
+use Rattle.zre_app.specs.declared.words.Command.{Command}
+use Rattle.zre_app.specs.Does.{DoesPlain, is_unread}
 use Rattle.zre_app.specs.Words.{is_plain}
 use Rattle.zre_app.proofs.PlainCommands.{command_is_plain}
-use Rattle.zre_app.proofs.Unread.{nothing_taken, nothing_written}
+use Rattle.zre_app.proofs.Unread.{nothing_plain}
 use Rattle.zre_app.proofs.plain_commands.plain.Goals as goal
 
-pub returns-in-Err-clause-usage : goal.returns-in-Err-clause-usage
-returns-in-Err-clause-usage g c = λ e. nothing_written _
+pub returns-in-Err-clause-does : goal.returns-in-Err-clause-does
+returns-in-Err-clause-does g c = nothing_plain _ _ _ _ _ _ _ (command_is_plain c.args.words.now c.requires)
 
-pub returns-in-Err-clause-follow : goal.returns-in-Err-clause-follow
-returns-in-Err-clause-follow g c = λ id e. nothing_taken _ _ _ _ _ _ _
-
-pub returns-in-Err-clause-show : goal.returns-in-Err-clause-show
-returns-in-Err-clause-show g c = λ e. nothing_taken _ _ _ _ _ _ _
-
-pub returns-in-Err-clause-replay : goal.returns-in-Err-clause-replay
-returns-in-Err-clause-replay g c = λ config e. nothing_taken _ _ _ _ _ _ _
-
-apart : false ≡ true → ⊥
-apart e = cc
-
-pub unreachable-requires : goal.unreachable-requires
-unreachable-requires g c =
-    let chat = c.in-Ok-Some-Chat in
-    apart (ap (λ command. is_plain (Some command)) (sym chat.field-0-0-is) ∙ ap is_plain (sym chat.field-0-is ∙ chat.ensures.value) ∙ command_is_plain c.args.words.now c.requires)
+pub obey-requires-clause-plain : goal.obey-requires-clause-plain
+obey-requires-clause-plain g c = ap is_plain c.in-Ok.ensures.value ∙ command_is_plain c.args.words.now c.requires

@@ -1,5 +1,5 @@
-use Rattle.std.proofs.Common.{◌≡◌, ◌∙◌, [], ap, subst, sym}
-use Rattle.std.specs.Prelude.{Ok, is_ok, option_map}
+use Rattle.std.proofs.Common.{◌∙◌, ap, subst}
+use Rattle.std.specs.Prelude.{is_ok}
 use Rattle.std.specs.Io.KnownBytes.{Keeps, Appends}
 use Rattle.zre_capture.specs.Lines.{head}
 use Rattle.zre_chat.proofs.keeping.begin_named.Goals as goal

@@ -1,4 +1,4 @@
-use Rattle.std.proofs.Common.{◌≡◌, ℕ, ◌≤◌, ◌∙◌, [], false, true, None, Some, sym, ap, refl, subst, arith, append-nil}
+use Rattle.std.proofs.Common.{ℕ, ◌≤◌, ◌∙◌, [], sym, ap, refl, subst, arith, append-nil}
 use Rattle.std.proofs.KnownBytes.{Appends-nil}
 use Rattle.std.proofs.Common.{⊎_elim}
 use Rattle.zre_actor.proofs.Working.{rose_later}

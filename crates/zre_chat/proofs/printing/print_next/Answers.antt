@@ -1,12 +1,10 @@
-use Rattle.std.proofs.Common.{◌≡◌, ◌∙◌, ◌++◌, ◌∷◌, [], ℕ, List, None, Some, Option, sym, ap, refl, subst}
+use Rattle.std.proofs.Common.{◌≡◌, ◌∙◌, ◌∷◌, [], None, Some, Option, ap, subst}
 use Rattle.std.specs.Prelude.{is_some, MatchOption, IsSome}
-use Rattle.zre_peer.specs.declared.event.Event.{Event}
 use Rattle.zre_actor.specs.declared.told.Told.{Told}
 use Rattle.zre_actor.specs.declared.told.Told.TheVariants as told
 use Rattle.zre_actor.specs.declared.passes.TakerPass.{TakerPass}
 use Rattle.zre_actor.specs.Passes.{IsTold, taken_by, last_of}
 use Rattle.zre_chat.specs.declared.page.Page.{Page}
-use Rattle.zre_chat.specs.Pages.{Shows}
 use Rattle.zre_chat.proofs.Printed.{none_before, asked_more, printed_same, printed_more}
 use Rattle.zre_chat.proofs.printing.print_next.Goals as goal
 

@@ -1,4 +1,4 @@
-use Rattle.std.proofs.Common.{◌≡◌, ◌+◌, ◌≤◌, take, length, subst, arith}
+use Rattle.std.proofs.Common.{◌≡◌, ◌+◌, ◌≤◌, take, subst, arith}
 use Rattle.std.proofs.lemmas.List.{length-take, length-take-le}
 use Rattle.zre_input.specs.Putting.{Closes}
 use Rattle.zre_input.specs.Turning.{Finishes}

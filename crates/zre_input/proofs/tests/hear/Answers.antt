@@ -1,6 +1,6 @@
-use Rattle.std.proofs.Common.{◌≡◌, ◌∷◌, ◌++◌, [], length, ap, ◌∙◌, subst, sym, arith}
+use Rattle.std.proofs.Common.{◌∷◌, ◌++◌, [], length, ap, ◌∙◌, subst, sym, arith}
 use Rattle.std.proofs.lemmas.List.Elements.{All-push}
-use Rattle.zre_actor.specs.Passes.{IsCallerOf, AreCallersOf, unused_by, how_many}
+use Rattle.zre_actor.specs.Passes.{IsCallerOf, AreCallersOf, how_many}
 use Rattle.zre_input.proofs.Given.{one-alone}
 use Rattle.zre_input.proofs.tests.hear.Goals as goal
 

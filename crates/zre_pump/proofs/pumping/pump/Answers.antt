@@ -1,4 +1,4 @@
-use Rattle.std.proofs.Common.{◌≡◌, ◌+◌, ◌++◌, length, take, refl, sym, ap, ◌∙◌, subst, arith, inl, inr}
+use Rattle.std.proofs.Common.{◌≡◌, ◌++◌, length, take, refl, sym, ap, ◌∙◌, subst, arith, inl, inr}
 use Rattle.std.proofs.lemmas.List.{length-take, length-take-le, append-nil}
 use Rattle.std.proofs.KnownBytes.{Appends-kept}
 use Rattle.zre_outside.specs.Told.{Moves}

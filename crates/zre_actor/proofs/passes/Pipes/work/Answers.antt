@@ -1,11 +1,10 @@
-use Rattle.std.proofs.Common.{◌≡◌, ◌+◌, ◌++◌, ◌∷◌, true≢false, List, None, refl, sym, ap, ◌∙◌, subst, arith}
+use Rattle.std.proofs.Common.{◌≡◌, ◌++◌, true≢false, refl, sym, ap, ◌∙◌, subst, arith}
 use Rattle.std.specs.Prelude.{option_map, Err}
 use Rattle.std.proofs.KnownBytes.{Keeps-refl, Keeps-trans}
 use Rattle.zre_outside.specs.declared.turn.Turn.{Turn}
-use Rattle.zre_outside.specs.declared.turn.Turn.TheVariants as turn
 use Rattle.zre_outside.specs.Worlds.{IsTurn, is_look, after_turn}
 use Rattle.zre_actor.specs.declared.ending.Ending.TheVariants as ending
-use Rattle.zre_actor.specs.Work.{Scene, scene, world_ending}
+use Rattle.zre_actor.specs.Work.{scene, world_ending}
 use Rattle.zre_actor.proofs.Working as working
 use Rattle.zre_actor.proofs.passes.Pipes.work.Goals as goal
 use Rattle.zre_actor.proofs.passes.Pipes.work.Goals.{in-Look+then-turn-limit, in-Look+else-turn-limit, in-Entry+in-Ok-take_entry}
@@ -70,6 +69,7 @@ returns-in-Err-take_entry-clause-work g c = λ f K here. (
     let going = sym (c.stopped.ensures f (K ++ k.entries) k.node) ∙ c.if-stopped.false in
     let facts = subst (λ (a : Turn). IsTurn l.command a × (w.told x ≡ option_map (after_turn l.command a) (w.told l.world)) × (w.looked x ≡ is_look a)) c.in-Entry.is (c.in-Ok.ensures.turn, c.in-Ok.ensures.told, c.in-Ok.ensures.looked) in
     let gives : working.Gives f K c.args.keep c.args.limit s l.turn t l.node l.command k c.in-Entry.entry (w.told x) u = record {
+      is_turn = facts.0;
       given = facts.1;
       looked = took.world.0 ∙ facts.2;
       popped = refl;
@@ -149,6 +149,7 @@ loop-turn-preserved g c =
             running = λ f K here. (let k = h.running f K here in
                 let u = scene (w.told z.world) (w.looked z.world) (w.faults z.world) (r.kept z.rec) (r.faults z.rec) m.raise_all-pass.result in
                 let gives : working.Gives f K c.args.keep c.args.limit s l.turn t l.node l.command k m.in-Entry.entry (w.told x) u = record {
+                  is_turn = facts.0;
                   given = facts.1;
                   looked = took.world.0 ∙ facts.2;
                   popped = m.raise_all-pass.ensures.commands.0;

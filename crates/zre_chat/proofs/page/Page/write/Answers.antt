@@ -1,4 +1,4 @@
-use Rattle.std.proofs.Common.{◌≡◌, ◌∙◌, ◌++◌, [], false, Option, Some, None, refl, ap, subst, sym, append_assoc, append-nil}
+use Rattle.std.proofs.Common.{◌≡◌, ◌∙◌, ◌++◌, [], false, Option, Some, None, refl, ap, sym, append_assoc, append-nil}
 use Rattle.std.specs.Prelude.{is_some}
 use Rattle.zre_outside.specs.declared.sink.NextFault.{NextFault}
 use Rattle.std.proofs.KnownBytes.{Appends-trans}

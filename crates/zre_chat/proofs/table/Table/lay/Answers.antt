@@ -1,8 +1,7 @@
-use Rattle.std.proofs.Common.{◌≡◌, ◌≢◌, ◌∙◌, ◌++◌, ◌∷◌, [], ℕ, ◌+◌, List, map, length, refl, ap, sym, subst, arith, length-append}
+use Rattle.std.proofs.Common.{◌≡◌, ◌≢◌, ◌∙◌, ◌++◌, ◌∷◌, [], ℕ, List, length, ap, sym, subst, arith, length-append}
 use Rattle.std.specs.Arc.{arc_value}
 use Rattle.std.proofs.lemmas.List.{length-map}
 use Rattle.zre_actor.specs.declared.passes.CallerPass.{CallerPass}
-use Rattle.zre_actor.specs.declared.passes.Pipes.{Pipes}
 use Rattle.zre_actor.specs.Passes.{IsActorOf, IsCallerOf, IsTakerOf, number, numbers_of, fresh_of}
 use Rattle.zre_chat.proofs.table.Table.lay.Goals as goal
 

@@ -1,23 +1,20 @@
-use Rattle.std.proofs.Common.{◌≡◌, ◌≤◌, ◌∙◌, ◌++◌, ◌∷◌, [], ℕ, ◌+◌, List, Option, Some, true, length, refl, ap, sym, subst, arith}
+use Rattle.std.proofs.Common.{◌∙◌, [], true, length, ap, sym, subst, arith}
 use Rattle.std.specs.Prelude.{option_map}
 use Rattle.std.specs.Io.KnownBytes.{Keeps}
 use Rattle.std.specs.Arc.{arc_value}
-use mathlib.Core.List.{IsPrefix}
-use Rattle.std.proofs.lemmas.List.Elements.{All-push}
 use Rattle.zre_outside.specs.Causes.{Rose}
-use Rattle.zre_outside.specs.Spawners.{job_of}
 use Rattle.zre_node.specs.Journal.{StandsFor}
-use Rattle.zre_actor.specs.Commands.{under}
-use Rattle.zre_actor.specs.Passes.{IsActorOf, IsCallerOf, IsTakerOf, AreCallersOf, given_of, unused_by, how_many, popped_by, puts_of}
+use Rattle.zre_actor.specs.Passes.{IsActorOf, IsCallerOf, IsTakerOf, unused_by}
 use Rattle.zre_actor.specs.Work.{IsWork, scene}
 use Rattle.zre_actor.proofs.Given.{two_alone}
 use Rattle.zre_actor.proofs.Working.{rose_later}
+use Rattle.zre_pump.specs.declared.status.Status.{Status}
 use Rattle.zre_pump.specs.declared.status.Status.TheVariants.{NoThread}
-use Rattle.zre_chat.specs.Chat.{IsChat, seen}
+use Rattle.zre_chat.specs.Chat.{IsChat, Seen, seen}
 use Rattle.zre_chat.proofs.Rows.{thread_isnt}
 use Rattle.zre_chat.proofs.Talked.{talked, asker_ended}
 use Rattle.zre_chat.proofs.Whole.{untalked, head_only}
-use Rattle.zre_chat.proofs.chat.converse.Goals as goal
+use Rattle.zre_chat.proofs.threads.converse.Goals as goal
 
 pub returns-in-Err-clause-chat : goal.returns-in-Err-clause-chat
 returns-in-Err-clause-chat g c = λ f start name s stands p. (
@@ -38,39 +35,40 @@ returns-in-Err-clause-chat g c = λ f start name s stands p. (
 pub returns-clause-chat : goal.returns-clause-chat
 returns-clause-chat g c = λ f start name s stands p. (
     let i = g.I.Source in let w = g.W.World in let o = g.O.Sink in let r = g.R.Recorder in let a = c.args in let l = c.requires.laid in
-    let told = c.hold_talk-read in let read = told.result.read in let printed = told.result.printed in
-    let out = c.join-worked.result in let means = c.join-worked.ensures in let began = c.in-Ok.ensures.started in
+    let told = c.hold_talk-talk in let read = told.result.read in let printed = told.result.printed in
+    let out = c.join-worked.result in let means = c.join-worked.ensures in let began = c.in-Ok.ensures.started in let same = c.settle.ensures.same in
     let u = seen (i.left a.input) (i.taken a.input) (i.faults a.input) (w.told a.world) (w.faults a.world) (o.written a.out.now) (o.faults a.out.now) (r.kept a.rec) (r.named a.rec) (r.faults a.rec) (g.P.Spawner.faults a.spawner.now) in
     let t = seen (i.left read.input) (i.taken read.input) (i.faults read.input) (w.told out.world) (w.faults out.world) (o.written told.new.out) (o.faults told.new.out) (r.kept out.rec) (r.named out.rec) (r.faults out.rec) (g.P.Spawner.faults told.new.spawner) in
     let work = subst (λ j. StandsFor f [] j.node → IsWork f [] j.keep j.limit (scene (w.told j.world) (w.looked j.world) (w.faults j.world) (r.kept j.rec) (r.faults j.rec) j.pass)
     (scene (w.told out.world) (w.looked out.world) (w.faults out.world) (r.kept out.rec) (r.faults out.rec) out.pass) out.node out.ending) began (means.6 f []) in
-    let given = c.give-2.ensures.given ∙ ap (λ l. l ++ printed.pass ∷ []) (c.give.ensures.given ∙ ap (λ l. l ++ read.pass ∷ []) l.none_given) in
-    subst (IsChat f start name a.limit s t) (sym c.status_of.ensures)
+    subst (λ (x : Seen × Status). IsChat f start name a.limit s x.0 x.1)
+    (λ k. (
+      seen (i.left (sym same.0 k)) (i.taken (sym same.0 k)) (i.faults (sym same.0 k)) (w.told (sym same.1 k)) (w.faults (sym same.1 k)) (o.written told.new.out) (o.faults told.new.out) (r.kept (sym same.2 k)) (r.named (sym same.2 k)) (r.faults (sym same.2 k)) (g.P.Spawner.faults told.new.spawner),
+      sym c.settle.ensures.status k,
+    ))
     (talked f start name a.keep a.limit s u t p out.node out.ending (w.looked a.world) (w.looked out.world) a.table.actor out.pass (work stands)
     (subst (λ j. Keeps (r.named j.rec) (r.named out.rec)) began means.5) l.none_popped l.none_raised
     read.end a.table.reader read.pass told.ensures.read a.table.asker printed.pass told.result.refused a.table.taker printed.taker printed.fault told.ensures.printed
     told.ensures.failed (λ is. rose_later (g.P.Spawner.faults a.spawner.now) (g.P.Spawner.faults c.start.new.self) (g.P.Spawner.faults told.new.spawner) c.in-Ok.ensures.later (told.ensures.refused is))
-    l.none_taken l.new_reader l.new_asker l.apart
-    (λ n. subst (λ ps. IsPrefix (under n (popped_by out.pass)) (under n (puts_of ps))) given (c.finish.ensures.fronts n)) c.finish.ensures.taken.0))
+    l.none_taken l.new_reader l.new_asker l.apart c.settle.ensures.fronts c.settle.ensures.taken))
 
-pub finish-requires-clause-pipes : goal.finish-requires-clause-pipes
-finish-requires-clause-pipes g c =
-    let l = c.requires.laid in let told = c.hold_talk-read in let read = told.result.read in let printed = told.result.printed in
-    let now = c.deref-3.result.now in
-    let same = c.deref.ensures ∙ sym c.deref-3.ensures in
-    let of_actor = ap (λ j. arc_value j.pipes) c.in-Ok.ensures.started ∙ l.same_actor ∙ sym c.deref-3.ensures in
-    let given = c.give-2.ensures.given ∙ ap (λ ps. ps ++ printed.pass ∷ []) (c.give.ensures.given ∙ ap (λ ps. ps ++ read.pass ∷ []) l.none_given) in
-    let first : IsCallerOf now read.pass = subst (λ ps. IsCallerOf ps read.pass) (l.same_reader ∙ sym c.deref-3.ensures) told.ensures.pipes.2 in
-    let second : IsCallerOf now printed.pass = subst (λ ps. IsCallerOf ps printed.pass) same told.ensures.pipes.1 in (
-      subst (λ ps. IsActorOf ps c.join-worked.result.pass) of_actor c.join-worked.ensures.0,
-      subst (AreCallersOf now) (sym given) (All-push (IsCallerOf now) (read.pass ∷ []) printed.pass (All-push (IsCallerOf now) [] read.pass (λ k d h. absurd (omega arith)) first) second),
-      subst (λ ps. IsTakerOf ps printed.taker) same told.ensures.pipes.0,
+pub settle-requires-clause-pipes : goal.settle-requires-clause-pipes
+settle-requires-clause-pipes g c =
+    let l = c.requires.laid in let told = c.hold_talk-talk in (
+      subst (λ ps. IsActorOf ps c.join-worked.result.pass) (ap (λ j. arc_value j.pipes) c.in-Ok.ensures.started ∙ l.same_actor ∙ sym c.deref-3.ensures) c.join-worked.ensures.0,
+      subst (λ ps. IsTakerOf ps told.result.printed.taker) (c.deref.ensures ∙ sym c.deref-3.ensures) told.ensures.pipes.0,
     )
 
-pub finish-requires-clause-back : goal.finish-requires-clause-back
-finish-requires-clause-back g c =
-    let l = c.requires.laid in let told = c.hold_talk-read in let read = told.result.read in let printed = told.result.printed in let o = g.O.Sink in
-    let given = c.give-2.ensures.given ∙ ap (λ ps. ps ++ printed.pass ∷ []) (c.give.ensures.given ∙ ap (λ ps. ps ++ read.pass ∷ []) l.none_given) in
-    let many = ap how_many given ∙ two_alone read.pass printed.pass (told.ensures.read.puts.same_ended ∙ l.new_reader.0)
+pub settle-requires-clause-callers : goal.settle-requires-clause-callers
+settle-requires-clause-callers g c =
+    let l = c.requires.laid in let told = c.hold_talk-talk in (
+      subst (λ ps. IsCallerOf ps told.result.read.pass) (l.same_reader ∙ sym c.deref-3.ensures) told.ensures.pipes.2,
+      subst (λ ps. IsCallerOf ps told.result.printed.pass) (c.deref.ensures ∙ sym c.deref-3.ensures) told.ensures.pipes.1,
+    )
+
+pub settle-requires-clause-back : goal.settle-requires-clause-back
+settle-requires-clause-back g c =
+    let l = c.requires.laid in let told = c.hold_talk-talk in let read = told.result.read in let printed = told.result.printed in let o = g.O.Sink in
+    let many = two_alone read.pass printed.pass (told.ensures.read.puts.same_ended ∙ l.new_reader.0)
     (asker_ended c.args.table.asker told.result.refused c.args.table.taker printed.taker printed.pass printed.fault (o.written c.args.out.now) (o.written told.new.out) told.ensures.printed ∙ l.new_asker.0) in
     omega (arith, many, ap length (c.join-worked.ensures.1 ∙ ap (λ j. unused_by j.pass) c.in-Ok.ensures.started), l.unused)

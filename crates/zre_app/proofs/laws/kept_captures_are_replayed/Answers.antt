@@ -1,0 +1,23 @@
+use Rattle.std.proofs.Common.{◌≡◌, ◌++◌, refl, sym, ap, ◌∙◌, subst, append-nil}
+use Rattle.std.specs.Prelude.{is_some}
+use Rattle.std.specs.Io.KnownBytes.{Appends}
+use Rattle.zre_capture.specs.Lines.{head, lines}
+use Rattle.zre_capture.specs.Journal.{IsCaptureOf, journal, bad_at_end}
+use Rattle.zre_capture.proofs.Whole.{captured}
+use Rattle.zre_journal.specs.Events.{events}
+use Rattle.zre_peer.specs.Lines.{lines as event_lines}
+use Rattle.zre_pump.specs.Meaning.{whole_text}
+use Rattle.zre_replay.specs.Replay.{replay, refusal}
+use Rattle.zre_app.proofs.laws.kept_captures_are_replayed.Goals as goal
+
+pub returns : goal.returns
+returns c = λ g start file limit s t status chat memory written kept entries writable. (
+    let o = head ++ lines chat.entries in
+    let is : IsCaptureOf chat.entries o = captured chat.entries entries writable in
+    let text : whole_text (replay g) o ≡ event_lines (events g chat.entries) =
+    ap (λ b. event_lines (events g (journal o)) ++ refusal b) is.whole ∙ append-nil (event_lines (events g (journal o))) ∙ ap (λ J. event_lines (events g J)) is.entries in record {
+      capture = o;
+      is_good = ap is_some is.whole;
+      is_written = subst (Appends s.written t.written) (sym text) (chat.whole memory written);
+      is_kept = (chat.entries, refl, chat.held file refl memory kept);
+    })
