@@ -1,5 +1,5 @@
 -- What a call does, by the command that its words are.
-use Rattle.std.specs.Prelude.{◌≡◌, ℕ, Bool, true, false, List, Option, Some, None}
+use Rattle.std.specs.Prelude.{ℕ, Bool, true, false, List, Option, Some, None}
 use Rattle.zre_outside.specs.Causes.{Rose}
 use Rattle.zre_pump.specs.declared.status.Status.{Status}
 use Rattle.zre_pump.specs.Outcome.{Pumped}

@@ -2,7 +2,7 @@ use Rattle.std.proofs.Common.{◌≡◌, ◌++◌, refl, sym, ap, ◌∙◌, sub
 use Rattle.std.specs.Prelude.{is_some}
 use Rattle.std.specs.Io.KnownBytes.{Appends}
 use Rattle.zre_capture.specs.Lines.{head, lines}
-use Rattle.zre_capture.specs.Journal.{IsCaptureOf, journal, bad_at_end}
+use Rattle.zre_capture.specs.Journal.{IsCaptureOf, journal}
 use Rattle.zre_capture.proofs.Whole.{captured}
 use Rattle.zre_journal.specs.Events.{events}
 use Rattle.zre_peer.specs.Lines.{lines as event_lines}

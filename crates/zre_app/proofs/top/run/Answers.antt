@@ -1,5 +1,4 @@
-use Rattle.std.proofs.Common.{◌≡◌, true, false, refl, sym, ◌∙◌, ap, subst}
-use Rattle.zre_chat.specs.Chat.{seen}
+use Rattle.std.proofs.Common.{sym, ◌∙◌}
 use Rattle.zre_app.proofs.PlainCommands.{command_is_plain}
 use Rattle.zre_app.proofs.Unread.{plainly, nothing_done}
 use Rattle.zre_app.proofs.top.run.Goals as goal
