@@ -1,8 +1,8 @@
 //! The second caller: it asks the node to stop, at most once.
 
-ghost use Rattle.std.specs.Prelude.{◌≡◌, ◌==◌, true, false};
+ghost use Rattle.std.specs.Prelude.{◌≡◌, ◌≢◌, true, false};
 ghost use Rattle.zre_actor.specs.declared.passes.CallerPass.{CallerPass as Pass};
-ghost use Rattle.zre_actor.specs.Passes.{IsCallerOf};
+ghost use Rattle.zre_actor.specs.Passes.{IsCallerOf, Raised};
 ghost use Rattle.zre_chat.specs.declared.asker.Wish.TheVariants as wishes;
 ghost use Rattle.zre_chat.specs.Asking.{HasAsked};
 
@@ -34,6 +34,8 @@ impl Asker {
         requires { IsCallerOf pipes.now self.pass }
         ensures pipes { IsCallerOf pipes.now result.pass }
         ensures asked { (first : Pass) → HasAsked first self → HasAsked first result }
+        ensures wished { wanted ≡ true → result.wish ≢ wishes.No }
+        ensures full { result.wish ≡ wishes.Due → Raised self.pass.fulls result.pass.fulls }
         ensures calm { wanted ≡ false → self.wish ≡ wishes.No → result.wish ≡ wishes.No }
     {
         let Asker { pass, wish } = self;

@@ -2,14 +2,13 @@
 use Rattle.std.proofs.Common.{◌≡◌, ℕ, ◌+◌, ◌<◌, ◌≤◌, true, false, List, [], ◌++◌, length, Option, refl, sym, ap, ◌∙◌, subst, arith}
 use Rattle.std.specs.List.{list_any}
 use Rattle.std.specs.Io.KnownBytes.{IsAtEnd}
-use Rattle.std.proofs.KnownBytes.{Appends-nil, Appends-trans, Consumes-nil, Consumes-trans}
-use Rattle.std.proofs.lemmas.List.{append-nil, length-append}
+use Rattle.std.proofs.lemmas.List.{append-nil}
 use Rattle.zre_outside.specs.declared.entry.Command.{Command}
-use Rattle.zre_outside.specs.Causes.{Rose}
 use Rattle.zre_outside.specs.Told.{Moves}
 use Rattle.zre_actor.specs.declared.passes.CallerPass.{CallerPass}
 use Rattle.zre_typist.specs.Orders.{is_quit, typed, Begins}
 use Rattle.zre_typist.specs.Typing.{Typing, Typed}
+use Rattle.zre_pump.proofs.Reach.{Moves-nil, Moves-trans, counted_more}
 use Rattle.zre_typist.proofs.Quits.{typed-begin}
 use Rattle.zre_input.specs.declared.ending.InputEnd.{InputEnd}
 use Rattle.zre_input.specs.declared.ending.InputEnd.TheVariants as ends
@@ -27,12 +26,6 @@ pub record Reached (t : Typing) (a b : CallerPass) (left left' taken taken' : Op
   pub going : list_any is_quit (typed octets) ≡ false
   pub puts : Puts a b (typed octets)
 
-Moves-nil : (l t : Option (List ℕ)) → Moves l l t t []
-Moves-nil l t = record { consumed = Consumes-nil l; recorded = Appends-nil t }
-
-Moves-trans : (l l' l'' t t' t'' : Option (List ℕ)) (x y : List ℕ) → Moves l l' t t' x → Moves l' l'' t' t'' y → Moves l l'' t t'' (x ++ y)
-Moves-trans l l' l'' t t' t'' x y p q = record { consumed = Consumes-trans l l' l'' x y p.consumed q.consumed; recorded = Appends-trans t t' t'' x y p.recorded q.recorded }
-
 pub starts : (t : Typing) (a : CallerPass) (left taken : Option (List ℕ)) → Typed [] t → Reached t a a left left taken taken 0
 starts t a left taken known = record {
   octets = [];
@@ -42,9 +35,6 @@ starts t a left taken known = record {
   going = refl;
   puts = puts-none a;
 }
-
-counted_more : (o piece : List ℕ) (count read : ℕ) → length o ≡ count → length piece ≡ read → length (o ++ piece) ≡ count + read
-counted_more o piece count read e f = omega (arith, length-append o piece, e, f)
 
 -- a piece more was read and its commands put
 pub goes-on : (s t : Typing) (a b c : CallerPass) (l l' l'' k k' k'' : Option (List ℕ)) (count read : ℕ) (piece : List ℕ)
@@ -59,9 +49,6 @@ goes-on s t a b c l l' l'' k k' k'' count read piece r long moves took = record 
   going = took.1;
   puts = subst (λ (cs : List Command). Puts a c cs) took.2.2 (puts-then a b c (typed r.octets) took.2.0 r.puts took.2.1);
 }
-
-pub Rose-since : (before mid now : ℕ) → before ≤ mid → Rose mid now → Rose before now
-Rose-since before mid now le h = omega (arith, h)
 
 -- ---- the ways to end
 

@@ -9,7 +9,9 @@ use Rattle.zre_pump.specs.declared.status.Status.{Status}
 use Rattle.zre_pump.specs.declared.status.Status.TheVariants as statuses
 use Rattle.zre_pump.specs.Meaning.{Meaning, whole_text}
 use Rattle.zre_pump.specs.Outcome.{Outcome}
-use Rattle.zre_pump.specs.Turning.{WritesText, WritesFront, Finishes}
+use Rattle.zre_pump.specs.declared.pumping.Next.{Next}
+use Rattle.zre_pump.specs.declared.pumping.Next.TheVariants as nexts
+use Rattle.zre_pump.specs.Turning.{WritesText, WritesFront, Told, Turned, Finishes}
 
 -- some octets were taken, so many; the machine was fed them, they aren't stopped, and their text was written
 pub record Reached (fed : List ℕ → Type 0) (m : Meaning) (left left' taken taken' written written' : Option (List ℕ)) (count : ℕ) : Type 0 where
@@ -20,7 +22,16 @@ pub record Reached (fed : List ℕ → Type 0) (m : Meaning) (left left' taken t
   pub going : m.is_stopped octets ≡ false
   pub appended : Appends written written' (m.text octets)
 
-Moves-nil : (a b : Option (List ℕ)) → Moves a a b b []
+-- a piece that isn't empty was told: so went the turn
+pub turned : (next : Next) (fed : List ℕ → Type 0) (m : Meaning) (o piece : List ℕ) (left w w' : Option (List ℕ)) (read write : Type 0) → 0 < length piece → Told next fed m o piece w w' write → Turned next fed m o piece left w w' read write
+turned nexts.Go fed m o piece left w w' read write some t = (some, t)
+turned nexts.Stop fed m o piece left w w' read write some t = t
+turned nexts.WriteFault fed m o piece left w w' read write some t = t
+turned nexts.OutOfMemory fed m o piece left w w' read write some t = t
+turned nexts.End fed m o piece left w w' read write some t = absurd t
+turned nexts.ReadFault fed m o piece left w w' read write some t = absurd t
+
+pub Moves-nil : (a b : Option (List ℕ)) → Moves a a b b []
 Moves-nil a b = record { consumed = Consumes-nil a; recorded = Appends-nil b }
 
 pub Moves-trans : (a b c d e f : Option (List ℕ)) (x y : List ℕ) → Moves a b d e x → Moves b c e f y → Moves a c d f (x ++ y)

@@ -4,7 +4,7 @@ ghost use Rattle.std.specs.Prelude.{◌≡◌, ◌<◌, ◌≤◌, ◌+◌, ◌+
 ghost use Rattle.zre_outside.specs.Causes.{Rose};
 ghost use Rattle.zre_outside.specs.Told.{Moves};
 ghost use Rattle.zre_pump.specs.Outcome.{Pumped};
-ghost use Rattle.zre_pump.specs.Turning.{Finishes, Turned};
+ghost use Rattle.zre_pump.specs.Turning.{Finishes, Told, Turned};
 
 use crate::buffer::{PIECE, room_for, zeros};
 use crate::machine::{Going, Machine};
@@ -29,6 +29,29 @@ enum Next {
 struct Turn {
     read: usize,
     next: Next,
+}
+
+// Feeds a piece and writes its text.
+fn tell<M: Machine, O: Sink>(machine: &mut M, piece: &[u8], out: &mut O, text: &mut Octets) -> Next
+    ensures told { (o : List ℕ) → M.fed machine.old o → (M.says machine.old).is_stopped o ≡ false →
+        Told result (M.fed machine.new) (M.says machine.old) o piece.now (O.written out.old) (O.written out.new)
+        (Rose (O.faults out.old) (O.faults out.new)) }
+    ensures same { M.says machine.new ≡ M.says machine.old }
+    ensures writes { O.faults out.old ≤ O.faults out.new }
+{
+    text.clear();
+    let Ok(going) = machine.feed(piece, text) else {
+        return Next::OutOfMemory;
+    };
+    match write_all(out, text.as_slice()) {
+        Ok(()) => {}
+        Err(NextFault::Failed) => return Next::WriteFault,
+        Err(NextFault::OutOfMemory) => return Next::OutOfMemory,
+    }
+    match going {
+        Going::On => Next::Go,
+        Going::Stop => Next::Stop,
+    }
 }
 
 // Reads one piece, feeds it and writes its text.
@@ -65,41 +88,8 @@ fn take_turn<M: Machine, I: Source, O: Sink>(
             next: Next::End,
         };
     }
-    text.clear();
-    let going = match machine.feed(&buf[..read], text) {
-        Ok(going) => going,
-        Err(OutOfMemory) => {
-            return Turn {
-                read,
-                next: Next::OutOfMemory,
-            };
-        }
-    };
-    match write_all(out, text.as_slice()) {
-        Ok(()) => {}
-        Err(NextFault::Failed) => {
-            return Turn {
-                read,
-                next: Next::WriteFault,
-            };
-        }
-        Err(NextFault::OutOfMemory) => {
-            return Turn {
-                read,
-                next: Next::OutOfMemory,
-            };
-        }
-    }
-    match going {
-        Going::On => Turn {
-            read,
-            next: Next::Go,
-        },
-        Going::Stop => Turn {
-            read,
-            next: Next::Stop,
-        },
-    }
+    let next = tell(machine, &buf[..read], out, text);
+    Turn { read, next }
 }
 
 // Takes the end of the input, of which so many octets were taken, and writes the last text.

@@ -2,7 +2,8 @@ use Rattle.std.proofs.Common.{◌≡◌, ◌+◌, ◌≤◌, take, subst, arith}
 use Rattle.std.proofs.lemmas.List.{length-take, length-take-le}
 use Rattle.zre_input.specs.Putting.{Closes}
 use Rattle.zre_input.specs.Turning.{Finishes}
-use Rattle.zre_input.proofs.Reach.{over-now, too-long, read-failed, finished, memory-amid, memory-first, Rose-since}
+use Rattle.zre_pump.proofs.Reach.{Rose-since}
+use Rattle.zre_input.proofs.Reach.{over-now, too-long, read-failed, finished, memory-amid, memory-first}
 use Rattle.zre_input.proofs.reading.read_all.Goals as goal
 
 pub returns-in_default-clause-read : goal.returns-in_default-clause-read

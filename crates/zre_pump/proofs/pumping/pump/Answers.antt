@@ -23,7 +23,7 @@ loop-taken-preserved g c =
     let len = length-take-le turn.result.read turn.new.buf turn.ensures.bound in
     let t = rw (inv.same, c.in-Go.is) at (turn.ensures.turned inv.reached.octets inv.reached.known (ap (λ m. m.is_stopped inv.reached.octets) inv.same ∙ inv.reached.going)) in
     record {
-      reached = goes_on _ _ (g.M.Machine.says c.args.machine.now) _ _ _ _ _ _ _ _ _ c.loop-taken.taken turn.result.read piece inv.reached len turn.ensures.moved t.0 t.1 t.3;
+      reached = goes_on _ _ (g.M.Machine.says c.args.machine.now) _ _ _ _ _ _ _ _ _ c.loop-taken.taken turn.result.read piece inv.reached len turn.ensures.moved t.1.0 t.1.1 t.1.2;
       same = turn.ensures.same ∙ inv.same;
       within = omega (arith, turn.ensures.bound, turn.auto.buf, c.room_for-room.ensures.within, length-take c.room_for-room.result c.deref_mut.result.now, c.loop-taken-test.true);
       room = inv.room;
