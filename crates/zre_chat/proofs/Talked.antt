@@ -1,6 +1,6 @@
 -- A chat whose threads were started.
 use Rattle.std.proofs.Common.{◌≡◌, ◌≢◌, ℕ, ◌≤◌, Bool, true, false, List, [], ◌∷◌, ◌++◌, map, length, Option, Some, None, refl, sym, ap, ◌∙◌, subst, arith, append_assoc, append-nil}
-use Rattle.std.specs.Prelude.{◌⊎◌, option_map, is_some}
+use Rattle.std.specs.Prelude.{◌⊎◌, option_map, is_some, IsTrue}
 use mathlib.Core.Logic.{inl, inr}
 use mathlib.Core.List.{IsPrefix}
 use Rattle.std.specs.List.{list_any}
@@ -18,9 +18,12 @@ use Rattle.zre_outside.specs.Told.{Moves, AppendsFront}
 use Rattle.zre_outside.specs.Worlds.{with_start}
 use Rattle.zre_peer.specs.Lines.{line, lines}
 use Rattle.zre_journal.specs.declared.config.Config.{Config}
+use Rattle.zre_journal.specs.Config.{CanBe}
 use Rattle.zre_journal.specs.Events.{chronicle, events}
 use Rattle.zre_journal.specs.Happens.{has_stopped}
 use Rattle.zre_node.specs.declared.node.Node.{Node}
+use Rattle.zre_node.specs.Journal.{StandsFor, is_spent}
+use Rattle.zre_node.proofs.Amounts.{can_be}
 use Rattle.zre_capture.specs.Lines as capture
 use Rattle.zre_actor.specs.declared.ending.Ending.{Ending}
 use Rattle.zre_actor.specs.declared.ending.Ending.TheVariants as ending
@@ -49,7 +52,8 @@ use Rattle.zre_chat.specs.Stages.{Prepared}
 use Rattle.zre_chat.specs.Statuses.{least, of_read, of_print, of_work, of_thread}
 use Rattle.zre_chat.proofs.Fronts.{prefix_trans, but_quits-prefix, quits_through, all_front, none_front}
 use Rattle.zre_chat.proofs.Merged.{all_under}
-use Rattle.zre_chat.proofs.Rows.{memory_here, memory_behind, done_here, done_behind}
+use Rattle.zre_chat.proofs.Rows.{memory_isnt, memory_here, memory_behind, done_here, done_behind}
+use Rattle.zre_chat.proofs.Stops.{told_to_stop}
 use Rattle.zre_chat.proofs.Whole.{maps, read_orders, read_front, only, most}
 
 none_wished : (asker : CallerPass) (refused : Bool) → HasAsked asker (asker_of asker refused)
@@ -168,11 +172,14 @@ module _ (g : Config) (start : Start) (name : Option (List ℕ)) (keep : Bool) (
   read_well : status ≡ Done → IsPrefix r.commands (orders r.octets) × (IsAtEnd t.left ⊎ ((list_any is_quit (typed r.octets) ≡ true) ⊎ (list_any is_quit r.commands ≡ false)))
   read_well is = read_front stop limit r.commands r.octets t.left (Rose u.read_faults t.read_faults) r.outcome (read_done is)
 
-  all_handed : status ≡ Done → list_any is_quit handed ≡ true → handed ≡ orders r.octets
-  all_handed is any = all_front handed (orders r.octets) (prefix_trans handed r.commands (orders r.octets) (calm is) (read_well is).0) (quits_through _) any
+  are_front : status ≡ Done → IsPrefix handed (orders r.octets)
+  are_front is = prefix_trans handed r.commands (orders r.octets) (calm is) (read_well is).0
 
-  has_ended : status ≡ Done → IsAtEnd t.left ⊎ ((list_any is_quit (typed r.octets) ≡ true) ⊎ (list_any is_quit handed ≡ false))
-  has_ended is = by (read_well is).1
+  all_handed : status ≡ Done → list_any is_quit handed ≡ true → handed ≡ orders r.octets
+  all_handed is any = all_front handed (orders r.octets) (are_front is) (quits_through _) any
+
+  input_ended : status ≡ Done → IsAtEnd t.left ⊎ ((list_any is_quit (typed r.octets) ≡ true) ⊎ (list_any is_quit handed ≡ false))
+  input_ended is = by (read_well is).1
     where
       by : IsAtEnd t.left ⊎ ((list_any is_quit (typed r.octets) ≡ true) ⊎ (list_any is_quit r.commands ≡ false)) → IsAtEnd t.left ⊎ ((list_any is_quit (typed r.octets) ≡ true) ⊎ (list_any is_quit handed ≡ false))
       by (inl a) = inl a
@@ -227,6 +234,16 @@ module _ (g : Config) (start : Start) (name : Option (List ℕ)) (keep : Bool) (
     stops ending.RecordFault h is = absurd (cc)
     stops ending.TooLong h is = absurd (cc)
     stops ending.OutOfMemory h is = absurd (cc)
+
+  has_ended : status ≡ Done → has_stopped (chronicle g w.entries) ≡ true
+  has_ended is = stops _ _ _ w.turns w.unstepped w.pending how w.ends (work_done is)
+
+  can : status ≡ Done → CanBe g
+  can is = by w.node
+    where
+      by : StandsFor g w.entries n ⊎ (IsTrue (is_spent n) × (how ≡ ending.OutOfMemory) × (length w.unstepped ≡ 1)) → CanBe g
+      by (inl stands) = can_be g (chronicle g w.entries) n.tables stands.stands
+      by (inr (spent, none_left, one_left)) = absurd (memory (λ e. memory_isnt (sym e ∙ is)) none_left)
 
   given : status ≢ OutOfMemory → ¬ Rose s.record_faults t.record_faults → w.unstepped ≡ []
   given isnt rose = none _ _ _ w.turns w.unstepped w.pending how w.ends (memory isnt) (λ x. rose (record_rose x))
@@ -299,10 +316,11 @@ module _ (g : Config) (start : Start) (name : Option (List ℕ)) (keep : Bool) (
     held = held;
     are_done = w.goes.are_done;
     in_order = in_order;
+    are_front = are_front;
     all_handed = all_handed;
     occurred = statuses;
     is_status = refl;
     caused = (read_cause stop r.outcome w.turns (has_stopped (chronicle g w.entries)), (print_cause broke refl (length r.octets) w.turns (has_stopped (chronicle g w.entries)), (work_cause how (length r.octets) w.turns (has_stopped (chronicle g w.entries)) w.unstepped w.pending w.ends, (thread_cause refused refl (length r.octets) w.turns (has_stopped (chronicle g w.entries)), tt))));
-    done = λ is. (refl, stops _ _ _ w.turns w.unstepped w.pending how w.ends (work_done is));
-    ended = has_ended;
+    done = λ is. (refl, told_to_stop g (can is) w.entries (has_ended is), has_ended is);
+    ended = input_ended;
   }

@@ -86,6 +86,7 @@ module _ (g : Config) (start : Start) (name : Option (List ℕ)) (limit : ℕ) w
     held = holds;
     are_done = nil-sublist [];
     in_order = (but_quits (orders []), refl);
+    are_front = λ d. absurd (not_done d);
     all_handed = λ d. absurd (not_done d);
     occurred = status ∷ [];
     is_status = one_least status;

@@ -6,7 +6,10 @@ use Rattle.std.specs.Io.KnownBytes.{Keeps, Appends, IsAtEnd}
 use Rattle.zre_outside.specs.declared.act.Act.{Act}
 use Rattle.zre_outside.specs.declared.deed.Deed.{Deed}
 use Rattle.zre_outside.specs.declared.entry.Entry.{Entry}
+use Rattle.zre_outside.specs.declared.entry.Input.{Input}
+use Rattle.zre_outside.specs.declared.entry.Input.TheVariants as input
 use Rattle.zre_outside.specs.declared.entry.Command.{Command}
+use Rattle.zre_outside.specs.declared.entry.Command.TheVariants as command
 use Rattle.zre_outside.specs.declared.start.Start.{Start}
 use Rattle.zre_outside.specs.Causes.{Rose}
 use Rattle.zre_outside.specs.Told.{Moves, AppendsFront}
@@ -59,6 +62,12 @@ seen left taken reads told worlds written writes kept named records refusals = r
 -- commands but for a quit
 abbrev pub but_quits : List Command → List Command
 but_quits commands = filter (λ c. not (is_quit c)) commands
+
+-- the node is told to stop: by a quit, or since nothing comes any more
+abbrev pub is_stop : Input → Bool
+is_stop (input.Do command.Quit) = true
+is_stop input.End = true
+is_stop i = false
 
 -- what each status needs: a count that rose, or as many octets or turns as the limit
 abbrev pub IsCaused : Status → (limit octets turns : ℕ) → (stopped : Bool) → Seen → Seen → Type 0
@@ -119,13 +128,14 @@ pub record IsChat (g : Config) (start : Start) (name : Option (List ℕ)) (limit
   pub held : (file : List ℕ) → name ≡ Some file → status ≢ OutOfMemory → ¬ Rose s.record_faults t.record_faults → Holds file entries s t
   -- the commands that were handed in are done by entries that were given, in order
   pub are_done : Sublist handed (done_by (entries ++ unstepped))
-  -- they are those of the input's lines, in order, up to some place; where a Quit of the input stopped the node, they are all
+  -- but for quits they begin the orders of the input; where all went well they begin them as they stand, and where a Quit of the input stopped the node they are all
   pub in_order : IsPrefix (but_quits handed) (but_quits (orders octets))
+  pub are_front : status ≡ Done → IsPrefix handed (orders octets)
   pub all_handed : status ≡ Done → list_any is_quit handed ≡ true → handed ≡ orders octets
   -- the status is the first of what occurred, each with its cause
   pub occurred : List Status
   pub is_status : status ≡ least occurred
   pub caused : AreCaused occurred limit (length octets) turns (has_stopped (chronicle g entries)) s t
-  -- where nothing did, the world was started and the node has stopped: the input is at its end, or a line of it is a quit, or the stop is the world's own
-  pub done : status ≡ Done → (begun ≡ true) × (has_stopped (chronicle g entries) ≡ true)
+  -- where nothing did, the world was started, it told the node to stop, and so the node did: the input is at its end, or a line of it is a quit, or the stop is the world's own
+  pub done : status ≡ Done → (begun ≡ true) × (list_any (λ e. is_stop e.input) entries ≡ true) × (has_stopped (chronicle g entries) ≡ true)
   pub ended : status ≡ Done → IsAtEnd t.left ⊎ ((list_any is_quit (typed octets) ≡ true) ⊎ (list_any is_quit handed ≡ false))
