@@ -9,6 +9,10 @@ use std::io::{self, Write};
 const LARGE_CONTENT: usize = 1000;
 const LARGE_PIECE: usize = 60_000;
 
+/// Names in each HELLO of [`hellos`], and octets of a name.
+const NAMES: usize = 80_000;
+const NAME_OCTETS: usize = 8;
+
 /// The traffic of a peer of the exercise: HELLO, then so many messages of all kinds.
 pub fn traffic(messages: usize, mut out: impl Write) -> io::Result<()> {
     out.write_all(&peer_hello(0))?;
@@ -19,13 +23,13 @@ pub fn traffic(messages: usize, mut out: impl Write) -> io::Result<()> {
     out.flush()
 }
 
-/// The same as a whole stream, with the greeting and READY in front.
+/// The same as a whole stream, with the greeting and READY first.
 pub fn stream(messages: usize, mut out: impl Write) -> io::Result<()> {
     out.write_all(&peer_handshake(0))?;
     traffic(messages, out)
 }
 
-/// The traffic of a peer that joins and leaves one group in turn, so many messages behind HELLO.
+/// The traffic of a peer that joins and leaves one group in turn, so many messages after HELLO.
 pub fn joins(messages: usize, mut out: impl Write) -> io::Result<()> {
     out.write_all(&peer_hello(0))?;
     let mut octets = Vec::new();
@@ -78,6 +82,31 @@ pub fn large_capture(messages: usize, mut out: impl Write) -> io::Result<()> {
     lines.clear();
     push_piece(&mut lines, messages, 1, &waiting);
     out.write_all(&lines)?;
+    writeln!(out, "{messages} do quit")?;
+    out.flush()
+}
+
+/// A capture of connections of one peer, each with a HELLO of nearly as many octets as a message may have, full of distinct names of groups:
+/// far more than a peer may be in.
+pub fn hellos(messages: usize, mut out: impl Write) -> io::Result<()> {
+    out.write_all(b"zre-capture 1\n")?;
+    let mut draws = Draws::new(1);
+    let mut groups = vec![vec![0; NAME_OCTETS]; NAMES];
+    let (mut octets, mut lines) = (Vec::new(), Vec::new());
+    for at in 0..messages {
+        groups.iter_mut().for_each(|name| draws.fill(name));
+        octets.clear();
+        octets.extend(peer_handshake(0));
+        push_message(
+            &mut octets,
+            1,
+            &Body::Hello { endpoint: "tcp://10.1.0.0:49152", groups: &groups, status: 0, name: b"p0", headers: &[] },
+        );
+        lines.clear();
+        lines.extend(format!("{at} opened {}\n", at + 1).bytes());
+        push_piece(&mut lines, at, at + 1, &octets);
+        out.write_all(&lines)?;
+    }
     writeln!(out, "{messages} do quit")?;
     out.flush()
 }
@@ -139,5 +168,8 @@ mod tests {
         let lines = lines_of(|out| replay(settings(), &octets[..], out));
         assert_eq!(lines.len(), 1 + 100 + 1 + 1);
         assert_eq!(lines.last().unwrap(), "STOP");
+        let octets = made(|out| hellos(3, out));
+        let lines = lines_of(|out| replay(settings(), &octets[..], out));
+        assert_eq!(lines, ["IGNORED 1 Limit", "CLOSED 1 Taken", "IGNORED 2 Limit", "CLOSED 2 Taken", "IGNORED 3 Limit", "STOP"]);
     }
 }

@@ -21,6 +21,7 @@ pub enum Made {
     Joins { messages: usize },
     Capture { peers: usize, messages: usize },
     LargeCapture { messages: usize },
+    Hellos { messages: usize },
 }
 
 /// The task of some words, if they are one.
@@ -41,6 +42,7 @@ pub fn read(words: &[String]) -> Option<Task> {
         "make-joins" => Task::Make(Made::Joins { messages: messages(&mut words)? }),
         "make-capture" => Task::Make(Made::Capture { peers: peers(&mut words)?, messages: messages(&mut words)? }),
         "make-large-capture" => Task::Make(Made::LargeCapture { messages: messages(&mut words)? }),
+        "make-hellos" => Task::Make(Made::Hellos { messages: messages(&mut words)? }),
         _ => return None,
     };
     words.0.is_empty().then_some(task)
