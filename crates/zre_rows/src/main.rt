@@ -9,6 +9,7 @@ mod row;
 mod subject;
 mod texts;
 mod trouble;
+mod wire;
 mod words;
 
 use cases::go_over;

@@ -4,6 +4,7 @@
 mod quoting;
 
 use crate::trouble::Trouble;
+use crate::wire::Wire;
 use quoting::Quoting;
 use std::alloc::Global;
 use std::sync::Wait;
@@ -16,6 +17,7 @@ pub enum Subject {
     /// No line has named one yet.
     Missing,
     Quoting(Quoting),
+    Wire(Wire),
 }
 
 impl Subject {
@@ -24,7 +26,7 @@ impl Subject {
         if name == b"quoting".as_slice() {
             return Ok(Subject::Quoting(Quoting::new(alloc, arguments)?));
         }
-        Err(Trouble::BadArgument)
+        Ok(Subject::Wire(Wire::new(alloc, name, arguments)?))
     }
 
     /// Does one step.
@@ -39,6 +41,7 @@ impl Subject {
         match self {
             Subject::Missing => Err(Trouble::UnknownKey),
             Subject::Quoting(quoting) => quoting.step(key, arguments, answer),
+            Subject::Wire(wire) => wire.step(key, arguments, answer),
         }
     }
 }
