@@ -2,7 +2,9 @@
 //! `.rows` is gone over; what differs is printed with its file and line, and last how many rows there were and how many failed.
 #![tactic(auto)]
 
+mod acts;
 mod cases;
+mod journal;
 mod names;
 mod report;
 mod row;
