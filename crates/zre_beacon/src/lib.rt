@@ -51,6 +51,3 @@ impl Beacon {
         octets
     }
 }
-
-#[cfg(test)]
-mod tests;
