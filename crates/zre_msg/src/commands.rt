@@ -16,15 +16,23 @@ use zre_values::{Octets, OutOfMemory};
 /// A command other than HELLO, with the fields that its frame lends: those of `Body`, but for the content.
 #[derive(Clone, Copy)]
 pub enum Command<'a> {
+    /// WHISPER, number 2.
     Whisper,
+    /// SHOUT, number 3, to this group.
     Shout { group: &'a [u8] },
+    /// JOIN, number 4.
     Join { group: &'a [u8], status: u8 },
+    /// LEAVE, number 5.
     Leave { group: &'a [u8], status: u8 },
+    /// PING, number 6.
     Ping,
+    /// PING-OK, number 7.
     PingOk,
+    /// A number that RFC 36 does not name, and the octets after the sequence.
     Other { number: u8, rest: &'a [u8] },
 }
 
+/// The fields of HELLO (RFC 36), and the octets that are left over after them.
 #[tactic(auto, unfolding(crate::specs::Reading::hello_at))]
 pub fn read_hello(alloc: Global, octets: &[u8]) -> Result<(Body, &[u8]), Stop>
     ensures { Gives (λ x. (x.0, x.1.now)) result (hello_at octets.now) }
