@@ -1,15 +1,17 @@
 //! The names of a case file, which stand for texts.
 
+use crate::texts::push_hex;
 use crate::trouble::Trouble;
 use hex::encode_to_slice;
 use std::alloc::Global;
 use zre_capture::split_once;
 use zre_values::{Octets, OutOfMemory, Pairs, push_decimal};
 
-/// The texts that names stand for, and the count of a repetition: `{n}` in decimal digits, `{d}` in four of them at least, `{x}`
-/// modulo 65,536 in four hexadecimal digits.
+/// The texts that names stand for, and the count of a repetition: `{n}` in decimal digits, `{d}` in four of them at least, `{a}`
+/// the octets of these digits in hexadecimal, and `{x}` modulo 65,536 in four hexadecimal digits.
 #[derive(Drop)]
 pub struct Names {
+    alloc: Global,
     texts: Pairs,
     pub count: u64,
 }
@@ -17,6 +19,7 @@ pub struct Names {
 impl Names {
     pub fn new(alloc: Global) -> Self {
         Names {
+            alloc,
             texts: Pairs::new(alloc),
             count: 0,
         }
@@ -67,7 +70,7 @@ impl Names {
         Err(Trouble::UnknownName)
     }
 
-    // The count of a repetition, where the name is one of its three.
+    // The count of a repetition, where the name is one of its four.
     fn push_count(&self, name: &[u8], out: &mut Octets) -> Result<bool, OutOfMemory> {
         if name == b"n".as_slice() {
             push_decimal(out, self.count)?;
@@ -75,6 +78,10 @@ impl Names {
         }
         if name == b"d".as_slice() {
             push_padded(out, self.count)?;
+            return Ok(true);
+        }
+        if name == b"a".as_slice() {
+            push_octets(self.alloc, out, self.count)?;
             return Ok(true);
         }
         if name == b"x".as_slice() {
@@ -94,6 +101,13 @@ fn push_padded(out: &mut Octets, n: u64) -> Result<(), OutOfMemory> {
         out.append(b"0")?;
     }
     push_decimal(out, n)
+}
+
+// The padded digits, two hexadecimal digits for each.
+fn push_octets(alloc: Global, out: &mut Octets, n: u64) -> Result<(), OutOfMemory> {
+    let mut padded = Octets::new(alloc);
+    push_padded(&mut padded, n)?;
+    push_hex(out, padded.as_slice())
 }
 
 fn push_digits(out: &mut Octets, n: u64) -> Result<(), OutOfMemory> {

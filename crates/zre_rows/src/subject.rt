@@ -2,11 +2,13 @@
 //! and appends the lines that it answers, each with its line feed.
 
 mod command;
+mod exercises;
 mod nodes;
 mod quoting;
 
 use crate::trouble::Trouble;
 use command::Commands;
+use exercises::Exercises;
 use nodes::Nodes;
 use quoting::Quoting;
 use std::alloc::Global;
@@ -20,6 +22,7 @@ pub enum Subject {
     /// No line has named one yet.
     Missing,
     Command(Commands),
+    Exercise(Exercises),
     Node(Nodes),
     Quoting(Quoting),
 }
@@ -29,6 +32,9 @@ impl Subject {
     pub fn new(alloc: Global, name: &[u8], arguments: &[u8]) -> Result<Subject, Trouble> {
         if name == b"command".as_slice() {
             return Ok(Subject::Command(Commands::new(alloc, arguments)?));
+        }
+        if name == b"exercise".as_slice() {
+            return Ok(Subject::Exercise(Exercises::new(alloc, arguments)?));
         }
         if name == b"node".as_slice() {
             return Ok(Subject::Node(Nodes::new(alloc, arguments)?));
@@ -50,6 +56,7 @@ impl Subject {
         match self {
             Subject::Missing => Err(Trouble::UnknownKey),
             Subject::Command(commands) => commands.step(rt, key, arguments, answer),
+            Subject::Exercise(exercises) => exercises.step(key, arguments, answer),
             Subject::Node(nodes) => nodes.step(key, arguments, answer),
             Subject::Quoting(quoting) => quoting.step(key, arguments, answer),
         }
