@@ -2,12 +2,14 @@
 //! and appends the lines that it answers, each with its line feed.
 
 mod command;
+mod exercises;
 mod nodes;
 mod quoting;
 
 use crate::trouble::Trouble;
 use crate::wire::Wire;
 use command::Commands;
+use exercises::Exercises;
 use nodes::Nodes;
 use quoting::Quoting;
 use std::alloc::Global;
@@ -21,6 +23,7 @@ pub enum Subject {
     /// No line has named one yet.
     Missing,
     Command(Commands),
+    Exercise(Exercises),
     Node(Nodes),
     Quoting(Quoting),
     Wire(Wire),
@@ -31,6 +34,9 @@ impl Subject {
     pub fn new(alloc: Global, name: &[u8], arguments: &[u8]) -> Result<Subject, Trouble> {
         if name == b"command".as_slice() {
             return Ok(Subject::Command(Commands::new(alloc, arguments)?));
+        }
+        if name == b"exercise".as_slice() {
+            return Ok(Subject::Exercise(Exercises::new(alloc, arguments)?));
         }
         if name == b"node".as_slice() {
             return Ok(Subject::Node(Nodes::new(alloc, arguments)?));
@@ -52,6 +58,7 @@ impl Subject {
         match self {
             Subject::Missing => Err(Trouble::UnknownKey),
             Subject::Command(commands) => commands.step(rt, key, arguments, answer),
+            Subject::Exercise(exercises) => exercises.step(key, arguments, answer),
             Subject::Node(nodes) => nodes.step(key, arguments, answer),
             Subject::Quoting(quoting) => quoting.step(key, arguments, answer),
             Subject::Wire(wire) => wire.step(key, arguments, answer),
