@@ -13,6 +13,7 @@ const HEAD: [u8; 4] = [b'Z', b'R', b'E', 1];
 /// What a beacon says: who sends it, and the port of its mailbox.
 #[derive(Clone, Copy, Debug, PartialEq, Eq)]
 pub struct Beacon {
+    /// The identity of the node.
     pub id: PeerId,
     /// The TCP port. At 0 the node is leaving.
     pub port: u16,
@@ -51,6 +52,3 @@ impl Beacon {
         octets
     }
 }
-
-#[cfg(test)]
-mod tests;

@@ -27,6 +27,4 @@ pub use split::split_once;
 pub use value::{address, group, id, number};
 
 #[cfg(test)]
-mod exercise_tests;
-#[cfg(test)]
 mod tests;

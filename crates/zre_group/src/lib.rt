@@ -8,6 +8,3 @@ mod own;
 
 pub use index::Index;
 pub use own::{JoinFault, NoGroup, Own};
-
-#[cfg(test)]
-mod tests;

@@ -33,6 +33,7 @@ impl Model for Members {
 }
 
 impl Members {
+    /// No key is in any group. It takes no memory.
     pub fn new(alloc: Global) -> Self
         ensures { result ≡ set.empty }
     {
@@ -42,6 +43,7 @@ impl Members {
         }
     }
 
+    /// Puts a key into a group, or changes nothing where no memory is left.
     pub fn insert(&mut self, group: &[u8], key: u64) -> Result<(), OutOfMemory>
         ensures ok { OnOk result (self.new ≡ set.insert self.old (group.now, key)) }
         ensures err { OnErr result (self.new ≡ self.old) }
@@ -57,6 +59,7 @@ impl Members {
         Ok(())
     }
 
+    /// Takes a key out of a group, if it is in.
     pub fn remove(&mut self, group: &[u8], key: u64)
         ensures { self.new ≡ set.remove self.old (group.now, key) }
     {
@@ -69,6 +72,7 @@ impl Members {
         }
     }
 
+    /// Whether a key is in a group.
     pub fn contains(&self, group: &[u8], key: u64) -> bool
         ensures { result ≡ is_member self.now group.now key }
     {

@@ -33,6 +33,7 @@ pub enum JoinFault {
     Same,
     /// `OWN_GROUPS` others are joined.
     Limit,
+    /// No memory was left for its name.
     OutOfMemory,
 }
 
@@ -71,6 +72,7 @@ impl Own {
         self.status
     }
 
+    /// How many groups there are, at most 1,024.
     pub fn len(&self) -> usize
         ensures exact { result ≡ length self.now.groups }
         ensures limit { result ≤ OWN_GROUPS }
@@ -78,6 +80,7 @@ impl Own {
         self.groups.len()
     }
 
+    /// The name of the group at this place, counted from 0 in the order of joining.
     pub fn get(&self, i: usize) -> &[u8]
         requires { i < length self.now.groups }
         ensures { slice_get self.now.groups i ≡ Some result.now }

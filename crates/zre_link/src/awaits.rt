@@ -6,8 +6,11 @@ ghost use Rattle.zre_link.specs.Heard.{expected_of, expected_behind};
 /// What the other end has to send next.
 #[derive(Clone, Copy, Debug, PartialEq, Eq)]
 pub enum Awaits {
+    /// The greeting: only this node's own may go out before it.
     Greeting,
+    /// READY: after it messages may go out.
     Ready,
+    /// Messages and commands, which are dropped.
     Traffic,
 }
 

@@ -11,6 +11,3 @@ mod replies;
 
 pub use fault::PushFault;
 pub use link::Link;
-
-#[cfg(test)]
-mod tests;

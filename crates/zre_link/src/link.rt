@@ -152,6 +152,7 @@ impl Link {
         self.linked = true;
     }
 
+    /// Whether the link stands.
     pub fn is_linked(&self) -> bool
         ensures { result ≡ self.now.linked }
     {

@@ -38,12 +38,14 @@ impl Queue {
         }
     }
 
+    /// How many octets wait.
     pub fn len(&self) -> usize
         ensures { result ≡ length self.now }
     {
         self.octets.len() - self.start
     }
 
+    /// The octets that wait, in one piece.
     pub fn as_slice(&self) -> &[u8]
         ensures { result.now ≡ self.now }
     {

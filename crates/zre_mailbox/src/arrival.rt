@@ -43,12 +43,14 @@ impl Arrivals {
         }
     }
 
+    /// How many arrivals there are.
     pub fn len(&self) -> usize
         ensures { result ≡ length self.now }
     {
         self.arrivals.len()
     }
 
+    /// The arrival at this place, counted from 0.
     pub fn get(&self, i: usize) -> &Arrival
         requires { i < length self.now }
         ensures { slice_get self.now i ≡ Some result.now }

@@ -124,6 +124,7 @@ impl Conn {
         self.identity
     }
 
+    /// Whether the connection is ignored.
     pub fn ignored(&self) -> bool
         ensures { result ≡ is_ignored self.now }
     {

@@ -14,6 +14,3 @@ pub use laws::{
     arrivals_are_in_order, completed_in_turn, identity_stays, nothing_said, ready_introduces,
     talk_grows,
 };
-
-#[cfg(test)]
-mod tests;

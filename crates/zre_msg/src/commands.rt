@@ -1,6 +1,6 @@
 //! The fields of each command, read from the front of what stands behind the sequence.
 
-ghost use Rattle.std.specs.Prelude.{◌≡◌, ◌≢◌, ℕ, List, Result};
+ghost use Rattle.std.specs.Prelude.{◌≡◌, ◌≢◌, ℕ, List, Result, IfOk};
 ghost use Rattle.zre_msg.specs.declared.message.Bad.{Bad};
 ghost use Rattle.zre_msg.specs.Reading.{is_single as single_test, hello_at, join_at, leave_at, shout_at, body_at, Answers};
 ghost use Rattle.zre_msg.specs.Commands.{body_of, Says};
@@ -11,20 +11,28 @@ use crate::fields::{Stop, dictionary_at, lent_string_at, octet_at, string_at, st
 use crate::further::Further;
 use crate::message::{Body, Message, ReadFault};
 use std::alloc::Global;
-use zre_values::Octets;
+use zre_values::{Octets, OutOfMemory};
 
 /// A command other than HELLO, with the fields that its frame lends: those of `Body`, but for the content.
 #[derive(Clone, Copy)]
 pub enum Command<'a> {
+    /// WHISPER, number 2.
     Whisper,
+    /// SHOUT, number 3, to this group.
     Shout { group: &'a [u8] },
+    /// JOIN, number 4.
     Join { group: &'a [u8], status: u8 },
+    /// LEAVE, number 5.
     Leave { group: &'a [u8], status: u8 },
+    /// PING, number 6.
     Ping,
+    /// PING-OK, number 7.
     PingOk,
+    /// A number that RFC 36 does not name, and the octets after the sequence.
     Other { number: u8, rest: &'a [u8] },
 }
 
+/// The fields of HELLO (RFC 36), and the octets that are left over after them.
 #[tactic(auto, unfolding(crate::specs::Reading::hello_at))]
 pub fn read_hello(alloc: Global, octets: &[u8]) -> Result<(Body, &[u8]), Stop>
     ensures { Gives (λ x. (x.0, x.1.now)) result (hello_at octets.now) }
@@ -90,7 +98,39 @@ pub fn read_command(number: u8, octets: &[u8]) -> Result<(Command<'_>, &[u8]), S
 }
 
 impl<'a> Command<'a> {
-    /// The message of the command. Its content is the frames behind the first.
+    // The body of the message. Its content is the frames after the first.
+    fn body(self, alloc: Global, further: Further<'_>) -> Result<Body, OutOfMemory>
+        ensures { IfOk result (λ body. body ≡ body_of self.entry (frames_of further.entry)) }
+    {
+        match self {
+            Command::Whisper => {
+                let content = further.take(alloc)?;
+                Ok(Body::Whisper { content })
+            }
+            Command::Shout { group } => {
+                let content = further.take(alloc)?;
+                let group = Octets::copy(alloc, group)?;
+                Ok(Body::Shout { group, content })
+            }
+            Command::Join { group, status } => {
+                let group = Octets::copy(alloc, group)?;
+                Ok(Body::Join { group, status })
+            }
+            Command::Leave { group, status } => {
+                let group = Octets::copy(alloc, group)?;
+                Ok(Body::Leave { group, status })
+            }
+            Command::Ping => Ok(Body::Ping),
+            Command::PingOk => Ok(Body::PingOk),
+            Command::Other { number, rest } => {
+                let more = further.take(alloc)?;
+                let rest = Octets::copy(alloc, rest)?;
+                Ok(Body::Other { number, rest, more })
+            }
+        }
+    }
+
+    /// The message of the command. Its content is the frames after the first.
     pub fn message(
         self,
         alloc: Global,
@@ -99,43 +139,8 @@ impl<'a> Command<'a> {
     ) -> Result<Message, ReadFault>
         ensures { Says sequence (body_of self.entry (frames_of further.entry)) result }
     {
-        match self {
-            Command::Whisper => {
-                let content = further.take(alloc)?;
-                let body = Body::Whisper { content };
-                Ok(Message { sequence, body })
-            }
-            Command::Shout { group } => {
-                let content = further.take(alloc)?;
-                let group = Octets::copy(alloc, group)?;
-                let body = Body::Shout { group, content };
-                Ok(Message { sequence, body })
-            }
-            Command::Join { group, status } => {
-                let group = Octets::copy(alloc, group)?;
-                let body = Body::Join { group, status };
-                Ok(Message { sequence, body })
-            }
-            Command::Leave { group, status } => {
-                let group = Octets::copy(alloc, group)?;
-                let body = Body::Leave { group, status };
-                Ok(Message { sequence, body })
-            }
-            Command::Ping => {
-                let body = Body::Ping;
-                Ok(Message { sequence, body })
-            }
-            Command::PingOk => {
-                let body = Body::PingOk;
-                Ok(Message { sequence, body })
-            }
-            Command::Other { number, rest } => {
-                let rest = Octets::copy(alloc, rest)?;
-                let more = further.take(alloc)?;
-                let body = Body::Other { number, rest, more };
-                Ok(Message { sequence, body })
-            }
-        }
+        let body = self.body(alloc, further)?;
+        Ok(Message { sequence, body })
     }
 }
 

@@ -9,13 +9,16 @@ use zre_values::{Frames, Octets, OutOfMemory};
 /// that it holds them themselves.
 #[derive(Drop)]
 pub enum Further<'a> {
+    /// They are copied into the message.
     Lent(&'a [Octets]),
+    /// They are moved into it.
     Given(Frames),
 }
 
 impl<'a> Further<'a> {
     ghost use Rattle.zre_msg.specs.Further.{frames_of};
 
+    /// Whether there are none.
     pub fn is_empty(&self) -> bool
         ensures { result ≡ (length (frames_of self.now) == 0) }
     {
@@ -25,6 +28,7 @@ impl<'a> Further<'a> {
         }
     }
 
+    /// The frames themselves, or copies of those that are lent.
     pub fn take(self, alloc: Global) -> Result<Frames, OutOfMemory>
         ensures { IfOk result (λ frames. frames ≡ frames_of self.entry) }
     {

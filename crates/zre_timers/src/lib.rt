@@ -4,6 +4,3 @@
 mod timers;
 
 pub use timers::{Due, Timers};
-
-#[cfg(test)]
-mod tests;

@@ -33,9 +33,11 @@ impl Model for Timers {
 }
 
 /// The keys that are due at a moment, in two lists that have no key in common.
-#[derive(Debug, Drop)]
+#[derive(Drop)]
 pub struct Due {
+    /// Those that were silent for the longer span, rising.
     pub expired: Keys,
+    /// The others that were silent for the shorter one, rising.
     pub evasive: Keys,
 }
 

@@ -11,7 +11,9 @@ use std::alloc::Global;
 /// The address and the port of a node, as its HELLO names them.
 #[derive(Clone, Copy, Debug, PartialEq, Eq)]
 pub struct Endpoint {
+    /// The IPv4 address, its first octet first.
     pub addr: [u8; 4],
+    /// The TCP port of the mailbox. An endpoint that is read has one from 1 on.
     pub port: u16,
 }
 

@@ -40,12 +40,14 @@ impl Frames {
         Frames { items }
     }
 
+    /// How many members there are.
     pub fn len(&self) -> usize
         ensures { result ≡ length self.now }
     {
         self.items.len()
     }
 
+    /// The octets of the member at this place, counted from 0.
     pub fn get(&self, i: usize) -> &[u8]
         requires { i < length self.now }
         ensures { slice_get self.now i ≡ Some result.now }

@@ -33,12 +33,14 @@ impl Keys {
         Keys { items }
     }
 
+    /// How many keys there are.
     pub fn len(&self) -> usize
         ensures { result ≡ length self.now }
     {
         self.items.len()
     }
 
+    /// The key at this place, counted from 0.
     pub fn get(&self, i: usize) -> &u64
         requires { i < length self.now }
         ensures { slice_get self.now i ≡ Some result.now }

@@ -28,6 +28,3 @@ pub use peer_id::PeerId;
 pub use quoting::{push_quoted, push_quoted_frames, push_quoted_list, push_quoted_pairs, quote};
 pub use texts::push_decimal;
 pub use unquoting::{is_quoted, octets_are_quoted_once, unquote};
-
-#[cfg(test)]
-mod tests;

@@ -50,6 +50,7 @@ impl Octets {
         }
     }
 
+    /// The octets, where they lie.
     #[inline]
     pub fn as_slice(&self) -> &[u8]
         ensures { result.now ≡ self.now }
@@ -57,6 +58,7 @@ impl Octets {
         self.items.as_slice()
     }
 
+    /// How many octets there are.
     #[inline]
     pub fn len(&self) -> usize
         ensures { result ≡ length self.now }
@@ -64,6 +66,7 @@ impl Octets {
         self.items.len()
     }
 
+    /// Whether there are none.
     #[inline]
     pub fn is_empty(&self) -> bool
         ensures { result ≡ (length self.now == 0) }
@@ -71,6 +74,7 @@ impl Octets {
         self.items.is_empty()
     }
 
+    /// The octet at this place, counted from 0.
     #[inline]
     pub fn get(&self, i: usize) -> &u8
         requires { i < length self.now }
@@ -79,6 +83,7 @@ impl Octets {
         &self.items.as_slice()[i]
     }
 
+    /// Appends an octet, or nothing where no memory is left.
     #[inline]
     pub fn push(&mut self, octet: u8) -> Result<(), OutOfMemory>
         ensures ok { OnOk result (self.new ≡ self.old ++ octet ∷ []) }

@@ -40,12 +40,14 @@ impl Pairs {
         Ok(copied)
     }
 
+    /// How many pairs there are, those of one name counted each.
     pub fn len(&self) -> usize
         ensures { result ≡ length self.now }
     {
         self.items.len()
     }
 
+    /// The name and the value of the pair at this place, counted from 0.
     pub fn get(&self, i: usize) -> (&[u8], &[u8])
         requires { i < length self.now }
         ensures { slice_get self.now i ≡ Some (result.0.now, result.1.now) }

@@ -21,6 +21,7 @@ fn has_name(body: &[u8]) -> bool
     }
 }
 
+/// The name of a command, by its body: as much of it as is there (RFC 23, commands).
 pub fn name(body: &[u8]) -> &[u8]
     ensures { result.now ≡ name_of body.now }
 {
@@ -167,12 +168,14 @@ fn ready_value<'a>(body: &'a [u8], wanted: &[u8]) -> Option<&'a [u8]>
     }
 }
 
+/// The first value under `Socket-Type` in the body of READY; none where what stands after its name is no list of properties.
 pub fn socket_type(body: &[u8]) -> Option<&[u8]>
     ensures { option_copied result ≡ socket_type_of body.now }
 {
     ready_value(body, b"Socket-Type")
 }
 
+/// The first value under `Identity`, in the same way.
 pub fn identity(body: &[u8]) -> Option<&[u8]>
     ensures { option_copied result ≡ identity_of body.now }
 {

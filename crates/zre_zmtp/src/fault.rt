@@ -39,6 +39,7 @@ pub enum ZmtpWhy {
 #[derive(Clone, Copy, Debug, PartialEq, Eq, Error)]
 #[error("{why:?} at octet {place}")]
 pub struct ZmtpFault {
+    /// What is wrong.
     pub why: ZmtpWhy,
     /// How many octets of the stream stand before it: before the octet of a greeting that can't be, and else before
     /// the flags octet of the frame.
@@ -48,8 +49,10 @@ pub struct ZmtpFault {
 /// Why a piece was refused.
 #[derive(Clone, Copy, Debug, PartialEq, Eq, Error)]
 pub enum FeedFault {
+    /// The octets so far are no beginning of a stream, whatever follows.
     #[error("{0}")]
     Zmtp(ZmtpFault),
+    /// No memory was left, or a place would be above 2^64 - 1.
     #[error("out of memory")]
     OutOfMemory,
 }

@@ -6,17 +6,20 @@ ghost use Rattle.zre_zmtp.specs.Frame.{is_message as message_test, is_long as lo
 /// What a header says.
 #[derive(Clone, Copy, Debug, PartialEq, Eq)]
 pub struct Header {
+    /// The flags octet: 0 to 3 of a message, 4 and 6 of a command.
     pub flags: u8,
     /// How many octets the body has.
     pub size: u64,
 }
 
+/// Whether these are the flags of a message frame.
 pub fn is_message(flags: u8) -> bool
     ensures { result ≡ message_test flags }
 {
     flags < 4
 }
 
+/// Whether these are the flags of a frame that another of its message follows.
 pub fn has_more(flags: u8) -> bool
     ensures { result ≡ more_test flags }
 {

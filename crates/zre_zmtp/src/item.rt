@@ -10,8 +10,11 @@ use zre_values::{Frames, Octets, OutOfMemory};
 /// stream before them.
 #[derive(Debug, Drop)]
 pub struct Item {
+    /// How many octets of the stream stand before its first one.
     pub start: u64,
+    /// How many octets of the stream stand before the one after its last.
     pub end: u64,
+    /// What it says.
     pub what: What,
 }
 
@@ -78,12 +81,14 @@ impl Items {
         }
     }
 
+    /// How many items there are.
     pub fn len(&self) -> usize
         ensures { result ≡ length self.now }
     {
         self.items.len()
     }
 
+    /// The item at this place, counted from 0.
     pub fn get(&self, i: usize) -> &Item
         requires { i < length self.now }
         ensures { slice_get self.now i ≡ Some result.now }

@@ -23,6 +23,3 @@ pub use laws::{handshakes_are_read, messages_are_read};
 pub use reader::Reader;
 pub use want::Want;
 pub use writing::{SocketType, greeting, ready, write_message};
-
-#[cfg(test)]
-mod tests;

@@ -25,6 +25,7 @@ impl Model for Opened {
 }
 
 impl Opened {
+    /// No message is under way. It takes no memory.
     pub fn new(alloc: Global) -> Self
         ensures { result ≡ [] }
     {
@@ -34,6 +35,7 @@ impl Opened {
         }
     }
 
+    /// How many frames the message has so far.
     pub fn len(&self) -> usize
         ensures { result ≡ length self.now }
     {
@@ -47,6 +49,7 @@ impl Opened {
         self.octets
     }
 
+    /// Appends the body of one frame more, or nothing.
     pub fn push(&mut self, body: Octets) -> Result<(), OutOfMemory>
         ensures ok { OnOk result (self.new ≡ self.old ++ body ∷ []) }
         ensures err { OnErr result (self.new ≡ self.old) }

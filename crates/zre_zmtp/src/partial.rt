@@ -12,9 +12,11 @@ use zre_values::Octets;
 /// out as they stand.
 #[derive(Debug, Drop)]
 pub struct Partial {
+    /// What there is of the flags and the size: at most nine octets.
     pub head: Octets,
     /// What the header says, once it is there.
     pub header: Option<Header>,
+    /// What there is of the body, fewer octets than its size.
     pub body: Octets,
     ghost known: { header ≡ header_of head },
     ghost within: { length head ≤ header_len head },
@@ -23,6 +25,7 @@ pub struct Partial {
 }
 
 impl Partial {
+    /// No octet of a frame has come. It takes no memory.
     pub fn new(alloc: Global) -> Self
         ensures head { result.head ≡ [] }
         ensures header { result.header ≡ None }

@@ -8,6 +8,7 @@ use zre_values::Octets;
 /// What the octets so far tell: the whole parts, and the part that isn't whole.
 #[derive(Debug, Drop)]
 pub struct Progress {
+    /// The part that comes next.
     pub expected: Expected,
     /// How many octets the whole parts have.
     pub place: u64,

@@ -2,6 +2,7 @@
 
 ghost use Rattle.std.specs.Prelude.{◌≡◌, ℕ, ◌+◌, ◌≤◌, ◌<◌, ◌≢◌, List, [], ◌∷◌, ◌++◌, length, take, IfOk, IfSome, OnOk, IfErr, Some, None, option_map, option_copied, option_to_list, true};
 ghost use Rattle.zre_zmtp.specs.Frame.{header_of, header_len as header_len_of};
+ghost use Rattle.zre_zmtp.specs.Ready.{name as name_of, socket_type as socket_type_of, identity as identity_of};
 ghost use Rattle.zre_zmtp.specs.Stream.{Want as WantValue, said as said_by, opened_by, body_fault, item as item_of};
 ghost use Rattle.zre_zmtp.specs.Run.{after as after_of};
 ghost use Rattle.zre_zmtp.specs.Shown.{before_of, left_of, frame_item, frame_after, header_fault, Waits, Advances, RefusesAt, BeginsFrame, is_content as is_content_of, room as room_of};
@@ -41,6 +42,27 @@ fn copy(alloc: Global, octets: Option<&[u8]>) -> Result<Option<Octets>, OutOfMem
     }
 }
 
+// What READY says, by its body.
+fn said_by_ready(alloc: Global, size: u64, body: &[u8]) -> Result<What, OutOfMemory>
+    ensures { IfOk result (λ what. what ≡ What.Ready size (socket_type_of body.now) (identity_of body.now)) }
+{
+    let socket_type = copy(alloc, socket_type(body))?;
+    let identity = copy(alloc, identity(body))?;
+    Ok(What::Ready {
+        size,
+        socket_type,
+        identity,
+    })
+}
+
+// What a command after READY says, by its body.
+fn said_by_command(alloc: Global, size: u64, body: Octets) -> Result<What, OutOfMemory>
+    ensures { IfOk result (λ what. what ≡ What.Command size (name_of body) body) }
+{
+    let name = Octets::copy(alloc, name(body.as_slice()))?;
+    Ok(What::Command { size, name, body })
+}
+
 // What a whole frame says. The message that it belongs to is kept or handed out.
 fn said(
     alloc: Global,
@@ -56,18 +78,10 @@ fn said(
     ensures rest { progress.new ≡ record progress.old { opened = progress.new.opened } }
 {
     if progress.expected == Expected::Ready {
-        return Ok(Some(What::Ready {
-            size: header.size,
-            socket_type: copy(alloc, socket_type(body.as_slice()))?,
-            identity: copy(alloc, identity(body.as_slice()))?,
-        }));
+        return Ok(Some(said_by_ready(alloc, header.size, body.as_slice())?));
     }
     if !is_message(header.flags) {
-        return Ok(Some(What::Command {
-            size: header.size,
-            name: Octets::copy(alloc, name(body.as_slice()))?,
-            body,
-        }));
+        return Ok(Some(said_by_command(alloc, header.size, body)?));
     }
     if has_more(header.flags) {
         progress.opened.push(body)?;
@@ -226,6 +240,38 @@ fn take_greeting(
     Ok(())
 }
 
+// What there is of a header, in which nothing is wrong: it is kept, unless a frame without a body ends with it.
+fn begin_body(
+    alloc: Global,
+    want: &Want,
+    progress: &mut Progress,
+    head: Octets,
+    out: &mut Items,
+) -> Result<(), FeedFault>
+    requires frame { progress.old.expected ≢ Expected.Greeting }
+    requires no_head { progress.old.partial.head ≡ [] }
+    requires no_body { progress.old.partial.body ≡ [] }
+    requires within { length head ≤ header_len_of head }
+    requires faultless { header_fault (before_of progress.old) head ≡ None }
+    ensures ok { OnOk result (Advances want.now (before_of progress.old) head out.old out.new
+        (before_of progress.new) (left_of progress.new)) }
+    ensures refused { IfErr result (λ e.
+        RefusesAt e want.now (before_of progress.old) head out.old out.new) }
+{
+    let body = Octets::new(alloc);
+    let Some(header) = read_header(head.as_slice()) else {
+        let header = None;
+        progress.partial = Partial { head, header, body };
+        return Ok(());
+    };
+    if header.size > 0 {
+        let header = Some(header);
+        progress.partial = Partial { head, header, body };
+        return Ok(());
+    }
+    take_frame(alloc, want, progress, header, head.as_slice(), body, out)
+}
+
 // One octet more of a header. A frame without a body ends with it.
 fn take_header(
     alloc: Global,
@@ -249,18 +295,7 @@ fn take_header(
         let place = progress.place;
         return Err(FeedFault::Zmtp(ZmtpFault { why, place }));
     }
-    let body = Octets::new(alloc);
-    let Some(header) = read_header(head.as_slice()) else {
-        let header = None;
-        progress.partial = Partial { head, header, body };
-        return Ok(());
-    };
-    if header.size > 0 {
-        let header = Some(header);
-        progress.partial = Partial { head, header, body };
-        return Ok(());
-    }
-    take_frame(alloc, want, progress, header, head.as_slice(), body, out)
+    begin_body(alloc, want, progress, head, out)
 }
 
 // Octets more of a body, and no more than are missing.

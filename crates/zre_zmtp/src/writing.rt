@@ -10,7 +10,9 @@ use zre_values::{Frames, Octets, OutOfMemory, PeerId};
 /// The types of the two sockets that peers of RFC 36 have: a DEALER sends to the ROUTER of another.
 #[derive(Clone, Copy, Debug, PartialEq, Eq)]
 pub enum SocketType {
+    /// The socket that sends to one peer.
     Dealer,
+    /// The mailbox, which many DEALERs send to.
     Router,
 }
 

@@ -1,0 +1,187 @@
+//! A chat that reads, works and prints beside each other: its input holds its last line back until something was written.
+
+use std::alloc::Global;
+use std::sync::Arc;
+use std::sync::atomic::{AtomicBool, Ordering};
+use std::test::Fail;
+use std::thread::yield_now;
+use zre_app::{Status, run};
+use zre_capture::CaptureReader;
+use zre_outside::{
+    Entries, Failed, MemRecorder, MemSink, MemSource, NextFault, PlainSpawner, Script, ScriptWorld,
+    Sink, Source, Turn,
+};
+use zre_values::{Frames, Octets, OutOfMemory};
+
+const CHAT: &[&[u8]] = &[
+    b"chat",
+    b"id=ffeeddccbbaa99887766554433221100",
+    b"host=10.0.0.1",
+    b"port=49153",
+    b"name=Me",
+    b"to=10.0.0.9",
+];
+
+/// Three peers come, and two of them join a group.
+const SCRIPT: &[u8] = b"zre-capture 1\n\
+0 datagram 10.0.0.11 5a524501111111111111111111111111111111111388\n\
+0 opened 1\n\
+0 piece 1 ff00000000000000007f03004e554c4c000000000000000000000000000000000000000000000000000000000000000000000000000000000000000000000000043a0552454144590b536f636b65742d54797065000000064445414c4552084964656e746974790000001101111111111111111111111111111111110026aaa101020001147463703a2f2f31302e302e302e31313a353030300000000000016100000000\n\
+0 linked 1\n\
+0 reply 1 ff00000000000000007f03004e554c4c000000000000000000000000000000000000000000000000000000000000000000000000000000000000000000000000041c0552454144590b536f636b65742d5479706500000006524f55544552\n\
+0 datagram 10.0.0.12 5a524501222222222222222222222222222222221388\n\
+0 opened 2\n\
+0 piece 2 ff00000000000000007f03004e554c4c000000000000000000000000000000000000000000000000000000000000000000000000000000000000000000000000043a0552454144590b536f636b65742d54797065000000064445414c4552084964656e746974790000001101222222222222222222222222222222220026aaa101020001147463703a2f2f31302e302e302e31323a353030300000000000016200000000\n\
+0 linked 2\n\
+0 reply 2 ff00000000000000007f03004e554c4c000000000000000000000000000000000000000000000000000000000000000000000000000000000000000000000000041c0552454144590b536f636b65742d5479706500000006524f55544552\n\
+0 datagram 10.0.0.13 5a524501333333333333333333333333333333331388\n\
+0 opened 3\n\
+0 piece 3 ff00000000000000007f03004e554c4c000000000000000000000000000000000000000000000000000000000000000000000000000000000000000000000000043a0552454144590b536f636b65742d54797065000000064445414c4552084964656e746974790000001101333333333333333333333333333333330026aaa101020001147463703a2f2f31302e302e302e31333a353030300000000000016300000000\n\
+0 linked 3\n\
+0 reply 3 ff00000000000000007f03004e554c4c000000000000000000000000000000000000000000000000000000000000000000000000000000000000000000000000041c0552454144590b536f636b65742d5479706500000006524f55544552\n\
+0 piece 1 0009aaa104020002016701\n\
+0 piece 2 0009aaa104020002016701\n";
+
+const LINES: &[u8] = b"join g\nshout g hi\nwhisper 44444444444444444444444444444444 x\n";
+
+const QUIT: &[u8] = b"quit\n";
+
+const TEXT: &[u8] = b"ENTER 11111111111111111111111111111111 a tcp://10.0.0.11:5000 %\n\
+ENTER 22222222222222222222222222222222 b tcp://10.0.0.12:5000 %\n\
+ENTER 33333333333333333333333333333333 c tcp://10.0.0.13:5000 %\n\
+JOIN 11111111111111111111111111111111 a g\n\
+JOIN 22222222222222222222222222222222 b g\n\
+REFUSED NOPEER 44444444444444444444444444444444\n\
+EXIT 11111111111111111111111111111111 a stop\n\
+EXIT 22222222222222222222222222222222 b stop\n\
+EXIT 33333333333333333333333333333333 c stop\n\
+STOP\n";
+
+/// The peers of the script, and after them four looks for a command.
+fn script_of(alloc: Global) -> Result<Script, OutOfMemory> {
+    let mut entries = Entries::new(alloc);
+    let mut reader = CaptureReader::new(alloc);
+    let mut script = Script::new(alloc);
+    if reader.feed(SCRIPT, &mut entries).is_err() {
+        return Ok(script);
+    }
+    for entry in entries.into_vec() {
+        script.push(Turn::Entry(entry))?;
+    }
+    for _ in 0..4 {
+        script.push(Turn::Look)?;
+    }
+    Ok(script)
+}
+
+fn words_of(alloc: Global) -> Result<Frames, OutOfMemory> {
+    let mut words = Frames::new(alloc);
+    for word in CHAT {
+        words.push(Octets::copy(alloc, word)?)?;
+    }
+    Ok(words)
+}
+
+/// Lines, and after them others that are held back until something was written.
+#[derive(Drop)]
+struct Withholding {
+    front: MemSource,
+    back: MemSource,
+    is_written: Arc<AtomicBool, Global>,
+    faults: u64,
+}
+
+impl Withholding {
+    /// Looks for the first octet, and gives up after so many looks.
+    fn waits(&self) -> bool {
+        for _ in 0..50000000u64 {
+            if self.is_written.load(Ordering::SeqCst) {
+                return true;
+            }
+            yield_now();
+        }
+        false
+    }
+}
+
+impl Source for Withholding {
+    ghost use Rattle.std.specs.Prelude.{None};
+
+    ghost left = { λ _. None };
+
+    ghost taken = { λ _. None };
+
+    ghost faults = { λ s. s.faults };
+
+    fn read(&mut self, buf: &mut [u8]) -> Result<usize, Failed> {
+        if let Ok(n) = self.front.read(buf) {
+            if n > 0 {
+                return Ok(n);
+            }
+        }
+        if self.waits() {
+            if let Ok(n) = self.back.read(buf) {
+                return Ok(n);
+            }
+        }
+        self.faults = self.faults.saturating_add(1);
+        Err(Failed)
+    }
+}
+
+/// Tells that something was written.
+#[derive(Drop)]
+struct Showing {
+    inner: MemSink,
+    is_written: Arc<AtomicBool, Global>,
+}
+
+impl Sink for Showing {
+    ghost use Rattle.zre_outside.specs.Memory.{write_faults_of};
+    ghost use Rattle.std.specs.Prelude.{None};
+
+    ghost written = { λ _. None };
+
+    ghost faults = { λ s. write_faults_of s.inner };
+
+    fn write(&mut self, bytes: &[u8]) -> Result<usize, NextFault> {
+        let n = self.inner.write(bytes)?;
+        self.is_written.store(true, Ordering::SeqCst);
+        Ok(n)
+    }
+}
+
+#[test]
+fn runs_beside(rt: HostRuntime) -> Result<(), Fail> {
+    let alloc = rt.alloc();
+    let is_written = Arc::new(alloc, AtomicBool::new(false))?;
+    let input = Withholding {
+        front: MemSource::new(Octets::copy(alloc, LINES)?, Vec::new(alloc)),
+        back: MemSource::new(Octets::copy(alloc, QUIT)?, Vec::new(alloc)),
+        is_written: Arc::try_clone(&is_written)?,
+        faults: 0,
+    };
+    let mut out = Showing {
+        inner: MemSink::new(alloc, Vec::new(alloc)),
+        is_written,
+    };
+    let script = script_of(alloc)?;
+    let world = ScriptWorld::new(alloc, script, Vec::new(alloc), Vec::new(alloc));
+    let rec = MemRecorder::new(alloc, Vec::new(alloc), Vec::new(alloc));
+    let mut spawner = PlainSpawner::new(rt, alloc, Vec::new(alloc));
+    let words = words_of(alloc)?;
+    let ended = run(
+        rt,
+        alloc,
+        &words,
+        input,
+        world,
+        &mut out,
+        rec,
+        &mut spawner,
+        50000000,
+    );
+    assert_eq!(rt; ended.status, Status::Done);
+    assert_eq!(rt; out.inner.written(), TEXT);
+    Ok(())
+}

@@ -1,0 +1,39 @@
+use Rattle.std.proofs.Common.{◌≡◌, ◌++◌, List, ℕ, Some, None, refl, sym, ap, ◌∙◌}
+use Rattle.std.proofs.lemmas.List.{append-nil}
+use Rattle.zre_zmtp.specs.Frame.{header_of}
+use Rattle.zre_zmtp.specs.Shown.{before_of, header_fault}
+use Rattle.zre_zmtp.proofs.Framed.{left-frame, waits-no_header, waits-header}
+use Rattle.zre_zmtp.proofs.Turning.{turn_waits}
+use Rattle.zre_zmtp.proofs.turns.begin_body.Goals as goal
+
+pub returns-in_default-clause-ok : goal.returns-in_default-clause-ok
+returns-in_default-clause-ok c =
+    let b = before_of c.args.progress.now in
+    let o = c.args.head in
+    let said : header_of o ≡ None = ap header_of (sym c.as_slice.ensures) ∙ sym c.read_header.ensures ∙ c.in_default.is in
+    let still = waits-no_header c.args.want.now b o c.requires.frame c.requires.faultless said in
+    let now = left-frame c.args.progress.now.expected c.args.progress.now.greeting o c.new-body.result c.requires.frame ∙ ap (λ (x : List ℕ). o ++ x) c.new-body.ensures ∙ append-nil o in
+    turn_waits c.args.want.now b o c.args.out.now c.args.out.now b _ still.faultless still.partial refl refl now
+
+pub returns-then-header-gt0-clause-ok : goal.returns-then-header-gt0-clause-ok
+returns-then-header-gt0-clause-ok c =
+    let b = before_of c.args.progress.now in
+    let o = c.args.head in
+    let said : header_of o ≡ Some c.in-Some.header = ap header_of (sym c.as_slice.ensures) ∙ sym c.read_header.ensures ∙ c.in-Some.is in
+    let still = waits-header c.args.want.now b o c.in-Some.header c.requires.frame c.requires.faultless said c.requires.within c.if-header-gt0.true in
+    let now = left-frame c.args.progress.now.expected c.args.progress.now.greeting o c.new-body.result c.requires.frame ∙ ap (λ (x : List ℕ). o ++ x) c.new-body.ensures ∙ append-nil o in
+    turn_waits c.args.want.now b o c.args.out.now c.args.out.now b _ still.faultless still.partial refl refl now
+
+pub returns-clause-ok : goal.returns-clause-ok
+returns-clause-ok c =
+    let b = before_of c.args.progress.now in
+    let o = c.args.head in
+    let whole : c.as_slice-2.result.now ++ c.new-body.result ≡ o = ap (λ (x : List ℕ). x ++ c.new-body.result) c.as_slice-2.ensures ∙ ap (λ (x : List ℕ). o ++ x) c.new-body.ensures ∙ append-nil o in
+    rw (sym whole) (c.take_frame.ensures.ok (ap (λ (x : List ℕ). header_fault b x) c.as_slice-2.ensures ∙ c.requires.faultless))
+
+pub returns-clause-refused : goal.returns-clause-refused
+returns-clause-refused c =
+    let b = before_of c.args.progress.now in
+    let o = c.args.head in
+    let whole : c.as_slice-2.result.now ++ c.new-body.result ≡ o = ap (λ (x : List ℕ). x ++ c.new-body.result) c.as_slice-2.ensures ∙ ap (λ (x : List ℕ). o ++ x) c.new-body.ensures ∙ append-nil o in
+    rw (sym whole) (c.take_frame.ensures.refused (ap (λ (x : List ℕ). header_fault b x) c.as_slice-2.ensures ∙ c.requires.faultless))
