@@ -51,7 +51,7 @@ pub use script::Script;
 pub use script_world::{LOOKS_IN_A_ROW, ScriptWorld};
 pub use sink::{NextFault, Sink, write_all};
 pub use source::{Failed, Source};
-pub use spawner::Spawner;
+pub use spawner::{Spawner, Underway};
 pub use start::Start;
 pub use sure::{SureSink, SureSource};
 pub use sure_recorder::SureRecorder;
