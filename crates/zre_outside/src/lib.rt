@@ -59,6 +59,3 @@ pub use sure_world::SureWorld;
 pub use thread_spawner::ThreadSpawner;
 pub use turn::Turn;
 pub use world::World;
-
-#[cfg(test)]
-mod tests;
