@@ -40,6 +40,7 @@ mod network;
 mod pace;
 mod real_world;
 mod room;
+mod row;
 mod source;
 mod sources;
 mod step;
