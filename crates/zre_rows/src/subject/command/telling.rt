@@ -1,0 +1,91 @@
+//! A world and a recorder that show what they were told.
+
+use crate::acts::{push_act, push_offered, push_start};
+use zre_outside::{
+    Act, Command, MemRecorder, NextFault, Recorder, ScriptWorld, Start, Turn, World,
+};
+use zre_values::{Octets, OutOfMemory};
+
+/// A script as a world, with the lines of what it was told.
+#[derive(Drop)]
+pub struct Telling {
+    inner: ScriptWorld,
+    pub told: Octets,
+}
+
+impl Telling {
+    pub fn new(inner: ScriptWorld, told: Octets) -> Self {
+        Telling { inner, told }
+    }
+}
+
+impl World for Telling {
+    ghost use Rattle.std.specs.Prelude.{None};
+    ghost use Rattle.zre_outside.specs.Scripts.{has_looked, world_faults_of};
+
+    ghost told = { λ _. None };
+
+    ghost looked = { λ w. has_looked w.inner };
+
+    ghost faults = { λ w. world_faults_of w.inner };
+
+    fn start(&mut self, s: &Start) -> Result<(), NextFault> {
+        if push_start(&mut self.told, s).is_err() {
+            return Err(NextFault::OutOfMemory);
+        }
+        self.inner.start(s)
+    }
+
+    fn next(&mut self, command: Option<Command>) -> Result<Turn, NextFault> {
+        self.inner.next(command)
+    }
+
+    fn act(&mut self, act: &Act) -> Result<(), OutOfMemory> {
+        push_act(&mut self.told, act)?;
+        self.inner.act(act)
+    }
+
+    fn offer(&mut self, link: u64, bytes: &[u8]) -> Result<(), OutOfMemory> {
+        push_offered(&mut self.told, link, bytes)?;
+        self.inner.offer(link, bytes)
+    }
+}
+
+/// A capture in memory, with the names of the files that were begun.
+#[derive(Drop)]
+pub struct Naming {
+    pub inner: MemRecorder,
+    pub names: Octets,
+}
+
+impl Naming {
+    pub fn new(inner: MemRecorder, names: Octets) -> Self {
+        Naming { inner, names }
+    }
+}
+
+impl Recorder for Naming {
+    ghost use Rattle.std.specs.Prelude.{None};
+    ghost use Rattle.zre_outside.specs.Recorders.{is_begun, recorder_faults_of};
+
+    ghost kept = { λ _. None };
+
+    ghost named = { λ _. None };
+
+    ghost begun = { λ r. is_begun r.inner };
+
+    ghost faults = { λ r. recorder_faults_of r.inner };
+
+    fn begin(&mut self, name: &str) -> Result<(), NextFault> {
+        let done = self.inner.begin(name);
+        // Without memory for the name none is shown, which differs from what is due.
+        if done.is_ok() && self.names.append(name.as_bytes()).is_err() {
+            self.names.clear();
+        }
+        done
+    }
+
+    fn put(&mut self, bytes: &[u8]) -> Result<(), NextFault> {
+        self.inner.put(bytes)
+    }
+}
