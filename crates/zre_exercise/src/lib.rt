@@ -7,6 +7,3 @@ mod settings;
 mod text;
 
 pub use run::push_summary;
-
-#[cfg(test)]
-mod tests;
