@@ -16,14 +16,3 @@ pub use plain_commands::{PlainEnded, plain};
 pub use top::{Ended, LIMIT, run, zre};
 pub use words::{Command, command_of, is_chat};
 pub use zre_pump::Status;
-
-#[cfg(test)]
-mod chat_run_tests;
-#[cfg(test)]
-mod chat_tests;
-#[cfg(test)]
-mod exercise_tests;
-#[cfg(test)]
-mod replay_tests;
-#[cfg(test)]
-mod tests;

@@ -29,6 +29,3 @@ mod ticks;
 pub use effects::Step;
 pub use ids::Ids;
 pub use node::Node;
-
-#[cfg(test)]
-mod tests;

@@ -1,33 +1,55 @@
 //! The names of a case file, which stand for texts.
 
+use crate::texts::push_hex;
 use crate::trouble::Trouble;
 use hex::encode_to_slice;
 use std::alloc::Global;
 use zre_capture::split_once;
 use zre_values::{Octets, OutOfMemory, Pairs, push_decimal};
 
-/// The texts that names stand for, and the count of a repetition: `{n}` in decimal digits, `{d}` in four of them at least, `{x}`
-/// modulo 65,536 in four hexadecimal digits.
+/// The texts that names stand for, those of the file and those of the row under way, and the count of a repetition: `{n}` in decimal
+/// digits, `{d}` in four of them at least, `{a}` the octets of these digits in hexadecimal, and `{x}` modulo 65,536 in four
+/// hexadecimal digits.
 #[derive(Drop)]
 pub struct Names {
-    texts: Pairs,
+    alloc: Global,
+    of_file: Pairs,
+    of_row: Pairs,
+    is_in_row: bool,
     pub count: u64,
 }
 
 impl Names {
     pub fn new(alloc: Global) -> Self {
         Names {
-            texts: Pairs::new(alloc),
+            alloc,
+            of_file: Pairs::new(alloc),
+            of_row: Pairs::new(alloc),
+            is_in_row: false,
             count: 0,
         }
     }
 
+    /// Forgets the names of the row before.
+    pub fn begin_row(&mut self) {
+        self.of_row = Pairs::new(self.alloc);
+        self.is_in_row = true;
+    }
+
+    fn is_known(&self, name: &[u8]) -> bool {
+        self.of_file.has_name(name) || self.of_row.has_name(name)
+    }
+
     /// Gives a text a name that has none yet.
     pub fn define(&mut self, name: Octets, text: Octets) -> Result<(), Trouble> {
-        if name.is_empty() || self.texts.has_name(name.as_slice()) {
+        if self.is_known(name.as_slice()) {
             return Err(Trouble::BadArgument);
         }
-        self.texts.push(name, text)?;
+        if self.is_in_row {
+            self.of_row.push(name, text)?;
+        } else {
+            self.of_file.push(name, text)?;
+        }
         Ok(())
     }
 
@@ -55,19 +77,16 @@ impl Names {
     }
 
     fn push_value(&self, name: &[u8], out: &mut Octets) -> Result<(), Trouble> {
-        if self.push_count(name, out)? {
+        if self.push_count(name, out)?
+            || push_known(&self.of_file, name, out)?
+            || push_known(&self.of_row, name, out)?
+        {
             return Ok(());
-        }
-        for (known, text) in self.texts.as_slice() {
-            if known.as_slice() == name {
-                out.append(text.as_slice())?;
-                return Ok(());
-            }
         }
         Err(Trouble::UnknownName)
     }
 
-    // The count of a repetition, where the name is one of its three.
+    // The count of a repetition, where the name is one of its four.
     fn push_count(&self, name: &[u8], out: &mut Octets) -> Result<bool, OutOfMemory> {
         if name == b"n".as_slice() {
             push_decimal(out, self.count)?;
@@ -77,12 +96,27 @@ impl Names {
             push_padded(out, self.count)?;
             return Ok(true);
         }
+        if name == b"a".as_slice() {
+            push_octets(self.alloc, out, self.count)?;
+            return Ok(true);
+        }
         if name == b"x".as_slice() {
             push_digits(out, self.count)?;
             return Ok(true);
         }
         Ok(false)
     }
+}
+
+// The text of a name, where it has one.
+fn push_known(names: &Pairs, name: &[u8], out: &mut Octets) -> Result<bool, OutOfMemory> {
+    for (known, text) in names.as_slice() {
+        if known.as_slice() == name {
+            out.append(text.as_slice())?;
+            return Ok(true);
+        }
+    }
+    Ok(false)
 }
 
 fn push_padded(out: &mut Octets, n: u64) -> Result<(), OutOfMemory> {
@@ -94,6 +128,13 @@ fn push_padded(out: &mut Octets, n: u64) -> Result<(), OutOfMemory> {
         out.append(b"0")?;
     }
     push_decimal(out, n)
+}
+
+// The padded digits, two hexadecimal digits for each.
+fn push_octets(alloc: Global, out: &mut Octets, n: u64) -> Result<(), OutOfMemory> {
+    let mut padded = Octets::new(alloc);
+    push_padded(&mut padded, n)?;
+    push_hex(out, padded.as_slice())
 }
 
 fn push_digits(out: &mut Octets, n: u64) -> Result<(), OutOfMemory> {

@@ -3,6 +3,7 @@
 
 mod captures;
 mod command;
+mod exercises;
 mod memory;
 mod nodes;
 mod quoting;
@@ -11,6 +12,7 @@ mod worlds;
 use crate::trouble::Trouble;
 use captures::Captures;
 use command::Commands;
+use exercises::Exercises;
 use memory::Memory;
 use nodes::Nodes;
 use quoting::Quoting;
@@ -27,6 +29,7 @@ pub enum Subject {
     Missing,
     Capture(Captures),
     Command(Commands),
+    Exercise(Exercises),
     Memory(Memory),
     Node(Nodes),
     Quoting(Quoting),
@@ -38,6 +41,9 @@ impl Subject {
     pub fn new(alloc: Global, name: &[u8], arguments: &[u8]) -> Result<Subject, Trouble> {
         if name == b"command".as_slice() {
             return Ok(Subject::Command(Commands::new(alloc, arguments)?));
+        }
+        if name == b"exercise".as_slice() {
+            return Ok(Subject::Exercise(Exercises::new(alloc, arguments)?));
         }
         if name == b"node".as_slice() {
             return Ok(Subject::Node(Nodes::new(alloc, arguments)?));
@@ -71,6 +77,7 @@ impl Subject {
             Subject::Memory(memory) => memory.step(key, arguments, answer),
             Subject::World(worlds) => worlds.step(key, arguments, answer),
             Subject::Command(commands) => commands.step(rt, key, arguments, answer),
+            Subject::Exercise(exercises) => exercises.step(key, arguments, answer),
             Subject::Node(nodes) => nodes.step(key, arguments, answer),
             Subject::Quoting(quoting) => quoting.step(key, arguments, answer),
         }

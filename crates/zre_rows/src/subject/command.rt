@@ -14,7 +14,7 @@ use telling::{Naming, Telling};
 use zre_app::{Ended, PlainEnded, Status, is_chat, plain, run, zre};
 use zre_capture::split_once;
 use zre_outside::{MemRecorder, MemSink, PlainSpawner, ScriptWorld};
-use zre_values::{Frames, Octets, OutOfMemory, push_decimal};
+use zre_values::{Frames, Octets, OutOfMemory, push_decimal, push_quoted};
 
 /// The words of a command, what it is run over, and what came of its last run.
 #[derive(Drop)]
@@ -64,6 +64,9 @@ impl Commands {
     ) -> Result<(), Trouble> {
         if key == b"plain".as_slice() {
             return self.do_plain(arguments, answer);
+        }
+        if key == b"both".as_slice() {
+            return self.do_both(arguments, answer);
         }
         if key == b"run".as_slice() {
             return self.do_run(rt, true, arguments, answer);
@@ -138,7 +141,7 @@ impl Commands {
     }
 
     // What came of the last run: `left` how many octets of the input weren't read, `told` what the world was told, `kept` what the recorder
-    // holds and `file` its name.
+    // holds and `file` its name, quoted.
     fn show(&mut self, key: &[u8], arguments: &[u8], answer: &mut Octets) -> Result<bool, Trouble> {
         if key == b"left".as_slice() {
             push_decimal(answer, self.left)?;
@@ -148,7 +151,8 @@ impl Commands {
         } else if key == b"kept".as_slice() {
             push_ended(answer, self.kept.as_slice())?;
         } else if key == b"file".as_slice() {
-            push_line(answer, self.file.as_slice())?;
+            push_quoted(answer, self.file.as_slice())?;
+            answer.push(b'\n')?;
         } else {
             return Ok(false);
         }
@@ -227,6 +231,24 @@ impl Commands {
         let PlainEnded { status, input } = ended;
         self.note_input(input);
         push_outcome(answer, out.written(), status)?;
+        Ok(())
+    }
+
+    // `both`: the same of an input that comes an octet a read and of one that comes whole. What the first answers is told only where it
+    // differs.
+    fn do_both(&mut self, arguments: &[u8], answer: &mut Octets) -> Result<(), Trouble> {
+        let mut by_octet = Octets::new(self.alloc);
+        self.sizes = Octets::copy(self.alloc, b"1")?;
+        self.do_plain(arguments, &mut by_octet)?;
+        let mut whole = Octets::new(self.alloc);
+        self.sizes.clear();
+        self.do_plain(arguments, &mut whole)?;
+        if by_octet.as_slice() != whole.as_slice() {
+            answer.append(b"an octet a read\n")?;
+            answer.append(by_octet.as_slice())?;
+            answer.append(b"whole\n")?;
+        }
+        answer.append(whole.as_slice())?;
         Ok(())
     }
 

@@ -3,13 +3,30 @@
 use zre_outside::{Failed, MemSource, Source};
 use zre_values::Octets;
 
+// The sizes of pieces, and how many were given.
+#[derive(Drop)]
+struct Sizes {
+    list: Vec<u64>,
+    given: usize,
+    last: u64,
+}
+
+impl Sizes {
+    // The next size, or the last one again; no limit where there is none.
+    fn next(&mut self) -> usize {
+        if let Some(size) = self.list.get(self.given) {
+            self.last = *size;
+            self.given = self.given.saturating_add(1);
+        }
+        usize::try_from(self.last).unwrap_or(usize::MAX)
+    }
+}
+
 /// A source that gives at most so many octets a read: the numbers of a list in order, and then the last of them. It gives one at least.
 #[derive(Drop)]
 pub struct Cut {
     inner: MemSource,
-    sizes: Vec<u64>,
-    reads: usize,
-    most: u64,
+    sizes: Sizes,
     /// How many octets it has given.
     pub given: u64,
 }
@@ -18,17 +35,12 @@ impl Cut {
     pub fn new(input: Octets, sizes: Vec<u64>, read_fails: Vec<u64>) -> Self {
         Cut {
             inner: MemSource::new(input, read_fails),
-            sizes,
-            reads: 0,
-            most: u64::MAX,
+            sizes: Sizes {
+                list: sizes,
+                given: 0,
+                last: u64::MAX,
+            },
             given: 0,
-        }
-    }
-
-    fn next_size(&mut self) {
-        if let Some(size) = self.sizes.get(self.reads) {
-            self.most = *size;
-            self.reads = self.reads.saturating_add(1);
         }
     }
 }
@@ -44,11 +56,11 @@ impl Source for Cut {
     ghost faults = { λ s. read_faults_of s.inner };
 
     fn read(&mut self, buf: &mut [u8]) -> Result<usize, Failed> {
-        self.next_size();
-        let most = usize::try_from(self.most).unwrap_or(usize::MAX);
-        let n = buf.len().min(most).max(1);
-        let given = self.inner.read(&mut buf[..n])?;
-        self.given = self.given.saturating_add(given as u64);
-        Ok(given)
+        let n = buf.len().min(self.sizes.next()).max(1);
+        let done = self.inner.read(&mut buf[..n]);
+        if let Ok(given) = &done {
+            self.given = self.given.saturating_add(*given as u64);
+        }
+        done
     }
 }

@@ -1,19 +1,17 @@
-//! `chat` over worlds in memory, in real threads.
+//! A chat that reads, works and prints beside each other: its input holds its last line back until something was written.
 
-use crate::tests::words_of;
-use crate::{Ended, Status, plain, run};
 use std::alloc::Global;
-use std::process::Abort;
+use std::sync::Arc;
 use std::sync::atomic::{AtomicBool, Ordering};
-use std::sync::{Arc, Wait};
 use std::test::Fail;
-use std::thread::{Threads, yield_now};
+use std::thread::yield_now;
+use zre_app::{Status, run};
 use zre_capture::CaptureReader;
 use zre_outside::{
     Entries, Failed, MemRecorder, MemSink, MemSource, NextFault, PlainSpawner, Script, ScriptWorld,
     Sink, Source, Turn,
 };
-use zre_values::{Octets, OutOfMemory};
+use zre_values::{Frames, Octets, OutOfMemory};
 
 const CHAT: &[&[u8]] = &[
     b"chat",
@@ -22,24 +20,6 @@ const CHAT: &[&[u8]] = &[
     b"port=49153",
     b"name=Me",
     b"to=10.0.0.9",
-];
-
-const KEEPING: &[&[u8]] = &[
-    b"chat",
-    b"id=ffeeddccbbaa99887766554433221100",
-    b"host=10.0.0.1",
-    b"port=49153",
-    b"name=Me",
-    b"to=10.0.0.9",
-    b"capture=c",
-];
-
-const REPLAY: &[&[u8]] = &[
-    b"replay",
-    b"id=ffeeddccbbaa99887766554433221100",
-    b"host=10.0.0.1",
-    b"port=49153",
-    b"name=Me",
 ];
 
 /// Three peers come, and two of them join a group.
@@ -62,7 +42,7 @@ const SCRIPT: &[u8] = b"zre-capture 1\n\
 0 piece 1 0009aaa104020002016701\n\
 0 piece 2 0009aaa104020002016701\n";
 
-const LINES: &[u8] = b"join g\nshout g hi\nwhisper 44444444444444444444444444444444 x\nquit\n";
+const LINES: &[u8] = b"join g\nshout g hi\nwhisper 44444444444444444444444444444444 x\n";
 
 const QUIT: &[u8] = b"quit\n";
 
@@ -77,7 +57,7 @@ EXIT 22222222222222222222222222222222 b stop\n\
 EXIT 33333333333333333333333333333333 c stop\n\
 STOP\n";
 
-/// The peers of the script, and behind them four looks for a command.
+/// The peers of the script, and after them four looks for a command.
 fn script_of(alloc: Global) -> Result<Script, OutOfMemory> {
     let mut entries = Entries::new(alloc);
     let mut reader = CaptureReader::new(alloc);
@@ -94,122 +74,15 @@ fn script_of(alloc: Global) -> Result<Script, OutOfMemory> {
     Ok(script)
 }
 
-/// The number of the first call, or none.
-fn first_if(alloc: Global, fails: bool) -> Result<Vec<u64>, OutOfMemory> {
-    let mut calls = Vec::new(alloc);
-    if fails {
-        calls.push(1)?;
+fn words_of(alloc: Global) -> Result<Frames, OutOfMemory> {
+    let mut words = Frames::new(alloc);
+    for word in CHAT {
+        words.push(Octets::copy(alloc, word)?)?;
     }
-    Ok(calls)
+    Ok(words)
 }
 
-/// What is to fail at its first call.
-#[derive(Clone, Copy)]
-struct Fails {
-    next: bool,
-    start: bool,
-    begin: bool,
-}
-
-const NONE: Fails = Fails {
-    next: false,
-    start: false,
-    begin: false,
-};
-
-/// How a chat ended, what was written and what was kept.
-#[derive(Drop)]
-struct Outcome {
-    status: Status,
-    written: Octets,
-    kept: Octets,
-}
-
-fn chat_with<T: Threads + Wait + AllocGlobal + Copy + Send + 'static>(
-    rt: T,
-    words: &[&[u8]],
-    fails: Fails,
-) -> Result<Outcome, OutOfMemory> {
-    let alloc = rt.alloc();
-    let script = script_of(alloc)?;
-    let world = ScriptWorld::new(alloc, script, Vec::new(alloc), first_if(alloc, fails.next)?);
-    let rec = MemRecorder::new(alloc, first_if(alloc, fails.begin)?, Vec::new(alloc));
-    let mut spawner = PlainSpawner::new(rt, alloc, first_if(alloc, fails.start)?);
-    let input = MemSource::new(Octets::copy(alloc, LINES)?, Vec::new(alloc));
-    let mut out = MemSink::new(alloc, Vec::new(alloc));
-    let words = words_of(&rt, words)?;
-    let Ended { status, rec, .. } = run(
-        rt,
-        alloc,
-        &words,
-        input,
-        world,
-        &mut out,
-        rec,
-        &mut spawner,
-        1 << 40,
-    );
-    Ok(Outcome {
-        status,
-        written: Octets::copy(alloc, out.written())?,
-        kept: Octets::copy(alloc, rec.kept())?,
-    })
-}
-
-#[test]
-fn a_chat_writes_its_journals_lines(rt: HostRuntime) -> Result<(), Fail> {
-    let outcome = chat_with(rt, CHAT, NONE)?;
-    assert_eq!(rt; outcome.status, Status::Done);
-    assert_eq!(rt; outcome.written.as_slice(), TEXT);
-    assert_eq!(rt; outcome.kept.len(), 0);
-    Ok(())
-}
-
-#[test]
-fn the_capture_of_a_chat_replays_to_what_it_wrote(rt: HostRuntime) -> Result<(), Fail> {
-    let outcome = chat_with(rt, KEEPING, NONE)?;
-    assert_eq!(rt; outcome.status, Status::Done);
-    assert_eq!(rt; outcome.written.as_slice(), TEXT);
-    let alloc = rt.alloc();
-    let words = words_of(&rt, REPLAY)?;
-    let input = MemSource::new(outcome.kept, Vec::new(alloc));
-    let mut out = MemSink::new(alloc, Vec::new(alloc));
-    assert!(rt; !crate::is_chat(&words), "the words are those of a replay");
-    let ended = plain(alloc, &words, input, &mut out, 1 << 40);
-    assert_eq!(rt; ended.status, Status::Done);
-    assert_eq!(rt; out.written(), TEXT);
-    Ok(())
-}
-
-#[test]
-fn each_fault_of_a_chat_has_its_status(rt: HostRuntime) -> Result<(), Fail> {
-    let next = chat_with(rt, CHAT, Fails { next: true, ..NONE })?;
-    assert_eq!(rt; (next.status, next.written.len()), (Status::WorldFault, 0));
-    let start = chat_with(
-        rt,
-        CHAT,
-        Fails {
-            start: true,
-            ..NONE
-        },
-    )?;
-    assert_eq!(rt; (start.status, start.written.len()), (Status::NoThread, 0));
-    let begin = chat_with(
-        rt,
-        KEEPING,
-        Fails {
-            begin: true,
-            ..NONE
-        },
-    )?;
-    assert_eq!(rt;
-        (begin.status, begin.written.len()),
-        (Status::WriteFault, 0)
-    );
-    Ok(())
-}
-
-/// Lines, and behind them others that are held back until something was written.
+/// Lines, and after them others that are held back until something was written.
 #[derive(Drop)]
 struct Withholding {
     front: MemSource,
@@ -219,7 +92,7 @@ struct Withholding {
 }
 
 impl Withholding {
-    /// Looks for the first octet, and gives up behind so many looks.
+    /// Looks for the first octet, and gives up after so many looks.
     fn waits(&self) -> bool {
         for _ in 0..50000000u64 {
             if self.is_written.load(Ordering::SeqCst) {
@@ -282,9 +155,8 @@ impl Sink for Showing {
 fn runs_beside(rt: HostRuntime) -> Result<(), Fail> {
     let alloc = rt.alloc();
     let is_written = Arc::new(alloc, AtomicBool::new(false))?;
-    let (lines, _) = LINES.split_at(LINES.len() - QUIT.len());
     let input = Withholding {
-        front: MemSource::new(Octets::copy(alloc, lines)?, Vec::new(alloc)),
+        front: MemSource::new(Octets::copy(alloc, LINES)?, Vec::new(alloc)),
         back: MemSource::new(Octets::copy(alloc, QUIT)?, Vec::new(alloc)),
         is_written: Arc::try_clone(&is_written)?,
         faults: 0,
@@ -297,7 +169,7 @@ fn runs_beside(rt: HostRuntime) -> Result<(), Fail> {
     let world = ScriptWorld::new(alloc, script, Vec::new(alloc), Vec::new(alloc));
     let rec = MemRecorder::new(alloc, Vec::new(alloc), Vec::new(alloc));
     let mut spawner = PlainSpawner::new(rt, alloc, Vec::new(alloc));
-    let words = words_of(&rt, CHAT)?;
+    let words = words_of(alloc)?;
     let ended = run(
         rt,
         alloc,
