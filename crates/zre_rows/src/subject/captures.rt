@@ -67,12 +67,7 @@ impl Captures {
 
     // `read SIZE SIZE ..`: the lines of the entries that are read, and where the text is bad, or `whole`, in pieces of each of these sizes.
     // `place SIZE SIZE ..`: the same without the lines.
-    fn read(
-        &self,
-        arguments: &[u8],
-        is_listed: bool,
-        answer: &mut Octets,
-    ) -> Result<(), Trouble> {
+    fn read(&self, arguments: &[u8], is_listed: bool, answer: &mut Octets) -> Result<(), Trouble> {
         let mut sizes = Vec::new(self.alloc);
         push_numbers(&mut sizes, arguments)?;
         let mut told: Option<Octets> = None;

@@ -73,11 +73,7 @@ impl Worlds {
 }
 
 // A turn, or two where a quit is handed in after a look.
-fn push_turn<W: World>(
-    world: &mut W,
-    quits: bool,
-    answer: &mut Octets,
-) -> Result<(), OutOfMemory> {
+fn push_turn<W: World>(world: &mut W, quits: bool, answer: &mut Octets) -> Result<(), OutOfMemory> {
     match world.next(None) {
         Ok(Turn::Look) if quits => {
             push_told(world.next(Some(Command::Quit)), answer)?;
