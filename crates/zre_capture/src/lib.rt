@@ -25,6 +25,3 @@ pub use line::{HEAD, LINE_OCTETS, push_entry, write_entry};
 pub use reader::CaptureReader;
 pub use split::split_once;
 pub use value::{address, group, id, number};
-
-#[cfg(test)]
-mod tests;

@@ -1,4 +1,5 @@
 pub mod Pieces
 pub mod Readings
 pub mod RealWorlds
+pub mod Rows
 pub mod Tokens

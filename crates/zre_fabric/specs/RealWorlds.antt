@@ -18,3 +18,10 @@ faults_of w = w.faults
 -- the last reading of its clock
 abbrev pub reading_of : {R : Type 0} → RealWorld R → ℕ
 reading_of w = w.fabric.stopwatch.last
+
+-- the entries since the last look, and the commands since the last entry that isn't one
+abbrev pub entries_of : {R : Type 0} → RealWorld R → ℕ
+entries_of w = w.fabric.row.entries
+
+abbrev pub commands_of : {R : Type 0} → RealWorld R → ℕ
+commands_of w = w.fabric.row.commands

@@ -1,9 +1,12 @@
-ghost use Rattle.std.specs.Prelude.{◌≡◌, ◌≤◌, IfOk};
-ghost use Rattle.zre_outside.specs.Worlds.{IsTurn};
-ghost use Rattle.zre_fabric.specs.Pieces.{TurnIsShort};
+ghost use Rattle.std.specs.Prelude.{◌≡◌, ◌≤◌, true, None, Some, IfOk, OnErr};
+ghost use Rattle.zre_outside.specs.Causes.{raised};
+ghost use Rattle.zre_outside.specs.Worlds.{IsTurn, is_look};
+ghost use Rattle.zre_fabric.specs.Pieces.{IsShort, TurnIsShort};
 ghost use Rattle.zre_fabric.specs.Readings.{IsReadAt};
+ghost use Rattle.zre_fabric.specs.Rows.{is_full, entries_behind, commands_behind};
 
 use crate::network::Network;
+use crate::row::Row;
 use crate::stopwatch::Stopwatch;
 use std::alloc::Global;
 use std::net::Net;
@@ -17,17 +20,20 @@ pub(crate) struct Fabric<R> {
     rt: R,
     alloc: Global,
     stopwatch: Stopwatch,
+    row: Row,
     network: Option<Network>,
 }
 
 impl<R> Fabric<R> {
     pub(crate) fn new(rt: R, alloc: Global) -> Self
-        ensures { result.stopwatch.last ≡ 0 }
+        ensures clock { result.stopwatch.last ≡ 0 }
+        ensures row { (result.row.entries ≡ 0) × (result.row.commands ≡ 0) }
     {
         Fabric {
             rt,
             alloc,
             stopwatch: Stopwatch::new(),
+            row: Row::new(),
             network: None,
         }
     }
@@ -37,8 +43,10 @@ impl<R: Net + Clock> Fabric<R> {
     /// What was open before is closed first, since the same ports may be asked for.
     pub(crate) fn start(&mut self, s: &Start) -> Result<(), NextFault>
         ensures later { self.old.stopwatch.last ≤ self.new.stopwatch.last }
+        ensures row { (self.new.row.entries ≡ 0) × (self.new.row.commands ≡ 0) }
     {
         self.network = None;
+        self.row = Row::new();
         let at = self.stopwatch.read(&self.rt)?;
         self.network = Some(Network::open(&self.rt, self.alloc, s, at)?);
         Ok(())
@@ -49,6 +57,10 @@ impl<R: Net + Clock> Fabric<R> {
         ensures short { IfOk result (λ t. TurnIsShort t) }
         ensures reading { IfOk result (λ t. IsReadAt self.new.stopwatch.last t) }
         ensures later { self.old.stopwatch.last ≤ self.new.stopwatch.last }
+        ensures look { command ≡ None → is_full self.old.row.entries self.old.row.commands ≡ true → IfOk result (λ t. is_look t ≡ true) }
+        ensures row { IfOk result (λ t. (self.new.row.entries ≡ entries_behind self.old.row.entries t)
+            × (self.new.row.commands ≡ commands_behind self.old.row.commands command t)) }
+        ensures kept { OnErr result (self.new.row ≡ self.old.row) }
     {
         match command {
             Some(command) => self.obey(command),
@@ -61,47 +73,62 @@ impl<R: Net + Clock> Fabric<R> {
         ensures short { IfOk result (λ t. TurnIsShort t) }
         ensures reading { IfOk result (λ t. IsReadAt self.new.stopwatch.last t) }
         ensures later { self.old.stopwatch.last ≤ self.new.stopwatch.last }
+        ensures row { IfOk result (λ t. (self.new.row.entries ≡ entries_behind self.old.row.entries t)
+            × (self.new.row.commands ≡ commands_behind self.old.row.commands (Some command) t)) }
+        ensures kept { OnErr result (self.new.row ≡ self.old.row) }
     {
         let at = self.stopwatch.read(&self.rt)?;
         if let Some(network) = &mut self.network {
             network.gave_command(at);
         }
+        self.row.gave_command();
         Ok(Turn::Entry(Entry {
             at,
             input: Input::Do(command),
         }))
     }
 
-    // An entry that is there, or else one that comes within the wait, or else a look.
+    // A look where one is due, or an entry that is there, or else one that comes within the wait, or else a look.
     fn go_on(&mut self) -> Result<Turn, NextFault>
         ensures short { IfOk result (λ t. TurnIsShort t) }
         ensures reading { IfOk result (λ t. IsReadAt self.new.stopwatch.last t) }
         ensures later { self.old.stopwatch.last ≤ self.new.stopwatch.last }
+        ensures look { is_full self.old.row.entries self.old.row.commands ≡ true → IfOk result (λ t. is_look t ≡ true) }
+        ensures row { IfOk result (λ t. (self.new.row.entries ≡ entries_behind self.old.row.entries t)
+            × (self.new.row.commands ≡ commands_behind self.old.row.commands None t)) }
+        ensures kept { OnErr result (self.new.row ≡ self.old.row) }
     {
         let at = self.stopwatch.read(&self.rt)?;
         let Some(network) = &mut self.network else {
             return Err(NextFault::Failed);
         };
-        if network.is_look_due() {
+        if self.row.is_full() {
             network.gave_look(at);
+            self.row.gave_look();
             return Ok(Turn::Look);
         }
         if let Some(input) = network.find(at)? {
+            self.row.gave_entry();
             return Ok(Turn::Entry(Entry { at, input }));
         }
         network.wait(at)?;
         let at = self.stopwatch.read(&self.rt)?;
         match network.find(at)? {
-            Some(input) => Ok(Turn::Entry(Entry { at, input })),
+            Some(input) => {
+                self.row.gave_entry();
+                Ok(Turn::Entry(Entry { at, input }))
+            }
             None => {
                 network.gave_look(at);
+                self.row.gave_look();
                 Ok(Turn::Look)
             }
         }
     }
 
     pub(crate) fn act(&mut self, act: &Act) -> Result<(), OutOfMemory>
-        ensures { self.new.stopwatch ≡ self.old.stopwatch }
+        ensures clock { self.new.stopwatch ≡ self.old.stopwatch }
+        ensures row { self.new.row ≡ self.old.row }
     {
         match &mut self.network {
             Some(network) => network.act(&self.rt, act),
@@ -110,7 +137,8 @@ impl<R: Net + Clock> Fabric<R> {
     }
 
     pub(crate) fn offer(&mut self, link: u64, bytes: &[u8]) -> Result<(), OutOfMemory>
-        ensures { self.new.stopwatch ≡ self.old.stopwatch }
+        ensures clock { self.new.stopwatch ≡ self.old.stopwatch }
+        ensures row { self.new.row ≡ self.old.row }
     {
         match &mut self.network {
             Some(network) => network.offer(link, bytes),

@@ -71,11 +71,6 @@ impl Network {
         })
     }
 
-    /// Whether a look comes before any other entry.
-    pub(crate) fn is_look_due(&self) -> bool {
-        self.pace.is_full()
-    }
-
     pub(crate) fn gave_look(&mut self, at: u64) {
         self.pace.gave_look(at);
         self.is_due_to_poll = true;
@@ -93,15 +88,10 @@ impl Network {
         if self.is_due_to_poll {
             self.gather(Duration::ZERO)?;
         }
-        let input = if self.pace.tick(at) {
-            Some(Input::Tick)
-        } else {
-            self.sources.next(self.poll.registry())?
-        };
-        if input.is_some() {
-            self.pace.gave_entry();
+        if self.pace.tick(at) {
+            return Ok(Some(Input::Tick));
         }
-        Ok(input)
+        self.sources.next(self.poll.registry())
     }
 
     /// Waits until something comes, a Tick is due, or a look is.

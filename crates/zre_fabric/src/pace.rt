@@ -8,16 +8,12 @@ use std::time::Duration;
 /// A look comes after so many milliseconds at most, where nothing else does.
 const LOOK_MILLIS: u64 = 20;
 
-/// A look comes after so many entries at most.
-const ENTRIES_IN_A_ROW: u32 = 64;
-
 /// The moments are readings in milliseconds.
 #[derive(Drop)]
 pub(crate) struct Pace {
     interval: u64,
     tick_at: u64,
     look_at: u64,
-    entries: u32,
     ghost positive: { 1 ≤ interval },
 }
 
@@ -30,7 +26,6 @@ impl Pace {
             interval: interval.max(1),
             tick_at: at,
             look_at: at.saturating_add(LOOK_MILLIS),
-            entries: 0,
         }
     }
 
@@ -52,22 +47,8 @@ impl Pace {
         true
     }
 
-    /// Whether so many entries were given that a look comes before any other.
-    pub(crate) fn is_full(&self) -> bool
-        ensures { IsTrue result ↔ (64 ≤ self.now.entries) }
-    {
-        self.entries >= ENTRIES_IN_A_ROW
-    }
-
-    pub(crate) fn gave_entry(&mut self) {
-        self.entries = self.entries.saturating_add(1);
-    }
-
-    pub(crate) fn gave_look(&mut self, at: u64)
-        ensures { self.new.entries ≡ 0 }
-    {
+    pub(crate) fn gave_look(&mut self, at: u64) {
         self.look_at = at.saturating_add(LOOK_MILLIS);
-        self.entries = 0;
     }
 
     /// A command was handed in, so that there may be others: the next look is due at once.

@@ -1,9 +1,10 @@
-ghost use Rattle.std.specs.Prelude.{◌≡◌, ◌≤◌, false, true, option_map, IsSome, IfOk, OnOk, OnErr, IsErrOf};
+ghost use Rattle.std.specs.Prelude.{◌≡◌, ◌≤◌, false, true, None, option_map, IsSome, IfOk, OnOk, OnErr, IsErrOf};
 ghost use Rattle.zre_outside.specs.declared.deed.Deed.{Deed as DeedValue};
-ghost use Rattle.zre_outside.specs.Causes.{Rose};
+ghost use Rattle.zre_outside.specs.Causes.{Rose, raised, counted, is_failed};
 ghost use Rattle.zre_outside.specs.Worlds.{with_start, IsTurn, is_look, after_turn, with_deed};
 ghost use Rattle.zre_fabric.specs.Pieces.{TurnIsShort};
 ghost use Rattle.zre_fabric.specs.Readings.{IsReadAt};
+ghost use Rattle.zre_fabric.specs.Rows.{is_full, entries_behind, commands_behind};
 
 use crate::fabric::Fabric;
 use std::alloc::Global;
@@ -21,13 +22,14 @@ pub struct RealWorld<R> {
 }
 
 impl<R> RealWorld<R> {
-    ghost use Rattle.zre_fabric.specs.RealWorlds.{has_looked, faults_of, reading_of};
+    ghost use Rattle.zre_fabric.specs.RealWorlds.{has_looked, faults_of, reading_of, entries_of, commands_of};
 
     /// A world that isn't started yet. It takes no memory and opens nothing.
     pub fn new(rt: R, alloc: Global) -> Self
         ensures looked { has_looked result ≡ false }
         ensures faults { faults_of result ≡ 0 }
         ensures clock { reading_of result ≡ 0 }
+        ensures row { (entries_of result ≡ 0) × (commands_of result ≡ 0) }
     {
         RealWorld {
             fabric: Fabric::new(rt, alloc),
@@ -42,6 +44,7 @@ fn raise(faults: u64, fault: NextFault) -> u64
     ensures later { faults ≤ result }
     ensures failed { fault ≡ NextFault.Failed → Rose faults result }
     ensures other { fault ≡ NextFault.OutOfMemory → result ≡ faults }
+    ensures one { fault ≡ NextFault.Failed → result ≡ raised faults }
 {
     match fault {
         NextFault::Failed => faults.saturating_add(1),
@@ -50,7 +53,7 @@ fn raise(faults: u64, fault: NextFault) -> u64
 }
 
 impl<R: Net + Clock> World for RealWorld<R> {
-    ghost use Rattle.zre_fabric.specs.RealWorlds.{told_of, has_looked, faults_of, reading_of};
+    ghost use Rattle.zre_fabric.specs.RealWorlds.{told_of, has_looked, faults_of, reading_of, entries_of, commands_of};
 
     ghost told = { told_of };
 
@@ -66,7 +69,10 @@ impl<R: Net + Clock> World for RealWorld<R> {
         ensures looked { has_looked self.new ≡ has_looked self.old }
         ensures later { faults_of self.old ≤ faults_of self.new }
         ensures failed { IsErrOf result NextFault.Failed → Rose (faults_of self.old) (faults_of self.new) }
+        // The count rises where it failed, and nowhere else.
+        ensures counted { faults_of self.new ≡ counted (is_failed result) (faults_of self.old) }
         ensures clock { reading_of self.old ≤ reading_of self.new }
+        ensures row { (entries_of self.new ≡ 0) × (commands_of self.new ≡ 0) }
     {
         match self.fabric.start(s) {
             Ok(()) => Ok(()),
@@ -87,9 +93,16 @@ impl<R: Net + Clock> World for RealWorld<R> {
         ensures refused { OnErr result ((told_of self.new ≡ told_of self.old) × (has_looked self.new ≡ has_looked self.old)) }
         ensures later { faults_of self.old ≤ faults_of self.new }
         ensures failed { IsErrOf result NextFault.Failed → Rose (faults_of self.old) (faults_of self.new) }
+        // The count rises where it failed, and nowhere else.
+        ensures counted { faults_of self.new ≡ counted (is_failed result) (faults_of self.old) }
         ensures clock { reading_of self.old ≤ reading_of self.new }
         ensures reading { IfOk result (λ t. IsReadAt (reading_of self.new) t) }
         ensures short { IfOk result (λ t. TurnIsShort t) }
+        // A look comes again after each command at once, unless 64 came in a row, and after 64 entries at most.
+        ensures look { command ≡ None → is_full (entries_of self.old) (commands_of self.old) ≡ true → IfOk result (λ t. is_look t ≡ true) }
+        ensures row { IfOk result (λ t. (entries_of self.new ≡ entries_behind (entries_of self.old) t)
+            × (commands_of self.new ≡ commands_behind (commands_of self.old) command t)) }
+        ensures kept { OnErr result ((entries_of self.new ≡ entries_of self.old) × (commands_of self.new ≡ commands_of self.old)) }
     {
         match self.fabric.next(command) {
             Ok(turn) => {
@@ -110,6 +123,7 @@ impl<R: Net + Clock> World for RealWorld<R> {
         ensures looked { has_looked self.new ≡ has_looked self.old }
         ensures faults { faults_of self.new ≡ faults_of self.old }
         ensures clock { reading_of self.new ≡ reading_of self.old }
+        ensures row { (entries_of self.new ≡ entries_of self.old) × (commands_of self.new ≡ commands_of self.old) }
     {
         self.fabric.act(act)
     }
@@ -120,6 +134,7 @@ impl<R: Net + Clock> World for RealWorld<R> {
         ensures looked { has_looked self.new ≡ has_looked self.old }
         ensures faults { faults_of self.new ≡ faults_of self.old }
         ensures clock { reading_of self.new ≡ reading_of self.old }
+        ensures row { (entries_of self.new ≡ entries_of self.old) × (commands_of self.new ≡ commands_of self.old) }
     {
         self.fabric.offer(link, bytes)
     }

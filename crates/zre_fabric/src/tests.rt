@@ -1,6 +1,7 @@
 //! Worlds over loopback. Each process takes addresses of its own out of 127.0.0.0/8, so that tests which run at the same
 //! time don't meet. No time that a test waits for is tight.
 
+mod adapters;
 mod flows;
 mod turns;
 

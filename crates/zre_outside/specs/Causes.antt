@@ -16,3 +16,8 @@ abbrev pub is_failed : {T : Type 0} → Result T NextFault → Bool
 is_failed (Ok value) = false
 is_failed (Err Failed) = true
 is_failed (Err OutOfMemory) = false
+
+-- a count behind a call, which it raises where the outside failed and nowhere else
+abbrev pub counted : Bool → ℕ → ℕ
+counted true before = raised before
+counted false before = before

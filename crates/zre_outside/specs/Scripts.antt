@@ -109,6 +109,16 @@ nexts_of w = w.nexts
 abbrev pub world_faults_of : ScriptWorld → ℕ
 world_faults_of w = w.faults
 
+-- neither what is left of the script nor a list or a number of calls changed
+pub record Waits (old new : ScriptWorld) : Type 0 where
+  pub left : script_left new ≡ script_left old
+  pub reading : reading_of new ≡ reading_of old
+  pub row : row_of new ≡ row_of old
+  pub start_fails : start_fails_of new ≡ start_fails_of old
+  pub next_fails : next_fails_of new ≡ next_fails_of old
+  pub starts : starts_of new ≡ starts_of old
+  pub nexts : nexts_of new ≡ nexts_of old
+
 -- the same of a world that never fails
 abbrev pub sure_script_left : SureWorld → List Turn
 sure_script_left w = left_on w.stage
@@ -121,3 +131,7 @@ sure_seen_by w = log_of w.stage
 
 abbrev pub sure_has_looked : SureWorld → Bool
 sure_has_looked w = w.stage.looked
+
+pub record SureWaits (old new : SureWorld) : Type 0 where
+  pub left : sure_script_left new ≡ sure_script_left old
+  pub reading : sure_reading_of new ≡ sure_reading_of old

@@ -1,8 +1,10 @@
 -- What a running job, and a spawner, tell.
-use Rattle.std.specs.Prelude.{ℕ, List}
+use Rattle.std.specs.Prelude.{ℕ, ◌==◌, Bool, false, List, Option, Some, None}
+use Rattle.std.specs.List.{list_any}
 use Rattle.zre_outside.specs.declared.running.Running.{Running}
 use Rattle.zre_outside.specs.declared.plain_spawner.PlainSpawner.{PlainSpawner}
 use Rattle.zre_outside.specs.declared.thread_spawner.ThreadSpawner.{ThreadSpawner}
+use Rattle.zre_outside.specs.Causes.{raised}
 
 -- the job that was started
 abbrev pub job_of : {J Out : Type 0} → Running J Out → J
@@ -21,3 +23,8 @@ spawner_faults_of s = s.faults
 -- the refusals of one that refuses none by itself
 abbrev pub thread_faults_of : {R : Type 0} → ThreadSpawner R → ℕ
 thread_faults_of s = s.faults
+
+-- the next start, after so many, stands on a list
+abbrev pub is_listed : Option ℕ → List ℕ → Bool
+is_listed None fails = false
+is_listed (Some starts) fails = list_any (λ n. n == raised starts) fails

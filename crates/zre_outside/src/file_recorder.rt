@@ -1,4 +1,7 @@
-ghost use Rattle.std.specs.Prelude.{◌≡◌, false, None};
+ghost use Rattle.std.specs.Prelude.{◌≡◌, ◌≤◌, false, true, None, [], option_map, is_ok, OnOk, OnErr, IsErrOf};
+ghost use Rattle.std.specs.Io.KnownBytes.{Keeps, Appends};
+ghost use Rattle.zre_outside.specs.Causes.{Rose, is_failed, counted};
+ghost use Rattle.zre_outside.specs.Told.{AppendsFront};
 
 use crate::{NextFault, Recorder};
 use std::fs;
@@ -41,7 +44,13 @@ impl<R: Files> Recorder for FileRecorder<R> {
 
     ghost faults = { file_faults_of };
 
-    fn begin(&mut self, name: &str) -> Result<(), NextFault> {
+    fn begin(&mut self, name: &str) -> Result<(), NextFault>
+        ensures begun { file_is_begun self.new ≡ is_ok result }
+        ensures later { file_faults_of self.old ≤ file_faults_of self.new }
+        ensures failed { IsErrOf result NextFault.Failed → Rose (file_faults_of self.old) (file_faults_of self.new) }
+        // The count rises where it failed, and nowhere else.
+        ensures counted { file_faults_of self.new ≡ counted (is_failed result) (file_faults_of self.old) }
+    {
         self.file = None;
         match fs::create(&self.rt, name) {
             Ok(file) => {
@@ -55,7 +64,13 @@ impl<R: Files> Recorder for FileRecorder<R> {
         }
     }
 
-    fn put(&mut self, bytes: &[u8]) -> Result<(), NextFault> {
+    fn put(&mut self, bytes: &[u8]) -> Result<(), NextFault>
+        requires { file_is_begun self.old ≡ true }
+        ensures begun { file_is_begun self.new ≡ file_is_begun self.old }
+        ensures later { file_faults_of self.old ≤ file_faults_of self.new }
+        ensures failed { IsErrOf result NextFault.Failed → Rose (file_faults_of self.old) (file_faults_of self.new) }
+        ensures counted { file_faults_of self.new ≡ counted (is_failed result) (file_faults_of self.old) }
+    {
         if let Some(file) = &mut self.file
             && file.write_all(bytes).is_ok()
         {

@@ -51,7 +51,7 @@ pub use script::Script;
 pub use script_world::{LOOKS_IN_A_ROW, ScriptWorld};
 pub use sink::{NextFault, Sink, write_all};
 pub use source::{Failed, Source};
-pub use spawner::Spawner;
+pub use spawner::{Spawner, Underway};
 pub use start::Start;
 pub use sure::{SureSink, SureSource};
 pub use sure_recorder::SureRecorder;
@@ -59,6 +59,3 @@ pub use sure_world::SureWorld;
 pub use thread_spawner::ThreadSpawner;
 pub use turn::Turn;
 pub use world::World;
-
-#[cfg(test)]
-mod tests;

@@ -1,7 +1,7 @@
 ghost use Rattle.std.specs.Prelude.{◌≡◌, ◌≤◌, ◌==◌, false, true, Some, [], option_map, is_ok, OnOk, OnErr, IsErrOf};
 ghost use Rattle.std.specs.List.{list_any};
 ghost use Rattle.std.specs.Io.KnownBytes.{Keeps, Appends};
-ghost use Rattle.zre_outside.specs.Causes.{Rose, raised, is_failed};
+ghost use Rattle.zre_outside.specs.Causes.{Rose, raised, counted, is_failed};
 ghost use Rattle.zre_outside.specs.Told.{AppendsFront};
 
 use crate::{NextFault, Recorder};
@@ -25,6 +25,7 @@ pub struct MemRecorder {
 impl MemRecorder {
     ghost use Rattle.zre_outside.specs.Recorders.{kept_by, named_by, is_begun, begin_fails_of, put_fails_of, begins_of, puts_of, recorder_faults_of};
 
+    /// A recorder that isn't begun.
     pub fn new(alloc: Global, begin_fails: Vec<u64>, put_fails: Vec<u64>) -> Self
         ensures kept { kept_by result ≡ [] }
         ensures named { named_by result ≡ [] }
@@ -46,6 +47,7 @@ impl MemRecorder {
         }
     }
 
+    /// All that it keeps.
     pub fn kept(&self) -> &[u8]
         ensures { result.now ≡ kept_by self.now }
     {
@@ -72,6 +74,7 @@ impl Recorder for MemRecorder {
         ensures refused { OnErr result (Keeps (Some (kept_by self.old)) (Some (kept_by self.new)) × Keeps (Some (named_by self.old)) (Some (named_by self.new))) }
         ensures later { recorder_faults_of self.old ≤ recorder_faults_of self.new }
         ensures failed { IsErrOf result NextFault.Failed → Rose (recorder_faults_of self.old) (recorder_faults_of self.new) }
+        ensures counted { recorder_faults_of self.new ≡ counted (is_failed result) (recorder_faults_of self.old) }
         ensures listed { is_failed result ≡ list_any (λ n. n == raised (begins_of self.old)) (begin_fails_of self.old) }
         ensures calls { (begins_of self.new ≡ raised (begins_of self.old)) × (puts_of self.new ≡ puts_of self.old) }
         ensures fails { (begin_fails_of self.new ≡ begin_fails_of self.old) × (put_fails_of self.new ≡ put_fails_of self.old) }
@@ -100,6 +103,7 @@ impl Recorder for MemRecorder {
         ensures begun { is_begun self.new ≡ is_begun self.old }
         ensures later { recorder_faults_of self.old ≤ recorder_faults_of self.new }
         ensures failed { IsErrOf result NextFault.Failed → Rose (recorder_faults_of self.old) (recorder_faults_of self.new) }
+        ensures counted { recorder_faults_of self.new ≡ counted (is_failed result) (recorder_faults_of self.old) }
         ensures refused { OnErr result (Keeps (Some (kept_by self.old)) (Some (kept_by self.new))) }
         ensures listed { is_failed result ≡ list_any (λ n. n == raised (puts_of self.old)) (put_fails_of self.old) }
         ensures calls { (puts_of self.new ≡ raised (puts_of self.old)) × (begins_of self.new ≡ begins_of self.old) }

@@ -2,7 +2,7 @@ ghost use Rattle.std.specs.Prelude.{◌≡◌, ◌≤◌, ◌<◌, ◌==◌, ◌
 ghost use Rattle.std.specs.List.{list_any};
 ghost use Rattle.std.specs.Io.{ReadsAtMost, WritesAtMost};
 ghost use Rattle.std.specs.Io.KnownBytes.{Keeps, Appends, IsAtEnd};
-ghost use Rattle.zre_outside.specs.Causes.{Rose, is_failed, raised};
+ghost use Rattle.zre_outside.specs.Causes.{Rose, is_failed, raised, counted};
 ghost use Rattle.zre_outside.specs.Told.{Moves};
 ghost use Rattle.zre_outside.specs.Held.{left_in, taken_from};
 
@@ -23,6 +23,7 @@ pub struct MemSource {
 impl MemSource {
     ghost use Rattle.zre_outside.specs.Memory.{left_of, taken_of, read_fails_of, read_calls_of, read_faults_of};
 
+    /// A source of which nothing was read.
     pub fn new(left: Octets, read_fails: Vec<u64>) -> Self
         ensures left { left_of result ≡ left }
         ensures taken { taken_of result ≡ [] }
@@ -58,6 +59,7 @@ impl Source for MemSource {
         ensures refused_taken { OnErr result (Keeps (Some (taken_of self.old)) (Some (taken_of self.new))) }
         ensures later { read_faults_of self.old ≤ read_faults_of self.new }
         ensures failed { OnErr result (Rose (read_faults_of self.old) (read_faults_of self.new)) }
+        ensures counted { read_faults_of self.new ≡ counted (is_err result) (read_faults_of self.old) }
         // The calls whose numbers are listed fail, and no others.
         ensures listed { is_err result ≡ list_any (λ n. n == raised (read_calls_of self.old)) (read_fails_of self.old) }
         ensures calls { read_calls_of self.new ≡ raised (read_calls_of self.old) }
@@ -84,6 +86,7 @@ pub struct MemSink {
 impl MemSink {
     ghost use Rattle.zre_outside.specs.Memory.{written_of, write_fails_of, write_calls_of, write_faults_of};
 
+    /// A sink to which nothing was written.
     pub fn new(alloc: Global, write_fails: Vec<u64>) -> Self
         ensures written { written_of result ≡ [] }
         ensures fails { write_fails_of result ≡ write_fails.items }
@@ -98,6 +101,7 @@ impl MemSink {
         }
     }
 
+    /// All that was written.
     pub fn written(&self) -> &[u8]
         ensures { result.now ≡ written_of self.now }
     {
@@ -120,6 +124,7 @@ impl Sink for MemSink {
         ensures refused { OnErr result (Keeps (Some (written_of self.old)) (Some (written_of self.new))) }
         ensures later { write_faults_of self.old ≤ write_faults_of self.new }
         ensures failed { IsErrOf result NextFault.Failed → Rose (write_faults_of self.old) (write_faults_of self.new) }
+        ensures counted { write_faults_of self.new ≡ counted (is_failed result) (write_faults_of self.old) }
         ensures all { IfOk result (λ n. n ≡ length bytes.now) }
         // The calls whose numbers are listed fail, and no others.
         ensures listed { is_failed result ≡ list_any (λ n. n == raised (write_calls_of self.old)) (write_fails_of self.old) }

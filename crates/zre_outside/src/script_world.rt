@@ -1,9 +1,9 @@
 ghost use Rattle.std.specs.Prelude.{◌≡◌, ◌≤◌, ◌==◌, ◌||◌, ◌&&◌, false, true, Some, None, [], option_map, IsSome, IfOk, OnOk, OnErr, IsErrOf, nat_le};
 ghost use Rattle.std.specs.List.{list_any};
 ghost use Rattle.zre_outside.specs.declared.deed.Deed.{Deed as DeedValue};
-ghost use Rattle.zre_outside.specs.Causes.{Rose, raised, is_failed};
+ghost use Rattle.zre_outside.specs.Causes.{Rose, raised, counted, is_failed};
 ghost use Rattle.zre_outside.specs.Worlds.{with_start, IsTurn, is_look, after_turn, with_deed};
-ghost use Rattle.zre_outside.specs.Scripts.{first_log, turn_of, left_behind, reading_behind, row_behind, at_look};
+ghost use Rattle.zre_outside.specs.Scripts.{first_log, turn_of, left_behind, reading_behind, row_behind, at_look, Waits};
 
 use crate::stage::Stage;
 use crate::{Act, Command, NextFault, Script, Start, Turn, World};
@@ -29,6 +29,7 @@ pub struct ScriptWorld {
 impl ScriptWorld {
     ghost use Rattle.zre_outside.specs.Scripts.{script_left, reading_of, seen_by, has_looked, row_of, start_fails_of, next_fails_of, starts_of, nexts_of, world_faults_of};
 
+    /// A world of which no turn was asked.
     pub fn new(alloc: Global, script: Script, start_fails: Vec<u64>, next_fails: Vec<u64>) -> Self
         ensures left { script_left result ≡ script }
         ensures reading { reading_of result ≡ 0 }
@@ -67,6 +68,7 @@ impl World for ScriptWorld {
         ensures looked { has_looked self.new ≡ has_looked self.old }
         ensures later { world_faults_of self.old ≤ world_faults_of self.new }
         ensures failed { IsErrOf result NextFault.Failed → Rose (world_faults_of self.old) (world_faults_of self.new) }
+        ensures counted { world_faults_of self.new ≡ counted (is_failed result) (world_faults_of self.old) }
         ensures listed { is_failed result ≡ list_any (λ n. n == raised (starts_of self.old)) (start_fails_of self.old) }
         ensures calls { (starts_of self.new ≡ raised (starts_of self.old)) × (nexts_of self.new ≡ nexts_of self.old) }
         ensures fails { (start_fails_of self.new ≡ start_fails_of self.old) × (next_fails_of self.new ≡ next_fails_of self.old) }
@@ -92,6 +94,7 @@ impl World for ScriptWorld {
         ensures refused { OnErr result ((Some (seen_by self.new) ≡ Some (seen_by self.old)) × (has_looked self.new ≡ has_looked self.old)) }
         ensures later { world_faults_of self.old ≤ world_faults_of self.new }
         ensures failed { IsErrOf result NextFault.Failed → Rose (world_faults_of self.old) (world_faults_of self.new) }
+        ensures counted { world_faults_of self.new ≡ counted (is_failed result) (world_faults_of self.old) }
         ensures script { IfOk result (λ t. (t ≡ turn_of (script_left self.old) (reading_of self.old) command)
             × (script_left self.new ≡ left_behind (script_left self.old) command) × (reading_of self.new ≡ reading_behind (reading_of self.old) t)) }
         ensures row { IfOk result (λ t. row_of self.new ≡ row_behind (row_of self.old) t) }
@@ -117,11 +120,23 @@ impl World for ScriptWorld {
         }
     }
 
-    fn act(&mut self, act: &Act) -> Result<(), OutOfMemory> {
+    fn act(&mut self, act: &Act) -> Result<(), OutOfMemory>
+        ensures ok { OnOk result (Some (seen_by self.new) ≡ option_map (with_deed (DeedValue.Done act.now)) (Some (seen_by self.old))) }
+        ensures err { OnErr result (Some (seen_by self.new) ≡ Some (seen_by self.old)) }
+        ensures looked { has_looked self.new ≡ has_looked self.old }
+        ensures faults { world_faults_of self.new ≡ world_faults_of self.old }
+        ensures script { Waits self.old self.new }
+    {
         self.stage.act(act)
     }
 
-    fn offer(&mut self, link: u64, bytes: &[u8]) -> Result<(), OutOfMemory> {
+    fn offer(&mut self, link: u64, bytes: &[u8]) -> Result<(), OutOfMemory>
+        ensures ok { OnOk result (Some (seen_by self.new) ≡ option_map (with_deed (DeedValue.Offered link bytes.now)) (Some (seen_by self.old))) }
+        ensures err { OnErr result (Some (seen_by self.new) ≡ Some (seen_by self.old)) }
+        ensures looked { has_looked self.new ≡ has_looked self.old }
+        ensures faults { world_faults_of self.new ≡ world_faults_of self.old }
+        ensures script { Waits self.old self.new }
+    {
         self.stage.offer(link, bytes)
     }
 }

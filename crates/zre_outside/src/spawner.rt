@@ -1,15 +1,28 @@
-ghost use Rattle.std.specs.Prelude.{◌≡◌, ◌≤◌, ℕ, false, OnErr, IfOk, IfErr};
-ghost use Rattle.zre_outside.specs.Causes.{Rose};
-ghost use Rattle.zre_outside.specs.Spawners.{job_of};
+ghost use Rattle.std.specs.Prelude.{◌≡◌, ◌≤◌, ℕ, Bool, true, not, List, Option, option_map, is_err, OnErr, IfOk, IfErr};
+ghost use Rattle.zre_outside.specs.Causes.{Rose, raised, counted};
+ghost use Rattle.zre_outside.specs.Spawners.{job_of, is_listed};
 
 use crate::starting::start_job;
 use crate::{Job, Refused, Running};
 use std::alloc::Global;
+use std::marker::PhantomData;
 use std::sync::Wait;
 use std::thread::Threads;
 
-/// What starts jobs, each in a thread of its own. An implementation says what it starts them with and keeps the count of
-/// refusals; how a job comes to its thread is the same for all.
+/// A call of [`Spawner::start`] that is under way. Nothing else can make one, so nothing else can call what takes one.
+pub struct Underway<S> {
+    of: PhantomData<S>,
+}
+
+impl<S> Drop for Underway<S> {
+    fn drop(self) {
+        let Underway { of: _ } = self;
+    }
+}
+
+/// What starts jobs, each in a thread of its own. `start` is the call to make, and alone raises the count of refusals. An
+/// implementation says what the threads are started with and keeps the counts; how a job comes to its thread is the same
+/// for all.
 pub trait Spawner {
     /// The runtime that starts the threads, and that the jobs are handed.
     type Runtime: Threads + Wait + Copy + Send + 'static;
@@ -17,18 +30,30 @@ pub trait Spawner {
     /// How often it refused. At the last value of a u64 the count stands still, and is read as risen.
     ghost faults: { Self → ℕ };
 
-    /// Takes note of a start. False where it is to be refused, which counts as a refusal.
-    fn admit(&mut self) -> bool
-        ensures later { faults self.old ≤ faults self.new }
-        ensures failed { result ≡ false → Rose (faults self.old) (faults self.new) };
+    /// How many starts were asked of it, where it tells that.
+    ghost starts: { Self → Option ℕ };
 
-    /// Counts a start for which no thread or no memory was found.
-    fn refuse(&mut self)
-        ensures later { faults self.old ≤ faults self.new }
-        ensures failed { Rose (faults self.old) (faults self.new) };
+    /// The numbers of the starts that are to be refused, counted from 1.
+    ghost fails: { Self → List ℕ };
 
+    /// Takes note of a start. False where it is to be refused.
+    fn admit(&mut self, call: &Underway<Self>) -> bool
+        ensures admitted { result ≡ not (is_listed (starts self.old) (fails self.old)) }
+        ensures starts { starts self.new ≡ option_map raised (starts self.old) }
+        ensures fails { fails self.new ≡ fails self.old }
+        ensures faults { faults self.new ≡ faults self.old };
+
+    /// Counts a refusal.
+    fn refuse(&mut self, call: &Underway<Self>)
+        ensures starts { starts self.new ≡ starts self.old }
+        ensures fails { fails self.new ≡ fails self.old }
+        ensures later { faults self.old ≤ faults self.new }
+        ensures faults { faults self.new ≡ raised (faults self.old) };
+
+    /// What the threads are started with.
     fn runtime(&self) -> Self::Runtime;
 
+    /// Where a start finds its memory.
     fn alloc(&self) -> Global;
 
     /// Starts a job, or hands it back. Want of memory is a refusal as any other.
@@ -37,14 +62,23 @@ pub trait Spawner {
         ensures refused { IfErr result (λ r. r.job ≡ job) }
         ensures later { faults self.old ≤ faults self.new }
         ensures failed { OnErr result (Rose (faults self.old) (faults self.new)) }
+        // The count rises where a start is refused, and nowhere else.
+        ensures counted { faults self.new ≡ counted (is_err result) (faults self.old) }
+        // The starts whose numbers are listed are refused, and else those for which no thread or no memory is found.
+        ensures listed { is_listed (starts self.old) (fails self.old) ≡ true → is_err result ≡ true }
+        ensures starts { starts self.new ≡ option_map raised (starts self.old) }
+        ensures fails { fails self.new ≡ fails self.old }
     {
-        if !self.admit() {
-            return Err(Refused { job });
-        }
-        match start_job(self.runtime(), self.alloc(), job) {
+        let call = Underway { of: PhantomData };
+        let started = if self.admit(&call) {
+            start_job(self.runtime(), self.alloc(), job)
+        } else {
+            Err(job)
+        };
+        match started {
             Ok(running) => Ok(running),
             Err(job) => {
-                self.refuse();
+                self.refuse(&call);
                 Err(Refused { job })
             }
         }

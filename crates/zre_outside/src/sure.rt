@@ -15,6 +15,7 @@ pub struct SureSource {
 impl SureSource {
     ghost use Rattle.zre_outside.specs.Memory.{sure_left_of, sure_taken_of};
 
+    /// A source of which nothing was read.
     pub fn new(left: Octets) -> Self
         ensures left { sure_left_of result ≡ left }
         ensures taken { sure_taken_of result ≡ [] }
@@ -46,6 +47,7 @@ pub struct SureSink {
 impl SureSink {
     ghost use Rattle.zre_outside.specs.Memory.{sure_written_of};
 
+    /// A sink to which nothing was written.
     pub fn new(alloc: Global) -> Self
         ensures { sure_written_of result ≡ [] }
     {
@@ -54,6 +56,7 @@ impl SureSink {
         }
     }
 
+    /// All that was written.
     pub fn written(&self) -> &[u8]
         ensures { result.now ≡ sure_written_of self.now }
     {

@@ -16,6 +16,7 @@ pub struct SureRecorder {
 impl SureRecorder {
     ghost use Rattle.zre_outside.specs.Recorders.{sure_kept_by, sure_named_by, sure_is_begun};
 
+    /// A recorder that isn't begun.
     pub fn new(alloc: Global) -> Self
         ensures kept { sure_kept_by result ≡ [] }
         ensures named { sure_named_by result ≡ [] }
@@ -29,6 +30,7 @@ impl SureRecorder {
         }
     }
 
+    /// All that it keeps.
     pub fn kept(&self) -> &[u8]
         ensures { result.now ≡ sure_kept_by self.now }
     {

@@ -1,6 +1,6 @@
 ghost use Rattle.std.specs.Prelude.{◌≡◌};
 
-use crate::Spawner;
+use crate::{Spawner, Underway};
 use std::alloc::Global;
 use std::sync::Wait;
 use std::thread::Threads;
@@ -16,6 +16,7 @@ pub struct ThreadSpawner<R> {
 impl<R> ThreadSpawner<R> {
     ghost use Rattle.zre_outside.specs.Spawners.{thread_faults_of};
 
+    /// A spawner that refused nothing yet.
     pub fn new(rt: R, alloc: Global) -> Self
         ensures { thread_faults_of result ≡ 0 }
     {
@@ -28,17 +29,22 @@ impl<R> ThreadSpawner<R> {
 }
 
 impl<R: Threads + Wait + Copy + Send + 'static> Spawner for ThreadSpawner<R> {
+    ghost use Rattle.std.specs.Prelude.{None, []};
     ghost use Rattle.zre_outside.specs.Spawners.{thread_faults_of};
 
     type Runtime = R;
 
     ghost faults = { thread_faults_of };
 
-    fn admit(&mut self) -> bool {
+    ghost starts = { λ _. None };
+
+    ghost fails = { λ _. [] };
+
+    fn admit(&mut self, _call: &Underway<Self>) -> bool {
         true
     }
 
-    fn refuse(&mut self) {
+    fn refuse(&mut self, _call: &Underway<Self>) {
         self.faults = self.faults.saturating_add(1);
     }
 

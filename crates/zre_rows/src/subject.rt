@@ -1,20 +1,26 @@
 //! What a row is about. Each subject has a module, with a method that does one step: it takes the step's key and its arguments,
 //! and appends the lines that it answers, each with its line feed.
 
+mod captures;
 mod command;
 mod exercises;
+mod memory;
 mod nodes;
 mod quoting;
+mod worlds;
 
 use crate::trouble::Trouble;
 use crate::wire::Wire;
+use captures::Captures;
 use command::Commands;
 use exercises::Exercises;
+use memory::Memory;
 use nodes::Nodes;
 use quoting::Quoting;
 use std::alloc::Global;
 use std::sync::Wait;
 use std::thread::Threads;
+use worlds::Worlds;
 use zre_values::Octets;
 
 /// The subject of a row.
@@ -22,11 +28,14 @@ use zre_values::Octets;
 pub enum Subject {
     /// No line has named one yet.
     Missing,
+    Capture(Captures),
     Command(Commands),
     Exercise(Exercises),
+    Memory(Memory),
     Node(Nodes),
     Quoting(Quoting),
     Wire(Wire),
+    World(Worlds),
 }
 
 impl Subject {
@@ -44,6 +53,15 @@ impl Subject {
         if name == b"quoting".as_slice() {
             return Ok(Subject::Quoting(Quoting::new(alloc, arguments)?));
         }
+        if name == b"capture".as_slice() {
+            return Ok(Subject::Capture(Captures::new(alloc, arguments)?));
+        }
+        if name == b"memory".as_slice() {
+            return Ok(Subject::Memory(Memory::new(alloc, arguments)?));
+        }
+        if name == b"world".as_slice() {
+            return Ok(Subject::World(Worlds::new(alloc, arguments)?));
+        }
         Ok(Subject::Wire(Wire::new(alloc, name, arguments)?))
     }
 
@@ -57,6 +75,9 @@ impl Subject {
     ) -> Result<(), Trouble> {
         match self {
             Subject::Missing => Err(Trouble::UnknownKey),
+            Subject::Capture(captures) => captures.step(key, arguments, answer),
+            Subject::Memory(memory) => memory.step(key, arguments, answer),
+            Subject::World(worlds) => worlds.step(key, arguments, answer),
             Subject::Command(commands) => commands.step(rt, key, arguments, answer),
             Subject::Exercise(exercises) => exercises.step(key, arguments, answer),
             Subject::Node(nodes) => nodes.step(key, arguments, answer),

@@ -28,36 +28,7 @@ fn a_bind_that_fails_is_failed_at_once(rt: HostRuntime) -> Result<(), Fail> {
     Ok(())
 }
 
-// The reading of the next Tick, and how many looks came before it.
-fn tick_of<R: Net + Clock>(world: &mut RealWorld<R>) -> Result<Option<(u64, u32)>, NextFault> {
-    for looks in 0..TURNS {
-        if let Turn::Entry(entry) = world.next(None)? {
-            let is_tick = matches!(entry.input, Input::Tick);
-            return Ok(if is_tick {
-                Some((entry.at, looks))
-            } else {
-                None
-            });
-        }
-    }
-    Ok(None)
-}
-
-#[test]
-fn a_tick_comes_at_once_and_then_each_interval(rt: HostRuntime) -> Result<(), Fail> {
-    let [host, _, _] = hosts(process::id(rt.process()));
-    let mut world = RealWorld::new(rt, rt.alloc());
-    world.start(&start_at(rt.alloc(), host, &[], 100)?)?;
-    let (_, looks) = tick_of(&mut world)?.ok_or("no Tick")?;
-    assert_eq!(rt; looks, 0);
-    for least in [100u64, 200, 300] {
-        let (at, _) = tick_of(&mut world)?.ok_or("no Tick")?;
-        assert!(rt; at >= least, "{at} is before {least}");
-    }
-    Ok(())
-}
-
-// Hands in a command behind a look. The result says whether it came back, and whether a look followed.
+// Hands in a command after a look. The result says whether it came back, and whether a look followed.
 fn quits<R: Net + Clock>(world: &mut RealWorld<R>) -> Result<(bool, bool), NextFault> {
     for _ in 0..TURNS {
         if let Turn::Look = world.next(None)? {
@@ -79,31 +50,6 @@ fn a_command_comes_back_and_a_look_follows(rt: HostRuntime) -> Result<(), Fail> 
     for _ in 0..3u32 {
         assert_eq!(rt; quits(&mut world)?, (true, true));
     }
-    Ok(())
-}
-
-#[test]
-fn looks_come_between_the_entries_of_a_busy_socket(rt: HostRuntime) -> Result<(), Fail> {
-    let [near, far, _] = hosts(process::id(rt.process()));
-    let mut world = world_at(rt, rt.alloc(), near, &[])?;
-    let mut busy = world_at(rt, rt.alloc(), far, &[near])?;
-    for _ in 0..100u32 {
-        busy.act(&Act::Beacon { bytes: [7; 22] })?;
-    }
-    let (mut entries, mut row, mut most) = (0u32, 0u32, 0u32);
-    for _ in 0..TURNS {
-        if entries > 100 {
-            break;
-        }
-        if let Turn::Entry(_) = world.next(None)? {
-            entries = entries.saturating_add(1);
-            row = row.saturating_add(1);
-        } else {
-            most = most.max(row);
-            row = 0;
-        }
-    }
-    assert_eq!(rt; (entries, most), (101, 64));
     Ok(())
 }
 

@@ -1,9 +1,0 @@
-use Rattle.std.proofs.Common.{length}
-use Rattle.zre_capture.specs.Journal.{Waits}
-use Rattle.zre_capture.proofs.tests.told.Given as goal
-
-abbrev pub invariant-pieces : goal.invariant-pieces
-invariant-pieces l = Waits l.reader
-
-abbrev pub decreases-pieces : goal.decreases-pieces
-decreases-pieces l = length l.rest
