@@ -4,12 +4,8 @@ use Rattle.zre_actor.specs.declared.passes.CallerPass.{CallerPass}
 use Rattle.zre_actor.specs.Passes.{caller, ended, live_of, how_many}
 
 -- one that absorbed none
-pub alone : (p : CallerPass) → ended p ≡ [] → length (live_of p) ≡ 1
+alone : (p : CallerPass) → ended p ≡ [] → length (live_of p) ≡ 1
 alone p none = omega (arith, length-append (caller p).own (ended p), ap length p.is_caller.1, ap length none)
-
--- one that absorbed one
-pub with_one : (p : CallerPass) (n : ℕ) → ended p ≡ n ∷ [] → length (live_of p) ≡ 2
-with_one p n one = omega (arith, length-append (caller p).own (ended p), ap length p.is_caller.1, ap length one)
 
 pub two_alone : (p q : CallerPass) → ended p ≡ [] → ended q ≡ [] → how_many (p ∷ q ∷ []) ≡ 2
 two_alone p q none none' = omega (arith, alone p none, alone q none')

@@ -3,10 +3,11 @@ use Rattle.std.proofs.Common.{◌≡◌, ◌≢◌, ℕ, zero, suc, ◌+◌, ◌
 use mathlib.Core.Logic.{inl, inr}
 use mathlib.Core.List.{Sublist, nil-sublist}
 use mathlib.Core.List.Sublist as sublists
-use Rattle.std.specs.Prelude.{◌⊎◌, ⊤, option_map, option_to_list, IsTrue}
+use Rattle.std.specs.Prelude.{◌⊎◌, ⊤, All, option_map, option_to_list, IsTrue}
 use Rattle.std.specs.Io.KnownBytes.{Appends}
 use Rattle.std.proofs.KnownBytes.{Appends-nil, Appends-trans}
 use Rattle.std.proofs.lemmas.List.{map-append}
+use Rattle.std.proofs.lemmas.List.Elements.{All-nil, All-push}
 use Rattle.std.proofs.lemmas.Grind.{flat_map-append}
 use Rattle.std.proofs.lemmas.Bool.Decides.{nat_tests}
 use Rattle.zre_outside.specs.declared.deed.Deed.{Deed}
@@ -29,14 +30,14 @@ use Rattle.zre_journal.proofs.Joined.{continues}
 use Rattle.zre_journal.proofs.Stopping.{stopped, stop-is}
 use Rattle.zre_node.specs.declared.node.Node.{Node}
 use Rattle.zre_node.specs.Journal.{StandsFor, is_spent}
-use Rattle.zre_capture.specs.Lines.{line, lines}
+use Rattle.zre_capture.specs.Lines.{line, lines, IsEntry}
 use Rattle.zre_actor.specs.declared.ending.Ending.{Ending}
 use Rattle.zre_actor.specs.declared.ending.Ending.TheVariants as ending
 use Rattle.zre_actor.specs.declared.views.Placed.{Placed}
 use Rattle.zre_actor.specs.declared.passes.ActorPass.{ActorPass}
 use Rattle.zre_actor.specs.Commands.{command_of}
 use Rattle.zre_actor.specs.Passes.{IsPopped}
-use Rattle.zre_actor.specs.Work.{Scene, scene, went, AreDeeds, acts_of, late, command_in, done_by, Goes, world_ending, Ends, KeptLines, QuitsLast, IsWork, Went, IsRefusal, IsUnput, IsUnstepped, IsUndone, Broke}
+use Rattle.zre_actor.specs.Work.{Scene, scene, went, AreDeeds, acts_of, late, command_in, done_by, Goes, world_ending, Ends, KeptLines, QuitsLast, AllGo, IsWork, Went, IsRefusal, IsUnput, IsUnstepped, IsUndone, Broke}
 use Rattle.zre_actor.proofs.Deeds.{went-none, after_look, after_entry, AreDeeds-append, acts_of-snoc}
 
 not_late : (turns limit : ℕ) (looked : Bool) → turns ≢ limit → late turns limit looked ≡ 0
@@ -81,6 +82,11 @@ pub pops : (a b : ActorPass) (found : Option Command) (told told' : Option Log) 
 pops a b None told told' looked looked' wf wf' kept rf room p = (p.0, omega (arith, p.1))
 pops a b (Some c) told told' looked looked' wf wf' kept rf room p = p
 
+-- one entry more came to a node that went on
+go_more : (g : Config) (J es : List Entry) (e : Entry) → AllGo g J es → has_stopped (chronicle g (J ++ es)) ≡ false → AllGo g J (es ++ e ∷ [])
+go_more g J [] e go on = (subst (λ l. has_stopped (chronicle g l) ≡ false) (append-nil J) on, tt)
+go_more g J (x ∷ es) e go on = (go.0, go_more g (J ++ x ∷ []) es e go.1 (subst (λ l. has_stopped (chronicle g l) ≡ false) (sym (append_assoc J (x ∷ []) es)) on))
+
 -- none of these commands is a Quit
 abbrev pub NoQuit : List Command → Type 0
 NoQuit [] = ⊤
@@ -116,6 +122,8 @@ module _ (g : Config) (K : List Entry) (keep : Bool) (limit : ℕ) (s : Scene) w
     pub deeds : List Deed
     pub goes : Goes turns limit s t entries deeds (option_to_list command)
     pub most : turns ≤ limit
+    pub all_go : AllGo g K entries
+    pub are_values : All IsEntry entries
     pub node : StandsFor g (K ++ entries) n
     pub are_deeds : AreDeeds g (acts_of g K entries) deeds
     pub told : List Event
@@ -159,6 +167,8 @@ module _ (g : Config) (K : List Entry) (keep : Bool) (limit : ℕ) (s : Scene) w
       are_looks = (let z : late 0 limit s.looked ≡ 0 = start_late limit s.looked in omega arith);
     };
     most = omega arith;
+    all_go = tt;
+    are_values = All-nil IsEntry;
     node = subst (λ J. StandsFor g J n) (sym (append-nil K)) here;
     are_deeds = tt;
     told = [];
@@ -240,6 +250,8 @@ module _ (g : Config) (K : List Entry) (keep : Bool) (limit : ℕ) (s : Scene) w
           deeds = k.deeds;
           goes = looks_again u found w.told popped now later hands;
           most = omega (arith, more);
+          all_go = k.all_go;
+          are_values = k.are_values;
           node = k.node;
           are_deeds = k.are_deeds;
           told = k.told;
@@ -274,6 +286,8 @@ module _ (g : Config) (K : List Entry) (keep : Bool) (limit : ℕ) (s : Scene) w
             are_looks = omega (arith, h.are_looks);
           };
           most = omega (arith, last);
+          all_go = k.all_go;
+          are_values = k.are_values;
           node = k.node;
           are_deeds = k.are_deeds;
           told = k.told;
@@ -291,6 +305,7 @@ module _ (g : Config) (K : List Entry) (keep : Bool) (limit : ℕ) (s : Scene) w
     pub record Gives (e : Entry) (told : Option Log) (u : Scene) : Type 0 where
       pub is_turn : IsTurn command (turn.Entry e)
       pub given : told ≡ option_map (after_turn command (turn.Entry e)) t.told
+      pub value : IsEntry e
       pub looked : u.looked ≡ false
       pub popped : u.popped ≡ t.popped
       pub empties : u.empties ≡ t.empties
@@ -330,6 +345,8 @@ module _ (g : Config) (K : List Entry) (keep : Bool) (limit : ℕ) (s : Scene) w
       deeds = k.deeds ++ x.deeds;
       goes = given_goes e told u x.deeds w less x.is_told;
       most = omega (arith, less);
+      all_go = go_more g K k.entries e k.all_go going;
+      are_values = All-push IsEntry k.entries e k.are_values w.value;
       node = subst (λ J. StandsFor g J n') (along e) x.stands;
       are_deeds = subst (λ l. AreDeeds g l (k.deeds ++ x.deeds)) (sym (acts_of-snoc g K k.entries e)) (AreDeeds-append g (acts_of g K k.entries) _ k.deeds x.deeds k.are_deeds x.are_deeds);
       told = k.told ++ es;
@@ -360,6 +377,8 @@ module _ (g : Config) (K : List Entry) (keep : Bool) (limit : ℕ) (s : Scene) w
       deeds = k.deeds;
       goes = going_same k.entries (k.entries ++ []) k.deeds k.deeds turns t (option_to_list command) k.goes (sym (append-nil k.entries)) refl;
       most = k.most;
+      all_go = subst (AllGo g K) (sym (append-nil k.entries)) k.all_go;
+      are_values = subst (All IsEntry) (sym (append-nil k.entries)) k.are_values;
       quits_last = k.quits_last;
       node = inl k.node;
       did = acts_of g K k.entries;
@@ -419,6 +438,8 @@ module _ (g : Config) (K : List Entry) (keep : Bool) (limit : ℕ) (s : Scene) w
       deeds = k.deeds;
       goes = same_goes u [] w.told w.looked w.popped w.empties;
       most = k.most;
+      all_go = k.all_go;
+      are_values = k.are_values;
       node = k.node;
       are_deeds = k.are_deeds;
       told = k.told;
@@ -435,12 +456,12 @@ module _ (g : Config) (K : List Entry) (keep : Bool) (limit : ℕ) (s : Scene) w
     -- ---- an entry that broke off
 
     -- the node has its entry, or not: one entry was given that it didn't take
-    given_up : (e : Entry) (told : Option Log) (u : Scene) (n' : Node) (ended : Ending) → Gives e told u → turns < limit → u.told ≡ told → u.raised ≡ t.raised
+    given_up : (e : Entry) (told : Option Log) (u : Scene) (n' : Node) (ended : Ending) → Gives e told u → turns < limit → has_stopped (chronicle g (K ++ k.entries)) ≡ false → u.told ≡ told → u.raised ≡ t.raised
         → StandsFor g (K ++ k.entries) n' ⊎ (IsTrue (is_spent n') × (ended ≡ ending.OutOfMemory) × (length (e ∷ []) ≡ 1))
         → (keep ≡ true → KeptLines s.kept u.kept k.entries (e ∷ []))
         → Ends ended (has_stopped (chronicle g (K ++ k.entries))) (turns + 1) limit keep s u (e ∷ []) []
         → IsWork g K keep limit s u n' ended
-    given_up e told u n' ended w less same raised node kept ends = record {
+    given_up e told u n' ended w less going same raised node kept ends = record {
       turns = turns + 1;
       entries = k.entries;
       unstepped = e ∷ [];
@@ -448,6 +469,8 @@ module _ (g : Config) (K : List Entry) (keep : Bool) (limit : ℕ) (s : Scene) w
       deeds = k.deeds;
       goes = going_same (k.entries ++ e ∷ []) (k.entries ++ e ∷ []) (k.deeds ++ []) k.deeds (turns + 1) u [] (given_goes e told u [] w less (same ∙ went-none told)) refl (append-nil k.deeds);
       most = omega (arith, less);
+      all_go = go_more g K k.entries e k.all_go going;
+      are_values = All-push IsEntry k.entries e k.are_values w.value;
       quits_last = k.quits_last;
       node = node;
       did = acts_of g K k.entries;
@@ -473,14 +496,14 @@ module _ (g : Config) (K : List Entry) (keep : Bool) (limit : ℕ) (s : Scene) w
     unput_ends : (e : Entry) (u : Scene) (ended : Ending) → IsRefusal t.record_faults u.record_faults ended → keep ≡ true → has_stopped (chronicle g (K ++ k.entries)) ≡ false
         → Ends ended (has_stopped (chronicle g (K ++ k.entries))) (turns + 1) limit keep s u (e ∷ []) []
     unput_ends e u ended how keeps going = ⊎_elim
-        (λ (none : ended ≡ ending.OutOfMemory). subst (λ x. Ends x (has_stopped (chronicle g (K ++ k.entries))) (turns + 1) limit keep s u (e ∷ []) []) (sym none) (omega arith, omega arith))
+        (λ (none : ended ≡ ending.OutOfMemory). subst (λ x. Ends x (has_stopped (chronicle g (K ++ k.entries))) (turns + 1) limit keep s u (e ∷ []) []) (sym none) (omega arith))
         (λ (fails : (ended ≡ ending.RecordFault) × Rose t.record_faults u.record_faults). subst (λ x. Ends x (has_stopped (chronicle g (K ++ k.entries))) (turns + 1) limit keep s u (e ∷ []) []) (sym fails.0)
         (going, refl, refl, keeps, rose_later s.record_faults t.record_faults u.record_faults k.record_later fails.1))
         how
 
     -- the world found no memory for an act
-    left_undone : (e : Entry) (told : Option Log) (u : Scene) (n' : Node) (ended : Ending) → Gives e told u → turns < limit → u.raised ≡ t.raised → IsUndone g (K ++ k.entries) e keep told u.told t.kept u.kept n' ended → IsWork g K keep limit s u n' ended
-    left_undone e told u n' ended w less raised x = record {
+    left_undone : (e : Entry) (told : Option Log) (u : Scene) (n' : Node) (ended : Ending) → Gives e told u → turns < limit → has_stopped (chronicle g (K ++ k.entries)) ≡ false → u.raised ≡ t.raised → IsUndone g (K ++ k.entries) e keep told u.told t.kept u.kept n' ended → IsWork g K keep limit s u n' ended
+    left_undone e told u n' ended w less going raised x = record {
       turns = turns + 1;
       entries = k.entries ++ e ∷ [];
       unstepped = [];
@@ -488,6 +511,8 @@ module _ (g : Config) (K : List Entry) (keep : Bool) (limit : ℕ) (s : Scene) w
       deeds = k.deeds ++ x.deeds;
       goes = going_same (k.entries ++ e ∷ []) ((k.entries ++ e ∷ []) ++ []) (k.deeds ++ x.deeds) (k.deeds ++ x.deeds) (turns + 1) u [] (given_goes e told u x.deeds w less x.is_told) (sym (append-nil (k.entries ++ e ∷ []))) refl;
       most = omega (arith, less);
+      all_go = subst (AllGo g K) (sym (append-nil (k.entries ++ e ∷ []))) (go_more g K k.entries e k.all_go going);
+      are_values = subst (All IsEntry) (sym (append-nil (k.entries ++ e ∷ []))) (All-push IsEntry k.entries e k.are_values w.value);
       quits_last = k.quits_last;
       node = inl (subst (λ J. StandsFor g J n') (along e) x.stands);
       did = acts_of g K k.entries ++ x.did;
@@ -506,28 +531,28 @@ module _ (g : Config) (K : List Entry) (keep : Bool) (limit : ℕ) (s : Scene) w
         is_kept = subst (Appends s.kept u.kept) (sym (append-nil (lines (k.entries ++ e ∷ [])))) (kept_more s.kept t.kept u.kept k.entries e (k.are_kept i) (x.is_kept i));
         is_part = refl;
       };
-      ends = subst (λ y. Ends y (has_stopped (chronicle g (K ++ (k.entries ++ e ∷ [])))) (turns + 1) limit keep s u [] []) (sym x.ends) (omega arith, omega arith);
+      ends = subst (λ y. Ends y (has_stopped (chronicle g (K ++ (k.entries ++ e ∷ [])))) (turns + 1) limit keep s u [] []) (sym x.ends) (omega arith);
     }
 
     pub broke : (e : Entry) (told : Option Log) (u : Scene) (n' : Node) (ended : Ending) → Gives e told u → turns < limit → u.raised ≡ t.raised → has_stopped (chronicle g (K ++ k.entries)) ≡ false
         → Broke g (K ++ k.entries) e keep told u.told t.kept u.kept t.record_faults u.record_faults n' ended → IsWork g K keep limit s u n' ended
     broke e told u n' ended w less raised going how = ⊎_elim
         (λ (x : IsUnput g (K ++ k.entries) e keep told u.told t.kept u.kept t.record_faults u.record_faults n' ended).
-        given_up e told u n' ended w less x.is_told raised (inl x.stands)
+        given_up e told u n' ended w less going x.is_told raised (inl x.stands)
         (λ i. record { part = x.part; rest = x.rest; is_kept = Appends-trans s.kept t.kept u.kept (lines k.entries) x.part (k.are_kept i) x.is_kept; is_part = one_line e ∙ x.is_part })
         (unput_ends e u ended x.ends x.keeps going))
         (λ rest. ⊎_elim
         (λ (x : IsUnstepped e keep told u.told t.kept u.kept n' ended).
-        given_up e told u n' ended w less x.is_told raised (inr (x.spent, x.ends, refl)) (whole_line e u x.is_kept)
-        (subst (λ y. Ends y (has_stopped (chronicle g (K ++ k.entries))) (turns + 1) limit keep s u (e ∷ []) []) (sym x.ends) (omega arith, omega arith)))
-        (λ (x : IsUndone g (K ++ k.entries) e keep told u.told t.kept u.kept n' ended). left_undone e told u n' ended w less raised x)
+        given_up e told u n' ended w less going x.is_told raised (inr (x.spent, x.ends, refl)) (whole_line e u x.is_kept)
+        (subst (λ y. Ends y (has_stopped (chronicle g (K ++ k.entries))) (turns + 1) limit keep s u (e ∷ []) []) (sym x.ends) (omega arith)))
+        (λ (x : IsUndone g (K ++ k.entries) e keep told u.told t.kept u.kept n' ended). left_undone e told u n' ended w less going raised x)
         rest)
         how
 
     -- the world's refusal is the ending
     pub refused_ends : (f : NextFault) → turns < limit → (f ≡ fault.Failed → Rose s.world_faults t.world_faults) → has_stopped (chronicle g (K ++ k.entries)) ≡ false → IsWork g K keep limit s t n (world_ending f)
     refused_ends fault.Failed less rose going = leaves ending.WorldFault (going, refl, few command, less, rose refl)
-    refused_ends fault.OutOfMemory less rose going = leaves ending.OutOfMemory (omega arith, few command)
+    refused_ends fault.OutOfMemory less rose going = leaves ending.OutOfMemory (omega (arith, few command))
 
   -- Last was pushed, and what the work came to is handed back
   pub handed_back : (t t' : Scene) (n n' : Node) (e e' : Ending) → IsWork g K keep limit s t n e → t' ≡ t → n' ≡ n → e' ≡ e → IsWork g K keep limit s t' n' e'

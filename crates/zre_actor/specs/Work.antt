@@ -1,5 +1,5 @@
 -- What the actor's work comes to.
-use Rattle.std.specs.Prelude.{◌≡◌, ◌≢◌, ◌⊎◌, ℕ, ◌+◌, ◌≤◌, ◌<◌, ◌==◌, ◌&&◌, Bool, true, false, cond, nat_lt, List, [], ◌∷◌, ◌++◌, map, flat_map, length, Option, Some, option_map, IsTrue}
+use Rattle.std.specs.Prelude.{◌≡◌, ◌≢◌, ◌⊎◌, ℕ, ◌+◌, ◌≤◌, ◌<◌, ◌==◌, ◌&&◌, Bool, true, false, cond, nat_lt, List, [], ◌∷◌, ◌++◌, map, flat_map, length, All, Option, Some, option_map, IsTrue}
 use mathlib.Core.List.{Sublist}
 use Rattle.std.specs.Io.KnownBytes.{Appends}
 use Rattle.zre_outside.specs.declared.act.Act.{Act}
@@ -22,7 +22,7 @@ use Rattle.zre_journal.specs.Events.{chronicle, events, acts_behind}
 use Rattle.zre_journal.specs.Happens.{has_stopped}
 use Rattle.zre_node.specs.declared.node.Node.{Node}
 use Rattle.zre_node.specs.Journal.{StandsFor, is_spent}
-use Rattle.zre_capture.specs.Lines.{line, lines}
+use Rattle.zre_capture.specs.Lines.{line, lines, IsEntry}
 use Rattle.zre_actor.specs.declared.ending.Ending.{Ending}
 use Rattle.zre_actor.specs.declared.ending.Ending.TheVariants as ending
 use Rattle.zre_actor.specs.declared.views.Placed.{Placed}
@@ -117,7 +117,7 @@ Ends ending.Stopped stopped turns limit keep s t unstepped pending = (stopped �
 Ends ending.WorldFault stopped turns limit keep s t unstepped pending = (stopped ≡ false) × (unstepped ≡ []) × (length pending ≤ 1) × (turns < limit) × Rose s.world_faults t.world_faults
 Ends ending.RecordFault stopped turns limit keep s t unstepped pending = (stopped ≡ false) × (length unstepped ≡ 1) × (pending ≡ []) × (keep ≡ true) × Rose s.record_faults t.record_faults
 Ends ending.TooLong stopped turns limit keep s t unstepped pending = (stopped ≡ false) × (unstepped ≡ []) × (pending ≡ []) × (turns ≡ limit)
-Ends ending.OutOfMemory stopped turns limit keep s t unstepped pending = (length unstepped ≤ 1) × (length pending ≤ 1)
+Ends ending.OutOfMemory stopped turns limit keep s t unstepped pending = length unstepped + length pending ≤ 1
 
 -- a recorder holds the lines of entries more, and behind them a front of the line of the one that wasn't stepped
 pub record KeptLines (before now : Option (List ℕ)) (entries unstepped : List Entry) : Type 0 where
@@ -131,6 +131,11 @@ abbrev pub QuitsLast : List Command → Type 0
 QuitsLast [] = Unit {0}
 QuitsLast (c ∷ cs) = (c ≡ ask.Quit → cs ≡ []) × QuitsLast cs
 
+-- the node hadn't stopped before any of these entries behind J
+abbrev pub AllGo : Config → List Entry → List Entry → Type 0
+AllGo g J [] = Unit {0}
+AllGo g J (e ∷ es) = (has_stopped (chronicle g J) ≡ false) × AllGo g (J ++ e ∷ []) es
+
 -- the work of a node that stood for K
 pub record IsWork (g : Config) (K : List Entry) (keep : Bool) (limit : ℕ) (s t : Scene) (n : Node) (ended : Ending) : Type 0 where
   pub turns : ℕ
@@ -140,8 +145,11 @@ pub record IsWork (g : Config) (K : List Entry) (keep : Bool) (limit : ℕ) (s t
   pub pending : List Command
   pub deeds : List Deed
   pub goes : Goes turns limit s t (entries ++ unstepped) deeds pending
-  -- no more turns were answered than the limit allows
+  -- no more turns were answered than the limit allows, and nothing was given behind the entry that stopped the node
   pub most : turns ≤ limit
+  pub all_go : AllGo g K (entries ++ unstepped)
+  -- each is a value of its types
+  pub are_values : All IsEntry (entries ++ unstepped)
   -- nothing was popped behind a Quit
   pub quits_last : QuitsLast (map command_of goes.popped)
   -- the node stands for what it took, unless it found no memory for its last step

@@ -12,10 +12,11 @@ ghost use Rattle.zre_journal.specs.Asked.{AreDue, IsDueAct, IsDue};
 ghost use Rattle.zre_journal.specs.declared.config.Config.{Config};
 ghost use Rattle.zre_journal.specs.Events.{chronicle};
 ghost use Rattle.zre_node.specs.Journal.{StandsFor};
-ghost use Rattle.zre_capture.specs.Lines.{line};
+ghost use Rattle.zre_capture.specs.Lines.{line, IsEntry};
 ghost use Rattle.zre_actor.specs.Work.{IsDeed, DoesAll, IsRefusal, Went, Broke};
 
 use crate::Ending;
+use crate::values::is_value;
 use std::alloc::Global;
 use zre_capture::write_entry;
 use zre_node::{Node, Step};
@@ -41,7 +42,9 @@ pub(crate) fn take_entry<W: World, R: Recorder>(
     ensures begun { R.begun rec.new ≡ R.begun rec.old }
     ensures named { Keeps (R.named rec.old) (R.named rec.new) }
     ensures later { R.faults rec.old ≤ R.faults rec.new }
+    ensures value { IsEntry entry }
 {
+    is_value(&entry);
     if let Err(ending) = keep_line(alloc, rec, keep, &entry) {
         return Err(ending);
     }

@@ -8,9 +8,8 @@ mod ending;
 mod job;
 mod passes;
 mod rules;
-#[cfg(test)]
-mod tests;
 mod told;
+mod values;
 mod views;
 mod work;
 

@@ -1,4 +1,3 @@
-pub mod Given
 pub mod Pieces
 pub mod Puts
 pub mod Reach

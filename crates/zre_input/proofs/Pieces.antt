@@ -7,7 +7,7 @@ use Rattle.zre_outside.specs.declared.entry.Command.{Command}
 use Rattle.zre_outside.specs.declared.entry.Command.TheVariants.{Quit}
 use Rattle.zre_capture.specs.Journal.{lines_in}
 use Rattle.zre_actor.specs.declared.passes.CallerPass.{CallerPass}
-use Rattle.zre_typist.specs.Orders.{is_quit, typed, orders_from, ended_lines}
+use Rattle.zre_typist.specs.Orders.{is_quit, typed, orders_from, ended_lines, Begins}
 use Rattle.zre_typist.specs.Typing.{Typing, Typed, Adds, AddsFront}
 use Rattle.zre_typist.proofs.Quits.{quit-found, orders-begin, typed-begin, end-quits, last-quits}
 use Rattle.zre_input.specs.declared.reading.Next.{Next}
@@ -15,7 +15,7 @@ use Rattle.zre_input.specs.declared.reading.Next.TheVariants as nexts
 use Rattle.zre_input.specs.declared.ending.InputEnd.{InputEnd}
 use Rattle.zre_input.specs.declared.ending.InputEnd.TheVariants as ends
 use Rattle.zre_input.specs.Putting.{Puts, PutsQuit, PutsFront}
-use Rattle.zre_input.specs.Turning.{PutsTyped, PutsOrders, PutsBegin, Took, Turned, Ends, Finishes}
+use Rattle.zre_input.specs.Turning.{PutsTyped, PutsOrders, PutsBegin, PutsShort, Took, Turned, Ends, Finishes}
 use Rattle.zre_input.proofs.Puts.{puts-then, none-append}
 
 -- ---- a piece
@@ -43,18 +43,25 @@ took-quit o piece commands a b f none q =
     let found = quit-found (o ++ piece) (typed o ++ q.front) q.last (q.rest ++ f.others) (split o piece commands q.front (q.last ∷ q.rest) f q.parts) (none-append (typed o) q.front none q.none) q.quits in
     (found.0, (q.front ++ q.last ∷ [], q.puts, sym (append_assoc (typed o) q.front (q.last ∷ [])) ∙ sym found.1))
 
+-- a front of its commands, behind those that stood before, begins the orders
+part-begins : (o piece : List ℕ) (commands front rest : List Command) → AddsFront o piece [] commands → list_any is_quit (typed o) ≡ false → commands ≡ front ++ rest → list_any is_quit front ≡ false
+    → Begins (typed o ++ front) (o ++ piece)
+part-begins o piece commands front rest f none e plain =
+    typed-begin (o ++ piece) (typed o ++ front) (rest ++ f.others) (split o piece commands front rest f e) (none-append (typed o) front none plain)
+
 pub took-front : (o piece : List ℕ) (commands : List Command) (a b : CallerPass) → AddsFront o piece [] commands → list_any is_quit (typed o) ≡ false → PutsFront a b commands
-    → PutsBegin a b o (o ++ piece)
+    → PutsShort a b o (o ++ piece)
 took-front o piece commands a b f none q = (
   q.front,
   q.puts,
-  typed-begin (o ++ piece) (typed o ++ q.front) (q.rest ++ f.others) (split o piece commands q.front q.rest f q.parts) (none-append (typed o) q.front none q.none),
+  part-begins o piece commands q.front (q.next ∷ q.rest) f none q.parts q.none,
+  (q.next, q.rest ++ f.others, split o piece commands q.front (q.next ∷ q.rest) f q.parts),
 )
 
 -- all of them were put
 pub took-some : (o piece : List ℕ) (commands : List Command) (a b : CallerPass) → AddsFront o piece [] commands → list_any is_quit (typed o) ≡ false → Puts a b commands
     → list_any is_quit commands ≡ false → PutsBegin a b o (o ++ piece)
-took-some o piece commands a b f none p q = took-front o piece commands a b f none (record { front = commands; rest = []; parts = sym (append-nil commands); none = q; puts = p })
+took-some o piece commands a b f none p plain = (commands, p, part-begins o piece commands commands [] f none (sym (append-nil commands)) plain)
 
 pub took-all_of : (o piece : List ℕ) (t : Typing) (commands : List Command) (a b : CallerPass) → Typed (o ++ piece) t × Adds o piece [] commands → list_any is_quit (typed o) ≡ false → Puts a b commands
     → list_any is_quit commands ≡ false → Typed (o ++ piece) t × (list_any is_quit (typed (o ++ piece)) ≡ false) × PutsTyped a b o (o ++ piece)

@@ -60,10 +60,11 @@ put-quit a b c all front rest last e none p q is = record {
   puts = puts-then a b c front (last ∷ []) p q;
 }
 
--- nothing was put behind them
-pub put-front : (a b c : CallerPass) (all front rest : List Command) → all ≡ front ++ rest → list_any is_quit front ≡ false → Puts a b front → Puts b c [] → PutsFront a c all
-put-front a b c all front rest e none p q = record {
+-- nothing was put behind them, though there are more
+pub put-front : (a b c : CallerPass) (all front rest : List Command) (next : Command) → all ≡ front ++ (next ∷ rest) → list_any is_quit front ≡ false → Puts a b front → Puts b c [] → PutsFront a c all
+put-front a b c all front rest next e none p q = record {
   front = front;
+  next = next;
   rest = rest;
   parts = e;
   none = none;

@@ -1,6 +1,7 @@
 -- How far a reader has come.
 use Rattle.std.proofs.Common.{◌≡◌, ℕ, ◌+◌, ◌<◌, ◌≤◌, true, false, List, [], ◌++◌, length, Option, refl, sym, ap, ◌∙◌, subst, arith}
 use Rattle.std.specs.List.{list_any}
+use mathlib.Core.Logic.{inl, inr}
 use Rattle.std.specs.Io.KnownBytes.{IsAtEnd}
 use Rattle.std.proofs.lemmas.List.{append-nil}
 use Rattle.zre_outside.specs.declared.entry.Command.{Command}
@@ -14,7 +15,7 @@ use Rattle.zre_input.specs.declared.ending.InputEnd.{InputEnd}
 use Rattle.zre_input.specs.declared.ending.InputEnd.TheVariants as ends
 use Rattle.zre_input.specs.Putting.{Puts, Closes}
 use Rattle.zre_input.specs.Reading.{BreaksOff, HasRead}
-use Rattle.zre_input.specs.Turning.{PutsTyped, PutsOrders, PutsBegin, Finishes}
+use Rattle.zre_input.specs.Turning.{PutsTyped, PutsOrders, PutsShort, PutsBegin, Finishes}
 use Rattle.zre_input.proofs.Puts.{puts-none, puts-then}
 
 -- some octets were taken, so many; they were typed, no line is a quit, and their commands were put
@@ -57,14 +58,14 @@ module _ (t : Typing) (a b : CallerPass) (l l' k k' : Option (List ℕ)) (count 
   begun = typed-begin r.octets (typed r.octets) [] (sym (append-nil (typed r.octets))) r.going
 
   -- nothing was put since
-  pub over-now : (read : Type 0) → count ≤ limit → HasRead ends.Over limit a b l l' k k' read
+  pub over-now : (read : Type 0) → count < limit → HasRead ends.Over limit a b l l' k k' read
   over-now read within = record {
     octets = r.octets;
     moved = r.moved;
     within = omega (arith, r.counted, within);
     commands = typed r.octets;
     puts = r.puts;
-    outcome = begun;
+    outcome = (begun, inr (inl (omega (arith, r.counted, within))));
   }
 
   -- at most a quit was
@@ -78,7 +79,7 @@ module _ (t : Typing) (a b : CallerPass) (l l' k k' : Option (List ℕ)) (count 
     within = omega (arith, r.counted, all);
     commands = typed r.octets ++ closes.0;
     puts = puts-then a b c (typed r.octets) closes.0 r.puts closes.2;
-    outcome = (r.counted ∙ all, broken c closes);
+    outcome = (r.counted ∙ all, r.going, broken c closes);
   }
 
   -- the source told no more octets
@@ -86,14 +87,14 @@ module _ (t : Typing) (a b : CallerPass) (l l' k k' : Option (List ℕ)) (count 
     moved-same : piece ≡ [] → Moves l l'' k k'' r.octets
     moved-same none = subst (Moves l l'' k k'') (ap (λ (p : List ℕ). r.octets ++ p) none ∙ append-nil r.octets) (Moves-trans l l' l'' k k' k'' r.octets piece r.moved moves)
 
-    pub read-failed : (c : CallerPass) (read : Type 0) → piece ≡ [] → read → count ≤ limit → Closes b c → HasRead ends.ReadFault limit a c l l'' k k'' read
+    pub read-failed : (c : CallerPass) (read : Type 0) → piece ≡ [] → read → count < limit → Closes b c → HasRead ends.ReadFault limit a c l l'' k k'' read
     read-failed c read none fault within closes = record {
       octets = r.octets;
       moved = moved-same none;
       within = omega (arith, r.counted, within);
       commands = typed r.octets ++ closes.0;
       puts = puts-then a b c (typed r.octets) closes.0 r.puts closes.2;
-      outcome = (fault, broken c closes);
+      outcome = (fault, omega (arith, r.counted, within), r.going, broken c closes);
     }
 
     pub finished : (end : InputEnd) (c : CallerPass) (read : Type 0) → piece ≡ [] → IsAtEnd l'' → count < limit → Finishes end r.octets b c → HasRead end limit a c l l'' k k'' read
@@ -111,7 +112,7 @@ module _ (t : Typing) (a b : CallerPass) (l l' k k' : Option (List ℕ)) (count 
       within = omega (arith, r.counted, within);
       commands = typed r.octets ++ f.0;
       puts = puts-then a b c (typed r.octets) f.0 r.puts f.1;
-      outcome = f.2;
+      outcome = (f.2, inr (inl (omega (arith, r.counted, within))));
     }
     finished ends.OutOfMemory c read none at within f = record {
       octets = r.octets;
@@ -143,14 +144,14 @@ module _ (t : Typing) (a b : CallerPass) (l l' k k' : Option (List ℕ)) (count 
       outcome = (took.0, took.1.2);
     }
 
-    pub over-amid : (c : CallerPass) (read : Type 0) (size : ℕ) → length piece ≡ size → count + size ≤ limit → PutsBegin b c r.octets (r.octets ++ piece) → HasRead ends.Over limit a c l l'' k k'' read
+    pub over-amid : (c : CallerPass) (read : Type 0) (size : ℕ) → length piece ≡ size → count + size ≤ limit → PutsShort b c r.octets (r.octets ++ piece) → HasRead ends.Over limit a c l l'' k k'' read
     over-amid c read size long within took = record {
       octets = r.octets ++ piece;
       moved = moved-more;
       within = within-more size long within;
       commands = typed r.octets ++ took.0;
       puts = puts-then a b c (typed r.octets) took.0 r.puts took.1;
-      outcome = took.2;
+      outcome = (took.2, inr (inr took.3));
     }
 
     pub memory-amid : (c d : CallerPass) (read : Type 0) (size : ℕ) → length piece ≡ size → count + size ≤ limit → PutsBegin b c r.octets (r.octets ++ piece) → Closes c d

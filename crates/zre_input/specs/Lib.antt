@@ -1,4 +1,3 @@
 pub mod Putting
 pub mod Reading
-pub mod Ready
 pub mod Turning

@@ -24,6 +24,10 @@ IsClose commands = (commands ≡ []) ⊎ (commands ≡ Quit ∷ [])
 abbrev pub Closes : CallerPass → CallerPass → Type 0
 Closes old new = (tail : List Command) × IsClose tail × Puts old new tail
 
+-- these commands begin others, and are fewer
+abbrev pub IsShort : List Command → List Command → Type 0
+IsShort front all = (next : Command) × (rest : List Command) × (all ≡ front ++ (next ∷ rest))
+
 -- what became of a command
 abbrev pub Sends : Sent → CallerPass → CallerPass → Command → Type 0
 Sends sents.On old new command = Puts old new (command ∷ []) × (is_quit command ≡ false)
@@ -40,11 +44,12 @@ pub record PutsQuit (old new : CallerPass) (commands : List Command) : Type 0 wh
   pub quits : is_quit last ≡ true
   pub puts : Puts old new (front ++ last ∷ [])
 
--- some commands were put, and no quit
+-- some commands were put, but not all of them, and no quit
 pub record PutsFront (old new : CallerPass) (commands : List Command) : Type 0 where
   pub front : List Command
+  pub next : Command
   pub rest : List Command
-  pub parts : commands ≡ front ++ rest
+  pub parts : commands ≡ front ++ (next ∷ rest)
   pub none : list_any is_quit front ≡ false
   pub puts : Puts old new front
 

@@ -11,7 +11,7 @@ use Rattle.zre_input.specs.declared.ending.InputEnd.{InputEnd}
 use Rattle.zre_input.specs.declared.ending.InputEnd.TheVariants as ends
 use Rattle.zre_input.specs.declared.reading.Next.{Next}
 use Rattle.zre_input.specs.declared.reading.Next.TheVariants as nexts
-use Rattle.zre_input.specs.Putting.{Puts, Closes}
+use Rattle.zre_input.specs.Putting.{Puts, Closes, IsShort}
 
 -- behind the commands of o, more were put, which are now the commands of a longer text
 abbrev pub PutsTyped : CallerPass → CallerPass → (o longer : List ℕ) → Type 0
@@ -25,11 +25,15 @@ PutsOrders old new o longer = (commands : List Command) × Puts old new commands
 abbrev pub PutsBegin : CallerPass → CallerPass → (o longer : List ℕ) → Type 0
 PutsBegin old new o longer = (commands : List Command) × Puts old new commands × Begins (typed o ++ commands) longer
 
+-- and there are more commands than these
+abbrev pub PutsShort : CallerPass → CallerPass → (o longer : List ℕ) → Type 0
+PutsShort old new o longer = (commands : List Command) × Puts old new commands × Begins (typed o ++ commands) longer × IsShort (typed o ++ commands) (typed longer)
+
 -- a piece was taken behind o
 abbrev pub Took : Next → (t : Typing) (o piece : List ℕ) (old new : CallerPass) → Type 0
 Took nexts.Go t o piece old new = Typed (o ++ piece) t × (list_any is_quit (typed (o ++ piece)) ≡ false) × PutsTyped old new o (o ++ piece)
 Took nexts.Quit t o piece old new = (list_any is_quit (typed (o ++ piece)) ≡ true) × PutsOrders old new o (o ++ piece)
-Took nexts.Over t o piece old new = PutsBegin old new o (o ++ piece)
+Took nexts.Over t o piece old new = PutsShort old new o (o ++ piece)
 Took nexts.OutOfMemory t o piece old new = PutsBegin old new o (o ++ piece)
 Took nexts.End t o piece old new = ⊥
 Took nexts.ReadFault t o piece old new = ⊥

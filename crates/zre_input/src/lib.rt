@@ -5,8 +5,6 @@ mod ending;
 mod job;
 mod putting;
 mod reading;
-#[cfg(test)]
-mod tests;
 
 pub use ending::InputEnd;
 pub use job::{ReaderDone, ReaderJob};

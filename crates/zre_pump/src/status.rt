@@ -1,7 +1,7 @@
 ghost use Rattle.std.specs.Prelude.{◌≡◌};
 ghost use Rattle.zre_pump.specs.Codes.{code_of};
 
-/// How a call of the program ended. The first to occur is the status.
+/// How a call of the program ended.
 #[derive(Clone, Copy, Debug, PartialEq, Eq)]
 pub enum Status {
     /// The input was read to its end, and its text is written.
@@ -12,13 +12,14 @@ pub enum Status {
     BadInput,
     /// The source failed.
     ReadFault,
-    /// The sink failed.
+    /// The sink, or the recorder of a chat, failed.
     WriteFault,
-    /// The world or the recorder failed.
+    /// The world of a chat failed.
     WorldFault,
-    /// A thread was refused.
+    /// A thread of a chat was refused.
     NoThread,
-    /// As many octets as the limit were taken, and a further read was due.
+    /// As many octets as the limit were taken, and a further read was due; or a chat took as many turns of the world, and its
+    /// node hasn't stopped.
     TooLong,
     /// No memory was left.
     OutOfMemory,

@@ -7,6 +7,3 @@ mod typist;
 
 pub use line::{LINE_OCTETS, order};
 pub use typist::Typist;
-
-#[cfg(test)]
-mod tests;

@@ -10,7 +10,7 @@ pub returns-in_default-clause-read : goal.returns-in_default-clause-read
 returns-in_default-clause-read g c = memory-first c.args.pass c.close.result _ _ c.args.limit _ c.close.ensures.closes
 
 pub returns-then-load-clause-read : goal.returns-then-load-clause-read
-returns-then-load-clause-read g c = over-now _ _ _ _ _ _ _ _ c.loop-taken.invariant.reached c.args.limit _ c.loop-taken.invariant.within
+returns-then-load-clause-read g c = over-now _ _ _ _ _ _ _ _ c.loop-taken.invariant.reached c.args.limit _ c.loop-taken-test.true
 
 pub returns-in-End-clause-read : goal.returns-in-End-clause-read
 returns-in-End-clause-read g c =
@@ -27,7 +27,7 @@ returns-in-ReadFault-clause-read g c =
     let turn = c.take_turn-read in
     let t = rw c.in-ReadFault.is at (turn.ensures.turned reached.octets reached.known reached.going) in
     let closed = c.close-in-ReadFault in
-    read-failed _ _ _ _ _ _ _ _ reached c.args.limit _ _ (take turn.result.read turn.new.buf) turn.ensures.moved closed.result _ t.0 (Rose-since _ _ _ c.loop-taken.invariant.later t.1) c.loop-taken.invariant.within
+    read-failed _ _ _ _ _ _ _ _ reached c.args.limit _ _ (take turn.result.read turn.new.buf) turn.ensures.moved closed.result _ t.0 (Rose-since _ _ _ c.loop-taken.invariant.later t.1) c.loop-taken-test.true
     (subst (λ p. Closes p closed.result) t.2 closed.ensures.closes)
 
 pub returns-in-OutOfMemory-clause-read : goal.returns-in-OutOfMemory-clause-read

@@ -1,5 +1,0 @@
-use Rattle.zre_actor.specs.Passes.{IsCallerOf}
-use Rattle.zre_actor.proofs.tests.put_many.Given as goal
-
-abbrev pub invariant-loop-line : goal.invariant-loop-line
-invariant-loop-line g l = IsCallerOf l.pipes l.pass
