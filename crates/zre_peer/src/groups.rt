@@ -41,12 +41,14 @@ impl Groups {
         }
     }
 
+    /// How many there are.
     pub fn len(&self) -> usize
         ensures { result ≡ length self.now }
     {
         self.few.len() + self.more.len()
     }
 
+    /// A group, in the order of joining.
     pub fn get(&self, i: usize) -> &[u8]
         requires { i < length self.now }
         ensures { slice_get self.now i ≡ Some result.now }
@@ -59,6 +61,7 @@ impl Groups {
         }
     }
 
+    /// Whether a group is there. A few are looked through, and further ones are found by their hash.
     pub fn contains(&self, group: &[u8]) -> bool
         ensures { result ≡ list_any (λ x. bytes_eq x group.now) self.now }
     {

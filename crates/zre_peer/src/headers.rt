@@ -30,6 +30,7 @@ impl Headers {
         }
     }
 
+    /// How many there are, by distinct names.
     pub fn len(&self) -> usize
         ensures { result ≡ length self.now }
     {
