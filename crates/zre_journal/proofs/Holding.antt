@@ -10,7 +10,6 @@ use Rattle.zre_mailbox.specs.Talk.{fault_in}
 use Rattle.zre_outside.specs.declared.entry.Entry.{Entry}
 use Rattle.zre_outside.specs.declared.entry.Input.{Input}
 use Rattle.zre_outside.specs.declared.entry.Input.TheVariants as input
-use Rattle.zre_outside.specs.declared.entry.Command.TheVariants as command
 use Rattle.zre_link.specs.Heard.{reply_fault}
 use Rattle.zre_journal.specs.Endings.{is_end}
 use Rattle.zre_journal.specs.declared.config.Config.{Config}

@@ -1,8 +1,8 @@
 -- Groups and headers that are past a limit stay past it, whatever follows.
-use Rattle.std.proofs.Common.{◌≡◌, ℕ, ◌+◌, ◌≤◌, ◌<◌, Bool, true, false, cond, ◌&&◌, ◌||◌, List, [], ◌∷◌, ◌++◌, length, drop, get_or, ltb, leb, refl, sym, ap, ◌∙◌, arith, inl, inr, if◌then◌else◌}
+use Rattle.std.proofs.Common.{◌≡◌, ℕ, ◌+◌, ◌≤◌, ◌<◌, Bool, true, false, ◌||◌, List, [], ◌∷◌, ◌++◌, length, drop, get_or, ltb, leb, refl, sym, ap, ◌∙◌, arith, inl, inr, if◌then◌else◌}
 use Rattle.std.specs.List.{fold, list_any, list_all}
 use Rattle.std.specs.Str.{bytes_eq}
-use Rattle.std.proofs.lemmas.Bool.{ltb-false, and_parts, and_from, leb-true, leb-false, le-leb, lt-leb, ltb-true, lt-ltb, le-ltb, cases_Bool, or_left, or_right, or_from, both_ways, false_from_ne_true}
+use Rattle.std.proofs.lemmas.Bool.{ltb-false, and_parts, and_from, leb-true, leb-false, le-leb, lt-leb, ltb-true, cases_Bool, or_left, or_right, or_from, both_ways, false_from_ne_true}
 use Rattle.std.proofs.lemmas.List.{at_drop_more, length-append}
 use Rattle.std.proofs.lemmas.List.Folds.{list_all-append}
 use Rattle.zre_peer.specs.Members.{are_few, with_group, with_header}
