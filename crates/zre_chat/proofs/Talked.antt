@@ -53,7 +53,7 @@ use Rattle.zre_chat.specs.Statuses.{least, of_read, of_print, of_work, of_thread
 use Rattle.zre_chat.proofs.Fronts.{prefix_trans, but_quits-prefix, quits_through, all_front, none_front}
 use Rattle.zre_chat.proofs.Merged.{all_under}
 use Rattle.zre_chat.proofs.Rows.{memory_isnt, memory_here, memory_behind, done_here, done_behind}
-use Rattle.zre_chat.proofs.Stops.{told_to_stop}
+use Rattle.zre_journal.proofs.Stops.{told_to_stop}
 use Rattle.zre_chat.proofs.Whole.{maps, read_orders, read_front, only, most}
 
 none_wished : (asker : CallerPass) (refused : Bool) → HasAsked asker (asker_of asker refused)

@@ -6,16 +6,14 @@ use Rattle.std.specs.Io.KnownBytes.{Keeps, Appends, IsAtEnd}
 use Rattle.zre_outside.specs.declared.act.Act.{Act}
 use Rattle.zre_outside.specs.declared.deed.Deed.{Deed}
 use Rattle.zre_outside.specs.declared.entry.Entry.{Entry}
-use Rattle.zre_outside.specs.declared.entry.Input.{Input}
-use Rattle.zre_outside.specs.declared.entry.Input.TheVariants as input
 use Rattle.zre_outside.specs.declared.entry.Command.{Command}
-use Rattle.zre_outside.specs.declared.entry.Command.TheVariants as command
 use Rattle.zre_outside.specs.declared.start.Start.{Start}
 use Rattle.zre_outside.specs.Causes.{Rose}
 use Rattle.zre_outside.specs.Told.{Moves, AppendsFront}
 use Rattle.zre_outside.specs.Worlds.{Log, with_start}
 use Rattle.zre_peer.specs.Lines.{lines}
 use Rattle.zre_journal.specs.declared.config.Config.{Config}
+use Rattle.zre_journal.specs.Endings.{is_end}
 use Rattle.zre_journal.specs.Events.{chronicle, events}
 use Rattle.zre_journal.specs.Happens.{has_stopped}
 use Rattle.zre_capture.specs.Lines as capture
@@ -62,12 +60,6 @@ seen left taken reads told worlds written writes kept named records refusals = r
 -- commands but for a quit
 abbrev pub but_quits : List Command → List Command
 but_quits commands = filter (λ c. not (is_quit c)) commands
-
--- the node is told to stop: by a quit, or since nothing comes any more
-abbrev pub is_stop : Input → Bool
-is_stop (input.Do command.Quit) = true
-is_stop input.End = true
-is_stop i = false
 
 -- what each status needs: a count that rose, or as many octets or turns as the limit
 abbrev pub IsCaused : Status → (limit octets turns : ℕ) → (stopped : Bool) → Seen → Seen → Type 0
@@ -137,5 +129,5 @@ pub record IsChat (g : Config) (start : Start) (name : Option (List ℕ)) (limit
   pub is_status : status ≡ least occurred
   pub caused : AreCaused occurred limit (length octets) turns (has_stopped (chronicle g entries)) s t
   -- where nothing did, the world was started, it told the node to stop, and so the node did: the input is at its end, or a line of it is a quit, or the stop is the world's own
-  pub done : status ≡ Done → (begun ≡ true) × (list_any (λ e. is_stop e.input) entries ≡ true) × (has_stopped (chronicle g entries) ≡ true)
+  pub done : status ≡ Done → (begun ≡ true) × (list_any (λ e. is_end e.input) entries ≡ true) × (has_stopped (chronicle g entries) ≡ true)
   pub ended : status ≡ Done → IsAtEnd t.left ⊎ ((list_any is_quit (typed octets) ≡ true) ⊎ (list_any is_quit handed ≡ false))

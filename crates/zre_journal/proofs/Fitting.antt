@@ -27,6 +27,7 @@ use Rattle.zre_peer.specs.declared.causes.RefuseWhy.TheVariants as refuse
 use Rattle.zre_link.specs.Text.{size_of}
 use Rattle.zre_link.specs.Heard.{reply_fault}
 use Rattle.zre_link.specs.Link.{unsent_of}
+use Rattle.zre_journal.specs.Endings.{is_end}
 use Rattle.zre_journal.specs.declared.config.Config.{Config}
 use Rattle.zre_journal.specs.Chronicle.{Mark, Opens, TurnsAway, Shakes, Starts, Counts, Ignores, Closes, IsShut, Beacons, Ends, Falters, Puts, Links, Takes, Joins, Leaves, Refuses, Calls, after, ever, followed}
 use Rattle.zre_journal.specs.Config.{CanBe}
@@ -305,13 +306,7 @@ module _ (g : Config) where
       let f = place_fits can K q r c said short.0 in
       fit_both g hs (at_places g c all (after hs K)) K f (places_fit can c all (after hs K) (steps hs K q a) (room-behind g hs K q a f r) short.1)
 
-  -- whether an input stops the node
-  abbrev pub ends_all : Input → Bool
-  ends_all (input.Do command.Quit) = true
-  ends_all input.End = true
-  ends_all _ = false
-
-  pub input-fits : CanBe g → (i : Input) (H K : List Mark) → ends_all i ≡ false → IsProper K → HasRoom g K → AllFit g (at_input g i H K) K
+  pub input-fits : CanBe g → (i : Input) (H K : List Mark) → is_end i ≡ false → IsProper K → HasRoom g K → AllFit g (at_input g i H K) K
   input-fits can (input.Datagram from o) H K z q r = datagram_fits can K q r from (beacon_in o)
   input-fits can (input.Opened c) H K z q r = opened_fits can K q r c
   input-fits can (input.Piece c o) H K z q r = places_fit can c (newly_said g.id c H K) K q r (newly-short g.id c H K)

@@ -10,8 +10,8 @@ use Rattle.zre_mailbox.specs.Talk.{fault_in}
 use Rattle.zre_outside.specs.declared.entry.Entry.{Entry}
 use Rattle.zre_outside.specs.declared.entry.Input.{Input}
 use Rattle.zre_outside.specs.declared.entry.Input.TheVariants as input
-use Rattle.zre_outside.specs.declared.entry.Command.TheVariants as command
 use Rattle.zre_link.specs.Heard.{reply_fault}
+use Rattle.zre_journal.specs.Endings.{is_end}
 use Rattle.zre_journal.specs.declared.config.Config.{Config}
 use Rattle.zre_journal.specs.Chronicle.{Mark, Comes, after}
 use Rattle.zre_journal.specs.Config.{CanBe, is_fitting}
@@ -27,14 +27,14 @@ use Rattle.zre_journal.proofs.Always.{empty, input_allowed}
 use Rattle.zre_journal.proofs.Brings.{stop_allowed}
 use Rattle.zre_journal.proofs.Faultless.{names_conn, names_link, AreFaultless, faultless_behind, bytes_stay, replies_stay, still_going, not_open, conn_ends, link_ends}
 use Rattle.zre_journal.proofs.Few.{are_few, kept-length}
-use Rattle.zre_journal.proofs.Fitting.{ends_all, input-fits}
+use Rattle.zre_journal.proofs.Fitting.{input-fits}
 use Rattle.zre_journal.proofs.Introduction.{small, fitting}
 use Rattle.zre_journal.proofs.Kept.{Comes-proper}
 use Rattle.zre_journal.proofs.Known.{each_known}
 use Rattle.zre_journal.proofs.Listed.{All-map}
 use Rattle.zre_journal.proofs.Room.{HasRoom, AllFit, room-behind, room-empty}
 use Rattle.zre_journal.proofs.Steps.{Allowed, steps}
-use Rattle.zre_journal.proofs.Stopping.{stopped, stop-is, none_known, none_open, room-stopped}
+use Rattle.zre_journal.proofs.Stopping.{at_end, stopped, stop-is, none_known, none_open, room-stopped}
 use Rattle.zre_journal.proofs.Streams.{unfinished-most}
 use Rattle.zre_journal.proofs.Viewed.{view-most}
 
@@ -60,11 +60,6 @@ unnamed_link _ l n = refl
 none_more : (b : Bool) (xs ys : List ℕ) → ys ≡ [] → xs ++ cond b ys [] ≡ xs
 none_more true xs ys e = ap (λ zs. xs ++ zs) e ∙ append-nil xs
 none_more false xs ys e = append-nil xs
-
-is_stop : (g : Config) (i : Input) (H K : List Mark) → ends_all g i ≡ true → at_input g i H K ≡ at_stop g K
-is_stop g (input.Do command.Quit) H K z = refl
-is_stop g input.End H K z = refl
-is_stop g _ H K z = absurd cc
 
 module _ (g : Config) (can : CanBe g) where
   -- nobody is known and nothing is open
@@ -92,15 +87,15 @@ module _ (g : Config) (can : CanBe g) where
     rests z = let r = o.rest z in at_rest (Comes e ∷ H) come room r.0 r.1
 
     -- the node stops
-    ends : ends_all g e.input ≡ true → IsSound g (after (at_input g e.input H (Comes e ∷ H)) (Comes e ∷ H))
+    ends : is_end e.input ≡ true → IsSound g (after (at_input g e.input H (Comes e ∷ H)) (Comes e ∷ H))
     ends z =
         let M = Comes e ∷ H in
-        let all : after (at_input g e.input H M) M ≡ stopped g M = ap (λ hs. after hs M) (is_stop g e.input H M z) ∙ stop-is g M in
+        let all : after (at_input g e.input H M) M ≡ stopped g M = ap (λ hs. after hs M) (at_end g e.input H M z) ∙ stop-is g M in
         let q : IsProper (stopped g M) = subst IsProper (stop-is g M) (steps (at_stop g M) M come (stop_allowed g M come)) in
         subst (IsSound g) (sym all) (at_rest (stopped g M) q (room-stopped g M room) (none_known g M) (none_open g M))
 
     -- it goes on
-    module _ (going : has_stopped H ≡ false) (on : ends_all g e.input ≡ false) where
+    module _ (going : has_stopped H ≡ false) (on : is_end e.input ≡ false) where
       abbrev M : List Mark
       M = Comes e ∷ H
 
@@ -143,9 +138,9 @@ module _ (g : Config) (can : CanBe g) where
           answer l s true n = ap reply_fault (replies_stay g hs M l fit) ∙ link_ends g e.input l H M n (λ u k. ap reply_fault (unlinked l u) ∙ o.answers l k) s
 
     one_more : IsSound g (with_entry g e H)
-    one_more = by (has_stopped H) refl (ends_all g e.input) refl
+    one_more = by (has_stopped H) refl (is_end e.input) refl
       where
-        by : (b : Bool) → has_stopped H ≡ b → (d : Bool) → ends_all g e.input ≡ d → IsSound g (after (cond b [] (at_input g e.input H (Comes e ∷ H))) (Comes e ∷ H))
+        by : (b : Bool) → has_stopped H ≡ b → (d : Bool) → is_end e.input ≡ d → IsSound g (after (cond b [] (at_input g e.input H (Comes e ∷ H))) (Comes e ∷ H))
         by true z d y = rests z
         by false z true y = ends y
         by false z false y = goes_on z y

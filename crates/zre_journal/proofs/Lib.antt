@@ -22,6 +22,7 @@ pub mod Sayings
 pub mod Silent
 pub mod Steps
 pub mod Stopping
+pub mod Stops
 pub mod Streams
 pub mod Telling
 pub mod Viewed

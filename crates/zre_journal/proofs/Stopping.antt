@@ -1,17 +1,27 @@
 -- Behind a stop no peer is known and no connection is open.
 use Rattle.std.proofs.Common.{◌≡◌, ℕ, Bool, true, false, cond, not, ◌||◌, eqb, List, [], ◌∷◌, ◌++◌, map, filter, refl, sym, ap, ◌∙◌, eq-eqb}
 use Rattle.std.specs.List.{AllByRecursion, list_any}
+use Rattle.zre_outside.specs.declared.entry.Input.{Input}
+use Rattle.zre_outside.specs.declared.entry.Input.TheVariants as input
+use Rattle.zre_outside.specs.declared.entry.Command.TheVariants as command
 use Rattle.zre_peer.specs.declared.causes.Cause.{Cause}
 use Rattle.zre_peer.specs.declared.causes.Cause.TheVariants as cause
+use Rattle.zre_journal.specs.Endings.{is_end}
 use Rattle.zre_journal.specs.declared.config.Config.{Config}
 use Rattle.zre_journal.specs.Chronicle.{Mark, Drops, Ends, Calls, Stops, after}
 use Rattle.zre_journal.specs.Connections.{open_ones}
 use Rattle.zre_journal.specs.Peers.{Life, lives}
-use Rattle.zre_journal.specs.Happens.{at_stop}
+use Rattle.zre_journal.specs.Happens.{at_input, at_stop}
 use Rattle.zre_journal.proofs.Joined.{after-append}
 use Rattle.zre_journal.proofs.Known.{end_all}
 use Rattle.zre_journal.proofs.Listed.{All-map}
 use Rattle.zre_journal.proofs.Room.{HasRoom}
+
+-- what comes about at an entry that stops the node
+pub at_end : (g : Config) (i : Input) (H K : List Mark) → is_end i ≡ true → at_input g i H K ≡ at_stop g K
+at_end g (input.Do command.Quit) H K z = refl
+at_end g input.End H K z = refl
+at_end g _ H K z = absurd cc
 
 -- ---- things of these numbers are taken out, one after the other
 

@@ -3,6 +3,7 @@ pub mod Chronicle
 pub mod Config
 pub mod Connections
 pub mod Done
+pub mod Endings
 pub mod Events
 pub mod Happens
 pub mod Heard

@@ -20,6 +20,7 @@ const DAY: u64 = 86400000;
 /// Who the node is, and how long it waits for the others.
 #[derive(Debug, Drop)]
 pub struct Config {
+    /// The identity by which other nodes know it.
     pub id: PeerId,
     /// The name that its HELLO gives, of at most 255 octets.
     pub name: Octets,

@@ -1,7 +1,9 @@
 //! Laws of what journals mean. The functions do nothing: what they ensure is for proofs.
 
 ghost use Rattle.std.specs.Prelude.{◌≡◌, ◌≤◌, ◌++◌, ◌∷◌, [], true, List};
+ghost use Rattle.std.specs.List.{list_any};
 ghost use Rattle.zre_outside.specs.declared.entry.Entry.{Entry};
+ghost use Rattle.zre_journal.specs.Endings.{is_end};
 ghost use Rattle.zre_journal.specs.declared.config.Config.{Config};
 ghost use Rattle.zre_journal.specs.Asked.{AreDue};
 ghost use Rattle.zre_journal.specs.Chronicle.{Mark};
@@ -23,6 +25,11 @@ pub fn journals_continue()
 /// After a stop nothing begins, ends, is told or is done.
 pub fn a_stop_is_the_end()
     ensures { (g : Config) (J K : List Entry) → has_stopped (chronicle g J) ≡ true → HasEnded g J K }
+{}
+
+/// A node has stopped only where an entry tells it to: the journal's end, or a quit.
+pub fn a_stop_is_told()
+    ensures { (g : Config) (J : List Entry) → CanBe g → has_stopped (chronicle g J) ≡ true → list_any (λ e. is_end e.input) J ≡ true }
 {}
 
 /// What holds of the chronicle of every journal: links are numbered by births, nothing has come about on a new link or

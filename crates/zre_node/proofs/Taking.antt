@@ -6,6 +6,7 @@ use Rattle.zre_outside.specs.declared.entry.Input.{Input}
 use Rattle.zre_outside.specs.declared.entry.Input.TheVariants as input
 use Rattle.zre_outside.specs.declared.entry.Command.TheVariants as command
 use Rattle.zre_outside.specs.declared.act.Act.TheVariants as act
+use Rattle.zre_journal.specs.Endings.{is_end}
 use Rattle.zre_journal.specs.declared.config.Config.{Config}
 use Rattle.zre_journal.specs.Chronicle.{Mark, Comes, after}
 use Rattle.zre_journal.specs.Done.{acts_at, done, offers, is_offered, names, puts}
@@ -17,7 +18,8 @@ use Rattle.zre_journal.specs.Peers.{Life, lives}
 use Rattle.zre_journal.specs.Told.{told}
 use Rattle.zre_node.specs.declared.effects.Effects.{Effects}
 use Rattle.zre_node.specs.declared.tables.Tables.{Tables}
-use Rattle.zre_node.specs.Kinds.{is_incoming, is_end}
+use Rattle.zre_journal.proofs.Stopping.{at_end}
+use Rattle.zre_node.specs.Kinds.{is_incoming}
 use Rattle.zre_node.specs.Journal.{StandsIn, Took}
 use Rattle.zre_node.specs.Links.{Notes}
 use Rattle.zre_node.specs.Offers.{offered}
@@ -112,10 +114,13 @@ unnamed_incoming (input.Opened c) e = (λ l. refl, refl)
 unnamed_incoming (input.Shut c) e = (λ l. refl, refl)
 unnamed_incoming _ e = absurd cc
 
+quiet_end : (i : Input) → is_end i ≡ true → is_quiet i ≡ true
+quiet_end input.End e = refl
+quiet_end (input.Do command.Quit) e = refl
+quiet_end _ e = absurd cc
+
 pub ending : (g : Config) (i : Input) (H K : List Mark) → is_end i ≡ true → (at_input g i H K ≡ at_stop g K) × (is_quiet i ≡ true)
-ending g input.End H K e = (refl, refl)
-ending g (input.Do command.Quit) H K e = (refl, refl)
-ending g _ H K e = absurd cc
+ending g i H K e = (at_end g i H K e, quiet_end i e)
 
 pub unnamed_piece : (e : Entry) (c : ℕ) (o : List ℕ) → e.input ≡ input.Piece c o → (l : ℕ) → names l e.input ≡ false
 unnamed_piece e c o is l = rw is refl

@@ -2,7 +2,6 @@
 use Rattle.std.specs.Prelude.{Bool, true, false}
 use Rattle.zre_outside.specs.declared.entry.Input.{Input}
 use Rattle.zre_outside.specs.declared.entry.Input.TheVariants as input
-use Rattle.zre_outside.specs.declared.entry.Command.TheVariants as command
 
 -- a datagram, or a connection that comes or goes
 abbrev pub is_incoming : Input → Bool
@@ -10,9 +9,3 @@ is_incoming (input.Datagram from o) = true
 is_incoming (input.Opened c) = true
 is_incoming (input.Shut c) = true
 is_incoming _ = false
-
--- the end of a journal, or the user's wish to leave
-abbrev pub is_end : Input → Bool
-is_end input.End = true
-is_end (input.Do command.Quit) = true
-is_end _ = false

@@ -22,14 +22,18 @@ use zre_zmtp::{FeedFault, SocketType, ZmtpFault, ready};
 /// What a live connection runs, and whom it introduced.
 #[derive(Clone, Copy)]
 pub struct Standing {
+    /// The link of the peer that it runs.
     pub run: Option<u64>,
+    /// Whom its READY introduced.
     pub identity: Option<PeerId>,
 }
 
 /// What a piece completes of what its connection says.
 #[derive(Drop)]
 pub struct Heard {
+    /// What is whole, in order.
     pub arrivals: Arrivals,
+    /// The fault that ends it, if there is one.
     pub fault: Option<ZmtpFault>,
 }
 

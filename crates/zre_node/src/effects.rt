@@ -17,15 +17,20 @@ use zre_values::{Keys, Octets, OutOfMemory, PeerId};
 /// What one entry brought about: what the user is told, and what the node asks of the outside.
 #[derive(Drop)]
 pub struct Step {
+    /// What the user is told, in order.
     pub events: Events,
+    /// What is asked of the outside, in order.
     pub acts: Acts,
 }
 
 /// The same while an entry is taken, with the links on which something was put.
 #[derive(Drop)]
 pub struct Effects {
+    /// What the user is told so far.
     pub events: Events,
+    /// What is asked of the outside so far.
     pub acts: Acts,
+    /// The links on which something was put, and the one that the entry names.
     pub pushed: Keys,
 }
 
@@ -41,12 +46,14 @@ impl Effects {
         }
     }
 
+    /// Asks for one more act.
     pub fn act(&mut self, act: Act) -> Result<(), OutOfMemory>
         ensures { OnOk result (self.new ≡ record self.old { acts = self.old.acts ++ act ∷ [] }) }
     {
         self.acts.push(act)
     }
 
+    /// Tells one more event.
     pub fn tell(&mut self, event: Event) -> Result<(), OutOfMemory>
         ensures { OnOk result (self.new ≡ record self.old { events = self.old.events ++ event ∷ [] }) }
     {
@@ -86,6 +93,7 @@ impl Effects {
         self.tell(Event::Ignored { conn, why })
     }
 
+    /// Sends octets back on a connection.
     pub fn answer(&mut self, conn: u64, bytes: Octets) -> Result<(), OutOfMemory>
         ensures { OnOk result (self.new ≡ record self.old { acts = self.old.acts ++ ActValue.Answer conn bytes ∷ [] }) }
     {
@@ -103,7 +111,7 @@ impl Effects {
     }
 }
 
-// The name that a peer has told, and none before its HELLO.
+/// The name that a peer has told, and none before its HELLO.
 pub fn name_of(alloc: Global, run: &Run) -> Result<Octets, OutOfMemory>
     ensures { (ms : List Message) → view_in run.now ≡ shown ms → IfOk result (λ name. name ≡ (view_of ms).name) }
 {

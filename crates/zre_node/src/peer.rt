@@ -10,18 +10,22 @@ use zre_values::PeerId;
 /// The run of an entered peer, and the connection that carries it.
 #[derive(Drop)]
 pub struct Running {
+    /// The number of the connection.
     pub conn: u64,
+    /// The messages that came on it.
     pub run: Run,
 }
 
 /// A known peer, by its link.
 #[derive(Drop)]
 pub struct Peer {
+    /// Its identity.
     pub id: PeerId,
     /// When it last showed that it is there.
     pub active: u64,
     /// There where it is entered.
     pub run: Option<Running>,
+    /// What is sent to it.
     pub link: Link,
 }
 

@@ -3,11 +3,12 @@
 ghost use Rattle.std.specs.Prelude.{◌≡◌, List, [], true, OnOk};
 ghost use Rattle.zre_outside.specs.declared.entry.Entry.{Entry as EntryValue};
 ghost use Rattle.zre_outside.specs.declared.entry.Input.TheVariants as given;
+ghost use Rattle.zre_journal.specs.Endings.{is_end};
 ghost use Rattle.zre_journal.specs.declared.config.Config.{Config};
 ghost use Rattle.zre_journal.specs.Chronicle.{Mark};
 ghost use Rattle.zre_journal.specs.Happens.{at_input, at_stop};
 ghost use Rattle.zre_node.specs.Journal.{Took};
-ghost use Rattle.zre_node.specs.Kinds.{is_incoming, is_end};
+ghost use Rattle.zre_node.specs.Kinds.{is_incoming};
 ghost use Rattle.zre_node.specs.Stands.{Holds, Did};
 
 use crate::effects::Effects;

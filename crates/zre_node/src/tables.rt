@@ -17,17 +17,25 @@ use zre_values::{Octets, OutOfMemory, PeerId};
 /// numbers.
 #[derive(Drop)]
 pub struct Tables {
+    /// What its lists take their memory from.
     pub alloc: Global,
+    /// Who the node is.
     pub config: Config,
     /// The endpoint that its HELLO names.
     pub mailbox: Octets,
+    /// The greatest reading so far.
     pub clock: u64,
+    /// How many peers were born, which is the number of the last link.
     pub births: u64,
     /// The greatest number of a connection that came.
     pub last: Option<u64>,
+    /// The known peers, by their links.
     pub peers: BTreeMap<u64, Peer>,
+    /// The open connections, by their numbers.
     pub conns: BTreeMap<u64, Connection>,
+    /// The groups that the node is in, with its status.
     pub own: Own,
+    /// Whether it has stopped, so that nothing has an effect any more.
     pub stopped: bool,
 }
 

@@ -36,17 +36,21 @@ module _ {K : Type 0} (items : K → List ℕ) where
       by true false q rest h = absurd (true≢false q)
       by false true q rest h = absurd (true≢false (sym q))
 
+  -- whether a name is there
+  pub name_there : (n : List ℕ) (es : List (K × List ℕ)) (whole : List (List ℕ × List ℕ)) → pairs_of es ≡ whole → is_some (lookup (λ k. bytes_eq n (items k)) es) ≡ list_any (λ pair. bytes_eq pair.0 n) whole
+  name_there n es whole is = found n es ∙ ap (list_any (λ pair. bytes_eq pair.0 n)) is
+
   -- a name that is there adds nothing
   pub header_there : (es : List (K × List ℕ)) (whole : List (List ℕ × List ℕ)) (n v : List ℕ) → pairs_of es ≡ whole → is_some (lookup (λ k. bytes_eq n (items k)) es) ≡ true → whole ≡ with_header whole (n, v)
   header_there es whole n v is there =
-      let any : list_any (λ pair. bytes_eq pair.0 n) whole ≡ true = ap (list_any (λ pair. bytes_eq pair.0 n)) (sym is) ∙ sym (found n es) ∙ there in
+      let any : list_any (λ pair. bytes_eq pair.0 n) whole ≡ true = sym (name_there n es whole is) ∙ there in
       sym (ap (λ b. if b then whole else whole ++ (n, v) ∷ []) any)
 
   -- and a new one goes last
   pub header_new : (es new : List (K × List ℕ)) (k : K) (w : List ℕ) (whole : List (List ℕ × List ℕ)) (n v : List ℕ) → pairs_of es ≡ whole → items k ≡ n → w ≡ v
       → is_some (lookup (λ k. bytes_eq n (items k)) es) ≡ false → new ≡ insert_entry (λ a b. bytes_eq (items a) (items b)) es k w → pairs_of new ≡ with_header whole (n, v)
   header_new es new k w whole n v is name value absent put_in =
-      let any : list_any (λ pair. bytes_eq pair.0 n) whole ≡ false = ap (list_any (λ pair. bytes_eq pair.0 n)) (sym is) ∙ sym (found n es) ∙ absent in
+      let any : list_any (λ pair. bytes_eq pair.0 n) whole ≡ false = sym (name_there n es whole is) ∙ absent in
       let none : named (items k) es ≡ false = ap (λ m. named m es) name ∙ sym (found n es) ∙ absent in
       ap pairs_of put_in ∙ put k w es none
       ∙ (λ i. is i ++ (name i, value i) ∷ [])

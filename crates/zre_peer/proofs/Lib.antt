@@ -5,3 +5,4 @@ pub mod Standing
 pub mod Named
 pub mod Tables
 pub mod Entries
+pub mod Growing

@@ -1,14 +1,15 @@
 -- A view within the limits, with a group more or less.
-use Rattle.std.proofs.Common.{◌≡◌, ℕ, ◌≤◌, Bool, true, false, cond, ◌&&◌, List, [], ◌∷◌, ◌++◌, length, ltb, leb, refl, sym, ap, ◌∙◌, arith, inl, inr}
+use Rattle.std.proofs.Common.{◌≡◌, ℕ, ◌≤◌, Bool, true, false, cond, ◌&&◌, ◌||◌, List, [], ◌∷◌, ◌++◌, length, ltb, leb, refl, sym, ap, ◌∙◌, arith, inl, inr}
 use Rattle.std.specs.List.{list_any, list_all}
 use Rattle.std.specs.Str.{bytes_eq}
-use Rattle.std.proofs.lemmas.Bool.{and_parts, and_from, leb-true, le-leb, ltb-true, lt-ltb, cases_Bool, both_ways}
+use Rattle.std.proofs.lemmas.Bool.{and_parts, and_from, or_right, leb-true, le-leb, ltb-true, lt-ltb, cases_Bool, both_ways, false≢true}
 use Rattle.std.proofs.lemmas.List.{length-append}
 use Rattle.std.proofs.lemmas.List.Folds.{list_all-append}
+use Rattle.std.proofs.lemmas.Slice.Eq.{bytes_eq-Decides}
 use Rattle.zre_values.specs.Lists.{without}
 use Rattle.zre_peer.specs.declared.view.View.{View}
 use Rattle.zre_msg.specs.declared.message.Body.TheVariants.{Join, Leave}
-use Rattle.zre_peer.specs.Members.{with_group}
+use Rattle.zre_peer.specs.Members.{are_few, with_group}
 use Rattle.zre_peer.specs.Views.{after, is_small}
 
 abbrev is_short : List ℕ → Bool
@@ -26,6 +27,14 @@ parts v e =
     let b = and_parts (leb (length v.groups) 1024) (list_all is_short v.groups) a.0 in
     record { count = leb-true _ _ b.0; short = b.1; named = leb-true _ _ a.1 }
 
+pub and_true : (b : Bool) → (b && true) ≡ b
+and_true true = refl
+and_true false = refl
+
+or_false : (b : Bool) → (b || false) ≡ b
+or_false true = refl
+or_false false = refl
+
 made : (v : View) → Parts v.groups v.headers → is_small v ≡ true
 unfolding is_small
 made v p = and_from (leb (length v.groups) 1024 && list_all is_short v.groups) (leb (length v.headers) 256) (and_from (leb (length v.groups) 1024) (list_all is_short v.groups) (le-leb _ _ p.count) p.short) (le-leb _ _ p.named)
@@ -36,26 +45,49 @@ same_tests true false f g = absurd (both_ways false refl (f refl))
 same_tests false true f g = absurd (both_ways false refl (g refl))
 same_tests false false f g = refl
 
-abbrev is_there : View → List ℕ → Bool
-is_there v g = list_any (λ x. bytes_eq x g) v.groups
+-- the groups of a view within the limits are
+pub groups_are_few : (v : View) → is_small v ≡ true → are_few v.groups ≡ true
+unfolding is_small
+groups_are_few v e = (and_parts (are_few v.groups) (leb (length v.headers) 256) e).0
 
-pub there_is_small : (v : View) (g : List ℕ) (s : ℕ) → is_small v ≡ true → is_there v g ≡ true → is_small (after v (Join g s)) ≡ true
-there_is_small v g s e there =
-    let p = parts v e in
-    let same : v.groups ≡ with_group v.groups g = sym (ap (λ b. cond b v.groups (v.groups ++ g ∷ [])) there) in
-    made (after v (Join g s)) (rw (← same) record { count = p.count; short = p.short; named = p.named })
+-- a JOIN is within the limits where the groups are
+pub joined_is_small : (v : View) (g : List ℕ) (s : ℕ) → is_small v ≡ true → are_few (with_group v.groups g) ≡ is_small (after v (Join g s))
+unfolding is_small
+joined_is_small v g s e =
+    let named = (and_parts (are_few v.groups) (leb (length v.headers) 256) e).1 in
+    sym (and_true (are_few (with_group v.groups g))) ∙ ap (λ b. are_few (with_group v.groups g) && b) (sym named)
 
-pub joined_is_small : (v : View) (g : List ℕ) (s : ℕ) → is_small v ≡ true → is_there v g ≡ false → (ltb (length v.groups) 1024 && is_short g) ≡ is_small (after v (Join g s))
-joined_is_small v g s e absent =
-    let p = parts v e in
-    let more : with_group v.groups g ≡ v.groups ++ g ∷ [] = ap (λ b. cond b v.groups (v.groups ++ g ∷ [])) absent in
-    same_tests (ltb (length v.groups) 1024 && is_short g) (is_small (after v (Join g s)))
-    (λ t. let q = and_parts (ltb (length v.groups) 1024) (is_short g) t in
-    let lt = ltb-true _ _ q.0 in
-    made (after v (Join g s)) (rw more record { count = omega (arith, length-append v.groups (g ∷ [])); short = list_all-append is_short v.groups (g ∷ []) ∙ and_from (list_all is_short v.groups) (list_all is_short (g ∷ [])) p.short (and_from (is_short g) true q.1 refl); named = p.named }))
-    (λ t. let q : Parts (v.groups ++ g ∷ []) v.headers = rw more at (parts (after v (Join g s)) t) in
-    let both = and_parts (list_all is_short v.groups) (list_all is_short (g ∷ [])) (sym (list_all-append is_short v.groups (g ∷ [])) ∙ q.short) in
-    and_from (ltb (length v.groups) 1024) (is_short g) (lt-ltb _ _ (omega (arith, q.count, length-append v.groups (g ∷ [])))) (and_parts (is_short g) true both.1).0)
+abbrev is_there : List (List ℕ) → List ℕ → Bool
+is_there groups g = list_any (λ x. bytes_eq x g) groups
+
+-- a group that is among short ones is short
+there_is_short : (g : List ℕ) (groups : List (List ℕ)) → list_all is_short groups ≡ true → is_there groups g ≡ true → is_short g ≡ true
+there_is_short g [] e there = absurd (false≢true there)
+there_is_short g (x ∷ xs) e there =
+    let p = and_parts (is_short x) (list_all is_short xs) e in
+    elim (cases_Bool (bytes_eq x g)) [
+      | inl t ↦ ap is_short (sym ((bytes_eq-Decides x g).0 t)) ∙ p.0
+      | inr f ↦ there_is_short g xs p.1 (ap (λ b. b || is_there xs g) (sym f) ∙ there)
+    ]
+
+-- whether the groups are few with one more
+pub few_with : (groups : List (List ℕ)) (g : List ℕ) → are_few groups ≡ true → (is_short g && (ltb (length groups) 1024 || is_there groups g)) ≡ are_few (with_group groups g)
+few_with groups g e =
+    let p = and_parts (leb (length groups) 1024) (list_all is_short groups) e in
+    elim (cases_Bool (is_there groups g)) [
+      | inl t ↦ and_from (is_short g) (ltb (length groups) 1024 || is_there groups g) (there_is_short g groups p.1 t) (or_right (ltb (length groups) 1024) (is_there groups g) t)
+          ∙ sym (ap are_few (ap (λ b. cond b groups (groups ++ g ∷ [])) t) ∙ e)
+      | inr f ↦ rw f (same_tests (is_short g && (ltb (length groups) 1024 || false)) (are_few (groups ++ g ∷ []))
+          (λ t. let q = and_parts (is_short g) (ltb (length groups) 1024 || false) t in
+          let lt = ltb-true (length groups) 1024 (sym (or_false (ltb (length groups) 1024)) ∙ q.1) in
+          and_from (leb (length (groups ++ g ∷ [])) 1024) (list_all is_short (groups ++ g ∷ [])) (le-leb _ _ (omega (arith, lt, length-append groups (g ∷ []))))
+          (list_all-append is_short groups (g ∷ []) ∙ and_from (list_all is_short groups) (list_all is_short (g ∷ [])) p.1 (and_from (is_short g) true q.0 refl)))
+          (λ t. let q = and_parts (leb (length (groups ++ g ∷ [])) 1024) (list_all is_short (groups ++ g ∷ [])) t in
+          let count = leb-true _ _ q.0 in
+          let both = and_parts (list_all is_short groups) (list_all is_short (g ∷ [])) (sym (list_all-append is_short groups (g ∷ [])) ∙ q.1) in
+          and_from (is_short g) (ltb (length groups) 1024 || false) (and_parts (is_short g) true both.1).0
+          (or_false (ltb (length groups) 1024) ∙ lt-ltb _ _ (omega (arith, count, length-append groups (g ∷ []))))))
+    ]
 
 length-without : (g : List ℕ) (groups : List (List ℕ)) → length (without g groups) ≤ length groups
 length-without g [] = omega arith

@@ -1,5 +1,6 @@
 -- The first message of a run.
-use Rattle.std.proofs.Common.{◌≡◌, Bool, true, false, cond, List, [], ◌∷◌, ◌++◌, Some, None, map, refl, sym, ap, ◌∙◌}
+use Rattle.std.proofs.Common.{◌≡◌, true, false, cond, ◌&&◌, List, [], ◌∷◌, ◌++◌, map, refl, sym, ap, ◌∙◌}
+use Rattle.std.specs.Prelude.{◌==◌}
 use Rattle.zre_values.specs.declared.peer_id.PeerId.{PeerId}
 use Rattle.zre_msg.specs.declared.message.Message.{Message}
 use Rattle.zre_msg.specs.declared.message.Body.{Body}
@@ -7,13 +8,11 @@ use Rattle.zre_msg.specs.declared.message.Body.TheVariants.{Hello, Whisper, Shou
 use Rattle.zre_peer.specs.declared.event.Event.{Event}
 use Rattle.zre_peer.specs.declared.event.Event.TheVariants as kinds
 use Rattle.zre_peer.specs.declared.view.View.{View}
+use Rattle.zre_peer.specs.declared.peer_run.RunFault.{RunFault}
 use Rattle.zre_peer.specs.declared.peer_run.RunFault.TheVariants as faults
 use Rattle.zre_peer.specs.Runs.{events_of, is_hello, may_follow, fault_of}
 use Rattle.zre_peer.specs.Views.{view_of, after, blank, is_small}
-
-pub chosen : (b : Bool) (v w : View) → Some v ≡ cond b (Some w) None → (b ≡ true) × (v ≡ w)
-chosen true v w e = (refl, cc)
-chosen false v w e = absurd cc
+use Rattle.zre_peer.proofs.Limits.{and_true}
 
 pub view_of_one : (m : Message) → view_of (m ∷ []) ≡ after blank m.body
 unfolding view_of
@@ -33,16 +32,17 @@ hello_tells id u Ping e = absurd cc
 hello_tells id u PingOk e = absurd cc
 hello_tells id u (Other number rest more) e = absurd cc
 
-pub first_refuses : (m : Message) (v : View) → Some v ≡ cond (is_hello m.body) (Some (after blank m.body)) None → m.sequence ≡ 1 → is_small v ≡ false
-    → (may_follow [] m ≡ false) × (faults.Limit ≡ fault_of [] m)
-first_refuses m v e number large =
-    let h = chosen (is_hello m.body) v (after blank m.body) e in
-    let view : is_small (view_of (m ∷ [])) ≡ false = rw (view_of_one m, ← h.1) large in
-    (rw (h.0, view, number) refl, rw (h.0, number) refl)
+pub first_refuses : (m : Message) (e : RunFault) → m.sequence ≡ 1 → ((is_hello m.body && is_small (after blank m.body)) ≡ false) × (e ≡ cond (is_hello m.body) faults.Limit faults.NotHello)
+    → (may_follow [] m ≡ false) × (e ≡ fault_of [] m)
+first_refuses m e number h =
+    let hello = is_hello m.body in
+    let view = view_of (m ∷ []) in (
+      ap (λ n. (hello && (n == 1)) && is_small view) number ∙ ap (λ b. b && is_small view) (and_true hello) ∙ ap (λ v. hello && is_small v) (view_of_one m) ∙ h.0,
+      h.1 ∙ sym (ap (λ n. cond (hello && (n == 1)) faults.Limit faults.NotHello) number ∙ ap (λ b. cond b faults.Limit faults.NotHello) (and_true hello)),
+    )
 
-pub first_accepts : (id : PeerId) (m : Message) (v : View) (before events : List Event) → Some v ≡ cond (is_hello m.body) (Some (after blank m.body)) None → m.sequence ≡ 1 → is_small v ≡ true → events ≡ before ++ told_of id v
+pub first_accepts : (id : PeerId) (m : Message) (v : View) (before events : List Event) → m.sequence ≡ 1 → (is_hello m.body ≡ true) × (v ≡ after blank m.body) × (is_small (after blank m.body) ≡ true) → events ≡ before ++ told_of id v
     → (may_follow [] m ≡ true) × (v ≡ view_of (m ∷ [])) × (events ≡ before ++ events_of id (view_of []) m.body)
-first_accepts id m v before events e number fits told =
-    let h = chosen (is_hello m.body) v (after blank m.body) e in
-    let view : is_small (view_of (m ∷ [])) ≡ true = rw (view_of_one m, ← h.1) fits in
+first_accepts id m v before events number h told =
+    let view : is_small (view_of (m ∷ [])) ≡ true = rw (view_of_one m) h.2 in
     (rw (h.0, view, number) refl, h.1 ∙ sym (view_of_one m), told ∙ ap (λ t. before ++ t) (ap (told_of id) h.1 ∙ sym (hello_tells id (view_of []) m.body h.0)))

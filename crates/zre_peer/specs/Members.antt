@@ -1,7 +1,8 @@
--- Groups and headers as lists without repeats.
-use Rattle.std.specs.Prelude.{ℕ, List, [], ◌∷◌, ◌++◌, if◌then◌else◌}
-use Rattle.std.specs.List.{fold, list_any}
+-- Groups and headers as lists without repeats, and how many groups there may be.
+use Rattle.std.specs.Prelude.{ℕ, Bool, ◌&&◌, nat_le, List, [], ◌∷◌, ◌++◌, length, if◌then◌else◌}
+use Rattle.std.specs.List.{fold, list_all, list_any}
 use Rattle.std.specs.Str.{bytes_eq}
+use Rattle.zre_values.specs.declared.limits.TheConstants.{GROUPS, GROUP_OCTETS}
 
 -- one more group, unless it is there
 abbrev pub with_group : List (List ℕ) → List ℕ → List (List ℕ)
@@ -10,6 +11,10 @@ with_group groups g = if list_any (λ x. bytes_eq x g) groups then groups else g
 -- the groups, each once, in the order of their first places
 abbrev pub distinct : List (List ℕ) → List (List ℕ)
 distinct groups = fold with_group [] groups
+
+-- groups within the limits of their number and of their names
+abbrev pub are_few : List (List ℕ) → Bool
+are_few groups = nat_le (length groups) GROUPS && list_all (λ g. nat_le (length g) GROUP_OCTETS) groups
 
 -- one more header, unless its name is there
 abbrev pub with_header : List (List ℕ × List ℕ) → List ℕ × List ℕ → List (List ℕ × List ℕ)

@@ -1,12 +1,12 @@
 -- The view that messages lead to, and its limits.
 use Rattle.std.specs.Prelude.{Bool, ◌&&◌, nat_le, List, [], length}
-use Rattle.std.specs.List.{fold, list_all}
+use Rattle.std.specs.List.{fold}
 use Rattle.zre_values.specs.Lists.{without}
-use Rattle.zre_values.specs.declared.limits.TheConstants.{GROUPS, GROUP_OCTETS, HEADERS}
+use Rattle.zre_values.specs.declared.limits.TheConstants.{HEADERS}
 use Rattle.zre_msg.specs.declared.message.Message.{Message}
 use Rattle.zre_msg.specs.declared.message.Body.{Body}
 use Rattle.zre_msg.specs.declared.message.Body.TheVariants.{Hello, Whisper, Shout, Join, Leave, Ping, PingOk, Other}
-use Rattle.zre_peer.specs.Members.{with_group, distinct, first_named}
+use Rattle.zre_peer.specs.Members.{are_few, with_group, distinct, first_named}
 use Rattle.zre_peer.specs.declared.view.View.{View}
 
 -- nothing told yet
@@ -30,4 +30,4 @@ view_of messages = fold (λ v m. after v m.body) blank messages
 
 -- a view within the limits of groups, of their names and of headers
 unfoldable pub is_small : View → Bool
-is_small v = nat_le (length v.groups) GROUPS && list_all (λ g. nat_le (length g) GROUP_OCTETS) v.groups && nat_le (length v.headers) HEADERS
+is_small v = are_few v.groups && nat_le (length v.headers) HEADERS

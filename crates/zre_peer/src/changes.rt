@@ -10,7 +10,6 @@ use crate::peer_run::RunFault;
 use crate::view::View;
 use std::alloc::Global;
 use zre_msg::Body;
-use zre_values::limits::{GROUP_OCTETS, GROUPS};
 use zre_values::{Octets, PeerId};
 
 // Whether the view stays within the limits with one more group.
@@ -18,10 +17,7 @@ pub(crate) fn can_join(view: &View, group: &[u8]) -> bool
     requires { is_small view.now ≡ true }
     ensures { (status : ℕ) → result ≡ is_small (after view.now (bodies.Join group.now status)) }
 {
-    if view.groups.contains(group) {
-        return true;
-    }
-    view.groups.len() < GROUPS && group.len() <= GROUP_OCTETS
+    view.groups.has_room(group)
 }
 
 /// Adds the group of a JOIN. After an error the view is as it was.

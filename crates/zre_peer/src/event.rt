@@ -103,12 +103,14 @@ impl Events {
         Ok(())
     }
 
+    /// How many there are.
     pub fn len(&self) -> usize
         ensures { result ≡ length self.now }
     {
         self.items.len()
     }
 
+    /// A member, by its place.
     pub fn get(&self, i: usize) -> &Event
         requires { i < length self.now }
         ensures { slice_get self.now i ≡ Some result.now }

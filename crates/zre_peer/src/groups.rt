@@ -1,13 +1,14 @@
-ghost use Rattle.std.specs.Prelude.{◌≡◌, ◌<◌, ◌≤◌, ℕ, List, [], ◌∷◌, ◌++◌, length, remove, OnOk, OnErr, MatchOption, slice_get, Some};
+ghost use Rattle.std.specs.Prelude.{◌≡◌, ◌<◌, ◌≤◌, ℕ, List, [], ◌∷◌, ◌++◌, length, remove, OnOk, OnErr, MatchOption, slice_get, Some, true};
 ghost use Rattle.std.specs.List.{list_any};
 ghost use Rattle.std.specs.Str.{bytes_eq};
 ghost use Rattle.zre_values.specs.Lists.{without};
-ghost use Rattle.zre_peer.specs.Members.{with_group};
+ghost use Rattle.zre_peer.specs.Members.{are_few, with_group};
 ghost use Rattle.zre_peer.specs.declared.groups.TheConstants.{FEW};
 
 use crate::group_table::GroupTable;
 use std::alloc::Global;
 use std::marker::Model;
+use zre_values::limits::{GROUP_OCTETS, GROUPS};
 use zre_values::{Frames, Octets, OutOfMemory};
 
 /// So many groups are looked through one by one.
@@ -40,12 +41,14 @@ impl Groups {
         }
     }
 
+    /// How many there are.
     pub fn len(&self) -> usize
         ensures { result ≡ length self.now }
     {
         self.few.len() + self.more.len()
     }
 
+    /// A group, in the order of joining.
     pub fn get(&self, i: usize) -> &[u8]
         requires { i < length self.now }
         ensures { slice_get self.now i ≡ Some result.now }
@@ -58,10 +61,19 @@ impl Groups {
         }
     }
 
+    /// Whether a group is there. A few are looked through, and further ones are found by their hash.
     pub fn contains(&self, group: &[u8]) -> bool
         ensures { result ≡ list_any (λ x. bytes_eq x group.now) self.now }
     {
         self.few.contains(group) || self.more.contains(group)
+    }
+
+    /// Whether the groups stay within the limits with one more. Where they are fewer than the limit, none is looked at.
+    pub fn has_room(&self, group: &[u8]) -> bool
+        requires { are_few self.now ≡ true }
+        ensures { result ≡ are_few (with_group self.now group.now) }
+    {
+        group.len() <= GROUP_OCTETS && (self.len() < GROUPS || self.contains(group))
     }
 
     /// Adds a group at the end, unless it is there. After an error nothing has changed.

@@ -1,9 +1,10 @@
-ghost use Rattle.std.specs.Prelude.{◌≡◌, ◌<◌, ℕ, List, [], ◌∷◌, ◌++◌, length, IfOk, OnOk, OnErr, map, slice_get, Some};
+ghost use Rattle.std.specs.Prelude.{◌≡◌, ◌<◌, ◌≤◌, ℕ, List, [], ◌∷◌, ◌++◌, length, IfOk, OnOk, OnErr, map, nat_le, slice_get, Some};
 ghost use Rattle.zre_peer.specs.Members.{with_header};
 
 use indexmap::IndexMap;
 use std::alloc::Global;
 use std::marker::Model;
+use zre_values::limits::HEADERS;
 use zre_values::{Octets, OutOfMemory, Pairs};
 
 /// The headers of a peer in the order in which it told them, of equal names the first. One is found by the hash of its
@@ -29,6 +30,7 @@ impl Headers {
         }
     }
 
+    /// How many there are, by distinct names.
     pub fn len(&self) -> usize
         ensures { result ≡ length self.now }
     {
@@ -42,6 +44,14 @@ impl Headers {
     {
         let (name, value) = self.named.get_index(i).unwrap();
         (name.as_slice(), value.as_slice())
+    }
+
+    /// Whether there are few enough with a header of this name. Where they are fewer than the limit, none is looked at.
+    pub fn has_room(&self, name: &[u8]) -> bool
+        requires { length self.now ≤ HEADERS }
+        ensures { (value : List ℕ) → result ≡ nat_le (length (with_header self.now (name.now, value))) HEADERS }
+    {
+        self.len() < HEADERS || self.named.contains_key(name)
     }
 
     /// Adds a header at the end, unless its name is there. After an error nothing has changed.

@@ -11,9 +11,13 @@ use zre_values::{Octets, OutOfMemory, PeerId};
 /// The words of events with who the peer is behind each, ready for the lines that begin with them.
 #[derive(Debug, Drop)]
 pub struct Heads {
+    /// Of JOIN.
     pub join: Octets,
+    /// Of LEAVE.
     pub leave: Octets,
+    /// Of WHISPER.
     pub whisper: Octets,
+    /// Of SHOUT.
     pub shout: Octets,
 }
 

@@ -1,19 +1,20 @@
 //! What a HELLO sets and tells.
 
-ghost use Rattle.std.specs.Prelude.{◌≡◌, ◌++◌, ◌∷◌, [], length, map, nat_le, IfOk, OnOk, Some, None, if◌then◌else◌};
-ghost use Rattle.std.specs.List.{list_all};
-ghost use Rattle.zre_peer.specs.Members.{distinct, first_named};
+ghost use Rattle.std.specs.Prelude.{◌≡◌, ◌≢◌, ◌&&◌, ◌++◌, ◌∷◌, [], length, map, nat_le, IfOk, IfErr, OnOk, true, false, if◌then◌else◌};
+ghost use Rattle.zre_peer.specs.Members.{are_few, distinct, first_named};
 ghost use Rattle.zre_peer.specs.Runs.{is_hello};
 ghost use Rattle.zre_peer.specs.Views.{after, blank, is_small};
 ghost use Rattle.zre_peer.specs.declared.event.Event.TheVariants as kinds;
+ghost use Rattle.zre_peer.specs.declared.peer_run.RunFault.TheVariants as faults;
+ghost use Rattle.zre_values.specs.declared.limits.TheConstants.{HEADERS};
 
 use crate::event::{Event, Events};
 use crate::groups::Groups;
 use crate::headers::Headers;
+use crate::peer_run::RunFault;
 use crate::view::View;
 use std::alloc::Global;
 use zre_msg::Body;
-use zre_values::limits::{GROUP_OCTETS, GROUPS, HEADERS};
 use zre_values::{Frames, Octets, OutOfMemory, Pairs, PeerId};
 
 pub(crate) fn is_hello(body: &Body) -> bool
@@ -25,69 +26,64 @@ pub(crate) fn is_hello(body: &Body) -> bool
     }
 }
 
-fn distinct_of(alloc: Global, groups: &Frames) -> Result<Groups, OutOfMemory>
-    ensures { IfOk result (λ found. found ≡ distinct groups.now) }
+// The groups that a HELLO names, each once. With the first that passes a limit the rest isn't looked at.
+fn distinct_of(alloc: Global, groups: &Frames) -> Result<Groups, RunFault>
+    ensures ok { IfOk result (λ found. (found ≡ distinct groups.now) × (are_few (distinct groups.now) ≡ true)) }
+    ensures refused { IfErr result (λ e. e ≢ RunFault.OutOfMemory → (e ≡ RunFault.Limit) × (are_few (distinct groups.now) ≡ false)) }
 {
     let mut found = Groups::new(alloc);
     for group in groups.as_slice() {
+        if !found.has_room(group.as_slice()) {
+            return Err(RunFault::Limit);
+        }
         found.insert(alloc, group.as_slice())?;
     }
     Ok(found)
 }
 
-fn first_named_of(alloc: Global, headers: &Pairs) -> Result<Headers, OutOfMemory>
-    ensures { IfOk result (λ found. found ≡ first_named headers.now) }
+// Its headers, of equal names the first, with the same rule.
+fn first_named_of(alloc: Global, headers: &Pairs) -> Result<Headers, RunFault>
+    ensures ok { IfOk result (λ found. (found ≡ first_named headers.now) × (nat_le (length (first_named headers.now)) HEADERS ≡ true)) }
+    ensures refused { IfErr result (λ e. e ≢ RunFault.OutOfMemory →
+        (e ≡ RunFault.Limit) × (nat_le (length (first_named headers.now)) HEADERS ≡ false)) }
 {
     let mut found = Headers::new(alloc);
     for header in headers.as_slice() {
-        found.insert(alloc, header.0.as_slice(), header.1.as_slice())?;
+        let (name, value) = (header.0.as_slice(), header.1.as_slice());
+        if !found.has_room(name) {
+            return Err(RunFault::Limit);
+        }
+        found.insert(alloc, name, value)?;
     }
     Ok(found)
 }
 
-/// The view that a HELLO sets; none for other messages.
-pub(crate) fn opened(alloc: Global, body: Body) -> Result<Option<View>, OutOfMemory>
-    ensures { IfOk result (λ view. view ≡ (if is_hello body then Some (after blank body) else None)) }
-{
-    match body {
-        Body::Hello {
-            endpoint,
-            groups,
-            status,
-            name,
-            headers,
-        } => {
-            let groups = distinct_of(alloc, &groups)?;
-            let headers = first_named_of(alloc, &headers)?;
-            Ok(Some(View {
-                name,
-                endpoint,
-                headers,
-                groups,
-                status,
-            }))
-        }
-        _ => Ok(None),
-    }
-}
-
-/// Whether a view is within the limits.
+/// The view that a HELLO sets. Another message sets none, and a view that would pass a limit isn't made.
 #[tactic(auto, unfolding(crate::specs::Views::is_small))]
-pub(crate) fn is_small(view: &View) -> bool
-    ensures { result ≡ is_small view.now }
+pub(crate) fn opened(alloc: Global, body: Body) -> Result<View, RunFault>
+    ensures ok { IfOk result (λ view. (is_hello body ≡ true) × (view ≡ after blank body) × (is_small (after blank body) ≡ true)) }
+    ensures refused { IfErr result (λ e. e ≢ RunFault.OutOfMemory →
+        ((is_hello body && is_small (after blank body)) ≡ false) × (e ≡ (if is_hello body then faults.Limit else faults.NotHello))) }
 {
-    view.groups.len() <= GROUPS && are_short(&view.groups) && view.headers.len() <= HEADERS
-}
-
-fn are_short(groups: &Groups) -> bool
-    ensures { result ≡ list_all (λ g. nat_le (length g) GROUP_OCTETS) groups.now }
-{
-    for i in 0..groups.len() {
-        if groups.get(i).len() > GROUP_OCTETS {
-            return false;
-        }
-    }
-    true
+    let Body::Hello {
+        endpoint,
+        groups,
+        status,
+        name,
+        headers,
+    } = body
+    else {
+        return Err(RunFault::NotHello);
+    };
+    let groups = distinct_of(alloc, &groups)?;
+    let headers = first_named_of(alloc, &headers)?;
+    Ok(View {
+        name,
+        endpoint,
+        headers,
+        groups,
+        status,
+    })
 }
 
 fn push_join(

@@ -26,6 +26,3 @@ pub use line::{push_line, push_lines};
 pub use peer_run::{Run, RunFault};
 pub use teller::Teller;
 pub use view::View;
-
-#[cfg(test)]
-mod tests;

@@ -12,7 +12,7 @@ ghost use Rattle.zre_peer.specs.Views.{after, blank, is_small, view_of};
 use crate::changes::change;
 use crate::event::Events;
 use crate::heads::Heads;
-use crate::hello::{is_hello, is_small, opened, tell_hello};
+use crate::hello::{is_hello, opened, tell_hello};
 use crate::telling::tell_change;
 use crate::view::View;
 use std::alloc::Global;
@@ -77,12 +77,6 @@ fn first(alloc: Global, id: PeerId, message: Message, events: &mut Events) -> Re
         return Err(RunFault::NotHello);
     }
     let view = opened(alloc, body)?;
-    let Some(view) = view else {
-        return Err(RunFault::NotHello);
-    };
-    if !is_small(&view) {
-        return Err(RunFault::Limit);
-    }
     tell_hello(alloc, id, &view, events)?;
     Ok(view)
 }

@@ -13,19 +13,23 @@ pub struct View {
     pub name: Octets,
     /// Where its mailbox is.
     pub endpoint: Octets,
+    /// What its HELLO says of it beside its name, by names.
     pub headers: Headers,
+    /// The groups that it is in.
     pub groups: Groups,
     /// The number of its joins and leaves, modulo 256, as it stated it last.
     pub status: u8,
 }
 
 impl View {
+    /// Its name, which may be any octets.
     pub fn name(&self) -> &[u8]
         ensures { result.now ≡ self.now.name }
     {
         self.name.as_slice()
     }
 
+    /// Where its mailbox is, as its HELLO says it.
     pub fn endpoint(&self) -> &[u8]
         ensures { result.now ≡ self.now.endpoint }
     {
@@ -47,12 +51,14 @@ impl View {
         self.headers.get(i)
     }
 
+    /// The number of its joins and leaves, modulo 256, as it stated it last.
     pub fn status(&self) -> u8
         ensures { result ≡ self.now.status }
     {
         self.status
     }
 
+    /// How many groups it is in.
     pub fn groups_len(&self) -> usize
         ensures { result ≡ length self.now.groups }
     {
@@ -67,6 +73,7 @@ impl View {
         self.groups.get(i)
     }
 
+    /// Whether it has told that it is in this group.
     pub fn in_group(&self, group: &[u8]) -> bool
         ensures { result ≡ list_any (λ x. bytes_eq x group.now) self.now.groups }
     {

@@ -1,0 +1,11 @@
+use Rattle.std.proofs.Common.{refl, sym, ap, ◌∙◌}
+use Rattle.zre_peer.specs.Members.{are_few, distinct, with_group}
+use Rattle.zre_peer.proofs.Growing.{many_ahead}
+use Rattle.zre_peer.proofs.hello.distinct_of.Goals as goal
+
+pub returns-then-not-has_room-clause-refused : goal.returns-then-not-has_room-clause-refused
+returns-then-not-has_room-clause-refused c = λ _. (
+  refl,
+  many_ahead c.loop-group.found (distinct c.args.groups.now) c.as_slice-group-items.result.now c.loop-group.group-index c.group-item.result c.loop-group-test.true c.group-item.is c.loop-group.invariant.0
+      (ap (λ g. are_few (with_group c.loop-group.found g)) (sym c.as_slice.ensures) ∙ sym c.has_room.ensures ∙ c.if-not-has_room.true),
+)

@@ -1,0 +1,12 @@
+use Rattle.std.proofs.Common.{length, leb, refl, sym, ap, ◌∙◌}
+use Rattle.zre_peer.specs.Members.{first_named, with_header}
+use Rattle.zre_peer.proofs.Growing.{named_ahead}
+use Rattle.zre_peer.proofs.hello.first_named_of.Goals as goal
+
+pub returns-then-not-has_room-clause-refused : goal.returns-then-not-has_room-clause-refused
+returns-then-not-has_room-clause-refused c = λ _.
+    let h = c.header-item.result in (
+      refl,
+      named_ahead c.loop-header.found (first_named c.args.headers.now) c.as_slice-header-items.result.now c.loop-header.header-index h c.loop-header-test.true c.header-item.is c.loop-header.invariant.0
+          (ap (λ n. leb (length (with_header c.loop-header.found (n, h.1))) 256) (sym c.as_slice-name.ensures) ∙ sym (c.has_room.ensures h.1) ∙ c.if-not-has_room.true),
+    )
