@@ -1,0 +1,458 @@
+//! The pipes with their callers, and the actor over worlds in memory: one after the other, and in threads of their own.
+
+ghost use Rattle.std.specs.Prelude.{◌≡◌, ◌+◌, ◌<◌, ◌^◌, ◌++◌, ◌∷◌, [], None, IsSome, IfOk, IfSome};
+ghost use Rattle.zre_tests.specs.Ready.{IsReady};
+ghost use Rattle.zre_actor.specs.Passes.{IsActorOf, IsCallerOf, IsTakerOf, AreCallersOf, given_of, room_of, unused_by, ending_of, ended, how_many, last_of};
+
+use zre_actor::{
+    ActorJob, ActorPass, CallerPass, CallerPasses, Ending, Full, Made, Pipes, TakerPass, Told,
+};
+use std::alloc::Global;
+use std::sync::{Arc, Wait};
+use std::test::Fail;
+use std::thread::{Threads, join};
+use zre_journal::Config;
+use zre_node::Node;
+use zre_outside::{Command, Script, Spawner, SureRecorder, SureWorld, ThreadSpawner, Turn};
+use zre_peer::Event;
+use zre_values::{Octets, OutOfMemory, Pairs, PeerId};
+
+/// Puts a command, and tries again while the pipe is full.
+fn put_again<R: Wait + Copy>(
+    rt: R,
+    pipes: &Pipes,
+    mut pass: CallerPass,
+    mut command: Command,
+) -> CallerPass
+    requires { IsCallerOf pipes.now pass }
+    ensures pipes { IsCallerOf pipes.now result }
+    ensures ended { ended result ≡ ended pass }
+{
+    for _ in rt.forever() {
+        match pipes.put(rt, pass, command) {
+            Ok(done) => return done,
+            Err(full) => {
+                let Full {
+                    pass: back,
+                    command: again,
+                } = full;
+                pass = back;
+                command = again;
+            }
+        }
+    }
+    unreachable!()
+}
+
+/// One more, where the node told that it stopped.
+fn with_stop(stops: u64, event: &Event) -> u64 {
+    match event {
+        Event::Stop => stops.saturating_add(1),
+        _ => stops,
+    }
+}
+
+/// Takes events until Last. How often the node told that it stopped, and the ending.
+fn take_all<R: Wait + Copy>(rt: R, pipes: &Pipes, mut taker: TakerPass) -> (TakerPass, u64, Ending)
+    requires pipes { IsTakerOf pipes.now taker }
+    requires open { last_of taker ≡ None }
+    ensures pipes { IsTakerOf pipes.now result.0 }
+    ensures last { IsSome (last_of result.0) }
+{
+    let mut stops: u64 = 0;
+    for _ in rt.forever() {
+        let (pass, told) = pipes.take(rt, taker);
+        match told {
+            Told::Last(ending) => return (pass, stops, ending),
+            Told::Event(event) => {
+                stops = with_stop(stops, &event);
+                taker = pass;
+            }
+        }
+    }
+    unreachable!()
+}
+
+fn node_of(alloc: Global) -> Result<Option<Node>, OutOfMemory> {
+    let config = Config {
+        id: PeerId([7; 16]),
+        name: Octets::copy(alloc, b"Me")?,
+        headers: Pairs::new(alloc),
+        host: [10, 0, 0, 1],
+        port: 49153,
+        evasive: 5000,
+        expired: 30000,
+    };
+    if config.valid() {
+        Ok(Some(Node::new(alloc, config)?))
+    } else {
+        Ok(None)
+    }
+}
+
+/// So many looks, and then the end.
+fn looks(alloc: Global, n: u64) -> Result<SureWorld, OutOfMemory> {
+    let mut script = Script::new(alloc);
+    for _ in 0..n {
+        script.push(Turn::Look)?;
+    }
+    Ok(SureWorld::new(alloc, script))
+}
+
+/// The first caller joins and leaves a group, and the second asks to leave the network: each with a pass of its own.
+fn talk_apart<R: Wait + Copy>(
+    rt: R,
+    pipes: &Pipes,
+    mut callers: CallerPasses,
+    first: CallerPass,
+    second: CallerPass,
+    groups: (Octets, Octets),
+) -> CallerPasses
+    requires pipes { IsCallerOf pipes.now first × IsCallerOf pipes.now second }
+    requires new { (ended first ≡ []) × (ended second ≡ []) }
+    requires callers { (given_of callers ≡ []) × (1 < room_of callers) }
+    ensures pipes { AreCallersOf pipes.now (given_of result) }
+    ensures many { how_many (given_of result) ≡ 2 }
+{
+    let first = put_again(rt, pipes, first, Command::Join { group: groups.0 });
+    let first = put_again(rt, pipes, first, Command::Leave { group: groups.1 });
+    let second = put_again(rt, pipes, second, Command::Quit);
+    callers.give(first);
+    callers.give(second);
+    callers
+}
+
+/// The same, but the second takes in the first one's pass before it asks.
+fn talk_absorbed<R: Wait + Copy>(
+    rt: R,
+    pipes: &Pipes,
+    mut callers: CallerPasses,
+    first: CallerPass,
+    second: CallerPass,
+    groups: (Octets, Octets),
+) -> CallerPasses
+    requires pipes { IsCallerOf pipes.now first × IsCallerOf pipes.now second }
+    requires new { (ended first ≡ []) × (ended second ≡ []) }
+    requires callers { (given_of callers ≡ []) × (1 < room_of callers) }
+    ensures pipes { AreCallersOf pipes.now (given_of result) }
+    ensures many { how_many (given_of result) ≡ 2 }
+{
+    let first = put_again(rt, pipes, first, Command::Join { group: groups.0 });
+    let first = put_again(rt, pipes, first, Command::Leave { group: groups.1 });
+    let both = pipes.absorb(rt, second, first);
+    callers.give(put_again(rt, pipes, both, Command::Quit));
+    callers
+}
+
+fn talk<R: Wait + Copy>(
+    rt: R,
+    pipes: &Pipes,
+    callers: CallerPasses,
+    first: CallerPass,
+    second: CallerPass,
+    groups: (Octets, Octets),
+    absorbs: bool,
+) -> CallerPasses
+    requires pipes { IsCallerOf pipes.now first × IsCallerOf pipes.now second }
+    requires new { (ended first ≡ []) × (ended second ≡ []) }
+    requires callers { (given_of callers ≡ []) × (1 < room_of callers) }
+    ensures pipes { AreCallersOf pipes.now (given_of result) }
+    ensures many { how_many (given_of result) ≡ 2 }
+{
+    if absorbs {
+        talk_absorbed(rt, pipes, callers, first, second, groups)
+    } else {
+        talk_apart(rt, pipes, callers, first, second, groups)
+    }
+}
+
+/// Pipes whose two callers' passes were taken, before any step.
+#[derive(Drop)]
+struct Ready {
+    pipes: Pipes,
+    actor: ActorPass,
+    callers: CallerPasses,
+    first: CallerPass,
+    second: CallerPass,
+    taker: TakerPass,
+}
+
+fn make_ready(alloc: Global) -> Result<Option<Ready>, OutOfMemory>
+    ensures { IfOk result (λ o. IfSome o (λ s. IsReady s.pipes s.actor s.callers s.first s.second s.taker)) }
+{
+    let Made {
+        pipes,
+        actor,
+        mut callers,
+        taker,
+    } = Pipes::make(alloc, 2)?;
+    let Some(second) = callers.take() else {
+        return Ok(None);
+    };
+    let Some(first) = callers.take() else {
+        return Ok(None);
+    };
+    Ok(Some(Ready {
+        pipes,
+        actor,
+        callers,
+        first,
+        second,
+        taker,
+    }))
+}
+
+/// What an actor works with: a node, and a world of three looks. And the groups that the callers name.
+#[derive(Drop)]
+struct Stand {
+    node: Node,
+    world: SureWorld,
+    rec: SureRecorder,
+    groups: (Octets, Octets),
+}
+
+fn make_stand(alloc: Global) -> Result<Option<Stand>, OutOfMemory> {
+    let Some(node) = node_of(alloc)? else {
+        return Ok(None);
+    };
+    Ok(Some(Stand {
+        node,
+        world: looks(alloc, 3)?,
+        rec: SureRecorder::new(alloc),
+        groups: (Octets::copy(alloc, b"g")?, Octets::copy(alloc, b"g")?),
+    }))
+}
+
+/// The callers put, then the actor works, then the taker takes. How often the node stopped, the ending, and what was left.
+fn one_by_one<R: Wait + Copy>(
+    rt: R,
+    ready: Ready,
+    stand: Stand,
+    limit: u64,
+    absorbs: bool,
+) -> (u64, Ending, u32)
+    requires { IsReady ready.pipes ready.actor ready.callers ready.first ready.second ready.taker }
+{
+    let Ready {
+        pipes,
+        actor,
+        callers,
+        first,
+        second,
+        taker,
+    } = ready;
+    let Stand {
+        node,
+        world,
+        rec,
+        groups,
+    } = stand;
+    let callers = talk(rt, &pipes, callers, first, second, groups, absorbs);
+    let worked = pipes.work(rt, world, node, actor, rec, false, limit);
+    let (taker, stops, ending) = take_all(rt, &pipes, taker);
+    let finished = pipes.finish(rt, worked.pass, callers, taker);
+    (stops, ending, finished.left)
+}
+
+/// What two callers do, each in a thread of its own.
+fn both_talk<R: Threads + Wait + Send + Copy>(
+    rt: R,
+    pipes: &Pipes,
+    first: CallerPass,
+    second: CallerPass,
+    groups: (Octets, Octets),
+) -> (CallerPass, CallerPass)
+    requires pipes { IsCallerOf pipes.now first × IsCallerOf pipes.now second }
+    ensures pipes { IsCallerOf pipes.now result.0 × IsCallerOf pipes.now result.1 }
+    ensures ended { (ended result.0 ≡ ended first) × (ended result.1 ≡ ended second) }
+{
+    join(
+        &rt,
+        move ||
+            requires { IsCallerOf pipes.now first }
+            ensures { IsCallerOf pipes.entry.now result × (ended result ≡ ended first) }
+        {
+            let first = put_again(rt, pipes, first, Command::Join { group: groups.0 });
+            put_again(rt, pipes, first, Command::Leave { group: groups.1 })
+        },
+        move ||
+            requires { IsCallerOf pipes.now second }
+            ensures { IsCallerOf pipes.entry.now result × (ended result ≡ ended second) }
+        { put_again(rt, pipes, second, Command::Quit) },
+    )
+}
+
+/// The callers put and the taker takes, side by side, and the passes come back.
+fn talk_and_take<R: Threads + Wait + Send + Copy>(
+    rt: R,
+    pipes: &Pipes,
+    first: CallerPass,
+    second: CallerPass,
+    taker: TakerPass,
+    groups: (Octets, Octets),
+) -> ((CallerPass, CallerPass), (TakerPass, u64, Ending))
+    requires pipes { IsCallerOf pipes.now first × IsCallerOf pipes.now second × IsTakerOf pipes.now taker }
+    requires open { last_of taker ≡ None }
+    ensures pipes { IsCallerOf pipes.now result.0.0 × IsCallerOf pipes.now result.0.1 × IsTakerOf pipes.now result.1.0 }
+    ensures ended { (ended result.0.0 ≡ ended first) × (ended result.0.1 ≡ ended second) }
+    ensures last { IsSome (last_of result.1.0) }
+{
+    join(
+        &rt,
+        move ||
+            requires { IsCallerOf pipes.now first × IsCallerOf pipes.now second }
+            ensures { IsCallerOf pipes.entry.now result.0 × IsCallerOf pipes.entry.now result.1 × (ended result.0 ≡ ended first) × (ended result.1 ≡ ended second) }
+        { both_talk(rt, pipes, first, second, groups) },
+        move ||
+            requires { IsTakerOf pipes.now taker × (last_of taker ≡ None) }
+            ensures { IsTakerOf pipes.entry.now result.0 × IsSome (last_of result.0) }
+        { take_all(rt, pipes, taker) },
+    )
+}
+
+/// Two callers, the actor and the taker, each in a thread of its own, to the end. Nothing where the actor wasn't started.
+fn side_by_side<P: Spawner>(
+    rt: P::Runtime,
+    spawner: &mut P,
+    ready: Ready,
+    stand: Stand,
+    limit: u64,
+) -> Result<Option<(u64, Ending, u32)>, OutOfMemory>
+    requires { IsReady ready.pipes ready.actor ready.callers ready.first ready.second ready.taker }
+{
+    let Ready {
+        pipes,
+        actor,
+        mut callers,
+        first,
+        second,
+        taker,
+    } = ready;
+    let pipes = Arc::new(spawner.alloc(), pipes)?;
+    let Ok(running) = spawner.start(ActorJob {
+        pipes: Arc::try_clone(&pipes)?,
+        world: stand.world,
+        node: stand.node,
+        pass: actor,
+        rec: stand.rec,
+        keep: false,
+        limit,
+    }) else {
+        return Ok(None);
+    };
+    let ((first, second), (taker, stops, ending)) = talk_and_take(
+        rt,
+        &pipes,
+        first,
+        second,
+        taker,
+        stand.groups,
+    );
+    let worked = running.join(rt);
+    callers.give(first);
+    callers.give(second);
+    let finished = pipes.finish(rt, worked.pass, callers, taker);
+    Ok(Some((stops, ending, finished.left)))
+}
+
+/// Puts so many commands. How many came back, and the number of the last of them.
+fn put_many<R: Wait + Copy>(rt: R, pipes: &Pipes, mut pass: CallerPass, count: u64) -> (u64, u64)
+    requires { IsCallerOf pipes.now pass }
+{
+    let mut fulls: u64 = 0;
+    let mut last = 0;
+    for line in 0..count {
+        match pipes.put(rt, pass, Command::Bad { line }) {
+            Ok(back) => pass = back,
+            Err(full) => {
+                fulls = fulls.saturating_add(1);
+                last = line_of(&full.command);
+                pass = full.pass;
+            }
+        }
+    }
+    (fulls, last)
+}
+
+fn line_of(command: &Command) -> u64 {
+    match command {
+        Command::Bad { line } => *line,
+        _ => 0,
+    }
+}
+
+#[test]
+fn a_full_pipe_gives_the_command_back(rt: HostRuntime) -> Result<(), Fail> {
+    let Some(Ready { pipes, first, .. }) = make_ready(rt.alloc())? else {
+        assert!(rt; false, "there are two callers");
+        return Ok(());
+    };
+    assert_eq!(rt; put_many(rt, &pipes, first, 1025), (1, 1024));
+    Ok(())
+}
+
+/// How long a run may be, and how it ends.
+struct Run {
+    limit: u64,
+    absorbs: bool,
+    ends: (u64, Ending, u32),
+}
+
+static RUNS: [Run; 4] = [
+    Run {
+        limit: 100,
+        absorbs: false,
+        ends: (1, Ending::Stopped, 0),
+    },
+    Run {
+        limit: 100,
+        absorbs: true,
+        ends: (1, Ending::Stopped, 0),
+    },
+    Run {
+        limit: 1,
+        absorbs: false,
+        ends: (0, Ending::TooLong, 3),
+    },
+    Run {
+        limit: 1,
+        absorbs: true,
+        ends: (0, Ending::TooLong, 3),
+    },
+];
+
+#[test]
+fn two_callers_and_the_actor_one_by_one(rt: HostRuntime) -> Result<(), Fail> {
+    for run in &RUNS {
+        let ready = make_ready(rt.alloc())?;
+        let stand = make_stand(rt.alloc())?;
+        let (Some(ready), Some(stand)) = (ready, stand) else {
+            assert!(rt; false, "there are two callers and a node");
+            return Ok(());
+        };
+        assert_eq!(rt;
+            one_by_one(rt, ready, stand, run.limit, run.absorbs),
+            run.ends
+        );
+    }
+    Ok(())
+}
+
+#[test]
+fn two_callers_the_actor_and_the_taker_side_by_side(rt: HostRuntime) -> Result<(), Fail> {
+    let mut spawner = ThreadSpawner::new(rt, rt.alloc());
+    let ready = make_ready(rt.alloc())?;
+    let stand = make_stand(rt.alloc())?;
+    let (Some(ready), Some(stand)) = (ready, stand) else {
+        assert!(rt; false, "there are two callers and a node");
+        return Ok(());
+    };
+    let Some((stops, ending, left)) = side_by_side(rt, &mut spawner, ready, stand, 1000000000000)?
+    else {
+        assert!(rt; false, "the actor starts");
+        return Ok(());
+    };
+    assert_eq!(rt; (stops, ending), (1, Ending::Stopped));
+    assert!(rt; left <= 2);
+    Ok(())
+}
