@@ -1,7 +1,6 @@
 ghost use Rattle.std.specs.Prelude.{◌≡◌, ◌≤◌, true, None, Some, IfOk, OnErr};
-ghost use Rattle.zre_outside.specs.Causes.{raised};
 ghost use Rattle.zre_outside.specs.Worlds.{IsTurn, is_look};
-ghost use Rattle.zre_fabric.specs.Pieces.{IsShort, TurnIsShort};
+ghost use Rattle.zre_fabric.specs.Pieces.{TurnIsShort};
 ghost use Rattle.zre_fabric.specs.Readings.{IsReadAt};
 ghost use Rattle.zre_fabric.specs.Rows.{is_full, entries_behind, commands_behind};
 

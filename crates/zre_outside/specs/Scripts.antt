@@ -132,6 +132,7 @@ sure_seen_by w = log_of w.stage
 abbrev pub sure_has_looked : SureWorld → Bool
 sure_has_looked w = w.stage.looked
 
+-- the same of a world that never fails
 pub record SureWaits (old new : SureWorld) : Type 0 where
   pub left : sure_script_left new ≡ sure_script_left old
   pub reading : sure_reading_of new ≡ sure_reading_of old

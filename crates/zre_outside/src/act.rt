@@ -55,12 +55,14 @@ impl Acts {
         Ok(())
     }
 
+    /// How many acts there are.
     pub fn len(&self) -> usize
         ensures { result ≡ length self.now }
     {
         self.items.len()
     }
 
+    /// The member at `i`, counted from 0.
     pub fn get(&self, i: usize) -> &Act
         requires { i < length self.now }
         ensures { slice_get self.now i ≡ Some result.now }

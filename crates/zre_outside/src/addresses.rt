@@ -37,12 +37,14 @@ impl Addresses {
         Ok(())
     }
 
+    /// How many addresses there are.
     pub fn len(&self) -> usize
         ensures { result ≡ length self.now }
     {
         self.items.len()
     }
 
+    /// The member at `i`, counted from 0.
     pub fn get(&self, i: usize) -> &[u8; 4]
         requires { i < length self.now }
         ensures { slice_get self.now i ≡ Some result.now }

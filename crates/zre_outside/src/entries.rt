@@ -46,12 +46,14 @@ impl Entries {
         Ok(())
     }
 
+    /// How many entries there are.
     pub fn len(&self) -> usize
         ensures { result ≡ length self.now }
     {
         self.items.len()
     }
 
+    /// The member at `i`, counted from 0.
     pub fn get(&self, i: usize) -> &Entry
         requires { i < length self.now }
         ensures { slice_get self.now i ≡ Some result.now }

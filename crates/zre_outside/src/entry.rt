@@ -50,6 +50,8 @@ pub enum Input {
 /// One entry of a journal: something that happened, and the clock's reading in milliseconds as the node was told.
 #[derive(Drop)]
 pub struct Entry {
+    /// The clock's reading in milliseconds.
     pub at: u64,
+    /// What happened.
     pub input: Input,
 }

@@ -1,7 +1,5 @@
-ghost use Rattle.std.specs.Prelude.{◌≡◌, ◌≤◌, false, true, None, [], option_map, is_ok, OnOk, OnErr, IsErrOf};
-ghost use Rattle.std.specs.Io.KnownBytes.{Keeps, Appends};
+ghost use Rattle.std.specs.Prelude.{◌≡◌, ◌≤◌, false, true, None, is_ok, IsErrOf};
 ghost use Rattle.zre_outside.specs.Causes.{Rose, is_failed, counted};
-ghost use Rattle.zre_outside.specs.Told.{AppendsFront};
 
 use crate::{NextFault, Recorder};
 use std::fs;

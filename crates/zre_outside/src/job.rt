@@ -9,6 +9,7 @@ pub trait Task: Send + Drop + 'static {
 
 /// A piece of work for a thread of its own, which is handed a runtime of this kind.
 pub trait Job<R>: Task {
+    /// Does the work.
     fn run(self, rt: R) -> Self::Out
         ensures { Self.means self result };
 }

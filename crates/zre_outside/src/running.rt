@@ -44,5 +44,6 @@ impl<J: Task> Running<J> {
 /// A job that wasn't started.
 #[derive(Drop)]
 pub struct Refused<J: Task> {
+    /// The job, as it was handed in.
     pub job: J,
 }

@@ -40,12 +40,14 @@ impl Script {
         Ok(())
     }
 
+    /// How many turns there are.
     pub fn len(&self) -> usize
         ensures { result ≡ length self.now }
     {
         self.items.len()
     }
 
+    /// The member at `i`, counted from 0.
     pub fn get(&self, i: usize) -> &Turn
         requires { i < length self.now }
         ensures { slice_get self.now i ≡ Some result.now }

@@ -1,4 +1,4 @@
-ghost use Rattle.std.specs.Prelude.{◌≡◌, ◌≤◌, ℕ, Bool, true, not, List, Option, option_map, is_err, OnErr, IfOk, IfErr};
+ghost use Rattle.std.specs.Prelude.{◌≡◌, ◌≤◌, ℕ, true, not, List, Option, option_map, is_err, OnErr, IfOk, IfErr};
 ghost use Rattle.zre_outside.specs.Causes.{Rose, raised, counted};
 ghost use Rattle.zre_outside.specs.Spawners.{job_of, is_listed};
 
