@@ -1,33 +1,23 @@
--- Fronts of commands, with and without their quits.
+-- Fronts of commands, and the quit at their end.
 use Rattle.std.proofs.Common.{◌≡◌, Bool, true, false, true≢false, cond, List, [], ◌∷◌, ◌++◌, map, refl, sym, ap, ◌∙◌, subst, append_assoc, append-nil}
-use Rattle.std.specs.Prelude.{◌||◌, not}
+use Rattle.std.specs.Prelude.{◌||◌, ◌⊎◌, ℕ}
 use Rattle.std.specs.List.{list_any}
 use Rattle.std.proofs.lemmas.List.{map-append}
 use Rattle.std.proofs.lemmas.List.Folds.{list_any-append}
+use mathlib.Core.Logic.{inl, inr}
 use mathlib.Core.List.{IsPrefix}
 use Rattle.zre_outside.specs.declared.entry.Command.{Command}
 use Rattle.zre_outside.specs.declared.entry.Command.TheVariants.{Join, Leave, Whisper, Shout, Bad, Quit}
 use Rattle.zre_actor.specs.Work.{QuitsLast}
-use Rattle.zre_typist.specs.Orders.{is_quit, through_quit}
-use Rattle.zre_chat.specs.Chat.{but_quits}
+use Rattle.zre_typist.specs.Orders.{is_quit, through_quit, orders, Begins}
+use Rattle.zre_input.specs.Putting.{IsShort, IsClose}
+use Rattle.zre_input.specs.Reading.{BreaksOff}
 
 pub prefix_self : {X : Type 0} (xs : List X) → IsPrefix xs xs
 prefix_self xs = ([], append-nil xs)
 
 pub prefix_trans : {X : Type 0} (xs ys zs : List X) → IsPrefix xs ys → IsPrefix ys zs → IsPrefix xs zs
 prefix_trans xs ys zs p q = (p.0 ++ q.0, sym (append_assoc xs p.0 q.0) ∙ ap (λ l. l ++ q.0) p.1 ∙ q.1)
-
-pub but_quits-append : (xs ys : List Command) → but_quits (xs ++ ys) ≡ but_quits xs ++ but_quits ys
-but_quits-append [] ys = refl
-but_quits-append (c ∷ xs) ys = by (but_quits-append xs ys) (not (is_quit c))
-  where
-    by : but_quits (xs ++ ys) ≡ but_quits xs ++ but_quits ys → (b : Bool) → cond b (c ∷ but_quits (xs ++ ys)) (but_quits (xs ++ ys)) ≡ cond b (c ∷ but_quits xs) (but_quits xs) ++ but_quits ys
-    by rest true = ap (λ l. c ∷ l) rest
-    by rest false = rest
-
--- a front stays a front without the quits
-pub but_quits-prefix : (xs ys : List Command) → IsPrefix xs ys → IsPrefix (but_quits xs) (but_quits ys)
-but_quits-prefix xs ys p = (but_quits p.0, sym (but_quits-append xs p.0) ∙ ap but_quits p.1)
 
 pub map-prefix : {X Y : Type 0} (f : X → Y) (xs ys : List X) → IsPrefix xs ys → IsPrefix (map f xs) (map f ys)
 map-prefix f [] ys p = (map f ys, refl)
@@ -79,3 +69,88 @@ none_front cs all (rest, is) none = by (list_any is_quit cs) refl (sym (list_any
     by : (b : Bool) → list_any is_quit cs ≡ b → (list_any is_quit cs || list_any is_quit rest) ≡ false → list_any is_quit cs ≡ false
     by true is_true both = absurd (true≢false (sym (ap (λ x. x || list_any is_quit rest) is_true) ∙ both))
     by false is_false both = is_false
+
+-- ---- what breaks off the orders
+
+-- a front of what is fewer is fewer
+pub short_front : (xs ys all : List Command) → IsPrefix xs ys → IsShort ys all → IsShort xs all
+short_front xs ys all ([], is) (next, rest, e) = (next, rest, e ∙ ap (λ l. l ++ next ∷ rest) (sym is ∙ append-nil xs))
+short_front xs ys all (d ∷ ds, is) (next, rest, e) = (d, ds ++ next ∷ rest, e ∙ ap (λ l. l ++ next ∷ rest) (sym is) ∙ append_assoc xs (d ∷ ds) (next ∷ rest))
+
+-- what begins the orders in front of their quit, and a front of that
+pub begins_front : (xs ys : List Command) (o : List ℕ) → IsPrefix xs ys → Begins ys o → Begins xs o
+begins_front xs ys o p b = record {
+  rest = p.0 ++ b.rest;
+  parts = b.parts ∙ ap (λ l. l ++ (b.rest ++ Quit ∷ [])) (sym p.1) ∙ append_assoc xs p.0 (b.rest ++ Quit ∷ []) ∙ ap (λ l. xs ++ l) (sym (append_assoc p.0 b.rest (Quit ∷ [])));
+}
+
+-- a front of a list and more is a front of the list, or all of it and a front of the rest
+front_cut : (xs ys zs : List Command) → IsPrefix xs (ys ++ zs) → IsPrefix xs ys ⊎ ((more : List Command) × (xs ≡ ys ++ more) × IsPrefix more zs)
+front_cut xs [] zs p = inr (xs, refl, p)
+front_cut [] (y ∷ ys) zs p = inl (y ∷ ys, refl)
+front_cut (x ∷ xs) (y ∷ ys) zs p = by (front_cut xs ys zs (p.0, tail_same))
+  where
+    head : List Command → Command
+    head [] = x
+    head (c ∷ cs) = c
+
+    tail : List Command → List Command
+    tail [] = []
+    tail (c ∷ cs) = cs
+
+    tail_same : xs ++ p.0 ≡ ys ++ zs
+    tail_same = ap tail p.1
+
+    same : x ≡ y
+    same = ap head p.1
+
+    by : IsPrefix xs ys ⊎ ((more : List Command) × (xs ≡ ys ++ more) × IsPrefix more zs) → IsPrefix (x ∷ xs) (y ∷ ys) ⊎ ((more : List Command) × (x ∷ xs ≡ (y ∷ ys) ++ more) × IsPrefix more zs)
+    by (inl q) = inl (q.0, (λ i. same i ∷ q.1 i))
+    by (inr (more, is, q)) = inr (more, (λ i. same i ∷ is i), q)
+
+close_front : (xs zs : List Command) → IsClose zs → IsPrefix xs zs → IsClose xs
+close_front [] zs c p = inl refl
+close_front (x ∷ []) zs (inl is) p = absurd (let e : x ∷ p.0 ≡ [] = p.1 ∙ is in cc)
+close_front (x ∷ []) zs (inr is) p = inr (ap (λ c. c ∷ []) (first (p.1 ∙ is)))
+  where
+    head : List Command → Command
+    head [] = x
+    head (c ∷ cs) = c
+
+    first : x ∷ p.0 ≡ Quit ∷ [] → x ≡ Quit
+    first e = ap head e
+close_front (x ∷ y ∷ xs) zs (inl is) p = absurd (let e : x ∷ (y ∷ (xs ++ p.0)) ≡ [] = p.1 ∙ is in cc)
+close_front (x ∷ y ∷ xs) zs (inr is) p = absurd (let e : x ∷ (y ∷ (xs ++ p.0)) ≡ Quit ∷ [] = p.1 ∙ is in cc)
+
+-- a front of what breaks off breaks off
+pub breaks_front : (xs ys : List Command) (o : List ℕ) → IsPrefix xs ys → BreaksOff ys o → BreaksOff xs o
+breaks_front xs ys o p b = by (front_cut xs b.front b.tail (subst (IsPrefix xs) b.parts p))
+  where
+    by : IsPrefix xs b.front ⊎ ((more : List Command) × (xs ≡ b.front ++ more) × IsPrefix more b.tail) → BreaksOff xs o
+    by (inl q) = record { front = xs; tail = []; parts = sym (append-nil xs); begins = begins_front xs b.front o q b.begins; closes = inl refl }
+    by (inr (more, is, q)) = record { front = b.front; tail = more; parts = is; begins = b.begins; closes = close_front more b.tail b.closes q }
+
+-- where no quit is among them they begin the orders
+pub breaks_plain : (xs : List Command) (o : List ℕ) → BreaksOff xs o → list_any is_quit xs ≡ false → Begins xs o
+breaks_plain xs o b none = by b.closes
+  where
+    by : IsClose b.tail → Begins xs o
+    by (inl is) = subst (λ l. Begins l o) (sym (b.parts ∙ ap (λ l. b.front ++ l) is ∙ append-nil b.front)) b.begins
+    by (inr is) = absurd (true≢false (sym quits ∙ none))
+      where
+        quits : list_any is_quit xs ≡ true
+        quits = ap (list_any is_quit) (b.parts ∙ ap (λ l. b.front ++ l) is) ∙ list_any-append is_quit b.front (Quit ∷ []) ∙ or_true (list_any is_quit b.front)
+          where
+            or_true : (x : Bool) → (x || true) ≡ true
+            or_true true = refl
+            or_true false = refl
+
+-- all orders: those in front of their quit, and the quit
+pub orders_break : (commands : List Command) (o : List ℕ) → Begins [] o → commands ≡ orders o → BreaksOff commands o
+orders_break commands o b is = record {
+  front = b.rest;
+  tail = Quit ∷ [];
+  parts = is ∙ b.parts;
+  begins = record { rest = []; parts = b.parts };
+  closes = inr refl;
+}

@@ -1,5 +1,5 @@
 -- A chat whose threads were started.
-use Rattle.std.proofs.Common.{◌≡◌, ◌≢◌, ℕ, ◌≤◌, Bool, true, false, List, [], ◌∷◌, ◌++◌, map, length, Option, Some, None, refl, sym, ap, ◌∙◌, subst, arith, append_assoc, append-nil}
+use Rattle.std.proofs.Common.{◌≡◌, ◌≢◌, ℕ, ◌≤◌, Bool, true, false, List, [], ◌∷◌, ◌++◌, map, length, Option, Some, None, refl, sym, ap, ◌∙◌, subst, arith, append_assoc, append-nil, ◌<◌, length-append, ⊎_elim}
 use Rattle.std.specs.Prelude.{◌⊎◌, option_map, is_some, IsTrue}
 use mathlib.Core.Logic.{inl, inr}
 use mathlib.Core.List.{IsPrefix}
@@ -38,23 +38,23 @@ use Rattle.zre_actor.proofs.Working.{rose_later}
 use Rattle.zre_typist.specs.Orders.{is_quit, typed, orders}
 use Rattle.zre_input.specs.declared.ending.InputEnd.{InputEnd}
 use Rattle.zre_input.specs.declared.ending.InputEnd.TheVariants as end
-use Rattle.zre_input.specs.Putting.{Puts}
-use Rattle.zre_input.specs.Reading.{HasRead, Outcome}
+use Rattle.zre_input.specs.Putting.{Puts, IsShort}
+use Rattle.zre_input.specs.Reading.{HasRead, Outcome, BreaksOff}
 use Rattle.zre_input.proofs.Puts.{puts-none}
 use Rattle.zre_pump.specs.declared.status.Status.{Status}
 use Rattle.zre_pump.specs.declared.status.Status.TheVariants.{Done, OutOfMemory}
 use Rattle.zre_chat.specs.declared.asker.Wish.{Wish}
 use Rattle.zre_chat.specs.declared.asker.Wish.TheVariants.{No, Due, Put}
 use Rattle.zre_chat.specs.Asking.{asked, asker_of, HasAsked}
-use Rattle.zre_chat.specs.Chat.{Seen, IsChat, IsCaused, Holds, but_quits}
+use Rattle.zre_chat.specs.Chat.{Seen, IsChat, IsCaused, IsSpared, is_stop, HasEnded, Holds}
 use Rattle.zre_chat.specs.Printing.{HasPrinted}
 use Rattle.zre_chat.specs.Stages.{Prepared}
 use Rattle.zre_chat.specs.Statuses.{least, of_read, of_print, of_work, of_thread}
-use Rattle.zre_chat.proofs.Fronts.{prefix_trans, but_quits-prefix, quits_through, all_front, none_front}
+use Rattle.zre_chat.proofs.Fronts.{prefix_trans, quits_through, all_front, none_front, short_front, breaks_front}
 use Rattle.zre_chat.proofs.Merged.{all_under}
 use Rattle.zre_chat.proofs.Rows.{memory_isnt, memory_here, memory_behind, done_here, done_behind}
 use Rattle.zre_journal.proofs.Stops.{told_to_stop}
-use Rattle.zre_chat.proofs.Whole.{maps, read_orders, read_front, only, most}
+use Rattle.zre_chat.proofs.Whole.{maps, IsThrough, read_orders, read_front, only, most}
 
 none_wished : (asker : CallerPass) (refused : Bool) → HasAsked asker (asker_of asker refused)
 none_wished asker true = puts-none asker
@@ -157,11 +157,10 @@ module _ (g : Config) (start : Start) (name : Option (List ℕ)) (keep : Bool) (
   handed_first : IsPrefix handed (map command_of popped)
   handed_first = (w.pending, sym w.goes.are_handed)
 
-  in_order : IsPrefix (but_quits handed) (but_quits (orders r.octets))
-  in_order = prefix_trans (but_quits handed) (but_quits r.commands) (but_quits (orders r.octets))
-      (prefix_trans (but_quits handed) (but_quits (map command_of popped)) (but_quits r.commands) (but_quits-prefix handed (map command_of popped) handed_first)
-      (most (number reader) (number asker) (ended reader) (ended asker) r.commands (asked d.last.wish) apart popped their_fronts (few d.last.wish) w.quits_last))
-      (read_orders stop limit r.commands r.octets t.left (Rose u.read_faults t.read_faults) r.outcome)
+  in_order : BreaksOff handed r.octets
+  in_order = breaks_front handed (map command_of popped) r.octets handed_first
+      (most (number reader) (number asker) (ended reader) (ended asker) r.commands (asked d.last.wish) apart popped their_fronts (few d.last.wish) w.quits_last r.octets
+      (read_orders stop limit r.commands r.octets t.left (Rose u.read_faults t.read_faults) r.outcome))
 
   -- where all went well
   calm : status ≡ Done → IsPrefix handed r.commands
@@ -169,7 +168,7 @@ module _ (g : Config) (start : Start) (name : Option (List ℕ)) (keep : Bool) (
       (only (number reader) (number asker) (ended reader) (ended asker) r.commands (asked d.last.wish) apart popped their_fronts
       (ap asked (d.calm (printed_whole is) (ap (λ b. (asker_of asker b).wish) (has_started is)))))
 
-  read_well : status ≡ Done → IsPrefix r.commands (orders r.octets) × (IsAtEnd t.left ⊎ ((list_any is_quit (typed r.octets) ≡ true) ⊎ (list_any is_quit r.commands ≡ false)))
+  read_well : status ≡ Done → IsPrefix r.commands (orders r.octets) × IsThrough limit r.commands r.octets t.left
   read_well is = read_front stop limit r.commands r.octets t.left (Rose u.read_faults t.read_faults) r.outcome (read_done is)
 
   are_front : status ≡ Done → IsPrefix handed (orders r.octets)
@@ -177,14 +176,6 @@ module _ (g : Config) (start : Start) (name : Option (List ℕ)) (keep : Bool) (
 
   all_handed : status ≡ Done → list_any is_quit handed ≡ true → handed ≡ orders r.octets
   all_handed is any = all_front handed (orders r.octets) (are_front is) (quits_through _) any
-
-  input_ended : status ≡ Done → IsAtEnd t.left ⊎ ((list_any is_quit (typed r.octets) ≡ true) ⊎ (list_any is_quit handed ≡ false))
-  input_ended is = by (read_well is).1
-    where
-      by : IsAtEnd t.left ⊎ ((list_any is_quit (typed r.octets) ≡ true) ⊎ (list_any is_quit r.commands ≡ false)) → IsAtEnd t.left ⊎ ((list_any is_quit (typed r.octets) ≡ true) ⊎ (list_any is_quit handed ≡ false))
-      by (inl a) = inl a
-      by (inr (inl b)) = inr (inl b)
-      by (inr (inr c)) = inr (inr (none_front handed r.commands (calm is) c))
 
   -- ---- the text
 
@@ -197,16 +188,21 @@ module _ (g : Config) (start : Start) (name : Option (List ℕ)) (keep : Bool) (
   front : AppendsFront s.written t.written (lines (events g w.entries))
   front = let f = d.front in (f.0, f.1 ++ lines w.untold, text ∙ ap (λ l. l ++ lines w.untold) f.2 ∙ append_assoc f.0 f.1 (lines w.untold), subst (λ x. Appends x t.written f.0) p.same_written f.3)
 
-  whole : status ≢ OutOfMemory → ¬ Rose s.write_faults t.write_faults → Appends s.written t.written (lines (events g w.entries))
-  whole isnt rose = by broke refl
+  unbroken : IsSpared status (Rose s.write_faults t.write_faults) → broke ≡ None
+  unbroken spared = ⊎_elim printed_whole (λ (x : (status ≢ OutOfMemory) × ¬ Rose s.write_faults t.write_faults). by x.0 x.1 broke refl) spared
     where
-      all : lines (events g w.entries) ≡ lines d.events
-      all = text ∙ ap (λ l. lines d.events ++ lines l) (w.all_raised (memory isnt)) ∙ append-nil (lines d.events)
+      by : status ≢ OutOfMemory → ¬ Rose s.write_faults t.write_faults → (f : Option NextFault) → broke ≡ f → broke ≡ None
+      by isnt still None e = e
+      by isnt still (Some fault.Failed) e = absurd (still (subst (λ k. Rose k t.write_faults) p.same_writes (write_rose e)))
+      by isnt still (Some fault.OutOfMemory) e = absurd (page isnt e)
 
-      by : (f : Option NextFault) → broke ≡ f → Appends s.written t.written (lines (events g w.entries))
-      by None e = subst (λ (x : Option (List ℕ) × List ℕ). Appends x.0 t.written x.1) (λ i. (p.same_written i, sym all i)) (d.whole e)
-      by (Some fault.Failed) e = absurd (rose (subst (λ k. Rose k t.write_faults) p.same_writes (write_rose e)))
-      by (Some fault.OutOfMemory) e = absurd (page isnt e)
+  has_memory : (rose : Type 0) → IsSpared status rose → status ≢ OutOfMemory
+  has_memory rose spared = ⊎_elim (λ (is : status ≡ Done) (e : status ≡ OutOfMemory). memory_isnt (sym e ∙ is)) (λ (x : (status ≢ OutOfMemory) × ¬ rose). x.0) spared
+
+  whole : IsSpared status (Rose s.write_faults t.write_faults) → Appends s.written t.written (lines (events g w.entries))
+  whole spared =
+      let all : lines (events g w.entries) ≡ lines d.events = text ∙ ap (λ l. lines d.events ++ lines l) (w.all_raised (memory (has_memory (Rose s.write_faults t.write_faults) spared))) ∙ append-nil (lines d.events) in
+      subst (λ (x : Option (List ℕ) × List ℕ). Appends x.0 t.written x.1) (λ i. (p.same_written i, sym all i)) (d.whole (unbroken spared))
 
   -- ---- the entries and the capture
 
@@ -219,7 +215,7 @@ module _ (g : Config) (start : Start) (name : Option (List ℕ)) (keep : Bool) (
     one ending.WorldFault h = (let z : length unstepped ≡ 0 = ap length h.1 in omega arith)
     one ending.RecordFault h = (let z : length unstepped ≡ 1 = h.1 in omega arith)
     one ending.TooLong h = (let z : length unstepped ≡ 0 = ap length h.1 in omega arith)
-    one ending.OutOfMemory h = h.0
+    one ending.OutOfMemory h = omega (arith, h)
 
     none : (e : Ending) → Ends e stopped turns limit keep x y unstepped pending → e ≢ ending.OutOfMemory → ¬ Rose x.record_faults y.record_faults → unstepped ≡ []
     none ending.Stopped h isnt rose = h.1
@@ -227,6 +223,13 @@ module _ (g : Config) (start : Start) (name : Option (List ℕ)) (keep : Bool) (
     none ending.RecordFault h isnt rose = absurd (rose h.4)
     none ending.TooLong h isnt rose = h.1
     none ending.OutOfMemory h isnt rose = absurd (isnt refl)
+
+    none_at_stop : (e : Ending) → Ends e stopped turns limit keep x y unstepped pending → of_work e ≡ Done → unstepped ≡ []
+    none_at_stop ending.Stopped h is = h.1
+    none_at_stop ending.WorldFault h is = absurd (cc)
+    none_at_stop ending.RecordFault h is = absurd (cc)
+    none_at_stop ending.TooLong h is = absurd (cc)
+    none_at_stop ending.OutOfMemory h is = absurd (cc)
 
     stops : (e : Ending) → Ends e stopped turns limit keep x y unstepped pending → of_work e ≡ Done → stopped ≡ true
     stops ending.Stopped h is = h.0
@@ -245,13 +248,14 @@ module _ (g : Config) (start : Start) (name : Option (List ℕ)) (keep : Bool) (
       by (inl stands) = can_be g (chronicle g w.entries) n.tables stands.stands
       by (inr (spent, none_left, one_left)) = absurd (memory (λ e. memory_isnt (sym e ∙ is)) none_left)
 
-  given : status ≢ OutOfMemory → ¬ Rose s.record_faults t.record_faults → w.unstepped ≡ []
-  given isnt rose = none _ _ _ w.turns w.unstepped w.pending how w.ends (memory isnt) (λ x. rose (record_rose x))
+  given : IsSpared status (Rose s.record_faults t.record_faults) → w.unstepped ≡ []
+  given spared = ⊎_elim (λ (is : status ≡ Done). none_at_stop _ _ _ w.turns w.unstepped w.pending how w.ends (work_done is))
+      (λ (x : (status ≢ OutOfMemory) × ¬ Rose s.record_faults t.record_faults). none _ _ _ w.turns w.unstepped w.pending how w.ends (memory x.0) (λ y. x.1 (record_rose y))) spared
 
-  held : (file : List ℕ) → name ≡ Some file → status ≢ OutOfMemory → ¬ Rose s.record_faults t.record_faults → Holds file w.entries s t
-  held file is isnt rose =
+  held : (file : List ℕ) → name ≡ Some file → IsSpared status (Rose s.record_faults t.record_faults) → Holds file w.entries s t
+  held file is spared =
       let k : KeptLines u.kept t.kept w.entries w.unstepped = w.are_kept (p.keeps ∙ ap is_some is) in
-      let nothing : k.part ≡ [] = front_nil k.part k.rest (sym k.is_part ∙ ap capture.lines (given isnt rose)) in (
+      let nothing : k.part ≡ [] = front_nil k.part k.rest (sym k.is_part ∙ ap capture.lines (given spared)) in (
         Appends-trans (option_map (λ _. []) s.kept) u.kept t.kept capture.head (capture.lines w.entries) (p.head_kept file is) (subst (Appends u.kept t.kept) (ap (λ l. capture.lines w.entries ++ l) nothing ∙ append-nil (capture.lines w.entries)) k.is_kept),
         Keeps-trans (option_map (λ _. file) s.named) u.named t.named (p.file_named file is) named,
       )
@@ -260,22 +264,46 @@ module _ (g : Config) (start : Start) (name : Option (List ℕ)) (keep : Bool) (
       front_nil [] ys e = refl
       front_nil (x ∷ xs) ys e = absurd (cc)
 
+  -- ---- why nothing more was read
+
+  has_one : (es : List Entry) → list_any (λ e. is_stop e.input) es ≡ true → 1 ≤ length es
+  has_one [] is = absurd (cc)
+  has_one (e ∷ es) is = omega arith
+
+  -- a turn was taken
+  turned : status ≡ Done → 0 < limit
+  turned is = let a : 1 ≤ length w.entries = has_one w.entries (told_to_stop g (can is) w.entries (has_ended is)) in
+      omega (arith, a, w.goes.counted, w.most, length-append w.entries w.unstepped)
+
+  input_ended : status ≡ Done → HasEnded limit r.octets handed t.left
+  input_ended is = by (read_well is).1
+    where
+      more : (r.octets ≡ []) ⊎ ((length r.octets < limit) ⊎ IsShort r.commands (typed r.octets)) → (length r.octets < limit) ⊎ IsShort handed (typed r.octets)
+      more (inl none) = inl (let n : length r.octets ≡ 0 = ap length none in let a : 0 < limit = turned is in omega (arith, n, a))
+      more (inr (inl less)) = inl less
+      more (inr (inr short)) = inr (short_front handed r.commands (typed r.octets) (calm is) short)
+
+      by : IsThrough limit r.commands r.octets t.left → HasEnded limit r.octets handed t.left
+      by (inl a) = inl a
+      by (inr (inl b)) = inr (inl b)
+      by (inr (inr (c, x))) = inr (inr (none_front handed r.commands (calm is) c, more x))
+
   -- ---- the causes
 
-  read_cause : (e : InputEnd) → Outcome e limit r.commands r.octets t.left (Rose u.read_faults t.read_faults) → (turns : ℕ) (stopped : Bool) → IsCaused (of_read e) limit (length r.octets) turns stopped s t
+  read_cause : (e : InputEnd) → Outcome e limit r.commands r.octets t.left (Rose u.read_faults t.read_faults) → (turns : ℕ) (stopped : Bool) → IsCaused (of_read e) limit r.octets turns stopped s t
   read_cause end.Quit x turns stopped = tt
   read_cause end.AtEnd x turns stopped = tt
   read_cause end.Over x turns stopped = tt
-  read_cause end.ReadFault x turns stopped = subst (λ k. Rose k t.read_faults) p.same_reads x.0
-  read_cause end.TooLong x turns stopped = inl x.0
+  read_cause end.ReadFault x turns stopped = (subst (λ k. Rose k t.read_faults) p.same_reads x.0, x.1, x.2)
+  read_cause end.TooLong x turns stopped = inl (x.0, x.1)
   read_cause end.OutOfMemory x turns stopped = tt
 
-  print_cause : (f : Option NextFault) → broke ≡ f → (octets turns : ℕ) (stopped : Bool) → IsCaused (of_print f) limit octets turns stopped s t
+  print_cause : (f : Option NextFault) → broke ≡ f → (octets : List ℕ) (turns : ℕ) (stopped : Bool) → IsCaused (of_print f) limit octets turns stopped s t
   print_cause None e octets turns stopped = tt
   print_cause (Some fault.Failed) e octets turns stopped = inl (subst (λ k. Rose k t.write_faults) p.same_writes (write_rose e))
   print_cause (Some fault.OutOfMemory) e octets turns stopped = tt
 
-  work_cause : (e : Ending) (octets turns : ℕ) (stopped : Bool) (unstepped : List Entry) (pending : List Command)
+  work_cause : (e : Ending) (octets : List ℕ) (turns : ℕ) (stopped : Bool) (unstepped : List Entry) (pending : List Command)
       → Ends e stopped turns limit keep (scene u.told looked u.world_faults u.kept u.record_faults actor) (scene t.told looked' t.world_faults t.kept t.record_faults actor') unstepped pending
       → IsCaused (of_work e) limit octets turns stopped s t
   work_cause ending.Stopped octets turns stopped unstepped pending h = tt
@@ -284,7 +312,7 @@ module _ (g : Config) (start : Start) (name : Option (List ℕ)) (keep : Bool) (
   work_cause ending.TooLong octets turns stopped unstepped pending h = inr (h.3, h.0)
   work_cause ending.OutOfMemory octets turns stopped unstepped pending h = tt
 
-  thread_cause : (b : Bool) → refused ≡ b → (octets turns : ℕ) (stopped : Bool) → IsCaused (of_thread b) limit octets turns stopped s t
+  thread_cause : (b : Bool) → refused ≡ b → (octets : List ℕ) (turns : ℕ) (stopped : Bool) → IsCaused (of_thread b) limit octets turns stopped s t
   thread_cause true e octets turns stopped = subst (λ k. Rose k t.refusals) p.same_refusals (start_rose e)
   thread_cause false e octets turns stopped = tt
 
@@ -306,6 +334,8 @@ module _ (g : Config) (start : Start) (name : Option (List ℕ)) (keep : Bool) (
     most = w.most;
     one_unstepped = one _ _ _ w.turns w.unstepped w.pending how w.ends;
     all_taken = given;
+    all_go = w.all_go;
+    are_values = w.are_values;
     did = w.did;
     undone = w.undone;
     are_acts = w.are_acts;
@@ -320,7 +350,7 @@ module _ (g : Config) (start : Start) (name : Option (List ℕ)) (keep : Bool) (
     all_handed = all_handed;
     occurred = statuses;
     is_status = refl;
-    caused = (read_cause stop r.outcome w.turns (has_stopped (chronicle g w.entries)), (print_cause broke refl (length r.octets) w.turns (has_stopped (chronicle g w.entries)), (work_cause how (length r.octets) w.turns (has_stopped (chronicle g w.entries)) w.unstepped w.pending w.ends, (thread_cause refused refl (length r.octets) w.turns (has_stopped (chronicle g w.entries)), tt))));
+    caused = (read_cause stop r.outcome w.turns (has_stopped (chronicle g w.entries)), (print_cause broke refl r.octets w.turns (has_stopped (chronicle g w.entries)), (work_cause how r.octets w.turns (has_stopped (chronicle g w.entries)) w.unstepped w.pending w.ends, (thread_cause refused refl r.octets w.turns (has_stopped (chronicle g w.entries)), tt))));
     done = λ is. (refl, told_to_stop g (can is) w.entries (has_ended is), has_ended is);
     ended = input_ended;
   }

@@ -1,5 +1,5 @@
 -- What a chat comes to, from what its parts came to.
-use Rattle.std.proofs.Common.{◌≡◌, ◌≢◌, ℕ, ◌==◌, Bool, true, false, true≢false, List, [], ◌∷◌, ◌++◌, map, Option, Some, None, refl, sym, ap, ◌∙◌, subst, arith, append-nil}
+use Rattle.std.proofs.Common.{◌≡◌, ◌≢◌, ℕ, ◌==◌, Bool, true, false, true≢false, List, [], ◌∷◌, ◌++◌, map, Option, Some, None, ◌<◌, length, refl, sym, ap, ◌∙◌, subst, arith, append-nil, ⊎_elim}
 use Rattle.std.specs.Prelude.{◌⊎◌, option_map, is_some}
 use mathlib.Core.Logic.{inl, inr}
 use mathlib.Core.List.{IsPrefix, nil-sublist}
@@ -7,6 +7,7 @@ use Rattle.std.specs.List.{list_any}
 use Rattle.std.specs.Io.KnownBytes.{Appends, Consumes, IsAtEnd}
 use Rattle.std.proofs.KnownBytes.{Appends-nil, Consumes-nil}
 use Rattle.std.proofs.lemmas.List.{map-append}
+use Rattle.std.proofs.lemmas.List.Elements.{All-nil}
 use Rattle.zre_outside.specs.declared.entry.Command.{Command}
 use Rattle.zre_outside.specs.declared.entry.Command.TheVariants.{Quit}
 use Rattle.zre_outside.specs.declared.sink.NextFault.{NextFault}
@@ -16,22 +17,25 @@ use Rattle.zre_outside.specs.Causes.{Rose}
 use Rattle.zre_outside.specs.Worlds.{Log}
 use Rattle.zre_journal.specs.declared.config.Config.{Config}
 use Rattle.zre_capture.specs.Lines as capture
+use Rattle.zre_capture.specs.Lines.{IsEntry}
 use Rattle.zre_actor.specs.declared.views.Placed.{Placed}
 use Rattle.zre_actor.specs.Commands.{under, command_of}
 use Rattle.zre_actor.specs.Work.{went, QuitsLast}
 use Rattle.zre_actor.proofs.Deeds.{went-none}
 use Rattle.zre_actor.proofs.Sums.{under-append}
-use Rattle.zre_typist.specs.Orders.{is_quit, typed, orders, Begins}
+use Rattle.zre_typist.specs.Orders.{is_quit, typed, orders, orders_from, ended_lines, Begins}
+use Rattle.zre_capture.specs.Journal.{lines_in}
 use Rattle.zre_input.specs.declared.ending.InputEnd.{InputEnd}
 use Rattle.zre_input.specs.declared.ending.InputEnd.TheVariants as end
-use Rattle.zre_input.specs.Putting.{IsClose}
+use Rattle.zre_input.specs.Putting.{IsShort}
 use Rattle.zre_input.specs.Reading.{Outcome, BreaksOff}
+use Rattle.zre_typist.proofs.Quits.{orders-begin}
 use Rattle.zre_pump.specs.declared.status.Status.{Status}
 use Rattle.zre_pump.specs.declared.status.Status.TheVariants.{Done, Usage, BadInput, ReadFault, WriteFault, WorldFault, NoThread, TooLong, OutOfMemory}
-use Rattle.zre_chat.specs.Chat.{Seen, IsChat, IsCaused, Holds, but_quits, started}
+use Rattle.zre_chat.specs.Chat.{Seen, IsChat, IsCaused, IsSpared, Holds, started}
 use Rattle.zre_chat.specs.Stages.{IsEarly, Unprepared}
 use Rattle.zre_chat.specs.Statuses.{of_fault, of_read}
-use Rattle.zre_chat.proofs.Fronts.{prefix_self, but_quits-append, but_quits-prefix, map-prefix, quits_through, none_before}
+use Rattle.zre_chat.proofs.Fronts.{map-prefix, quits_through, none_before, breaks_front, breaks_plain, orders_break}
 use Rattle.zre_chat.proofs.Merged.{all_under, its_own, no_others, commands_under, prefix_nil, TwoAlone, split, alone}
 use Rattle.zre_chat.proofs.Rows.{write_isnt, world_isnt, memory_isnt, one_least}
 
@@ -50,6 +54,10 @@ none_started (Some l) = refl
 pub head_only : (kept u t : Option (List ℕ)) → Appends (option_map (λ _. []) kept) u capture.head → t ≡ u → Appends (option_map (λ _. []) kept) t (capture.head ++ capture.lines [])
 head_only kept u t is same = subst (λ (x : Option (List ℕ) × List ℕ). Appends (option_map (λ _. []) kept) x.0 x.1) (λ i. (sym same i, sym (append-nil capture.head) i)) is
 
+-- no commands begin the orders of any text
+pub nothing_begins : (o : List ℕ) → Begins [] o
+nothing_begins o = orders-begin o [] (orders_from 1 (ended_lines (lines_in o))) refl refl
+
 module _ (g : Config) (start : Start) (name : Option (List ℕ)) (limit : ℕ) where
   untold : (begun : Bool) (told : Option Log) → option_map (started begun start) told ≡ option_map (λ l. went [] 0 [] [] (started begun start l)) told
   untold begun None = refl
@@ -57,7 +65,7 @@ module _ (g : Config) (start : Start) (name : Option (List ℕ)) (limit : ℕ) w
 
   -- a chat that ended before the threads were started
   pub untalked : (begun : Bool) (s t : Seen) (status : Status) → t.left ≡ s.left → t.taken ≡ s.taken → t.written ≡ s.written → t.told ≡ option_map (started begun start) s.told
-      → status ≢ Done → IsCaused status limit 0 0 false s t
+      → status ≢ Done → IsCaused status limit [] 0 false s t
       → ((file : List ℕ) → name ≡ Some file → status ≢ OutOfMemory → ¬ Rose s.record_faults t.record_faults → Holds file [] s t)
       → IsChat g start name limit s t status
   untalked begun s t status left taken written told not_done cause holds = record {
@@ -75,17 +83,19 @@ module _ (g : Config) (start : Start) (name : Option (List ℕ)) (limit : ℕ) w
     counted = refl;
     most = omega arith;
     one_unstepped = omega arith;
-    all_taken = λ _ _. refl;
+    all_taken = λ _. refl;
+    all_go = tt;
+    are_values = All-nil IsEntry;
     did = [];
     undone = [];
     are_acts = refl;
     are_deeds = tt;
     all_done = λ _. refl;
     front = ([], [], refl, subst (λ x. Appends s.written x []) (sym written) (Appends-nil s.written));
-    whole = λ _ _. subst (λ x. Appends s.written x []) (sym written) (Appends-nil s.written);
-    held = holds;
+    whole = λ _. subst (λ x. Appends s.written x []) (sym written) (Appends-nil s.written);
+    held = λ file is spared. ⊎_elim (λ (d : status ≡ Done). absurd (not_done d)) (λ (x : (status ≢ OutOfMemory) × ¬ Rose s.record_faults t.record_faults). holds file is x.0 x.1) spared;
     are_done = nil-sublist [];
-    in_order = (but_quits (orders []), refl);
+    in_order = record { front = []; tail = []; parts = refl; begins = nothing_begins []; closes = inl refl };
     are_front = λ d. absurd (not_done d);
     all_handed = λ d. absurd (not_done d);
     occurred = status ∷ [];
@@ -95,7 +105,7 @@ module _ (g : Config) (start : Start) (name : Option (List ℕ)) (limit : ℕ) w
     ended = λ d. absurd (not_done d);
   }
 
-  early : (s t : Seen) (status : Status) → IsEarly status s.world_faults t.world_faults s.record_faults t.record_faults → (status ≢ Done) × IsCaused status limit 0 0 false s t
+  early : (s t : Seen) (status : Status) → IsEarly status s.world_faults t.world_faults s.record_faults t.record_faults → (status ≢ Done) × IsCaused status limit [] 0 false s t
   early s t WriteFault is = (write_isnt, inr is)
   early s t WorldFault is = (world_isnt, is)
   early s t OutOfMemory is = (memory_isnt, tt)
@@ -125,35 +135,23 @@ there (Some file) is = (file, refl)
 
 -- ---- the commands
 
--- those that the reader put begin the orders
-pub read_orders : (e : InputEnd) (limit : ℕ) (commands : List Command) (o : List ℕ) (left : Option (List ℕ)) (read : Type 0) → Outcome e limit commands o left read → IsPrefix (but_quits commands) (but_quits (orders o))
-read_orders e limit commands o left read x = by e x
-  where
-    all : commands ≡ orders o → IsPrefix (but_quits commands) (but_quits (orders o))
-    all is = subst (λ l. IsPrefix (but_quits commands) (but_quits l)) is (prefix_self (but_quits commands))
+-- those that the reader put break off the orders
+pub read_orders : (e : InputEnd) (limit : ℕ) (commands : List Command) (o : List ℕ) (left : Option (List ℕ)) (read : Type 0) → Outcome e limit commands o left read → BreaksOff commands o
+read_orders end.Quit limit commands o left read x = orders_break commands o (nothing_begins o) x.1
+read_orders end.AtEnd limit commands o left read x = orders_break commands o (nothing_begins o) x.2
+read_orders end.Over limit commands o left read x = record { front = commands; tail = []; parts = sym (append-nil commands); begins = x.0; closes = inl refl }
+read_orders end.ReadFault limit commands o left read x = x.3
+read_orders end.TooLong limit commands o left read x = x.2
+read_orders end.OutOfMemory limit commands o left read x = x
 
-    begins : (front : List Command) → Begins front o → IsPrefix (but_quits front) (but_quits (orders o))
-    begins front b = but_quits-prefix front (orders o) (b.rest ++ Quit ∷ [], sym b.parts)
+-- why nothing more was read, where nothing went wrong
+abbrev pub IsThrough : (limit : ℕ) (commands : List Command) (o : List ℕ) (left : Option (List ℕ)) → Type 0
+IsThrough limit commands o left = (IsAtEnd left × (length o < limit))
+    ⊎ ((list_any is_quit (typed o) ≡ true) ⊎ ((list_any is_quit commands ≡ false) × ((o ≡ []) ⊎ ((length o < limit) ⊎ IsShort commands (typed o)))))
 
-    closed : (tail : List Command) → IsClose tail → but_quits tail ≡ []
-    closed tail (inl is) = ap but_quits is
-    closed tail (inr is) = ap but_quits is
-
-    breaks : BreaksOff commands o → IsPrefix (but_quits commands) (but_quits (orders o))
-    breaks b = let same : but_quits commands ≡ but_quits b.front = ap but_quits b.parts ∙ but_quits-append b.front b.tail ∙ ap (λ l. but_quits b.front ++ l) (closed b.tail b.closes) ∙ append-nil (but_quits b.front) in
-        subst (λ l. IsPrefix l (but_quits (orders o))) (sym same) (begins b.front b.begins)
-
-    by : (e : InputEnd) → Outcome e limit commands o left read → IsPrefix (but_quits commands) (but_quits (orders o))
-    by end.Quit x = all x.1
-    by end.AtEnd x = all x.2
-    by end.Over x = begins commands x
-    by end.ReadFault x = breaks x.1
-    by end.TooLong x = breaks x.1
-    by end.OutOfMemory x = breaks x
-
--- where nothing went wrong they are a front of them, and hold isnt quit where the reader was told of the end
+-- where nothing went wrong they are a front of them, and hold no quit where the reader was told of the end
 pub read_front : (e : InputEnd) (limit : ℕ) (commands : List Command) (o : List ℕ) (left : Option (List ℕ)) (read : Type 0) → Outcome e limit commands o left read → of_read e ≡ Done
-    → IsPrefix commands (orders o) × (IsAtEnd left ⊎ ((list_any is_quit (typed o) ≡ true) ⊎ (list_any is_quit commands ≡ false)))
+    → IsPrefix commands (orders o) × IsThrough limit commands o left
 read_front e limit commands o left read x done = by e x done
   where
     all : commands ≡ orders o → IsPrefix commands (orders o)
@@ -163,10 +161,10 @@ read_front e limit commands o left read x done = by e x done
     before [] is = none_before commands Quit [] (subst QuitsLast is (quits_through _))
     before (c ∷ cs) is = none_before commands c (cs ++ Quit ∷ []) (subst QuitsLast is (quits_through _))
 
-    by : (e : InputEnd) → Outcome e limit commands o left read → of_read e ≡ Done → IsPrefix commands (orders o) × (IsAtEnd left ⊎ ((list_any is_quit (typed o) ≡ true) ⊎ (list_any is_quit commands ≡ false)))
+    by : (e : InputEnd) → Outcome e limit commands o left read → of_read e ≡ Done → IsPrefix commands (orders o) × IsThrough limit commands o left
     by end.Quit x d = (all x.1, inr (inl x.0))
-    by end.AtEnd x d = (all x.2, inl x.0)
-    by end.Over x d = ((x.rest ++ Quit ∷ [], sym x.parts), inr (inr (before x.rest x.parts)))
+    by end.AtEnd x d = (all x.2, inl (x.0, x.1))
+    by end.Over x d = ((x.0.rest ++ Quit ∷ [], sym x.0.parts), inr (inr (before x.0.rest x.0.parts, x.1)))
     by end.ReadFault x d = absurd (cc)
     by end.TooLong x d = absurd (cc)
     by end.OutOfMemory x d = absurd (cc)
@@ -203,9 +201,9 @@ module _ (r q : ℕ) (er eq : List ℕ) (cs qs : List Command) (apart : r ≢ q)
               same : n ≡ q → (n == q) ≡ true
               same e = grind (arith, e)
 
-  -- where it put at most a quit, they are but for a quit at the end
-  pub most : (qs ≡ []) ⊎ (qs ≡ Quit ∷ []) → QuitsLast (map command_of es) → IsPrefix (but_quits (map command_of es)) (but_quits cs)
-  most asks quits = by (split r q es apart of_none quits is_quit_there)
+  -- where it put at most a quit, they break off the orders that its commands break off
+  pub most : (qs ≡ []) ⊎ (qs ≡ Quit ∷ []) → QuitsLast (map command_of es) → (o : List ℕ) → BreaksOff cs o → BreaksOff (map command_of es) o
+  most asks quits o breaks = by (split r q es apart of_none quits is_quit_there)
     where
       is_quit_there : (e : Placed) (more : List Placed) → under q es ≡ e ∷ more → e.command ≡ Quit
       is_quit_there e more at = from asks
@@ -220,13 +218,18 @@ module _ (r q : ℕ) (er eq : List ℕ) (cs qs : List Command) (apart : r ≢ q)
           from (inl none) = absurd (let x : e ∷ (more ++ a.0) ≡ [] = a.1 ∙ ap (all_under q eq) none in cc)
           from (inr one) = first (more ++ a.0) (a.1 ∙ ap (all_under q eq) one)
 
-      front : IsPrefix (but_quits (map command_of (under r es))) (but_quits cs)
-      front = but_quits-prefix (map command_of (under r es)) cs its_front
+      front : BreaksOff (map command_of (under r es)) o
+      front = breaks_front (map command_of (under r es)) cs o its_front breaks
 
-      by : (es ≡ under r es) ⊎ ((last : Placed) × (last.command ≡ Quit) × (es ≡ under r es ++ last ∷ [])) → IsPrefix (but_quits (map command_of es)) (but_quits cs)
-      by (inl is) = subst (λ l. IsPrefix (but_quits (map command_of l)) (but_quits cs)) (sym is) front
+      by : (es ≡ under r es) ⊎ ((last : Placed) × (last.command ≡ Quit) × (es ≡ under r es ++ last ∷ [])) → BreaksOff (map command_of es) o
+      by (inl is) = subst (λ l. BreaksOff (map command_of l) o) (sym is) front
       by (inr (last, quit, is)) =
-          let same : but_quits (map command_of es) ≡ but_quits (map command_of (under r es)) =
-          ap (λ l. but_quits (map command_of l)) is ∙ ap but_quits (map-append command_of (under r es) (last ∷ [])) ∙ but_quits-append (map command_of (under r es)) (last.command ∷ [])
-          ∙ ap (λ c. but_quits (map command_of (under r es)) ++ but_quits (c ∷ [])) quit ∙ append-nil (but_quits (map command_of (under r es))) in
-          subst (λ l. IsPrefix l (but_quits cs)) (sym same) front
+          let same : map command_of es ≡ map command_of (under r es) ++ Quit ∷ [] =
+          ap (map command_of) is ∙ map-append command_of (under r es) (last ∷ []) ∙ ap (λ c. map command_of (under r es) ++ c ∷ []) quit in
+          let plain : list_any is_quit (map command_of (under r es)) ≡ false = none_before (map command_of (under r es)) Quit [] (subst QuitsLast same quits) in record {
+            front = map command_of (under r es);
+            tail = Quit ∷ [];
+            parts = same;
+            begins = breaks_plain (map command_of (under r es)) o front plain;
+            closes = inr refl;
+          }

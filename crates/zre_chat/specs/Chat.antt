@@ -1,7 +1,7 @@
 -- What a chat comes to.
-use Rattle.std.specs.Prelude.{◌≡◌, ◌≢◌, ◌⊎◌, ℕ, ◌+◌, ◌≤◌, Bool, true, false, not, List, [], ◌∷◌, ◌++◌, length, Option, Some, option_map, ⊤}
+use Rattle.std.specs.Prelude.{◌≡◌, ◌≢◌, ◌⊎◌, ℕ, ◌+◌, ◌≤◌, ◌<◌, Bool, true, false, List, [], ◌∷◌, ◌++◌, length, All, Option, Some, option_map, ⊤}
 use mathlib.Core.List.{IsPrefix, Sublist}
-use Rattle.std.specs.List.{list_any, filter}
+use Rattle.std.specs.List.{list_any}
 use Rattle.std.specs.Io.KnownBytes.{Keeps, Appends, IsAtEnd}
 use Rattle.zre_outside.specs.declared.act.Act.{Act}
 use Rattle.zre_outside.specs.declared.deed.Deed.{Deed}
@@ -17,8 +17,11 @@ use Rattle.zre_journal.specs.Endings.{is_end}
 use Rattle.zre_journal.specs.Events.{chronicle, events}
 use Rattle.zre_journal.specs.Happens.{has_stopped}
 use Rattle.zre_capture.specs.Lines as capture
-use Rattle.zre_actor.specs.Work.{went, AreDeeds, acts_of, done_by}
+use Rattle.zre_capture.specs.Lines.{IsEntry}
+use Rattle.zre_actor.specs.Work.{went, AreDeeds, acts_of, done_by, AllGo}
 use Rattle.zre_typist.specs.Orders.{is_quit, typed, orders}
+use Rattle.zre_input.specs.Putting.{IsShort}
+use Rattle.zre_input.specs.Reading.{IsReadOn, BreaksOff}
 use Rattle.zre_pump.specs.declared.status.Status.{Status}
 use Rattle.zre_pump.specs.declared.status.Status.TheVariants.{Done, Usage, BadInput, ReadFault, WriteFault, WorldFault, NoThread, TooLong, OutOfMemory}
 use Rattle.zre_chat.specs.Statuses.{least}
@@ -57,26 +60,32 @@ seen left taken reads told worlds written writes kept named records refusals = r
   refusals = refusals;
 }
 
--- commands but for a quit
-abbrev pub but_quits : List Command → List Command
-but_quits commands = filter (λ c. not (is_quit c)) commands
-
--- what each status needs: a count that rose, or as many octets or turns as the limit
-abbrev pub IsCaused : Status → (limit octets turns : ℕ) → (stopped : Bool) → Seen → Seen → Type 0
+-- what each status needs: a count that rose, or as many octets or turns as the limit and more due
+abbrev pub IsCaused : Status → (limit : ℕ) (octets : List ℕ) (turns : ℕ) (stopped : Bool) → Seen → Seen → Type 0
 IsCaused Done limit octets turns stopped s t = ⊤
-IsCaused ReadFault limit octets turns stopped s t = Rose s.read_faults t.read_faults
+IsCaused ReadFault limit octets turns stopped s t = Rose s.read_faults t.read_faults × (length octets < limit) × IsReadOn octets
 IsCaused WriteFault limit octets turns stopped s t = Rose s.write_faults t.write_faults ⊎ Rose s.record_faults t.record_faults
 IsCaused WorldFault limit octets turns stopped s t = Rose s.world_faults t.world_faults
 IsCaused NoThread limit octets turns stopped s t = Rose s.refusals t.refusals
-IsCaused TooLong limit octets turns stopped s t = (octets ≡ limit) ⊎ ((turns ≡ limit) × (stopped ≡ false))
+IsCaused TooLong limit octets turns stopped s t = ((length octets ≡ limit) × IsReadOn octets) ⊎ ((turns ≡ limit) × (stopped ≡ false))
 IsCaused OutOfMemory limit octets turns stopped s t = ⊤
 IsCaused Usage limit octets turns stopped s t = ⊥
 IsCaused BadInput limit octets turns stopped s t = ⊥
 
 -- all of these
-abbrev pub AreCaused : List Status → (limit octets turns : ℕ) → (stopped : Bool) → Seen → Seen → Type 0
+abbrev pub AreCaused : List Status → (limit : ℕ) (octets : List ℕ) (turns : ℕ) (stopped : Bool) → Seen → Seen → Type 0
 AreCaused [] limit octets turns stopped s t = ⊤
 AreCaused (x ∷ xs) limit octets turns stopped s t = IsCaused x limit octets turns stopped s t × AreCaused xs limit octets turns stopped s t
+
+-- all went well, or memory didn't run out and this count of faults didn't rise
+abbrev pub IsSpared : Status → (rose : Type 0) → Type 0
+IsSpared status rose = (status ≡ Done) ⊎ ((status ≢ OutOfMemory) × ¬ rose)
+
+-- why no more of the input was read: it was at its end within the limit, a line is a quit, or the world stopped the node first, before as
+-- many octets as the limit were taken or before all commands were handed in
+abbrev pub HasEnded : (limit : ℕ) (octets : List ℕ) (handed : List Command) (left : Option (List ℕ)) → Type 0
+HasEnded limit octets handed left = (IsAtEnd left × (length octets < limit))
+    ⊎ ((list_any is_quit (typed octets) ≡ true) ⊎ ((list_any is_quit handed ≡ false) × ((length octets < limit) ⊎ IsShort handed (typed octets))))
 
 -- the recorder, emptied and named, holds the capture of these entries, where it tells what it holds
 abbrev pub Holds : List ℕ → List Entry → Seen → Seen → Type 0
@@ -105,8 +114,10 @@ pub record IsChat (g : Config) (start : Start) (name : Option (List ℕ)) (limit
   pub counted : length (entries ++ unstepped) + looks ≡ turns
   pub most : turns ≤ limit
   pub one_unstepped : length unstepped ≤ 1
-  -- each is taken but one whose line wasn't kept
-  pub all_taken : status ≢ OutOfMemory → ¬ Rose s.record_faults t.record_faults → unstepped ≡ []
+  pub are_values : All IsEntry (entries ++ unstepped)
+  -- each is taken but one whose line wasn't kept, and none was given behind the one that stopped the node
+  pub all_taken : IsSpared status (Rose s.record_faults t.record_faults) → unstepped ≡ []
+  pub all_go : AllGo g [] (entries ++ unstepped)
   -- the acts were done in order
   pub did : List (List Entry × Act)
   pub undone : List (List Entry × Act)
@@ -115,19 +126,19 @@ pub record IsChat (g : Config) (start : Start) (name : Option (List ℕ)) (limit
   pub all_done : status ≢ OutOfMemory → undone ≡ []
   -- the lines of the journal's events were written
   pub front : AppendsFront s.written t.written (lines (events g entries))
-  pub whole : status ≢ OutOfMemory → ¬ Rose s.write_faults t.write_faults → Appends s.written t.written (lines (events g entries))
+  pub whole : IsSpared status (Rose s.write_faults t.write_faults) → Appends s.written t.written (lines (events g entries))
   -- the capture of all that was given was kept
-  pub held : (file : List ℕ) → name ≡ Some file → status ≢ OutOfMemory → ¬ Rose s.record_faults t.record_faults → Holds file entries s t
+  pub held : (file : List ℕ) → name ≡ Some file → IsSpared status (Rose s.record_faults t.record_faults) → Holds file entries s t
   -- the commands that were handed in are done by entries that were given, in order
   pub are_done : Sublist handed (done_by (entries ++ unstepped))
-  -- but for quits they begin the orders of the input; where all went well they begin them as they stand, and where a Quit of the input stopped the node they are all
-  pub in_order : IsPrefix (but_quits handed) (but_quits (orders octets))
+  -- they begin the orders of the input in front of its quit, but for a quit at their end; where all went well they begin the orders as they stand, and with a quit they are all of them
+  pub in_order : BreaksOff handed octets
   pub are_front : status ≡ Done → IsPrefix handed (orders octets)
   pub all_handed : status ≡ Done → list_any is_quit handed ≡ true → handed ≡ orders octets
   -- the status is the first of what occurred, each with its cause
   pub occurred : List Status
   pub is_status : status ≡ least occurred
-  pub caused : AreCaused occurred limit (length octets) turns (has_stopped (chronicle g entries)) s t
-  -- where nothing did, the world was started, it told the node to stop, and so the node did: the input is at its end, or a line of it is a quit, or the stop is the world's own
+  pub caused : AreCaused occurred limit octets turns (has_stopped (chronicle g entries)) s t
+  -- where nothing did, the world was started, it told the node to stop, and so the node did
   pub done : status ≡ Done → (begun ≡ true) × (list_any (λ e. is_end e.input) entries ≡ true) × (has_stopped (chronicle g entries) ≡ true)
-  pub ended : status ≡ Done → IsAtEnd t.left ⊎ ((list_any is_quit (typed octets) ≡ true) ⊎ (list_any is_quit handed ≡ false))
+  pub ended : status ≡ Done → HasEnded limit octets handed t.left

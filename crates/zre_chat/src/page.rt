@@ -22,6 +22,7 @@ pub(crate) struct Page {
 }
 
 impl Page {
+    /// Nothing was printed yet.
     pub fn new(alloc: Global) -> Self
         ensures { result ≡ fresh }
     {

@@ -30,6 +30,7 @@ pub(crate) struct Table {
 }
 
 impl Table {
+    /// Makes all of it.
     pub fn lay(alloc: Global, config: Config) -> Result<Table, OutOfMemory>
         requires { is_valid config ≡ true }
         ensures laid { IfOk result IsLaid }

@@ -1,9 +1,8 @@
 use Rattle.std.proofs.Common.{[], refl, arith}
+use mathlib.Core.Logic.{inl}
 use Rattle.std.proofs.KnownBytes.{Appends-nil, Consumes-nil}
-use Rattle.zre_capture.specs.Journal.{lines_in}
-use Rattle.zre_typist.specs.Orders.{orders_from, ended_lines}
-use Rattle.zre_typist.proofs.Quits.{orders-begin}
 use Rattle.zre_input.proofs.Puts.{puts-none}
+use Rattle.zre_chat.proofs.Whole.{nothing_begins}
 use Rattle.zre_chat.proofs.talk.unread.Goals as goal
 
 pub returns-clause-read : goal.returns-clause-read
@@ -13,5 +12,5 @@ returns-clause-read g c = let i = g.I.Source in let job = c.args.job in record {
   within = omega arith;
   commands = [];
   puts = puts-none job.pass;
-  outcome = orders-begin [] [] (orders_from 1 (ended_lines (lines_in []))) refl refl;
+  outcome = (nothing_begins [], inl refl);
 }
