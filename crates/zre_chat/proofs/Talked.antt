@@ -19,6 +19,7 @@ use Rattle.zre_outside.specs.Worlds.{with_start}
 use Rattle.zre_peer.specs.Lines.{line, lines}
 use Rattle.zre_journal.specs.declared.config.Config.{Config}
 use Rattle.zre_journal.specs.Config.{CanBe}
+use Rattle.zre_journal.specs.Endings.{is_end}
 use Rattle.zre_journal.specs.Events.{chronicle, events}
 use Rattle.zre_journal.specs.Happens.{has_stopped}
 use Rattle.zre_node.specs.declared.node.Node.{Node}
@@ -46,7 +47,7 @@ use Rattle.zre_pump.specs.declared.status.Status.TheVariants.{Done, OutOfMemory}
 use Rattle.zre_chat.specs.declared.asker.Wish.{Wish}
 use Rattle.zre_chat.specs.declared.asker.Wish.TheVariants.{No, Due, Put}
 use Rattle.zre_chat.specs.Asking.{asked, asker_of, HasAsked}
-use Rattle.zre_chat.specs.Chat.{Seen, IsChat, IsCaused, IsSpared, is_stop, HasEnded, Holds}
+use Rattle.zre_chat.specs.Chat.{Seen, IsChat, IsCaused, IsSpared, HasEnded, Holds}
 use Rattle.zre_chat.specs.Printing.{HasPrinted}
 use Rattle.zre_chat.specs.Stages.{Prepared}
 use Rattle.zre_chat.specs.Statuses.{least, of_read, of_print, of_work, of_thread}
@@ -266,7 +267,7 @@ module _ (g : Config) (start : Start) (name : Option (List ℕ)) (keep : Bool) (
 
   -- ---- why nothing more was read
 
-  has_one : (es : List Entry) → list_any (λ e. is_stop e.input) es ≡ true → 1 ≤ length es
+  has_one : (es : List Entry) → list_any (λ e. is_end e.input) es ≡ true → 1 ≤ length es
   has_one [] is = absurd (cc)
   has_one (e ∷ es) is = omega arith
 
