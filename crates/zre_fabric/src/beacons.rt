@@ -1,9 +1,9 @@
 ghost use Rattle.std.specs.Prelude.{◌≤◌, length, IfOk};
 ghost use Rattle.zre_fabric.specs.Pieces.{StepIsShort};
 
+use crate::errors::{ErrorClass, class_of};
 use crate::room::Room;
 use crate::step::Step;
-use crate::trouble::{Trouble, trouble_of};
 use mio::net::UdpSocket;
 use std::alloc::Global;
 use std::io;
@@ -61,10 +61,10 @@ impl Beacons {
         };
         match datagram {
             Ok(datagram) => Ok(entry_of(datagram)),
-            Err(e) => match trouble_of(&e) {
-                Trouble::Nothing => Ok(Step::Rest),
-                Trouble::Passing => Ok(Step::Again),
-                Trouble::Lasting => Err(NextFault::Failed),
+            Err(e) => match class_of(&e) {
+                ErrorClass::NotReady => Ok(Step::Rest),
+                ErrorClass::Transient => Ok(Step::Again),
+                ErrorClass::Fatal => Err(NextFault::Failed),
             },
         }
     }

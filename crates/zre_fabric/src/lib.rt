@@ -36,6 +36,7 @@
 
 mod beacons;
 mod conn;
+mod errors;
 mod fabric;
 mod link;
 mod network;
@@ -47,9 +48,6 @@ mod source;
 mod sources;
 mod step;
 mod stopwatch;
-mod trouble;
 
+pub use errors::{ErrorClass, class_of};
 pub use real_world::RealWorld;
-
-#[cfg(test)]
-mod tests;

@@ -5,11 +5,11 @@ ghost use Rattle.zre_fabric.specs.Pieces.{IsShort, StepIsShort};
 
 use crate::beacons::{Beacons, address};
 use crate::conn::Conn;
+use crate::errors::{ErrorClass, class_of};
 use crate::link::Link;
 use crate::room::Room;
 use crate::source::{Source, token_of};
 use crate::step::Step;
-use crate::trouble::{Trouble, trouble_of};
 use mio::net::{TcpListener, TcpStream};
 use mio::{Interest, Registry};
 use std::alloc::Global;
@@ -162,10 +162,10 @@ impl Sources {
     {
         match self.listener.accept() {
             Ok((stream, _)) => self.admit(stream, registry).map_err(no_memory),
-            Err(e) => match trouble_of(&e) {
-                Trouble::Nothing => Ok(Step::Rest),
-                Trouble::Passing => Ok(Step::Again),
-                Trouble::Lasting => Err(NextFault::Failed),
+            Err(e) => match class_of(&e) {
+                ErrorClass::NotReady => Ok(Step::Rest),
+                ErrorClass::Transient => Ok(Step::Again),
+                ErrorClass::Fatal => Err(NextFault::Failed),
             },
         }
     }

@@ -3,6 +3,10 @@
 #![tactic(auto)]
 
 #[cfg(test)]
+mod adapters;
+#[cfg(test)]
+mod network;
+#[cfg(test)]
 mod pipes;
 #[cfg(test)]
 mod runs_beside;

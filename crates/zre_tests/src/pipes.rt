@@ -4,13 +4,13 @@ ghost use Rattle.std.specs.Prelude.{◌≡◌, ◌+◌, ◌<◌, ◌^◌, ◌++�
 ghost use Rattle.zre_tests.specs.Ready.{IsReady};
 ghost use Rattle.zre_actor.specs.Passes.{IsActorOf, IsCallerOf, IsTakerOf, AreCallersOf, given_of, room_of, unused_by, ending_of, ended, how_many, last_of};
 
-use zre_actor::{
-    ActorJob, ActorPass, CallerPass, CallerPasses, Ending, Full, Made, Pipes, TakerPass, Told,
-};
 use std::alloc::Global;
 use std::sync::{Arc, Wait};
 use std::test::Fail;
 use std::thread::{Threads, join};
+use zre_actor::{
+    ActorJob, ActorPass, CallerPass, CallerPasses, Ending, Full, Made, Pipes, TakerPass, Told,
+};
 use zre_journal::Config;
 use zre_node::Node;
 use zre_outside::{Command, Script, Spawner, SureRecorder, SureWorld, ThreadSpawner, Turn};

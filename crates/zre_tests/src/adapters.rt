@@ -30,7 +30,7 @@ fn readers_and_writers_pass_octets_on(rt: HostRuntime) {
 
 #[test]
 fn a_file_keeps_what_is_put_and_begins_anew(rt: HostRuntime) -> Result<(), Fail> {
-    let name = "zre_fabric.capture";
+    let name = "zre_tests.capture";
     let mut recorder = FileRecorder::new(rt);
     assert!(rt; recorder.begin("no_such_folder/x") == Err(NextFault::Failed));
     for text in ["abc", "d"] {

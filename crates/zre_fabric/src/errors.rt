@@ -2,14 +2,15 @@
 
 use std::io::{self, ErrorKind};
 
+/// What an error of the listener or of the UDP socket means for that socket.
 #[derive(Clone, Copy)]
-pub(crate) enum Trouble {
+pub enum ErrorClass {
     /// Nothing is there now.
-    Nothing,
+    NotReady,
     /// One connection or one datagram is lost, or the system is short of something; the socket stands.
-    Passing,
+    Transient,
     /// The socket is of no more use.
-    Lasting,
+    Fatal,
 }
 
 // Numbers of Linux that std has no kind for.
@@ -35,9 +36,9 @@ const EHOSTDOWN: i32 = 112;
 /// ICMP messages bring about, as of a port that nobody listens on, to the next receive. Both concern one peer. A
 /// firewall refuses a connection by `EPERM`. Where the process or the system has no descriptor or no buffer left, the
 /// connection waits on, and is there at another try.
-pub(crate) fn trouble_of(e: &io::Error) -> Trouble {
+pub fn class_of(e: &io::Error) -> ErrorClass {
     match e.kind() {
-        ErrorKind::WouldBlock => Trouble::Nothing,
+        ErrorKind::WouldBlock => ErrorClass::NotReady,
         ErrorKind::Interrupted
         | ErrorKind::ConnectionAborted
         | ErrorKind::ConnectionRefused
@@ -47,13 +48,13 @@ pub(crate) fn trouble_of(e: &io::Error) -> Trouble {
         | ErrorKind::NetworkDown
         | ErrorKind::NetworkUnreachable
         | ErrorKind::HostUnreachable
-        | ErrorKind::OutOfMemory => Trouble::Passing,
-        _ if is_passing(e.raw_os_error()) => Trouble::Passing,
-        _ => Trouble::Lasting,
+        | ErrorKind::OutOfMemory => ErrorClass::Transient,
+        _ if is_transient(e.raw_os_error()) => ErrorClass::Transient,
+        _ => ErrorClass::Fatal,
     }
 }
 
-fn is_passing(number: Option<i32>) -> bool {
+fn is_transient(number: Option<i32>) -> bool {
     matches!(
         number,
         Some(ENFILE | EMFILE | ENONET | EPROTO | ENOPROTOOPT | EOPNOTSUPP | ENOBUFS | EHOSTDOWN)

@@ -1,8 +1,8 @@
 //! The order of turns, and what fails.
 
 use super::*;
-use crate::trouble::{Trouble, trouble_of};
 use std::{io, process};
+use zre_fabric::{ErrorClass, class_of};
 
 fn fails<R: Net + Clock>(world: &mut RealWorld<R>) -> bool {
     matches!(world.next(None), Err(NextFault::Failed))
@@ -55,12 +55,12 @@ fn a_command_comes_back_and_a_look_follows(rt: HostRuntime) -> Result<(), Fail> 
 
 #[test]
 fn an_error_of_one_peer_or_of_a_shortage_leaves_the_socket(rt: HostRuntime) {
-    let of = |number| trouble_of(&io::Error::from_raw_os_error(number));
-    assert!(rt; matches!(of(11), Trouble::Nothing), "EAGAIN");
+    let of = |number| class_of(&io::Error::from_raw_os_error(number));
+    assert!(rt; matches!(of(11), ErrorClass::NotReady), "EAGAIN");
     for number in [4, 12, 23, 24, 71, 100, 101, 103, 105, 111, 113] {
-        assert!(rt; matches!(of(number), Trouble::Passing), "{number}");
+        assert!(rt; matches!(of(number), ErrorClass::Transient), "{number}");
     }
     for number in [9, 22, 88] {
-        assert!(rt; matches!(of(number), Trouble::Lasting), "{number}");
+        assert!(rt; matches!(of(number), ErrorClass::Fatal), "{number}");
     }
 }

@@ -1,15 +1,14 @@
 //! Worlds over loopback. Each process takes addresses of its own out of 127.0.0.0/8, so that tests which run at the same
 //! time don't meet. No time that a test waits for is tight.
 
-mod adapters;
 mod flows;
 mod turns;
 
-use crate::RealWorld;
 use std::alloc::Global;
 use std::net::Net;
 use std::rt::Clock;
 use std::test::Fail;
+use zre_fabric::RealWorld;
 use zre_outside::{Act, Addresses, Command, Input, NextFault, Start, Turn, World};
 use zre_values::{Endpoint, Octets, OutOfMemory};
 
