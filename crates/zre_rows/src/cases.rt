@@ -167,7 +167,6 @@ impl Cases {
         report: &mut Report,
     ) -> Result<(), OutOfMemory> {
         self.settle_row(file, report)?;
-        self.names.begin_row();
         self.row = Row::new(self.alloc, title)?;
         self.row.line = line;
         Ok(())

@@ -7,15 +7,12 @@ use std::alloc::Global;
 use zre_capture::split_once;
 use zre_values::{Octets, OutOfMemory, Pairs, push_decimal};
 
-/// The texts that names stand for, those of the file and those of the row under way, and the count of a repetition: `{n}` in decimal
-/// digits, `{d}` in four of them at least, `{a}` the octets of these digits in hexadecimal, and `{x}` modulo 65,536 in four
-/// hexadecimal digits.
+/// The texts that names stand for, and the count of a repetition: `{n}` in decimal digits, `{d}` in four of them at least, `{a}` the
+/// octets of these digits in hexadecimal, and `{x}` modulo 65,536 in four hexadecimal digits.
 #[derive(Drop)]
 pub struct Names {
     alloc: Global,
-    of_file: Pairs,
-    of_row: Pairs,
-    is_in_row: bool,
+    texts: Pairs,
     pub count: u64,
 }
 
@@ -23,33 +20,14 @@ impl Names {
     pub fn new(alloc: Global) -> Self {
         Names {
             alloc,
-            of_file: Pairs::new(alloc),
-            of_row: Pairs::new(alloc),
-            is_in_row: false,
+            texts: Pairs::new(alloc),
             count: 0,
         }
     }
 
-    /// Forgets the names of the row before.
-    pub fn begin_row(&mut self) {
-        self.of_row = Pairs::new(self.alloc);
-        self.is_in_row = true;
-    }
-
-    fn is_known(&self, name: &[u8]) -> bool {
-        self.of_file.has_name(name) || self.of_row.has_name(name)
-    }
-
-    /// Gives a text a name that has none yet.
+    /// Gives a text a name. A text that had the name before has it no longer.
     pub fn define(&mut self, name: Octets, text: Octets) -> Result<(), Trouble> {
-        if self.is_known(name.as_slice()) {
-            return Err(Trouble::BadArgument);
-        }
-        if self.is_in_row {
-            self.of_row.push(name, text)?;
-        } else {
-            self.of_file.push(name, text)?;
-        }
+        self.texts.push(name, text)?;
         Ok(())
     }
 
@@ -77,11 +55,14 @@ impl Names {
     }
 
     fn push_value(&self, name: &[u8], out: &mut Octets) -> Result<(), Trouble> {
-        if self.push_count(name, out)?
-            || push_known(&self.of_file, name, out)?
-            || push_known(&self.of_row, name, out)?
-        {
+        if self.push_count(name, out)? {
             return Ok(());
+        }
+        for (known, text) in self.texts.as_slice().iter().rev() {
+            if known.as_slice() == name {
+                out.append(text.as_slice())?;
+                return Ok(());
+            }
         }
         Err(Trouble::UnknownName)
     }
@@ -106,17 +87,6 @@ impl Names {
         }
         Ok(false)
     }
-}
-
-// The text of a name, where it has one.
-fn push_known(names: &Pairs, name: &[u8], out: &mut Octets) -> Result<bool, OutOfMemory> {
-    for (known, text) in names.as_slice() {
-        if known.as_slice() == name {
-            out.append(text.as_slice())?;
-            return Ok(true);
-        }
-    }
-    Ok(false)
 }
 
 fn push_padded(out: &mut Octets, n: u64) -> Result<(), OutOfMemory> {
