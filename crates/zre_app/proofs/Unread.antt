@@ -1,5 +1,5 @@
 -- A call that found no memory at its start.
-use Rattle.std.proofs.Common.{◌≡◌, ℕ, true, false, List, [], Option, Some, None, refl}
+use Rattle.std.proofs.Common.{◌≡◌, ℕ, true, false, List, [], Option, Some, None, refl, arith}
 use Rattle.std.proofs.KnownBytes.{Appends-nil, Consumes-nil}
 use Rattle.zre_outside.specs.Causes.{Rose}
 use Rattle.zre_outside.specs.Told.{AppendsFront}
@@ -22,6 +22,7 @@ pub nothing_taken : (limit : ℕ) (m : Meaning) (left taken written : Option (Li
 nothing_taken limit m left taken written read write = record {
   octets = [];
   moved = record { consumed = Consumes-nil left; recorded = Appends-nil taken };
+  within = omega arith;
   outcome = ([], whole_text m [], refl, Appends-nil written);
 }
 
