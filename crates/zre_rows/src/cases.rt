@@ -208,8 +208,8 @@ impl Cases {
         self.settle_line(file, line, done, report)
     }
 
-    /// Takes a line.
-    pub fn take<T: Threads + Wait + AllocGlobal + Copy + Send + 'static>(
+    // Takes a line.
+    fn take<T: Threads + Wait + AllocGlobal + Copy + Send + 'static>(
         &mut self,
         rt: T,
         file: &[u8],
@@ -231,14 +231,30 @@ impl Cases {
         self.take_step(rt, file, line, text, report)
     }
 
-    /// Ends the file.
-    pub fn close(mut self, file: &[u8], line: u64, report: &mut Report) -> Result<(), OutOfMemory> {
+    // Ends the file.
+    fn close(&mut self, file: &[u8], line: u64, report: &mut Report) -> Result<(), OutOfMemory> {
         self.settle_step(file, report)?;
         if self.row.title.is_none() {
             self.row.has_failed = true;
             report.tell(file, line, b"a file with no row")?;
         }
         self.settle_row(file, report)
+    }
+
+    // Takes all lines of the file.
+    fn take_all<T: Threads + Wait + AllocGlobal + Copy + Send + 'static>(
+        &mut self,
+        rt: T,
+        file: &[u8],
+        text: &[u8],
+        report: &mut Report,
+    ) -> Result<(), OutOfMemory> {
+        let mut line: u64 = 0;
+        for part in text.split(|octet| *octet == b'\n') {
+            line = line.saturating_add(1);
+            self.take(rt, file, line, part, report)?;
+        }
+        self.close(file, line, report)
     }
 }
 
@@ -249,11 +265,5 @@ pub fn go_over<T: Threads + Wait + AllocGlobal + Copy + Send + 'static>(
     text: &[u8],
     report: &mut Report,
 ) -> Result<(), OutOfMemory> {
-    let mut cases = Cases::new(rt.alloc());
-    let mut line: u64 = 0;
-    for part in text.split(|octet| *octet == b'\n') {
-        line = line.saturating_add(1);
-        cases.take(rt, file, line, part, report)?;
-    }
-    cases.close(file, line, report)
+    Cases::new(rt.alloc()).take_all(rt, file, text, report)
 }
