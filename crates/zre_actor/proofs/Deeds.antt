@@ -11,7 +11,7 @@ use Rattle.zre_outside.specs.Worlds.{Log, after_turn, with_deed}
 use Rattle.zre_journal.specs.declared.config.Config.{Config}
 use Rattle.zre_journal.specs.Asked.{AreDue, IsDueAct}
 use Rattle.zre_journal.specs.Chronicle.{Mark}
-use Rattle.zre_journal.specs.Events.{chronicle, acts_behind}
+use Rattle.zre_journal.specs.Events.{chronicle, acts_after}
 use Rattle.zre_actor.specs.Work.{went, IsDeed, AreDeeds, beside, acts_of}
 
 alike : (l : Log) (g g' : List Entry) (n n' : ℕ) (h h' : List Command) (d d' : List Deed) → g ≡ g' → n ≡ n' → h ≡ h' → d ≡ d'
@@ -96,9 +96,9 @@ after_entry s t u t' c e es n h ds more is given done =
 -- ---- the acts of entries
 
 abbrev its_acts : Config → Entry → List Entry → List (List Entry × Act)
-its_acts g e J = beside (J ++ e ∷ []) (acts_behind g (e ∷ []) (chronicle g J))
+its_acts g e J = beside (J ++ e ∷ []) (acts_after g (e ∷ []) (chronicle g J))
 
-pub acts_of-snoc : (g : Config) (J es : List Entry) (e : Entry) → acts_of g J (es ++ e ∷ []) ≡ acts_of g J es ++ beside ((J ++ es) ++ e ∷ []) (acts_behind g (e ∷ []) (chronicle g (J ++ es)))
+pub acts_of-snoc : (g : Config) (J es : List Entry) (e : Entry) → acts_of g J (es ++ e ∷ []) ≡ acts_of g J es ++ beside ((J ++ es) ++ e ∷ []) (acts_after g (e ∷ []) (chronicle g (J ++ es)))
 acts_of-snoc g J [] e = append-nil (its_acts g e J) ∙ ap (its_acts g e) (sym (append-nil J))
 acts_of-snoc g J (x ∷ xs) e =
     ap (λ l. its_acts g x J ++ l) (acts_of-snoc g (J ++ x ∷ []) xs e ∙ ap (λ M. acts_of g (J ++ x ∷ []) xs ++ its_acts g e M) (append_assoc J (x ∷ []) xs))

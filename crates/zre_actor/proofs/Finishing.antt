@@ -69,10 +69,10 @@ one_put n [] k d less one here = absurd (omega arith)
 one_put n (p ∷ ps) zero d less one here = under-append n (put_by p) (puts_of ps) ∙ ap (λ l. under n (put_by p) ++ l) (none_put n ps (omega arith)) ∙ append-nil (under n (put_by p))
 one_put n (p ∷ ps) (suc k) d less one here = under-append n (put_by p) (puts_of ps) ∙ ap (λ l. l ++ under n (puts_of ps)) (p.is_caller.3 n (omega (arith, one_among n ps k d (omega arith)))) ∙ one_put n ps k d (omega arith) (omega arith) here
 
--- no command stands behind one that names its number as ended
-closed_behind : (before : List Placed) (last : Placed) (behind : List Placed) (n : ℕ) → Closed ((before ++ last ∷ []) ++ behind) → 1 ≤ times n last.ended → under n behind ≡ []
-closed_behind [] last behind n c h = c.0 n h
-closed_behind (e ∷ es) last behind n c h = closed_behind es last behind n c.1 h
+-- no command stands after one that names its number as ended
+closed_after : (before : List Placed) (last : Placed) (later : List Placed) (n : ℕ) → Closed ((before ++ last ∷ []) ++ later) → 1 ≤ times n last.ended → under n later ≡ []
+closed_after [] last later n c h = c.0 n h
+closed_after (e ∷ es) last later n c h = closed_after es last later n c.1 h
 
 module _ (v : View) (ps : List CallerPass) (items : List Command) (nothing : v.put ≡ []) (known : Accounts (gathered v ps) items) where
   history : List Placed
@@ -98,7 +98,7 @@ module _ (v : View) (ps : List CallerPass) (items : List Command) (nothing : v.p
   pub all_ended : (before : List Placed) (last : Placed) (n : ℕ) → v.popped ≡ before ++ last ∷ [] → 1 ≤ times n last.ended → under n v.popped ≡ under n (puts_of ps)
   all_ended before last n is here =
       let closed = subst Closed (ap (λ l. l ++ known.queued) (gathered_popped v ps ∙ is)) known.closed in
-      sym (append-nil (under n v.popped)) ∙ ap (λ l. under n v.popped ++ l) (sym (closed_behind before last known.queued n closed here)) ∙ sym (under-append n v.popped known.queued) ∙ all_put n
+      sym (append-nil (under n v.popped)) ∙ ap (λ l. under n v.popped ++ l) (sym (closed_after before last known.queued n closed here)) ∙ sym (under-append n v.popped known.queued) ∙ all_put n
 
 -- the loop took in every pass
 pub took_all : (given taken left : List CallerPass) (n : ℕ) → given ≡ taken ++ left → n ≡ length left → n ≡ 0 → taken ≡ given

@@ -6,7 +6,7 @@ use Rattle.zre_outside.specs.declared.entry.Entry.{Entry}
 use Rattle.zre_outside.specs.Worlds.{Log}
 use Rattle.zre_journal.specs.declared.config.Config.{Config}
 use Rattle.zre_journal.specs.Asked.{AreDue}
-use Rattle.zre_journal.specs.Events.{chronicle, acts, acts_behind}
+use Rattle.zre_journal.specs.Events.{chronicle, acts, acts_after}
 use Rattle.zre_journal.specs.Laws.{Continues}
 use Rattle.zre_journal.proofs.Due.{entry_due}
 use Rattle.zre_journal.proofs.Joined.{continues}
@@ -20,8 +20,8 @@ use Rattle.zre_actor.proofs.Deeds.{beside-append}
 
 module _ (g : Config) (J : List Entry) (e : Entry) (keep : Bool) (told told' : Option Log) (kept kept' : Option (List ℕ)) (n : Node) (s : Step) (st : Steps g J e n s) (k : keep ≡ true → Appends kept kept' (line e)) where
   -- the acts of a step are those of its entry
-  its_acts : acts_behind g (e ∷ []) (chronicle g J) ≡ s.acts
-  its_acts = append_cancel_left (acts g J) (acts_behind g (e ∷ []) (chronicle g J)) s.acts (let c : Continues g J (e ∷ []) = continues g J (e ∷ []) in sym c.done ∙ st.done)
+  its_acts : acts_after g (e ∷ []) (chronicle g J) ≡ s.acts
+  its_acts = append_cancel_left (acts g J) (acts_after g (e ∷ []) (chronicle g J)) s.acts (let c : Continues g J (e ∷ []) = continues g J (e ∷ []) in sym c.done ∙ st.done)
 
   -- and those that offer something find it
   pub its_due : AreDue g (chronicle g (J ++ e ∷ [])) s.acts
@@ -29,7 +29,7 @@ module _ (g : Config) (J : List Entry) (e : Entry) (keep : Bool) (told told' : O
 
   pub went_on : DoesAll g (J ++ e ∷ []) s.acts true told told' → Went g J e keep told told' kept kept' n s.events
   went_on d =
-      let all : acts_behind g (e ∷ []) (chronicle g J) ≡ d.did = its_acts ∙ d.are_acts ∙ ap (λ x. d.did ++ x) (d.all_done refl) ∙ append-nil d.did in
+      let all : acts_after g (e ∷ []) (chronicle g J) ≡ d.did = its_acts ∙ d.are_acts ∙ ap (λ x. d.did ++ x) (d.all_done refl) ∙ append-nil d.did in
       record {
         stands = st.stands;
         deeds = d.deeds;

@@ -110,7 +110,7 @@ quit_stops g J e is going =
     ap (λ b. after (cond b [] (at_input g e.input H M)) M) going ∙ ap (λ i. after (at_input g i H M) M) is ∙ stop-is g M in
     ap has_stopped (c.happened ∙ stops)
 
--- so a command that is handed to a node that goes on behind it is none Quit
+-- so a command that is handed to a node that goes on after it is none Quit
 no_quit : (g : Config) (J : List Entry) (e : Entry) (command : Option Command) → IsTurn command (turn.Entry e) → has_stopped (chronicle g J) ≡ false → has_stopped (chronicle g (J ++ e ∷ [])) ≡ false → NoQuit (option_to_list command)
 no_quit g J e None is going on = tt
 no_quit g J e (Some c) is going on = (λ q. true≢false (sym (quit_stops g J e (is ∙ ap input.Do q) going) ∙ on), tt)
@@ -131,7 +131,7 @@ module _ (g : Config) (K : List Entry) (keep : Bool) (limit : ℕ) (s : Scene) w
     pub are_raised : t.raised ≡ s.raised ++ told
     pub are_kept : keep ≡ true → Appends s.kept t.kept (lines entries)
     pub busy : (c : Command) → command ≡ Some c → has_stopped (chronicle g (K ++ entries)) ≡ false
-    -- no Quit was handed to a node that goes on, and nothing was popped behind one
+    -- no Quit was handed to a node that goes on, and nothing was popped after one
     pub unquit : has_stopped (chronicle g (K ++ entries)) ≡ false → NoQuit goes.handed
     pub quits_last : QuitsLast (map command_of goes.popped)
     pub world_later : s.world_faults ≤ t.world_faults
@@ -226,7 +226,7 @@ module _ (g : Config) (K : List Entry) (keep : Bool) (limit : ℕ) (s : Scene) w
       pub world_later : t.world_faults ≤ u.world_faults
       pub record_same : u.record_faults ≡ t.record_faults
 
-    -- what is popped behind a look stands behind commands that are no Quit
+    -- what is popped after a look stands after commands that are no Quit
     look_quits : (u : Scene) (found : Option Command) (told : u.told ≡ option_map (after_turn command turn.Look) t.told) (popped : Pops t found u) (now : late turns limit t.looked ≡ 0) (later : late (turns + 1) limit u.looked ≡ 0)
         (hands : map command_of k.goes.popped ≡ k.goes.handed ++ []) → NoQuit k.goes.handed → QuitsLast (map command_of (looks_again u found told popped now later hands).popped)
     look_quits u None told popped now later hands none = k.quits_last
@@ -265,7 +265,7 @@ module _ (g : Config) (K : List Entry) (keep : Bool) (limit : ℕ) (s : Scene) w
           record_later = omega (arith, k.record_later, w.record_same);
         }
 
-    -- a look in the last turn, behind which nothing is popped
+    -- a look in the last turn, after which nothing is popped
     pub looked_last : (u : Scene) → Looks u → u.popped ≡ t.popped → u.empties ≡ t.empties → turns + 1 ≡ limit → IsTurn command turn.Look → Running (turns + 1) u n None
     looked_last u w popped empties last is =
         let h = k.goes in

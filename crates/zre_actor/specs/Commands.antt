@@ -27,7 +27,7 @@ abbrev pub naming : ℕ → List Placed → ℕ
 naming n [] = 0
 naming n (e ∷ es) = times n e.ended + naming n es
 
--- no command stands behind one that names its number as ended
+-- no command stands after one that names its number as ended
 abbrev pub Closed : List Placed → Type 0
 Closed [] = Unit {0}
 Closed (e ∷ es) = ((n : ℕ) → 1 ≤ times n e.ended → under n es ≡ []) × Closed es
@@ -65,7 +65,7 @@ pub record Kept (out history : List Placed) (views : List View) : Type 0 where
   pub alone : Each views (λ v. (n : ℕ) → times n (live v) ≡ 0 → under n v.put ≡ [])
   -- every command has an own or ended number of some pass
   pub known : (n : ℕ) → among live n views ≡ 0 → under n history ≡ []
-  -- a number that a command names as ended is an ended number of some pass, and no command under it stands behind that command
+  -- a number that a command names as ended is an ended number of some pass, and no command under it stands after that command
   pub named : (n : ℕ) → among (λ v. v.ended) n views ≡ 0 → naming n history ≡ 0
   pub closed : Closed history
 

@@ -14,7 +14,7 @@ hearing raises raised ended_by takes taken last = record { raises = raises; rais
 abbrev pub event_of : Event → Told
 event_of e = told.Event e
 
--- what is queued, where these events were raised and not taken: behind them Last stands once, from when it was pushed until it is taken
+-- what is queued, where these events were raised and not taken: after them Last stands once, from when it was pushed until it is taken
 abbrev pub Queued : Option Ending → Option Ending → List Event → List Told → Type 0
 Queued None None rest items = items ≡ map event_of rest
 Queued None (Some last) rest items = ⊥

@@ -17,8 +17,8 @@ use Rattle.zre_outside.specs.Causes.{Rose}
 use Rattle.zre_outside.specs.Worlds.{Log}
 use Rattle.zre_peer.specs.declared.event.Event.{Event}
 use Rattle.zre_journal.specs.declared.config.Config.{Config}
-use Rattle.zre_journal.specs.Asked.{front_behind}
-use Rattle.zre_journal.specs.Events.{chronicle, events, acts_behind}
+use Rattle.zre_journal.specs.Asked.{front_after}
+use Rattle.zre_journal.specs.Events.{chronicle, events, acts_after}
 use Rattle.zre_journal.specs.Happens.{has_stopped}
 use Rattle.zre_node.specs.declared.node.Node.{Node}
 use Rattle.zre_node.specs.Journal.{StandsFor, is_spent}
@@ -55,7 +55,7 @@ went given looks handed deeds l = record { begun = l.begun; given = l.given ++ g
 
 -- what a world does for an act of a node that stands for J: an offer has some of the first octets that the link may send
 abbrev pub IsDeed : Config → List Entry → Act → Deed → Type 0
-IsDeed g J (act.Offer l) d = (bytes : List ℕ) × (rest : List ℕ) × (d ≡ deed.Offered l bytes) × (bytes ≢ []) × (front_behind g J l ≡ Some (bytes ++ rest))
+IsDeed g J (act.Offer l) d = (bytes : List ℕ) × (rest : List ℕ) × (d ≡ deed.Offered l bytes) × (bytes ≢ []) × (front_after g J l ≡ Some (bytes ++ rest))
 IsDeed g J a d = d ≡ deed.Done a
 
 -- the same of acts, one by one; each has the journal up to its entry beside it
@@ -69,10 +69,10 @@ AreDeeds g (x ∷ xs) (d ∷ ds) = IsDeed g x.0 x.1 d × AreDeeds g xs ds
 abbrev pub beside : List Entry → List Act → List (List Entry × Act)
 beside J acts = map (λ a. (J, a)) acts
 
--- the acts of these entries behind J, each beside the journal up to its entry
+-- the acts of these entries after J, each beside the journal up to its entry
 abbrev pub acts_of : Config → List Entry → List Entry → List (List Entry × Act)
 acts_of g J [] = []
-acts_of g J (e ∷ es) = beside (J ++ e ∷ []) (acts_behind g (e ∷ []) (chronicle g J)) ++ acts_of g (J ++ e ∷ []) es
+acts_of g J (e ∷ es) = beside (J ++ e ∷ []) (acts_after g (e ∷ []) (chronicle g J)) ++ acts_of g (J ++ e ∷ []) es
 
 -- ---- turns
 
@@ -85,7 +85,7 @@ command_in i = []
 abbrev pub done_by : List Entry → List Command
 done_by entries = flat_map (λ e. command_in e.input) entries
 
--- the last turn that the limit allows was a look, behind which nothing is popped
+-- the last turn that the limit allows was a look, after which nothing is popped
 abbrev pub late : ℕ → ℕ → Bool → ℕ
 late turns limit looked = cond (nat_lt 0 limit && (turns == limit) && looked) 1 0
 
@@ -101,7 +101,7 @@ pub record Goes (turns limit : ℕ) (s t : Scene) (given : List Entry) (deeds : 
   pub are_handed : map command_of popped ≡ handed ++ pending
   -- each that was handed on is done by an entry, in order
   pub are_done : Sublist handed (done_by given)
-  -- behind each look the pipe was popped once
+  -- after each look the pipe was popped once
   pub are_looks : looks + s.empties ≡ length popped + t.empties + late turns limit t.looked
 
 -- ---- endings
@@ -119,7 +119,7 @@ Ends ending.RecordFault stopped turns limit keep s t unstepped pending = (stoppe
 Ends ending.TooLong stopped turns limit keep s t unstepped pending = (stopped ≡ false) × (unstepped ≡ []) × (pending ≡ []) × (turns ≡ limit)
 Ends ending.OutOfMemory stopped turns limit keep s t unstepped pending = length unstepped + length pending ≤ 1
 
--- a recorder holds the lines of entries more, and behind them a front of the line of the one that wasn't stepped
+-- a recorder holds the lines of entries more, and after them a front of the line of the one that wasn't stepped
 pub record KeptLines (before now : Option (List ℕ)) (entries unstepped : List Entry) : Type 0 where
   pub part : List ℕ
   pub rest : List ℕ
@@ -131,7 +131,7 @@ abbrev pub QuitsLast : List Command → Type 0
 QuitsLast [] = Unit {0}
 QuitsLast (c ∷ cs) = (c ≡ ask.Quit → cs ≡ []) × QuitsLast cs
 
--- the node hadn't stopped before any of these entries behind J
+-- the node hadn't stopped before any of these entries after J
 abbrev pub AllGo : Config → List Entry → List Entry → Type 0
 AllGo g J [] = Unit {0}
 AllGo g J (e ∷ es) = (has_stopped (chronicle g J) ≡ false) × AllGo g (J ++ e ∷ []) es
@@ -145,12 +145,12 @@ pub record IsWork (g : Config) (K : List Entry) (keep : Bool) (limit : ℕ) (s t
   pub pending : List Command
   pub deeds : List Deed
   pub goes : Goes turns limit s t (entries ++ unstepped) deeds pending
-  -- no more turns were answered than the limit allows, and nothing was given behind the entry that stopped the node
+  -- no more turns were answered than the limit allows, and nothing was given after the entry that stopped the node
   pub most : turns ≤ limit
   pub all_go : AllGo g K (entries ++ unstepped)
   -- each is a value of its types
   pub are_values : All IsEntry (entries ++ unstepped)
-  -- nothing was popped behind a Quit
+  -- nothing was popped after a Quit
   pub quits_last : QuitsLast (map command_of goes.popped)
   -- the node stands for what it took, unless it found no memory for its last step
   pub node : StandsFor g (K ++ entries) n ⊎ (IsTrue (is_spent n) × (ended ≡ ending.OutOfMemory) × (length unstepped ≡ 1))
@@ -186,11 +186,11 @@ pub record DoesAll (g : Config) (J : List Entry) (acts : List Act) (all : Bool) 
   pub is_told : told' ≡ option_map (went [] 0 [] deeds) told
   pub all_done : all ≡ true → undone ≡ []
 
--- an entry was put, stepped and done behind J, and these events are to be raised
+-- an entry was put, stepped and done after J, and these events are to be raised
 pub record Went (g : Config) (J : List Entry) (e : Entry) (keep : Bool) (told told' : Option Log) (kept kept' : Option (List ℕ)) (n : Node) (es : List Event) : Type 0 where
   pub stands : StandsFor g (J ++ e ∷ []) n
   pub deeds : List Deed
-  pub are_deeds : AreDeeds g (beside (J ++ e ∷ []) (acts_behind g (e ∷ []) (chronicle g J))) deeds
+  pub are_deeds : AreDeeds g (beside (J ++ e ∷ []) (acts_after g (e ∷ []) (chronicle g J))) deeds
   pub is_told : told' ≡ option_map (went [] 0 [] deeds) told
   pub are_events : events g (J ++ e ∷ []) ≡ events g J ++ es
   pub is_kept : keep ≡ true → Appends kept kept' (line e)
@@ -219,7 +219,7 @@ pub record IsUndone (g : Config) (J : List Entry) (e : Entry) (keep : Bool) (tol
   pub did : List (List Entry × Act)
   pub undone : List (List Entry × Act)
   pub deeds : List Deed
-  pub are_acts : beside (J ++ e ∷ []) (acts_behind g (e ∷ []) (chronicle g J)) ≡ did ++ undone
+  pub are_acts : beside (J ++ e ∷ []) (acts_after g (e ∷ []) (chronicle g J)) ≡ did ++ undone
   pub are_deeds : AreDeeds g did deeds
   pub is_told : told' ≡ option_map (went [] 0 [] deeds) told
   pub untold : List Event

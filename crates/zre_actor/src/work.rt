@@ -30,9 +30,9 @@ pub struct Worked<W, R> {
 }
 
 impl Pipes {
-    /// Takes one turn of the world after the other, and raises what the node tells. Behind each look the command pipe is popped once,
-    /// and a command found goes into the next turn; behind a look in the last turn it isn't. It ends at a node that has stopped, at
-    /// a fault, for want of memory or behind so many turns, and raises last why.
+    /// Takes one turn of the world after the other, and raises what the node tells. After each look the command pipe is popped once,
+    /// and a command found goes into the next turn; after a look in the last turn it isn't. It ends at a node that has stopped, at
+    /// a fault, out of memory or after so many turns, and raises last why.
     pub fn work<W: World, R: Recorder, T: Wait + Copy>(
         &self,
         rt: T,

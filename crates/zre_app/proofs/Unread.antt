@@ -3,11 +3,11 @@ use Rattle.std.proofs.Common.{◌≡◌, ℕ, true, false, List, [], Option, Som
 use Rattle.std.proofs.KnownBytes.{Appends-nil, Consumes-nil}
 use Rattle.zre_outside.specs.Causes.{Rose}
 use Rattle.zre_outside.specs.Told.{AppendsFront}
-use Rattle.zre_pump.specs.Meaning.{Meaning, whole_text}
-use Rattle.zre_pump.specs.Outcome.{Pumped}
-use Rattle.zre_pump.specs.declared.status.Status.{Status}
-use Rattle.zre_pump.specs.declared.status.Status.TheVariants as statuses
-use Rattle.zre_exercise.specs.Exercise.{text as exercise_text}
+use Rattle.zre_commands.specs.pump.Meaning.{Meaning, whole_text}
+use Rattle.zre_commands.specs.pump.Outcome.{Pumped}
+use Rattle.zre_commands.specs.declared.pump.status.Status.{Status}
+use Rattle.zre_commands.specs.declared.pump.status.Status.TheVariants as statuses
+use Rattle.zre_commands.specs.exercise.Exercise.{text as exercise_text}
 use Rattle.zre_chat.specs.Chat.{Seen}
 use Rattle.zre_chat.proofs.Rows.{memory_isnt}
 use Rattle.zre_chat.proofs.Whole.{untalked, none_started}

@@ -5,7 +5,7 @@ use Rattle.zre_capture.specs.Values.{address_of}
 use Rattle.zre_outside.specs.declared.start.Start.{Start}
 use Rattle.zre_journal.specs.Config.{is_valid}
 use Rattle.zre_journal.specs.declared.config.Config.{Config}
-use Rattle.zre_app.specs.Keys.{begins, behind, value_of}
+use Rattle.zre_app.specs.Keys.{begins, after, value_of}
 use Rattle.zre_app.specs.NodeWords.{node_keys, number_or, between}
 use Rattle.zre_app.specs.declared.keys.Often.{Often}
 use Rattle.zre_app.specs.declared.keys.Often.TheVariants.{AtMostOnce, AnyTimes}
@@ -20,7 +20,7 @@ chat_keys =
 abbrev pub addresses_from : List (List ℕ) → List (List ℕ) → Option (List (List ℕ))
 addresses_from done [] = Some done
 addresses_from done (word ∷ words) =
-    if begins (codes "to=") word then option_and_then (λ a. addresses_from (done ++ a ∷ []) words) (option_and_then address_of (behind (codes "to=") word))
+    if begins (codes "to=") word then option_and_then (λ a. addresses_from (done ++ a ∷ []) words) (option_and_then address_of (after (codes "to=") word))
     else addresses_from done words
 
 -- at most 64 addresses

@@ -1,12 +1,12 @@
 -- What a call does, by the command that its words are.
 use Rattle.std.specs.Prelude.{ℕ, Bool, true, false, List, Option, Some, None}
 use Rattle.zre_outside.specs.Causes.{Rose}
-use Rattle.zre_pump.specs.declared.status.Status.{Status}
-use Rattle.zre_pump.specs.Outcome.{Pumped}
-use Rattle.zre_follow.specs.Follow.{follow}
-use Rattle.zre_show.specs.Show.{show}
-use Rattle.zre_replay.specs.Replay.{replay}
-use Rattle.zre_exercise.specs.Exercise.{text as exercise_text}
+use Rattle.zre_commands.specs.declared.pump.status.Status.{Status}
+use Rattle.zre_commands.specs.pump.Outcome.{Pumped}
+use Rattle.zre_commands.specs.follow.Follow.{follow}
+use Rattle.zre_commands.specs.show.Show.{show}
+use Rattle.zre_commands.specs.replay.Replay.{replay}
+use Rattle.zre_commands.specs.exercise.Exercise.{text as exercise_text}
 use Rattle.zre_chat.specs.Chat.{Seen, IsChat}
 use Rattle.zre_app.specs.declared.words.Command.{Command}
 use Rattle.zre_app.specs.declared.words.Command.TheVariants.{Follow, Show, Replay, Exercise, Chat}

@@ -1,4 +1,4 @@
--- The words of a command behind its name: keys with their values in any order.
+-- The words of a command after its name: keys with their values in any order.
 use Rattle.std.specs.Prelude.{ℕ, Bool, true, ◌&&◌, ◌==◌, nat_le, List, [], ◌∷◌, Option, Some, None, is_some, option_map, count_by, if◌then◌else◌}
 use Rattle.std.specs.List.{list_any, list_all}
 use Rattle.uuid.specs.Text.{parsed}
@@ -6,14 +6,14 @@ use Rattle.zre_values.specs.declared.peer_id.PeerId.{PeerId}
 use Rattle.zre_app.specs.declared.keys.Often.{Often}
 use Rattle.zre_app.specs.declared.keys.Often.TheVariants.{Once, AtMostOnce, AnyTimes}
 
--- what stands behind a front, where the word begins with it; a key ends in `=`, so it is the word's key up to the first one
-abbrev pub behind : List ℕ → List ℕ → Option (List ℕ)
-behind [] word = Some word
-behind (k ∷ key) [] = None
-behind (k ∷ key) (c ∷ word) = if k == c then behind key word else None
+-- what stands after a front, where the word begins with it; a key ends in `=`, so it is the word's key up to the first one
+abbrev pub after : List ℕ → List ℕ → Option (List ℕ)
+after [] word = Some word
+after (k ∷ key) [] = None
+after (k ∷ key) (c ∷ word) = if k == c then after key word else None
 
 abbrev pub begins : List ℕ → List ℕ → Bool
-begins key word = is_some (behind key word)
+begins key word = is_some (after key word)
 
 -- whether a key may stand in so many words
 abbrev pub may_stand : Often → ℕ → Bool
@@ -30,7 +30,7 @@ are_words_of keys words =
 -- the value of the first word of a key
 abbrev pub value_of : List ℕ → List (List ℕ) → Option (List ℕ)
 value_of key [] = None
-value_of key (word ∷ words) = if begins key word then behind key word else value_of key words
+value_of key (word ∷ words) = if begins key word then after key word else value_of key words
 
 -- an identity in any text form of a UUID
 abbrev pub identity : List ℕ → Option PeerId

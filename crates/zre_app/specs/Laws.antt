@@ -6,10 +6,10 @@ use Rattle.zre_outside.specs.declared.entry.Entry.{Entry}
 use Rattle.zre_outside.specs.declared.start.Start.{Start}
 use Rattle.zre_journal.specs.declared.config.Config.{Config}
 use Rattle.zre_capture.specs.Lines.{head, lines, IsWritable}
-use Rattle.zre_pump.specs.Meaning.{whole_text}
-use Rattle.zre_pump.specs.declared.status.Status.{Status}
+use Rattle.zre_commands.specs.pump.Meaning.{whole_text}
+use Rattle.zre_commands.specs.declared.pump.status.Status.{Status}
 use Rattle.zre_chat.specs.Chat.{Seen, IsChat, IsSpared, Holds}
-use Rattle.zre_replay.specs.Replay.{replay}
+use Rattle.zre_commands.specs.replay.Replay.{replay}
 
 -- a chat kept a capture, and what it wrote is what a replay of that capture with the same settings writes: the capture isn't refused
 pub record Replays (g : Config) (file : List ℕ) (s t : Seen) : Type 0 where

@@ -5,7 +5,7 @@ use Rattle.zre_values.specs.declared.peer_id.PeerId.{PeerId}
 use Rattle.zre_capture.specs.Values.{number_of, address_of}
 use Rattle.zre_journal.specs.Config.{is_valid}
 use Rattle.zre_journal.specs.declared.config.Config.{Config}
-use Rattle.zre_app.specs.Keys.{behind, begins, value_of, identity}
+use Rattle.zre_app.specs.Keys.{after, begins, value_of, identity}
 use Rattle.zre_app.specs.declared.keys.Often.{Often}
 use Rattle.zre_app.specs.declared.keys.Often.TheVariants.{Once, AtMostOnce, AnyTimes}
 use Rattle.zre_app.specs.declared.node_words.Fixed.{Fixed}
@@ -55,7 +55,7 @@ fixed_in words =
 abbrev pub name_in : PeerId → List (List ℕ) → List ℕ
 name_in id words = unwrap_or (value_of (codes "name=") words) (take 6 (id_text id))
 
--- a name and a value, before and behind the first `=`
+-- a name and a value, before and after the first `=`
 abbrev pub header_of : List ℕ → Option (List ℕ × List ℕ)
 header_of text = option_map (λ i. (take i text, drop (i + 1) text)) (position (λ b. b == 61) text)
 
@@ -63,7 +63,7 @@ header_of text = option_map (λ i. (take i text, drop (i + 1) text)) (position (
 abbrev pub headers_from : List (List ℕ × List ℕ) → List (List ℕ) → Option (List (List ℕ × List ℕ))
 headers_from done [] = Some done
 headers_from done (word ∷ words) =
-    if begins (codes "header=") word then option_and_then (λ h. headers_from (done ++ h ∷ []) words) (option_and_then header_of (behind (codes "header=") word))
+    if begins (codes "header=") word then option_and_then (λ h. headers_from (done ++ h ∷ []) words) (option_and_then header_of (after (codes "header=") word))
     else headers_from done words
 
 abbrev pub config_by : Fixed → List ℕ → List (List ℕ × List ℕ) → Config

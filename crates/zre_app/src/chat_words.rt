@@ -9,7 +9,7 @@ ghost use Rattle.zre_app.specs.NodeWords.{between, number_or as number_or_defaul
 ghost use Rattle.zre_app.specs.Words.{chat_in, chat_of, IsReady};
 ghost use Rattle.zre_journal.specs.Config.{is_valid};
 
-use crate::keys::{Key, Often, are_words_of, behind, value_of};
+use crate::keys::{Key, Often, after, are_words_of, value_of};
 use crate::node_words::{config_in, number_or};
 use crate::words::{Command, is_text};
 use std::alloc::Global;
@@ -81,7 +81,7 @@ fn take_address(word: &[u8], to: &mut Addresses) -> Result<bool, OutOfMemory>
     ensures { (words : List (List ℕ)) → IfOk result (λ good. addresses_from to.old (word.now ∷ words)
         ≡ (if good then addresses_from to.new words else None)) }
 {
-    let Some(text) = behind(b"to=", word) else {
+    let Some(text) = after(b"to=", word) else {
         return Ok(true);
     };
     match address(text) {
@@ -238,7 +238,7 @@ fn chat_in(alloc: Global, words: &[Octets]) -> Result<Option<Command>, OutOfMemo
     }))
 }
 
-/// The command `chat`, of the words behind its name.
+/// The command `chat`, of the words after its name.
 pub(crate) fn chat_of(alloc: Global, words: &[Octets]) -> Result<Option<Command>, OutOfMemory>
     ensures value { IfOk result (λ command. command ≡ chat_of words.now) }
     ensures ready { IfOk result IsReady }

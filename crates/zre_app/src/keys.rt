@@ -2,7 +2,7 @@
 
 ghost use Rattle.std.specs.Prelude.{◌≡◌, map, count_by, is_some, option_copied};
 ghost use Rattle.std.specs.List.{list_all, list_any};
-ghost use Rattle.zre_app.specs.Keys.{are_words_of, begins, behind, identity, may_stand, value_of};
+ghost use Rattle.zre_app.specs.Keys.{are_words_of, begins, after, identity, may_stand, value_of};
 
 use zre_values::{Octets, PeerId};
 
@@ -21,9 +21,9 @@ pub(crate) struct Key<'a> {
     pub often: Often,
 }
 
-/// What stands behind a front, where the word begins with it.
-pub(crate) fn behind<'a>(key: &[u8], word: &'a [u8]) -> Option<&'a [u8]>
-    ensures { option_copied result ≡ behind key.now word.now }
+/// What stands after a front, where the word begins with it.
+pub(crate) fn after<'a>(key: &[u8], word: &'a [u8]) -> Option<&'a [u8]>
+    ensures { option_copied result ≡ after key.now word.now }
 {
     let mut rest = word;
     for k in key {
@@ -44,7 +44,7 @@ pub(crate) fn behind<'a>(key: &[u8], word: &'a [u8]) -> Option<&'a [u8]>
 pub(crate) fn begins(key: &[u8], word: &[u8]) -> bool
     ensures { result ≡ begins key.now word.now }
 {
-    behind(key, word).is_some()
+    after(key, word).is_some()
 }
 
 fn is_known(keys: &[Key<'_>], word: &[u8]) -> bool
@@ -98,7 +98,7 @@ pub(crate) fn value_of<'a>(key: &[u8], words: &'a [Octets]) -> Option<&'a [u8]>
 {
     for word in words {
         if begins(key, word.as_slice()) {
-            return behind(key, word.as_slice());
+            return after(key, word.as_slice());
         }
     }
     None

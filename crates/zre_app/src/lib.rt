@@ -1,4 +1,4 @@
-//! The program behind `main`: the words of its command line, and the top call that does what they ask for over a
+//! The program after `main`: the words of its command line, and the top call that does what they ask for over a
 //! source and a sink, and for `chat` over a world, a recorder and a spawner.
 #![tactic(auto)]
 
@@ -15,4 +15,4 @@ pub use laws::kept_captures_are_replayed;
 pub use plain_commands::{PlainEnded, plain};
 pub use top::{Ended, LIMIT, run, zre};
 pub use words::{Command, command_of, is_chat};
-pub use zre_pump::Status;
+pub use zre_commands::pump::Status;

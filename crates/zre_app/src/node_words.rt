@@ -2,10 +2,10 @@
 
 ghost use Rattle.std.specs.Prelude.{◌≡◌, ◌==◌, ◌∷◌, ℕ, List, [], true, None, if◌then◌else◌, map, option_and_then, position, codes, IfOk, IfSome};
 ghost use Rattle.zre_app.specs.NodeWords.{node_keys, number_or, port_of, id_in, host_in, port_in, evasive_in, expired_in, fixed_in, name_in, header_of, headers_from, config_in};
-ghost use Rattle.zre_app.specs.Keys.{behind as behind_key, value_of as value_of_key};
+ghost use Rattle.zre_app.specs.Keys.{after as after_key, value_of as value_of_key};
 ghost use Rattle.zre_journal.specs.Config.{is_valid};
 
-use crate::keys::{Key, Often, begins, behind, identity, value_of};
+use crate::keys::{Key, Often, after, begins, identity, value_of};
 use std::alloc::Global;
 use zre_capture::{address, number};
 use zre_journal::Config;
@@ -165,15 +165,15 @@ fn header_of(alloc: Global, text: &[u8]) -> Result<Option<(Octets, Octets)>, Out
         return Ok(None);
     };
     let (front, rest) = text.split_at(i);
-    let (_, behind) = rest.split_at(1);
-    Ok(Some((Octets::copy(alloc, front)?, Octets::copy(alloc, behind)?)))
+    let (_, after) = rest.split_at(1);
+    Ok(Some((Octets::copy(alloc, front)?, Octets::copy(alloc, after)?)))
 }
 
 // The header of a word that begins with the key of one.
 fn header_in(alloc: Global, word: &[u8]) -> Result<Option<(Octets, Octets)>, OutOfMemory>
-    ensures { IfOk result (λ header. header ≡ option_and_then header_of (behind_key (codes "header=") word.now)) }
+    ensures { IfOk result (λ header. header ≡ option_and_then header_of (after_key (codes "header=") word.now)) }
 {
-    match behind(b"header=", word) {
+    match after(b"header=", word) {
         Some(text) => header_of(alloc, text),
         None => Ok(None),
     }

@@ -2,25 +2,25 @@
 
 ghost use Rattle.std.specs.Prelude.{◌≡◌, ◌≤◌, true, false};
 ghost use Rattle.zre_outside.specs.Causes.{Rose};
-ghost use Rattle.zre_pump.specs.Outcome.{Pumped};
-ghost use Rattle.zre_follow.specs.Follow.{follow};
+ghost use Rattle.zre_commands.specs.pump.Outcome.{Pumped};
+ghost use Rattle.zre_commands.specs.follow.Follow.{follow};
 ghost use Rattle.zre_journal.specs.Config.{is_valid};
-ghost use Rattle.zre_replay.specs.Replay.{replay};
-ghost use Rattle.zre_show.specs.Show.{show};
-ghost use Rattle.zre_exercise.specs.Exercise.{text as exercise_text};
+ghost use Rattle.zre_commands.specs.replay.Replay.{replay};
+ghost use Rattle.zre_commands.specs.show.Show.{show};
+ghost use Rattle.zre_commands.specs.exercise.Exercise.{text as exercise_text};
 ghost use Rattle.zre_app.specs.Usage.{UsageOutcome, WritesText};
 ghost use Rattle.zre_app.specs.Does.{DoesPlain, is_unread};
 ghost use Rattle.zre_app.specs.Words.{command_of, is_chat, is_plain, IsReady};
 
 use crate::words::{Command, command_of};
 use std::alloc::Global;
-use zre_exercise::push_summary;
-use zre_follow::Follower;
+use zre_commands::exercise::push_summary;
+use zre_commands::follow::Follower;
+use zre_commands::pump::{Status, pump};
+use zre_commands::replay::Replayer;
+use zre_commands::show::Lister;
 use zre_journal::Config;
 use zre_outside::{NextFault, Sink, Source, write_all};
-use zre_pump::{Status, pump};
-use zre_replay::Replayer;
-use zre_show::Lister;
 use zre_values::{Frames, Octets, OutOfMemory, PeerId};
 
 /// How a call ended, and the source that was handed in.

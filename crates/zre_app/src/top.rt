@@ -12,8 +12,8 @@ use crate::words::is_chat;
 use std::alloc::Global;
 use std::sync::Wait;
 use std::thread::Threads;
+use zre_commands::pump::Status;
 use zre_outside::{Recorder, Sink, Source, Spawner, World};
-use zre_pump::Status;
 use zre_values::{Frames, OutOfMemory};
 
 /// The most octets that `zre` reads.

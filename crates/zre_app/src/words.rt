@@ -176,7 +176,7 @@ pub fn is_chat(words: &Frames) -> bool
     }
 }
 
-/// The command that the words are: those behind the program's name, each as its octets. None where they are in no
+/// The command that the words are: those after the program's name, each as its octets. None where they are in no
 /// command's list, or where one isn't UTF-8.
 pub fn command_of(alloc: Global, words: &Frames) -> Result<Option<Command>, OutOfMemory>
     ensures value { IfOk result (λ command. command ≡ command_of words.now) }

@@ -121,18 +121,18 @@ IsCommandOf w fs c = command_word_text (command_word c) ∷ command_fields c ≡
 abbrev IsInputOf : InputWord → List (List ℕ) → Input → Type 0
 IsInputOf w fs i = input_word_text (input_word i) ∷ input_fields i ≡ input_word_text w ∷ fs
 
-behind : (f : List ℕ) (fs gs : List (List ℕ)) → fs ≡ gs → f ∷ fs ≡ f ∷ gs
-behind f fs gs e = ap (λ (r : List (List ℕ)). f ∷ r) e
+after : (f : List ℕ) (fs gs : List (List ℕ)) → fs ≡ gs → f ∷ fs ≡ f ∷ gs
+after f fs gs e = ap (λ (r : List (List ℕ)). f ∷ r) e
 
 command_from-back : (w : CommandWord) (fs : List (List ℕ)) (c : Command) → command_from w fs ≡ Some c → IsCommandOf w fs c
-command_from-back order.Join fs c e = made ask.Join (one_group fs) c (IsCommandOf order.Join fs) e (λ v h. behind (command_word_text order.Join) (quoted v ∷ []) fs (group-back fs v h))
-command_from-back order.Leave fs c e = made ask.Leave (one_group fs) c (IsCommandOf order.Leave fs) e (λ v h. behind (command_word_text order.Leave) (quoted v ∷ []) fs (group-back fs v h))
-command_from-back order.Whisper fs c e = made (λ (p : PeerId × List (List ℕ)). ask.Whisper p.0 p.1) (id_and_frames fs) c (IsCommandOf order.Whisper fs) e (λ p h. behind (command_word_text order.Whisper) (id_text p.0 ∷ quoted_list p.1 ∷ []) fs (id_and_frames-back fs p h))
-command_from-back order.Shout fs c e = made (λ (p : List ℕ × List (List ℕ)). ask.Shout p.0 p.1) (group_and_frames fs) c (IsCommandOf order.Shout fs) e (λ p h. behind (command_word_text order.Shout) (quoted p.0 ∷ quoted_list p.1 ∷ []) fs (group_and_frames-back fs p h))
-command_from-back order.Bad fs c e = made ask.Bad (one_number fs) c (IsCommandOf order.Bad fs) e (λ n h. behind (command_word_text order.Bad) (decimal n ∷ []) fs (number-back fs n h))
-command_from-back order.Quit fs c e = stood_alone ask.Quit c fs (IsCommandOf order.Quit fs) e (λ h. behind (command_word_text order.Quit) [] fs h)
+command_from-back order.Join fs c e = made ask.Join (one_group fs) c (IsCommandOf order.Join fs) e (λ v h. after (command_word_text order.Join) (quoted v ∷ []) fs (group-back fs v h))
+command_from-back order.Leave fs c e = made ask.Leave (one_group fs) c (IsCommandOf order.Leave fs) e (λ v h. after (command_word_text order.Leave) (quoted v ∷ []) fs (group-back fs v h))
+command_from-back order.Whisper fs c e = made (λ (p : PeerId × List (List ℕ)). ask.Whisper p.0 p.1) (id_and_frames fs) c (IsCommandOf order.Whisper fs) e (λ p h. after (command_word_text order.Whisper) (id_text p.0 ∷ quoted_list p.1 ∷ []) fs (id_and_frames-back fs p h))
+command_from-back order.Shout fs c e = made (λ (p : List ℕ × List (List ℕ)). ask.Shout p.0 p.1) (group_and_frames fs) c (IsCommandOf order.Shout fs) e (λ p h. after (command_word_text order.Shout) (quoted p.0 ∷ quoted_list p.1 ∷ []) fs (group_and_frames-back fs p h))
+command_from-back order.Bad fs c e = made ask.Bad (one_number fs) c (IsCommandOf order.Bad fs) e (λ n h. after (command_word_text order.Bad) (decimal n ∷ []) fs (number-back fs n h))
+command_from-back order.Quit fs c e = stood_alone ask.Quit c fs (IsCommandOf order.Quit fs) e (λ h. after (command_word_text order.Quit) [] fs h)
 
--- what stands behind a step that gave a value
+-- what stands after a step that gave a value
 stepped : {A B : Type 0} (f : A → Option B) (o : Option A) (y : B) (P : Type 0) → option_and_then f o ≡ Some y → ((x : A) → o ≡ Some x → f x ≡ Some y → P) → P
 stepped f (Some x) y P e h = h x refl e
 stepped f None y P e h = absurd cc
@@ -145,17 +145,17 @@ command_in-back (f ∷ fs) c e =
     (λ w is from. command_from-back w fs c from ∙ ap (λ (g : List ℕ). g ∷ fs) (command_word-back f w is))
 
 input_from-back : (w : InputWord) (fs : List (List ℕ)) (i : Input) → input_from w fs ≡ Some i → IsInputOf w fs i
-input_from-back word.Datagram fs i e = made (λ (p : List ℕ × List ℕ). got.Datagram p.0 p.1) (address_and_hex fs) i (IsInputOf word.Datagram fs) e (λ p h. behind (input_word_text word.Datagram) (address_text p.0 ∷ hex_text p.1 ∷ []) fs (address_and_hex-back fs p h))
-input_from-back word.Opened fs i e = made got.Opened (one_number fs) i (IsInputOf word.Opened fs) e (λ n h. behind (input_word_text word.Opened) (decimal n ∷ []) fs (number-back fs n h))
-input_from-back word.Piece fs i e = made (λ (p : ℕ × List ℕ). got.Piece p.0 p.1) (number_and_hex fs) i (IsInputOf word.Piece fs) e (λ p h. behind (input_word_text word.Piece) (decimal p.0 ∷ hex_text p.1 ∷ []) fs (number_and_hex-back fs p h))
-input_from-back word.Shut fs i e = made got.Shut (one_number fs) i (IsInputOf word.Shut fs) e (λ n h. behind (input_word_text word.Shut) (decimal n ∷ []) fs (number-back fs n h))
-input_from-back word.Linked fs i e = made got.Linked (one_number fs) i (IsInputOf word.Linked fs) e (λ n h. behind (input_word_text word.Linked) (decimal n ∷ []) fs (number-back fs n h))
-input_from-back word.Reply fs i e = made (λ (p : ℕ × List ℕ). got.Reply p.0 p.1) (number_and_hex fs) i (IsInputOf word.Reply fs) e (λ p h. behind (input_word_text word.Reply) (decimal p.0 ∷ hex_text p.1 ∷ []) fs (number_and_hex-back fs p h))
-input_from-back word.Unlinked fs i e = made got.Unlinked (one_number fs) i (IsInputOf word.Unlinked fs) e (λ n h. behind (input_word_text word.Unlinked) (decimal n ∷ []) fs (number-back fs n h))
-input_from-back word.Took fs i e = made (λ (p : ℕ × ℕ). got.Took p.0 p.1) (two_numbers fs) i (IsInputOf word.Took fs) e (λ p h. behind (input_word_text word.Took) (decimal p.0 ∷ decimal p.1 ∷ []) fs (numbers-back fs p h))
-input_from-back word.Tick fs i e = stood_alone got.Tick i fs (IsInputOf word.Tick fs) e (λ h. behind (input_word_text word.Tick) [] fs h)
-input_from-back word.Do fs i e = made got.Do (command_in fs) i (IsInputOf word.Do fs) e (λ c h. behind (input_word_text word.Do) (command_word_text (command_word c) ∷ command_fields c) fs (command_in-back fs c h))
-input_from-back word.End fs i e = stood_alone got.End i fs (IsInputOf word.End fs) e (λ h. behind (input_word_text word.End) [] fs h)
+input_from-back word.Datagram fs i e = made (λ (p : List ℕ × List ℕ). got.Datagram p.0 p.1) (address_and_hex fs) i (IsInputOf word.Datagram fs) e (λ p h. after (input_word_text word.Datagram) (address_text p.0 ∷ hex_text p.1 ∷ []) fs (address_and_hex-back fs p h))
+input_from-back word.Opened fs i e = made got.Opened (one_number fs) i (IsInputOf word.Opened fs) e (λ n h. after (input_word_text word.Opened) (decimal n ∷ []) fs (number-back fs n h))
+input_from-back word.Piece fs i e = made (λ (p : ℕ × List ℕ). got.Piece p.0 p.1) (number_and_hex fs) i (IsInputOf word.Piece fs) e (λ p h. after (input_word_text word.Piece) (decimal p.0 ∷ hex_text p.1 ∷ []) fs (number_and_hex-back fs p h))
+input_from-back word.Shut fs i e = made got.Shut (one_number fs) i (IsInputOf word.Shut fs) e (λ n h. after (input_word_text word.Shut) (decimal n ∷ []) fs (number-back fs n h))
+input_from-back word.Linked fs i e = made got.Linked (one_number fs) i (IsInputOf word.Linked fs) e (λ n h. after (input_word_text word.Linked) (decimal n ∷ []) fs (number-back fs n h))
+input_from-back word.Reply fs i e = made (λ (p : ℕ × List ℕ). got.Reply p.0 p.1) (number_and_hex fs) i (IsInputOf word.Reply fs) e (λ p h. after (input_word_text word.Reply) (decimal p.0 ∷ hex_text p.1 ∷ []) fs (number_and_hex-back fs p h))
+input_from-back word.Unlinked fs i e = made got.Unlinked (one_number fs) i (IsInputOf word.Unlinked fs) e (λ n h. after (input_word_text word.Unlinked) (decimal n ∷ []) fs (number-back fs n h))
+input_from-back word.Took fs i e = made (λ (p : ℕ × ℕ). got.Took p.0 p.1) (two_numbers fs) i (IsInputOf word.Took fs) e (λ p h. after (input_word_text word.Took) (decimal p.0 ∷ decimal p.1 ∷ []) fs (numbers-back fs p h))
+input_from-back word.Tick fs i e = stood_alone got.Tick i fs (IsInputOf word.Tick fs) e (λ h. after (input_word_text word.Tick) [] fs h)
+input_from-back word.Do fs i e = made got.Do (command_in fs) i (IsInputOf word.Do fs) e (λ c h. after (input_word_text word.Do) (command_word_text (command_word c) ∷ command_fields c) fs (command_in-back fs c h))
+input_from-back word.End fs i e = stood_alone got.End i fs (IsInputOf word.End fs) e (λ h. after (input_word_text word.End) [] fs h)
 
 input_in-back : (fs : List (List ℕ)) (i : Input) → input_in fs ≡ Some i → input_word_text (input_word i) ∷ input_fields i ≡ fs
 unfolding input_in

@@ -3,13 +3,13 @@ use Rattle.std.proofs.Common.{◌≡◌, ℕ, ◌+◌, ◌<◌, Bool, true, fals
 use Rattle.std.proofs.lemmas.List.{length-append}
 use Rattle.zre_capture.specs.declared.field.Field.{Field}
 use Rattle.zre_capture.specs.Parts.{Lacks}
-use Rattle.zre_capture.specs.Reading.{fields_in, first_bad, but_last, meets, behind}
+use Rattle.zre_capture.specs.Reading.{fields_in, first_bad, but_last, meets, after}
 use Rattle.zre_capture.proofs.Fields.{fields-cut, fields-whole, some_fields}
 
 bad_here : (required : List Field) (f : List ℕ) (fs : List (List ℕ)) (at : ℕ) → meets required f ≡ false → first_bad required (f ∷ fs) at ≡ Some at
 bad_here required f fs at e = rw e refl
 
-good_here : (required : List Field) (f : List ℕ) (fs : List (List ℕ)) (at : ℕ) → meets required f ≡ true → first_bad required (f ∷ fs) at ≡ first_bad (behind required f) fs (at + (length f + 1))
+good_here : (required : List Field) (f : List ℕ) (fs : List (List ℕ)) (at : ℕ) → meets required f ≡ true → first_bad required (f ∷ fs) at ≡ first_bad (after required f) fs (at + (length f + 1))
 good_here required f fs at e = rw e refl
 
 but_last-more : (f : List ℕ) (fs : List (List ℕ)) → 0 < length fs → but_last (f ∷ fs) ≡ f ∷ but_last fs
@@ -32,10 +32,10 @@ all-bad required text f rest at c e = ap (λ (fs : List (List ℕ)). first_bad r
 pub whole_ones-bad : (required : List Field) (text f rest : List ℕ) (at : ℕ) → Cut text f rest → meets required f ≡ false → first_bad required (but_last (fields_in text)) at ≡ Some at
 whole_ones-bad required text f rest at c e = ap (λ (fs : List (List ℕ)). first_bad required fs at) c.whole_ones ∙ bad_here required f (but_last (fields_in rest)) at e
 
-pub all-good : (required : List Field) (text f rest : List ℕ) (at : ℕ) → Cut text f rest → meets required f ≡ true → first_bad required (fields_in text) at ≡ first_bad (behind required f) (fields_in rest) (at + (length f + 1))
+pub all-good : (required : List Field) (text f rest : List ℕ) (at : ℕ) → Cut text f rest → meets required f ≡ true → first_bad required (fields_in text) at ≡ first_bad (after required f) (fields_in rest) (at + (length f + 1))
 all-good required text f rest at c e = ap (λ (fs : List (List ℕ)). first_bad required fs at) c.all ∙ good_here required f (fields_in rest) at e
 
-pub whole_ones-good : (required : List Field) (text f rest : List ℕ) (at : ℕ) → Cut text f rest → meets required f ≡ true → first_bad required (but_last (fields_in text)) at ≡ first_bad (behind required f) (but_last (fields_in rest)) (at + (length f + 1))
+pub whole_ones-good : (required : List Field) (text f rest : List ℕ) (at : ℕ) → Cut text f rest → meets required f ≡ true → first_bad required (but_last (fields_in text)) at ≡ first_bad (after required f) (but_last (fields_in rest)) (at + (length f + 1))
 whole_ones-good required text f rest at c e = ap (λ (fs : List (List ℕ)). first_bad required fs at) c.whole_ones ∙ good_here required f (but_last (fields_in rest)) at e
 
 -- the last field

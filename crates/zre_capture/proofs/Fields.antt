@@ -34,7 +34,7 @@ not_alone : {V : Type 0} (value : V) (fs : List (List ℕ)) → 0 < length fs �
 not_alone value [] some = absurd (omega (arith, some))
 not_alone value (f ∷ fs) some = refl
 
--- a field stands behind
+-- a field stands after
 pub never_alone : {V : Type 0} (value : V) (text : List ℕ) → None ≡ alone value (fields_in text)
 never_alone value text = sym (not_alone value (fields_in text) (some_fields text))
 

@@ -5,7 +5,7 @@ use Rattle.zre_outside.specs.declared.entry.Entry.{Entry}
 use Rattle.zre_capture.specs.Journal.{line_of, lines_in, entries_from, journal}
 use Rattle.zre_capture.proofs.Lines.{entries-good, entries-bad}
 
--- parts behind parts: the first of these goes on with the last of those
+-- parts after parts: the first of these goes on with the last of those
 abbrev joined : List (List ℕ) → List (List ℕ) → List (List ℕ)
 joined [] ms = ms
 joined (t ∷ []) [] = t ∷ []
@@ -29,8 +29,8 @@ onto_joined : (b : ℕ) (ls ms : List (List ℕ)) → Parts ls → Parts ms → 
 onto_joined b ls ms (IsParts t [] e) (IsParts m more f) = rw (e, f) refl
 onto_joined b ls ms (IsParts t (u ∷ us) e) p = rw e refl
 
-behind_line : (ls ms : List (List ℕ)) → Parts ls → [] ∷ joined ls ms ≡ joined ([] ∷ ls) ms
-behind_line ls ms (IsParts t ts e) = rw e refl
+after_line : (ls ms : List (List ℕ)) → Parts ls → [] ∷ joined ls ms ≡ joined ([] ∷ ls) ms
+after_line ls ms (IsParts t ts e) = rw e refl
 
 lines_joined : (o x : List ℕ) → lines_in (o ++ x) ≡ joined (lines_in o) (lines_in x)
 lines_joined [] x = by (some_parts x)
@@ -40,7 +40,7 @@ lines_joined [] x = by (some_parts x)
 lines_joined (b ∷ o) x = by (lines_joined o x) (b == 10)
   where
     by : lines_in (o ++ x) ≡ joined (lines_in o) (lines_in x) → (d : Bool) → cond d ([] ∷ lines_in (o ++ x)) (onto_first b (lines_in (o ++ x))) ≡ joined (cond d ([] ∷ lines_in o) (onto_first b (lines_in o))) (lines_in x)
-    by r true = ap (λ ls. [] ∷ ls) r ∙ behind_line (lines_in o) (lines_in x) (some_parts o)
+    by r true = ap (λ ls. [] ∷ ls) r ∙ after_line (lines_in o) (lines_in x) (some_parts o)
     by r false = ap (onto_first b) r ∙ onto_joined b (lines_in o) (lines_in x) (some_parts o) (some_parts x)
 
 some_joined : (u : List ℕ) (ls ms : List (List ℕ)) → 0 < length (joined (u ∷ ls) ms)
@@ -48,7 +48,7 @@ some_joined u [] [] = omega arith
 some_joined u [] (m ∷ ms) = omega arith
 some_joined u (v ∷ ls) ms = omega arith
 
--- the entries of parts behind parts begin with those of the first
+-- the entries of parts after parts begin with those of the first
 grows_by : (n : ℕ) (ls ms : List (List ℕ)) → (more : List Entry) × (entries_from n (joined ls ms) ≡ entries_from n ls ++ more)
 unfolding entries_from
 grows_by n [] ms = (entries_from n ms, refl)

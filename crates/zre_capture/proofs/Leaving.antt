@@ -1,7 +1,7 @@
--- What is left of the exercise behind an entry.
+-- What is left of the exercise after an entry.
 use Rattle.std.proofs.Common.{◌≡◌, ℕ, suc, ◌+◌, ◌-◌, ◌/◌, ◌<◌, ◌≤◌, List, [], ◌∷◌, ◌++◌, refl, sym, ap, ◌∙◌, arith}
 use Rattle.zre_outside.specs.declared.entry.Entry.{Entry}
-use Rattle.zre_capture.specs.Exercise.{heard, opened, introduced, peers_from, first_piece, second_piece, behind, comes, quits, messages_from, exercise}
+use Rattle.zre_capture.specs.Exercise.{heard, opened, introduced, peers_from, first_piece, second_piece, after, comes, quits, messages_from, exercise}
 use Rattle.zre_capture.specs.Left.{left, left_at, messages_left}
 use Rattle.zre_capture.specs.declared.exercise.Exercise.{Exercise}
 use Rattle.zre_capture.specs.declared.stage.Stage.TheVariants.{Messages}
@@ -14,7 +14,7 @@ one_peer : (i n : ℕ) → peers_from i (suc n) ≡ heard i ∷ opened i ∷ int
 unfolding peers_from
 one_peer i n = refl
 
--- a peer comes, and then those behind it
+-- a peer comes, and then those after it
 pub peer_comes : (i p : ℕ) (more : List Entry) → i < p →
     heard i ∷ opened i ∷ introduced i ∷ (peers_from (i + 1) (p - (i + 1)) ++ more) ≡ peers_from i (p - i) ++ more
 peer_comes i p more h =
@@ -40,18 +40,18 @@ unfolding messages_from
 no_messages p x j = refl
 
 one_message : (p x j n : ℕ) → messages_from p x j (suc n) ≡
-    comes p j (first_piece (j / p) x) ∷ comes p j (second_piece (j / p) x) ∷ messages_from p (behind (j / p) x) (j + 1) n
+    comes p j (first_piece (j / p) x) ∷ comes p j (second_piece (j / p) x) ∷ messages_from p (after (j / p) x) (j + 1) n
 unfolding messages_from
 one_message p x j n = refl
 
 -- a message comes, in these two pieces
-pub message_comes : (p x j m : ℕ) (first second : List ℕ) (y : ℕ) (entry : Entry) → j < m → entry ≡ comes p j first → first ≡ first_piece (j / p) x → second ≡ second_piece (j / p) x → y ≡ behind (j / p) x →
+pub message_comes : (p x j m : ℕ) (first second : List ℕ) (y : ℕ) (entry : Entry) → j < m → entry ≡ comes p j first → first ≡ first_piece (j / p) x → second ≡ second_piece (j / p) x → y ≡ after (j / p) x →
     messages_from p x j (m - j) ≡ entry ∷ comes p j second ∷ messages_from p y (j + 1) (m - (j + 1))
 message_comes p x j m first second y entry h is f s b =
     let e : m - j ≡ suc (m - (j + 1)) = omega arith in
     ap (messages_from p x j) e ∙ one_message p x j (m - (j + 1))
-    ∙ ap (λ o. comes p j o ∷ comes p j (second_piece (j / p) x) ∷ messages_from p (behind (j / p) x) (j + 1) (m - (j + 1))) (sym f)
-    ∙ ap (λ o. comes p j first ∷ comes p j o ∷ messages_from p (behind (j / p) x) (j + 1) (m - (j + 1))) (sym s)
+    ∙ ap (λ o. comes p j o ∷ comes p j (second_piece (j / p) x) ∷ messages_from p (after (j / p) x) (j + 1) (m - (j + 1))) (sym f)
+    ∙ ap (λ o. comes p j first ∷ comes p j o ∷ messages_from p (after (j / p) x) (j + 1) (m - (j + 1))) (sym s)
     ∙ ap (λ z. comes p j first ∷ comes p j second ∷ messages_from p z (j + 1) (m - (j + 1))) (sym b)
     ∙ ap (λ e. e ∷ comes p j second ∷ messages_from p y (j + 1) (m - (j + 1))) (sym is)
 

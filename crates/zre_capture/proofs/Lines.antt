@@ -37,7 +37,7 @@ long-place n left text front short long e =
 pub some_lines : (o : List ℕ) → 0 < length (lines_in o)
 some_lines o = omega (arith, length-slice_split (λ b. b == 10) o)
 
--- a line that says entries, with others behind it
+-- a line that says entries, with others after it
 pub entries-good : (n : ℕ) (t : List ℕ) (es : List Entry) (ls : List (List ℕ)) → 0 < length ls → line_of n t ≡ Some es → entries_from n (t ∷ ls) ≡ es ++ entries_from (n + 1) ls
 unfolding entries_from
 entries-good n t es [] some e = absurd (omega (arith, some))
@@ -53,7 +53,7 @@ unfolding end_from
 end-more n t [] some = absurd (omega (arith, some))
 end-more n t (next ∷ more) some = refl
 
--- a bad line, with others behind it
+-- a bad line, with others after it
 pub entries-bad : (n : ℕ) (t : List ℕ) (ls : List (List ℕ)) → 0 < length ls → line_of n t ≡ None → entries_from n (t ∷ ls) ≡ []
 unfolding entries_from
 entries-bad n t [] some e = absurd (omega (arith, some))
@@ -84,11 +84,11 @@ pub lacks-append : (o : ℕ) (x y : List ℕ) → Lacks o x → Lacks o y → La
 lacks-append o x y p q = All-append (λ b. (b == o) ≡ false) x y p q
 
 -- a line, and what follows it
-first_line : (left text behind x rest : List ℕ) → rest ≡ text ++ (10 ∷ behind) → Lacks 10 left → Lacks 10 text → lines_in (left ++ (rest ++ x)) ≡ (left ++ text) ∷ lines_in (behind ++ x)
-first_line left text behind x rest e p q =
-    let regrouped : left ++ (rest ++ x) ≡ (left ++ text) ++ (10 ∷ (behind ++ x)) =
-    ap (λ (r : List ℕ). left ++ (r ++ x)) e ∙ ap (λ (r : List ℕ). left ++ r) (append_assoc text (10 ∷ behind) x) ∙ sym (append_assoc left text (10 ∷ (behind ++ x))) in
-    between-cut 10 (left ++ (rest ++ x)) (left ++ text) (behind ++ x) regrouped (lacks-append 10 left text p q)
+first_line : (left text after x rest : List ℕ) → rest ≡ text ++ (10 ∷ after) → Lacks 10 left → Lacks 10 text → lines_in (left ++ (rest ++ x)) ≡ (left ++ text) ∷ lines_in (after ++ x)
+first_line left text after x rest e p q =
+    let regrouped : left ++ (rest ++ x) ≡ (left ++ text) ++ (10 ∷ (after ++ x)) =
+    ap (λ (r : List ℕ). left ++ (r ++ x)) e ∙ ap (λ (r : List ℕ). left ++ r) (append_assoc text (10 ∷ after) x) ∙ sym (append_assoc left text (10 ∷ (after ++ x))) in
+    between-cut 10 (left ++ (rest ++ x)) (left ++ text) (after ++ x) regrouped (lacks-append 10 left text p q)
 
 -- what was read of a piece, and what is left of it
 pub record IsAmid (first : Reading) (piece : List ℕ) (old new : List Entry) (r : Reading) (rest : List ℕ) : Type 0 where
@@ -102,19 +102,19 @@ pub record IsAmid (first : Reading) (piece : List ℕ) (old new : List Entry) (r
 pub amid-start : (r : Reading) (piece : List ℕ) (old : List Entry) → Waits r → IsAmid r piece old old r piece
 amid-start r piece old w = record { entries = []; added = sym (append-nil old); more = λ x. refl; faults = λ x. refl; ends = λ x. refl; waits = w }
 
-pub amid-line : (first : Reading) (piece : List ℕ) (old now new es : List Entry) (r : Reading) (rest text behind : List ℕ) → IsAmid first piece old now r rest
-    → rest ≡ text ++ (10 ∷ behind) → Lacks 10 text → line_of r.line (r.left ++ text) ≡ Some es → new ≡ now ++ es
-    → IsAmid first piece old new (record { line = r.line + 1; left = [] }) behind
-amid-line first piece old now new es r rest text behind amid e none says grown =
-    let cut = λ (x : List ℕ). first_line r.left text behind x rest e amid.waits.unfinished none in
+pub amid-line : (first : Reading) (piece : List ℕ) (old now new es : List Entry) (r : Reading) (rest text after : List ℕ) → IsAmid first piece old now r rest
+    → rest ≡ text ++ (10 ∷ after) → Lacks 10 text → line_of r.line (r.left ++ text) ≡ Some es → new ≡ now ++ es
+    → IsAmid first piece old new (record { line = r.line + 1; left = [] }) after
+amid-line first piece old now new es r rest text after amid e none says grown =
+    let cut = λ (x : List ℕ). first_line r.left text after x rest e amid.waits.unfinished none in
     record {
       entries = amid.entries ++ es;
       added = grown ∙ ap (λ (l : List Entry). l ++ es) amid.added ∙ append_assoc old amid.entries es;
       more = λ x. amid.more x ∙ ap (λ (ls : List (List ℕ)). amid.entries ++ entries_from r.line ls) (cut x)
-          ∙ ap (λ (l : List Entry). amid.entries ++ l) (entries-good r.line (r.left ++ text) es (lines_in (behind ++ x)) (some_lines (behind ++ x)) says)
-          ∙ sym (append_assoc amid.entries es (entries_from (r.line + 1) (lines_in (behind ++ x))));
-      faults = λ x. amid.faults x ∙ ap (bad_from r.line) (cut x) ∙ bad-good r.line (r.left ++ text) es (lines_in (behind ++ x)) (some_lines (behind ++ x)) says;
-      ends = λ x. amid.ends x ∙ ap (end_from r.line) (cut x) ∙ end-more r.line (r.left ++ text) (lines_in (behind ++ x)) (some_lines (behind ++ x));
+          ∙ ap (λ (l : List Entry). amid.entries ++ l) (entries-good r.line (r.left ++ text) es (lines_in (after ++ x)) (some_lines (after ++ x)) says)
+          ∙ sym (append_assoc amid.entries es (entries_from (r.line + 1) (lines_in (after ++ x))));
+      faults = λ x. amid.faults x ∙ ap (bad_from r.line) (cut x) ∙ bad-good r.line (r.left ++ text) es (lines_in (after ++ x)) (some_lines (after ++ x)) says;
+      ends = λ x. amid.ends x ∙ ap (end_from r.line) (cut x) ∙ end-more r.line (r.left ++ text) (lines_in (after ++ x)) (some_lines (after ++ x));
       waits = record { unfinished = λ k d lt. absurd (omega (arith, lt)); short = omega arith };
     }
 
@@ -143,7 +143,7 @@ at_end o r reads w =
     ap (λ (l : List ℕ). end_from 1 (lines_in l)) (sym (append-nil o)) ∙ reads.ends [] ∙ ap (λ (l : List ℕ). end_from r.line (lines_in l)) (append-nil r.left) ∙ end-last r.line r.left w.unfinished in
     ap (λ (b : Option BadCapture). option_or b (end_from 1 (lines_in o))) (faultless o r reads w) ∙ ends
 
--- ---- a piece behind some octets
+-- ---- a piece after some octets
 
 module _ (o piece : List ℕ) (first r : Reading) (old now : List Entry) (rest : List ℕ) (reads : Reads o first) (amid : IsAmid first piece old now r rest) where
   whole : o ++ piece ≡ o ++ (piece ++ [])
@@ -166,12 +166,12 @@ module _ (o piece : List ℕ) (first r : Reading) (old now : List Entry) (rest :
   }
 
   -- a bad line that a line feed ends
-  pub refused-line : (text behind : List ℕ) → rest ≡ text ++ (10 ∷ behind) → Lacks 10 text → line_of r.line (r.left ++ text) ≡ None → (bad (o ++ piece) ≡ Some (bad_line r.line (r.left ++ text))) × Adds o piece old now
-  refused-line text behind e none isnt =
-      let cut = first_line r.left text behind [] rest e amid.waits.unfinished none in
-      let others = some_lines (behind ++ []) in (
-        faults-amid ∙ ap (bad_from r.line) cut ∙ bad-bad r.line (r.left ++ text) (lines_in (behind ++ [])) others isnt,
-        adds-all (ap (entries_from r.line) cut ∙ entries-bad r.line (r.left ++ text) (lines_in (behind ++ [])) others isnt),
+  pub refused-line : (text after : List ℕ) → rest ≡ text ++ (10 ∷ after) → Lacks 10 text → line_of r.line (r.left ++ text) ≡ None → (bad (o ++ piece) ≡ Some (bad_line r.line (r.left ++ text))) × Adds o piece old now
+  refused-line text after e none isnt =
+      let cut = first_line r.left text after [] rest e amid.waits.unfinished none in
+      let others = some_lines (after ++ []) in (
+        faults-amid ∙ ap (bad_from r.line) cut ∙ bad-bad r.line (r.left ++ text) (lines_in (after ++ [])) others isnt,
+        adds-all (ap (entries_from r.line) cut ∙ entries-bad r.line (r.left ++ text) (lines_in (after ++ [])) others isnt),
       )
 
   unended : Lacks 10 rest → Lacks 10 (r.left ++ rest)

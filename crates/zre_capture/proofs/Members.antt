@@ -72,14 +72,14 @@ abbrev joined : List ℕ → List ℕ
 joined v = (44 ∷ []) ++ quoted v
 
 -- quoted octets are read back, one by one
-behind_first : (vs : List (List ℕ)) (x : List ℕ) → All (λ v. All (λ b. b < 2 ^ 8) v) (x ∷ vs) → between 44 (quoted x ++ flat_map joined vs) ≡ quoted x ∷ map quoted vs
-behind_first [] x h =
+after_first : (vs : List (List ℕ)) (x : List ℕ) → All (λ v. All (λ b. b < 2 ^ 8) v) (x ∷ vs) → between 44 (quoted x ++ flat_map joined vs) ≡ quoted x ∷ map quoted vs
+after_first [] x h =
     ap (between 44) (append-nil (quoted x)) ∙ slice_split_none (λ b. b == 44) (quoted x) (lacks-from_any 44 (quoted x) (quoted-lacks 44 x comma (All-head (λ v. All (λ b. b < 2 ^ 8) v) x [] h)))
-behind_first (y ∷ vs) x h =
+after_first (y ∷ vs) x h =
     let tail = All-tail (λ v. All (λ b. b < 2 ^ 8) v) x (y ∷ vs) h in
     ap (λ (r : List ℕ). between 44 (quoted x ++ r)) (flat_map-cons joined y vs)
     ∙ slice_split_at (λ b. b == 44) (quoted x) 44 (quoted y ++ flat_map joined vs) (lacks-from_any 44 (quoted x) (quoted-lacks 44 x comma (All-head (λ v. All (λ b. b < 2 ^ 8) v) x (y ∷ vs) h))) refl
-    ∙ ap (λ (r : List (List ℕ)). quoted x ∷ r) (behind_first vs y tail)
+    ∙ ap (λ (r : List (List ℕ)). quoted x ∷ r) (after_first vs y tail)
 
 unquoted-all : (vs : List (List ℕ)) → All (λ v. All (λ b. b < 2 ^ 8) v) vs → map unquoted (map quoted vs) ≡ vs
 unquoted-all [] h = refl
@@ -109,14 +109,14 @@ percent_alone text e = ap (λ (t : List ℕ). list_all good (between 44 t)) e �
 not_percent : (x : List ℕ) (vs : List (List ℕ)) → All (λ v. All (λ b. b < 2 ^ 8) v) (x ∷ vs) → bytes_eq (quoted_list (x ∷ vs)) (codes "%") ≡ false
 not_percent x vs h = false_from_ne_true _ (λ is.
     let same : quoted_list (x ∷ vs) ≡ codes "%" = (bytes_eq-Decides (quoted_list (x ∷ vs)) (codes "%")).0 is in
-    let yes : list_all good (between 44 (quoted_list (x ∷ vs))) ≡ true = ap (list_all good) (behind_first vs x h) ∙ good-all (x ∷ vs) h in
+    let yes : list_all good (between 44 (quoted_list (x ∷ vs))) ≡ true = ap (list_all good) (after_first vs x h) ∙ good-all (x ∷ vs) h in
     let no = percent_alone (quoted_list (x ∷ vs)) same in
     absurd cc)
 
 -- frames are read back
 unquoted-list : (vs : List (List ℕ)) → All (λ v. All (λ b. b < 2 ^ 8) v) vs → unquoted_list (quoted_list vs) ≡ vs
 unquoted-list [] h = refl
-unquoted-list (x ∷ vs) h = rw (not_percent x vs h) (ap (map unquoted) (behind_first vs x h) ∙ unquoted-all (x ∷ vs) h)
+unquoted-list (x ∷ vs) h = rw (not_percent x vs h) (ap (map unquoted) (after_first vs x h) ∙ unquoted-all (x ∷ vs) h)
 
 pub frames_of-list : (vs : List (List ℕ)) → All (λ v. All (λ b. b < 2 ^ 8) v) vs → frames_of (quoted_list vs) ≡ Some vs
 unfolding frames_of
@@ -181,7 +181,7 @@ pub frames-members : (field : List ℕ) (vs : List (List ℕ)) → frames_of fie
 frames-members field [] e other = let t = frames_of-some field [] e in absurd (other (sym t.text))
 frames-members field (x ∷ vs) e other =
     let t = frames_of-some field (x ∷ vs) e in
-    ap (λ (f : List ℕ). list_all good (between 44 f)) (sym t.text) ∙ ap (list_all good) (behind_first vs x t.is) ∙ good-all (x ∷ vs) t.is
+    ap (λ (f : List ℕ). list_all good (between 44 f)) (sym t.text) ∙ ap (list_all good) (after_first vs x t.is) ∙ good-all (x ∷ vs) t.is
 
 pub frames_of-percent : frames_of (codes "%") ≡ Some []
 frames_of-percent = frames_of-list [] (λ k d lt. absurd (omega (arith, lt)))
@@ -201,19 +201,19 @@ and_true : (b : Bool) → (b && true) ≡ b
 and_true true = refl
 and_true false = refl
 
-pub cut_bad : (rest member behind : List ℕ) → between 44 rest ≡ member ∷ between 44 behind → good member ≡ false → are_groups (between 44 rest) ≡ false
-cut_bad rest member behind cut bad = ap are_groups cut ∙ (rw bad refl)
+pub cut_bad : (rest member after : List ℕ) → between 44 rest ≡ member ∷ between 44 after → good member ≡ false → are_groups (between 44 rest) ≡ false
+cut_bad rest member after cut bad = ap are_groups cut ∙ (rw bad refl)
 
-pub cut_good : (rest member behind : List ℕ) → between 44 rest ≡ member ∷ between 44 behind → good member ≡ true → are_groups (between 44 rest) ≡ are_groups (between 44 behind)
-cut_good rest member behind cut ok = ap are_groups cut ∙ (rw ok refl)
+pub cut_good : (rest member after : List ℕ) → between 44 rest ≡ member ∷ between 44 after → good member ≡ true → are_groups (between 44 rest) ≡ are_groups (between 44 after)
+cut_good rest member after cut ok = ap are_groups cut ∙ (rw ok refl)
 
 pub last_one : (rest : List ℕ) → between 44 rest ≡ rest ∷ [] → are_groups (between 44 rest) ≡ good rest
 last_one rest whole = ap are_groups whole ∙ and_true (good rest)
 
 -- one more member is read
-pub cut_read : (frames new all : List (List ℕ)) (rest member behind : List ℕ) → between 44 rest ≡ member ∷ between 44 behind → new ≡ frames ++ unquoted member ∷ [] → frames ++ map unquoted (between 44 rest) ≡ all → new ++ map unquoted (between 44 behind) ≡ all
-cut_read frames new all rest member behind cut e so_far =
-    ap (λ (f : List (List ℕ)). f ++ map unquoted (between 44 behind)) e ∙ append_assoc frames (unquoted member ∷ []) (map unquoted (between 44 behind))
+pub cut_read : (frames new all : List (List ℕ)) (rest member after : List ℕ) → between 44 rest ≡ member ∷ between 44 after → new ≡ frames ++ unquoted member ∷ [] → frames ++ map unquoted (between 44 rest) ≡ all → new ++ map unquoted (between 44 after) ≡ all
+cut_read frames new all rest member after cut e so_far =
+    ap (λ (f : List (List ℕ)). f ++ map unquoted (between 44 after)) e ∙ append_assoc frames (unquoted member ∷ []) (map unquoted (between 44 after))
     ∙ ap (λ (r : List (List ℕ)). frames ++ map unquoted r) (sym cut) ∙ so_far
 
 pub last_read : (frames new all : List (List ℕ)) (rest : List ℕ) → between 44 rest ≡ rest ∷ [] → new ≡ frames ++ unquoted rest ∷ [] → frames ++ map unquoted (between 44 rest) ≡ all → new ≡ all

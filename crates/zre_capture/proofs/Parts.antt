@@ -10,8 +10,8 @@ use Rattle.std.proofs.lemmas.Slice.Eq.{bytes_eq-Decides}
 use Rattle.zre_capture.specs.Parts.{between, Lacks}
 
 -- a text with the octet, cut at the first
-pub between-cut : (o : ℕ) (text front behind : List ℕ) → text ≡ front ++ (o ∷ behind) → Lacks o front → between o text ≡ front ∷ between o behind
-between-cut o text front behind e none = ap (between o) e ∙ slice_split_at (λ b. b == o) front o behind none (eq-eqb o o refl)
+pub between-cut : (o : ℕ) (text front after : List ℕ) → text ≡ front ++ (o ∷ after) → Lacks o front → between o text ≡ front ∷ between o after
+between-cut o text front after e none = ap (between o) e ∙ slice_split_at (λ b. b == o) front o after none (eq-eqb o o refl)
 
 -- a text without it
 pub between-whole : (o : ℕ) (text : List ℕ) → Lacks o text → between o text ≡ text ∷ []

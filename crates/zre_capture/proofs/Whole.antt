@@ -28,7 +28,7 @@ line_cut : (e : Entry) (es : List Entry) → IsEntry e → lines_in (lines (e �
 line_cut e es is =
     between-cut 10 (lines (e ∷ es)) (text e) (lines es) (flat_map-cons line e es ∙ append_assoc (text e) (10 ∷ []) (lines es)) (no_line_feed (fields e) (fields-visible e is))
 
--- what lines behind the head say
+-- what lines after the head say
 record Said (n : ℕ) (es : List Entry) : Type 0 where
   entries : entries_from n (lines_in (lines es)) ≡ es
   faultless : bad_from n (lines_in (lines es)) ≡ None

@@ -11,9 +11,9 @@ unfoldable pub upper_half : ℕ → ℕ
 upper_half x = x / 2 ^ 32
 
 -- the number to which n draws from x lead
-unfoldable pub behind_draws : ℕ → ℕ → ℕ
-behind_draws zero x = x
-behind_draws (suc n) x = behind_draws n (drawn x)
+unfoldable pub after_draws : ℕ → ℕ → ℕ
+after_draws zero x = x
+after_draws (suc n) x = after_draws n (drawn x)
 
 -- what n draws from x give, each in four octets
 unfoldable pub octets_drawn : ℕ → ℕ → List ℕ

@@ -13,7 +13,7 @@ use Rattle.zre_zmtp.specs.declared.writing.SocketType.TheVariants as socket
 use Rattle.zre_msg.specs.Spelling.{octets}
 use Rattle.zre_msg.specs.declared.message.Body.{Body}
 use Rattle.zre_msg.specs.declared.message.Body.TheVariants.{Hello, Whisper, Shout, Join, Leave}
-use Rattle.zre_capture.specs.Draws.{drawn, upper_half, behind_draws, octets_drawn}
+use Rattle.zre_capture.specs.Draws.{drawn, upper_half, after_draws, octets_drawn}
 
 -- ---- peer i
 
@@ -79,13 +79,13 @@ body k x =
     else if k % 4 == 2 then Whisper (content x)
     else Leave (codes "all") (status k)
 
--- where the draws stand behind its content, where it has one
-unfoldable pub behind_content : ℕ → ℕ → ℕ
-behind_content k x = if is_change k then x else behind_draws 8 x
+-- where the draws stand after its content, where it has one
+unfoldable pub after_content : ℕ → ℕ → ℕ
+after_content k x = if is_change k then x else after_draws 8 x
 
--- where they stand behind all of its draws: one more decides where its octets are cut
-unfoldable pub behind : ℕ → ℕ → ℕ
-behind k x = drawn (behind_content k x)
+-- where they stand after all of its draws: one more decides where its octets are cut
+unfoldable pub after : ℕ → ℕ → ℕ
+after k x = drawn (after_content k x)
 
 -- its octets, numbered from 2, since HELLO is numbered 1
 unfoldable pub spelling : ℕ → ℕ → List ℕ
@@ -93,7 +93,7 @@ spelling k x = octets (record { sequence = (2 + k) % 65536; body = body k x })
 
 -- how many of them come in the first piece: any number up to all of them
 unfoldable pub cut : ℕ → ℕ → ℕ
-cut k x = upper_half (behind k x) % (length (spelling k x) + 1)
+cut k x = upper_half (after k x) % (length (spelling k x) + 1)
 
 -- the two pieces
 abbrev pub first_piece : ℕ → ℕ → List ℕ
@@ -112,10 +112,10 @@ comes p j bytes = record { at = j; input = got.Piece (j % p + 1) bytes }
 abbrev pub quits : ℕ → Entry
 quits at = record { at = at; input = got.Do ask.Quit }
 
--- the entries of n messages of p peers, from message j on, whose draws begin at x, and the last entry behind them
+-- the entries of n messages of p peers, from message j on, whose draws begin at x, and the last entry after them
 unfoldable pub messages_from : ℕ → ℕ → ℕ → ℕ → List Entry
 messages_from p x j zero = quits j ∷ []
-messages_from p x j (suc n) = comes p j (first_piece (j / p) x) ∷ comes p j (second_piece (j / p) x) ∷ messages_from p (behind (j / p) x) (j + 1) n
+messages_from p x j (suc n) = comes p j (first_piece (j / p) x) ∷ comes p j (second_piece (j / p) x) ∷ messages_from p (after (j / p) x) (j + 1) n
 
 -- all entries, from a seed, the number of peers and the number of messages
 abbrev pub exercise : ℕ → ℕ → ℕ → List Entry

@@ -1,5 +1,5 @@
 -- Captures as they are read: the journal of a capture, and where a capture is bad. Its lines are what stands between line
--- feeds; what stands behind the last line feed isn't finished yet.
+-- feeds; what stands after the last line feed isn't finished yet.
 use Rattle.std.specs.Prelude.{◌≡◌, ℕ, ◌+◌, ◌≤◌, ◌==◌, nat_lt, not, ◌&&◌, if◌then◌else◌, List, [], ◌∷◌, ◌++◌, length, Option, Some, None, is_some, option_map, codes}
 use Rattle.std.specs.Option.{option_map_or, option_or}
 use Rattle.std.specs.Str.{bytes_eq}
@@ -81,7 +81,7 @@ pub record Reads (o : List ℕ) (r : Reading) : Type 0 where
   pub faults : (x : List ℕ) → bad (o ++ x) ≡ bad_from r.line (lines_in (r.left ++ x))
   pub ends : (x : List ℕ) → end_from 1 (lines_in (o ++ x)) ≡ end_from r.line (lines_in (r.left ++ x))
 
--- a list has grown by what a piece behind o adds to the journal
+-- a list has grown by what a piece after o adds to the journal
 pub record Adds (o piece : List ℕ) (old new : List Entry) : Type 0 where
   pub entries : List Entry
   pub added : new ≡ old ++ entries
@@ -94,7 +94,7 @@ pub record AddsFront (o piece : List ℕ) (old new : List Entry) : Type 0 where
   pub added : new ≡ old ++ entries
   pub more : journal (o ++ piece) ≡ journal o ++ (entries ++ others)
 
--- a refusal tells the bad place; want of memory has no cause
+-- a refusal tells the bad place; OutOfMemory has no cause
 abbrev pub Refuses : CaptureFault → (BadCapture → Type 0) → Type 0
 Refuses (Bad place) P = P place
 Refuses OutOfMemory P = Unit {0}

@@ -10,15 +10,15 @@ use Rattle.zre_capture.specs.declared.stage.Stage.TheVariants.{Beacon, Opened, I
 abbrev pub messages_left : Exercise → List Entry
 messages_left e = messages_from e.peers e.x e.message (e.messages - e.message)
 
--- the peers behind this one, and all that follows them
-abbrev pub behind_peer : ℕ → Exercise → List Entry
-behind_peer i e = peers_from (i + 1) (e.peers - (i + 1)) ++ messages_left e
+-- the peers after this one, and all that follows them
+abbrev pub after_peer : ℕ → Exercise → List Entry
+after_peer i e = peers_from (i + 1) (e.peers - (i + 1)) ++ messages_left e
 
 -- what is left at a stage
 abbrev pub left_at : Stage → Exercise → List Entry
-left_at (Beacon i) e = heard i ∷ opened i ∷ introduced i ∷ behind_peer i e
-left_at (Opened i) e = opened i ∷ introduced i ∷ behind_peer i e
-left_at (Introduction i) e = introduced i ∷ behind_peer i e
+left_at (Beacon i) e = heard i ∷ opened i ∷ introduced i ∷ after_peer i e
+left_at (Opened i) e = opened i ∷ introduced i ∷ after_peer i e
+left_at (Introduction i) e = introduced i ∷ after_peer i e
 left_at Messages e = messages_left e
 left_at (Second j) e = comes e.peers j e.second ∷ messages_left e
 left_at Done e = []

@@ -1,4 +1,4 @@
--- The lines of a capture: its head, and a line for each entry. Fields stand with one space between, and a line feed behind.
+-- The lines of a capture: its head, and a line for each entry. Fields stand with one space between, and a line feed after.
 use Rattle.std.specs.Prelude.{ℕ, ◌<◌, ◌≤◌, ◌^◌, List, [], ◌∷◌, ◌++◌, length, codes, decimal, All}
 use Rattle.std.specs.List.{join_with_byte, flat_map}
 use Rattle.hex.specs.Hex.{encode_lower}
@@ -38,7 +38,7 @@ command_word (ask.Shout group content) = order.Shout
 command_word (ask.Bad number) = order.Bad
 command_word ask.Quit = order.Quit
 
--- what stands behind it
+-- what stands after it
 abbrev pub command_fields : Command → List (List ℕ)
 command_fields (ask.Join group) = quoted group ∷ []
 command_fields (ask.Leave group) = quoted group ∷ []
@@ -74,7 +74,7 @@ input_word got.Tick = word.Tick
 input_word (got.Do command) = word.Do
 input_word got.End = word.End
 
--- what stands behind it
+-- what stands after it
 abbrev pub input_fields : Input → List (List ℕ)
 input_fields (got.Datagram host bytes) = address_text host ∷ hex_text bytes ∷ []
 input_fields (got.Opened conn) = decimal conn ∷ []

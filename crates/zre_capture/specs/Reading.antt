@@ -86,12 +86,12 @@ group_and_frames fs = do
   content ← frames_of p.1
   Some (group, content)
 
--- a value that no field stands behind
+-- a value that no field stands after
 abbrev pub alone : {V : Type 0} → V → List (List ℕ) → Option V
 alone value [] = Some value
 alone value (a ∷ more) = None
 
--- what the word of a command says with the fields behind it
+-- what the word of a command says with the fields after it
 abbrev pub command_from : CommandWord → List (List ℕ) → Option Command
 command_from order.Join fs = option_map ask.Join (one_group fs)
 command_from order.Leave fs = option_map ask.Leave (one_group fs)
@@ -107,7 +107,7 @@ command_in (w ∷ fs) = do
   order ← command_word_of w
   command_from order fs
 
--- what the word of an entry says with the fields behind it
+-- what the word of an entry says with the fields after it
 abbrev pub input_from : InputWord → List (List ℕ) → Option Input
 input_from word.Datagram fs = option_map (λ p. got.Datagram p.0 p.1) (address_and_hex fs)
 input_from word.Opened fs = option_map got.Opened (one_number fs)
@@ -121,7 +121,7 @@ input_from word.Tick fs = alone got.Tick fs
 input_from word.Do fs = option_map got.Do (command_in fs)
 input_from word.End fs = alone got.End fs
 
--- what happened, by the fields behind the clock's reading
+-- what happened, by the fields after the clock's reading
 unfoldable pub input_in : List (List ℕ) → Option Input
 input_in [] = None
 input_in (w ∷ fs) = do
@@ -155,7 +155,7 @@ is_field field.Group f = is_some (group_of f)
 is_field field.Frames f = is_some (frames_of f)
 is_field field.Id f = is_some (id_of f)
 
--- the fields that are required behind the word of a command
+-- the fields that are required after the word of a command
 abbrev pub command_form : CommandWord → List Field
 command_form order.Join = field.Group ∷ []
 command_form order.Leave = field.Group ∷ []
@@ -164,7 +164,7 @@ command_form order.Shout = field.Group ∷ field.Frames ∷ []
 command_form order.Bad = field.Number ∷ []
 command_form order.Quit = []
 
--- the fields that are required behind the word of an entry
+-- the fields that are required after the word of an entry
 abbrev pub input_form : InputWord → List Field
 input_form word.Datagram = field.Address ∷ field.Hex ∷ []
 input_form word.Opened = field.Number ∷ []
@@ -183,27 +183,27 @@ abbrev pub meets : List Field → List ℕ → Bool
 meets [] f = false
 meets (k ∷ ks) f = is_field k f
 
--- what is required behind it, where these were required behind the field before
-abbrev pub behind_field : Field → List Field → List ℕ → List Field
-behind_field field.Mark more f = more
-behind_field field.Format more f = more
-behind_field field.Number more f = more
-behind_field field.Input more f = option_map_or input_form (input_word_of f) []
-behind_field field.Command more f = option_map_or command_form (command_word_of f) []
-behind_field field.Address more f = more
-behind_field field.Hex more f = more
-behind_field field.Group more f = more
-behind_field field.Frames more f = more
-behind_field field.Id more f = more
+-- what is required after it, where these were required after the field before
+abbrev pub after_field : Field → List Field → List ℕ → List Field
+after_field field.Mark more f = more
+after_field field.Format more f = more
+after_field field.Number more f = more
+after_field field.Input more f = option_map_or input_form (input_word_of f) []
+after_field field.Command more f = option_map_or command_form (command_word_of f) []
+after_field field.Address more f = more
+after_field field.Hex more f = more
+after_field field.Group more f = more
+after_field field.Frames more f = more
+after_field field.Id more f = more
 
-abbrev pub behind : List Field → List ℕ → List Field
-behind [] f = []
-behind (k ∷ ks) f = behind_field k ks f
+abbrev pub after : List Field → List ℕ → List Field
+after [] f = []
+after (k ∷ ks) f = after_field k ks f
 
 -- the column of the first field that isn't as required, where the first of all stands at column at
 abbrev pub first_bad : List Field → List (List ℕ) → ℕ → Option ℕ
 first_bad required [] at = None
-first_bad required (f ∷ fs) at = if meets required f then first_bad (behind required f) fs (at + (length f + 1)) else Some at
+first_bad required (f ∷ fs) at = if meets required f then first_bad (after required f) fs (at + (length f + 1)) else Some at
 
 -- the fields that a line begins with, by its number from 1: those of the head, or of an entry
 abbrev pub form : ℕ → List Field
@@ -215,7 +215,7 @@ but_last [] = []
 but_last (f ∷ []) = []
 but_last (f ∷ g ∷ fs) = f ∷ but_last (g ∷ fs)
 
--- where a line that isn't too long is bad: at its first bad field, or behind its end
+-- where a line that isn't too long is bad: at its first bad field, or after its end
 abbrev pub column : ℕ → List ℕ → ℕ
 column n text = unwrap_or (first_bad (form n) (fields_in text) 1) (length text + 1)
 

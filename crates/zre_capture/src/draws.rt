@@ -1,7 +1,7 @@
 //! Numbers drawn from a seed.
 
 ghost use Rattle.std.specs.Prelude.{◌≡◌, ◌++◌, IfOk, OnOk};
-ghost use Rattle.zre_capture.specs.Draws.{drawn, upper_half, behind_draws, octets_drawn};
+ghost use Rattle.zre_capture.specs.Draws.{drawn, upper_half, after_draws, octets_drawn};
 
 use zre_values::{Octets, OutOfMemory};
 
@@ -24,9 +24,9 @@ pub(crate) fn upper_half(x: u64) -> u32
     (x / 0x1_0000_0000) as u32
 }
 
-/// Appends what so many draws give, and tells where the draws stand behind them.
+/// Appends what so many draws give, and tells where the draws stand after them.
 pub(crate) fn push_drawn(out: &mut Octets, count: u8, from: u64) -> Result<u64, OutOfMemory>
-    ensures behind { IfOk result (λ x. x ≡ behind_draws count from) }
+    ensures after { IfOk result (λ x. x ≡ after_draws count from) }
     ensures octets { OnOk result (out.new ≡ out.old ++ octets_drawn count from) }
 {
     let mut x = from;

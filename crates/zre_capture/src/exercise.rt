@@ -33,7 +33,7 @@ pub struct Exercise {
 
 impl Exercise {
     ghost use Rattle.zre_capture.specs.Exercise.{exercise, comes};
-    ghost use Rattle.zre_capture.specs.Left.{left, left_at, behind_peer, Gives};
+    ghost use Rattle.zre_capture.specs.Left.{left, left_at, after_peer, Gives};
 
     /// The exercise before its first entry.
     pub fn new(alloc: Global, seed: u64, peers: u16, messages: u32) -> Self
@@ -54,9 +54,9 @@ impl Exercise {
         }
     }
 
-    // The stage behind a peer.
-    fn behind(&self, peer: u8) -> Stage
-        ensures { left_at result self.now ≡ behind_peer peer self.now }
+    // The stage after a peer.
+    fn after(&self, peer: u8) -> Stage
+        ensures { left_at result self.now ≡ after_peer peer self.now }
     {
         if (peer as u16) + 1 < self.peers {
             Stage::Beacon(peer + 1)
@@ -132,7 +132,7 @@ impl Exercise {
             }
             Stage::Introduction(peer) => {
                 let bytes = introduction(alloc, peer)?;
-                self.stage = self.behind(peer);
+                self.stage = self.after(peer);
                 Entry {
                     at: 0,
                     input: Input::Piece {

@@ -1,7 +1,7 @@
 //! The fields of lines, and what is required of each.
 
 ghost use Rattle.std.specs.Prelude.{◌≡◌, ◌≤◌, ◌<◌, ◌+◌, ◌^◌, length, true, false, if◌then◌else◌};
-ghost use Rattle.zre_capture.specs.Reading.{is_field, input_form, command_form, meets, behind, behind_field, form, first_bad, but_last, fields_in};
+ghost use Rattle.zre_capture.specs.Reading.{is_field, input_form, command_form, meets, after, after_field, form, first_bad, but_last, fields_in};
 
 use crate::hexadecimal::is_hex;
 use crate::list::are_frames;
@@ -101,8 +101,8 @@ fn meets(required: &[Field], text: &[u8]) -> bool
     }
 }
 
-fn behind_field(field: Field, more: &'static [Field], text: &[u8]) -> &'static [Field]
-    ensures { result.now ≡ behind_field field more.now text.now }
+fn after_field(field: Field, more: &'static [Field], text: &[u8]) -> &'static [Field]
+    ensures { result.now ≡ after_field field more.now text.now }
 {
     match field {
         Field::Input => match input_word(text) {
@@ -124,16 +124,16 @@ fn behind_field(field: Field, more: &'static [Field], text: &[u8]) -> &'static [
     }
 }
 
-fn behind(required: &'static [Field], text: &[u8]) -> &'static [Field]
-    ensures { result.now ≡ behind required.now text.now }
+fn after(required: &'static [Field], text: &[u8]) -> &'static [Field]
+    ensures { result.now ≡ after required.now text.now }
 {
     match required {
         [] => required,
-        [field, more @ ..] => behind_field(*field, more, text),
+        [field, more @ ..] => after_field(*field, more, text),
     }
 }
 
-/// The column, from 1, of the first field of a line that isn't as required. The last field, behind the last space, is
+/// The column, from 1, of the first field of a line that isn't as required. The last field, after the last space, is
 /// looked at only where it is whole.
 pub fn first_bad(line: u64, text: &[u8], whole: bool) -> Option<u64>
     requires { length text.now < 2 ^ 32 }
@@ -146,7 +146,7 @@ pub fn first_bad(line: u64, text: &[u8], whole: bool) -> Option<u64>
         if !meets(required, field) {
             return Some(column);
         }
-        required = behind(required, field);
+        required = after(required, field);
         column += field.len() as u64 + 1;
         rest = others;
     }

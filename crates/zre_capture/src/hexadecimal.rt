@@ -31,9 +31,9 @@ fn push_digits(out: &mut Octets, bytes: &[u8]) -> Result<(), OutOfMemory>
 {
     let mut rest = bytes;
     while !rest.is_empty() {
-        let (front, behind) = rest.split_at(rest.len().min(TURN));
+        let (front, after) = rest.split_at(rest.len().min(TURN));
         push_turn(out, front)?;
-        rest = behind;
+        rest = after;
     }
     Ok(())
 }

@@ -15,11 +15,11 @@ fn are_members(field: &[u8]) -> bool
     ensures { result ≡ are_groups (between 44 field.now) }
 {
     let mut rest = field;
-    'members: while let Some((member, behind)) = split_once(rest, b',') {
+    'members: while let Some((member, after)) = split_once(rest, b',') {
         if !is_group(member) {
             return false;
         }
-        rest = behind;
+        rest = after;
     }
     is_group(rest)
 }
@@ -50,11 +50,11 @@ fn members(alloc: Global, field: &[u8]) -> Result<Option<Frames>, OutOfMemory>
 {
     let mut frames = Frames::new(alloc);
     let mut rest = field;
-    'members: while let Some((member, behind)) = split_once(rest, b',') {
+    'members: while let Some((member, after)) = split_once(rest, b',') {
         if !push_member(alloc, &mut frames, member)? {
             return Ok(None);
         }
-        rest = behind;
+        rest = after;
     }
     if push_member(alloc, &mut frames, rest)? {
         Ok(Some(frames))

@@ -13,7 +13,7 @@ use std::alloc::Global;
 use zre_outside::{Command, Entry, Input};
 use zre_values::{Frames, Octets, OutOfMemory, PeerId};
 
-// The first field, and the text of those behind it, if there are any.
+// The first field, and the text of those after it, if there are any.
 fn first_field(text: &[u8]) -> Option<(&[u8], &[u8])>
     ensures { MatchOption result (fields_in text.now ≡ text.now ∷ [])
         (λ p. fields_in text.now ≡ p.0.now ∷ fields_in p.1.now) }
@@ -22,7 +22,7 @@ fn first_field(text: &[u8]) -> Option<(&[u8], &[u8])>
     Some((first, rest))
 }
 
-// A field with no other behind it.
+// A field with no other after it.
 fn one_field(text: &[u8]) -> Option<&[u8]>
     ensures { option_map (λ f. f.now) result ≡ one (fields_in text.now) }
 {
@@ -32,7 +32,7 @@ fn one_field(text: &[u8]) -> Option<&[u8]>
     }
 }
 
-// Two fields with no other behind them.
+// Two fields with no other after them.
 fn two_fields(text: &[u8]) -> Option<(&[u8], &[u8])>
     ensures { option_map (λ p. (p.0.now, p.1.now)) result ≡ two (fields_in text.now) }
 {
@@ -130,7 +130,7 @@ fn group_and_frames(alloc: Global, text: &[u8]) -> Result<Option<(Octets, Frames
     }
 }
 
-// The command of a word and the fields behind it, of which there is one at least.
+// The command of a word and the fields after it, of which there is one at least.
 fn command_with(
     alloc: Global,
     word: CommandWord,
@@ -154,7 +154,7 @@ fn command_with(
     }
 }
 
-// The command of a word that no field stands behind.
+// The command of a word that no field stands after.
 fn command_alone(word: CommandWord) -> Option<Command>
     ensures { result ≡ command_from word [] }
 {
@@ -180,7 +180,7 @@ fn command(alloc: Global, text: &[u8]) -> Result<Option<Command>, OutOfMemory>
     }
 }
 
-// What happened, of a word and the fields behind it, of which there is one at least.
+// What happened, of a word and the fields after it, of which there is one at least.
 fn input_with(alloc: Global, word: InputWord, rest: &[u8]) -> Result<Option<Input>, OutOfMemory>
     ensures { IfOk result (λ found. found ≡ input_from word (fields_in rest.now)) }
 {
@@ -206,7 +206,7 @@ fn input_with(alloc: Global, word: InputWord, rest: &[u8]) -> Result<Option<Inpu
     }
 }
 
-// What happened, of a word that no field stands behind.
+// What happened, of a word that no field stands after.
 fn input_alone(word: InputWord) -> Option<Input>
     ensures { result ≡ input_from word [] }
 {

@@ -151,8 +151,8 @@ impl CaptureReader {
     }
 
     /// Reads one more piece: the entries of the lines that are now whole are appended. A bad line is told once its line
-    /// feed is there, or an octet past the limit of its length, behind the entries of the lines before it. After a
-    /// refusal nothing more is read; want of memory is also told where a line's number would be above 2^64 - 1.
+    /// feed is there, or an octet past the limit of its length, after the entries of the lines before it. After a
+    /// refusal nothing more is read; OutOfMemory is also told where a line's number would be above 2^64 - 1.
     pub fn feed(&mut self, piece: &[u8], out: &mut Entries) -> Result<(), CaptureFault>
         requires { Waits self.old }
         ensures ok { (o : List ℕ) → Reads o self.old → OnOk result (Reads (o ++ piece.now) self.new
@@ -163,9 +163,9 @@ impl CaptureReader {
         ensures front { (o : List ℕ) → Reads o self.old → OnErr result (AddsFront o piece.now out.old out.new) }
     {
         let mut rest = piece;
-        'lines: while let Some((text, behind)) = split_once(rest, b'\n') {
+        'lines: while let Some((text, after)) = split_once(rest, b'\n') {
             self.take_line(text, out)?;
-            rest = behind;
+            rest = after;
         }
         gather(&mut self.left, self.line, rest)?;
         Ok(())
@@ -177,7 +177,7 @@ impl CaptureReader {
         ensures { (o : List ℕ) → Reads o self.now →
             MatchResult result (λ _. bad_at_end o ≡ None) (λ b. bad_at_end o ≡ Some b) }
     {
-        if self.is_behind_a_line() {
+        if self.is_after_a_line() {
             return Ok(());
         }
         Err(BadCapture {
@@ -186,7 +186,7 @@ impl CaptureReader {
         })
     }
 
-    fn is_behind_a_line(&self) -> bool
+    fn is_after_a_line(&self) -> bool
         ensures { result ≡ ((length self.now.left == 0) && not (self.now.line == 1)) }
     {
         self.left.is_empty() && self.line != 1

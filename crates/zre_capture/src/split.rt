@@ -5,7 +5,7 @@ ghost use Rattle.zre_capture.specs.Parts.{Lacks};
 
 use memchr::memchr;
 
-/// What stands before and behind the first of these octets.
+/// What stands before and after the first of these octets.
 pub fn split_once(text: &[u8], octet: u8) -> Option<(&[u8], &[u8])>
     ensures none { IfNone result (Lacks octet text.now) }
     ensures parts { IfSome result (λ p. text.now ≡ p.0.now ++ (octet ∷ p.1.now)) }
@@ -13,6 +13,6 @@ pub fn split_once(text: &[u8], octet: u8) -> Option<(&[u8], &[u8])>
 {
     let place = memchr(octet, text)?;
     let (front, rest) = text.split_at(place);
-    let (_, behind) = rest.split_at(1);
-    Some((front, behind))
+    let (_, after) = rest.split_at(1);
+    Some((front, after))
 }

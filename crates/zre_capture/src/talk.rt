@@ -2,15 +2,15 @@
 
 ghost use Rattle.std.specs.Prelude.{suc, ◌≡◌, ◌≤◌, ◌+◌, ◌%◌, IfOk, OnOk, codes};
 ghost use Rattle.zre_msg.specs.Spelling.{FitsBody};
-ghost use Rattle.zre_capture.specs.Draws.{behind_draws, octets_drawn};
-ghost use Rattle.zre_capture.specs.Exercise.{changes, status, content, body, behind_content, behind, spelling, cut, first_piece, second_piece};
+ghost use Rattle.zre_capture.specs.Draws.{after_draws, octets_drawn};
+ghost use Rattle.zre_capture.specs.Exercise.{changes, status, content, body, after_content, after, spelling, cut, first_piece, second_piece};
 
 use crate::draws::{drawn, push_drawn, upper_half};
 use std::alloc::Global;
 use zre_msg::{Body, Message};
 use zre_values::{Frames, Octets, OutOfMemory};
 
-/// A message in two pieces, and where the draws stand behind it.
+/// A message in two pieces, and where the draws stand after it.
 pub(crate) struct Pieces {
     pub first: Octets,
     pub second: Octets,
@@ -37,7 +37,7 @@ fn status(k: u32) -> u8
 }
 
 fn content(alloc: Global, x: u64) -> Result<(Frames, u64), OutOfMemory>
-    ensures { IfOk result (λ drawn. (drawn.0 ≡ content x) × (drawn.1 ≡ behind_draws 8 x)) }
+    ensures { IfOk result (λ drawn. (drawn.0 ≡ content x) × (drawn.1 ≡ after_draws 8 x)) }
 {
     let mut frame = Octets::new(alloc);
     let x = push_drawn(&mut frame, 8, x)?;
@@ -50,11 +50,11 @@ fn group(alloc: Global) -> Result<Octets, OutOfMemory>
     Octets::copy(alloc, b"all")
 }
 
-// What message k of a peer says, and where the draws stand behind it.
-#[tactic(auto, unfolding(crate::specs::Exercise::body, crate::specs::Exercise::behind_content))]
+// What message k of a peer says, and where the draws stand after it.
+#[tactic(auto, unfolding(crate::specs::Exercise::body, crate::specs::Exercise::after_content))]
 fn body(alloc: Global, k: u32, x: u64) -> Result<(Body, u64), OutOfMemory>
     ensures said { IfOk result (λ said. said.0 ≡ body k x) }
-    ensures behind { IfOk result (λ said. said.1 ≡ behind_content k x) }
+    ensures after { IfOk result (λ said. said.1 ≡ after_content k x) }
     ensures fits { IfOk result (λ said. FitsBody said.0) }
 {
     let kind = k % 4;
@@ -86,11 +86,11 @@ fn body(alloc: Global, k: u32, x: u64) -> Result<(Body, u64), OutOfMemory>
     Ok((Body::Shout { group, content }, x))
 }
 
-// Its octets in place of what stands there, and where the draws stand behind its content.
+// Its octets in place of what stands there, and where the draws stand after its content.
 #[tactic(auto, unfolding(crate::specs::Exercise::spelling))]
 fn spell(alloc: Global, out: &mut Octets, k: u32, x: u64) -> Result<u64, OutOfMemory>
     ensures octets { OnOk result (out.new ≡ spelling k x) }
-    ensures behind { IfOk result (λ behind. behind ≡ behind_content k x) }
+    ensures after { IfOk result (λ after. after ≡ after_content k x) }
 {
     out.clear();
     let (body, x) = body(alloc, k, x)?;
@@ -111,15 +111,15 @@ fn cut_by(draw: u32, len: usize) -> usize
     if draw <= len { draw } else { draw % (len + 1) }
 }
 
-/// Message k of a peer, whose draws begin at x. The buffer's octets are of no account before and behind it.
-#[tactic(auto, unfolding(crate::specs::Exercise::behind, crate::specs::Exercise::cut))]
+/// Message k of a peer, whose draws begin at x. The buffer's octets are of no account before and after it.
+#[tactic(auto, unfolding(crate::specs::Exercise::after, crate::specs::Exercise::cut))]
 pub(crate) fn talk(
     alloc: Global,
     buffer: &mut Octets,
     k: u32,
     x: u64,
 ) -> Result<Pieces, OutOfMemory>
-    ensures { IfOk result (λ t. (t.first ≡ first_piece k x) × (t.second ≡ second_piece k x) × (t.x ≡ behind k x)) }
+    ensures { IfOk result (λ t. (t.first ≡ first_piece k x) × (t.second ≡ second_piece k x) × (t.x ≡ after k x)) }
 {
     let x = drawn(spell(alloc, buffer, k, x)?);
     let octets = buffer.as_slice();

@@ -9,9 +9,9 @@ use mathlib.Core.List.{IsPrefix}
 use Rattle.zre_outside.specs.declared.entry.Command.{Command}
 use Rattle.zre_outside.specs.declared.entry.Command.TheVariants.{Join, Leave, Whisper, Shout, Bad, Quit}
 use Rattle.zre_actor.specs.Work.{QuitsLast}
-use Rattle.zre_typist.specs.Orders.{is_quit, through_quit, orders, Begins}
-use Rattle.zre_input.specs.Putting.{IsShort, IsClose}
-use Rattle.zre_input.specs.Reading.{BreaksOff}
+use Rattle.zre_console.specs.lines.Orders.{is_quit, through_quit, orders, Begins}
+use Rattle.zre_console.specs.reader.Putting.{IsShort, IsClose}
+use Rattle.zre_console.specs.reader.Reading.{BreaksOff}
 
 pub prefix_self : {X : Type 0} (xs : List X) → IsPrefix xs xs
 prefix_self xs = ([], append-nil xs)
@@ -44,7 +44,7 @@ quits_through (c ∷ cs) = (
     by rest true = tt
     by rest false = rest
 
--- in front of more there is none
+-- before more there is none
 pub none_before : (cs : List Command) (d : Command) (ds : List Command) → QuitsLast (cs ++ d ∷ ds) → list_any is_quit cs ≡ false
 none_before [] d ds q = refl
 none_before (c ∷ cs) d ds q = by (none_before cs d ds q.1) (is_quit c) refl
@@ -77,7 +77,7 @@ pub short_front : (xs ys all : List Command) → IsPrefix xs ys → IsShort ys a
 short_front xs ys all ([], is) (next, rest, e) = (next, rest, e ∙ ap (λ l. l ++ next ∷ rest) (sym is ∙ append-nil xs))
 short_front xs ys all (d ∷ ds, is) (next, rest, e) = (d, ds ++ next ∷ rest, e ∙ ap (λ l. l ++ next ∷ rest) (sym is) ∙ append_assoc xs (d ∷ ds) (next ∷ rest))
 
--- what begins the orders in front of their quit, and a front of that
+-- what begins the orders before their quit, and a front of that
 pub begins_front : (xs ys : List Command) (o : List ℕ) → IsPrefix xs ys → Begins ys o → Begins xs o
 begins_front xs ys o p b = record {
   rest = p.0 ++ b.rest;
@@ -145,7 +145,7 @@ breaks_plain xs o b none = by b.closes
             or_true true = refl
             or_true false = refl
 
--- all orders: those in front of their quit, and the quit
+-- all orders: those before their quit, and the quit
 pub orders_break : (commands : List Command) (o : List ℕ) → Begins [] o → commands ≡ orders o → BreaksOff commands o
 orders_break commands o b is = record {
   front = b.rest;

@@ -42,7 +42,7 @@ not_here n e es isnt = ap (λ b. cond b (e ∷ under n es) (under n es)) isnt
 abbrev pub TwoAlone : ℕ → ℕ → List Placed → Type 0
 TwoAlone r q es = (n : ℕ) → n ≢ r → n ≢ q → under n es ≡ []
 
--- so none is under other numbers behind the first
+-- so none is under other numbers after the first
 two_left : (r q : ℕ) (e : Placed) (es : List Placed) → TwoAlone r q (e ∷ es) → TwoAlone r q es
 two_left r q e es two = λ n nr nq. by n (two n nr nq) (e.number == n) refl
   where
@@ -50,7 +50,7 @@ two_left r q e es two = λ n nr nq. by n (two n nr nq) (e.number == n) refl
     by n none true is = absurd (let x : e ∷ under n es ≡ [] = sym (here n e es is) ∙ none in cc)
     by n none false isnt = sym (not_here n e es isnt) ∙ none
 
--- under q stands nothing, or a quit: behind it nothing was popped
+-- under q stands nothing, or a quit: after it nothing was popped
 pub split : (r q : ℕ) (es : List Placed) → r ≢ q → TwoAlone r q es → QuitsLast (map command_of es)
     → ((e : Placed) (more : List Placed) → under q es ≡ e ∷ more → e.command ≡ Quit)
     → (es ≡ under r es) ⊎ ((last : Placed) × (last.command ≡ Quit) × (es ≡ under r es ++ last ∷ []))

@@ -3,8 +3,8 @@ use Rattle.std.proofs.Common.{◌≡◌, ◌≢◌, Bool, true, false, true≢fa
 use Rattle.std.specs.Prelude.{nat_le}
 use Rattle.zre_outside.specs.declared.sink.NextFault.{NextFault}
 use Rattle.zre_outside.specs.declared.sink.NextFault.TheVariants as fault
-use Rattle.zre_pump.specs.declared.status.Status.{Status}
-use Rattle.zre_pump.specs.declared.status.Status.TheVariants.{Done, Usage, BadInput, ReadFault, WriteFault, WorldFault, NoThread, TooLong, OutOfMemory}
+use Rattle.zre_commands.specs.declared.pump.status.Status.{Status}
+use Rattle.zre_commands.specs.declared.pump.status.Status.TheVariants.{Done, Usage, BadInput, ReadFault, WriteFault, WorldFault, NoThread, TooLong, OutOfMemory}
 use Rattle.zre_chat.specs.Statuses.{rank, least, of_fault}
 
 pub one_least : (s : Status) → s ≡ least (s ∷ [])
@@ -21,7 +21,7 @@ one_least OutOfMemory = refl
 abbrev pub first_of : Status → Status → Status
 first_of s r = cond (nat_le (rank s) (rank r)) s r
 
--- want of memory is the first
+-- OutOfMemory is the first
 no_memory : (s : Status) → first_of s OutOfMemory ≡ OutOfMemory
 no_memory Done = refl
 no_memory Usage = refl
@@ -47,8 +47,8 @@ memory_first OutOfMemory = refl
 pub memory_here : (s : Status) (ss : List Status) → s ≡ OutOfMemory → least (s ∷ ss) ≡ OutOfMemory
 memory_here s ss is = ap (λ x. first_of x (least ss)) is ∙ memory_first (least ss)
 
-pub memory_behind : (s : Status) (ss : List Status) → least ss ≡ OutOfMemory → least (s ∷ ss) ≡ OutOfMemory
-memory_behind s ss is = ap (first_of s) is ∙ no_memory s
+pub memory_after : (s : Status) (ss : List Status) → least ss ≡ OutOfMemory → least (s ∷ ss) ≡ OutOfMemory
+memory_after s ss is = ap (first_of s) is ∙ no_memory s
 
 -- every status comes before Done
 before_done : (s : Status) → nat_le (rank s) (rank Done) ≡ true
@@ -83,8 +83,8 @@ done_here s ss is = by (nat_le (rank s) (rank (least ss))) refl
         let other : least ss ≡ Done = sym (ap (λ b. cond b s (least ss)) e) ∙ is in
         absurd (true≢false (sym (before_done s) ∙ ap (λ r. nat_le (rank s) (rank r)) (sym other) ∙ e))
 
-pub done_behind : (s : Status) (ss : List Status) → least (s ∷ ss) ≡ Done → least ss ≡ Done
-done_behind s ss is = sym (last_done (least ss)) ∙ ap (λ x. first_of x (least ss)) (sym (done_here s ss is)) ∙ is
+pub done_after : (s : Status) (ss : List Status) → least (s ∷ ss) ≡ Done → least ss ≡ Done
+done_after s ss is = sym (last_done (least ss)) ∙ ap (λ x. first_of x (least ss)) (sym (done_here s ss is)) ∙ is
 
 -- ---- what isn't Done
 

@@ -36,24 +36,24 @@ use Rattle.zre_actor.specs.Commands.{under, command_of}
 use Rattle.zre_actor.specs.Passes.{IsNew, number, ended, put_by, puts_of, popped_by, raised_by, taken_by}
 use Rattle.zre_actor.specs.Work.{Scene, scene, went, IsWork, Ends, KeptLines}
 use Rattle.zre_actor.proofs.Working.{rose_later}
-use Rattle.zre_typist.specs.Orders.{is_quit, typed, orders}
-use Rattle.zre_input.specs.declared.ending.InputEnd.{InputEnd}
-use Rattle.zre_input.specs.declared.ending.InputEnd.TheVariants as end
-use Rattle.zre_input.specs.Putting.{Puts, IsShort}
-use Rattle.zre_input.specs.Reading.{HasRead, Outcome, BreaksOff}
-use Rattle.zre_input.proofs.Puts.{puts-none}
-use Rattle.zre_pump.specs.declared.status.Status.{Status}
-use Rattle.zre_pump.specs.declared.status.Status.TheVariants.{Done, OutOfMemory}
-use Rattle.zre_chat.specs.declared.asker.Wish.{Wish}
-use Rattle.zre_chat.specs.declared.asker.Wish.TheVariants.{No, Due, Put}
-use Rattle.zre_chat.specs.Asking.{asked, asker_of, HasAsked}
+use Rattle.zre_console.specs.lines.Orders.{is_quit, typed, orders}
+use Rattle.zre_console.specs.declared.reader.ending.InputEnd.{InputEnd}
+use Rattle.zre_console.specs.declared.reader.ending.InputEnd.TheVariants as end
+use Rattle.zre_console.specs.reader.Putting.{Puts, IsShort}
+use Rattle.zre_console.specs.reader.Reading.{HasRead, Outcome, BreaksOff}
+use Rattle.zre_console.proofs.reader.Puts.{puts-none}
+use Rattle.zre_commands.specs.declared.pump.status.Status.{Status}
+use Rattle.zre_commands.specs.declared.pump.status.Status.TheVariants.{Done, OutOfMemory}
+use Rattle.zre_console.specs.declared.printer.asker.Wish.{Wish}
+use Rattle.zre_console.specs.declared.printer.asker.Wish.TheVariants.{No, Due, Put}
+use Rattle.zre_console.specs.printer.Asking.{asked, asker_of, HasAsked}
 use Rattle.zre_chat.specs.Chat.{Seen, IsChat, IsCaused, IsSpared, HasEnded, Holds}
-use Rattle.zre_chat.specs.Printing.{HasPrinted}
+use Rattle.zre_console.specs.printer.Printing.{HasPrinted}
 use Rattle.zre_chat.specs.Stages.{Prepared}
 use Rattle.zre_chat.specs.Statuses.{least, of_read, of_print, of_work, of_thread}
 use Rattle.zre_chat.proofs.Fronts.{prefix_trans, quits_through, all_front, none_front, short_front, breaks_front}
 use Rattle.zre_chat.proofs.Merged.{all_under}
-use Rattle.zre_chat.proofs.Rows.{memory_isnt, memory_here, memory_behind, done_here, done_behind}
+use Rattle.zre_chat.proofs.Rows.{memory_isnt, memory_here, memory_after, done_here, done_after}
 use Rattle.zre_journal.proofs.Stops.{told_to_stop}
 use Rattle.zre_chat.proofs.Whole.{maps, IsThrough, read_orders, read_front, only, most}
 
@@ -95,22 +95,22 @@ module _ (g : Config) (start : Start) (name : Option (List ℕ)) (keep : Bool) (
   -- ---- what the status says of the parts
 
   memory : status ≢ OutOfMemory → how ≢ ending.OutOfMemory
-  memory isnt is = isnt (memory_behind (of_read stop) second (memory_behind (of_print broke) third (memory_here (of_work how) fourth (ap of_work is))))
+  memory isnt is = isnt (memory_after (of_read stop) second (memory_after (of_print broke) third (memory_here (of_work how) fourth (ap of_work is))))
 
   page : status ≢ OutOfMemory → broke ≢ Some fault.OutOfMemory
-  page isnt is = isnt (memory_behind (of_read stop) second (memory_here (of_print broke) third (ap of_print is)))
+  page isnt is = isnt (memory_after (of_read stop) second (memory_here (of_print broke) third (ap of_print is)))
 
   read_done : status ≡ Done → of_read stop ≡ Done
   read_done is = done_here (of_read stop) second is
 
   print_done : status ≡ Done → of_print broke ≡ Done
-  print_done is = done_here (of_print broke) third (done_behind (of_read stop) second is)
+  print_done is = done_here (of_print broke) third (done_after (of_read stop) second is)
 
   work_done : status ≡ Done → of_work how ≡ Done
-  work_done is = done_here (of_work how) fourth (done_behind (of_print broke) third (done_behind (of_read stop) second is))
+  work_done is = done_here (of_work how) fourth (done_after (of_print broke) third (done_after (of_read stop) second is))
 
   thread_done : status ≡ Done → of_thread refused ≡ Done
-  thread_done is = done_here (of_thread refused) [] (done_behind (of_work how) fourth (done_behind (of_print broke) third (done_behind (of_read stop) second is)))
+  thread_done is = done_here (of_thread refused) [] (done_after (of_work how) fourth (done_after (of_print broke) third (done_after (of_read stop) second is)))
 
   printed_whole : status ≡ Done → broke ≡ None
   printed_whole is = by broke refl

@@ -23,15 +23,15 @@ use Rattle.zre_actor.specs.Commands.{under, command_of}
 use Rattle.zre_actor.specs.Work.{went, QuitsLast}
 use Rattle.zre_actor.proofs.Deeds.{went-none}
 use Rattle.zre_actor.proofs.Sums.{under-append}
-use Rattle.zre_typist.specs.Orders.{is_quit, typed, orders, orders_from, ended_lines, Begins}
+use Rattle.zre_console.specs.lines.Orders.{is_quit, typed, orders, orders_from, ended_lines, Begins}
 use Rattle.zre_capture.specs.Journal.{lines_in}
-use Rattle.zre_input.specs.declared.ending.InputEnd.{InputEnd}
-use Rattle.zre_input.specs.declared.ending.InputEnd.TheVariants as end
-use Rattle.zre_input.specs.Putting.{IsShort}
-use Rattle.zre_input.specs.Reading.{Outcome, BreaksOff}
-use Rattle.zre_typist.proofs.Quits.{orders-begin}
-use Rattle.zre_pump.specs.declared.status.Status.{Status}
-use Rattle.zre_pump.specs.declared.status.Status.TheVariants.{Done, Usage, BadInput, ReadFault, WriteFault, WorldFault, NoThread, TooLong, OutOfMemory}
+use Rattle.zre_console.specs.declared.reader.ending.InputEnd.{InputEnd}
+use Rattle.zre_console.specs.declared.reader.ending.InputEnd.TheVariants as end
+use Rattle.zre_console.specs.reader.Putting.{IsShort}
+use Rattle.zre_console.specs.reader.Reading.{Outcome, BreaksOff}
+use Rattle.zre_console.proofs.lines.Quits.{orders-begin}
+use Rattle.zre_commands.specs.declared.pump.status.Status.{Status}
+use Rattle.zre_commands.specs.declared.pump.status.Status.TheVariants.{Done, Usage, BadInput, ReadFault, WriteFault, WorldFault, NoThread, TooLong, OutOfMemory}
 use Rattle.zre_chat.specs.Chat.{Seen, IsChat, IsCaused, IsSpared, Holds, started}
 use Rattle.zre_chat.specs.Stages.{IsEarly, Unprepared}
 use Rattle.zre_chat.specs.Statuses.{of_fault, of_read}

@@ -19,11 +19,11 @@ use Rattle.zre_journal.specs.Happens.{has_stopped}
 use Rattle.zre_capture.specs.Lines as capture
 use Rattle.zre_capture.specs.Lines.{IsEntry}
 use Rattle.zre_actor.specs.Work.{went, AreDeeds, acts_of, done_by, AllGo}
-use Rattle.zre_typist.specs.Orders.{is_quit, typed, orders}
-use Rattle.zre_input.specs.Putting.{IsShort}
-use Rattle.zre_input.specs.Reading.{IsReadOn, BreaksOff}
-use Rattle.zre_pump.specs.declared.status.Status.{Status}
-use Rattle.zre_pump.specs.declared.status.Status.TheVariants.{Done, Usage, BadInput, ReadFault, WriteFault, WorldFault, NoThread, TooLong, OutOfMemory}
+use Rattle.zre_console.specs.lines.Orders.{is_quit, typed, orders}
+use Rattle.zre_console.specs.reader.Putting.{IsShort}
+use Rattle.zre_console.specs.reader.Reading.{IsReadOn, BreaksOff}
+use Rattle.zre_commands.specs.declared.pump.status.Status.{Status}
+use Rattle.zre_commands.specs.declared.pump.status.Status.TheVariants.{Done, Usage, BadInput, ReadFault, WriteFault, WorldFault, NoThread, TooLong, OutOfMemory}
 use Rattle.zre_chat.specs.Statuses.{least}
 
 -- what is seen of all that a chat works with, at one moment
@@ -115,7 +115,7 @@ pub record IsChat (g : Config) (start : Start) (name : Option (List ℕ)) (limit
   pub most : turns ≤ limit
   pub one_unstepped : length unstepped ≤ 1
   pub are_values : All IsEntry (entries ++ unstepped)
-  -- each is taken but one whose line wasn't kept, and none was given behind the one that stopped the node
+  -- each is taken but one whose line wasn't kept, and none was given after the one that stopped the node
   pub all_taken : IsSpared status (Rose s.record_faults t.record_faults) → unstepped ≡ []
   pub all_go : AllGo g [] (entries ++ unstepped)
   -- the acts were done in order
@@ -131,7 +131,7 @@ pub record IsChat (g : Config) (start : Start) (name : Option (List ℕ)) (limit
   pub held : (file : List ℕ) → name ≡ Some file → IsSpared status (Rose s.record_faults t.record_faults) → Holds file entries s t
   -- the commands that were handed in are done by entries that were given, in order
   pub are_done : Sublist handed (done_by (entries ++ unstepped))
-  -- they begin the orders of the input in front of its quit, but for a quit at their end; where all went well they begin the orders as they stand, and with a quit they are all of them
+  -- they begin the orders of the input before its quit, but for a quit at their end; where all went well they begin the orders as they stand, and with a quit they are all of them
   pub in_order : BreaksOff handed octets
   pub are_front : status ≡ Done → IsPrefix handed (orders octets)
   pub all_handed : status ≡ Done → list_any is_quit handed ≡ true → handed ≡ orders octets

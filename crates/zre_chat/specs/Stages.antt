@@ -5,8 +5,8 @@ use Rattle.zre_outside.specs.declared.start.Start.{Start}
 use Rattle.zre_outside.specs.Causes.{Rose}
 use Rattle.zre_outside.specs.Worlds.{Log, with_start}
 use Rattle.zre_capture.specs.Lines.{head}
-use Rattle.zre_pump.specs.declared.status.Status.{Status}
-use Rattle.zre_pump.specs.declared.status.Status.TheVariants.{Done, Usage, BadInput, ReadFault, WriteFault, WorldFault, NoThread, TooLong, OutOfMemory}
+use Rattle.zre_commands.specs.declared.pump.status.Status.{Status}
+use Rattle.zre_commands.specs.declared.pump.status.Status.TheVariants.{Done, Usage, BadInput, ReadFault, WriteFault, WorldFault, NoThread, TooLong, OutOfMemory}
 use Rattle.zre_chat.specs.Chat.{Seen, started}
 
 -- the recorder was begun where a capture is kept, and the world was started; nothing was read or written

@@ -2,15 +2,15 @@
 use Rattle.std.specs.Prelude.{ℕ, Bool, true, false, nat_le, List, [], ◌∷◌, Option, Some, None, if◌then◌else◌}
 use Rattle.zre_outside.specs.declared.sink.NextFault.{NextFault}
 use Rattle.zre_outside.specs.declared.sink.NextFault.TheVariants as fault
-use Rattle.zre_pump.specs.declared.status.Status.{Status}
-use Rattle.zre_pump.specs.declared.status.Status.TheVariants.{Done, ReadFault, WriteFault, WorldFault, NoThread, TooLong, OutOfMemory}
-use Rattle.zre_pump.specs.Codes.{code_of}
+use Rattle.zre_commands.specs.declared.pump.status.Status.{Status}
+use Rattle.zre_commands.specs.declared.pump.status.Status.TheVariants.{Done, ReadFault, WriteFault, WorldFault, NoThread, TooLong, OutOfMemory}
+use Rattle.zre_commands.specs.pump.Codes.{code_of}
 use Rattle.zre_actor.specs.declared.ending.Ending.{Ending}
 use Rattle.zre_actor.specs.declared.ending.Ending.TheVariants as ending
-use Rattle.zre_input.specs.declared.ending.InputEnd.{InputEnd}
-use Rattle.zre_input.specs.declared.ending.InputEnd.TheVariants as end
+use Rattle.zre_console.specs.declared.reader.ending.InputEnd.{InputEnd}
+use Rattle.zre_console.specs.declared.reader.ending.InputEnd.TheVariants as end
 
--- want of memory comes first and Done last; the others stand as their numbers
+-- OutOfMemory comes first and Done last; the others stand as their numbers
 abbrev pub rank : Status → ℕ
 rank OutOfMemory = 0
 rank Done = 10

@@ -17,9 +17,9 @@ use crate::threads::converse;
 use std::alloc::Global;
 use std::sync::Wait;
 use std::thread::Threads;
+use zre_commands::pump::Status;
 use zre_journal::Config;
 use zre_outside::{Recorder, Sink, Source, Spawner, Start, World};
-use zre_pump::Status;
 use zre_values::{Octets, OutOfMemory};
 
 /// What a chat is asked for.

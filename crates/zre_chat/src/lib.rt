@@ -2,11 +2,8 @@
 //! input's lines, and the caller's own thread, which writes the lines of what the node tells.
 #![tactic(auto)]
 
-mod asker;
 mod chat;
 mod keeping;
-mod page;
-mod printing;
 mod statuses;
 mod table;
 mod talk;

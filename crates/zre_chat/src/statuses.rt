@@ -4,9 +4,9 @@ ghost use Rattle.std.specs.Prelude.{◌≡◌, ◌∷◌, []};
 ghost use Rattle.zre_chat.specs.Statuses.{rank, least, of_read, of_print, of_work, of_thread, of_fault};
 
 use zre_actor::Ending;
-use zre_input::InputEnd;
+use zre_commands::pump::Status;
+use zre_console::reader::InputEnd;
 use zre_outside::NextFault;
-use zre_pump::Status;
 
 // In which place a status stands where several have occurred.
 fn rank(status: Status) -> u8

@@ -5,21 +5,20 @@ ghost use Rattle.std.specs.Arc.{arc_value};
 ghost use Rattle.zre_outside.specs.Causes.{Rose};
 ghost use Rattle.zre_outside.specs.declared.sink.NextFault.TheVariants.{Failed};
 ghost use Rattle.zre_actor.specs.Passes.{IsCallerOf, IsTakerOf, last_of};
-ghost use Rattle.zre_input.specs.Reading.{HasRead};
-ghost use Rattle.zre_chat.specs.Printing.{HasPrinted};
-ghost use Rattle.zre_chat.specs.Asking.{asker_of};
+ghost use Rattle.zre_console.specs.reader.Reading.{HasRead};
+ghost use Rattle.zre_console.specs.printer.Printing.{HasPrinted};
+ghost use Rattle.zre_console.specs.printer.Asking.{asker_of};
 
-use crate::asker::{Asker, Wish};
-use crate::printing::{Printed, print_all};
 use std::alloc::Global;
 use std::sync::Wait;
 use std::sync::atomic::{AtomicBool, Ordering};
 use std::thread::Threads;
 use zre_actor::{CallerPass, Pipes, TakerPass};
-use zre_input::{InputEnd, ReaderDone, ReaderJob};
+use zre_console::printer::{Asker, Printed, Wish, print_all};
+use zre_console::reader::{InputEnd, ReaderDone, ReaderJob};
 use zre_outside::{Refused, Sink, Source, Spawner};
 
-/// What is left behind Last, and whether the reader was refused a thread.
+/// What is left after Last, and whether the reader was refused a thread.
 #[derive(Drop)]
 pub(crate) struct Talk<I> {
     pub read: ReaderDone<I>,

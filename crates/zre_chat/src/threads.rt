@@ -20,9 +20,9 @@ use std::alloc::Global;
 use std::sync::Wait;
 use std::thread::Threads;
 use zre_actor::{ActorJob, CallerPasses, Pipes, Worked};
-use zre_input::ReaderJob;
+use zre_commands::pump::Status;
+use zre_console::reader::ReaderJob;
 use zre_outside::{Recorder, Refused, Sink, Source, Spawner, World};
-use zre_pump::Status;
 
 /// Starts the node's thread and the reader's, prints, and waits for both.
 pub(crate) fn converse<I, W, O, R, P, T>(

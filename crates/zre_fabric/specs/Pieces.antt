@@ -6,8 +6,8 @@ use Rattle.zre_outside.specs.declared.turn.Turn.{Turn}
 use Rattle.zre_outside.specs.declared.turn.Turn.TheVariants as turn
 use Rattle.zre_fabric.specs.declared.step.Step.{Step}
 use Rattle.zre_fabric.specs.declared.step.Step.TheVariants as step
-use Rattle.zre_fabric.specs.declared.room.Heard.{Heard as HeardValue}
-use Rattle.zre_fabric.specs.declared.room.Heard.TheVariants as heard
+use Rattle.zre_fabric.specs.declared.read_buffer.Heard.{Heard as HeardValue}
+use Rattle.zre_fabric.specs.declared.read_buffer.Heard.TheVariants as heard
 
 -- what an input brings from a socket has at most 65,536 octets
 abbrev pub IsShort : Input → Type 0

@@ -5,18 +5,18 @@ use Rattle.zre_outside.specs.declared.turn.Turn.{Turn}
 use Rattle.zre_outside.specs.declared.turn.Turn.TheVariants as turn
 use Rattle.zre_outside.specs.Causes.{raised}
 
--- the entries since the last look, behind this turn
-abbrev pub entries_behind : ℕ → Turn → ℕ
-entries_behind entries turn.Look = 0
-entries_behind entries (turn.Entry e) = raised entries
+-- the entries since the last look, after this turn
+abbrev pub entries_after : ℕ → Turn → ℕ
+entries_after entries turn.Look = 0
+entries_after entries (turn.Entry e) = raised entries
 
--- the commands since the last entry that isn't one, behind this turn
-abbrev pub commands_behind : ℕ → Option Command → Turn → ℕ
-commands_behind commands command turn.Look = commands
-commands_behind commands None (turn.Entry e) = 0
-commands_behind commands (Some c) (turn.Entry e) = raised commands
+-- the commands since the last entry that isn't one, after this turn
+abbrev pub commands_after : ℕ → Option Command → Turn → ℕ
+commands_after commands command turn.Look = commands
+commands_after commands None (turn.Entry e) = 0
+commands_after commands (Some c) (turn.Entry e) = raised commands
 
--- after 64 entries, and after a command, unless 64 came in a row: a command comes behind a look, so where there are entries
+-- after 64 entries, and after a command, unless 64 came in a row: a command comes after a look, so where there are entries
 -- and commands the last turn was a command
 abbrev pub is_full : ℕ → ℕ → Bool
 is_full entries commands = nat_le 64 entries || (nat_lt 0 entries && (nat_lt 0 commands && nat_lt commands 64))

@@ -2,7 +2,7 @@ ghost use Rattle.std.specs.Prelude.{◌≤◌, length, IfOk};
 ghost use Rattle.zre_fabric.specs.Pieces.{StepIsShort};
 
 use crate::errors::{ErrorClass, class_of};
-use crate::room::Room;
+use crate::read_buffer::ReadBuffer;
 use crate::step::Step;
 use mio::net::UdpSocket;
 use std::alloc::Global;
@@ -53,10 +53,10 @@ impl Beacons {
         }
     }
 
-    pub(crate) fn step(&mut self, room: &mut Room) -> Result<Step, NextFault>
+    pub(crate) fn step(&mut self, buffer: &mut ReadBuffer) -> Result<Step, NextFault>
         ensures { IfOk result (λ step. StepIsShort step) }
     {
-        let Ok(datagram) = room.receive(&self.socket) else {
+        let Ok(datagram) = buffer.receive(&self.socket) else {
             return Err(NextFault::OutOfMemory);
         };
         match datagram {

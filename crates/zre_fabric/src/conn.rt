@@ -1,7 +1,7 @@
 ghost use Rattle.std.specs.Prelude.{IfOk};
 ghost use Rattle.zre_fabric.specs.Pieces.{StepIsShort};
 
-use crate::room::{Heard, Room};
+use crate::read_buffer::{Heard, ReadBuffer};
 use crate::step::Step;
 use mio::net::TcpStream;
 use std::io::Write;
@@ -39,13 +39,13 @@ impl Conn {
         !is_whole
     }
 
-    pub(crate) fn step(&mut self, conn: u64, room: &mut Room) -> Result<Step, OutOfMemory>
+    pub(crate) fn step(&mut self, conn: u64, buffer: &mut ReadBuffer) -> Result<Step, OutOfMemory>
         ensures { IfOk result (λ step. StepIsShort step) }
     {
         let Some(stream) = &mut self.stream else {
             return Ok(Step::Last(Input::Shut { conn }));
         };
-        match room.read(stream)? {
+        match buffer.read(stream)? {
             Heard::Octets(bytes) => Ok(Step::More(Input::Piece { conn, bytes })),
             Heard::End => Ok(Step::Last(Input::Shut { conn })),
             Heard::Nothing => Ok(Step::Rest),

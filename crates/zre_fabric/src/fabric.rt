@@ -2,7 +2,7 @@ ghost use Rattle.std.specs.Prelude.{◌≡◌, ◌≤◌, true, None, Some, IfOk
 ghost use Rattle.zre_outside.specs.Worlds.{IsTurn, is_look};
 ghost use Rattle.zre_fabric.specs.Pieces.{TurnIsShort};
 ghost use Rattle.zre_fabric.specs.Readings.{IsReadAt};
-ghost use Rattle.zre_fabric.specs.Rows.{is_full, entries_behind, commands_behind};
+ghost use Rattle.zre_fabric.specs.Rows.{is_full, entries_after, commands_after};
 
 use crate::network::Network;
 use crate::row::Row;
@@ -57,8 +57,8 @@ impl<R: Net + Clock> Fabric<R> {
         ensures reading { IfOk result (λ t. IsReadAt self.new.stopwatch.last t) }
         ensures later { self.old.stopwatch.last ≤ self.new.stopwatch.last }
         ensures look { command ≡ None → is_full self.old.row.entries self.old.row.commands ≡ true → IfOk result (λ t. is_look t ≡ true) }
-        ensures row { IfOk result (λ t. (self.new.row.entries ≡ entries_behind self.old.row.entries t)
-            × (self.new.row.commands ≡ commands_behind self.old.row.commands command t)) }
+        ensures row { IfOk result (λ t. (self.new.row.entries ≡ entries_after self.old.row.entries t)
+            × (self.new.row.commands ≡ commands_after self.old.row.commands command t)) }
         ensures kept { OnErr result (self.new.row ≡ self.old.row) }
     {
         match command {
@@ -72,8 +72,8 @@ impl<R: Net + Clock> Fabric<R> {
         ensures short { IfOk result (λ t. TurnIsShort t) }
         ensures reading { IfOk result (λ t. IsReadAt self.new.stopwatch.last t) }
         ensures later { self.old.stopwatch.last ≤ self.new.stopwatch.last }
-        ensures row { IfOk result (λ t. (self.new.row.entries ≡ entries_behind self.old.row.entries t)
-            × (self.new.row.commands ≡ commands_behind self.old.row.commands (Some command) t)) }
+        ensures row { IfOk result (λ t. (self.new.row.entries ≡ entries_after self.old.row.entries t)
+            × (self.new.row.commands ≡ commands_after self.old.row.commands (Some command) t)) }
         ensures kept { OnErr result (self.new.row ≡ self.old.row) }
     {
         let at = self.stopwatch.read(&self.rt)?;
@@ -93,8 +93,8 @@ impl<R: Net + Clock> Fabric<R> {
         ensures reading { IfOk result (λ t. IsReadAt self.new.stopwatch.last t) }
         ensures later { self.old.stopwatch.last ≤ self.new.stopwatch.last }
         ensures look { is_full self.old.row.entries self.old.row.commands ≡ true → IfOk result (λ t. is_look t ≡ true) }
-        ensures row { IfOk result (λ t. (self.new.row.entries ≡ entries_behind self.old.row.entries t)
-            × (self.new.row.commands ≡ commands_behind self.old.row.commands None t)) }
+        ensures row { IfOk result (λ t. (self.new.row.entries ≡ entries_after self.old.row.entries t)
+            × (self.new.row.commands ≡ commands_after self.old.row.commands None t)) }
         ensures kept { OnErr result (self.new.row ≡ self.old.row) }
     {
         let at = self.stopwatch.read(&self.rt)?;

@@ -41,11 +41,11 @@ mod fabric;
 mod link;
 mod network;
 mod pace;
+mod read_buffer;
 mod real_world;
-mod room;
 mod row;
+mod sockets;
 mod source;
-mod sources;
 mod step;
 mod stopwatch;
 

@@ -1,7 +1,7 @@
 ghost use Rattle.std.specs.Prelude.{IfOk, IfSome};
 ghost use Rattle.zre_fabric.specs.Pieces.{StepIsShort};
 
-use crate::room::{Heard, Room};
+use crate::read_buffer::{Heard, ReadBuffer};
 use crate::step::Step;
 use mio::net::TcpStream;
 use std::io::{ErrorKind, Write};
@@ -94,7 +94,7 @@ impl Link {
         !matches!(self.offered, Offered::Waits)
     }
 
-    pub(crate) fn step(&mut self, link: u64, room: &mut Room) -> Result<Step, OutOfMemory>
+    pub(crate) fn step(&mut self, link: u64, buffer: &mut ReadBuffer) -> Result<Step, OutOfMemory>
         ensures { IfOk result (λ step. StepIsShort step) }
     {
         if !self.is_linked {
@@ -106,7 +106,7 @@ impl Link {
             }
         }
         self.has_counted = false;
-        match self.read(link, room)? {
+        match self.read(link, buffer)? {
             Step::Rest => Ok(self.count(link).unwrap_or(Step::Rest)),
             step => Ok(step),
         }
@@ -146,7 +146,7 @@ impl Link {
         Some(Step::More(Input::Took { link, count }))
     }
 
-    fn read(&mut self, link: u64, room: &mut Room) -> Result<Step, OutOfMemory>
+    fn read(&mut self, link: u64, buffer: &mut ReadBuffer) -> Result<Step, OutOfMemory>
         ensures { IfOk result (λ step. StepIsShort step) }
     {
         let Some(stream) = &mut self.stream else {
@@ -155,7 +155,7 @@ impl Link {
         if !self.is_ready {
             return Ok(Step::Rest);
         }
-        match room.read(stream)? {
+        match buffer.read(stream)? {
             Heard::Octets(bytes) => Ok(Step::More(Input::Reply { link, bytes })),
             Heard::Nothing if !self.is_broken => {
                 self.is_ready = false;

@@ -3,8 +3,8 @@ ghost use Rattle.zre_fabric.specs.Pieces.{IsShort};
 
 use crate::beacons::{Beacons, address};
 use crate::pace::Pace;
+use crate::sockets::Sockets;
 use crate::source::{Source, source_of, token_of};
-use crate::sources::Sources;
 use mio::event::Source as Watched;
 use mio::net::TcpListener;
 use mio::{Events, Interest, Poll, Registry};
@@ -22,7 +22,7 @@ const EVENTS: usize = 256;
 pub(crate) struct Network {
     poll: Poll,
     events: Events,
-    sources: Sources,
+    sockets: Sockets,
     pace: Pace,
     // A look was given since the last poll.
     is_due_to_poll: bool,
@@ -65,7 +65,7 @@ impl Network {
         Ok(Network {
             poll,
             events,
-            sources: Sources::new(alloc, beacons, listener).map_err(no_memory)?,
+            sockets: Sockets::new(alloc, beacons, listener).map_err(no_memory)?,
             pace: Pace::new(s.interval, at),
             is_due_to_poll: true,
         })
@@ -80,7 +80,7 @@ impl Network {
         self.pace.gave_command(at);
     }
 
-    /// An entry that is there without waiting. The poll is asked behind each look, so that sources which always have
+    /// An entry that is there without waiting. The poll is asked after each look, so that sources which always have
     /// something don't keep the others out.
     pub(crate) fn find(&mut self, at: u64) -> Result<Option<Input>, NextFault>
         ensures { IfOk result (λ input. IfSome input (λ i. IsShort i)) }
@@ -91,7 +91,7 @@ impl Network {
         if self.pace.tick(at) {
             return Ok(Some(Input::Tick));
         }
-        self.sources.next(self.poll.registry())
+        self.sockets.next(self.poll.registry())
     }
 
     /// Waits until something comes, a Tick is due, or a look is.
@@ -107,7 +107,7 @@ impl Network {
         }
         for event in &self.events {
             let source = source_of(event.token());
-            self.sources
+            self.sockets
                 .hear(source, event.is_writable())
                 .map_err(no_memory)?;
         }
@@ -117,26 +117,26 @@ impl Network {
     pub(crate) fn act<R: Net>(&mut self, rt: &R, act: &Act) -> Result<(), OutOfMemory> {
         match act {
             Act::Connect { link, to } => {
-                self.sources.connect(rt, self.poll.registry(), *link, *to)
+                self.sockets.connect(rt, self.poll.registry(), *link, *to)
             }
             Act::CloseLink { link } => {
-                self.sources.close(Source::Link(*link));
+                self.sockets.close(Source::Link(*link));
                 Ok(())
             }
             Act::CloseConn { conn } => {
-                self.sources.close(Source::Conn(*conn));
+                self.sockets.close(Source::Conn(*conn));
                 Ok(())
             }
-            Act::Answer { conn, bytes } => self.sources.answer(*conn, bytes.as_slice()),
+            Act::Answer { conn, bytes } => self.sockets.answer(*conn, bytes.as_slice()),
             Act::Offer { .. } => Ok(()),
             Act::Beacon { bytes } => {
-                self.sources.beacons.send(bytes);
+                self.sockets.beacons.send(bytes);
                 Ok(())
             }
         }
     }
 
     pub(crate) fn offer(&mut self, link: u64, bytes: &[u8]) -> Result<(), OutOfMemory> {
-        self.sources.offer(link, bytes)
+        self.sockets.offer(link, bytes)
     }
 }

@@ -4,7 +4,7 @@ ghost use Rattle.zre_outside.specs.Causes.{Rose, raised, counted, is_failed};
 ghost use Rattle.zre_outside.specs.Worlds.{with_start, IsTurn, is_look, after_turn, with_deed};
 ghost use Rattle.zre_fabric.specs.Pieces.{TurnIsShort};
 ghost use Rattle.zre_fabric.specs.Readings.{IsReadAt};
-ghost use Rattle.zre_fabric.specs.Rows.{is_full, entries_behind, commands_behind};
+ghost use Rattle.zre_fabric.specs.Rows.{is_full, entries_after, commands_after};
 
 use crate::fabric::Fabric;
 use std::alloc::Global;
@@ -39,7 +39,7 @@ impl<R> RealWorld<R> {
     }
 }
 
-// One more fault, where the outside failed and not for want of memory.
+// One more fault, where the outside failed and not with OutOfMemory.
 fn raise(faults: u64, fault: NextFault) -> u64
     ensures later { faults ≤ result }
     ensures failed { fault ≡ NextFault.Failed → Rose faults result }
@@ -100,8 +100,8 @@ impl<R: Net + Clock> World for RealWorld<R> {
         ensures short { IfOk result (λ t. TurnIsShort t) }
         // A look comes again after each command at once, unless 64 came in a row, and after 64 entries at most.
         ensures look { command ≡ None → is_full (entries_of self.old) (commands_of self.old) ≡ true → IfOk result (λ t. is_look t ≡ true) }
-        ensures row { IfOk result (λ t. (entries_of self.new ≡ entries_behind (entries_of self.old) t)
-            × (commands_of self.new ≡ commands_behind (commands_of self.old) command t)) }
+        ensures row { IfOk result (λ t. (entries_of self.new ≡ entries_after (entries_of self.old) t)
+            × (commands_of self.new ≡ commands_after (commands_of self.old) command t)) }
         ensures kept { OnErr result ((entries_of self.new ≡ entries_of self.old) × (commands_of self.new ≡ commands_of self.old)) }
     {
         match self.fabric.next(command) {

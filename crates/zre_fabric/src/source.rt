@@ -17,7 +17,7 @@ pub(crate) enum Source {
     Link(u64),
 }
 
-/// Connections have the even tokens behind 0 and 1, links the odd ones; a number that has no token gives none.
+/// Connections have the even tokens after 0 and 1, links the odd ones; a number that has no token gives none.
 pub(crate) fn token_of(source: Source) -> Option<Token>
     ensures { IfSome result (λ token. token.0 ≡ number_of source) }
 {

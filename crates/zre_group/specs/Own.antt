@@ -18,7 +18,7 @@ is_joined own group = list_any (λ joined. bytes_eq joined group) own.groups
 abbrev pub next_status : OwnGroups → ℕ
 next_status own = (own.status + 1) % 256
 
--- the group behind the others
+-- the group after the others
 abbrev pub with_joined : OwnGroups → List ℕ → OwnGroups
 with_joined own group = record { groups = own.groups ++ group ∷ []; status = next_status own }
 

@@ -6,8 +6,8 @@ use Rattle.zre_outside.specs.declared.entry.Input.{Input}
 use Rattle.zre_outside.specs.declared.entry.Input.TheVariants as input
 use Rattle.zre_journal.specs.declared.config.Config.{Config}
 use Rattle.zre_journal.specs.Chronicle.{Mark, Comes, after}
-use Rattle.zre_journal.specs.Heard.{newly_said}
-use Rattle.zre_journal.specs.Happens.{has_stopped, at_input, marks, with_entry, chronicle_behind}
+use Rattle.zre_journal.specs.Heard.{completed}
+use Rattle.zre_journal.specs.Happens.{has_stopped, at_input, marks, with_entry, chronicle_after}
 use Rattle.zre_journal.specs.Events.{chronicle}
 use Rattle.zre_journal.specs.Proper.{IsProper}
 use Rattle.zre_journal.proofs.Kept.{Comes-proper}
@@ -41,7 +41,7 @@ module _ (g : Config) where
   pub input_allowed : (i : Input) (H K : List Mark) → IsProper K → Allowed (at_input g i H K) K
   input_allowed (input.Datagram from o) H K p = datagram_allowed g K p from (beacon_in o)
   input_allowed (input.Opened c) H K p = opened_allowed g K p c
-  input_allowed (input.Piece c o) H K p = places_allowed g c (newly_said g.id c H K) K p
+  input_allowed (input.Piece c o) H K p = places_allowed g c (completed g.id c H K) K p
   input_allowed (input.Shut c) H K p = shut_allowed g K p c
   input_allowed (input.Linked l) H K p = linked_allowed g K p l
   input_allowed (input.Reply l o) H K p = reply_allowed g K p l
@@ -56,18 +56,18 @@ module _ (g : Config) where
 
   -- what each mark keeps that may come
   module _ (P : List Mark → Type 0) (keeps : (h : Mark) (H : List Mark) → IsProper H → May h H → P H → P (h ∷ H)) where
-    behind_marks : (hs H : List Mark) → Allowed hs H → IsProper H → P H → IsProper (after hs H) × P (after hs H)
-    behind_marks [] H a p x = (p, x)
-    behind_marks (h ∷ hs) H a p x = behind_marks hs (h ∷ H) a.1 (step h H p a.0) (keeps h H p a.0 x)
+    after_marks : (hs H : List Mark) → Allowed hs H → IsProper H → P H → IsProper (after hs H) × P (after hs H)
+    after_marks [] H a p x = (p, x)
+    after_marks (h ∷ hs) H a p x = after_marks hs (h ∷ H) a.1 (step h H p a.0) (keeps h H p a.0 x)
 
-    behind_entries : (es : List Entry) (H : List Mark) → IsProper H → P H → IsProper (chronicle_behind g es H) × P (chronicle_behind g es H)
-    behind_entries [] H p x = (p, x)
-    behind_entries (e ∷ es) H p x =
-        let b = behind_marks (marks g e H) (Comes e ∷ H) (marks_allowed e H p) (Comes-proper H p e) (keeps (Comes e) H p tt x) in
-        behind_entries es (with_entry g e H) b.0 b.1
+    after_entries : (es : List Entry) (H : List Mark) → IsProper H → P H → IsProper (chronicle_after g es H) × P (chronicle_after g es H)
+    after_entries [] H p x = (p, x)
+    after_entries (e ∷ es) H p x =
+        let b = after_marks (marks g e H) (Comes e ∷ H) (marks_allowed e H p) (Comes-proper H p e) (keeps (Comes e) H p tt x) in
+        after_entries es (with_entry g e H) b.0 b.1
 
     pub always : P [] → (journal : List Entry) → P (chronicle g journal)
-    always x journal = (behind_entries journal [] empty x).1
+    always x journal = (after_entries journal [] empty x).1
 
   pub is_proper : (journal : List Entry) → IsProper (chronicle g journal)
   is_proper journal = always IsProper (λ h H p m x. step h H p m) empty journal

@@ -18,7 +18,7 @@ use Rattle.zre_msg.specs.declared.message.Body.TheVariants as body
 use Rattle.zre_link.specs.Text.{size_of}
 use Rattle.zre_link.specs.Heard.{reply_fault}
 use Rattle.zre_journal.specs.declared.config.Config.{Config}
-use Rattle.zre_journal.specs.Chronicle.{Mark, Opens, TurnsAway, Closes, IsShut, Drops, Beacons, Ends, Falters, Puts, Links, Joins, Leaves, Refuses, Calls, Stops, after}
+use Rattle.zre_journal.specs.Chronicle.{Mark, Opens, TurnsAway, Closes, IsShut, ClosesAtStop, HearsBeacon, Ends, IsEvasive, Puts, Links, Joins, Leaves, Refuses, SendsBeacon, Stops, after}
 use Rattle.zre_journal.specs.Heard.{clock}
 use Rattle.zre_journal.specs.Connections.{open_ones, is_open, is_new, runs, since}
 use Rattle.zre_journal.specs.Peers.{Life, lives, life, life_of, is_entered, births, runner}
@@ -27,7 +27,7 @@ use Rattle.zre_journal.specs.Proper.{IsProper, Apart}
 use Rattle.zre_journal.specs.Happens.{push, push_all, end_of_run, birth, is_welcome, at_beacon, at_datagram, at_opened, at_shut, at_linked, fault_of_reply, at_reply, at_unlinked, at_took, is_silent, is_faltering, falter, is_stale, at_tick, has_group, at_join, at_leave, is_too_big, at_whisper, is_member, at_shout, at_stop, at_command}
 use Rattle.zre_journal.proofs.Listed.{All-kept, Apart-kept}
 use Rattle.zre_journal.proofs.Known.{known_of, AreKnown, each_known, newborn_known, still_known, end_all, ends_allowed, ends_known, kept_far}
-use Rattle.zre_journal.proofs.Idle.{idle_behind, AreNoStarts, none_and_none, ends_start_none, all_idle, drops_allowed, closes_allowed, ends_and}
+use Rattle.zre_journal.proofs.Idle.{idle_after, AreNoStarts, none_and_none, ends_start_none, all_idle, drops_allowed, closes_allowed, ends_and}
 use Rattle.zre_journal.proofs.Steps.{MayBear, Allowed, in_both, either}
 
 -- each of these is entered
@@ -58,7 +58,7 @@ module _ (g : Config) where
       by true = (λ c. refl, tt)
       by false = (λ c. refl, tt)
 
-  -- pushes that were found at I may come behind another H, where these peers are known
+  -- pushes that were found at I may come after another H, where these peers are known
   pub pushes_allowed : (b : Body) (vs : List Life) (I H : List Mark) → Apart (λ (v : Life). v.link) vs → AreKnown H vs → Allowed (push_all g vs b I) H
   pushes_allowed b [] I H a k = tt
   pushes_allowed b (v ∷ vs) I H a k = in_both (push g v.link b I) (push_all g vs b (after (push g v.link b I) I)) H (push_allowed v.link b I H k.0)
@@ -75,17 +75,17 @@ module _ (g : Config) where
   falters_allowed [] I H a k e = tt
   falters_allowed (v ∷ vs) I H a k e = (
     record { is_known = k.0; is_run = e.0 },
-    in_both (push g v.link body.Ping I) (falter g vs (after (push g v.link body.Ping I) (Falters v.link ∷ I))) (Falters v.link ∷ H)
-        (push_allowed v.link body.Ping I (Falters v.link ∷ H) k.0)
-        (falters_allowed vs (after (push g v.link body.Ping I) (Falters v.link ∷ I)) (after (push g v.link body.Ping I) (Falters v.link ∷ H)) a.1 (push_keeps v.link body.Ping I (Falters v.link ∷ H) vs a.0 k.1) (push_runs v.link body.Ping I (Falters v.link ∷ H) vs e.1)),
+    in_both (push g v.link body.Ping I) (falter g vs (after (push g v.link body.Ping I) (IsEvasive v.link ∷ I))) (IsEvasive v.link ∷ H)
+        (push_allowed v.link body.Ping I (IsEvasive v.link ∷ H) k.0)
+        (falters_allowed vs (after (push g v.link body.Ping I) (IsEvasive v.link ∷ I)) (after (push g v.link body.Ping I) (IsEvasive v.link ∷ H)) a.1 (push_keeps v.link body.Ping I (IsEvasive v.link ∷ H) vs a.0 k.1) (push_runs v.link body.Ping I (IsEvasive v.link ∷ H) vs e.1)),
   )
 
   falters_start_none : (vs : List Life) (I : List Mark) → AreNoStarts (falter g vs I)
   falters_start_none [] I = tt
   falters_start_none (v ∷ vs) I = (
     λ c. refl,
-    none_and_none (push g v.link body.Ping I) (falter g vs (after (push g v.link body.Ping I) (Falters v.link ∷ I)))
-        (push_starts_none v.link body.Ping I) (falters_start_none vs (after (push g v.link body.Ping I) (Falters v.link ∷ I))),
+    none_and_none (push g v.link body.Ping I) (falter g vs (after (push g v.link body.Ping I) (IsEvasive v.link ∷ I)))
+        (push_starts_none v.link body.Ping I) (falters_start_none vs (after (push g v.link body.Ping I) (IsEvasive v.link ∷ I))),
   )
 
 -- what passes a test
@@ -114,7 +114,7 @@ module _ (g : Config) (K : List Mark) (q : IsProper K) where
   datagram_allowed from (Some b) = by (life_of b.0 K) refl
     where
       by : (o : Option Life) → life_of b.0 K ≡ o → Allowed (at_beacon g from b.0 b.1 o K) K
-      by (Some v) e = either (eqb b.1 0) (Ends v.link cause.Beacon ∷ []) (Beacons v.link ∷ []) K (λ z. (known_link b.0 v e, tt)) (λ z. (tt, tt))
+      by (Some v) e = either (eqb b.1 0) (Ends v.link cause.Beacon ∷ []) (HearsBeacon v.link ∷ []) K (λ z. (known_link b.0 v e, tt)) (λ z. (tt, tt))
       by None e = either (is_welcome g b.0 b.1 (length (lives K))) (birth g b.0 (record { addr = from; port = b.1 }) K) [] K (λ z.
           birth_allowed b.0 (record { addr = from; port = b.1 }) e (and_parts (not (bytes_eq b.0.0 g.id.0)) (ltb (length (lives K)) PEERS)
           (and_parts (not (eqb b.1 0)) (not (bytes_eq b.0.0 g.id.0) && ltb (length (lives K)) PEERS) z).1).1) (λ z. tt)
@@ -195,7 +195,7 @@ module _ (g : Config) (K : List Mark) (q : IsProper K) where
       C = map (λ c. Closes c close.Timeout) stale
 
       Z : List Mark
-      Z = Calls g.port ∷ []
+      Z = SendsBeacon g.port ∷ []
 
       excludes : (v : Life) → is_silent g g.expired K v ≡ true → is_faltering g K v ≡ false
       excludes v e = rw e (by (is_entered K v))
@@ -228,7 +228,7 @@ module _ (g : Config) (K : List Mark) (q : IsProper K) where
 
       closes : Allowed C (after (E ++ F) K)
       closes = closes_allowed close.Timeout stale (after (E ++ F) K) (passing (λ c. runs c (after (E ++ F) K) ≡ None) (is_stale g K)
-          (λ c e. idle_behind (E ++ F) K c (none_and_none E F (ends_start_none cause.Expired silent) (falters_start_none g wavering K)) (idle c e)) (open_ones K))
+          (λ c e. idle_after (E ++ F) K c (none_and_none E F (ends_start_none cause.Expired silent) (falters_start_none g wavering K)) (idle c e)) (open_ones K))
 
   -- ---- commands
 
@@ -271,13 +271,13 @@ module _ (g : Config) (K : List Mark) (q : IsProper K) where
 
   pub stop_allowed : Allowed (at_stop g K) K
   stop_allowed =
-      in_both (E ++ D) (Calls 0 ∷ Stops ∷ []) K (in_both E D K (ends_allowed cause.Stop (lives K) K q.living.apart (each_known K)) (drops_allowed (open_ones K) (after E K) (all_idle K q cause.Stop))) (tt, (tt, tt))
+      in_both (E ++ D) (SendsBeacon 0 ∷ Stops ∷ []) K (in_both E D K (ends_allowed cause.Stop (lives K) K q.living.apart (each_known K)) (drops_allowed (open_ones K) (after E K) (all_idle K q cause.Stop))) (tt, (tt, tt))
     where
       E : List Mark
       E = end_all cause.Stop (lives K)
 
       D : List Mark
-      D = map (λ c. Drops c) (open_ones K)
+      D = map (λ c. ClosesAtStop c) (open_ones K)
 
   pub command_allowed : (c : Command) → Allowed (at_command g c K) K
   command_allowed (command.Join group) = join_allowed group

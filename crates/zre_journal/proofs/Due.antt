@@ -10,9 +10,9 @@ use Rattle.zre_peer.specs.declared.causes.Cause.{Cause}
 use Rattle.zre_peer.specs.declared.causes.Cause.TheVariants as cause
 use Rattle.zre_journal.specs.declared.config.Config.{Config}
 use Rattle.zre_journal.specs.Asked.{AreDue}
-use Rattle.zre_journal.specs.Chronicle.{Mark, Comes, Opens, TurnsAway, Greets, Shakes, Starts, Counts, Ignores, Closes, IsShut, Drops, Born, Beacons, Ends, Falters, Puts, Links, Takes, Joins, Leaves, Refuses, Calls, Stops}
+use Rattle.zre_journal.specs.Chronicle.{Mark, Comes, Opens, TurnsAway, Greets, Shakes, Starts, Counts, Ignores, Closes, IsShut, ClosesAtStop, Born, HearsBeacon, Ends, IsEvasive, Puts, Links, Sends, Joins, Leaves, Refuses, SendsBeacon, Stops}
 use Rattle.zre_journal.specs.Done.{close_link, done_at, done, puts, names, is_offered, offers, acts_at}
-use Rattle.zre_journal.specs.Events.{chronicle, acts_behind}
+use Rattle.zre_journal.specs.Events.{chronicle, acts_after}
 use Rattle.zre_journal.specs.Happens.{has_stopped, marks, with_entry}
 use Rattle.zre_journal.specs.Links.{gate, taken}
 use Rattle.zre_journal.specs.Peers.{Life, lives}
@@ -50,18 +50,18 @@ module _ (g : Config) (H : List Mark) where
   none_at own (Ignores c why) = tt
   none_at own (Closes c why) = (tt, tt)
   none_at own (IsShut c) = tt
-  none_at own (Drops c) = (tt, tt)
+  none_at own (ClosesAtStop c) = (tt, tt)
   none_at own (Born l p to) = (tt, tt)
-  none_at own (Beacons l) = tt
+  none_at own (HearsBeacon l) = tt
   none_at own (Ends l why) = none_closing l why
-  none_at own (Falters l) = tt
+  none_at own (IsEvasive l) = tt
   none_at own (Puts l b) = tt
   none_at own (Links l) = tt
-  none_at own (Takes l n) = tt
+  none_at own (Sends l n) = tt
   none_at own (Joins group) = tt
   none_at own (Leaves group) = tt
   none_at own (Refuses why) = tt
-  none_at own (Calls port) = (tt, tt)
+  none_at own (SendsBeacon port) = (tt, tt)
   none_at own Stops = tt
 
   none_done : (own : PeerId) (hs : List Mark) → AreDue g H (done own hs)
@@ -89,8 +89,8 @@ acts_due g e H = by (has_stopped H)
     by true = tt
     by false = all_both g (with_entry g e H) (done g.id (marks g e H)) (offers g e (marks g e H) (with_entry g e H)) (none_done g (with_entry g e H) g.id (marks g e H)) (offers_due g (with_entry g e H) e (marks g e H))
 
-pub entry_due : (g : Config) (J : List Entry) (e : Entry) → AreDue g (chronicle g (J ++ e ∷ [])) (acts_behind g (e ∷ []) (chronicle g J))
+pub entry_due : (g : Config) (J : List Entry) (e : Entry) → AreDue g (chronicle g (J ++ e ∷ [])) (acts_after g (e ∷ []) (chronicle g J))
 entry_due g J e =
     let now : chronicle g (J ++ e ∷ []) ≡ with_entry g e (chronicle g J) = (continues g J (e ∷ [])).happened in
-    subst (λ K. AreDue g K (acts_behind g (e ∷ []) (chronicle g J))) (sym now)
+    subst (λ K. AreDue g K (acts_after g (e ∷ []) (chronicle g J))) (sym now)
     (subst (λ acts. AreDue g (with_entry g e (chronicle g J)) acts) (sym (append-nil (acts_at g e (chronicle g J)))) (acts_due g e (chronicle g J)))

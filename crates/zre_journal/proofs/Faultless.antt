@@ -1,4 +1,4 @@
--- Behind each entry no live connection has had a fault, and neither have the replies on the link of a known peer.
+-- After each entry no live connection has had a fault, and neither have the replies on the link of a known peer.
 use Rattle.std.proofs.Common.{◌≡◌, ℕ, ◌+◌, Bool, true, false, cond, not, ◌&&◌, ◌||◌, eqb, List, [], ◌∷◌, ◌++◌, length, drop, map, Option, Some, None, IsSome, is_some, is_none, find, refl, sym, ap, ◌∙◌, arith, inl, inr, eqb-true, subst}
 use Rattle.std.specs.Prelude.{◌⊎◌}
 use Rattle.std.proofs.lemmas.Bool.{and_parts, and_from}
@@ -14,8 +14,8 @@ use Rattle.zre_peer.specs.declared.causes.Cause.TheVariants as cause
 use Rattle.zre_peer.specs.declared.causes.CloseWhy.TheVariants as close
 use Rattle.zre_link.specs.Heard.{reply_fault}
 use Rattle.zre_journal.specs.declared.config.Config.{Config}
-use Rattle.zre_journal.specs.Chronicle.{Mark, Comes, Opens, Starts, Closes, IsShut, Drops, Born, Ends, Stops, after, ever, newer}
-use Rattle.zre_journal.specs.Heard.{opens, bytes, newly_said}
+use Rattle.zre_journal.specs.Chronicle.{Mark, Comes, Opens, Starts, Closes, IsShut, ClosesAtStop, Born, Ends, Stops, after, ever, newer}
+use Rattle.zre_journal.specs.Heard.{opens, bytes, completed}
 use Rattle.zre_journal.specs.Connections.{open_ones, is_open, started, start_at, runs, refuses, was_used, is_ignored, is_live, others}
 use Rattle.zre_journal.specs.Peers.{Life, lives, life, births, other_lives}
 use Rattle.zre_journal.specs.Links.{is_linked, replies}
@@ -63,7 +63,7 @@ open_before (Opens d) H c o = by (eqb c d) refl
     by false e = inr (any_of_append c d (open_ones H) e o)
 open_before (Closes d why) H c o = inr (any_left d c (open_ones H) o)
 open_before (IsShut d) H c o = inr (any_left d c (open_ones H) o)
-open_before (Drops d) H c o = inr (any_left d c (open_ones H) o)
+open_before (ClosesAtStop d) H c o = inr (any_left d c (open_ones H) o)
 open_before _ H c o = inr o
 
 live_from : (h : Mark) (H : List Mark) (c : ℕ) → start_at c h ≡ None → is_live c (h ∷ H) ≡ true → (opens c h ≡ true) ⊎ (is_live c H ≡ true)
@@ -156,12 +156,12 @@ module _ (g : Config) where
         by l None e s = let z : life l (Ends k why ∷ H) ≡ None = none_kept (λ (u : Life). eqb l u.link) (λ (u : Life). not (eqb k u.link)) (lives H) e in absurd (not_some (life l (Ends k why ∷ H)) z s)
     answers_more _ m f o = o
 
-  pub faultless_behind : (i : Input) (hs H : List Mark) → IsProper H → Allowed hs H → AllFit g hs H → AreFaultless i H → AreFaultless i (after hs H)
-  faultless_behind i [] H q a f o = o
-  faultless_behind i (h ∷ hs) H q a f o =
-      faultless_behind i hs (h ∷ H) (step h H q a.0) a.1 f.1 (record { talks = talks_more i H q h a.0 f.0 o.talks; answers = answers_more i H q h a.0 f.0 o.answers })
+  pub faultless_after : (i : Input) (hs H : List Mark) → IsProper H → Allowed hs H → AllFit g hs H → AreFaultless i H → AreFaultless i (after hs H)
+  faultless_after i [] H q a f o = o
+  faultless_after i (h ∷ hs) H q a f o =
+      faultless_after i hs (h ∷ H) (step h H q a.0) a.1 f.1 (record { talks = talks_more i H q h a.0 f.0 o.talks; answers = answers_more i H q h a.0 f.0 o.answers })
 
-  -- ---- what no mark behind an entry changes
+  -- ---- what no mark after an entry changes
 
   bytes_step : (h : Mark) (H : List Mark) (c : ℕ) → Fits g h H → bytes c (h ∷ H) ≡ bytes c H
   bytes_step (Comes e) H c f = absurd f
@@ -221,21 +221,21 @@ module _ (g : Config) where
   dead_places c K e (x ∷ xs) = rw e (dead_places c K e xs)
 
   piece_ends : (c : ℕ) (H K : List Mark) (more : List ℕ) → bytes c K ≡ bytes c H ++ more → (is_live c K ≡ true → fault_in g.id (bytes c H) ≡ None)
-      → is_live c (after (at_places g c (newly_said g.id c H K) K) K) ≡ true → fault_in g.id (bytes c K) ≡ None
+      → is_live c (after (at_places g c (completed g.id c H K) K) K) ≡ true → fault_in g.id (bytes c K) ≡ None
   piece_ends c H K more e was v = by (fault_in g.id (bytes c K)) refl
     where
       live : (b : Bool) → is_live c K ≡ b → is_live c K ≡ true
       live true z = z
-      live false z = let y : true ≡ false = sym v ∙ ap (λ hs. is_live c (after hs K)) (dead_places c K z (newly_said g.id c H K)) ∙ z in cc
+      live false z = let y : true ≡ false = sym v ∙ ap (λ hs. is_live c (after hs K)) (dead_places c K z (completed g.id c H K)) ∙ z in cc
 
       by : (o : Option ZmtpFault) → fault_in g.id (bytes c K) ≡ o → o ≡ None
       by None z = refl
       by (Some f) z =
           let none = was (live (is_live c K) refl) in
-          let said : newly_said g.id c H K ≡ completed g.id (bytes c H) more = ap (λ o. drop (length (talk g.id (bytes c H))) (talk g.id o)) e in
+          let said : completed g.id c H K ≡ completed g.id (bytes c H) more = ap (λ o. drop (length (talk g.id (bytes c H))) (talk g.id o)) e in
           let xs = map (λ a. Arrived a) (new_arrivals g.id (bytes c H) more) in
           let last : fault_said (fault_in g.id (bytes c H ++ more)) ≡ Fault f ∷ [] = ap fault_said (ap (fault_in g.id) (sym e) ∙ z) in
-          let all : newly_said g.id c H K ≡ xs ++ Fault f ∷ [] = said ∙ (goes g.id (bytes c H) more).faultless none ∙ ap (λ ys. xs ++ ys) last in
+          let all : completed g.id c H K ≡ xs ++ Fault f ∷ [] = said ∙ (goes g.id (bytes c H) more).faultless none ∙ ap (λ ys. xs ++ ys) last in
           let y : true ≡ false = sym v ∙ ap (λ ss. is_live c (after (at_places g c ss K) K)) all ∙ fault_ends c f xs K in
           cc
 
@@ -243,7 +243,7 @@ module _ (g : Config) where
       → is_live c (after (at_input g i H K) K) ≡ true → fault_in g.id (bytes c K) ≡ None
   conn_ends (input.Piece d o) c H K more n e was v =
       let same : c ≡ d = eqb-true c d n in
-      piece_ends c H K more e was (subst (λ x. is_live c (after (at_places g x (newly_said g.id x H K) K) K) ≡ true) (sym same) v)
+      piece_ends c H K more e was (subst (λ x. is_live c (after (at_places g x (completed g.id x H K) K) K) ≡ true) (sym same) v)
   conn_ends _ c H K more n e was v = absurd cc
 
   -- ---- replies with a fault end the peer

@@ -7,7 +7,7 @@ use Rattle.zre_values.proofs.Digits.{bytes_eq-same}
 use Rattle.zre_outside.specs.declared.entry.Entry.{Entry}
 use Rattle.zre_peer.specs.declared.causes.Cause.{Cause}
 use Rattle.zre_journal.specs.declared.config.Config.{Config}
-use Rattle.zre_journal.specs.Chronicle.{Mark, Opens, Closes, IsShut, Drops, Born, Ends}
+use Rattle.zre_journal.specs.Chronicle.{Mark, Opens, Closes, IsShut, ClosesAtStop, Born, Ends}
 use Rattle.zre_journal.specs.Connections.{open_ones, has_ended, others}
 use Rattle.zre_journal.specs.Peers.{Life, lives, life, life_of, other_lives}
 use Rattle.zre_journal.specs.Events.{chronicle}
@@ -136,7 +136,7 @@ within_more (Opens c) H q m o = record {
 }
 within_more (Closes c why) H q m o = record { peers = o.peers; connections = let r : length (others c (open_ones H)) ≤ length (open_ones H) = kept-length (λ d. not (eqb c d)) (open_ones H) in omega (arith, r, o.connections) }
 within_more (IsShut c) H q m o = record { peers = o.peers; connections = let r : length (others c (open_ones H)) ≤ length (open_ones H) = kept-length (λ d. not (eqb c d)) (open_ones H) in omega (arith, r, o.connections) }
-within_more (Drops c) H q m o = record { peers = o.peers; connections = let r : length (others c (open_ones H)) ≤ length (open_ones H) = kept-length (λ d. not (eqb c d)) (open_ones H) in omega (arith, r, o.connections) }
+within_more (ClosesAtStop c) H q m o = record { peers = o.peers; connections = let r : length (others c (open_ones H)) ≤ length (open_ones H) = kept-length (λ d. not (eqb c d)) (open_ones H) in omega (arith, r, o.connections) }
 within_more _ H q m o = record { peers = o.peers; connections = o.connections }
 
 pub are_few : (g : Config) (journal : List Entry) → AreFew (chronicle g journal)

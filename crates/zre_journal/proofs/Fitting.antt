@@ -29,9 +29,9 @@ use Rattle.zre_link.specs.Heard.{reply_fault}
 use Rattle.zre_link.specs.Link.{unsent_of}
 use Rattle.zre_journal.specs.Endings.{is_end}
 use Rattle.zre_journal.specs.declared.config.Config.{Config}
-use Rattle.zre_journal.specs.Chronicle.{Mark, Opens, TurnsAway, Shakes, Starts, Counts, Ignores, Closes, IsShut, Beacons, Ends, Falters, Puts, Links, Takes, Joins, Leaves, Refuses, Calls, after, ever, followed}
+use Rattle.zre_journal.specs.Chronicle.{Mark, Opens, TurnsAway, Shakes, Starts, Counts, Ignores, Closes, IsShut, HearsBeacon, Ends, IsEvasive, Puts, Links, Sends, Joins, Leaves, Refuses, SendsBeacon, after, ever, followed}
 use Rattle.zre_journal.specs.Config.{CanBe}
-use Rattle.zre_journal.specs.Heard.{newly_said}
+use Rattle.zre_journal.specs.Heard.{completed}
 use Rattle.zre_journal.specs.Connections.{open_ones, is_open, is_new, identity, started, runs, refuses, was_used, is_ignored, is_live, other_with}
 use Rattle.zre_journal.specs.Peers.{Life, lives, life, life_of, is_entered, births, counted}
 use Rattle.zre_journal.specs.Links.{groups, status, put_on, bodies, taken, unsent, is_linked, replies}
@@ -43,7 +43,7 @@ use Rattle.zre_journal.proofs.Known.{end_all}
 use Rattle.zre_journal.proofs.Says.{place_allowed}
 use Rattle.zre_journal.proofs.Sayings.{IsShortSaid, newly-short}
 use Rattle.zre_journal.proofs.Steps.{steps}
-use Rattle.zre_journal.proofs.Room.{HasRoom, Fits, AllFit, fit_both, fit_either, room-behind, can_introduce}
+use Rattle.zre_journal.proofs.Room.{HasRoom, Fits, AllFit, fit_both, fit_either, room-after, can_introduce}
 
 -- ---- links as they were
 
@@ -53,7 +53,7 @@ record AreSame (I H : List Mark) : Type 0 where
   gone : (l : ℕ) → taken l H ≡ taken l I
 
 gone_more : (h : Mark) (I H : List Mark) (l : ℕ) → taken l H ≡ taken l I → taken l (h ∷ H) ≡ taken l (h ∷ I)
-gone_more (Takes k n) I H l e = ap (λ t. cond (eqb l k) (t + n) t) e
+gone_more (Sends k n) I H l e = ap (λ t. cond (eqb l k) (t + n) t) e
 gone_more _ I H l e = e
 
 same_after : (hs I H : List Mark) → AreSame I H → AreSame (after hs I) (after hs H)
@@ -94,11 +94,11 @@ module _ (g : Config) where
   falters_fit [] I H s = tt
   falters_fit (v ∷ vs) I H s =
       let p = push g v.link body.Ping I in
-      let t : AreSame (Falters v.link ∷ I) (Falters v.link ∷ H) = record { put = s.put; gone = s.gone } in
-      let u : AreSame I (Falters v.link ∷ H) = record { put = s.put; gone = s.gone } in (
+      let t : AreSame (IsEvasive v.link ∷ I) (IsEvasive v.link ∷ H) = record { put = s.put; gone = s.gone } in
+      let u : AreSame I (IsEvasive v.link ∷ H) = record { put = s.put; gone = s.gone } in (
         tt,
-        fit_both g p (falter g vs (after p (Falters v.link ∷ I))) (Falters v.link ∷ H) (push_fits v.link body.Ping I (Falters v.link ∷ H) u)
-            (falters_fit vs (after p (Falters v.link ∷ I)) (after p (Falters v.link ∷ H)) (same_after p (Falters v.link ∷ I) (Falters v.link ∷ H) t)),
+        fit_both g p (falter g vs (after p (IsEvasive v.link ∷ I))) (IsEvasive v.link ∷ H) (push_fits v.link body.Ping I (IsEvasive v.link ∷ H) u)
+            (falters_fit vs (after p (IsEvasive v.link ∷ I)) (after p (IsEvasive v.link ∷ H)) (same_after p (IsEvasive v.link ∷ I) (IsEvasive v.link ∷ H) t)),
       )
 
   -- ---- ends and closings
@@ -132,7 +132,7 @@ module _ (g : Config) where
     datagram_fits from (Some b) = by (life_of b.0 K)
       where
         by : (o : Option Life) → AllFit g (at_beacon g from b.0 b.1 o K) K
-        by (Some v) = fit_either g (eqb b.1 0) (Ends v.link cause.Beacon ∷ []) (Beacons v.link ∷ []) K (λ e. (tt, tt)) (λ e. (tt, tt))
+        by (Some v) = fit_either g (eqb b.1 0) (Ends v.link cause.Beacon ∷ []) (HearsBeacon v.link ∷ []) K (λ e. (tt, tt)) (λ e. (tt, tt))
         by None = fit_either g (is_welcome g b.0 b.1 (length (lives K))) (birth g b.0 (record { addr = from; port = b.1 }) K) [] K (λ e. hello_fits b.0 (record { addr = from; port = b.1 })) (λ e. tt)
 
     opened_fits : (c : ℕ) → AllFit g (at_opened g c K) K
@@ -260,7 +260,7 @@ module _ (g : Config) where
         C = map (λ c. Closes c close.Timeout) stale
 
         Z : List Mark
-        Z = Calls g.port ∷ []
+        Z = SendsBeacon g.port ∷ []
 
     -- ---- commands
 
@@ -304,12 +304,12 @@ module _ (g : Config) where
       let hs = at_place g c said K in
       let a = place_allowed g c said K q in
       let f = place_fits can K q r c said short.0 in
-      fit_both g hs (at_places g c all (after hs K)) K f (places_fit can c all (after hs K) (steps hs K q a) (room-behind g hs K q a f r) short.1)
+      fit_both g hs (at_places g c all (after hs K)) K f (places_fit can c all (after hs K) (steps hs K q a) (room-after g hs K q a f r) short.1)
 
   pub input-fits : CanBe g → (i : Input) (H K : List Mark) → is_end i ≡ false → IsProper K → HasRoom g K → AllFit g (at_input g i H K) K
   input-fits can (input.Datagram from o) H K z q r = datagram_fits can K q r from (beacon_in o)
   input-fits can (input.Opened c) H K z q r = opened_fits can K q r c
-  input-fits can (input.Piece c o) H K z q r = places_fit can c (newly_said g.id c H K) K q r (newly-short g.id c H K)
+  input-fits can (input.Piece c o) H K z q r = places_fit can c (completed g.id c H K) K q r (newly-short g.id c H K)
   input-fits can (input.Shut c) H K z q r = shut_fits can K q r c
   input-fits can (input.Linked l) H K z q r = linked_fits can K q r l (life l K)
   input-fits can (input.Reply l o) H K z q r = reply_fits can K q r l (life l K)

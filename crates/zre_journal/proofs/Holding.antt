@@ -20,25 +20,25 @@ use Rattle.zre_journal.specs.Connections.{open_ones, is_live}
 use Rattle.zre_journal.specs.Peers.{Life, lives, life, is_entered, view}
 use Rattle.zre_journal.specs.Links.{groups, is_linked, replies, reply_of, unsent}
 use Rattle.zre_journal.specs.Held.{unfinished, header_octets, view_octets, conn_octets, reply_octets, peer_octets, own_octets, held, stream_most, view_most, own_most, Within, bound}
-use Rattle.zre_journal.specs.Happens.{has_stopped, at_input, at_stop, with_entry, chronicle_behind}
+use Rattle.zre_journal.specs.Happens.{has_stopped, at_input, at_stop, with_entry, chronicle_after}
 use Rattle.zre_journal.specs.Events.{chronicle}
 use Rattle.zre_journal.specs.Proper.{IsProper}
 use Rattle.zre_journal.proofs.Always.{empty, input_allowed}
 use Rattle.zre_journal.proofs.Brings.{stop_allowed}
-use Rattle.zre_journal.proofs.Faultless.{names_conn, names_link, AreFaultless, faultless_behind, bytes_stay, replies_stay, still_going, not_open, conn_ends, link_ends}
+use Rattle.zre_journal.proofs.Faultless.{names_conn, names_link, AreFaultless, faultless_after, bytes_stay, replies_stay, still_going, not_open, conn_ends, link_ends}
 use Rattle.zre_journal.proofs.Few.{are_few, kept-length}
 use Rattle.zre_journal.proofs.Fitting.{input-fits}
 use Rattle.zre_journal.proofs.Introduction.{small, fitting}
 use Rattle.zre_journal.proofs.Kept.{Comes-proper}
 use Rattle.zre_journal.proofs.Known.{each_known}
 use Rattle.zre_journal.proofs.Listed.{All-map}
-use Rattle.zre_journal.proofs.Room.{HasRoom, AllFit, room-behind, room-empty}
+use Rattle.zre_journal.proofs.Room.{HasRoom, AllFit, room-after, room-empty}
 use Rattle.zre_journal.proofs.Steps.{Allowed, steps}
 use Rattle.zre_journal.proofs.Stopping.{at_end, stopped, stop-is, none_known, none_open, room-stopped}
 use Rattle.zre_journal.proofs.Streams.{unfinished-most}
 use Rattle.zre_journal.proofs.Viewed.{view-most}
 
--- what holds behind each entry
+-- what holds after each entry
 record IsSound (g : Config) (H : List Mark) : Type 0 where
   proper : IsProper H
   room : HasRoom g H
@@ -114,27 +114,27 @@ module _ (g : Config) (can : CanBe g) where
         answers = λ l n s. ap reply_fault (none_more (is_linked l H) (replies l H) (reply_of l e.input) (unnamed_link e.input l n)) ∙ o.answers l s;
       }
 
-      behind : AreFaultless g e.input (after hs M)
-      behind = faultless_behind g e.input hs M come allowed fit so_far
+      later : AreFaultless g e.input (after hs M)
+      later = faultless_after g e.input hs M come allowed fit so_far
 
       goes_on : IsSound g (after hs M)
       goes_on = record {
         proper = steps hs M come allowed;
-        room = room-behind g hs M come allowed fit room;
+        room = room-after g hs M come allowed fit room;
         talks = λ c v. talk c v (names_conn c e.input) refl;
         answers = λ l s. answer l s (names_link l e.input) refl;
         rest = λ z. let y : true ≡ false = sym z ∙ still_going g hs M fit ∙ going in cc;
       }
         where
           talk : (c : ℕ) → is_live c (after hs M) ≡ true → (b : Bool) → names_conn c e.input ≡ b → fault_in g.id (bytes c (after hs M)) ≡ None
-          talk c v false n = behind.talks c n v
+          talk c v false n = later.talks c n v
           talk c v true n = ap (fault_in g.id) (bytes_stay g hs M c fit) ∙ conn_ends g e.input c H M (cond (was_opened c H) (piece_of c e.input) []) n refl (o.talks c) v
 
           unlinked : (l : ℕ) → is_linked l H ≡ false → replies l M ≡ replies l H
           unlinked l u = ap (λ b. replies l H ++ cond b (reply_of l e.input) []) u ∙ append-nil (replies l H)
 
           answer : (l : ℕ) → IsSome (life l (after hs M)) → (b : Bool) → names_link l e.input ≡ b → reply_fault (replies l (after hs M)) ≡ None
-          answer l s false n = behind.answers l n s
+          answer l s false n = later.answers l n s
           answer l s true n = ap reply_fault (replies_stay g hs M l fit) ∙ link_ends g e.input l H M n (λ u k. ap reply_fault (unlinked l u) ∙ o.answers l k) s
 
     one_more : IsSound g (with_entry g e H)
@@ -145,12 +145,12 @@ module _ (g : Config) (can : CanBe g) where
         by false z true y = ends y
         by false z false y = goes_on z y
 
-  sound_behind : (es : List Entry) (H : List Mark) → IsSound g H → IsSound g (chronicle_behind g es H)
-  sound_behind [] H o = o
-  sound_behind (e ∷ es) H o = sound_behind es (with_entry g e H) (one_more e H o)
+  sound_after : (es : List Entry) (H : List Mark) → IsSound g H → IsSound g (chronicle_after g es H)
+  sound_after [] H o = o
+  sound_after (e ∷ es) H o = sound_after es (with_entry g e H) (one_more e H o)
 
   sound : (journal : List Entry) → IsSound g (chronicle g journal)
-  sound journal = sound_behind journal [] (at_rest [] empty (room-empty g can) refl refl)
+  sound journal = sound_after journal [] (at_rest [] empty (room-empty g can) refl refl)
 
   -- nothing that is read has had a fault
   pub talks-faultless : (journal : List Entry) (c : ℕ) → is_live c (chronicle g journal) ≡ true → fault_in g.id (bytes c (chronicle g journal)) ≡ None

@@ -8,7 +8,7 @@ use Rattle.zre_peer.specs.declared.causes.Cause.TheVariants as cause
 use Rattle.zre_peer.specs.declared.causes.CloseWhy.{CloseWhy}
 use Rattle.zre_peer.specs.declared.causes.CloseWhy.TheVariants as close
 use Rattle.zre_journal.specs.declared.config.Config.{Config}
-use Rattle.zre_journal.specs.Chronicle.{Mark, Closes, Drops, Ends, after, newer}
+use Rattle.zre_journal.specs.Chronicle.{Mark, Closes, ClosesAtStop, Ends, after, newer}
 use Rattle.zre_journal.specs.Connections.{open_ones, is_open, identity, runs, started, start_at, has_ended, ends, unless, is_same, other_with, others}
 use Rattle.zre_journal.specs.Peers.{Life, lives, life}
 use Rattle.zre_journal.specs.Proper.{IsProper}
@@ -18,7 +18,7 @@ use Rattle.zre_journal.proofs.Known.{end_all, same_id}
 use Rattle.zre_journal.proofs.Listed.{eqb-comm, found_passes, found_any, some_is, any_other}
 use Rattle.zre_journal.proofs.Steps.{Allowed, May, in_both}
 
--- ---- one that runs no peer runs none behind marks that start nothing
+-- ---- one that runs no peer runs none after marks that start nothing
 
 stays_ended : (h : Mark) (H : List Mark) (l : ℕ) → has_ended l H ≡ true → has_ended l (h ∷ H) ≡ true
 stays_ended h H l e = by (ends l h)
@@ -42,9 +42,9 @@ idle_stays h H c s r = ap (λ o. unless (λ l. has_ended l (h ∷ H)) (newer o (
 abbrev pub AreNoStarts : List Mark → Type 0
 AreNoStarts hs = AllByRecursion (λ h. (c : ℕ) → start_at c h ≡ None) hs
 
-pub idle_behind : (hs H : List Mark) (c : ℕ) → AreNoStarts hs → runs c H ≡ None → runs c (after hs H) ≡ None
-idle_behind [] H c n r = r
-idle_behind (h ∷ hs) H c n r = idle_behind hs (h ∷ H) c n.1 (idle_stays h H c (n.0 c) r)
+pub idle_after : (hs H : List Mark) (c : ℕ) → AreNoStarts hs → runs c H ≡ None → runs c (after hs H) ≡ None
+idle_after [] H c n r = r
+idle_after (h ∷ hs) H c n r = idle_after hs (h ∷ H) c n.1 (idle_stays h H c (n.0 c) r)
 
 pub ends_start_none : (why : Cause) (vs : List Life) → AreNoStarts (end_all why vs)
 ends_start_none why [] = tt
@@ -92,16 +92,16 @@ all_idle H p why c = by (runs c H) refl
         at r false q z = r z
 
     by : (o : Option ℕ) → runs c H ≡ o → runs c (after (end_all why (lives H)) H) ≡ None
-    by None e = idle_behind (end_all why (lives H)) H c (ends_start_none why (lives H)) e
+    by None e = idle_after (end_all why (lives H)) H c (ends_start_none why (lives H)) e
     by (Some l) e =
         let s = has_started H p c l e in
         let v = some_is (life l H) (run_known H p c l e) in
         let gone = ended_now l (lives H) H (found_any (λ (u : Life). eqb l u.link) (lives H) v.0 v.1) in
         rw (started_same (lives H) H ∙ s.0, gone) refl
 
-pub drops_allowed : (cs : List ℕ) (H : List Mark) → ((c : ℕ) → runs c H ≡ None) → Allowed (map (λ c. Drops c) cs) H
+pub drops_allowed : (cs : List ℕ) (H : List Mark) → ((c : ℕ) → runs c H ≡ None) → Allowed (map (λ c. ClosesAtStop c) cs) H
 drops_allowed [] H none = tt
-drops_allowed (c ∷ cs) H none = (none c, drops_allowed cs (Drops c ∷ H) none)
+drops_allowed (c ∷ cs) H none = (none c, drops_allowed cs (ClosesAtStop c ∷ H) none)
 
 pub closes_allowed : (why : CloseWhy) (cs : List ℕ) (H : List Mark) → AllByRecursion (λ c. runs c H ≡ None) cs → Allowed (map (λ c. Closes c why) cs) H
 closes_allowed why [] H none = tt

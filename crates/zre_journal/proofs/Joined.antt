@@ -1,4 +1,4 @@
--- Entries behind entries.
+-- Entries after entries.
 use Rattle.std.proofs.Common.{◌≡◌, true, cond, List, [], ◌∷◌, ◌++◌, refl, sym, ap, ◌∙◌, append_assoc, append-nil}
 use Rattle.zre_outside.specs.declared.entry.Entry.{Entry}
 use Rattle.zre_outside.specs.declared.act.Act.{Act}
@@ -7,31 +7,31 @@ use Rattle.zre_journal.specs.declared.config.Config.{Config}
 use Rattle.zre_values.specs.declared.peer_id.PeerId.{PeerId}
 use Rattle.zre_journal.specs.Chronicle.{Mark, Comes, after, in_turn}
 use Rattle.zre_journal.specs.Done.{acts_at, done, done_at, offers}
-use Rattle.zre_journal.specs.Events.{events_at, events_behind, acts_behind, chronicle}
-use Rattle.zre_journal.specs.Happens.{at_input, marks, with_entry, chronicle_behind, has_stopped}
+use Rattle.zre_journal.specs.Events.{events_at, events_after, acts_after, chronicle}
+use Rattle.zre_journal.specs.Happens.{at_input, marks, with_entry, chronicle_after, has_stopped}
 use Rattle.zre_journal.specs.Laws.{Continues, HasEnded}
 use Rattle.zre_journal.specs.Told.{told, told_at}
 
-chronicle-append : (g : Config) (J K : List Entry) (H : List Mark) → chronicle_behind g (J ++ K) H ≡ chronicle_behind g K (chronicle_behind g J H)
+chronicle-append : (g : Config) (J K : List Entry) (H : List Mark) → chronicle_after g (J ++ K) H ≡ chronicle_after g K (chronicle_after g J H)
 chronicle-append g [] K H = refl
 chronicle-append g (e ∷ J) K H = chronicle-append g J K (with_entry g e H)
 
-events-append : (g : Config) (J K : List Entry) (H : List Mark) → events_behind g (J ++ K) H ≡ events_behind g J H ++ events_behind g K (chronicle_behind g J H)
+events-append : (g : Config) (J K : List Entry) (H : List Mark) → events_after g (J ++ K) H ≡ events_after g J H ++ events_after g K (chronicle_after g J H)
 events-append g [] K H = refl
 events-append g (e ∷ J) K H =
     ap (λ (r : List Event). events_at g e H ++ r) (events-append g J K (with_entry g e H))
-    ∙ sym (append_assoc (events_at g e H) (events_behind g J (with_entry g e H)) (events_behind g K (chronicle_behind g J (with_entry g e H))))
+    ∙ sym (append_assoc (events_at g e H) (events_after g J (with_entry g e H)) (events_after g K (chronicle_after g J (with_entry g e H))))
 
-acts-append : (g : Config) (J K : List Entry) (H : List Mark) → acts_behind g (J ++ K) H ≡ acts_behind g J H ++ acts_behind g K (chronicle_behind g J H)
+acts-append : (g : Config) (J K : List Entry) (H : List Mark) → acts_after g (J ++ K) H ≡ acts_after g J H ++ acts_after g K (chronicle_after g J H)
 acts-append g [] K H = refl
 acts-append g (e ∷ J) K H =
     ap (λ (r : List Act). acts_at g e H ++ r) (acts-append g J K (with_entry g e H))
-    ∙ sym (append_assoc (acts_at g e H) (acts_behind g J (with_entry g e H)) (acts_behind g K (chronicle_behind g J (with_entry g e H))))
+    ∙ sym (append_assoc (acts_at g e H) (acts_after g J (with_entry g e H)) (acts_after g K (chronicle_after g J (with_entry g e H))))
 
 pub continues : (g : Config) (J K : List Entry) → Continues g J K
 continues g J K = record { happened = chronicle-append g J K []; told = events-append g J K []; done = acts-append g J K [] }
 
--- ---- behind a stop
+-- ---- after a stop
 
 no_marks : (g : Config) (e : Entry) (H : List Mark) → has_stopped H ≡ true → marks g e H ≡ []
 no_marks g e H s = ap (λ b. cond b [] (at_input g e.input H (Comes e ∷ H))) s
@@ -42,19 +42,19 @@ only_entry g e H s = ap (λ hs. after hs (Comes e ∷ H)) (no_marks g e H s)
 still : (g : Config) (e : Entry) (H : List Mark) → has_stopped H ≡ true → has_stopped (with_entry g e H) ≡ true
 still g e H s = ap has_stopped (only_entry g e H s) ∙ s
 
-pub stays_stopped : (g : Config) (K : List Entry) (H : List Mark) → has_stopped H ≡ true → has_stopped (chronicle_behind g K H) ≡ true
+pub stays_stopped : (g : Config) (K : List Entry) (H : List Mark) → has_stopped H ≡ true → has_stopped (chronicle_after g K H) ≡ true
 stays_stopped g [] H s = s
 stays_stopped g (e ∷ K) H s = stays_stopped g K (with_entry g e H) (still g e H s)
 
-no_events : (g : Config) (K : List Entry) (H : List Mark) → has_stopped H ≡ true → events_behind g K H ≡ []
+no_events : (g : Config) (K : List Entry) (H : List Mark) → has_stopped H ≡ true → events_after g K H ≡ []
 no_events g [] H s = refl
 no_events g (e ∷ K) H s =
-    ap (λ hs. told hs (Comes e ∷ H) ++ events_behind g K (with_entry g e H)) (no_marks g e H s) ∙ no_events g K (with_entry g e H) (still g e H s)
+    ap (λ hs. told hs (Comes e ∷ H) ++ events_after g K (with_entry g e H)) (no_marks g e H s) ∙ no_events g K (with_entry g e H) (still g e H s)
 
-no_acts : (g : Config) (K : List Entry) (H : List Mark) → has_stopped H ≡ true → acts_behind g K H ≡ []
+no_acts : (g : Config) (K : List Entry) (H : List Mark) → has_stopped H ≡ true → acts_after g K H ≡ []
 no_acts g [] H s = refl
 no_acts g (e ∷ K) H s =
-    ap (λ b. cond b [] (done g.id (marks g e H) ++ offers g e (marks g e H) (with_entry g e H)) ++ acts_behind g K (with_entry g e H)) s
+    ap (λ b. cond b [] (done g.id (marks g e H) ++ offers g e (marks g e H) (with_entry g e H)) ++ acts_after g K (with_entry g e H)) s
     ∙ no_acts g K (with_entry g e H) (still g e H s)
 
 pub ends : (g : Config) (J K : List Entry) → has_stopped (chronicle g J) ≡ true → HasEnded g J K
@@ -62,11 +62,11 @@ ends g J K s =
     let c = continues g J K in
     record {
       stopped = ap has_stopped c.happened ∙ stays_stopped g K (chronicle g J) s;
-      told = c.told ∙ ap (λ (r : List Event). events_behind g J [] ++ r) (no_events g K (chronicle g J) s) ∙ append-nil (events_behind g J []);
-      done = c.done ∙ ap (λ (r : List Act). acts_behind g J [] ++ r) (no_acts g K (chronicle g J) s) ∙ append-nil (acts_behind g J []);
+      told = c.told ∙ ap (λ (r : List Event). events_after g J [] ++ r) (no_events g K (chronicle g J) s) ∙ append-nil (events_after g J []);
+      done = c.done ∙ ap (λ (r : List Act). acts_after g J [] ++ r) (no_acts g K (chronicle g J) s) ∙ append-nil (acts_after g J []);
     }
 
--- ---- marks behind marks
+-- ---- marks after marks
 
 pub after-append : (hs ks H : List Mark) → after (hs ++ ks) H ≡ after ks (after hs H)
 after-append [] ks H = refl

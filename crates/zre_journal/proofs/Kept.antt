@@ -11,13 +11,13 @@ use Rattle.zre_peer.specs.declared.causes.Cause.{Cause}
 use Rattle.zre_peer.specs.declared.causes.CloseWhy.{CloseWhy}
 use Rattle.zre_peer.specs.declared.causes.IgnoreWhy.{IgnoreWhy}
 use Rattle.zre_values.proofs.Digits.{bytes_eq-same}
-use Rattle.zre_journal.specs.Chronicle.{Mark, Opens, TurnsAway, Shakes, Starts, Counts, Ignores, Closes, IsShut, Drops, Born, Ends, Puts}
+use Rattle.zre_journal.specs.Chronicle.{Mark, Opens, TurnsAway, Shakes, Starts, Counts, Ignores, Closes, IsShut, ClosesAtStop, Born, Ends, Puts}
 use Rattle.zre_journal.specs.Heard.{was_opened}
 use Rattle.zre_journal.specs.Connections.{open_ones, is_open, is_new, identity, started, has_ended, runs, other_with, is_same, others}
 use Rattle.zre_journal.specs.Peers.{Life, lives, births, life, runner, counted, other_lives}
 use Rattle.zre_journal.specs.Proper.{IsProper, AreOpen, AreRuns, IsUnused, IsUnheard}
 use Rattle.zre_journal.proofs.Listed.{eqb-comm, some_is, All-kept, All-append, All-map, found_before, Apart-append, Apart-kept, others_find, any_append, any_of_append, any_left, any_other}
-pub use Rattle.zre_journal.proofs.Silent.{known_lives, open_is_old, has_started, run_known, run_is, runner_runs, Beacons-proper, Greets-proper, Falters-proper, Joins-proper, Leaves-proper, Refuses-proper, Calls-proper, Stops-proper, Comes-proper, Puts-proper, Links-proper, Takes-proper}
+pub use Rattle.zre_journal.proofs.Silent.{known_lives, open_is_old, has_started, run_known, run_is, runner_runs, HearsBeacon-proper, Greets-proper, IsEvasive-proper, Joins-proper, Leaves-proper, Refuses-proper, SendsBeacon-proper, Stops-proper, Comes-proper, Puts-proper, Links-proper, Sends-proper}
 
 -- ---- an end
 
@@ -169,7 +169,7 @@ module _ (H : List Mark) (p : IsProper H) (c : ℕ) where
     running = p.running;
   }
 
-  -- the others, behind a closing of one that runs no peer
+  -- the others, after a closing of one that runs no peer
   closing : runs c H ≡ None → AreOpen (others c (open_ones H)) (λ d. is_new d H) (λ d. was_opened d H) (λ d. IsUnheard d H)
       × AreRuns (lives H) (others c (open_ones H)) (λ l. has_ended l H) (λ l. runner l H) (λ d. started d H) (λ d. identity d H) (λ l. counted l H)
   closing idle = (
@@ -201,8 +201,8 @@ module _ (H : List Mark) (p : IsProper H) (c : ℕ) where
   pub IsShut-proper : runs c H ≡ None → IsProper (IsShut c ∷ H)
   IsShut-proper idle = record { living = p.living; opening = (closing idle).0; running = (closing idle).1 }
 
-  pub Drops-proper : runs c H ≡ None → IsProper (Drops c ∷ H)
-  Drops-proper idle = record { living = p.living; opening = (closing idle).0; running = (closing idle).1 }
+  pub ClosesAtStop-proper : runs c H ≡ None → IsProper (ClosesAtStop c ∷ H)
+  ClosesAtStop-proper idle = record { living = p.living; opening = (closing idle).0; running = (closing idle).1 }
 
   -- ---- a first message is refused
 

@@ -88,7 +88,7 @@ pub ends_allowed : (why : Cause) (vs : List Life) (H : List Mark) → Apart (λ 
 ends_allowed why [] H a k = tt
 ends_allowed why (v ∷ vs) H a k = (k.0, ends_allowed why vs (Ends v.link why ∷ H) a.1 (still_known H v.link why vs a.0 k.1))
 
--- others than these are known behind their ends
+-- others than these are known after their ends
 abbrev pub AreFar : List Life → List Life → Type 0
 AreFar vs ws = AllByRecursion (λ (v : Life). AllByRecursion (λ (w : Life). eqb v.link w.link ≡ false) ws) vs
 

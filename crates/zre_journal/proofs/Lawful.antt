@@ -68,7 +68,7 @@ record IsTold (H : List Mark) : Type 0 where
   whose : (c l : ℕ) → runner l H ≡ Some c → started c H ≡ Some l
   same : (c l : ℕ) → runner l H ≡ Some c → counted l H ≡ counted_on c H
 
--- one that may come behind others: not HELLO, of the due number, within the limits
+-- one that may come after others: not HELLO, of the due number, within the limits
 follows : (ms : List Message) (m : Message) → 0 < length ms → is_hello m.body ≡ false → eqb m.sequence (due ms) ≡ true → is_small (view_of (ms ++ m ∷ [])) ≡ true → may_follow ms m ≡ true
 follows [] m n h d s = absurd (omega (arith, n))
 follows (x ∷ xs) m n h d s = rw (h, d, s) refl

@@ -55,7 +55,7 @@ module _ {A : Type 0} where
       all [] = tt
       all (z ∷ zs) = (tt, all zs)
 
-  -- what is found is found with more behind it
+  -- what is found is found with more after it
   pub found_before : (t : A → Bool) (xs ys : List A) (y : A) → find t xs ≡ Some y → find t (xs ++ ys) ≡ Some y
   found_before t [] ys y e = cc
   found_before t (x ∷ xs) ys y e = by (found_before t xs ys y) (t x) e
@@ -82,7 +82,7 @@ module _ {A : Type 0} where
       by r false k = r k
 
 module _ {A : Type 0} (key : A → ℕ) where
-  -- things stay apart behind a new greatest one, and where one is taken out
+  -- things stay apart after a new greatest one, and where one is taken out
   pub Apart-append : (y : A) (xs : List A) → AllByRecursion (λ x. key x < key y) xs → Apart key xs → Apart key (xs ++ y ∷ [])
   Apart-append y [] b p = (tt, tt)
   Apart-append y (x ∷ xs) b p = (far xs p.0, Apart-append y xs b.1 p.1)

@@ -11,14 +11,14 @@ use Rattle.zre_msg.specs.declared.message.Body.TheVariants as body
 use Rattle.zre_msg.specs.declared.message.Message.{Message}
 use Rattle.zre_outside.specs.declared.entry.Entry.{Entry}
 use Rattle.zre_peer.specs.Members.{distinct, first_named}
-use Rattle.zre_peer.specs.Runs.{events_of, is_hello, told_behind, told}
+use Rattle.zre_peer.specs.Runs.{events_of, is_hello, told_later, told}
 use Rattle.zre_peer.specs.Views.{view_of}
 use Rattle.zre_peer.specs.declared.causes.Cause.{Cause}
 use Rattle.zre_peer.specs.declared.view.View.{View}
 use Rattle.zre_peer.specs.declared.event.Event.{Event}
 use Rattle.zre_peer.specs.declared.event.Event.TheVariants as event
 use Rattle.zre_journal.specs.declared.config.Config.{Config}
-use Rattle.zre_journal.specs.Chronicle.{Mark, Born, Starts, Counts, Ends, Falters}
+use Rattle.zre_journal.specs.Chronicle.{Mark, Born, Starts, Counts, Ends, IsEvasive}
 use Rattle.zre_journal.specs.Peers.{Life, lives, life, life_of, births, runner, is_entered, counted, view}
 use Rattle.zre_journal.specs.Told.{told_at, by_message, exit, faltering}
 use Rattle.zre_journal.specs.Events.{events, chronicle}
@@ -35,12 +35,12 @@ use Rattle.zre_journal.proofs.Telling.{told_by, events_are, first_is_hello}
 
 -- ---- what messages tell, with one more
 
-told-push : (id : PeerId) (done ms : List Message) (m : Message) → told_behind id done (ms ++ m ∷ []) ≡ told_behind id done ms ++ events_of id (view_of (done ++ ms)) m.body
+told-push : (id : PeerId) (done ms : List Message) (m : Message) → told_later id done (ms ++ m ∷ []) ≡ told_later id done ms ++ events_of id (view_of (done ++ ms)) m.body
 told-push id done [] m = append-nil (events_of id (view_of done) m.body) ∙ ap (λ xs. events_of id (view_of xs) m.body) (sym (append-nil done))
 told-push id done (n ∷ ms) m =
     ap (λ es. events_of id (view_of done) n.body ++ es) (told-push id (done ++ n ∷ []) ms m)
-    ∙ sym (append_assoc (events_of id (view_of done) n.body) (told_behind id (done ++ n ∷ []) ms) (events_of id (view_of ((done ++ n ∷ []) ++ ms)) m.body))
-    ∙ ap (λ xs. (events_of id (view_of done) n.body ++ told_behind id (done ++ n ∷ []) ms) ++ events_of id (view_of xs) m.body) (append_assoc done (n ∷ []) ms)
+    ∙ sym (append_assoc (events_of id (view_of done) n.body) (told_later id (done ++ n ∷ []) ms) (events_of id (view_of ((done ++ n ∷ []) ++ ms)) m.body))
+    ∙ ap (λ xs. (events_of id (view_of done) n.body ++ told_later id (done ++ n ∷ []) ms) ++ events_of id (view_of xs) m.body) (append_assoc done (n ∷ []) ms)
 
 -- ---- events of another peer
 
@@ -186,7 +186,7 @@ module _ (xs : PeerId → List Event) (H : List Mark) (q : IsProper H) (n : AreN
       by w far true = pass_by v.id w.id (xs v.id) (event.Exit w.id (view w.link H).name why ∷ []) (refl, tt) far
       by w far false = refl
 
-  falter_passes : (l : ℕ) → May (Falters l) H → IsPassed (λ p. fold (run_with p) (xs p) (told_at (Falters l) H)) (Falters l ∷ H)
+  falter_passes : (l : ℕ) → May (IsEvasive l) H → IsPassed (λ p. fold (run_with p) (xs p) (told_at (IsEvasive l) H)) (IsEvasive l ∷ H)
   falter_passes l y d k v e r = by (life l H) ∙ o d k v e r
     where
       by : (p : Option Life) → fold (run_with v.id) (xs v.id) (faltering p H) ≡ xs v.id
@@ -208,7 +208,7 @@ passes : (h : Mark) (xs : PeerId → List Event) (H : List Mark) → IsProper H 
 passes (Starts c l m) xs H q y n o = start_passes xs H q n o c l m y
 passes (Counts c l m) xs H q y n o = count_passes xs H q n o c l m y
 passes (Ends l why) xs H q y n o = end_passes xs H q n o l why y
-passes (Falters l) xs H q y n o = falter_passes xs H q n o l y
+passes (IsEvasive l) xs H q y n o = falter_passes xs H q n o l y
 passes (Born l i a) xs H q y n o = birth_passes xs H q n o l i a y
 passes _ xs H q y n o = o
 

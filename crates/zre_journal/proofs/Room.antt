@@ -1,4 +1,4 @@
--- When marks leave what is kept of groups, links and views within its limits, and that it stays so behind marks that do.
+-- When marks leave what is kept of groups, links and views within its limits, and that it stays so after marks that do.
 use Rattle.std.proofs.Common.{◌≡◌, ℕ, ◌+◌, ◌-◌, ◌<◌, ◌≤◌, Bool, true, false, cond, ◌&&◌, eqb, List, [], ◌∷◌, ◌++◌, length, Some, None, refl, sym, ap, ◌∙◌, arith, eqb-true, subst, length-append}
 use Rattle.std.specs.List.{AllByRecursion}
 use Rattle.std.specs.Str.{bytes_eq}
@@ -13,7 +13,7 @@ use Rattle.zre_link.proofs.Numbered.{text_more}
 use Rattle.zre_peer.specs.Runs.{is_hello}
 use Rattle.zre_peer.specs.Views.{view_of, is_small}
 use Rattle.zre_journal.specs.declared.config.Config.{Config}
-use Rattle.zre_journal.specs.Chronicle.{Mark, Comes, Starts, Counts, Puts, Takes, Joins, Leaves, Stops, after, ever, followed}
+use Rattle.zre_journal.specs.Chronicle.{Mark, Comes, Starts, Counts, Puts, Sends, Joins, Leaves, Stops, after, ever, followed}
 use Rattle.zre_journal.specs.Config.{CanBe}
 use Rattle.zre_journal.specs.Connections.{refuses}
 use Rattle.zre_journal.specs.Peers.{counted, view}
@@ -35,7 +35,7 @@ pub record HasRoom (g : Config) (H : List Mark) : Type 0 where
   pub few_groups : length (groups H) ≤ OWN_GROUPS
 
 module _ (g : Config) where
-  -- whether a mark keeps these limits behind H. Neither an entry nor a stop is among those that are asked
+  -- whether a mark keeps these limits after H. Neither an entry nor a stop is among those that are asked
   abbrev pub Fits : Mark → List Mark → Type 0
   Fits (Comes e) H = ⊥
   Fits (Starts c l m) H = (ever (refuses c) H ≡ false) × (hello_octets m.body ≤ MESSAGE_OCTETS)
@@ -44,7 +44,7 @@ module _ (g : Config) where
   Fits Stops H = ⊥
   Fits _ H = Unit {0}
 
-  -- whether marks do, each behind those before it
+  -- whether marks do, each after those before it
   abbrev pub AllFit : List Mark → List Mark → Type 0
   AllFit [] H = Unit {0}
   AllFit (h ∷ hs) H = Fits h H × AllFit hs (h ∷ H)
@@ -72,7 +72,7 @@ module _ (g : Config) where
       by true q = put_room (bodies k H) b (taken k H) (subst (λ x. unsent g x H + size_of (bodies x H) b ≤ UNSENT_OCTETS) (sym (eqb-true k l q)) fits)
       by false q = was k
 
-  takes : (l n : ℕ) (H : List Mark) → ((k : ℕ) → unsent g k H ≤ UNSENT_OCTETS) → (k : ℕ) → unsent g k (Takes l n ∷ H) ≤ UNSENT_OCTETS
+  takes : (l n : ℕ) (H : List Mark) → ((k : ℕ) → unsent g k H ≤ UNSENT_OCTETS) → (k : ℕ) → unsent g k (Sends l n ∷ H) ≤ UNSENT_OCTETS
   takes l n H was k = by (eqb k l)
     where
       by : (t : Bool) → length (text_of g.id (bodies k H)) - cond t (taken k H + n) (taken k H) ≤ UNSENT_OCTETS
@@ -118,7 +118,7 @@ module _ (g : Config) where
 
   pub room-more : (h : Mark) (H : List Mark) → IsProper H → May h H → Fits h H → HasRoom g H → HasRoom g (h ∷ H)
   room-more (Puts l b) H q m f o = record { unsent_fits = puts l b H f o.unsent_fits; views_fit = o.views_fit; groups_fit = o.groups_fit; few_groups = o.few_groups }
-  room-more (Takes l n) H q m f o = record { unsent_fits = takes l n H o.unsent_fits; views_fit = o.views_fit; groups_fit = o.groups_fit; few_groups = o.few_groups }
+  room-more (Sends l n) H q m f o = record { unsent_fits = takes l n H o.unsent_fits; views_fit = o.views_fit; groups_fit = o.groups_fit; few_groups = o.few_groups }
   room-more (Starts c l s) H q m f o = record { unsent_fits = o.unsent_fits; views_fit = starts c l s H q m f.1 o.views_fit; groups_fit = o.groups_fit; few_groups = o.few_groups }
   room-more (Counts c l s) H q m f o = record { unsent_fits = o.unsent_fits; views_fit = counts c l s H m o.views_fit; groups_fit = o.groups_fit; few_groups = o.few_groups }
   room-more (Joins group) H q m f o = record {
@@ -135,9 +135,9 @@ module _ (g : Config) where
   }
   room-more _ H q m f o = record { unsent_fits = o.unsent_fits; views_fit = o.views_fit; groups_fit = o.groups_fit; few_groups = o.few_groups }
 
-  pub room-behind : (hs H : List Mark) → IsProper H → Allowed hs H → AllFit hs H → HasRoom g H → HasRoom g (after hs H)
-  room-behind [] H q a f o = o
-  room-behind (h ∷ hs) H q a f o = room-behind hs (h ∷ H) (step h H q a.0) a.1 f.1 (room-more h H q a.0 f.0 o)
+  pub room-after : (hs H : List Mark) → IsProper H → Allowed hs H → AllFit hs H → HasRoom g H → HasRoom g (after hs H)
+  room-after [] H q a f o = o
+  room-after (h ∷ hs) H q a f o = room-after hs (h ∷ H) (step h H q a.0) a.1 f.1 (room-more h H q a.0 f.0 o)
 
   pub room-empty : CanBe g → HasRoom g []
   room-empty can = record {

@@ -3,7 +3,7 @@ use Rattle.std.proofs.Common.{◌≡◌, ℕ, ◌<◌, ◌≤◌, Bool, true, fa
 use Rattle.zre_msg.specs.declared.message.Body.{Body}
 use Rattle.zre_outside.specs.declared.entry.Entry.{Entry}
 use Rattle.zre_peer.specs.declared.causes.RefuseWhy.{RefuseWhy}
-use Rattle.zre_journal.specs.Chronicle.{Mark, Comes, Greets, Beacons, Falters, Puts, Links, Takes, Joins, Leaves, Refuses, Calls, Stops}
+use Rattle.zre_journal.specs.Chronicle.{Mark, Comes, Greets, HearsBeacon, IsEvasive, Puts, Links, Sends, Joins, Leaves, Refuses, SendsBeacon, Stops}
 use Rattle.zre_journal.specs.Connections.{open_ones, is_open, is_new, started, has_ended, runs, unless}
 use Rattle.zre_journal.specs.Peers.{Life, lives, births, life, runner}
 use Rattle.zre_journal.specs.Proper.{IsProper, AreLives, IsUnused}
@@ -49,14 +49,14 @@ module _ (H : List Mark) (p : IsProper H) where
 -- ---- marks that concern no peer and no connection
 
 module _ (H : List Mark) (p : IsProper H) where
-  pub Beacons-proper : (l : ℕ) → IsProper (Beacons l ∷ H)
-  Beacons-proper l = record { living = p.living; opening = p.opening; running = p.running }
+  pub HearsBeacon-proper : (l : ℕ) → IsProper (HearsBeacon l ∷ H)
+  HearsBeacon-proper l = record { living = p.living; opening = p.opening; running = p.running }
 
   pub Greets-proper : (c : ℕ) → IsProper (Greets c ∷ H)
   Greets-proper c = record { living = p.living; opening = p.opening; running = p.running }
 
-  pub Falters-proper : (l : ℕ) → IsProper (Falters l ∷ H)
-  Falters-proper l = record { living = p.living; opening = p.opening; running = p.running }
+  pub IsEvasive-proper : (l : ℕ) → IsProper (IsEvasive l ∷ H)
+  IsEvasive-proper l = record { living = p.living; opening = p.opening; running = p.running }
 
   pub Joins-proper : (group : List ℕ) → IsProper (Joins group ∷ H)
   Joins-proper group = record { living = p.living; opening = p.opening; running = p.running }
@@ -67,8 +67,8 @@ module _ (H : List Mark) (p : IsProper H) where
   pub Refuses-proper : (why : RefuseWhy) → IsProper (Refuses why ∷ H)
   Refuses-proper why = record { living = p.living; opening = p.opening; running = p.running }
 
-  pub Calls-proper : (port : ℕ) → IsProper (Calls port ∷ H)
-  Calls-proper port = record { living = p.living; opening = p.opening; running = p.running }
+  pub SendsBeacon-proper : (port : ℕ) → IsProper (SendsBeacon port ∷ H)
+  SendsBeacon-proper port = record { living = p.living; opening = p.opening; running = p.running }
 
   pub Stops-proper : IsProper (Stops ∷ H)
   Stops-proper = record { living = p.living; opening = p.opening; running = p.running }
@@ -125,8 +125,8 @@ module _ (H : List Mark) (p : IsProper H) where
     running = p.running;
   }
 
-  pub Takes-proper : (l n : ℕ) → l ≤ births H → IsProper (Takes l n ∷ H)
-  Takes-proper l n low = record {
+  pub Sends-proper : (l n : ℕ) → l ≤ births H → IsProper (Sends l n ∷ H)
+  Sends-proper l n low = record {
     living = record {
       numbered = p.living.numbered;
       apart = p.living.apart;

@@ -1,4 +1,4 @@
--- When each mark may come, and that a chronicle stays proper behind marks that may.
+-- When each mark may come, and that a chronicle stays proper after marks that may.
 use Rattle.std.proofs.Common.{◌≡◌, ℕ, ◌+◌, ◌<◌, ◌≤◌, Bool, true, false, cond, eqb, List, [], ◌∷◌, ◌++◌, length, Some, None, IsSome, is_some, refl, sym, arith, subst}
 use Rattle.zre_values.specs.declared.peer_id.PeerId.{PeerId}
 use Rattle.zre_values.specs.declared.limits.TheConstants.{PEERS, CONNECTIONS}
@@ -7,12 +7,12 @@ use Rattle.zre_msg.specs.declared.message.Message.{Message}
 use Rattle.zre_msg.specs.declared.message.Body.TheVariants as body
 use Rattle.zre_peer.specs.Runs.{may_follow, is_hello, due}
 use Rattle.zre_peer.specs.Views.{view_of, is_small}
-use Rattle.zre_journal.specs.Chronicle.{Mark, Comes, Opens, TurnsAway, Greets, Shakes, Starts, Counts, Ignores, Closes, IsShut, Drops, Born, Beacons, Ends, Falters, Puts, Links, Takes, Joins, Leaves, Refuses, Calls, Stops, after}
+use Rattle.zre_journal.specs.Chronicle.{Mark, Comes, Opens, TurnsAway, Greets, Shakes, Starts, Counts, Ignores, Closes, IsShut, ClosesAtStop, Born, HearsBeacon, Ends, IsEvasive, Puts, Links, Sends, Joins, Leaves, Refuses, SendsBeacon, Stops, after}
 use Rattle.zre_journal.specs.Connections.{open_ones, is_open, is_new, identity, started, runs, other_with}
 use Rattle.zre_journal.specs.Peers.{Life, lives, life_of, life, births, runner, counted}
 use Rattle.zre_journal.specs.Proper.{IsProper}
 use Rattle.zre_journal.proofs.Listed.{some_is}
-use Rattle.zre_journal.proofs.Kept.{known_lives, Comes-proper, Opens-proper, TurnsAway-proper, Greets-proper, Shakes-proper, Starts-proper, Counts-proper, Ignores-proper, Closes-proper, IsShut-proper, Drops-proper, born-proper, Beacons-proper, Ends-proper, Falters-proper, Puts-proper, Links-proper, Takes-proper, Joins-proper, Leaves-proper, Refuses-proper, Calls-proper, Stops-proper}
+use Rattle.zre_journal.proofs.Kept.{known_lives, Comes-proper, Opens-proper, TurnsAway-proper, Greets-proper, Shakes-proper, Starts-proper, Counts-proper, Ignores-proper, Closes-proper, IsShut-proper, ClosesAtStop-proper, born-proper, HearsBeacon-proper, Ends-proper, IsEvasive-proper, Puts-proper, Links-proper, Sends-proper, Joins-proper, Leaves-proper, Refuses-proper, SendsBeacon-proper, Stops-proper}
 
 -- an open connection that has started nothing begins to run a known peer that nothing has run, its own, by a first message
 pub record MayStart (c l : ℕ) (m : Message) (H : List Mark) : Type 0 where
@@ -24,7 +24,7 @@ pub record MayStart (c l : ℕ) (m : Message) (H : List Mark) : Type 0 where
   pub free : runner l H ≡ None
   pub first : may_follow [] m ≡ true
 
--- a message behind the first is counted for the peer that its connection runs
+-- a message after the first is counted for the peer that its connection runs
 pub record MayCount (c l : ℕ) (m : Message) (H : List Mark) : Type 0 where
   pub running : runs c H ≡ Some l
   pub later : is_hello m.body ≡ false
@@ -47,7 +47,7 @@ pub record MayFalter (l : ℕ) (H : List Mark) : Type 0 where
   pub is_known : IsSome (life l H)
   pub is_run : is_some (runner l H) ≡ true
 
--- whether a mark may come behind H
+-- whether a mark may come after H
 abbrev pub May : Mark → List Mark → Type 0
 May (Opens c) H = MayOpen c H
 May (Shakes c p) H = (is_open c H ≡ true) × (identity c H ≡ None) × (other_with p c H ≡ None)
@@ -56,16 +56,16 @@ May (Counts c l m) H = MayCount c l m H
 May (Ignores c why) H = is_open c H ≡ true
 May (Closes c why) H = runs c H ≡ None
 May (IsShut c) H = runs c H ≡ None
-May (Drops c) H = runs c H ≡ None
+May (ClosesAtStop c) H = runs c H ≡ None
 May (Born l p e) H = MayBear l p H
-May (Falters l) H = MayFalter l H
+May (IsEvasive l) H = MayFalter l H
 May (Ends l why) H = IsSome (life l H)
 May (Puts l b) H = IsSome (life l H)
 May (Links l) H = IsSome (life l H)
-May (Takes l n) H = IsSome (life l H)
+May (Sends l n) H = IsSome (life l H)
 May _ H = Unit {0}
 
--- whether marks may come behind H, each behind those before it
+-- whether marks may come after H, each after those before it
 abbrev pub Allowed : List Mark → List Mark → Type 0
 Allowed [] H = Unit {0}
 Allowed (h ∷ hs) H = May h H × Allowed hs (h ∷ H)
@@ -92,18 +92,18 @@ step (Counts c l s) H p m = Counts-proper H p c l s m.running
 step (Ignores c why) H p m = Ignores-proper H p c why m
 step (Closes c why) H p m = Closes-proper H p c why m
 step (IsShut c) H p m = IsShut-proper H p c m
-step (Drops c) H p m = Drops-proper H p c m
+step (ClosesAtStop c) H p m = ClosesAtStop-proper H p c m
 step (Born l i e) H p m = subst (λ k. IsProper (Born k i e ∷ H)) (sym m.next_link) (Born-proper H p i e)
-step (Beacons l) H p m = Beacons-proper H p l
+step (HearsBeacon l) H p m = HearsBeacon-proper H p l
 step (Ends l why) H p m = Ends-proper H p l why (low H p l m)
-step (Falters l) H p m = Falters-proper H p l
+step (IsEvasive l) H p m = IsEvasive-proper H p l
 step (Puts l b) H p m = Puts-proper H p l b (low H p l m)
 step (Links l) H p m = Links-proper H p l (low H p l m)
-step (Takes l n) H p m = Takes-proper H p l n (low H p l m)
+step (Sends l n) H p m = Sends-proper H p l n (low H p l m)
 step (Joins group) H p m = Joins-proper H p group
 step (Leaves group) H p m = Leaves-proper H p group
 step (Refuses why) H p m = Refuses-proper H p why
-step (Calls port) H p m = Calls-proper H p port
+step (SendsBeacon port) H p m = SendsBeacon-proper H p port
 step Stops H p m = Stops-proper H p
 
 pub steps : (hs H : List Mark) → IsProper H → Allowed hs H → IsProper (after hs H)

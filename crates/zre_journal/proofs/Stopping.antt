@@ -1,4 +1,4 @@
--- Behind a stop no peer is known and no connection is open.
+-- After a stop no peer is known and no connection is open.
 use Rattle.std.proofs.Common.{◌≡◌, ℕ, Bool, true, false, cond, not, ◌||◌, eqb, List, [], ◌∷◌, ◌++◌, map, filter, refl, sym, ap, ◌∙◌, eq-eqb}
 use Rattle.std.specs.List.{AllByRecursion, list_any}
 use Rattle.zre_outside.specs.declared.entry.Input.{Input}
@@ -8,7 +8,7 @@ use Rattle.zre_peer.specs.declared.causes.Cause.{Cause}
 use Rattle.zre_peer.specs.declared.causes.Cause.TheVariants as cause
 use Rattle.zre_journal.specs.Endings.{is_end}
 use Rattle.zre_journal.specs.declared.config.Config.{Config}
-use Rattle.zre_journal.specs.Chronicle.{Mark, Drops, Ends, Calls, Stops, after}
+use Rattle.zre_journal.specs.Chronicle.{Mark, ClosesAtStop, Ends, SendsBeacon, Stops, after}
 use Rattle.zre_journal.specs.Connections.{open_ones}
 use Rattle.zre_journal.specs.Peers.{Life, lives}
 use Rattle.zre_journal.specs.Happens.{at_input, at_stop}
@@ -73,15 +73,15 @@ ends_open why [] H = refl
 ends_open why (v ∷ vs) H = ends_open why vs (Ends v.link why ∷ H)
 
 abbrev drop_all : List ℕ → List Mark
-drop_all cs = map (λ c. Drops c) cs
+drop_all cs = map (λ c. ClosesAtStop c) cs
 
 drops_lives : (cs : List ℕ) (H : List Mark) → lives (after (drop_all cs) H) ≡ lives H
 drops_lives [] H = refl
-drops_lives (c ∷ cs) H = drops_lives cs (Drops c ∷ H)
+drops_lives (c ∷ cs) H = drops_lives cs (ClosesAtStop c ∷ H)
 
 drops_open : (cs : List ℕ) (H : List Mark) → open_ones (after (drop_all cs) H) ≡ cleared (λ c. c) cs (open_ones H)
 drops_open [] H = refl
-drops_open (c ∷ cs) H = drops_open cs (Drops c ∷ H)
+drops_open (c ∷ cs) H = drops_open cs (ClosesAtStop c ∷ H)
 
 module _ (g : Config) (H : List Mark) where
   abbrev E : List Mark
@@ -90,12 +90,12 @@ module _ (g : Config) (H : List Mark) where
   abbrev D : List Mark
   D = drop_all (open_ones H)
 
-  -- the chronicle behind a stop
+  -- the chronicle after a stop
   abbrev pub stopped : List Mark
-  stopped = Stops ∷ Calls 0 ∷ after D (after E H)
+  stopped = Stops ∷ SendsBeacon 0 ∷ after D (after E H)
 
   pub stop-is : after (at_stop g H) H ≡ stopped
-  stop-is = after-append (E ++ D) (Calls 0 ∷ Stops ∷ []) H ∙ ap (after (Calls 0 ∷ Stops ∷ [])) (after-append E D H)
+  stop-is = after-append (E ++ D) (SendsBeacon 0 ∷ Stops ∷ []) H ∙ ap (after (SendsBeacon 0 ∷ Stops ∷ [])) (after-append E D H)
 
   pub none_known : lives stopped ≡ []
   none_known = drops_lives (open_ones H) (after E H) ∙ ends_lives cause.Stop (lives H) H ∙ none_left (λ (v : Life). v.link) (map (λ (v : Life). v.link) (lives H)) (lives H) (all_among (λ (v : Life). v.link) (lives H))
@@ -113,7 +113,7 @@ room_ends g why (v ∷ vs) H o = room_ends g why vs (Ends v.link why ∷ H) (rec
 
 room_drops : (g : Config) (cs : List ℕ) (H : List Mark) → HasRoom g H → HasRoom g (after (drop_all cs) H)
 room_drops g [] H o = o
-room_drops g (c ∷ cs) H o = room_drops g cs (Drops c ∷ H) (record { unsent_fits = o.unsent_fits; views_fit = o.views_fit; groups_fit = o.groups_fit; few_groups = o.few_groups })
+room_drops g (c ∷ cs) H o = room_drops g cs (ClosesAtStop c ∷ H) (record { unsent_fits = o.unsent_fits; views_fit = o.views_fit; groups_fit = o.groups_fit; few_groups = o.few_groups })
 
 pub room-stopped : (g : Config) (H : List Mark) → HasRoom g H → HasRoom g (stopped g H)
 room-stopped g H o = let r = room_drops g (open_ones H) (after (E g H) H) (room_ends g cause.Stop (lives H) H o) in record { unsent_fits = r.unsent_fits; views_fit = r.views_fit; groups_fit = r.groups_fit; few_groups = r.few_groups }

@@ -8,13 +8,13 @@ use Rattle.zre_journal.specs.declared.config.Config.{Config}
 use Rattle.zre_journal.specs.Config.{CanBe}
 use Rattle.zre_journal.specs.Chronicle.{Mark, Comes, after}
 use Rattle.zre_journal.specs.Events.{chronicle}
-use Rattle.zre_journal.specs.Happens.{has_stopped, at_input, with_entry, chronicle_behind}
+use Rattle.zre_journal.specs.Happens.{has_stopped, at_input, with_entry, chronicle_after}
 use Rattle.zre_journal.specs.Proper.{IsProper}
 use Rattle.zre_journal.proofs.Always.{empty, input_allowed}
 use Rattle.zre_journal.proofs.Faultless.{still_going}
 use Rattle.zre_journal.proofs.Fitting.{input-fits}
 use Rattle.zre_journal.proofs.Kept.{Comes-proper}
-use Rattle.zre_journal.proofs.Room.{HasRoom, AllFit, room-behind, room-empty}
+use Rattle.zre_journal.proofs.Room.{HasRoom, AllFit, room-after, room-empty}
 use Rattle.zre_journal.proofs.Steps.{Allowed, steps}
 
 module _ (g : Config) (can : CanBe g) where
@@ -45,21 +45,21 @@ module _ (g : Config) (can : CanBe g) where
     next_proper = subst IsProper (sym whole) (steps hs M come allowed)
 
     next_room : HasRoom g (with_entry g e H)
-    next_room = subst (HasRoom g) (sym whole) (room-behind g hs M come allowed fit spacious)
+    next_room = subst (HasRoom g) (sym whole) (room-after g hs M come allowed fit spacious)
 
     next_going : has_stopped (with_entry g e H) ≡ false
     next_going = ap has_stopped whole ∙ still_going g hs M fit ∙ going
 
-  behind : (es : List Entry) (H : List Mark) → IsProper H → HasRoom g H → has_stopped H ≡ false → has_stopped (chronicle_behind g es H) ≡ true → list_any (λ e. is_end e.input) es ≡ true
-  behind [] H proper room going stopped = absurd (true≢false (sym stopped ∙ going))
-  behind (e ∷ es) H proper room going stopped = by (is_end e.input) refl (behind es (with_entry g e H))
+  later : (es : List Entry) (H : List Mark) → IsProper H → HasRoom g H → has_stopped H ≡ false → has_stopped (chronicle_after g es H) ≡ true → list_any (λ e. is_end e.input) es ≡ true
+  later [] H proper room going stopped = absurd (true≢false (sym stopped ∙ going))
+  later (e ∷ es) H proper room going stopped = by (is_end e.input) refl (later es (with_entry g e H))
     where
       by : (b : Bool) → is_end e.input ≡ b
-          → (IsProper (with_entry g e H) → HasRoom g (with_entry g e H) → has_stopped (with_entry g e H) ≡ false → has_stopped (chronicle_behind g es (with_entry g e H)) ≡ true → list_any (λ e. is_end e.input) es ≡ true)
+          → (IsProper (with_entry g e H) → HasRoom g (with_entry g e H) → has_stopped (with_entry g e H) ≡ false → has_stopped (chronicle_after g es (with_entry g e H)) ≡ true → list_any (λ e. is_end e.input) es ≡ true)
           → list_any (λ e. is_end e.input) (e ∷ es) ≡ true
       by true is next = ap (λ b. b || list_any (λ e. is_end e.input) es) is
       by false is next = ap (λ b. b || list_any (λ e. is_end e.input) es) is
           ∙ next (next_proper e H proper room going is) (next_room e H proper room going is) (next_going e H proper room going is) stopped
 
   pub told_to_stop : (journal : List Entry) → has_stopped (chronicle g journal) ≡ true → list_any (λ e. is_end e.input) journal ≡ true
-  told_to_stop journal = behind journal [] empty (room-empty g can) refl
+  told_to_stop journal = later journal [] empty (room-empty g can) refl

@@ -18,13 +18,13 @@ use Rattle.zre_peer.specs.declared.causes.Cause.{Cause}
 use Rattle.zre_peer.specs.declared.event.Event.{Event}
 use Rattle.zre_peer.specs.declared.event.Event.TheVariants as event
 use Rattle.zre_journal.specs.declared.config.Config.{Config}
-use Rattle.zre_journal.specs.Chronicle.{Mark, Comes, TurnsAway, Closes, Ignores, Refuses, Stops, Born, Starts, Counts, Ends, Falters, after}
+use Rattle.zre_journal.specs.Chronicle.{Mark, Comes, TurnsAway, Closes, Ignores, Refuses, Stops, Born, Starts, Counts, Ends, IsEvasive, after}
 use Rattle.zre_journal.specs.Peers.{Life, lives, life, life_of, births, runner, is_entered, view}
 use Rattle.zre_journal.specs.Told.{told, told_at, by_message, exit, faltering}
-use Rattle.zre_journal.specs.Happens.{marks, with_entry, chronicle_behind}
-use Rattle.zre_journal.specs.Events.{events_at, events_behind, events, chronicle}
+use Rattle.zre_journal.specs.Happens.{marks, with_entry, chronicle_after}
+use Rattle.zre_journal.specs.Events.{events_at, events_after, events, chronicle}
 use Rattle.zre_journal.specs.Proper.{IsProper}
-use Rattle.zre_journal.specs.Spoken.{subject, is_enter, in_behind, is_in, entered_if, has_entered, AreInTurn}
+use Rattle.zre_journal.specs.Spoken.{subject, is_enter, in_after, is_in, entered_if, has_entered, AreInTurn}
 use Rattle.zre_journal.proofs.Always.{always}
 use Rattle.zre_journal.proofs.Few.{AreNamed, named_more, found_kept, none_kept, none_end, another}
 use Rattle.zre_journal.proofs.Kept.{known_lives, run_known, run_is}
@@ -42,35 +42,35 @@ told_after : (hs H : List Mark) → told_by (after hs H) ≡ told_by H ++ told h
 told_after [] H = sym (append-nil (told_by H))
 told_after (h ∷ hs) H = told_after hs (h ∷ H) ∙ append_assoc (told_by H) (told_at h H) (told hs (h ∷ H))
 
-told_behind : (g : Config) (es : List Entry) (H : List Mark) → told_by (chronicle_behind g es H) ≡ told_by H ++ events_behind g es H
-told_behind g [] H = sym (append-nil (told_by H))
-told_behind g (e ∷ es) H =
-    told_behind g es (with_entry g e H)
-    ∙ ap (λ xs. xs ++ events_behind g es (with_entry g e H)) (told_after (marks g e H) (Comes e ∷ H) ∙ ap (λ xs. xs ++ events_at g e H) (append-nil (told_by H)))
-    ∙ append_assoc (told_by H) (events_at g e H) (events_behind g es (with_entry g e H))
+told_later : (g : Config) (es : List Entry) (H : List Mark) → told_by (chronicle_after g es H) ≡ told_by H ++ events_after g es H
+told_later g [] H = sym (append-nil (told_by H))
+told_later g (e ∷ es) H =
+    told_later g es (with_entry g e H)
+    ∙ ap (λ xs. xs ++ events_after g es (with_entry g e H)) (told_after (marks g e H) (Comes e ∷ H) ∙ ap (λ xs. xs ++ events_at g e H) (append-nil (told_by H)))
+    ∙ append_assoc (told_by H) (events_at g e H) (events_after g es (with_entry g e H))
 
 -- ---- events that may come, where b says whether p is in
 
 abbrev AreFit : PeerId → Bool → List Event → Type 0
 AreFit p b [] = Unit {0}
-AreFit p b (e ∷ es) = (subject e ≡ Some p → is_enter e ≡ not b) × AreFit p (in_behind p b e) es
+AreFit p b (e ∷ es) = (subject e ≡ Some p → is_enter e ≡ not b) × AreFit p (in_after p b e) es
 
--- and d whether it is behind them
+-- and d whether it is after them
 record Lead (p : PeerId) (b : Bool) (es : List Event) (d : Bool) : Type 0 where
   fit : AreFit p b es
-  last : fold (in_behind p) b es ≡ d
+  last : fold (in_after p) b es ≡ d
 
-fit_both : (p : PeerId) (b : Bool) (xs ys : List Event) → AreFit p b xs → AreFit p (fold (in_behind p) b xs) ys → AreFit p b (xs ++ ys)
+fit_both : (p : PeerId) (b : Bool) (xs ys : List Event) → AreFit p b xs → AreFit p (fold (in_after p) b xs) ys → AreFit p b (xs ++ ys)
 fit_both p b [] ys f k = k
-fit_both p b (x ∷ xs) ys f k = (f.0, fit_both p (in_behind p b x) xs ys f.1 k)
+fit_both p b (x ∷ xs) ys f k = (f.0, fit_both p (in_after p b x) xs ys f.1 k)
 
-fit_at : (p : PeerId) (b : Bool) (before behind : List Event) (e : Event) → AreFit p b (before ++ e ∷ behind) → subject e ≡ Some p → is_enter e ≡ not (fold (in_behind p) b before)
-fit_at p b [] behind e f s = f.0 s
-fit_at p b (x ∷ before) behind e f s = fit_at p (in_behind p b x) before behind e f.1 s
+fit_at : (p : PeerId) (b : Bool) (before later : List Event) (e : Event) → AreFit p b (before ++ e ∷ later) → subject e ≡ Some p → is_enter e ≡ not (fold (in_after p) b before)
+fit_at p b [] later e f s = f.0 s
+fit_at p b (x ∷ before) later e f s = fit_at p (in_after p b x) before later e f.1 s
 
 -- events of q that neither bring it in nor take it out
 abbrev AreMild : PeerId → List Event → Type 0
-AreMild q es = AllByRecursion (λ e. (subject e ≡ Some q) × (is_enter e ≡ false) × ((p : PeerId) (b : Bool) → in_behind p b e ≡ b)) es
+AreMild q es = AllByRecursion (λ e. (subject e ≡ Some q) × (is_enter e ≡ false) × ((p : PeerId) (b : Bool) → in_after p b e ≡ b)) es
 
 is_same_id : (p q : PeerId) → Some q ≡ Some p → bytes_eq p.0 q.0 ≡ true
 is_same_id p q e = let same : q ≡ p = cc in bytes_eq-same p.0 q.0 (ap (λ (i : PeerId). i.0) (sym same))
@@ -82,7 +82,7 @@ mild p q b (e ∷ es) m f =
     let still = m.0.2 p b in
     record {
       fit = (λ s. m.0.1 ∙ ap not (sym (f (is_same_id p q (sym m.0.0 ∙ s)))), subst (λ c. AreFit p c es) (sym still) r.fit);
-      last = ap (λ c. fold (in_behind p) c es) still ∙ r.last;
+      last = ap (λ c. fold (in_after p) c es) still ∙ r.last;
     }
 
 mild_joins : (q : PeerId) (name : List ℕ) (gs : List (List ℕ)) → AreMild q (map (λ g. event.Join q name g) gs)
@@ -111,13 +111,13 @@ enters p q v b d (body.Hello endpoint groups status name headers) h f g = by (by
         let r = mild p q true joins (mild_joins q name (distinct groups)) (λ z. refl) in
         record {
           fit = (λ s. ap not (sym (f e).0), subst (λ t. AreFit p (cond t true b) joins) (sym e) r.fit);
-          last = ap (λ t. fold (in_behind p) (cond t true b) joins) e ∙ r.last ∙ sym (f e).1;
+          last = ap (λ t. fold (in_after p) (cond t true b) joins) e ∙ r.last ∙ sym (f e).1;
         }
     by false e =
         let r = mild p q b joins (mild_joins q name (distinct groups)) (λ z. let w : false ≡ true = sym e ∙ z in cc) in
         record {
           fit = (λ s. let w : true ≡ false = sym (is_same_id p q s) ∙ e in cc, subst (λ t. AreFit p (cond t true b) joins) (sym e) r.fit);
-          last = ap (λ t. fold (in_behind p) (cond t true b) joins) e ∙ r.last ∙ sym (g e);
+          last = ap (λ t. fold (in_after p) (cond t true b) joins) e ∙ r.last ∙ sym (g e);
         }
 enters p q v b d body.Ping h f g = cc
 enters p q v b d body.PingOk h f g = cc
@@ -127,7 +127,7 @@ enters p q v b d (body.Join group status) h f g = cc
 enters p q v b d (body.Leave group status) h f g = cc
 enters p q v b d (body.Other number rest more) h f g = cc
 
--- ---- who is in, behind each mark
+-- ---- who is in, after each mark
 
 pub first_is_hello : (m : Message) → may_follow [] m ≡ true → is_hello m.body ≡ true
 first_is_hello m first = by (is_hello m.body) (eqb m.sequence 1) (is_small (view_of (m ∷ []))) first
@@ -179,7 +179,7 @@ module _ (p : PeerId) (H : List Mark) (q : IsProper H) (n : AreNamed H) where
 
   start_leads : (c l : ℕ) (m : Message) → May (Starts c l m) H → Lead p (has_entered p H) (told_at (Starts c l m) H) (has_entered p (Starts c l m ∷ H))
   start_leads c l m y = subst (λ o. Lead p (has_entered p H) (by_message o m H) (has_entered p (Starts c l m ∷ H))) (sym y.known)
-      (enters p y.who.id (view y.who.link H) (has_entered p H) (has_entered p (Starts c l m ∷ H)) m.body hello (λ s. (before s, behind s)) other)
+      (enters p y.who.id (view y.who.link H) (has_entered p H) (has_entered p (Starts c l m ∷ H)) m.body hello (λ s. (before s, later s)) other)
     where
       hello : is_hello m.body ≡ true
       hello = first_is_hello m y.first
@@ -190,8 +190,8 @@ module _ (p : PeerId) (H : List Mark) (q : IsProper H) (n : AreNamed H) where
       before : bytes_eq p.0 y.who.id.0 ≡ true → has_entered p H ≡ false
       before s = rw (it_is l y.who y.known s) (ap (λ x. is_some (runner x H)) (sym link) ∙ ap is_some y.free)
 
-      behind : bytes_eq p.0 y.who.id.0 ≡ true → has_entered p (Starts c l m ∷ H) ≡ true
-      behind s = let here : eqb y.who.link l ≡ true = eq-eqb y.who.link l (sym link) in rw (it_is l y.who y.known s, here) refl
+      later : bytes_eq p.0 y.who.id.0 ≡ true → has_entered p (Starts c l m ∷ H) ≡ true
+      later s = let here : eqb y.who.link l ≡ true = eq-eqb y.who.link l (sym link) in rw (it_is l y.who y.known s, here) refl
 
       other : bytes_eq p.0 y.who.id.0 ≡ false → has_entered p (Starts c l m ∷ H) ≡ has_entered p H
       other far = by (life_of p H) refl
@@ -206,7 +206,7 @@ module _ (p : PeerId) (H : List Mark) (q : IsProper H) (n : AreNamed H) where
       subst (λ o. Lead p (has_entered p H) (by_message o m H) (has_entered p H)) (sym v.1)
       (mild p v.0.id (has_entered p H) (events_of v.0.id (view v.0.link H) m.body) (mild_later v.0.id (view v.0.link H) m.body y.later) (is_run l v.0 v.1 (ap is_some (run_is H q c l y.running))))
 
-  falter_leads : (l : ℕ) → May (Falters l) H → Lead p (has_entered p H) (told_at (Falters l) H) (has_entered p H)
+  falter_leads : (l : ℕ) → May (IsEvasive l) H → Lead p (has_entered p H) (told_at (IsEvasive l) H) (has_entered p H)
   falter_leads l y =
       let v = some_is (life l H) y.is_known in
       subst (λ o. Lead p (has_entered p H) (faltering o H) (has_entered p H)) (sym v.1)
@@ -274,7 +274,7 @@ leads p (Born l i e) H q m n = record { fit = tt; last = births_lead p H q n l i
 leads p (Starts c l m) H q y n = start_leads p H q n c l m y
 leads p (Counts c l m) H q y n =
     subst (Lead p (has_entered p H) (told_at (Counts c l m) H)) (stays_in (life_of p H) (Counts c l m) H (λ k. refl)) (count_leads p H q n c l m y)
-leads p (Falters l) H q y n = subst (Lead p (has_entered p H) (told_at (Falters l) H)) (stays_in (life_of p H) (Falters l) H (λ k. refl)) (falter_leads p H q n l y)
+leads p (IsEvasive l) H q y n = subst (Lead p (has_entered p H) (told_at (IsEvasive l) H)) (stays_in (life_of p H) (IsEvasive l) H (λ k. refl)) (falter_leads p H q n l y)
 leads p (Ends l why) H q y n = end_leads p H q n l why y
 leads p h H q m n = record { fit = tt; last = stays_in (life_of p H) h H (λ k. refl) }
 
@@ -289,20 +289,20 @@ spoken_more : (h : Mark) (H : List Mark) → IsProper H → May h H → IsSpoken
 spoken_more h H q m o = record {
   are_named = named_more h H q m (step h H q m) o.are_named;
   fits = λ p. fit_both p false (told_by H) (told_at h H) (o.fits p) (subst (λ b. AreFit p b (told_at h H)) (sym (o.ends p)) (leads p h H q m o.are_named).fit);
-  ends = λ p. fold-append (in_behind p) false (told_by H) (told_at h H) ∙ ap (λ b. fold (in_behind p) b (told_at h H)) (o.ends p) ∙ (leads p h H q m o.are_named).last;
+  ends = λ p. fold-append (in_after p) false (told_by H) (told_at h H) ∙ ap (λ b. fold (in_after p) b (told_at h H)) (o.ends p) ∙ (leads p h H q m o.are_named).last;
 }
 
 none_spoken : IsSpoken []
 none_spoken = record { are_named = λ l v e. cc; fits = λ p. tt; ends = λ p. refl }
 
 pub events_are : (g : Config) (journal : List Entry) → told_by (chronicle g journal) ≡ events g journal
-events_are g journal = told_behind g journal []
+events_are g journal = told_later g journal []
 
 pub are_in_turn : (g : Config) (journal : List Entry) → AreInTurn (events g journal) (chronicle g journal)
 are_in_turn g journal =
     let s = always g IsSpoken spoken_more none_spoken journal in
     let same = events_are g journal in
     record {
-      enters_first = λ before behind e p cut k. fit_at p false before behind e (subst (AreFit p false) (same ∙ cut) (s.fits p)) k;
+      enters_first = λ before later e p cut k. fit_at p false before later e (subst (AreFit p false) (same ∙ cut) (s.fits p)) k;
       stands = λ p. ap (is_in p) (sym same) ∙ s.ends p;
     }

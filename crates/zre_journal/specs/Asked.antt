@@ -1,4 +1,4 @@
--- What a node is asked behind a journal: who is entered and with what view, what the links of known peers have to send, and what it holds.
+-- What a node is asked after a journal: who is entered and with what view, what the links of known peers have to send, and what it holds.
 use Rattle.std.specs.Prelude.{◌≡◌, ◌≢◌, ℕ, ◌<◌, List, [], ◌++◌, Option, Some, None, option_map, option_and_then, map, length, if◌then◌else◌, IsSome}
 use Rattle.std.specs.List.{filter, AllByRecursion}
 use Rattle.zre_values.specs.declared.peer_id.PeerId.{PeerId}
@@ -19,32 +19,32 @@ abbrev pub view_if_entered : List Mark → Life → Option View
 view_if_entered H v = if is_entered H v then Some (view v.link H) else None
 
 -- the view of the peer with this id, where it is entered
-abbrev pub view_behind : Config → List Entry → PeerId → Option View
-view_behind g J p = option_and_then (view_if_entered (chronicle g J)) (life_of p (chronicle g J))
+abbrev pub view_after : Config → List Entry → PeerId → Option View
+view_after g J p = option_and_then (view_if_entered (chronicle g J)) (life_of p (chronicle g J))
 
 -- the link of the peer with this id, where it is known
-abbrev pub link_behind : Config → List Entry → PeerId → Option ℕ
-link_behind g J p = option_map (λ (v : Life). v.link) (life_of p (chronicle g J))
+abbrev pub link_later : Config → List Entry → PeerId → Option ℕ
+link_later g J p = option_map (λ (v : Life). v.link) (life_of p (chronicle g J))
 
 -- the entered peers, in order of birth
-abbrev pub entered_behind : Config → List Entry → List PeerId
-entered_behind g J = map (λ (v : Life). v.id) (filter (is_entered (chronicle g J)) (lives (chronicle g J)))
+abbrev pub entered_after : Config → List Entry → List PeerId
+entered_after g J = map (λ (v : Life). v.id) (filter (is_entered (chronicle g J)) (lives (chronicle g J)))
 
 -- how many octets wait on a link, where it is that of a known peer
-abbrev pub unsent_behind : Config → List Entry → ℕ → Option ℕ
-unsent_behind g J l = option_map (λ (v : Life). unsent g v.link (chronicle g J)) (life l (chronicle g J))
+abbrev pub unsent_after : Config → List Entry → ℕ → Option ℕ
+unsent_after g J l = option_map (λ (v : Life). unsent g v.link (chronicle g J)) (life l (chronicle g J))
 
 -- the octets that may go out on a link, where it is that of a known peer
-abbrev pub front_behind : Config → List Entry → ℕ → Option (List ℕ)
-front_behind g J l = option_map (λ (v : Life). front g v.link (chronicle g J)) (life l (chronicle g J))
+abbrev pub front_after : Config → List Entry → ℕ → Option (List ℕ)
+front_after g J l = option_map (λ (v : Life). front g v.link (chronicle g J)) (life l (chronicle g J))
 
 -- how many octets the node holds
-abbrev pub held_behind : Config → List Entry → ℕ
-held_behind g J = held g (chronicle g J)
+abbrev pub held_after : Config → List Entry → ℕ
+held_after g J = held g (chronicle g J)
 
 -- how many they are at most, with so many known peers and open connections
-abbrev pub bound_behind : Config → List Entry → ℕ
-bound_behind g J = bound (length (lives (chronicle g J))) (length (open_ones (chronicle g J)))
+abbrev pub bound_after : Config → List Entry → ℕ
+bound_after g J = bound (length (lives (chronicle g J))) (length (open_ones (chronicle g J)))
 
 -- some of the first of these octets, where there are any
 pub record IsFront (whole part : List ℕ) : Type 0 where

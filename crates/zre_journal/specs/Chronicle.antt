@@ -28,23 +28,23 @@ pub data Mark : Type 0 where
   -- it is closed, and the user is told why; it has been shut; it is closed at a stop
   Closes : (c : ℕ) → (why : CloseWhy) → Mark
   IsShut : (c : ℕ) → Mark
-  Drops : (c : ℕ) → Mark
+  ClosesAtStop : (c : ℕ) → Mark
   -- a peer is born, and gets the link l; a beacon of it is heard; it ends
   Born : (l : ℕ) → (p : PeerId) → (to : Endpoint) → Mark
-  Beacons : (l : ℕ) → Mark
+  HearsBeacon : (l : ℕ) → Mark
   Ends : (l : ℕ) → (cause : Cause) → Mark
   -- nothing was heard of it for the time that makes it evasive
-  Falters : (l : ℕ) → Mark
+  IsEvasive : (l : ℕ) → Mark
   -- a message is put on its link; the link is up; so many octets of it have gone out
   Puts : (l : ℕ) → (b : Body) → Mark
   Links : (l : ℕ) → Mark
-  Takes : (l n : ℕ) → Mark
+  Sends : (l n : ℕ) → Mark
   -- the node joins a group; leaves one; a command is refused
   Joins : (group : List ℕ) → Mark
   Leaves : (group : List ℕ) → Mark
   Refuses : (why : RefuseWhy) → Mark
   -- the node's own beacon goes out
-  Calls : (port : ℕ) → Mark
+  SendsBeacon : (port : ℕ) → Mark
   -- the node stops
   Stops : Mark
 

@@ -3,7 +3,7 @@ use Rattle.std.specs.Prelude.{ℕ, Bool, true, false, not, ◌&&◌, ◌||◌, L
 use Rattle.std.specs.List.{list_any, filter, find}
 use Rattle.zre_values.specs.declared.peer_id.PeerId.{PeerId}
 use Rattle.std.specs.Str.{bytes_eq}
-use Rattle.zre_journal.specs.Chronicle.{Mark, Opens, TurnsAway, Shakes, Starts, Ignores, Closes, IsShut, Drops, Ends, latest, ever}
+use Rattle.zre_journal.specs.Chronicle.{Mark, Opens, TurnsAway, Shakes, Starts, Ignores, Closes, IsShut, ClosesAtStop, Ends, latest, ever}
 use Rattle.zre_journal.specs.Heard.{clock}
 
 -- the numbers but n
@@ -16,7 +16,7 @@ open_ones [] = []
 open_ones (Opens c ∷ H) = open_ones H ++ c ∷ []
 open_ones (Closes c why ∷ H) = others c (open_ones H)
 open_ones (IsShut c ∷ H) = others c (open_ones H)
-open_ones (Drops c ∷ H) = others c (open_ones H)
+open_ones (ClosesAtStop c ∷ H) = others c (open_ones H)
 open_ones (_ ∷ H) = open_ones H
 
 abbrev pub is_open : ℕ → List Mark → Bool

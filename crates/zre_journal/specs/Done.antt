@@ -13,7 +13,7 @@ use Rattle.zre_peer.specs.declared.causes.Cause.TheVariants as cause
 use Rattle.zre_outside.specs.declared.act.Act.{Act}
 use Rattle.zre_outside.specs.declared.act.Act.TheVariants as act
 use Rattle.zre_journal.specs.declared.config.Config.{Config}
-use Rattle.zre_journal.specs.Chronicle.{Mark, Opens, TurnsAway, Greets, Closes, Drops, Born, Ends, Puts, Calls}
+use Rattle.zre_journal.specs.Chronicle.{Mark, Opens, TurnsAway, Greets, Closes, ClosesAtStop, Born, Ends, Puts, SendsBeacon}
 use Rattle.zre_journal.specs.Peers.{Life, lives}
 use Rattle.zre_journal.specs.Links.{gate, taken}
 use Rattle.zre_journal.specs.Happens.{has_stopped, marks, with_entry}
@@ -29,10 +29,10 @@ done_at own (Born l p e) = act.Connect l e ∷ []
 done_at own (Ends l why) = close_link l why
 done_at own (TurnsAway c) = act.CloseConn c ∷ []
 done_at own (Closes c why) = act.CloseConn c ∷ []
-done_at own (Drops c) = act.CloseConn c ∷ []
+done_at own (ClosesAtStop c) = act.CloseConn c ∷ []
 done_at own (Opens c) = act.Answer c own_greeting ∷ []
 done_at own (Greets c) = act.Answer c (ready_frame socket.Router None) ∷ []
-done_at own (Calls port) = act.Beacon (beacon_octets own port) ∷ []
+done_at own (SendsBeacon port) = act.Beacon (beacon_octets own port) ∷ []
 done_at own _ = []
 
 -- what marks do, one after the other; own is the node's identity
@@ -58,6 +58,6 @@ is_offered g e hs K v = (list_any (puts v.link) hs || names v.link e.input) && n
 abbrev pub offers : Config → Entry → List Mark → List Mark → List Act
 offers g e hs K = map (λ (v : Life). act.Offer v.link) (filter (is_offered g e hs K) (lives K))
 
--- the acts of one entry behind H; after a stop there are none
+-- the acts of one entry after H; after a stop there are none
 abbrev pub acts_at : Config → Entry → List Mark → List Act
 acts_at g e H = if has_stopped H then [] else done g.id (marks g e H) ++ offers g e (marks g e H) (with_entry g e H)

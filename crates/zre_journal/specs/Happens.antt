@@ -30,9 +30,9 @@ use Rattle.zre_peer.specs.declared.causes.RefuseWhy.TheVariants as refuse
 use Rattle.zre_link.specs.Text.{size_of}
 use Rattle.zre_link.specs.Heard.{reply_fault}
 use Rattle.zre_journal.specs.declared.config.Config.{Config}
-use Rattle.zre_journal.specs.Chronicle.{Mark, Comes, Opens, TurnsAway, Greets, Shakes, Starts, Counts, Ignores, Closes, IsShut, Drops, Born, Beacons, Ends, Falters, Puts, Links, Takes, Joins, Leaves, Refuses, Calls, Stops, after, ever, in_turn}
+use Rattle.zre_journal.specs.Chronicle.{Mark, Comes, Opens, TurnsAway, Greets, Shakes, Starts, Counts, Ignores, Closes, IsShut, ClosesAtStop, Born, HearsBeacon, Ends, IsEvasive, Puts, Links, Sends, Joins, Leaves, Refuses, SendsBeacon, Stops, after, ever, in_turn}
 use Rattle.zre_journal.specs.Config.{own_endpoint}
-use Rattle.zre_journal.specs.Heard.{clock, newly_said}
+use Rattle.zre_journal.specs.Heard.{clock, completed}
 use Rattle.zre_journal.specs.Connections.{open_ones, is_open, is_new, identity, runs, is_live, since, other_with}
 use Rattle.zre_journal.specs.Peers.{Life, lives, births, life_of, life, is_entered, counted, view, active}
 use Rattle.zre_journal.specs.Links.{groups, status, bodies, unsent, is_linked, replies, gate, taken}
@@ -74,7 +74,7 @@ module _ (g : Config) where
   is_welcome p port known = not (nat_eq port 0) && (not (bytes_eq p.0 g.id.0) && nat_lt known PEERS)
 
   abbrev pub at_beacon : List ℕ → PeerId → ℕ → Option Life → List Mark → List Mark
-  at_beacon from p port (Some v) K = if nat_eq port 0 then Ends v.link cause.Beacon ∷ [] else Beacons v.link ∷ []
+  at_beacon from p port (Some v) K = if nat_eq port 0 then Ends v.link cause.Beacon ∷ [] else HearsBeacon v.link ∷ []
   at_beacon from p port None K =
       if is_welcome p port (length (lives K)) then birth p (record { addr = from; port = port }) K else []
 
@@ -174,7 +174,7 @@ module _ (g : Config) where
 
   abbrev pub at_took : ℕ → ℕ → Option Life → List Mark → List Mark
   at_took l n None K = []
-  at_took l n (Some v) K = Takes l (min n (gate g l K - taken l K)) ∷ []
+  at_took l n (Some v) K = Sends l (min n (gate g l K - taken l K)) ∷ []
 
   -- ---- Tick
   abbrev pub is_silent : ℕ → List Mark → Life → Bool
@@ -184,7 +184,7 @@ module _ (g : Config) where
   is_faltering K v = is_entered K v && not (is_silent g.expired K v) && is_silent g.evasive K v
 
   abbrev pub falter : List Life → List Mark → List Mark
-  falter vs K = in_turn (λ (v : Life) J. Falters v.link ∷ push v.link body.Ping J) vs K
+  falter vs K = in_turn (λ (v : Life) J. IsEvasive v.link ∷ push v.link body.Ping J) vs K
 
   abbrev pub is_stale : List Mark → ℕ → Bool
   is_stale K c = is_none (runs c K) && nat_le g.expired (clock K - since c K)
@@ -194,7 +194,7 @@ module _ (g : Config) where
       map (λ (v : Life). Ends v.link cause.Expired) (filter (is_silent g.expired K) (lives K))
       ++ falter (filter (is_faltering K) (lives K)) K
       ++ map (λ c. Closes c close.Timeout) (filter (is_stale K) (open_ones K))
-      ++ Calls g.port ∷ []
+      ++ SendsBeacon g.port ∷ []
 
   -- ---- commands
   abbrev pub at_join : List ℕ → List Mark → List Mark
@@ -229,7 +229,7 @@ module _ (g : Config) where
       else push_all (filter (is_member group K) (lives K)) (body.Shout group content) K
 
   abbrev pub at_stop : List Mark → List Mark
-  at_stop K = map (λ (v : Life). Ends v.link cause.Stop) (lives K) ++ map (λ c. Drops c) (open_ones K) ++ Calls 0 ∷ Stops ∷ []
+  at_stop K = map (λ (v : Life). Ends v.link cause.Stop) (lives K) ++ map (λ c. ClosesAtStop c) (open_ones K) ++ SendsBeacon 0 ∷ Stops ∷ []
 
   abbrev pub at_command : Command → List Mark → List Mark
   at_command (command.Join group) K = at_join group K
@@ -243,7 +243,7 @@ module _ (g : Config) where
   abbrev pub at_input : Input → List Mark → List Mark → List Mark
   at_input (input.Datagram from o) H K = at_datagram from (beacon_in o) K
   at_input (input.Opened c) H K = at_opened c K
-  at_input (input.Piece c o) H K = at_places c (newly_said g.id c H K) K
+  at_input (input.Piece c o) H K = at_places c (completed g.id c H K) K
   at_input (input.Shut c) H K = at_shut c K
   at_input (input.Linked l) H K = at_linked l (life l K) K
   at_input (input.Reply l o) H K = at_reply l (life l K) K
@@ -257,11 +257,11 @@ module _ (g : Config) where
   abbrev pub marks : Entry → List Mark → List Mark
   marks e H = if has_stopped H then [] else at_input e.input H (Comes e ∷ H)
 
-  -- the chronicle H, behind one more entry
+  -- the chronicle H, after one more entry
   abbrev pub with_entry : Entry → List Mark → List Mark
   with_entry e H = after (marks e H) (Comes e ∷ H)
 
   -- the chronicle of entries that come after H
-  abbrev pub chronicle_behind : List Entry → List Mark → List Mark
-  chronicle_behind [] H = H
-  chronicle_behind (e ∷ es) H = chronicle_behind es (with_entry e H)
+  abbrev pub chronicle_after : List Entry → List Mark → List Mark
+  chronicle_after [] H = H
+  chronicle_after (e ∷ es) H = chronicle_after es (with_entry e H)

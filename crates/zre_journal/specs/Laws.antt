@@ -11,14 +11,14 @@ use Rattle.zre_journal.specs.declared.config.Config.{Config}
 use Rattle.zre_journal.specs.Chronicle.{Mark, Starts, Counts, each}
 use Rattle.zre_journal.specs.Connections.{open_ones, is_open, identity, runs, ends, has_ended}
 use Rattle.zre_journal.specs.Peers.{Life, lives, life, runner, counted, view}
-use Rattle.zre_journal.specs.Happens.{has_stopped, chronicle_behind}
-use Rattle.zre_journal.specs.Events.{events_behind, acts_behind, chronicle, events, acts}
+use Rattle.zre_journal.specs.Happens.{has_stopped, chronicle_after}
+use Rattle.zre_journal.specs.Events.{events_after, acts_after, chronicle, events, acts}
 
 -- What J brought about stays, and K adds to it.
 pub record Continues (g : Config) (J K : List Entry) : Type 0 where
-  pub happened : chronicle g (J ++ K) ≡ chronicle_behind g K (chronicle g J)
-  pub told : events g (J ++ K) ≡ events g J ++ events_behind g K (chronicle g J)
-  pub done : acts g (J ++ K) ≡ acts g J ++ acts_behind g K (chronicle g J)
+  pub happened : chronicle g (J ++ K) ≡ chronicle_after g K (chronicle g J)
+  pub told : events g (J ++ K) ≡ events g J ++ events_after g K (chronicle g J)
+  pub done : acts g (J ++ K) ≡ acts g J ++ acts_after g K (chronicle g J)
 
 -- The node has stopped in J, and K changes nothing.
 pub record HasEnded (g : Config) (J K : List Entry) : Type 0 where

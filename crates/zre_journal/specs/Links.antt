@@ -9,7 +9,7 @@ use Rattle.zre_link.specs.Text.{numbered_from, text_of}
 use Rattle.zre_link.specs.Heard.{awaited}
 use Rattle.zre_link.specs.Link.{gate_by}
 use Rattle.zre_journal.specs.declared.config.Config.{Config}
-use Rattle.zre_journal.specs.Chronicle.{Mark, Comes, Puts, Links, Takes, Joins, Leaves, each, ever}
+use Rattle.zre_journal.specs.Chronicle.{Mark, Comes, Puts, Links, Sends, Joins, Leaves, each, ever}
 
 -- the groups that the node has joined and not left since, in order
 abbrev pub groups : List Mark → List (List ℕ)
@@ -71,7 +71,7 @@ gate g l H = if is_linked l H then gate_by (awaited (replies l H)) (length (text
 -- how many have gone out
 abbrev pub taken : ℕ → List Mark → ℕ
 taken l [] = 0
-taken l (Takes k n ∷ H) = if nat_eq l k then taken l H + n else taken l H
+taken l (Sends k n ∷ H) = if nat_eq l k then taken l H + n else taken l H
 taken l (_ ∷ H) = taken l H
 
 -- how many have not

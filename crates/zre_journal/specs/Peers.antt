@@ -5,7 +5,7 @@ use Rattle.std.specs.Str.{bytes_eq}
 use Rattle.zre_values.specs.declared.peer_id.PeerId.{PeerId}
 use Rattle.zre_values.specs.declared.endpoint.Endpoint.{Endpoint}
 use Rattle.zre_msg.specs.declared.message.Message.{Message}
-use Rattle.zre_journal.specs.Chronicle.{Mark, Starts, Counts, Born, Beacons, Ends, latest, each}
+use Rattle.zre_journal.specs.Chronicle.{Mark, Starts, Counts, Born, HearsBeacon, Ends, latest, each}
 use Rattle.zre_journal.specs.Heard.{clock}
 use Rattle.zre_peer.specs.declared.view.View.{View}
 use Rattle.zre_peer.specs.Views.{view_of}
@@ -66,7 +66,7 @@ view l H = view_of (counted l H)
 -- whether the mark shows that the peer is there: its birth, its beacon, its start, a counted message
 abbrev pub refreshes : ℕ → Mark → Bool
 refreshes l (Born k p e) = nat_eq l k
-refreshes l (Beacons k) = nat_eq l k
+refreshes l (HearsBeacon k) = nat_eq l k
 refreshes l (Starts c k m) = nat_eq l k
 refreshes l (Counts c k m) = nat_eq l k
 refreshes l _ = false

@@ -26,15 +26,15 @@ abbrev pub is_enter : Event → Bool
 is_enter (event.Enter id name endpoint headers) = true
 is_enter _ = false
 
--- whether p is in behind an event, where b says whether it was before it
-abbrev pub in_behind : PeerId → Bool → Event → Bool
-in_behind p b (event.Enter id name endpoint headers) = if bytes_eq p.0 id.0 then true else b
-in_behind p b (event.Exit id name why) = if bytes_eq p.0 id.0 then false else b
-in_behind p b _ = b
+-- whether p is in after an event, where b says whether it was before it
+abbrev pub in_after : PeerId → Bool → Event → Bool
+in_after p b (event.Enter id name endpoint headers) = if bytes_eq p.0 id.0 then true else b
+in_after p b (event.Exit id name why) = if bytes_eq p.0 id.0 then false else b
+in_after p b _ = b
 
--- whether p is in behind these events: it has entered, and hasn't gone since
+-- whether p is in after these events: it has entered, and hasn't gone since
 abbrev pub is_in : PeerId → List Event → Bool
-is_in p es = fold (in_behind p) false es
+is_in p es = fold (in_after p) false es
 
 abbrev pub entered_if : Option Life → List Mark → Bool
 entered_if None H = false
@@ -47,7 +47,7 @@ has_entered p H = entered_if (life_of p H) H
 -- An event of a peer is its ENTER where the peer isn't in, and another where it is. So all that is told of it stands between an ENTER and the next EXIT,
 -- and H, from which the events come, says the same of who is in.
 pub record AreInTurn (es : List Event) (H : List Mark) : Type 0 where
-  pub enters_first : (before behind : List Event) (e : Event) (p : PeerId) → es ≡ before ++ e ∷ behind → subject e ≡ Some p → is_enter e ≡ not (is_in p before)
+  pub enters_first : (before later : List Event) (e : Event) (p : PeerId) → es ≡ before ++ e ∷ later → subject e ≡ Some p → is_enter e ≡ not (is_in p before)
   pub stands : (p : PeerId) → is_in p es ≡ has_entered p H
 
 -- the events of a run of p, with one more event, where these were so far: ENTER begins a run anew, and EVASIVE isn't counted

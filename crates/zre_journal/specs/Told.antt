@@ -5,7 +5,7 @@ use Rattle.zre_peer.specs.declared.causes.CloseWhy.TheVariants as close
 use Rattle.zre_peer.specs.declared.event.Event.{Event}
 use Rattle.zre_peer.specs.declared.event.Event.TheVariants as event
 use Rattle.zre_msg.specs.declared.message.Message.{Message}
-use Rattle.zre_journal.specs.Chronicle.{Mark, TurnsAway, Starts, Counts, Ignores, Closes, Ends, Falters, Refuses, Stops}
+use Rattle.zre_journal.specs.Chronicle.{Mark, TurnsAway, Starts, Counts, Ignores, Closes, Ends, IsEvasive, Refuses, Stops}
 use Rattle.zre_peer.specs.Runs.{events_of}
 use Rattle.zre_journal.specs.Peers.{Life, life, is_entered, view}
 
@@ -30,7 +30,7 @@ told_at (Ignores c why) H = event.Ignored c why ∷ []
 told_at (Starts c l m) H = by_message (life l H) m H
 told_at (Counts c l m) H = by_message (life l H) m H
 told_at (Ends l why) H = exit (life l H) why H
-told_at (Falters l) H = faltering (life l H) H
+told_at (IsEvasive l) H = faltering (life l H) H
 told_at (Refuses why) H = event.Refused why ∷ []
 told_at Stops H = event.Stop ∷ []
 told_at _ H = []

@@ -30,9 +30,9 @@ pub struct Config {
     pub host: [u8; 4],
     /// The TCP port of its mailbox, which isn't 0.
     pub port: u16,
-    /// Milliseconds of silence behind which a peer is evasive.
+    /// Milliseconds of silence after which a peer is evasive.
     pub evasive: u64,
-    /// Milliseconds of silence behind which it has expired.
+    /// Milliseconds of silence after which it has expired.
     pub expired: u64,
 }
 
@@ -43,7 +43,7 @@ fn has_name(headers: &[(Octets, Octets)], name: &[u8]) -> bool
     headers.iter().any(|header| header.0.as_slice() == name)
 }
 
-// Whether no two headers have one name. There are few of them, so each is compared with all behind it.
+// Whether no two headers have one name. There are few of them, so each is compared with all after it.
 fn are_apart(headers: &[(Octets, Octets)]) -> bool
     ensures { result ≡ are_apart headers.now }
 {

@@ -7,8 +7,8 @@ ghost use Rattle.zre_journal.specs.Endings.{is_end};
 ghost use Rattle.zre_journal.specs.declared.config.Config.{Config};
 ghost use Rattle.zre_journal.specs.Asked.{AreDue};
 ghost use Rattle.zre_journal.specs.Chronicle.{Mark};
-ghost use Rattle.zre_journal.specs.Events.{acts_behind, chronicle, events};
-ghost use Rattle.zre_journal.specs.Asked.{held_behind, bound_behind};
+ghost use Rattle.zre_journal.specs.Events.{acts_after, chronicle, events};
+ghost use Rattle.zre_journal.specs.Asked.{held_after, bound_after};
 ghost use Rattle.zre_journal.specs.Config.{CanBe};
 ghost use Rattle.zre_journal.specs.Held.{Within};
 ghost use Rattle.zre_journal.specs.Introducing.{CanIntroduce, Introduces};
@@ -53,7 +53,7 @@ pub fn peers_and_connections_are_few()
     ensures { (g : Config) (J : List Entry) → AreFew (chronicle g J) }
 {}
 
-/// All that is told of a peer stands between an ENTER and the EXIT behind it: an ENTER comes only where the peer isn't
+/// All that is told of a peer stands between an ENTER and the EXIT after it: an ENTER comes only where the peer isn't
 /// in, and all else only where it is. A peer is in exactly where it is known and entered.
 pub fn events_of_a_peer_are_in_turn()
     ensures { (g : Config) (J : List Entry) → AreInTurn (events g J) (chronicle g J) }
@@ -85,12 +85,12 @@ pub fn hello_fits()
 
 /// Where a link is to be looked at, its peer is known and it has octets that may go out.
 pub fn offers_are_due()
-    ensures { (g : Config) (J : List Entry) (e : Entry) → AreDue g (chronicle g (J ++ e ∷ [])) (acts_behind g (e ∷ []) (chronicle g J)) }
+    ensures { (g : Config) (J : List Entry) (e : Entry) → AreDue g (chronicle g (J ++ e ∷ [])) (acts_after g (e ∷ []) (chronicle g J)) }
 {}
 
 /// What a node holds has a limit in each part, and so altogether one that its known peers and its open connections set:
 /// below 2.3 GB with as many of both as there may be.
 pub fn what_is_held_is_bounded()
     ensures parts { (g : Config) (J : List Entry) → CanBe g → Within g (chronicle g J) }
-    ensures all { (g : Config) (J : List Entry) → CanBe g → held_behind g J ≤ bound_behind g J }
+    ensures all { (g : Config) (J : List Entry) → CanBe g → held_after g J ≤ bound_after g J }
 {}

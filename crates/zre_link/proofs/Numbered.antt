@@ -30,8 +30,8 @@ text_more own bs b =
     ap (λ (l : List ℕ). handshake Dealer (Some own) ++ l) (octets_from 1 bs b)
     ∙ sym (append_assoc (handshake Dealer (Some own)) (flat_map octets (numbered_from 1 bs)) (octets (next_message bs b)))
 
--- what a link keeps behind one more body
-behind_body : (own : PeerId) (bs : List Body) (b : Body) (linked : Bool) (o : List ℕ) (n : ℕ) → n ≤ length (text_of own bs)
+-- what a link keeps after one more body
+after_body : (own : PeerId) (bs : List Body) (b : Body) (linked : Bool) (o : List ℕ) (n : ℕ) → n ≤ length (text_of own bs)
     → let now : Sending = record {
       queue = drop n (text_of own bs) ++ octets (next_message bs b);
       sent = length bs + 1;
@@ -40,7 +40,7 @@ behind_body : (own : PeerId) (bs : List Body) (b : Body) (linked : Bool) (o : Li
       linked = linked;
       replies = heard_after o;
     } in now ≡ link_after own (bs ++ b ∷ []) linked o n
-behind_body own bs b linked o n within =
+after_body own bs b linked o n within =
     let more = octets (next_message bs b) in
     let make : List ℕ → ℕ → ℕ → Sending = λ q s w. record { queue = q; sent = s; written = w; taken = n; linked = linked; replies = heard_after o } in
     ap (λ q. make q (length bs + 1) (length (text_of own bs) + length more)) (sym (drop-append-le n (text_of own bs) more within) ∙ ap (λ (t : List ℕ). drop n t) (sym (text_more own bs b)))
@@ -68,5 +68,5 @@ pushed own bs b body linked o n was queue sent written e whole count same q =
           ∙ ap (λ x. make (drop n (text_of own bs) ++ octets (next_message bs body)) (length bs + 1) x was.taken was.linked was.replies)
           (q.1 ∙ ap (λ x. was.written + x) size ∙ ap (λ (s : Sending). s.written + size_of bs body) e)
           ∙ ap (λ (s : Sending). make (drop n (text_of own bs) ++ octets (next_message bs body)) (length bs + 1) (length (text_of own bs) + size_of bs body) s.taken s.linked s.replies) e
-          ∙ behind_body own bs body linked o n within,
+          ∙ after_body own bs body linked o n within,
     )

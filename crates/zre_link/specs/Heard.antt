@@ -22,7 +22,7 @@ awaited o = expected Whole (split Router Whole o).0
 
 -- ---- what is kept
 
--- what a reader keeps behind replies without a fault
+-- what a reader keeps after replies without a fault
 abbrev pub reading : List ℕ → Reading
 reading o = record { before = before Whole (split Router Whole o).0; left = (split Router Whole o).1; spent = false; wanted = Router }
 
@@ -36,7 +36,7 @@ pub record Heard : Type 0 where
   pub awaits : Expected
   pub hearing : Hearing
 
--- behind the replies o, which came in whichever pieces
+-- after the replies o, which came in whichever pieces
 abbrev pub heard_after : List ℕ → Heard
 heard_after o = record { awaits = awaited o; hearing = hearing_by (reply_fault o) (reading o) }
 
@@ -57,8 +57,8 @@ expected_of awaits.Greeting = expect.Greeting
 expected_of awaits.Ready = expect.Ready
 expected_of awaits.Traffic = expect.Traffic
 
--- what comes next behind so many items more
-abbrev pub expected_behind : Expected → ℕ → Expected
-expected_behind e zero = e
-expected_behind expect.Greeting (suc zero) = expect.Ready
-expected_behind e (suc n) = expect.Traffic
+-- what comes next after so many items more
+abbrev pub expected_after : Expected → ℕ → Expected
+expected_after e zero = e
+expected_after expect.Greeting (suc zero) = expect.Ready
+expected_after e (suc n) = expect.Traffic

@@ -22,7 +22,7 @@ pub record Sending : Type 0 where
   pub linked : Bool
   pub replies : Heard
 
--- the link of the node `own` on which these bodies were put, behind the replies o, when n octets have gone out
+-- the link of the node `own` on which these bodies were put, after the replies o, when n octets have gone out
 abbrev pub link_after : PeerId → List Body → Bool → List ℕ → ℕ → Sending
 link_after own bodies linked o n = record {
   queue = drop n (text_of own bodies);
@@ -35,7 +35,7 @@ link_after own bodies linked o n = record {
 
 -- ---- what goes out
 
--- how many of all these octets may go out: the greeting at once, READY behind the greeting of the other end, and the messages behind its READY
+-- how many of all these octets may go out: the greeting at once, READY after the greeting of the other end, and the messages after its READY
 abbrev pub gate_by : Expected → ℕ → ℕ
 gate_by expect.Greeting all = 64
 gate_by expect.Ready all = 124
@@ -73,7 +73,7 @@ pub record IsSlow (waiting takes unsent size : ℕ) : Type 0 where
   pub size_is : size ≡ takes
   pub above : UNSENT_OCTETS < waiting + takes
 
--- why a body wasn't put: Slow tells both numbers, and for want of memory nothing is said
+-- why a body wasn't put: Slow tells both numbers, and of OutOfMemory nothing is said
 abbrev pub RefusesPush : PushFault → ℕ → ℕ → Type 0
 RefusesPush (Slow unsent size) waiting takes = IsSlow waiting takes unsent size
 RefusesPush OutOfMemory waiting takes = Unit {0}

@@ -1,7 +1,7 @@
 //! How far the other end has come.
 
 ghost use Rattle.std.specs.Prelude.{◌≡◌};
-ghost use Rattle.zre_link.specs.Heard.{expected_of, expected_behind};
+ghost use Rattle.zre_link.specs.Heard.{expected_of, expected_after};
 
 /// What the other end has to send next.
 #[derive(Clone, Copy, Debug, PartialEq, Eq)]
@@ -16,8 +16,8 @@ pub enum Awaits {
 
 impl Awaits {
     /// What comes next when so many items more are whole: the greeting is the first, and READY the second.
-    pub fn behind(self, items: usize) -> Self
-        ensures { expected_of result ≡ expected_behind (expected_of self) items }
+    pub fn after(self, items: usize) -> Self
+        ensures { expected_of result ≡ expected_after (expected_of self) items }
     {
         match (self, items) {
             (_, 0) => self,

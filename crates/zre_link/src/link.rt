@@ -70,7 +70,7 @@ fn handshake_of(alloc: Global, own: PeerId) -> Result<Octets, OutOfMemory>
     Ok(octets)
 }
 
-// Queues a message behind `written` octets, unless it passes the limit, and answers how many there are with it.
+// Queues a message after `written` octets, unless it passes the limit, and answers how many there are with it.
 fn queue_message(
     alloc: Global,
     queue: &mut Queue,
@@ -160,7 +160,7 @@ impl Link {
     }
 
     /// Reads one more piece of what comes back, which is the stream of a ROUTER (RFC 23). Its messages and commands are
-    /// dropped. A fault stays: each further piece is refused with it. After want of memory what is kept of the replies is
+    /// dropped. A fault stays: each further piece is refused with it. After OutOfMemory what is kept of the replies is
     /// left open.
     pub fn reply(&mut self, piece: &[u8]) -> Result<(), FeedFault>
         requires { self.old.linked ≡ true }

@@ -6,7 +6,7 @@ use std::alloc::Global;
 use std::marker::Model;
 use zre_values::{Octets, OutOfMemory};
 
-/// Octets in one buffer, appended at its end and removed at its front. Octets that were removed stay in front of `start`
+/// Octets in one buffer, appended at its end and removed at its front. Octets that were removed stay before `start`
 /// until they are as many as those that wait; so the buffer has at most twice as many as wait, and each octet is moved
 /// at most once for each that is removed.
 #[derive(Debug, Drop)]

@@ -2,7 +2,7 @@
 
 ghost use Rattle.std.specs.Prelude.{◌≡◌, ℕ, ◌+◌, ◌≤◌, List, [], ◌++◌, None, IfOk, OnOk, IfErr};
 ghost use Rattle.zre_values.specs.declared.limits.TheConstants.{MESSAGE_OCTETS, COMMAND_OCTETS};
-ghost use Rattle.zre_zmtp.specs.Reading.{Reads as IsBehind, Refuses};
+ghost use Rattle.zre_zmtp.specs.Reading.{Reads as IsAfter, Refuses};
 ghost use Rattle.zre_zmtp.specs.Stream.{Whole};
 ghost use Rattle.zre_zmtp.specs.declared.want.Want.TheVariants.{Router};
 ghost use Rattle.zre_link.specs.Heard.{reply_fault, awaited, heard_after, kept_of, expected_of};
@@ -30,16 +30,16 @@ impl Model for Replies {
     ghost view = { λ r. record { awaits = expected_of r.awaits; hearing = r.hearing } };
 }
 
-// Reads a piece, and notes what is awaited behind it. The reader is given up where the piece is refused.
+// Reads a piece, and notes what is awaited after it. The reader is given up where the piece is refused.
 fn read_piece(
     alloc: Global,
     mut reader: Reader,
     piece: &[u8],
     awaits: &mut Awaits,
 ) -> Result<Reader, FeedFault>
-    ensures ok { (o : List ℕ) → IsBehind Router Whole o reader → expected_of awaits.old ≡ awaited o →
-        IfOk result (λ r. IsBehind Router Whole (o ++ piece.now) r × (expected_of awaits.new ≡ awaited (o ++ piece.now))) }
-    ensures refused { (o : List ℕ) → IsBehind Router Whole o reader → expected_of awaits.old ≡ awaited o →
+    ensures ok { (o : List ℕ) → IsAfter Router Whole o reader → expected_of awaits.old ≡ awaited o →
+        IfOk result (λ r. IsAfter Router Whole (o ++ piece.now) r × (expected_of awaits.new ≡ awaited (o ++ piece.now))) }
+    ensures refused { (o : List ℕ) → IsAfter Router Whole o reader → expected_of awaits.old ≡ awaited o →
         IfErr result (λ e. Refuses e (reply_fault (o ++ piece.now)) (expected_of awaits.new ≡ awaited (o ++ piece.now))) }
 {
     if reader.spent() {
@@ -47,7 +47,7 @@ fn read_piece(
     }
     let mut items = Items::new(alloc);
     let fed = reader.feed(piece, &mut items);
-    *awaits = awaits.behind(items.len());
+    *awaits = awaits.after(items.len());
     match fed {
         Ok(()) => Ok(reader),
         Err(fault) => Err(fault),

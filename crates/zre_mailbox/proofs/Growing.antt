@@ -17,13 +17,13 @@ use Rattle.zre_mailbox.specs.Talk.{Said, Arrived, arrival_of, arrivals_in, arriv
 pub arrivals_in-append : (xs ys : List Item) → arrivals_in (xs ++ ys) ≡ arrivals_in xs ++ arrivals_in ys
 arrivals_in-append xs ys = filter_map-append (λ item. arrival_of item.what) xs ys
 
--- what is behind a front is what was put there
-behind : {A : Type 0} (front rest all : List A) → all ≡ front ++ rest → drop (length front) all ≡ rest
-behind {A} front rest all e = ap (λ (l : List A). drop (length front) l) e ∙ drop_at front rest (length front) refl
+-- what is after a front is what was put there
+later : {A : Type 0} (front rest all : List A) → all ≡ front ++ rest → drop (length front) all ≡ rest
+later {A} front rest all e = ap (λ (l : List A). drop (length front) l) e ∙ drop_at front rest (length front) refl
 
--- a list that begins with another is that one and what is behind it
+-- a list that begins with another is that one and what is after it
 begins : {A : Type 0} (front rest all : List A) → all ≡ front ++ rest → all ≡ front ++ drop (length front) all
-begins {A} front rest all e = e ∙ ap (λ (l : List A). front ++ l) (sym (behind front rest all e))
+begins {A} front rest all e = e ∙ ap (λ (l : List A). front ++ l) (sym (later front rest all e))
 
 map-append : {A B : Type 0} (f : A → B) (xs ys : List A) → map f (xs ++ ys) ≡ map f xs ++ map f ys
 map-append f [] ys = refl
@@ -34,7 +34,7 @@ arrivals_more : (own : PeerId) (o more : List ℕ) → arrivals own (o ++ more) 
 arrivals_more own o more = ap arrivals_in (extends (Dealer own) Whole o more) ∙ arrivals_in-append (items (Dealer own) Whole o) (new_items (Dealer own) Whole o more)
 
 pub new_arrivals-items : (own : PeerId) (o more : List ℕ) → new_arrivals own o more ≡ arrivals_in (new_items (Dealer own) Whole o more)
-new_arrivals-items own o more = behind (arrivals own o) _ _ (arrivals_more own o more)
+new_arrivals-items own o more = later (arrivals own o) _ _ (arrivals_more own o more)
 
 pub arrivals_grow : (own : PeerId) (o more : List ℕ) → arrivals own (o ++ more) ≡ arrivals own o ++ new_arrivals own o more
 arrivals_grow own o more = begins (arrivals own o) _ _ (arrivals_more own o more)
@@ -50,7 +50,7 @@ talk_on own o more none =
     ∙ append_assoc (told (arrivals own o)) (told (new_arrivals own o more)) last
     ∙ ap (λ (l : List Said). l ++ (told (new_arrivals own o more) ++ last)) (sym front)
 
--- behind a fault nothing is said
+-- after a fault nothing is said
 pub talk_over : (own : PeerId) (o more : List ℕ) (f : ZmtpFault) → fault_in own o ≡ Some f → talk own (o ++ more) ≡ talk own o
 talk_over own o more f e =
     let h : IsOver (Dealer own) Whole o = is_over (Dealer own) Whole o f e in
@@ -58,7 +58,7 @@ talk_over own o more f e =
     ∙ ap (λ x. map (λ a. Arrived a) (arrivals own o) ++ fault_said x) (h.fault more)
 
 completed_over : (own : PeerId) (o more : List ℕ) (f : ZmtpFault) → fault_in own o ≡ Some f → completed own o more ≡ []
-completed_over own o more f e = behind (talk own o) [] _ (talk_over own o more f e ∙ sym (append-nil (talk own o)))
+completed_over own o more f e = later (talk own o) [] _ (talk_over own o more f e ∙ sym (append-nil (talk own o)))
 
 said_more : (own : PeerId) (o more : List ℕ) → talk own (o ++ more) ≡ talk own o ++ completed own o more
 said_more own o more =
@@ -71,13 +71,13 @@ pub goes : (own : PeerId) (o more : List ℕ) → Goes own o more
 goes own o more = record {
   said = said_more own o more;
   arrived = arrivals_grow own o more;
-  faultless = λ none. behind (talk own o) _ _ (talk_on own o more none);
+  faultless = λ none. later (talk own o) _ _ (talk_on own o more none);
   over = λ f e. (talk_over own o more f e, completed_over own o more f e);
 }
 
 pub completed-append : (own : PeerId) (o a b : List ℕ) → completed own o (a ++ b) ≡ completed own o a ++ completed own (o ++ a) b
 completed-append own o a b =
-    behind (talk own o) (completed own o a ++ completed own (o ++ a) b) _ (
+    later (talk own o) (completed own o a ++ completed own (o ++ a) b) _ (
     ap (λ l. talk own l) (sym (append_assoc o a b)) ∙ said_more own (o ++ a) b ∙ ap (λ (l : List Said). l ++ completed own (o ++ a) b) (said_more own o a)
     ∙ append_assoc (talk own o) (completed own o a) (completed own (o ++ a) b)
     )

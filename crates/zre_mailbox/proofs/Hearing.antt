@@ -75,7 +75,7 @@ live_by : (f : Option ZmtpFault) (r0 r : Reading) → phase_by f r0 ≡ Live r �
 live_by None r0 r e = (refl, cc)
 live_by (Some x) r0 r e = absurd cc
 
--- its reader stands behind the octets
+-- its reader stands after the octets
 pub live_reads : (own : PeerId) (o : List ℕ) (h : Hearing) (r : Reading) → h ≡ conn_after own o → h.phase ≡ Live r → Reads (Dealer own) Whole o r
 live_reads own o h r e live =
     let p = live_by (fault_in own o) (reading (Dealer own) Whole o) r (sym (ap (λ (x : Hearing). x.phase) e) ∙ live) in
@@ -84,7 +84,7 @@ live_reads own o h r e live =
 same_hearing : (p q : Phase) (i j : Option PeerId) → p ≡ q → i ≡ j → let a : Hearing = record { phase = p; identity = i } in let b : Hearing = record { phase = q; identity = j } in a ≡ b
 same_hearing p q i j e f = let make : Phase → Option PeerId → Hearing = λ x y. record { phase = x; identity = y } in ap (λ x. make x i) e ∙ ap (λ y. make q y) f
 
--- a reader that stands behind them makes the connection
+-- a reader that stands after them makes the connection
 pub is_live : (own : PeerId) (o : List ℕ) (r : Reading) (i : Option PeerId) → Reads (Dealer own) Whole o r → i ≡ identity_in (arrivals own o) → let h : Hearing = record { phase = Live r; identity = i } in h ≡ conn_after own o
 is_live own o r i h e =
     same_hearing _ _ _ _ (ap (λ x. Live x) (reads_is (Dealer own) Whole o r h) ∙ sym (ap (λ f. phase_by f (reading (Dealer own) Whole o)) h.faultless)) e

@@ -25,7 +25,7 @@ use Rattle.zre_zmtp.proofs.Grow.{IsWhole, is_whole-from, body-more}
 use Rattle.zre_zmtp.proofs.Stay.{is_part, IsPart, frame-len}
 use Rattle.zre_zmtp.proofs.Cuts.{cases_Option, cut-none, cut-some}
 use Rattle.zre_zmtp.proofs.Exact.{exact}
-use Rattle.zre_zmtp.proofs.Later.{head_fine, why_behind}
+use Rattle.zre_zmtp.proofs.Later.{head_fine, why_after}
 use Rattle.zre_msg.specs.Reading.{read_frames}
 use Rattle.zre_msg.specs.declared.message.Message.{Message as MessageValue}
 use Rattle.zre_mailbox.specs.declared.arrival.Arrival.{Arrival}
@@ -123,7 +123,7 @@ ready_peer own b o len ready e =
     let w = frame-len o len p.len in
     let right : frame_why want b o ≡ None = no_fault want b o p.faultless in
     let fine = head_fine want b o w.0.header right in
-    let fault : body_fault want b (flags o) (body o) ≡ None = sym (once-true _ _ (is_whole-from o w.0)) ∙ sym (why_behind want b o fine) ∙ right in
+    let fault : body_fault want b (flags o) (body o) ≡ None = sym (once-true _ _ (is_whole-from o w.0)) ∙ sym (why_after want b o fine) ∙ right in
     let r1 = row-off _ _ _ fine.flags_fine in
     let r2 = row-off _ _ _ r1.1 in
     let command : is_message (flags o) ≡ false = and-off (is_message (flags o)) (awaits_ready b.expected) r2.0 (ap awaits_ready ready) in

@@ -33,7 +33,7 @@ pub record Hearing : Type 0 where
   pub phase : Phase
   pub identity : Option PeerId
 
--- what a reader keeps behind octets without a fault
+-- what a reader keeps after octets without a fault
 abbrev pub reading : Want → Kind → List ℕ → Reading
 reading want kind o = record { before = before kind (split want kind o).0; left = (split want kind o).1; spent = false; wanted = want }
 
@@ -42,7 +42,7 @@ abbrev pub phase_by : Option ZmtpFault → Reading → Phase
 phase_by None r = Live r
 phase_by (Some f) r = Spent
 
--- the connection behind the octets o, which came in whichever pieces
+-- the connection after the octets o, which came in whichever pieces
 abbrev pub conn_after : PeerId → List ℕ → Hearing
 conn_after own o = record { phase = phase_by (fault_in own o) (reading (Dealer own) Whole o); identity = identity_in (arrivals own o) }
 
@@ -87,7 +87,7 @@ pub record Takes (taken : List Arrival) (known known' : Option PeerId) (out out'
   pub appended : out' ≡ out ++ taken
   pub identity : known' ≡ option_or known (identity_in taken)
 
--- Behind the octets o a piece was read: what it completes of all that is said is what was appended, and the fault, where there is one.
+-- After the octets o a piece was read: what it completes of all that is said is what was appended, and the fault, where there is one.
 pub record Hears (own : PeerId) (o piece : List ℕ) (now : Hearing) (out out' : List Arrival) : Type 0 where
   pub now_is : now ≡ conn_after own (o ++ piece)
   pub appended : out' ≡ out ++ new_arrivals own o piece

@@ -58,7 +58,7 @@ completed own o more = drop (length (talk own o)) (talk own (o ++ more))
 abbrev pub new_arrivals : PeerId → List ℕ → List ℕ → List Arrival
 new_arrivals own o more = drop (length (arrivals own o)) (arrivals own (o ++ more))
 
--- What was said stays, and more may come behind it, up to a fault.
+-- What was said stays, and more may come after it, up to a fault.
 pub record Goes (own : PeerId) (o more : List ℕ) : Type 0 where
   pub said : talk own (o ++ more) ≡ talk own o ++ completed own o more
   pub arrived : arrivals own (o ++ more) ≡ arrivals own o ++ new_arrivals own o more

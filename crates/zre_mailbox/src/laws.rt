@@ -5,7 +5,7 @@ ghost use Rattle.zre_values.specs.declared.peer_id.PeerId.{PeerId};
 ghost use Rattle.zre_mailbox.specs.Talk.{arrivals, talk, completed, has_ready, Goes, Introduced, IsInOrder};
 ghost use Rattle.zre_mailbox.specs.Conn.{identity_in};
 
-/// What was said stays said: more octets say more behind it, and behind a fault nothing.
+/// What was said stays said: more octets say more after it, and after a fault nothing.
 pub fn talk_grows()
     ensures { (own : PeerId) (o more : List ℕ) → Goes own o more }
 {}

@@ -206,7 +206,7 @@ chosen : {A : Type 0} (b : Bool) (x y z : A) → cond b x y ≡ z → ((b ≡ tr
 chosen true x y z e = inl (refl, e)
 chosen false x y z e = inr (refl, e)
 
--- the frames behind the first, as the command takes them
+-- the frames after the first, as the command takes them
 abbrev taken : ℕ → List (List ℕ) → List (List ℕ)
 taken number more = cond (is_single number) [] more
 
@@ -336,7 +336,7 @@ none_wrong first more command e =
 abbrev sequence_of : List ℕ → ℕ
 sequence_of first = from_be_bytes w16 (take 2 (drop 4 first))
 
--- the head of a first frame, and what stands behind it
+-- the head of a first frame, and what stands after it
 head_parts : (first : List ℕ) → 6 ≤ length first → IsBytes first → is_other first 0 170 ≡ false → is_other first 1 161 ≡ false → is_other first 3 2 ≡ false
     → first ≡ head (get_or first 2 0) (sequence_of first) ++ drop 6 first
 head_parts first long fits e0 e1 e3 =

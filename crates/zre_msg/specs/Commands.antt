@@ -8,7 +8,7 @@ use Rattle.zre_msg.specs.declared.message.Message.{Message}
 use Rattle.zre_msg.specs.declared.message.ReadFault.{ReadFault}
 use Rattle.zre_msg.specs.declared.message.ReadFault.TheVariants as read
 
--- the body of the message, with the frames behind the first
+-- the body of the message, with the frames after the first
 abbrev pub body_of : Command → List (List ℕ) → Body
 body_of lent.Whisper more = Whisper more
 body_of (lent.Shout group) more = Shout group.now more

@@ -3,7 +3,7 @@ use Rattle.std.specs.Prelude.{◌≡◌, Option, Some, None, Result, Ok, Err}
 use Rattle.zre_msg.specs.declared.fields.Stop.{Stop}
 use Rattle.zre_msg.specs.declared.fields.Stop.TheVariants as stop
 
--- a call that stopped for want of octets read what isn't there
+-- a call that stopped where octets were lacking read what isn't there
 abbrev pub Ends : {Y : Type 0} → Stop → Option Y → Type 0
 Ends stop.Memory read = Unit {0}
 Ends stop.Short read = read ≡ None

@@ -1,4 +1,4 @@
--- The frames behind the first.
+-- The frames after the first.
 use Rattle.std.specs.Prelude.{ℕ, List}
 use Rattle.zre_msg.specs.declared.further.Further.{Further}
 use Rattle.zre_msg.specs.declared.further.Further.TheVariants.{Lent, Given}

@@ -17,7 +17,7 @@ pub record OpensHello (first : List ℕ) : Type 0 where
   pub number : slice_index first 2 ≡ 1
   pub head : first_row (head_rows first) ≡ None
 
--- a call gave the sequence and the command of a first frame with those behind it, or nothing of HELLO, or answered with
+-- a call gave the sequence and the command of a first frame with those after it, or nothing of HELLO, or answered with
 -- what is wrong with them
 abbrev pub Opens : Result (Option (ℕ × Command)) ReadFault → List ℕ → List (List ℕ) → Type 0
 Opens (Ok (Some x)) first more = read_of first more ≡ Ok (record { sequence = x.0; body = body_of x.1 more })

@@ -1,4 +1,4 @@
-//! The fields of each command, read from the front of what stands behind the sequence.
+//! The fields of each command, read from the front of what stands after the sequence.
 
 ghost use Rattle.std.specs.Prelude.{◌≡◌, ◌≢◌, ℕ, List, Result, IfOk};
 ghost use Rattle.zre_msg.specs.declared.message.Bad.{Bad};
@@ -78,7 +78,7 @@ fn read_shout(octets: &[u8]) -> Result<(Command<'_>, &[u8]), Stop>
     Ok((Command::Shout { group }, rest))
 }
 
-/// The command with this number, which isn't that of HELLO, and the octets that are left over behind its fields.
+/// The command with this number, which isn't that of HELLO, and the octets that are left over after its fields.
 pub fn read_command(number: u8, octets: &[u8]) -> Result<(Command<'_>, &[u8]), Stop>
     requires { number ≢ 1 }
     ensures { (more : List (List ℕ)) → Gives (λ x. (body_of x.0 more, x.1.now)) result (body_at number more octets.now) }

@@ -1,11 +1,11 @@
-//! The frames behind the first.
+//! The frames after the first.
 
 ghost use Rattle.std.specs.Prelude.{◌≡◌, ◌==◌, ◌++◌, length, IfOk, OnOk};
 
 use std::alloc::Global;
 use zre_values::{Frames, Octets, OutOfMemory};
 
-/// The frames behind the first of a message: lent, so that a message that holds them holds copies, or given, so
+/// The frames after the first of a message: lent, so that a message that holds them holds copies, or given, so
 /// that it holds them themselves.
 #[derive(Drop)]
 pub enum Further<'a> {

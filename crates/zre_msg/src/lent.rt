@@ -10,6 +10,6 @@ pub struct LentMessage<'a> {
     pub sequence: u16,
     /// The command with its fields.
     pub command: Command<'a>,
-    /// The frames behind the first.
+    /// The frames after the first.
     pub content: &'a [Octets],
 }

@@ -8,7 +8,7 @@ ghost use Rattle.zre_msg.specs.Spelling.{Fits, octets};
 use crate::message::Message;
 use zre_values::{Octets, OutOfMemory};
 
-// What stands in front of the body in a frame. `more` is 1 where another frame follows, and 0 where none does.
+// What stands before the body in a frame. `more` is 1 where another frame follows, and 0 where none does.
 fn push_size(out: &mut Octets, more: u8, len: u64) -> Result<(), OutOfMemory>
     requires { more < 2 }
     ensures { (body : List ℕ) → length body ≡ len → OnOk result (out.new ++ body ≡ out.old ++ frame more body) }
@@ -29,19 +29,19 @@ fn push_frame(out: &mut Octets, more: u8, body: &[u8]) -> Result<(), OutOfMemory
 }
 
 // Whether another frame follows, as a flag.
-fn more_flag(behind: &[Octets]) -> u8
-    ensures { result ≡ flag_of behind.now }
+fn more_flag(later: &[Octets]) -> u8
+    ensures { result ≡ flag_of later.now }
 {
-    if behind.is_empty() { 0 } else { 1 }
+    if later.is_empty() { 0 } else { 1 }
 }
 
 fn push_frames(out: &mut Octets, bodies: &[Octets]) -> Result<(), OutOfMemory>
     ensures { OnOk result (out.new ≡ out.old ++ frames bodies.now) }
 {
     let mut rest = bodies;
-    'frames: while let Some((body, behind)) = rest.split_first() {
-        push_frame(out, more_flag(behind), body.as_slice())?;
-        rest = behind;
+    'frames: while let Some((body, later)) = rest.split_first() {
+        push_frame(out, more_flag(later), body.as_slice())?;
+        rest = later;
     }
     Ok(())
 }

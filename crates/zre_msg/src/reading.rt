@@ -23,7 +23,7 @@ fn is_other(octets: &[u8], i: usize, wanted: u8) -> bool
     i < octets.len() && octets[i] != wanted
 }
 
-// What is wrong in front of the fields.
+// What is wrong before the fields.
 fn head_fault(first: &[u8]) -> Option<Bad>
     ensures { result ≡ first_row (head_rows first.now) }
 {
@@ -55,7 +55,7 @@ fn fault(why: BadWhy, frame: u32, place: usize) -> ReadFault
     })
 }
 
-// What is wrong behind the fields, where so many octets are left over.
+// What is wrong after the fields, where so many octets are left over.
 fn end_fault(first: &[u8], left: usize, further: &Further<'_>) -> Option<Bad>
     requires long { 3 ≤ length first.now }
     requires places { length first.now < 2 ^ 32 }
@@ -112,7 +112,7 @@ fn read_hello_frame(
     Ok(Message { sequence, body })
 }
 
-// The sequence and the command of a first frame, once nothing can be wrong with it and those behind it any more; none
+// The sequence and the command of a first frame, once nothing can be wrong with it and those after it any more; none
 // where it begins as HELLO does. It is part of each read.
 #[inline(always)]
 #[tactic(auto, unfolding(crate::specs::Reading::read_of, crate::specs::Reading::command_of))]
@@ -144,7 +144,7 @@ fn read_first<'a>(
     Ok(Some((sequence_of(first), command)))
 }
 
-// The message that a first frame and those behind it mean.
+// The message that a first frame and those after it mean.
 fn read_parts(alloc: Global, first: &[u8], further: Further<'_>) -> Result<Message, ReadFault>
     requires { length first.now < 2 ^ 32 }
     ensures { Answers result (read_of first.now (frames_of further.entry)) }
@@ -156,7 +156,7 @@ fn read_parts(alloc: Global, first: &[u8], further: Further<'_>) -> Result<Messa
     }
 }
 
-// The message that lies in a first frame and those behind it.
+// The message that lies in a first frame and those after it.
 fn see_parts<'a>(
     first: &'a [u8],
     content: &'a [Octets],

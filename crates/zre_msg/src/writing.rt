@@ -89,7 +89,7 @@ impl Body {
         }
     }
 
-    // The frames behind the first.
+    // The frames after the first.
     pub(crate) fn further(&self) -> Option<&Frames>
         ensures { MatchOption result (further self.now ≡ []) (λ frames. further self.now ≡ frames.now) }
     {

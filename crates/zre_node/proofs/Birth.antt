@@ -8,11 +8,11 @@ use Rattle.zre_values.specs.declared.endpoint.Endpoint.{Endpoint}
 use Rattle.zre_outside.specs.declared.act.Act.TheVariants as act
 use Rattle.zre_link.specs.Link.{link_after}
 use Rattle.zre_journal.specs.declared.config.Config.{Config}
-use Rattle.zre_journal.specs.Chronicle.{Mark, Beacons}
+use Rattle.zre_journal.specs.Chronicle.{Mark, HearsBeacon}
 use Rattle.zre_journal.specs.Heard.{clock}
 use Rattle.zre_journal.specs.Peers.{Life, lives, births, counted}
 use Rattle.zre_journal.specs.Happens.{hello, birth}
-use Rattle.zre_journal.proofs.Kept.{born, newborn, born-proper, Beacons-proper}
+use Rattle.zre_journal.proofs.Kept.{born, newborn, born-proper, HearsBeacon-proper}
 use Rattle.zre_journal.proofs.Listed.{eqb-comm, found_passes}
 use Rattle.zre_node.specs.declared.peer.Peer.{Peer}
 use Rattle.zre_node.specs.declared.tables.Tables.{Tables}
@@ -76,13 +76,13 @@ module _ (g : Config) (H : List Mark) (t : Tables) (h : Holds g H t) (p : PeerId
 
 module _ (g : Config) (H : List Mark) (t : Tables) (h : Holds g H t) (l : ℕ) where
   pub renewed : (k : Peer) (P : BTreeMap ℕ Peer) → Some k ≡ lookup (is_at (nat_cmp l)) t.peers.entries → P.entries ≡ set_value (is_at (nat_cmp l)) t.peers.entries (record k { active = t.clock })
-      → Holds g (Beacons l ∷ H) (record t { peers = P })
+      → Holds g (HearsBeacon l ∷ H) (record t { peers = P })
   renewed k P was put =
       let r = its_row (IsPeer g H) H t.peers.entries h.peers l k was in
       record {
         keeps = record {
           can = h.keeps.can;
-          proper = Beacons-proper H h.keeps.proper l;
+          proper = HearsBeacon-proper H h.keeps.proper l;
           going = h.keeps.going;
           awake = h.keeps.awake;
           config = h.keeps.config;
@@ -94,8 +94,8 @@ module _ (g : Config) (H : List Mark) (t : Tables) (h : Holds g H t) (l : ℕ) w
           own = h.keeps.own;
           conns = h.keeps.conns;
         };
-        peers = subst (λ es. Tabled (λ (v : Life). v.link) (IsPeer g (Beacons l ∷ H)) (lives H) es) (sym put)
-            (changed (λ (v : Life). v.link) (IsPeer g H) (IsPeer g (Beacons l ∷ H)) l (record k { active = t.clock })
+        peers = subst (λ es. Tabled (λ (v : Life). v.link) (IsPeer g (HearsBeacon l ∷ H)) (lives H) es) (sym put)
+            (changed (λ (v : Life). v.link) (IsPeer g H) (IsPeer g (HearsBeacon l ∷ H)) l (record k { active = t.clock })
             (λ v w far is. let off : eqb v.link l ≡ false = eqb-comm v.link l ∙ far in rw off is) (lives H) t.peers.entries h.keeps.proper.living.apart
             (λ v f. let same : v ≡ r.0 = (let z : Some v ≡ Some r.0 = sym f ∙ r.1 in cc) in
             let me : eqb v.link l ≡ true = eq-eqb v.link l (sym (eqb-true l v.link (found_passes (λ (u : Life). eqb l u.link) (lives H) v f))) in

@@ -66,8 +66,8 @@ same_pushes g (v ∷ vs) b I K a =
     ∙ ap (λ ks. push g v.link b K ++ ks) (same_pushes g vs b (after (push g v.link b K) I) (after (push g v.link b K) K) (alike_after (push g v.link b K) I K a))
 
 -- a mark that puts nothing and takes nothing changes no push
-pub pushed_behind : (g : Config) (vs : List Life) (b : Body) (h : Mark) (K : List Mark) → ((l : ℕ) → (put_on l h ≡ None) × (taken l (h ∷ K) ≡ taken l K)) → push_all g vs b (h ∷ K) ≡ push_all g vs b K
-pushed_behind g vs b h K n = same_pushes g vs b (h ∷ K) K (λ l. (ap (λ (o : Option Body). followed (bodies l K) o) (n l).0, (n l).1))
+pub pushed_after : (g : Config) (vs : List Life) (b : Body) (h : Mark) (K : List Mark) → ((l : ℕ) → (put_on l h ≡ None) × (taken l (h ∷ K) ≡ taken l K)) → push_all g vs b (h ∷ K) ≡ push_all g vs b K
+pushed_after g vs b h K n = same_pushes g vs b (h ∷ K) K (λ l. (ap (λ (o : Option Body). followed (bodies l K) o) (n l).0, (n l).1))
 
 -- ---- members
 

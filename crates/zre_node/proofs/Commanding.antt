@@ -29,7 +29,7 @@ use Rattle.zre_node.specs.declared.peer.Peer.{Peer}
 use Rattle.zre_node.specs.declared.tables.Tables.{Tables}
 use Rattle.zre_node.specs.declared.effects.Effects.{Effects}
 use Rattle.zre_node.specs.Stands.{Holds, Did, IsPeer, link_among, is_quiet}
-use Rattle.zre_node.proofs.Broadcasting.{pushed_behind}
+use Rattle.zre_node.proofs.Broadcasting.{pushed_after}
 use Rattle.zre_node.proofs.Datagram.{link_found, its_life, no_life}
 use Rattle.zre_node.proofs.Many.{did_as, did_then, silent_did}
 use Rattle.zre_node.proofs.Opening.{with_conns}
@@ -129,7 +129,7 @@ not_joined group (x ∷ xs) long a = by (not_joined group xs long a.1) (bytes_eq
     by r true e = let same : x ≡ group = (bytes_eq-Decides x group).0 e in let short : length x ≤ 255 = a.0 in absurd (omega (arith, ap (λ (o : List ℕ). length o) same))
     by r false e = r
 
--- a join or a leave, and the pushes behind it
+-- a join or a leave, and the pushes after it
 pub told_all : (g : Config) (K : List Mark) (h : Mark) (b : Body) (m n : Tables) (a s : Effects) → Did g (h ∷ []) K m a a → lives (h ∷ K) ≡ lives K → push_all g (lives K) b (h ∷ K) ≡ push_all g (lives K) b K
     → Did g (push_all g (lives (h ∷ K)) b (h ∷ K)) (h ∷ K) n a s → Did g (h ∷ push_all g (lives K) b K) K n a s
 told_all g K h b m n a s first same pushes second =
@@ -138,11 +138,11 @@ told_all g K h b m n a s first same pushes second =
 
 pub joins_tell : (g : Config) (K : List Mark) (group : List ℕ) (b : Body) (m n : Tables) (a s : Effects) → Holds g (Joins group ∷ K) m → Did g (push_all g (lives (Joins group ∷ K)) b (Joins group ∷ K)) (Joins group ∷ K) n a s → Did g (Joins group ∷ push_all g (lives K) b K) K n a s
 joins_tell g K group b m n a s held second =
-    told_all g K (Joins group) b m n a s (silent_did g (Joins group) K m a held refl refl (λ l. refl)) refl (pushed_behind g (lives K) b (Joins group) K (λ l. (refl, refl))) second
+    told_all g K (Joins group) b m n a s (silent_did g (Joins group) K m a held refl refl (λ l. refl)) refl (pushed_after g (lives K) b (Joins group) K (λ l. (refl, refl))) second
 
 pub leaves_tell : (g : Config) (K : List Mark) (group : List ℕ) (b : Body) (m n : Tables) (a s : Effects) → Holds g (Leaves group ∷ K) m → Did g (push_all g (lives (Leaves group ∷ K)) b (Leaves group ∷ K)) (Leaves group ∷ K) n a s → Did g (Leaves group ∷ push_all g (lives K) b K) K n a s
 leaves_tell g K group b m n a s held second =
-    told_all g K (Leaves group) b m n a s (silent_did g (Leaves group) K m a held refl refl (λ l. refl)) refl (pushed_behind g (lives K) b (Leaves group) K (λ l. (refl, refl))) second
+    told_all g K (Leaves group) b m n a s (silent_did g (Leaves group) K m a held refl refl (λ l. refl)) refl (pushed_after g (lives K) b (Leaves group) K (λ l. (refl, refl))) second
 
 -- ---- the known peer with an id, by its row
 

@@ -4,7 +4,7 @@ use Rattle.zre_values.specs.declared.peer_id.PeerId.{PeerId}
 use Rattle.zre_beacon.specs.Beacon.{beacon_in}
 use Rattle.zre_peer.specs.declared.causes.Cause.TheVariants as cause
 use Rattle.zre_journal.specs.declared.config.Config.{Config}
-use Rattle.zre_journal.specs.Chronicle.{Mark, Ends, Beacons}
+use Rattle.zre_journal.specs.Chronicle.{Mark, Ends, HearsBeacon}
 use Rattle.zre_journal.specs.Peers.{Life, lives, life, life_of}
 use Rattle.zre_journal.specs.Happens.{is_welcome, at_datagram, birth}
 use Rattle.zre_node.specs.declared.peer.Peer.{Peer}
@@ -57,7 +57,7 @@ module _ (g : Config) (from o : List ℕ) (H : List Mark) (p : PeerId) (port : �
   pub ends_it : (v : Life) → life_of p H ≡ Some v → port ≡ 0 → at_datagram g from (beacon_in o) H ≡ Ends v.link cause.Beacon ∷ []
   ends_it v k z = rw (b, k, z) refl
 
-  pub renews_it : (v : Life) → life_of p H ≡ Some v → (port ≡ 0 → ⊥) → at_datagram g from (beacon_in o) H ≡ Beacons v.link ∷ []
+  pub renews_it : (v : Life) → life_of p H ≡ Some v → (port ≡ 0 → ⊥) → at_datagram g from (beacon_in o) H ≡ HearsBeacon v.link ∷ []
   renews_it v k z = let off : eqb port 0 ≡ false = ne_eqb port 0 z in rw (b, k, off) refl
 
   pub bears_it : life_of p H ≡ None → is_welcome g p port (length (lives H)) ≡ true → at_datagram g from (beacon_in o) H ≡ birth g p (record { addr = from; port = port }) H

@@ -18,7 +18,7 @@ never_ignored own o = by (fault_in own o) refl
     by None e = rw e refl
     by (Some f) e = rw e refl
 
--- behind a fault nothing changes, and nothing is completed
+-- after a fault nothing changes, and nothing is completed
 pub spent_stays : (own : PeerId) (o more : List ℕ) → is_spent (conn_after own o) ≡ true → (conn_after own (o ++ more) ≡ conn_after own o) × (completed own o more ≡ [])
 spent_stays own o more s = by (fault_in own o) refl
   where

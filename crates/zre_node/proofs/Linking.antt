@@ -12,7 +12,7 @@ use Rattle.zre_peer.specs.declared.causes.Cause.TheVariants as cause
 use Rattle.zre_link.specs.Heard.{reply_fault}
 use Rattle.zre_link.specs.Link.{Sending, link_after, taken_by}
 use Rattle.zre_journal.specs.declared.config.Config.{Config}
-use Rattle.zre_journal.specs.Chronicle.{Mark, Comes, Ends, Links, Takes, after}
+use Rattle.zre_journal.specs.Chronicle.{Mark, Comes, Ends, Links, Sends, after}
 use Rattle.zre_journal.specs.Connections.{open_ones, is_new}
 use Rattle.zre_journal.specs.Done.{names}
 use Rattle.zre_journal.specs.Heard.{clock, piece_of}
@@ -20,7 +20,7 @@ use Rattle.zre_journal.specs.Links.{bodies, groups, status, is_linked, replies, 
 use Rattle.zre_journal.specs.Peers.{Life, lives, life, births}
 use Rattle.zre_journal.specs.Happens.{has_stopped, at_input, at_linked, at_reply, at_unlinked, at_took, fault_of_reply}
 use Rattle.zre_journal.specs.Proper.{IsProper}
-use Rattle.zre_journal.proofs.Kept.{known_lives, Comes-proper, Links-proper, Takes-proper}
+use Rattle.zre_journal.proofs.Kept.{known_lives, Comes-proper, Links-proper, Sends-proper}
 use Rattle.zre_journal.proofs.Listed.{eqb-comm}
 use Rattle.zre_node.specs.declared.effects.Effects.{Effects}
 use Rattle.zre_node.specs.declared.peer.Peer.{Peer}
@@ -37,10 +37,10 @@ use Rattle.zre_node.proofs.Pushing.{row_link, written_back}
 abbrev key : Life → ℕ
 key v = v.link
 
--- all but the table of peers, behind a mark that says nothing of it
-keeps_behind : (g : Config) (K H : List Mark) (t : Tables) (P : BTreeMap ℕ Peer) → Keeps g K t → IsProper H → has_stopped H ≡ has_stopped K → clock H ≡ clock K → births H ≡ births K → ((c : ℕ) → is_new c H ≡ is_new c K)
+-- all but the table of peers, after a mark that says nothing of it
+keeps_after : (g : Config) (K H : List Mark) (t : Tables) (P : BTreeMap ℕ Peer) → Keeps g K t → IsProper H → has_stopped H ≡ has_stopped K → clock H ≡ clock K → births H ≡ births K → ((c : ℕ) → is_new c H ≡ is_new c K)
     → groups H ≡ groups K → status H ≡ status K → Tabled (λ (c : ℕ). c) (IsConn g H) (open_ones H) t.conns.entries → Keeps g H (record t { peers = P })
-keeps_behind g K H t P k proper going same_clock same_births same_new same_groups same_status conns = record {
+keeps_after g K H t P k proper going same_clock same_births same_new same_groups same_status conns = record {
   can = k.can;
   proper = proper;
   going = going ∙ k.going;
@@ -80,7 +80,7 @@ module _ (g : Config) (K : List Mark) (t : Tables) (h : Holds g K t) (l : ℕ) (
   stands_now : (o : Sending) (P : BTreeMap ℕ Peer) → o ≡ link_after g.id (bodies l K) true (replies l K) (taken l K) → P.entries ≡ set_value (is_at (nat_cmp l)) t.peers.entries (record k { link = o })
       → Holds g (Links l ∷ K) (record t { peers = P })
   stands_now o P new put = record {
-    keeps = keeps_behind g K (Links l ∷ K) t P h.keeps (Links-proper K h.keeps.proper l (known_lives K h.keeps.proper l its.0 its.1).1) refl refl refl (λ c. refl) refl refl h.keeps.conns;
+    keeps = keeps_after g K (Links l ∷ K) t P h.keeps (Links-proper K h.keeps.proper l (known_lives K h.keeps.proper l its.0 its.1).1) refl refl refl (λ c. refl) refl refl h.keeps.conns;
     peers = relinked (Links l ∷ K) o P (λ v w far is. let off : eqb v.link l ≡ false = eqb-comm v.link l ∙ far in rw off is)
         (rw me record { id_is = its.2.id_is; active_is = its.2.active_is; run_is = its.2.run_is; link_is = new ∙ ap (λ j. link_after g.id (bodies j K) true (replies j K) (taken j K)) link_is }) put;
   }
@@ -96,10 +96,10 @@ module _ (g : Config) (K : List Mark) (t : Tables) (h : Holds g K t) (l : ℕ) (
   -- ---- it takes octets
 
   takes_now : (n : ℕ) (o : Sending) (P : BTreeMap ℕ Peer) → o ≡ link_after g.id (bodies l K) (is_linked l K) (replies l K) (taken l K + n) → P.entries ≡ set_value (is_at (nat_cmp l)) t.peers.entries (record k { link = o })
-      → Holds g (Takes l n ∷ K) (record t { peers = P })
+      → Holds g (Sends l n ∷ K) (record t { peers = P })
   takes_now n o P new put = record {
-    keeps = keeps_behind g K (Takes l n ∷ K) t P h.keeps (Takes-proper K h.keeps.proper l n (known_lives K h.keeps.proper l its.0 its.1).1) refl refl refl (λ c. refl) refl refl h.keeps.conns;
-    peers = relinked (Takes l n ∷ K) o P (λ v w far is. let off : eqb v.link l ≡ false = eqb-comm v.link l ∙ far in rw off is)
+    keeps = keeps_after g K (Sends l n ∷ K) t P h.keeps (Sends-proper K h.keeps.proper l n (known_lives K h.keeps.proper l its.0 its.1).1) refl refl refl (λ c. refl) refl refl h.keeps.conns;
+    peers = relinked (Sends l n ∷ K) o P (λ v w far is. let off : eqb v.link l ≡ false = eqb-comm v.link l ∙ far in rw off is)
         (rw me record { id_is = its.2.id_is; active_is = its.2.active_is; run_is = its.2.run_is; link_is = new ∙ ap (λ j. link_after g.id (bodies j K) (is_linked j K) (replies j K) (taken j K + n)) link_is }) put;
   }
 
@@ -131,7 +131,7 @@ took_did g K l m n a = known (life l K)
   where
     known : (o : Option Life) → Holds g (after (at_took g l m o K) K) n → Did g (at_took g l m o K) K n a a
     known None h = idle_did g K n a h
-    known (Some v) h = silent_did g (Takes l (min m (gate g l K - taken l K))) K n a h refl refl (λ j. refl)
+    known (Some v) h = silent_did g (Sends l (min m (gate g l K - taken l K))) K n a h refl refl (λ j. refl)
 
 -- ---- it breaks
 
@@ -256,7 +256,7 @@ or-false true c = refl
 or-false false true = refl
 or-false false false = refl
 
--- the link that is named was noted behind the others
+-- the link that is named was noted after the others
 pub noted : (l : ℕ) (i : Input) (a s : Effects) → ((j : ℕ) → names j i ≡ eqb j l) → s.events ≡ a.events → s.acts ≡ a.acts → s.pushed ≡ a.pushed ++ l ∷ [] → Notes i a s
 noted l i a s n ev ac pu = record {
   events = ev;

@@ -8,14 +8,14 @@ use Rattle.zre_peer.specs.declared.causes.Cause.TheVariants as cause
 use Rattle.zre_peer.specs.declared.causes.CloseWhy.{CloseWhy}
 use Rattle.zre_mailbox.specs.Conn.{conn_after}
 use Rattle.zre_journal.specs.declared.config.Config.{Config}
-use Rattle.zre_journal.specs.Chronicle.{Mark, Opens, TurnsAway, Closes, IsShut, Drops, after}
+use Rattle.zre_journal.specs.Chronicle.{Mark, Opens, TurnsAway, Closes, IsShut, ClosesAtStop, after}
 use Rattle.zre_journal.specs.Heard.{clock}
 use Rattle.zre_journal.specs.Connections.{open_ones, is_new, is_open, runs, others}
 use Rattle.zre_journal.specs.Peers.{Life, lives, births}
 use Rattle.zre_journal.specs.Links.{groups, status}
 use Rattle.zre_journal.specs.Proper.{IsProper}
 use Rattle.zre_journal.specs.Happens.{has_stopped, at_opened, at_shut, end_of_run}
-use Rattle.zre_journal.proofs.Kept.{has_started, Opens-proper, TurnsAway-proper, Closes-proper, IsShut-proper, Drops-proper}
+use Rattle.zre_journal.proofs.Kept.{has_started, Opens-proper, TurnsAway-proper, Closes-proper, IsShut-proper, ClosesAtStop-proper}
 use Rattle.zre_node.specs.declared.connection.Connection.{Connection}
 use Rattle.zre_node.specs.declared.tables.Tables.{Tables}
 use Rattle.zre_node.specs.Tabled.{Tabled}
@@ -25,7 +25,7 @@ use Rattle.zre_node.proofs.Entries.{inserted, removed, as_many}
 pub open_count : (g : Config) (H : List Mark) (t : Tables) → Keeps g H t → length t.conns.entries ≡ length (open_ones H)
 open_count g H t k = as_many (λ (c : ℕ). c) (IsConn g H) (open_ones H) t.conns.entries k.conns
 
--- the tables with other connections, behind a mark that concerns those alone
+-- the tables with other connections, after a mark that concerns those alone
 pub with_conns : (g : Config) (H K : List Mark) (t : Tables) (o : Option ℕ) (C : BTreeMap ℕ Connection) → Holds g H t → IsProper K → clock K ≡ clock H → births K ≡ births H → lives K ≡ lives H
     → Tabled (λ (v : Life). v.link) (IsPeer g K) (lives K) t.peers.entries → has_stopped K ≡ has_stopped H
     → groups K ≡ groups H → status K ≡ status H
@@ -97,15 +97,15 @@ module _ (g : Config) (H : List Mark) (t : Tables) (h : Holds g H t) (c : ℕ) (
       (subst (λ es. Tabled (λ (d : ℕ). d) (IsConn g (IsShut c ∷ H)) (others c (open_ones H)) es) (sym e)
       (removed (λ (d : ℕ). d) (IsConn g H) (IsConn g (IsShut c ∷ H)) c (λ d w far is. is) (open_ones H) t.conns.entries h.keeps.proper.opening.open_apart h.keeps.conns))
 
-  pub dropped : Holds g (Drops c ∷ H) (record t { conns = C })
-  dropped = with_conns g H (Drops c ∷ H) t t.last C h (Drops-proper H h.keeps.proper c idle) refl refl refl h.peers refl refl refl h.keeps.last_is
-      (subst (λ es. Tabled (λ (d : ℕ). d) (IsConn g (Drops c ∷ H)) (others c (open_ones H)) es) (sym e)
-      (removed (λ (d : ℕ). d) (IsConn g H) (IsConn g (Drops c ∷ H)) c (λ d w far is. is) (open_ones H) t.conns.entries h.keeps.proper.opening.open_apart h.keeps.conns))
+  pub dropped : Holds g (ClosesAtStop c ∷ H) (record t { conns = C })
+  dropped = with_conns g H (ClosesAtStop c ∷ H) t t.last C h (ClosesAtStop-proper H h.keeps.proper c idle) refl refl refl h.peers refl refl refl h.keeps.last_is
+      (subst (λ es. Tabled (λ (d : ℕ). d) (IsConn g (ClosesAtStop c ∷ H)) (others c (open_ones H)) es) (sym e)
+      (removed (λ (d : ℕ). d) (IsConn g H) (IsConn g (ClosesAtStop c ∷ H)) c (λ d w far is. is) (open_ones H) t.conns.entries h.keeps.proper.opening.open_apart h.keeps.conns))
 
 -- closings at a stop leave no connection running a peer where none did
-pub drops_run : (cs : List ℕ) (H : List Mark) → RunNone H → RunNone (after (map (λ c. Drops c) cs) H)
+pub drops_run : (cs : List ℕ) (H : List Mark) → RunNone H → RunNone (after (map (λ c. ClosesAtStop c) cs) H)
 drops_run [] H none = none
-drops_run (c ∷ cs) H none = drops_run cs (Drops c ∷ H) none
+drops_run (c ∷ cs) H none = drops_run cs (ClosesAtStop c ∷ H) none
 
 -- ---- the run of a connection ends
 

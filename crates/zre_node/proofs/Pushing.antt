@@ -9,7 +9,7 @@ use Rattle.zre_peer.specs.declared.causes.Cause.TheVariants as cause
 use Rattle.zre_link.specs.Link.{Sending, link_after}
 use Rattle.zre_link.specs.Text.{text_of, size_of}
 use Rattle.zre_journal.specs.declared.config.Config.{Config}
-use Rattle.zre_journal.specs.Chronicle.{Mark, Puts, Takes, Ends, after, followed}
+use Rattle.zre_journal.specs.Chronicle.{Mark, Puts, Sends, Ends, after, followed}
 use Rattle.zre_journal.specs.Peers.{Life, lives, life}
 use Rattle.zre_journal.specs.Links.{bodies, put_on, is_linked, replies, taken, unsent}
 use Rattle.zre_journal.specs.Happens.{push}
@@ -98,7 +98,7 @@ abbrev pub Alike : List Mark → List Mark → Type 0
 Alike I K = (l : ℕ) → (bodies l I ≡ bodies l K) × (taken l I ≡ taken l K)
 
 alike_mark : (h : Mark) (I K : List Mark) → Alike I K → Alike (h ∷ I) (h ∷ K)
-alike_mark (Takes k n) I K a l = ((a l).0, ap (λ (m : ℕ). if eqb l k then m + n else m) (a l).1)
+alike_mark (Sends k n) I K a l = ((a l).0, ap (λ (m : ℕ). if eqb l k then m + n else m) (a l).1)
 alike_mark h I K a l = (ap (λ (bs : List Body). followed bs (put_on l h)) (a l).0, (a l).1)
 
 pub alike_after : (hs I K : List Mark) → Alike I K → Alike (after hs I) (after hs K)

@@ -14,7 +14,7 @@ use Rattle.zre_node.specs.declared.effects.Effects.{Effects}
 use Rattle.zre_node.specs.declared.tables.Tables.{Tables}
 use Rattle.zre_node.specs.Journal.{StandsIn, Took, Steps}
 
--- an entry behind a stop changes nothing
+-- an entry after a stop changes nothing
 pub took_nothing : (g : Config) (e : Entry) (H : List Mark) (t : Tables) (a : Effects) → has_stopped H ≡ true → StandsIn g H t → Took g e H t a a
 took_nothing g e H t a z s =
     let m : marks g e H ≡ [] = rw z refl in

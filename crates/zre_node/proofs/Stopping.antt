@@ -7,7 +7,7 @@ use Rattle.zre_peer.specs.declared.causes.Cause.TheVariants as cause
 use Rattle.zre_outside.specs.declared.act.Act.TheVariants as act
 use Rattle.zre_peer.specs.declared.event.Event.TheVariants as event
 use Rattle.zre_journal.specs.declared.config.Config.{Config}
-use Rattle.zre_journal.specs.Chronicle.{Mark, Ends, Drops, Calls, Stops, after}
+use Rattle.zre_journal.specs.Chronicle.{Mark, Ends, ClosesAtStop, SendsBeacon, Stops, after}
 use Rattle.zre_journal.specs.Connections.{open_ones, runs}
 use Rattle.zre_journal.specs.Peers.{Life, lives, life}
 use Rattle.zre_journal.specs.Proper.{Apart}
@@ -69,11 +69,11 @@ module _ (g : Config) (H : List Mark) (t : Tables) (h : Holds g H t) where
   pub all_known : AreKnown H (link_list (lives H))
   all_known = known_from H (lives H) h.keeps.proper.living.apart (each_found (lives H))
 
-drops_lives : (cs : List ℕ) (H : List Mark) → lives (after (map (λ c. Drops c) cs) H) ≡ lives H
+drops_lives : (cs : List ℕ) (H : List Mark) → lives (after (map (λ c. ClosesAtStop c) cs) H) ≡ lives H
 drops_lives [] H = refl
-drops_lives (c ∷ cs) H = drops_lives cs (Drops c ∷ H)
+drops_lives (c ∷ cs) H = drops_lives cs (ClosesAtStop c ∷ H)
 
--- behind the ends of all lives
+-- after the ends of all lives
 pub none_known_by : (g : Config) (H : List Mark) (ls : List ℕ) → ls ≡ link_list (lives H) → lives (after (map (λ l. Ends l cause.Stop) ls) H) ≡ []
 none_known_by g H ls e =
     let marks : map (λ l. Ends l cause.Stop) ls ≡ end_all cause.Stop (lives H) = ap (λ xs. map (λ l. Ends l cause.Stop) xs) e ∙ map-map (λ (v : Life). v.link) (λ l. Ends l cause.Stop) (lives H) in
@@ -94,20 +94,20 @@ no_entries key P (x ∷ xs) es e t = absurd cc
 
 -- the whole stop from its parts
 pub stops : (g : Config) (H : List Mark) (ls cs : List ℕ) (t m : Tables) (a b c d : Effects) → ls ≡ link_list (lives H) → cs ≡ open_ones H
-    → Did g (map (λ l. Ends l cause.Stop) ls) H t a b → Did g (map (λ c. Drops c) cs) (after (map (λ l. Ends l cause.Stop) ls) H) m b c
+    → Did g (map (λ l. Ends l cause.Stop) ls) H t a b → Did g (map (λ c. ClosesAtStop c) cs) (after (map (λ l. Ends l cause.Stop) ls) H) m b c
     → d.events ≡ c.events ++ event.Stop ∷ [] → d.acts ≡ c.acts ++ act.Beacon (beacon_octets g.id 0) ∷ [] → Stopped g H (record m { stopped = true }) a d
 stops g H ls cs t m a b c d le ce first second ev ac =
     let marks = ap (λ xs. map (λ l. Ends l cause.Stop) xs) le ∙ map-map (λ (v : Life). v.link) (λ l. Ends l cause.Stop) (lives H) in
-    let both = did_then g (map (λ l. Ends l cause.Stop) ls) (map (λ c. Drops c) cs) H t m a b c first second in
-    let hs = map (λ l. Ends l cause.Stop) ls ++ map (λ c. Drops c) cs in
-    let whole : (hs ++ Calls 0 ∷ Stops ∷ []) ≡ at_stop g H =
-    ap (λ es. es ++ map (λ c. Drops c) cs ++ Calls 0 ∷ Stops ∷ []) marks ∙ ap (λ es. map (λ (v : Life). Ends v.link cause.Stop) (lives H) ++ map (λ c. Drops c) es ++ Calls 0 ∷ Stops ∷ []) ce in
+    let both = did_then g (map (λ l. Ends l cause.Stop) ls) (map (λ c. ClosesAtStop c) cs) H t m a b c first second in
+    let hs = map (λ l. Ends l cause.Stop) ls ++ map (λ c. ClosesAtStop c) cs in
+    let whole : (hs ++ SendsBeacon 0 ∷ Stops ∷ []) ≡ at_stop g H =
+    ap (λ es. es ++ map (λ c. ClosesAtStop c) cs ++ SendsBeacon 0 ∷ Stops ∷ []) marks ∙ ap (λ es. map (λ (v : Life). Ends v.link cause.Stop) (lives H) ++ map (λ c. ClosesAtStop c) es ++ SendsBeacon 0 ∷ Stops ∷ []) ce in
     let none : lives (after (map (λ l. Ends l cause.Stop) ls) H) ≡ [] = none_known_by g H ls le in
-    let left : lives (after (map (λ c. Drops c) cs) (after (map (λ l. Ends l cause.Stop) ls) H)) ≡ [] = drops_lives cs (after (map (λ l. Ends l cause.Stop) ls) H) ∙ none in
-    let end : after (hs ++ Calls 0 ∷ Stops ∷ []) H ≡ Stops ∷ Calls 0 ∷ after hs H = after-append hs (Calls 0 ∷ Stops ∷ []) H in
-    let gone : lives (after hs H) ≡ [] = ap lives (after-append (map (λ l. Ends l cause.Stop) ls) (map (λ c. Drops c) cs) H) ∙ left in
+    let left : lives (after (map (λ c. ClosesAtStop c) cs) (after (map (λ l. Ends l cause.Stop) ls) H)) ≡ [] = drops_lives cs (after (map (λ l. Ends l cause.Stop) ls) H) ∙ none in
+    let end : after (hs ++ SendsBeacon 0 ∷ Stops ∷ []) H ≡ Stops ∷ SendsBeacon 0 ∷ after hs H = after-append hs (SendsBeacon 0 ∷ Stops ∷ []) H in
+    let gone : lives (after hs H) ≡ [] = ap lives (after-append (map (λ l. Ends l cause.Stop) ls) (map (λ c. ClosesAtStop c) cs) H) ∙ left in
     let shut : open_ones (after hs H) ≡ [] = ap open_ones (sym end) ∙ ap (λ ks. open_ones (after ks H)) whole ∙ ap open_ones (stop-is g H) ∙ none_open g H in
-    let rests : Rests g (after (hs ++ Calls 0 ∷ Stops ∷ []) H) (record m { stopped = true }) = subst (λ K. Rests g K (record m { stopped = true })) (sym end)
+    let rests : Rests g (after (hs ++ SendsBeacon 0 ∷ Stops ∷ []) H) (record m { stopped = true }) = subst (λ K. Rests g K (record m { stopped = true })) (sym end)
     record {
       can = both.holds.keeps.can;
       stopped = refl;
@@ -119,8 +119,8 @@ stops g H ls cs t m a b c d le ce first second ev ac =
       none_open = shut;
       no_conns = no_entries (λ (c : ℕ). c) (IsConn g (after hs H)) (open_ones (after hs H)) m.conns.entries shut both.holds.keeps.conns;
     } in
-    let events : d.events ≡ a.events ++ told (hs ++ Calls 0 ∷ Stops ∷ []) H = ev ∙ ap (λ es. es ++ event.Stop ∷ []) both.events ∙ append_assoc a.events (told hs H) (event.Stop ∷ []) ∙ ap (λ es. a.events ++ es) (sym (told-append hs (Calls 0 ∷ Stops ∷ []) H)) in
-    let acts : d.acts ≡ a.acts ++ done g.id (hs ++ Calls 0 ∷ Stops ∷ []) = ac ∙ ap (λ es. es ++ act.Beacon (beacon_octets g.id 0) ∷ []) both.acts ∙ append_assoc a.acts (done g.id hs) (act.Beacon (beacon_octets g.id 0) ∷ []) ∙ ap (λ es. a.acts ++ es) (sym (done-append g.id hs (Calls 0 ∷ Stops ∷ []))) in
+    let events : d.events ≡ a.events ++ told (hs ++ SendsBeacon 0 ∷ Stops ∷ []) H = ev ∙ ap (λ es. es ++ event.Stop ∷ []) both.events ∙ append_assoc a.events (told hs H) (event.Stop ∷ []) ∙ ap (λ es. a.events ++ es) (sym (told-append hs (SendsBeacon 0 ∷ Stops ∷ []) H)) in
+    let acts : d.acts ≡ a.acts ++ done g.id (hs ++ SendsBeacon 0 ∷ Stops ∷ []) = ac ∙ ap (λ es. es ++ act.Beacon (beacon_octets g.id 0) ∷ []) both.acts ∙ append_assoc a.acts (done g.id hs) (act.Beacon (beacon_octets g.id 0) ∷ []) ∙ ap (λ es. a.acts ++ es) (sym (done-append g.id hs (SendsBeacon 0 ∷ Stops ∷ []))) in
     record {
       rests = subst (λ ks. Rests g (after ks H) (record m { stopped = true })) whole rests;
       events = subst (λ ks. d.events ≡ a.events ++ told ks H) whole events;

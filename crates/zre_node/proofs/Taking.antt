@@ -12,7 +12,7 @@ use Rattle.zre_journal.specs.Chronicle.{Mark, Comes, after}
 use Rattle.zre_journal.specs.Done.{acts_at, done, offers, is_offered, names, puts}
 use Rattle.zre_journal.specs.Events.{events_at}
 use Rattle.zre_journal.specs.Happens.{at_input, at_places, at_stop, marks, with_entry, has_stopped}
-use Rattle.zre_journal.specs.Heard.{newly_said}
+use Rattle.zre_journal.specs.Heard.{completed}
 use Rattle.zre_journal.specs.Links.{gate, taken}
 use Rattle.zre_journal.specs.Peers.{Life, lives}
 use Rattle.zre_journal.specs.Told.{told}
@@ -89,7 +89,7 @@ took_noted g e H t a n b c going none notes d is =
       acts = w.acts ∙ ap (λ xs. xs ++ acts_at g e H) notes.acts;
     }
 
--- a stop, behind which no peer is known, so nothing is offered
+-- a stop, after which no peer is known, so nothing is offered
 pub took_stop : (g : Config) (e : Entry) (H : List Mark) (t : Tables) (a c : Effects) → has_stopped H ≡ false → at_input g e.input H (Comes e ∷ H) ≡ at_stop g (Comes e ∷ H) → Stopped g (Comes e ∷ H) t a c → Took g e H t a c
 took_stop g e H t a c going is s =
     let hs = at_stop g (Comes e ∷ H) in
@@ -125,7 +125,7 @@ ending g i H K e = (at_end g i H K e, quiet_end i e)
 pub unnamed_piece : (e : Entry) (c : ℕ) (o : List ℕ) → e.input ≡ input.Piece c o → (l : ℕ) → names l e.input ≡ false
 unnamed_piece e c o is l = rw is refl
 
-pub piece_marks : (g : Config) (e : Entry) (H : List Mark) (c : ℕ) (o : List ℕ) → e.input ≡ input.Piece c o → at_input g e.input H (Comes e ∷ H) ≡ at_places g c (newly_said g.id c H (Comes e ∷ H)) (Comes e ∷ H)
+pub piece_marks : (g : Config) (e : Entry) (H : List Mark) (c : ℕ) (o : List ℕ) → e.input ≡ input.Piece c o → at_input g e.input H (Comes e ∷ H) ≡ at_places g c (completed g.id c H (Comes e ∷ H)) (Comes e ∷ H)
 piece_marks g e H c o is = ap (λ i. at_input g i H (Comes e ∷ H)) is
 
 pub other_input : {C : Type 0} (i : Input) → ((from o : List ℕ) → i ≡ input.Datagram from o → ⊥) → ((c : ℕ) → i ≡ input.Opened c → ⊥) → ((c : ℕ) → i ≡ input.Shut c → ⊥) → is_incoming i ≡ true → C

@@ -18,7 +18,7 @@ use Rattle.zre_peer.specs.declared.event.Event.TheVariants as event
 use Rattle.zre_peer.specs.Runs.{shown}
 use Rattle.zre_peer.specs.Standing.{view_in}
 use Rattle.zre_journal.specs.declared.config.Config.{Config}
-use Rattle.zre_journal.specs.Chronicle.{Mark, Ends, Closes, Falters, Puts, Calls, after, in_turn}
+use Rattle.zre_journal.specs.Chronicle.{Mark, Ends, Closes, IsEvasive, Puts, SendsBeacon, after, in_turn}
 use Rattle.zre_journal.specs.Connections.{open_ones, runs, since}
 use Rattle.zre_journal.specs.Done.{names}
 use Rattle.zre_journal.specs.Happens.{at_input, at_tick, falter, is_silent, is_faltering, is_stale}
@@ -27,9 +27,9 @@ use Rattle.zre_journal.specs.Links.{bodies, unsent}
 use Rattle.zre_journal.specs.Peers.{Life, lives, life, runner, counted, is_entered, view}
 use Rattle.zre_journal.specs.Proper.{Apart}
 use Rattle.zre_journal.specs.Told.{told, faltering}
-use Rattle.zre_journal.proofs.Idle.{idle_behind, AreNoStarts, ends_start_none, none_and_none}
+use Rattle.zre_journal.proofs.Idle.{idle_after, AreNoStarts, ends_start_none, none_and_none}
 use Rattle.zre_journal.proofs.Joined.{after-append}
-use Rattle.zre_journal.proofs.Kept.{Falters-proper, Calls-proper}
+use Rattle.zre_journal.proofs.Kept.{IsEvasive-proper, SendsBeacon-proper}
 use Rattle.zre_journal.proofs.Known.{each_known, life_stays, end_all, ends_known, kept_far}
 use Rattle.zre_journal.proofs.Listed.{All-kept, Apart-kept, found_passes}
 use Rattle.zre_node.specs.declared.connection.Connection.{Connection}
@@ -105,11 +105,11 @@ module _ (g : Config) (H : List Mark) (t : Tables) (h : Holds g H t) where
 -- ---- EVASIVE
 
 module _ (g : Config) (K : List Mark) (t : Tables) (h : Holds g K t) where
-  pub holds_falters : (l : ℕ) → Holds g (Falters l ∷ K) t
-  holds_falters l = with_conns g K (Falters l ∷ K) t t.last t.conns h (Falters-proper K h.keeps.proper l) refl refl refl h.peers refl refl refl h.keeps.last_is h.keeps.conns
+  pub holds_falters : (l : ℕ) → Holds g (IsEvasive l ∷ K) t
+  holds_falters l = with_conns g K (IsEvasive l ∷ K) t t.last t.conns h (IsEvasive-proper K h.keeps.proper l) refl refl refl h.peers refl refl refl h.keeps.last_is h.keeps.conns
 
-  pub holds_calls : (port : ℕ) → Holds g (Calls port ∷ K) t
-  holds_calls port = with_conns g K (Calls port ∷ K) t t.last t.conns h (Calls-proper K h.keeps.proper port) refl refl refl h.peers refl refl refl h.keeps.last_is h.keeps.conns
+  pub holds_calls : (port : ℕ) → Holds g (SendsBeacon port ∷ K) t
+  holds_calls port = with_conns g K (SendsBeacon port ∷ K) t t.last t.conns h (SendsBeacon-proper K h.keeps.proper port) refl refl refl h.peers refl refl refl h.keeps.last_is h.keeps.conns
 
 run_shows : (o : Option ℕ) (id : PeerId) (ms : List Message) (r : Option Running) (x : Running) → HasRun o id ms r → r ≡ Some x → view_in x.run ≡ shown ms
 run_shows None id ms r x h e = let z : None ≡ Some x = sym h ∙ e in absurd cc
@@ -118,7 +118,7 @@ run_shows (Some c) id ms r x h e = let z : Some h.0 ≡ Some x = sym h.1 ∙ e i
 -- what is told of an entered peer that falters, by its row
 pub record Wavers (g : Config) (K : List Mark) (l : ℕ) (k : Peer) (x : Running) : Type 0 where
   pub its_view : view_in x.run ≡ shown (counted l K)
-  pub tells : told (Falters l ∷ []) K ≡ event.Evasive k.id (view l K).name ∷ []
+  pub tells : told (IsEvasive l ∷ []) K ≡ event.Evasive k.id (view l K).name ∷ []
 
 pub wavers : (g : Config) (K : List Mark) (t : Tables) → Holds g K t → (l : ℕ) (k : Peer) → Some k ≡ lookup (is_at (nat_cmp l)) t.peers.entries → (x : Running) → k.run ≡ Some x → Wavers g K l k x
 wavers g K t h l k was x e =
@@ -169,12 +169,12 @@ module _ (g : Config) where
   still_entered : (l : ℕ) (K : List Mark) (ls : List ℕ) → AllByRecursion (λ k. eqb l k ≡ false) ls → AreEntered K ls → AreEntered (after (falters g l K) K) ls
   still_entered l K ls far k = by (ltb 4194304 (unsent g l K + size_of (bodies l K) body.Ping))
     where
-      here : AreEntered (Falters l ∷ K) ls
-      here = same_entered (Falters l ∷ K) K (λ m. refl) (λ m. refl) ls k
+      here : AreEntered (IsEvasive l ∷ K) ls
+      here = same_entered (IsEvasive l ∷ K) K (λ m. refl) (λ m. refl) ls k
 
-      by : (b : Bool) → AreEntered (after (cond b (Ends l (cause.Slow (unsent g l K) (size_of (bodies l K) body.Ping)) ∷ []) (Puts l body.Ping ∷ [])) (Falters l ∷ K)) ls
-      by true = ends_entered l (cause.Slow (unsent g l K) (size_of (bodies l K) body.Ping)) (Falters l ∷ K) ls far here
-      by false = same_entered (Puts l body.Ping ∷ Falters l ∷ K) (Falters l ∷ K) (λ m. refl) (λ m. refl) ls here
+      by : (b : Bool) → AreEntered (after (cond b (Ends l (cause.Slow (unsent g l K) (size_of (bodies l K) body.Ping)) ∷ []) (Puts l body.Ping ∷ [])) (IsEvasive l ∷ K)) ls
+      by true = ends_entered l (cause.Slow (unsent g l K) (size_of (bodies l K) body.Ping)) (IsEvasive l ∷ K) ls far here
+      by false = same_entered (Puts l body.Ping ∷ IsEvasive l ∷ K) (IsEvasive l ∷ K) (λ m. refl) (λ m. refl) ls here
 
   -- each is entered when its turn comes
   pub entered_at : (ls : List ℕ) (K : List Mark) (i : ℕ) → i < length ls → AreEntered K ls → IsEntered (get_or ls i 0) (after (in_turn (falters g) (take i ls) K) K)
@@ -272,7 +272,7 @@ module _ (g : Config) (K : List Mark) (t : Tables) (h : Holds g K t) where
       did_as g (end_all cause.Expired (expiring g K)) (map (λ l. Ends l cause.Expired) ls) K n a b
       (sym (ap (λ ks. map (λ l. Ends l cause.Expired) ks) e ∙ map-map (λ (v : Life). v.link) (λ l. Ends l cause.Expired) (expiring g K))) d
 
-  -- the others are entered behind their ends
+  -- the others are entered after their ends
   pub wavering_entered : (ls : List ℕ) → ls ≡ link_list (wavering g K) → AreEntered (expired g K) ls
   wavering_entered ls e = subst (AreEntered (expired g K)) (sym e)
       (entered_from (expired g K) (wavering g K) (Apart-kept (λ (v : Life). v.link) (is_faltering g K) (lives K) h.keeps.proper.living.apart)
@@ -287,24 +287,24 @@ module _ (g : Config) (K : List Mark) (t : Tables) (h : Holds g K t) where
   pub stale_idle : (cs : List ℕ) → cs ≡ stale g K → AreIdle (faltered g K) cs
   stale_idle cs e = subst (AreIdle (faltered g K)) (sym e)
       (passing (λ c. runs c (faltered g K) ≡ None) (is_stale g K)
-      (λ c p. idle_behind (in_turn (falters g) (link_list (wavering g K)) (expired g K)) (expired g K) c (falters_start_none g (link_list (wavering g K)) (expired g K))
-      (idle_behind (end_all cause.Expired (expiring g K)) K c (ends_start_none cause.Expired (expiring g K)) (idles c p))) (open_ones K))
+      (λ c p. idle_after (in_turn (falters g) (link_list (wavering g K)) (expired g K)) (expired g K) c (falters_start_none g (link_list (wavering g K)) (expired g K))
+      (idle_after (end_all cause.Expired (expiring g K)) K c (ends_start_none cause.Expired (expiring g K)) (idles c p))) (open_ones K))
 
 -- the marks of a tick, as they were left
-tick_marks : (g : Config) (K : List Mark) → at_tick g K ≡ end_all cause.Expired (expiring g K) ++ in_turn (falters g) (link_list (wavering g K)) (expired g K) ++ map (λ c. Closes c close.Timeout) (stale g K) ++ Calls g.port ∷ []
+tick_marks : (g : Config) (K : List Mark) → at_tick g K ≡ end_all cause.Expired (expiring g K) ++ in_turn (falters g) (link_list (wavering g K)) (expired g K) ++ map (λ c. Closes c close.Timeout) (stale g K) ++ SendsBeacon g.port ∷ []
 tick_marks g K =
-    ap (λ hs. end_all cause.Expired (expiring g K) ++ hs ++ map (λ c. Closes c close.Timeout) (stale g K) ++ Calls g.port ∷ [])
+    ap (λ hs. end_all cause.Expired (expiring g K) ++ hs ++ map (λ c. Closes c close.Timeout) (stale g K) ++ SendsBeacon g.port ∷ [])
     (sym (falters_are g (wavering g K) (expired g K) K (ends_alike cause.Expired (expiring g K) K)))
 
 -- the whole tick from its parts
 pub ticks : (g : Config) (K : List Mark) (cs : List ℕ) (t n m : Tables) (a b c d e : Effects) → cs ≡ stale g K → Did g (end_all cause.Expired (expiring g K)) K t a b
     → Did g (in_turn (falters g) (link_list (wavering g K)) (expired g K)) (expired g K) n b c → Did g (map (λ k. Closes k close.Timeout) cs) (faltered g K) m c d
-    → Did g (Calls g.port ∷ []) (after (map (λ k. Closes k close.Timeout) cs) (faltered g K)) m d e → Did g (at_tick g K) K m a e
+    → Did g (SendsBeacon g.port ∷ []) (after (map (λ k. Closes k close.Timeout) cs) (faltered g K)) m d e → Did g (at_tick g K) K m a e
 ticks g K cs t n m a b c d e is first second third fourth =
     let E = end_all cause.Expired (expiring g K) in
     let F = in_turn (falters g) (link_list (wavering g K)) (expired g K) in
     let C = map (λ k. Closes k close.Timeout) cs in
-    let Z = Calls g.port ∷ [] in
+    let Z = SendsBeacon g.port ∷ [] in
     did_as g (at_tick g K) (E ++ (F ++ (C ++ Z))) K m a e
     (tick_marks g K ∙ ap (λ ks. E ++ F ++ map (λ k. Closes k close.Timeout) ks ++ Z) (sym is) ∙ append_assoc (E ++ F) C Z ∙ append_assoc E F (C ++ Z))
     (did_then g E (F ++ (C ++ Z)) K t m a b e first (did_then g F (C ++ Z) (expired g K) n m b c e second (did_then g C Z (faltered g K) m m c d e third fourth)))

@@ -20,6 +20,6 @@ IsPlace g p m H (Known l) = (v : Life) × (life_of p H ≡ Some v) × (v.link �
 IsPlace g p m H (New e) = (life_of p H ≡ None) × (endpoint_in (view_of (m ∷ [])).endpoint ≡ Some e) × (length (lives H) < 256)
 IsPlace g p m H (Nowhere why) = (life_of p H ≡ None) × ((c : ℕ) → start_unknown g c p m (endpoint_in (view_of (m ∷ [])).endpoint) H ≡ Ignores c why ∷ [])
 
--- why a first message makes no run: for want of memory nothing is said
+-- why a first message makes no run: of OutOfMemory nothing is said
 abbrev pub IsFirstFault : RunFault → Message → Type 0
 IsFirstFault f m = f ≢ fault.OutOfMemory → (may_follow [] m ≡ false) × (f ≡ fault_of [] m)

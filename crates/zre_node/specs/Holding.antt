@@ -24,7 +24,7 @@ reader_octets (Some h) = kept_of h
 abbrev pub conn_row_octets : Connection → ℕ
 conn_row_octets k = reader_octets k.conn
 
--- nothing reads it, or it stands behind octets that came
+-- nothing reads it, or it stands after octets that came
 abbrev pub IsReading : Option Hearing → Type 0
 IsReading None = Unit {0}
 IsReading (Some h) = (own : PeerId) × (o : List ℕ) × (h ≡ conn_after own o)
@@ -38,7 +38,7 @@ shown_octets (Some v) = view_octets v
 abbrev pub peer_row_octets : Peer → ℕ
 peer_row_octets k = kept_of_replies k.link.replies + length k.link.queue + shown_octets (view_of_row k)
 
--- its link stands behind what was put, what came back and what has gone out
+-- its link stands after what was put, what came back and what has gone out
 pub record IsSending (k : Peer) : Type 0 where
   pub own : PeerId
   pub put : List Body

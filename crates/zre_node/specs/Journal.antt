@@ -18,7 +18,7 @@ pub record StandsIn (g : Config) (H : List Mark) (t : Tables) : Type 0 where
   pub going : has_stopped H ≡ false → Holds g H t
   pub resting : has_stopped H ≡ true → Rests g H t
 
--- an entry was taken behind H: the tables hold with it, and what it tells and asks for was added
+-- an entry was taken after H: the tables hold with it, and what it tells and asks for was added
 pub record Took (g : Config) (e : Entry) (H : List Mark) (t : Tables) (before now : Effects) : Type 0 where
   pub stands : StandsIn g (with_entry g e H) t
   pub events : now.events ≡ before.events ++ events_at g e H

@@ -129,7 +129,7 @@ pub record Parted (g : Config) (H : List Mark) (l : ℕ) (k : Peer) (t : Tables)
 
 -- ---- what calls do
 
--- a call has left these marks, behind H
+-- a call has left these marks, after H
 pub record Did (g : Config) (hs H : List Mark) (t : Tables) (before now : Effects) : Type 0 where
   pub holds : Holds g (after hs H) t
   pub events : now.events ≡ before.events ++ told hs H
@@ -148,7 +148,7 @@ pub record Rests (g : Config) (H : List Mark) (t : Tables) : Type 0 where
   pub none_open : open_ones H ≡ []
   pub no_conns : t.conns.entries ≡ []
 
--- a stop has left its marks, behind H
+-- a stop has left its marks, after H
 pub record Stopped (g : Config) (H : List Mark) (t : Tables) (before now : Effects) : Type 0 where
   pub rests : Rests g (after (at_stop g H) H) t
   pub events : now.events ≡ before.events ++ told (at_stop g H) H

@@ -3,7 +3,7 @@ use Rattle.std.specs.Prelude.{◌≡◌, ℕ, ◌-◌, Bool, true, false, not, �
 use Rattle.std.specs.List.{AllByRecursion}
 use Rattle.zre_msg.specs.declared.message.Body.TheVariants as body
 use Rattle.zre_journal.specs.declared.config.Config.{Config}
-use Rattle.zre_journal.specs.Chronicle.{Mark, Falters}
+use Rattle.zre_journal.specs.Chronicle.{Mark, IsEvasive}
 use Rattle.zre_journal.specs.Connections.{runs}
 use Rattle.zre_journal.specs.Happens.{push}
 use Rattle.zre_journal.specs.Peers.{life, runner}
@@ -29,7 +29,7 @@ numbers_of test (e ∷ es) = if test e.1 then e.0 ∷ numbers_of test es else nu
 
 -- EVASIVE of the peer of a link, and PING on it
 abbrev pub falters : Config → ℕ → List Mark → List Mark
-falters g l K = Falters l ∷ push g l body.Ping K
+falters g l K = IsEvasive l ∷ push g l body.Ping K
 
 -- the peer of this link is known and entered
 abbrev pub IsEntered : ℕ → List Mark → Type 0

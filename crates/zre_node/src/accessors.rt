@@ -1,8 +1,8 @@
-//! What a node is asked between its steps. After want of memory nothing is said of the answers.
+//! What a node is asked between its steps. After OutOfMemory nothing is said of the answers.
 
 ghost use Rattle.std.specs.Prelude.{◌≡◌, ◌<◌, ◌≤◌, ℕ, List, [], Some, None, is_some, length, option_map, option_copied, IfOk};
 ghost use Rattle.zre_outside.specs.declared.entry.Entry.{Entry as EntryValue};
-ghost use Rattle.zre_journal.specs.Asked.{bound_behind, entered_behind, front_behind, held_behind, link_behind, unsent_behind, view_behind, HasFront, HasSome, IsDue};
+ghost use Rattle.zre_journal.specs.Asked.{bound_after, entered_after, front_after, held_after, link_later, unsent_after, view_after, HasFront, HasSome, IsDue};
 ghost use Rattle.zre_journal.specs.declared.config.Config.{Config as ConfigValue};
 ghost use Rattle.zre_journal.specs.Events.{chronicle};
 ghost use Rattle.zre_journal.specs.Happens.{has_stopped};
@@ -48,14 +48,14 @@ impl Node {
     /// What the peer with this id has told in its run: its name, its endpoint, its headers and its groups. None where it isn't
     /// entered.
     pub fn peer(&self, id: PeerId) -> Option<&View>
-        ensures { (g : ConfigValue) (J : List EntryValue) → StandsFor g J self.now → option_copied result ≡ view_behind g J id }
+        ensures { (g : ConfigValue) (J : List EntryValue) → StandsFor g J self.now → option_copied result ≡ view_after g J id }
     {
         view_of(&self.tables.peers, id)
     }
 
     /// The entered peers, in order of birth.
     pub fn peers(&self) -> Result<Ids, OutOfMemory>
-        ensures { (g : ConfigValue) (J : List EntryValue) → StandsFor g J self.now → IfOk result (λ ids. ids ≡ entered_behind g J) }
+        ensures { (g : ConfigValue) (J : List EntryValue) → StandsFor g J self.now → IfOk result (λ ids. ids ≡ entered_after g J) }
     {
         entered(self.tables.alloc, &self.tables.peers)
     }
@@ -69,7 +69,7 @@ impl Node {
 
     /// The link of the peer with this id. None where it isn't known.
     pub fn link_of(&self, id: PeerId) -> Option<u64>
-        ensures { (g : ConfigValue) (J : List EntryValue) → StandsFor g J self.now → result ≡ link_behind g J id }
+        ensures { (g : ConfigValue) (J : List EntryValue) → StandsFor g J self.now → result ≡ link_later g J id }
     {
         link_of(&self.tables.peers, id)
     }
@@ -78,7 +78,7 @@ impl Node {
     /// a known peer.
     pub fn front(&self, link: u64) -> Option<&[u8]>
         ensures front { (g : ConfigValue) (J : List EntryValue) → StandsFor g J self.now →
-            HasFront (front_behind g J link) (option_map (λ r. r.now) result) }
+            HasFront (front_after g J link) (option_map (λ r. r.now) result) }
         ensures due { (g : ConfigValue) (J : List EntryValue) → StandsFor g J self.now → IsDue g (chronicle g J) link →
             HasSome (option_map (λ r. r.now) result) }
     {
@@ -90,7 +90,7 @@ impl Node {
 
     /// How many octets wait on a link. None where the link isn't that of a known peer.
     pub fn unsent(&self, link: u64) -> Option<u64>
-        ensures { (g : ConfigValue) (J : List EntryValue) → StandsFor g J self.now → result ≡ unsent_behind g J link }
+        ensures { (g : ConfigValue) (J : List EntryValue) → StandsFor g J self.now → result ≡ unsent_after g J link }
     {
         match self.tables.peers.get(&link) {
             Some(peer) => Some(peer.link.unsent()),
@@ -103,8 +103,8 @@ impl Node {
     /// entered peer the name, the endpoint, the headers and the groups that it has told; and of the node itself the name,
     /// the headers and the groups. Neither room that lists keep in reserve is counted nor what is of one size in each row.
     pub fn held(&self) -> u64
-        ensures exact { (g : ConfigValue) (J : List EntryValue) → StandsFor g J self.now → result ≡ held_behind g J }
-        ensures within { (g : ConfigValue) (J : List EntryValue) → StandsFor g J self.now → result ≤ bound_behind g J }
+        ensures exact { (g : ConfigValue) (J : List EntryValue) → StandsFor g J self.now → result ≡ held_after g J }
+        ensures within { (g : ConfigValue) (J : List EntryValue) → StandsFor g J self.now → result ≤ bound_after g J }
     {
         self.tables.octets()
     }

@@ -4,7 +4,7 @@ ghost use Rattle.std.specs.Prelude.{◌≡◌, List, ℕ, ◌∷◌, [], OnOk, I
 ghost use Rattle.std.specs.Ordering.{nat_cmp};
 ghost use Rattle.std.specs.BTreeMap.{insert_entry};
 ghost use Rattle.zre_journal.specs.declared.config.Config.{Config};
-ghost use Rattle.zre_journal.specs.Chronicle.{Mark, Ends, Beacons};
+ghost use Rattle.zre_journal.specs.Chronicle.{Mark, Ends, HearsBeacon};
 ghost use Rattle.zre_journal.specs.Peers.{life};
 ghost use Rattle.zre_journal.specs.Happens.{hello, is_welcome as welcome, at_datagram, birth};
 ghost use Rattle.zre_beacon.specs.Beacon.{beacon_in};
@@ -100,7 +100,7 @@ impl Tables {
     // A beacon of a known peer is heard.
     fn renew(&mut self, link: u64)
         ensures { (g : Config) (H : List Mark) → Holds g H self.old → IsSome (life link H) →
-            Holds g (Beacons link ∷ H) self.new }
+            Holds g (HearsBeacon link ∷ H) self.new }
     {
         if let Some(peer) = self.peers.get_mut(&link) {
             peer.active = self.clock;

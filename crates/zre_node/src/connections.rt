@@ -3,7 +3,7 @@
 ghost use Rattle.std.specs.Prelude.{◌≡◌, List, ◌∷◌, [], ◌++◌, true, false, None, OnOk, IfSome, MatchOption, map};
 ghost use Rattle.std.specs.Option.{option_map};
 ghost use Rattle.zre_journal.specs.declared.config.Config.{Config};
-ghost use Rattle.zre_journal.specs.Chronicle.{Mark, Closes, Drops};
+ghost use Rattle.zre_journal.specs.Chronicle.{Mark, Closes, ClosesAtStop};
 ghost use Rattle.zre_journal.specs.Connections.{is_open, runs};
 ghost use Rattle.zre_journal.specs.Happens.{at_opened, at_shut, end_of_run};
 ghost use Rattle.zre_node.specs.Stands.{Holds, Did, RunNone};
@@ -83,7 +83,7 @@ impl Tables {
     /// These open connections, which run no peers, are closed without a word to the user.
     pub fn drop_all(&mut self, out: &mut Effects, conns: &[u64]) -> Result<(), OutOfMemory>
         ensures { (g : Config) (H : List Mark) → Holds g H self.old → RunNone H →
-            OnOk result (Did g (map (λ c. Drops c) conns.now) H self.new out.old out.new) }
+            OnOk result (Did g (map (λ c. ClosesAtStop c) conns.now) H self.new out.old out.new) }
     {
         for conn in conns {
             self.conns.remove(conn);

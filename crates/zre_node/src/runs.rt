@@ -61,7 +61,7 @@ fn is_ping(body: &Body) -> bool
 }
 
 impl Tables {
-    /// A message behind the first, on the connection that runs the peer of this link.
+    /// A message after the first, on the connection that runs the peer of this link.
     pub fn later(
         &mut self,
         out: &mut Effects,

@@ -5,7 +5,7 @@ ghost use Rattle.zre_outside.specs.declared.entry.Entry.{Entry as EntryValue};
 ghost use Rattle.zre_outside.specs.declared.entry.Input.TheVariants as given;
 ghost use Rattle.zre_peer.specs.declared.causes.CloseWhy.TheVariants as closing;
 ghost use Rattle.zre_journal.specs.declared.config.Config.{Config};
-ghost use Rattle.zre_journal.specs.Chronicle.{Mark, Calls, Closes, Falters, in_turn};
+ghost use Rattle.zre_journal.specs.Chronicle.{Mark, SendsBeacon, Closes, IsEvasive, in_turn};
 ghost use Rattle.zre_journal.specs.Happens.{at_tick};
 ghost use Rattle.zre_node.specs.Journal.{Took};
 ghost use Rattle.zre_node.specs.Stands.{Holds, Did};
@@ -110,7 +110,7 @@ impl Tables {
     // The user is told that an entered peer is evasive.
     fn tell_evasive(&self, out: &mut Effects, link: u64) -> Result<(), OutOfMemory>
         ensures { (g : Config) (K : List Mark) → Holds g K self.now → IsEntered link K →
-            OnOk result (Did g (Falters link ∷ []) K self.now out.old out.new) }
+            OnOk result (Did g (IsEvasive link ∷ []) K self.now out.old out.new) }
     {
         let Some(peer) = self.peers.get(&link) else {
             return Ok(());
@@ -156,7 +156,7 @@ impl Tables {
     // The node's own beacon goes out.
     fn call(&self, out: &mut Effects) -> Result<(), OutOfMemory>
         ensures { (g : Config) (H : List Mark) → Holds g H self.now →
-            OnOk result (Did g (Calls g.port ∷ []) H self.now out.old out.new) }
+            OnOk result (Did g (SendsBeacon g.port ∷ []) H self.now out.old out.new) }
     {
         let beacon = Beacon {
             id: self.config.id,

@@ -4,14 +4,14 @@ use Rattle.zre_outside.specs.declared.adapters.StdSource.{StdSource}
 use Rattle.zre_outside.specs.declared.adapters.StdSink.{StdSink}
 use Rattle.zre_outside.specs.declared.file_recorder.FileRecorder.{FileRecorder}
 
--- the reader behind a source, and how often it failed
+-- the reader after a source, and how often it failed
 abbrev pub reader_of : {T : Type 0} → StdSource T → T
 reader_of s = s.inner
 
 abbrev pub reader_faults_of : {T : Type 0} → StdSource T → ℕ
 reader_faults_of s = s.faults
 
--- the writer behind a sink, and how often it failed
+-- the writer after a sink, and how often it failed
 abbrev pub writer_of : {T : Type 0} → StdSink T → T
 writer_of s = s.inner
 

@@ -11,13 +11,13 @@ raised count = min (count + 1) (2 ^ 64 - 1)
 abbrev pub Rose : ℕ → ℕ → Type 0
 Rose before now = raised before ≤ now
 
--- the outside failed, and not for want of memory
+-- the outside failed, and not with OutOfMemory
 abbrev pub is_failed : {T : Type 0} → Result T NextFault → Bool
 is_failed (Ok value) = false
 is_failed (Err Failed) = true
 is_failed (Err OutOfMemory) = false
 
--- a count behind a call, which it raises where the outside failed and nowhere else
+-- a count after a call, which it raises where the outside failed and nowhere else
 abbrev pub counted : Bool → ℕ → ℕ
 counted true before = raised before
 counted false before = before

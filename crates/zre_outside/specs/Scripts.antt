@@ -16,23 +16,23 @@ use Rattle.zre_outside.specs.Worlds.{Log, is_look, after_turn}
 abbrev pub entry_at : ℕ → Input → Turn
 entry_at reading i = turn.Entry (record { at = reading; input = i })
 
--- the next turn: a command is done, an item of the script comes as it stands, and behind the last one comes End
+-- the next turn: a command is done, an item of the script comes as it stands, and after the last one comes End
 abbrev pub turn_of : List Turn → ℕ → Option Command → Turn
 turn_of left reading (Some c) = entry_at reading (input.Do c)
 turn_of [] reading None = entry_at reading input.End
 turn_of (t ∷ ts) reading None = t
 
--- what is left behind that turn: at a look the script waits for a command
-abbrev pub left_behind : List Turn → Option Command → List Turn
-left_behind left (Some c) = drop 1 left
-left_behind [] None = []
-left_behind (turn.Look ∷ ts) None = turn.Look ∷ ts
-left_behind (turn.Entry e ∷ ts) None = ts
+-- what is left after that turn: at a look the script waits for a command
+abbrev pub left_after : List Turn → Option Command → List Turn
+left_after left (Some c) = drop 1 left
+left_after [] None = []
+left_after (turn.Look ∷ ts) None = turn.Look ∷ ts
+left_after (turn.Entry e ∷ ts) None = ts
 
 -- the clock's reading of the last entry
-abbrev pub reading_behind : ℕ → Turn → ℕ
-reading_behind reading turn.Look = reading
-reading_behind reading (turn.Entry e) = e.at
+abbrev pub reading_after : ℕ → Turn → ℕ
+reading_after reading turn.Look = reading
+reading_after reading (turn.Entry e) = e.at
 
 -- nothing was seen yet
 abbrev pub first_log : Log
@@ -44,10 +44,10 @@ log_of s = record { begun = s.begun; given = s.given.items; looks = s.looks; han
 abbrev pub left_on : Stage → List Turn
 left_on s = s.left.items
 
--- how often a look stood in a row, behind this turn
-abbrev pub row_behind : ℕ → Turn → ℕ
-row_behind row turn.Look = raised row
-row_behind row (turn.Entry e) = 0
+-- how often a look stood in a row, after this turn
+abbrev pub row_later : ℕ → Turn → ℕ
+row_later row turn.Look = raised row
+row_later row (turn.Entry e) = 0
 
 -- whether the next turn is a look
 abbrev pub at_look : List Turn → Option Command → Bool
@@ -72,8 +72,8 @@ pub record Sees (f : Log → Log) (old new : Stage) : Type 0 where
 -- a turn was answered by the script
 pub record Plays (command : Option Command) (t : Turn) (old new : Stage) : Type 0 where
   pub is : t ≡ turn_of (left_on old) old.reading command
-  pub left : left_on new ≡ left_behind (left_on old) command
-  pub reading : new.reading ≡ reading_behind old.reading t
+  pub left : left_on new ≡ left_after (left_on old) command
+  pub reading : new.reading ≡ reading_after old.reading t
   pub looked : new.looked ≡ is_look t
   pub told : log_of new ≡ after_turn command t (log_of old)
 

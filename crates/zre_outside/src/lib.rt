@@ -7,6 +7,7 @@
 mod act;
 mod adapters;
 mod addresses;
+mod buffer;
 mod copies;
 mod deed;
 mod entries;
@@ -37,6 +38,7 @@ mod world;
 pub use act::{Act, Acts};
 pub use adapters::{StdSink, StdSource};
 pub use addresses::Addresses;
+pub use buffer::{PIECE, room_for, zeros};
 pub use deed::Deed;
 pub use entries::Entries;
 pub use entry::{Command, Entry, Input};

@@ -3,7 +3,7 @@ ghost use Rattle.std.specs.List.{list_any};
 ghost use Rattle.zre_outside.specs.declared.deed.Deed.{Deed as DeedValue};
 ghost use Rattle.zre_outside.specs.Causes.{Rose, raised, counted, is_failed};
 ghost use Rattle.zre_outside.specs.Worlds.{with_start, IsTurn, is_look, after_turn, with_deed};
-ghost use Rattle.zre_outside.specs.Scripts.{first_log, turn_of, left_behind, reading_behind, row_behind, at_look, Waits};
+ghost use Rattle.zre_outside.specs.Scripts.{first_log, turn_of, left_after, reading_after, row_later, at_look, Waits};
 
 use crate::stage::Stage;
 use crate::{Act, Command, NextFault, Script, Start, Turn, World};
@@ -14,7 +14,7 @@ use zre_values::OutOfMemory;
 pub const LOOKS_IN_A_ROW: u64 = 50000000;
 
 /// A script as a world, as [`crate::SureWorld`]. The calls of `start` and of `next` with the numbers of two lists fail, counted
-/// from 1, and so does a look behind [`LOOKS_IN_A_ROW`] others.
+/// from 1, and so does a look after [`LOOKS_IN_A_ROW`] others.
 #[derive(Drop)]
 pub struct ScriptWorld {
     stage: Stage,
@@ -85,7 +85,7 @@ impl World for ScriptWorld {
         }
     }
 
-    /// The turn is the script's. The calls whose numbers are listed fail, and a look behind too many others, and no others.
+    /// The turn is the script's. The calls whose numbers are listed fail, and a look after too many others, and no others.
     fn next(&mut self, command: Option<Command>) -> Result<Turn, NextFault>
         requires { IsSome command → has_looked self.old ≡ true }
         ensures turn { IfOk result (λ t. IsTurn command t) }
@@ -96,8 +96,8 @@ impl World for ScriptWorld {
         ensures failed { IsErrOf result NextFault.Failed → Rose (world_faults_of self.old) (world_faults_of self.new) }
         ensures counted { world_faults_of self.new ≡ counted (is_failed result) (world_faults_of self.old) }
         ensures script { IfOk result (λ t. (t ≡ turn_of (script_left self.old) (reading_of self.old) command)
-            × (script_left self.new ≡ left_behind (script_left self.old) command) × (reading_of self.new ≡ reading_behind (reading_of self.old) t)) }
-        ensures row { IfOk result (λ t. row_of self.new ≡ row_behind (row_of self.old) t) }
+            × (script_left self.new ≡ left_after (script_left self.old) command) × (reading_of self.new ≡ reading_after (reading_of self.old) t)) }
+        ensures row { IfOk result (λ t. row_of self.new ≡ row_later (row_of self.old) t) }
         ensures kept { OnErr result ((script_left self.new ≡ script_left self.old) × (reading_of self.new ≡ reading_of self.old) × (row_of self.new ≡ row_of self.old)) }
         ensures listed { is_failed result ≡ list_any (λ n. n == raised (nexts_of self.old)) (next_fails_of self.old)
             || (at_look (script_left self.old) command && nat_le 50000000 (row_of self.old)) }
@@ -142,7 +142,7 @@ impl World for ScriptWorld {
 }
 
 fn row_after(row: u64, turn: &Turn) -> u64
-    ensures { result ≡ row_behind row turn.now }
+    ensures { result ≡ row_later row turn.now }
 {
     match turn {
         Turn::Look => row.saturating_add(1),

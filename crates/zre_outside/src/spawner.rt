@@ -56,7 +56,7 @@ pub trait Spawner {
     /// Where a start finds its memory.
     fn alloc(&self) -> Global;
 
-    /// Starts a job, or hands it back. Want of memory is a refusal as any other.
+    /// Starts a job, or hands it back. OutOfMemory is a refusal as any other.
     final fn start<J: Job<Self::Runtime>>(&mut self, job: J) -> Result<Running<J>, Refused<J>>
         ensures started { IfOk result (λ r. job_of r ≡ job) }
         ensures refused { IfErr result (λ r. r.job ≡ job) }

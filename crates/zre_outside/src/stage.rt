@@ -93,7 +93,7 @@ impl Stage {
         }))
     }
 
-    // The next item of the script, or End behind it.
+    // The next item of the script, or End after it.
     fn go_on(&mut self) -> Result<Turn, OutOfMemory>
         ensures ok { IfOk result (λ t. Plays None t self.old self.new) }
         ensures err { OnErr result (Stays self.old self.new) }

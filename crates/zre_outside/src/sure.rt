@@ -38,7 +38,7 @@ impl Source for SureSource {
     }
 }
 
-/// Octets in memory, written in order. Its count of faults is 0, so it fails for want of memory alone.
+/// Octets in memory, written in order. Its count of faults is 0, so it fails with OutOfMemory alone.
 #[derive(Debug, Drop)]
 pub struct SureSink {
     bytes: Octets,

@@ -4,7 +4,7 @@ use crate::{NextFault, Recorder};
 use std::alloc::Global;
 use zre_values::Octets;
 
-/// A capture in memory. Its count of faults is 0, so it fails for want of memory alone.
+/// A capture in memory. Its count of faults is 0, so it fails with OutOfMemory alone.
 #[derive(Debug, Drop)]
 pub struct SureRecorder {
     alloc: Global,

@@ -2,7 +2,7 @@ ghost use Rattle.std.specs.Prelude.{◌≡◌, false, true, Some, option_map, Is
 ghost use Rattle.zre_outside.specs.declared.deed.Deed.{Deed as DeedValue};
 ghost use Rattle.zre_outside.specs.Causes.{Rose};
 ghost use Rattle.zre_outside.specs.Worlds.{with_start, IsTurn, is_look, after_turn, with_deed};
-ghost use Rattle.zre_outside.specs.Scripts.{first_log, turn_of, left_behind, reading_behind, SureWaits};
+ghost use Rattle.zre_outside.specs.Scripts.{first_log, turn_of, left_after, reading_after, SureWaits};
 
 use crate::stage::Stage;
 use crate::{Act, Command, NextFault, Script, Start, Turn, World};
@@ -10,7 +10,7 @@ use std::alloc::Global;
 use zre_values::OutOfMemory;
 
 /// A script as a world. It gives the entries of the script in order, stays at a look until a command is handed in, and
-/// gives End behind the last item. Its count of faults is 0, so it fails for want of memory alone.
+/// gives End after the last item. Its count of faults is 0, so it fails with OutOfMemory alone.
 #[derive(Drop)]
 pub struct SureWorld {
     stage: Stage,
@@ -63,8 +63,8 @@ impl World for SureWorld {
         ensures refused { OnErr result ((Some (sure_seen_by self.new) ≡ Some (sure_seen_by self.old)) × (sure_has_looked self.new ≡ sure_has_looked self.old)) }
         ensures failed { IsErrOf result NextFault.Failed → Rose 0 0 }
         ensures script { IfOk result (λ t. (t ≡ turn_of (sure_script_left self.old) (sure_reading_of self.old) command)
-            × (sure_script_left self.new ≡ left_behind (sure_script_left self.old) command)
-            × (sure_reading_of self.new ≡ reading_behind (sure_reading_of self.old) t)) }
+            × (sure_script_left self.new ≡ left_after (sure_script_left self.old) command)
+            × (sure_reading_of self.new ≡ reading_after (sure_reading_of self.old) t)) }
         ensures kept { OnErr result (SureWaits self.old self.new) }
     {
         match self.stage.next(command) {

@@ -26,7 +26,7 @@ pub trait World {
         ensures later { faults self.old ≤ faults self.new }
         ensures failed { IsErrOf result NextFault.Failed → Rose (faults self.old) (faults self.new) };
 
-    /// The next turn. A command may be handed in behind a look, and comes back as the entry to do it.
+    /// The next turn. A command may be handed in after a look, and comes back as the entry to do it.
     fn next(&mut self, command: Option<Command>) -> Result<Turn, NextFault>
         requires { IsSome command → looked self.old ≡ true }
         ensures turn { IfOk result (λ t. IsTurn command t) }

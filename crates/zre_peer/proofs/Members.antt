@@ -23,7 +23,7 @@ long_here groups i g e long so_far =
     let test : is_short g ≡ false = lt-leb _ _ long in
     sym (at_next (list_all is_short) groups i g e ∙ ap (λ b. b && list_all is_short (drop (i + 1) groups)) test) ∙ so_far
 
--- what is appended for a member, and for those behind it
+-- what is appended for a member, and for those after it
 pub mapped_next : {X Y : Type 0} (f : X → Y) (out now whole : List Y) (xs : List X) (i : ℕ) (x : X) → slice_get xs i ≡ Some x → now ≡ out ++ f x ∷ [] → out ++ map f (drop i xs) ≡ whole → now ++ map f (drop (i + 1) xs) ≡ whole
 mapped_next f out now whole xs i x e is so_far =
     ap (λ r. r ++ map f (drop (i + 1) xs)) is ∙ append_assoc out (f x ∷ []) (map f (drop (i + 1) xs)) ∙ sym (ap (λ r. out ++ r) (at_next (map f) xs i x e)) ∙ so_far

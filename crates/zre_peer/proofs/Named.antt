@@ -1,4 +1,4 @@
--- A message behind HELLO, told by its lines.
+-- A message after HELLO, told by its lines.
 use Rattle.std.proofs.Common.{◌≡◌, true, false, Result, Ok, Err, Option, Some, None, List, ℕ, refl, sym, ap, ◌∙◌}
 use Rattle.std.specs.Prelude.{OnOk, OnErr, is_some}
 use Rattle.std.specs.Option.{ForSome}

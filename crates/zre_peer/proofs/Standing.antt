@@ -6,7 +6,7 @@ use Rattle.std.proofs.lemmas.List.{append-nil, append_assoc}
 use Rattle.zre_msg.specs.declared.message.Message.{Message}
 use Rattle.zre_peer.specs.declared.view.View.{View}
 use Rattle.zre_peer.specs.Later.{goes_on, later_fault}
-use Rattle.zre_peer.specs.Runs.{due, may_follow, fault_of, shown, in_order_behind}
+use Rattle.zre_peer.specs.Runs.{due, may_follow, fault_of, shown, in_order_after}
 use Rattle.zre_peer.specs.Views.{view_of, after, blank}
 
 and_false : (b : Bool) → (b && false) ≡ false
@@ -36,16 +36,16 @@ pub shown_more : (ms : List Message) (m : Message) → shown (ms ++ m ∷ []) �
 shown_more [] m = refl
 shown_more (d ∷ ds) m = refl
 
--- in order behind others, with one more
-pub in_order-push : (done ms : List Message) (m : Message) → in_order_behind done ms ≡ true → may_follow (done ++ ms) m ≡ true → in_order_behind done (ms ++ m ∷ []) ≡ true
+-- in order after others, with one more
+pub in_order-push : (done ms : List Message) (m : Message) → in_order_after done ms ≡ true → may_follow (done ++ ms) m ≡ true → in_order_after done (ms ++ m ∷ []) ≡ true
 in_order-push done [] m e f = and_from (may_follow done m) true (rw append-nil at f) refl
 in_order-push done (n ∷ ms) m e f =
-    let p = and_parts (may_follow done n) (in_order_behind (done ++ n ∷ []) ms) e in
+    let p = and_parts (may_follow done n) (in_order_after (done ++ n ∷ []) ms) e in
     let g : may_follow ((done ++ n ∷ []) ++ ms) m ≡ true = ap (λ x. may_follow x m) (append_assoc done (n ∷ []) ms) ∙ f in
-    and_from (may_follow done n) (in_order_behind (done ++ n ∷ []) (ms ++ m ∷ [])) p.0 (in_order-push (done ++ n ∷ []) ms m p.1 g)
+    and_from (may_follow done n) (in_order_after (done ++ n ∷ []) (ms ++ m ∷ [])) p.0 (in_order-push (done ++ n ∷ []) ms m p.1 g)
 
 -- not in order with one that may not follow
-pub in_order-refused : (done ms : List Message) (m : Message) → may_follow (done ++ ms) m ≡ false → in_order_behind done (ms ++ m ∷ []) ≡ false
+pub in_order-refused : (done ms : List Message) (m : Message) → may_follow (done ++ ms) m ≡ false → in_order_after done (ms ++ m ∷ []) ≡ false
 in_order-refused done [] m f = ap (λ b. b && true) (rw append-nil at f)
 in_order-refused done (n ∷ ms) m f =
     let g : may_follow ((done ++ n ∷ []) ++ ms) m ≡ false = ap (λ x. may_follow x m) (append_assoc done (n ∷ []) ms) ∙ f in

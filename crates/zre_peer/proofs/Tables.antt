@@ -101,9 +101,9 @@ left_front g a b whole i is h =
     let gone : without g (a ++ b) ≡ remove (a ++ b) i = without_cut g a b i h.0 h.1 ∙ ap (λ r. r ++ b) h.1 ∙ sym (remove-append_left a b i h.0) in
     subst (λ w. (i < length w) × (without g w ≡ remove w i)) is (inside, gone)
 
--- a place in the second list stands that much behind the first, where the first has none
-pub left_behind : (g : List ℕ) (a b whole : List (List ℕ)) (n i : ℕ) → a ++ b ≡ whole → length a ≡ n → without g a ≡ a → (i < length b) × (without g b ≡ remove b i) → (n + i < length whole) × (without g whole ≡ remove whole (n + i))
-left_behind g a b whole n i is len none h =
+-- a place in the second list stands that much after the first, where the first has none
+pub left_after : (g : List ℕ) (a b whole : List (List ℕ)) (n i : ℕ) → a ++ b ≡ whole → length a ≡ n → without g a ≡ a → (i < length b) × (without g b ≡ remove b i) → (n + i < length whole) × (without g whole ≡ remove whole (n + i))
+left_after g a b whole n i is len none h =
     let inside : n + i < length (a ++ b) = omega (arith, h.0, len, length-append a b) in
     let back : n + i - n ≡ i = omega arith in
     let gone : without g (a ++ b) ≡ remove (a ++ b) (n + i) = without_kept g a b none ∙ ap (λ r. a ++ r) (h.1 ∙ ap (remove b) (sym back)) ∙ sym (remove-append_right a b n (n + i) len (omega arith)) in

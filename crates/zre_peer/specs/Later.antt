@@ -1,4 +1,4 @@
--- A message behind others, by the view before it and the number that is due.
+-- A message after others, by the view before it and the number that is due.
 use Rattle.std.specs.Prelude.{ℕ, Bool, not, ◌&&◌, ◌==◌, if◌then◌else◌}
 use Rattle.zre_msg.specs.declared.message.Message.{Message}
 use Rattle.zre_peer.specs.Views.{after, is_small}

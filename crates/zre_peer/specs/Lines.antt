@@ -7,11 +7,11 @@ use Rattle.zre_peer.specs.Causes.{cause_text, close_text, ignore_text, refuse_te
 use Rattle.zre_peer.specs.declared.event.Event.{Event}
 use Rattle.zre_peer.specs.declared.event.Event.TheVariants.{Enter, Join, Leave, Whisper, Shout, Evasive, Exit, Stop, Closed, Ignored, Refused}
 
--- who the peer is, in front of further fields: its identity and its name
+-- who the peer is, before further fields: its identity and its name
 abbrev pub who_text : PeerId → List ℕ → List ℕ
 who_text id name = id_text id ++ codes " " ++ quoted name ++ codes " "
 
--- what stands behind that: a group, frames of content, or both
+-- what stands after that: a group, frames of content, or both
 abbrev pub group_end : List ℕ → List ℕ
 group_end group = quoted group ++ codes "\n"
 

@@ -33,11 +33,11 @@ is_hello Ping = false
 is_hello PingOk = false
 is_hello (Other number rest more) = false
 
--- the number of the message behind some messages: they are numbered 1, 2, 3 and so on, modulo 65536
+-- the number of the message after some messages: they are numbered 1, 2, 3 and so on, modulo 65536
 abbrev pub due : List Message → ℕ
 due messages = (length messages + 1) % 65536
 
--- whether a message may stand behind these, which are in order: the first is HELLO and no later one is, each has
+-- whether a message may stand after these, which are in order: the first is HELLO and no later one is, each has
 -- the number that is due, and the view after it is within the limits
 abbrev pub may_follow : List Message → Message → Bool
 may_follow [] m = is_hello m.body && (m.sequence == 1) && is_small (view_of (m ∷ []))
@@ -51,21 +51,21 @@ fault_of (d ∷ ds) m =
     else if m.sequence == due (d ∷ ds) then faults.Limit
     else faults.Broken (due (d ∷ ds)) m.sequence
 
--- some messages behind others are in order: each may follow those in front of it
-abbrev pub in_order_behind : List Message → List Message → Bool
-in_order_behind done [] = true
-in_order_behind done (m ∷ ms) = may_follow done m && in_order_behind (done ++ m ∷ []) ms
+-- some messages after others are in order: each may follow those before it
+abbrev pub in_order_after : List Message → List Message → Bool
+in_order_after done [] = true
+in_order_after done (m ∷ ms) = may_follow done m && in_order_after (done ++ m ∷ []) ms
 
 abbrev pub in_order : List Message → Bool
-in_order messages = in_order_behind [] messages
+in_order messages = in_order_after [] messages
 
 -- the events of messages in order, message by message
-abbrev pub told_behind : PeerId → List Message → List Message → List Event
-told_behind id done [] = []
-told_behind id done (m ∷ ms) = events_of id (view_of done) m.body ++ told_behind id (done ++ m ∷ []) ms
+abbrev pub told_later : PeerId → List Message → List Message → List Event
+told_later id done [] = []
+told_later id done (m ∷ ms) = events_of id (view_of done) m.body ++ told_later id (done ++ m ∷ []) ms
 
 abbrev pub told : PeerId → List Message → List Event
-told id messages = told_behind id [] messages
+told id messages = told_later id [] messages
 
 -- the view that a run shows: none before the first message
 abbrev pub shown : List Message → Option View

@@ -1,4 +1,4 @@
-//! What a message behind HELLO does to the view, and what it tells.
+//! What a message after HELLO does to the view, and what it tells.
 
 ghost use Rattle.std.specs.Prelude.{ℕ, ◌≡◌, ◌≢◌, ◌++◌, true, false, IfOk, IfErr, OnOk, OnErr};
 ghost use Rattle.zre_msg.specs.declared.message.Body.TheVariants as bodies;

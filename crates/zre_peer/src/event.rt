@@ -51,7 +51,7 @@ pub enum Event {
         name: Octets,
         cause: Cause,
     },
-    /// This node has stopped. Nothing comes behind it.
+    /// This node has stopped. Nothing comes after it.
     Stop,
     /// The node closes a connection.
     Closed {

@@ -15,7 +15,7 @@ use zre_values::{Frames, Octets, OutOfMemory};
 const FEW: usize = 8;
 
 /// The groups of a peer, each once, in the order in which it joined them. A few lie in a list, and those that were
-/// joined behind them have an index, so that finding one of many looks at a few.
+/// joined after them have an index, so that finding one of many looks at a few.
 #[derive(Debug, Drop)]
 pub struct Groups {
     few: Frames,

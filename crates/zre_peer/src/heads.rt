@@ -8,7 +8,7 @@ use crate::line::push_who;
 use std::alloc::Global;
 use zre_values::{Octets, OutOfMemory, PeerId};
 
-/// The words of events with who the peer is behind each, ready for the lines that begin with them.
+/// The words of events with who the peer is after each, ready for the lines that begin with them.
 #[derive(Debug, Drop)]
 pub struct Heads {
     /// Of JOIN.

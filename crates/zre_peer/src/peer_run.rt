@@ -91,7 +91,7 @@ fn expect_number(due: u16, got: u16) -> Result<(), RunFault>
     Ok(())
 }
 
-// Whether a message behind the first may come, but for what it does to the view.
+// Whether a message after the first may come, but for what it does to the view.
 fn expect(due: u16, message: &Message) -> Result<(), RunFault>
     ensures ok { OnOk result ((is_hello message.now.body ≡ false) × (message.now.sequence ≡ due)) }
     ensures refused { IfErr result (λ e. ((view : View) → goes_on view due message.now ≡ false) × (e ≡ later_fault due message.now)) }
@@ -102,7 +102,7 @@ fn expect(due: u16, message: &Message) -> Result<(), RunFault>
     expect_number(due, message.sequence)
 }
 
-// A message behind the first.
+// A message after the first.
 fn later(
     alloc: Global,
     id: PeerId,
@@ -251,7 +251,7 @@ impl Run {
         }
     }
 
-    /// The same for a message behind HELLO that lies in its frames, with the lines of its events appended to a text;
+    /// The same for a message after HELLO that lies in its frames, with the lines of its events appended to a text;
     /// they begin with `heads`. After `OutOfMemory` a front of them may stand there.
     pub(crate) fn tell(
         &mut self,
@@ -260,7 +260,7 @@ impl Run {
         out: &mut Octets,
     ) -> Result<(), RunFault>
         requires going { is_spent self.old ≡ false }
-        requires behind { is_some (view_in self.old) ≡ true }
+        requires later { is_some (view_in self.old) ≡ true }
         requires ready { IsReady self.old heads.now }
         ensures ok { (ms : List Message) → Stands self.old ms → OnOk result (
             (may_follow ms (message_of lent.now) ≡ true) × Stands self.new (ms ++ (message_of lent.now) ∷ [])
@@ -288,7 +288,7 @@ impl Run {
             }
         }
     }
-    /// Refuses a HELLO behind the first.
+    /// Refuses a HELLO after the first.
     pub(crate) fn refuse_hello(&mut self) -> RunFault
         requires { is_some (view_in self.old) ≡ true }
         ensures refused { (ms : List Message) (m : Message) → Stands self.old ms → is_hello m.body ≡ true →

@@ -99,23 +99,23 @@ impl Teller {
             (is_spent self.new ≡ true) × (view_in self.new ≡ view_in self.old)) }
         ensures id { id_of self.new ≡ id_of self.old }
     {
-        if self.is_behind() {
+        if self.is_after() {
             return self.take_later(&message, out);
         }
         self.take_first(message, out)
     }
 
     /// Whether HELLO was taken.
-    pub fn is_behind(&self) -> bool
+    pub fn is_after(&self) -> bool
         ensures { result ≡ is_some (view_in self.now) }
     {
         self.run.view().is_some()
     }
 
-    /// The same for a message behind HELLO, of which the run keeps nothing.
+    /// The same for a message after HELLO, of which the run keeps nothing.
     pub fn take_later(&mut self, message: &Message, out: &mut Octets) -> Result<(), RunFault>
         requires going { is_spent self.old ≡ false }
-        requires behind { is_some (view_in self.old) ≡ true }
+        requires later { is_some (view_in self.old) ≡ true }
         ensures ok { (ms : List Message) → Stands self.old ms → OnOk result (
             (may_follow ms message.now ≡ true) × Stands self.new (ms ++ message.now ∷ [])
             × (out.new ≡ out.old ++ lines (events_of (id_of self.old) (view_of ms) message.now.body))) }
@@ -135,7 +135,7 @@ impl Teller {
     /// The same for a message that lies in its frames.
     pub fn take_lent(&mut self, lent: &LentMessage<'_>, out: &mut Octets) -> Result<(), RunFault>
         requires going { is_spent self.old ≡ false }
-        requires behind { is_some (view_in self.old) ≡ true }
+        requires later { is_some (view_in self.old) ≡ true }
         ensures ok { (ms : List Message) → Stands self.old ms → OnOk result (
             (may_follow ms (message_of lent.now) ≡ true) × Stands self.new (ms ++ (message_of lent.now) ∷ [])
             × (out.new ≡ out.old ++ lines (events_of (id_of self.old) (view_of ms) (message_of lent.now).body))) }

@@ -1,4 +1,4 @@
-//! What a message behind HELLO does to the view, with the lines of its events in place of the events.
+//! What a message after HELLO does to the view, with the lines of its events in place of the events.
 
 ghost use Rattle.std.specs.Prelude.{◌≡◌, ◌≢◌, ◌++◌, true, false, IfErr, OnOk, OnErr};
 ghost use Rattle.zre_msg.specs.declared.message.Body.TheVariants as bodies;

@@ -6,7 +6,7 @@ use crate::groups::Groups;
 use crate::headers::Headers;
 use zre_values::Octets;
 
-/// What a peer has told of itself by its HELLO and the messages behind it.
+/// What a peer has told of itself by its HELLO and the messages after it.
 #[derive(Debug, Drop)]
 pub struct View {
     /// Its name, in any octets.

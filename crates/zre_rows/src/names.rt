@@ -33,12 +33,12 @@ impl Names {
 
     /// Appends a text, with each `{NAME}` in it replaced.
     pub fn expand(&self, text: &[u8], out: &mut Octets) -> Result<(), Trouble> {
-        let Some((front, behind)) = split_once(text, b'{') else {
+        let Some((front, later)) = split_once(text, b'{') else {
             out.append(text)?;
             return Ok(());
         };
         out.append(front)?;
-        for part in behind.split(|octet| *octet == b'{') {
+        for part in later.split(|octet| *octet == b'{') {
             self.push_part(part, out)?;
         }
         Ok(())

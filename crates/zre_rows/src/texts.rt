@@ -42,12 +42,12 @@ pub fn unescaped(alloc: Global, field: &[u8]) -> Result<Octets, Trouble> {
     if field == b"~".as_slice() {
         return Ok(octets);
     }
-    let Some((front, behind)) = split_once(field, b'%') else {
+    let Some((front, later)) = split_once(field, b'%') else {
         octets.append(field)?;
         return Ok(octets);
     };
     octets.append(front)?;
-    for part in behind.split(|octet| *octet == b'%') {
+    for part in later.split(|octet| *octet == b'%') {
         push_escaped(alloc, &mut octets, part)?;
     }
     Ok(octets)

@@ -32,13 +32,13 @@ fields-more o (b ∷ x) y lacks =
     rw (p.0, fields-more o x y p.1) refl
 
 -- ---- numbers
-abbrev number_behind : ℕ → List ℕ → ℕ
-number_behind n digits = fold (λ m d. 10 * m + (d - 48)) n digits
+abbrev number_after : ℕ → List ℕ → ℕ
+number_after n digits = fold (λ m d. 10 * m + (d - 48)) n digits
 
-by_digits : IsNumeralModel (AllDigits 10) (number_behind 0)
+by_digits : IsNumeralModel (AllDigits 10) (number_after 0)
 by_digits =
-    numerals_by_fold (AllDigits 10) tells_digits number_behind
-    (record { empty = λ n. refl; more = λ n c cs range. ap (λ (m : ℕ). number_behind m cs) (omega arith) })
+    numerals_by_fold (AllDigits 10) tells_digits number_after
+    (record { empty = λ n. refl; more = λ n c cs range. ap (λ (m : ℕ). number_after m cs) (omega arith) })
 
 -- the digits of a number spell it
 pub number_of-decimal : (n : ℕ) → n < 2 ^ 64 → number_of (decimal n) ≡ n

@@ -48,28 +48,28 @@ pub flat-nil : (v : List ℕ) → flat_map quoted_octet v ≡ [] → v ≡ []
 flat-nil [] e = refl
 flat-nil (b ∷ v) e = absurd (kind_some (is_plain b) b (flat_map quoted_octet v) (sym (flat_map-cons quoted_octet b v) ∙ e))
 
--- v begins with u, and what stands behind that has the text r
-pub record Behind (u v r : List ℕ) : Type 0 where
+-- v begins with u, and what stands after that has the text r
+pub record After (u v r : List ℕ) : Type 0 where
   pub others : List ℕ
   pub parts : v ≡ u ++ others
   pub octets : All (λ b. b < 2 ^ 8) others
   pub text : r ≡ flat_map quoted_octet others
 
-pub behind : (u v r : List ℕ) → All (λ b. b < 2 ^ 8) u → All (λ b. b < 2 ^ 8) v → flat_map quoted_octet u ++ r ≡ flat_map quoted_octet v → Behind u v r
-behind [] v r fu fv e = record { others = v; parts = refl; octets = fv; text = e }
-behind (b ∷ u) [] r fu fv e =
+pub later : (u v r : List ℕ) → All (λ b. b < 2 ^ 8) u → All (λ b. b < 2 ^ 8) v → flat_map quoted_octet u ++ r ≡ flat_map quoted_octet v → After u v r
+later [] v r fu fv e = record { others = v; parts = refl; octets = fv; text = e }
+later (b ∷ u) [] r fu fv e =
     absurd (kind_some (is_plain b) b (flat_map quoted_octet u ++ r) (sym (append_assoc (quoted_octet b) (flat_map quoted_octet u) r) ∙ ap (λ (t : List ℕ). t ++ r) (sym (flat_map-cons quoted_octet b u)) ∙ e))
-behind (b ∷ u) (c ∷ v) r fu fv e =
+later (b ∷ u) (c ∷ v) r fu fv e =
     let cut : quoted_octet b ++ (flat_map quoted_octet u ++ r) ≡ quoted_octet c ++ flat_map quoted_octet v =
     sym (append_assoc (quoted_octet b) (flat_map quoted_octet u) r) ∙ ap (λ (t : List ℕ). t ++ r) (sym (flat_map-cons quoted_octet b u)) ∙ e ∙ flat_map-cons quoted_octet c v in
     let p = octet-front b c (flat_map quoted_octet u ++ r) (flat_map quoted_octet v) (All-head (λ b. b < 2 ^ 8) b u fu) (All-head (λ b. b < 2 ^ 8) c v fv) cut in
-    let w = behind u v r (All-tail (λ b. b < 2 ^ 8) b u fu) (All-tail (λ b. b < 2 ^ 8) c v fv) p.1 in
+    let w = later u v r (All-tail (λ b. b < 2 ^ 8) b u fu) (All-tail (λ b. b < 2 ^ 8) c v fv) p.1 in
     record { others = w.others; parts = ap (λ (x : ℕ). x ∷ v) (sym p.0) ∙ ap (λ (t : List ℕ). b ∷ t) w.parts; octets = w.octets; text = w.text }
 
 -- octets have their text alone
 pub flat-one : (u v : List ℕ) → All (λ b. b < 2 ^ 8) u → All (λ b. b < 2 ^ 8) v → flat_map quoted_octet u ≡ flat_map quoted_octet v → v ≡ u
 flat-one u v fu fv e =
-    let w = behind u v [] fu fv (append-nil (flat_map quoted_octet u) ∙ e) in
+    let w = later u v [] fu fv (append-nil (flat_map quoted_octet u) ∙ e) in
     w.parts ∙ ap (λ (t : List ℕ). u ++ t) (flat-nil w.others (sym w.text)) ∙ append-nil u
 
 no_tilde : (p : Bool) (b : ℕ) (r : List ℕ) → is_plain b ≡ p → by_kind p b ++ r ≡ 126 ∷ [] → ⊥
@@ -99,7 +99,7 @@ first_of_some (b ∷ w) r fw e some = record { octet = b; others = flat_map quot
 
 -- what is left of the text of octets begins with that of an octet
 pub next : (u v r : List ℕ) → All (λ b. b < 2 ^ 8) u → All (λ b. b < 2 ^ 8) v → flat_map quoted_octet u ++ r ≡ flat_map quoted_octet v → 0 < length r → Next r
-next u v r fu fv e some = let w = behind u v r fu fv e in first_of_some w.others r w.octets w.text some
+next u v r fu fv e some = let w = later u v r fu fv e in first_of_some w.others r w.octets w.text some
 
 -- where nothing is left, the octets are those that were read
 pub whole : (u v r : List ℕ) → All (λ b. b < 2 ^ 8) u → All (λ b. b < 2 ^ 8) v → flat_map quoted_octet u ++ r ≡ flat_map quoted_octet v → length r ≡ 0 → v ≡ u

@@ -17,7 +17,7 @@ pub record IsEndpoint (endpoint : Endpoint) : Type 0 where
 
 -- ---- the endpoint whose text octets are
 
--- one more octet in front of the first field
+-- one more octet before the first field
 abbrev pub in_first : ℕ → List (List ℕ) → List (List ℕ)
 in_first b [] = (b ∷ []) ∷ []
 in_first b (field ∷ fields) = (b ∷ field) ∷ fields

@@ -23,7 +23,7 @@ fn place_of(text: &[u8], octet: u8) -> Option<usize>
     text.iter().position(|b| *b == octet)
 }
 
-// What stands before and behind the first of these octets.
+// What stands before and after the first of these octets.
 fn split_once(text: &[u8], octet: u8) -> Option<(&[u8], &[u8])>
     ensures value { IfSome result (λ parts. text.now ≡ parts.0.now ++ (octet ∷ parts.1.now)) }
     ensures back { (x y : List ℕ) → list_any (λ b. b == octet) x ≡ false → text.now ≡ x ++ (octet ∷ y)
@@ -31,8 +31,8 @@ fn split_once(text: &[u8], octet: u8) -> Option<(&[u8], &[u8])>
 {
     let i = place_of(text, octet)?;
     let (front, rest) = text.split_at(i);
-    let (_, behind) = rest.split_at(1);
-    Some((front, behind))
+    let (_, later) = rest.split_at(1);
+    Some((front, later))
 }
 
 fn read_octet(text: &[u8]) -> Option<u8>
@@ -42,7 +42,7 @@ fn read_octet(text: &[u8]) -> Option<u8>
     u8::try_from(read_decimal(text)?).ok()
 }
 
-// A number before the first dot, and what stands behind that.
+// A number before the first dot, and what stands after that.
 fn octet_before_dot(text: &[u8]) -> Option<(u8, &[u8])>
     ensures value { IfSome result (λ x. text.now ≡ decimal x.0 ++ (46 ∷ x.1.now)) }
     ensures back { (n : ℕ) (y : List ℕ) → n < 2 ^ 8 → text.now ≡ decimal n ++ (46 ∷ y)
@@ -94,7 +94,7 @@ fn read_port(text: &[u8]) -> Option<u16>
     if port == 0 { None } else { Some(port) }
 }
 
-fn behind_scheme(text: &[u8]) -> Option<&[u8]>
+fn after_scheme(text: &[u8]) -> Option<&[u8]>
     ensures value { IfSome result (λ rest. text.now ≡ codes "tcp://" ++ rest.now) }
     ensures back { (y : List ℕ) → text.now ≡ codes "tcp://" ++ y → IsSomeAnd result (λ rest. rest.now ≡ y) }
 {
@@ -122,7 +122,7 @@ impl Endpoint {
             → result ≡ Some endpoint }
         ensures read { result ≡ endpoint_in text.now }
     {
-        let rest = behind_scheme(text)?;
+        let rest = after_scheme(text)?;
         let (addr, port) = split_once(rest, b':')?;
         let addr = read_address(addr)?;
         let port = read_port(port)?;

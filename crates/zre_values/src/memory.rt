@@ -1,4 +1,4 @@
-//! Want of memory, as an answer of its own.
+//! OutOfMemory, as an answer of its own.
 
 use std::alloc::{AllocError, AllocFailed};
 use thiserror::Error;

@@ -27,12 +27,12 @@ pub(crate) fn are_plain(bytes: &[u8]) -> bool
 }
 
 // How many octets are quoted before their text is appended, and how many octets that text takes at most, with one more that
-// may be written behind it.
+// may be written after it.
 const CHUNK: usize = 32;
 
 const CHUNK_TEXT: usize = 97;
 
-// Writes the text of an octet at a place, and gives the place behind it. Four octets are written whichever it is, so
+// Writes the text of an octet at a place, and gives the place after it. Four octets are written whichever it is, so
 // that no jump depends on the octet, and in one go.
 #[inline]
 fn write_octet(text: &mut [u8; CHUNK_TEXT], at: usize, octet: u8) -> usize
@@ -83,9 +83,9 @@ pub fn push_quoted(out: &mut Octets, bytes: &[u8]) -> Result<(), OutOfMemory>
     }
     let mut rest = bytes;
     while !rest.is_empty() {
-        let (front, behind) = rest.split_at(rest.len().min(CHUNK));
+        let (front, later) = rest.split_at(rest.len().min(CHUNK));
         push_chunk(out, front)?;
-        rest = behind;
+        rest = later;
     }
     Ok(())
 }

@@ -29,8 +29,8 @@ fn escaped(high: u8, low: u8) -> Option<u8>
     if is_plain(octet) { None } else { Some(octet) }
 }
 
-// The octet whose two digits stand at the front, behind a `%`.
-fn octet_behind(text: &[u8]) -> Option<(u8, &[u8])>
+// The octet whose two digits stand at the front, after a `%`.
+fn octet_after(text: &[u8]) -> Option<(u8, &[u8])>
     ensures value { IfSome result (λ x. 37 ∷ text.now ≡ quoted_octet x.0 ++ x.1.now) }
     ensures back { (b : ℕ) (y : List ℕ) → b < 2 ^ 8 → 37 ∷ text.now ≡ quoted_octet b ++ y
         → IsSomeAnd result (λ x. (x.0 ≡ b) × (x.1.now ≡ y)) }
@@ -41,7 +41,7 @@ fn octet_behind(text: &[u8]) -> Option<(u8, &[u8])>
     Some((octet, rest))
 }
 
-// The octet whose quoted text stands at the front, and what stands behind that.
+// The octet whose quoted text stands at the front, and what stands after that.
 fn octet_at(text: &[u8]) -> Option<(u8, &[u8])>
     ensures octet { IfSome result (λ x. x.0 < 2 ^ 8) }
     ensures value { IfSome result (λ x. text.now ≡ quoted_octet x.0 ++ x.1.now) }
@@ -51,7 +51,7 @@ fn octet_at(text: &[u8]) -> Option<(u8, &[u8])>
 {
     let (first, rest) = text.split_first()?;
     if *first == b'%' {
-        return octet_behind(rest);
+        return octet_after(rest);
     }
     if is_plain(*first) {
         Some((*first, rest))
@@ -60,7 +60,7 @@ fn octet_at(text: &[u8]) -> Option<(u8, &[u8])>
     }
 }
 
-// Octets whose quoted texts stand one behind the other.
+// Octets whose quoted texts stand one after the other.
 fn unquote_octets(alloc: Global, text: &[u8]) -> Result<Option<Octets>, OutOfMemory>
     ensures value { IfOk result (λ found. IfSome found (λ octets. text.now ≡ flat_map quoted_octet octets)) }
     ensures back { (v : List ℕ) → All (λ b. b < 2 ^ 8) v → text.now ≡ flat_map quoted_octet v
@@ -69,11 +69,11 @@ fn unquote_octets(alloc: Global, text: &[u8]) -> Result<Option<Octets>, OutOfMem
     let mut octets = Octets::new(alloc);
     let mut rest = text;
     'octets: while !rest.is_empty() {
-        let Some((octet, behind)) = octet_at(rest) else {
+        let Some((octet, later)) = octet_at(rest) else {
             return Ok(None);
         };
         octets.push(octet)?;
-        rest = behind;
+        rest = later;
     }
     Ok(Some(octets))
 }
@@ -97,16 +97,16 @@ pub fn unquote(alloc: Global, text: &[u8]) -> Result<Option<Octets>, OutOfMemory
     unquote_octets(alloc, text)
 }
 
-// Whether quoted texts of octets stand one behind the other.
+// Whether quoted texts of octets stand one after the other.
 fn are_quoted_octets(text: &[u8]) -> bool
     ensures { IsTrue result ↔ ((v : List ℕ) × All (λ b. b < 2 ^ 8) v × (text.now ≡ flat_map quoted_octet v)) }
 {
     let mut rest = text;
     'octets: while !rest.is_empty() {
-        let Some((_, behind)) = octet_at(rest) else {
+        let Some((_, later)) = octet_at(rest) else {
             return false;
         };
-        rest = behind;
+        rest = later;
     }
     true
 }

@@ -1,4 +1,4 @@
--- Frames of messages behind READY.
+-- Frames of messages after READY.
 use Rattle.std.proofs.Common.{◌≡◌, ℕ, true, List, None, refl}
 use Rattle.zre_zmtp.specs.declared.expected.Expected.{Expected}
 use Rattle.zre_zmtp.specs.declared.expected.Expected.TheVariants as expect

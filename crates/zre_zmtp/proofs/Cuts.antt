@@ -21,7 +21,7 @@ pub cut-some : (want : Want) (kind : Kind) (n : ℕ) (parts : Parts) (o : List �
 unfolding cut
 cut-some want kind n parts o len e = rw e refl
 
--- the length of what is behind a part
+-- the length of what is after a part
 pub shorter : (want : Want) (b : Before) (o : List ℕ) (len n : ℕ) → part_len want b o ≡ Some len → length o ≤ suc n → length (drop len o) ≤ n
 shorter want b o len n e h = let p = part_len-bounds want b o len e in omega (arith, p.0, p.1, h, length-drop len o)
 
@@ -47,7 +47,7 @@ cut-enough want kind (suc n) (suc m) parts o h k =
           ∙ sym (cut-some want kind m parts o p.0 p.1)
     ]
 
--- what is left of o behind the parts that begin it, with more behind that
+-- what is left of o after the parts that begin it, with more after that
 abbrev pub cut_on : Want → Kind → Parts × List ℕ → List ℕ → Parts × List ℕ
 cut_on want kind c p = cut want kind (length (c.1 ++ p)) c.0 (c.1 ++ p)
 
@@ -83,7 +83,7 @@ cut-more want kind (suc n) (suc m) parts o p h k =
 pub split-more : (want : Want) (kind : Kind) (o p : List ℕ) → split want kind (o ++ p) ≡ cut_on want kind (split want kind o) p
 split-more want kind o p = cut-more want kind (length o) (length (o ++ p)) [] o p (omega arith) (omega arith)
 
--- nothing more is whole behind the parts
+-- nothing more is whole after the parts
 pub cut-ends : (want : Want) (kind : Kind) (n : ℕ) (parts : Parts) (o : List ℕ) → length o ≤ n
     → part_len want (before kind (cut want kind n parts o).0) (cut want kind n parts o).1 ≡ None
 cut-ends want kind zero parts o h =
@@ -105,7 +105,7 @@ before-cons Whole part (ready ∷ []) = refl
 before-cons Whole part (last ∷ ready ∷ parts) = refl
 before-cons Traffic part parts = refl
 
--- ---- a reader behind some parts
+-- ---- a reader after some parts
 
 pub run-none : (want : Want) (n : ℕ) (b : Before) (o : List ℕ) → part_len want b o ≡ None → run want n b o ≡ record { given = []; before = b; left = o }
 unfolding run

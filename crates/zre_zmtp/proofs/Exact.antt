@@ -1,4 +1,4 @@
--- A whole frame, taken from the octets in front of which it stands; and how many parts there can be.
+-- A whole frame, taken from the octets before which it stands; and how many parts there can be.
 use Rattle.std.proofs.Common.{◌≡◌, ℕ, zero, suc, ◌≤◌, Bool, true, false, cond, List, [], ◌∷◌, ◌++◌, length, take, drop, Some, None, refl, sym, ap, ◌∙◌, arith, inl, inr}
 use Rattle.std.proofs.lemmas.List.{length-take-le, take-append-drop}
 use Rattle.zre_zmtp.specs.Frame.{flags, header_len, size, frame_len, is_long}

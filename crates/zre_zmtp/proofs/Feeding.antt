@@ -32,7 +32,7 @@ reads_traffic want r e = subst (λ (x : Reading). Reads want Traffic [] x) (sym 
 
 -- ---- more octets
 
--- what is found behind the octets o, with more octets
+-- what is found after the octets o, with more octets
 pub record Follows (want : Want) (kind : Kind) (o p : List ℕ) (f : Found) : Type 0 where
   pub before : f.before ≡ before kind (split want kind (o ++ p)).0
   pub left : f.left ≡ (split want kind (o ++ p)).1
@@ -57,7 +57,7 @@ follows want kind o p =
 pub extends : (want : Want) (kind : Kind) (o p : List ℕ) → items want kind (o ++ p) ≡ items want kind o ++ new_items want kind o p
 extends want kind o p = let w = follows want kind o p in w.all ∙ ap (λ is. items want kind o ++ is) (sym w.newly)
 
--- the same of a reader that stands behind o
+-- the same of a reader that stands after o
 follows_reader : (want : Want) (kind : Kind) (o p : List ℕ) (r : Reading) → Reads want kind o r → Follows want kind o p (run_all want r.before (r.left ++ p))
 follows_reader want kind o p r h =
     subst (λ (l : List ℕ). Follows want kind o p (run_all want r.before (l ++ p))) (sym h.left)
@@ -69,7 +69,7 @@ fault-follows want kind o p f h = ap (λ b. fault_of want b f.left) h.before ∙
 adds : (want : Want) (kind : Kind) (o p : List ℕ) (f : Found) (old new : List Item) → Follows want kind o p f → new ≡ old ++ f.given → Adds want kind o p old new
 adds want kind o p f old new w e = record { extended = w.all ∙ ap (λ is. items want kind o ++ is) (sym w.newly); appended = e ∙ ap (λ is. old ++ is) (sym w.newly) }
 
--- behind a fault nothing changes
+-- after a fault nothing changes
 pub is_over : (want : Want) (kind : Kind) (o : List ℕ) (x : ZmtpFault) → fault want kind o ≡ Some x → IsOver want kind o
 is_over want kind o x e =
     let s = split want kind o in

@@ -13,7 +13,7 @@ use Rattle.zre_zmtp.specs.Stream.{Want, Before, once, flags_fault, size_fault, b
 use Rattle.zre_zmtp.specs.Run.{after, next_expected}
 use Rattle.zre_zmtp.specs.Shown.{header_fault, frame_item, frame_after, left_by, room, Waits}
 use Rattle.zre_zmtp.proofs.Grow.{flags-more, Headed, headed, has_header-from, Headed-more, size-more, header_len-more, IsWhole, is_whole-from}
-use Rattle.zre_zmtp.proofs.Later.{HeadFine, HeadFine-more, head_fine, why_behind}
+use Rattle.zre_zmtp.proofs.Later.{HeadFine, HeadFine-more, head_fine, why_after}
 use Rattle.zre_zmtp.proofs.Cuts.{cases_Option}
 
 -- ---- where a frame is expected
@@ -38,7 +38,7 @@ next-frame expect.Greeting h = absurd (h refl)
 next-frame expect.Ready h = refl
 next-frame expect.Traffic h = refl
 
--- ---- a header, and octets behind it
+-- ---- a header, and octets after it
 
 pub record IsHeader (h : Header) (head : List ℕ) : Type 0 where
   pub headed : Headed head
@@ -87,24 +87,24 @@ pub header_low : (l : Bool) → 2 ≤ cond l 9 2
 header_low true = omega arith
 header_low false = omega arith
 
--- the header at the front of some octets, apart from what stands behind it
-pub record HeadOf (h : Header) (o head behind : List ℕ) : Type 0 where
+-- the header at the front of some octets, apart from what stands after it
+pub record HeadOf (h : Header) (o head later : List ℕ) : Type 0 where
   pub header : header_of head ≡ Some h
   pub within : length head ≤ header_len head
-  pub whole : o ≡ head ++ behind
+  pub whole : o ≡ head ++ later
   pub exact : length head ≡ header_len o
 
-pub head_of : (h : Header) (o head behind : List ℕ) → header_of o ≡ Some h → head ≡ take (header_len o) o → behind ≡ drop (header_len o) o → HeadOf h o head behind
-head_of h o head behind e p q =
+pub head_of : (h : Header) (o head later : List ℕ) → header_of o ≡ Some h → head ≡ take (header_len o) o → later ≡ drop (header_len o) o → HeadOf h o head later
+head_of h o head later e p q =
     let said = cond_some (has_header o) (record { flags = flags o; size = size o }) h e in
     let there : Headed o = headed o said.0 in
-    let whole : o ≡ head ++ behind = sym (take-append-drop (header_len o) o) ∙ ap (λ (x : List ℕ). x ++ drop (header_len o) o) (sym p) ∙ ap (λ (x : List ℕ). head ++ x) (sym q) in
+    let whole : o ≡ head ++ later = sym (take-append-drop (header_len o) o) ∙ ap (λ (x : List ℕ). x ++ drop (header_len o) o) (sym p) ∙ ap (λ (x : List ℕ). head ++ x) (sym q) in
     let exact : length head ≡ header_len o = ap length p ∙ length-take-le (header_len o) o there.all in
     let some : 1 ≤ length head = omega (arith, exact, header_low (is_long (flags o))) in
-    let same_len : header_len o ≡ header_len head = ap header_len whole ∙ header_len-more head behind some in
+    let same_len : header_len o ≡ header_len head = ap header_len whole ∙ header_len-more head later some in
     let headed_alone : Headed head = record { some = some; all = omega (arith, exact, same_len) } in
-    let same_flags : flags o ≡ flags head = ap flags whole ∙ flags-more head behind some in
-    let same_size : size o ≡ size head = ap size whole ∙ size-more head behind headed_alone in
+    let same_flags : flags o ≡ flags head = ap flags whole ∙ flags-more head later some in
+    let same_size : size o ≡ size head = ap size whole ∙ size-more head later headed_alone in
     let alone : header_of head ≡ Some (record { flags = flags head; size = size head }) = ap (λ (t : Bool). let x : Header = record { flags = flags head; size = size head } in cond t (Some x) None) (has_header-from head headed_alone) in
     let one : (let x : Header = record { flags = flags head; size = size head } in x) ≡ record { flags = flags o; size = size o } =
     ap (λ (f : ℕ). let x : Header = record { flags = f; size = size head } in x) (sym same_flags) ∙ ap (λ (n : ℕ). let x : Header = record { flags = flags o; size = n } in x) (sym same_size) in
@@ -120,7 +120,7 @@ both_none : (a c : Option ZmtpWhy) → option_or a c ≡ None → (a ≡ None) �
 both_none None c e = (refl, e)
 both_none (Some x) c e = absurd (none-some x (sym e))
 
--- a header without fault, and what stands behind it
+-- a header without fault, and what stands after it
 pub header_fine : (b : Before) (head o : List ℕ) → Headed head → header_fault b head ≡ None → HeadFine b (head ++ o)
 header_fine b head o h e =
     let p = both_none (once (leb 1 (length head)) (flags_fault b (flags head))) (once (has_header head) (size_fault b (flags head) (size head))) e in
@@ -168,7 +168,7 @@ is_framed want b h head o frame e within n none =
     let c = framed-body h head o is n in
     let l = length-append head o in
     let why : frame_why want b (head ++ o) ≡ body_fault want b h.flags o =
-    why_behind want b (head ++ o) (header_fine b head o is.headed none) ∙ once-true _ _ t ∙ ap (λ x. body_fault want b (flags (head ++ o)) x) c ∙ ap (λ x. body_fault want b x o) f in
+    why_after want b (head ++ o) (header_fine b head o is.headed none) ∙ once-true _ _ t ∙ ap (λ x. body_fault want b (flags (head ++ o)) x) c ∙ ap (λ x. body_fault want b x o) f in
     let len : frame_len (head ++ o) ≡ length (head ++ o) = framed-len h head o is ∙ ap (λ k. length head + k) (sym n) ∙ sym l in
     record {
       fault = fault-frame b.expected want b (head ++ o) frame ∙ ap (λ x. option_map (λ reason. record { why = reason; place = b.place }) x) why;
@@ -272,7 +272,7 @@ waits-body want b h head o frame is fine lt =
     record {
       faultless = fault-frame b.expected want b (head ++ o) frame
           ∙ ap (λ x. option_map (λ reason. record { why = reason; place = b.place }) x)
-          (why_behind want b (head ++ o) (header_fine b head o is.headed fine) ∙ ap (λ t. once t (body_fault want b (flags (head ++ o)) (body (head ++ o)))) not_whole);
+          (why_after want b (head ++ o) (header_fine b head o is.headed fine) ∙ ap (λ t. once t (body_fault want b (flags (head ++ o)) (body (head ++ o)))) not_whole);
       partial = whole-frame b.expected (head ++ o) frame ∙ ap (λ t. cond t (Some (frame_len (head ++ o))) None) not_whole;
     }
 

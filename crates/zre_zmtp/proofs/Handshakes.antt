@@ -148,11 +148,11 @@ ready_read want kind id len wanted =
     ∙ ap (λ s. let i : Item = record { start = 64; end = 64 + (2 + length o); what = Ready (length o) s (identity o) } in Some i) is.socket
     ∙ ap (λ s. let i : Item = record { start = 64; end = 64 + (2 + length o); what = Ready (length o) (Some (socket_name kind)) s } in Some i) is.identity
     ∙ ap (λ n. let i : Item = record { start = 64; end = 64 + n; what = Ready (length o) (Some (socket_name kind)) (option_map (λ x. 1 ∷ x.0) id) } in Some i) (sym size) in
-    let behind : after shaken (head ++ o) ≡ record { expected = expect.Traffic; place = 64 + length (ready_frame kind id); opened = []; start = 64 + length (ready_frame kind id) } =
+    let later : after shaken (head ++ o) ≡ record { expected = expect.Traffic; place = 64 + length (ready_frame kind id); opened = []; start = 64 + length (ready_frame kind id) } =
     framed.after ∙ ap (λ n. let b : Before = record { expected = expect.Traffic; place = 64 + n; opened = []; start = 64 + n } in b) (sym size) in
     let a = turn_whole want shaken (head ++ o) [] (option_to_list (item shaken (head ++ o))) (after shaken (head ++ o)) [] (framed.fault ∙ ap (λ x. option_map (λ reason. record { why = reason; place = 64 }) x) fine) framed.whole refl refl refl in
     ap (λ (l : List ℕ). run_all want shaken l) whole
-    ∙ found_is (run_all want shaken (head ++ o)) _ _ (sym a.reads.given ∙ ap (λ i. option_to_list i) says) (sym a.reads.before ∙ behind) (sym a.reads.left)
+    ∙ found_is (run_all want shaken (head ++ o)) _ _ (sym a.reads.given ∙ ap (λ i. option_to_list i) says) (sym a.reads.before ∙ later) (sym a.reads.left)
 
 pub handshake_is_read : (want : Want) (kind : SocketType) (identity_of : Option PeerId) → IfSome identity_of (λ id. length id.0 ≡ 16) → IsWanted want kind identity_of → ReadsHandshake want kind identity_of
 unfolding cut

@@ -43,20 +43,20 @@ HeadFine-more b o c h =
     let n = size-more o c h.header in
     record { header = Headed-more o c h.header; flags_fine = ap (λ x. flags_fault b x) f ∙ h.flags_fine; size_fine = ap (λ x. size_fault b x (size (o ++ c))) f ∙ ap (λ x. size_fault b (flags o) x) n ∙ h.size_fine }
 
--- behind a header without fault only the whole frame can have one
+-- after a header without fault only the whole frame can have one
 only_last : (t u : Bool) (a c rest : Option ZmtpWhy) → t ≡ true → u ≡ true → a ≡ None → c ≡ None → option_or (once t a) (option_or (once u c) rest) ≡ rest
 only_last t u a c rest p q r s = rw (p, q, r, s) refl
 
-pub why_behind : (want : Want) (b : Before) (o : List ℕ) → HeadFine b o → frame_why want b o ≡ once (is_whole o) (body_fault want b (flags o) (body o))
+pub why_after : (want : Want) (b : Before) (o : List ℕ) → HeadFine b o → frame_why want b o ≡ once (is_whole o) (body_fault want b (flags o) (body o))
 unfolding frame_why
-why_behind want b o h = only_last _ _ _ _ _ (le-leb 1 (length o) h.header.some) (has_header-from o h.header) h.flags_fine h.size_fine
+why_after want b o h = only_last _ _ _ _ _ (le-leb 1 (length o) h.header.some) (has_header-from o h.header) h.flags_fine h.size_fine
 
 pub not_whole_yet : (o c : List ℕ) → Headed o → length o + length c < frame_len o → is_whole (o ++ c) ≡ false
 not_whole_yet o c h lt = and_right (has_header (o ++ c)) (leb (frame_len (o ++ c)) (length (o ++ c))) (lt-leb (frame_len (o ++ c)) (length (o ++ c)) (omega (arith, lt, length-append o c, frame_len-more o c h)))
 
 -- more octets of the body tell nothing
 pub waits_on : (want : Want) (b : Before) (o c : List ℕ) → HeadFine b o → length o + length c < frame_len o → frame_why want b (o ++ c) ≡ None
-waits_on want b o c h lt = why_behind want b (o ++ c) (HeadFine-more b o c h) ∙ ap (λ t. once t (body_fault want b (flags (o ++ c)) (body (o ++ c)))) (not_whole_yet o c h.header lt)
+waits_on want b o c h lt = why_after want b (o ++ c) (HeadFine-more b o c h) ∙ ap (λ t. once t (body_fault want b (flags (o ++ c)) (body (o ++ c)))) (not_whole_yet o c h.header lt)
 
 -- the last octets of the body make the frame whole, and its fault is that of its body
 pub ends_with : (want : Want) (b : Before) (o c : List ℕ) → HeadFine b o → length o + length c ≡ frame_len o
@@ -68,7 +68,7 @@ ends_with want b o c h e =
     let hl : header_len (o ++ c) ≡ header_len o = header_len-more o c h.header.some in
     let all : body (o ++ c) ≡ drop (header_len o) (o ++ c) =
     take_all (size (o ++ c)) (drop (header_len (o ++ c)) (o ++ c)) (omega (arith, length-drop (header_len (o ++ c)) (o ++ c), len, e, length-append o c)) ∙ ap (λ k. drop k (o ++ c)) hl in
-    (w, why_behind want b (o ++ c) m ∙ once-true _ _ (is_whole-from (o ++ c) w) ∙ ap (λ f. body_fault want b f (body (o ++ c))) (flags-more o c h.header.some) ∙ ap (λ t. body_fault want b (flags o) t) all)
+    (w, why_after want b (o ++ c) m ∙ once-true _ _ (is_whole-from (o ++ c) w) ∙ ap (λ f. body_fault want b f (body (o ++ c))) (flags-more o c h.header.some) ∙ ap (λ t. body_fault want b (flags o) t) all)
 
 -- a greeting goes on where it was
 pub greeting_on : (i : ℕ) (o c : List ℕ) → greeting_fault i o ≡ None → greeting_fault i (o ++ c) ≡ greeting_fault (i + length o) c

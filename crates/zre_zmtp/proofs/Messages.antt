@@ -1,4 +1,4 @@
--- The frames of a message, behind a stream that awaits one.
+-- The frames of a message, after a stream that awaits one.
 use Rattle.std.proofs.Common.{◌≡◌, ℕ, zero, suc, ◌+◌, ◌≤◌, List, [], ◌∷◌, ◌++◌, length, take, drop, Some, refl, sym, ap, subst, ◌∙◌, arith, inl, inr}
 use Rattle.std.proofs.lemmas.List.{length-append, length-take-le, length-drop, append-nil}
 use Rattle.zre_values.specs.Framing.{frames}
@@ -14,7 +14,7 @@ use Rattle.zre_zmtp.proofs.Turning.{no_part, no_octets}
 use Rattle.zre_zmtp.proofs.Cuts.{run-none}
 use Rattle.zre_zmtp.proofs.Spelled.{traffic, message_read}
 
--- the parts and what is behind them are all of the octets
+-- the parts and what is after them are all of the octets
 place-cut : (want : Want) (kind : Kind) (n : ℕ) (parts : Parts) (o : List ℕ) → place (cut want kind n parts o).0 + length (cut want kind n parts o).1 ≡ place parts + length o
 unfolding cut
 place-cut want kind zero parts o = refl

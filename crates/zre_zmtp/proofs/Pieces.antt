@@ -39,7 +39,7 @@ adds-more want kind o p q old mid new a b =
 
 -- ---- a loop over pieces
 
--- the first i pieces were read behind o
+-- the first i pieces were read after o
 pub record HasRead (want : Want) (kind : Kind) (o : List ℕ) (pieces : List (List ℕ)) (i : ℕ) (r : Reading) (old out : List Item) : Type 0 where
   pub reads : Reads want kind (o ++ concat (take i pieces)) r
   pub adds : Adds want kind o (concat (take i pieces)) old out

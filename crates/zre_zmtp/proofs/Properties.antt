@@ -4,14 +4,14 @@ use Rattle.std.specs.Option.{option_or}
 use Rattle.std.proofs.lemmas.Bool.{cases_Bool}
 use Rattle.std.proofs.lemmas.List.{length-drop}
 use Rattle.std.specs.Str.{str_eq_ignore_ascii_case}
-use Rattle.zre_zmtp.specs.Ready.{name, has_property, property, behind_property, properties_within, properties, value_of, value_len}
+use Rattle.zre_zmtp.specs.Ready.{name, has_property, property, after_property, properties_within, properties, value_of, value_len}
 use Rattle.std.specs.List.{find}
 
-pub behind-shorter : (o : List ℕ) → has_property o ≡ true → length (behind_property o) < length o
-behind-shorter [] h = absurd cc
-behind-shorter (n ∷ o) h = omega (arith, length-drop (4 + value_len (drop n o)) (drop n o), length-drop n o)
+pub after-shorter : (o : List ℕ) → has_property o ≡ true → length (after_property o) < length o
+after-shorter [] h = absurd cc
+after-shorter (n ∷ o) h = omega (arith, length-drop (4 + value_len (drop n o)) (drop n o), length-drop n o)
 
-within-some : (n x : ℕ) (o : List ℕ) → has_property (x ∷ o) ≡ true → properties_within (suc n) (x ∷ o) ≡ option_map (λ ps. property (x ∷ o) ∷ ps) (properties_within n (behind_property (x ∷ o)))
+within-some : (n x : ℕ) (o : List ℕ) → has_property (x ∷ o) ≡ true → properties_within (suc n) (x ∷ o) ≡ option_map (λ ps. property (x ∷ o) ∷ ps) (properties_within n (after_property (x ∷ o)))
 unfolding properties_within
 within-some n x o h = rw h refl
 
@@ -31,8 +31,8 @@ within-enough zero m (x ∷ o) h k = absurd (omega (arith, h))
 within-enough (suc n) zero (x ∷ o) h k = absurd (omega (arith, k))
 within-enough (suc n) (suc m) (x ∷ o) h k =
     elim (cases_Bool (has_property (x ∷ o))) [
-      | inl t ↦ (let s = behind-shorter (x ∷ o) t in
-          within-some n x o t ∙ ap (λ r. option_map (λ ps. property (x ∷ o) ∷ ps) r) (within-enough n m (behind_property (x ∷ o)) (omega (arith, s, h)) (omega (arith, s, k))) ∙ sym (within-some m x o t))
+      | inl t ↦ (let s = after-shorter (x ∷ o) t in
+          within-some n x o t ∙ ap (λ r. option_map (λ ps. property (x ∷ o) ∷ ps) r) (within-enough n m (after_property (x ∷ o)) (omega (arith, s, h)) (omega (arith, s, k))) ∙ sym (within-some m x o t))
       | inr f ↦ within-none (suc n) x o f ∙ sym (within-none (suc m) x o f)
     ]
 
@@ -40,11 +40,11 @@ pub properties-none : (o : List ℕ) → 0 < length o → has_property o ≡ fal
 properties-none [] p h = absurd (omega (arith, p))
 properties-none (x ∷ o) p h = within-none (length (x ∷ o)) x o h
 
-pub properties-some : (o : List ℕ) → 0 < length o → has_property o ≡ true → properties o ≡ option_map (λ ps. property o ∷ ps) (properties (behind_property o))
+pub properties-some : (o : List ℕ) → 0 < length o → has_property o ≡ true → properties o ≡ option_map (λ ps. property o ∷ ps) (properties (after_property o))
 properties-some [] p h = absurd (omega (arith, p))
 properties-some (x ∷ o) p h =
-    let s = behind-shorter (x ∷ o) h in
-    within-some (length o) x o h ∙ ap (λ r. option_map (λ ps. property (x ∷ o) ∷ ps) r) (within-enough (length o) (length (behind_property (x ∷ o))) (behind_property (x ∷ o)) (omega (arith, s)) (omega arith))
+    let s = after-shorter (x ∷ o) h in
+    within-some (length o) x o h ∙ ap (λ r. option_map (λ ps. property (x ∷ o) ∷ ps) r) (within-enough (length o) (length (after_property (x ∷ o))) (after_property (x ∷ o)) (omega (arith, s)) (omega arith))
 
 pub properties-nil : (o : List ℕ) → length o ≤ 0 → properties o ≡ Some []
 properties-nil [] h = within-nil 0
@@ -77,15 +77,15 @@ one_more (Some x) false p o = refl
 
 step : (left wanted : List ℕ) (found found' : Option (List ℕ)) (total : Option (Option (List ℕ))) → 0 < length left → has_property left ≡ true
     → ((ps : List (List ℕ × List ℕ)) → first_of found wanted (property left ∷ ps) ≡ first_of found' wanted ps)
-    → option_map (λ ps. first_of found wanted ps) (properties left) ≡ total → option_map (λ ps. first_of found' wanted ps) (properties (behind_property left)) ≡ total
+    → option_map (λ ps. first_of found wanted ps) (properties left) ≡ total → option_map (λ ps. first_of found' wanted ps) (properties (after_property left)) ≡ total
 step left wanted found found' total p h same e =
-    sym (same-map (λ ps. first_of found wanted (property left ∷ ps)) (λ ps. first_of found' wanted ps) (properties (behind_property left)) same)
-    ∙ sym (map-map (λ ps. property left ∷ ps) (λ ps. first_of found wanted ps) (properties (behind_property left)))
+    sym (same-map (λ ps. first_of found wanted (property left ∷ ps)) (λ ps. first_of found' wanted ps) (properties (after_property left)) same)
+    ∙ sym (map-map (λ ps. property left ∷ ps) (λ ps. first_of found wanted ps) (properties (after_property left)))
     ∙ sym (ap (λ r. option_map (λ ps. first_of found wanted ps) r) (properties-some left p h)) ∙ e
 
 pub value-goes_on : (left wanted name value : List ℕ) (found found' : Option (List ℕ)) (total : Option (Option (List ℕ))) → 0 < length left → has_property left ≡ true → (name, value) ≡ property left
     → found' ≡ option_or found (cond (str_eq_ignore_ascii_case name wanted) (Some value) None)
-    → option_map (λ ps. first_of found wanted ps) (properties left) ≡ total → option_map (λ ps. first_of found' wanted ps) (properties (behind_property left)) ≡ total
+    → option_map (λ ps. first_of found wanted ps) (properties left) ≡ total → option_map (λ ps. first_of found' wanted ps) (properties (after_property left)) ≡ total
 value-goes_on left wanted name value found found' total p h is found-is e =
     step left wanted found found' total p h
     (λ ps. ap (λ q. first_of found wanted (q ∷ ps)) (sym is)

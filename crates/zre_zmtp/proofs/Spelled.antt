@@ -142,7 +142,7 @@ one_turn want place start bodies more f x rest h count sum =
     ∙ ap (λ p. with_item (item b p) (run_all want (after b p) (drop (length f) (f ++ rest)))) (take_at f rest (length f) refl)
     ∙ ap (λ r. with_item (item b f) (run_all want (after b f) r)) (drop_at f rest (length f) refl)
 
--- behind whole messages, the frames of a message are read as that message
+-- after whole messages, the frames of a message are read as that message
 pub message_read : (want : Want) (place start : ℕ) (bodies : List (List ℕ)) (x : List ℕ) (f : List (List ℕ)) (rest : List ℕ) → length bodies + length (x ∷ f) ≤ MESSAGE_FRAMES → sum_by length bodies + sum_by length (x ∷ f) ≤ MESSAGE_OCTETS
     → run_all want (traffic place bodies start) (frames (x ∷ f) ++ rest)
     ≡ with_item (Some (message_item start (place + length (frames (x ∷ f))) (bodies ++ x ∷ f))) (run_all want (traffic (place + length (frames (x ∷ f))) [] (place + length (frames (x ∷ f)))) rest)

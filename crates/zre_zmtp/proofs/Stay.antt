@@ -1,4 +1,4 @@
--- A fault stays, and so does a whole part, whatever comes behind it.
+-- A fault stays, and so does a whole part, whatever comes after it.
 use Rattle.std.proofs.Common.{◌≡◌, ℕ, ◌+◌, ◌-◌, ◌≤◌, ◌<◌, Bool, true, false, cond, leb, List, [], ◌∷◌, ◌++◌, length, take, Option, Some, None, refl, sym, ap, subst, ◌∙◌, arith, inl, inr, option_map, is_some}
 use Rattle.std.specs.Option.{option_or}
 use Rattle.std.proofs.lemmas.Bool.{leb-true, le-leb, and_left, cases_lt}
@@ -13,9 +13,9 @@ use Rattle.zre_zmtp.specs.declared.expected.Expected.TheVariants as expect
 use Rattle.zre_zmtp.specs.Stream.{Want, Before, once, flags_fault, size_fault, body_fault, frame_why, frame_fault, fault_of, fault_at, greeting_fault, whole_len, part_len}
 use Rattle.zre_zmtp.proofs.Grow.{flags-more, headed, has_header-from, Headed-more, size-more, frame_len-more, IsWhole, whole, is_whole-from, IsWhole-more, body-more}
 
--- ---- one test, and those behind it
+-- ---- one test, and those after it
 
--- a test that stays as it is once its octets are there, and tests behind it that are made no earlier
+-- a test that stays as it is once its octets are there, and tests after it that are made no earlier
 stay : (t t' : Bool) (a a' rest rest' : Option ZmtpWhy) (r : ZmtpWhy) → (t ≡ true → (t' ≡ true) × (a' ≡ a)) → (t ≡ false → rest ≡ None)
     → (rest ≡ Some r → rest' ≡ Some r) → option_or (once t a) rest ≡ Some r → option_or (once t' a') rest' ≡ Some r
 stay true t' None a' rest rest' r same late more e = let p = same refl in rw (p.0, p.1) (more e)

@@ -25,13 +25,13 @@ use Rattle.zre_zmtp.proofs.Exact.{run-enough, run_all-some, part-none, part-faul
 
 -- ---- what is found in more octets
 
--- the same with items in front
-abbrev pub behind_items : List Item → Found → Found
-behind_items is f = record { given = is ++ f.given; before = f.before; left = f.left }
+-- the same with items before
+abbrev pub after_items : List Item → Found → Found
+after_items is f = record { given = is ++ f.given; before = f.before; left = f.left }
 
--- what is found in the octets that one run left, and those behind them
+-- what is found in the octets that one run left, and those after them
 abbrev pub run_on : Want → Found → List ℕ → Found
-run_on want f p = behind_items f.given (run_all want f.before (f.left ++ p))
+run_on want f p = after_items f.given (run_all want f.before (f.left ++ p))
 
 item-in_front : (want : Want) (i : Option Item) (f : Found) (p : List ℕ) → with_item i (run_on want f p) ≡ run_on want (with_item i f) p
 item-in_front want i f p = let r = run_all want f.before (f.left ++ p) in ap (λ (is : List Item). let x : Found = record { given = is; before = r.before; left = r.left } in x) (sym (append_assoc (option_to_list i) f.given r.given))
@@ -70,7 +70,7 @@ run-more want (suc n) (suc m) b o p h k =
 pub run_all-more : (want : Want) (b : Before) (o p : List ℕ) → run_all want b (o ++ p) ≡ run_on want (run_all want b o) p
 run_all-more want b o p = run-more want (length o) (length (o ++ p)) b o p (omega arith) (omega arith)
 
--- nothing more is whole behind what is found
+-- nothing more is whole after what is found
 pub run-ends : (want : Want) (n : ℕ) (b : Before) (o : List ℕ) → length o ≤ n → part_len want (run want n b o).before (run want n b o).left ≡ None
 run-ends want zero b o h =
     elim (cases_Option (part_len want b o)) [
@@ -151,15 +151,15 @@ pub record IsAmid (want : Want) (front out : List Item) (all : Found) (b : Befor
 pub begins : (want : Want) (b : Before) (left rest : List ℕ) (front : List Item) → Waits want b left → IsAmid want front front (run_all want b (left ++ rest)) b left rest
 begins want b left rest front w = record { waits = w; goes = record { given = refl; before = refl; left = refl } }
 
-pub one_turn : (want : Want) (front out new : List Item) (all : Found) (b now : Before) (left c behind left' rest : List ℕ) → rest ≡ c ++ behind → IsAmid want front out all b left rest
-    → Advances want b (left ++ c) out new now left' → IsAmid want front new all now left' behind
-one_turn want front out new all b now left c behind left' rest is amid a =
+pub one_turn : (want : Want) (front out new : List Item) (all : Found) (b now : Before) (left c later left' rest : List ℕ) → rest ≡ c ++ later → IsAmid want front out all b left rest
+    → Advances want b (left ++ c) out new now left' → IsAmid want front new all now left' later
+one_turn want front out new all b now left c later left' rest is amid a =
     let f = run_all want b (left ++ c) in
-    let more : run_all want b (left ++ rest) ≡ run_on want f behind = ap (λ (r : List ℕ). run_all want b (left ++ r)) is ∙ ap (λ (r : List ℕ). run_all want b r) (sym (append_assoc left c behind)) ∙ run_all-more want b (left ++ c) behind in
-    let on : run_on want f behind ≡ behind_items f.given (run_all want now (left' ++ behind)) =
-    ap (λ x. behind_items f.given (run_all want x (f.left ++ behind))) (sym a.reads.before) ∙ ap (λ (x : List ℕ). behind_items f.given (run_all want now (x ++ behind))) (sym a.reads.left) in
-    let r = run_all want now (left' ++ behind) in
-    let g : GoesOn front out all (behind_items f.given r) = subst (λ (x : Found). GoesOn front out all x) (more ∙ on) amid.goes in
+    let more : run_all want b (left ++ rest) ≡ run_on want f later = ap (λ (r : List ℕ). run_all want b (left ++ r)) is ∙ ap (λ (r : List ℕ). run_all want b r) (sym (append_assoc left c later)) ∙ run_all-more want b (left ++ c) later in
+    let on : run_on want f later ≡ after_items f.given (run_all want now (left' ++ later)) =
+    ap (λ x. after_items f.given (run_all want x (f.left ++ later))) (sym a.reads.before) ∙ ap (λ (x : List ℕ). after_items f.given (run_all want now (x ++ later))) (sym a.reads.left) in
+    let r = run_all want now (left' ++ later) in
+    let g : GoesOn front out all (after_items f.given r) = subst (λ (x : Found). GoesOn front out all x) (more ∙ on) amid.goes in
     let ends : part_len want now left' ≡ None = ap (λ x. part_len want x left') a.reads.before ∙ ap (λ (x : List ℕ). part_len want f.before x) a.reads.left ∙ run-ends want (length (left ++ c)) b (left ++ c) (omega arith) in
     record {
       waits = waits_from want now left' ends a.faultless;
@@ -174,25 +174,25 @@ all_read want front out b0 o b left [] none amid =
     record { reads = record { given = sym (g.given ∙ append-nil out); before = sym g.before; left = sym g.left }; faultless = amid.waits.faultless }
 all_read want front out b0 o b left (x ∷ rest) none amid = absurd (omega (arith, none))
 
-refused_amid : (want : Want) (front out new : List Item) (all : Found) (b : Before) (left c behind rest : List ℕ) (x : ZmtpFault) → rest ≡ c ++ behind → IsAmid want front out all b left rest
+refused_amid : (want : Want) (front out new : List Item) (all : Found) (b : Before) (left c later rest : List ℕ) (x : ZmtpFault) → rest ≡ c ++ later → IsAmid want front out all b left rest
     → (let f = run_all want b (left ++ c) in (fault_of want f.before f.left ≡ Some x) × (new ≡ out ++ f.given)) → (fault_of want all.before all.left ≡ Some x) × (new ≡ front ++ all.given)
-refused_amid want front out new all b left c behind rest x is amid r =
+refused_amid want front out new all b left c later rest x is amid r =
     let f = run_all want b (left ++ c) in
-    let stays : fault_of want f.before (f.left ++ behind) ≡ Some x = fault_of-stays want f.before f.left behind x r.0 in
-    let more : run_all want b (left ++ rest) ≡ record { given = f.given ++ []; before = f.before; left = f.left ++ behind } =
-    ap (λ (y : List ℕ). run_all want b (left ++ y)) is ∙ ap (λ (y : List ℕ). run_all want b y) (sym (append_assoc left c behind)) ∙ run_all-more want b (left ++ c) behind
-    ∙ ap (λ y. behind_items f.given y) (run-none want (length (f.left ++ behind)) f.before (f.left ++ behind) (part-fault want f.before (f.left ++ behind) x stays)) in
-    let g : GoesOn front out all (record { given = f.given ++ []; before = f.before; left = f.left ++ behind }) = subst (λ (y : Found). GoesOn front out all y) more amid.goes in
+    let stays : fault_of want f.before (f.left ++ later) ≡ Some x = fault_of-stays want f.before f.left later x r.0 in
+    let more : run_all want b (left ++ rest) ≡ record { given = f.given ++ []; before = f.before; left = f.left ++ later } =
+    ap (λ (y : List ℕ). run_all want b (left ++ y)) is ∙ ap (λ (y : List ℕ). run_all want b y) (sym (append_assoc left c later)) ∙ run_all-more want b (left ++ c) later
+    ∙ ap (λ y. after_items f.given y) (run-none want (length (f.left ++ later)) f.before (f.left ++ later) (part-fault want f.before (f.left ++ later) x stays)) in
+    let g : GoesOn front out all (record { given = f.given ++ []; before = f.before; left = f.left ++ later }) = subst (λ (y : Found). GoesOn front out all y) more amid.goes in
     (ap (λ y. fault_of want y all.left) g.before ∙ ap (λ y. fault_of want f.before y) g.left ∙ stays, r.1 ∙ ap (λ (y : List Item). out ++ y) (sym (append-nil f.given)) ∙ sym g.given)
 
-pub refused_turn : (want : Want) (front out new : List Item) (all : Found) (b : Before) (left c behind rest : List ℕ) (e : FeedFault) → rest ≡ c ++ behind → IsAmid want front out all b left rest
+pub refused_turn : (want : Want) (front out new : List Item) (all : Found) (b : Before) (left c later rest : List ℕ) (e : FeedFault) → rest ≡ c ++ later → IsAmid want front out all b left rest
     → (let f = run_all want b (left ++ c) in Refuses e (fault_of want f.before f.left) (new ≡ out ++ f.given)) → Refuses e (fault_of want all.before all.left) (new ≡ front ++ all.given)
-refused_turn want front out new all b left c behind rest (Zmtp x) is amid r = refused_amid want front out new all b left c behind rest x is amid r
-refused_turn want front out new all b left c behind rest OutOfMemory is amid r = tt
+refused_turn want front out new all b left c later rest (Zmtp x) is amid r = refused_amid want front out new all b left c later rest x is amid r
+refused_turn want front out new all b left c later rest OutOfMemory is amid r = tt
 
 -- ---- a whole frame
 
--- octets in front, and those behind them
+-- octets before, and those after them
 pub joined : (n : ℕ) (o front : List ℕ) → front ≡ take n o → o ≡ front ++ drop n o
 joined n o front p = sym (take-append-drop n o) ∙ ap (λ (x : List ℕ). x ++ drop n o) (sym p)
 

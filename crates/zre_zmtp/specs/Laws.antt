@@ -23,7 +23,7 @@ pub record IsWithinLimits (message : List (List ℕ)) : Type 0 where
   pub frames : length message ≤ MESSAGE_FRAMES
   pub octets : sum_by length message ≤ MESSAGE_OCTETS
 
--- The frames of the message behind o are read as the message, and the next one is awaited.
+-- The frames of the message after o are read as the message, and the next one is awaited.
 pub record ReadsMessage (want : Want) (kind : Kind) (o : List ℕ) (message : List (List ℕ)) : Type 0 where
   pub read : items want kind (o ++ frames message) ≡ items want kind o ++ record { start = length o; end = length (o ++ frames message); what = Message message } ∷ []
   pub awaits : AwaitsMessage want kind (o ++ frames message)
@@ -47,7 +47,7 @@ handshake kind identity = own_greeting ++ ready_frame kind identity
 abbrev pub greeting_item : Item
 greeting_item = record { start = 0; end = 64; what = Greeting 3 0 }
 
--- READY as an item behind the greeting
+-- READY as an item after the greeting
 abbrev pub ready_item : SocketType → Option PeerId → Item
 ready_item kind identity = record {
   start = 64;

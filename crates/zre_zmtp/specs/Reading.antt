@@ -7,14 +7,14 @@ use Rattle.zre_zmtp.specs.declared.item.Item.{Item}
 use Rattle.zre_zmtp.specs.Stream.{Before, Want, Kind, before, split, items, fault}
 use Rattle.zre_zmtp.specs.Run.{Found}
 
--- What a reader keeps of the octets so far: what the whole parts tell, and the octets behind them.
+-- What a reader keeps of the octets so far: what the whole parts tell, and the octets after them.
 pub record Reading : Type 0 where
   pub before : Before
   pub left : List ℕ
   pub spent : Bool
   pub wanted : Want
 
--- The reader stands behind the octets o, which have no fault.
+-- The reader stands after the octets o, which have no fault.
 pub record Reads (want : Want) (kind : Kind) (o : List ℕ) (r : Reading) : Type 0 where
   pub before : r.before ≡ before kind (split want kind o).0
   pub left : r.left ≡ (split want kind o).1
@@ -31,12 +31,12 @@ pub record Adds (want : Want) (kind : Kind) (o more : List ℕ) (old new : List 
   pub extended : items want kind (o ++ more) ≡ items want kind o ++ new_items want kind o more
   pub appended : new ≡ old ++ new_items want kind o more
 
--- Whatever octets come behind o, its fault and its items stay.
+-- Whatever octets come after o, its fault and its items stay.
 pub record IsOver (want : Want) (kind : Kind) (o : List ℕ) : Type 0 where
   pub fault : (more : List ℕ) → fault want kind (o ++ more) ≡ fault want kind o
   pub items : (more : List ℕ) → items want kind (o ++ more) ≡ items want kind o
 
--- A refusal names the fault that is there, and then P holds; for want of memory nothing is said.
+-- A refusal names the fault that is there, and then P holds; of OutOfMemory nothing is said.
 abbrev pub Refuses : FeedFault → Option ZmtpFault → Type 0 → Type 0
 Refuses (Zmtp found) there P = (there ≡ Some found) × P
 Refuses OutOfMemory there P = Unit {0}
@@ -46,7 +46,7 @@ abbrev pub kept : Reading → ℕ
 kept r = sum_by length r.before.opened + length r.left
 
 -- Everything that is whole was read.
-pub record ReadsAll (found : Found) (old new : List Item) (now : Before) (behind : List ℕ) : Type 0 where
+pub record ReadsAll (found : Found) (old new : List Item) (now : Before) (later : List ℕ) : Type 0 where
   pub given : new ≡ old ++ found.given
   pub before : now ≡ found.before
-  pub left : behind ≡ found.left
+  pub left : later ≡ found.left

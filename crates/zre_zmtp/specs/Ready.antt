@@ -14,7 +14,7 @@ abbrev pub name : List ℕ → List ℕ
 name [] = []
 name (n ∷ rest) = take n rest
 
--- what stands behind the name
+-- what stands after the name
 abbrev pub rest : List ℕ → List ℕ
 rest [] = []
 rest (n ∷ more) = drop n more
@@ -43,16 +43,16 @@ has_property o = has_name o && list_all is_name_octet (name o) && has_value (res
 abbrev pub property : List ℕ → List ℕ × List ℕ
 property o = (name o, take (value_len (rest o)) (drop 4 (rest o)))
 
--- what stands behind it
-abbrev pub behind_property : List ℕ → List ℕ
-behind_property o = drop (4 + value_len (rest o)) (rest o)
+-- what stands after it
+abbrev pub after_property : List ℕ → List ℕ
+after_property o = drop (4 + value_len (rest o)) (rest o)
 
 -- the octets as properties, of which there are at most as many as the number says
 unfoldable pub properties_within : ℕ → List ℕ → Option (List (List ℕ × List ℕ))
 properties_within n [] = Some []
 properties_within zero (x ∷ o) = None
 properties_within (suc n) (x ∷ o) =
-    if has_property (x ∷ o) then option_map (λ ps. property (x ∷ o) ∷ ps) (properties_within n (behind_property (x ∷ o))) else None
+    if has_property (x ∷ o) then option_map (λ ps. property (x ∷ o) ∷ ps) (properties_within n (after_property (x ∷ o))) else None
 
 -- the properties that the octets spell one after another, if they do
 abbrev pub properties : List ℕ → Option (List (List ℕ × List ℕ))

@@ -1,11 +1,11 @@
--- What a reader finds that stands behind some parts of a stream and knows of them only what they tell.
+-- What a reader finds that stands after some parts of a stream and knows of them only what they tell.
 use Rattle.std.specs.Prelude.{ℕ, zero, suc, ◌+◌, ◌==◌, if◌then◌else◌, List, [], ◌++◌, length, take, drop, Option, option_map, option_to_list, unwrap_or}
 use Rattle.zre_zmtp.specs.declared.item.Item.{Item}
 use Rattle.zre_zmtp.specs.declared.expected.Expected.{Expected}
 use Rattle.zre_zmtp.specs.declared.expected.Expected.TheVariants as expect
 use Rattle.zre_zmtp.specs.Stream.{Want, Before, opened_with, part_len, item}
 
--- what comes behind the next part
+-- what comes after the next part
 abbrev pub next_expected : Expected → Expected
 next_expected expect.Greeting = expect.Ready
 next_expected expect.Ready = expect.Traffic
@@ -20,13 +20,13 @@ after b part = record {
   start = if length (opened_with b.expected b.opened part) == 0 then b.place + length part else b.start;
 }
 
--- the items that are found, what is known behind them, and the octets that are left
+-- the items that are found, what is known after them, and the octets that are left
 pub record Found : Type 0 where
   pub given : List Item
   pub before : Before
   pub left : List ℕ
 
--- the same with an item in front
+-- the same with an item before
 abbrev pub with_item : Option Item → Found → Found
 with_item i f = record { given = option_to_list i ++ f.given; before = f.before; left = f.left }
 

@@ -17,7 +17,7 @@ use Rattle.zre_zmtp.specs.Reading.{ReadsAll, Refuses}
 abbrev pub before_of : Progress → Before
 before_of p = record { expected = p.expected; place = p.place; opened = p.opened; start = p.start }
 
--- the octets behind them
+-- the octets after them
 abbrev pub left_by : Expected → List ℕ → List ℕ → List ℕ → List ℕ
 left_by expect.Greeting greeting head body = greeting
 left_by expect.Ready greeting head body = head ++ body
@@ -34,7 +34,7 @@ header_fault b o = option_or (once (nat_le 1 (length o)) (flags_fault b (flags o
 abbrev pub frame_item : Before → Header → List ℕ → ℕ → Option Item
 frame_item b h o len = option_map (λ says. record { start = start_of b.expected b h.flags; end = b.place + len; what = says }) (said b.expected b.opened h.flags h.size o)
 
--- what is known behind such a frame, where no greeting is expected
+-- what is known after such a frame, where no greeting is expected
 abbrev pub frame_after : Before → Header → List ℕ → ℕ → Before
 frame_after b h o len = record {
   expected = expect.Traffic;
@@ -43,17 +43,17 @@ frame_after b h o len = record {
   start = if length (opened_by b.expected b.opened h.flags o) == 0 then b.place + len else b.start;
 }
 
--- The reader stands behind whole parts that tell b, and the octets o are no whole part and have no fault.
+-- The reader stands after whole parts that tell b, and the octets o are no whole part and have no fault.
 pub record Waits (want : Want) (b : Before) (o : List ℕ) : Type 0 where
   pub faultless : fault_of want b o ≡ None
   pub partial : whole_len b.expected o ≡ None
 
--- The octets o were read behind b, and have no fault.
-pub record Advances (want : Want) (b : Before) (o : List ℕ) (old new : List Item) (now : Before) (behind : List ℕ) : Type 0 where
-  pub reads : ReadsAll (run_all want b o) old new now behind
-  pub faultless : fault_of want now behind ≡ None
+-- The octets o were read after b, and have no fault.
+pub record Advances (want : Want) (b : Before) (o : List ℕ) (old new : List Item) (now : Before) (later : List ℕ) : Type 0 where
+  pub reads : ReadsAll (run_all want b o) old new now later
+  pub faultless : fault_of want now later ≡ None
 
--- A refusal names the fault that is in the octets o behind b, and the items in front of it were appended.
+-- A refusal names the fault that is in the octets o after b, and the items before it were appended.
 abbrev pub RefusesAt : FeedFault → Want → Before → List ℕ → List Item → List Item → Type 0
 RefusesAt e want b o old new =
     let found = run_all want b o in
@@ -75,7 +75,7 @@ pub record BeginsFrame (p : Progress) (h : Header) (o : List ℕ) : Type 0 where
   pub header : header_of o ≡ Some h
   pub whole : header_len o + h.size ≤ length o
 
--- a frame with these flags belongs to a message behind READY
+-- a frame with these flags belongs to a message after READY
 abbrev pub is_content : Expected → ℕ → Bool
 is_content expect.Traffic f = is_message f
 is_content _ f = false

@@ -16,7 +16,7 @@ pub use Rattle.zre_zmtp.specs.declared.want.Want.TheVariants.{Any, Router, Deale
 use Rattle.zre_zmtp.specs.declared.expected.Expected.{Expected}
 use Rattle.zre_zmtp.specs.declared.expected.Expected.TheVariants as expect
 
--- ---- what the parts in front of a place tell about the next one
+-- ---- what the parts before a place tell about the next one
 
 -- what comes next, how many octets they have, the bodies of a message that isn't whole, and where it begins
 pub record Before : Type 0 where
@@ -34,7 +34,7 @@ pub data Kind : Type 0 where
 abbrev pub Parts : Type 0
 Parts = List (List ℕ)
 
--- what comes behind them
+-- what comes after them
 abbrev pub expected : Kind → Parts → Expected
 expected Whole [] = expect.Greeting
 expected Whole (greeting ∷ []) = expect.Ready
@@ -46,17 +46,17 @@ abbrev pub place : Parts → ℕ
 place [] = 0
 place (part ∷ before) = place before + length part
 
--- the bodies of the unfinished message behind one more frame, by its flags and its body
+-- the bodies of the unfinished message after one more frame, by its flags and its body
 abbrev pub opened_by : Expected → List (List ℕ) → ℕ → List ℕ → List (List ℕ)
 opened_by expect.Greeting bodies f o = bodies
 opened_by expect.Ready bodies f o = bodies
 opened_by expect.Traffic bodies f o = if not (is_message f) then bodies else if has_more f then bodies ++ o ∷ [] else []
 
--- the same behind one more part
+-- the same after one more part
 abbrev pub opened_with : Expected → List (List ℕ) → List ℕ → List (List ℕ)
 opened_with e bodies part = opened_by e bodies (flags part) (body part)
 
--- the bodies of the message frames behind the last frame that ends a message
+-- the bodies of the message frames after the last frame that ends a message
 abbrev pub opened : Kind → Parts → List (List ℕ)
 opened kind [] = []
 opened kind (part ∷ before) = opened_with (expected kind before) (opened kind before) part
@@ -198,13 +198,13 @@ whole_len expect.Traffic o = if is_whole o then Some (frame_len o) else None
 unfoldable pub part_len : Want → Before → List ℕ → Option ℕ
 part_len want b o = if is_some (fault_of want b o) then None else whole_len b.expected o
 
--- The parts behind those before, the last one first, and the octets behind them. The number bounds how many parts there can be.
+-- The parts after those before, the last one first, and the octets after them. The number bounds how many parts there can be.
 unfoldable pub cut : Want → Kind → ℕ → Parts → List ℕ → Parts × List ℕ
 cut want kind zero parts o = (parts, o)
 cut want kind (suc n) parts o =
     unwrap_or (option_map (λ len. cut want kind n (take len o ∷ parts) (drop len o)) (part_len want (before kind parts) o)) (parts, o)
 
--- The longest list of whole and faultless parts that stand one after another in o, the last one first, and the octets behind them.
+-- The longest list of whole and faultless parts that stand one after another in o, the last one first, and the octets after them.
 abbrev pub split : Want → Kind → List ℕ → Parts × List ℕ
 split want kind o = cut want kind (length o) [] o
 
@@ -219,7 +219,7 @@ said expect.Traffic opened f n o =
     else if has_more f then None
     else Some (Message (opened ++ o ∷ []))
 
--- what a part says, behind the parts before it
+-- what a part says, after the parts before it
 abbrev pub what_of : Expected → List (List ℕ) → List ℕ → Option What
 what_of expect.Greeting opened part = Some (Greeting (slice_index part 10) (slice_index part 11))
 what_of expect.Ready opened part = said expect.Ready opened (flags part) (size part) (body part)
@@ -250,7 +250,7 @@ items want kind o = items_of kind (split want kind o).0
 abbrev pub fault : Want → Kind → List ℕ → Option ZmtpFault
 fault want kind o = fault_of want (before kind (split want kind o).0) (split want kind o).1
 
--- no message is unfinished, and nothing stands behind the last item
+-- no message is unfinished, and nothing stands after the last item
 pub record IsAtRest (want : Want) (kind : Kind) (o : List ℕ) : Type 0 where
   pub nothing_left : (split want kind o).1 ≡ []
   pub nothing_open : opened kind (split want kind o).0 ≡ []

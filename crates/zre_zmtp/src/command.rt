@@ -1,7 +1,7 @@
 //! The bodies of commands (RFC 23, commands and the NULL mechanism).
 
 ghost use Rattle.std.specs.Prelude.{◌≡◌, ℕ, ◌+◌, true, false, if◌then◌else◌, take, drop, MatchOption, ◌≤◌, ◌<◌, length, IsTrue, slice_index, Some, None, codes, is_some, option_copied, option_map, option_and_then};
-ghost use Rattle.zre_zmtp.specs.Ready.{has_name as name_test, name as name_of, rest as rest_of, properties, value_of, ready_value as value_of_ready, socket_type as socket_type_of, identity as identity_of, is_name_octet as name_octet_test, has_value as value_test, value_len, has_property as property_test, property, behind_property};
+ghost use Rattle.zre_zmtp.specs.Ready.{has_name as name_test, name as name_of, rest as rest_of, properties, value_of, ready_value as value_of_ready, socket_type as socket_type_of, identity as identity_of, is_name_octet as name_octet_test, has_value as value_test, value_len, has_property as property_test, property, after_property};
 ghost use Rattle.std.specs.List.{list_all};
 ghost use Rattle.std.specs.Option.{option_or};
 ghost use Rattle.std.specs.Str.{str_eq_ignore_ascii_case};
@@ -81,7 +81,7 @@ fn are_name_octets(name: &[u8]) -> bool
     name.iter().all(|octet| is_name_octet(*octet))
 }
 
-/// The value at the front, behind its length, and what follows it.
+/// The value at the front, after its length, and what follows it.
 fn value_at(octets: &[u8]) -> Option<(&[u8], &[u8])>
     ensures { MatchOption result (value_test octets.now ≡ false)
         (λ found. (value_test octets.now ≡ true) × (found.0.now ≡ take (value_len octets.now) (drop 4 octets.now))
@@ -91,18 +91,18 @@ fn value_at(octets: &[u8]) -> Option<(&[u8], &[u8])>
         return None;
     }
     let size = u32::from_be_bytes([octets[0], octets[1], octets[2], octets[3]]) as usize;
-    let behind = &octets[4..];
-    if behind.len() < size {
+    let later = &octets[4..];
+    if later.len() < size {
         return None;
     }
-    Some((&behind[..size], &behind[size..]))
+    Some((&later[..size], &later[size..]))
 }
 
 /// The name, the value and the rest, where a property is at the front.
 fn property_at(octets: &[u8]) -> Option<(&[u8], &[u8], &[u8])>
     ensures { MatchOption result (property_test octets.now ≡ false)
         (λ found. (property_test octets.now ≡ true) × ((found.0.now, found.1.now) ≡ property octets.now)
-        × (found.2.now ≡ behind_property octets.now)) }
+        × (found.2.now ≡ after_property octets.now)) }
 {
     if !has_name(octets) {
         return None;
@@ -111,8 +111,8 @@ fn property_at(octets: &[u8]) -> Option<(&[u8], &[u8], &[u8])>
     if !are_name_octets(name) {
         return None;
     }
-    let (value, behind) = value_at(rest(octets))?;
-    Some((name, value, behind))
+    let (value, later) = value_at(rest(octets))?;
+    Some((name, value, later))
 }
 
 /// What was found before, or else the value, where its name is the one that is wanted.
@@ -144,9 +144,9 @@ pub fn value_in<'a>(octets: &'a [u8], wanted: &[u8]) -> Option<Option<&'a [u8]>>
     let mut left = octets;
     let mut found: Option<&'a [u8]> = None;
     while !left.is_empty() {
-        let (name, value, behind) = property_at(left)?;
+        let (name, value, later) = property_at(left)?;
         found = first_value(found, name, value, wanted);
-        left = behind;
+        left = later;
     }
     Some(found)
 }

@@ -13,13 +13,13 @@ pub enum ZmtpWhy {
     Signature,
     /// A major version below 3.
     OldVersion,
-    /// Another mechanism than NULL, or octets behind its name that aren't zero.
+    /// Another mechanism than NULL, or octets after its name that aren't zero.
     Mechanism,
     /// Flags that no frame has (RFC 23, framing).
     Flags,
     /// The body of a command has no name, an empty one, or one that goes past its end.
     CommandName,
-    /// What stands behind the name READY isn't a list of properties (RFC 23, the NULL mechanism).
+    /// What stands after the name READY isn't a list of properties (RFC 23, the NULL mechanism).
     Metadata,
     /// READY names no socket type, or not the one that is wanted.
     SocketType,

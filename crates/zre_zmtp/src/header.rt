@@ -40,7 +40,7 @@ pub fn header_len(octets: &[u8]) -> usize
     if is_long(octets[0]) { 9 } else { 2 }
 }
 
-// The size field, behind the flags octet.
+// The size field, after the flags octet.
 fn size_field(octets: &[u8]) -> u64
     requires some { 1 ≤ length octets.now }
     requires header { len_of_header octets.now ≤ length octets.now }

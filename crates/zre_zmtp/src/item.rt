@@ -6,7 +6,7 @@ use std::alloc::Global;
 use std::marker::Model;
 use zre_values::{Frames, Octets, OutOfMemory};
 
-/// What is whole, from the place of its first octet to the place behind its last. Places count the octets of the
+/// What is whole, from the place of its first octet to the place after its last. Places count the octets of the
 /// stream before them.
 #[derive(Debug, Drop)]
 pub struct Item {
@@ -33,7 +33,7 @@ pub enum What {
         socket_type: Option<Octets>,
         identity: Option<Octets>,
     },
-    /// A command behind READY, with the octets of its body. The body is whole: the length of the name, the name,
+    /// A command after READY, with the octets of its body. The body is whole: the length of the name, the name,
     /// and the rest.
     Command {
         size: u64,
@@ -41,7 +41,7 @@ pub enum What {
         body: Octets,
     },
     /// The bodies of the frames of a message. It begins with the flags of its first frame; the commands between its
-    /// frames are items of their own, in front of it.
+    /// frames are items of their own, before it.
     Message(Frames),
 }
 

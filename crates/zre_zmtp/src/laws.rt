@@ -6,7 +6,7 @@ ghost use Rattle.zre_zmtp.specs.declared.writing.SocketType.{SocketType};
 ghost use Rattle.zre_zmtp.specs.Stream.{Want as WantValue, Kind};
 ghost use Rattle.zre_zmtp.specs.Laws.{AwaitsMessage, IsWithinLimits, ReadsMessage, IsWanted, ReadsHandshake};
 
-/// Whatever stream a message within the limits is written behind, it is read as that message.
+/// Whatever stream a message within the limits is written after, it is read as that message.
 pub fn messages_are_read()
     ensures { (want : WantValue) (kind : Kind) (o : List ℕ) (message : List (List ℕ)) →
         AwaitsMessage want kind o → IsWithinLimits message → ReadsMessage want kind o message }

@@ -68,7 +68,7 @@ impl Opened {
         self.push(Octets::copy(alloc, body)?)
     }
 
-    /// Hands the bodies out with a copy of the last one behind them, and has none any more.
+    /// Hands the bodies out with a copy of the last one after them, and has none any more.
     pub fn close(&mut self, alloc: Global, last: &[u8]) -> Result<Frames, OutOfMemory>
         ensures bodies { IfOk result (λ bodies. bodies ≡ self.old ++ last.now ∷ []) }
         ensures empty { OnOk result (self.new ≡ []) }
@@ -77,7 +77,7 @@ impl Opened {
         Ok(self.take(alloc))
     }
 
-    /// Hands the bodies out with the last one behind them, and has none any more. One alone is handed on as it is.
+    /// Hands the bodies out with the last one after them, and has none any more. One alone is handed on as it is.
     pub fn finish(&mut self, alloc: Global, last: Octets) -> Result<Frames, OutOfMemory>
         ensures bodies { IfOk result (λ bodies. bodies ≡ self.old ++ last ∷ []) }
         ensures empty { OnOk result (self.new ≡ []) }

@@ -37,8 +37,8 @@ fn read(
     let mut rest = octets;
     while !rest.is_empty() {
         let len = take_turn(alloc, want, progress, rest, out)?;
-        let (_, behind) = rest.split_at(len);
-        rest = behind;
+        let (_, later) = rest.split_at(len);
+        rest = later;
     }
     Ok(())
 }
@@ -82,7 +82,7 @@ impl Reader {
         Reader::expecting(alloc, want, Expected::Greeting)
     }
 
-    /// Expects traffic alone: what stands behind READY.
+    /// Expects traffic alone: what stands after READY.
     pub fn traffic(alloc: Global) -> Self
         ensures { Reads Any traffic_kind [] result }
     {
@@ -90,8 +90,8 @@ impl Reader {
     }
 
     /// Reads one more piece: the items whose last octet is now there are appended. A fault is told with the very octet that
-    /// makes it certain, behind the items before it; no octet that comes later changes it or adds an item. After a refusal
-    /// the reader is spent. Want of memory is also told where a place would be above 2^64 - 1.
+    /// makes it certain, after the items before it; no octet that comes later changes it or adds an item. After a refusal
+    /// the reader is spent. OutOfMemory is also told where a place would be above 2^64 - 1.
     pub fn feed(&mut self, piece: &[u8], out: &mut Items) -> Result<(), FeedFault>
         requires { self.old.spent ≡ false }
         ensures ok { (want : WantValue) (kind : Kind) (o : List ℕ) → Reads want kind o self.old →
@@ -127,7 +127,7 @@ impl Reader {
         Ok(())
     }
 
-    /// Whether no message is unfinished, and no octet stands behind the last item.
+    /// Whether no message is unfinished, and no octet stands after the last item.
     pub fn at_rest(&self) -> bool
         ensures { (want : WantValue) (kind : Kind) (o : List ℕ) → Reads want kind o self.now →
             (IsTrue result ↔ IsAtRest want kind o) }

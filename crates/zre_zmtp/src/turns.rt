@@ -90,7 +90,7 @@ fn said(
     Ok(Some(What::Message(progress.opened.finish(alloc, body)?)))
 }
 
-// The item that ends with a whole frame, and what is known behind it. A place past the last one is want of memory.
+// The item that ends with a whole frame, and what is known after it. A place past the last one is OutOfMemory.
 fn finish_frame(
     alloc: Global,
     want: &Want,
@@ -143,7 +143,7 @@ fn fault_of_body(want: &Want, progress: &Progress, flags: u8, body: &[u8]) -> Op
     }
 }
 
-// The place behind a part, if there is a number for it.
+// The place after a part, if there is a number for it.
 fn end_of(place: u64, header_len: usize, body_len: usize) -> Option<u64>
     ensures { IfSome result (λ end. end ≡ place + (header_len + body_len)) }
 {
@@ -182,7 +182,7 @@ fn take_frame(
     Ok(())
 }
 
-// The item that ends with the greeting, and what is known behind it.
+// The item that ends with the greeting, and what is known after it.
 #[tactic(auto, unfolding(crate::specs::Stream::item))]
 fn finish_greeting(alloc: Global, progress: &mut Progress) -> Result<Item, FeedFault>
     requires expected { progress.old.expected ≡ Expected.Greeting }
@@ -335,15 +335,15 @@ fn whole_frame(progress: &Progress, octets: &[u8]) -> Option<Header>
         return None;
     }
     let header = read_header(octets)?;
-    let (_, behind) = octets.split_at(header_len(octets));
-    if header.size <= behind.len() as u64 {
+    let (_, later) = octets.split_at(header_len(octets));
+    if header.size <= later.len() as u64 {
         Some(header)
     } else {
         None
     }
 }
 
-// Whether a frame with this header belongs to a message behind READY.
+// Whether a frame with this header belongs to a message after READY.
 fn is_content(progress: &Progress, header: Header) -> bool
     ensures { result ≡ is_content_of progress.now.expected header.flags }
 {
@@ -372,7 +372,7 @@ fn end_message(
     out.push(Item { start, end, what })
 }
 
-// A whole frame of a message behind READY. Its body is copied once.
+// A whole frame of a message after READY. Its body is copied once.
 fn take_content(
     alloc: Global,
     progress: &mut Progress,
@@ -419,12 +419,12 @@ fn take_whole(
         RefusesAt e want.now (before_of progress.old) octets.now out.old out.new) }
     ensures within { IfOk result (λ len. 0 < len × len ≤ length octets.now) }
 {
-    let (head, behind) = octets.split_at(header_len(octets));
+    let (head, later) = octets.split_at(header_len(octets));
     if let Some(why) = fault_of_header(progress, head) {
         let place = progress.place;
         return Err(FeedFault::Zmtp(ZmtpFault { why, place }));
     }
-    let (body, _) = behind.split_at(header.size as usize);
+    let (body, _) = later.split_at(header.size as usize);
     let len = head.len() + body.len();
     if is_content(progress, header) {
         take_content(alloc, progress, header, head.len(), body, out)?;

@@ -45,7 +45,7 @@ impl Pipes {
     }
 
     /// One pass in place of two: that of `pass`, which keeps what both put. Nothing is put under the other's number any
-    /// more, and what was put under it comes in front of all that is put with this pass from now on. It waits for nobody: it
+    /// more, and what was put under it comes before all that is put with this pass from now on. It waits for nobody: it
     /// asks nothing of the runtime.
     pub fn absorb<R: Copy>(&self, _rt: R, pass: CallerPass, other: CallerPass) -> CallerPass
         requires { IsCallerOf self.now pass × IsCallerOf self.now other }

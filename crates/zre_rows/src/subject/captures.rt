@@ -109,9 +109,9 @@ fn read_in_pieces(
     let mut reader = CaptureReader::new(alloc);
     let mut rest = text;
     'pieces: while !rest.is_empty() {
-        let (piece, behind) = rest.split_at(rest.len().min((size as usize).max(1)));
+        let (piece, later) = rest.split_at(rest.len().min((size as usize).max(1)));
         match reader.feed(piece, entries) {
-            Ok(()) => rest = behind,
+            Ok(()) => rest = later,
             Err(CaptureFault::Bad(bad)) => return Ok(Some(bad)),
             Err(CaptureFault::OutOfMemory) => return Err(OutOfMemory),
         }

@@ -60,7 +60,7 @@ fn tell_lines(
         return Err(Trouble::BadArgument);
     }
     let taken = match Message::see(frames) {
-        Ok(Some(lent)) if run.is_behind() => run.take_lent(&lent, text),
+        Ok(Some(lent)) if run.is_after() => run.take_lent(&lent, text),
         _ => run.take(message_of(alloc, frames)?, text),
     };
     match taken {

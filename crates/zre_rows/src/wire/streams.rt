@@ -207,12 +207,12 @@ impl Streams {
     }
 
     // What comes of a piece, and of others of at most so many octets after it.
-    fn text_of(&self, front: &[u8], behind: &[u8], most: usize) -> Result<Octets, Trouble> {
+    fn text_of(&self, front: &[u8], later: &[u8], most: usize) -> Result<Octets, Trouble> {
         let mut reader = reader_of(self.alloc, self.want);
         let mut items = Items::new(self.alloc);
         let mut text = Octets::new(self.alloc);
         feed_piece(&mut reader, front, &mut items, &mut text)?;
-        for piece in behind.chunks(most.max(1)) {
+        for piece in later.chunks(most.max(1)) {
             feed_piece(&mut reader, piece, &mut items, &mut text)?;
         }
         push_rest(&mut text, &reader)?;
@@ -226,8 +226,8 @@ impl Streams {
         let text = self.text_of(octets, &[], 1)?;
         answer.append(text.as_slice())?;
         for cut in 0..octets.len() {
-            let (front, behind) = octets.split_at(cut);
-            if self.text_of(front, behind, octets.len())?.as_slice() != text.as_slice() {
+            let (front, later) = octets.split_at(cut);
+            if self.text_of(front, later, octets.len())?.as_slice() != text.as_slice() {
                 push_count(answer, b"not so when cut at", cut as u64)?;
                 answer.push(b'\n')?;
             }

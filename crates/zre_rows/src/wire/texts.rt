@@ -31,7 +31,7 @@ pub fn push_count(out: &mut Octets, word: &[u8], n: u64) -> Result<(), Trouble> 
     Ok(())
 }
 
-/// Appends the line `fault WHY PLACE`. Want of memory is no answer.
+/// Appends the line `fault WHY PLACE`. OutOfMemory is no answer.
 pub fn push_fault(answer: &mut Octets, fault: FeedFault) -> Result<(), Trouble> {
     match fault {
         FeedFault::Zmtp(ZmtpFault { why, place }) => {

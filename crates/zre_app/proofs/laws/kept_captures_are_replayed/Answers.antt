@@ -6,8 +6,8 @@ use Rattle.zre_capture.specs.Journal.{IsCaptureOf, journal}
 use Rattle.zre_capture.proofs.Whole.{captured}
 use Rattle.zre_journal.specs.Events.{events}
 use Rattle.zre_peer.specs.Lines.{lines as event_lines}
-use Rattle.zre_pump.specs.Meaning.{whole_text}
-use Rattle.zre_replay.specs.Replay.{replay, refusal}
+use Rattle.zre_commands.specs.pump.Meaning.{whole_text}
+use Rattle.zre_commands.specs.replay.Replay.{replay, refusal}
 use Rattle.zre_app.proofs.laws.kept_captures_are_replayed.Goals as goal
 
 pub returns : goal.returns

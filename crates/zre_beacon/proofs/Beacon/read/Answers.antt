@@ -11,11 +11,11 @@ not_different : (xs ys : List ℕ) → false ≡ not (bytes_eq xs ys) → xs ≡
 not_different xs ys e =
     (bytes_eq-Decides xs ys).0 (elim (bytes_eq xs ys) as (λ b. false ≡ not b → b ≡ true) [ true ↦ λ _. refl | false ↦ λ d. absurd cc ] e)
 
--- three parts, one behind the other
+-- three parts, one after the other
 in_parts : (bytes head rest id tail : List ℕ) → head ≡ take 4 bytes → rest ≡ drop 4 bytes → id ≡ take 16 rest → tail ≡ drop 16 rest → bytes ≡ head ++ (id ++ tail)
 in_parts bytes head rest id tail h r i t =
     let whole = take-append-drop 4 bytes in
-    let behind = take-append-drop 16 rest in
+    let later = take-append-drop 16 rest in
     cc
 
 octets_of_part : (bytes part : List ℕ) (n : ℕ) → part ≡ drop n bytes → ((i : ℕ) → get_or bytes i 0 < 256) → (i : ℕ) → get_or part i 0 < 256
@@ -38,15 +38,15 @@ returns-clause-sound c =
       number = c.from_be_bytes.type_inv;
     }
 
--- what stands behind the head
-behind_head : (bytes rest id port : List ℕ) → bytes ≡ 0x5a ∷ 0x52 ∷ 0x45 ∷ 0x01 ∷ (id ++ port) → rest ≡ drop 4 bytes → rest ≡ id ++ port
-behind_head bytes rest id port e r = r ∙ ap (drop 4) e
+-- what stands after the head
+after_head : (bytes rest id port : List ℕ) → bytes ≡ 0x5a ∷ 0x52 ∷ 0x45 ∷ 0x01 ∷ (id ++ port) → rest ≡ drop 4 bytes → rest ≡ id ++ port
+after_head bytes rest id port e r = r ∙ ap (drop 4) e
 
 pub returns-clause-complete : goal.returns-clause-complete
 returns-clause-complete c = λ id port h.
     let second = c.in_ok-id.ensures.cases in
     let chunk = c.in-Ok.ensures.1 in
-    let rest = behind_head c.args.bytes.now c.in_ok-head.rest.now id.0 (to_be_bytes w16 port) h.spelled c.in_ok-head.ensures.cases.1 in
+    let rest = after_head c.args.bytes.now c.in_ok-head.rest.now id.0 (to_be_bytes w16 port) h.spelled c.in_ok-head.ensures.cases.1 in
     let same_id : c.in_ok-id.id.now ≡ id.0 = second.0 ∙ ap (take 16) rest ∙ take_at id.0 (to_be_bytes w16 port) 16 h.identity in
     let tail : c.in-Ok.port ≡ to_be_bytes w16 port = chunk.same ∙ second.1 ∙ ap (drop 16) rest ∙ drop_at id.0 (to_be_bytes w16 port) 16 h.identity in
     let same_port : c.from_be_bytes.result ≡ port = c.from_be_bytes.ensures ∙ ap (from_be_bytes w16) tail ∙ from_be_bytes-to_be_bytes_2 port h.number in

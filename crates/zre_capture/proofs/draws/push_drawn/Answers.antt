@@ -3,7 +3,7 @@ use Rattle.zre_capture.proofs.Drawing.{next_draw, all_drawn, all_drawn_octets}
 use Rattle.zre_capture.proofs.draws.push_drawn.Goals as goal
 
 pub draws-init : goal.draws-init
-draws-init c = record { behind = refl; octets = refl }
+draws-init c = record { after = refl; octets = refl }
 
 pub draws-preserved : goal.draws-preserved
 draws-preserved c =
@@ -12,6 +12,6 @@ draws-preserved c =
 
 pub returns : goal.returns
 returns c = record {
-  behind = all_drawn _ _ _ _ _ _ c.draws.invariant c.draws-test.false;
+  after = all_drawn _ _ _ _ _ _ c.draws.invariant c.draws-test.false;
   octets = all_drawn_octets _ _ _ _ _ _ c.draws.invariant c.draws-test.false;
 }

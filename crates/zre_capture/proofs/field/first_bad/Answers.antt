@@ -19,9 +19,9 @@ fields-preserved c =
     let long : length c.fields.rest.now ≡ length c.in-Some.field.now + (length c.in-Some.others.now + 1) = cut-length c.fields.rest.now c.in-Some.field.now c.in-Some.others.now c.in-Some.ensures.parts in
     record {
       place = omega (arith, long, c.fields.invariant.place);
-      all = ap (λ (r : List Field). first_bad r (fields_in c.in-Some.others.now) (c.fields.column + (length c.in-Some.field.now + 1))) c.behind-required.ensures
+      all = ap (λ (r : List Field). first_bad r (fields_in c.in-Some.others.now) (c.fields.column + (length c.in-Some.field.now + 1))) c.after-required.ensures
           ∙ sym (all-good c.fields.required.now c.fields.rest.now c.in-Some.field.now c.in-Some.others.now c.fields.column k is) ∙ c.fields.invariant.all;
-      whole_ones = ap (λ (r : List Field). first_bad r (but_last (fields_in c.in-Some.others.now)) (c.fields.column + (length c.in-Some.field.now + 1))) c.behind-required.ensures
+      whole_ones = ap (λ (r : List Field). first_bad r (but_last (fields_in c.in-Some.others.now)) (c.fields.column + (length c.in-Some.field.now + 1))) c.after-required.ensures
           ∙ sym (whole_ones-good c.fields.required.now c.fields.rest.now c.in-Some.field.now c.in-Some.others.now c.fields.column k is) ∙ c.fields.invariant.whole_ones;
     }
 

@@ -5,10 +5,10 @@ use Rattle.hex.specs.Hex.{encode_lower}
 use Rattle.zre_capture.proofs.Digits.{encode_lower-split, encode_lower-nil}
 use Rattle.zre_capture.proofs.hexadecimal.push_digits.Goals as goal
 
-turned : (n : ℕ) (out new o front behind all : List ℕ) → front ≡ take n o → behind ≡ drop n o → new ≡ out ++ encode_lower front → out ++ encode_lower o ≡ all → new ++ encode_lower behind ≡ all
-turned n out new o front behind all f b e so_far =
-    ap (λ (r : List ℕ). r ++ encode_lower behind) e ∙ append_assoc out (encode_lower front) (encode_lower behind)
-    ∙ ap (λ (r : List ℕ). out ++ (encode_lower r ++ encode_lower behind)) f ∙ ap (λ (r : List ℕ). out ++ (encode_lower (take n o) ++ encode_lower r)) b
+turned : (n : ℕ) (out new o front after all : List ℕ) → front ≡ take n o → after ≡ drop n o → new ≡ out ++ encode_lower front → out ++ encode_lower o ≡ all → new ++ encode_lower after ≡ all
+turned n out new o front after all f b e so_far =
+    ap (λ (r : List ℕ). r ++ encode_lower after) e ∙ append_assoc out (encode_lower front) (encode_lower after)
+    ∙ ap (λ (r : List ℕ). out ++ (encode_lower r ++ encode_lower after)) f ∙ ap (λ (r : List ℕ). out ++ (encode_lower (take n o) ++ encode_lower r)) b
     ∙ ap (λ (r : List ℕ). out ++ r) (sym (encode_lower-split n o)) ∙ so_far
 
 pub loop-rest-preserved : goal.loop-rest-preserved

@@ -5,13 +5,13 @@ use Rattle.zre_capture.proofs.list.are_members.Goals as goal
 
 pub returns-then-not-is_group : goal.returns-then-not-is_group
 returns-then-not-is_group c =
-    let cut = between-cut 44 c.members.rest.now c.in-Some.member.now c.in-Some.behind.now c.in-Some.ensures.parts c.in-Some.ensures.first in
-    sym (cut_bad c.members.rest.now c.in-Some.member.now c.in-Some.behind.now cut (sym c.is_group.ensures ∙ c.if-not-is_group.true)) ∙ c.members.invariant
+    let cut = between-cut 44 c.members.rest.now c.in-Some.member.now c.in-Some.after.now c.in-Some.ensures.parts c.in-Some.ensures.first in
+    sym (cut_bad c.members.rest.now c.in-Some.member.now c.in-Some.after.now cut (sym c.is_group.ensures ∙ c.if-not-is_group.true)) ∙ c.members.invariant
 
 pub members-preserved : goal.members-preserved
 members-preserved c =
-    let cut = between-cut 44 c.members.rest.now c.in-Some.member.now c.in-Some.behind.now c.in-Some.ensures.parts c.in-Some.ensures.first in
-    sym (cut_good c.members.rest.now c.in-Some.member.now c.in-Some.behind.now cut (sym c.is_group.ensures ∙ c.if-not-is_group.false)) ∙ c.members.invariant
+    let cut = between-cut 44 c.members.rest.now c.in-Some.member.now c.in-Some.after.now c.in-Some.ensures.parts c.in-Some.ensures.first in
+    sym (cut_good c.members.rest.now c.in-Some.member.now c.in-Some.after.now cut (sym c.is_group.ensures ∙ c.if-not-is_group.false)) ∙ c.members.invariant
 
 pub returns : goal.returns
 returns c =

@@ -9,16 +9,16 @@ use Rattle.zre_capture.proofs.list.members.Goals as goal
 
 pub returns-then-not-branch : goal.returns-then-not-branch
 returns-then-not-branch c =
-    let cut = between-cut 44 c.members.rest.now c.in-Some.member.now c.in-Some.behind.now c.in-Some.ensures.parts c.in-Some.ensures.first in
-    sym c.members.invariant.good ∙ cut_bad c.members.rest.now c.in-Some.member.now c.in-Some.behind.now cut (sym c.in_ok-push_member.ensures.test ∙ c.if-not-branch.true)
+    let cut = between-cut 44 c.members.rest.now c.in-Some.member.now c.in-Some.after.now c.in-Some.ensures.parts c.in-Some.ensures.first in
+    sym c.members.invariant.good ∙ cut_bad c.members.rest.now c.in-Some.member.now c.in-Some.after.now cut (sym c.in_ok-push_member.ensures.test ∙ c.if-not-branch.true)
 
 pub members-preserved : goal.members-preserved
 members-preserved c =
-    let cut = between-cut 44 c.members.rest.now c.in-Some.member.now c.in-Some.behind.now c.in-Some.ensures.parts c.in-Some.ensures.first in
+    let cut = between-cut 44 c.members.rest.now c.in-Some.member.now c.in-Some.after.now c.in-Some.ensures.parts c.in-Some.ensures.first in
     let pushed = OnTrue_at c.if-not-branch.false c.in_ok-push_member.ensures.pushed in
     record {
-      good = sym (cut_good c.members.rest.now c.in-Some.member.now c.in-Some.behind.now cut (sym c.in_ok-push_member.ensures.test ∙ c.if-not-branch.false)) ∙ c.members.invariant.good;
-      read = cut_read c.members.frames c.push_member.new.frames (map unquoted (between 44 c.args.field.now)) c.members.rest.now c.in-Some.member.now c.in-Some.behind.now cut pushed c.members.invariant.read;
+      good = sym (cut_good c.members.rest.now c.in-Some.member.now c.in-Some.after.now cut (sym c.in_ok-push_member.ensures.test ∙ c.if-not-branch.false)) ∙ c.members.invariant.good;
+      read = cut_read c.members.frames c.push_member.new.frames (map unquoted (between 44 c.args.field.now)) c.members.rest.now c.in-Some.member.now c.in-Some.after.now cut pushed c.members.invariant.read;
     }
 
 pub returns-then-branch : goal.returns-then-branch

@@ -3,7 +3,7 @@ use Rattle.std.specs.Prelude.{Err}
 use Rattle.zre_outside.specs.declared.sink.NextFault.{NextFault}
 use Rattle.zre_outside.specs.declared.sink.NextFault.TheVariants as fault
 use Rattle.zre_outside.specs.Causes.{Rose}
-use Rattle.zre_pump.specs.declared.status.Status.TheVariants.{WriteFault, WorldFault}
+use Rattle.zre_commands.specs.declared.pump.status.Status.TheVariants.{WriteFault, WorldFault}
 use Rattle.zre_chat.specs.Stages.{IsEarly}
 use Rattle.zre_chat.specs.Statuses.{of_fault}
 use Rattle.zre_chat.proofs.Whole.{none_started, only_failed}

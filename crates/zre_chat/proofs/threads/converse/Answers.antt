@@ -8,8 +8,8 @@ use Rattle.zre_actor.specs.Passes.{IsActorOf, IsCallerOf, IsTakerOf, unused_by}
 use Rattle.zre_actor.specs.Work.{IsWork, scene}
 use Rattle.zre_actor.proofs.Given.{two_alone}
 use Rattle.zre_actor.proofs.Working.{rose_later}
-use Rattle.zre_pump.specs.declared.status.Status.{Status}
-use Rattle.zre_pump.specs.declared.status.Status.TheVariants.{NoThread}
+use Rattle.zre_commands.specs.declared.pump.status.Status.{Status}
+use Rattle.zre_commands.specs.declared.pump.status.Status.TheVariants.{NoThread}
 use Rattle.zre_chat.specs.Chat.{IsChat, Seen, seen}
 use Rattle.zre_chat.proofs.Rows.{thread_isnt}
 use Rattle.zre_chat.proofs.Talked.{talked, asker_ended}

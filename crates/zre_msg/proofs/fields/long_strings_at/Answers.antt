@@ -11,7 +11,7 @@ returns-in_err-string c =
 pub each-preserved : goal.each-preserved
 each-preserved c =
     rw c.in_ok-push.ensures.ok
-    (goes_on long_string_at c.each.strings c.args.count c.each.counter c.each.rest.now c.in_ok-string.string c.in_ok-string.behind.now _ c.each-test.true c.in_ok-string.ensures c.each.invariant)
+    (goes_on long_string_at c.each.strings c.args.count c.each.counter c.each.rest.now c.in_ok-string.string c.in_ok-string.later.now _ c.each-test.true c.in_ok-string.ensures c.each.invariant)
 
 pub returns : goal.returns
 returns c = is_done long_string_at c.each.strings c.args.count c.each.counter c.each.rest.now _ c.each-test.false c.each.invariant

@@ -11,7 +11,7 @@ returns-in_err-name c =
 pub each-preserved : goal.each-preserved
 each-preserved c =
     rw c.in_ok-push.ensures.ok
-    (goes_on pair_at c.each.pairs c.args.count c.each.counter c.each.rest.now (c.in_ok-name.name, c.in_ok-name.value) c.in_ok-name.behind.now _ c.each-test.true c.in_ok-name.ensures c.each.invariant)
+    (goes_on pair_at c.each.pairs c.args.count c.each.counter c.each.rest.now (c.in_ok-name.name, c.in_ok-name.value) c.in_ok-name.later.now _ c.each-test.true c.in_ok-name.ensures c.each.invariant)
 
 pub returns : goal.returns
 returns c = is_done pair_at c.each.pairs c.args.count c.each.counter c.each.rest.now _ c.each-test.false c.each.invariant

@@ -21,5 +21,5 @@ returns-clause-back c = λ x y lacks e.
     let at : c.in_ok-i.i ≡ length x = cc (found, c.in_ok-i.ensures, e) in
     let front = ap (take c.in_ok-i.i) e ∙ take_at x (c.args.octet ∷ y) c.in_ok-i.i (sym at) in
     let rest = ap (drop c.in_ok-i.i) e ∙ drop_at x (c.args.octet ∷ y) c.in_ok-i.i (sym at) in
-    let behind = ap (drop 1) rest in
+    let later = ap (drop 1) rest in
     (cc, cc)

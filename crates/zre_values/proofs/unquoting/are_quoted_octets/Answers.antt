@@ -19,5 +19,5 @@ octets-preserved c =
     let u = c.octets.invariant in (
       u.0 ++ c.in-Some.field-0-0 ∷ [],
       All-push (λ b. b < 2 ^ 8) u.0 c.in-Some.field-0-0 u.1 c.in-Some.ensures.octet,
-      more u.0 c.octets.rest.now c.in-Some.behind.now c.args.text.now c.in-Some.field-0-0 c.in-Some.ensures.value u.2,
+      more u.0 c.octets.rest.now c.in-Some.later.now c.args.text.now c.in-Some.field-0-0 c.in-Some.ensures.value u.2,
     )

@@ -7,8 +7,8 @@ use Rattle.zre_zmtp.specs.Shown.{before_of, left_of}
 use Rattle.zre_zmtp.proofs.Turning.{one_turn, all_read, refused_turn}
 use Rattle.zre_zmtp.proofs.reader.read.Goals as goal
 
-joined : (n : ℕ) (o behind : List ℕ) → behind ≡ drop n o → o ≡ take n o ++ behind
-joined n o behind q = sym (take-append-drop n o) ∙ ap (λ (x : List ℕ). take n o ++ x) (sym q)
+joined : (n : ℕ) (o later : List ℕ) → later ≡ drop n o → o ≡ take n o ++ later
+joined n o later q = sym (take-append-drop n o) ∙ ap (λ (x : List ℕ). take n o ++ x) (sym q)
 
 pub returns-in_err-len-clause-refused : goal.returns-in_err-len-clause-refused
 returns-in_err-len-clause-refused c =

@@ -11,9 +11,9 @@ use Rattle.zre_zmtp.proofs.Framed.{head_of, header-refused, is_framed, left-noth
 use Rattle.zre_zmtp.proofs.Turning.{begins, joined, waits_from, no_part, no_octets, turn_refused, refused_turn, frame_taken}
 use Rattle.zre_zmtp.proofs.turns.take_whole.Goals as goal
 
--- a header, a body and what stands behind them
-parted : (o head behind body rest : List ℕ) → o ≡ head ++ behind → behind ≡ body ++ rest → o ≡ (head ++ body) ++ rest
-parted o head behind body rest p q = p ∙ ap (λ (x : List ℕ). head ++ x) q ∙ sym (append_assoc head body rest)
+-- a header, a body and what stands after them
+parted : (o head later body rest : List ℕ) → o ≡ head ++ later → later ≡ body ++ rest → o ≡ (head ++ body) ++ rest
+parted o head later body rest p q = p ∙ ap (λ (x : List ℕ). head ++ x) q ∙ sym (append_assoc head body rest)
 
 front_of : (o head body rest : List ℕ) → o ≡ (head ++ body) ++ rest → take (length head + length body) o ≡ head ++ body
 front_of o head body rest is =

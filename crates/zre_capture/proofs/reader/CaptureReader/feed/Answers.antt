@@ -10,7 +10,7 @@ returns-in_err-take_line-clause-refused c = λ o reads.
     let p = err_from_is_err_and c.from_residual.result c.from_residual.ensures.1 in
     let amid = amid-out c.args.self.now c.args.piece.now c.args.out.now c.lines.out c.take_line.new.out c.lines.self c.lines.rest.now c.lines.invariant c.in_err-take_line.ensures.kept in
     rw (p.1, p.2) (refuses-weaker c.in_err-take_line.field-0.0 _ _
-    (λ b f. let w = refused-line o c.args.piece.now c.args.self.now c.lines.self c.args.out.now c.take_line.new.out c.lines.rest.now reads amid c.in-Some.text.now c.in-Some.behind.now c.in-Some.ensures.parts c.in-Some.ensures.first f.0 in
+    (λ b f. let w = refused-line o c.args.piece.now c.args.self.now c.lines.self c.args.out.now c.take_line.new.out c.lines.rest.now reads amid c.in-Some.text.now c.in-Some.after.now c.in-Some.ensures.parts c.in-Some.ensures.first f.0 in
     (w.0 ∙ ap (λ (place : BadCapture). Some place) (sym f.1), w.1)) c.in_err-take_line.ensures.refused)
 
 pub returns-in_err-take_line-clause-front : goal.returns-in_err-take_line-clause-front
@@ -22,8 +22,8 @@ returns-in_err-take_line-clause-front c = λ o reads.
 pub lines-preserved : goal.lines-preserved
 lines-preserved c =
     let says = c.in_ok-take_line.ensures.ok in
-    amid-at c.args.self.now c.args.piece.now c.args.out.now c.take_line.new.out _ c.take_line.new.self c.in-Some.behind.now
-    (amid-line c.args.self.now c.args.piece.now c.args.out.now c.lines.out c.take_line.new.out says.0 c.lines.self c.lines.rest.now c.in-Some.text.now c.in-Some.behind.now c.lines.invariant
+    amid-at c.args.self.now c.args.piece.now c.args.out.now c.take_line.new.out _ c.take_line.new.self c.in-Some.after.now
+    (amid-line c.args.self.now c.args.piece.now c.args.out.now c.lines.out c.take_line.new.out says.0 c.lines.self c.lines.rest.now c.in-Some.text.now c.in-Some.after.now c.lines.invariant
     c.in-Some.ensures.parts c.in-Some.ensures.first says.1 says.2) c.in_ok-take_line.ensures.next
 
 pub returns-in_err-gather-clause-refused : goal.returns-in_err-gather-clause-refused

@@ -4,15 +4,15 @@ use Rattle.zre_capture.specs.Journal.{Reading}
 use Rattle.zre_capture.proofs.Lines.{at_end}
 use Rattle.zre_capture.proofs.reader.CaptureReader.finish.Goals as goal
 
-pub returns-then-is_behind_a_line : goal.returns-then-is_behind_a_line
-returns-then-is_behind_a_line c = λ o reads.
+pub returns-then-is_after_a_line : goal.returns-then-is_after_a_line
+returns-then-is_after_a_line c = λ o reads.
     at_end o c.args.self.now reads c.requires
-    ∙ ap (λ (b : Bool). cond b None (Some (record { line = c.args.self.now.line; column = column c.args.self.now.line c.args.self.now.left }))) (sym c.is_behind_a_line.ensures ∙ c.if-is_behind_a_line.true)
+    ∙ ap (λ (b : Bool). cond b None (Some (record { line = c.args.self.now.line; column = column c.args.self.now.line c.args.self.now.left }))) (sym c.is_after_a_line.ensures ∙ c.if-is_after_a_line.true)
 
 pub returns : goal.returns
 returns c = λ o reads.
     at_end o c.args.self.now reads c.requires
-    ∙ ap (λ (b : Bool). cond b None (Some (record { line = c.args.self.now.line; column = column c.args.self.now.line c.args.self.now.left }))) (sym c.is_behind_a_line.ensures ∙ c.if-is_behind_a_line.false)
+    ∙ ap (λ (b : Bool). cond b None (Some (record { line = c.args.self.now.line; column = column c.args.self.now.line c.args.self.now.left }))) (sym c.is_after_a_line.ensures ∙ c.if-is_after_a_line.false)
     ∙ ap (λ (r : Reading). Some (record { line = r.line; column = column r.line r.left })) (sym c.self.view_is)
     ∙ ap (λ (l : List ℕ). Some (record { line = c.self.inside.line; column = column c.self.inside.line l })) (sym c.as_slice.ensures)
     ∙ ap (λ (n : ℕ). Some (record { line = c.self.inside.line; column = n })) (sym c.column.ensures)

@@ -1,5 +1,5 @@
 use Rattle.std.proofs.Common.{◌≡◌, Some, refl, sym, ◌∙◌, subst, IsSome}
-use Rattle.zre_journal.specs.Chronicle.{Beacons}
+use Rattle.zre_journal.specs.Chronicle.{HearsBeacon}
 use Rattle.zre_journal.specs.Peers.{life_of, life}
 use Rattle.zre_beacon.specs.Beacon.{beacon_in}
 use Rattle.zre_node.proofs.Datagram.{link_found, known_link, its_life, no_life, ends_it, renews_it, bears_it, leaves_it, welcome_is}
@@ -22,7 +22,7 @@ returns-else-port-eq0 c = λ g H h.
     let v = its_life (life_of b.id H) c.in-Some-link_of.link (c.in-Some-link_of.ensures ∙ link_found g H c.args.self.now b.id h) in
     let known = subst (λ l. IsSome (life l H)) v.2 (known_link H b.id v.0 v.1) in
     rw (renews_it g c.args.from c.args.bytes.now H b.id b.port said v.0 v.1 c.if-port-eq0.false, v.2)
-    (silent_did g (Beacons c.in-Some-link_of.link) H c.renew.new.self c.args.out.now (c.renew.ensures g H h known) refl refl (λ l. refl))
+    (silent_did g (HearsBeacon c.in-Some-link_of.link) H c.renew.new.self c.args.out.now (c.renew.ensures g H h known) refl refl (λ l. refl))
 
 pub returns-then-not-is_welcome : goal.returns-then-not-is_welcome
 returns-then-not-is_welcome c = λ g H h.

@@ -1,7 +1,7 @@
 use Rattle.std.proofs.Common.{◌++◌, ◌∷◌, [], List, sym, ap, ◌∙◌, append-nil, refl}
 use Rattle.zre_peer.specs.declared.event.Event.{Event}
 use Rattle.zre_peer.specs.declared.event.Event.TheVariants as event
-use Rattle.zre_journal.specs.Chronicle.{Falters}
+use Rattle.zre_journal.specs.Chronicle.{IsEvasive}
 use Rattle.zre_journal.specs.Peers.{life, counted}
 use Rattle.zre_node.specs.declared.effects.Effects.{Effects}
 use Rattle.zre_node.specs.Stands.{IsPeer}
@@ -25,6 +25,6 @@ returns c = λ g K h k.
     let w = wavers g K c.args.self.now h l p c.in-Some.ensures.value c.in-Some-run.running c.in-Some-run.is in
     let name = c.in_ok-name.ensures (counted l K) w.its_view in
     on_ok c.tell.result c.tell.ensures (λ out.
-    did_by g (Falters l ∷ []) K c.args.self.now c.args.out.now c.tell.new.self (holds_falters g K c.args.self.now h l)
+    did_by g (IsEvasive l ∷ []) K c.args.self.now c.args.out.now c.tell.new.self (holds_falters g K c.args.self.now h l)
     (ap (λ (s : Effects). s.events) out ∙ ap (λ n. c.args.out.now.events ++ event.Evasive p.id n ∷ []) name ∙ ap (λ (es : List Event). c.args.out.now.events ++ es) (sym w.tells))
     (ap (λ (s : Effects). s.acts) out ∙ sym (append-nil c.args.out.now.acts)) (ap (λ (s : Effects). s.pushed) out) (λ n. refl))

@@ -56,12 +56,12 @@ returns-in_err-addr-2-clause-read c = nothing-read c.args.text.now c.from_residu
 pub returns-in_err-port-clause-read : goal.returns-in_err-port-clause-read
 returns-in_err-port-clause-read c = nothing-read c.args.text.now c.from_residual-in_err-port.result c.from_residual-in_err-port.ensures (returns-in_err-port-clause-back c)
 
-joined : (e : Endpoint) (addr : List ℕ) (port : ℕ) (text rest front behind : List ℕ) → e.addr ≡ addr → e.port ≡ port →
-    text ≡ codes "tcp://" ++ rest → rest ≡ front ++ (58 ∷ behind) → front ≡ address_text addr → behind ≡ decimal port → text ≡ endpoint_text e
-joined e addr port text rest front behind a n whole parts left right =
+joined : (e : Endpoint) (addr : List ℕ) (port : ℕ) (text rest front later : List ℕ) → e.addr ≡ addr → e.port ≡ port →
+    text ≡ codes "tcp://" ++ rest → rest ≡ front ++ (58 ∷ later) → front ≡ address_text addr → later ≡ decimal port → text ≡ endpoint_text e
+joined e addr port text rest front later a n whole parts left right =
     let named_front = left ∙ sym (ap address_text a) in
-    let named_behind = right ∙ sym (ap decimal n) in
-    let named_rest = parts ∙ ap (λ (f : List ℕ). f ++ (58 ∷ behind)) named_front ∙ ap (λ (b : List ℕ). address_text e.addr ++ (58 ∷ b)) named_behind in
+    let named_after = right ∙ sym (ap decimal n) in
+    let named_rest = parts ∙ ap (λ (f : List ℕ). f ++ (58 ∷ later)) named_front ∙ ap (λ (b : List ℕ). address_text e.addr ++ (58 ∷ b)) named_after in
     whole ∙ ap (λ (r : List ℕ). codes "tcp://" ++ r) named_rest
 
 pub returns-clause-read : goal.returns-clause-read

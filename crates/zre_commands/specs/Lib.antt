@@ -1,0 +1,5 @@
+pub mod pump
+pub mod follow
+pub mod show
+pub mod replay
+pub mod exercise

@@ -1,0 +1,16 @@
+-- What the machine of `replay` knows of the octets that it was fed.
+use Rattle.std.specs.Prelude.{ℕ, List}
+use Rattle.zre_capture.specs.Journal.{journal}
+use Rattle.zre_journal.specs.declared.config.Config.{Config}
+use Rattle.zre_node.specs.Journal.{StandsFor}
+use Rattle.zre_commands.specs.declared.replay.replayer.Replayer.{Replayer}
+use Rattle.zre_commands.specs.replay.State.{IsState}
+
+-- the settings of the node
+abbrev pub config_of : Replayer → Config
+config_of r = r.config
+
+-- the machine was fed these octets: its reader stands after them, and its node after their journal
+pub record Fed (r : Replayer) (o : List ℕ) : Type 0 where
+  pub reads : IsState r.state o
+  pub stands : StandsFor r.config (journal o) r.node

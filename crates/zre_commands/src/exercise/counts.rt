@@ -1,0 +1,97 @@
+//! Counts of what a node tells.
+
+ghost use Rattle.std.specs.Prelude.{◌≡◌, ◌+◌, ℕ, List, length, sum_by, IfOk, OnOk, ◌++◌};
+ghost use Rattle.zre_peer.specs.declared.event.Event.{Event as EventValue};
+
+use zre_peer::Event;
+use zre_values::{Frames, OutOfMemory};
+
+/// How many entries were taken, how many events of each kind they raised, and how many octets the content frames of these have.
+#[derive(Drop)]
+pub(crate) struct Counts {
+    pub entries: u64,
+    pub enter: u64,
+    pub join: u64,
+    pub leave: u64,
+    pub whisper: u64,
+    pub shout: u64,
+    pub exit: u64,
+    pub content: u64,
+}
+
+// A count that would pass 64 bits counts as OutOfMemory.
+fn raise(count: &mut u64, by: u64) -> Result<(), OutOfMemory>
+    ensures { OnOk result (count.new ≡ count.old + by) }
+{
+    *count = count.checked_add(by).ok_or(OutOfMemory)?;
+    Ok(())
+}
+
+fn octets_of(content: &Frames) -> Result<u64, OutOfMemory>
+    ensures { IfOk result (λ octets. octets ≡ sum_by length content.now) }
+{
+    let octets = content.total();
+    if octets == u64::MAX {
+        Err(OutOfMemory)
+    } else {
+        Ok(octets)
+    }
+}
+
+impl Counts {
+    ghost use Rattle.zre_commands.specs.exercise.Counts.{nothing, with_entry, with_event, tally};
+
+    /// Nothing yet.
+    pub fn new() -> Counts
+        ensures { result ≡ nothing }
+    {
+        Counts {
+            entries: 0,
+            enter: 0,
+            join: 0,
+            leave: 0,
+            whisper: 0,
+            shout: 0,
+            exit: 0,
+            content: 0,
+        }
+    }
+
+    /// One more entry.
+    pub fn count_entry(&mut self) -> Result<(), OutOfMemory>
+        ensures { OnOk result (self.new ≡ with_entry self.old) }
+    {
+        raise(&mut self.entries, 1)
+    }
+
+    // One more event.
+    fn count_event(&mut self, event: &Event) -> Result<(), OutOfMemory>
+        ensures { OnOk result (self.new ≡ with_event self.old event.now) }
+    {
+        match event {
+            Event::Enter { .. } => raise(&mut self.enter, 1),
+            Event::Join { .. } => raise(&mut self.join, 1),
+            Event::Leave { .. } => raise(&mut self.leave, 1),
+            Event::Whisper { content, .. } => {
+                raise(&mut self.whisper, 1)?;
+                raise(&mut self.content, octets_of(content)?)
+            }
+            Event::Shout { content, .. } => {
+                raise(&mut self.shout, 1)?;
+                raise(&mut self.content, octets_of(content)?)
+            }
+            Event::Exit { .. } => raise(&mut self.exit, 1),
+            _ => Ok(()),
+        }
+    }
+
+    /// More events.
+    pub fn count_events(&mut self, events: &[Event]) -> Result<(), OutOfMemory>
+        ensures { (n : ℕ) (before : List EventValue) → self.old ≡ tally n before → OnOk result (self.new ≡ tally n (before ++ events.now)) }
+    {
+        for event in events {
+            self.count_event(event)?;
+        }
+        Ok(())
+    }
+}

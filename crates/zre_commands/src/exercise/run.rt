@@ -1,0 +1,63 @@
+//! The node goes through the journal.
+
+ghost use Rattle.std.specs.Prelude.{◌≡◌, ◌≤◌, ◌++◌, ◌∷◌, [], List, OnOk};
+ghost use Rattle.zre_capture.specs.Left.{left};
+ghost use Rattle.zre_journal.specs.declared.config.Config.{Config};
+ghost use Rattle.zre_outside.specs.declared.entry.Entry.{Entry as EntryValue};
+ghost use Rattle.zre_commands.specs.exercise.Counted.{Counted};
+ghost use Rattle.zre_commands.specs.exercise.Exercise.{text};
+
+use crate::exercise::counts::Counts;
+use crate::exercise::settings::settings;
+use crate::exercise::text::push_counts;
+use std::alloc::Global;
+use zre_capture::Exercise;
+use zre_node::Node;
+use zre_outside::Entry;
+use zre_values::{Octets, OutOfMemory};
+
+// The node takes an entry, and what it tells is counted.
+fn take(node: &mut Node, counts: &mut Counts, entry: Entry) -> Result<(), OutOfMemory>
+    ensures { (g : Config) (J : List EntryValue) → Counted g J node.old counts.old →
+        OnOk result (Counted g (J ++ entry ∷ []) node.new counts.new) }
+{
+    let step = node.step(entry)?;
+    counts.count_entry()?;
+    counts.count_events(step.events.as_slice())
+}
+
+// The same of all entries that are left.
+fn take_all(exercise: Exercise, node: &mut Node, counts: &mut Counts) -> Result<(), OutOfMemory>
+    ensures { (g : Config) (J : List EntryValue) → Counted g J node.old counts.old →
+        OnOk result (Counted g (J ++ left exercise) node.new counts.new) }
+{
+    let mut exercise = exercise;
+    'entries: while let Some(entry) = exercise.next()? {
+        take(node, counts, entry)?;
+    }
+    Ok(())
+}
+
+/// Appends the summary of the exercise of this seed: a node takes its entries one by one, and no list of them is kept.
+/// A count that would pass 64 bits counts as OutOfMemory. After an error a front of the summary may stand there.
+pub fn push_summary(
+    alloc: Global,
+    out: &mut Octets,
+    seed: u64,
+    peers: u16,
+    messages: u32,
+) -> Result<(), OutOfMemory>
+    requires some { 1 ≤ peers }
+    requires few { peers ≤ 256 }
+    requires short { messages ≤ 1000000 }
+    ensures { OnOk result (out.new ≡ out.old ++ text seed peers messages) }
+{
+    let mut node = Node::new(alloc, settings(alloc)?)?;
+    let mut counts = Counts::new();
+    take_all(
+        Exercise::new(alloc, seed, peers, messages),
+        &mut node,
+        &mut counts,
+    )?;
+    push_counts(out, &counts)
+}

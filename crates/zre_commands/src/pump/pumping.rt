@@ -1,0 +1,151 @@
+//! Reads a source in pieces, feeds a machine, and writes its text.
+
+ghost use Rattle.std.specs.Prelude.{◌≡◌, ◌<◌, ◌≤◌, ◌+◌, ◌++◌, ℕ, List, [], false, length, take};
+ghost use Rattle.zre_outside.specs.Causes.{Rose};
+ghost use Rattle.zre_outside.specs.Told.{Moves};
+ghost use Rattle.zre_commands.specs.pump.Outcome.{Pumped};
+ghost use Rattle.zre_commands.specs.pump.Turning.{Finishes, Told, Turned};
+
+use crate::pump::machine::{Going, Machine};
+use crate::pump::status::Status;
+use std::alloc::Global;
+use zre_outside::{Failed, NextFault, PIECE, Sink, Source, room_for, write_all, zeros};
+use zre_values::{Octets, OutOfMemory};
+
+/// How a turn ended.
+#[derive(Clone, Copy, Debug, PartialEq, Eq)]
+enum Next {
+    Go,
+    Stop,
+    End,
+    ReadFault,
+    WriteFault,
+    OutOfMemory,
+}
+
+/// One turn: how many octets it read, and how it ended.
+#[derive(Clone, Copy, Debug, PartialEq, Eq)]
+struct Turn {
+    read: usize,
+    next: Next,
+}
+
+// Feeds a piece and writes its text.
+fn tell<M: Machine, O: Sink>(machine: &mut M, piece: &[u8], out: &mut O, text: &mut Octets) -> Next
+    ensures told { (o : List ℕ) → M.fed machine.old o → (M.says machine.old).is_stopped o ≡ false →
+        Told result (M.fed machine.new) (M.says machine.old) o piece.now (O.written out.old) (O.written out.new)
+        (Rose (O.faults out.old) (O.faults out.new)) }
+    ensures same { M.says machine.new ≡ M.says machine.old }
+    ensures writes { O.faults out.old ≤ O.faults out.new }
+{
+    text.clear();
+    let Ok(going) = machine.feed(piece, text) else {
+        return Next::OutOfMemory;
+    };
+    match write_all(out, text.as_slice()) {
+        Ok(()) => {}
+        Err(NextFault::Failed) => return Next::WriteFault,
+        Err(NextFault::OutOfMemory) => return Next::OutOfMemory,
+    }
+    match going {
+        Going::On => Next::Go,
+        Going::Stop => Next::Stop,
+    }
+}
+
+// Reads one piece, feeds it and writes its text.
+fn take_turn<M: Machine, I: Source, O: Sink>(
+    machine: &mut M,
+    input: &mut I,
+    out: &mut O,
+    buf: &mut [u8],
+    text: &mut Octets,
+) -> Turn
+    requires { 0 < length buf.old }
+    ensures bound { result.read ≤ length buf.new }
+    ensures moved { Moves (I.left input.old) (I.left input.new) (I.taken input.old) (I.taken input.new) (take result.read buf.new) }
+    ensures turned { (o : List ℕ) → M.fed machine.old o → (M.says machine.old).is_stopped o ≡ false →
+        Turned result.next (M.fed machine.new) (M.says machine.old) o (take result.read buf.new)
+        (I.left input.new) (O.written out.old) (O.written out.new)
+        (Rose (I.faults input.old) (I.faults input.new)) (Rose (O.faults out.old) (O.faults out.new)) }
+    ensures same { M.says machine.new ≡ M.says machine.old }
+    ensures reads { I.faults input.old ≤ I.faults input.new }
+    ensures writes { O.faults out.old ≤ O.faults out.new }
+{
+    let read = match input.read(buf) {
+        Ok(read) => read,
+        Err(Failed) => {
+            return Turn {
+                read: 0,
+                next: Next::ReadFault,
+            };
+        }
+    };
+    if read == 0 {
+        return Turn {
+            read,
+            next: Next::End,
+        };
+    }
+    let next = tell(machine, &buf[..read], out, text);
+    Turn { read, next }
+}
+
+// Takes the end of the input, of which so many octets were taken, and writes the last text.
+fn finish<M: Machine, O: Sink>(machine: &M, taken: u64, out: &mut O, text: &mut Octets) -> Status
+    ensures finishes { (o : List ℕ) → M.fed machine.now o → length o ≡ taken →
+        Finishes result (M.says machine.now) o (O.written out.old) (O.written out.new) (Rose (O.faults out.old) (O.faults out.new)) }
+    ensures writes { O.faults out.old ≤ O.faults out.new }
+{
+    text.clear();
+    let is_bad = match machine.finish(taken, text) {
+        Ok(is_bad) => is_bad,
+        Err(OutOfMemory) => return Status::OutOfMemory,
+    };
+    match write_all(out, text.as_slice()) {
+        Ok(()) if is_bad => Status::BadInput,
+        Ok(()) => Status::Done,
+        Err(NextFault::Failed) => Status::WriteFault,
+        Err(NextFault::OutOfMemory) => Status::OutOfMemory,
+    }
+}
+
+/// Reads the source to its end, feeds the machine with it and writes its text, up to a limit of octets. It keeps
+/// one piece of the input and that piece's text, and asks for no octet past the limit.
+pub fn pump<M: Machine, I: Source, O: Sink>(
+    alloc: Global,
+    machine: &mut M,
+    input: &mut I,
+    out: &mut O,
+    limit: u64,
+) -> Status
+    requires start { M.fed machine.old [] }
+    requires nothing { (M.says machine.old).text [] ≡ [] }
+    requires going { (M.says machine.old).is_stopped [] ≡ false }
+    ensures pumped { Pumped result limit (M.says machine.old)
+        (I.left input.old) (I.left input.new) (I.taken input.old) (I.taken input.new) (O.written out.old) (O.written out.new)
+        (Rose (I.faults input.old) (I.faults input.new)) (Rose (O.faults out.old) (O.faults out.new)) }
+    ensures reads { I.faults input.old ≤ I.faults input.new }
+    ensures writes { O.faults out.old ≤ O.faults out.new }
+{
+    let mut buf = match zeros(alloc, PIECE) {
+        Ok(buf) => buf,
+        Err(_) => return Status::OutOfMemory,
+    };
+    let mut text = Octets::new(alloc);
+    let mut taken: u64 = 0;
+    while taken < limit {
+        let room = room_for(limit - taken);
+        let turn = take_turn(machine, input, out, &mut buf[..room], &mut text);
+        taken += turn.read as u64;
+        match turn.next {
+            Next::Go => {}
+            Next::Stop => return finish(machine, taken, out, &mut text),
+            Next::End => return finish(machine, taken, out, &mut text),
+            Next::ReadFault => return Status::ReadFault,
+            Next::WriteFault => return Status::WriteFault,
+            Next::OutOfMemory => return Status::OutOfMemory,
+        }
+    }
+    Status::TooLong
+}

@@ -1,0 +1,147 @@
+//! The texts of what messages mean.
+
+ghost use Rattle.std.specs.Prelude.{◌≡◌, ◌++◌, OnOk};
+ghost use Rattle.zre_commands.specs.show.Lines.{head_text, sender_text, hello_text, whisper_text, shout_text, group_text, other_text, body_text, why_text, bad_text};
+
+use zre_msg::{Bad, BadWhy, Body};
+use zre_values::{
+    Frames, Octets, OutOfMemory, Pairs, push_decimal, push_quoted, push_quoted_frames,
+    push_quoted_list, push_quoted_pairs,
+};
+
+fn push_head(out: &mut Octets, word: &[u8], sequence: u16) -> Result<(), OutOfMemory>
+    ensures { OnOk result (out.new ≡ out.old ++ head_text word.now sequence) }
+{
+    out.append(word)?;
+    out.push(b' ')?;
+    push_decimal(out, u64::from(sequence))
+}
+
+fn push_sender(out: &mut Octets, name: &Octets, headers: &Pairs) -> Result<(), OutOfMemory>
+    ensures { OnOk result (out.new ≡ out.old ++ sender_text name.now headers.now) }
+{
+    push_quoted(out, name.as_slice())?;
+    out.push(b' ')?;
+    push_quoted_pairs(out, headers)
+}
+
+fn push_hello(
+    out: &mut Octets,
+    sequence: u16,
+    endpoint: &Octets,
+    groups: &Frames,
+    status: u8,
+    name: &Octets,
+    headers: &Pairs,
+) -> Result<(), OutOfMemory>
+    ensures { OnOk result (out.new ≡ out.old ++ hello_text sequence endpoint.now groups.now status name.now headers.now) }
+{
+    push_head(out, b"HELLO", sequence)?;
+    out.push(b' ')?;
+    push_quoted(out, endpoint.as_slice())?;
+    out.push(b' ')?;
+    push_quoted_frames(out, groups)?;
+    out.push(b' ')?;
+    push_decimal(out, u64::from(status))?;
+    out.push(b' ')?;
+    push_sender(out, name, headers)
+}
+
+/// Appends the text of a WHISPER. After an error a front of it may stand there, as after every call of this module.
+pub(crate) fn push_whisper(
+    out: &mut Octets,
+    sequence: u16,
+    content: &[Octets],
+) -> Result<(), OutOfMemory>
+    ensures { OnOk result (out.new ≡ out.old ++ whisper_text sequence content.now) }
+{
+    push_head(out, b"WHISPER", sequence)?;
+    out.push(b' ')?;
+    push_quoted_list(out, content)
+}
+
+/// Appends the text of a SHOUT.
+pub(crate) fn push_shout(
+    out: &mut Octets,
+    sequence: u16,
+    group: &Octets,
+    content: &[Octets],
+) -> Result<(), OutOfMemory>
+    ensures { OnOk result (out.new ≡ out.old ++ shout_text sequence group.now content.now) }
+{
+    push_head(out, b"SHOUT", sequence)?;
+    out.push(b' ')?;
+    push_quoted(out, group.as_slice())?;
+    out.push(b' ')?;
+    push_quoted_list(out, content)
+}
+
+fn push_group(
+    out: &mut Octets,
+    word: &[u8],
+    sequence: u16,
+    group: &Octets,
+    status: u8,
+) -> Result<(), OutOfMemory>
+    ensures { OnOk result (out.new ≡ out.old ++ group_text word.now sequence group.now status) }
+{
+    push_head(out, word, sequence)?;
+    out.push(b' ')?;
+    push_quoted(out, group.as_slice())?;
+    out.push(b' ')?;
+    push_decimal(out, u64::from(status))
+}
+
+fn push_other(out: &mut Octets, sequence: u16, number: u8) -> Result<(), OutOfMemory>
+    ensures { OnOk result (out.new ≡ out.old ++ other_text sequence number) }
+{
+    push_head(out, b"OTHER", sequence)?;
+    out.push(b' ')?;
+    push_decimal(out, u64::from(number))
+}
+
+/// Appends the text of a message.
+pub(crate) fn push_body(out: &mut Octets, sequence: u16, body: &Body) -> Result<(), OutOfMemory>
+    ensures { OnOk result (out.new ≡ out.old ++ body_text sequence body.now) }
+{
+    match body {
+        Body::Hello {
+            endpoint,
+            groups,
+            status,
+            name,
+            headers,
+        } => push_hello(out, sequence, endpoint, groups, *status, name, headers),
+        Body::Whisper { content } => push_whisper(out, sequence, content.as_slice()),
+        Body::Shout { group, content } => push_shout(out, sequence, group, content.as_slice()),
+        Body::Join { group, status } => push_group(out, b"JOIN", sequence, group, *status),
+        Body::Leave { group, status } => push_group(out, b"LEAVE", sequence, group, *status),
+        Body::Ping => push_head(out, b"PING", sequence),
+        Body::PingOk => push_head(out, b"PING-OK", sequence),
+        Body::Other { number, .. } => push_other(out, sequence, *number),
+    }
+}
+
+fn push_why(out: &mut Octets, why: BadWhy) -> Result<(), OutOfMemory>
+    ensures { OnOk result (out.new ≡ out.old ++ why_text why) }
+{
+    match why {
+        BadWhy::Signature => out.append(b"Signature"),
+        BadWhy::Version => out.append(b"Version"),
+        BadWhy::Short => out.append(b"Short"),
+        BadWhy::Trailing => out.append(b"Trailing"),
+        BadWhy::ExtraFrames => out.append(b"ExtraFrames"),
+    }
+}
+
+/// Appends what is wrong with frames that mean no message.
+pub(crate) fn push_bad(out: &mut Octets, bad: Bad) -> Result<(), OutOfMemory>
+    ensures { OnOk result (out.new ≡ out.old ++ bad_text bad) }
+{
+    out.append(b"BAD ")?;
+    push_why(out, bad.why)?;
+    out.push(b' ')?;
+    push_decimal(out, u64::from(bad.frame))?;
+    out.push(b' ')?;
+    push_decimal(out, u64::from(bad.place))
+}

@@ -1,0 +1,5 @@
+use Rattle.zre_console.proofs.lines.Unfinished.{typed-more}
+use Rattle.zre_console.proofs.lines.laws.commands_stay.Goals as goal
+
+pub returns : goal.returns
+returns c = typed-more

@@ -1,0 +1,46 @@
+-- What is put of what is read.
+use Rattle.std.specs.Prelude.{◌≡◌, ℕ, ◌<◌, ◌≤◌, true, false, List, [], ◌++◌, ◌⊎◌, length, Option}
+use Rattle.std.specs.List.{list_any}
+use Rattle.std.specs.Io.KnownBytes.{IsAtEnd}
+use Rattle.zre_outside.specs.declared.entry.Command.{Command}
+use Rattle.zre_outside.specs.Told.{Moves}
+use Rattle.zre_actor.specs.declared.passes.CallerPass.{CallerPass}
+use Rattle.zre_console.specs.lines.Orders.{is_quit, typed, orders, Begins}
+use Rattle.zre_console.specs.declared.reader.ending.InputEnd.{InputEnd}
+use Rattle.zre_console.specs.declared.reader.ending.InputEnd.TheVariants.{Quit, AtEnd, Over, ReadFault, TooLong, OutOfMemory}
+use Rattle.zre_console.specs.reader.Putting.{Puts, IsClose, IsShort}
+
+-- these begin the orders of a text, but for a quit that may stand after them
+pub record BreaksOff (commands : List Command) (o : List ℕ) : Type 0 where
+  pub front : List Command
+  pub tail : List Command
+  pub parts : commands ≡ front ++ tail
+  pub begins : Begins front o
+  pub closes : IsClose tail
+
+-- no line so far is a quit, after which nothing is read
+abbrev pub IsReadOn : List ℕ → Type 0
+IsReadOn o = list_any is_quit (typed o) ≡ false
+
+-- the octets o were taken and these commands put, and then: read says that the source's count of faults rose
+abbrev pub Outcome : InputEnd → (limit : ℕ) (commands : List Command) (o : List ℕ) (left : Option (List ℕ)) (read : Type 0) → Type 0
+-- a line is a quit
+Outcome Quit limit commands o left read = (list_any is_quit (typed o) ≡ true) × (commands ≡ orders o)
+-- the input was read to its end within the limit
+Outcome AtEnd limit commands o left read = IsAtEnd left × (length o < limit) × (commands ≡ orders o)
+-- no quit was put: nothing was read, fewer octets than the limit were taken, or not all commands were put
+Outcome Over limit commands o left read = Begins commands o × ((o ≡ []) ⊎ ((length o < limit) ⊎ IsShort commands (typed o)))
+-- the source failed where a read was due
+Outcome ReadFault limit commands o left read = read × (length o < limit) × IsReadOn o × BreaksOff commands o
+-- as many octets as the limit were taken and a read was due
+Outcome TooLong limit commands o left read = (length o ≡ limit) × IsReadOn o × BreaksOff commands o
+Outcome OutOfMemory limit commands o left read = BreaksOff commands o
+
+-- some octets were taken from the source and some commands put with the pass, and the end says how they belong together
+pub record HasRead (end : InputEnd) (limit : ℕ) (old new : CallerPass) (left left' taken taken' : Option (List ℕ)) (read : Type 0) : Type 0 where
+  pub octets : List ℕ
+  pub moved : Moves left left' taken taken' octets
+  pub within : length octets ≤ limit
+  pub commands : List Command
+  pub puts : Puts old new commands
+  pub outcome : Outcome end limit commands octets left' read

@@ -1,0 +1,129 @@
+//! What the node tells is taken and printed until Last.
+
+ghost use Rattle.std.specs.Prelude.{◌≡◌, ◌≤◌, ℕ, List, [], true, Option, None, Some, IsSome, MatchOption, ◌⊎◌};
+ghost use Rattle.zre_outside.specs.Causes.{Rose};
+ghost use Rattle.zre_outside.specs.declared.sink.NextFault.TheVariants.{Failed};
+ghost use Rattle.zre_peer.specs.declared.event.Event.{Event as EventValue};
+ghost use Rattle.zre_actor.specs.Passes.{IsCallerOf, IsTakerOf, IsTold, taken_by, last_of};
+ghost use Rattle.zre_console.specs.printer.Pages.{Shows};
+ghost use Rattle.zre_actor.specs.declared.passes.TakerPass.{TakerPass as TakerPassValue};
+ghost use Rattle.zre_console.specs.declared.printer.asker.Asker.{Asker as AskerValue};
+ghost use Rattle.zre_console.specs.printer.Printing.{HasPrinted, Prints, IsLast};
+
+use crate::printer::asker::{Asker, Wish};
+use crate::printer::page::Page;
+use std::alloc::Global;
+use std::sync::Wait;
+use std::thread::yield_now;
+use zre_actor::{CallerPass, Pipes, TakerPass, Told};
+use zre_outside::{NextFault, Sink};
+
+/// What is left after Last.
+#[derive(Drop)]
+pub struct Printed {
+    pub taker: TakerPass,
+    pub pass: CallerPass,
+    pub fault: Option<NextFault>,
+}
+
+// The next event, or Last. Before it waits, the page is written; while a Quit is still to be put it doesn't wait.
+fn next_told<O: Sink, T: Wait + Copy>(
+    rt: T,
+    pipes: &Pipes,
+    taker: TakerPass,
+    page: &mut Page,
+    out: &mut O,
+    wish: Wish,
+) -> (TakerPass, Option<Told>)
+    requires pipes { IsTakerOf pipes.now taker }
+    requires open { last_of taker ≡ None }
+    ensures pipes { IsTakerOf pipes.now result.0 }
+    ensures told { MatchOption result.1 ((taken_by result.0 ≡ taken_by taker) × (last_of result.0 ≡ last_of taker)) (λ told. IsTold taker told result.0) }
+    ensures shows { (w : Option (List ℕ)) (es : List EventValue) → Shows page.old w (O.written out.old) es → Shows page.new w (O.written out.new) es }
+    ensures later { O.faults out.old ≤ O.faults out.new }
+    ensures failed { page.new.fault ≡ Some Failed → (page.old.fault ≡ Some Failed) ⊎ Rose (O.faults out.old) (O.faults out.new) }
+    ensures stays { IsSome page.old.fault → page.new.fault ≡ page.old.fault }
+{
+    let (taker, found) = pipes.try_take(rt, taker);
+    if found.is_some() {
+        return (taker, found);
+    }
+    page.write(out);
+    if wish == Wish::Due || (wish == Wish::No && page.fault.is_some()) {
+        return (taker, None);
+    }
+    let (taker, told) = pipes.take(rt, taker);
+    (taker, Some(told))
+}
+
+// Takes what is next and prints it, if anything is. True after Last, where all is written that can be.
+fn print_next<O: Sink, T: Wait + Copy>(
+    rt: T,
+    pipes: &Pipes,
+    taker: TakerPass,
+    asker: Asker,
+    page: &mut Page,
+    out: &mut O,
+) -> (TakerPass, Asker, bool)
+    requires pipes { IsTakerOf pipes.now taker × IsCallerOf pipes.now asker.pass }
+    requires open { last_of taker ≡ None }
+    ensures pipes { IsTakerOf pipes.now result.0 × IsCallerOf pipes.now result.1.pass }
+    ensures last { IsLast result.2 (last_of result.0) }
+    ensures written { result.2 ≡ true → page.new.fault ≡ None → page.new.text ≡ [] }
+    ensures prints { (first : AskerValue) (start : TakerPassValue) (w : Option (List ℕ)) → Prints first start w asker taker page.old (O.written out.old) →
+        Prints first start w result.1 result.0 page.new (O.written out.new) }
+    ensures later { O.faults out.old ≤ O.faults out.new }
+    ensures failed { page.new.fault ≡ Some Failed → (page.old.fault ≡ Some Failed) ⊎ Rose (O.faults out.old) (O.faults out.new) }
+{
+    let asker = asker.ask(rt, pipes, page.fault.is_some());
+    let (taker, found) = next_told(rt, pipes, taker, page, out, asker.wish);
+    match found {
+        None => {
+            yield_now();
+            (taker, asker, false)
+        }
+        Some(told) => match told {
+            Told::Event(event) => {
+                page.print(&event, out);
+                (taker, asker, false)
+            }
+            Told::Last(_) => {
+                page.write(out);
+                (taker, asker, true)
+            }
+        },
+    }
+}
+
+/// Prints the lines of all events up to Last. Where one can't be printed, it asks the node to stop, and goes on to take.
+pub fn print_all<O: Sink, T: Wait + Copy>(
+    rt: T,
+    alloc: Global,
+    pipes: &Pipes,
+    mut taker: TakerPass,
+    mut asker: Asker,
+    out: &mut O,
+) -> Printed
+    requires pipes { IsTakerOf pipes.now taker × IsCallerOf pipes.now asker.pass }
+    requires open { last_of taker ≡ None }
+    ensures pipes { IsTakerOf pipes.now result.taker × IsCallerOf pipes.now result.pass }
+    ensures last { IsSome (last_of result.taker) }
+    ensures printed { HasPrinted asker taker result.taker result.pass result.fault (O.written out.old) (O.written out.new) }
+    ensures later { O.faults out.old ≤ O.faults out.new }
+    ensures failed { result.fault ≡ Some Failed → Rose (O.faults out.old) (O.faults out.new) }
+{
+    let mut page = Page::new(alloc);
+    for _ in rt.forever() {
+        let (pass, caller, is_last) = print_next(rt, pipes, taker, asker, &mut page, out);
+        taker = pass;
+        asker = caller;
+        if is_last {
+            return Printed {
+                taker,
+                pass: asker.pass,
+                fault: page.fault,
+            };
+        }
+    }
+    unreachable!()
+}

@@ -1,0 +1,63 @@
+//! The reader's work, for a thread of its own.
+
+ghost use Rattle.std.specs.Arc.{arc_value};
+ghost use Rattle.zre_actor.specs.Passes.{IsCallerOf};
+
+use crate::reader::InputEnd;
+use crate::reader::reading::read_all;
+use std::alloc::Global;
+use std::sync::atomic::AtomicBool;
+use std::sync::{Arc, Wait};
+use zre_actor::{CallerPass, Pipes};
+use zre_outside::{Job, Source, Task};
+
+/// Reads a source, at most so many octets of it, and puts the commands of its lines with the pass, each again while the pipe is
+/// full. A quit is the last: that of a line, or the end of the input. It looks at `over` before each read, before each command
+/// of a line and whenever the pipe is full, and puts nothing more where that is set; nothing is claimed of when it sees it.
+#[derive(Drop)]
+pub struct ReaderJob<I: Source> {
+    pub alloc: Global,
+    pub pipes: Arc<Pipes, Global>,
+    pub over: Arc<AtomicBool, Global>,
+    pub pass: CallerPass,
+    pub input: I,
+    pub limit: u64,
+    ghost of_pipes: { IsCallerOf (arc_value pipes) pass },
+}
+
+/// What comes back of a [`ReaderJob`].
+#[derive(Drop)]
+pub struct ReaderDone<I> {
+    pub input: I,
+    pub pass: CallerPass,
+    pub end: InputEnd,
+}
+
+impl<I: Source + Send + Drop + 'static> Task for ReaderJob<I> {
+    ghost use Rattle.std.specs.Prelude.{◌≤◌};
+    ghost use Rattle.std.specs.Arc.{arc_value};
+    ghost use Rattle.zre_outside.specs.Causes.{Rose};
+    ghost use Rattle.zre_actor.specs.Passes.{IsCallerOf};
+    ghost use Rattle.zre_console.specs.reader.Reading.{HasRead};
+
+    type Out = ReaderDone<I>;
+
+    ghost means = { λ job out. IsCallerOf (arc_value job.pipes) out.pass × (I.faults job.input ≤ I.faults out.input)
+        × HasRead out.end job.limit job.pass out.pass (I.left job.input) (I.left out.input) (I.taken job.input) (I.taken out.input)
+        (Rose (I.faults job.input) (I.faults out.input)) };
+}
+
+impl<T: Wait + Copy, I: Source + Send + Drop + 'static> Job<T> for ReaderJob<I> {
+    fn run(self, rt: T) -> ReaderDone<I> {
+        let ReaderJob {
+            alloc,
+            pipes,
+            over,
+            pass,
+            mut input,
+            limit,
+        } = self;
+        let (pass, end) = read_all(rt, alloc, &pipes, &over, pass, &mut input, limit);
+        ReaderDone { input, pass, end }
+    }
+}

@@ -1,0 +1,130 @@
+//! Commands go into the pipe.
+
+ghost use Rattle.std.specs.Prelude.{◌≡◌, ◌∷◌, [], cond};
+ghost use Rattle.zre_outside.specs.declared.entry.Command.TheVariants.{Quit};
+ghost use Rattle.zre_actor.specs.Passes.{IsCallerOf};
+ghost use Rattle.zre_console.specs.lines.Orders.{is_quit};
+ghost use Rattle.zre_console.specs.reader.Putting.{Puts, Sends, SendsAll, Closes};
+
+use std::sync::Wait;
+use std::sync::atomic::{AtomicBool, Ordering};
+use std::thread::yield_now;
+use zre_actor::{CallerPass, Full, Pipes};
+use zre_outside::Command;
+
+/// What became of commands that were to be put.
+#[derive(Clone, Copy, Debug, PartialEq, Eq)]
+pub(crate) enum Sent {
+    /// They were put, and none of them is a quit.
+    On,
+    /// They were put up to the first quit.
+    Quit,
+    /// The chat was over before all of them were put.
+    Over,
+}
+
+fn is_quit(command: &Command) -> bool
+    ensures { result ≡ is_quit command.now }
+{
+    match command {
+        Command::Quit => true,
+        _ => false,
+    }
+}
+
+// Puts a command, and tries again while the pipe is full. False where the chat was over meanwhile.
+fn put_command<R: Wait + Copy>(
+    rt: R,
+    pipes: &Pipes,
+    over: &AtomicBool,
+    mut pass: CallerPass,
+    mut command: Command,
+) -> (CallerPass, bool)
+    requires { IsCallerOf pipes.now pass }
+    ensures pipes { IsCallerOf pipes.now result.0 }
+    ensures put { Puts pass result.0 (cond result.1 (command ∷ []) []) }
+{
+    for _ in rt.forever() {
+        match pipes.put(rt, pass, command) {
+            Ok(done) => return (done, true),
+            Err(full) => {
+                let Full {
+                    pass: back,
+                    command: again,
+                } = full;
+                if over.load(Ordering::SeqCst) {
+                    return (back, false);
+                }
+                pass = back;
+                command = again;
+                yield_now();
+            }
+        }
+    }
+    unreachable!()
+}
+
+// Puts a quit, unless the pipe is full and the chat over.
+pub(crate) fn close<R: Wait + Copy>(
+    rt: R,
+    pipes: &Pipes,
+    over: &AtomicBool,
+    pass: CallerPass,
+) -> CallerPass
+    requires { IsCallerOf pipes.now pass }
+    ensures pipes { IsCallerOf pipes.now result }
+    ensures closes { Closes pass result }
+{
+    let (pass, _) = put_command(rt, pipes, over, pass, Command::Quit);
+    pass
+}
+
+// Puts a command, unless the chat is over.
+pub(crate) fn put_one<R: Wait + Copy>(
+    rt: R,
+    pipes: &Pipes,
+    over: &AtomicBool,
+    pass: CallerPass,
+    command: Command,
+) -> (CallerPass, Sent)
+    requires { IsCallerOf pipes.now pass }
+    ensures pipes { IsCallerOf pipes.now result.0 }
+    ensures sent { Sends result.1 pass result.0 command }
+{
+    if over.load(Ordering::SeqCst) {
+        return (pass, Sent::Over);
+    }
+    let quits = is_quit(&command);
+    let (pass, is_put) = put_command(rt, pipes, over, pass, command);
+    if !is_put {
+        return (pass, Sent::Over);
+    }
+    if quits {
+        (pass, Sent::Quit)
+    } else {
+        (pass, Sent::On)
+    }
+}
+
+// Puts commands up to the first quit, unless the chat is over.
+pub(crate) fn put_all<R: Wait + Copy>(
+    rt: R,
+    pipes: &Pipes,
+    over: &AtomicBool,
+    mut pass: CallerPass,
+    commands: Vec<Command>,
+) -> (CallerPass, Sent)
+    requires { IsCallerOf pipes.now pass }
+    ensures pipes { IsCallerOf pipes.now result.0 }
+    ensures sent { SendsAll result.1 pass result.0 commands.items }
+{
+    for command in commands {
+        let (back, sent) = put_one(rt, pipes, over, pass, command);
+        match sent {
+            Sent::On => pass = back,
+            Sent::Quit => return (back, Sent::Quit),
+            Sent::Over => return (back, Sent::Over),
+        }
+    }
+    (pass, Sent::On)
+}

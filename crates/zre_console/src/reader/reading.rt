@@ -1,0 +1,197 @@
+//! A source is read in pieces, and the commands of its lines are put.
+
+ghost use Rattle.std.specs.Prelude.{◌≡◌, ◌<◌, ◌≤◌, ℕ, List, false, length, take};
+ghost use Rattle.std.specs.List.{list_any};
+ghost use Rattle.zre_outside.specs.Causes.{Rose};
+ghost use Rattle.zre_outside.specs.Told.{Moves};
+ghost use Rattle.zre_actor.specs.Passes.{IsCallerOf};
+ghost use Rattle.zre_console.specs.lines.Orders.{is_quit, typed};
+ghost use Rattle.zre_console.specs.lines.Typing.{Typed};
+ghost use Rattle.zre_console.specs.reader.Reading.{HasRead};
+ghost use Rattle.zre_console.specs.reader.Turning.{Took, Turned, Finishes, Ends};
+
+use crate::lines::Typist;
+use crate::reader::InputEnd;
+use crate::reader::putting::{Sent, close, put_all, put_one};
+use std::alloc::Global;
+use std::sync::Wait;
+use std::sync::atomic::{AtomicBool, Ordering};
+use zre_actor::{CallerPass, Pipes};
+use zre_outside::{Command, Failed, PIECE, Source, room_for, zeros};
+
+/// How a turn ended.
+#[derive(Clone, Copy, Debug, PartialEq, Eq)]
+enum Next {
+    Go,
+    Quit,
+    End,
+    Over,
+    ReadFault,
+    OutOfMemory,
+}
+
+/// One turn: how many octets it read, and how it ended.
+#[derive(Drop)]
+struct Turn {
+    read: usize,
+    pass: CallerPass,
+    next: Next,
+}
+
+// Feeds a piece, and puts the commands of the lines that it ends.
+fn take_piece<R: Wait + Copy>(
+    rt: R,
+    alloc: Global,
+    pipes: &Pipes,
+    over: &AtomicBool,
+    typist: &mut Typist,
+    pass: CallerPass,
+    piece: &[u8],
+) -> (CallerPass, Next)
+    requires { IsCallerOf pipes.now pass }
+    ensures pipes { IsCallerOf pipes.now result.0 }
+    ensures took { (o : List ℕ) → Typed o typist.old → list_any is_quit (typed o) ≡ false →
+        Took result.1 typist.new o piece.now pass result.0 }
+{
+    let mut commands = Vec::new(alloc);
+    let fed = typist.feed(piece, &mut commands);
+    let (pass, sent) = put_all(rt, pipes, over, pass, commands);
+    match sent {
+        Sent::Quit => (pass, Next::Quit),
+        Sent::Over => (pass, Next::Over),
+        Sent::On => match fed {
+            Ok(()) => (pass, Next::Go),
+            Err(_) => (pass, Next::OutOfMemory),
+        },
+    }
+}
+
+// Reads one piece, and puts the commands of the lines that it ends.
+fn take_turn<R: Wait + Copy, I: Source>(
+    rt: R,
+    alloc: Global,
+    pipes: &Pipes,
+    over: &AtomicBool,
+    typist: &mut Typist,
+    pass: CallerPass,
+    input: &mut I,
+    buf: &mut [u8],
+) -> Turn
+    requires some { 0 < length buf.old }
+    requires pipes { IsCallerOf pipes.now pass }
+    ensures bound { result.read ≤ length buf.new }
+    ensures pipes { IsCallerOf pipes.now result.pass }
+    ensures moved { Moves (I.left input.old) (I.left input.new) (I.taken input.old) (I.taken input.new) (take result.read buf.new) }
+    ensures turned { (o : List ℕ) → Typed o typist.old → list_any is_quit (typed o) ≡ false →
+        Turned result.next typist.new o (take result.read buf.new) (I.left input.new) pass result.pass (Rose (I.faults input.old) (I.faults input.new)) }
+    ensures later { I.faults input.old ≤ I.faults input.new }
+{
+    let read = match input.read(buf) {
+        Ok(read) => read,
+        Err(Failed) => {
+            return Turn {
+                read: 0,
+                pass,
+                next: Next::ReadFault,
+            };
+        }
+    };
+    if read == 0 {
+        return Turn {
+            read,
+            pass,
+            next: Next::End,
+        };
+    }
+    let (pass, next) = take_piece(rt, alloc, pipes, over, typist, pass, &buf[..read]);
+    Turn { read, pass, next }
+}
+
+// Puts the quit that the end of the input is, unless the chat is over.
+fn put_end<R: Wait + Copy>(
+    rt: R,
+    pipes: &Pipes,
+    over: &AtomicBool,
+    pass: CallerPass,
+) -> (CallerPass, InputEnd)
+    requires { IsCallerOf pipes.now pass }
+    ensures pipes { IsCallerOf pipes.now result.0 }
+    ensures ends { Ends result.1 pass result.0 }
+{
+    let (pass, sent) = put_one(rt, pipes, over, pass, Command::Quit);
+    match sent {
+        Sent::Over => (pass, InputEnd::Over),
+        _ => (pass, InputEnd::AtEnd),
+    }
+}
+
+// Takes the end of the input: the line that isn't finished counts.
+fn finish<R: Wait + Copy>(
+    rt: R,
+    pipes: &Pipes,
+    over: &AtomicBool,
+    typist: &Typist,
+    pass: CallerPass,
+) -> (CallerPass, InputEnd)
+    requires { IsCallerOf pipes.now pass }
+    ensures pipes { IsCallerOf pipes.now result.0 }
+    ensures finishes { (o : List ℕ) → Typed o typist.now → list_any is_quit (typed o) ≡ false →
+        Finishes result.1 o pass result.0 }
+{
+    let Ok(last) = typist.finish() else {
+        return (close(rt, pipes, over, pass), InputEnd::OutOfMemory);
+    };
+    let Some(command) = last else {
+        return put_end(rt, pipes, over, pass);
+    };
+    let (pass, sent) = put_one(rt, pipes, over, pass, command);
+    match sent {
+        Sent::On => put_end(rt, pipes, over, pass),
+        Sent::Quit => (pass, InputEnd::AtEnd),
+        Sent::Over => (pass, InputEnd::Over),
+    }
+}
+
+// Reads the source and puts the commands of its lines, up to a limit of octets.
+pub(crate) fn read_all<R: Wait + Copy, I: Source>(
+    rt: R,
+    alloc: Global,
+    pipes: &Pipes,
+    over: &AtomicBool,
+    mut pass: CallerPass,
+    input: &mut I,
+    limit: u64,
+) -> (CallerPass, InputEnd)
+    requires { IsCallerOf pipes.now pass }
+    ensures pipes { IsCallerOf pipes.now result.0 }
+    ensures read { HasRead result.1 limit pass result.0 (I.left input.old) (I.left input.new) (I.taken input.old) (I.taken input.new) (Rose (I.faults input.old) (I.faults input.new)) }
+    ensures later { I.faults input.old ≤ I.faults input.new }
+{
+    let Ok(mut buf) = zeros(alloc, PIECE) else {
+        return (close(rt, pipes, over, pass), InputEnd::OutOfMemory);
+    };
+    let mut typist = Typist::new(alloc);
+    let mut taken: u64 = 0;
+    while taken < limit {
+        if over.load(Ordering::SeqCst) {
+            return (pass, InputEnd::Over);
+        }
+        let room = room_for(limit - taken);
+        let piece = &mut buf[..room];
+        let Turn {
+            read,
+            pass: back,
+            next,
+        } = take_turn(rt, alloc, pipes, over, &mut typist, pass, input, piece);
+        taken += read as u64;
+        match next {
+            Next::Go => pass = back,
+            Next::Quit => return (back, InputEnd::Quit),
+            Next::End => return finish(rt, pipes, over, &typist, back),
+            Next::Over => return (back, InputEnd::Over),
+            Next::ReadFault => return (close(rt, pipes, over, back), InputEnd::ReadFault),
+            Next::OutOfMemory => return (close(rt, pipes, over, back), InputEnd::OutOfMemory),
+        }
+    }
+    (close(rt, pipes, over, pass), InputEnd::TooLong)
+}

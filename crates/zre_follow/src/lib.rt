@@ -1,8 +1,0 @@
-//! The command `follow`: the events of one connection, from the octets of its traffic.
-#![tactic(auto)]
-
-mod ends;
-mod follower;
-mod taking;
-
-pub use follower::Follower;

@@ -1,4 +1,0 @@
-use Rattle.zre_show.proofs.lines.push_line.Goals as goal
-
-pub returns-in-Ready : goal.returns-in-Ready
-returns-in-Ready c = rw c.in-Ready.is c.push_command.ensures

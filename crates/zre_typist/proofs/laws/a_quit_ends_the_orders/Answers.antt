@@ -1,6 +1,0 @@
-use Rattle.std.proofs.Common.{[], refl}
-use Rattle.zre_typist.proofs.Quits.{orders-begin}
-use Rattle.zre_typist.proofs.laws.a_quit_ends_the_orders.Goals as goal
-
-pub returns : goal.returns
-returns c = λ o. orders-begin o [] _ refl refl
