@@ -24,7 +24,12 @@ use Rattle.zre_journal.specs.Connections.{open_ones, is_open, is_new, runs, sinc
 use Rattle.zre_journal.specs.Peers.{Life, lives, life, life_of, is_entered, births, runner}
 use Rattle.zre_journal.specs.Links.{bodies, unsent, is_linked, replies, groups, status}
 use Rattle.zre_journal.specs.Proper.{IsProper, Apart}
-use Rattle.zre_journal.specs.Happens.{push, push_all, end_of_run, birth, is_welcome, at_beacon, at_datagram, at_opened, at_shut, at_linked, fault_of_reply, at_reply, at_unlinked, at_took, is_silent, is_faltering, falter, is_stale, at_tick, has_group, at_join, at_leave, is_too_big, at_whisper, is_member, at_shout, at_stop, at_command}
+use Rattle.zre_journal.specs.Pushes.{push, push_all, birth}
+use Rattle.zre_journal.specs.Arrivals.{end_of_run, at_opened, at_shut}
+use Rattle.zre_journal.specs.Happens.{is_welcome, at_beacon, at_datagram}
+use Rattle.zre_journal.specs.LinkEntries.{at_linked, fault_of_reply, at_reply, at_unlinked, at_took}
+use Rattle.zre_journal.specs.Ticks.{is_silent, is_faltering, falter, is_stale, at_tick}
+use Rattle.zre_journal.specs.Commands.{has_group, at_join, at_leave, is_too_big, at_whisper, is_member, at_shout, at_stop, at_command}
 use Rattle.zre_journal.proofs.Listed.{All-kept, Apart-kept}
 use Rattle.zre_journal.proofs.Known.{known_of, AreKnown, each_known, newborn_known, still_known, end_all, ends_allowed, ends_known, kept_far}
 use Rattle.zre_journal.proofs.Idle.{idle_after, AreNoStarts, none_and_none, ends_start_none, all_idle, drops_allowed, closes_allowed, ends_and}

@@ -20,7 +20,9 @@ use Rattle.zre_journal.specs.Connections.{open_ones, is_open, started, start_at,
 use Rattle.zre_journal.specs.Peers.{Life, lives, life, births, other_lives}
 use Rattle.zre_journal.specs.Links.{is_linked, replies}
 use Rattle.zre_journal.specs.Proper.{IsProper}
-use Rattle.zre_journal.specs.Happens.{has_stopped, end_of_run, at_place, at_places, fault_of_reply, at_reply, at_input}
+use Rattle.zre_journal.specs.Happens.{has_stopped, at_input}
+use Rattle.zre_journal.specs.Arrivals.{end_of_run, at_place, at_places}
+use Rattle.zre_journal.specs.LinkEntries.{fault_of_reply, at_reply}
 use Rattle.zre_journal.proofs.Few.{none_kept, at_end, AtEnd, Front, Back}
 use Rattle.zre_journal.proofs.Idle.{idle_stays, not_true}
 use Rattle.zre_journal.proofs.Joined.{after-append, in_turn-append}

@@ -36,7 +36,12 @@ use Rattle.zre_journal.specs.Connections.{open_ones, is_open, is_new, identity, 
 use Rattle.zre_journal.specs.Peers.{Life, lives, life, life_of, is_entered, births, counted}
 use Rattle.zre_journal.specs.Links.{groups, status, put_on, bodies, taken, unsent, is_linked, replies}
 use Rattle.zre_journal.specs.Proper.{IsProper}
-use Rattle.zre_journal.specs.Happens.{hello, push, push_all, birth, is_welcome, at_beacon, at_datagram, at_opened, end_of_run, at_shut, taken_over, start_unknown, start, at_first, answer_to, at_later, at_message, at_shaken, at_said, at_place, at_places, at_linked, fault_of_reply, at_reply, at_unlinked, at_took, is_silent, is_faltering, falter, is_stale, at_tick, has_group, at_join, at_leave, is_too_big, at_whisper, is_member, at_shout, at_input}
+use Rattle.zre_journal.specs.Pushes.{hello, push, push_all, birth}
+use Rattle.zre_journal.specs.Happens.{is_welcome, at_beacon, at_datagram, at_input}
+use Rattle.zre_journal.specs.Arrivals.{at_opened, end_of_run, at_shut, taken_over, start_unknown, start, at_first, answer_to, at_later, at_message, at_shaken, at_said, at_place, at_places}
+use Rattle.zre_journal.specs.LinkEntries.{at_linked, fault_of_reply, at_reply, at_unlinked, at_took}
+use Rattle.zre_journal.specs.Ticks.{is_silent, is_faltering, falter, is_stale, at_tick}
+use Rattle.zre_journal.specs.Commands.{has_group, at_join, at_leave, is_too_big, at_whisper, is_member, at_shout}
 use Rattle.zre_journal.proofs.Idle.{not_true}
 use Rattle.zre_journal.proofs.Introduction.{introduces}
 use Rattle.zre_journal.proofs.Known.{end_all}

@@ -20,7 +20,8 @@ use Rattle.zre_journal.specs.Connections.{open_ones, is_live}
 use Rattle.zre_journal.specs.Peers.{Life, lives, life, is_entered, view}
 use Rattle.zre_journal.specs.Links.{groups, is_linked, replies, reply_of, unsent}
 use Rattle.zre_journal.specs.Held.{unfinished, header_octets, view_octets, conn_octets, reply_octets, peer_octets, own_octets, held, stream_most, view_most, own_most, Within, bound}
-use Rattle.zre_journal.specs.Happens.{has_stopped, at_input, at_stop, with_entry, chronicle_after}
+use Rattle.zre_journal.specs.Happens.{has_stopped, at_input, with_entry, chronicle_after}
+use Rattle.zre_journal.specs.Commands.{at_stop}
 use Rattle.zre_journal.specs.Events.{chronicle}
 use Rattle.zre_journal.specs.Proper.{IsProper}
 use Rattle.zre_journal.proofs.Always.{empty, input_allowed}

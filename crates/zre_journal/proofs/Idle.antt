@@ -12,7 +12,7 @@ use Rattle.zre_journal.specs.Chronicle.{Mark, Closes, ClosesAtStop, Ends, after,
 use Rattle.zre_journal.specs.Connections.{open_ones, is_open, identity, runs, started, start_at, has_ended, ends, unless, is_same, other_with, others}
 use Rattle.zre_journal.specs.Peers.{Life, lives, life}
 use Rattle.zre_journal.specs.Proper.{IsProper}
-use Rattle.zre_journal.specs.Happens.{taken_over, end_of_run}
+use Rattle.zre_journal.specs.Arrivals.{taken_over, end_of_run}
 use Rattle.zre_journal.proofs.Kept.{has_started, run_known}
 use Rattle.zre_journal.proofs.Known.{end_all, same_id}
 use Rattle.zre_journal.proofs.Listed.{eqb-comm, found_passes, found_any, some_is, any_other}

@@ -23,7 +23,7 @@ use Rattle.zre_journal.specs.declared.config.Config.{Config}
 use Rattle.zre_journal.specs.Chronicle.{Mark}
 use Rattle.zre_journal.specs.Config.{is_fitting, is_valid, are_apart, own_endpoint}
 use Rattle.zre_journal.specs.Links.{groups, status}
-use Rattle.zre_journal.specs.Happens.{hello}
+use Rattle.zre_journal.specs.Pushes.{hello}
 use Rattle.zre_journal.specs.Introducing.{CanIntroduce, Introduces}
 
 -- ---- frames

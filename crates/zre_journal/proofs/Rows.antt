@@ -1,4 +1,4 @@
--- Worked journals, whose events and acts the definitions compute.
+-- Worked journals, whose events the definitions compute.
 use Rattle.std.specs.Prelude.{◌≡◌, ℕ, List, [], ◌∷◌, ◌++◌, codes, map, take, drop}
 use Rattle.std.proofs.Common.{refl}
 use Rattle.std.specs.Fmt.{digits}

@@ -20,7 +20,8 @@ use Rattle.zre_journal.specs.Chronicle.{Mark, Shakes, Starts, Counts, Ignores, C
 use Rattle.zre_journal.specs.Connections.{is_open, identity, started, runs, refuses, was_used, is_ignored, is_live, other_with}
 use Rattle.zre_journal.specs.Peers.{Life, lives, life, life_of, births, runner, counted}
 use Rattle.zre_journal.specs.Proper.{IsProper}
-use Rattle.zre_journal.specs.Happens.{hello, birth, taken_over, start_unknown, start, at_first, answer_to, at_later, at_message, at_shaken, at_said, at_place, at_places}
+use Rattle.zre_journal.specs.Pushes.{hello, birth}
+use Rattle.zre_journal.specs.Arrivals.{taken_over, start_unknown, start, at_first, answer_to, at_later, at_message, at_shaken, at_said, at_place, at_places}
 use Rattle.zre_journal.proofs.Kept.{known_lives, run_known}
 use Rattle.zre_journal.proofs.Known.{known_of, id_of, newborn_known}
 use Rattle.zre_journal.proofs.Idle.{not_true, not_false, gave_way, taken_over_allowed, ends_and}

@@ -11,7 +11,8 @@ use Rattle.zre_journal.specs.declared.config.Config.{Config}
 use Rattle.zre_journal.specs.Chronicle.{Mark, ClosesAtStop, Ends, SendsBeacon, Stops, after}
 use Rattle.zre_journal.specs.Connections.{open_ones}
 use Rattle.zre_journal.specs.Peers.{Life, lives}
-use Rattle.zre_journal.specs.Happens.{at_input, at_stop}
+use Rattle.zre_journal.specs.Happens.{at_input}
+use Rattle.zre_journal.specs.Commands.{at_stop}
 use Rattle.zre_journal.proofs.Joined.{after-append}
 use Rattle.zre_journal.proofs.Known.{end_all}
 use Rattle.zre_journal.proofs.Listed.{All-map}

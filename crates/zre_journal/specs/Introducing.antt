@@ -9,7 +9,7 @@ use Rattle.zre_link.specs.Link.{unsent_of}
 use Rattle.zre_journal.specs.declared.config.Config.{Config}
 use Rattle.zre_journal.specs.Chronicle.{Mark}
 use Rattle.zre_journal.specs.Config.{is_valid}
-use Rattle.zre_journal.specs.Happens.{hello}
+use Rattle.zre_journal.specs.Pushes.{hello}
 use Rattle.zre_journal.specs.Links.{groups}
 
 -- The node is valid and has a place, and its groups are within the limits.

@@ -1,5 +1,7 @@
+pub mod Arrivals
 pub mod Asked
 pub mod Chronicle
+pub mod Commands
 pub mod Config
 pub mod Connections
 pub mod Done
@@ -10,8 +12,11 @@ pub mod Heard
 pub mod Held
 pub mod Introducing
 pub mod Laws
+pub mod LinkEntries
 pub mod Links
 pub mod Peers
 pub mod Proper
+pub mod Pushes
 pub mod Spoken
+pub mod Ticks
 pub mod Told

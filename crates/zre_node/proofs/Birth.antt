@@ -11,7 +11,7 @@ use Rattle.zre_journal.specs.declared.config.Config.{Config}
 use Rattle.zre_journal.specs.Chronicle.{Mark, HearsBeacon}
 use Rattle.zre_journal.specs.Heard.{clock}
 use Rattle.zre_journal.specs.Peers.{Life, lives, births, counted}
-use Rattle.zre_journal.specs.Happens.{hello, birth}
+use Rattle.zre_journal.specs.Pushes.{hello, birth}
 use Rattle.zre_journal.proofs.Kept.{born, newborn, born-proper, HearsBeacon-proper}
 use Rattle.zre_journal.proofs.Listed.{eqb-comm, found_passes}
 use Rattle.zre_node.specs.declared.peer.Peer.{Peer}

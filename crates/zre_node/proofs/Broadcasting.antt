@@ -12,7 +12,8 @@ use Rattle.zre_journal.specs.declared.config.Config.{Config}
 use Rattle.zre_journal.specs.Chronicle.{Mark, Puts, Ends, after, followed, in_turn}
 use Rattle.zre_journal.specs.Peers.{Life, lives, life, runner, counted}
 use Rattle.zre_journal.specs.Links.{bodies, put_on, taken, unsent}
-use Rattle.zre_journal.specs.Happens.{has_group, is_member, push, push_all}
+use Rattle.zre_journal.specs.Commands.{has_group, is_member}
+use Rattle.zre_journal.specs.Pushes.{push, push_all}
 use Rattle.zre_journal.proofs.Joined.{after-append}
 use Rattle.zre_journal.proofs.Known.{each_known}
 use Rattle.zre_journal.proofs.Listed.{All-kept, Apart-kept}

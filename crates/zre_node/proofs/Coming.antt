@@ -15,7 +15,7 @@ use Rattle.zre_journal.specs.Heard.{bytes, piece_of, was_opened, completed}
 use Rattle.zre_journal.specs.Connections.{open_ones, is_open, is_live, is_ignored, since, identity, runs}
 use Rattle.zre_journal.specs.Peers.{Life, lives}
 use Rattle.zre_journal.specs.Links.{bodies, is_linked, replies, reply_of, taken}
-use Rattle.zre_journal.specs.Happens.{at_places}
+use Rattle.zre_journal.specs.Arrivals.{at_places}
 use Rattle.zre_journal.proofs.Kept.{Comes-proper}
 use Rattle.zre_journal.proofs.Listed.{eqb-comm, found_passes, any_has}
 use Rattle.zre_node.specs.declared.connection.Connection.{Connection}

@@ -22,7 +22,8 @@ use Rattle.zre_journal.specs.Chronicle.{Mark, Joins, Leaves, Refuses}
 use Rattle.zre_journal.specs.Done.{names}
 use Rattle.zre_journal.specs.Peers.{Life, lives, life, life_of, runner, counted, is_entered}
 use Rattle.zre_journal.specs.Links.{groups, status}
-use Rattle.zre_journal.specs.Happens.{has_group, is_member, is_too_big, push, push_all, at_join, at_leave, at_whisper, at_shout}
+use Rattle.zre_journal.specs.Commands.{has_group, is_member, is_too_big, at_join, at_leave, at_whisper, at_shout}
+use Rattle.zre_journal.specs.Pushes.{push, push_all}
 use Rattle.zre_journal.proofs.Kept.{Joins-proper, Leaves-proper, Refuses-proper}
 use Rattle.zre_journal.proofs.Listed.{All-append}
 use Rattle.zre_node.specs.declared.peer.Peer.{Peer}

@@ -7,7 +7,7 @@ use Rattle.zre_msg.specs.declared.message.Body.{Body}
 use Rattle.zre_msg.specs.declared.message.Body.TheVariants as body
 use Rattle.zre_journal.specs.declared.config.Config.{Config}
 use Rattle.zre_journal.specs.Chronicle.{Mark}
-use Rattle.zre_journal.specs.Happens.{hello}
+use Rattle.zre_journal.specs.Pushes.{hello}
 use Rattle.zre_node.specs.declared.tables.Tables.{Tables}
 use Rattle.zre_node.specs.Stands.{Keeps}
 

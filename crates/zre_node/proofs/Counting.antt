@@ -19,7 +19,8 @@ use Rattle.zre_journal.specs.declared.config.Config.{Config}
 use Rattle.zre_journal.specs.Chronicle.{Mark, Starts, Counts, Ends}
 use Rattle.zre_journal.specs.Connections.{runs}
 use Rattle.zre_journal.specs.Peers.{Life, lives, life, runner, counted}
-use Rattle.zre_journal.specs.Happens.{at_later, answer_to, push}
+use Rattle.zre_journal.specs.Arrivals.{at_later, answer_to}
+use Rattle.zre_journal.specs.Pushes.{push}
 use Rattle.zre_journal.proofs.Kept.{run_is, Counts-proper}
 use Rattle.zre_journal.proofs.Listed.{eqb-comm, found_passes}
 use Rattle.zre_node.specs.declared.peer.Peer.{Peer}

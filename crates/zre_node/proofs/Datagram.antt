@@ -6,7 +6,8 @@ use Rattle.zre_peer.specs.declared.causes.Cause.TheVariants as cause
 use Rattle.zre_journal.specs.declared.config.Config.{Config}
 use Rattle.zre_journal.specs.Chronicle.{Mark, Ends, HearsBeacon}
 use Rattle.zre_journal.specs.Peers.{Life, lives, life, life_of}
-use Rattle.zre_journal.specs.Happens.{is_welcome, at_datagram, birth}
+use Rattle.zre_journal.specs.Happens.{is_welcome, at_datagram}
+use Rattle.zre_journal.specs.Pushes.{birth}
 use Rattle.zre_node.specs.declared.peer.Peer.{Peer}
 use Rattle.zre_node.specs.declared.tables.Tables.{Tables}
 use Rattle.zre_node.specs.Tabled.{Tabled}

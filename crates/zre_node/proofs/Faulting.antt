@@ -7,7 +7,7 @@ use Rattle.zre_peer.specs.declared.causes.CloseWhy.TheVariants as close
 use Rattle.zre_journal.specs.declared.config.Config.{Config}
 use Rattle.zre_journal.specs.Chronicle.{Mark, Closes, in_turn}
 use Rattle.zre_journal.specs.Connections.{is_live, runs}
-use Rattle.zre_journal.specs.Happens.{at_place, end_of_run}
+use Rattle.zre_journal.specs.Arrivals.{at_place, end_of_run}
 
 -- where a connection isn't live, nothing that it says has an effect
 pub dead_places : (g : Config) (c : ℕ) (K : List Mark) → is_live c K ≡ false → (xs : List Said) → in_turn (at_place g c) xs K ≡ []

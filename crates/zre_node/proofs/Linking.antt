@@ -18,7 +18,8 @@ use Rattle.zre_journal.specs.Done.{names}
 use Rattle.zre_journal.specs.Heard.{clock, piece_of}
 use Rattle.zre_journal.specs.Links.{bodies, groups, status, is_linked, replies, gate, taken}
 use Rattle.zre_journal.specs.Peers.{Life, lives, life, births}
-use Rattle.zre_journal.specs.Happens.{has_stopped, at_input, at_linked, at_reply, at_unlinked, at_took, fault_of_reply}
+use Rattle.zre_journal.specs.Happens.{has_stopped, at_input}
+use Rattle.zre_journal.specs.LinkEntries.{at_linked, at_reply, at_unlinked, at_took, fault_of_reply}
 use Rattle.zre_journal.specs.Proper.{IsProper}
 use Rattle.zre_journal.proofs.Kept.{known_lives, Comes-proper, Links-proper, Sends-proper}
 use Rattle.zre_journal.proofs.Listed.{eqb-comm}

@@ -12,7 +12,7 @@ use Rattle.zre_journal.specs.declared.config.Config.{Config}
 use Rattle.zre_journal.specs.Chronicle.{Mark, Puts, Sends, Ends, after, followed}
 use Rattle.zre_journal.specs.Peers.{Life, lives, life}
 use Rattle.zre_journal.specs.Links.{bodies, put_on, is_linked, replies, taken, unsent}
-use Rattle.zre_journal.specs.Happens.{push}
+use Rattle.zre_journal.specs.Pushes.{push}
 use Rattle.zre_journal.proofs.Kept.{known_lives, Puts-proper}
 use Rattle.zre_journal.proofs.Listed.{eqb-comm, found_passes}
 use Rattle.zre_node.specs.declared.peer.Peer.{Peer}

@@ -13,7 +13,7 @@ use Rattle.zre_journal.specs.declared.config.Config.{Config}
 use Rattle.zre_journal.specs.Chronicle.{Mark, Greets, Shakes, Closes, after}
 use Rattle.zre_journal.specs.Connections.{open_ones, is_open, identity, runs, is_same, other_with, others}
 use Rattle.zre_journal.specs.Proper.{IsProper}
-use Rattle.zre_journal.specs.Happens.{taken_over, end_of_run}
+use Rattle.zre_journal.specs.Arrivals.{taken_over, end_of_run}
 use Rattle.zre_journal.proofs.Kept.{Greets-proper, Shakes-proper}
 use Rattle.zre_journal.proofs.Listed.{eqb-comm, found_passes, any_other}
 use Rattle.zre_node.specs.declared.connection.Connection.{Connection}

@@ -14,7 +14,8 @@ use Rattle.zre_peer.specs.declared.event.Event.{Event}
 use Rattle.zre_values.specs.declared.memory.OutOfMemory.{OutOfMemory}
 use Rattle.std.specs.Result.{is_err}
 use Rattle.zre_node.specs.declared.effects.Effects.{Effects}
-use Rattle.zre_journal.specs.Happens.{at_first, start, start_unknown, birth}
+use Rattle.zre_journal.specs.Arrivals.{at_first, start, start_unknown}
+use Rattle.zre_journal.specs.Pushes.{birth}
 use Rattle.zre_journal.specs.Told.{told}
 use Rattle.std.specs.BTreeMap.{BTreeMap, is_at}
 use Rattle.std.specs.Map.{lookup, set_value}

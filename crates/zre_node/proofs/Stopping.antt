@@ -11,7 +11,7 @@ use Rattle.zre_journal.specs.Chronicle.{Mark, Ends, ClosesAtStop, SendsBeacon, S
 use Rattle.zre_journal.specs.Connections.{open_ones, runs}
 use Rattle.zre_journal.specs.Peers.{Life, lives, life}
 use Rattle.zre_journal.specs.Proper.{Apart}
-use Rattle.zre_journal.specs.Happens.{at_stop}
+use Rattle.zre_journal.specs.Commands.{at_stop}
 use Rattle.zre_journal.specs.Told.{told}
 use Rattle.zre_journal.specs.Done.{done}
 use Rattle.zre_journal.proofs.Joined.{after-append, told-append, done-append}

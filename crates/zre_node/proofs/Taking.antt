@@ -11,7 +11,9 @@ use Rattle.zre_journal.specs.declared.config.Config.{Config}
 use Rattle.zre_journal.specs.Chronicle.{Mark, Comes, after}
 use Rattle.zre_journal.specs.Done.{acts_at, done, offers, is_offered, names, puts}
 use Rattle.zre_journal.specs.Events.{events_at}
-use Rattle.zre_journal.specs.Happens.{at_input, at_places, at_stop, marks, with_entry, has_stopped}
+use Rattle.zre_journal.specs.Happens.{at_input, marks, with_entry, has_stopped}
+use Rattle.zre_journal.specs.Arrivals.{at_places}
+use Rattle.zre_journal.specs.Commands.{at_stop}
 use Rattle.zre_journal.specs.Heard.{completed}
 use Rattle.zre_journal.specs.Links.{gate, taken}
 use Rattle.zre_journal.specs.Peers.{Life, lives}

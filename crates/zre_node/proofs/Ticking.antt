@@ -21,7 +21,8 @@ use Rattle.zre_journal.specs.declared.config.Config.{Config}
 use Rattle.zre_journal.specs.Chronicle.{Mark, Ends, Closes, IsEvasive, Puts, SendsBeacon, after, in_turn}
 use Rattle.zre_journal.specs.Connections.{open_ones, runs, since}
 use Rattle.zre_journal.specs.Done.{names}
-use Rattle.zre_journal.specs.Happens.{at_input, at_tick, falter, is_silent, is_faltering, is_stale}
+use Rattle.zre_journal.specs.Happens.{at_input}
+use Rattle.zre_journal.specs.Ticks.{at_tick, falter, is_silent, is_faltering, is_stale}
 use Rattle.zre_journal.specs.Heard.{clock}
 use Rattle.zre_journal.specs.Links.{bodies, unsent}
 use Rattle.zre_journal.specs.Peers.{Life, lives, life, runner, counted, is_entered, view}

@@ -10,7 +10,7 @@ use Rattle.zre_peer.specs.declared.peer_run.RunFault.TheVariants as fault
 use Rattle.zre_journal.specs.declared.config.Config.{Config}
 use Rattle.zre_journal.specs.Chronicle.{Mark, Ignores}
 use Rattle.zre_journal.specs.Peers.{Life, lives, life_of}
-use Rattle.zre_journal.specs.Happens.{start_unknown}
+use Rattle.zre_journal.specs.Arrivals.{start_unknown}
 use Rattle.zre_node.specs.declared.first.Place.{Place}
 use Rattle.zre_node.specs.declared.first.Place.TheVariants.{Known, New, Nowhere}
 

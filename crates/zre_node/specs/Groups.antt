@@ -1,7 +1,7 @@
 -- Whether a peer is in a group, by its row.
 use Rattle.std.specs.Prelude.{ℕ, Bool, false, List, Option, Some, None}
 use Rattle.zre_peer.specs.declared.view.View.{View}
-use Rattle.zre_journal.specs.Happens.{has_group}
+use Rattle.zre_journal.specs.Commands.{has_group}
 use Rattle.zre_node.specs.declared.peer.Peer.{Peer}
 use Rattle.zre_node.specs.Asked.{view_of_row}
 

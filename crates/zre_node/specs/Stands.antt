@@ -20,7 +20,8 @@ use Rattle.zre_journal.specs.Connections.{open_ones, is_open, is_new, is_ignored
 use Rattle.zre_journal.specs.Peers.{Life, life, lives, other_lives, births, active, runner, counted}
 use Rattle.zre_journal.specs.Proper.{IsProper}
 use Rattle.zre_journal.specs.Links.{bodies, is_linked, replies, taken, groups, status}
-use Rattle.zre_journal.specs.Happens.{has_stopped, at_stop}
+use Rattle.zre_journal.specs.Happens.{has_stopped}
+use Rattle.zre_journal.specs.Commands.{at_stop}
 use Rattle.zre_journal.specs.Told.{told}
 use Rattle.zre_journal.specs.Done.{done, puts}
 use Rattle.zre_node.specs.declared.peer.Peer.{Peer}

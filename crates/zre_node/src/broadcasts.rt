@@ -4,7 +4,7 @@ ghost use Rattle.std.specs.Prelude.{◌≡◌, ℕ, List, ◌++◌, OnOk, IfOk};
 ghost use Rattle.zre_journal.specs.declared.config.Config.{Config};
 ghost use Rattle.zre_journal.specs.Chronicle.{Mark, in_turn};
 ghost use Rattle.zre_journal.specs.Peers.{lives};
-ghost use Rattle.zre_journal.specs.Happens.{push as pushing, push_all as pushing_all};
+ghost use Rattle.zre_journal.specs.Pushes.{push as pushing, push_all as pushing_all};
 ghost use Rattle.zre_msg.specs.Spelling.{FitsBody};
 ghost use Rattle.zre_node.specs.Groups.{row_in};
 ghost use Rattle.zre_node.specs.Stands.{Holds, Did, AreKnown};

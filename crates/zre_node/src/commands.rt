@@ -7,7 +7,7 @@ ghost use Rattle.zre_journal.specs.Endings.{is_end};
 ghost use Rattle.zre_journal.specs.declared.config.Config.{Config};
 ghost use Rattle.zre_journal.specs.Chronicle.{Mark, Refuses};
 ghost use Rattle.zre_journal.specs.Peers.{Life, life_of, is_entered};
-ghost use Rattle.zre_journal.specs.Happens.{at_join, at_leave, at_whisper, at_shout, at_command};
+ghost use Rattle.zre_journal.specs.Commands.{at_join, at_leave, at_whisper, at_shout, at_command};
 ghost use Rattle.zre_node.specs.declared.tables.Tables.{Tables as TablesValue};
 ghost use Rattle.zre_node.specs.Journal.{Took};
 ghost use Rattle.zre_node.specs.Stands.{Holds, Did};

@@ -5,7 +5,7 @@ ghost use Rattle.std.specs.Option.{option_map};
 ghost use Rattle.zre_journal.specs.declared.config.Config.{Config};
 ghost use Rattle.zre_journal.specs.Chronicle.{Mark, Closes, ClosesAtStop};
 ghost use Rattle.zre_journal.specs.Connections.{is_open, runs};
-ghost use Rattle.zre_journal.specs.Happens.{at_opened, at_shut, end_of_run};
+ghost use Rattle.zre_journal.specs.Arrivals.{at_opened, at_shut, end_of_run};
 ghost use Rattle.zre_node.specs.Stands.{Holds, Did, RunNone};
 
 use crate::connection::Connection;

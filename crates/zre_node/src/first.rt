@@ -13,7 +13,7 @@ ghost use Rattle.zre_journal.specs.declared.config.Config.{Config};
 ghost use Rattle.zre_journal.specs.Chronicle.{Mark, Starts, Ignores};
 ghost use Rattle.zre_journal.specs.Connections.{is_live, is_open, identity, runs};
 ghost use Rattle.zre_journal.specs.Peers.{Life, life};
-ghost use Rattle.zre_journal.specs.Happens.{at_first};
+ghost use Rattle.zre_journal.specs.Arrivals.{at_first};
 ghost use Rattle.zre_node.specs.Stands.{Holds, Did};
 ghost use Rattle.zre_node.specs.declared.connection.Connection.{Connection as ConnectionValue};
 ghost use Rattle.zre_node.specs.declared.peer.Peer.{Peer as PeerValue};

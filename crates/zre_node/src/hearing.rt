@@ -9,7 +9,7 @@ ghost use Rattle.zre_outside.specs.declared.entry.Input.TheVariants as input;
 ghost use Rattle.zre_journal.specs.declared.config.Config.{Config};
 ghost use Rattle.zre_journal.specs.Chronicle.{Mark, Comes};
 ghost use Rattle.zre_journal.specs.Heard.{completed};
-ghost use Rattle.zre_journal.specs.Happens.{at_places};
+ghost use Rattle.zre_journal.specs.Arrivals.{at_places};
 ghost use Rattle.zre_node.specs.Said.{said_in};
 ghost use Rattle.zre_node.specs.Stands.{Holds, is_quiet};
 

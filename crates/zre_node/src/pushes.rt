@@ -4,7 +4,7 @@ ghost use Rattle.std.specs.Prelude.{◌≡◌, List, ◌∷◌, [], OnOk, IsSome
 ghost use Rattle.zre_journal.specs.declared.config.Config.{Config};
 ghost use Rattle.zre_journal.specs.Chronicle.{Mark};
 ghost use Rattle.zre_journal.specs.Peers.{life};
-ghost use Rattle.zre_journal.specs.Happens.{push as pushing};
+ghost use Rattle.zre_journal.specs.Pushes.{push as pushing};
 ghost use Rattle.zre_msg.specs.Spelling.{FitsBody};
 ghost use Rattle.zre_node.specs.Stands.{Holds, Did};
 

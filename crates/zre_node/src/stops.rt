@@ -3,7 +3,7 @@
 ghost use Rattle.std.specs.Prelude.{◌≡◌, List, OnOk};
 ghost use Rattle.zre_journal.specs.declared.config.Config.{Config};
 ghost use Rattle.zre_journal.specs.Chronicle.{Mark};
-ghost use Rattle.zre_journal.specs.Happens.{at_stop};
+ghost use Rattle.zre_journal.specs.Commands.{at_stop};
 ghost use Rattle.zre_node.specs.Stands.{Holds, Stopped};
 
 use crate::effects::Effects;

@@ -6,7 +6,7 @@ ghost use Rattle.zre_outside.specs.declared.entry.Input.TheVariants as given;
 ghost use Rattle.zre_peer.specs.declared.causes.CloseWhy.TheVariants as closing;
 ghost use Rattle.zre_journal.specs.declared.config.Config.{Config};
 ghost use Rattle.zre_journal.specs.Chronicle.{Mark, SendsBeacon, Closes, IsEvasive, in_turn};
-ghost use Rattle.zre_journal.specs.Happens.{at_tick};
+ghost use Rattle.zre_journal.specs.Ticks.{at_tick};
 ghost use Rattle.zre_node.specs.Journal.{Took};
 ghost use Rattle.zre_node.specs.Stands.{Holds, Did};
 ghost use Rattle.zre_node.specs.Ticks.{falters, IsEntered, AreEntered, AreIdle, numbers_of, row_silent, row_faltering, row_stale};

@@ -5,7 +5,7 @@ use Rattle.zre_actor.proofs.Working.{rose_later}
 use Rattle.zre_actor.specs.Passes.{taken_by, last_of}
 use Rattle.zre_outside.specs.Causes.{Rose}
 use Rattle.zre_console.specs.printer.Printing.{IsLast}
-use Rattle.zre_console.proofs.printer.Printed.{has_printed}
+use Rattle.zre_console.proofs.printer.Writing.{has_printed}
 use Rattle.zre_console.proofs.printer.printing.print_all.Goals as goal
 
 rose_later_now : (a b c : ℕ) → b ≤ c → Rose a b → Rose a c

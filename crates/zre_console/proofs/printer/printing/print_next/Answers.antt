@@ -5,7 +5,7 @@ use Rattle.zre_actor.specs.declared.told.Told.TheVariants as told
 use Rattle.zre_actor.specs.declared.passes.TakerPass.{TakerPass}
 use Rattle.zre_actor.specs.Passes.{IsTold, taken_by, last_of}
 use Rattle.zre_console.specs.declared.printer.page.Page.{Page}
-use Rattle.zre_console.proofs.printer.Printed.{none_before, asked_more, printed_same, printed_more}
+use Rattle.zre_console.proofs.printer.Writing.{none_before, asked_more, printed_same, printed_more}
 use Rattle.zre_console.proofs.printer.printing.print_next.Goals as goal
 
 abbrev Found : TakerPass → TakerPass → Option Told → Type 0

@@ -3,7 +3,7 @@ use Rattle.std.proofs.lemmas.List.{map-append}
 use Rattle.zre_mailbox.specs.Talk.{Said, Arrived}
 use Rattle.zre_mailbox.specs.declared.arrival.Arrival.{Arrival}
 use Rattle.zre_journal.specs.Chronicle.{in_turn}
-use Rattle.zre_journal.specs.Happens.{at_place}
+use Rattle.zre_journal.specs.Arrivals.{at_place}
 use Rattle.zre_node.specs.Stands.{Did}
 use Rattle.zre_node.proofs.Many.{one_more_turn}
 use Rattle.zre_node.proofs.tables.Tables.arrive_all.Goals as goal

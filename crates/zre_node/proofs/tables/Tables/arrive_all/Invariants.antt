@@ -2,7 +2,7 @@ use Rattle.std.proofs.Common.{List, map}
 use Rattle.zre_mailbox.specs.Talk.{Arrived}
 use Rattle.zre_journal.specs.declared.config.Config.{Config}
 use Rattle.zre_journal.specs.Chronicle.{Mark, in_turn}
-use Rattle.zre_journal.specs.Happens.{at_place}
+use Rattle.zre_journal.specs.Arrivals.{at_place}
 use Rattle.zre_node.specs.Stands.{Holds, Did}
 use Rattle.zre_node.proofs.tables.Tables.arrive_all.Given as goal
 

@@ -1,5 +1,5 @@
 use Rattle.std.proofs.Common.{ap, ◌∙◌}
-use Rattle.zre_journal.specs.Happens.{fault_of_reply}
+use Rattle.zre_journal.specs.LinkEntries.{fault_of_reply}
 use Rattle.zre_journal.specs.Peers.{life}
 use Rattle.zre_node.proofs.Linking.{fault_known}
 use Rattle.zre_node.proofs.Many.{idle_did}

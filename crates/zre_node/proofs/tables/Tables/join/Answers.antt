@@ -2,7 +2,7 @@ use Rattle.std.proofs.Common.{◌≡◌, ℕ, ◌≤◌, List, ◌∷◌, length
 use Rattle.zre_group.specs.Own.{with_joined}
 use Rattle.zre_msg.specs.declared.message.Body.TheVariants as body
 use Rattle.zre_journal.specs.Chronicle.{Joins}
-use Rattle.zre_journal.specs.Happens.{push_all}
+use Rattle.zre_journal.specs.Pushes.{push_all}
 use Rattle.zre_journal.specs.Peers.{lives}
 use Rattle.zre_node.specs.declared.tables.Tables.{Tables}
 use Rattle.zre_node.proofs.Commanding.{next_is, had_room, joined, joins, joins_tell}

@@ -2,7 +2,7 @@ use Rattle.std.proofs.Common.{◌≡◌, Bool, ◌++◌, [], ◌∷◌, refl, sy
 use Rattle.zre_msg.specs.declared.message.Body.TheVariants as body
 use Rattle.zre_peer.specs.declared.peer_run.RunFault.TheVariants as fault
 use Rattle.zre_journal.specs.Chronicle.{Counts}
-use Rattle.zre_journal.specs.Happens.{push}
+use Rattle.zre_journal.specs.Pushes.{push}
 use Rattle.zre_journal.specs.Peers.{counted, life}
 use Rattle.zre_journal.proofs.Kept.{run_known}
 use Rattle.zre_node.specs.Stands.{IsPeer, is_ping}

@@ -2,7 +2,7 @@ use Rattle.std.proofs.Common.{◌≡◌, ℕ, ◌<◌, List, ◌∷◌, length, 
 use Rattle.zre_group.specs.Own.{is_joined, with_left}
 use Rattle.zre_msg.specs.declared.message.Body.TheVariants as body
 use Rattle.zre_journal.specs.Chronicle.{Leaves}
-use Rattle.zre_journal.specs.Happens.{push_all}
+use Rattle.zre_journal.specs.Pushes.{push_all}
 use Rattle.zre_journal.specs.Links.{groups}
 use Rattle.zre_journal.specs.Peers.{lives}
 use Rattle.zre_node.specs.declared.tables.Tables.{Tables}

@@ -2,7 +2,7 @@ use Rattle.std.proofs.Common.{subst, sym, ◌∙◌, List, take, get_or}
 use Rattle.zre_msg.specs.declared.message.Body.{Body}
 use Rattle.zre_msg.specs.Spelling.{FitsBody}
 use Rattle.zre_journal.specs.Chronicle.{Mark, in_turn, after}
-use Rattle.zre_journal.specs.Happens.{push}
+use Rattle.zre_journal.specs.Pushes.{push}
 use Rattle.zre_node.specs.Stands.{Did}
 use Rattle.zre_node.proofs.Broadcasting.{known_in_turn}
 use Rattle.zre_node.proofs.Many.{one_more_link, all_links}

@@ -1,7 +1,7 @@
 use Rattle.std.proofs.Common.{◌≡◌, List, take}
 use Rattle.zre_journal.specs.declared.config.Config.{Config}
 use Rattle.zre_journal.specs.Chronicle.{Mark, in_turn}
-use Rattle.zre_journal.specs.Happens.{push}
+use Rattle.zre_journal.specs.Pushes.{push}
 use Rattle.zre_node.specs.Stands.{Holds, Did, AreKnown}
 use Rattle.zre_node.proofs.tables.Tables.push_all.Given as goal
 

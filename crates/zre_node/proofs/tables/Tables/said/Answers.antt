@@ -2,7 +2,7 @@ use Rattle.std.proofs.Common.{List, map, subst}
 use Rattle.zre_mailbox.specs.Talk.{Arrived, fault_said}
 use Rattle.zre_mailbox.specs.declared.arrival.Arrival.{Arrival}
 use Rattle.zre_journal.specs.Chronicle.{in_turn}
-use Rattle.zre_journal.specs.Happens.{at_place}
+use Rattle.zre_journal.specs.Arrivals.{at_place}
 use Rattle.zre_journal.proofs.Joined.{in_turn-append}
 use Rattle.zre_node.specs.Stands.{Did}
 use Rattle.zre_node.proofs.Ending.{on_ok}

@@ -1,6 +1,6 @@
 use Rattle.std.proofs.Common.{◌≡◌, ℕ, ◌≤◌, List, filter, length, sym, ap, ◌∙◌, subst}
 use Rattle.zre_msg.specs.declared.message.Body.TheVariants as body
-use Rattle.zre_journal.specs.Happens.{is_member}
+use Rattle.zre_journal.specs.Commands.{is_member}
 use Rattle.zre_journal.specs.Peers.{lives}
 use Rattle.zre_node.specs.Groups.{row_in}
 use Rattle.zre_node.specs.Stands.{AreKnown}

@@ -1,7 +1,7 @@
 use Rattle.std.proofs.Common.{[], ◌∷◌, refl, sym, ◌∙◌}
 use Rattle.zre_journal.specs.Chronicle.{IsShut}
 use Rattle.zre_journal.specs.Connections.{runs}
-use Rattle.zre_journal.specs.Happens.{end_of_run}
+use Rattle.zre_journal.specs.Arrivals.{end_of_run}
 use Rattle.zre_peer.specs.declared.causes.Cause.TheVariants as cause
 use Rattle.zre_node.proofs.Ending.{some_row}
 use Rattle.zre_node.proofs.Many.{did_as, did_then, silent_did, idle_did}

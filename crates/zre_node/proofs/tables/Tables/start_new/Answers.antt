@@ -1,6 +1,6 @@
 use Rattle.std.proofs.Common.{◌≡◌, ℕ, ◌+◌, Some, [], ◌∷◌, ◌++◌, sym, ◌∙◌, subst}
 use Rattle.zre_journal.specs.Chronicle.{Starts, after}
-use Rattle.zre_journal.specs.Happens.{birth}
+use Rattle.zre_journal.specs.Pushes.{birth}
 use Rattle.zre_journal.specs.Peers.{births, life}
 use Rattle.zre_journal.proofs.Kept.{newborn}
 use Rattle.zre_node.specs.Stands.{Holds}

@@ -1,7 +1,7 @@
 use Rattle.std.proofs.Common.{ℕ, sym, subst}
 use Rattle.std.specs.BTreeMap.{BTreeMap}
 use Rattle.zre_journal.specs.Chronicle.{after}
-use Rattle.zre_journal.specs.Happens.{at_took}
+use Rattle.zre_journal.specs.LinkEntries.{at_took}
 use Rattle.zre_journal.specs.Links.{bodies, is_linked, replies, taken}
 use Rattle.zre_journal.specs.Peers.{life}
 use Rattle.zre_node.specs.declared.peer.Peer.{Peer}

@@ -1,6 +1,6 @@
 use Rattle.std.proofs.Common.{ℕ, IsSome, sym, ap, ◌∙◌, subst}
 use Rattle.zre_msg.specs.declared.message.Body.TheVariants as body
-use Rattle.zre_journal.specs.Happens.{push}
+use Rattle.zre_journal.specs.Pushes.{push}
 use Rattle.zre_journal.specs.Peers.{life, life_of}
 use Rattle.zre_node.proofs.Commanding.{whispers}
 use Rattle.zre_node.proofs.Datagram.{known_link}
