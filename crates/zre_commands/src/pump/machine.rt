@@ -6,6 +6,7 @@ use zre_values::{Octets, OutOfMemory};
 /// Whether a machine wants more octets.
 #[derive(Clone, Copy, Debug, PartialEq, Eq)]
 pub enum Going {
+    /// More octets may be fed.
     On,
     /// The octets so far are refused, however they go on.
     Stop,

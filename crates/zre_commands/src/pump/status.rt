@@ -4,7 +4,7 @@ ghost use Rattle.zre_commands.specs.pump.Codes.{code_of};
 /// How a call of the program ended.
 #[derive(Clone, Copy, Debug, PartialEq, Eq)]
 pub enum Status {
-    /// The input was read to its end, and its text is written.
+    /// The input was read to its end, or a chat to a quit, and all of the text is written.
     Done,
     /// The words of the command line are no command. `USAGE` is written, and nothing is read.
     Usage,
