@@ -2,6 +2,7 @@
 
 ghost use Rattle.std.specs.Prelude.{◌≡◌, ◌≢◌, ℕ, List, Result, IfOk};
 ghost use Rattle.zre_msg.specs.declared.message.Bad.{Bad};
+ghost use Rattle.zre_msg.specs.declared.message.Body.TheVariants as bodies;
 ghost use Rattle.zre_msg.specs.Reading.{is_single as single_test, hello_at, join_at, leave_at, shout_at, body_at, Answers};
 ghost use Rattle.zre_msg.specs.Commands.{body_of, Says};
 ghost use Rattle.zre_msg.specs.Fields.{Gives};
@@ -97,36 +98,61 @@ pub fn read_command(number: u8, octets: &[u8]) -> Result<(Command<'_>, &[u8]), S
     }
 }
 
+fn whisper(alloc: Global, further: Further<'_>) -> Result<Body, OutOfMemory>
+    ensures { IfOk result (λ body. body ≡ bodies.Whisper (frames_of further.entry)) }
+{
+    let content = further.take(alloc)?;
+    Ok(Body::Whisper { content })
+}
+
+fn shout(alloc: Global, group: &[u8], further: Further<'_>) -> Result<Body, OutOfMemory>
+    ensures { IfOk result (λ body. body ≡ bodies.Shout group.now (frames_of further.entry)) }
+{
+    let content = further.take(alloc)?;
+    let group = Octets::copy(alloc, group)?;
+    Ok(Body::Shout { group, content })
+}
+
+fn join(alloc: Global, group: &[u8], status: u8) -> Result<Body, OutOfMemory>
+    ensures { IfOk result (λ body. body ≡ bodies.Join group.now status) }
+{
+    let group = Octets::copy(alloc, group)?;
+    Ok(Body::Join { group, status })
+}
+
+fn leave(alloc: Global, group: &[u8], status: u8) -> Result<Body, OutOfMemory>
+    ensures { IfOk result (λ body. body ≡ bodies.Leave group.now status) }
+{
+    let group = Octets::copy(alloc, group)?;
+    Ok(Body::Leave { group, status })
+}
+
+fn other(
+    alloc: Global,
+    number: u8,
+    rest: &[u8],
+    further: Further<'_>,
+) -> Result<Body, OutOfMemory>
+    ensures { IfOk result (λ body. body ≡ bodies.Other number rest.now (frames_of further.entry)) }
+{
+    let more = further.take(alloc)?;
+    let rest = Octets::copy(alloc, rest)?;
+    Ok(Body::Other { number, rest, more })
+}
+
 impl<'a> Command<'a> {
     // The body of the message. Its content is the frames after the first.
     fn body(self, alloc: Global, further: Further<'_>) -> Result<Body, OutOfMemory>
         ensures { IfOk result (λ body. body ≡ body_of self.entry (frames_of further.entry)) }
     {
         match self {
-            Command::Whisper => {
-                let content = further.take(alloc)?;
-                Ok(Body::Whisper { content })
-            }
-            Command::Shout { group } => {
-                let content = further.take(alloc)?;
-                let group = Octets::copy(alloc, group)?;
-                Ok(Body::Shout { group, content })
-            }
-            Command::Join { group, status } => {
-                let group = Octets::copy(alloc, group)?;
-                Ok(Body::Join { group, status })
-            }
-            Command::Leave { group, status } => {
-                let group = Octets::copy(alloc, group)?;
-                Ok(Body::Leave { group, status })
-            }
+            Command::Whisper => whisper(alloc, further),
+            Command::Shout { group } => shout(alloc, group, further),
+            Command::Join { group, status } => join(alloc, group, status),
+            Command::Leave { group, status } => leave(alloc, group, status),
             Command::Ping => Ok(Body::Ping),
             Command::PingOk => Ok(Body::PingOk),
-            Command::Other { number, rest } => {
-                let more = further.take(alloc)?;
-                let rest = Octets::copy(alloc, rest)?;
-                Ok(Body::Other { number, rest, more })
-            }
+            Command::Other { number, rest } => other(alloc, number, rest, further),
         }
     }
 
