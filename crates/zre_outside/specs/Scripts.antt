@@ -69,6 +69,20 @@ pub record Sees (f : Log → Log) (old new : Stage) : Type 0 where
   pub looked : new.looked ≡ old.looked
   pub told : log_of new ≡ f (log_of old)
 
+-- a look was answered
+pub record LooksOn (old new : Stage) : Type 0 where
+  pub left : left_on new ≡ left_on old
+  pub reading : new.reading ≡ old.reading
+  pub looked : new.looked ≡ true
+  pub told : log_of new ≡ after_turn None turn.Look (log_of old)
+
+-- End was given
+pub record Ends (old new : Stage) : Type 0 where
+  pub left : left_on new ≡ left_on old
+  pub reading : new.reading ≡ old.reading
+  pub looked : new.looked ≡ false
+  pub told : log_of new ≡ after_turn None (turn_of [] old.reading None) (log_of old)
+
 -- a turn was answered by the script
 pub record Plays (command : Option Command) (t : Turn) (old new : Stage) : Type 0 where
   pub is : t ≡ turn_of (left_on old) old.reading command

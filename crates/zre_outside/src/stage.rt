@@ -1,9 +1,10 @@
 //! A script as it is played.
 
-ghost use Rattle.std.specs.Prelude.{◌≡◌, false, None, Some, OnOk, OnErr, IfOk};
+ghost use Rattle.std.specs.Prelude.{◌≡◌, drop, false, [], None, Some, OnOk, OnErr, IfOk};
 ghost use Rattle.zre_outside.specs.declared.deed.Deed.{Deed as DeedValue};
 ghost use Rattle.zre_outside.specs.Worlds.{with_start, after_turn, with_deed};
-ghost use Rattle.zre_outside.specs.Scripts.{log_of, first_log, left_on, Plays, Sees, Stays, at_look};
+ghost use Rattle.zre_outside.specs.declared.turn.Turn.TheVariants as turns;
+ghost use Rattle.zre_outside.specs.Scripts.{log_of, first_log, left_on, turn_of, Ends, LooksOn, Plays, Sees, Stays, at_look};
 
 use crate::{Act, Command, Deed, Entry, Input, Script, Start, Turn};
 use std::alloc::Global;
@@ -72,24 +73,69 @@ impl Stage {
         }
     }
 
+    // Lists a command as handed in, and the entry to do it as given, or neither.
+    fn hand(&mut self, command: &Command) -> Result<(), OutOfMemory>
+        ensures ok { OnOk result (Sees (after_turn (Some command.now) (turn_of [] self.old.reading (Some command.now))) self.old self.new) }
+        ensures err { OnErr result (Stays self.old self.new) }
+    {
+        self.handed.reserve(1)?;
+        self.given.reserve(1)?;
+        let handed = command.copy(self.alloc)?;
+        let input = Input::Do(command.copy(self.alloc)?);
+        self.handed.push_reserved(handed);
+        self.given.push_reserved(Entry {
+            at: self.reading,
+            input,
+        });
+        Ok(())
+    }
+
+    // The first item that is left, if one is, is left no more.
+    fn skip(&mut self)
+        ensures same { self.new ≡ record self.old { left = self.new.left } }
+        ensures left { left_on self.new ≡ drop 1 (left_on self.old) }
+    {
+        self.left.pop_front();
+    }
+
     // A command is done in place of a look.
     fn answer(&mut self, command: Command) -> Result<Turn, OutOfMemory>
         ensures ok { IfOk result (λ t. Plays (Some command) t self.old self.new) }
         ensures err { OnErr result (Stays self.old self.new) }
     {
-        let handed = command.copy(self.alloc)?;
-        let kept = Entry {
-            at: self.reading,
-            input: Input::Do(command.copy(self.alloc)?),
-        };
-        self.handed.reserve(1)?;
-        self.given.push(kept)?;
-        self.handed.push_reserved(handed);
-        let _ = self.left.pop_front();
+        self.hand(&command)?;
+        self.skip();
         self.looked = false;
         Ok(Turn::Entry(Entry {
             at: self.reading,
             input: Input::Do(command),
+        }))
+    }
+
+    // A look is answered.
+    fn look(&mut self) -> Result<Turn, OutOfMemory>
+        ensures ok { IfOk result (λ t. (t ≡ turns.Look) × LooksOn self.old self.new) }
+        ensures err { OnErr result (Stays self.old self.new) }
+    {
+        self.looks = self.looks.checked_add(1).ok_or(OutOfMemory)?;
+        self.looked = true;
+        Ok(Turn::Look)
+    }
+
+    // End is given.
+    fn end(&mut self) -> Result<Turn, OutOfMemory>
+        ensures ok { IfOk result (λ t. (t ≡ turn_of [] self.old.reading None) × Ends self.old self.new) }
+        ensures err { OnErr result (Stays self.old self.new) }
+    {
+        let at = self.reading;
+        self.given.push(Entry {
+            at,
+            input: Input::End,
+        })?;
+        self.looked = false;
+        Ok(Turn::Entry(Entry {
+            at,
+            input: Input::End,
         }))
     }
 
@@ -99,31 +145,15 @@ impl Stage {
         ensures err { OnErr result (Stays self.old self.new) }
     {
         match self.left.front() {
-            Some(Turn::Look) => {
-                self.looks = self.looks.checked_add(1).ok_or(OutOfMemory)?;
-                self.looked = true;
-                Ok(Turn::Look)
-            }
+            Some(Turn::Look) => self.look(),
             Some(Turn::Entry(entry)) => {
-                let entry = entry.copy(self.alloc)?;
+                let at = entry.at;
                 self.given.push(entry.copy(self.alloc)?)?;
-                let _ = self.left.pop_front();
-                self.reading = entry.at;
+                self.reading = at;
                 self.looked = false;
-                Ok(Turn::Entry(entry))
+                Ok(self.left.pop_front().unwrap())
             }
-            None => {
-                let at = self.reading;
-                self.given.push(Entry {
-                    at,
-                    input: Input::End,
-                })?;
-                self.looked = false;
-                Ok(Turn::Entry(Entry {
-                    at,
-                    input: Input::End,
-                }))
-            }
+            None => self.end(),
         }
     }
 
