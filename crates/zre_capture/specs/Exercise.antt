@@ -33,9 +33,13 @@ beacon i = beacon_octets (identity i) 49152
 unfoldable pub hello : ℕ → List ℕ
 hello i = octets (record { sequence = 1; body = Hello (endpoint_text (record { addr = host i; port = 49152 })) [] 0 (codes "p" ++ decimal i) [] })
 
+-- its READY
+unfoldable pub readiness : ℕ → List ℕ
+readiness i = ready_frame socket.Dealer (Some (identity i))
+
 -- what comes first on its connection: the greeting, READY and HELLO
 unfoldable pub introduction : ℕ → List ℕ
-introduction i = own_greeting ++ ready_frame socket.Dealer (Some (identity i)) ++ hello i
+introduction i = own_greeting ++ readiness i ++ hello i
 
 -- its entries: its beacon is heard, it opens a connection, and introduces itself
 abbrev pub heard : ℕ → Entry

@@ -2,8 +2,10 @@
 
 ghost use Rattle.std.specs.Prelude.{◌≡◌, ◌++◌, codes, decimal, IfOk, OnOk};
 ghost use Rattle.zre_values.specs.Endpoint.{endpoint_text};
-ghost use Rattle.zre_capture.specs.Exercise.{identity, host, beacon, hello, introduction};
+ghost use Rattle.zre_msg.specs.Spelling.{Fits, octets};
+ghost use Rattle.zre_capture.specs.Exercise.{identity, host, beacon, hello, introduction, readiness};
 
+use crate::talk::push_message;
 use std::alloc::Global;
 use zre_beacon::Beacon;
 use zre_msg::{Body, Message};
@@ -58,21 +60,46 @@ fn endpoint(alloc: Global, peer: u8) -> Result<Octets, OutOfMemory>
     .write(alloc)
 }
 
+// Its HELLO.
 #[tactic(auto, unfolding(crate::specs::Exercise::hello))]
-fn push_hello(alloc: Global, out: &mut Octets, peer: u8) -> Result<(), OutOfMemory>
-    ensures { OnOk result (out.new ≡ out.old ++ hello peer) }
+fn hello(alloc: Global, peer: u8) -> Result<Message, OutOfMemory>
+    ensures says { IfOk result (λ message. octets message ≡ hello peer) }
+    ensures fits { IfOk result (λ message. Fits message) }
 {
-    let hello = Message {
+    let endpoint = endpoint(alloc, peer)?;
+    let name = name(alloc, peer)?;
+    Ok(Message {
         sequence: 1,
         body: Body::Hello {
-            endpoint: endpoint(alloc, peer)?,
+            endpoint,
             groups: Frames::new(alloc),
             status: 0,
-            name: name(alloc, peer)?,
+            name,
             headers: Pairs::new(alloc),
         },
-    };
-    hello.push_to(out)
+    })
+}
+
+// Its READY.
+fn readiness(alloc: Global, peer: u8) -> Result<Octets, OutOfMemory>
+    ensures { IfOk result (λ octets. octets ≡ readiness peer) }
+{
+    ready(alloc, SocketType::Dealer, Some(identity(peer)))
+}
+
+fn push_ready(alloc: Global, out: &mut Octets, peer: u8) -> Result<(), OutOfMemory>
+    ensures { OnOk result (out.new ≡ out.old ++ readiness peer) }
+{
+    let ready = readiness(alloc, peer)?;
+    out.append(ready.as_slice())
+}
+
+// What comes after its greeting.
+fn push_rest(alloc: Global, out: &mut Octets, peer: u8) -> Result<(), OutOfMemory>
+    ensures { OnOk result (out.new ≡ out.old ++ readiness peer ++ hello peer) }
+{
+    push_ready(alloc, out, peer)?;
+    push_message(out, hello(alloc, peer)?)
 }
 
 /// What comes first on the connection of a peer.
@@ -81,8 +108,6 @@ pub(crate) fn introduction(alloc: Global, peer: u8) -> Result<Octets, OutOfMemor
     ensures { IfOk result (λ octets. octets ≡ introduction peer) }
 {
     let mut octets = Octets::copy(alloc, &greeting())?;
-    let ready = ready(alloc, SocketType::Dealer, Some(identity(peer)))?;
-    octets.append(ready.as_slice())?;
-    push_hello(alloc, &mut octets, peer)?;
+    push_rest(alloc, &mut octets, peer)?;
     Ok(octets)
 }

@@ -1,7 +1,7 @@
 //! The messages of the peers of the exercise.
 
-ghost use Rattle.std.specs.Prelude.{suc, ◌≡◌, ◌≤◌, ◌+◌, ◌%◌, IfOk, OnOk, codes};
-ghost use Rattle.zre_msg.specs.Spelling.{FitsBody};
+ghost use Rattle.std.specs.Prelude.{suc, ◌≡◌, ◌≤◌, ◌+◌, ◌++◌, ◌%◌, IfOk, OnOk, codes};
+ghost use Rattle.zre_msg.specs.Spelling.{Fits, FitsBody, octets};
 ghost use Rattle.zre_capture.specs.Draws.{after_draws, octets_drawn};
 ghost use Rattle.zre_capture.specs.Exercise.{changes, status, content, body, after_content, after, spelling, cut, first_piece, second_piece};
 
@@ -86,6 +86,14 @@ fn body(alloc: Global, k: u32, x: u64) -> Result<(Body, u64), OutOfMemory>
     Ok((Body::Shout { group, content }, x))
 }
 
+/// Appends the octets of a message.
+pub(crate) fn push_message(out: &mut Octets, message: Message) -> Result<(), OutOfMemory>
+    requires { Fits message }
+    ensures { OnOk result (out.new ≡ out.old ++ octets message) }
+{
+    message.push_to(out)
+}
+
 // Its octets in place of what stands there, and where the draws stand after its content.
 #[tactic(auto, unfolding(crate::specs::Exercise::spelling))]
 fn spell(alloc: Global, out: &mut Octets, k: u32, x: u64) -> Result<u64, OutOfMemory>
@@ -94,11 +102,8 @@ fn spell(alloc: Global, out: &mut Octets, k: u32, x: u64) -> Result<u64, OutOfMe
 {
     out.clear();
     let (body, x) = body(alloc, k, x)?;
-    let message = Message {
-        sequence: ((k as u64 + 2) % 65536) as u16,
-        body,
-    };
-    message.push_to(out)?;
+    let sequence = ((k as u64 + 2) % 65536) as u16;
+    push_message(out, Message { sequence, body })?;
     Ok(x)
 }
 
