@@ -6,7 +6,7 @@ use Rattle.zre_outside.specs.declared.entry.Input.{Input}
 use Rattle.zre_outside.specs.declared.entry.Input.TheVariants as input
 use Rattle.zre_journal.specs.declared.config.Config.{Config}
 use Rattle.zre_journal.specs.Chronicle.{Mark, Comes, after}
-use Rattle.zre_journal.specs.Heard.{completed}
+use Rattle.zre_journal.specs.Heard.{newly_completed}
 use Rattle.zre_journal.specs.Happens.{has_stopped, at_input, marks, with_entry, chronicle_after}
 use Rattle.zre_journal.specs.Events.{chronicle}
 use Rattle.zre_journal.specs.Proper.{IsProper}
@@ -41,7 +41,7 @@ module _ (g : Config) where
   pub input_allowed : (i : Input) (H K : List Mark) → IsProper K → Allowed (at_input g i H K) K
   input_allowed (input.Datagram from o) H K p = datagram_allowed g K p from (beacon_in o)
   input_allowed (input.Opened c) H K p = opened_allowed g K p c
-  input_allowed (input.Piece c o) H K p = places_allowed g c (completed g.id c H K) K p
+  input_allowed (input.Piece c o) H K p = places_allowed g c (newly_completed g.id c H K) K p
   input_allowed (input.Shut c) H K p = shut_allowed g K p c
   input_allowed (input.Linked l) H K p = linked_allowed g K p l
   input_allowed (input.Reply l o) H K p = reply_allowed g K p l

@@ -15,7 +15,7 @@ use Rattle.zre_peer.specs.declared.causes.CloseWhy.TheVariants as close
 use Rattle.zre_link.specs.Heard.{reply_fault}
 use Rattle.zre_journal.specs.declared.config.Config.{Config}
 use Rattle.zre_journal.specs.Chronicle.{Mark, Comes, Opens, Starts, Closes, IsShut, ClosesAtStop, Born, Ends, Stops, after, ever, newer}
-use Rattle.zre_journal.specs.Heard.{opens, bytes, completed}
+use Rattle.zre_journal.specs.Heard.{opens, bytes, newly_completed}
 use Rattle.zre_journal.specs.Connections.{open_ones, is_open, started, start_at, runs, refuses, was_used, is_ignored, is_live, others}
 use Rattle.zre_journal.specs.Peers.{Life, lives, life, births, other_lives}
 use Rattle.zre_journal.specs.Links.{is_linked, replies}
@@ -223,21 +223,21 @@ module _ (g : Config) where
   dead_places c K e (x ∷ xs) = rw e (dead_places c K e xs)
 
   piece_ends : (c : ℕ) (H K : List Mark) (more : List ℕ) → bytes c K ≡ bytes c H ++ more → (is_live c K ≡ true → fault_in g.id (bytes c H) ≡ None)
-      → is_live c (after (at_places g c (completed g.id c H K) K) K) ≡ true → fault_in g.id (bytes c K) ≡ None
+      → is_live c (after (at_places g c (newly_completed g.id c H K) K) K) ≡ true → fault_in g.id (bytes c K) ≡ None
   piece_ends c H K more e was v = by (fault_in g.id (bytes c K)) refl
     where
       live : (b : Bool) → is_live c K ≡ b → is_live c K ≡ true
       live true z = z
-      live false z = let y : true ≡ false = sym v ∙ ap (λ hs. is_live c (after hs K)) (dead_places c K z (completed g.id c H K)) ∙ z in cc
+      live false z = let y : true ≡ false = sym v ∙ ap (λ hs. is_live c (after hs K)) (dead_places c K z (newly_completed g.id c H K)) ∙ z in cc
 
       by : (o : Option ZmtpFault) → fault_in g.id (bytes c K) ≡ o → o ≡ None
       by None z = refl
       by (Some f) z =
           let none = was (live (is_live c K) refl) in
-          let said : completed g.id c H K ≡ completed g.id (bytes c H) more = ap (λ o. drop (length (talk g.id (bytes c H))) (talk g.id o)) e in
+          let said : newly_completed g.id c H K ≡ completed g.id (bytes c H) more = ap (λ o. drop (length (talk g.id (bytes c H))) (talk g.id o)) e in
           let xs = map (λ a. Arrived a) (new_arrivals g.id (bytes c H) more) in
           let last : fault_said (fault_in g.id (bytes c H ++ more)) ≡ Fault f ∷ [] = ap fault_said (ap (fault_in g.id) (sym e) ∙ z) in
-          let all : completed g.id c H K ≡ xs ++ Fault f ∷ [] = said ∙ (goes g.id (bytes c H) more).faultless none ∙ ap (λ ys. xs ++ ys) last in
+          let all : newly_completed g.id c H K ≡ xs ++ Fault f ∷ [] = said ∙ (goes g.id (bytes c H) more).faultless none ∙ ap (λ ys. xs ++ ys) last in
           let y : true ≡ false = sym v ∙ ap (λ ss. is_live c (after (at_places g c ss K) K)) all ∙ fault_ends c f xs K in
           cc
 
@@ -245,7 +245,7 @@ module _ (g : Config) where
       → is_live c (after (at_input g i H K) K) ≡ true → fault_in g.id (bytes c K) ≡ None
   conn_ends (input.Piece d o) c H K more n e was v =
       let same : c ≡ d = eqb-true c d n in
-      piece_ends c H K more e was (subst (λ x. is_live c (after (at_places g x (completed g.id x H K) K) K) ≡ true) (sym same) v)
+      piece_ends c H K more e was (subst (λ x. is_live c (after (at_places g x (newly_completed g.id x H K) K) K) ≡ true) (sym same) v)
   conn_ends _ c H K more n e was v = absurd cc
 
   -- ---- replies with a fault end the peer

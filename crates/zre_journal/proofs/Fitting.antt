@@ -31,7 +31,7 @@ use Rattle.zre_journal.specs.Endings.{is_end}
 use Rattle.zre_journal.specs.declared.config.Config.{Config}
 use Rattle.zre_journal.specs.Chronicle.{Mark, Opens, TurnsAway, Shakes, Starts, Counts, Ignores, Closes, IsShut, HearsBeacon, Ends, IsEvasive, Puts, Links, Sends, Joins, Leaves, Refuses, SendsBeacon, after, ever, followed}
 use Rattle.zre_journal.specs.Config.{CanBe}
-use Rattle.zre_journal.specs.Heard.{completed}
+use Rattle.zre_journal.specs.Heard.{newly_completed}
 use Rattle.zre_journal.specs.Connections.{open_ones, is_open, is_new, identity, started, runs, refuses, was_used, is_ignored, is_live, other_with}
 use Rattle.zre_journal.specs.Peers.{Life, lives, life, life_of, is_entered, births, counted}
 use Rattle.zre_journal.specs.Links.{groups, status, put_on, bodies, taken, unsent, is_linked, replies}
@@ -314,7 +314,7 @@ module _ (g : Config) where
   pub input-fits : CanBe g → (i : Input) (H K : List Mark) → is_end i ≡ false → IsProper K → HasRoom g K → AllFit g (at_input g i H K) K
   input-fits can (input.Datagram from o) H K z q r = datagram_fits can K q r from (beacon_in o)
   input-fits can (input.Opened c) H K z q r = opened_fits can K q r c
-  input-fits can (input.Piece c o) H K z q r = places_fit can c (completed g.id c H K) K q r (newly-short g.id c H K)
+  input-fits can (input.Piece c o) H K z q r = places_fit can c (newly_completed g.id c H K) K q r (newly-short g.id c H K)
   input-fits can (input.Shut c) H K z q r = shut_fits can K q r c
   input-fits can (input.Linked l) H K z q r = linked_fits can K q r l (life l K)
   input-fits can (input.Reply l o) H K z q r = reply_fits can K q r l (life l K)

@@ -18,7 +18,7 @@ use Rattle.zre_mailbox.specs.declared.arrival.Arrival.{Arrival}
 use Rattle.zre_mailbox.specs.declared.arrival.Arrival.TheVariants as arrival
 use Rattle.zre_mailbox.specs.Talk.{Said, Arrived, Fault, peer_of, arrival_of, arrivals_in, arrivals, fault_in, fault_said, talk}
 use Rattle.zre_journal.specs.Chronicle.{Mark}
-use Rattle.zre_journal.specs.Heard.{bytes, completed}
+use Rattle.zre_journal.specs.Heard.{bytes, newly_completed}
 use Rattle.zre_journal.proofs.Fields.{hello_octets, frames-short}
 use Rattle.zre_journal.proofs.Listed.{All-join, All-drop}
 use Rattle.zre_journal.proofs.Streams.{IsWithin, AreWithin, items-within}
@@ -68,5 +68,5 @@ talk_short own o =
     All-join IsShortSaid (map (λ a. Arrived a) (arrivals own o)) (fault_said (fault_in own o))
     (said_short (arrivals own o) (arrivals_short (items (Dealer own) Whole o) (items-within (Dealer own) Whole o))) (fault_short (fault_in own o))
 
-pub newly-short : (own : PeerId) (c : ℕ) (H K : List Mark) → AllByRecursion IsShortSaid (completed own c H K)
+pub newly-short : (own : PeerId) (c : ℕ) (H K : List Mark) → AllByRecursion IsShortSaid (newly_completed own c H K)
 newly-short own c H K = All-drop IsShortSaid (length (talk own (bytes c H))) (talk own (bytes c K)) (talk_short own (bytes c K))

@@ -10,7 +10,7 @@ use Rattle.zre_beacon.specs.Beacon.{beacon_in}
 use Rattle.zre_peer.specs.declared.causes.Cause.TheVariants as cause
 use Rattle.zre_journal.specs.declared.config.Config.{Config}
 use Rattle.zre_journal.specs.Chronicle.{Mark, Comes, HearsBeacon, Ends, Stops, after, ever}
-use Rattle.zre_journal.specs.Heard.{completed}
+use Rattle.zre_journal.specs.Heard.{newly_completed}
 use Rattle.zre_journal.specs.Peers.{Life, lives, life_of, life}
 use Rattle.zre_journal.specs.Pushes.{birth}
 use Rattle.zre_journal.specs.Arrivals.{at_opened, at_shut, at_places}
@@ -44,7 +44,7 @@ module _ (g : Config) where
   abbrev pub at_input : Input → List Mark → List Mark → List Mark
   at_input (input.Datagram from o) H K = at_datagram from (beacon_in o) K
   at_input (input.Opened c) H K = at_opened g c K
-  at_input (input.Piece c o) H K = at_places g c (completed g.id c H K) K
+  at_input (input.Piece c o) H K = at_places g c (newly_completed g.id c H K) K
   at_input (input.Shut c) H K = at_shut g c K
   at_input (input.Linked l) H K = at_linked g l (life l K) K
   at_input (input.Reply l o) H K = at_reply g l (life l K) K

@@ -31,5 +31,5 @@ bytes c (Comes e ∷ H) = bytes c H ++ (if was_opened c H then piece_of c e.inpu
 bytes c (_ ∷ H) = bytes c H
 
 -- what is newly said on c with the entry that came last: H is the chronicle before it, K with it
-abbrev pub completed : PeerId → ℕ → List Mark → List Mark → List Said
-completed own c H K = drop (length (talk own (bytes c H))) (talk own (bytes c K))
+abbrev pub newly_completed : PeerId → ℕ → List Mark → List Mark → List Said
+newly_completed own c H K = drop (length (talk own (bytes c H))) (talk own (bytes c K))

@@ -3,7 +3,7 @@
 use zre_zmtp::{FeedFault, Reader};
 
 /// What is done with the octets of replies.
-#[derive(Debug, Drop)]
+#[derive(Drop)]
 pub enum Hearing {
     /// They are read.
     Reads(Reader),

@@ -27,7 +27,7 @@ use zre_zmtp::{FeedFault, SocketType, greeting, ready};
 /// The connection of a node to the mailbox of a peer. The node speaks as a DEALER with the identity 01 and its UUID:
 /// its greeting, READY, and then the messages that are put, numbered from 1. The octets wait here until the socket takes
 /// them, each kind once the other end has come far enough.
-#[derive(Debug, Drop)]
+#[derive(Drop)]
 pub struct Link {
     alloc: Global,
     queue: Queue,

@@ -9,7 +9,7 @@ use zre_values::{Octets, OutOfMemory};
 /// Octets in one buffer, appended at its end and removed at its front. Octets that were removed stay before `start`
 /// until they are as many as those that wait; so the buffer has at most twice as many as wait, and each octet is moved
 /// at most once for each that is removed.
-#[derive(Debug, Drop)]
+#[derive(Drop)]
 pub struct Queue {
     alloc: Global,
     octets: Octets,

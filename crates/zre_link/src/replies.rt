@@ -15,7 +15,7 @@ use std::mem;
 use zre_zmtp::{FeedFault, Items, Reader, Want};
 
 /// The replies on a link, read as the stream of a ROUTER. Their messages and commands are dropped.
-#[derive(Debug, Drop)]
+#[derive(Drop)]
 pub struct Replies {
     alloc: Global,
     awaits: Awaits,

@@ -19,7 +19,7 @@ use zre_zmtp::{FeedFault, Items, Reader, Want};
 
 /// A connection that another node opened, read as a ROUTER: its other end has to be a DEALER whose identity is 01 and the
 /// UUID of another node.
-#[derive(Debug, Drop)]
+#[derive(Drop)]
 pub struct Conn {
     alloc: Global,
     phase: Phase,

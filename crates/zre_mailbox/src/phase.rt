@@ -3,7 +3,7 @@
 use zre_zmtp::Reader;
 
 /// What a connection does with octets.
-#[derive(Debug, Drop)]
+#[derive(Drop)]
 pub enum Phase {
     /// They are read.
     Live(Reader),

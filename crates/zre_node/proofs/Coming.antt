@@ -11,7 +11,7 @@ use Rattle.zre_mailbox.specs.Talk.{talk, completed}
 use Rattle.zre_link.specs.Link.{link_after}
 use Rattle.zre_journal.specs.declared.config.Config.{Config}
 use Rattle.zre_journal.specs.Chronicle.{Mark, Comes}
-use Rattle.zre_journal.specs.Heard.{bytes, piece_of, was_opened, completed}
+use Rattle.zre_journal.specs.Heard.{bytes, piece_of, was_opened, newly_completed}
 use Rattle.zre_journal.specs.Connections.{open_ones, is_open, is_live, is_ignored, since, identity, runs}
 use Rattle.zre_journal.specs.Peers.{Life, lives}
 use Rattle.zre_journal.specs.Links.{bodies, is_linked, replies, reply_of, taken}
@@ -106,8 +106,8 @@ module _ (g : Config) (H : List Mark) (t : Tables) (h : Holds g H t) (e : Entry)
   not_heard shut = comes g H t h e t.conns no_reply
       (retold_of (λ (d : ℕ). d) (λ d. eqb c d ≡ false) (IsConn g H) (IsConn g (Comes e ∷ H)) (λ d k far q. q ∙ another d far) (open_ones H) t.conns.entries (none_is c (open_ones H) shut) h.keeps.conns)
 
-  pub silent : (heard : Heard) → is_live c H ≡ false → at_places g c (said_in heard) (Comes e ∷ H) ≡ at_places g c (completed g.id c H (Comes e ∷ H)) (Comes e ∷ H)
-  silent heard dead = dead_places g c (Comes e ∷ H) dead (said_in heard) ∙ sym (dead_places g c (Comes e ∷ H) dead (completed g.id c H (Comes e ∷ H)))
+  pub silent : (heard : Heard) → is_live c H ≡ false → at_places g c (said_in heard) (Comes e ∷ H) ≡ at_places g c (newly_completed g.id c H (Comes e ∷ H)) (Comes e ∷ H)
+  silent heard dead = dead_places g c (Comes e ∷ H) dead (said_in heard) ∙ sym (dead_places g c (Comes e ∷ H) dead (newly_completed g.id c H (Comes e ∷ H)))
 
   -- it is open, and its row is this one now
   with_row : is_open c H ≡ true → (x : Connection) → x ≡ kept_conn g (Comes e ∷ H) c → (C : BTreeMap ℕ Connection) → C.entries ≡ set_value (is_at (nat_cmp c)) t.conns.entries x → Holds g (Comes e ∷ H) (record t { clock = max e.at t.clock; conns = C })
@@ -121,16 +121,16 @@ module _ (g : Config) (H : List Mark) (t : Tables) (h : Holds g H t) (e : Entry)
       let w : was_opened c H ≡ true = any_has (λ d. was_opened d H ≡ true) c (open_ones H) h.keeps.proper.opening.were_opened there in
       let me : eqb c c ≡ true = eq-eqb c c refl in rw (w, is, me) refl
 
-  said_is : is_open c H ≡ true → completed g.id (bytes c H) o ≡ completed g.id c H (Comes e ∷ H)
+  said_is : is_open c H ≡ true → completed g.id (bytes c H) o ≡ newly_completed g.id c H (Comes e ∷ H)
   said_is there = ap (λ (all : List ℕ). drop (length (talk g.id (bytes c H))) (talk g.id all)) (sym (grown there))
 
   -- what was heard of it
   pub heard_it : is_open c H ≡ true → (x x' : Connection) (heard : Heard) → x ≡ kept_conn g H c → (C : BTreeMap ℕ Connection) → C.entries ≡ set_value (is_at (nat_cmp c)) t.conns.entries x'
       → ((q : List ℕ) → x.conn ≡ Some (conn_after g.id q) → (x' ≡ record x { conn = Some (conn_after g.id (q ++ o)) }) × (said_in heard ≡ completed g.id q o)) → (x.conn ≡ None → x' ≡ x)
-      → Holds g (Comes e ∷ H) (record t { clock = max e.at t.clock; conns = C }) × (at_places g c (said_in heard) (Comes e ∷ H) ≡ at_places g c (completed g.id c H (Comes e ∷ H)) (Comes e ∷ H))
+      → Holds g (Comes e ∷ H) (record t { clock = max e.at t.clock; conns = C }) × (at_places g c (said_in heard) (Comes e ∷ H) ≡ at_places g c (newly_completed g.id c H (Comes e ∷ H)) (Comes e ∷ H))
   heard_it there x x' heard row C put live dead = by (is_ignored c H) refl
     where
-      by : (b : Bool) → is_ignored c H ≡ b → Holds g (Comes e ∷ H) (record t { clock = max e.at t.clock; conns = C }) × (at_places g c (said_in heard) (Comes e ∷ H) ≡ at_places g c (completed g.id c H (Comes e ∷ H)) (Comes e ∷ H))
+      by : (b : Bool) → is_ignored c H ≡ b → Holds g (Comes e ∷ H) (record t { clock = max e.at t.clock; conns = C }) × (at_places g c (said_in heard) (Comes e ∷ H) ≡ at_places g c (newly_completed g.id c H (Comes e ∷ H)) (Comes e ∷ H))
       by true q =
           let deaf : x.conn ≡ None = ap (λ (y : Connection). y.conn) row ∙ rw q refl in
           let same : x' ≡ kept_conn g (Comes e ∷ H) c = dead deaf ∙ row ∙ rw q refl in

@@ -14,7 +14,7 @@ use Rattle.zre_journal.specs.Events.{events_at}
 use Rattle.zre_journal.specs.Happens.{at_input, marks, with_entry, has_stopped}
 use Rattle.zre_journal.specs.Arrivals.{at_places}
 use Rattle.zre_journal.specs.Commands.{at_stop}
-use Rattle.zre_journal.specs.Heard.{completed}
+use Rattle.zre_journal.specs.Heard.{newly_completed}
 use Rattle.zre_journal.specs.Links.{gate, taken}
 use Rattle.zre_journal.specs.Peers.{Life, lives}
 use Rattle.zre_journal.specs.Told.{told}
@@ -127,7 +127,7 @@ ending g i H K e = (at_end g i H K e, quiet_end i e)
 pub unnamed_piece : (e : Entry) (c : ℕ) (o : List ℕ) → e.input ≡ input.Piece c o → (l : ℕ) → names l e.input ≡ false
 unnamed_piece e c o is l = rw is refl
 
-pub piece_marks : (g : Config) (e : Entry) (H : List Mark) (c : ℕ) (o : List ℕ) → e.input ≡ input.Piece c o → at_input g e.input H (Comes e ∷ H) ≡ at_places g c (completed g.id c H (Comes e ∷ H)) (Comes e ∷ H)
+pub piece_marks : (g : Config) (e : Entry) (H : List Mark) (c : ℕ) (o : List ℕ) → e.input ≡ input.Piece c o → at_input g e.input H (Comes e ∷ H) ≡ at_places g c (newly_completed g.id c H (Comes e ∷ H)) (Comes e ∷ H)
 piece_marks g e H c o is = ap (λ i. at_input g i H (Comes e ∷ H)) is
 
 pub other_input : {C : Type 0} (i : Input) → ((from o : List ℕ) → i ≡ input.Datagram from o → ⊥) → ((c : ℕ) → i ≡ input.Opened c → ⊥) → ((c : ℕ) → i ≡ input.Shut c → ⊥) → is_incoming i ≡ true → C

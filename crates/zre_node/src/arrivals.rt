@@ -6,7 +6,7 @@ ghost use Rattle.zre_outside.specs.declared.entry.Entry.{Entry as EntryValue};
 ghost use Rattle.zre_outside.specs.declared.entry.Input.TheVariants as input;
 ghost use Rattle.zre_journal.specs.declared.config.Config.{Config};
 ghost use Rattle.zre_journal.specs.Chronicle.{Mark, Comes, Shakes, Greets, in_turn};
-ghost use Rattle.zre_journal.specs.Heard.{completed};
+ghost use Rattle.zre_journal.specs.Heard.{newly_completed};
 ghost use Rattle.zre_journal.specs.Connections.{is_live, is_open, identity, runs, other_with as other_in};
 ghost use Rattle.zre_journal.specs.Arrivals.{at_place, at_places, at_arrival, at_shaken, taken_over};
 ghost use Rattle.zre_node.specs.Stands.{Holds, Did, IsOpenIfAny};

@@ -8,7 +8,7 @@ ghost use Rattle.zre_outside.specs.declared.entry.Entry.{Entry};
 ghost use Rattle.zre_outside.specs.declared.entry.Input.TheVariants as input;
 ghost use Rattle.zre_journal.specs.declared.config.Config.{Config};
 ghost use Rattle.zre_journal.specs.Chronicle.{Mark, Comes};
-ghost use Rattle.zre_journal.specs.Heard.{completed};
+ghost use Rattle.zre_journal.specs.Heard.{newly_completed};
 ghost use Rattle.zre_journal.specs.Arrivals.{at_places};
 ghost use Rattle.zre_node.specs.Said.{said_in};
 ghost use Rattle.zre_node.specs.Stands.{Holds, is_quiet};
@@ -84,7 +84,7 @@ impl Tables {
     pub fn come_piece(&mut self, at: u64, conn: u64, bytes: &[u8]) -> Result<Heard, OutOfMemory>
         ensures { (g : Config) (H : List Mark) (e : Entry) → e.at ≡ at → e.input ≡ input.Piece conn bytes.now → Holds g H self.old →
             IfOk result (λ heard. Holds g (Comes e ∷ H) self.new
-            × (at_places g conn (said_in heard) (Comes e ∷ H) ≡ at_places g conn (completed g.id conn H (Comes e ∷ H)) (Comes e ∷ H))) }
+            × (at_places g conn (said_in heard) (Comes e ∷ H) ≡ at_places g conn (newly_completed g.id conn H (Comes e ∷ H)) (Comes e ∷ H))) }
     {
         self.clock = at.max(self.clock);
         match self.conns.get_mut(&conn) {

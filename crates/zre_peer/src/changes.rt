@@ -10,7 +10,7 @@ use crate::peer_run::RunFault;
 use crate::view::View;
 use std::alloc::Global;
 use zre_msg::Body;
-use zre_values::{Octets, PeerId};
+use zre_values::{Frames, Octets, PeerId};
 
 // Whether the view stays within the limits with one more group.
 pub(crate) fn can_join(view: &View, group: &[u8]) -> bool
@@ -43,52 +43,64 @@ pub(crate) fn leave(view: &mut View, group: &[u8], status: u8)
     view.status = status;
 }
 
+// A group that a peer joins or leaves, with the name of the peer.
+fn named(alloc: Global, view: &View, group: &[u8]) -> Result<(Octets, Octets), RunFault>
+    ensures ok { IfOk result (λ named. (named.0 ≡ view.now.name) × (named.1 ≡ group.now)) }
+    ensures refused { IfErr result (λ e. e ≡ RunFault.OutOfMemory) }
+{
+    let name = name_of(alloc, view)?;
+    let group = Octets::copy(alloc, group)?;
+    Ok((name, group))
+}
+
 fn joined(
     alloc: Global,
     id: PeerId,
     view: &mut View,
-    group: Octets,
+    group: &[u8],
     status: u8,
     events: &mut Events,
 ) -> Result<(), RunFault>
     requires { is_small view.old ≡ true }
-    ensures ok { OnOk result ((is_small (after view.old (bodies.Join group status)) ≡ true)
-        × (view.new ≡ after view.old (bodies.Join group status)) × (events.new ≡ events.old ++ events_of id view.old (bodies.Join group status))) }
+    ensures ok { OnOk result ((is_small (after view.old (bodies.Join group.now status)) ≡ true)
+        × (view.new ≡ after view.old (bodies.Join group.now status)) × (events.new ≡ events.old ++ events_of id view.old (bodies.Join group.now status))) }
     ensures kept { OnErr result (view.new ≡ view.old) }
     ensures refused { IfErr result (λ e. e ≢ RunFault.OutOfMemory →
-        (is_small (after view.old (bodies.Join group status)) ≡ false) × (e ≡ RunFault.Limit) × (events.new ≡ events.old)) }
+        (is_small (after view.old (bodies.Join group.now status)) ≡ false) × (e ≡ RunFault.Limit) × (events.new ≡ events.old)) }
 {
-    if !can_join(view, group.as_slice()) {
+    if !can_join(view, group) {
         return Err(RunFault::Limit);
     }
+    let (name, told) = named(alloc, view, group)?;
     events.push(Event::Join {
         id,
-        name: Octets::copy(alloc, view.name.as_slice())?,
-        group: Octets::copy(alloc, group.as_slice())?,
+        name,
+        group: told,
     })?;
-    join(alloc, view, group.as_slice(), status)
+    join(alloc, view, group, status)
 }
 
 fn left(
     alloc: Global,
     id: PeerId,
     view: &mut View,
-    group: Octets,
+    group: &[u8],
     status: u8,
     events: &mut Events,
 ) -> Result<(), RunFault>
     requires { is_small view.old ≡ true }
-    ensures ok { OnOk result ((is_small (after view.old (bodies.Leave group status)) ≡ true)
-        × (view.new ≡ after view.old (bodies.Leave group status)) × (events.new ≡ events.old ++ events_of id view.old (bodies.Leave group status))) }
+    ensures ok { OnOk result ((is_small (after view.old (bodies.Leave group.now status)) ≡ true)
+        × (view.new ≡ after view.old (bodies.Leave group.now status)) × (events.new ≡ events.old ++ events_of id view.old (bodies.Leave group.now status))) }
     ensures kept { OnErr result (view.new ≡ view.old) }
     ensures refused { IfErr result (λ e. e ≡ RunFault.OutOfMemory) }
 {
+    let (name, told) = named(alloc, view, group)?;
     events.push(Event::Leave {
         id,
-        name: Octets::copy(alloc, view.name.as_slice())?,
-        group: Octets::copy(alloc, group.as_slice())?,
+        name,
+        group: told,
     })?;
-    leave(view, group.as_slice(), status);
+    leave(view, group, status);
     Ok(())
 }
 
@@ -97,6 +109,40 @@ fn name_of(alloc: Global, view: &View) -> Result<Octets, RunFault>
     ensures refused { IfErr result (λ e. e ≡ RunFault.OutOfMemory) }
 {
     Ok(Octets::copy(alloc, view.name.as_slice())?)
+}
+
+fn whispered(
+    alloc: Global,
+    id: PeerId,
+    view: &View,
+    content: Frames,
+    events: &mut Events,
+) -> Result<(), RunFault>
+    ensures ok { OnOk result (events.new ≡ events.old ++ events_of id view.now (bodies.Whisper content)) }
+    ensures refused { IfErr result (λ e. e ≡ RunFault.OutOfMemory) }
+{
+    let name = name_of(alloc, view)?;
+    Ok(events.push(Event::Whisper { id, name, content })?)
+}
+
+fn shouted(
+    alloc: Global,
+    id: PeerId,
+    view: &View,
+    group: Octets,
+    content: Frames,
+    events: &mut Events,
+) -> Result<(), RunFault>
+    ensures ok { OnOk result (events.new ≡ events.old ++ events_of id view.now (bodies.Shout group content)) }
+    ensures refused { IfErr result (λ e. e ≡ RunFault.OutOfMemory) }
+{
+    let name = name_of(alloc, view)?;
+    Ok(events.push(Event::Shout {
+        id,
+        name,
+        group,
+        content,
+    })?)
 }
 
 /// Takes a message that is no HELLO: changes the view, and appends the events. After an error the view is as it was.
@@ -116,21 +162,10 @@ pub(crate) fn change(
         (is_small (after view.old body) ≡ false) × (e ≡ RunFault.Limit) × (events.new ≡ events.old)) }
 {
     match body {
-        Body::Join { group, status } => joined(alloc, id, view, group, status, events),
-        Body::Leave { group, status } => left(alloc, id, view, group, status, events),
-        Body::Whisper { content } => {
-            let name = name_of(alloc, view)?;
-            Ok(events.push(Event::Whisper { id, name, content })?)
-        }
-        Body::Shout { group, content } => {
-            let name = name_of(alloc, view)?;
-            Ok(events.push(Event::Shout {
-                id,
-                name,
-                group,
-                content,
-            })?)
-        }
+        Body::Join { group, status } => joined(alloc, id, view, group.as_slice(), status, events),
+        Body::Leave { group, status } => left(alloc, id, view, group.as_slice(), status, events),
+        Body::Whisper { content } => whispered(alloc, id, view, content, events),
+        Body::Shout { group, content } => shouted(alloc, id, view, group, content, events),
         Body::Ping | Body::PingOk => Ok(()),
         Body::Other { .. } => Ok(()),
         Body::Hello { .. } => Ok(()),

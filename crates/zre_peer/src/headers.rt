@@ -74,8 +74,7 @@ impl Headers {
         let mut pairs = Pairs::new(alloc);
         for i in 0..self.len() {
             let (name, value) = self.get(i);
-            let name = Octets::copy(alloc, name)?;
-            pairs.push(name, Octets::copy(alloc, value)?)?;
+            pairs.push_copy(alloc, name, value)?;
         }
         Ok(pairs)
     }

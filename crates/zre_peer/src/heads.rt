@@ -9,7 +9,7 @@ use std::alloc::Global;
 use zre_values::{Octets, OutOfMemory, PeerId};
 
 /// The words of events with who the peer is after each, ready for the lines that begin with them.
-#[derive(Debug, Drop)]
+#[derive(Drop)]
 pub struct Heads {
     /// Of JOIN.
     pub join: Octets,

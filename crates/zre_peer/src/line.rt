@@ -9,7 +9,7 @@ use crate::causes::{Cause, CloseWhy, IgnoreWhy, RefuseWhy};
 use crate::event::Event;
 use std::alloc::Global;
 use zre_values::{
-    Octets, OutOfMemory, Pairs, PeerId, push_decimal, push_quoted, push_quoted_list,
+    Frames, Octets, OutOfMemory, Pairs, PeerId, push_decimal, push_quoted, push_quoted_list,
     push_quoted_pairs,
 };
 
@@ -69,6 +69,58 @@ fn push_enter_end(out: &mut Octets, endpoint: &Octets, headers: &Pairs) -> Resul
     out.push(b'\n')
 }
 
+fn push_enter(
+    out: &mut Octets,
+    id: PeerId,
+    name: &Octets,
+    endpoint: &Octets,
+    headers: &Pairs,
+) -> Result<(), OutOfMemory>
+    ensures { OnOk result (out.new ≡ out.old ++ line (kinds.Enter id name.now endpoint.now headers.now)) }
+{
+    push_head(out, b"ENTER ", id, name)?;
+    push_enter_end(out, endpoint, headers)
+}
+
+// JOIN or LEAVE.
+fn push_change(
+    out: &mut Octets,
+    word: &[u8],
+    id: PeerId,
+    name: &Octets,
+    group: &Octets,
+) -> Result<(), OutOfMemory>
+    ensures { OnOk result (out.new ≡ out.old ++ word.now ++ who_text id name.now ++ group_end group.now) }
+{
+    push_head(out, word, id, name)?;
+    push_group_end(out, group.as_slice())
+}
+
+fn push_whisper(
+    out: &mut Octets,
+    id: PeerId,
+    name: &Octets,
+    content: &Frames,
+) -> Result<(), OutOfMemory>
+    ensures { OnOk result (out.new ≡ out.old ++ line (kinds.Whisper id name.now content.now)) }
+{
+    push_head(out, b"WHISPER ", id, name)?;
+    push_content_end(out, content.as_slice())
+}
+
+fn push_shout(
+    out: &mut Octets,
+    id: PeerId,
+    name: &Octets,
+    group: &Octets,
+    content: &Frames,
+) -> Result<(), OutOfMemory>
+    ensures { OnOk result (out.new ≡ out.old ++ line (kinds.Shout id name.now group.now content.now)) }
+{
+    push_head(out, b"SHOUT ", id, name)?;
+    push_shout_end(out, group.as_slice(), content.as_slice())
+}
+
 fn push_evasive(out: &mut Octets, id: PeerId, name: &Octets) -> Result<(), OutOfMemory>
     ensures { OnOk result (out.new ≡ out.old ++ line (kinds.Evasive id name.now)) }
 {
@@ -125,31 +177,16 @@ pub fn push_line(out: &mut Octets, event: &Event) -> Result<(), OutOfMemory>
             name,
             endpoint,
             headers,
-        } => {
-            push_head(out, b"ENTER ", *id, name)?;
-            push_enter_end(out, endpoint, headers)
-        }
-        Event::Join { id, name, group } => {
-            push_head(out, b"JOIN ", *id, name)?;
-            push_group_end(out, group.as_slice())
-        }
-        Event::Leave { id, name, group } => {
-            push_head(out, b"LEAVE ", *id, name)?;
-            push_group_end(out, group.as_slice())
-        }
-        Event::Whisper { id, name, content } => {
-            push_head(out, b"WHISPER ", *id, name)?;
-            push_content_end(out, content.as_slice())
-        }
+        } => push_enter(out, *id, name, endpoint, headers),
+        Event::Join { id, name, group } => push_change(out, b"JOIN ", *id, name, group),
+        Event::Leave { id, name, group } => push_change(out, b"LEAVE ", *id, name, group),
+        Event::Whisper { id, name, content } => push_whisper(out, *id, name, content),
         Event::Shout {
             id,
             name,
             group,
             content,
-        } => {
-            push_head(out, b"SHOUT ", *id, name)?;
-            push_shout_end(out, group.as_slice(), content.as_slice())
-        }
+        } => push_shout(out, *id, name, group, content),
         Event::Evasive { id, name } => push_evasive(out, *id, name),
         Event::Exit { id, name, cause } => push_exit(out, *id, name, *cause),
         Event::Stop => out.append(b"STOP\n"),

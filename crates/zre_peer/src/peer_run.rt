@@ -54,7 +54,7 @@ impl From<OutOfMemory> for RunFault {
 
 /// The messages of one connection of a peer, from its HELLO on: RFC 36 numbers them 1, 2, 3 and so on in sixteen
 /// bits, and the run takes each with the number that is due and no other.
-#[derive(Debug, Drop)]
+#[derive(Drop)]
 pub struct Run {
     alloc: Global,
     id: PeerId,

@@ -22,7 +22,7 @@ use zre_values::{Octets, OutOfMemory, PeerId};
 
 /// A run that writes the lines of its events and makes no events: from its HELLO on their beginnings stand ready as
 /// texts.
-#[derive(Debug, Drop)]
+#[derive(Drop)]
 pub struct Teller {
     alloc: Global,
     run: Run,

@@ -34,8 +34,7 @@ impl Pairs {
     {
         let mut copied = Pairs::new(alloc);
         for pair in pairs.as_slice() {
-            let name = Octets::copy(alloc, pair.0.as_slice())?;
-            copied.push(name, Octets::copy(alloc, pair.1.as_slice())?)?;
+            copied.push_copy(alloc, pair.0.as_slice(), pair.1.as_slice())?;
         }
         Ok(copied)
     }
@@ -70,6 +69,16 @@ impl Pairs {
     {
         self.items.push((name, value))?;
         Ok(())
+    }
+
+    /// Appends a pair in memory of its own, or nothing.
+    pub fn push_copy(&mut self, alloc: Global, name: &[u8], value: &[u8]) -> Result<(), OutOfMemory>
+        ensures ok { OnOk result (self.new ≡ self.old ++ (name.now, value.now) ∷ []) }
+        ensures err { OnErr result (self.new ≡ self.old) }
+    {
+        let name = Octets::copy(alloc, name)?;
+        let value = Octets::copy(alloc, value)?;
+        self.push(name, value)
     }
 
     /// Whether a member has this name. It looks at one member after the other.

@@ -8,7 +8,7 @@ use std::mem;
 use zre_values::{Frames, Octets, OutOfMemory};
 
 /// The bodies of the frames of a message that isn't whole, with the sum of their lengths.
-#[derive(Debug, Drop)]
+#[derive(Drop)]
 pub struct Opened {
     bodies: Frames,
     octets: u64,

@@ -10,7 +10,7 @@ use zre_values::Octets;
 
 /// The octets of a frame that isn't whole: those of its header, and apart from them those of its body, which are handed
 /// out as they stand.
-#[derive(Debug, Drop)]
+#[derive(Drop)]
 pub struct Partial {
     /// What there is of the flags and the size: at most nine octets.
     pub head: Octets,

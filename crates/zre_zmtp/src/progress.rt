@@ -6,7 +6,7 @@ use crate::partial::Partial;
 use zre_values::Octets;
 
 /// What the octets so far tell: the whole parts, and the part that isn't whole.
-#[derive(Debug, Drop)]
+#[derive(Drop)]
 pub struct Progress {
     /// The part that comes next.
     pub expected: Expected,

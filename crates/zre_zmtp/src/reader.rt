@@ -45,7 +45,7 @@ fn read(
 
 /// A reader of a stream, or of traffic alone, that is handed the octets in any pieces. It keeps the octets of the greeting
 /// or frame that isn't whole and the bodies of the message that isn't, and looks at each octet once.
-#[derive(Debug, Drop)]
+#[derive(Drop)]
 pub struct Reader {
     alloc: Global,
     want: Want,

@@ -14,7 +14,7 @@ use zre_zmtp::{FeedFault, Items, Reader, ZmtpFault};
 
 /// The machine of `follow`: the traffic of one connection, after its handshake, of a peer that is known. It keeps
 /// the octets of an unfinished message, and reads no more once the run has ended.
-#[derive(Debug, Drop)]
+#[derive(Drop)]
 pub struct Follower {
     alloc: Global,
     reader: Reader,

@@ -13,7 +13,7 @@ use zre_zmtp::{FeedFault, Items, Reader, ZmtpFault};
 
 /// The machine of `show`: a whole stream, from the greeting on. It keeps the octets of an unfinished message, and the
 /// items of the last piece.
-#[derive(Debug, Drop)]
+#[derive(Drop)]
 pub struct Lister {
     alloc: Global,
     reader: Reader,

@@ -7,7 +7,7 @@ pub loop-i-preserved : goal.loop-i-preserved
 loop-i-preserved c =
     let pair : List ℕ × List ℕ = (c.get.result.0.now, c.get.result.1.now) in
     let whole = c.args.self.now in
-    c.in_ok-push.ensures.ok
-    ∙ (λ j. c.loop-i.invariant j ++ (c.in_ok-name.ensures j, c.in_ok-copy.ensures j) ∷ [])
+    c.in_ok-push_copy.ensures.ok
+    ∙ ap (λ ps. ps ++ pair ∷ []) c.loop-i.invariant
     ∙ sym (take_more whole c.loop-i.i pair (slice_get_within whole c.loop-i.i pair c.get.ensures)
     ∙ ap (λ p. take c.loop-i.i whole ++ p ∷ []) (get_or_from_slice_get whole c.loop-i.i pair pair c.get.ensures))
