@@ -1,6 +1,7 @@
 pub mod Arrivals
 pub mod Asked
 pub mod Chronicle
+pub mod Closing
 pub mod Commands
 pub mod Config
 pub mod Connections
@@ -11,6 +12,7 @@ pub mod Happens
 pub mod Heard
 pub mod Held
 pub mod Introducing
+pub mod Keeping
 pub mod Laws
 pub mod LinkEntries
 pub mod Links
@@ -18,5 +20,7 @@ pub mod Peers
 pub mod Proper
 pub mod Pushes
 pub mod Spoken
+pub mod Standing
 pub mod Ticks
 pub mod Told
+pub mod Truth

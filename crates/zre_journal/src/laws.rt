@@ -7,14 +7,18 @@ ghost use Rattle.zre_journal.specs.Endings.{is_end};
 ghost use Rattle.zre_journal.specs.declared.config.Config.{Config};
 ghost use Rattle.zre_journal.specs.Asked.{AreDue};
 ghost use Rattle.zre_journal.specs.Chronicle.{Mark};
-ghost use Rattle.zre_journal.specs.Events.{acts_after, chronicle, events};
+ghost use Rattle.zre_journal.specs.Events.{acts, acts_after, chronicle, events};
 ghost use Rattle.zre_journal.specs.Asked.{held_after, bound_after};
 ghost use Rattle.zre_journal.specs.Config.{CanBe};
 ghost use Rattle.zre_journal.specs.Held.{Within};
 ghost use Rattle.zre_journal.specs.Introducing.{CanIntroduce, Introduces};
 ghost use Rattle.zre_journal.specs.Happens.{has_stopped};
+ghost use Rattle.zre_journal.specs.Closing.{LeavesNothing, ArePaired, IsNoPeer};
+ghost use Rattle.zre_journal.specs.Keeping.{Keeps};
+ghost use Rattle.zre_journal.specs.Standing.{KnownIsBorn, OpenIsOpened};
 ghost use Rattle.zre_journal.specs.Laws.{Continues, HasEnded, RunsAlone, AreStrangers, AreFew, EndsOnce, ShowsItsMessages};
 ghost use Rattle.zre_journal.specs.Proper.{IsProper};
+ghost use Rattle.zre_journal.specs.Truth.{TellsTruth};
 ghost use Rattle.zre_journal.specs.Spoken.{AreInTurn, FollowsMessages};
 
 /// The events of a journal begin those of every longer one, and so do its acts.
@@ -93,4 +97,42 @@ pub fn offers_are_due()
 pub fn what_is_held_is_bounded()
     ensures parts { (g : Config) (J : List Entry) → CanBe g → Within g (chronicle g J) }
     ensures all { (g : Config) (J : List Entry) → CanBe g → held_after g J ≤ bound_after g J }
+{}
+
+/// The chronicle keeps its journal: its entries are the journal's, its clock is the greatest reading of them, and the
+/// octets of a connection and the replies on a link are what they carried since it was opened and since it was up.
+pub fn the_chronicle_keeps_the_journal()
+    ensures { (g : Config) (J : List Entry) → Keeps J (chronicle g J) }
+{}
+
+/// A peer is known exactly where it was born and hasn't ended since.
+pub fn known_is_born_and_not_ended()
+    ensures { (g : Config) (J : List Entry) → KnownIsBorn (chronicle g J) }
+{}
+
+/// A connection is open exactly where it was opened and hasn't been closed since.
+pub fn open_is_opened_and_not_closed()
+    ensures { (g : Config) (J : List Entry) → OpenIsOpened (chronicle g J) }
+{}
+
+/// After a stop no peer is known, no connection is open, and STOP is the last event.
+pub fn a_stop_leaves_nothing()
+    ensures { (g : Config) (J : List Entry) → has_stopped (chronicle g J) ≡ true → LeavesNothing (events g J) (chronicle g J) }
+{}
+
+/// Acts pair up: links are connected under the numbers 1, 2, 3 and so on; each is closed at most once, after its
+/// CONNECT; and each connection is closed at most once.
+pub fn acts_pair_up()
+    ensures { (g : Config) (J : List Entry) → ArePaired (acts g J) }
+{}
+
+/// The node's own identity is never that of a known peer or of a connection.
+pub fn the_node_is_no_peer()
+    ensures { (g : Config) (J : List Entry) → IsNoPeer g (chronicle g J) }
+{}
+
+/// What a node says of itself is true: on the link of a known peer HELLO is the first message and no other is, and who
+/// reads all that was put there has the node's own name, endpoint, headers, groups and status.
+pub fn a_node_tells_the_truth()
+    ensures { (g : Config) (J : List Entry) → TellsTruth g (chronicle g J) }
 {}
