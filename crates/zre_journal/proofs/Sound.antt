@@ -33,7 +33,7 @@ use Rattle.zre_peer.specs.declared.causes.RefuseWhy.TheVariants as refuse
 use Rattle.zre_journal.specs.declared.config.Config.{Config}
 use Rattle.zre_journal.specs.Chronicle.{Mark, Comes, Opens, TurnsAway, Shakes, Starts, Counts, Ignores, Closes, IsShut, ClosesAtStop, Born, HearsBeacon, Ends, IsEvasive, Puts, Links, Joins, Leaves, Refuses, SendsBeacon, Stops, after, newer}
 use Rattle.zre_journal.specs.Endings.{is_end}
-use Rattle.zre_journal.specs.Heard.{bytes, completed}
+use Rattle.zre_journal.specs.Heard.{bytes, newly_completed}
 use Rattle.zre_journal.specs.Connections.{open_ones, is_open, is_new, identity, runs, is_ignored, is_live, other_with, others, is_same}
 use Rattle.zre_journal.specs.Peers.{Life, lives, life, life_of, is_entered, births, counted}
 use Rattle.zre_journal.specs.Links.{groups, status, bodies, unsent, is_linked, replies}
@@ -128,7 +128,7 @@ talk_other own o =
     All-join (IsOtherSaid own) (map (λ a. Arrived a) (arrivals own o)) (fault_said (fault_in own o))
     (said_other own (arrivals own o) (arrivals_other own (arrivals own o) (in_order own o))) (fault_other own (fault_in own o))
 
-newly-other : (own : PeerId) (c : ℕ) (H K : List Mark) → AllByRecursion (IsOtherSaid own) (completed own c H K)
+newly-other : (own : PeerId) (c : ℕ) (H K : List Mark) → AllByRecursion (IsOtherSaid own) (newly_completed own c H K)
 newly-other own c H K = All-drop (IsOtherSaid own) (length (talk own (bytes c H))) (talk own (bytes c K)) (talk_other own (bytes c K))
 
 -- ---- the relation
@@ -417,7 +417,7 @@ module _ (g : Config) where
   pub input_sound : (i : Input) (H K : List Mark) → is_end i ≡ false → IsProper K → AreOthers K → AreSound (at_input g i H K) K
   input_sound (input.Datagram from o) H K z q r = datagram_sound K q r from (beacon_in o)
   input_sound (input.Opened c) H K z q r = opened_sound K q r c
-  input_sound (input.Piece c o) H K z q r = places_sound c (completed g.id c H K) K q r (newly-other g.id c H K)
+  input_sound (input.Piece c o) H K z q r = places_sound c (newly_completed g.id c H K) K q r (newly-other g.id c H K)
   input_sound (input.Shut c) H K z q r = shut_sound K q r c
   input_sound (input.Linked l) H K z q r = linked_sound K q r l (life l K)
   input_sound (input.Reply l o) H K z q r = reply_sound K q r l (life l K)

@@ -29,7 +29,7 @@ use Rattle.zre_peer.specs.declared.causes.RefuseWhy.TheVariants as refuse
 use Rattle.zre_journal.specs.declared.config.Config.{Config}
 use Rattle.zre_journal.specs.Chronicle.{Mark, Comes, Opens, TurnsAway, Shakes, Starts, Counts, Ignores, Closes, IsShut, ClosesAtStop, HearsBeacon, Ends, Links, Joins, Leaves, Refuses, SendsBeacon, Stops, after}
 use Rattle.zre_journal.specs.Config.{own_endpoint}
-use Rattle.zre_journal.specs.Heard.{completed}
+use Rattle.zre_journal.specs.Heard.{newly_completed}
 use Rattle.zre_journal.specs.Connections.{open_ones, is_open, is_new, identity, runs, is_live, other_with}
 use Rattle.zre_journal.specs.Events.{chronicle}
 use Rattle.zre_journal.specs.Peers.{Life, lives, life_of, life, is_entered, births, counted}
@@ -246,7 +246,7 @@ module _ (g : Config) where
   true_input : (i : Input) (H K : List Mark) → IsProper K → Truth g K → Truth g (after (at_input g i H K) K)
   true_input (input.Datagram from o) H K q t = true_datagram K q t from (beacon_in o)
   true_input (input.Opened c) H K q t = plain_steps g (at_opened g c K) K (opened_plain K q t c) t
-  true_input (input.Piece c o) H K q t = true_places c (completed g.id c H K) K q t
+  true_input (input.Piece c o) H K q t = true_places c (newly_completed g.id c H K) K q t
   true_input (input.Shut c) H K q t = plain_steps g (at_shut g c K) K (shut_plain K q t c) t
   true_input (input.Linked l) H K q t = plain_steps g (at_linked g l (life l K) K) K (linked_plain K q t l (life l K)) t
   true_input (input.Reply l o) H K q t = plain_steps g (at_reply g l (life l K) K) K (reply_plain K q t l (life l K)) t
