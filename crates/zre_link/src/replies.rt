@@ -11,7 +11,6 @@ use crate::awaits::Awaits;
 use crate::hearing::Hearing;
 use std::alloc::Global;
 use std::marker::Model;
-use std::mem;
 use zre_zmtp::{FeedFault, Items, Reader, Want};
 
 /// The replies on a link, read as the stream of a ROUTER. Their messages and commands are dropped.
@@ -30,16 +29,16 @@ impl Model for Replies {
     ghost view = { λ r. record { awaits = expected_of r.awaits; hearing = r.hearing } };
 }
 
-// Reads a piece, and notes what is awaited after it. The reader is given up where the piece is refused.
+// Reads a piece, and notes what is awaited after it.
 fn read_piece(
     alloc: Global,
-    mut reader: Reader,
+    reader: &mut Reader,
     piece: &[u8],
     awaits: &mut Awaits,
-) -> Result<Reader, FeedFault>
-    ensures ok { (o : List ℕ) → IsAfter Router Whole o reader → expected_of awaits.old ≡ awaited o →
-        IfOk result (λ r. IsAfter Router Whole (o ++ piece.now) r × (expected_of awaits.new ≡ awaited (o ++ piece.now))) }
-    ensures refused { (o : List ℕ) → IsAfter Router Whole o reader → expected_of awaits.old ≡ awaited o →
+) -> Result<(), FeedFault>
+    ensures ok { (o : List ℕ) → IsAfter Router Whole o reader.old → expected_of awaits.old ≡ awaited o →
+        OnOk result (IsAfter Router Whole (o ++ piece.now) reader.new × (expected_of awaits.new ≡ awaited (o ++ piece.now))) }
+    ensures refused { (o : List ℕ) → IsAfter Router Whole o reader.old → expected_of awaits.old ≡ awaited o →
         IfErr result (λ e. Refuses e (reply_fault (o ++ piece.now)) (expected_of awaits.new ≡ awaited (o ++ piece.now))) }
 {
     if reader.spent() {
@@ -49,7 +48,7 @@ fn read_piece(
     let fed = reader.feed(piece, &mut items);
     *awaits = awaits.after(items.len());
     match fed {
-        Ok(()) => Ok(reader),
+        Ok(()) => Ok(()),
         Err(fault) => Err(fault),
     }
 }
@@ -73,21 +72,13 @@ impl Replies {
         ensures refused { (o : List ℕ) → self.old ≡ heard_after o →
             IfErr result (λ e. Refuses e (reply_fault (o ++ piece.now)) (self.new ≡ heard_after (o ++ piece.now))) }
     {
-        let none = Hearing::Refused(FeedFault::OutOfMemory);
-        match mem::replace(&mut self.hearing, none) {
-            Hearing::Reads(reader) => {
-                match read_piece(self.alloc, reader, piece, &mut self.awaits) {
-                    Ok(reader) => {
-                        self.hearing = Hearing::Reads(reader);
-                        Ok(())
-                    }
-                    Err(fault) => {
-                        self.hearing = Hearing::Refused(fault);
-                        Err(fault)
-                    }
-                }
-            }
-            Hearing::Refused(fault) => {
+        let reader = match &mut self.hearing {
+            Hearing::Reads(reader) => reader,
+            Hearing::Refused(fault) => return Err(*fault),
+        };
+        match read_piece(self.alloc, reader, piece, &mut self.awaits) {
+            Ok(()) => Ok(()),
+            Err(fault) => {
                 self.hearing = Hearing::Refused(fault);
                 Err(fault)
             }

@@ -9,7 +9,7 @@ returns-in-Ok-clause-ok c = λ o h e.
     let fed = c.in-Ok.ensures.ok Router Whole o h in
     (fed.0, awaited_more o c.args.piece.now c.new-items.result c.feed-fed.new.out (expected_of c.args.awaits.now) (expected_of c.after.result) c.len.result e c.new-items.ensures fed.1 c.len.ensures c.after.ensures)
 
-pub returns-in-Err-clause-refused : goal.returns-in-Err-clause-refused
-returns-in-Err-clause-refused c = λ o h e.
+pub returns-clause-refused : goal.returns-clause-refused
+returns-clause-refused c = λ o h e.
     awaited_refused o c.args.piece.now c.in-Err.fault c.new-items.result c.feed-fed.new.out (expected_of c.args.awaits.now) (expected_of c.after.result) c.len.result e c.new-items.ensures
     (c.in-Err.ensures.refused Router Whole o h) c.len.ensures c.after.ensures
