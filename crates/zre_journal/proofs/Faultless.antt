@@ -6,7 +6,7 @@ use Rattle.std.specs.List.{list_any}
 use Rattle.zre_values.specs.declared.peer_id.PeerId.{PeerId}
 use Rattle.zre_zmtp.specs.declared.fault.ZmtpFault.{ZmtpFault}
 use Rattle.zre_zmtp.specs.Stream.{cut, greeting_fault}
-use Rattle.zre_mailbox.specs.Talk.{Said, Arrived, Fault, talk, completed, new_arrivals, fault_in, fault_said}
+use Rattle.zre_mailbox.specs.Talk.{Said, Arrived, Fault, talk, completed as completed_by, new_arrivals, fault_in, fault_said}
 use Rattle.zre_mailbox.proofs.Growing.{goes}
 use Rattle.zre_outside.specs.declared.entry.Input.{Input}
 use Rattle.zre_outside.specs.declared.entry.Input.TheVariants as input
@@ -68,7 +68,7 @@ open_before (IsShut d) H c o = inr (any_left d c (open_ones H) o)
 open_before (ClosesAtStop d) H c o = inr (any_left d c (open_ones H) o)
 open_before _ H c o = inr o
 
-live_from : (h : Mark) (H : List Mark) (c : ℕ) → start_at c h ≡ None → is_live c (h ∷ H) ≡ true → (opens c h ≡ true) ⊎ (is_live c H ≡ true)
+pub live_from : (h : Mark) (H : List Mark) (c : ℕ) → start_at c h ≡ None → is_live c (h ∷ H) ≡ true → (opens c h ≡ true) ⊎ (is_live c H ≡ true)
 live_from h H c s v =
     let p = and_parts (is_open c (h ∷ H)) (not (is_ignored c (h ∷ H))) v in
     let i = heard_before h H c s (not_true (is_ignored c (h ∷ H)) p.1) in
@@ -234,7 +234,7 @@ module _ (g : Config) where
       by None z = refl
       by (Some f) z =
           let none = was (live (is_live c K) refl) in
-          let said : completed g.id c H K ≡ completed g.id (bytes c H) more = ap (λ o. drop (length (talk g.id (bytes c H))) (talk g.id o)) e in
+          let said : completed g.id c H K ≡ completed_by g.id (bytes c H) more = ap (λ o. drop (length (talk g.id (bytes c H))) (talk g.id o)) e in
           let xs = map (λ a. Arrived a) (new_arrivals g.id (bytes c H) more) in
           let last : fault_said (fault_in g.id (bytes c H ++ more)) ≡ Fault f ∷ [] = ap fault_said (ap (fault_in g.id) (sym e) ∙ z) in
           let all : completed g.id c H K ≡ xs ++ Fault f ∷ [] = said ∙ (goes g.id (bytes c H) more).faultless none ∙ ap (λ ys. xs ++ ys) last in
