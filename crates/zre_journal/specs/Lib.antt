@@ -10,6 +10,7 @@ pub mod Endings
 pub mod Events
 pub mod Happens
 pub mod Heard
+pub mod Hearing
 pub mod Held
 pub mod Introducing
 pub mod Keeping

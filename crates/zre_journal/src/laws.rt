@@ -19,6 +19,7 @@ ghost use Rattle.zre_journal.specs.Standing.{KnownIsBorn, OpenIsOpened};
 ghost use Rattle.zre_journal.specs.Laws.{Continues, HasEnded, RunsAlone, AreStrangers, AreFew, EndsOnce, ShowsItsMessages};
 ghost use Rattle.zre_journal.specs.Proper.{IsProper};
 ghost use Rattle.zre_journal.specs.Truth.{TellsTruth};
+ghost use Rattle.zre_journal.specs.Hearing.{RunsOnOctets};
 ghost use Rattle.zre_journal.specs.Spoken.{AreInTurn, FollowsMessages};
 
 /// The events of a journal begin those of every longer one, and so do its acts.
@@ -135,4 +136,10 @@ pub fn the_node_is_no_peer()
 /// reads all that was put there has the node's own name, endpoint, headers, groups and status.
 pub fn a_node_tells_the_truth()
     ensures { (g : Config) (J : List Entry) → TellsTruth g (chronicle g J) }
+{}
+
+/// What was counted on a connection is a front of the messages that its octets say. Where it runs a peer, that is all of
+/// them, and the octets have no fault.
+pub fn a_run_is_its_octets()
+    ensures { (g : Config) (J : List Entry) → RunsOnOctets g (chronicle g J) }
 {}
