@@ -1,5 +1,6 @@
 pub mod Always
 pub mod Brings
+pub mod Cleaning
 pub mod Closing
 pub mod Due
 pub mod Entered

@@ -1,6 +1,7 @@
 pub mod Arrivals
 pub mod Asked
 pub mod Chronicle
+pub mod Cleaning
 pub mod Closing
 pub mod Commands
 pub mod Config
