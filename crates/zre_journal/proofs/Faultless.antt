@@ -68,7 +68,7 @@ open_before (IsShut d) H c o = inr (any_left d c (open_ones H) o)
 open_before (ClosesAtStop d) H c o = inr (any_left d c (open_ones H) o)
 open_before _ H c o = inr o
 
-live_from : (h : Mark) (H : List Mark) (c : ℕ) → start_at c h ≡ None → is_live c (h ∷ H) ≡ true → (opens c h ≡ true) ⊎ (is_live c H ≡ true)
+pub live_from : (h : Mark) (H : List Mark) (c : ℕ) → start_at c h ≡ None → is_live c (h ∷ H) ≡ true → (opens c h ≡ true) ⊎ (is_live c H ≡ true)
 live_from h H c s v =
     let p = and_parts (is_open c (h ∷ H)) (not (is_ignored c (h ∷ H))) v in
     let i = heard_before h H c s (not_true (is_ignored c (h ∷ H)) p.1) in

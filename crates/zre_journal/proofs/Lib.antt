@@ -1,5 +1,6 @@
 pub mod Always
 pub mod Brings
+pub mod Cleaning
 pub mod Closing
 pub mod Due
 pub mod Entered
@@ -8,6 +9,7 @@ pub mod Few
 pub mod Fields
 pub mod Fitting
 pub mod Going
+pub mod Hearing
 pub mod Holding
 pub mod Idle
 pub mod Introduction
@@ -17,7 +19,9 @@ pub mod Kept
 pub mod Known
 pub mod Lawful
 pub mod Listed
+pub mod Octets
 pub mod Passing
+pub mod Quiet
 pub mod Room
 mod Rows
 pub mod Says

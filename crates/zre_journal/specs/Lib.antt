@@ -1,6 +1,7 @@
 pub mod Arrivals
 pub mod Asked
 pub mod Chronicle
+pub mod Cleaning
 pub mod Closing
 pub mod Commands
 pub mod Config
@@ -10,6 +11,7 @@ pub mod Endings
 pub mod Events
 pub mod Happens
 pub mod Heard
+pub mod Hearing
 pub mod Held
 pub mod Introducing
 pub mod Keeping

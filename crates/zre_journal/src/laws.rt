@@ -3,13 +3,14 @@
 ghost use Rattle.std.specs.Prelude.{◌≡◌, ◌≤◌, ◌++◌, ◌∷◌, [], true, List};
 ghost use Rattle.std.specs.List.{list_any};
 ghost use Rattle.zre_outside.specs.declared.entry.Entry.{Entry};
+ghost use Rattle.zre_outside.specs.declared.entry.Input.TheVariants.{Tick};
 ghost use Rattle.zre_journal.specs.Endings.{is_end};
 ghost use Rattle.zre_journal.specs.declared.config.Config.{Config};
 ghost use Rattle.zre_journal.specs.Asked.{AreDue};
 ghost use Rattle.zre_journal.specs.Chronicle.{Mark};
 ghost use Rattle.zre_journal.specs.Events.{acts, acts_after, chronicle, events};
 ghost use Rattle.zre_journal.specs.Asked.{held_after, bound_after};
-ghost use Rattle.zre_journal.specs.Config.{CanBe};
+ghost use Rattle.zre_journal.specs.Config.{CanBe, is_valid};
 ghost use Rattle.zre_journal.specs.Held.{Within};
 ghost use Rattle.zre_journal.specs.Introducing.{CanIntroduce, Introduces};
 ghost use Rattle.zre_journal.specs.Happens.{has_stopped};
@@ -19,6 +20,8 @@ ghost use Rattle.zre_journal.specs.Standing.{KnownIsBorn, OpenIsOpened};
 ghost use Rattle.zre_journal.specs.Laws.{Continues, HasEnded, RunsAlone, AreStrangers, AreFew, EndsOnce, ShowsItsMessages};
 ghost use Rattle.zre_journal.specs.Proper.{IsProper};
 ghost use Rattle.zre_journal.specs.Truth.{TellsTruth};
+ghost use Rattle.zre_journal.specs.Hearing.{RunsOnOctets};
+ghost use Rattle.zre_journal.specs.Cleaning.{IsClean};
 ghost use Rattle.zre_journal.specs.Spoken.{AreInTurn, FollowsMessages};
 
 /// The events of a journal begin those of every longer one, and so do its acts.
@@ -135,4 +138,16 @@ pub fn the_node_is_no_peer()
 /// reads all that was put there has the node's own name, endpoint, headers, groups and status.
 pub fn a_node_tells_the_truth()
     ensures { (g : Config) (J : List Entry) → TellsTruth g (chronicle g J) }
+{}
+
+/// What was counted on a connection is a front of the messages that its octets say. Where it runs a peer, that is all of
+/// them, and the octets have no fault.
+pub fn a_run_is_its_octets()
+    ensures { (g : Config) (J : List Entry) → RunsOnOctets g (chronicle g J) }
+{}
+
+/// After a tick no known peer was silent for the time after which it expires, and no open connection ran no peer for
+/// that time.
+pub fn a_tick_cleans_up()
+    ensures { (g : Config) (J : List Entry) (e : Entry) → is_valid g ≡ true → e.input ≡ Tick → IsClean g (chronicle g (J ++ e ∷ [])) }
 {}
