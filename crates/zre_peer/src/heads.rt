@@ -1,6 +1,6 @@
 //! The beginnings of a peer's lines.
 
-ghost use Rattle.std.specs.Prelude.{◌≡◌, ◌++◌, IfOk};
+ghost use Rattle.std.specs.Prelude.{◌≡◌, ◌++◌, codes, IfOk};
 ghost use Rattle.zre_peer.specs.Lines.{who_text};
 ghost use Rattle.zre_peer.specs.Heads.{heads_of};
 
@@ -30,6 +30,31 @@ fn head_of(alloc: Global, word: &[u8], who: &Octets) -> Result<Octets, OutOfMemo
     Ok(head)
 }
 
+fn two_heads(
+    alloc: Global,
+    first: &[u8],
+    second: &[u8],
+    who: &Octets,
+) -> Result<(Octets, Octets), OutOfMemory>
+    ensures { IfOk result (λ heads. (heads.0 ≡ first.now ++ who.now) × (heads.1 ≡ second.now ++ who.now)) }
+{
+    let one = head_of(alloc, first, who)?;
+    Ok((one, head_of(alloc, second, who)?))
+}
+
+fn heads_with(alloc: Global, who: &Octets) -> Result<Heads, OutOfMemory>
+    ensures { IfOk result (λ heads. heads ≡ record { join = codes "JOIN " ++ who.now; leave = codes "LEAVE " ++ who.now; whisper = codes "WHISPER " ++ who.now; shout = codes "SHOUT " ++ who.now }) }
+{
+    let (join, leave) = two_heads(alloc, b"JOIN ", b"LEAVE ", who)?;
+    let (whisper, shout) = two_heads(alloc, b"WHISPER ", b"SHOUT ", who)?;
+    Ok(Heads {
+        join,
+        leave,
+        whisper,
+        shout,
+    })
+}
+
 impl Heads {
     /// No texts, which take no memory.
     pub(crate) fn new(alloc: Global) -> Self {
@@ -47,11 +72,6 @@ impl Heads {
     {
         let mut who = Octets::new(alloc);
         push_who(&mut who, id, name)?;
-        Ok(Heads {
-            join: head_of(alloc, b"JOIN ", &who)?,
-            leave: head_of(alloc, b"LEAVE ", &who)?,
-            whisper: head_of(alloc, b"WHISPER ", &who)?,
-            shout: head_of(alloc, b"SHOUT ", &who)?,
-        })
+        heads_with(alloc, &who)
     }
 }
