@@ -24,7 +24,9 @@ pub enum Wish {
 /// A caller with nothing to put but a Quit.
 #[derive(Drop)]
 pub struct Asker {
+    /// The pass under which the Quit is put.
     pub pass: CallerPass,
+    /// Whether it is to be put.
     pub wish: Wish,
 }
 

@@ -17,7 +17,9 @@ const ROOM: usize = 65536;
 /// The lines of events that aren't written yet. After a fault it takes no more.
 #[derive(Drop)]
 pub struct Page {
+    /// What was gathered and isn't written yet.
     pub text: Octets,
+    /// Why it takes no more.
     pub fault: Option<NextFault>,
 }
 

@@ -21,8 +21,11 @@ use zre_outside::{NextFault, Sink};
 /// What is left after Last.
 #[derive(Drop)]
 pub struct Printed {
+    /// The pass of who took the events.
     pub taker: TakerPass,
+    /// The pass under which a Quit was put, if one was.
     pub pass: CallerPass,
+    /// Why not all lines were written.
     pub fault: Option<NextFault>,
 }
 

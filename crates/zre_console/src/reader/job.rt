@@ -16,11 +16,17 @@ use zre_outside::{Job, Source, Task};
 /// of a line and whenever the pipe is full, and puts nothing more where that is set; nothing is claimed of when it sees it.
 #[derive(Drop)]
 pub struct ReaderJob<I: Source> {
+    /// Where the pieces and the commands are kept.
     pub alloc: Global,
+    /// Where the commands are put.
     pub pipes: Arc<Pipes, Global>,
+    /// Whether nothing more is to be put.
     pub over: Arc<AtomicBool, Global>,
+    /// The pass under which they are put.
     pub pass: CallerPass,
+    /// What is read.
     pub input: I,
+    /// The most octets that are read.
     pub limit: u64,
     ghost of_pipes: { IsCallerOf (arc_value pipes) pass },
 }
@@ -28,8 +34,11 @@ pub struct ReaderJob<I: Source> {
 /// What comes back of a [`ReaderJob`].
 #[derive(Drop)]
 pub struct ReaderDone<I> {
+    /// The source, as it was left.
     pub input: I,
+    /// The pass, with what was put under it.
     pub pass: CallerPass,
+    /// Why no more of the source was taken.
     pub end: InputEnd,
 }
 
