@@ -27,6 +27,7 @@ use Rattle.zre_journal.specs.Ticks.{is_silent, is_faltering, falter, is_stale, a
 use Rattle.zre_journal.proofs.Closing.{leaves_nothing}
 use Rattle.zre_journal.proofs.Joined.{after-append, continues}
 use Rattle.zre_journal.proofs.Known.{end_all}
+use Rattle.zre_journal.proofs.Sound.{further}
 use Rattle.zre_journal.proofs.Listed.{eqb-comm, All-kept, All-join, All-map}
 
 -- ---- the marks of a tick
@@ -124,10 +125,6 @@ taken_out {A} key t y ys (x ∷ xs) a = by (taken_out key t y ys xs a.1) (eqb (k
         → AllByRecursion (Among key t ys) (cond (not b) (x ∷ filter (λ z. not (eqb (key y) (key z))) xs) (filter (λ z. not (eqb (key y) (key z))) xs))
     by r true f = r
     by r false f = (f, r)
-
-further : (b c : Bool) → c ≡ true → (b || c) ≡ true
-further true c h = refl
-further false c h = h
 
 -- all that pass the test are among those that do
 all_among : {A : Type 0} (key : A → ℕ) (t : A → Bool) (xs : List A) → AllByRecursion (Among key t (filter t xs)) xs

@@ -22,11 +22,11 @@ use Rattle.zre_journal.specs.Happens.{has_stopped}
 use Rattle.zre_journal.specs.Peers.{Life, lives, life, life_of, births}
 use Rattle.zre_journal.specs.Proper.{IsProper}
 use Rattle.zre_journal.proofs.Few.{none_kept, append-length}
-use Rattle.zre_journal.proofs.Going.{on, told_and_done, always_sound}
+use Rattle.zre_journal.proofs.Going.{on, told_and_done, always_sound, are_others}
 use Rattle.zre_journal.proofs.Kept.{known_lives, open_is_old}
 use Rattle.zre_journal.proofs.Known.{same_id}
 use Rattle.zre_journal.proofs.Listed.{some_is, found, All-append, All-kept, any_append, any_of_append, any_left}
-use Rattle.zre_journal.proofs.Sound.{Sound, AreOthers, others_more}
+use Rattle.zre_journal.proofs.Sound.{Sound}
 use Rattle.zre_journal.proofs.Standing.{none_open, last_open}
 use Rattle.zre_journal.proofs.Steps.{May}
 
@@ -65,7 +65,7 @@ module _ (g : Config) where
   pub no_peer : (journal : List Entry) → IsNoPeer g (chronicle g journal)
   no_peer journal = record {
     unknown = always_sound g (λ H. life_of g.id H ≡ None) (λ e H x. x) (λ h H q m s x. unknown_more h H s x) (λ H k o x. x) refl journal;
-    never_comes = λ c e. true≢false (sym (bytes_eq-same g.id.0 g.id.0 refl) ∙ always_sound g (AreOthers g) (λ e H x. x) (λ h H q m s x. others_more g h H s x) (λ H k o x. x) (λ d i k. cc) journal c g.id e);
+    never_comes = λ c e. true≢false (sym (bytes_eq-same g.id.0 g.id.0 refl) ∙ are_others g journal c g.id e);
   }
 
 -- ---- lists of numbers

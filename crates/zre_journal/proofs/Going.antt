@@ -22,7 +22,7 @@ use Rattle.zre_journal.proofs.Brings.{stop_allowed}
 use Rattle.zre_journal.proofs.Joined.{after-append, told-append, done-append}
 use Rattle.zre_journal.proofs.Kept.{Comes-proper}
 use Rattle.zre_journal.proofs.Known.{end_all}
-use Rattle.zre_journal.proofs.Sound.{Sound, AreSound, AreOthers, others_after, input_sound, until_stop, stop_sound}
+use Rattle.zre_journal.proofs.Sound.{Sound, AreSound, AreOthers, others_more, others_after, input_sound, until_stop, stop_sound}
 use Rattle.zre_journal.proofs.Steps.{May, Allowed, step, steps}
 use Rattle.zre_journal.proofs.Stopping.{at_end, none_known, none_open}
 
@@ -162,3 +162,7 @@ module _ (g : Config) where
       → ((H : List Mark) → lives H ≡ [] → open_ones H ≡ [] → P H → P (Stops ∷ H)) → P [] → (journal : List Entry) → P (chronicle g journal)
   always_sound P entry keeps stop p journal =
       told_and_done (λ js es done_ H. P H) (λ js es done_ e H x. entry e H x) (λ js es done_ h H n q m s x. keeps h H q m s x) (λ js es done_ H k o x. stop H k o x) (λ js es done_ H vs x. x) p journal
+
+  -- none that has come on a connection is the node itself
+  pub are_others : (journal : List Entry) → AreOthers g (chronicle g journal)
+  are_others journal = always_sound (AreOthers g) (λ e H x. x) (λ h H q m s x. others_more g h H s x) (λ H k o x. x) (λ c i e. cc) journal

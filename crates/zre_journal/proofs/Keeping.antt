@@ -10,6 +10,7 @@ use Rattle.zre_journal.specs.Links.{links, is_linked, reply_of, replies}
 use Rattle.zre_journal.specs.Events.{chronicle}
 use Rattle.zre_journal.specs.Keeping.{entries, greatest, carried, Keeps}
 use Rattle.zre_journal.proofs.Going.{told_and_done}
+use Rattle.zre_journal.proofs.Standing.{either_or}
 use Rattle.zre_journal.proofs.Sound.{Sound}
 
 -- ---- the entries
@@ -40,10 +41,6 @@ clock_is (_ ∷ H) = clock_is H
 carried-append : (f : Input → List ℕ) (xs : List Entry) (e : Entry) → carried f (xs ++ e ∷ []) ≡ carried f xs ++ f e.input
 carried-append f [] e = append-nil (f e.input)
 carried-append f (x ∷ xs) e = ap (λ o. f x.input ++ o) (carried-append f xs e) ∙ sym (append_assoc (f x.input) (carried f xs) (f e.input))
-
-either_or : (b c : Bool) → cond b true c ≡ false → (b ≡ false) × (c ≡ false)
-either_or true c e = cc
-either_or false c e = (refl, e)
 
 -- what was so before is so with a mark more
 still : (t : Mark → Bool) (later before : List Mark) (h : Mark) → t h ≡ true → ever t (later ++ h ∷ before) ≡ true

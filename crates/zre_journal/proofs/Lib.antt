@@ -1,7 +1,9 @@
+pub mod Alike
 pub mod Always
 pub mod Brings
 pub mod Cleaning
 pub mod Closing
+pub mod Cutting
 pub mod Due
 pub mod Entered
 pub mod Faultless

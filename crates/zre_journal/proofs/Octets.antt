@@ -23,12 +23,12 @@ use Rattle.zre_journal.specs.Laws.{counted_on}
 use Rattle.zre_journal.specs.Proper.{IsProper}
 use Rattle.zre_journal.proofs.Always.{is_proper}
 use Rattle.zre_journal.proofs.Closing.{leaves_nothing}
-use Rattle.zre_journal.proofs.Going.{always_sound}
+use Rattle.zre_journal.proofs.Going.{are_others}
 use Rattle.zre_journal.proofs.Hearing.{introduced, has_fault, spoken, Follows, quiet_steps, places_follow}
 use Rattle.zre_journal.proofs.Joined.{continues}
 use Rattle.zre_journal.proofs.Kept.{Comes-proper, has_started, run_is}
 use Rattle.zre_journal.proofs.Quiet.{Quiet, AreQuiet, input_quiet}
-use Rattle.zre_journal.proofs.Sound.{Sound, AreSound, AreOthers, others_more, input_sound}
+use Rattle.zre_journal.proofs.Sound.{Sound, AreSound, input_sound}
 
 -- octets come with entries alone
 quiet_bytes : (d : ℕ) (hs K : List Mark) → AreQuiet d hs → bytes d (after hs K) ≡ bytes d K
@@ -60,9 +60,6 @@ fault_none (Some f) (Fault k ∷ xs) e = absurd cc
 module _ (g : Config) where
   abbrev Told : List Mark → Type 0
   Told H = (d : ℕ) → Follows d (talk g.id (bytes d H)) H
-
-  others : (J : List Entry) → AreOthers g (chronicle g J)
-  others J = always_sound g (AreOthers g) (λ e H x. x) (λ h H q m s x. others_more g h H s x) (λ H k o x. x) (λ c i e. cc) J
 
   come : (d : ℕ) (said : List Said) (e : Entry) (H : List Mark) → Follows d said H → Follows d said (Comes e ∷ H)
   come d said e H o = record { rest = o.rest; front = o.front; whole = o.whole; sound = o.sound; who = o.who }
@@ -148,7 +145,7 @@ module _ (g : Config) where
         by : (t : Bool) → eqb d c ≡ t → let hs = at_places g c (newly_completed g.id c H K) K in Follows d (talk g.id (bytes d (after hs K))) (after hs K)
         by false f = quietly d (ap (piece_of d) z ∙ ap (λ t. cond t octets []) f) (at_places g c (newly_completed g.id c H K) K) (input_quiet g d (input.Piece c octets) H K f)
         by true f = subst (λ x. let hs = at_places g x (newly_completed g.id x H K) K in Follows d (talk g.id (bytes d (after hs K))) (after hs K)) (eqb-true d c f)
-            (piece d (sound_bytes g d (at_places g d (newly_completed g.id d H K) K) K (input_sound g (input.Piece d octets) H K refl q (others J))))
+            (piece d (sound_bytes g d (at_places g d (newly_completed g.id d H K) K) K (input_sound g (input.Piece d octets) H K refl q (are_others g J))))
     on_input i z d = quietly d (ap (piece_of d) z) (at_input g i H K) (input_quiet g d i H K refl)
 
     next : Told (with_entry g e H)

@@ -53,7 +53,7 @@ use Rattle.zre_journal.proofs.Steps.{steps}
 
 -- ---- lists of open connections
 
-further : (b c : Bool) → c ≡ true → (b || c) ≡ true
+pub further : (b c : Bool) → c ≡ true → (b || c) ≡ true
 further true c h = refl
 further false c h = h
 

@@ -17,7 +17,7 @@ use Rattle.zre_journal.proofs.Known.{life_stays, newborn_known}
 use Rattle.zre_journal.proofs.Listed.{eqb-comm, found_before, any_append, any_of_append, any_left, any_other}
 use Rattle.zre_journal.proofs.Steps.{May}
 
-either_or : (b c : Bool) → cond b true c ≡ false → (b ≡ false) × (c ≡ false)
+pub either_or : (b c : Bool) → cond b true c ≡ false → (b ≡ false) × (c ≡ false)
 either_or true c e = cc
 either_or false c e = (refl, e)
 

@@ -1,4 +1,4 @@
--- What a stop leaves, in which order links and connections are made and closed, and that the node is no peer of its own.
+-- What a stop leaves, in which order links and connections are made and closed, and that the node is not its own peer.
 use Rattle.std.specs.Prelude.{◌≡◌, ◌≢◌, ℕ, ◌+◌, true, false, List, [], ◌∷◌, ◌++◌, Option, Some, None, length, nat_eq}
 use Rattle.std.specs.List.{filter_map, list_any}
 use Rattle.zre_outside.specs.declared.act.Act.{Act}
@@ -41,14 +41,16 @@ closed_links done = filter_map closes_link done
 abbrev pub closed_conns : List Act → List ℕ
 closed_conns done = filter_map closes_conn done
 
--- An act after others connects the link of the next number, closes a link that was connected and not closed, or a connection that was not closed.
+-- An act after others connects the link of the next number, closes a link that was connected and not closed, or a
+-- connection that was not closed.
 abbrev pub IsPaired : List Act → Act → Type 0
 IsPaired before (act.Connect l to) = l ≡ length (connected before) + 1
 IsPaired before (act.CloseLink l) = (list_any (nat_eq l) (connected before) ≡ true) × (list_any (nat_eq l) (closed_links before) ≡ false)
 IsPaired before (act.CloseConn c) = list_any (nat_eq c) (closed_conns before) ≡ false
 IsPaired before _ = Unit {0}
 
--- So the links of all CONNECTs are 1, 2, 3 and so on, a link is closed at most once and only after its CONNECT, and a connection at most once.
+-- So the links of all CONNECTs are 1, 2, 3 and so on, a link is closed at most once and only after its CONNECT, and a
+-- connection at most once.
 abbrev pub ArePaired : List Act → Type 0
 ArePaired done = (before later : List Act) (a : Act) → done ≡ before ++ a ∷ later → IsPaired before a
 

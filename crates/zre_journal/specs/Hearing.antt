@@ -22,7 +22,8 @@ heard said = filter_map message_in said
 abbrev pub heard_on : Config → ℕ → List Mark → List Message
 heard_on g c H = heard (talk g.id (bytes c H))
 
--- What was counted on a connection is a front of the messages that its octets say. Where it runs a peer, that is all of them, and they have no fault.
+-- What was counted on a connection is a front of the messages that its octets say. Where it runs a peer, that is all
+-- of them, and the octets have no fault.
 pub record RunsOnOctets (g : Config) (H : List Mark) : Type 0 where
   pub is_front : (c : ℕ) → (rest : List Message) × (heard_on g c H ≡ counted_on c H ++ rest)
   pub is_all : (c l : ℕ) → runs c H ≡ Some l → (heard_on g c H ≡ counted_on c H) × (fault_in g.id (bytes c H) ≡ None)

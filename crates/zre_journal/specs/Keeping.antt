@@ -24,8 +24,9 @@ abbrev pub carried : (Input → List ℕ) → List Entry → List ℕ
 carried f [] = []
 carried f (e ∷ es) = f e.input ++ carried f es
 
--- Its marks of entries are the journal J. So its clock is the greatest reading of J, and the octets of a connection and the replies on a link
--- are what the entries carried that came after the first opening of that connection and after that link was first up.
+-- Its marks of entries are the journal J. So its clock is the greatest reading of J, and the octets of a connection
+-- and the replies on a link are what the entries carried that came after the first opening of that connection and
+-- after that link was first up.
 pub record Keeps (J : List Entry) (H : List Mark) : Type 0 where
   pub entries_are : entries H ≡ J
   pub clock_is : clock H ≡ greatest J

@@ -6,6 +6,7 @@ pub mod Closing
 pub mod Commands
 pub mod Config
 pub mod Connections
+pub mod Cutting
 pub mod Done
 pub mod Endings
 pub mod Events

@@ -21,7 +21,8 @@ abbrev pub only_begins_with_hello : List Body → Bool
 only_begins_with_hello [] = false
 only_begins_with_hello (b ∷ bs) = is_hello b && not (list_any is_hello bs)
 
--- On the link of each known peer HELLO is the first message and no other is, and who reads all that was put there has the true view of the node.
+-- On the link of each known peer HELLO is the first message and no other is, and who reads all that was put there has
+-- the true view of the node (RFC 36, HELLO, JOIN and LEAVE).
 pub record TellsTruth (g : Config) (H : List Mark) : Type 0 where
   pub hello_first : (l : ℕ) → IsSome (life l H) → only_begins_with_hello (bodies l H) ≡ true
   pub is_true : (l : ℕ) → IsSome (life l H) → view_of (queued l H) ≡ own_view g H

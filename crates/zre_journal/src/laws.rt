@@ -1,6 +1,6 @@
 //! Laws of what journals mean. The functions do nothing: what they ensure is for proofs.
 
-ghost use Rattle.std.specs.Prelude.{◌≡◌, ◌≤◌, ◌++◌, ◌∷◌, [], true, List};
+ghost use Rattle.std.specs.Prelude.{◌≡◌, ℕ, ◌≤◌, ◌++◌, ◌∷◌, [], true, List};
 ghost use Rattle.std.specs.List.{list_any};
 ghost use Rattle.zre_outside.specs.declared.entry.Entry.{Entry};
 ghost use Rattle.zre_outside.specs.declared.entry.Input.TheVariants.{Tick};
@@ -22,6 +22,7 @@ ghost use Rattle.zre_journal.specs.Proper.{IsProper};
 ghost use Rattle.zre_journal.specs.Truth.{TellsTruth};
 ghost use Rattle.zre_journal.specs.Hearing.{RunsOnOctets};
 ghost use Rattle.zre_journal.specs.Cleaning.{IsClean};
+ghost use Rattle.zre_journal.specs.Cutting.{IsSameCut};
 ghost use Rattle.zre_journal.specs.Spoken.{AreInTurn, FollowsMessages};
 
 /// The events of a journal begin those of every longer one, and so do its acts.
@@ -150,4 +151,10 @@ pub fn a_run_is_its_octets()
 /// that time.
 pub fn a_tick_cleans_up()
     ensures { (g : Config) (J : List Entry) (e : Entry) → is_valid g ≡ true → e.input ≡ Tick → IsClean g (chronicle g (J ++ e ∷ [])) }
+{}
+
+/// A piece that is cut in two at the same reading brings about the same: the same is told, and the same is done but for
+/// offers, which are made at the end of each entry.
+pub fn any_cut()
+    ensures { (g : Config) (J : List Entry) (at c : ℕ) (a b : List ℕ) → IsSameCut g J at c a b }
 {}
