@@ -249,7 +249,7 @@ module _ (g : Config) where
         octets : bytes c R ≡ bytes c H ++ a
         octets = inner_bytes c M P inner ∙ octets_now a H o
 
-        said : completed g.id c R (Comes two ∷ R) ≡ ys
+        said : newly_completed g.id c R (Comes two ∷ R) ≡ ys
         said = said_now b R opened ∙ ap (λ x. completed_by g.id x b) octets
 
         twos : marks g two R ≡ N
