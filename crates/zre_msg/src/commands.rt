@@ -127,12 +127,7 @@ fn leave(alloc: Global, group: &[u8], status: u8) -> Result<Body, OutOfMemory>
     Ok(Body::Leave { group, status })
 }
 
-fn other(
-    alloc: Global,
-    number: u8,
-    rest: &[u8],
-    further: Further<'_>,
-) -> Result<Body, OutOfMemory>
+fn other(alloc: Global, number: u8, rest: &[u8], further: Further<'_>) -> Result<Body, OutOfMemory>
     ensures { IfOk result (λ body. body ≡ bodies.Other number rest.now (frames_of further.entry)) }
 {
     let more = further.take(alloc)?;
