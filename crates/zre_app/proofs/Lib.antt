@@ -1,3 +1,2 @@
 pub mod KeyPairs
-pub mod PlainCommands
 pub mod Unread

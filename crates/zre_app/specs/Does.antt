@@ -1,54 +1,96 @@
 -- What a call does, by the command that its words are.
-use Rattle.std.specs.Prelude.{ℕ, Bool, true, false, List, Option, Some, None}
+use Rattle.std.specs.Prelude.{◌≡◌, ◌≤◌, ℕ, Bool, true, false, not, is_some, List, Option, Some, None}
 use Rattle.zre_outside.specs.Causes.{Rose}
 use Rattle.zre_commands.specs.declared.pump.status.Status.{Status}
+use Rattle.zre_commands.specs.pump.Meaning.{Meaning}
 use Rattle.zre_commands.specs.pump.Outcome.{Pumped}
 use Rattle.zre_commands.specs.follow.Follow.{follow}
 use Rattle.zre_commands.specs.show.Show.{show}
 use Rattle.zre_commands.specs.replay.Replay.{replay}
 use Rattle.zre_commands.specs.exercise.Exercise.{text as exercise_text}
 use Rattle.zre_chat.specs.Chat.{Seen, IsChat}
-use Rattle.zre_app.specs.declared.words.Command.{Command}
-use Rattle.zre_app.specs.declared.words.Command.TheVariants.{Follow, Show, Replay, Exercise, Chat}
+use Rattle.zre_app.specs.declared.command.Command.{Command}
+use Rattle.zre_app.specs.declared.command.Command.TheVariants as commands
+use Rattle.zre_app.specs.declared.plain_words.Plain.{Plain}
+use Rattle.zre_app.specs.declared.plain_words.Plain.TheVariants.{Follow, Show, Replay, Exercise}
+use Rattle.zre_app.specs.Given.{Streams, StreamViews, streams, streams_of, Handed, Views, seen_of}
 use Rattle.zre_app.specs.Usage.{UsageOutcome, WritesText}
 
--- what is done without a network: read and write say that the counts of faults of the source and the sink rose
-abbrev pub DoesPlain : Option Command → (limit : ℕ) → Status → (left left' taken taken' written written' : Option (List ℕ)) (read write : Type 0) → Type 0
--- the words are no command, and nothing but that is written
-DoesPlain None limit status left left' taken taken' written written' read write = UsageOutcome status written written' write
--- some octets of the source are taken, and the status says what is written of them
-DoesPlain (Some (Follow id)) limit status left left' taken taken' written written' read write = Pumped status limit (follow id) left left' taken taken' written written' read write
-DoesPlain (Some Show) limit status left left' taken taken' written written' read write = Pumped status limit show left left' taken taken' written written' read write
-DoesPlain (Some (Replay g)) limit status left left' taken taken' written written' read write = Pumped status limit (replay g) left left' taken taken' written written' read write
--- the summary of the journal that these numbers make is written
-DoesPlain (Some (Exercise seed peers messages)) limit status left left' taken taken' written written' read write = WritesText status (exercise_text seed peers messages) written written' write
--- a chat needs more
-DoesPlain (Some (Chat g start name)) limit status left left' taken taken' written written' read write = ⊥
+-- what is to be done without a network
+pub data Work : Type 0 where
+  -- to read, and to make this of the input
+  Reads : Meaning → Work
+  -- to write a text, which the words alone make
+  Writes : List ℕ → Work
+
+abbrev pub work_of : Plain → Work
+work_of (Follow id) = Reads (follow id)
+work_of Show = Reads show
+work_of (Replay g) = Reads (replay g)
+work_of (Exercise seed peers messages) = Writes (exercise_text seed peers messages)
+
+-- the status says of it what was taken of the source and what was written
+abbrev pub DoesWork : Work → (limit : ℕ) → Status → Streams → Streams → Type 0
+DoesWork (Reads m) limit status s t =
+    Pumped status limit m s.left t.left s.taken t.taken s.written t.written
+    (Rose s.read_faults t.read_faults) (Rose s.write_faults t.write_faults)
+DoesWork (Writes text) limit status s t =
+    WritesText status text s.written t.written (Rose s.write_faults t.write_faults)
+
+-- or the words are no command, and nothing but that is written
+abbrev pub DoesPlain : Option Plain → (limit : ℕ) → Status → Streams → Streams → Type 0
+DoesPlain None limit status s t = UsageOutcome status s.written t.written (Rose s.write_faults t.write_faults)
+DoesPlain (Some p) limit status s t = DoesWork (work_of p) limit status s t
 
 -- what is done of all that is handed in
 abbrev pub Does : Option Command → (limit : ℕ) → Status → Seen → Seen → Type 0
-Does (Some (Chat g start name)) limit status s t = IsChat g start name limit s t status
-Does None limit status s t = DoesPlain None limit status s.left t.left s.taken t.taken s.written t.written (Rose s.read_faults t.read_faults) (Rose s.write_faults t.write_faults)
-Does (Some (Follow id)) limit status s t = DoesPlain (Some (Follow id)) limit status s.left t.left s.taken t.taken s.written t.written (Rose s.read_faults t.read_faults) (Rose s.write_faults t.write_faults)
-Does (Some Show) limit status s t = DoesPlain (Some Show) limit status s.left t.left s.taken t.taken s.written t.written (Rose s.read_faults t.read_faults) (Rose s.write_faults t.write_faults)
-Does (Some (Replay g)) limit status s t = DoesPlain (Some (Replay g)) limit status s.left t.left s.taken t.taken s.written t.written (Rose s.read_faults t.read_faults) (Rose s.write_faults t.write_faults)
-Does (Some (Exercise seed peers messages)) limit status s t = DoesPlain (Some (Exercise seed peers messages)) limit status s.left t.left s.taken t.taken s.written t.written (Rose s.read_faults t.read_faults) (Rose s.write_faults t.write_faults)
+Does None limit status s t = DoesPlain None limit status (streams_of s) (streams_of t)
+Does (Some (commands.Plain p)) limit status s t = DoesPlain (Some p) limit status (streams_of s) (streams_of t)
+Does (Some (commands.Chat c)) limit status s t = IsChat c.config c.start c.capture limit s t status
 
 -- it reads nothing
+abbrev pub is_writing : Work → Bool
+is_writing (Reads m) = false
+is_writing (Writes text) = true
+
+abbrev pub is_plain_unread : Option Plain → Bool
+is_plain_unread None = true
+is_plain_unread (Some p) = is_writing (work_of p)
+
 abbrev pub is_unread : Option Command → Bool
 is_unread None = true
-is_unread (Some (Exercise seed peers messages)) = true
-is_unread (Some (Follow id)) = false
-is_unread (Some Show) = false
-is_unread (Some (Replay g)) = false
-is_unread (Some (Chat g start name)) = false
+is_unread (Some (commands.Plain p)) = is_plain_unread (Some p)
+is_unread (Some (commands.Chat c)) = false
 
 -- it keeps no capture
 abbrev pub is_unkept : Option Command → Bool
-is_unkept (Some (Chat g start None)) = true
-is_unkept (Some (Chat g start (Some name))) = false
 is_unkept None = true
-is_unkept (Some (Follow id)) = true
-is_unkept (Some Show) = true
-is_unkept (Some (Replay g)) = true
-is_unkept (Some (Exercise seed peers messages)) = true
+is_unkept (Some (commands.Plain p)) = true
+is_unkept (Some (commands.Chat c)) = not (is_some c.capture)
+
+-- it is none, or another than `chat`
+abbrev pub is_plain : Option Command → Bool
+is_plain None = true
+is_plain (Some (commands.Plain p)) = true
+is_plain (Some (commands.Chat c)) = false
+
+-- what a call came to whose words are no chat
+pub record DidPlain {I O : Type 0} (v : StreamViews I O) (p : Option Plain) (limit : ℕ) (status : Status)
+    (input input' : I) (out out' : O) : Type 0 where
+  pub does : DoesPlain p limit status (streams v input out) (streams v input' out')
+  pub reads : v.read_faults input ≤ v.read_faults input'
+  pub writes : v.write_faults out ≤ v.write_faults out'
+  -- what isn't read comes back as it was handed in
+  pub unread : is_plain_unread p ≡ true → input' ≡ input
+
+-- and any call, of what is handed in as it was before and after
+pub record Did {I W O R P : Type 0} (v : Views I W O R P) (c : Option Command) (limit : ℕ) (status : Status)
+    (h h' : Handed I W O R P) : Type 0 where
+  pub does : Does c limit status (seen_of v h) (seen_of v h')
+  pub reads : v.streams.read_faults h.input ≤ v.streams.read_faults h'.input
+  pub writes : v.streams.write_faults h.out ≤ v.streams.write_faults h'.out
+  -- what isn't used comes back as it was handed in
+  pub unread : is_unread c ≡ true → h'.input ≡ h.input
+  pub unkept : is_unkept c ≡ true → h'.rec ≡ h.rec
+  pub world : is_plain c ≡ true → h'.world ≡ h.world
+  pub spawner : is_plain c ≡ true → h'.spawner ≡ h.spawner

@@ -6,7 +6,8 @@ use Rattle.zre_values.specs.declared.peer_id.PeerId.{PeerId}
 use Rattle.zre_app.specs.declared.keys.Often.{Often}
 use Rattle.zre_app.specs.declared.keys.Often.TheVariants.{Once, AtMostOnce, AnyTimes}
 
--- what stands after a front, where the word begins with it; a key ends in `=`, so it is the word's key up to the first one
+-- what stands after a front, where the word begins with it; a key ends in `=`, so it is the word's key up to the first
+-- one
 abbrev pub after : List ℕ → List ℕ → Option (List ℕ)
 after [] word = Some word
 after (k ∷ key) [] = None

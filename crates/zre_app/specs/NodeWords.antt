@@ -13,8 +13,8 @@ use Rattle.zre_app.specs.declared.node_words.Fixed.{Fixed}
 -- the keys: the identity, where the mailbox is, the name, headers, and the milliseconds of silence
 abbrev pub node_keys : List (List ℕ × Often)
 node_keys =
-    (codes "id=", Once) ∷ (codes "host=", Once) ∷ (codes "port=", Once) ∷ (codes "name=", AtMostOnce) ∷ (codes "header=", AnyTimes)
-    ∷ (codes "evasive=", AtMostOnce) ∷ (codes "expired=", AtMostOnce) ∷ []
+    (codes "id=", Once) ∷ (codes "host=", Once) ∷ (codes "port=", Once) ∷ (codes "name=", AtMostOnce)
+    ∷ (codes "header=", AnyTimes) ∷ (codes "evasive=", AtMostOnce) ∷ (codes "expired=", AtMostOnce) ∷ []
 
 -- a number of a key that may be left out
 abbrev pub number_or : ℕ → Option (List ℕ) → Option ℕ
@@ -63,15 +63,27 @@ header_of text = option_map (λ i. (take i text, drop (i + 1) text)) (position (
 abbrev pub headers_from : List (List ℕ × List ℕ) → List (List ℕ) → Option (List (List ℕ × List ℕ))
 headers_from done [] = Some done
 headers_from done (word ∷ words) =
-    if begins (codes "header=") word then option_and_then (λ h. headers_from (done ++ h ∷ []) words) (option_and_then header_of (after (codes "header=") word))
+    if begins (codes "header=") word
+    then option_and_then (λ h. headers_from (done ++ h ∷ []) words)
+    (option_and_then header_of (after (codes "header=") word))
     else headers_from done words
 
 abbrev pub config_by : Fixed → List ℕ → List (List ℕ × List ℕ) → Config
-config_by f name headers = record { id = f.id; name = name; headers = headers; host = f.host; port = f.port; evasive = f.evasive; expired = f.expired }
+config_by f name headers = record {
+  id = f.id;
+  name = name;
+  headers = headers;
+  host = f.host;
+  port = f.port;
+  evasive = f.evasive;
+  expired = f.expired;
+}
 
 -- the settings, where a node can be with them
 abbrev pub if_valid : Config → Option Config
 if_valid g = if is_valid g then Some g else None
 
 abbrev pub config_in : List (List ℕ) → Option Config
-config_in words = option_and_then (λ f. option_and_then (λ headers. if_valid (config_by f (name_in f.id words) headers)) (headers_from [] words)) (fixed_in words)
+config_in words =
+    option_and_then (λ f. option_and_then (λ headers. if_valid (config_by f (name_in f.id words) headers))
+    (headers_from [] words)) (fixed_in words)

@@ -1,4 +1,4 @@
--- What a status says where nothing is read: of words that are no command, and of a text that is made from the words alone.
+-- What a status says where nothing is read: of words that are no command, and of a text that the words alone make.
 use Rattle.std.specs.Prelude.{ℕ, List, codes, Option}
 use Rattle.std.specs.Io.KnownBytes.{Appends}
 use Rattle.zre_outside.specs.Told.{AppendsFront}

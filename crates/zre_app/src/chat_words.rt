@@ -1,22 +1,24 @@
 //! The words of `chat`.
 
-ghost use Rattle.std.specs.Prelude.{◌≡◌, ◌≤◌, ◌∷◌, ℕ, List, [], true, None, if◌then◌else◌, map, option_and_then, length, IfOk, IfSome};
+ghost use Rattle.std.specs.Prelude.{◌≡◌, ◌≤◌, ◌∷◌, ℕ, List, [], true, None, if◌then◌else◌, map};
+ghost use Rattle.std.specs.Prelude.{option_and_then, length, IfOk, IfSome};
 ghost use Rattle.std.specs.Str.{is_utf8};
 ghost use Rattle.zre_capture.specs.Values.{address_of};
-ghost use Rattle.zre_app.specs.ChatWords.{addresses_from, address_or, beacon_in, capture_in, file_name_of, interval_in, listen_in, start_in, to_in};
+ghost use Rattle.zre_app.specs.ChatWords.{addresses_from, address_or, beacon_in, capture_in, file_name_of, interval_in};
+ghost use Rattle.zre_app.specs.ChatWords.{listen_in, start_in, to_in, chat_keys, chat_in, chat_with, chat_of, CanChat};
 ghost use Rattle.zre_app.specs.Keys.{value_of as value_of_key};
 ghost use Rattle.zre_app.specs.NodeWords.{between, number_or as number_or_default};
-ghost use Rattle.zre_app.specs.Words.{chat_in, chat_of, IsReady};
 ghost use Rattle.zre_journal.specs.Config.{is_valid};
 
 use crate::keys::{Key, Often, after, are_words_of, value_of};
-use crate::node_words::{config_in, number_or};
-use crate::words::{Command, is_text};
+use crate::node_words::{config_in, node_keys, number_or};
+use crate::words::{are_texts, is_text};
 use std::alloc::Global;
 use zre_capture::address;
+use zre_chat::Chat;
 use zre_journal::Config;
 use zre_outside::{Addresses, Start};
-use zre_values::{Octets, OutOfMemory};
+use zre_values::{Frames, Octets, OutOfMemory};
 
 // The most addresses to which beacons are sent.
 const ADDRESSES: usize = 64;
@@ -25,56 +27,40 @@ const ADDRESSES: usize = 64;
 const DAY: u64 = 86400000;
 
 // The keys of `chat`: those of a node, and five more.
-const KEYS: [Key<'static>; 12] = [
-    Key {
-        name: b"id=",
-        often: Often::Once,
-    },
-    Key {
-        name: b"host=",
-        often: Often::Once,
-    },
-    Key {
-        name: b"port=",
-        often: Often::Once,
-    },
-    Key {
-        name: b"name=",
-        often: Often::AtMostOnce,
-    },
-    Key {
-        name: b"header=",
-        often: Often::AnyTimes,
-    },
-    Key {
-        name: b"evasive=",
-        often: Often::AtMostOnce,
-    },
-    Key {
-        name: b"expired=",
-        often: Often::AtMostOnce,
-    },
-    Key {
-        name: b"to=",
-        often: Often::AnyTimes,
-    },
-    Key {
-        name: b"listen=",
-        often: Often::AtMostOnce,
-    },
-    Key {
-        name: b"beacon=",
-        often: Often::AtMostOnce,
-    },
-    Key {
-        name: b"interval=",
-        often: Often::AtMostOnce,
-    },
-    Key {
-        name: b"capture=",
-        often: Often::AtMostOnce,
-    },
-];
+fn chat_keys() -> [Key<'static>; 12]
+    ensures { map (λ key. (key.name.now, key.often)) result ≡ chat_keys }
+{
+    let [id, host, port, name, header, evasive, expired] = node_keys();
+    [
+        id,
+        host,
+        port,
+        name,
+        header,
+        evasive,
+        expired,
+        Key {
+            name: b"to=",
+            often: Often::AnyTimes,
+        },
+        Key {
+            name: b"listen=",
+            often: Often::AtMostOnce,
+        },
+        Key {
+            name: b"beacon=",
+            often: Often::AtMostOnce,
+        },
+        Key {
+            name: b"interval=",
+            often: Often::AtMostOnce,
+        },
+        Key {
+            name: b"capture=",
+            often: Often::AtMostOnce,
+        },
+    ]
+}
 
 // A word's address is appended, if it is the word of one. Says whether it isn't a bad one.
 fn take_address(word: &[u8], to: &mut Addresses) -> Result<bool, OutOfMemory>
@@ -134,7 +120,8 @@ fn listen_in(words: &[Octets]) -> Option<[u8; 4]>
 
 // The number of a key that may be left out, where it is from 1 up to a limit.
 fn number_up_to(high: u64, default: u64, key: &[u8], words: &[Octets]) -> Option<u64>
-    ensures value { result ≡ option_and_then (between 1 high) (number_or_default default (value_of_key key.now words.now)) }
+    ensures value { result
+        ≡ option_and_then (between 1 high) (number_or_default default (value_of_key key.now words.now)) }
     ensures above { IfSome result (λ n. 1 ≤ n) }
     ensures below { IfSome result (λ n. n ≤ high) }
 {
@@ -218,9 +205,9 @@ fn capture_in(alloc: Global, words: &[Octets]) -> Result<Option<Option<Octets>>,
     }
 }
 
-fn chat_in(alloc: Global, words: &[Octets]) -> Result<Option<Command>, OutOfMemory>
-    ensures value { IfOk result (λ command. command ≡ chat_in words.now) }
-    ensures ready { IfOk result IsReady }
+fn chat_in(alloc: Global, words: &[Octets]) -> Result<Option<Chat>, OutOfMemory>
+    ensures value { IfOk result (λ chat. chat ≡ chat_in words.now) }
+    ensures ready { IfOk result (λ chat. IfSome chat CanChat) }
 {
     let Some(config) = config_in(alloc, words)? else {
         return Ok(None);
@@ -231,20 +218,38 @@ fn chat_in(alloc: Global, words: &[Octets]) -> Result<Option<Command>, OutOfMemo
     let Some(capture) = capture_in(alloc, words)? else {
         return Ok(None);
     };
-    Ok(Some(Command::Chat {
+    Ok(Some(Chat {
         config,
         start,
         capture,
     }))
 }
 
-/// The command `chat`, of the words after its name.
-pub(crate) fn chat_of(alloc: Global, words: &[Octets]) -> Result<Option<Command>, OutOfMemory>
-    ensures value { IfOk result (λ command. command ≡ chat_of words.now) }
-    ensures ready { IfOk result IsReady }
+// The chat of these words, which stand after its name.
+fn chat_with(alloc: Global, words: &[Octets]) -> Result<Option<Chat>, OutOfMemory>
+    ensures value { IfOk result (λ chat. chat ≡ chat_with words.now) }
+    ensures ready { IfOk result (λ chat. IfSome chat CanChat) }
 {
-    if !are_words_of(&KEYS, words) {
+    if !are_words_of(&chat_keys(), words) {
         return Ok(None);
     }
     chat_in(alloc, words)
+}
+
+/// The chat that the words are. None where they aren't its name and words of its list, or where one isn't UTF-8.
+pub(crate) fn chat_of(alloc: Global, words: &Frames) -> Result<Option<Chat>, OutOfMemory>
+    ensures value { IfOk result (λ chat. chat ≡ chat_of words.now) }
+    ensures ready { IfOk result (λ chat. IfSome chat CanChat) }
+{
+    let words = words.as_slice();
+    let Some((name, others)) = words.split_first() else {
+        return Ok(None);
+    };
+    if !are_texts(words) {
+        return Ok(None);
+    }
+    if name.as_slice() == b"chat".as_slice() {
+        return chat_with(alloc, others);
+    }
+    Ok(None)
 }

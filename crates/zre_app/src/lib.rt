@@ -4,15 +4,19 @@
 
 mod chat;
 mod chat_words;
+mod command;
 mod keys;
 mod laws;
 mod node_words;
 mod plain_commands;
+mod plain_words;
 mod top;
 mod words;
 
+pub use command::{Command, command_of, is_chat};
 pub use laws::kept_captures_are_replayed;
 pub use plain_commands::{PlainEnded, plain};
+pub use plain_words::Plain;
 pub use top::{Ended, LIMIT, run, zre};
-pub use words::{Command, command_of, is_chat};
+pub use zre_chat::Chat;
 pub use zre_commands::pump::Status;

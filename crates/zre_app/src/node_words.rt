@@ -1,7 +1,9 @@
 //! The words that set up a node.
 
-ghost use Rattle.std.specs.Prelude.{◌≡◌, ◌==◌, ◌∷◌, ℕ, List, [], true, None, if◌then◌else◌, map, option_and_then, position, codes, IfOk, IfSome};
-ghost use Rattle.zre_app.specs.NodeWords.{node_keys, number_or, port_of, id_in, host_in, port_in, evasive_in, expired_in, fixed_in, name_in, header_of, headers_from, config_in};
+ghost use Rattle.std.specs.Prelude.{◌≡◌, ◌==◌, ◌∷◌, ℕ, List, [], true, None, if◌then◌else◌, map};
+ghost use Rattle.std.specs.Prelude.{option_and_then, position, codes, IfOk, IfSome};
+ghost use Rattle.zre_app.specs.NodeWords.{node_keys, number_or, port_of, id_in, host_in, port_in, evasive_in};
+ghost use Rattle.zre_app.specs.NodeWords.{expired_in, fixed_in, name_in, header_of, headers_from, config_in};
 ghost use Rattle.zre_app.specs.Keys.{after as after_key, value_of as value_of_key};
 ghost use Rattle.zre_journal.specs.Config.{is_valid};
 

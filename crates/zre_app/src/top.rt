@@ -1,14 +1,14 @@
 //! The top call: the command that the words ask for, over a source and a sink, and for `chat` a world, a recorder and a
 //! spawner.
 
-ghost use Rattle.std.specs.Prelude.{◌≡◌, ◌≤◌, true};
-ghost use Rattle.zre_chat.specs.Chat.{seen};
-ghost use Rattle.zre_app.specs.Does.{Does, is_unread, is_unkept};
-ghost use Rattle.zre_app.specs.Words.{command_of, is_plain};
+ghost use Rattle.zre_app.specs.Does.{Did};
+ghost use Rattle.zre_app.specs.Given.{handed, stream_views, views};
+ghost use Rattle.zre_app.specs.Words.{command_of};
 
-use crate::chat::{chat, chat_asked};
+use crate::chat::chat;
+use crate::chat_words::chat_of;
+use crate::command::is_chat;
 use crate::plain_commands::{PlainEnded, plain, usage};
-use crate::words::is_chat;
 use std::alloc::Global;
 use std::sync::Wait;
 use std::thread::Threads;
@@ -28,8 +28,8 @@ pub struct Ended<I, W, R> {
     pub rec: R,
 }
 
-/// Does what the words ask for, and reads at most `limit` octets; `chat` takes at most as many turns of the world, too. What is
-/// handed in comes back as it was left.
+/// Does what the words ask for, and reads at most `limit` octets; `chat` takes at most as many turns of the world, too.
+/// What is handed in comes back as it was left.
 pub fn run<
     T: Wait + Threads + Copy,
     I: Source + Send + Drop + 'static,
@@ -48,16 +48,10 @@ pub fn run<
     spawner: &mut P,
     limit: u64,
 ) -> Ended<I, W, R>
-    ensures does { Does (command_of words.now) limit result.status
-        (seen (I.left input) (I.taken input) (I.faults input) (W.told world) (W.faults world) (O.written out.old) (O.faults out.old) (R.kept rec) (R.named rec) (R.faults rec) (P.faults spawner.old))
-        (seen (I.left result.input) (I.taken result.input) (I.faults result.input) (W.told result.world) (W.faults result.world) (O.written out.new) (O.faults out.new) (R.kept result.rec) (R.named result.rec) (R.faults result.rec) (P.faults spawner.new)) }
-    ensures reads { I.faults input ≤ I.faults result.input }
-    ensures writes { O.faults out.old ≤ O.faults out.new }
-    // What isn't used comes back as it was handed in.
-    ensures unread { is_unread (command_of words.now) ≡ true → result.input ≡ input }
-    ensures unkept { is_unkept (command_of words.now) ≡ true → result.rec ≡ rec }
-    ensures world { is_plain (command_of words.now) ≡ true → result.world ≡ world }
-    ensures spawner { is_plain (command_of words.now) ≡ true → spawner.new ≡ spawner.old }
+    ensures does { Did (views (stream_views I.left I.taken I.faults O.written O.faults)
+        W.told W.faults R.kept R.named R.faults P.faults)
+        (command_of words.now) limit result.status (handed input world out.old rec spawner.old)
+        (handed result.input result.world out.new result.rec spawner.new) }
 {
     if !is_chat(words) {
         let PlainEnded { status, input } = plain(alloc, words, input, out, limit);
@@ -68,7 +62,7 @@ pub fn run<
             rec,
         };
     }
-    match chat_asked(alloc, words) {
+    match chat_of(alloc, words) {
         Ok(Some(asked)) => chat(rt, alloc, asked, input, world, out, rec, spawner, limit),
         Ok(None) => Ended {
             status: usage(out),
@@ -103,16 +97,10 @@ pub fn zre<
     rec: R,
     spawner: &mut P,
 ) -> Ended<I, W, R>
-    ensures does { Does (command_of words.now) LIMIT result.status
-        (seen (I.left input) (I.taken input) (I.faults input) (W.told world) (W.faults world) (O.written out.old) (O.faults out.old) (R.kept rec) (R.named rec) (R.faults rec) (P.faults spawner.old))
-        (seen (I.left result.input) (I.taken result.input) (I.faults result.input) (W.told result.world) (W.faults result.world) (O.written out.new) (O.faults out.new) (R.kept result.rec) (R.named result.rec) (R.faults result.rec) (P.faults spawner.new)) }
-    ensures reads { I.faults input ≤ I.faults result.input }
-    ensures writes { O.faults out.old ≤ O.faults out.new }
-    // What isn't used comes back as it was handed in.
-    ensures unread { is_unread (command_of words.now) ≡ true → result.input ≡ input }
-    ensures unkept { is_unkept (command_of words.now) ≡ true → result.rec ≡ rec }
-    ensures world { is_plain (command_of words.now) ≡ true → result.world ≡ world }
-    ensures spawner { is_plain (command_of words.now) ≡ true → spawner.new ≡ spawner.old }
+    ensures does { Did (views (stream_views I.left I.taken I.faults O.written O.faults)
+        W.told W.faults R.kept R.named R.faults P.faults)
+        (command_of words.now) LIMIT result.status (handed input world out.old rec spawner.old)
+        (handed result.input result.world out.new result.rec spawner.new) }
 {
     run(rt, alloc, words, input, world, out, rec, spawner, LIMIT)
 }

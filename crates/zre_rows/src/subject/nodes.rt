@@ -6,7 +6,7 @@ use crate::texts::push_hex;
 use crate::trouble::Trouble;
 use crate::words::{Words, push_texts};
 use std::alloc::Global;
-use zre_app::{Command, command_of};
+use zre_app::{Command, Plain, command_of};
 use zre_journal::Config;
 use zre_node::{Node, Step};
 use zre_outside::Entry;
@@ -27,7 +27,7 @@ fn config_of(alloc: Global, arguments: &[u8]) -> Result<Config, Trouble> {
     words.push(Octets::copy(alloc, b"replay")?)?;
     push_texts(alloc, &mut words, arguments)?;
     match command_of(alloc, &words)? {
-        Some(Command::Replay { config }) => Ok(config),
+        Some(Command::Plain(Plain::Replay { config })) => Ok(config),
         _ => Err(Trouble::BadArgument),
     }
 }

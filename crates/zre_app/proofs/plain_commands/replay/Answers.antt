@@ -1,5 +1,5 @@
-use Rattle.zre_app.proofs.Unread.{nothing_taken}
+use Rattle.zre_app.proofs.Unread.{nothing_did_plain}
 use Rattle.zre_app.proofs.plain_commands.replay.Goals as goal
 
-pub returns-in-Err-clause-pumped : goal.returns-in-Err-clause-pumped
-returns-in-Err-clause-pumped g c = nothing_taken _ _ _ _ _ _ _
+pub returns-in-Err : goal.returns-in-Err
+returns-in-Err g c = record { does = nothing_did_plain _ _ _ _ _ }

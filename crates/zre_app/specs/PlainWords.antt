@@ -1,0 +1,68 @@
+-- The words of the commands but `chat`: the name of one, and then its words.
+use Rattle.std.specs.Prelude.{◌≡◌, ◌≤◌, ℕ, true, not, List, [], ◌∷◌, Option, Some, None, option_and_then, option_map, codes, if◌then◌else◌}
+use Rattle.std.specs.List.{list_all}
+use Rattle.std.specs.Str.{bytes_eq, is_utf8}
+use Rattle.zre_capture.specs.Values.{number_of}
+use Rattle.zre_journal.specs.Config.{is_valid}
+use Rattle.zre_app.specs.Keys.{are_words_of, value_of, identity}
+use Rattle.zre_app.specs.NodeWords.{node_keys, between, config_in}
+use Rattle.zre_app.specs.declared.keys.Often.{Often}
+use Rattle.zre_app.specs.declared.keys.Often.TheVariants.{Once}
+use Rattle.zre_app.specs.declared.plain_words.Plain.{Plain}
+use Rattle.zre_app.specs.declared.plain_words.Plain.TheVariants.{Follow, Show, Replay, Exercise}
+
+-- the keys of `follow`: the identity of the peer
+abbrev pub follow_keys : List (List ℕ × Often)
+follow_keys = (codes "id=", Once) ∷ []
+
+abbrev pub follow_of : List (List ℕ) → Option Plain
+follow_of words =
+    if are_words_of follow_keys words
+    then option_map Follow (option_and_then identity (value_of (codes "id=") words))
+    else None
+
+-- `show` has no words
+abbrev pub show_of : List (List ℕ) → Option Plain
+show_of words = if are_words_of [] words then Some Show else None
+
+-- `replay` has those of a node
+abbrev pub replay_of : List (List ℕ) → Option Plain
+replay_of words = if are_words_of node_keys words then option_map Replay (config_in words) else None
+
+-- the keys of `exercise`: the seed, and how many peers and messages there are
+abbrev pub exercise_keys : List (List ℕ × Often)
+exercise_keys = (codes "seed=", Once) ∷ (codes "peers=", Once) ∷ (codes "messages=", Once) ∷ []
+
+-- a number between these two, of the first word of a key
+abbrev pub number_in : List ℕ → ℕ → ℕ → List (List ℕ) → Option ℕ
+number_in key low high words = option_and_then (between low high) (option_and_then number_of (value_of key words))
+
+abbrev pub exercise_in : List (List ℕ) → Option Plain
+exercise_in words =
+    option_and_then (λ seed. option_and_then (λ peers. option_map (λ messages. Exercise seed peers messages)
+    (number_in (codes "messages=") 0 1000000 words)) (number_in (codes "peers=") 1 256 words))
+    (number_in (codes "seed=") 0 18446744073709551615 words)
+
+abbrev pub exercise_of : List (List ℕ) → Option Plain
+exercise_of words = if are_words_of exercise_keys words then exercise_in words else None
+
+-- a command by its name and its words
+abbrev pub plain_named : List ℕ → List (List ℕ) → Option Plain
+plain_named name words =
+    if bytes_eq name (codes "follow") then follow_of words
+    else if bytes_eq name (codes "show") then show_of words
+    else if bytes_eq name (codes "replay") then replay_of words
+    else if bytes_eq name (codes "exercise") then exercise_of words
+    else None
+
+-- the command that the words are; none where they are in no list of words, or one isn't text
+abbrev pub plain_of : List (List ℕ) → Option Plain
+plain_of [] = None
+plain_of (name ∷ words) = if not (list_all is_utf8 (name ∷ words)) then None else plain_named name words
+
+-- the settings that it names are those with which a node can be, and the numbers those of an exercise
+abbrev pub CanDo : Plain → Type 0
+CanDo (Follow id) = Unit {0}
+CanDo Show = Unit {0}
+CanDo (Replay g) = is_valid g ≡ true
+CanDo (Exercise seed peers messages) = (1 ≤ peers) × (peers ≤ 256) × (messages ≤ 1000000)

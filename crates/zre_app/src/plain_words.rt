@@ -1,0 +1,179 @@
+//! The words of the commands but `chat`.
+
+ghost use Rattle.std.specs.Prelude.{◌≡◌, ◌≤◌, map, IfOk, IfSome};
+ghost use Rattle.zre_app.specs.PlainWords.{follow_of, show_of, replay_of, number_in, exercise_in, exercise_keys};
+ghost use Rattle.zre_app.specs.PlainWords.{exercise_of, plain_named, plain_of, CanDo};
+
+use crate::keys::{Key, Often, are_words_of, identity, value_of};
+use crate::node_words::{config_in, node_keys};
+use crate::words::are_texts;
+use std::alloc::Global;
+use zre_capture::number;
+use zre_journal::Config;
+use zre_values::{Frames, Octets, OutOfMemory, PeerId};
+
+/// A command that has to do with a source and a sink alone.
+#[derive(Drop)]
+pub enum Plain {
+    /// Write the events of one connection of this peer.
+    Follow {
+        id: PeerId,
+    },
+    /// Write a line for each item of a whole stream.
+    Show,
+    /// Write the events of a node with these settings, from a capture of its journal.
+    Replay {
+        config: Config,
+    },
+    /// Write the summary of a large journal that is made from a number.
+    Exercise {
+        seed: u64,
+        peers: u16,
+        messages: u32,
+    },
+}
+
+fn follow_of(words: &[Octets]) -> Option<Plain>
+    ensures value { result ≡ follow_of words.now }
+    ensures ready { IfSome result CanDo }
+{
+    let keys = [Key {
+        name: b"id=",
+        often: Often::Once,
+    }];
+    if !are_words_of(&keys, words) {
+        return None;
+    }
+    match value_of(b"id=", words) {
+        None => None,
+        Some(text) => match identity(text) {
+            None => None,
+            Some(id) => Some(Plain::Follow { id }),
+        },
+    }
+}
+
+fn show_of(words: &[Octets]) -> Option<Plain>
+    ensures value { result ≡ show_of words.now }
+    ensures ready { IfSome result CanDo }
+{
+    if are_words_of(&[], words) {
+        Some(Plain::Show)
+    } else {
+        None
+    }
+}
+
+fn replay_of(alloc: Global, words: &[Octets]) -> Result<Option<Plain>, OutOfMemory>
+    ensures value { IfOk result (λ plain. plain ≡ replay_of words.now) }
+    ensures ready { IfOk result (λ plain. IfSome plain CanDo) }
+{
+    if !are_words_of(&node_keys(), words) {
+        return Ok(None);
+    }
+    match config_in(alloc, words)? {
+        Some(config) => Ok(Some(Plain::Replay { config })),
+        None => Ok(None),
+    }
+}
+
+// The number of a key, where it is between these two.
+fn number_in(key: &[u8], low: u64, high: u64, words: &[Octets]) -> Option<u64>
+    ensures value { result ≡ number_in key.now low high words.now }
+    ensures above { IfSome result (λ n. low ≤ n) }
+    ensures below { IfSome result (λ n. n ≤ high) }
+{
+    match value_of(key, words) {
+        Some(text) => match number(text) {
+            Some(n) if low <= n && n <= high => Some(n),
+            _ => None,
+        },
+        None => None,
+    }
+}
+
+// The numbers of an exercise.
+fn exercise_in(words: &[Octets]) -> Option<Plain>
+    ensures value { result ≡ exercise_in words.now }
+    ensures ready { IfSome result CanDo }
+{
+    let Some(seed) = number_in(b"seed=", 0, u64::MAX, words) else {
+        return None;
+    };
+    let Some(peers) = number_in(b"peers=", 1, 256, words) else {
+        return None;
+    };
+    let Some(messages) = number_in(b"messages=", 0, 1000000, words) else {
+        return None;
+    };
+    Some(Plain::Exercise {
+        seed,
+        peers: peers as u16,
+        messages: messages as u32,
+    })
+}
+
+// The keys of an exercise.
+fn exercise_keys() -> [Key<'static>; 3]
+    ensures { map (λ key. (key.name.now, key.often)) result ≡ exercise_keys }
+{
+    [
+        Key {
+            name: b"seed=",
+            often: Often::Once,
+        },
+        Key {
+            name: b"peers=",
+            often: Often::Once,
+        },
+        Key {
+            name: b"messages=",
+            often: Often::Once,
+        },
+    ]
+}
+
+fn exercise_of(words: &[Octets]) -> Option<Plain>
+    ensures value { result ≡ exercise_of words.now }
+    ensures ready { IfSome result CanDo }
+{
+    if !are_words_of(&exercise_keys(), words) {
+        return None;
+    }
+    exercise_in(words)
+}
+
+// The command of this name, with these words.
+fn plain_named(alloc: Global, name: &[u8], words: &[Octets]) -> Result<Option<Plain>, OutOfMemory>
+    ensures value { IfOk result (λ plain. plain ≡ plain_named name.now words.now) }
+    ensures ready { IfOk result (λ plain. IfSome plain CanDo) }
+{
+    if name == b"follow".as_slice() {
+        return Ok(follow_of(words));
+    }
+    if name == b"show".as_slice() {
+        return Ok(show_of(words));
+    }
+    if name == b"replay".as_slice() {
+        return replay_of(alloc, words);
+    }
+    if name == b"exercise".as_slice() {
+        return Ok(exercise_of(words));
+    }
+    Ok(None)
+}
+
+/// The command that the words are. None where they are in no list but that of `chat`, or where one isn't UTF-8.
+pub(crate) fn plain_of(alloc: Global, words: &Frames) -> Result<Option<Plain>, OutOfMemory>
+    ensures value { IfOk result (λ plain. plain ≡ plain_of words.now) }
+    ensures ready { IfOk result (λ plain. IfSome plain CanDo) }
+{
+    let words = words.as_slice();
+    let Some((name, others)) = words.split_first() else {
+        return Ok(None);
+    };
+    if !are_texts(words) {
+        return Ok(None);
+    }
+    plain_named(alloc, name.as_slice(), others)
+}
