@@ -1,16 +1,15 @@
 //! A case file, line by line.
 
 use crate::names::Names;
-use crate::report::Report;
+use crate::report::{Place, Report};
 use crate::row::Row;
 use crate::subject::Subject;
-use crate::trouble::Trouble;
+use crate::text::Text;
 use crate::words::Words;
 use std::alloc::Global;
 use std::sync::Wait;
 use std::thread::Threads;
-use zre_capture::split_once;
-use zre_values::{Octets, OutOfMemory};
+use zre_values::Octets;
 
 /// The file under way: its names, and its row.
 #[derive(Drop)]
@@ -25,167 +24,155 @@ impl Cases {
         Cases {
             alloc,
             names: Names::new(alloc),
-            row: Row::none(alloc),
+            row: Row::new(alloc),
         }
     }
 
     // The text with its names replaced.
-    fn expanded(&self, text: &[u8]) -> Result<Octets, Trouble> {
-        let mut out = Octets::new(self.alloc);
-        self.names.expand(text, &mut out)?;
-        Ok(out)
+    fn expanded(&self, text: &[u8]) -> Text {
+        let mut out = Text::new(self.alloc);
+        self.names.expand(text, &mut out);
+        out
     }
 
     // `let NAME TEXT`
-    fn define(&mut self, arguments: &[u8]) -> Result<(), Trouble> {
-        let mut words = Words::new(arguments);
-        let name = Octets::copy(self.alloc, words.field()?)?;
-        let text = self.expanded(words.rest())?;
-        self.names.define(name, text)
+    fn define(&mut self, mut words: Words<'_>) {
+        let name = words.plain();
+        let text = self
+            .expanded(words.rest())
+            .into_octets(&mut self.row.answer);
+        if words.are_good(&mut self.row.answer) {
+            self.names.define(name, text, &mut self.row.answer);
+        }
     }
 
     // `series NAME FROM TO TEXT`: the text once for each number from FROM to TO.
-    fn define_series(&mut self, arguments: &[u8]) -> Result<(), Trouble> {
-        let mut words = Words::new(arguments);
-        let name = Octets::copy(self.alloc, words.field()?)?;
-        let from = words.number()?;
-        let to = words.number()?;
-        let mut text = Octets::new(self.alloc);
+    fn define_series(&mut self, mut words: Words<'_>) {
+        let name = words.plain();
+        let from = words.number();
+        let to = words.number();
+        if words.are_good(&mut self.row.answer) {
+            let text = self.series(from, to, words.rest());
+            self.names.define(name, text, &mut self.row.answer);
+        }
+    }
+
+    fn series(&mut self, from: u64, to: u64, text: &[u8]) -> Octets {
+        let mut out = Text::new(self.alloc);
         for n in from..=to {
             self.names.count = n;
-            self.names.expand(words.rest(), &mut text)?;
+            self.names.expand(text, &mut out);
         }
-        self.names.define(name, text)
+        out.into_octets(&mut self.row.answer)
     }
 
     // `= TEXT`
-    fn expect(&mut self, text: &[u8]) -> Result<(), Trouble> {
-        let line = self.expanded(text)?;
-        self.row.expect(line.as_slice())?;
-        Ok(())
+    fn expect(&mut self, text: &[u8]) {
+        let line = self.expanded(text);
+        if line.is_whole(&mut self.row.answer) {
+            self.row.expect(line.as_slice());
+        }
     }
 
     // `=* FROM TO TEXT`: the line once for each number.
-    fn expect_series(&mut self, arguments: &[u8]) -> Result<(), Trouble> {
-        let mut words = Words::new(arguments);
-        let from = words.number()?;
-        let to = words.number()?;
-        for n in from..=to {
-            self.names.count = n;
-            self.expect(words.rest())?;
+    fn expect_series(&mut self, mut words: Words<'_>) {
+        let from = words.number();
+        let to = words.number();
+        if words.are_good(&mut self.row.answer) {
+            for n in from..=to {
+                self.names.count = n;
+                self.expect(words.rest());
+            }
         }
-        Ok(())
     }
 
     // `on NAME ARGUMENTS`
-    fn begin_subject(&mut self, arguments: &[u8]) -> Result<(), Trouble> {
-        let text = self.expanded(arguments)?;
-        let mut words = Words::new(text.as_slice());
-        let name = words.field()?;
-        self.row.subject = Subject::new(self.alloc, name, words.rest())?;
-        Ok(())
+    fn begin_subject(&mut self, words: Words<'_>) {
+        let text = self.expanded(words.rest());
+        if text.is_whole(&mut self.row.answer) {
+            let words = Words::of_line(self.alloc, text.as_slice());
+            self.row.subject = Subject::new(words, &mut self.row.answer);
+        }
     }
 
     // A step of the subject.
     fn step<T: Threads + Wait + AllocGlobal + Copy + Send + 'static>(
         &mut self,
         rt: T,
-        key: &[u8],
-        arguments: &[u8],
-    ) -> Result<(), Trouble> {
-        let text = self.expanded(arguments)?;
-        self.row
-            .subject
-            .step(rt, key, text.as_slice(), &mut self.row.answer)
+        words: Words<'_>,
+    ) {
+        let text = self.expanded(words.rest());
+        if text.is_whole(&mut self.row.answer) {
+            let words = words.with_rest(text.as_slice());
+            self.row.subject.step(rt, words, &mut self.row.answer);
+        }
     }
 
     // `repeat FROM TO KEY ARGUMENTS`: the step once for each number. What all of them answer is the answer.
     fn repeat<T: Threads + Wait + AllocGlobal + Copy + Send + 'static>(
         &mut self,
         rt: T,
-        arguments: &[u8],
-    ) -> Result<(), Trouble> {
-        let mut words = Words::new(arguments);
-        let from = words.number()?;
-        let to = words.number()?;
-        let key = words.field()?;
-        for n in from..=to {
-            self.names.count = n;
-            self.step(rt, key, words.rest())?;
+        mut words: Words<'_>,
+    ) {
+        let from = words.number();
+        let to = words.number();
+        if words.are_good(&mut self.row.answer) {
+            for n in from..=to {
+                self.names.count = n;
+                self.step(rt, Words::of_line(self.alloc, words.rest()));
+            }
         }
-        Ok(())
     }
 
     // A line that isn't an answer and begins no row.
     fn act<T: Threads + Wait + AllocGlobal + Copy + Send + 'static>(
         &mut self,
         rt: T,
-        key: &[u8],
-        arguments: &[u8],
-    ) -> Result<(), Trouble> {
-        if key == b"let".as_slice() {
-            return self.define(arguments);
+        words: Words<'_>,
+    ) {
+        if words.is(b"let") {
+            self.define(words);
+        } else if words.is(b"series") {
+            self.define_series(words);
+        } else if words.is(b"on") {
+            self.begin_subject(words);
+        } else if words.is(b"repeat") {
+            self.repeat(rt, words);
+        } else {
+            self.step(rt, words);
         }
-        if key == b"series".as_slice() {
-            return self.define_series(arguments);
-        }
-        if key == b"on".as_slice() {
-            return self.begin_subject(arguments);
-        }
-        if key == b"repeat".as_slice() {
-            return self.repeat(rt, arguments);
-        }
-        self.step(rt, key, arguments)
     }
 
     // Compares what the last step answered with what it is to answer.
-    fn settle_step(&mut self, file: &[u8], report: &mut Report) -> Result<(), OutOfMemory> {
-        if self.row.answer.as_slice() == self.row.due.as_slice() {
-            return Ok(());
+    fn settle_step(&mut self, file: &[u8], report: &mut Report) {
+        if !self.row.is_answered() {
+            self.row.has_failed = true;
+            let line = self.row.line;
+            report.tell(Place { file, line }, self.row.title());
+            report.tell_answers(self.row.due.as_slice(), self.row.answer.as_slice());
         }
-        self.row.has_failed = true;
-        report.tell(file, self.row.line, self.row.title())?;
-        report.tell_answers(self.row.due.as_slice(), self.row.answer.as_slice())
     }
 
     // Ends the row.
-    fn settle_row(&mut self, file: &[u8], report: &mut Report) -> Result<(), OutOfMemory> {
-        let is_row = self.row.title.is_some();
-        if is_row && self.row.answers == 0 {
-            self.row.has_failed = true;
-            report.tell(file, self.row.line, b"a row with no answers")?;
+    fn settle_row(&mut self, file: &[u8], report: &mut Report) {
+        if self.row.is_row {
+            report.count_row();
+            if self.row.is_empty() {
+                self.row.has_failed = true;
+                let line = self.row.line;
+                report.tell(Place { file, line }, b"a row with no answers");
+            }
         }
-        report.count(is_row, self.row.has_failed);
-        Ok(())
-    }
-
-    fn begin_row(
-        &mut self,
-        file: &[u8],
-        line: u64,
-        title: &[u8],
-        report: &mut Report,
-    ) -> Result<(), OutOfMemory> {
-        self.settle_row(file, report)?;
-        self.row = Row::new(self.alloc, title)?;
-        self.row.line = line;
-        Ok(())
+        if self.row.has_failed {
+            report.count_failed();
+        }
     }
 
     // What is wrong with a line fails its row.
-    fn settle_line(
-        &mut self,
-        file: &[u8],
-        line: u64,
-        done: Result<(), Trouble>,
-        report: &mut Report,
-    ) -> Result<(), OutOfMemory> {
-        match done {
-            Ok(()) => Ok(()),
-            Err(trouble) => {
-                self.row.has_failed = true;
-                report.tell_trouble(file, line, trouble)
-            }
+    fn settle_line(&mut self, place: Place<'_>, report: &mut Report) {
+        if let Some(trouble) = self.row.take_fault() {
+            self.row.has_failed = true;
+            report.tell_trouble(place, trouble);
         }
     }
 
@@ -193,68 +180,65 @@ impl Cases {
     fn take_step<T: Threads + Wait + AllocGlobal + Copy + Send + 'static>(
         &mut self,
         rt: T,
-        file: &[u8],
-        line: u64,
-        text: &[u8],
+        place: Place<'_>,
+        words: Words<'_>,
         report: &mut Report,
-    ) -> Result<(), OutOfMemory> {
-        self.settle_step(file, report)?;
-        let (key, arguments) = split_once(text, b' ').unwrap_or((text, &[]));
-        if key == b"row".as_slice() {
-            return self.begin_row(file, line, arguments, report);
+    ) {
+        self.settle_step(place.file, report);
+        if words.is(b"row") {
+            self.settle_row(place.file, report);
+            self.row.begin(place.line, words.rest());
+        } else {
+            self.row.go_on(place.line);
+            self.act(rt, words);
         }
-        self.row.go_on(line);
-        let done = self.act(rt, key, arguments);
-        self.settle_line(file, line, done, report)
     }
 
     // Takes a line.
     fn take<T: Threads + Wait + AllocGlobal + Copy + Send + 'static>(
         &mut self,
         rt: T,
-        file: &[u8],
-        line: u64,
+        place: Place<'_>,
         text: &[u8],
         report: &mut Report,
-    ) -> Result<(), OutOfMemory> {
-        if text.is_empty() || text.starts_with(b"#") {
-            return Ok(());
-        }
+    ) {
+        let words = Words::of_line(self.alloc, text);
         if text.starts_with(b"= ") {
-            let done = self.expect(&text[2..]);
-            return self.settle_line(file, line, done, report);
+            self.expect(words.rest());
+        } else if text.starts_with(b"=* ") {
+            self.expect_series(words);
+        } else {
+            self.take_step(rt, place, words, report);
         }
-        if text.starts_with(b"=* ") {
-            let done = self.expect_series(&text[3..]);
-            return self.settle_line(file, line, done, report);
-        }
-        self.take_step(rt, file, line, text, report)
+        self.settle_line(place, report);
     }
 
     // Ends the file.
-    fn close(&mut self, file: &[u8], line: u64, report: &mut Report) -> Result<(), OutOfMemory> {
-        self.settle_step(file, report)?;
-        if self.row.title.is_none() {
+    fn close(&mut self, place: Place<'_>, report: &mut Report) {
+        self.settle_step(place.file, report);
+        if !self.row.is_row {
             self.row.has_failed = true;
-            report.tell(file, line, b"a file with no row")?;
+            report.tell(place, b"a file with no row");
         }
-        self.settle_row(file, report)
+        self.settle_row(place.file, report);
     }
 
-    // Takes all lines of the file.
+    // Takes all lines of the file but comments and empty ones.
     fn take_all<T: Threads + Wait + AllocGlobal + Copy + Send + 'static>(
         &mut self,
         rt: T,
         file: &[u8],
         text: &[u8],
         report: &mut Report,
-    ) -> Result<(), OutOfMemory> {
+    ) {
         let mut line: u64 = 0;
         for part in text.split(|octet| *octet == b'\n') {
             line = line.saturating_add(1);
-            self.take(rt, file, line, part, report)?;
+            if !part.is_empty() && !part.starts_with(b"#") {
+                self.take(rt, Place { file, line }, part, report);
+            }
         }
-        self.close(file, line, report)
+        self.close(Place { file, line }, report);
     }
 }
 
@@ -264,6 +248,6 @@ pub fn go_over<T: Threads + Wait + AllocGlobal + Copy + Send + 'static>(
     file: &[u8],
     text: &[u8],
     report: &mut Report,
-) -> Result<(), OutOfMemory> {
-    Cases::new(rt.alloc()).take_all(rt, file, text, report)
+) {
+    Cases::new(rt.alloc()).take_all(rt, file, text, report);
 }
