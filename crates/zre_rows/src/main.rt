@@ -6,6 +6,7 @@ mod acts;
 mod cases;
 mod journal;
 mod names;
+mod page;
 mod report;
 mod row;
 mod subject;

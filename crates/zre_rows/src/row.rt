@@ -1,18 +1,16 @@
-//! The row that is under way.
+//! The row that is under way, but for its subject.
 
-use crate::subject::Subject;
 use crate::text::Text;
 use crate::trouble::Trouble;
 use std::alloc::Global;
 
-/// A row: its title, its subject, the step that was done last with what it answered and what it is to answer, and how many lines are
-/// to be answered so far.
+/// A row: its title, the step that was done last with what it answered and what it is to answer, and how many lines are to be
+/// answered so far.
 #[derive(Drop)]
 pub struct Row {
     /// Not so before the first row of a file.
     pub is_row: bool,
     title: Text,
-    pub subject: Subject,
     pub line: u64,
     pub answer: Text,
     pub due: Text,
@@ -26,7 +24,6 @@ impl Row {
         Row {
             is_row: false,
             title: Text::new(alloc),
-            subject: Subject::Missing,
             line: 0,
             answer: Text::new(alloc),
             due: Text::new(alloc),
@@ -40,7 +37,6 @@ impl Row {
         self.is_row = true;
         self.title.clear();
         self.title.put(title);
-        self.subject = Subject::Missing;
         self.answers = 0;
         self.has_failed = false;
         self.go_on(line);

@@ -12,7 +12,7 @@ use zre_journal::Config;
 use zre_node::{Ids, Node, Step};
 use zre_outside::Entry;
 use zre_peer::View;
-use zre_values::{Frames, Octets, OutOfMemory};
+use zre_values::{Frames, Octets, OutOfMemory, PeerId};
 
 /// A node, and the lines of the acts of its last step.
 #[derive(Drop)]
@@ -85,133 +85,68 @@ impl Nodes {
         if words.is(b"entry") {
             self.take(words, answer);
         } else if words.is(b"acts") {
-            self.tell_acts(words, answer);
-        } else if words.is(b"unsent") {
-            self.unsent(words, answer);
-        } else if words.is(b"front") {
-            self.front(words, answer);
+            answer.add(&self.acts);
         } else {
-            self.tell_of_peers(words, answer);
+            tell(&self.node, words, answer);
         }
     }
 
-    fn tell_of_peers(&self, words: Words<'_>, answer: &mut Text) {
-        if words.is(b"peer") {
-            self.peer(words, answer);
-        } else if words.is(b"groups") {
-            self.groups(words, answer);
-        } else if words.is(b"link_of") {
-            self.link_of(words, answer);
-        } else if words.is(b"peers") {
-            self.peers(words, answer);
-        } else {
-            self.tell_of_all(words, answer);
-        }
-    }
-
-    fn tell_of_all(&self, words: Words<'_>, answer: &mut Text) {
-        if words.is(b"known") {
-            self.known(words, answer);
-        } else if words.is(b"held") {
-            self.held(words, answer);
-        } else if words.is(b"stopped") {
-            self.stopped(words, answer);
-        } else {
-            answer.fail(Trouble::UnknownKey);
-        }
-    }
-
-    // `entry LINE`, a line of a capture: what it tells.
+    // `entry LINE`, a line of a capture: what it tells. `acts` answers the acts of the last one.
     fn take(&mut self, words: Words<'_>, answer: &mut Text) {
         for entry in entries_of(words.alloc(), words.rest(), answer).into_vec() {
             match next(&mut self.node, entry) {
-                Some(step) => self.tell_step(step, answer),
+                Some(step) => push_step(step, answer, &mut self.acts),
                 None => answer.fail(Trouble::OutOfMemory),
             }
         }
     }
+}
 
-    fn tell_step(&mut self, step: Step, answer: &mut Text) {
-        answer.events(step.events.as_slice());
-        self.acts.clear();
-        for act in step.acts.as_slice() {
-            push_act(&mut self.acts, act);
-        }
+fn push_step(step: Step, answer: &mut Text, acts: &mut Text) {
+    answer.events(step.events.as_slice());
+    acts.clear();
+    for act in step.acts.as_slice() {
+        push_act(acts, act);
     }
+}
 
-    // `acts`: those of the last step.
-    fn tell_acts(&self, words: Words<'_>, answer: &mut Text) {
-        if words.end(answer) {
-            answer.add(&self.acts);
-        }
+// What a node says of itself. Nothing changes by it, so that the arguments may be looked at last.
+fn tell(node: &Node, mut words: Words<'_>, answer: &mut Text) {
+    if words.is(b"peer") || words.is(b"groups") || words.is(b"link_of") {
+        tell_of_peer(node, words.id(), words, answer);
+    } else if words.is(b"unsent") {
+        answer.number_line(node.unsent(words.number()));
+    } else if words.is(b"front") {
+        push_front(answer, node.front(words.number()));
+    } else {
+        tell_of_all(node, words, answer);
     }
+    words.end(answer);
+}
 
-    // `unsent LINK`: how many octets wait, or `none`.
-    fn unsent(&self, mut words: Words<'_>, answer: &mut Text) {
-        let link = words.number();
-        if words.end(answer) {
-            answer.number_line(self.node.unsent(link));
-        }
+// `peer ID`: the view. `groups ID`: how many groups it has. `link_of ID`: the number of the link. Each is `none` where there is none.
+fn tell_of_peer(node: &Node, id: PeerId, words: Words<'_>, answer: &mut Text) {
+    if words.is(b"peer") {
+        push_view(answer, node.peer(id));
+    } else if words.is(b"groups") {
+        answer.number_line(groups_of(node.peer(id)));
+    } else {
+        answer.number_line(node.link_of(id));
     }
+}
 
-    // `front LINK`: how many may go out, and the octets, or `none`.
-    fn front(&self, mut words: Words<'_>, answer: &mut Text) {
-        let link = words.number();
-        if words.end(answer) {
-            push_front(answer, self.node.front(link));
-        }
-    }
-
-    // `peer ID`: the view, or `none`.
-    fn peer(&self, mut words: Words<'_>, answer: &mut Text) {
-        let id = words.id();
-        if words.end(answer) {
-            push_view(answer, self.node.peer(id));
-        }
-    }
-
-    // `groups ID`: how many groups the view has, or `none`.
-    fn groups(&self, mut words: Words<'_>, answer: &mut Text) {
-        let id = words.id();
-        if words.end(answer) {
-            answer.number_line(groups_of(self.node.peer(id)));
-        }
-    }
-
-    // `link_of ID`: the number of the link, or `none`.
-    fn link_of(&self, mut words: Words<'_>, answer: &mut Text) {
-        let id = words.id();
-        if words.end(answer) {
-            answer.number_line(self.node.link_of(id));
-        }
-    }
-
-    // `peers`: the entered peers, a line for each.
-    fn peers(&self, words: Words<'_>, answer: &mut Text) {
-        if words.end(answer) {
-            push_peers(answer, self.node.peers());
-        }
-    }
-
-    // `known`: how many peers.
-    fn known(&self, words: Words<'_>, answer: &mut Text) {
-        if words.end(answer) {
-            answer.number_line(Some(self.node.known() as u64));
-        }
-    }
-
-    // `held`: how many octets.
-    fn held(&self, words: Words<'_>, answer: &mut Text) {
-        if words.end(answer) {
-            answer.number_line(Some(self.node.held()));
-        }
-    }
-
-    // `stopped`: whether it has.
-    fn stopped(&self, words: Words<'_>, answer: &mut Text) {
-        if words.end(answer) {
-            answer.line(if self.node.stopped() { b"yes" } else { b"no" });
-        }
+// `peers`: the entered peers, a line for each. `known`, `held`: how many peers and octets. `stopped`: whether it has.
+fn tell_of_all(node: &Node, words: Words<'_>, answer: &mut Text) {
+    if words.is(b"peers") {
+        push_peers(answer, node.peers());
+    } else if words.is(b"known") {
+        answer.number_line(Some(node.known() as u64));
+    } else if words.is(b"held") {
+        answer.number_line(Some(node.held()));
+    } else if words.is(b"stopped") {
+        answer.line(if node.stopped() { b"yes" } else { b"no" });
+    } else {
+        answer.fail(Trouble::UnknownKey);
     }
 }
 
