@@ -1,48 +1,50 @@
 //! Entries and scripts from the lines of captures.
 
+use crate::text::Text;
 use crate::trouble::Trouble;
 use std::alloc::Global;
 use zre_capture::{CaptureFault, CaptureReader, HEAD};
 use zre_outside::{Entries, Script, Turn};
 
-impl From<CaptureFault> for Trouble {
-    fn from(fault: CaptureFault) -> Self {
-        match fault {
-            CaptureFault::Bad(_) => Trouble::BadArgument,
-            CaptureFault::OutOfMemory => Trouble::OutOfMemory,
-        }
+/// The entry of a line of a capture, without its line feed. The answer fails where it has none.
+pub fn entries_of(alloc: Global, line: &[u8], answer: &mut Text) -> Entries {
+    let mut text = Text::new(alloc);
+    text.put(HEAD);
+    text.line(line);
+    let mut entries = Entries::new(alloc);
+    if text.is_whole(answer) {
+        feed(alloc, text.as_slice(), &mut entries, answer);
     }
+    entries
 }
 
-/// The entry of a line of a capture, without its line feed.
-pub fn entries_of(alloc: Global, line: &[u8]) -> Result<Entries, Trouble> {
-    let mut entries = Entries::new(alloc);
-    let mut reader = CaptureReader::new(alloc);
-    reader.feed(HEAD, &mut entries)?;
-    reader.feed(line, &mut entries)?;
-    reader.feed(b"\n", &mut entries)?;
-    Ok(entries)
+// Reads a capture.
+fn feed(alloc: Global, text: &[u8], entries: &mut Entries, answer: &mut Text) {
+    match CaptureReader::new(alloc).feed(text, entries) {
+        Ok(()) => {}
+        Err(CaptureFault::Bad(_)) => answer.fail(Trouble::BadArgument),
+        Err(CaptureFault::OutOfMemory) => answer.fail(Trouble::OutOfMemory),
+    }
 }
 
 // A line `look`, or that of an entry.
-fn push_turn(alloc: Global, script: &mut Script, line: &[u8]) -> Result<(), Trouble> {
+fn push_turn(alloc: Global, script: &mut Script, line: &[u8], answer: &mut Text) {
     if line == b"look".as_slice() {
-        script.push(Turn::Look)?;
-        return Ok(());
+        answer.note(script.push(Turn::Look));
+    } else {
+        for entry in entries_of(alloc, line, answer).into_vec() {
+            answer.note(script.push(Turn::Entry(entry)));
+        }
     }
-    for entry in entries_of(alloc, line)?.into_vec() {
-        script.push(Turn::Entry(entry))?;
-    }
-    Ok(())
 }
 
-/// The script of some lines, each with its line feed.
-pub fn script_of(alloc: Global, text: &[u8]) -> Result<Script, Trouble> {
+/// The script of some lines, each with its line feed. The answer fails where one of them isn't a turn.
+pub fn script_of(alloc: Global, text: &[u8], answer: &mut Text) -> Script {
     let mut script = Script::new(alloc);
     for line in text.split(|octet| *octet == b'\n') {
         if !line.is_empty() {
-            push_turn(alloc, &mut script, line)?;
+            push_turn(alloc, &mut script, line, answer);
         }
     }
-    Ok(script)
+    script
 }

@@ -6,16 +6,17 @@ mod acts;
 mod cases;
 mod journal;
 mod names;
+mod page;
 mod report;
 mod row;
 mod subject;
-mod texts;
+mod text;
 mod trouble;
 mod wire;
 mod words;
 
 use cases::go_over;
-use report::Report;
+use report::{Place, Report};
 use std::io::Write;
 use std::process::ExitCode;
 use std::rt::Files;
@@ -42,38 +43,52 @@ fn take_file<R: Files + Threads + Wait + AllocGlobal + Copy + Send + 'static>(
     rt: R,
     name: &str,
     report: &mut Report,
-) -> io::Result<()> {
+) {
     let file = name.as_bytes();
-    let done = match fs::read(&rt, name) {
+    match fs::read(&rt, name) {
         Ok(text) => go_over(rt, file, text.as_slice(), report),
         Err(_) => {
-            report.count(false, true);
-            report.tell(file, 0, b"can't be read")
+            report.count_failed();
+            report.tell(Place { file, line: 0 }, b"can't be read");
         }
-    };
-    match done {
-        Ok(()) => Ok(()),
-        Err(_) => Err(io::Error::from(io::ErrorKind::OutOfMemory)),
     }
+}
+
+fn take_files<R: Files + Threads + Wait + AllocGlobal + Copy + Send + 'static>(
+    rt: R,
+    names: &[String],
+    report: &mut Report,
+) {
+    for name in names {
+        take_file(rt, name.as_str(), report);
+    }
+    report.close();
+}
+
+// Prints the report, and says whether all is well. One for which memory didn't suffice isn't printed.
+fn print<R: Files + AllocGlobal + Print + Clone + Drop>(rt: &R, report: &Report) -> bool {
+    !report.text.has_fault()
+        && io::writer(rt).write_all(report.text.as_slice()).is_ok()
+        && report.is_good()
 }
 
 fn go<R: Files + Threads + Wait + AllocGlobal + Print + Clone + Drop + Copy + Send + 'static>(
     rt: R,
-) -> io::Result<bool> {
-    let mut report = Report::new(rt.alloc());
-    for name in case_files(&rt)? {
-        take_file(rt, name.as_str(), &mut report)?;
+) -> bool {
+    match case_files(&rt) {
+        Ok(names) => {
+            let mut report = Report::new(rt.alloc());
+            take_files(rt, names.as_slice(), &mut report);
+            print(&rt, &report)
+        }
+        Err(_) => false,
     }
-    if report.close().is_err() {
-        return Ok(false);
-    }
-    io::writer(&rt).write_all(report.text.as_slice())?;
-    Ok(report.is_good())
 }
 
 fn main(rt: HostRuntime) -> ExitCode {
-    match go(rt) {
-        Ok(true) => ExitCode::from(0),
-        _ => ExitCode::from(1),
+    if go(rt) {
+        ExitCode::from(0)
+    } else {
+        ExitCode::from(1)
     }
 }

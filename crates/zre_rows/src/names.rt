@@ -1,11 +1,10 @@
 //! The names of a case file, which stand for texts.
 
-use crate::texts::push_hex;
+use crate::text::Text;
 use crate::trouble::Trouble;
-use hex::encode_to_slice;
 use std::alloc::Global;
 use zre_capture::split_once;
-use zre_values::{Octets, OutOfMemory, Pairs, push_decimal};
+use zre_values::{Octets, Pairs};
 
 /// The texts that names stand for, and the count of a repetition: `{n}` in decimal digits, `{d}` in four of them at least, `{a}` the
 /// octets of these digits in hexadecimal, and `{x}` modulo 65,536 in four hexadecimal digits.
@@ -26,92 +25,79 @@ impl Names {
     }
 
     /// Gives a text a name. A text that had the name before has it no longer.
-    pub fn define(&mut self, name: Octets, text: Octets) -> Result<(), Trouble> {
-        self.texts.push(name, text)?;
-        Ok(())
+    pub fn define(&mut self, name: Octets, text: Octets, answer: &mut Text) {
+        answer.note(self.texts.push(name, text));
     }
 
     /// Appends a text, with each `{NAME}` in it replaced.
-    pub fn expand(&self, text: &[u8], out: &mut Octets) -> Result<(), Trouble> {
-        let Some((front, later)) = split_once(text, b'{') else {
-            out.append(text)?;
-            return Ok(());
-        };
-        out.append(front)?;
-        for part in later.split(|octet| *octet == b'{') {
-            self.push_part(part, out)?;
+    pub fn expand(&self, text: &[u8], out: &mut Text) {
+        let (front, later) = split_once(text, b'{').unwrap_or((text, &[]));
+        out.put(front);
+        if front.len() < text.len() {
+            for part in later.split(|octet| *octet == b'{') {
+                self.push_part(part, out);
+            }
         }
-        Ok(())
     }
 
     // What stands after a brace: a name, and a text without names.
-    fn push_part(&self, part: &[u8], out: &mut Octets) -> Result<(), Trouble> {
-        let Some((name, rest)) = split_once(part, b'}') else {
-            return Err(Trouble::BadArgument);
-        };
-        self.push_value(name, out)?;
-        out.append(rest)?;
-        Ok(())
-    }
-
-    fn push_value(&self, name: &[u8], out: &mut Octets) -> Result<(), Trouble> {
-        if self.push_count(name, out)? {
-            return Ok(());
-        }
-        for (known, text) in self.texts.as_slice().iter().rev() {
-            if known.as_slice() == name {
-                out.append(text.as_slice())?;
-                return Ok(());
+    fn push_part(&self, part: &[u8], out: &mut Text) {
+        match split_once(part, b'}') {
+            Some((name, rest)) => {
+                self.push_value(name, out);
+                out.put(rest);
             }
+            None => out.fail(Trouble::BadArgument),
         }
-        Err(Trouble::UnknownName)
     }
 
     // The count of a repetition, where the name is one of its four.
-    fn push_count(&self, name: &[u8], out: &mut Octets) -> Result<bool, OutOfMemory> {
+    fn push_value(&self, name: &[u8], out: &mut Text) {
         if name == b"n".as_slice() {
-            push_decimal(out, self.count)?;
-            return Ok(true);
+            out.number(self.count);
+        } else if name == b"d".as_slice() {
+            push_padded(out, self.count);
+        } else if name == b"a".as_slice() {
+            push_octets(self.alloc, out, self.count);
+        } else if name == b"x".as_slice() {
+            push_digits(out, self.count);
+        } else {
+            self.push_text(name, out);
         }
-        if name == b"d".as_slice() {
-            push_padded(out, self.count)?;
-            return Ok(true);
+    }
+
+    fn push_text(&self, name: &[u8], out: &mut Text) {
+        for (known, text) in self.texts.as_slice().iter().rev() {
+            if known.as_slice() == name {
+                return out.put(text.as_slice());
+            }
         }
-        if name == b"a".as_slice() {
-            push_octets(self.alloc, out, self.count)?;
-            return Ok(true);
-        }
-        if name == b"x".as_slice() {
-            push_digits(out, self.count)?;
-            return Ok(true);
-        }
-        Ok(false)
+        out.fail(Trouble::UnknownName);
     }
 }
 
-fn push_padded(out: &mut Octets, n: u64) -> Result<(), OutOfMemory> {
+fn push_padded(out: &mut Text, n: u64) {
     if n < 10 {
-        out.append(b"000")?;
+        out.put(b"000");
     } else if n < 100 {
-        out.append(b"00")?;
+        out.put(b"00");
     } else if n < 1000 {
-        out.append(b"0")?;
+        out.put(b"0");
     }
-    push_decimal(out, n)
+    out.number(n);
 }
 
 // The padded digits, two hexadecimal digits for each.
-fn push_octets(alloc: Global, out: &mut Octets, n: u64) -> Result<(), OutOfMemory> {
-    let mut padded = Octets::new(alloc);
-    push_padded(&mut padded, n)?;
-    push_hex(out, padded.as_slice())
+fn push_octets(alloc: Global, out: &mut Text, n: u64) {
+    let mut padded = Text::new(alloc);
+    push_padded(&mut padded, n);
+    if padded.is_whole(out) {
+        out.hex(padded.as_slice());
+    }
 }
 
-fn push_digits(out: &mut Octets, n: u64) -> Result<(), OutOfMemory> {
+fn push_digits(out: &mut Text, n: u64) {
     let [.., high, low] = n.to_be_bytes();
-    let mut digits = [0u8; 4];
-    match encode_to_slice(&[high, low], &mut digits) {
-        Ok(()) => out.append(&digits),
-        Err(_) => Err(OutOfMemory),
-    }
+    out.digits(high);
+    out.digits(low);
 }

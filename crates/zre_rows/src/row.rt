@@ -1,49 +1,51 @@
-//! The row that is under way.
+//! The row that is under way, but for its subject.
 
-use crate::subject::Subject;
+use crate::text::Text;
+use crate::trouble::Trouble;
 use std::alloc::Global;
-use zre_values::{Octets, OutOfMemory};
 
-/// A row: its title, its subject, the step that was done last with what it answered and what it is to answer, and how many lines are
-/// to be answered so far.
+/// A row: its title, the step that was done last with what it answered and what it is to answer, and how many lines are to be
+/// answered so far.
 #[derive(Drop)]
 pub struct Row {
-    /// None before the first row of a file.
-    pub title: Option<Octets>,
-    pub subject: Subject,
+    /// Not so before the first row of a file.
+    pub is_row: bool,
+    title: Text,
     pub line: u64,
-    pub answer: Octets,
-    pub due: Octets,
-    pub answers: u64,
+    pub answer: Text,
+    pub due: Text,
+    answers: u64,
     pub has_failed: bool,
 }
 
 impl Row {
     /// What stands before the first row.
-    pub fn none(alloc: Global) -> Self {
+    pub fn new(alloc: Global) -> Self {
         Row {
-            title: None,
-            subject: Subject::Missing,
+            is_row: false,
+            title: Text::new(alloc),
             line: 0,
-            answer: Octets::new(alloc),
-            due: Octets::new(alloc),
+            answer: Text::new(alloc),
+            due: Text::new(alloc),
             answers: 0,
             has_failed: false,
         }
     }
 
-    pub fn new(alloc: Global, title: &[u8]) -> Result<Self, OutOfMemory> {
-        let title = Octets::copy(alloc, title)?;
-        let mut row = Row::none(alloc);
-        row.title = Some(title);
-        Ok(row)
+    /// Becomes the row with this title.
+    pub fn begin(&mut self, line: u64, title: &[u8]) {
+        self.is_row = true;
+        self.title.clear();
+        self.title.put(title);
+        self.answers = 0;
+        self.has_failed = false;
+        self.go_on(line);
     }
 
     /// A line that the last step is to answer.
-    pub fn expect(&mut self, line: &[u8]) -> Result<(), OutOfMemory> {
+    pub fn expect(&mut self, line: &[u8]) {
         self.answers = self.answers.saturating_add(1);
-        self.due.append(line)?;
-        self.due.push(b'\n')
+        self.due.line(line);
     }
 
     /// Forgets the last step.
@@ -53,10 +55,28 @@ impl Row {
         self.due.clear();
     }
 
+    /// Whether the last step answered what it is to answer.
+    pub fn is_answered(&self) -> bool {
+        self.answer.as_slice() == self.due.as_slice()
+    }
+
+    /// Whether no step is to answer anything.
+    pub fn is_empty(&self) -> bool {
+        self.answers == 0
+    }
+
+    /// What is wrong with the last line.
+    pub fn take_fault(&mut self) -> Option<Trouble> {
+        let title = self.title.take_fault();
+        let due = self.due.take_fault();
+        self.answer.take_fault().or(due).or(title)
+    }
+
     pub fn title(&self) -> &[u8] {
-        match &self.title {
-            Some(title) => title.as_slice(),
-            None => b"before the first row",
+        if self.is_row {
+            self.title.as_slice()
+        } else {
+            b"before the first row"
         }
     }
 }

@@ -1,10 +1,7 @@
 //! Why a line of a case file can't be done.
 
-use std::alloc::{AllocError, AllocFailed};
-use zre_values::OutOfMemory;
-
 /// What is wrong with a line.
-#[derive(Clone, Copy, Debug, PartialEq, Eq)]
+#[derive(Clone, Copy)]
 pub enum Trouble {
     /// The subject has no such step, or the line is of no kind.
     UnknownKey,
@@ -24,23 +21,5 @@ impl Trouble {
             Trouble::BadArgument => b"bad argument",
             Trouble::OutOfMemory => b"out of memory",
         }
-    }
-}
-
-impl From<OutOfMemory> for Trouble {
-    fn from(_: OutOfMemory) -> Self {
-        Trouble::OutOfMemory
-    }
-}
-
-impl From<AllocError> for Trouble {
-    fn from(_: AllocError) -> Self {
-        Trouble::OutOfMemory
-    }
-}
-
-impl<T: Drop> From<AllocFailed<T>> for Trouble {
-    fn from(_: AllocFailed<T>) -> Self {
-        Trouble::OutOfMemory
     }
 }

@@ -5,12 +5,12 @@ ghost use Rattle.std.specs.Prelude.{◌≡◌, ◌*◌, IfSome};
 use std::fs;
 use std::test::Fail;
 use zre_outside::{
-    Failed, FileRecorder, Job, NextFault, PlainSpawner, Recorder, Source, Spawner, StdSink,
-    StdSource, Task, ThreadSpawner, write_all,
+    FileRecorder, Job, NextFault, PlainSpawner, Recorder, Source, Spawner, StdSink, StdSource,
+    Task, ThreadSpawner, write_all,
 };
 
-fn read_once<S: Source>(source: &mut S, buf: &mut [u8; 3]) -> Result<usize, Failed> {
-    source.read(buf)
+fn reads<S: Source>(source: &mut S, buf: &mut [u8; 3], count: usize) -> bool {
+    source.read(buf) == Ok(count)
 }
 
 #[test]
@@ -18,14 +18,18 @@ fn readers_and_writers_pass_octets_on(rt: HostRuntime) {
     let mut buf = [0u8; 3];
     let bytes: &[u8] = b"abcd";
     let mut source = StdSource::new(bytes);
-    assert_eq!(rt; read_once(&mut source, &mut buf), Ok(3));
-    assert_eq!(rt; read_once(&mut source, &mut buf), Ok(1));
-    assert_eq!(rt; buf, *b"dbc");
-    assert_eq!(rt; read_once(&mut source, &mut buf), Ok(0));
+    for (count, held) in [(3, *b"abc"), (1, *b"dbc"), (0, *b"dbc")] {
+        assert!(rt; reads(&mut source, &mut buf, count));
+        assert!(rt; buf == held);
+    }
     let mut room = [0u8; 4];
     let mut sink = StdSink::new(room.as_mut_slice());
-    assert_eq!(rt; write_all(&mut sink, b"abc"), Ok(()));
-    assert_eq!(rt; write_all(&mut sink, b"de"), Err(NextFault::Failed));
+    assert!(rt; write_all(&mut sink, b"abc") == Ok(()));
+    assert!(rt; write_all(&mut sink, b"de") == Err(NextFault::Failed));
+}
+
+fn keeps<R: Recorder>(recorder: &mut R, name: &str, bytes: &[u8]) -> bool {
+    recorder.begin(name) == Ok(()) && recorder.put(bytes) == Ok(())
 }
 
 #[test]
@@ -34,9 +38,8 @@ fn a_file_keeps_what_is_put_and_begins_anew(rt: HostRuntime) -> Result<(), Fail>
     let mut recorder = FileRecorder::new(rt);
     assert!(rt; recorder.begin("no_such_folder/x") == Err(NextFault::Failed));
     for text in ["abc", "d"] {
-        assert!(rt; recorder.begin(name) == Ok(()));
-        assert!(rt; recorder.put(text.as_bytes()) == Ok(()));
-        assert_eq!(rt; fs::read_to_string(&rt, name)?.as_str(), text);
+        assert!(rt; keeps(&mut recorder, name, text.as_bytes()));
+        assert!(rt; fs::read_to_string(&rt, name)?.as_str() == text);
     }
     fs::remove_file(&rt, name)?;
     Ok(())
@@ -78,10 +81,10 @@ fn doubled<P: Spawner>(rt: P::Runtime, spawner: &mut P, n: u32) -> Option<u64>
 #[test]
 fn a_job_runs_in_its_thread_or_comes_back(rt: HostRuntime) -> Result<(), Fail> {
     let fails = [1].to_vec(rt.alloc())?;
-    let mut spawner = PlainSpawner::new(rt, rt.alloc(), fails);
-    assert_eq!(rt; doubled(rt, &mut spawner, 4), None);
-    assert_eq!(rt; doubled(rt, &mut spawner, 5), Some(10));
-    let mut spawner = ThreadSpawner::new(rt, rt.alloc());
-    assert_eq!(rt; doubled(rt, &mut spawner, 6), Some(12));
+    let mut plain = PlainSpawner::new(rt, rt.alloc(), fails);
+    assert!(rt; doubled(rt, &mut plain, 4).is_none());
+    assert!(rt; doubled(rt, &mut plain, 5) == Some(10));
+    let mut threads = ThreadSpawner::new(rt, rt.alloc());
+    assert!(rt; doubled(rt, &mut threads, 6) == Some(12));
     Ok(())
 }

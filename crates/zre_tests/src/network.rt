@@ -5,11 +5,8 @@ mod flows;
 mod turns;
 
 use std::alloc::Global;
-use std::net::Net;
-use std::rt::Clock;
-use std::test::Fail;
 use zre_fabric::RealWorld;
-use zre_outside::{Act, Addresses, Command, Input, NextFault, Start, Turn, World};
+use zre_outside::{Act, Addresses, Input, Start, Turn, World};
 use zre_values::{Endpoint, Octets, OutOfMemory};
 
 const MAILBOX_PORT: u16 = 29170;
@@ -27,6 +24,13 @@ struct Seen {
     number: u64,
     count: u64,
     bytes: Octets,
+}
+
+impl Seen {
+    fn is(&self, kind: &str, number: u64, count: u64, bytes: &[u8]) -> bool {
+        let is_such = self.kind == kind && self.number == number && self.count == count;
+        is_such && self.bytes.as_slice() == bytes
+    }
 }
 
 fn with_bytes(kind: &'static str, number: u64, bytes: Octets) -> Seen {
@@ -58,10 +62,7 @@ fn see(alloc: Global, input: Input) -> Seen {
         Input::Unlinked { link } => with_count(alloc, "Unlinked", link, 0),
         Input::Took { link, count } => with_count(alloc, "Took", link, count),
         Input::Tick => with_count(alloc, "Tick", 0, 0),
-        Input::Do(command) => {
-            drop(command);
-            with_count(alloc, "Do", 0, 0)
-        }
+        Input::Do(_) => with_count(alloc, "Do", 0, 0),
         Input::End => with_count(alloc, "End", 0, 0),
     }
 }
@@ -77,12 +78,8 @@ fn hosts(process: u32) -> [[u8; 4]; 3] {
     ]
 }
 
-fn start_at(
-    alloc: Global,
-    host: [u8; 4],
-    to: &[[u8; 4]],
-    interval: u64,
-) -> Result<Start, OutOfMemory> {
+/// A start at this address, whose Ticks are rare.
+fn start_at(alloc: Global, host: [u8; 4], to: &[[u8; 4]]) -> Result<Start, OutOfMemory> {
     let mut addresses = Addresses::new(alloc);
     for address in to {
         addresses.push(*address)?;
@@ -93,23 +90,8 @@ fn start_at(
         listen: host,
         beacon_port: BEACON_PORT,
         to: addresses,
-        interval,
+        interval: 60000,
     })
-}
-
-/// A world at this address whose Ticks are rare.
-fn world_at<R: Net + Clock>(
-    rt: R,
-    alloc: Global,
-    host: [u8; 4],
-    to: &[[u8; 4]],
-) -> Result<RealWorld<R>, Fail>
-where
-    R: Drop,
-{
-    let mut world = RealWorld::new(rt, alloc);
-    world.start(&start_at(alloc, host, to, 60000)?)?;
-    Ok(world)
 }
 
 fn mailbox_of(host: [u8; 4]) -> Endpoint {
@@ -119,54 +101,123 @@ fn mailbox_of(host: [u8; 4]) -> Endpoint {
     }
 }
 
-/// The next entry but Ticks, or none within the turns.
-fn entry_of<R: Net + Clock>(
+// To be started in a thread, a world may move there.
+fn moved<T: Send>(value: T) -> T {
+    value
+}
+
+/// A world, and the first thing that wasn't as it should be, or nothing. After it nothing more is waited for.
+#[derive(Drop)]
+struct Watched {
     alloc: Global,
-    world: &mut RealWorld<R>,
-) -> Result<Option<Seen>, NextFault> {
-    for _ in 0..TURNS {
-        if let Turn::Entry(entry) = world.next(None)? {
-            let seen = see(alloc, entry.input);
-            if seen.kind != "Tick" {
-                return Ok(Some(seen));
+    world: RealWorld<HostRuntime>,
+    missed: &'static str,
+}
+
+impl Watched {
+    /// A world that isn't started.
+    fn new(rt: HostRuntime) -> Self {
+        Watched {
+            alloc: rt.alloc(),
+            world: moved(RealWorld::new(rt, rt.alloc())),
+            missed: "",
+        }
+    }
+
+    /// A world at this address.
+    fn at(rt: HostRuntime, host: [u8; 4], to: &[[u8; 4]]) -> Self {
+        let mut watched = Watched::new(rt);
+        watched.start(host, to);
+        watched
+    }
+
+    fn note(&mut self, what: &'static str, is_so: bool) {
+        if !is_so && self.missed.is_empty() {
+            self.missed = what;
+        }
+    }
+
+    fn start(&mut self, host: [u8; 4], to: &[[u8; 4]]) {
+        let is_started = match start_at(self.alloc, host, to) {
+            Ok(start) => self.world.start(&start).is_ok(),
+            Err(OutOfMemory) => false,
+        };
+        self.note("start", is_started);
+    }
+
+    fn act(&mut self, act: &Act) {
+        let done = self.world.act(act);
+        self.note("act", done.is_ok());
+    }
+
+    fn answer(&mut self, conn: u64, bytes: Octets) {
+        self.act(&Act::Answer { conn, bytes });
+    }
+
+    fn connect(&mut self, link: u64, host: [u8; 4]) {
+        let to = mailbox_of(host);
+        self.act(&Act::Connect { link, to });
+    }
+
+    fn offer(&mut self, link: u64, bytes: &[u8]) {
+        let done = self.world.offer(link, bytes);
+        self.note("offer", done.is_ok());
+    }
+
+    // The entry of the next turn. None where it is a look.
+    fn turn(&mut self) -> Option<Seen> {
+        match self.world.next(None) {
+            Ok(Turn::Entry(entry)) => Some(see(self.alloc, entry.input)),
+            Ok(Turn::Look) => None,
+            Err(_) => {
+                self.note("next", false);
+                None
             }
         }
     }
-    Ok(None)
-}
 
-/// The octets and the count of the next entry but Ticks, which is to be this one.
-fn wait_for<R: Net + Clock>(
-    alloc: Global,
-    world: &mut RealWorld<R>,
-    kind: &'static str,
-    number: u64,
-) -> Result<(Octets, u64), Fail> {
-    let Some(seen) = entry_of(alloc, world)? else {
-        return Err(Fail::new("nothing came"));
-    };
-    if seen.kind != kind || seen.number != number {
-        let (other, n) = (seen.kind, seen.number);
-        return Err(Fail::new(format_args!("{other} {n} in place of {kind} {number}")));
-    }
-    Ok((seen.bytes, seen.count))
-}
-
-/// Whether three looks come with no entry between them but Ticks.
-fn is_quiet<R: Net + Clock>(alloc: Global, world: &mut RealWorld<R>) -> Result<bool, NextFault> {
-    let mut looks = 0u32;
-    for _ in 0..TURNS {
-        if looks == 3 {
-            return Ok(true);
-        }
-        match world.next(None)? {
-            Turn::Look => looks = looks.saturating_add(1),
-            Turn::Entry(entry) => {
-                if see(alloc, entry.input).kind != "Tick" {
-                    return Ok(false);
+    // The next entry but Ticks, or none within the turns.
+    fn entry(&mut self) -> Option<Seen> {
+        for _ in 0..TURNS {
+            if let Some(seen) = self.turn() {
+                if seen.kind != "Tick" {
+                    return Some(seen);
                 }
             }
         }
+        None
     }
-    Ok(false)
+
+    /// The next entry but Ticks is this one.
+    fn expect(&mut self, kind: &'static str, number: u64, count: u64, bytes: &[u8]) {
+        if self.missed.is_empty() {
+            let is_so = match self.entry() {
+                Some(seen) => seen.is(kind, number, count, bytes),
+                None => false,
+            };
+            self.note(kind, is_so);
+        }
+    }
+
+    // Whether three looks come with no entry between them but Ticks.
+    fn is_quiet(&mut self) -> bool {
+        let mut looks = 0u32;
+        for _ in 0..TURNS {
+            if looks == 3 {
+                return true;
+            }
+            match self.turn() {
+                Some(seen) if seen.kind == "Tick" => {}
+                Some(_) => return false,
+                None => looks = looks.saturating_add(1),
+            }
+        }
+        false
+    }
+
+    /// Three looks come with no entry between them but Ticks.
+    fn expect_quiet(&mut self) {
+        let is_quiet = self.missed.is_empty() && self.is_quiet();
+        self.note("quiet", is_quiet);
+    }
 }

@@ -1,12 +1,11 @@
 //! The pipes with their callers, and the actor over worlds in memory: one after the other, and in threads of their own.
 
-ghost use Rattle.std.specs.Prelude.{◌≡◌, ◌+◌, ◌<◌, ◌^◌, ◌++◌, ◌∷◌, [], None, IsSome, IfOk, IfSome};
+ghost use Rattle.std.specs.Prelude.{◌≡◌, ◌+◌, ◌<◌, ◌^◌, ◌++◌, ◌∷◌, [], None, IsSome, IfSome};
 ghost use Rattle.zre_tests.specs.Ready.{IsReady};
 ghost use Rattle.zre_actor.specs.Passes.{IsActorOf, IsCallerOf, IsTakerOf, AreCallersOf, given_of, room_of, unused_by, ending_of, ended, how_many, last_of};
 
 use std::alloc::Global;
 use std::sync::{Arc, Wait};
-use std::test::Fail;
 use std::thread::{Threads, join};
 use zre_actor::{
     ActorJob, ActorPass, CallerPass, CallerPasses, Ending, Full, Made, Pipes, TakerPass, Told,
@@ -177,29 +176,32 @@ struct Ready {
     taker: TakerPass,
 }
 
-fn make_ready(alloc: Global) -> Result<Option<Ready>, OutOfMemory>
-    ensures { IfOk result (λ o. IfSome o (λ s. IsReady s.pipes s.actor s.callers s.first s.second s.taker)) }
+fn make_ready(alloc: Global) -> Option<Ready>
+    ensures { IfSome result (λ s. IsReady s.pipes s.actor s.callers s.first s.second s.taker) }
 {
+    let Ok(made) = Pipes::make(alloc, 2) else {
+        return None;
+    };
     let Made {
         pipes,
         actor,
         mut callers,
         taker,
-    } = Pipes::make(alloc, 2)?;
+    } = made;
     let Some(second) = callers.take() else {
-        return Ok(None);
+        return None;
     };
     let Some(first) = callers.take() else {
-        return Ok(None);
+        return None;
     };
-    Ok(Some(Ready {
+    Some(Ready {
         pipes,
         actor,
         callers,
         first,
         second,
         taker,
-    }))
+    })
 }
 
 /// What an actor works with: a node, and a world of three looks. And the groups that the callers name.
@@ -211,16 +213,22 @@ struct Stand {
     groups: (Octets, Octets),
 }
 
-fn make_stand(alloc: Global) -> Result<Option<Stand>, OutOfMemory> {
-    let Some(node) = node_of(alloc)? else {
-        return Ok(None);
-    };
-    Ok(Some(Stand {
+fn stand_of(alloc: Global, node: Node) -> Result<Stand, OutOfMemory> {
+    let world = looks(alloc, 3)?;
+    let groups = (Octets::copy(alloc, b"g")?, Octets::copy(alloc, b"g")?);
+    Ok(Stand {
         node,
-        world: looks(alloc, 3)?,
+        world,
         rec: SureRecorder::new(alloc),
-        groups: (Octets::copy(alloc, b"g")?, Octets::copy(alloc, b"g")?),
-    }))
+        groups,
+    })
+}
+
+fn make_stand(alloc: Global) -> Option<Stand> {
+    match node_of(alloc) {
+        Ok(Some(node)) => stand_of(alloc, node).ok(),
+        _ => None,
+    }
 }
 
 /// The callers put, then the actor works, then the taker takes. How often the node stopped, the ending, and what was left.
@@ -381,14 +389,20 @@ fn line_of(command: &Command) -> u64 {
     }
 }
 
+fn fill<R: Wait + Copy>(rt: R, ready: Ready) -> (u64, u64)
+    requires { IsReady ready.pipes ready.actor ready.callers ready.first ready.second ready.taker }
+{
+    let Ready { pipes, first, .. } = ready;
+    put_many(rt, &pipes, first, 1025)
+}
+
 #[test]
-fn a_full_pipe_gives_the_command_back(rt: HostRuntime) -> Result<(), Fail> {
-    let Some(Ready { pipes, first, .. }) = make_ready(rt.alloc())? else {
-        assert!(rt; false, "there are two callers");
-        return Ok(());
+fn a_full_pipe_gives_the_command_back(rt: HostRuntime) {
+    let counts = match make_ready(rt.alloc()) {
+        Some(ready) => Some(fill(rt, ready)),
+        None => None,
     };
-    assert_eq!(rt; put_many(rt, &pipes, first, 1025), (1, 1024));
-    Ok(())
+    assert_eq!(rt; counts, Some((1, 1024)));
 }
 
 /// How long a run may be, and how it ends.
@@ -421,38 +435,58 @@ static RUNS: [Run; 4] = [
     },
 ];
 
-#[test]
-fn two_callers_and_the_actor_one_by_one(rt: HostRuntime) -> Result<(), Fail> {
-    for run in &RUNS {
-        let ready = make_ready(rt.alloc())?;
-        let stand = make_stand(rt.alloc())?;
-        let (Some(ready), Some(stand)) = (ready, stand) else {
-            assert!(rt; false, "there are two callers and a node");
-            return Ok(());
-        };
-        assert_eq!(rt;
-            one_by_one(rt, ready, stand, run.limit, run.absorbs),
-            run.ends
-        );
+/// The run of a node, one by one. None where memory doesn't suffice.
+fn run_one_by_one<R: Wait + Copy>(
+    rt: R,
+    alloc: Global,
+    ready: Ready,
+    run: &Run,
+) -> Option<(u64, Ending, u32)>
+    requires { IsReady ready.pipes ready.actor ready.callers ready.first ready.second ready.taker }
+{
+    match make_stand(alloc) {
+        Some(stand) => Some(one_by_one(rt, ready, stand, run.limit, run.absorbs)),
+        None => None,
     }
-    Ok(())
+}
+
+fn ends<R: Wait + Copy>(rt: R, alloc: Global, run: &Run) -> bool {
+    match make_ready(alloc) {
+        Some(ready) => run_one_by_one(rt, alloc, ready, run) == Some(run.ends),
+        None => false,
+    }
 }
 
 #[test]
-fn two_callers_the_actor_and_the_taker_side_by_side(rt: HostRuntime) -> Result<(), Fail> {
+fn two_callers_and_the_actor_one_by_one(rt: HostRuntime) {
+    for run in &RUNS {
+        assert!(rt; ends(rt, rt.alloc(), run));
+    }
+}
+
+/// The run of a node, side by side. None where memory doesn't suffice, or the actor doesn't start.
+fn run_side_by_side<P: Spawner>(
+    rt: P::Runtime,
+    spawner: &mut P,
+    ready: Ready,
+) -> Option<(u64, Ending, u32)>
+    requires { IsReady ready.pipes ready.actor ready.callers ready.first ready.second ready.taker }
+{
+    match make_stand(spawner.alloc()) {
+        Some(stand) => match side_by_side(rt, spawner, ready, stand, 1000000000000) {
+            Ok(ran) => ran,
+            Err(OutOfMemory) => None,
+        },
+        None => None,
+    }
+}
+
+#[test]
+fn two_callers_the_actor_and_the_taker_side_by_side(rt: HostRuntime) {
     let mut spawner = ThreadSpawner::new(rt, rt.alloc());
-    let ready = make_ready(rt.alloc())?;
-    let stand = make_stand(rt.alloc())?;
-    let (Some(ready), Some(stand)) = (ready, stand) else {
-        assert!(rt; false, "there are two callers and a node");
-        return Ok(());
+    let ran = match make_ready(rt.alloc()) {
+        Some(ready) => run_side_by_side(rt, &mut spawner, ready),
+        None => None,
     };
-    let Some((stops, ending, left)) = side_by_side(rt, &mut spawner, ready, stand, 1000000000000)?
-    else {
-        assert!(rt; false, "the actor starts");
-        return Ok(());
-    };
-    assert_eq!(rt; (stops, ending), (1, Ending::Stopped));
-    assert!(rt; left <= 2);
-    Ok(())
+    assert!(rt; matches!(ran, Some((1, Ending::Stopped, left)) if left <= 2));
 }

@@ -1,10 +1,10 @@
 //! A chat that reads, works and prints beside each other: its input holds its last line back until something was written.
 
 use std::alloc::Global;
-use std::sync::Arc;
 use std::sync::atomic::{AtomicBool, Ordering};
+use std::sync::{Arc, Wait};
 use std::test::Fail;
-use std::thread::yield_now;
+use std::thread::{Threads, yield_now};
 use zre_app::{Status, run};
 use zre_capture::CaptureReader;
 use zre_outside::{
@@ -151,25 +151,59 @@ impl Sink for Showing {
     }
 }
 
-#[test]
-fn runs_beside(rt: HostRuntime) -> Result<(), Fail> {
-    let alloc = rt.alloc();
-    let is_written = Arc::new(alloc, AtomicBool::new(false))?;
-    let input = Withholding {
-        front: MemSource::new(Octets::copy(alloc, LINES)?, Vec::new(alloc)),
-        back: MemSource::new(Octets::copy(alloc, QUIT)?, Vec::new(alloc)),
-        is_written: Arc::try_clone(&is_written)?,
+/// The words, the world's script, and what stands for the terminal.
+#[derive(Drop)]
+struct Stand {
+    words: Frames,
+    script: Script,
+    input: Withholding,
+    out: Showing,
+}
+
+fn source_of(alloc: Global, text: &[u8]) -> Result<MemSource, OutOfMemory> {
+    Ok(MemSource::new(Octets::copy(alloc, text)?, Vec::new(alloc)))
+}
+
+fn input_of(
+    alloc: Global,
+    is_written: &Arc<AtomicBool, Global>,
+) -> Result<Withholding, OutOfMemory> {
+    Ok(Withholding {
+        front: source_of(alloc, LINES)?,
+        back: source_of(alloc, QUIT)?,
+        is_written: Arc::try_clone(is_written)?,
         faults: 0,
-    };
-    let mut out = Showing {
-        inner: MemSink::new(alloc, Vec::new(alloc)),
-        is_written,
-    };
-    let script = script_of(alloc)?;
+    })
+}
+
+fn make_stand(alloc: Global) -> Result<Stand, OutOfMemory> {
+    let is_written = Arc::new(alloc, AtomicBool::new(false))?;
+    Ok(Stand {
+        words: words_of(alloc)?,
+        script: script_of(alloc)?,
+        input: input_of(alloc, &is_written)?,
+        out: Showing {
+            inner: MemSink::new(alloc, Vec::new(alloc)),
+            is_written,
+        },
+    })
+}
+
+/// The status of the chat, and what was written.
+fn chat<R: Threads + Wait + Send + Copy + 'static>(
+    rt: R,
+    alloc: Global,
+    stand: Stand,
+) -> (Status, Showing) {
+    let Stand {
+        words,
+        script,
+        input,
+        mut out,
+    } = stand;
     let world = ScriptWorld::new(alloc, script, Vec::new(alloc), Vec::new(alloc));
     let rec = MemRecorder::new(alloc, Vec::new(alloc), Vec::new(alloc));
     let mut spawner = PlainSpawner::new(rt, alloc, Vec::new(alloc));
-    let words = words_of(alloc)?;
     let ended = run(
         rt,
         alloc,
@@ -181,7 +215,14 @@ fn runs_beside(rt: HostRuntime) -> Result<(), Fail> {
         &mut spawner,
         50000000,
     );
-    assert_eq!(rt; ended.status, Status::Done);
+    (ended.status, out)
+}
+
+#[test]
+fn runs_beside(rt: HostRuntime) -> Result<(), Fail> {
+    let stand = make_stand(rt.alloc())?;
+    let (status, out) = chat(rt, rt.alloc(), stand);
+    assert_eq!(rt; status, Status::Done);
     assert_eq!(rt; out.inner.written(), TEXT);
     Ok(())
 }

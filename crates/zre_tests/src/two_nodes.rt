@@ -1,13 +1,13 @@
 //! Two chats in one process, each over the real network, on the loopback interface.
 
 use std::alloc::Global;
-use std::sync::Arc;
 use std::sync::atomic::{AtomicBool, Ordering};
+use std::sync::{Arc, Wait};
 use std::test::Fail;
-use std::thread::{join, yield_now};
+use std::thread::{Threads, join, yield_now};
 use zre_app::{Status, run};
 use zre_fabric::RealWorld;
-use zre_outside::{Failed, MemRecorder, MemSink, NextFault, Sink, Source, ThreadSpawner};
+use zre_outside::{Failed, MemRecorder, MemSink, NextFault, Sink, Source, ThreadSpawner, World};
 use zre_values::{Frames, Octets, OutOfMemory};
 
 const ONE: &[&[u8]] = &[
@@ -114,6 +114,14 @@ struct Stand {
     out: Meeting,
 }
 
+fn words_of(alloc: Global, words: &[&[u8]]) -> Result<Frames, OutOfMemory> {
+    let mut list = Frames::new(alloc);
+    for word in words {
+        list.push(Octets::copy(alloc, word)?)?;
+    }
+    Ok(list)
+}
+
 fn make_stand(
     alloc: Global,
     words: &[&[u8]],
@@ -121,80 +129,70 @@ fn make_stand(
     own: &Arc<AtomicBool, Global>,
     its: &Arc<AtomicBool, Global>,
 ) -> Result<Stand, OutOfMemory> {
-    let mut list = Frames::new(alloc);
-    for word in words {
-        list.push(Octets::copy(alloc, word)?)?;
-    }
+    let first = Arc::try_clone(own)?;
+    let second = Arc::try_clone(its)?;
+    let is_met = Arc::try_clone(own)?;
+    let words = words_of(alloc, words)?;
     Ok(Stand {
-        words: list,
+        words,
         input: Patient {
-            first: Arc::try_clone(own)?,
-            second: Arc::try_clone(its)?,
+            first,
+            second,
             is_over: false,
             faults: 0,
         },
         out: Meeting {
             inner: MemSink::new(alloc, Vec::new(alloc)),
             other,
-            is_met: Arc::try_clone(own)?,
+            is_met,
         },
     })
+}
+
+fn make_stands(alloc: Global) -> Result<(Stand, Stand), OutOfMemory> {
+    let first = Arc::new(alloc, AtomicBool::new(false))?;
+    let second = Arc::new(alloc, AtomicBool::new(false))?;
+    let one = make_stand(alloc, ONE, MEETS_TWO, &first, &second)?;
+    Ok((one, make_stand(alloc, TWO, MEETS_ONE, &second, &first)?))
+}
+
+fn chat<R: Threads + Wait + Send + Copy + 'static, W: World + Send + Drop + 'static>(
+    rt: R,
+    alloc: Global,
+    stand: Stand,
+    world: W,
+) -> Status {
+    let Stand {
+        words,
+        input,
+        mut out,
+    } = stand;
+    let rec = MemRecorder::new(alloc, Vec::new(alloc), Vec::new(alloc));
+    let mut spawner = ThreadSpawner::new(rt, alloc);
+    let ended = run(
+        rt,
+        alloc,
+        &words,
+        input,
+        world,
+        &mut out,
+        rec,
+        &mut spawner,
+        1000,
+    );
+    ended.status
 }
 
 #[test]
 fn two_nodes(rt: HostRuntime) -> Result<(), Fail> {
     let alloc = rt.alloc();
-    let first = Arc::new(alloc, AtomicBool::new(false))?;
-    let second = Arc::new(alloc, AtomicBool::new(false))?;
-    let one = make_stand(alloc, ONE, MEETS_TWO, &first, &second)?;
-    let two = make_stand(alloc, TWO, MEETS_ONE, &second, &first)?;
+    let (one, two) = make_stands(alloc)?;
     let (left, right) = join(
         &rt,
-        move || {
-            let Stand {
-                words,
-                input,
-                mut out,
-            } = one;
-            let world = RealWorld::new(rt, alloc);
-            let rec = MemRecorder::new(alloc, Vec::new(alloc), Vec::new(alloc));
-            let mut spawner = ThreadSpawner::new(rt, alloc);
-            run(
-                rt,
-                alloc,
-                &words,
-                input,
-                world,
-                &mut out,
-                rec,
-                &mut spawner,
-                1000,
-            )
-            .status
-        },
-        move || {
-            let Stand {
-                words,
-                input,
-                mut out,
-            } = two;
-            let world = RealWorld::new(rt, alloc);
-            let rec = MemRecorder::new(alloc, Vec::new(alloc), Vec::new(alloc));
-            let mut spawner = ThreadSpawner::new(rt, alloc);
-            run(
-                rt,
-                alloc,
-                &words,
-                input,
-                world,
-                &mut out,
-                rec,
-                &mut spawner,
-                1000,
-            )
-            .status
-        },
+        move || chat(rt, alloc, one, RealWorld::new(rt, alloc)),
+        move || chat(rt, alloc, two, RealWorld::new(rt, alloc)),
     );
-    assert_eq!(rt; (left, right), (Status::Done, Status::Done));
+    assert_eq!(rt; left, Status::Done);
+    assert_eq!(rt; right, Status::Done);
     Ok(())
 }

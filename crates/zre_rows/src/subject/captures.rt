@@ -1,101 +1,93 @@
 //! Captures: texts that are read in pieces, and the lines of their entries.
 
+use crate::subject::Subject;
+use crate::text::Text;
 use crate::trouble::Trouble;
-use crate::words::{Words, push_numbers};
+use crate::words::Words;
 use std::alloc::Global;
-use zre_capture::{BadCapture, CaptureFault, CaptureReader, write_entry};
+use zre_capture::{BadCapture, CaptureFault, CaptureReader};
 use zre_outside::Entries;
-use zre_values::{Octets, OutOfMemory, push_decimal};
+use zre_values::OutOfMemory;
 
 /// The text of a capture.
 #[derive(Drop)]
 pub struct Captures {
-    alloc: Global,
-    text: Octets,
+    text: Text,
+}
+
+/// `on capture`
+pub fn make(words: Words<'_>, answer: &mut Text) -> Subject {
+    if words.end(answer) {
+        let text = Text::new(words.alloc());
+        Subject::Capture(Captures { text })
+    } else {
+        Subject::Missing
+    }
 }
 
 impl Captures {
-    pub fn new(alloc: Global, arguments: &[u8]) -> Result<Self, Trouble> {
-        Words::new(arguments).end()?;
-        Ok(Captures {
-            alloc,
-            text: Octets::new(alloc),
-        })
-    }
-
-    pub fn step(
-        &mut self,
-        key: &[u8],
-        arguments: &[u8],
-        answer: &mut Octets,
-    ) -> Result<(), Trouble> {
-        if key == b"read".as_slice() {
-            return self.read(arguments, true, answer);
+    pub fn step(&mut self, words: Words<'_>, answer: &mut Text) {
+        if words.is(b"read") {
+            self.read(words, true, answer);
+        } else if words.is(b"place") {
+            self.read(words, false, answer);
+        } else if words.is(b"line") {
+            self.text.line(words.rest());
+        } else if words.is(b"text") {
+            self.text.put(words.rest());
+        } else if words.is(b"octets") {
+            self.extend(1, words, answer);
+        } else if words.is(b"many") {
+            self.extend_often(words, answer);
+        } else {
+            answer.fail(Trouble::UnknownKey);
         }
-        if key == b"place".as_slice() {
-            return self.read(arguments, false, answer);
-        }
-        self.extend(key, arguments)
     }
 
     // The text: `line TEXT` with a line feed, `text TEXT` without one, `octets HEX`, and `many N HEX` for the same octets so many times.
-    fn extend(&mut self, key: &[u8], arguments: &[u8]) -> Result<(), Trouble> {
-        let mut words = Words::new(arguments);
-        if key == b"line".as_slice() {
-            self.text.append(arguments)?;
-            self.text.push(b'\n')?;
-            return Ok(());
+    fn extend_often(&mut self, mut words: Words<'_>, answer: &mut Text) {
+        let times = words.number();
+        self.extend(times, words, answer);
+    }
+
+    fn extend(&mut self, times: u64, mut words: Words<'_>, answer: &mut Text) {
+        let octets = words.octets();
+        if words.end(answer) {
+            for _ in 0..times {
+                self.text.put(octets.as_slice());
+            }
         }
-        if key == b"text".as_slice() {
-            self.text.append(arguments)?;
-            return Ok(());
-        }
-        let times = if key == b"many".as_slice() {
-            words.number()?
-        } else if key == b"octets".as_slice() {
-            1
-        } else {
-            return Err(Trouble::UnknownKey);
-        };
-        let octets = words.octets(self.alloc)?;
-        words.end()?;
-        for _ in 0..times {
-            self.text.append(octets.as_slice())?;
-        }
-        Ok(())
     }
 
     // `read SIZE SIZE ..`: the lines of the entries that are read, and where the text is bad, or `whole`, in pieces of each of these sizes.
     // `place SIZE SIZE ..`: the same without the lines.
-    fn read(&self, arguments: &[u8], is_listed: bool, answer: &mut Octets) -> Result<(), Trouble> {
-        let mut sizes = Vec::new(self.alloc);
-        push_numbers(&mut sizes, arguments)?;
-        let mut told: Option<Octets> = None;
-        for size in sizes.as_slice() {
-            let lines = self.told(*size, is_listed)?;
-            match &told {
-                Some(first) if first.as_slice() != lines.as_slice() => {
-                    answer.append(b"other sizes read otherwise\n")?;
-                }
-                Some(_) => {}
-                None => {
-                    answer.append(lines.as_slice())?;
-                    told = Some(lines);
+    fn read(&self, mut words: Words<'_>, is_listed: bool, answer: &mut Text) {
+        let sizes = words.numbers();
+        if words.end(answer) && self.text.is_whole(answer) {
+            if let Some((first, others)) = sizes.as_slice().split_first() {
+                let text = self.told(words.alloc(), *first, is_listed);
+                answer.add(&text);
+                for size in others {
+                    let other = self.told(words.alloc(), *size, is_listed);
+                    if !answer.is_same(&text, &other) {
+                        answer.line(b"other sizes read otherwise");
+                    }
                 }
             }
         }
-        Ok(())
     }
 
-    fn told(&self, size: u64, is_listed: bool) -> Result<Octets, Trouble> {
-        let mut entries = Entries::new(self.alloc);
-        let bad = read_in_pieces(self.alloc, self.text.as_slice(), size, &mut entries)?;
-        let mut lines = Octets::new(self.alloc);
+    fn told(&self, alloc: Global, size: u64, is_listed: bool) -> Text {
+        let mut lines = Text::new(alloc);
+        let mut entries = Entries::new(alloc);
+        let read = read_in_pieces(alloc, self.text.as_slice(), size, &mut entries);
         if is_listed {
-            push_entries(self.alloc, &mut lines, &entries)?;
+            for entry in entries.as_slice() {
+                lines.entry(entry);
+            }
         }
-        push_place(&mut lines, bad)?;
-        Ok(lines)
+        push_place(&mut lines, read);
+        lines
     }
 }
 
@@ -119,24 +111,15 @@ fn read_in_pieces(
     Ok(reader.finish().err())
 }
 
-/// Appends the lines of entries.
-fn push_entries(alloc: Global, out: &mut Octets, entries: &Entries) -> Result<(), OutOfMemory> {
-    for entry in entries.as_slice() {
-        out.append(write_entry(alloc, entry)?.as_slice())?;
-    }
-    Ok(())
-}
-
 // `bad LINE COLUMN`, or `whole`.
-fn push_place(out: &mut Octets, bad: Option<BadCapture>) -> Result<(), OutOfMemory> {
-    match bad {
-        Some(BadCapture { line, column }) => {
-            out.append(b"bad ")?;
-            push_decimal(out, line)?;
-            out.push(b' ')?;
-            push_decimal(out, column)?;
+fn push_place(out: &mut Text, read: Result<Option<BadCapture>, OutOfMemory>) {
+    match read {
+        Ok(Some(BadCapture { line, column })) => {
+            out.count(b"bad", line);
+            out.count(b"", column);
         }
-        None => out.append(b"whole")?,
+        Ok(None) => out.put(b"whole"),
+        Err(OutOfMemory) => out.fail(Trouble::OutOfMemory),
     }
-    out.push(b'\n')
+    out.end();
 }

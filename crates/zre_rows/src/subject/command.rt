@@ -1,328 +1,332 @@
 //! The commands of the program, over an input, a world, a recorder and threads in memory.
 
+mod calls;
 mod cut;
 mod telling;
 
 use crate::journal::script_of;
+use crate::subject::Subject;
+use crate::text::Text;
 use crate::trouble::Trouble;
-use crate::words::{Words, push_numbers, push_texts};
+use crate::words::Words;
+use calls::{Ran, Stand, call_plain, call_run, call_zre};
 use cut::Cut;
 use std::alloc::Global;
 use std::sync::Wait;
 use std::thread::Threads;
 use telling::{Naming, Telling};
-use zre_app::{Ended, PlainEnded, Status, is_chat, plain, run, zre};
-use zre_capture::split_once;
-use zre_outside::{MemRecorder, MemSink, PlainSpawner, ScriptWorld};
-use zre_values::{Frames, Octets, OutOfMemory, push_decimal, push_quoted};
+use zre_app::Status;
+use zre_outside::{MemRecorder, MemSink, ScriptWorld};
+use zre_values::{Frames, Octets, OutOfMemory};
 
 /// The words of a command, what it is run over, and what came of its last run.
 #[derive(Drop)]
 pub struct Commands {
-    alloc: Global,
     words: Frames,
-    input: Octets,
+    input: Text,
     /// The script of the world, a line for each turn.
-    script: Octets,
+    script: Text,
     /// The calls that are to fail, a line for each kind: its name and their numbers.
-    fails: Octets,
+    fails: Text,
     /// The sizes of the pieces of the input, or nothing.
-    sizes: Octets,
+    sizes: Text,
     limit: u64,
     left: u64,
-    told: Octets,
-    kept: Octets,
-    file: Octets,
+    told: Text,
+    kept: Text,
+    file: Text,
+}
+
+/// `on command WORD WORD ..`: the words of the command line, as quoted texts.
+pub fn make(mut words: Words<'_>, answer: &mut Text) -> Subject {
+    let list = words.texts();
+    if words.end(answer) {
+        Subject::Command(Commands::new(words.alloc(), list))
+    } else {
+        Subject::Missing
+    }
 }
 
 impl Commands {
-    /// `on command WORD WORD ..`: the words of the command line, as quoted texts.
-    pub fn new(alloc: Global, arguments: &[u8]) -> Result<Self, Trouble> {
-        let mut words = Frames::new(alloc);
-        push_texts(alloc, &mut words, arguments)?;
-        Ok(Commands {
-            alloc,
+    fn new(alloc: Global, words: Frames) -> Self {
+        Commands {
             words,
-            input: Octets::new(alloc),
-            script: Octets::new(alloc),
-            fails: Octets::new(alloc),
-            sizes: Octets::new(alloc),
+            input: Text::new(alloc),
+            script: Text::new(alloc),
+            fails: Text::new(alloc),
+            sizes: Text::new(alloc),
             limit: u64::MAX,
             left: 0,
-            told: Octets::new(alloc),
-            kept: Octets::new(alloc),
-            file: Octets::new(alloc),
-        })
+            told: Text::new(alloc),
+            kept: Text::new(alloc),
+            file: Text::new(alloc),
+        }
     }
 
     pub fn step<T: Threads + Wait + AllocGlobal + Copy + Send + 'static>(
         &mut self,
         rt: T,
-        key: &[u8],
-        arguments: &[u8],
-        answer: &mut Octets,
-    ) -> Result<(), Trouble> {
-        if key == b"plain".as_slice() {
-            return self.do_plain(arguments, answer);
+        words: Words<'_>,
+        answer: &mut Text,
+    ) {
+        if words.is(b"run") {
+            self.run(rt, true, words, answer);
+        } else if words.is(b"zre") {
+            self.run(rt, false, words, answer);
+        } else if words.is(b"plain") {
+            self.plain(words, answer);
+        } else if words.is(b"both") {
+            self.both(words, answer);
+        } else {
+            self.set(words, answer);
         }
-        if key == b"both".as_slice() {
-            return self.do_both(arguments, answer);
-        }
-        if key == b"run".as_slice() {
-            return self.do_run(rt, true, arguments, answer);
-        }
-        if key == b"zre".as_slice() {
-            return self.do_run(rt, false, arguments, answer);
-        }
-        if self.set(key, arguments)? || self.show(key, arguments, answer)? {
-            return Ok(());
-        }
-        Err(Trouble::UnknownKey)
     }
 
-    // What it is run over.
-    fn set(&mut self, key: &[u8], arguments: &[u8]) -> Result<bool, Trouble> {
-        if key == b"words".as_slice() {
-            self.words = Frames::new(self.alloc);
-            push_texts(self.alloc, &mut self.words, arguments)?;
-            return Ok(true);
+    // What it is run over, and the script of the world: `turn ENTRY` and `look`.
+    fn set(&mut self, words: Words<'_>, answer: &mut Text) {
+        if words.is(b"words") {
+            self.set_words(words, answer);
+        } else if words.is(b"read") {
+            self.sizes.clear();
+            self.sizes.put(words.rest());
+        } else if words.is(b"limit") {
+            self.set_limit(words, answer);
+        } else if words.is(b"fail") {
+            self.fails.line(words.rest());
+        } else if words.is(b"turn") {
+            self.script.line(words.rest());
+        } else if words.is(b"look") {
+            self.look(words, answer);
+        } else {
+            self.set_input(words, answer);
         }
-        if key == b"read".as_slice() {
-            self.sizes = Octets::copy(self.alloc, arguments)?;
-            return Ok(true);
+    }
+
+    fn set_words(&mut self, mut words: Words<'_>, answer: &mut Text) {
+        let list = words.texts();
+        if words.end(answer) {
+            self.words = list;
         }
-        if key == b"limit".as_slice() {
-            self.limit = one_number(arguments)?;
-            return Ok(true);
+    }
+
+    fn set_limit(&mut self, mut words: Words<'_>, answer: &mut Text) {
+        let limit = words.number();
+        if words.end(answer) {
+            self.limit = limit;
         }
-        if key == b"fail".as_slice() {
-            push_line(&mut self.fails, arguments)?;
-            return Ok(true);
+    }
+
+    fn look(&mut self, words: Words<'_>, answer: &mut Text) {
+        if words.end(answer) {
+            self.script.line(b"look");
         }
-        Ok(self.set_input(key, arguments)? || self.set_script(key, arguments)?)
     }
 
     // The octets of the input: `octets HEX`, `line TEXT` with a line feed, `text TEXT` without one, and `input kept` for what the recorder
     // holds.
-    fn set_input(&mut self, key: &[u8], arguments: &[u8]) -> Result<bool, Trouble> {
-        if key == b"octets".as_slice() {
-            let mut words = Words::new(arguments);
-            self.input.append(words.octets(self.alloc)?.as_slice())?;
-            words.end()?;
-            return Ok(true);
+    fn set_input(&mut self, words: Words<'_>, answer: &mut Text) {
+        if words.is(b"octets") {
+            self.push_input(words, answer);
+        } else if words.is(b"line") {
+            self.input.line(words.rest());
+        } else if words.is(b"text") {
+            self.input.put(words.rest());
+        } else if words.is(b"input") {
+            self.set_kept(words, answer);
+        } else {
+            self.show(words, answer);
         }
-        if key == b"line".as_slice() {
-            push_line(&mut self.input, arguments)?;
-            return Ok(true);
-        }
-        if key == b"text".as_slice() {
-            self.input.append(arguments)?;
-            return Ok(true);
-        }
-        if key == b"input".as_slice() && arguments == b"kept".as_slice() {
-            self.input = Octets::copy(self.alloc, self.kept.as_slice())?;
-            return Ok(true);
-        }
-        Ok(false)
     }
 
-    // The script of the world: `turn ENTRY` and `look`.
-    fn set_script(&mut self, key: &[u8], arguments: &[u8]) -> Result<bool, Trouble> {
-        if key == b"turn".as_slice() {
-            push_line(&mut self.script, arguments)?;
-            return Ok(true);
+    fn push_input(&mut self, mut words: Words<'_>, answer: &mut Text) {
+        let octets = words.octets();
+        if words.end(answer) {
+            self.input.put(octets.as_slice());
         }
-        if key == b"look".as_slice() {
-            Words::new(arguments).end()?;
-            push_line(&mut self.script, b"look")?;
-            return Ok(true);
+    }
+
+    fn set_kept(&mut self, words: Words<'_>, answer: &mut Text) {
+        if words.rest() == b"kept".as_slice() {
+            self.input.clear();
+            self.input.add(&self.kept);
+        } else {
+            answer.fail(Trouble::BadArgument);
         }
-        Ok(false)
     }
 
     // What came of the last run: `left` how many octets of the input weren't read, `told` what the world was told, `kept` what the recorder
     // holds and `file` its name, quoted.
-    fn show(&mut self, key: &[u8], arguments: &[u8], answer: &mut Octets) -> Result<bool, Trouble> {
-        if key == b"left".as_slice() {
-            push_decimal(answer, self.left)?;
-            answer.push(b'\n')?;
-        } else if key == b"told".as_slice() {
-            answer.append(self.told.as_slice())?;
-        } else if key == b"kept".as_slice() {
-            push_ended(answer, self.kept.as_slice())?;
-        } else if key == b"file".as_slice() {
-            push_quoted(answer, self.file.as_slice())?;
-            answer.push(b'\n')?;
-        } else {
-            return Ok(false);
+    fn show(&self, words: Words<'_>, answer: &mut Text) {
+        if !words.end(answer) {
+            return;
         }
-        Words::new(arguments).end()?;
-        Ok(true)
+        if words.is(b"left") {
+            answer.number(self.left);
+            answer.end();
+        } else if words.is(b"told") {
+            answer.add(&self.told);
+        } else if words.is(b"kept") {
+            self.kept.is_whole(answer);
+            push_ended(answer, self.kept.as_slice());
+        } else if words.is(b"file") {
+            self.file.is_whole(answer);
+            answer.quoted(self.file.as_slice());
+            answer.end();
+        } else {
+            answer.fail(Trouble::UnknownKey);
+        }
     }
 
     // The numbers of the calls of a kind that are to fail.
-    fn calls_of(&self, kind: &[u8]) -> Result<Vec<u64>, Trouble> {
-        let mut calls = Vec::new(self.alloc);
+    fn calls_of(&self, alloc: Global, kind: &[u8], answer: &mut Text) -> Vec<u64> {
+        let mut calls = Vec::new(alloc);
         for line in self.fails.as_slice().split(|octet| *octet == b'\n') {
-            if let Some((word, numbers)) = split_once(line, b' ') {
-                if word == kind {
-                    push_numbers(&mut calls, numbers)?;
-                }
+            let mut words = Words::of_line(alloc, line);
+            if words.is(kind) {
+                words.push_numbers(&mut calls);
+                words.end(answer);
             }
         }
-        Ok(calls)
+        calls
     }
 
-    fn source(&self) -> Result<Cut, Trouble> {
-        let mut sizes = Vec::new(self.alloc);
-        if !self.sizes.is_empty() {
-            push_numbers(&mut sizes, self.sizes.as_slice())?;
+    fn source(&self, alloc: Global, answer: &mut Text) -> Cut {
+        let mut words = Words::new(alloc, b"read", self.sizes.as_slice());
+        let mut sizes = Vec::new(alloc);
+        if !self.sizes.as_slice().is_empty() {
+            words.push_numbers(&mut sizes);
         }
-        let fails = self.calls_of(b"read")?;
-        let input = Octets::copy(self.alloc, self.input.as_slice())?;
-        Ok(Cut::new(input, sizes, fails))
+        words.end(answer);
+        let input = copy_of(alloc, &self.input, answer);
+        Cut::new(input, sizes, self.calls_of(alloc, b"read", answer))
     }
 
-    fn sink(&self) -> Result<MemSink, Trouble> {
-        let fails = self.calls_of(b"write")?;
-        Ok(MemSink::new(self.alloc, fails))
+    fn sink(&self, alloc: Global, answer: &mut Text) -> MemSink {
+        MemSink::new(alloc, self.calls_of(alloc, b"write", answer))
     }
 
-    fn world(&self) -> Result<Telling, Trouble> {
-        let starts = self.calls_of(b"start")?;
-        let nexts = self.calls_of(b"next")?;
-        let script = script_of(self.alloc, self.script.as_slice())?;
-        let inner = ScriptWorld::new(self.alloc, script, starts, nexts);
-        Ok(Telling::new(inner, Octets::new(self.alloc)))
+    fn world(&self, alloc: Global, answer: &mut Text) -> Telling {
+        let starts = self.calls_of(alloc, b"start", answer);
+        let nexts = self.calls_of(alloc, b"next", answer);
+        let script = script_of(alloc, self.script.as_slice(), answer);
+        let inner = ScriptWorld::new(alloc, script, starts, nexts);
+        Telling::new(inner, Text::new(alloc))
     }
 
-    fn recorder(&self) -> Result<Naming, Trouble> {
-        let begins = self.calls_of(b"begin")?;
-        let puts = self.calls_of(b"put")?;
-        let inner = MemRecorder::new(self.alloc, begins, puts);
-        Ok(Naming::new(inner, Octets::new(self.alloc)))
+    fn recorder(&self, alloc: Global, answer: &mut Text) -> Naming {
+        let begins = self.calls_of(alloc, b"begin", answer);
+        let puts = self.calls_of(alloc, b"put", answer);
+        Naming::new(MemRecorder::new(alloc, begins, puts), Text::new(alloc))
     }
 
-    fn spawner<T: Copy>(&self, rt: T) -> Result<PlainSpawner<T>, Trouble> {
-        let fails = self.calls_of(b"thread")?;
-        Ok(PlainSpawner::new(rt, self.alloc, fails))
+    fn stand(&self, alloc: Global, answer: &mut Text) -> Stand {
+        Stand {
+            input: self.source(alloc, answer),
+            world: self.world(alloc, answer),
+            rec: self.recorder(alloc, answer),
+            threads: self.calls_of(alloc, b"thread", answer),
+        }
     }
 
-    fn note_input(&mut self, input: Cut) {
-        self.left = (self.input.len() as u64).saturating_sub(input.given);
+    // Whether the texts that it is run over are whole.
+    fn is_whole(&self, answer: &mut Text) -> bool {
+        self.script.is_whole(answer) && self.fails.is_whole(answer) && self.sizes.is_whole(answer)
     }
 
-    fn note_outside(&mut self, world: Telling, rec: Naming) -> Result<(), OutOfMemory> {
-        self.kept = Octets::copy(self.alloc, rec.inner.kept())?;
-        self.told = world.told;
-        self.file = rec.names;
-        Ok(())
+    fn note_given(&mut self, given: u64) {
+        self.left = (self.input.as_slice().len() as u64).saturating_sub(given);
     }
 
     // `plain`: a command other than `chat`.
-    fn do_plain(&mut self, arguments: &[u8], answer: &mut Octets) -> Result<(), Trouble> {
-        Words::new(arguments).end()?;
-        if is_chat(&self.words) {
-            return Err(Trouble::BadArgument);
+    fn plain(&mut self, words: Words<'_>, answer: &mut Text) {
+        if words.end(answer) && self.is_whole(answer) {
+            let input = self.source(words.alloc(), answer);
+            let mut out = self.sink(words.alloc(), answer);
+            if !answer.has_fault() {
+                match call_plain(words.alloc(), &self.words, input, &mut out, self.limit) {
+                    Some((status, given)) => {
+                        self.note_given(given);
+                        push_outcome(answer, out.written(), status);
+                    }
+                    None => answer.fail(Trouble::BadArgument),
+                }
+            }
         }
-        let mut out = self.sink()?;
-        let input = self.source()?;
-        let ended = plain(self.alloc, &self.words, input, &mut out, self.limit);
-        let PlainEnded { status, input } = ended;
-        self.note_input(input);
-        push_outcome(answer, out.written(), status)?;
-        Ok(())
     }
 
     // `both`: the same of an input that comes an octet a read and of one that comes whole. What the first answers is told only where it
     // differs.
-    fn do_both(&mut self, arguments: &[u8], answer: &mut Octets) -> Result<(), Trouble> {
-        let mut by_octet = Octets::new(self.alloc);
-        self.sizes = Octets::copy(self.alloc, b"1")?;
-        self.do_plain(arguments, &mut by_octet)?;
-        let mut whole = Octets::new(self.alloc);
+    fn both(&mut self, words: Words<'_>, answer: &mut Text) {
+        let mut by_octet = Text::new(words.alloc());
         self.sizes.clear();
-        self.do_plain(arguments, &mut whole)?;
-        if by_octet.as_slice() != whole.as_slice() {
-            answer.append(b"an octet a read\n")?;
-            answer.append(by_octet.as_slice())?;
-            answer.append(b"whole\n")?;
+        self.sizes.put(b"1");
+        self.plain(words, &mut by_octet);
+        let mut whole = Text::new(words.alloc());
+        self.sizes.clear();
+        self.plain(words, &mut whole);
+        if !answer.is_same(&by_octet, &whole) {
+            answer.line(b"an octet a read");
+            answer.add(&by_octet);
+            answer.line(b"whole");
         }
-        answer.append(whole.as_slice())?;
-        Ok(())
+        answer.add(&whole);
     }
 
     // `run`, and `zre`, which has no limit.
-    fn do_run<T: Threads + Wait + AllocGlobal + Copy + Send + 'static>(
+    fn run<T: Threads + Wait + AllocGlobal + Copy + Send + 'static>(
         &mut self,
         rt: T,
         is_limited: bool,
-        arguments: &[u8],
-        answer: &mut Octets,
-    ) -> Result<(), Trouble> {
-        Words::new(arguments).end()?;
-        let mut out = self.sink()?;
-        let mut spawner = self.spawner(rt)?;
-        let input = self.source()?;
-        let world = self.world()?;
-        let rec = self.recorder()?;
-        let words = &self.words;
-        let ended = if is_limited {
-            run(
-                rt,
-                self.alloc,
-                words,
-                input,
-                world,
-                &mut out,
-                rec,
-                &mut spawner,
-                self.limit,
-            )
-        } else {
-            zre(
-                rt,
-                self.alloc,
-                words,
-                input,
-                world,
-                &mut out,
-                rec,
-                &mut spawner,
-            )
-        };
-        let Ended {
-            status,
+        words: Words<'_>,
+        answer: &mut Text,
+    ) {
+        if words.end(answer) && self.is_whole(answer) {
+            let stand = self.stand(words.alloc(), answer);
+            let mut out = self.sink(words.alloc(), answer);
+            if !answer.has_fault() {
+                let ran = if is_limited {
+                    call_run(rt, words.alloc(), &self.words, stand, &mut out, self.limit)
+                } else {
+                    call_zre(rt, words.alloc(), &self.words, stand, &mut out)
+                };
+                push_outcome(answer, out.written(), ran.status);
+                self.note(ran);
+            }
+        }
+    }
+
+    fn note(&mut self, ran: Ran) {
+        let Ran {
             input,
             world,
             rec,
-        } = ended;
-        self.note_input(input);
-        self.note_outside(world, rec)?;
-        push_outcome(answer, out.written(), status)?;
-        Ok(())
+            ..
+        } = ran;
+        self.note_given(input.given);
+        self.kept.clear();
+        self.kept.put(rec.inner.kept());
+        self.told = world.into_told();
+        self.file = rec.into_names();
     }
 }
 
-fn one_number(arguments: &[u8]) -> Result<u64, Trouble> {
-    let mut words = Words::new(arguments);
-    let n = words.number()?;
-    words.end()?;
-    Ok(n)
-}
-
-fn push_line(out: &mut Octets, text: &[u8]) -> Result<(), OutOfMemory> {
-    out.append(text)?;
-    out.push(b'\n')
+fn copy_of(alloc: Global, text: &Text, answer: &mut Text) -> Octets {
+    text.is_whole(answer);
+    match Octets::copy(alloc, text.as_slice()) {
+        Ok(copied) => copied,
+        Err(OutOfMemory) => {
+            answer.fail(Trouble::OutOfMemory);
+            Octets::new(alloc)
+        }
+    }
 }
 
 // Appends a text of lines. One that doesn't end with a line feed is told by a line of its own.
-fn push_ended(out: &mut Octets, text: &[u8]) -> Result<(), OutOfMemory> {
-    out.append(text)?;
+fn push_ended(out: &mut Text, text: &[u8]) {
+    out.put(text);
     if !text.is_empty() && !text.ends_with(b"\n") {
-        out.append(b"\nno line feed\n")?;
+        out.put(b"\nno line feed\n");
     }
-    Ok(())
 }
 
 fn name_of(status: Status) -> &'static [u8] {
@@ -340,10 +344,9 @@ fn name_of(status: Status) -> &'static [u8] {
 }
 
 // What was written, and `status NUMBER NAME`.
-fn push_outcome(out: &mut Octets, written: &[u8], status: Status) -> Result<(), OutOfMemory> {
-    push_ended(out, written)?;
-    out.append(b"status ")?;
-    push_decimal(out, u64::from(status.code()))?;
-    out.push(b' ')?;
-    push_line(out, name_of(status))
+fn push_outcome(out: &mut Text, written: &[u8], status: Status) {
+    push_ended(out, written);
+    out.count(b"status", u64::from(status.code()));
+    out.octet(b' ');
+    out.line(name_of(status));
 }

@@ -1,19 +1,18 @@
 //! The objects in memory that stand for the outside: where octets come from and go to, and where a capture is kept.
 
-use crate::texts::push_hex;
+use crate::subject::Subject;
+use crate::text::Text;
 use crate::trouble::Trouble;
-use crate::words::{Words, push_numbers};
-use std::alloc::Global;
+use crate::words::Words;
 use zre_outside::{
     MemRecorder, MemSink, MemSource, NextFault, Recorder, Sink, Source, SureRecorder, SureSink,
     SureSource, write_all,
 };
-use zre_values::{Octets, OutOfMemory};
+use zre_values::Octets;
 
 /// One of each, the calls of those with a list fail at its numbers.
 #[derive(Drop)]
 pub struct Memory {
-    alloc: Global,
     source: MemSource,
     sure_source: SureSource,
     sink: MemSink,
@@ -22,94 +21,108 @@ pub struct Memory {
     sure_recorder: SureRecorder,
 }
 
-fn copy_of(alloc: Global, numbers: &[u64]) -> Result<Vec<u64>, OutOfMemory> {
-    Ok(Vec::from_slice(alloc, numbers)?)
+/// `on memory HEX NUMBER NUMBER ..`: the octets that the sources hold, and the numbers of the calls that are to fail.
+pub fn make(words: Words<'_>, answer: &mut Text) -> Subject {
+    let mut all = words;
+    drop(all.octets());
+    drop(all.numbers());
+    if all.end(answer) {
+        Subject::Memory(make_memory(words))
+    } else {
+        Subject::Missing
+    }
+}
+
+// The numbers after the octets.
+fn fails_of(mut words: Words<'_>) -> Vec<u64> {
+    let _ = words.field();
+    words.numbers()
+}
+
+fn make_memory(words: Words<'_>) -> Memory {
+    let alloc = words.alloc();
+    Memory {
+        source: MemSource::new(octets_of(words), fails_of(words)),
+        sure_source: SureSource::new(octets_of(words)),
+        sink: MemSink::new(alloc, fails_of(words)),
+        sure_sink: SureSink::new(alloc),
+        recorder: MemRecorder::new(alloc, fails_of(words), fails_of(words)),
+        sure_recorder: SureRecorder::new(alloc),
+    }
+}
+
+fn octets_of(mut words: Words<'_>) -> Octets {
+    words.octets()
 }
 
 impl Memory {
-    /// `on memory HEX NUMBER NUMBER ..`: the octets that the sources hold, and the numbers of the calls that are to fail.
-    pub fn new(alloc: Global, arguments: &[u8]) -> Result<Self, Trouble> {
-        let mut words = Words::new(arguments);
-        let octets = words.octets(alloc)?;
-        let mut numbers = Vec::new(alloc);
-        push_numbers(&mut numbers, words.rest())?;
-        let fails = numbers.as_slice();
-        let sure = Octets::copy(alloc, octets.as_slice())?;
-        Ok(Memory {
-            alloc,
-            source: MemSource::new(octets, copy_of(alloc, fails)?),
-            sure_source: SureSource::new(sure),
-            sink: MemSink::new(alloc, copy_of(alloc, fails)?),
-            sure_sink: SureSink::new(alloc),
-            recorder: MemRecorder::new(alloc, copy_of(alloc, fails)?, copy_of(alloc, fails)?),
-            sure_recorder: SureRecorder::new(alloc),
-        })
-    }
-
     // `read N` reads from both sources, `write HEX` writes to both sinks, and `record HEX` begins both recorders and puts, each with an
     // answer of the object with a list and one of that without. `held` shows what the sinks and the recorders hold.
-    pub fn step(
-        &mut self,
-        key: &[u8],
-        arguments: &[u8],
-        answer: &mut Octets,
-    ) -> Result<(), Trouble> {
-        let mut words = Words::new(arguments);
-        if key == b"read".as_slice() {
-            let size = words.number()?;
-            words.end()?;
-            let mut room = Vec::from_elem(self.alloc, 0u8, (size.min(65536) as usize).max(1))?;
-            push_read(&mut self.source, &mut room, answer)?;
-            return Ok(push_read(&mut self.sure_source, &mut room, answer)?);
-        }
-        if key == b"held".as_slice() {
-            words.end()?;
-            return Ok(self.show(answer)?);
-        }
-        let octets = words.octets(self.alloc)?;
-        words.end()?;
-        let bytes = octets.as_slice();
-        if key == b"write".as_slice() {
-            push_outcome(write_all(&mut self.sink, bytes), answer)?;
-            push_outcome(write_all(&mut self.sure_sink, bytes), answer)?;
-        } else if key == b"record".as_slice() {
-            push_outcome(record(&mut self.recorder, bytes), answer)?;
-            push_outcome(record(&mut self.sure_recorder, bytes), answer)?;
+    pub fn step(&mut self, words: Words<'_>, answer: &mut Text) {
+        if words.is(b"read") {
+            self.read(words, answer);
+        } else if words.is(b"held") {
+            self.show(words, answer);
+        } else if words.is(b"write") {
+            self.write(words, answer);
+        } else if words.is(b"record") {
+            self.record(words, answer);
         } else {
-            return Err(Trouble::UnknownKey);
+            answer.fail(Trouble::UnknownKey);
         }
-        Ok(())
     }
 
-    fn show(&self, answer: &mut Octets) -> Result<(), OutOfMemory> {
-        for held in [
-            self.sink.written(),
-            self.sure_sink.written(),
-            self.recorder.kept(),
-            self.sure_recorder.kept(),
-        ] {
-            push_hex(answer, held)?;
-            answer.push(b'\n')?;
+    fn read(&mut self, mut words: Words<'_>, answer: &mut Text) {
+        let size = (words.number().min(65536) as usize).max(1);
+        if words.end(answer) {
+            match Vec::from_elem(words.alloc(), 0u8, size) {
+                Ok(mut room) => self.read_into(&mut room, answer),
+                Err(_) => answer.fail(Trouble::OutOfMemory),
+            }
         }
-        Ok(())
+    }
+
+    fn read_into(&mut self, room: &mut Vec<u8>, answer: &mut Text) {
+        push_read(&mut self.source, room, answer);
+        push_read(&mut self.sure_source, room, answer);
+    }
+
+    fn write(&mut self, mut words: Words<'_>, answer: &mut Text) {
+        let octets = words.octets();
+        if words.end(answer) {
+            push_outcome(write_all(&mut self.sink, octets.as_slice()), answer);
+            push_outcome(write_all(&mut self.sure_sink, octets.as_slice()), answer);
+        }
+    }
+
+    fn record(&mut self, mut words: Words<'_>, answer: &mut Text) {
+        let octets = words.octets();
+        if words.end(answer) {
+            push_outcome(record(&mut self.recorder, octets.as_slice()), answer);
+            push_outcome(record(&mut self.sure_recorder, octets.as_slice()), answer);
+        }
+    }
+
+    fn show(&self, words: Words<'_>, answer: &mut Text) {
+        if words.end(answer) {
+            answer.hex_line(self.sink.written());
+            answer.hex_line(self.sure_sink.written());
+            answer.hex_line(self.recorder.kept());
+            answer.hex_line(self.sure_recorder.kept());
+        }
     }
 }
 
 // What was read, `-` at the end of input, or `failed`.
-fn push_read<S: Source>(
-    source: &mut S,
-    room: &mut Vec<u8>,
-    answer: &mut Octets,
-) -> Result<(), OutOfMemory> {
+fn push_read<S: Source>(source: &mut S, room: &mut Vec<u8>, answer: &mut Text) {
     let buf = room.as_mut_slice();
     if buf.is_empty() {
-        return Ok(());
+        return;
     }
     match source.read(buf) {
-        Ok(n) => push_hex(answer, &buf[..n])?,
-        Err(_) => answer.append(b"failed")?,
+        Ok(n) => answer.hex_line(&buf[..n]),
+        Err(_) => answer.line(b"failed"),
     }
-    answer.push(b'\n')
 }
 
 fn record<R: Recorder>(recorder: &mut R, bytes: &[u8]) -> Result<(), NextFault> {
@@ -117,10 +130,10 @@ fn record<R: Recorder>(recorder: &mut R, bytes: &[u8]) -> Result<(), NextFault> 
     recorder.put(bytes)
 }
 
-fn push_outcome(outcome: Result<(), NextFault>, answer: &mut Octets) -> Result<(), OutOfMemory> {
-    answer.append(match outcome {
-        Ok(()) => b"done\n".as_slice(),
-        Err(NextFault::Failed) => b"failed\n".as_slice(),
-        Err(NextFault::OutOfMemory) => return Err(OutOfMemory),
-    })
+fn push_outcome(outcome: Result<(), NextFault>, answer: &mut Text) {
+    match outcome {
+        Ok(()) => answer.line(b"done"),
+        Err(NextFault::Failed) => answer.line(b"failed"),
+        Err(NextFault::OutOfMemory) => answer.fail(Trouble::OutOfMemory),
+    }
 }

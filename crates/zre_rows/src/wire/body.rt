@@ -1,49 +1,54 @@
 //! The texts of messages.
 
-use crate::trouble::Trouble;
-use crate::wire::texts::push_count;
+use crate::text::Text;
 use zre_msg::Body;
-use zre_values::{
-    Frames, Octets, Pairs, push_decimal, push_quoted, push_quoted_frames, push_quoted_pairs,
-};
+use zre_values::{Frames, Octets, Pairs};
 
-fn push_sender(out: &mut Octets, endpoint: &Octets, name: &Octets) -> Result<(), Trouble> {
-    out.append(b" HELLO ")?;
-    push_quoted(out, endpoint.as_slice())?;
-    out.push(b' ')?;
-    push_quoted(out, name.as_slice())?;
-    Ok(())
-}
-
-fn push_lists(
-    out: &mut Octets,
+fn push_hello(
+    out: &mut Text,
+    (endpoint, name): (&Octets, &Octets),
     groups: &Frames,
     status: u8,
     headers: &Pairs,
-) -> Result<(), Trouble> {
-    out.push(b' ')?;
-    push_quoted_frames(out, groups)?;
-    push_count(out, b"", u64::from(status))?;
-    out.push(b' ')?;
-    push_quoted_pairs(out, headers)?;
-    Ok(())
+) {
+    out.put(b" HELLO ");
+    out.quoted(endpoint.as_slice());
+    out.octet(b' ');
+    out.quoted(name.as_slice());
+    out.octet(b' ');
+    out.frames(groups);
+    out.count(b"", u64::from(status));
+    out.octet(b' ');
+    out.pairs(headers);
 }
 
-fn push_group(out: &mut Octets, word: &[u8], group: &Octets, status: u8) -> Result<(), Trouble> {
-    out.append(word)?;
-    push_quoted(out, group.as_slice())?;
-    push_count(out, b"", u64::from(status))
+fn push_group(out: &mut Text, word: &[u8], group: &Octets, status: u8) {
+    out.put(word);
+    out.quoted(group.as_slice());
+    out.count(b"", u64::from(status));
 }
 
-fn push_content(out: &mut Octets, word: &[u8], content: &Frames) -> Result<(), Trouble> {
-    out.append(word)?;
-    push_quoted_frames(out, content)?;
-    Ok(())
+fn push_content(out: &mut Text, word: &[u8], content: &Frames) {
+    out.put(word);
+    out.frames(content);
+}
+
+fn push_shout(out: &mut Text, group: &Octets, content: &Frames) {
+    push_content(out, b" SHOUT ", content);
+    out.octet(b' ');
+    out.quoted(group.as_slice());
+}
+
+fn push_other(out: &mut Text, number: u8, rest: &Octets, more: &Frames) {
+    out.count(b" OTHER", u64::from(number));
+    out.octet(b' ');
+    out.quoted(rest.as_slice());
+    push_content(out, b" ", more);
 }
 
 /// Appends a message: its number, its command, and its fields.
-pub fn push_body(out: &mut Octets, sequence: u16, body: &Body) -> Result<(), Trouble> {
-    push_decimal(out, u64::from(sequence))?;
+pub fn push_body(out: &mut Text, sequence: u16, body: &Body) {
+    out.number(u64::from(sequence));
     match body {
         Body::Hello {
             endpoint,
@@ -51,26 +56,13 @@ pub fn push_body(out: &mut Octets, sequence: u16, body: &Body) -> Result<(), Tro
             status,
             name,
             headers,
-        } => {
-            push_sender(out, endpoint, name)?;
-            push_lists(out, groups, *status, headers)
-        }
+        } => push_hello(out, (endpoint, name), groups, *status, headers),
         Body::Whisper { content } => push_content(out, b" WHISPER ", content),
-        Body::Shout { group, content } => {
-            push_content(out, b" SHOUT ", content)?;
-            out.push(b' ')?;
-            push_quoted(out, group.as_slice())?;
-            Ok(())
-        }
+        Body::Shout { group, content } => push_shout(out, group, content),
         Body::Join { group, status } => push_group(out, b" JOIN ", group, *status),
         Body::Leave { group, status } => push_group(out, b" LEAVE ", group, *status),
-        Body::Ping => Ok(out.append(b" PING")?),
-        Body::PingOk => Ok(out.append(b" PING-OK")?),
-        Body::Other { number, rest, more } => {
-            push_count(out, b" OTHER", u64::from(*number))?;
-            out.push(b' ')?;
-            push_quoted(out, rest.as_slice())?;
-            push_content(out, b" ", more)
-        }
+        Body::Ping => out.put(b" PING"),
+        Body::PingOk => out.put(b" PING-OK"),
+        Body::Other { number, rest, more } => push_other(out, *number, rest, more),
     }
 }

@@ -1,97 +1,81 @@
 //! Which keys are in which groups.
 
+use crate::text::Text;
 use crate::trouble::Trouble;
+use crate::wire::texts::push_keys;
 use crate::words::Words;
 use std::alloc::Global;
 use zre_group::Index;
-use zre_values::{Keys, Octets, push_decimal};
+use zre_values::{Keys, OutOfMemory};
 
 /// An index, from the empty one on.
 #[derive(Drop)]
 pub struct Groups {
-    alloc: Global,
     index: Index,
 }
 
-/// Appends a line of keys, with one space between, or `none`.
-pub fn push_keys(answer: &mut Octets, keys: &Keys) -> Result<(), Trouble> {
-    if keys.len() == 0 {
-        answer.append(b" none")?;
+fn push_members(answer: &mut Text, keys: Result<Keys, OutOfMemory>) {
+    match keys {
+        Ok(keys) => {
+            answer.put(b"members");
+            push_keys(answer, &keys);
+        }
+        Err(OutOfMemory) => answer.fail(Trouble::OutOfMemory),
     }
-    for key in keys.as_slice() {
-        answer.push(b' ')?;
-        push_decimal(answer, *key)?;
-    }
-    answer.push(b'\n')?;
-    Ok(())
 }
 
 impl Groups {
-    pub fn new(alloc: Global, arguments: &[u8]) -> Result<Self, Trouble> {
-        Words::new(arguments).end()?;
-        Ok(Groups {
-            alloc,
+    pub fn new(alloc: Global) -> Self {
+        Groups {
             index: Index::new(alloc),
-        })
+        }
     }
 
-    pub fn step(
-        &mut self,
-        key: &[u8],
-        arguments: &[u8],
-        answer: &mut Octets,
-    ) -> Result<(), Trouble> {
-        if key == b"add".as_slice() {
-            return self.add(arguments);
+    pub fn step(&mut self, words: Words<'_>, answer: &mut Text) {
+        if words.is(b"add") {
+            self.add(words, answer);
+        } else if words.is(b"remove") {
+            self.remove(words, answer);
+        } else if words.is(b"forget") {
+            self.forget(words, answer);
+        } else if words.is(b"members") {
+            self.members(words, answer);
+        } else {
+            answer.fail(Trouble::UnknownKey);
         }
-        if key == b"remove".as_slice() {
-            return self.remove(arguments);
-        }
-        if key == b"forget".as_slice() {
-            return self.forget(arguments);
-        }
-        if key == b"members".as_slice() {
-            return self.members(arguments, answer);
-        }
-        Err(Trouble::UnknownKey)
     }
 
     // `add GROUP KEY`, with the group as text, as in each step.
-    fn add(&mut self, arguments: &[u8]) -> Result<(), Trouble> {
-        let mut words = Words::new(arguments);
-        let group = words.text(self.alloc)?;
-        let key = words.number()?;
-        words.end()?;
-        self.index.add(group.as_slice(), key)?;
-        Ok(())
+    fn add(&mut self, mut words: Words<'_>, answer: &mut Text) {
+        let group = words.text();
+        let key = words.number();
+        if words.end(answer) {
+            answer.note(self.index.add(group.as_slice(), key));
+        }
     }
 
     // `remove GROUP KEY`
-    fn remove(&mut self, arguments: &[u8]) -> Result<(), Trouble> {
-        let mut words = Words::new(arguments);
-        let group = words.text(self.alloc)?;
-        let key = words.number()?;
-        words.end()?;
-        self.index.remove(group.as_slice(), key);
-        Ok(())
+    fn remove(&mut self, mut words: Words<'_>, answer: &mut Text) {
+        let group = words.text();
+        let key = words.number();
+        if words.end(answer) {
+            self.index.remove(group.as_slice(), key);
+        }
     }
 
     // `forget KEY`
-    fn forget(&mut self, arguments: &[u8]) -> Result<(), Trouble> {
-        let mut words = Words::new(arguments);
-        let key = words.number()?;
-        words.end()?;
-        self.index.forget(key);
-        Ok(())
+    fn forget(&mut self, mut words: Words<'_>, answer: &mut Text) {
+        let key = words.number();
+        if words.end(answer) {
+            self.index.forget(key);
+        }
     }
 
     // `members GROUP` answers the keys.
-    fn members(&self, arguments: &[u8], answer: &mut Octets) -> Result<(), Trouble> {
-        let mut words = Words::new(arguments);
-        let group = words.text(self.alloc)?;
-        words.end()?;
-        let keys = self.index.members(group.as_slice())?;
-        answer.append(b"members")?;
-        push_keys(answer, &keys)
+    fn members(&self, mut words: Words<'_>, answer: &mut Text) {
+        let group = words.text();
+        if words.end(answer) {
+            push_members(answer, self.index.members(group.as_slice()));
+        }
     }
 }

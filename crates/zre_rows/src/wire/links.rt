@@ -1,13 +1,15 @@
 //! Outgoing connections.
 
-use crate::texts::push_hex;
+use crate::subject::Subject;
+use crate::text::Text;
 use crate::trouble::Trouble;
-use crate::wire::texts::{push_count, push_fault, push_octets};
+use crate::wire::Wire;
+use crate::wire::texts::push_fed;
 use crate::words::Words;
 use std::alloc::Global;
 use zre_link::{Link, PushFault};
 use zre_msg::{Body, Message};
-use zre_values::{Frames, Octets};
+use zre_values::{Frames, Octets, PeerId};
 use zre_zmtp::FeedFault;
 
 /// More octets than this aren't whispered by a step.
@@ -16,36 +18,58 @@ const CONTENT: u64 = 2097152;
 /// The link of a node.
 #[derive(Drop)]
 pub struct Links {
-    alloc: Global,
     link: Link,
 }
 
-// Puts the body of a message, whose own number counts for nothing.
-fn push(link: &mut Link, message: &mut Message, answer: &mut Octets) -> Result<(), Trouble> {
-    if !message.fits() {
-        return Err(Trouble::BadArgument);
+/// `on links ID`
+pub fn make(mut words: Words<'_>, answer: &mut Text) -> Subject {
+    let own = words.id();
+    if words.end(answer) {
+        make_link(words.alloc(), own, answer)
+    } else {
+        Subject::Missing
     }
-    match link.push(&mut message.body) {
-        Ok(()) => Ok(()),
-        Err(PushFault::Slow { unsent, size }) => {
-            push_count(answer, b"slow", unsent)?;
-            push_count(answer, b"", size)?;
-            answer.push(b'\n')?;
-            Ok(())
+}
+
+fn make_link(alloc: Global, own: PeerId, answer: &mut Text) -> Subject {
+    match Link::new(alloc, own) {
+        Ok(link) => Subject::Wire(Wire::Links(Links { link })),
+        Err(_) => {
+            answer.fail(Trouble::OutOfMemory);
+            Subject::Missing
         }
-        Err(PushFault::OutOfMemory) => Err(Trouble::OutOfMemory),
+    }
+}
+
+fn push_pushed(answer: &mut Text, pushed: Result<(), PushFault>) {
+    match pushed {
+        Ok(()) => {}
+        Err(PushFault::Slow { unsent, size }) => {
+            answer.count(b"slow", unsent);
+            answer.count(b"", size);
+            answer.end();
+        }
+        Err(PushFault::OutOfMemory) => answer.fail(Trouble::OutOfMemory),
+    }
+}
+
+// Puts the body of a message, whose own number counts for nothing.
+fn push(link: &mut Link, message: &mut Message, answer: &mut Text) {
+    if message.fits() {
+        push_pushed(answer, link.push(&mut message.body));
+    } else {
+        answer.fail(Trouble::BadArgument);
     }
 }
 
 // Takes what may go out, at most so many octets at a time.
-fn drain(link: &mut Link, most: usize, out: &mut Octets) -> Result<(), Trouble> {
+fn drain(link: &mut Link, most: usize, out: &mut Text) {
     for _ in 0..1024 {
         let front = link.front();
         let count = front.len().min(most);
-        out.append(&front[..count])?;
+        out.put(&front[..count]);
         link.took(count as u64);
     }
-    Ok(())
 }
 
 fn reply(link: &mut Link, piece: &[u8]) -> Result<(), FeedFault> {
@@ -56,99 +80,103 @@ fn reply(link: &mut Link, piece: &[u8]) -> Result<(), FeedFault> {
     }
 }
 
-impl Links {
-    /// `on links ID`
-    pub fn new(alloc: Global, arguments: &[u8]) -> Result<Self, Trouble> {
-        let mut words = Words::new(arguments);
-        let own = words.id()?;
-        words.end()?;
-        Ok(Links {
-            alloc,
-            link: Link::new(alloc, own)?,
-        })
+// A WHISPER of one frame.
+fn whisper_of(alloc: Global, frame: Octets) -> Message {
+    let content = Frames::of(alloc, frame);
+    Message {
+        sequence: 0,
+        body: Body::Whisper { content },
     }
+}
 
-    pub fn step(
-        &mut self,
-        key: &[u8],
-        arguments: &[u8],
-        answer: &mut Octets,
-    ) -> Result<(), Trouble> {
-        if key == b"push".as_slice() {
-            return self.push(arguments, answer);
+impl Links {
+    pub fn step(&mut self, words: Words<'_>, answer: &mut Text) {
+        if words.is(b"push") {
+            self.push(words, answer);
+        } else if words.is(b"whisper") {
+            self.whisper(words, answer);
+        } else if words.is(b"linked") {
+            self.linked(words, answer);
+        } else if words.is(b"talk") {
+            self.talk(words, answer);
+        } else if words.is(b"counts") {
+            self.counts(words, answer);
+        } else {
+            answer.fail(Trouble::UnknownKey);
         }
-        if key == b"whisper".as_slice() {
-            return self.whisper(arguments, answer);
-        }
-        if key == b"linked".as_slice() {
-            Words::new(arguments).end()?;
-            self.link.linked();
-            return Ok(());
-        }
-        if key == b"talk".as_slice() {
-            return self.talk(arguments, answer);
-        }
-        if key == b"counts".as_slice() {
-            Words::new(arguments).end()?;
-            return self.counts(answer);
-        }
-        Err(Trouble::UnknownKey)
     }
 
     // `push HEX ..`: puts the body of the message with these frames.
-    fn push(&mut self, arguments: &[u8], answer: &mut Octets) -> Result<(), Trouble> {
-        let mut frames = Frames::new(self.alloc);
-        push_octets(self.alloc, &mut frames, arguments)?;
-        match Message::from_frames(self.alloc, frames) {
-            Ok(mut message) => push(&mut self.link, &mut message, answer),
-            Err(_) => Err(Trouble::BadArgument),
+    fn push(&mut self, mut words: Words<'_>, answer: &mut Text) {
+        let frames = words.frames();
+        if words.end(answer) {
+            match Message::from_frames(words.alloc(), frames) {
+                Ok(mut message) => push(&mut self.link, &mut message, answer),
+                Err(_) => answer.fail(Trouble::BadArgument),
+            }
         }
     }
 
     // `whisper COUNT`: puts a WHISPER of a frame of so many zeros.
-    fn whisper(&mut self, arguments: &[u8], answer: &mut Octets) -> Result<(), Trouble> {
-        let mut words = Words::new(arguments);
-        let count = words.number()?;
-        words.end()?;
+    fn whisper(&mut self, mut words: Words<'_>, answer: &mut Text) {
+        let count = words.number();
         if count > CONTENT {
-            return Err(Trouble::BadArgument);
+            answer.fail(Trouble::BadArgument);
+        } else if words.end(answer) {
+            self.whisper_zeros(words.alloc(), count as usize, answer);
         }
-        let zeros = Octets::from_vec(vec![in self.alloc; 0u8; count as usize]?);
-        let content = Frames::of(self.alloc, zeros);
-        let body = Body::Whisper { content };
-        push(&mut self.link, &mut Message { sequence: 0, body }, answer)
+    }
+
+    fn whisper_zeros(&mut self, alloc: Global, count: usize, answer: &mut Text) {
+        match Vec::from_elem(alloc, 0u8, count) {
+            Ok(zeros) => {
+                let mut message = whisper_of(alloc, Octets::from_vec(zeros));
+                push(&mut self.link, &mut message, answer);
+            }
+            Err(_) => answer.fail(Trouble::OutOfMemory),
+        }
+    }
+
+    // `linked`
+    fn linked(&mut self, words: Words<'_>, answer: &mut Text) {
+        if words.end(answer) {
+            self.link.linked();
+        }
     }
 
     // `talk MOST HEX`: hears replies in pieces of at most so many octets, and takes what may go out before and after each, at most
-    // so many octets at a time. It answers the octets that went out, and what is wrong with each piece.
-    fn talk(&mut self, arguments: &[u8], answer: &mut Octets) -> Result<(), Trouble> {
-        let mut words = Words::new(arguments);
-        let most = usize::try_from(words.number()?)
-            .unwrap_or(usize::MAX)
-            .max(1);
-        let replies = words.octets(self.alloc)?;
-        let mut out = Octets::new(self.alloc);
-        let mut heard = Ok(());
-        drain(&mut self.link, most, &mut out)?;
-        for piece in replies.as_slice().chunks(most) {
-            heard = reply(&mut self.link, piece);
-            drain(&mut self.link, most, &mut out)?;
-        }
-        push_hex(answer, out.as_slice())?;
-        answer.push(b'\n')?;
-        match heard {
-            Ok(()) => Ok(()),
-            Err(fault) => push_fault(answer, fault),
+    // so many octets at a time. It answers the octets that went out, and what is wrong with the last piece.
+    fn talk(&mut self, mut words: Words<'_>, answer: &mut Text) {
+        let most = usize::try_from(words.number()).unwrap_or(usize::MAX).max(1);
+        let replies = words.octets();
+        if words.end(answer) {
+            let mut out = Text::new(words.alloc());
+            let heard = self.hear(replies.as_slice(), most, &mut out);
+            if out.is_whole(answer) {
+                answer.hex_line(out.as_slice());
+            }
+            push_fed(answer, heard);
         }
     }
 
+    fn hear(&mut self, replies: &[u8], most: usize, out: &mut Text) -> Result<(), FeedFault> {
+        let mut heard = Ok(());
+        drain(&mut self.link, most, out);
+        for piece in replies.chunks(most.max(1)) {
+            heard = reply(&mut self.link, piece);
+            drain(&mut self.link, most, out);
+        }
+        heard
+    }
+
     // `counts` answers how many bodies were put, how many octets wait and may go out, and how many are kept of the replies.
-    fn counts(&self, answer: &mut Octets) -> Result<(), Trouble> {
-        push_count(answer, b"sent", self.link.sent())?;
-        push_count(answer, b" unsent", self.link.unsent())?;
-        push_count(answer, b" front", self.link.front().len() as u64)?;
-        push_count(answer, b" kept", self.link.kept())?;
-        answer.push(b'\n')?;
-        Ok(())
+    fn counts(&self, words: Words<'_>, answer: &mut Text) {
+        if words.end(answer) {
+            answer.count(b"sent", self.link.sent());
+            answer.count(b" unsent", self.link.unsent());
+            answer.count(b" front", self.link.front().len() as u64);
+            answer.count(b" kept", self.link.kept());
+            answer.end();
+        }
     }
 }

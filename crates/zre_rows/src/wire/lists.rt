@@ -1,206 +1,186 @@
 //! Lists of octets, of frames, of pairs and of keys.
 
+use crate::text::Text;
 use crate::trouble::Trouble;
-use crate::wire::index::push_keys;
-use crate::wire::texts::push_count;
+use crate::wire::texts::push_keys;
 use crate::words::Words;
 use std::alloc::Global;
-use zre_values::{
-    Frames, Keys, Octets, Pairs, push_decimal, push_quoted, push_quoted_frames, push_quoted_pairs,
-};
+use zre_values::{Frames, Keys, Octets, OutOfMemory, Pairs};
 
 /// One of each, from the empty ones on.
 #[derive(Drop)]
 pub struct Lists {
-    alloc: Global,
     text: Octets,
     frames: Frames,
     pairs: Pairs,
     keys: Keys,
 }
 
-fn push_place(answer: &mut Octets, place: Option<usize>) -> Result<(), Trouble> {
-    match place {
-        Some(place) => push_decimal(answer, place as u64)?,
-        None => answer.append(b"none")?,
-    }
-    answer.push(b'\n')?;
-    Ok(())
-}
-
 impl Lists {
-    pub fn new(alloc: Global, arguments: &[u8]) -> Result<Self, Trouble> {
-        Words::new(arguments).end()?;
-        Ok(Lists {
-            alloc,
+    pub fn new(alloc: Global) -> Self {
+        Lists {
             text: Octets::new(alloc),
             frames: Frames::new(alloc),
             pairs: Pairs::new(alloc),
             keys: Keys::new(alloc),
-        })
+        }
     }
 
-    pub fn step(
-        &mut self,
-        key: &[u8],
-        arguments: &[u8],
-        answer: &mut Octets,
-    ) -> Result<(), Trouble> {
-        if key == b"show".as_slice() {
-            Words::new(arguments).end()?;
-            return self.show(answer);
+    pub fn step(&mut self, words: Words<'_>, answer: &mut Text) {
+        if words.is(b"show") {
+            self.show(words, answer);
+        } else if words.is(b"clear") {
+            self.clear(words, answer);
+        } else if words.is(b"text") {
+            self.append(words, answer);
+        } else if words.is(b"octet") {
+            self.octet(words, answer);
+        } else if words.is(b"pair") {
+            self.pair(words, answer);
+        } else if words.is(b"key") {
+            self.key(words, answer);
+        } else {
+            self.step_of_frames(words, answer);
         }
-        if key == b"clear".as_slice() {
-            Words::new(arguments).end()?;
+    }
+
+    fn step_of_frames(&mut self, words: Words<'_>, answer: &mut Text) {
+        if words.is(b"frame") {
+            self.frame(words, answer);
+        } else if words.is(b"longer") {
+            self.longer(words, answer);
+        } else if words.is(b"remove") {
+            self.remove(words, answer);
+        } else if words.is(b"place") {
+            self.place(words, answer);
+        } else if words.is(b"without") {
+            self.without(words, answer);
+        } else {
+            answer.fail(Trouble::UnknownKey);
+        }
+    }
+
+    // `clear` empties the text.
+    fn clear(&mut self, words: Words<'_>, answer: &mut Text) {
+        if words.end(answer) {
             self.text.clear();
-            return Ok(());
         }
-        self.change(key, Words::new(arguments), answer)
-    }
-
-    fn change(&mut self, key: &[u8], words: Words<'_>, answer: &mut Octets) -> Result<(), Trouble> {
-        if key == b"text".as_slice() {
-            return self.append(words);
-        }
-        if key == b"octet".as_slice() {
-            return self.octet(words);
-        }
-        if key == b"frame".as_slice() {
-            return self.frame(words);
-        }
-        if key == b"longer".as_slice() {
-            return self.longer(words);
-        }
-        if key == b"remove".as_slice() {
-            return self.remove(words, answer);
-        }
-        if key == b"place".as_slice() {
-            return self.place(words, answer);
-        }
-        if key == b"without".as_slice() {
-            return self.without(words);
-        }
-        if key == b"pair".as_slice() {
-            return self.pair(words);
-        }
-        if key == b"key".as_slice() {
-            return self.key(words);
-        }
-        Err(Trouble::UnknownKey)
     }
 
     // `text TEXT` appends octets to the text.
-    fn append(&mut self, mut words: Words<'_>) -> Result<(), Trouble> {
-        let octets = words.text(self.alloc)?;
-        words.end()?;
-        self.text.append(octets.as_slice())?;
-        Ok(())
+    fn append(&mut self, mut words: Words<'_>, answer: &mut Text) {
+        let octets = words.text();
+        if words.end(answer) {
+            answer.note(self.text.append(octets.as_slice()));
+        }
     }
 
     // `octet N` appends one octet to it.
-    fn octet(&mut self, mut words: Words<'_>) -> Result<(), Trouble> {
-        let Ok(octet) = u8::try_from(words.number()?) else {
-            return Err(Trouble::BadArgument);
-        };
-        words.end()?;
-        self.text.push(octet)?;
-        Ok(())
+    fn octet(&mut self, mut words: Words<'_>, answer: &mut Text) {
+        let octet = words.octet();
+        if words.end(answer) {
+            answer.note(self.text.push(octet));
+        }
     }
 
     // `frame TEXT` appends a frame.
-    fn frame(&mut self, mut words: Words<'_>) -> Result<(), Trouble> {
-        let frame = words.text(self.alloc)?;
-        words.end()?;
-        self.frames.push(frame)?;
-        Ok(())
+    fn frame(&mut self, mut words: Words<'_>, answer: &mut Text) {
+        let frame = words.text();
+        if words.end(answer) {
+            answer.note(self.frames.push(frame));
+        }
     }
 
     // `longer I TEXT` appends octets to a frame.
-    fn longer(&mut self, mut words: Words<'_>) -> Result<(), Trouble> {
-        let i = words.number()?;
-        let octets = words.text(self.alloc)?;
-        words.end()?;
+    fn longer(&mut self, mut words: Words<'_>, answer: &mut Text) {
+        let i = words.number();
+        let octets = words.text();
         if i >= self.frames.len() as u64 {
-            return Err(Trouble::BadArgument);
+            answer.fail(Trouble::BadArgument);
+        } else if words.end(answer) {
+            answer.note(self.frames.append_at(i as usize, octets.as_slice()));
         }
-        self.frames.append_at(i as usize, octets.as_slice())?;
-        Ok(())
     }
 
     // `remove I` answers the frame that is removed.
-    fn remove(&mut self, mut words: Words<'_>, answer: &mut Octets) -> Result<(), Trouble> {
-        let i = words.number()?;
-        words.end()?;
+    fn remove(&mut self, mut words: Words<'_>, answer: &mut Text) {
+        let i = words.number();
         if i >= self.frames.len() as u64 {
-            return Err(Trouble::BadArgument);
+            answer.fail(Trouble::BadArgument);
+        } else if words.end(answer) {
+            answer.quoted(self.frames.remove(i as usize).as_slice());
+            answer.end();
         }
-        push_quoted(answer, self.frames.remove(i as usize).as_slice())?;
-        answer.push(b'\n')?;
-        Ok(())
     }
 
     // `place TEXT` answers where the first frame of these octets is, or `none`.
-    fn place(&self, mut words: Words<'_>, answer: &mut Octets) -> Result<(), Trouble> {
-        let frame = words.text(self.alloc)?;
-        words.end()?;
-        let place = self.frames.place_of(frame.as_slice());
-        if self.frames.contains(frame.as_slice()) != place.is_some() {
-            answer.append(b"place_of and contains differ\n")?;
+    fn place(&self, mut words: Words<'_>, answer: &mut Text) {
+        let frame = words.text();
+        if words.end(answer) {
+            let place = self.frames.place_of(frame.as_slice()).map(|i| i as u64);
+            if self.frames.contains(frame.as_slice()) != place.is_some() {
+                answer.line(b"place_of and contains differ");
+            }
+            answer.number_line(place);
         }
-        push_place(answer, place)
     }
 
     // `without TEXT` removes that frame.
-    fn without(&mut self, mut words: Words<'_>) -> Result<(), Trouble> {
-        let frame = words.text(self.alloc)?;
-        words.end()?;
-        self.frames.remove_first(frame.as_slice());
-        Ok(())
+    fn without(&mut self, mut words: Words<'_>, answer: &mut Text) {
+        let frame = words.text();
+        if words.end(answer) {
+            self.frames.remove_first(frame.as_slice());
+        }
     }
 
     // `pair NAME VALUE` appends a pair.
-    fn pair(&mut self, mut words: Words<'_>) -> Result<(), Trouble> {
-        let name = words.text(self.alloc)?;
-        let value = words.text(self.alloc)?;
-        words.end()?;
-        self.pairs.push(name, value)?;
-        Ok(())
+    fn pair(&mut self, mut words: Words<'_>, answer: &mut Text) {
+        let name = words.text();
+        let value = words.text();
+        if words.end(answer) {
+            answer.note(self.pairs.push(name, value));
+        }
     }
 
     // `key N` appends a key.
-    fn key(&mut self, mut words: Words<'_>) -> Result<(), Trouble> {
-        let key = words.number()?;
-        words.end()?;
-        self.keys.push(key)?;
-        Ok(())
+    fn key(&mut self, mut words: Words<'_>, answer: &mut Text) {
+        let key = words.number();
+        if words.end(answer) {
+            answer.note(self.keys.push(key));
+        }
     }
 
     // `show` answers all four, with the numbers of their members, and of the frames also their octets.
-    fn show(&self, answer: &mut Octets) -> Result<(), Trouble> {
-        push_count(answer, b"text", self.text.len() as u64)?;
-        answer.push(b' ')?;
-        push_quoted(answer, self.text.as_slice())?;
-        answer.push(b'\n')?;
-        self.show_frames(answer)?;
-        self.show_pairs(answer)?;
-        push_count(answer, b"keys", self.keys.len() as u64)?;
-        push_keys(answer, &self.keys)
+    fn show(&self, words: Words<'_>, answer: &mut Text) {
+        if words.end(answer) {
+            answer.count(b"text", self.text.len() as u64);
+            answer.octet(b' ');
+            answer.quoted(self.text.as_slice());
+            answer.end();
+            self.show_frames(answer);
+            push_pairs(answer, Pairs::copy(words.alloc(), &self.pairs));
+            answer.count(b"keys", self.keys.len() as u64);
+            push_keys(answer, &self.keys);
+        }
     }
 
-    fn show_frames(&self, answer: &mut Octets) -> Result<(), Trouble> {
-        push_count(answer, b"frames", self.frames.len() as u64)?;
-        push_count(answer, b"", self.frames.total())?;
-        answer.push(b' ')?;
-        push_quoted_frames(answer, &self.frames)?;
-        answer.push(b'\n')?;
-        Ok(())
+    fn show_frames(&self, answer: &mut Text) {
+        answer.count(b"frames", self.frames.len() as u64);
+        answer.count(b"", self.frames.total());
+        answer.octet(b' ');
+        answer.frames(&self.frames);
+        answer.end();
     }
+}
 
-    fn show_pairs(&self, answer: &mut Octets) -> Result<(), Trouble> {
-        push_count(answer, b"pairs", self.pairs.len() as u64)?;
-        answer.push(b' ')?;
-        push_quoted_pairs(answer, &Pairs::copy(self.alloc, &self.pairs)?)?;
-        answer.push(b'\n')?;
-        Ok(())
+fn push_pairs(answer: &mut Text, pairs: Result<Pairs, OutOfMemory>) {
+    match pairs {
+        Ok(pairs) => {
+            answer.count(b"pairs", pairs.len() as u64);
+            answer.octet(b' ');
+            answer.pairs(&pairs);
+            answer.end();
+        }
+        Err(OutOfMemory) => answer.fail(Trouble::OutOfMemory),
     }
 }

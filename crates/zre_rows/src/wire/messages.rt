@@ -1,19 +1,12 @@
-//! Messages and their frames.
+//! Messages and their frames, read and written again, one message at a time.
 
-use crate::texts::push_hex;
+use crate::text::Text;
 use crate::trouble::Trouble;
 use crate::wire::body::push_body;
-use crate::wire::texts::{push_count, push_octets};
 use crate::words::Words;
 use std::alloc::Global;
 use zre_msg::{Bad, BadWhy, Body, Command, LentMessage, Message, ReadFault};
-use zre_values::{Frames, Octets};
-
-/// Messages read from their frames and written again, one at a time.
-#[derive(Drop)]
-pub struct Messages {
-    alloc: Global,
-}
+use zre_values::{Frames, Octets, OutOfMemory};
 
 fn why_text(why: BadWhy) -> &'static [u8] {
     match why {
@@ -25,181 +18,171 @@ fn why_text(why: BadWhy) -> &'static [u8] {
     }
 }
 
-fn push_bad(out: &mut Octets, bad: Bad) -> Result<(), Trouble> {
-    push_count(out, why_text(bad.why), u64::from(bad.frame))?;
-    push_count(out, b"", u64::from(bad.place))?;
-    out.push(b'\n')?;
-    Ok(())
+fn push_bad(out: &mut Text, bad: Bad) {
+    out.count(why_text(bad.why), u64::from(bad.frame));
+    out.count(b"", u64::from(bad.place));
+    out.end();
 }
 
-fn push_fault(out: &mut Octets, fault: ReadFault) -> Result<(), Trouble> {
+fn push_fault(out: &mut Text, fault: ReadFault) {
     match fault {
         ReadFault::Bad(bad) => push_bad(out, bad),
-        ReadFault::OutOfMemory => Err(Trouble::OutOfMemory),
+        ReadFault::OutOfMemory => out.fail(Trouble::OutOfMemory),
     }
 }
 
 // The message, or what is wrong with the frames.
-fn push_read(out: &mut Octets, read: Result<Message, ReadFault>) -> Result<(), Trouble> {
+fn push_read(out: &mut Text, read: Result<Message, ReadFault>) {
     match read {
-        Ok(message) => push_message(out, &message),
+        Ok(message) => {
+            push_body(out, message.sequence, &message.body);
+            out.end();
+        }
         Err(fault) => push_fault(out, fault),
     }
-}
-
-fn push_message(out: &mut Octets, message: &Message) -> Result<(), Trouble> {
-    push_body(out, message.sequence, &message.body)?;
-    out.push(b'\n')?;
-    Ok(())
 }
 
 // The message that lies in frames: `lent`, its number and that of the frames after the first.
-fn push_lent(out: &mut Octets, lent: &LentMessage<'_>) -> Result<(), Trouble> {
-    push_count(out, b"lent", u64::from(lent.sequence))?;
-    push_count(out, b"", lent.content.len() as u64)?;
-    push_command(out, lent.command)?;
-    out.push(b'\n')?;
-    Ok(())
+fn push_lent(out: &mut Text, lent: &LentMessage<'_>) {
+    out.count(b"lent", u64::from(lent.sequence));
+    out.count(b"", lent.content.len() as u64);
+    push_command(out, lent.command);
+    out.end();
 }
 
-fn push_group(out: &mut Octets, word: &[u8], group: &[u8]) -> Result<(), Trouble> {
-    out.append(word)?;
-    push_hex(out, group)?;
-    Ok(())
+fn push_group(out: &mut Text, word: &[u8], group: &[u8], status: u8) {
+    out.put(word);
+    out.hex(group);
+    out.count(b"", u64::from(status));
 }
 
-fn push_command(out: &mut Octets, command: Command<'_>) -> Result<(), Trouble> {
+fn push_command(out: &mut Text, command: Command<'_>) {
     match command {
-        Command::Whisper => Ok(out.append(b" whisper")?),
-        Command::Shout { group } => push_group(out, b" shout ", group),
-        Command::Join { group, status } => {
-            push_group(out, b" join ", group)?;
-            push_count(out, b"", u64::from(status))
+        Command::Whisper => out.put(b" whisper"),
+        Command::Shout { group } => {
+            out.put(b" shout ");
+            out.hex(group);
         }
-        Command::Leave { group, status } => {
-            push_group(out, b" leave ", group)?;
-            push_count(out, b"", u64::from(status))
-        }
-        Command::Ping => Ok(out.append(b" ping")?),
-        Command::PingOk => Ok(out.append(b" ping-ok")?),
+        Command::Join { group, status } => push_group(out, b" join ", group, status),
+        Command::Leave { group, status } => push_group(out, b" leave ", group, status),
+        Command::Ping => out.put(b" ping"),
+        Command::PingOk => out.put(b" ping-ok"),
         Command::Other { number, rest } => {
-            push_count(out, b" other", u64::from(number))?;
-            push_group(out, b" ", rest)
+            out.count(b" other", u64::from(number));
+            out.octet(b' ');
+            out.hex(rest);
         }
     }
 }
 
-fn push_seen(out: &mut Octets, frames: &Frames) -> Result<(), Trouble> {
+fn push_seen(out: &mut Text, frames: &Frames) {
     match Message::see(frames) {
         Ok(Some(lent)) => push_lent(out, &lent),
-        Ok(None) => Ok(out.append(b"begins as HELLO does\n")?),
+        Ok(None) => out.line(b"begins as HELLO does"),
         Err(fault) => push_fault(out, fault),
     }
 }
 
-// The octets of a message that fits on a connection, and their number.
-fn push_octets_of(alloc: Global, out: &mut Octets, message: &Message) -> Result<(), Trouble> {
+// The octets of a message that fits on a connection, their number, and its frames where they are asked for.
+fn push_octets_of(alloc: Global, out: &mut Text, message: &Message, with_frames: bool) {
     if !message.fits() {
-        out.append(b"fits no frames\n")?;
-        return Ok(());
+        out.line(b"fits no frames");
+        return;
     }
     let mut octets = Octets::new(alloc);
-    message.push_to(&mut octets)?;
-    push_hex(out, octets.as_slice())?;
-    push_count(out, b"", message.octets_len())?;
-    out.append(if message.is_big() {
-        b" big\n"
-    } else {
-        b" fits\n"
-    })?;
-    Ok(())
+    out.note(message.push_to(&mut octets));
+    out.hex(octets.as_slice());
+    out.count(b"", message.octets_len());
+    out.line(if message.is_big() { b" big" } else { b" fits" });
+    if with_frames {
+        push_frames(out, message.write(alloc));
+    }
 }
 
-// The frames of a message that fits.
-fn push_written(alloc: Global, out: &mut Octets, message: &Message) -> Result<(), Trouble> {
-    if !message.fits() {
-        return Ok(());
-    }
-    for frame in message.write(alloc)?.as_slice() {
-        out.append(b"frame ")?;
-        push_hex(out, frame.as_slice())?;
-        out.push(b'\n')?;
-    }
-    Ok(())
-}
-
-impl Messages {
-    pub fn new(alloc: Global, arguments: &[u8]) -> Result<Self, Trouble> {
-        Words::new(arguments).end()?;
-        Ok(Messages { alloc })
-    }
-
-    pub fn step(
-        &mut self,
-        key: &[u8],
-        arguments: &[u8],
-        answer: &mut Octets,
-    ) -> Result<(), Trouble> {
-        let mut frames = Frames::new(self.alloc);
-        if key == b"read".as_slice() {
-            push_octets(self.alloc, &mut frames, arguments)?;
-            return self.read(frames, answer);
-        }
-        if key == b"spell".as_slice() {
-            push_octets(self.alloc, &mut frames, arguments)?;
-            return self.spell(&frames, answer);
-        }
-        if key == b"join".as_slice() {
-            return self.join(arguments, answer);
-        }
-        if key == b"whisper".as_slice() {
-            return self.whisper(arguments, answer);
-        }
-        Err(Trouble::UnknownKey)
-    }
-
-    // `read HEX ..` answers what the frames mean; it has to be the same whether they are lent or given. Then what lies in them.
-    fn read(&self, frames: Frames, answer: &mut Octets) -> Result<(), Trouble> {
-        let mut lent = Octets::new(self.alloc);
-        push_read(&mut lent, Message::read(self.alloc, &frames))?;
-        answer.append(lent.as_slice())?;
-        push_seen(answer, &frames)?;
-        let mut given = Octets::new(self.alloc);
-        push_read(&mut given, Message::from_frames(self.alloc, frames))?;
-        if given.as_slice() != lent.as_slice() {
-            answer.append(b"not so of frames that are given\n")?;
-        }
-        Ok(())
-    }
-
-    // `spell HEX ..` answers the octets of the message that the frames mean, and its frames.
-    fn spell(&self, frames: &Frames, answer: &mut Octets) -> Result<(), Trouble> {
-        match Message::read(self.alloc, frames) {
-            Ok(message) => {
-                push_octets_of(self.alloc, answer, &message)?;
-                push_written(self.alloc, answer, &message)
+fn push_frames(out: &mut Text, frames: Result<Frames, OutOfMemory>) {
+    match frames {
+        Ok(frames) => {
+            for frame in frames.as_slice() {
+                out.put(b"frame ");
+                out.hex_line(frame.as_slice());
             }
-            Err(_) => Err(Trouble::BadArgument),
+        }
+        Err(OutOfMemory) => out.fail(Trouble::OutOfMemory),
+    }
+}
+
+pub fn step(words: Words<'_>, answer: &mut Text) {
+    if words.is(b"read") {
+        read(words, answer);
+    } else if words.is(b"spell") {
+        spell(words, answer);
+    } else if words.is(b"join") {
+        join(words, answer);
+    } else if words.is(b"whisper") {
+        whisper(words, answer);
+    } else {
+        answer.fail(Trouble::UnknownKey);
+    }
+}
+
+// `read HEX ..` answers what the frames mean; it has to be the same whether they are lent or given. Then what lies in them.
+fn read(mut words: Words<'_>, answer: &mut Text) {
+    let frames = words.frames();
+    if words.end(answer) {
+        let mut lent = Text::new(words.alloc());
+        push_read(&mut lent, Message::read(words.alloc(), &frames));
+        answer.add(&lent);
+        push_seen(answer, &frames);
+        let mut given = Text::new(words.alloc());
+        push_read(&mut given, Message::from_frames(words.alloc(), frames));
+        if !answer.is_same(&given, &lent) {
+            answer.line(b"not so of frames that are given");
         }
     }
+}
 
-    // `join HEX`: the octets of a JOIN of this group with the number 9 and the status 0.
-    fn join(&self, arguments: &[u8], answer: &mut Octets) -> Result<(), Trouble> {
-        let group = Words::new(arguments).octets(self.alloc)?;
+// `spell HEX ..` answers the octets of the message that the frames mean, and its frames.
+fn spell(mut words: Words<'_>, answer: &mut Text) {
+    let frames = words.frames();
+    if words.end(answer) {
+        match Message::read(words.alloc(), &frames) {
+            Ok(message) => push_octets_of(words.alloc(), answer, &message, true),
+            Err(_) => answer.fail(Trouble::BadArgument),
+        }
+    }
+}
+
+// `join HEX`: the octets of a JOIN of this group with the number 9 and the status 0.
+fn join(mut words: Words<'_>, answer: &mut Text) {
+    let group = words.octets();
+    if words.end(answer) {
         let body = Body::Join { group, status: 0 };
-        push_octets_of(self.alloc, answer, &Message { sequence: 9, body })
+        push_octets_of(words.alloc(), answer, &Message { sequence: 9, body }, false);
     }
+}
 
-    // `whisper COUNT HEX`: the octets of a WHISPER with so many frames of these octets and the number 9.
-    fn whisper(&self, arguments: &[u8], answer: &mut Octets) -> Result<(), Trouble> {
-        let mut words = Words::new(arguments);
-        let count = words.number()?;
-        let octets = words.octets(self.alloc)?;
-        let mut content = Frames::new(self.alloc);
-        for _ in 0..count {
-            content.push(Octets::copy(self.alloc, octets.as_slice())?)?;
-        }
+// `whisper COUNT HEX`: the octets of a WHISPER with so many frames of these octets and the number 9.
+fn whisper(mut words: Words<'_>, answer: &mut Text) {
+    let count = words.number();
+    let octets = words.octets();
+    if words.end(answer) {
+        let content = copies_of(words.alloc(), count, octets.as_slice(), answer);
         let body = Body::Whisper { content };
-        push_octets_of(self.alloc, answer, &Message { sequence: 9, body })
+        push_octets_of(words.alloc(), answer, &Message { sequence: 9, body }, false);
+    }
+}
+
+fn copies_of(alloc: Global, count: u64, octets: &[u8], answer: &mut Text) -> Frames {
+    let mut content = Frames::new(alloc);
+    for _ in 0..count {
+        push_copy(alloc, &mut content, octets, answer);
+    }
+    content
+}
+
+fn push_copy(alloc: Global, content: &mut Frames, octets: &[u8], answer: &mut Text) {
+    match Octets::copy(alloc, octets) {
+        Ok(copied) => answer.note(content.push(copied)),
+        Err(OutOfMemory) => answer.fail(Trouble::OutOfMemory),
     }
 }

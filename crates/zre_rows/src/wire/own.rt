@@ -1,91 +1,82 @@
 //! The groups that a node is in.
 
+use crate::text::Text;
 use crate::trouble::Trouble;
-use crate::wire::texts::push_count;
 use crate::words::Words;
 use std::alloc::Global;
 use zre_group::{JoinFault, NoGroup, Own};
-use zre_values::{Octets, push_decimal, push_quoted};
 
 /// The groups, from none on.
 #[derive(Drop)]
 pub struct OwnGroups {
-    alloc: Global,
     own: Own,
 }
 
-fn push_joined(answer: &mut Octets, joined: Result<u8, JoinFault>) -> Result<(), Trouble> {
+fn push_joined(answer: &mut Text, joined: Result<u8, JoinFault>) {
     match joined {
-        Ok(status) => push_decimal(answer, u64::from(status))?,
-        Err(JoinFault::Same) => answer.append(b"same")?,
-        Err(JoinFault::Limit) => answer.append(b"limit")?,
-        Err(JoinFault::OutOfMemory) => return Err(Trouble::OutOfMemory),
+        Ok(status) => answer.number(u64::from(status)),
+        Err(JoinFault::Same) => answer.put(b"same"),
+        Err(JoinFault::Limit) => answer.put(b"limit"),
+        Err(JoinFault::OutOfMemory) => answer.fail(Trouble::OutOfMemory),
     }
-    answer.push(b'\n')?;
-    Ok(())
+    answer.end();
 }
 
-fn push_left(answer: &mut Octets, left: Result<u8, NoGroup>) -> Result<(), Trouble> {
+fn push_left(answer: &mut Text, left: Result<u8, NoGroup>) {
     match left {
-        Ok(status) => push_decimal(answer, u64::from(status))?,
-        Err(NoGroup) => answer.append(b"none")?,
+        Ok(status) => answer.number(u64::from(status)),
+        Err(NoGroup) => answer.put(b"none"),
     }
-    answer.push(b'\n')?;
-    Ok(())
+    answer.end();
 }
 
 impl OwnGroups {
-    pub fn new(alloc: Global, arguments: &[u8]) -> Result<Self, Trouble> {
-        Words::new(arguments).end()?;
-        Ok(OwnGroups {
-            alloc,
+    pub fn new(alloc: Global) -> Self {
+        OwnGroups {
             own: Own::new(alloc),
-        })
+        }
     }
 
-    pub fn step(
-        &mut self,
-        key: &[u8],
-        arguments: &[u8],
-        answer: &mut Octets,
-    ) -> Result<(), Trouble> {
-        if key == b"join".as_slice() {
-            return self.join(arguments, answer);
+    pub fn step(&mut self, words: Words<'_>, answer: &mut Text) {
+        if words.is(b"join") {
+            self.join(words, answer);
+        } else if words.is(b"leave") {
+            self.leave(words, answer);
+        } else if words.is(b"list") {
+            self.list(words, answer);
+        } else {
+            answer.fail(Trouble::UnknownKey);
         }
-        if key == b"leave".as_slice() {
-            return self.leave(arguments, answer);
-        }
-        if key == b"list".as_slice() {
-            Words::new(arguments).end()?;
-            return self.list(answer);
-        }
-        Err(Trouble::UnknownKey)
     }
 
     // `join HEX` answers the status, `same` or `limit`.
-    fn join(&mut self, arguments: &[u8], answer: &mut Octets) -> Result<(), Trouble> {
-        let group = Words::new(arguments).octets(self.alloc)?;
+    fn join(&mut self, mut words: Words<'_>, answer: &mut Text) {
+        let group = words.octets();
         if group.len() > 255 {
-            return Err(Trouble::BadArgument);
+            answer.fail(Trouble::BadArgument);
+        } else if words.end(answer) {
+            push_joined(answer, self.own.join(group.as_slice()));
         }
-        push_joined(answer, self.own.join(group.as_slice()))
     }
 
     // `leave HEX` answers the status, or `none`.
-    fn leave(&mut self, arguments: &[u8], answer: &mut Octets) -> Result<(), Trouble> {
-        let group = Words::new(arguments).octets(self.alloc)?;
-        push_left(answer, self.own.leave(group.as_slice()))
+    fn leave(&mut self, mut words: Words<'_>, answer: &mut Text) {
+        let group = words.octets();
+        if words.end(answer) {
+            push_left(answer, self.own.leave(group.as_slice()));
+        }
     }
 
     // `list` answers the groups, a line each, and then their number and the status.
-    fn list(&self, answer: &mut Octets) -> Result<(), Trouble> {
-        for i in 0..self.own.len() {
-            push_quoted(answer, self.own.get(i))?;
-            answer.push(b'\n')?;
+    fn list(&self, words: Words<'_>, answer: &mut Text) {
+        if words.end(answer) {
+            for i in 0..self.own.len() {
+                answer.quoted(self.own.get(i));
+                answer.end();
+            }
+            answer.count(b"groups", self.own.len() as u64);
+            answer.count(b", status", u64::from(self.own.status()));
+            answer.end();
         }
-        push_count(answer, b"groups", self.own.len() as u64)?;
-        push_count(answer, b", status", u64::from(self.own.status()))?;
-        answer.push(b'\n')?;
-        Ok(())
     }
 }

@@ -1,155 +1,173 @@
 //! The run of a peer's messages.
 
+use crate::subject::Subject;
+use crate::text::Text;
 use crate::trouble::Trouble;
-use crate::wire::texts::{push_count, push_octets};
+use crate::wire::Wire;
 use crate::words::Words;
 use std::alloc::Global;
-use zre_msg::Message;
-use zre_peer::{Run, RunFault, Teller, View, push_lines};
-use zre_values::{Frames, Octets, PeerId, push_quoted};
+use zre_msg::{LentMessage, Message};
+use zre_peer::{Run, RunFault, Teller, View};
+use zre_values::Frames;
 
 /// Two runs of the same messages: one that gives events, and one that writes their lines at once.
 #[derive(Drop)]
 pub struct Runs {
-    alloc: Global,
     run: Run,
     teller: Teller,
 }
 
-fn push_fault(out: &mut Octets, fault: RunFault) -> Result<(), Trouble> {
-    match fault {
-        RunFault::NotHello => out.append(b"fault NotHello")?,
-        RunFault::SecondHello => out.append(b"fault SecondHello")?,
-        RunFault::Limit => out.append(b"fault Limit")?,
-        RunFault::Broken { due, got } => {
-            push_count(out, b"fault Broken", u64::from(due))?;
-            push_count(out, b"", u64::from(got))?;
-        }
-        RunFault::OutOfMemory => return Err(Trouble::OutOfMemory),
+/// `on runs ID`
+pub fn make(mut words: Words<'_>, answer: &mut Text) -> Subject {
+    let id = words.id();
+    if words.end(answer) {
+        Subject::Wire(Wire::Runs(Runs {
+            run: Run::new(words.alloc(), id),
+            teller: Teller::new(words.alloc(), id),
+        }))
+    } else {
+        Subject::Missing
     }
-    out.push(b'\n')?;
-    Ok(())
 }
 
-fn message_of(alloc: Global, frames: &Frames) -> Result<Message, Trouble> {
-    match Message::read(alloc, frames) {
-        Ok(message) => Ok(message),
-        Err(_) => Err(Trouble::BadArgument),
+fn push_fault(out: &mut Text, fault: RunFault) {
+    match fault {
+        RunFault::NotHello => out.put(b"fault NotHello"),
+        RunFault::SecondHello => out.put(b"fault SecondHello"),
+        RunFault::Limit => out.put(b"fault Limit"),
+        RunFault::Broken { due, got } => {
+            out.count(b"fault Broken", u64::from(due));
+            out.count(b"", u64::from(got));
+        }
+        RunFault::OutOfMemory => out.fail(Trouble::OutOfMemory),
     }
+    out.end();
 }
 
 // Appends the lines of the next message's events, or the fault.
-fn tell_events(run: &mut Run, message: Message, text: &mut Octets) -> Result<(), Trouble> {
+fn tell_events(alloc: Global, run: &mut Run, frames: &Frames, text: &mut Text) {
+    match Message::read(alloc, frames) {
+        Ok(message) => tell_next(run, message, text),
+        Err(_) => text.fail(Trouble::BadArgument),
+    }
+}
+
+fn tell_next(run: &mut Run, message: Message, text: &mut Text) {
     if run.spent() {
-        return Err(Trouble::BadArgument);
+        text.fail(Trouble::BadArgument);
+        return;
     }
     match run.next(message) {
-        Ok(events) => Ok(push_lines(text, events.as_slice())?),
+        Ok(events) => text.events(events.as_slice()),
         Err(fault) => push_fault(text, fault),
     }
 }
 
 // The same, with a message after HELLO as it lies in its frames.
-fn tell_lines(
-    alloc: Global,
-    run: &mut Teller,
-    frames: &Frames,
-    text: &mut Octets,
-) -> Result<(), Trouble> {
-    if run.spent() {
-        return Err(Trouble::BadArgument);
-    }
-    let taken = match Message::see(frames) {
-        Ok(Some(lent)) if run.is_after() => run.take_lent(&lent, text),
-        _ => run.take(message_of(alloc, frames)?, text),
+fn tell_lines(alloc: Global, run: &mut Teller, frames: &Frames, text: &mut Text) {
+    let is_told = match Message::see(frames) {
+        Ok(Some(lent)) => tell_lent(run, &lent, text),
+        _ => false,
     };
-    match taken {
-        Ok(()) => Ok(()),
-        Err(fault) => push_fault(text, fault),
+    if !is_told {
+        tell_read(alloc, run, frames, text);
+    }
+}
+
+fn tell_lent(run: &mut Teller, lent: &LentMessage<'_>, text: &mut Text) -> bool {
+    if run.spent() || !run.is_after() {
+        return false;
+    }
+    let taken = run.take_lent(lent, &mut text.octets);
+    push_taken(text, taken);
+    true
+}
+
+fn tell_read(alloc: Global, run: &mut Teller, frames: &Frames, text: &mut Text) {
+    match Message::read(alloc, frames) {
+        Ok(message) => tell_given(run, message, text),
+        Err(_) => text.fail(Trouble::BadArgument),
+    }
+}
+
+fn tell_given(run: &mut Teller, message: Message, text: &mut Text) {
+    if run.spent() {
+        text.fail(Trouble::BadArgument);
+        return;
+    }
+    let taken = run.take(message, &mut text.octets);
+    push_taken(text, taken);
+}
+
+fn push_taken(text: &mut Text, taken: Result<(), RunFault>) {
+    if let Err(fault) = taken {
+        push_fault(text, fault);
     }
 }
 
 // The name, the endpoint and the status, and a line for each group and each header.
-fn push_view(out: &mut Octets, view: &View) -> Result<(), Trouble> {
-    push_quoted(out, view.name())?;
-    out.push(b' ')?;
-    push_quoted(out, view.endpoint())?;
-    push_count(out, b"", u64::from(view.status()))?;
-    out.push(b'\n')?;
-    push_groups(out, view)?;
-    push_headers(out, view)
+fn push_view(out: &mut Text, view: &View) {
+    out.quoted(view.name());
+    out.octet(b' ');
+    out.quoted(view.endpoint());
+    out.count(b"", u64::from(view.status()));
+    out.end();
+    push_groups(out, view);
+    push_headers(out, view);
 }
 
-fn push_groups(out: &mut Octets, view: &View) -> Result<(), Trouble> {
+fn push_groups(out: &mut Text, view: &View) {
     for i in 0..view.groups_len() {
-        out.append(b"group ")?;
-        push_quoted(out, view.group(i))?;
-        out.push(b'\n')?;
+        out.put(b"group ");
+        out.quoted(view.group(i));
+        out.end();
     }
-    Ok(())
 }
 
-fn push_headers(out: &mut Octets, view: &View) -> Result<(), Trouble> {
+fn push_headers(out: &mut Text, view: &View) {
     for i in 0..view.headers_len() {
         let (name, value) = view.header(i);
-        out.append(b"header ")?;
-        push_quoted(out, name)?;
-        out.push(b'=')?;
-        push_quoted(out, value)?;
-        out.push(b'\n')?;
+        out.put(b"header ");
+        out.quoted(name);
+        out.octet(b'=');
+        out.quoted(value);
+        out.end();
     }
-    Ok(())
 }
 
 impl Runs {
-    /// `on runs ID`
-    pub fn new(alloc: Global, arguments: &[u8]) -> Result<Self, Trouble> {
-        let mut words = Words::new(arguments);
-        let id: PeerId = words.id()?;
-        words.end()?;
-        Ok(Runs {
-            alloc,
-            run: Run::new(alloc, id),
-            teller: Teller::new(alloc, id),
-        })
-    }
-
-    pub fn step(
-        &mut self,
-        key: &[u8],
-        arguments: &[u8],
-        answer: &mut Octets,
-    ) -> Result<(), Trouble> {
-        if key == b"message".as_slice() {
-            return self.message(arguments, answer);
+    pub fn step(&mut self, words: Words<'_>, answer: &mut Text) {
+        if words.is(b"message") {
+            self.message(words, answer);
+        } else if words.is(b"view") {
+            self.view(words, answer);
+        } else {
+            answer.fail(Trouble::UnknownKey);
         }
-        if key == b"view".as_slice() {
-            Words::new(arguments).end()?;
-            return self.view(answer);
-        }
-        Err(Trouble::UnknownKey)
     }
 
     // `message HEX ..`: the lines of what the next message tells, or the fault. Both runs have to answer the same.
-    fn message(&mut self, arguments: &[u8], answer: &mut Octets) -> Result<(), Trouble> {
-        let mut frames = Frames::new(self.alloc);
-        push_octets(self.alloc, &mut frames, arguments)?;
-        let mut lines = Octets::new(self.alloc);
-        tell_lines(self.alloc, &mut self.teller, &frames, &mut lines)?;
-        let mut events = Octets::new(self.alloc);
-        tell_events(&mut self.run, message_of(self.alloc, &frames)?, &mut events)?;
-        answer.append(events.as_slice())?;
-        if lines.as_slice() != events.as_slice() {
-            answer.append(b"not so where lines are written at once\n")?;
+    fn message(&mut self, mut words: Words<'_>, answer: &mut Text) {
+        let frames = words.frames();
+        if words.end(answer) {
+            let mut lines = Text::new(words.alloc());
+            tell_lines(words.alloc(), &mut self.teller, &frames, &mut lines);
+            let mut events = Text::new(words.alloc());
+            tell_events(words.alloc(), &mut self.run, &frames, &mut events);
+            answer.add(&events);
+            if !answer.is_same(&lines, &events) {
+                answer.line(b"not so where lines are written at once");
+            }
         }
-        Ok(())
     }
 
     // `view` answers what the peer has told of itself.
-    fn view(&self, answer: &mut Octets) -> Result<(), Trouble> {
-        match self.run.view() {
-            Some(view) => push_view(answer, view),
-            None => Ok(answer.append(b"none\n")?),
+    fn view(&self, words: Words<'_>, answer: &mut Text) {
+        if words.end(answer) {
+            match self.run.view() {
+                Some(view) => push_view(answer, view),
+                None => answer.line(b"none"),
+            }
         }
     }
 }

@@ -1,16 +1,18 @@
 //! Streams of ZMTP, in any pieces.
 
+use crate::subject::Subject;
+use crate::text::Text;
 use crate::trouble::Trouble;
-use crate::wire::texts::{push_count, push_fault, push_octets};
+use crate::wire::Wire;
+use crate::wire::texts::{push_fault, push_fed};
 use crate::words::Words;
 use std::alloc::Global;
-use zre_values::{Frames, Octets, push_decimal, push_quoted, push_quoted_frames};
+use zre_values::{Frames, Octets};
 use zre_zmtp::{Item, Items, Reader, Want, What};
 
 /// A reader with the items of the last step, and what it wants; traffic alone where it wants nothing.
 #[derive(Drop)]
 pub struct Streams {
-    alloc: Global,
     want: Option<Want>,
     reader: Reader,
     items: Items,
@@ -24,47 +26,40 @@ fn reader_of(alloc: Global, want: Option<Want>) -> Reader {
     }
 }
 
-fn push_option(out: &mut Octets, octets: &Option<Octets>) -> Result<(), Trouble> {
+fn push_option(out: &mut Text, octets: &Option<Octets>) {
     match octets {
-        Some(octets) => push_quoted(out, octets.as_slice())?,
-        None => out.push(b'?')?,
+        Some(octets) => out.quoted(octets.as_slice()),
+        None => out.octet(b'?'),
     }
-    Ok(())
 }
 
-fn push_greeting(out: &mut Octets, major: u8, minor: u8) -> Result<(), Trouble> {
-    push_count(out, b" greeting", u64::from(major))?;
-    out.push(b'.')?;
-    push_decimal(out, u64::from(minor))?;
-    Ok(())
+fn push_greeting(out: &mut Text, major: u8, minor: u8) {
+    out.count(b" greeting", u64::from(major));
+    out.octet(b'.');
+    out.number(u64::from(minor));
 }
 
-fn push_ready(
-    out: &mut Octets,
-    size: u64,
-    socket_type: &Option<Octets>,
-    identity: &Option<Octets>,
-) -> Result<(), Trouble> {
-    push_count(out, b" ready", size)?;
-    out.push(b' ')?;
-    push_option(out, socket_type)?;
-    out.push(b' ')?;
-    push_option(out, identity)
+fn push_ready(out: &mut Text, size: u64, socket_type: &Option<Octets>, identity: &Option<Octets>) {
+    out.count(b" ready", size);
+    out.octet(b' ');
+    push_option(out, socket_type);
+    out.octet(b' ');
+    push_option(out, identity);
 }
 
-fn push_command(out: &mut Octets, size: u64, name: &Octets, body: &Octets) -> Result<(), Trouble> {
-    push_count(out, b" command", size)?;
-    out.push(b' ')?;
-    push_quoted(out, name.as_slice())?;
-    push_count(out, b"", body.len() as u64)
+fn push_command(out: &mut Text, size: u64, name: &Octets, body: &Octets) {
+    out.count(b" command", size);
+    out.octet(b' ');
+    out.quoted(name.as_slice());
+    out.count(b"", body.len() as u64);
 }
 
-fn push_message(out: &mut Octets, frames: &Frames) -> Result<(), Trouble> {
-    push_count(out, b" message", frames.len() as u64)?;
-    push_count(out, b"", frames.total())
+fn push_message(out: &mut Text, frames: &Frames) {
+    out.count(b" message", frames.len() as u64);
+    out.count(b"", frames.total());
 }
 
-fn push_what(out: &mut Octets, what: &What) -> Result<(), Trouble> {
+fn push_what(out: &mut Text, what: &What) {
     match what {
         What::Greeting { major, minor } => push_greeting(out, *major, *minor),
         What::Ready {
@@ -77,177 +72,192 @@ fn push_what(out: &mut Octets, what: &What) -> Result<(), Trouble> {
     }
 }
 
-// The line of an item: from where to where it goes, and what it says; of a message its frames and their octets.
-fn push_item(out: &mut Octets, item: &Item) -> Result<(), Trouble> {
-    push_decimal(out, item.start)?;
-    out.push(b'-')?;
-    push_decimal(out, item.end)?;
-    push_what(out, &item.what)?;
-    out.push(b'\n')?;
-    Ok(())
-}
-
-fn push_items(out: &mut Octets, items: &Items) -> Result<(), Trouble> {
+// The line of each item: from where to where it goes, and what it says; of a message its frames and their octets.
+fn push_items(out: &mut Text, items: &Items) {
     for item in items.as_slice() {
-        push_item(out, item)?;
+        let Item { start, end, what } = item;
+        out.number(*start);
+        out.octet(b'-');
+        out.number(*end);
+        push_what(out, what);
+        out.end();
     }
-    Ok(())
 }
 
-// `at rest, kept N` or `under way, kept N`.
-fn push_rest(out: &mut Octets, reader: &Reader) -> Result<(), Trouble> {
-    let word = if reader.at_rest() {
-        b"at rest, kept".as_slice()
+/// `on streams traffic`, `any`, `router` or `dealer ID`, where the identity is the node's own.
+pub fn make(words: Words<'_>, answer: &mut Text) -> Subject {
+    let mut wanted = Words::of_line(words.alloc(), words.rest());
+    if wanted.is(b"dealer") {
+        let id = wanted.id();
+        make_of(wanted, Some(Want::Dealer(id)), answer)
+    } else if wanted.is(b"traffic") {
+        make_of(wanted, None, answer)
+    } else if wanted.is(b"any") {
+        make_of(wanted, Some(Want::Any), answer)
+    } else if wanted.is(b"router") {
+        make_of(wanted, Some(Want::Router), answer)
     } else {
-        b"under way, kept".as_slice()
-    };
-    push_count(out, word, reader.kept())?;
-    out.push(b'\n')?;
-    Ok(())
+        answer.fail(Trouble::BadArgument);
+        Subject::Missing
+    }
 }
 
-// Appends the items of a piece, and the fault in it. It gives whether all is well.
-fn feed_piece(
-    reader: &mut Reader,
-    piece: &[u8],
-    items: &mut Items,
-    answer: &mut Octets,
-) -> Result<bool, Trouble> {
-    if reader.spent() {
-        return Ok(false);
-    }
-    items.clear();
-    let fed = reader.feed(piece, items);
-    push_items(answer, items)?;
-    match fed {
-        Ok(()) => Ok(true),
-        Err(fault) => {
-            push_fault(answer, fault)?;
-            Ok(false)
-        }
+fn make_of(words: Words<'_>, want: Option<Want>, answer: &mut Text) -> Subject {
+    if words.end(answer) {
+        Subject::Wire(Wire::Streams(Streams::new(words.alloc(), want)))
+    } else {
+        Subject::Missing
     }
 }
 
 impl Streams {
-    /// `on streams traffic`, `any`, `router` or `dealer ID`, where the identity is the node's own.
-    pub fn new(alloc: Global, arguments: &[u8]) -> Result<Self, Trouble> {
-        let mut words = Words::new(arguments);
-        let field = words.field()?;
-        let want = if field == b"traffic".as_slice() {
-            None
-        } else if field == b"any".as_slice() {
-            Some(Want::Any)
-        } else if field == b"router".as_slice() {
-            Some(Want::Router)
-        } else if field == b"dealer".as_slice() {
-            Some(Want::Dealer(words.id()?))
-        } else {
-            return Err(Trouble::BadArgument);
-        };
-        words.end()?;
-        Ok(Streams {
-            alloc,
+    fn new(alloc: Global, want: Option<Want>) -> Self {
+        Streams {
             want,
             reader: reader_of(alloc, want),
             items: Items::new(alloc),
-        })
+        }
     }
 
-    pub fn step(
-        &mut self,
-        key: &[u8],
-        arguments: &[u8],
-        answer: &mut Octets,
-    ) -> Result<(), Trouble> {
-        if key == b"feed".as_slice() {
-            return self.feed(arguments, answer);
+    // `at rest, kept N` or `under way, kept N`.
+    fn push_rest(&self, out: &mut Text) {
+        let word: &[u8] = if self.reader.at_rest() {
+            b"at rest, kept"
+        } else {
+            b"under way, kept"
+        };
+        out.count(word, self.reader.kept());
+        out.end();
+    }
+
+    // Appends the items of a piece, and the fault in it. It gives whether all is well.
+    fn feed_piece(&mut self, piece: &[u8], answer: &mut Text) -> bool {
+        if self.reader.spent() {
+            return false;
         }
-        if key == b"contents".as_slice() {
-            Words::new(arguments).end()?;
-            return self.contents(answer);
+        self.items.clear();
+        let fed = self.reader.feed(piece, &mut self.items);
+        push_items(answer, &self.items);
+        match fed {
+            Ok(()) => true,
+            Err(fault) => {
+                push_fault(answer, fault);
+                false
+            }
         }
-        if key == b"rest".as_slice() {
-            Words::new(arguments).end()?;
-            return push_rest(answer, &self.reader);
+    }
+
+    pub fn step(&mut self, words: Words<'_>, answer: &mut Text) {
+        if words.is(b"feed") {
+            self.feed(words, answer);
+        } else if words.is(b"contents") {
+            self.contents(words, answer);
+        } else if words.is(b"rest") {
+            self.rest(words, answer);
+        } else if words.is(b"cuts") {
+            self.cuts(words, answer);
+        } else if words.is(b"octets") {
+            self.octets(words, answer);
+        } else {
+            answer.fail(Trouble::UnknownKey);
         }
-        if key == b"cuts".as_slice() {
-            return self.cuts(arguments, answer);
-        }
-        if key == b"octets".as_slice() {
-            return self.octets(arguments, answer);
-        }
-        Err(Trouble::UnknownKey)
     }
 
     // `feed HEX ..`: reads pieces one after another.
-    fn feed(&mut self, arguments: &[u8], answer: &mut Octets) -> Result<(), Trouble> {
-        let mut pieces = Frames::new(self.alloc);
-        push_octets(self.alloc, &mut pieces, arguments)?;
+    fn feed(&mut self, mut words: Words<'_>, answer: &mut Text) {
+        let pieces = words.frames();
+        if words.end(answer) {
+            self.feed_pieces(&pieces, answer);
+        }
+    }
+
+    fn feed_pieces(&mut self, pieces: &Frames, answer: &mut Text) {
         if self.reader.spent() {
-            return Err(Trouble::BadArgument);
+            answer.fail(Trouble::BadArgument);
+            return;
         }
         self.items.clear();
-        let fed = self.reader.feed_pieces(&pieces, &mut self.items);
-        push_items(answer, &self.items)?;
-        match fed {
-            Ok(()) => Ok(()),
-            Err(fault) => push_fault(answer, fault),
-        }
+        let fed = self.reader.feed_pieces(pieces, &mut self.items);
+        push_items(answer, &self.items);
+        push_fed(answer, fed);
     }
 
     // `contents`: the frames of each message of the last step.
-    fn contents(&self, answer: &mut Octets) -> Result<(), Trouble> {
-        for item in self.items.as_slice() {
-            if let What::Message(frames) = &item.what {
-                push_quoted_frames(answer, frames)?;
-                answer.push(b'\n')?;
+    fn contents(&self, words: Words<'_>, answer: &mut Text) {
+        if words.end(answer) {
+            for item in self.items.as_slice() {
+                if let What::Message(frames) = &item.what {
+                    answer.frames(frames);
+                    answer.end();
+                }
             }
         }
-        Ok(())
+    }
+
+    // `rest`: whether the stream is at rest, and how many octets are kept.
+    fn rest(&self, words: Words<'_>, answer: &mut Text) {
+        if words.end(answer) {
+            self.push_rest(answer);
+        }
     }
 
     // What comes of a piece, and of others of at most so many octets after it.
-    fn text_of(&self, front: &[u8], later: &[u8], most: usize) -> Result<Octets, Trouble> {
-        let mut reader = reader_of(self.alloc, self.want);
-        let mut items = Items::new(self.alloc);
-        let mut text = Octets::new(self.alloc);
-        feed_piece(&mut reader, front, &mut items, &mut text)?;
+    fn text_of(&self, alloc: Global, front: &[u8], later: &[u8], most: usize) -> Text {
+        let mut text = Text::new(alloc);
+        let mut streams = Streams::new(alloc, self.want);
+        streams.feed_piece(front, &mut text);
         for piece in later.chunks(most.max(1)) {
-            feed_piece(&mut reader, piece, &mut items, &mut text)?;
+            streams.feed_piece(piece, &mut text);
         }
-        push_rest(&mut text, &reader)?;
-        Ok(text)
+        streams.push_rest(&mut text);
+        text
     }
 
     // `cuts HEX`: what comes of the octets in one piece. Each cut into two pieces, and one octet after another, has to answer the same.
-    fn cuts(&self, arguments: &[u8], answer: &mut Octets) -> Result<(), Trouble> {
-        let octets = Words::new(arguments).octets(self.alloc)?;
-        let octets = octets.as_slice();
-        let text = self.text_of(octets, &[], 1)?;
-        answer.append(text.as_slice())?;
+    fn cuts(&self, mut words: Words<'_>, answer: &mut Text) {
+        let octets = words.octets();
+        if words.end(answer) {
+            let whole = self.text_of(words.alloc(), octets.as_slice(), &[], 1);
+            answer.add(&whole);
+            self.compare_cuts(words.alloc(), octets.as_slice(), &whole, answer);
+        }
+    }
+
+    fn compare_cuts(&self, alloc: Global, octets: &[u8], whole: &Text, answer: &mut Text) {
         for cut in 0..octets.len() {
             let (front, later) = octets.split_at(cut);
-            if self.text_of(front, later, octets.len())?.as_slice() != text.as_slice() {
-                push_count(answer, b"not so when cut at", cut as u64)?;
-                answer.push(b'\n')?;
+            let other = self.text_of(alloc, front, later, octets.len());
+            if !answer.is_same(whole, &other) {
+                answer.count(b"not so when cut at", cut as u64);
+                answer.end();
             }
         }
-        if self.text_of(&[], octets, 1)?.as_slice() != text.as_slice() {
-            answer.append(b"not so octet by octet\n")?;
+        let other = self.text_of(alloc, &[], octets, 1);
+        if !answer.is_same(whole, &other) {
+            answer.line(b"not so octet by octet");
         }
-        Ok(())
     }
 
     // `octets HEX`: reads one octet after another up to the first fault, and tells which octet showed it.
-    fn octets(&mut self, arguments: &[u8], answer: &mut Octets) -> Result<(), Trouble> {
-        let octets = Words::new(arguments).octets(self.alloc)?;
-        for (i, octet) in octets.as_slice().iter().enumerate() {
-            if !feed_piece(&mut self.reader, &[*octet], &mut self.items, answer)? {
-                push_count(answer, b"shown by octet", i as u64)?;
-                answer.push(b'\n')?;
-                return Ok(());
+    fn octets(&mut self, mut words: Words<'_>, answer: &mut Text) {
+        let octets = words.octets();
+        if words.end(answer) {
+            match self.first_refused(octets.as_slice(), answer) {
+                Some(i) => {
+                    answer.count(b"shown by octet", i);
+                    answer.end();
+                }
+                None => self.push_rest(answer),
             }
         }
-        push_rest(answer, &self.reader)
+    }
+
+    fn first_refused(&mut self, octets: &[u8], answer: &mut Text) -> Option<u64> {
+        for (i, octet) in octets.iter().enumerate() {
+            if !self.feed_piece(&[*octet], answer) {
+                return Some(i as u64);
+            }
+        }
+        None
     }
 }

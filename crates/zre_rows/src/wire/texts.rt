@@ -1,9 +1,8 @@
-//! Texts that several subjects read or answer.
+//! Texts that several subjects answer.
 
-use crate::texts::octets_of;
+use crate::text::Text;
 use crate::trouble::Trouble;
-use std::alloc::Global;
-use zre_values::{Frames, Octets, push_decimal};
+use zre_values::Keys;
 use zre_zmtp::{FeedFault, ZmtpFault, ZmtpWhy};
 
 fn why_text(why: ZmtpWhy) -> &'static [u8] {
@@ -23,34 +22,33 @@ fn why_text(why: ZmtpWhy) -> &'static [u8] {
     }
 }
 
-/// Appends a word and a number after it.
-pub fn push_count(out: &mut Octets, word: &[u8], n: u64) -> Result<(), Trouble> {
-    out.append(word)?;
-    out.push(b' ')?;
-    push_decimal(out, n)?;
-    Ok(())
-}
-
 /// Appends the line `fault WHY PLACE`. OutOfMemory is no answer.
-pub fn push_fault(answer: &mut Octets, fault: FeedFault) -> Result<(), Trouble> {
+pub fn push_fault(answer: &mut Text, fault: FeedFault) {
     match fault {
         FeedFault::Zmtp(ZmtpFault { why, place }) => {
-            answer.append(b"fault ")?;
-            push_count(answer, why_text(why), place)?;
-            answer.push(b'\n')?;
-            Ok(())
+            answer.put(b"fault ");
+            answer.count(why_text(why), place);
+            answer.end();
         }
-        FeedFault::OutOfMemory => Err(Trouble::OutOfMemory),
+        FeedFault::OutOfMemory => answer.fail(Trouble::OutOfMemory),
     }
 }
 
-/// Appends each of the fields, which are octets in hexadecimal digits. An empty text has no fields.
-pub fn push_octets(alloc: Global, list: &mut Frames, fields: &[u8]) -> Result<(), Trouble> {
-    if fields.is_empty() {
-        return Ok(());
+/// Appends the fault of what was fed, where it has one.
+pub fn push_fed(answer: &mut Text, fed: Result<(), FeedFault>) {
+    if let Err(fault) = fed {
+        push_fault(answer, fault);
     }
-    for field in fields.split(|octet| *octet == b' ') {
-        list.push(octets_of(alloc, field)?)?;
+}
+
+/// Appends a line of keys, each after a space, or `none`.
+pub fn push_keys(answer: &mut Text, keys: &Keys) {
+    if keys.len() == 0 {
+        answer.put(b" none");
     }
-    Ok(())
+    for key in keys.as_slice() {
+        answer.octet(b' ');
+        answer.number(*key);
+    }
+    answer.end();
 }

@@ -1,14 +1,15 @@
 //! When keys were last heard of.
 
-ghost use Rattle.std.specs.Prelude.{IfOk, OnOk};
+ghost use Rattle.std.specs.Prelude.{OnOk};
 ghost use Rattle.zre_timers.specs.Moments.{NoneAfter};
 
+use crate::text::Text;
 use crate::trouble::Trouble;
-use crate::wire::index::push_keys;
+use crate::wire::texts::push_keys;
 use crate::words::Words;
 use std::alloc::Global;
-use zre_timers::Timers;
-use zre_values::Octets;
+use zre_timers::{Due, Timers};
+use zre_values::OutOfMemory;
 
 // A key whose moment is set, or which is taken out where none is given.
 #[derive(Clone, Copy)]
@@ -24,103 +25,102 @@ pub struct Moments {
     touches: Vec<Touch>,
 }
 
-fn change(timers: &mut Timers, now: u64, touch: Touch) -> Result<(), Trouble>
+fn change(timers: &mut Timers, now: u64, touch: Touch, answer: &mut Text)
     requires { NoneAfter now timers.old }
-    ensures { OnOk result (NoneAfter now timers.new) }
+    ensures { NoneAfter now timers.new }
 {
     let Some(at) = touch.at else {
         timers.forget(touch.key);
-        return Ok(());
+        return;
     };
     if at > now {
-        return Err(Trouble::BadArgument);
+        answer.fail(Trouble::BadArgument);
+        return;
     }
-    timers.touch(touch.key, at)?;
-    Ok(())
+    let Ok(()) = timers.touch(touch.key, at) else {
+        answer.fail(Trouble::OutOfMemory);
+        return;
+    };
 }
 
 // The timers after these, none of them after `now`.
-fn changed(alloc: Global, touches: &[Touch], now: u64) -> Result<Timers, Trouble>
-    ensures { IfOk result (λ timers. NoneAfter now timers) }
+fn changed(alloc: Global, touches: &[Touch], now: u64, answer: &mut Text) -> Timers
+    ensures { NoneAfter now result }
 {
     let mut timers = Timers::new(alloc);
     for touch in touches {
-        change(&mut timers, now, *touch)?;
+        change(&mut timers, now, *touch, answer);
     }
-    Ok(timers)
+    timers
+}
+
+fn push_due(answer: &mut Text, due: Result<Due, OutOfMemory>) {
+    match due {
+        Ok(Due { expired, evasive }) => {
+            answer.put(b"expired");
+            push_keys(answer, &expired);
+            answer.put(b"evasive");
+            push_keys(answer, &evasive);
+        }
+        Err(OutOfMemory) => answer.fail(Trouble::OutOfMemory),
+    }
 }
 
 impl Moments {
-    pub fn new(alloc: Global, arguments: &[u8]) -> Result<Self, Trouble> {
-        Words::new(arguments).end()?;
-        Ok(Moments {
+    pub fn new(alloc: Global) -> Self {
+        Moments {
             alloc,
             touches: Vec::new(alloc),
-        })
+        }
     }
 
-    pub fn step(
-        &mut self,
-        key: &[u8],
-        arguments: &[u8],
-        answer: &mut Octets,
-    ) -> Result<(), Trouble> {
-        if key == b"touch".as_slice() {
-            return self.touch(arguments);
+    pub fn step(&mut self, words: Words<'_>, answer: &mut Text) {
+        if words.is(b"touch") {
+            self.touch(words, answer);
+        } else if words.is(b"forget") {
+            self.forget(words, answer);
+        } else if words.is(b"due") {
+            self.due(words, answer);
+        } else {
+            answer.fail(Trouble::UnknownKey);
         }
-        if key == b"forget".as_slice() {
-            return self.forget(arguments);
+    }
+
+    fn push(&mut self, touch: Touch, answer: &mut Text) {
+        if self.touches.push(touch).is_err() {
+            answer.fail(Trouble::OutOfMemory);
         }
-        if key == b"due".as_slice() {
-            return self.due(arguments, answer);
-        }
-        Err(Trouble::UnknownKey)
     }
 
     // `touch KEY AT`
-    fn touch(&mut self, arguments: &[u8]) -> Result<(), Trouble> {
-        let mut words = Words::new(arguments);
-        let key = words.number()?;
-        let at = Some(words.number()?);
-        words.end()?;
-        self.touches.push(Touch { key, at })?;
-        Ok(())
+    fn touch(&mut self, mut words: Words<'_>, answer: &mut Text) {
+        let key = words.number();
+        let at = Some(words.number());
+        if words.end(answer) {
+            self.push(Touch { key, at }, answer);
+        }
     }
 
     // `forget KEY`
-    fn forget(&mut self, arguments: &[u8]) -> Result<(), Trouble> {
-        let mut words = Words::new(arguments);
-        let key = words.number()?;
-        words.end()?;
-        self.touches.push(Touch { key, at: None })?;
-        Ok(())
+    fn forget(&mut self, mut words: Words<'_>, answer: &mut Text) {
+        let key = words.number();
+        if words.end(answer) {
+            self.push(Touch { key, at: None }, answer);
+        }
     }
 
     // `due NOW EVASIVE EXPIRED` answers the two lists.
-    fn due(&self, arguments: &[u8], answer: &mut Octets) -> Result<(), Trouble> {
-        let mut words = Words::new(arguments);
-        let now = words.number()?;
-        let evasive = words.number()?;
-        let expired = words.number()?;
-        words.end()?;
-        self.due_at(now, evasive, expired, answer)
-    }
-
-    fn due_at(
-        &self,
-        now: u64,
-        evasive: u64,
-        expired: u64,
-        answer: &mut Octets,
-    ) -> Result<(), Trouble> {
+    fn due(&self, mut words: Words<'_>, answer: &mut Text) {
+        let now = words.number();
+        let evasive = words.number();
+        let expired = words.number();
         if evasive > expired {
-            return Err(Trouble::BadArgument);
+            answer.fail(Trouble::BadArgument);
+        } else if words.end(answer) {
+            let timers = changed(self.alloc, self.touches.as_slice(), now, answer);
+            if !answer.has_fault() {
+                push_due(answer, timers.due(now, evasive, expired));
+            }
         }
-        let timers = changed(self.alloc, self.touches.as_slice(), now)?;
-        let due = timers.due(now, evasive, expired)?;
-        answer.append(b"expired")?;
-        push_keys(answer, &due.expired)?;
-        answer.append(b"evasive")?;
-        push_keys(answer, &due.evasive)
     }
 }

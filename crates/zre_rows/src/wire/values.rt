@@ -1,70 +1,58 @@
 //! Numbers, identities, addresses and endpoints in their texts.
 
-use crate::texts::push_hex;
+use crate::text::Text;
 use crate::trouble::Trouble;
 use crate::words::Words;
 use std::alloc::Global;
 use std::str;
-use zre_values::{
-    Endpoint, Octets, PeerId, push_address, push_decimal, read_address, read_decimal,
-};
-
-/// One text at a time.
-#[derive(Drop)]
-pub struct Values {
-    alloc: Global,
-}
-
-fn push_number(answer: &mut Octets, found: Option<u64>) -> Result<(), Trouble> {
-    match found {
-        Some(n) => push_decimal(answer, n)?,
-        None => answer.append(b"none")?,
-    }
-    answer.push(b'\n')?;
-    Ok(())
-}
+use zre_values::{Endpoint, Octets, OutOfMemory, PeerId, read_address, read_decimal};
 
 // The octets, and their text.
-fn push_id(answer: &mut Octets, found: Option<PeerId>) -> Result<(), Trouble> {
+fn push_id(answer: &mut Text, found: Option<PeerId>) {
     match found {
         Some(id) => {
-            push_hex(answer, &id.0)?;
-            answer.push(b' ')?;
-            id.push_to(answer)?;
+            answer.hex(&id.0);
+            answer.octet(b' ');
+            answer.id(id);
         }
-        None => answer.append(b"none")?,
+        None => answer.put(b"none"),
     }
-    answer.push(b'\n')?;
-    Ok(())
+    answer.end();
 }
 
-fn push_addr(answer: &mut Octets, found: Option<[u8; 4]>) -> Result<(), Trouble> {
+fn push_addr(answer: &mut Text, found: Option<[u8; 4]>) {
     match found {
         Some(addr) => {
-            push_hex(answer, &addr)?;
-            answer.push(b' ')?;
-            push_address(answer, addr)?;
+            answer.hex(&addr);
+            answer.octet(b' ');
+            answer.address(addr);
         }
-        None => answer.append(b"none")?,
+        None => answer.put(b"none"),
     }
-    answer.push(b'\n')?;
-    Ok(())
+    answer.end();
 }
 
 // The octets of the address, the port, and the text.
-fn push_endpoint(alloc: Global, answer: &mut Octets, text: &[u8]) -> Result<(), Trouble> {
+fn push_endpoint(alloc: Global, answer: &mut Text, text: &[u8]) {
     match Endpoint::read(text) {
         Some(endpoint) => {
-            push_hex(answer, &endpoint.addr)?;
-            answer.push(b' ')?;
-            push_decimal(answer, u64::from(endpoint.port))?;
-            answer.push(b' ')?;
-            answer.append(endpoint.write(alloc)?.as_slice())?;
+            let written = endpoint.write(alloc);
+            answer.hex(&endpoint.addr);
+            answer.octet(b' ');
+            answer.number(u64::from(endpoint.port));
+            answer.octet(b' ');
+            push_written(answer, written);
         }
-        None => answer.append(b"none")?,
+        None => answer.put(b"none"),
     }
-    answer.push(b'\n')?;
-    Ok(())
+    answer.end();
+}
+
+fn push_written(answer: &mut Text, written: Result<Octets, OutOfMemory>) {
+    match written {
+        Ok(text) => answer.put(text.as_slice()),
+        Err(OutOfMemory) => answer.fail(Trouble::OutOfMemory),
+    }
 }
 
 fn id_of(text: &[u8]) -> Option<PeerId> {
@@ -74,36 +62,26 @@ fn id_of(text: &[u8]) -> Option<PeerId> {
     }
 }
 
-impl Values {
-    pub fn new(alloc: Global, arguments: &[u8]) -> Result<Self, Trouble> {
-        Words::new(arguments).end()?;
-        Ok(Values { alloc })
+/// Each step takes a quoted text, and answers what it says, or `none`.
+pub fn step(mut words: Words<'_>, answer: &mut Text) {
+    let text = words.text();
+    if words.end(answer) {
+        answer_text(words, text.as_slice(), answer);
     }
+}
 
-    // Each step takes a quoted text, and answers what it says, or `none`.
-    pub fn step(
-        &mut self,
-        key: &[u8],
-        arguments: &[u8],
-        answer: &mut Octets,
-    ) -> Result<(), Trouble> {
-        let text = Words::new(arguments).text(self.alloc)?;
-        let text = text.as_slice();
-        if key == b"number".as_slice() {
-            return push_number(answer, read_decimal(text));
-        }
-        if key == b"id".as_slice() {
-            return push_id(answer, id_of(text));
-        }
-        if key == b"plain".as_slice() {
-            return push_id(answer, PeerId::read_plain(text));
-        }
-        if key == b"address".as_slice() {
-            return push_addr(answer, read_address(text));
-        }
-        if key == b"endpoint".as_slice() {
-            return push_endpoint(self.alloc, answer, text);
-        }
-        Err(Trouble::UnknownKey)
+fn answer_text(words: Words<'_>, text: &[u8], answer: &mut Text) {
+    if words.is(b"number") {
+        answer.number_line(read_decimal(text));
+    } else if words.is(b"id") {
+        push_id(answer, id_of(text));
+    } else if words.is(b"plain") {
+        push_id(answer, PeerId::read_plain(text));
+    } else if words.is(b"address") {
+        push_addr(answer, read_address(text));
+    } else if words.is(b"endpoint") {
+        push_endpoint(words.alloc(), answer, text);
+    } else {
+        answer.fail(Trouble::UnknownKey);
     }
 }

@@ -1,75 +1,61 @@
 //! What is written of a stream.
 
-use crate::texts::push_hex;
+use crate::text::Text;
 use crate::trouble::Trouble;
-use crate::wire::texts::push_octets;
 use crate::words::Words;
-use std::alloc::Global;
-use zre_values::{Frames, Octets};
+use zre_values::{Octets, OutOfMemory};
 use zre_zmtp::{SocketType, greeting, ready, write_message};
 
+fn push_written(answer: &mut Text, written: Result<Octets, OutOfMemory>) {
+    match written {
+        Ok(octets) => answer.hex_line(octets.as_slice()),
+        Err(OutOfMemory) => answer.fail(Trouble::OutOfMemory),
+    }
+}
+
 /// The greeting, READY, and the frames of messages.
-#[derive(Drop)]
-pub struct Writing {
-    alloc: Global,
+pub fn step(words: Words<'_>, answer: &mut Text) {
+    if words.is(b"greeting") {
+        push_greeting(words, answer);
+    } else if words.is(b"router") {
+        push_router(words, answer);
+    } else if words.is(b"dealer") {
+        push_dealer(words, answer);
+    } else if words.is(b"message") {
+        push_message(words, answer);
+    } else {
+        answer.fail(Trouble::UnknownKey);
+    }
 }
 
-fn answer_hex(answer: &mut Octets, octets: &[u8]) -> Result<(), Trouble> {
-    push_hex(answer, octets)?;
-    answer.push(b'\n')?;
-    Ok(())
+// `greeting`
+fn push_greeting(words: Words<'_>, answer: &mut Text) {
+    if words.end(answer) {
+        answer.hex_line(&greeting());
+    }
 }
 
-impl Writing {
-    pub fn new(alloc: Global, arguments: &[u8]) -> Result<Self, Trouble> {
-        Words::new(arguments).end()?;
-        Ok(Writing { alloc })
+// `router`: READY of a mailbox.
+fn push_router(words: Words<'_>, answer: &mut Text) {
+    if words.end(answer) {
+        push_written(answer, ready(words.alloc(), SocketType::Router, None));
     }
+}
 
-    pub fn step(
-        &mut self,
-        key: &[u8],
-        arguments: &[u8],
-        answer: &mut Octets,
-    ) -> Result<(), Trouble> {
-        if key == b"greeting".as_slice() {
-            Words::new(arguments).end()?;
-            return answer_hex(answer, &greeting());
-        }
-        if key == b"router".as_slice() {
-            Words::new(arguments).end()?;
-            return answer_hex(
-                answer,
-                ready(self.alloc, SocketType::Router, None)?.as_slice(),
-            );
-        }
-        if key == b"dealer".as_slice() {
-            return self.dealer(arguments, answer);
-        }
-        if key == b"message".as_slice() {
-            return self.message(arguments, answer);
-        }
-        Err(Trouble::UnknownKey)
+// `dealer ID`: READY of the node with this identity.
+fn push_dealer(mut words: Words<'_>, answer: &mut Text) {
+    let id = words.id();
+    if words.end(answer) {
+        push_written(answer, ready(words.alloc(), SocketType::Dealer, Some(id)));
     }
+}
 
-    // `dealer ID`: READY of the node with this identity.
-    fn dealer(&self, arguments: &[u8], answer: &mut Octets) -> Result<(), Trouble> {
-        let mut words = Words::new(arguments);
-        let id = words.id()?;
-        words.end()?;
-        answer_hex(
-            answer,
-            ready(self.alloc, SocketType::Dealer, Some(id))?.as_slice(),
-        )
-    }
-
-    // `message HEX ..`: the octets of frames with these bodies, of which there is one at least.
-    fn message(&self, arguments: &[u8], answer: &mut Octets) -> Result<(), Trouble> {
-        let mut frames = Frames::new(self.alloc);
-        push_octets(self.alloc, &mut frames, arguments)?;
-        if frames.len() < 1 {
-            return Err(Trouble::BadArgument);
-        }
-        answer_hex(answer, write_message(self.alloc, &frames)?.as_slice())
+// `message HEX ..`: the octets of frames with these bodies, of which there is one at least.
+fn push_message(mut words: Words<'_>, answer: &mut Text) {
+    let frames = words.frames();
+    if frames.len() < 1 {
+        answer.fail(Trouble::BadArgument);
+    } else if words.end(answer) {
+        push_written(answer, write_message(words.alloc(), &frames));
     }
 }

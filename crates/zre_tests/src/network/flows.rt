@@ -2,133 +2,138 @@
 
 use super::*;
 use std::process;
-
-// To be started in a thread, a world may move there.
-fn moved<T: Send>(value: T) -> T {
-    value
-}
-
-fn is_beacon<R: Net + Clock>(alloc: Global, world: &mut RealWorld<R>) -> Result<bool, Fail> {
-    let (bytes, _) = wait_for(alloc, world, "Datagram", 1)?;
-    Ok(bytes.as_slice() == [65u8; 22].as_slice() && is_quiet(alloc, world)?)
-}
+use std::test::Fail;
 
 #[test]
-fn a_beacon_goes_to_each_address_that_takes_it(rt: HostRuntime) -> Result<(), Fail> {
+fn a_beacon_goes_to_each_address_that_takes_it(rt: HostRuntime) {
     let [near, far, nobody] = hosts(process::id(rt.process()));
-    let mut one = moved(world_at(rt, rt.alloc(), near, &[nobody, far, near])?);
-    let mut other = world_at(rt, rt.alloc(), far, &[])?;
-    one.act(&Act::Beacon { bytes: [65; 22] })?;
-    assert!(rt; is_beacon(rt.alloc(), &mut one)?);
-    assert!(rt; is_beacon(rt.alloc(), &mut other)?);
-    Ok(())
+    let mut one = Watched::at(rt, near, &[nobody, far, near]);
+    let mut other = Watched::at(rt, far, &[]);
+    one.act(&Act::Beacon { bytes: [65; 22] });
+    one.expect("Datagram", 1, 0, &[65; 22]);
+    one.expect_quiet();
+    other.expect("Datagram", 1, 0, &[65; 22]);
+    other.expect_quiet();
+    assert_eq!(rt; one.missed, "");
+    assert_eq!(rt; other.missed, "");
+}
+
+// A link and its connection: they open, and octets go both ways.
+fn talk(node: &mut Watched, peer: &mut Watched, conn: u64, link: u64, near: [u8; 4]) {
+    peer.connect(link, near);
+    peer.expect("Linked", link, 0, b"");
+    node.expect("Opened", conn, 0, b"");
+    match Octets::copy(node.alloc, b"hello") {
+        Ok(bytes) => node.answer(conn, bytes),
+        Err(OutOfMemory) => node.note("hello", false),
+    }
+    peer.expect("Reply", link, 0, b"hello");
+    peer.offer(link, b"abc");
+    peer.offer(link, b"no further offer before the count");
+    peer.expect("Took", link, 3, b"");
+    node.expect("Piece", conn, 0, b"abc");
 }
 
 #[test]
-fn a_link_and_its_connection_carry_octets_both_ways(rt: HostRuntime) -> Result<(), Fail> {
-    let alloc = rt.alloc();
+fn a_link_and_its_connection_carry_octets_both_ways(rt: HostRuntime) {
     let [near, far, _] = hosts(process::id(rt.process()));
-    let mut node = world_at(rt, alloc, near, &[])?;
-    let mut peer = world_at(rt, alloc, far, &[])?;
-    let to = mailbox_of(near);
-    for (conn, link) in [(1, 7), (2, 8)] {
-        peer.act(&Act::Connect { link, to })?;
-        wait_for(alloc, &mut peer, "Linked", link)?;
-        wait_for(alloc, &mut node, "Opened", conn)?;
-        let bytes = Octets::copy(alloc, b"hello")?;
-        node.act(&Act::Answer { conn, bytes })?;
-        let (bytes, _) = wait_for(alloc, &mut peer, "Reply", link)?;
-        assert_eq!(rt; bytes.as_slice(), b"hello".as_slice());
-        peer.offer(link, b"abc")?;
-        peer.offer(link, b"no further offer before the count")?;
-        let (_, count) = wait_for(alloc, &mut peer, "Took", link)?;
-        assert_eq!(rt; count, 3);
-        let (bytes, _) = wait_for(alloc, &mut node, "Piece", conn)?;
-        assert_eq!(rt; bytes.as_slice(), b"abc".as_slice());
-    }
-    node.act(&Act::CloseConn { conn: 1 })?;
-    wait_for(alloc, &mut peer, "Unlinked", 7)?;
-    peer.act(&Act::CloseLink { link: 8 })?;
-    wait_for(alloc, &mut node, "Shut", 2)?;
-    assert!(rt; is_quiet(alloc, &mut node)?);
-    assert!(rt; is_quiet(alloc, &mut peer)?);
-    Ok(())
+    let mut node = Watched::at(rt, near, &[]);
+    let mut peer = Watched::at(rt, far, &[]);
+    talk(&mut node, &mut peer, 1, 7, near);
+    talk(&mut node, &mut peer, 2, 8, near);
+    node.act(&Act::CloseConn { conn: 1 });
+    peer.expect("Unlinked", 7, 0, b"");
+    peer.act(&Act::CloseLink { link: 8 });
+    node.expect("Shut", 2, 0, b"");
+    node.expect_quiet();
+    peer.expect_quiet();
+    assert_eq!(rt; node.missed, "");
+    assert_eq!(rt; peer.missed, "");
 }
 
 #[test]
-fn a_refused_link_is_unlinked_once(rt: HostRuntime) -> Result<(), Fail> {
-    let alloc = rt.alloc();
+fn a_refused_link_is_unlinked_once(rt: HostRuntime) {
     let [near, nobody, _] = hosts(process::id(rt.process()));
-    let mut world = world_at(rt, alloc, near, &[])?;
+    let mut world = Watched::at(rt, near, &[]);
     for (link, addr) in [(1, nobody), (2, [255; 4]), (u64::MAX, near)] {
-        let to = mailbox_of(addr);
-        world.act(&Act::Connect { link, to })?;
-        wait_for(alloc, &mut world, "Unlinked", link)?;
-        assert!(rt; is_quiet(alloc, &mut world)?);
+        world.connect(link, addr);
+        world.expect("Unlinked", link, 0, b"");
+        world.expect_quiet();
     }
-    Ok(())
+    assert_eq!(rt; world.missed, "");
 }
 
-// How many octets of the offered went out, and how many of the right ones came.
-fn pass_on<R: Net + Clock>(
-    alloc: Global,
-    peer: &mut RealWorld<R>,
-    node: &mut RealWorld<R>,
-    bytes: &[u8],
-) -> Result<(usize, usize), Fail> {
+// How many octets went out in the next turn.
+fn went_out(peer: &mut Watched) -> usize {
+    match peer.turn() {
+        Some(seen) => seen.count as usize,
+        None => 0,
+    }
+}
+
+// How many octets came in the next turn, which are to be the first of these.
+fn came_of(node: &mut Watched, due: &[u8]) -> usize {
+    match node.turn() {
+        Some(seen) => {
+            let piece = seen.bytes.as_slice();
+            node.note("piece", piece.len() <= 65536 && due.starts_with(piece));
+            piece.len()
+        }
+        None => 0,
+    }
+}
+
+// How many octets of the offered went out, and how many came.
+fn pass_on(peer: &mut Watched, node: &mut Watched, bytes: &[u8]) -> (usize, usize) {
     let (mut sent, mut came) = (0usize, 0usize);
     for _ in 0..20 * TURNS {
-        if came >= bytes.len() {
+        if came >= bytes.len() || !peer.missed.is_empty() || !node.missed.is_empty() {
             break;
         }
-        peer.offer(1, bytes.get(sent..).unwrap_or(&[]))?;
-        if let Turn::Entry(entry) = peer.next(None)? {
-            sent = sent.saturating_add(see(alloc, entry.input).count as usize);
-        }
-        if let Turn::Entry(entry) = node.next(None)? {
-            let piece = see(alloc, entry.input).bytes;
-            let end = came.saturating_add(piece.len());
-            if piece.len() > 65536 || bytes.get(came..end) != Some(piece.as_slice()) {
-                return Err(Fail::new("not the octets that were offered"));
-            }
-            came = end;
-        }
+        peer.offer(1, bytes.get(sent..).unwrap_or(&[]));
+        sent = sent.saturating_add(went_out(peer));
+        came = came.saturating_add(came_of(node, bytes.get(came..).unwrap_or(&[])));
     }
-    Ok((sent, came))
+    (sent, came)
+}
+
+// A link and its connection are open.
+fn open(node: &mut Watched, peer: &mut Watched, near: [u8; 4]) {
+    peer.connect(1, near);
+    peer.expect("Linked", 1, 0, b"");
+    node.expect("Opened", 1, 0, b"");
 }
 
 #[test]
 fn what_the_socket_does_not_take_is_offered_again(rt: HostRuntime) -> Result<(), Fail> {
-    let alloc = rt.alloc();
-    let [near, far, _] = hosts(process::id(rt.process()));
-    let mut node = world_at(rt, alloc, near, &[])?;
-    let mut peer = world_at(rt, alloc, far, &[])?;
-    let to = mailbox_of(near);
-    peer.act(&Act::Connect { link: 1, to })?;
-    wait_for(alloc, &mut peer, "Linked", 1)?;
-    wait_for(alloc, &mut node, "Opened", 1)?;
-    let mut bytes = vec![in alloc; 1u8; 8_000_000]?;
+    let mut bytes = vec![in rt.alloc(); 1u8; 8_000_000]?;
     for (i, byte) in bytes.iter_mut().enumerate() {
         *byte = (i % 251) as u8;
     }
-    let (sent, came) = pass_on(alloc, &mut peer, &mut node, &bytes)?;
-    assert_eq!(rt; (sent, came), (8_000_000, 8_000_000));
+    let [near, far, _] = hosts(process::id(rt.process()));
+    let mut node = Watched::at(rt, near, &[]);
+    let mut peer = Watched::at(rt, far, &[]);
+    open(&mut node, &mut peer, near);
+    assert_eq!(rt;
+        pass_on(&mut peer, &mut node, &bytes),
+        (8_000_000, 8_000_000)
+    );
+    assert_eq!(rt; node.missed, "");
+    assert_eq!(rt; peer.missed, "");
     Ok(())
 }
 
 #[test]
 fn an_answer_that_the_socket_does_not_take_whole_shuts(rt: HostRuntime) -> Result<(), Fail> {
-    let alloc = rt.alloc();
+    let bytes = Octets::from_vec(vec![in rt.alloc(); 1u8; 64_000_000]?);
     let [near, far, _] = hosts(process::id(rt.process()));
-    let mut node = world_at(rt, alloc, near, &[])?;
-    let mut peer = world_at(rt, alloc, far, &[])?;
-    let to = mailbox_of(near);
-    peer.act(&Act::Connect { link: 1, to })?;
-    wait_for(alloc, &mut peer, "Linked", 1)?;
-    wait_for(alloc, &mut node, "Opened", 1)?;
-    let bytes = Octets::from_vec(vec![in alloc; 1u8; 64_000_000]?);
-    node.act(&Act::Answer { conn: 1, bytes })?;
-    wait_for(alloc, &mut node, "Shut", 1)?;
-    assert!(rt; is_quiet(alloc, &mut node)?);
+    let mut node = Watched::at(rt, near, &[]);
+    let mut peer = Watched::at(rt, far, &[]);
+    open(&mut node, &mut peer, near);
+    node.answer(1, bytes);
+    node.expect("Shut", 1, 0, b"");
+    node.expect_quiet();
+    assert_eq!(rt; node.missed, "");
+    assert_eq!(rt; peer.missed, "");
     Ok(())
 }

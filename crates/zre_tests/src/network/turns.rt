@@ -3,54 +3,67 @@
 use super::*;
 use std::{io, process};
 use zre_fabric::{ErrorClass, class_of};
+use zre_outside::{Command, NextFault};
 
-fn fails<R: Net + Clock>(world: &mut RealWorld<R>) -> bool {
-    matches!(world.next(None), Err(NextFault::Failed))
+fn fails(world: &mut Watched) -> bool {
+    matches!(world.world.next(None), Err(NextFault::Failed))
+}
+
+// Whether a start at these addresses fails, and the next turn.
+fn is_refused(world: &mut Watched, host: [u8; 4], listen: [u8; 4]) -> bool {
+    match start_at(world.alloc, host, &[]) {
+        Ok(mut start) => {
+            start.listen = listen;
+            world.world.start(&start) == Err(NextFault::Failed) && fails(world)
+        }
+        Err(OutOfMemory) => false,
+    }
 }
 
 #[test]
-fn a_bind_that_fails_is_failed_at_once(rt: HostRuntime) -> Result<(), Fail> {
+fn a_bind_that_fails_is_failed_at_once(rt: HostRuntime) {
     let [near, far, _] = hosts(process::id(rt.process()));
     let elsewhere = [192, 0, 2, 1];
-    let mut first = RealWorld::new(rt, rt.alloc());
+    let mut first = Watched::new(rt);
     assert!(rt; fails(&mut first));
-    first.start(&start_at(rt.alloc(), near, &[], 60000)?)?;
-    let mut second = RealWorld::new(rt, rt.alloc());
+    first.start(near, &[]);
+    let mut second = Watched::new(rt);
     for (host, listen) in [(near, near), (near, far), (far, near), (elsewhere, far)] {
-        let mut start = start_at(rt.alloc(), host, &[], 60000)?;
-        start.listen = listen;
-        assert_eq!(rt; second.start(&start), Err(NextFault::Failed));
-        assert!(rt; fails(&mut second));
+        assert!(rt; is_refused(&mut second, host, listen));
     }
-    second.start(&start_at(rt.alloc(), far, &[], 60000)?)?;
-    assert!(rt; is_quiet(rt.alloc(), &mut first)?);
-    assert!(rt; is_quiet(rt.alloc(), &mut second)?);
-    Ok(())
+    second.start(far, &[]);
+    first.expect_quiet();
+    second.expect_quiet();
+    assert_eq!(rt; first.missed, "");
+    assert_eq!(rt; second.missed, "");
 }
 
-// Hands in a command after a look. The result says whether it came back, and whether a look followed.
-fn quits<R: Net + Clock>(world: &mut RealWorld<R>) -> Result<(bool, bool), NextFault> {
+fn is_quit(turn: Result<Turn, NextFault>) -> bool {
+    match turn {
+        Ok(Turn::Entry(entry)) => matches!(entry.input, Input::Do(Command::Quit)),
+        _ => false,
+    }
+}
+
+// Hands in a command after a look. Whether it came back, and a look followed.
+fn quits(world: &mut Watched) -> bool {
     for _ in 0..TURNS {
-        if let Turn::Look = world.next(None)? {
-            let turn = world.next(Some(Command::Quit))?;
-            let came_back = match turn {
-                Turn::Entry(entry) => matches!(entry.input, Input::Do(Command::Quit)),
-                Turn::Look => false,
-            };
-            return Ok((came_back, matches!(world.next(None)?, Turn::Look)));
+        if let Ok(Turn::Look) = world.world.next(None) {
+            let turn = world.world.next(Some(Command::Quit));
+            return is_quit(turn) && matches!(world.world.next(None), Ok(Turn::Look));
         }
     }
-    Ok((false, false))
+    false
 }
 
 #[test]
-fn a_command_comes_back_and_a_look_follows(rt: HostRuntime) -> Result<(), Fail> {
+fn a_command_comes_back_and_a_look_follows(rt: HostRuntime) {
     let [host, _, _] = hosts(process::id(rt.process()));
-    let mut world = world_at(rt, rt.alloc(), host, &[])?;
+    let mut world = Watched::at(rt, host, &[]);
     for _ in 0..3u32 {
-        assert_eq!(rt; quits(&mut world)?, (true, true));
+        assert!(rt; quits(&mut world));
     }
-    Ok(())
+    assert_eq!(rt; world.missed, "");
 }
 
 #[test]

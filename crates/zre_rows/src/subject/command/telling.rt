@@ -1,21 +1,26 @@
 //! A world and a recorder that show what they were told.
 
 use crate::acts::{push_act, push_offered, push_start};
+use crate::text::Text;
 use zre_outside::{
     Act, Command, MemRecorder, NextFault, Recorder, ScriptWorld, Start, Turn, World,
 };
-use zre_values::{Octets, OutOfMemory};
+use zre_values::OutOfMemory;
 
 /// A script as a world, with the lines of what it was told.
 #[derive(Drop)]
 pub struct Telling {
     inner: ScriptWorld,
-    pub told: Octets,
+    told: Text,
 }
 
 impl Telling {
-    pub fn new(inner: ScriptWorld, told: Octets) -> Self {
+    pub fn new(inner: ScriptWorld, told: Text) -> Self {
         Telling { inner, told }
+    }
+
+    pub fn into_told(self) -> Text {
+        self.told
     }
 }
 
@@ -30,9 +35,7 @@ impl World for Telling {
     ghost faults = { λ w. world_faults_of w.inner };
 
     fn start(&mut self, s: &Start) -> Result<(), NextFault> {
-        if push_start(&mut self.told, s).is_err() {
-            return Err(NextFault::OutOfMemory);
-        }
+        push_start(&mut self.told, s);
         self.inner.start(s)
     }
 
@@ -41,12 +44,12 @@ impl World for Telling {
     }
 
     fn act(&mut self, act: &Act) -> Result<(), OutOfMemory> {
-        push_act(&mut self.told, act)?;
+        push_act(&mut self.told, act);
         self.inner.act(act)
     }
 
     fn offer(&mut self, link: u64, bytes: &[u8]) -> Result<(), OutOfMemory> {
-        push_offered(&mut self.told, link, bytes)?;
+        push_offered(&mut self.told, link, bytes);
         self.inner.offer(link, bytes)
     }
 }
@@ -55,12 +58,16 @@ impl World for Telling {
 #[derive(Drop)]
 pub struct Naming {
     pub inner: MemRecorder,
-    pub names: Octets,
+    names: Text,
 }
 
 impl Naming {
-    pub fn new(inner: MemRecorder, names: Octets) -> Self {
+    pub fn new(inner: MemRecorder, names: Text) -> Self {
         Naming { inner, names }
+    }
+
+    pub fn into_names(self) -> Text {
+        self.names
     }
 }
 
@@ -78,9 +85,8 @@ impl Recorder for Naming {
 
     fn begin(&mut self, name: &str) -> Result<(), NextFault> {
         let done = self.inner.begin(name);
-        // Without memory for the name none is shown, which differs from what is due.
-        if done.is_ok() && self.names.append(name.as_bytes()).is_err() {
-            self.names.clear();
+        if done.is_ok() {
+            self.names.put(name.as_bytes());
         }
         done
     }

@@ -6,4 +6,4 @@ pub returns-in_default : goal.returns-in_default
 returns-in_default c = subst (NoneAfter c.args.now) (sym c.forget.ensures) (NoneAfter-remove _ _ c.args.now c.requires)
 
 pub returns : goal.returns
-returns c = subst (NoneAfter c.args.now) (sym c.in_ok-touch.ensures.ok) (NoneAfter-insert _ _ _ c.args.now c.requires (omega arith))
+returns c = subst (NoneAfter c.args.now) (sym c.in-Ok.ensures.ok) (NoneAfter-insert _ _ _ c.args.now c.requires (omega arith))
