@@ -1,6 +1,5 @@
 //! When keys were last heard of.
 
-ghost use Rattle.std.specs.Prelude.{OnOk};
 ghost use Rattle.zre_timers.specs.Moments.{NoneAfter};
 
 use crate::text::Text;
