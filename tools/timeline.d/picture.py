@@ -400,7 +400,7 @@ class Picture:
         for at, run in enumerate(runs):
             left = middle(run) + half(run) + 4
             room = (middle(runs[at + 1]) - half(runs[at + 1]) if at + 1 < len(runs) else self.width) - left - 4
-            why = Counter(details(event, 60) for event in events[run[2]:run[3]])
+            why = Counter(details(event, 60).removeprefix("connection ") for event in events[run[2]:run[3]])
             text = counted(why)
             if text and room > 40:
                 self.text(left, y, cut(text, room / 9), "small")
