@@ -287,7 +287,7 @@ class Picture:
         return found
 
     def beside(self, end, wide):
-        """Where text in a row above a bar begins: it ends where the bar ends, or begins there if the left has no room."""
+        """Where text in a row above a bar begins: it ends with the bar, or begins there if the left has no room."""
         return end - 3 - wide if end - 3 - wide >= LEFT else max(LEFT, min(end + 4, self.width - 6 - wide))
 
     def draw_causes(self, causes, y, height):
