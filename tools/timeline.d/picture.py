@@ -60,11 +60,13 @@ def lanes_of(session):
     return list(lanes.values()), own
 
 
-def merged(spans, near):
-    """Spans of places that lie nearer than so to each other, as one: first and last place, and which they are."""
+def merged(spans, near=1.5):
+    """Spans of places as they are drawn: first and last place, and which they are. Those nearer to each other than can be
+    seen are one, where one of the two is as short as that."""
     runs = []
     for at, (begin, end) in enumerate(spans):
-        if runs and begin - runs[-1][1] < near:
+        is_near = runs and begin - runs[-1][1] < near
+        if is_near and min(end - begin, runs[-1][1] - runs[-1][0]) < 2 * near:
             runs[-1][1] = max(runs[-1][1], end)
             runs[-1][3] = at + 1
         else:
@@ -209,7 +211,8 @@ class Picture:
         self.parts.append(element(name, inner, told, **attributes))
 
     def text(self, x, y, text, kind):
-        self.put("text", escape(text), x=float(x), y=float(y), class_=kind)
+        if text:
+            self.put("text", escape(text), x=float(x), y=float(y), class_=kind)
 
     def bar(self, x, y, width, height, fill, told=""):
         self.put("rect", "", told, x=float(x), y=float(y), width=float(width), height=float(height), fill=fill)
@@ -302,12 +305,16 @@ class Picture:
                 self.text(left, y - 11 * row + 8, text, "cause")
 
     def stays(self, lane, runs, y, height):
+        """A bar for each time that the peer was there, and its end, which the next bar doesn't cover."""
+        ends = []
         for begin, end, first, last in runs:
-            stays = lane.stays[first:last]
-            told = [event for stay in stays for event in stay if event]
+            told = [event for stay in lane.stays[first:last] for event in stay if event]
             self.bar(begin, y, max(2, end - begin), height, BAR, f"{lane.name} {lane.peer}\n{listed(told)}")
-            if stays[-1][1]:
-                self.bar(max(end, begin + 2) - 1, y - 2, 2.5, height + 4, BLACK, listed(told[-1:]))
+            if told[-1].kind == "EXIT":
+                place = max(end, begin + 2) - 1
+                ends.append(element("rect", "", listed(told[-1:]), x=float(place), y=float(y - 2), width=2.5,
+                                    height=float(height + 4), fill=BLACK))
+        self.parts += ends
 
     def marks(self, kind, events, y):
         """Marks in a row; the answer is their runs."""
@@ -321,7 +328,7 @@ class Picture:
         found = []
         for group, spans in lane.groups.items():
             places = [(self.x(span[0].time), self.x(self.end_of(span))) for span in spans]
-            for begin, end, first, last in merged(places, 1.5):
+            for begin, end, first, last in merged(places):
                 found.append((begin, end, group, [event for span in spans[first:last] for event in span if event]))
         return sorted(found, key=lambda time: time[0])
 
@@ -349,14 +356,14 @@ class Picture:
         if not others:
             return y
         self.text(others[0][0], y + 7, f"{len({group for _, _, group, _ in others}):,} further groups", "small")
-        for begin, end, first, last in merged([(begin, end) for begin, end, _, _ in others], 1.5):
+        for begin, end, first, last in merged([(begin, end) for begin, end, _, _ in others]):
             told = [event for *_, events in others[first:last] for event in events]
             self.bar(begin, y + 9, max(2, end - begin), 3, GREY, listed(told))
         return y + 13
 
     def lane(self, lane, is_striped):
         top, kinds = self.y, [kind for kind in MARK_KINDS if lane.marks[kind]]
-        runs = merged([(self.x(stay[0].time), self.x(self.end_of(stay))) for stay in lane.stays], 1.5)
+        runs = merged([(self.x(stay[0].time), self.x(self.end_of(stay))) for stay in lane.stays])
         causes, height = self.causes(lane, runs), max(10, 11 * len(kinds))
         y = top + 6 + 11 * max([row for row, *_ in causes], default=0)
         self.label(lane, max(top + 15, y + 8))
