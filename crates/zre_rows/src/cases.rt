@@ -4,6 +4,7 @@ use crate::page::Page;
 use crate::report::{Place, Report};
 use crate::subject::Subject;
 use crate::words::Words;
+use std::mem;
 use std::sync::Wait;
 use std::thread::Threads;
 
@@ -50,6 +51,11 @@ fn repeat<T: Threads + Wait + AllocGlobal + Copy + Send + 'static>(
     }
 }
 
+// What stood there before goes.
+fn put(place: &mut Subject, subject: Subject) {
+    drop(mem::replace(place, subject));
+}
+
 // A line of the subject.
 fn act<T: Threads + Wait + AllocGlobal + Copy + Send + 'static>(
     rt: T,
@@ -59,9 +65,9 @@ fn act<T: Threads + Wait + AllocGlobal + Copy + Send + 'static>(
 ) {
     let words = Words::of_line(page.alloc, line);
     if words.is(b"row") {
-        *subject = Subject::Missing;
+        put(subject, Subject::Missing);
     } else if words.is(b"on") {
-        *subject = make_subject(page, words.rest());
+        put(subject, make_subject(page, words.rest()));
     } else if words.is(b"repeat") {
         repeat(rt, page, subject, words);
     } else {
@@ -88,6 +94,7 @@ fn take_all<T: Threads + Wait + AllocGlobal + Copy + Send + 'static>(
             page.settle_line(Place { file, line }, report);
         }
     }
+    drop(subject);
     page.close(Place { file, line }, report);
 }
 
