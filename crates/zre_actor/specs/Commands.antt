@@ -1,4 +1,5 @@
--- The command pipe. H is what the actor popped and then what is queued, each command with its caller's number and the numbers that this caller had absorbed when it put it.
+-- The command pipe. H is what the actor popped and then what is queued, each command with its caller's number and the
+-- numbers that this caller had absorbed when it put it.
 use Rattle.std.specs.Prelude.{◌≡◌, ℕ, zero, suc, ◌+◌, ◌≤◌, ◌==◌, Bool, true, false, cond, List, [], ◌∷◌, ◌++◌, map, take, drop, length}
 use mathlib.Core.Option.{some}
 use lib.ListN.{get_elem?}
@@ -10,7 +11,8 @@ abbrev pub placed : ℕ → List ℕ → Command → Placed
 placed n ended c = record { number = n; ended = ended; command = c }
 
 abbrev pub view : Bool → List Placed → List ℕ → List ℕ → List ℕ → List Placed → View
-view actor popped own ended unused put = record { actor = actor; popped = popped; own = own; ended = ended; unused = unused; put = put }
+view actor popped own ended unused put =
+    record { actor = actor; popped = popped; own = own; ended = ended; unused = unused; put = put }
 
 -- how often n stands in a list
 abbrev pub times : ℕ → List ℕ → ℕ
@@ -65,7 +67,8 @@ pub record Kept (out history : List Placed) (views : List View) : Type 0 where
   pub alone : Each views (λ v. (n : ℕ) → times n (live v) ≡ 0 → under n v.put ≡ [])
   -- every command has an own or ended number of some pass
   pub known : (n : ℕ) → among live n views ≡ 0 → under n history ≡ []
-  -- a number that a command names as ended is an ended number of some pass, and no command under it stands after that command
+  -- a number that a command names as ended is an ended number of some pass, and no command under it stands after that
+  -- command
   pub named : (n : ℕ) → among (λ v. v.ended) n views ≡ 0 → naming n history ≡ 0
   pub closed : Closed history
 
@@ -73,7 +76,9 @@ abbrev pub command_of : Placed → Command
 command_of e = e.command
 
 abbrev pub Rule : List Command → List View → Type 0
-Rule items views = (popped : List Placed) × (queued : List Placed) × (map command_of queued ≡ items) × Kept popped (popped ++ queued) views
+Rule items views =
+    (popped : List Placed) × (queued : List Placed) × (map command_of queued ≡ items)
+    × Kept popped (popped ++ queued) views
 
 -- k numbers from a on
 abbrev pub row : ℕ → ℕ → List ℕ
@@ -128,7 +133,9 @@ HasAll v = length (numbers v) ≡ 16
 
 -- a caller has one number, and put nothing under other numbers than its own and the ended ones
 abbrev pub IsCaller : View → Type 0
-IsCaller v = (v.actor ≡ false) × (v.own ≡ head_or v.own ∷ []) × (v.unused ≡ []) × ((n : ℕ) → times n (live v) ≡ 0 → under n v.put ≡ [])
+IsCaller v =
+    (v.actor ≡ false) × (v.own ≡ head_or v.own ∷ []) × (v.unused ≡ [])
+    × ((n : ℕ) → times n (live v) ≡ 0 → under n v.put ≡ [])
 
 -- the actor puts nothing
 abbrev pub IsActor : View → Type 0

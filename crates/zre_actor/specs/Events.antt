@@ -9,12 +9,14 @@ use Rattle.zre_actor.specs.declared.told.Told.TheVariants as told
 use Rattle.zre_actor.specs.declared.views.Hearing.{Hearing}
 
 abbrev pub hearing : Bool → List Event → Option Ending → Bool → List Event → Option Ending → Hearing
-hearing raises raised ended_by takes taken last = record { raises = raises; raised = raised; ended_by = ended_by; takes = takes; taken = taken; last = last }
+hearing raises raised ended_by takes taken last =
+    record { raises = raises; raised = raised; ended_by = ended_by; takes = takes; taken = taken; last = last }
 
 abbrev pub event_of : Event → Told
 event_of e = told.Event e
 
--- what is queued, where these events were raised and not taken: after them Last stands once, from when it was pushed until it is taken
+-- what is queued, where these events were raised and not taken: after them Last stands once, from when it was pushed
+-- until it is taken
 abbrev pub Queued : Option Ending → Option Ending → List Event → List Told → Type 0
 Queued None None rest items = items ≡ map event_of rest
 Queued None (Some last) rest items = ⊥
@@ -29,7 +31,8 @@ Fits actor raised ended_by taker taken last pass v =
 
 abbrev pub EventRule : List Told → List Hearing → Type 0
 EventRule items views =
-    (actor : ℕ) × (raised : List Event) × (ended_by : Option Ending) × (taker : ℕ) × (taken : List Event) × (last : Option Ending) × (rest : List Event)
+    (actor : ℕ) × (raised : List Event) × (ended_by : Option Ending) × (taker : ℕ) × (taken : List Event)
+    × (last : Option Ending) × (rest : List Event)
     × (raised ≡ taken ++ rest) × Queued ended_by last rest items
     × ((pass : ℕ) (v : Hearing) → get_elem? views pass ≡ some v → Fits actor raised ended_by taker taken last pass v)
 

@@ -111,7 +111,8 @@ AllBack a ps = length (unused_by a) + how_many ps ≡ 16
 -- a pop adds a command to what the actor popped, or its finds of an empty pipe rise
 abbrev pub IsPopped : ActorPass → Option Command → ActorPass → Type 0
 IsPopped old None new = (popped_by new ≡ popped_by old) × Raised old.empties new.empties
-IsPopped old (Some c) new = ((e : Placed) × (e.command ≡ c) × (popped_by new ≡ popped_by old ++ e ∷ [])) × (new.empties ≡ old.empties)
+IsPopped old (Some c) new =
+    ((e : Placed) × (e.command ≡ c) × (popped_by new ≡ popped_by old ++ e ∷ [])) × (new.empties ≡ old.empties)
 
 -- nothing was put with it, and it absorbed nothing
 abbrev pub IsNew : CallerPass → Type 0

@@ -45,17 +45,37 @@ pub record Scene : Type 0 where
   pub empties : ℕ
 
 abbrev pub scene : Option Log → Bool → ℕ → Option (List ℕ) → ℕ → ActorPass → Scene
-scene told looked wf kept rf pass = record { told = told; looked = looked; world_faults = wf; kept = kept; record_faults = rf; popped = popped_by pass; raised = raised_by pass; empties = pass.empties }
+scene told looked wf kept rf pass =
+    record {
+      told = told;
+      looked = looked;
+      world_faults = wf;
+      kept = kept;
+      record_faults = rf;
+      popped = popped_by pass;
+      raised = raised_by pass;
+      empties = pass.empties;
+    }
 
 -- a world went on by these entries, looks, commands and deeds
 abbrev pub went : List Entry → ℕ → List Command → List Deed → Log → Log
-went given looks handed deeds l = record { begun = l.begun; given = l.given ++ given; looks = l.looks + looks; handed = l.handed ++ handed; done = l.done ++ deeds }
+went given looks handed deeds l =
+    record {
+      begun = l.begun;
+      given = l.given ++ given;
+      looks = l.looks + looks;
+      handed = l.handed ++ handed;
+      done = l.done ++ deeds;
+    }
 
 -- ---- acts
 
--- what a world does for an act of a node that stands for J: an offer has some of the first octets that the link may send
+-- what a world does for an act of a node that stands for J: an offer has some of the first octets that the link may
+-- send
 abbrev pub IsDeed : Config → List Entry → Act → Deed → Type 0
-IsDeed g J (act.Offer l) d = (bytes : List ℕ) × (rest : List ℕ) × (d ≡ deed.Offered l bytes) × (bytes ≢ []) × (front_after g J l ≡ Some (bytes ++ rest))
+IsDeed g J (act.Offer l) d =
+    (bytes : List ℕ) × (rest : List ℕ) × (d ≡ deed.Offered l bytes) × (bytes ≢ [])
+    × (front_after g J l ≡ Some (bytes ++ rest))
 IsDeed g J a d = d ≡ deed.Done a
 
 -- the same of acts, one by one; each has the journal up to its entry beside it
@@ -89,8 +109,10 @@ done_by entries = flat_map (λ e. command_in e.input) entries
 abbrev pub late : ℕ → ℕ → Bool → ℕ
 late turns limit looked = cond (nat_lt 0 limit && (turns == limit) && looked) 1 0
 
--- so many turns were answered: these entries were given and these deeds done, and the pending commands were popped and not handed on
-pub record Goes (turns limit : ℕ) (s t : Scene) (given : List Entry) (deeds : List Deed) (pending : List Command) : Type 0 where
+-- so many turns were answered: these entries were given and these deeds done, and the pending commands were popped
+-- and not handed on
+pub record Goes (turns limit : ℕ) (s t : Scene) (given : List Entry) (deeds : List Deed) (pending : List Command)
+    : Type 0 where
   pub looks : ℕ
   pub handed : List Command
   pub is_told : t.told ≡ option_map (went given looks handed deeds) s.told
@@ -111,12 +133,17 @@ abbrev pub world_ending : NextFault → Ending
 world_ending fault.Failed = ending.WorldFault
 world_ending fault.OutOfMemory = ending.OutOfMemory
 
--- what each ending says: whether the node stopped, how many turns were answered, whose count rose, which entry wasn't stepped, which command wasn't handed on
+-- what each ending says: whether the node stopped, how many turns were answered, whose count rose, which entry wasn't
+-- stepped, which command wasn't handed on
 abbrev pub Ends : Ending → Bool → ℕ → ℕ → Bool → Scene → Scene → List Entry → List Command → Type 0
-Ends ending.Stopped stopped turns limit keep s t unstepped pending = (stopped ≡ true) × (unstepped ≡ []) × (pending ≡ [])
-Ends ending.WorldFault stopped turns limit keep s t unstepped pending = (stopped ≡ false) × (unstepped ≡ []) × (length pending ≤ 1) × (turns < limit) × Rose s.world_faults t.world_faults
-Ends ending.RecordFault stopped turns limit keep s t unstepped pending = (stopped ≡ false) × (length unstepped ≡ 1) × (pending ≡ []) × (keep ≡ true) × Rose s.record_faults t.record_faults
-Ends ending.TooLong stopped turns limit keep s t unstepped pending = (stopped ≡ false) × (unstepped ≡ []) × (pending ≡ []) × (turns ≡ limit)
+Ends ending.Stopped stopped turns limit keep s t unstepped pending =
+    (stopped ≡ true) × (unstepped ≡ []) × (pending ≡ [])
+Ends ending.WorldFault stopped turns limit keep s t unstepped pending =
+    (stopped ≡ false) × (unstepped ≡ []) × (length pending ≤ 1) × (turns < limit) × Rose s.world_faults t.world_faults
+Ends ending.RecordFault stopped turns limit keep s t unstepped pending =
+    (stopped ≡ false) × (length unstepped ≡ 1) × (pending ≡ []) × (keep ≡ true) × Rose s.record_faults t.record_faults
+Ends ending.TooLong stopped turns limit keep s t unstepped pending =
+    (stopped ≡ false) × (unstepped ≡ []) × (pending ≡ []) × (turns ≡ limit)
 Ends ending.OutOfMemory stopped turns limit keep s t unstepped pending = length unstepped + length pending ≤ 1
 
 -- a recorder holds the lines of entries more, and after them a front of the line of the one that wasn't stepped
@@ -137,7 +164,8 @@ AllGo g J [] = Unit {0}
 AllGo g J (e ∷ es) = (has_stopped (chronicle g J) ≡ false) × AllGo g (J ++ e ∷ []) es
 
 -- the work of a node that stood for K
-pub record IsWork (g : Config) (K : List Entry) (keep : Bool) (limit : ℕ) (s t : Scene) (n : Node) (ended : Ending) : Type 0 where
+pub record IsWork (g : Config) (K : List Entry) (keep : Bool) (limit : ℕ) (s t : Scene) (n : Node) (ended : Ending)
+    : Type 0 where
   pub turns : ℕ
   -- what the world gave: the entries that the node took, and at most one that it didn't
   pub entries : List Entry
@@ -153,7 +181,8 @@ pub record IsWork (g : Config) (K : List Entry) (keep : Bool) (limit : ℕ) (s t
   -- nothing was popped after a Quit
   pub quits_last : QuitsLast (map command_of goes.popped)
   -- the node stands for what it took, unless it found no memory for its last step
-  pub node : StandsFor g (K ++ entries) n ⊎ (IsTrue (is_spent n) × (ended ≡ ending.OutOfMemory) × (length unstepped ≡ 1))
+  pub node : StandsFor g (K ++ entries) n
+      ⊎ (IsTrue (is_spent n) × (ended ≡ ending.OutOfMemory) × (length unstepped ≡ 1))
   -- the acts of these steps were done in order, all of them unless memory ran out
   pub did : List (List Entry × Act)
   pub undone : List (List Entry × Act)
@@ -187,7 +216,8 @@ pub record DoesAll (g : Config) (J : List Entry) (acts : List Act) (all : Bool) 
   pub all_done : all ≡ true → undone ≡ []
 
 -- an entry was put, stepped and done after J, and these events are to be raised
-pub record Went (g : Config) (J : List Entry) (e : Entry) (keep : Bool) (told told' : Option Log) (kept kept' : Option (List ℕ)) (n : Node) (es : List Event) : Type 0 where
+pub record Went (g : Config) (J : List Entry) (e : Entry) (keep : Bool) (told told' : Option Log)
+    (kept kept' : Option (List ℕ)) (n : Node) (es : List Event) : Type 0 where
   pub stands : StandsFor g (J ++ e ∷ []) n
   pub deeds : List Deed
   pub are_deeds : AreDeeds g (beside (J ++ e ∷ []) (acts_after g (e ∷ []) (chronicle g J))) deeds
@@ -196,7 +226,8 @@ pub record Went (g : Config) (J : List Entry) (e : Entry) (keep : Bool) (told to
   pub is_kept : keep ≡ true → Appends kept kept' (line e)
 
 -- its line wasn't kept, so it wasn't stepped
-pub record IsUnput (g : Config) (J : List Entry) (e : Entry) (keep : Bool) (told told' : Option Log) (kept kept' : Option (List ℕ)) (rf rf' : ℕ) (n : Node) (ended : Ending) : Type 0 where
+pub record IsUnput (g : Config) (J : List Entry) (e : Entry) (keep : Bool) (told told' : Option Log)
+    (kept kept' : Option (List ℕ)) (rf rf' : ℕ) (n : Node) (ended : Ending) : Type 0 where
   pub stands : StandsFor g J n
   pub is_told : told' ≡ told
   pub part : List ℕ
@@ -207,14 +238,16 @@ pub record IsUnput (g : Config) (J : List Entry) (e : Entry) (keep : Bool) (told
   pub ends : IsRefusal rf rf' ended
 
 -- the node found no memory for it
-pub record IsUnstepped (e : Entry) (keep : Bool) (told told' : Option Log) (kept kept' : Option (List ℕ)) (n : Node) (ended : Ending) : Type 0 where
+pub record IsUnstepped (e : Entry) (keep : Bool) (told told' : Option Log) (kept kept' : Option (List ℕ)) (n : Node)
+    (ended : Ending) : Type 0 where
   pub spent : IsTrue (is_spent n)
   pub is_told : told' ≡ told
   pub is_kept : keep ≡ true → Appends kept kept' (line e)
   pub ends : ended ≡ ending.OutOfMemory
 
 -- the world found no memory for an act
-pub record IsUndone (g : Config) (J : List Entry) (e : Entry) (keep : Bool) (told told' : Option Log) (kept kept' : Option (List ℕ)) (n : Node) (ended : Ending) : Type 0 where
+pub record IsUndone (g : Config) (J : List Entry) (e : Entry) (keep : Bool) (told told' : Option Log)
+    (kept kept' : Option (List ℕ)) (n : Node) (ended : Ending) : Type 0 where
   pub stands : StandsFor g (J ++ e ∷ []) n
   pub did : List (List Entry × Act)
   pub undone : List (List Entry × Act)
@@ -228,6 +261,8 @@ pub record IsUndone (g : Config) (J : List Entry) (e : Entry) (keep : Bool) (tol
   pub ends : ended ≡ ending.OutOfMemory
 
 -- an entry that wasn't put, wasn't stepped, or wasn't done whole
-abbrev pub Broke : Config → List Entry → Entry → Bool → Option Log → Option Log → Option (List ℕ) → Option (List ℕ) → ℕ → ℕ → Node → Ending → Type 0
+abbrev pub Broke : Config → List Entry → Entry → Bool → Option Log → Option Log → Option (List ℕ) → Option (List ℕ)
+    → ℕ → ℕ → Node → Ending → Type 0
 Broke g J e keep told told' kept kept' rf rf' n ended =
-    IsUnput g J e keep told told' kept kept' rf rf' n ended ⊎ (IsUnstepped e keep told told' kept kept' n ended ⊎ IsUndone g J e keep told told' kept kept' n ended)
+    IsUnput g J e keep told told' kept kept' rf rf' n ended
+    ⊎ (IsUnstepped e keep told told' kept kept' n ended ⊎ IsUndone g J e keep told told' kept kept' n ended)

@@ -24,8 +24,8 @@ use zre_outside::{Act, Entry, NextFault, Recorder, World};
 use zre_peer::Events;
 use zre_values::OutOfMemory;
 
-/// Puts an entry to the recorder, where that is wanted, steps the node with it, and has the world do the acts. What is to be told
-/// comes back.
+/// Puts an entry to the recorder, where that is wanted, steps the node with it, and has the world do the acts. What
+/// is to be told comes back.
 pub(crate) fn take_entry<W: World, R: Recorder>(
     alloc: Global,
     world: &mut W,
@@ -35,8 +35,12 @@ pub(crate) fn take_entry<W: World, R: Recorder>(
     entry: Entry,
 ) -> Result<Events, Ending>
     requires { keep ≡ true → R.begun rec.old ≡ true }
-    ensures ok { (g : Config) (J : List EntryValue) → StandsFor g J node.old → IfOk result (λ es. Went g J entry keep (W.told world.old) (W.told world.new) (R.kept rec.old) (R.kept rec.new) node.new es) }
-    ensures broke { (g : Config) (J : List EntryValue) → StandsFor g J node.old → IfErr result (λ x. Broke g J entry keep (W.told world.old) (W.told world.new) (R.kept rec.old) (R.kept rec.new) (R.faults rec.old) (R.faults rec.new) node.new x) }
+    ensures ok { (g : Config) (J : List EntryValue) → StandsFor g J node.old
+        → IfOk result (λ es. Went g J entry keep (W.told world.old) (W.told world.new) (R.kept rec.old)
+        (R.kept rec.new) node.new es) }
+    ensures broke { (g : Config) (J : List EntryValue) → StandsFor g J node.old
+        → IfErr result (λ x. Broke g J entry keep (W.told world.old) (W.told world.new) (R.kept rec.old)
+        (R.kept rec.new) (R.faults rec.old) (R.faults rec.new) node.new x) }
     ensures world { (W.looked world.new ≡ W.looked world.old) × (W.faults world.new ≡ W.faults world.old) }
     ensures unkept { keep ≡ false → rec.new ≡ rec.old }
     ensures begun { R.begun rec.new ≡ R.begun rec.old }
@@ -67,7 +71,8 @@ fn keep_line<R: Recorder>(
 ) -> Result<(), Ending>
     requires { keep ≡ true → R.begun rec.old ≡ true }
     ensures kept { OnOk result (keep ≡ true → Appends (R.kept rec.old) (R.kept rec.new) (line entry.now)) }
-    ensures broke { IfErr result (λ x. (keep ≡ true) × AppendsFront (R.kept rec.old) (R.kept rec.new) (line entry.now) × IsRefusal (R.faults rec.old) (R.faults rec.new) x) }
+    ensures broke { IfErr result (λ x. (keep ≡ true) × AppendsFront (R.kept rec.old) (R.kept rec.new) (line entry.now)
+        × IsRefusal (R.faults rec.old) (R.faults rec.new) x) }
     ensures unkept { keep ≡ false → rec.new ≡ rec.old }
     ensures begun { R.begun rec.new ≡ R.begun rec.old }
     ensures named { Keeps (R.named rec.old) (R.named rec.new) }
@@ -102,7 +107,8 @@ fn put_line<R: Recorder>(alloc: Global, rec: &mut R, entry: &Entry) -> Result<()
 
 // Does these acts, in order. False where memory ran out.
 fn do_all<W: World>(world: &mut W, node: &Node, acts: &[Act]) -> bool
-    ensures done { (g : Config) (J : List EntryValue) → StandsFor g J node.now → AreDue g (chronicle g J) acts.now → DoesAll g J acts.now result (W.told world.old) (W.told world.new) }
+    ensures done { (g : Config) (J : List EntryValue) → StandsFor g J node.now → AreDue g (chronicle g J) acts.now
+        → DoesAll g J acts.now result (W.told world.old) (W.told world.new) }
     ensures world { (W.looked world.new ≡ W.looked world.old) × (W.faults world.new ≡ W.faults world.old) }
 {
     for act in acts {
@@ -115,7 +121,8 @@ fn do_all<W: World>(world: &mut W, node: &Node, acts: &[Act]) -> bool
 
 // Does an act. A link that is to be looked at is offered what it may send.
 fn do_one<W: World>(world: &mut W, node: &Node, act: &Act) -> bool
-    ensures done { (g : Config) (J : List EntryValue) → StandsFor g J node.now → IsDueAct g (chronicle g J) act.now → result ≡ true →
+    ensures done { (g : Config) (J : List EntryValue) → StandsFor g J node.now → IsDueAct g (chronicle g J) act.now
+        → result ≡ true →
         (d : DeedValue) × IsDeed g J act.now d × (W.told world.new ≡ option_map (with_deed d) (W.told world.old)) }
     ensures undone { result ≡ false → W.told world.new ≡ W.told world.old }
     ensures world { (W.looked world.new ≡ W.looked world.old) × (W.faults world.new ≡ W.faults world.old) }
@@ -126,10 +133,11 @@ fn do_one<W: World>(world: &mut W, node: &Node, act: &Act) -> bool
     }
 }
 
-// Offers a link what it may send. An act to look at a link comes only where it may send something; nothing is offered on a link
-// that isn't known.
+// Offers a link what it may send. An act to look at a link comes only where it may send something; nothing is offered
+// on a link that isn't known.
 fn offer_front<W: World>(world: &mut W, node: &Node, link: u64) -> bool
-    ensures done { (g : Config) (J : List EntryValue) → StandsFor g J node.now → IsDue g (chronicle g J) link → result ≡ true →
+    ensures done { (g : Config) (J : List EntryValue) → StandsFor g J node.now → IsDue g (chronicle g J) link
+        → result ≡ true →
         (d : DeedValue) × IsDeed g J (ActValue.Offer link) d × (W.told world.new ≡ option_map (with_deed d) (W.told world.old)) }
     ensures undone { result ≡ false → W.told world.new ≡ W.told world.old }
     ensures world { (W.looked world.new ≡ W.looked world.old) × (W.faults world.new ≡ W.faults world.old) }

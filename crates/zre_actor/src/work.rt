@@ -30,9 +30,9 @@ pub struct Worked<W, R> {
 }
 
 impl Pipes {
-    /// Takes one turn of the world after the other, and raises what the node tells. After each look the command pipe is popped once,
-    /// and a command found goes into the next turn; after a look in the last turn it isn't. It ends at a node that has stopped, at
-    /// a fault, out of memory or after so many turns, and raises last why.
+    /// Takes one turn of the world after the other, and raises what the node tells. After each look the command pipe
+    /// is popped once, and a command found goes into the next turn; after a look in the last turn it isn't. It ends
+    /// at a node that has stopped, at a fault, out of memory or after so many turns, and raises last why.
     pub fn work<W: World, R: Recorder, T: Wait + Copy>(
         &self,
         rt: T,
@@ -105,7 +105,8 @@ impl Pipes {
         ensures pipes { IsActorOf self.now result.pass × (unused_by result.pass ≡ unused_by pass) }
         ensures same { (result.world ≡ world) × (result.node ≡ node) × (result.rec ≡ rec) × (result.ending ≡ ending) }
         ensures ending { ending_of result.pass ≡ Some ending }
-        ensures pass { (popped_by result.pass ≡ popped_by pass) × (raised_by result.pass ≡ raised_by pass) × (result.pass.empties ≡ pass.empties) }
+        ensures pass { (popped_by result.pass ≡ popped_by pass) × (raised_by result.pass ≡ raised_by pass)
+            × (result.pass.empties ≡ pass.empties) }
     {
         let pass = self.end(rt, pass, ending);
         Worked {
@@ -145,7 +146,8 @@ fn ending_by(fault: NextFault) -> Ending
 
 // The ending where all turns were taken.
 fn last_ending(node: &Node) -> Ending
-    ensures { (g : Config) (K : List EntryValue) → StandsFor g K node.now → result ≡ cond (has_stopped (chronicle g K)) ending.Stopped ending.TooLong }
+    ensures { (g : Config) (K : List EntryValue) → StandsFor g K node.now
+        → result ≡ cond (has_stopped (chronicle g K)) ending.Stopped ending.TooLong }
 {
     if node.stopped() {
         Ending::Stopped

@@ -20,4 +20,6 @@ pub record IsBeacon (octets : List ℕ) (id : PeerId) (port : ℕ) : Type 0 wher
 
 -- the node and the port that a datagram announces, if it is a beacon
 abbrev pub beacon_in : List ℕ → Option (PeerId × ℕ)
-beacon_in o = if length o == 22 && bytes_eq (take 4 o) beacon_head then Some (record { 0 = take 16 (drop 4 o) }, from_be_bytes w16 (drop 20 o)) else None
+beacon_in o =
+    if length o == 22 && bytes_eq (take 4 o) beacon_head
+    then Some (record { 0 = take 16 (drop 4 o) }, from_be_bytes w16 (drop 20 o)) else None

@@ -24,7 +24,8 @@ impl Beacon {
     pub fn read(bytes: &[u8]) -> Option<Beacon>
         ensures sound { IfSome result (λ beacon. IsBeacon bytes.now beacon.id beacon.port) }
         ensures read { option_map (λ beacon. (beacon.id, beacon.port)) result ≡ beacon_in bytes.now }
-        ensures complete { (id : PeerId) (port : ℕ) → IsBeacon bytes.now id port → result ≡ Some (record { id = id; port = port }) }
+        ensures complete { (id : PeerId) (port : ℕ) → IsBeacon bytes.now id port
+            → result ≡ Some (record { id = id; port = port }) }
     {
         let (head, rest) = bytes.split_first_chunk::<4>()?;
         let (id, port) = rest.split_first_chunk::<16>()?;

@@ -1,5 +1,5 @@
--- The journal of the exercise: p peers come and introduce themselves, then their messages come in turn, and the node is told
--- to quit. Peers, messages and the messages of one peer are counted from 0.
+-- The journal of the exercise: p peers come and introduce themselves, then their messages come in turn, and the node
+-- is told to quit. Peers, messages and the messages of one peer are counted from 0.
 use Rattle.std.specs.Prelude.{ℕ, zero, suc, ◌+◌, ◌/◌, ◌%◌, Bool, ◌==◌, ◌||◌, if◌then◌else◌, List, [], ◌∷◌, ◌++◌, length, take, drop, replicate, Some, codes, decimal}
 use Rattle.std.specs.Int.{w32, to_be_bytes}
 use Rattle.zre_values.specs.Endpoint.{endpoint_text}
@@ -31,7 +31,11 @@ beacon i = beacon_octets (identity i) 49152
 
 -- its HELLO: no groups, status 0, no headers
 unfoldable pub hello : ℕ → List ℕ
-hello i = octets (record { sequence = 1; body = Hello (endpoint_text (record { addr = host i; port = 49152 })) [] 0 (codes "p" ++ decimal i) [] })
+hello i =
+    octets (record {
+      sequence = 1;
+      body = Hello (endpoint_text (record { addr = host i; port = 49152 })) [] 0 (codes "p" ++ decimal i) [];
+    })
 
 -- its READY
 unfoldable pub readiness : ℕ → List ℕ
@@ -119,7 +123,8 @@ quits at = record { at = at; input = got.Do ask.Quit }
 -- the entries of n messages of p peers, from message j on, whose draws begin at x, and the last entry after them
 unfoldable pub messages_from : ℕ → ℕ → ℕ → ℕ → List Entry
 messages_from p x j zero = quits j ∷ []
-messages_from p x j (suc n) = comes p j (first_piece (j / p) x) ∷ comes p j (second_piece (j / p) x) ∷ messages_from p (after (j / p) x) (j + 1) n
+messages_from p x j (suc n) =
+    comes p j (first_piece (j / p) x) ∷ comes p j (second_piece (j / p) x) ∷ messages_from p (after (j / p) x) (j + 1) n
 
 -- all entries, from a seed, the number of peers and the number of messages
 abbrev pub exercise : ℕ → ℕ → ℕ → List Entry

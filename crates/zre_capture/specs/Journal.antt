@@ -1,5 +1,5 @@
--- Captures as they are read: the journal of a capture, and where a capture is bad. Its lines are what stands between line
--- feeds; what stands after the last line feed isn't finished yet.
+-- Captures as they are read: the journal of a capture, and where a capture is bad. Its lines are what stands between
+-- line feeds; what stands after the last line feed isn't finished yet.
 use Rattle.std.specs.Prelude.{◌≡◌, ℕ, ◌+◌, ◌≤◌, ◌==◌, nat_lt, not, ◌&&◌, if◌then◌else◌, List, [], ◌∷◌, ◌++◌, length, Option, Some, None, is_some, option_map, codes}
 use Rattle.std.specs.Option.{option_map_or, option_or}
 use Rattle.std.specs.Str.{bytes_eq}
@@ -15,9 +15,12 @@ use Rattle.zre_capture.specs.declared.line.TheConstants.{LINE_OCTETS}
 abbrev pub lines_in : List ℕ → List (List ℕ)
 lines_in o = between 10 o
 
--- what a line that isn't too long says, by its number from 1: the head no entry, another line one. A bad line says nothing.
+-- what a line that isn't too long says, by its number from 1: the head no entry, another line one. A bad line says
+-- nothing.
 unfoldable pub said : ℕ → List ℕ → Option (List Entry)
-said n text = if n == 1 then (if bytes_eq text (codes "zre-capture 1") then Some [] else None) else option_map (λ e. e ∷ []) (entry_of text)
+said n text =
+    if n == 1 then (if bytes_eq text (codes "zre-capture 1") then Some [] else None)
+    else option_map (λ e. e ∷ []) (entry_of text)
 
 -- what a line says
 abbrev pub line_of : ℕ → List ℕ → Option (List Entry)
@@ -37,12 +40,14 @@ entries_from n (text ∷ next ∷ more) = option_map_or (λ es. es ++ entries_fr
 unfoldable pub bad_from : ℕ → List (List ℕ) → Option BadCapture
 bad_from n [] = None
 bad_from n (last ∷ []) = if nat_lt LINE_OCTETS (length last) then Some (bad_line n last) else None
-bad_from n (text ∷ next ∷ more) = if is_some (line_of n text) then bad_from (n + 1) (next ∷ more) else Some (bad_line n text)
+bad_from n (text ∷ next ∷ more) =
+    if is_some (line_of n text) then bad_from (n + 1) (next ∷ more) else Some (bad_line n text)
 
 -- what the end of the input makes bad: a last line without a line feed, and nothing at all in place of the head
 unfoldable pub end_from : ℕ → List (List ℕ) → Option BadCapture
 end_from n [] = None
-end_from n (last ∷ []) = if (length last == 0) && not (n == 1) then None else Some (record { line = n; column = column n last })
+end_from n (last ∷ []) =
+    if (length last == 0) && not (n == 1) then None else Some (record { line = n; column = column n last })
 end_from n (text ∷ next ∷ more) = end_from (n + 1) (next ∷ more)
 
 -- the journal of a capture, of which this much has come

@@ -1,4 +1,5 @@
--- The lines of a capture: its head, and a line for each entry. Fields stand with one space between, and a line feed after.
+-- The lines of a capture: its head, and a line for each entry. Fields stand with one space between, and a line feed
+-- after.
 use Rattle.std.specs.Prelude.{ℕ, ◌<◌, ◌≤◌, ◌^◌, List, [], ◌∷◌, ◌++◌, length, codes, decimal, All}
 use Rattle.std.specs.List.{join_with_byte, flat_map}
 use Rattle.hex.specs.Hex.{encode_lower}

@@ -203,7 +203,8 @@ after (k ∷ ks) f = after_field k ks f
 -- the column of the first field that isn't as required, where the first of all stands at column at
 abbrev pub first_bad : List Field → List (List ℕ) → ℕ → Option ℕ
 first_bad required [] at = None
-first_bad required (f ∷ fs) at = if meets required f then first_bad (after required f) fs (at + (length f + 1)) else Some at
+first_bad required (f ∷ fs) at =
+    if meets required f then first_bad (after required f) fs (at + (length f + 1)) else Some at
 
 -- the fields that a line begins with, by its number from 1: those of the head, or of an entry
 abbrev pub form : ℕ → List Field
@@ -219,9 +220,11 @@ but_last (f ∷ g ∷ fs) = f ∷ but_last (g ∷ fs)
 abbrev pub column : ℕ → List ℕ → ℕ
 column n text = unwrap_or (first_bad (form n) (fields_in text) 1) (length text + 1)
 
--- the same of one that is too long: of its fields those count that lie whole before the column of the first octet too many
+-- the same of one that is too long: of its fields those count that lie whole before the column of the first octet too
+-- many
 abbrev pub long_column : ℕ → List ℕ → ℕ
-long_column n text = unwrap_or (first_bad (form n) (but_last (fields_in (take (LINE_OCTETS + 1) text))) 1) (LINE_OCTETS + 1)
+long_column n text =
+    unwrap_or (first_bad (form n) (but_last (fields_in (take (LINE_OCTETS + 1) text))) 1) (LINE_OCTETS + 1)
 
 -- where a bad line is bad
 abbrev pub bad_column : ℕ → List ℕ → ℕ

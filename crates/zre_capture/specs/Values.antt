@@ -32,7 +32,8 @@ dotted field = map (digits_value 10) (slice_split (λ b. b == 46) field)
 
 -- an address a.b.c.d
 unfoldable pub address_of : List ℕ → Option (List ℕ)
-address_of field = where_spelled address_text ((length (dotted field) == 4) && are_octets (dotted field)) (dotted field) field
+address_of field =
+    where_spelled address_text ((length (dotted field) == 4) && are_octets (dotted field)) (dotted field) field
 
 -- the octets whose digits these are
 abbrev pub decoded : List ℕ → List ℕ
@@ -88,7 +89,9 @@ id_in field = record { 0 = unwrap_or (parsed field) [] }
 
 -- an identity
 unfoldable pub id_of : List ℕ → Option PeerId
-id_of field = where_spelled id_text ((length (unwrap_or (parsed field) []) == 16) && are_octets (unwrap_or (parsed field) [])) (id_in field) field
+id_of field =
+    where_spelled id_text ((length (unwrap_or (parsed field) []) == 16) && are_octets (unwrap_or (parsed field) []))
+    (id_in field) field
 
 -- a lower-case digit
 abbrev pub is_lower_digit : ℕ → Bool
@@ -100,7 +103,9 @@ first_of text [] field = None
 first_of text (w ∷ ws) field = if bytes_eq field (text w) then Some w else first_of text ws field
 
 abbrev pub input_words : List InputWord
-input_words = word.Datagram ∷ word.Opened ∷ word.Piece ∷ word.Shut ∷ word.Linked ∷ word.Reply ∷ word.Unlinked ∷ word.Took ∷ word.Tick ∷ word.Do ∷ word.End ∷ []
+input_words =
+    word.Datagram ∷ word.Opened ∷ word.Piece ∷ word.Shut ∷ word.Linked ∷ word.Reply ∷ word.Unlinked ∷ word.Took
+    ∷ word.Tick ∷ word.Do ∷ word.End ∷ []
 
 abbrev pub command_words : List CommandWord
 command_words = order.Join ∷ order.Leave ∷ order.Whisper ∷ order.Shout ∷ order.Bad ∷ order.Quit ∷ []

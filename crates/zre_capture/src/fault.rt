@@ -4,8 +4,8 @@ ghost use Rattle.std.specs.Prelude.{◌≡◌};
 
 use thiserror::Error;
 
-/// A line that isn't one of a capture, and where in it: the first field that isn't as required, or what follows the last
-/// one.
+/// A line that isn't one of a capture, and where in it: the first field that isn't as required, or what follows the
+/// last one.
 #[derive(Clone, Copy, Debug, PartialEq, Eq, Error)]
 #[error("not a capture")]
 pub struct BadCapture {

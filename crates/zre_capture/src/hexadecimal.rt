@@ -62,7 +62,8 @@ fn are_digits(field: &[u8]) -> bool
 
 // Whether two digits stand for each of some octets.
 fn are_pairs(field: &[u8]) -> bool
-    ensures { result ≡ ((length field.now % 2 == 0) && (nat_lt 0 (length field.now) && list_all is_lower_digit field.now)) }
+    ensures { result ≡ ((length field.now % 2 == 0)
+        && (nat_lt 0 (length field.now) && list_all is_lower_digit field.now)) }
 {
     field.len() % 2 == 0 && !field.is_empty() && are_digits(field)
 }

@@ -72,7 +72,8 @@ fn too_long(line: u64, front: &[u8]) -> CaptureFault
 // Reads a whole line of any length.
 fn read_whole(alloc: Global, line: u64, text: &[u8], out: &mut Entries) -> Result<(), CaptureFault>
     ensures ok { OnOk result ((es : List EntryValue) × (line_of line text.now ≡ Some es) × (out.new ≡ out.old ++ es)) }
-    ensures refused { IfErr result (λ e. Refuses e (λ b. (line_of line text.now ≡ None) × (b ≡ bad_line line text.now))) }
+    ensures refused { IfErr result (λ e. Refuses e (λ b. (line_of line text.now ≡ None)
+        × (b ≡ bad_line line text.now))) }
     ensures kept { OnErr result (out.new ≡ out.old) }
 {
     if text.len() > LINE_OCTETS {

@@ -45,7 +45,8 @@ pub record Seen : Type 0 where
   -- how often a thread was refused
   pub refusals : ℕ
 
-abbrev pub seen : (left taken : Option (List ℕ)) (reads : ℕ) (told : Option Log) (worlds : ℕ) (written : Option (List ℕ)) (writes : ℕ) (kept named : Option (List ℕ)) (records refusals : ℕ) → Seen
+abbrev pub seen : (left taken : Option (List ℕ)) (reads : ℕ) (told : Option Log) (worlds : ℕ)
+    (written : Option (List ℕ)) (writes : ℕ) (kept named : Option (List ℕ)) (records refusals : ℕ) → Seen
 seen left taken reads told worlds written writes kept named records refusals = record {
   left = left;
   taken = taken;
@@ -63,11 +64,14 @@ seen left taken reads told worlds written writes kept named records refusals = r
 -- what each status needs: a count that rose, or as many octets or turns as the limit and more due
 abbrev pub IsCaused : Status → (limit : ℕ) (octets : List ℕ) (turns : ℕ) (stopped : Bool) → Seen → Seen → Type 0
 IsCaused Done limit octets turns stopped s t = ⊤
-IsCaused ReadFault limit octets turns stopped s t = Rose s.read_faults t.read_faults × (length octets < limit) × IsReadOn octets
-IsCaused WriteFault limit octets turns stopped s t = Rose s.write_faults t.write_faults ⊎ Rose s.record_faults t.record_faults
+IsCaused ReadFault limit octets turns stopped s t =
+    Rose s.read_faults t.read_faults × (length octets < limit) × IsReadOn octets
+IsCaused WriteFault limit octets turns stopped s t =
+    Rose s.write_faults t.write_faults ⊎ Rose s.record_faults t.record_faults
 IsCaused WorldFault limit octets turns stopped s t = Rose s.world_faults t.world_faults
 IsCaused NoThread limit octets turns stopped s t = Rose s.refusals t.refusals
-IsCaused TooLong limit octets turns stopped s t = ((length octets ≡ limit) × IsReadOn octets) ⊎ ((turns ≡ limit) × (stopped ≡ false))
+IsCaused TooLong limit octets turns stopped s t =
+    ((length octets ≡ limit) × IsReadOn octets) ⊎ ((turns ≡ limit) × (stopped ≡ false))
 IsCaused OutOfMemory limit octets turns stopped s t = ⊤
 IsCaused Usage limit octets turns stopped s t = ⊥
 IsCaused BadInput limit octets turns stopped s t = ⊥
@@ -75,21 +79,25 @@ IsCaused BadInput limit octets turns stopped s t = ⊥
 -- all of these
 abbrev pub AreCaused : List Status → (limit : ℕ) (octets : List ℕ) (turns : ℕ) (stopped : Bool) → Seen → Seen → Type 0
 AreCaused [] limit octets turns stopped s t = ⊤
-AreCaused (x ∷ xs) limit octets turns stopped s t = IsCaused x limit octets turns stopped s t × AreCaused xs limit octets turns stopped s t
+AreCaused (x ∷ xs) limit octets turns stopped s t =
+    IsCaused x limit octets turns stopped s t × AreCaused xs limit octets turns stopped s t
 
 -- all went well, or memory didn't run out and this count of faults didn't rise
 abbrev pub IsSpared : Status → (rose : Type 0) → Type 0
 IsSpared status rose = (status ≡ Done) ⊎ ((status ≢ OutOfMemory) × ¬ rose)
 
--- why no more of the input was read: it was at its end within the limit, a line is a quit, or the world stopped the node first, before as
--- many octets as the limit were taken or before all commands were handed in
+-- why no more of the input was read: it was at its end within the limit, a line is a quit, or the world stopped the
+-- node first, before as many octets as the limit were taken or before all commands were handed in
 abbrev pub HasEnded : (limit : ℕ) (octets : List ℕ) (handed : List Command) (left : Option (List ℕ)) → Type 0
 HasEnded limit octets handed left = (IsAtEnd left × (length octets < limit))
-    ⊎ ((list_any is_quit (typed octets) ≡ true) ⊎ ((list_any is_quit handed ≡ false) × ((length octets < limit) ⊎ IsShort handed (typed octets))))
+    ⊎ ((list_any is_quit (typed octets) ≡ true)
+    ⊎ ((list_any is_quit handed ≡ false) × ((length octets < limit) ⊎ IsShort handed (typed octets))))
 
 -- the recorder, emptied and named, holds the capture of these entries, where it tells what it holds
 abbrev pub Holds : List ℕ → List Entry → Seen → Seen → Type 0
-Holds name es s t = Appends (option_map (λ _. []) s.kept) t.kept (capture.head ++ capture.lines es) × Keeps (option_map (λ _. name) s.named) t.named
+Holds name es s t =
+    Appends (option_map (λ _. []) s.kept) t.kept (capture.head ++ capture.lines es)
+    × Keeps (option_map (λ _. name) s.named) t.named
 
 -- a world was started, unless the chat ended before
 abbrev pub started : Bool → Start → Log → Log
@@ -97,7 +105,8 @@ started false start l = l
 started true start l = with_start start l
 
 -- a chat of a node with settings g, which goes on the network by start and keeps a capture under a name
-pub record IsChat (g : Config) (start : Start) (name : Option (List ℕ)) (limit : ℕ) (s t : Seen) (status : Status) : Type 0 where
+pub record IsChat (g : Config) (start : Start) (name : Option (List ℕ)) (limit : ℕ) (s t : Seen) (status : Status)
+    : Type 0 where
   -- what was taken of the input
   pub octets : List ℕ
   pub are_taken : Moves s.left t.left s.taken t.taken octets
@@ -126,12 +135,15 @@ pub record IsChat (g : Config) (start : Start) (name : Option (List ℕ)) (limit
   pub all_done : status ≢ OutOfMemory → undone ≡ []
   -- the lines of the journal's events were written
   pub front : AppendsFront s.written t.written (lines (events g entries))
-  pub whole : IsSpared status (Rose s.write_faults t.write_faults) → Appends s.written t.written (lines (events g entries))
+  pub whole : IsSpared status (Rose s.write_faults t.write_faults)
+      → Appends s.written t.written (lines (events g entries))
   -- the capture of all that was given was kept
-  pub held : (file : List ℕ) → name ≡ Some file → IsSpared status (Rose s.record_faults t.record_faults) → Holds file entries s t
+  pub held : (file : List ℕ) → name ≡ Some file → IsSpared status (Rose s.record_faults t.record_faults)
+      → Holds file entries s t
   -- the commands that were handed in are done by entries that were given, in order
   pub are_done : Sublist handed (done_by (entries ++ unstepped))
-  -- they begin the orders of the input before its quit, but for a quit at their end; where all went well they begin the orders as they stand, and with a quit they are all of them
+  -- they begin the orders of the input before its quit, but for a quit at their end; where all went well they begin
+  -- the orders as they stand, and with a quit they are all of them
   pub in_order : BreaksOff handed octets
   pub are_front : status ≡ Done → IsPrefix handed (orders octets)
   pub all_handed : status ≡ Done → list_any is_quit handed ≡ true → handed ≡ orders octets
@@ -140,5 +152,6 @@ pub record IsChat (g : Config) (start : Start) (name : Option (List ℕ)) (limit
   pub is_status : status ≡ least occurred
   pub caused : AreCaused occurred limit octets turns (has_stopped (chronicle g entries)) s t
   -- where nothing did, the world was started, it told the node to stop, and so the node did
-  pub done : status ≡ Done → (begun ≡ true) × (list_any (λ e. is_end e.input) entries ≡ true) × (has_stopped (chronicle g entries) ≡ true)
+  pub done : status ≡ Done → (begun ≡ true) × (list_any (λ e. is_end e.input) entries ≡ true)
+      × (has_stopped (chronicle g entries) ≡ true)
   pub ended : status ≡ Done → HasEnded limit octets handed t.left

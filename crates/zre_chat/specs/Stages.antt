@@ -37,8 +37,10 @@ IsEarly NoThread worlds worlds' records records' = ⊥
 IsEarly TooLong worlds worlds' records records' = ⊥
 
 -- it did not come that far: the recorder or the world refused, or memory ran out
-pub record Unprepared (start : Start) (name : Option (List ℕ)) (status : Status) (told told' : Option Log) (worlds worlds' : ℕ) (kept kept' named named' : Option (List ℕ)) (records records' : ℕ) : Type 0 where
+pub record Unprepared (start : Start) (name : Option (List ℕ)) (status : Status) (told told' : Option Log)
+    (worlds worlds' : ℕ) (kept kept' named named' : Option (List ℕ)) (records records' : ℕ) : Type 0 where
   pub begun : Bool
   pub is_told : told' ≡ option_map (started begun start) told
   pub cause : IsEarly status worlds worlds' records records'
-  pub holds : (file : List ℕ) → name ≡ Some file → status ≢ OutOfMemory → ¬ Rose records records' → Appends (option_map (λ _. []) kept) kept' head × Keeps (option_map (λ _. file) named) named'
+  pub holds : (file : List ℕ) → name ≡ Some file → status ≢ OutOfMemory → ¬ Rose records records'
+      → Appends (option_map (λ _. []) kept) kept' head × Keeps (option_map (λ _. file) named) named'

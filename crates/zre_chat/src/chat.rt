@@ -43,8 +43,9 @@ pub struct Chatted<I, W, R> {
 }
 
 impl Chat {
-    /// Begins the capture, where one is kept, and goes on the network. Then starts the node's thread and the reader's, prints
-    /// what the node tells until it ends, and waits for both. At most `limit` octets are read and `limit` turns of the world taken.
+    /// Begins the capture, where one is kept, and goes on the network. Then starts the node's thread and the
+    /// reader's, prints what the node tells until it ends, and waits for both. At most `limit` octets are read and
+    /// `limit` turns of the world taken.
     pub fn run<I, W, O, R, P, T>(
         self,
         rt: T,
@@ -70,7 +71,8 @@ impl Chat {
             (seen (I.left result.input) (I.taken result.input) (I.faults result.input) (W.told result.world) (W.faults result.world) (O.written out.new) (O.faults out.new) (R.kept result.rec) (R.named result.rec) (R.faults result.rec) (P.faults spawner.new))
             result.status }
         ensures unkept { self.capture ≡ None → result.rec ≡ rec }
-        ensures later { (I.faults input ≤ I.faults result.input) × (O.faults out.old ≤ O.faults out.new) × (P.faults spawner.old ≤ P.faults spawner.new) }
+        ensures later { (I.faults input ≤ I.faults result.input) × (O.faults out.old ≤ O.faults out.new)
+            × (P.faults spawner.old ≤ P.faults spawner.new) }
     {
         let Chat {
             config,
@@ -112,7 +114,8 @@ fn prepare<W: World, R: Recorder>(
         OnOk result (Begins name (R.begun rec.new) (R.kept rec.old) (R.kept rec.new) (R.named rec.old) (R.named rec.new)) }
     ensures unkept { capture.now ≡ None → rec.new ≡ rec.old }
     ensures later { (W.faults world.old ≤ W.faults world.new) × (R.faults rec.old ≤ R.faults rec.new) }
-    ensures refused { IfErr result (λ status. Unprepared start.now capture.now status (W.told world.old) (W.told world.new) (W.faults world.old) (W.faults world.new)
+    ensures refused { IfErr result (λ status. Unprepared start.now capture.now status (W.told world.old)
+        (W.told world.new) (W.faults world.old) (W.faults world.new)
         (R.kept rec.old) (R.kept rec.new) (R.named rec.old) (R.named rec.new) (R.faults rec.old) (R.faults rec.new)) }
 {
     if let Err(fault) = begin(rec, capture) {

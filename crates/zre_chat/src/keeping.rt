@@ -12,7 +12,8 @@ use zre_values::Octets;
 
 // Begins a recorder under a name, and puts the head of a capture.
 fn begin_named<R: Recorder>(rec: &mut R, name: &str) -> Result<(), NextFault>
-    ensures begins { OnOk result (Begins name.now (R.begun rec.new) (R.kept rec.old) (R.kept rec.new) (R.named rec.old) (R.named rec.new)) }
+    ensures begins { OnOk result (Begins name.now (R.begun rec.new) (R.kept rec.old) (R.kept rec.new)
+        (R.named rec.old) (R.named rec.new)) }
     ensures later { R.faults rec.old ≤ R.faults rec.new }
     ensures failed { IsErrOf result NextFault.Failed → Rose (R.faults rec.old) (R.faults rec.new) }
 {

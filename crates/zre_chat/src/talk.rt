@@ -30,7 +30,8 @@ pub(crate) struct Talk<I> {
 fn unread<I: Source + Send + Drop + 'static>(job: ReaderJob<I>) -> ReaderDone<I>
     ensures pipes { IsCallerOf (arc_value job.pipes) result.pass }
     ensures later { I.faults job.input ≤ I.faults result.input }
-    ensures read { HasRead result.end job.limit job.pass result.pass (I.left job.input) (I.left result.input) (I.taken job.input) (I.taken result.input)
+    ensures read { HasRead result.end job.limit job.pass result.pass (I.left job.input) (I.left result.input)
+        (I.taken job.input) (I.taken result.input)
         (Rose (I.faults job.input) (I.faults result.input)) }
 {
     let ReaderJob {
@@ -48,8 +49,8 @@ fn unread<I: Source + Send + Drop + 'static>(job: ReaderJob<I>) -> ReaderDone<I>
     }
 }
 
-/// Starts the reader, prints until Last, tells the reader that the chat is over, and waits for it. Where it isn't started, the
-/// node is asked to stop at once.
+/// Starts the reader, prints until Last, tells the reader that the chat is over, and waits for it. Where it isn't
+/// started, the node is asked to stop at once.
 pub(crate) fn hold_talk<I, O: Sink, P: Spawner, T: Wait + Threads + Copy>(
     rt: T,
     alloc: Global,
@@ -65,9 +66,11 @@ where
     I: Source + Send + Drop + 'static,
     requires pipes { IsTakerOf pipes.now taker × IsCallerOf pipes.now asker }
     requires open { last_of taker ≡ None }
-    ensures pipes { IsTakerOf pipes.now result.printed.taker × IsCallerOf pipes.now result.printed.pass × IsCallerOf (arc_value job.pipes) result.read.pass }
+    ensures pipes { IsTakerOf pipes.now result.printed.taker × IsCallerOf pipes.now result.printed.pass
+        × IsCallerOf (arc_value job.pipes) result.read.pass }
     ensures last { IsSome (last_of result.printed.taker) }
-    ensures read { HasRead result.read.end job.limit job.pass result.read.pass (I.left job.input) (I.left result.read.input) (I.taken job.input) (I.taken result.read.input)
+    ensures read { HasRead result.read.end job.limit job.pass result.read.pass (I.left job.input)
+        (I.left result.read.input) (I.taken job.input) (I.taken result.read.input)
         (Rose (I.faults job.input) (I.faults result.read.input)) }
     ensures printed { HasPrinted (asker_of asker result.refused) taker result.printed.taker result.printed.pass result.printed.fault (O.written out.old) (O.written out.new) }
     ensures failed { result.printed.fault ≡ Some Failed → Rose (O.faults out.old) (O.faults out.new) }

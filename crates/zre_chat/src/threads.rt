@@ -46,13 +46,15 @@ where
     T: Wait + Threads + Copy,
     requires laid { IsLaid table }
     requires begun { keep ≡ true → R.begun rec ≡ true }
-    ensures chat { (g : ConfigValue) (start : StartValue) (name : Option (List ℕ)) (s : Seen) → StandsFor g [] table.node →
+    ensures chat { (g : ConfigValue) (start : StartValue) (name : Option (List ℕ)) (s : Seen)
+        → StandsFor g [] table.node →
         Prepared start name keep s (seen (I.left input) (I.taken input) (I.faults input) (W.told world) (W.faults world) (O.written out.old) (O.faults out.old) (R.kept rec) (R.named rec) (R.faults rec) (P.faults spawner.old)) →
         IsChat g start name limit s
         (seen (I.left result.input) (I.taken result.input) (I.faults result.input) (W.told result.world) (W.faults result.world) (O.written out.new) (O.faults out.new) (R.kept result.rec) (R.named result.rec) (R.faults result.rec) (P.faults spawner.new))
         result.status }
     ensures unkept { keep ≡ false → result.rec ≡ rec }
-    ensures later { (I.faults input ≤ I.faults result.input) × (O.faults out.old ≤ O.faults out.new) × (P.faults spawner.old ≤ P.faults spawner.new) }
+    ensures later { (I.faults input ≤ I.faults result.input) × (O.faults out.old ≤ O.faults out.new)
+        × (P.faults spawner.old ≤ P.faults spawner.new) }
 {
     let Table {
         pipes,
@@ -115,9 +117,11 @@ fn settle<I, W, R, T: Wait + Copy>(
     requires callers { IsCallerOf pipes.now talk.read.pass × IsCallerOf pipes.now talk.printed.pass }
     requires back { AllBack worked.pass (talk.read.pass ∷ talk.printed.pass ∷ []) }
     requires last { IsSome (last_of talk.printed.taker) }
-    ensures status { result.status ≡ least (of_read talk.read.end ∷ of_print talk.printed.fault ∷ of_work worked.ending ∷ of_thread talk.refused ∷ []) }
+    ensures status { result.status ≡ least (of_read talk.read.end ∷ of_print talk.printed.fault
+        ∷ of_work worked.ending ∷ of_thread talk.refused ∷ []) }
     ensures same { (result.input ≡ talk.read.input) × (result.world ≡ worked.world) × (result.rec ≡ worked.rec) }
-    ensures fronts { (n : ℕ) → IsPrefix (under n (popped_by worked.pass)) (under n (puts_of (talk.read.pass ∷ talk.printed.pass ∷ []))) }
+    ensures fronts { (n : ℕ)
+        → IsPrefix (under n (popped_by worked.pass)) (under n (puts_of (talk.read.pass ∷ talk.printed.pass ∷ []))) }
     ensures taken { taken_by talk.printed.taker ≡ raised_by worked.pass }
 {
     let Talk {

@@ -1,4 +1,5 @@
-//! The command `exercise`: a node goes through a large journal that is made from a number, and what it tells is counted.
+//! The command `exercise`: a node goes through a large journal that is made from a number, and what it tells is
+//! counted.
 
 mod counts;
 mod run;

@@ -16,7 +16,7 @@ commands_after commands command turn.Look = commands
 commands_after commands None (turn.Entry e) = 0
 commands_after commands (Some c) (turn.Entry e) = raised commands
 
--- after 64 entries, and after a command, unless 64 came in a row: a command comes after a look, so where there are entries
--- and commands the last turn was a command
+-- after 64 entries, and after a command, unless 64 came in a row: a command comes after a look, so where there are
+-- entries and commands the last turn was a command
 abbrev pub is_full : ℕ → ℕ → Bool
 is_full entries commands = nat_le 64 entries || (nat_lt 0 entries && (nat_lt 0 commands && nat_lt commands 64))

@@ -56,7 +56,8 @@ impl<R: Net + Clock> Fabric<R> {
         ensures short { IfOk result (λ t. TurnIsShort t) }
         ensures reading { IfOk result (λ t. IsReadAt self.new.stopwatch.last t) }
         ensures later { self.old.stopwatch.last ≤ self.new.stopwatch.last }
-        ensures look { command ≡ None → is_full self.old.row.entries self.old.row.commands ≡ true → IfOk result (λ t. is_look t ≡ true) }
+        ensures look { command ≡ None → is_full self.old.row.entries self.old.row.commands ≡ true
+            → IfOk result (λ t. is_look t ≡ true) }
         ensures row { IfOk result (λ t. (self.new.row.entries ≡ entries_after self.old.row.entries t)
             × (self.new.row.commands ≡ commands_after self.old.row.commands command t)) }
         ensures kept { OnErr result (self.new.row ≡ self.old.row) }

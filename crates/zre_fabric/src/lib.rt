@@ -1,5 +1,5 @@
-//! The real network as a [`World`](zre_outside::World): UDP for beacons, a TCP listener for the mailbox, a connection for
-//! each peer that comes, a link for each peer that the node goes to, and the clock, over `mio`'s poll.
+//! The real network as a [`World`](zre_outside::World): UDP for beacons, a TCP listener for the mailbox, a connection
+//! for each peer that comes, a link for each peer that the node goes to, and the clock, over `mio`'s poll.
 //!
 //! # Calling
 //!
@@ -15,10 +15,12 @@
 //! ```
 //!
 //! - A Tick comes at once and then each `interval` milliseconds; Ticks that were missed aren't made up for.
-//! - A look comes after 20 milliseconds at most in which nothing came, after 64 entries at most, and again at once after
-//!   each command. After 64 commands in a row what the sockets have comes first. With nothing to do the call waits in the
-//!   poll.
-//! - Pieces, replies and datagrams have at most 65,536 octets. Connections are numbered from 1 in the order in which they
+//! - A look comes after 20 milliseconds at most in which nothing
+//! came, after 64 entries at most, and again at once after
+//! each command. After 64 commands in a row what the sockets have comes first. With nothing to do the call waits in
+//! the poll.
+//! - Pieces, replies and datagrams have at most 65,536 octets.
+//! Connections are numbered from 1 in the order in which they
 //!   came.
 //! - A write to a link or a connection whose peer is gone is an error of that call and no signal: std sends with
 //!   `MSG_NOSIGNAL`. A connection and a link send without delay (`TCP_NODELAY`).
@@ -26,12 +28,13 @@
 //!
 //! # What is proved, and what is tested
 //!
-//! Proved, beside safety: the contracts of `World`. A command comes back as the entry to do it, `looked` says whether the
-//! last turn was a look, and the count of faults rises in the calls that are answered with `Failed` and in no others. A
-//! look comes again after each command and after 64 entries, as said above (clauses `look` and `row` of `next`). What a turn
-//! says of sockets is told by no clause (`told` is `None`), since no contract says what a system answers. Proved of the
-//! parts: the readings of the clock never fall, a wait is no longer than 20 milliseconds, and a token of the poll names its
-//! source. Tested over loopback: the rest of the list above, each kind of entry, and that a failing bind fails at once.
+//! Proved, beside safety: the contracts of `World`. A command comes back as the entry to do it, `looked` says whether
+//! the last turn was a look, and the count of faults rises in the calls that are answered with `Failed` and in no
+//! others. A look comes again after each command and after 64 entries, as said above (clauses `look` and `row` of
+//! `next`). What a turn says of sockets is told by no clause (`told` is `None`), since no contract says what a system
+//! answers. Proved of the parts: the readings of the clock never fall, a wait is no longer than 20 milliseconds, and
+//! a token of the poll names its source. Tested over loopback: the rest of the list above, each kind of entry, and
+//! that a failing bind fails at once.
 #![tactic(auto)]
 
 mod beacons;

@@ -73,8 +73,8 @@ impl Link {
         }
     }
 
-    /// Writes as much as the socket takes now, unless something is still to be said of an earlier offer. The result says
-    /// whether the link has something to say at once.
+    /// Writes as much as the socket takes now, unless something is still to be said of an earlier offer. The result
+    /// says whether the link has something to say at once.
     pub(crate) fn offer(&mut self, bytes: &[u8]) -> bool {
         let is_free = matches!(self.offered, Offered::Nothing);
         if bytes.is_empty() || !self.is_linked || self.is_broken || !is_free {

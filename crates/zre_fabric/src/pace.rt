@@ -29,8 +29,8 @@ impl Pace {
         }
     }
 
-    /// Whether a Tick is due. It is then given, and the next one is due an interval later: those that were missed aren't
-    /// made up for.
+    /// Whether a Tick is due. It is then given, and the next one is due an interval later: those that were missed
+    /// aren't made up for.
     pub(crate) fn tick(&mut self, at: u64) -> bool
         ensures due { IsTrue result ↔ (self.old.tick_at ≤ at) }
         ensures next { at < 2 ^ 64 - 1 → at < self.new.tick_at }

@@ -83,14 +83,15 @@ impl<R: Net + Clock> World for RealWorld<R> {
         }
     }
 
-    /// Waits for 20 milliseconds at most. It fails where the world isn't started, and where the clock, the poll, the UDP
-    /// socket or the listener fails.
+    /// Waits for 20 milliseconds at most. It fails where the world isn't started, and where the clock, the poll, the
+    /// UDP socket or the listener fails.
     fn next(&mut self, command: Option<Command>) -> Result<Turn, NextFault>
         requires { IsSome command → has_looked self.old ≡ true }
         ensures turn { IfOk result (λ t. IsTurn command t) }
         ensures told { IfOk result (λ t. told_of self.new ≡ option_map (after_turn command t) (told_of self.old)) }
         ensures looked { IfOk result (λ t. has_looked self.new ≡ is_look t) }
-        ensures refused { OnErr result ((told_of self.new ≡ told_of self.old) × (has_looked self.new ≡ has_looked self.old)) }
+        ensures refused { OnErr result ((told_of self.new ≡ told_of self.old)
+            × (has_looked self.new ≡ has_looked self.old)) }
         ensures later { faults_of self.old ≤ faults_of self.new }
         ensures failed { IsErrOf result NextFault.Failed → Rose (faults_of self.old) (faults_of self.new) }
         // The count rises where it failed, and nowhere else.
@@ -99,10 +100,12 @@ impl<R: Net + Clock> World for RealWorld<R> {
         ensures reading { IfOk result (λ t. IsReadAt (reading_of self.new) t) }
         ensures short { IfOk result (λ t. TurnIsShort t) }
         // A look comes again after each command at once, unless 64 came in a row, and after 64 entries at most.
-        ensures look { command ≡ None → is_full (entries_of self.old) (commands_of self.old) ≡ true → IfOk result (λ t. is_look t ≡ true) }
+        ensures look { command ≡ None → is_full (entries_of self.old) (commands_of self.old) ≡ true
+            → IfOk result (λ t. is_look t ≡ true) }
         ensures row { IfOk result (λ t. (entries_of self.new ≡ entries_after (entries_of self.old) t)
             × (commands_of self.new ≡ commands_after (commands_of self.old) command t)) }
-        ensures kept { OnErr result ((entries_of self.new ≡ entries_of self.old) × (commands_of self.new ≡ commands_of self.old)) }
+        ensures kept { OnErr result ((entries_of self.new ≡ entries_of self.old)
+            × (commands_of self.new ≡ commands_of self.old)) }
     {
         match self.fabric.next(command) {
             Ok(turn) => {
@@ -118,7 +121,8 @@ impl<R: Net + Clock> World for RealWorld<R> {
 
     /// Begins what the act asks for, and waits for nothing. An act on a link or connection that is gone does nothing.
     fn act(&mut self, act: &Act) -> Result<(), OutOfMemory>
-        ensures ok { OnOk result (told_of self.new ≡ option_map (with_deed (DeedValue.Done act.now)) (told_of self.old)) }
+        ensures ok { OnOk result (told_of self.new ≡ option_map (with_deed (DeedValue.Done act.now))
+            (told_of self.old)) }
         ensures err { OnErr result (told_of self.new ≡ told_of self.old) }
         ensures looked { has_looked self.new ≡ has_looked self.old }
         ensures faults { faults_of self.new ≡ faults_of self.old }
@@ -129,7 +133,8 @@ impl<R: Net + Clock> World for RealWorld<R> {
     }
 
     fn offer(&mut self, link: u64, bytes: &[u8]) -> Result<(), OutOfMemory>
-        ensures ok { OnOk result (told_of self.new ≡ option_map (with_deed (DeedValue.Offered link bytes.now)) (told_of self.old)) }
+        ensures ok { OnOk result (told_of self.new ≡ option_map (with_deed (DeedValue.Offered link bytes.now))
+            (told_of self.old)) }
         ensures err { OnErr result (told_of self.new ≡ told_of self.old) }
         ensures looked { has_looked self.new ≡ has_looked self.old }
         ensures faults { faults_of self.new ≡ faults_of self.old }

@@ -28,7 +28,8 @@ impl Row {
         }
     }
 
-    /// Whether a look comes before any other turn. Where there are both entries and commands, the last turn was a command.
+    /// Whether a look comes before any other turn. Where there are both entries and commands, the last turn was a
+    /// command.
     pub(crate) fn is_full(&self) -> bool
         ensures { result ≡ is_full self.now.entries self.now.commands }
     {

@@ -18,8 +18,9 @@ use std::net::Net;
 use zre_outside::{Input, NextFault};
 use zre_values::{Endpoint, OutOfMemory};
 
-/// A source stands in the queue once, where `is_queued` says so, and keeps its place until a look at it finds nothing. One that
-/// is closed leaves it at its turn. So the queue is no longer than there are sockets, and each has its turn.
+/// A source stands in the queue once, where `is_queued` says so, and keeps its place until a look at it finds
+/// nothing. One that is closed leaves it at its turn. So the queue is no longer than there are sockets, and each has
+/// its turn.
 #[derive(Drop)]
 pub(crate) struct Sockets {
     pub(crate) beacons: Beacons,

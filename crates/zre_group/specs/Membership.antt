@@ -56,26 +56,33 @@ same_bytes g x =
     ] refl
 
 -- the test of a pair, by its parts
-pub is_pair : (g : List ℕ) (k : ℕ) (group : List ℕ) (key : ℕ) → eq_by_cmp by_group (g, k) (group, key) ≡ ((k == key) && same g group)
+pub is_pair : (g : List ℕ) (k : ℕ) (group : List ℕ) (key : ℕ)
+    → eq_by_cmp by_group (g, k) (group, key) ≡ ((k == key) && same g group)
 is_pair g k group key = both_equal _ _ ∙ ap (λ b. b && same g group) (unsigned_tied k key)
 
 -- ---- the laws
 
-pub contains-without_key : (v : Memberships) (key : ℕ) (q : List ℕ × ℕ) → set.contains (without_key v key) q ≡ (set.contains v q && not (q.1 == key))
-contains-without_key v key q = set.contains-retain v (λ pair. not (pair.1 == key)) q (λ x tie. ap (λ (p : List ℕ × ℕ). not (p.1 == key)) (sym (exact q x tie)))
+pub contains-without_key : (v : Memberships) (key : ℕ) (q : List ℕ × ℕ)
+    → set.contains (without_key v key) q ≡ (set.contains v q && not (q.1 == key))
+contains-without_key v key q =
+    set.contains-retain v (λ pair. not (pair.1 == key)) q (λ x tie. ap (λ (p : List ℕ × ℕ). not (p.1 == key))
+    (sym (exact q x tie)))
 
 pub is_member-empty : (group : List ℕ) (key : ℕ) → is_member set.empty group key ≡ false
 is_member-empty group key = set.contains-empty by_group (group, key)
 
-pub is_member-insert : (v : Memberships) (group : List ℕ) (key : ℕ) (g : List ℕ) (k : ℕ) → is_member (set.insert v (group, key)) g k ≡ (((k == key) && bytes_eq group g) || is_member v g k)
+pub is_member-insert : (v : Memberships) (group : List ℕ) (key : ℕ) (g : List ℕ) (k : ℕ)
+    → is_member (set.insert v (group, key)) g k ≡ (((k == key) && bytes_eq group g) || is_member v g k)
 is_member-insert v group key g k =
     set.contains-insert total v (group, key) (g, k)
     ∙ ap (λ b. b || is_member v g k) (is_pair g k group key ∙ ap (λ b. (k == key) && b) (same_bytes g group))
 
-pub is_member-remove : (v : Memberships) (group : List ℕ) (key : ℕ) (g : List ℕ) (k : ℕ) → is_member (set.remove v (group, key)) g k ≡ (not ((k == key) && bytes_eq group g) && is_member v g k)
+pub is_member-remove : (v : Memberships) (group : List ℕ) (key : ℕ) (g : List ℕ) (k : ℕ)
+    → is_member (set.remove v (group, key)) g k ≡ (not ((k == key) && bytes_eq group g) && is_member v g k)
 is_member-remove v group key g k =
     set.contains-remove total v (group, key) (g, k)
     ∙ ap (λ b. not b && is_member v g k) (is_pair g k group key ∙ ap (λ b. (k == key) && b) (same_bytes g group))
 
-pub is_member-without_key : (v : Memberships) (key : ℕ) (g : List ℕ) (k : ℕ) → is_member (without_key v key) g k ≡ (is_member v g k && not (k == key))
+pub is_member-without_key : (v : Memberships) (key : ℕ) (g : List ℕ) (k : ℕ)
+    → is_member (without_key v key) g k ≡ (is_member v g k && not (k == key))
 is_member-without_key v key g k = contains-without_key v key (g, k)

@@ -15,7 +15,8 @@ pub(crate) fn list(
     key: u64,
     group: &[u8],
 ) -> Result<(), OutOfMemory>
-    ensures ok { OnOk result ((g : List ℕ) (k : ℕ) → is_listed joined.new g k ≡ ((key == k && bytes_eq group.now g) || is_listed joined.old g k)) }
+    ensures ok { OnOk result ((g : List ℕ) (k : ℕ)
+        → is_listed joined.new g k ≡ ((key == k && bytes_eq group.now g) || is_listed joined.old g k)) }
     ensures err { OnErr result ((g : List ℕ) (k : ℕ) → is_listed joined.new g k ≡ is_listed joined.old g k) }
 {
     let name = Octets::copy(alloc, group)?;
@@ -30,7 +31,8 @@ pub(crate) fn list(
 
 // Lists a group with a key no more, and leaves the others.
 pub(crate) fn unlist(joined: &mut BTreeMap<u64, Frames>, key: u64, group: &[u8])
-    ensures { (g : List ℕ) (k : ℕ) → (k ≡ key → g ≢ group.now) → is_listed joined.old g k ≡ true → is_listed joined.new g k ≡ true }
+    ensures { (g : List ℕ) (k : ℕ) → (k ≡ key → g ≢ group.now) → is_listed joined.old g k ≡ true
+        → is_listed joined.new g k ≡ true }
 {
     let Some(groups) = joined.get_mut(&key) else {
         return;

@@ -94,7 +94,8 @@ impl Own {
         ensures ok { OnOk result (self.new ≡ with_joined self.old group.now) }
         ensures status { IfOk result (λ status. status ≡ next_status self.old) }
         ensures same { IsTrue (is_joined self.old group.now) → result ≡ Err JoinFault.Same }
-        ensures limit { is_joined self.old group.now ≡ false → length self.old.groups ≡ OWN_GROUPS → result ≡ Err JoinFault.Limit }
+        ensures limit { is_joined self.old group.now ≡ false → length self.old.groups ≡ OWN_GROUPS
+            → result ≡ Err JoinFault.Limit }
         ensures cause { IfErr result (IsCause self.old group.now) }
         ensures err { OnErr result (self.new ≡ self.old) }
     {

@@ -1,4 +1,5 @@
--- What comes about where a connection is opened or shut, and at what arrives on it: its greeting, READY, its first message and later ones.
+-- What comes about where a connection is opened or shut, and at what arrives on it: its greeting, READY, its first
+-- message and later ones.
 use Rattle.std.specs.Prelude.{ℕ, ◌+◌, not, ◌&&◌, List, [], ◌∷◌, ◌++◌, Option, Some, None, if◌then◌else◌, nat_eq, nat_lt, length}
 use Rattle.zre_values.specs.declared.peer_id.PeerId.{PeerId}
 use Rattle.zre_values.specs.declared.endpoint.Endpoint.{Endpoint}
@@ -24,7 +25,8 @@ use Rattle.zre_journal.specs.Pushes.{push, birth}
 
 module _ (g : Config) where
   abbrev pub at_opened : ℕ → List Mark → List Mark
-  at_opened c K = if is_new c K then (if nat_lt (length (open_ones K)) CONNECTIONS then Opens c ∷ [] else TurnsAway c ∷ []) else []
+  at_opened c K = if is_new c K
+      then (if nat_lt (length (open_ones K)) CONNECTIONS then Opens c ∷ [] else TurnsAway c ∷ []) else []
 
   -- the peer that c runs, if it runs one, ends with this cause
   abbrev pub end_of_run : Option ℕ → Cause → List Mark
@@ -42,7 +44,8 @@ module _ (g : Config) where
   abbrev pub start_unknown : ℕ → PeerId → Message → Option Endpoint → List Mark → List Mark
   start_unknown c p m None K = Ignores c ignore.NoEndpoint ∷ []
   start_unknown c p m (Some e) K =
-      if nat_lt (length (lives K)) PEERS then birth g p e K ++ Starts c (births K + 1) m ∷ [] else Ignores c ignore.Full ∷ []
+      if nat_lt (length (lives K)) PEERS then birth g p e K ++ Starts c (births K + 1) m ∷ []
+      else Ignores c ignore.Full ∷ []
 
   abbrev pub start : ℕ → PeerId → Message → Option Life → List Mark → List Mark
   start c p m (Some v) K = Starts c v.link m ∷ []

@@ -1,5 +1,5 @@
--- The chronicle: what has happened, as one list of marks, each entry of the journal and what came about at it, the newest first.
--- Every fact about a moment is a question that is asked of this list.
+-- The chronicle: what has happened, as one list of marks, each entry of the journal and what came about at it, the
+-- newest first. Every fact about a moment is a question that is asked of this list.
 use Rattle.std.specs.Prelude.{ℕ, Bool, false, true, List, [], ◌∷◌, ◌++◌, Option, Some, None, cond}
 use Rattle.zre_values.specs.declared.peer_id.PeerId.{PeerId}
 use Rattle.zre_values.specs.declared.endpoint.Endpoint.{Endpoint}

@@ -45,7 +45,8 @@ closed_conns done = filter_map closes_conn done
 -- connection that was not closed.
 abbrev pub IsPaired : List Act → Act → Type 0
 IsPaired before (act.Connect l to) = l ≡ length (connected before) + 1
-IsPaired before (act.CloseLink l) = (list_any (nat_eq l) (connected before) ≡ true) × (list_any (nat_eq l) (closed_links before) ≡ false)
+IsPaired before (act.CloseLink l) =
+    (list_any (nat_eq l) (connected before) ≡ true) × (list_any (nat_eq l) (closed_links before) ≡ false)
 IsPaired before (act.CloseConn c) = list_any (nat_eq c) (closed_conns before) ≡ false
 IsPaired before _ = Unit {0}
 

@@ -55,7 +55,8 @@ module _ (g : Config) where
       else push_all g (filter (is_member group K) (lives K)) (body.Shout group content) K
 
   abbrev pub at_stop : List Mark → List Mark
-  at_stop K = map (λ (v : Life). Ends v.link cause.Stop) (lives K) ++ map (λ c. ClosesAtStop c) (open_ones K) ++ SendsBeacon 0 ∷ Stops ∷ []
+  at_stop K = map (λ (v : Life). Ends v.link cause.Stop) (lives K) ++ map (λ c. ClosesAtStop c) (open_ones K)
+      ++ SendsBeacon 0 ∷ Stops ∷ []
 
   abbrev pub at_command : Command → List Mark → List Mark
   at_command (command.Join group) K = at_join group K

@@ -19,7 +19,8 @@ is_fitting h = nat_le (length h.0) 255 && nat_le (length h.1) 1024
 -- settings with which a node can be
 abbrev pub is_valid : Config → Bool
 is_valid g =
-    nat_le (length g.name) 255 && nat_le (length g.headers) HEADERS && list_all is_fitting g.headers && are_apart g.headers
+    nat_le (length g.name) 255 && nat_le (length g.headers) HEADERS && list_all is_fitting g.headers
+    && are_apart g.headers
     && nat_lt 0 g.port && nat_le 1 g.evasive && nat_le g.evasive g.expired && nat_le g.expired 86400000
 
 -- where its mailbox is, as its HELLO says it

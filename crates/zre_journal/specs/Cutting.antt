@@ -34,8 +34,13 @@ piece at c octets = record { at = at; input = input.Piece c octets }
 -- done but for offers, which are made at the end of each entry; and the clock and the octets of each connection are
 -- the same.
 pub record IsSameCut (g : Config) (J : List Entry) (at c : ℕ) (a b : List ℕ) : Type 0 where
-  pub happened : but_entries (chronicle g (J ++ piece at c a ∷ piece at c b ∷ [])) ≡ but_entries (chronicle g (J ++ piece at c (a ++ b) ∷ []))
+  pub happened : but_entries (chronicle g (J ++ piece at c a ∷ piece at c b ∷ [])) ≡ but_entries (chronicle g (J
+      ++ piece at c (a ++ b) ∷ []))
   pub told : events g (J ++ piece at c a ∷ piece at c b ∷ []) ≡ events g (J ++ piece at c (a ++ b) ∷ [])
-  pub done : but_offers (acts g (J ++ piece at c a ∷ piece at c b ∷ [])) ≡ but_offers (acts g (J ++ piece at c (a ++ b) ∷ []))
-  pub clock_is : clock (chronicle g (J ++ piece at c a ∷ piece at c b ∷ [])) ≡ clock (chronicle g (J ++ piece at c (a ++ b) ∷ []))
-  pub octets_are : (d : ℕ) → bytes d (chronicle g (J ++ piece at c a ∷ piece at c b ∷ [])) ≡ bytes d (chronicle g (J ++ piece at c (a ++ b) ∷ []))
+  pub done : but_offers (acts g (J ++ piece at c a ∷ piece at c b ∷ [])) ≡ but_offers (acts g (J
+      ++ piece at c (a ++ b) ∷ []))
+  pub clock_is : clock (chronicle g (J ++ piece at c a ∷ piece at c b ∷ [])) ≡ clock (chronicle g (J
+      ++ piece at c (a ++ b) ∷ []))
+  pub octets_are : (d : ℕ)
+      → bytes d (chronicle g (J ++ piece at c a ∷ piece at c b ∷ [])) ≡ bytes d (chronicle g (J
+      ++ piece at c (a ++ b) ∷ []))

@@ -31,6 +31,8 @@ pub record Keeps (J : List Entry) (H : List Mark) : Type 0 where
   pub entries_are : entries H ≡ J
   pub clock_is : clock H ≡ greatest J
   pub none_before_opening : (c : ℕ) → was_opened c H ≡ false → bytes c H ≡ []
-  pub octets_are : (c : ℕ) (later before : List Mark) → H ≡ later ++ Opens c ∷ before → was_opened c before ≡ false → bytes c H ≡ carried (piece_of c) (entries later)
+  pub octets_are : (c : ℕ) (later before : List Mark) → H ≡ later ++ Opens c ∷ before → was_opened c before ≡ false
+      → bytes c H ≡ carried (piece_of c) (entries later)
   pub none_before_linking : (l : ℕ) → is_linked l H ≡ false → replies l H ≡ []
-  pub replies_are : (l : ℕ) (later before : List Mark) → H ≡ later ++ Links l ∷ before → is_linked l before ≡ false → replies l H ≡ carried (reply_of l) (entries later)
+  pub replies_are : (l : ℕ) (later before : List Mark) → H ≡ later ++ Links l ∷ before → is_linked l before ≡ false
+      → replies l H ≡ carried (reply_of l) (entries later)

@@ -34,7 +34,9 @@ pub record RunsAlone (H : List Mark) : Type 0 where
 
 -- No two open connections have one identity.
 abbrev pub AreStrangers : List Mark → Type 0
-AreStrangers H = (c d : ℕ) (p : PeerId) → is_open c H ≡ true → is_open d H ≡ true → identity c H ≡ Some p → identity d H ≡ Some p → c ≡ d
+AreStrangers H =
+    (c d : ℕ) (p : PeerId) → is_open c H ≡ true → is_open d H ≡ true → identity c H ≡ Some p → identity d H ≡ Some p
+    → c ≡ d
 
 -- No two known peers have one id, and at most 256 are known; at most 512 connections are open.
 pub record AreFew (H : List Mark) : Type 0 where
@@ -56,8 +58,8 @@ message_on c _ = None
 abbrev pub counted_on : ℕ → List Mark → List Message
 counted_on c H = each (message_on c) H
 
--- The messages that were counted on a connection are in order. A known peer that c has run is still run by c, all its messages came on c, and its
--- view is what they lead to.
+-- The messages that were counted on a connection are in order. A known peer that c has run is still run by c, all its
+-- messages came on c, and its view is what they lead to.
 pub record ShowsItsMessages (H : List Mark) : Type 0 where
   pub are_ordered : (c : ℕ) → in_order (counted_on c H) ≡ true
   pub still_runs : (c l : ℕ) → IsSome (life l H) → runner l H ≡ Some c → runs c H ≡ Some l

@@ -1,4 +1,5 @@
--- What comes about on the node's own connections, its links: one is up, a reply arrives on it, it broke, octets went out on it.
+-- What comes about on the node's own connections, its links: one is up, a reply arrives on it, it broke, octets went
+-- out on it.
 use Rattle.std.specs.Prelude.{ℕ, ◌-◌, min, List, [], ◌∷◌, Option, Some, None, if◌then◌else◌}
 use Rattle.zre_zmtp.specs.declared.fault.ZmtpFault.{ZmtpFault}
 use Rattle.zre_peer.specs.declared.causes.Cause.TheVariants as cause

@@ -1,4 +1,5 @@
--- What holds of the chronicle of every journal: links are numbered by births, no life ends twice, and a peer is run by one connection, its own.
+-- What holds of the chronicle of every journal: links are numbered by births, no life ends twice, and a peer is run
+-- by one connection, its own.
 use Rattle.std.specs.Prelude.{◌≡◌, ℕ, ◌<◌, ◌≤◌, Bool, true, false, List, [], ◌∷◌, Option, Some, None, IsSome, nat_eq}
 use Rattle.std.specs.List.{AllByRecursion, list_any, find}
 use Rattle.zre_values.specs.declared.peer_id.PeerId.{PeerId}
@@ -16,7 +17,8 @@ Apart key [] = Unit {0}
 Apart key (x ∷ xs) = AllByRecursion (λ y. nat_eq (key x) (key y) ≡ false) xs × Apart key xs
 
 -- nothing has come about on a link
-pub record AreUnused (ended : Bool) (run : Option ℕ) (put : List Body) (linked : Bool) (replied : List ℕ) (gone : ℕ) : Type 0 where
+pub record AreUnused (ended : Bool) (run : Option ℕ) (put : List Body) (linked : Bool) (replied : List ℕ) (gone : ℕ)
+    : Type 0 where
   pub no_end : ended ≡ false
   pub no_run : run ≡ None
   pub no_body : put ≡ []
@@ -53,18 +55,23 @@ pub record AreOpen (cs : List ℕ) (is_newer : ℕ → Bool) (opened : ℕ → B
   pub rises : (c d : ℕ) → is_newer c ≡ true → c ≤ d → is_newer d ≡ true
   pub unheard : (c : ℕ) → is_newer c ≡ true → Unheard c
 
--- runs: a connection runs the peer that it started, an open one with the identity of that peer, and is the only one of that identity
-pub record AreRuns (vs : List Life) (cs : List ℕ) (ended : ℕ → Bool) (run start : ℕ → Option ℕ) (who : ℕ → Option PeerId) (messages : ℕ → List Message) : Type 0 where
+-- runs: a connection runs the peer that it started, an open one with the identity of that peer, and is the only one
+-- of that identity
+pub record AreRuns (vs : List Life) (cs : List ℕ) (ended : ℕ → Bool) (run start : ℕ → Option ℕ)
+    (who : ℕ → Option PeerId) (messages : ℕ → List Message) : Type 0 where
   pub one_run : (c l : ℕ) → start c ≡ Some l → ended l ≡ false → run l ≡ Some c
   pub in_life : (c l : ℕ) → start c ≡ Some l → ended l ≡ false → IsSome (find (λ (v : Life). nat_eq l v.link) vs)
   pub its_run : (c l : ℕ) → run l ≡ Some c → ended l ≡ false → start c ≡ Some l
   pub is_introduced : (c l : ℕ) → start c ≡ Some l → IsSome (who c)
   pub is_silent : (l : ℕ) → run l ≡ None → messages l ≡ []
-  pub is_its_own : (c l : ℕ) (v : Life) → run l ≡ Some c → ended l ≡ false → find (λ (u : Life). nat_eq l u.link) vs ≡ Some v → who c ≡ Some v.id
+  pub is_its_own : (c l : ℕ) (v : Life) → run l ≡ Some c → ended l ≡ false
+      → find (λ (u : Life). nat_eq l u.link) vs ≡ Some v → who c ≡ Some v.id
   pub is_heard : (c l : ℕ) → run l ≡ Some c → ended l ≡ false → list_any (nat_eq c) cs ≡ true
-  pub is_sole : (c d : ℕ) (p : PeerId) → list_any (nat_eq c) cs ≡ true → list_any (nat_eq d) cs ≡ true → who c ≡ Some p → who d ≡ Some p → c ≡ d
+  pub is_sole : (c d : ℕ) (p : PeerId) → list_any (nat_eq c) cs ≡ true → list_any (nat_eq d) cs ≡ true
+      → who c ≡ Some p → who d ≡ Some p → c ≡ d
 
 pub record IsProper (H : List Mark) : Type 0 where
   pub living : AreLives (lives H) (births H) (λ l. has_ended l H) (λ l. IsUnused l H)
   pub opening : AreOpen (open_ones H) (λ c. is_new c H) (λ c. was_opened c H) (λ c. IsUnheard c H)
-  pub running : AreRuns (lives H) (open_ones H) (λ l. has_ended l H) (λ l. runner l H) (λ c. started c H) (λ c. identity c H) (λ l. counted l H)
+  pub running : AreRuns (lives H) (open_ones H) (λ l. has_ended l H) (λ l. runner l H) (λ c. started c H)
+      (λ c. identity c H) (λ l. counted l H)

@@ -44,15 +44,18 @@ entered_if (Some v) H = is_entered H v
 abbrev pub has_entered : PeerId → List Mark → Bool
 has_entered p H = entered_if (life_of p H) H
 
--- An event of a peer is its ENTER where the peer isn't in, and another where it is. So all that is told of it stands between an ENTER and the next EXIT,
--- and H, from which the events come, says the same of who is in.
+-- An event of a peer is its ENTER where the peer isn't in, and another where it is. So all that is told of it stands
+-- between an ENTER and the next EXIT, and H, from which the events come, says the same of who is in.
 pub record AreInTurn (es : List Event) (H : List Mark) : Type 0 where
-  pub enters_first : (before later : List Event) (e : Event) (p : PeerId) → es ≡ before ++ e ∷ later → subject e ≡ Some p → is_enter e ≡ not (is_in p before)
+  pub enters_first : (before later : List Event) (e : Event) (p : PeerId) → es ≡ before ++ e ∷ later
+      → subject e ≡ Some p → is_enter e ≡ not (is_in p before)
   pub stands : (p : PeerId) → is_in p es ≡ has_entered p H
 
--- the events of a run of p, with one more event, where these were so far: ENTER begins a run anew, and EVASIVE isn't counted
+-- the events of a run of p, with one more event, where these were so far: ENTER begins a run anew, and EVASIVE isn't
+-- counted
 abbrev pub run_with : PeerId → List Event → Event → List Event
-run_with p es (event.Enter id name endpoint headers) = if bytes_eq p.0 id.0 then event.Enter id name endpoint headers ∷ [] else es
+run_with p es (event.Enter id name endpoint headers) =
+    if bytes_eq p.0 id.0 then event.Enter id name endpoint headers ∷ [] else es
 run_with p es (event.Evasive id name) = es
 run_with p es e = if is_same p (subject e) then es ++ e ∷ [] else es
 
@@ -60,6 +63,8 @@ run_with p es e = if is_same p (subject e) then es ++ e ∷ [] else es
 abbrev pub run_of : PeerId → List Event → List Event
 run_of p es = fold (run_with p) [] es
 
--- What was told of an entered peer since its ENTER is what the messages of its connection tell, in their order and without a gap.
+-- What was told of an entered peer since its ENTER is what the messages of its connection tell, in their order and
+-- without a gap.
 abbrev pub FollowsMessages : List Event → List Mark → Type 0
-FollowsMessages es H = (c l : ℕ) (v : Life) → life l H ≡ Some v → runner l H ≡ Some c → run_of v.id es ≡ told v.id (counted_on c H)
+FollowsMessages es H =
+    (c l : ℕ) (v : Life) → life l H ≡ Some v → runner l H ≡ Some c → run_of v.id es ≡ told v.id (counted_on c H)

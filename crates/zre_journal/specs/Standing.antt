@@ -16,7 +16,8 @@ pub record WasBorn (l : ℕ) (p : PeerId) (to : Endpoint) (H : List Mark) : Type
 -- A peer is known exactly where its birth stands and no end of it after that.
 pub record KnownIsBorn (H : List Mark) : Type 0 where
   pub was_born : (l : ℕ) (v : Life) → life l H ≡ Some v → WasBorn l v.id v.endpoint H
-  pub is_known : (l : ℕ) (p : PeerId) (to : Endpoint) → WasBorn l p to H → life l H ≡ Some (record { link = l; id = p; endpoint = to })
+  pub is_known : (l : ℕ) (p : PeerId) (to : Endpoint) → WasBorn l p to H
+      → life l H ≡ Some (record { link = l; id = p; endpoint = to })
 
 -- whether the mark closes c
 abbrev pub closes : ℕ → Mark → Bool

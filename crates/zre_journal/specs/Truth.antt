@@ -14,7 +14,14 @@ use Rattle.zre_journal.specs.Peers.{life}
 
 -- the view of the node that is true now: its settings, its groups and its status
 abbrev pub own_view : Config → List Mark → View
-own_view g H = record { name = g.name; endpoint = own_endpoint g; headers = first_named g.headers; groups = groups H; status = status H }
+own_view g H =
+    record {
+      name = g.name;
+      endpoint = own_endpoint g;
+      headers = first_named g.headers;
+      groups = groups H;
+      status = status H;
+    }
 
 -- the first of these is HELLO, and no other is
 abbrev pub only_begins_with_hello : List Body → Bool

@@ -37,7 +37,8 @@ pub fn a_stop_is_the_end()
 
 /// A node has stopped only where an entry tells it to: the journal's end, or a quit.
 pub fn a_stop_is_told()
-    ensures { (g : Config) (J : List Entry) → CanBe g → has_stopped (chronicle g J) ≡ true → list_any (λ e. is_end e.input) J ≡ true }
+    ensures { (g : Config) (J : List Entry) → CanBe g → has_stopped (chronicle g J) ≡ true
+        → list_any (λ e. is_end e.input) J ≡ true }
 {}
 
 /// What holds of the chronicle of every journal: links are numbered by births, nothing has come about on a new link or
@@ -93,7 +94,8 @@ pub fn hello_fits()
 
 /// Where a link is to be looked at, its peer is known and it has octets that may go out.
 pub fn offers_are_due()
-    ensures { (g : Config) (J : List Entry) (e : Entry) → AreDue g (chronicle g (J ++ e ∷ [])) (acts_after g (e ∷ []) (chronicle g J)) }
+    ensures { (g : Config) (J : List Entry) (e : Entry)
+        → AreDue g (chronicle g (J ++ e ∷ [])) (acts_after g (e ∷ []) (chronicle g J)) }
 {}
 
 /// What a node holds has a limit in each part, and so altogether one that its known peers and its open connections set:
@@ -121,7 +123,8 @@ pub fn open_is_opened_and_not_closed()
 
 /// After a stop no peer is known, no connection is open, and STOP is the last event.
 pub fn a_stop_leaves_nothing()
-    ensures { (g : Config) (J : List Entry) → has_stopped (chronicle g J) ≡ true → LeavesNothing (events g J) (chronicle g J) }
+    ensures { (g : Config) (J : List Entry) → has_stopped (chronicle g J) ≡ true
+        → LeavesNothing (events g J) (chronicle g J) }
 {}
 
 /// Acts pair up: links are connected under the numbers 1, 2, 3 and so on; each is closed at most once, after its
@@ -141,8 +144,8 @@ pub fn a_node_tells_the_truth()
     ensures { (g : Config) (J : List Entry) → TellsTruth g (chronicle g J) }
 {}
 
-/// What was counted on a connection is a front of the messages that its octets say. Where it runs a peer, that is all of
-/// them, and the octets have no fault.
+/// What was counted on a connection is a front of the messages that its octets say. Where it runs a peer, that is all
+/// of them, and the octets have no fault.
 pub fn a_run_is_its_octets()
     ensures { (g : Config) (J : List Entry) → RunsOnOctets g (chronicle g J) }
 {}
@@ -150,7 +153,8 @@ pub fn a_run_is_its_octets()
 /// After a tick no known peer was silent for the time after which it expires, and no open connection ran no peer for
 /// that time.
 pub fn a_tick_cleans_up()
-    ensures { (g : Config) (J : List Entry) (e : Entry) → is_valid g ≡ true → e.input ≡ Tick → IsClean g (chronicle g (J ++ e ∷ [])) }
+    ensures { (g : Config) (J : List Entry) (e : Entry) → is_valid g ≡ true → e.input ≡ Tick
+        → IsClean g (chronicle g (J ++ e ∷ [])) }
 {}
 
 /// A piece that is cut in two at the same reading brings about the same: the same is told, and the same is done but for

@@ -1,5 +1,6 @@
-//! What a journal means: which connections are open and which peers are known, what the node tells, and what it asks of
-//! the outside. The definitions stand in `specs/`; [`Config`] is the one type that they speak of and no crate below has.
+//! What a journal means: which connections are open and which peers are known, what the node tells, and what it asks
+//! of the outside. The definitions stand in `specs/`; [`Config`] is the one type that they speak of and no crate
+//! below has.
 #![tactic(auto)]
 
 mod config;

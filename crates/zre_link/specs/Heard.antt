@@ -24,7 +24,13 @@ awaited o = expected Whole (split Router Whole o).0
 
 -- what a reader keeps after replies without a fault
 abbrev pub reading : List ℕ → Reading
-reading o = record { before = before Whole (split Router Whole o).0; left = (split Router Whole o).1; spent = false; wanted = Router }
+reading o =
+    record {
+      before = before Whole (split Router Whole o).0;
+      left = (split Router Whole o).1;
+      spent = false;
+      wanted = Router;
+    }
 
 -- a fault ends the reading, and stays
 abbrev pub hearing_by : Option ZmtpFault → Reading → Hearing

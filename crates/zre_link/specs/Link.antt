@@ -12,8 +12,9 @@ use Rattle.zre_link.specs.Heard.{awaited, Heard, heard_after}
 
 -- ---- what contracts see of a link
 
--- the octets that haven't gone out (queue), how many bodies were put (sent), how many octets they make with the greeting
--- and READY (written), how many have gone out (taken), whether the link stands, and what is kept of the replies
+-- the octets that haven't gone out (queue), how many bodies were put (sent), how many octets they make with the
+-- greeting and READY (written), how many have gone out (taken), whether the link stands, and what is kept of the
+-- replies
 pub record Sending : Type 0 where
   pub queue : List ℕ
   pub sent : ℕ
@@ -35,7 +36,8 @@ link_after own bodies linked o n = record {
 
 -- ---- what goes out
 
--- how many of all these octets may go out: the greeting at once, READY after the greeting of the other end, and the messages after its READY
+-- how many of all these octets may go out: the greeting at once, READY after the greeting of the other end, and the
+-- messages after its READY
 abbrev pub gate_by : Expected → ℕ → ℕ
 gate_by expect.Greeting all = 64
 gate_by expect.Ready all = 124

@@ -25,8 +25,8 @@ use zre_values::{Octets, OutOfMemory, PeerId};
 use zre_zmtp::{FeedFault, SocketType, greeting, ready};
 
 /// The connection of a node to the mailbox of a peer. The node speaks as a DEALER with the identity 01 and its UUID:
-/// its greeting, READY, and then the messages that are put, numbered from 1. The octets wait here until the socket takes
-/// them, each kind once the other end has come far enough.
+/// its greeting, READY, and then the messages that are put, numbered from 1. The octets wait here until the socket
+/// takes them, each kind once the other end has come far enough.
 #[derive(Drop)]
 pub struct Link {
     alloc: Global,
@@ -223,8 +223,8 @@ impl Link {
         self.sent
     }
 
-    /// How many octets of the replies are kept: those of the bodies of an unfinished message, and those of an unfinished
-    /// greeting or frame.
+    /// How many octets of the replies are kept: those of the bodies of an unfinished message, and those of an
+    /// unfinished greeting or frame.
     pub fn kept(&self) -> u64
         ensures { (own : PeerIdValue) (bodies : List BodyValue) (linked : Bool) (o : List ℕ) (n : ℕ) →
             self.now ≡ link_after own bodies linked o n →

@@ -64,7 +64,8 @@ impl Queue {
         self.octets.append(octets.as_slice())
     }
 
-    /// Removes so many octets from the front, or all. Where no memory is left to move the others, they stay where they are.
+    /// Removes so many octets from the front, or all. Where no memory is left to move the others, they stay where
+    /// they are.
     pub fn remove(&mut self, count: usize)
         ensures { self.new ≡ drop count self.old }
     {

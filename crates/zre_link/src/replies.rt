@@ -92,7 +92,8 @@ impl Replies {
         self.awaits
     }
 
-    /// How many octets are kept: those of the bodies of an unfinished message, and those of an unfinished greeting or frame.
+    /// How many octets are kept: those of the bodies of an unfinished message, and those of an unfinished greeting or
+    /// frame.
     pub fn kept(&self) -> u64
         ensures { (o : List ℕ) → self.now ≡ heard_after o →
             (result ≡ kept_of (heard_after o)) × (result ≤ MESSAGE_OCTETS + 9 + COMMAND_OCTETS) }

@@ -35,7 +35,8 @@ pub record Hearing : Type 0 where
 
 -- what a reader keeps after octets without a fault
 abbrev pub reading : Want → Kind → List ℕ → Reading
-reading want kind o = record { before = before kind (split want kind o).0; left = (split want kind o).1; spent = false; wanted = want }
+reading want kind o =
+    record { before = before kind (split want kind o).0; left = (split want kind o).1; spent = false; wanted = want }
 
 -- a fault ends the reading
 abbrev pub phase_by : Option ZmtpFault → Reading → Phase
@@ -44,7 +45,8 @@ phase_by (Some f) r = Spent
 
 -- the connection after the octets o, which came in whichever pieces
 abbrev pub conn_after : PeerId → List ℕ → Hearing
-conn_after own o = record { phase = phase_by (fault_in own o) (reading (Dealer own) Whole o); identity = identity_in (arrivals own o) }
+conn_after own o =
+    record { phase = phase_by (fault_in own o) (reading (Dealer own) Whole o); identity = identity_in (arrivals own o) }
 
 -- the same connection, ignored from now on
 abbrev pub ignoring : Hearing → Hearing
@@ -87,9 +89,11 @@ pub record Takes (taken : List Arrival) (known known' : Option PeerId) (out out'
   pub appended : out' ≡ out ++ taken
   pub identity : known' ≡ option_or known (identity_in taken)
 
--- After the octets o a piece was read: what it completes of all that is said is what was appended, and the fault, where there is one.
+-- After the octets o a piece was read: what it completes of all that is said is what was appended, and the fault,
+-- where there is one.
 pub record Hears (own : PeerId) (o piece : List ℕ) (now : Hearing) (out out' : List Arrival) : Type 0 where
   pub now_is : now ≡ conn_after own (o ++ piece)
   pub appended : out' ≡ out ++ new_arrivals own o piece
   pub arrived : arrivals own (o ++ piece) ≡ arrivals own o ++ new_arrivals own o piece
-  pub completes : completed own o piece ≡ map (λ a. Arrived a) (new_arrivals own o piece) ++ fault_said (fault_in own (o ++ piece))
+  pub completes : completed own o piece ≡ map (λ a. Arrived a) (new_arrivals own o piece)
+      ++ fault_said (fault_in own (o ++ piece))

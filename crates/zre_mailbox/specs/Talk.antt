@@ -1,4 +1,5 @@
--- What an incoming connection says, read off all of its octets: its greeting, READY, the messages of ZRE, and its fault.
+-- What an incoming connection says, read off all of its octets: its greeting, READY, the messages of ZRE, and its
+-- fault.
 use Rattle.std.specs.Prelude.{◌≡◌, ◌≢◌, ◌⊎◌, ℕ, Bool, true, false, ◌==◌, ◌&&◌, if◌then◌else◌, List, [], ◌∷◌, ◌++◌, length, drop, map, slice_index, Option, Some, None, option_map, option_and_then, option_to_list}
 use Rattle.std.specs.Result.{result_ok}
 use Rattle.std.specs.List.{filter_map, list_any}
@@ -16,7 +17,8 @@ use Rattle.zre_mailbox.specs.declared.arrival.Arrival.TheVariants.{Greeted, Shak
 
 -- the peer with that identity, which is 01 and a UUID (RFC 36)
 abbrev pub peer_of : List ℕ → Option PeerId
-peer_of identity = if length identity == 17 && slice_index identity 0 == 1 then Some (record { 0 = drop 1 identity }) else None
+peer_of identity =
+    if length identity == 17 && slice_index identity 0 == 1 then Some (record { 0 = drop 1 identity }) else None
 
 -- what arrives with an item: commands are none, and neither are messages outside the grammar
 abbrev pub arrival_of : What → Option Arrival
@@ -62,8 +64,10 @@ new_arrivals own o more = drop (length (arrivals own o)) (arrivals own (o ++ mor
 pub record Goes (own : PeerId) (o more : List ℕ) : Type 0 where
   pub said : talk own (o ++ more) ≡ talk own o ++ completed own o more
   pub arrived : arrivals own (o ++ more) ≡ arrivals own o ++ new_arrivals own o more
-  pub faultless : fault_in own o ≡ None → completed own o more ≡ map (λ a. Arrived a) (new_arrivals own o more) ++ fault_said (fault_in own (o ++ more))
-  pub over : (f : ZmtpFault) → fault_in own o ≡ Some f → (talk own (o ++ more) ≡ talk own o) × (completed own o more ≡ [])
+  pub faultless : fault_in own o ≡ None → completed own o more ≡ map (λ a. Arrived a) (new_arrivals own o more)
+      ++ fault_said (fault_in own (o ++ more))
+  pub over : (f : ZmtpFault) → fault_in own o ≡ Some f → (talk own (o ++ more) ≡ talk own o)
+      × (completed own o more ≡ [])
 
 -- The greeting came, then READY of one peer, which isn't the node itself, and then messages.
 pub record Introduced (own : PeerId) (came : List Arrival) : Type 0 where

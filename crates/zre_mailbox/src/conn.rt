@@ -17,8 +17,8 @@ use std::marker::Model;
 use zre_values::PeerId;
 use zre_zmtp::{FeedFault, Items, Reader, Want};
 
-/// A connection that another node opened, read as a ROUTER: its other end has to be a DEALER whose identity is 01 and the
-/// UUID of another node.
+/// A connection that another node opened, read as a ROUTER: its other end has to be a DEALER whose identity is 01 and
+/// the UUID of another node.
 #[derive(Drop)]
 pub struct Conn {
     alloc: Global,
@@ -105,7 +105,8 @@ impl Conn {
         self.phase = Phase::Ignored;
     }
 
-    /// How many octets are kept: those of the bodies of an unfinished message, and those of an unfinished greeting or frame.
+    /// How many octets are kept: those of the bodies of an unfinished message, and those of an unfinished greeting or
+    /// frame.
     pub fn kept(&self) -> u64
         ensures kept { (own : PeerIdValue) (o : List ℕ) → self.now ≡ conn_after own o →
             (result ≡ kept_of self.now) × (result ≤ MESSAGE_OCTETS + 9 + COMMAND_OCTETS) }

@@ -12,7 +12,8 @@ pub fn talk_grows()
 
 /// However octets are cut, they say the same.
 pub fn completed_in_turn()
-    ensures { (own : PeerId) (o a b : List ℕ) → completed own o (a ++ b) ≡ completed own o a ++ completed own (o ++ a) b }
+    ensures { (own : PeerId) (o a b : List ℕ) → completed own o (a ++ b) ≡ completed own o a
+        ++ completed own (o ++ a) b }
 {}
 
 /// No octets say nothing.
@@ -20,7 +21,8 @@ pub fn nothing_said()
     ensures { (own : PeerId) → talk own [] ≡ [] }
 {}
 
-/// What arrives is the greeting, then one peer, which isn't the node itself, and then messages: as much of that as came.
+/// What arrives is the greeting, then one peer, which isn't the node itself, and then messages: as much of that as
+/// came.
 pub fn arrivals_are_in_order()
     ensures { (own : PeerId) (o : List ℕ) → IsInOrder own (arrivals own o) }
 {}
@@ -32,5 +34,6 @@ pub fn ready_introduces()
 
 /// Who was introduced stays so.
 pub fn identity_stays()
-    ensures { (own : PeerId) (o more : List ℕ) (peer : PeerId) → identity_in (arrivals own o) ≡ Some peer → identity_in (arrivals own (o ++ more)) ≡ Some peer }
+    ensures { (own : PeerId) (o more : List ℕ) (peer : PeerId) → identity_in (arrivals own o) ≡ Some peer
+        → identity_in (arrivals own (o ++ more)) ≡ Some peer }
 {}

@@ -24,7 +24,8 @@ Opens (Ok (Some x)) first more = read_of first more ≡ Ok (record { sequence = 
 Opens (Ok None) first more = OpensHello first
 Opens (Err e) first more = Answers (Err e) (read_of first more)
 
--- a call saw the message that the frames mean, or that they begin as HELLO does, or answered with what is wrong with them
+-- a call saw the message that the frames mean, or that they begin as HELLO does, or answered with what is wrong with
+-- them
 abbrev pub Sees : Result (Option LentMessage) ReadFault → List (List ℕ) → Type 0
 Sees (Ok (Some lent)) frames = read_frames frames ≡ Ok (message_of lent)
 Sees (Ok None) frames = OpensHello (slice_index_or frames 0 [])

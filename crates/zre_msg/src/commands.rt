@@ -82,7 +82,8 @@ fn read_shout(octets: &[u8]) -> Result<(Command<'_>, &[u8]), Stop>
 /// The command with this number, which isn't that of HELLO, and the octets that are left over after its fields.
 pub fn read_command(number: u8, octets: &[u8]) -> Result<(Command<'_>, &[u8]), Stop>
     requires { number ≢ 1 }
-    ensures { (more : List (List ℕ)) → Gives (λ x. (body_of x.0 more, x.1.now)) result (body_at number more octets.now) }
+    ensures { (more : List (List ℕ))
+        → Gives (λ x. (body_of x.0 more, x.1.now)) result (body_at number more octets.now) }
 {
     match number {
         2 => Ok((Command::Whisper, octets)),

@@ -67,7 +67,8 @@ fn fields_len(body: &Body) -> u64
 
 // The length of the frame with a body of this length.
 fn frame_len(len: u64) -> u64
-    ensures { (flags : ℕ) (body : List ℕ) → len ≡ min (length body) (2 ^ 64 - 1) → result ≡ min (length (frame flags body)) (2 ^ 64 - 1) }
+    ensures { (flags : ℕ) (body : List ℕ) → len ≡ min (length body) (2 ^ 64 - 1)
+        → result ≡ min (length (frame flags body)) (2 ^ 64 - 1) }
 {
     len.saturating_add(if len < 256 { 2 } else { 9 })
 }

@@ -17,8 +17,11 @@ use Rattle.zre_node.specs.declared.first.Place.TheVariants.{Known, New, Nowhere}
 -- where the peer of a first message is to be reached
 abbrev pub IsPlace : Config → PeerId → Message → List Mark → Place → Type 0
 IsPlace g p m H (Known l) = (v : Life) × (life_of p H ≡ Some v) × (v.link ≡ l)
-IsPlace g p m H (New e) = (life_of p H ≡ None) × (endpoint_in (view_of (m ∷ [])).endpoint ≡ Some e) × (length (lives H) < 256)
-IsPlace g p m H (Nowhere why) = (life_of p H ≡ None) × ((c : ℕ) → start_unknown g c p m (endpoint_in (view_of (m ∷ [])).endpoint) H ≡ Ignores c why ∷ [])
+IsPlace g p m H (New e) =
+    (life_of p H ≡ None) × (endpoint_in (view_of (m ∷ [])).endpoint ≡ Some e) × (length (lives H) < 256)
+IsPlace g p m H (Nowhere why) =
+    (life_of p H ≡ None)
+    × ((c : ℕ) → start_unknown g c p m (endpoint_in (view_of (m ∷ [])).endpoint) H ≡ Ignores c why ∷ [])
 
 -- why a first message makes no run: of OutOfMemory nothing is said
 abbrev pub IsFirstFault : RunFault → Message → Type 0

@@ -13,8 +13,12 @@ use Rattle.zre_node.specs.declared.peer.Peer.{Peer}
 -- the offers of the rows on whose links something was put
 abbrev pub offered_among : List ℕ → List (ℕ × Peer) → List Act
 offered_among pushed [] = []
-offered_among pushed (e ∷ es) = if list_any (nat_eq e.0) pushed && has_front e.1.link then act.Offer e.0 ∷ offered_among pushed es else offered_among pushed es
+offered_among pushed (e ∷ es) =
+    if list_any (nat_eq e.0) pushed && has_front e.1.link then act.Offer e.0 ∷ offered_among pushed es
+    else offered_among pushed es
 
 -- the same of the known peers
 abbrev pub offered : Config → List Mark → List ℕ → List Act
-offered g K pushed = map (λ (v : Life). act.Offer v.link) (filter (λ (v : Life). list_any (nat_eq v.link) pushed && nat_lt (taken v.link K) (gate g v.link K)) (lives K))
+offered g K pushed =
+    map (λ (v : Life). act.Offer v.link)
+    (filter (λ (v : Life). list_any (nat_eq v.link) pushed && nat_lt (taken v.link K) (gate g v.link K)) (lives K))

@@ -44,7 +44,8 @@ abbrev pub HasRun : Option ℕ → PeerId → List Message → Option Running �
 HasRun None id messages o = o ≡ None
 HasRun (Some c) id messages o = (x : Running) × (o ≡ Some x) × IsRunning c id messages x
 
-pub record IsKept (id : PeerId) (now : ℕ) (run : Option ℕ) (messages : List Message) (link : Sending) (k : Peer) : Type 0 where
+pub record IsKept (id : PeerId) (now : ℕ) (run : Option ℕ) (messages : List Message) (link : Sending) (k : Peer)
+    : Type 0 where
   pub id_is : k.id ≡ id
   pub active_is : k.active ≡ now
   pub run_is : HasRun run id messages k.run
@@ -67,7 +68,13 @@ heard_by false own o = Some (conn_after own o)
 
 -- what is kept of an open connection
 abbrev pub kept_conn : Config → List Mark → ℕ → Connection
-kept_conn g H c = record { since = since c H; identity = identity c H; run = runs c H; conn = heard_by (is_ignored c H) g.id (bytes c H) }
+kept_conn g H c =
+    record {
+      since = since c H;
+      identity = identity c H;
+      run = runs c H;
+      conn = heard_by (is_ignored c H) g.id (bytes c H);
+    }
 
 abbrev pub IsConn : Config → List Mark → ℕ → Connection → Type 0
 IsConn g H c k = k ≡ kept_conn g H c

@@ -45,24 +45,27 @@ fn view_of(peers: &BTreeMap<u64, Peer>, id: PeerId) -> Option<&View>
 }
 
 impl Node {
-    /// What the peer with this id has told in its run: its name, its endpoint, its headers and its groups. None where it isn't
-    /// entered.
+    /// What the peer with this id has told in its run: its name, its endpoint, its headers and its groups. None where
+    /// it isn't entered.
     pub fn peer(&self, id: PeerId) -> Option<&View>
-        ensures { (g : ConfigValue) (J : List EntryValue) → StandsFor g J self.now → option_copied result ≡ view_after g J id }
+        ensures { (g : ConfigValue) (J : List EntryValue) → StandsFor g J self.now
+            → option_copied result ≡ view_after g J id }
     {
         view_of(&self.tables.peers, id)
     }
 
     /// The entered peers, in order of birth.
     pub fn peers(&self) -> Result<Ids, OutOfMemory>
-        ensures { (g : ConfigValue) (J : List EntryValue) → StandsFor g J self.now → IfOk result (λ ids. ids ≡ entered_after g J) }
+        ensures { (g : ConfigValue) (J : List EntryValue) → StandsFor g J self.now
+            → IfOk result (λ ids. ids ≡ entered_after g J) }
     {
         entered(self.tables.alloc, &self.tables.peers)
     }
 
     /// How many peers are known.
     pub fn known(&self) -> usize
-        ensures { (g : ConfigValue) (J : List EntryValue) → StandsFor g J self.now → result ≡ length (lives (chronicle g J)) }
+        ensures { (g : ConfigValue) (J : List EntryValue) → StandsFor g J self.now
+            → result ≡ length (lives (chronicle g J)) }
     {
         self.tables.peers.len()
     }
@@ -74,8 +77,8 @@ impl Node {
         link_of(&self.tables.peers, id)
     }
 
-    /// Octets that may go out on a link now: the first of them at least, where there are any. None where the link isn't that of
-    /// a known peer.
+    /// Octets that may go out on a link now: the first of them at least, where there are any. None where the link
+    /// isn't that of a known peer.
     pub fn front(&self, link: u64) -> Option<&[u8]>
         ensures front { (g : ConfigValue) (J : List EntryValue) → StandsFor g J self.now →
             HasFront (front_after g J link) (option_map (λ r. r.now) result) }
@@ -98,10 +101,11 @@ impl Node {
         }
     }
 
-    /// How many octets the node keeps. Of each connection that is heard, and of the replies on each link, they are those of
-    /// the bodies of an unfinished message and of an unfinished greeting or frame; of each link those that wait; of each
-    /// entered peer the name, the endpoint, the headers and the groups that it has told; and of the node itself the name,
-    /// the headers and the groups. Neither room that lists keep in reserve is counted nor what is of one size in each row.
+    /// How many octets the node keeps. Of each connection that is heard, and of the replies on each link, they are
+    /// those of the bodies of an unfinished message and of an unfinished greeting or frame; of each link those that
+    /// wait; of each entered peer the name, the endpoint, the headers and the groups that it has told; and of the
+    /// node itself the name, the headers and the groups. Neither room that lists keep in reserve is counted nor what
+    /// is of one size in each row.
     pub fn held(&self) -> u64
         ensures exact { (g : ConfigValue) (J : List EntryValue) → StandsFor g J self.now → result ≡ held_after g J }
         ensures within { (g : ConfigValue) (J : List EntryValue) → StandsFor g J self.now → result ≤ bound_after g J }
@@ -111,7 +115,8 @@ impl Node {
 
     /// Whether the node has stopped.
     pub fn stopped(&self) -> bool
-        ensures { (g : ConfigValue) (J : List EntryValue) → StandsFor g J self.now → result ≡ has_stopped (chronicle g J) }
+        ensures { (g : ConfigValue) (J : List EntryValue) → StandsFor g J self.now
+            → result ≡ has_stopped (chronicle g J) }
     {
         self.tables.stopped
     }

@@ -108,7 +108,8 @@ impl Tables {
         standing: Standing,
         arrival: Arrival,
     ) -> Result<(), OutOfMemory>
-        ensures { (g : Config) (H : List Mark) → Holds g H self.old → is_live conn H ≡ true → standing.run ≡ runs conn H →
+        ensures { (g : Config) (H : List Mark) → Holds g H self.old → is_live conn H ≡ true
+            → standing.run ≡ runs conn H →
             standing.identity ≡ identity conn H →
             OnOk result (Did g (at_arrival g conn arrival H) H self.new out.old out.new) }
     {

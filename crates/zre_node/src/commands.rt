@@ -150,7 +150,8 @@ impl Tables {
         at: u64,
         command: Command,
     ) -> Result<(), OutOfMemory>
-        ensures { (g : Config) (H : List Mark) (e : EntryValue) → e.at ≡ at → e.input ≡ given.Do command → is_end (given.Do command) ≡ false →
+        ensures { (g : Config) (H : List Mark) (e : EntryValue) → e.at ≡ at → e.input ≡ given.Do command
+            → is_end (given.Do command) ≡ false →
             out.old.pushed ≡ [] → Holds g H self.old → OnOk result (Took g e H self.new out.old out.new) }
     {
         self.come(at);

@@ -88,7 +88,10 @@ impl Effects {
 
     /// The first message of a connection is refused.
     pub fn ignored(&mut self, conn: u64, why: IgnoreWhy) -> Result<(), OutOfMemory>
-        ensures { OnOk result (self.new ≡ record self.old { events = self.old.events ++ EventValue.Ignored conn why ∷ [] }) }
+        ensures { OnOk result (self.new ≡ record self.old {
+          events = self.old.events
+              ++ EventValue.Ignored conn why ∷ [];
+        }) }
     {
         self.tell(Event::Ignored { conn, why })
     }

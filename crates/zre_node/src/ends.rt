@@ -49,8 +49,8 @@ impl Tables {
         out.close_link(link, cause)
     }
 
-    /// The known peer of this link ends: the user is told, where it was entered, its connection is ignored from now on, and
-    /// its link is closed.
+    /// The known peer of this link ends: the user is told, where it was entered, its connection is ignored from now
+    /// on, and its link is closed.
     #[inline(never)]
     pub fn end(&mut self, out: &mut Effects, link: u64, cause: Cause) -> Result<(), OutOfMemory>
         ensures { (g : Config) (H : List Mark) → Nearly g H link self.old → IsSome (life link H) →

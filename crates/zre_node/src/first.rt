@@ -105,7 +105,8 @@ impl Tables {
 
     // The connection runs the peer of this link from now on.
     fn start(&mut self, conn: u64, link: u64, run: Run)
-        ensures { (g : Config) (H : List Mark) (m : MessageValue) (v : Life) → Holds g H self.old → is_live conn H ≡ true →
+        ensures { (g : Config) (H : List Mark) (m : MessageValue) (v : Life) → Holds g H self.old
+            → is_live conn H ≡ true →
             runs conn H ≡ None → life link H ≡ Some v → identity conn H ≡ Some v.id → Stands run (m ∷ []) → id_of run ≡ v.id →
             Holds g (Starts conn link m ∷ H) self.new }
     {
@@ -134,7 +135,8 @@ impl Tables {
         conn: u64,
         fault: RunFault,
     ) -> Result<(), OutOfMemory>
-        ensures did { (g : Config) (H : List Mark) (p : PeerIdValue) (m : MessageValue) → Holds g H self.old → is_live conn H ≡ true →
+        ensures did { (g : Config) (H : List Mark) (p : PeerIdValue) (m : MessageValue) → Holds g H self.old
+            → is_live conn H ≡ true →
             runs conn H ≡ None → IsFirstFault fault m →
             OnOk result (Did g (at_first g conn (Some p) m H) H self.new out.old out.new) }
         ensures memory { fault ≡ RunFault.OutOfMemory → is_err result ≡ true }

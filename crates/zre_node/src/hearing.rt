@@ -82,7 +82,8 @@ impl Tables {
 
     /// The same, with a piece of a connection: what it completes of what that connection says.
     pub fn come_piece(&mut self, at: u64, conn: u64, bytes: &[u8]) -> Result<Heard, OutOfMemory>
-        ensures { (g : Config) (H : List Mark) (e : Entry) → e.at ≡ at → e.input ≡ input.Piece conn bytes.now → Holds g H self.old →
+        ensures { (g : Config) (H : List Mark) (e : Entry) → e.at ≡ at → e.input ≡ input.Piece conn bytes.now
+            → Holds g H self.old →
             IfOk result (λ heard. Holds g (Comes e ∷ H) self.new
             × (at_places g conn (said_in heard) (Comes e ∷ H) ≡ at_places g conn (newly_completed g.id conn H (Comes e ∷ H)) (Comes e ∷ H))) }
     {

@@ -1,5 +1,5 @@
-//! The core of a node: entries of a journal come in one by one, and events and acts come out. It has no clock, no socket
-//! and no thread; what the journal means stands in `zre_journal`.
+//! The core of a node: entries of a journal come in one by one, and events and acts come out. It has no clock, no
+//! socket and no thread; what the journal means stands in `zre_journal`.
 #![tactic(auto)]
 
 mod accessors;

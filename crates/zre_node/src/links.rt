@@ -39,7 +39,8 @@ fn note(out: &mut Effects, input: &Input) -> Result<(), OutOfMemory>
 
 // A reply on a link, which tells the fault of all replies so far. Before the link stands, a reply is dropped.
 fn hear_reply(link: &mut Link, bytes: &[u8]) -> Result<Option<ZmtpFault>, OutOfMemory>
-    ensures standing { (own : PeerIdValue) (bodies : List BodyValue) (o : List ℕ) (n : ℕ) → link.old ≡ link_after own bodies true o n →
+    ensures standing { (own : PeerIdValue) (bodies : List BodyValue) (o : List ℕ) (n : ℕ)
+        → link.old ≡ link_after own bodies true o n →
         IfOk result (λ fault. (link.new ≡ link_after own bodies true (o ++ bytes.now) n) × (fault ≡ reply_fault (o ++ bytes.now))) }
     ensures waiting { link.old.linked ≡ false → IfOk result (λ fault. (link.new ≡ link.old) × (fault ≡ None)) }
 {
@@ -92,7 +93,8 @@ impl Tables {
         link: u64,
         bytes: &[u8],
     ) -> Result<Option<ZmtpFault>, OutOfMemory>
-        ensures { (g : Config) (H : List Mark) (e : EntryValue) → e.at ≡ at → e.input ≡ given.Reply link bytes.now → Holds g H self.old →
+        ensures { (g : Config) (H : List Mark) (e : EntryValue) → e.at ≡ at → e.input ≡ given.Reply link bytes.now
+            → Holds g H self.old →
             IfOk result (λ fault. Holds g (Comes e ∷ H) self.new
             × (at_reply g link (life link H) (Comes e ∷ H) ≡ fault_of_reply g link fault)) }
     {
@@ -125,7 +127,8 @@ impl Tables {
     /// A link stands, breaks, or has taken octets.
     #[inline(never)]
     pub fn take_link(&mut self, out: &mut Effects, at: u64, input: Input) -> Result<(), OutOfMemory>
-        ensures { (g : Config) (H : List Mark) (e : EntryValue) → e.at ≡ at → e.input ≡ input → is_about_link input ≡ true →
+        ensures { (g : Config) (H : List Mark) (e : EntryValue) → e.at ≡ at → e.input ≡ input
+            → is_about_link input ≡ true →
             out.old.pushed ≡ [] → Holds g H self.old → OnOk result (Took g e H self.new out.old out.new) }
     {
         note(out, &input)?;
@@ -159,7 +162,8 @@ impl Tables {
         link: u64,
         fault: Option<ZmtpFault>,
     ) -> Result<(), OutOfMemory>
-        ensures { (g : Config) (K : List Mark) → Holds g K self.old → at_reply g link (life link K) K ≡ fault_of_reply g link fault →
+        ensures { (g : Config) (K : List Mark) → Holds g K self.old
+            → at_reply g link (life link K) K ≡ fault_of_reply g link fault →
             OnOk result (Did g (fault_of_reply g link fault) K self.new out.old out.new) }
     {
         match fault {

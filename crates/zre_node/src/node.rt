@@ -49,7 +49,8 @@ impl Node {
         })
     }
 
-    /// One entry of the journal: what it tells, and what it asks of the outside. After a stop nothing has an effect. After
+    /// One entry of the journal: what it tells, and what it asks of the outside. After a stop nothing has an effect.
+    /// After
     /// `OutOfMemory` the node is spent: it answers that to every later entry.
     pub fn step(&mut self, entry: Entry) -> Result<Step, OutOfMemory>
         ensures steps { (g : ConfigValue) (J : List EntryValue) → StandsFor g J self.old →

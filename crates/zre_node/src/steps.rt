@@ -39,7 +39,8 @@ impl Tables {
         at: u64,
         input: Input,
     ) -> Result<(), OutOfMemory>
-        ensures { (g : Config) (H : List Mark) (e : EntryValue) → e.at ≡ at → e.input ≡ input → is_incoming input ≡ true →
+        ensures { (g : Config) (H : List Mark) (e : EntryValue) → e.at ≡ at → e.input ≡ input
+            → is_incoming input ≡ true →
             out.old.pushed ≡ [] → Holds g H self.old → OnOk result (Took g e H self.new out.old out.new) }
     {
         self.come(at);

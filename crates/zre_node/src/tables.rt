@@ -13,8 +13,8 @@ use zre_group::Own;
 use zre_journal::Config;
 use zre_values::{Octets, OutOfMemory, PeerId};
 
-/// The tables of a node: the known peers by their links, which rise with their births, and the open connections by their
-/// numbers.
+/// The tables of a node: the known peers by their links, which rise with their births, and the open connections by
+/// their numbers.
 #[derive(Drop)]
 pub struct Tables {
     /// What its lists take their memory from.

@@ -167,8 +167,8 @@ impl Tables {
         })
     }
 
-    /// Time goes by. Who is silent for too long, and which connections have waited for too long, is judged before any of
-    /// them ends or is closed.
+    /// Time goes by. Who is silent for too long, and which connections have waited for too long, is judged before any
+    /// of them ends or is closed.
     pub fn tick(&mut self, out: &mut Effects) -> Result<(), OutOfMemory>
         ensures { (g : Config) (K : List Mark) → Holds g K self.old →
             OnOk result (Did g (at_tick g K) K self.new out.old out.new) }

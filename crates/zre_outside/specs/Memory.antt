@@ -6,7 +6,8 @@ use Rattle.zre_outside.specs.declared.sure.SureSource.{SureSource}
 use Rattle.zre_outside.specs.declared.sure.SureSink.{SureSink}
 use Rattle.zre_outside.specs.Held.{left_in, taken_from}
 
--- a source: what is left and what was taken, the numbers of the calls that are to fail, and how many calls and faults there were
+-- a source: what is left and what was taken, the numbers of the calls that are to fail, and how many calls and faults
+-- there were
 abbrev pub left_of : MemSource → List ℕ
 left_of s = left_in s.held
 

@@ -39,7 +39,8 @@ abbrev pub first_log : Log
 first_log = record { begun = None; given = []; looks = 0; handed = []; done = [] }
 
 abbrev pub log_of : Stage → Log
-log_of s = record { begun = s.begun; given = s.given.items; looks = s.looks; handed = s.handed.items; done = s.done.items }
+log_of s =
+    record { begun = s.begun; given = s.given.items; looks = s.looks; handed = s.handed.items; done = s.done.items }
 
 abbrev pub left_on : Stage → List Turn
 left_on s = s.left.items

@@ -37,7 +37,8 @@ IsTurn (Some c) (turn.Entry e) = e.input ≡ input.Do c
 -- a turn was answered
 abbrev pub after_turn : Option Command → Turn → Log → Log
 after_turn command turn.Look l = record l { looks = l.looks + 1 }
-after_turn command (turn.Entry e) l = record l { given = l.given ++ e ∷ []; handed = l.handed ++ option_to_list command }
+after_turn command (turn.Entry e) l =
+    record l { given = l.given ++ e ∷ []; handed = l.handed ++ option_to_list command }
 
 -- an act or an offer was done
 abbrev pub with_deed : Deed → Log → Log

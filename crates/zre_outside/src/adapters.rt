@@ -38,9 +38,11 @@ impl<T: Read> Source for StdSource<T> {
     fn read(&mut self, buf: &mut [u8]) -> Result<usize, Failed>
         requires { 0 < length buf.old }
         ensures bound { ReadsAtMost result buf.new }
-        ensures moved { IfOk result (λ n. Moves (T.remaining (reader_of self.old)) (T.remaining (reader_of self.new)) None None (take n buf.new)) }
+        ensures moved { IfOk result (λ n. Moves (T.remaining (reader_of self.old))
+            (T.remaining (reader_of self.new)) None None (take n buf.new)) }
         ensures end { IfOk result (λ n. n ≡ 0 → IsAtEnd (T.remaining (reader_of self.new))) }
-        ensures refused_left { OnErr result (Keeps (T.remaining (reader_of self.old)) (T.remaining (reader_of self.new))) }
+        ensures refused_left { OnErr result (Keeps (T.remaining (reader_of self.old))
+            (T.remaining (reader_of self.new))) }
         ensures refused_taken { OnErr result (Keeps None None) }
         ensures later { reader_faults_of self.old ≤ reader_faults_of self.new }
         ensures failed { OnErr result (Rose (reader_faults_of self.old) (reader_faults_of self.new)) }
@@ -87,10 +89,12 @@ impl<T: Write> Sink for StdSink<T> {
     fn write(&mut self, bytes: &[u8]) -> Result<usize, NextFault>
         ensures bound { WritesAtMost result bytes.now }
         ensures some { IfOk result (λ n. 0 < length bytes.now → 0 < n) }
-        ensures appended { IfOk result (λ n. Appends (T.contents (writer_of self.old)) (T.contents (writer_of self.new)) (take n bytes.now)) }
+        ensures appended { IfOk result (λ n. Appends (T.contents (writer_of self.old))
+            (T.contents (writer_of self.new)) (take n bytes.now)) }
         ensures refused { OnErr result (Keeps (T.contents (writer_of self.old)) (T.contents (writer_of self.new))) }
         ensures later { writer_faults_of self.old ≤ writer_faults_of self.new }
-        ensures failed { IsErrOf result NextFault.Failed → Rose (writer_faults_of self.old) (writer_faults_of self.new) }
+        ensures failed { IsErrOf result NextFault.Failed
+            → Rose (writer_faults_of self.old) (writer_faults_of self.new) }
         // The count rises where it failed, and nowhere else.
         ensures counted { writer_faults_of self.new ≡ counted (is_failed result) (writer_faults_of self.old) }
     {

@@ -6,8 +6,8 @@ use std::fs;
 use std::io::Write;
 use std::rt::Files;
 
-/// A file as a recorder. What was in the file of this name before is gone once it is begun. Each put goes to the system at
-/// once, so that a capture tells of a node that ended badly up to its end.
+/// A file as a recorder. What was in the file of this name before is gone once it is begun. Each put goes to the
+/// system at once, so that a capture tells of a node that ended badly up to its end.
 #[derive(Drop)]
 pub struct FileRecorder<R: Files> {
     rt: R,

@@ -71,13 +71,16 @@ impl Recorder for MemRecorder {
         ensures begun { is_begun self.new ≡ is_ok result }
         ensures kept { OnOk result (Some (kept_by self.new) ≡ option_map (λ _. []) (Some (kept_by self.old))) }
         ensures named { OnOk result (Some (named_by self.new) ≡ option_map (λ _. name.now) (Some (named_by self.old))) }
-        ensures refused { OnErr result (Keeps (Some (kept_by self.old)) (Some (kept_by self.new)) × Keeps (Some (named_by self.old)) (Some (named_by self.new))) }
+        ensures refused { OnErr result (Keeps (Some (kept_by self.old)) (Some (kept_by self.new))
+            × Keeps (Some (named_by self.old)) (Some (named_by self.new))) }
         ensures later { recorder_faults_of self.old ≤ recorder_faults_of self.new }
-        ensures failed { IsErrOf result NextFault.Failed → Rose (recorder_faults_of self.old) (recorder_faults_of self.new) }
+        ensures failed { IsErrOf result NextFault.Failed
+            → Rose (recorder_faults_of self.old) (recorder_faults_of self.new) }
         ensures counted { recorder_faults_of self.new ≡ counted (is_failed result) (recorder_faults_of self.old) }
         ensures listed { is_failed result ≡ list_any (λ n. n == raised (begins_of self.old)) (begin_fails_of self.old) }
         ensures calls { (begins_of self.new ≡ raised (begins_of self.old)) × (puts_of self.new ≡ puts_of self.old) }
-        ensures fails { (begin_fails_of self.new ≡ begin_fails_of self.old) × (put_fails_of self.new ≡ put_fails_of self.old) }
+        ensures fails { (begin_fails_of self.new ≡ begin_fails_of self.old)
+            × (put_fails_of self.new ≡ put_fails_of self.old) }
     {
         self.begun = false;
         self.begins = self.begins.saturating_add(1);
@@ -102,12 +105,14 @@ impl Recorder for MemRecorder {
         ensures named { Keeps (Some (named_by self.old)) (Some (named_by self.new)) }
         ensures begun { is_begun self.new ≡ is_begun self.old }
         ensures later { recorder_faults_of self.old ≤ recorder_faults_of self.new }
-        ensures failed { IsErrOf result NextFault.Failed → Rose (recorder_faults_of self.old) (recorder_faults_of self.new) }
+        ensures failed { IsErrOf result NextFault.Failed
+            → Rose (recorder_faults_of self.old) (recorder_faults_of self.new) }
         ensures counted { recorder_faults_of self.new ≡ counted (is_failed result) (recorder_faults_of self.old) }
         ensures refused { OnErr result (Keeps (Some (kept_by self.old)) (Some (kept_by self.new))) }
         ensures listed { is_failed result ≡ list_any (λ n. n == raised (puts_of self.old)) (put_fails_of self.old) }
         ensures calls { (puts_of self.new ≡ raised (puts_of self.old)) × (begins_of self.new ≡ begins_of self.old) }
-        ensures fails { (begin_fails_of self.new ≡ begin_fails_of self.old) × (put_fails_of self.new ≡ put_fails_of self.old) }
+        ensures fails { (begin_fails_of self.new ≡ begin_fails_of self.old)
+            × (put_fails_of self.new ≡ put_fails_of self.old) }
     {
         self.puts = self.puts.saturating_add(1);
         if self.put_fails.contains(&self.puts) {

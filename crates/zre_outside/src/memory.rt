@@ -53,7 +53,8 @@ impl Source for MemSource {
     fn read(&mut self, buf: &mut [u8]) -> Result<usize, Failed>
         requires { 0 < length buf.old }
         ensures bound { ReadsAtMost result buf.new }
-        ensures moved { IfOk result (λ n. Moves (Some (left_of self.old)) (Some (left_of self.new)) (Some (taken_of self.old)) (Some (taken_of self.new)) (take n buf.new)) }
+        ensures moved { IfOk result (λ n. Moves (Some (left_of self.old)) (Some (left_of self.new))
+            (Some (taken_of self.old)) (Some (taken_of self.new)) (take n buf.new)) }
         ensures end { IfOk result (λ n. n ≡ 0 → IsAtEnd (Some (left_of self.new))) }
         ensures refused_left { OnErr result (Keeps (Some (left_of self.old)) (Some (left_of self.new))) }
         ensures refused_taken { OnErr result (Keeps (Some (taken_of self.old)) (Some (taken_of self.new))) }
@@ -120,14 +121,16 @@ impl Sink for MemSink {
     fn write(&mut self, bytes: &[u8]) -> Result<usize, NextFault>
         ensures bound { WritesAtMost result bytes.now }
         ensures some { IfOk result (λ n. 0 < length bytes.now → 0 < n) }
-        ensures appended { IfOk result (λ n. Appends (Some (written_of self.old)) (Some (written_of self.new)) (take n bytes.now)) }
+        ensures appended { IfOk result (λ n. Appends (Some (written_of self.old)) (Some (written_of self.new))
+            (take n bytes.now)) }
         ensures refused { OnErr result (Keeps (Some (written_of self.old)) (Some (written_of self.new))) }
         ensures later { write_faults_of self.old ≤ write_faults_of self.new }
         ensures failed { IsErrOf result NextFault.Failed → Rose (write_faults_of self.old) (write_faults_of self.new) }
         ensures counted { write_faults_of self.new ≡ counted (is_failed result) (write_faults_of self.old) }
         ensures all { IfOk result (λ n. n ≡ length bytes.now) }
         // The calls whose numbers are listed fail, and no others.
-        ensures listed { is_failed result ≡ list_any (λ n. n == raised (write_calls_of self.old)) (write_fails_of self.old) }
+        ensures listed { is_failed result ≡ list_any (λ n. n == raised (write_calls_of self.old))
+            (write_fails_of self.old) }
         ensures calls { write_calls_of self.new ≡ raised (write_calls_of self.old) }
         ensures fails { write_fails_of self.new ≡ write_fails_of self.old }
     {

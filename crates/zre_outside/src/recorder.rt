@@ -24,7 +24,8 @@ pub trait Recorder {
         ensures begun { begun self.new ≡ is_ok result }
         ensures kept { OnOk result (kept self.new ≡ option_map (λ _. []) (kept self.old)) }
         ensures name { OnOk result (named self.new ≡ option_map (λ _. name.now) (named self.old)) }
-        ensures refused { OnErr result (Keeps (kept self.old) (kept self.new) × Keeps (named self.old) (named self.new)) }
+        ensures refused { OnErr result (Keeps (kept self.old) (kept self.new)
+            × Keeps (named self.old) (named self.new)) }
         ensures later { faults self.old ≤ faults self.new }
         ensures failed { IsErrOf result NextFault.Failed → Rose (faults self.old) (faults self.new) };
 

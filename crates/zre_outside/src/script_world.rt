@@ -13,8 +13,8 @@ use zre_values::OutOfMemory;
 /// So many looks in a row a [`ScriptWorld`] answers. A further one fails.
 pub const LOOKS_IN_A_ROW: u64 = 50000000;
 
-/// A script as a world, as [`crate::SureWorld`]. The calls of `start` and of `next` with the numbers of two lists fail, counted
-/// from 1, and so does a look after [`LOOKS_IN_A_ROW`] others.
+/// A script as a world, as [`crate::SureWorld`]. The calls of `start` and of `next` with the numbers of two lists
+/// fail, counted from 1, and so does a look after [`LOOKS_IN_A_ROW`] others.
 #[derive(Drop)]
 pub struct ScriptWorld {
     stage: Stage,
@@ -71,8 +71,10 @@ impl World for ScriptWorld {
         ensures counted { world_faults_of self.new ≡ counted (is_failed result) (world_faults_of self.old) }
         ensures listed { is_failed result ≡ list_any (λ n. n == raised (starts_of self.old)) (start_fails_of self.old) }
         ensures calls { (starts_of self.new ≡ raised (starts_of self.old)) × (nexts_of self.new ≡ nexts_of self.old) }
-        ensures fails { (start_fails_of self.new ≡ start_fails_of self.old) × (next_fails_of self.new ≡ next_fails_of self.old) }
-        ensures script { (script_left self.new ≡ script_left self.old) × (reading_of self.new ≡ reading_of self.old) × (row_of self.new ≡ row_of self.old) }
+        ensures fails { (start_fails_of self.new ≡ start_fails_of self.old)
+            × (next_fails_of self.new ≡ next_fails_of self.old) }
+        ensures script { (script_left self.new ≡ script_left self.old) × (reading_of self.new ≡ reading_of self.old)
+            × (row_of self.new ≡ row_of self.old) }
     {
         self.starts = self.starts.saturating_add(1);
         if self.start_fails.contains(&self.starts) {
@@ -85,24 +87,29 @@ impl World for ScriptWorld {
         }
     }
 
-    /// The turn is the script's. The calls whose numbers are listed fail, and a look after too many others, and no others.
+    /// The turn is the script's. The calls whose numbers are listed fail, and a look after too many others, and no
+    /// others.
     fn next(&mut self, command: Option<Command>) -> Result<Turn, NextFault>
         requires { IsSome command → has_looked self.old ≡ true }
         ensures turn { IfOk result (λ t. IsTurn command t) }
-        ensures told { IfOk result (λ t. Some (seen_by self.new) ≡ option_map (after_turn command t) (Some (seen_by self.old))) }
+        ensures told { IfOk result (λ t. Some (seen_by self.new) ≡ option_map (after_turn command t)
+            (Some (seen_by self.old))) }
         ensures looked { IfOk result (λ t. has_looked self.new ≡ is_look t) }
-        ensures refused { OnErr result ((Some (seen_by self.new) ≡ Some (seen_by self.old)) × (has_looked self.new ≡ has_looked self.old)) }
+        ensures refused { OnErr result ((Some (seen_by self.new) ≡ Some (seen_by self.old))
+            × (has_looked self.new ≡ has_looked self.old)) }
         ensures later { world_faults_of self.old ≤ world_faults_of self.new }
         ensures failed { IsErrOf result NextFault.Failed → Rose (world_faults_of self.old) (world_faults_of self.new) }
         ensures counted { world_faults_of self.new ≡ counted (is_failed result) (world_faults_of self.old) }
         ensures script { IfOk result (λ t. (t ≡ turn_of (script_left self.old) (reading_of self.old) command)
             × (script_left self.new ≡ left_after (script_left self.old) command) × (reading_of self.new ≡ reading_after (reading_of self.old) t)) }
         ensures row { IfOk result (λ t. row_of self.new ≡ row_later (row_of self.old) t) }
-        ensures kept { OnErr result ((script_left self.new ≡ script_left self.old) × (reading_of self.new ≡ reading_of self.old) × (row_of self.new ≡ row_of self.old)) }
+        ensures kept { OnErr result ((script_left self.new ≡ script_left self.old)
+            × (reading_of self.new ≡ reading_of self.old) × (row_of self.new ≡ row_of self.old)) }
         ensures listed { is_failed result ≡ list_any (λ n. n == raised (nexts_of self.old)) (next_fails_of self.old)
             || (at_look (script_left self.old) command && nat_le 50000000 (row_of self.old)) }
         ensures calls { (nexts_of self.new ≡ raised (nexts_of self.old)) × (starts_of self.new ≡ starts_of self.old) }
-        ensures fails { (start_fails_of self.new ≡ start_fails_of self.old) × (next_fails_of self.new ≡ next_fails_of self.old) }
+        ensures fails { (start_fails_of self.new ≡ start_fails_of self.old)
+            × (next_fails_of self.new ≡ next_fails_of self.old) }
     {
         self.nexts = self.nexts.saturating_add(1);
         if self.next_fails.contains(&self.nexts)
@@ -121,7 +128,8 @@ impl World for ScriptWorld {
     }
 
     fn act(&mut self, act: &Act) -> Result<(), OutOfMemory>
-        ensures ok { OnOk result (Some (seen_by self.new) ≡ option_map (with_deed (DeedValue.Done act.now)) (Some (seen_by self.old))) }
+        ensures ok { OnOk result (Some (seen_by self.new) ≡ option_map (with_deed (DeedValue.Done act.now))
+            (Some (seen_by self.old))) }
         ensures err { OnErr result (Some (seen_by self.new) ≡ Some (seen_by self.old)) }
         ensures looked { has_looked self.new ≡ has_looked self.old }
         ensures faults { world_faults_of self.new ≡ world_faults_of self.old }
@@ -131,7 +139,8 @@ impl World for ScriptWorld {
     }
 
     fn offer(&mut self, link: u64, bytes: &[u8]) -> Result<(), OutOfMemory>
-        ensures ok { OnOk result (Some (seen_by self.new) ≡ option_map (with_deed (DeedValue.Offered link bytes.now)) (Some (seen_by self.old))) }
+        ensures ok { OnOk result (Some (seen_by self.new) ≡ option_map (with_deed (DeedValue.Offered link bytes.now))
+            (Some (seen_by self.old))) }
         ensures err { OnErr result (Some (seen_by self.new) ≡ Some (seen_by self.old)) }
         ensures looked { has_looked self.new ≡ has_looked self.old }
         ensures faults { world_faults_of self.new ≡ world_faults_of self.old }

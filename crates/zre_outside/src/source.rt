@@ -26,7 +26,8 @@ pub trait Source {
     fn read(&mut self, buf: &mut [u8]) -> Result<usize, Failed>
         requires { 0 < length buf.old }
         ensures bound { ReadsAtMost result buf.new }
-        ensures moved { IfOk result (λ n. Moves (left self.old) (left self.new) (taken self.old) (taken self.new) (take n buf.new)) }
+        ensures moved { IfOk result (λ n. Moves (left self.old) (left self.new) (taken self.old) (taken self.new)
+            (take n buf.new)) }
         ensures end { IfOk result (λ n. n ≡ 0 → IsAtEnd (left self.new)) }
         ensures refused_left { OnErr result (Keeps (left self.old) (left self.new)) }
         ensures refused_taken { OnErr result (Keeps (taken self.old) (taken self.new)) }

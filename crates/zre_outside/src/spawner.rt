@@ -20,9 +20,9 @@ impl<S> Drop for Underway<S> {
     }
 }
 
-/// What starts jobs, each in a thread of its own. `start` is the call to make, and alone raises the count of refusals. An
-/// implementation says what the threads are started with and keeps the counts; how a job comes to its thread is the same
-/// for all.
+/// What starts jobs, each in a thread of its own. `start` is the call to make, and alone raises the count of
+/// refusals. An implementation says what the threads are started with and keeps the counts; how a job comes to its
+/// thread is the same for all.
 pub trait Spawner {
     /// The runtime that starts the threads, and that the jobs are handed.
     type Runtime: Threads + Wait + Copy + Send + 'static;

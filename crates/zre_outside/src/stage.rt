@@ -75,7 +75,8 @@ impl Stage {
 
     // Lists a command as handed in, and the entry to do it as given, or neither.
     fn hand(&mut self, command: &Command) -> Result<(), OutOfMemory>
-        ensures ok { OnOk result (Sees (after_turn (Some command.now) (turn_of [] self.old.reading (Some command.now))) self.old self.new) }
+        ensures ok { OnOk result (Sees (after_turn (Some command.now)
+            (turn_of [] self.old.reading (Some command.now))) self.old self.new) }
         ensures err { OnErr result (Stays self.old self.new) }
     {
         self.handed.reserve(1)?;

@@ -42,7 +42,8 @@ impl World for SureWorld {
     ghost faults = { λ _. 0 };
 
     fn start(&mut self, s: &Start) -> Result<(), NextFault>
-        ensures told { OnOk result (Some (sure_seen_by self.new) ≡ option_map (with_start s.now) (Some (sure_seen_by self.old))) }
+        ensures told { OnOk result (Some (sure_seen_by self.new) ≡ option_map (with_start s.now)
+            (Some (sure_seen_by self.old))) }
         ensures refused { OnErr result (Some (sure_seen_by self.new) ≡ Some (sure_seen_by self.old)) }
         ensures looked { sure_has_looked self.new ≡ sure_has_looked self.old }
         ensures failed { IsErrOf result NextFault.Failed → Rose 0 0 }
@@ -58,9 +59,11 @@ impl World for SureWorld {
     fn next(&mut self, command: Option<Command>) -> Result<Turn, NextFault>
         requires { IsSome command → sure_has_looked self.old ≡ true }
         ensures turn { IfOk result (λ t. IsTurn command t) }
-        ensures told { IfOk result (λ t. Some (sure_seen_by self.new) ≡ option_map (after_turn command t) (Some (sure_seen_by self.old))) }
+        ensures told { IfOk result (λ t. Some (sure_seen_by self.new) ≡ option_map (after_turn command t)
+            (Some (sure_seen_by self.old))) }
         ensures looked { IfOk result (λ t. sure_has_looked self.new ≡ is_look t) }
-        ensures refused { OnErr result ((Some (sure_seen_by self.new) ≡ Some (sure_seen_by self.old)) × (sure_has_looked self.new ≡ sure_has_looked self.old)) }
+        ensures refused { OnErr result ((Some (sure_seen_by self.new) ≡ Some (sure_seen_by self.old))
+            × (sure_has_looked self.new ≡ sure_has_looked self.old)) }
         ensures failed { IsErrOf result NextFault.Failed → Rose 0 0 }
         ensures script { IfOk result (λ t. (t ≡ turn_of (sure_script_left self.old) (sure_reading_of self.old) command)
             × (sure_script_left self.new ≡ left_after (sure_script_left self.old) command)
@@ -74,7 +77,8 @@ impl World for SureWorld {
     }
 
     fn act(&mut self, act: &Act) -> Result<(), OutOfMemory>
-        ensures ok { OnOk result (Some (sure_seen_by self.new) ≡ option_map (with_deed (DeedValue.Done act.now)) (Some (sure_seen_by self.old))) }
+        ensures ok { OnOk result (Some (sure_seen_by self.new) ≡ option_map (with_deed (DeedValue.Done act.now))
+            (Some (sure_seen_by self.old))) }
         ensures err { OnErr result (Some (sure_seen_by self.new) ≡ Some (sure_seen_by self.old)) }
         ensures looked { sure_has_looked self.new ≡ sure_has_looked self.old }
         ensures script { SureWaits self.old self.new }

@@ -43,10 +43,11 @@ pub trait World {
         ensures looked { looked self.new ≡ looked self.old }
         ensures faults { faults self.new ≡ faults self.old };
 
-    /// Offers a link what it may send. How much of it was sent comes back as a later entry; before that, a further offer
-    /// on this link sends nothing.
+    /// Offers a link what it may send. How much of it was sent comes back as a later entry; before that, a further
+    /// offer on this link sends nothing.
     fn offer(&mut self, link: u64, bytes: &[u8]) -> Result<(), OutOfMemory>
-        ensures ok { OnOk result (told self.new ≡ option_map (with_deed (DeedValue.Offered link bytes.now)) (told self.old)) }
+        ensures ok { OnOk result (told self.new ≡ option_map (with_deed (DeedValue.Offered link bytes.now))
+            (told self.old)) }
         ensures err { OnErr result (told self.new ≡ told self.old) }
         ensures looked { looked self.new ≡ looked self.old }
         ensures faults { faults self.new ≡ faults self.old };

@@ -14,7 +14,8 @@ use Rattle.zre_peer.specs.declared.peer_run.RunFault.TheVariants as faults
 
 -- the events of a message of this peer, whose view before it is v
 abbrev pub events_of : PeerId → View → Body → List Event
-events_of id v (Hello endpoint groups status name headers) = events.Enter id name endpoint (first_named headers) ∷ map (λ g. events.Join id name g) (distinct groups)
+events_of id v (Hello endpoint groups status name headers) =
+    events.Enter id name endpoint (first_named headers) ∷ map (λ g. events.Join id name g) (distinct groups)
 events_of id v (Whisper content) = events.Whisper id v.name content ∷ []
 events_of id v (Shout group content) = events.Shout id v.name group content ∷ []
 events_of id v (Join group status) = events.Join id v.name group ∷ []

@@ -15,7 +15,14 @@ blank = record { name = []; endpoint = []; headers = []; groups = []; status = 0
 
 -- the view after a message: HELLO sets all of it, JOIN and LEAVE set a group and the status, nothing else changes it
 abbrev pub after : View → Body → View
-after v (Hello endpoint groups status name headers) = record { name = name; endpoint = endpoint; headers = first_named headers; groups = distinct groups; status = status }
+after v (Hello endpoint groups status name headers) =
+    record {
+      name = name;
+      endpoint = endpoint;
+      headers = first_named headers;
+      groups = distinct groups;
+      status = status;
+    }
 after v (Join group status) = record v { groups = with_group v.groups group; status = status }
 after v (Leave group status) = record v { groups = without group v.groups; status = status }
 after v (Whisper content) = v

@@ -43,7 +43,12 @@ fn two_heads(
 }
 
 fn heads_with(alloc: Global, who: &Octets) -> Result<Heads, OutOfMemory>
-    ensures { IfOk result (λ heads. heads ≡ record { join = codes "JOIN " ++ who.now; leave = codes "LEAVE " ++ who.now; whisper = codes "WHISPER " ++ who.now; shout = codes "SHOUT " ++ who.now }) }
+    ensures { IfOk result (λ heads. heads ≡ record {
+      join = codes "JOIN " ++ who.now;
+      leave = codes "LEAVE " ++ who.now;
+      whisper = codes "WHISPER " ++ who.now;
+      shout = codes "SHOUT " ++ who.now;
+    }) }
 {
     let (join, leave) = two_heads(alloc, b"JOIN ", b"LEAVE ", who)?;
     let (whisper, shout) = two_heads(alloc, b"WHISPER ", b"SHOUT ", who)?;

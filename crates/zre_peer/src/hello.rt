@@ -29,7 +29,8 @@ pub(crate) fn is_hello(body: &Body) -> bool
 // The groups that a HELLO names, each once. With the first that passes a limit the rest isn't looked at.
 fn distinct_of(alloc: Global, groups: &Frames) -> Result<Groups, RunFault>
     ensures ok { IfOk result (λ found. (found ≡ distinct groups.now) × (are_few (distinct groups.now) ≡ true)) }
-    ensures refused { IfErr result (λ e. e ≢ RunFault.OutOfMemory → (e ≡ RunFault.Limit) × (are_few (distinct groups.now) ≡ false)) }
+    ensures refused { IfErr result (λ e. e ≢ RunFault.OutOfMemory → (e ≡ RunFault.Limit)
+        × (are_few (distinct groups.now) ≡ false)) }
 {
     let mut found = Groups::new(alloc);
     for group in groups.as_slice() {
@@ -43,7 +44,8 @@ fn distinct_of(alloc: Global, groups: &Frames) -> Result<Groups, RunFault>
 
 // Its headers, of equal names the first, with the same rule.
 fn first_named_of(alloc: Global, headers: &Pairs) -> Result<Headers, RunFault>
-    ensures ok { IfOk result (λ found. (found ≡ first_named headers.now) × (nat_le (length (first_named headers.now)) HEADERS ≡ true)) }
+    ensures ok { IfOk result (λ found. (found ≡ first_named headers.now)
+        × (nat_le (length (first_named headers.now)) HEADERS ≡ true)) }
     ensures refused { IfErr result (λ e. e ≢ RunFault.OutOfMemory →
         (e ≡ RunFault.Limit) × (nat_le (length (first_named headers.now)) HEADERS ≡ false)) }
 {
@@ -61,7 +63,8 @@ fn first_named_of(alloc: Global, headers: &Pairs) -> Result<Headers, RunFault>
 /// The view that a HELLO sets. Another message sets none, and a view that would pass a limit isn't made.
 #[tactic(auto, unfolding(crate::specs::Views::is_small))]
 pub(crate) fn opened(alloc: Global, body: Body) -> Result<View, RunFault>
-    ensures ok { IfOk result (λ view. (is_hello body ≡ true) × (view ≡ after blank body) × (is_small (after blank body) ≡ true)) }
+    ensures ok { IfOk result (λ view. (is_hello body ≡ true) × (view ≡ after blank body)
+        × (is_small (after blank body) ≡ true)) }
     ensures refused { IfErr result (λ e. e ≢ RunFault.OutOfMemory →
         ((is_hello body && is_small (after blank body)) ≡ false) × (e ≡ (if is_hello body then faults.Limit else faults.NotHello))) }
 {

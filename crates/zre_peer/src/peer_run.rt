@@ -94,7 +94,8 @@ fn expect_number(due: u16, got: u16) -> Result<(), RunFault>
 // Whether a message after the first may come, but for what it does to the view.
 fn expect(due: u16, message: &Message) -> Result<(), RunFault>
     ensures ok { OnOk result ((is_hello message.now.body ≡ false) × (message.now.sequence ≡ due)) }
-    ensures refused { IfErr result (λ e. ((view : View) → goes_on view due message.now ≡ false) × (e ≡ later_fault due message.now)) }
+    ensures refused { IfErr result (λ e. ((view : View) → goes_on view due message.now ≡ false)
+        × (e ≡ later_fault due message.now)) }
 {
     if is_hello(&message.body) {
         return Err(RunFault::SecondHello);
@@ -133,8 +134,10 @@ fn tell_later(
     out: &mut Octets,
 ) -> Result<(), RunFault>
     requires { is_small view.old ≡ true }
-    ensures ok { OnOk result ((goes_on view.old due (message_of lent.now) ≡ true) × (view.new ≡ after view.old (message_of lent.now).body)) }
-    ensures told { (id : PeerId) → heads.now ≡ heads_of id view.old.name → OnOk result (out.new ≡ out.old ++ lines (events_of id view.old (message_of lent.now).body)) }
+    ensures ok { OnOk result ((goes_on view.old due (message_of lent.now) ≡ true)
+        × (view.new ≡ after view.old (message_of lent.now).body)) }
+    ensures told { (id : PeerId) → heads.now ≡ heads_of id view.old.name
+        → OnOk result (out.new ≡ out.old ++ lines (events_of id view.old (message_of lent.now).body)) }
     ensures name { view.new.name ≡ view.old.name }
     ensures small { is_small view.new ≡ true }
     ensures kept { OnErr result (view.new ≡ view.old) }

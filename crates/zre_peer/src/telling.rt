@@ -56,8 +56,10 @@ fn tell_join(
     out: &mut Octets,
 ) -> Result<(), RunFault>
     requires { is_small view.old ≡ true }
-    ensures ok { OnOk result ((is_small (after view.old (bodies.Join group.now status)) ≡ true) × (view.new ≡ after view.old (bodies.Join group.now status))) }
-    ensures told { (id : PeerId) → heads.now ≡ heads_of id view.old.name → OnOk result (out.new ≡ out.old ++ lines (events_of id view.old (bodies.Join group.now status))) }
+    ensures ok { OnOk result ((is_small (after view.old (bodies.Join group.now status)) ≡ true)
+        × (view.new ≡ after view.old (bodies.Join group.now status))) }
+    ensures told { (id : PeerId) → heads.now ≡ heads_of id view.old.name
+        → OnOk result (out.new ≡ out.old ++ lines (events_of id view.old (bodies.Join group.now status))) }
     ensures kept { OnErr result (view.new ≡ view.old) }
     ensures refused { IfErr result (λ e. e ≢ RunFault.OutOfMemory →
         (is_small (after view.old (bodies.Join group.now status)) ≡ false) × (e ≡ RunFault.Limit) × (out.new ≡ out.old)) }
@@ -77,8 +79,10 @@ fn tell_leave(
     out: &mut Octets,
 ) -> Result<(), RunFault>
     requires { is_small view.old ≡ true }
-    ensures ok { OnOk result ((is_small (after view.old (bodies.Leave group.now status)) ≡ true) × (view.new ≡ after view.old (bodies.Leave group.now status))) }
-    ensures told { (id : PeerId) → heads.now ≡ heads_of id view.old.name → OnOk result (out.new ≡ out.old ++ lines (events_of id view.old (bodies.Leave group.now status))) }
+    ensures ok { OnOk result ((is_small (after view.old (bodies.Leave group.now status)) ≡ true)
+        × (view.new ≡ after view.old (bodies.Leave group.now status))) }
+    ensures told { (id : PeerId) → heads.now ≡ heads_of id view.old.name
+        → OnOk result (out.new ≡ out.old ++ lines (events_of id view.old (bodies.Leave group.now status))) }
     ensures kept { OnErr result (view.new ≡ view.old) }
     ensures refused { IfErr result (λ e. e ≡ RunFault.OutOfMemory) }
 {
@@ -87,7 +91,8 @@ fn tell_leave(
     Ok(())
 }
 
-/// Takes a message that is no HELLO: changes the view, and appends the lines of its events, which begin with `heads`. After an error the view is as it was.
+/// Takes a message that is no HELLO: changes the view, and appends the lines of its events, which begin with `heads`.
+/// After an error the view is as it was.
 pub(crate) fn tell_change(
     alloc: Global,
     view: &mut View,
@@ -96,8 +101,10 @@ pub(crate) fn tell_change(
     out: &mut Octets,
 ) -> Result<(), RunFault>
     requires { is_small view.old ≡ true }
-    ensures ok { OnOk result ((is_small (after view.old (message_of lent.now).body) ≡ true) × (view.new ≡ after view.old (message_of lent.now).body)) }
-    ensures told { (id : PeerId) → heads.now ≡ heads_of id view.old.name → OnOk result (out.new ≡ out.old ++ lines (events_of id view.old (message_of lent.now).body)) }
+    ensures ok { OnOk result ((is_small (after view.old (message_of lent.now).body) ≡ true)
+        × (view.new ≡ after view.old (message_of lent.now).body)) }
+    ensures told { (id : PeerId) → heads.now ≡ heads_of id view.old.name
+        → OnOk result (out.new ≡ out.old ++ lines (events_of id view.old (message_of lent.now).body)) }
     ensures kept { OnErr result (view.new ≡ view.old) }
     ensures refused { IfErr result (λ e. e ≢ RunFault.OutOfMemory →
         (is_small (after view.old (message_of lent.now).body) ≡ false) × (e ≡ RunFault.Limit) × (out.new ≡ out.old)) }

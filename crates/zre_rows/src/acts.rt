@@ -9,7 +9,8 @@ fn push_octets(out: &mut Text, word: &[u8], n: u64, octets: &[u8]) {
     out.hex(octets);
 }
 
-/// Appends the line of an act: `connect LINK A.B.C.D:PORT`, `close-link LINK`, `close-connection CONNECTION`, `answer CONNECTION HEX`,
+/// Appends the line of an act: `connect LINK A.B.C.D:PORT`, `close-link LINK`, `close-connection CONNECTION`, `answer
+/// CONNECTION HEX`,
 /// `offer LINK` or `beacon HEX`.
 pub fn push_act(out: &mut Text, act: &Act) {
     match act {

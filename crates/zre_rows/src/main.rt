@@ -1,5 +1,7 @@
-//! Rows of data: what the public calls of the crates answer, over objects in memory. Each file of the working folder whose name ends in
-//! `.rows` is gone over; what differs is printed with its file and line, and last how many rows there were and how many failed.
+//! Rows of data: what the public calls of the crates answer, over objects in memory. Each file of the working folder
+//! whose name ends in
+//! `.rows` is gone over; what differs is printed with its file and
+//! line, and last how many rows there were and how many failed.
 #![tactic(auto)]
 
 mod acts;

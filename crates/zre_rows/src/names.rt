@@ -6,8 +6,8 @@ use std::alloc::Global;
 use zre_capture::split_once;
 use zre_values::{Octets, Pairs};
 
-/// The texts that names stand for, and the count of a repetition: `{n}` in decimal digits, `{d}` in four of them at least, `{a}` the
-/// octets of these digits in hexadecimal, and `{x}` modulo 65,536 in four hexadecimal digits.
+/// The texts that names stand for, and the count of a repetition: `{n}` in decimal digits, `{d}` in four of them at
+/// least, `{a}` the octets of these digits in hexadecimal, and `{x}` modulo 65,536 in four hexadecimal digits.
 #[derive(Drop)]
 pub struct Names {
     alloc: Global,

@@ -1,4 +1,5 @@
-//! What is printed: a line for each line of a case file that can't be done, and for each answer that differs, and the counts.
+//! What is printed: a line for each line of a case file that can't be done, and for each answer that differs, and the
+//! counts.
 
 use crate::text::Text;
 use crate::trouble::Trouble;
@@ -11,7 +12,8 @@ pub struct Place<'a> {
     pub line: u64,
 }
 
-/// The text so far, and how many rows there were and how many of them failed. What is wrong outside of a row counts as failed, too.
+/// The text so far, and how many rows there were and how many of them failed. What is wrong outside of a row counts
+/// as failed, too.
 #[derive(Drop)]
 pub struct Report {
     pub text: Text,

@@ -4,8 +4,8 @@ use crate::text::Text;
 use crate::trouble::Trouble;
 use std::alloc::Global;
 
-/// A row: its title, the step that was done last with what it answered and what it is to answer, and how many lines are to be
-/// answered so far.
+/// A row: its title, the step that was done last with what it answered and what it is to answer, and how many lines
+/// are to be answered so far.
 #[derive(Drop)]
 pub struct Row {
     /// Not so before the first row of a file.

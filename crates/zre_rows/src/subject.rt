@@ -1,5 +1,6 @@
-//! What a row is about. Each subject has a module, with a method that does one step: it takes the step's key and its arguments,
-//! and appends the lines that it answers, each with its line feed. What is wrong with a step is a fault of the answer.
+//! What a row is about. Each subject has a module, with a method that does one step: it takes the step's key and its
+//! arguments, and appends the lines that it answers, each with its line feed. What is wrong with a step is a fault of
+//! the answer.
 
 mod captures;
 mod command;

@@ -11,7 +11,8 @@ use zre_values::{
     push_quoted_frames, push_quoted_pairs,
 };
 
-/// A text that keeps its first fault: what can't be written is left out, and whoever reads the text asks for its fault once.
+/// A text that keeps its first fault: what can't be written is left out, and whoever reads the text asks for its
+/// fault once.
 #[derive(Drop)]
 pub struct Text {
     pub octets: Octets,

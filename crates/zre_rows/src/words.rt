@@ -7,8 +7,9 @@ use std::alloc::Global;
 use zre_capture::{address, id, number, split_once};
 use zre_values::{Frames, Octets, OutOfMemory, PeerId};
 
-/// The key of a step, and those of its arguments that weren't taken yet. None are left where the text is empty. An argument that is
-/// missing or isn't of its kind is noted, and a value that says nothing stands for it: `end` tells before anything is done with it.
+/// The key of a step, and those of its arguments that weren't taken yet. None are left where the text is empty. An
+/// argument that is missing or isn't of its kind is noted, and a value that says nothing stands for it: `end` tells
+/// before anything is done with it.
 #[derive(Clone, Copy)]
 pub struct Words<'a> {
     alloc: Global,

@@ -7,7 +7,8 @@ use Rattle.zre_actor.specs.declared.passes.CallerPasses.{CallerPasses}
 use Rattle.zre_actor.specs.declared.passes.TakerPass.{TakerPass}
 use Rattle.zre_actor.specs.Passes.{IsActorOf, IsCallerOf, IsTakerOf, given_of, room_of, unused_by, ending_of, ended, last_of}
 
-pub record IsReady (pipes : Pipes) (actor : ActorPass) (callers : CallerPasses) (first second : CallerPass) (taker : TakerPass) : Type 0 where
+pub record IsReady (pipes : Pipes) (actor : ActorPass) (callers : CallerPasses) (first second : CallerPass)
+    (taker : TakerPass) : Type 0 where
   pub of_actor : IsActorOf pipes actor
   pub of_first : IsCallerOf pipes first
   pub of_second : IsCallerOf pipes second

@@ -1,5 +1,5 @@
-//! Tests of what rows of data can't show (`zre_rows` runs those): threads, pipes, sockets and files, over public calls alone. They stand
-//! in a crate of their own, so that no crate below is proved a second time for its tests.
+//! Tests of what rows of data can't show (`zre_rows` runs those): threads, pipes, sockets and files, over public
+//! calls alone. They stand in a crate of their own, so that no crate below is proved a second time for its tests.
 #![tactic(auto)]
 
 #[cfg(test)]

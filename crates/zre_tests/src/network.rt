@@ -1,5 +1,5 @@
-//! Worlds over loopback. Each process takes addresses of its own out of 127.0.0.0/8, so that tests which run at the same
-//! time don't meet. No time that a test waits for is tight.
+//! Worlds over loopback. Each process takes addresses of its own out of 127.0.0.0/8, so that tests which run at the
+//! same time don't meet. No time that a test waits for is tight.
 
 mod flows;
 mod turns;
@@ -16,8 +16,8 @@ const BEACON_PORT: u16 = 29171;
 /// So many turns a test waits for what is to come: some 20 seconds, where all of them are looks.
 const TURNS: u32 = 1000;
 
-/// An entry: its kind, the number of its connection or link, or the last octet of its sender's address, and its octets, or
-/// the count of what was taken.
+/// An entry: its kind, the number of its connection or link, or the last octet of its sender's address, and its
+/// octets, or the count of what was taken.
 #[derive(Drop)]
 struct Seen {
     kind: &'static str,

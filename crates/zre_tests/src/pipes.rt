@@ -231,7 +231,8 @@ fn make_stand(alloc: Global) -> Option<Stand> {
     }
 }
 
-/// The callers put, then the actor works, then the taker takes. How often the node stopped, the ending, and what was left.
+/// The callers put, then the actor works, then the taker takes. How often the node stopped, the ending, and what was
+/// left.
 fn one_by_one<R: Wait + Copy>(
     rt: R,
     ready: Ready,
@@ -309,7 +310,8 @@ fn talk_and_take<R: Threads + Wait + Send + Copy>(
         &rt,
         move ||
             requires { IsCallerOf pipes.now first × IsCallerOf pipes.now second }
-            ensures { IsCallerOf pipes.entry.now result.0 × IsCallerOf pipes.entry.now result.1 × (ended result.0 ≡ ended first) × (ended result.1 ≡ ended second) }
+            ensures { IsCallerOf pipes.entry.now result.0 × IsCallerOf pipes.entry.now result.1
+                × (ended result.0 ≡ ended first) × (ended result.1 ≡ ended second) }
         { both_talk(rt, pipes, first, second, groups) },
         move ||
             requires { IsTakerOf pipes.now taker × (last_of taker ≡ None) }
@@ -318,7 +320,8 @@ fn talk_and_take<R: Threads + Wait + Send + Copy>(
     )
 }
 
-/// Two callers, the actor and the taker, each in a thread of its own, to the end. Nothing where the actor wasn't started.
+/// Two callers, the actor and the taker, each in a thread of its own, to the end. Nothing where the actor wasn't
+/// started.
 fn side_by_side<P: Spawner>(
     rt: P::Runtime,
     spawner: &mut P,

@@ -1,4 +1,5 @@
-//! A chat that reads, works and prints beside each other: its input holds its last line back until something was written.
+//! A chat that reads, works and prints beside each other: its input holds its last line back until something was
+//! written.
 
 use std::alloc::Global;
 use std::sync::atomic::{AtomicBool, Ordering};

@@ -23,30 +23,39 @@ has_rested moments now span key = option_map_or (λ at. nat_le span (now - at)) 
 
 -- the key has a moment, and it is in this range
 abbrev pub has_moment_between : Moments → ℕ → ℕ → ℕ → Bool
-has_moment_between moments first last key = option_map_or (λ at. nat_le first at && nat_le at last) (moment_of moments key) false
+has_moment_between moments first last key =
+    option_map_or (λ at. nat_le first at && nat_le at last) (moment_of moments key) false
 
 -- ---- laws
 
 pub moment_of-empty : (key : ℕ) → moment_of map.empty key ≡ None
 moment_of-empty key = map.get-empty nat_cmp key
 
-pub moment_of-insert : (moments : Moments) (at_key at key : ℕ) → moment_of (map.insert moments at_key at) key ≡ cond (key == at_key) (Some at) (moment_of moments key)
+pub moment_of-insert : (moments : Moments) (at_key at key : ℕ)
+    → moment_of (map.insert moments at_key at) key ≡ cond (key == at_key) (Some at) (moment_of moments key)
 moment_of-insert moments at_key at key =
-    map.get-insert nat_cmp_total moments at_key at key ∙ ap (λ b. cond b (Some at) (moment_of moments key)) (unsigned_tied key at_key)
+    map.get-insert nat_cmp_total moments at_key at key ∙ ap (λ b. cond b (Some at) (moment_of moments key))
+    (unsigned_tied key at_key)
 
-pub moment_of-remove : (moments : Moments) (at_key key : ℕ) → moment_of (map.remove moments at_key) key ≡ cond (key == at_key) None (moment_of moments key)
+pub moment_of-remove : (moments : Moments) (at_key key : ℕ)
+    → moment_of (map.remove moments at_key) key ≡ cond (key == at_key) None (moment_of moments key)
 moment_of-remove moments at_key key =
-    map.get-remove nat_cmp_total moments at_key key ∙ ap (λ b. cond b None (moment_of moments key)) (unsigned_tied key at_key)
+    map.get-remove nat_cmp_total moments at_key key ∙ ap (λ b. cond b None (moment_of moments key))
+    (unsigned_tied key at_key)
 
 pub NoneAfter-empty : (now : ℕ) → NoneAfter now map.empty
 NoneAfter-empty now key = subst (λ o. IfSome o (λ at. at ≤ now)) (sym (moment_of-empty key)) tt
 
-pub NoneAfter-insert : (moments : Moments) (key at now : ℕ) → NoneAfter now moments → at ≤ now → NoneAfter now (map.insert moments key at)
+pub NoneAfter-insert : (moments : Moments) (key at now : ℕ) → NoneAfter now moments → at ≤ now
+    → NoneAfter now (map.insert moments key at)
 NoneAfter-insert moments key at now before fits k =
     subst (λ o. IfSome o (λ m. m ≤ now)) (sym (moment_of-insert moments key at k))
-    (elim (k == key) as (λ b. IfSome (cond b (Some at) (moment_of moments k)) (λ m. m ≤ now)) [ true ↦ fits | false ↦ before k ])
+    (elim (k == key) as (λ b. IfSome (cond b (Some at) (moment_of moments k))
+    (λ m. m ≤ now)) [ true ↦ fits | false ↦ before k ])
 
-pub NoneAfter-remove : (moments : Moments) (key now : ℕ) → NoneAfter now moments → NoneAfter now (map.remove moments key)
+pub NoneAfter-remove : (moments : Moments) (key now : ℕ) → NoneAfter now moments
+    → NoneAfter now (map.remove moments key)
 NoneAfter-remove moments key now before k =
     subst (λ o. IfSome o (λ m. m ≤ now)) (sym (moment_of-remove moments key k))
-    (elim (k == key) as (λ b. IfSome (cond b None (moment_of moments k)) (λ m. m ≤ now)) [ true ↦ tt | false ↦ before k ])
+    (elim (k == key) as (λ b. IfSome (cond b None (moment_of moments k))
+    (λ m. m ≤ now)) [ true ↦ tt | false ↦ before k ])

@@ -12,7 +12,8 @@ use zre_values::{Keys, OutOfMemory};
 #[derive(Drop)]
 pub struct Timers {
     moments: BTreeMap<u64, u64>,
-    // The same pairs in the order of their moments, so that the keys that are due are found without a look at the others.
+    // The same pairs in the order of their moments, so that the keys that are due are found without a look at the
+    // others.
     queue: BTreeSet<(u64, u64)>,
     alloc: Global,
 }

@@ -2,7 +2,8 @@
 use Rattle.std.specs.Prelude.{ℕ, suc, ◌<◌, ◌^◌, nat_lt, List, [], ◌∷◌, ◌++◌, length, if◌then◌else◌}
 use Rattle.std.specs.Int.{w64, to_be_bytes}
 
--- a frame with these flags and one octet of size; where the body has more than 255 octets, the long flag and eight octets of size
+-- a frame with these flags and one octet of size; where the body has more than 255 octets, the long flag and eight
+-- octets of size
 abbrev pub frame : ℕ → List ℕ → List ℕ
 frame flags body =
     if nat_lt (length body) 256 then flags ∷ length body ∷ body

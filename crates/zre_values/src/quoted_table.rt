@@ -263,8 +263,8 @@ const ROWS: &[[u8; 4]; 256] = &[
     [37, 70, 70, 3],
 ];
 
-/// The octet itself, or `%` where it doesn't stand for itself; its two upper-case digits; and how many of these three octets
-/// are its text.
+/// The octet itself, or `%` where it doesn't stand for itself; its two upper-case digits; and how many of these three
+/// octets are its text.
 #[inline]
 pub(crate) fn row_of(octet: u8) -> [u8; 4]
     ensures { result ≡ row_of octet }

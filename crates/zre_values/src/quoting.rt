@@ -26,8 +26,8 @@ pub(crate) fn are_plain(bytes: &[u8]) -> bool
     bytes.iter().all(|octet| is_plain(*octet))
 }
 
-// How many octets are quoted before their text is appended, and how many octets that text takes at most, with one more that
-// may be written after it.
+// How many octets are quoted before their text is appended, and how many octets that text takes at most, with one
+// more that may be written after it.
 const CHUNK: usize = 32;
 
 const CHUNK_TEXT: usize = 97;

@@ -11,7 +11,8 @@ use Rattle.zre_zmtp.specs.declared.item.What.TheVariants.{Greeting, Ready, Messa
 use Rattle.zre_zmtp.specs.Stream.{Want, Any, Router, Dealer, Kind, Whole, expected, split, items, fault, IsAtRest}
 use Rattle.zre_zmtp.specs.Written.{own_greeting, socket_name, ready_body, ready_frame}
 
--- READY came, or none is expected; nothing is wrong in o, and nothing unfinished: what comes next is a message or a command.
+-- READY came, or none is expected; nothing is wrong in o, and nothing unfinished: what comes next is a message or a
+-- command.
 pub record AwaitsMessage (want : Want) (kind : Kind) (o : List ℕ) : Type 0 where
   pub at_rest : IsAtRest want kind o
   pub faultless : fault want kind o ≡ None
@@ -25,7 +26,8 @@ pub record IsWithinLimits (message : List (List ℕ)) : Type 0 where
 
 -- The frames of the message after o are read as the message, and the next one is awaited.
 pub record ReadsMessage (want : Want) (kind : Kind) (o : List ℕ) (message : List (List ℕ)) : Type 0 where
-  pub read : items want kind (o ++ frames message) ≡ items want kind o ++ record { start = length o; end = length (o ++ frames message); what = Message message } ∷ []
+  pub read : items want kind (o ++ frames message) ≡ items want kind o
+      ++ record { start = length o; end = length (o ++ frames message); what = Message message } ∷ []
   pub awaits : AwaitsMessage want kind (o ++ frames message)
 
 -- the identity of another than this peer

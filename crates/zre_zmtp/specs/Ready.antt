@@ -1,4 +1,5 @@
--- The body of a command (RFC 23, commands): one octet of length, a name, the rest. READY's rest is a list of properties.
+-- The body of a command (RFC 23, commands): one octet of length, a name, the rest. READY's rest is a list of
+-- properties.
 use Rattle.std.specs.Prelude.{ℕ, zero, suc, ◌+◌, Bool, false, ◌||◌, ◌&&◌, nat_le, ◌==◌, if◌then◌else◌, List, [], ◌∷◌, length, take, drop, Option, Some, None, option_map, option_and_then, codes, find}
 use Rattle.std.specs.List.{list_all}
 use Rattle.std.specs.Str.{str_eq_ignore_ascii_case}
@@ -25,7 +26,8 @@ is_between low high c = nat_le low c && nat_le c high
 
 -- letters, digits, '-', '_', '.' and '+'
 abbrev pub is_name_octet : ℕ → Bool
-is_name_octet c = is_between 65 90 c || is_between 97 122 c || is_between 48 57 c || c == 45 || c == 95 || c == 46 || c == 43
+is_name_octet c =
+    is_between 65 90 c || is_between 97 122 c || is_between 48 57 c || c == 45 || c == 95 || c == 46 || c == 43
 
 -- four octets of length, and the value of that length, at the front of the octets
 abbrev pub value_len : List ℕ → ℕ
@@ -52,7 +54,8 @@ unfoldable pub properties_within : ℕ → List ℕ → Option (List (List ℕ �
 properties_within n [] = Some []
 properties_within zero (x ∷ o) = None
 properties_within (suc n) (x ∷ o) =
-    if has_property (x ∷ o) then option_map (λ ps. property (x ∷ o) ∷ ps) (properties_within n (after_property (x ∷ o))) else None
+    if has_property (x ∷ o)
+    then option_map (λ ps. property (x ∷ o) ∷ ps) (properties_within n (after_property (x ∷ o))) else None
 
 -- the properties that the octets spell one after another, if they do
 abbrev pub properties : List ℕ → Option (List (List ℕ × List ℕ))

@@ -34,7 +34,8 @@ with_item i f = record { given = option_to_list i ++ f.given; before = f.before;
 unfoldable pub run : Want → ℕ → Before → List ℕ → Found
 run want zero b o = record { given = []; before = b; left = o }
 run want (suc n) b o =
-    unwrap_or (option_map (λ len. with_item (item b (take len o)) (run want n (after b (take len o)) (drop len o))) (part_len want b o)) (record { given = []; before = b; left = o })
+    unwrap_or (option_map (λ len. with_item (item b (take len o)) (run want n (after b (take len o)) (drop len o)))
+    (part_len want b o)) (record { given = []; before = b; left = o })
 
 -- the same of all of the octets
 abbrev pub run_all : Want → Before → List ℕ → Found

@@ -28,11 +28,15 @@ left_of p = left_by p.expected p.greeting p.partial.head p.partial.body
 
 -- what is wrong with the header of a frame, or with what is there of it
 abbrev pub header_fault : Before → List ℕ → Option ZmtpWhy
-header_fault b o = option_or (once (nat_le 1 (length o)) (flags_fault b (flags o))) (once (has_header o) (size_fault b (flags o) (size o)))
+header_fault b o =
+    option_or (once (nat_le 1 (length o)) (flags_fault b (flags o)))
+    (once (has_header o) (size_fault b (flags o) (size o)))
 
 -- the item that ends with a frame of so many octets, by its flags, size and body
 abbrev pub frame_item : Before → Header → List ℕ → ℕ → Option Item
-frame_item b h o len = option_map (λ says. record { start = start_of b.expected b h.flags; end = b.place + len; what = says }) (said b.expected b.opened h.flags h.size o)
+frame_item b h o len =
+    option_map (λ says. record { start = start_of b.expected b h.flags; end = b.place + len; what = says })
+    (said b.expected b.opened h.flags h.size o)
 
 -- what is known after such a frame, where no greeting is expected
 abbrev pub frame_after : Before → Header → List ℕ → ℕ → Before
@@ -49,7 +53,8 @@ pub record Waits (want : Want) (b : Before) (o : List ℕ) : Type 0 where
   pub partial : whole_len b.expected o ≡ None
 
 -- The octets o were read after b, and have no fault.
-pub record Advances (want : Want) (b : Before) (o : List ℕ) (old new : List Item) (now : Before) (later : List ℕ) : Type 0 where
+pub record Advances (want : Want) (b : Before) (o : List ℕ) (old new : List Item) (now : Before) (later : List ℕ)
+    : Type 0 where
   pub reads : ReadsAll (run_all want b o) old new now later
   pub faultless : fault_of want now later ≡ None
 
@@ -59,7 +64,8 @@ RefusesAt e want b o old new =
     let found = run_all want b o in
     Refuses e (fault_of want found.before found.left) (new ≡ old ++ found.given)
 
--- how many octets the next turn of a reader takes at most: one of a greeting or of a header, and else what is missing of a body
+-- how many octets the next turn of a reader takes at most: one of a greeting or of a header, and else what is missing
+-- of a body
 abbrev pub room : Expected → Option Header → List ℕ → ℕ
 room expect.Greeting header body = 1
 room expect.Ready None body = 1

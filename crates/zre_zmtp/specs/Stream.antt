@@ -1,5 +1,5 @@
--- A stream of ZMTP 3.0 with the NULL mechanism (RFC 23), all octets of it at once: which parts of it are whole, what they
--- say, and the first fault. A part is the greeting or a frame.
+-- A stream of ZMTP 3.0 with the NULL mechanism (RFC 23), all octets of it at once: which parts of it are whole, what
+-- they say, and the first fault. A part is the greeting or a frame.
 use Rattle.std.specs.Prelude.{◌≡◌, ℕ, zero, suc, ◌+◌, ◌-◌, Bool, true, false, not, ◌&&◌, nat_le, nat_lt, ◌==◌, if◌then◌else◌, List, [], ◌∷◌, ◌++◌, length, take, drop, slice_index, Option, Some, None, option_map, option_to_list, unwrap_or, is_some, codes, bytes_eq, sum_by}
 use Rattle.std.specs.Option.{option_or}
 use Rattle.zre_values.specs.declared.limits.TheConstants.{MESSAGE_OCTETS, MESSAGE_FRAMES, COMMAND_OCTETS}
@@ -64,11 +64,13 @@ opened kind (part ∷ before) = opened_with (expected kind before) (opened kind 
 -- where the message begins to which the next message frame belongs
 abbrev pub start : Kind → Parts → ℕ
 start kind [] = 0
-start kind (part ∷ before) = if length (opened kind (part ∷ before)) == 0 then place (part ∷ before) else start kind before
+start kind (part ∷ before) =
+    if length (opened kind (part ∷ before)) == 0 then place (part ∷ before) else start kind before
 
 -- all that they tell
 abbrev pub before : Kind → Parts → Before
-before kind parts = record { expected = expected kind parts; place = place parts; opened = opened kind parts; start = start kind parts }
+before kind parts =
+    record { expected = expected kind parts; place = place parts; opened = opened kind parts; start = start kind parts }
 
 -- ---- faults
 
@@ -93,7 +95,8 @@ octet_fault i b = first_row
 -- the first octet, from place i on, that no greeting has there
 unfoldable pub greeting_fault : ℕ → List ℕ → Option ZmtpFault
 greeting_fault i [] = None
-greeting_fault i (b ∷ o) = option_or (option_map (λ reason. record { why = reason; place = i }) (octet_fault i b)) (greeting_fault (i + 1) o)
+greeting_fault i (b ∷ o) =
+    option_or (option_map (λ reason. record { why = reason; place = i }) (octet_fault i b)) (greeting_fault (i + 1) o)
 
 -- the body of READY
 abbrev pub is_ready : List ℕ → Bool
@@ -165,7 +168,8 @@ command_fault want e o = first_row
 abbrev pub body_fault : Want → Before → ℕ → List ℕ → Option ZmtpWhy
 body_fault want b f o = if is_message f then None else command_fault want b.expected o
 
--- what is wrong with the frame whose octets from its flags octet on are o: the first of the tests whose octets are there
+-- what is wrong with the frame whose octets from its flags octet on are o: the first of the tests whose octets are
+-- there
 unfoldable pub frame_why : Want → Before → List ℕ → Option ZmtpWhy
 frame_why want b o =
     option_or (once (nat_le 1 (length o)) (flags_fault b (flags o)))
@@ -198,13 +202,16 @@ whole_len expect.Traffic o = if is_whole o then Some (frame_len o) else None
 unfoldable pub part_len : Want → Before → List ℕ → Option ℕ
 part_len want b o = if is_some (fault_of want b o) then None else whole_len b.expected o
 
--- The parts after those before, the last one first, and the octets after them. The number bounds how many parts there can be.
+-- The parts after those before, the last one first, and the octets after them. The number bounds how many parts there
+-- can be.
 unfoldable pub cut : Want → Kind → ℕ → Parts → List ℕ → Parts × List ℕ
 cut want kind zero parts o = (parts, o)
 cut want kind (suc n) parts o =
-    unwrap_or (option_map (λ len. cut want kind n (take len o ∷ parts) (drop len o)) (part_len want (before kind parts) o)) (parts, o)
+    unwrap_or (option_map (λ len. cut want kind n (take len o ∷ parts) (drop len o))
+    (part_len want (before kind parts) o)) (parts, o)
 
--- The longest list of whole and faultless parts that stand one after another in o, the last one first, and the octets after them.
+-- The longest list of whole and faultless parts that stand one after another in o, the last one first, and the octets
+-- after them.
 abbrev pub split : Want → Kind → List ℕ → Parts × List ℕ
 split want kind o = cut want kind (length o) [] o
 
@@ -233,7 +240,12 @@ start_of expect.Traffic b f = if is_message f then b.start else b.place
 
 -- the item that ends with a part, if one does
 unfoldable pub item : Before → List ℕ → Option Item
-item b part = option_map (λ says. record { start = start_of b.expected b (flags part); end = b.place + length part; what = says }) (what_of b.expected b.opened part)
+item b part =
+    option_map (λ says. record {
+      start = start_of b.expected b (flags part);
+      end = b.place + length part;
+      what = says;
+    }) (what_of b.expected b.opened part)
 
 -- the items that end with the parts
 abbrev pub items_of : Kind → Parts → List Item

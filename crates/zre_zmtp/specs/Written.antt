@@ -27,7 +27,8 @@ identity_octets (Some id) = property_octets (codes "Identity") (1 ∷ id.0)
 
 -- the body of READY with a socket type and an identity
 abbrev pub ready_body : SocketType → Option PeerId → List ℕ
-ready_body kind identity = ((5 ∷ codes "READY") ++ property_octets (codes "Socket-Type") (socket_name kind)) ++ identity_octets identity
+ready_body kind identity =
+    ((5 ∷ codes "READY") ++ property_octets (codes "Socket-Type") (socket_name kind)) ++ identity_octets identity
 
 -- READY as a command frame
 abbrev pub ready_frame : SocketType → Option PeerId → List ℕ

@@ -139,7 +139,8 @@ fn first_value<'a>(
 
 /// The value of the first property of that name, where the octets are properties.
 pub fn value_in<'a>(octets: &'a [u8], wanted: &[u8]) -> Option<Option<&'a [u8]>>
-    ensures { option_map (λ found. option_copied found) result ≡ option_map (λ ps. value_of wanted.now ps) (properties octets.now) }
+    ensures { option_map (λ found. option_copied found) result ≡ option_map (λ ps. value_of wanted.now ps)
+        (properties octets.now) }
 {
     let mut left = octets;
     let mut found: Option<&'a [u8]> = None;
@@ -168,7 +169,8 @@ fn ready_value<'a>(body: &'a [u8], wanted: &[u8]) -> Option<&'a [u8]>
     }
 }
 
-/// The first value under `Socket-Type` in the body of READY; none where what stands after its name is no list of properties.
+/// The first value under `Socket-Type` in the body of READY; none where what stands after its name is no list of
+/// properties.
 pub fn socket_type(body: &[u8]) -> Option<&[u8]>
     ensures { option_copied result ≡ socket_type_of body.now }
 {

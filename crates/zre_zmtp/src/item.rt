@@ -128,7 +128,8 @@ impl Items {
         end: u64,
         body: &[u8],
     ) -> Result<(), OutOfMemory>
-        ensures { OnOk result (self.new ≡ self.old ++ record { start = start; end = end; what = What.Message (body.now ∷ []) } ∷ []) }
+        ensures { OnOk result (self.new ≡ self.old
+            ++ record { start = start; end = end; what = What.Message (body.now ∷ []) } ∷ []) }
     {
         let what = What::Message(Frames::of(alloc, Octets::new(alloc)));
         self.push(Item { start, end, what })?;

@@ -43,8 +43,8 @@ fn read(
     Ok(())
 }
 
-/// A reader of a stream, or of traffic alone, that is handed the octets in any pieces. It keeps the octets of the greeting
-/// or frame that isn't whole and the bodies of the message that isn't, and looks at each octet once.
+/// A reader of a stream, or of traffic alone, that is handed the octets in any pieces. It keeps the octets of the
+/// greeting or frame that isn't whole and the bodies of the message that isn't, and looks at each octet once.
 #[derive(Drop)]
 pub struct Reader {
     alloc: Global,
@@ -89,9 +89,9 @@ impl Reader {
         Reader::expecting(alloc, Want::Any, Expected::Traffic)
     }
 
-    /// Reads one more piece: the items whose last octet is now there are appended. A fault is told with the very octet that
-    /// makes it certain, after the items before it; no octet that comes later changes it or adds an item. After a refusal
-    /// the reader is spent. OutOfMemory is also told where a place would be above 2^64 - 1.
+    /// Reads one more piece: the items whose last octet is now there are appended. A fault is told with the very
+    /// octet that makes it certain, after the items before it; no octet that comes later changes it or adds an item.
+    /// After a refusal the reader is spent. OutOfMemory is also told where a place would be above 2^64 - 1.
     pub fn feed(&mut self, piece: &[u8], out: &mut Items) -> Result<(), FeedFault>
         requires { self.old.spent ≡ false }
         ensures ok { (want : WantValue) (kind : Kind) (o : List ℕ) → Reads want kind o self.old →
@@ -108,8 +108,8 @@ impl Reader {
         Ok(())
     }
 
-    /// Reads pieces one after another, as if they were one: however a stream is cut, the same items and the same fault come
-    /// of it.
+    /// Reads pieces one after another, as if they were one: however a stream is cut, the same items and the same
+    /// fault come of it.
     pub fn feed_pieces(&mut self, pieces: &Frames, out: &mut Items) -> Result<(), FeedFault>
         requires { self.old.spent ≡ false }
         ensures ok { (want : WantValue) (kind : Kind) (o : List ℕ) → Reads want kind o self.old →
@@ -142,7 +142,8 @@ impl Reader {
         self.spent
     }
 
-    /// How many octets are kept: those of the bodies of an unfinished message, and those of an unfinished greeting or frame.
+    /// How many octets are kept: those of the bodies of an unfinished message, and those of an unfinished greeting or
+    /// frame.
     pub fn kept(&self) -> u64
         ensures { (want : WantValue) (kind : Kind) (o : List ℕ) → Reads want kind o self.now →
             (result ≡ kept self.now) × (result ≤ MESSAGE_OCTETS + 9 + COMMAND_OCTETS) }

@@ -361,7 +361,12 @@ fn end_message(
     body: &[u8],
     out: &mut Items,
 ) -> Result<(), OutOfMemory>
-    ensures given { OnOk result (out.new ≡ out.old ++ record { start = progress.old.start; end = end; what = What.Message (progress.old.opened ++ body.now ∷ []) } ∷ []) }
+    ensures given { OnOk result (out.new ≡ out.old
+        ++ record {
+          start = progress.old.start;
+          end = end;
+          what = What.Message (progress.old.opened ++ body.now ∷ []);
+        } ∷ []) }
     ensures rest { OnOk result (progress.new ≡ record progress.old { opened = [] }) }
 {
     let start = progress.start;
@@ -460,8 +465,8 @@ fn take_part(
     }
 }
 
-/// Takes octets from the front of these: a whole frame, where one begins there, and else octets of the part that isn't whole.
-/// It gives how many it took.
+/// Takes octets from the front of these: a whole frame, where one begins there, and else octets of the part that
+/// isn't whole. It gives how many it took.
 pub fn take_turn(
     alloc: Global,
     want: &Want,

@@ -42,7 +42,8 @@ impl Pipes {
         ensures pipes { IsActorOf self.now result }
         ensures raised { raised_by result ≡ raised_by pass ++ event ∷ [] }
         ensures open { ending_of result ≡ None }
-        ensures commands { (popped_by result ≡ popped_by pass) × (result.empties ≡ pass.empties) × (unused_by result ≡ unused_by pass) }
+        ensures commands { (popped_by result ≡ popped_by pass) × (result.empties ≡ pass.empties)
+            × (unused_by result ≡ unused_by pass) }
     {
         let ActorPass {
             commands,
@@ -64,7 +65,8 @@ impl Pipes {
         ensures pipes { IsActorOf self.now result }
         ensures raised { raised_by result ≡ raised_by pass }
         ensures ended { ending_of result ≡ Some ending }
-        ensures commands { (popped_by result ≡ popped_by pass) × (result.empties ≡ pass.empties) × (unused_by result ≡ unused_by pass) }
+        ensures commands { (popped_by result ≡ popped_by pass) × (result.empties ≡ pass.empties)
+            × (unused_by result ≡ unused_by pass) }
     {
         let ActorPass {
             commands,

@@ -8,16 +8,18 @@ use super::{CallerPass, CallerPasses};
 impl CallerPasses {
     /// A pass that wasn't taken yet, or none where all were.
     pub fn take(&mut self) -> Option<CallerPass>
-        ensures taken { MatchOption result ((fresh_of self.old ≡ []) × (fresh_of self.new ≡ [])) (λ p. fresh_of self.old ≡ fresh_of self.new ++ p ∷ []) }
-        ensures pipes { (pipes : Pipes) → AreCallersOf pipes (fresh_of self.old) → AreCallersOf pipes (fresh_of self.new) × IfSome result (IsCallerOf pipes) }
+        ensures taken { MatchOption result ((fresh_of self.old ≡ []) × (fresh_of self.new ≡ []))
+            (λ p. fresh_of self.old ≡ fresh_of self.new ++ p ∷ []) }
+        ensures pipes { (pipes : Pipes) → AreCallersOf pipes (fresh_of self.old)
+            → AreCallersOf pipes (fresh_of self.new) × IfSome result (IsCallerOf pipes) }
         ensures new { All IsNew (fresh_of self.old) → All IsNew (fresh_of self.new) × IfSome result IsNew }
         ensures given { (given_of self.new ≡ given_of self.old) × (room_of self.new ≡ room_of self.old) }
     {
         self.fresh.pop()
     }
 
-    /// Gives a pass back. There is room for as many as were made; a pass that was absorbed comes back within the one that
-    /// absorbed it.
+    /// Gives a pass back. There is room for as many as were made; a pass that was absorbed comes back within the one
+    /// that absorbed it.
     pub fn give(&mut self, pass: CallerPass)
         requires room { 0 < room_of self.old }
         ensures given { given_of self.new ≡ given_of self.old ++ pass ∷ [] }

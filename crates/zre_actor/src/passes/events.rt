@@ -27,13 +27,14 @@ impl Pipes {
         unreachable!()
     }
 
-    /// The next event, or Last, or nothing where the pipe was empty at one moment of the call. So a caller can do what it
-    /// put off, such as to write, before it waits in [`Pipes::take`].
+    /// The next event, or Last, or nothing where the pipe was empty at one moment of the call. So a caller can do
+    /// what it put off, such as to write, before it waits in [`Pipes::take`].
     pub fn try_take<R: Wait + Copy>(&self, rt: R, pass: TakerPass) -> (TakerPass, Option<Told>)
         requires pipes { IsTakerOf self.now pass }
         requires open { last_of pass ≡ None }
         ensures pipes { IsTakerOf self.now result.0 }
-        ensures told { MatchOption result.1 ((taken_by result.0 ≡ taken_by pass) × (last_of result.0 ≡ last_of pass)) (λ told. IsTold pass told result.0) }
+        ensures told { MatchOption result.1 ((taken_by result.0 ≡ taken_by pass) × (last_of result.0 ≡ last_of pass))
+            (λ told. IsTold pass told result.0) }
     {
         let TakerPass { mut events } = pass;
         let told = self

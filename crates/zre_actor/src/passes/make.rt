@@ -21,13 +21,15 @@ impl Pipes {
     /// The pipes, and the passes of the actor, of the callers and of the taker.
     pub fn make(alloc: Global, callers: u8) -> Result<Made, OutOfMemory>
         requires { (1 ≤ callers) × (callers ≤ 16) }
-        ensures pipes { IfOk result (λ m. IsActorOf m.pipes m.actor × IsTakerOf m.pipes m.taker × AreCallersOf m.pipes (fresh_of m.callers)) }
+        ensures pipes { IfOk result (λ m. IsActorOf m.pipes m.actor × IsTakerOf m.pipes m.taker
+            × AreCallersOf m.pipes (fresh_of m.callers)) }
         ensures numbers { IfOk result (λ m. numbers_of (fresh_of m.callers) ≡ row 1 callers) }
         ensures new { IfOk result (λ m. All IsNew (fresh_of m.callers)) }
         ensures unused { IfOk result (λ m. length (unused_by m.actor) + callers ≡ 16) }
         ensures given { IfOk result (λ m. (given_of m.callers ≡ []) × (callers ≤ room_of m.callers)) }
         ensures popped { IfOk result (λ m. (popped_by m.actor ≡ []) × (m.actor.empties ≡ 0)) }
-        ensures events { IfOk result (λ m. (raised_by m.actor ≡ []) × (ending_of m.actor ≡ None) × (taken_by m.taker ≡ []) × (last_of m.taker ≡ None)) }
+        ensures events { IfOk result (λ m. (raised_by m.actor ≡ []) × (ending_of m.actor ≡ None)
+            × (taken_by m.taker ≡ []) × (last_of m.taker ≡ None)) }
     {
         let mut fresh = Vec::with_capacity(alloc, usize::from(callers))?;
         let given = Vec::with_capacity(alloc, usize::from(callers))?;

@@ -9,8 +9,8 @@ use std::sync::Wait;
 use zre_outside::Command;
 
 impl Pipes {
-    /// Puts a command at the end of the pipe. It comes back only where the pipe held as many as it may at one moment of the
-    /// call. It may spin while a step of another thread is under way.
+    /// Puts a command at the end of the pipe. It comes back only where the pipe held as many as it may at one moment
+    /// of the call. It may spin while a step of another thread is under way.
     pub fn put<R: Wait + Copy>(
         &self,
         rt: R,
@@ -21,7 +21,8 @@ impl Pipes {
         ensures pipes { MatchResult result (λ p. IsCallerOf self.now p) (λ f. IsCallerOf self.now f.pass) }
         ensures number { MatchResult result (λ p. number p ≡ number pass) (λ f. number f.pass ≡ number pass) }
         ensures ended { MatchResult result (λ p. ended p ≡ ended pass) (λ f. ended f.pass ≡ ended pass) }
-        ensures put { MatchResult result (λ p. put_by p ≡ put_by pass ++ placed (number pass) (ended pass) command ∷ []) (λ f. put_by f.pass ≡ put_by pass) }
+        ensures put { MatchResult result (λ p. put_by p ≡ put_by pass
+            ++ placed (number pass) (ended pass) command ∷ []) (λ f. put_by f.pass ≡ put_by pass) }
         ensures command { IfErr result (λ f. f.command ≡ command) }
         ensures full { MatchResult result (λ p. p.fulls ≡ pass.fulls) (λ f. Raised pass.fulls f.pass.fulls) }
     {

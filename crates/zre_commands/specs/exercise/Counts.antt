@@ -61,7 +61,9 @@ abbrev pub with_event : Counts → Event → Counts
 with_event c (Enter id name endpoint headers) = record c { enter = c.enter + 1 }
 with_event c (Join id name group) = record c { join = c.join + 1 }
 with_event c (Leave id name group) = record c { leave = c.leave + 1 }
-with_event c (Whisper id name content) = record c { whisper = c.whisper + 1; content = c.content + sum_by length content }
-with_event c (Shout id name group content) = record c { shout = c.shout + 1; content = c.content + sum_by length content }
+with_event c (Whisper id name content) =
+    record c { whisper = c.whisper + 1; content = c.content + sum_by length content }
+with_event c (Shout id name group content) =
+    record c { shout = c.shout + 1; content = c.content + sum_by length content }
 with_event c (Exit id name cause) = record c { exit = c.exit + 1 }
 with_event c _ = c

@@ -10,5 +10,6 @@ count_line word n = word ++ codes " " ++ decimal n ++ codes "\n"
 unfoldable pub summary : Counts → List ℕ
 summary c =
     count_line (codes "entries") c.entries ++ count_line (codes "enter") c.enter ++ count_line (codes "join") c.join
-    ++ count_line (codes "leave") c.leave ++ count_line (codes "whisper") c.whisper ++ count_line (codes "shout") c.shout
+    ++ count_line (codes "leave") c.leave ++ count_line (codes "whisper") c.whisper
+    ++ count_line (codes "shout") c.shout
     ++ count_line (codes "exit") c.exit ++ count_line (codes "content") c.content

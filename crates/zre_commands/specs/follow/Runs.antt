@@ -37,12 +37,14 @@ end_of id (Some v) fault = Exit id v.name (cause_of fault)
 
 -- the events of one message after others: its own, or the end of the run
 abbrev pub told : PeerId → List Message → Message → List Event
-told id done m = if may_follow done m then events_of id (view_of done) m.body else end_of id (shown done) (fault_of done m) ∷ []
+told id done m =
+    if may_follow done m then events_of id (view_of done) m.body else end_of id (shown done) (fault_of done m) ∷ []
 
 -- the events of messages after others, up to the end of the run
 unfoldable pub events_after : PeerId → List Message → List Message → List Event
 events_after id done [] = []
-events_after id done (m ∷ ms) = told id done m ++ (if may_follow done m then events_after id (done ++ m ∷ []) ms else [])
+events_after id done (m ∷ ms) =
+    told id done m ++ (if may_follow done m then events_after id (done ++ m ∷ []) ms else [])
 
 -- whether the run ends within the messages: one of them may not follow those before it
 unfoldable pub is_over : List Message → List Message → Bool

@@ -9,7 +9,8 @@ use Rattle.zre_peer.specs.declared.peer_run.Run.{Run}
 use Rattle.zre_commands.specs.follow.Runs.{told, events_after, is_over}
 
 -- one message was taken after others
-pub record TookOne (id : PeerId) (ms : List Message) (m : Message) (goes_on : Bool) (run : Run) (out out' : List ℕ) : Type 0 where
+pub record TookOne (id : PeerId) (ms : List Message) (m : Message) (goes_on : Bool) (run : Run) (out out' : List ℕ)
+    : Type 0 where
   pub may : goes_on ≡ may_follow ms m
   pub stands : goes_on ≡ true → Stands run (ms ++ m ∷ [])
   pub lines_of : out' ≡ out ++ lines (told id ms m)

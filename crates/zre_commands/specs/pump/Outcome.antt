@@ -7,13 +7,15 @@ use Rattle.zre_commands.specs.declared.pump.status.Status.{Status}
 use Rattle.zre_commands.specs.declared.pump.status.Status.TheVariants.{Done, Usage, BadInput, ReadFault, WriteFault, WorldFault, NoThread, TooLong, OutOfMemory}
 
 -- the octets o were taken, and then: read and write say that the counts of faults of the source and the sink rose
-abbrev pub Outcome : Status → (limit : ℕ) (m : Meaning) (o : List ℕ) (left written written' : Option (List ℕ)) (read write : Type 0) → Type 0
+abbrev pub Outcome : Status
+    → (limit : ℕ) (m : Meaning) (o : List ℕ) (left written written' : Option (List ℕ)) (read write : Type 0) → Type 0
 -- the input was read to its end within the limit and isn't refused; all its text was written
 Outcome Done limit m o left written written' read write =
     (m.is_bad o ≡ false) × IsAtEnd left × (length o < limit) × Appends written written' (whole_text m o)
 -- the input is refused, at its end or however it goes on; its text and the last line were written
 Outcome BadInput limit m o left written written' read write =
-    (m.is_bad o ≡ true) × ((m.is_stopped o ≡ true) ⊎ (IsAtEnd left × (length o < limit))) × Appends written written' (whole_text m o)
+    (m.is_bad o ≡ true) × ((m.is_stopped o ≡ true) ⊎ (IsAtEnd left × (length o < limit)))
+    × Appends written written' (whole_text m o)
 -- the source failed where a read was due; the text of what was taken, fewer octets than the limit, was written
 Outcome ReadFault limit m o left written written' read write =
     read × (m.is_stopped o ≡ false) × (length o < limit) × Appends written written' (m.text o)
@@ -29,7 +31,8 @@ Outcome WorldFault limit m o left written written' read write = ⊥
 Outcome NoThread limit m o left written written' read write = ⊥
 
 -- some octets were taken from the source, no more than the limit, and the status says how it ended
-pub record Pumped (status : Status) (limit : ℕ) (m : Meaning) (left left' taken taken' written written' : Option (List ℕ)) (read write : Type 0) : Type 0 where
+pub record Pumped (status : Status) (limit : ℕ) (m : Meaning)
+    (left left' taken taken' written written' : Option (List ℕ)) (read write : Type 0) : Type 0 where
   pub octets : List ℕ
   pub moved : Moves left left' taken taken' octets
   pub within : length octets ≤ limit

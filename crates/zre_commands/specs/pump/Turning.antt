@@ -21,22 +21,33 @@ pub record WritesFront (m : Meaning) (o piece : List ℕ) (written written' : Op
   pub appended : AppendsFront written written' added
 
 -- a piece after the octets o was fed and its text written
-abbrev pub Told : Next → (fed : List ℕ → Type 0) (m : Meaning) (o piece : List ℕ) (written written' : Option (List ℕ)) (write : Type 0) → Type 0
-Told nexts.Go fed m o piece written written' write = fed (o ++ piece) × (m.is_stopped (o ++ piece) ≡ false) × WritesText m o piece written written'
-Told nexts.Stop fed m o piece written written' write = fed (o ++ piece) × (m.is_stopped (o ++ piece) ≡ true) × (m.is_bad (o ++ piece) ≡ true) × WritesText m o piece written written'
+abbrev pub Told : Next
+    → (fed : List ℕ → Type 0) (m : Meaning) (o piece : List ℕ) (written written' : Option (List ℕ)) (write : Type 0)
+    → Type 0
+Told nexts.Go fed m o piece written written' write =
+    fed (o ++ piece) × (m.is_stopped (o ++ piece) ≡ false) × WritesText m o piece written written'
+Told nexts.Stop fed m o piece written written' write =
+    fed (o ++ piece) × (m.is_stopped (o ++ piece) ≡ true) × (m.is_bad (o ++ piece) ≡ true)
+    × WritesText m o piece written written'
 Told nexts.WriteFault fed m o piece written written' write = write × WritesFront m o piece written written'
 Told nexts.OutOfMemory fed m o piece written written' write = WritesFront m o piece written written'
 Told nexts.End fed m o piece written written' write = ⊥
 Told nexts.ReadFault fed m o piece written written' write = ⊥
 
 -- one turn after the octets o, in which a piece was read
-abbrev pub Turned : Next → (fed : List ℕ → Type 0) (m : Meaning) (o piece : List ℕ) (left written written' : Option (List ℕ)) (read write : Type 0) → Type 0
-Turned nexts.Go fed m o piece left written written' read write = (0 < length piece) × Told nexts.Go fed m o piece written written' write
+abbrev pub Turned : Next
+    → (fed : List ℕ → Type 0) (m : Meaning) (o piece : List ℕ) (left written written' : Option (List ℕ))
+    (read write : Type 0) → Type 0
+Turned nexts.Go fed m o piece left written written' read write =
+    (0 < length piece) × Told nexts.Go fed m o piece written written' write
 Turned nexts.Stop fed m o piece left written written' read write = Told nexts.Stop fed m o piece written written' write
-Turned nexts.End fed m o piece left written written' read write = fed o × (piece ≡ []) × IsAtEnd left × Keeps written written'
+Turned nexts.End fed m o piece left written written' read write =
+    fed o × (piece ≡ []) × IsAtEnd left × Keeps written written'
 Turned nexts.ReadFault fed m o piece left written written' read write = (piece ≡ []) × read × Keeps written written'
-Turned nexts.WriteFault fed m o piece left written written' read write = Told nexts.WriteFault fed m o piece written written' write
-Turned nexts.OutOfMemory fed m o piece left written written' read write = Told nexts.OutOfMemory fed m o piece written written' write
+Turned nexts.WriteFault fed m o piece left written written' read write =
+    Told nexts.WriteFault fed m o piece written written' write
+Turned nexts.OutOfMemory fed m o piece left written written' read write =
+    Told nexts.OutOfMemory fed m o piece written written' write
 
 -- the end of the input o, after its text
 abbrev pub Finishes : Status → (m : Meaning) (o : List ℕ) (written written' : Option (List ℕ)) (write : Type 0) → Type 0

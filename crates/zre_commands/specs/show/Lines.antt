@@ -26,17 +26,20 @@ sender_text name headers = quoted name ++ codes " " ++ quoted_pairs headers
 -- the fields of HELLO
 abbrev pub hello_text : ℕ → List ℕ → List (List ℕ) → ℕ → List ℕ → List (List ℕ × List ℕ) → List ℕ
 hello_text sequence endpoint groups status name headers =
-    head_text (codes "HELLO") sequence ++ codes " " ++ quoted endpoint ++ codes " " ++ quoted_list groups ++ codes " " ++ decimal status ++ codes " " ++ sender_text name headers
+    head_text (codes "HELLO") sequence ++ codes " " ++ quoted endpoint ++ codes " " ++ quoted_list groups ++ codes " "
+    ++ decimal status ++ codes " " ++ sender_text name headers
 
 abbrev pub whisper_text : ℕ → List (List ℕ) → List ℕ
 whisper_text sequence content = head_text (codes "WHISPER") sequence ++ codes " " ++ quoted_list content
 
 abbrev pub shout_text : ℕ → List ℕ → List (List ℕ) → List ℕ
-shout_text sequence group content = head_text (codes "SHOUT") sequence ++ codes " " ++ quoted group ++ codes " " ++ quoted_list content
+shout_text sequence group content =
+    head_text (codes "SHOUT") sequence ++ codes " " ++ quoted group ++ codes " " ++ quoted_list content
 
 -- a change of groups, by its word
 abbrev pub group_text : List ℕ → ℕ → List ℕ → ℕ → List ℕ
-group_text word sequence group status = head_text word sequence ++ codes " " ++ quoted group ++ codes " " ++ decimal status
+group_text word sequence group status =
+    head_text word sequence ++ codes " " ++ quoted group ++ codes " " ++ decimal status
 
 -- a command that has no name
 abbrev pub other_text : ℕ → ℕ → List ℕ
@@ -78,7 +81,9 @@ command_line name size = codes "command " ++ quoted name ++ codes " " ++ decimal
 
 -- how many frames a message has, how many octets in all, and what it means
 abbrev pub message_line : List (List ℕ) → List ℕ
-message_line frames = codes "message " ++ decimal (length frames) ++ codes " " ++ decimal (sum_by length frames) ++ codes " " ++ meaning_text (read_frames frames) ++ codes "\n"
+message_line frames =
+    codes "message " ++ decimal (length frames) ++ codes " " ++ decimal (sum_by length frames) ++ codes " "
+    ++ meaning_text (read_frames frames) ++ codes "\n"
 
 abbrev pub what_line : What → List ℕ
 what_line (says.Greeting major minor) = greeting_line major minor

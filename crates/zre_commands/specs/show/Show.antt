@@ -1,4 +1,5 @@
--- What `show` makes of the octets of a whole stream, from the greeting on. Any socket type and any identity may stand in READY.
+-- What `show` makes of the octets of a whole stream, from the greeting on. Any socket type and any identity may stand
+-- in READY.
 use Rattle.std.specs.Prelude.{ℕ, Bool, not, ◌&&◌, ◌||◌, ◌==◌, List, [], length, Option, Some, None, is_some, if◌then◌else◌}
 use Rattle.zre_commands.specs.pump.Lines.{bad_line}
 use Rattle.zre_commands.specs.pump.Meaning.{Meaning}

@@ -6,7 +6,8 @@ ghost use Rattle.zre_peer.specs.declared.event.Event.{Event as EventValue};
 use zre_peer::Event;
 use zre_values::{Frames, OutOfMemory};
 
-/// How many entries were taken, how many events of each kind they raised, and how many octets the content frames of these have.
+/// How many entries were taken, how many events of each kind they raised, and how many octets the content frames of
+/// these have.
 #[derive(Drop)]
 pub(crate) struct Counts {
     pub entries: u64,
@@ -87,7 +88,8 @@ impl Counts {
 
     /// More events.
     pub fn count_events(&mut self, events: &[Event]) -> Result<(), OutOfMemory>
-        ensures { (n : ℕ) (before : List EventValue) → self.old ≡ tally n before → OnOk result (self.new ≡ tally n (before ++ events.now)) }
+        ensures { (n : ℕ) (before : List EventValue) → self.old ≡ tally n before
+            → OnOk result (self.new ≡ tally n (before ++ events.now)) }
     {
         for event in events {
             self.count_event(event)?;

@@ -63,7 +63,8 @@ fn take_turn<M: Machine, I: Source, O: Sink>(
 ) -> Turn
     requires { 0 < length buf.old }
     ensures bound { result.read ≤ length buf.new }
-    ensures moved { Moves (I.left input.old) (I.left input.new) (I.taken input.old) (I.taken input.new) (take result.read buf.new) }
+    ensures moved { Moves (I.left input.old) (I.left input.new) (I.taken input.old) (I.taken input.new)
+        (take result.read buf.new) }
     ensures turned { (o : List ℕ) → M.fed machine.old o → (M.says machine.old).is_stopped o ≡ false →
         Turned result.next (M.fed machine.new) (M.says machine.old) o (take result.read buf.new)
         (I.left input.new) (O.written out.old) (O.written out.new)

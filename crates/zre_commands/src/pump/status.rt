@@ -18,8 +18,8 @@ pub enum Status {
     WorldFault,
     /// A thread of a chat was refused.
     NoThread,
-    /// As many octets as the limit were taken, and a further read was due; or a chat took as many turns of the world, and its
-    /// node hasn't stopped.
+    /// As many octets as the limit were taken, and a further read was due; or a chat took as many turns of the world,
+    /// and its node hasn't stopped.
     TooLong,
     /// No memory was left.
     OutOfMemory,

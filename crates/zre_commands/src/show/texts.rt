@@ -34,7 +34,8 @@ fn push_hello(
     name: &Octets,
     headers: &Pairs,
 ) -> Result<(), OutOfMemory>
-    ensures { OnOk result (out.new ≡ out.old ++ hello_text sequence endpoint.now groups.now status name.now headers.now) }
+    ensures { OnOk result (out.new ≡ out.old
+        ++ hello_text sequence endpoint.now groups.now status name.now headers.now) }
 {
     push_head(out, b"HELLO", sequence)?;
     out.push(b' ')?;

@@ -20,7 +20,8 @@ unfinished o = last_of (lines_in o)
 abbrev pub finished : List ℕ → List ℕ → List Command
 finished o x = orders_from (length (lines_in o)) (but_last (lines_in (unfinished o ++ x)))
 
--- what is kept: the number of the line that isn't finished, what has come of it, and whether that is too long and isn't kept
+-- what is kept: the number of the line that isn't finished, what has come of it, and whether that is too long and
+-- isn't kept
 pub record Typing : Type 0 where
   pub line : ℕ
   pub left : List ℕ

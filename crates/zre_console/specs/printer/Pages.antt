@@ -9,7 +9,8 @@ use Rattle.zre_console.specs.declared.printer.page.Page.{Page}
 abbrev pub fresh : Page
 fresh = record { text = []; fault = None }
 
--- the lines of these events were printed: a front of them is written, and the page holds the rest, unless there was a fault
+-- the lines of these events were printed: a front of them is written, and the page holds the rest, unless there was a
+-- fault
 pub record Shows (page : Page) (written written' : Option (List ℕ)) (es : List Event) : Type 0 where
   pub done : List ℕ
   pub rest : List ℕ

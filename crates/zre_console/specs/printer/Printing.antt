@@ -16,7 +16,8 @@ use Rattle.zre_console.specs.printer.Asking.{HasAsked}
 use Rattle.zre_console.specs.printer.Pages.{Shows}
 
 -- since the first moment some events were taken and their lines printed on the page
-pub record Prints (first : Asker) (start : TakerPass) (written : Option (List ℕ)) (asker : Asker) (taker : TakerPass) (page : Page) (written' : Option (List ℕ)) : Type 0 where
+pub record Prints (first : Asker) (start : TakerPass) (written : Option (List ℕ)) (asker : Asker) (taker : TakerPass)
+    (page : Page) (written' : Option (List ℕ)) : Type 0 where
   pub events : List Event
   pub taken : taken_by taker ≡ taken_by start ++ events
   pub shows : Shows page written written' events
@@ -28,9 +29,10 @@ abbrev pub IsLast : Bool → Option Ending → Type 0
 IsLast true last = IsSome last
 IsLast false last = last ≡ None
 
--- some events were taken: their lines are written, or a front of them where there was a fault. The caller put no more than a Quit, and
--- nothing where it had no wish and there was no fault
-pub record HasPrinted (asker : Asker) (old new : TakerPass) (pass : CallerPass) (fault : Option NextFault) (written written' : Option (List ℕ)) : Type 0 where
+-- some events were taken: their lines are written, or a front of them where there was a fault. The caller put no more
+-- than a Quit, and nothing where it had no wish and there was no fault
+pub record HasPrinted (asker : Asker) (old new : TakerPass) (pass : CallerPass) (fault : Option NextFault)
+    (written written' : Option (List ℕ)) : Type 0 where
   pub events : List Event
   pub taken : taken_by new ≡ taken_by old ++ events
   pub front : AppendsFront written written' (lines events)

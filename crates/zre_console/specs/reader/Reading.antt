@@ -23,13 +23,15 @@ abbrev pub IsReadOn : List ℕ → Type 0
 IsReadOn o = list_any is_quit (typed o) ≡ false
 
 -- the octets o were taken and these commands put, and then: read says that the source's count of faults rose
-abbrev pub Outcome : InputEnd → (limit : ℕ) (commands : List Command) (o : List ℕ) (left : Option (List ℕ)) (read : Type 0) → Type 0
+abbrev pub Outcome : InputEnd
+    → (limit : ℕ) (commands : List Command) (o : List ℕ) (left : Option (List ℕ)) (read : Type 0) → Type 0
 -- a line is a quit
 Outcome Quit limit commands o left read = (list_any is_quit (typed o) ≡ true) × (commands ≡ orders o)
 -- the input was read to its end within the limit
 Outcome AtEnd limit commands o left read = IsAtEnd left × (length o < limit) × (commands ≡ orders o)
 -- no quit was put: nothing was read, fewer octets than the limit were taken, or not all commands were put
-Outcome Over limit commands o left read = Begins commands o × ((o ≡ []) ⊎ ((length o < limit) ⊎ IsShort commands (typed o)))
+Outcome Over limit commands o left read =
+    Begins commands o × ((o ≡ []) ⊎ ((length o < limit) ⊎ IsShort commands (typed o)))
 -- the source failed where a read was due
 Outcome ReadFault limit commands o left read = read × (length o < limit) × IsReadOn o × BreaksOff commands o
 -- as many octets as the limit were taken and a read was due
@@ -37,7 +39,8 @@ Outcome TooLong limit commands o left read = (length o ≡ limit) × IsReadOn o 
 Outcome OutOfMemory limit commands o left read = BreaksOff commands o
 
 -- some octets were taken from the source and some commands put with the pass, and the end says how they belong together
-pub record HasRead (end : InputEnd) (limit : ℕ) (old new : CallerPass) (left left' taken taken' : Option (List ℕ)) (read : Type 0) : Type 0 where
+pub record HasRead (end : InputEnd) (limit : ℕ) (old new : CallerPass) (left left' taken taken' : Option (List ℕ))
+    (read : Type 0) : Type 0 where
   pub octets : List ℕ
   pub moved : Moves left left' taken taken' octets
   pub within : length octets ≤ limit

@@ -27,11 +27,14 @@ PutsBegin old new o longer = (commands : List Command) × Puts old new commands 
 
 -- and there are more commands than these
 abbrev pub PutsShort : CallerPass → CallerPass → (o longer : List ℕ) → Type 0
-PutsShort old new o longer = (commands : List Command) × Puts old new commands × Begins (typed o ++ commands) longer × IsShort (typed o ++ commands) (typed longer)
+PutsShort old new o longer =
+    (commands : List Command) × Puts old new commands × Begins (typed o ++ commands) longer
+    × IsShort (typed o ++ commands) (typed longer)
 
 -- a piece was taken after o
 abbrev pub Took : Next → (t : Typing) (o piece : List ℕ) (old new : CallerPass) → Type 0
-Took nexts.Go t o piece old new = Typed (o ++ piece) t × (list_any is_quit (typed (o ++ piece)) ≡ false) × PutsTyped old new o (o ++ piece)
+Took nexts.Go t o piece old new =
+    Typed (o ++ piece) t × (list_any is_quit (typed (o ++ piece)) ≡ false) × PutsTyped old new o (o ++ piece)
 Took nexts.Quit t o piece old new = (list_any is_quit (typed (o ++ piece)) ≡ true) × PutsOrders old new o (o ++ piece)
 Took nexts.Over t o piece old new = PutsShort old new o (o ++ piece)
 Took nexts.OutOfMemory t o piece old new = PutsBegin old new o (o ++ piece)
@@ -39,7 +42,8 @@ Took nexts.End t o piece old new = ⊥
 Took nexts.ReadFault t o piece old new = ⊥
 
 -- one turn after o, in which a piece was read
-abbrev pub Turned : Next → (t : Typing) (o piece : List ℕ) (left : Option (List ℕ)) (old new : CallerPass) (read : Type 0) → Type 0
+abbrev pub Turned : Next
+    → (t : Typing) (o piece : List ℕ) (left : Option (List ℕ)) (old new : CallerPass) (read : Type 0) → Type 0
 Turned nexts.Go t o piece left old new read = (0 < length piece) × Took nexts.Go t o piece old new
 Turned nexts.Quit t o piece left old new read = Took nexts.Quit t o piece old new
 Turned nexts.Over t o piece left old new read = Took nexts.Over t o piece old new

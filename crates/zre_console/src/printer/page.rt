@@ -40,7 +40,8 @@ impl Page {
             Shows self.new w (O.written out.new) (es ++ event.now ∷ []) }
         ensures stays { IsSome self.old.fault → self.new ≡ self.old }
         ensures later { O.faults out.old ≤ O.faults out.new }
-        ensures failed { self.new.fault ≡ Some Failed → (self.old.fault ≡ Some Failed) ⊎ Rose (O.faults out.old) (O.faults out.new) }
+        ensures failed { self.new.fault ≡ Some Failed → (self.old.fault ≡ Some Failed)
+            ⊎ Rose (O.faults out.old) (O.faults out.new) }
     {
         if self.fault.is_some() {
             return;
@@ -61,7 +62,8 @@ impl Page {
         ensures written { self.new.fault ≡ None → self.new.text ≡ [] }
         ensures stays { IsSome self.old.fault → self.new ≡ self.old }
         ensures later { O.faults out.old ≤ O.faults out.new }
-        ensures failed { self.new.fault ≡ Some Failed → (self.old.fault ≡ Some Failed) ⊎ Rose (O.faults out.old) (O.faults out.new) }
+        ensures failed { self.new.fault ≡ Some Failed → (self.old.fault ≡ Some Failed)
+            ⊎ Rose (O.faults out.old) (O.faults out.new) }
     {
         if self.fault.is_some() || self.text.is_empty() {
             return;

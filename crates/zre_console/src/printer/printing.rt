@@ -41,10 +41,13 @@ fn next_told<O: Sink, T: Wait + Copy>(
     requires pipes { IsTakerOf pipes.now taker }
     requires open { last_of taker ≡ None }
     ensures pipes { IsTakerOf pipes.now result.0 }
-    ensures told { MatchOption result.1 ((taken_by result.0 ≡ taken_by taker) × (last_of result.0 ≡ last_of taker)) (λ told. IsTold taker told result.0) }
-    ensures shows { (w : Option (List ℕ)) (es : List EventValue) → Shows page.old w (O.written out.old) es → Shows page.new w (O.written out.new) es }
+    ensures told { MatchOption result.1 ((taken_by result.0 ≡ taken_by taker) × (last_of result.0 ≡ last_of taker))
+        (λ told. IsTold taker told result.0) }
+    ensures shows { (w : Option (List ℕ)) (es : List EventValue) → Shows page.old w (O.written out.old) es
+        → Shows page.new w (O.written out.new) es }
     ensures later { O.faults out.old ≤ O.faults out.new }
-    ensures failed { page.new.fault ≡ Some Failed → (page.old.fault ≡ Some Failed) ⊎ Rose (O.faults out.old) (O.faults out.new) }
+    ensures failed { page.new.fault ≡ Some Failed → (page.old.fault ≡ Some Failed)
+        ⊎ Rose (O.faults out.old) (O.faults out.new) }
     ensures stays { IsSome page.old.fault → page.new.fault ≡ page.old.fault }
 {
     let (taker, found) = pipes.try_take(rt, taker);
@@ -73,10 +76,12 @@ fn print_next<O: Sink, T: Wait + Copy>(
     ensures pipes { IsTakerOf pipes.now result.0 × IsCallerOf pipes.now result.1.pass }
     ensures last { IsLast result.2 (last_of result.0) }
     ensures written { result.2 ≡ true → page.new.fault ≡ None → page.new.text ≡ [] }
-    ensures prints { (first : AskerValue) (start : TakerPassValue) (w : Option (List ℕ)) → Prints first start w asker taker page.old (O.written out.old) →
+    ensures prints { (first : AskerValue) (start : TakerPassValue) (w : Option (List ℕ))
+        → Prints first start w asker taker page.old (O.written out.old) →
         Prints first start w result.1 result.0 page.new (O.written out.new) }
     ensures later { O.faults out.old ≤ O.faults out.new }
-    ensures failed { page.new.fault ≡ Some Failed → (page.old.fault ≡ Some Failed) ⊎ Rose (O.faults out.old) (O.faults out.new) }
+    ensures failed { page.new.fault ≡ Some Failed → (page.old.fault ≡ Some Failed)
+        ⊎ Rose (O.faults out.old) (O.faults out.new) }
 {
     let asker = asker.ask(rt, pipes, page.fault.is_some());
     let (taker, found) = next_told(rt, pipes, taker, page, out, asker.wish);
@@ -98,7 +103,8 @@ fn print_next<O: Sink, T: Wait + Copy>(
     }
 }
 
-/// Prints the lines of all events up to Last. Where one can't be printed, it asks the node to stop, and goes on to take.
+/// Prints the lines of all events up to Last. Where one can't be printed, it asks the node to stop, and goes on to
+/// take.
 pub fn print_all<O: Sink, T: Wait + Copy>(
     rt: T,
     alloc: Global,
@@ -111,7 +117,8 @@ pub fn print_all<O: Sink, T: Wait + Copy>(
     requires open { last_of taker ≡ None }
     ensures pipes { IsTakerOf pipes.now result.taker × IsCallerOf pipes.now result.pass }
     ensures last { IsSome (last_of result.taker) }
-    ensures printed { HasPrinted asker taker result.taker result.pass result.fault (O.written out.old) (O.written out.new) }
+    ensures printed { HasPrinted asker taker result.taker result.pass result.fault (O.written out.old)
+        (O.written out.new) }
     ensures later { O.faults out.old ≤ O.faults out.new }
     ensures failed { result.fault ≡ Some Failed → Rose (O.faults out.old) (O.faults out.new) }
 {

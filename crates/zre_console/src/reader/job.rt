@@ -11,9 +11,10 @@ use std::sync::{Arc, Wait};
 use zre_actor::{CallerPass, Pipes};
 use zre_outside::{Job, Source, Task};
 
-/// Reads a source, at most so many octets of it, and puts the commands of its lines with the pass, each again while the pipe is
-/// full. A quit is the last: that of a line, or the end of the input. It looks at `over` before each read, before each command
-/// of a line and whenever the pipe is full, and puts nothing more where that is set; nothing is claimed of when it sees it.
+/// Reads a source, at most so many octets of it, and puts the commands of its lines with the pass, each again while
+/// the pipe is full. A quit is the last: that of a line, or the end of the input. It looks at `over` before each
+/// read, before each command of a line and whenever the pipe is full, and puts nothing more where that is set;
+/// nothing is claimed of when it sees it.
 #[derive(Drop)]
 pub struct ReaderJob<I: Source> {
     /// Where the pieces and the commands are kept.

@@ -81,7 +81,8 @@ fn take_turn<R: Wait + Copy, I: Source>(
     requires pipes { IsCallerOf pipes.now pass }
     ensures bound { result.read ≤ length buf.new }
     ensures pipes { IsCallerOf pipes.now result.pass }
-    ensures moved { Moves (I.left input.old) (I.left input.new) (I.taken input.old) (I.taken input.new) (take result.read buf.new) }
+    ensures moved { Moves (I.left input.old) (I.left input.new) (I.taken input.old) (I.taken input.new)
+        (take result.read buf.new) }
     ensures turned { (o : List ℕ) → Typed o typist.old → list_any is_quit (typed o) ≡ false →
         Turned result.next typist.new o (take result.read buf.new) (I.left input.new) pass result.pass (Rose (I.faults input.old) (I.faults input.new)) }
     ensures later { I.faults input.old ≤ I.faults input.new }
@@ -164,7 +165,8 @@ pub(crate) fn read_all<R: Wait + Copy, I: Source>(
 ) -> (CallerPass, InputEnd)
     requires { IsCallerOf pipes.now pass }
     ensures pipes { IsCallerOf pipes.now result.0 }
-    ensures read { HasRead result.1 limit pass result.0 (I.left input.old) (I.left input.new) (I.taken input.old) (I.taken input.new) (Rose (I.faults input.old) (I.faults input.new)) }
+    ensures read { HasRead result.1 limit pass result.0 (I.left input.old) (I.left input.new) (I.taken input.old)
+        (I.taken input.new) (Rose (I.faults input.old) (I.faults input.new)) }
     ensures later { I.faults input.old ≤ I.faults input.new }
 {
     let Ok(mut buf) = zeros(alloc, PIECE) else {

@@ -44,7 +44,8 @@ impl Captures {
         }
     }
 
-    // The text: `line TEXT` with a line feed, `text TEXT` without one, `octets HEX`, and `many N HEX` for the same octets so many times.
+    // The text: `line TEXT` with a line feed, `text TEXT` without one, `octets HEX`, and `many N HEX` for the same
+    // octets so many times.
     fn extend_often(&mut self, mut words: Words<'_>, answer: &mut Text) {
         let times = words.number();
         self.extend(times, words, answer);
@@ -59,7 +60,8 @@ impl Captures {
         }
     }
 
-    // `read SIZE SIZE ..`: the lines of the entries that are read, and where the text is bad, or `whole`, in pieces of each of these sizes.
+    // `read SIZE SIZE ..`: the lines of the entries that are read, and
+    // where the text is bad, or `whole`, in pieces of each of these sizes.
     // `place SIZE SIZE ..`: the same without the lines.
     fn read(&self, mut words: Words<'_>, is_listed: bool, answer: &mut Text) {
         let sizes = words.numbers();

@@ -122,8 +122,8 @@ impl Commands {
         }
     }
 
-    // The octets of the input: `octets HEX`, `line TEXT` with a line feed, `text TEXT` without one, and `input kept` for what the recorder
-    // holds.
+    // The octets of the input: `octets HEX`, `line TEXT` with a line feed, `text TEXT` without one, and `input kept`
+    // for what the recorder holds.
     fn set_input(&mut self, words: Words<'_>, answer: &mut Text) {
         if words.is(b"octets") {
             self.push_input(words, answer);
@@ -154,8 +154,8 @@ impl Commands {
         }
     }
 
-    // What came of the last run: `left` how many octets of the input weren't read, `told` what the world was told, `kept` what the recorder
-    // holds and `file` its name, quoted.
+    // What came of the last run: `left` how many octets of the input weren't read, `told` what the world was told,
+    // `kept` what the recorder holds and `file` its name, quoted.
     fn show(&self, words: Words<'_>, answer: &mut Text) {
         if !words.end(answer) {
             return;
@@ -254,7 +254,8 @@ impl Commands {
         }
     }
 
-    // `both`: the same of an input that comes an octet a read and of one that comes whole. What the first answers is told only where it
+    // `both`: the same of an input that comes an octet a read and of one
+    // that comes whole. What the first answers is told only where it
     // differs.
     fn both(&mut self, words: Words<'_>, answer: &mut Text) {
         let mut by_octet = Text::new(words.alloc());

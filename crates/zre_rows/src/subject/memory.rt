@@ -56,7 +56,8 @@ fn octets_of(mut words: Words<'_>) -> Octets {
 }
 
 impl Memory {
-    // `read N` reads from both sources, `write HEX` writes to both sinks, and `record HEX` begins both recorders and puts, each with an
+    // `read N` reads from both sources, `write HEX` writes to both sinks,
+    // and `record HEX` begins both recorders and puts, each with an
     // answer of the object with a list and one of that without. `held` shows what the sinks and the recorders hold.
     pub fn step(&mut self, words: Words<'_>, answer: &mut Text) {
         if words.is(b"read") {

@@ -124,7 +124,8 @@ fn tell(node: &Node, mut words: Words<'_>, answer: &mut Text) {
     words.end(answer);
 }
 
-// `peer ID`: the view. `groups ID`: how many groups it has. `link_of ID`: the number of the link. Each is `none` where there is none.
+// `peer ID`: the view. `groups ID`: how many groups it has. `link_of
+// ID`: the number of the link. Each is `none` where there is none.
 fn tell_of_peer(node: &Node, id: PeerId, words: Words<'_>, answer: &mut Text) {
     if words.is(b"peer") {
         push_view(answer, node.peer(id));

@@ -39,7 +39,8 @@ pub fn make(mut words: Words<'_>, answer: &mut Text) -> Subject {
 }
 
 impl Worlds {
-    // `turn ENTRY` and `look` make the script. `next` asks both worlds for a turn, and `quit` too: where that is a look, a quit is handed in,
+    // `turn ENTRY` and `look` make the script. `next` asks both worlds for a
+    // turn, and `quit` too: where that is a look, a quit is handed in,
     // and after it both are told an act and an offer.
     pub fn step(&mut self, words: Words<'_>, answer: &mut Text) {
         if words.is(b"turn") {

@@ -115,7 +115,8 @@ impl Conns {
         }
     }
 
-    // What comes of octets in pieces of at most so many, the state of the connection after them, and that when it is ignored.
+    // What comes of octets in pieces of at most so many, the state of the connection after them, and that when it is
+    // ignored.
     fn text_of(&self, alloc: Global, octets: &[u8], most: usize) -> Text {
         let mut text = Text::new(alloc);
         let mut conns = Conns::new(alloc, self.own);

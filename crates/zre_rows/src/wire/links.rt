@@ -144,7 +144,8 @@ impl Links {
         }
     }
 
-    // `talk MOST HEX`: hears replies in pieces of at most so many octets, and takes what may go out before and after each, at most
+    // `talk MOST HEX`: hears replies in pieces of at most so many
+    // octets, and takes what may go out before and after each, at most
     // so many octets at a time. It answers the octets that went out, and what is wrong with the last piece.
     fn talk(&mut self, mut words: Words<'_>, answer: &mut Text) {
         let most = usize::try_from(words.number()).unwrap_or(usize::MAX).max(1);
@@ -169,7 +170,8 @@ impl Links {
         heard
     }
 
-    // `counts` answers how many bodies were put, how many octets wait and may go out, and how many are kept of the replies.
+    // `counts` answers how many bodies were put, how many octets
+    // wait and may go out, and how many are kept of the replies.
     fn counts(&self, words: Words<'_>, answer: &mut Text) {
         if words.end(answer) {
             answer.count(b"sent", self.link.sent());

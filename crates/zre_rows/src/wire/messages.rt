@@ -125,7 +125,8 @@ pub fn step(words: Words<'_>, answer: &mut Text) {
     }
 }
 
-// `read HEX ..` answers what the frames mean; it has to be the same whether they are lent or given. Then what lies in them.
+// `read HEX ..` answers what the frames mean; it has to be the same
+// whether they are lent or given. Then what lies in them.
 fn read(mut words: Words<'_>, answer: &mut Text) {
     let frames = words.frames();
     if words.end(answer) {

@@ -213,7 +213,8 @@ impl Streams {
         text
     }
 
-    // `cuts HEX`: what comes of the octets in one piece. Each cut into two pieces, and one octet after another, has to answer the same.
+    // `cuts HEX`: what comes of the octets in one piece. Each cut into
+    // two pieces, and one octet after another, has to answer the same.
     fn cuts(&self, mut words: Words<'_>, answer: &mut Text) {
         let octets = words.octets();
         if words.end(answer) {

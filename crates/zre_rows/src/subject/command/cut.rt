@@ -22,7 +22,8 @@ impl Sizes {
     }
 }
 
-/// A source that gives at most so many octets a read: the numbers of a list in order, and then the last of them. It gives one at least.
+/// A source that gives at most so many octets a read: the numbers of a list in order, and then the last of them. It
+/// gives one at least.
 #[derive(Drop)]
 pub struct Cut {
     inner: MemSource,
