@@ -32,7 +32,7 @@ use Rattle.zre_console.specs.reader.Reading.{Outcome, BreaksOff}
 use Rattle.zre_console.proofs.lines.Quits.{orders-begin}
 use Rattle.zre_commands.specs.declared.pump.status.Status.{Status}
 use Rattle.zre_commands.specs.declared.pump.status.Status.TheVariants.{Done, Usage, BadInput, ReadFault, WriteFault, WorldFault, NoThread, TooLong, OutOfMemory}
-use Rattle.zre_chat.specs.Chat.{Seen, IsChat, IsCaused, IsSpared, Holds, started}
+use Rattle.zre_chat.specs.Chat.{Seen, IsChat, IsCaused, Holds, started}
 use Rattle.zre_chat.specs.Stages.{IsEarly, Unprepared}
 use Rattle.zre_chat.specs.Statuses.{of_fault, of_read}
 use Rattle.zre_chat.proofs.Fronts.{map-prefix, quits_through, none_before, breaks_front, breaks_plain, orders_break}

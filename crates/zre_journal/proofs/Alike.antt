@@ -21,7 +21,7 @@ use Rattle.zre_journal.specs.Cutting.{is_entry, but_entries}
 use Rattle.zre_journal.specs.Peers.{Life, lives, other_lives, life_of, life, runner, runner_at, births, counted, message_at, view}
 use Rattle.zre_journal.specs.Links.{groups, status, bodies, put_on, taken, unsent}
 use Rattle.zre_journal.specs.Pushes.{hello, push, birth}
-use Rattle.zre_journal.specs.Told.{told, told_at, by_message, exit, faltering}
+use Rattle.zre_journal.specs.Told.{told, told_at, by_message, exit, becoming_evasive}
 use Rattle.zre_values.specs.Lists.{without}
 use Rattle.zre_journal.specs.Arrivals.{end_of_run, taken_over, start_unknown, start, at_first, answer_to, at_later, at_message, at_shaken, at_said, at_place, at_places}
 use Rattle.zre_journal.specs.declared.config.Config.{Config}
@@ -221,9 +221,9 @@ module _ (K L : List Mark) (r : AreAlike K L) where
   told_exit None why = refl
   told_exit (Some v) why = ap (λ i. cond (is_some i) (event.Exit v.id (view v.link K).name why ∷ []) []) (same_runner v.link) ∙ ap (λ (w : View). cond (is_some (runner v.link L)) (event.Exit v.id w.name why ∷ []) []) (same_view v.link)
 
-  told_falter : (o : Option Life) → faltering o K ≡ faltering o L
-  told_falter None = refl
-  told_falter (Some v) = ap (λ (w : View). event.Evasive v.id w.name ∷ []) (same_view v.link)
+  told_probe : (o : Option Life) → becoming_evasive o K ≡ becoming_evasive o L
+  told_probe None = refl
+  told_probe (Some v) = ap (λ (w : View). event.Evasive v.id w.name ∷ []) (same_view v.link)
 
   same_life : (l : ℕ) → life l K ≡ life l L
   same_life l = ap (find (λ (v : Life). eqb l v.link)) same_lives
@@ -232,7 +232,7 @@ module _ (K L : List Mark) (r : AreAlike K L) where
   same_told (Starts c l m) = ap (λ o. by_message o m K) (same_life l) ∙ told_message (life l L) m
   same_told (Counts c l m) = ap (λ o. by_message o m K) (same_life l) ∙ told_message (life l L) m
   same_told (Ends l why) = ap (λ o. exit o why K) (same_life l) ∙ told_exit (life l L) why
-  same_told (IsEvasive l) = ap (λ o. faltering o K) (same_life l) ∙ told_falter (life l L)
+  same_told (IsEvasive l) = ap (λ o. becoming_evasive o K) (same_life l) ∙ told_probe (life l L)
   same_told _ = refl
 
 pub all_places : (g : Config) (c : ℕ) (xs : List Said) (K L : List Mark) → AreAlike K L → at_places g c xs K ≡ at_places g c xs L

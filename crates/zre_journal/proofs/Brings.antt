@@ -28,7 +28,7 @@ use Rattle.zre_journal.specs.Pushes.{push, push_all, birth}
 use Rattle.zre_journal.specs.Arrivals.{end_of_run, at_opened, at_shut}
 use Rattle.zre_journal.specs.Happens.{is_welcome, at_beacon, at_datagram}
 use Rattle.zre_journal.specs.LinkEntries.{at_linked, fault_of_reply, at_reply, at_unlinked, at_took}
-use Rattle.zre_journal.specs.Ticks.{is_silent, is_faltering, falter, is_stale, at_tick}
+use Rattle.zre_journal.specs.Ticks.{is_silent, is_evasive, probe, is_stale, at_tick}
 use Rattle.zre_journal.specs.Commands.{has_group, at_join, at_leave, is_too_big, at_whisper, is_member, at_shout, at_stop, at_command}
 use Rattle.zre_journal.proofs.Listed.{All-kept, Apart-kept}
 use Rattle.zre_journal.proofs.Known.{known_of, AreKnown, each_known, newborn_known, still_known, end_all, ends_allowed, ends_known, kept_far}
@@ -76,21 +76,21 @@ module _ (g : Config) where
       by true = e
       by false = e
 
-  falters_allowed : (vs : List Life) (I H : List Mark) → Apart (λ (v : Life). v.link) vs → AreKnown H vs → AreEntered H vs → Allowed (falter g vs I) H
-  falters_allowed [] I H a k e = tt
-  falters_allowed (v ∷ vs) I H a k e = (
+  probes_allowed : (vs : List Life) (I H : List Mark) → Apart (λ (v : Life). v.link) vs → AreKnown H vs → AreEntered H vs → Allowed (probe g vs I) H
+  probes_allowed [] I H a k e = tt
+  probes_allowed (v ∷ vs) I H a k e = (
     record { is_known = k.0; is_run = e.0 },
-    in_both (push g v.link body.Ping I) (falter g vs (after (push g v.link body.Ping I) (IsEvasive v.link ∷ I))) (IsEvasive v.link ∷ H)
+    in_both (push g v.link body.Ping I) (probe g vs (after (push g v.link body.Ping I) (IsEvasive v.link ∷ I))) (IsEvasive v.link ∷ H)
         (push_allowed v.link body.Ping I (IsEvasive v.link ∷ H) k.0)
-        (falters_allowed vs (after (push g v.link body.Ping I) (IsEvasive v.link ∷ I)) (after (push g v.link body.Ping I) (IsEvasive v.link ∷ H)) a.1 (push_keeps v.link body.Ping I (IsEvasive v.link ∷ H) vs a.0 k.1) (push_runs v.link body.Ping I (IsEvasive v.link ∷ H) vs e.1)),
+        (probes_allowed vs (after (push g v.link body.Ping I) (IsEvasive v.link ∷ I)) (after (push g v.link body.Ping I) (IsEvasive v.link ∷ H)) a.1 (push_keeps v.link body.Ping I (IsEvasive v.link ∷ H) vs a.0 k.1) (push_runs v.link body.Ping I (IsEvasive v.link ∷ H) vs e.1)),
   )
 
-  falters_start_none : (vs : List Life) (I : List Mark) → AreNoStarts (falter g vs I)
-  falters_start_none [] I = tt
-  falters_start_none (v ∷ vs) I = (
+  probes_start_none : (vs : List Life) (I : List Mark) → AreNoStarts (probe g vs I)
+  probes_start_none [] I = tt
+  probes_start_none (v ∷ vs) I = (
     λ c. refl,
-    none_and_none (push g v.link body.Ping I) (falter g vs (after (push g v.link body.Ping I) (IsEvasive v.link ∷ I)))
-        (push_starts_none v.link body.Ping I) (falters_start_none vs (after (push g v.link body.Ping I) (IsEvasive v.link ∷ I))),
+    none_and_none (push g v.link body.Ping I) (probe g vs (after (push g v.link body.Ping I) (IsEvasive v.link ∷ I)))
+        (push_starts_none v.link body.Ping I) (probes_start_none vs (after (push g v.link body.Ping I) (IsEvasive v.link ∷ I))),
   )
 
 -- what passes a test
@@ -173,13 +173,13 @@ module _ (g : Config) (K : List Mark) (q : IsProper K) where
   -- ---- Tick
 
   pub tick_allowed : Allowed (at_tick g K) K
-  tick_allowed = in_both (E ++ F ++ C) Z K (in_both (E ++ F) C K (in_both E F K ends falters) closes) (tt, tt)
+  tick_allowed = in_both (E ++ F ++ C) Z K (in_both (E ++ F) C K (in_both E F K ends probes) closes) (tt, tt)
     where
       s : Life → Bool
       s = is_silent g g.expired K
 
       t : Life → Bool
-      t = is_faltering g K
+      t = is_evasive g K
 
       silent : List Life
       silent = filter s (lives K)
@@ -194,7 +194,7 @@ module _ (g : Config) (K : List Mark) (q : IsProper K) where
       E = end_all cause.Expired silent
 
       F : List Mark
-      F = falter g wavering K
+      F = probe g wavering K
 
       C : List Mark
       C = map (λ c. Closes c close.Timeout) stale
@@ -202,14 +202,14 @@ module _ (g : Config) (K : List Mark) (q : IsProper K) where
       Z : List Mark
       Z = SendsBeacon g.port ∷ []
 
-      excludes : (v : Life) → is_silent g g.expired K v ≡ true → is_faltering g K v ≡ false
+      excludes : (v : Life) → is_silent g g.expired K v ≡ true → is_evasive g K v ≡ false
       excludes v e = rw e (by (is_entered K v))
         where
           by : (b : Bool) → (b && not true && is_silent g g.evasive K v) ≡ false
           by true = refl
           by false = refl
 
-      entered : (v : Life) → is_faltering g K v ≡ true → is_some (runner v.link K) ≡ true
+      entered : (v : Life) → is_evasive g K v ≡ true → is_some (runner v.link K) ≡ true
       entered v e = by (is_some (runner v.link K)) e
         where
           by : (b : Bool) → (b && not (is_silent g g.expired K v) && is_silent g g.evasive K v) ≡ true → b ≡ true
@@ -226,14 +226,14 @@ module _ (g : Config) (K : List Mark) (q : IsProper K) where
       ends : Allowed E K
       ends = ends_allowed cause.Expired silent K (Apart-kept (λ (v : Life). v.link) s (lives K) q.living.apart) (All-kept (λ (v : Life). IsSome (life v.link K)) s (lives K) (each_known K))
 
-      falters : Allowed F (after E K)
-      falters = falters_allowed g wavering K (after E K) (Apart-kept (λ (v : Life). v.link) t (lives K) q.living.apart)
+      probes : Allowed F (after E K)
+      probes = probes_allowed g wavering K (after E K) (Apart-kept (λ (v : Life). v.link) t (lives K) q.living.apart)
           (ends_known cause.Expired silent wavering K (kept_far s t excludes (lives K) q.living.apart) (All-kept (λ (v : Life). IsSome (life v.link K)) t (lives K) (each_known K)))
           (passing (λ (v : Life). is_some (runner v.link (after E K)) ≡ true) t (λ v e. ap is_some (ends_run cause.Expired silent v.link K) ∙ entered v e) (lives K))
 
       closes : Allowed C (after (E ++ F) K)
       closes = closes_allowed close.Timeout stale (after (E ++ F) K) (passing (λ c. runs c (after (E ++ F) K) ≡ None) (is_stale g K)
-          (λ c e. idle_after (E ++ F) K c (none_and_none E F (ends_start_none cause.Expired silent) (falters_start_none g wavering K)) (idle c e)) (open_ones K))
+          (λ c e. idle_after (E ++ F) K c (none_and_none E F (ends_start_none cause.Expired silent) (probes_start_none g wavering K)) (idle c e)) (open_ones K))
 
   -- ---- commands
 

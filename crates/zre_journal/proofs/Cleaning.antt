@@ -23,7 +23,7 @@ use Rattle.zre_journal.specs.Heard.{clock}
 use Rattle.zre_journal.specs.Links.{bodies, unsent}
 use Rattle.zre_journal.specs.Peers.{Life, lives, active}
 use Rattle.zre_journal.specs.Pushes.{push}
-use Rattle.zre_journal.specs.Ticks.{is_silent, is_faltering, falter, is_stale, at_tick}
+use Rattle.zre_journal.specs.Ticks.{is_silent, is_evasive, probe, is_stale, at_tick}
 use Rattle.zre_journal.proofs.Closing.{leaves_nothing}
 use Rattle.zre_journal.proofs.Joined.{after-append, continues}
 use Rattle.zre_journal.proofs.Known.{end_all}
@@ -51,11 +51,11 @@ module _ (g : Config) where
       by true = (tt, tt)
       by false = (tt, tt)
 
-  falters_calm : (vs : List Life) (I : List Mark) → AreCalm (falter g vs I)
-  falters_calm [] I = tt
-  falters_calm (v ∷ vs) I =
+  probes_calm : (vs : List Life) (I : List Mark) → AreCalm (probe g vs I)
+  probes_calm [] I = tt
+  probes_calm (v ∷ vs) I =
       let p = push g v.link body.Ping I in
-      (tt, All-join Calm p (falter g vs (after p (IsEvasive v.link ∷ I))) (push_calm v.link body.Ping I) (falters_calm vs (after p (IsEvasive v.link ∷ I))))
+      (tt, All-join Calm p (probe g vs (after p (IsEvasive v.link ∷ I))) (push_calm v.link body.Ping I) (probes_calm vs (after p (IsEvasive v.link ∷ I))))
 
   ends_calm : (why : Cause) (vs : List Life) → AreCalm (end_all why vs)
   ends_calm why [] = tt
@@ -219,7 +219,7 @@ module _ (g : Config) (waits : 1 ≤ g.expired) where
     E = end_all cause.Expired (filter (is_silent g g.expired K) (lives K))
 
     abbrev F : List Mark
-    F = falter g (filter (is_faltering g K) (lives K)) K
+    F = probe g (filter (is_evasive g K) (lives K)) K
 
     abbrev C : List Mark
     C = map (λ c. Closes c close.Timeout) (filter (is_stale g K) (open_ones K))
@@ -228,7 +228,7 @@ module _ (g : Config) (waits : 1 ≤ g.expired) where
     Z = SendsBeacon g.port ∷ []
 
     calm : AreCalm (at_tick g K)
-    calm = All-join Calm (E ++ F ++ C) Z (All-join Calm (E ++ F) C (All-join Calm E F (ends_calm g cause.Expired (filter (is_silent g g.expired K) (lives K))) (falters_calm g (filter (is_faltering g K) (lives K)) K)) (closes_calm g close.Timeout (filter (is_stale g K) (open_ones K)))) (tt, tt)
+    calm = All-join Calm (E ++ F ++ C) Z (All-join Calm (E ++ F) C (All-join Calm E F (ends_calm g cause.Expired (filter (is_silent g g.expired K) (lives K))) (probes_calm g (filter (is_evasive g K) (lives K)) K)) (closes_calm g close.Timeout (filter (is_stale g K) (open_ones K)))) (tt, tt)
 
     whole : after (at_tick g K) K ≡ SendsBeacon g.port ∷ after C (after F (after E K))
     whole = after-append (E ++ F ++ C) Z K ∙ ap (after Z) (after-append (E ++ F) C K ∙ ap (after C) (after-append E F K))
@@ -242,13 +242,13 @@ module _ (g : Config) (waits : 1 ≤ g.expired) where
     loud : AllByRecursion (λ (v : Life). is_silent g g.expired K v ≡ false) (lives H)
     loud = subst (λ X. AllByRecursion (λ (v : Life). is_silent g g.expired K v ≡ false) (lives X)) (sym whole)
         (all_lives (λ (v : Life). is_silent g g.expired K v ≡ false) C (after F (after E K)) (closes_calm g close.Timeout (filter (is_stale g K) (open_ones K)))
-        (all_lives (λ (v : Life). is_silent g g.expired K v ≡ false) F (after E K) (falters_calm g (filter (is_faltering g K) (lives K)) K)
+        (all_lives (λ (v : Life). is_silent g g.expired K v ≡ false) F (after E K) (probes_calm g (filter (is_evasive g K) (lives K)) K)
         (ends_clear (is_silent g g.expired K) cause.Expired (filter (is_silent g g.expired K) (lives K)) K (all_among (λ (v : Life). v.link) (is_silent g g.expired K) (lives K)))))
 
     kept : AllByRecursion (λ c. is_stale g K c ≡ false) (open_ones H)
     kept = subst (λ X. AllByRecursion (λ c. is_stale g K c ≡ false) (open_ones X)) (sym whole)
         (closes_clear (is_stale g K) close.Timeout (filter (is_stale g K) (open_ones K)) (after F (after E K))
-        (all_open (Among (λ c. c) (is_stale g K) (filter (is_stale g K) (open_ones K))) F (after E K) (falters_calm g (filter (is_faltering g K) (lives K)) K)
+        (all_open (Among (λ c. c) (is_stale g K) (filter (is_stale g K) (open_ones K))) F (after E K) (probes_calm g (filter (is_evasive g K) (lives K)) K)
         (all_open (Among (λ c. c) (is_stale g K) (filter (is_stale g K) (open_ones K))) E K (ends_calm g cause.Expired (filter (is_silent g g.expired K) (lives K)))
         (all_among (λ c. c) (is_stale g K) (open_ones K)))))
 

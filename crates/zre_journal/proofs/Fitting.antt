@@ -40,7 +40,7 @@ use Rattle.zre_journal.specs.Pushes.{hello, push, push_all, birth}
 use Rattle.zre_journal.specs.Happens.{is_welcome, at_beacon, at_datagram, at_input}
 use Rattle.zre_journal.specs.Arrivals.{at_opened, end_of_run, at_shut, taken_over, start_unknown, start, at_first, answer_to, at_later, at_message, at_shaken, at_said, at_place, at_places}
 use Rattle.zre_journal.specs.LinkEntries.{at_linked, fault_of_reply, at_reply, at_unlinked, at_took}
-use Rattle.zre_journal.specs.Ticks.{is_silent, is_faltering, falter, is_stale, at_tick}
+use Rattle.zre_journal.specs.Ticks.{is_silent, is_evasive, probe, is_stale, at_tick}
 use Rattle.zre_journal.specs.Commands.{has_group, at_join, at_leave, is_too_big, at_whisper, is_member, at_shout}
 use Rattle.zre_journal.proofs.Idle.{not_true}
 use Rattle.zre_journal.proofs.Introduction.{introduces}
@@ -95,15 +95,15 @@ module _ (g : Config) where
       let p = push g v.link b I in
       fit_both g p (push_all g vs b (after p I)) H (push_fits v.link b I H s) (pushes_fit b vs (after p I) (after p H) (same_after p I H s))
 
-  falters_fit : (vs : List Life) (I H : List Mark) → AreSame I H → AllFit g (falter g vs I) H
-  falters_fit [] I H s = tt
-  falters_fit (v ∷ vs) I H s =
+  probes_fit : (vs : List Life) (I H : List Mark) → AreSame I H → AllFit g (probe g vs I) H
+  probes_fit [] I H s = tt
+  probes_fit (v ∷ vs) I H s =
       let p = push g v.link body.Ping I in
       let t : AreSame (IsEvasive v.link ∷ I) (IsEvasive v.link ∷ H) = record { put = s.put; gone = s.gone } in
       let u : AreSame I (IsEvasive v.link ∷ H) = record { put = s.put; gone = s.gone } in (
         tt,
-        fit_both g p (falter g vs (after p (IsEvasive v.link ∷ I))) (IsEvasive v.link ∷ H) (push_fits v.link body.Ping I (IsEvasive v.link ∷ H) u)
-            (falters_fit vs (after p (IsEvasive v.link ∷ I)) (after p (IsEvasive v.link ∷ H)) (same_after p (IsEvasive v.link ∷ I) (IsEvasive v.link ∷ H) t)),
+        fit_both g p (probe g vs (after p (IsEvasive v.link ∷ I))) (IsEvasive v.link ∷ H) (push_fits v.link body.Ping I (IsEvasive v.link ∷ H) u)
+            (probes_fit vs (after p (IsEvasive v.link ∷ I)) (after p (IsEvasive v.link ∷ H)) (same_after p (IsEvasive v.link ∷ I) (IsEvasive v.link ∷ H) t)),
       )
 
   -- ---- ends and closings
@@ -243,14 +243,14 @@ module _ (g : Config) where
 
     tick_fits : AllFit g (at_tick g K) K
     tick_fits =
-        fit_both g (E ++ F ++ C) Z K (fit_both g (E ++ F) C K (fit_both g E F K (ends_fit cause.Expired silent K) (falters_fit wavering K (after E K) (same_ends cause.Expired silent K K same)))
+        fit_both g (E ++ F ++ C) Z K (fit_both g (E ++ F) C K (fit_both g E F K (ends_fit cause.Expired silent K) (probes_fit wavering K (after E K) (same_ends cause.Expired silent K K same)))
         (closes_fit close.Timeout stale (after (E ++ F) K))) (tt, tt)
       where
         silent : List Life
         silent = filter (is_silent g g.expired K) (lives K)
 
         wavering : List Life
-        wavering = filter (is_faltering g K) (lives K)
+        wavering = filter (is_evasive g K) (lives K)
 
         stale : List ℕ
         stale = filter (is_stale g K) (open_ones K)
@@ -259,7 +259,7 @@ module _ (g : Config) where
         E = end_all cause.Expired silent
 
         F : List Mark
-        F = falter g wavering K
+        F = probe g wavering K
 
         C : List Mark
         C = map (λ c. Closes c close.Timeout) stale

@@ -20,7 +20,7 @@ use Rattle.zre_peer.specs.declared.event.Event.TheVariants as event
 use Rattle.zre_journal.specs.declared.config.Config.{Config}
 use Rattle.zre_journal.specs.Chronicle.{Mark, Born, Starts, Counts, Ends, IsEvasive}
 use Rattle.zre_journal.specs.Peers.{Life, lives, life, life_of, births, runner, is_entered, counted, view}
-use Rattle.zre_journal.specs.Told.{told_at, by_message, exit, faltering}
+use Rattle.zre_journal.specs.Told.{told_at, by_message, exit, becoming_evasive}
 use Rattle.zre_journal.specs.Events.{events, chronicle}
 use Rattle.zre_journal.specs.Proper.{IsProper}
 use Rattle.zre_journal.specs.Spoken.{subject, run_with, run_of, FollowsMessages}
@@ -186,10 +186,10 @@ module _ (xs : PeerId → List Event) (H : List Mark) (q : IsProper H) (n : AreN
       by w far true = pass_by v.id w.id (xs v.id) (event.Exit w.id (view w.link H).name why ∷ []) (refl, tt) far
       by w far false = refl
 
-  falter_passes : (l : ℕ) → May (IsEvasive l) H → IsPassed (λ p. fold (run_with p) (xs p) (told_at (IsEvasive l) H)) (IsEvasive l ∷ H)
-  falter_passes l y d k v e r = by (life l H) ∙ o d k v e r
+  probe_passes : (l : ℕ) → May (IsEvasive l) H → IsPassed (λ p. fold (run_with p) (xs p) (told_at (IsEvasive l) H)) (IsEvasive l ∷ H)
+  probe_passes l y d k v e r = by (life l H) ∙ o d k v e r
     where
-      by : (p : Option Life) → fold (run_with v.id) (xs v.id) (faltering p H) ≡ xs v.id
+      by : (p : Option Life) → fold (run_with v.id) (xs v.id) (becoming_evasive p H) ≡ xs v.id
       by None = refl
       by (Some w) = refl
 
@@ -208,7 +208,7 @@ passes : (h : Mark) (xs : PeerId → List Event) (H : List Mark) → IsProper H 
 passes (Starts c l m) xs H q y n o = start_passes xs H q n o c l m y
 passes (Counts c l m) xs H q y n o = count_passes xs H q n o c l m y
 passes (Ends l why) xs H q y n o = end_passes xs H q n o l why y
-passes (IsEvasive l) xs H q y n o = falter_passes xs H q n o l y
+passes (IsEvasive l) xs H q y n o = probe_passes xs H q n o l y
 passes (Born l i a) xs H q y n o = birth_passes xs H q n o l i a y
 passes _ xs H q y n o = o
 

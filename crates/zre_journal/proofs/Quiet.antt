@@ -14,7 +14,7 @@ use Rattle.zre_journal.specs.LinkEntries.{at_linked, fault_of_reply, at_reply, a
 use Rattle.zre_journal.specs.Links.{groups, status, bodies, is_linked, replies, unsent}
 use Rattle.zre_journal.specs.Peers.{Life, lives, life_of, life, is_entered, births, counted}
 use Rattle.zre_journal.specs.Pushes.{push, push_all, birth}
-use Rattle.zre_journal.specs.Ticks.{is_silent, is_faltering, falter, is_stale, at_tick}
+use Rattle.zre_journal.specs.Ticks.{is_silent, is_evasive, probe, is_stale, at_tick}
 use Rattle.zre_journal.specs.declared.config.Config.{Config}
 use Rattle.zre_link.specs.Heard.{reply_fault}
 use Rattle.zre_link.specs.Text.{size_of}
@@ -65,11 +65,11 @@ module _ (g : Config) (d : ℕ) where
   pushes_quiet b [] I = tt
   pushes_quiet b (v ∷ vs) I = let p = push g v.link b I in All-join (Quiet d) p (push_all g vs b (after p I)) (push_quiet v.link b I) (pushes_quiet b vs (after p I))
 
-  falters_quiet : (vs : List Life) (I : List Mark) → AreQuiet d (falter g vs I)
-  falters_quiet [] I = tt
-  falters_quiet (v ∷ vs) I =
+  probes_quiet : (vs : List Life) (I : List Mark) → AreQuiet d (probe g vs I)
+  probes_quiet [] I = tt
+  probes_quiet (v ∷ vs) I =
       let p = push g v.link body.Ping I in
-      (tt, All-join (Quiet d) p (falter g vs (after p (IsEvasive v.link ∷ I))) (push_quiet v.link body.Ping I) (falters_quiet vs (after p (IsEvasive v.link ∷ I))))
+      (tt, All-join (Quiet d) p (probe g vs (after p (IsEvasive v.link ∷ I))) (push_quiet v.link body.Ping I) (probes_quiet vs (after p (IsEvasive v.link ∷ I))))
 
   ends_quiet : (why : Cause) (vs : List Life) → AreQuiet d (end_all why vs)
   ends_quiet why [] = tt
@@ -180,13 +180,13 @@ module _ (g : Config) (d : ℕ) where
 
     tick_quiet : AreQuiet d (at_tick g K)
     tick_quiet =
-        All-join (Quiet d) (E ++ F ++ C) (SendsBeacon g.port ∷ []) (All-join (Quiet d) (E ++ F) C (All-join (Quiet d) E F (ends_quiet cause.Expired (filter (is_silent g g.expired K) (lives K))) (falters_quiet (filter (is_faltering g K) (lives K)) K)) (closes_quiet close.Timeout (filter (is_stale g K) (open_ones K)))) (tt, tt)
+        All-join (Quiet d) (E ++ F ++ C) (SendsBeacon g.port ∷ []) (All-join (Quiet d) (E ++ F) C (All-join (Quiet d) E F (ends_quiet cause.Expired (filter (is_silent g g.expired K) (lives K))) (probes_quiet (filter (is_evasive g K) (lives K)) K)) (closes_quiet close.Timeout (filter (is_stale g K) (open_ones K)))) (tt, tt)
       where
         E : List Mark
         E = end_all cause.Expired (filter (is_silent g g.expired K) (lives K))
 
         F : List Mark
-        F = falter g (filter (is_faltering g K) (lives K)) K
+        F = probe g (filter (is_evasive g K) (lives K)) K
 
         C : List Mark
         C = map (λ c. Closes c close.Timeout) (filter (is_stale g K) (open_ones K))

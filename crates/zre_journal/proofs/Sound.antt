@@ -42,7 +42,7 @@ use Rattle.zre_journal.specs.Pushes.{push, push_all, birth}
 use Rattle.zre_journal.specs.Happens.{is_welcome, at_beacon, at_datagram, at_input}
 use Rattle.zre_journal.specs.Arrivals.{at_opened, end_of_run, at_shut, taken_over, start_unknown, start, at_first, answer_to, at_later, at_message, at_shaken, at_said, at_place, at_places}
 use Rattle.zre_journal.specs.LinkEntries.{at_linked, fault_of_reply, at_reply, at_unlinked, at_took}
-use Rattle.zre_journal.specs.Ticks.{is_silent, is_faltering, falter, is_stale, at_tick}
+use Rattle.zre_journal.specs.Ticks.{is_silent, is_evasive, probe, is_stale, at_tick}
 use Rattle.zre_journal.specs.Commands.{has_group, at_join, at_leave, is_too_big, at_whisper, is_member, at_shout}
 use Rattle.zre_journal.proofs.Idle.{not_true}
 use Rattle.zre_journal.proofs.Joined.{after-append}
@@ -197,18 +197,18 @@ module _ (g : Config) where
       by true = refl
       by false = refl
 
-  falters_sound : (vs : List Life) (I H : List Mark) → AreSound (falter g vs I) H
-  falters_sound [] I H = tt
-  falters_sound (v ∷ vs) I H =
+  probes_sound : (vs : List Life) (I H : List Mark) → AreSound (probe g vs I) H
+  probes_sound [] I H = tt
+  probes_sound (v ∷ vs) I H =
       let p = push g v.link body.Ping I in
-      (tt, sound_both p (falter g vs (after p (IsEvasive v.link ∷ I))) (IsEvasive v.link ∷ H) (push_sound v.link body.Ping I (IsEvasive v.link ∷ H)) (falters_sound vs (after p (IsEvasive v.link ∷ I)) (after p (IsEvasive v.link ∷ H))))
+      (tt, sound_both p (probe g vs (after p (IsEvasive v.link ∷ I))) (IsEvasive v.link ∷ H) (push_sound v.link body.Ping I (IsEvasive v.link ∷ H)) (probes_sound vs (after p (IsEvasive v.link ∷ I)) (after p (IsEvasive v.link ∷ H))))
 
-  falters_open : (vs : List Life) (I H : List Mark) → open_ones (after (falter g vs I) H) ≡ open_ones H
-  falters_open [] I H = refl
-  falters_open (v ∷ vs) I H =
+  probes_open : (vs : List Life) (I H : List Mark) → open_ones (after (probe g vs I) H) ≡ open_ones H
+  probes_open [] I H = refl
+  probes_open (v ∷ vs) I H =
       let p = push g v.link body.Ping I in
-      ap open_ones (after-append p (falter g vs (after p (IsEvasive v.link ∷ I))) (IsEvasive v.link ∷ H))
-      ∙ falters_open vs (after p (IsEvasive v.link ∷ I)) (after p (IsEvasive v.link ∷ H)) ∙ push_open v.link body.Ping I (IsEvasive v.link ∷ H)
+      ap open_ones (after-append p (probe g vs (after p (IsEvasive v.link ∷ I))) (IsEvasive v.link ∷ H))
+      ∙ probes_open vs (after p (IsEvasive v.link ∷ I)) (after p (IsEvasive v.link ∷ H)) ∙ push_open v.link body.Ping I (IsEvasive v.link ∷ H)
 
   ends_sound : (why : Cause) (vs : List Life) (H : List Mark) → AreSound (end_all why vs) H
   ends_sound why [] H = tt
@@ -343,14 +343,14 @@ module _ (g : Config) where
 
     tick_sound : AreSound (at_tick g K) K
     tick_sound =
-        sound_both (E ++ F ++ C) Z K (sound_both (E ++ F) C K (sound_both E F K (ends_sound cause.Expired silent K) (falters_sound wavering K (after E K)))
+        sound_both (E ++ F ++ C) Z K (sound_both (E ++ F) C K (sound_both E F K (ends_sound cause.Expired silent K) (probes_sound wavering K (after E K)))
         (closes_sound close.Timeout stale (after (E ++ F) K) (Apart-kept (λ (c : ℕ). c) (is_stale g K) (open_ones K) q.opening.open_apart) there)) (tt, tt)
       where
         silent : List Life
         silent = filter (is_silent g g.expired K) (lives K)
 
         wavering : List Life
-        wavering = filter (is_faltering g K) (lives K)
+        wavering = filter (is_evasive g K) (lives K)
 
         stale : List ℕ
         stale = filter (is_stale g K) (open_ones K)
@@ -359,7 +359,7 @@ module _ (g : Config) where
         E = end_all cause.Expired silent
 
         F : List Mark
-        F = falter g wavering K
+        F = probe g wavering K
 
         C : List Mark
         C = map (λ c. Closes c close.Timeout) stale
@@ -368,7 +368,7 @@ module _ (g : Config) where
         Z = SendsBeacon g.port ∷ []
 
         same : open_ones K ≡ open_ones (after (E ++ F) K)
-        same = sym (ap open_ones (after-append E F K) ∙ falters_open wavering K (after E K) ∙ ends_open cause.Expired silent K)
+        same = sym (ap open_ones (after-append E F K) ∙ probes_open wavering K (after E K) ∙ ends_open cause.Expired silent K)
 
         there : AllByRecursion (λ c. is_open c (after (E ++ F) K) ≡ true) stale
         there = All-kept (λ c. is_open c (after (E ++ F) K) ≡ true) (is_stale g K) (open_ones K) (subst (λ cs. AllByRecursion (λ c. list_any (eqb c) cs ≡ true) (open_ones K)) same (each_open K))

@@ -43,7 +43,7 @@ pub record MayBear (l : ℕ) (p : PeerId) (H : List Mark) : Type 0 where
   pub has_room : length (lives H) < PEERS
 
 -- a known peer that is entered is silent
-pub record MayFalter (l : ℕ) (H : List Mark) : Type 0 where
+pub record MayProbe (l : ℕ) (H : List Mark) : Type 0 where
   pub is_known : IsSome (life l H)
   pub is_run : is_some (runner l H) ≡ true
 
@@ -58,7 +58,7 @@ May (Closes c why) H = runs c H ≡ None
 May (IsShut c) H = runs c H ≡ None
 May (ClosesAtStop c) H = runs c H ≡ None
 May (Born l p e) H = MayBear l p H
-May (IsEvasive l) H = MayFalter l H
+May (IsEvasive l) H = MayProbe l H
 May (Ends l why) H = IsSome (life l H)
 May (Puts l b) H = IsSome (life l H)
 May (Links l) H = IsSome (life l H)

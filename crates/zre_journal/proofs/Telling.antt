@@ -20,7 +20,7 @@ use Rattle.zre_peer.specs.declared.event.Event.TheVariants as event
 use Rattle.zre_journal.specs.declared.config.Config.{Config}
 use Rattle.zre_journal.specs.Chronicle.{Mark, Comes, TurnsAway, Closes, Ignores, Refuses, Stops, Born, Starts, Counts, Ends, IsEvasive, after}
 use Rattle.zre_journal.specs.Peers.{Life, lives, life, life_of, births, runner, is_entered, view}
-use Rattle.zre_journal.specs.Told.{told, told_at, by_message, exit, faltering}
+use Rattle.zre_journal.specs.Told.{told, told_at, by_message, exit, becoming_evasive}
 use Rattle.zre_journal.specs.Happens.{marks, with_entry, chronicle_after}
 use Rattle.zre_journal.specs.Events.{events_at, events_after, events, chronicle}
 use Rattle.zre_journal.specs.Proper.{IsProper}
@@ -206,10 +206,10 @@ module _ (p : PeerId) (H : List Mark) (q : IsProper H) (n : AreNamed H) where
       subst (λ o. Lead p (has_entered p H) (by_message o m H) (has_entered p H)) (sym v.1)
       (mild p v.0.id (has_entered p H) (events_of v.0.id (view v.0.link H) m.body) (mild_later v.0.id (view v.0.link H) m.body y.later) (is_run l v.0 v.1 (ap is_some (run_is H q c l y.running))))
 
-  falter_leads : (l : ℕ) → May (IsEvasive l) H → Lead p (has_entered p H) (told_at (IsEvasive l) H) (has_entered p H)
-  falter_leads l y =
+  probe_leads : (l : ℕ) → May (IsEvasive l) H → Lead p (has_entered p H) (told_at (IsEvasive l) H) (has_entered p H)
+  probe_leads l y =
       let v = some_is (life l H) y.is_known in
-      subst (λ o. Lead p (has_entered p H) (faltering o H) (has_entered p H)) (sym v.1)
+      subst (λ o. Lead p (has_entered p H) (becoming_evasive o H) (has_entered p H)) (sym v.1)
       (mild p v.0.id (has_entered p H) (event.Evasive v.0.id (view v.0.link H).name ∷ []) ((refl, refl, λ i b. refl), tt) (is_run l v.0 v.1 y.is_run))
 
   end_leads : (l : ℕ) (why : Cause) → May (Ends l why) H → Lead p (has_entered p H) (told_at (Ends l why) H) (has_entered p (Ends l why ∷ H))
@@ -274,7 +274,7 @@ leads p (Born l i e) H q m n = record { fit = tt; last = births_lead p H q n l i
 leads p (Starts c l m) H q y n = start_leads p H q n c l m y
 leads p (Counts c l m) H q y n =
     subst (Lead p (has_entered p H) (told_at (Counts c l m) H)) (stays_in (life_of p H) (Counts c l m) H (λ k. refl)) (count_leads p H q n c l m y)
-leads p (IsEvasive l) H q y n = subst (Lead p (has_entered p H) (told_at (IsEvasive l) H)) (stays_in (life_of p H) (IsEvasive l) H (λ k. refl)) (falter_leads p H q n l y)
+leads p (IsEvasive l) H q y n = subst (Lead p (has_entered p H) (told_at (IsEvasive l) H)) (stays_in (life_of p H) (IsEvasive l) H (λ k. refl)) (probe_leads p H q n l y)
 leads p (Ends l why) H q y n = end_leads p H q n l why y
 leads p h H q m n = record { fit = tt; last = stays_in (life_of p H) h H (λ k. refl) }
 

@@ -29,7 +29,7 @@ use Rattle.zre_journal.specs.Links.{groups, status, bodies, unsent}
 use Rattle.zre_journal.specs.Proper.{IsProper, Apart}
 use Rattle.zre_journal.specs.Pushes.{hello, push, push_all, birth}
 use Rattle.zre_journal.specs.Arrivals.{end_of_run}
-use Rattle.zre_journal.specs.Ticks.{falter}
+use Rattle.zre_journal.specs.Ticks.{probe}
 use Rattle.zre_journal.specs.Commands.{has_group}
 use Rattle.zre_journal.specs.Truth.{own_view, only_begins_with_hello}
 use Rattle.zre_journal.proofs.Few.{AtEnd, Front, Back, at_end}
@@ -237,11 +237,11 @@ module _ (g : Config) where
   ping : IsMild body.Ping
   ping = record { leaves = λ v. refl; later = refl }
 
-  pub falters_plain : (vs : List Life) (I : List Mark) → ArePlain (falter g vs I)
-  falters_plain [] I = tt
-  falters_plain (v ∷ vs) I =
+  pub probes_plain : (vs : List Life) (I : List Mark) → ArePlain (probe g vs I)
+  probes_plain [] I = tt
+  probes_plain (v ∷ vs) I =
       let p = push g v.link body.Ping I in
-      (tt, All-join Plain p (falter g vs (after p (IsEvasive v.link ∷ I))) (push_plain v.link body.Ping I ping) (falters_plain vs (after p (IsEvasive v.link ∷ I))))
+      (tt, All-join Plain p (probe g vs (after p (IsEvasive v.link ∷ I))) (push_plain v.link body.Ping I ping) (probes_plain vs (after p (IsEvasive v.link ∷ I))))
 
   pub ends_plain : (why : Cause) (vs : List Life) → ArePlain (end_all why vs)
   ends_plain why [] = tt

@@ -39,7 +39,7 @@ use Rattle.zre_journal.specs.Pushes.{push, push_all, birth}
 use Rattle.zre_journal.specs.Happens.{has_stopped, is_welcome, at_beacon, at_datagram, at_input, with_entry, chronicle_after}
 use Rattle.zre_journal.specs.Arrivals.{at_opened, end_of_run, at_shut, taken_over, start_unknown, start, at_first, answer_to, at_later, at_message, at_shaken, at_said, at_place, at_places}
 use Rattle.zre_journal.specs.LinkEntries.{at_linked, fault_of_reply, at_reply, at_unlinked, at_took}
-use Rattle.zre_journal.specs.Ticks.{is_silent, is_faltering, falter, is_stale, at_tick}
+use Rattle.zre_journal.specs.Ticks.{is_silent, is_evasive, probe, is_stale, at_tick}
 use Rattle.zre_journal.specs.Commands.{has_group, at_join, at_leave, is_too_big, at_whisper, is_member, at_shout, at_stop, at_command}
 use Rattle.zre_journal.specs.Chronicle.{Greets}
 use Rattle.zre_journal.specs.Truth.{TellsTruth}
@@ -50,7 +50,7 @@ use Rattle.zre_journal.proofs.Known.{end_all}
 use Rattle.zre_journal.proofs.Listed.{All-join}
 use Rattle.zre_journal.proofs.Says.{place_allowed}
 use Rattle.zre_journal.proofs.Steps.{steps}
-use Rattle.zre_journal.proofs.Truth.{once_more, once_less, apart_of, view_told, Truth, Plain, ArePlain, plain_step, plain_steps, plain_either, comes, choice, born, push_plain, pushes_plain, falters_plain, ends_plain, closes_plain, drops_plain, run_plain, changes}
+use Rattle.zre_journal.proofs.Truth.{once_more, once_less, apart_of, view_told, Truth, Plain, ArePlain, plain_step, plain_steps, plain_either, comes, choice, born, push_plain, pushes_plain, probes_plain, ends_plain, closes_plain, drops_plain, run_plain, changes}
 
 module _ (g : Config) where
   -- ---- one entry
@@ -158,13 +158,13 @@ module _ (g : Config) where
 
     tick_plain : ArePlain g (at_tick g K)
     tick_plain =
-        All-join (Plain g) (E ++ F ++ C) (SendsBeacon g.port ∷ []) (All-join (Plain g) (E ++ F) C (All-join (Plain g) E F (ends_plain g cause.Expired silent) (falters_plain g wavering K)) (closes_plain g close.Timeout stale)) (tt, tt)
+        All-join (Plain g) (E ++ F ++ C) (SendsBeacon g.port ∷ []) (All-join (Plain g) (E ++ F) C (All-join (Plain g) E F (ends_plain g cause.Expired silent) (probes_plain g wavering K)) (closes_plain g close.Timeout stale)) (tt, tt)
       where
         silent : List Life
         silent = filter (is_silent g g.expired K) (lives K)
 
         wavering : List Life
-        wavering = filter (is_faltering g K) (lives K)
+        wavering = filter (is_evasive g K) (lives K)
 
         stale : List ℕ
         stale = filter (is_stale g K) (open_ones K)
@@ -173,7 +173,7 @@ module _ (g : Config) where
         E = end_all cause.Expired silent
 
         F : List Mark
-        F = falter g wavering K
+        F = probe g wavering K
 
         C : List Mark
         C = map (λ c. Closes c close.Timeout) stale

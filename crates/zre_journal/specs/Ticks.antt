@@ -16,11 +16,11 @@ module _ (g : Config) where
   abbrev pub is_silent : ℕ → List Mark → Life → Bool
   is_silent limit K v = nat_le limit (clock K - active v.link K)
 
-  abbrev pub is_faltering : List Mark → Life → Bool
-  is_faltering K v = is_entered K v && not (is_silent g.expired K v) && is_silent g.evasive K v
+  abbrev pub is_evasive : List Mark → Life → Bool
+  is_evasive K v = is_entered K v && not (is_silent g.expired K v) && is_silent g.evasive K v
 
-  abbrev pub falter : List Life → List Mark → List Mark
-  falter vs K = in_turn (λ (v : Life) J. IsEvasive v.link ∷ push g v.link body.Ping J) vs K
+  abbrev pub probe : List Life → List Mark → List Mark
+  probe vs K = in_turn (λ (v : Life) J. IsEvasive v.link ∷ push g v.link body.Ping J) vs K
 
   abbrev pub is_stale : List Mark → ℕ → Bool
   is_stale K c = is_none (runs c K) && nat_le g.expired (clock K - since c K)
@@ -28,6 +28,6 @@ module _ (g : Config) where
   abbrev pub at_tick : List Mark → List Mark
   at_tick K =
       map (λ (v : Life). Ends v.link cause.Expired) (filter (is_silent g.expired K) (lives K))
-      ++ falter (filter (is_faltering K) (lives K)) K
+      ++ probe (filter (is_evasive K) (lives K)) K
       ++ map (λ c. Closes c close.Timeout) (filter (is_stale K) (open_ones K))
       ++ SendsBeacon g.port ∷ []

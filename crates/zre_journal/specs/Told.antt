@@ -18,9 +18,9 @@ abbrev pub by_message : Option Life → Message → List Mark → List Event
 by_message None m H = []
 by_message (Some v) m H = events_of v.id (view v.link H) m.body
 
-abbrev pub faltering : Option Life → List Mark → List Event
-faltering None H = []
-faltering (Some v) H = event.Evasive v.id (view v.link H).name ∷ []
+abbrev pub becoming_evasive : Option Life → List Mark → List Event
+becoming_evasive None H = []
+becoming_evasive (Some v) H = event.Evasive v.id (view v.link H).name ∷ []
 
 -- what a mark tells; H is the chronicle before it
 abbrev pub told_at : Mark → List Mark → List Event
@@ -30,7 +30,7 @@ told_at (Ignores c why) H = event.Ignored c why ∷ []
 told_at (Starts c l m) H = by_message (life l H) m H
 told_at (Counts c l m) H = by_message (life l H) m H
 told_at (Ends l why) H = exit (life l H) why H
-told_at (IsEvasive l) H = faltering (life l H) H
+told_at (IsEvasive l) H = becoming_evasive (life l H) H
 told_at (Refuses why) H = event.Refused why ∷ []
 told_at Stops H = event.Stop ∷ []
 told_at _ H = []

@@ -19,7 +19,7 @@ use Rattle.zre_journal.specs.Arrivals.{at_places}
 use Rattle.zre_journal.proofs.Kept.{Comes-proper}
 use Rattle.zre_journal.proofs.Listed.{eqb-comm, found_passes, any_has}
 use Rattle.zre_node.specs.declared.connection.Connection.{Connection}
-use Rattle.zre_node.specs.declared.arrivals.Heard.{Heard}
+use Rattle.zre_node.specs.declared.incoming.arrivals.Heard.{Heard}
 use Rattle.zre_node.specs.declared.tables.Tables.{Tables}
 use Rattle.zre_node.specs.Said.{said_in}
 use Rattle.zre_node.specs.Tabled.{Tabled}

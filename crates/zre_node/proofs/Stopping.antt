@@ -21,7 +21,6 @@ use Rattle.zre_journal.proofs.Listed.{All-map}
 use Rattle.zre_journal.proofs.Stopping.{stop-is, none_known, none_open}
 use Rattle.zre_node.specs.declared.tables.Tables.{Tables}
 use Rattle.zre_node.specs.declared.effects.Effects.{Effects}
-use Rattle.zre_node.specs.declared.peer.Peer.{Peer}
 use Rattle.zre_node.specs.Tabled.{Tabled}
 use Rattle.zre_node.specs.Stands.{Holds, Did, Rests, Stopped, AreKnown, RunNone, IsPeer, IsConn}
 use Rattle.zre_node.proofs.Entries.{keys_are}

@@ -22,12 +22,12 @@ use Rattle.zre_journal.specs.Chronicle.{Mark, Ends, Closes, IsEvasive, Puts, Sen
 use Rattle.zre_journal.specs.Connections.{open_ones, runs, since}
 use Rattle.zre_journal.specs.Done.{names}
 use Rattle.zre_journal.specs.Happens.{at_input}
-use Rattle.zre_journal.specs.Ticks.{at_tick, falter, is_silent, is_faltering, is_stale}
+use Rattle.zre_journal.specs.Ticks.{at_tick, probe, is_silent, is_evasive, is_stale}
 use Rattle.zre_journal.specs.Heard.{clock}
 use Rattle.zre_journal.specs.Links.{bodies, unsent}
 use Rattle.zre_journal.specs.Peers.{Life, lives, life, runner, counted, is_entered, view}
 use Rattle.zre_journal.specs.Proper.{Apart}
-use Rattle.zre_journal.specs.Told.{told, faltering}
+use Rattle.zre_journal.specs.Told.{told, becoming_evasive}
 use Rattle.zre_journal.proofs.Idle.{idle_after, AreNoStarts, ends_start_none, none_and_none}
 use Rattle.zre_journal.proofs.Joined.{after-append}
 use Rattle.zre_journal.proofs.Kept.{IsEvasive-proper, SendsBeacon-proper}
@@ -39,7 +39,7 @@ use Rattle.zre_node.specs.declared.peer.Peer.{Peer}
 use Rattle.zre_node.specs.declared.peer.Running.{Running}
 use Rattle.zre_node.specs.declared.tables.Tables.{Tables}
 use Rattle.zre_node.specs.Tabled.{Tabled}
-use Rattle.zre_node.specs.Ticks.{row_silent, row_faltering, row_stale, numbers_of, falters, IsEntered, AreEntered, AreIdle}
+use Rattle.zre_node.specs.Ticks.{row_silent, row_evasive, row_stale, numbers_of, probes, IsEntered, AreEntered, AreIdle}
 use Rattle.zre_node.specs.Stands.{Holds, Did, HasRun, IsPeer, IsConn, AreKnown, is_quiet}
 use Rattle.zre_node.proofs.Many.{did_as, did_then}
 use Rattle.zre_node.proofs.Opening.{with_conns}
@@ -79,8 +79,8 @@ module _ (g : Config) (H : List Mark) (t : Tables) (h : Holds g H t) where
   silent_row : (limit now : ℕ) → now ≡ clock H → (v : Life) (k : Peer) → IsPeer g H v k → row_silent limit now k ≡ is_silent g limit H v
   silent_row limit now e v k is = rw (e, is.active_is) refl
 
-  faltering_row : (evasive expired now : ℕ) → evasive ≡ g.evasive → expired ≡ g.expired → now ≡ clock H → (v : Life) (k : Peer) → IsPeer g H v k → row_faltering evasive expired now k ≡ is_faltering g H v
-  faltering_row evasive expired now a b e v k is =
+  evasive_row : (evasive expired now : ℕ) → evasive ≡ g.evasive → expired ≡ g.expired → now ≡ clock H → (v : Life) (k : Peer) → IsPeer g H v k → row_evasive evasive expired now k ≡ is_evasive g H v
+  evasive_row evasive expired now a b e v k is =
       rw (a, b, enters (runner v.link H) v.id (counted v.link H) k.run is.run_is, silent_row g.expired now e v k is, silent_row g.evasive now e v k is) refl
 
   stale_row : (limit now : ℕ) → limit ≡ g.expired → now ≡ clock H → (c : ℕ) (k : Connection) → IsConn g H c k → row_stale limit now k ≡ is_stale g H c
@@ -92,10 +92,10 @@ module _ (g : Config) (H : List Mark) (t : Tables) (h : Holds g H t) where
       numbers_are (λ (v : Life). v.link) (IsPeer g H) (row_silent t.config.expired t.clock) (is_silent g g.expired H)
       (λ v k is. ap (λ n. row_silent n t.clock k) same ∙ silent_row g.expired t.clock h.keeps.clock_is v k is) (lives H) t.peers.entries h.peers
 
-  pub faltering_are : numbers_of (row_faltering t.config.evasive t.config.expired t.clock) t.peers.entries ≡ link_list (filter (is_faltering g H) (lives H))
-  faltering_are =
-      numbers_are (λ (v : Life). v.link) (IsPeer g H) (row_faltering t.config.evasive t.config.expired t.clock) (is_faltering g H)
-      (faltering_row t.config.evasive t.config.expired t.clock (ap (λ (f : Config). f.evasive) h.keeps.config) (ap (λ (f : Config). f.expired) h.keeps.config) h.keeps.clock_is) (lives H) t.peers.entries h.peers
+  pub evasive_are : numbers_of (row_evasive t.config.evasive t.config.expired t.clock) t.peers.entries ≡ link_list (filter (is_evasive g H) (lives H))
+  evasive_are =
+      numbers_are (λ (v : Life). v.link) (IsPeer g H) (row_evasive t.config.evasive t.config.expired t.clock) (is_evasive g H)
+      (evasive_row t.config.evasive t.config.expired t.clock (ap (λ (f : Config). f.evasive) h.keeps.config) (ap (λ (f : Config). f.expired) h.keeps.config) h.keeps.clock_is) (lives H) t.peers.entries h.peers
 
   pub stale_are : numbers_of (row_stale t.config.expired t.clock) t.conns.entries ≡ filter (is_stale g H) (open_ones H)
   stale_are =
@@ -106,8 +106,8 @@ module _ (g : Config) (H : List Mark) (t : Tables) (h : Holds g H t) where
 -- ---- EVASIVE
 
 module _ (g : Config) (K : List Mark) (t : Tables) (h : Holds g K t) where
-  pub holds_falters : (l : ℕ) → Holds g (IsEvasive l ∷ K) t
-  holds_falters l = with_conns g K (IsEvasive l ∷ K) t t.last t.conns h (IsEvasive-proper K h.keeps.proper l) refl refl refl h.peers refl refl refl h.keeps.last_is h.keeps.conns
+  pub holds_probes : (l : ℕ) → Holds g (IsEvasive l ∷ K) t
+  holds_probes l = with_conns g K (IsEvasive l ∷ K) t t.last t.conns h (IsEvasive-proper K h.keeps.proper l) refl refl refl h.peers refl refl refl h.keeps.last_is h.keeps.conns
 
   pub holds_calls : (port : ℕ) → Holds g (SendsBeacon port ∷ K) t
   holds_calls port = with_conns g K (SendsBeacon port ∷ K) t t.last t.conns h (SendsBeacon-proper K h.keeps.proper port) refl refl refl h.peers refl refl refl h.keeps.last_is h.keeps.conns
@@ -116,7 +116,7 @@ run_shows : (o : Option ℕ) (id : PeerId) (ms : List Message) (r : Option Runni
 run_shows None id ms r x h e = let z : None ≡ Some x = sym h ∙ e in absurd cc
 run_shows (Some c) id ms r x h e = let z : Some h.0 ≡ Some x = sym h.1 ∙ e in let same : h.0 ≡ x = cc in subst (λ (y : Running). view_in y.run ≡ shown ms) same (shows h.0 c id ms h.2).1
 
--- what is told of an entered peer that falters, by its row
+-- what is told of an entered peer that is evasive, by its row
 pub record Wavers (g : Config) (K : List Mark) (l : ℕ) (k : Peer) (x : Running) : Type 0 where
   pub its_view : view_in x.run ≡ shown (counted l K)
   pub tells : told (IsEvasive l ∷ []) K ≡ event.Evasive k.id (view l K).name ∷ []
@@ -127,7 +127,7 @@ wavers g K t h l k was x e =
     let here : l ≡ its.0.link = found_link its.0 its.1 in
     record {
       its_view = run_shows (runner its.0.link K) its.0.id (counted its.0.link K) k.run x its.2.run_is e ∙ ap (λ n. shown (counted n K)) (sym here);
-      tells = ap (λ o. faltering o K ++ []) its.1 ∙ ap (λ i. event.Evasive i (view its.0.link K).name ∷ []) (sym its.2.id_is)
+      tells = ap (λ o. becoming_evasive o K ++ []) its.1 ∙ ap (λ i. event.Evasive i (view its.0.link K).name ∷ []) (sym its.2.id_is)
           ∙ ap (λ n. event.Evasive k.id (view n K).name ∷ []) (sym here);
     }
   where
@@ -149,15 +149,15 @@ ends_alike why [] K l = (refl, refl)
 ends_alike why (v ∷ vs) K l = ends_alike why vs (Ends v.link why ∷ K) l
 
 module _ (g : Config) where
-  falters_alike : (l : ℕ) (J K : List Mark) → Alike J K → falters g l J ≡ falters g l K
-  falters_alike l J K a = rw ((a l).0, (a l).1) refl
+  probes_alike : (l : ℕ) (J K : List Mark) → Alike J K → probes g l J ≡ probes g l K
+  probes_alike l J K a = rw ((a l).0, (a l).1) refl
 
   -- those of links are those of lives, also where they were found before
-  pub falters_are : (vs : List Life) (J K : List Mark) → Alike J K → in_turn (falters g) (link_list vs) J ≡ falter g vs K
-  falters_are [] J K a = refl
-  falters_are (v ∷ vs) J K a =
-      ap (λ hs. hs ++ in_turn (falters g) (link_list vs) (after hs J)) (falters_alike v.link J K a)
-      ∙ ap (λ hs. falters g v.link K ++ hs) (falters_are vs (after (falters g v.link K) J) (after (falters g v.link K) K) (alike_after (falters g v.link K) J K a))
+  pub probes_are : (vs : List Life) (J K : List Mark) → Alike J K → in_turn (probes g) (link_list vs) J ≡ probe g vs K
+  probes_are [] J K a = refl
+  probes_are (v ∷ vs) J K a =
+      ap (λ hs. hs ++ in_turn (probes g) (link_list vs) (after hs J)) (probes_alike v.link J K a)
+      ∙ ap (λ hs. probes g v.link K ++ hs) (probes_are vs (after (probes g v.link K) J) (after (probes g v.link K) K) (alike_after (probes g v.link K) J K a))
 
   ends_entered : (l : ℕ) (why : Cause) (K : List Mark) (ls : List ℕ) → AllByRecursion (λ k. eqb l k ≡ false) ls → AreEntered K ls → AreEntered (Ends l why ∷ K) ls
   ends_entered l why K [] far k = tt
@@ -167,7 +167,7 @@ module _ (g : Config) where
   same_entered J K a b [] k = tt
   same_entered J K a b (m ∷ ls) k = ((subst IsSome (sym (a m)) k.0.0, ap is_some (b m) ∙ k.0.1), k.1, same_entered J K a b ls k.2)
 
-  still_entered : (l : ℕ) (K : List Mark) (ls : List ℕ) → AllByRecursion (λ k. eqb l k ≡ false) ls → AreEntered K ls → AreEntered (after (falters g l K) K) ls
+  still_entered : (l : ℕ) (K : List Mark) (ls : List ℕ) → AllByRecursion (λ k. eqb l k ≡ false) ls → AreEntered K ls → AreEntered (after (probes g l K) K) ls
   still_entered l K ls far k = by (ltb 4194304 (unsent g l K + size_of (bodies l K) body.Ping))
     where
       here : AreEntered (IsEvasive l ∷ K) ls
@@ -178,16 +178,16 @@ module _ (g : Config) where
       by false = same_entered (Puts l body.Ping ∷ IsEvasive l ∷ K) (IsEvasive l ∷ K) (λ m. refl) (λ m. refl) ls here
 
   -- each is entered when its turn comes
-  pub entered_at : (ls : List ℕ) (K : List Mark) (i : ℕ) → i < length ls → AreEntered K ls → IsEntered (get_or ls i 0) (after (in_turn (falters g) (take i ls) K) K)
+  pub entered_at : (ls : List ℕ) (K : List Mark) (i : ℕ) → i < length ls → AreEntered K ls → IsEntered (get_or ls i 0) (after (in_turn (probes g) (take i ls) K) K)
   entered_at [] K i low k = absurd (omega arith)
   entered_at (l ∷ ls) K zero low k = k.0
   entered_at (l ∷ ls) K (suc i) low k =
-      let J = after (falters g l K) K in
-      subst (λ I. IsEntered (get_or ls i 0) I) (sym (after-append (falters g l K) (in_turn (falters g) (take i ls) J) K)) (entered_at ls J i (omega arith) (still_entered l K ls k.1 k.2))
+      let J = after (probes g l K) K in
+      subst (λ I. IsEntered (get_or ls i 0) I) (sym (after-append (probes g l K) (in_turn (probes g) (take i ls) J) K)) (entered_at ls J i (omega arith) (still_entered l K ls k.1 k.2))
 
-  falters_start_none : (ls : List ℕ) (K : List Mark) → AreNoStarts (in_turn (falters g) ls K)
-  falters_start_none [] K = tt
-  falters_start_none (l ∷ ls) K = none_and_none (falters g l K) (in_turn (falters g) ls (after (falters g l K) K)) (λ c. refl, by (ltb 4194304 (unsent g l K + size_of (bodies l K) body.Ping))) (falters_start_none ls (after (falters g l K) K))
+  probes_start_none : (ls : List ℕ) (K : List Mark) → AreNoStarts (in_turn (probes g) ls K)
+  probes_start_none [] K = tt
+  probes_start_none (l ∷ ls) K = none_and_none (probes g l K) (in_turn (probes g) ls (after (probes g l K) K)) (λ c. refl, by (ltb 4194304 (unsent g l K + size_of (bodies l K) body.Ping))) (probes_start_none ls (after (probes g l K) K))
     where
       by : (b : Bool) → AreNoStarts (cond b (Ends l (cause.Slow (unsent g l K) (size_of (bodies l K) body.Ping)) ∷ []) (Puts l body.Ping ∷ []))
       by true = (λ c. refl, tt)
@@ -223,32 +223,32 @@ ends_run : (why : Cause) (vs : List Life) (l : ℕ) (K : List Mark) → runner l
 ends_run why [] l K = refl
 ends_run why (v ∷ vs) l K = ends_run why vs l (Ends v.link why ∷ K)
 
--- the peers that expire, those that falter, and the connections that have waited too long
+-- the peers that expire, those that are evasive, and the connections that have waited too long
 abbrev pub expiring : Config → List Mark → List Life
 expiring g K = filter (is_silent g g.expired K) (lives K)
 
 abbrev pub wavering : Config → List Mark → List Life
-wavering g K = filter (is_faltering g K) (lives K)
+wavering g K = filter (is_evasive g K) (lives K)
 
 abbrev pub stale : Config → List Mark → List ℕ
 stale g K = filter (is_stale g K) (open_ones K)
 
--- the chronicle where those that expire have ended, and where the others have faltered too
+-- the chronicle where those that expire have ended, and where the others have probed too
 abbrev pub expired : Config → List Mark → List Mark
 expired g K = after (end_all cause.Expired (expiring g K)) K
 
-abbrev pub faltered : Config → List Mark → List Mark
-faltered g K = after (in_turn (falters g) (link_list (wavering g K)) (expired g K)) (expired g K)
+abbrev pub probed : Config → List Mark → List Mark
+probed g K = after (in_turn (probes g) (link_list (wavering g K)) (expired g K)) (expired g K)
 
 module _ (g : Config) (K : List Mark) (t : Tables) (h : Holds g K t) where
-  excludes : (v : Life) → is_silent g g.expired K v ≡ true → is_faltering g K v ≡ false
+  excludes : (v : Life) → is_silent g g.expired K v ≡ true → is_evasive g K v ≡ false
   excludes v e = rw e (by (is_entered K v))
     where
       by : (b : Bool) → (b && not true && is_silent g g.evasive K v) ≡ false
       by true = refl
       by false = refl
 
-  enters_it : (v : Life) → is_faltering g K v ≡ true → is_some (runner v.link K) ≡ true
+  enters_it : (v : Life) → is_evasive g K v ≡ true → is_some (runner v.link K) ≡ true
   enters_it v e = by (is_some (runner v.link K)) e
     where
       by : (b : Bool) → (b && not (is_silent g g.expired K v) && is_silent g g.evasive K v) ≡ true → b ≡ true
@@ -276,39 +276,39 @@ module _ (g : Config) (K : List Mark) (t : Tables) (h : Holds g K t) where
   -- the others are entered after their ends
   pub wavering_entered : (ls : List ℕ) → ls ≡ link_list (wavering g K) → AreEntered (expired g K) ls
   wavering_entered ls e = subst (AreEntered (expired g K)) (sym e)
-      (entered_from (expired g K) (wavering g K) (Apart-kept (λ (v : Life). v.link) (is_faltering g K) (lives K) h.keeps.proper.living.apart)
-      (ends_known cause.Expired (expiring g K) (wavering g K) K (kept_far (is_silent g g.expired K) (is_faltering g K) excludes (lives K) h.keeps.proper.living.apart)
-      (All-kept (λ (v : Life). IsSome (life v.link K)) (is_faltering g K) (lives K) (each_known K)))
-      (passing (λ (v : Life). is_some (runner v.link (expired g K)) ≡ true) (is_faltering g K) (λ v p. ap is_some (ends_run cause.Expired (expiring g K) v.link K) ∙ enters_it v p) (lives K)))
+      (entered_from (expired g K) (wavering g K) (Apart-kept (λ (v : Life). v.link) (is_evasive g K) (lives K) h.keeps.proper.living.apart)
+      (ends_known cause.Expired (expiring g K) (wavering g K) K (kept_far (is_silent g g.expired K) (is_evasive g K) excludes (lives K) h.keeps.proper.living.apart)
+      (All-kept (λ (v : Life). IsSome (life v.link K)) (is_evasive g K) (lives K) (each_known K)))
+      (passing (λ (v : Life). is_some (runner v.link (expired g K)) ≡ true) (is_evasive g K) (λ v p. ap is_some (ends_run cause.Expired (expiring g K) v.link K) ∙ enters_it v p) (lives K)))
 
-  pub falter_then : (ls : List ℕ) (n : Tables) (a b : Effects) → ls ≡ link_list (wavering g K) → Did g (in_turn (falters g) ls (expired g K)) (expired g K) n a b → Did g (in_turn (falters g) (link_list (wavering g K)) (expired g K)) (expired g K) n a b
-  falter_then ls n a b e d = subst (λ ks. Did g (in_turn (falters g) ks (expired g K)) (expired g K) n a b) e d
+  pub probe_then : (ls : List ℕ) (n : Tables) (a b : Effects) → ls ≡ link_list (wavering g K) → Did g (in_turn (probes g) ls (expired g K)) (expired g K) n a b → Did g (in_turn (probes g) (link_list (wavering g K)) (expired g K)) (expired g K) n a b
+  probe_then ls n a b e d = subst (λ ks. Did g (in_turn (probes g) ks (expired g K)) (expired g K) n a b) e d
 
   -- the connections run no peer even then
-  pub stale_idle : (cs : List ℕ) → cs ≡ stale g K → AreIdle (faltered g K) cs
-  stale_idle cs e = subst (AreIdle (faltered g K)) (sym e)
-      (passing (λ c. runs c (faltered g K) ≡ None) (is_stale g K)
-      (λ c p. idle_after (in_turn (falters g) (link_list (wavering g K)) (expired g K)) (expired g K) c (falters_start_none g (link_list (wavering g K)) (expired g K))
+  pub stale_idle : (cs : List ℕ) → cs ≡ stale g K → AreIdle (probed g K) cs
+  stale_idle cs e = subst (AreIdle (probed g K)) (sym e)
+      (passing (λ c. runs c (probed g K) ≡ None) (is_stale g K)
+      (λ c p. idle_after (in_turn (probes g) (link_list (wavering g K)) (expired g K)) (expired g K) c (probes_start_none g (link_list (wavering g K)) (expired g K))
       (idle_after (end_all cause.Expired (expiring g K)) K c (ends_start_none cause.Expired (expiring g K)) (idles c p))) (open_ones K))
 
 -- the marks of a tick, as they were left
-tick_marks : (g : Config) (K : List Mark) → at_tick g K ≡ end_all cause.Expired (expiring g K) ++ in_turn (falters g) (link_list (wavering g K)) (expired g K) ++ map (λ c. Closes c close.Timeout) (stale g K) ++ SendsBeacon g.port ∷ []
+tick_marks : (g : Config) (K : List Mark) → at_tick g K ≡ end_all cause.Expired (expiring g K) ++ in_turn (probes g) (link_list (wavering g K)) (expired g K) ++ map (λ c. Closes c close.Timeout) (stale g K) ++ SendsBeacon g.port ∷ []
 tick_marks g K =
     ap (λ hs. end_all cause.Expired (expiring g K) ++ hs ++ map (λ c. Closes c close.Timeout) (stale g K) ++ SendsBeacon g.port ∷ [])
-    (sym (falters_are g (wavering g K) (expired g K) K (ends_alike cause.Expired (expiring g K) K)))
+    (sym (probes_are g (wavering g K) (expired g K) K (ends_alike cause.Expired (expiring g K) K)))
 
 -- the whole tick from its parts
 pub ticks : (g : Config) (K : List Mark) (cs : List ℕ) (t n m : Tables) (a b c d e : Effects) → cs ≡ stale g K → Did g (end_all cause.Expired (expiring g K)) K t a b
-    → Did g (in_turn (falters g) (link_list (wavering g K)) (expired g K)) (expired g K) n b c → Did g (map (λ k. Closes k close.Timeout) cs) (faltered g K) m c d
-    → Did g (SendsBeacon g.port ∷ []) (after (map (λ k. Closes k close.Timeout) cs) (faltered g K)) m d e → Did g (at_tick g K) K m a e
+    → Did g (in_turn (probes g) (link_list (wavering g K)) (expired g K)) (expired g K) n b c → Did g (map (λ k. Closes k close.Timeout) cs) (probed g K) m c d
+    → Did g (SendsBeacon g.port ∷ []) (after (map (λ k. Closes k close.Timeout) cs) (probed g K)) m d e → Did g (at_tick g K) K m a e
 ticks g K cs t n m a b c d e is first second third fourth =
     let E = end_all cause.Expired (expiring g K) in
-    let F = in_turn (falters g) (link_list (wavering g K)) (expired g K) in
+    let F = in_turn (probes g) (link_list (wavering g K)) (expired g K) in
     let C = map (λ k. Closes k close.Timeout) cs in
     let Z = SendsBeacon g.port ∷ [] in
     did_as g (at_tick g K) (E ++ (F ++ (C ++ Z))) K m a e
     (tick_marks g K ∙ ap (λ ks. E ++ F ++ map (λ k. Closes k close.Timeout) ks ++ Z) (sym is) ∙ append_assoc (E ++ F) C Z ∙ append_assoc E F (C ++ Z))
-    (did_then g E (F ++ (C ++ Z)) K t m a b e first (did_then g F (C ++ Z) (expired g K) n m b c e second (did_then g C Z (faltered g K) m m c d e third fourth)))
+    (did_then g E (F ++ (C ++ Z)) K t m a b e first (did_then g F (C ++ Z) (expired g K) n m b c e second (did_then g C Z (probed g K) m m c d e third fourth)))
 
 -- ---- its entry
 

@@ -11,8 +11,8 @@ use Rattle.zre_journal.specs.declared.config.Config.{Config}
 use Rattle.zre_journal.specs.Chronicle.{Mark, Ignores}
 use Rattle.zre_journal.specs.Peers.{Life, lives, life_of}
 use Rattle.zre_journal.specs.Arrivals.{start_unknown}
-use Rattle.zre_node.specs.declared.first.Place.{Place}
-use Rattle.zre_node.specs.declared.first.Place.TheVariants.{Known, New, Nowhere}
+use Rattle.zre_node.specs.declared.incoming.first.Place.{Place}
+use Rattle.zre_node.specs.declared.incoming.first.Place.TheVariants.{Known, New, Nowhere}
 
 -- where the peer of a first message is to be reached
 abbrev pub IsPlace : Config → PeerId → Message → List Mark → Place → Type 0

@@ -15,8 +15,8 @@ abbrev pub row_silent : ℕ → ℕ → Peer → Bool
 row_silent limit now k = nat_le limit (now - k.active)
 
 -- it is entered, and was silent for long, but not for so long that it has expired
-abbrev pub row_faltering : ℕ → ℕ → ℕ → Peer → Bool
-row_faltering evasive expired now k = is_some k.run && not (row_silent expired now k) && row_silent evasive now k
+abbrev pub row_evasive : ℕ → ℕ → ℕ → Peer → Bool
+row_evasive evasive expired now k = is_some k.run && not (row_silent expired now k) && row_silent evasive now k
 
 -- the connection of this row runs no peer, and has rested for so long
 abbrev pub row_stale : ℕ → ℕ → Connection → Bool
@@ -28,8 +28,8 @@ numbers_of test [] = []
 numbers_of test (e ∷ es) = if test e.1 then e.0 ∷ numbers_of test es else numbers_of test es
 
 -- EVASIVE of the peer of a link, and PING on it
-abbrev pub falters : Config → ℕ → List Mark → List Mark
-falters g l K = IsEvasive l ∷ push g l body.Ping K
+abbrev pub probes : Config → ℕ → List Mark → List Mark
+probes g l K = IsEvasive l ∷ push g l body.Ping K
 
 -- the peer of this link is known and entered
 abbrev pub IsEntered : ℕ → List Mark → Type 0

@@ -3,28 +3,18 @@
 #![tactic(auto)]
 
 mod accessors;
-mod arrivals;
-mod births;
-mod broadcasts;
-mod commands;
 mod connection;
-mod connections;
 mod effects;
-mod ends;
-mod first;
-mod hearing;
 mod holding;
 mod ids;
-mod links;
+mod incoming;
 mod node;
-mod offers;
+mod outgoing;
 mod peer;
-mod pushes;
-mod runs;
+mod peers;
 mod steps;
 mod stops;
 mod tables;
-mod ticks;
 
 pub use effects::Step;
 pub use ids::Ids;

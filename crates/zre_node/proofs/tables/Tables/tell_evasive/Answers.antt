@@ -8,7 +8,7 @@ use Rattle.zre_node.specs.Stands.{IsPeer}
 use Rattle.zre_node.proofs.Ending.{on_ok}
 use Rattle.zre_node.proofs.Many.{did_by}
 use Rattle.zre_node.proofs.Parting.{no_row, not_missing}
-use Rattle.zre_node.proofs.Ticking.{has_run, holds_falters, wavers}
+use Rattle.zre_node.proofs.Ticking.{has_run, holds_probes, wavers}
 use Rattle.zre_node.proofs.tables.Tables.tell_evasive.Goals as goal
 
 pub returns-in_default : goal.returns-in_default
@@ -25,6 +25,6 @@ returns c = λ g K h k.
     let w = wavers g K c.args.self.now h l p c.in-Some.ensures.value c.in-Some-run.running c.in-Some-run.is in
     let name = c.in_ok-name.ensures (counted l K) w.its_view in
     on_ok c.tell.result c.tell.ensures (λ out.
-    did_by g (IsEvasive l ∷ []) K c.args.self.now c.args.out.now c.tell.new.self (holds_falters g K c.args.self.now h l)
+    did_by g (IsEvasive l ∷ []) K c.args.self.now c.args.out.now c.tell.new.self (holds_probes g K c.args.self.now h l)
     (ap (λ (s : Effects). s.events) out ∙ ap (λ n. c.args.out.now.events ++ event.Evasive p.id n ∷ []) name ∙ ap (λ (es : List Event). c.args.out.now.events ++ es) (sym w.tells))
     (ap (λ (s : Effects). s.acts) out ∙ sym (append-nil c.args.out.now.acts)) (ap (λ (s : Effects). s.pushed) out) (λ n. refl))

@@ -1,0 +1,234 @@
+//! The first message of a connection.
+
+ghost use Rattle.std.specs.Prelude.{◌≡◌, ◌≢◌, List, ◌∷◌, [], ◌++◌, None, Some, OnOk, IfOk, IfErr, is_err, true};
+ghost use Rattle.zre_values.specs.declared.peer_id.PeerId.{PeerId as PeerIdValue};
+ghost use Rattle.zre_peer.specs.Runs.{events_of, may_follow};
+ghost use Rattle.zre_node.specs.declared.incoming.first.Place.{Place as PlaceValue};
+ghost use Rattle.zre_node.specs.First.{IsPlace, IsFirstFault};
+ghost use Rattle.zre_msg.specs.declared.message.Message.{Message as MessageValue};
+ghost use Rattle.zre_values.specs.Endpoint.{endpoint_in};
+ghost use Rattle.zre_peer.specs.Views.{view_of};
+ghost use Rattle.zre_peer.specs.Standing.{Stands, id_of};
+ghost use Rattle.zre_journal.specs.declared.config.Config.{Config};
+ghost use Rattle.zre_journal.specs.Chronicle.{Mark, Starts, Ignores};
+ghost use Rattle.zre_journal.specs.Connections.{is_live, is_open, identity, runs};
+ghost use Rattle.zre_journal.specs.Peers.{Life, life};
+ghost use Rattle.zre_journal.specs.Arrivals.{at_first};
+ghost use Rattle.zre_node.specs.Stands.{Holds, Did};
+ghost use Rattle.zre_node.specs.declared.connection.Connection.{Connection as ConnectionValue};
+ghost use Rattle.zre_node.specs.declared.peer.Peer.{Peer as PeerValue};
+ghost use Rattle.std.specs.Ordering.{nat_cmp};
+ghost use Rattle.std.specs.BTreeMap.{is_at};
+ghost use Rattle.std.specs.Map.{lookup, set_value};
+
+use crate::connection::Connection;
+use crate::effects::Effects;
+use crate::peer::{Peer, Running};
+use crate::peers::ends::ignore;
+use crate::tables::{Tables, link_of};
+use std::alloc::Global;
+use std::collections::BTreeMap;
+use zre_msg::{Body, Message};
+use zre_peer::{Events, IgnoreWhy, Run, RunFault};
+use zre_values::limits::PEERS;
+use zre_values::{Endpoint, OutOfMemory, PeerId};
+
+// Where a peer that says HELLO is to be reached.
+enum Place {
+    // It is known, by this link.
+    Known(u64),
+    // It becomes known, with this endpoint.
+    New(Endpoint),
+    // It can't.
+    Nowhere(IgnoreWhy),
+}
+
+// The endpoint that HELLO names, if it can be read.
+fn mailbox_of(message: &Message) -> Option<Endpoint>
+    ensures { result ≡ endpoint_in (view_of (message.now ∷ [])).endpoint }
+{
+    match &message.body {
+        Body::Hello { endpoint, .. } => Endpoint::read(endpoint.as_slice()),
+        _ => None,
+    }
+}
+
+// The run that a first message makes, with its events.
+fn opened(
+    alloc: Global,
+    peer: PeerId,
+    message: Message,
+    events: &mut Events,
+) -> Result<Run, RunFault>
+    ensures ok { IfOk result (λ run. (may_follow [] message ≡ true) × Stands run (message ∷ []) × (id_of run ≡ peer)
+        × (events.new ≡ events.old ++ events_of peer (view_of []) message.body)) }
+    ensures refused { IfErr result (λ e. IsFirstFault e message) }
+    ensures untold { IfErr result (λ e. e ≢ RunFault.OutOfMemory → events.new ≡ events.old) }
+{
+    let mut run = Run::new(alloc, peer);
+    match run.take(message, events) {
+        Ok(()) => Ok(run),
+        Err(fault) => Err(fault),
+    }
+}
+
+// The connection runs the peer of this link.
+fn carry(conns: &mut BTreeMap<u64, Connection>, conn: u64, link: u64)
+    ensures { (x : ConnectionValue) → lookup (is_at (nat_cmp conn)) conns.old.entries ≡ Some x →
+        conns.new.entries ≡ set_value (is_at (nat_cmp conn)) conns.old.entries (record x { run = Some link }) }
+{
+    if let Some(found) = conns.get_mut(&conn) {
+        found.run = Some(link);
+    }
+}
+
+// The peer of this link has a run, which shows that it is there.
+fn enter(peers: &mut BTreeMap<u64, Peer>, link: u64, running: Running, now: u64)
+    ensures { (x : PeerValue) → lookup (is_at (nat_cmp link)) peers.old.entries ≡ Some x →
+        peers.new.entries ≡ set_value (is_at (nat_cmp link)) peers.old.entries (record x { run = Some running; active = now }) }
+{
+    if let Some(peer) = peers.get_mut(&link) {
+        peer.run = Some(running);
+        peer.active = now;
+    }
+}
+
+impl Tables {
+    // The connection is ignored, and the user is told why.
+    fn refuse(&mut self, out: &mut Effects, conn: u64, why: IgnoreWhy) -> Result<(), OutOfMemory>
+        ensures { (g : Config) (H : List Mark) → Holds g H self.old → is_live conn H ≡ true → runs conn H ≡ None →
+            OnOk result (Did g (Ignores conn why ∷ []) H self.new out.old out.new) }
+    {
+        ignore(&mut self.conns, conn, self.clock);
+        out.ignored(conn, why)
+    }
+
+    // The connection runs the peer of this link from now on.
+    fn start(&mut self, conn: u64, link: u64, run: Run)
+        ensures { (g : Config) (H : List Mark) (m : MessageValue) (v : Life) → Holds g H self.old
+            → is_live conn H ≡ true →
+            runs conn H ≡ None → life link H ≡ Some v → identity conn H ≡ Some v.id → Stands run (m ∷ []) → id_of run ≡ v.id →
+            Holds g (Starts conn link m ∷ H) self.new }
+    {
+        carry(&mut self.conns, conn, link);
+        enter(&mut self.peers, link, Running { conn, run }, self.clock);
+    }
+
+    // Where the peer of a first message is to be reached.
+    fn place(&self, peer: PeerId, message: &Message) -> Place
+        ensures { (g : Config) (H : List Mark) → Holds g H self.now → IsPlace g peer message.now H result }
+    {
+        if let Some(link) = link_of(&self.peers, peer) {
+            return Place::Known(link);
+        }
+        match mailbox_of(message) {
+            Some(to) if self.peers.len() < PEERS => Place::New(to),
+            Some(_) => Place::Nowhere(IgnoreWhy::Full),
+            None => Place::Nowhere(IgnoreWhy::NoEndpoint),
+        }
+    }
+
+    // A first message that isn't one of a run.
+    fn refuse_by(
+        &mut self,
+        out: &mut Effects,
+        conn: u64,
+        fault: RunFault,
+    ) -> Result<(), OutOfMemory>
+        ensures did { (g : Config) (H : List Mark) (p : PeerIdValue) (m : MessageValue) → Holds g H self.old
+            → is_live conn H ≡ true →
+            runs conn H ≡ None → IsFirstFault fault m →
+            OnOk result (Did g (at_first g conn (Some p) m H) H self.new out.old out.new) }
+        ensures memory { fault ≡ RunFault.OutOfMemory → is_err result ≡ true }
+    {
+        match fault {
+            RunFault::NotHello => self.refuse(out, conn, IgnoreWhy::NotHello),
+            RunFault::Limit => self.refuse(out, conn, IgnoreWhy::Limit),
+            _ => Err(OutOfMemory),
+        }
+    }
+
+    // HELLO of a peer that is known.
+    fn start_known(
+        &mut self,
+        out: &mut Effects,
+        conn: u64,
+        link: u64,
+        peer: PeerId,
+        message: Message,
+    ) -> Result<(), OutOfMemory>
+        ensures { (g : Config) (H : List Mark) → Holds g H self.old → is_live conn H ≡ true → runs conn H ≡ None →
+            identity conn H ≡ Some peer → IsPlace g peer message H (PlaceValue.Known link) →
+            OnOk result (Did g (at_first g conn (Some peer) message H) H self.new out.old out.new) }
+    {
+        match opened(self.alloc, peer, message, &mut out.events) {
+            Ok(run) => {
+                self.start(conn, link, run);
+                Ok(())
+            }
+            Err(fault) => self.refuse_by(out, conn, fault),
+        }
+    }
+
+    // HELLO of a peer that becomes known by it.
+    fn start_new(
+        &mut self,
+        out: &mut Effects,
+        conn: u64,
+        to: Endpoint,
+        peer: PeerId,
+        message: Message,
+    ) -> Result<(), OutOfMemory>
+        ensures { (g : Config) (H : List Mark) → Holds g H self.old → is_live conn H ≡ true → runs conn H ≡ None →
+            identity conn H ≡ Some peer → IsPlace g peer message H (PlaceValue.New to) →
+            OnOk result (Did g (at_first g conn (Some peer) message H) H self.new out.old out.new) }
+    {
+        match opened(self.alloc, peer, message, &mut out.events) {
+            Ok(run) => {
+                self.born(out, peer, to)?;
+                self.start(conn, self.births, run);
+                Ok(())
+            }
+            Err(fault) => self.refuse_by(out, conn, fault),
+        }
+    }
+
+    // HELLO of a peer that can't become known.
+    fn start_nowhere(
+        &mut self,
+        out: &mut Effects,
+        conn: u64,
+        why: IgnoreWhy,
+        peer: PeerId,
+        message: Message,
+    ) -> Result<(), OutOfMemory>
+        ensures { (g : Config) (H : List Mark) → Holds g H self.old → is_live conn H ≡ true → runs conn H ≡ None →
+            identity conn H ≡ Some peer → IsPlace g peer message H (PlaceValue.Nowhere why) →
+            OnOk result (Did g (at_first g conn (Some peer) message H) H self.new out.old out.new) }
+    {
+        match opened(self.alloc, peer, message, &mut Events::new(self.alloc)) {
+            Ok(_) => self.refuse(out, conn, why),
+            Err(fault) => self.refuse_by(out, conn, fault),
+        }
+    }
+
+    /// The first message of a connection on which this peer was introduced.
+    #[inline(never)]
+    pub fn first(
+        &mut self,
+        out: &mut Effects,
+        conn: u64,
+        peer: PeerId,
+        message: Message,
+    ) -> Result<(), OutOfMemory>
+        ensures { (g : Config) (H : List Mark) → Holds g H self.old → is_live conn H ≡ true → runs conn H ≡ None →
+            identity conn H ≡ Some peer →
+            OnOk result (Did g (at_first g conn (Some peer) message H) H self.new out.old out.new) }
+    {
+        match self.place(peer, &message) {
+            Place::Known(link) => self.start_known(out, conn, link, peer, message),
+            Place::New(to) => self.start_new(out, conn, to, peer, message),
+            Place::Nowhere(why) => self.start_nowhere(out, conn, why, peer, message),
+        }
+    }
+}

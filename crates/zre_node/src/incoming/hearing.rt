@@ -1,0 +1,96 @@
+//! Pieces of connections.
+
+ghost use Rattle.std.specs.Prelude.{◌≡◌, ℕ, List, [], ◌∷◌, ◌++◌, None, Some, IfOk, OnOk, true};
+ghost use Rattle.zre_values.specs.declared.peer_id.PeerId.{PeerId};
+ghost use Rattle.zre_mailbox.specs.Conn.{conn_after};
+ghost use Rattle.zre_mailbox.specs.Talk.{completed};
+ghost use Rattle.zre_outside.specs.declared.entry.Entry.{Entry};
+ghost use Rattle.zre_outside.specs.declared.entry.Input.TheVariants as input;
+ghost use Rattle.zre_journal.specs.declared.config.Config.{Config};
+ghost use Rattle.zre_journal.specs.Chronicle.{Mark, Comes};
+ghost use Rattle.zre_journal.specs.Heard.{newly_completed};
+ghost use Rattle.zre_journal.specs.Arrivals.{at_places};
+ghost use Rattle.zre_node.specs.Said.{said_in};
+ghost use Rattle.zre_node.specs.Stands.{Holds, is_quiet};
+
+use crate::connection::Connection;
+use crate::incoming::arrivals::Heard;
+use crate::tables::Tables;
+use std::alloc::Global;
+use zre_mailbox::{Arrivals, Conn};
+use zre_values::OutOfMemory;
+use zre_zmtp::FeedFault;
+
+impl Heard {
+    // Nothing is completed.
+    fn nothing(alloc: Global) -> Self
+        ensures { said_in result ≡ [] }
+    {
+        Heard {
+            arrivals: Arrivals::new(alloc),
+            fault: None,
+        }
+    }
+}
+
+// A connection is fed, and what it says is read. After a fault it says nothing more.
+fn read(alloc: Global, conn: &mut Conn, bytes: &[u8]) -> Result<Heard, OutOfMemory>
+    ensures { (own : PeerId) (o : List ℕ) → conn.old ≡ conn_after own o →
+        IfOk result (λ heard. (conn.new ≡ conn_after own (o ++ bytes.now)) × (said_in heard ≡ completed own o bytes.now)) }
+{
+    if conn.ignored() {
+        return Ok(Heard::nothing(alloc));
+    }
+    if conn.spent() {
+        return Ok(Heard::nothing(alloc));
+    }
+    let mut arrivals = Arrivals::new(alloc);
+    match conn.feed(bytes, &mut arrivals) {
+        Ok(()) => Ok(Heard {
+            arrivals,
+            fault: None,
+        }),
+        Err(FeedFault::Zmtp(fault)) => Ok(Heard {
+            arrivals,
+            fault: Some(fault),
+        }),
+        Err(FeedFault::OutOfMemory) => Err(OutOfMemory),
+    }
+}
+
+// The octets of an open connection are read, unless it is ignored.
+fn hear(alloc: Global, found: &mut Connection, bytes: &[u8]) -> Result<Heard, OutOfMemory>
+    ensures live { (own : PeerId) (o : List ℕ) → found.old.conn ≡ Some (conn_after own o) →
+        IfOk result (λ heard. (found.new ≡ record found.old { conn = Some (conn_after own (o ++ bytes.now)) })
+        × (said_in heard ≡ completed own o bytes.now)) }
+    ensures ignored { found.old.conn ≡ None → OnOk result (found.new ≡ found.old) }
+{
+    match &mut found.conn {
+        Some(conn) => read(alloc, conn, bytes),
+        None => Ok(Heard::nothing(alloc)),
+    }
+}
+
+impl Tables {
+    /// The clock goes on to the reading of an entry.
+    pub fn come(&mut self, at: u64)
+        ensures { (g : Config) (H : List Mark) (e : Entry) → e.at ≡ at → is_quiet e.input ≡ true → Holds g H self.old →
+            Holds g (Comes e ∷ H) self.new }
+    {
+        self.clock = at.max(self.clock);
+    }
+
+    /// The same, with a piece of a connection: what it completes of what that connection says.
+    pub fn come_piece(&mut self, at: u64, conn: u64, bytes: &[u8]) -> Result<Heard, OutOfMemory>
+        ensures { (g : Config) (H : List Mark) (e : Entry) → e.at ≡ at → e.input ≡ input.Piece conn bytes.now
+            → Holds g H self.old →
+            IfOk result (λ heard. Holds g (Comes e ∷ H) self.new
+            × (at_places g conn (said_in heard) (Comes e ∷ H) ≡ at_places g conn (newly_completed g.id conn H (Comes e ∷ H)) (Comes e ∷ H))) }
+    {
+        self.clock = at.max(self.clock);
+        match self.conns.get_mut(&conn) {
+            Some(found) => hear(self.alloc, found, bytes),
+            None => Ok(Heard::nothing(self.alloc)),
+        }
+    }
+}
