@@ -1,5 +1,6 @@
 -- What comes about as something is said, and what is told of it, doesn't look at the marks of entries.
 use Rattle.std.proofs.Common.{◌≡◌, ℕ, ◌+◌, ◌-◌, ◌%◌, Bool, true, false, cond, not, ◌&&◌, ◌||◌, eqb, ltb, List, [], ◌∷◌, ◌++◌, length, Option, Some, None, is_some, is_none, find, refl, sym, ap, ◌∙◌}
+use Rattle.std.specs.Option.{option_and_then, option_or}
 use Rattle.std.specs.List.{list_any}
 use Rattle.std.specs.Str.{bytes_eq}
 use Rattle.zre_values.specs.declared.limits.TheConstants.{PEERS, UNSENT_OCTETS}
@@ -14,9 +15,9 @@ use Rattle.zre_peer.specs.declared.causes.Cause.{Cause}
 use Rattle.zre_peer.specs.declared.causes.Cause.TheVariants as cause
 use Rattle.zre_peer.specs.declared.causes.CloseWhy.TheVariants as close
 use Rattle.zre_peer.specs.declared.causes.IgnoreWhy.TheVariants as ignore
-use Rattle.zre_journal.specs.Chronicle.{Mark, Comes, Opens, Shakes, Starts, Counts, Ignores, Closes, IsShut, ClosesAtStop, Born, Ends, IsEvasive, Puts, Sends, Joins, Leaves, after, newer, latest, followed, each, ever}
+use Rattle.zre_journal.specs.Chronicle.{Mark, Comes, Opens, Shakes, Starts, Counts, Ignores, Closes, IsShut, ClosesAtStop, Born, Ends, IsEvasive, Puts, Sends, Joins, Leaves, after, latest, followed, each, ever}
 use Rattle.zre_journal.specs.Config.{own_endpoint}
-use Rattle.zre_journal.specs.Connections.{open_ones, is_open, identity, identity_at, started, start_at, ends, has_ended, unless, runs, refuses, was_used, is_ignored, is_live, other_with, is_same, others}
+use Rattle.zre_journal.specs.Connections.{open_ones, is_open, identity, identity_at, started, start_at, ends, has_ended, runs, refuses, was_used, is_ignored, is_live, other_with, is_same, others}
 use Rattle.zre_journal.specs.Cutting.{is_entry, but_entries}
 use Rattle.zre_journal.specs.Peers.{Life, lives, other_lives, life_of, life, runner, runner_at, births, counted, message_at, view}
 use Rattle.zre_journal.specs.Links.{groups, status, bodies, put_on, taken, unsent}
@@ -46,8 +47,8 @@ after_alike (h ∷ hs) K L r = after_alike hs (h ∷ K) (h ∷ L) (ap (λ X. con
 module _ {A : Type 0} (f : Mark → Option A) (none : (e : Entry) → f (Comes e) ≡ None) where
   latest_but : (H : List Mark) → latest f (but_entries H) ≡ latest f H
   latest_but [] = refl
-  latest_but (Comes e ∷ H) = latest_but H ∙ ap (λ o. newer o (latest f H)) (sym (none e))
-  latest_but (h ∷ H) = ap (λ o. newer (f h) o) (latest_but H)
+  latest_but (Comes e ∷ H) = latest_but H ∙ ap (λ o. option_or o (latest f H)) (sym (none e))
+  latest_but (h ∷ H) = ap (λ o. option_or (f h) o) (latest_but H)
 
   each_but : (H : List Mark) → each f (but_entries H) ≡ each f H
   each_but [] = refl
@@ -98,7 +99,7 @@ taken_but l (_ ∷ H) = taken_but l H
 through : {A : Type 0} (O : List Mark → A) → ((H : List Mark) → O (but_entries H) ≡ O H) → (K L : List Mark) → AreAlike K L → O K ≡ O L
 through O l K L r = sym (l K) ∙ ap O r ∙ l L
 
-unless_same : (s t : ℕ → Bool) (o : Option ℕ) → ((l : ℕ) → s l ≡ t l) → unless s o ≡ unless t o
+unless_same : (s t : ℕ → Bool) (o : Option ℕ) → ((l : ℕ) → s l ≡ t l) → option_and_then (λ l. cond (s l) None (Some l)) o ≡ option_and_then (λ l. cond (t l) None (Some l)) o
 unless_same s t None e = refl
 unless_same s t (Some l) e = ap (λ b. cond b None (Some l)) (e l)
 
@@ -126,7 +127,7 @@ module _ (K L : List Mark) (r : AreAlike K L) where
   same_started c = through (started c) (latest_but (start_at c) (λ e. refl)) K L r
 
   same_runs : (c : ℕ) → runs c K ≡ runs c L
-  same_runs c = ap (unless (λ l. has_ended l K)) (same_started c) ∙ unless_same (λ l. has_ended l K) (λ l. has_ended l L) (started c L) same_ended
+  same_runs c = ap (option_and_then (λ l. cond (has_ended l K) None (Some l))) (same_started c) ∙ unless_same (λ l. has_ended l K) (λ l. has_ended l L) (started c L) same_ended
 
   same_used : (c : ℕ) → was_used c K ≡ was_used c L
   same_used c = ap (λ b. b || is_some (started c K)) (through (ever (refuses c)) (ever_but (refuses c) (λ e. refl)) K L r) ∙ ap (λ o. ever (refuses c) L || is_some o) (same_started c)

@@ -1,5 +1,6 @@
 -- After a tick no known peer is silent for long, and no open connection is idle for long.
 use Rattle.std.proofs.Common.{◌≡◌, ℕ, ◌+◌, ◌-◌, ◌≤◌, Bool, true, false, true≢false, cond, not, ◌&&◌, ◌||◌, eqb, ltb, leb, leb-true, List, length, [], ◌∷◌, ◌++◌, map, filter, Option, Some, None, is_none, refl, sym, ap, ◌∙◌, subst, arith, eq-eqb}
+use Rattle.std.specs.Option.{option_and_then}
 use Rattle.std.proofs.lemmas.Bool.{and_parts}
 use Rattle.std.specs.List.{AllByRecursion, list_all, list_any}
 use Rattle.zre_values.specs.declared.limits.TheConstants.{HEADERS, UNSENT_OCTETS}
@@ -16,7 +17,7 @@ use Rattle.zre_journal.specs.declared.config.Config.{Config}
 use Rattle.zre_journal.specs.Chronicle.{Mark, Comes, Closes, Ends, IsEvasive, Puts, SendsBeacon, after}
 use Rattle.zre_journal.specs.Cleaning.{IsClean}
 use Rattle.zre_journal.specs.Config.{is_fitting, is_valid, are_apart}
-use Rattle.zre_journal.specs.Connections.{open_ones, started, has_ended, runs, unless, since}
+use Rattle.zre_journal.specs.Connections.{open_ones, started, has_ended, runs, since}
 use Rattle.zre_journal.specs.Events.{chronicle}
 use Rattle.zre_journal.specs.Happens.{has_stopped, at_input}
 use Rattle.zre_journal.specs.Heard.{clock}
@@ -159,7 +160,7 @@ closes_clear t why (c ∷ cs) H a = closes_clear t why cs (Closes c why ∷ H) (
 abbrev IsFresh : Config → ℕ → List Mark → Type 0
 IsFresh g c H = runs c H ≡ None → leb g.expired (clock H - since c H) ≡ false
 
-unless_some : (t : ℕ → Bool) (o : Option ℕ) (k : ℕ) → unless t o ≡ Some k → (o ≡ Some k) × (t k ≡ false)
+unless_some : (t : ℕ → Bool) (o : Option ℕ) (k : ℕ) → option_and_then (λ l. cond (t l) None (Some l)) o ≡ Some k → (o ≡ Some k) × (t k ≡ false)
 unless_some t None k e = cc
 unless_some t (Some l) k e = by (t l) refl e
   where
@@ -187,7 +188,7 @@ module _ (g : Config) (waits : 1 ≤ g.expired) where
           at false z =
               let u = unless_some (λ m. has_ended m H) (started c H) k e in
               let still : has_ended k (Ends l why ∷ H) ≡ false = ap (λ b. cond b true (has_ended k H)) (eqb-comm k l ∙ z) ∙ u.1 in
-              let w : Some k ≡ None = sym (ap (unless (λ m. has_ended m (Ends l why ∷ H))) u.0 ∙ ap (λ b. cond b None (Some k)) still) ∙ n in
+              let w : Some k ≡ None = sym (ap (option_and_then (λ m. cond (has_ended m (Ends l why ∷ H)) None (Some m))) u.0 ∙ ap (λ b. cond b None (Some k)) still) ∙ n in
               cc
 
   calm_fresh : (c : ℕ) (h : Mark) (H : List Mark) → Calm h → IsFresh g c H → IsFresh g c (h ∷ H)

@@ -1,6 +1,7 @@
 -- An entered peer has spoken.
 use Rattle.std.proofs.Common.{◌≡◌, ℕ, Bool, true, false, cond, eqb, List, [], ◌∷◌, ◌++◌, Some, None, refl}
-use Rattle.zre_journal.specs.Chronicle.{Mark, Starts, Counts, followed, newer}
+use Rattle.std.specs.Option.{option_or}
+use Rattle.zre_journal.specs.Chronicle.{Mark, Starts, Counts, followed}
 use Rattle.zre_journal.specs.Peers.{runner, counted}
 
 -- a list with one more isn't empty
@@ -13,7 +14,7 @@ pub unheard_idle : (l : ℕ) (H : List Mark) → counted l H ≡ [] → runner l
 unheard_idle l [] e = refl
 unheard_idle l (Starts c k m ∷ H) e = by (unheard_idle l H) (eqb l k) e
   where
-    by : (counted l H ≡ [] → runner l H ≡ None) → (b : Bool) → followed (counted l H) (cond b (Some m) None) ≡ [] → newer (cond b (Some c) None) (runner l H) ≡ None
+    by : (counted l H ≡ [] → runner l H ≡ None) → (b : Bool) → followed (counted l H) (cond b (Some m) None) ≡ [] → option_or (cond b (Some c) None) (runner l H) ≡ None
     by r true z = absurd (not_empty (counted l H) m z)
     by r false z = r z
 unheard_idle l (Counts c k m ∷ H) e = by (unheard_idle l H) (eqb l k) e

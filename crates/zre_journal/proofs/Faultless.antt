@@ -1,5 +1,6 @@
 -- After each entry no live connection has had a fault, and neither have the replies on the link of a known peer.
 use Rattle.std.proofs.Common.{◌≡◌, ℕ, ◌+◌, Bool, true, false, cond, not, ◌&&◌, ◌||◌, eqb, List, [], ◌∷◌, ◌++◌, length, drop, map, Option, Some, None, IsSome, is_some, is_none, find, refl, sym, ap, ◌∙◌, arith, inl, inr, eqb-true, subst}
+use Rattle.std.specs.Option.{option_or}
 use Rattle.std.specs.Prelude.{◌⊎◌}
 use Rattle.std.proofs.lemmas.Bool.{and_parts, and_from}
 use Rattle.std.specs.List.{list_any}
@@ -14,7 +15,7 @@ use Rattle.zre_peer.specs.declared.causes.Cause.TheVariants as cause
 use Rattle.zre_peer.specs.declared.causes.CloseWhy.TheVariants as close
 use Rattle.zre_link.specs.Heard.{reply_fault}
 use Rattle.zre_journal.specs.declared.config.Config.{Config}
-use Rattle.zre_journal.specs.Chronicle.{Mark, Comes, Opens, Starts, Closes, IsShut, ClosesAtStop, Born, Ends, Stops, after, ever, newer}
+use Rattle.zre_journal.specs.Chronicle.{Mark, Comes, Opens, Starts, Closes, IsShut, ClosesAtStop, Born, Ends, Stops, after, ever}
 use Rattle.zre_journal.specs.Heard.{opens, bytes, newly_completed}
 use Rattle.zre_journal.specs.Connections.{open_ones, is_open, started, start_at, runs, refuses, was_used, is_ignored, is_live, others}
 use Rattle.zre_journal.specs.Peers.{Life, lives, life, births, other_lives}
@@ -37,7 +38,7 @@ none_is None e = refl
 none_is (Some l) e = cc
 
 used_stays : (h : Mark) (H : List Mark) (c : ℕ) → start_at c h ≡ None → was_used c H ≡ true → was_used c (h ∷ H) ≡ true
-used_stays h H c s u = ap (λ o. cond (refuses c h) true (ever (refuses c) H) || is_some (newer o (started c H))) s ∙ by (refuses c h)
+used_stays h H c s u = ap (λ o. cond (refuses c h) true (ever (refuses c) H) || is_some (option_or o (started c H))) s ∙ by (refuses c h)
   where
     by : (b : Bool) → (cond b true (ever (refuses c) H) || is_some (started c H)) ≡ true
     by true = refl

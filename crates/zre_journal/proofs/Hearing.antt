@@ -23,7 +23,7 @@ use Rattle.zre_peer.specs.declared.causes.IgnoreWhy.{IgnoreWhy}
 use Rattle.zre_peer.specs.declared.causes.IgnoreWhy.TheVariants as ignore
 use Rattle.zre_journal.specs.declared.config.Config.{Config}
 use Rattle.zre_journal.specs.Arrivals.{end_of_run, taken_over, start_unknown, start, at_first, answer_to, at_later, at_message, at_shaken, at_said, at_place, at_places}
-use Rattle.zre_journal.specs.Chronicle.{Mark, Comes, Opens, Greets, Shakes, Starts, Counts, Ignores, Closes, Ends, after, ever, newer, followed}
+use Rattle.zre_journal.specs.Chronicle.{Mark, Comes, Opens, Greets, Shakes, Starts, Counts, Ignores, Closes, Ends, after, ever, followed}
 use Rattle.zre_journal.specs.Connections.{open_ones, is_open, identity, started, start_at, runs, refuses, was_used, is_ignored, is_live, other_with}
 use Rattle.zre_journal.specs.Heard.{opens}
 use Rattle.zre_journal.specs.Hearing.{message_in, heard}
@@ -126,7 +126,7 @@ quiet_step c said (Opens d) H q o =
     record { rest = o.rest; front = o.front; whole = λ v. o.whole (b v); sound = λ v. o.sound (b v); who = λ v. o.who (b v) }
 quiet_step c said (Shakes d p) H q o =
     let b = live_before c (Shakes d p) H refl refl in
-    record { rest = o.rest; front = o.front; whole = λ v. o.whole (b v); sound = λ v. o.sound (b v); who = λ v. ap (λ t. newer (cond t (Some p) None) (identity c H)) q ∙ o.who (b v) }
+    record { rest = o.rest; front = o.front; whole = λ v. o.whole (b v); sound = λ v. o.sound (b v); who = λ v. ap (λ t. option_or (cond t (Some p) None) (identity c H)) q ∙ o.who (b v) }
 quiet_step c said (Starts d l m) H q o =
     let b = live_before c (Starts d l m) H (ap (λ t. cond t (Some l) None) q) refl in
     let same : counted_on c (Starts d l m ∷ H) ≡ counted_on c H = ap (λ t. followed (counted_on c H) (cond t (Some m) None)) q in
@@ -230,7 +230,7 @@ module _ (g : Config) (c : ℕ) (said : List Said) (K : List Mark) where
               front = same ∙ r.front;
               whole = λ v. same ∙ r.whole v;
               sound = λ v. fault-append said (x ∷ []) ∙ ap (λ b. b || false) (r.sound v);
-              who = λ v. ap (λ t. newer (cond t (Some p) None) (identity c H)) (eq-eqb c c refl) ∙ sym (introduced-append said (x ∷ []) ∙ ap (λ j. option_or j (Some p)) (sym (o.who live) ∙ e));
+              who = λ v. ap (λ t. option_or (cond t (Some p) None) (identity c H)) (eq-eqb c c refl) ∙ sym (introduced-append said (x ∷ []) ∙ ap (λ j. option_or j (Some p)) (sym (o.who live) ∙ e));
             })
 
     -- those of a choice

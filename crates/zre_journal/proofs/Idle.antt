@@ -1,5 +1,6 @@
 -- Connections that run no peer, and the one that gives way to READY on another.
 use Rattle.std.proofs.Common.{◌≡◌, ℕ, Bool, true, false, cond, not, ◌&&◌, ◌||◌, eqb, List, [], ◌∷◌, ◌++◌, map, Option, Some, None, find, refl, sym, ap, ◌∙◌, eq-eqb}
+use Rattle.std.specs.Option.{option_and_then, option_or}
 use Rattle.std.proofs.lemmas.Bool.{and_parts}
 use Rattle.std.specs.List.{AllByRecursion, list_any}
 use Rattle.zre_values.specs.declared.peer_id.PeerId.{PeerId}
@@ -8,8 +9,8 @@ use Rattle.zre_peer.specs.declared.causes.Cause.TheVariants as cause
 use Rattle.zre_peer.specs.declared.causes.CloseWhy.{CloseWhy}
 use Rattle.zre_peer.specs.declared.causes.CloseWhy.TheVariants as close
 use Rattle.zre_journal.specs.declared.config.Config.{Config}
-use Rattle.zre_journal.specs.Chronicle.{Mark, Closes, ClosesAtStop, Ends, after, newer}
-use Rattle.zre_journal.specs.Connections.{open_ones, is_open, identity, runs, started, start_at, has_ended, ends, unless, is_same, other_with, others}
+use Rattle.zre_journal.specs.Chronicle.{Mark, Closes, ClosesAtStop, Ends, after}
+use Rattle.zre_journal.specs.Connections.{open_ones, is_open, identity, runs, started, start_at, has_ended, ends, is_same, other_with, others}
 use Rattle.zre_journal.specs.Peers.{Life, lives, life}
 use Rattle.zre_journal.specs.Proper.{IsProper}
 use Rattle.zre_journal.specs.Arrivals.{taken_over, end_of_run}
@@ -28,13 +29,13 @@ stays_ended h H l e = by (ends l h)
     by false = e
 
 pub idle_stays : (h : Mark) (H : List Mark) (c : ℕ) → start_at c h ≡ None → runs c H ≡ None → runs c (h ∷ H) ≡ None
-idle_stays h H c s r = ap (λ o. unless (λ l. has_ended l (h ∷ H)) (newer o (started c H))) s ∙ by (started c H) refl
+idle_stays h H c s r = ap (λ o. option_and_then (λ l. cond (has_ended l (h ∷ H)) None (Some l)) (option_or o (started c H))) s ∙ by (started c H) refl
   where
-    by : (o : Option ℕ) → started c H ≡ o → unless (λ l. has_ended l (h ∷ H)) o ≡ None
+    by : (o : Option ℕ) → started c H ≡ o → option_and_then (λ l. cond (has_ended l (h ∷ H)) None (Some l)) o ≡ None
     by None e = refl
     by (Some l) e = ended (has_ended l H) refl
       where
-        ended : (b : Bool) → has_ended l H ≡ b → unless (λ k. has_ended k (h ∷ H)) (Some l) ≡ None
+        ended : (b : Bool) → has_ended l H ≡ b → option_and_then (λ k. cond (has_ended k (h ∷ H)) None (Some k)) (Some l) ≡ None
         ended true w = let x : has_ended l (h ∷ H) ≡ true = stays_ended h H l w in rw x refl
         ended false w = let z : Some l ≡ None = sym (rw (e, w) refl) ∙ r in cc
 

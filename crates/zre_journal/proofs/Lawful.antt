@@ -1,12 +1,13 @@
 -- Laws of every chronicle, from its being proper and from when marks may come.
 use Rattle.std.proofs.Common.{◌≡◌, ℕ, ◌<◌, ◌≤◌, Bool, true, false, cond, eqb, List, [], ◌∷◌, ◌++◌, length, Some, None, filter, refl, sym, ap, ◌∙◌, arith, eqb-true, eq-eqb, subst}
+use Rattle.std.specs.Option.{option_or}
 use Rattle.zre_msg.specs.declared.message.Message.{Message}
 use Rattle.zre_outside.specs.declared.entry.Entry.{Entry}
 use Rattle.zre_peer.specs.Runs.{may_follow, is_hello, due, in_order}
 use Rattle.zre_peer.specs.Views.{view_of, is_small}
 use Rattle.zre_peer.proofs.Standing.{in_order-push}
 use Rattle.zre_journal.specs.declared.config.Config.{Config}
-use Rattle.zre_journal.specs.Chronicle.{Mark, Starts, Counts, Ends, ever, newer, followed}
+use Rattle.zre_journal.specs.Chronicle.{Mark, Starts, Counts, Ends, ever, followed}
 use Rattle.zre_journal.specs.Connections.{ends, has_ended, started}
 use Rattle.zre_journal.specs.Peers.{life, runner, counted}
 use Rattle.zre_journal.specs.Events.{chronicle}
@@ -96,21 +97,21 @@ starting c l m H o idle free silent first = record {
     ordered d true e = rw (none d e, first) refl
     ordered d false e = o.ordered d
 
-    unbegun : (d : ℕ) (b : Bool) → newer (cond b (Some l) None) (started d H) ≡ None → followed (counted_on d H) (cond b (Some m) None) ≡ []
+    unbegun : (d : ℕ) (b : Bool) → option_or (cond b (Some l) None) (started d H) ≡ None → followed (counted_on d H) (cond b (Some m) None) ≡ []
     unbegun d true s = cc
     unbegun d false s = o.unbegun d s
 
-    begun : (d k : ℕ) (b : Bool) → eqb d c ≡ b → newer (cond b (Some l) None) (started d H) ≡ Some k → 0 < length (followed (counted_on d H) (cond b (Some m) None))
+    begun : (d k : ℕ) (b : Bool) → eqb d c ≡ b → option_or (cond b (Some l) None) (started d H) ≡ Some k → 0 < length (followed (counted_on d H) (cond b (Some m) None))
     begun d k true e s = longer (counted_on d H) m
     begun d k false e s = o.begun d k s
 
-    whose : (d k : ℕ) (b : Bool) → eqb k l ≡ b → (t : Bool) → eqb d c ≡ t → newer (cond b (Some c) None) (runner k H) ≡ Some d → newer (cond t (Some l) None) (started d H) ≡ Some k
+    whose : (d k : ℕ) (b : Bool) → eqb k l ≡ b → (t : Bool) → eqb d c ≡ t → option_or (cond b (Some c) None) (runner k H) ≡ Some d → option_or (cond t (Some l) None) (started d H) ≡ Some k
     whose d k true e true f r = ap (λ x. Some x) (sym (eqb-true k l e))
     whose d k true e false f r = let same : c ≡ d = cc in let z : true ≡ false = sym (eq-eqb d c (sym same)) ∙ f in cc
     whose d k false e true f r = absurd (clash d k f r)
     whose d k false e false f r = o.whose d k r
 
-    same : (d k : ℕ) (b : Bool) → eqb k l ≡ b → (t : Bool) → eqb d c ≡ t → newer (cond b (Some c) None) (runner k H) ≡ Some d
+    same : (d k : ℕ) (b : Bool) → eqb k l ≡ b → (t : Bool) → eqb d c ≡ t → option_or (cond b (Some c) None) (runner k H) ≡ Some d
         → followed (counted k H) (cond b (Some m) None) ≡ followed (counted_on d H) (cond t (Some m) None)
     same d k true e true f r = rw (ap (λ x. counted x H) (eqb-true k l e) ∙ silent, none d f) refl
     same d k true e false f r = let is : c ≡ d = cc in let z : true ≡ false = sym (eq-eqb d c (sym is)) ∙ f in cc

@@ -1,10 +1,11 @@
 -- Known peers and connections in a proper chronicle, and the marks that begin and end nothing.
 use Rattle.std.proofs.Common.{◌≡◌, ℕ, ◌<◌, ◌≤◌, Bool, true, false, cond, eqb, List, ◌∷◌, Option, Some, None, IsSome, refl, sym, ap, ◌∙◌, arith, eqb-true, ne_eqb, subst}
+use Rattle.std.specs.Option.{option_and_then}
 use Rattle.zre_msg.specs.declared.message.Body.{Body}
 use Rattle.zre_outside.specs.declared.entry.Entry.{Entry}
 use Rattle.zre_peer.specs.declared.causes.RefuseWhy.{RefuseWhy}
 use Rattle.zre_journal.specs.Chronicle.{Mark, Comes, Greets, HearsBeacon, IsEvasive, Puts, Links, Sends, Joins, Leaves, Refuses, SendsBeacon, Stops}
-use Rattle.zre_journal.specs.Connections.{open_ones, is_open, is_new, started, has_ended, runs, unless}
+use Rattle.zre_journal.specs.Connections.{open_ones, is_open, is_new, started, has_ended, runs}
 use Rattle.zre_journal.specs.Peers.{Life, lives, births, life, runner}
 use Rattle.zre_journal.specs.Proper.{IsProper, AreLives, IsUnused}
 use Rattle.zre_journal.proofs.Listed.{found, found_passes, any_has}
@@ -28,7 +29,7 @@ module _ (H : List Mark) (p : IsProper H) where
   pub has_started : (c l : ℕ) → runs c H ≡ Some l → (started c H ≡ Some l) × (has_ended l H ≡ false)
   has_started c l r = by (started c H) refl r
     where
-      by : (o : Option ℕ) → started c H ≡ o → unless (λ k. has_ended k H) o ≡ Some l → (started c H ≡ Some l) × (has_ended l H ≡ false)
+      by : (o : Option ℕ) → started c H ≡ o → option_and_then (λ k. cond (has_ended k H) None (Some k)) o ≡ Some l → (started c H ≡ Some l) × (has_ended l H ≡ false)
       by None q e = cc
       by (Some k) q e = alive (has_ended k H) refl e
         where

@@ -1,5 +1,6 @@
 -- What the marks of an entry are, past that they may come: none is an entry or a stop, what closes was open, a link is up once, and no peer is the node itself.
 use Rattle.std.proofs.Common.{◌≡◌, ◌≢◌, ℕ, ◌+◌, ◌%◌, Bool, true, false, cond, not, ◌&&◌, ◌||◌, eqb, ltb, leb, inl, inr, List, [], ◌∷◌, ◌++◌, length, map, Option, Some, None, filter, find, refl, sym, ap, ◌∙◌, eq-eqb, subst}
+use Rattle.std.specs.Option.{option_or}
 use Rattle.std.proofs.lemmas.Bool.{and_parts}
 use Rattle.std.proofs.lemmas.Slice.Eq.{bytes_eq-Decides}
 use Rattle.std.specs.List.{AllByRecursion, list_any}
@@ -31,7 +32,7 @@ use Rattle.zre_peer.specs.declared.causes.CloseWhy.TheVariants as close
 use Rattle.zre_peer.specs.declared.causes.IgnoreWhy.TheVariants as ignore
 use Rattle.zre_peer.specs.declared.causes.RefuseWhy.TheVariants as refuse
 use Rattle.zre_journal.specs.declared.config.Config.{Config}
-use Rattle.zre_journal.specs.Chronicle.{Mark, Comes, Opens, TurnsAway, Shakes, Starts, Counts, Ignores, Closes, IsShut, ClosesAtStop, Born, HearsBeacon, Ends, IsEvasive, Puts, Links, Joins, Leaves, Refuses, SendsBeacon, Stops, after, newer}
+use Rattle.zre_journal.specs.Chronicle.{Mark, Comes, Opens, TurnsAway, Shakes, Starts, Counts, Ignores, Closes, IsShut, ClosesAtStop, Born, HearsBeacon, Ends, IsEvasive, Puts, Links, Joins, Leaves, Refuses, SendsBeacon, Stops, after}
 use Rattle.zre_journal.specs.Endings.{is_end}
 use Rattle.zre_journal.specs.Heard.{bytes, newly_completed}
 use Rattle.zre_journal.specs.Connections.{open_ones, is_open, is_new, identity, runs, is_ignored, is_live, other_with, others, is_same}
@@ -170,7 +171,7 @@ module _ (g : Config) where
   pub others_more : (h : Mark) (H : List Mark) → Sound h H → AreOthers H → AreOthers (h ∷ H)
   others_more (Shakes d i) H s o = λ c p. by c p (eqb c d)
     where
-      by : (c : ℕ) (p : PeerId) (b : Bool) → newer (cond b (Some i) None) (identity c H) ≡ Some p → IsOther p
+      by : (c : ℕ) (p : PeerId) (b : Bool) → option_or (cond b (Some i) None) (identity c H) ≡ Some p → IsOther p
       by c p true e = let same : i ≡ p = cc in subst IsOther same s
       by c p false e = o c p e
   others_more _ H s o = o

@@ -1,5 +1,6 @@
 -- What is told of a peer stands between its ENTER and its EXIT.
 use Rattle.std.proofs.Common.{◌≡◌, ℕ, ◌+◌, Bool, true, false, cond, not, ◌&&◌, eqb, List, [], ◌∷◌, ◌++◌, map, Option, Some, None, is_some, find, refl, sym, ap, ◌∙◌, subst, arith, eqb-true, eq-eqb, append_assoc, append-nil}
+use Rattle.std.specs.Option.{option_map_or}
 use Rattle.std.proofs.lemmas.List.Sums.{fold-append}
 use Rattle.std.specs.List.{AllByRecursion, fold}
 use Rattle.std.specs.Str.{bytes_eq}
@@ -24,7 +25,7 @@ use Rattle.zre_journal.specs.Told.{told, told_at, by_message, exit, becoming_eva
 use Rattle.zre_journal.specs.Happens.{marks, with_entry, chronicle_after}
 use Rattle.zre_journal.specs.Events.{events_at, events_after, events, chronicle}
 use Rattle.zre_journal.specs.Proper.{IsProper}
-use Rattle.zre_journal.specs.Spoken.{subject, is_enter, in_after, is_in, entered_if, has_entered, AreInTurn}
+use Rattle.zre_journal.specs.Spoken.{subject, is_enter, in_after, is_in, has_entered, AreInTurn}
 use Rattle.zre_journal.proofs.Always.{always}
 use Rattle.zre_journal.proofs.Few.{AreNamed, named_more, found_kept, none_kept, none_end, another}
 use Rattle.zre_journal.proofs.Kept.{known_lives, run_known, run_is}
@@ -196,7 +197,7 @@ module _ (p : PeerId) (H : List Mark) (q : IsProper H) (n : AreNamed H) where
       other : bytes_eq p.0 y.who.id.0 ≡ false → has_entered p (Starts c l m ∷ H) ≡ has_entered p H
       other far = by (life_of p H) refl
         where
-          by : (o : Option Life) → life_of p H ≡ o → entered_if o (Starts c l m ∷ H) ≡ entered_if o H
+          by : (o : Option Life) → life_of p H ≡ o → option_map_or (is_entered (Starts c l m ∷ H)) o false ≡ option_map_or (is_entered H) o false
           by None f = refl
           by (Some u) f = rw (far_link l y.who u y.known far f) refl
 
@@ -240,7 +241,7 @@ module _ (p : PeerId) (H : List Mark) (q : IsProper H) (n : AreNamed H) where
       kept : (v : Life) → life l H ≡ Some v → bytes_eq p.0 v.id.0 ≡ false → has_entered p (Ends l why ∷ H) ≡ has_entered p H
       kept v e far = at (life_of p H) refl
         where
-          at : (o : Option Life) → life_of p H ≡ o → has_entered p (Ends l why ∷ H) ≡ entered_if o H
+          at : (o : Option Life) → life_of p H ≡ o → has_entered p (Ends l why ∷ H) ≡ option_map_or (is_entered H) o false
           at None f = let none : life_of p (Ends l why ∷ H) ≡ None = none_kept (λ (u : Life). bytes_eq p.0 u.id.0) (λ (u : Life). not (eqb l u.link)) (lives H) f in rw none refl
           at (Some u) f =
               let off : eqb l u.link ≡ false = eqb-comm l u.link ∙ far_link l v u e far f in
@@ -260,7 +261,7 @@ module _ (p : PeerId) (H : List Mark) (q : IsProper H) (n : AreNamed H) where
           at false = record { fit = tt; last = refl }
 
 -- a mark that starts no run, and leaves the lives, leaves in who is in
-stays_in : (o : Option Life) (h : Mark) (H : List Mark) → ((k : ℕ) → runner k (h ∷ H) ≡ runner k H) → entered_if o H ≡ entered_if o (h ∷ H)
+stays_in : (o : Option Life) (h : Mark) (H : List Mark) → ((k : ℕ) → runner k (h ∷ H) ≡ runner k H) → option_map_or (is_entered H) o false ≡ option_map_or (is_entered (h ∷ H)) o false
 stays_in None h H r = refl
 stays_in (Some v) h H r = ap is_some (sym (r v.link))
 

@@ -1,6 +1,9 @@
 -- The chronicle: what has happened, as one list of marks, each entry of the journal and what came about at it, the
--- newest first. Every fact about a moment is a question that is asked of this list.
+-- newest first: in Ends 1 w ∷ Puts 1 b ∷ Born 1 p e ∷ [] a peer was born, then a message was put on its link, and then
+-- it ended. So in h ∷ H the mark h came after all of H, and `after hs H` puts the marks hs, in their order, on top.
+-- Every fact about a moment is a question that is asked of this list.
 use Rattle.std.specs.Prelude.{ℕ, Bool, false, true, List, [], ◌∷◌, ◌++◌, Option, Some, None, cond}
+use Rattle.std.specs.Option.{option_or}
 use Rattle.zre_values.specs.declared.peer_id.PeerId.{PeerId}
 use Rattle.zre_values.specs.declared.endpoint.Endpoint.{Endpoint}
 use Rattle.zre_outside.specs.declared.entry.Entry.{Entry}
@@ -48,14 +51,10 @@ pub data Mark : Type 0 where
   -- the node stops
   Stops : Mark
 
-abbrev pub newer : {A : Type 0} → Option A → Option A → Option A
-newer None older = older
-newer (Some a) older = Some a
-
 -- what the newest mark says that says anything
 abbrev pub latest : {A : Type 0} → (Mark → Option A) → List Mark → Option A
 latest f [] = None
-latest f (h ∷ H) = newer (f h) (latest f H)
+latest f (h ∷ H) = option_or (f h) (latest f H)
 
 abbrev pub followed : {A : Type 0} → List A → Option A → List A
 followed xs None = xs

@@ -1,5 +1,6 @@
 -- Connections: open, waiting, running or ignored.
 use Rattle.std.specs.Prelude.{ℕ, Bool, true, false, not, ◌&&◌, ◌||◌, List, [], ◌∷◌, ◌++◌, Option, Some, None, if◌then◌else◌, nat_eq, nat_lt, is_some, is_none}
+use Rattle.std.specs.Option.{option_and_then, option_map_or}
 use Rattle.std.specs.List.{list_any, filter, find}
 use Rattle.zre_values.specs.declared.peer_id.PeerId.{PeerId}
 use Rattle.std.specs.Str.{bytes_eq}
@@ -52,13 +53,9 @@ ends l _ = false
 abbrev pub has_ended : ℕ → List Mark → Bool
 has_ended l H = ever (ends l) H
 
-abbrev pub unless : (ℕ → Bool) → Option ℕ → Option ℕ
-unless test None = None
-unless test (Some l) = if test l then None else Some l
-
 -- c runs the peer of this link: it started it before, and the peer hasn't ended since
 abbrev pub runs : ℕ → List Mark → Option ℕ
-runs c H = unless (λ l. has_ended l H) (started c H)
+runs c H = option_and_then (λ l. if has_ended l H then None else Some l) (started c H)
 
 abbrev pub refuses : ℕ → Mark → Bool
 refuses c (Ignores d why) = nat_eq c d
@@ -75,15 +72,11 @@ is_ignored c H = is_none (runs c H) && was_used c H
 abbrev pub is_live : ℕ → List Mark → Bool
 is_live c H = is_open c H && not (is_ignored c H)
 
-abbrev pub is_link : ℕ → Option ℕ → Bool
-is_link l None = false
-is_link l (Some k) = nat_eq l k
-
 -- whether the mark opens c, or makes it ignored; H is what came before
 abbrev pub turns : ℕ → List Mark → Mark → Bool
 turns c H (Opens d) = nat_eq c d
 turns c H (Ignores d why) = nat_eq c d
-turns c H (Ends l cause) = is_link l (runs c H)
+turns c H (Ends l cause) = option_map_or (nat_eq l) (runs c H) false
 turns c H _ = false
 
 -- the clock of its opening or, where ignored, of its becoming so

@@ -1,5 +1,6 @@
 -- Which events are of a peer, and whether it is in, as the events tell.
 use Rattle.std.specs.Prelude.{◌≡◌, ℕ, Bool, true, false, not, List, [], ◌∷◌, ◌++◌, Option, Some, None, if◌then◌else◌}
+use Rattle.std.specs.Option.{option_map_or}
 use Rattle.std.specs.List.{fold}
 use Rattle.std.specs.Str.{bytes_eq}
 use Rattle.zre_values.specs.declared.peer_id.PeerId.{PeerId}
@@ -36,13 +37,10 @@ in_after p b _ = b
 abbrev pub is_in : PeerId → List Event → Bool
 is_in p es = fold (in_after p) false es
 
-abbrev pub entered_if : Option Life → List Mark → Bool
-entered_if None H = false
-entered_if (Some v) H = is_entered H v
 
 -- whether p is known, and entered
 abbrev pub has_entered : PeerId → List Mark → Bool
-has_entered p H = entered_if (life_of p H) H
+has_entered p H = option_map_or (is_entered H) (life_of p H) false
 
 -- An event of a peer is its ENTER where the peer isn't in, and another where it is. So all that is told of it stands
 -- between an ENTER and the next EXIT, and H, from which the events come, says the same of who is in.
