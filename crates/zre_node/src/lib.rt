@@ -14,7 +14,6 @@ mod ends;
 mod first;
 mod hearing;
 mod holding;
-mod ids;
 mod links;
 mod node;
 mod offers;
@@ -26,6 +25,6 @@ mod stops;
 mod tables;
 mod ticks;
 
+pub use accessors::Ids;
 pub use effects::Step;
-pub use ids::Ids;
 pub use node::Node;
