@@ -72,5 +72,6 @@ pub(crate) fn push_message(
     let what = What::Message(Frames::of(alloc, Octets::new(alloc)));
     out.push(Item { start, end, what })?;
     let last = out.len() - 1;
-    append_body(out.get_mut(last), body)
+    append_body(out.get_mut(last), body)?;
+    Ok(())
 }
