@@ -10,14 +10,16 @@ ghost use Rattle.zre_journal.specs.Peers.{lives};
 ghost use Rattle.zre_node.specs.Journal.{StandsFor};
 ghost use Rattle.zre_node.specs.Asked.{ids_entered, view_among};
 
-use crate::ids::Ids;
 use crate::node::Node;
 use crate::peer::Peer;
 use crate::tables::link_of;
 use std::alloc::Global;
 use std::collections::BTreeMap;
 use zre_peer::View;
-use zre_values::{OutOfMemory, PeerId};
+use zre_values::{List, OutOfMemory, PeerId};
+
+/// A list of peers.
+pub type Ids = List<PeerId>;
 
 // The peers among these that are entered, in order.
 fn entered(alloc: Global, peers: &BTreeMap<u64, Peer>) -> Result<Ids, OutOfMemory>

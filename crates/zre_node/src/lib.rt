@@ -6,7 +6,6 @@ mod accessors;
 mod connection;
 mod effects;
 mod holding;
-mod ids;
 mod incoming;
 mod node;
 mod outgoing;
@@ -16,6 +15,6 @@ mod steps;
 mod stops;
 mod tables;
 
+pub use accessors::Ids;
 pub use effects::Step;
-pub use ids::Ids;
 pub use node::Node;

@@ -1,6 +1,6 @@
 //! What the outside tells a node, and what a user asks of it.
 
-use zre_values::{Frames, Octets, PeerId};
+use zre_values::{Frames, List, Octets, PeerId};
 
 /// What a user asks of the node.
 #[derive(Drop)]
@@ -55,3 +55,6 @@ pub struct Entry {
     /// What happened.
     pub input: Input,
 }
+
+/// A list of entries: a journal, or a part of one.
+pub type Entries = List<Entry>;

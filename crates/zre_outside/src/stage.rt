@@ -34,7 +34,7 @@ impl Stage {
     {
         Stage {
             alloc,
-            left: script.into_queue(),
+            left: VecDeque::from(script.into_vec()),
             reading: 0,
             looked: false,
             begun: None,

@@ -1,4 +1,7 @@
-use crate::Addresses;
+use zre_values::List;
+
+/// A list of addresses of IPv4.
+pub type Addresses = List<[u8; 4]>;
 
 /// How a node goes on the network: with a mailbox at an address and a port, and with beacons by UDP.
 #[derive(Drop)]

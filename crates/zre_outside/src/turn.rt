@@ -1,4 +1,5 @@
 use crate::Entry;
+use zre_values::List;
 
 /// What a world answers: something that has happened, or that now is the moment to look for commands.
 #[derive(Drop)]
@@ -8,3 +9,6 @@ pub enum Turn {
     /// Now is the moment to look for commands.
     Look,
 }
+
+/// What a world in memory is to answer: entries, and looks at which it waits for a command.
+pub type Script = List<Turn>;

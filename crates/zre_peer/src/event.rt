@@ -1,9 +1,5 @@
-ghost use Rattle.std.specs.Prelude.{◌≡◌, ◌<◌, List, [], ◌∷◌, ◌++◌, length, OnOk, OnErr, slice_get, Some};
-
 use crate::causes::{Cause, CloseWhy, IgnoreWhy, RefuseWhy};
-use std::alloc::Global;
-use std::marker::Model;
-use zre_values::{Frames, Octets, OutOfMemory, Pairs, PeerId};
+use zre_values::{Frames, List, Octets, Pairs, PeerId};
 
 /// What the node tells. The events are those of the zyre manual; `name` is the peer's own.
 #[derive(Debug, Drop)]
@@ -70,72 +66,4 @@ pub enum Event {
 }
 
 /// A list of events.
-#[derive(Debug, Drop)]
-pub struct Events {
-    items: Vec<Event>,
-}
-
-impl Model for Events {
-    ghost use Rattle.zre_peer.specs.declared.event.Event.{Event};
-    ghost use Rattle.std.specs.Prelude.{List};
-
-    ghost Value = { List Event };
-
-    ghost view = { λ events. events.items.items };
-}
-
-impl Events {
-    /// The empty list, which takes no memory.
-    pub fn new(alloc: Global) -> Self
-        ensures { result ≡ [] }
-    {
-        Events {
-            items: Vec::new(alloc),
-        }
-    }
-
-    /// Appends an event, or nothing.
-    pub fn push(&mut self, event: Event) -> Result<(), OutOfMemory>
-        ensures ok { OnOk result (self.new ≡ self.old ++ event ∷ []) }
-        ensures err { OnErr result (self.new ≡ self.old) }
-    {
-        self.items.push(event)?;
-        Ok(())
-    }
-
-    /// How many there are.
-    pub fn len(&self) -> usize
-        ensures { result ≡ length self.now }
-    {
-        self.items.len()
-    }
-
-    /// A member, by its place.
-    pub fn get(&self, i: usize) -> &Event
-        requires { i < length self.now }
-        ensures { slice_get self.now i ≡ Some result.now }
-    {
-        &self.items[i]
-    }
-
-    /// The members, to be gone over by `for`.
-    pub fn as_slice(&self) -> &[Event]
-        ensures { result.now ≡ self.now }
-    {
-        self.items.as_slice()
-    }
-
-    /// The members themselves, to be raised one by one.
-    pub fn into_vec(self) -> Vec<Event>
-        ensures { result.items ≡ self }
-    {
-        self.items
-    }
-
-    /// Empties the list. It keeps its memory.
-    pub fn clear(&mut self)
-        ensures { self.new ≡ [] }
-    {
-        self.items.clear();
-    }
-}
+pub type Events = List<Event>;

@@ -2,6 +2,7 @@ pub mod Address
 pub mod Endpoint
 pub mod Framing
 pub mod Keys
+pub mod Lending
 pub mod Lists
 pub mod PlainId
 pub mod Quoting

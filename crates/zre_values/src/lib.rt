@@ -5,8 +5,8 @@
 mod decimals;
 mod endpoint;
 mod frames;
-mod keys;
 pub mod limits;
+mod list;
 mod memory;
 mod octets;
 mod pairs;
@@ -20,7 +20,7 @@ mod unquoting;
 pub use decimals::read_decimal;
 pub use endpoint::{Endpoint, push_address, read_address};
 pub use frames::Frames;
-pub use keys::Keys;
+pub use list::{Keys, List};
 pub use memory::OutOfMemory;
 pub use octets::Octets;
 pub use pairs::Pairs;

@@ -13,7 +13,7 @@ use crate::expected::Expected;
 use crate::fault::{FeedFault, ZmtpFault, ZmtpWhy};
 use crate::faults::{GREETING_OCTETS, fault_of_header, fault_of_octet};
 use crate::header::{Header, has_more, header_len, is_message, read_header};
-use crate::item::{Item, Items, What};
+use crate::item::{Item, Items, What, push_message};
 use crate::partial::Partial;
 use crate::progress::Progress;
 use crate::want::Want;
@@ -371,7 +371,7 @@ fn end_message(
 {
     let start = progress.start;
     if progress.opened.len() == 0 {
-        return out.push_message(alloc, start, end, body);
+        return push_message(alloc, start, end, body, out);
     }
     let what = What::Message(progress.opened.close(alloc, body)?);
     out.push(Item { start, end, what })
