@@ -1,15 +1,11 @@
-ghost use Rattle.std.specs.Prelude.{◌≡◌, ℕ, List, [], false, is_some, IfOk};
-ghost use Rattle.zre_zmtp.specs.Reading.{Reads};
-ghost use Rattle.zre_zmtp.specs.Stream.{Whole};
-ghost use Rattle.zre_zmtp.specs.declared.want.Want.TheVariants.{Any};
+ghost use Rattle.std.specs.Prelude.{◌≡◌, [], false, is_some};
 ghost use Rattle.zre_commands.specs.pump.Meaning.{is_stop};
-ghost use Rattle.zre_commands.specs.show.Piece.{ReadPiece};
 
-use crate::pump::{Going, Machine, push_bad_line};
+use crate::pump::{Going, Machine, push_bad_line, read_piece};
 use crate::show::lines::push_lines;
 use std::alloc::Global;
 use zre_values::{Octets, OutOfMemory};
-use zre_zmtp::{FeedFault, Items, Reader, ZmtpFault};
+use zre_zmtp::{Items, Reader, ZmtpFault};
 
 /// The machine of `show`: a whole stream, from the greeting on. It keeps the octets of an unfinished message, and the
 /// items of the last piece.
@@ -37,23 +33,6 @@ impl Lister {
             fault: None,
             items: Items::new(alloc),
         }
-    }
-}
-
-// Reads a piece of a stream. Gives the fault that is found, if one is.
-fn read_piece(
-    reader: &mut Reader,
-    piece: &[u8],
-    items: &mut Items,
-) -> Result<Option<ZmtpFault>, OutOfMemory>
-    requires { reader.old.spent ≡ false }
-    ensures { (o : List ℕ) → Reads Any Whole o reader.old →
-        IfOk result (λ found. ReadPiece o piece.now found reader.new items.old items.new) }
-{
-    match reader.feed(piece, items) {
-        Ok(()) => Ok(None),
-        Err(FeedFault::Zmtp(fault)) => Ok(Some(fault)),
-        Err(FeedFault::OutOfMemory) => Err(OutOfMemory),
     }
 }
 
