@@ -6,3 +6,4 @@ pub mod Named
 pub mod Tables
 pub mod Entries
 pub mod Growing
+pub mod Ledgers

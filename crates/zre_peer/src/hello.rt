@@ -14,6 +14,7 @@ use crate::headers::Headers;
 use crate::peer_run::RunFault;
 use crate::view::View;
 use std::alloc::Global;
+use std::mem;
 use zre_msg::Body;
 use zre_values::{Frames, Octets, OutOfMemory, Pairs, PeerId};
 
@@ -60,13 +61,15 @@ fn first_named_of(alloc: Global, headers: &Pairs) -> Result<Headers, RunFault>
     Ok(found)
 }
 
-/// The view that a HELLO sets. Another message sets none, and a view that would pass a limit isn't made.
+/// The view that a HELLO sets, whose name and endpoint it takes out of the message. Another message sets none, and a
+/// view that would pass a limit isn't made.
 #[tactic(auto, unfolding(crate::specs::Views::is_small))]
-pub(crate) fn opened(alloc: Global, body: Body) -> Result<View, RunFault>
-    ensures ok { IfOk result (λ view. (is_hello body ≡ true) × (view ≡ after blank body)
-        × (is_small (after blank body) ≡ true)) }
+pub(crate) fn opened(alloc: Global, body: &mut Body) -> Result<View, RunFault>
+    ensures ok { IfOk result (λ view. (is_hello body.old ≡ true) × (view ≡ after blank body.old)
+        × (is_small (after blank body.old) ≡ true)) }
     ensures refused { IfErr result (λ e. e ≢ RunFault.OutOfMemory →
-        ((is_hello body && is_small (after blank body)) ≡ false) × (e ≡ (if is_hello body then faults.Limit else faults.NotHello))) }
+        ((is_hello body.old && is_small (after blank body.old)) ≡ false)
+        × (e ≡ (if is_hello body.old then faults.Limit else faults.NotHello))) }
 {
     let Body::Hello {
         endpoint,
@@ -78,14 +81,14 @@ pub(crate) fn opened(alloc: Global, body: Body) -> Result<View, RunFault>
     else {
         return Err(RunFault::NotHello);
     };
-    let groups = distinct_of(alloc, &groups)?;
-    let headers = first_named_of(alloc, &headers)?;
+    let groups = distinct_of(alloc, groups)?;
+    let headers = first_named_of(alloc, headers)?;
     Ok(View {
-        name,
-        endpoint,
+        name: mem::replace(name, Octets::new(alloc)),
+        endpoint: mem::replace(endpoint, Octets::new(alloc)),
         headers,
         groups,
-        status,
+        status: *status,
     })
 }
 

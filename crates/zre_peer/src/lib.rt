@@ -11,6 +11,7 @@ mod groups;
 mod headers;
 mod heads;
 mod hello;
+pub mod laws;
 mod lending;
 mod line;
 mod peer_run;

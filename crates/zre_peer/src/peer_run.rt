@@ -64,6 +64,19 @@ pub struct Run {
     ghost within: { ForSome view (λ v. is_small v ≡ true) },
 }
 
+// The view that the first message of a run sets.
+fn view_of_first(alloc: Global, mut message: Message) -> Result<View, RunFault>
+    ensures ok { IfOk result (λ view. (message.sequence ≡ 1) × (is_hello message.body ≡ true)
+        × (view ≡ after blank message.body) × (is_small (after blank message.body) ≡ true)) }
+    ensures refused { IfErr result (λ e. e ≢ RunFault.OutOfMemory →
+        (may_follow [] message ≡ false) × (e ≡ fault_of [] message)) }
+{
+    if message.sequence != 1 {
+        return Err(RunFault::NotHello);
+    }
+    opened(alloc, &mut message.body)
+}
+
 // The first message of a run.
 fn first(alloc: Global, id: PeerId, message: Message, events: &mut Events) -> Result<View, RunFault>
     ensures hello { IfOk result (λ view. (is_hello message.body ≡ true) × (view ≡ after blank message.body)) }
@@ -72,11 +85,7 @@ fn first(alloc: Global, id: PeerId, message: Message, events: &mut Events) -> Re
     ensures refused { IfErr result (λ e. e ≢ RunFault.OutOfMemory →
         (may_follow [] message ≡ false) × (e ≡ fault_of [] message) × (events.new ≡ events.old)) }
 {
-    let Message { sequence, body } = message;
-    if sequence != 1 {
-        return Err(RunFault::NotHello);
-    }
-    let view = opened(alloc, body)?;
+    let view = view_of_first(alloc, message)?;
     tell_hello(alloc, id, &view, events)?;
     Ok(view)
 }

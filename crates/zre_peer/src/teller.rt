@@ -163,9 +163,9 @@ impl Teller {
         ensures id { id_of self.new ≡ id_of self.old }
     {
         let heads = heads_of(self.alloc, self.run.id(), &message.body)?;
+        put(&mut self.heads, heads);
         self.events.clear();
         self.run.take(message, &mut self.events)?;
-        put(&mut self.heads, heads);
         Ok(push_lines(out, self.events.as_slice())?)
     }
 }

@@ -1,0 +1,45 @@
+-- A sender's numbered list of messages, of which some come, each by its place in the list.
+use Rattle.std.specs.Prelude.{◌≡◌, ◌≢◌, ℕ, ◌+◌, ◌-◌, ◌%◌, ◌<◌, ◌≤◌, ◌==◌, ◌&&◌, List, [], ◌∷◌, ◌++◌, length, Some, slice_get, if◌then◌else◌}
+use Rattle.zre_msg.specs.declared.message.Message.{Message}
+use Rattle.zre_peer.specs.declared.peer_run.RunFault.{RunFault}
+use Rattle.zre_peer.specs.declared.peer_run.RunFault.TheVariants as faults
+use Rattle.zre_peer.specs.Runs.{due, is_hello, may_follow, fault_of}
+use Rattle.zre_peer.specs.Views.{view_of, is_small}
+
+-- a list that is numbered as RFC 36 has it: HELLO is first and no other is HELLO, and the message at place i, counted
+-- from 1, has the number i modulo 65536
+abbrev pub IsNumbered : List Message → Type 0
+IsNumbered sent =
+    (i : ℕ) (m : Message) → slice_get sent i ≡ Some m → (is_hello m.body ≡ (i == 0)) × (m.sequence ≡ (i + 1) % 65536)
+
+-- the message at this place of the list, counted from 1
+pub record IsPicked (sent : List Message) (pick : ℕ) (m : Message) : Type 0 where
+  pub some : 1 ≤ pick
+  pub is_there : slice_get sent (pick - 1) ≡ Some m
+
+-- fewer than 65536 places from the one that is due, before it or after it
+pub record IsNear (due pick : ℕ) : Type 0 where
+  pub before : due < pick + 65536
+  pub after : pick < due + 65536
+
+-- messages that came one after another, after n others, are those at these places, each near the one that is due
+abbrev pub ArePicked : List Message → ℕ → List ℕ → List Message → Type 0
+ArePicked sent n [] [] = Unit {0}
+ArePicked sent n (pick ∷ picks) (m ∷ ms) = IsPicked sent pick m × IsNear (n + 1) pick × ArePicked sent (n + 1) picks ms
+ArePicked sent n [] (m ∷ ms) = ⊥
+ArePicked sent n (pick ∷ picks) [] = ⊥
+
+-- why one that isn't the next is refused after these
+abbrev pub fault_of_another : List Message → ℕ → RunFault
+fault_of_another [] pick = faults.NotHello
+fault_of_another (d ∷ ds) pick =
+    if pick == 1 then faults.SecondHello else faults.Broken (due (d ∷ ds)) (pick % 65536)
+
+-- what becomes of the message at place pick, where these were taken
+pub record Follows (ms : List Message) (pick : ℕ) (m : Message) : Type 0 where
+  -- it is taken exactly where it is the next one, and the view after it is within the limits
+  pub taken : may_follow ms m ≡ ((pick == length ms + 1) && is_small (view_of (ms ++ m ∷ [])))
+  -- a missing, repeated or reordered one shows
+  pub another : pick ≢ length ms + 1 → fault_of ms m ≡ fault_of_another ms pick
+  -- the next one fails by nothing but a limit
+  pub next : pick ≡ length ms + 1 → fault_of ms m ≡ faults.Limit
