@@ -7,8 +7,9 @@ use Rattle.zre_zmtp.specs.declared.expected.Expected.{Expected}
 use Rattle.zre_zmtp.specs.declared.expected.Expected.TheVariants as expect
 use Rattle.zre_zmtp.specs.declared.fault.FeedFault.{FeedFault}
 use Rattle.zre_zmtp.specs.Frame.{is_message, has_more}
-use Rattle.zre_zmtp.specs.Stream.{Before, opened_by}
+use Rattle.zre_zmtp.specs.Stream.{Want, Kind, Before, cut, opened_by}
 use Rattle.zre_zmtp.specs.Shown.{frame_after}
+use Rattle.zre_zmtp.specs.Reading.{Reading, Reads, kept}
 use Rattle.zre_zmtp.specs.Looks.{Looks}
 
 -- what stands in a loop over n octets when the rest is to be read: all looks are paid with the octets that were
@@ -39,3 +40,13 @@ at_most (Err e) kept s t le h = tt
 pub paid : (r : Result (Unit {0}) FeedFault) (looks looks' kept kept' n s : ℕ) → looks' + 3 * s ≤ looks + 3 * kept + 4 * n → OnOk r (kept' ≤ s) → Looks looks looks' kept kept' n r
 paid (Ok x) looks looks' kept kept' n s enough h = (omega (arith, enough, h), tt)
 paid (Err e) looks looks' kept kept' n s enough h = (tt, omega (arith, enough))
+
+-- a reader of no octets keeps none
+pub nothing_kept : (want : Want) (kind : Kind) (r : Reading) → Reads want kind [] r → kept r ≡ 0
+unfolding cut
+nothing_kept want kind r h = omega (arith, ap (λ (b : Before). sum_by length b.opened) h.before, ap length h.left)
+
+-- which has paid for all looks then
+pub all_paid : (r : Result (Unit {0}) FeedFault) (looks looks' kept kept' n : ℕ) → kept ≡ 0 → Looks looks looks' kept kept' n r → looks' ≤ looks + 4 * n
+all_paid (Ok x) looks looks' kept kept' n none h = omega (arith, none, h.0)
+all_paid (Err e) looks looks' kept kept' n none h = omega (arith, none, h.1)

@@ -20,7 +20,7 @@ mod writing;
 
 pub use fault::{FeedFault, ZmtpFault, ZmtpWhy};
 pub use item::{Item, Items, What};
-pub use laws::{handshakes_are_read, messages_are_read};
+pub use laws::{handshakes_are_read, looks_are_few, messages_are_read};
 pub use looks::{Steps, Store};
 pub use reader::Reader;
 pub use want::Want;

@@ -178,10 +178,55 @@ impl Reader {
             × IsOver want kind (o ++ concat pieces.now))) }
         ensures spent { IsTrue self.new.spent ↔ IsErr result }
     {
+        self.feed_pieces_from::<Brand>(pieces, out, Blank::new(1))
+    }
+
+    /// The same, and looks are counted: of n octets there are no more than of one piece with all of them.
+    pub fn feed_pieces_counted<L: Ledger>(
+        &mut self,
+        pieces: &Frames,
+        out: &mut Items,
+        steps: &mut Steps<L>,
+    ) -> Result<(), FeedFault>
+        requires { self.old.spent ≡ false }
+        ensures ok { (want : WantValue) (kind : Kind) (o : List ℕ) → Reads want kind o self.old →
+            OnOk result (Reads want kind (o ++ concat pieces.now) self.new
+            × Adds want kind o (concat pieces.now) out.old out.new) }
+        ensures refused { (want : WantValue) (kind : Kind) (o : List ℕ) → Reads want kind o self.old →
+            IfErr result (λ e. Refuses e (fault want kind (o ++ concat pieces.now))
+            (Adds want kind o (concat pieces.now) out.old out.new
+            × IsOver want kind (o ++ concat pieces.now))) }
+        ensures spent { IsTrue self.new.spent ↔ IsErr result }
+        ensures looks { Looks steps.old steps.new (kept self.old) (kept self.new) (length (concat pieces.now)) result }
+    {
         for piece in pieces.as_slice() {
-            self.feed(piece.as_slice(), out)?;
+            self.feed_counted(piece.as_slice(), out, steps)?;
         }
         Ok(())
+    }
+
+    // The same for a caller that counts nothing.
+    fn feed_pieces_from<L: Ledger>(
+        &mut self,
+        pieces: &Frames,
+        out: &mut Items,
+        blank: Blank,
+    ) -> Result<(), FeedFault>
+        requires name { blank.name ≡ L.name }
+        requires parts { blank.parts ≡ L.parts }
+        requires some { 0 < blank.parts }
+        requires unspent { self.old.spent ≡ false }
+        ensures ok { (want : WantValue) (kind : Kind) (o : List ℕ) → Reads want kind o self.old →
+            OnOk result (Reads want kind (o ++ concat pieces.now) self.new
+            × Adds want kind o (concat pieces.now) out.old out.new) }
+        ensures refused { (want : WantValue) (kind : Kind) (o : List ℕ) → Reads want kind o self.old →
+            IfErr result (λ e. Refuses e (fault want kind (o ++ concat pieces.now))
+            (Adds want kind o (concat pieces.now) out.old out.new
+            × IsOver want kind (o ++ concat pieces.now))) }
+        ensures spent { IsTrue self.new.spent ↔ IsErr result }
+    {
+        let mut steps = Steps::<L>::new(blank);
+        self.feed_pieces_counted(pieces, out, &mut steps)
     }
 
     /// Whether no message is unfinished, and no octet stands after the last item.
