@@ -6,6 +6,7 @@ ghost use Rattle.zre_values.specs.declared.peer_id.PeerId.{PeerId as PeerIdValue
 ghost use Rattle.zre_zmtp.specs.Laws.{handshake};
 ghost use Rattle.zre_zmtp.specs.declared.writing.SocketType.TheVariants.{Dealer};
 ghost use Rattle.zre_zmtp.specs.Reading.{Refuses};
+ghost use Rattle.zre_zmtp.specs.Looks.{Looks};
 ghost use Rattle.zre_msg.specs.declared.message.Body.{Body as BodyValue};
 ghost use Rattle.zre_msg.specs.Spelling.{FitsBody, Fits, octets as octets_of};
 ghost use Rattle.zre_link.specs.Text.{text_of, size_of};
@@ -17,12 +18,13 @@ use crate::fault::PushFault;
 use crate::queue::Queue;
 use crate::replies::Replies;
 use std::alloc::Global;
-use std::marker::Model;
+use std::marker::{Brand, Model};
 use std::mem;
+use std::sync::ledger::{Blank, Ledger};
 use zre_msg::{Body, Message};
 use zre_values::limits::UNSENT_OCTETS;
 use zre_values::{Octets, OutOfMemory, PeerId};
-use zre_zmtp::{FeedFault, SocketType, greeting, ready};
+use zre_zmtp::{FeedFault, SocketType, Steps, greeting, ready};
 
 /// The connection of a node to the mailbox of a peer. The node speaks as a DEALER with the identity 01 and its UUID:
 /// its greeting, READY, and then the messages that are put, numbered from 1. The octets wait here until the socket
@@ -174,7 +176,49 @@ impl Link {
             (self.new ≡ link_after own bodies linked (o ++ piece.now) n)) }
         ensures rest { let now = self.new in now ≡ record self.old { replies = now.replies } }
     {
-        self.replies.feed(piece)
+        self.reply_from::<Brand>(piece, Blank::new(1))
+    }
+
+    /// The same, and looks are counted, as a reader counts them.
+    pub fn reply_counted<L: Ledger>(
+        &mut self,
+        piece: &[u8],
+        steps: &mut Steps<L>,
+    ) -> Result<(), FeedFault>
+        requires { self.old.linked ≡ true }
+        ensures ok { (own : PeerIdValue) (bodies : List BodyValue) (linked : Bool) (o : List ℕ) (n : ℕ) →
+            self.old ≡ link_after own bodies linked o n →
+            OnOk result ((reply_fault (o ++ piece.now) ≡ None)
+            × (self.new ≡ link_after own bodies linked (o ++ piece.now) n)) }
+        ensures refused { (own : PeerIdValue) (bodies : List BodyValue) (linked : Bool) (o : List ℕ) (n : ℕ) →
+            self.old ≡ link_after own bodies linked o n →
+            IfErr result (λ e. Refuses e (reply_fault (o ++ piece.now))
+            (self.new ≡ link_after own bodies linked (o ++ piece.now) n)) }
+        ensures rest { let now = self.new in now ≡ record self.old { replies = now.replies } }
+        ensures looks { Looks steps.old steps.new (kept_of self.old.replies) (kept_of self.new.replies)
+            (length piece.now) result }
+    {
+        self.replies.feed(piece, steps)
+    }
+
+    // The same for a caller that counts nothing.
+    fn reply_from<L: Ledger>(&mut self, piece: &[u8], blank: Blank) -> Result<(), FeedFault>
+        requires name { blank.name ≡ L.name }
+        requires parts { blank.parts ≡ L.parts }
+        requires some { 0 < blank.parts }
+        requires linked { self.old.linked ≡ true }
+        ensures ok { (own : PeerIdValue) (bodies : List BodyValue) (linked : Bool) (o : List ℕ) (n : ℕ) →
+            self.old ≡ link_after own bodies linked o n →
+            OnOk result ((reply_fault (o ++ piece.now) ≡ None)
+            × (self.new ≡ link_after own bodies linked (o ++ piece.now) n)) }
+        ensures refused { (own : PeerIdValue) (bodies : List BodyValue) (linked : Bool) (o : List ℕ) (n : ℕ) →
+            self.old ≡ link_after own bodies linked o n →
+            IfErr result (λ e. Refuses e (reply_fault (o ++ piece.now))
+            (self.new ≡ link_after own bodies linked (o ++ piece.now) n)) }
+        ensures rest { let now = self.new in now ≡ record self.old { replies = now.replies } }
+    {
+        let mut steps = Steps::<L>::new(blank);
+        self.reply_counted(piece, &mut steps)
     }
 
     /// The octets that may go out now, all of them in one piece.

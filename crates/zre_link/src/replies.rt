@@ -1,8 +1,9 @@
 //! What comes back.
 
-ghost use Rattle.std.specs.Prelude.{◌≡◌, ℕ, ◌+◌, ◌≤◌, List, [], ◌++◌, None, IfOk, OnOk, IfErr};
+ghost use Rattle.std.specs.Prelude.{◌≡◌, ℕ, ◌+◌, ◌≤◌, List, [], ◌++◌, length, None, IfOk, OnOk, IfErr};
 ghost use Rattle.zre_values.specs.declared.limits.TheConstants.{MESSAGE_OCTETS, COMMAND_OCTETS};
-ghost use Rattle.zre_zmtp.specs.Reading.{Reads as IsAfter, Refuses};
+ghost use Rattle.zre_zmtp.specs.Reading.{Reads as IsAfter, Refuses, kept};
+ghost use Rattle.zre_zmtp.specs.Looks.{Looks};
 ghost use Rattle.zre_zmtp.specs.Stream.{Whole};
 ghost use Rattle.zre_zmtp.specs.declared.want.Want.TheVariants.{Router};
 ghost use Rattle.zre_link.specs.Heard.{reply_fault, awaited, heard_after, kept_of, expected_of};
@@ -11,7 +12,8 @@ use crate::awaits::Awaits;
 use crate::hearing::Hearing;
 use std::alloc::Global;
 use std::marker::Model;
-use zre_zmtp::{FeedFault, Items, Reader, Want};
+use std::sync::ledger::Ledger;
+use zre_zmtp::{FeedFault, Items, Reader, Steps, Want};
 
 /// The replies on a link, read as the stream of a ROUTER. Their messages and commands are dropped.
 #[derive(Drop)]
@@ -30,22 +32,24 @@ impl Model for Replies {
 }
 
 // Reads a piece, and notes what is awaited after it.
-fn read_piece(
+fn read_piece<L: Ledger>(
     alloc: Global,
     reader: &mut Reader,
     piece: &[u8],
     awaits: &mut Awaits,
+    steps: &mut Steps<L>,
 ) -> Result<(), FeedFault>
     ensures ok { (o : List ℕ) → IsAfter Router Whole o reader.old → expected_of awaits.old ≡ awaited o →
         OnOk result (IsAfter Router Whole (o ++ piece.now) reader.new × (expected_of awaits.new ≡ awaited (o ++ piece.now))) }
     ensures refused { (o : List ℕ) → IsAfter Router Whole o reader.old → expected_of awaits.old ≡ awaited o →
         IfErr result (λ e. Refuses e (reply_fault (o ++ piece.now)) (expected_of awaits.new ≡ awaited (o ++ piece.now))) }
+    ensures looks { Looks steps.old steps.new (kept reader.old) (kept reader.new) (length piece.now) result }
 {
     if reader.spent() {
         return Err(FeedFault::OutOfMemory);
     }
     let mut items = Items::new(alloc);
-    let fed = reader.feed(piece, &mut items);
+    let fed = reader.feed_counted(piece, &mut items, steps);
     *awaits = awaits.after(items.len());
     match fed {
         Ok(()) => Ok(()),
@@ -66,17 +70,18 @@ impl Replies {
     }
 
     /// Reads one more piece. A refusal stays, and is answered to each further piece.
-    pub fn feed(&mut self, piece: &[u8]) -> Result<(), FeedFault>
+    pub fn feed<L: Ledger>(&mut self, piece: &[u8], steps: &mut Steps<L>) -> Result<(), FeedFault>
         ensures ok { (o : List ℕ) → self.old ≡ heard_after o →
             OnOk result ((reply_fault (o ++ piece.now) ≡ None) × (self.new ≡ heard_after (o ++ piece.now))) }
         ensures refused { (o : List ℕ) → self.old ≡ heard_after o →
             IfErr result (λ e. Refuses e (reply_fault (o ++ piece.now)) (self.new ≡ heard_after (o ++ piece.now))) }
+        ensures looks { Looks steps.old steps.new (kept_of self.old) (kept_of self.new) (length piece.now) result }
     {
         let reader = match &mut self.hearing {
             Hearing::Reads(reader) => reader,
             Hearing::Refused(fault) => return Err(*fault),
         };
-        match read_piece(self.alloc, reader, piece, &mut self.awaits) {
+        match read_piece(self.alloc, reader, piece, &mut self.awaits, steps) {
             Ok(()) => Ok(()),
             Err(fault) => {
                 self.hearing = Hearing::Refused(fault);

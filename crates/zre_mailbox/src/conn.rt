@@ -1,9 +1,10 @@
 //! One incoming connection.
 
-ghost use Rattle.std.specs.Prelude.{◌≡◌, ℕ, ◌+◌, ◌≤◌, true, false, List, [], ◌++◌, None, OnOk, IfErr, is_err};
+ghost use Rattle.std.specs.Prelude.{◌≡◌, ℕ, ◌+◌, ◌≤◌, ◌<◌, true, false, List, [], ◌++◌, length, None, OnOk, IfErr, is_err};
 ghost use Rattle.zre_values.specs.declared.limits.TheConstants.{MESSAGE_OCTETS, COMMAND_OCTETS};
 ghost use Rattle.zre_values.specs.declared.peer_id.PeerId.{PeerId as PeerIdValue};
-ghost use Rattle.zre_zmtp.specs.Reading.{Reads, Refuses};
+ghost use Rattle.zre_zmtp.specs.Reading.{Reads, Refuses, kept};
+ghost use Rattle.zre_zmtp.specs.Looks.{Looks};
 ghost use Rattle.zre_zmtp.specs.Stream.{Whole};
 ghost use Rattle.zre_zmtp.specs.declared.want.Want.TheVariants.{Dealer};
 ghost use Rattle.zre_mailbox.specs.Talk.{fault_in, new_arrivals};
@@ -13,9 +14,10 @@ use crate::arrival::Arrivals;
 use crate::phase::Phase;
 use crate::taking::take_items;
 use std::alloc::Global;
-use std::marker::Model;
+use std::marker::{Brand, Model};
+use std::sync::ledger::{Blank, Ledger};
 use zre_values::PeerId;
-use zre_zmtp::{FeedFault, Items, Reader, Want};
+use zre_zmtp::{FeedFault, Items, Reader, Steps, Want};
 
 /// A connection that another node opened, read as a ROUTER: its other end has to be a DEALER whose identity is 01 and
 /// the UUID of another node.
@@ -35,12 +37,13 @@ impl Model for Conn {
 }
 
 // Reads a piece, and takes what becomes whole with it.
-fn read_piece(
+fn read_piece<L: Ledger>(
     alloc: Global,
     reader: &mut Reader,
     piece: &[u8],
     identity: &mut Option<PeerId>,
     out: &mut Arrivals,
+    steps: &mut Steps<L>,
 ) -> Result<(), FeedFault>
     requires { reader.old.spent ≡ false }
     ensures ok { (own : PeerIdValue) (o : List ℕ) → Reads (Dealer own) Whole o reader.old →
@@ -50,9 +53,10 @@ fn read_piece(
         IfErr result (λ e. Refuses e (fault_in own (o ++ piece.now))
         (Takes (new_arrivals own o piece.now) identity.old identity.new out.old out.new)) }
     ensures unspent { OnOk result (reader.new.spent ≡ false) }
+    ensures looks { Looks steps.old steps.new (kept reader.old) (kept reader.new) (length piece.now) result }
 {
     let mut items = Items::new(alloc);
-    let fed = reader.feed(piece, &mut items);
+    let fed = reader.feed_counted(piece, &mut items, steps);
     take_items(alloc, items, identity, out)?;
     match fed {
         Ok(()) => Ok(()),
@@ -85,16 +89,59 @@ impl Conn {
         ensures spent { is_spent self.new ≡ is_err result }
         ensures heard { is_ignored self.new ≡ false }
     {
+        self.feed_from::<Brand>(piece, out, Blank::new(1))
+    }
+
+    /// The same, and looks are counted, as a reader counts them.
+    pub fn feed_counted<L: Ledger>(
+        &mut self,
+        piece: &[u8],
+        out: &mut Arrivals,
+        steps: &mut Steps<L>,
+    ) -> Result<(), FeedFault>
+        requires heard { is_ignored self.old ≡ false }
+        requires unspent { is_spent self.old ≡ false }
+        ensures ok { (own : PeerIdValue) (o : List ℕ) → self.old ≡ conn_after own o →
+            OnOk result ((fault_in own (o ++ piece.now) ≡ None) × Hears own o piece.now self.new out.old out.new) }
+        ensures refused { (own : PeerIdValue) (o : List ℕ) → self.old ≡ conn_after own o →
+            IfErr result (λ e. Refuses e (fault_in own (o ++ piece.now)) (Hears own o piece.now self.new out.old out.new)) }
+        ensures spent { is_spent self.new ≡ is_err result }
+        ensures heard { is_ignored self.new ≡ false }
+        ensures looks { Looks steps.old steps.new (kept_of self.old) (kept_of self.new) (length piece.now) result }
+    {
         let Phase::Live(reader) = &mut self.phase else {
             return Err(FeedFault::OutOfMemory);
         };
-        match read_piece(self.alloc, reader, piece, &mut self.identity, out) {
+        match read_piece(self.alloc, reader, piece, &mut self.identity, out, steps) {
             Ok(()) => Ok(()),
             Err(fault) => {
                 self.phase = Phase::Spent;
                 Err(fault)
             }
         }
+    }
+
+    // The same for a caller that counts nothing.
+    fn feed_from<L: Ledger>(
+        &mut self,
+        piece: &[u8],
+        out: &mut Arrivals,
+        blank: Blank,
+    ) -> Result<(), FeedFault>
+        requires name { blank.name ≡ L.name }
+        requires parts { blank.parts ≡ L.parts }
+        requires some { 0 < blank.parts }
+        requires heard { is_ignored self.old ≡ false }
+        requires unspent { is_spent self.old ≡ false }
+        ensures ok { (own : PeerIdValue) (o : List ℕ) → self.old ≡ conn_after own o →
+            OnOk result ((fault_in own (o ++ piece.now) ≡ None) × Hears own o piece.now self.new out.old out.new) }
+        ensures refused { (own : PeerIdValue) (o : List ℕ) → self.old ≡ conn_after own o →
+            IfErr result (λ e. Refuses e (fault_in own (o ++ piece.now)) (Hears own o piece.now self.new out.old out.new)) }
+        ensures spent { is_spent self.new ≡ is_err result }
+        ensures heard { is_ignored self.new ≡ false }
+    {
+        let mut steps = Steps::<L>::new(blank);
+        self.feed_counted(piece, out, &mut steps)
     }
 
     /// From now on nothing that comes is looked at. All octets are given up; the identity stays.

@@ -8,6 +8,7 @@ pub mod Exact
 pub mod Later
 pub mod Kept
 pub mod Framed
+pub mod Looked
 pub mod Turning
 pub mod Feeding
 pub mod Pieces

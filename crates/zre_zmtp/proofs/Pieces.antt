@@ -1,7 +1,7 @@
 -- Pieces one after another.
 use Rattle.std.proofs.Common.{◌≡◌, ℕ, ◌+◌, ◌<◌, ◌≤◌, List, [], ◌∷◌, ◌++◌, length, take, drop, get_or, Some, refl, sym, ap, subst, ◌∙◌, append_assoc, arith}
 use Rattle.std.specs.List.{concat}
-use Rattle.std.proofs.lemmas.List.{take_more, append-nil, drop_at, drop_all, take_all, take-append-drop}
+use Rattle.std.proofs.lemmas.List.{take_more, append-nil, drop_at, drop_all, take_all, take-append-drop, length-append}
 use Rattle.zre_zmtp.specs.declared.item.Item.{Item}
 use Rattle.zre_zmtp.specs.declared.fault.FeedFault.{FeedFault}
 use Rattle.zre_zmtp.specs.declared.fault.FeedFault.TheVariants.{Zmtp, OutOfMemory}
@@ -18,6 +18,15 @@ concat-append (x ∷ xs) ys = ap (λ l. x ++ l) (concat-append xs ys) ∙ sym (a
 pub concat-take : (xs : List (List ℕ)) (x : List ℕ) (i : ℕ) → i < length xs → x ≡ get_or xs i x → concat (take (i + 1) xs) ≡ concat (take i xs) ++ x
 concat-take xs x i lt is =
     ap concat (take_more xs i x lt ∙ ap (λ y. take i xs ++ y ∷ []) (sym is)) ∙ concat-append (take i xs) (x ∷ []) ∙ ap (λ l. concat (take i xs) ++ l) (append-nil x)
+
+pub length-take-more : (xs : List (List ℕ)) (x : List ℕ) (i : ℕ) → i < length xs → x ≡ get_or xs i x → length (concat (take (i + 1) xs)) ≡ length (concat (take i xs)) + length x
+length-take-more xs x i lt is = ap length (concat-take xs x i lt is) ∙ length-append (concat (take i xs)) x
+
+pub length-within : (xs : List (List ℕ)) (x : List ℕ) (i : ℕ) → i < length xs → x ≡ get_or xs i x → length (concat (take i xs)) + length x ≤ length (concat xs)
+length-within xs x i lt is =
+    let rest = concat (drop (i + 1) xs) in
+    let all : concat xs ≡ concat (take (i + 1) xs) ++ rest = ap concat (sym (take-append-drop (i + 1) xs)) ∙ concat-append (take (i + 1) xs) (drop (i + 1) xs) in
+    omega (arith, ap length all, length-append (concat (take (i + 1) xs)) rest, length-take-more xs x i lt is)
 
 -- ---- more items
 

@@ -4,5 +4,6 @@ pub mod Stream
 pub mod Run
 pub mod Shown
 pub mod Reading
+pub mod Looks
 pub mod Written
 pub mod Laws

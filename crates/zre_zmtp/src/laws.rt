@@ -1,10 +1,20 @@
-//! Laws of streams. The functions do nothing: what they ensure is for proofs.
+//! Laws of streams. What the functions ensure is for proofs: they do nothing, or what their law speaks of.
 
-ghost use Rattle.std.specs.Prelude.{◌≡◌, ℕ, List, length, Option, IfSome};
+ghost use Rattle.std.specs.Prelude.{◌≡◌, ℕ, ◌+◌, ◌*◌, ◌≤◌, List, [], length, Option, IfSome, OnOk};
+ghost use Rattle.std.specs.List.{concat};
 ghost use Rattle.zre_values.specs.declared.peer_id.PeerId.{PeerId};
 ghost use Rattle.zre_zmtp.specs.declared.writing.SocketType.{SocketType};
-ghost use Rattle.zre_zmtp.specs.Stream.{Want as WantValue, Kind};
+ghost use Rattle.zre_zmtp.specs.Stream.{Want as WantValue, Kind, Any, Traffic};
+ghost use Rattle.zre_zmtp.specs.Reading.{Adds};
 ghost use Rattle.zre_zmtp.specs.Laws.{AwaitsMessage, IsWithinLimits, ReadsMessage, IsWanted, ReadsHandshake};
+
+use crate::fault::FeedFault;
+use crate::item::Items;
+use crate::looks::Steps;
+use crate::reader::Reader;
+use std::alloc::Global;
+use std::sync::ledger::Ledger;
+use zre_values::Frames;
 
 /// Whatever stream a message within the limits is written after, it is read as that message.
 pub fn messages_are_read()
@@ -18,3 +28,18 @@ pub fn handshakes_are_read()
         IfSome identity (λ id. length id.0 ≡ 16) → IsWanted want kind identity →
         ReadsHandshake want kind identity }
 {}
+
+/// However traffic of n octets is cut, a reader of it takes at most 4n looks: at a frame of 49 octets 196, also where
+/// each octet comes alone.
+pub fn looks_are_few<L: Ledger>(
+    alloc: Global,
+    pieces: &Frames,
+    out: &mut Items,
+    steps: &mut Steps<L>,
+) -> Result<(), FeedFault>
+    ensures read { OnOk result (Adds Any Traffic [] (concat pieces.now) out.old out.new) }
+    ensures looks { steps.new ≤ steps.old + 4 * length (concat pieces.now) }
+{
+    let mut reader = Reader::traffic(alloc);
+    reader.feed_pieces_counted(pieces, out, steps)
+}

@@ -9,6 +9,7 @@ mod faults;
 mod header;
 mod item;
 mod laws;
+mod looks;
 mod opened;
 mod partial;
 mod progress;
@@ -19,7 +20,8 @@ mod writing;
 
 pub use fault::{FeedFault, ZmtpFault, ZmtpWhy};
 pub use item::{Item, Items, What};
-pub use laws::{handshakes_are_read, messages_are_read};
+pub use laws::{handshakes_are_read, looks_are_few, messages_are_read};
+pub use looks::{Steps, Store};
 pub use reader::Reader;
 pub use want::Want;
 pub use writing::{SocketType, greeting, ready, write_message};

@@ -5,6 +5,7 @@ ghost use Rattle.std.specs.Option.{ForSome, ForNone};
 ghost use Rattle.zre_zmtp.specs.Frame.{header_len, header_of};
 
 use crate::header::Header;
+use crate::looks::Store;
 use std::alloc::Global;
 use zre_values::Octets;
 
@@ -17,7 +18,7 @@ pub struct Partial {
     /// What the header says, once it is there.
     pub header: Option<Header>,
     /// What there is of the body, fewer octets than its size.
-    pub body: Octets,
+    pub body: Store,
     ghost known: { header ≡ header_of head },
     ghost within: { length head ≤ header_len head },
     ghost apart: { ForNone header (body ≡ []) },
@@ -34,7 +35,7 @@ impl Partial {
         Partial {
             head: Octets::new(alloc),
             header: None,
-            body: Octets::new(alloc),
+            body: Store::new(alloc),
         }
     }
 }

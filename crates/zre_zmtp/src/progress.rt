@@ -1,9 +1,9 @@
 //! How far a stream has come.
 
 use crate::expected::Expected;
+use crate::looks::Store;
 use crate::opened::Opened;
 use crate::partial::Partial;
-use zre_values::Octets;
 
 /// What the octets so far tell: the whole parts, and the part that isn't whole.
 #[derive(Drop)]
@@ -17,7 +17,7 @@ pub struct Progress {
     /// Where the message begins that the next message frame belongs to.
     pub start: u64,
     /// The octets of a greeting that isn't whole, where that is expected.
-    pub greeting: Octets,
+    pub greeting: Store,
     /// The octets of a frame that isn't whole, where a frame is expected.
     pub partial: Partial,
 }

@@ -1,31 +1,35 @@
 //! A reader of a stream that comes in pieces.
 
-ghost use Rattle.std.specs.Prelude.{◌≡◌, ℕ, ◌+◌, ◌-◌, ◌^◌, ◌≤◌, ◌↔◌, min, false, List, [], ◌++◌, length, OnOk, IfErr, IsErr, IsTrue};
+ghost use Rattle.std.specs.Prelude.{◌≡◌, ℕ, ◌+◌, ◌-◌, ◌^◌, ◌<◌, ◌≤◌, ◌↔◌, min, false, List, [], ◌++◌, length, OnOk, IfErr, IsErr, IsTrue};
 ghost use Rattle.std.specs.List.{concat};
 ghost use Rattle.zre_values.specs.declared.limits.TheConstants.{MESSAGE_OCTETS, COMMAND_OCTETS};
 ghost use Rattle.zre_zmtp.specs.Stream.{Want as WantValue, Any, Kind, Whole as whole_kind, Traffic as traffic_kind, fault, IsAtRest};
 ghost use Rattle.zre_zmtp.specs.Shown.{before_of, left_of, Waits, Advances, RefusesAt};
 ghost use Rattle.zre_zmtp.specs.Reading.{Reads, Refuses, Adds, IsOver, kept};
+ghost use Rattle.zre_zmtp.specs.Looks.{Looks, held};
 
 use crate::expected::Expected;
 use crate::fault::FeedFault;
 use crate::item::Items;
+use crate::looks::{Steps, Store};
 use crate::opened::Opened;
 use crate::partial::Partial;
 use crate::progress::Progress;
 use crate::turns::take_turn;
 use crate::want::Want;
 use std::alloc::Global;
-use std::marker::Model;
-use zre_values::{Frames, Octets};
+use std::marker::{Brand, Model};
+use std::sync::ledger::{Blank, Ledger};
+use zre_values::Frames;
 
 // Reads octets turn by turn. Each is looked at once.
-fn read(
+fn read<L: Ledger>(
     alloc: Global,
     want: &Want,
     progress: &mut Progress,
     octets: &[u8],
     out: &mut Items,
+    steps: &mut Steps<L>,
 ) -> Result<(), FeedFault>
     ensures ok { Waits want.now (before_of progress.old) (left_of progress.old) →
         OnOk result (Advances want.now (before_of progress.old) (left_of progress.old ++ octets.now) out.old out.new
@@ -33,10 +37,11 @@ fn read(
     ensures refused { Waits want.now (before_of progress.old) (left_of progress.old) →
         IfErr result (λ e.
         RefusesAt e want.now (before_of progress.old) (left_of progress.old ++ octets.now) out.old out.new) }
+    ensures looks { Looks steps.old steps.new (held progress.old) (held progress.new) (length octets.now) result }
 {
     let mut rest = octets;
     while !rest.is_empty() {
-        let len = take_turn(alloc, want, progress, rest, out)?;
+        let len = take_turn(alloc, want, progress, rest, out, steps)?;
         let (_, later) = rest.split_at(len);
         rest = later;
     }
@@ -102,10 +107,62 @@ impl Reader {
             (Adds want kind o piece.now out.old out.new × IsOver want kind (o ++ piece.now))) }
         ensures spent { IsTrue self.new.spent ↔ IsErr result }
     {
+        self.feed_from::<Brand>(piece, out, Blank::new(1))
+    }
+
+    /// The same, and looks are counted: a look is an octet that is copied out of the piece, or read again from those
+    /// that are kept. An octet costs at most four: one when it comes, and three that what is kept has been paid for
+    /// and may still cost. So a stream of n octets costs at most 4n looks, however it is cut.
+    pub fn feed_counted<L: Ledger>(
+        &mut self,
+        piece: &[u8],
+        out: &mut Items,
+        steps: &mut Steps<L>,
+    ) -> Result<(), FeedFault>
+        requires { self.old.spent ≡ false }
+        ensures ok { (want : WantValue) (kind : Kind) (o : List ℕ) → Reads want kind o self.old →
+            OnOk result (Reads want kind (o ++ piece.now) self.new
+            × Adds want kind o piece.now out.old out.new) }
+        ensures refused { (want : WantValue) (kind : Kind) (o : List ℕ) → Reads want kind o self.old →
+            IfErr result (λ e. Refuses e (fault want kind (o ++ piece.now))
+            (Adds want kind o piece.now out.old out.new × IsOver want kind (o ++ piece.now))) }
+        ensures spent { IsTrue self.new.spent ↔ IsErr result }
+        ensures looks { Looks steps.old steps.new (kept self.old) (kept self.new) (length piece.now) result }
+    {
         self.spent = true;
-        read(self.alloc, &self.want, &mut self.progress, piece, out)?;
+        read(
+            self.alloc,
+            &self.want,
+            &mut self.progress,
+            piece,
+            out,
+            steps,
+        )?;
         self.spent = false;
         Ok(())
+    }
+
+    // The same for a caller that counts nothing.
+    fn feed_from<L: Ledger>(
+        &mut self,
+        piece: &[u8],
+        out: &mut Items,
+        blank: Blank,
+    ) -> Result<(), FeedFault>
+        requires name { blank.name ≡ L.name }
+        requires parts { blank.parts ≡ L.parts }
+        requires some { 0 < blank.parts }
+        requires unspent { self.old.spent ≡ false }
+        ensures ok { (want : WantValue) (kind : Kind) (o : List ℕ) → Reads want kind o self.old →
+            OnOk result (Reads want kind (o ++ piece.now) self.new
+            × Adds want kind o piece.now out.old out.new) }
+        ensures refused { (want : WantValue) (kind : Kind) (o : List ℕ) → Reads want kind o self.old →
+            IfErr result (λ e. Refuses e (fault want kind (o ++ piece.now))
+            (Adds want kind o piece.now out.old out.new × IsOver want kind (o ++ piece.now))) }
+        ensures spent { IsTrue self.new.spent ↔ IsErr result }
+    {
+        let mut steps = Steps::<L>::new(blank);
+        self.feed_counted(piece, out, &mut steps)
     }
 
     /// Reads pieces one after another, as if they were one: however a stream is cut, the same items and the same
@@ -121,10 +178,55 @@ impl Reader {
             × IsOver want kind (o ++ concat pieces.now))) }
         ensures spent { IsTrue self.new.spent ↔ IsErr result }
     {
+        self.feed_pieces_from::<Brand>(pieces, out, Blank::new(1))
+    }
+
+    /// The same, and looks are counted: of n octets there are no more than of one piece with all of them.
+    pub fn feed_pieces_counted<L: Ledger>(
+        &mut self,
+        pieces: &Frames,
+        out: &mut Items,
+        steps: &mut Steps<L>,
+    ) -> Result<(), FeedFault>
+        requires { self.old.spent ≡ false }
+        ensures ok { (want : WantValue) (kind : Kind) (o : List ℕ) → Reads want kind o self.old →
+            OnOk result (Reads want kind (o ++ concat pieces.now) self.new
+            × Adds want kind o (concat pieces.now) out.old out.new) }
+        ensures refused { (want : WantValue) (kind : Kind) (o : List ℕ) → Reads want kind o self.old →
+            IfErr result (λ e. Refuses e (fault want kind (o ++ concat pieces.now))
+            (Adds want kind o (concat pieces.now) out.old out.new
+            × IsOver want kind (o ++ concat pieces.now))) }
+        ensures spent { IsTrue self.new.spent ↔ IsErr result }
+        ensures looks { Looks steps.old steps.new (kept self.old) (kept self.new) (length (concat pieces.now)) result }
+    {
         for piece in pieces.as_slice() {
-            self.feed(piece.as_slice(), out)?;
+            self.feed_counted(piece.as_slice(), out, steps)?;
         }
         Ok(())
+    }
+
+    // The same for a caller that counts nothing.
+    fn feed_pieces_from<L: Ledger>(
+        &mut self,
+        pieces: &Frames,
+        out: &mut Items,
+        blank: Blank,
+    ) -> Result<(), FeedFault>
+        requires name { blank.name ≡ L.name }
+        requires parts { blank.parts ≡ L.parts }
+        requires some { 0 < blank.parts }
+        requires unspent { self.old.spent ≡ false }
+        ensures ok { (want : WantValue) (kind : Kind) (o : List ℕ) → Reads want kind o self.old →
+            OnOk result (Reads want kind (o ++ concat pieces.now) self.new
+            × Adds want kind o (concat pieces.now) out.old out.new) }
+        ensures refused { (want : WantValue) (kind : Kind) (o : List ℕ) → Reads want kind o self.old →
+            IfErr result (λ e. Refuses e (fault want kind (o ++ concat pieces.now))
+            (Adds want kind o (concat pieces.now) out.old out.new
+            × IsOver want kind (o ++ concat pieces.now))) }
+        ensures spent { IsTrue self.new.spent ↔ IsErr result }
+    {
+        let mut steps = Steps::<L>::new(blank);
+        self.feed_pieces_counted(pieces, out, &mut steps)
     }
 
     /// Whether no message is unfinished, and no octet stands after the last item.
@@ -180,7 +282,7 @@ impl Reader {
                 place: 0,
                 opened: Opened::new(alloc),
                 start: 0,
-                greeting: Octets::new(alloc),
+                greeting: Store::new(alloc),
                 partial: Partial::new(alloc),
             },
             spent: false,

@@ -1,12 +1,13 @@
 //! The turns of a reader: each takes an octet of a greeting, an octet of a header, or octets of a body.
 
-ghost use Rattle.std.specs.Prelude.{◌≡◌, ℕ, ◌+◌, ◌≤◌, ◌<◌, ◌≢◌, List, [], ◌∷◌, ◌++◌, length, take, IfOk, IfSome, OnOk, IfErr, Some, None, option_map, option_copied, option_to_list, true};
+ghost use Rattle.std.specs.Prelude.{◌≡◌, ℕ, ◌+◌, ◌≤◌, ◌<◌, ◌≢◌, List, [], ◌∷◌, ◌++◌, length, take, sum_by, IfOk, IfSome, OnOk, IfErr, OnErr, Some, None, option_map, option_copied, option_to_list, true};
 ghost use Rattle.zre_zmtp.specs.Frame.{header_of, header_len as header_len_of};
 ghost use Rattle.zre_zmtp.specs.Ready.{name as name_of, socket_type as socket_type_of, identity as identity_of};
 ghost use Rattle.zre_zmtp.specs.Stream.{Want as WantValue, said as said_by, opened_by, body_fault, item as item_of};
 ghost use Rattle.zre_zmtp.specs.Run.{after as after_of};
 ghost use Rattle.zre_zmtp.specs.Shown.{before_of, left_of, frame_item, frame_after, header_fault, Waits, Advances, RefusesAt, BeginsFrame, is_content as is_content_of, room as room_of};
 ghost use Rattle.zre_zmtp.specs.Reading.{Refuses};
+ghost use Rattle.zre_zmtp.specs.Looks.{Looks, IsPaid, IsPaidOnRefusal, held};
 
 use crate::command::{command_fault, identity, name, socket_type};
 use crate::expected::Expected;
@@ -14,11 +15,13 @@ use crate::fault::{FeedFault, ZmtpFault, ZmtpWhy};
 use crate::faults::{GREETING_OCTETS, fault_of_header, fault_of_octet};
 use crate::header::{Header, has_more, header_len, is_message, read_header};
 use crate::item::{Item, Items, What, push_message};
+use crate::looks::{Steps, Store};
 use crate::partial::Partial;
 use crate::progress::Progress;
 use crate::want::Want;
 use std::alloc::Global;
 use std::mem;
+use std::sync::ledger::Ledger;
 use zre_values::{Octets, OutOfMemory};
 
 // How many octets the next turn takes at most.
@@ -174,6 +177,7 @@ fn take_frame(
     ensures refused { header_fault (before_of progress.old) head.now ≡ None →
         IfErr result (λ e.
         RefusesAt e want.now (before_of progress.old) (head.now ++ body) out.old out.new) }
+    ensures kept { OnOk result (held progress.new ≤ sum_by length progress.old.opened + length body) }
 {
     let header_len = head.len();
     if let Some(item) = finish_frame(alloc, want, progress, header, header_len, body)? {
@@ -184,38 +188,45 @@ fn take_frame(
 
 // The item that ends with the greeting, and what is known after it.
 #[tactic(auto, unfolding(crate::specs::Stream::item))]
-fn finish_greeting(alloc: Global, progress: &mut Progress) -> Result<Item, FeedFault>
+fn finish_greeting<L: Ledger>(
+    alloc: Global,
+    progress: &mut Progress,
+    steps: &mut Steps<L>,
+) -> Result<Item, FeedFault>
     requires expected { progress.old.expected ≡ Expected.Greeting }
     requires some { 12 ≤ length progress.old.greeting }
     ensures says { IfOk result (λ found. item_of (before_of progress.old) progress.old.greeting ≡ Some found) }
     ensures after { OnOk result (before_of progress.new ≡ after_of (before_of progress.old) progress.old.greeting) }
     ensures left { OnOk result (left_of progress.new ≡ []) }
     ensures err { IfErr result (λ e. e ≡ FeedFault.OutOfMemory) }
+    ensures opened { progress.new.opened ≡ progress.old.opened }
+    ensures looks { steps.new ≤ steps.old + 2 }
 {
     let start = progress.place;
     let Some(end) = start.checked_add(progress.greeting.len() as u64) else {
         return Err(FeedFault::OutOfMemory);
     };
     let what = What::Greeting {
-        major: *progress.greeting.get(10),
-        minor: *progress.greeting.get(11),
+        major: progress.greeting.octet(10, steps),
+        minor: progress.greeting.octet(11, steps),
     };
     progress.expected = Expected::Ready;
     progress.place = end;
     if progress.opened.len() == 0 {
         progress.start = end;
     }
-    progress.greeting = Octets::new(alloc);
+    progress.greeting = Store::new(alloc);
     progress.partial = Partial::new(alloc);
     Ok(Item { start, end, what })
 }
 
 // One octet more of the greeting.
-fn take_greeting(
+fn take_greeting<L: Ledger>(
     alloc: Global,
     progress: &mut Progress,
     octet: u8,
     out: &mut Items,
+    steps: &mut Steps<L>,
 ) -> Result<(), FeedFault>
     requires { progress.old.expected ≡ Expected.Greeting }
     ensures ok { (want : WantValue) → Waits want (before_of progress.old) (left_of progress.old) →
@@ -224,6 +235,7 @@ fn take_greeting(
     ensures refused { (want : WantValue) → Waits want (before_of progress.old) (left_of progress.old) →
         IfErr result (λ e.
         RefusesAt e want (before_of progress.old) (left_of progress.old ++ octet ∷ []) out.old out.new) }
+    ensures looks { Looks steps.old steps.new (held progress.old) (held progress.new) 1 result }
 {
     let i = progress.greeting.len();
     if let Some(why) = fault_of_octet(i, octet) {
@@ -232,11 +244,11 @@ fn take_greeting(
             place: i as u64,
         }));
     }
-    progress.greeting.push(octet)?;
+    progress.greeting.add(&[octet], steps)?;
     if progress.greeting.len() < GREETING_OCTETS {
         return Ok(());
     }
-    out.push(finish_greeting(alloc, progress)?)?;
+    out.push(finish_greeting(alloc, progress, steps)?)?;
     Ok(())
 }
 
@@ -257,8 +269,9 @@ fn begin_body(
         (before_of progress.new) (left_of progress.new)) }
     ensures refused { IfErr result (λ e.
         RefusesAt e want.now (before_of progress.old) head out.old out.new) }
+    ensures kept { OnOk result (held progress.new ≤ sum_by length progress.old.opened + length head) }
 {
-    let body = Octets::new(alloc);
+    let body = Store::new(alloc);
     let Some(header) = read_header(head.as_slice()) else {
         let header = None;
         progress.partial = Partial { head, header, body };
@@ -269,7 +282,15 @@ fn begin_body(
         progress.partial = Partial { head, header, body };
         return Ok(());
     }
-    take_frame(alloc, want, progress, header, head.as_slice(), body, out)
+    take_frame(
+        alloc,
+        want,
+        progress,
+        header,
+        head.as_slice(),
+        body.finish(),
+        out,
+    )
 }
 
 // One octet more of a header. A frame without a body ends with it.
@@ -288,6 +309,7 @@ fn take_header(
     ensures refused { Waits want.now (before_of progress.old) (left_of progress.old) →
         IfErr result (λ e.
         RefusesAt e want.now (before_of progress.old) (left_of progress.old ++ octet ∷ []) out.old out.new) }
+    ensures kept { OnOk result (held progress.new ≤ held progress.old + 1) }
 {
     let Partial { mut head, .. } = mem::replace(&mut progress.partial, Partial::new(alloc));
     head.push(octet)?;
@@ -299,13 +321,14 @@ fn take_header(
 }
 
 // Octets more of a body, and no more than are missing.
-fn take_body(
+fn take_body<L: Ledger>(
     alloc: Global,
     want: &Want,
     progress: &mut Progress,
     header: Header,
     octets: &[u8],
     out: &mut Items,
+    steps: &mut Steps<L>,
 ) -> Result<(), FeedFault>
     requires frame { progress.old.expected ≢ Expected.Greeting }
     requires header { progress.old.partial.header ≡ Some header }
@@ -316,15 +339,24 @@ fn take_body(
     ensures refused { Waits want.now (before_of progress.old) (left_of progress.old) →
         IfErr result (λ e.
         RefusesAt e want.now (before_of progress.old) (left_of progress.old ++ octets.now) out.old out.new) }
+    ensures looks { Looks steps.old steps.new (held progress.old) (held progress.new) (length octets.now) result }
 {
     let Partial { head, mut body, .. } = mem::replace(&mut progress.partial, Partial::new(alloc));
-    body.append(octets)?;
+    body.add(octets, steps)?;
     if (body.len() as u64) < header.size {
         let header = Some(header);
         progress.partial = Partial { head, header, body };
         return Ok(());
     }
-    take_frame(alloc, want, progress, header, head.as_slice(), body, out)
+    take_frame(
+        alloc,
+        want,
+        progress,
+        header,
+        head.as_slice(),
+        body.finish(),
+        out,
+    )
 }
 
 // What the header at the front of some octets says, where nothing is kept and all of that frame is there.
@@ -408,14 +440,16 @@ fn take_content(
     Ok(())
 }
 
-// A whole frame from the octets that it begins. It gives how many octets that frame has.
-fn take_whole(
+// A whole frame from the octets that it begins. It gives how many octets that frame has. Its body is copied, which is
+// a look at each octet.
+fn take_whole<L: Ledger>(
     alloc: Global,
     want: &Want,
     progress: &mut Progress,
     header: Header,
     octets: &[u8],
     out: &mut Items,
+    steps: &mut Steps<L>,
 ) -> Result<usize, FeedFault>
     requires { BeginsFrame progress.old header octets.now }
     ensures ok { IfOk result (λ len. Advances want.now (before_of progress.old) (take len octets.now) out.old out.new
@@ -423,6 +457,8 @@ fn take_whole(
     ensures refused { IfErr result (λ e.
         RefusesAt e want.now (before_of progress.old) octets.now out.old out.new) }
     ensures within { IfOk result (λ len. 0 < len × len ≤ length octets.now) }
+    ensures looks { IfOk result (λ len. IsPaid steps.old steps.new (held progress.old) (held progress.new) len) }
+    ensures refused_looks { OnErr result (IsPaidOnRefusal steps.old steps.new (held progress.old) (length octets.now)) }
 {
     let (head, later) = octets.split_at(header_len(octets));
     if let Some(why) = fault_of_header(progress, head) {
@@ -431,6 +467,7 @@ fn take_whole(
     }
     let (body, _) = later.split_at(header.size as usize);
     let len = head.len() + body.len();
+    steps.take(body.len());
     if is_content(progress, header) {
         take_content(alloc, progress, header, head.len(), body, out)?;
         return Ok(len);
@@ -441,12 +478,13 @@ fn take_whole(
 }
 
 // Takes octets of the part that comes next, no more than there is room for.
-fn take_part(
+fn take_part<L: Ledger>(
     alloc: Global,
     want: &Want,
     progress: &mut Progress,
     octets: &[u8],
     out: &mut Items,
+    steps: &mut Steps<L>,
 ) -> Result<(), FeedFault>
     requires some { 0 < length octets.now }
     requires room { length octets.now
@@ -457,22 +495,24 @@ fn take_part(
     ensures refused { Waits want.now (before_of progress.old) (left_of progress.old) →
         IfErr result (λ e.
         RefusesAt e want.now (before_of progress.old) (left_of progress.old ++ octets.now) out.old out.new) }
+    ensures looks { Looks steps.old steps.new (held progress.old) (held progress.new) (length octets.now) result }
 {
     match (progress.expected, progress.partial.header) {
-        (Expected::Greeting, _) => take_greeting(alloc, progress, octets[0], out),
+        (Expected::Greeting, _) => take_greeting(alloc, progress, octets[0], out, steps),
         (_, None) => take_header(alloc, want, progress, octets[0], out),
-        (_, Some(header)) => take_body(alloc, want, progress, header, octets, out),
+        (_, Some(header)) => take_body(alloc, want, progress, header, octets, out, steps),
     }
 }
 
 /// Takes octets from the front of these: a whole frame, where one begins there, and else octets of the part that
 /// isn't whole. It gives how many it took.
-pub fn take_turn(
+pub fn take_turn<L: Ledger>(
     alloc: Global,
     want: &Want,
     progress: &mut Progress,
     octets: &[u8],
     out: &mut Items,
+    steps: &mut Steps<L>,
 ) -> Result<usize, FeedFault>
     requires { 0 < length octets.now }
     ensures ok { Waits want.now (before_of progress.old) (left_of progress.old) →
@@ -482,12 +522,14 @@ pub fn take_turn(
         IfErr result (λ e.
         RefusesAt e want.now (before_of progress.old) (left_of progress.old ++ octets.now) out.old out.new) }
     ensures within { IfOk result (λ len. 0 < len × len ≤ length octets.now) }
+    ensures looks { IfOk result (λ len. IsPaid steps.old steps.new (held progress.old) (held progress.new) len) }
+    ensures refused_looks { OnErr result (IsPaidOnRefusal steps.old steps.new (held progress.old) (length octets.now)) }
 {
     if let Some(header) = whole_frame(progress, octets) {
-        return take_whole(alloc, want, progress, header, octets, out);
+        return take_whole(alloc, want, progress, header, octets, out, steps);
     }
     let len = room(progress).min(octets.len() as u64) as usize;
     let (front, _) = octets.split_at(len);
-    take_part(alloc, want, progress, front, out)?;
+    take_part(alloc, want, progress, front, out, steps)?;
     Ok(len)
 }

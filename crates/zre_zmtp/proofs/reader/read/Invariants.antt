@@ -1,13 +1,16 @@
 use Rattle.std.proofs.Common.{length, ◌++◌}
 use Rattle.zre_zmtp.specs.Run.{run_all}
 use Rattle.zre_zmtp.specs.Shown.{before_of, left_of, Waits}
+use Rattle.zre_zmtp.specs.Looks.{held}
 use Rattle.zre_zmtp.proofs.Turning.{IsAmid}
+use Rattle.zre_zmtp.proofs.Looked.{IsPaidSoFar}
 use Rattle.zre_zmtp.proofs.reader.read.Given as goal
 
 abbrev pub invariant-loop-rest : goal.invariant-loop-rest
-invariant-loop-rest l =
-    Waits l.want (before_of l.fn.progress) (left_of l.fn.progress)
-    → IsAmid l.want l.fn.out l.out (run_all l.want (before_of l.fn.progress) (left_of l.fn.progress ++ l.octets)) (before_of l.progress) (left_of l.progress) l.rest
+invariant-loop-rest g l =
+    (Waits l.want (before_of l.fn.progress) (left_of l.fn.progress)
+    → IsAmid l.want l.fn.out l.out (run_all l.want (before_of l.fn.progress) (left_of l.fn.progress ++ l.octets)) (before_of l.progress) (left_of l.progress) l.rest)
+    × IsPaidSoFar l.fn.steps l.steps (held l.fn.progress) (held l.progress) (length l.octets) (length l.rest)
 
 abbrev pub decreases-loop-rest : goal.decreases-loop-rest
-decreases-loop-rest l = length l.rest
+decreases-loop-rest g l = length l.rest

@@ -1,8 +1,9 @@
-use Rattle.std.proofs.Common.{◌≡◌, ◌++◌, List, ℕ, Some, None, refl, sym, ap, ◌∙◌}
+use Rattle.std.proofs.Common.{◌≡◌, ◌++◌, List, ℕ, length, Some, None, refl, sym, ap, ◌∙◌, arith}
 use Rattle.std.proofs.lemmas.List.{append-nil}
 use Rattle.zre_zmtp.specs.Frame.{header_of}
 use Rattle.zre_zmtp.specs.Shown.{before_of, header_fault}
 use Rattle.zre_zmtp.proofs.Framed.{left-frame, waits-no_header, waits-header}
+use Rattle.zre_zmtp.proofs.Looked.{at_most}
 use Rattle.zre_zmtp.proofs.Turning.{turn_waits}
 use Rattle.zre_zmtp.proofs.turns.begin_body.Goals as goal
 
@@ -28,12 +29,27 @@ pub returns-clause-ok : goal.returns-clause-ok
 returns-clause-ok c =
     let b = before_of c.args.progress.now in
     let o = c.args.head in
-    let whole : c.as_slice-2.result.now ++ c.new-body.result ≡ o = ap (λ (x : List ℕ). x ++ c.new-body.result) c.as_slice-2.ensures ∙ ap (λ (x : List ℕ). o ++ x) c.new-body.ensures ∙ append-nil o in
+    let whole : c.as_slice-2.result.now ++ c.finish.result ≡ o = ap (λ (x : List ℕ). x ++ c.finish.result) c.as_slice-2.ensures ∙ ap (λ (x : List ℕ). o ++ x) (c.finish.ensures ∙ c.new-body.ensures) ∙ append-nil o in
     rw (sym whole) (c.take_frame.ensures.ok (ap (λ (x : List ℕ). header_fault b x) c.as_slice-2.ensures ∙ c.requires.faultless))
 
 pub returns-clause-refused : goal.returns-clause-refused
 returns-clause-refused c =
     let b = before_of c.args.progress.now in
     let o = c.args.head in
-    let whole : c.as_slice-2.result.now ++ c.new-body.result ≡ o = ap (λ (x : List ℕ). x ++ c.new-body.result) c.as_slice-2.ensures ∙ ap (λ (x : List ℕ). o ++ x) c.new-body.ensures ∙ append-nil o in
+    let whole : c.as_slice-2.result.now ++ c.finish.result ≡ o = ap (λ (x : List ℕ). x ++ c.finish.result) c.as_slice-2.ensures ∙ ap (λ (x : List ℕ). o ++ x) (c.finish.ensures ∙ c.new-body.ensures) ∙ append-nil o in
     rw (sym whole) (c.take_frame.ensures.refused (ap (λ (x : List ℕ). header_fault b x) c.as_slice-2.ensures ∙ c.requires.faultless))
+
+pub returns-clause-kept : goal.returns-clause-kept
+returns-clause-kept c = at_most c.take_frame.result _ _ _ (omega (arith, ap length (c.finish.ensures ∙ c.new-body.ensures))) c.take_frame.ensures.kept
+
+pub returns-in_default-clause-kept : goal.returns-in_default-clause-kept
+returns-in_default-clause-kept c =
+    let o = c.args.head in
+    let now = left-frame c.args.progress.now.expected c.args.progress.now.greeting o c.new-body.result c.requires.frame ∙ ap (λ (x : List ℕ). o ++ x) c.new-body.ensures ∙ append-nil o in
+    omega (arith, ap length now)
+
+pub returns-then-header-gt0-clause-kept : goal.returns-then-header-gt0-clause-kept
+returns-then-header-gt0-clause-kept c =
+    let o = c.args.head in
+    let now = left-frame c.args.progress.now.expected c.args.progress.now.greeting o c.new-body.result c.requires.frame ∙ ap (λ (x : List ℕ). o ++ x) c.new-body.ensures ∙ append-nil o in
+    omega (arith, ap length now)

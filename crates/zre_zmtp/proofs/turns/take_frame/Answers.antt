@@ -6,6 +6,7 @@ use Rattle.zre_zmtp.specs.declared.partial.Partial.{Partial}
 use Rattle.zre_zmtp.specs.Stream.{Before}
 use Rattle.zre_zmtp.specs.Shown.{before_of}
 use Rattle.zre_zmtp.proofs.Framed.{is_framed, left-nothing}
+use Rattle.zre_zmtp.proofs.Looked.{frame_kept}
 use Rattle.zre_zmtp.proofs.Turning.{frame_taken, frame_refused}
 use Rattle.zre_zmtp.proofs.turns.take_frame.Goals as goal
 
@@ -39,3 +40,19 @@ returns-in_default-clause-ok c =
     e.faultless refl
     (sym (append-nil c.args.out.now) ∙ ap (λ i. c.args.out.now ++ option_to_list i) (sym c.in_default.is ∙ e.says)) e.after
     (left-nothing c.finish_frame.new.progress.expected c.finish_frame.new.progress.greeting _ _ (ap (λ (x : Before). x.expected) e.after) none none')
+
+pub returns-in_ok-push-clause-kept : goal.returns-in_ok-push-clause-kept
+returns-in_ok-push-clause-kept c =
+    let e = c.in_ok-item.ensures in
+    let now = c.finish_frame.new.progress in
+    let none : now.partial.head ≡ [] = ap (λ (x : Partial). x.head) e.partial ∙ c.requires.no_head in
+    let none' : now.partial.body ≡ [] = ap (λ (x : Partial). x.body) e.partial ∙ c.requires.no_body in
+    frame_kept (before_of c.args.progress.now) c.args.header c.args.body _ (before_of now) _ e.after (left-nothing now.expected now.greeting _ _ (ap (λ (x : Before). x.expected) e.after) none none')
+
+pub returns-in_default-clause-kept : goal.returns-in_default-clause-kept
+returns-in_default-clause-kept c =
+    let e = c.in_ok-item.ensures in
+    let now = c.finish_frame.new.progress in
+    let none : now.partial.head ≡ [] = ap (λ (x : Partial). x.head) e.partial ∙ c.requires.no_head in
+    let none' : now.partial.body ≡ [] = ap (λ (x : Partial). x.body) e.partial ∙ c.requires.no_body in
+    frame_kept (before_of c.args.progress.now) c.args.header c.args.body _ (before_of now) _ e.after (left-nothing now.expected now.greeting _ _ (ap (λ (x : Before). x.expected) e.after) none none')

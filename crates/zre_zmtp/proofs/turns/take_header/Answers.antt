@@ -1,8 +1,9 @@
-use Rattle.std.proofs.Common.{◌≡◌, ◌∷◌, [], ◌++◌, List, ℕ, Some, refl, sym, ap, ◌∙◌}
-use Rattle.std.proofs.lemmas.List.{append-nil}
+use Rattle.std.proofs.Common.{◌≡◌, ◌∷◌, [], ◌++◌, List, ℕ, length, Some, refl, sym, ap, ◌∙◌, arith}
+use Rattle.std.proofs.lemmas.List.{append-nil, length-append}
 use Rattle.zre_zmtp.specs.declared.partial.Partial.{Partial}
 use Rattle.zre_zmtp.specs.Shown.{before_of, left_of, header_fault}
 use Rattle.zre_zmtp.proofs.Framed.{left-frame, header-within, header-refused}
+use Rattle.zre_zmtp.proofs.Looked.{at_most}
 use Rattle.zre_zmtp.proofs.Turning.{turn_refused}
 use Rattle.zre_zmtp.proofs.turns.take_header.Goals as goal
 
@@ -40,3 +41,11 @@ returns-clause-refused c =
     let left : left_of c.args.progress.now ≡ p.head ++ p.body = left-frame c.args.progress.now.expected c.args.progress.now.greeting _ _ c.requires.frame ∙ ap (λ (x : Partial). x.head ++ x.body) (sym was) in
     let all = grown (left_of c.args.progress.now) p.head p.body c.push.new.self c.args.octet left (p.apart (ap (λ (x : Partial). x.header) was ∙ c.requires.header)) c.in_ok-push.ensures.ok in
     λ w. rw all c.begin_body.ensures.refused
+
+pub returns-clause-kept : goal.returns-clause-kept
+returns-clause-kept c =
+    let p = c.replace-head.result in
+    let was = c.replace-head.ensures.value in
+    let left : left_of c.args.progress.now ≡ p.head ++ p.body = left-frame c.args.progress.now.expected c.args.progress.now.greeting _ _ c.requires.frame ∙ ap (λ (x : Partial). x.head ++ x.body) (sym was) in
+    let all = grown (left_of c.args.progress.now) p.head p.body c.push.new.self c.args.octet left (p.apart (ap (λ (x : Partial). x.header) was ∙ c.requires.header)) c.in_ok-push.ensures.ok in
+    at_most c.begin_body.result _ _ _ (omega (arith, ap length all, length-append (left_of c.args.progress.now) (c.args.octet ∷ []))) c.begin_body.ensures.kept

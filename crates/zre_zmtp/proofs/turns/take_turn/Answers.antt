@@ -6,7 +6,7 @@ use Rattle.zre_zmtp.proofs.Turning.{begins, joined, refused_turn}
 use Rattle.zre_zmtp.proofs.turns.take_turn.Goals as goal
 
 pub returns-in_err-take_part-clause-refused : goal.returns-in_err-take_part-clause-refused
-returns-in_err-take_part-clause-refused c =
+returns-in_err-take_part-clause-refused g c =
     let p = err_from_is_err_and c.from_residual.result c.from_residual.ensures.1 in
     let b = before_of c.args.progress.now in
     let left = left_of c.args.progress.now in

@@ -8,6 +8,7 @@ use Rattle.zre_zmtp.specs.Shown.{before_of, left_of, header_fault, is_content}
 use Rattle.zre_zmtp.proofs.Contents.{content_is_faultless}
 use Rattle.zre_zmtp.proofs.Stay.{fault_of-stays}
 use Rattle.zre_zmtp.proofs.Framed.{head_of, header-refused, is_framed, left-nothing}
+use Rattle.zre_zmtp.proofs.Looked.{frame_kept}
 use Rattle.zre_zmtp.proofs.Turning.{begins, joined, waits_from, no_part, no_octets, turn_refused, refused_turn, frame_taken}
 use Rattle.zre_zmtp.proofs.turns.take_whole.Goals as goal
 
@@ -23,7 +24,7 @@ front_of o head body rest is =
     ∙ take_all (length (head ++ body)) (head ++ body) (omega arith)
 
 pub returns-in-Some-clause-refused : goal.returns-in-Some-clause-refused
-returns-in-Some-clause-refused c =
+returns-in-Some-clause-refused g c =
     let b = before_of c.args.progress.now in
     let o = c.args.octets.now in
     let at = head_of c.args.header o c.split_at.result.0.now c.split_at.result.1.now c.requires.header
@@ -34,7 +35,7 @@ returns-in-Some-clause-refused c =
     ∙ fault_of-stays c.args.want.now b c.split_at.result.0.now c.split_at.result.1.now _ (header-refused c.args.want.now b c.split_at.result.0.now c.in-Some.why c.requires.frame bad)) refl
 
 pub returns-in_err-take_frame-clause-refused : goal.returns-in_err-take_frame-clause-refused
-returns-in_err-take_frame-clause-refused c =
+returns-in_err-take_frame-clause-refused g c =
     let p = err_from_is_err_and c.from_residual-in_err-take_frame.result c.from_residual-in_err-take_frame.ensures.1 in
     let b = before_of c.args.progress.now in
     let o = c.args.octets.now in
@@ -49,7 +50,7 @@ returns-in_err-take_frame-clause-refused c =
     (begins c.args.want.now b [] o out (waits_from c.args.want.now b [] (no_part c.args.want.now b) (no_octets c.args.want.now b.expected b))) (c.in_err-take_frame.ensures.refused fine))
 
 pub returns-clause-ok : goal.returns-clause-ok
-returns-clause-ok c =
+returns-clause-ok g c =
     let b = before_of c.args.progress.now in
     let o = c.args.octets.now in
     let head = c.split_at.result.0.now in
@@ -64,7 +65,7 @@ returns-clause-ok c =
     rw front (c.in_ok-take_frame.ensures.ok fine)
 
 pub returns-then-is_content-clause-ok : goal.returns-then-is_content-clause-ok
-returns-then-is_content-clause-ok c =
+returns-then-is_content-clause-ok g c =
     let b = before_of c.args.progress.now in
     let o = c.args.octets.now in
     let head = c.split_at.result.0.now in
@@ -83,3 +84,15 @@ returns-then-is_content-clause-ok c =
     (is_framed c.args.want.now b c.args.header head body c.requires.frame at.header at.within c.split_at-2.ensures.front_len fine)
     (content_is_faultless c.args.want.now b c.args.header.flags body m) refl e.given e.after
     (left-nothing now.expected now.greeting now.partial.head now.partial.body (ap (λ (x : Before). x.expected) e.after) none none'))
+
+pub returns-then-is_content-clause-looks : goal.returns-then-is_content-clause-looks
+returns-then-is_content-clause-looks g c =
+    let b = before_of c.args.progress.now in
+    let body = c.split_at-2.result.0.now in
+    let e = c.in_ok-take_content.ensures in
+    let now = c.take_content.new.progress in
+    let none : now.partial.head ≡ [] = ap (λ (p : Partial). p.head) e.partial ∙ c.requires.no_head in
+    let none' : now.partial.body ≡ [] = ap (λ (p : Partial). p.body) e.partial ∙ c.requires.no_body in
+    let kept = frame_kept b c.args.header body _ (before_of now) (left_of now) e.after
+    (left-nothing now.expected now.greeting now.partial.head now.partial.body (ap (λ (x : Before). x.expected) e.after) none none') in
+    omega (arith, kept, c.take.ensures)

@@ -4,10 +4,10 @@ use Rattle.zre_mailbox.specs.Talk.{fault_in, new_arrivals}
 use Rattle.zre_mailbox.specs.Conn.{Hearing, Takes}
 use Rattle.zre_mailbox.specs.declared.phase.Phase.TheVariants.{Spent}
 use Rattle.zre_mailbox.proofs.Hearing.{live_reads, heard, refused}
-use Rattle.zre_mailbox.proofs.conn.Conn.feed.Goals as goal
+use Rattle.zre_mailbox.proofs.conn.Conn.feed_counted.Goals as goal
 
 pub returns-in-Ok-clause-ok : goal.returns-in-Ok-clause-ok
-returns-in-Ok-clause-ok c = λ own o e.
+returns-in-Ok-clause-ok g c = λ own o e.
     let live = sym (ap (λ (h : Hearing). h.phase) c.self.view_is) ∙ c.in-Live.is in
     let piece = c.args.piece.now in
     let read = c.in-Ok.ensures.ok own o (live_reads own o c.args.self.now c.in-Live.reader e live) in
@@ -15,7 +15,7 @@ returns-in-Ok-clause-ok c = λ own o e.
     (read.0, subst (λ (h : Hearing). Takes (new_arrivals own o piece) h.identity c.read_piece.new.identity c.args.out.now c.read_piece.new.out) c.self.view_is read.1)
 
 pub returns-in-Err-clause-refused : goal.returns-in-Err-clause-refused
-returns-in-Err-clause-refused c = λ own o e.
+returns-in-Err-clause-refused g c = λ own o e.
     let live = sym (ap (λ (h : Hearing). h.phase) c.self.view_is) ∙ c.in-Live.is in
     let piece = c.args.piece.now in
     let read = c.in-Err.ensures.refused own o (live_reads own o c.args.self.now c.in-Live.reader e live) in

@@ -5,10 +5,10 @@ use Rattle.zre_zmtp.specs.Run.{run_all}
 use Rattle.zre_zmtp.specs.Reading.{Reading, Refuses}
 use Rattle.zre_zmtp.specs.Shown.{Waits, Advances, before_of, left_of}
 use Rattle.zre_zmtp.proofs.Feeding.{fed, refused, waits_reader}
-use Rattle.zre_zmtp.proofs.reader.Reader.feed.Goals as goal
+use Rattle.zre_zmtp.proofs.reader.Reader.feed_counted.Goals as goal
 
 pub returns-in_err-read-clause-refused : goal.returns-in_err-read-clause-refused
-returns-in_err-read-clause-refused c =
+returns-in_err-read-clause-refused g c =
     let p = err_from_is_err_and c.from_residual.result c.from_residual.ensures.1 in
     let e = c.in_err-read.field-0.0 in
     λ want kind o h.
@@ -16,7 +16,7 @@ returns-in_err-read-clause-refused c =
     rw (p.1, p.2) (refused want kind o c.args.piece.now c.args.self.now e c.args.out.now c.read.new.out h (found (waits_reader want kind o c.args.self.now h)))
 
 pub returns-clause-ok : goal.returns-clause-ok
-returns-clause-ok c =
+returns-clause-ok g c =
     λ want kind o h.
     let read = subst (λ (r : Reading). Waits r.wanted r.before r.left → Advances r.wanted r.before (r.left ++ c.args.piece.now) c.args.out.now c.read.new.out (before_of c.read.new.progress) (left_of c.read.new.progress)) c.self.view_is c.in_ok-read.ensures.ok in
     fed want kind o c.args.piece.now c.args.self.now _ c.args.out.now c.read.new.out h (read (waits_reader want kind o c.args.self.now h)) refl (ap (λ (r : Reading). r.wanted) c.self.view_is)

@@ -1,0 +1,4 @@
+use Rattle.zre_zmtp.proofs.reader.Reader.feed.Given as goal
+
+abbrev pub ghosts-feed_from : goal.ghosts-feed_from
+ghosts-feed_from a = record { name = a.blank.name; parts = a.blank.parts }
