@@ -1,19 +1,14 @@
 -- The chronicle of every journal is proper, and has what each mark that may come keeps.
 use Rattle.std.proofs.Common.{List, [], ◌∷◌, refl}
-use Rattle.zre_beacon.specs.Beacon.{beacon_in}
 use Rattle.zre_outside.specs.declared.entry.Entry.{Entry}
-use Rattle.zre_outside.specs.declared.entry.Input.{Input}
-use Rattle.zre_outside.specs.declared.entry.Input.TheVariants as input
 use Rattle.zre_journal.specs.declared.config.Config.{Config}
 use Rattle.zre_journal.specs.Chronicle.{Mark, Comes, after}
-use Rattle.zre_journal.specs.Heard.{newly_completed}
-use Rattle.zre_journal.specs.Happens.{has_stopped, at_input, marks, with_entry, chronicle_after}
+use Rattle.zre_journal.specs.Happens.{has_stopped, marks, with_entry, chronicle_after}
 use Rattle.zre_journal.specs.Events.{chronicle}
 use Rattle.zre_journal.specs.Proper.{IsProper}
-use Rattle.zre_journal.proofs.Kept.{Comes-proper}
-use Rattle.zre_journal.proofs.Brings.{datagram_allowed, opened_allowed, shut_allowed, linked_allowed, reply_allowed, unlinked_allowed, took_allowed, tick_allowed, command_allowed, stop_allowed}
-use Rattle.zre_journal.proofs.Says.{places_allowed}
-use Rattle.zre_journal.proofs.Steps.{May, Allowed, step, either}
+use Rattle.zre_journal.proofs.Steps.{May, Allowed, step, choice}
+use Rattle.zre_journal.proofs.Silent.{Comes-proper}
+use Rattle.zre_journal.proofs.Says.{input_allowed}
 
 pub empty : IsProper []
 empty = record {
@@ -38,21 +33,8 @@ empty = record {
 }
 
 module _ (g : Config) where
-  pub input_allowed : (i : Input) (H K : List Mark) → IsProper K → Allowed (at_input g i H K) K
-  input_allowed (input.Datagram from o) H K p = datagram_allowed g K p from (beacon_in o)
-  input_allowed (input.Opened c) H K p = opened_allowed g K p c
-  input_allowed (input.Piece c o) H K p = places_allowed g c (newly_completed g.id c H K) K p
-  input_allowed (input.Shut c) H K p = shut_allowed g K p c
-  input_allowed (input.Linked l) H K p = linked_allowed g K p l
-  input_allowed (input.Reply l o) H K p = reply_allowed g K p l
-  input_allowed (input.Unlinked l) H K p = unlinked_allowed g K p l
-  input_allowed (input.Took l n) H K p = took_allowed g K p l n
-  input_allowed input.Tick H K p = tick_allowed g K p
-  input_allowed (input.Do c) H K p = command_allowed g K p c
-  input_allowed input.End H K p = stop_allowed g K p
-
-  marks_allowed : (e : Entry) (H : List Mark) → IsProper H → Allowed (marks g e H) (Comes e ∷ H)
-  marks_allowed e H p = either (has_stopped H) [] (at_input g e.input H (Comes e ∷ H)) (Comes e ∷ H) (λ z. tt) (λ z. input_allowed e.input H (Comes e ∷ H) (Comes-proper H p e))
+  pub marks_allowed : (e : Entry) (H : List Mark) → IsProper H → Allowed (marks g e H) (Comes e ∷ H)
+  marks_allowed e H p = choice (λ hs. Allowed hs (Comes e ∷ H)) (has_stopped H) _ _ (λ z. tt) (λ z. input_allowed g e.input H (Comes e ∷ H) (Comes-proper H p e))
 
   -- what each mark keeps that may come
   module _ (P : List Mark → Type 0) (keeps : (h : Mark) (H : List Mark) → IsProper H → May h H → P H → P (h ∷ H)) where

@@ -28,8 +28,7 @@ use Rattle.zre_journal.specs.Ticks.{is_silent, is_evasive, probe, is_stale, at_t
 use Rattle.zre_journal.proofs.Closing.{leaves_nothing}
 use Rattle.zre_journal.proofs.Joined.{after-append, continues}
 use Rattle.zre_journal.proofs.Known.{end_all}
-use Rattle.zre_journal.proofs.Sound.{further}
-use Rattle.zre_journal.proofs.Listed.{eqb-comm, All-kept, All-join, All-map}
+use Rattle.zre_journal.proofs.Listed.{eqb-comm, All-kept, All-join, All-map, further}
 
 -- ---- the marks of a tick
 

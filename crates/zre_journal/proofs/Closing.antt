@@ -21,14 +21,15 @@ use Rattle.zre_journal.specs.Events.{events, acts, chronicle}
 use Rattle.zre_journal.specs.Happens.{has_stopped}
 use Rattle.zre_journal.specs.Peers.{Life, lives, life, life_of, births}
 use Rattle.zre_journal.specs.Proper.{IsProper}
-use Rattle.zre_journal.proofs.Few.{none_kept, append-length}
+use Rattle.zre_journal.proofs.Few.{none_kept}
 use Rattle.zre_journal.proofs.Going.{on, told_and_done, always_sound, are_others}
-use Rattle.zre_journal.proofs.Kept.{known_lives, open_is_old}
 use Rattle.zre_journal.proofs.Known.{same_id}
 use Rattle.zre_journal.proofs.Listed.{some_is, found, All-append, All-kept, any_append, any_of_append, any_left}
 use Rattle.zre_journal.proofs.Sound.{Sound}
 use Rattle.zre_journal.proofs.Standing.{none_open, last_open}
 use Rattle.zre_journal.proofs.Steps.{May}
+use Rattle.zre_journal.proofs.Silent.{known_lives, open_is_old}
+use Rattle.std.proofs.lemmas.List.{length-append}
 
 -- ---- a stop
 
@@ -146,7 +147,7 @@ module _ (done_ : List Act) (H : List Mark) (q : IsProper H) (o : Paired done_ H
   bears : (l : ℕ) (p : PeerId) (to : Endpoint) → l ≡ births H + 1 → Paired (done_ ++ act.Connect l to ∷ []) (Born l p to ∷ H)
   bears l p to e = record {
     paired = more_paired done_ a o.paired (e ∙ ap (λ n. n + 1) (sym o.count));
-    count = ap length more ∙ append-length (connected done_) l ∙ ap (λ n. n + 1) o.count;
+    count = ap length more ∙ length-append (connected done_) (l ∷ []) ∙ ap (λ n. n + 1) o.count;
     numbered = λ k i j. ap (λ ns. list_any (eqb k) ns) more ∙ in_all k i (eqb k l) refl j;
     positive = All-append (λ (v : Life). 1 ≤ v.link) (lives H) (record { link = l; id = p; endpoint = to }) o.positive (omega (arith, e));
     ended = λ k h. o.ended k (sym (ap (λ ns. list_any (eqb k) ns) (one_none closes_link done_ a refl)) ∙ h);

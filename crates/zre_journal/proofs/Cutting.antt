@@ -26,7 +26,8 @@ use Rattle.zre_journal.proofs.Going.{on, are_others}
 use Rattle.zre_journal.proofs.Joined.{continues, after-append, told-append, done-append, in_turn-append}
 use Rattle.zre_journal.proofs.Kept.{Comes-proper}
 use Rattle.zre_journal.proofs.Listed.{any_has}
-use Rattle.zre_journal.proofs.Sound.{Sound, AreSound, AreOthers, input_sound}
+use Rattle.zre_journal.proofs.Sound.{Sound, AreSound, AreOthers}
+use Rattle.zre_journal.proofs.Says.{input_sound}
 
 -- ---- marks that are no entries
 
@@ -235,7 +236,7 @@ module _ (g : Config) where
         N = at_places g c ys (Comes two ∷ R)
 
         sound : AreSound g M P
-        sound = subst (λ zs. AreSound g (at_places g c zs P) P) (said_now a H o) (input_sound g (input.Piece c a) H P refl (Comes-proper H (is_proper g J) one) (are_others g J))
+        sound = subst (λ zs. AreSound g (at_places g c zs P) P) (said_now a H o) (input_sound g (input.Piece c a) H P (Comes-proper H (is_proper g J) one) refl (are_others g J))
 
         inner : AreInner M
         inner = inner_of g M P sound
@@ -260,7 +261,7 @@ module _ (g : Config) where
 
         inner' : AreInner N
         inner' = inner_of g N (Comes two ∷ R) (subst (λ zs. AreSound g (at_places g c zs (Comes two ∷ R)) (Comes two ∷ R)) said
-            (input_sound g (input.Piece c b) R (Comes two ∷ R) refl (Comes-proper R (subst IsProper reached (is_proper g (J ++ one ∷ []))) two) (subst (AreOthers g) reached (are_others g (J ++ one ∷ [])))))
+            (input_sound g (input.Piece c b) R (Comes two ∷ R) (Comes-proper R (subst IsProper reached (is_proper g (J ++ one ∷ []))) two) refl (subst (AreOthers g) reached (are_others g (J ++ one ∷ [])))))
 
         wholes : marks g whole H ≡ M ++ N
         wholes = all_marks whole H going ∙ ap (λ zs. at_places g c zs W) (said_now (a ++ b) H o ∙ completed-append g.id (bytes c H) a b) ∙ in_turn-append (at_place g c) xs ys W

@@ -14,16 +14,13 @@ use Rattle.zre_journal.specs.Events.{chronicle}
 use Rattle.zre_journal.specs.Proper.{IsProper}
 use Rattle.zre_journal.specs.Laws.{AreFew}
 use Rattle.zre_journal.proofs.Always.{always}
-use Rattle.zre_journal.proofs.Kept.{known_lives}
 use Rattle.zre_journal.proofs.Known.{life_stays}
 use Rattle.zre_journal.proofs.Listed.{eqb-comm, found_before}
 use Rattle.zre_journal.proofs.Steps.{May, step}
+use Rattle.zre_journal.proofs.Silent.{known_lives}
+use Rattle.std.proofs.lemmas.List.{length-append}
 
 -- ---- lists
-
-pub append-length : {A : Type 0} (xs : List A) (y : A) → length (xs ++ y ∷ []) ≡ length xs + 1
-append-length [] y = refl
-append-length (x ∷ xs) y = let r : length (xs ++ y ∷ []) ≡ length xs + 1 = append-length xs y in omega (arith, r)
 
 pub kept-length : {A : Type 0} (t : A → Bool) (xs : List A) → length (filter t xs) ≤ length xs
 kept-length t [] = omega arith
@@ -123,7 +120,7 @@ record IsWithin (H : List Mark) : Type 0 where
 
 within_more : (h : Mark) (H : List Mark) → IsProper H → May h H → IsWithin H → IsWithin (h ∷ H)
 within_more (Born n p e) H q m o = record {
-  peers = let r : length (lives H ++ record { link = n; id = p; endpoint = e } ∷ []) ≡ length (lives H) + 1 = append-length (lives H) (record { link = n; id = p; endpoint = e }) in omega (arith, r, m.has_room);
+  peers = let r : length (lives H ++ record { link = n; id = p; endpoint = e } ∷ []) ≡ length (lives H) + 1 = length-append (lives H) (record { link = n; id = p; endpoint = e } ∷ []) in omega (arith, r, m.has_room);
   connections = o.connections;
 }
 within_more (Ends n why) H q m o = record {
@@ -132,7 +129,7 @@ within_more (Ends n why) H q m o = record {
 }
 within_more (Opens c) H q m o = record {
   peers = o.peers;
-  connections = let r : length (open_ones H ++ c ∷ []) ≡ length (open_ones H) + 1 = append-length (open_ones H) c in omega (arith, r, m.has_place);
+  connections = let r : length (open_ones H ++ c ∷ []) ≡ length (open_ones H) + 1 = length-append (open_ones H) (c ∷ []) in omega (arith, r, m.has_place);
 }
 within_more (Closes c why) H q m o = record { peers = o.peers; connections = let r : length (others c (open_ones H)) ≤ length (open_ones H) = kept-length (λ d. not (eqb c d)) (open_ones H) in omega (arith, r, o.connections) }
 within_more (IsShut c) H q m o = record { peers = o.peers; connections = let r : length (others c (open_ones H)) ≤ length (open_ones H) = kept-length (λ d. not (eqb c d)) (open_ones H) in omega (arith, r, o.connections) }

@@ -17,18 +17,20 @@ use Rattle.zre_journal.specs.Happens.{has_stopped, at_input, with_entry, chronic
 use Rattle.zre_journal.specs.Peers.{Life, lives}
 use Rattle.zre_journal.specs.Proper.{IsProper}
 use Rattle.zre_journal.specs.Told.{told, told_at}
-use Rattle.zre_journal.proofs.Always.{empty, input_allowed}
-use Rattle.zre_journal.proofs.Brings.{stop_allowed}
+use Rattle.zre_journal.proofs.Always.{empty}
 use Rattle.zre_journal.proofs.Joined.{after-append, told-append, done-append}
-use Rattle.zre_journal.proofs.Kept.{Comes-proper}
 use Rattle.zre_journal.proofs.Known.{end_all}
-use Rattle.zre_journal.proofs.Sound.{Sound, AreSound, AreOthers, others_more, others_after, input_sound, until_stop, stop_sound}
-use Rattle.zre_journal.proofs.Steps.{May, Allowed, step, steps}
+use Rattle.zre_journal.proofs.Sound.{Sound, AreSound, AreOthers, others_more, others_after}
+use Rattle.zre_journal.proofs.Steps.{May, Allowed, step, steps, Each}
 use Rattle.zre_journal.proofs.Stopping.{at_end, none_known, none_open}
+use Rattle.zre_journal.proofs.Says.{input_allowed, input_sound}
+use Rattle.zre_journal.proofs.Silent.{Comes-proper}
+use Rattle.zre_journal.proofs.Brought.{Brought, silence, allowed, sound}
+use Rattle.zre_journal.proofs.Brings.{stop_brought}
 
-allowed_front : (hs ks H : List Mark) → Allowed (hs ++ ks) H → Allowed hs H
-allowed_front [] ks H a = tt
-allowed_front (h ∷ hs) ks H a = (a.0, allowed_front hs ks (h ∷ H) a.1)
+-- the marks of a stop, but for the stop itself
+abbrev until_stop : List Mark → List Mark
+until_stop K = (end_all cause.Stop (lives K) ++ map (λ c. ClosesAtStop c) (open_ones K)) ++ SendsBeacon 0 ∷ []
 
 module _ (g : Config) where
   -- a sound mark is no stop
@@ -37,12 +39,12 @@ module _ (g : Config) where
   on Stops H s n = absurd s
   on _ H s n = n
 
-  before_stop : (M : List Mark) → after (until_stop g M) M ≡ SendsBeacon 0 ∷ after (map (λ c. ClosesAtStop c) (open_ones M)) (after (end_all cause.Stop (lives M)) M)
+  before_stop : (M : List Mark) → after (until_stop M) M ≡ SendsBeacon 0 ∷ after (map (λ c. ClosesAtStop c) (open_ones M)) (after (end_all cause.Stop (lives M)) M)
   before_stop M =
       after-append (end_all cause.Stop (lives M) ++ map (λ c. ClosesAtStop c) (open_ones M)) (SendsBeacon 0 ∷ []) M
       ∙ ap (after (SendsBeacon 0 ∷ [])) (after-append (end_all cause.Stop (lives M)) (map (λ c. ClosesAtStop c) (open_ones M)) M)
 
-  last_stop : (M : List Mark) → at_stop g M ≡ until_stop g M ++ Stops ∷ []
+  last_stop : (M : List Mark) → at_stop g M ≡ until_stop M ++ Stops ∷ []
   last_stop M = sym (append_assoc (end_all cause.Stop (lives M) ++ map (λ c. ClosesAtStop c) (open_ones M)) (SendsBeacon 0 ∷ []) (Stops ∷ []))
 
   module _ (P : List Entry → List Event → List Act → List Mark → Type 0)
@@ -96,7 +98,7 @@ module _ (g : Config) where
         then_on z =
             let hs = at_input g e.input H M in
             let a = input_allowed g e.input H M come in
-            let s = input_sound g e.input H M z come o.others in
+            let s = input_sound g e.input H M come z o.others in
             offered hs (steps hs M come a) (others_after g hs M s o.others) (by_marks hs M ks es done_ going come a s (entry js es done_ e H o.holds))
 
         then_stop : is_end e.input ≡ true → Then (at_input g e.input H M)
@@ -106,25 +108,28 @@ module _ (g : Config) where
             (append_assoc es (told us M) (event.Stop ∷ []) ∙ ap (λ x. es ++ x) (sym (told-append us (Stops ∷ []) M)))
             (ap (λ x. done_ ++ x) (sym (done-append g.id us (Stops ∷ []) ∙ append-nil (done g.id us))))
             (stop ks (es ++ told us M) (done_ ++ done g.id us) (after us M) (ap lives (before_stop M) ∙ none_known g M) (ap open_ones (before_stop M) ∙ none_open g M)
-            (by_marks us M ks es done_ going come allowed sound (entry js es done_ e H o.holds))))))
+            (by_marks us M ks es done_ going come may all_sound (entry js es done_ e H o.holds))))))
           where
             us : List Mark
-            us = until_stop g M
+            us = until_stop M
 
             whole : after (us ++ Stops ∷ []) M ≡ Stops ∷ after us M
             whole = after-append us (Stops ∷ []) M
 
-            allowed : Allowed us M
-            allowed = allowed_front us (Stops ∷ []) M (subst (λ hs. Allowed hs M) (last_stop M) (stop_allowed g M come))
+            each : Each (Brought g silence true) us M
+            each = stop_brought g silence true M come (SendsBeacon 0 ∷ []) (λ L. ((tt, tt), tt))
 
-            sound : AreSound g us M
-            sound = stop_sound g M come
+            may : Allowed us M
+            may = allowed g silence true us M each
+
+            all_sound : AreSound g us M
+            all_sound = sound g silence true refl us M o.others each
 
             proper : IsProper (Stops ∷ after us M)
-            proper = step Stops (after us M) (steps us M come allowed) tt
+            proper = step Stops (after us M) (steps us M come may) tt
 
             others : AreOthers g (Stops ∷ after us M)
-            others = others_after g us M sound o.others
+            others = others_after g us M all_sound o.others
 
       next : Good ks (es ++ events_at g e H) (done_ ++ acts_at g e H) (with_entry g e H)
       next = by (has_stopped H) refl

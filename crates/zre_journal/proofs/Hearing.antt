@@ -2,7 +2,7 @@
 use Rattle.std.proofs.Common.{◌≡◌, ℕ, ◌+◌, Bool, true, false, true≢false, cond, not, ◌&&◌, ◌||◌, eqb, ltb, List, [], ◌∷◌, ◌++◌, length, map, Option, Some, None, IsSome, is_none, refl, sym, ap, ◌∙◌, subst, inl, inr, eq-eqb, append_assoc, append-nil}
 use Rattle.std.proofs.lemmas.Bool.{and_from}
 use Rattle.std.proofs.lemmas.List.Elements.{filter_map-append}
-use Rattle.std.specs.List.{cons_option}
+use Rattle.std.specs.List.{cons_option, AllByRecursion}
 use Rattle.std.specs.Option.{option_or}
 use Rattle.zre_values.specs.declared.peer_id.PeerId.{PeerId}
 use Rattle.zre_values.specs.declared.endpoint.Endpoint.{Endpoint}
@@ -33,11 +33,15 @@ use Rattle.zre_journal.specs.Proper.{IsProper}
 use Rattle.zre_journal.specs.Pushes.{birth}
 use Rattle.zre_journal.proofs.Faultless.{live_from}
 use Rattle.zre_journal.proofs.Joined.{after-append}
-use Rattle.zre_journal.proofs.Kept.{has_started}
-use Rattle.zre_journal.proofs.Quiet.{Quiet, AreQuiet, answer_quiet, taken_over_quiet}
-use Rattle.zre_journal.proofs.Says.{place_allowed}
+use Rattle.zre_journal.proofs.Quiet.{Quiet, AreQuiet}
 use Rattle.zre_journal.proofs.Standing.{none_open}
-use Rattle.zre_journal.proofs.Steps.{steps}
+use Rattle.zre_journal.proofs.Steps.{steps, choice}
+use Rattle.zre_journal.proofs.Silent.{has_started}
+use Rattle.zre_journal.proofs.Sayings.{MaySay}
+use Rattle.zre_journal.proofs.Brought.{Ground, silence, allowed, quiet}
+use Rattle.zre_journal.proofs.Says.{place_outcome, taken_over_brought, answer_brought}
+use Rattle.zre_journal.proofs.Brings.{all_brought}
+use Rattle.zre_journal.proofs.Kept.{run_known}
 
 -- ---- what is said
 
@@ -223,7 +227,7 @@ module _ (g : Config) (c : ℕ) (said : List Said) (K : List Mark) where
         by None e =
             let hs = taken_over g (other_with p c K) K in
             let H = after hs K in
-            let r = quiet_steps c said hs K (taken_over_quiet g c K (other_with p c K)) o in
+            let r = quiet_steps c said hs K (quiet g silence true c refl hs K (taken_over_brought g silence true K q p c (other_with p c K) refl)) o in
             let same : heard (more x) ≡ heard said = heard_more x ∙ append-nil (heard said) in
             subst (Follows c (more x)) (sym (after-append hs (Shakes c p ∷ []) K)) (record {
               rest = r.rest;
@@ -233,10 +237,8 @@ module _ (g : Config) (c : ℕ) (said : List Said) (K : List Mark) where
               who = λ v. ap (λ t. option_or (cond t (Some p) None) (identity c H)) (eq-eqb c c refl) ∙ sym (introduced-append said (x ∷ []) ∙ ap (λ j. option_or j (Some p)) (sym (o.who live) ∙ e));
             })
 
-    -- those of a choice
-    pick : (x : Said) (b : Bool) (hs ks : List Mark) → Follows c (more x) (after hs K) → Follows c (more x) (after ks K) → Follows c (more x) (after (cond b hs ks) K)
-    pick x true hs ks y z = y
-    pick x false hs ks y z = z
+    abbrev F : Said → List Mark → Type 0
+    F x hs = Follows c (more x) (after hs K)
 
     module _ (m : Message) where
       abbrev x : Said
@@ -253,7 +255,7 @@ module _ (g : Config) (c : ℕ) (said : List Said) (K : List Mark) where
         where
           unknown : (t : Option Endpoint) → Follows c (more x) (after (start_unknown g c p m t K) K)
           unknown None = ignored ignore.NoEndpoint r
-          unknown (Some to) = pick x (ltb (length (lives K)) PEERS) (birth g p to K ++ Starts c (births K + 1) m ∷ []) (Ignores c ignore.Full ∷ []) (counts (Starts c (births K + 1) m ∷ after (birth g p to K) K) refl refl) (ignored ignore.Full r)
+          unknown (Some to) = choice (F x) (ltb (length (lives K)) PEERS) _ _ (λ z. counts (Starts c (births K + 1) m ∷ after (birth g p to K) K) refl refl) (λ z. ignored ignore.Full r)
 
           by : (v : Option Life) → Follows c (more x) (after (start g c p m v K) K)
           by (Some v) = counts (Starts c v.link m ∷ K) refl refl
@@ -264,14 +266,14 @@ module _ (g : Config) (c : ℕ) (said : List Said) (K : List Mark) where
         where
           by : (i : Option PeerId) → identity c K ≡ i → Follows c (more x) (after (at_first g c i m K) K)
           by None e = let z : IsSome (identity c K) = subst IsSome (sym (o.who live)) met in absurd (none (identity c K) e z)
-          by (Some p) e = pick x (not (is_hello m.body && eqb m.sequence 1)) (Ignores c ignore.NotHello ∷ []) (cond (not (is_small (view_of (m ∷ [])))) (Ignores c ignore.Limit ∷ []) (start g c p m (life_of p K) K)) (ignored ignore.NotHello r)
-              (pick x (not (is_small (view_of (m ∷ [])))) (Ignores c ignore.Limit ∷ []) (start g c p m (life_of p K) K) (ignored ignore.Limit r) (start_follows r p))
+          by (Some p) e = choice (F x) (not (is_hello m.body && eqb m.sequence 1)) _ _ (λ z. ignored ignore.NotHello r)
+              (λ z. choice (F x) (not (is_small (view_of (m ∷ [])))) _ _ (λ y. ignored ignore.Limit r) (λ y. start_follows r p))
 
       later_follows : (l : ℕ) → runs c K ≡ Some l → Follows c (more x) (after (at_later g c l m K) K)
-      later_follows l r = pick x (is_hello m.body) (Ends l cause.Hello ∷ []) due_one (ended cause.Hello)
-          (pick x (not (eqb m.sequence (due (counted l K)))) (Ends l (cause.Order (due (counted l K)) m.sequence) ∷ []) small_one (ended (cause.Order (due (counted l K)) m.sequence))
-          (pick x (not (is_small (view_of (counted l K ++ m ∷ [])))) (Ends l cause.Limit ∷ []) (Counts c l m ∷ answer_to g l m.body K) (ended cause.Limit)
-          (quiet_steps c (more x) (answer_to g l m.body K) (Counts c l m ∷ K) (answer_quiet g c K l m.body) (counts (Counts c l m ∷ K) refl refl))))
+      later_follows l r = choice (F x) (is_hello m.body) _ _ (λ z. ended cause.Hello)
+          (λ z. choice (F x) (not (eqb m.sequence (due (counted l K)))) _ _ (λ y. ended (cause.Order (due (counted l K)) m.sequence))
+          (λ y. choice (F x) (not (is_small (view_of (counted l K ++ m ∷ [])))) _ _ (λ v. ended cause.Limit)
+          (λ v. quiet_steps c (more x) (answer_to g l m.body K) (Counts c l m ∷ K) (quiet g silence true c refl (answer_to g l m.body K) (Counts c l m ∷ K) (answer_brought g silence true K q l m.body c m (run_known K q c l r))) (counts (Counts c l m ∷ K) refl refl))))
         where
           s : started c K ≡ Some l
           s = (has_started K q c l r).0
@@ -279,12 +281,6 @@ module _ (g : Config) (c : ℕ) (said : List Said) (K : List Mark) where
           ended : (why : Cause) → Follows c (more x) (Ends l why ∷ K)
           ended why = gone x (Ends l why ∷ K) (dead (is_open c K) (is_ignored c (Ends l why ∷ K)) (and_from (is_none (runs c (Ends l why ∷ K))) (was_used c (Ends l why ∷ K))
               (let me : eqb l l ≡ true = eq-eqb l l refl in rw (s, me) refl) (rw s (or_true (ever (refuses c) K))))) refl o
-
-          small_one : List Mark
-          small_one = cond (not (is_small (view_of (counted l K ++ m ∷ [])))) (Ends l cause.Limit ∷ []) (Counts c l m ∷ answer_to g l m.body K)
-
-          due_one : List Mark
-          due_one = cond (not (eqb m.sequence (due (counted l K)))) (Ends l (cause.Order (due (counted l K)) m.sequence) ∷ []) small_one
 
       message_follows : IsSome (introduced said) → Follows c (more x) (after (at_message g c (runs c K) m K) K)
       message_follows met = by (runs c K) refl
@@ -309,12 +305,14 @@ module _ (g : Config) (c : ℕ) (said : List Said) (K : List Mark) where
 
 -- ---- all that is newly said
 
-pub places_follow : (g : Config) (c : ℕ) (xs said : List Said) (K : List Mark) → ((m : Message) (ys zs : List Said) → said ++ xs ≡ ys ++ Arrived (arrival.Message m) ∷ zs → IsSome (introduced ys))
+pub places_follow : (g : Config) (c : ℕ) (xs said : List Said) (K : List Mark) → AllByRecursion (MaySay g.id) xs → ((m : Message) (ys zs : List Said) → said ++ xs ≡ ys ++ Arrived (arrival.Message m) ∷ zs → IsSome (introduced ys))
     → IsProper K → Follows c said K → Follows c (said ++ xs) (after (at_places g c xs K) K)
-places_follow g c [] said K met q o = subst (λ ys. Follows c ys K) (sym (append-nil said)) o
-places_follow g c (x ∷ xs) said K met q o =
+places_follow g c [] said K may met q o = subst (λ ys. Follows c ys K) (sym (append-nil said)) o
+places_follow g c (x ∷ xs) said K may met q o =
     let hs = at_place g c x K in
+    let w : Ground = record { of = λ d. true; stops = false } in
+    let p = steps hs K q (allowed g w true hs K (all_brought (place_outcome g w c refl x may.0 K q))) in
     let r = place_follows g c said K q x (λ m e. met m said xs (ap (λ y. said ++ y ∷ xs) e)) o in
     subst (Follows c (said ++ x ∷ xs)) (sym (after-append hs (at_places g c xs (after hs K)) K))
     (subst (λ ys. Follows c ys (after (at_places g c xs (after hs K)) (after hs K))) (append_assoc said (x ∷ []) xs)
-    (places_follow g c xs (said ++ x ∷ []) (after hs K) (λ m ys zs e. met m ys zs (sym (append_assoc said (x ∷ []) xs) ∙ e)) (steps hs K q (place_allowed g c x K q)) r))
+    (places_follow g c xs (said ++ x ∷ []) (after hs K) may.1 (λ m ys zs e. met m ys zs (sym (append_assoc said (x ∷ []) xs) ∙ e)) p r))

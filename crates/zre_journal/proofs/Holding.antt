@@ -24,13 +24,10 @@ use Rattle.zre_journal.specs.Happens.{has_stopped, at_input, with_entry, chronic
 use Rattle.zre_journal.specs.Commands.{at_stop}
 use Rattle.zre_journal.specs.Events.{chronicle}
 use Rattle.zre_journal.specs.Proper.{IsProper}
-use Rattle.zre_journal.proofs.Always.{empty, input_allowed}
-use Rattle.zre_journal.proofs.Brings.{stop_allowed}
+use Rattle.zre_journal.proofs.Always.{empty}
 use Rattle.zre_journal.proofs.Faultless.{names_conn, names_link, AreFaultless, faultless_after, bytes_stay, replies_stay, still_going, not_open, conn_ends, link_ends}
 use Rattle.zre_journal.proofs.Few.{are_few, kept-length}
-use Rattle.zre_journal.proofs.Fitting.{input-fits}
 use Rattle.zre_journal.proofs.Introduction.{small, fitting}
-use Rattle.zre_journal.proofs.Kept.{Comes-proper}
 use Rattle.zre_journal.proofs.Known.{each_known}
 use Rattle.zre_journal.proofs.Listed.{All-map}
 use Rattle.zre_journal.proofs.Room.{HasRoom, AllFit, room-after, room-empty}
@@ -38,6 +35,8 @@ use Rattle.zre_journal.proofs.Steps.{Allowed, steps}
 use Rattle.zre_journal.proofs.Stopping.{at_end, stopped, stop-is, none_known, none_open, room-stopped}
 use Rattle.zre_journal.proofs.Streams.{unfinished-most}
 use Rattle.zre_journal.proofs.Viewed.{view-most}
+use Rattle.zre_journal.proofs.Says.{input_allowed, input_fits}
+use Rattle.zre_journal.proofs.Silent.{Comes-proper}
 
 -- what holds after each entry
 record IsSound (g : Config) (H : List Mark) : Type 0 where
@@ -92,7 +91,7 @@ module _ (g : Config) (can : CanBe g) where
     ends z =
         let M = Comes e ∷ H in
         let all : after (at_input g e.input H M) M ≡ stopped g M = ap (λ hs. after hs M) (at_end g e.input H M z) ∙ stop-is g M in
-        let q : IsProper (stopped g M) = subst IsProper (stop-is g M) (steps (at_stop g M) M come (stop_allowed g M come)) in
+        let q : IsProper (stopped g M) = subst IsProper (stop-is g M) (steps (at_stop g M) M come (subst (λ hs. Allowed hs M) (at_end g e.input H M z) (input_allowed g e.input H M come))) in
         subst (IsSound g) (sym all) (at_rest (stopped g M) q (room-stopped g M room) (none_known g M) (none_open g M))
 
     -- it goes on
@@ -107,7 +106,7 @@ module _ (g : Config) (can : CanBe g) where
       allowed = input_allowed g e.input H M come
 
       fit : AllFit g hs M
-      fit = input-fits g can e.input H M on come room
+      fit = input_fits g e.input H M come can on room
 
       so_far : AreFaultless g e.input M
       so_far = record {

@@ -1,23 +1,21 @@
 -- Connections that run no peer, and the one that gives way to READY on another.
-use Rattle.std.proofs.Common.{◌≡◌, ℕ, Bool, true, false, cond, not, ◌&&◌, ◌||◌, eqb, List, [], ◌∷◌, ◌++◌, map, Option, Some, None, find, refl, sym, ap, ◌∙◌, eq-eqb}
+use Rattle.std.proofs.Common.{◌≡◌, ℕ, Bool, true, false, cond, not, ◌&&◌, ◌||◌, eqb, List, [], ◌∷◌, ◌++◌, Option, Some, None, find, refl, sym, ap, ◌∙◌, eq-eqb}
 use Rattle.std.specs.Option.{option_and_then, option_or}
 use Rattle.std.proofs.lemmas.Bool.{and_parts}
 use Rattle.std.specs.List.{AllByRecursion, list_any}
 use Rattle.zre_values.specs.declared.peer_id.PeerId.{PeerId}
 use Rattle.zre_peer.specs.declared.causes.Cause.{Cause}
 use Rattle.zre_peer.specs.declared.causes.Cause.TheVariants as cause
-use Rattle.zre_peer.specs.declared.causes.CloseWhy.{CloseWhy}
 use Rattle.zre_peer.specs.declared.causes.CloseWhy.TheVariants as close
 use Rattle.zre_journal.specs.declared.config.Config.{Config}
-use Rattle.zre_journal.specs.Chronicle.{Mark, Closes, ClosesAtStop, Ends, after}
+use Rattle.zre_journal.specs.Chronicle.{Mark, Closes, Ends, after}
 use Rattle.zre_journal.specs.Connections.{open_ones, is_open, identity, runs, started, start_at, has_ended, ends, is_same, other_with, others}
 use Rattle.zre_journal.specs.Peers.{Life, lives, life}
 use Rattle.zre_journal.specs.Proper.{IsProper}
 use Rattle.zre_journal.specs.Arrivals.{taken_over, end_of_run}
-use Rattle.zre_journal.proofs.Kept.{has_started, run_known}
 use Rattle.zre_journal.proofs.Known.{end_all, same_id}
-use Rattle.zre_journal.proofs.Listed.{eqb-comm, found_passes, found_any, some_is, any_other}
-use Rattle.zre_journal.proofs.Steps.{Allowed, May, in_both}
+use Rattle.zre_journal.proofs.Listed.{eqb-comm, found_passes, found_any, some_is, any_other, each_there, found_there}
+use Rattle.zre_journal.proofs.Silent.{has_started, run_known}
 
 -- ---- one that runs no peer runs none after marks that start nothing
 
@@ -65,13 +63,6 @@ idle_then g H p c why = by (runs c H) refl
     by None e = e
     by (Some l) e = let s = has_started H p c l e in let me : eqb l l ≡ true = eq-eqb l l refl in rw (s.0, me) refl
 
-pub end_of_run_allowed : (g : Config) (H : List Mark) → IsProper H → (c : ℕ) (why : Cause) → Allowed (end_of_run g (runs c H) why) H
-end_of_run_allowed g H p c why = by (runs c H) refl
-  where
-    by : (o : Option ℕ) → runs c H ≡ o → Allowed (end_of_run g o why) H
-    by None e = tt
-    by (Some l) e = (run_known H p c l e, tt)
-
 -- all that is known ends, and then no connection runs a peer
 pub all_idle : (H : List Mark) → IsProper H → (why : Cause) (c : ℕ) → runs c (after (end_all why (lives H)) H) ≡ None
 all_idle H p why c = by (runs c H) refl
@@ -100,31 +91,11 @@ all_idle H p why c = by (runs c H) refl
         let gone = ended_now l (lives H) H (found_any (λ (u : Life). eqb l u.link) (lives H) v.0 v.1) in
         rw (started_same (lives H) H ∙ s.0, gone) refl
 
-pub drops_allowed : (cs : List ℕ) (H : List Mark) → ((c : ℕ) → runs c H ≡ None) → Allowed (map (λ c. ClosesAtStop c) cs) H
-drops_allowed [] H none = tt
-drops_allowed (c ∷ cs) H none = (none c, drops_allowed cs (ClosesAtStop c ∷ H) none)
-
-pub closes_allowed : (why : CloseWhy) (cs : List ℕ) (H : List Mark) → AllByRecursion (λ c. runs c H ≡ None) cs → Allowed (map (λ c. Closes c why) cs) H
-closes_allowed why [] H none = tt
-closes_allowed why (c ∷ cs) H none = (none.0, closes_allowed why cs (Closes c why ∷ H) none.1)
-
 -- ---- another of the same identity
 
 -- what is found is open
-other_open : (p : PeerId) (c d : ℕ) (H : List Mark) → other_with p c H ≡ Some d → is_open d H ≡ true
-other_open p c d H e = open_one (λ x. not (eqb c x) && is_same p (identity x H)) (open_ones H) e
-  where
-    open_one : (f : ℕ → Bool) (cs : List ℕ) → find f cs ≡ Some d → list_any (eqb d) cs ≡ true
-    open_one f [] e = cc
-    open_one f (x ∷ cs) e = by (open_one f cs) (f x) e
-      where
-        by : (find f cs ≡ Some d → list_any (eqb d) cs ≡ true) → (b : Bool) → cond b (Some x) (find f cs) ≡ Some d → (eqb d x || list_any (eqb d) cs) ≡ true
-        by r true k = let same : x ≡ d = cc in let me : eqb d x ≡ true = eq-eqb d x (sym same) in rw me refl
-        by r false k = there (eqb d x) (r k)
-          where
-            there : (b : Bool) → list_any (eqb d) cs ≡ true → (b || list_any (eqb d) cs) ≡ true
-            there true q = refl
-            there false q = q
+pub other_open : (p : PeerId) (c d : ℕ) (H : List Mark) → other_with p c H ≡ Some d → is_open d H ≡ true
+other_open p c d H e = found_there (λ x. not (eqb c x) && is_same p (identity x H)) d (open_ones H) e
 
 -- one with the identity of p
 is_its : (p : PeerId) (d : ℕ) (H : List Mark) → is_same p (identity d H) ≡ true → identity d H ≡ Some p
@@ -147,23 +118,12 @@ gone f d (x ∷ cs) a = by (gone f d cs a.1) (eqb d x) refl
         passed true k = let same : x ≡ d = a.0 k in let z : true ≡ false = sym (eq-eqb d x (sym same)) ∙ q in cc
         passed false k = r
 
-all_open : (H : List Mark) (P : ℕ → Type 0) → ((e : ℕ) → list_any (eqb e) (open_ones H) ≡ true → P e) → (cs : List ℕ) → ((e : ℕ) → list_any (eqb e) cs ≡ true → list_any (eqb e) (open_ones H) ≡ true) → AllByRecursion P cs
-all_open H P f [] i = tt
-all_open H P f (x ∷ cs) i = (
-  f x (i x (let me : eqb x x ≡ true = eq-eqb x x refl in rw me refl)),
-  all_open H P f cs (λ e k. i e (there (eqb e x) (list_any (eqb e) cs) k)),
-)
-  where
-    there : (b c : Bool) → c ≡ true → (b || c) ≡ true
-    there true c k = refl
-    there false c k = k
-
 -- of these alone is the one that was found
 all_that : (H : List Mark) → IsProper H → (p : PeerId) (c d : ℕ) → other_with p c H ≡ Some d → AllByRecursion (λ e. (not (eqb c e) && is_same p (identity e H)) ≡ true → e ≡ d) (open_ones H)
 all_that H q p c d f =
     let t : ℕ → Bool = λ x. not (eqb c x) && is_same p (identity x H) in
     let passes = and_parts (not (eqb c d)) (is_same p (identity d H)) (found_passes t (open_ones H) d f) in
-    all_open H (λ e. t e ≡ true → e ≡ d) (λ e o k. q.running.is_sole e d p o (other_open p c d H f) (is_its p e H (and_parts (not (eqb c e)) (is_same p (identity e H)) k).1) (is_its p d H passes.1)) (open_ones H) (λ e k. k)
+    each_there (λ e. t e ≡ true → e ≡ d) (open_ones H) (λ e o k. q.running.is_sole e d p o (other_open p c d H f) (is_its p e H (and_parts (not (eqb c e)) (is_same p (identity e H)) k).1) (is_its p d H passes.1))
 
 pub not_true : (b : Bool) → not b ≡ true → b ≡ false
 not_true true e = cc
@@ -198,11 +158,3 @@ gave_way g H q p c (Some d) e is_there = by (runs d H)
     by : (r : Option ℕ) → GaveWay p c H (after (end_of_run g r cause.Taken ++ Closes d close.Taken ∷ []) H)
     by None = record { alone = none; same_open = left; same_identity = refl }
     by (Some l) = record { alone = none; same_open = left; same_identity = refl }
-
--- the run of c ends, and a mark comes that closes it
-pub ends_and : (g : Config) (H : List Mark) → IsProper H → (c : ℕ) (why : Cause) (h : Mark) → ((K : List Mark) → runs c K ≡ None → May h K) → Allowed (end_of_run g (runs c H) why ++ h ∷ []) H
-ends_and g H p c why h f = in_both (end_of_run g (runs c H) why) (h ∷ []) H (end_of_run_allowed g H p c why) (f (after (end_of_run g (runs c H) why) H) (idle_then g H p c why), tt)
-
-pub taken_over_allowed : (g : Config) (H : List Mark) → IsProper H → (o : Option ℕ) → Allowed (taken_over g o H) H
-taken_over_allowed g H p None = tt
-taken_over_allowed g H p (Some d) = ends_and g H p d cause.Taken (Closes d close.Taken) (λ K r. r)

@@ -7,10 +7,10 @@ use Rattle.zre_values.specs.declared.peer_id.PeerId.{PeerId}
 use Rattle.zre_values.specs.declared.endpoint.Endpoint.{Endpoint}
 use Rattle.zre_peer.specs.declared.causes.Cause.{Cause}
 use Rattle.zre_journal.specs.Chronicle.{Mark, Ends, Born, after}
-use Rattle.zre_journal.specs.Peers.{Life, lives, life, life_of, births}
+use Rattle.zre_journal.specs.Peers.{Life, lives, life, life_of, births, runner}
 use Rattle.zre_journal.specs.Proper.{IsProper, Apart}
 use Rattle.zre_journal.proofs.Listed.{eqb-comm, All-map, All-kept, others_find, found_passes}
-use Rattle.zre_journal.proofs.Steps.{Allowed}
+use Rattle.zre_journal.specs.Connections.{open_ones}
 
 -- ---- lives, by number
 
@@ -84,9 +84,16 @@ still_known H l why (v ∷ vs) far k = (subst IsSome (sym (life_stays H l v.link
 abbrev pub end_all : Cause → List Life → List Mark
 end_all why vs = map (λ (v : Life). Ends v.link why) vs
 
-pub ends_allowed : (why : Cause) (vs : List Life) (H : List Mark) → Apart (λ (v : Life). v.link) vs → AreKnown H vs → Allowed (end_all why vs) H
-ends_allowed why [] H a k = tt
-ends_allowed why (v ∷ vs) H a k = (k.0, ends_allowed why vs (Ends v.link why ∷ H) a.1 (still_known H v.link why vs a.0 k.1))
+-- what no end changes
+pub ends_keep : (Q : List Mark → Type 0) → ((l : ℕ) (why : Cause) (H : List Mark) → Q H → Q (Ends l why ∷ H)) → (why : Cause) (vs : List Life) (H : List Mark) → Q H → Q (after (end_all why vs) H)
+ends_keep Q f why [] H q = q
+ends_keep Q f why (v ∷ vs) H q = ends_keep Q f why vs (Ends v.link why ∷ H) (f v.link why H q)
+
+pub ends_open : (why : Cause) (vs : List Life) (H : List Mark) → open_ones (after (end_all why vs) H) ≡ open_ones H
+ends_open why vs H = ends_keep (λ J. open_ones J ≡ open_ones H) (λ l w J e. e) why vs H refl
+
+pub ends_run : (why : Cause) (vs : List Life) (l : ℕ) (H : List Mark) → runner l (after (end_all why vs) H) ≡ runner l H
+ends_run why vs l H = ends_keep (λ J. runner l J ≡ runner l H) (λ k w J e. e) why vs H refl
 
 -- others than these are known after their ends
 abbrev pub AreFar : List Life → List Life → Type 0

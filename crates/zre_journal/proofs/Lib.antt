@@ -1,6 +1,7 @@
 pub mod Alike
 pub mod Always
 pub mod Brings
+pub mod Brought
 pub mod Cleaning
 pub mod Closing
 pub mod Cutting
@@ -9,7 +10,6 @@ pub mod Entered
 pub mod Faultless
 pub mod Few
 pub mod Fields
-pub mod Fitting
 pub mod Going
 pub mod Hearing
 pub mod Holding
@@ -26,8 +26,8 @@ pub mod Passing
 pub mod Quiet
 pub mod Room
 mod Rows
-pub mod Says
 pub mod Sayings
+pub mod Says
 pub mod Silent
 pub mod Sound
 pub mod Standing
@@ -36,6 +36,7 @@ pub mod Stopping
 pub mod Stops
 pub mod Streams
 pub mod Telling
+pub mod Ticks
 pub mod Truth
 pub mod Truthful
 pub mod Viewed

@@ -22,6 +22,14 @@ module _ {A : Type 0} where
   All-kept P t (x ∷ xs) h = elim (t x) as (λ b. AllByRecursion P (cond b (x ∷ filter t xs) (filter t xs)))
       [ true ↦ (h.0, All-kept P t xs h.1) | false ↦ All-kept P t xs h.1 ]
 
+  pub All-passing : (P : A → Type 0) (t : A → Bool) → ((x : A) → t x ≡ true → P x) → (xs : List A) → AllByRecursion P (filter t xs)
+  All-passing P t f [] = tt
+  All-passing P t f (x ∷ xs) = by (All-passing P t f xs) (t x) refl
+    where
+      by : AllByRecursion P (filter t xs) → (b : Bool) → t x ≡ b → AllByRecursion P (cond b (x ∷ filter t xs) (filter t xs))
+      by r true e = (f x e, r)
+      by r false e = r
+
   pub All-append : (P : A → Type 0) (xs : List A) (y : A) → AllByRecursion P xs → P y → AllByRecursion P (xs ++ y ∷ [])
   All-append P [] y h p = (p, tt)
   All-append P (x ∷ xs) y h p = (h.0, All-append P xs y h.1 p)
@@ -164,3 +172,26 @@ any_has P c (x ∷ xs) h e = by (any_has P c xs h.1) (eqb c x) refl e
     by : (list_any (eqb c) xs ≡ true → P c) → (b : Bool) → eqb c x ≡ b → (b || list_any (eqb c) xs) ≡ true → P c
     by r true q k = subst P (sym (eqb-true c x q)) h.0
     by r false q k = r k
+
+pub further : (b c : Bool) → c ≡ true → (b || c) ≡ true
+further true c h = refl
+further false c h = h
+
+-- one that a search finds is there
+pub found_there : (f : ℕ → Bool) (d : ℕ) (cs : List ℕ) → find f cs ≡ Some d → list_any (eqb d) cs ≡ true
+found_there f d [] e = cc
+found_there f d (x ∷ cs) e = by (found_there f d cs) (f x) e
+  where
+    by : (find f cs ≡ Some d → list_any (eqb d) cs ≡ true) → (b : Bool) → cond b (Some x) (find f cs) ≡ Some d → (eqb d x || list_any (eqb d) cs) ≡ true
+    by r true k = let same : x ≡ d = cc in let me : eqb d x ≡ true = eq-eqb d x (sym same) in rw me refl
+    by r false k = further (eqb d x) (list_any (eqb d) cs) (r k)
+
+-- what holds of each that is there
+pub each_there : (P : ℕ → Type 0) (xs : List ℕ) → ((c : ℕ) → list_any (eqb c) xs ≡ true → P c) → AllByRecursion P xs
+each_there P [] f = tt
+each_there P (x ∷ xs) f = (f x (let me : eqb x x ≡ true = eq-eqb x x refl in rw me refl), each_there P xs (λ c h. f c (further (eqb c x) (list_any (eqb c) xs) h)))
+
+-- others are there where one is taken out
+pub left_there : (c : ℕ) (cs xs : List ℕ) → AllByRecursion (λ d. eqb c d ≡ false) cs → AllByRecursion (λ d. list_any (eqb d) xs ≡ true) cs → AllByRecursion (λ d. list_any (eqb d) (filter (λ x. not (eqb c x)) xs) ≡ true) cs
+left_there c [] xs far o = tt
+left_there c (d ∷ cs) xs far o = (any_other c d far.0 xs o.0, left_there c cs xs far.1 o.1)

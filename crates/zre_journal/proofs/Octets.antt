@@ -26,9 +26,11 @@ use Rattle.zre_journal.proofs.Closing.{leaves_nothing}
 use Rattle.zre_journal.proofs.Going.{are_others}
 use Rattle.zre_journal.proofs.Hearing.{introduced, has_fault, spoken, Follows, quiet_steps, places_follow}
 use Rattle.zre_journal.proofs.Joined.{continues}
-use Rattle.zre_journal.proofs.Kept.{Comes-proper, has_started, run_is}
-use Rattle.zre_journal.proofs.Quiet.{Quiet, AreQuiet, input_quiet}
-use Rattle.zre_journal.proofs.Sound.{Sound, AreSound, input_sound}
+use Rattle.zre_journal.proofs.Quiet.{Quiet, AreQuiet}
+use Rattle.zre_journal.proofs.Sound.{Sound, AreSound}
+use Rattle.zre_journal.proofs.Silent.{Comes-proper, has_started, run_is}
+use Rattle.zre_journal.proofs.Says.{input_quiet, input_sound}
+use Rattle.zre_journal.proofs.Sayings.{newly_fine}
 
 -- octets come with entries alone
 quiet_bytes : (d : ℕ) (hs K : List Mark) → AreQuiet d hs → bytes d (after hs K) ≡ bytes d K
@@ -121,7 +123,7 @@ module _ (g : Config) where
         let hs = at_places g d (newly_completed g.id d H K) K in
         let all : talk g.id (bytes d K) ≡ talk g.id (bytes d H) ++ newly_completed g.id d H K = (goes g.id (bytes d H) more).said in
         subst (λ x. Follows d (talk g.id x) (after hs K)) (sym b) (subst (λ xs. Follows d xs (after hs K)) (sym all)
-        (places_follow g d (newly_completed g.id d H K) (talk g.id (bytes d H)) K (λ m ys zs z. spoken g.id (bytes d K) ys zs m (all ∙ z)) q (come d (talk g.id (bytes d H)) e H (o d))))
+        (places_follow g d (newly_completed g.id d H K) (talk g.id (bytes d H)) K (newly_fine g.id d H K) (λ m ys zs z. spoken g.id (bytes d K) ys zs m (all ∙ z)) q (come d (talk g.id (bytes d H)) e H (o d))))
 
     opened_here : (d : ℕ) → piece_of d e.input ≡ [] → let hs = at_opened g d K in Follows d (talk g.id (bytes d (after hs K))) (after hs K)
     opened_here d n = by (is_new d K) refl (ltb (length (open_ones K)) CONNECTIONS)
@@ -138,15 +140,15 @@ module _ (g : Config) where
         n = ap (piece_of d) z
 
         by : (t : Bool) → eqb d c ≡ t → let hs = at_opened g c K in Follows d (talk g.id (bytes d (after hs K))) (after hs K)
-        by false f = quietly d n (at_opened g c K) (input_quiet g d (input.Opened c) H K f)
+        by false f = quietly d n (at_opened g c K) (input_quiet g (input.Opened c) H K q d f)
         by true f = subst (λ x. let hs = at_opened g x K in Follows d (talk g.id (bytes d (after hs K))) (after hs K)) (eqb-true d c f) (opened_here d n)
     on_input (input.Piece c octets) z d = by (eqb d c) refl
       where
         by : (t : Bool) → eqb d c ≡ t → let hs = at_places g c (newly_completed g.id c H K) K in Follows d (talk g.id (bytes d (after hs K))) (after hs K)
-        by false f = quietly d (ap (piece_of d) z ∙ ap (λ t. cond t octets []) f) (at_places g c (newly_completed g.id c H K) K) (input_quiet g d (input.Piece c octets) H K f)
+        by false f = quietly d (ap (piece_of d) z ∙ ap (λ t. cond t octets []) f) (at_places g c (newly_completed g.id c H K) K) (input_quiet g (input.Piece c octets) H K q d f)
         by true f = subst (λ x. let hs = at_places g x (newly_completed g.id x H K) K in Follows d (talk g.id (bytes d (after hs K))) (after hs K)) (eqb-true d c f)
-            (piece d (sound_bytes g d (at_places g d (newly_completed g.id d H K) K) K (input_sound g (input.Piece d octets) H K refl q (are_others g J))))
-    on_input i z d = quietly d (ap (piece_of d) z) (at_input g i H K) (input_quiet g d i H K refl)
+            (piece d (sound_bytes g d (at_places g d (newly_completed g.id d H K) K) K (input_sound g (input.Piece d octets) H K q refl (are_others g J))))
+    on_input i z d = quietly d (ap (piece_of d) z) (at_input g i H K) (input_quiet g i H K q d refl)
 
     next : Told (with_entry g e H)
     next = by (has_stopped H) refl

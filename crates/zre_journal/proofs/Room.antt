@@ -20,11 +20,10 @@ use Rattle.zre_journal.specs.Peers.{counted, view}
 use Rattle.zre_journal.specs.Links.{groups, bodies, taken, unsent}
 use Rattle.zre_journal.specs.Proper.{IsProper}
 use Rattle.zre_journal.specs.Introducing.{CanIntroduce}
-use Rattle.zre_journal.proofs.Few.{append-length}
 use Rattle.zre_journal.proofs.Fields.{hello_octets}
 use Rattle.zre_journal.proofs.Introduction.{new-short}
 use Rattle.zre_journal.proofs.Listed.{All-append}
-use Rattle.zre_journal.proofs.Steps.{May, Allowed, step}
+use Rattle.zre_journal.proofs.Steps.{May, Allowed, step, Each}
 use Rattle.zre_journal.proofs.Viewed.{IsShortView, blank-short, first-short, later-short}
 
 -- what is put and not sent, what is told, and the node's own groups are within their limits
@@ -46,16 +45,7 @@ module _ (g : Config) where
 
   -- whether marks do, each after those before it
   abbrev pub AllFit : List Mark → List Mark → Type 0
-  AllFit [] H = Unit {0}
-  AllFit (h ∷ hs) H = Fits h H × AllFit hs (h ∷ H)
-
-  pub fit_both : (hs ks H : List Mark) → AllFit hs H → AllFit ks (after hs H) → AllFit (hs ++ ks) H
-  fit_both [] ks H a b = b
-  fit_both (h ∷ hs) ks H a b = (a.0, fit_both hs ks (h ∷ H) a.1 b)
-
-  pub fit_either : (b : Bool) (hs ks H : List Mark) → (b ≡ true → AllFit hs H) → (b ≡ false → AllFit ks H) → AllFit (cond b hs ks) H
-  fit_either true hs ks H f k = f refl
-  fit_either false hs ks H f k = k refl
+  AllFit hs H = Each Fits hs H
 
   -- ---- mark by mark
 
@@ -125,7 +115,7 @@ module _ (g : Config) where
     unsent_fits = o.unsent_fits;
     views_fit = o.views_fit;
     groups_fit = All-append (λ x. length x ≤ GROUP_OCTETS) (groups H) group o.groups_fit f.0;
-    few_groups = omega (arith, f.1, append-length (groups H) group);
+    few_groups = omega (arith, f.1, length-append (groups H) (group ∷ []));
   }
   room-more (Leaves group) H q m f o = record {
     unsent_fits = o.unsent_fits;

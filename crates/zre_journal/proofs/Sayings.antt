@@ -1,13 +1,14 @@
--- What is said on a connection is within the limit of a message.
-use Rattle.std.proofs.Common.{◌≡◌, ℕ, ◌≤◌, List, [], ◌∷◌, length, map, Option, Some, None, Ok, Err, Result, refl, subst, arith, option_map}
+-- What is said on a connection: no message passes the limit, and no peer is the node itself.
+use Rattle.std.proofs.Common.{◌≡◌, ℕ, ◌≤◌, List, [], ◌∷◌, length, map, Option, Some, None, Ok, Err, Result, refl, subst, arith, option_map, ◌≢◌, Bool, true, false, inl, inr}
 use Rattle.std.specs.Prelude.{option_and_then}
 use Rattle.std.specs.Result.{result_ok}
 use Rattle.std.specs.List.{AllByRecursion, cons_option}
+use Rattle.std.proofs.lemmas.Slice.Eq.{bytes_eq-Decides}
+use Rattle.std.specs.Str.{bytes_eq}
 use Rattle.zre_values.specs.declared.limits.TheConstants.{MESSAGE_OCTETS}
 use Rattle.zre_values.specs.declared.peer_id.PeerId.{PeerId}
 use Rattle.zre_zmtp.specs.declared.item.Item.{Item}
 use Rattle.zre_zmtp.specs.declared.item.What.{What}
-use Rattle.zre_zmtp.specs.declared.item.What.TheVariants as says
 use Rattle.zre_zmtp.specs.declared.fault.ZmtpFault.{ZmtpFault}
 use Rattle.zre_zmtp.specs.declared.want.Want.TheVariants.{Dealer}
 use Rattle.zre_zmtp.specs.Stream.{Whole, items}
@@ -15,23 +16,24 @@ use Rattle.zre_msg.specs.declared.message.Bad.{Bad}
 use Rattle.zre_msg.specs.declared.message.Message.{Message}
 use Rattle.zre_msg.specs.Reading.{read_frames}
 use Rattle.zre_mailbox.specs.declared.arrival.Arrival.{Arrival}
-use Rattle.zre_mailbox.specs.declared.arrival.Arrival.TheVariants as arrival
-use Rattle.zre_mailbox.specs.Talk.{Said, Arrived, Fault, peer_of, arrival_of, arrivals_in, arrivals, fault_in, fault_said, talk}
+use Rattle.zre_mailbox.specs.Talk.{Said, Arrived, Fault, peer_of, arrival_of, arrivals_in, arrivals, fault_in, fault_said, talk, IsInOrder}
 use Rattle.zre_journal.specs.Chronicle.{Mark}
 use Rattle.zre_journal.specs.Heard.{bytes, newly_completed}
+use Rattle.zre_mailbox.proofs.InOrder.{in_order}
+use Rattle.zre_journal.specs.Connections.{identity}
+use Rattle.zre_zmtp.specs.declared.item.What.TheVariants as says
+use Rattle.zre_mailbox.specs.declared.arrival.Arrival.TheVariants as arrival
 use Rattle.zre_journal.proofs.Fields.{hello_octets, frames-short}
 use Rattle.zre_journal.proofs.Listed.{All-join, All-drop}
 use Rattle.zre_journal.proofs.Streams.{IsWithin, AreWithin, items-within}
+
+-- ---- messages
 
 -- no HELLO, or one whose name, endpoint and headers are within the limit of a message
 abbrev pub IsShortArrival : Arrival → Type 0
 IsShortArrival arrival.Greeted = Unit {0}
 IsShortArrival (arrival.Shaken p) = Unit {0}
 IsShortArrival (arrival.Message m) = hello_octets m.body ≤ MESSAGE_OCTETS
-
-abbrev pub IsShortSaid : Said → Type 0
-IsShortSaid (Arrived a) = IsShortArrival a
-IsShortSaid (Fault f) = Unit {0}
 
 is_shaken : (o : Option PeerId) (a : Arrival) → option_map (λ p. arrival.Shaken p) o ≡ Some a → IsShortArrival a
 is_shaken None a e = absurd cc
@@ -55,18 +57,53 @@ arrivals_short (i ∷ is) h = by (arrivals_short is h.1) (arrival_of i.what) (ar
     by r None f = r
     by r (Some a) f = (f a refl, r)
 
-said_short : (as_ : List Arrival) → AllByRecursion IsShortArrival as_ → AllByRecursion IsShortSaid (map (λ a. Arrived a) as_)
-said_short [] h = tt
-said_short (a ∷ as_) h = (h.0, said_short as_ h.1)
+-- ---- who is introduced
 
-fault_short : (f : Option ZmtpFault) → AllByRecursion IsShortSaid (fault_said f)
-fault_short None = tt
-fault_short (Some f) = (tt, tt)
+abbrev pub IsOtherArrival : PeerId → Arrival → Type 0
+IsOtherArrival own arrival.Greeted = Unit {0}
+IsOtherArrival own (arrival.Shaken p) = bytes_eq p.0 own.0 ≡ false
+IsOtherArrival own (arrival.Message m) = Unit {0}
 
-talk_short : (own : PeerId) (o : List ℕ) → AllByRecursion IsShortSaid (talk own o)
-talk_short own o =
-    All-join IsShortSaid (map (λ a. Arrived a) (arrivals own o)) (fault_said (fault_in own o))
-    (said_short (arrivals own o) (arrivals_short (items (Dealer own) Whole o) (items-within (Dealer own) Whole o))) (fault_short (fault_in own o))
+unlike : (xs ys : List ℕ) → xs ≢ ys → bytes_eq xs ys ≡ false
+unlike xs ys ne = by (bytes_eq xs ys) refl
+  where
+    by : (b : Bool) → bytes_eq xs ys ≡ b → b ≡ false
+    by false e = refl
+    by true e = absurd (ne ((bytes_eq-Decides xs ys).0 e))
 
-pub newly-short : (own : PeerId) (c : ℕ) (H K : List Mark) → AllByRecursion IsShortSaid (newly_completed own c H K)
-newly-short own c H K = All-drop IsShortSaid (length (talk own (bytes c H))) (talk own (bytes c K)) (talk_short own (bytes c K))
+messages_other : (own : PeerId) (ms : List Message) → AllByRecursion (IsOtherArrival own) (map (λ m. arrival.Message m) ms)
+messages_other own [] = tt
+messages_other own (m ∷ ms) = (tt, messages_other own ms)
+
+arrivals_other : (own : PeerId) (as_ : List Arrival) → IsInOrder own as_ → AllByRecursion (IsOtherArrival own) as_
+arrivals_other own as_ o =
+    elim o [
+      | inl e ↦ rw e tt
+      | inr r ↦ elim r [
+        | inl e ↦ rw e (tt, tt)
+        | inr i ↦ rw i.is (tt, (unlike i.peer.0 own.0 i.other, messages_other own i.messages))
+      ]
+    ]
+
+-- ---- both
+
+abbrev pub MaySay : PeerId → Said → Type 0
+MaySay own (Arrived a) = IsShortArrival a × IsOtherArrival own a
+MaySay own (Fault f) = Unit {0}
+
+said_fine : (own : PeerId) (as_ : List Arrival) → AllByRecursion IsShortArrival as_ → AllByRecursion (IsOtherArrival own) as_ → AllByRecursion (MaySay own) (map (λ a. Arrived a) as_)
+said_fine own [] h k = tt
+said_fine own (a ∷ as_) h k = ((h.0, k.0), said_fine own as_ h.1 k.1)
+
+fault_fine : (own : PeerId) (f : Option ZmtpFault) → AllByRecursion (MaySay own) (fault_said f)
+fault_fine own None = tt
+fault_fine own (Some f) = (tt, tt)
+
+talk_fine : (own : PeerId) (o : List ℕ) → AllByRecursion (MaySay own) (talk own o)
+talk_fine own o =
+    All-join (MaySay own) (map (λ a. Arrived a) (arrivals own o)) (fault_said (fault_in own o))
+    (said_fine own (arrivals own o) (arrivals_short (items (Dealer own) Whole o) (items-within (Dealer own) Whole o)) (arrivals_other own (arrivals own o) (in_order own o)))
+    (fault_fine own (fault_in own o))
+
+pub newly_fine : (own : PeerId) (c : ℕ) (H K : List Mark) → AllByRecursion (MaySay own) (newly_completed own c H K)
+newly_fine own c H K = All-drop (MaySay own) (length (talk own (bytes c H))) (talk own (bytes c K)) (talk_fine own (bytes c K))

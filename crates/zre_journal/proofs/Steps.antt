@@ -1,4 +1,4 @@
--- When each mark may come, and that a chronicle stays proper after marks that may.
+-- When each mark may come, that a chronicle stays proper after marks that may, and what each of many marks has.
 use Rattle.std.proofs.Common.{◌≡◌, ℕ, ◌+◌, ◌<◌, ◌≤◌, Bool, true, false, cond, eqb, List, [], ◌∷◌, ◌++◌, length, Some, None, IsSome, is_some, refl, sym, arith, subst}
 use Rattle.zre_values.specs.declared.peer_id.PeerId.{PeerId}
 use Rattle.zre_values.specs.declared.limits.TheConstants.{PEERS, CONNECTIONS}
@@ -12,7 +12,8 @@ use Rattle.zre_journal.specs.Connections.{open_ones, is_open, is_new, identity, 
 use Rattle.zre_journal.specs.Peers.{Life, lives, life_of, life, births, runner, counted}
 use Rattle.zre_journal.specs.Proper.{IsProper}
 use Rattle.zre_journal.proofs.Listed.{some_is}
-use Rattle.zre_journal.proofs.Kept.{known_lives, Comes-proper, Opens-proper, TurnsAway-proper, Greets-proper, Shakes-proper, Starts-proper, Counts-proper, Ignores-proper, Closes-proper, IsShut-proper, ClosesAtStop-proper, born-proper, HearsBeacon-proper, Ends-proper, IsEvasive-proper, Puts-proper, Links-proper, Sends-proper, Joins-proper, Leaves-proper, Refuses-proper, SendsBeacon-proper, Stops-proper}
+use Rattle.zre_journal.proofs.Kept.{Opens-proper, TurnsAway-proper, Shakes-proper, Starts-proper, Counts-proper, Ignores-proper, Closes-proper, IsShut-proper, ClosesAtStop-proper, born-proper, Ends-proper}
+use Rattle.zre_journal.proofs.Silent.{known_lives, Comes-proper, Greets-proper, HearsBeacon-proper, IsEvasive-proper, Puts-proper, Links-proper, Sends-proper, Joins-proper, Leaves-proper, Refuses-proper, SendsBeacon-proper, Stops-proper}
 
 -- an open connection that has started nothing begins to run a known peer that nothing has run, its own, by a first message
 pub record MayStart (c l : ℕ) (m : Message) (H : List Mark) : Type 0 where
@@ -65,10 +66,31 @@ May (Links l) H = IsSome (life l H)
 May (Sends l n) H = IsSome (life l H)
 May _ H = Unit {0}
 
+-- ---- each of many
+
+-- each of these marks has P after those before it
+abbrev pub Each : (Mark → List Mark → Type 0) → List Mark → List Mark → Type 0
+Each P [] H = Unit {0}
+Each P (h ∷ hs) H = P h H × Each P hs (h ∷ H)
+
+pub both : (P : Mark → List Mark → Type 0) (hs ks H : List Mark) → Each P hs H → Each P ks (after hs H) → Each P (hs ++ ks) H
+both P [] ks H a b = b
+both P (h ∷ hs) ks H a b = (a.0, both P hs ks (h ∷ H) a.1 b)
+
+pub each_map : (P Q : Mark → List Mark → Type 0) → ((h : Mark) (H : List Mark) → P h H → Q h H) → (hs H : List Mark) → Each P hs H → Each Q hs H
+each_map P Q f [] H a = tt
+each_map P Q f (h ∷ hs) H a = (f h H a.0, each_map P Q f hs (h ∷ H) a.1)
+
+-- what marks of either choice have
+pub choice : (P : List Mark → Type 0) (b : Bool) (hs ks : List Mark) → (b ≡ true → P hs) → (b ≡ false → P ks) → P (cond b hs ks)
+choice P true hs ks f g = f refl
+choice P false hs ks f g = g refl
+
 -- whether marks may come after H, each after those before it
 abbrev pub Allowed : List Mark → List Mark → Type 0
-Allowed [] H = Unit {0}
-Allowed (h ∷ hs) H = May h H × Allowed hs (h ∷ H)
+Allowed hs H = Each May hs H
+
+-- ---- what stays proper
 
 -- the number of a known peer is that of a birth
 low : (H : List Mark) → IsProper H → (l : ℕ) → IsSome (life l H) → l ≤ births H
@@ -109,12 +131,3 @@ step Stops H p m = Stops-proper H p
 pub steps : (hs H : List Mark) → IsProper H → Allowed hs H → IsProper (after hs H)
 steps [] H p a = p
 steps (h ∷ hs) H p a = steps hs (h ∷ H) (step h H p a.0) a.1
-
-pub in_both : (hs ks H : List Mark) → Allowed hs H → Allowed ks (after hs H) → Allowed (hs ++ ks) H
-in_both [] ks H a b = b
-in_both (h ∷ hs) ks H a b = (a.0, in_both hs ks (h ∷ H) a.1 b)
-
--- those of a choice
-pub either : (b : Bool) (hs ks H : List Mark) → (b ≡ true → Allowed hs H) → (b ≡ false → Allowed ks H) → Allowed (cond b hs ks) H
-either true hs ks H f g = f refl
-either false hs ks H f g = g refl

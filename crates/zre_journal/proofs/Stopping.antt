@@ -14,8 +14,8 @@ use Rattle.zre_journal.specs.Peers.{Life, lives}
 use Rattle.zre_journal.specs.Happens.{at_input}
 use Rattle.zre_journal.specs.Commands.{at_stop}
 use Rattle.zre_journal.proofs.Joined.{after-append}
-use Rattle.zre_journal.proofs.Known.{end_all}
-use Rattle.zre_journal.proofs.Listed.{All-map}
+use Rattle.zre_journal.proofs.Known.{end_all, ends_keep, ends_open}
+use Rattle.zre_journal.proofs.Listed.{All-map, further}
 use Rattle.zre_journal.proofs.Room.{HasRoom}
 
 -- what comes about at an entry that stops the node
@@ -54,10 +54,6 @@ all_among {A} key (x ∷ xs) = (
   let me : eqb (key x) (key x) ≡ true = eq-eqb (key x) (key x) refl in rw me refl,
   All-map (λ (y : A). list_any (λ n. eqb n (key y)) (map key xs) ≡ true) (λ (y : A). list_any (λ n. eqb n (key y)) (map key (x ∷ xs)) ≡ true) (λ y h. further (eqb (key x) (key y)) (list_any (λ n. eqb n (key y)) (map key xs)) h) xs (all_among key xs),
 )
-  where
-    further : (b c : Bool) → c ≡ true → (b || c) ≡ true
-    further true c h = refl
-    further false c h = h
 
 map_same : (xs : List ℕ) → map (λ x. x) xs ≡ xs
 map_same [] = refl
@@ -68,10 +64,6 @@ map_same (x ∷ xs) = ap (λ ys. x ∷ ys) (map_same xs)
 ends_lives : (why : Cause) (vs : List Life) (H : List Mark) → lives (after (end_all why vs) H) ≡ cleared (λ (v : Life). v.link) (map (λ (v : Life). v.link) vs) (lives H)
 ends_lives why [] H = refl
 ends_lives why (v ∷ vs) H = ends_lives why vs (Ends v.link why ∷ H)
-
-ends_open : (why : Cause) (vs : List Life) (H : List Mark) → open_ones (after (end_all why vs) H) ≡ open_ones H
-ends_open why [] H = refl
-ends_open why (v ∷ vs) H = ends_open why vs (Ends v.link why ∷ H)
 
 abbrev drop_all : List ℕ → List Mark
 drop_all cs = map (λ c. ClosesAtStop c) cs
@@ -109,8 +101,7 @@ module _ (g : Config) (H : List Mark) where
 -- ---- what is kept within limits stays so
 
 room_ends : (g : Config) (why : Cause) (vs : List Life) (H : List Mark) → HasRoom g H → HasRoom g (after (end_all why vs) H)
-room_ends g why [] H o = o
-room_ends g why (v ∷ vs) H o = room_ends g why vs (Ends v.link why ∷ H) (record { unsent_fits = o.unsent_fits; views_fit = o.views_fit; groups_fit = o.groups_fit; few_groups = o.few_groups })
+room_ends g = ends_keep (HasRoom g) (λ l why H o. record { unsent_fits = o.unsent_fits; views_fit = o.views_fit; groups_fit = o.groups_fit; few_groups = o.few_groups })
 
 room_drops : (g : Config) (cs : List ℕ) (H : List Mark) → HasRoom g H → HasRoom g (after (drop_all cs) H)
 room_drops g [] H o = o

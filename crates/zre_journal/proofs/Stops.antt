@@ -10,12 +10,12 @@ use Rattle.zre_journal.specs.Chronicle.{Mark, Comes, after}
 use Rattle.zre_journal.specs.Events.{chronicle}
 use Rattle.zre_journal.specs.Happens.{has_stopped, at_input, with_entry, chronicle_after}
 use Rattle.zre_journal.specs.Proper.{IsProper}
-use Rattle.zre_journal.proofs.Always.{empty, input_allowed}
+use Rattle.zre_journal.proofs.Always.{empty}
 use Rattle.zre_journal.proofs.Faultless.{still_going}
-use Rattle.zre_journal.proofs.Fitting.{input-fits}
-use Rattle.zre_journal.proofs.Kept.{Comes-proper}
 use Rattle.zre_journal.proofs.Room.{HasRoom, AllFit, room-after, room-empty}
 use Rattle.zre_journal.proofs.Steps.{Allowed, steps}
+use Rattle.zre_journal.proofs.Says.{input_allowed, input_fits}
+use Rattle.zre_journal.proofs.Silent.{Comes-proper}
 
 module _ (g : Config) (can : CanBe g) where
   -- an entry that doesn't stop it leaves it going
@@ -36,7 +36,7 @@ module _ (g : Config) (can : CanBe g) where
     allowed = input_allowed g e.input H M come
 
     fit : AllFit g hs M
-    fit = input-fits g can e.input H M on come spacious
+    fit = input_fits g e.input H M come can on spacious
 
     whole : with_entry g e H ≡ after hs M
     whole = ap (λ b. after (cond b [] hs) M) going

@@ -1,5 +1,5 @@
 -- What a node says of itself on a link: true, where it was, after a birth, after marks that say nothing of it, and after a group is joined or left.
-use Rattle.std.proofs.Common.{◌≡◌, ℕ, ◌+◌, Bool, true, false, true≢false, cond, not, ◌&&◌, ◌||◌, eqb, ltb, List, [], ◌∷◌, ◌++◌, map, Option, Some, None, IsSome, find, refl, sym, ap, ◌∙◌, subst, arith, eqb-true, ne_eqb, inl, inr, append_assoc, append-nil}
+use Rattle.std.proofs.Common.{◌≡◌, ℕ, ◌+◌, Bool, true, false, true≢false, cond, not, ◌&&◌, ◌||◌, eqb, List, [], ◌∷◌, ◌++◌, Some, None, IsSome, find, refl, sym, ap, ◌∙◌, subst, arith, eqb-true, ne_eqb, inl, inr, append_assoc, append-nil}
 use Rattle.std.specs.Prelude.{◌⊎◌}
 use Rattle.std.proofs.lemmas.List.Sums.{fold-append}
 use Rattle.std.proofs.lemmas.Slice.Eq.{bytes_eq-Decides}
@@ -8,36 +8,31 @@ use Rattle.std.specs.Str.{bytes_eq}
 use Rattle.zre_values.specs.Lists.{without}
 use Rattle.zre_values.specs.declared.peer_id.PeerId.{PeerId}
 use Rattle.zre_values.specs.declared.endpoint.Endpoint.{Endpoint}
-use Rattle.zre_values.specs.declared.limits.TheConstants.{UNSENT_OCTETS}
-use Rattle.zre_link.specs.Text.{size_of, numbered_from}
-use Rattle.zre_outside.specs.declared.entry.Entry.{Entry}
+use Rattle.zre_link.specs.Text.{numbered_from}
 use Rattle.zre_msg.specs.declared.message.Body.{Body}
-use Rattle.zre_msg.specs.declared.message.Body.TheVariants as body
 use Rattle.zre_peer.specs.Members.{with_group, distinct, first_named}
 use Rattle.zre_peer.specs.Runs.{is_hello}
 use Rattle.zre_peer.specs.Views.{blank}
 use Rattle.zre_peer.specs.Views.{after as reading}
 use Rattle.zre_peer.specs.declared.view.View.{View}
 use Rattle.zre_peer.specs.declared.causes.Cause.{Cause}
-use Rattle.zre_peer.specs.declared.causes.Cause.TheVariants as cause
-use Rattle.zre_peer.specs.declared.causes.CloseWhy.{CloseWhy}
 use Rattle.zre_journal.specs.declared.config.Config.{Config}
-use Rattle.zre_journal.specs.Chronicle.{Mark, Comes, Closes, ClosesAtStop, Born, Ends, IsEvasive, Puts, Joins, Leaves, after, followed}
+use Rattle.zre_journal.specs.Chronicle.{Mark, Comes, Born, Ends, Puts, Joins, Leaves, after, followed}
 use Rattle.zre_journal.specs.Config.{own_endpoint}
 use Rattle.zre_journal.specs.Peers.{Life, lives, life, births}
-use Rattle.zre_journal.specs.Links.{groups, status, bodies, unsent}
+use Rattle.zre_journal.specs.Links.{groups, status, bodies}
 use Rattle.zre_journal.specs.Proper.{IsProper, Apart}
 use Rattle.zre_journal.specs.Pushes.{hello, push, push_all, birth}
-use Rattle.zre_journal.specs.Arrivals.{end_of_run}
-use Rattle.zre_journal.specs.Ticks.{probe}
 use Rattle.zre_journal.specs.Commands.{has_group}
 use Rattle.zre_journal.specs.Truth.{own_view, only_begins_with_hello}
 use Rattle.zre_journal.proofs.Few.{AtEnd, Front, Back, at_end}
 use Rattle.zre_journal.proofs.Joined.{after-append}
-use Rattle.zre_journal.proofs.Kept.{known_lives}
-use Rattle.zre_journal.proofs.Known.{end_all, life_stays}
-use Rattle.zre_journal.proofs.Listed.{eqb-comm, some_is, All-join}
+use Rattle.zre_journal.proofs.Known.{life_stays}
+use Rattle.zre_journal.proofs.Listed.{eqb-comm, some_is}
 use Rattle.zre_journal.proofs.Standing.{none_left}
+use Rattle.zre_journal.proofs.Silent.{known_lives}
+use Rattle.zre_journal.proofs.Brought.{Plain, ArePlain}
+use Rattle.zre_journal.proofs.Brings.{pushed}
 
 -- ---- groups, each once
 
@@ -127,11 +122,6 @@ still_begins : (bs : List Body) (b : Body) → is_hello b ≡ false → only_beg
 still_begins [] b n e = cc
 still_begins (x ∷ bs) b n e = ap (λ t. is_hello x && not t) (none_of bs b n) ∙ e
 
--- a body that tells nothing of the node
-pub record IsMild (b : Body) : Type 0 where
-  pub leaves : (v : View) → reading v b ≡ v
-  pub later : is_hello b ≡ false
-
 -- ---- after each entry
 
 module _ (g : Config) where
@@ -139,18 +129,6 @@ module _ (g : Config) where
     pub once : Once (groups H)
     pub first : (l : ℕ) → IsSome (life l H) → only_begins_with_hello (bodies l H) ≡ true
     pub true_ : (l : ℕ) → IsSome (life l H) → told (bodies l H) ≡ own_view g H
-
-  -- a mark that leaves what is told as it is
-  abbrev pub Plain : Mark → Type 0
-  Plain (Comes e) = ⊥
-  Plain (Joins group) = ⊥
-  Plain (Leaves group) = ⊥
-  Plain (Born l p to) = ⊥
-  Plain (Puts l b) = IsMild b
-  Plain _ = Unit {0}
-
-  abbrev pub ArePlain : List Mark → Type 0
-  ArePlain hs = AllByRecursion Plain hs
 
   known_before : (l k : ℕ) (why : Cause) (H : List Mark) → IsSome (life k (Ends l why ∷ H)) → (eqb l k ≡ false) × IsSome (life k H)
   known_before l k why H s = by (eqb l k) refl
@@ -179,18 +157,6 @@ module _ (g : Config) where
   pub plain_steps : (hs H : List Mark) → ArePlain hs → Truth H → Truth (after hs H)
   plain_steps [] H p t = t
   plain_steps (h ∷ hs) H p t = plain_steps hs (h ∷ H) p.1 (plain_step h H p.0 t)
-
-  pub plain_either : (b : Bool) (hs ks : List Mark) → ArePlain hs → ArePlain ks → ArePlain (cond b hs ks)
-  plain_either true hs ks x y = x
-  plain_either false hs ks x y = y
-
-  pub comes : (e : Entry) (H : List Mark) → Truth H → Truth (Comes e ∷ H)
-  comes e H t = record { once = t.once; first = t.first; true_ = t.true_ }
-
-  -- those of a choice
-  pub choice : (b : Bool) (hs ks H : List Mark) → (b ≡ true → Truth (after hs H)) → (b ≡ false → Truth (after ks H)) → Truth (after (cond b hs ks) H)
-  choice true hs ks H f k = f refl
-  choice false hs ks H f k = k refl
 
   -- ---- a birth
 
@@ -225,40 +191,6 @@ module _ (g : Config) where
           own_with : List (List ℕ) → View
           own_with gs = record { name = g.name; endpoint = own_endpoint g; headers = first_named g.headers; groups = gs; status = status K }
 
-  -- ---- pushes of mild bodies, ends and closings
-
-  pub push_plain : (l : ℕ) (b : Body) (I : List Mark) → IsMild b → ArePlain (push g l b I)
-  push_plain l b I m = plain_either (ltb UNSENT_OCTETS (unsent g l I + size_of (bodies l I) b)) (Ends l (cause.Slow (unsent g l I) (size_of (bodies l I) b)) ∷ []) (Puts l b ∷ []) (tt, tt) (m, tt)
-
-  pub pushes_plain : (b : Body) → IsMild b → (vs : List Life) (I : List Mark) → ArePlain (push_all g vs b I)
-  pushes_plain b m [] I = tt
-  pushes_plain b m (v ∷ vs) I = let p = push g v.link b I in All-join Plain p (push_all g vs b (after p I)) (push_plain v.link b I m) (pushes_plain b m vs (after p I))
-
-  ping : IsMild body.Ping
-  ping = record { leaves = λ v. refl; later = refl }
-
-  pub probes_plain : (vs : List Life) (I : List Mark) → ArePlain (probe g vs I)
-  probes_plain [] I = tt
-  probes_plain (v ∷ vs) I =
-      let p = push g v.link body.Ping I in
-      (tt, All-join Plain p (probe g vs (after p (IsEvasive v.link ∷ I))) (push_plain v.link body.Ping I ping) (probes_plain vs (after p (IsEvasive v.link ∷ I))))
-
-  pub ends_plain : (why : Cause) (vs : List Life) → ArePlain (end_all why vs)
-  ends_plain why [] = tt
-  ends_plain why (v ∷ vs) = (tt, ends_plain why vs)
-
-  pub closes_plain : (why : CloseWhy) (cs : List ℕ) → ArePlain (map (λ c. Closes c why) cs)
-  closes_plain why [] = tt
-  closes_plain why (c ∷ cs) = (tt, closes_plain why cs)
-
-  pub drops_plain : (cs : List ℕ) → ArePlain (map (λ c. ClosesAtStop c) cs)
-  drops_plain [] = tt
-  drops_plain (c ∷ cs) = (tt, drops_plain cs)
-
-  pub run_plain : (o : Option ℕ) (why : Cause) (h : Mark) → Plain h → ArePlain (end_of_run g o why ++ h ∷ [])
-  run_plain None why h p = (p, tt)
-  run_plain (Some l) why h p = (tt, (p, tt))
-
   -- ---- the node joins or leaves a group
 
   -- a body turns one view into another, and is put on the link of each of these
@@ -273,17 +205,14 @@ module _ (g : Config) where
     not_among l (v ∷ vs) h = rw h.0 (not_among l vs h.1)
 
     one_stage : (v : Life) (vs : List Life) (I H : List Mark) → AllByRecursion (λ (u : Life). eqb v.link u.link ≡ false) vs → Stage (v ∷ vs) H → Stage vs (after (push g v.link b I) H)
-    one_stage v vs I H far s = by (ltb UNSENT_OCTETS (unsent g v.link I + size_of (bodies v.link I) b))
+    one_stage v vs I H far s = pushed g (Stage vs) v.link b I H ended put
       where
-        why : Cause
-        why = cause.Slow (unsent g v.link I) (size_of (bodies v.link I) b)
-
         -- another is among these as it was
         other : (l : ℕ) (t : Bool) → eqb l v.link ≡ false → list_any (λ (u : Life). eqb l u.link) vs ≡ t → list_any (λ (u : Life). eqb l u.link) (v ∷ vs) ≡ t
         other l t e a = rw e a
 
-        ended : Stage vs (Ends v.link why ∷ H)
-        ended = record {
+        ended : (why : Cause) → Stage vs (Ends v.link why ∷ H)
+        ended why = record {
           begins = λ l k. s.begins l (known_before v.link l why H k).1;
           due = λ l k a. let w = known_before v.link l why H k in s.due l w.1 (other l true (eqb-comm l v.link ∙ w.0) a);
           done = λ l k a. let w = known_before v.link l why H k in s.done l w.1 (other l false (eqb-comm l v.link ∙ w.0) a);
@@ -308,10 +237,6 @@ module _ (g : Config) where
             done l k a true e = told_more (bodies l H) b ∙ ap (λ w. reading w b) (s.due l k (ap (λ c. c || list_any (λ (u : Life). eqb l u.link) vs) e)) ∙ turns
             done l k a false e = s.done l k (other l false e a)
 
-        by : (t : Bool) → Stage vs (after (cond t (Ends v.link why ∷ []) (Puts v.link b ∷ [])) H)
-        by true = ended
-        by false = put
-
     all_stages : (vs : List Life) (I H : List Mark) → Apart (λ (v : Life). v.link) vs → Stage vs H → Stage [] (after (push_all g vs b I) H)
     all_stages [] I H a s = s
     all_stages (v ∷ vs) I H a s =
@@ -320,11 +245,7 @@ module _ (g : Config) where
 
   -- pushes leave the groups and the status
   push_groups : (l : ℕ) (b : Body) (I H : List Mark) → (groups (after (push g l b I) H) ≡ groups H) × (status (after (push g l b I) H) ≡ status H)
-  push_groups l b I H = by (ltb UNSENT_OCTETS (unsent g l I + size_of (bodies l I) b))
-    where
-      by : (t : Bool) → let hs = cond t (Ends l (cause.Slow (unsent g l I) (size_of (bodies l I) b)) ∷ []) (Puts l b ∷ []) in (groups (after hs H) ≡ groups H) × (status (after hs H) ≡ status H)
-      by true = (refl, refl)
-      by false = (refl, refl)
+  push_groups l b I H = pushed g (λ J. (groups J ≡ groups H) × (status J ≡ status H)) l b I H (λ why. (refl, refl)) (refl, refl)
 
   pushes_groups : (b : Body) (vs : List Life) (I H : List Mark) → (groups (after (push_all g vs b I) H) ≡ groups H) × (status (after (push_all g vs b I) H) ≡ status H)
   pushes_groups b [] I H = (refl, refl)

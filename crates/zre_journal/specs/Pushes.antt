@@ -1,5 +1,5 @@
 -- What is put on the links of the peers (RFC 36, the messages HELLO and JOIN to SHOUT).
-use Rattle.std.specs.Prelude.{ℕ, ◌+◌, ◌-◌, List, [], ◌∷◌, if◌then◌else◌, nat_lt}
+use Rattle.std.specs.Prelude.{ℕ, ◌+◌, List, [], ◌∷◌, if◌then◌else◌, nat_lt}
 use Rattle.zre_values.specs.declared.peer_id.PeerId.{PeerId}
 use Rattle.zre_values.specs.declared.endpoint.Endpoint.{Endpoint}
 use Rattle.zre_values.specs.declared.limits.TheConstants.{UNSENT_OCTETS}

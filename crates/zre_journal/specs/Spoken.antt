@@ -37,7 +37,6 @@ in_after p b _ = b
 abbrev pub is_in : PeerId → List Event → Bool
 is_in p es = fold (in_after p) false es
 
-
 -- whether p is known, and entered
 abbrev pub has_entered : PeerId → List Mark → Bool
 has_entered p H = option_map_or (is_entered H) (life_of p H) false

@@ -1,6 +1,6 @@
 -- What comes about at a tick of the clock: peers expire or turn evasive, connections that run no peer are closed, and
 -- a beacon is sent.
-use Rattle.std.specs.Prelude.{ℕ, ◌+◌, ◌-◌, Bool, not, ◌&&◌, List, [], ◌∷◌, ◌++◌, nat_le, map, is_none}
+use Rattle.std.specs.Prelude.{ℕ, ◌-◌, Bool, not, ◌&&◌, List, [], ◌∷◌, ◌++◌, nat_le, map, is_none}
 use Rattle.std.specs.List.{filter}
 use Rattle.zre_msg.specs.declared.message.Body.TheVariants as body
 use Rattle.zre_peer.specs.declared.causes.Cause.TheVariants as cause
