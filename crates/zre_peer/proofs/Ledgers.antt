@@ -6,16 +6,16 @@ use Rattle.std.proofs.lemmas.Option.{slice_get_within, get_or_from_slice_get}
 use Rattle.std.specs.List.{range_with_len}
 use Rattle.zre_msg.specs.declared.message.Message.{Message}
 use Rattle.zre_peer.specs.declared.peer_run.RunFault.TheVariants as faults
-use Rattle.zre_peer.specs.Ledger.{IsNumbered, IsPicked, IsNear, ArePicked, Follows}
+use Rattle.zre_peer.specs.Ledger.{IsNumbered, IsPicked, IsNear, ArePicked, AreNear, Follows}
 use Rattle.zre_peer.specs.Runs.{due, fault_of, is_hello, may_follow, in_order_after}
 use Rattle.zre_peer.specs.Views.{view_of, is_small}
 
 -- two places fewer than 65536 apart have different numbers
-apart : (p q : ℕ) → p ≢ q → p < q + 65536 → q < p + 65536 → p % 65536 ≢ q % 65536
+pub apart : (p q : ℕ) → p ≢ q → p < q + 65536 → q < p + 65536 → p % 65536 ≢ q % 65536
 apart p q ne l m e = ne (omega (arith, l, m, e))
 
 -- what a message says by its place
-number_at : (sent : List Message) (pick : ℕ) (m : Message) → IsNumbered sent → IsPicked sent pick m → (is_hello m.body ≡ eqb pick 1) × (m.sequence ≡ pick % 65536)
+pub number_at : (sent : List Message) (pick : ℕ) (m : Message) → IsNumbered sent → IsPicked sent pick m → (is_hello m.body ≡ eqb pick 1) × (m.sequence ≡ pick % 65536)
 number_at sent pick m numbered p =
     let said = numbered (pick - 1) m p.is_there in
     let place : pick - 1 + 1 ≡ pick = omega (arith, p.some) in
@@ -48,7 +48,7 @@ first_follows pick m hello number = by (eqb pick 1) refl
     }
 
 -- as a later one
-later_follows : (d : Message) (ds : List Message) (pick : ℕ) (m : Message) → is_hello m.body ≡ eqb pick 1 → m.sequence ≡ pick % 65536 → IsNear (length (d ∷ ds) + 1) pick → Follows (d ∷ ds) pick m
+later_follows : (d : Message) (ds : List Message) (pick : ℕ) (m : Message) → is_hello m.body ≡ eqb pick 1 → m.sequence ≡ pick % 65536 → IsNear (length (d ∷ ds)) pick → Follows (d ∷ ds) pick m
 later_follows d ds pick m hello number near = by (eqb pick 1) refl (eqb pick (length (d ∷ ds) + 1)) refl
   where
     next : ℕ
@@ -94,9 +94,9 @@ later_follows d ds pick m hello number near = by (eqb pick 1) refl (eqb pick (le
           next = λ z. absurd (ne z);
         }
 
-pub follows : (sent ms : List Message) (pick : ℕ) (m : Message) → IsNumbered sent → IsPicked sent pick m → IsNear (length ms + 1) pick → Follows ms pick m
+pub follows : (sent ms : List Message) (pick : ℕ) (m : Message) → IsNumbered sent → IsPicked sent pick m → (0 < length ms → IsNear (length ms) pick) → Follows ms pick m
 follows sent [] pick m numbered p near = let n = number_at sent pick m numbered p in first_follows pick m n.0 n.1
-follows sent (d ∷ ds) pick m numbered p near = let n = number_at sent pick m numbered p in later_follows d ds pick m n.0 n.1 near
+follows sent (d ∷ ds) pick m numbered p near = let n = number_at sent pick m numbered p in later_follows d ds pick m n.0 n.1 (near (omega arith))
 
 -- what is left of a list, with the message at a place
 left_at : (sent : List Message) (n pick : ℕ) (m : Message) → pick ≡ n + 1 → IsPicked sent pick m → drop n sent ≡ m ∷ drop (n + 1) sent
@@ -105,18 +105,17 @@ left_at sent n pick m is p =
     drop_more sent n m (slice_get_within sent n m at) ∙ ap (λ x. x ∷ drop (n + 1) sent) (get_or_from_slice_get sent n m m at)
 
 -- messages in order are the next ones of the list
-pub in_turn : (sent done : List Message) (n : ℕ) (picks : List ℕ) (ms : List Message) → length done ≡ n → IsNumbered sent → ArePicked sent n picks ms → in_order_after done ms ≡ true
-    → (picks ≡ range_with_len (n + 1) (length ms)) × (take (length ms) (drop n sent) ≡ ms)
-in_turn sent done n [] [] len numbered p o = (refl, refl)
-in_turn sent done n [] (m ∷ ms) len numbered p o = absurd p
-in_turn sent done n (pick ∷ picks) [] len numbered p o = absurd p
-in_turn sent done n (pick ∷ picks) (m ∷ ms) len numbered p o =
+pub in_turn : (sent done : List Message) (n : ℕ) (picks : List ℕ) (ms : List Message) → length done ≡ n → IsNumbered sent → ArePicked sent picks ms → AreNear n (take (length ms) picks) → in_order_after done ms ≡ true
+    → (take (length ms) picks ≡ range_with_len (n + 1) (length ms)) × (take (length ms) (drop n sent) ≡ ms)
+in_turn sent done n picks [] len numbered p near o = (refl, refl)
+in_turn sent done n [] (m ∷ ms) len numbered p near o = absurd p
+in_turn sent done n (pick ∷ picks) (m ∷ ms) len numbered p near o =
     let order = and_parts (may_follow done m) (in_order_after (done ++ m ∷ []) ms) o in
-    let it = follows sent done pick m numbered p.0 (subst (λ k. IsNear (k + 1) pick) (sym len) p.1) in
+    let it = follows sent done pick m numbered p.0 (subst (λ k. 0 < k → IsNear k pick) (sym len) near.0) in
     let next = and_parts (eqb pick (length done + 1)) (is_small (view_of (done ++ m ∷ []))) (sym it.taken ∙ order.0) in
     let is : pick ≡ n + 1 = eqb-true pick (length done + 1) next.0 ∙ ap (λ k. k + 1) len in
     let more : length (done ++ m ∷ []) ≡ n + 1 = length-append done (m ∷ []) ∙ ap (λ k. k + 1) len in
-    let rest = in_turn sent (done ++ m ∷ []) (n + 1) picks ms more numbered p.2 order.1 in (
-      ap (λ k. k ∷ picks) is ∙ ap (λ ks. (n + 1) ∷ ks) rest.0,
+    let rest = in_turn sent (done ++ m ∷ []) (n + 1) picks ms more numbered p.1 near.1 order.1 in (
+      ap (λ k. k ∷ take (length ms) picks) is ∙ ap (λ ks. (n + 1) ∷ ks) rest.0,
       ap (take (length (m ∷ ms))) (left_at sent n pick m is p.0) ∙ ap (λ xs. m ∷ xs) rest.1,
     )

@@ -17,17 +17,21 @@ pub record IsPicked (sent : List Message) (pick : ℕ) (m : Message) : Type 0 wh
   pub some : 1 ≤ pick
   pub is_there : slice_get sent (pick - 1) ≡ Some m
 
--- fewer than 65536 places from the one that is due, before it or after it
-pub record IsNear (due pick : ℕ) : Type 0 where
-  pub before : due < pick + 65536
-  pub after : pick < due + 65536
+-- fewer than 65536 places from place n + 1, before it or after it
+pub record IsNear (n pick : ℕ) : Type 0 where
+  pub before : n + 1 < pick + 65536
+  pub after : pick < n + 1 + 65536
 
--- messages that came one after another, after n others, are those at these places, each near the one that is due
-abbrev pub ArePicked : List Message → ℕ → List ℕ → List Message → Type 0
-ArePicked sent n [] [] = Unit {0}
-ArePicked sent n (pick ∷ picks) (m ∷ ms) = IsPicked sent pick m × IsNear (n + 1) pick × ArePicked sent (n + 1) picks ms
-ArePicked sent n [] (m ∷ ms) = ⊥
-ArePicked sent n (pick ∷ picks) [] = ⊥
+-- messages that came one after another, after n others, are those at the first of these places
+abbrev pub ArePicked : List Message → List ℕ → List Message → Type 0
+ArePicked sent picks [] = Unit {0}
+ArePicked sent [] (m ∷ ms) = ⊥
+ArePicked sent (pick ∷ picks) (m ∷ ms) = IsPicked sent pick m × ArePicked sent picks ms
+
+-- after n others each comes near the one that is due; a first one may come from anywhere, since HELLO is known as such
+abbrev pub AreNear : ℕ → List ℕ → Type 0
+AreNear n [] = Unit {0}
+AreNear n (pick ∷ picks) = (0 < n → IsNear n pick) × AreNear (n + 1) picks
 
 -- why one that isn't the next is refused after these
 abbrev pub fault_of_another : List Message → ℕ → RunFault
