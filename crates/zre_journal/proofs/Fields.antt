@@ -113,19 +113,21 @@ hello_short o x e =
     hello_is o x (Hello a.0.0 b.0.0 c.0.0 d.0.0 f.0.0, f.0.1) f.2
     (omega (arith, string_shorter o a.0 a.1, strings_shorter a.0.1 b.0 b.1, octet_shorter b.0.1 c.0 c.1, string_shorter c.0.1 d.0 d.1, dictionary_shorter d.0.1 f.0 f.1))
 
+-- a group and a status
+change_short : (of : List ℕ → ℕ → Body) → ((group : List ℕ) (status : ℕ) → hello_octets (of group status) ≡ 0) → (o : List ℕ) (x : Body × List ℕ)
+    → (string_at o >>= λ group. octet_at group.1 >>= λ status. Some (of group.0 status.0, status.1)) ≡ Some x → IsShort o x
+change_short of none o x e =
+    let a = bind_some (string_at o) (λ group. octet_at group.1 >>= λ status. Some (of group.0 status.0, status.1)) x e in
+    let b = bind_some (octet_at a.0.1) (λ status. Some (of a.0.0 status.0, status.1)) x a.2 in
+    other_short o x (of a.0.0 b.0.0, b.0.1) (none a.0.0 b.0.0) b.2
+
 join_short : (o : List ℕ) (x : Body × List ℕ) → join_at o ≡ Some x → IsShort o x
 unfolding join_at
-join_short o x e =
-    let a = bind_some (string_at o) (λ group. octet_at group.1 >>= λ status. Some (Join group.0 status.0, status.1)) x e in
-    let b = bind_some (octet_at a.0.1) (λ status. Some (Join a.0.0 status.0, status.1)) x a.2 in
-    other_short o x (Join a.0.0 b.0.0, b.0.1) refl b.2
+join_short o x e = change_short Join (λ group status. refl) o x e
 
 leave_short : (o : List ℕ) (x : Body × List ℕ) → leave_at o ≡ Some x → IsShort o x
 unfolding leave_at
-leave_short o x e =
-    let a = bind_some (string_at o) (λ group. octet_at group.1 >>= λ status. Some (Leave group.0 status.0, status.1)) x e in
-    let b = bind_some (octet_at a.0.1) (λ status. Some (Leave a.0.0 status.0, status.1)) x a.2 in
-    other_short o x (Leave a.0.0 b.0.0, b.0.1) refl b.2
+leave_short o x e = change_short Leave (λ group status. refl) o x e
 
 shout_short : (o : List ℕ) (more : List (List ℕ)) (x : Body × List ℕ) → shout_at more o ≡ Some x → IsShort o x
 unfolding shout_at

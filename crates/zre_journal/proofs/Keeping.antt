@@ -1,5 +1,5 @@
 -- The chronicle of every journal keeps it.
-use Rattle.std.proofs.Common.{◌≡◌, ℕ, Bool, true, false, cond, eqb, List, [], ◌∷◌, ◌++◌, refl, sym, ap, ◌∙◌, arith, eq-eqb, append_assoc, append-nil}
+use Rattle.std.proofs.Common.{◌≡◌, ℕ, Bool, true, false, cond, List, [], ◌∷◌, ◌++◌, refl, sym, ap, ◌∙◌, arith, eq-eqb, append_assoc, append-nil}
 use Rattle.std.specs.Prelude.{max}
 use Rattle.zre_outside.specs.declared.entry.Entry.{Entry}
 use Rattle.zre_outside.specs.declared.entry.Input.{Input}
@@ -51,38 +51,42 @@ still t (x ∷ later) before h e = by (t x) (still t later before h e)
     by true r = refl
     by false r = r
 
-no_octets : (c : ℕ) (H : List Mark) → was_opened c H ≡ false → bytes c H ≡ []
-no_octets c [] n = refl
-no_octets c (Comes e ∷ H) n = ap (λ b. bytes c H ++ cond b (piece_of c e.input) []) n ∙ append-nil (bytes c H) ∙ no_octets c H n
-no_octets c (Opens d ∷ H) n = no_octets c H (either_or (eqb c d) (was_opened c H) n).1
-no_octets c (_ ∷ H) n = no_octets c H n
+-- the octets that entries carry after some mark
+abbrev gathered : (Mark → Bool) → (Input → List ℕ) → List Mark → List ℕ
+gathered t f [] = []
+gathered t f (Comes e ∷ H) = gathered t f H ++ cond (ever t H) (f e.input) []
+gathered t f (_ ∷ H) = gathered t f H
 
-octets_are : (c : ℕ) (later before : List Mark) → was_opened c before ≡ false → bytes c (later ++ Opens c ∷ before) ≡ carried (piece_of c) (entries later)
-octets_are c [] before n = no_octets c before n
-octets_are c (Comes e ∷ later) before n =
-    ap (λ b. bytes c (later ++ Opens c ∷ before) ++ cond b (piece_of c e.input) []) (still (opens c) later before (Opens c) (eq-eqb c c refl))
-    ∙ ap (λ o. o ++ piece_of c e.input) (octets_are c later before n) ∙ sym (carried-append (piece_of c) (entries later) e)
-octets_are c (_ ∷ later) before n = octets_are c later before n
+none_gathered : (t : Mark → Bool) (f : Input → List ℕ) (H : List Mark) → ever t H ≡ false → gathered t f H ≡ []
+none_gathered t f [] n = refl
+none_gathered t f (Comes e ∷ H) n = let r = (either_or (t (Comes e)) (ever t H) n).1 in ap (λ b. gathered t f H ++ cond b (f e.input) []) r ∙ append-nil (gathered t f H) ∙ none_gathered t f H r
+none_gathered t f (h ∷ H) n = none_gathered t f H (either_or (t h) (ever t H) n).1
 
-no_replies : (l : ℕ) (H : List Mark) → is_linked l H ≡ false → replies l H ≡ []
-no_replies l [] n = refl
-no_replies l (Comes e ∷ H) n = ap (λ b. replies l H ++ cond b (reply_of l e.input) []) n ∙ append-nil (replies l H) ∙ no_replies l H n
-no_replies l (Links k ∷ H) n = no_replies l H (either_or (eqb l k) (is_linked l H) n).1
-no_replies l (_ ∷ H) n = no_replies l H n
+all_gathered : (t : Mark → Bool) (f : Input → List ℕ) (later before : List Mark) (h : Mark) → t h ≡ true → gathered t f (h ∷ before) ≡ [] → gathered t f (later ++ h ∷ before) ≡ carried f (entries later)
+all_gathered t f [] before h is none = none
+all_gathered t f (Comes e ∷ later) before h is none =
+    ap (λ b. gathered t f (later ++ h ∷ before) ++ cond b (f e.input) []) (still t later before h is)
+    ∙ ap (λ o. o ++ f e.input) (all_gathered t f later before h is none) ∙ sym (carried-append f (entries later) e)
+all_gathered t f (_ ∷ later) before h is none = all_gathered t f later before h is none
 
-replies_are : (l : ℕ) (later before : List Mark) → is_linked l before ≡ false → replies l (later ++ Links l ∷ before) ≡ carried (reply_of l) (entries later)
-replies_are l [] before n = no_replies l before n
-replies_are l (Comes e ∷ later) before n =
-    ap (λ b. replies l (later ++ Links l ∷ before) ++ cond b (reply_of l e.input) []) (still (links l) later before (Links l) (eq-eqb l l refl))
-    ∙ ap (λ o. o ++ reply_of l e.input) (replies_are l later before n) ∙ sym (carried-append (reply_of l) (entries later) e)
-replies_are l (_ ∷ later) before n = replies_are l later before n
+octets : (c : ℕ) (H : List Mark) → bytes c H ≡ gathered (opens c) (piece_of c) H
+octets c [] = refl
+octets c (Comes e ∷ H) = ap (λ o. o ++ cond (was_opened c H) (piece_of c e.input) []) (octets c H)
+octets c (_ ∷ H) = octets c H
+
+answers : (l : ℕ) (H : List Mark) → replies l H ≡ gathered (links l) (reply_of l) H
+answers l [] = refl
+answers l (Comes e ∷ H) = ap (λ o. o ++ cond (is_linked l H) (reply_of l e.input) []) (answers l H)
+answers l (_ ∷ H) = answers l H
 
 pub keeps : (g : Config) (journal : List Entry) → Keeps journal (chronicle g journal)
 keeps g journal = record {
   entries_are = are_entries g journal;
   clock_is = clock_is (chronicle g journal) ∙ ap greatest (are_entries g journal);
-  none_before_opening = λ c. no_octets c (chronicle g journal);
-  octets_are = λ c later before e n. ap (bytes c) e ∙ octets_are c later before n;
-  none_before_linking = λ l. no_replies l (chronicle g journal);
-  replies_are = λ l later before e n. ap (replies l) e ∙ replies_are l later before n;
+  none_before_opening = λ c n. octets c (chronicle g journal) ∙ none_gathered (opens c) (piece_of c) (chronicle g journal) n;
+  octets_are = λ c later before e n. ap (bytes c) e ∙ octets c (later ++ Opens c ∷ before)
+      ∙ all_gathered (opens c) (piece_of c) later before (Opens c) (eq-eqb c c refl) (none_gathered (opens c) (piece_of c) before n);
+  none_before_linking = λ l n. answers l (chronicle g journal) ∙ none_gathered (links l) (reply_of l) (chronicle g journal) n;
+  replies_are = λ l later before e n. ap (replies l) e ∙ answers l (later ++ Links l ∷ before)
+      ∙ all_gathered (links l) (reply_of l) later before (Links l) (eq-eqb l l refl) (none_gathered (links l) (reply_of l) before n);
 }

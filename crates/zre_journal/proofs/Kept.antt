@@ -17,6 +17,7 @@ use Rattle.zre_journal.specs.Connections.{open_ones, is_open, is_new, identity, 
 use Rattle.zre_journal.specs.Peers.{Life, lives, births, life, runner, counted, other_lives}
 use Rattle.zre_journal.specs.Proper.{IsProper, AreOpen, AreRuns, IsUnused, IsUnheard}
 use Rattle.zre_journal.proofs.Listed.{eqb-comm, some_is, All-kept, All-append, All-map, found_before, Apart-append, Apart-kept, others_find, any_append, any_of_append, any_left, any_other}
+use Rattle.zre_journal.proofs.Silent.{living_still, opening_still}
 pub use Rattle.zre_journal.proofs.Silent.{known_lives, open_is_old, has_started, run_known, run_is, runner_runs, HearsBeacon-proper, Greets-proper, IsEvasive-proper, Joins-proper, Leaves-proper, Refuses-proper, SendsBeacon-proper, Stops-proper, Comes-proper, Puts-proper, Links-proper, Sends-proper}
 
 -- ---- an end
@@ -209,14 +210,8 @@ module _ (H : List Mark) (p : IsProper H) (c : ℕ) where
   pub Ignores-proper : (why : IgnoreWhy) → is_open c H ≡ true → IsProper (Ignores c why ∷ H)
   Ignores-proper why o = record {
     living = p.living;
-    opening = record {
-      open_apart = p.opening.open_apart;
-      open_old = p.opening.open_old;
-      were_opened = p.opening.were_opened;
-      rises = p.opening.rises;
-      unheard = λ d n. let u = p.opening.unheard d n in let far : eqb d c ≡ false = open_is_old H p c d o n in
-          record { not_opened = u.not_opened; not_refused = rw far u.not_refused; not_started = u.not_started; unknown = u.unknown; no_octets = u.no_octets };
-    };
+    opening = opening_still H p (λ d. IsUnheard d (Ignores c why ∷ H)) (λ d n u. let far : eqb d c ≡ false = open_is_old H p c d o n in
+        record { not_opened = u.not_opened; not_refused = rw far u.not_refused; not_started = u.not_started; unknown = u.unknown; no_octets = u.no_octets });
     running = p.running;
   }
 
@@ -258,14 +253,7 @@ module _ (H : List Mark) (q : IsProper H) (c : ℕ) (p : PeerId) (o : is_open c 
   pub Shakes-proper : IsProper (Shakes c p ∷ H)
   Shakes-proper = record {
     living = q.living;
-    opening = record {
-      open_apart = q.opening.open_apart;
-      open_old = q.opening.open_old;
-      were_opened = q.opening.were_opened;
-      rises = q.opening.rises;
-      unheard = λ d n. let u = q.opening.unheard d n in let far : eqb d c ≡ false = open_is_old H q c d o n in
-          record { not_opened = u.not_opened; not_refused = u.not_refused; not_started = u.not_started; unknown = at_other d far ∙ u.unknown; no_octets = u.no_octets };
-    };
+    opening = opening_still H q (λ d. IsUnheard d (Shakes c p ∷ H)) (λ d n u. record { not_opened = u.not_opened; not_refused = u.not_refused; not_started = u.not_started; unknown = at_other d (open_is_old H q c d o n) ∙ u.unknown; no_octets = u.no_octets });
     running = record {
       one_run = q.running.one_run;
       in_life = q.running.in_life;
@@ -336,21 +324,9 @@ module _ (H : List Mark) (q : IsProper H) (c l : ℕ) (m : Message) (v : Life) (
 
   pub Starts-proper : IsProper (Starts c l m ∷ H)
   Starts-proper = record {
-    living = record {
-      numbered = q.living.numbered;
-      apart = q.living.apart;
-      living = q.living.living;
-      fresh = λ j h. let low = (known_lives H q l v k).1 in let far : eqb j l ≡ false = ne_eqb j l (λ e. omega arith) in let u = q.living.fresh j h in
-          record { no_end = u.no_end; no_run = run_else j far ∙ u.no_run; no_body = u.no_body; not_linked = u.not_linked; no_reply = u.no_reply; none_taken = u.none_taken };
-    };
-    opening = record {
-      open_apart = q.opening.open_apart;
-      open_old = q.opening.open_old;
-      were_opened = q.opening.were_opened;
-      rises = q.opening.rises;
-      unheard = λ d n. let u = q.opening.unheard d n in let far : eqb d c ≡ false = open_is_old H q c d o n in
-          record { not_opened = u.not_opened; not_refused = u.not_refused; not_started = start_else d far ∙ u.not_started; unknown = u.unknown; no_octets = u.no_octets };
-    };
+    living = living_still H q (λ j. IsUnused j (Starts c l m ∷ H)) (λ j h u. let low = (known_lives H q l v k).1 in let far : eqb j l ≡ false = ne_eqb j l (λ e. omega arith) in
+        record { no_end = u.no_end; no_run = run_else j far ∙ u.no_run; no_body = u.no_body; not_linked = u.not_linked; no_reply = u.no_reply; none_taken = u.none_taken });
+    opening = opening_still H q (λ d. IsUnheard d (Starts c l m ∷ H)) (λ d n u. record { not_opened = u.not_opened; not_refused = u.not_refused; not_started = start_else d (open_is_old H q c d o n) ∙ u.not_started; unknown = u.unknown; no_octets = u.no_octets });
     running = record {
       one_run = λ d j s n. one d j (started_by d j s n);
       in_life = λ d j s n. life_of d j n s (started_by d j s n);

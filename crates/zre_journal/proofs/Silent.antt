@@ -7,8 +7,9 @@ use Rattle.zre_peer.specs.declared.causes.RefuseWhy.{RefuseWhy}
 use Rattle.zre_journal.specs.Chronicle.{Mark, Comes, Greets, HearsBeacon, IsEvasive, Puts, Links, Sends, Joins, Leaves, Refuses, SendsBeacon, Stops}
 use Rattle.zre_journal.specs.Connections.{open_ones, is_open, is_new, started, has_ended, runs}
 use Rattle.zre_journal.specs.Peers.{Life, lives, births, life, runner}
-use Rattle.zre_journal.specs.Proper.{IsProper, AreLives, IsUnused}
+use Rattle.zre_journal.specs.Proper.{IsProper, AreLives, IsUnused, AreOpen, IsUnheard}
 use Rattle.zre_journal.proofs.Listed.{found, found_passes, any_has}
+use Rattle.zre_journal.specs.Heard.{was_opened}
 
 -- ---- known peers and connections
 
@@ -77,64 +78,47 @@ module _ (H : List Mark) (p : IsProper H) where
 -- ---- an entry, and what is put, stands or goes out on the link of a known peer
 
 module _ (H : List Mark) (p : IsProper H) where
-  with_fresh : ((l : ℕ) → births H < l → IsUnused l H) → AreLives (lives H) (births H) (λ l. has_ended l H) (λ l. IsUnused l H)
-  with_fresh f = record { numbered = p.living.numbered; apart = p.living.apart; living = p.living.living; fresh = f }
+  another : (l k : ℕ) → l ≤ births H → births H < k → eqb k l ≡ false
+  another l k low h = ne_eqb k l (λ e. omega arith)
+
+  -- the lives that were there, with what is so of a link that is unused yet
+  pub living_still : (Unused : ℕ → Type 0) → ((l : ℕ) → births H < l → IsUnused l H → Unused l) → AreLives (lives H) (births H) (λ l. has_ended l H) Unused
+  living_still Unused f = record { numbered = p.living.numbered; apart = p.living.apart; living = p.living.living; fresh = λ l h. f l h (p.living.fresh l h) }
+
+  -- the open connections, with what is so of a new one
+  pub opening_still : (Unheard : ℕ → Type 0) → ((c : ℕ) → is_new c H ≡ true → IsUnheard c H → Unheard c) → AreOpen (open_ones H) (λ c. is_new c H) (λ c. was_opened c H) Unheard
+  opening_still Unheard f = record {
+    open_apart = p.opening.open_apart;
+    open_old = p.opening.open_old;
+    were_opened = p.opening.were_opened;
+    rises = p.opening.rises;
+    unheard = λ c n. f c n (p.opening.unheard c n);
+  }
 
   pub Comes-proper : (e : Entry) → IsProper (Comes e ∷ H)
   Comes-proper e = record {
-    living = record {
-      numbered = p.living.numbered;
-      apart = p.living.apart;
-      living = p.living.living;
-      fresh = λ l h. let u = p.living.fresh l h in
-          record { no_end = u.no_end; no_run = u.no_run; no_body = u.no_body; not_linked = u.not_linked; no_reply = rw (u.no_reply, u.not_linked) refl; none_taken = u.none_taken };
-    };
-    opening = record {
-      open_apart = p.opening.open_apart;
-      open_old = p.opening.open_old;
-      were_opened = p.opening.were_opened;
-      rises = p.opening.rises;
-      unheard = λ c n. let u = p.opening.unheard c n in
-          record { not_opened = u.not_opened; not_refused = u.not_refused; not_started = u.not_started; unknown = u.unknown; no_octets = rw (u.no_octets, u.not_opened) refl };
-    };
+    living = living_still (λ l. IsUnused l (Comes e ∷ H)) (λ l h u. record { no_end = u.no_end; no_run = u.no_run; no_body = u.no_body; not_linked = u.not_linked; no_reply = rw (u.no_reply, u.not_linked) refl; none_taken = u.none_taken });
+    opening = opening_still (λ c. IsUnheard c (Comes e ∷ H)) (λ c n u. record { not_opened = u.not_opened; not_refused = u.not_refused; not_started = u.not_started; unknown = u.unknown; no_octets = rw (u.no_octets, u.not_opened) refl });
     running = p.running;
   }
 
   pub Puts-proper : (l : ℕ) (b : Body) → l ≤ births H → IsProper (Puts l b ∷ H)
   Puts-proper l b low = record {
-    living = record {
-      numbered = p.living.numbered;
-      apart = p.living.apart;
-      living = p.living.living;
-      fresh = λ k h. let u = p.living.fresh k h in let far : eqb k l ≡ false = ne_eqb k l (λ e. omega arith) in
-          record { no_end = u.no_end; no_run = u.no_run; no_body = rw far u.no_body; not_linked = u.not_linked; no_reply = u.no_reply; none_taken = u.none_taken };
-    };
+    living = living_still (λ k. IsUnused k (Puts l b ∷ H)) (λ k h u. record { no_end = u.no_end; no_run = u.no_run; no_body = rw (another l k low h) u.no_body; not_linked = u.not_linked; no_reply = u.no_reply; none_taken = u.none_taken });
     opening = p.opening;
     running = p.running;
   }
 
   pub Links-proper : (l : ℕ) → l ≤ births H → IsProper (Links l ∷ H)
   Links-proper l low = record {
-    living = record {
-      numbered = p.living.numbered;
-      apart = p.living.apart;
-      living = p.living.living;
-      fresh = λ k h. let u = p.living.fresh k h in let far : eqb k l ≡ false = ne_eqb k l (λ e. omega arith) in
-          record { no_end = u.no_end; no_run = u.no_run; no_body = u.no_body; not_linked = rw far u.not_linked; no_reply = u.no_reply; none_taken = u.none_taken };
-    };
+    living = living_still (λ k. IsUnused k (Links l ∷ H)) (λ k h u. record { no_end = u.no_end; no_run = u.no_run; no_body = u.no_body; not_linked = rw (another l k low h) u.not_linked; no_reply = u.no_reply; none_taken = u.none_taken });
     opening = p.opening;
     running = p.running;
   }
 
   pub Sends-proper : (l n : ℕ) → l ≤ births H → IsProper (Sends l n ∷ H)
   Sends-proper l n low = record {
-    living = record {
-      numbered = p.living.numbered;
-      apart = p.living.apart;
-      living = p.living.living;
-      fresh = λ k h. let u = p.living.fresh k h in let far : eqb k l ≡ false = ne_eqb k l (λ e. omega arith) in
-          record { no_end = u.no_end; no_run = u.no_run; no_body = u.no_body; not_linked = u.not_linked; no_reply = u.no_reply; none_taken = rw far u.none_taken };
-    };
+    living = living_still (λ k. IsUnused k (Sends l n ∷ H)) (λ k h u. record { no_end = u.no_end; no_run = u.no_run; no_body = u.no_body; not_linked = u.not_linked; no_reply = u.no_reply; none_taken = rw (another l k low h) u.none_taken });
     opening = p.opening;
     running = p.running;
   }

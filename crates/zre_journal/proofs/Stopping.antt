@@ -1,6 +1,7 @@
 -- After a stop no peer is known and no connection is open.
 use Rattle.std.proofs.Common.{◌≡◌, ℕ, Bool, true, false, cond, not, ◌||◌, eqb, List, [], ◌∷◌, ◌++◌, map, filter, refl, sym, ap, ◌∙◌, eq-eqb}
 use Rattle.std.specs.List.{AllByRecursion, list_any}
+use Rattle.std.proofs.lemmas.List.{map-id}
 use Rattle.zre_outside.specs.declared.entry.Input.{Input}
 use Rattle.zre_outside.specs.declared.entry.Input.TheVariants as input
 use Rattle.zre_outside.specs.declared.entry.Command.TheVariants as command
@@ -55,20 +56,16 @@ all_among {A} key (x ∷ xs) = (
   All-map (λ (y : A). list_any (λ n. eqb n (key y)) (map key xs) ≡ true) (λ (y : A). list_any (λ n. eqb n (key y)) (map key (x ∷ xs)) ≡ true) (λ y h. further (eqb (key x) (key y)) (list_any (λ n. eqb n (key y)) (map key xs)) h) xs (all_among key xs),
 )
 
-map_same : (xs : List ℕ) → map (λ x. x) xs ≡ xs
-map_same [] = refl
-map_same (x ∷ xs) = ap (λ ys. x ∷ ys) (map_same xs)
-
 -- ---- all peers end, and all connections are dropped
 
 ends_lives : (why : Cause) (vs : List Life) (H : List Mark) → lives (after (end_all why vs) H) ≡ cleared (λ (v : Life). v.link) (map (λ (v : Life). v.link) vs) (lives H)
 ends_lives why [] H = refl
 ends_lives why (v ∷ vs) H = ends_lives why vs (Ends v.link why ∷ H)
 
-abbrev drop_all : List ℕ → List Mark
+abbrev pub drop_all : List ℕ → List Mark
 drop_all cs = map (λ c. ClosesAtStop c) cs
 
-drops_lives : (cs : List ℕ) (H : List Mark) → lives (after (drop_all cs) H) ≡ lives H
+pub drops_lives : (cs : List ℕ) (H : List Mark) → lives (after (drop_all cs) H) ≡ lives H
 drops_lives [] H = refl
 drops_lives (c ∷ cs) H = drops_lives cs (ClosesAtStop c ∷ H)
 
@@ -96,7 +93,7 @@ module _ (g : Config) (H : List Mark) where
   pub none_open : open_ones stopped ≡ []
   none_open =
       drops_open (open_ones H) (after E H) ∙ ap (cleared (λ c. c) (open_ones H)) (ends_open cause.Stop (lives H) H)
-      ∙ ap (λ ns. cleared (λ c. c) ns (open_ones H)) (sym (map_same (open_ones H))) ∙ none_left (λ c. c) (map (λ c. c) (open_ones H)) (open_ones H) (all_among (λ c. c) (open_ones H))
+      ∙ ap (λ ns. cleared (λ c. c) ns (open_ones H)) (sym (map-id (open_ones H))) ∙ none_left (λ c. c) (map (λ c. c) (open_ones H)) (open_ones H) (all_among (λ c. c) (open_ones H))
 
 -- ---- what is kept within limits stays so
 

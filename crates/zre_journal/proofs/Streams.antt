@@ -1,28 +1,21 @@
 -- Streams: how much of one without a fault stays unfinished, and how large the messages of one are.
-use Rattle.std.proofs.Common.{◌≡◌, ℕ, zero, suc, ◌+◌, ◌≤◌, Bool, true, false, cond, not, ◌&&◌, ltb, List, [], ◌∷◌, ◌++◌, length, take, drop, Option, Some, None, refl, sym, ap, subst, ◌∙◌, arith, inl, inr, option_map}
+use Rattle.std.proofs.Common.{◌≡◌, ℕ, zero, suc, ◌+◌, ◌≤◌, Bool, true, false, cond, not, List, [], ◌∷◌, ◌++◌, length, take, drop, Option, Some, None, refl, subst, arith, inl, inr, option_map}
 use Rattle.std.specs.Prelude.{sum_by, option_to_list}
 use Rattle.std.specs.List.{AllByRecursion}
-use Rattle.std.proofs.lemmas.Bool.{ltb-false}
 use Rattle.std.proofs.lemmas.Option.{none-some}
-use Rattle.std.proofs.lemmas.List.{length-take, length-take-le, get_or-take}
 use Rattle.std.proofs.lemmas.List.Sums.{sum_by-append, sum_by-cons}
 use Rattle.zre_values.specs.declared.limits.TheConstants.{MESSAGE_OCTETS, COMMAND_OCTETS}
-use Rattle.zre_zmtp.specs.Frame.{flags, header_len, size, frame_len, body, is_long, is_message, has_more}
+use Rattle.zre_zmtp.specs.Frame.{flags, size, body, is_message, has_more}
 use Rattle.zre_zmtp.specs.Ready.{name}
-use Rattle.zre_zmtp.specs.declared.fault.ZmtpWhy.{ZmtpWhy}
 use Rattle.zre_zmtp.specs.declared.expected.Expected.{Expected}
 use Rattle.zre_zmtp.specs.declared.expected.Expected.TheVariants as expect
 use Rattle.zre_zmtp.specs.declared.want.Want.{Want}
 use Rattle.zre_zmtp.specs.declared.item.Item.{Item}
 use Rattle.zre_zmtp.specs.declared.item.What.{What}
 use Rattle.zre_zmtp.specs.declared.item.What.TheVariants as says
-use Rattle.zre_zmtp.specs.Stream.{Before, Kind, Whole, Parts, before, expected, opened, cut, fault, frame_why, frame_fault, size_fault, part_len, what_of, start_of, item, items_of, items}
-use Rattle.zre_zmtp.proofs.Grow.{IsWhole}
-use Rattle.zre_zmtp.proofs.Stay.{is_part, IsPart, frame-len}
+use Rattle.zre_zmtp.specs.Stream.{Before, Kind, Whole, Parts, before, expected, opened, cut, fault, part_len, what_of, start_of, item, items_of, items}
 use Rattle.zre_zmtp.proofs.Cuts.{cases_Option, cut-none, cut-some}
-use Rattle.zre_zmtp.proofs.Later.{HeadFine, head_fine}
-use Rattle.zre_zmtp.proofs.Exact.{IsFrame, exact}
-use Rattle.zre_zmtp.proofs.Kept.{kept_most}
+use Rattle.zre_zmtp.proofs.Kept.{kept_most, part_within}
 use Rattle.zre_mailbox.specs.Conn.{reading}
 use Rattle.zre_journal.specs.Held.{unfinished}
 use Rattle.zre_journal.proofs.Listed.{All-join}
@@ -37,47 +30,6 @@ unfinished-most want o e = kept_most want Whole o (reading want Whole o) (record
 abbrev pub IsWithin : What → Type 0
 IsWithin (says.Message frames) = sum_by length frames ≤ MESSAGE_OCTETS
 IsWithin _ = Unit {0}
-
-row-off : (t : Bool) (w : ZmtpWhy) (rest : Option ZmtpWhy) → cond t (Some w) rest ≡ None → (t ≡ false) × (rest ≡ None)
-row-off true w rest e = absurd (none-some w (sym e))
-row-off false w rest e = (refl, e)
-
--- what the size field of a message frame allows
-room : (b : Before) (f n : ℕ) → size_fault b f n ≡ None → is_message f ≡ true → sum_by length b.opened + n ≤ MESSAGE_OCTETS
-room b f n e t =
-    let r = row-off (is_message f && ltb MESSAGE_OCTETS (sum_by length b.opened + n)) _ _ e in
-    let h : ltb MESSAGE_OCTETS (sum_by length b.opened + n) ≡ false = sym (ap (λ x. x && ltb MESSAGE_OCTETS (sum_by length b.opened + n)) t) ∙ r.0 in
-    ltb-false _ _ h
-
-no_fault : (want : Want) (b : Before) (o : List ℕ) → frame_fault want b o ≡ None → frame_why want b o ≡ None
-no_fault want b o e =
-    elim (cases_Option (frame_why want b o)) [
-      | inl n ↦ n
-      | inr p ↦ absurd (none-some (record { why = p.0; place = b.place }) (sym e ∙ ap (λ x. option_map (λ reason. record { why = reason; place = b.place }) x) p.1))
-    ]
-
--- a frame that is taken has the flags and the size that it had
-same_frame : (o : List ℕ) (n : ℕ) → IsWhole o → frame_len o ≡ n → (flags (take n o) ≡ flags o) × (size (take n o) ≡ size o)
-same_frame o n w e =
-    let part = take n o in
-    let x : IsFrame part = subst (λ (m : ℕ). IsFrame (take m o)) e (exact o w) in
-    let len : length part ≡ n = length-take-le n o (omega (arith, w.rest, e)) in
-    let f : flags part ≡ flags o = get_or-take n o 0 0 (omega (arith, x.some, len)) in
-    let h : header_len part ≡ header_len o = ap (λ y. cond (is_long y) 9 2) f in
-    (f, omega (arith, x.all, len, h, e))
-
-body_within : (o : List ℕ) → length (body o) ≤ size o
-body_within o = omega (arith, length-take (size o) (drop (header_len o) o))
-
--- a message frame and the bodies before it
-part_within : (want : Want) (b : Before) (o : List ℕ) (len : ℕ) → part_len want b o ≡ Some len → b.expected ≡ expect.Traffic → is_message (flags (take len o)) ≡ true
-    → sum_by length b.opened + length (body (take len o)) ≤ MESSAGE_OCTETS
-part_within want b o len e traffic message =
-    let q : IsPart expect.Traffic want b o len = subst (λ (k : Expected). IsPart k want b o len) traffic (is_part want b o len e) in
-    let w = frame-len o len q.len in
-    let fine : HeadFine b o = head_fine want b o w.0.header (no_fault want b o q.faultless) in
-    let s = same_frame o len w.0 w.1 in
-    omega (arith, room b (flags o) (size o) fine.size_fine (sym (ap is_message s.0) ∙ message), body_within (take len o), s.1)
 
 what_within : (k : Expected) (bodies : List (List ℕ)) (part : List ℕ) → (k ≡ expect.Traffic → is_message (flags part) ≡ true → sum_by length bodies + length (body part) ≤ MESSAGE_OCTETS)
     → (w : What) → what_of k bodies part ≡ Some w → IsWithin w

@@ -14,6 +14,7 @@ use Rattle.zre_peer.specs.Members.{with_header}
 use Rattle.zre_peer.specs.Runs.{is_hello}
 use Rattle.zre_peer.specs.Views.{after, view_of, is_small}
 use Rattle.zre_peer.proofs.Standing.{view_of_more}
+use Rattle.zre_peer.proofs.Named.{later_keeps}
 use Rattle.zre_journal.specs.Held.{header_octets, view_octets}
 use Rattle.zre_journal.proofs.Fields.{hello_octets}
 
@@ -50,14 +51,7 @@ hello_gives v PingOk h = absurd cc
 hello_gives v (Other number rest more) h = absurd cc
 
 others_keep : (v : View) (b : Body) → is_hello b ≡ false → name_octets (after v b) ≡ name_octets v
-others_keep v (Hello endpoint groups status name headers) h = absurd cc
-others_keep v (Whisper content) h = refl
-others_keep v (Shout group content) h = refl
-others_keep v (Join group status) h = refl
-others_keep v (Leave group status) h = refl
-others_keep v Ping h = refl
-others_keep v PingOk h = refl
-others_keep v (Other number rest more) h = refl
+others_keep v b h = let k = later_keeps v b h in rw (k.0, k.1, k.2) refl
 
 pub first-short : (m : Message) → is_hello m.body ≡ true → is_small (view_of (m ∷ [])) ≡ true → hello_octets m.body ≤ MESSAGE_OCTETS → IsShortView (view_of (m ∷ []))
 first-short m h small le = record {

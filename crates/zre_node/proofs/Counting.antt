@@ -32,8 +32,8 @@ use Rattle.zre_node.specs.Stands.{Holds, Nearly, Did, HasRun, HadRun, IsRunning,
 use Rattle.zre_node.proofs.Entries.{changed}
 use Rattle.zre_node.proofs.Parting.{its_row, keeps_with, leaves}
 use Rattle.zre_journal.specs.Told.{told}
+use Rattle.zre_journal.proofs.Idle.{not_true}
 use Rattle.zre_node.proofs.Many.{did_by}
-use Rattle.zre_node.proofs.Shaking.{not_true}
 
 pub if_err : {T E B : Type 0} {P Q : E → Type 0} (r : Result T E) → IfErr r P → OnErr r B → ((e : E) → P e → B → Q e) → IfErr r Q
 if_err (Ok x) p b f = tt

@@ -110,15 +110,7 @@ drops_run (c ∷ cs) H none = drops_run cs (ClosesAtStop c ∷ H) none
 
 -- ---- the run of a connection ends
 
--- then it runs no peer
-pub idle_then : (g : Config) (H : List Mark) → IsProper H → (c : ℕ) (why : Cause) → runs c (after (end_of_run g (runs c H) why) H) ≡ None
-idle_then g H p c why = by (runs c H) refl
-  where
-    by : (o : Option ℕ) → runs c H ≡ o → runs c (after (end_of_run g o why) H) ≡ None
-    by None e = e
-    by (Some l) e = let s = has_started H p c l e in let me : eqb l l ≡ true = eq-eqb l l refl in rw (s.0, me) refl
-
--- and is open as before
+-- then it is open as before
 pub open_then : (g : Config) (o : Option ℕ) (why : Cause) (c : ℕ) (H : List Mark) → is_open c (after (end_of_run g o why) H) ≡ is_open c H
 open_then g None why c H = refl
 open_then g (Some l) why c H = refl

@@ -29,6 +29,8 @@ use Rattle.zre_journal.specs.Peers.{Life, lives, life, life_of, births, runner, 
 use Rattle.zre_journal.specs.Proper.{IsProper, Apart}
 use Rattle.zre_journal.proofs.Kept.{known_lives, newborn, runner_runs, Starts-proper, Ignores-proper}
 use Rattle.zre_journal.proofs.Listed.{eqb-comm, found, found_passes, All-map}
+use Rattle.zre_journal.proofs.Idle.{not_true}
+use Rattle.zre_journal.proofs.Known.{same_id}
 use Rattle.zre_node.specs.declared.connection.Connection.{Connection}
 use Rattle.zre_node.specs.declared.peer.Peer.{Peer}
 use Rattle.zre_node.specs.declared.tables.Tables.{Tables}
@@ -37,7 +39,6 @@ use Rattle.zre_node.specs.Stands.{Holds, Did, HasRun, IsPeer, IsConn, kept_conn}
 use Rattle.zre_node.proofs.Entries.{changed}
 use Rattle.zre_node.proofs.Opening.{with_conns}
 use Rattle.zre_node.proofs.Parting.{its_row}
-use Rattle.zre_node.proofs.Shaking.{not_true, same_id}
 
 -- ---- a waiting connection has started nothing and was not refused
 

@@ -2,6 +2,7 @@
 use Rattle.std.proofs.Common.{◌≡◌, ℕ, Bool, true, false, cond, eqb, List, [], ◌∷◌, ◌++◌, map, Option, Some, None, IsSome, find, refl, sym, ap, ◌∙◌, eq-eqb, append_assoc, subst}
 use Rattle.std.specs.List.{AllByRecursion}
 use Rattle.std.specs.Map.{keys_of}
+use Rattle.std.proofs.lemmas.List.{map-id}
 use Rattle.zre_beacon.specs.Beacon.{beacon_octets}
 use Rattle.zre_peer.specs.declared.causes.Cause.TheVariants as cause
 use Rattle.zre_outside.specs.declared.act.Act.TheVariants as act
@@ -16,9 +17,9 @@ use Rattle.zre_journal.specs.Told.{told}
 use Rattle.zre_journal.specs.Done.{done}
 use Rattle.zre_journal.proofs.Joined.{after-append, told-append, done-append}
 use Rattle.zre_journal.proofs.Kept.{run_known}
-use Rattle.zre_journal.proofs.Known.{end_all}
+use Rattle.zre_journal.proofs.Known.{end_all, each_known}
 use Rattle.zre_journal.proofs.Listed.{All-map}
-use Rattle.zre_journal.proofs.Stopping.{stop-is, none_known, none_open}
+use Rattle.zre_journal.proofs.Stopping.{stop-is, none_known, none_open, drops_lives}
 use Rattle.zre_node.specs.declared.tables.Tables.{Tables}
 use Rattle.zre_node.specs.declared.effects.Effects.{Effects}
 use Rattle.zre_node.specs.Tabled.{Tabled}
@@ -30,24 +31,8 @@ pub map-map : {A B C : Type 0} (f : A → B) (g : B → C) (xs : List A) → map
 map-map f g [] = refl
 map-map f g (x ∷ xs) = ap (λ ys. g (f x) ∷ ys) (map-map f g xs)
 
-pub map-same : (xs : List ℕ) → map (λ x. x) xs ≡ xs
-map-same [] = refl
-map-same (x ∷ xs) = ap (λ ys. x ∷ ys) (map-same xs)
-
 abbrev pub link_list : List Life → List ℕ
 link_list vs = map (λ (v : Life). v.link) vs
-
-each_found : (vs : List Life) → AllByRecursion (λ (v : Life). IsSome (find (λ (u : Life). eqb v.link u.link) vs)) vs
-each_found [] = tt
-each_found (v ∷ vs) = (
-  let me : eqb v.link v.link ≡ true = eq-eqb v.link v.link refl in rw me refl,
-  All-map (λ (u : Life). IsSome (find (λ (w : Life). eqb u.link w.link) vs)) (λ (u : Life). IsSome (find (λ (w : Life). eqb u.link w.link) (v ∷ vs)))
-      (λ u h. further (eqb u.link v.link) v (find (λ (w : Life). eqb u.link w.link) vs) h) vs (each_found vs),
-)
-  where
-    further : (b : Bool) (v : Life) (o : Option Life) → IsSome o → IsSome (cond b (Some v) o)
-    further true v o h = refl
-    further false v o h = h
 
 pub apart_links : (l : ℕ) (vs : List Life) → AllByRecursion (λ (v : Life). eqb l v.link ≡ false) vs → AllByRecursion (λ k. eqb l k ≡ false) (link_list vs)
 apart_links l [] h = tt
@@ -63,14 +48,10 @@ module _ (g : Config) (H : List Mark) (t : Tables) (h : Holds g H t) where
   links_are = keys_are (λ (v : Life). v.link) (IsPeer g H) (lives H) t.peers.entries h.peers
 
   pub numbers_are : keys_of t.conns.entries ≡ open_ones H
-  numbers_are = keys_are (λ (c : ℕ). c) (IsConn g H) (open_ones H) t.conns.entries h.keeps.conns ∙ map-same (open_ones H)
+  numbers_are = keys_are (λ (c : ℕ). c) (IsConn g H) (open_ones H) t.conns.entries h.keeps.conns ∙ map-id (open_ones H)
 
   pub all_known : AreKnown H (link_list (lives H))
-  all_known = known_from H (lives H) h.keeps.proper.living.apart (each_found (lives H))
-
-drops_lives : (cs : List ℕ) (H : List Mark) → lives (after (map (λ c. ClosesAtStop c) cs) H) ≡ lives H
-drops_lives [] H = refl
-drops_lives (c ∷ cs) H = drops_lives cs (ClosesAtStop c ∷ H)
+  all_known = known_from H (lives H) h.keeps.proper.living.apart (each_known H)
 
 -- after the ends of all lives
 pub none_known_by : (g : Config) (H : List Mark) (ls : List ℕ) → ls ≡ link_list (lives H) → lives (after (map (λ l. Ends l cause.Stop) ls) H) ≡ []

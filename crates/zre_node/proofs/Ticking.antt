@@ -4,6 +4,7 @@ use Rattle.std.proofs.lemmas.Bool.{and_parts}
 use Rattle.std.specs.List.{AllByRecursion}
 use Rattle.std.specs.BTreeMap.{is_at}
 use Rattle.std.specs.Map.{lookup}
+use Rattle.std.proofs.lemmas.List.{map-id}
 use Rattle.zre_values.specs.declared.peer_id.PeerId.{PeerId}
 use Rattle.zre_msg.specs.declared.message.Body.TheVariants as body
 use Rattle.zre_msg.specs.declared.message.Message.{Message}
@@ -33,6 +34,7 @@ use Rattle.zre_journal.proofs.Joined.{after-append}
 use Rattle.zre_journal.proofs.Kept.{IsEvasive-proper, SendsBeacon-proper}
 use Rattle.zre_journal.proofs.Known.{each_known, life_stays, end_all, ends_known, kept_far}
 use Rattle.zre_journal.proofs.Listed.{All-kept, Apart-kept, found_passes}
+use Rattle.zre_journal.proofs.Ticks.{expiring, wavering, stale, expired, expiring_apart, wavering_apart, wavering_known, expiring_known as are_known, wavering_entered as are_entered, stale_idle as are_idle}
 use Rattle.zre_node.specs.declared.connection.Connection.{Connection}
 use Rattle.zre_node.specs.declared.effects.Effects.{Effects}
 use Rattle.zre_node.specs.declared.peer.Peer.{Peer}
@@ -45,7 +47,7 @@ use Rattle.zre_node.proofs.Many.{did_as, did_then}
 use Rattle.zre_node.proofs.Opening.{with_conns}
 use Rattle.zre_node.proofs.Parting.{its_row, shows}
 use Rattle.zre_node.proofs.Pushing.{Alike, alike_after}
-use Rattle.zre_node.proofs.Stopping.{link_list, map-map, map-same, apart_links, known_from}
+use Rattle.zre_node.proofs.Stopping.{link_list, map-map, apart_links, known_from}
 
 -- ---- which rows pass
 
@@ -101,7 +103,7 @@ module _ (g : Config) (H : List Mark) (t : Tables) (h : Holds g H t) where
   stale_are =
       numbers_are (λ (c : ℕ). c) (IsConn g H) (row_stale t.config.expired t.clock) (is_stale g H)
       (stale_row t.config.expired t.clock (ap (λ (f : Config). f.expired) h.keeps.config) h.keeps.clock_is) (open_ones H) t.conns.entries h.keeps.conns
-      ∙ map-same (filter (is_stale g H) (open_ones H))
+      ∙ map-id (filter (is_stale g H) (open_ones H))
 
 -- ---- EVASIVE
 
@@ -207,66 +209,18 @@ idle_at why (c ∷ cs) H (suc i) low k = idle_at why cs (Closes c why ∷ H) i (
 
 -- ---- the whole tick
 
-passing : {A : Type 0} (P : A → Type 0) (t : A → Bool) → ((x : A) → t x ≡ true → P x) → (xs : List A) → AllByRecursion P (filter t xs)
-passing P t f [] = tt
-passing P t f (x ∷ xs) = by (passing P t f xs) (t x) refl
-  where
-    by : AllByRecursion P (filter t xs) → (b : Bool) → t x ≡ b → AllByRecursion P (cond b (x ∷ filter t xs) (filter t xs))
-    by r true e = (f x e, r)
-    by r false e = r
-
 entered_from : (K : List Mark) (vs : List Life) → Apart (λ (v : Life). v.link) vs → AllByRecursion (λ (v : Life). IsSome (life v.link K)) vs → AllByRecursion (λ (v : Life). is_some (runner v.link K) ≡ true) vs → AreEntered K (link_list vs)
 entered_from K [] a k e = tt
 entered_from K (v ∷ vs) a k e = ((k.0, e.0), apart_links v.link vs a.0, entered_from K vs a.1 k.1 e.1)
 
-ends_run : (why : Cause) (vs : List Life) (l : ℕ) (K : List Mark) → runner l (after (end_all why vs) K) ≡ runner l K
-ends_run why [] l K = refl
-ends_run why (v ∷ vs) l K = ends_run why vs l (Ends v.link why ∷ K)
-
--- the peers that expire, those that are evasive, and the connections that have waited too long
-abbrev pub expiring : Config → List Mark → List Life
-expiring g K = filter (is_silent g g.expired K) (lives K)
-
-abbrev pub wavering : Config → List Mark → List Life
-wavering g K = filter (is_evasive g K) (lives K)
-
-abbrev pub stale : Config → List Mark → List ℕ
-stale g K = filter (is_stale g K) (open_ones K)
-
--- the chronicle where those that expire have ended, and where the others have probed too
-abbrev pub expired : Config → List Mark → List Mark
-expired g K = after (end_all cause.Expired (expiring g K)) K
-
+-- the chronicle where those that expire have ended, and the others have probed
 abbrev pub probed : Config → List Mark → List Mark
 probed g K = after (in_turn (probes g) (link_list (wavering g K)) (expired g K)) (expired g K)
 
 module _ (g : Config) (K : List Mark) (t : Tables) (h : Holds g K t) where
-  excludes : (v : Life) → is_silent g g.expired K v ≡ true → is_evasive g K v ≡ false
-  excludes v e = rw e (by (is_entered K v))
-    where
-      by : (b : Bool) → (b && not true && is_silent g g.evasive K v) ≡ false
-      by true = refl
-      by false = refl
-
-  enters_it : (v : Life) → is_evasive g K v ≡ true → is_some (runner v.link K) ≡ true
-  enters_it v e = by (is_some (runner v.link K)) e
-    where
-      by : (b : Bool) → (b && not (is_silent g g.expired K v) && is_silent g g.evasive K v) ≡ true → b ≡ true
-      by true z = refl
-      by false z = absurd cc
-
-  idles : (c : ℕ) → is_stale g K c ≡ true → runs c K ≡ None
-  idles c e = none (runs c K) (and_parts (is_none (runs c K)) (leb g.expired (clock K - since c K)) e).0
-    where
-      none : (o : Option ℕ) → is_none o ≡ true → o ≡ None
-      none None z = refl
-      none (Some l) z = absurd cc
-
   -- those that expire are known
   pub expiring_known : (ls : List ℕ) → ls ≡ link_list (expiring g K) → AreKnown K ls
-  expiring_known ls e = subst (AreKnown K) (sym e)
-      (known_from K (expiring g K) (Apart-kept (λ (v : Life). v.link) (is_silent g g.expired K) (lives K) h.keeps.proper.living.apart)
-      (All-kept (λ (v : Life). IsSome (life v.link K)) (is_silent g g.expired K) (lives K) (each_known K)))
+  expiring_known ls e = subst (AreKnown K) (sym e) (known_from K (expiring g K) (expiring_apart g K h.keeps.proper) (are_known g K))
 
   pub expire : (ls : List ℕ) (n : Tables) (a b : Effects) → ls ≡ link_list (expiring g K) → Did g (map (λ l. Ends l cause.Expired) ls) K n a b → Did g (end_all cause.Expired (expiring g K)) K n a b
   expire ls n a b e d =
@@ -276,20 +230,18 @@ module _ (g : Config) (K : List Mark) (t : Tables) (h : Holds g K t) where
   -- the others are entered after their ends
   pub wavering_entered : (ls : List ℕ) → ls ≡ link_list (wavering g K) → AreEntered (expired g K) ls
   wavering_entered ls e = subst (AreEntered (expired g K)) (sym e)
-      (entered_from (expired g K) (wavering g K) (Apart-kept (λ (v : Life). v.link) (is_evasive g K) (lives K) h.keeps.proper.living.apart)
-      (ends_known cause.Expired (expiring g K) (wavering g K) K (kept_far (is_silent g g.expired K) (is_evasive g K) excludes (lives K) h.keeps.proper.living.apart)
-      (All-kept (λ (v : Life). IsSome (life v.link K)) (is_evasive g K) (lives K) (each_known K)))
-      (passing (λ (v : Life). is_some (runner v.link (expired g K)) ≡ true) (is_evasive g K) (λ v p. ap is_some (ends_run cause.Expired (expiring g K) v.link K) ∙ enters_it v p) (lives K)))
+      (entered_from (expired g K) (wavering g K) (wavering_apart g K h.keeps.proper) (wavering_known g K h.keeps.proper) (are_entered g K))
 
   pub probe_then : (ls : List ℕ) (n : Tables) (a b : Effects) → ls ≡ link_list (wavering g K) → Did g (in_turn (probes g) ls (expired g K)) (expired g K) n a b → Did g (in_turn (probes g) (link_list (wavering g K)) (expired g K)) (expired g K) n a b
   probe_then ls n a b e d = subst (λ ks. Did g (in_turn (probes g) ks (expired g K)) (expired g K) n a b) e d
 
   -- the connections run no peer even then
   pub stale_idle : (cs : List ℕ) → cs ≡ stale g K → AreIdle (probed g K) cs
-  stale_idle cs e = subst (AreIdle (probed g K)) (sym e)
-      (passing (λ c. runs c (probed g K) ≡ None) (is_stale g K)
-      (λ c p. idle_after (in_turn (probes g) (link_list (wavering g K)) (expired g K)) (expired g K) c (probes_start_none g (link_list (wavering g K)) (expired g K))
-      (idle_after (end_all cause.Expired (expiring g K)) K c (ends_start_none cause.Expired (expiring g K)) (idles c p))) (open_ones K))
+  stale_idle cs e =
+      let E = end_all cause.Expired (expiring g K) in
+      let F = in_turn (probes g) (link_list (wavering g K)) (expired g K) in
+      subst (AreIdle (probed g K)) (sym e) (subst (λ J. AllByRecursion (λ c. runs c J ≡ None) (stale g K)) (after-append E F K)
+      (are_idle g K (E ++ F) (none_and_none E F (ends_start_none cause.Expired (expiring g K)) (probes_start_none g (link_list (wavering g K)) (expired g K)))))
 
 -- the marks of a tick, as they were left
 tick_marks : (g : Config) (K : List Mark) → at_tick g K ≡ end_all cause.Expired (expiring g K) ++ in_turn (probes g) (link_list (wavering g K)) (expired g K) ++ map (λ c. Closes c close.Timeout) (stale g K) ++ SendsBeacon g.port ∷ []

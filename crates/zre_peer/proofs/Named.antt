@@ -16,20 +16,20 @@ use Rattle.zre_peer.specs.declared.heads.Heads.{Heads}
 use Rattle.zre_peer.specs.Views.{after, is_small}
 use Rattle.zre_peer.specs.declared.view.View.{View}
 
--- only HELLO sets the name
-pub name_stays : (v : View) (b : Body) → is_hello b ≡ false → (after v b).name ≡ v.name
-name_stays v (Hello endpoint groups status name headers) e = absurd cc
-name_stays v (Whisper content) e = refl
-name_stays v (Shout group content) e = refl
-name_stays v (Join group status) e = refl
-name_stays v (Leave group status) e = refl
-name_stays v Ping e = refl
-name_stays v PingOk e = refl
-name_stays v (Other number rest more) e = refl
+-- only HELLO sets the name, the endpoint and the headers
+pub later_keeps : (v : View) (b : Body) → is_hello b ≡ false → ((after v b).name ≡ v.name) × ((after v b).endpoint ≡ v.endpoint) × ((after v b).headers ≡ v.headers)
+later_keeps v (Hello endpoint groups status name headers) e = absurd cc
+later_keeps v (Whisper content) e = (refl, refl, refl)
+later_keeps v (Shout group content) e = (refl, refl, refl)
+later_keeps v (Join group status) e = (refl, refl, refl)
+later_keeps v (Leave group status) e = (refl, refl, refl)
+later_keeps v Ping e = (refl, refl, refl)
+later_keeps v PingOk e = (refl, refl, refl)
+later_keeps v (Other number rest more) e = (refl, refl, refl)
 
 -- whether it is taken or not
 pub same_name : {X E : Type 0} (result : Result X E) (v w : View) (b : Body) → is_hello b ≡ false → OnOk result ((is_small (after v b) ≡ true) × (w ≡ after v b)) → OnErr result (w ≡ v) → w.name ≡ v.name
-same_name (Ok x) v w b e ok err = ap (λ (u : View). u.name) ok.1 ∙ name_stays v b e
+same_name (Ok x) v w b e ok err = ap (λ (u : View). u.name) ok.1 ∙ (later_keeps v b e).0
 same_name (Err x) v w b e ok err = ap (λ (u : View). u.name) err
 
 pub still_small : {X E : Type 0} (result : Result X E) (v w : View) (b : Body) → is_small v ≡ true → OnOk result ((is_small (after v b) ≡ true) × (w ≡ after v b)) → OnErr result (w ≡ v) → is_small w ≡ true

@@ -110,13 +110,11 @@ grown expect.Traffic bodies part sum more =
       ]
     ]
 
-opened_more : (want : Want) (kind : Kind) (parts : Parts) (o : List ℕ) (len : ℕ) → sum_by length (opened kind parts) ≤ MESSAGE_OCTETS → part_len want (before kind parts) o ≡ Some len
-    → sum_by length (opened kind (take len o ∷ parts)) ≤ MESSAGE_OCTETS
-opened_more want kind parts o len sum e =
-    let b = before kind parts in
+-- a message frame and the bodies before it
+pub part_within : (want : Want) (b : Before) (o : List ℕ) (len : ℕ) → part_len want b o ≡ Some len → b.expected ≡ expect.Traffic → is_message (flags (take len o)) ≡ true
+    → sum_by length b.opened + length (body (take len o)) ≤ MESSAGE_OCTETS
+part_within want b o len e traffic message =
     let p = is_part want b o len e in
-    grown (expected kind parts) (opened kind parts) (take len o) sum
-    (λ traffic message.
     let fine = room_more want b o len traffic p in
     let q : IsPart expect.Traffic want b o len = subst (λ (k : Expected). IsPart k want b o len) traffic p in
     let w = frame-len o len q.len in
@@ -125,7 +123,11 @@ opened_more want kind parts o len sum e =
     elim (room b (flags o) (size o) fine.size_fine) [
       | inl r ↦ omega (arith, r.1, body_within (take len o), s.1)
       | inr r ↦ absurd (true≢false (sym m ∙ r.0))
-    ])
+    ]
+
+opened_more : (want : Want) (kind : Kind) (parts : Parts) (o : List ℕ) (len : ℕ) → sum_by length (opened kind parts) ≤ MESSAGE_OCTETS → part_len want (before kind parts) o ≡ Some len
+    → sum_by length (opened kind (take len o ∷ parts)) ≤ MESSAGE_OCTETS
+opened_more want kind parts o len sum e = grown (expected kind parts) (opened kind parts) (take len o) sum (part_within want (before kind parts) o len e)
 
 opened_kept : (want : Want) (kind : Kind) (n : ℕ) (parts : Parts) (o : List ℕ) → sum_by length (opened kind parts) ≤ MESSAGE_OCTETS → sum_by length (opened kind (cut want kind n parts o).0) ≤ MESSAGE_OCTETS
 unfolding cut

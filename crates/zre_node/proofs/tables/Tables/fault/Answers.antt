@@ -5,10 +5,10 @@ use Rattle.zre_peer.specs.declared.causes.CloseWhy.TheVariants as close
 use Rattle.zre_journal.specs.Chronicle.{Closes}
 use Rattle.zre_journal.specs.Connections.{runs}
 use Rattle.zre_journal.specs.Arrivals.{end_of_run}
+use Rattle.zre_journal.proofs.Idle.{idle_then}
 use Rattle.zre_node.proofs.Ending.{on_ok}
 use Rattle.zre_node.proofs.Faulting.{dead_places, fault_live, stands_not, stands_so}
 use Rattle.zre_node.proofs.Many.{did_as, did_then, idle_did}
-use Rattle.zre_node.proofs.Opening.{idle_then}
 use Rattle.zre_node.proofs.Starting.{live_open}
 use Rattle.zre_node.proofs.tables.Tables.fault.Goals as goal
 

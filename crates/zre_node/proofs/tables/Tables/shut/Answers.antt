@@ -2,10 +2,11 @@ use Rattle.std.proofs.Common.{[], ◌∷◌, refl, sym, ◌∙◌}
 use Rattle.zre_journal.specs.Chronicle.{IsShut}
 use Rattle.zre_journal.specs.Connections.{runs}
 use Rattle.zre_journal.specs.Arrivals.{end_of_run}
+use Rattle.zre_journal.proofs.Idle.{idle_then}
 use Rattle.zre_peer.specs.declared.causes.Cause.TheVariants as cause
 use Rattle.zre_node.proofs.Ending.{some_row}
 use Rattle.zre_node.proofs.Many.{did_as, did_then, silent_did, idle_did}
-use Rattle.zre_node.proofs.Opening.{idle_then, is_shut, shut_not_open, shut_open}
+use Rattle.zre_node.proofs.Opening.{is_shut, shut_not_open, shut_open}
 use Rattle.zre_node.proofs.tables.Tables.shut.Goals as goal
 
 pub returns-then-not-contains_key : goal.returns-then-not-contains_key
