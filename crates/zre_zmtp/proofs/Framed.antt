@@ -87,6 +87,10 @@ pub header_low : (l : Bool) → 2 ≤ cond l 9 2
 header_low true = omega arith
 header_low false = omega arith
 
+header_high : (l : Bool) → cond l 9 2 ≤ 9
+header_high true = omega arith
+header_high false = omega arith
+
 -- the header at the front of some octets, apart from what stands after it
 pub record HeadOf (h : Header) (o head later : List ℕ) : Type 0 where
   pub header : header_of head ≡ Some h
@@ -201,6 +205,13 @@ no_header o e =
     elim (cases_Bool (has_header o)) [
       | inr f ↦ f
       | inl t ↦ (let said : Header = record { flags = flags o; size = size o } in absurd (none-some said (sym e ∙ ap (λ (x : Bool). cond x (Some said) None) t)))
+    ]
+
+pub header-short : (head : List ℕ) → header_of head ≡ None → length head ≤ header_len head → length head < 9
+header-short head e within =
+    elim (and_cases (leb 1 (length head)) (leb (header_len head) (length head)) (no_header head e)) [
+      | inl f ↦ omega (arith, leb-false _ _ f)
+      | inr f ↦ omega (arith, leb-false _ _ f, header_high (is_long (flags head)))
     ]
 
 pub header-within : (head o : List ℕ) (x : ℕ) → header_of head ≡ None → length head ≤ header_len head → o ≡ head ++ x ∷ [] → length o ≤ header_len o

@@ -6,6 +6,7 @@ mod command;
 mod expected;
 mod fault;
 mod faults;
+mod head;
 mod header;
 mod item;
 mod laws;

@@ -4,17 +4,17 @@ ghost use Rattle.std.specs.Prelude.{◌≡◌, ◌≤◌, ◌<◌, [], length, N
 ghost use Rattle.std.specs.Option.{ForSome, ForNone};
 ghost use Rattle.zre_zmtp.specs.Frame.{header_len, header_of};
 
+use crate::head::Head;
 use crate::header::Header;
 use crate::looks::Store;
 use std::alloc::Global;
-use zre_values::Octets;
 
 /// The octets of a frame that isn't whole: those of its header, and apart from them those of its body, which are handed
 /// out as they stand.
 #[derive(Drop)]
 pub struct Partial {
-    /// What there is of the flags and the size: at most nine octets.
-    pub head: Octets,
+    /// What there is of the flags and the size.
+    pub head: Head,
     /// What the header says, once it is there.
     pub header: Option<Header>,
     /// What there is of the body, fewer octets than its size.
@@ -33,7 +33,7 @@ impl Partial {
         ensures body { result.body ≡ [] }
     {
         Partial {
-            head: Octets::new(alloc),
+            head: Head::new(),
             header: None,
             body: Store::new(alloc),
         }

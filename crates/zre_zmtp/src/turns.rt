@@ -13,6 +13,7 @@ use crate::command::{command_fault, identity, name, socket_type};
 use crate::expected::Expected;
 use crate::fault::{FeedFault, ZmtpFault, ZmtpWhy};
 use crate::faults::{GREETING_OCTETS, fault_of_header, fault_of_octet};
+use crate::head::Head;
 use crate::header::{Header, has_more, header_len, is_message, read_header};
 use crate::item::{Item, Items, What, push_message};
 use crate::looks::{Steps, Store};
@@ -257,7 +258,7 @@ fn begin_body(
     alloc: Global,
     want: &Want,
     progress: &mut Progress,
-    head: Octets,
+    head: Head,
     out: &mut Items,
 ) -> Result<(), FeedFault>
     requires frame { progress.old.expected ≢ Expected.Greeting }
@@ -312,7 +313,7 @@ fn take_header(
     ensures kept { OnOk result (held progress.new ≤ held progress.old + 1) }
 {
     let Partial { mut head, .. } = mem::replace(&mut progress.partial, Partial::new(alloc));
-    head.push(octet)?;
+    head.push(octet);
     if let Some(why) = fault_of_header(progress, head.as_slice()) {
         let place = progress.place;
         return Err(FeedFault::Zmtp(ZmtpFault { why, place }));

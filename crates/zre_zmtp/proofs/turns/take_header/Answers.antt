@@ -2,7 +2,7 @@ use Rattle.std.proofs.Common.{◌≡◌, ◌∷◌, [], ◌++◌, List, ℕ, len
 use Rattle.std.proofs.lemmas.List.{append-nil, length-append}
 use Rattle.zre_zmtp.specs.declared.partial.Partial.{Partial}
 use Rattle.zre_zmtp.specs.Shown.{before_of, left_of, header_fault}
-use Rattle.zre_zmtp.proofs.Framed.{left-frame, header-within, header-refused}
+use Rattle.zre_zmtp.proofs.Framed.{left-frame, header-short, header-within, header-refused}
 use Rattle.zre_zmtp.proofs.Looked.{at_most}
 use Rattle.zre_zmtp.proofs.Turning.{turn_refused}
 use Rattle.zre_zmtp.proofs.turns.take_header.Goals as goal
@@ -17,21 +17,21 @@ returns-in-Some-clause-refused c =
     let p = c.replace-head.result in
     let was = c.replace-head.ensures.value in
     let left : left_of c.args.progress.now ≡ p.head ++ p.body = left-frame c.args.progress.now.expected c.args.progress.now.greeting _ _ c.requires.frame ∙ ap (λ (x : Partial). x.head ++ x.body) (sym was) in
-    let all = grown (left_of c.args.progress.now) p.head p.body c.push.new.self c.args.octet left (p.apart (ap (λ (x : Partial). x.header) was ∙ c.requires.header)) c.in_ok-push.ensures.ok in
+    let all = grown (left_of c.args.progress.now) p.head p.body c.push.new.self c.args.octet left (p.apart (ap (λ (x : Partial). x.header) was ∙ c.requires.header)) c.push.ensures in
     let bad : header_fault b c.push.new.self ≡ Some c.in-Some.why = ap (λ (o : List ℕ). header_fault b o) (sym c.as_slice.ensures) ∙ sym c.fault_of_header.ensures ∙ c.in-Some.is in
     λ w. rw all (turn_refused c.args.want.now b c.push.new.self c.args.out.now c.args.out.now _ (header-refused c.args.want.now b c.push.new.self c.in-Some.why c.requires.frame bad) refl)
 
 pub begin_body-requires-clause-within : goal.begin_body-requires-clause-within
 begin_body-requires-clause-within c =
     let p = c.replace-head.result in
-    header-within p.head c.push.new.self c.args.octet (sym p.known ∙ ap (λ (x : Partial). x.header) c.replace-head.ensures.value ∙ c.requires.header) p.within c.in_ok-push.ensures.ok
+    header-within p.head c.push.new.self c.args.octet (sym p.known ∙ ap (λ (x : Partial). x.header) c.replace-head.ensures.value ∙ c.requires.header) p.within c.push.ensures
 
 pub returns-clause-ok : goal.returns-clause-ok
 returns-clause-ok c =
     let p = c.replace-head.result in
     let was = c.replace-head.ensures.value in
     let left : left_of c.args.progress.now ≡ p.head ++ p.body = left-frame c.args.progress.now.expected c.args.progress.now.greeting _ _ c.requires.frame ∙ ap (λ (x : Partial). x.head ++ x.body) (sym was) in
-    let all = grown (left_of c.args.progress.now) p.head p.body c.push.new.self c.args.octet left (p.apart (ap (λ (x : Partial). x.header) was ∙ c.requires.header)) c.in_ok-push.ensures.ok in
+    let all = grown (left_of c.args.progress.now) p.head p.body c.push.new.self c.args.octet left (p.apart (ap (λ (x : Partial). x.header) was ∙ c.requires.header)) c.push.ensures in
     λ w. rw all c.begin_body.ensures.ok
 
 pub returns-clause-refused : goal.returns-clause-refused
@@ -39,7 +39,7 @@ returns-clause-refused c =
     let p = c.replace-head.result in
     let was = c.replace-head.ensures.value in
     let left : left_of c.args.progress.now ≡ p.head ++ p.body = left-frame c.args.progress.now.expected c.args.progress.now.greeting _ _ c.requires.frame ∙ ap (λ (x : Partial). x.head ++ x.body) (sym was) in
-    let all = grown (left_of c.args.progress.now) p.head p.body c.push.new.self c.args.octet left (p.apart (ap (λ (x : Partial). x.header) was ∙ c.requires.header)) c.in_ok-push.ensures.ok in
+    let all = grown (left_of c.args.progress.now) p.head p.body c.push.new.self c.args.octet left (p.apart (ap (λ (x : Partial). x.header) was ∙ c.requires.header)) c.push.ensures in
     λ w. rw all c.begin_body.ensures.refused
 
 pub returns-clause-kept : goal.returns-clause-kept
@@ -47,5 +47,10 @@ returns-clause-kept c =
     let p = c.replace-head.result in
     let was = c.replace-head.ensures.value in
     let left : left_of c.args.progress.now ≡ p.head ++ p.body = left-frame c.args.progress.now.expected c.args.progress.now.greeting _ _ c.requires.frame ∙ ap (λ (x : Partial). x.head ++ x.body) (sym was) in
-    let all = grown (left_of c.args.progress.now) p.head p.body c.push.new.self c.args.octet left (p.apart (ap (λ (x : Partial). x.header) was ∙ c.requires.header)) c.in_ok-push.ensures.ok in
+    let all = grown (left_of c.args.progress.now) p.head p.body c.push.new.self c.args.octet left (p.apart (ap (λ (x : Partial). x.header) was ∙ c.requires.header)) c.push.ensures in
     at_most c.begin_body.result _ _ _ (omega (arith, ap length all, length-append (left_of c.args.progress.now) (c.args.octet ∷ []))) c.begin_body.ensures.kept
+
+pub push-requires : goal.push-requires
+push-requires c =
+    let p = c.replace-head.result in
+    header-short p.head (sym p.known ∙ ap (λ (x : Partial). x.header) c.replace-head.ensures.value ∙ c.requires.header) p.within
