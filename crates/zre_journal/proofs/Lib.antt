@@ -20,6 +20,7 @@ pub mod Keeping
 pub mod Kept
 pub mod Known
 pub mod Lawful
+pub mod Ledgers
 pub mod Listed
 pub mod Octets
 pub mod Passing

@@ -17,6 +17,7 @@ pub mod Held
 pub mod Introducing
 pub mod Keeping
 pub mod Laws
+pub mod Ledger
 pub mod LinkEntries
 pub mod Links
 pub mod Peers

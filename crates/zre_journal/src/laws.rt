@@ -1,6 +1,6 @@
 //! Laws of what journals mean. The functions do nothing: what they ensure is for proofs.
 
-ghost use Rattle.std.specs.Prelude.{◌≡◌, ℕ, ◌≤◌, ◌++◌, ◌∷◌, [], true, List};
+ghost use Rattle.std.specs.Prelude.{◌≡◌, ℕ, ◌≤◌, ◌<◌, ◌++◌, ◌∷◌, [], true, List, length, Some};
 ghost use Rattle.std.specs.List.{list_any};
 ghost use Rattle.zre_outside.specs.declared.entry.Entry.{Entry};
 ghost use Rattle.zre_outside.specs.declared.entry.Input.TheVariants.{Tick};
@@ -15,7 +15,12 @@ ghost use Rattle.zre_journal.specs.Held.{Within};
 ghost use Rattle.zre_journal.specs.Introducing.{CanIntroduce, Introduces};
 ghost use Rattle.zre_journal.specs.Happens.{has_stopped};
 ghost use Rattle.zre_journal.specs.Closing.{LeavesNothing, ArePaired, IsNoPeer};
+ghost use Rattle.zre_msg.specs.declared.message.Message.{Message};
+ghost use Rattle.zre_peer.specs.Ledger.{IsNumbered, IsPicked, IsNear};
+ghost use Rattle.zre_journal.specs.Connections.{runs};
 ghost use Rattle.zre_journal.specs.Keeping.{Keeps};
+ghost use Rattle.zre_journal.specs.Ledger.{Ledger, IsDrawn, IsWithinWindow, KeepsLedger, IsJudged};
+ghost use Rattle.zre_journal.specs.Peers.{counted};
 ghost use Rattle.zre_journal.specs.Standing.{KnownIsBorn, OpenIsOpened};
 ghost use Rattle.zre_journal.specs.Laws.{Continues, HasEnded, RunsAlone, AreStrangers, AreFew, EndsOnce, ShowsItsMessages};
 ghost use Rattle.zre_journal.specs.Proper.{IsProper};
@@ -161,4 +166,21 @@ pub fn a_tick_cleans_up()
 /// offers, which are made at the end of each entry.
 pub fn any_cut()
     ensures { (g : Config) (J : List Entry) (at c : ℕ) (a b : List ℕ) → IsSameCut g J at c a b }
+{}
+
+/// Where the messages of a journal are drawn from ledgers, and each that was counted lay fewer than 65,536 places from
+/// the one due, what was counted on a connection is the beginning of what was sent on it: no message is missing, came
+/// twice or is out of order, and the view and the events of the peer are theirs.
+pub fn a_ledger_is_kept()
+    ensures { (g : Config) (J : List Entry) (b : Ledger) → IsDrawn g b (chronicle g J)
+        → IsWithinWindow b (chronicle g J) → KeepsLedger b (events g J) (chronicle g J) }
+{}
+
+/// And the next message that comes, fewer than 65,536 places from the one due, is counted where it is that one and the
+/// view after it is within the limits; a missing, repeated or reordered one ends the peer at once, before anything later
+/// of it.
+pub fn a_gap_shows_at_once()
+    ensures { (g : Config) (sent : List Message) (c l pick : ℕ) (m : Message) (K : List Mark) → IsNumbered sent
+        → IsPicked sent pick m → runs c K ≡ Some l → 0 < length (counted l K) → IsNear (length (counted l K)) pick
+        → IsJudged g c l pick m K }
 {}
