@@ -1,5 +1,7 @@
+pub mod Bells
 pub mod Pieces
 pub mod Readings
 pub mod RealWorlds
 pub mod Rows
 pub mod Tokens
+pub mod Troubles

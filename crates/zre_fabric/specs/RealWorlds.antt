@@ -2,6 +2,7 @@
 use Rattle.std.specs.Prelude.{ℕ, Bool, Option, None}
 use Rattle.zre_outside.specs.Worlds.{Log}
 use Rattle.zre_fabric.specs.declared.real_world.RealWorld.{RealWorld}
+use Rattle.zre_fabric.specs.declared.trouble.Reason.{Reason}
 
 -- it tells nothing of what it gave
 abbrev pub told_of : {R : Type 0} → RealWorld R → Option Log
@@ -14,6 +15,10 @@ has_looked w = w.looked
 -- how often it failed
 abbrev pub faults_of : {R : Type 0} → RealWorld R → ℕ
 faults_of w = w.faults
+
+-- what failed last, and why
+abbrev pub reason_of : {R : Type 0} → RealWorld R → Option Reason
+reason_of w = w.reason
 
 -- the last reading of its clock
 abbrev pub reading_of : {R : Type 0} → RealWorld R → ℕ

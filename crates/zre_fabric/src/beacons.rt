@@ -4,12 +4,13 @@ ghost use Rattle.zre_fabric.specs.Pieces.{StepIsShort};
 use crate::errors::{ErrorClass, class_of};
 use crate::read_buffer::ReadBuffer;
 use crate::step::Step;
+use crate::trouble::{Part, Trouble, failed};
 use mio::net::UdpSocket;
 use std::alloc::Global;
 use std::io;
 use std::net::{Ipv4Addr, Net, SocketAddr};
-use zre_outside::{Input, NextFault, Start};
-use zre_values::Octets;
+use zre_outside::{Input, Start};
+use zre_values::{Endpoint, Octets};
 
 /// The socket that beacons come to and go out from, and where they go to.
 #[derive(Drop)]
@@ -17,7 +18,7 @@ pub(crate) struct Beacons {
     pub(crate) socket: UdpSocket,
     pub(crate) is_queued: bool,
     to: Vec<[u8; 4]>,
-    port: u16,
+    at: Endpoint,
 }
 
 pub(crate) fn address(addr: [u8; 4], port: u16) -> SocketAddr {
@@ -31,40 +32,45 @@ fn bind<R: Net>(rt: &R, s: &Start) -> io::Result<UdpSocket> {
 }
 
 impl Beacons {
-    pub(crate) fn open<R: Net>(rt: &R, alloc: Global, s: &Start) -> Result<Self, NextFault> {
-        let Ok(socket) = bind(rt, s) else {
-            return Err(NextFault::Failed);
+    pub(crate) fn open<R: Net>(rt: &R, alloc: Global, s: &Start) -> Result<Self, Trouble> {
+        let at = Endpoint {
+            addr: s.listen,
+            port: s.beacon_port,
+        };
+        let socket = match bind(rt, s) {
+            Ok(socket) => socket,
+            Err(error) => return Err(failed(Part::Beacons(at), error)),
         };
         let Ok(to) = Vec::from_slice(alloc, s.to.as_slice()) else {
-            return Err(NextFault::OutOfMemory);
+            return Err(Trouble::OutOfMemory);
         };
         Ok(Beacons {
             socket,
             is_queued: false,
             to,
-            port: s.beacon_port,
+            at,
         })
     }
 
     /// Sends a beacon to each address. One that can't be sent is dropped, since another follows.
     pub(crate) fn send(&self, bytes: &[u8]) {
         for to in &self.to {
-            let _ = self.socket.send_to(bytes, address(*to, self.port));
+            let _ = self.socket.send_to(bytes, address(*to, self.at.port));
         }
     }
 
-    pub(crate) fn step(&mut self, buffer: &mut ReadBuffer) -> Result<Step, NextFault>
+    pub(crate) fn step(&mut self, buffer: &mut ReadBuffer) -> Result<Step, Trouble>
         ensures { IfOk result (λ step. StepIsShort step) }
     {
         let Ok(datagram) = buffer.receive(&self.socket) else {
-            return Err(NextFault::OutOfMemory);
+            return Err(Trouble::OutOfMemory);
         };
         match datagram {
             Ok(datagram) => Ok(entry_of(datagram)),
-            Err(e) => match class_of(&e) {
+            Err(error) => match class_of(&error) {
                 ErrorClass::NotReady => Ok(Step::Rest),
                 ErrorClass::Transient => Ok(Step::Again),
-                ErrorClass::Fatal => Err(NextFault::Failed),
+                ErrorClass::Fatal => Err(failed(Part::Beacons(self.at), error)),
             },
         }
     }

@@ -4,13 +4,16 @@ ghost use Rattle.zre_fabric.specs.Pieces.{TurnIsShort};
 ghost use Rattle.zre_fabric.specs.Readings.{IsReadAt};
 ghost use Rattle.zre_fabric.specs.Rows.{is_full, entries_after, commands_after};
 
+use crate::bell::Bell;
 use crate::network::Network;
 use crate::row::Row;
 use crate::stopwatch::Stopwatch;
+use crate::trouble::{Part, Trouble, failed};
 use std::alloc::Global;
+use std::io::{self, ErrorKind};
 use std::net::Net;
 use std::rt::Clock;
-use zre_outside::{Act, Command, Entry, Input, NextFault, Start, Turn};
+use zre_outside::{Act, Command, Entry, Input, Start, Turn};
 use zre_values::OutOfMemory;
 
 /// The clock, and the network once it was started.
@@ -20,11 +23,12 @@ pub(crate) struct Fabric<R> {
     alloc: Global,
     stopwatch: Stopwatch,
     row: Row,
+    bell: Option<Bell>,
     network: Option<Network>,
 }
 
 impl<R> Fabric<R> {
-    pub(crate) fn new(rt: R, alloc: Global) -> Self
+    pub(crate) fn new(rt: R, alloc: Global, bell: Option<Bell>) -> Self
         ensures clock { result.stopwatch.last ≡ 0 }
         ensures row { (result.row.entries ≡ 0) × (result.row.commands ≡ 0) }
     {
@@ -33,6 +37,7 @@ impl<R> Fabric<R> {
             alloc,
             stopwatch: Stopwatch::new(),
             row: Row::new(),
+            bell,
             network: None,
         }
     }
@@ -40,18 +45,18 @@ impl<R> Fabric<R> {
 
 impl<R: Net + Clock> Fabric<R> {
     /// What was open before is closed first, since the same ports may be asked for.
-    pub(crate) fn start(&mut self, s: &Start) -> Result<(), NextFault>
+    pub(crate) fn start(&mut self, s: &Start) -> Result<(), Trouble>
         ensures later { self.old.stopwatch.last ≤ self.new.stopwatch.last }
         ensures row { (self.new.row.entries ≡ 0) × (self.new.row.commands ≡ 0) }
     {
         self.network = None;
         self.row = Row::new();
         let at = self.stopwatch.read(&self.rt)?;
-        self.network = Some(Network::open(&self.rt, self.alloc, s, at)?);
+        self.network = Some(Network::open(&self.rt, self.alloc, s, at, &mut self.bell)?);
         Ok(())
     }
 
-    pub(crate) fn next(&mut self, command: Option<Command>) -> Result<Turn, NextFault>
+    pub(crate) fn next(&mut self, command: Option<Command>) -> Result<Turn, Trouble>
         ensures turn { IfOk result (λ t. IsTurn command t) }
         ensures short { IfOk result (λ t. TurnIsShort t) }
         ensures reading { IfOk result (λ t. IsReadAt self.new.stopwatch.last t) }
@@ -64,11 +69,25 @@ impl<R: Net + Clock> Fabric<R> {
     {
         match command {
             Some(command) => self.obey(command),
-            None => self.go_on(),
+            None => {
+                self.tell_bell();
+                self.go_on()
+            }
         }
     }
 
-    fn obey(&mut self, command: Command) -> Result<Turn, NextFault>
+    // The last turn was a look, after which no command was found: the bell's other end may wait for that.
+    fn tell_bell(&mut self)
+        ensures same { self.new ≡ record self.old { bell = self.new.bell } }
+    {
+        if self.row.has_looked()
+            && let Some(bell) = &mut self.bell
+        {
+            bell.found_none();
+        }
+    }
+
+    fn obey(&mut self, command: Command) -> Result<Turn, Trouble>
         ensures turn { IfOk result (λ t. IsTurn (Some command) t) }
         ensures short { IfOk result (λ t. TurnIsShort t) }
         ensures reading { IfOk result (λ t. IsReadAt self.new.stopwatch.last t) }
@@ -89,7 +108,7 @@ impl<R: Net + Clock> Fabric<R> {
     }
 
     // A look where one is due, or an entry that is there, or else one that comes within the wait, or else a look.
-    fn go_on(&mut self) -> Result<Turn, NextFault>
+    fn go_on(&mut self) -> Result<Turn, Trouble>
         ensures short { IfOk result (λ t. TurnIsShort t) }
         ensures reading { IfOk result (λ t. IsReadAt self.new.stopwatch.last t) }
         ensures later { self.old.stopwatch.last ≤ self.new.stopwatch.last }
@@ -100,20 +119,20 @@ impl<R: Net + Clock> Fabric<R> {
     {
         let at = self.stopwatch.read(&self.rt)?;
         let Some(network) = &mut self.network else {
-            return Err(NextFault::Failed);
+            return Err(failed(Part::Poll, io::Error::from(ErrorKind::NotConnected)));
         };
         if self.row.is_full() {
             network.gave_look(at);
             self.row.gave_look();
             return Ok(Turn::Look);
         }
-        if let Some(input) = network.find(at)? {
+        if let Some(input) = network.find(at, &mut self.bell)? {
             self.row.gave_entry();
             return Ok(Turn::Entry(Entry { at, input }));
         }
-        network.wait(at)?;
+        network.wait(at, &mut self.bell)?;
         let at = self.stopwatch.read(&self.rt)?;
-        match network.find(at)? {
+        match network.find(at, &mut self.bell)? {
             Some(input) => {
                 self.row.gave_entry();
                 Ok(Turn::Entry(Entry { at, input }))

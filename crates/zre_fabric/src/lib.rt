@@ -15,16 +15,18 @@
 //! ```
 //!
 //! - A Tick comes at once and then each `interval` milliseconds; Ticks that were missed aren't made up for.
-//! - A look comes after 20 milliseconds at most in which nothing
-//! came, after 64 entries at most, and again at once after
-//! each command. After 64 commands in a row what the sockets have comes first. With nothing to do the call waits in
-//! the poll.
-//! - Pieces, replies and datagrams have at most 65,536 octets.
-//! Connections are numbered from 1 in the order in which they
-//!   came.
+//! - A look comes after 20 milliseconds at most in which nothing came, after 64 entries at most, and again at once
+//!   after each command. After 64 commands in a row what the sockets have comes first. With nothing to do the call
+//!   waits in the poll.
+//! - A world with a [`Bell`] looks at once where it is rung. `Ringing::with_bell` makes the bell and a source that
+//!   rings it before each read, when what the last read gave has been put where the looks find it. After much input
+//!   it waits there until a look found nothing, so that who puts commands needn't try again and again.
+//! - Pieces, replies and datagrams have at most 65,536 octets. Connections are numbered from 1 in the order in which
+//!   they came.
 //! - A write to a link or a connection whose peer is gone is an error of that call and no signal: std sends with
 //!   `MSG_NOSIGNAL`. A connection and a link send without delay (`TCP_NODELAY`).
 //! - `Failed` says that the clock, the poll, the UDP socket or the listener failed, or that the world wasn't started.
+//!   `reason` tells which of them, and why.
 //!
 //! # What is proved, and what is tested
 //!
@@ -33,11 +35,13 @@
 //! others. A look comes again after each command and after 64 entries, as said above (clauses `look` and `row` of
 //! `next`). What a turn says of sockets is told by no clause (`told` is `None`), since no contract says what a system
 //! answers. Proved of the parts: the readings of the clock never fall, a wait is no longer than 20 milliseconds, and
-//! a token of the poll names its source. Tested over loopback: the rest of the list above, each kind of entry, and
-//! that a failing bind fails at once.
+//! a token of the poll names its source. Nothing is proved of a bell but that a source which rings
+//! reads what the one under it gives. Tested over loopback: the rest of the list above, each kind of entry, and that a
+//! failing bind fails at once.
 #![tactic(auto)]
 
 mod beacons;
+mod bell;
 mod conn;
 mod errors;
 mod fabric;
@@ -51,6 +55,9 @@ mod sockets;
 mod source;
 mod step;
 mod stopwatch;
+mod trouble;
 
+pub use bell::{Bell, Ringing};
 pub use errors::{ErrorClass, class_of};
 pub use real_world::RealWorld;
+pub use trouble::{Part, Reason};

@@ -2,17 +2,20 @@ ghost use Rattle.std.specs.Prelude.{IfOk, IfSome};
 ghost use Rattle.zre_fabric.specs.Pieces.{IsShort};
 
 use crate::beacons::{Beacons, address};
+use crate::bell::Bell;
 use crate::pace::Pace;
 use crate::sockets::Sockets;
 use crate::source::{Source, source_of, token_of};
+use crate::trouble::{Part, Trouble, failed, no_memory};
 use mio::event::Source as Watched;
 use mio::net::TcpListener;
 use mio::{Events, Interest, Poll, Registry};
 use std::alloc::Global;
+use std::io::{self, ErrorKind};
 use std::net::Net;
 use std::time::Duration;
-use zre_outside::{Act, Input, NextFault, Start};
-use zre_values::OutOfMemory;
+use zre_outside::{Act, Input, Start};
+use zre_values::{Endpoint, OutOfMemory};
 
 /// So many events one poll tells at most. The others come with the next.
 const EVENTS: usize = 256;
@@ -28,44 +31,58 @@ pub(crate) struct Network {
     is_due_to_poll: bool,
 }
 
-fn watch<S: Watched>(registry: &Registry, socket: &mut S, source: Source) -> Result<(), NextFault> {
+fn watch<S: Watched>(registry: &Registry, socket: &mut S, source: Source) -> Result<(), Trouble> {
     let Some(token) = token_of(source) else {
-        return Err(NextFault::Failed);
+        return Err(failed(Part::Poll, io::Error::from(ErrorKind::InvalidInput)));
     };
     match registry.register(socket, token, Interest::READABLE) {
         Ok(()) => Ok(()),
-        Err(_) => Err(NextFault::Failed),
+        Err(error) => Err(failed(Part::Poll, error)),
     }
 }
 
-fn no_memory(_: OutOfMemory) -> NextFault {
-    NextFault::OutOfMemory
+fn new_poll<R: Net>(rt: &R) -> Result<Poll, Trouble> {
+    match Poll::new(rt) {
+        Ok(poll) => Ok(poll),
+        Err(error) => Err(failed(Part::Poll, error)),
+    }
+}
+
+fn listen<R: Net>(rt: &R, at: Endpoint) -> Result<TcpListener, Trouble> {
+    match TcpListener::bind(rt, address(at.addr, at.port)) {
+        Ok(listener) => Ok(listener),
+        Err(error) => Err(failed(Part::Mailbox(at), error)),
+    }
 }
 
 impl Network {
-    /// Binds both sockets, and has the poll watch them.
+    /// Binds both sockets, and has the poll watch them, and the bell.
     pub(crate) fn open<R: Net>(
         rt: &R,
         alloc: Global,
         s: &Start,
         at: u64,
-    ) -> Result<Self, NextFault> {
-        let Ok(poll) = Poll::new(rt) else {
-            return Err(NextFault::Failed);
-        };
+        bell: &mut Option<Bell>,
+    ) -> Result<Self, Trouble> {
+        let poll = new_poll(rt)?;
         let Ok(events) = Events::with_capacity(alloc, EVENTS) else {
-            return Err(NextFault::OutOfMemory);
+            return Err(Trouble::OutOfMemory);
         };
         let mut beacons = Beacons::open(rt, alloc, s)?;
-        let Ok(mut listener) = TcpListener::bind(rt, address(s.host, s.port)) else {
-            return Err(NextFault::Failed);
+        let listens_at = Endpoint {
+            addr: s.host,
+            port: s.port,
         };
+        let mut listener = listen(rt, listens_at)?;
         watch(poll.registry(), &mut beacons.socket, Source::Beacons)?;
         watch(poll.registry(), &mut listener, Source::Mailbox)?;
+        if let Some(bell) = bell {
+            watch(poll.registry(), &mut bell.stream, Source::Bell)?;
+        }
         Ok(Network {
             poll,
             events,
-            sockets: Sockets::new(alloc, beacons, listener).map_err(no_memory)?,
+            sockets: Sockets::new(alloc, beacons, listener, listens_at).map_err(no_memory)?,
             pace: Pace::new(s.interval, at),
             is_due_to_poll: true,
         })
@@ -77,16 +94,20 @@ impl Network {
     }
 
     pub(crate) fn gave_command(&mut self, at: u64) {
-        self.pace.gave_command(at);
+        self.pace.look_now(at);
     }
 
     /// An entry that is there without waiting. The poll is asked after each look, so that sources which always have
     /// something don't keep the others out.
-    pub(crate) fn find(&mut self, at: u64) -> Result<Option<Input>, NextFault>
+    pub(crate) fn find(
+        &mut self,
+        at: u64,
+        bell: &mut Option<Bell>,
+    ) -> Result<Option<Input>, Trouble>
         ensures { IfOk result (λ input. IfSome input (λ i. IsShort i)) }
     {
         if self.is_due_to_poll {
-            self.gather(Duration::ZERO)?;
+            self.gather(at, Duration::ZERO, bell)?;
         }
         if self.pace.tick(at) {
             return Ok(Some(Input::Tick));
@@ -94,22 +115,35 @@ impl Network {
         self.sockets.next(self.poll.registry())
     }
 
-    /// Waits until something comes, a Tick is due, or a look is.
-    pub(crate) fn wait(&mut self, at: u64) -> Result<(), NextFault> {
+    /// Waits until something comes, the bell is rung, a Tick is due, or a look is.
+    pub(crate) fn wait(&mut self, at: u64, bell: &mut Option<Bell>) -> Result<(), Trouble> {
         let timeout = self.pace.wait(at);
-        self.gather(timeout)
+        self.gather(at, timeout, bell)
     }
 
-    fn gather(&mut self, timeout: Duration) -> Result<(), NextFault> {
+    // After a ring a look is due at once.
+    fn gather(
+        &mut self,
+        at: u64,
+        timeout: Duration,
+        bell: &mut Option<Bell>,
+    ) -> Result<(), Trouble> {
         self.is_due_to_poll = false;
-        if self.poll.poll(&mut self.events, Some(timeout)).is_err() {
-            return Err(NextFault::Failed);
+        if let Err(error) = self.poll.poll(&mut self.events, Some(timeout)) {
+            return Err(failed(Part::Poll, error));
         }
         for event in &self.events {
             let source = source_of(event.token());
-            self.sockets
-                .hear(source, event.is_writable())
-                .map_err(no_memory)?;
+            if let Source::Bell = source {
+                self.pace.look_now(at);
+                if let Some(bell) = bell {
+                    bell.hear();
+                }
+            } else {
+                self.sockets
+                    .hear(source, event.is_writable())
+                    .map_err(no_memory)?;
+            }
         }
         Ok(())
     }

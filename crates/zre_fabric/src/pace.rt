@@ -51,8 +51,8 @@ impl Pace {
         self.look_at = at.saturating_add(LOOK_MILLIS);
     }
 
-    /// A command was handed in, so that there may be others: the next look is due at once.
-    pub(crate) fn gave_command(&mut self, at: u64)
+    /// There may be a command: the next look is due at once.
+    pub(crate) fn look_now(&mut self, at: u64)
         ensures { self.new.look_at ≡ at }
     {
         self.look_at = at;

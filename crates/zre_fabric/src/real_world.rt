@@ -5,8 +5,11 @@ ghost use Rattle.zre_outside.specs.Worlds.{with_start, IsTurn, is_look, after_tu
 ghost use Rattle.zre_fabric.specs.Pieces.{TurnIsShort};
 ghost use Rattle.zre_fabric.specs.Readings.{IsReadAt};
 ghost use Rattle.zre_fabric.specs.Rows.{is_full, entries_after, commands_after};
+ghost use Rattle.zre_fabric.specs.Troubles.{fault_of};
 
+use crate::bell::Bell;
 use crate::fabric::Fabric;
+use crate::trouble::{Reason, Trouble};
 use std::alloc::Global;
 use std::net::Net;
 use std::rt::Clock;
@@ -19,10 +22,11 @@ pub struct RealWorld<R> {
     fabric: Fabric<R>,
     looked: bool,
     faults: u64,
+    reason: Option<Reason>,
 }
 
 impl<R> RealWorld<R> {
-    ghost use Rattle.zre_fabric.specs.RealWorlds.{has_looked, faults_of, reading_of, entries_of, commands_of};
+    ghost use Rattle.zre_fabric.specs.RealWorlds.{has_looked, faults_of, reason_of, reading_of, entries_of, commands_of};
 
     /// A world that isn't started yet. It takes no memory and opens nothing.
     pub fn new(rt: R, alloc: Global) -> Self
@@ -31,11 +35,45 @@ impl<R> RealWorld<R> {
         ensures clock { reading_of result ≡ 0 }
         ensures row { (entries_of result ≡ 0) × (commands_of result ≡ 0) }
     {
+        RealWorld::with_bell(rt, alloc, None)
+    }
+
+    /// The same with a bell: a look is due at once where it is rung.
+    pub fn with_bell(rt: R, alloc: Global, bell: Option<Bell>) -> Self
+        ensures looked { has_looked result ≡ false }
+        ensures faults { faults_of result ≡ 0 }
+        ensures clock { reading_of result ≡ 0 }
+        ensures row { (entries_of result ≡ 0) × (commands_of result ≡ 0) }
+    {
         RealWorld {
-            fabric: Fabric::new(rt, alloc),
+            fabric: Fabric::new(rt, alloc, bell),
             looked: false,
             faults: 0,
+            reason: None,
         }
+    }
+
+    /// What failed in the last call that did, and why as the system says it; none where that was memory.
+    pub fn reason(&self) -> Option<Reason>
+        ensures { result ≡ reason_of self.now }
+    {
+        self.reason
+    }
+
+    // A call ended early.
+    fn note(&mut self, trouble: Trouble) -> NextFault
+        ensures fault { result ≡ fault_of trouble }
+        ensures later { faults_of self.old ≤ faults_of self.new }
+        ensures failed { result ≡ NextFault.Failed → Rose (faults_of self.old) (faults_of self.new) }
+        ensures other { result ≡ NextFault.OutOfMemory → faults_of self.new ≡ faults_of self.old }
+        ensures one { result ≡ NextFault.Failed → faults_of self.new ≡ raised (faults_of self.old) }
+        ensures reason { result ≡ NextFault.Failed → IsSome (reason_of self.new) }
+        ensures same { (self.new.fabric ≡ self.old.fabric) × (self.new.looked ≡ self.old.looked) }
+    {
+        let fault = trouble.fault();
+        self.faults = raise(self.faults, fault);
+        self.reason = trouble.reason();
+        fault
     }
 }
 
@@ -53,7 +91,8 @@ fn raise(faults: u64, fault: NextFault) -> u64
 }
 
 impl<R: Net + Clock> World for RealWorld<R> {
-    ghost use Rattle.zre_fabric.specs.RealWorlds.{told_of, has_looked, faults_of, reading_of, entries_of, commands_of};
+    ghost use Rattle.zre_fabric.specs.RealWorlds.{told_of, has_looked, faults_of, reason_of};
+    ghost use Rattle.zre_fabric.specs.RealWorlds.{reading_of, entries_of, commands_of};
 
     ghost told = { told_of };
 
@@ -71,15 +110,13 @@ impl<R: Net + Clock> World for RealWorld<R> {
         ensures failed { IsErrOf result NextFault.Failed → Rose (faults_of self.old) (faults_of self.new) }
         // The count rises where it failed, and nowhere else.
         ensures counted { faults_of self.new ≡ counted (is_failed result) (faults_of self.old) }
+        ensures reason { IsErrOf result NextFault.Failed → IsSome (reason_of self.new) }
         ensures clock { reading_of self.old ≤ reading_of self.new }
         ensures row { (entries_of self.new ≡ 0) × (commands_of self.new ≡ 0) }
     {
         match self.fabric.start(s) {
             Ok(()) => Ok(()),
-            Err(fault) => {
-                self.faults = raise(self.faults, fault);
-                Err(fault)
-            }
+            Err(trouble) => Err(self.note(trouble)),
         }
     }
 
@@ -96,6 +133,7 @@ impl<R: Net + Clock> World for RealWorld<R> {
         ensures failed { IsErrOf result NextFault.Failed → Rose (faults_of self.old) (faults_of self.new) }
         // The count rises where it failed, and nowhere else.
         ensures counted { faults_of self.new ≡ counted (is_failed result) (faults_of self.old) }
+        ensures reason { IsErrOf result NextFault.Failed → IsSome (reason_of self.new) }
         ensures clock { reading_of self.old ≤ reading_of self.new }
         ensures reading { IfOk result (λ t. IsReadAt (reading_of self.new) t) }
         ensures short { IfOk result (λ t. TurnIsShort t) }
@@ -112,10 +150,7 @@ impl<R: Net + Clock> World for RealWorld<R> {
                 self.looked = matches!(turn, Turn::Look);
                 Ok(turn)
             }
-            Err(fault) => {
-                self.faults = raise(self.faults, fault);
-                Err(fault)
-            }
+            Err(trouble) => Err(self.note(trouble)),
         }
     }
 

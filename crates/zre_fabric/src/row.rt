@@ -1,6 +1,6 @@
 //! When a look comes before any other turn.
 
-ghost use Rattle.std.specs.Prelude.{◌≡◌};
+ghost use Rattle.std.specs.Prelude.{◌≡◌, ◌==◌};
 ghost use Rattle.zre_outside.specs.Causes.{raised};
 ghost use Rattle.zre_fabric.specs.Rows.{is_full};
 
@@ -34,6 +34,13 @@ impl Row {
         ensures { result ≡ is_full self.now.entries self.now.commands }
     {
         self.entries >= ENTRIES || self.entries > 0 && self.commands > 0 && self.commands < COMMANDS
+    }
+
+    /// Whether no entry was given since the last look.
+    pub(crate) fn has_looked(&self) -> bool
+        ensures { result ≡ (self.now.entries == 0) }
+    {
+        self.entries == 0
     }
 
     pub(crate) fn gave_look(&mut self)

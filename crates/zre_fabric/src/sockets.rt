@@ -10,12 +10,13 @@ use crate::link::Link;
 use crate::read_buffer::ReadBuffer;
 use crate::source::{Source, token_of};
 use crate::step::Step;
+use crate::trouble::{Part, Trouble, failed, no_memory};
 use mio::net::{TcpListener, TcpStream};
 use mio::{Interest, Registry};
 use std::alloc::Global;
 use std::collections::{BTreeMap, VecDeque};
 use std::net::Net;
-use zre_outside::{Input, NextFault};
+use zre_outside::Input;
 use zre_values::{Endpoint, OutOfMemory};
 
 /// A source stands in the queue once, where `is_queued` says so, and keeps its place until a look at it finds
@@ -24,7 +25,8 @@ use zre_values::{Endpoint, OutOfMemory};
 #[derive(Drop)]
 pub(crate) struct Sockets {
     pub(crate) beacons: Beacons,
-    pub(crate) listener: TcpListener,
+    listener: TcpListener,
+    listens_at: Endpoint,
     listener_is_queued: bool,
     opened: u64,
     conns: BTreeMap<u64, Conn>,
@@ -33,19 +35,17 @@ pub(crate) struct Sockets {
     buffer: ReadBuffer,
 }
 
-fn no_memory(_: OutOfMemory) -> NextFault {
-    NextFault::OutOfMemory
-}
-
 impl Sockets {
     pub(crate) fn new(
         alloc: Global,
         beacons: Beacons,
         listener: TcpListener,
+        listens_at: Endpoint,
     ) -> Result<Self, OutOfMemory> {
         Ok(Sockets {
             beacons,
             listener,
+            listens_at,
             listener_is_queued: false,
             opened: 0,
             conns: BTreeMap::new(alloc),
@@ -70,6 +70,7 @@ impl Sockets {
         match source {
             Source::Beacons => Some(&mut self.beacons.is_queued),
             Source::Mailbox => Some(&mut self.listener_is_queued),
+            Source::Bell => None,
             Source::Conn(conn) => Some(&mut self.conns.get_mut(&conn)?.is_queued),
             Source::Link(link) => Some(&mut self.links.get_mut(&link)?.is_queued),
         }
@@ -86,7 +87,7 @@ impl Sockets {
     }
 
     /// The next entry of a source that may have one. Each is looked at once.
-    pub(crate) fn next(&mut self, registry: &Registry) -> Result<Option<Input>, NextFault>
+    pub(crate) fn next(&mut self, registry: &Registry) -> Result<Option<Input>, Trouble>
         ensures { IfOk result (λ input. IfSome input (λ i. IsShort i)) }
     {
         for _ in 0..self.queue.len() {
@@ -100,7 +101,7 @@ impl Sockets {
         Ok(None)
     }
 
-    fn look_at(&mut self, source: Source, registry: &Registry) -> Result<Option<Input>, NextFault>
+    fn look_at(&mut self, source: Source, registry: &Registry) -> Result<Option<Input>, Trouble>
         ensures { IfOk result (λ input. IfSome input (λ i. IsShort i)) }
     {
         match self.step(source, registry)? {
@@ -125,10 +126,10 @@ impl Sockets {
         }
     }
 
-    fn keep(&mut self, source: Source) -> Result<(), NextFault> {
+    fn keep(&mut self, source: Source) -> Result<(), Trouble> {
         match self.queue.push_back(source) {
             Ok(()) => Ok(()),
-            Err(_) => Err(NextFault::OutOfMemory),
+            Err(_) => Err(Trouble::OutOfMemory),
         }
     }
 
@@ -137,16 +138,17 @@ impl Sockets {
         match source {
             Source::Conn(conn) => drop(self.conns.remove(&conn)),
             Source::Link(link) => drop(self.links.remove(&link)),
-            Source::Beacons | Source::Mailbox => {}
+            Source::Beacons | Source::Mailbox | Source::Bell => {}
         }
     }
 
-    fn step(&mut self, source: Source, registry: &Registry) -> Result<Step, NextFault>
+    fn step(&mut self, source: Source, registry: &Registry) -> Result<Step, Trouble>
         ensures { IfOk result (λ step. StepIsShort step) }
     {
         match source {
             Source::Beacons => self.beacons.step(&mut self.buffer),
             Source::Mailbox => self.accept(registry),
+            Source::Bell => Ok(Step::Rest),
             Source::Conn(number) => match self.conns.get_mut(&number) {
                 Some(conn) => conn.step(number, &mut self.buffer).map_err(no_memory),
                 None => Ok(Step::Rest),
@@ -158,15 +160,15 @@ impl Sockets {
         }
     }
 
-    fn accept(&mut self, registry: &Registry) -> Result<Step, NextFault>
+    fn accept(&mut self, registry: &Registry) -> Result<Step, Trouble>
         ensures { IfOk result (λ step. StepIsShort step) }
     {
         match self.listener.accept() {
             Ok((stream, _)) => self.admit(stream, registry).map_err(no_memory),
-            Err(e) => match class_of(&e) {
+            Err(error) => match class_of(&error) {
                 ErrorClass::NotReady => Ok(Step::Rest),
                 ErrorClass::Transient => Ok(Step::Again),
-                ErrorClass::Fatal => Err(NextFault::Failed),
+                ErrorClass::Fatal => Err(failed(Part::Mailbox(self.listens_at), error)),
             },
         }
     }

@@ -11,20 +11,23 @@ pub(crate) enum Source {
     Beacons,
     /// The listener.
     Mailbox,
+    /// The bell of the user's input, which has no entries.
+    Bell,
     /// A connection that came, by its number.
     Conn(u64),
     /// A link, by its number.
     Link(u64),
 }
 
-/// Connections have the even tokens after 0 and 1, links the odd ones; a number that has no token gives none.
+/// Connections have the even tokens from 4 on, links the odd ones from 3 on; a number that has no token gives none.
 pub(crate) fn token_of(source: Source) -> Option<Token>
     ensures { IfSome result (λ token. token.0 ≡ number_of source) }
 {
     let number = match source {
         Source::Beacons => 0,
         Source::Mailbox => 1,
-        Source::Conn(conn) => conn.checked_mul(2)?.checked_add(2)?,
+        Source::Bell => 2,
+        Source::Conn(conn) => conn.checked_mul(2)?.checked_add(4)?,
         Source::Link(link) => link.checked_mul(2)?.checked_add(3)?,
     };
     Some(Token(number as usize))
@@ -38,8 +41,10 @@ pub(crate) fn source_of(token: Token) -> Source
         Source::Beacons
     } else if number == 1 {
         Source::Mailbox
+    } else if number == 2 {
+        Source::Bell
     } else if number % 2 == 0 {
-        Source::Conn(number / 2 - 1)
+        Source::Conn(number / 2 - 2)
     } else {
         Source::Link(number / 2 - 1)
     }

@@ -1,8 +1,8 @@
 ghost use Rattle.std.specs.Prelude.{◌≡◌, ◌≤◌, IfOk};
 
+use crate::trouble::{Part, Trouble, failed};
 use std::rt::Clock;
 use std::time::Duration;
-use zre_outside::NextFault;
 
 /// The milliseconds since the first reading.
 #[derive(Drop)]
@@ -22,12 +22,13 @@ impl Stopwatch {
     }
 
     /// A reading, which is never below an earlier one. It fails where the clock can't be read.
-    pub(crate) fn read<R: Clock>(&mut self, rt: &R) -> Result<u64, NextFault>
+    pub(crate) fn read<R: Clock>(&mut self, rt: &R) -> Result<u64, Trouble>
         ensures now { IfOk result (λ at. at ≡ self.new.last) }
         ensures later { self.old.last ≤ self.new.last }
     {
-        let Ok(reading) = rt.monotonic() else {
-            return Err(NextFault::Failed);
+        let reading = match rt.monotonic() {
+            Ok(reading) => reading,
+            Err(error) => return Err(failed(Part::Clock, error)),
         };
         let begun = *self.begun.get_or_insert(reading);
         let passed = reading.saturating_sub(begun).as_millis();

@@ -1,9 +1,9 @@
-ghost use Rattle.std.specs.Prelude.{◌≡◌, ◌≤◌, false, true, None, is_ok, IsErrOf};
-ghost use Rattle.zre_outside.specs.Causes.{Rose, is_failed, counted};
+ghost use Rattle.std.specs.Prelude.{◌≡◌, ◌≤◌, false, true, None, is_ok, IsSome, OnErr, IsErrOf};
+ghost use Rattle.zre_outside.specs.Causes.{Rose, raised, is_failed, counted};
 
 use crate::{NextFault, Recorder};
 use std::fs;
-use std::io::Write;
+use std::io::{self, ErrorKind, Write};
 use std::rt::Files;
 
 /// A file as a recorder. What was in the file of this name before is gone once it is begun. Each put goes to the
@@ -13,26 +13,47 @@ pub struct FileRecorder<R: Files> {
     rt: R,
     file: Option<R::File>,
     faults: u64,
+    reason: Option<io::Error>,
 }
 
 impl<R: Files> FileRecorder<R> {
-    ghost use Rattle.zre_outside.specs.Adapters.{file_is_begun, file_faults_of};
+    ghost use Rattle.zre_outside.specs.Adapters.{file_is_begun, file_faults_of, file_reason_of};
 
     /// A recorder that isn't begun.
     pub fn new(rt: R) -> Self
         ensures begun { file_is_begun result ≡ false }
         ensures faults { file_faults_of result ≡ 0 }
+        ensures reason { file_reason_of result ≡ None }
     {
         FileRecorder {
             rt,
             file: None,
             faults: 0,
+            reason: None,
         }
+    }
+
+    /// Why the last call that failed did, as the system says it.
+    pub fn reason(&self) -> Option<io::Error>
+        ensures { result ≡ file_reason_of self.now }
+    {
+        self.reason
+    }
+
+    // A call failed.
+    fn fail(&mut self, reason: io::Error)
+        ensures begun { file_is_begun self.new ≡ file_is_begun self.old }
+        ensures faults { file_faults_of self.new ≡ raised (file_faults_of self.old) }
+        ensures later { file_faults_of self.old ≤ file_faults_of self.new }
+        ensures reason { IsSome (file_reason_of self.new) }
+    {
+        self.faults = self.faults.saturating_add(1);
+        self.reason = Some(reason);
     }
 }
 
 impl<R: Files> Recorder for FileRecorder<R> {
-    ghost use Rattle.zre_outside.specs.Adapters.{file_is_begun, file_faults_of};
+    ghost use Rattle.zre_outside.specs.Adapters.{file_is_begun, file_faults_of, file_reason_of};
 
     ghost kept = { λ _. None };
 
@@ -48,6 +69,7 @@ impl<R: Files> Recorder for FileRecorder<R> {
         ensures failed { IsErrOf result NextFault.Failed → Rose (file_faults_of self.old) (file_faults_of self.new) }
         // The count rises where it failed, and nowhere else.
         ensures counted { file_faults_of self.new ≡ counted (is_failed result) (file_faults_of self.old) }
+        ensures reason { OnErr result (IsSome (file_reason_of self.new)) }
     {
         self.file = None;
         match fs::create(&self.rt, name) {
@@ -55,8 +77,8 @@ impl<R: Files> Recorder for FileRecorder<R> {
                 self.file = Some(file);
                 Ok(())
             }
-            Err(_) => {
-                self.faults = self.faults.saturating_add(1);
+            Err(reason) => {
+                self.fail(reason);
                 Err(NextFault::Failed)
             }
         }
@@ -68,13 +90,16 @@ impl<R: Files> Recorder for FileRecorder<R> {
         ensures later { file_faults_of self.old ≤ file_faults_of self.new }
         ensures failed { IsErrOf result NextFault.Failed → Rose (file_faults_of self.old) (file_faults_of self.new) }
         ensures counted { file_faults_of self.new ≡ counted (is_failed result) (file_faults_of self.old) }
+        ensures reason { OnErr result (IsSome (file_reason_of self.new)) }
     {
-        if let Some(file) = &mut self.file
-            && file.write_all(bytes).is_ok()
-        {
-            return Ok(());
-        }
-        self.faults = self.faults.saturating_add(1);
+        let reason = match &mut self.file {
+            Some(file) => match file.write_all(bytes) {
+                Ok(()) => return Ok(()),
+                Err(reason) => reason,
+            },
+            None => io::Error::from(ErrorKind::NotFound),
+        };
+        self.fail(reason);
         Err(NextFault::Failed)
     }
 }
