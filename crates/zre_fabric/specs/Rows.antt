@@ -1,5 +1,5 @@
 -- When a look comes before any other turn.
-use Rattle.std.specs.Prelude.{ℕ, Bool, true, false, ◌||◌, ◌&&◌, nat_le, nat_lt, Option, Some, None}
+use Rattle.std.specs.Prelude.{ℕ, Bool, ◌||◌, ◌&&◌, nat_le, nat_lt, Option, Some, None}
 use Rattle.zre_outside.specs.declared.entry.Command.{Command}
 use Rattle.zre_outside.specs.declared.turn.Turn.{Turn}
 use Rattle.zre_outside.specs.declared.turn.Turn.TheVariants as turn
