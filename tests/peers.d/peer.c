@@ -8,7 +8,8 @@
  *  TEXT, whisper ID TEXT, quit; and besides ping ID, and mute, which ends its beacons. It writes the same lines: ENTER,
  *  JOIN, LEAVE, WHISPER, SHOUT, EXIT, STOP; and besides PINGOK ID name. Whatever a node must not do is a line BAD.
  *
- *  It keeps no deadlines: it forgets a peer by its last beacon, or by a new HELLO. It ends after a minute by itself.
+ *  It keeps no deadlines: it forgets a peer by its last beacon, or by a new HELLO. It ends by itself after LIFE seconds, a minute
+ *  unless it is compiled with another number; so is HIGH_WATER, how many messages libzmq holds on a connection (0: all).
  */
 #include <arpa/inet.h>
 #include <stdbool.h>
@@ -20,8 +21,15 @@
 #include <unistd.h>
 #include <zmq.h>
 
+#ifndef LIFE
+#define LIFE 60
+#endif
+#ifndef HIGH_WATER
+#define HIGH_WATER 1000
+#endif
+
 enum { HELLO = 1, WHISPER, SHOUT, JOIN, LEAVE, PING, PING_OK };
-enum { PEERS = 16, GROUPS = 32, LINE = 100000, LIFE = 60, BEACON_PORT = 5670, INTERVAL = 200 };
+enum { PEERS = 16, GROUPS = 32, LINE = 100000, BEACON_PORT = 5670, INTERVAL = 200 };
 
 struct octets { const uint8_t *at; size_t len; };
 struct name { uint8_t at[255]; size_t len; };
@@ -207,6 +215,7 @@ static struct peer *meet(const uint8_t *id, const char *at)
     p->is_known = true;
     p->link = zmq_socket(context, ZMQ_DEALER);
     if (!p->link || zmq_setsockopt(p->link, ZMQ_ROUTING_ID, identity, 17)
+        || zmq_setsockopt(p->link, ZMQ_SNDHWM, &(int){ HIGH_WATER }, sizeof(int))
         || zmq_setsockopt(p->link, ZMQ_LINGER, &(int){ 0 }, sizeof(int)) || zmq_connect(p->link, at)) give_up(at);
     send_hello(p);
     return p;
@@ -443,6 +452,7 @@ int main(int count, char **words)
     context = zmq_ctx_new();
     mailbox = zmq_socket(context, ZMQ_ROUTER);
     if (!mailbox || zmq_setsockopt(mailbox, ZMQ_ROUTER_HANDOVER, &(int){ 1 }, sizeof(int))
+        || zmq_setsockopt(mailbox, ZMQ_RCVHWM, &(int){ HIGH_WATER }, sizeof(int))
         || zmq_bind(mailbox, endpoint)) give_up(endpoint);
     open_udp();
     int64_t due = now();

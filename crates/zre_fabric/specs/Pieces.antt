@@ -1,5 +1,5 @@
 -- The pieces in which octets come.
-use Rattle.std.specs.Prelude.{ℕ, ◌≤◌, length, ⊤}
+use Rattle.std.specs.Prelude.{◌≤◌, length, ⊤}
 use Rattle.zre_outside.specs.declared.entry.Input.{Input}
 use Rattle.zre_outside.specs.declared.entry.Input.TheVariants as input
 use Rattle.zre_outside.specs.declared.turn.Turn.{Turn}

@@ -1,0 +1,74 @@
+//! What is said on standard error where a command didn't do what was asked: one line.
+
+use std::fmt::{self, Display, Formatter};
+use std::io::{self, Eprint, ErrorKind};
+use std::net::{Ipv4Addr, SocketAddr};
+use std::str;
+use zre_fabric::{Part, Reason};
+use zre_values::{Endpoint, Frames};
+
+// The system's reason, in words.
+#[derive(Clone, Copy)]
+struct Why(io::Error);
+
+impl Display for Why {
+    fn fmt<W: fmt::Write>(&self, f: &mut Formatter<W>) -> fmt::Result {
+        match self.0.kind() {
+            ErrorKind::AddrInUse => f.write_str("address already in use"),
+            ErrorKind::NotFound => f.write_str("no such file or directory"),
+            ErrorKind::StorageFull => f.write_str("no space left on device"),
+            ErrorKind::Uncategorized => Display::fmt(&self.0, f),
+            kind => Display::fmt(&kind, f),
+        }
+    }
+}
+
+fn address(at: Endpoint) -> SocketAddr {
+    SocketAddr::from((Ipv4Addr::from(at.addr), at.port))
+}
+
+/// The words are no command.
+pub(crate) fn of_words<R: Eprint>(rt: &R) {
+    let _ = eprintln!(rt;
+        "zre: every command and word stands in the manual: man zre, or man -l docs/zre.1"
+    );
+}
+
+/// The system, or memory, didn't suffice.
+pub(crate) fn of_system<R: Eprint>(rt: &R, what: &str) {
+    let _ = eprintln!(rt; "zre: {what}");
+}
+
+/// A file, standard input or standard output couldn't be read or written.
+pub(crate) fn of_file<R: Eprint>(rt: &R, what: &str, name: &str, reason: Option<io::Error>) {
+    let _ = match reason {
+        Some(reason) => eprintln!(rt; "zre: cannot {what} {name}: {}", Why(reason)),
+        None => eprintln!(rt; "zre: cannot {what} {name}"),
+    };
+}
+
+/// The network refused the node.
+pub(crate) fn of_world<R: Eprint>(rt: &R, reason: Option<Reason>) {
+    let Some(Reason { part, error }) = reason else {
+        return;
+    };
+    let why = Why(error);
+    let _ = match part {
+        Part::Clock => eprintln!(rt; "zre: cannot read the clock: {why}"),
+        Part::Poll => eprintln!(rt; "zre: cannot wait for the network: {why}"),
+        Part::Beacons(at) => eprintln!(rt; "zre: cannot hear beacons on {}: {why}", address(at)),
+        Part::Mailbox(at) => eprintln!(rt; "zre: cannot listen on {}: {why}", address(at)),
+    };
+}
+
+/// The name of the capture among the words.
+pub(crate) fn capture_of(words: &Frames) -> &str {
+    for word in words.as_slice() {
+        if let Some(name) = word.as_slice().strip_prefix(b"capture=".as_slice())
+            && let Ok(name) = str::from_utf8(name)
+        {
+            return name;
+        }
+    }
+    "the capture"
+}
