@@ -4,10 +4,13 @@ use crate::expected::Expected;
 use crate::looks::Store;
 use crate::opened::Opened;
 use crate::partial::Partial;
+use std::alloc::Global;
 
 /// What the octets so far tell: the whole parts, and the part that isn't whole.
 #[derive(Drop)]
 pub struct Progress {
+    /// Where memory comes from.
+    pub alloc: Global,
     /// The part that comes next.
     pub expected: Expected,
     /// How many octets the whole parts have.

@@ -24,7 +24,6 @@ use zre_values::Frames;
 
 // Reads octets turn by turn. Each is looked at once.
 fn read<L: Ledger>(
-    alloc: Global,
     want: &Want,
     progress: &mut Progress,
     octets: &[u8],
@@ -41,7 +40,7 @@ fn read<L: Ledger>(
 {
     let mut rest = octets;
     while !rest.is_empty() {
-        let len = take_turn(alloc, want, progress, rest, out, steps)?;
+        let len = take_turn(want, progress, rest, out, steps)?;
         let (_, later) = rest.split_at(len);
         rest = later;
     }
@@ -52,7 +51,6 @@ fn read<L: Ledger>(
 /// greeting or frame that isn't whole and the bodies of the message that isn't, and looks at each octet once.
 #[derive(Drop)]
 pub struct Reader {
-    alloc: Global,
     want: Want,
     progress: Progress,
     spent: bool,
@@ -110,9 +108,11 @@ impl Reader {
         self.feed_from::<Brand>(piece, out, Blank::new(1))
     }
 
-    /// The same, and looks are counted: a look is an octet that is copied out of the piece, or read again from those
-    /// that are kept. An octet costs at most four: one when it comes, and three that what is kept has been paid for
-    /// and may still cost. So a stream of n octets costs at most 4n looks, however it is cut.
+    /// The same, and looks are counted: one for each octet that is copied out of the piece, and one for each that is
+    /// read again while it is kept as a greeting or body that isn't whole. Octets of a header are kept without a look,
+    /// and what READY and a command say is copied from a body that is whole, which isn't counted. Looks and three
+    /// times what is kept rise by at most four for each octet, so a stream of n octets costs at most 4n looks, however
+    /// it is cut.
     pub fn feed_counted<L: Ledger>(
         &mut self,
         piece: &[u8],
@@ -130,14 +130,7 @@ impl Reader {
         ensures looks { Looks steps.old steps.new (kept self.old) (kept self.new) (length piece.now) result }
     {
         self.spent = true;
-        read(
-            self.alloc,
-            &self.want,
-            &mut self.progress,
-            piece,
-            out,
-            steps,
-        )?;
+        read(&self.want, &mut self.progress, piece, out, steps)?;
         self.spent = false;
         Ok(())
     }
@@ -275,9 +268,9 @@ impl Reader {
         } }
     {
         Reader {
-            alloc,
             want,
             progress: Progress {
+                alloc,
                 expected,
                 place: 0,
                 opened: Opened::new(alloc),

@@ -68,12 +68,7 @@ fn said_by_command(alloc: Global, size: u64, body: Octets) -> Result<What, OutOf
 }
 
 // What a whole frame says. The message that it belongs to is kept or handed out.
-fn said(
-    alloc: Global,
-    progress: &mut Progress,
-    header: Header,
-    body: Octets,
-) -> Result<Option<What>, OutOfMemory>
+fn said(progress: &mut Progress, header: Header, body: Octets) -> Result<Option<What>, OutOfMemory>
     requires { progress.old.expected ≢ Expected.Greeting }
     ensures says { IfOk result (λ what.
         what ≡ said_by progress.old.expected progress.old.opened header.flags header.size body) }
@@ -82,21 +77,20 @@ fn said(
     ensures rest { progress.new ≡ record progress.old { opened = progress.new.opened } }
 {
     if progress.expected == Expected::Ready {
-        return Ok(Some(said_by_ready(alloc, header.size, body.as_slice())?));
+        return Ok(Some(said_by_ready(progress.alloc, header.size, body.as_slice())?));
     }
     if !is_message(header.flags) {
-        return Ok(Some(said_by_command(alloc, header.size, body)?));
+        return Ok(Some(said_by_command(progress.alloc, header.size, body)?));
     }
     if has_more(header.flags) {
         progress.opened.push(body)?;
         return Ok(None);
     }
-    Ok(Some(What::Message(progress.opened.finish(alloc, body)?)))
+    Ok(Some(What::Message(progress.opened.finish(progress.alloc, body)?)))
 }
 
 // The item that ends with a whole frame, and what is known after it. A place past the last one is OutOfMemory.
 fn finish_frame(
-    alloc: Global,
     want: &Want,
     progress: &mut Progress,
     header: Header,
@@ -128,7 +122,7 @@ fn finish_frame(
     } else {
         progress.place
     };
-    let what = said(alloc, progress, header, body)?;
+    let what = said(progress, header, body)?;
     progress.expected = Expected::Traffic;
     progress.place = end;
     if progress.opened.len() == 0 {
@@ -158,7 +152,6 @@ fn end_of(place: u64, header_len: usize, body_len: usize) -> Option<u64>
 
 // A whole frame, where nothing else is kept: the item that ends with it is appended.
 fn take_frame(
-    alloc: Global,
     want: &Want,
     progress: &mut Progress,
     header: Header,
@@ -181,7 +174,7 @@ fn take_frame(
     ensures kept { OnOk result (held progress.new ≤ sum_by length progress.old.opened + length body) }
 {
     let header_len = head.len();
-    if let Some(item) = finish_frame(alloc, want, progress, header, header_len, body)? {
+    if let Some(item) = finish_frame(want, progress, header, header_len, body)? {
         out.push(item)?;
     }
     Ok(())
@@ -190,7 +183,6 @@ fn take_frame(
 // The item that ends with the greeting, and what is known after it.
 #[tactic(auto, unfolding(crate::specs::Stream::item))]
 fn finish_greeting<L: Ledger>(
-    alloc: Global,
     progress: &mut Progress,
     steps: &mut Steps<L>,
 ) -> Result<Item, FeedFault>
@@ -216,14 +208,13 @@ fn finish_greeting<L: Ledger>(
     if progress.opened.len() == 0 {
         progress.start = end;
     }
-    progress.greeting = Store::new(alloc);
-    progress.partial = Partial::new(alloc);
+    progress.greeting = Store::new(progress.alloc);
+    progress.partial = Partial::new(progress.alloc);
     Ok(Item { start, end, what })
 }
 
 // One octet more of the greeting.
 fn take_greeting<L: Ledger>(
-    alloc: Global,
     progress: &mut Progress,
     octet: u8,
     out: &mut Items,
@@ -249,13 +240,12 @@ fn take_greeting<L: Ledger>(
     if progress.greeting.len() < GREETING_OCTETS {
         return Ok(());
     }
-    out.push(finish_greeting(alloc, progress, steps)?)?;
+    out.push(finish_greeting(progress, steps)?)?;
     Ok(())
 }
 
 // What there is of a header, in which nothing is wrong: it is kept, unless a frame without a body ends with it.
 fn begin_body(
-    alloc: Global,
     want: &Want,
     progress: &mut Progress,
     head: Head,
@@ -272,7 +262,7 @@ fn begin_body(
         RefusesAt e want.now (before_of progress.old) head out.old out.new) }
     ensures kept { OnOk result (held progress.new ≤ sum_by length progress.old.opened + length head) }
 {
-    let body = Store::new(alloc);
+    let body = Store::new(progress.alloc);
     let Some(header) = read_header(head.as_slice()) else {
         let header = None;
         progress.partial = Partial { head, header, body };
@@ -283,20 +273,11 @@ fn begin_body(
         progress.partial = Partial { head, header, body };
         return Ok(());
     }
-    take_frame(
-        alloc,
-        want,
-        progress,
-        header,
-        head.as_slice(),
-        body.finish(),
-        out,
-    )
+    take_frame(want, progress, header, head.as_slice(), body.finish(), out)
 }
 
 // One octet more of a header. A frame without a body ends with it.
 fn take_header(
-    alloc: Global,
     want: &Want,
     progress: &mut Progress,
     octet: u8,
@@ -312,18 +293,18 @@ fn take_header(
         RefusesAt e want.now (before_of progress.old) (left_of progress.old ++ octet ∷ []) out.old out.new) }
     ensures kept { OnOk result (held progress.new ≤ held progress.old + 1) }
 {
-    let Partial { mut head, .. } = mem::replace(&mut progress.partial, Partial::new(alloc));
+    let none = Partial::new(progress.alloc);
+    let Partial { mut head, .. } = mem::replace(&mut progress.partial, none);
     head.push(octet);
     if let Some(why) = fault_of_header(progress, head.as_slice()) {
         let place = progress.place;
         return Err(FeedFault::Zmtp(ZmtpFault { why, place }));
     }
-    begin_body(alloc, want, progress, head, out)
+    begin_body(want, progress, head, out)
 }
 
 // Octets more of a body, and no more than are missing.
 fn take_body<L: Ledger>(
-    alloc: Global,
     want: &Want,
     progress: &mut Progress,
     header: Header,
@@ -342,22 +323,15 @@ fn take_body<L: Ledger>(
         RefusesAt e want.now (before_of progress.old) (left_of progress.old ++ octets.now) out.old out.new) }
     ensures looks { Looks steps.old steps.new (held progress.old) (held progress.new) (length octets.now) result }
 {
-    let Partial { head, mut body, .. } = mem::replace(&mut progress.partial, Partial::new(alloc));
+    let none = Partial::new(progress.alloc);
+    let Partial { head, mut body, .. } = mem::replace(&mut progress.partial, none);
     body.add(octets, steps)?;
     if (body.len() as u64) < header.size {
         let header = Some(header);
         progress.partial = Partial { head, header, body };
         return Ok(());
     }
-    take_frame(
-        alloc,
-        want,
-        progress,
-        header,
-        head.as_slice(),
-        body.finish(),
-        out,
-    )
+    take_frame(want, progress, header, head.as_slice(), body.finish(), out)
 }
 
 // What the header at the front of some octets says, where nothing is kept and all of that frame is there.
@@ -388,7 +362,6 @@ fn is_content(progress: &Progress, header: Header) -> bool
 
 // The last frame of a message. Most messages have no other, and then its body is copied to where the item lies.
 fn end_message(
-    alloc: Global,
     progress: &mut Progress,
     end: u64,
     body: &[u8],
@@ -404,15 +377,14 @@ fn end_message(
 {
     let start = progress.start;
     if progress.opened.len() == 0 {
-        return push_message(alloc, start, end, body, out);
+        return push_message(progress.alloc, start, end, body, out);
     }
-    let what = What::Message(progress.opened.close(alloc, body)?);
+    let what = What::Message(progress.opened.close(progress.alloc, body)?);
     out.push(Item { start, end, what })
 }
 
 // A whole frame of a message after READY. Its body is copied once.
 fn take_content(
-    alloc: Global,
     progress: &mut Progress,
     header: Header,
     header_len: usize,
@@ -431,11 +403,11 @@ fn take_content(
         return Err(FeedFault::OutOfMemory);
     };
     if has_more(header.flags) {
-        progress.opened.push_copy(alloc, body)?;
+        progress.opened.push_copy(progress.alloc, body)?;
         progress.place = end;
         return Ok(());
     }
-    end_message(alloc, progress, end, body, out)?;
+    end_message(progress, end, body, out)?;
     progress.place = end;
     progress.start = end;
     Ok(())
@@ -444,7 +416,6 @@ fn take_content(
 // A whole frame from the octets that it begins. It gives how many octets that frame has. Its body is copied, which is
 // a look at each octet.
 fn take_whole<L: Ledger>(
-    alloc: Global,
     want: &Want,
     progress: &mut Progress,
     header: Header,
@@ -470,17 +441,16 @@ fn take_whole<L: Ledger>(
     let len = head.len() + body.len();
     steps.take(body.len());
     if is_content(progress, header) {
-        take_content(alloc, progress, header, head.len(), body, out)?;
+        take_content(progress, header, head.len(), body, out)?;
         return Ok(len);
     }
-    let body = Octets::copy(alloc, body)?;
-    take_frame(alloc, want, progress, header, head, body, out)?;
+    let body = Octets::copy(progress.alloc, body)?;
+    take_frame(want, progress, header, head, body, out)?;
     Ok(len)
 }
 
 // Takes octets of the part that comes next, no more than there is room for.
 fn take_part<L: Ledger>(
-    alloc: Global,
     want: &Want,
     progress: &mut Progress,
     octets: &[u8],
@@ -499,16 +469,15 @@ fn take_part<L: Ledger>(
     ensures looks { Looks steps.old steps.new (held progress.old) (held progress.new) (length octets.now) result }
 {
     match (progress.expected, progress.partial.header) {
-        (Expected::Greeting, _) => take_greeting(alloc, progress, octets[0], out, steps),
-        (_, None) => take_header(alloc, want, progress, octets[0], out),
-        (_, Some(header)) => take_body(alloc, want, progress, header, octets, out, steps),
+        (Expected::Greeting, _) => take_greeting(progress, octets[0], out, steps),
+        (_, None) => take_header(want, progress, octets[0], out),
+        (_, Some(header)) => take_body(want, progress, header, octets, out, steps),
     }
 }
 
 /// Takes octets from the front of these: a whole frame, where one begins there, and else octets of the part that
 /// isn't whole. It gives how many it took.
 pub fn take_turn<L: Ledger>(
-    alloc: Global,
     want: &Want,
     progress: &mut Progress,
     octets: &[u8],
@@ -527,10 +496,10 @@ pub fn take_turn<L: Ledger>(
     ensures refused_looks { OnErr result (IsPaidOnRefusal steps.old steps.new (held progress.old) (length octets.now)) }
 {
     if let Some(header) = whole_frame(progress, octets) {
-        return take_whole(alloc, want, progress, header, octets, out, steps);
+        return take_whole(want, progress, header, octets, out, steps);
     }
     let len = room(progress).min(octets.len() as u64) as usize;
     let (front, _) = octets.split_at(len);
-    take_part(alloc, want, progress, front, out, steps)?;
+    take_part(want, progress, front, out, steps)?;
     Ok(len)
 }
