@@ -1,6 +1,6 @@
 -- Messages that are drawn from a ledger.
-use Rattle.std.proofs.Common.{◌≡◌, ◌≢◌, ℕ, ◌+◌, ◌%◌, ◌<◌, Bool, true, false, cond, not, eqb, List, [], ◌∷◌, ◌++◌, length, take, Option, Some, None, refl, sym, ap, ◌∙◌, subst, arith, eq-eqb, eqb-true}
-use Rattle.std.proofs.lemmas.Bool.{eqb-false, ne_eqb}
+use Rattle.std.proofs.Common.{◌≡◌, ◌≢◌, ℕ, ◌+◌, ◌%◌, ◌<◌, Bool, true, false, cond, not, eqb, List, [], ◌∷◌, ◌++◌, length, take, Some, refl, sym, ap, ◌∙◌, subst, arith, eq-eqb}
+use Rattle.std.proofs.lemmas.Bool.{ne_eqb}
 use Rattle.zre_outside.specs.declared.entry.Entry.{Entry}
 use Rattle.zre_msg.specs.declared.message.Message.{Message}
 use Rattle.zre_peer.specs.declared.causes.Cause.TheVariants as cause
@@ -9,14 +9,13 @@ use Rattle.zre_peer.specs.Runs.{due, is_hello, told}
 use Rattle.zre_peer.specs.Views.{view_of, is_small}
 use Rattle.zre_peer.proofs.Ledgers.{apart, number_at, in_turn}
 use Rattle.zre_journal.specs.declared.config.Config.{Config}
-use Rattle.zre_journal.specs.Arrivals.{answer_to, at_later, at_message}
+use Rattle.zre_journal.specs.Arrivals.{answer_to, at_message}
 use Rattle.zre_journal.specs.Chronicle.{Mark, Counts, Ends}
 use Rattle.zre_journal.specs.Connections.{runs}
 use Rattle.zre_journal.specs.Events.{chronicle, events}
-use Rattle.zre_journal.specs.Hearing.{heard_on}
 use Rattle.zre_journal.specs.Laws.{counted_on}
 use Rattle.zre_journal.specs.Ledger.{Ledger, IsDrawn, IsWithinWindow, begun_on, KeepsLedger, cause_of_another, IsJudged}
-use Rattle.zre_journal.specs.Peers.{Life, counted}
+use Rattle.zre_journal.specs.Peers.{counted}
 use Rattle.zre_journal.proofs.Lawful.{shows_messages}
 use Rattle.zre_journal.proofs.Octets.{runs_on_octets}
 use Rattle.zre_journal.proofs.Passing.{follows_messages}

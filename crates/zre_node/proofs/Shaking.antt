@@ -1,21 +1,13 @@
 -- READY on a connection, and an older connection that gives way.
-use Rattle.std.proofs.Common.{◌≡◌, ℕ, Bool, true, false, cond, not, ◌&&◌, ◌||◌, eqb, List, [], ◌∷◌, ◌++◌, Option, Some, None, find, refl, sym, ap, ◌∙◌, nat_cmp, subst, eq-eqb, eqb-true}
-use Rattle.std.proofs.lemmas.Bool.{and_parts}
-use Rattle.std.proofs.lemmas.Slice.Eq.{bytes_eq-Decides}
-use Rattle.std.specs.List.{AllByRecursion, list_any}
-use Rattle.std.specs.Str.{bytes_eq}
+use Rattle.std.proofs.Common.{◌≡◌, ℕ, Bool, true, false, cond, not, ◌&&◌, ◌||◌, eqb, List, [], ◌∷◌, ◌++◌, Option, Some, None, find, refl, sym, ◌∙◌, nat_cmp, subst, eq-eqb, eqb-true}
 use Rattle.std.specs.BTreeMap.{BTreeMap, is_at}
 use Rattle.std.specs.Map.{set_value}
 use Rattle.zre_values.specs.declared.peer_id.PeerId.{PeerId}
-use Rattle.zre_peer.specs.declared.causes.Cause.TheVariants as cause
-use Rattle.zre_peer.specs.declared.causes.CloseWhy.TheVariants as close
 use Rattle.zre_journal.specs.declared.config.Config.{Config}
-use Rattle.zre_journal.specs.Chronicle.{Mark, Greets, Shakes, Closes, after}
-use Rattle.zre_journal.specs.Connections.{open_ones, is_open, identity, runs, is_same, other_with, others}
-use Rattle.zre_journal.specs.Proper.{IsProper}
-use Rattle.zre_journal.specs.Arrivals.{taken_over, end_of_run}
+use Rattle.zre_journal.specs.Chronicle.{Mark, Greets, Shakes}
+use Rattle.zre_journal.specs.Connections.{open_ones, is_open, identity, is_same, other_with}
 use Rattle.zre_journal.proofs.Kept.{Greets-proper, Shakes-proper}
-use Rattle.zre_journal.proofs.Listed.{eqb-comm, found_passes, any_other, found_there}
+use Rattle.zre_journal.proofs.Listed.{eqb-comm, found_passes, found_there}
 use Rattle.zre_node.specs.declared.connection.Connection.{Connection}
 use Rattle.zre_node.specs.declared.tables.Tables.{Tables}
 use Rattle.zre_node.specs.Tabled.{Tabled}

@@ -1,5 +1,5 @@
 -- The stop of a node.
-use Rattle.std.proofs.Common.{◌≡◌, ℕ, Bool, true, false, cond, eqb, List, [], ◌∷◌, ◌++◌, map, Option, Some, None, IsSome, find, refl, sym, ap, ◌∙◌, eq-eqb, append_assoc, subst}
+use Rattle.std.proofs.Common.{◌≡◌, ℕ, true, false, eqb, List, [], ◌∷◌, ◌++◌, map, Option, Some, None, IsSome, find, refl, sym, ap, ◌∙◌, append_assoc, subst}
 use Rattle.std.specs.List.{AllByRecursion}
 use Rattle.std.specs.Map.{keys_of}
 use Rattle.std.proofs.lemmas.List.{map-id}
@@ -18,7 +18,6 @@ use Rattle.zre_journal.specs.Done.{done}
 use Rattle.zre_journal.proofs.Joined.{after-append, told-append, done-append}
 use Rattle.zre_journal.proofs.Kept.{run_known}
 use Rattle.zre_journal.proofs.Known.{end_all, each_known}
-use Rattle.zre_journal.proofs.Listed.{All-map}
 use Rattle.zre_journal.proofs.Stopping.{stop-is, none_known, none_open, drops_lives}
 use Rattle.zre_node.specs.declared.tables.Tables.{Tables}
 use Rattle.zre_node.specs.declared.effects.Effects.{Effects}

@@ -1,6 +1,5 @@
 -- A tick, at the tables.
-use Rattle.std.proofs.Common.{◌≡◌, ℕ, ◌+◌, ◌-◌, ◌<◌, zero, suc, Bool, true, false, cond, not, ◌&&◌, eqb, ltb, leb, List, [], ◌∷◌, ◌++◌, map, filter, take, length, get_or, Option, Some, None, IsSome, is_some, is_none, refl, sym, ap, ◌∙◌, arith, nat_cmp, append_assoc, eqb-true, subst}
-use Rattle.std.proofs.lemmas.Bool.{and_parts}
+use Rattle.std.proofs.Common.{◌≡◌, ℕ, ◌+◌, ◌-◌, ◌<◌, zero, suc, Bool, true, false, cond, ◌&&◌, eqb, ltb, List, [], ◌∷◌, ◌++◌, map, filter, take, length, get_or, Option, Some, None, IsSome, is_some, refl, sym, ap, ◌∙◌, arith, nat_cmp, append_assoc, eqb-true, subst}
 use Rattle.std.specs.List.{AllByRecursion}
 use Rattle.std.specs.BTreeMap.{is_at}
 use Rattle.std.specs.Map.{lookup}
@@ -20,20 +19,20 @@ use Rattle.zre_peer.specs.Runs.{shown}
 use Rattle.zre_peer.specs.Standing.{view_in}
 use Rattle.zre_journal.specs.declared.config.Config.{Config}
 use Rattle.zre_journal.specs.Chronicle.{Mark, Ends, Closes, IsEvasive, Puts, SendsBeacon, after, in_turn}
-use Rattle.zre_journal.specs.Connections.{open_ones, runs, since}
+use Rattle.zre_journal.specs.Connections.{open_ones, runs}
 use Rattle.zre_journal.specs.Done.{names}
 use Rattle.zre_journal.specs.Happens.{at_input}
 use Rattle.zre_journal.specs.Ticks.{at_tick, probe, is_silent, is_evasive, is_stale}
 use Rattle.zre_journal.specs.Heard.{clock}
 use Rattle.zre_journal.specs.Links.{bodies, unsent}
-use Rattle.zre_journal.specs.Peers.{Life, lives, life, runner, counted, is_entered, view}
+use Rattle.zre_journal.specs.Peers.{Life, lives, life, runner, counted, view}
 use Rattle.zre_journal.specs.Proper.{Apart}
 use Rattle.zre_journal.specs.Told.{told, becoming_evasive}
-use Rattle.zre_journal.proofs.Idle.{idle_after, AreNoStarts, ends_start_none, none_and_none}
+use Rattle.zre_journal.proofs.Idle.{AreNoStarts, ends_start_none, none_and_none}
 use Rattle.zre_journal.proofs.Joined.{after-append}
 use Rattle.zre_journal.proofs.Kept.{IsEvasive-proper, SendsBeacon-proper}
-use Rattle.zre_journal.proofs.Known.{each_known, life_stays, end_all, ends_known, kept_far}
-use Rattle.zre_journal.proofs.Listed.{All-kept, Apart-kept, found_passes}
+use Rattle.zre_journal.proofs.Known.{life_stays, end_all}
+use Rattle.zre_journal.proofs.Listed.{found_passes}
 use Rattle.zre_journal.proofs.Ticks.{expiring, wavering, stale, expired, expiring_apart, wavering_apart, wavering_known, expiring_known as are_known, wavering_entered as are_entered, stale_idle as are_idle}
 use Rattle.zre_node.specs.declared.connection.Connection.{Connection}
 use Rattle.zre_node.specs.declared.effects.Effects.{Effects}
