@@ -1,8 +1,6 @@
--- How many looks a call takes that reads octets, or a reply.
-use Rattle.std.specs.Prelude.{ℕ, ◌+◌, ◌*◌, ◌≤◌, length, Result, OnOk, OnErr, sum_by}
+-- How many looks a call takes that reads a piece of a stream.
+use Rattle.std.specs.Prelude.{ℕ, ◌+◌, ◌*◌, ◌≤◌, Result, OnOk, OnErr}
 use Rattle.zre_zmtp.specs.declared.fault.FeedFault.{FeedFault}
-use Rattle.zre_zmtp.specs.declared.progress.Progress.{Progress}
-use Rattle.zre_zmtp.specs.Shown.{left_of}
 
 -- The looks before and after, how many octets are kept before and after, and how many were read: looks and three times
 -- what is kept rise by at most four for each.
@@ -17,7 +15,3 @@ IsPaidOnRefusal looks looks' kept n = looks' ≤ looks + 3 * kept + 4 * n
 abbrev pub Looks : ℕ → ℕ → ℕ → ℕ → ℕ → Result (Unit {0}) FeedFault → Type 0
 Looks looks looks' kept kept' n result =
     OnOk result (IsPaid looks looks' kept kept' n) × OnErr result (IsPaidOnRefusal looks looks' kept n)
-
--- how many octets are kept in the fields of a reader
-abbrev pub held : Progress → ℕ
-held p = sum_by length p.opened + length (left_of p)

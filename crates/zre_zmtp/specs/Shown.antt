@@ -1,5 +1,5 @@
 -- How the fields of a reader are seen, and what a turn over some octets does.
-use Rattle.std.specs.Prelude.{◌≡◌, ◌≢◌, ℕ, ◌+◌, ◌-◌, ◌≤◌, ◌==◌, if◌then◌else◌, nat_le, Bool, false, List, [], ◌++◌, length, Option, Some, None, option_map}
+use Rattle.std.specs.Prelude.{◌≡◌, ◌≢◌, ℕ, ◌+◌, ◌-◌, ◌≤◌, ◌==◌, if◌then◌else◌, nat_le, Bool, false, List, [], ◌++◌, length, Option, Some, None, option_map, sum_by}
 use Rattle.std.specs.Option.{option_or}
 use Rattle.zre_zmtp.specs.declared.fault.ZmtpWhy.{ZmtpWhy}
 use Rattle.zre_zmtp.specs.declared.progress.Progress.{Progress}
@@ -25,6 +25,10 @@ left_by expect.Traffic greeting head body = head ++ body
 
 abbrev pub left_of : Progress → List ℕ
 left_of p = left_by p.expected p.greeting p.partial.head p.partial.body
+
+-- how many octets are kept
+abbrev pub held : Progress → ℕ
+held p = sum_by length p.opened + length (left_of p)
 
 -- what is wrong with the header of a frame, or with what is there of it
 abbrev pub header_fault : Before → List ℕ → Option ZmtpWhy

@@ -4,9 +4,9 @@ ghost use Rattle.std.specs.Prelude.{◌≡◌, ℕ, ◌+◌, ◌-◌, ◌^◌, �
 ghost use Rattle.std.specs.List.{concat};
 ghost use Rattle.zre_values.specs.declared.limits.TheConstants.{MESSAGE_OCTETS, COMMAND_OCTETS};
 ghost use Rattle.zre_zmtp.specs.Stream.{Want as WantValue, Any, Kind, Whole as whole_kind, Traffic as traffic_kind, fault, IsAtRest};
-ghost use Rattle.zre_zmtp.specs.Shown.{before_of, left_of, Waits, Advances, RefusesAt};
+ghost use Rattle.zre_zmtp.specs.Shown.{before_of, left_of, held, Waits, Advances, RefusesAt};
 ghost use Rattle.zre_zmtp.specs.Reading.{Reads, Refuses, Adds, IsOver, kept};
-ghost use Rattle.zre_zmtp.specs.Looks.{Looks, held};
+ghost use Rattle.zre_zmtp.specs.Looks.{Looks};
 
 use crate::expected::Expected;
 use crate::fault::FeedFault;

@@ -5,9 +5,9 @@ ghost use Rattle.zre_zmtp.specs.Frame.{header_of, header_len as header_len_of};
 ghost use Rattle.zre_zmtp.specs.Ready.{name as name_of, socket_type as socket_type_of, identity as identity_of};
 ghost use Rattle.zre_zmtp.specs.Stream.{Want as WantValue, said as said_by, opened_by, body_fault, item as item_of};
 ghost use Rattle.zre_zmtp.specs.Run.{after as after_of};
-ghost use Rattle.zre_zmtp.specs.Shown.{before_of, left_of, frame_item, frame_after, header_fault, Waits, Advances, RefusesAt, BeginsFrame, is_content as is_content_of, room as room_of};
+ghost use Rattle.zre_zmtp.specs.Shown.{before_of, left_of, held, frame_item, frame_after, header_fault, Waits, Advances, RefusesAt, BeginsFrame, is_content as is_content_of, room as room_of};
 ghost use Rattle.zre_zmtp.specs.Reading.{Refuses};
-ghost use Rattle.zre_zmtp.specs.Looks.{Looks, IsPaid, IsPaidOnRefusal, held};
+ghost use Rattle.zre_zmtp.specs.Looks.{Looks, IsPaid, IsPaidOnRefusal};
 
 use crate::command::{command_fault, identity, name, socket_type};
 use crate::expected::Expected;

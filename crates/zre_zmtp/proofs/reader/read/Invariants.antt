@@ -1,7 +1,6 @@
 use Rattle.std.proofs.Common.{length, ◌++◌}
 use Rattle.zre_zmtp.specs.Run.{run_all}
-use Rattle.zre_zmtp.specs.Shown.{before_of, left_of, Waits}
-use Rattle.zre_zmtp.specs.Looks.{held}
+use Rattle.zre_zmtp.specs.Shown.{before_of, left_of, held, Waits}
 use Rattle.zre_zmtp.proofs.Turning.{IsAmid}
 use Rattle.zre_zmtp.proofs.Looked.{IsPaidSoFar}
 use Rattle.zre_zmtp.proofs.reader.read.Given as goal
