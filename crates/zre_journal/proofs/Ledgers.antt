@@ -13,7 +13,8 @@ use Rattle.zre_journal.specs.Arrivals.{answer_to, at_message}
 use Rattle.zre_journal.specs.Chronicle.{Mark, Counts, Ends}
 use Rattle.zre_journal.specs.Connections.{runs}
 use Rattle.zre_journal.specs.Events.{chronicle, events}
-use Rattle.zre_journal.specs.Laws.{counted_on}
+use Rattle.std.specs.List.{range_with_len}
+use Rattle.zre_journal.specs.Laws.{counted_on, ShowsItsMessages}
 use Rattle.zre_journal.specs.Ledger.{Ledger, IsDrawn, IsWithinWindow, begun_on, KeepsLedger, cause_of_another, IsJudged}
 use Rattle.zre_journal.specs.Peers.{counted}
 use Rattle.zre_journal.proofs.Lawful.{shows_messages}
@@ -36,9 +37,11 @@ keeps_ledger g journal b drawn within = record {
   where
     H : List Mark
     H = chronicle g journal
+
+    shown : ShowsItsMessages H
     shown = shows_messages g journal
 
-    first : (c : ℕ) → (take (length (counted_on c H)) (b.picks c) ≡ _) × (begun_on b c H ≡ counted_on c H)
+    first : (c : ℕ) → (take (length (counted_on c H)) (b.picks c) ≡ range_with_len 1 (length (counted_on c H))) × (begun_on b c H ≡ counted_on c H)
     first c =
         let front = (runs_on_octets g journal).is_front c in
         let picked = front_picked (b.sent c) (b.picks c) (counted_on c H) front.0 (subst (ArePicked (b.sent c) (b.picks c)) front.1 (drawn.are_picked c)) in
