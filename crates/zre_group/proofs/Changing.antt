@@ -12,8 +12,9 @@ use Rattle.std.proofs.lemmas.Map.Steps.{set_value_same}
 use Rattle.std.specs.Ordering.{nat_cmp, eq_by_cmp}
 use Rattle.zre_group.specs.Grouping.{Name, by_octets, pairs_of}
 use Rattle.zre_group.specs.Index.{by_group, Memberships}
-use Rattle.zre_group.specs.Membership.{total, exact, both_equal, same, same_is}
+use Rattle.zre_group.specs.Membership.{total, exact, same, same_is}
 use Rattle.zre_group.proofs.Reading.{named, set_of, has, read}
+use Rattle.zre_values.proofs.Orders.{both_equal}
 
 abbrev pub Groups : Type 0
 Groups = tree.BTreeMap Name (sorted.BTreeSet ℕ)

@@ -18,7 +18,8 @@ use Rattle.std.proofs.lemmas.Map.Entries.{none_past_head}
 use Rattle.std.proofs.lemmas.Map.Keys.{IsDistinct-from_sorted, sorted_tail}
 use Rattle.zre_group.specs.Grouping.{Name, by_octets, pairs_of}
 use Rattle.zre_group.specs.Index.{by_group}
-use Rattle.zre_group.specs.Membership.{total, both_equal, same, same_is, same_itself}
+use Rattle.zre_group.specs.Membership.{total, same, same_is, same_itself}
+use Rattle.zre_values.proofs.Orders.{both_equal}
 
 -- ---- a map of names
 

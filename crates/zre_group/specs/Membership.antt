@@ -11,23 +11,13 @@ use Rattle.std.proofs.Common.{sym, ap, ◌∙◌}
 use Rattle.std.proofs.lemmas.Map.Lookups.{exact_bytes, exact_unsigned, exact_pairs}
 use Rattle.std.proofs.lemmas.Slice.Eq.{bytes_eq-Decides}
 use Rattle.zre_group.specs.Index.{by_group, Memberships, is_member, without_key}
+use Rattle.zre_values.proofs.Orders.{both_equal}
 
 pub total : IsTotalOrder by_group
 total = then_total (on_total (λ p. p.0) nat_list_cmp_total) (on_total (λ p. p.1) nat_cmp_total)
 
 pub exact : set.IsAntisymmetric by_group
 exact = exact_pairs (slice_cmp nat_cmp) nat_cmp exact_bytes exact_unsigned
-
-pub both_equal : (r s : Ordering) → is_eq (ordering_then r s) ≡ (is_eq s && is_eq r)
-both_equal Less Less = refl
-both_equal Less Equal = refl
-both_equal Less Greater = refl
-both_equal Equal Less = refl
-both_equal Equal Equal = refl
-both_equal Equal Greater = refl
-both_equal Greater Less = refl
-both_equal Greater Equal = refl
-both_equal Greater Greater = refl
 
 equal_from_test : (r : Ordering) → is_eq r ≡ true → r ≡ Equal
 equal_from_test Less e = cc

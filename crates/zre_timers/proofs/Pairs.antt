@@ -11,17 +11,7 @@ use Rattle.std.specs.Option.{option_map_or}
 use Rattle.std.specs.Ordering.{nat_cmp, ordering_then, is_eq}
 use Rattle.std.proofs.lemmas.Bool.{eqb-true, ne_eqb}
 use Rattle.zre_timers.specs.Agreement.{Agree, by_moment}
-
-both_equal : (r s : Ordering) → is_eq (ordering_then r s) ≡ (is_eq s && is_eq r)
-both_equal Less Less = refl
-both_equal Less Equal = refl
-both_equal Less Greater = refl
-both_equal Equal Less = refl
-both_equal Equal Equal = refl
-both_equal Equal Greater = refl
-both_equal Greater Less = refl
-both_equal Greater Equal = refl
-both_equal Greater Greater = refl
+use Rattle.zre_values.proofs.Orders.{both_equal}
 
 -- two pairs are the same where their keys and their moments are
 pub same_pair : (at key a k : ℕ) → is_at (by_moment (at, key)) (a, k) ≡ ((key == k) && (at == a))

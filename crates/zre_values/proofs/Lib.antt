@@ -1,6 +1,7 @@
 pub mod Addresses
 pub mod Digits
 pub mod Endpoints
+pub mod Orders
 pub mod Plain
 pub mod PlainIds
 pub mod Quotes
