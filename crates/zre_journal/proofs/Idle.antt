@@ -13,7 +13,7 @@ use Rattle.zre_journal.specs.Connections.{open_ones, is_open, identity, runs, st
 use Rattle.zre_journal.specs.Peers.{Life, lives, life}
 use Rattle.zre_journal.specs.Proper.{IsProper}
 use Rattle.zre_journal.specs.Arrivals.{taken_over, end_of_run}
-use Rattle.zre_journal.proofs.Known.{end_all, same_id}
+use Rattle.zre_journal.proofs.Known.{end_all, ends_keep, same_id}
 use Rattle.zre_journal.proofs.Listed.{eqb-comm, found_passes, found_any, some_is, any_other, each_there, found_there}
 use Rattle.zre_journal.proofs.Silent.{has_started, run_known}
 
@@ -68,12 +68,10 @@ pub all_idle : (H : List Mark) → IsProper H → (why : Cause) (c : ℕ) → ru
 all_idle H p why c = by (runs c H) refl
   where
     started_same : (vs : List Life) (K : List Mark) → started c (after (end_all why vs) K) ≡ started c K
-    started_same [] K = refl
-    started_same (v ∷ vs) K = started_same vs (Ends v.link why ∷ K)
+    started_same vs K = ends_keep (λ J. started c J ≡ started c K) (λ l w J e. e) why vs K refl
 
     ended_before : (l : ℕ) (vs : List Life) (K : List Mark) → has_ended l K ≡ true → has_ended l (after (end_all why vs) K) ≡ true
-    ended_before l [] K e = e
-    ended_before l (v ∷ vs) K e = ended_before l vs (Ends v.link why ∷ K) (stays_ended (Ends v.link why) K l e)
+    ended_before l vs K e = ends_keep (λ J. has_ended l J ≡ true) (λ k w J x. stays_ended (Ends k w) J l x) why vs K e
 
     ended_now : (l : ℕ) (vs : List Life) (K : List Mark) → list_any (λ (v : Life). eqb l v.link) vs ≡ true → has_ended l (after (end_all why vs) K) ≡ true
     ended_now l [] K e = cc

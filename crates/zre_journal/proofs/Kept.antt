@@ -125,6 +125,20 @@ module _ (H : List Mark) (p : IsProper H) (c : ℕ) where
       by true = refl
       by false = o
 
+  -- the runs, where other connections are open: those that run, and of those with an identity none that was not
+  still_run : (cs : List ℕ) → ((d l : ℕ) → runner l H ≡ Some d → has_ended l H ≡ false → list_any (eqb d) cs ≡ true) → ((d : ℕ) (q : PeerId) → list_any (eqb d) cs ≡ true → identity d H ≡ Some q → list_any (eqb d) (open_ones H) ≡ true)
+      → AreRuns (lives H) cs (λ l. has_ended l H) (λ l. runner l H) (λ d. started d H) (λ d. identity d H) (λ l. counted l H)
+  still_run cs heard there = record {
+    one_run = p.running.one_run;
+    in_life = p.running.in_life;
+    its_run = p.running.its_run;
+    is_introduced = p.running.is_introduced;
+    is_silent = p.running.is_silent;
+    is_its_own = p.running.is_its_own;
+    is_heard = heard;
+    is_sole = λ d e q a b x y. p.running.is_sole d e q (there d q a x) (there e q b y) x y;
+  }
+
   pub Opens-proper : is_new c H ≡ true → IsProper (Opens c ∷ H)
   Opens-proper new = record {
     living = p.living;
@@ -138,16 +152,7 @@ module _ (H : List Mark) (p : IsProper H) (c : ℕ) where
       unheard = λ d n. let q = and_parts (ltb c d) (is_new d H) n in let less : c < d = ltb-true c d q.0 in let far : eqb d c ≡ false = ne_eqb d c (λ e. omega arith) in
           let u = p.opening.unheard d q.1 in record { not_opened = rw far u.not_opened; not_refused = u.not_refused; not_started = u.not_started; unknown = u.unknown; no_octets = u.no_octets };
     };
-    running = record {
-      one_run = p.running.one_run;
-      in_life = p.running.in_life;
-      its_run = p.running.its_run;
-      is_introduced = p.running.is_introduced;
-      is_silent = p.running.is_silent;
-      is_its_own = p.running.is_its_own;
-      is_heard = λ d l r n. any_append d c (open_ones H) (p.running.is_heard d l r n);
-      is_sole = λ d e q a b x y. p.running.is_sole d e q (there d q a x) (there e q b y) x y;
-    };
+    running = still_run (open_ones H ++ c ∷ []) (λ d l r n. any_append d c (open_ones H) (p.running.is_heard d l r n)) there;
   }
     where
       there : (d : ℕ) (q : PeerId) → list_any (eqb d) (open_ones H ++ c ∷ []) ≡ true → identity d H ≡ Some q → list_any (eqb d) (open_ones H) ≡ true
@@ -181,16 +186,7 @@ module _ (H : List Mark) (p : IsProper H) (c : ℕ) where
       rises = p.opening.rises;
       unheard = p.opening.unheard;
     },
-    record {
-      one_run = p.running.one_run;
-      in_life = p.running.in_life;
-      its_run = p.running.its_run;
-      is_introduced = p.running.is_introduced;
-      is_silent = p.running.is_silent;
-      is_its_own = p.running.is_its_own;
-      is_heard = λ d l r n. any_other c d (another d l r n) (open_ones H) (p.running.is_heard d l r n);
-      is_sole = λ d e q a b x y. p.running.is_sole d e q (any_left c d (open_ones H) a) (any_left c e (open_ones H) b) x y;
-    },
+    still_run (others c (open_ones H)) (λ d l r n. any_other c d (another d l r n) (open_ones H) (p.running.is_heard d l r n)) (λ d q a x. any_left c d (open_ones H) a),
   )
     where
       another : (d l : ℕ) → runner l H ≡ Some d → has_ended l H ≡ false → eqb c d ≡ false

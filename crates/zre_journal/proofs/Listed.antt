@@ -2,7 +2,9 @@
 use Rattle.std.proofs.Common.{◌≡◌, ℕ, zero, suc, ◌<◌, Bool, true, false, cond, not, ◌||◌, eqb, List, [], ◌∷◌, ◌++◌, Option, Some, None, IsSome, refl, sym, ap, ◌∙◌, arith, eqb-true, eq-eqb, ne_eqb, subst, find, filter, drop}
 use Rattle.std.proofs.lemmas.Bool.{eqb-false}
 use Rattle.std.specs.List.{AllByRecursion, list_any}
+use Rattle.std.specs.Str.{bytes_eq}
 use Rattle.zre_journal.specs.Proper.{Apart}
+use Rattle.zre_values.specs.Lists.{without}
 
 pub eqb-comm : (a b : ℕ) → eqb a b ≡ eqb b a
 eqb-comm a b = by (eqb b a) refl
@@ -88,6 +90,12 @@ module _ {A : Type 0} where
       by : (find t xs ≡ None → list_any t xs ≡ false) → (b : Bool) → cond b (Some x) (find t xs) ≡ None → (b || list_any t xs) ≡ false
       by r true k = cc
       by r false k = r k
+
+-- what holds of all groups holds of those that are left
+pub All-without : (P : List ℕ → Type 0) (group : List ℕ) (gs : List (List ℕ)) → AllByRecursion P gs → AllByRecursion P (without group gs)
+All-without P group [] h = tt
+All-without P group (x ∷ gs) h = elim (bytes_eq x group) as (λ b. AllByRecursion P (cond b gs (x ∷ without group gs)))
+    [ true ↦ h.1 | false ↦ (h.0, All-without P group gs h.1) ]
 
 module _ {A : Type 0} (key : A → ℕ) where
   -- things stay apart after a new greatest one, and where one is taken out

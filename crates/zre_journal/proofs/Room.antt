@@ -22,7 +22,7 @@ use Rattle.zre_journal.specs.Proper.{IsProper}
 use Rattle.zre_journal.specs.Introducing.{CanIntroduce}
 use Rattle.zre_journal.proofs.Fields.{hello_octets}
 use Rattle.zre_journal.proofs.Introduction.{new-short}
-use Rattle.zre_journal.proofs.Listed.{All-append}
+use Rattle.zre_journal.proofs.Listed.{All-append, All-without}
 use Rattle.zre_journal.proofs.Steps.{May, Allowed, step, Each}
 use Rattle.zre_journal.proofs.Viewed.{IsShortView, blank-short, first-short, later-short}
 
@@ -98,14 +98,6 @@ module _ (g : Config) where
       by r true = omega arith
       by r false = omega (arith, r)
 
-  still_short : (group : List ℕ) (gs : List (List ℕ)) → AllByRecursion (λ x. length x ≤ GROUP_OCTETS) gs → AllByRecursion (λ x. length x ≤ GROUP_OCTETS) (without group gs)
-  still_short group [] h = tt
-  still_short group (x ∷ gs) h = by (still_short group gs h.1) (bytes_eq x group)
-    where
-      by : AllByRecursion (λ y. length y ≤ GROUP_OCTETS) (without group gs) → (b : Bool) → AllByRecursion (λ y. length y ≤ GROUP_OCTETS) (cond b gs (x ∷ without group gs))
-      by r true = h.1
-      by r false = (h.0, r)
-
   pub room-more : (h : Mark) (H : List Mark) → IsProper H → May h H → Fits h H → HasRoom g H → HasRoom g (h ∷ H)
   room-more (Puts l b) H q m f o = record { unsent_fits = puts l b H f o.unsent_fits; views_fit = o.views_fit; groups_fit = o.groups_fit; few_groups = o.few_groups }
   room-more (Sends l n) H q m f o = record { unsent_fits = takes l n H o.unsent_fits; views_fit = o.views_fit; groups_fit = o.groups_fit; few_groups = o.few_groups }
@@ -120,7 +112,7 @@ module _ (g : Config) where
   room-more (Leaves group) H q m f o = record {
     unsent_fits = o.unsent_fits;
     views_fit = o.views_fit;
-    groups_fit = still_short group (groups H) o.groups_fit;
+    groups_fit = All-without (λ x. length x ≤ GROUP_OCTETS) group (groups H) o.groups_fit;
     few_groups = omega (arith, fewer group (groups H), o.few_groups);
   }
   room-more _ H q m f o = record { unsent_fits = o.unsent_fits; views_fit = o.views_fit; groups_fit = o.groups_fit; few_groups = o.few_groups }

@@ -28,7 +28,7 @@ use Rattle.zre_journal.specs.Truth.{own_view, only_begins_with_hello}
 use Rattle.zre_journal.proofs.Few.{AtEnd, Front, Back, at_end}
 use Rattle.zre_journal.proofs.Joined.{after-append}
 use Rattle.zre_journal.proofs.Known.{life_stays}
-use Rattle.zre_journal.proofs.Listed.{eqb-comm, some_is}
+use Rattle.zre_journal.proofs.Listed.{eqb-comm, some_is, All-without}
 use Rattle.zre_journal.proofs.Standing.{none_left}
 use Rattle.zre_journal.proofs.Silent.{known_lives}
 use Rattle.zre_journal.proofs.Brought.{Plain, ArePlain}
@@ -60,21 +60,13 @@ once_more group (x ∷ gs) a o = (far gs o.0, once_more group gs a.1 o.1)
     far [] h = (a.0, tt)
     far (y ∷ ys) h = (h.0, far ys h.1)
 
-without_all : (P : List ℕ → Type 0) (group : List ℕ) (gs : List (List ℕ)) → AllByRecursion P gs → AllByRecursion P (without group gs)
-without_all P group [] h = tt
-without_all P group (x ∷ gs) h = by (without_all P group gs h.1) (bytes_eq x group)
-  where
-    by : AllByRecursion P (without group gs) → (b : Bool) → AllByRecursion P (cond b gs (x ∷ without group gs))
-    by r true = h.1
-    by r false = (h.0, r)
-
 pub once_less : (group : List ℕ) (gs : List (List ℕ)) → Once gs → Once (without group gs)
 once_less group [] o = tt
 once_less group (x ∷ gs) o = by (once_less group gs o.1) (bytes_eq x group)
   where
     by : Once (without group gs) → (b : Bool) → Once (cond b gs (x ∷ without group gs))
     by r true = o.1
-    by r false = (without_all (λ y. bytes_eq x y ≡ false) group gs o.0, r)
+    by r false = (All-without (λ y. bytes_eq x y ≡ false) group gs o.0, r)
 
 none_has : (group : List ℕ) (gs : List (List ℕ)) → AllByRecursion (λ x. bytes_eq x group ≡ false) gs → has_group group gs ≡ false
 none_has group [] h = refl
