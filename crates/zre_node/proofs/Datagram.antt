@@ -1,5 +1,5 @@
 -- A datagram: which marks it leaves, by what the code tests.
-use Rattle.std.proofs.Common.{◌≡◌, ℕ, Bool, true, false, cond, eqb, List, [], ◌∷◌, length, Option, Some, None, IsSome, option_map, find, refl, sym, ap, ◌∙◌, ne_eqb, eq-eqb, bytes_eq}
+use Rattle.std.proofs.Common.{◌≡◌, ℕ, Bool, true, false, cond, eqb, List, [], ◌∷◌, length, Option, Some, None, IsSome, option_map, find, refl, sym, ap, ◌∙◌, ne_eqb, eq-eqb, bytes_eq, subst}
 use Rattle.zre_values.specs.declared.peer_id.PeerId.{PeerId}
 use Rattle.zre_beacon.specs.Beacon.{beacon_in}
 use Rattle.zre_peer.specs.declared.causes.Cause.TheVariants as cause

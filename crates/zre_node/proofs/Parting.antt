@@ -1,5 +1,5 @@
 -- Peers found in their table, and taken out of it.
-use Rattle.std.proofs.Common.{◌≡◌, ℕ, List, Option, Some, None, IsSome, sym, ◌∙◌, nat_cmp, subst}
+use Rattle.std.proofs.Common.{◌≡◌, ℕ, List, Option, Some, None, IsSome, sym, ◌∙◌, nat_cmp, subst, refl}
 use Rattle.std.specs.BTreeMap.{BTreeMap, is_at}
 use Rattle.std.specs.Map.{lookup, remove_entry}
 use Rattle.zre_msg.specs.declared.message.Message.{Message}
