@@ -22,6 +22,7 @@ use Rattle.zre_node.specs.Stands.{Holds, Did, IsPeer}
 use Rattle.std.proofs.lemmas.List.Folds.{list_any-append}
 use Rattle.zre_node.proofs.Entries.{inserted, changed}
 use Rattle.zre_node.proofs.Parting.{its_row}
+use Rattle.zre_node.proofs.Keeping.{keeps_as}
 
 module _ (g : Config) (H : List Mark) (t : Tables) (h : Holds g H t) (p : PeerId) (e : Endpoint) where
   -- the others are as before
@@ -39,20 +40,7 @@ module _ (g : Config) (H : List Mark) (t : Tables) (h : Holds g H t) (p : PeerId
   pub is_born : (k : Peer) (P : BTreeMap ℕ Peer) → k.id ≡ p → k.active ≡ clock H → k.run ≡ None → k.link ≡ link_after g.id (hello g H ∷ []) false [] 0
       → P.entries ≡ insert_entry nat_cmp t.peers.entries (births H + 1) k → Holds g (born p e (hello g H) H) (record t { births = births H + 1; peers = P })
   is_born k P id now run link put = record {
-    keeps = record {
-      can = h.keeps.can;
-      proper = born-proper H h.keeps.proper p e (hello g H);
-      going = h.keeps.going;
-      awake = h.keeps.awake;
-      config = h.keeps.config;
-      mailbox = h.keeps.mailbox;
-      clock_is = h.keeps.clock_is;
-      births_is = refl;
-      last_is = h.keeps.last_is;
-      groups_fit = h.keeps.groups_fit;
-      own = h.keeps.own;
-      conns = h.keeps.conns;
-    };
+    keeps = keeps_as g H _ _ _ h.keeps (born-proper H h.keeps.proper p e (hello g H)) refl (refl, refl, refl) h.keeps.clock_is refl h.keeps.last_is h.keeps.groups_fit h.keeps.own h.keeps.conns;
     peers = subst (λ es. Tabled (λ (v : Life). v.link) (IsPeer g (born p e (hello g H) H)) (lives H ++ newborn (births H + 1) p e ∷ []) es) (sym put)
         (inserted (λ (v : Life). v.link) (IsPeer g H) (IsPeer g (born p e (hello g H) H)) (newborn (births H + 1) p e) k (lives H) t.peers.entries
         (below (lives H) h.keeps.proper.living.numbered) others (fresh k id now run link) h.peers);
@@ -80,20 +68,7 @@ module _ (g : Config) (H : List Mark) (t : Tables) (h : Holds g H t) (l : ℕ) w
   renewed k P was put =
       let r = its_row (IsPeer g H) H t.peers.entries h.peers l k was in
       record {
-        keeps = record {
-          can = h.keeps.can;
-          proper = HearsBeacon-proper H h.keeps.proper l;
-          going = h.keeps.going;
-          awake = h.keeps.awake;
-          config = h.keeps.config;
-          mailbox = h.keeps.mailbox;
-          clock_is = h.keeps.clock_is;
-          births_is = h.keeps.births_is;
-          last_is = h.keeps.last_is;
-          groups_fit = h.keeps.groups_fit;
-          own = h.keeps.own;
-          conns = h.keeps.conns;
-        };
+        keeps = keeps_as g H _ _ _ h.keeps (HearsBeacon-proper H h.keeps.proper l) refl (refl, refl, refl) h.keeps.clock_is h.keeps.births_is h.keeps.last_is h.keeps.groups_fit h.keeps.own h.keeps.conns;
         peers = subst (λ es. Tabled (λ (v : Life). v.link) (IsPeer g (HearsBeacon l ∷ H)) (lives H) es) (sym put)
             (changed (λ (v : Life). v.link) (IsPeer g H) (IsPeer g (HearsBeacon l ∷ H)) l (record k { active = t.clock })
             (λ v w far is. let off : eqb v.link l ≡ false = eqb-comm v.link l ∙ far in rw off is) (lives H) t.peers.entries h.keeps.proper.living.apart

@@ -26,6 +26,7 @@ use Rattle.zre_node.specs.Tabled.{Tabled}
 use Rattle.zre_node.specs.Stands.{Holds, IsPeer, IsConn, kept_conn, heard_by, is_quiet}
 use Rattle.zre_node.proofs.Entries.{changed, retold, retold_of}
 use Rattle.zre_node.proofs.Faulting.{dead_places}
+use Rattle.zre_node.proofs.Keeping.{keeps_as}
 
 quiet_piece : (c : ℕ) (i : Input) → is_quiet i ≡ true → piece_of c i ≡ []
 quiet_piece c (input.Piece d o) q = absurd cc
@@ -55,20 +56,7 @@ module _ (g : Config) (H : List Mark) (t : Tables) (h : Holds g H t) (e : Entry)
 
   pub comes : (C : BTreeMap ℕ Connection) → ((l : ℕ) → reply_of l e.input ≡ []) → Tabled (λ (c : ℕ). c) (IsConn g (Comes e ∷ H)) (open_ones H) C.entries → Holds g (Comes e ∷ H) (record t { clock = max e.at t.clock; conns = C })
   comes C none conns = record {
-    keeps = record {
-      can = h.keeps.can;
-      proper = Comes-proper H h.keeps.proper e;
-      going = h.keeps.going;
-      awake = h.keeps.awake;
-      config = h.keeps.config;
-      mailbox = h.keeps.mailbox;
-      clock_is = ap (max e.at) h.keeps.clock_is;
-      births_is = h.keeps.births_is;
-      last_is = h.keeps.last_is;
-      groups_fit = h.keeps.groups_fit;
-      own = h.keeps.own;
-      conns = conns;
-    };
+    keeps = keeps_as g H _ _ _ h.keeps (Comes-proper H h.keeps.proper e) refl (refl, refl, refl) (ap (max e.at) h.keeps.clock_is) h.keeps.births_is h.keeps.last_is h.keeps.groups_fit h.keeps.own conns;
     peers = retold (λ (v : Life). v.link) (IsPeer g H) (IsPeer g (Comes e ∷ H))
         (λ v k is. record {
           id_is = is.id_is;

@@ -1,5 +1,5 @@
 -- Commands: which marks they leave, and the node's own groups.
-use Rattle.std.proofs.Common.{◌≡◌, ℕ, ◌+◌, ◌%◌, ◌<◌, ◌≤◌, Bool, true, false, cond, IsTrue, ◌||◌, ltb, leb, filter, List, [], ◌∷◌, length, Option, Some, None, is_some, nat_cmp, refl, sym, ap, ◌∙◌, subst, arith, lt-ltb, le-ltb}
+use Rattle.std.proofs.Common.{◌≡◌, ℕ, ◌+◌, ◌%◌, ◌<◌, ◌≤◌, Bool, true, false, IsTrue, ◌||◌, ltb, leb, filter, List, [], ◌∷◌, length, Option, Some, None, is_some, nat_cmp, refl, sym, ap, ◌∙◌, subst, arith, lt-ltb, le-ltb}
 use Rattle.std.specs.List.{AllByRecursion}
 use Rattle.std.specs.BTreeMap.{is_at}
 use Rattle.std.specs.Map.{lookup}
@@ -25,7 +25,7 @@ use Rattle.zre_journal.specs.Links.{groups, status}
 use Rattle.zre_journal.specs.Commands.{has_group, is_member, is_too_big, at_join, at_leave, at_whisper, at_shout}
 use Rattle.zre_journal.specs.Pushes.{push, push_all}
 use Rattle.zre_journal.proofs.Kept.{Joins-proper, Leaves-proper, Refuses-proper}
-use Rattle.zre_journal.proofs.Listed.{All-append}
+use Rattle.zre_journal.proofs.Listed.{All-append, All-without}
 use Rattle.zre_node.specs.declared.peer.Peer.{Peer}
 use Rattle.zre_node.specs.declared.tables.Tables.{Tables}
 use Rattle.zre_node.specs.declared.effects.Effects.{Effects}
@@ -37,6 +37,7 @@ use Rattle.zre_node.proofs.Opening.{with_conns}
 use Rattle.zre_node.proofs.Parting.{its_row, no_row}
 use Rattle.zre_node.proofs.Starting.{its_own_life}
 use Rattle.zre_node.proofs.Ticking.{enters}
+use Rattle.zre_node.proofs.Keeping.{keeps_as}
 
 -- ---- a refusal
 
@@ -45,48 +46,16 @@ refused g K t h why = with_conns g K (Refuses why ∷ K) t t.last t.conns h (Ref
 
 -- ---- the node's own groups
 
--- what holds of all groups holds of those that are left
-All-without : (P : List ℕ → Type 0) (group : List ℕ) (gs : List (List ℕ)) → AllByRecursion P gs → AllByRecursion P (without group gs)
-All-without P group [] a = tt
-All-without P group (x ∷ xs) a = elim (bytes_eq x group) as (λ b. AllByRecursion P (cond b xs (x ∷ without group xs)))
-    [ true ↦ a.1 | false ↦ (a.0, All-without P group xs a.1) ]
-
 module _ (g : Config) (K : List Mark) (t : Tables) (h : Holds g K t) (group : List ℕ) where
   pub joined : (o : OwnGroups) → o ≡ with_joined t.own group → length group ≤ 255 → Holds g (Joins group ∷ K) (record t { own = o })
   joined o is short = record {
-    keeps = record {
-      can = h.keeps.can;
-      proper = Joins-proper K h.keeps.proper group;
-      going = h.keeps.going;
-      awake = h.keeps.awake;
-      config = h.keeps.config;
-      mailbox = h.keeps.mailbox;
-      clock_is = h.keeps.clock_is;
-      births_is = h.keeps.births_is;
-      last_is = h.keeps.last_is;
-      groups_fit = All-append (λ x. length x ≤ 255) (groups K) group h.keeps.groups_fit short;
-      own = is ∙ ap (λ (w : OwnGroups). with_joined w group) h.keeps.own;
-      conns = h.keeps.conns;
-    };
+    keeps = keeps_as g K _ _ _ h.keeps (Joins-proper K h.keeps.proper group) refl (refl, refl, refl) h.keeps.clock_is h.keeps.births_is h.keeps.last_is (All-append (λ x. length x ≤ 255) (groups K) group h.keeps.groups_fit short) (is ∙ ap (λ (w : OwnGroups). with_joined w group) h.keeps.own) h.keeps.conns;
     peers = h.peers;
   }
 
   pub left : (o : OwnGroups) → o ≡ with_left t.own group → Holds g (Leaves group ∷ K) (record t { own = o })
   left o is = record {
-    keeps = record {
-      can = h.keeps.can;
-      proper = Leaves-proper K h.keeps.proper group;
-      going = h.keeps.going;
-      awake = h.keeps.awake;
-      config = h.keeps.config;
-      mailbox = h.keeps.mailbox;
-      clock_is = h.keeps.clock_is;
-      births_is = h.keeps.births_is;
-      last_is = h.keeps.last_is;
-      groups_fit = All-without (λ x. length x ≤ 255) group (groups K) h.keeps.groups_fit;
-      own = is ∙ ap (λ (w : OwnGroups). with_left w group) h.keeps.own;
-      conns = h.keeps.conns;
-    };
+    keeps = keeps_as g K _ _ _ h.keeps (Leaves-proper K h.keeps.proper group) refl (refl, refl, refl) h.keeps.clock_is h.keeps.births_is h.keeps.last_is (All-without (λ x. length x ≤ 255) group (groups K) h.keeps.groups_fit) (is ∙ ap (λ (w : OwnGroups). with_left w group) h.keeps.own) h.keeps.conns;
     peers = h.peers;
   }
 

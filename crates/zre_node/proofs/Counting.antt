@@ -21,7 +21,7 @@ use Rattle.zre_journal.specs.Connections.{runs}
 use Rattle.zre_journal.specs.Peers.{Life, lives, life, runner, counted}
 use Rattle.zre_journal.specs.Arrivals.{at_later, answer_to}
 use Rattle.zre_journal.specs.Pushes.{push}
-use Rattle.zre_journal.proofs.Kept.{run_is, Counts-proper}
+use Rattle.zre_journal.proofs.Kept.{run_is, Counts-proper, run_known}
 use Rattle.zre_journal.proofs.Listed.{eqb-comm, found_passes}
 use Rattle.zre_node.specs.declared.peer.Peer.{Peer}
 use Rattle.zre_node.specs.declared.peer.Running.{Running}
@@ -34,6 +34,7 @@ use Rattle.zre_node.proofs.Parting.{its_row, keeps_with, leaves}
 use Rattle.zre_journal.specs.Told.{told}
 use Rattle.zre_journal.proofs.Idle.{not_true}
 use Rattle.zre_node.proofs.Many.{did_by}
+use Rattle.zre_node.proofs.Keeping.{keeps_as}
 
 pub if_err : {T E B : Type 0} {P Q : E → Type 0} (r : Result T E) → IfErr r P → OnErr r B → ((e : E) → P e → B → Q e) → IfErr r Q
 if_err (Ok x) p b f = tt
@@ -131,20 +132,7 @@ module _ (g : Config) (H : List Mark) (t : Tables) (h : Holds g H t) (c l : ℕ)
   pub counts : (m : Message) (w : Peer) (P : BTreeMap ℕ Peer) → w.id ≡ k.id → w.link ≡ k.link → w.active ≡ t.clock → HasRun (Some c) its.0.id (counted l H ++ m ∷ []) w.run
       → P.entries ≡ set_value (is_at (nat_cmp l)) t.peers.entries w → Holds g (Counts c l m ∷ H) (record t { peers = P })
   counts m w P id link now run put = record {
-    keeps = record {
-      can = h.keeps.can;
-      proper = Counts-proper H h.keeps.proper c l m r;
-      going = h.keeps.going;
-      awake = h.keeps.awake;
-      config = h.keeps.config;
-      mailbox = h.keeps.mailbox;
-      clock_is = h.keeps.clock_is;
-      births_is = h.keeps.births_is;
-      last_is = h.keeps.last_is;
-      groups_fit = h.keeps.groups_fit;
-      own = h.keeps.own;
-      conns = h.keeps.conns;
-    };
+    keeps = keeps_as g H _ _ _ h.keeps (Counts-proper H h.keeps.proper c l m r) refl (refl, refl, refl) h.keeps.clock_is h.keeps.births_is h.keeps.last_is h.keeps.groups_fit h.keeps.own h.keeps.conns;
     peers = subst (λ es. Tabled (λ (v : Life). v.link) (IsPeer g (Counts c l m ∷ H)) (lives H) es) (sym put)
         (changed (λ (v : Life). v.link) (IsPeer g H) (IsPeer g (Counts c l m ∷ H)) l w
         (λ v x far is. let off : eqb v.link l ≡ false = eqb-comm v.link l ∙ far in rw off is) (lives H) t.peers.entries h.keeps.proper.living.apart
@@ -194,3 +182,13 @@ ended_from g c l m H n a es s (Ok x) some e f is same d =
     let from : record a { events = es } ≡ a = ap (λ xs. record a { events = xs }) same in
     rw marks (subst (λ b. Did g (Ends l (cause_by f) ∷ []) H n b s) from d)
 ended_from g c l m H n a es s (Err x) some e f is same d = tt
+
+-- a message that makes no run: w is the row as it is left, in P
+pub refused_by : (g : Config) (H : List Mark) (t : Tables) (h : Holds g H t) (c l : ℕ) (r : runs c H ≡ Some l) (k : Peer) (was : Some k ≡ lookup (is_at (nat_cmp l)) t.peers.entries)
+    (m : Message) (f : RunFault) (w : Peer) (P : BTreeMap ℕ Peer) → w.id ≡ k.id → P.entries ≡ set_value (is_at (nat_cmp l)) t.peers.entries w
+    → (n : Tables) (a s : Effects) (es : List Event) (x : Result (Unit {0}) OutOfMemory)
+    → ((id : PeerId) → HasRun (Some c) id (counted l H) k.run → (may_follow (counted l H) m ≡ false) × (f ≡ fault_of (counted l H) m) × HadRun (Some c) (counted l H) w.run × (es ≡ a.events))
+    → (Nearly g H l (record t { peers = P }) → IsSome (life l H) → OnOk x (Did g (Ends l (cause_by f) ∷ []) H n (record a { events = es }) s)) → OnOk x (Did g (at_later g c l m H) H n a s)
+refused_by g H t h c l r k was m f w P id put n a s es x told ended =
+    let took = told (its g H t h c l r k was).0.id (row_runs g H t h c l r k was) in
+    ended_from g c l m H n a es s x (some_counted g H t h c l r k was) took.0 f took.1 took.3 (ended (breaks g H t h c l r k was w P id took.2 put) (run_known H h.keeps.proper c l r))

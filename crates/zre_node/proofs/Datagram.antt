@@ -1,5 +1,5 @@
 -- A datagram: which marks it leaves, by what the code tests.
-use Rattle.std.proofs.Common.{◌≡◌, ℕ, Bool, true, false, cond, eqb, List, [], ◌∷◌, length, Option, Some, None, IsSome, option_map, find, refl, sym, ap, ◌∙◌, ne_eqb, eq-eqb, bytes_eq}
+use Rattle.std.proofs.Common.{◌≡◌, ℕ, Bool, true, false, cond, eqb, List, [], ◌∷◌, length, Option, Some, None, IsSome, option_map, find, refl, ap, ◌∙◌, ne_eqb, bytes_eq, subst}
 use Rattle.zre_values.specs.declared.peer_id.PeerId.{PeerId}
 use Rattle.zre_beacon.specs.Beacon.{beacon_in}
 use Rattle.zre_peer.specs.declared.causes.Cause.TheVariants as cause
@@ -13,6 +13,7 @@ use Rattle.zre_node.specs.declared.tables.Tables.{Tables}
 use Rattle.zre_node.specs.Tabled.{Tabled}
 use Rattle.zre_node.specs.Stands.{Holds, IsPeer, link_among}
 use Rattle.zre_node.proofs.Entries.{as_many}
+use Rattle.zre_journal.proofs.Known.{known_of}
 
 -- a search of the rows by an id finds the link of the known peer
 pub link_in_rows : (g : Config) (H : List Mark) (p : PeerId) (vs : List Life) (es : List (ℕ × Peer)) → Tabled (λ (v : Life). v.link) (IsPeer g H) vs es
@@ -31,20 +32,6 @@ link_in_rows g H p (v ∷ vs) (e ∷ es) t = rw (t.0, t.1.id_is) (by (link_in_ro
 pub link_found : (g : Config) (H : List Mark) (t : Tables) (p : PeerId) → Holds g H t → link_among p t.peers.entries ≡ option_map (λ (v : Life). v.link) (life_of p H)
 link_found g H t p h = link_in_rows g H p (lives H) t.peers.entries h.peers
 
--- what one test finds, a search by the link finds too
-by_link : (test : Life → Bool) (vs : List Life) (v : Life) → find test vs ≡ Some v → IsSome (find (λ (u : Life). eqb v.link u.link) vs)
-by_link test [] v e = cc
-by_link test (u ∷ us) v e = by (by_link test us v) (test u) refl e (eqb v.link u.link) refl
-  where
-    by : (find test us ≡ Some v → IsSome (find (λ (w : Life). eqb v.link w.link) us)) → (b : Bool) → test u ≡ b → cond b (Some u) (find test us) ≡ Some v
-        → (d : Bool) → eqb v.link u.link ≡ d → IsSome (cond d (Some u) (find (λ (w : Life). eqb v.link w.link) us))
-    by r b q k true z = refl
-    by r true q k false z = let same : u ≡ v = cc in let yes : eqb v.link u.link ≡ true = eq-eqb v.link u.link (ap (λ (w : Life). w.link) (sym same)) in cc
-    by r false q k false z = r k
-
-pub known_link : (H : List Mark) (p : PeerId) (v : Life) → life_of p H ≡ Some v → IsSome (life v.link H)
-known_link H p v e = by_link (λ (u : Life). bytes_eq p.0 u.id.0) (lives H) v e
-
 -- the peer of a found link
 pub its_life : (o : Option Life) (l : ℕ) → Some l ≡ option_map (λ (v : Life). v.link) o → (v : Life) × (o ≡ Some v) × (v.link ≡ l)
 its_life None l e = cc
@@ -53,6 +40,16 @@ its_life (Some v) l e = (v, refl, cc)
 pub no_life : (o : Option Life) → None ≡ option_map (λ (v : Life). v.link) o → o ≡ None
 no_life None e = refl
 no_life (Some v) e = cc
+
+-- the known peer whose link the code's search finds
+pub known_by : (g : Config) (H : List Mark) (t : Tables) (p : PeerId) (l : ℕ) → Holds g H t → Some l ≡ link_among p t.peers.entries → (v : Life) × (life_of p H ≡ Some v) × (v.link ≡ l) × IsSome (life l H)
+known_by g H t p l h e =
+    let v = its_life (life_of p H) l (e ∙ link_found g H t p h) in
+    let k : IsSome (life v.0.link H) = rw (known_of H h.keeps.proper p v.0 v.1) refl in
+    (v.0, v.1, v.2, subst (λ j. IsSome (life j H)) v.2 k)
+
+pub unknown_by : (g : Config) (H : List Mark) (t : Tables) (p : PeerId) → Holds g H t → None ≡ link_among p t.peers.entries → life_of p H ≡ None
+unknown_by g H t p h e = no_life (life_of p H) (e ∙ link_found g H t p h)
 
 module _ (g : Config) (from o : List ℕ) (H : List Mark) (p : PeerId) (port : ℕ) (b : beacon_in o ≡ Some (p, port)) where
   pub ends_it : (v : Life) → life_of p H ≡ Some v → port ≡ 0 → at_datagram g from (beacon_in o) H ≡ Ends v.link cause.Beacon ∷ []

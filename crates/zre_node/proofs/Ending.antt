@@ -28,6 +28,7 @@ use Rattle.zre_node.specs.Tabled.{Tabled}
 use Rattle.zre_node.specs.Stands.{Holds, Keeps, Parted, Did, HadRun, IsConn, kept_conn, heard_by}
 use Rattle.zre_node.proofs.Entries.{Row, Is, IsNone, row, changed, retold}
 use Rattle.zre_node.proofs.Many.{or-nil}
+use Rattle.zre_node.proofs.Keeping.{keeps_as}
 
 pub on_ok : {T E A C : Type 0} (r : Result T E) → OnOk r A → (A → C) → OnOk r C
 on_ok (Ok x) a f = f a
@@ -100,20 +101,7 @@ module _ (g : Config) (H : List Mark) (l : ℕ) (k : Peer) (t : Tables) (p : Par
 
   with_conns : (C : BTreeMap ℕ Connection) → Tabled (λ (c : ℕ). c) (IsConn g (Ends l why ∷ H)) (open_ones H) C.entries → Holds g (Ends l why ∷ H) (record t { conns = C })
   with_conns C conns = record {
-    keeps = record {
-      can = p.keeps.can;
-      proper = Ends-proper H p.keeps.proper l why known.1;
-      going = p.keeps.going;
-      awake = p.keeps.awake;
-      config = p.keeps.config;
-      mailbox = p.keeps.mailbox;
-      clock_is = p.keeps.clock_is;
-      births_is = p.keeps.births_is;
-      last_is = p.keeps.last_is;
-      groups_fit = p.keeps.groups_fit;
-      own = p.keeps.own;
-      conns = conns;
-    };
+    keeps = keeps_as g H _ _ _ p.keeps (Ends-proper H p.keeps.proper l why known.1) refl (refl, refl, refl) p.keeps.clock_is p.keeps.births_is p.keeps.last_is p.keeps.groups_fit p.keeps.own conns;
     peers = p.peers;
   }
 

@@ -25,3 +25,4 @@ pub mod Stepping
 pub mod Stopping
 pub mod Taking
 pub mod Ticking
+pub mod Keeping

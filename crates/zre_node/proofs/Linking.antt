@@ -34,6 +34,7 @@ use Rattle.zre_node.proofs.Entries.{Agree, changed, retold, retold_of}
 use Rattle.zre_node.proofs.Many.{or-nil, idle_did, silent_did}
 use Rattle.zre_node.proofs.Parting.{PeerRow, Found, Missing, peer_row, its_row}
 use Rattle.zre_node.proofs.Pushing.{row_link, written_back}
+use Rattle.zre_node.proofs.Keeping.{keeps_as}
 
 abbrev key : Life → ℕ
 key v = v.link
@@ -41,20 +42,7 @@ key v = v.link
 -- all but the table of peers, after a mark that says nothing of it
 keeps_after : (g : Config) (K H : List Mark) (t : Tables) (P : BTreeMap ℕ Peer) → Keeps g K t → IsProper H → has_stopped H ≡ has_stopped K → clock H ≡ clock K → births H ≡ births K → ((c : ℕ) → is_new c H ≡ is_new c K)
     → groups H ≡ groups K → status H ≡ status K → Tabled (λ (c : ℕ). c) (IsConn g H) (open_ones H) t.conns.entries → Keeps g H (record t { peers = P })
-keeps_after g K H t P k proper going same_clock same_births same_new same_groups same_status conns = record {
-  can = k.can;
-  proper = proper;
-  going = going ∙ k.going;
-  awake = k.awake;
-  config = k.config;
-  mailbox = k.mailbox;
-  clock_is = k.clock_is ∙ sym same_clock;
-  births_is = k.births_is ∙ sym same_births;
-  last_is = λ c. same_new c ∙ k.last_is c;
-  groups_fit = subst (λ gs. AllByRecursion (λ group. length group ≤ 255) gs) (sym same_groups) k.groups_fit;
-  own = k.own ∙ rw (same_groups, same_status) refl;
-  conns = conns;
-}
+keeps_after g K H t P k proper going same_clock same_births same_new same_groups same_status conns = keeps_as g K _ _ _ k proper going (refl, refl, refl) (k.clock_is ∙ sym same_clock) (k.births_is ∙ sym same_births) (λ c. same_new c ∙ k.last_is c) (subst (λ gs. AllByRecursion (λ group. length group ≤ 255) gs) (sym same_groups) k.groups_fit) (k.own ∙ rw (same_groups, same_status) refl) conns
 
 module _ (g : Config) (K : List Mark) (t : Tables) (h : Holds g K t) (l : ℕ) (k : Peer) (was : Some k ≡ lookup (is_at (nat_cmp l)) t.peers.entries) where
   its : (v : Life) × (life l K ≡ Some v) × IsPeer g K v k
@@ -190,20 +178,7 @@ module _ (g : Config) (H : List Mark) (t : Tables) (h : Holds g H t) (e : Entry)
 
   comes : (P : BTreeMap ℕ Peer) → Tabled key (IsPeer g (Comes e ∷ H)) (lives H) P.entries → Holds g (Comes e ∷ H) (record t { clock = max e.at t.clock; peers = P })
   comes P peers = record {
-    keeps = record {
-      can = h.keeps.can;
-      proper = Comes-proper H h.keeps.proper e;
-      going = h.keeps.going;
-      awake = h.keeps.awake;
-      config = h.keeps.config;
-      mailbox = h.keeps.mailbox;
-      clock_is = ap (max e.at) h.keeps.clock_is;
-      births_is = h.keeps.births_is;
-      last_is = h.keeps.last_is;
-      groups_fit = h.keeps.groups_fit;
-      own = h.keeps.own;
-      conns = retold (λ (c : ℕ). c) (IsConn g H) (IsConn g (Comes e ∷ H)) (λ c k q. q ∙ other_conn g H t h e c (no_piece c)) (open_ones H) t.conns.entries h.keeps.conns;
-    };
+    keeps = keeps_as g H _ _ _ h.keeps (Comes-proper H h.keeps.proper e) refl (refl, refl, refl) (ap (max e.at) h.keeps.clock_is) h.keeps.births_is h.keeps.last_is h.keeps.groups_fit h.keeps.own (retold (λ (c : ℕ). c) (IsConn g H) (IsConn g (Comes e ∷ H)) (λ c k q. q ∙ other_conn g H t h e c (no_piece c)) (open_ones H) t.conns.entries h.keeps.conns);
     peers = peers;
   }
 

@@ -22,6 +22,7 @@ use Rattle.zre_node.specs.declared.tables.Tables.{Tables}
 use Rattle.zre_node.specs.Tabled.{Tabled}
 use Rattle.zre_node.specs.Stands.{Holds, Keeps, IsPeer, IsConn, kept_conn, is_above, RunNone}
 use Rattle.zre_node.proofs.Entries.{inserted, removed, as_many}
+use Rattle.zre_node.proofs.Keeping.{keeps_as}
 
 pub open_count : (g : Config) (H : List Mark) (t : Tables) → Keeps g H t → length t.conns.entries ≡ length (open_ones H)
 open_count g H t k = as_many (λ (c : ℕ). c) (IsConn g H) (open_ones H) t.conns.entries k.conns
@@ -32,20 +33,7 @@ pub with_conns : (g : Config) (H K : List Mark) (t : Tables) (o : Option ℕ) (C
     → groups K ≡ groups H → status K ≡ status H
     → ((c : ℕ) → is_new c K ≡ is_above o c) → Tabled (λ (c : ℕ). c) (IsConn g K) (open_ones K) C.entries → Holds g K (record t { last = o; conns = C })
 with_conns g H K t o C h proper same_clock same_births same_lives peers going same_groups same_status last conns = record {
-  keeps = record {
-    can = h.keeps.can;
-    proper = proper;
-    going = going ∙ h.keeps.going;
-    awake = h.keeps.awake;
-    config = h.keeps.config;
-    mailbox = h.keeps.mailbox;
-    clock_is = h.keeps.clock_is ∙ sym same_clock;
-    births_is = h.keeps.births_is ∙ sym same_births;
-    last_is = last;
-    groups_fit = subst (λ gs. AllByRecursion (λ group. length group ≤ 255) gs) (sym same_groups) h.keeps.groups_fit;
-    own = h.keeps.own ∙ rw (same_groups, same_status) refl;
-    conns = conns;
-  };
+  keeps = keeps_as g H _ _ _ h.keeps proper going (refl, refl, refl) (h.keeps.clock_is ∙ sym same_clock) (h.keeps.births_is ∙ sym same_births) last (subst (λ gs. AllByRecursion (λ group. length group ≤ 255) gs) (sym same_groups) h.keeps.groups_fit) (h.keeps.own ∙ rw (same_groups, same_status) refl) conns;
   peers = peers;
 }
 

@@ -1,5 +1,5 @@
 -- Peers found in their table, and taken out of it.
-use Rattle.std.proofs.Common.{◌≡◌, ℕ, List, Option, Some, None, IsSome, sym, ◌∙◌, nat_cmp, subst}
+use Rattle.std.proofs.Common.{◌≡◌, ℕ, List, Option, Some, None, IsSome, sym, ◌∙◌, nat_cmp, subst, refl}
 use Rattle.std.specs.BTreeMap.{BTreeMap, is_at}
 use Rattle.std.specs.Map.{lookup, remove_entry}
 use Rattle.zre_msg.specs.declared.message.Message.{Message}
@@ -15,22 +15,10 @@ use Rattle.zre_node.specs.declared.tables.Tables.{Tables}
 use Rattle.zre_node.specs.Tabled.{Tabled}
 use Rattle.zre_node.specs.Stands.{IsRunning, Holds, Keeps, Nearly, Parted, HadRun, HasRun, IsLeaving, IsBut, IsPeer}
 use Rattle.zre_node.proofs.Entries.{Row, Is, IsNone, row, removed, retold}
+use Rattle.zre_node.proofs.Keeping.{keeps_as}
 
 pub keeps_with : (g : Config) (H : List Mark) (t : Tables) → Keeps g H t → (P : BTreeMap ℕ Peer) → Keeps g H (record t { peers = P })
-keeps_with g H t k P = record {
-  can = k.can;
-  proper = k.proper;
-  going = k.going;
-  awake = k.awake;
-  config = k.config;
-  mailbox = k.mailbox;
-  clock_is = k.clock_is;
-  births_is = k.births_is;
-  last_is = k.last_is;
-  groups_fit = k.groups_fit;
-  own = k.own;
-  conns = k.conns;
-}
+keeps_with g H t k P = keeps_as g H _ _ _ k k.proper refl (refl, refl, refl) k.clock_is k.births_is k.last_is k.groups_fit k.own k.conns
 
 -- the row of a known peer
 pub data PeerRow (P : Life → Peer → Type 0) (H : List Mark) (l : ℕ) (o : Option Peer) : Type 0 where

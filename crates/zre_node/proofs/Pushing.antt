@@ -22,6 +22,7 @@ use Rattle.zre_node.specs.Tabled.{Tabled}
 use Rattle.zre_node.specs.Stands.{Holds, Did, IsPeer, link_of_life}
 use Rattle.zre_node.proofs.Entries.{changed}
 use Rattle.zre_node.proofs.Parting.{its_row, keeps_with}
+use Rattle.zre_node.proofs.Keeping.{keeps_as}
 
 module _ (g : Config) (K : List Mark) (t : Tables) (h : Holds g K t) (l : ℕ) (k : Peer) (was : Some k ≡ lookup (is_at (nat_cmp l)) t.peers.entries) where
   its : (v : Life) × (life l K ≡ Some v) × IsPeer g K v k
@@ -49,20 +50,7 @@ module _ (g : Config) (K : List Mark) (t : Tables) (h : Holds g K t) (l : ℕ) (
   pub puts_it : (b : Body) (o : Sending) (P : BTreeMap ℕ Peer) → o ≡ link_after g.id (bodies l K ++ b ∷ []) (is_linked l K) (replies l K) (taken l K)
       → P.entries ≡ set_value (is_at (nat_cmp l)) t.peers.entries (record k { link = o }) → Holds g (Puts l b ∷ K) (record t { peers = P })
   puts_it b o P new put = record {
-    keeps = record {
-      can = h.keeps.can;
-      proper = Puts-proper K h.keeps.proper l b (known_lives K h.keeps.proper l its.0 its.1).1;
-      going = h.keeps.going;
-      awake = h.keeps.awake;
-      config = h.keeps.config;
-      mailbox = h.keeps.mailbox;
-      clock_is = h.keeps.clock_is;
-      births_is = h.keeps.births_is;
-      last_is = h.keeps.last_is;
-      groups_fit = h.keeps.groups_fit;
-      own = h.keeps.own;
-      conns = h.keeps.conns;
-    };
+    keeps = keeps_as g K _ _ _ h.keeps (Puts-proper K h.keeps.proper l b (known_lives K h.keeps.proper l its.0 its.1).1) refl (refl, refl, refl) h.keeps.clock_is h.keeps.births_is h.keeps.last_is h.keeps.groups_fit h.keeps.own h.keeps.conns;
     peers = subst (λ es. Tabled (λ (v : Life). v.link) (IsPeer g (Puts l b ∷ K)) (lives K) es) (sym put)
         (changed (λ (v : Life). v.link) (IsPeer g K) (IsPeer g (Puts l b ∷ K)) l (record k { link = o })
         (λ v w far is. let off : eqb v.link l ≡ false = eqb-comm v.link l ∙ far in rw off is) (lives K) t.peers.entries h.keeps.proper.living.apart

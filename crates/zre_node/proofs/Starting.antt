@@ -1,8 +1,7 @@
 -- The first message of a connection.
-use Rattle.std.proofs.Common.{◌≡◌, ◌≢◌, ℕ, ◌+◌, ◌<◌, ◌≤◌, Bool, true, false, cond, not, ◌&&◌, ◌||◌, eqb, ltb, List, [], ◌∷◌, ◌++◌, length, Option, Some, None, is_some, is_none, find, Result, Ok, Err, OnOk, refl, sym, ap, ◌∙◌, nat_cmp, subst, eq-eqb, ne_eqb, arith, lt-ltb, le-ltb, eqb-true, append-nil}
+use Rattle.std.proofs.Common.{◌≡◌, ◌≢◌, ℕ, ◌+◌, ◌<◌, ◌≤◌, Bool, true, false, not, ◌&&◌, ◌||◌, eqb, ltb, List, [], ◌∷◌, ◌++◌, length, Option, Some, None, is_some, is_none, find, Result, Ok, Err, OnOk, refl, sym, ap, ◌∙◌, nat_cmp, subst, eq-eqb, ne_eqb, arith, lt-ltb, le-ltb, eqb-true, append-nil}
 use Rattle.std.proofs.lemmas.Bool.{and_parts}
 use Rattle.std.specs.List.{AllByRecursion}
-use Rattle.std.specs.Str.{bytes_eq}
 use Rattle.zre_values.specs.declared.endpoint.Endpoint.{Endpoint}
 use Rattle.zre_peer.specs.declared.causes.IgnoreWhy.TheVariants as ignore
 use Rattle.zre_peer.specs.declared.peer_run.RunFault.{RunFault}
@@ -26,11 +25,11 @@ use Rattle.zre_journal.specs.declared.config.Config.{Config}
 use Rattle.zre_journal.specs.Chronicle.{Mark, Starts, Ignores, after, ever}
 use Rattle.zre_journal.specs.Connections.{open_ones, is_open, is_live, is_ignored, was_used, identity, runs, started, refuses, has_ended}
 use Rattle.zre_journal.specs.Peers.{Life, lives, life, life_of, births, runner, counted}
-use Rattle.zre_journal.specs.Proper.{IsProper, Apart}
+use Rattle.zre_journal.specs.Proper.{IsProper}
 use Rattle.zre_journal.proofs.Kept.{known_lives, newborn, runner_runs, Starts-proper, Ignores-proper}
-use Rattle.zre_journal.proofs.Listed.{eqb-comm, found, found_passes, All-map}
+use Rattle.zre_journal.proofs.Listed.{eqb-comm, found_passes, All-map}
 use Rattle.zre_journal.proofs.Idle.{not_true}
-use Rattle.zre_journal.proofs.Known.{same_id}
+use Rattle.zre_journal.proofs.Known.{known_of, id_of}
 use Rattle.zre_node.specs.declared.connection.Connection.{Connection}
 use Rattle.zre_node.specs.declared.peer.Peer.{Peer}
 use Rattle.zre_node.specs.declared.tables.Tables.{Tables}
@@ -39,6 +38,7 @@ use Rattle.zre_node.specs.Stands.{Holds, Did, HasRun, IsPeer, IsConn, kept_conn}
 use Rattle.zre_node.proofs.Entries.{changed}
 use Rattle.zre_node.proofs.Opening.{with_conns}
 use Rattle.zre_node.proofs.Parting.{its_row}
+use Rattle.zre_node.proofs.Keeping.{keeps_as}
 
 -- ---- a waiting connection has started nothing and was not refused
 
@@ -124,20 +124,7 @@ module _ (g : Config) (H : List Mark) (t : Tables) (h : Holds g H t) (c l : ℕ)
       → (x w : Peer) (P : BTreeMap ℕ Peer) → Some x ≡ lookup (is_at (nat_cmp l)) t.peers.entries → w.id ≡ x.id → w.link ≡ x.link → w.active ≡ t.clock → HasRun (Some c) v.id (m ∷ []) w.run
       → P.entries ≡ set_value (is_at (nat_cmp l)) t.peers.entries w → Holds g (Starts c l m ∷ H) (record t { peers = P; conns = C })
   starts C conns x w P was id link now run put = record {
-    keeps = record {
-      can = h.keeps.can;
-      proper = Starts-proper H h.keeps.proper c l m v (live_open c H live) (waits c H live idle).1 k who free;
-      going = h.keeps.going;
-      awake = h.keeps.awake;
-      config = h.keeps.config;
-      mailbox = h.keeps.mailbox;
-      clock_is = h.keeps.clock_is;
-      births_is = h.keeps.births_is;
-      last_is = h.keeps.last_is;
-      groups_fit = h.keeps.groups_fit;
-      own = h.keeps.own;
-      conns = conns_after C conns;
-    };
+    keeps = keeps_as g H _ _ _ h.keeps (Starts-proper H h.keeps.proper c l m v (live_open c H live) (waits c H live idle).1 k who free) refl (refl, refl, refl) h.keeps.clock_is h.keeps.births_is h.keeps.last_is h.keeps.groups_fit h.keeps.own (conns_after C conns);
     peers = peers_after x w P was id link now run put;
   }
 
@@ -162,21 +149,9 @@ module _ (g : Config) (c : ℕ) (p : PeerId) (m : Message) (H : List Mark) where
 
 -- ---- the peer of an identity, by its link
 
-same_life : (p : PeerId) (vs : List Life) (v : Life) → Apart (λ (u : Life). u.link) vs → find (λ (u : Life). bytes_eq p.0 u.id.0) vs ≡ Some v → find (λ (u : Life). eqb v.link u.link) vs ≡ Some v
-same_life p [] v a e = absurd cc
-same_life p (u ∷ us) v a e = by (λ k. same_life p us v a.1 k) (bytes_eq p.0 u.id.0) e
-  where
-    by : (find (λ (w : Life). bytes_eq p.0 w.id.0) us ≡ Some v → find (λ (w : Life). eqb v.link w.link) us ≡ Some v) → (b : Bool) → cond b (Some u) (find (λ (w : Life). bytes_eq p.0 w.id.0) us) ≡ Some v
-        → cond (eqb v.link u.link) (Some u) (find (λ (w : Life). eqb v.link w.link) us) ≡ Some v
-    by r true k = let same : u ≡ v = cc in let me : eqb v.link u.link ≡ true = eq-eqb v.link u.link (ap (λ (w : Life). w.link) (sym same)) in rw me k
-    by r false k =
-        let far : eqb u.link v.link ≡ false = (found (λ (w : Life). eqb u.link w.link ≡ false) (λ (w : Life). bytes_eq p.0 w.id.0) us v a.0 k).0 in
-        let off : eqb v.link u.link ≡ false = eqb-comm v.link u.link ∙ far in
-        rw off (r k)
-
 -- the life with an identity is the one of its link, and has that identity
 pub its_own_life : (H : List Mark) → IsProper H → (p : PeerId) (v : Life) → life_of p H ≡ Some v → (life v.link H ≡ Some v) × (v.id ≡ p)
-its_own_life H q p v e = (same_life p (lives H) v q.living.apart e, same_id p v.id (found_passes (λ (u : Life). bytes_eq p.0 u.id.0) (lives H) v e))
+its_own_life H q p v e = (known_of H q p v e, id_of H p v e)
 
 -- what starting a run tells
 pub starts_tell : (g : Config) (H : List Mark) (t : Tables) → Holds g H t → (c : ℕ) (m : Message) (v : Life) (p : PeerId) → is_live c H ≡ true → runs c H ≡ None → identity c H ≡ Some p → life v.link H ≡ Some v → v.id ≡ p

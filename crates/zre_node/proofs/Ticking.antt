@@ -31,7 +31,7 @@ use Rattle.zre_journal.specs.Told.{told, becoming_evasive}
 use Rattle.zre_journal.proofs.Idle.{AreNoStarts, ends_start_none, none_and_none}
 use Rattle.zre_journal.proofs.Joined.{after-append}
 use Rattle.zre_journal.proofs.Kept.{IsEvasive-proper, SendsBeacon-proper}
-use Rattle.zre_journal.proofs.Known.{life_stays, end_all}
+use Rattle.zre_journal.proofs.Known.{ends_keep, life_stays, end_all}
 use Rattle.zre_journal.proofs.Listed.{found_passes}
 use Rattle.zre_journal.proofs.Ticks.{expiring, wavering, stale, expired, expiring_apart, wavering_apart, wavering_known, expiring_known as are_known, wavering_entered as are_entered, stale_idle as are_idle}
 use Rattle.zre_node.specs.declared.connection.Connection.{Connection}
@@ -146,8 +146,7 @@ has_run g K t h l k was r e =
 -- ---- one after the other
 
 ends_alike : (why : Cause) (vs : List Life) (K : List Mark) → Alike (after (end_all why vs) K) K
-ends_alike why [] K l = (refl, refl)
-ends_alike why (v ∷ vs) K l = ends_alike why vs (Ends v.link why ∷ K) l
+ends_alike why vs K = ends_keep (λ J. Alike J K) (λ l w J a. a) why vs K (λ l. (refl, refl))
 
 module _ (g : Config) where
   probes_alike : (l : ℕ) (J K : List Mark) → Alike J K → probes g l J ≡ probes g l K

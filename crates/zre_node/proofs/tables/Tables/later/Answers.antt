@@ -6,7 +6,7 @@ use Rattle.zre_journal.specs.Pushes.{push}
 use Rattle.zre_journal.specs.Peers.{counted, life}
 use Rattle.zre_journal.proofs.Kept.{run_known}
 use Rattle.zre_node.specs.Stands.{IsPeer, is_ping}
-use Rattle.zre_node.proofs.Counting.{its, some_counted, row_runs, counts, breaks, its_events, counted_did, counts_it, ended_from}
+use Rattle.zre_node.proofs.Counting.{its, some_counted, row_runs, counts, its_events, counted_did, counts_it, refused_by}
 use Rattle.zre_node.proofs.Ending.{on_ok}
 use Rattle.zre_node.proofs.Many.{did_as, did_then}
 use Rattle.zre_node.proofs.Parting.{no_row, not_missing}
@@ -36,40 +36,21 @@ returns-in-Ok c = λ g H h r.
 
 pub returns-in-Err-SecondHello : goal.returns-in-Err-SecondHello
 returns-in-Err-SecondHello c = λ g H h r.
-    let t = c.args.self.now in
-    let l = c.args.link in
-    let k = c.in-Some.peer.now in
-    let was = c.in-Some.ensures.value in
     let all = rw c.in-Err-SecondHello.field-0-is at c.in-Err-SecondHello.ensures.refused in
-    let no_memory = λ (e : fault.SecondHello ≡ fault.OutOfMemory). absurd cc in
-    let took = all c.args.conn (its g H t h c.args.conn l r k was).0.id (counted l H) (row_runs g H t h c.args.conn l r k was) no_memory in
-    let near = breaks g H t h c.args.conn l r k was c.take.new.peer (c.get_mut.follows.lender c.take.new.peer) c.in-Err-SecondHello.ensures.id took.2 (c.get_mut.follows.holds c.take.new.peer).0 in
-    ended_from g c.args.conn l c.args.message H c.end.new.self c.args.out.now c.take.new.events c.end.new.out c.end.result (some_counted g H t h c.args.conn l r k was) took.0 fault.SecondHello took.1 took.3
-    (c.end.ensures g H near (run_known H h.keeps.proper c.args.conn l r))
+    refused_by g H c.args.self.now h c.args.conn c.args.link r c.in-Some.peer.now c.in-Some.ensures.value c.args.message fault.SecondHello c.take.new.peer (c.get_mut.follows.lender c.take.new.peer)
+    c.in-Err-SecondHello.ensures.id (c.get_mut.follows.holds c.take.new.peer).0 c.end.new.self c.args.out.now c.end.new.out c.take.new.events c.end.result
+    (λ id runs. all c.args.conn id (counted c.args.link H) runs (λ e. absurd cc)) (c.end.ensures g H)
 
 pub returns-in-Err-Broken : goal.returns-in-Err-Broken
 returns-in-Err-Broken c = λ g H h r.
-    let t = c.args.self.now in
-    let l = c.args.link in
-    let k = c.in-Some.peer.now in
-    let was = c.in-Some.ensures.value in
-    let why = fault.Broken c.in-Err-Broken.due c.in-Err-Broken.got in
     let all = rw c.in-Err-Broken.field-0-is at c.in-Err-Broken.ensures.refused in
-    let no_memory = λ (e : fault.Broken c.in-Err-Broken.due c.in-Err-Broken.got ≡ fault.OutOfMemory). absurd cc in
-    let took = all c.args.conn (its g H t h c.args.conn l r k was).0.id (counted l H) (row_runs g H t h c.args.conn l r k was) no_memory in
-    let near = breaks g H t h c.args.conn l r k was c.take.new.peer (c.get_mut.follows.lender c.take.new.peer) c.in-Err-Broken.ensures.id took.2 (c.get_mut.follows.holds c.take.new.peer).0 in
-    ended_from g c.args.conn l c.args.message H c.end-in-Err-Broken.new.self c.args.out.now c.take.new.events c.end-in-Err-Broken.new.out c.end-in-Err-Broken.result (some_counted g H t h c.args.conn l r k was) took.0 why took.1 took.3
-    (c.end-in-Err-Broken.ensures g H near (run_known H h.keeps.proper c.args.conn l r))
+    refused_by g H c.args.self.now h c.args.conn c.args.link r c.in-Some.peer.now c.in-Some.ensures.value c.args.message (fault.Broken c.in-Err-Broken.due c.in-Err-Broken.got) c.take.new.peer (c.get_mut.follows.lender c.take.new.peer)
+    c.in-Err-Broken.ensures.id (c.get_mut.follows.holds c.take.new.peer).0 c.end-in-Err-Broken.new.self c.args.out.now c.end-in-Err-Broken.new.out c.take.new.events c.end-in-Err-Broken.result
+    (λ id runs. all c.args.conn id (counted c.args.link H) runs (λ e. absurd cc)) (c.end-in-Err-Broken.ensures g H)
 
 pub returns-in-Err-Limit : goal.returns-in-Err-Limit
 returns-in-Err-Limit c = λ g H h r.
-    let t = c.args.self.now in
-    let l = c.args.link in
-    let k = c.in-Some.peer.now in
-    let was = c.in-Some.ensures.value in
     let all = rw c.in-Err-Limit.field-0-is at c.in-Err-Limit.ensures.refused in
-    let no_memory = λ (e : fault.Limit ≡ fault.OutOfMemory). absurd cc in
-    let took = all c.args.conn (its g H t h c.args.conn l r k was).0.id (counted l H) (row_runs g H t h c.args.conn l r k was) no_memory in
-    let near = breaks g H t h c.args.conn l r k was c.take.new.peer (c.get_mut.follows.lender c.take.new.peer) c.in-Err-Limit.ensures.id took.2 (c.get_mut.follows.holds c.take.new.peer).0 in
-    ended_from g c.args.conn l c.args.message H c.end-in-Err-Limit.new.self c.args.out.now c.take.new.events c.end-in-Err-Limit.new.out c.end-in-Err-Limit.result (some_counted g H t h c.args.conn l r k was) took.0 fault.Limit took.1 took.3
-    (c.end-in-Err-Limit.ensures g H near (run_known H h.keeps.proper c.args.conn l r))
+    refused_by g H c.args.self.now h c.args.conn c.args.link r c.in-Some.peer.now c.in-Some.ensures.value c.args.message fault.Limit c.take.new.peer (c.get_mut.follows.lender c.take.new.peer)
+    c.in-Err-Limit.ensures.id (c.get_mut.follows.holds c.take.new.peer).0 c.end-in-Err-Limit.new.self c.args.out.now c.end-in-Err-Limit.new.out c.take.new.events c.end-in-Err-Limit.result
+    (λ id runs. all c.args.conn id (counted c.args.link H) runs (λ e. absurd cc)) (c.end-in-Err-Limit.ensures g H)
