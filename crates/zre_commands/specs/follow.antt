@@ -1,5 +1,6 @@
 pub mod Follow
 pub mod Follower
 pub mod Messages
+pub mod Piece
 pub mod Runs
 pub mod Taken

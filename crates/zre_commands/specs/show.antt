@@ -1,3 +1,4 @@
 pub mod Lines
 pub mod Lister
+pub mod Piece
 pub mod Show

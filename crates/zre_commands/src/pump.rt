@@ -3,12 +3,10 @@
 
 mod lines;
 mod machine;
-mod piece;
 mod pumping;
 mod status;
 
 pub use lines::{push_bad_line, push_bad_line_at};
 pub use machine::{Going, Machine};
-pub(crate) use piece::read_piece;
 pub use pumping::pump;
 pub use status::Status;

@@ -16,7 +16,7 @@ use Rattle.zre_commands.specs.declared.follow.follower.Follower.{Follower}
 use Rattle.zre_commands.specs.follow.Follow.{follow, over, is_stopped}
 use Rattle.zre_commands.specs.follow.Follower.{Fed, peer_of}
 use Rattle.zre_commands.specs.follow.Messages.{messages, messages_in}
-use Rattle.zre_commands.specs.pump.Piece.{ReadPiece}
+use Rattle.zre_commands.specs.follow.Piece.{ReadPiece}
 use Rattle.zre_commands.specs.follow.Runs.{events_after}
 use Rattle.zre_commands.specs.follow.Taken.{Took}
 use Rattle.zre_commands.proofs.follow.Growing.{newly, messages_more, over_stays, over_later, text_over, text_later}
@@ -76,10 +76,10 @@ feeds_more f o x run out out' e h t =
     }
 
 -- where no items stood before, those that were read are the new ones
-items_are : (o x : List ℕ) (found : Option ZmtpFault) (reader : Reading) (before items : List Item) → before ≡ [] → ReadPiece Traffic o x found reader before items → items ≡ new_items Any Traffic o x
+items_are : (o x : List ℕ) (found : Option ZmtpFault) (reader : Reading) (before items : List Item) → before ≡ [] → ReadPiece o x found reader before items → items ≡ new_items Any Traffic o x
 items_are o x found reader before items e r = r.appended ∙ ap (λ is. is ++ new_items Any Traffic o x) e
 
-taken_are : (id : PeerId) (o x : List ℕ) (found : Option ZmtpFault) (reader : Reading) (before items : List Item) (run : Run) (out out' : List ℕ) → before ≡ [] → ReadPiece Traffic o x found reader before items
+taken_are : (id : PeerId) (o x : List ℕ) (found : Option ZmtpFault) (reader : Reading) (before items : List Item) (run : Run) (out out' : List ℕ) → before ≡ [] → ReadPiece o x found reader before items
     → Took id (messages o) (messages_in items) run out out' → Took id (messages o) (newly o x) run out out'
 taken_are id o x found reader before items run out out' e r t =
     let P : List Item → Type 0 = λ is. Took id (messages o) (messages_in is) run out out' in subst P (items_are o x found reader before items e r) t
@@ -88,7 +88,7 @@ pub stands_on : (f : Follower) (o : List ℕ) → is_spent f.run ≡ false → F
 stands_on f o e h = h.stands (sym h.spent ∙ e)
 
 -- what the machine knows after the piece
-pub feeds_on : (f g : Follower) (o x out out' : List ℕ) (found : Option ZmtpFault) (reader : Reading) (before items : List Item) → is_spent f.run ≡ false → Fed f o → ReadPiece Traffic o x found reader before items → before ≡ []
+pub feeds_on : (f g : Follower) (o x out out' : List ℕ) (found : Option ZmtpFault) (reader : Reading) (before items : List Item) → is_spent f.run ≡ false → Fed f o → ReadPiece o x found reader before items → before ≡ []
     → Took (peer_of f) (messages o) (messages_in items) g.run out out' → g.reader ≡ reader → g.fault ≡ found → Fed g (o ++ x)
 feeds_on f g o x out out' found reader before items e h r none t same is =
     let k = feeds_more f o x g.run out out' e h (taken_are (peer_of f) o x found reader before items g.run out out' none r t) in
@@ -99,11 +99,11 @@ feeds_on f g o x out out' found reader before items e h r none t same is =
       reads = λ n nothing. subst (Reads Any Traffic (o ++ x)) (sym same) (r.reads (sym is ∙ nothing));
     }
 
-pub text_on : (f : Follower) (o x : List ℕ) (run : Run) (out out' : List ℕ) (found : Option ZmtpFault) (reader : Reading) (before items : List Item) → is_spent f.run ≡ false → Fed f o → ReadPiece Traffic o x found reader before items → before ≡ []
+pub text_on : (f : Follower) (o x : List ℕ) (run : Run) (out out' : List ℕ) (found : Option ZmtpFault) (reader : Reading) (before items : List Item) → is_spent f.run ≡ false → Fed f o → ReadPiece o x found reader before items → before ≡ []
     → Took (peer_of f) (messages o) (messages_in items) run out out' → Grows (follow (peer_of f)) o x out out'
 text_on f o x run out out' found reader before items e h r none t = (feeds_more f o x run out out' e h (taken_are (peer_of f) o x found reader before items run out out' none r t)).text
 
-pub stop_on : (f : Follower) (o x : List ℕ) (run : Run) (out out' : List ℕ) (found : Option ZmtpFault) (reader : Reading) (before items : List Item) → is_spent f.run ≡ false → Fed f o → ReadPiece Traffic o x found reader before items → before ≡ []
+pub stop_on : (f : Follower) (o x : List ℕ) (run : Run) (out out' : List ℕ) (found : Option ZmtpFault) (reader : Reading) (before items : List Item) → is_spent f.run ≡ false → Fed f o → ReadPiece o x found reader before items → before ≡ []
     → Took (peer_of f) (messages o) (messages_in items) run out out' → (not (is_spent run) && is_some found) ≡ is_stopped (o ++ x)
 stop_on f o x run out out' found reader before items e h r none t =
     let k = feeds_more f o x run out out' e h (taken_are (peer_of f) o x found reader before items run out out' none r t) in

@@ -12,7 +12,7 @@ use Rattle.zre_zmtp.proofs.Feeding.{extends}
 use Rattle.zre_commands.specs.declared.show.lister.Lister.{Lister}
 use Rattle.zre_commands.specs.show.Lines.{line, lines}
 use Rattle.zre_commands.specs.show.Lister.{Fed}
-use Rattle.zre_commands.specs.pump.Piece.{ReadPiece}
+use Rattle.zre_commands.specs.show.Piece.{ReadPiece}
 use Rattle.zre_commands.specs.show.Show.{show, text, is_stopped, is_bad}
 
 text_more : (o x : List ℕ) → text (o ++ x) ≡ text o ++ lines (new_items Any Whole o x)
@@ -58,7 +58,7 @@ not_spent l o s h going = both_ways l.reader.spent s (going_reads l o h going).u
 
 -- what the machine knows after the piece
 pub feeds_on : (m : Lister) (o x : List ℕ) (found : Option ZmtpFault) (reader : Reading) (before items : List Item)
-    → ReadPiece Whole o x found reader before items → m.reader ≡ reader → m.fault ≡ found → Fed m (o ++ x)
+    → ReadPiece o x found reader before items → m.reader ≡ reader → m.fault ≡ found → Fed m (o ++ x)
 feeds_on m o x found reader before items r same is = record {
   faulty = is ∙ r.told;
   reads = λ nothing. subst (Reads Any Whole (o ++ x)) (sym same) (r.reads (sym is ∙ nothing));
@@ -66,7 +66,7 @@ feeds_on m o x found reader before items r same is = record {
 
 -- the lines of the new items were appended, where no items stood before
 pub text_on : (o x out out' : List ℕ) (found : Option ZmtpFault) (reader : Reading) (before items : List Item)
-    → ReadPiece Whole o x found reader before items → before ≡ [] → out' ≡ out ++ lines items → Grows show o x out out'
+    → ReadPiece o x found reader before items → before ≡ [] → out' ≡ out ++ lines items → Grows show o x out out'
 text_on o x out out' found reader before items r none t = record {
   added = lines (new_items Any Whole o x);
   longer = text_more o x;
@@ -74,5 +74,5 @@ text_on o x out out' found reader before items r none t = record {
 }
 
 pub stop_on : (o x : List ℕ) (found : Option ZmtpFault) (reader : Reading) (before items : List Item)
-    → ReadPiece Whole o x found reader before items → is_some found ≡ is_stopped (o ++ x)
+    → ReadPiece o x found reader before items → is_some found ≡ is_stopped (o ++ x)
 stop_on o x found reader before items r = ap is_some r.told

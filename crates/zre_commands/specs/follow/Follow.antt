@@ -1,11 +1,12 @@
 -- What `follow` makes of the octets of one connection of a peer, after its handshake.
-use Rattle.std.specs.Prelude.{ℕ, Bool, not, ◌&&◌, ◌||◌, ◌==◌, List, [], length, is_some, if◌then◌else◌}
+use Rattle.std.specs.Prelude.{ℕ, Bool, not, ◌&&◌, ◌||◌, ◌==◌, List, [], length, Option, Some, None, is_some, if◌then◌else◌}
 use Rattle.zre_values.specs.declared.peer_id.PeerId.{PeerId}
 use Rattle.zre_peer.specs.Lines.{lines}
-use Rattle.zre_commands.specs.pump.Lines.{bad_line, place_of}
+use Rattle.zre_commands.specs.pump.Lines.{bad_line}
 use Rattle.zre_commands.specs.pump.Meaning.{Meaning}
 use Rattle.zre_zmtp.specs.Stream.{Traffic, fault, opened, split}
 use Rattle.zre_zmtp.specs.declared.want.Want.TheVariants.{Any}
+use Rattle.zre_zmtp.specs.declared.fault.ZmtpFault.{ZmtpFault}
 use Rattle.zre_commands.specs.follow.Messages.{messages}
 use Rattle.zre_commands.specs.follow.Runs.{events_after, is_over}
 
@@ -28,6 +29,11 @@ is_stopped o = not (over o) && is_some (fault Any Traffic o)
 -- and at its end where it isn't at rest
 abbrev pub is_bad : List ℕ → Bool
 is_bad o = not (over o) && (is_some (fault Any Traffic o) || not (at_rest o))
+
+-- the place of a fault, or of the end of the input
+abbrev pub place_of : Option ZmtpFault → ℕ → ℕ
+place_of None end = end
+place_of (Some f) end = f.place
 
 -- all that `follow` makes of octets
 abbrev pub follow : PeerId → Meaning

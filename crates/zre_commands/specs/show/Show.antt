@@ -1,10 +1,11 @@
 -- What `show` makes of the octets of a whole stream, from the greeting on. Any socket type and any identity may stand
 -- in READY.
-use Rattle.std.specs.Prelude.{ℕ, Bool, not, ◌&&◌, ◌||◌, ◌==◌, List, [], length, is_some, if◌then◌else◌}
-use Rattle.zre_commands.specs.pump.Lines.{bad_line, place_of}
+use Rattle.std.specs.Prelude.{ℕ, Bool, not, ◌&&◌, ◌||◌, ◌==◌, List, [], length, Option, Some, None, is_some, if◌then◌else◌}
+use Rattle.zre_commands.specs.pump.Lines.{bad_line}
 use Rattle.zre_commands.specs.pump.Meaning.{Meaning}
 use Rattle.zre_zmtp.specs.Stream.{Whole, items, fault, opened, split}
 use Rattle.zre_zmtp.specs.declared.want.Want.TheVariants.{Any}
+use Rattle.zre_zmtp.specs.declared.fault.ZmtpFault.{ZmtpFault}
 use Rattle.zre_commands.specs.show.Lines.{lines}
 
 -- the lines of the items before the first fault, or of all
@@ -22,6 +23,11 @@ is_stopped o = is_some (fault Any Whole o)
 -- and at its end where it isn't at rest
 abbrev pub is_bad : List ℕ → Bool
 is_bad o = is_some (fault Any Whole o) || not (at_rest o)
+
+-- the place of a fault, or of the end of the input
+abbrev pub place_of : Option ZmtpFault → ℕ → ℕ
+place_of None end = end
+place_of (Some f) end = f.place
 
 -- all that `show` makes of octets
 abbrev pub show : Meaning

@@ -1,12 +1,16 @@
-ghost use Rattle.std.specs.Prelude.{◌≡◌, [], false, not, ◌&&◌, is_some};
+ghost use Rattle.std.specs.Prelude.{◌≡◌, ℕ, List, [], false, not, ◌&&◌, is_some, IfOk};
+ghost use Rattle.zre_zmtp.specs.Reading.{Reads};
+ghost use Rattle.zre_zmtp.specs.Stream.{Traffic};
+ghost use Rattle.zre_zmtp.specs.declared.want.Want.TheVariants.{Any};
 ghost use Rattle.zre_commands.specs.pump.Meaning.{is_stop};
+ghost use Rattle.zre_commands.specs.follow.Piece.{ReadPiece};
 
 use crate::follow::taking::take_items;
-use crate::pump::{Going, Machine, push_bad_line, read_piece};
+use crate::pump::{Going, Machine, push_bad_line};
 use std::alloc::Global;
 use zre_peer::Teller;
 use zre_values::{Octets, OutOfMemory, PeerId};
-use zre_zmtp::{Items, Reader, ZmtpFault};
+use zre_zmtp::{FeedFault, Items, Reader, ZmtpFault};
 
 /// The machine of `follow`: the traffic of one connection, after its handshake, of a peer that is known. It keeps
 /// the octets of an unfinished message, and reads no more once the run has ended.
@@ -28,6 +32,7 @@ impl Follower {
         ensures fed { Fed result [] }
         ensures peer { peer_of result ≡ id }
         // No octets have no text, and may go on.
+        ensures nothing { (follow id).text [] ≡ [] }
         ensures going { (follow id).is_stopped [] ≡ false }
     {
         Follower {
@@ -37,6 +42,23 @@ impl Follower {
             run: Teller::new(alloc, id),
             items: Items::new(alloc),
         }
+    }
+}
+
+// Reads a piece of traffic. Gives the fault that is found, if one is.
+fn read_piece(
+    reader: &mut Reader,
+    piece: &[u8],
+    items: &mut Items,
+) -> Result<Option<ZmtpFault>, OutOfMemory>
+    requires { reader.old.spent ≡ false }
+    ensures { (o : List ℕ) → Reads Any Traffic o reader.old →
+        IfOk result (λ found. ReadPiece o piece.now found reader.new items.old items.new) }
+{
+    match reader.feed(piece, items) {
+        Ok(()) => Ok(None),
+        Err(FeedFault::Zmtp(fault)) => Ok(Some(fault)),
+        Err(FeedFault::OutOfMemory) => Err(OutOfMemory),
     }
 }
 
@@ -57,11 +79,6 @@ impl Machine for Follower {
     ghost fed = { Fed };
 
     ghost says = { λ f. follow (peer_of f) };
-
-    #[tactic(auto, using(crate::proofs::follow::Growing::text_nothing))]
-    fn begin(&self, _out: &mut Octets) -> Result<(), OutOfMemory> {
-        Ok(())
-    }
 
     #[tactic(auto, using(crate::proofs::follow::Growing::text_grows))]
     fn feed(&mut self, piece: &[u8], out: &mut Octets) -> Result<Going, OutOfMemory> {

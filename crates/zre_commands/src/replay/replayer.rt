@@ -39,6 +39,7 @@ impl Replayer {
         ensures fed { IfOk result (λ r. Fed r []) }
         ensures config { IfOk result (λ r. config_of r ≡ config) }
         // No octets have no text, and may go on.
+        ensures nothing { (replay config).text [] ≡ [] }
         ensures going { (replay config).is_stopped [] ≡ false }
     {
         let node = Node::new(alloc, Config::copy(alloc, &config)?)?;
@@ -69,10 +70,6 @@ impl Machine for Replayer {
     ghost fed = { Fed };
 
     ghost says = { λ r. replay (config_of r) };
-
-    fn begin(&self, _out: &mut Octets) -> Result<(), OutOfMemory> {
-        Ok(())
-    }
 
     #[tactic(auto, using(crate::proofs::replay::Feeding::text_grows))]
     fn feed(&mut self, piece: &[u8], out: &mut Octets) -> Result<Going, OutOfMemory> {

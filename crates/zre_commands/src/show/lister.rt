@@ -1,11 +1,15 @@
-ghost use Rattle.std.specs.Prelude.{◌≡◌, [], false, is_some};
+ghost use Rattle.std.specs.Prelude.{◌≡◌, ℕ, List, [], false, is_some, IfOk};
+ghost use Rattle.zre_zmtp.specs.Reading.{Reads};
+ghost use Rattle.zre_zmtp.specs.Stream.{Whole};
+ghost use Rattle.zre_zmtp.specs.declared.want.Want.TheVariants.{Any};
 ghost use Rattle.zre_commands.specs.pump.Meaning.{is_stop};
+ghost use Rattle.zre_commands.specs.show.Piece.{ReadPiece};
 
-use crate::pump::{Going, Machine, push_bad_line, read_piece};
+use crate::pump::{Going, Machine, push_bad_line};
 use crate::show::lines::push_lines;
 use std::alloc::Global;
 use zre_values::{Octets, OutOfMemory};
-use zre_zmtp::{Items, Reader, ZmtpFault};
+use zre_zmtp::{FeedFault, Items, Reader, ZmtpFault};
 
 /// The machine of `show`: a whole stream, from the greeting on. It keeps the octets of an unfinished message, and the
 /// items of the last piece.
@@ -25,6 +29,7 @@ impl Lister {
     pub fn new(alloc: Global) -> Self
         ensures fed { Fed result [] }
         // No octets have no text, and may go on.
+        ensures nothing { show.text [] ≡ [] }
         ensures going { show.is_stopped [] ≡ false }
     {
         Lister {
@@ -33,6 +38,23 @@ impl Lister {
             fault: None,
             items: Items::new(alloc),
         }
+    }
+}
+
+// Reads a piece of a stream. Gives the fault that is found, if one is.
+fn read_piece(
+    reader: &mut Reader,
+    piece: &[u8],
+    items: &mut Items,
+) -> Result<Option<ZmtpFault>, OutOfMemory>
+    requires { reader.old.spent ≡ false }
+    ensures { (o : List ℕ) → Reads Any Whole o reader.old →
+        IfOk result (λ found. ReadPiece o piece.now found reader.new items.old items.new) }
+{
+    match reader.feed(piece, items) {
+        Ok(()) => Ok(None),
+        Err(FeedFault::Zmtp(fault)) => Ok(Some(fault)),
+        Err(FeedFault::OutOfMemory) => Err(OutOfMemory),
     }
 }
 
@@ -53,11 +75,6 @@ impl Machine for Lister {
     ghost fed = { Fed };
 
     ghost says = { λ _. show };
-
-    #[tactic(auto, using(crate::proofs::show::Listing::text_nothing))]
-    fn begin(&self, _out: &mut Octets) -> Result<(), OutOfMemory> {
-        Ok(())
-    }
 
     #[tactic(auto, using(crate::proofs::show::Listing::text_grows))]
     fn feed(&mut self, piece: &[u8], out: &mut Octets) -> Result<Going, OutOfMemory> {

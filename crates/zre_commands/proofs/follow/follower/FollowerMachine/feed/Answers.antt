@@ -1,5 +1,4 @@
 use Rattle.std.proofs.Common.{not, ◌&&◌, refl, sym, ap, ◌∙◌, subst}
-use Rattle.zre_zmtp.specs.Stream.{Traffic}
 use Rattle.std.specs.Prelude.{is_some}
 use Rattle.zre_commands.specs.follow.Follower.{peer_of}
 use Rattle.zre_commands.specs.follow.Messages.{messages, messages_in}
@@ -28,21 +27,21 @@ returns-then-spent-2-clause-stop c = λ o h going. not_spent c.args.self.now o (
 pub returns-clause-fed : goal.returns-clause-fed
 returns-clause-fed c = λ o h going.
     let e = sym c.spent.ensures ∙ c.if-spent.false in
-    let p = c.in_ok-fault.ensures Traffic o (going_reads c.args.self.now o e h going) in
+    let p = c.in_ok-fault.ensures o (going_reads c.args.self.now o e h going) in
     let t = c.in_ok-take_items.ensures.took (messages o) (stands_on c.args.self.now o e h) in
     feeds_on c.args.self.now _ o c.args.piece.now c.args.out.now c.take_items.new.out c.in_ok-fault.fault c.read_piece.new.reader c.clear.new.self c.read_piece.new.items e h p c.clear.ensures (subst (λ is. Took (peer_of c.args.self.now) (messages o) (messages_in is) c.take_items.new.run c.args.out.now c.take_items.new.out) c.as_slice.ensures t) refl refl
 
 pub returns-clause-text : goal.returns-clause-text
 returns-clause-text c = λ o h going.
     let e = sym c.spent.ensures ∙ c.if-spent.false in
-    let p = c.in_ok-fault.ensures Traffic o (going_reads c.args.self.now o e h going) in
+    let p = c.in_ok-fault.ensures o (going_reads c.args.self.now o e h going) in
     let t = c.in_ok-take_items.ensures.took (messages o) (stands_on c.args.self.now o e h) in
     text_on c.args.self.now o c.args.piece.now c.take_items.new.run c.args.out.now c.take_items.new.out c.in_ok-fault.fault c.read_piece.new.reader c.clear.new.self c.read_piece.new.items e h p c.clear.ensures (subst (λ is. Took (peer_of c.args.self.now) (messages o) (messages_in is) c.take_items.new.run c.args.out.now c.take_items.new.out) c.as_slice.ensures t)
 
 pub returns-clause-stop : goal.returns-clause-stop
 returns-clause-stop c = λ o h going.
     let e = sym c.spent.ensures ∙ c.if-spent.false in
-    let p = c.in_ok-fault.ensures Traffic o (going_reads c.args.self.now o e h going) in
+    let p = c.in_ok-fault.ensures o (going_reads c.args.self.now o e h going) in
     let t = c.in_ok-take_items.ensures.took (messages o) (stands_on c.args.self.now o e h) in
     c.going_after.ensures ∙ ap (λ b. not b && is_some c.in_ok-fault.fault) c.spent-3.ensures
     ∙ stop_on c.args.self.now o c.args.piece.now c.take_items.new.run c.args.out.now c.take_items.new.out c.in_ok-fault.fault c.read_piece.new.reader c.clear.new.self c.read_piece.new.items e h p c.clear.ensures (subst (λ is. Took (peer_of c.args.self.now) (messages o) (messages_in is) c.take_items.new.run c.args.out.now c.take_items.new.out) c.as_slice.ensures t)
