@@ -8,11 +8,9 @@ mod acts;
 mod cases;
 mod journal;
 mod names;
-mod opening;
 mod page;
 mod report;
 mod row;
-mod section;
 mod subject;
 mod text;
 mod trouble;
@@ -20,7 +18,6 @@ mod wire;
 mod words;
 
 use cases::go_over;
-use page::Page;
 use report::{Place, Report};
 use std::io::Write;
 use std::process::ExitCode;
@@ -47,14 +44,14 @@ fn case_files<R: Files + AllocGlobal + Clone + Drop>(rt: &R) -> io::Result<Vec<S
 fn take_file<R: Files + Threads + Wait + AllocGlobal + Copy + Send + 'static>(
     rt: R,
     name: &str,
-    page: &mut Page,
+    report: &mut Report,
 ) {
     let file = name.as_bytes();
     match fs::read(&rt, name) {
-        Ok(text) => go_over(rt, page, file, text.as_slice()),
+        Ok(text) => go_over(rt, file, text.as_slice(), report),
         Err(_) => {
-            page.report.count_failed();
-            page.report.tell(Place { file, line: 0 }, b"can't be read");
+            report.count_failed();
+            report.tell(Place { file, line: 0 }, b"can't be read");
         }
     }
 }
@@ -62,12 +59,12 @@ fn take_file<R: Files + Threads + Wait + AllocGlobal + Copy + Send + 'static>(
 fn take_files<R: Files + Threads + Wait + AllocGlobal + Copy + Send + 'static>(
     rt: R,
     names: &[String],
-) -> Report {
-    let mut page = Page::new(rt.alloc());
+    report: &mut Report,
+) {
     for name in names {
-        take_file(rt, name.as_str(), &mut page);
+        take_file(rt, name.as_str(), report);
     }
-    page.into_report()
+    report.close();
 }
 
 // Prints the report, and says whether all is well. One for which memory didn't suffice isn't printed.
@@ -81,7 +78,11 @@ fn go<R: Files + Threads + Wait + AllocGlobal + Print + Clone + Drop + Copy + Se
     rt: R,
 ) -> bool {
     match case_files(&rt) {
-        Ok(names) => print(&rt, &take_files(rt, names.as_slice())),
+        Ok(names) => {
+            let mut report = Report::new(rt.alloc());
+            take_files(rt, names.as_slice(), &mut report);
+            print(&rt, &report)
+        }
         Err(_) => false,
     }
 }

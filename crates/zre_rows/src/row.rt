@@ -32,21 +32,14 @@ impl Row {
         }
     }
 
-    /// Becomes what stands before the first row.
-    pub fn clear(&mut self) {
-        self.is_row = false;
-        self.title.clear();
-        self.answers = 0;
-        self.has_failed = false;
-        self.go_on(0);
-    }
-
     /// Becomes the row with this title.
     pub fn begin(&mut self, line: u64, title: &[u8]) {
-        self.clear();
         self.is_row = true;
+        self.title.clear();
         self.title.put(title);
-        self.line = line;
+        self.answers = 0;
+        self.has_failed = false;
+        self.go_on(line);
     }
 
     /// A line that the last step is to answer.

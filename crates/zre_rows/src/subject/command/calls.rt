@@ -37,14 +37,14 @@ pub fn call_plain(
     Some((status, input.given))
 }
 
-/// Any command, with a limit or with that of the program.
-pub fn call<T: Threads + Wait + Copy + Send + 'static>(
+/// Any command, with a limit.
+pub fn call_run<T: Threads + Wait + Copy + Send + 'static>(
     rt: T,
     alloc: Global,
     words: &Frames,
     stand: Stand,
     out: &mut MemSink,
-    limit: Option<u64>,
+    limit: u64,
 ) -> Ran {
     let Stand {
         input,
@@ -53,9 +53,33 @@ pub fn call<T: Threads + Wait + Copy + Send + 'static>(
         threads,
     } = stand;
     let mut spawner = PlainSpawner::new(rt, alloc, threads);
-    let spawner = &mut spawner;
-    match limit {
-        Some(limit) => run(rt, alloc, words, input, world, out, rec, spawner, limit),
-        None => zre(rt, alloc, words, input, world, out, rec, spawner),
-    }
+    run(
+        rt,
+        alloc,
+        words,
+        input,
+        world,
+        out,
+        rec,
+        &mut spawner,
+        limit,
+    )
+}
+
+/// Any command, with no limit.
+pub fn call_zre<T: Threads + Wait + Copy + Send + 'static>(
+    rt: T,
+    alloc: Global,
+    words: &Frames,
+    stand: Stand,
+    out: &mut MemSink,
+) -> Ran {
+    let Stand {
+        input,
+        world,
+        rec,
+        threads,
+    } = stand;
+    let mut spawner = PlainSpawner::new(rt, alloc, threads);
+    zre(rt, alloc, words, input, world, out, rec, &mut spawner)
 }
