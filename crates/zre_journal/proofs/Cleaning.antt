@@ -16,7 +16,8 @@ use Rattle.zre_peer.specs.declared.causes.CloseWhy.TheVariants as close
 use Rattle.zre_journal.specs.declared.config.Config.{Config}
 use Rattle.zre_journal.specs.Chronicle.{Mark, Comes, Closes, Ends, IsEvasive, Puts, SendsBeacon, after}
 use Rattle.zre_journal.specs.Cleaning.{IsClean}
-use Rattle.zre_journal.specs.Config.{is_fitting, is_valid, are_apart}
+use Rattle.zre_journal.specs.Config.{is_valid}
+use Rattle.zre_values.specs.Settings.{is_fitting, are_apart}
 use Rattle.zre_journal.specs.Connections.{open_ones, started, has_ended, runs, since}
 use Rattle.zre_journal.specs.Events.{chronicle}
 use Rattle.zre_journal.specs.Happens.{has_stopped, at_input}
