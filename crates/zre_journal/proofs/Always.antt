@@ -12,7 +12,7 @@ use Rattle.zre_journal.proofs.Says.{input_allowed}
 
 pub empty : IsProper []
 empty = record {
-  living = record { numbered = tt; apart = tt; living = tt; fresh = λ l h. record { no_end = refl; no_run = refl; no_body = refl; not_linked = refl; no_reply = refl; none_taken = refl } };
+  living = record { numbered = tt; apart = tt; living = tt; fresh = λ l h. record { no_end = refl; no_run = refl; no_member = refl; not_linked = refl; no_reply = refl; none_taken = refl } };
   opening = record {
     open_apart = tt;
     open_old = λ c n. tt;

@@ -21,6 +21,7 @@ pub mod Kept
 pub mod Known
 pub mod Lawful
 pub mod Ledgers
+pub mod Lines
 pub mod Listed
 pub mod Octets
 pub mod Passing
