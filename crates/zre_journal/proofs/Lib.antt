@@ -25,6 +25,7 @@ pub mod Lines
 pub mod Listed
 pub mod Octets
 pub mod Passing
+pub mod Places
 pub mod Quiet
 pub mod Room
 mod Rows
