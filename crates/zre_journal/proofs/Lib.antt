@@ -22,6 +22,7 @@ pub mod Known
 pub mod Lawful
 pub mod Ledgers
 pub mod Listed
+pub mod Lowered
 pub mod Octets
 pub mod Passing
 pub mod Quiet
