@@ -23,6 +23,7 @@ pub mod Lawful
 pub mod Ledgers
 pub mod Lines
 pub mod Listed
+pub mod Lowered
 pub mod Octets
 pub mod Passing
 pub mod Places

@@ -28,11 +28,11 @@ use Rattle.zre_node.proofs.Entries.{changed, retold, retold_of}
 use Rattle.zre_node.proofs.Faulting.{dead_places}
 use Rattle.zre_node.proofs.Keeping.{keeps_as}
 
-quiet_piece : (c : ℕ) (i : Input) → is_quiet i ≡ true → piece_of c i ≡ []
+pub quiet_piece : (c : ℕ) (i : Input) → is_quiet i ≡ true → piece_of c i ≡ []
 quiet_piece c (input.Piece d o) q = absurd cc
 quiet_piece c _ q = refl
 
-quiet_reply : (l : ℕ) (i : Input) → is_quiet i ≡ true → reply_of l i ≡ []
+pub quiet_reply : (l : ℕ) (i : Input) → is_quiet i ≡ true → reply_of l i ≡ []
 quiet_reply l (input.Reply k o) q = absurd cc
 quiet_reply l _ q = refl
 
@@ -104,7 +104,7 @@ module _ (g : Config) (H : List Mark) (t : Tables) (h : Holds g H t) (e : Entry)
       (changed (λ (d : ℕ). d) (IsConn g H) (IsConn g (Comes e ∷ H)) c x (λ d k far q. q ∙ another d far) (open_ones H) t.conns.entries h.keeps.proper.opening.open_apart
       (λ d f. subst (λ y. x ≡ kept_conn g (Comes e ∷ H) y) (eqb-true c d (found_passes (eqb c) (open_ones H) d f)) row) h.keeps.conns))
 
-  grown : is_open c H ≡ true → bytes c (Comes e ∷ H) ≡ bytes c H ++ o
+  pub grown : is_open c H ≡ true → bytes c (Comes e ∷ H) ≡ bytes c H ++ o
   grown there =
       let w : was_opened c H ≡ true = any_has (λ d. was_opened d H ≡ true) c (open_ones H) h.keeps.proper.opening.were_opened there in
       let me : eqb c c ≡ true = eq-eqb c c refl in rw (w, is, me) refl

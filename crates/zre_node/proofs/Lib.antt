@@ -14,6 +14,7 @@ pub mod Many
 pub mod Faulting
 pub mod Hearings
 pub mod Linking
+pub mod Looking
 pub mod Naming
 pub mod Offering
 pub mod Opening

@@ -45,10 +45,10 @@ keeps_after : (g : Config) (K H : List Mark) (t : Tables) (P : BTreeMap ℕ Peer
 keeps_after g K H t P k proper going same_clock same_births same_new same_groups same_status conns = keeps_as g K _ _ _ k proper going (refl, refl, refl) (k.clock_is ∙ sym same_clock) (k.births_is ∙ sym same_births) (λ c. same_new c ∙ k.last_is c) (subst (λ gs. AllByRecursion (λ group. length group ≤ 255) gs) (sym same_groups) k.groups_fit) (k.own ∙ rw (same_groups, same_status) refl) conns
 
 module _ (g : Config) (K : List Mark) (t : Tables) (h : Holds g K t) (l : ℕ) (k : Peer) (was : Some k ≡ lookup (is_at (nat_cmp l)) t.peers.entries) where
-  its : (v : Life) × (life l K ≡ Some v) × IsPeer g K v k
+  pub its : (v : Life) × (life l K ≡ Some v) × IsPeer g K v k
   its = its_row (IsPeer g K) K t.peers.entries h.peers l k was
 
-  link_is : l ≡ its.0.link
+  pub link_is : l ≡ its.0.link
   link_is = (known_lives K h.keeps.proper l its.0 its.1).2
 
   pub its_known : IsSome (life l K)
@@ -191,10 +191,10 @@ module _ (g : Config) (H : List Mark) (t : Tables) (h : Holds g H t) (e : Entry)
 
   module _ (k : Peer) (was : Some k ≡ lookup (is_at (nat_cmp l)) t.peers.entries) where
     -- the replies with this one
-    grown : is_linked l H ≡ true → replies l (Comes e ∷ H) ≡ replies l H ++ o
+    pub grown : is_linked l H ≡ true → replies l (Comes e ∷ H) ≡ replies l H ++ o
     grown up = let this : eqb l l ≡ true = eq-eqb l l refl in rw (up, is, this) refl
 
-    dropped : is_linked l H ≡ false → replies l (Comes e ∷ H) ≡ replies l H
+    pub dropped : is_linked l H ≡ false → replies l (Comes e ∷ H) ≡ replies l H
     dropped down = rw down (append-nil (replies l H))
 
     with_row : (s : Sending) (P : BTreeMap ℕ Peer) → s ≡ link_after g.id (bodies l H) (is_linked l H) (replies l (Comes e ∷ H)) (taken l H) → P.entries ≡ set_value (is_at (nat_cmp l)) t.peers.entries (record k { link = s })

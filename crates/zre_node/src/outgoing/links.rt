@@ -1,29 +1,32 @@
 //! Links stand, are answered, take what they were offered, and break.
 
-ghost use Rattle.std.specs.Prelude.{◌≡◌, ℕ, List, [], ◌∷◌, ◌++◌, true, false, None, OnOk, IfOk, if◌then◌else◌, nat_eq, ◌||◌};
+ghost use Rattle.std.specs.Prelude.{◌≡◌, ℕ, Bool, length, List, [], ◌∷◌, ◌++◌, true, false, None, OnOk, IfOk, if◌then◌else◌, nat_eq, ◌||◌};
 ghost use Rattle.std.specs.List.{list_any};
 ghost use Rattle.zre_values.specs.declared.peer_id.PeerId.{PeerId as PeerIdValue};
 ghost use Rattle.zre_msg.specs.declared.message.Body.{Body as BodyValue};
 ghost use Rattle.zre_outside.specs.declared.entry.Entry.{Entry as EntryValue};
 ghost use Rattle.zre_outside.specs.declared.entry.Input.TheVariants as given;
-ghost use Rattle.zre_link.specs.Heard.{reply_fault};
+ghost use Rattle.zre_link.specs.Heard.{kept_of, reply_fault};
 ghost use Rattle.zre_link.specs.Link.{link_after};
 ghost use Rattle.zre_journal.specs.declared.config.Config.{Config};
 ghost use Rattle.zre_journal.specs.Chronicle.{Mark, Comes, after};
 ghost use Rattle.zre_journal.specs.Peers.{life};
-ghost use Rattle.zre_journal.specs.Happens.{at_input};
+ghost use Rattle.zre_journal.specs.Happens.{at_input, with_entry};
+ghost use Rattle.zre_journal.specs.Held.{kept};
 ghost use Rattle.zre_journal.specs.LinkEntries.{at_linked, at_reply, at_unlinked, at_took, fault_of_reply};
 ghost use Rattle.zre_node.specs.Journal.{Took};
 ghost use Rattle.zre_node.specs.Links.{is_about_link, Notes};
+ghost use Rattle.zre_node.specs.Looks.{Looks};
 ghost use Rattle.zre_node.specs.Stands.{Holds, Did};
 
 use crate::effects::Effects;
 use crate::tables::Tables;
+use std::sync::ledger::Ledger;
 use zre_link::Link;
 use zre_outside::Input;
 use zre_peer::Cause;
 use zre_values::OutOfMemory;
-use zre_zmtp::{FeedFault, ZmtpFault};
+use zre_zmtp::{FeedFault, Steps, ZmtpFault};
 
 // The link that an entry names is noted, so that what it has to send is offered.
 fn note(out: &mut Effects, input: &Input) -> Result<(), OutOfMemory>
@@ -38,16 +41,23 @@ fn note(out: &mut Effects, input: &Input) -> Result<(), OutOfMemory>
 }
 
 // A reply on a link, which tells the fault of all replies so far. Before the link stands, a reply is dropped.
-fn hear_reply(link: &mut Link, bytes: &[u8]) -> Result<Option<ZmtpFault>, OutOfMemory>
+fn hear_reply<L: Ledger>(
+    link: &mut Link,
+    bytes: &[u8],
+    steps: &mut Steps<L>,
+) -> Result<Option<ZmtpFault>, OutOfMemory>
     ensures standing { (own : PeerIdValue) (bodies : List BodyValue) (o : List ℕ) (n : ℕ)
         → link.old ≡ link_after own bodies true o n →
         IfOk result (λ fault. (link.new ≡ link_after own bodies true (o ++ bytes.now) n) × (fault ≡ reply_fault (o ++ bytes.now))) }
     ensures waiting { link.old.linked ≡ false → IfOk result (λ fault. (link.new ≡ link.old) × (fault ≡ None)) }
+    ensures looks { (own : PeerIdValue) (bodies : List BodyValue) (stands : Bool) (o : List ℕ) (n : ℕ)
+        → link.old ≡ link_after own bodies stands o n →
+        Looks steps.old steps.new (kept_of link.old.replies) (kept_of link.new.replies) (length bytes.now) result }
 {
     if !link.is_linked() {
         return Ok(None);
     }
-    match link.reply(bytes) {
+    match link.reply_counted(bytes, steps) {
         Ok(()) => Ok(None),
         Err(FeedFault::Zmtp(fault)) => Ok(Some(fault)),
         Err(FeedFault::OutOfMemory) => Err(OutOfMemory),
@@ -87,20 +97,23 @@ impl Tables {
     }
 
     // The clock goes on to the reading of an entry with a reply on a link: the fault of that link's replies so far.
-    fn come_reply(
+    fn come_reply<L: Ledger>(
         &mut self,
         at: u64,
         link: u64,
         bytes: &[u8],
+        steps: &mut Steps<L>,
     ) -> Result<Option<ZmtpFault>, OutOfMemory>
-        ensures { (g : Config) (H : List Mark) (e : EntryValue) → e.at ≡ at → e.input ≡ given.Reply link bytes.now
+        ensures came { (g : Config) (H : List Mark) (e : EntryValue) → e.at ≡ at → e.input ≡ given.Reply link bytes.now
             → Holds g H self.old →
             IfOk result (λ fault. Holds g (Comes e ∷ H) self.new
             × (at_reply g link (life link H) (Comes e ∷ H) ≡ fault_of_reply g link fault)) }
+        ensures looks { (g : Config) (H : List Mark) (e : EntryValue) → e.input ≡ given.Reply link bytes.now → Holds g H self.old →
+            Looks steps.old steps.new (kept g H) (kept g (Comes e ∷ H)) (length bytes.now) result }
     {
         self.clock = at.max(self.clock);
         match self.peers.get_mut(&link) {
-            Some(peer) => hear_reply(&mut peer.link, bytes),
+            Some(peer) => hear_reply(&mut peer.link, bytes, steps),
             None => Ok(None),
         }
     }
@@ -139,18 +152,21 @@ impl Tables {
 
     /// A reply comes on a link. Where it makes the replies no stream of a ROUTER, the peer ends.
     #[inline(never)]
-    pub fn take_reply(
+    pub fn take_reply<L: Ledger>(
         &mut self,
         out: &mut Effects,
         at: u64,
         link: u64,
         bytes: &[u8],
+        steps: &mut Steps<L>,
     ) -> Result<(), OutOfMemory>
-        ensures { (g : Config) (H : List Mark) (e : EntryValue) → e.at ≡ at → e.input ≡ given.Reply link bytes.now →
+        ensures took { (g : Config) (H : List Mark) (e : EntryValue) → e.at ≡ at → e.input ≡ given.Reply link bytes.now →
             out.old.pushed ≡ [] → Holds g H self.old → OnOk result (Took g e H self.new out.old out.new) }
+        ensures looks { (g : Config) (H : List Mark) (e : EntryValue) → e.input ≡ given.Reply link bytes.now → Holds g H self.old →
+            Looks steps.old steps.new (kept g H) (kept g (with_entry g e H)) (length bytes.now) result }
     {
         out.pushed.push(link)?;
-        let fault = self.come_reply(at, link, bytes)?;
+        let fault = self.come_reply(at, link, bytes, steps)?;
         self.end_by_reply(out, link, fault)?;
         self.offer(out)
     }

@@ -2,8 +2,8 @@ use Rattle.std.proofs.Common.{sym, ap, ◌∙◌}
 use Rattle.zre_journal.specs.Events.{chronicle}
 use Rattle.zre_node.specs.declared.effects.Effects.{Effects}
 use Rattle.zre_node.proofs.Stepping.{steps, took_nothing}
-use Rattle.zre_node.proofs.node.Node.step.Goals as goal
-use Rattle.zre_node.proofs.node.Node.step.Goals.{then-not-self+in_ok-take, else-not-self}
+use Rattle.zre_node.proofs.node.Node.step_counted.Goals as goal
+use Rattle.zre_node.proofs.node.Node.step_counted.Goals.{then-not-self+in_ok-take, else-not-self}
 
 pub returns-clause-steps : goal.returns-clause-steps
 returns-clause-steps c = λ g J s.
@@ -16,9 +16,22 @@ returns-clause-steps c = λ g J s.
     elim c.if-not-self.branch [
       | then-not-self+in_ok-take w ↦
           let going = sym s.stands.stopped ∙ w.if-not-self.true in
-          let took = w.in_ok-take.ensures g H (ap (λ (a : Effects). a.pushed) fresh) (s.stands.going going) in
+          let took = w.in_ok-take.ensures.took g H (ap (λ (a : Effects). a.pushed) fresh) (s.stands.going going) in
           rw (w.self-is, w.out-is) (steps g J e w.take.new.self none w.take.new.out told done took)
       | else-not-self w ↦
           let stopped = sym s.stands.stopped ∙ w.if-not-self.false in
           rw (w.self-is, w.out-is) (steps g J e c.args.self.now.tables none none told done (took_nothing g e H c.args.self.now.tables none stopped s.stands))
+    ]
+
+pub returns-clause-looks : goal.returns-clause-looks
+returns-clause-looks c = λ g J s.
+    let H = chronicle g J in
+    let e = c.args.entry in
+    elim c.if-not-self.branch [
+      | then-not-self+in_ok-take w ↦
+          let going = sym s.stands.stopped ∙ w.if-not-self.true in
+          rw w.steps-is (journal_lowers g J e _ _ _ _ (w.in_ok-take.ensures.looks g H (s.stands.going going)))
+      | else-not-self w ↦
+          let stopped = sym s.stands.stopped ∙ w.if-not-self.false in
+          rw w.steps-is (journal_lowers g J e _ _ _ _ (no_looks _ _ _ _ _ (rests_lowers g e H c.args.self.now.tables (s.stands.resting stopped))))
     ]
