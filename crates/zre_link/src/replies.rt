@@ -85,6 +85,7 @@ impl Replies {
             IfErr result (λ e. Refuses e (reply_fault (o ++ piece.now)) ((self.new ≡ heard_after (o ++ piece.now))
             × (contexts_in out.new ≡ new_pings o piece.now))) }
         ensures looks { Looks steps.old steps.new (kept_of self.old) (kept_of self.new) (length piece.now) result }
+        ensures emptied { OnErr result (kept_of self.new ≡ 0) }
     {
         let reader = match &mut self.hearing {
             Hearing::Reads(reader) => reader,

@@ -1,5 +1,5 @@
 -- How many looks an entry takes.
-use Rattle.std.proofs.Common.{nat_cmp, ◌≡◌, ℕ, ◌+◌, ◌*◌, ◌≤◌, Bool, true, false, cond, List, [], ◌∷◌, ◌++◌, length, Option, Some, None, Result, Ok, Err, OnOk, OnErr, IfOk, refl, sym, ap, ◌∙◌, arith, subst, append-nil}
+use Rattle.std.proofs.Common.{nat_cmp, eqb, eq-eqb, ◌≡◌, ℕ, ◌+◌, ◌*◌, ◌≤◌, Bool, true, false, cond, List, [], ◌∷◌, ◌++◌, length, Option, Some, None, Result, Ok, Err, OnOk, OnErr, IfOk, refl, sym, ap, ◌∙◌, arith, subst, append-nil}
 use Rattle.zre_values.specs.declared.memory.OutOfMemory.{OutOfMemory}
 use Rattle.zre_values.specs.declared.peer_id.PeerId.{PeerId}
 use Rattle.zre_outside.specs.declared.entry.Entry.{Entry}
@@ -7,8 +7,7 @@ use Rattle.zre_outside.specs.declared.entry.Input.{Input}
 use Rattle.zre_outside.specs.declared.entry.Input.TheVariants as input
 use Rattle.zre_zmtp.specs.Looks.{IsPaid, IsPaidOnRefusal}
 use Rattle.zre_mailbox.specs.Conn.{conn_after, kept_of}
-use Rattle.zre_zmtp.specs.declared.fault.ZmtpFault.{ZmtpFault}
-use Rattle.zre_link.specs.Heard.{Heard, heard_after, hearing_by, kept_in, reading, reply_fault, kept_of as kept_of_replies}
+use Rattle.zre_link.specs.Heard.{heard_after, kept_of as kept_of_replies}
 use Rattle.zre_journal.specs.declared.config.Config.{Config}
 use Rattle.zre_journal.specs.Chronicle.{Mark, Comes, after}
 use Rattle.zre_journal.specs.Heard.{bytes, was_opened, piece_of}
@@ -16,7 +15,7 @@ use Rattle.zre_journal.specs.Connections.{is_open, is_ignored, open_ones}
 use Rattle.zre_journal.specs.Events.{chronicle}
 use Rattle.zre_journal.specs.Happens.{has_stopped, at_input, marks, with_entry}
 use Rattle.zre_journal.specs.Held.{conn_kept, replies_kept, kept}
-use Rattle.zre_journal.specs.Links.{bodies, is_linked, replies, taken}
+use Rattle.zre_journal.specs.Links.{line, is_linked, replies, taken}
 use Rattle.zre_journal.specs.Peers.{Life, life, lives}
 use Rattle.zre_journal.specs.Proper.{IsProper}
 use Rattle.zre_journal.proofs.Kept.{Comes-proper}
@@ -26,10 +25,10 @@ use Rattle.zre_node.specs.declared.connection.Connection.{Connection}
 use Rattle.zre_node.specs.Holding.{reader_octets, conn_row_octets}
 use Rattle.std.specs.BTreeMap.{is_at}
 use Rattle.std.specs.Map.{lookup}
-use Rattle.zre_link.specs.Link.{Sending, link_after}
+use Rattle.zre_link.specs.Link.{Sending, link_after, link_answering}
 use Rattle.zre_node.specs.declared.peer.Peer.{Peer}
 use Rattle.zre_node.proofs.Coming.{quiet_piece, quiet_reply, grown}
-use Rattle.zre_node.proofs.Linking.{its, link_is, grown as grown_replies, dropped}
+use Rattle.zre_node.proofs.Linking.{its, link_is}
 use Rattle.zre_node.proofs.Pushing.{row_link}
 use Rattle.zre_node.specs.Looks.{Looks, octets_of}
 use Rattle.zre_node.specs.Stands.{Holds, Rests, heard_by, is_quiet, kept_conn}
@@ -128,22 +127,17 @@ module _ (g : Config) (H : List Mark) (t : Tables) (h : Holds g H t) (e : Entry)
 
 -- ---- a reply
 
--- after a fault nothing is kept
-pub replies_refused : (o : List ℕ) (f : ZmtpFault) (h : Heard) → h ≡ heard_after o → reply_fault o ≡ Some f → kept_of_replies h ≡ 0
-replies_refused o f h is e = ap kept_of_replies is ∙ ap (λ x. kept_in (hearing_by x (reading o))) e
-
 module _ (g : Config) (H : List Mark) (t : Tables) (h : Holds g H t) (e : Entry) (l : ℕ) (o : List ℕ) (is : e.input ≡ input.Reply l o) where
   pub unknown_looks : {A : Type 0} (r : Result A OutOfMemory) (looks : ℕ) → life l H ≡ None → Looks looks looks (kept g H) (kept g (Comes e ∷ H)) (length o) r
   unknown_looks r looks none = no_looks r looks (kept g H) (kept g (Comes e ∷ H)) (length o) (omega (arith, reply_lost g H h.keeps.proper e l o is none))
 
   module _ (k : Peer) (was : Some k ≡ lookup (is_at (nat_cmp l)) t.peers.entries) where
-    pub replied_looks : {A : Type 0} (r : Result A OutOfMemory) (s : Sending) (looks looks' : ℕ)
-        → (k.link ≡ link_after g.id (bodies l H) (is_linked l H) (replies l H) (taken l H) → Looks looks looks' (kept_of_replies k.link.replies) (kept_of_replies s.replies) (length o) r)
-        → (k.link ≡ link_after g.id (bodies l H) true (replies l H) (taken l H) → OnOk r (s ≡ link_after g.id (bodies l H) true (replies l H ++ o) (taken l H)))
+    pub replied_looks : {A : Type 0} (r : Result A OutOfMemory) (s : Sending) (looks looks' : ℕ) → Looks looks looks' (kept_of_replies k.link.replies) (kept_of_replies s.replies) (length o) r
+        → (k.link ≡ link_after g.id (line l H) true (replies l H) (taken l H) → OnOk r (s ≡ link_answering g.id (line l H) true (replies l H) (taken l H) o))
         → (k.link.linked ≡ false → OnOk r (s ≡ k.link)) → Looks looks looks' (kept g H) (kept g (Comes e ∷ H)) (length o) r
     replied_looks {A} r s looks looks' paid live dead =
         row_looks r looks looks' (kept_of_replies k.link.replies) (replies_kept g (Comes e ∷ H) v) (kept_of_replies s.replies) (kept g H) (kept g (Comes e ∷ H)) (length o)
-            (omega (arith, reply_moves g H h.keeps.proper e l o is v known, had)) (omega (arith, reply_part g H h.keeps.proper e l o is v known, had)) (by (is_linked l H) refl) (paid row)
+            (omega (arith, reply_moves g H h.keeps.proper e l o is v known, had)) (omega (arith, reply_part g H h.keeps.proper e l o is v known, had)) (by (is_linked l H) refl) paid
       where
         v : Life
         v = (its g H t h l k was).0
@@ -151,7 +145,7 @@ module _ (g : Config) (H : List Mark) (t : Tables) (h : Holds g H t) (e : Entry)
         known : life l H ≡ Some v
         known = (its g H t h l k was).1
 
-        row : k.link ≡ link_after g.id (bodies l H) (is_linked l H) (replies l H) (taken l H)
+        row : k.link ≡ link_after g.id (line l H) (is_linked l H) (replies l H) (taken l H)
         row = row_link g H t h l k was
 
         same : l ≡ v.link
@@ -160,13 +154,19 @@ module _ (g : Config) (H : List Mark) (t : Tables) (h : Holds g H t) (e : Entry)
         had : kept_of_replies k.link.replies ≡ replies_kept g H v
         had = ap (λ (x : Sending). kept_of_replies x.replies) row ∙ ap (λ n. kept_of_replies (heard_after (replies n H))) same
 
-        now : (p : List ℕ) → replies l (Comes e ∷ H) ≡ p → (x : Sending) → (u : Bool) → x ≡ link_after g.id (bodies l H) u p (taken l H) → kept_of_replies x.replies ≡ replies_kept g (Comes e ∷ H) v
-        now p q x u y = ap (λ (z : Sending). kept_of_replies z.replies) y ∙ ap (λ z. kept_of_replies (heard_after z)) (sym q) ∙ ap (λ n. kept_of_replies (heard_after (replies n (Comes e ∷ H)))) same
+        now : (p : List ℕ) → replies l (Comes e ∷ H) ≡ p → s.replies ≡ heard_after p → kept_of_replies s.replies ≡ replies_kept g (Comes e ∷ H) v
+        now p q y = ap kept_of_replies y ∙ ap (λ z. kept_of_replies (heard_after z)) (sym q) ∙ ap (λ n. kept_of_replies (heard_after (replies n (Comes e ∷ H)))) same
 
         ok_map : (r : Result A OutOfMemory) (B C : Type 0) → (B → C) → OnOk r B → OnOk r C
         ok_map (Ok y) B C f b = f b
         ok_map (Err y) B C f b = tt
 
+        up : is_linked l H ≡ true → replies l (Comes e ∷ H) ≡ replies l H ++ o
+        up q = let this : eqb l l ≡ true = eq-eqb l l refl in rw (q, is, this) refl
+
+        down : is_linked l H ≡ false → replies l (Comes e ∷ H) ≡ replies l H
+        down q = rw q (append-nil (replies l H))
+
         by : (b : Bool) → is_linked l H ≡ b → OnOk r (kept_of_replies s.replies ≡ replies_kept g (Comes e ∷ H) v)
-        by true q = ok_map r _ _ (λ y. now (replies l H ++ o) (grown_replies g H t h e l o is k was q) s true y) (live (row ∙ ap (λ b. link_after g.id (bodies l H) b (replies l H) (taken l H)) q))
-        by false q = ok_map r _ _ (λ y. now (replies l H) (dropped g H t h e l o is k was q) s (is_linked l H) (y ∙ row)) (dead (ap (λ (x : Sending). x.linked) row ∙ q))
+        by true q = ok_map r _ _ (λ y. now (replies l H ++ o) (up q) (ap (λ (z : Sending). z.replies) y)) (live (row ∙ ap (λ b. link_after g.id (line l H) b (replies l H) (taken l H)) q))
+        by false q = ok_map r _ _ (λ y. now (replies l H) (down q) (ap (λ (z : Sending). z.replies) y ∙ ap (λ (z : Sending). z.replies) row)) (dead (ap (λ (x : Sending). x.linked) row ∙ q))
