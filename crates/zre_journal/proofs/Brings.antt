@@ -22,7 +22,7 @@ use Rattle.zre_journal.specs.Proper.{IsProper, Apart}
 use Rattle.zre_journal.specs.Pushes.{push, push_all, birth, hello}
 use Rattle.zre_journal.specs.Arrivals.{end_of_run, at_opened, at_shut}
 use Rattle.zre_journal.specs.Happens.{is_welcome, at_beacon, at_datagram}
-use Rattle.zre_journal.specs.LinkEntries.{at_linked, end_by_reply, at_reply, at_unlinked, at_took}
+use Rattle.zre_journal.specs.LinkEntries.{at_linked, cause_by_reply, end_by, at_reply, at_unlinked, at_took}
 use Rattle.zre_journal.specs.Ticks.{probe, is_stale, at_tick}
 use Rattle.zre_journal.specs.Commands.{has_group, at_join, at_leave, is_too_big, at_whisper, is_member, at_shout, at_stop, at_command}
 use Rattle.zre_outside.specs.declared.entry.Input.{Input}
@@ -291,7 +291,7 @@ module _ (g : Config) (w : Ground) (K : List Mark) (q : IsProper K) where
   pub reply_outcome : (l : ℕ) (H : List Mark) (o : Option Life) → life l K ≡ o → O (at_reply g l o H K)
   reply_outcome l H None e = nothing
   reply_outcome l H (Some v) e = choice O (is_linked l K) _ _
-      (λ z. plainly (λ t. both (Brought g w t) pongs _ K (pongs_brought g w t l contexts (unsent g l K) K (omega arith) known) (end t (slow_at (unsent g l K) contexts) (reply_fault (replies l K)))))
+      (λ z. plainly (λ t. both (Brought g w t) pongs _ K (pongs_brought g w t l contexts (unsent g l K) K (omega arith) known) (end t (cause_by_reply (slow_at (unsent g l K) contexts) (reply_fault (replies l K))))))
       (λ z. nothing)
     where
       contexts : List (List ℕ)
@@ -306,10 +306,9 @@ module _ (g : Config) (w : Ground) (K : List Mark) (q : IsProper K) where
       still : IsSome (life l (after pongs K))
       still = subst IsSome (sym (pongs_life l l (answered (unsent g l K) contexts) K)) known
 
-      end : (t : Bool) (s : Option (ℕ × ℕ)) (f : Option ZmtpFault) → Each (Brought g w t) (end_by_reply g l s f) (after pongs K)
-      end t (Some s) f = ((still, tt), tt)
-      end t None (Some f) = ((still, tt), tt)
-      end t None None = tt
+      end : (t : Bool) (why : Option Cause) → Each (Brought g w t) (end_by g l why) (after pongs K)
+      end t None = tt
+      end t (Some why) = ((still, tt), tt)
 
   pub unlinked_outcome : (l : ℕ) (o : Option Life) → life l K ≡ o → O (at_unlinked g l o)
   unlinked_outcome l None e = nothing

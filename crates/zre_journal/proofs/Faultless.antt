@@ -24,7 +24,7 @@ use Rattle.zre_journal.specs.Links.{is_linked, replies, newly_pinged, unsent}
 use Rattle.zre_journal.specs.Proper.{IsProper}
 use Rattle.zre_journal.specs.Happens.{has_stopped, at_input}
 use Rattle.zre_journal.specs.Arrivals.{end_of_run, at_place, at_places}
-use Rattle.zre_journal.specs.LinkEntries.{end_by_reply, answers, at_reply}
+use Rattle.zre_journal.specs.LinkEntries.{cause_by_reply, end_by, answers, at_reply}
 use Rattle.zre_journal.proofs.Few.{none_kept, at_end, AtEnd, Front, Back}
 use Rattle.zre_journal.proofs.Idle.{idle_stays, not_true}
 use Rattle.zre_journal.proofs.Joined.{after-append, in_turn-append}
@@ -263,7 +263,7 @@ module _ (g : Config) where
   reply_ends : (l : ℕ) (H K : List Mark) → (is_linked l K ≡ false → IsSome (life l K) → reply_fault (replies l K) ≡ None) → IsSome (life l (after (at_reply g l (life l K) H K) K)) → reply_fault (replies l K) ≡ None
   reply_ends l H K was s = by (life l K) refl s
     where
-      found : (J : List Mark) (o : Option (ℕ × ℕ)) (f : Option ZmtpFault) → IsSome (life l (after (end_by_reply g l o f) J)) → f ≡ None
+      found : (J : List Mark) (o : Option (ℕ × ℕ)) (f : Option ZmtpFault) → IsSome (life l (after (end_by g l (cause_by_reply o f)) J)) → f ≡ None
       found J o None t = refl
       found J (Some n) (Some f) t = absurd (not_some (life l (Ends l (cause.Slow n.0 n.1) ∷ J)) (gone_life l (lives J)) t)
       found J None (Some f) t = absurd (not_some (life l (Ends l (cause.Reply f) ∷ J)) (gone_life l (lives J)) t)
@@ -276,7 +276,7 @@ module _ (g : Config) where
           pongs = map (λ c. PutsPong l c) (answered (unsent g l K) (newly_pinged l H K))
 
           end : List Mark
-          end = end_by_reply g l (slow_at (unsent g l K) (newly_pinged l H K)) (reply_fault (replies l K))
+          end = end_by g l (cause_by_reply (slow_at (unsent g l K) (newly_pinged l H K)) (reply_fault (replies l K)))
 
           linked : (b : Bool) → is_linked l K ≡ b → IsSome (life l (after (cond b (answers g l (newly_pinged l H K) (reply_fault (replies l K)) K) []) K)) → reply_fault (replies l K) ≡ None
           linked true y u = found (after pongs K) (slow_at (unsent g l K) (newly_pinged l H K)) (reply_fault (replies l K)) (subst (λ J. IsSome (life l J)) (after-append pongs end K) u)

@@ -2,6 +2,7 @@
 -- out on it.
 use Rattle.std.specs.Prelude.{ℕ, ◌-◌, min, List, [], ◌∷◌, ◌++◌, map, Option, Some, None, if◌then◌else◌}
 use Rattle.zre_zmtp.specs.declared.fault.ZmtpFault.{ZmtpFault}
+use Rattle.zre_peer.specs.declared.causes.Cause.{Cause}
 use Rattle.zre_peer.specs.declared.causes.Cause.TheVariants as cause
 use Rattle.zre_link.specs.Heard.{reply_fault}
 use Rattle.zre_link.specs.Link.{answered, slow_at}
@@ -10,21 +11,26 @@ use Rattle.zre_journal.specs.Chronicle.{Mark, Ends, PutsPong, Links, Sends}
 use Rattle.zre_journal.specs.Peers.{Life}
 use Rattle.zre_journal.specs.Links.{is_linked, replies, newly_pinged, gate, taken, unsent}
 
+-- why replies end their peer: for the PONG that has no room, and else for their fault, where there is one
+abbrev pub cause_by_reply : Option (ℕ × ℕ) → Option ZmtpFault → Option Cause
+cause_by_reply (Some slow) f = Some (cause.Slow slow.0 slow.1)
+cause_by_reply None (Some f) = Some (cause.Reply f)
+cause_by_reply None None = None
+
 module _ (g : Config) where
   abbrev pub at_linked : ℕ → Option Life → List Mark → List Mark
   at_linked l None K = []
   at_linked l (Some v) K = if is_linked l K then [] else Links l ∷ []
 
-  -- the peer of link l ends where a PONG has no room, and else for the fault of the replies, where there is one
-  abbrev pub end_by_reply : ℕ → Option (ℕ × ℕ) → Option ZmtpFault → List Mark
-  end_by_reply l (Some slow) f = Ends l (cause.Slow slow.0 slow.1) ∷ []
-  end_by_reply l None (Some f) = Ends l (cause.Reply f) ∷ []
-  end_by_reply l None None = []
+  -- the peer of link l ends, if there is a cause
+  abbrev pub end_by : ℕ → Option Cause → List Mark
+  end_by l None = []
+  end_by l (Some why) = Ends l why ∷ []
 
   -- PINGs with these contexts are answered in their order, up to the first whose PONG has no room
   abbrev pub answers : ℕ → List (List ℕ) → Option ZmtpFault → List Mark → List Mark
   answers l ts f K =
-      map (λ t. PutsPong l t) (answered (unsent g l K) ts) ++ end_by_reply l (slow_at (unsent g l K) ts) f
+      map (λ t. PutsPong l t) (answered (unsent g l K) ts) ++ end_by l (cause_by_reply (slow_at (unsent g l K) ts) f)
 
   -- H is the chronicle before the entry, K with it
   abbrev pub at_reply : ℕ → Option Life → List Mark → List Mark → List Mark

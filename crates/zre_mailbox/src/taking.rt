@@ -56,7 +56,7 @@ fn arrival_of(alloc: Global, what: What) -> Result<Option<Arrival>, OutOfMemory>
             Some(identity) => Ok(peer_of(identity.as_slice()).map(Arrival::Shaken)),
             None => Ok(None),
         },
-        What::Command { .. } => ping_of(alloc, &what),
+        command @ What::Command { .. } => ping_of(alloc, &command),
         What::Message(frames) => message_of(alloc, frames),
     }
 }

@@ -14,7 +14,7 @@ use Rattle.zre_journal.specs.Chronicle.{Mark, Comes}
 use Rattle.zre_journal.specs.Heard.{bytes, piece_of, was_opened, newly_completed}
 use Rattle.zre_journal.specs.Connections.{open_ones, is_open, is_live, is_ignored, since, identity, runs}
 use Rattle.zre_journal.specs.Peers.{Life, lives}
-use Rattle.zre_journal.specs.Links.{bodies, is_linked, replies, reply_of, taken}
+use Rattle.zre_journal.specs.Links.{line, is_linked, replies, reply_of, taken}
 use Rattle.zre_journal.specs.Arrivals.{at_places}
 use Rattle.zre_journal.proofs.Kept.{Comes-proper}
 use Rattle.zre_journal.proofs.Listed.{eqb-comm, found_passes, any_has}
@@ -62,7 +62,7 @@ module _ (g : Config) (H : List Mark) (t : Tables) (h : Holds g H t) (e : Entry)
           id_is = is.id_is;
           active_is = is.active_is;
           run_is = is.run_is;
-          link_is = is.link_is ∙ ap (λ r. link_after g.id (bodies v.link H) (is_linked v.link H) r (taken v.link H)) (no_replies v.link (none v.link));
+          link_is = is.link_is ∙ ap (λ r. link_after g.id (line v.link H) (is_linked v.link H) r (taken v.link H)) (no_replies v.link (none v.link));
         })
         (lives H) t.peers.entries h.peers;
   }

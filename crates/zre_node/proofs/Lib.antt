@@ -19,6 +19,7 @@ pub mod Offering
 pub mod Opening
 pub mod Parting
 pub mod Pushing
+pub mod Replying
 pub mod Shaking
 pub mod Starting
 pub mod Stepping

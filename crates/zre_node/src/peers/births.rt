@@ -11,6 +11,7 @@ ghost use Rattle.zre_journal.specs.Happens.{is_welcome as welcome, at_datagram};
 ghost use Rattle.zre_beacon.specs.Beacon.{beacon_in};
 ghost use Rattle.zre_msg.specs.declared.message.Body.{Body as BodyValue};
 ghost use Rattle.zre_link.specs.Link.{link_after};
+ghost use Rattle.zre_link.specs.Text.{Says};
 ghost use Rattle.zre_node.specs.Stands.{Keeps, Holds, Did};
 
 use crate::effects::Effects;
@@ -62,7 +63,7 @@ impl Tables {
     // A link on which HELLO is put. HELLO of settings that are valid fits, and is far from the limit of a link.
     fn greeted_link(&self) -> Result<Link, OutOfMemory>
         ensures { (g : Config) (H : List Mark) → Keeps g H self.now →
-            IfOk result (λ link. link ≡ link_after g.id (hello g H ∷ []) false [] 0) }
+            IfOk result (λ link. link ≡ link_after g.id (Says (hello g H) ∷ []) false [] 0) }
     {
         let mut link = Link::new(self.alloc, self.config.id)?;
         let mut hello = Message {

@@ -4,10 +4,10 @@ use crate::subject::Subject;
 use crate::text::Text;
 use crate::trouble::Trouble;
 use crate::wire::Wire;
-use crate::wire::texts::push_fed;
+use crate::wire::texts::push_fault;
 use crate::words::Words;
 use std::alloc::Global;
-use zre_link::{Link, PushFault};
+use zre_link::{Link, PushFault, ReplyFault};
 use zre_msg::{Body, Message};
 use zre_values::{Frames, Octets, PeerId};
 use zre_zmtp::FeedFault;
@@ -41,15 +41,27 @@ fn make_link(alloc: Global, own: PeerId, answer: &mut Text) -> Subject {
     }
 }
 
+// `slow UNSENT SIZE`
+fn push_slow(answer: &mut Text, unsent: u64, size: u64) {
+    answer.count(b"slow", unsent);
+    answer.count(b"", size);
+    answer.end();
+}
+
 fn push_pushed(answer: &mut Text, pushed: Result<(), PushFault>) {
     match pushed {
         Ok(()) => {}
-        Err(PushFault::Slow { unsent, size }) => {
-            answer.count(b"slow", unsent);
-            answer.count(b"", size);
-            answer.end();
-        }
+        Err(PushFault::Slow { unsent, size }) => push_slow(answer, unsent, size),
         Err(PushFault::OutOfMemory) => answer.fail(Trouble::OutOfMemory),
+    }
+}
+
+fn push_heard(answer: &mut Text, heard: Result<(), ReplyFault>) {
+    match heard {
+        Ok(()) => {}
+        Err(ReplyFault::Zmtp(fault)) => push_fault(answer, FeedFault::Zmtp(fault)),
+        Err(ReplyFault::Slow { unsent, size }) => push_slow(answer, unsent, size),
+        Err(ReplyFault::OutOfMemory) => answer.fail(Trouble::OutOfMemory),
     }
 }
 
@@ -72,7 +84,7 @@ fn drain(link: &mut Link, most: usize, out: &mut Text) {
     }
 }
 
-fn reply(link: &mut Link, piece: &[u8]) -> Result<(), FeedFault> {
+fn reply(link: &mut Link, piece: &[u8]) -> Result<(), ReplyFault> {
     if link.is_linked() {
         link.reply(piece)
     } else {
@@ -97,6 +109,8 @@ impl Links {
             self.whisper(words, answer);
         } else if words.is(b"linked") {
             self.linked(words, answer);
+        } else if words.is(b"reply") {
+            self.reply(words, answer);
         } else if words.is(b"talk") {
             self.talk(words, answer);
         } else if words.is(b"counts") {
@@ -144,6 +158,15 @@ impl Links {
         }
     }
 
+    // `reply HEX`: hears a piece of replies, and takes nothing of what may go out. It answers why it was refused.
+    fn reply(&mut self, mut words: Words<'_>, answer: &mut Text) {
+        let piece = words.octets();
+        if words.end(answer) {
+            let heard = reply(&mut self.link, piece.as_slice());
+            push_heard(answer, heard);
+        }
+    }
+
     // `talk MOST HEX`: hears replies in pieces of at most so many
     // octets, and takes what may go out before and after each, at most
     // so many octets at a time. It answers the octets that went out, and what is wrong with the last piece.
@@ -156,11 +179,11 @@ impl Links {
             if out.is_whole(answer) {
                 answer.hex_line(out.as_slice());
             }
-            push_fed(answer, heard);
+            push_heard(answer, heard);
         }
     }
 
-    fn hear(&mut self, replies: &[u8], most: usize, out: &mut Text) -> Result<(), FeedFault> {
+    fn hear(&mut self, replies: &[u8], most: usize, out: &mut Text) -> Result<(), ReplyFault> {
         let mut heard = Ok(());
         drain(&mut self.link, most, out);
         for piece in replies.chunks(most.max(1)) {

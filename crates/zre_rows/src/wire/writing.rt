@@ -4,7 +4,7 @@ use crate::text::Text;
 use crate::trouble::Trouble;
 use crate::words::Words;
 use zre_values::{Octets, OutOfMemory};
-use zre_zmtp::{SocketType, greeting, ready, write_message};
+use zre_zmtp::{SocketType, context_of, greeting, pong, ready, write_message};
 
 fn push_written(answer: &mut Text, written: Result<Octets, OutOfMemory>) {
     match written {
@@ -13,7 +13,7 @@ fn push_written(answer: &mut Text, written: Result<Octets, OutOfMemory>) {
     }
 }
 
-/// The greeting, READY, and the frames of messages.
+/// The greeting, READY, PONG, and the frames of messages.
 pub fn step(words: Words<'_>, answer: &mut Text) {
     if words.is(b"greeting") {
         push_greeting(words, answer);
@@ -21,6 +21,10 @@ pub fn step(words: Words<'_>, answer: &mut Text) {
         push_router(words, answer);
     } else if words.is(b"dealer") {
         push_dealer(words, answer);
+    } else if words.is(b"pong") {
+        push_pong(words, answer);
+    } else if words.is(b"context") {
+        push_context(words, answer);
     } else if words.is(b"message") {
         push_message(words, answer);
     } else {
@@ -47,6 +51,26 @@ fn push_dealer(mut words: Words<'_>, answer: &mut Text) {
     let id = words.id();
     if words.end(answer) {
         push_written(answer, ready(words.alloc(), SocketType::Dealer, Some(id)));
+    }
+}
+
+// `pong HEX`: PONG with this context.
+fn push_pong(mut words: Words<'_>, answer: &mut Text) {
+    let context = words.octets();
+    if words.end(answer) {
+        push_written(answer, pong(words.alloc(), context.as_slice()));
+    }
+}
+
+// `context HEX HEX`: the context of the command with this name and these octets after it, or `none`.
+fn push_context(mut words: Words<'_>, answer: &mut Text) {
+    let name = words.octets();
+    let rest = words.octets();
+    if words.end(answer) {
+        match context_of(name.as_slice(), rest.as_slice()) {
+            Some(context) => answer.hex_line(context),
+            None => answer.line(b"none"),
+        }
     }
 }
 
