@@ -97,7 +97,7 @@ module _ (g : Config) (w : Ground) (t : Bool) where
   pongs_brought l [] n H u k = tt
   pongs_brought l (c ∷ ts) n H u k = choice (λ (cs : List (List ℕ)). Each B (map (λ x. PutsPong l x) cs) H) (ltb UNSENT_OCTETS (n + length (pong_frame c))) _ _ (λ e. tt)
       (λ e. let fits : n + length (pong_frame c) ≤ UNSENT_OCTETS = ltb-false _ _ e in
-          ((k, λ can r. omega (arith, u, fits)), pongs_brought l ts (n + length (pong_frame c)) (PutsPong l c ∷ H) (more (eqb l l)) k))
+      ((k, λ can r. omega (arith, u, fits)), pongs_brought l ts (n + length (pong_frame c)) (PutsPong l c ∷ H) (more (eqb l l)) k))
     where
       more : (b : Bool) → length (text_of g.id (followed (line l H) (cond b (Some (Pongs c)) None))) - taken l H ≤ n + length (pong_frame c)
       more true = let p = pong_more g (line l H) c (taken l H) in omega (arith, p, u)

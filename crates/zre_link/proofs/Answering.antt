@@ -30,6 +30,7 @@ answers-room (Some t) more n e = by (nat_lt UNSENT_OCTETS (n + length (pong_fram
   where
     size : length (pongs (t ∷ [])) ≡ length (pong_frame t)
     size = length-append (pong_frame t) [] ∙ (let z : length (pong_frame t) + 0 ≡ length (pong_frame t) = omega arith in z)
+
     by : (b : Bool) → nat_lt UNSENT_OCTETS (n + length (pong_frame t)) ≡ b → cond b (Some (n, length (pong_frame t))) None ≡ None
         → (slow_at n (t ∷ more) ≡ slow_at (n + length (pongs (t ∷ []))) more) × (pongs (answered n (t ∷ more)) ≡ pongs (t ∷ []) ++ pongs (answered (n + length (pongs (t ∷ []))) more))
     by true q z = absurd cc

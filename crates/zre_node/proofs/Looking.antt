@@ -122,8 +122,8 @@ module _ (g : Config) (H : List Mark) (t : Tables) (h : Holds g H t) (e : Entry)
           let was : conn_row_octets x ≡ conn_kept g H c = ap reader_octets hears ∙ sym (ap (λ b. cond b 0 (kept_of (conn_after g.id (bytes c H)))) q) in
           let now : conn_kept g (Comes e ∷ H) c ≡ kept_of (conn_after g.id (bytes c H ++ o)) = ap (λ b. cond b 0 (kept_of (conn_after g.id (bytes c (Comes e ∷ H))))) q ∙ ap (λ p. kept_of (conn_after g.id p)) (grown g H t h e c o is there) in
           row_looks r looks looks' (conn_row_octets x) (conn_kept g (Comes e ∷ H) c) (conn_row_octets x') (kept g H) (kept g (Comes e ∷ H)) (length o)
-              (omega (arith, moves, was)) (omega (arith, piece_part g H h.keeps.proper e c o is there, was))
-              (on_ok_map r _ _ (λ y. ap conn_row_octets y ∙ sym now) l.0) l.1
+          (omega (arith, moves, was)) (omega (arith, piece_part g H h.keeps.proper e c o is there, was))
+          (on_ok_map r _ _ (λ y. ap conn_row_octets y ∙ sym now) l.0) l.1
 
 -- ---- a reply
 
@@ -137,7 +137,7 @@ module _ (g : Config) (H : List Mark) (t : Tables) (h : Holds g H t) (e : Entry)
         → (k.link.linked ≡ false → OnOk r (s ≡ k.link)) → Looks looks looks' (kept g H) (kept g (Comes e ∷ H)) (length o) r
     replied_looks {A} r s looks looks' paid live dead =
         row_looks r looks looks' (kept_of_replies k.link.replies) (replies_kept g (Comes e ∷ H) v) (kept_of_replies s.replies) (kept g H) (kept g (Comes e ∷ H)) (length o)
-            (omega (arith, reply_moves g H h.keeps.proper e l o is v known, had)) (omega (arith, reply_part g H h.keeps.proper e l o is v known, had)) (by (is_linked l H) refl) paid
+        (omega (arith, reply_moves g H h.keeps.proper e l o is v known, had)) (omega (arith, reply_part g H h.keeps.proper e l o is v known, had)) (by (is_linked l H) refl) paid
       where
         v : Life
         v = (its g H t h l k was).0

@@ -79,7 +79,7 @@ impl Node {
         ensures ended { IsTrue (is_spent self.old) → IsErr result }
         ensures looks { (g : ConfigValue) (J : List EntryValue) → StandsFor g J self.old →
             Looks steps.old steps.new (kept g (chronicle g J)) (kept g (chronicle g (J ++ entry ∷ [])))
-                (octets_of entry.input) result }
+            (octets_of entry.input) result }
         ensures none { IsTrue (is_spent self.old) → steps.new ≡ steps.old }
     {
         if self.spent {

@@ -62,9 +62,5 @@ fn are_small(name: &[u8], headers: &Pairs) -> bool
 pub fn are_settings(name: &[u8], headers: &Pairs, port: u16, evasive: u64, expired: u64) -> bool
     ensures { result ≡ are_settings name.now headers.now port evasive expired }
 {
-    are_small(name, headers)
-        && port > 0
-        && evasive >= 1
-        && evasive <= expired
-        && expired <= DAY
+    are_small(name, headers) && port > 0 && evasive >= 1 && evasive <= expired && expired <= DAY
 }

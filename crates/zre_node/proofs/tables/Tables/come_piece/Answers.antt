@@ -38,7 +38,7 @@ returns-in-Some-clause-looks c = λ g H e is h.
     let x = c.in-Some.found.now in
     let row = row_conn g H t h.keeps n x c.in-Some.ensures.value in
     heard_looks g H t h e n c.args.bytes.now is c.hear.result c.args.steps.now c.hear.new.steps row.0 x c.hear.new.found row.1
-        (λ q k. (on_map c.hear.result _ (λ heard b. b.0) (c.hear.ensures.live g.id q k), c.hear.ensures.looks g.id q k)) c.hear.ensures.no_looks
+    (λ q k. (on_map c.hear.result _ (λ heard b. b.0) (c.hear.ensures.live g.id q k), c.hear.ensures.looks g.id q k)) c.hear.ensures.no_looks
 
 pub returns-in-None-clause-looks : goal.returns-in-None-clause-looks
 returns-in-None-clause-looks c = λ g H e is h.

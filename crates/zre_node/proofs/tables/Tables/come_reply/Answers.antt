@@ -36,8 +36,8 @@ returns-in-Some-clause-looks c = λ g H e is h.
     let l = c.args.link in
     let r = c.hear_reply.result in
     replied_looks g H c.args.self.now h e l c.args.bytes.now is c.in-Some.peer.now c.in-Some.ensures.value r c.hear_reply.new.link c.args.steps.now c.hear_reply.new.steps c.hear_reply.ensures.looks
-        (λ q. on_map r _ (λ f b. b.0) (c.hear_reply.ensures.standing g.id (line l H) (replies l H) (taken l H) q))
-        (λ q. on_map r _ (λ f b. b.0) (c.hear_reply.ensures.waiting q))
+    (λ q. on_map r _ (λ f b. b.0) (c.hear_reply.ensures.standing g.id (line l H) (replies l H) (taken l H) q))
+    (λ q. on_map r _ (λ f b. b.0) (c.hear_reply.ensures.waiting q))
 
 pub returns-in-None-clause-looks : goal.returns-in-None-clause-looks
 returns-in-None-clause-looks c = λ g H e is h.

@@ -26,4 +26,4 @@ returns-in_err-said-clause-looks c = λ g H e is h. (tt, late_refusal (c.in_ok-h
 pub returns-clause-looks : goal.returns-clause-looks
 returns-clause-looks c = λ g H e is h.
     less_looks c.offer.result c.args.steps.now c.come_piece.new.steps (kept g H) (kept g (with_entry g e H)) (kept g (Comes e ∷ H)) (length c.args.bytes.now)
-        (entry_lowers g e H h.keeps.going h.keeps.proper) (c.in_ok-heard.ensures.looks g H e is h).0
+    (entry_lowers g e H h.keeps.going h.keeps.proper) (c.in_ok-heard.ensures.looks g H e is h).0

@@ -38,4 +38,4 @@ returns-in_err-end_by_reply-clause-looks c = λ g H e is h. (tt, late_refusal (c
 pub returns-clause-looks : goal.returns-clause-looks
 returns-clause-looks c = λ g H e is h.
     less_looks c.offer.result c.args.steps.now c.come_reply.new.steps (kept g H) (kept g (with_entry g e H)) (kept g (Comes e ∷ H)) (length c.args.bytes.now)
-        (entry_lowers g e H h.keeps.going h.keeps.proper) (c.in_ok-why.ensures.looks g H e is h).0
+    (entry_lowers g e H h.keeps.going h.keeps.proper) (c.in_ok-why.ensures.looks g H e is h).0
