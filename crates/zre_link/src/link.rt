@@ -206,7 +206,10 @@ impl Link {
     {
         let mut items = Items::new(self.alloc);
         match self.replies.feed(piece, &mut items, steps) {
-            Ok(()) => self.answer(items.as_slice()),
+            Ok(()) => match self.answer(items.as_slice()) {
+                Ok(()) => Ok(()),
+                Err(slow) => Err(slow),
+            },
             Err(FeedFault::Zmtp(fault)) => match self.answer(items.as_slice()) {
                 Ok(()) => Err(ReplyFault::Zmtp(fault)),
                 Err(slow) => Err(slow),
@@ -249,7 +252,10 @@ impl Link {
         ensures rest { (self.new.sent ≡ self.old.sent) × (self.new.taken ≡ self.old.taken)
             × (self.new.linked ≡ self.old.linked) × (self.new.replies ≡ self.old.replies) }
     {
-        answer_all(self.alloc, &mut self.queue, &mut self.written, items)
+        match answer_all(self.alloc, &mut self.queue, &mut self.written, items) {
+            Ok(()) => Ok(()),
+            Err(fault) => Err(fault),
+        }
     }
 
     /// The octets that may go out now, all of them in one piece.
