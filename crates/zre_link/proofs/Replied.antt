@@ -1,5 +1,5 @@
 -- A piece of replies, at the link.
-use Rattle.std.proofs.Common.{◌≡◌, ℕ, Bool, List, ◌++◌, Option, Some, None, sym, ap, ◌∙◌}
+use Rattle.std.proofs.Common.{◌≡◌, ℕ, Bool, List, ◌++◌, Option, Some, None, Result, Ok, Err, OnOk, IfErr, sym, ap, ◌∙◌}
 use Rattle.zre_values.specs.declared.peer_id.PeerId.{PeerId}
 use Rattle.zre_zmtp.specs.declared.fault.ZmtpFault.{ZmtpFault}
 use Rattle.zre_link.specs.declared.fault.ReplyFault.{ReplyFault}
@@ -20,3 +20,12 @@ pub answers_refused : {P Q : Type 0} (e : ReplyFault) (slow slow' : Option (ℕ 
 answers_refused (answer.Slow unsent size) slow slow' fault same f r = (sym same ∙ r.0, f r.1)
 answers_refused (answer.Zmtp x) slow slow' fault same f r = absurd (let z : None ≡ Some x = r.1 in cc)
 answers_refused answer.OutOfMemory slow slow' fault same f r = tt
+
+-- what is so of an answer, made into something else
+pub on_ok : {P Q : Type 0} (r : Result (Unit {0}) ReplyFault) → (P → Q) → OnOk r P → OnOk r Q
+on_ok (Ok x) f p = f p
+on_ok (Err e) f p = p
+
+pub if_err : (P Q : ReplyFault → Type 0) (r : Result (Unit {0}) ReplyFault) → ((e : ReplyFault) → P e → Q e) → IfErr r P → IfErr r Q
+if_err P Q (Ok x) f p = p
+if_err P Q (Err e) f p = f e p

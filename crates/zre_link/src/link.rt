@@ -252,10 +252,7 @@ impl Link {
         ensures rest { (self.new.sent ≡ self.old.sent) × (self.new.taken ≡ self.old.taken)
             × (self.new.linked ≡ self.old.linked) × (self.new.replies ≡ self.old.replies) }
     {
-        match answer_all(self.alloc, &mut self.queue, &mut self.written, items) {
-            Ok(()) => Ok(()),
-            Err(fault) => Err(fault),
-        }
+        answer_all(self.alloc, &mut self.queue, &mut self.written, items)
     }
 
     /// The octets that may go out now, all of them in one piece.
