@@ -203,6 +203,8 @@ impl Link {
             (length piece.now)) }
         ensures refused_looks { OnErr result (IsPaidOnRefusal steps.old steps.new (kept_of self.old.replies)
             (length piece.now)) }
+        ensures paid { IfErr result (λ e. e ≢ ReplyFault.OutOfMemory → IsPaid steps.old steps.new (kept_of self.old.replies)
+            (kept_of self.new.replies) (length piece.now)) }
     {
         let mut items = Items::new(self.alloc);
         match self.replies.feed(piece, &mut items, steps) {
