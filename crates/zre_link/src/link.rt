@@ -203,10 +203,15 @@ impl Link {
             (length piece.now)) }
         ensures refused_looks { OnErr result (IsPaidOnRefusal steps.old steps.new (kept_of self.old.replies)
             (length piece.now)) }
+        ensures paid { IfErr result (λ e. e ≢ ReplyFault.OutOfMemory → IsPaid steps.old steps.new (kept_of self.old.replies)
+            (kept_of self.new.replies) (length piece.now)) }
     {
         let mut items = Items::new(self.alloc);
         match self.replies.feed(piece, &mut items, steps) {
-            Ok(()) => self.answer(items.as_slice()),
+            Ok(()) => match self.answer(items.as_slice()) {
+                Ok(()) => Ok(()),
+                Err(slow) => Err(slow),
+            },
             Err(FeedFault::Zmtp(fault)) => match self.answer(items.as_slice()) {
                 Ok(()) => Err(ReplyFault::Zmtp(fault)),
                 Err(slow) => Err(slow),

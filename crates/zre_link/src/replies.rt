@@ -1,6 +1,6 @@
 //! What comes back.
 
-ghost use Rattle.std.specs.Prelude.{◌≡◌, ℕ, ◌+◌, ◌≤◌, List, [], ◌++◌, length, None, IfOk, OnOk, IfErr};
+ghost use Rattle.std.specs.Prelude.{◌≡◌, ℕ, ◌+◌, ◌≤◌, List, [], ◌++◌, length, None, IfOk, OnOk, IfErr, OnErr};
 ghost use Rattle.zre_values.specs.declared.limits.TheConstants.{MESSAGE_OCTETS, COMMAND_OCTETS};
 ghost use Rattle.zre_zmtp.specs.Reading.{Reads as IsAfter, Refuses, kept};
 ghost use Rattle.zre_zmtp.specs.Looks.{Looks};
@@ -85,6 +85,7 @@ impl Replies {
             IfErr result (λ e. Refuses e (reply_fault (o ++ piece.now)) ((self.new ≡ heard_after (o ++ piece.now))
             × (contexts_in out.new ≡ new_pings o piece.now))) }
         ensures looks { Looks steps.old steps.new (kept_of self.old) (kept_of self.new) (length piece.now) result }
+        ensures emptied { OnErr result (kept_of self.new ≡ 0) }
     {
         let reader = match &mut self.hearing {
             Hearing::Reads(reader) => reader,
