@@ -6,12 +6,11 @@ use Rattle.zre_zmtp.specs.Written.{pong_frame}
 use Rattle.zre_zmtp.specs.declared.fault.ZmtpFault.{ZmtpFault}
 use Rattle.zre_zmtp.specs.declared.expected.Expected.{Expected}
 use Rattle.zre_zmtp.specs.declared.expected.Expected.TheVariants as expect
-use Rattle.zre_msg.specs.declared.message.Body.{Body}
 use Rattle.zre_link.specs.declared.fault.PushFault.{PushFault}
 use Rattle.zre_link.specs.declared.fault.PushFault.TheVariants.{Slow, OutOfMemory}
 use Rattle.zre_link.specs.declared.fault.ReplyFault.{ReplyFault}
 use Rattle.zre_link.specs.declared.fault.ReplyFault.TheVariants as answer
-use Rattle.zre_link.specs.Text.{Member, Pongs, bodies_in, text_of, size_of}
+use Rattle.zre_link.specs.Text.{Member, Pongs, bodies_in, text_of}
 use Rattle.zre_link.specs.Heard.{awaited, new_pings, Heard, heard_after}
 
 -- ---- what contracts see of a link

@@ -60,6 +60,7 @@ pub fn answer_all(
         ((queue.new ≡ queue.old ++ flat_map pong_frame ts)
         × (written.new ≡ written.old + length (flat_map pong_frame ts)))) }
     ensures balanced { length queue.new + written.old ≡ length queue.old + written.new }
+    ensures grows { written.old ≤ written.new }
     ensures within { length queue.old ≤ UNSENT_OCTETS → length queue.new ≤ UNSENT_OCTETS }
 {
     let mut rest = items;

@@ -208,7 +208,10 @@ impl Link {
     {
         let mut items = Items::new(self.alloc);
         match self.replies.feed(piece, &mut items, steps) {
-            Ok(()) => self.answer(items.as_slice()),
+            Ok(()) => match self.answer(items.as_slice()) {
+                Ok(()) => Ok(()),
+                Err(slow) => Err(slow),
+            },
             Err(FeedFault::Zmtp(fault)) => match self.answer(items.as_slice()) {
                 Ok(()) => Err(ReplyFault::Zmtp(fault)),
                 Err(slow) => Err(slow),

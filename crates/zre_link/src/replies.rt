@@ -1,6 +1,6 @@
 //! What comes back.
 
-ghost use Rattle.std.specs.Prelude.{◌≡◌, ℕ, ◌+◌, ◌≤◌, List, [], ◌++◌, length, None, IfOk, OnOk, IfErr};
+ghost use Rattle.std.specs.Prelude.{◌≡◌, ℕ, ◌+◌, ◌≤◌, List, [], ◌++◌, length, None, IfOk, OnOk, IfErr, OnErr};
 ghost use Rattle.zre_values.specs.declared.limits.TheConstants.{MESSAGE_OCTETS, COMMAND_OCTETS};
 ghost use Rattle.zre_zmtp.specs.Reading.{Reads as IsAfter, Refuses, kept};
 ghost use Rattle.zre_zmtp.specs.Looks.{Looks};
