@@ -6,7 +6,6 @@ use Rattle.std.specs.Str.{bytes_eq}
 use Rattle.zre_values.specs.declared.peer_id.PeerId.{PeerId}
 use Rattle.zre_values.specs.declared.limits.TheConstants.{PEERS, CONNECTIONS, UNSENT_OCTETS, OWN_GROUPS, GROUP_OCTETS}
 use Rattle.zre_values.specs.declared.endpoint.Endpoint.{Endpoint}
-use Rattle.zre_zmtp.specs.declared.fault.ZmtpFault.{ZmtpFault}
 use Rattle.zre_outside.specs.declared.entry.Command.{Command}
 use Rattle.zre_peer.specs.declared.causes.Cause.{Cause}
 use Rattle.zre_msg.specs.declared.message.Body.{Body}
