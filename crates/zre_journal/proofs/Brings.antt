@@ -6,7 +6,6 @@ use Rattle.std.specs.Str.{bytes_eq}
 use Rattle.zre_values.specs.declared.peer_id.PeerId.{PeerId}
 use Rattle.zre_values.specs.declared.limits.TheConstants.{PEERS, CONNECTIONS, UNSENT_OCTETS, OWN_GROUPS, GROUP_OCTETS}
 use Rattle.zre_values.specs.declared.endpoint.Endpoint.{Endpoint}
-use Rattle.zre_zmtp.specs.declared.fault.ZmtpFault.{ZmtpFault}
 use Rattle.zre_outside.specs.declared.entry.Command.{Command}
 use Rattle.zre_peer.specs.declared.causes.Cause.{Cause}
 use Rattle.zre_msg.specs.declared.message.Body.{Body}
@@ -95,13 +94,19 @@ module _ (g : Config) (w : Ground) (t : Bool) where
   -- PONGs that have room after no less than is unsent
   pub pongs_brought : (l : ℕ) (ts : List (List ℕ)) (n : ℕ) (H : List Mark) → unsent g l H ≤ n → IsSome (life l H) → Each B (map (λ c. PutsPong l c) (answered n ts)) H
   pongs_brought l [] n H u k = tt
-  pongs_brought l (c ∷ ts) n H u k = choice (λ (cs : List (List ℕ)). Each B (map (λ x. PutsPong l x) cs) H) (ltb UNSENT_OCTETS (n + length (pong_frame c))) _ _ (λ e. tt)
-      (λ e. let fits : n + length (pong_frame c) ≤ UNSENT_OCTETS = ltb-false _ _ e in
-      ((k, λ can r. omega (arith, u, fits)), pongs_brought l ts (n + length (pong_frame c)) (PutsPong l c ∷ H) (more (eqb l l)) k))
+  pongs_brought l (c ∷ ts) n H u k = by (ltb UNSENT_OCTETS (n + length (pong_frame c))) refl (λ w. pongs_brought l ts (n + length (pong_frame c)) (PutsPong l c ∷ H) w k)
     where
+      later : List (List ℕ)
+      later = answered (n + length (pong_frame c)) ts
+
       more : (b : Bool) → length (text_of g.id (followed (line l H) (cond b (Some (Pongs c)) None))) - taken l H ≤ n + length (pong_frame c)
       more true = let p = pong_more g (line l H) c (taken l H) in omega (arith, p, u)
       more false = omega (arith, u)
+
+      by : (b : Bool) → ltb UNSENT_OCTETS (n + length (pong_frame c)) ≡ b → (unsent g l (PutsPong l c ∷ H) ≤ n + length (pong_frame c) → Each B (map (λ x. PutsPong l x) later) (PutsPong l c ∷ H))
+          → Each B (map (λ x. PutsPong l x) (cond b [] (c ∷ later))) H
+      by true e r = tt
+      by false e r = let fits : n + length (pong_frame c) ≤ UNSENT_OCTETS = ltb-false _ _ e in ((k, λ can room. omega (arith, u, fits)), r (more (eqb l l)))
 
   push_keeps : (l : ℕ) (b : Body) (I H : List Mark) (vs : List Life) → AllByRecursion (λ (v : Life). eqb l v.link ≡ false) vs → AreKnown H vs → AreKnown (after (push g l b I) H) vs
   push_keeps l b I H vs far k = pushed g (λ J. AreKnown J vs) l b I H (λ why. still_known H l why vs far k) k
