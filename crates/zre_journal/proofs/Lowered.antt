@@ -1,5 +1,5 @@
 -- What readers keep: an entry's octets change it on one connection or link, and what comes about then never raises it.
-use Rattle.std.proofs.Common.{◌≡◌, ℕ, ◌+◌, ◌*◌, ◌<◌, ◌≤◌, Bool, true, false, cond, not, ◌&&◌, ◌||◌, eqb, List, [], ◌∷◌, ◌++◌, length, filter, Option, Some, None, IsSome, is_none, is_some, find, true≢false, refl, sym, ap, ◌∙◌, arith, append-nil, sum_by, subst, eqb-true, eq-eqb}
+use Rattle.std.proofs.Common.{◌≡◌, ℕ, ◌+◌, ◌≤◌, Bool, true, false, cond, not, ◌&&◌, ◌||◌, eqb, List, [], ◌∷◌, ◌++◌, filter, Option, Some, None, is_none, is_some, find, true≢false, refl, sym, ap, ◌∙◌, arith, append-nil, sum_by, subst, eqb-true}
 use Rattle.std.proofs.lemmas.List.Sums.{sum_by-cons, sum_by_push}
 use Rattle.std.proofs.lemmas.List.Filters.{sum_by-filter_both}
 use Rattle.std.specs.List.{AllByRecursion, list_any}
@@ -9,6 +9,7 @@ use Rattle.zre_outside.specs.declared.entry.Entry.{Entry}
 use Rattle.zre_outside.specs.declared.entry.Input.{Input}
 use Rattle.zre_outside.specs.declared.entry.Input.TheVariants as input
 use Rattle.zre_zmtp.specs.Stream.{cut}
+use Rattle.zre_zmtp.specs.Stream as stream
 use Rattle.zre_mailbox.specs.Conn.{conn_after, kept_of}
 use Rattle.zre_link.specs.Heard.{heard_after, kept_of as kept_of_replies}
 use Rattle.zre_journal.specs.declared.config.Config.{Config}
@@ -19,7 +20,7 @@ use Rattle.zre_msg.specs.declared.message.Message.{Message}
 use Rattle.zre_journal.specs.Heard.{bytes, piece_of, was_opened}
 use Rattle.zre_journal.specs.Connections.{open_ones, is_open, is_ignored, was_used, runs, started, refuses, has_ended}
 use Rattle.zre_journal.specs.Held.{conn_kept, replies_kept, kept}
-use Rattle.zre_journal.specs.Peers.{Life, life, lives, births}
+use Rattle.zre_journal.specs.Peers.{Life, life, lives}
 use Rattle.zre_journal.specs.Links.{replies, reply_of, is_linked}
 use Rattle.zre_journal.specs.Happens.{at_input}
 use Rattle.zre_journal.specs.Proper.{IsProper, Apart}
@@ -32,11 +33,11 @@ use Rattle.zre_journal.proofs.Says.{outcome}
 -- ---- nothing has come
 
 no_octets : (own : PeerId) → kept_of (conn_after own []) ≡ 0
-unfolding cut
+unfolding cut stream.greeting_fault
 no_octets own = refl
 
 no_replies : kept_of_replies (heard_after []) ≡ 0
-unfolding cut
+unfolding cut stream.greeting_fault
 no_replies = refl
 
 -- ---- sums
@@ -145,28 +146,29 @@ module _ {A : Type 0} (key : A → ℕ) (f h : A → ℕ) (n : ℕ) (same : (x :
   -- one is there, and the others are as they were
   sum_but : (xs : List A) → Apart key xs → (x : A) → find (λ y. eqb n (key y)) xs ≡ Some x → sum_by f xs + h x ≡ sum_by h xs + f x
   sum_but [] apart x found = cc
-  sum_but (y ∷ ys) apart x found = by (eqb n (key y)) refl found
+  sum_but (y ∷ ys) apart x found = by (sum_but ys apart.1 x) (eqb n (key y)) refl found
     where
       far : key y ≡ n → (zs : List A) → AllByRecursion (λ z. eqb (key y) (key z) ≡ false) zs → AllByRecursion (λ z. eqb n (key z) ≡ false) zs
       far e zs a = subst (λ k. AllByRecursion (λ z. eqb k (key z) ≡ false) zs) e a
 
-      by : (b : Bool) → eqb n (key y) ≡ b → cond b (Some y) (find (λ z. eqb n (key z)) ys) ≡ Some x → sum_by f (y ∷ ys) + h x ≡ sum_by h (y ∷ ys) + f x
-      by true e z =
+      by : (find (λ z. eqb n (key z)) ys ≡ Some x → sum_by f ys + h x ≡ sum_by h ys + f x) → (b : Bool) → eqb n (key y) ≡ b → cond b (Some y) (find (λ z. eqb n (key z)) ys) ≡ Some x
+          → sum_by f (y ∷ ys) + h x ≡ sum_by h (y ∷ ys) + f x
+      by r true e z =
           let here : y ≡ x = cc in
           let others : sum_by f ys ≡ sum_by h ys = sum_same ys (far (sym (eqb-true n (key y) e)) ys apart.0) in
           let fx : f y ≡ f x = ap f here in
           let hx : h y ≡ h x = ap h here in
           omega (arith, others, fx, hx, sum_by-cons f y ys, sum_by-cons h y ys)
-      by false e z = omega (arith, same y e, sum_but ys apart.1 x z, sum_by-cons f y ys, sum_by-cons h y ys)
+      by r false e z = omega (arith, same y e, r z, sum_by-cons f y ys, sum_by-cons h y ys)
 
   -- none is there
   sum_none : (xs : List A) → find (λ y. eqb n (key y)) xs ≡ None → sum_by f xs ≡ sum_by h xs
   sum_none [] none = refl
-  sum_none (y ∷ ys) none = by (eqb n (key y)) refl none
+  sum_none (y ∷ ys) none = by (sum_none ys) (eqb n (key y)) refl none
     where
-      by : (b : Bool) → eqb n (key y) ≡ b → cond b (Some y) (find (λ z. eqb n (key z)) ys) ≡ None → sum_by f (y ∷ ys) ≡ sum_by h (y ∷ ys)
-      by true e z = cc
-      by false e z = omega (arith, same y e, sum_none ys z, sum_by-cons f y ys, sum_by-cons h y ys)
+      by : (find (λ z. eqb n (key z)) ys ≡ None → sum_by f ys ≡ sum_by h ys) → (b : Bool) → eqb n (key y) ≡ b → cond b (Some y) (find (λ z. eqb n (key z)) ys) ≡ None → sum_by f (y ∷ ys) ≡ sum_by h (y ∷ ys)
+      by r true e z = cc
+      by r false e z = omega (arith, same y e, r z, sum_by-cons f y ys, sum_by-cons h y ys)
 
 module _ (g : Config) (H : List Mark) (q : IsProper H) where
   -- an entry that is no piece leaves what connections keep, and one that is no reply what links keep
@@ -196,19 +198,19 @@ module _ (g : Config) (H : List Mark) (q : IsProper H) where
 
   found_self : (c : ℕ) (cs : List ℕ) → list_any (eqb c) cs ≡ true → find (λ d. eqb c d) cs ≡ Some c
   found_self c [] e = cc
-  found_self c (d ∷ ds) e = by (eqb c d) refl e
+  found_self c (d ∷ ds) e = by (found_self c ds) (eqb c d) refl e
     where
-      by : (b : Bool) → eqb c d ≡ b → (b || list_any (eqb c) ds) ≡ true → cond b (Some d) (find (λ x. eqb c x) ds) ≡ Some c
-      by true s z = ap (λ x. Some x) (sym (eqb-true c d s))
-      by false s z = found_self c ds z
+      by : (list_any (eqb c) ds ≡ true → find (λ x. eqb c x) ds ≡ Some c) → (b : Bool) → eqb c d ≡ b → (b || list_any (eqb c) ds) ≡ true → cond b (Some d) (find (λ x. eqb c x) ds) ≡ Some c
+      by r true s z = ap (λ x. Some x) (sym (eqb-true c d s))
+      by r false s z = r z
 
   none_self : (c : ℕ) (cs : List ℕ) → list_any (eqb c) cs ≡ false → find (λ d. eqb c d) cs ≡ None
   none_self c [] e = refl
-  none_self c (d ∷ ds) e = by (eqb c d) refl e
+  none_self c (d ∷ ds) e = by (none_self c ds) (eqb c d) e
     where
-      by : (b : Bool) → eqb c d ≡ b → (b || list_any (eqb c) ds) ≡ false → cond b (Some d) (find (λ x. eqb c x) ds) ≡ None
-      by true s z = cc
-      by false s z = none_self c ds z
+      by : (list_any (eqb c) ds ≡ false → find (λ x. eqb c x) ds ≡ None) → (b : Bool) → (b || list_any (eqb c) ds) ≡ false → cond b (Some d) (find (λ x. eqb c x) ds) ≡ None
+      by r true z = cc
+      by r false z = r z
 
   module _ (e : Entry) (n : ℕ) (o : List ℕ) (is : e.input ≡ input.Piece n o) where
     other_conn : (c : ℕ) → eqb n c ≡ false → conn_kept g (Comes e ∷ H) c ≡ conn_kept g H c
@@ -237,11 +239,11 @@ module _ (g : Config) (H : List Mark) (q : IsProper H) where
 
     one_of : (c : ℕ) (cs : List ℕ) → list_any (eqb c) cs ≡ true → conn_kept g H c ≤ sum_by (conn_kept g H) cs
     one_of c [] there = cc
-    one_of c (d ∷ ds) there = by (eqb c d) refl there
+    one_of c (d ∷ ds) there = by (one_of c ds) (eqb c d) refl there
       where
-        by : (b : Bool) → eqb c d ≡ b → (b || list_any (eqb c) ds) ≡ true → conn_kept g H c ≤ sum_by (conn_kept g H) (d ∷ ds)
-        by true s z = let here : conn_kept g H c ≡ conn_kept g H d = ap (conn_kept g H) (eqb-true c d s) in omega (arith, here, sum_by-cons (conn_kept g H) d ds)
-        by false s z = omega (arith, one_of c ds z, sum_by-cons (conn_kept g H) d ds)
+        by : (list_any (eqb c) ds ≡ true → conn_kept g H c ≤ sum_by (conn_kept g H) ds) → (b : Bool) → eqb c d ≡ b → (b || list_any (eqb c) ds) ≡ true → conn_kept g H c ≤ sum_by (conn_kept g H) (d ∷ ds)
+        by r true s z = let here : conn_kept g H c ≡ conn_kept g H d = ap (conn_kept g H) (eqb-true c d s) in omega (arith, here, sum_by-cons (conn_kept g H) d ds)
+        by r false s z = omega (arith, r z, sum_by-cons (conn_kept g H) d ds)
 
     pub piece_part : is_open n H ≡ true → conn_kept g H n ≤ kept g H
     piece_part there = omega (arith, one_of n (open_ones H) there)
@@ -274,11 +276,11 @@ module _ (g : Config) (H : List Mark) (q : IsProper H) where
 
     one_link : (v : Life) (vs : List Life) → find (λ (u : Life). eqb n u.link) vs ≡ Some v → replies_kept g H v ≤ sum_by (replies_kept g H) vs
     one_link v [] f = cc
-    one_link v (u ∷ us) f = by (eqb n u.link) f
+    one_link v (u ∷ us) f = by (one_link v us) (eqb n u.link) f
       where
-        by : (b : Bool) → cond b (Some u) (find (λ (w : Life). eqb n w.link) us) ≡ Some v → replies_kept g H v ≤ sum_by (replies_kept g H) (u ∷ us)
-        by true z = let same : u ≡ v = cc in let here : replies_kept g H u ≡ replies_kept g H v = ap (replies_kept g H) same in omega (arith, here, sum_by-cons (replies_kept g H) u us)
-        by false z = omega (arith, one_link v us z, sum_by-cons (replies_kept g H) u us)
+        by : (find (λ (w : Life). eqb n w.link) us ≡ Some v → replies_kept g H v ≤ sum_by (replies_kept g H) us) → (b : Bool) → cond b (Some u) (find (λ (w : Life). eqb n w.link) us) ≡ Some v → replies_kept g H v ≤ sum_by (replies_kept g H) (u ∷ us)
+        by r true z = let same : u ≡ v = cc in let here : replies_kept g H u ≡ replies_kept g H v = ap (replies_kept g H) same in omega (arith, here, sum_by-cons (replies_kept g H) u us)
+        by r false z = omega (arith, r z, sum_by-cons (replies_kept g H) u us)
 
     pub reply_part : (v : Life) → life n H ≡ Some v → replies_kept g H v ≤ kept g H
     reply_part v known = omega (arith, one_link v (lives H) known)

@@ -1,32 +1,30 @@
 -- A message that comes on a connection, its place in a ledger, and what comes of it.
-use Rattle.std.proofs.Common.{◌≡◌, ℕ, ◌<◌, Bool, true, false, cond, not, ◌&&◌, List, [], ◌∷◌, ◌++◌, length, Some, refl, sym, ap, ◌∙◌, subst, append_assoc, append-nil}
+use Rattle.std.proofs.Common.{◌≡◌, ℕ, ◌<◌, true, false, cond, not, List, [], ◌∷◌, ◌++◌, length, Some, refl, sym, ap, ◌∙◌, subst, append_assoc, append-nil}
 use Rattle.std.specs.Prelude.{slice_get}
 use Rattle.std.proofs.lemmas.Bool.{and_from}
 use Rattle.std.proofs.lemmas.List.Elements.{filter_map-append}
 use Rattle.std.specs.List.{AllByRecursion}
 use Rattle.zre_outside.specs.declared.entry.Entry.{Entry}
-use Rattle.zre_outside.specs.declared.entry.Input.TheVariants.{Piece}
 use Rattle.zre_mailbox.specs.declared.arrival.Arrival.TheVariants as arrival
 use Rattle.zre_mailbox.specs.Talk.{Said, Arrived, completed as completed_by, talk}
 use Rattle.zre_mailbox.proofs.Growing.{goes}
 use Rattle.zre_msg.specs.declared.message.Message.{Message}
-use Rattle.zre_peer.specs.Ledger.{IsPicked, IsNear, ArePicked}
+use Rattle.zre_peer.specs.Ledger.{IsPicked, ArePicked}
 use Rattle.zre_journal.specs.declared.config.Config.{Config}
 use Rattle.zre_journal.specs.Arrivals.{at_said, at_place, at_places, at_message}
-use Rattle.zre_journal.specs.Chronicle.{Mark, Comes, after, in_turn}
-use Rattle.zre_journal.specs.Connections.{is_open, is_ignored, is_live, runs, started}
+use Rattle.zre_journal.specs.Chronicle.{Mark, Comes, after}
+use Rattle.zre_journal.specs.Connections.{is_open, is_ignored, is_live, runs}
 use Rattle.zre_journal.specs.Events.{chronicle}
-use Rattle.zre_journal.specs.Happens.{has_stopped, at_input, marks, with_entry, chronicle_after}
+use Rattle.zre_journal.specs.Happens.{at_input, marks, with_entry, chronicle_after}
 use Rattle.zre_journal.specs.Heard.{bytes, was_opened, piece_of, newly_completed}
 use Rattle.zre_journal.specs.Hearing.{message_in, heard, heard_on}
-use Rattle.zre_journal.specs.Laws.{counted_on}
-use Rattle.zre_journal.specs.Ledger.{Ledger, IsDrawn, IsJudged, Arrives, IsPlaced}
+use Rattle.zre_journal.specs.Ledger.{Ledger, IsDrawn, Arrives, IsPlaced}
 use Rattle.zre_journal.specs.Peers.{runner, counted}
 use Rattle.zre_journal.specs.Proper.{IsProper}
 use Rattle.zre_journal.proofs.Always.{is_proper, after_marks}
 use Rattle.zre_journal.proofs.Brings.{all_brought}
 use Rattle.zre_journal.proofs.Brought.{Ground, allowed}
-use Rattle.zre_journal.proofs.Hearing.{introduced, spoken, Follows, places_follow}
+use Rattle.zre_journal.proofs.Hearing.{spoken, Follows, places_follow}
 use Rattle.zre_journal.proofs.Joined.{continues, after-append, in_turn-append}
 use Rattle.zre_journal.proofs.Lawful.{IsTold, told_more, told_of}
 use Rattle.zre_journal.proofs.Ledgers.{is_judged}
@@ -73,17 +71,17 @@ All-front P (x ∷ xs) ys a = (a.0, All-front P xs ys a.1)
 -- ---- at its place
 
 module _ (g : Config) (J : List Entry) (c : ℕ) (m : Message) (K : List Mark) (a : Arrives g J c m K) where
-  H : List Mark
+  abbrev H : List Mark
   H = chronicle g a.earlier
 
-  M : List Mark
+  abbrev M : List Mark
   M = Comes a.entry ∷ H
 
   q : IsProper M
   q = Comes-proper H (is_proper g a.earlier) a.entry
 
   -- all that its octets have said by then
-  before : List Said
+  abbrev before : List Said
   before = talk g.id (bytes c H)
 
   all : talk g.id (bytes c M) ≡ before ++ newly_completed g.id c H M
@@ -95,7 +93,7 @@ module _ (g : Config) (J : List Entry) (c : ℕ) (m : Message) (K : List Mark) (
   fine : AllByRecursion (MaySay g.id) a.said
   fine = All-front (MaySay g.id) a.said (Arrived (arrival.Message m) ∷ a.more) (subst (AllByRecursion (MaySay g.id)) a.completes (newly_fine g.id c H M))
 
-  hs : List Mark
+  abbrev hs : List Mark
   hs = at_places g c a.said M
 
   may : Allowed hs M
@@ -135,10 +133,10 @@ module _ (g : Config) (J : List Entry) (c : ℕ) (m : Message) (K : List Mark) (
     some = subst (λ ms. 0 < length ms) (sym (told.same c l is_run)) (told.begun c l (has_started K proper c l run).0)
 
     -- the entry's other marks come after its own
-    its_marks : List Mark
+    abbrev its_marks : List Mark
     its_marks = at_message g c (runs c K) m K
 
-    rest : List Mark
+    abbrev rest : List Mark
     rest = at_places g c a.more (after its_marks K)
 
     here : at_place g c (Arrived (arrival.Message m)) K ≡ its_marks
@@ -168,13 +166,14 @@ module _ (g : Config) (J : List Entry) (c : ℕ) (m : Message) (K : List Mark) (
         let k = marks_more (marks g a.entry H) M in
         let b = bytes_more c (e.0 ++ k.0) M in
         let octets : bytes c (chronicle g J) ≡ bytes c M ++ b.0 = ap (bytes c) (joined ∙ e.1 ∙ ap (λ X. e.0 ++ X) k.1 ∙ sym (append_assoc e.0 k.0 M)) ∙ b.1 in
-        let said = completed_by g.id (bytes c M) b.0 in
-        (heard a.more ++ heard said,
-        ap (λ o. heard (talk g.id o)) octets ∙ ap heard ((goes g.id (bytes c M) b.0).said) ∙ filter_map-append message_in (talk g.id (bytes c M)) said
-        ∙ ap (λ xs. heard xs ++ heard said) whole
-        ∙ ap (λ xs. xs ++ heard said) (filter_map-append message_in (before ++ a.said) (Arrived (arrival.Message m) ∷ a.more))
-        ∙ append_assoc (heard (before ++ a.said)) (m ∷ heard a.more) (heard said)
-        ∙ ap (λ xs. xs ++ m ∷ (heard a.more ++ heard said)) (sym counts))
+        let said = completed_by g.id (bytes c M) b.0 in (
+          heard a.more ++ heard said,
+          ap (λ o. heard (talk g.id o)) octets ∙ ap heard ((goes g.id (bytes c M) b.0).said) ∙ filter_map-append message_in (talk g.id (bytes c M)) said
+              ∙ ap (λ xs. heard xs ++ heard said) whole
+              ∙ ap (λ xs. xs ++ heard said) (filter_map-append message_in (before ++ a.said) (Arrived (arrival.Message m) ∷ a.more))
+              ∙ append_assoc (heard (before ++ a.said)) (m ∷ heard a.more) (heard said)
+              ∙ ap (λ xs. xs ++ m ∷ (heard a.more ++ heard said)) (sym counts),
+        )
 
     pub is_placed : (b : Ledger) → IsDrawn g b (chronicle g J) → IsPlaced g b J c l m K
     is_placed b drawn =
