@@ -115,7 +115,7 @@ pushed own line b body linked o n was queue sent written e whole count same q =
     let longer : sent ≡ length (bodies_in (line ++ Says body ∷ [])) = is ∙ sym (ap length (bodies-more line body) ∙ length-append (bodies_in line) (body ∷ [])) in (
       omega (arith, q.2, size, waits-of own line linked o n was e),
       queued own line (line ++ Says body ∷ []) (octets (next_message line body)) linked o n was queue sent written e whole (q.0 ∙ ap (λ (l : List ℕ). was.queue ++ l) message) (q.1 ∙ ap (λ x. was.written + x) size) longer
-      (text_more own line body),
+          (text_more own line body),
     )
 
 -- PONGs were queued

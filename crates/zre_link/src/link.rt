@@ -12,8 +12,8 @@ ghost use Rattle.zre_link.specs.Text.{Member, Says, bodies_in, text_of, size_of}
 ghost use Rattle.zre_link.specs.Heard.{reply_fault, heard_after, kept_of};
 ghost use Rattle.zre_link.specs.Link.{link_after, gate_at, has_front, front_of, taken_by, unsent_of, RefusesPush, slow_at, answering, link_answering, slow_in, RefusesReply};
 
-use crate::awaits::Awaits;
 use crate::answers::answer_all;
+use crate::awaits::Awaits;
 use crate::fault::{PushFault, ReplyFault};
 use crate::queue::Queue;
 use crate::replies::Replies;

@@ -89,12 +89,7 @@ impl Tables {
 
     // The clock goes on to the reading of an entry with a reply on a link, whose PINGs are answered: why the reply ends
     // its peer, if it does.
-    fn come_reply(
-        &mut self,
-        at: u64,
-        link: u64,
-        bytes: &[u8],
-    ) -> Result<Option<Cause>, OutOfMemory>
+    fn come_reply(&mut self, at: u64, link: u64, bytes: &[u8]) -> Result<Option<Cause>, OutOfMemory>
         ensures { (g : Config) (H : List Mark) (e : EntryValue) → e.at ≡ at → e.input ≡ given.Reply link bytes.now
             → Holds g H self.old → IfOk result (λ why. IsReplied g H e link why self.new) }
     {
