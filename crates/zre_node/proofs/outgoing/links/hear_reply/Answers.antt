@@ -1,4 +1,4 @@
-use Rattle.std.proofs.Common.{◌≡◌, refl, arith}
+use Rattle.std.proofs.Common.{◌≡◌, true, refl, arith}
 use Rattle.zre_node.proofs.outgoing.links.hear_reply.Goals as goal
 
 pub returns-in-Ok-clause-standing : goal.returns-in-Ok-clause-standing
