@@ -1,7 +1,7 @@
 -- How many looks an entry takes.
-use Rattle.std.proofs.Common.{nat_cmp, eqb, eq-eqb, ◌≡◌, ℕ, ◌+◌, ◌*◌, ◌≤◌, Bool, true, false, cond, List, [], ◌∷◌, ◌++◌, length, Option, Some, None, Result, Ok, Err, OnOk, OnErr, IfOk, refl, sym, ap, ◌∙◌, arith, subst, append-nil}
+use Rattle.std.proofs.Common.{nat_cmp, eqb, eq-eqb, ◌≡◌, ℕ, ◌+◌, ◌≤◌, Bool, true, false, cond, List, [], ◌∷◌, ◌++◌, length, Some, None, Result, Ok, Err, IsErrAnd, OnOk, IfOk, refl, sym, ap, ◌∙◌, arith, subst, append-nil}
+use Rattle.std.proofs.lemmas.Result.{err_from_is_err_and}
 use Rattle.zre_values.specs.declared.memory.OutOfMemory.{OutOfMemory}
-use Rattle.zre_values.specs.declared.peer_id.PeerId.{PeerId}
 use Rattle.zre_outside.specs.declared.entry.Entry.{Entry}
 use Rattle.zre_outside.specs.declared.entry.Input.{Input}
 use Rattle.zre_outside.specs.declared.entry.Input.TheVariants as input
@@ -10,13 +10,13 @@ use Rattle.zre_mailbox.specs.Conn.{conn_after, kept_of}
 use Rattle.zre_link.specs.Heard.{heard_after, kept_of as kept_of_replies}
 use Rattle.zre_journal.specs.declared.config.Config.{Config}
 use Rattle.zre_journal.specs.Chronicle.{Mark, Comes, after}
-use Rattle.zre_journal.specs.Heard.{bytes, was_opened, piece_of}
-use Rattle.zre_journal.specs.Connections.{is_open, is_ignored, open_ones}
+use Rattle.zre_journal.specs.Heard.{bytes}
+use Rattle.zre_journal.specs.Connections.{is_open, is_ignored}
 use Rattle.zre_journal.specs.Events.{chronicle}
 use Rattle.zre_journal.specs.Happens.{has_stopped, at_input, marks, with_entry}
 use Rattle.zre_journal.specs.Held.{conn_kept, replies_kept, kept}
 use Rattle.zre_journal.specs.Links.{line, is_linked, replies, taken}
-use Rattle.zre_journal.specs.Peers.{Life, life, lives}
+use Rattle.zre_journal.specs.Peers.{Life, life}
 use Rattle.zre_journal.specs.Proper.{IsProper}
 use Rattle.zre_journal.proofs.Kept.{Comes-proper}
 use Rattle.zre_journal.proofs.Joined.{continues}
@@ -57,8 +57,9 @@ module _ {A : Type 0} where
   less_looks (Ok x) looks looks' kept kept' most n less p = (omega (arith, less, p), tt)
   less_looks (Err e) looks looks' kept kept' most n less p = (tt, omega (arith, p))
 
-pub late_refusal : {looks looks' kept kept' n : ℕ} → IsPaid looks looks' kept kept' n → IsPaidOnRefusal looks looks' kept n
-late_refusal p = omega (arith, p)
+-- a refusal by `?`
+pub err_looks : (Q : OutOfMemory → Type 0) (r : Result (Unit {0}) OutOfMemory) → IsErrAnd r Q → (looks looks' kept kept' n : ℕ) → IsPaidOnRefusal looks looks' kept n → Looks looks looks' kept kept' n r
+err_looks Q r q looks looks' kept kept' n p = let e = err_from_is_err_and r q in subst (Looks looks looks' kept kept' n) (sym e.1) (tt, p)
 
 -- ---- an entry as a whole
 
@@ -72,6 +73,17 @@ entry_lowers g e H going q = subst (λ ks. kept g (after ks (Comes e ∷ H)) ≤
 pub quiet_lowers : (g : Config) (e : Entry) (H : List Mark) → is_quiet e.input ≡ true → has_stopped H ≡ false → IsProper H → kept g (with_entry g e H) ≤ kept g H
 quiet_lowers g e H quiet going q = omega (arith, entry_lowers g e H going q, quiet_keeps g H q e (λ c. quiet_piece c e.input quiet) (λ l. quiet_reply l e.input quiet))
 
+pub quiet_looks : {A : Type 0} (g : Config) (e : Entry) (H : List Mark) (t : Tables) → Holds g H t → (i : Input) → e.input ≡ i → is_quiet i ≡ true → (r : Result A OutOfMemory) (looks : ℕ)
+    → Looks looks looks (kept g H) (kept g (with_entry g e H)) (octets_of e.input) r
+quiet_looks g e H t h i is quiet r looks =
+    no_looks r looks (kept g H) (kept g (with_entry g e H)) (octets_of e.input) (quiet_lowers g e H (ap is_quiet is ∙ quiet) h.keeps.going h.keeps.proper)
+
+-- an entry that is neither a piece nor a reply
+pub quiet_other : (i : Input) → ((c : ℕ) (o : List ℕ) → i ≡ input.Piece c o → ⊥) → ((l : ℕ) (o : List ℕ) → i ≡ input.Reply l o → ⊥) → is_quiet i ≡ true
+quiet_other (input.Piece c o) p r = absurd (p c o refl)
+quiet_other (input.Reply l o) p r = absurd (r l o refl)
+quiet_other _ p r = refl
+
 -- after a stop nothing is kept
 pub rests_lowers : (g : Config) (e : Entry) (H : List Mark) (t : Tables) → Rests g H t → kept g (with_entry g e H) ≤ kept g H
 rests_lowers g e H t r =
@@ -80,9 +92,8 @@ rests_lowers g e H t r =
     subst (λ ks. kept g (after ks (Comes e ∷ H)) ≤ kept g H) (sym m) (omega (arith, none))
 
 -- the journal with the entry
-pub journal_lowers : {A : Type 0} (g : Config) (J : List Entry) (e : Entry) (r : Result A OutOfMemory) (looks looks' n : ℕ) → Looks looks looks' (kept g (chronicle g J)) (kept g (with_entry g e (chronicle g J))) n r
-    → Looks looks looks' (kept g (chronicle g J)) (kept g (chronicle g (J ++ e ∷ []))) n r
-journal_lowers g J e r looks looks' n p = subst (λ K. Looks looks looks' (kept g (chronicle g J)) (kept g K) n r) (sym (continues g J (e ∷ [])).happened) p
+pub kept_happened : (g : Config) (J : List Entry) (e : Entry) → kept g (with_entry g e (chronicle g J)) ≡ kept g (chronicle g (J ++ e ∷ []))
+kept_happened g J e = ap (kept g) (sym (continues g J (e ∷ [])).happened)
 
 -- ---- a piece
 
@@ -128,8 +139,8 @@ module _ (g : Config) (H : List Mark) (t : Tables) (h : Holds g H t) (e : Entry)
 -- ---- a reply
 
 module _ (g : Config) (H : List Mark) (t : Tables) (h : Holds g H t) (e : Entry) (l : ℕ) (o : List ℕ) (is : e.input ≡ input.Reply l o) where
-  pub unknown_looks : {A : Type 0} (r : Result A OutOfMemory) (looks : ℕ) → life l H ≡ None → Looks looks looks (kept g H) (kept g (Comes e ∷ H)) (length o) r
-  unknown_looks r looks none = no_looks r looks (kept g H) (kept g (Comes e ∷ H)) (length o) (omega (arith, reply_lost g H h.keeps.proper e l o is none))
+  pub unknown_looks : (A : Type 0) (r : Result A OutOfMemory) (looks : ℕ) → life l H ≡ None → Looks looks looks (kept g H) (kept g (Comes e ∷ H)) (length o) r
+  unknown_looks A r looks none = no_looks r looks (kept g H) (kept g (Comes e ∷ H)) (length o) (omega (arith, reply_lost g H h.keeps.proper e l o is none))
 
   module _ (k : Peer) (was : Some k ≡ lookup (is_at (nat_cmp l)) t.peers.entries) where
     pub replied_looks : {A : Type 0} (r : Result A OutOfMemory) (s : Sending) (looks looks' : ℕ) → Looks looks looks' (kept_of_replies k.link.replies) (kept_of_replies s.replies) (length o) r

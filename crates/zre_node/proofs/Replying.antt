@@ -8,7 +8,7 @@ use Rattle.zre_outside.specs.declared.entry.Entry.{Entry}
 use Rattle.zre_outside.specs.declared.entry.Input.TheVariants as input
 use Rattle.zre_peer.specs.declared.causes.Cause.{Cause}
 use Rattle.zre_link.specs.Heard.{reply_fault, pings, new_pings}
-use Rattle.zre_link.specs.Link.{Sending, link_after, link_answering, answered, slow_in, unsent_of}
+use Rattle.zre_link.specs.Link.{Sending, link_after, link_answering, answered, slow_in}
 use Rattle.zre_link.specs.Text.{Member, Pongs}
 use Rattle.zre_journal.specs.declared.config.Config.{Config}
 use Rattle.zre_journal.specs.Chronicle.{Mark, Comes, PutsPong, after}

@@ -1,5 +1,5 @@
 -- READY on a connection, and an older connection that gives way.
-use Rattle.std.proofs.Common.{◌≡◌, ℕ, Bool, true, false, cond, not, ◌&&◌, ◌||◌, eqb, List, [], ◌∷◌, ◌++◌, Option, Some, None, find, refl, sym, ◌∙◌, nat_cmp, subst, eq-eqb, eqb-true}
+use Rattle.std.proofs.Common.{◌≡◌, ℕ, Bool, true, false, cond, not, ◌&&◌, eqb, List, [], ◌∷◌, Option, Some, None, find, refl, sym, ◌∙◌, nat_cmp, subst, eq-eqb, eqb-true}
 use Rattle.std.specs.BTreeMap.{BTreeMap, is_at}
 use Rattle.std.specs.Map.{set_value}
 use Rattle.zre_values.specs.declared.peer_id.PeerId.{PeerId}

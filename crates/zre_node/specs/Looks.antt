@@ -1,5 +1,5 @@
 -- How many looks a step takes.
-use Rattle.std.specs.Prelude.{ℕ, List, length, Result, OnOk, OnErr}
+use Rattle.std.specs.Prelude.{ℕ, length, Result, OnOk, OnErr}
 use Rattle.zre_values.specs.declared.memory.OutOfMemory.{OutOfMemory}
 use Rattle.zre_outside.specs.declared.entry.Input.{Input}
 use Rattle.zre_outside.specs.declared.entry.Input.TheVariants as input

@@ -9,7 +9,7 @@ use Rattle.zre_node.proofs.Ending.{row_conn, no_conn, not_live}
 use Rattle.zre_node.proofs.tables.Tables.come_piece.Goals as goal
 
 pub returns-in-Some-clause-came : goal.returns-in-Some-clause-came
-returns-in-Some-clause-came c = λ g H e at_is is h.
+returns-in-Some-clause-came over c = λ g H e at_is is h.
     let t = c.args.self.now in
     let n = c.args.conn in
     let x = c.in-Some.found.now in
@@ -21,7 +21,7 @@ returns-in-Some-clause-came c = λ g H e at_is is h.
     (subst (λ (m : ℕ). Holds g (Comes e ∷ H) (record t { clock = m; conns = c.get_mut.follows.lender c.hear.new.found })) now both.0, both.1))
 
 pub returns-in-None-clause-came : goal.returns-in-None-clause-came
-returns-in-None-clause-came c = λ g H e at_is is h.
+returns-in-None-clause-came over c = λ g H e at_is is h.
     let t = c.args.self.now in
     let n = c.args.conn in
     let shut = no_conn g H t h.keeps n c.in-None.ensures.value in
@@ -32,7 +32,7 @@ returns-in-None-clause-came c = λ g H e at_is is h.
     )
 
 pub returns-in-Some-clause-looks : goal.returns-in-Some-clause-looks
-returns-in-Some-clause-looks c = λ g H e is h.
+returns-in-Some-clause-looks over c = λ g H e is h.
     let t = c.args.self.now in
     let n = c.args.conn in
     let x = c.in-Some.found.now in
@@ -41,6 +41,6 @@ returns-in-Some-clause-looks c = λ g H e is h.
     (λ q k. (on_map c.hear.result _ (λ heard b. b.0) (c.hear.ensures.live g.id q k), c.hear.ensures.looks g.id q k)) c.hear.ensures.no_looks
 
 pub returns-in-None-clause-looks : goal.returns-in-None-clause-looks
-returns-in-None-clause-looks c = λ g H e is h.
+returns-in-None-clause-looks over c = λ g H e is h.
     let shut = no_conn g H c.args.self.now h.keeps c.args.conn c.in-None.ensures.value in
     lost_looks g H c.args.self.now h e c.args.conn c.args.bytes.now is (Ok c.nothing.result) c.args.steps.now shut

@@ -1,5 +1,6 @@
-use Rattle.std.proofs.Common.{ℕ, max, Ok, None, ap, sym, ◌∙◌, subst}
+use Rattle.std.proofs.Common.{ℕ, max, Option, Ok, None, ap, sym, ◌∙◌, subst}
 use Rattle.std.specs.BTreeMap.{BTreeMap}
+use Rattle.zre_peer.specs.declared.causes.Cause.{Cause}
 use Rattle.zre_journal.specs.Links.{line, replies, taken}
 use Rattle.zre_node.specs.declared.peer.Peer.{Peer}
 use Rattle.zre_node.specs.Links.{IsReplied}
@@ -11,7 +12,7 @@ use Rattle.zre_node.proofs.Parting.{no_row}
 use Rattle.zre_node.proofs.tables.Tables.come_reply.Goals as goal
 
 pub returns-in-Some-clause-came : goal.returns-in-Some-clause-came
-returns-in-Some-clause-came c = λ g H e at_is is h.
+returns-in-Some-clause-came over c = λ g H e at_is is h.
     let t = c.args.self.now in
     let l = c.args.link in
     let k = c.in-Some.peer.now in
@@ -23,7 +24,7 @@ returns-in-Some-clause-came c = λ g H e at_is is h.
     subst (λ (m : ℕ). IsReplied g H e l why (record t { clock = m; peers = c.get_mut.follows.lender row })) now replied_now)
 
 pub returns-in-None-clause-came : goal.returns-in-None-clause-came
-returns-in-None-clause-came c = λ g H e at_is is h.
+returns-in-None-clause-came over c = λ g H e at_is is h.
     let t = c.args.self.now in
     let l = c.args.link in
     let none = not_replied g H t h e l c.args.bytes.now is (no_row (IsPeer g H) H t.peers.entries h.peers l c.in-None.ensures.value) in
@@ -32,7 +33,7 @@ returns-in-None-clause-came c = λ g H e at_is is h.
     subst (λ (P : BTreeMap ℕ Peer). IsReplied g H e l None (record t { clock = c.max-self.result; peers = P })) (sym c.get_mut.follows.holds-at-none) held
 
 pub returns-in-Some-clause-looks : goal.returns-in-Some-clause-looks
-returns-in-Some-clause-looks c = λ g H e is h.
+returns-in-Some-clause-looks over c = λ g H e is h.
     let l = c.args.link in
     let r = c.hear_reply.result in
     replied_looks g H c.args.self.now h e l c.args.bytes.now is c.in-Some.peer.now c.in-Some.ensures.value r c.hear_reply.new.link c.args.steps.now c.hear_reply.new.steps c.hear_reply.ensures.looks
@@ -40,5 +41,5 @@ returns-in-Some-clause-looks c = λ g H e is h.
     (λ q. on_map r _ (λ f b. b.0) (c.hear_reply.ensures.waiting q))
 
 pub returns-in-None-clause-looks : goal.returns-in-None-clause-looks
-returns-in-None-clause-looks c = λ g H e is h.
-    unknown_looks g H c.args.self.now h e c.args.link c.args.bytes.now is (Ok None) c.args.steps.now (no_row (IsPeer g H) H c.args.self.now.peers.entries h.peers c.args.link c.in-None.ensures.value)
+returns-in-None-clause-looks over c = λ g H e is h.
+    unknown_looks g H c.args.self.now h e c.args.link c.args.bytes.now is (Option Cause) (Ok None) c.args.steps.now (no_row (IsPeer g H) H c.args.self.now.peers.entries h.peers c.args.link c.in-None.ensures.value)

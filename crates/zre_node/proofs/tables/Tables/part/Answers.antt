@@ -12,7 +12,7 @@ returns c = λ g H p.
     let closes = λ (s : Effects). record s { acts = s.acts ++ close_link c.args.link c.args.cause } in
     elim c.match-peer.branch [
       | in-Some+in_ok-exit w ↦
-          let x = w.in-Some.running.now in
+          let x = w.in-Some.running in
           let told = w.in_ok-exit.ensures (counted c.args.link H) (entered g H c.args.link c.args.peer.now c.args.self.now p c.args.cause x w.in-Some.is).1 in
           let out = done ∙ ap closes w.out-is ∙ ap closes told in
           rw w.self-is (with_run g H c.args.link c.args.peer.now c.args.self.now p c.args.cause x w.in-Some.is w.ignore.new.conns w.ignore.ensures.found c.args.out.now c.close_link.new.self
