@@ -64,7 +64,7 @@ record Said (p : Place) (es : List Entry) : Type 0 where
 
 nothing_said : (p : Place) → 1 < p.line → Said p []
 unfolding entries_from bad_from end_from
-nothing_said p more = record { entries = refl; faultless = refl; whole = rw (ne_eqb p.line 1 (λ same. omega (arith, same, more))) refl }
+nothing_said p more = record { entries = refl; faultless = rw (le-ltb (longest p.format) 0 (omega arith)) refl; whole = rw (ne_eqb p.line 1 (λ same. omega (arith, same, more))) refl }
 
 one_said : (p : Place) (e : Entry) (es : List Entry) → 1 < p.line → IsNumber p.before → IsEntry e → length (text p.format p.before e) ≤ longest p.format → Said (next p (e ∷ [])) es → Said p (e ∷ es)
 one_said p e es more fits is short rest =
