@@ -1,15 +1,15 @@
 -- Readings of a clock by what they differ by from the one before, and numbers in bounds.
-use Rattle.std.proofs.Common.{subst, ◌≡◌, ℕ, ◌+◌, ◌-◌, ◌<◌, ◌≤◌, ◌^◌, ◌==◌, ◌&&◌, leb, ltb, Bool, true, false, cond, List, [], ◌∷◌, length, drop, Option, Some, None, inl, inr, refl, sym, ap, ◌∙◌, arith, get_or}
+use Rattle.std.proofs.Common.{subst, ◌≡◌, ℕ, ◌+◌, ◌-◌, ◌<◌, ◌≤◌, ◌^◌, ◌==◌, ◌&&◌, leb, ltb, true, false, List, [], ◌∷◌, length, drop, Option, Some, None, inl, inr, refl, sym, ap, ◌∙◌, arith, get_or}
 use Rattle.std.specs.Prelude.{decimal, SomeIff}
 use Rattle.std.specs.Str.Parse.{digits_value, AllDigits}
-use Rattle.std.proofs.lemmas.Bool.{and_parts, and_from, le-leb, leb-true, leb-false, lt-leb, eq-eqb, lt-ltb, ltb-true, ne_eqb, cases_Bool, eqb-true}
+use Rattle.std.proofs.lemmas.Bool.{and_parts, and_from, le-leb, leb-true, leb-false, lt-leb, eq-eqb, lt-ltb, ltb-true, ne_eqb, cases_Bool}
 use Rattle.std.proofs.lemmas.Fmt.{decimal_is_IsNumeral}
 use Rattle.std.proofs.lemmas.Option.{same_Some}
 use Rattle.std.proofs.lemmas.Str.Parse.{digit_from_value}
 use Rattle.zre_capture.specs.Lines.{difference}
 use Rattle.zre_capture.specs.Values.{number_of, number_within, differing, reading_after}
 use Rattle.zre_capture.proofs.Spelled.{found, spelled-one, none_spec, number_of-decimal, number_of-some}
-use Rattle.zre_capture.proofs.Visible.{visible, is_visible, decimal-visible}
+use Rattle.zre_capture.proofs.Visible.{visible, decimal-visible}
 
 -- ---- numbers in bounds
 

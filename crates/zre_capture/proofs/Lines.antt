@@ -1,8 +1,7 @@
 -- Lines, one after the other.
 use Rattle.std.proofs.Common.{subst, ◌≡◌, ℕ, ◌+◌, ◌-◌, ◌≤◌, ◌<◌, ◌==◌, ◌&&◌, not, Bool, true, false, cond, List, [], ◌∷◌, ◌++◌, length, take, Option, Some, None, inl, inr, refl, sym, ap, ◌∙◌, arith, append_assoc}
-use Rattle.std.specs.Prelude.{ltb, is_some, unwrap_or, codes, option_map}
+use Rattle.std.specs.Prelude.{ltb, is_some, unwrap_or}
 use Rattle.std.specs.Option.{option_map_or, option_or}
-use Rattle.std.specs.Str.{bytes_eq}
 use Rattle.std.proofs.Math.Seq.{take-append-add}
 use Rattle.std.proofs.lemmas.Bool.{lt-ltb, le-ltb, ne_eqb, eq-eqb, eqb-true, cases_Bool}
 use Rattle.std.proofs.lemmas.List.{append-nil}
@@ -11,7 +10,7 @@ use Rattle.std.proofs.lemmas.List.Splits.{length-slice_split}
 use Rattle.zre_outside.specs.declared.entry.Entry.{Entry}
 use Rattle.zre_capture.specs.Formats.{longest}
 use Rattle.zre_capture.specs.Parts.{Lacks}
-use Rattle.zre_capture.specs.Reading.{bad_field, but_last, fields_in, entry_of, settings_of, column, long_column, bad_column}
+use Rattle.zre_capture.specs.Reading.{bad_field, but_last, fields_in, settings_of, column, long_column, bad_column}
 use Rattle.zre_capture.specs.Journal.{settings_said, is_head, said, line_of, bad_line, next, told_after, lines_in, entries_from, bad_from, end_from, settings_in, start, settings, journal, bad, bad_at_end, Reading, format_of, after_line, Waits, settings_ahead, Reads, Adds, AddsFront, Refuses}
 use Rattle.zre_capture.specs.declared.fault.CaptureFault.{CaptureFault}
 use Rattle.zre_capture.specs.declared.fault.CaptureFault.TheVariants.{Bad, OutOfMemory}

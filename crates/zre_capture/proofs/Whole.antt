@@ -1,15 +1,14 @@
 -- Whole captures.
-use Rattle.std.proofs.Common.{◌≡◌, ℕ, ◌+◌, ◌≤◌, ◌<◌, ◌^◌, List, [], ◌∷◌, ◌++◌, length, Some, None, refl, ap, ◌∙◌, arith, All, append_assoc}
+use Rattle.std.proofs.Common.{◌≡◌, ℕ, ◌≤◌, ◌<◌, List, [], ◌∷◌, ◌++◌, length, Some, None, refl, ap, ◌∙◌, arith, All, append_assoc}
 use Rattle.std.specs.Prelude.{codes}
 use Rattle.std.proofs.lemmas.Bool.{le-ltb, ne_eqb}
 use Rattle.std.proofs.lemmas.List.Elements.{All-head, All-tail}
 use Rattle.zre_outside.specs.declared.entry.Entry.{Entry}
 use Rattle.zre_capture.specs.Formats.{longest}
 use Rattle.zre_capture.specs.Heads.{head_fields, head_text, head, AreSettings, IsShortHead}
-use Rattle.zre_capture.specs.Lines.{fields, text, line, lines, IsNumber, IsEntry, AreShort}
+use Rattle.zre_capture.specs.Lines.{fields, text, lines, IsNumber, IsEntry, AreShort}
 use Rattle.zre_capture.specs.Parts.{Lacks}
-use Rattle.zre_capture.specs.Reading.{settings_of}
-use Rattle.zre_capture.specs.Journal.{said, settings_said, line_of, lines_in, next, entries_from, bad_from, end_from, settings_in, start, settings, bad, capture, told_settings, IsCaptureOf}
+use Rattle.zre_capture.specs.Journal.{said, settings_said, line_of, lines_in, next, entries_from, bad_from, end_from, settings_in, start, bad, capture, told_settings, IsCaptureOf}
 use Rattle.zre_capture.specs.declared.format.Format.{Format}
 use Rattle.zre_capture.specs.declared.format.Format.TheVariants.{First, Second}
 use Rattle.zre_capture.specs.declared.place.Place.{Place}

@@ -1,4 +1,4 @@
-use Rattle.std.proofs.Common.{arith, Some, sym, ap, ◌∙◌}
+use Rattle.std.proofs.Common.{arith, sym, ap, ◌∙◌}
 use Rattle.zre_capture.specs.Values.{number_of, number_within}
 use Rattle.zre_capture.proofs.Spelled.{none_spec, number_of-decimal, number_of-some}
 use Rattle.zre_capture.proofs.Differences.{within-some, within-decimal, within-number}

@@ -1,6 +1,5 @@
-use Rattle.std.proofs.Common.{◌≡◌, ◌+◌, ◌*◌, ◌-◌, ◌==◌, ℕ, List, length, arith, true, Some, sym, ap, ◌∙◌}
-use Rattle.std.specs.Prelude.{is_some, option_map, codes}
-use Rattle.std.specs.List.{count_by}
+use Rattle.std.proofs.Common.{◌≡◌, ◌*◌, ◌-◌, ℕ, List, length, arith, Some, sym, ap, ◌∙◌}
+use Rattle.std.specs.Prelude.{option_map, codes}
 use Rattle.zre_capture.specs.Values.{group_of}
 use Rattle.zre_capture.proofs.Parts.{equal, unequal}
 use Rattle.zre_capture.proofs.Spelled.{value_there}

@@ -1,6 +1,6 @@
-use Rattle.std.proofs.Common.{◌≡◌, ◌-◌, ◌∷◌, arith, Some, sym, ap, ◌∙◌}
+use Rattle.std.proofs.Common.{◌≡◌, ◌-◌, ◌∷◌, arith, sym, ◌∙◌}
 use Rattle.std.proofs.lemmas.Option.{same_Some}
-use Rattle.zre_capture.specs.Values.{number_of, reading_after}
+use Rattle.zre_capture.specs.Values.{reading_after}
 use Rattle.zre_capture.proofs.Spelled.{none_spec}
 use Rattle.zre_capture.proofs.Differences.{less-some, less-number}
 use Rattle.zre_capture.proofs.value.reading_less.Goals as goal
