@@ -9,7 +9,8 @@
  *  JOIN, LEAVE, WHISPER, SHOUT, EXIT, STOP; and besides PINGOK ID name. Whatever a node must not do is a line BAD.
  *
  *  It keeps no deadlines: it forgets a peer by its last beacon, or by a new HELLO. It ends by itself after LIFE seconds, a minute
- *  unless it is compiled with another number; so is HIGH_WATER, how many messages libzmq holds on a connection (0: all).
+ *  unless it is compiled with another number; so is HIGH_WATER, how many messages libzmq holds on a connection (0: all), and
+ *  BEATS, the milliseconds between heartbeats of libzmq (0: none), for whose answer it waits three times as long.
  */
 #include <arpa/inet.h>
 #include <stdbool.h>
@@ -26,6 +27,9 @@
 #endif
 #ifndef HIGH_WATER
 #define HIGH_WATER 1000
+#endif
+#ifndef BEATS
+#define BEATS 0
 #endif
 
 enum { HELLO = 1, WHISPER, SHOUT, JOIN, LEAVE, PING, PING_OK };
@@ -67,6 +71,13 @@ static void put_quoted(const uint8_t *at, size_t len)
     for (size_t i = 0; i < len; i++)
         if (at[i] > 0x20 && at[i] < 0x7f && !strchr("%~=,", at[i])) putchar(at[i]);
         else printf("%%%02X", at[i]);
+}
+
+/* Heartbeats of libzmq on the connections of a socket, where there are any. */
+static int beat(void *socket)
+{
+    return BEATS && (zmq_setsockopt(socket, ZMQ_HEARTBEAT_IVL, &(int){ BEATS }, sizeof(int))
+        || zmq_setsockopt(socket, ZMQ_HEARTBEAT_TIMEOUT, &(int){ 3 * BEATS }, sizeof(int)));
 }
 
 /* The beginning of a line about a peer. */
@@ -216,7 +227,7 @@ static struct peer *meet(const uint8_t *id, const char *at)
     p->link = zmq_socket(context, ZMQ_DEALER);
     if (!p->link || zmq_setsockopt(p->link, ZMQ_ROUTING_ID, identity, 17)
         || zmq_setsockopt(p->link, ZMQ_SNDHWM, &(int){ HIGH_WATER }, sizeof(int))
-        || zmq_setsockopt(p->link, ZMQ_LINGER, &(int){ 0 }, sizeof(int)) || zmq_connect(p->link, at)) give_up(at);
+        || zmq_setsockopt(p->link, ZMQ_LINGER, &(int){ 0 }, sizeof(int)) || beat(p->link) || zmq_connect(p->link, at)) give_up(at);
     send_hello(p);
     return p;
 }
@@ -451,7 +462,7 @@ int main(int count, char **words)
     alarm(LIFE);
     context = zmq_ctx_new();
     mailbox = zmq_socket(context, ZMQ_ROUTER);
-    if (!mailbox || zmq_setsockopt(mailbox, ZMQ_ROUTER_HANDOVER, &(int){ 1 }, sizeof(int))
+    if (!mailbox || beat(mailbox) || zmq_setsockopt(mailbox, ZMQ_ROUTER_HANDOVER, &(int){ 1 }, sizeof(int))
         || zmq_setsockopt(mailbox, ZMQ_RCVHWM, &(int){ HIGH_WATER }, sizeof(int))
         || zmq_bind(mailbox, endpoint)) give_up(endpoint);
     open_udp();

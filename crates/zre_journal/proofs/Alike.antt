@@ -20,7 +20,7 @@ use Rattle.zre_journal.specs.Config.{own_endpoint}
 use Rattle.zre_journal.specs.Connections.{open_ones, is_open, identity, identity_at, started, start_at, ends, has_ended, runs, refuses, was_used, is_ignored, is_live, other_with, is_same, others}
 use Rattle.zre_journal.specs.Cutting.{is_entry, but_entries}
 use Rattle.zre_journal.specs.Peers.{Life, lives, other_lives, life_of, life, runner, runner_at, births, counted, message_at, view}
-use Rattle.zre_journal.specs.Links.{groups, status, bodies, put_on, taken, unsent}
+use Rattle.zre_journal.specs.Links.{groups, status, line, put_on, taken, unsent}
 use Rattle.zre_journal.specs.Pushes.{hello, push, birth}
 use Rattle.zre_journal.specs.Told.{told, told_at, by_message, exit, becoming_evasive}
 use Rattle.zre_values.specs.Lists.{without}
@@ -139,8 +139,8 @@ module _ (K L : List Mark) (r : AreAlike K L) where
   same_counted : (l : ℕ) → counted l K ≡ counted l L
   same_counted l = through (counted l) (each_but (message_at l) (λ e. refl)) K L r
 
-  same_bodies : (l : ℕ) → bodies l K ≡ bodies l L
-  same_bodies l = through (bodies l) (each_but (put_on l) (λ e. refl)) K L r
+  same_line : (l : ℕ) → line l K ≡ line l L
+  same_line l = through (line l) (each_but (put_on l) (λ e. refl)) K L r
 
   same_runner : (l : ℕ) → runner l K ≡ runner l L
   same_runner l = through (runner l) (latest_but (runner_at l) (λ e. refl)) K L r
@@ -151,11 +151,11 @@ module _ (K L : List Mark) (r : AreAlike K L) where
 
   module _ (g : Config) where
     same_unsent : (l : ℕ) → unsent g l K ≡ unsent g l L
-    same_unsent l = ap (λ bs. length (text_of g.id bs) - taken l K) (same_bodies l) ∙ ap (λ n. length (text_of g.id (bodies l L)) - n) (through (taken l) (taken_but l) K L r)
+    same_unsent l = ap (λ bs. length (text_of g.id bs) - taken l K) (same_line l) ∙ ap (λ n. length (text_of g.id (line l L)) - n) (through (taken l) (taken_but l) K L r)
 
     same_push : (l : ℕ) (b : Body) → push g l b K ≡ push g l b L
-    same_push l b = ap (λ bs. cond (ltb UNSENT_OCTETS (unsent g l K + size_of bs b)) (Ends l (cause.Slow (unsent g l K) (size_of bs b)) ∷ []) (Puts l b ∷ [])) (same_bodies l)
-        ∙ ap (λ n. cond (ltb UNSENT_OCTETS (n + size_of (bodies l L) b)) (Ends l (cause.Slow n (size_of (bodies l L) b)) ∷ []) (Puts l b ∷ [])) (same_unsent l)
+    same_push l b = ap (λ bs. cond (ltb UNSENT_OCTETS (unsent g l K + size_of bs b)) (Ends l (cause.Slow (unsent g l K) (size_of bs b)) ∷ []) (Puts l b ∷ [])) (same_line l)
+        ∙ ap (λ n. cond (ltb UNSENT_OCTETS (n + size_of (line l L) b)) (Ends l (cause.Slow n (size_of (line l L) b)) ∷ []) (Puts l b ∷ [])) (same_unsent l)
 
     same_birth : (p : PeerId) (to : Endpoint) → birth g p to K ≡ birth g p to L
     same_birth p to = ap (λ n. Born (n + 1) p to ∷ Puts (n + 1) (hello g K) ∷ []) same_births
@@ -203,6 +203,7 @@ module _ (K L : List Mark) (r : AreAlike K L) where
     same_said : (c : ℕ) (x : Said) → at_said g c x K ≡ at_said g c x L
     same_said c (Arrived arrival.Greeted) = refl
     same_said c (Arrived (arrival.Shaken p)) = ap (λ i. at_shaken g c p i K) (same_identity c) ∙ same_shaken c p (identity c L)
+    same_said c (Arrived (arrival.Ping t)) = refl
     same_said c (Arrived (arrival.Message m)) = ap (λ o. at_message g c o m K) (same_runs c) ∙ same_message c m (runs c L)
     same_said c (Fault f) = ap (λ o. end_of_run g o cause.Fault ++ Closes c (close.Zmtp f) ∷ []) (same_runs c)
 

@@ -12,7 +12,7 @@ use Rattle.zre_journal.proofs.Says.{input_allowed}
 
 pub empty : IsProper []
 empty = record {
-  living = record { numbered = tt; apart = tt; living = tt; fresh = λ l h. record { no_end = refl; no_run = refl; no_body = refl; not_linked = refl; no_reply = refl; none_taken = refl } };
+  living = record { numbered = tt; apart = tt; living = tt; fresh = λ l h. record { no_end = refl; no_run = refl; no_member = refl; not_linked = refl; no_reply = refl; none_taken = refl } };
   opening = record {
     open_apart = tt;
     open_old = λ c n. tt;
@@ -38,7 +38,7 @@ module _ (g : Config) where
 
   -- what each mark keeps that may come
   module _ (P : List Mark → Type 0) (keeps : (h : Mark) (H : List Mark) → IsProper H → May h H → P H → P (h ∷ H)) where
-    after_marks : (hs H : List Mark) → Allowed hs H → IsProper H → P H → IsProper (after hs H) × P (after hs H)
+    pub after_marks : (hs H : List Mark) → Allowed hs H → IsProper H → P H → IsProper (after hs H) × P (after hs H)
     after_marks [] H a p x = (p, x)
     after_marks (h ∷ hs) H a p x = after_marks hs (h ∷ H) a.1 (step h H p a.0) (keeps h H p a.0 x)
 

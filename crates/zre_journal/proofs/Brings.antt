@@ -6,28 +6,28 @@ use Rattle.std.specs.Str.{bytes_eq}
 use Rattle.zre_values.specs.declared.peer_id.PeerId.{PeerId}
 use Rattle.zre_values.specs.declared.limits.TheConstants.{PEERS, CONNECTIONS, UNSENT_OCTETS, OWN_GROUPS, GROUP_OCTETS}
 use Rattle.zre_values.specs.declared.endpoint.Endpoint.{Endpoint}
-use Rattle.zre_zmtp.specs.declared.fault.ZmtpFault.{ZmtpFault}
 use Rattle.zre_outside.specs.declared.entry.Command.{Command}
 use Rattle.zre_peer.specs.declared.causes.Cause.{Cause}
 use Rattle.zre_msg.specs.declared.message.Body.{Body}
-use Rattle.zre_link.specs.Text.{size_of}
+use Rattle.zre_zmtp.specs.Written.{pong_frame}
+use Rattle.zre_link.specs.Text.{Member, Pongs, text_of, size_of}
 use Rattle.zre_link.specs.Heard.{reply_fault}
 use Rattle.zre_journal.specs.declared.config.Config.{Config}
-use Rattle.zre_journal.specs.Chronicle.{Mark, Opens, TurnsAway, Closes, IsShut, ClosesAtStop, HearsBeacon, Ends, IsEvasive, Puts, Links, Joins, Leaves, Refuses, SendsBeacon, Stops, after, Starts, Sends, followed}
+use Rattle.zre_journal.specs.Chronicle.{Mark, Opens, TurnsAway, Closes, IsShut, ClosesAtStop, HearsBeacon, Ends, IsEvasive, Puts, PutsPong, Links, Joins, Leaves, Refuses, SendsBeacon, Stops, after, Starts, Sends, followed}
 use Rattle.zre_journal.specs.Connections.{open_ones, is_open, is_new, runs}
 use Rattle.zre_journal.specs.Peers.{Life, lives, life, life_of, is_entered, births}
-use Rattle.zre_journal.specs.Links.{bodies, unsent, is_linked, replies, groups, status, put_on, taken, gate}
+use Rattle.zre_journal.specs.Links.{line, unsent, is_linked, replies, newly_pinged, groups, status, put_on, taken, gate}
 use Rattle.zre_journal.specs.Proper.{IsProper, Apart}
 use Rattle.zre_journal.specs.Pushes.{push, push_all, birth, hello}
 use Rattle.zre_journal.specs.Arrivals.{end_of_run, at_opened, at_shut}
 use Rattle.zre_journal.specs.Happens.{is_welcome, at_beacon, at_datagram}
-use Rattle.zre_journal.specs.LinkEntries.{at_linked, fault_of_reply, at_reply, at_unlinked, at_took}
+use Rattle.zre_journal.specs.LinkEntries.{at_linked, cause_by_reply, end_by, at_reply, at_unlinked, at_took}
 use Rattle.zre_journal.specs.Ticks.{probe, is_stale, at_tick}
 use Rattle.zre_journal.specs.Commands.{has_group, at_join, at_leave, is_too_big, at_whisper, is_member, at_shout, at_stop, at_command}
 use Rattle.zre_outside.specs.declared.entry.Input.{Input}
 use Rattle.zre_msg.specs.declared.message.Message.{Message}
 use Rattle.zre_peer.specs.declared.causes.CloseWhy.{CloseWhy}
-use Rattle.zre_link.specs.Link.{unsent_of}
+use Rattle.zre_link.specs.Link.{unsent_of, answered, slow_at}
 use Rattle.zre_journal.specs.Endings.{is_end}
 use Rattle.zre_outside.specs.declared.entry.Command.TheVariants as command
 use Rattle.zre_peer.specs.declared.causes.Cause.TheVariants as cause
@@ -39,7 +39,7 @@ use Rattle.zre_journal.proofs.Listed.{All-kept, Apart-kept, each_there, left_the
 use Rattle.zre_journal.proofs.Known.{known_of, AreKnown, each_known, newborn_known, still_known, end_all, ends_keep, ends_open}
 use Rattle.zre_journal.proofs.Idle.{AreNoStarts, none_and_none, ends_start_none, all_idle, not_true, idle_then}
 use Rattle.zre_journal.proofs.Introduction.{introduces}
-use Rattle.zre_journal.proofs.Room.{can_introduce}
+use Rattle.zre_journal.proofs.Room.{can_introduce, pong_more}
 use Rattle.zre_journal.proofs.Joined.{after-append}
 use Rattle.zre_journal.proofs.Kept.{run_known}
 use Rattle.zre_journal.proofs.Steps.{Each, both, choice}
@@ -53,7 +53,7 @@ use Rattle.zre_peer.specs.declared.causes.RefuseWhy.{RefuseWhy}
 
 -- the same was put on each link, and has gone out
 pub record AreSame (I H : List Mark) : Type 0 where
-  pub put : (l : ℕ) → bodies l H ≡ bodies l I
+  pub put : (l : ℕ) → line l H ≡ line l I
   pub gone : (l : ℕ) → taken l H ≡ taken l I
 
 pub same : (K : List Mark) → AreSame K K
@@ -68,12 +68,17 @@ same_after [] I H s = s
 same_after (h ∷ hs) I H s = same_after hs (h ∷ I) (h ∷ H) (record { put = λ l. ap (λ bs. followed bs (put_on l h)) (s.put l); gone = λ l. gone_more h I H l (s.gone l) })
 
 -- a body has room where the same was put and has gone out as where it has
-at_link : (own : PeerId) (as_ bs : List Body) (i n : ℕ) (b : Body) → bs ≡ as_ → n ≡ i → unsent_of own as_ i + size_of as_ b ≤ UNSENT_OCTETS → unsent_of own bs n + size_of bs b ≤ UNSENT_OCTETS
-at_link own as_ bs i n b e f h = subst (λ (xs : List Body). unsent_of own xs n + size_of xs b ≤ UNSENT_OCTETS) (sym e) (subst (λ k. unsent_of own as_ k + size_of as_ b ≤ UNSENT_OCTETS) (sym f) h)
+at_link : (own : PeerId) (as_ bs : List Member) (i n : ℕ) (b : Body) → bs ≡ as_ → n ≡ i → unsent_of own as_ i + size_of as_ b ≤ UNSENT_OCTETS → unsent_of own bs n + size_of bs b ≤ UNSENT_OCTETS
+at_link own as_ bs i n b e f h = subst (λ (xs : List Member). unsent_of own xs n + size_of xs b ≤ UNSENT_OCTETS) (sym e) (subst (λ k. unsent_of own as_ k + size_of as_ b ≤ UNSENT_OCTETS) (sym f) h)
 
 -- what comes of a push
 pub pushed : (g : Config) (Q : List Mark → Type 0) (l : ℕ) (b : Body) (I H : List Mark) → ((why : Cause) → Q (Ends l why ∷ H)) → Q (Puts l b ∷ H) → Q (after (push g l b I) H)
-pushed g Q l b I H f p = choice (λ hs. Q (after hs H)) (ltb UNSENT_OCTETS (unsent g l I + size_of (bodies l I) b)) _ _ (λ e. f (cause.Slow (unsent g l I) (size_of (bodies l I) b))) (λ e. p)
+pushed g Q l b I H f p = choice (λ hs. Q (after hs H)) (ltb UNSENT_OCTETS (unsent g l I + size_of (line l I) b)) _ _ (λ e. f (cause.Slow (unsent g l I) (size_of (line l I) b))) (λ e. p)
+
+-- PONGs leave the lives
+pub pongs_life : (k l : ℕ) (ts : List (List ℕ)) (H : List Mark) → life k (after (map (λ c. PutsPong l c) ts) H) ≡ life k H
+pongs_life k l [] H = refl
+pongs_life k l (c ∷ ts) H = pongs_life k l ts (PutsPong l c ∷ H)
 
 -- ---- marks of one kind
 
@@ -83,8 +88,25 @@ module _ (g : Config) (w : Ground) (t : Bool) where
 
   -- a push that was found at I, where links are as they were
   pub push_brought : (l : ℕ) (b : Body) (I H : List Mark) → (t ≡ false → IsMild b) → AreSame I H → IsSome (life l H) → Each B (push g l b I) H
-  push_brought l b I H m s k = choice (λ hs. Each B hs H) (ltb UNSENT_OCTETS (unsent g l I + size_of (bodies l I) b)) _ _ (λ e. ((k, tt), tt))
-      (λ e. ((k, (m, λ can r. at_link g.id (bodies l I) (bodies l H) (taken l I) (taken l H) b (s.put l) (s.gone l) (ltb-false _ _ e))), tt))
+  push_brought l b I H m s k = choice (λ hs. Each B hs H) (ltb UNSENT_OCTETS (unsent g l I + size_of (line l I) b)) _ _ (λ e. ((k, tt), tt))
+      (λ e. ((k, (m, λ can r. at_link g.id (line l I) (line l H) (taken l I) (taken l H) b (s.put l) (s.gone l) (ltb-false _ _ e))), tt))
+
+  -- PONGs that have room after no less than is unsent
+  pub pongs_brought : (l : ℕ) (ts : List (List ℕ)) (n : ℕ) (H : List Mark) → unsent g l H ≤ n → IsSome (life l H) → Each B (map (λ c. PutsPong l c) (answered n ts)) H
+  pongs_brought l [] n H u k = tt
+  pongs_brought l (c ∷ ts) n H u k = by (ltb UNSENT_OCTETS (n + length (pong_frame c))) refl (λ w. pongs_brought l ts (n + length (pong_frame c)) (PutsPong l c ∷ H) w k)
+    where
+      later : List (List ℕ)
+      later = answered (n + length (pong_frame c)) ts
+
+      more : (b : Bool) → length (text_of g.id (followed (line l H) (cond b (Some (Pongs c)) None))) - taken l H ≤ n + length (pong_frame c)
+      more true = let p = pong_more g (line l H) c (taken l H) in omega (arith, p, u)
+      more false = omega (arith, u)
+
+      by : (b : Bool) → ltb UNSENT_OCTETS (n + length (pong_frame c)) ≡ b → (unsent g l (PutsPong l c ∷ H) ≤ n + length (pong_frame c) → Each B (map (λ x. PutsPong l x) later) (PutsPong l c ∷ H))
+          → Each B (map (λ x. PutsPong l x) (cond b [] (c ∷ later))) H
+      by true e r = tt
+      by false e r = let fits : n + length (pong_frame c) ≤ UNSENT_OCTETS = ltb-false _ _ e in ((k, λ can room. omega (arith, u, fits)), r (more (eqb l l)))
 
   push_keeps : (l : ℕ) (b : Body) (I H : List Mark) (vs : List Life) → AllByRecursion (λ (v : Life). eqb l v.link ≡ false) vs → AreKnown H vs → AreKnown (after (push g l b I) H) vs
   push_keeps l b I H vs far k = pushed g (λ J. AreKnown J vs) l b I H (λ why. still_known H l why vs far k) k
@@ -145,7 +167,7 @@ module _ (g : Config) (w : Ground) (t : Bool) (K : List Mark) (q : IsProper K) w
   probes_start_none (v ∷ vs) I = (
     λ c. refl,
     none_and_none (push g v.link body.Ping I) (probe g vs (after (push g v.link body.Ping I) (IsEvasive v.link ∷ I)))
-        (choice AreNoStarts (ltb UNSENT_OCTETS (unsent g v.link I + size_of (bodies v.link I) body.Ping)) _ _ (λ e. (λ c. refl, tt)) (λ e. (λ c. refl, tt)))
+        (choice AreNoStarts (ltb UNSENT_OCTETS (unsent g v.link I + size_of (line v.link I) body.Ping)) _ _ (λ e. (λ c. refl, tt)) (λ e. (λ c. refl, tt)))
         (probes_start_none vs (after (push g v.link body.Ping I) (IsEvasive v.link ∷ I))),
   )
 
@@ -238,7 +260,7 @@ module _ (g : Config) (w : Ground) (K : List Mark) (q : IsProper K) where
             rw (newborn_known K q p e) refl,
             (
               λ z. absurd (true≢false z),
-              λ can r. at_link g.id [] (bodies (births K + 1) K) 0 (taken (births K + 1) K) (hello g K) new.no_body new.none_taken
+              λ can r. at_link g.id [] (line (births K + 1) K) 0 (taken (births K + 1) K) (hello g K) new.no_member new.none_taken
                   (introduces g K (can_introduce g can K (record { unsent_fits = r.unsent_fits; views_fit = r.views_fit; groups_fit = r.groups_fit; few_groups = r.few_groups }))).has_room,
             ),
           ),
@@ -271,13 +293,27 @@ module _ (g : Config) (w : Ground) (K : List Mark) (q : IsProper K) where
   linked_outcome l None e = nothing
   linked_outcome l (Some v) e = choice O (is_linked l K) _ _ (λ z. nothing) (λ z. one (Links l) (λ t. (rw e refl, z)))
 
-  pub reply_outcome : (l : ℕ) (o : Option Life) → life l K ≡ o → O (at_reply g l o K)
-  reply_outcome l None e = nothing
-  reply_outcome l (Some v) e = choice O (is_linked l K) _ _ (λ z. fault (reply_fault (replies l K))) (λ z. nothing)
+  pub reply_outcome : (l : ℕ) (H : List Mark) (o : Option Life) → life l K ≡ o → O (at_reply g l o H K)
+  reply_outcome l H None e = nothing
+  reply_outcome l H (Some v) e = choice O (is_linked l K) _ _
+      (λ z. plainly (λ t. both (Brought g w t) pongs _ K (pongs_brought g w t l contexts (unsent g l K) K (omega arith) known) (end t (cause_by_reply (slow_at (unsent g l K) contexts) (reply_fault (replies l K))))))
+      (λ z. nothing)
     where
-      fault : (f : Option ZmtpFault) → O (fault_of_reply g l f)
-      fault None = nothing
-      fault (Some f) = one (Ends l (cause.Reply f)) (λ t. (rw e refl, tt))
+      contexts : List (List ℕ)
+      contexts = newly_pinged l H K
+
+      pongs : List Mark
+      pongs = map (λ c. PutsPong l c) (answered (unsent g l K) contexts)
+
+      known : IsSome (life l K)
+      known = rw e refl
+
+      still : IsSome (life l (after pongs K))
+      still = subst IsSome (sym (pongs_life l l (answered (unsent g l K) contexts) K)) known
+
+      end : (t : Bool) (why : Option Cause) → Each (Brought g w t) (end_by g l why) (after pongs K)
+      end t None = tt
+      end t (Some why) = ((still, tt), tt)
 
   pub unlinked_outcome : (l : ℕ) (o : Option Life) → life l K ≡ o → O (at_unlinked g l o)
   unlinked_outcome l None e = nothing

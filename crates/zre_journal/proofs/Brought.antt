@@ -4,7 +4,7 @@ use Rattle.std.specs.List.{AllByRecursion}
 use Rattle.zre_msg.specs.declared.message.Body.{Body}
 use Rattle.zre_peer.specs.Runs.{is_hello}
 use Rattle.zre_journal.specs.declared.config.Config.{Config}
-use Rattle.zre_journal.specs.Chronicle.{Mark, Comes, Opens, TurnsAway, Shakes, Starts, Counts, Closes, IsShut, ClosesAtStop, Born, Puts, Links, Joins, Leaves, Stops, ever}
+use Rattle.zre_journal.specs.Chronicle.{Mark, Comes, Opens, TurnsAway, Shakes, Starts, Counts, Closes, IsShut, ClosesAtStop, Born, Puts, PutsPong, Links, Joins, Leaves, Stops, ever}
 use Rattle.zre_journal.specs.Connections.{is_open, is_new, refuses}
 use Rattle.zre_journal.specs.Links.{is_linked}
 use Rattle.zre_journal.specs.Proper.{IsProper}
@@ -58,6 +58,7 @@ module _ (g : Config) (w : Ground) (tells : Bool) where
   Also (ClosesAtStop c) H = is_open c H ≡ true
   Also (Born l p e) H = (tells ≡ true) × (AreOthers g H → IsOther g p)
   Also (Puts l b) H = (tells ≡ false → IsMild b) × (CanBe g → HasRoom g H → Fits g (Puts l b) H)
+  Also (PutsPong l t) H = CanBe g → HasRoom g H → Fits g (PutsPong l t) H
   Also (Links l) H = is_linked l H ≡ false
   Also (Joins group) H = (tells ≡ true) × Fits g (Joins group) H
   Also (Leaves group) H = tells ≡ true
@@ -92,6 +93,7 @@ module _ (g : Config) (w : Ground) (tells : Bool) where
   fits_of on can (Comes e) H r a = a
   fits_of on can (Starts c l m) H r a = (a.1, a.2)
   fits_of on can (Puts l b) H r a = a.1 can r
+  fits_of on can (PutsPong l t) H r a = a can r
   fits_of on can (Joins group) H r a = a.1
   fits_of on can Stops H r a = absurd (true≢false (sym a ∙ on))
   fits_of on can _ H r a = tt

@@ -16,12 +16,13 @@ use Rattle.zre_peer.specs.declared.causes.CloseWhy.TheVariants as close
 use Rattle.zre_journal.specs.declared.config.Config.{Config}
 use Rattle.zre_journal.specs.Chronicle.{Mark, Comes, Closes, Ends, IsEvasive, Puts, SendsBeacon, after}
 use Rattle.zre_journal.specs.Cleaning.{IsClean}
-use Rattle.zre_journal.specs.Config.{is_fitting, is_valid, are_apart}
+use Rattle.zre_journal.specs.Config.{is_valid}
+use Rattle.zre_values.specs.Settings.{is_fitting, are_apart}
 use Rattle.zre_journal.specs.Connections.{open_ones, started, has_ended, runs, since}
 use Rattle.zre_journal.specs.Events.{chronicle}
 use Rattle.zre_journal.specs.Happens.{has_stopped, at_input}
 use Rattle.zre_journal.specs.Heard.{clock}
-use Rattle.zre_journal.specs.Links.{bodies, unsent}
+use Rattle.zre_journal.specs.Links.{line, unsent}
 use Rattle.zre_journal.specs.Peers.{Life, lives, active}
 use Rattle.zre_journal.specs.Pushes.{push}
 use Rattle.zre_journal.specs.Ticks.{is_silent, is_evasive, probe, is_stale, at_tick}
@@ -45,9 +46,9 @@ AreCalm hs = AllByRecursion Calm hs
 
 module _ (g : Config) where
   push_calm : (l : ℕ) (b : Body) (I : List Mark) → AreCalm (push g l b I)
-  push_calm l b I = by (ltb UNSENT_OCTETS (unsent g l I + size_of (bodies l I) b))
+  push_calm l b I = by (ltb UNSENT_OCTETS (unsent g l I + size_of (line l I) b))
     where
-      by : (t : Bool) → AreCalm (cond t (Ends l (cause.Slow (unsent g l I) (size_of (bodies l I) b)) ∷ []) (Puts l b ∷ []))
+      by : (t : Bool) → AreCalm (cond t (Ends l (cause.Slow (unsent g l I) (size_of (line l I) b)) ∷ []) (Puts l b ∷ []))
       by true = (tt, tt)
       by false = (tt, tt)
 

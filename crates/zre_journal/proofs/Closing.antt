@@ -13,7 +13,7 @@ use Rattle.zre_outside.specs.declared.entry.Entry.{Entry}
 use Rattle.zre_peer.specs.declared.causes.Cause.{Cause}
 use Rattle.zre_peer.specs.declared.causes.Cause.TheVariants as cause
 use Rattle.zre_journal.specs.declared.config.Config.{Config}
-use Rattle.zre_journal.specs.Chronicle.{Mark, Comes, Opens, TurnsAway, Greets, Closes, IsShut, ClosesAtStop, Born, Ends, SendsBeacon, Stops}
+use Rattle.zre_journal.specs.Chronicle.{Mark, Comes, Opens, TurnsAway, Greets, AnswersPing, Closes, IsShut, ClosesAtStop, Born, Ends, SendsBeacon, Stops}
 use Rattle.zre_journal.specs.Closing.{LeavesNothing, connects, closes_link, closes_conn, connected, closed_links, closed_conns, IsPaired, ArePaired, IsNoPeer}
 use Rattle.zre_journal.specs.Connections.{open_ones, is_open, is_new, has_ended, others}
 use Rattle.zre_journal.specs.Done.{close_link, done_at}
@@ -305,6 +305,7 @@ module _ (g : Config) where
   keeps_paired done_ (Opens c) H q m s o = mild done_ (act.Answer c _) (Opens c ∷ H) tt refl refl refl (opens done_ H q o c m.is_fresh)
   keeps_paired done_ (TurnsAway c) H q m s o = turns_away done_ H q o c s
   keeps_paired done_ (Greets c) H q m s o = mild done_ (act.Answer c _) (Greets c ∷ H) tt refl refl refl (same done_ (Greets c) H refl refl (λ l. refl) (λ d. refl) (λ d. refl) o)
+  keeps_paired done_ (AnswersPing c t) H q m s o = mild done_ (act.Answer c _) (AnswersPing c t ∷ H) tt refl refl refl (same done_ (AnswersPing c t) H refl refl (λ l. refl) (λ d. refl) (λ d. refl) o)
   keeps_paired done_ (SendsBeacon port) H q m s o = mild done_ (act.Beacon _) (SendsBeacon port ∷ H) tt refl refl refl (same done_ (SendsBeacon port) H refl refl (λ l. refl) (λ d. refl) (λ d. refl) o)
   keeps_paired done_ (Closes c why) H q m s o = closing done_ H q o c (Closes c why) (was_open done_ H q o c s) refl refl (λ l. refl) (closed_now done_ H q o c s)
   keeps_paired done_ (ClosesAtStop c) H q m s o = closing done_ H q o c (ClosesAtStop c) (was_open done_ H q o c s) refl refl (λ l. refl) (closed_now done_ H q o c s)

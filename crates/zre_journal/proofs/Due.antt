@@ -10,7 +10,7 @@ use Rattle.zre_peer.specs.declared.causes.Cause.{Cause}
 use Rattle.zre_peer.specs.declared.causes.Cause.TheVariants as cause
 use Rattle.zre_journal.specs.declared.config.Config.{Config}
 use Rattle.zre_journal.specs.Asked.{AreDue}
-use Rattle.zre_journal.specs.Chronicle.{Mark, Comes, Opens, TurnsAway, Greets, Shakes, Starts, Counts, Ignores, Closes, IsShut, ClosesAtStop, Born, HearsBeacon, Ends, IsEvasive, Puts, Links, Sends, Joins, Leaves, Refuses, SendsBeacon, Stops}
+use Rattle.zre_journal.specs.Chronicle.{Mark, Comes, Opens, TurnsAway, Greets, Shakes, AnswersPing, Starts, Counts, Ignores, Closes, IsShut, ClosesAtStop, Born, HearsBeacon, Ends, IsEvasive, Puts, PutsPong, Links, Sends, Joins, Leaves, Refuses, SendsBeacon, Stops}
 use Rattle.zre_journal.specs.Done.{close_link, done_at, done, puts, names, is_offered, offers, acts_at}
 use Rattle.zre_journal.specs.Events.{chronicle, acts_after}
 use Rattle.zre_journal.specs.Happens.{has_stopped, marks, with_entry}
@@ -45,6 +45,7 @@ module _ (g : Config) (H : List Mark) where
   none_at own (TurnsAway c) = (tt, tt)
   none_at own (Greets c) = (tt, tt)
   none_at own (Shakes c p) = tt
+  none_at own (AnswersPing c t) = (tt, tt)
   none_at own (Starts c l m) = tt
   none_at own (Counts c l m) = tt
   none_at own (Ignores c why) = tt
@@ -56,6 +57,7 @@ module _ (g : Config) (H : List Mark) where
   none_at own (Ends l why) = none_closing l why
   none_at own (IsEvasive l) = tt
   none_at own (Puts l b) = tt
+  none_at own (PutsPong l t) = tt
   none_at own (Links l) = tt
   none_at own (Sends l n) = tt
   none_at own (Joins group) = tt

@@ -14,16 +14,17 @@ use Rattle.zre_outside.specs.declared.entry.Input.TheVariants as input
 use Rattle.zre_peer.specs.declared.causes.Cause.TheVariants as cause
 use Rattle.zre_peer.specs.declared.causes.CloseWhy.TheVariants as close
 use Rattle.zre_link.specs.Heard.{reply_fault}
+use Rattle.zre_link.specs.Link.{answered, slow_at}
 use Rattle.zre_journal.specs.declared.config.Config.{Config}
-use Rattle.zre_journal.specs.Chronicle.{Mark, Comes, Opens, Starts, Closes, IsShut, ClosesAtStop, Born, Ends, Stops, after, ever}
+use Rattle.zre_journal.specs.Chronicle.{Mark, Comes, Opens, Starts, Closes, IsShut, ClosesAtStop, Born, Ends, PutsPong, Stops, after, ever}
 use Rattle.zre_journal.specs.Heard.{opens, bytes, newly_completed}
 use Rattle.zre_journal.specs.Connections.{open_ones, is_open, started, start_at, runs, refuses, was_used, is_ignored, is_live, others}
 use Rattle.zre_journal.specs.Peers.{Life, lives, life, births, other_lives}
-use Rattle.zre_journal.specs.Links.{is_linked, replies}
+use Rattle.zre_journal.specs.Links.{is_linked, replies, newly_pinged, unsent}
 use Rattle.zre_journal.specs.Proper.{IsProper}
 use Rattle.zre_journal.specs.Happens.{has_stopped, at_input}
 use Rattle.zre_journal.specs.Arrivals.{end_of_run, at_place, at_places}
-use Rattle.zre_journal.specs.LinkEntries.{fault_of_reply, at_reply}
+use Rattle.zre_journal.specs.LinkEntries.{cause_by_reply, end_by, answers, at_reply}
 use Rattle.zre_journal.proofs.Few.{none_kept, at_end, AtEnd, Front, Back}
 use Rattle.zre_journal.proofs.Idle.{idle_stays, not_true}
 use Rattle.zre_journal.proofs.Joined.{after-append, in_turn-append}
@@ -259,24 +260,31 @@ module _ (g : Config) where
       by r true e = r
       by r false e = rw e r
 
-  reply_ends : (l : ℕ) (K : List Mark) → (is_linked l K ≡ false → IsSome (life l K) → reply_fault (replies l K) ≡ None) → IsSome (life l (after (at_reply g l (life l K) K) K)) → reply_fault (replies l K) ≡ None
-  reply_ends l K was s = by (life l K) refl s
+  reply_ends : (l : ℕ) (H K : List Mark) → (is_linked l K ≡ false → IsSome (life l K) → reply_fault (replies l K) ≡ None) → IsSome (life l (after (at_reply g l (life l K) H K) K)) → reply_fault (replies l K) ≡ None
+  reply_ends l H K was s = by (life l K) refl s
     where
-      found : (o : Option ZmtpFault) → reply_fault (replies l K) ≡ o → IsSome (life l (after (fault_of_reply g l o) K)) → o ≡ None
-      found None z t = refl
-      found (Some f) z t = absurd (not_some (life l (Ends l (cause.Reply f) ∷ K)) (gone_life l (lives K)) t)
+      found : (J : List Mark) (o : Option (ℕ × ℕ)) (f : Option ZmtpFault) → IsSome (life l (after (end_by g l (cause_by_reply o f)) J)) → f ≡ None
+      found J o None t = refl
+      found J (Some n) (Some f) t = absurd (not_some (life l (Ends l (cause.Slow n.0 n.1) ∷ J)) (gone_life l (lives J)) t)
+      found J None (Some f) t = absurd (not_some (life l (Ends l (cause.Reply f) ∷ J)) (gone_life l (lives J)) t)
 
-      by : (o : Option Life) → life l K ≡ o → IsSome (life l (after (at_reply g l o K) K)) → reply_fault (replies l K) ≡ None
+      by : (o : Option Life) → life l K ≡ o → IsSome (life l (after (at_reply g l o H K) K)) → reply_fault (replies l K) ≡ None
       by None z t = absurd (not_some (life l K) z t)
       by (Some v) z t = linked (is_linked l K) refl t
         where
-          linked : (b : Bool) → is_linked l K ≡ b → IsSome (life l (after (cond b (fault_of_reply g l (reply_fault (replies l K))) []) K)) → reply_fault (replies l K) ≡ None
-          linked true y u = found (reply_fault (replies l K)) refl u
+          pongs : List Mark
+          pongs = map (λ c. PutsPong l c) (answered (unsent g l K) (newly_pinged l H K))
+
+          end : List Mark
+          end = end_by g l (cause_by_reply (slow_at (unsent g l K) (newly_pinged l H K)) (reply_fault (replies l K)))
+
+          linked : (b : Bool) → is_linked l K ≡ b → IsSome (life l (after (cond b (answers g l (newly_pinged l H K) (reply_fault (replies l K)) K) []) K)) → reply_fault (replies l K) ≡ None
+          linked true y u = found (after pongs K) (slow_at (unsent g l K) (newly_pinged l H K)) (reply_fault (replies l K)) (subst (λ J. IsSome (life l J)) (after-append pongs end K) u)
           linked false y u = was y u
 
   pub link_ends : (i : Input) (l : ℕ) (H K : List Mark) → names_link l i ≡ true → (is_linked l K ≡ false → IsSome (life l K) → reply_fault (replies l K) ≡ None)
       → IsSome (life l (after (at_input g i H K) K)) → reply_fault (replies l K) ≡ None
   link_ends (input.Reply k o) l H K n was s =
       let same : l ≡ k = eqb-true l k n in
-      reply_ends l K was (subst (λ x. IsSome (life l (after (at_reply g x (life x K) K) K))) (sym same) s)
+      reply_ends l H K was (subst (λ x. IsSome (life l (after (at_reply g x (life x K) H K) K))) (sym same) s)
   link_ends _ l H K n was s = absurd cc

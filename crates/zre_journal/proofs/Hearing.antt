@@ -23,7 +23,7 @@ use Rattle.zre_peer.specs.declared.causes.IgnoreWhy.{IgnoreWhy}
 use Rattle.zre_peer.specs.declared.causes.IgnoreWhy.TheVariants as ignore
 use Rattle.zre_journal.specs.declared.config.Config.{Config}
 use Rattle.zre_journal.specs.Arrivals.{end_of_run, taken_over, start_unknown, start, at_first, answer_to, at_later, at_message, at_shaken, at_said, at_place, at_places}
-use Rattle.zre_journal.specs.Chronicle.{Mark, Comes, Opens, Greets, Shakes, Starts, Counts, Ignores, Closes, Ends, after, ever, followed}
+use Rattle.zre_journal.specs.Chronicle.{Mark, Comes, Opens, Greets, Shakes, AnswersPing, Starts, Counts, Ignores, Closes, Ends, after, ever, followed}
 use Rattle.zre_journal.specs.Connections.{open_ones, is_open, identity, started, start_at, runs, refuses, was_used, is_ignored, is_live, other_with}
 use Rattle.zre_journal.specs.Heard.{opens}
 use Rattle.zre_journal.specs.Hearing.{message_in, heard}
@@ -49,6 +49,7 @@ abbrev pub introduced : List Said → Option PeerId
 introduced [] = None
 introduced (Arrived arrival.Greeted ∷ said) = introduced said
 introduced (Arrived (arrival.Shaken p) ∷ said) = Some p
+introduced (Arrived (arrival.Ping t) ∷ said) = introduced said
 introduced (Arrived (arrival.Message m) ∷ said) = introduced said
 introduced (Fault f ∷ said) = introduced said
 
@@ -61,6 +62,7 @@ introduced-append : (xs ys : List Said) → introduced (xs ++ ys) ≡ option_or 
 introduced-append [] ys = refl
 introduced-append (Arrived arrival.Greeted ∷ xs) ys = introduced-append xs ys
 introduced-append (Arrived (arrival.Shaken p) ∷ xs) ys = refl
+introduced-append (Arrived (arrival.Ping t) ∷ xs) ys = introduced-append xs ys
 introduced-append (Arrived (arrival.Message m) ∷ xs) ys = introduced-append xs ys
 introduced-append (Fault f ∷ xs) ys = introduced-append xs ys
 
@@ -87,7 +89,7 @@ spoken own o said rest m e =
       | inl none ↦ absurd (after_fault (fault_in own o) said rest m (sym (ap all none) ∙ e))
       | inr more ↦ elim more [
         | inl one ↦ greeted said (sym (ap all one) ∙ e)
-        | inr i ↦ met i.peer (map (λ a. Arrived a) (map (λ x. arrival.Message x) i.messages) ++ fault_said (fault_in own o)) said (sym (ap all i.is) ∙ e)
+        | inr i ↦ met i.peer (map (λ a. Arrived a) i.traffic ++ fault_said (fault_in own o)) said (sym (ap all i.is) ∙ e)
       ]
     ]
   where
@@ -293,6 +295,8 @@ module _ (g : Config) (c : ℕ) (said : List Said) (K : List Mark) where
     said_follows (Arrived arrival.Greeted) met = silent (Arrived arrival.Greeted) (Greets c ∷ K) refl refl (quiet_step c said (Greets c) K tt o)
         (λ v. o.who live ∙ sym (introduced-append said (Arrived arrival.Greeted ∷ []) ∙ or_none (introduced said)))
     said_follows (Arrived (arrival.Shaken p)) met = shaken_follows p
+    said_follows (Arrived (arrival.Ping t)) met = silent (Arrived (arrival.Ping t)) (AnswersPing c t ∷ K) refl refl (quiet_step c said (AnswersPing c t) K tt o)
+        (λ v. o.who live ∙ sym (introduced-append said (Arrived (arrival.Ping t) ∷ []) ∙ or_none (introduced said)))
     said_follows (Arrived (arrival.Message m)) met = message_follows m (met m refl)
     said_follows (Fault f) met = fault_follows f
 

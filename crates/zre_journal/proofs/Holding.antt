@@ -14,7 +14,8 @@ use Rattle.zre_link.specs.Heard.{reply_fault}
 use Rattle.zre_journal.specs.Endings.{is_end}
 use Rattle.zre_journal.specs.declared.config.Config.{Config}
 use Rattle.zre_journal.specs.Chronicle.{Mark, Comes, after}
-use Rattle.zre_journal.specs.Config.{CanBe, is_fitting}
+use Rattle.zre_journal.specs.Config.{CanBe}
+use Rattle.zre_values.specs.Settings.{is_fitting}
 use Rattle.zre_journal.specs.Heard.{was_opened, bytes, piece_of}
 use Rattle.zre_journal.specs.Connections.{open_ones, is_live}
 use Rattle.zre_journal.specs.Peers.{Life, lives, life, is_entered, view}

@@ -21,7 +21,8 @@ use Rattle.zre_msg.specs.Spelling.{string, long_string, strings, pair, dictionar
 use Rattle.zre_link.specs.Text.{text_of}
 use Rattle.zre_journal.specs.declared.config.Config.{Config}
 use Rattle.zre_journal.specs.Chronicle.{Mark}
-use Rattle.zre_journal.specs.Config.{is_fitting, is_valid, are_apart, own_endpoint}
+use Rattle.zre_journal.specs.Config.{is_valid, own_endpoint}
+use Rattle.zre_values.specs.Settings.{is_fitting, are_apart}
 use Rattle.zre_journal.specs.Links.{groups, status}
 use Rattle.zre_journal.specs.Pushes.{hello}
 use Rattle.zre_journal.specs.Introducing.{CanIntroduce, Introduces}

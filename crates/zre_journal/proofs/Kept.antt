@@ -18,7 +18,7 @@ use Rattle.zre_journal.specs.Peers.{Life, lives, births, life, runner, counted, 
 use Rattle.zre_journal.specs.Proper.{IsProper, AreOpen, AreRuns, IsUnused, IsUnheard}
 use Rattle.zre_journal.proofs.Listed.{eqb-comm, some_is, All-kept, All-append, All-map, found_before, Apart-append, Apart-kept, others_find, any_append, any_of_append, any_left, any_other}
 use Rattle.zre_journal.proofs.Silent.{living_still, opening_still}
-pub use Rattle.zre_journal.proofs.Silent.{known_lives, open_is_old, has_started, run_known, run_is, runner_runs, HearsBeacon-proper, Greets-proper, IsEvasive-proper, Joins-proper, Leaves-proper, Refuses-proper, SendsBeacon-proper, Stops-proper, Comes-proper, Puts-proper, Links-proper, Sends-proper}
+pub use Rattle.zre_journal.proofs.Silent.{known_lives, open_is_old, has_started, run_known, run_is, runner_runs, HearsBeacon-proper, Greets-proper, AnswersPing-proper, IsEvasive-proper, Joins-proper, Leaves-proper, Refuses-proper, SendsBeacon-proper, Stops-proper, Comes-proper, Puts-proper, PutsPong-proper, Links-proper, Sends-proper}
 
 -- ---- an end
 
@@ -56,7 +56,7 @@ module _ (H : List Mark) (p : IsProper H) (l : ℕ) (why : Cause) (low : l ≤ b
       apart = Apart-kept (λ (v : Life). v.link) (λ (v : Life). not (eqb l v.link)) (lives H) p.living.apart;
       living = still (lives H) p.living.living;
       fresh = λ k h. let above : eqb k l ≡ false = ne_eqb k l (λ e. omega arith) in let u = p.living.fresh k h in
-          record { no_end = rw above u.no_end; no_run = u.no_run; no_body = u.no_body; not_linked = u.not_linked; no_reply = u.no_reply; none_taken = u.none_taken };
+          record { no_end = rw above u.no_end; no_run = u.no_run; no_member = u.no_member; not_linked = u.not_linked; no_reply = u.no_reply; none_taken = u.none_taken };
     };
     opening = p.opening;
     running = record {
@@ -82,7 +82,7 @@ born p e b H = Puts (births H + 1) b ∷ Born (births H + 1) p e ∷ H
 module _ (H : List Mark) (q : IsProper H) (p : PeerId) (e : Endpoint) (b : Body) where
   unused : (k : ℕ) → births H + 1 < k → IsUnused k H → IsUnused k (born p e b H)
   unused k h u = let above : eqb k (births H + 1) ≡ false = ne_eqb k (births H + 1) (λ z. omega arith) in
-      record { no_end = u.no_end; no_run = u.no_run; no_body = rw above u.no_body; not_linked = u.not_linked; no_reply = u.no_reply; none_taken = u.none_taken }
+      record { no_end = u.no_end; no_run = u.no_run; no_member = rw above u.no_member; not_linked = u.not_linked; no_reply = u.no_reply; none_taken = u.none_taken }
 
   kept_life : (k : ℕ) (v : Life) → life k H ≡ Some v → life k (born p e b H) ≡ Some v
   kept_life k v f = found_before (λ (u : Life). eqb k u.link) (lives H) (newborn (births H + 1) p e ∷ []) v f
@@ -321,7 +321,7 @@ module _ (H : List Mark) (q : IsProper H) (c l : ℕ) (m : Message) (v : Life) (
   pub Starts-proper : IsProper (Starts c l m ∷ H)
   Starts-proper = record {
     living = living_still H q (λ j. IsUnused j (Starts c l m ∷ H)) (λ j h u. let low = (known_lives H q l v k).1 in let far : eqb j l ≡ false = ne_eqb j l (λ e. omega arith) in
-        record { no_end = u.no_end; no_run = run_else j far ∙ u.no_run; no_body = u.no_body; not_linked = u.not_linked; no_reply = u.no_reply; none_taken = u.none_taken });
+        record { no_end = u.no_end; no_run = run_else j far ∙ u.no_run; no_member = u.no_member; not_linked = u.not_linked; no_reply = u.no_reply; none_taken = u.none_taken });
     opening = opening_still H q (λ d. IsUnheard d (Starts c l m ∷ H)) (λ d n u. record { not_opened = u.not_opened; not_refused = u.not_refused; not_started = start_else d (open_is_old H q c d o n) ∙ u.not_started; unknown = u.unknown; no_octets = u.no_octets });
     running = record {
       one_run = λ d j s n. one d j (started_by d j s n);

@@ -62,12 +62,12 @@ ends_once g journal = record {
 
 -- ---- messages, by connection
 
-record IsTold (H : List Mark) : Type 0 where
-  ordered : (c : ℕ) → in_order (counted_on c H) ≡ true
-  unbegun : (c : ℕ) → started c H ≡ None → counted_on c H ≡ []
-  begun : (c l : ℕ) → started c H ≡ Some l → 0 < length (counted_on c H)
-  whose : (c l : ℕ) → runner l H ≡ Some c → started c H ≡ Some l
-  same : (c l : ℕ) → runner l H ≡ Some c → counted l H ≡ counted_on c H
+pub record IsTold (H : List Mark) : Type 0 where
+  pub ordered : (c : ℕ) → in_order (counted_on c H) ≡ true
+  pub unbegun : (c : ℕ) → started c H ≡ None → counted_on c H ≡ []
+  pub begun : (c l : ℕ) → started c H ≡ Some l → 0 < length (counted_on c H)
+  pub whose : (c l : ℕ) → runner l H ≡ Some c → started c H ≡ Some l
+  pub same : (c l : ℕ) → runner l H ≡ Some c → counted l H ≡ counted_on c H
 
 -- one that may come after others: not HELLO, of the due number, within the limits
 follows : (ms : List Message) (m : Message) → 0 < length ms → is_hello m.body ≡ false → eqb m.sequence (due ms) ≡ true → is_small (view_of (ms ++ m ∷ [])) ≡ true → may_follow ms m ≡ true
@@ -146,7 +146,7 @@ counting c l m H o s r may = record {
     same d k false e true f n = let z : Some l ≡ Some k = sym s ∙ ap (λ x. started x H) (sym (eqb-true d c f)) ∙ o.whose d k n in let is : l ≡ k = cc in let y : true ≡ false = sym (eq-eqb k l (sym is)) ∙ e in cc
     same d k false e false f n = o.same d k n
 
-told_more : (h : Mark) (H : List Mark) → IsProper H → May h H → IsTold H → IsTold (h ∷ H)
+pub told_more : (h : Mark) (H : List Mark) → IsProper H → May h H → IsTold H → IsTold (h ∷ H)
 told_more (Starts c l m) H p y o = starting c l m H o y.idle y.free (p.running.is_silent l y.free) y.first
 told_more (Counts c l m) H p y o =
     let s = (has_started H p c l y.running).0 in
@@ -157,6 +157,9 @@ told_more _ H p y o = record { ordered = o.ordered; unbegun = o.unbegun; begun =
 
 none_told : IsTold []
 none_told = record { ordered = λ c. refl; unbegun = λ c e. refl; begun = λ c l e. cc; whose = λ c l r. cc; same = λ c l r. cc }
+
+pub told_of : (g : Config) (journal : List Entry) → IsTold (chronicle g journal)
+told_of g journal = always g IsTold told_more none_told journal
 
 pub shows_messages : (g : Config) (journal : List Entry) → ShowsItsMessages (chronicle g journal)
 shows_messages g journal = record {
@@ -170,4 +173,4 @@ shows_messages g journal = record {
     p = is_proper g journal
 
     told : IsTold (chronicle g journal)
-    told = always g IsTold told_more none_told journal
+    told = told_of g journal

@@ -21,9 +21,12 @@ pub mod Kept
 pub mod Known
 pub mod Lawful
 pub mod Ledgers
+pub mod Lines
 pub mod Listed
+pub mod Lowered
 pub mod Octets
 pub mod Passing
+pub mod Places
 pub mod Quiet
 pub mod Room
 mod Rows

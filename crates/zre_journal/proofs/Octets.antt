@@ -60,10 +60,10 @@ fault_none (Some f) (Arrived a ∷ xs) e = fault_none (Some f) xs e
 fault_none (Some f) (Fault k ∷ xs) e = absurd cc
 
 module _ (g : Config) where
-  abbrev Told : List Mark → Type 0
+  abbrev pub Told : List Mark → Type 0
   Told H = (d : ℕ) → Follows d (talk g.id (bytes d H)) H
 
-  come : (d : ℕ) (said : List Said) (e : Entry) (H : List Mark) → Follows d said H → Follows d said (Comes e ∷ H)
+  pub come : (d : ℕ) (said : List Said) (e : Entry) (H : List Mark) → Follows d said H → Follows d said (Comes e ∷ H)
   come d said e H o = record { rest = o.rest; front = o.front; whole = o.whole; sound = o.sound; who = o.who }
 
   -- more octets on one that isn't live
@@ -172,6 +172,9 @@ module _ (g : Config) where
     who = λ v. sym (ap introduced (nothing_said g.id));
   }
 
+  pub follows_octets : (journal : List Entry) → Told (chronicle g journal)
+  follows_octets journal = later journal [] none_told
+
   pub runs_on_octets : (journal : List Entry) → RunsOnOctets g (chronicle g journal)
   runs_on_octets journal = record {
     is_front = λ c. ((told c).rest, (told c).front);
@@ -187,4 +190,4 @@ module _ (g : Config) where
       p = is_proper g journal
 
       told : Told H
-      told = later journal [] none_told
+      told = follows_octets journal

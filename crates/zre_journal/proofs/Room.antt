@@ -1,5 +1,5 @@
 -- When marks leave what is kept of groups, links and views within its limits, and that it stays so after marks that do.
-use Rattle.std.proofs.Common.{◌≡◌, ℕ, ◌+◌, ◌-◌, ◌<◌, ◌≤◌, Bool, true, false, cond, ◌&&◌, eqb, List, [], ◌∷◌, ◌++◌, length, Some, None, refl, sym, ap, ◌∙◌, arith, eqb-true, subst, length-append}
+use Rattle.std.proofs.Common.{◌≡◌, ℕ, ◌+◌, ◌-◌, ◌<◌, ◌≤◌, Bool, true, false, cond, ◌&&◌, eqb, List, [], ◌∷◌, ◌++◌, length, Some, None, refl, sym, ap, ◌∙◌, arith, eqb-true, subst, append-nil, length-append}
 use Rattle.std.specs.List.{AllByRecursion}
 use Rattle.std.specs.Str.{bytes_eq}
 use Rattle.std.proofs.lemmas.Bool.{and_parts}
@@ -8,16 +8,17 @@ use Rattle.zre_values.specs.declared.limits.TheConstants.{MESSAGE_OCTETS, UNSENT
 use Rattle.zre_msg.specs.Spelling.{octets}
 use Rattle.zre_msg.specs.declared.message.Body.{Body}
 use Rattle.zre_msg.specs.declared.message.Message.{Message}
-use Rattle.zre_link.specs.Text.{text_of, next_message, size_of}
-use Rattle.zre_link.proofs.Numbered.{text_more}
+use Rattle.zre_zmtp.specs.Written.{pong_frame}
+use Rattle.zre_link.specs.Text.{Member, Says, Pongs, text_of, next_message, size_of}
+use Rattle.zre_link.proofs.Numbered.{text_more, text_pongs}
 use Rattle.zre_peer.specs.Runs.{is_hello}
 use Rattle.zre_peer.specs.Views.{view_of, is_small}
 use Rattle.zre_journal.specs.declared.config.Config.{Config}
-use Rattle.zre_journal.specs.Chronicle.{Mark, Comes, Starts, Counts, Puts, Sends, Joins, Leaves, Stops, after, ever, followed}
+use Rattle.zre_journal.specs.Chronicle.{Mark, Comes, Starts, Counts, Puts, PutsPong, Sends, Joins, Leaves, Stops, after, ever, followed}
 use Rattle.zre_journal.specs.Config.{CanBe}
 use Rattle.zre_journal.specs.Connections.{refuses}
 use Rattle.zre_journal.specs.Peers.{counted, view}
-use Rattle.zre_journal.specs.Links.{groups, bodies, taken, unsent}
+use Rattle.zre_journal.specs.Links.{groups, line, taken, unsent}
 use Rattle.zre_journal.specs.Proper.{IsProper}
 use Rattle.zre_journal.specs.Introducing.{CanIntroduce}
 use Rattle.zre_journal.proofs.Fields.{hello_octets}
@@ -38,7 +39,8 @@ module _ (g : Config) where
   abbrev pub Fits : Mark → List Mark → Type 0
   Fits (Comes e) H = ⊥
   Fits (Starts c l m) H = (ever (refuses c) H ≡ false) × (hello_octets m.body ≤ MESSAGE_OCTETS)
-  Fits (Puts l b) H = unsent g l H + size_of (bodies l H) b ≤ UNSENT_OCTETS
+  Fits (Puts l b) H = unsent g l H + size_of (line l H) b ≤ UNSENT_OCTETS
+  Fits (PutsPong l t) H = unsent g l H + length (pong_frame t) ≤ UNSENT_OCTETS
   Fits (Joins group) H = (length group ≤ GROUP_OCTETS) × (length (groups H) < OWN_GROUPS)
   Fits Stops H = ⊥
   Fits _ H = Unit {0}
@@ -50,23 +52,39 @@ module _ (g : Config) where
   -- ---- mark by mark
 
   -- one more body on a link
-  put_room : (bs : List Body) (b : Body) (n : ℕ) → length (text_of g.id bs) - n + size_of bs b ≤ UNSENT_OCTETS → length (text_of g.id (bs ++ b ∷ [])) - n ≤ UNSENT_OCTETS
-  put_room bs b n fits =
-      let more : length (text_of g.id (bs ++ b ∷ [])) ≡ length (text_of g.id bs) + size_of bs b = ap length (text_more g.id bs b) ∙ length-append (text_of g.id bs) (octets (next_message bs b)) in
+  put_room : (ms : List Member) (b : Body) (n : ℕ) → length (text_of g.id ms) - n + size_of ms b ≤ UNSENT_OCTETS → length (text_of g.id (ms ++ Says b ∷ [])) - n ≤ UNSENT_OCTETS
+  put_room ms b n fits =
+      let more : length (text_of g.id (ms ++ Says b ∷ [])) ≡ length (text_of g.id ms) + size_of ms b = ap length (text_more g.id ms b) ∙ length-append (text_of g.id ms) (octets (next_message ms b)) in
       omega (arith, more, fits)
 
-  puts : (l : ℕ) (b : Body) (H : List Mark) → unsent g l H + size_of (bodies l H) b ≤ UNSENT_OCTETS → ((k : ℕ) → unsent g k H ≤ UNSENT_OCTETS) → (k : ℕ) → unsent g k (Puts l b ∷ H) ≤ UNSENT_OCTETS
+  puts : (l : ℕ) (b : Body) (H : List Mark) → unsent g l H + size_of (line l H) b ≤ UNSENT_OCTETS → ((k : ℕ) → unsent g k H ≤ UNSENT_OCTETS) → (k : ℕ) → unsent g k (Puts l b ∷ H) ≤ UNSENT_OCTETS
   puts l b H fits was k = by (eqb k l) refl
     where
-      by : (t : Bool) → eqb k l ≡ t → length (text_of g.id (followed (bodies k H) (cond t (Some b) None))) - taken k H ≤ UNSENT_OCTETS
-      by true q = put_room (bodies k H) b (taken k H) (subst (λ x. unsent g x H + size_of (bodies x H) b ≤ UNSENT_OCTETS) (sym (eqb-true k l q)) fits)
+      by : (t : Bool) → eqb k l ≡ t → length (text_of g.id (followed (line k H) (cond t (Some (Says b)) None))) - taken k H ≤ UNSENT_OCTETS
+      by true q = put_room (line k H) b (taken k H) (subst (λ x. unsent g x H + size_of (line x H) b ≤ UNSENT_OCTETS) (sym (eqb-true k l q)) fits)
+      by false q = was k
+
+  -- one more PONG leaves at most as many more as it has
+  pub pong_more : (ms : List Member) (t : List ℕ) (n : ℕ) → length (text_of g.id (ms ++ Pongs t ∷ [])) - n ≤ length (text_of g.id ms) - n + length (pong_frame t)
+  pong_more ms t n =
+      let more : length (text_of g.id (ms ++ Pongs t ∷ [])) ≡ length (text_of g.id ms) + length (pong_frame t) =
+      ap length (text_pongs g.id ms (t ∷ [])) ∙ length-append (text_of g.id ms) (pong_frame t ++ []) ∙ ap (λ (o : List ℕ). length (text_of g.id ms) + length o) (append-nil (pong_frame t)) in
+      omega (arith, more)
+
+  pongs : (l : ℕ) (c : List ℕ) (H : List Mark) → unsent g l H + length (pong_frame c) ≤ UNSENT_OCTETS → ((k : ℕ) → unsent g k H ≤ UNSENT_OCTETS) → (k : ℕ) → unsent g k (PutsPong l c ∷ H) ≤ UNSENT_OCTETS
+  pongs l c H fits was k = by (eqb k l) refl
+    where
+      by : (t : Bool) → eqb k l ≡ t → length (text_of g.id (followed (line k H) (cond t (Some (Pongs c)) None))) - taken k H ≤ UNSENT_OCTETS
+      by true q =
+          let here : length (text_of g.id (line k H)) - taken k H + length (pong_frame c) ≤ UNSENT_OCTETS = subst (λ x. unsent g x H + length (pong_frame c) ≤ UNSENT_OCTETS) (sym (eqb-true k l q)) fits in
+          omega (arith, here, pong_more (line k H) c (taken k H))
       by false q = was k
 
   takes : (l n : ℕ) (H : List Mark) → ((k : ℕ) → unsent g k H ≤ UNSENT_OCTETS) → (k : ℕ) → unsent g k (Sends l n ∷ H) ≤ UNSENT_OCTETS
   takes l n H was k = by (eqb k l)
     where
-      by : (t : Bool) → length (text_of g.id (bodies k H)) - cond t (taken k H + n) (taken k H) ≤ UNSENT_OCTETS
-      by true = let r : length (text_of g.id (bodies k H)) - taken k H ≤ UNSENT_OCTETS = was k in omega (arith, r)
+      by : (t : Bool) → length (text_of g.id (line k H)) - cond t (taken k H + n) (taken k H) ≤ UNSENT_OCTETS
+      by true = let r : length (text_of g.id (line k H)) - taken k H ≤ UNSENT_OCTETS = was k in omega (arith, r)
       by false = was k
 
   starts : (c l : ℕ) (m : Message) (H : List Mark) → IsProper H → May (Starts c l m) H → hello_octets m.body ≤ MESSAGE_OCTETS → ((k : ℕ) → IsShortView (view k H)) → (k : ℕ) → IsShortView (view k (Starts c l m ∷ H))
@@ -100,6 +118,7 @@ module _ (g : Config) where
 
   pub room-more : (h : Mark) (H : List Mark) → IsProper H → May h H → Fits h H → HasRoom g H → HasRoom g (h ∷ H)
   room-more (Puts l b) H q m f o = record { unsent_fits = puts l b H f o.unsent_fits; views_fit = o.views_fit; groups_fit = o.groups_fit; few_groups = o.few_groups }
+  room-more (PutsPong l t) H q m f o = record { unsent_fits = pongs l t H f o.unsent_fits; views_fit = o.views_fit; groups_fit = o.groups_fit; few_groups = o.few_groups }
   room-more (Sends l n) H q m f o = record { unsent_fits = takes l n H o.unsent_fits; views_fit = o.views_fit; groups_fit = o.groups_fit; few_groups = o.few_groups }
   room-more (Starts c l s) H q m f o = record { unsent_fits = o.unsent_fits; views_fit = starts c l s H q m f.1 o.views_fit; groups_fit = o.groups_fit; few_groups = o.few_groups }
   room-more (Counts c l s) H q m f o = record { unsent_fits = o.unsent_fits; views_fit = counts c l s H m o.views_fit; groups_fit = o.groups_fit; few_groups = o.few_groups }

@@ -1,5 +1,5 @@
 -- What is said on a connection: no message passes the limit, and no peer is the node itself.
-use Rattle.std.proofs.Common.{◌≡◌, ℕ, ◌≤◌, List, [], ◌∷◌, length, map, Option, Some, None, Ok, Err, Result, refl, subst, arith, option_map, ◌≢◌, Bool, true, false, inl, inr}
+use Rattle.std.proofs.Common.{◌≡◌, ℕ, ◌≤◌, List, [], ◌∷◌, length, map, Option, Some, None, Ok, Err, Result, refl, subst, arith, option_map, ◌≢◌, Bool, true, false, true≢false, sym, inl, inr}
 use Rattle.std.specs.Prelude.{option_and_then}
 use Rattle.std.specs.Result.{result_ok}
 use Rattle.std.specs.List.{AllByRecursion, cons_option}
@@ -11,12 +11,14 @@ use Rattle.zre_zmtp.specs.declared.item.Item.{Item}
 use Rattle.zre_zmtp.specs.declared.item.What.{What}
 use Rattle.zre_zmtp.specs.declared.fault.ZmtpFault.{ZmtpFault}
 use Rattle.zre_zmtp.specs.declared.want.Want.TheVariants.{Dealer}
+use Rattle.zre_zmtp.specs.Ping.{context_of}
+use Rattle.zre_zmtp.specs.Ready.{rest}
 use Rattle.zre_zmtp.specs.Stream.{Whole, items}
 use Rattle.zre_msg.specs.declared.message.Bad.{Bad}
 use Rattle.zre_msg.specs.declared.message.Message.{Message}
 use Rattle.zre_msg.specs.Reading.{read_frames}
 use Rattle.zre_mailbox.specs.declared.arrival.Arrival.{Arrival}
-use Rattle.zre_mailbox.specs.Talk.{Said, Arrived, Fault, peer_of, arrival_of, arrivals_in, arrivals, fault_in, fault_said, talk, IsInOrder}
+use Rattle.zre_mailbox.specs.Talk.{Said, Arrived, Fault, peer_of, arrival_of, arrivals_in, arrivals, fault_in, fault_said, talk, AreTraffic, IsInOrder}
 use Rattle.zre_journal.specs.Chronicle.{Mark}
 use Rattle.zre_journal.specs.Heard.{bytes, newly_completed}
 use Rattle.zre_mailbox.proofs.InOrder.{in_order}
@@ -33,16 +35,21 @@ use Rattle.zre_journal.proofs.Streams.{IsWithin, AreWithin, items-within}
 abbrev pub IsShortArrival : Arrival → Type 0
 IsShortArrival arrival.Greeted = Unit {0}
 IsShortArrival (arrival.Shaken p) = Unit {0}
+IsShortArrival (arrival.Ping t) = Unit {0}
 IsShortArrival (arrival.Message m) = hello_octets m.body ≤ MESSAGE_OCTETS
 
 is_shaken : (o : Option PeerId) (a : Arrival) → option_map (λ p. arrival.Shaken p) o ≡ Some a → IsShortArrival a
 is_shaken None a e = absurd cc
 is_shaken (Some p) a e = let same : arrival.Shaken p ≡ a = cc in subst IsShortArrival same tt
 
+is_ping : (o : Option (List ℕ)) (a : Arrival) → option_map (λ t. arrival.Ping t) o ≡ Some a → IsShortArrival a
+is_ping None a e = absurd cc
+is_ping (Some t) a e = let same : arrival.Ping t ≡ a = cc in subst IsShortArrival same tt
+
 arrival_short : (w : What) → IsWithin w → (a : Arrival) → arrival_of w ≡ Some a → IsShortArrival a
 arrival_short (says.Greeting major minor) h a e = let same : arrival.Greeted ≡ a = cc in subst IsShortArrival same tt
 arrival_short (says.Ready size socket identity) h a e = is_shaken (option_and_then peer_of identity) a e
-arrival_short (says.Command size name body) h a e = absurd cc
+arrival_short (says.Command size name body) h a e = is_ping (context_of name (rest body)) a e
 arrival_short (says.Message frames) h a e = by (read_frames frames) refl e
   where
     by : (r : Result Message Bad) → read_frames frames ≡ r → option_map (λ m. arrival.Message m) (result_ok r) ≡ Some a → IsShortArrival a
@@ -62,6 +69,7 @@ arrivals_short (i ∷ is) h = by (arrivals_short is h.1) (arrival_of i.what) (ar
 abbrev pub IsOtherArrival : PeerId → Arrival → Type 0
 IsOtherArrival own arrival.Greeted = Unit {0}
 IsOtherArrival own (arrival.Shaken p) = bytes_eq p.0 own.0 ≡ false
+IsOtherArrival own (arrival.Ping t) = Unit {0}
 IsOtherArrival own (arrival.Message m) = Unit {0}
 
 unlike : (xs ys : List ℕ) → xs ≢ ys → bytes_eq xs ys ≡ false
@@ -71,9 +79,12 @@ unlike xs ys ne = by (bytes_eq xs ys) refl
     by false e = refl
     by true e = absurd (ne ((bytes_eq-Decides xs ys).0 e))
 
-messages_other : (own : PeerId) (ms : List Message) → AllByRecursion (IsOtherArrival own) (map (λ m. arrival.Message m) ms)
-messages_other own [] = tt
-messages_other own (m ∷ ms) = (tt, messages_other own ms)
+traffic_other : (own : PeerId) (as_ : List Arrival) → AreTraffic as_ → AllByRecursion (IsOtherArrival own) as_
+traffic_other own [] t = tt
+traffic_other own (arrival.Greeted ∷ as_) t = absurd (true≢false (sym t.0))
+traffic_other own (arrival.Shaken p ∷ as_) t = absurd (true≢false (sym t.0))
+traffic_other own (arrival.Ping c ∷ as_) t = (tt, traffic_other own as_ t.1)
+traffic_other own (arrival.Message m ∷ as_) t = (tt, traffic_other own as_ t.1)
 
 arrivals_other : (own : PeerId) (as_ : List Arrival) → IsInOrder own as_ → AllByRecursion (IsOtherArrival own) as_
 arrivals_other own as_ o =
@@ -81,7 +92,7 @@ arrivals_other own as_ o =
       | inl e ↦ rw e tt
       | inr r ↦ elim r [
         | inl e ↦ rw e (tt, tt)
-        | inr i ↦ rw i.is (tt, (unlike i.peer.0 own.0 i.other, messages_other own i.messages))
+        | inr i ↦ rw i.is (tt, (unlike i.peer.0 own.0 i.other, traffic_other own i.traffic i.are_traffic))
       ]
     ]
 

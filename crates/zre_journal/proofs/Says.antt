@@ -13,7 +13,7 @@ use Rattle.zre_msg.specs.declared.message.Message.{Message}
 use Rattle.zre_peer.specs.Runs.{is_hello, due, may_follow}
 use Rattle.zre_peer.specs.Views.{view_of, is_small}
 use Rattle.zre_journal.specs.declared.config.Config.{Config}
-use Rattle.zre_journal.specs.Chronicle.{Mark, Starts, Counts, Ignores, Closes, Born, Ends, Puts, after, ever, Greets}
+use Rattle.zre_journal.specs.Chronicle.{Mark, Starts, Counts, Ignores, Closes, Born, Ends, Puts, after, ever, Greets, AnswersPing}
 use Rattle.zre_journal.specs.Connections.{is_open, identity, started, runs, refuses, was_used, is_ignored, is_live, other_with, others}
 use Rattle.zre_journal.specs.Peers.{Life, lives, life, life_of, births, runner, counted}
 use Rattle.zre_journal.specs.Proper.{IsProper}
@@ -152,6 +152,7 @@ module _ (g : Config) (w : Ground) (K : List Mark) (q : IsProper K) (c : ℕ) (o
   said_outcome : is_ignored c K ≡ false → (said : Said) → MaySay g.id said → O (at_said g c said K)
   said_outcome i (Arrived arrival.Greeted) s = one g w K q (Greets c) (λ t. (tt, tt))
   said_outcome i (Arrived (arrival.Shaken p)) s = shaken_outcome p s.1
+  said_outcome i (Arrived (arrival.Ping t)) s = one g w K q (AnswersPing c t) (λ z. (tt, tt))
   said_outcome i (Arrived (arrival.Message m)) s = message_outcome i m s.0
   said_outcome i (Fault f) s = plainly (λ t. run_and g w t c cause.Fault (Closes c (close.Zmtp f)) K q there (λ H r o. (r, o)))
 
@@ -172,7 +173,7 @@ outcome g (input.Opened c) H K q = opened_outcome g (ground (input.Opened c)) K 
 outcome g (input.Piece c o) H K q = places_outcome g (ground (input.Piece c o)) c (eq-eqb c c refl) (newly_completed g.id c H K) (newly_fine g.id c H K) K q
 outcome g (input.Shut c) H K q = shut_outcome g (ground (input.Shut c)) K q c
 outcome g (input.Linked l) H K q = linked_outcome g (ground (input.Linked l)) K q l (life l K) refl
-outcome g (input.Reply l o) H K q = reply_outcome g (ground (input.Reply l o)) K q l (life l K) refl
+outcome g (input.Reply l o) H K q = reply_outcome g (ground (input.Reply l o)) K q l H (life l K) refl
 outcome g (input.Unlinked l) H K q = unlinked_outcome g (ground (input.Unlinked l)) K q l (life l K) refl
 outcome g (input.Took l n) H K q = took_outcome g (ground (input.Took l n)) K q l n (life l K) refl
 outcome g input.Tick H K q = plainly (λ t. tick_brought g (ground input.Tick) t K q)

@@ -4,7 +4,7 @@ use Rattle.std.specs.Option.{option_and_then}
 use Rattle.zre_msg.specs.declared.message.Body.{Body}
 use Rattle.zre_outside.specs.declared.entry.Entry.{Entry}
 use Rattle.zre_peer.specs.declared.causes.RefuseWhy.{RefuseWhy}
-use Rattle.zre_journal.specs.Chronicle.{Mark, Comes, Greets, HearsBeacon, IsEvasive, Puts, Links, Sends, Joins, Leaves, Refuses, SendsBeacon, Stops}
+use Rattle.zre_journal.specs.Chronicle.{Mark, Comes, Greets, AnswersPing, HearsBeacon, IsEvasive, Puts, PutsPong, Links, Sends, Joins, Leaves, Refuses, SendsBeacon, Stops}
 use Rattle.zre_journal.specs.Connections.{open_ones, is_open, is_new, started, has_ended, runs}
 use Rattle.zre_journal.specs.Peers.{Life, lives, births, life, runner}
 use Rattle.zre_journal.specs.Proper.{IsProper, AreLives, IsUnused, AreOpen, IsUnheard}
@@ -57,6 +57,9 @@ module _ (H : List Mark) (p : IsProper H) where
   pub Greets-proper : (c : ℕ) → IsProper (Greets c ∷ H)
   Greets-proper c = record { living = p.living; opening = p.opening; running = p.running }
 
+  pub AnswersPing-proper : (c : ℕ) (t : List ℕ) → IsProper (AnswersPing c t ∷ H)
+  AnswersPing-proper c t = record { living = p.living; opening = p.opening; running = p.running }
+
   pub IsEvasive-proper : (l : ℕ) → IsProper (IsEvasive l ∷ H)
   IsEvasive-proper l = record { living = p.living; opening = p.opening; running = p.running }
 
@@ -97,28 +100,35 @@ module _ (H : List Mark) (p : IsProper H) where
 
   pub Comes-proper : (e : Entry) → IsProper (Comes e ∷ H)
   Comes-proper e = record {
-    living = living_still (λ l. IsUnused l (Comes e ∷ H)) (λ l h u. record { no_end = u.no_end; no_run = u.no_run; no_body = u.no_body; not_linked = u.not_linked; no_reply = rw (u.no_reply, u.not_linked) refl; none_taken = u.none_taken });
+    living = living_still (λ l. IsUnused l (Comes e ∷ H)) (λ l h u. record { no_end = u.no_end; no_run = u.no_run; no_member = u.no_member; not_linked = u.not_linked; no_reply = rw (u.no_reply, u.not_linked) refl; none_taken = u.none_taken });
     opening = opening_still (λ c. IsUnheard c (Comes e ∷ H)) (λ c n u. record { not_opened = u.not_opened; not_refused = u.not_refused; not_started = u.not_started; unknown = u.unknown; no_octets = rw (u.no_octets, u.not_opened) refl });
     running = p.running;
   }
 
   pub Puts-proper : (l : ℕ) (b : Body) → l ≤ births H → IsProper (Puts l b ∷ H)
   Puts-proper l b low = record {
-    living = living_still (λ k. IsUnused k (Puts l b ∷ H)) (λ k h u. record { no_end = u.no_end; no_run = u.no_run; no_body = rw (another l k low h) u.no_body; not_linked = u.not_linked; no_reply = u.no_reply; none_taken = u.none_taken });
+    living = living_still (λ k. IsUnused k (Puts l b ∷ H)) (λ k h u. record { no_end = u.no_end; no_run = u.no_run; no_member = rw (another l k low h) u.no_member; not_linked = u.not_linked; no_reply = u.no_reply; none_taken = u.none_taken });
+    opening = p.opening;
+    running = p.running;
+  }
+
+  pub PutsPong-proper : (l : ℕ) (t : List ℕ) → l ≤ births H → IsProper (PutsPong l t ∷ H)
+  PutsPong-proper l t low = record {
+    living = living_still (λ k. IsUnused k (PutsPong l t ∷ H)) (λ k h u. record { no_end = u.no_end; no_run = u.no_run; no_member = rw (another l k low h) u.no_member; not_linked = u.not_linked; no_reply = u.no_reply; none_taken = u.none_taken });
     opening = p.opening;
     running = p.running;
   }
 
   pub Links-proper : (l : ℕ) → l ≤ births H → IsProper (Links l ∷ H)
   Links-proper l low = record {
-    living = living_still (λ k. IsUnused k (Links l ∷ H)) (λ k h u. record { no_end = u.no_end; no_run = u.no_run; no_body = u.no_body; not_linked = rw (another l k low h) u.not_linked; no_reply = u.no_reply; none_taken = u.none_taken });
+    living = living_still (λ k. IsUnused k (Links l ∷ H)) (λ k h u. record { no_end = u.no_end; no_run = u.no_run; no_member = u.no_member; not_linked = rw (another l k low h) u.not_linked; no_reply = u.no_reply; none_taken = u.none_taken });
     opening = p.opening;
     running = p.running;
   }
 
   pub Sends-proper : (l n : ℕ) → l ≤ births H → IsProper (Sends l n ∷ H)
   Sends-proper l n low = record {
-    living = living_still (λ k. IsUnused k (Sends l n ∷ H)) (λ k h u. record { no_end = u.no_end; no_run = u.no_run; no_body = u.no_body; not_linked = u.not_linked; no_reply = u.no_reply; none_taken = rw (another l k low h) u.none_taken });
+    living = living_still (λ k. IsUnused k (Sends l n ∷ H)) (λ k h u. record { no_end = u.no_end; no_run = u.no_run; no_member = u.no_member; not_linked = u.not_linked; no_reply = u.no_reply; none_taken = rw (another l k low h) u.none_taken });
     opening = p.opening;
     running = p.running;
   }

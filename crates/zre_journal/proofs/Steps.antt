@@ -7,13 +7,13 @@ use Rattle.zre_msg.specs.declared.message.Message.{Message}
 use Rattle.zre_msg.specs.declared.message.Body.TheVariants as body
 use Rattle.zre_peer.specs.Runs.{may_follow, is_hello, due}
 use Rattle.zre_peer.specs.Views.{view_of, is_small}
-use Rattle.zre_journal.specs.Chronicle.{Mark, Comes, Opens, TurnsAway, Greets, Shakes, Starts, Counts, Ignores, Closes, IsShut, ClosesAtStop, Born, HearsBeacon, Ends, IsEvasive, Puts, Links, Sends, Joins, Leaves, Refuses, SendsBeacon, Stops, after}
+use Rattle.zre_journal.specs.Chronicle.{Mark, Comes, Opens, TurnsAway, Greets, Shakes, AnswersPing, Starts, Counts, Ignores, Closes, IsShut, ClosesAtStop, Born, HearsBeacon, Ends, IsEvasive, Puts, PutsPong, Links, Sends, Joins, Leaves, Refuses, SendsBeacon, Stops, after}
 use Rattle.zre_journal.specs.Connections.{open_ones, is_open, is_new, identity, started, runs, other_with}
 use Rattle.zre_journal.specs.Peers.{Life, lives, life_of, life, births, runner, counted}
 use Rattle.zre_journal.specs.Proper.{IsProper}
 use Rattle.zre_journal.proofs.Listed.{some_is}
 use Rattle.zre_journal.proofs.Kept.{Opens-proper, TurnsAway-proper, Shakes-proper, Starts-proper, Counts-proper, Ignores-proper, Closes-proper, IsShut-proper, ClosesAtStop-proper, born-proper, Ends-proper}
-use Rattle.zre_journal.proofs.Silent.{known_lives, Comes-proper, Greets-proper, HearsBeacon-proper, IsEvasive-proper, Puts-proper, Links-proper, Sends-proper, Joins-proper, Leaves-proper, Refuses-proper, SendsBeacon-proper, Stops-proper}
+use Rattle.zre_journal.proofs.Silent.{known_lives, Comes-proper, Greets-proper, AnswersPing-proper, HearsBeacon-proper, IsEvasive-proper, Puts-proper, PutsPong-proper, Links-proper, Sends-proper, Joins-proper, Leaves-proper, Refuses-proper, SendsBeacon-proper, Stops-proper}
 
 -- an open connection that has started nothing begins to run a known peer that nothing has run, its own, by a first message
 pub record MayStart (c l : ℕ) (m : Message) (H : List Mark) : Type 0 where
@@ -62,6 +62,7 @@ May (Born l p e) H = MayBear l p H
 May (IsEvasive l) H = MayProbe l H
 May (Ends l why) H = IsSome (life l H)
 May (Puts l b) H = IsSome (life l H)
+May (PutsPong l t) H = IsSome (life l H)
 May (Links l) H = IsSome (life l H)
 May (Sends l n) H = IsSome (life l H)
 May _ H = Unit {0}
@@ -109,6 +110,7 @@ step (Opens c) H p m = Opens-proper H p c m.is_fresh
 step (TurnsAway c) H p m = TurnsAway-proper H p c
 step (Greets c) H p m = Greets-proper H p c
 step (Shakes c i) H p m = Shakes-proper H p c i m.0 m.1 m.2
+step (AnswersPing c t) H p m = AnswersPing-proper H p c t
 step (Starts c l s) H p m = Starts-proper H p c l s m.who m.is_there m.idle m.known m.its_own m.free
 step (Counts c l s) H p m = Counts-proper H p c l s m.running
 step (Ignores c why) H p m = Ignores-proper H p c why m
@@ -120,6 +122,7 @@ step (HearsBeacon l) H p m = HearsBeacon-proper H p l
 step (Ends l why) H p m = Ends-proper H p l why (low H p l m)
 step (IsEvasive l) H p m = IsEvasive-proper H p l
 step (Puts l b) H p m = Puts-proper H p l b (low H p l m)
+step (PutsPong l t) H p m = PutsPong-proper H p l t (low H p l m)
 step (Links l) H p m = Links-proper H p l (low H p l m)
 step (Sends l n) H p m = Sends-proper H p l n (low H p l m)
 step (Joins group) H p m = Joins-proper H p group

@@ -8,7 +8,7 @@ use Rattle.std.specs.Str.{bytes_eq}
 use Rattle.zre_values.specs.Lists.{without}
 use Rattle.zre_values.specs.declared.peer_id.PeerId.{PeerId}
 use Rattle.zre_values.specs.declared.endpoint.Endpoint.{Endpoint}
-use Rattle.zre_link.specs.Text.{numbered_from}
+use Rattle.zre_link.specs.Text.{bodies_in, numbered_from}
 use Rattle.zre_msg.specs.declared.message.Body.{Body}
 use Rattle.zre_peer.specs.Members.{with_group, distinct, first_named}
 use Rattle.zre_peer.specs.Runs.{is_hello}
@@ -20,7 +20,7 @@ use Rattle.zre_journal.specs.declared.config.Config.{Config}
 use Rattle.zre_journal.specs.Chronicle.{Mark, Comes, Born, Ends, Puts, Joins, Leaves, after, followed}
 use Rattle.zre_journal.specs.Config.{own_endpoint}
 use Rattle.zre_journal.specs.Peers.{Life, lives, life, births}
-use Rattle.zre_journal.specs.Links.{groups, status, bodies}
+use Rattle.zre_journal.specs.Links.{groups, status}
 use Rattle.zre_journal.specs.Proper.{IsProper, Apart}
 use Rattle.zre_journal.specs.Pushes.{hello, push, push_all, birth}
 use Rattle.zre_journal.specs.Commands.{has_group}
@@ -28,6 +28,7 @@ use Rattle.zre_journal.specs.Truth.{own_view, only_begins_with_hello}
 use Rattle.zre_journal.proofs.Few.{AtEnd, Front, Back, at_end}
 use Rattle.zre_journal.proofs.Joined.{after-append}
 use Rattle.zre_journal.proofs.Known.{life_stays}
+use Rattle.zre_journal.proofs.Lines.{bodies_on, are_bodies}
 use Rattle.zre_journal.proofs.Listed.{eqb-comm, some_is, All-without}
 use Rattle.zre_journal.proofs.Standing.{none_left}
 use Rattle.zre_journal.proofs.Silent.{known_lives}
@@ -119,8 +120,8 @@ still_begins (x ∷ bs) b n e = ap (λ t. is_hello x && not t) (none_of bs b n) 
 module _ (g : Config) where
   pub record Truth (H : List Mark) : Type 0 where
     pub once : Once (groups H)
-    pub first : (l : ℕ) → IsSome (life l H) → only_begins_with_hello (bodies l H) ≡ true
-    pub true_ : (l : ℕ) → IsSome (life l H) → told (bodies l H) ≡ own_view g H
+    pub first : (l : ℕ) → IsSome (life l H) → only_begins_with_hello (bodies_on l H) ≡ true
+    pub true_ : (l : ℕ) → IsSome (life l H) → told (bodies_on l H) ≡ own_view g H
 
   known_before : (l k : ℕ) (why : Cause) (H : List Mark) → IsSome (life k (Ends l why ∷ H)) → (eqb l k ≡ false) × IsSome (life k H)
   known_before l k why H s = by (eqb l k) refl
@@ -137,12 +138,12 @@ module _ (g : Config) where
   plain_step (Ends l why) H p t = record { once = t.once; first = λ k s. t.first k (known_before l k why H s).1; true_ = λ k s. t.true_ k (known_before l k why H s).1 }
   plain_step (Puts l b) H p t = record { once = t.once; first = λ k s. first k s (eqb k l); true_ = λ k s. truth k s (eqb k l) }
     where
-      first : (k : ℕ) → IsSome (life k H) → (c : Bool) → only_begins_with_hello (followed (bodies k H) (cond c (Some b) None)) ≡ true
-      first k s true = still_begins (bodies k H) b p.later (t.first k s)
+      first : (k : ℕ) → IsSome (life k H) → (c : Bool) → only_begins_with_hello (followed (bodies_on k H) (cond c (Some b) None)) ≡ true
+      first k s true = still_begins (bodies_on k H) b p.later (t.first k s)
       first k s false = t.first k s
 
-      truth : (k : ℕ) → IsSome (life k H) → (c : Bool) → told (followed (bodies k H) (cond c (Some b) None)) ≡ own_view g H
-      truth k s true = told_more (bodies k H) b ∙ p.leaves (told (bodies k H)) ∙ t.true_ k s
+      truth : (k : ℕ) → IsSome (life k H) → (c : Bool) → told (followed (bodies_on k H) (cond c (Some b) None)) ≡ own_view g H
+      truth k s true = told_more (bodies_on k H) b ∙ p.leaves (told (bodies_on k H)) ∙ t.true_ k s
       truth k s false = t.true_ k s
   plain_step _ H p t = record { once = t.once; first = t.first; true_ = t.true_ }
 
@@ -169,16 +170,16 @@ module _ (g : Config) where
           by (Front f) = let low = (known_lives K q l v f).1 in inl (ne_eqb l n (λ z. omega (arith, z, low)), rw f refl)
           by (Back x same w) = inr w
 
-      new : bodies n K ≡ []
-      new = (q.living.fresh n (omega arith)).no_body
+      new : bodies_on n K ≡ []
+      new = sym (are_bodies n K) ∙ ap bodies_in (q.living.fresh n (omega arith)).no_member
 
-      first : (l : ℕ) → Which l K → only_begins_with_hello (followed (bodies l K) (cond (eqb l n) (Some (hello g K)) None)) ≡ true
+      first : (l : ℕ) → Which l K → only_begins_with_hello (followed (bodies_on l K) (cond (eqb l n) (Some (hello g K)) None)) ≡ true
       first l (inl w) = rw w.0 (t.first l w.1)
-      first l (inr w) = rw (w, ap (λ m. bodies m K) (eqb-true l n w) ∙ new) refl
+      first l (inr w) = rw (w, ap (λ m. bodies_on m K) (eqb-true l n w) ∙ new) refl
 
-      truth : (l : ℕ) → Which l K → told (followed (bodies l K) (cond (eqb l n) (Some (hello g K)) None)) ≡ own_view g K
+      truth : (l : ℕ) → Which l K → told (followed (bodies_on l K) (cond (eqb l n) (Some (hello g K)) None)) ≡ own_view g K
       truth l (inl w) = rw w.0 (t.true_ l w.1)
-      truth l (inr w) = rw (w, ap (λ m. bodies m K) (eqb-true l n w) ∙ new) (ap (λ gs. own_with gs) (distinct_same (groups K) t.once))
+      truth l (inr w) = rw (w, ap (λ m. bodies_on m K) (eqb-true l n w) ∙ new) (ap (λ gs. own_with gs) (distinct_same (groups K) t.once))
         where
           own_with : List (List ℕ) → View
           own_with gs = record { name = g.name; endpoint = own_endpoint g; headers = first_named g.headers; groups = gs; status = status K }
@@ -188,9 +189,9 @@ module _ (g : Config) where
   -- a body turns one view into another, and is put on the link of each of these
   module _ (b : Body) (old new : View) (turns : reading old b ≡ new) (later : is_hello b ≡ false) where
     record Stage (vs : List Life) (H : List Mark) : Type 0 where
-      begins : (l : ℕ) → IsSome (life l H) → only_begins_with_hello (bodies l H) ≡ true
-      due : (l : ℕ) → IsSome (life l H) → list_any (λ (v : Life). eqb l v.link) vs ≡ true → told (bodies l H) ≡ old
-      done : (l : ℕ) → IsSome (life l H) → list_any (λ (v : Life). eqb l v.link) vs ≡ false → told (bodies l H) ≡ new
+      begins : (l : ℕ) → IsSome (life l H) → only_begins_with_hello (bodies_on l H) ≡ true
+      due : (l : ℕ) → IsSome (life l H) → list_any (λ (v : Life). eqb l v.link) vs ≡ true → told (bodies_on l H) ≡ old
+      done : (l : ℕ) → IsSome (life l H) → list_any (λ (v : Life). eqb l v.link) vs ≡ false → told (bodies_on l H) ≡ new
 
     not_among : (l : ℕ) (vs : List Life) → AllByRecursion (λ (v : Life). eqb l v.link ≡ false) vs → list_any (λ (v : Life). eqb l v.link) vs ≡ false
     not_among l [] h = refl
@@ -217,16 +218,16 @@ module _ (g : Config) where
           done = λ l k a. done l k a (eqb l v.link) refl;
         }
           where
-            begins : (l : ℕ) → IsSome (life l H) → (c : Bool) → only_begins_with_hello (followed (bodies l H) (cond c (Some b) None)) ≡ true
-            begins l k true = still_begins (bodies l H) b later (s.begins l k)
+            begins : (l : ℕ) → IsSome (life l H) → (c : Bool) → only_begins_with_hello (followed (bodies_on l H) (cond c (Some b) None)) ≡ true
+            begins l k true = still_begins (bodies_on l H) b later (s.begins l k)
             begins l k false = s.begins l k
 
-            due : (l : ℕ) → IsSome (life l H) → list_any (λ (u : Life). eqb l u.link) vs ≡ true → (c : Bool) → eqb l v.link ≡ c → told (followed (bodies l H) (cond c (Some b) None)) ≡ old
+            due : (l : ℕ) → IsSome (life l H) → list_any (λ (u : Life). eqb l u.link) vs ≡ true → (c : Bool) → eqb l v.link ≡ c → told (followed (bodies_on l H) (cond c (Some b) None)) ≡ old
             due l k a true e = absurd (true≢false (sym a ∙ ap (λ m. list_any (λ (u : Life). eqb m u.link) vs) (eqb-true l v.link e) ∙ not_among v.link vs far))
             due l k a false e = s.due l k (other l true e a)
 
-            done : (l : ℕ) → IsSome (life l H) → list_any (λ (u : Life). eqb l u.link) vs ≡ false → (c : Bool) → eqb l v.link ≡ c → told (followed (bodies l H) (cond c (Some b) None)) ≡ new
-            done l k a true e = told_more (bodies l H) b ∙ ap (λ w. reading w b) (s.due l k (ap (λ c. c || list_any (λ (u : Life). eqb l u.link) vs) e)) ∙ turns
+            done : (l : ℕ) → IsSome (life l H) → list_any (λ (u : Life). eqb l u.link) vs ≡ false → (c : Bool) → eqb l v.link ≡ c → told (followed (bodies_on l H) (cond c (Some b) None)) ≡ new
+            done l k a true e = told_more (bodies_on l H) b ∙ ap (λ w. reading w b) (s.due l k (ap (λ c. c || list_any (λ (u : Life). eqb l u.link) vs) e)) ∙ turns
             done l k a false e = s.done l k (other l false e a)
 
     all_stages : (vs : List Life) (I H : List Mark) → Apart (λ (v : Life). v.link) vs → Stage vs H → Stage [] (after (push_all g vs b I) H)
@@ -257,7 +258,7 @@ module _ (g : Config) where
       by r true k = refl
       by r false k = r k
 
-  pub changes : (h : Mark) (b : Body) (K : List Mark) → IsProper K → Truth K → ((l : ℕ) → life l (h ∷ K) ≡ life l K) → ((l : ℕ) → bodies l (h ∷ K) ≡ bodies l K) → reading (own_view g K) b ≡ own_view g (h ∷ K) → is_hello b ≡ false
+  pub changes : (h : Mark) (b : Body) (K : List Mark) → IsProper K → Truth K → ((l : ℕ) → life l (h ∷ K) ≡ life l K) → ((l : ℕ) → bodies_on l (h ∷ K) ≡ bodies_on l K) → reading (own_view g K) b ≡ own_view g (h ∷ K) → is_hello b ≡ false
       → Once (groups (h ∷ K)) → Truth (after (push_all g (lives K) b K) (h ∷ K))
   changes h b K q t same put turns later once =
       let x = pushes_groups b (lives K) K (h ∷ K) in

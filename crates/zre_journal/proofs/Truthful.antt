@@ -15,11 +15,12 @@ use Rattle.zre_journal.specs.Proper.{IsProper}
 use Rattle.zre_journal.specs.Pushes.{push_all, birth}
 use Rattle.zre_journal.specs.Happens.{has_stopped, with_entry, chronicle_after, marks}
 use Rattle.zre_journal.specs.Commands.{has_group}
-use Rattle.zre_journal.specs.Truth.{TellsTruth}
+use Rattle.zre_journal.specs.Truth.{TellsTruth, only_begins_with_hello}
 use Rattle.zre_journal.proofs.Always.{empty, marks_allowed}
 use Rattle.zre_journal.proofs.Joined.{after-append}
+use Rattle.zre_journal.proofs.Lines.{are_bodies}
 use Rattle.zre_journal.proofs.Steps.{steps, choice}
-use Rattle.zre_journal.proofs.Truth.{once_more, once_less, apart_of, view_told, Truth, plain_step, plain_steps, born, changes}
+use Rattle.zre_journal.proofs.Truth.{told, once_more, once_less, apart_of, view_told, Truth, plain_step, plain_steps, born, changes}
 use Rattle.zre_journal.proofs.Silent.{Comes-proper}
 use Rattle.zre_journal.proofs.Brought.{Ground, allowed, plain}
 use Rattle.zre_journal.proofs.Brings.{Outcome, plainly, birth_of, start_of, joining, leaving, then, all_brought}
@@ -65,4 +66,8 @@ module _ (g : Config) where
   unfolding view_of
   tells_truth journal =
       let t = truth journal in
-      record { hello_first = t.first; is_true = λ l s. view_told 1 blank (bodies l (chronicle g journal)) ∙ t.true_ l s }
+      let H = chronicle g journal in
+      record {
+        hello_first = λ l s. ap only_begins_with_hello (are_bodies l H) ∙ t.first l s;
+        is_true = λ l s. view_told 1 blank (bodies l H) ∙ ap told (are_bodies l H) ∙ t.true_ l s;
+      }

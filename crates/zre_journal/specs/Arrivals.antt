@@ -1,5 +1,5 @@
--- What comes about where a connection is opened or shut, and at what arrives on it: its greeting, READY, its first
--- message and later ones.
+-- What comes about where a connection is opened or shut, and at what arrives on it: its greeting, READY, PINGs, its
+-- first message and later ones.
 use Rattle.std.specs.Prelude.{ℕ, ◌+◌, not, ◌&&◌, List, [], ◌∷◌, ◌++◌, Option, Some, None, if◌then◌else◌, nat_eq, nat_lt, length}
 use Rattle.zre_values.specs.declared.peer_id.PeerId.{PeerId}
 use Rattle.zre_values.specs.declared.endpoint.Endpoint.{Endpoint}
@@ -18,7 +18,7 @@ use Rattle.zre_peer.specs.declared.causes.Cause.TheVariants as cause
 use Rattle.zre_peer.specs.declared.causes.CloseWhy.TheVariants as close
 use Rattle.zre_peer.specs.declared.causes.IgnoreWhy.TheVariants as ignore
 use Rattle.zre_journal.specs.declared.config.Config.{Config}
-use Rattle.zre_journal.specs.Chronicle.{Mark, Opens, TurnsAway, Greets, Shakes, Starts, Counts, Ignores, Closes, IsShut, Ends, in_turn}
+use Rattle.zre_journal.specs.Chronicle.{Mark, Opens, TurnsAway, Greets, Shakes, AnswersPing, Starts, Counts, Ignores, Closes, IsShut, Ends, in_turn}
 use Rattle.zre_journal.specs.Connections.{open_ones, is_open, is_new, identity, runs, is_live, other_with}
 use Rattle.zre_journal.specs.Peers.{Life, lives, births, life_of, counted}
 use Rattle.zre_journal.specs.Pushes.{push, birth}
@@ -83,6 +83,7 @@ module _ (g : Config) where
   abbrev pub at_arrival : ℕ → Arrival → List Mark → List Mark
   at_arrival c arrival.Greeted K = Greets c ∷ []
   at_arrival c (arrival.Shaken p) K = at_shaken c p (identity c K) K
+  at_arrival c (arrival.Ping t) K = AnswersPing c t ∷ []
   at_arrival c (arrival.Message m) K = at_message c (runs c K) m K
 
   abbrev pub at_said : ℕ → Said → List Mark → List Mark

@@ -20,9 +20,10 @@ pub data Mark : Type 0 where
   -- a connection opens; is turned away, since too many are open
   Opens : (c : ℕ) → Mark
   TurnsAway : (c : ℕ) → Mark
-  -- its greeting is whole; its READY is, with this identity
+  -- its greeting is whole; its READY is, with this identity; a PING with this context is answered
   Greets : (c : ℕ) → Mark
   Shakes : (c : ℕ) → (p : PeerId) → Mark
+  AnswersPing : (c : ℕ) → (context : List ℕ) → Mark
   -- its first message starts a run of the peer on link l; a later one is counted
   Starts : (c l : ℕ) → (m : Message) → Mark
   Counts : (c l : ℕ) → (m : Message) → Mark
@@ -38,8 +39,10 @@ pub data Mark : Type 0 where
   Ends : (l : ℕ) → (cause : Cause) → Mark
   -- nothing was heard of it for the time that makes it evasive
   IsEvasive : (l : ℕ) → Mark
-  -- a message is put on its link; the link is up; so many octets of it have gone out
+  -- a message is put on its link; a PONG is, which answers a PING with this context; the link is up; so many octets of
+  -- it have gone out
   Puts : (l : ℕ) → (b : Body) → Mark
+  PutsPong : (l : ℕ) → (context : List ℕ) → Mark
   Links : (l : ℕ) → Mark
   Sends : (l n : ℕ) → Mark
   -- the node joins a group; leaves one; a command is refused

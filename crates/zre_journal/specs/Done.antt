@@ -4,7 +4,7 @@ use Rattle.std.specs.List.{filter, list_any}
 use Rattle.zre_values.specs.declared.peer_id.PeerId.{PeerId}
 use Rattle.zre_beacon.specs.Beacon.{beacon_octets}
 use Rattle.zre_zmtp.specs.declared.writing.SocketType.TheVariants as socket
-use Rattle.zre_zmtp.specs.Written.{own_greeting, ready_frame}
+use Rattle.zre_zmtp.specs.Written.{own_greeting, ready_frame, pong_frame}
 use Rattle.zre_outside.specs.declared.entry.Entry.{Entry}
 use Rattle.zre_outside.specs.declared.entry.Input.{Input}
 use Rattle.zre_outside.specs.declared.entry.Input.TheVariants as input
@@ -13,7 +13,7 @@ use Rattle.zre_peer.specs.declared.causes.Cause.TheVariants as cause
 use Rattle.zre_outside.specs.declared.act.Act.{Act}
 use Rattle.zre_outside.specs.declared.act.Act.TheVariants as act
 use Rattle.zre_journal.specs.declared.config.Config.{Config}
-use Rattle.zre_journal.specs.Chronicle.{Mark, Opens, TurnsAway, Greets, Closes, ClosesAtStop, Born, Ends, Puts, SendsBeacon}
+use Rattle.zre_journal.specs.Chronicle.{Mark, Opens, TurnsAway, Greets, AnswersPing, Closes, ClosesAtStop, Born, Ends, Puts, SendsBeacon}
 use Rattle.zre_journal.specs.Peers.{Life, lives}
 use Rattle.zre_journal.specs.Links.{gate, taken}
 use Rattle.zre_journal.specs.Happens.{has_stopped, marks, with_entry}
@@ -32,6 +32,7 @@ done_at own (Closes c why) = act.CloseConn c ∷ []
 done_at own (ClosesAtStop c) = act.CloseConn c ∷ []
 done_at own (Opens c) = act.Answer c own_greeting ∷ []
 done_at own (Greets c) = act.Answer c (ready_frame socket.Router None) ∷ []
+done_at own (AnswersPing c t) = act.Answer c (pong_frame t) ∷ []
 done_at own (SendsBeacon port) = act.Beacon (beacon_octets own port) ∷ []
 done_at own _ = []
 

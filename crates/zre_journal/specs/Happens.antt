@@ -47,7 +47,7 @@ module _ (g : Config) where
   at_input (input.Piece c o) H K = at_places g c (newly_completed g.id c H K) K
   at_input (input.Shut c) H K = at_shut g c K
   at_input (input.Linked l) H K = at_linked g l (life l K) K
-  at_input (input.Reply l o) H K = at_reply g l (life l K) K
+  at_input (input.Reply l o) H K = at_reply g l (life l K) H K
   at_input (input.Unlinked l) H K = at_unlinked g l (life l K)
   at_input (input.Took l n) H K = at_took g l n (life l K) K
   at_input input.Tick H K = at_tick g K

@@ -9,7 +9,9 @@ use Rattle.zre_peer.specs.declared.view.View.{View}
 use Rattle.zre_journal.specs.declared.config.Config.{Config}
 use Rattle.zre_journal.specs.Chronicle.{Mark}
 use Rattle.zre_journal.specs.Heard.{bytes}
-use Rattle.zre_journal.specs.Connections.{open_ones, is_live}
+use Rattle.zre_mailbox.specs.Conn.{conn_after, kept_of}
+use Rattle.zre_link.specs.Heard.{heard_after, kept_of as kept_of_replies}
+use Rattle.zre_journal.specs.Connections.{open_ones, is_ignored, is_live}
 use Rattle.zre_journal.specs.Peers.{Life, lives, is_entered, view}
 use Rattle.zre_journal.specs.Links.{groups, is_linked, replies, unsent}
 
@@ -45,6 +47,21 @@ module _ (g : Config) (H : List Mark) where
   -- all of them
   abbrev pub held : ℕ
   held = sum_by conn_octets (filter (λ c. is_live c H) (open_ones H)) + sum_by peer_octets (lives H) + own_octets
+
+-- ---- what readers keep of it, and may look at again
+
+module _ (g : Config) (H : List Mark) where
+  -- of a connection: nothing, where it is ignored or has a fault
+  abbrev pub conn_kept : ℕ → ℕ
+  conn_kept c = if is_ignored c H then 0 else kept_of (conn_after g.id (bytes c H))
+
+  -- of the replies on a link
+  abbrev pub replies_kept : Life → ℕ
+  replies_kept v = kept_of_replies (heard_after (replies v.link H))
+
+  -- of all open connections and all links of known peers
+  abbrev pub kept : ℕ
+  kept = sum_by conn_kept (open_ones H) + sum_by replies_kept (lives H)
 
 -- ---- at most
 

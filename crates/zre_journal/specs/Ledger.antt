@@ -1,17 +1,24 @@
 -- A ledger: the numbered list of messages that is sent on each connection, and which of them come. What a node makes of
 -- messages that come from such lists, and how one that is missing, repeated or out of order shows.
-use Rattle.std.specs.Prelude.{◌≡◌, ◌≢◌, ℕ, ◌+◌, ◌%◌, ◌==◌, true, false, List, [], ◌∷◌, ◌++◌, length, take, Some, IsSome, if◌then◌else◌}
+use Rattle.std.specs.Prelude.{◌≡◌, ◌≢◌, ℕ, ◌+◌, ◌%◌, ◌==◌, true, false, List, [], ◌∷◌, ◌++◌, length, take, slice_get, Some, IsSome, if◌then◌else◌}
 use Rattle.std.specs.List.{range_with_len}
 use Rattle.zre_msg.specs.declared.message.Message.{Message}
 use Rattle.zre_peer.specs.declared.causes.Cause.{Cause}
 use Rattle.zre_peer.specs.declared.causes.Cause.TheVariants as cause
 use Rattle.zre_peer.specs.declared.event.Event.{Event}
-use Rattle.zre_peer.specs.Ledger.{IsNumbered, ArePicked, AreNear}
+use Rattle.zre_peer.specs.Ledger.{IsNumbered, IsPicked, IsNear, ArePicked, AreNear}
 use Rattle.zre_peer.specs.Runs.{told}
 use Rattle.zre_peer.specs.Views.{view_of, is_small}
 use Rattle.zre_journal.specs.declared.config.Config.{Config}
-use Rattle.zre_journal.specs.Arrivals.{answer_to, at_message}
-use Rattle.zre_journal.specs.Chronicle.{Mark, Counts, Ends}
+use Rattle.zre_outside.specs.declared.entry.Entry.{Entry}
+use Rattle.zre_outside.specs.declared.entry.Input.TheVariants.{Piece}
+use Rattle.zre_mailbox.specs.declared.arrival.Arrival.TheVariants as arrival
+use Rattle.zre_mailbox.specs.Talk.{Said, Arrived}
+use Rattle.zre_journal.specs.Arrivals.{answer_to, at_message, at_places}
+use Rattle.zre_journal.specs.Chronicle.{Mark, Comes, Counts, Ends, after}
+use Rattle.zre_journal.specs.Events.{chronicle}
+use Rattle.zre_journal.specs.Happens.{has_stopped}
+use Rattle.zre_journal.specs.Heard.{newly_completed}
 use Rattle.zre_journal.specs.Connections.{runs}
 use Rattle.zre_journal.specs.Hearing.{heard_on}
 use Rattle.zre_journal.specs.Laws.{counted_on}
@@ -60,3 +67,31 @@ pub record IsJudged (g : Config) (c l pick : ℕ) (m : Message) (K : List Mark) 
       → at_message g c (runs c K) m K ≡ Ends l cause.Limit ∷ []
   pub another : pick ≢ length (counted l K) + 1
       → at_message g c (runs c K) m K ≡ Ends l (cause_of_another (length (counted l K)) pick) ∷ []
+
+-- ---- where messages come
+
+-- The message m comes on c in the journal J: an entry that comes before a stop brings octets of c, with which m is
+-- whole, and K is the chronicle after all that they said before it.
+pub record Arrives (g : Config) (J : List Entry) (c : ℕ) (m : Message) (K : List Mark) : Type 0 where
+  pub earlier : List Entry
+  pub entry : Entry
+  pub later : List Entry
+  pub in_journal : J ≡ earlier ++ entry ∷ later
+  pub going : has_stopped (chronicle g earlier) ≡ false
+  pub octets : List ℕ
+  pub is_piece : entry.input ≡ Piece c octets
+  pub said : List Said
+  pub more : List Said
+  pub completes : newly_completed g.id c (chronicle g earlier) (Comes entry ∷ chronicle g earlier)
+      ≡ said ++ Arrived (arrival.Message m) ∷ more
+  pub moment : K ≡ after (at_places g c said (Comes entry ∷ chronicle g earlier)) (Comes entry ∷ chronicle g earlier)
+
+-- Where c runs the peer of link l then, m is the message at the place that the ledger has for it, it is judged by that
+-- place, and the chronicle of J goes on with what comes of it.
+pub record IsPlaced (g : Config) (b : Ledger) (J : List Entry) (c l : ℕ) (m : Message) (K : List Mark) : Type 0 where
+  pub pick : ℕ
+  pub at_its_turn : slice_get (b.picks c) (length (counted l K)) ≡ Some pick
+  pub is_message : IsPicked (b.sent c) pick m
+  pub is_judged : IsNear (length (counted l K)) pick → IsJudged g c l pick m K
+  pub newer : List Mark
+  pub goes_on : chronicle g J ≡ newer ++ after (at_message g c (runs c K) m K) K

@@ -5,11 +5,11 @@ use Rattle.zre_outside.specs.declared.entry.Input.{Input}
 use Rattle.zre_outside.specs.declared.entry.Input.TheVariants as input
 use Rattle.zre_msg.specs.declared.message.Body.{Body}
 use Rattle.zre_msg.specs.declared.message.Message.{Message}
-use Rattle.zre_link.specs.Text.{numbered_from, text_of}
-use Rattle.zre_link.specs.Heard.{awaited}
+use Rattle.zre_link.specs.Text.{Member, Says, Pongs, bodies_in, numbered_from, text_of}
+use Rattle.zre_link.specs.Heard.{awaited, pings}
 use Rattle.zre_link.specs.Link.{gate_by}
 use Rattle.zre_journal.specs.declared.config.Config.{Config}
-use Rattle.zre_journal.specs.Chronicle.{Mark, Comes, Puts, Links, Sends, Joins, Leaves, each, ever}
+use Rattle.zre_journal.specs.Chronicle.{Mark, Comes, Puts, PutsPong, Links, Sends, Joins, Leaves, each, ever}
 
 -- the groups that the node has joined and not left since, in order
 abbrev pub groups : List Mark → List (List ℕ)
@@ -27,20 +27,25 @@ status (_ ∷ H) = status H
 
 -- ---- what is put on a link
 
-abbrev pub put_on : ℕ → Mark → Option Body
-put_on l (Puts k b) = if nat_eq l k then Some b else None
+abbrev pub put_on : ℕ → Mark → Option Member
+put_on l (Puts k b) = if nat_eq l k then Some (Says b) else None
+put_on l (PutsPong k t) = if nat_eq l k then Some (Pongs t) else None
 put_on l _ = None
 
--- the bodies of the messages put on link l
-abbrev pub bodies : ℕ → List Mark → List Body
-bodies l H = each (put_on l) H
+-- the line of link l: the messages and PONGs put on it, in order
+abbrev pub line : ℕ → List Mark → List Member
+line l H = each (put_on l) H
 
--- the messages put on link l
+-- the bodies of the messages in it
+abbrev pub bodies : ℕ → List Mark → List Body
+bodies l H = bodies_in (line l H)
+
+-- these messages
 abbrev pub queued : ℕ → List Mark → List Message
 queued l H = numbered_from 1 (bodies l H)
 
 abbrev pub text : Config → ℕ → List Mark → List ℕ
-text g l H = text_of g.id (bodies l H)
+text g l H = text_of g.id (line l H)
 
 -- ---- what comes back
 
@@ -61,6 +66,11 @@ abbrev pub replies : ℕ → List Mark → List ℕ
 replies l [] = []
 replies l (Comes e ∷ H) = replies l H ++ (if is_linked l H then reply_of l e.input else [])
 replies l (_ ∷ H) = replies l H
+
+-- the contexts of the PINGs on link l that are whole with the entry that came last: H is the chronicle before it, K
+-- with it
+abbrev pub newly_pinged : ℕ → List Mark → List Mark → List (List ℕ)
+newly_pinged l H K = drop (length (pings (replies l H))) (pings (replies l K))
 
 -- ---- what goes out
 

@@ -3,12 +3,12 @@
 use Rattle.std.specs.Prelude.{◌≡◌, ℕ, ◌<◌, ◌≤◌, Bool, true, false, List, [], ◌∷◌, Option, Some, None, IsSome, nat_eq}
 use Rattle.std.specs.List.{AllByRecursion, list_any, find}
 use Rattle.zre_values.specs.declared.peer_id.PeerId.{PeerId}
-use Rattle.zre_msg.specs.declared.message.Body.{Body}
+use Rattle.zre_link.specs.Text.{Member}
 use Rattle.zre_msg.specs.declared.message.Message.{Message}
 use Rattle.zre_journal.specs.Chronicle.{Mark, ever}
 use Rattle.zre_journal.specs.Heard.{was_opened, bytes}
 use Rattle.zre_journal.specs.Connections.{started, has_ended, open_ones, is_new, refuses, identity}
-use Rattle.zre_journal.specs.Links.{bodies, is_linked, replies, taken}
+use Rattle.zre_journal.specs.Links.{line, is_linked, replies, taken}
 use Rattle.zre_journal.specs.Peers.{Life, lives, births, runner, counted}
 
 -- no two of these have one number
@@ -17,17 +17,17 @@ Apart key [] = Unit {0}
 Apart key (x ∷ xs) = AllByRecursion (λ y. nat_eq (key x) (key y) ≡ false) xs × Apart key xs
 
 -- nothing has come about on a link
-pub record AreUnused (ended : Bool) (run : Option ℕ) (put : List Body) (linked : Bool) (replied : List ℕ) (gone : ℕ)
+pub record AreUnused (ended : Bool) (run : Option ℕ) (put : List Member) (linked : Bool) (replied : List ℕ) (gone : ℕ)
     : Type 0 where
   pub no_end : ended ≡ false
   pub no_run : run ≡ None
-  pub no_body : put ≡ []
+  pub no_member : put ≡ []
   pub not_linked : linked ≡ false
   pub no_reply : replied ≡ []
   pub none_taken : gone ≡ 0
 
 abbrev pub IsUnused : ℕ → List Mark → Type 0
-IsUnused l H = AreUnused (has_ended l H) (runner l H) (bodies l H) (is_linked l H) (replies l H) (taken l H)
+IsUnused l H = AreUnused (has_ended l H) (runner l H) (line l H) (is_linked l H) (replies l H) (taken l H)
 
 -- nothing has come about on a connection
 pub record AreUnheard (opened refused : Bool) (start : Option ℕ) (who : Option PeerId) (octets : List ℕ) : Type 0 where

@@ -11,7 +11,7 @@ use Rattle.zre_journal.specs.declared.config.Config.{Config}
 use Rattle.zre_journal.specs.Chronicle.{Mark, Born, Ends, Puts, in_turn}
 use Rattle.zre_journal.specs.Config.{own_endpoint}
 use Rattle.zre_journal.specs.Peers.{Life, births}
-use Rattle.zre_journal.specs.Links.{groups, status, bodies, unsent}
+use Rattle.zre_journal.specs.Links.{groups, status, line, unsent}
 
 module _ (g : Config) where
   -- HELLO, as it is put on a link that is made now
@@ -21,7 +21,7 @@ module _ (g : Config) where
   -- a body is put on link l, unless that makes its peer slow
   abbrev pub push : ℕ → Body → List Mark → List Mark
   push l b K =
-      let size = size_of (bodies l K) b in
+      let size = size_of (line l K) b in
       if nat_lt UNSENT_OCTETS (unsent g l K + size) then Ends l (cause.Slow (unsent g l K) size) ∷ [] else Puts l b ∷ []
 
   -- the same for each of these peers

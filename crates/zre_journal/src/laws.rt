@@ -19,7 +19,7 @@ ghost use Rattle.zre_msg.specs.declared.message.Message.{Message};
 ghost use Rattle.zre_peer.specs.Ledger.{IsNumbered, IsPicked, IsNear};
 ghost use Rattle.zre_journal.specs.Connections.{runs};
 ghost use Rattle.zre_journal.specs.Keeping.{Keeps};
-ghost use Rattle.zre_journal.specs.Ledger.{Ledger, IsDrawn, IsWithinWindow, KeepsLedger, IsJudged};
+ghost use Rattle.zre_journal.specs.Ledger.{Arrives, Ledger, IsDrawn, IsPlaced, IsWithinWindow, KeepsLedger, IsJudged};
 ghost use Rattle.zre_journal.specs.Peers.{counted};
 ghost use Rattle.zre_journal.specs.Standing.{KnownIsBorn, OpenIsOpened};
 ghost use Rattle.zre_journal.specs.Laws.{Continues, HasEnded, RunsAlone, AreStrangers, AreFew, EndsOnce, ShowsItsMessages};
@@ -183,4 +183,11 @@ pub fn a_gap_shows_at_once()
     ensures { (g : Config) (sent : List Message) (c l pick : ℕ) (m : Message) (K : List Mark) → IsNumbered sent
         → IsPicked sent pick m → runs c K ≡ Some l → 0 < length (counted l K) → IsNear (length (counted l K)) pick
         → IsJudged g c l pick m K }
+{}
+
+/// Where the messages of a journal are drawn from ledgers, each message that comes on a connection that runs a peer is
+/// judged so by its place: m comes there at the moment K, and what comes of it is what the chronicle has next.
+pub fn each_message_is_judged_by_its_place()
+    ensures { (g : Config) (b : Ledger) (J : List Entry) (c l : ℕ) (m : Message) (K : List Mark)
+        → IsDrawn g b (chronicle g J) → Arrives g J c m K → runs c K ≡ Some l → IsPlaced g b J c l m K }
 {}

@@ -1,6 +1,9 @@
 -- Replies, what is kept of them, and what comes next.
 use Rattle.std.proofs.Common.{◌≡◌, ℕ, zero, suc, ◌+◌, ◌≤◌, Bool, false, List, [], ◌∷◌, ◌++◌, length, Option, Some, None, refl, sym, ap, subst, ◌∙◌, arith, length-append}
-use Rattle.std.specs.Prelude.{option_to_list}
+use Rattle.std.specs.Prelude.{option_to_list, drop}
+use Rattle.std.proofs.lemmas.List.{drop_at, drop_all}
+use Rattle.std.proofs.lemmas.List.Elements.{filter_map-append}
+use Rattle.zre_zmtp.specs.Ping.{context_in, contexts_in}
 use Rattle.zre_zmtp.specs.declared.want.Want.{Want}
 use Rattle.zre_zmtp.specs.declared.want.Want.TheVariants.{Router}
 use Rattle.zre_zmtp.specs.declared.item.Item.{Item}
@@ -14,7 +17,7 @@ use Rattle.zre_zmtp.specs.Reading.{Reading, Reads as IsAfter, Adds, IsOver, Refu
 use Rattle.zre_zmtp.proofs.Feeding.{is_over}
 use Rattle.zre_link.specs.declared.hearing.Hearing.{Hearing}
 use Rattle.zre_link.specs.declared.hearing.Hearing.TheVariants.{Reads, Refused}
-use Rattle.zre_link.specs.Heard.{reply_fault, awaited, reading, hearing_by, Heard, heard_after, expected_after}
+use Rattle.zre_link.specs.Heard.{reply_fault, pings, new_pings, awaited, reading, hearing_by, Heard, heard_after, expected_after}
 
 -- ---- what comes next, by how many items are whole
 
@@ -73,11 +76,30 @@ awaited_more o p start now e e' n was none a count is =
     ∙ after_more (length (items Router Whole o)) (length (new_items Router Whole o p))
     ∙ ap (λ m. expected_after expect.Greeting m) all ∙ sym (awaited_items (o ++ p))
 
-pub awaited_refused : (o p : List ℕ) (fault : FeedFault) (start now : List Item) (e e' : Expected) (n : ℕ) → e ≡ awaited o → start ≡ []
+-- ---- PINGs
+
+contexts-append : (xs ys : List Item) → contexts_in (xs ++ ys) ≡ contexts_in xs ++ contexts_in ys
+contexts-append xs ys = filter_map-append (λ item. context_in item.what) xs ys
+
+-- the items of a piece, appended to none, have its PINGs
+pub pinged : (o p : List ℕ) (start now : List Item) → start ≡ [] → Adds Router Whole o p start now → contexts_in now ≡ new_pings o p
+pinged o p start now none a =
+    let more = contexts_in (new_items Router Whole o p) in
+    let newly : now ≡ new_items Router Whole o p = a.appended ∙ ap (λ (l : List Item). l ++ new_items Router Whole o p) none in
+    let all : pings (o ++ p) ≡ pings o ++ more = ap contexts_in a.extended ∙ contexts-append (items Router Whole o) (new_items Router Whole o p) in
+    ap contexts_in newly ∙ sym (ap (λ (l : List (List ℕ)). drop (length (pings o)) l) all ∙ drop_at (pings o) more (length (pings o)) refl)
+
+-- after a fault there are none
+pub none_pinged : (o p : List ℕ) (x : ZmtpFault) → reply_fault o ≡ Some x → new_pings o p ≡ []
+none_pinged o p x there =
+    let over : IsOver Router Whole o = is_over Router Whole o x there in
+    ap (λ (l : List Item). drop (length (pings o)) (contexts_in l)) (over.items p) ∙ drop_all (length (pings o)) (pings o) (omega arith)
+
+pub read_refused : (o p : List ℕ) (fault : FeedFault) (start now : List Item) (e e' : Expected) (n : ℕ) → e ≡ awaited o → start ≡ []
     → Refuses fault (reply_fault (o ++ p)) (Adds Router Whole o p start now × IsOver Router Whole (o ++ p))
-    → n ≡ length now → e' ≡ expected_after e n → Refuses fault (reply_fault (o ++ p)) (e' ≡ awaited (o ++ p))
-awaited_refused o p (Zmtp x) start now e e' n was none a count is = (a.0, awaited_more o p start now e e' n was none a.1.0 count is)
-awaited_refused o p OutOfMemory start now e e' n was none a count is = tt
+    → n ≡ length now → e' ≡ expected_after e n → Refuses fault (reply_fault (o ++ p)) ((e' ≡ awaited (o ++ p)) × (contexts_in now ≡ new_pings o p))
+read_refused o p (Zmtp x) start now e e' n was none a count is = (a.0, (awaited_more o p start now e e' n was none a.1.0 count is, pinged o p start now none a.1.0))
+read_refused o p OutOfMemory start now e e' n was none a count is = tt
 
 -- ---- what is kept, as a function of the octets
 
@@ -127,7 +149,7 @@ heard_nothing r h = heard_read [] expect.Greeting r h (sym nothing_awaited)
 
 -- whatever comes after it
 refused_stays : (o p : List ℕ) (e : Expected) (f : Option ZmtpFault) (fault : FeedFault) → reply_fault o ≡ f → e ≡ awaited o → hearing_by f (reading o) ≡ Refused fault
-    → let h : Heard = record { awaits = e; hearing = Refused fault } in Refuses fault (reply_fault (o ++ p)) (h ≡ heard_after (o ++ p))
+    → let h : Heard = record { awaits = e; hearing = Refused fault } in Refuses fault (reply_fault (o ++ p)) ((h ≡ heard_after (o ++ p)) × ([] ≡ new_pings o p))
 refused_stays o p e None fault there is refused = absurd cc
 refused_stays o p e (Some x) fault there is refused =
     let over : IsOver Router Whole o = is_over Router Whole o x there in
@@ -135,10 +157,12 @@ refused_stays o p e (Some x) fault there is refused =
     let same : awaited (o ++ p) ≡ awaited o =
     awaited_items (o ++ p) ∙ ap (λ (l : List Item). expected_after expect.Greeting (length l)) (over.items p) ∙ sym (awaited_items o) in
     let known : Zmtp x ≡ fault = cc in
-    subst (λ (f : FeedFault). let h : Heard = record { awaits = e; hearing = Refused f } in Refuses f (reply_fault (o ++ p)) (h ≡ heard_after (o ++ p))) known
-    (stays, heard_refused (o ++ p) e x stays (is ∙ sym same))
+    subst (λ (f : FeedFault). let h : Heard = record { awaits = e; hearing = Refused f } in Refuses f (reply_fault (o ++ p)) ((h ≡ heard_after (o ++ p)) × ([] ≡ new_pings o p))) known
+    (stays, (heard_refused (o ++ p) e x stays (is ∙ sym same), sym (none_pinged o p x there)))
 
-pub stays_refused : (o p : List ℕ) (h : Heard) (fault : FeedFault) → h ≡ heard_after o → h.hearing ≡ Refused fault
-    → let now : Heard = record { awaits = h.awaits; hearing = Refused fault } in Refuses fault (reply_fault (o ++ p)) (now ≡ heard_after (o ++ p))
-stays_refused o p h fault e refused =
-    refused_stays o p h.awaits (reply_fault o) fault refl (ap (λ (x : Heard). x.awaits) e) (sym (ap (λ (x : Heard). x.hearing) e) ∙ refused)
+pub stays_refused : (o p : List ℕ) (h : Heard) (fault : FeedFault) (now : List Item) → now ≡ [] → h ≡ heard_after o → h.hearing ≡ Refused fault
+    → let k : Heard = record { awaits = h.awaits; hearing = Refused fault } in Refuses fault (reply_fault (o ++ p)) ((k ≡ heard_after (o ++ p)) × (contexts_in now ≡ new_pings o p))
+stays_refused o p h fault now none e refused =
+    let k : Heard = record { awaits = h.awaits; hearing = Refused fault } in
+    subst (λ (l : List Item). Refuses fault (reply_fault (o ++ p)) ((k ≡ heard_after (o ++ p)) × (contexts_in l ≡ new_pings o p))) (sym none)
+    (refused_stays o p h.awaits (reply_fault o) fault refl (ap (λ (x : Heard). x.awaits) e) (sym (ap (λ (x : Heard). x.hearing) e) ∙ refused))

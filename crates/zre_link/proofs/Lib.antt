@@ -1,2 +1,4 @@
 pub mod After
+pub mod Answering
 pub mod Numbered
+pub mod Replied

@@ -1,11 +1,12 @@
 -- What comes back on a link, and what is kept of it.
-use Rattle.std.specs.Prelude.{ℕ, zero, suc, false, List, Option, Some, None}
+use Rattle.std.specs.Prelude.{ℕ, zero, suc, false, List, ◌++◌, length, drop, Option, Some, None}
 use Rattle.zre_zmtp.specs.declared.fault.ZmtpFault.{ZmtpFault}
 use Rattle.zre_zmtp.specs.declared.fault.FeedFault.TheVariants.{Zmtp}
 use Rattle.zre_zmtp.specs.declared.expected.Expected.{Expected}
 use Rattle.zre_zmtp.specs.declared.expected.Expected.TheVariants as expect
 use Rattle.zre_zmtp.specs.declared.want.Want.TheVariants.{Router}
-use Rattle.zre_zmtp.specs.Stream.{Whole, expected, before, split, fault}
+use Rattle.zre_zmtp.specs.Ping.{contexts_in}
+use Rattle.zre_zmtp.specs.Stream.{Whole, expected, before, split, items, fault}
 use Rattle.zre_zmtp.specs.Reading.{Reading, kept}
 use Rattle.zre_link.specs.declared.awaits.Awaits.{Awaits}
 use Rattle.zre_link.specs.declared.awaits.Awaits.TheVariants as awaits
@@ -19,6 +20,14 @@ reply_fault o = fault Router Whole o
 -- what comes next in replies
 abbrev pub awaited : List ℕ → Expected
 awaited o = expected Whole (split Router Whole o).0
+
+-- the contexts of the PINGs in replies, in their order, before the fault where there is one
+abbrev pub pings : List ℕ → List (List ℕ)
+pings o = contexts_in (items Router Whole o)
+
+-- those that are whole with more octets
+abbrev pub new_pings : List ℕ → List ℕ → List (List ℕ)
+new_pings o more = drop (length (pings o)) (pings (o ++ more))
 
 -- ---- what is kept
 

@@ -1,19 +1,22 @@
--- What a link keeps, as a function of what was put on it, of what came back and of what went out.
-use Rattle.std.specs.Prelude.{◌≡◌, ℕ, ◌+◌, ◌-◌, ◌<◌, min, nat_lt, Bool, if◌then◌else◌, List, length, take, drop}
+-- What a link keeps, as a function of its line, of what came back and of what went out.
+use Rattle.std.specs.Prelude.{◌≡◌, ℕ, ◌+◌, ◌-◌, ◌<◌, min, nat_lt, Bool, if◌then◌else◌, List, [], ◌∷◌, ◌++◌, length, take, drop, map, Option, Some, None}
 use Rattle.zre_values.specs.declared.limits.TheConstants.{UNSENT_OCTETS}
 use Rattle.zre_values.specs.declared.peer_id.PeerId.{PeerId}
+use Rattle.zre_zmtp.specs.Written.{pong_frame}
+use Rattle.zre_zmtp.specs.declared.fault.ZmtpFault.{ZmtpFault}
 use Rattle.zre_zmtp.specs.declared.expected.Expected.{Expected}
 use Rattle.zre_zmtp.specs.declared.expected.Expected.TheVariants as expect
-use Rattle.zre_msg.specs.declared.message.Body.{Body}
 use Rattle.zre_link.specs.declared.fault.PushFault.{PushFault}
 use Rattle.zre_link.specs.declared.fault.PushFault.TheVariants.{Slow, OutOfMemory}
-use Rattle.zre_link.specs.Text.{text_of}
-use Rattle.zre_link.specs.Heard.{awaited, Heard, heard_after}
+use Rattle.zre_link.specs.declared.fault.ReplyFault.{ReplyFault}
+use Rattle.zre_link.specs.declared.fault.ReplyFault.TheVariants as answer
+use Rattle.zre_link.specs.Text.{Member, Pongs, bodies_in, text_of}
+use Rattle.zre_link.specs.Heard.{awaited, new_pings, Heard, heard_after}
 
 -- ---- what contracts see of a link
 
--- the octets that haven't gone out (queue), how many bodies were put (sent), how many octets they make with the
--- greeting and READY (written), how many have gone out (taken), whether the link stands, and what is kept of the
+-- the octets that haven't gone out (queue), how many messages are in its line (sent), how many octets the line makes
+-- with the greeting and READY (written), how many have gone out (taken), whether the link stands, and what is kept of the
 -- replies
 pub record Sending : Type 0 where
   pub queue : List ℕ
@@ -23,12 +26,12 @@ pub record Sending : Type 0 where
   pub linked : Bool
   pub replies : Heard
 
--- the link of the node `own` on which these bodies were put, after the replies o, when n octets have gone out
-abbrev pub link_after : PeerId → List Body → Bool → List ℕ → ℕ → Sending
-link_after own bodies linked o n = record {
-  queue = drop n (text_of own bodies);
-  sent = length bodies;
-  written = length (text_of own bodies);
+-- the link of the node `own` with this line, after the replies o, when n octets have gone out
+abbrev pub link_after : PeerId → List Member → Bool → List ℕ → ℕ → Sending
+link_after own line linked o n = record {
+  queue = drop n (text_of own line);
+  sent = length (bodies_in line);
+  written = length (text_of own line);
   taken = n;
   linked = linked;
   replies = heard_after o;
@@ -36,8 +39,8 @@ link_after own bodies linked o n = record {
 
 -- ---- what goes out
 
--- how many of all these octets may go out: the greeting at once, READY after the greeting of the other end, and the
--- messages after its READY
+-- how many of all these octets may go out: the greeting at once, READY after the greeting of the other end, and its
+-- line after its READY
 abbrev pub gate_by : Expected → ℕ → ℕ
 gate_by expect.Greeting all = 64
 gate_by expect.Ready all = 124
@@ -52,20 +55,20 @@ abbrev pub has_front : Sending → Bool
 has_front s = nat_lt s.taken (gate_at s.linked s.replies.awaits s.written)
 
 -- how many of all octets of a link may go out
-abbrev pub gate_of : PeerId → List Body → Bool → List ℕ → ℕ
-gate_of own bodies linked o = gate_at linked (awaited o) (length (text_of own bodies))
+abbrev pub gate_of : PeerId → List Member → Bool → List ℕ → ℕ
+gate_of own line linked o = gate_at linked (awaited o) (length (text_of own line))
 
 -- the octets that may go out now
-abbrev pub front_of : PeerId → List Body → Bool → List ℕ → ℕ → List ℕ
-front_of own bodies linked o n = take (gate_of own bodies linked o - n) (drop n (text_of own bodies))
+abbrev pub front_of : PeerId → List Member → Bool → List ℕ → ℕ → List ℕ
+front_of own line linked o n = take (gate_of own line linked o - n) (drop n (text_of own line))
 
 -- how many have gone out when so many more go, or as many as may
-abbrev pub taken_by : PeerId → List Body → Bool → List ℕ → ℕ → ℕ → ℕ
-taken_by own bodies linked o n count = n + min count (gate_of own bodies linked o - n)
+abbrev pub taken_by : PeerId → List Member → Bool → List ℕ → ℕ → ℕ → ℕ
+taken_by own line linked o n count = n + min count (gate_of own line linked o - n)
 
 -- how many have not
-abbrev pub unsent_of : PeerId → List Body → ℕ → ℕ
-unsent_of own bodies n = length (text_of own bodies) - n
+abbrev pub unsent_of : PeerId → List Member → ℕ → ℕ
+unsent_of own line n = length (text_of own line) - n
 
 -- ---- a body that is put
 
@@ -79,3 +82,39 @@ pub record IsSlow (waiting takes unsent size : ℕ) : Type 0 where
 abbrev pub RefusesPush : PushFault → ℕ → ℕ → Type 0
 RefusesPush (Slow unsent size) waiting takes = IsSlow waiting takes unsent size
 RefusesPush OutOfMemory waiting takes = Unit {0}
+
+-- ---- PINGs that are answered
+
+-- of the contexts of PINGs, one after another, where so many octets wait: those before the first whose PONG would make
+-- more wait than may
+abbrev pub answered : ℕ → List (List ℕ) → List (List ℕ)
+answered waiting [] = []
+answered waiting (t ∷ ts) =
+    if nat_lt UNSENT_OCTETS (waiting + length (pong_frame t)) then []
+    else t ∷ answered (waiting + length (pong_frame t)) ts
+
+-- how many octets wait where that first one comes, and how many its PONG has
+abbrev pub slow_at : ℕ → List (List ℕ) → Option (ℕ × ℕ)
+slow_at waiting [] = None
+slow_at waiting (t ∷ ts) =
+    if nat_lt UNSENT_OCTETS (waiting + length (pong_frame t)) then Some (waiting, length (pong_frame t))
+    else slow_at (waiting + length (pong_frame t)) ts
+
+-- the line with the PONGs that answer these at its end
+abbrev pub answering : PeerId → List Member → ℕ → List (List ℕ) → List Member
+answering own line n ts = line ++ map (λ t. Pongs t) (answered (unsent_of own line n) ts)
+
+-- the link after one more piece of replies: the PINGs that are whole with it are answered, in their order
+abbrev pub link_answering : PeerId → List Member → Bool → List ℕ → ℕ → List ℕ → Sending
+link_answering own line linked o n piece = link_after own (answering own line n (new_pings o piece)) linked (o ++ piece) n
+
+-- the PONG that has no room among those that answer one more piece
+abbrev pub slow_in : PeerId → List Member → List ℕ → ℕ → List ℕ → Option (ℕ × ℕ)
+slow_in own line o n piece = slow_at (unsent_of own line n) (new_pings o piece)
+
+-- why a piece of replies is refused: Slow tells both numbers; a fault is told where each PONG had room; then P holds;
+-- of OutOfMemory nothing is said
+abbrev pub RefusesReply : ReplyFault → Option (ℕ × ℕ) → Option ZmtpFault → Type 0 → Type 0
+RefusesReply (answer.Slow unsent size) slow fault P = (slow ≡ Some (unsent, size)) × P
+RefusesReply (answer.Zmtp f) slow fault P = (slow ≡ None) × (fault ≡ Some f) × P
+RefusesReply answer.OutOfMemory slow fault P = Unit {0}

@@ -10,7 +10,7 @@ pub enum Awaits {
     Greeting,
     /// READY: after it messages may go out.
     Ready,
-    /// Messages and commands, which are dropped.
+    /// Messages and commands: PINGs are answered, and all else is dropped.
     Traffic,
 }
 

@@ -1,7 +1,9 @@
 //! Outgoing connections: a node speaks as a DEALER (RFC 23), and numbers the messages of ZRE that it puts on the link
-//! (RFC 36). What comes back is read as the stream of a ROUTER, and tells how much may go out.
+//! (RFC 36). What comes back is read as the stream of a ROUTER: it tells how much may go out, and its PINGs are answered
+//! (RFC 37).
 #![tactic(auto)]
 
+mod answers;
 mod awaits;
 mod fault;
 mod hearing;
@@ -9,5 +11,5 @@ mod link;
 mod queue;
 mod replies;
 
-pub use fault::PushFault;
+pub use fault::{PushFault, ReplyFault};
 pub use link::Link;

@@ -5,16 +5,16 @@ ghost use Rattle.zre_values.specs.declared.limits.TheConstants.{MESSAGE_OCTETS, 
 ghost use Rattle.zre_values.specs.declared.peer_id.PeerId.{PeerId as PeerIdValue};
 ghost use Rattle.zre_zmtp.specs.Laws.{handshake};
 ghost use Rattle.zre_zmtp.specs.declared.writing.SocketType.TheVariants.{Dealer};
-ghost use Rattle.zre_zmtp.specs.Reading.{Refuses};
-ghost use Rattle.zre_zmtp.specs.Looks.{Looks};
-ghost use Rattle.zre_msg.specs.declared.message.Body.{Body as BodyValue};
+ghost use Rattle.zre_zmtp.specs.Looks.{IsPaid, IsPaidOnRefusal};
+ghost use Rattle.zre_zmtp.specs.Ping.{contexts_in};
 ghost use Rattle.zre_msg.specs.Spelling.{FitsBody, Fits, octets as octets_of};
-ghost use Rattle.zre_link.specs.Text.{text_of, size_of};
+ghost use Rattle.zre_link.specs.Text.{Member, Says, bodies_in, text_of, size_of};
 ghost use Rattle.zre_link.specs.Heard.{reply_fault, heard_after, kept_of};
-ghost use Rattle.zre_link.specs.Link.{link_after, gate_at, has_front, front_of, taken_by, unsent_of, RefusesPush};
+ghost use Rattle.zre_link.specs.Link.{link_after, gate_at, has_front, front_of, taken_by, unsent_of, RefusesPush, slow_at, answering, link_answering, slow_in, RefusesReply};
 
+use crate::answers::answer_all;
 use crate::awaits::Awaits;
-use crate::fault::PushFault;
+use crate::fault::{PushFault, ReplyFault};
 use crate::queue::Queue;
 use crate::replies::Replies;
 use std::alloc::Global;
@@ -24,7 +24,7 @@ use std::sync::ledger::{Blank, Ledger};
 use zre_msg::{Body, Message};
 use zre_values::limits::UNSENT_OCTETS;
 use zre_values::{Octets, OutOfMemory, PeerId};
-use zre_zmtp::{FeedFault, SocketType, Steps, greeting, ready};
+use zre_zmtp::{FeedFault, Item, Items, SocketType, Steps, greeting, ready};
 
 /// The connection of a node to the mailbox of a peer. The node speaks as a DEALER with the identity 01 and its UUID:
 /// its greeting, READY, and then the messages that are put, numbered from 1. The octets wait here until the socket
@@ -72,7 +72,7 @@ fn handshake_of(alloc: Global, own: PeerId) -> Result<Octets, OutOfMemory>
     Ok(octets)
 }
 
-// Queues a message after `written` octets, unless it passes the limit, and answers how many there are with it.
+// Queues a message after `written` octets, unless it passes the limit, and gives how many there are with it.
 fn queue_message(
     alloc: Global,
     queue: &mut Queue,
@@ -121,13 +121,13 @@ impl Link {
     /// wait then. The body is lent, and handed back as it was.
     pub fn push(&mut self, body: &mut Body) -> Result<(), PushFault>
         requires { FitsBody body.old }
-        ensures ok { (own : PeerIdValue) (bodies : List BodyValue) (linked : Bool) (o : List ℕ) (n : ℕ) →
-            self.old ≡ link_after own bodies linked o n →
-            OnOk result ((unsent_of own bodies n + size_of bodies body.old ≤ UNSENT_OCTETS)
-            × (self.new ≡ link_after own (bodies ++ body.old ∷ []) linked o n)) }
-        ensures refused { (own : PeerIdValue) (bodies : List BodyValue) (linked : Bool) (o : List ℕ) (n : ℕ) →
-            self.old ≡ link_after own bodies linked o n →
-            IfErr result (λ e. RefusesPush e (unsent_of own bodies n) (size_of bodies body.old)) }
+        ensures ok { (own : PeerIdValue) (line : List Member) (linked : Bool) (o : List ℕ) (n : ℕ) →
+            self.old ≡ link_after own line linked o n →
+            OnOk result ((unsent_of own line n + size_of line body.old ≤ UNSENT_OCTETS)
+            × (self.new ≡ link_after own (line ++ Says body.old ∷ []) linked o n)) }
+        ensures refused { (own : PeerIdValue) (line : List Member) (linked : Bool) (o : List ℕ) (n : ℕ) →
+            self.old ≡ link_after own line linked o n →
+            IfErr result (λ e. RefusesPush e (unsent_of own line n) (size_of line body.old)) }
         ensures unchanged { OnErr result (self.new ≡ self.old) }
         ensures lent { body.new ≡ body.old }
     {
@@ -148,8 +148,8 @@ impl Link {
 
     /// From now on the link stands. A second call does nothing.
     pub fn linked(&mut self)
-        ensures { (own : PeerIdValue) (bodies : List BodyValue) (linked : Bool) (o : List ℕ) (n : ℕ) →
-            self.old ≡ link_after own bodies linked o n → self.new ≡ link_after own bodies true o n }
+        ensures { (own : PeerIdValue) (line : List Member) (linked : Bool) (o : List ℕ) (n : ℕ) →
+            self.old ≡ link_after own line linked o n → self.new ≡ link_after own line true o n }
     {
         self.linked = true;
     }
@@ -161,20 +161,23 @@ impl Link {
         self.linked
     }
 
-    /// Reads one more piece of what comes back, which is the stream of a ROUTER (RFC 23). Its messages and commands are
-    /// dropped. A fault stays: each further piece is refused with it. After OutOfMemory what is kept of the replies is
-    /// left open.
-    pub fn reply(&mut self, piece: &[u8]) -> Result<(), FeedFault>
+    /// Reads one more piece of what comes back, which is the stream of a ROUTER (RFC 23). Each PING that becomes whole
+    /// with it is answered by a PONG at the end of what waits; other commands and messages are dropped. `Slow` comes at
+    /// the first PONG with which more than 4,194,304 octets would wait: those before it were put, and no fault is told. A
+    /// fault stays: each further piece is refused with it. After OutOfMemory what is kept of the replies, and how many
+    /// PONGs were put, is left open.
+    pub fn reply(&mut self, piece: &[u8]) -> Result<(), ReplyFault>
         requires { self.old.linked ≡ true }
-        ensures ok { (own : PeerIdValue) (bodies : List BodyValue) (linked : Bool) (o : List ℕ) (n : ℕ) →
-            self.old ≡ link_after own bodies linked o n →
-            OnOk result ((reply_fault (o ++ piece.now) ≡ None)
-            × (self.new ≡ link_after own bodies linked (o ++ piece.now) n)) }
-        ensures refused { (own : PeerIdValue) (bodies : List BodyValue) (linked : Bool) (o : List ℕ) (n : ℕ) →
-            self.old ≡ link_after own bodies linked o n →
-            IfErr result (λ e. Refuses e (reply_fault (o ++ piece.now))
-            (self.new ≡ link_after own bodies linked (o ++ piece.now) n)) }
-        ensures rest { let now = self.new in now ≡ record self.old { replies = now.replies } }
+        ensures ok { (own : PeerIdValue) (line : List Member) (linked : Bool) (o : List ℕ) (n : ℕ) →
+            self.old ≡ link_after own line linked o n →
+            OnOk result ((slow_in own line o n piece.now ≡ None) × (reply_fault (o ++ piece.now) ≡ None)
+            × (self.new ≡ link_answering own line linked o n piece.now)) }
+        ensures refused { (own : PeerIdValue) (line : List Member) (linked : Bool) (o : List ℕ) (n : ℕ) →
+            self.old ≡ link_after own line linked o n →
+            IfErr result (λ e. RefusesReply e (slow_in own line o n piece.now) (reply_fault (o ++ piece.now))
+            (self.new ≡ link_answering own line linked o n piece.now)) }
+        ensures rest { (self.new.sent ≡ self.old.sent) × (self.new.taken ≡ self.old.taken)
+            × (self.new.linked ≡ self.old.linked) }
     {
         self.reply_from::<Brand>(piece, Blank::new(1))
     }
@@ -184,47 +187,80 @@ impl Link {
         &mut self,
         piece: &[u8],
         steps: &mut Steps<L>,
-    ) -> Result<(), FeedFault>
+    ) -> Result<(), ReplyFault>
         requires { self.old.linked ≡ true }
-        ensures ok { (own : PeerIdValue) (bodies : List BodyValue) (linked : Bool) (o : List ℕ) (n : ℕ) →
-            self.old ≡ link_after own bodies linked o n →
-            OnOk result ((reply_fault (o ++ piece.now) ≡ None)
-            × (self.new ≡ link_after own bodies linked (o ++ piece.now) n)) }
-        ensures refused { (own : PeerIdValue) (bodies : List BodyValue) (linked : Bool) (o : List ℕ) (n : ℕ) →
-            self.old ≡ link_after own bodies linked o n →
-            IfErr result (λ e. Refuses e (reply_fault (o ++ piece.now))
-            (self.new ≡ link_after own bodies linked (o ++ piece.now) n)) }
-        ensures rest { let now = self.new in now ≡ record self.old { replies = now.replies } }
-        ensures looks { Looks steps.old steps.new (kept_of self.old.replies) (kept_of self.new.replies)
-            (length piece.now) result }
+        ensures ok { (own : PeerIdValue) (line : List Member) (linked : Bool) (o : List ℕ) (n : ℕ) →
+            self.old ≡ link_after own line linked o n →
+            OnOk result ((slow_in own line o n piece.now ≡ None) × (reply_fault (o ++ piece.now) ≡ None)
+            × (self.new ≡ link_answering own line linked o n piece.now)) }
+        ensures refused { (own : PeerIdValue) (line : List Member) (linked : Bool) (o : List ℕ) (n : ℕ) →
+            self.old ≡ link_after own line linked o n →
+            IfErr result (λ e. RefusesReply e (slow_in own line o n piece.now) (reply_fault (o ++ piece.now))
+            (self.new ≡ link_answering own line linked o n piece.now)) }
+        ensures rest { (self.new.sent ≡ self.old.sent) × (self.new.taken ≡ self.old.taken)
+            × (self.new.linked ≡ self.old.linked) }
+        ensures looks { OnOk result (IsPaid steps.old steps.new (kept_of self.old.replies) (kept_of self.new.replies)
+            (length piece.now)) }
+        ensures refused_looks { OnErr result (IsPaidOnRefusal steps.old steps.new (kept_of self.old.replies)
+            (length piece.now)) }
+        ensures paid { IfErr result (λ e. e ≢ ReplyFault.OutOfMemory → IsPaid steps.old steps.new (kept_of self.old.replies)
+            (kept_of self.new.replies) (length piece.now)) }
     {
-        self.replies.feed(piece, steps)
+        let mut items = Items::new(self.alloc);
+        match self.replies.feed(piece, &mut items, steps) {
+            Ok(()) => match self.answer(items.as_slice()) {
+                Ok(()) => Ok(()),
+                Err(slow) => Err(slow),
+            },
+            Err(FeedFault::Zmtp(fault)) => match self.answer(items.as_slice()) {
+                Ok(()) => Err(ReplyFault::Zmtp(fault)),
+                Err(slow) => Err(slow),
+            },
+            Err(FeedFault::OutOfMemory) => Err(ReplyFault::OutOfMemory),
+        }
     }
 
     // The same for a caller that counts nothing.
-    fn reply_from<L: Ledger>(&mut self, piece: &[u8], blank: Blank) -> Result<(), FeedFault>
+    fn reply_from<L: Ledger>(&mut self, piece: &[u8], blank: Blank) -> Result<(), ReplyFault>
         requires name { blank.name ≡ L.name }
         requires parts { blank.parts ≡ L.parts }
         requires some { 0 < blank.parts }
         requires linked { self.old.linked ≡ true }
-        ensures ok { (own : PeerIdValue) (bodies : List BodyValue) (linked : Bool) (o : List ℕ) (n : ℕ) →
-            self.old ≡ link_after own bodies linked o n →
-            OnOk result ((reply_fault (o ++ piece.now) ≡ None)
-            × (self.new ≡ link_after own bodies linked (o ++ piece.now) n)) }
-        ensures refused { (own : PeerIdValue) (bodies : List BodyValue) (linked : Bool) (o : List ℕ) (n : ℕ) →
-            self.old ≡ link_after own bodies linked o n →
-            IfErr result (λ e. Refuses e (reply_fault (o ++ piece.now))
-            (self.new ≡ link_after own bodies linked (o ++ piece.now) n)) }
-        ensures rest { let now = self.new in now ≡ record self.old { replies = now.replies } }
+        ensures ok { (own : PeerIdValue) (line : List Member) (linked : Bool) (o : List ℕ) (n : ℕ) →
+            self.old ≡ link_after own line linked o n →
+            OnOk result ((slow_in own line o n piece.now ≡ None) × (reply_fault (o ++ piece.now) ≡ None)
+            × (self.new ≡ link_answering own line linked o n piece.now)) }
+        ensures refused { (own : PeerIdValue) (line : List Member) (linked : Bool) (o : List ℕ) (n : ℕ) →
+            self.old ≡ link_after own line linked o n →
+            IfErr result (λ e. RefusesReply e (slow_in own line o n piece.now) (reply_fault (o ++ piece.now))
+            (self.new ≡ link_answering own line linked o n piece.now)) }
+        ensures rest { (self.new.sent ≡ self.old.sent) × (self.new.taken ≡ self.old.taken)
+            × (self.new.linked ≡ self.old.linked) }
     {
         let mut steps = Steps::<L>::new(blank);
         self.reply_counted(piece, &mut steps)
     }
 
+    // Puts a PONG for each PING among the items, up to the one that has no room.
+    fn answer(&mut self, items: &[Item]) -> Result<(), ReplyFault>
+        ensures ok { (own : PeerIdValue) (line : List Member) (linked : Bool) (o : List ℕ) (n : ℕ) →
+            self.old ≡ link_after own line linked o n →
+            OnOk result ((slow_at (unsent_of own line n) (contexts_in items.now) ≡ None)
+            × (self.new ≡ link_after own (answering own line n (contexts_in items.now)) linked o n)) }
+        ensures refused { (own : PeerIdValue) (line : List Member) (linked : Bool) (o : List ℕ) (n : ℕ) →
+            self.old ≡ link_after own line linked o n →
+            IfErr result (λ e. RefusesReply e (slow_at (unsent_of own line n) (contexts_in items.now)) None
+            (self.new ≡ link_after own (answering own line n (contexts_in items.now)) linked o n)) }
+        ensures rest { (self.new.sent ≡ self.old.sent) × (self.new.taken ≡ self.old.taken)
+            × (self.new.linked ≡ self.old.linked) × (self.new.replies ≡ self.old.replies) }
+    {
+        answer_all(self.alloc, &mut self.queue, &mut self.written, items)
+    }
+
     /// The octets that may go out now, all of them in one piece.
     pub fn front(&self) -> &[u8]
-        ensures front { (own : PeerIdValue) (bodies : List BodyValue) (linked : Bool) (o : List ℕ) (n : ℕ) →
-            self.now ≡ link_after own bodies linked o n → result.now ≡ front_of own bodies linked o n }
+        ensures front { (own : PeerIdValue) (line : List Member) (linked : Bool) (o : List ℕ) (n : ℕ) →
+            self.now ≡ link_after own line linked o n → result.now ≡ front_of own line linked o n }
         ensures some { has_front self.now ≡ true → result.now ≢ [] }
     {
         let (front, _) = self.queue.as_slice().split_at(self.open());
@@ -240,9 +276,9 @@ impl Link {
 
     /// So many octets of the front have gone out, or all of it where it has fewer.
     pub fn took(&mut self, count: u64)
-        ensures { (own : PeerIdValue) (bodies : List BodyValue) (linked : Bool) (o : List ℕ) (n : ℕ) →
-            self.old ≡ link_after own bodies linked o n →
-            self.new ≡ link_after own bodies linked o (taken_by own bodies linked o n count) }
+        ensures { (own : PeerIdValue) (line : List Member) (linked : Bool) (o : List ℕ) (n : ℕ) →
+            self.old ≡ link_after own line linked o n →
+            self.new ≡ link_after own line linked o (taken_by own line linked o n count) }
     {
         let taken = count.min(self.open() as u64);
         self.queue.remove(taken as usize);
@@ -251,18 +287,18 @@ impl Link {
 
     /// How many octets wait.
     pub fn unsent(&self) -> u64
-        ensures unsent { (own : PeerIdValue) (bodies : List BodyValue) (linked : Bool) (o : List ℕ) (n : ℕ) →
-            self.now ≡ link_after own bodies linked o n →
-            (result ≡ unsent_of own bodies n) × (n ≤ length (text_of own bodies)) }
+        ensures unsent { (own : PeerIdValue) (line : List Member) (linked : Bool) (o : List ℕ) (n : ℕ) →
+            self.now ≡ link_after own line linked o n →
+            (result ≡ unsent_of own line n) × (n ≤ length (text_of own line)) }
         ensures within { result ≤ UNSENT_OCTETS }
     {
         self.queue.len() as u64
     }
 
-    /// How many bodies were put.
+    /// How many messages were put.
     pub fn sent(&self) -> u64
-        ensures { (own : PeerIdValue) (bodies : List BodyValue) (linked : Bool) (o : List ℕ) (n : ℕ) →
-            self.now ≡ link_after own bodies linked o n → result ≡ length bodies }
+        ensures { (own : PeerIdValue) (line : List Member) (linked : Bool) (o : List ℕ) (n : ℕ) →
+            self.now ≡ link_after own line linked o n → result ≡ length (bodies_in line) }
     {
         self.sent
     }
@@ -270,8 +306,8 @@ impl Link {
     /// How many octets of the replies are kept: those of the bodies of an unfinished message, and those of an
     /// unfinished greeting or frame.
     pub fn kept(&self) -> u64
-        ensures { (own : PeerIdValue) (bodies : List BodyValue) (linked : Bool) (o : List ℕ) (n : ℕ) →
-            self.now ≡ link_after own bodies linked o n →
+        ensures { (own : PeerIdValue) (line : List Member) (linked : Bool) (o : List ℕ) (n : ℕ) →
+            self.now ≡ link_after own line linked o n →
             (result ≡ kept_of (heard_after o)) × (result ≤ MESSAGE_OCTETS + 9 + COMMAND_OCTETS) }
     {
         self.replies.kept()

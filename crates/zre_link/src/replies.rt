@@ -1,12 +1,13 @@
 //! What comes back.
 
-ghost use Rattle.std.specs.Prelude.{◌≡◌, ℕ, ◌+◌, ◌≤◌, List, [], ◌++◌, length, None, IfOk, OnOk, IfErr};
+ghost use Rattle.std.specs.Prelude.{◌≡◌, ℕ, ◌+◌, ◌≤◌, List, [], ◌++◌, length, None, IfOk, OnOk, IfErr, OnErr};
 ghost use Rattle.zre_values.specs.declared.limits.TheConstants.{MESSAGE_OCTETS, COMMAND_OCTETS};
 ghost use Rattle.zre_zmtp.specs.Reading.{Reads as IsAfter, Refuses, kept};
 ghost use Rattle.zre_zmtp.specs.Looks.{Looks};
+ghost use Rattle.zre_zmtp.specs.Ping.{contexts_in};
 ghost use Rattle.zre_zmtp.specs.Stream.{Whole};
 ghost use Rattle.zre_zmtp.specs.declared.want.Want.TheVariants.{Router};
-ghost use Rattle.zre_link.specs.Heard.{reply_fault, awaited, heard_after, kept_of, expected_of};
+ghost use Rattle.zre_link.specs.Heard.{reply_fault, new_pings, awaited, heard_after, kept_of, expected_of};
 
 use crate::awaits::Awaits;
 use crate::hearing::Hearing;
@@ -15,10 +16,9 @@ use std::marker::Model;
 use std::sync::ledger::Ledger;
 use zre_zmtp::{FeedFault, Items, Reader, Steps, Want};
 
-/// The replies on a link, read as the stream of a ROUTER. Their messages and commands are dropped.
+/// The replies on a link, read as the stream of a ROUTER.
 #[derive(Drop)]
 pub struct Replies {
-    alloc: Global,
     awaits: Awaits,
     hearing: Hearing,
 }
@@ -31,26 +31,28 @@ impl Model for Replies {
     ghost view = { λ r. record { awaits = expected_of r.awaits; hearing = r.hearing } };
 }
 
-// Reads a piece, and notes what is awaited after it.
+// Reads a piece into an empty list, and notes what is awaited after it.
 fn read_piece<L: Ledger>(
-    alloc: Global,
     reader: &mut Reader,
     piece: &[u8],
     awaits: &mut Awaits,
+    out: &mut Items,
     steps: &mut Steps<L>,
 ) -> Result<(), FeedFault>
+    requires { out.old ≡ [] }
     ensures ok { (o : List ℕ) → IsAfter Router Whole o reader.old → expected_of awaits.old ≡ awaited o →
-        OnOk result (IsAfter Router Whole (o ++ piece.now) reader.new × (expected_of awaits.new ≡ awaited (o ++ piece.now))) }
+        OnOk result (IsAfter Router Whole (o ++ piece.now) reader.new × (expected_of awaits.new ≡ awaited (o ++ piece.now))
+        × (contexts_in out.new ≡ new_pings o piece.now)) }
     ensures refused { (o : List ℕ) → IsAfter Router Whole o reader.old → expected_of awaits.old ≡ awaited o →
-        IfErr result (λ e. Refuses e (reply_fault (o ++ piece.now)) (expected_of awaits.new ≡ awaited (o ++ piece.now))) }
+        IfErr result (λ e. Refuses e (reply_fault (o ++ piece.now)) ((expected_of awaits.new ≡ awaited (o ++ piece.now))
+        × (contexts_in out.new ≡ new_pings o piece.now))) }
     ensures looks { Looks steps.old steps.new (kept reader.old) (kept reader.new) (length piece.now) result }
 {
     if reader.spent() {
         return Err(FeedFault::OutOfMemory);
     }
-    let mut items = Items::new(alloc);
-    let fed = reader.feed_counted(piece, &mut items, steps);
-    *awaits = awaits.after(items.len());
+    let fed = reader.feed_counted(piece, out, steps);
+    *awaits = awaits.after(out.len());
     match fed {
         Ok(()) => Ok(()),
         Err(fault) => Err(fault),
@@ -63,25 +65,33 @@ impl Replies {
         ensures { result ≡ heard_after [] }
     {
         Replies {
-            alloc,
             awaits: Awaits::Greeting,
             hearing: Hearing::Reads(Reader::wanting(alloc, Want::Router)),
         }
     }
 
-    /// Reads one more piece. A refusal stays, and is answered to each further piece.
-    pub fn feed<L: Ledger>(&mut self, piece: &[u8], steps: &mut Steps<L>) -> Result<(), FeedFault>
+    /// Reads one more piece into an empty list. A refusal stays, and is told of each further piece.
+    pub fn feed<L: Ledger>(
+        &mut self,
+        piece: &[u8],
+        out: &mut Items,
+        steps: &mut Steps<L>,
+    ) -> Result<(), FeedFault>
+        requires { out.old ≡ [] }
         ensures ok { (o : List ℕ) → self.old ≡ heard_after o →
-            OnOk result ((reply_fault (o ++ piece.now) ≡ None) × (self.new ≡ heard_after (o ++ piece.now))) }
+            OnOk result ((reply_fault (o ++ piece.now) ≡ None) × (self.new ≡ heard_after (o ++ piece.now))
+            × (contexts_in out.new ≡ new_pings o piece.now)) }
         ensures refused { (o : List ℕ) → self.old ≡ heard_after o →
-            IfErr result (λ e. Refuses e (reply_fault (o ++ piece.now)) (self.new ≡ heard_after (o ++ piece.now))) }
+            IfErr result (λ e. Refuses e (reply_fault (o ++ piece.now)) ((self.new ≡ heard_after (o ++ piece.now))
+            × (contexts_in out.new ≡ new_pings o piece.now))) }
         ensures looks { Looks steps.old steps.new (kept_of self.old) (kept_of self.new) (length piece.now) result }
+        ensures emptied { OnErr result (kept_of self.new ≡ 0) }
     {
         let reader = match &mut self.hearing {
             Hearing::Reads(reader) => reader,
             Hearing::Refused(fault) => return Err(*fault),
         };
-        match read_piece(self.alloc, reader, piece, &mut self.awaits, steps) {
+        match read_piece(reader, piece, &mut self.awaits, out, steps) {
             Ok(()) => Ok(()),
             Err(fault) => {
                 self.hearing = Hearing::Refused(fault);

@@ -1,8 +1,8 @@
 -- What arrives comes in the order of RFC 23, by the parts of the stream.
 use Rattle.std.proofs.Common.{◌≡◌, ◌≢◌, ℕ, zero, suc, Bool, true, false, cond, not, ◌&&◌, List, [], ◌∷◌, ◌++◌, length, take, drop, Option, Some, None, refl, sym, ap, subst, ◌∙◌, inl, inr, arith}
-use Rattle.std.specs.Prelude.{map, option_map, option_and_then, option_to_list, nat_eq, slice_index, is_some}
+use Rattle.std.specs.Prelude.{option_map, option_and_then, option_to_list, nat_eq, slice_index, is_some}
 use Rattle.std.specs.Result.{result_ok}
-use Rattle.std.specs.List.{cons_option, list_any}
+use Rattle.std.specs.List.{cons_option, list_any, AllByRecursion}
 use Rattle.std.specs.Str.{bytes_eq}
 use Rattle.std.proofs.lemmas.Bool.{and_parts, eqb-true}
 use Rattle.std.proofs.lemmas.Option.{none-some}
@@ -28,9 +28,10 @@ use Rattle.zre_zmtp.proofs.Exact.{exact}
 use Rattle.zre_zmtp.proofs.Later.{head_fine, why_after}
 use Rattle.zre_msg.specs.Reading.{read_frames}
 use Rattle.zre_msg.specs.declared.message.Message.{Message as MessageValue}
+use Rattle.zre_zmtp.specs.Ping.{context_of}
 use Rattle.zre_mailbox.specs.declared.arrival.Arrival.{Arrival}
-use Rattle.zre_mailbox.specs.declared.arrival.Arrival.TheVariants.{Greeted, Shaken, Message}
-use Rattle.zre_mailbox.specs.Talk.{peer_of, arrivals_in, arrivals, Introduced, IsInOrder, is_ready as is_ready_item, has_ready}
+use Rattle.zre_mailbox.specs.declared.arrival.Arrival.TheVariants.{Greeted, Shaken, Ping, Message}
+use Rattle.zre_mailbox.specs.Talk.{peer_of, arrivals_in, arrivals, AreTraffic, Introduced, IsInOrder, is_ready as is_ready_item, has_ready}
 use Rattle.zre_mailbox.proofs.Growing.{arrivals_in-append}
 
 -- ---- READY of another
@@ -137,22 +138,23 @@ ready_peer own b o len ready e =
 abbrev with_what : ℕ → ℕ → Option What → List Arrival
 with_what s e w = arrivals_in (option_to_list (option_map (λ x. let i : Item = record { start = s; end = e; what = x } in i) w))
 
-abbrev as_messages : List MessageValue → List Arrival
-as_messages ms = map (λ m. Message m) ms
+one_ping : (t : Option (List ℕ)) → AreTraffic (cons_option (option_map (λ x. Ping x) t) [])
+one_ping None = tt
+one_ping (Some x) = (refl, tt)
 
-one_read : (r : Option MessageValue) → (ms : List MessageValue) × (cons_option (option_map (λ m. Message m) r) [] ≡ as_messages ms)
-one_read None = ([], refl)
-one_read (Some m) = (m ∷ [], refl)
+one_read : (r : Option MessageValue) → AreTraffic (cons_option (option_map (λ m. Message m) r) [])
+one_read None = tt
+one_read (Some m) = (refl, tt)
 
-one_message : (s e : ℕ) (t u : Bool) (n : ℕ) (name o : List ℕ) (frames : List (List ℕ))
-    → (ms : List MessageValue) × (with_what s e (cond t (Some (says.Command n name o)) (cond u None (Some (says.Message frames)))) ≡ as_messages ms)
-one_message s e true u n name o frames = ([], refl)
-one_message s e false true n name o frames = ([], refl)
-one_message s e false false n name o frames = one_read (result_ok (read_frames frames))
+one_item : (s e : ℕ) (t u : Bool) (n : ℕ) (name o : List ℕ) (frames : List (List ℕ))
+    → AreTraffic (with_what s e (cond t (Some (says.Command n name o)) (cond u None (Some (says.Message frames)))))
+one_item s e true u n name o frames = one_ping (context_of name (rest o))
+one_item s e false true n name o frames = tt
+one_item s e false false n name o frames = one_read (result_ok (read_frames frames))
 
-messages-append : (ms ns : List MessageValue) → as_messages ms ++ as_messages ns ≡ as_messages (ms ++ ns)
-messages-append [] ns = refl
-messages-append (m ∷ ms) ns = ap (λ (l : List Arrival). Message m ∷ l) (messages-append ms ns)
+traffic-append : (xs ys : List Arrival) → AreTraffic xs → AreTraffic ys → AreTraffic (xs ++ ys)
+traffic-append [] ys a b = b
+traffic-append (x ∷ xs) ys a b = (a.0, traffic-append xs ys a.1 b)
 
 -- ---- parts
 
@@ -173,24 +175,23 @@ step own (greeting ∷ []) o len e h =
     let new : arrivals_in (option_to_list (item b part)) ≡ Shaken p.peer ∷ [] = ap (λ (x : Option PeerId). cons_option (option_map (λ y. Shaken y) x) []) p.read in
     record {
       peer = p.peer;
-      messages = [];
+      traffic = [];
       other = p.other;
       sixteen = p.sixteen;
+      are_traffic = tt;
       is = arrivals_in-append (items_of Whole (greeting ∷ [])) (option_to_list (item b part)) ∙ ap (λ (l : List Arrival). l ++ arrivals_in (option_to_list (item b part))) h ∙ ap (λ (l : List Arrival). Greeted ∷ l) new;
     }
 step own (last ∷ ready ∷ parts) o len e h =
     let part = take len o in
     let b = before Whole (last ∷ ready ∷ parts) in
-    let more = one_message _ _ (not (is_message (flags part))) (has_more (flags part)) _ _ _ _ in
+    let more = arrivals_in (option_to_list (item b part)) in
     record {
       peer = h.peer;
-      messages = h.messages ++ more.0;
+      traffic = h.traffic ++ more;
       other = h.other;
       sixteen = h.sixteen;
-      is =
-          arrivals_in-append (items_of Whole (last ∷ ready ∷ parts)) (option_to_list (item b part)) ∙ ap (λ (l : List Arrival). l ++ arrivals_in (option_to_list (item b part))) h.is
-          ∙ ap (λ (l : List Arrival). Greeted ∷ Shaken h.peer ∷ (as_messages h.messages ++ l)) more.1
-          ∙ ap (λ (l : List Arrival). Greeted ∷ Shaken h.peer ∷ l) (messages-append h.messages more.0);
+      are_traffic = traffic-append h.traffic more h.are_traffic (one_item _ _ (not (is_message (flags part))) (has_more (flags part)) _ _ _ _);
+      is = arrivals_in-append (items_of Whole (last ∷ ready ∷ parts)) (option_to_list (item b part)) ∙ ap (λ (l : List Arrival). l ++ more) h.is;
     }
 
 shape : (own : PeerId) (n : ℕ) (parts : Parts) (o : List ℕ) → Shape own parts (arrivals_in (items_of Whole parts))

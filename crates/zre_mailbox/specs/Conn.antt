@@ -8,7 +8,7 @@ use Rattle.zre_zmtp.specs.Reading.{Reading, kept}
 use Rattle.zre_zmtp.specs.declared.want.Want.TheVariants.{Dealer}
 use Rattle.zre_zmtp.specs.declared.fault.ZmtpFault.{ZmtpFault}
 use Rattle.zre_mailbox.specs.declared.arrival.Arrival.{Arrival}
-use Rattle.zre_mailbox.specs.declared.arrival.Arrival.TheVariants.{Greeted, Shaken, Message}
+use Rattle.zre_mailbox.specs.declared.arrival.Arrival.TheVariants.{Greeted, Shaken, Ping, Message}
 use Rattle.zre_mailbox.specs.declared.phase.Phase.{Phase}
 use Rattle.zre_mailbox.specs.declared.phase.Phase.TheVariants.{Live, Spent, Ignored}
 use Rattle.zre_mailbox.specs.Talk.{Arrived, arrivals, fault_in, fault_said, new_arrivals, completed}
@@ -19,6 +19,7 @@ use Rattle.zre_mailbox.specs.Talk.{Arrived, arrivals, fault_in, fault_said, new_
 abbrev pub introduced : Arrival → Option PeerId
 introduced Greeted = None
 introduced (Shaken peer) = Some peer
+introduced (Ping context) = None
 introduced (Message m) = None
 
 -- the first peer that arrivals introduce

@@ -1,8 +1,8 @@
--- What an incoming connection says, read off all of its octets: its greeting, READY, the messages of ZRE, and its
--- fault.
+-- What an incoming connection says, read off all of its octets: its greeting, READY, its PINGs and the messages of ZRE
+-- in the order of their ends, and its fault.
 use Rattle.std.specs.Prelude.{◌≡◌, ◌≢◌, ◌⊎◌, ℕ, Bool, true, false, ◌==◌, ◌&&◌, if◌then◌else◌, List, [], ◌∷◌, ◌++◌, length, drop, map, slice_index, Option, Some, None, option_map, option_and_then, option_to_list}
 use Rattle.std.specs.Result.{result_ok}
-use Rattle.std.specs.List.{filter_map, list_any}
+use Rattle.std.specs.List.{filter_map, list_any, AllByRecursion}
 use Rattle.zre_values.specs.declared.peer_id.PeerId.{PeerId}
 use Rattle.zre_zmtp.specs.Stream.{Whole, items, fault}
 use Rattle.zre_zmtp.specs.declared.want.Want.TheVariants.{Dealer}
@@ -10,21 +10,22 @@ use Rattle.zre_zmtp.specs.declared.item.Item.{Item}
 use Rattle.zre_zmtp.specs.declared.item.What.{What}
 use Rattle.zre_zmtp.specs.declared.item.What.TheVariants as says
 use Rattle.zre_zmtp.specs.declared.fault.ZmtpFault.{ZmtpFault}
+use Rattle.zre_zmtp.specs.Ping.{context_of}
+use Rattle.zre_zmtp.specs.Ready.{rest}
 use Rattle.zre_msg.specs.Reading.{read_frames}
-use Rattle.zre_msg.specs.declared.message.Message.{Message as MessageValue}
 use Rattle.zre_mailbox.specs.declared.arrival.Arrival.{Arrival}
-use Rattle.zre_mailbox.specs.declared.arrival.Arrival.TheVariants.{Greeted, Shaken, Message}
+use Rattle.zre_mailbox.specs.declared.arrival.Arrival.TheVariants.{Greeted, Shaken, Ping, Message}
 
 -- the peer with that identity, which is 01 and a UUID (RFC 36)
 abbrev pub peer_of : List ℕ → Option PeerId
 peer_of identity =
     if length identity == 17 && slice_index identity 0 == 1 then Some (record { 0 = drop 1 identity }) else None
 
--- what arrives with an item: commands are none, and neither are messages outside the grammar
+-- what arrives with an item: of commands only PING arrives, and messages outside the grammar don't
 abbrev pub arrival_of : What → Option Arrival
 arrival_of (says.Greeting major minor) = Some Greeted
 arrival_of (says.Ready size socket identity) = option_map (λ p. Shaken p) (option_and_then peer_of identity)
-arrival_of (says.Command size name body) = None
+arrival_of (says.Command size name body) = option_map (λ t. Ping t) (context_of name (rest body))
 arrival_of (says.Message frames) = option_map (λ m. Message m) (result_ok (read_frames frames))
 
 -- the same of each item
@@ -69,13 +70,24 @@ pub record Goes (own : PeerId) (o more : List ℕ) : Type 0 where
   pub over : (f : ZmtpFault) → fault_in own o ≡ Some f → (talk own (o ++ more) ≡ talk own o)
       × (completed own o more ≡ [])
 
--- The greeting came, then READY of one peer, which isn't the node itself, and then messages.
+-- a PING or a message
+abbrev pub is_traffic : Arrival → Bool
+is_traffic Greeted = false
+is_traffic (Shaken peer) = false
+is_traffic (Ping context) = true
+is_traffic (Message m) = true
+
+abbrev pub AreTraffic : List Arrival → Type 0
+AreTraffic came = AllByRecursion (λ a. is_traffic a ≡ true) came
+
+-- The greeting came, then READY of one peer, which isn't the node itself, and then PINGs and messages.
 pub record Introduced (own : PeerId) (came : List Arrival) : Type 0 where
   pub peer : PeerId
-  pub messages : List MessageValue
+  pub traffic : List Arrival
   pub other : peer.0 ≢ own.0
   pub sixteen : length peer.0 ≡ 16
-  pub is : came ≡ Greeted ∷ Shaken peer ∷ map (λ m. Message m) messages
+  pub are_traffic : AreTraffic traffic
+  pub is : came ≡ Greeted ∷ Shaken peer ∷ traffic
 
 -- Nothing came, or the greeting alone, or all of that.
 abbrev pub IsInOrder : PeerId → List Arrival → Type 0

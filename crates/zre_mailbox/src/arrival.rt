@@ -1,7 +1,7 @@
 //! What comes in on a connection.
 
 use zre_msg::Message;
-use zre_values::{List, PeerId};
+use zre_values::{List, Octets, PeerId};
 
 /// What is whole on an incoming connection, and concerns the node.
 #[derive(Debug, Drop)]
@@ -10,6 +10,8 @@ pub enum Arrival {
     Greeted,
     /// READY of a DEALER, with the peer of its identity. It isn't the node itself.
     Shaken(PeerId),
+    /// PING of ZMTP 3.1 (RFC 37), with its context: a PONG with the same context answers it.
+    Ping(Octets),
     /// A message of ZRE.
     Message(Message),
 }

@@ -76,8 +76,8 @@ impl Conn {
         }
     }
 
-    /// Reads one more piece: what becomes whole with it is appended, and messages outside the grammar are left out. A
-    /// fault is told after the arrivals before it, and READY of another socket or without a good identity is one. After
+    /// Reads one more piece: what becomes whole with it is appended, and messages outside the grammar and commands other
+    /// than PING are left out. A fault is told after the arrivals before it, and READY of another socket or without a good identity is one. After
     /// a refusal the connection is spent, and keeps nothing; after OutOfMemory what was appended is left open.
     pub fn feed(&mut self, piece: &[u8], out: &mut Arrivals) -> Result<(), FeedFault>
         requires heard { is_ignored self.old ≡ false }

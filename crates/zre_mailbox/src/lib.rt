@@ -1,5 +1,5 @@
 //! Incoming connections: a ROUTER reads what its DEALERs say (RFC 23) as arrivals: the greeting, the identity of READY,
-//! and the messages of ZRE (RFC 36).
+//! PINGs (RFC 37), and the messages of ZRE (RFC 36).
 #![tactic(auto)]
 
 mod arrival;

@@ -1,16 +1,17 @@
 //! Items become arrivals.
 
 ghost use Rattle.std.specs.Prelude.{◌≡◌, Option, option_map, option_to_list, IfOk, OnOk};
+ghost use Rattle.zre_zmtp.specs.Ping.{context_in};
 ghost use Rattle.std.specs.Result.{result_ok};
 ghost use Rattle.zre_msg.specs.Reading.{read_frames};
 ghost use Rattle.zre_mailbox.specs.Talk.{peer_of, arrival_of, arrivals_in};
 ghost use Rattle.zre_mailbox.specs.Conn.{introduced, Takes};
-ghost use Rattle.zre_mailbox.specs.declared.arrival.Arrival.TheVariants.{Message as MessageArrival};
+ghost use Rattle.zre_mailbox.specs.declared.arrival.Arrival.TheVariants.{Ping as PingArrival, Message as MessageArrival};
 
 use crate::arrival::{Arrival, Arrivals};
 use std::alloc::Global;
 use zre_msg::{Message, ReadFault};
-use zre_values::{Frames, OutOfMemory, PeerId};
+use zre_values::{Frames, Octets, OutOfMemory, PeerId};
 use zre_zmtp::{Items, What};
 
 // The peer with that identity, if it is one.
@@ -35,6 +36,16 @@ fn message_of(alloc: Global, frames: Frames) -> Result<Option<Arrival>, OutOfMem
     }
 }
 
+// The PING that an item is, if it is one.
+fn ping_of(alloc: Global, what: &What) -> Result<Option<Arrival>, OutOfMemory>
+    ensures { IfOk result (λ a. a ≡ option_map (λ t. PingArrival t) (context_in what.now)) }
+{
+    match what.context() {
+        Some(context) => Ok(Some(Arrival::Ping(Octets::copy(alloc, context)?))),
+        None => Ok(None),
+    }
+}
+
 // What arrives with an item, if anything does.
 fn arrival_of(alloc: Global, what: What) -> Result<Option<Arrival>, OutOfMemory>
     ensures { IfOk result (λ a. a ≡ arrival_of what) }
@@ -45,7 +56,7 @@ fn arrival_of(alloc: Global, what: What) -> Result<Option<Arrival>, OutOfMemory>
             Some(identity) => Ok(peer_of(identity.as_slice()).map(Arrival::Shaken)),
             None => Ok(None),
         },
-        What::Command { .. } => Ok(None),
+        command @ What::Command { .. } => ping_of(alloc, &command),
         What::Message(frames) => message_of(alloc, frames),
     }
 }
@@ -55,7 +66,7 @@ fn introduced(arrival: &Arrival) -> Option<PeerId>
 {
     match arrival {
         Arrival::Shaken(peer) => Some(*peer),
-        Arrival::Greeted | Arrival::Message(_) => None,
+        Arrival::Greeted | Arrival::Ping(_) | Arrival::Message(_) => None,
     }
 }
 

@@ -17,7 +17,7 @@ use Rattle.zre_journal.specs.Chronicle.{Mark, Comes}
 use Rattle.zre_journal.specs.Heard.{bytes}
 use Rattle.zre_journal.specs.Connections.{open_ones, is_open, is_ignored, is_live}
 use Rattle.zre_journal.specs.Held.{unfinished, header_octets, view_octets, conn_octets, reply_octets, peer_octets, own_octets, held, bound}
-use Rattle.zre_journal.specs.Links.{groups, status, bodies, links, is_linked, replies, reply_of, taken, unsent}
+use Rattle.zre_journal.specs.Links.{groups, status, line, links, is_linked, replies, reply_of, taken, unsent}
 use Rattle.zre_journal.specs.Peers.{Life, lives, life, is_entered, view}
 use Rattle.zre_journal.specs.Happens.{has_stopped}
 use Rattle.zre_journal.specs.Config.{CanBe}
@@ -131,7 +131,7 @@ module _ (g : Config) (H : List Mark) where
   peers_send [] (e ∷ es) t = absurd t
   peers_send (v ∷ vs) [] t = absurd t
   peers_send (v ∷ vs) (e ∷ es) t =
-      (record { own = g.id; put = bodies v.link H; linked = is_linked v.link H; replied = replies v.link H; gone = taken v.link H; link_is = t.1.link_is }, peers_send vs es t.2)
+      (record { own = g.id; line = line v.link H; linked = is_linked v.link H; replied = replies v.link H; gone = taken v.link H; link_is = t.1.link_is }, peers_send vs es t.2)
 
 -- before a link stands nothing has come back on it
 unlinked_silent : (l : ℕ) (H : List Mark) → is_linked l H ≡ false → replies l H ≡ []
@@ -165,7 +165,7 @@ module _ (g : Config) (H : List Mark) where
   peer_row : (v : Life) (k : Peer) → IsPeer g H v k → reply_fault (replies v.link H) ≡ None → peer_row_octets k ≡ peer_octets g H v
   peer_row v k i none =
       let back : kept_of_replies k.link.replies ≡ reply_octets g H v.link = ap (λ (s : Sending). kept_of_replies s.replies) i.link_is ∙ kept_replies v.link none in
-      let waits : length k.link.queue ≡ unsent g v.link H = ap (λ (s : Sending). length s.queue) i.link_is ∙ length-drop (taken v.link H) (text_of g.id (bodies v.link H)) in
+      let waits : length k.link.queue ≡ unsent g v.link H = ap (λ (s : Sending). length s.queue) i.link_is ∙ length-drop (taken v.link H) (text_of g.id (line v.link H)) in
       let told : shown_octets (view_of_row k) ≡ cond (is_entered H v) (view_octets (view v.link H)) 0 = ap shown_octets (its_view g H v k i) ∙ shown v in
       ap (λ n. n + length k.link.queue + shown_octets (view_of_row k)) back ∙ ap (λ n. reply_octets g H v.link + n + shown_octets (view_of_row k)) waits ∙ ap (λ n. reply_octets g H v.link + unsent g v.link H + n) told
 

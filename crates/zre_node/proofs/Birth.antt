@@ -7,6 +7,7 @@ use Rattle.zre_values.specs.declared.peer_id.PeerId.{PeerId}
 use Rattle.zre_values.specs.declared.endpoint.Endpoint.{Endpoint}
 use Rattle.zre_outside.specs.declared.act.Act.TheVariants as act
 use Rattle.zre_link.specs.Link.{link_after}
+use Rattle.zre_link.specs.Text.{Says}
 use Rattle.zre_journal.specs.declared.config.Config.{Config}
 use Rattle.zre_journal.specs.Chronicle.{Mark, HearsBeacon}
 use Rattle.zre_journal.specs.Heard.{clock}
@@ -30,14 +31,14 @@ module _ (g : Config) (H : List Mark) (t : Tables) (h : Holds g H t) (p : PeerId
   others v k low is = let far : eqb v.link (births H + 1) ≡ false = ne_eqb v.link (births H + 1) (λ q. omega arith) in rw far is
 
   -- the new row is that of the new life
-  fresh : (k : Peer) → k.id ≡ p → k.active ≡ clock H → k.run ≡ None → k.link ≡ link_after g.id (hello g H ∷ []) false [] 0 → IsPeer g (born p e (hello g H) H) (newborn (births H + 1) p e) k
+  fresh : (k : Peer) → k.id ≡ p → k.active ≡ clock H → k.run ≡ None → k.link ≡ link_after g.id (Says (hello g H) ∷ []) false [] 0 → IsPeer g (born p e (hello g H) H) (newborn (births H + 1) p e) k
   fresh k id now run link =
       let u = h.keeps.proper.living.fresh (births H + 1) (omega arith) in
       let me : eqb (births H + 1) (births H + 1) ≡ true = eq-eqb (births H + 1) (births H + 1) refl in
       let silent : counted (births H + 1) H ≡ [] = h.keeps.proper.running.is_silent (births H + 1) u.no_run in
-      rw (me, u.no_run, u.no_body, u.not_linked, u.no_reply, u.none_taken, silent) record { id_is = id; active_is = now; run_is = run; link_is = link }
+      rw (me, u.no_run, u.no_member, u.not_linked, u.no_reply, u.none_taken, silent) record { id_is = id; active_is = now; run_is = run; link_is = link }
 
-  pub is_born : (k : Peer) (P : BTreeMap ℕ Peer) → k.id ≡ p → k.active ≡ clock H → k.run ≡ None → k.link ≡ link_after g.id (hello g H ∷ []) false [] 0
+  pub is_born : (k : Peer) (P : BTreeMap ℕ Peer) → k.id ≡ p → k.active ≡ clock H → k.run ≡ None → k.link ≡ link_after g.id (Says (hello g H) ∷ []) false [] 0
       → P.entries ≡ insert_entry nat_cmp t.peers.entries (births H + 1) k → Holds g (born p e (hello g H) H) (record t { births = births H + 1; peers = P })
   is_born k P id now run link put = record {
     keeps = keeps_as g H _ _ _ h.keeps (born-proper H h.keeps.proper p e (hello g H)) refl (refl, refl, refl) h.keeps.clock_is refl h.keeps.last_is h.keeps.groups_fit h.keeps.own h.keeps.conns;

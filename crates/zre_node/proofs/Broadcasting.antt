@@ -7,11 +7,11 @@ use Rattle.zre_values.specs.declared.peer_id.PeerId.{PeerId}
 use Rattle.zre_peer.specs.declared.causes.Cause.TheVariants as cause
 use Rattle.zre_peer.specs.Runs.{shown}
 use Rattle.zre_peer.specs.Views.{view_of}
-use Rattle.zre_link.specs.Text.{size_of}
+use Rattle.zre_link.specs.Text.{Member, size_of}
 use Rattle.zre_journal.specs.declared.config.Config.{Config}
 use Rattle.zre_journal.specs.Chronicle.{Mark, Puts, Ends, after, followed, in_turn}
 use Rattle.zre_journal.specs.Peers.{Life, lives, life, runner, counted}
-use Rattle.zre_journal.specs.Links.{bodies, put_on, taken, unsent}
+use Rattle.zre_journal.specs.Links.{line, put_on, taken, unsent}
 use Rattle.zre_journal.specs.Commands.{has_group, is_member}
 use Rattle.zre_journal.specs.Pushes.{push, push_all}
 use Rattle.zre_journal.proofs.Joined.{after-append}
@@ -31,14 +31,14 @@ use Rattle.zre_node.proofs.Ticking.{numbers_are}
 
 -- a push leaves the other peers known
 pushed_known : (g : Config) (l : ℕ) (b : Body) (K : List Mark) (ks : List ℕ) → AllByRecursion (λ k. eqb l k ≡ false) ks → AreKnown K ks → AreKnown (after (push g l b K) K) ks
-pushed_known g l b K ks a known = by (ltb 4194304 (unsent g l K + size_of (bodies l K) b))
+pushed_known g l b K ks a known = by (ltb 4194304 (unsent g l K + size_of (line l K) b))
   where
     kept : (ms : List ℕ) → AreKnown K ms → AreKnown (Puts l b ∷ K) ms
     kept [] n = tt
     kept (m ∷ ms) n = (n.0, n.1, kept ms n.2)
 
-    by : (q : Bool) → AreKnown (after (if q then Ends l (cause.Slow (unsent g l K) (size_of (bodies l K) b)) ∷ [] else Puts l b ∷ []) K) ks
-    by true = still_known K l (cause.Slow (unsent g l K) (size_of (bodies l K) b)) ks a known
+    by : (q : Bool) → AreKnown (after (if q then Ends l (cause.Slow (unsent g l K) (size_of (line l K) b)) ∷ [] else Puts l b ∷ []) K) ks
+    by true = still_known K l (cause.Slow (unsent g l K) (size_of (line l K) b)) ks a known
     by false = kept ks known
 
 pub known_in_turn : (g : Config) (b : Body) (ls : List ℕ) (K : List Mark) (i : ℕ) → i < length ls → AreKnown K ls → IsSome (life (get_or ls i 0) (after (in_turn (λ l J. push g l b J) (take i ls) K) K))
@@ -68,7 +68,7 @@ same_pushes g (v ∷ vs) b I K a =
 
 -- a mark that puts nothing and takes nothing changes no push
 pub pushed_after : (g : Config) (vs : List Life) (b : Body) (h : Mark) (K : List Mark) → ((l : ℕ) → (put_on l h ≡ None) × (taken l (h ∷ K) ≡ taken l K)) → push_all g vs b (h ∷ K) ≡ push_all g vs b K
-pushed_after g vs b h K n = same_pushes g vs b (h ∷ K) K (λ l. (ap (λ (o : Option Body). followed (bodies l K) o) (n l).0, (n l).1))
+pushed_after g vs b h K n = same_pushes g vs b (h ∷ K) K (λ l. (ap (λ (o : Option Member). followed (line l K) o) (n l).0, (n l).1))
 
 -- ---- members
 

@@ -14,7 +14,7 @@ use Rattle.zre_journal.specs.Chronicle.{Mark, Comes}
 use Rattle.zre_journal.specs.Heard.{bytes, piece_of, was_opened, newly_completed}
 use Rattle.zre_journal.specs.Connections.{open_ones, is_open, is_live, is_ignored, since, identity, runs}
 use Rattle.zre_journal.specs.Peers.{Life, lives}
-use Rattle.zre_journal.specs.Links.{bodies, is_linked, replies, reply_of, taken}
+use Rattle.zre_journal.specs.Links.{line, is_linked, replies, reply_of, taken}
 use Rattle.zre_journal.specs.Arrivals.{at_places}
 use Rattle.zre_journal.proofs.Kept.{Comes-proper}
 use Rattle.zre_journal.proofs.Listed.{eqb-comm, found_passes, any_has}
@@ -28,11 +28,11 @@ use Rattle.zre_node.proofs.Entries.{changed, retold, retold_of}
 use Rattle.zre_node.proofs.Faulting.{dead_places}
 use Rattle.zre_node.proofs.Keeping.{keeps_as}
 
-quiet_piece : (c : ℕ) (i : Input) → is_quiet i ≡ true → piece_of c i ≡ []
+pub quiet_piece : (c : ℕ) (i : Input) → is_quiet i ≡ true → piece_of c i ≡ []
 quiet_piece c (input.Piece d o) q = absurd cc
 quiet_piece c _ q = refl
 
-quiet_reply : (l : ℕ) (i : Input) → is_quiet i ≡ true → reply_of l i ≡ []
+pub quiet_reply : (l : ℕ) (i : Input) → is_quiet i ≡ true → reply_of l i ≡ []
 quiet_reply l (input.Reply k o) q = absurd cc
 quiet_reply l _ q = refl
 
@@ -62,7 +62,7 @@ module _ (g : Config) (H : List Mark) (t : Tables) (h : Holds g H t) (e : Entry)
           id_is = is.id_is;
           active_is = is.active_is;
           run_is = is.run_is;
-          link_is = is.link_is ∙ ap (λ r. link_after g.id (bodies v.link H) (is_linked v.link H) r (taken v.link H)) (no_replies v.link (none v.link));
+          link_is = is.link_is ∙ ap (λ r. link_after g.id (line v.link H) (is_linked v.link H) r (taken v.link H)) (no_replies v.link (none v.link));
         })
         (lives H) t.peers.entries h.peers;
   }
@@ -104,7 +104,7 @@ module _ (g : Config) (H : List Mark) (t : Tables) (h : Holds g H t) (e : Entry)
       (changed (λ (d : ℕ). d) (IsConn g H) (IsConn g (Comes e ∷ H)) c x (λ d k far q. q ∙ another d far) (open_ones H) t.conns.entries h.keeps.proper.opening.open_apart
       (λ d f. subst (λ y. x ≡ kept_conn g (Comes e ∷ H) y) (eqb-true c d (found_passes (eqb c) (open_ones H) d f)) row) h.keeps.conns))
 
-  grown : is_open c H ≡ true → bytes c (Comes e ∷ H) ≡ bytes c H ++ o
+  pub grown : is_open c H ≡ true → bytes c (Comes e ∷ H) ≡ bytes c H ++ o
   grown there =
       let w : was_opened c H ≡ true = any_has (λ d. was_opened d H ≡ true) c (open_ones H) h.keeps.proper.opening.were_opened there in
       let me : eqb c c ≡ true = eq-eqb c c refl in rw (w, is, me) refl

@@ -14,11 +14,13 @@ pub mod Many
 pub mod Faulting
 pub mod Hearings
 pub mod Linking
+pub mod Looking
 pub mod Naming
 pub mod Offering
 pub mod Opening
 pub mod Parting
 pub mod Pushing
+pub mod Replying
 pub mod Shaking
 pub mod Starting
 pub mod Stepping

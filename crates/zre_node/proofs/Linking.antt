@@ -1,42 +1,39 @@
 -- What comes about on links, at the tables.
-use Rattle.std.proofs.Common.{◌≡◌, ℕ, ◌+◌, ◌-◌, ◌≤◌, min, max, Bool, true, false, cond, ◌||◌, eqb, if◌then◌else◌, List, [], ◌∷◌, ◌++◌, length, Option, Some, None, IsSome, is_some, find, refl, sym, ap, ◌∙◌, nat_cmp, subst, eq-eqb, append-nil}
+use Rattle.std.proofs.Common.{◌≡◌, ℕ, ◌+◌, ◌-◌, ◌≤◌, min, Bool, true, false, ◌||◌, eqb, if◌then◌else◌, List, [], ◌∷◌, ◌++◌, length, Option, Some, None, IsSome, is_some, refl, sym, ap, ◌∙◌, nat_cmp, subst, eq-eqb}
 use Rattle.std.specs.List.{AllByRecursion, list_any}
 use Rattle.std.specs.BTreeMap.{BTreeMap, is_at}
 use Rattle.std.specs.Map.{lookup, set_value}
 use Rattle.std.proofs.lemmas.List.Folds.{list_any-append}
-use Rattle.zre_zmtp.specs.declared.fault.ZmtpFault.{ZmtpFault}
 use Rattle.zre_outside.specs.declared.entry.Entry.{Entry}
 use Rattle.zre_outside.specs.declared.entry.Input.{Input}
 use Rattle.zre_outside.specs.declared.entry.Input.TheVariants as input
 use Rattle.zre_peer.specs.declared.causes.Cause.TheVariants as cause
-use Rattle.zre_link.specs.Heard.{reply_fault}
 use Rattle.zre_link.specs.Link.{Sending, link_after, taken_by}
 use Rattle.zre_journal.specs.declared.config.Config.{Config}
 use Rattle.zre_journal.specs.Chronicle.{Mark, Comes, Ends, Links, Sends, after}
 use Rattle.zre_journal.specs.Connections.{open_ones, is_new}
 use Rattle.zre_journal.specs.Done.{names}
-use Rattle.zre_journal.specs.Heard.{clock, piece_of}
-use Rattle.zre_journal.specs.Links.{bodies, groups, status, is_linked, replies, gate, taken}
+use Rattle.zre_journal.specs.Heard.{clock}
+use Rattle.zre_journal.specs.Links.{line, groups, status, is_linked, replies, gate, taken}
 use Rattle.zre_journal.specs.Peers.{Life, lives, life, births}
 use Rattle.zre_journal.specs.Happens.{has_stopped, at_input}
-use Rattle.zre_journal.specs.LinkEntries.{at_linked, at_reply, at_unlinked, at_took, fault_of_reply}
+use Rattle.zre_journal.specs.LinkEntries.{at_linked, at_reply, at_unlinked, at_took}
 use Rattle.zre_journal.specs.Proper.{IsProper}
-use Rattle.zre_journal.proofs.Kept.{known_lives, Comes-proper, Links-proper, Sends-proper}
+use Rattle.zre_journal.proofs.Kept.{known_lives, Links-proper, Sends-proper}
 use Rattle.zre_journal.proofs.Listed.{eqb-comm}
 use Rattle.zre_node.specs.declared.effects.Effects.{Effects}
 use Rattle.zre_node.specs.declared.peer.Peer.{Peer}
 use Rattle.zre_node.specs.declared.tables.Tables.{Tables}
 use Rattle.zre_node.specs.Links.{is_about_link, Notes}
 use Rattle.zre_node.specs.Tabled.{Tabled}
-use Rattle.zre_node.specs.Stands.{Holds, Keeps, Did, IsPeer, IsConn, link_of_life, is_quiet}
-use Rattle.zre_node.proofs.Coming.{other_conn, no_replies}
-use Rattle.zre_node.proofs.Entries.{Agree, changed, retold, retold_of}
+use Rattle.zre_node.specs.Stands.{Holds, Keeps, Did, IsPeer, IsConn, is_quiet}
+use Rattle.zre_node.proofs.Entries.{Agree, changed}
 use Rattle.zre_node.proofs.Many.{or-nil, idle_did, silent_did}
 use Rattle.zre_node.proofs.Parting.{PeerRow, Found, Missing, peer_row, its_row}
 use Rattle.zre_node.proofs.Pushing.{row_link, written_back}
 use Rattle.zre_node.proofs.Keeping.{keeps_as}
 
-abbrev key : Life → ℕ
+abbrev pub key : Life → ℕ
 key v = v.link
 
 -- all but the table of peers, after a mark that says nothing of it
@@ -45,10 +42,10 @@ keeps_after : (g : Config) (K H : List Mark) (t : Tables) (P : BTreeMap ℕ Peer
 keeps_after g K H t P k proper going same_clock same_births same_new same_groups same_status conns = keeps_as g K _ _ _ k proper going (refl, refl, refl) (k.clock_is ∙ sym same_clock) (k.births_is ∙ sym same_births) (λ c. same_new c ∙ k.last_is c) (subst (λ gs. AllByRecursion (λ group. length group ≤ 255) gs) (sym same_groups) k.groups_fit) (k.own ∙ rw (same_groups, same_status) refl) conns
 
 module _ (g : Config) (K : List Mark) (t : Tables) (h : Holds g K t) (l : ℕ) (k : Peer) (was : Some k ≡ lookup (is_at (nat_cmp l)) t.peers.entries) where
-  its : (v : Life) × (life l K ≡ Some v) × IsPeer g K v k
+  pub its : (v : Life) × (life l K ≡ Some v) × IsPeer g K v k
   its = its_row (IsPeer g K) K t.peers.entries h.peers l k was
 
-  link_is : l ≡ its.0.link
+  pub link_is : l ≡ its.0.link
   link_is = (known_lives K h.keeps.proper l its.0 its.1).2
 
   pub its_known : IsSome (life l K)
@@ -58,7 +55,7 @@ module _ (g : Config) (K : List Mark) (t : Tables) (h : Holds g K t) (l : ℕ) (
   me = eq-eqb its.0.link l (sym link_is)
 
   -- the rows with another link in that of l
-  relinked : (H : List Mark) (o : Sending) (P : BTreeMap ℕ Peer) → Agree key l (IsPeer g K) (IsPeer g H) → IsPeer g H its.0 (record k { link = o }) → P.entries ≡ set_value (is_at (nat_cmp l)) t.peers.entries (record k { link = o })
+  pub relinked : (H : List Mark) (o : Sending) (P : BTreeMap ℕ Peer) → Agree key l (IsPeer g K) (IsPeer g H) → IsPeer g H its.0 (record k { link = o }) → P.entries ≡ set_value (is_at (nat_cmp l)) t.peers.entries (record k { link = o })
       → Tabled key (IsPeer g H) (lives K) P.entries
   relinked H o P others here put = subst (λ es. Tabled key (IsPeer g H) (lives K) es) (sym put)
       (changed key (IsPeer g K) (IsPeer g H) l (record k { link = o }) others (lives K) t.peers.entries h.keeps.proper.living.apart
@@ -66,33 +63,33 @@ module _ (g : Config) (K : List Mark) (t : Tables) (h : Holds g K t) (l : ℕ) (
 
   -- ---- it stands
 
-  stands_now : (o : Sending) (P : BTreeMap ℕ Peer) → o ≡ link_after g.id (bodies l K) true (replies l K) (taken l K) → P.entries ≡ set_value (is_at (nat_cmp l)) t.peers.entries (record k { link = o })
+  stands_now : (o : Sending) (P : BTreeMap ℕ Peer) → o ≡ link_after g.id (line l K) true (replies l K) (taken l K) → P.entries ≡ set_value (is_at (nat_cmp l)) t.peers.entries (record k { link = o })
       → Holds g (Links l ∷ K) (record t { peers = P })
   stands_now o P new put = record {
     keeps = keeps_after g K (Links l ∷ K) t P h.keeps (Links-proper K h.keeps.proper l (known_lives K h.keeps.proper l its.0 its.1).1) refl refl refl (λ c. refl) refl refl h.keeps.conns;
     peers = relinked (Links l ∷ K) o P (λ v w far is. let off : eqb v.link l ≡ false = eqb-comm v.link l ∙ far in rw off is)
-        (rw me record { id_is = its.2.id_is; active_is = its.2.active_is; run_is = its.2.run_is; link_is = new ∙ ap (λ j. link_after g.id (bodies j K) true (replies j K) (taken j K)) link_is }) put;
+        (rw me record { id_is = its.2.id_is; active_is = its.2.active_is; run_is = its.2.run_is; link_is = new ∙ ap (λ j. link_after g.id (line j K) true (replies j K) (taken j K)) link_is }) put;
   }
 
-  pub linked_holds : (o : Sending) (P : BTreeMap ℕ Peer) → o ≡ link_after g.id (bodies l K) true (replies l K) (taken l K) → P.entries ≡ set_value (is_at (nat_cmp l)) t.peers.entries (record k { link = o })
+  pub linked_holds : (o : Sending) (P : BTreeMap ℕ Peer) → o ≡ link_after g.id (line l K) true (replies l K) (taken l K) → P.entries ≡ set_value (is_at (nat_cmp l)) t.peers.entries (record k { link = o })
       → Holds g (after (at_linked g l (life l K) K) K) (record t { peers = P })
   linked_holds o P new put = subst (λ (x : Option Life). Holds g (after (at_linked g l x K) K) (record t { peers = P })) (sym its.1) (by (is_linked l K) refl)
     where
       by : (b : Bool) → is_linked l K ≡ b → Holds g (after (if b then [] else Links l ∷ []) K) (record t { peers = P })
-      by true e = written_back g K t h l k was o P (new ∙ ap (λ b. link_after g.id (bodies l K) b (replies l K) (taken l K)) (sym e) ∙ sym (row_link g K t h l k was)) put
+      by true e = written_back g K t h l k was o P (new ∙ ap (λ b. link_after g.id (line l K) b (replies l K) (taken l K)) (sym e) ∙ sym (row_link g K t h l k was)) put
       by false e = stands_now o P new put
 
   -- ---- it takes octets
 
-  takes_now : (n : ℕ) (o : Sending) (P : BTreeMap ℕ Peer) → o ≡ link_after g.id (bodies l K) (is_linked l K) (replies l K) (taken l K + n) → P.entries ≡ set_value (is_at (nat_cmp l)) t.peers.entries (record k { link = o })
+  takes_now : (n : ℕ) (o : Sending) (P : BTreeMap ℕ Peer) → o ≡ link_after g.id (line l K) (is_linked l K) (replies l K) (taken l K + n) → P.entries ≡ set_value (is_at (nat_cmp l)) t.peers.entries (record k { link = o })
       → Holds g (Sends l n ∷ K) (record t { peers = P })
   takes_now n o P new put = record {
     keeps = keeps_after g K (Sends l n ∷ K) t P h.keeps (Sends-proper K h.keeps.proper l n (known_lives K h.keeps.proper l its.0 its.1).1) refl refl refl (λ c. refl) refl refl h.keeps.conns;
     peers = relinked (Sends l n ∷ K) o P (λ v w far is. let off : eqb v.link l ≡ false = eqb-comm v.link l ∙ far in rw off is)
-        (rw me record { id_is = its.2.id_is; active_is = its.2.active_is; run_is = its.2.run_is; link_is = new ∙ ap (λ j. link_after g.id (bodies j K) (is_linked j K) (replies j K) (taken j K + n)) link_is }) put;
+        (rw me record { id_is = its.2.id_is; active_is = its.2.active_is; run_is = its.2.run_is; link_is = new ∙ ap (λ j. link_after g.id (line j K) (is_linked j K) (replies j K) (taken j K + n)) link_is }) put;
   }
 
-  pub took_holds : (n : ℕ) (o : Sending) (P : BTreeMap ℕ Peer) → o ≡ link_after g.id (bodies l K) (is_linked l K) (replies l K) (taken_by g.id (bodies l K) (is_linked l K) (replies l K) (taken l K) n)
+  pub took_holds : (n : ℕ) (o : Sending) (P : BTreeMap ℕ Peer) → o ≡ link_after g.id (line l K) (is_linked l K) (replies l K) (taken_by g.id (line l K) (is_linked l K) (replies l K) (taken l K) n)
       → P.entries ≡ set_value (is_at (nat_cmp l)) t.peers.entries (record k { link = o }) → Holds g (after (at_took g l n (life l K) K) K) (record t { peers = P })
   took_holds n o P new put = subst (λ (x : Option Life). Holds g (after (at_took g l n x K) K) (record t { peers = P })) (sym its.1) (takes_now (min n (gate g l K - taken l K)) o P new put)
 
@@ -140,91 +137,6 @@ pub break : (g : Config) (l : ℕ) (o : Option Life) → is_some o ≡ true → 
 break g l None e = absurd cc
 break g l (Some v) e = (refl, refl)
 
--- ---- a reply
-
--- a fault is that of a known peer's link
-pub fault_known : (g : Config) (l : ℕ) (K : List Mark) (o : Option Life) (f : ZmtpFault) → at_reply g l o K ≡ fault_of_reply g l (Some f) → IsSome o
-fault_known g l K None f e = absurd cc
-fault_known g l K (Some v) f e = refl
-
--- a reply, by whether the link stands
-reply_up : (g : Config) (l : ℕ) (K : List Mark) (o : Option Life) (v : Life) → o ≡ Some v → is_linked l K ≡ true → at_reply g l o K ≡ fault_of_reply g l (reply_fault (replies l K))
-reply_up g l K o v e up = rw (e, up) refl
-
-reply_down : (g : Config) (l : ℕ) (K : List Mark) (o : Option Life) (v : Life) → o ≡ Some v → is_linked l K ≡ false → at_reply g l o K ≡ []
-reply_down g l K o v e down = rw (e, down) refl
-
-none_found : (l : ℕ) (vs : List Life) → find (λ (v : Life). eqb l v.link) vs ≡ None → AllByRecursion (λ (v : Life). eqb l v.link ≡ false) vs
-none_found l [] e = tt
-none_found l (v ∷ vs) e = by (none_found l vs) (eqb l v.link) refl e
-  where
-    by : (find (λ (u : Life). eqb l u.link) vs ≡ None → AllByRecursion (λ (u : Life). eqb l u.link ≡ false) vs) → (b : Bool) → eqb l v.link ≡ b → cond b (Some v) (find (λ (u : Life). eqb l u.link) vs) ≡ None
-        → (eqb l v.link ≡ false) × AllByRecursion (λ (u : Life). eqb l u.link ≡ false) vs
-    by r true q k = absurd cc
-    by r false q k = (q, r k)
-
-module _ (g : Config) (H : List Mark) (t : Tables) (h : Holds g H t) (e : Entry) (l : ℕ) (o : List ℕ) (is : e.input ≡ input.Reply l o) where
-  no_piece : (c : ℕ) → piece_of c e.input ≡ []
-  no_piece c = rw is refl
-
-  -- the links of the others are as before
-  another : Agree key l (IsPeer g H) (IsPeer g (Comes e ∷ H))
-  another v w far p = record {
-    id_is = p.id_is;
-    active_is = p.active_is;
-    run_is = p.run_is;
-    link_is = p.link_is ∙ ap (λ r. link_after g.id (bodies v.link H) (is_linked v.link H) r (taken v.link H)) (no_replies g H t h e v.link (let off : eqb v.link l ≡ false = eqb-comm v.link l ∙ far in rw (is, off) refl));
-  }
-
-  comes : (P : BTreeMap ℕ Peer) → Tabled key (IsPeer g (Comes e ∷ H)) (lives H) P.entries → Holds g (Comes e ∷ H) (record t { clock = max e.at t.clock; peers = P })
-  comes P peers = record {
-    keeps = keeps_as g H _ _ _ h.keeps (Comes-proper H h.keeps.proper e) refl (refl, refl, refl) (ap (max e.at) h.keeps.clock_is) h.keeps.births_is h.keeps.last_is h.keeps.groups_fit h.keeps.own (retold (λ (c : ℕ). c) (IsConn g H) (IsConn g (Comes e ∷ H)) (λ c k q. q ∙ other_conn g H t h e c (no_piece c)) (open_ones H) t.conns.entries h.keeps.conns);
-    peers = peers;
-  }
-
-  -- no known peer has the link
-  pub not_replied : life l H ≡ None → Holds g (Comes e ∷ H) (record t { clock = max e.at t.clock }) × (at_reply g l (life l H) (Comes e ∷ H) ≡ fault_of_reply g l None)
-  not_replied none = (
-    comes t.peers (retold_of key (λ (v : Life). eqb l v.link ≡ false) (IsPeer g H) (IsPeer g (Comes e ∷ H)) (λ v k far p. another v k far p) (lives H) t.peers.entries (none_found l (lives H) none) h.peers),
-    rw none refl,
-  )
-
-  module _ (k : Peer) (was : Some k ≡ lookup (is_at (nat_cmp l)) t.peers.entries) where
-    -- the replies with this one
-    grown : is_linked l H ≡ true → replies l (Comes e ∷ H) ≡ replies l H ++ o
-    grown up = let this : eqb l l ≡ true = eq-eqb l l refl in rw (up, is, this) refl
-
-    dropped : is_linked l H ≡ false → replies l (Comes e ∷ H) ≡ replies l H
-    dropped down = rw down (append-nil (replies l H))
-
-    with_row : (s : Sending) (P : BTreeMap ℕ Peer) → s ≡ link_after g.id (bodies l H) (is_linked l H) (replies l (Comes e ∷ H)) (taken l H) → P.entries ≡ set_value (is_at (nat_cmp l)) t.peers.entries (record k { link = s })
-        → Holds g (Comes e ∷ H) (record t { clock = max e.at t.clock; peers = P })
-    with_row s P new put =
-        let p = (its g H t h l k was).2 in
-        comes P (relinked g H t h l k was (Comes e ∷ H) s P another
-        record { id_is = p.id_is; active_is = p.active_is; run_is = p.run_is; link_is = new ∙ ap (λ j. link_of_life g (Comes e ∷ H) j) (link_is g H t h l k was) } put)
-
-    pub replied : (s : Sending) (P : BTreeMap ℕ Peer) (fault : Option ZmtpFault) → P.entries ≡ set_value (is_at (nat_cmp l)) t.peers.entries (record k { link = s })
-        → (k.link ≡ link_after g.id (bodies l H) true (replies l H) (taken l H) → (s ≡ link_after g.id (bodies l H) true (replies l H ++ o) (taken l H)) × (fault ≡ reply_fault (replies l H ++ o)))
-        → (k.link.linked ≡ false → (s ≡ k.link) × (fault ≡ None))
-        → Holds g (Comes e ∷ H) (record t { clock = max e.at t.clock; peers = P }) × (at_reply g l (life l H) (Comes e ∷ H) ≡ fault_of_reply g l fault)
-    replied s P fault put live dead = by (is_linked l H) refl
-      where
-        row : k.link ≡ link_after g.id (bodies l H) (is_linked l H) (replies l H) (taken l H)
-        row = row_link g H t h l k was
-
-        by : (b : Bool) → is_linked l H ≡ b → Holds g (Comes e ∷ H) (record t { clock = max e.at t.clock; peers = P }) × (at_reply g l (life l H) (Comes e ∷ H) ≡ fault_of_reply g l fault)
-        by true q =
-            let r = live (row ∙ ap (λ b. link_after g.id (bodies l H) b (replies l H) (taken l H)) q) in (
-              with_row s P (r.0 ∙ ap (λ b. link_after g.id (bodies l H) b (replies l H ++ o) (taken l H)) (sym q) ∙ ap (λ (rs : List ℕ). link_after g.id (bodies l H) (is_linked l H) rs (taken l H)) (sym (grown q))) put,
-              reply_up g l (Comes e ∷ H) (life l H) (its g H t h l k was).0 (its g H t h l k was).1 q ∙ ap (λ (rs : List ℕ). fault_of_reply g l (reply_fault rs)) (grown q) ∙ ap (fault_of_reply g l) (sym r.1),
-            )
-        by false q =
-            let r = dead (ap (λ (x : Sending). x.linked) row ∙ q) in (
-              with_row s P (r.0 ∙ row ∙ ap (λ (rs : List ℕ). link_after g.id (bodies l H) (is_linked l H) rs (taken l H)) (sym (dropped q))) put,
-              reply_down g l (Comes e ∷ H) (life l H) (its g H t h l k was).0 (its g H t h l k was).1 q ∙ ap (fault_of_reply g l) (sym r.1),
-            )
-
 -- ---- entries that name a link
 
 or-false : (b c : Bool) → (b || (c || false)) ≡ (b || c)
@@ -266,5 +178,5 @@ other_input _ a b c e = absurd cc
 pub reply_names : (e : Entry) (l : ℕ) (o : List ℕ) → e.input ≡ input.Reply l o → (j : ℕ) → names j e.input ≡ eqb j l
 reply_names e l o is j = rw is refl
 
-pub reply_marks : (g : Config) (e : Entry) (H : List Mark) (l : ℕ) (o : List ℕ) → e.input ≡ input.Reply l o → at_input g e.input H (Comes e ∷ H) ≡ at_reply g l (life l H) (Comes e ∷ H)
+pub reply_marks : (g : Config) (e : Entry) (H : List Mark) (l : ℕ) (o : List ℕ) → e.input ≡ input.Reply l o → at_input g e.input H (Comes e ∷ H) ≡ at_reply g l (life l H) H (Comes e ∷ H)
 reply_marks g e H l o is = ap (λ i. at_input g i H (Comes e ∷ H)) is

@@ -7,11 +7,11 @@ use Rattle.std.proofs.lemmas.List.Folds.{list_any-append}
 use Rattle.zre_msg.specs.declared.message.Body.{Body}
 use Rattle.zre_peer.specs.declared.causes.Cause.TheVariants as cause
 use Rattle.zre_link.specs.Link.{Sending, link_after}
-use Rattle.zre_link.specs.Text.{text_of, size_of}
+use Rattle.zre_link.specs.Text.{Member, Says, text_of, size_of}
 use Rattle.zre_journal.specs.declared.config.Config.{Config}
 use Rattle.zre_journal.specs.Chronicle.{Mark, Puts, Sends, Ends, after, followed}
 use Rattle.zre_journal.specs.Peers.{Life, lives, life}
-use Rattle.zre_journal.specs.Links.{bodies, put_on, is_linked, replies, taken, unsent}
+use Rattle.zre_journal.specs.Links.{line, put_on, is_linked, replies, taken, unsent}
 use Rattle.zre_journal.specs.Pushes.{push}
 use Rattle.zre_journal.proofs.Kept.{known_lives, Puts-proper}
 use Rattle.zre_journal.proofs.Listed.{eqb-comm, found_passes}
@@ -32,7 +32,7 @@ module _ (g : Config) (K : List Mark) (t : Tables) (h : Holds g K t) (l : ℕ) (
   link_is = eqb-true l its.0.link (found_passes (λ (u : Life). eqb l u.link) (lives K) its.0 its.1)
 
   -- the link of a row is what is kept of link l
-  pub row_link : k.link ≡ link_after g.id (bodies l K) (is_linked l K) (replies l K) (taken l K)
+  pub row_link : k.link ≡ link_after g.id (line l K) (is_linked l K) (replies l K) (taken l K)
   row_link = its.2.link_is ∙ ap (link_of_life g K) (sym link_is)
 
   -- a row whose link is as before
@@ -47,7 +47,7 @@ module _ (g : Config) (K : List Mark) (t : Tables) (h : Holds g K t) (l : ℕ) (
   }
 
   -- a row on whose link a body was put
-  pub puts_it : (b : Body) (o : Sending) (P : BTreeMap ℕ Peer) → o ≡ link_after g.id (bodies l K ++ b ∷ []) (is_linked l K) (replies l K) (taken l K)
+  pub puts_it : (b : Body) (o : Sending) (P : BTreeMap ℕ Peer) → o ≡ link_after g.id (line l K ++ Says b ∷ []) (is_linked l K) (replies l K) (taken l K)
       → P.entries ≡ set_value (is_at (nat_cmp l)) t.peers.entries (record k { link = o }) → Holds g (Puts l b ∷ K) (record t { peers = P })
   puts_it b o P new put = record {
     keeps = keeps_as g K _ _ _ h.keeps (Puts-proper K h.keeps.proper l b (known_lives K h.keeps.proper l its.0 its.1).1) refl (refl, refl, refl) h.keeps.clock_is h.keeps.births_is h.keeps.last_is h.keeps.groups_fit h.keeps.own h.keeps.conns;
@@ -58,17 +58,17 @@ module _ (g : Config) (K : List Mark) (t : Tables) (h : Holds g K t) (l : ℕ) (
         let here : l ≡ v.link = eqb-true l v.link (found_passes (λ (u : Life). eqb l u.link) (lives K) v f) in
         let me : eqb v.link l ≡ true = eq-eqb v.link l (sym here) in
         let is = subst (λ u. IsPeer g K u k) (sym at) its.2 in
-        let to : o ≡ link_after g.id (bodies v.link K ++ b ∷ []) (is_linked v.link K) (replies v.link K) (taken v.link K) =
-        new ∙ ap (λ j. link_after g.id (bodies j K ++ b ∷ []) (is_linked j K) (replies j K) (taken j K)) here in
+        let to : o ≡ link_after g.id (line v.link K ++ Says b ∷ []) (is_linked v.link K) (replies v.link K) (taken v.link K) =
+        new ∙ ap (λ j. link_after g.id (line j K ++ Says b ∷ []) (is_linked j K) (replies j K) (taken j K)) here in
         rw me record { id_is = is.id_is; active_is = is.active_is; run_is = is.run_is; link_is = to }) h.peers);
   }
 
 -- what is due, by the test
-pub fits : (g : Config) (l : ℕ) (b : Body) (K : List Mark) → unsent g l K + size_of (bodies l K) b ≤ 4194304 → push g l b K ≡ Puts l b ∷ []
-fits g l b K low = let e : ltb 4194304 (unsent g l K + size_of (bodies l K) b) ≡ false = le-ltb 4194304 (unsent g l K + size_of (bodies l K) b) low in rw e refl
+pub fits : (g : Config) (l : ℕ) (b : Body) (K : List Mark) → unsent g l K + size_of (line l K) b ≤ 4194304 → push g l b K ≡ Puts l b ∷ []
+fits g l b K low = let e : ltb 4194304 (unsent g l K + size_of (line l K) b) ≡ false = le-ltb 4194304 (unsent g l K + size_of (line l K) b) low in rw e refl
 
-pub is_slow : (g : Config) (l : ℕ) (b : Body) (K : List Mark) (waits size : ℕ) → waits ≡ unsent g l K → size ≡ size_of (bodies l K) b → 4194304 < unsent g l K + size_of (bodies l K) b → push g l b K ≡ Ends l (cause.Slow waits size) ∷ []
-is_slow g l b K waits size w s high = let e : ltb 4194304 (unsent g l K + size_of (bodies l K) b) ≡ true = lt-ltb 4194304 (unsent g l K + size_of (bodies l K) b) high in rw (e, w, s) refl
+pub is_slow : (g : Config) (l : ℕ) (b : Body) (K : List Mark) (waits size : ℕ) → waits ≡ unsent g l K → size ≡ size_of (line l K) b → 4194304 < unsent g l K + size_of (line l K) b → push g l b K ≡ Ends l (cause.Slow waits size) ∷ []
+is_slow g l b K waits size w s high = let e : ltb 4194304 (unsent g l K + size_of (line l K) b) ≡ true = lt-ltb 4194304 (unsent g l K + size_of (line l K) b) high in rw (e, w, s) refl
 
 -- it was put, and its link is noted
 pub put_did : (g : Config) (l : ℕ) (b : Body) (K : List Mark) (n : Tables) (a s : Effects) → Holds g (Puts l b ∷ K) n → s.events ≡ a.events → s.acts ≡ a.acts → s.pushed ≡ a.pushed ++ l ∷ [] → Did g (Puts l b ∷ []) K n a s
@@ -83,20 +83,20 @@ put_did g l b K n a s h ev ac pu = record {
 
 -- what was put on each link, and how much of it has gone out, is the same
 abbrev pub Alike : List Mark → List Mark → Type 0
-Alike I K = (l : ℕ) → (bodies l I ≡ bodies l K) × (taken l I ≡ taken l K)
+Alike I K = (l : ℕ) → (line l I ≡ line l K) × (taken l I ≡ taken l K)
 
 alike_mark : (h : Mark) (I K : List Mark) → Alike I K → Alike (h ∷ I) (h ∷ K)
 alike_mark (Sends k n) I K a l = ((a l).0, ap (λ (m : ℕ). if eqb l k then m + n else m) (a l).1)
-alike_mark h I K a l = (ap (λ (bs : List Body). followed bs (put_on l h)) (a l).0, (a l).1)
+alike_mark h I K a l = (ap (λ (ms : List Member). followed ms (put_on l h)) (a l).0, (a l).1)
 
 pub alike_after : (hs I K : List Mark) → Alike I K → Alike (after hs I) (after hs K)
 alike_after [] I K a = a
 alike_after (h ∷ hs) I K a = alike_after hs (h ∷ I) (h ∷ K) (alike_mark h I K a)
 
 -- what a push brings, by what was put on its link and has gone out of it
-push_of : Config → ℕ → Body → List Body → ℕ → List Mark
+push_of : Config → ℕ → Body → List Member → ℕ → List Mark
 push_of g l b bs n = let size = size_of bs b in if ltb 4194304 (length (text_of g.id bs) - n + size) then Ends l (cause.Slow (length (text_of g.id bs) - n) size) ∷ [] else Puts l b ∷ []
 
 pub same_push : (g : Config) (l : ℕ) (b : Body) (I K : List Mark) → Alike I K → push g l b I ≡ push g l b K
 unfolding push_of
-same_push g l b I K a = ap (λ (bs : List Body). push_of g l b bs (taken l I)) (a l).0 ∙ ap (λ (n : ℕ). push_of g l b (bodies l K) n) (a l).1
+same_push g l b I K a = ap (λ (ms : List Member). push_of g l b ms (taken l I)) (a l).0 ∙ ap (λ (n : ℕ). push_of g l b (line l K) n) (a l).1

@@ -1,12 +1,12 @@
 -- READY on a connection, and an older connection that gives way.
-use Rattle.std.proofs.Common.{◌≡◌, ℕ, Bool, true, false, cond, not, ◌&&◌, ◌||◌, eqb, List, [], ◌∷◌, ◌++◌, Option, Some, None, find, refl, sym, ◌∙◌, nat_cmp, subst, eq-eqb, eqb-true}
+use Rattle.std.proofs.Common.{◌≡◌, ℕ, Bool, true, false, cond, not, ◌&&◌, eqb, List, [], ◌∷◌, Option, Some, None, find, refl, sym, ◌∙◌, nat_cmp, subst, eq-eqb, eqb-true}
 use Rattle.std.specs.BTreeMap.{BTreeMap, is_at}
 use Rattle.std.specs.Map.{set_value}
 use Rattle.zre_values.specs.declared.peer_id.PeerId.{PeerId}
 use Rattle.zre_journal.specs.declared.config.Config.{Config}
-use Rattle.zre_journal.specs.Chronicle.{Mark, Greets, Shakes}
+use Rattle.zre_journal.specs.Chronicle.{Mark, Greets, Shakes, AnswersPing}
 use Rattle.zre_journal.specs.Connections.{open_ones, is_open, identity, is_same, other_with}
-use Rattle.zre_journal.proofs.Kept.{Greets-proper, Shakes-proper}
+use Rattle.zre_journal.proofs.Kept.{Greets-proper, AnswersPing-proper, Shakes-proper}
 use Rattle.zre_journal.proofs.Listed.{eqb-comm, found_passes, found_there}
 use Rattle.zre_node.specs.declared.connection.Connection.{Connection}
 use Rattle.zre_node.specs.declared.tables.Tables.{Tables}
@@ -52,3 +52,8 @@ module _ (g : Config) (H : List Mark) (t : Tables) (h : Holds g H t) (c : ℕ) (
 
 pub greets : (g : Config) (H : List Mark) (t : Tables) → Holds g H t → (c : ℕ) → Holds g (Greets c ∷ H) t
 greets g H t h c = with_conns g H (Greets c ∷ H) t t.last t.conns h (Greets-proper H h.keeps.proper c) refl refl refl h.peers refl refl refl h.keeps.last_is h.keeps.conns
+
+-- ---- a PING
+
+pub pings : (g : Config) (H : List Mark) (t : Tables) → Holds g H t → (c : ℕ) (context : List ℕ) → Holds g (AnswersPing c context ∷ H) t
+pings g H t h c context = with_conns g H (AnswersPing c context ∷ H) t t.last t.conns h (AnswersPing-proper H h.keeps.proper c context) refl refl refl h.peers refl refl refl h.keeps.last_is h.keeps.conns

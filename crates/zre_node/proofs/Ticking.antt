@@ -1,5 +1,5 @@
 -- A tick, at the tables.
-use Rattle.std.proofs.Common.{◌≡◌, ℕ, ◌+◌, ◌-◌, ◌<◌, zero, suc, Bool, true, false, cond, ◌&&◌, eqb, ltb, List, [], ◌∷◌, ◌++◌, map, filter, take, length, get_or, Option, Some, None, IsSome, is_some, refl, sym, ap, ◌∙◌, arith, nat_cmp, append_assoc, eqb-true, subst}
+use Rattle.std.proofs.Common.{◌≡◌, ℕ, ◌+◌, ◌<◌, zero, suc, Bool, true, false, cond, eqb, ltb, List, [], ◌∷◌, ◌++◌, map, filter, take, length, get_or, Option, Some, None, IsSome, is_some, refl, sym, ap, ◌∙◌, arith, nat_cmp, append_assoc, eqb-true, subst}
 use Rattle.std.specs.List.{AllByRecursion}
 use Rattle.std.specs.BTreeMap.{is_at}
 use Rattle.std.specs.Map.{lookup}
@@ -24,7 +24,7 @@ use Rattle.zre_journal.specs.Done.{names}
 use Rattle.zre_journal.specs.Happens.{at_input}
 use Rattle.zre_journal.specs.Ticks.{at_tick, probe, is_silent, is_evasive, is_stale}
 use Rattle.zre_journal.specs.Heard.{clock}
-use Rattle.zre_journal.specs.Links.{bodies, unsent}
+use Rattle.zre_journal.specs.Links.{line, unsent}
 use Rattle.zre_journal.specs.Peers.{Life, lives, life, runner, counted, view}
 use Rattle.zre_journal.specs.Proper.{Apart}
 use Rattle.zre_journal.specs.Told.{told, becoming_evasive}
@@ -168,13 +168,13 @@ module _ (g : Config) where
   same_entered J K a b (m ∷ ls) k = ((subst IsSome (sym (a m)) k.0.0, ap is_some (b m) ∙ k.0.1), k.1, same_entered J K a b ls k.2)
 
   still_entered : (l : ℕ) (K : List Mark) (ls : List ℕ) → AllByRecursion (λ k. eqb l k ≡ false) ls → AreEntered K ls → AreEntered (after (probes g l K) K) ls
-  still_entered l K ls far k = by (ltb 4194304 (unsent g l K + size_of (bodies l K) body.Ping))
+  still_entered l K ls far k = by (ltb 4194304 (unsent g l K + size_of (line l K) body.Ping))
     where
       here : AreEntered (IsEvasive l ∷ K) ls
       here = same_entered (IsEvasive l ∷ K) K (λ m. refl) (λ m. refl) ls k
 
-      by : (b : Bool) → AreEntered (after (cond b (Ends l (cause.Slow (unsent g l K) (size_of (bodies l K) body.Ping)) ∷ []) (Puts l body.Ping ∷ [])) (IsEvasive l ∷ K)) ls
-      by true = ends_entered l (cause.Slow (unsent g l K) (size_of (bodies l K) body.Ping)) (IsEvasive l ∷ K) ls far here
+      by : (b : Bool) → AreEntered (after (cond b (Ends l (cause.Slow (unsent g l K) (size_of (line l K) body.Ping)) ∷ []) (Puts l body.Ping ∷ [])) (IsEvasive l ∷ K)) ls
+      by true = ends_entered l (cause.Slow (unsent g l K) (size_of (line l K) body.Ping)) (IsEvasive l ∷ K) ls far here
       by false = same_entered (Puts l body.Ping ∷ IsEvasive l ∷ K) (IsEvasive l ∷ K) (λ m. refl) (λ m. refl) ls here
 
   -- each is entered when its turn comes
@@ -187,9 +187,9 @@ module _ (g : Config) where
 
   probes_start_none : (ls : List ℕ) (K : List Mark) → AreNoStarts (in_turn (probes g) ls K)
   probes_start_none [] K = tt
-  probes_start_none (l ∷ ls) K = none_and_none (probes g l K) (in_turn (probes g) ls (after (probes g l K) K)) (λ c. refl, by (ltb 4194304 (unsent g l K + size_of (bodies l K) body.Ping))) (probes_start_none ls (after (probes g l K) K))
+  probes_start_none (l ∷ ls) K = none_and_none (probes g l K) (in_turn (probes g) ls (after (probes g l K) K)) (λ c. refl, by (ltb 4194304 (unsent g l K + size_of (line l K) body.Ping))) (probes_start_none ls (after (probes g l K) K))
     where
-      by : (b : Bool) → AreNoStarts (cond b (Ends l (cause.Slow (unsent g l K) (size_of (bodies l K) body.Ping)) ∷ []) (Puts l body.Ping ∷ []))
+      by : (b : Bool) → AreNoStarts (cond b (Ends l (cause.Slow (unsent g l K) (size_of (line l K) body.Ping)) ∷ []) (Puts l body.Ping ∷ []))
       by true = (λ c. refl, tt)
       by false = (λ c. refl, tt)
 

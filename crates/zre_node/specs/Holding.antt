@@ -1,10 +1,10 @@
 -- How many octets the rows of the tables hold, and up to the greatest number that is told.
 use Rattle.std.specs.Prelude.{◌≡◌, ℕ, ◌+◌, ◌-◌, ◌^◌, min, Bool, List, length, Option, Some, None}
 use Rattle.zre_values.specs.declared.peer_id.PeerId.{PeerId}
-use Rattle.zre_msg.specs.declared.message.Body.{Body}
 use Rattle.zre_mailbox.specs.Conn.{Hearing, conn_after, kept_of}
 use Rattle.zre_link.specs.Heard.{kept_of as kept_of_replies}
 use Rattle.zre_link.specs.Link.{link_after}
+use Rattle.zre_link.specs.Text.{Member}
 use Rattle.zre_peer.specs.declared.view.View.{View}
 use Rattle.zre_journal.specs.Held.{view_octets}
 use Rattle.zre_node.specs.declared.connection.Connection.{Connection}
@@ -38,11 +38,11 @@ shown_octets (Some v) = view_octets v
 abbrev pub peer_row_octets : Peer → ℕ
 peer_row_octets k = kept_of_replies k.link.replies + length k.link.queue + shown_octets (view_of_row k)
 
--- its link stands after what was put, what came back and what has gone out
+-- its link stands with its line, after what came back and what has gone out
 pub record IsSending (k : Peer) : Type 0 where
   pub own : PeerId
-  pub put : List Body
+  pub line : List Member
   pub linked : Bool
   pub replied : List ℕ
   pub gone : ℕ
-  pub link_is : k.link ≡ link_after own put linked replied gone
+  pub link_is : k.link ≡ link_after own line linked replied gone

@@ -5,6 +5,7 @@ pub mod Holding
 pub mod Journal
 pub mod Kinds
 pub mod Links
+pub mod Looks
 pub mod Offers
 pub mod Said
 pub mod Stands

@@ -19,7 +19,7 @@ use Rattle.zre_journal.specs.Heard.{clock, bytes}
 use Rattle.zre_journal.specs.Connections.{open_ones, is_open, is_new, is_ignored, identity, runs, since, is_same}
 use Rattle.zre_journal.specs.Peers.{Life, life, lives, other_lives, births, active, runner, counted}
 use Rattle.zre_journal.specs.Proper.{IsProper}
-use Rattle.zre_journal.specs.Links.{bodies, is_linked, replies, taken, groups, status}
+use Rattle.zre_journal.specs.Links.{line, is_linked, replies, taken, groups, status}
 use Rattle.zre_journal.specs.Happens.{has_stopped}
 use Rattle.zre_journal.specs.Commands.{at_stop}
 use Rattle.zre_journal.specs.Told.{told}
@@ -53,7 +53,7 @@ pub record IsKept (id : PeerId) (now : ℕ) (run : Option ℕ) (messages : List 
 
 -- what stands on the link of a life
 abbrev pub link_of_life : Config → List Mark → ℕ → Sending
-link_of_life g H l = link_after g.id (bodies l H) (is_linked l H) (replies l H) (taken l H)
+link_of_life g H l = link_after g.id (line l H) (is_linked l H) (replies l H) (taken l H)
 
 -- what is kept of a life
 abbrev pub IsPeer : Config → List Mark → Life → Peer → Type 0

@@ -1,19 +1,25 @@
 //! A node.
 
-ghost use Rattle.std.specs.Prelude.{◌≡◌, ◌↔◌, List, [], true, IfOk, IsErr, IsTrue};
+ghost use Rattle.std.specs.Prelude.{◌≡◌, ◌↔◌, ◌<◌, List, [], ◌∷◌, ◌++◌, true, IfOk, IsErr, IsTrue};
 ghost use Rattle.zre_outside.specs.declared.entry.Entry.{Entry as EntryValue};
 ghost use Rattle.zre_journal.specs.declared.config.Config.{Config as ConfigValue};
 ghost use Rattle.zre_journal.specs.Config.{is_valid};
+ghost use Rattle.zre_journal.specs.Events.{chronicle};
+ghost use Rattle.zre_journal.specs.Held.{kept};
 ghost use Rattle.zre_node.specs.Journal.{is_spent, StandsFor, Steps};
+ghost use Rattle.zre_node.specs.Looks.{Looks, octets_of};
 
 use crate::effects::{Effects, Step};
 use crate::tables::Tables;
 use std::alloc::Global;
 use std::collections::BTreeMap;
+use std::marker::Brand;
+use std::sync::ledger::{Blank, Ledger};
 use zre_group::Own;
 use zre_journal::Config;
 use zre_outside::Entry;
 use zre_values::{Endpoint, OutOfMemory};
+use zre_zmtp::Steps as Counter;
 
 /// A node of RFC 36, to which the entries of a journal are told one by one.
 #[derive(Drop)]
@@ -50,13 +56,31 @@ impl Node {
     }
 
     /// One entry of the journal: what it tells, and what it asks of the outside. After a stop nothing has an effect.
-    /// After
-    /// `OutOfMemory` the node is spent: it answers that to every later entry.
+    /// After `OutOfMemory` the node is spent: it answers that to every later entry.
     pub fn step(&mut self, entry: Entry) -> Result<Step, OutOfMemory>
         ensures steps { (g : ConfigValue) (J : List EntryValue) → StandsFor g J self.old →
             IfOk result (λ s. Steps g J entry self.new s) }
         ensures spent { IsTrue (is_spent self.new) ↔ IsErr result }
         ensures ended { IsTrue (is_spent self.old) → IsErr result }
+    {
+        self.step_from::<Brand>(entry, Blank::new(1))
+    }
+
+    /// The same, and looks are counted, as the readers of connections and of replies count them. Looks and three times
+    /// what these readers keep rise by at most four for each octet of a piece or a reply, and not with other entries.
+    pub fn step_counted<L: Ledger>(
+        &mut self,
+        entry: Entry,
+        steps: &mut Counter<L>,
+    ) -> Result<Step, OutOfMemory>
+        ensures steps { (g : ConfigValue) (J : List EntryValue) → StandsFor g J self.old →
+            IfOk result (λ s. Steps g J entry self.new s) }
+        ensures spent { IsTrue (is_spent self.new) ↔ IsErr result }
+        ensures ended { IsTrue (is_spent self.old) → IsErr result }
+        ensures looks { (g : ConfigValue) (J : List EntryValue) → StandsFor g J self.old →
+            Looks steps.old steps.new (kept g (chronicle g J)) (kept g (chronicle g (J ++ entry ∷ [])))
+            (octets_of entry.input) result }
+        ensures none { IsTrue (is_spent self.old) → steps.new ≡ steps.old }
     {
         if self.spent {
             return Err(OutOfMemory);
@@ -64,10 +88,24 @@ impl Node {
         self.spent = true;
         let mut out = Effects::new(self.tables.alloc);
         if !self.tables.stopped {
-            self.tables.take(&mut out, entry)?;
+            self.tables.take(&mut out, entry, steps)?;
         }
         self.spent = false;
         let Effects { events, acts, .. } = out;
         Ok(Step { events, acts })
+    }
+
+    // The same for a caller that counts nothing.
+    fn step_from<L: Ledger>(&mut self, entry: Entry, blank: Blank) -> Result<Step, OutOfMemory>
+        requires name { blank.name ≡ L.name }
+        requires parts { blank.parts ≡ L.parts }
+        requires some { 0 < blank.parts }
+        ensures steps { (g : ConfigValue) (J : List EntryValue) → StandsFor g J self.old →
+            IfOk result (λ s. Steps g J entry self.new s) }
+        ensures spent { IsTrue (is_spent self.new) ↔ IsErr result }
+        ensures ended { IsTrue (is_spent self.old) → IsErr result }
+    {
+        let mut steps = Counter::<L>::new(blank);
+        self.step_counted(entry, &mut steps)
     }
 }

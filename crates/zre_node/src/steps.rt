@@ -1,21 +1,25 @@
 //! Whole entries.
 
-ghost use Rattle.std.specs.Prelude.{◌≡◌, List, [], true, OnOk};
+ghost use Rattle.std.specs.Prelude.{◌≡◌, List, [], true, length, OnOk};
 ghost use Rattle.zre_outside.specs.declared.entry.Entry.{Entry as EntryValue};
 ghost use Rattle.zre_outside.specs.declared.entry.Input.TheVariants as given;
 ghost use Rattle.zre_journal.specs.Endings.{is_end};
 ghost use Rattle.zre_journal.specs.declared.config.Config.{Config};
 ghost use Rattle.zre_journal.specs.Chronicle.{Mark};
-ghost use Rattle.zre_journal.specs.Happens.{at_input};
+ghost use Rattle.zre_journal.specs.Happens.{at_input, with_entry};
+ghost use Rattle.zre_journal.specs.Held.{kept};
 ghost use Rattle.zre_journal.specs.Commands.{at_stop};
 ghost use Rattle.zre_node.specs.Journal.{Took};
 ghost use Rattle.zre_node.specs.Kinds.{is_incoming};
+ghost use Rattle.zre_node.specs.Looks.{Looks, octets_of};
 ghost use Rattle.zre_node.specs.Stands.{Holds, Did};
 
 use crate::effects::Effects;
 use crate::tables::Tables;
+use std::sync::ledger::Ledger;
 use zre_outside::{Command, Entry, Input};
 use zre_values::OutOfMemory;
+use zre_zmtp::Steps;
 
 impl Tables {
     // What a datagram, or a connection that comes or goes, brings.
@@ -49,17 +53,20 @@ impl Tables {
     }
 
     /// A piece of a connection comes.
-    pub fn take_piece(
+    pub fn take_piece<L: Ledger>(
         &mut self,
         out: &mut Effects,
         at: u64,
         conn: u64,
         bytes: &[u8],
+        steps: &mut Steps<L>,
     ) -> Result<(), OutOfMemory>
-        ensures { (g : Config) (H : List Mark) (e : EntryValue) → e.at ≡ at → e.input ≡ given.Piece conn bytes.now →
+        ensures took { (g : Config) (H : List Mark) (e : EntryValue) → e.at ≡ at → e.input ≡ given.Piece conn bytes.now →
             out.old.pushed ≡ [] → Holds g H self.old → OnOk result (Took g e H self.new out.old out.new) }
+        ensures looks { (g : Config) (H : List Mark) (e : EntryValue) → e.input ≡ given.Piece conn bytes.now → Holds g H self.old →
+            Looks steps.old steps.new (kept g H) (kept g (with_entry g e H)) (length bytes.now) result }
     {
-        let heard = self.come_piece(at, conn, bytes)?;
+        let heard = self.come_piece(at, conn, bytes, steps)?;
         self.said(out, conn, heard)?;
         self.offer(out)
     }
@@ -75,14 +82,21 @@ impl Tables {
     }
 
     /// What an entry brings, where the node hasn't stopped.
-    pub fn take(&mut self, out: &mut Effects, entry: Entry) -> Result<(), OutOfMemory>
-        ensures { (g : Config) (H : List Mark) → out.old.pushed ≡ [] → Holds g H self.old →
+    pub fn take<L: Ledger>(
+        &mut self,
+        out: &mut Effects,
+        entry: Entry,
+        steps: &mut Steps<L>,
+    ) -> Result<(), OutOfMemory>
+        ensures took { (g : Config) (H : List Mark) → out.old.pushed ≡ [] → Holds g H self.old →
             OnOk result (Took g entry H self.new out.old out.new) }
+        ensures looks { (g : Config) (H : List Mark) → Holds g H self.old →
+            Looks steps.old steps.new (kept g H) (kept g (with_entry g entry H)) (octets_of entry.input) result }
     {
         let Entry { at, input } = entry;
         match input {
-            Input::Piece { conn, bytes } => self.take_piece(out, at, conn, bytes.as_slice()),
-            Input::Reply { link, bytes } => self.take_reply(out, at, link, bytes.as_slice()),
+            Input::Piece { conn, bytes } => self.take_piece(out, at, conn, bytes.as_slice(), steps),
+            Input::Reply { link, bytes } => self.take_reply(out, at, link, bytes.as_slice(), steps),
             Input::Linked { link } => self.take_link(out, at, Input::Linked { link }),
             Input::Unlinked { link } => self.take_link(out, at, Input::Unlinked { link }),
             Input::Took { link, count } => self.take_link(out, at, Input::Took { link, count }),

@@ -6,4 +6,5 @@ pub mod Lending
 pub mod Lists
 pub mod PlainId
 pub mod Quoting
+pub mod Settings
 pub mod Text

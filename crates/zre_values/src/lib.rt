@@ -14,6 +14,7 @@ mod peer_id;
 mod plain_id;
 mod quoted_table;
 mod quoting;
+mod settings;
 mod texts;
 mod unquoting;
 
@@ -26,5 +27,6 @@ pub use octets::Octets;
 pub use pairs::Pairs;
 pub use peer_id::PeerId;
 pub use quoting::{push_quoted, push_quoted_frames, push_quoted_list, push_quoted_pairs, quote};
+pub use settings::{DAY, NAME_OCTETS, VALUE_OCTETS, are_settings};
 pub use texts::push_decimal;
 pub use unquoting::{is_quoted, octets_are_quoted_once, unquote};

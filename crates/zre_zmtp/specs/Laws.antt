@@ -47,7 +47,7 @@ handshake kind identity = own_greeting ++ ready_frame kind identity
 
 -- the greeting as an item
 abbrev pub greeting_item : Item
-greeting_item = record { start = 0; end = 64; what = Greeting 3 0 }
+greeting_item = record { start = 0; end = 64; what = Greeting 3 1 }
 
 -- READY as an item after the greeting
 abbrev pub ready_item : SocketType → Option PeerId → Item

@@ -6,4 +6,5 @@ pub mod Shown
 pub mod Reading
 pub mod Looks
 pub mod Written
+pub mod Ping
 pub mod Laws

@@ -1,4 +1,5 @@
--- What this node writes at the beginning of a stream (RFC 23, greeting and the NULL mechanism).
+-- What this node writes of a stream besides messages: its greeting and READY (RFC 23, greeting and the NULL mechanism),
+-- and PONG (RFC 37, heartbeats).
 use Rattle.std.specs.Prelude.{ℕ, List, [], ◌∷◌, ◌++◌, length, replicate, Option, Some, None, codes}
 use Rattle.std.specs.Int.{w32, to_be_bytes}
 use Rattle.zre_values.specs.declared.peer_id.PeerId.{PeerId}
@@ -7,9 +8,9 @@ use Rattle.zre_zmtp.specs.declared.writing.SocketType.{SocketType}
 use Rattle.zre_zmtp.specs.declared.writing.SocketType.TheVariants as socket
 use Rattle.zre_zmtp.specs.Stream.{mechanism}
 
--- the greeting of version 3.0 with the NULL mechanism, and zeros where any octets may stand
+-- the greeting of version 3.1 with the NULL mechanism, and zeros where any octets may stand
 abbrev pub own_greeting : List ℕ
-own_greeting = ((255 ∷ replicate 8 0) ++ (127 ∷ 3 ∷ 0 ∷ mechanism)) ++ replicate 32 0
+own_greeting = ((255 ∷ replicate 8 0) ++ (127 ∷ 3 ∷ 1 ∷ mechanism)) ++ replicate 32 0
 
 -- the name of a socket type
 abbrev pub socket_name : SocketType → List ℕ
@@ -33,3 +34,7 @@ ready_body kind identity =
 -- READY as a command frame
 abbrev pub ready_frame : SocketType → Option PeerId → List ℕ
 ready_frame kind identity = frame 4 (ready_body kind identity)
+
+-- PONG with a context as a command frame
+abbrev pub pong_frame : List ℕ → List ℕ
+pong_frame context = frame 4 ((4 ∷ codes "PONG") ++ context)

@@ -31,7 +31,8 @@ pub fn name(body: &[u8]) -> &[u8]
     }
 }
 
-fn rest(body: &[u8]) -> &[u8]
+/// What stands after the name of a command, by its body.
+pub fn rest(body: &[u8]) -> &[u8]
     ensures { result.now ≡ rest_of body.now }
 {
     match body {

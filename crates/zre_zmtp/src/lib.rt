@@ -1,5 +1,5 @@
-//! Streams of ZMTP 3.0 with the NULL mechanism (RFC 23): a reader that takes them in any pieces, and what this node
-//! writes of them.
+//! Streams of ZMTP 3 with the NULL mechanism (RFC 23), and PING and PONG of ZMTP 3.1 (RFC 37): a reader that takes them
+//! in any pieces, and what this node writes of them.
 #![tactic(auto)]
 
 mod command;
@@ -13,6 +13,7 @@ mod laws;
 mod looks;
 mod opened;
 mod partial;
+mod ping;
 mod progress;
 mod reader;
 mod turns;
@@ -23,6 +24,7 @@ pub use fault::{FeedFault, ZmtpFault, ZmtpWhy};
 pub use item::{Item, Items, What};
 pub use laws::{handshakes_are_read, looks_are_few, messages_are_read};
 pub use looks::{Steps, Store};
+pub use ping::context_of;
 pub use reader::Reader;
 pub use want::Want;
-pub use writing::{SocketType, greeting, ready, write_message};
+pub use writing::{SocketType, greeting, pong, ready, write_message};

@@ -2,7 +2,7 @@
 
 ghost use Rattle.std.specs.Prelude.{◌≡◌, ◌≤◌, ◌<◌, ◌++◌, length, IfOk, OnOk};
 ghost use Rattle.zre_values.specs.Framing.{frame, frames as frames_of};
-ghost use Rattle.zre_zmtp.specs.Written.{own_greeting, socket_name, property_octets, identity_octets, ready_frame};
+ghost use Rattle.zre_zmtp.specs.Written.{own_greeting, socket_name, property_octets, identity_octets, ready_frame, pong_frame};
 
 use std::alloc::Global;
 use zre_values::{Frames, Octets, OutOfMemory, PeerId};
@@ -17,12 +17,13 @@ pub enum SocketType {
 }
 
 const GREETING: [u8; 64] = [
-    0xff, 0, 0, 0, 0, 0, 0, 0, 0, 0x7f, 3, 0, b'N', b'U', b'L', b'L', 0, 0, 0, 0, 0, 0, 0, 0, 0, 0,
+    0xff, 0, 0, 0, 0, 0, 0, 0, 0, 0x7f, 3, 1, b'N', b'U', b'L', b'L', 0, 0, 0, 0, 0, 0, 0, 0, 0, 0,
     0, 0, 0, 0, 0, 0, 0, 0, 0, 0, 0, 0, 0, 0, 0, 0, 0, 0, 0, 0, 0, 0, 0, 0, 0, 0, 0, 0, 0, 0, 0, 0,
     0, 0, 0, 0, 0, 0,
 ];
 
-/// The greeting of this node (RFC 23, greeting): version 3.0, the NULL mechanism, no server.
+/// The greeting of this node (RFC 23, greeting): version 3.1 (RFC 37), of which it has PING and PONG, the NULL mechanism,
+/// no server.
 pub fn greeting() -> [u8; 64]
     ensures { result ≡ own_greeting }
 {
@@ -89,6 +90,18 @@ pub fn ready(
     let mut body = Octets::copy(alloc, b"\x05READY")?;
     push_property(&mut body, b"Socket-Type", socket_name(kind))?;
     push_identity(&mut body, identity)?;
+    let mut octets = Octets::new(alloc);
+    push_frame(&mut octets, 4, body.as_slice())?;
+    Ok(octets)
+}
+
+/// PONG with the context of the PING that it answers (RFC 37, heartbeats): a whole command frame. Where the context has
+/// at most 16 octets, as that of a PING has, it takes no memory.
+pub fn pong(alloc: Global, context: &[u8]) -> Result<Octets, OutOfMemory>
+    ensures { IfOk result (λ octets. octets ≡ pong_frame context.now) }
+{
+    let mut body = Octets::copy(alloc, b"\x04PONG")?;
+    body.append(context)?;
     let mut octets = Octets::new(alloc);
     push_frame(&mut octets, 4, body.as_slice())?;
     Ok(octets)

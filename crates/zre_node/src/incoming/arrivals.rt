@@ -5,7 +5,7 @@ ghost use Rattle.zre_mailbox.specs.Talk.{Arrived, Fault, fault_said};
 ghost use Rattle.zre_outside.specs.declared.entry.Entry.{Entry as EntryValue};
 ghost use Rattle.zre_outside.specs.declared.entry.Input.TheVariants as input;
 ghost use Rattle.zre_journal.specs.declared.config.Config.{Config};
-ghost use Rattle.zre_journal.specs.Chronicle.{Mark, Comes, Shakes, Greets, in_turn};
+ghost use Rattle.zre_journal.specs.Chronicle.{Mark, Comes, Shakes, Greets, AnswersPing, in_turn};
 ghost use Rattle.zre_journal.specs.Heard.{newly_completed};
 ghost use Rattle.zre_journal.specs.Connections.{is_live, is_open, identity, runs, other_with as other_in};
 ghost use Rattle.zre_journal.specs.Arrivals.{at_place, at_places, at_arrival, at_shaken, taken_over};
@@ -17,7 +17,7 @@ use crate::tables::{Tables, other_with};
 use zre_mailbox::{Arrival, Arrivals};
 use zre_peer::{Cause, CloseWhy};
 use zre_values::{OutOfMemory, PeerId};
-use zre_zmtp::{FeedFault, SocketType, ZmtpFault, ready};
+use zre_zmtp::{FeedFault, SocketType, ZmtpFault, pong, ready};
 
 /// What a live connection runs, and whom it introduced.
 #[derive(Clone, Copy)]
@@ -100,6 +100,16 @@ impl Tables {
         out.answer(conn, ready)
     }
 
+    // PONG, in answer to a PING with this context.
+    #[inline(never)]
+    fn pinged(&mut self, out: &mut Effects, conn: u64, context: &[u8]) -> Result<(), OutOfMemory>
+        ensures { (g : Config) (H : List Mark) → Holds g H self.old →
+            OnOk result (Did g (AnswersPing conn context.now ∷ []) H self.new out.old out.new) }
+    {
+        let pong = pong(self.alloc, context)?;
+        out.answer(conn, pong)
+    }
+
     // What is whole on a live connection.
     fn arrive_live(
         &mut self,
@@ -117,6 +127,7 @@ impl Tables {
             (Arrival::Greeted, _, _) => self.greeted(out, conn),
             (Arrival::Shaken(peer), _, None) => self.shaken(out, conn, peer),
             (Arrival::Shaken(_), _, Some(_)) => Ok(()),
+            (Arrival::Ping(context), _, _) => self.pinged(out, conn, context.as_slice()),
             (Arrival::Message(message), Some(link), _) => self.later(out, conn, link, message),
             (Arrival::Message(message), None, Some(peer)) => self.first(out, conn, peer, message),
             (Arrival::Message(_), None, None) => Ok(()),

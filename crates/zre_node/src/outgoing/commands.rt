@@ -41,7 +41,7 @@ impl Tables {
         }
         prove!(self.own.len() <= OWN_GROUPS);
         match self.own.join(group.as_slice()) {
-            Ok(status) => self.push_everywhere(out, Body::Join { group, status }),
+            Ok(status) => self.push_everywhere(out, &mut Body::Join { group, status }),
             Err(JoinFault::Same) => decline(out, RefuseWhy::Same(group)),
             Err(JoinFault::Limit) => decline(out, RefuseWhy::Limit(group)),
             Err(JoinFault::OutOfMemory) => Err(OutOfMemory),
@@ -57,7 +57,7 @@ impl Tables {
             return decline(out, RefuseWhy::NoGroup(group));
         }
         match self.own.leave(group.as_slice()) {
-            Ok(status) => self.push_everywhere(out, Body::Leave { group, status }),
+            Ok(status) => self.push_everywhere(out, &mut Body::Leave { group, status }),
             Err(_) => decline(out, RefuseWhy::NoGroup(group)),
         }
     }

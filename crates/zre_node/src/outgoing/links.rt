@@ -1,29 +1,32 @@
 //! Links stand, are answered, take what they were offered, and break.
 
-ghost use Rattle.std.specs.Prelude.{◌≡◌, ℕ, List, [], ◌∷◌, ◌++◌, true, false, None, OnOk, IfOk, if◌then◌else◌, nat_eq, ◌||◌};
+ghost use Rattle.std.specs.Prelude.{◌≡◌, ℕ, length, List, [], ◌∷◌, ◌++◌, true, false, None, OnOk, IfOk, IfSome, IsSome, if◌then◌else◌, nat_eq, ◌||◌};
 ghost use Rattle.std.specs.List.{list_any};
 ghost use Rattle.zre_values.specs.declared.peer_id.PeerId.{PeerId as PeerIdValue};
-ghost use Rattle.zre_msg.specs.declared.message.Body.{Body as BodyValue};
 ghost use Rattle.zre_outside.specs.declared.entry.Entry.{Entry as EntryValue};
 ghost use Rattle.zre_outside.specs.declared.entry.Input.TheVariants as given;
-ghost use Rattle.zre_link.specs.Heard.{reply_fault};
-ghost use Rattle.zre_link.specs.Link.{link_after};
+ghost use Rattle.zre_link.specs.Heard.{kept_of, reply_fault};
+ghost use Rattle.zre_link.specs.Link.{link_after, link_answering, slow_in};
+ghost use Rattle.zre_link.specs.Text.{Member};
 ghost use Rattle.zre_journal.specs.declared.config.Config.{Config};
 ghost use Rattle.zre_journal.specs.Chronicle.{Mark, Comes, after};
 ghost use Rattle.zre_journal.specs.Peers.{life};
-ghost use Rattle.zre_journal.specs.Happens.{at_input};
-ghost use Rattle.zre_journal.specs.LinkEntries.{at_linked, at_reply, at_unlinked, at_took, fault_of_reply};
+ghost use Rattle.zre_journal.specs.Happens.{at_input, with_entry};
+ghost use Rattle.zre_journal.specs.Held.{kept};
+ghost use Rattle.zre_journal.specs.LinkEntries.{at_linked, at_reply, at_unlinked, at_took, cause_by_reply, end_by};
 ghost use Rattle.zre_node.specs.Journal.{Took};
-ghost use Rattle.zre_node.specs.Links.{is_about_link, Notes};
+ghost use Rattle.zre_node.specs.Links.{is_about_link, Notes, IsReplied};
+ghost use Rattle.zre_node.specs.Looks.{Looks};
 ghost use Rattle.zre_node.specs.Stands.{Holds, Did};
 
 use crate::effects::Effects;
 use crate::tables::Tables;
-use zre_link::Link;
+use std::sync::ledger::Ledger;
+use zre_link::{Link, ReplyFault};
 use zre_outside::Input;
 use zre_peer::Cause;
 use zre_values::OutOfMemory;
-use zre_zmtp::{FeedFault, ZmtpFault};
+use zre_zmtp::Steps;
 
 // The link that an entry names is noted, so that what it has to send is offered.
 fn note(out: &mut Effects, input: &Input) -> Result<(), OutOfMemory>
@@ -37,20 +40,27 @@ fn note(out: &mut Effects, input: &Input) -> Result<(), OutOfMemory>
     }
 }
 
-// A reply on a link, which tells the fault of all replies so far. Before the link stands, a reply is dropped.
-fn hear_reply(link: &mut Link, bytes: &[u8]) -> Result<Option<ZmtpFault>, OutOfMemory>
-    ensures standing { (own : PeerIdValue) (bodies : List BodyValue) (o : List ℕ) (n : ℕ)
-        → link.old ≡ link_after own bodies true o n →
-        IfOk result (λ fault. (link.new ≡ link_after own bodies true (o ++ bytes.now) n) × (fault ≡ reply_fault (o ++ bytes.now))) }
-    ensures waiting { link.old.linked ≡ false → IfOk result (λ fault. (link.new ≡ link.old) × (fault ≡ None)) }
+// A reply on a link: why it ends its peer, if it does. Before the link stands, a reply is dropped.
+fn hear_reply<L: Ledger>(
+    link: &mut Link,
+    bytes: &[u8],
+    steps: &mut Steps<L>,
+) -> Result<Option<Cause>, OutOfMemory>
+    ensures standing { (own : PeerIdValue) (line : List Member) (o : List ℕ) (n : ℕ)
+        → link.old ≡ link_after own line true o n →
+        IfOk result (λ why. (link.new ≡ link_answering own line true o n bytes.now)
+        × (why ≡ cause_by_reply (slow_in own line o n bytes.now) (reply_fault (o ++ bytes.now)))) }
+    ensures waiting { link.old.linked ≡ false → IfOk result (λ why. (link.new ≡ link.old) × (why ≡ None)) }
+    ensures looks { Looks steps.old steps.new (kept_of link.old.replies) (kept_of link.new.replies) (length bytes.now) result }
 {
     if !link.is_linked() {
         return Ok(None);
     }
-    match link.reply(bytes) {
+    match link.reply_counted(bytes, steps) {
         Ok(()) => Ok(None),
-        Err(FeedFault::Zmtp(fault)) => Ok(Some(fault)),
-        Err(FeedFault::OutOfMemory) => Err(OutOfMemory),
+        Err(ReplyFault::Zmtp(fault)) => Ok(Some(Cause::Reply(fault))),
+        Err(ReplyFault::Slow { unsent, size }) => Ok(Some(Cause::Slow { unsent, size })),
+        Err(ReplyFault::OutOfMemory) => Err(OutOfMemory),
     }
 }
 
@@ -86,21 +96,23 @@ impl Tables {
         self.end(out, link, Cause::Link)
     }
 
-    // The clock goes on to the reading of an entry with a reply on a link: the fault of that link's replies so far.
-    fn come_reply(
+    // The clock goes on to the reading of an entry with a reply on a link, whose PINGs are answered: why the reply ends
+    // its peer, if it does.
+    fn come_reply<L: Ledger>(
         &mut self,
         at: u64,
         link: u64,
         bytes: &[u8],
-    ) -> Result<Option<ZmtpFault>, OutOfMemory>
-        ensures { (g : Config) (H : List Mark) (e : EntryValue) → e.at ≡ at → e.input ≡ given.Reply link bytes.now
-            → Holds g H self.old →
-            IfOk result (λ fault. Holds g (Comes e ∷ H) self.new
-            × (at_reply g link (life link H) (Comes e ∷ H) ≡ fault_of_reply g link fault)) }
+        steps: &mut Steps<L>,
+    ) -> Result<Option<Cause>, OutOfMemory>
+        ensures came { (g : Config) (H : List Mark) (e : EntryValue) → e.at ≡ at → e.input ≡ given.Reply link bytes.now
+            → Holds g H self.old → IfOk result (λ why. IsReplied g H e link why self.new) }
+        ensures looks { (g : Config) (H : List Mark) (e : EntryValue) → e.input ≡ given.Reply link bytes.now → Holds g H self.old →
+            Looks steps.old steps.new (kept g H) (kept g (Comes e ∷ H)) (length bytes.now) result }
     {
         self.clock = at.max(self.clock);
         match self.peers.get_mut(&link) {
-            Some(peer) => hear_reply(&mut peer.link, bytes),
+            Some(peer) => hear_reply(&mut peer.link, bytes, steps),
             None => Ok(None),
         }
     }
@@ -137,37 +149,40 @@ impl Tables {
         self.offer(out)
     }
 
-    /// A reply comes on a link. Where it makes the replies no stream of a ROUTER, the peer ends.
+    /// A reply comes on a link: its PINGs are answered. Where a PONG has no room, and else where the replies are no stream
+    /// of a ROUTER, the peer ends.
     #[inline(never)]
-    pub fn take_reply(
+    pub fn take_reply<L: Ledger>(
         &mut self,
         out: &mut Effects,
         at: u64,
         link: u64,
         bytes: &[u8],
+        steps: &mut Steps<L>,
     ) -> Result<(), OutOfMemory>
-        ensures { (g : Config) (H : List Mark) (e : EntryValue) → e.at ≡ at → e.input ≡ given.Reply link bytes.now →
+        ensures took { (g : Config) (H : List Mark) (e : EntryValue) → e.at ≡ at → e.input ≡ given.Reply link bytes.now →
             out.old.pushed ≡ [] → Holds g H self.old → OnOk result (Took g e H self.new out.old out.new) }
+        ensures looks { (g : Config) (H : List Mark) (e : EntryValue) → e.input ≡ given.Reply link bytes.now → Holds g H self.old →
+            Looks steps.old steps.new (kept g H) (kept g (with_entry g e H)) (length bytes.now) result }
     {
         out.pushed.push(link)?;
-        let fault = self.come_reply(at, link, bytes)?;
-        self.end_by_reply(out, link, fault)?;
+        let why = self.come_reply(at, link, bytes, steps)?;
+        self.end_by_reply(out, link, why)?;
         self.offer(out)
     }
 
-    // The known peer of a link ends for a fault of its replies, where there is one.
+    // The known peer of a link ends, where there is a cause.
     fn end_by_reply(
         &mut self,
         out: &mut Effects,
         link: u64,
-        fault: Option<ZmtpFault>,
+        why: Option<Cause>,
     ) -> Result<(), OutOfMemory>
-        ensures { (g : Config) (K : List Mark) → Holds g K self.old
-            → at_reply g link (life link K) K ≡ fault_of_reply g link fault →
-            OnOk result (Did g (fault_of_reply g link fault) K self.new out.old out.new) }
+        ensures { (g : Config) (K : List Mark) → Holds g K self.old → IfSome why (λ cause. IsSome (life link K)) →
+            OnOk result (Did g (end_by g link why) K self.new out.old out.new) }
     {
-        match fault {
-            Some(fault) => self.end(out, link, Cause::Reply(fault)),
+        match why {
+            Some(cause) => self.end(out, link, cause),
             None => Ok(()),
         }
     }

@@ -10,12 +10,15 @@ ghost use Rattle.zre_journal.specs.Pushes.{hello, birth};
 ghost use Rattle.zre_journal.specs.Happens.{is_welcome as welcome, at_datagram};
 ghost use Rattle.zre_beacon.specs.Beacon.{beacon_in};
 ghost use Rattle.zre_msg.specs.declared.message.Body.{Body as BodyValue};
+ghost use Rattle.zre_msg.specs.Spelling.{FitsBody};
 ghost use Rattle.zre_link.specs.Link.{link_after};
+ghost use Rattle.zre_link.specs.Text.{Says};
 ghost use Rattle.zre_node.specs.Stands.{Keeps, Holds, Did};
 
 use crate::effects::Effects;
 use crate::peer::Peer;
 use crate::tables::{Tables, link_of};
+use std::alloc::Global;
 use std::collections::BTreeMap;
 use zre_beacon::Beacon;
 use zre_link::{Link, PushFault};
@@ -31,6 +34,18 @@ fn list(peers: &mut BTreeMap<u64, Peer>, link: u64, peer: Peer) -> Result<(), Ou
 {
     peers.insert(link, peer)?;
     Ok(())
+}
+
+// A link on which this body is put. HELLO is far from the limit of a link.
+fn link_with(alloc: Global, own: PeerId, body: &mut Body) -> Result<Link, OutOfMemory>
+    requires { FitsBody body.old }
+    ensures { IfOk result (λ link. link ≡ link_after own (Says body.old ∷ []) false [] 0) }
+{
+    let mut link = Link::new(alloc, own)?;
+    match link.push(body) {
+        Ok(()) => Ok(link),
+        Err(PushFault::OutOfMemory) | Err(PushFault::Slow { .. }) => Err(OutOfMemory),
+    }
 }
 
 impl Tables {
@@ -62,9 +77,8 @@ impl Tables {
     // A link on which HELLO is put. HELLO of settings that are valid fits, and is far from the limit of a link.
     fn greeted_link(&self) -> Result<Link, OutOfMemory>
         ensures { (g : Config) (H : List Mark) → Keeps g H self.now →
-            IfOk result (λ link. link ≡ link_after g.id (hello g H ∷ []) false [] 0) }
+            IfOk result (λ link. link ≡ link_after g.id (Says (hello g H) ∷ []) false [] 0) }
     {
-        let mut link = Link::new(self.alloc, self.config.id)?;
         let mut hello = Message {
             sequence: 1,
             body: self.hello()?,
@@ -72,10 +86,7 @@ impl Tables {
         if !hello.fits() {
             return Err(OutOfMemory);
         }
-        match link.push(&mut hello.body) {
-            Ok(()) => Ok(link),
-            Err(PushFault::OutOfMemory) | Err(PushFault::Slow { .. }) => Err(OutOfMemory),
-        }
+        link_with(self.alloc, self.config.id, &mut hello.body)
     }
 
     /// A peer is born: a link to its endpoint is asked for, and HELLO is put on it.

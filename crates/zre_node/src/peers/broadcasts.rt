@@ -65,12 +65,12 @@ impl Tables {
     }
 
     /// The same for all known peers.
-    pub fn push_everywhere(&mut self, out: &mut Effects, mut body: Body) -> Result<(), OutOfMemory>
-        requires { FitsBody body }
+    pub fn push_everywhere(&mut self, out: &mut Effects, body: &mut Body) -> Result<(), OutOfMemory>
+        requires { FitsBody body.old }
         ensures { (g : Config) (K : List Mark) → Holds g K self.old →
-            OnOk result (Did g (pushing_all g (lives K) body K) K self.new out.old out.new) }
+            OnOk result (Did g (pushing_all g (lives K) body.old K) K self.new out.old out.new) }
     {
         let links = self.links()?;
-        self.push_all(out, &links, &mut body)
+        self.push_all(out, &links, body)
     }
 }

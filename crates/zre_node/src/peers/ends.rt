@@ -36,10 +36,10 @@ impl Tables {
         &mut self,
         out: &mut Effects,
         link: u64,
-        peer: Peer,
+        peer: &Peer,
         cause: Cause,
     ) -> Result<(), OutOfMemory>
-        ensures { (g : Config) (H : List Mark) → Parted g H link peer self.old →
+        ensures { (g : Config) (H : List Mark) → Parted g H link peer.now self.old →
             OnOk result (Did g (Ends link cause ∷ []) H self.new out.old out.new) }
     {
         if let Some(running) = &peer.run {
@@ -59,7 +59,7 @@ impl Tables {
         let Some(peer) = self.peers.remove(&link) else {
             return Ok(());
         };
-        self.part(out, link, peer, cause)
+        self.part(out, link, &peer, cause)
     }
 
     /// The known peers of these links end, one after the other.

@@ -25,6 +25,10 @@ fn push_arrivals(out: &mut Text, arrivals: &Arrivals) {
                 out.put(b"shaken ");
                 out.id(*peer);
             }
+            Arrival::Ping(context) => {
+                out.put(b"ping ");
+                out.hex(context.as_slice());
+            }
             Arrival::Message(message) => push_body(out, message.sequence, &message.body),
         }
         out.end();

@@ -3,10 +3,10 @@
 use crate::subject::{Subject, steps};
 use crate::text::Text;
 use crate::trouble::Trouble;
-use crate::wire::texts::push_fed;
+use crate::wire::texts::push_fault;
 use crate::words::Words;
 use std::alloc::Global;
-use zre_link::{Link, PushFault};
+use zre_link::{Link, PushFault, ReplyFault};
 use zre_msg::{Body, Message};
 use zre_values::{Frames, Octets};
 use zre_zmtp::FeedFault;
@@ -20,15 +20,27 @@ pub struct Links {
     link: Link,
 }
 
+// `slow UNSENT SIZE`
+fn push_slow(answer: &mut Text, unsent: u64, size: u64) {
+    answer.count(b"slow", unsent);
+    answer.count(b"", size);
+    answer.end();
+}
+
 fn push_pushed(answer: &mut Text, pushed: Result<(), PushFault>) {
     match pushed {
         Ok(()) => {}
-        Err(PushFault::Slow { unsent, size }) => {
-            answer.count(b"slow", unsent);
-            answer.count(b"", size);
-            answer.end();
-        }
+        Err(PushFault::Slow { unsent, size }) => push_slow(answer, unsent, size),
         Err(PushFault::OutOfMemory) => answer.fail(Trouble::OutOfMemory),
+    }
+}
+
+fn push_heard(answer: &mut Text, heard: Result<(), ReplyFault>) {
+    match heard {
+        Ok(()) => {}
+        Err(ReplyFault::Zmtp(fault)) => push_fault(answer, FeedFault::Zmtp(fault)),
+        Err(ReplyFault::Slow { unsent, size }) => push_slow(answer, unsent, size),
+        Err(ReplyFault::OutOfMemory) => answer.fail(Trouble::OutOfMemory),
     }
 }
 
@@ -51,7 +63,7 @@ fn drain(link: &mut Link, most: usize, out: &mut Text) {
     }
 }
 
-fn reply(link: &mut Link, piece: &[u8]) -> Result<(), FeedFault> {
+fn reply(link: &mut Link, piece: &[u8]) -> Result<(), ReplyFault> {
     if link.is_linked() {
         link.reply(piece)
     } else {
@@ -70,7 +82,7 @@ fn whisper_of(alloc: Global, frame: Octets) -> Message {
 
 impl Subject for Links {
     fn step(&mut self, words: &mut Words<'_>, answer: &mut Text) {
-        steps!(self, words, answer; push, whisper, linked, talk, counts)
+        steps!(self, words, answer; push, whisper, linked, reply, talk, counts)
     }
 }
 
@@ -115,6 +127,12 @@ impl Links {
         self.link.linked();
     }
 
+    // `reply HEX`: hears a piece of replies, and takes nothing of what may go out. It answers why it was refused.
+    fn reply(&mut self, words: &mut Words<'_>, answer: &mut Text) {
+        let heard = reply(&mut self.link, words.octets().as_slice());
+        push_heard(answer, heard);
+    }
+
     // `talk MOST HEX`: hears replies in pieces of at most so many octets, and takes what may go out before and after
     // each, at most so many octets at a time. It answers the octets that went out, and what is wrong with the last
     // piece.
@@ -126,10 +144,10 @@ impl Links {
         if out.is_whole(answer) {
             answer.hex_line(out.as_slice());
         }
-        push_fed(answer, heard);
+        push_heard(answer, heard);
     }
 
-    fn hear(&mut self, replies: &[u8], most: usize, out: &mut Text) -> Result<(), FeedFault> {
+    fn hear(&mut self, replies: &[u8], most: usize, out: &mut Text) -> Result<(), ReplyFault> {
         let mut heard = Ok(());
         drain(&mut self.link, most, out);
         for piece in replies.chunks(most.max(1)) {

@@ -5,7 +5,7 @@ use crate::text::Text;
 use crate::trouble::Trouble;
 use crate::words::Words;
 use zre_values::{Octets, OutOfMemory};
-use zre_zmtp::{SocketType, greeting, ready, write_message};
+use zre_zmtp::{SocketType, context_of, greeting, pong, ready, write_message};
 
 fn push_written(answer: &mut Text, written: Result<Octets, OutOfMemory>) {
     match written {
@@ -14,13 +14,13 @@ fn push_written(answer: &mut Text, written: Result<Octets, OutOfMemory>) {
     }
 }
 
-/// `on writing`: the greeting, READY, and the frames of messages.
+/// `on writing`: the greeting, READY, PONG, and the frames of messages.
 #[derive(Drop)]
 pub struct Writing;
 
 impl Subject for Writing {
     fn step(&mut self, words: &mut Words<'_>, answer: &mut Text) {
-        steps!(self, words, answer; greeting, router, dealer, message)
+        steps!(self, words, answer; greeting, router, dealer, pong, context, message)
     }
 }
 
@@ -39,6 +39,22 @@ impl Writing {
     fn dealer(&self, words: &mut Words<'_>, answer: &mut Text) {
         let id = Some(words.id());
         push_written(answer, ready(words.alloc(), SocketType::Dealer, id));
+    }
+
+    // `pong HEX`: PONG with this context.
+    fn pong(&self, words: &mut Words<'_>, answer: &mut Text) {
+        let context = words.octets();
+        push_written(answer, pong(words.alloc(), context.as_slice()));
+    }
+
+    // `context HEX HEX`: the context of the command with this name and these octets after it, or `none`.
+    fn context(&self, words: &mut Words<'_>, answer: &mut Text) {
+        let name = words.octets();
+        let rest = words.octets();
+        match context_of(name.as_slice(), rest.as_slice()) {
+            Some(context) => answer.hex_line(context),
+            None => answer.line(b"none"),
+        }
     }
 
     // `message HEX ..`: the octets of frames with these bodies, of which there is one at least.

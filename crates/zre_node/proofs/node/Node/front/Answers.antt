@@ -1,6 +1,6 @@
 use Rattle.std.proofs.Common.{◌≡◌, ◌<◌, eqb, is_some, refl, sym, ap, ◌∙◌, subst, eqb-true, lt-ltb, true≢false}
 use Rattle.zre_journal.specs.Events.{chronicle}
-use Rattle.zre_journal.specs.Links.{bodies, is_linked, replies, taken, gate, front}
+use Rattle.zre_journal.specs.Links.{line, is_linked, replies, taken, gate, front}
 use Rattle.zre_journal.specs.Peers.{Life, lives}
 use Rattle.zre_journal.proofs.Listed.{found_passes}
 use Rattle.zre_link.specs.Link.{Sending, has_front}
@@ -15,7 +15,7 @@ returns-in-Some-clause-front c = λ g J s.
     let l = c.args.link in
     let it = its_row (IsPeer g H) H c.args.self.now.tables.peers.entries (rows g H c.args.self.now.tables s.stands) l c.in-Some.peer.now c.in-Some.ensures.value in
     let v = it.0 in
-    let opens = c.front.ensures.front g.id (bodies v.link H) (is_linked v.link H) (replies v.link H) (taken v.link H) it.2.link_is in
+    let opens = c.front.ensures.front g.id (line v.link H) (is_linked v.link H) (replies v.link H) (taken v.link H) it.2.link_is in
     rw it.1 (whole_front (front g v.link H) c.front.result.now opens)
 
 pub returns-in-None-clause-front : goal.returns-in-None-clause-front

@@ -1,7 +1,7 @@
 use Rattle.std.proofs.Common.{Some, sym, ap, ◌∙◌}
 use Rattle.std.specs.Prelude.{Option, option_map}
 use Rattle.zre_journal.specs.Events.{chronicle}
-use Rattle.zre_journal.specs.Links.{bodies, is_linked, replies, taken, unsent}
+use Rattle.zre_journal.specs.Links.{line, is_linked, replies, taken, unsent}
 use Rattle.zre_journal.specs.Peers.{Life}
 use Rattle.zre_node.specs.Stands.{IsPeer}
 use Rattle.zre_node.proofs.Asking.{rows}
@@ -14,7 +14,7 @@ returns-in-Some c = λ g J s.
     let l = c.args.link in
     let it = its_row (IsPeer g H) H c.args.self.now.tables.peers.entries (rows g H c.args.self.now.tables s.stands) l c.in-Some.peer.now c.in-Some.ensures.value in
     let v = it.0 in
-    let waits = c.unsent.ensures.unsent g.id (bodies v.link H) (is_linked v.link H) (replies v.link H) (taken v.link H) it.2.link_is in
+    let waits = c.unsent.ensures.unsent g.id (line v.link H) (is_linked v.link H) (replies v.link H) (taken v.link H) it.2.link_is in
     ap (λ n. Some n) waits.0 ∙ ap (λ (o : Option Life). option_map (λ (u : Life). unsent g u.link H) o) (sym it.1)
 
 pub returns-in-None : goal.returns-in-None

@@ -1,4 +1,4 @@
-use Rattle.std.proofs.Common.{◌≡◌, Some, refl, sym, ◌∙◌}
+use Rattle.std.proofs.Common.{refl, sym, ◌∙◌}
 use Rattle.zre_journal.specs.Chronicle.{HearsBeacon}
 use Rattle.zre_node.proofs.Datagram.{ends_it, renews_it, bears_it, leaves_it, welcome_is, known_by, unknown_by}
 use Rattle.zre_node.proofs.Many.{idle_did, silent_did}

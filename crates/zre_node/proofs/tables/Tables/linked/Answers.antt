@@ -2,7 +2,7 @@ use Rattle.std.proofs.Common.{ℕ, sym, subst}
 use Rattle.std.specs.BTreeMap.{BTreeMap}
 use Rattle.zre_journal.specs.Chronicle.{after}
 use Rattle.zre_journal.specs.LinkEntries.{at_linked}
-use Rattle.zre_journal.specs.Links.{bodies, is_linked, replies, taken}
+use Rattle.zre_journal.specs.Links.{line, is_linked, replies, taken}
 use Rattle.zre_journal.specs.Peers.{life}
 use Rattle.zre_node.specs.declared.peer.Peer.{Peer}
 use Rattle.zre_node.specs.Stands.{Holds, IsPeer}
@@ -18,7 +18,7 @@ returns-in-Some c = λ g K h.
     let was = c.in-Some.ensures.value in
     let now = record k { link = c.linked.new.self } in
     linked_holds g K c.args.self.now h l k was c.linked.new.self (c.get_mut.follows.lender now)
-    (c.linked.ensures g.id (bodies l K) (is_linked l K) (replies l K) (taken l K) (row_link g K c.args.self.now h l k was)) (c.get_mut.follows.holds now).0
+    (c.linked.ensures g.id (line l K) (is_linked l K) (replies l K) (taken l K) (row_link g K c.args.self.now h l k was)) (c.get_mut.follows.holds now).0
 
 pub returns-in_default : goal.returns-in_default
 returns-in_default c = λ g K h.

@@ -1,6 +1,6 @@
 use Rattle.std.proofs.Common.{[], ◌∷◌, refl}
 use Rattle.zre_journal.specs.Chronicle.{Puts}
-use Rattle.zre_journal.specs.Links.{bodies, is_linked, replies, taken}
+use Rattle.zre_journal.specs.Links.{line, is_linked, replies, taken}
 use Rattle.zre_journal.specs.Peers.{life}
 use Rattle.zre_node.specs.Stands.{IsPeer}
 use Rattle.zre_node.proofs.Ending.{on_ok}
@@ -18,7 +18,7 @@ returns-in-Ok-clause-did c = λ g K h s.
     let l = c.args.link in
     let k = c.in-Some.peer.now in
     let link = row_link g K c.args.self.now h l k c.in-Some.ensures.value in
-    let put = c.in-Ok.ensures.ok g.id (bodies l K) (is_linked l K) (replies l K) (taken l K) link in
+    let put = c.in-Ok.ensures.ok g.id (line l K) (is_linked l K) (replies l K) (taken l K) link in
     on_ok c.push-in-Ok.result c.push-in-Ok.ensures.ok (λ noted. did_as g _ (Puts l c.args.body.now ∷ []) K _ _ _ (fits g l c.args.body.now K put.0)
     (put_did g l c.args.body.now K _ c.args.out.now _
     (puts_it g K c.args.self.now h l k c.in-Some.ensures.value c.args.body.now c.push.new.self (c.get_mut.follows.lender (record k { link = c.push.new.self })) put.1 (c.get_mut.follows.holds (record k { link = c.push.new.self })).0)
@@ -30,6 +30,6 @@ returns-in-Err-Slow-clause-did c = λ g K h s.
     let k = c.in-Some.peer.now in
     let link = row_link g K c.args.self.now h l k c.in-Some.ensures.value in
     let all = rw c.in-Err-Slow.field-0-is at c.in-Err-Slow.ensures.refused in
-    let slow = all g.id (bodies l K) (is_linked l K) (replies l K) (taken l K) link in
+    let slow = all g.id (line l K) (is_linked l K) (replies l K) (taken l K) link in
     let back = written_back g K c.args.self.now h l k c.in-Some.ensures.value c.push.new.self (c.get_mut.follows.lender (record k { link = c.push.new.self })) c.in-Err-Slow.ensures.unchanged (c.get_mut.follows.holds (record k { link = c.push.new.self })).0 in
     rw (is_slow g l c.args.body.now K c.in-Err-Slow.unsent c.in-Err-Slow.size slow.unsent_is slow.size_is slow.above) (c.end.ensures g K (nearly g K l _ back) s)

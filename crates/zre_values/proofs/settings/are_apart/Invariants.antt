@@ -1,6 +1,6 @@
 use Rattle.std.proofs.Common.{◌≡◌, length}
-use Rattle.zre_journal.specs.Config.{are_apart}
-use Rattle.zre_journal.proofs.config.are_apart.Given as goal
+use Rattle.zre_values.specs.Settings.{are_apart}
+use Rattle.zre_values.proofs.settings.are_apart.Given as goal
 
 abbrev pub invariant-loop-first : goal.invariant-loop-first
 invariant-loop-first l = are_apart l.rest ≡ are_apart l.headers

@@ -1,0 +1,183 @@
+-- How many looks an entry takes.
+use Rattle.std.proofs.Common.{nat_cmp, eqb, eq-eqb, ◌≡◌, ℕ, ◌+◌, ◌≤◌, Bool, true, false, cond, List, [], ◌∷◌, ◌++◌, length, Some, None, Result, Ok, Err, IsErrAnd, OnOk, IfOk, refl, sym, ap, ◌∙◌, arith, subst, append-nil}
+use Rattle.std.proofs.lemmas.Result.{err_from_is_err_and}
+use Rattle.zre_values.specs.declared.memory.OutOfMemory.{OutOfMemory}
+use Rattle.zre_outside.specs.declared.entry.Entry.{Entry}
+use Rattle.zre_outside.specs.declared.entry.Input.{Input}
+use Rattle.zre_outside.specs.declared.entry.Input.TheVariants as input
+use Rattle.zre_zmtp.specs.Looks.{IsPaid, IsPaidOnRefusal}
+use Rattle.zre_mailbox.specs.Conn.{conn_after, kept_of}
+use Rattle.zre_link.specs.Heard.{heard_after, kept_of as kept_of_replies}
+use Rattle.zre_journal.specs.declared.config.Config.{Config}
+use Rattle.zre_journal.specs.Chronicle.{Mark, Comes, after}
+use Rattle.zre_journal.specs.Heard.{bytes}
+use Rattle.zre_journal.specs.Connections.{is_open, is_ignored}
+use Rattle.zre_journal.specs.Events.{chronicle}
+use Rattle.zre_journal.specs.Happens.{has_stopped, at_input, marks, with_entry}
+use Rattle.zre_journal.specs.Held.{conn_kept, replies_kept, kept}
+use Rattle.zre_journal.specs.Links.{line, is_linked, replies, taken}
+use Rattle.zre_journal.specs.Peers.{Life, life}
+use Rattle.zre_journal.specs.Proper.{IsProper}
+use Rattle.zre_journal.proofs.Kept.{Comes-proper}
+use Rattle.zre_journal.proofs.Joined.{continues}
+use Rattle.zre_journal.proofs.Lowered.{input_lowers, quiet_keeps, piece_moves, piece_lost, piece_part, reply_moves, reply_lost, reply_part}
+use Rattle.zre_node.specs.declared.connection.Connection.{Connection}
+use Rattle.zre_node.specs.Holding.{reader_octets, conn_row_octets}
+use Rattle.std.specs.BTreeMap.{is_at}
+use Rattle.std.specs.Map.{lookup}
+use Rattle.zre_link.specs.Link.{Sending, link_after, link_answering}
+use Rattle.zre_node.specs.declared.peer.Peer.{Peer}
+use Rattle.zre_node.proofs.Coming.{quiet_piece, quiet_reply, grown}
+use Rattle.zre_node.proofs.Linking.{its, link_is}
+use Rattle.zre_node.proofs.Pushing.{row_link}
+use Rattle.zre_node.specs.Looks.{Looks, octets_of}
+use Rattle.zre_node.specs.Stands.{Holds, Rests, heard_by, is_quiet, kept_conn}
+use Rattle.zre_node.specs.declared.tables.Tables.{Tables}
+
+-- ---- what was paid
+
+module _ {A : Type 0} where
+  -- nothing was looked at, and no more is kept
+  pub no_looks : (r : Result A OutOfMemory) (looks kept kept' n : ℕ) → kept' ≤ kept → Looks looks looks kept kept' n r
+  no_looks (Ok x) looks kept kept' n less = (omega (arith, less), tt)
+  no_looks (Err e) looks kept kept' n less = (tt, omega arith)
+
+  -- a part of what is kept was looked at
+  pub part_looks : (r : Result A OutOfMemory) (looks looks' one one' all all' n : ℕ) → all' + one ≡ all + one' → one ≤ all → Looks looks looks' one one' n r → Looks looks looks' all all' n r
+  part_looks (Ok x) looks looks' one one' all all' n moves part p = (omega (arith, moves, part, p.0), tt)
+  part_looks (Err e) looks looks' one one' all all' n moves part p = (tt, omega (arith, part, p.1))
+
+  -- what was paid before a refusal
+  pub refused_looks : (r : Result A OutOfMemory) (looks looks' kept kept' most n : ℕ) → (e : OutOfMemory) → r ≡ Err e → IsPaid looks looks' kept most n → Looks looks looks' kept kept' n r
+  refused_looks (Ok x) looks looks' kept kept' most n e is p = cc
+  refused_looks (Err x) looks looks' kept kept' most n e is p = (tt, omega (arith, p))
+
+  -- and no more is kept in the end
+  pub less_looks : (r : Result A OutOfMemory) (looks looks' kept kept' most n : ℕ) → kept' ≤ most → IsPaid looks looks' kept most n → Looks looks looks' kept kept' n r
+  less_looks (Ok x) looks looks' kept kept' most n less p = (omega (arith, less, p), tt)
+  less_looks (Err e) looks looks' kept kept' most n less p = (tt, omega (arith, p))
+
+-- a refusal by `?`
+pub err_looks : (Q : OutOfMemory → Type 0) (r : Result (Unit {0}) OutOfMemory) → IsErrAnd r Q → (looks looks' kept kept' n : ℕ) → IsPaidOnRefusal looks looks' kept n → Looks looks looks' kept kept' n r
+err_looks Q r q looks looks' kept kept' n p = let e = err_from_is_err_and r q in subst (Looks looks looks' kept kept' n) (sym e.1) (tt, p)
+
+-- ---- an entry as a whole
+
+pub entry_lowers : (g : Config) (e : Entry) (H : List Mark) → has_stopped H ≡ false → IsProper H → kept g (with_entry g e H) ≤ kept g (Comes e ∷ H)
+entry_lowers g e H going q = subst (λ ks. kept g (after ks (Comes e ∷ H)) ≤ kept g (Comes e ∷ H)) (sym m) (input_lowers g e.input H (Comes e ∷ H) (Comes-proper H q e))
+  where
+    m : marks g e H ≡ at_input g e.input H (Comes e ∷ H)
+    m = ap (λ b. cond b [] (at_input g e.input H (Comes e ∷ H))) going
+
+-- an entry that brings no octets
+pub quiet_lowers : (g : Config) (e : Entry) (H : List Mark) → is_quiet e.input ≡ true → has_stopped H ≡ false → IsProper H → kept g (with_entry g e H) ≤ kept g H
+quiet_lowers g e H quiet going q = omega (arith, entry_lowers g e H going q, quiet_keeps g H q e (λ c. quiet_piece c e.input quiet) (λ l. quiet_reply l e.input quiet))
+
+pub quiet_looks : {A : Type 0} (g : Config) (e : Entry) (H : List Mark) (t : Tables) → Holds g H t → (i : Input) → e.input ≡ i → is_quiet i ≡ true → (r : Result A OutOfMemory) (looks : ℕ)
+    → Looks looks looks (kept g H) (kept g (with_entry g e H)) (octets_of e.input) r
+quiet_looks g e H t h i is quiet r looks =
+    no_looks r looks (kept g H) (kept g (with_entry g e H)) (octets_of e.input) (quiet_lowers g e H (ap is_quiet is ∙ quiet) h.keeps.going h.keeps.proper)
+
+-- an entry that is neither a piece nor a reply
+pub quiet_other : (i : Input) → ((c : ℕ) (o : List ℕ) → i ≡ input.Piece c o → ⊥) → ((l : ℕ) (o : List ℕ) → i ≡ input.Reply l o → ⊥) → is_quiet i ≡ true
+quiet_other (input.Piece c o) p r = absurd (p c o refl)
+quiet_other (input.Reply l o) p r = absurd (r l o refl)
+quiet_other _ p r = refl
+
+-- after a stop nothing is kept
+pub rests_lowers : (g : Config) (e : Entry) (H : List Mark) (t : Tables) → Rests g H t → kept g (with_entry g e H) ≤ kept g H
+rests_lowers g e H t r =
+    let m : marks g e H ≡ [] = ap (λ b. cond b [] (at_input g e.input H (Comes e ∷ H))) r.stopped in
+    let none : kept g (Comes e ∷ H) ≡ 0 = rw (r.none_open, r.none_known) refl in
+    subst (λ ks. kept g (after ks (Comes e ∷ H)) ≤ kept g H) (sym m) (omega (arith, none))
+
+-- the journal with the entry
+pub kept_happened : (g : Config) (J : List Entry) (e : Entry) → kept g (with_entry g e (chronicle g J)) ≡ kept g (chronicle g (J ++ e ∷ []))
+kept_happened g J e = ap (kept g) (sym (continues g J (e ∷ [])).happened)
+
+-- ---- a piece
+
+pub on_map : {T E : Type 0} {B : Type 0} (r : Result T E) (P : T → Type 0) → (f : (x : T) → P x → B) → IfOk r P → OnOk r B
+on_map (Ok x) P f p = f x p
+on_map (Err e) P f p = tt
+
+-- the answer of a call that has read a connection: only where it is Ok the row is known
+row_looks : {A : Type 0} (r : Result A OutOfMemory) (looks looks' one one' row' all all' n : ℕ) → all' + one ≡ all + one' → one ≤ all → OnOk r (row' ≡ one') → Looks looks looks' one row' n r → Looks looks looks' all all' n r
+row_looks (Ok x) looks looks' one one' row' all all' n moves part is p = (omega (arith, moves, part, is, p.0), tt)
+row_looks (Err e) looks looks' one one' row' all all' n moves part is p = (tt, omega (arith, part, p.1))
+
+module _ (g : Config) (H : List Mark) (t : Tables) (h : Holds g H t) (e : Entry) (c : ℕ) (o : List ℕ) (is : e.input ≡ input.Piece c o) where
+  pub lost_looks : {A : Type 0} (r : Result A OutOfMemory) (looks : ℕ) → is_open c H ≡ false → Looks looks looks (kept g H) (kept g (Comes e ∷ H)) (length o) r
+  lost_looks r looks gone = no_looks r looks (kept g H) (kept g (Comes e ∷ H)) (length o) (omega (arith, piece_lost g H h.keeps.proper e c o is gone))
+
+  pub heard_looks : {A : Type 0} (r : Result A OutOfMemory) (looks looks' : ℕ) → is_open c H ≡ true → (x x' : Connection) → x ≡ kept_conn g H c
+      → ((q : List ℕ) → x.conn ≡ Some (conn_after g.id q) → OnOk r (x' ≡ record x { conn = Some (conn_after g.id (q ++ o)) }) × Looks looks looks' (conn_row_octets x) (conn_row_octets x') (length o) r)
+      → (x.conn ≡ None → looks' ≡ looks) → Looks looks looks' (kept g H) (kept g (Comes e ∷ H)) (length o) r
+  heard_looks {A} r looks looks' there x x' row live dead = by (is_ignored c H) refl
+    where
+      on_ok_map : (r : Result A OutOfMemory) (B C : Type 0) → (B → C) → OnOk r B → OnOk r C
+      on_ok_map (Ok y) B C f b = f b
+      on_ok_map (Err y) B C f b = tt
+
+      moves : kept g (Comes e ∷ H) + conn_kept g H c ≡ kept g H + conn_kept g (Comes e ∷ H) c
+      moves = piece_moves g H h.keeps.proper e c o is there
+
+      by : (b : Bool) → is_ignored c H ≡ b → Looks looks looks' (kept g H) (kept g (Comes e ∷ H)) (length o) r
+      by true q =
+          let deaf : x.conn ≡ None = ap (λ (y : Connection). y.conn) row ∙ ap (λ b. heard_by b g.id (bytes c H)) q in
+          let now : conn_kept g (Comes e ∷ H) c ≡ 0 = ap (λ b. cond b 0 (kept_of (conn_after g.id (bytes c (Comes e ∷ H))))) q in
+          subst (λ l. Looks looks l (kept g H) (kept g (Comes e ∷ H)) (length o) r) (sym (dead deaf)) (no_looks r looks (kept g H) (kept g (Comes e ∷ H)) (length o) (omega (arith, moves, now)))
+      by false q =
+          let hears : x.conn ≡ Some (conn_after g.id (bytes c H)) = ap (λ (y : Connection). y.conn) row ∙ ap (λ b. heard_by b g.id (bytes c H)) q in
+          let l = live (bytes c H) hears in
+          let was : conn_row_octets x ≡ conn_kept g H c = ap reader_octets hears ∙ sym (ap (λ b. cond b 0 (kept_of (conn_after g.id (bytes c H)))) q) in
+          let now : conn_kept g (Comes e ∷ H) c ≡ kept_of (conn_after g.id (bytes c H ++ o)) = ap (λ b. cond b 0 (kept_of (conn_after g.id (bytes c (Comes e ∷ H))))) q ∙ ap (λ p. kept_of (conn_after g.id p)) (grown g H t h e c o is there) in
+          row_looks r looks looks' (conn_row_octets x) (conn_kept g (Comes e ∷ H) c) (conn_row_octets x') (kept g H) (kept g (Comes e ∷ H)) (length o)
+          (omega (arith, moves, was)) (omega (arith, piece_part g H h.keeps.proper e c o is there, was))
+          (on_ok_map r _ _ (λ y. ap conn_row_octets y ∙ sym now) l.0) l.1
+
+-- ---- a reply
+
+module _ (g : Config) (H : List Mark) (t : Tables) (h : Holds g H t) (e : Entry) (l : ℕ) (o : List ℕ) (is : e.input ≡ input.Reply l o) where
+  pub unknown_looks : (A : Type 0) (r : Result A OutOfMemory) (looks : ℕ) → life l H ≡ None → Looks looks looks (kept g H) (kept g (Comes e ∷ H)) (length o) r
+  unknown_looks A r looks none = no_looks r looks (kept g H) (kept g (Comes e ∷ H)) (length o) (omega (arith, reply_lost g H h.keeps.proper e l o is none))
+
+  module _ (k : Peer) (was : Some k ≡ lookup (is_at (nat_cmp l)) t.peers.entries) where
+    pub replied_looks : {A : Type 0} (r : Result A OutOfMemory) (s : Sending) (looks looks' : ℕ) → Looks looks looks' (kept_of_replies k.link.replies) (kept_of_replies s.replies) (length o) r
+        → (k.link ≡ link_after g.id (line l H) true (replies l H) (taken l H) → OnOk r (s ≡ link_answering g.id (line l H) true (replies l H) (taken l H) o))
+        → (k.link.linked ≡ false → OnOk r (s ≡ k.link)) → Looks looks looks' (kept g H) (kept g (Comes e ∷ H)) (length o) r
+    replied_looks {A} r s looks looks' paid live dead =
+        row_looks r looks looks' (kept_of_replies k.link.replies) (replies_kept g (Comes e ∷ H) v) (kept_of_replies s.replies) (kept g H) (kept g (Comes e ∷ H)) (length o)
+        (omega (arith, reply_moves g H h.keeps.proper e l o is v known, had)) (omega (arith, reply_part g H h.keeps.proper e l o is v known, had)) (by (is_linked l H) refl) paid
+      where
+        v : Life
+        v = (its g H t h l k was).0
+
+        known : life l H ≡ Some v
+        known = (its g H t h l k was).1
+
+        row : k.link ≡ link_after g.id (line l H) (is_linked l H) (replies l H) (taken l H)
+        row = row_link g H t h l k was
+
+        same : l ≡ v.link
+        same = link_is g H t h l k was
+
+        had : kept_of_replies k.link.replies ≡ replies_kept g H v
+        had = ap (λ (x : Sending). kept_of_replies x.replies) row ∙ ap (λ n. kept_of_replies (heard_after (replies n H))) same
+
+        now : (p : List ℕ) → replies l (Comes e ∷ H) ≡ p → s.replies ≡ heard_after p → kept_of_replies s.replies ≡ replies_kept g (Comes e ∷ H) v
+        now p q y = ap kept_of_replies y ∙ ap (λ z. kept_of_replies (heard_after z)) (sym q) ∙ ap (λ n. kept_of_replies (heard_after (replies n (Comes e ∷ H)))) same
+
+        ok_map : (r : Result A OutOfMemory) (B C : Type 0) → (B → C) → OnOk r B → OnOk r C
+        ok_map (Ok y) B C f b = f b
+        ok_map (Err y) B C f b = tt
+
+        up : is_linked l H ≡ true → replies l (Comes e ∷ H) ≡ replies l H ++ o
+        up q = let this : eqb l l ≡ true = eq-eqb l l refl in rw (q, is, this) refl
+
+        down : is_linked l H ≡ false → replies l (Comes e ∷ H) ≡ replies l H
+        down q = rw q (append-nil (replies l H))
+
+        by : (b : Bool) → is_linked l H ≡ b → OnOk r (kept_of_replies s.replies ≡ replies_kept g (Comes e ∷ H) v)
+        by true q = ok_map r _ _ (λ y. now (replies l H ++ o) (up q) (ap (λ (z : Sending). z.replies) y)) (live (row ∙ ap (λ b. link_after g.id (line l H) b (replies l H) (taken l H)) q))
+        by false q = ok_map r _ _ (λ y. now (replies l H) (down q) (ap (λ (z : Sending). z.replies) y ∙ ap (λ (z : Sending). z.replies) row)) (dead (ap (λ (x : Sending). x.linked) row ∙ q))

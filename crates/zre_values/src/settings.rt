@@ -1,0 +1,66 @@
+//! What is required of the settings of a node, whoever keeps them.
+
+ghost use Rattle.std.specs.Prelude.{◌≡◌, ◌&&◌, nat_le, length};
+ghost use Rattle.std.specs.List.{list_all, list_any};
+ghost use Rattle.std.specs.Str.{bytes_eq};
+ghost use Rattle.zre_values.specs.Settings.{are_apart, is_fitting, are_settings};
+
+use crate::limits::HEADERS;
+use crate::{Octets, Pairs};
+
+/// The most octets of the node's name, and of the name of one of its headers.
+pub const NAME_OCTETS: usize = 255;
+
+/// The most octets of the value of one of its headers.
+pub const VALUE_OCTETS: usize = 1024;
+
+/// The milliseconds of a day, the longest time after which a silent peer expires.
+pub const DAY: u64 = 86400000;
+
+// Whether a header has this name.
+fn has_name(headers: &[(Octets, Octets)], name: &[u8]) -> bool
+    ensures { result ≡ list_any (λ other. bytes_eq other.0 name.now) headers.now }
+{
+    headers.iter().any(|header| header.0.as_slice() == name)
+}
+
+// Whether no two headers have one name. There are few of them, so each is compared with all after it.
+fn are_apart(headers: &[(Octets, Octets)]) -> bool
+    ensures { result ≡ are_apart headers.now }
+{
+    let mut rest = headers;
+    while let Some((first, others)) = rest.split_first() {
+        if has_name(others, first.0.as_slice()) {
+            return false;
+        }
+        rest = others;
+    }
+    true
+}
+
+fn are_fitting(headers: &[(Octets, Octets)]) -> bool
+    ensures { result ≡ list_all is_fitting headers.now }
+{
+    headers.iter().all(|header| header.0.len() <= NAME_OCTETS && header.1.len() <= VALUE_OCTETS)
+}
+
+// Whether the name and the headers are within the limits.
+fn are_small(name: &[u8], headers: &Pairs) -> bool
+    ensures { result ≡ (nat_le (length name.now) 255 && nat_le (length headers.now) 256
+        && list_all is_fitting headers.now && are_apart headers.now) }
+{
+    name.len() <= NAME_OCTETS
+        && headers.len() <= HEADERS
+        && are_fitting(headers.as_slice())
+        && are_apart(headers.as_slice())
+}
+
+/// Whether a node can be with this name, these headers, this port of its mailbox, and these times in milliseconds of
+/// silence after which a peer is evasive and has expired: the name has at most 255 octets, the headers are at most 256,
+/// of distinct names of at most 255 octets and values of at most 1,024; the port isn't 0; and the times stand in order,
+/// from 1 ms up to a day.
+pub fn are_settings(name: &[u8], headers: &Pairs, port: u16, evasive: u64, expired: u64) -> bool
+    ensures { result ≡ are_settings name.now headers.now port evasive expired }
+{
+    are_small(name, headers) && port > 0 && evasive >= 1 && evasive <= expired && expired <= DAY
+}
