@@ -21,7 +21,9 @@ mod word;
 
 pub use exercise::Exercise;
 pub use fault::{BadCapture, CaptureFault};
+pub use hexadecimal::hex;
 pub use line::{HEAD, LINE_OCTETS, push_entry, write_entry};
+pub use read::{command, first_field, number_and_hex, one_number, two_fields, two_numbers};
 pub use reader::CaptureReader;
 pub use split::split_once;
 pub use value::{address, group, id, number};

@@ -1,0 +1,4 @@
+mod Computed
+mod Cutting
+mod Grows
+mod Lines

@@ -1,0 +1,24 @@
+//! Laws of what schedules mean. The functions do nothing: what they ensure is for proofs.
+
+ghost use Rattle.std.specs.Prelude.{◌≡◌, ◌++◌, ◌∷◌, List};
+ghost use Rattle.zre_msg.specs.declared.message.Message.{Message};
+ghost use Rattle.zre_net.specs.Example.{IsExample};
+ghost use Rattle.zre_net.specs.History.{Happening};
+ghost use Rattle.zre_net.specs.Numbers.{Route, queued_on};
+ghost use Rattle.zre_net.specs.Restart.{IsRestart};
+
+/// What was put on a link stays, whatever comes: more may come after it.
+pub fn links_only_grow()
+    ensures { (s : Route) (h : Happening) (H : List Happening) → (more : List Message)
+        × (queued_on s (h ∷ H) ≡ queued_on s H ++ more) }
+{}
+
+/// Two nodes, and a message that is left out or not.
+pub fn an_example_computes()
+    ensures { IsExample }
+{}
+
+/// What a crashed node had put on its links may still come, and a later start of it takes over.
+pub fn a_restart_computes()
+    ensures { IsRestart }
+{}

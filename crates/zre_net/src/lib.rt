@@ -1,0 +1,15 @@
+//! A network of nodes under a schedule: what its moves mean, and what its nodes then tell. The definitions stand in
+//! `specs/`.
+#![tactic(auto)]
+
+mod fault;
+mod laws;
+pub mod limits;
+mod moves;
+mod reading;
+mod word;
+
+pub use fault::{BadSchedule, ScheduleFault};
+pub use laws::{a_restart_computes, an_example_computes, links_only_grow};
+pub use moves::{Move, Moves, Part};
+pub use reading::{Schedule, read_schedule};
