@@ -2,3 +2,4 @@ mod Computed
 mod Cutting
 mod Grows
 mod Lines
+mod Long

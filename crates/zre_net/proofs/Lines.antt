@@ -7,12 +7,12 @@ use Rattle.zre_net.specs.declared.moves.Move.{Move}
 use Rattle.zre_net.specs.Fields.{move_of}
 use Rattle.zre_net.specs.Reading.{parts_in, but_last, lines_in, is_line, bad_from, with_first, moves_in, moves_of}
 
-some_parts : (text : List ℕ) → 0 < length (parts_in text)
+pub some_parts : (text : List ℕ) → 0 < length (parts_in text)
 some_parts text = omega (arith, length-slice_split (λ b. b == 10) text)
 
 -- ---- the first bad line
 
-bad_of : (n used : ℕ) (line : List ℕ) (ps : List (List ℕ)) → 0 < length ps
+pub bad_of : (n used : ℕ) (line : List ℕ) (ps : List (List ℕ)) → 0 < length ps
     → bad_from n used (line ∷ ps) ≡ cond (is_line n (used + (length line + 1)) line) (bad_from (n + 1) (used + (length line + 1)) ps) (Some n)
 unfolding bad_from
 bad_of n used line [] some = absurd (omega (arith, some))

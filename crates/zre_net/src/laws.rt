@@ -1,11 +1,22 @@
 //! Laws of what schedules mean. The functions do nothing: what they ensure is for proofs.
 
-ghost use Rattle.std.specs.Prelude.{◌≡◌, ◌++◌, ◌∷◌, List};
+ghost use Rattle.std.specs.Prelude.{◌≡◌, ◌≤◌, ◌++◌, ◌∷◌, ℕ, List, None, length, take};
 ghost use Rattle.zre_msg.specs.declared.message.Message.{Message};
 ghost use Rattle.zre_net.specs.Example.{IsExample};
 ghost use Rattle.zre_net.specs.History.{Happening};
 ghost use Rattle.zre_net.specs.Numbers.{Route, queued_on};
+ghost use Rattle.zre_net.specs.Reading.{bad_line};
 ghost use Rattle.zre_net.specs.Restart.{IsRestart};
+
+/// Of a text that is too long no more than its first 16,777,217 octets have to be looked at.
+pub fn long_texts_are_refused_early()
+    ensures { (text : List ℕ) → bad_line (take 16777217 text) ≡ bad_line text }
+{}
+
+/// A text without a bad line has at most 16,777,216 octets.
+pub fn schedules_are_short()
+    ensures { (text : List ℕ) → bad_line text ≡ None → length text ≤ 16777216 }
+{}
 
 /// What was put on a link stays, whatever comes: more may come after it.
 pub fn links_only_grow()

@@ -10,6 +10,9 @@ mod reading;
 mod word;
 
 pub use fault::{BadSchedule, ScheduleFault};
-pub use laws::{a_restart_computes, an_example_computes, links_only_grow};
+pub use laws::{
+    a_restart_computes, an_example_computes, links_only_grow, long_texts_are_refused_early,
+    schedules_are_short,
+};
 pub use moves::{Move, Moves, Part};
 pub use reading::{Schedule, read_schedule};
