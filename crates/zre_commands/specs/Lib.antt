@@ -3,3 +3,4 @@ pub mod follow
 pub mod show
 pub mod replay
 pub mod exercise
+pub mod simulate

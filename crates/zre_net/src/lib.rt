@@ -7,6 +7,7 @@ mod laws;
 pub mod limits;
 mod moves;
 mod reading;
+mod running;
 mod word;
 
 pub use fault::{BadSchedule, ScheduleFault};
@@ -16,3 +17,4 @@ pub use laws::{
 };
 pub use moves::{Move, Moves, Part};
 pub use reading::{Schedule, read_schedule};
+pub use running::{Said, run_schedule};
