@@ -1,5 +1,9 @@
 //! Parts of connections spelled from what they are made of, so that octets are made where they come and not before.
 
+ghost use Rattle.std.specs.Prelude.{◌≡◌, take, option_map, option_and_then, Some, IfOk, OnOk};
+ghost use Rattle.zre_net.specs.declared.running.puts.Content.TheVariants.{Hello};
+ghost use Rattle.zre_net.specs.Puts.{asked, body_of, changed, command_at, groups_after};
+
 use crate::moves::{Move, Moves, Part};
 use crate::running::lives::{Change, Life, Line};
 use crate::running::network::nth;
@@ -50,7 +54,9 @@ impl Spelled {
 }
 
 // The same content.
-fn copy_frames(alloc: Global, content: &Frames) -> Result<Frames, OutOfMemory> {
+fn copy_frames(alloc: Global, content: &Frames) -> Result<Frames, OutOfMemory>
+    ensures { IfOk result (λ copied. copied ≡ content.now) }
+{
     let mut copied = Frames::new(alloc);
     for frame in content.as_slice() {
         copied.push(Octets::copy(alloc, frame.as_slice())?)?;
@@ -59,7 +65,9 @@ fn copy_frames(alloc: Global, content: &Frames) -> Result<Frames, OutOfMemory> {
 }
 
 /// The same command.
-pub(crate) fn copy_command(alloc: Global, command: &Command) -> Result<Command, OutOfMemory> {
+pub(crate) fn copy_command(alloc: Global, command: &Command) -> Result<Command, OutOfMemory>
+    ensures { IfOk result (λ copied. copied ≡ command.now) }
+{
     Ok(match command {
         Command::Join { group } => Command::Join {
             group: Octets::copy(alloc, group.as_slice())?,
@@ -81,7 +89,9 @@ pub(crate) fn copy_command(alloc: Global, command: &Command) -> Result<Command, 
 }
 
 // The command of the move at this place.
-fn command_at(moves: &Moves, place: u64) -> Option<&Command> {
+fn command_at(moves: &Moves, place: u64) -> Option<&Command>
+    ensures { option_map (λ c. c.now) result ≡ command_at moves.now place }
+{
     match moves.as_slice().get(place as usize)? {
         Move::Do { command, .. } => Some(command),
         _ => None,
@@ -94,7 +104,9 @@ fn change(
     groups: &mut Frames,
     moves: &Moves,
     change: Change,
-) -> Result<(), OutOfMemory> {
+) -> Result<(), OutOfMemory>
+    ensures { OnOk result (groups.new ≡ changed moves.now groups.old change) }
+{
     match command_at(moves, change.place) {
         Some(Command::Join { group }) if change.joins => {
             groups.push(Octets::copy(alloc, group.as_slice())?)
@@ -113,7 +125,9 @@ fn groups(
     life: &Life,
     moves: &Moves,
     changes: u64,
-) -> Result<Frames, OutOfMemory> {
+) -> Result<Frames, OutOfMemory>
+    ensures { IfOk result (λ groups. groups ≡ groups_after moves.now (take changes life.now.changes.items)) }
+{
     let mut groups = Frames::new(alloc);
     let (first, _) = life.changes.as_slice().split_at((changes as usize).min(life.changes.len()));
     for one in first {
@@ -123,7 +137,9 @@ fn groups(
 }
 
 // Its HELLO then.
-fn hello(alloc: Global, life: &Life, moves: &Moves, changes: u64) -> Result<Body, OutOfMemory> {
+fn hello(alloc: Global, life: &Life, moves: &Moves, changes: u64) -> Result<Body, OutOfMemory>
+    ensures { IfOk result (λ b. Some b ≡ body_of life.now.config moves.now life.now.changes.items (Hello changes)) }
+{
     if life.config.port == 0 {
         return Err(OutOfMemory);
     }
@@ -141,12 +157,9 @@ fn hello(alloc: Global, life: &Life, moves: &Moves, changes: u64) -> Result<Body
 }
 
 // What a command puts on links.
-fn asked(
-    alloc: Global,
-    moves: &Moves,
-    place: u64,
-    changes: u64,
-) -> Result<Body, OutOfMemory> {
+fn asked(alloc: Global, moves: &Moves, place: u64, changes: u64) -> Result<Body, OutOfMemory>
+    ensures { IfOk result (λ b. Some b ≡ option_and_then (asked changes) (command_at moves.now place)) }
+{
     let status = (changes % 256) as u8;
     match command_at(moves, place) {
         Some(Command::Join { group }) => Ok(Body::Join {
@@ -174,7 +187,9 @@ pub(crate) fn body(
     life: &Life,
     moves: &Moves,
     content: Content,
-) -> Result<Body, OutOfMemory> {
+) -> Result<Body, OutOfMemory>
+    ensures { IfOk result (λ b. Some b ≡ body_of life.now.config moves.now life.now.changes.items content) }
+{
     match content {
         Content::Hello { changes } => hello(alloc, life, moves, changes),
         Content::Asked { place, changes } => asked(alloc, moves, place, changes),
