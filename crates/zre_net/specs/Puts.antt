@@ -11,7 +11,7 @@ use Rattle.zre_journal.specs.declared.config.Config.{Config}
 use Rattle.zre_journal.specs.Config.{own_endpoint}
 use Rattle.zre_net.specs.declared.moves.Move.{Move}
 use Rattle.zre_net.specs.declared.moves.Move.TheVariants as move
-use Rattle.zre_net.specs.declared.running.lives.Change.{Change}
+use Rattle.zre_net.specs.declared.running.puts.Change.{Change}
 use Rattle.zre_net.specs.declared.running.puts.Content.{Content}
 use Rattle.zre_net.specs.declared.running.puts.Content.TheVariants as content
 

@@ -4,6 +4,7 @@ mod conns;
 mod lives;
 mod moves;
 mod network;
+mod nth;
 mod puts;
 mod said;
 mod schedule;

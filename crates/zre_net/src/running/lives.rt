@@ -1,16 +1,9 @@
 //! Nodes from their starts to their crashes, and their links.
 
-use crate::running::puts::Put;
+use crate::running::puts::{Change, Put};
 use std::alloc::Global;
 use zre_journal::Config;
 use zre_node::Node;
-
-/// A group was joined or left, as the move at this place asked for.
-#[derive(Clone, Copy)]
-pub(crate) struct Change {
-    pub place: u64,
-    pub joins: bool,
-}
 
 /// The link of a peer that the node knows.
 #[derive(Clone, Copy)]

@@ -4,7 +4,8 @@ use crate::limits::PENDING_OCTETS;
 use crate::moves::{Move, Moves, Part};
 use crate::running::conns::{Conn, Load, Share};
 use crate::running::lives::{Life, Line};
-use crate::running::network::{Network, nth};
+use crate::running::network::Network;
+use crate::running::nth::nth;
 use crate::running::puts::{Cause, Put};
 use crate::running::spelling::{copy_command, spell_part};
 use zre_journal::Config;
@@ -192,7 +193,14 @@ impl Network {
             let Some(life) = self.lives.get(line.life) else {
                 return Err(OutOfMemory);
             };
-            let octets = spell_part(self.alloc, life, line, moves, share.part)?;
+            let octets = spell_part(
+                self.alloc,
+                &life.config,
+                life.changes.as_slice(),
+                line.puts.as_slice(),
+                moves,
+                share.part,
+            )?;
             self.spelled.set(conn, share.place, octets);
         }
         self.spelled.copy(self.alloc, share.from, share.count)

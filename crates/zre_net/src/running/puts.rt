@@ -1,5 +1,12 @@
 //! Messages that were put on links, as what they are made of.
 
+/// A group was joined or left, as the move at this place asked for.
+#[derive(Clone, Copy)]
+pub(crate) struct Change {
+    pub place: u64,
+    pub joins: bool,
+}
+
 /// What a message says.
 #[derive(Clone, Copy)]
 pub(crate) enum Content {

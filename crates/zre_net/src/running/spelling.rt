@@ -5,10 +5,10 @@ ghost use Rattle.zre_net.specs.declared.running.puts.Content.TheVariants.{Hello}
 ghost use Rattle.zre_net.specs.Puts.{asked, body_of, changed, command_at, groups_after};
 
 use crate::moves::{Move, Moves, Part};
-use crate::running::lives::{Change, Life, Line};
-use crate::running::network::nth;
-use crate::running::puts::{Content, Put};
+use crate::running::nth::nth;
+use crate::running::puts::{Change, Content, Put};
 use std::alloc::Global;
+use zre_journal::Config;
 use zre_msg::{Body, Message};
 use zre_outside::Command;
 use zre_values::{Endpoint, Frames, Octets, OutOfMemory, Pairs};
@@ -122,14 +122,14 @@ fn change(
 // The groups of a node after so many changes.
 fn groups(
     alloc: Global,
-    life: &Life,
+    made: &[Change],
     moves: &Moves,
     changes: u64,
 ) -> Result<Frames, OutOfMemory>
-    ensures { IfOk result (λ groups. groups ≡ groups_after moves.now (take changes life.now.changes.items)) }
+    ensures { IfOk result (λ groups. groups ≡ groups_after moves.now (take changes made.now)) }
 {
     let mut groups = Frames::new(alloc);
-    let (first, _) = life.changes.as_slice().split_at((changes as usize).min(life.changes.len()));
+    let (first, _) = made.split_at((changes as usize).min(made.len()));
     for one in first {
         change(alloc, &mut groups, moves, *one)?;
     }
@@ -137,21 +137,27 @@ fn groups(
 }
 
 // Its HELLO then.
-fn hello(alloc: Global, life: &Life, moves: &Moves, changes: u64) -> Result<Body, OutOfMemory>
-    ensures { IfOk result (λ b. Some b ≡ body_of life.now.config moves.now life.now.changes.items (Hello changes)) }
+fn hello(
+    alloc: Global,
+    config: &Config,
+    made: &[Change],
+    moves: &Moves,
+    changes: u64,
+) -> Result<Body, OutOfMemory>
+    ensures { IfOk result (λ b. Some b ≡ body_of config.now moves.now made.now (Hello changes)) }
 {
-    if life.config.port == 0 {
+    if config.port == 0 {
         return Err(OutOfMemory);
     }
     let mailbox = Endpoint {
-        addr: life.config.host,
-        port: life.config.port,
+        addr: config.host,
+        port: config.port,
     };
     Ok(Body::Hello {
         endpoint: mailbox.write(alloc)?,
-        groups: groups(alloc, life, moves, changes)?,
+        groups: groups(alloc, made, moves, changes)?,
         status: (changes % 256) as u8,
-        name: Octets::copy(alloc, life.config.name.as_slice())?,
+        name: Octets::copy(alloc, config.name.as_slice())?,
         headers: Pairs::new(alloc),
     })
 }
@@ -184,14 +190,15 @@ fn asked(alloc: Global, moves: &Moves, place: u64, changes: u64) -> Result<Body,
 /// What a message on a link of this node says.
 pub(crate) fn body(
     alloc: Global,
-    life: &Life,
+    config: &Config,
+    made: &[Change],
     moves: &Moves,
     content: Content,
 ) -> Result<Body, OutOfMemory>
-    ensures { IfOk result (λ b. Some b ≡ body_of life.now.config moves.now life.now.changes.items content) }
+    ensures { IfOk result (λ b. Some b ≡ body_of config.now moves.now made.now content) }
 {
     match content {
-        Content::Hello { changes } => hello(alloc, life, moves, changes),
+        Content::Hello { changes } => hello(alloc, config, made, moves, changes),
         Content::Asked { place, changes } => asked(alloc, moves, place, changes),
         Content::Ping => Ok(Body::Ping),
         Content::PingOk => Ok(Body::PingOk),
@@ -213,20 +220,22 @@ fn spell(body: Body, number: u64, out: &mut Octets) -> Result<(), OutOfMemory> {
 /// The octets of a part: the greeting or READY of a link's node, or a message of the link.
 pub(crate) fn spell_part(
     alloc: Global,
-    life: &Life,
-    line: &Line,
+    config: &Config,
+    made: &[Change],
+    puts: &[Put],
     moves: &Moves,
     part: Part,
 ) -> Result<Octets, OutOfMemory> {
     match part {
         Part::Greeting => Octets::copy(alloc, &greeting()),
-        Part::Ready => ready(alloc, SocketType::Dealer, Some(life.config.id)),
+        Part::Ready => ready(alloc, SocketType::Dealer, Some(config.id)),
         Part::Message { number } => {
-            let Some(Put { content, .. }) = nth(line.puts.as_slice(), number) else {
+            let Some(Put { content, .. }) = nth(puts, number) else {
                 return Err(OutOfMemory);
             };
             let mut octets = Octets::new(alloc);
-            spell(body(alloc, life, moves, *content)?, number, &mut octets)?;
+            let body = body(alloc, config, made, moves, *content)?;
+            spell(body, number, &mut octets)?;
             Ok(octets)
         }
     }

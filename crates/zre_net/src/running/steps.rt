@@ -1,9 +1,9 @@
 //! One entry of a node, and what comes of it: what it tells, the beacons that it sends, and what it puts on links.
 
 use crate::moves::Moves;
-use crate::running::lives::{Broadcast, Change, Known, Life, Line};
+use crate::running::lives::{Broadcast, Known, Life, Line};
 use crate::running::network::Network;
-use crate::running::puts::{Cause, Content, Put};
+use crate::running::puts::{Cause, Change, Content, Put};
 use crate::running::said::Said;
 use crate::running::spelling::{body, size_of};
 use std::alloc::Global;
@@ -129,7 +129,8 @@ impl Network {
         let hello = Content::Hello {
             changes: life.changes.len() as u64,
         };
-        let size = size_of(body(self.alloc, life, moves, hello)?);
+        let made = life.changes.as_slice();
+        let size = size_of(body(self.alloc, &life.config, made, moves, hello)?);
         let mut line = Line {
             life: a,
             link,
