@@ -1,5 +1,5 @@
 -- The first of several fields.
-use Rattle.std.proofs.Common.{◌≡◌, ℕ, ◌<◌, List, [], ◌∷◌, ◌++◌, length, Some, refl, sym, ap, ◌∙◌, arith}
+use Rattle.std.proofs.Common.{◌≡◌, ℕ, ◌<◌, List, [], ◌∷◌, length, Some, refl, ap, ◌∙◌, arith}
 use Rattle.zre_capture.specs.Reading.{fields_in}
 use Rattle.zre_capture.proofs.Fields.{some_fields}
 use Rattle.zre_net.specs.Fields.{cut}

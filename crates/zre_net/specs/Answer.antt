@@ -1,7 +1,6 @@
 -- What a schedule is answered by: what its nodes tell, or the line of its first move that is outside the grammar.
-use Rattle.std.specs.Prelude.{◌≡◌, ℕ, ◌+◌, List, [], ◌∷◌, Option, Some, None, if◌then◌else◌}
+use Rattle.std.specs.Prelude.{ℕ, ◌+◌, List, [], ◌∷◌, Option, Some, None, if◌then◌else◌}
 use Rattle.std.specs.Option.{option_or}
-use Rattle.zre_peer.specs.declared.event.Event.{Event}
 use Rattle.zre_net.specs.declared.fault.ScheduleFault.{ScheduleFault}
 use Rattle.zre_net.specs.declared.fault.ScheduleFault.TheVariants.{Bad, OutOfMemory}
 use Rattle.zre_net.specs.declared.moves.Move.{Move}
@@ -9,7 +8,6 @@ use Rattle.zre_net.specs.Comes.{with_move}
 use Rattle.zre_net.specs.History.{Happening}
 use Rattle.zre_net.specs.Grammar.{is_good}
 use Rattle.zre_net.specs.Reading.{bad_line, lines_in, moves_of}
-use Rattle.zre_net.specs.Said.{said}
 
 -- a refusal tells the number of a line; OutOfMemory has no cause
 abbrev pub Refuses : ScheduleFault → (ℕ → Type 0) → Type 0

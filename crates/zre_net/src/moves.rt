@@ -28,9 +28,14 @@ pub enum Move {
         port: u16,
     },
     /// A node is gone, with its links and connections.
-    Crash { node: u8 },
+    Crash {
+        node: u8,
+    },
     /// Time has passed at a node.
-    Tick { node: u8, at: u64 },
+    Tick {
+        node: u8,
+        at: u64,
+    },
     /// A user asks a node for something.
     Do {
         node: u8,
@@ -38,23 +43,55 @@ pub enum Move {
         command: Command,
     },
     /// A node hears a beacon.
-    Beacon { beacon: u64, node: u8, at: u64 },
+    Beacon {
+        beacon: u64,
+        node: u8,
+        at: u64,
+    },
     /// A connection that carries a link opens at a node.
-    Open { link: u64, node: u8, at: u64 },
+    Open {
+        link: u64,
+        node: u8,
+        at: u64,
+    },
     /// A connection is made to carry one part more.
-    Carry { conn: u64, part: Part },
+    Carry {
+        conn: u64,
+        part: Part,
+    },
     /// The next octets of a connection come.
-    Piece { conn: u64, count: u64, at: u64 },
+    Piece {
+        conn: u64,
+        count: u64,
+        at: u64,
+    },
     /// A connection is closed.
-    Shut { conn: u64, at: u64 },
+    Shut {
+        conn: u64,
+        at: u64,
+    },
     /// A link stands.
-    Linked { link: u64, at: u64 },
+    Linked {
+        link: u64,
+        at: u64,
+    },
     /// A link breaks.
-    Unlinked { link: u64, at: u64 },
+    Unlinked {
+        link: u64,
+        at: u64,
+    },
     /// Octets come back on a link.
-    Reply { link: u64, at: u64, bytes: Octets },
+    Reply {
+        link: u64,
+        at: u64,
+        bytes: Octets,
+    },
     /// Octets of a link are sent.
-    Took { link: u64, count: u64, at: u64 },
+    Took {
+        link: u64,
+        count: u64,
+        at: u64,
+    },
 }
 
 /// The moves of a schedule, in their order.

@@ -1,9 +1,9 @@
 //! Schedules read from their texts.
 
 mod fields;
-mod lines;
 mod line;
+mod lines;
 mod schedule;
 
-pub use schedule::{Schedule, read_schedule};
 pub(crate) use lines::moves_of;
+pub use schedule::{Schedule, read_schedule};

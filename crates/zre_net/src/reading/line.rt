@@ -134,10 +134,11 @@ fn move_with(alloc: Global, word: MoveWord, rest: &[u8]) -> Result<Option<Move>,
         MoveWord::Crash => Ok(one_node(rest).map(|node| Move::Crash { node })),
         MoveWord::Tick => Ok(node_and_number(rest).map(|(node, at)| Move::Tick { node, at })),
         MoveWord::Do => ask(alloc, rest),
-        MoveWord::Beacon => Ok(number_and_node(rest).map(|(
+        MoveWord::Beacon => Ok(number_and_node(rest).map(|(beacon, (node, at))| Move::Beacon {
             beacon,
-            (node, at),
-        )| Move::Beacon { beacon, node, at })),
+            node,
+            at,
+        })),
         MoveWord::Open => {
             Ok(number_and_node(rest).map(|(link, (node, at))| Move::Open { link, node, at }))
         }

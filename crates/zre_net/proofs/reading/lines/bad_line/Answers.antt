@@ -1,4 +1,4 @@
-use Rattle.std.proofs.Common.{◌≡◌, ◌+◌, ◌≤◌, ℕ, Bool, cond, Some, None, length, sym, ap, ◌∙◌, arith}
+use Rattle.std.proofs.Common.{◌+◌, Bool, cond, Some, None, length, sym, ap, ◌∙◌, arith}
 use Rattle.std.proofs.lemmas.Bool.{OnTrue_at}
 use Rattle.zre_net.specs.Reading.{parts_in, bad_from}
 use Rattle.zre_net.proofs.Lines.{bad-cut, bad-end}

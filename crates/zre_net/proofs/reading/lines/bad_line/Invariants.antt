@@ -1,4 +1,4 @@
-use Rattle.std.proofs.Common.{◌≡◌, ℕ, ◌≤◌, length}
+use Rattle.std.proofs.Common.{◌≡◌, ◌≤◌, length}
 use Rattle.zre_net.specs.Reading.{parts_in, bad_from}
 use Rattle.zre_net.proofs.reading.lines.bad_line.Given as goal
 

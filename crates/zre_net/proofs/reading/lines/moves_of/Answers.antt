@@ -1,4 +1,4 @@
-use Rattle.std.proofs.Common.{◌≡◌, ◌++◌, List, [], sym, ap, ◌∙◌}
+use Rattle.std.proofs.Common.{◌++◌, List, sym, ap, ◌∙◌}
 use Rattle.zre_net.specs.declared.moves.Move.{Move}
 use Rattle.zre_net.specs.Reading.{lines_in, moves_in, moves_of}
 use Rattle.zre_net.proofs.Lines.{lines-cut, lines-whole, moves-cut, moves-whole}
