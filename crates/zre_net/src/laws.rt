@@ -1,7 +1,12 @@
 //! Laws of what schedules mean. The functions do nothing: what they ensure is for proofs.
 
-ghost use Rattle.std.specs.Prelude.{◌≡◌, ◌≤◌, ◌++◌, ◌∷◌, ℕ, List, None, length, take};
+ghost use Rattle.std.specs.Prelude.{◌≡◌, ◌≤◌, ◌++◌, ◌∷◌, ℕ, List, [], None, length, take};
 ghost use Rattle.zre_msg.specs.declared.message.Message.{Message};
+ghost use Rattle.zre_outside.specs.declared.entry.Entry.{Entry};
+ghost use Rattle.zre_journal.specs.declared.config.Config.{Config};
+ghost use Rattle.zre_journal.specs.Cutting.{piece};
+ghost use Rattle.zre_node.specs.declared.node.Node.{Node};
+ghost use Rattle.zre_node.specs.Journal.{StandsFor};
 ghost use Rattle.zre_net.specs.Example.{IsExample};
 ghost use Rattle.zre_net.specs.History.{Happening};
 ghost use Rattle.zre_net.specs.Numbers.{Route, queued_on};
@@ -32,4 +37,10 @@ pub fn an_example_computes()
 /// What a crashed node had put on its links may still come, and a later start of it takes over.
 pub fn a_restart_computes()
     ensures { IsRestart }
+{}
+
+/// A node that was told octets in two pieces at one reading stands for the journal that has them in one.
+pub fn a_cut_piece_is_a_whole_one()
+    ensures { (g : Config) (J : List Entry) (at c : ℕ) (a b : List ℕ) (n : Node) →
+        StandsFor g (J ++ piece at c a ∷ piece at c b ∷ []) n → StandsFor g (J ++ piece at c (a ++ b) ∷ []) n }
 {}
