@@ -29,6 +29,8 @@ pub use fault::{BadCapture, CaptureFault};
 pub use format::{Format, LINE_OCTETS, LINE_OCTETS_2};
 pub use head::{HEAD, push_head2, write_head2};
 pub use line::{push_entry, push_entry2, write_entry, write_entry2};
+pub use hexadecimal::hex;
+pub use read::{command, first_field, number_and_hex, one_number, two_fields, two_numbers};
 pub use reader::CaptureReader;
 pub use settings::Settings;
 pub use split::split_once;

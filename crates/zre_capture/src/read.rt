@@ -16,7 +16,7 @@ use zre_outside::{Command, Entry, Input};
 use zre_values::{Frames, Octets, OutOfMemory, PeerId};
 
 /// The first field, and the text of those after it, if there are any.
-pub(crate) fn first_field(text: &[u8]) -> Option<(&[u8], &[u8])>
+pub fn first_field(text: &[u8]) -> Option<(&[u8], &[u8])>
     ensures { MatchOption result (fields_in text.now ≡ text.now ∷ [])
         (λ p. fields_in text.now ≡ p.0.now ∷ fields_in p.1.now) }
 {
@@ -43,15 +43,24 @@ pub(crate) fn two_parts(text: &[u8], octet: u8) -> Option<(&[u8], &[u8])>
     Some((first, second))
 }
 
+/// Two fields with no other after them.
+pub fn two_fields(text: &[u8]) -> Option<(&[u8], &[u8])>
+    ensures { option_map (λ p. (p.0.now, p.1.now)) result ≡ two (fields_in text.now) }
+{
+    two_parts(text, b' ')
+}
+
+/// A number, alone.
 #[tactic(auto, unfolding(crate::specs::Reading::one_number))]
-fn one_number(text: &[u8]) -> Option<u64>
+pub fn one_number(text: &[u8]) -> Option<u64>
     ensures { result ≡ one_number (fields_in text.now) }
 {
     number(one_part(text, b' ')?)
 }
 
+/// Two numbers with no field after them.
 #[tactic(auto, unfolding(crate::specs::Reading::two_numbers))]
-fn two_numbers(text: &[u8]) -> Option<(u64, u64)>
+pub fn two_numbers(text: &[u8]) -> Option<(u64, u64)>
     ensures { result ≡ two_numbers (fields_in text.now) }
 {
     let (first, second) = two_parts(text, b' ')?;
@@ -68,8 +77,9 @@ fn one_group(alloc: Global, text: &[u8]) -> Result<Option<Octets>, OutOfMemory>
     group(alloc, field)
 }
 
+/// A number, and octets in hexadecimal digits.
 #[tactic(auto, unfolding(crate::specs::Reading::number_and_hex))]
-fn number_and_hex(alloc: Global, text: &[u8]) -> Result<Option<(u64, Octets)>, OutOfMemory>
+pub fn number_and_hex(alloc: Global, text: &[u8]) -> Result<Option<(u64, Octets)>, OutOfMemory>
     ensures { IfOk result (λ found. found ≡ number_and_hex (fields_in text.now)) }
 {
     let Some((first, second)) = two_parts(text, b' ') else {
@@ -166,8 +176,9 @@ fn command_alone(word: CommandWord) -> Option<Command>
     }
 }
 
+/// The command of some fields.
 #[tactic(auto, unfolding(crate::specs::Reading::command_in))]
-fn command(alloc: Global, text: &[u8]) -> Result<Option<Command>, OutOfMemory>
+pub fn command(alloc: Global, text: &[u8]) -> Result<Option<Command>, OutOfMemory>
     ensures { IfOk result (λ found. found ≡ command_in (fields_in text.now)) }
 {
     match first_field(text) {
