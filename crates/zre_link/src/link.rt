@@ -1,16 +1,18 @@
 //! One outgoing connection.
 
-ghost use Rattle.std.specs.Prelude.{◌≡◌, ◌≢◌, ℕ, ◌+◌, ◌-◌, ◌<◌, ◌≤◌, ◌∷◌, Bool, true, false, List, [], ◌++◌, length, None, IfOk, OnOk, IfErr, OnErr};
+ghost use Rattle.std.specs.Prelude.{◌≡◌, ◌≢◌, ℕ, ◌+◌, ◌-◌, ◌<◌, ◌≤◌, ◌∷◌, Bool, true, false, List, [], ◌++◌};
+ghost use Rattle.std.specs.Prelude.{length, None, IfOk, OnOk, IfErr, OnErr};
 ghost use Rattle.zre_values.specs.declared.limits.TheConstants.{MESSAGE_OCTETS, COMMAND_OCTETS, UNSENT_OCTETS};
 ghost use Rattle.zre_values.specs.declared.peer_id.PeerId.{PeerId as PeerIdValue};
 ghost use Rattle.zre_zmtp.specs.Laws.{handshake};
 ghost use Rattle.zre_zmtp.specs.declared.writing.SocketType.TheVariants.{Dealer};
-ghost use Rattle.zre_zmtp.specs.Looks.{IsPaid, IsPaidOnRefusal};
+ghost use Rattle.zre_zmtp.specs.Looks.{Looks, IsPaid};
 ghost use Rattle.zre_zmtp.specs.Ping.{contexts_in};
 ghost use Rattle.zre_msg.specs.Spelling.{FitsBody, Fits, octets as octets_of};
 ghost use Rattle.zre_link.specs.Text.{Member, Says, bodies_in, text_of, size_of};
 ghost use Rattle.zre_link.specs.Heard.{reply_fault, heard_after, kept_of};
-ghost use Rattle.zre_link.specs.Link.{link_after, gate_at, has_front, front_of, taken_by, unsent_of, RefusesPush, slow_at, answering, link_answering, slow_in, RefusesReply};
+ghost use Rattle.zre_link.specs.Link.{link_after, gate_at, has_front, front_of, taken_by, unsent_of, RefusesPush};
+ghost use Rattle.zre_link.specs.Link.{slow_at, answering, link_answering, slow_in, RefusesReply};
 
 use crate::answers::answer_all;
 use crate::awaits::Awaits;
@@ -199,10 +201,8 @@ impl Link {
             (self.new ≡ link_answering own line linked o n piece.now)) }
         ensures rest { (self.new.sent ≡ self.old.sent) × (self.new.taken ≡ self.old.taken)
             × (self.new.linked ≡ self.old.linked) }
-        ensures looks { OnOk result (IsPaid steps.old steps.new (kept_of self.old.replies) (kept_of self.new.replies)
-            (length piece.now)) }
-        ensures refused_looks { OnErr result (IsPaidOnRefusal steps.old steps.new (kept_of self.old.replies)
-            (length piece.now)) }
+        ensures looks { Looks steps.old steps.new (kept_of self.old.replies) (kept_of self.new.replies) (length piece.now)
+            result }
         ensures paid { IfErr result (λ e. e ≢ ReplyFault.OutOfMemory → IsPaid steps.old steps.new (kept_of self.old.replies)
             (kept_of self.new.replies) (length piece.now)) }
     {

@@ -6,7 +6,8 @@ ghost use Rattle.std.specs.Result.{result_ok};
 ghost use Rattle.zre_msg.specs.Reading.{read_frames};
 ghost use Rattle.zre_mailbox.specs.Talk.{peer_of, arrival_of, arrivals_in};
 ghost use Rattle.zre_mailbox.specs.Conn.{introduced, Takes};
-ghost use Rattle.zre_mailbox.specs.declared.arrival.Arrival.TheVariants.{Ping as PingArrival, Message as MessageArrival};
+ghost use Rattle.zre_mailbox.specs.declared.arrival.Arrival.TheVariants.{Ping as PingArrival};
+ghost use Rattle.zre_mailbox.specs.declared.arrival.Arrival.TheVariants.{Message as MessageArrival};
 
 use crate::arrival::{Arrival, Arrivals};
 use std::alloc::Global;

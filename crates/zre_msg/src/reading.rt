@@ -2,7 +2,8 @@
 
 ghost use Rattle.std.specs.Prelude.{◌≡◌, ◌≤◌, ◌<◌, ◌^◌, [], ◌∷◌, length, take, drop, slice_index, Ok, Err, None, IfOk};
 ghost use Rattle.std.specs.Int.{w16, from_be_bytes};
-ghost use Rattle.zre_msg.specs.Reading.{is_other as other_test, first_row, head_rows, end_rows, read_of, read_frames, Answers};
+ghost use Rattle.zre_msg.specs.Reading.{is_other as other_test, first_row, head_rows, end_rows, read_of};
+ghost use Rattle.zre_msg.specs.Reading.{read_frames, Answers};
 ghost use Rattle.zre_msg.specs.Further.{frames_of};
 ghost use Rattle.zre_msg.specs.Lent.{Opens, Sees};
 ghost use Rattle.zre_msg.specs.Spelling.{Means};

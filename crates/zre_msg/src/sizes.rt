@@ -3,7 +3,8 @@
 ghost use Rattle.std.specs.Prelude.{◌≡◌, ℕ, List, ◌-◌, ◌^◌, ◌∷◌, ◌++◌, length, min, sum_by};
 ghost use Rattle.std.specs.List.{flat_map};
 ghost use Rattle.zre_values.specs.Framing.{frame, frames};
-ghost use Rattle.zre_msg.specs.Spelling.{string as string_text, long_string, strings, pair, dictionary, fields, further, first_frame, spell, octets, is_big as big_test};
+ghost use Rattle.zre_msg.specs.Spelling.{string as string_text, long_string, strings, pair, dictionary, fields};
+ghost use Rattle.zre_msg.specs.Spelling.{further, first_frame, spell, octets, is_big as big_test};
 
 use crate::message::{Body, Message};
 use zre_values::limits::{MESSAGE_FRAMES, MESSAGE_OCTETS};

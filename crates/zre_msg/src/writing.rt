@@ -2,7 +2,9 @@
 
 ghost use Rattle.std.specs.Prelude.{◌≡◌, ◌<◌, ◌^◌, ◌∷◌, ◌++◌, [], length, All, IfOk, OnOk, IsTrue, ◌↔◌, MatchOption};
 ghost use Rattle.std.specs.Int.{w32, to_be_bytes};
-ghost use Rattle.zre_msg.specs.Spelling.{string, long_string, strings, pair, dictionary, number_of, fields, further, head, first_frame, spell, FitsString, FitsLong, FitsPair, FitsBody, Fits};
+ghost use Rattle.zre_msg.specs.Spelling.{string, long_string, strings, pair, dictionary, number_of, fields};
+ghost use Rattle.zre_msg.specs.Spelling.{further, head, first_frame, spell, FitsString, FitsLong, FitsPair};
+ghost use Rattle.zre_msg.specs.Spelling.{FitsBody, Fits};
 
 use crate::further::push_copies;
 use crate::message::{Body, Message};

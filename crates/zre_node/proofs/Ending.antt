@@ -30,10 +30,6 @@ use Rattle.zre_node.proofs.Entries.{Row, Is, IsNone, row, changed, retold}
 use Rattle.zre_node.proofs.Many.{or-nil}
 use Rattle.zre_node.proofs.Keeping.{keeps_as}
 
-pub on_ok : {T E A C : Type 0} (r : Result T E) → OnOk r A → (A → C) → OnOk r C
-on_ok (Ok x) a f = f a
-on_ok (Err x) a f = tt
-
 -- ---- connections, by number
 
 -- an open connection has its row

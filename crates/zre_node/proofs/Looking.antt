@@ -5,7 +5,8 @@ use Rattle.zre_values.specs.declared.memory.OutOfMemory.{OutOfMemory}
 use Rattle.zre_outside.specs.declared.entry.Entry.{Entry}
 use Rattle.zre_outside.specs.declared.entry.Input.{Input}
 use Rattle.zre_outside.specs.declared.entry.Input.TheVariants as input
-use Rattle.zre_zmtp.specs.Looks.{IsPaid, IsPaidOnRefusal}
+use Rattle.zre_values.proofs.Answered.{on_ok}
+use Rattle.zre_zmtp.specs.Looks.{Looks, IsPaid, IsPaidOnRefusal}
 use Rattle.zre_mailbox.specs.Conn.{conn_after, kept_of}
 use Rattle.zre_link.specs.Heard.{heard_after, kept_of as kept_of_replies}
 use Rattle.zre_journal.specs.declared.config.Config.{Config}
@@ -30,7 +31,7 @@ use Rattle.zre_node.specs.declared.peer.Peer.{Peer}
 use Rattle.zre_node.proofs.Coming.{quiet_piece, quiet_reply, grown}
 use Rattle.zre_node.proofs.Linking.{its, link_is}
 use Rattle.zre_node.proofs.Pushing.{row_link}
-use Rattle.zre_node.specs.Looks.{Looks, octets_of}
+use Rattle.zre_node.specs.Brings.{octets_of}
 use Rattle.zre_node.specs.Stands.{Holds, Rests, heard_by, is_quiet, kept_conn}
 use Rattle.zre_node.specs.declared.tables.Tables.{Tables}
 
@@ -115,10 +116,6 @@ module _ (g : Config) (H : List Mark) (t : Tables) (h : Holds g H t) (e : Entry)
       → (x.conn ≡ None → looks' ≡ looks) → Looks looks looks' (kept g H) (kept g (Comes e ∷ H)) (length o) r
   heard_looks {A} r looks looks' there x x' row live dead = by (is_ignored c H) refl
     where
-      on_ok_map : (r : Result A OutOfMemory) (B C : Type 0) → (B → C) → OnOk r B → OnOk r C
-      on_ok_map (Ok y) B C f b = f b
-      on_ok_map (Err y) B C f b = tt
-
       moves : kept g (Comes e ∷ H) + conn_kept g H c ≡ kept g H + conn_kept g (Comes e ∷ H) c
       moves = piece_moves g H h.keeps.proper e c o is there
 
@@ -134,7 +131,7 @@ module _ (g : Config) (H : List Mark) (t : Tables) (h : Holds g H t) (e : Entry)
           let now : conn_kept g (Comes e ∷ H) c ≡ kept_of (conn_after g.id (bytes c H ++ o)) = ap (λ b. cond b 0 (kept_of (conn_after g.id (bytes c (Comes e ∷ H))))) q ∙ ap (λ p. kept_of (conn_after g.id p)) (grown g H t h e c o is there) in
           row_looks r looks looks' (conn_row_octets x) (conn_kept g (Comes e ∷ H) c) (conn_row_octets x') (kept g H) (kept g (Comes e ∷ H)) (length o)
           (omega (arith, moves, was)) (omega (arith, piece_part g H h.keeps.proper e c o is there, was))
-          (on_ok_map r _ _ (λ y. ap conn_row_octets y ∙ sym now) l.0) l.1
+          (on_ok r l.0 (λ y. ap conn_row_octets y ∙ sym now)) l.1
 
 -- ---- a reply
 
@@ -168,10 +165,6 @@ module _ (g : Config) (H : List Mark) (t : Tables) (h : Holds g H t) (e : Entry)
         now : (p : List ℕ) → replies l (Comes e ∷ H) ≡ p → s.replies ≡ heard_after p → kept_of_replies s.replies ≡ replies_kept g (Comes e ∷ H) v
         now p q y = ap kept_of_replies y ∙ ap (λ z. kept_of_replies (heard_after z)) (sym q) ∙ ap (λ n. kept_of_replies (heard_after (replies n (Comes e ∷ H)))) same
 
-        ok_map : (r : Result A OutOfMemory) (B C : Type 0) → (B → C) → OnOk r B → OnOk r C
-        ok_map (Ok y) B C f b = f b
-        ok_map (Err y) B C f b = tt
-
         up : is_linked l H ≡ true → replies l (Comes e ∷ H) ≡ replies l H ++ o
         up q = let this : eqb l l ≡ true = eq-eqb l l refl in rw (q, is, this) refl
 
@@ -179,5 +172,5 @@ module _ (g : Config) (H : List Mark) (t : Tables) (h : Holds g H t) (e : Entry)
         down q = rw q (append-nil (replies l H))
 
         by : (b : Bool) → is_linked l H ≡ b → OnOk r (kept_of_replies s.replies ≡ replies_kept g (Comes e ∷ H) v)
-        by true q = ok_map r _ _ (λ y. now (replies l H ++ o) (up q) (ap (λ (z : Sending). z.replies) y)) (live (row ∙ ap (λ b. link_after g.id (line l H) b (replies l H) (taken l H)) q))
-        by false q = ok_map r _ _ (λ y. now (replies l H) (down q) (ap (λ (z : Sending). z.replies) y ∙ ap (λ (z : Sending). z.replies) row)) (dead (ap (λ (x : Sending). x.linked) row ∙ q))
+        by true q = on_ok r (live (row ∙ ap (λ b. link_after g.id (line l H) b (replies l H) (taken l H)) q)) (λ y. now (replies l H ++ o) (up q) (ap (λ (z : Sending). z.replies) y))
+        by false q = on_ok r (dead (ap (λ (x : Sending). x.linked) row ∙ q)) (λ y. now (replies l H) (down q) (ap (λ (z : Sending). z.replies) y ∙ ap (λ (z : Sending). z.replies) row))

@@ -1,11 +1,11 @@
 pub mod Asked
+pub mod Brings
 pub mod First
 pub mod Groups
 pub mod Holding
 pub mod Journal
 pub mod Kinds
 pub mod Links
-pub mod Looks
 pub mod Offers
 pub mod Said
 pub mod Stands

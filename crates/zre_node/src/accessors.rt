@@ -1,8 +1,10 @@
 //! What a node is asked between its steps. After OutOfMemory nothing is said of the answers.
 
-ghost use Rattle.std.specs.Prelude.{◌≡◌, ◌<◌, ◌≤◌, ℕ, List, [], Some, None, is_some, length, option_map, option_copied, IfOk};
+ghost use Rattle.std.specs.Prelude.{◌≡◌, ◌<◌, ◌≤◌, ℕ, List, [], Some, None, is_some, length, option_map};
+ghost use Rattle.std.specs.Prelude.{option_copied, IfOk};
 ghost use Rattle.zre_outside.specs.declared.entry.Entry.{Entry as EntryValue};
-ghost use Rattle.zre_journal.specs.Asked.{bound_after, entered_after, front_after, held_after, link_later, unsent_after, view_after, HasFront, HasSome, IsDue};
+ghost use Rattle.zre_journal.specs.Asked.{bound_after, entered_after, front_after, held_after, link_later};
+ghost use Rattle.zre_journal.specs.Asked.{unsent_after, view_after, HasFront, HasSome, IsDue};
 ghost use Rattle.zre_journal.specs.declared.config.Config.{Config as ConfigValue};
 ghost use Rattle.zre_journal.specs.Events.{chronicle};
 ghost use Rattle.zre_journal.specs.Happens.{has_stopped};

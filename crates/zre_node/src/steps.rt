@@ -3,15 +3,16 @@
 ghost use Rattle.std.specs.Prelude.{◌≡◌, List, [], true, length, OnOk};
 ghost use Rattle.zre_outside.specs.declared.entry.Entry.{Entry as EntryValue};
 ghost use Rattle.zre_outside.specs.declared.entry.Input.TheVariants as given;
+ghost use Rattle.zre_zmtp.specs.Looks.{Looks};
 ghost use Rattle.zre_journal.specs.Endings.{is_end};
 ghost use Rattle.zre_journal.specs.declared.config.Config.{Config};
 ghost use Rattle.zre_journal.specs.Chronicle.{Mark};
 ghost use Rattle.zre_journal.specs.Happens.{at_input, with_entry};
 ghost use Rattle.zre_journal.specs.Held.{kept};
 ghost use Rattle.zre_journal.specs.Commands.{at_stop};
+ghost use Rattle.zre_node.specs.Brings.{octets_of};
 ghost use Rattle.zre_node.specs.Journal.{Took};
 ghost use Rattle.zre_node.specs.Kinds.{is_incoming};
-ghost use Rattle.zre_node.specs.Looks.{Looks, octets_of};
 ghost use Rattle.zre_node.specs.Stands.{Holds, Did};
 
 use crate::effects::Effects;

@@ -23,7 +23,8 @@ pub struct MemRecorder {
 }
 
 impl MemRecorder {
-    ghost use Rattle.zre_outside.specs.Recorders.{kept_by, named_by, is_begun, begin_fails_of, put_fails_of, begins_of, puts_of, recorder_faults_of};
+    ghost use Rattle.zre_outside.specs.Recorders.{kept_by, named_by, is_begun, begin_fails_of, put_fails_of};
+    ghost use Rattle.zre_outside.specs.Recorders.{begins_of, puts_of, recorder_faults_of};
 
     /// A recorder that isn't begun.
     pub fn new(alloc: Global, begin_fails: Vec<u64>, put_fails: Vec<u64>) -> Self
@@ -56,7 +57,8 @@ impl MemRecorder {
 }
 
 impl Recorder for MemRecorder {
-    ghost use Rattle.zre_outside.specs.Recorders.{kept_by, named_by, is_begun, begin_fails_of, put_fails_of, begins_of, puts_of, recorder_faults_of};
+    ghost use Rattle.zre_outside.specs.Recorders.{kept_by, named_by, is_begun, begin_fails_of, put_fails_of};
+    ghost use Rattle.zre_outside.specs.Recorders.{begins_of, puts_of, recorder_faults_of};
 
     ghost kept = { λ r. Some (kept_by r) };
 

@@ -1,4 +1,5 @@
-ghost use Rattle.std.specs.Prelude.{◌≡◌, ◌≤◌, ◌==◌, ◌||◌, ◌&&◌, false, true, Some, None, [], option_map, IsSome, IfOk, OnOk, OnErr, IsErrOf, nat_le};
+ghost use Rattle.std.specs.Prelude.{◌≡◌, ◌≤◌, ◌==◌, ◌||◌, ◌&&◌, false, true, Some, None, [], option_map, IsSome};
+ghost use Rattle.std.specs.Prelude.{IfOk, OnOk, OnErr, IsErrOf, nat_le};
 ghost use Rattle.std.specs.List.{list_any};
 ghost use Rattle.zre_outside.specs.declared.deed.Deed.{Deed as DeedValue};
 ghost use Rattle.zre_outside.specs.Causes.{Rose, raised, counted, is_failed};
@@ -27,7 +28,9 @@ pub struct ScriptWorld {
 }
 
 impl ScriptWorld {
-    ghost use Rattle.zre_outside.specs.Scripts.{script_left, reading_of, seen_by, has_looked, row_of, start_fails_of, next_fails_of, starts_of, nexts_of, world_faults_of};
+    ghost use Rattle.zre_outside.specs.Scripts.{script_left, reading_of, seen_by, has_looked, row_of};
+    ghost use Rattle.zre_outside.specs.Scripts.{start_fails_of, next_fails_of, starts_of, nexts_of};
+    ghost use Rattle.zre_outside.specs.Scripts.{world_faults_of};
 
     /// A world of which no turn was asked.
     pub fn new(alloc: Global, script: Script, start_fails: Vec<u64>, next_fails: Vec<u64>) -> Self
@@ -53,7 +56,9 @@ impl ScriptWorld {
 }
 
 impl World for ScriptWorld {
-    ghost use Rattle.zre_outside.specs.Scripts.{script_left, reading_of, seen_by, has_looked, row_of, start_fails_of, next_fails_of, starts_of, nexts_of, world_faults_of};
+    ghost use Rattle.zre_outside.specs.Scripts.{script_left, reading_of, seen_by, has_looked, row_of};
+    ghost use Rattle.zre_outside.specs.Scripts.{start_fails_of, next_fails_of, starts_of, nexts_of};
+    ghost use Rattle.zre_outside.specs.Scripts.{world_faults_of};
 
     ghost told = { λ w. Some (seen_by w) };
 

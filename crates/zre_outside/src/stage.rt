@@ -4,7 +4,8 @@ ghost use Rattle.std.specs.Prelude.{◌≡◌, drop, false, [], None, Some, OnOk
 ghost use Rattle.zre_outside.specs.declared.deed.Deed.{Deed as DeedValue};
 ghost use Rattle.zre_outside.specs.Worlds.{with_start, after_turn, with_deed};
 ghost use Rattle.zre_outside.specs.declared.turn.Turn.TheVariants as turns;
-ghost use Rattle.zre_outside.specs.Scripts.{log_of, first_log, left_on, turn_of, Ends, LooksOn, Plays, Sees, Stays, at_look};
+ghost use Rattle.zre_outside.specs.Scripts.{log_of, first_log, left_on, turn_of, Ends, LooksOn, Plays, Sees, Stays};
+ghost use Rattle.zre_outside.specs.Scripts.{at_look};
 
 use crate::{Act, Command, Deed, Entry, Input, Script, Start, Turn};
 use std::alloc::Global;

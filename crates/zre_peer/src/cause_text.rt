@@ -1,7 +1,8 @@
 //! The texts of reasons.
 
 ghost use Rattle.std.specs.Prelude.{◌≡◌, ◌++◌, OnOk};
-ghost use Rattle.zre_peer.specs.Causes.{cause_text, close_text, fault_text, group_text, ignore_text, numbers_text, refuse_text, zmtp_name};
+ghost use Rattle.zre_peer.specs.Causes.{cause_text, close_text, fault_text, group_text, ignore_text, numbers_text};
+ghost use Rattle.zre_peer.specs.Causes.{refuse_text, zmtp_name};
 
 use crate::causes::{Cause, CloseWhy, IgnoreWhy, RefuseWhy};
 use zre_values::{Octets, OutOfMemory, push_decimal, push_quoted};

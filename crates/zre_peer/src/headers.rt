@@ -1,4 +1,5 @@
-ghost use Rattle.std.specs.Prelude.{◌≡◌, ◌<◌, ◌≤◌, ℕ, List, [], ◌∷◌, ◌++◌, length, IfOk, OnOk, OnErr, map, nat_le, slice_get, Some};
+ghost use Rattle.std.specs.Prelude.{◌≡◌, ◌<◌, ◌≤◌, ℕ, List, [], ◌∷◌, ◌++◌, length, IfOk, OnOk, OnErr, map, nat_le};
+ghost use Rattle.std.specs.Prelude.{slice_get, Some};
 ghost use Rattle.zre_peer.specs.Members.{with_header};
 
 use indexmap::IndexMap;

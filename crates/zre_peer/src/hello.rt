@@ -1,6 +1,7 @@
 //! What a HELLO sets and tells.
 
-ghost use Rattle.std.specs.Prelude.{◌≡◌, ◌≢◌, ◌&&◌, ◌++◌, ◌∷◌, [], length, map, nat_le, IfOk, IfErr, OnOk, true, false, if◌then◌else◌};
+ghost use Rattle.std.specs.Prelude.{◌≡◌, ◌≢◌, ◌&&◌, ◌++◌, ◌∷◌, [], length, map, nat_le, IfOk, IfErr, OnOk, true};
+ghost use Rattle.std.specs.Prelude.{false, if◌then◌else◌};
 ghost use Rattle.zre_peer.specs.Members.{are_few, distinct, first_named};
 ghost use Rattle.zre_peer.specs.Runs.{is_hello};
 ghost use Rattle.zre_peer.specs.Views.{after, blank, is_small};

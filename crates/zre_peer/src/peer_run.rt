@@ -1,4 +1,5 @@
-ghost use Rattle.std.specs.Prelude.{ℕ, ◌+◌, ◌%◌, ◌≡◌, ◌≢◌, ◌++◌, [], ◌∷◌, List, Err, None, Some, true, false, IfOk, IfErr, OnOk, OnErr, is_some};
+ghost use Rattle.std.specs.Prelude.{ℕ, ◌+◌, ◌%◌, ◌≡◌, ◌≢◌, ◌++◌, [], ◌∷◌, List, Err, None, Some, true, false, IfOk};
+ghost use Rattle.std.specs.Prelude.{IfErr, OnOk, OnErr, is_some};
 ghost use Rattle.std.specs.Option.{ForSome};
 ghost use Rattle.zre_msg.specs.declared.message.Message.{Message};
 ghost use Rattle.zre_msg.specs.Lent.{message_of};

@@ -1,4 +1,5 @@
 pub mod Addresses
+pub mod Answered
 pub mod Digits
 pub mod Endpoints
 pub mod Orders

@@ -2,7 +2,8 @@
 
 ghost use Rattle.std.specs.Prelude.{◌≡◌, ◌<◌, ◌≤◌, ◌+◌, ◌++◌, flat_map, length, take, IfOk, OnOk};
 ghost use Rattle.std.specs.List.{list_all};
-ghost use Rattle.zre_values.specs.Text.{hex_digit, is_plain, quoted_octet, quoted, quoted_list, quoted_pair, quoted_pairs};
+ghost use Rattle.zre_values.specs.Text.{hex_digit, is_plain, quoted_octet, quoted, quoted_list, quoted_pair};
+ghost use Rattle.zre_values.specs.Text.{quoted_pairs};
 
 use crate::quoted_table::row_of;
 use crate::{Frames, Octets, OutOfMemory, Pairs};

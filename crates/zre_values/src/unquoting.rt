@@ -1,6 +1,7 @@
 //! Octets read back from their quoted text.
 
-ghost use Rattle.std.specs.Prelude.{◌≡◌, ℕ, ◌<◌, ◌^◌, [], ◌∷◌, ◌++◌, List, length, All, IfOk, IfSome, IsSomeAnd, IsTrue, ◌↔◌, Some, flat_map};
+ghost use Rattle.std.specs.Prelude.{◌≡◌, ℕ, ◌<◌, ◌^◌, [], ◌∷◌, ◌++◌, List, length, All, IfOk, IfSome, IsSomeAnd};
+ghost use Rattle.std.specs.Prelude.{IsTrue, ◌↔◌, Some, flat_map};
 ghost use Rattle.std.specs.List.{list_all};
 ghost use Rattle.zre_values.specs.Text.{hex_digit, is_plain, quoted_octet, quoted};
 

@@ -1,6 +1,5 @@
 -- How many looks a call takes that reads a piece of a stream.
 use Rattle.std.specs.Prelude.{ℕ, ◌+◌, ◌*◌, ◌≤◌, Result, OnOk, OnErr}
-use Rattle.zre_zmtp.specs.declared.fault.FeedFault.{FeedFault}
 
 -- The looks before and after, how many octets are kept before and after, and how many were read: looks and three times
 -- what is kept rise by at most four for each.
@@ -12,6 +11,6 @@ abbrev pub IsPaidOnRefusal : ℕ → ℕ → ℕ → ℕ → Type 0
 IsPaidOnRefusal looks looks' kept n = looks' ≤ looks + 3 * kept + 4 * n
 
 -- The one or the other, by what was answered.
-abbrev pub Looks : ℕ → ℕ → ℕ → ℕ → ℕ → Result (Unit {0}) FeedFault → Type 0
+abbrev pub Looks : {A E : Type 0} → ℕ → ℕ → ℕ → ℕ → ℕ → Result A E → Type 0
 Looks looks looks' kept kept' n result =
     OnOk result (IsPaid looks looks' kept kept' n) × OnErr result (IsPaidOnRefusal looks looks' kept n)

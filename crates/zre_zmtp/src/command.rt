@@ -1,11 +1,19 @@
 //! The bodies of commands (RFC 23, commands and the NULL mechanism).
 
-ghost use Rattle.std.specs.Prelude.{◌≡◌, ℕ, ◌+◌, true, false, if◌then◌else◌, take, drop, MatchOption, ◌≤◌, ◌<◌, length, IsTrue, slice_index, Some, None, codes, is_some, option_copied, option_map, option_and_then};
-ghost use Rattle.zre_zmtp.specs.Ready.{has_name as name_test, name as name_of, rest as rest_of, properties, value_of, ready_value as value_of_ready, socket_type as socket_type_of, identity as identity_of, is_name_octet as name_octet_test, has_value as value_test, value_len, has_property as property_test, property, after_property};
+ghost use Rattle.std.specs.Prelude.{◌≡◌, ℕ, ◌+◌, true, false, if◌then◌else◌, take, drop, MatchOption, ◌≤◌, ◌<◌};
+ghost use Rattle.std.specs.Prelude.{length, IsTrue, slice_index, Some, None, codes, is_some, option_copied};
+ghost use Rattle.std.specs.Prelude.{option_map, option_and_then};
+ghost use Rattle.zre_zmtp.specs.Ready.{has_name as name_test, name as name_of, rest as rest_of, properties};
+ghost use Rattle.zre_zmtp.specs.Ready.{value_of, ready_value as value_of_ready, socket_type as socket_type_of};
+ghost use Rattle.zre_zmtp.specs.Ready.{identity as identity_of, is_name_octet as name_octet_test};
+ghost use Rattle.zre_zmtp.specs.Ready.{has_value as value_test, value_len, has_property as property_test, property};
+ghost use Rattle.zre_zmtp.specs.Ready.{after_property};
 ghost use Rattle.std.specs.List.{list_all};
 ghost use Rattle.std.specs.Option.{option_or};
 ghost use Rattle.std.specs.Str.{str_eq_ignore_ascii_case};
-ghost use Rattle.zre_zmtp.specs.Stream.{command_fault as fault_of_command, has_socket as socket_test, has_identity as identity_test, is_value as value_is, is_other as other_test};
+ghost use Rattle.zre_zmtp.specs.Stream.{command_fault as fault_of_command, has_socket as socket_test};
+ghost use Rattle.zre_zmtp.specs.Stream.{has_identity as identity_test, is_value as value_is};
+ghost use Rattle.zre_zmtp.specs.Stream.{is_other as other_test};
 
 use crate::expected::Expected;
 use crate::fault::ZmtpWhy;

@@ -1,7 +1,8 @@
 //! The header of a frame: its flags and its size (RFC 23, framing).
 
 ghost use Rattle.std.specs.Prelude.{◌≡◌, ◌≤◌, length};
-ghost use Rattle.zre_zmtp.specs.Frame.{is_message as message_test, is_long as long_test, has_more as more_test, header_len as len_of_header, size, header_of};
+ghost use Rattle.zre_zmtp.specs.Frame.{is_message as message_test, is_long as long_test, has_more as more_test};
+ghost use Rattle.zre_zmtp.specs.Frame.{header_len as len_of_header, size, header_of};
 
 /// What a header says.
 #[derive(Clone, Copy, Debug, PartialEq, Eq)]

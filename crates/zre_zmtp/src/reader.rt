@@ -1,9 +1,11 @@
 //! A reader of a stream that comes in pieces.
 
-ghost use Rattle.std.specs.Prelude.{◌≡◌, ℕ, ◌+◌, ◌-◌, ◌^◌, ◌<◌, ◌≤◌, ◌↔◌, min, false, List, [], ◌++◌, length, OnOk, IfErr, IsErr, IsTrue};
+ghost use Rattle.std.specs.Prelude.{◌≡◌, ℕ, ◌+◌, ◌-◌, ◌^◌, ◌<◌, ◌≤◌, ◌↔◌, min, false, List, [], ◌++◌, length, OnOk};
+ghost use Rattle.std.specs.Prelude.{IfErr, IsErr, IsTrue};
 ghost use Rattle.std.specs.List.{concat};
 ghost use Rattle.zre_values.specs.declared.limits.TheConstants.{MESSAGE_OCTETS, COMMAND_OCTETS};
-ghost use Rattle.zre_zmtp.specs.Stream.{Want as WantValue, Any, Kind, Whole as whole_kind, Traffic as traffic_kind, fault, IsAtRest};
+ghost use Rattle.zre_zmtp.specs.Stream.{Want as WantValue, Any, Kind, Whole as whole_kind, Traffic as traffic_kind};
+ghost use Rattle.zre_zmtp.specs.Stream.{fault, IsAtRest};
 ghost use Rattle.zre_zmtp.specs.Shown.{before_of, left_of, held, Waits, Advances, RefusesAt};
 ghost use Rattle.zre_zmtp.specs.Reading.{Reads, Refuses, Adds, IsOver, kept};
 ghost use Rattle.zre_zmtp.specs.Looks.{Looks};

@@ -1,11 +1,15 @@
 //! The turns of a reader: each takes an octet of a greeting, an octet of a header, or octets of a body.
 
-ghost use Rattle.std.specs.Prelude.{◌≡◌, ℕ, ◌+◌, ◌≤◌, ◌<◌, ◌≢◌, List, [], ◌∷◌, ◌++◌, length, take, sum_by, IfOk, IfSome, OnOk, IfErr, OnErr, Some, None, option_map, option_copied, option_to_list, true};
+ghost use Rattle.std.specs.Prelude.{◌≡◌, ℕ, ◌+◌, ◌≤◌, ◌<◌, ◌≢◌, List, [], ◌∷◌, ◌++◌, length, take, sum_by, IfOk};
+ghost use Rattle.std.specs.Prelude.{IfSome, OnOk, IfErr, OnErr, Some, None, option_map, option_copied};
+ghost use Rattle.std.specs.Prelude.{option_to_list, true};
 ghost use Rattle.zre_zmtp.specs.Frame.{header_of, header_len as header_len_of};
 ghost use Rattle.zre_zmtp.specs.Ready.{name as name_of, socket_type as socket_type_of, identity as identity_of};
 ghost use Rattle.zre_zmtp.specs.Stream.{Want as WantValue, said as said_by, opened_by, body_fault, item as item_of};
 ghost use Rattle.zre_zmtp.specs.Run.{after as after_of};
-ghost use Rattle.zre_zmtp.specs.Shown.{before_of, left_of, held, frame_item, frame_after, header_fault, Waits, Advances, RefusesAt, BeginsFrame, is_content as is_content_of, room as room_of};
+ghost use Rattle.zre_zmtp.specs.Shown.{before_of, left_of, held, frame_item, frame_after, header_fault, Waits};
+ghost use Rattle.zre_zmtp.specs.Shown.{Advances, RefusesAt, BeginsFrame, is_content as is_content_of};
+ghost use Rattle.zre_zmtp.specs.Shown.{room as room_of};
 ghost use Rattle.zre_zmtp.specs.Reading.{Refuses};
 ghost use Rattle.zre_zmtp.specs.Looks.{Looks, IsPaid, IsPaidOnRefusal};
 

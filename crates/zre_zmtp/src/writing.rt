@@ -2,7 +2,8 @@
 
 ghost use Rattle.std.specs.Prelude.{◌≡◌, ◌≤◌, ◌<◌, ◌++◌, length, IfOk, OnOk};
 ghost use Rattle.zre_values.specs.Framing.{frame, frames as frames_of};
-ghost use Rattle.zre_zmtp.specs.Written.{own_greeting, socket_name, property_octets, identity_octets, ready_frame, pong_frame};
+ghost use Rattle.zre_zmtp.specs.Written.{own_greeting, socket_name, property_octets, identity_octets, ready_frame};
+ghost use Rattle.zre_zmtp.specs.Written.{pong_frame};
 
 use std::alloc::Global;
 use zre_values::{Frames, Octets, OutOfMemory, PeerId};

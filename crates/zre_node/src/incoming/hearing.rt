@@ -2,6 +2,7 @@
 
 ghost use Rattle.std.specs.Prelude.{◌≡◌, ℕ, List, [], ◌∷◌, ◌++◌, None, Some, IfOk, OnOk, true, length};
 ghost use Rattle.zre_values.specs.declared.peer_id.PeerId.{PeerId};
+ghost use Rattle.zre_zmtp.specs.Looks.{Looks};
 ghost use Rattle.zre_mailbox.specs.Conn.{conn_after, kept_of};
 ghost use Rattle.zre_mailbox.specs.Talk.{completed};
 ghost use Rattle.zre_outside.specs.declared.entry.Entry.{Entry};
@@ -12,7 +13,6 @@ ghost use Rattle.zre_journal.specs.Heard.{newly_completed};
 ghost use Rattle.zre_journal.specs.Held.{kept};
 ghost use Rattle.zre_journal.specs.Arrivals.{at_places};
 ghost use Rattle.zre_node.specs.Holding.{conn_row_octets};
-ghost use Rattle.zre_node.specs.Looks.{Looks};
 ghost use Rattle.zre_node.specs.Said.{said_in};
 ghost use Rattle.zre_node.specs.Stands.{Holds, is_quiet};
 

@@ -1,6 +1,7 @@
 //! Messages, and the runs of peers that they make.
 
-ghost use Rattle.std.specs.Prelude.{◌≡◌, ◌≢◌, List, ◌∷◌, [], ◌++◌, None, Some, OnOk, IfErr, OnErr, IfOk, IsSome, true, false, ℕ, if◌then◌else◌};
+ghost use Rattle.std.specs.Prelude.{◌≡◌, ◌≢◌, List, ◌∷◌, [], ◌++◌, None, Some, OnOk, IfErr, OnErr, IfOk, IsSome};
+ghost use Rattle.std.specs.Prelude.{true, false, ℕ, if◌then◌else◌};
 ghost use Rattle.zre_msg.specs.declared.message.Message.{Message as MessageValue};
 ghost use Rattle.zre_values.specs.declared.peer_id.PeerId.{PeerId as PeerIdValue};
 ghost use Rattle.zre_peer.specs.Views.{view_of};

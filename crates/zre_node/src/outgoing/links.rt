@@ -1,10 +1,12 @@
 //! Links stand, are answered, take what they were offered, and break.
 
-ghost use Rattle.std.specs.Prelude.{◌≡◌, ℕ, length, List, [], ◌∷◌, ◌++◌, true, false, None, OnOk, IfOk, IfSome, IsSome, if◌then◌else◌, nat_eq, ◌||◌};
+ghost use Rattle.std.specs.Prelude.{◌≡◌, ℕ, length, List, [], ◌∷◌, ◌++◌, true, false, None, OnOk, IfOk, IfSome};
+ghost use Rattle.std.specs.Prelude.{IsSome, if◌then◌else◌, nat_eq, ◌||◌};
 ghost use Rattle.std.specs.List.{list_any};
 ghost use Rattle.zre_values.specs.declared.peer_id.PeerId.{PeerId as PeerIdValue};
 ghost use Rattle.zre_outside.specs.declared.entry.Entry.{Entry as EntryValue};
 ghost use Rattle.zre_outside.specs.declared.entry.Input.TheVariants as given;
+ghost use Rattle.zre_zmtp.specs.Looks.{Looks};
 ghost use Rattle.zre_link.specs.Heard.{kept_of, reply_fault};
 ghost use Rattle.zre_link.specs.Link.{link_after, link_answering, slow_in};
 ghost use Rattle.zre_link.specs.Text.{Member};
@@ -16,7 +18,6 @@ ghost use Rattle.zre_journal.specs.Held.{kept};
 ghost use Rattle.zre_journal.specs.LinkEntries.{at_linked, at_reply, at_unlinked, at_took, cause_by_reply, end_by};
 ghost use Rattle.zre_node.specs.Journal.{Took};
 ghost use Rattle.zre_node.specs.Links.{is_about_link, Notes, IsReplied};
-ghost use Rattle.zre_node.specs.Looks.{Looks};
 ghost use Rattle.zre_node.specs.Stands.{Holds, Did};
 
 use crate::effects::Effects;

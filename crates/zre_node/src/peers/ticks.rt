@@ -9,7 +9,8 @@ ghost use Rattle.zre_journal.specs.Chronicle.{Mark, SendsBeacon, Closes, IsEvasi
 ghost use Rattle.zre_journal.specs.Ticks.{at_tick};
 ghost use Rattle.zre_node.specs.Journal.{Took};
 ghost use Rattle.zre_node.specs.Stands.{Holds, Did};
-ghost use Rattle.zre_node.specs.Ticks.{probes, IsEntered, AreEntered, AreIdle, numbers_of, row_silent, row_evasive, row_stale};
+ghost use Rattle.zre_node.specs.Ticks.{probes, IsEntered, AreEntered, AreIdle, numbers_of, row_silent, row_evasive};
+ghost use Rattle.zre_node.specs.Ticks.{row_stale};
 
 use crate::connection::Connection;
 use crate::effects::{Effects, name_of};

@@ -3,7 +3,7 @@ use Rattle.zre_values.specs.declared.peer_id.PeerId.{PeerId}
 use Rattle.zre_peer.specs.Runs.{events_of}
 use Rattle.zre_peer.specs.Views.{view_of}
 use Rattle.zre_node.proofs.Counting.{if_err}
-use Rattle.zre_node.proofs.Ending.{on_ok}
+use Rattle.zre_values.proofs.Answered.{on_ok}
 use Rattle.zre_node.proofs.incoming.runs.go_on.Goals as goal
 
 pub returns-clause-ok : goal.returns-clause-ok

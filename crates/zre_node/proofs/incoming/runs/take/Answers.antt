@@ -1,7 +1,7 @@
 use Rattle.std.proofs.Common.{Result, Ok, Err, refl}
 use Rattle.std.specs.Prelude.{IfErr}
 use Rattle.zre_node.proofs.Counting.{run_in}
-use Rattle.zre_node.proofs.Ending.{on_ok}
+use Rattle.zre_values.proofs.Answered.{on_ok}
 use Rattle.zre_node.proofs.incoming.runs.take.Goals as goal
 
 of_err : {T E : Type 0} {P Q : E → Type 0} (r : Result T E) → IfErr r P → ((e : E) → P e → Q e) → IfErr r Q

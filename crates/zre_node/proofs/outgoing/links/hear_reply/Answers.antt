@@ -18,7 +18,7 @@ pub returns-then-not-is_linked-clause-looks : goal.returns-then-not-is_linked-cl
 returns-then-not-is_linked-clause-looks over c = (omega arith, tt)
 
 pub returns-in-Ok-clause-looks : goal.returns-in-Ok-clause-looks
-returns-in-Ok-clause-looks over c = (c.in-Ok.ensures.looks, tt)
+returns-in-Ok-clause-looks over c = c.in-Ok.ensures.looks
 
 pub returns-in-Err-Zmtp-clause-looks : goal.returns-in-Err-Zmtp-clause-looks
 returns-in-Err-Zmtp-clause-looks over c = let p = rw c.in-Err-Zmtp.field-0-is at c.in-Err-Zmtp.ensures.paid in (p (λ q. cc), tt)
@@ -27,4 +27,4 @@ pub returns-in-Err-Slow-clause-looks : goal.returns-in-Err-Slow-clause-looks
 returns-in-Err-Slow-clause-looks over c = let p = rw c.in-Err-Slow.field-0-is at c.in-Err-Slow.ensures.paid in (p (λ q. cc), tt)
 
 pub returns-in-Err-OutOfMemory-clause-looks : goal.returns-in-Err-OutOfMemory-clause-looks
-returns-in-Err-OutOfMemory-clause-looks over c = (tt, c.in-Err-OutOfMemory.ensures.refused_looks)
+returns-in-Err-OutOfMemory-clause-looks over c = c.in-Err-OutOfMemory.ensures.looks

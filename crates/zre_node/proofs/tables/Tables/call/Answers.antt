@@ -4,7 +4,7 @@ use Rattle.zre_outside.specs.declared.act.Act.TheVariants as act
 use Rattle.zre_journal.specs.declared.config.Config.{Config}
 use Rattle.zre_journal.specs.Chronicle.{SendsBeacon}
 use Rattle.zre_node.specs.declared.effects.Effects.{Effects}
-use Rattle.zre_node.proofs.Ending.{on_ok}
+use Rattle.zre_values.proofs.Answered.{on_ok}
 use Rattle.zre_node.proofs.Many.{did_by}
 use Rattle.zre_node.proofs.Ticking.{holds_calls}
 use Rattle.zre_node.proofs.tables.Tables.call.Goals as goal

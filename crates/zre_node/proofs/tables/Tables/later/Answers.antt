@@ -7,7 +7,7 @@ use Rattle.zre_journal.specs.Peers.{counted, life}
 use Rattle.zre_journal.proofs.Kept.{run_known}
 use Rattle.zre_node.specs.Stands.{IsPeer, is_ping}
 use Rattle.zre_node.proofs.Counting.{its, some_counted, row_runs, counts, its_events, counted_did, counts_it, refused_by}
-use Rattle.zre_node.proofs.Ending.{on_ok}
+use Rattle.zre_values.proofs.Answered.{on_ok}
 use Rattle.zre_node.proofs.Many.{did_as, did_then}
 use Rattle.zre_node.proofs.Parting.{no_row, not_missing}
 use Rattle.zre_node.proofs.tables.Tables.later.Goals as goal

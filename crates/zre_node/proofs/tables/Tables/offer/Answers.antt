@@ -1,7 +1,7 @@
 use Rattle.std.proofs.Common.{List, ◌++◌, ap, ◌∙◌}
 use Rattle.zre_outside.specs.declared.act.Act.{Act}
 use Rattle.zre_journal.specs.Peers.{lives}
-use Rattle.zre_node.proofs.Ending.{on_ok}
+use Rattle.zre_values.proofs.Answered.{on_ok}
 use Rattle.zre_node.proofs.Offering.{among}
 use Rattle.zre_node.proofs.tables.Tables.offer.Goals as goal
 

@@ -2,7 +2,7 @@ use Rattle.std.proofs.Common.{[], ◌∷◌}
 use Rattle.zre_msg.specs.declared.message.Body.TheVariants as body
 use Rattle.zre_journal.specs.Chronicle.{IsEvasive}
 use Rattle.zre_journal.specs.Pushes.{push}
-use Rattle.zre_node.proofs.Ending.{on_ok}
+use Rattle.zre_values.proofs.Answered.{on_ok}
 use Rattle.zre_node.proofs.Many.{did_then}
 use Rattle.zre_node.proofs.tables.Tables.probe.Goals as goal
 

@@ -3,7 +3,7 @@ use Rattle.zre_journal.specs.Chronicle.{Puts}
 use Rattle.zre_journal.specs.Links.{line, is_linked, replies, taken}
 use Rattle.zre_journal.specs.Peers.{life}
 use Rattle.zre_node.specs.Stands.{IsPeer}
-use Rattle.zre_node.proofs.Ending.{on_ok}
+use Rattle.zre_values.proofs.Answered.{on_ok}
 use Rattle.zre_node.proofs.Many.{did_as}
 use Rattle.zre_node.proofs.Parting.{nearly, no_row, not_missing}
 use Rattle.zre_node.proofs.Pushing.{row_link, written_back, puts_it, fits, is_slow, put_did}

@@ -1,8 +1,9 @@
 use Rattle.std.proofs.Common.{◌≡◌, refl, sym, ap, ◌∙◌, subst}
 use Rattle.zre_outside.specs.declared.entry.Input.TheVariants as input
+use Rattle.zre_zmtp.specs.Looks.{Looks}
 use Rattle.zre_journal.specs.Happens.{with_entry}
 use Rattle.zre_journal.specs.Held.{kept}
-use Rattle.zre_node.specs.Looks.{Looks, octets_of}
+use Rattle.zre_node.specs.Brings.{octets_of}
 use Rattle.zre_node.proofs.Looking.{quiet_looks, quiet_other}
 use Rattle.zre_node.proofs.tables.Tables.take.Goals as goal
 

@@ -4,7 +4,7 @@ use Rattle.zre_journal.specs.Chronicle.{Comes}
 use Rattle.zre_journal.specs.Happens.{at_input}
 use Rattle.zre_node.specs.Kinds.{is_incoming}
 use Rattle.zre_node.specs.Stands.{Did}
-use Rattle.zre_node.proofs.Ending.{on_ok}
+use Rattle.zre_values.proofs.Answered.{on_ok}
 use Rattle.zre_node.proofs.Taking.{unnamed_incoming, took}
 use Rattle.zre_node.proofs.tables.Tables.take_incoming.Goals as goal
 

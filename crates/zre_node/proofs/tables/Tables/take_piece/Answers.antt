@@ -2,7 +2,7 @@ use Rattle.std.proofs.Common.{length, arith, ◌∷◌, sym, ◌∙◌}
 use Rattle.zre_journal.specs.Chronicle.{Comes}
 use Rattle.zre_journal.specs.Happens.{at_input, with_entry}
 use Rattle.zre_journal.specs.Held.{kept}
-use Rattle.zre_node.proofs.Ending.{on_ok}
+use Rattle.zre_values.proofs.Answered.{on_ok}
 use Rattle.zre_node.proofs.Looking.{less_looks, entry_lowers, err_looks}
 use Rattle.zre_node.proofs.Many.{did_as}
 use Rattle.zre_node.proofs.Taking.{piece_marks, unnamed_piece, took}

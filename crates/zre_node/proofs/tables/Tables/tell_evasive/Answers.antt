@@ -5,7 +5,7 @@ use Rattle.zre_journal.specs.Chronicle.{IsEvasive}
 use Rattle.zre_journal.specs.Peers.{life, counted}
 use Rattle.zre_node.specs.declared.effects.Effects.{Effects}
 use Rattle.zre_node.specs.Stands.{IsPeer}
-use Rattle.zre_node.proofs.Ending.{on_ok}
+use Rattle.zre_values.proofs.Answered.{on_ok}
 use Rattle.zre_node.proofs.Many.{did_by}
 use Rattle.zre_node.proofs.Parting.{no_row, not_missing}
 use Rattle.zre_node.proofs.Ticking.{has_run, holds_probes, wavers}

@@ -1,5 +1,5 @@
 use Rattle.std.proofs.Common.{◌∙◌}
-use Rattle.zre_node.proofs.Ending.{on_ok}
+use Rattle.zre_values.proofs.Answered.{on_ok}
 use Rattle.zre_node.proofs.Ticking.{silent_are, evasive_are, stale_are, expiring_known, expire, wavering_entered, probe_then, stale_idle, ticks}
 use Rattle.zre_node.proofs.tables.Tables.tick.Goals as goal
 
