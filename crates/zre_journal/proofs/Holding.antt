@@ -20,6 +20,7 @@ use Rattle.zre_journal.specs.Heard.{was_opened, bytes, piece_of}
 use Rattle.zre_journal.specs.Connections.{open_ones, is_live}
 use Rattle.zre_journal.specs.Peers.{Life, lives, life, is_entered, view}
 use Rattle.zre_journal.specs.Links.{groups, is_linked, replies, reply_of, unsent}
+use Rattle.zre_journal.specs.Introducing.{Introduces}
 use Rattle.zre_journal.specs.Held.{unfinished, header_octets, view_octets, conn_octets, reply_octets, peer_octets, own_octets, held, stream_most, view_most, own_most, Within, bound}
 use Rattle.zre_journal.specs.Happens.{has_stopped, at_input, with_entry, chronicle_after}
 use Rattle.zre_journal.specs.Commands.{at_stop}
@@ -28,10 +29,10 @@ use Rattle.zre_journal.specs.Proper.{IsProper}
 use Rattle.zre_journal.proofs.Always.{empty}
 use Rattle.zre_journal.proofs.Faultless.{names_conn, names_link, AreFaultless, faultless_after, bytes_stay, replies_stay, still_going, not_open, conn_ends, link_ends}
 use Rattle.zre_journal.proofs.Few.{are_few, kept-length}
-use Rattle.zre_journal.proofs.Introduction.{small, fitting}
+use Rattle.zre_journal.proofs.Introduction.{small, fitting, introduces}
 use Rattle.zre_journal.proofs.Known.{each_known}
 use Rattle.zre_journal.proofs.Listed.{All-map}
-use Rattle.zre_journal.proofs.Room.{HasRoom, AllFit, room-after, room-empty}
+use Rattle.zre_journal.proofs.Room.{HasRoom, AllFit, room-after, room-empty, can_introduce}
 use Rattle.zre_journal.proofs.Steps.{Allowed, steps}
 use Rattle.zre_journal.proofs.Stopping.{at_end, stopped, stop-is, none_known, none_open, room-stopped}
 use Rattle.zre_journal.proofs.Streams.{unfinished-most}
@@ -159,6 +160,10 @@ module _ (g : Config) (can : CanBe g) where
 
   pub answers-faultless : (journal : List Entry) (l : ℕ) → IsSome (life l (chronicle g journal)) → reply_fault (replies l (chronicle g journal)) ≡ None
   answers-faultless journal = (sound journal).answers
+
+  -- HELLO fits, whatever groups there are
+  pub introduced : (journal : List Entry) → Introduces g (chronicle g journal)
+  introduced journal = introduces g (chronicle g journal) (can_introduce g can (chronicle g journal) (sound journal).room)
 
   -- ---- the limits
 

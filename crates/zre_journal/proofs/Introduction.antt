@@ -8,7 +8,7 @@ use Rattle.std.proofs.lemmas.List.Concat.{flat_map-cons}
 use Rattle.std.proofs.lemmas.List.Elements.{All-from_recursion, All-weaker}
 use Rattle.std.proofs.lemmas.List.Sums.{AllPass-from_list_all}
 use Rattle.zre_values.specs.declared.peer_id.PeerId.{PeerId}
-use Rattle.zre_values.specs.declared.limits.TheConstants.{HEADERS, GROUP_OCTETS}
+use Rattle.zre_values.specs.declared.limits.TheConstants.{HEADERS, GROUP_OCTETS, OWN_GROUPS}
 use Rattle.zre_values.specs.Address.{IsAddress}
 use Rattle.zre_values.specs.Framing.{frame}
 use Rattle.zre_values.proofs.Endpoints.{endpoint_text-short}
@@ -25,7 +25,7 @@ use Rattle.zre_journal.specs.Config.{is_valid, own_endpoint}
 use Rattle.zre_values.specs.Settings.{is_fitting, are_apart}
 use Rattle.zre_journal.specs.Links.{groups, status}
 use Rattle.zre_journal.specs.Pushes.{hello}
-use Rattle.zre_journal.specs.Introducing.{CanIntroduce, Introduces}
+use Rattle.zre_journal.specs.Introducing.{Introduces}
 
 -- ---- frames
 short_by : (b : Bool) (flags : ℕ) (octets_ : List ℕ) → length (cond b (flags ∷ length octets_ ∷ octets_) (suc (suc flags) ∷ (to_be_bytes w64 (length octets_) ++ octets_))) ≤ length octets_ + 9
@@ -59,6 +59,15 @@ pairs-short (h ∷ hs) fit =
     omega (arith, pair-short h p.0, pairs-short hs p.1, ap (length {A = ℕ}) (flat_map-cons pair h hs), length-append (pair h) (flat_map pair hs))
 
 -- ---- settings
+-- the node is valid and has a place, and its groups are within the limits.
+pub record CanIntroduce (g : Config) (H : List Mark) : Type 0 where
+  pub valid : is_valid g ≡ true
+  pub sixteen : length g.id.0 ≡ 16
+  pub host_is : IsAddress g.host
+  pub port_fits : g.port < 2 ^ 16
+  pub groups_fit : AllByRecursion (λ group. length group ≤ GROUP_OCTETS) (groups H)
+  pub few_groups : length (groups H) ≤ OWN_GROUPS
+
 -- what valid settings say of HELLO
 pub record AreSmall (g : Config) : Type 0 where
   pub name : length g.name ≤ 255

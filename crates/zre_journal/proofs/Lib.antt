@@ -3,6 +3,7 @@ pub mod Always
 pub mod Brings
 pub mod Brought
 pub mod Cleaning
+pub mod Causes
 pub mod Closing
 pub mod Cutting
 pub mod Due
@@ -44,3 +45,5 @@ pub mod Ticks
 pub mod Truth
 pub mod Truthful
 pub mod Viewed
+pub mod Walk
+pub mod Windows

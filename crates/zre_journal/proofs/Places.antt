@@ -18,12 +18,14 @@ use Rattle.zre_journal.specs.Events.{chronicle}
 use Rattle.zre_journal.specs.Happens.{at_input, marks, with_entry, chronicle_after}
 use Rattle.zre_journal.specs.Heard.{bytes, was_opened, piece_of, newly_completed}
 use Rattle.zre_journal.specs.Hearing.{message_in, heard, heard_on}
-use Rattle.zre_journal.specs.Ledger.{Ledger, IsDrawn, Arrives, IsPlaced}
+use Rattle.zre_journal.specs.Ledger.{Ledger, IsDrawn, IsPlaced}
 use Rattle.zre_journal.specs.Peers.{runner, counted}
+use Rattle.zre_journal.specs.Places.{Arrives}
 use Rattle.zre_journal.specs.Proper.{IsProper}
 use Rattle.zre_journal.proofs.Always.{is_proper, after_marks}
 use Rattle.zre_journal.proofs.Brings.{all_brought}
 use Rattle.zre_journal.proofs.Brought.{Ground, allowed}
+use Rattle.zre_journal.proofs.Few.{AreNamed, named, named_more}
 use Rattle.zre_journal.proofs.Hearing.{spoken, Follows, places_follow}
 use Rattle.zre_journal.proofs.Joined.{continues, after-append, in_turn-append}
 use Rattle.zre_journal.proofs.Lawful.{IsTold, told_more, told_of}
@@ -32,7 +34,7 @@ use Rattle.zre_journal.proofs.Octets.{come, follows_octets}
 use Rattle.zre_journal.proofs.Says.{places_outcome}
 use Rattle.zre_journal.proofs.Sayings.{MaySay, newly_fine}
 use Rattle.zre_journal.proofs.Silent.{Comes-proper, has_started, run_is}
-use Rattle.zre_journal.proofs.Steps.{Allowed}
+use Rattle.zre_journal.proofs.Steps.{Allowed, step}
 
 -- ---- lists that only grow
 
@@ -68,9 +70,20 @@ All-front : {A : Type 0} (P : A → Type 0) (xs ys : List A) → AllByRecursion 
 All-front P [] ys a = tt
 All-front P (x ∷ xs) ys a = (a.0, All-front P xs ys a.1)
 
+All-next : {A : Type 0} (P : A → Type 0) (xs : List A) (y : A) (ys : List A) → AllByRecursion P (xs ++ y ∷ ys) → P y
+All-next P [] y ys a = a.0
+All-next P (x ∷ xs) y ys a = All-next P xs y ys a.1
+
 -- ---- at its place
 
-module _ (g : Config) (J : List Entry) (c : ℕ) (m : Message) (K : List Mark) (a : Arrives g J c m K) where
+-- what is so of the moment at which something is said
+pub record IsMoment (g : Config) (one : Said) (K : List Mark) : Type 0 where
+  pub may : MaySay g.id one
+  pub proper : IsProper K
+  pub told : IsTold K
+  pub named : AreNamed K
+
+module _ (g : Config) (J : List Entry) (c : ℕ) (one : Said) (K : List Mark) (a : Arrives g J c one K) where
   abbrev H : List Mark
   H = chronicle g a.earlier
 
@@ -87,11 +100,14 @@ module _ (g : Config) (J : List Entry) (c : ℕ) (m : Message) (K : List Mark) (
   all : talk g.id (bytes c M) ≡ before ++ newly_completed g.id c H M
   all = (goes g.id (bytes c H) (cond (was_opened c H) (piece_of c a.entry.input) [])).said
 
-  whole : talk g.id (bytes c M) ≡ (before ++ a.said) ++ Arrived (arrival.Message m) ∷ a.more
-  whole = all ∙ ap (λ xs. before ++ xs) a.completes ∙ sym (append_assoc before a.said (Arrived (arrival.Message m) ∷ a.more))
+  whole : talk g.id (bytes c M) ≡ (before ++ a.said) ++ one ∷ a.more
+  whole = all ∙ ap (λ xs. before ++ xs) a.completes ∙ sym (append_assoc before a.said (one ∷ a.more))
+
+  all_fine : AllByRecursion (MaySay g.id) (a.said ++ one ∷ a.more)
+  all_fine = subst (AllByRecursion (MaySay g.id)) a.completes (newly_fine g.id c H M)
 
   fine : AllByRecursion (MaySay g.id) a.said
-  fine = All-front (MaySay g.id) a.said (Arrived (arrival.Message m) ∷ a.more) (subst (AllByRecursion (MaySay g.id)) a.completes (newly_fine g.id c H M))
+  fine = All-front (MaySay g.id) a.said (one ∷ a.more) all_fine
 
   abbrev hs : List Mark
   hs = at_places g c a.said M
@@ -108,18 +124,26 @@ module _ (g : Config) (J : List Entry) (c : ℕ) (m : Message) (K : List Mark) (
   told : IsTold K
   told = subst IsTold (sym a.moment) both.1
 
+  names : AreNamed K
+  names = subst AreNamed (sym a.moment) (after_marks g AreNamed (λ h H p m o. named_more h H p m (step h H p m) o) hs M may q (λ l v e. named g a.earlier l v e)).1
+
   follows : Follows c (before ++ a.said) K
   follows = subst (Follows c (before ++ a.said)) (sym a.moment)
       (places_follow g c a.said before M fine
-      (λ n ys zs z. spoken g.id (bytes c M) ys (zs ++ Arrived (arrival.Message m) ∷ a.more) n
-      (whole ∙ ap (λ xs. xs ++ Arrived (arrival.Message m) ∷ a.more) z ∙ append_assoc ys (Arrived (arrival.Message n) ∷ zs) (Arrived (arrival.Message m) ∷ a.more)))
+      (λ n ys zs z. spoken g.id (bytes c M) ys (zs ++ one ∷ a.more) n
+      (whole ∙ ap (λ xs. xs ++ one ∷ a.more) z ∙ append_assoc ys (Arrived (arrival.Message n) ∷ zs) (one ∷ a.more)))
       q (come g c before a.entry H (follows_octets g a.earlier c)))
 
   -- what the journal makes of the rest
   joined : chronicle g J ≡ chronicle_after g a.later (with_entry g a.entry H)
-  joined = ap (chronicle g) a.in_journal ∙ (continues g a.earlier (a.entry ∷ a.later)).happened
+  joined = ap (chronicle g) a.is_entry.in_journal ∙ (continues g a.earlier (a.entry ∷ a.later)).happened
 
-  module _ (l : ℕ) (run : runs c K ≡ Some l) where
+  pub its_moment : IsMoment g one K
+  its_moment = record { may = All-next (MaySay g.id) a.said one a.more all_fine; proper = proper; told = told; named = names }
+
+  -- ---- a message on a connection that runs a peer
+
+  module _ (m : Message) (is : one ≡ Arrived (arrival.Message m)) (l : ℕ) (run : runs c K ≡ Some l) where
     is_run : runner l K ≡ Some c
     is_run = run_is K proper c l run
 
@@ -139,18 +163,18 @@ module _ (g : Config) (J : List Entry) (c : ℕ) (m : Message) (K : List Mark) (
     abbrev rest : List Mark
     rest = at_places g c a.more (after its_marks K)
 
-    here : at_place g c (Arrived (arrival.Message m)) K ≡ its_marks
-    here = ap (λ b. cond b (at_said g c (Arrived (arrival.Message m)) K) []) live
+    here : at_place g c one K ≡ its_marks
+    here = ap (λ s. at_place g c s K) is ∙ ap (λ b. cond b (at_said g c (Arrived (arrival.Message m)) K) []) live
 
     entry_is : with_entry g a.entry H ≡ after rest (after its_marks K)
     entry_is =
-        ap (λ b. after (cond b [] (at_input g a.entry.input H M)) M) a.going
+        ap (λ b. after (cond b [] (at_input g a.entry.input H M)) M) a.is_entry.going
         ∙ ap (λ i. after (at_input g i H M) M) a.is_piece
         ∙ ap (λ xs. after (at_places g c xs M) M) a.completes
-        ∙ ap (λ ks. after ks M) (in_turn-append (at_place g c) a.said (Arrived (arrival.Message m) ∷ a.more) M)
-        ∙ after-append hs (at_places g c (Arrived (arrival.Message m) ∷ a.more) (after hs M)) M
-        ∙ ap (λ X. after (at_places g c (Arrived (arrival.Message m) ∷ a.more) X) X) (sym a.moment)
-        ∙ after-append (at_place g c (Arrived (arrival.Message m)) K) (at_places g c a.more (after (at_place g c (Arrived (arrival.Message m)) K) K)) K
+        ∙ ap (λ ks. after ks M) (in_turn-append (at_place g c) a.said (one ∷ a.more) M)
+        ∙ after-append hs (at_places g c (one ∷ a.more) (after hs M)) M
+        ∙ ap (λ X. after (at_places g c (one ∷ a.more) X) X) (sym a.moment)
+        ∙ after-append (at_place g c one K) (at_places g c a.more (after (at_place g c one K) K)) K
         ∙ ap (λ ks. after (at_places g c a.more (after ks K)) (after ks K)) here
 
     goes_on : (newer : List Mark) × (chronicle g J ≡ newer ++ after its_marks K)
@@ -170,7 +194,8 @@ module _ (g : Config) (J : List Entry) (c : ℕ) (m : Message) (K : List Mark) (
           heard a.more ++ heard said,
           ap (λ o. heard (talk g.id o)) octets ∙ ap heard ((goes g.id (bytes c M) b.0).said) ∙ filter_map-append message_in (talk g.id (bytes c M)) said
               ∙ ap (λ xs. heard xs ++ heard said) whole
-              ∙ ap (λ xs. xs ++ heard said) (filter_map-append message_in (before ++ a.said) (Arrived (arrival.Message m) ∷ a.more))
+              ∙ ap (λ xs. xs ++ heard said) (filter_map-append message_in (before ++ a.said) (one ∷ a.more))
+              ∙ ap (λ s. (heard (before ++ a.said) ++ heard (s ∷ a.more)) ++ heard said) is
               ∙ append_assoc (heard (before ++ a.said)) (m ∷ heard a.more) (heard said)
               ∙ ap (λ xs. xs ++ m ∷ (heard a.more ++ heard said)) (sym counts),
         )

@@ -20,9 +20,8 @@ use Rattle.zre_journal.specs.Connections.{refuses}
 use Rattle.zre_journal.specs.Peers.{counted, view}
 use Rattle.zre_journal.specs.Links.{groups, line, taken, unsent}
 use Rattle.zre_journal.specs.Proper.{IsProper}
-use Rattle.zre_journal.specs.Introducing.{CanIntroduce}
 use Rattle.zre_journal.proofs.Fields.{hello_octets}
-use Rattle.zre_journal.proofs.Introduction.{new-short}
+use Rattle.zre_journal.proofs.Introduction.{CanIntroduce, new-short}
 use Rattle.zre_journal.proofs.Listed.{All-append, All-without}
 use Rattle.zre_journal.proofs.Steps.{May, Allowed, step, Each}
 use Rattle.zre_journal.proofs.Viewed.{IsShortView, blank-short, first-short, later-short}

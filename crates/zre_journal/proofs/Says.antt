@@ -45,7 +45,7 @@ use Rattle.zre_journal.proofs.Brings.{push_brought, run_and, tick_brought, Outco
 use Rattle.zre_journal.proofs.Sayings.{MaySay, newly_fine}
 
 -- one that runs no peer and isn't ignored was not refused, and has started none
-unused : (c : ℕ) (H : List Mark) → is_ignored c H ≡ false → runs c H ≡ None → (ever (refuses c) H ≡ false) × (started c H ≡ None)
+pub unused : (c : ℕ) (H : List Mark) → is_ignored c H ≡ false → runs c H ≡ None → (ever (refuses c) H ≡ false) × (started c H ≡ None)
 unused c H i r = let u : was_used c H ≡ false = subst (λ (o : Option ℕ). (is_none o && was_used c H) ≡ false) r i in by (ever (refuses c) H) (started c H) u
   where
     by : (b : Bool) (o : Option ℕ) → (b || is_some o) ≡ false → (b ≡ false) × (o ≡ None)

@@ -11,18 +11,16 @@ use Rattle.zre_peer.specs.Runs.{told}
 use Rattle.zre_peer.specs.Views.{view_of, is_small}
 use Rattle.zre_journal.specs.declared.config.Config.{Config}
 use Rattle.zre_outside.specs.declared.entry.Entry.{Entry}
-use Rattle.zre_outside.specs.declared.entry.Input.TheVariants.{Piece}
 use Rattle.zre_mailbox.specs.declared.arrival.Arrival.TheVariants as arrival
-use Rattle.zre_mailbox.specs.Talk.{Said, Arrived}
-use Rattle.zre_journal.specs.Arrivals.{answer_to, at_message, at_places}
-use Rattle.zre_journal.specs.Chronicle.{Mark, Comes, Counts, Ends, after}
-use Rattle.zre_journal.specs.Events.{chronicle}
-use Rattle.zre_journal.specs.Happens.{has_stopped}
-use Rattle.zre_journal.specs.Heard.{newly_completed}
+use Rattle.zre_mailbox.specs.Talk.{Arrived}
+use Rattle.zre_journal.specs.Arrivals.{answer_to, at_message}
+use Rattle.zre_journal.specs.Chronicle.{Mark, Counts, Ends, after}
+use Rattle.zre_journal.specs.Events.{chronicle, events}
 use Rattle.zre_journal.specs.Connections.{runs}
 use Rattle.zre_journal.specs.Hearing.{heard_on}
 use Rattle.zre_journal.specs.Laws.{counted_on}
 use Rattle.zre_journal.specs.Peers.{Life, life, runner, counted, view}
+use Rattle.zre_journal.specs.Places.{Arrives}
 use Rattle.zre_journal.specs.Spoken.{run_of}
 
 -- for each connection the list that is sent on it, and the places in it of the messages that come, counted from 1
@@ -70,21 +68,11 @@ pub record IsJudged (g : Config) (c l pick : ℕ) (m : Message) (K : List Mark) 
 
 -- ---- where messages come
 
--- The message m comes on c in the journal J: an entry that comes before a stop brings octets of c, with which m is
--- whole, and K is the chronicle after all that they said before it.
-pub record Arrives (g : Config) (J : List Entry) (c : ℕ) (m : Message) (K : List Mark) : Type 0 where
-  pub earlier : List Entry
-  pub entry : Entry
-  pub later : List Entry
-  pub in_journal : J ≡ earlier ++ entry ∷ later
-  pub going : has_stopped (chronicle g earlier) ≡ false
-  pub octets : List ℕ
-  pub is_piece : entry.input ≡ Piece c octets
-  pub said : List Said
-  pub more : List Said
-  pub completes : newly_completed g.id c (chronicle g earlier) (Comes entry ∷ chronicle g earlier)
-      ≡ said ++ Arrived (arrival.Message m) ∷ more
-  pub moment : K ≡ after (at_places g c said (Comes entry ∷ chronicle g earlier)) (Comes entry ∷ chronicle g earlier)
+-- each message that comes on a connection that runs a peer comes fewer than 65536 places from the one due
+abbrev pub IsNearWhereItComes : Config → Ledger → List Entry → Type 0
+IsNearWhereItComes g b J =
+    (c l pick : ℕ) (m : Message) (K : List Mark) → Arrives g J c (Arrived (arrival.Message m)) K → runs c K ≡ Some l
+    → slice_get (b.picks c) (length (counted l K)) ≡ Some pick → IsNear (length (counted l K)) pick
 
 -- Where c runs the peer of link l then, m is the message at the place that the ledger has for it, it is judged by that
 -- place, and the chronicle of J goes on with what comes of it.
@@ -95,3 +83,12 @@ pub record IsPlaced (g : Config) (b : Ledger) (J : List Entry) (c l : ℕ) (m : 
   pub is_judged : IsNear (length (counted l K)) pick → IsJudged g c l pick m K
   pub newer : List Mark
   pub goes_on : chronicle g J ≡ newer ++ after (at_message g c (runs c K) m K) K
+
+-- A journal keeps its ledgers: where its messages are drawn from them, each fewer than 65536 places from the one due,
+-- what was counted is the beginning of what was sent, and each message that comes is judged by its place.
+abbrev pub KeepsLedgers : Config → List Entry → Type 0
+KeepsLedgers g J =
+    (b : Ledger) → IsDrawn g b (chronicle g J) → IsNearWhereItComes g b J
+    → KeepsLedger b (events g J) (chronicle g J)
+    × ((c l : ℕ) (m : Message) (K : List Mark) → Arrives g J c (Arrived (arrival.Message m)) K → runs c K ≡ Some l
+    → IsPlaced g b J c l m K)

@@ -1,5 +1,6 @@
 pub mod Arrivals
 pub mod Asked
+pub mod Causes
 pub mod Chronicle
 pub mod Cleaning
 pub mod Closing
@@ -21,6 +22,7 @@ pub mod Ledger
 pub mod LinkEntries
 pub mod Links
 pub mod Peers
+pub mod Places
 pub mod Proper
 pub mod Pushes
 pub mod Spoken

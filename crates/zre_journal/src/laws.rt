@@ -7,19 +7,24 @@ ghost use Rattle.zre_outside.specs.declared.entry.Input.TheVariants.{Tick};
 ghost use Rattle.zre_journal.specs.Endings.{is_end};
 ghost use Rattle.zre_journal.specs.declared.config.Config.{Config};
 ghost use Rattle.zre_journal.specs.Asked.{AreDue};
+ghost use Rattle.zre_journal.specs.Causes.{EndsByTable};
 ghost use Rattle.zre_journal.specs.Chronicle.{Mark};
 ghost use Rattle.zre_journal.specs.Events.{acts, acts_after, chronicle, events};
 ghost use Rattle.zre_journal.specs.Asked.{held_after, bound_after};
 ghost use Rattle.zre_journal.specs.Config.{CanBe, is_valid};
 ghost use Rattle.zre_journal.specs.Held.{Within};
-ghost use Rattle.zre_journal.specs.Introducing.{CanIntroduce, Introduces};
+ghost use Rattle.zre_journal.specs.Introducing.{Introduces};
 ghost use Rattle.zre_journal.specs.Happens.{has_stopped};
 ghost use Rattle.zre_journal.specs.Closing.{LeavesNothing, ArePaired, IsNoPeer};
+ghost use Rattle.zre_mailbox.specs.declared.arrival.Arrival.TheVariants as arrival;
+ghost use Rattle.zre_mailbox.specs.Talk.{Arrived};
 ghost use Rattle.zre_msg.specs.declared.message.Message.{Message};
 ghost use Rattle.zre_peer.specs.Ledger.{IsNumbered, IsPicked, IsNear};
 ghost use Rattle.zre_journal.specs.Connections.{runs};
 ghost use Rattle.zre_journal.specs.Keeping.{Keeps};
-ghost use Rattle.zre_journal.specs.Ledger.{Arrives, Ledger, IsDrawn, IsPlaced, IsWithinWindow, KeepsLedger, IsJudged};
+ghost use Rattle.zre_journal.specs.Ledger.{Ledger, IsDrawn, IsPlaced, IsWithinWindow, KeepsLedger, IsJudged};
+ghost use Rattle.zre_journal.specs.Ledger.{IsNearWhereItComes, KeepsLedgers};
+ghost use Rattle.zre_journal.specs.Places.{Arrives};
 ghost use Rattle.zre_journal.specs.Peers.{counted};
 ghost use Rattle.zre_journal.specs.Standing.{KnownIsBorn, OpenIsOpened};
 ghost use Rattle.zre_journal.specs.Laws.{Continues, HasEnded, RunsAlone, AreStrangers, AreFew, EndsOnce};
@@ -80,6 +85,12 @@ pub fn events_follow_messages()
     ensures { (g : Config) (J : List Entry) → FollowsMessages (events g J) (chronicle g J) }
 {}
 
+/// A known peer ends at a place of the journal exactly where the table of causes has a cause for it there, with that
+/// cause: no two hold at one place.
+pub fn peers_end_by_the_table_of_causes()
+    ensures { (g : Config) (J : List Entry) → EndsByTable g J }
+{}
+
 /// A peer ends at most once, so with one cause, and isn't known from then on.
 pub fn a_peer_ends_once()
     ensures { (g : Config) (J : List Entry) → EndsOnce (chronicle g J) }
@@ -92,10 +103,10 @@ pub fn views_follow_messages()
     ensures { (g : Config) (J : List Entry) → ShowsItsMessages (chronicle g J) }
 {}
 
-/// HELLO of a valid node in up to 1,024 groups of up to 255 octets each fits: it has a spelling, within the limit of a
-/// message, and no new link is slow with it.
+/// HELLO fits at any time: it has a spelling, within the limit of a message, and no new link is slow with it, whatever
+/// groups the node has joined.
 pub fn hello_fits()
-    ensures { (g : Config) (H : List Mark) → CanIntroduce g H → Introduces g H }
+    ensures { (g : Config) (J : List Entry) → CanBe g → Introduces g (chronicle g J) }
 {}
 
 /// Where a link is to be looked at, its peer is known and it has octets that may go out.
@@ -186,9 +197,22 @@ pub fn a_gap_shows_at_once()
         → IsJudged g c l pick m K }
 {}
 
+/// Messages that come near the one due are counted near it: where each that comes on a connection that runs a peer lies
+/// fewer than 65,536 places from the one due, so did each that was counted after the first.
+pub fn what_comes_near_is_counted_near()
+    ensures { (g : Config) (J : List Entry) (b : Ledger) → IsDrawn g b (chronicle g J) → IsNearWhereItComes g b J
+        → IsWithinWindow b (chronicle g J) }
+{}
+
+/// Every journal keeps its ledgers: the laws before, of all ledgers, in one.
+pub fn ledgers_are_kept()
+    ensures { (g : Config) (J : List Entry) → KeepsLedgers g J }
+{}
+
 /// Where the messages of a journal are drawn from ledgers, each message that comes on a connection that runs a peer is
 /// judged so by its place: m comes there at the moment K, and what comes of it is what the chronicle has next.
 pub fn each_message_is_judged_by_its_place()
     ensures { (g : Config) (b : Ledger) (J : List Entry) (c l : ℕ) (m : Message) (K : List Mark)
-        → IsDrawn g b (chronicle g J) → Arrives g J c m K → runs c K ≡ Some l → IsPlaced g b J c l m K }
+        → IsDrawn g b (chronicle g J) → Arrives g J c (Arrived (arrival.Message m)) K → runs c K ≡ Some l
+        → IsPlaced g b J c l m K }
 {}

@@ -13,7 +13,8 @@ pub use laws::{
     a_stop_leaves_nothing, a_tick_cleans_up, acts_pair_up, any_cut,
     each_message_is_judged_by_its_place, events_follow_messages, events_of_a_peer_are_in_turn,
     hello_fits, identities_are_apart, journals_are_proper, journals_continue,
-    known_is_born_and_not_ended, offers_are_due, open_is_opened_and_not_closed,
-    peers_and_connections_are_few, the_chronicle_keeps_the_journal, the_node_is_no_peer,
-    views_follow_messages, what_is_held_is_bounded,
+    known_is_born_and_not_ended, ledgers_are_kept, offers_are_due, open_is_opened_and_not_closed,
+    peers_and_connections_are_few, peers_end_by_the_table_of_causes,
+    the_chronicle_keeps_the_journal, the_node_is_no_peer, views_follow_messages,
+    what_comes_near_is_counted_near, what_is_held_is_bounded,
 };

@@ -1,5 +1,5 @@
-use Rattle.zre_journal.proofs.Introduction.{introduces}
+use Rattle.zre_journal.proofs.Holding.{introduced}
 use Rattle.zre_journal.proofs.laws.hello_fits.Goals as goal
 
 pub returns : goal.returns
-returns c = λ g H can. introduces g H can
+returns c = λ g J can. introduced g can J

@@ -1,0 +1,251 @@
+-- Messages that come near the one due are counted near it.
+use Rattle.std.proofs.Common.{◌≡◌, ℕ, zero, suc, ◌+◌, ◌<◌, Bool, true, false, cond, not, ◌&&◌, eqb, ltb, List, [], ◌∷◌, ◌++◌, length, take, Option, Some, None, refl, sym, ap, ◌∙◌, arith, subst, ne_eqb, eq-eqb, eqb-true}
+use Rattle.std.specs.Prelude.{slice_get}
+use Rattle.std.specs.List.{AllByRecursion}
+use Rattle.std.proofs.lemmas.Bool.{and_parts}
+use Rattle.std.proofs.lemmas.List.{length-append}
+use Rattle.zre_values.specs.declared.peer_id.PeerId.{PeerId}
+use Rattle.zre_values.specs.declared.endpoint.Endpoint.{Endpoint}
+use Rattle.zre_values.specs.declared.limits.TheConstants.{PEERS, CONNECTIONS, UNSENT_OCTETS}
+use Rattle.zre_values.specs.Endpoint.{endpoint_in}
+use Rattle.zre_outside.specs.declared.entry.Entry.{Entry}
+use Rattle.zre_outside.specs.declared.entry.Input.{Input}
+use Rattle.zre_outside.specs.declared.entry.Input.TheVariants as input
+use Rattle.zre_mailbox.specs.declared.arrival.Arrival.TheVariants as arrival
+use Rattle.zre_mailbox.specs.Talk.{Said, Arrived, Fault}
+use Rattle.zre_msg.specs.declared.message.Body.{Body}
+use Rattle.zre_msg.specs.declared.message.Body.TheVariants as body
+use Rattle.zre_msg.specs.declared.message.Message.{Message}
+use Rattle.zre_link.specs.Text.{size_of}
+use Rattle.zre_peer.specs.Ledger.{IsNear, AreNear}
+use Rattle.zre_peer.specs.Runs.{is_hello, due}
+use Rattle.zre_peer.specs.Views.{view_of, is_small}
+use Rattle.zre_peer.specs.declared.causes.Cause.{Cause}
+use Rattle.zre_peer.specs.declared.causes.Cause.TheVariants as cause
+use Rattle.zre_peer.specs.declared.causes.IgnoreWhy.{IgnoreWhy}
+use Rattle.zre_peer.specs.declared.causes.IgnoreWhy.TheVariants as ignore
+use Rattle.zre_journal.specs.declared.config.Config.{Config}
+use Rattle.zre_journal.specs.Arrivals.{at_opened, end_of_run, taken_over, start_unknown, start, at_first, answer_to, at_later, at_message, at_shaken, at_said, at_place}
+use Rattle.zre_journal.specs.Chronicle.{Mark, Comes, Starts, Counts, Ignores, Ends, after, followed}
+use Rattle.zre_journal.specs.Connections.{open_ones, is_open, is_new, identity, started, runs, is_ignored, is_live, other_with}
+use Rattle.zre_journal.specs.Events.{chronicle}
+use Rattle.zre_journal.specs.Happens.{at_input}
+use Rattle.zre_journal.specs.Laws.{counted_on}
+use Rattle.zre_journal.specs.Ledger.{Ledger, IsDrawn, IsNearWhereItComes, IsWithinWindow, KeepsLedgers}
+use Rattle.zre_journal.specs.Links.{line, unsent}
+use Rattle.zre_journal.specs.Peers.{Life, lives, life_of, births, counted}
+use Rattle.zre_journal.specs.Places.{is_piece, IsEntry, Arrives}
+use Rattle.zre_journal.specs.Pushes.{push, birth}
+use Rattle.zre_journal.proofs.Always.{is_proper}
+use Rattle.zre_journal.proofs.Brings.{all_brought}
+use Rattle.zre_journal.proofs.Brought.{Ground, quiet}
+use Rattle.zre_journal.proofs.Idle.{not_true}
+use Rattle.zre_journal.proofs.Ledgers.{keeps_ledger}
+use Rattle.zre_journal.proofs.Places.{IsMoment, its_moment, is_placed}
+use Rattle.zre_journal.proofs.Quiet.{Quiet, AreQuiet, is_of}
+use Rattle.zre_journal.proofs.Says.{unused, place_outcome, input_quiet}
+use Rattle.zre_journal.proofs.Silent.{Comes-proper, run_is}
+use Rattle.zre_journal.proofs.Steps.{choice}
+use Rattle.zre_journal.proofs.Walk.{walk}
+
+-- ---- marks that count nothing on a connection
+
+quiet_same : (d : ℕ) (hs K : List Mark) → AreQuiet d hs → counted_on d (after hs K) ≡ counted_on d K
+quiet_same d [] K q = refl
+quiet_same d (h ∷ hs) K q = quiet_same d hs (h ∷ K) q.1 ∙ one h q.0
+  where
+    one : (h : Mark) → Quiet d h → counted_on d (h ∷ K) ≡ counted_on d K
+    one (Comes e) z = absurd z
+    one (Starts c l m) z = ap (λ b. followed (counted_on d K) (cond b (Some m) None)) z
+    one (Counts c l m) z = ap (λ b. followed (counted_on d K) (cond b (Some m) None)) z
+    one _ z = refl
+
+-- marks that count nothing at all
+abbrev Mute : Mark → Type 0
+Mute (Starts c l m) = ⊥
+Mute (Counts c l m) = ⊥
+Mute _ = Unit {0}
+
+abbrev AreMute : List Mark → Type 0
+AreMute hs = AllByRecursion Mute hs
+
+mute_same : (d : ℕ) (hs K : List Mark) → AreMute hs → counted_on d (after hs K) ≡ counted_on d K
+mute_same d [] K q = refl
+mute_same d (h ∷ hs) K q = mute_same d hs (h ∷ K) q.1 ∙ one h q.0
+  where
+    one : (h : Mark) → Mute h → counted_on d (h ∷ K) ≡ counted_on d K
+    one (Starts c l m) z = absurd z
+    one (Counts c l m) z = absurd z
+    one _ z = refl
+
+mute_and : (hs ks : List Mark) → AreMute hs → AreMute ks → AreMute (hs ++ ks)
+mute_and [] ks a b = b
+mute_and (h ∷ hs) ks a b = (a.0, mute_and hs ks a.1 b)
+
+module _ (g : Config) (K : List Mark) where
+  mute_end : (o : Option ℕ) (why : Cause) → AreMute (end_of_run g o why)
+  mute_end None why = tt
+  mute_end (Some l) why = (tt, tt)
+
+  mute_taken : (o : Option ℕ) → AreMute (taken_over g o K)
+  mute_taken None = tt
+  mute_taken (Some d) = mute_and (end_of_run g (runs d K) cause.Taken) _ (mute_end (runs d K) cause.Taken) (tt, tt)
+
+  mute_push : (l : ℕ) (b : Body) → AreMute (push g l b K)
+  mute_push l b = choice AreMute (ltb UNSENT_OCTETS (unsent g l K + size_of (line l K) b)) _ _ (λ z. (tt, tt)) (λ z. (tt, tt))
+
+  mute_answer : (l : ℕ) (b : Body) → AreMute (answer_to g l b K)
+  mute_answer l body.Ping = mute_push l body.PingOk
+  mute_answer l _ = tt
+
+  mute_shaken : (c : ℕ) (p : PeerId) (o : Option PeerId) → AreMute (at_shaken g c p o K)
+  mute_shaken c p None = mute_and (taken_over g (other_with p c K) K) _ (mute_taken (other_with p c K)) (tt, tt)
+  mute_shaken c p (Some q) = tt
+
+  mute_opened : (c : ℕ) → AreMute (at_opened g c K)
+  mute_opened c = choice AreMute (is_new c K) _ _ (λ z. choice AreMute (ltb (length (open_ones K)) CONNECTIONS) _ _ (λ y. (tt, tt)) (λ y. (tt, tt))) (λ z. tt)
+
+-- ---- near
+
+near_one : (picks : List ℕ) → AreNear 0 (take 1 picks)
+near_one [] = tt
+near_one (p ∷ picks) = ((λ z. absurd (omega (arith, z))), tt)
+
+near_more : (picks : List ℕ) (i n pick : ℕ) → AreNear i (take n picks) → slice_get picks n ≡ Some pick → IsNear (i + n) pick → AreNear i (take (suc n) picks)
+near_more [] i n pick a s near = tt
+near_more (p ∷ picks) i zero pick a s near =
+    let z : p ≡ pick = cc in
+    let none : i + zero ≡ i = omega arith in
+    ((λ some. subst (IsNear i) (sym z) (subst (λ k. IsNear k pick) none near)), tt)
+near_more (p ∷ picks) i (suc n) pick a s near = (a.0, near_more picks (i + 1) n pick a.1 s (subst (λ k. IsNear k pick) (omega arith) near))
+
+-- ---- place by place
+
+module _ (g : Config) (J : List Entry) (b : Ledger) (drawn : IsDrawn g b (chronicle g J)) (near : IsNearWhereItComes g b J) where
+  abbrev P : List Mark → Type 0
+  P K = (d : ℕ) → AreNear 0 (take (length (counted_on d K)) (b.picks d))
+
+  kept : (d : ℕ) (K L : List Mark) → counted_on d L ≡ counted_on d K → P K → AreNear 0 (take (length (counted_on d L)) (b.picks d))
+  kept d K L same p = subst (λ (ms : List Message). AreNear 0 (take (length ms) (b.picks d))) (sym same) (p d)
+
+  -- an entry as a whole
+  entry : (earlier : List Entry) (e : Entry) (later : List Entry) → IsEntry g J earlier e later → is_piece e.input ≡ false
+      → P (Comes e ∷ chronicle g earlier) → P (after (at_input g e.input (chronicle g earlier) (Comes e ∷ chronicle g earlier)) (Comes e ∷ chronicle g earlier))
+  entry earlier e later at not_piece p = λ d. kept d M (after (at_input g e.input H M) M) (by d e.input not_piece) p
+    where
+      H : List Mark
+      H = chronicle g earlier
+
+      M : List Mark
+      M = Comes e ∷ H
+
+      far : (d : ℕ) (i : Input) → is_of d i ≡ false → counted_on d (after (at_input g i H M) M) ≡ counted_on d M
+      far d i n = quiet_same d (at_input g i H M) M (input_quiet g i H M (Comes-proper H (is_proper g earlier) e) d n)
+
+      by : (d : ℕ) (i : Input) → is_piece i ≡ false → counted_on d (after (at_input g i H M) M) ≡ counted_on d M
+      by d (input.Piece c o) n = absurd (let z : true ≡ false = n in cc)
+      by d (input.Opened c) n = mute_same d (at_opened g c M) M (mute_opened g M c)
+      by d i n = far d i refl
+
+  -- one thing that is said
+  module _ (c : ℕ) (one : Said) (K : List Mark) (a : Arrives g J c one K) (p : P K) where
+    it : IsMoment g one K
+    it = its_moment g J c one K a
+
+    -- a message of a connection that runs nobody
+    first : (m : Message) → is_live c K ≡ true → runs c K ≡ None → AreNear 0 (take (length (counted_on c (after (at_first g c (identity c K) m K) K))) (b.picks c))
+    first m live none = by (identity c K)
+      where
+        empty : counted_on c K ≡ []
+        empty = it.told.unbegun c (unused c K (not_true (is_ignored c K) (and_parts (is_open c K) (not (is_ignored c K)) live).1) none).1
+
+        Q : List Mark → Type 0
+        Q hs = AreNear 0 (take (length (counted_on c (after hs K))) (b.picks c))
+
+        mute : (hs : List Mark) → AreMute hs → Q hs
+        mute hs z = kept c K (after hs K) (mute_same c hs K z) p
+
+        ignored : (why : IgnoreWhy) → Q (Ignores c why ∷ [])
+        ignored why = mute (Ignores c why ∷ []) (tt, tt)
+
+        starts : (l : ℕ) (L : List Mark) → counted_on c L ≡ [] → AreNear 0 (take (length (counted_on c (Starts c l m ∷ L))) (b.picks c))
+        starts l L none_yet =
+            let is : counted_on c (Starts c l m ∷ L) ≡ m ∷ [] = ap (λ t. followed (counted_on c L) (cond t (Some m) None)) (eq-eqb c c refl) ∙ ap (λ (ms : List Message). ms ++ m ∷ []) none_yet in
+            subst (λ (ms : List Message). AreNear 0 (take (length ms) (b.picks c))) (sym is) (near_one (b.picks c))
+
+        unknown : (p : PeerId) (o : Option Endpoint) → Q (start_unknown g c p m o K)
+        unknown p None = ignored ignore.NoEndpoint
+        unknown p (Some e) = choice Q (ltb (length (lives K)) PEERS) _ _ (λ z. starts (births K + 1) (after (birth g p e K) K) empty) (λ z. ignored ignore.Full)
+
+        known : (p : PeerId) (o : Option Life) → Q (start g c p m o K)
+        known p (Some v) = starts v.link K empty
+        known p None = unknown p (endpoint_in (view_of (m ∷ [])).endpoint)
+
+        by : (o : Option PeerId) → Q (at_first g c o m K)
+        by None = mute [] tt
+        by (Some p) = choice Q (not (is_hello m.body && eqb m.sequence 1)) _ _ (λ z. ignored ignore.NotHello)
+            (λ z. choice Q (not (is_small (view_of (m ∷ [])))) _ _ (λ y. ignored ignore.Limit) (λ y. known p (life_of p K)))
+
+    -- a message of a connection that runs a peer
+    later : (m : Message) → one ≡ Arrived (arrival.Message m) → (l : ℕ) → runs c K ≡ Some l → AreNear 0 (take (length (counted_on c (after (at_later g c l m K) K))) (b.picks c))
+    later m is l run = choice Q (is_hello m.body) _ _ (λ z. ended cause.Hello) (λ z. choice Q (not (eqb m.sequence (due (counted l K)))) _ _ (λ y. ended (cause.Order (due (counted l K)) m.sequence))
+        (λ y. choice Q (not (is_small (view_of (counted l K ++ m ∷ [])))) _ _ (λ x. ended cause.Limit) (λ x. counts)))
+      where
+        Q : List Mark → Type 0
+        Q hs = AreNear 0 (take (length (counted_on c (after hs K))) (b.picks c))
+
+        mute : (hs : List Mark) → AreMute hs → Q hs
+        mute hs z = kept c K (after hs K) (mute_same c hs K z) p
+
+        ended : (why : Cause) → Q (Ends l why ∷ [])
+        ended why = mute (Ends l why ∷ []) (tt, tt)
+
+        arrives : Arrives g J c (Arrived (arrival.Message m)) K
+        arrives = subst (λ s. Arrives g J c s K) is a
+
+        same : counted l K ≡ counted_on c K
+        same = it.told.same c l (run_is K it.proper c l run)
+
+        counts : Q (Counts c l m ∷ answer_to g l m.body K)
+        counts =
+            let i = is_placed g J c one K a m is l run b drawn in
+            let n = near c l i.pick m K arrives run i.at_its_turn in
+            let none : length (counted_on c K) ≡ 0 + length (counted_on c K) = omega arith in
+            let more = near_more (b.picks c) 0 (length (counted_on c K)) i.pick (p c) (subst (λ (ms : List Message). slice_get (b.picks c) (length ms) ≡ Some i.pick) same i.at_its_turn)
+            (subst (λ k. IsNear k i.pick) none (subst (λ (ms : List Message). IsNear (length ms) i.pick) same n)) in
+            let end : counted_on c (after (Counts c l m ∷ answer_to g l m.body K) K) ≡ counted_on c K ++ m ∷ [] = mute_same c (answer_to g l m.body K) (Counts c l m ∷ K) (mute_answer g K l m.body) ∙ ap (λ t. followed (counted_on c K) (cond t (Some m) None)) (eq-eqb c c refl) in
+            let longer : length (counted_on c (after (Counts c l m ∷ answer_to g l m.body K) K)) ≡ suc (length (counted_on c K)) = omega (arith, ap (length {A = Message}) end, length-append (counted_on c K) (m ∷ [])) in
+            subst (λ k. AreNear 0 (take k (b.picks c))) (sym longer) more
+
+    message : (m : Message) → one ≡ Arrived (arrival.Message m) → is_live c K ≡ true → (o : Option ℕ) → runs c K ≡ o → AreNear 0 (take (length (counted_on c (after (at_message g c o m K) K))) (b.picks c))
+    message m is live None none = first m live none
+    message m is live (Some l) run = later m is l run
+
+    said : is_live c K ≡ true → (s : Said) → one ≡ s → AreNear 0 (take (length (counted_on c (after (at_said g c s K) K))) (b.picks c))
+    said live (Arrived arrival.Greeted) is = p c
+    said live (Arrived (arrival.Shaken q)) is = kept c K (after (at_shaken g c q (identity c K) K) K) (mute_same c (at_shaken g c q (identity c K) K) K (mute_shaken g K c q (identity c K))) p
+    said live (Arrived (arrival.Ping t)) is = p c
+    said live (Arrived (arrival.Message m)) is = message m is live (runs c K) refl
+    said live (Fault f) is = kept c K (after (at_said g c (Fault f) K) K) (mute_same c (at_said g c (Fault f) K) K (mute_and (end_of_run g (runs c K) cause.Fault) _ (mute_end g K (runs c K) cause.Fault) (tt, tt))) p
+
+    own : AreNear 0 (take (length (counted_on c (after (at_place g c one K) K))) (b.picks c))
+    own = choice (λ hs. AreNear 0 (take (length (counted_on c (after hs K))) (b.picks c))) (is_live c K) _ _ (λ live. said live one refl) (λ dead. p c)
+
+    place : P (after (at_place g c one K) K)
+    place d = by (eqb d c) refl
+      where
+        w : Ground
+        w = record { of = λ x. eqb x c; stops = false }
+
+        by : (t : Bool) → eqb d c ≡ t → AreNear 0 (take (length (counted_on d (after (at_place g c one K) K))) (b.picks d))
+        by true e = subst (λ x. AreNear 0 (take (length (counted_on x (after (at_place g c one K) K))) (b.picks x))) (sym (eqb-true d c e)) own
+        by false e =
+            kept d K (after (at_place g c one K) K) (quiet_same d (at_place g c one K) K
+            (quiet g w true d e (at_place g c one K) K (all_brought (place_outcome g w c (eq-eqb c c refl) one it.may K it.proper)))) p
+
+  pub is_within_window : IsWithinWindow b (chronicle g J)
+  is_within_window = walk g J P (λ H e p. p) entry (λ c one K a p. place c one K a p) (λ d. tt)
+
+-- a journal keeps its ledgers
+pub keeps_ledgers : (g : Config) (J : List Entry) → KeepsLedgers g J
+keeps_ledgers g J = λ b drawn near. (keeps_ledger g J b drawn (is_within_window g J b drawn near), λ c l m K a run. is_placed g J c (Arrived (arrival.Message m)) K a m refl l run b drawn)

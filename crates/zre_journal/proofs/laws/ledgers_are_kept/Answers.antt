@@ -1,0 +1,5 @@
+use Rattle.zre_journal.proofs.Windows.{keeps_ledgers}
+use Rattle.zre_journal.proofs.laws.ledgers_are_kept.Goals as goal
+
+pub returns : goal.returns
+returns c = λ g J. keeps_ledgers g J

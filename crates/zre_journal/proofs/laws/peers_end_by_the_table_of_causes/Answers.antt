@@ -1,0 +1,5 @@
+use Rattle.zre_journal.proofs.Causes.{ends_by_table}
+use Rattle.zre_journal.proofs.laws.peers_end_by_the_table_of_causes.Goals as goal
+
+pub returns : goal.returns
+returns c = λ g J. ends_by_table g J
