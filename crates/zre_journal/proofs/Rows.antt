@@ -9,6 +9,7 @@ use Rattle.zre_outside.specs.declared.entry.Input.TheVariants as input
 use Rattle.zre_outside.specs.declared.entry.Command.{Command}
 use Rattle.zre_outside.specs.declared.entry.Command.TheVariants as command
 use Rattle.zre_msg.specs.Reading.{string_at, long_string_at, pair_at, each_at, strings_at, dictionary_at, hello_at, join_at, leave_at, shout_at, command_of, read_of}
+use Rattle.zre_msg.specs.declared.message.Body.TheVariants as body
 use Rattle.zre_zmtp.specs.Ready.{properties_within}
 use Rattle.zre_zmtp.specs.Stream.{greeting_fault, frame_why, part_len, cut, item}
 use Rattle.zre_zmtp.specs.declared.fault.ZmtpWhy.TheVariants as zmtp
@@ -22,7 +23,7 @@ use Rattle.zre_peer.specs.declared.causes.IgnoreWhy.TheVariants as ignore
 use Rattle.zre_peer.specs.declared.causes.RefuseWhy.TheVariants as refuse
 use Rattle.zre_journal.specs.declared.config.Config.{Config}
 use Rattle.zre_journal.specs.Events.{chronicle, events}
-use Rattle.zre_journal.specs.Links.{unsent}
+use Rattle.zre_journal.specs.Links.{bodies, unsent}
 use Rattle.zre_journal.specs.Peers.{Life, lives, view}
 
 abbrev P : PeerId
@@ -186,3 +187,21 @@ enters_by_hello = refl
 other_mechanism : events me (opened 0 1 ∷ piece 0 1 (255 ∷ 0 ∷ 0 ∷ 0 ∷ 0 ∷ 0 ∷ 0 ∷ 0 ∷ 0 ∷ 127 ∷ 3 ∷ 0 ∷ codes "PLAIN") ∷ piece 0 1 RX ∷ piece 0 1 H ∷ []) ≡ event.Closed 1 (close.Zmtp (record { why = zmtp.Mechanism; place = 12 })) ∷ []
 unfolding digits properties_within greeting_fault frame_why part_len cut item string_at long_string_at pair_at each_at strings_at dictionary_at hello_at join_at leave_at shout_at command_of read_of view_of is_small
 other_mechanism = refl
+
+-- a lost message shows at the next one: nothing is told of that one, or of any after it
+loss_shows : events me (base ++ piece 200 1 (J 3) ∷ piece 200 1 (J 2) ∷ []) ≡ enter ∷ exit (cause.Order 2 3) ∷ []
+unfolding digits properties_within greeting_fault frame_why part_len cut item string_at long_string_at pair_at each_at strings_at dictionary_at hello_at join_at leave_at shout_at command_of read_of view_of is_small
+loss_shows = refl
+
+-- one that comes twice shows too
+repeat_shows : events me (base ++ piece 200 1 (J 2 ++ J 2) ∷ piece 200 1 (J 3) ∷ []) ≡ enter ∷ event.Join P ann (codes "chat") ∷ exit (cause.Order 3 2) ∷ []
+unfolding digits properties_within greeting_fault frame_why part_len cut item string_at long_string_at pair_at each_at strings_at dictionary_at hello_at join_at leave_at shout_at command_of read_of view_of is_small
+repeat_shows = refl
+
+abbrev joined : List Entry
+joined = asks (command.Join (codes "g")) ∷ asks (command.Join (codes "h")) ∷ asks (command.Leave (codes "g")) ∷ beacon 200 B ∷ []
+
+-- HELLO has the groups of the moment at which it is put on its link, and the status of that moment
+hello_has_the_groups_of_its_moment : bodies 1 (chronicle me joined) ≡ body.Hello (codes "tcp://10.0.0.1:49153") (codes "h" ∷ []) 3 (codes "Me") [] ∷ []
+unfolding digits properties_within greeting_fault frame_why part_len cut item string_at long_string_at pair_at each_at strings_at dictionary_at hello_at join_at leave_at shout_at command_of read_of view_of is_small
+hello_has_the_groups_of_its_moment = refl

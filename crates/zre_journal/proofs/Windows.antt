@@ -28,7 +28,7 @@ use Rattle.zre_journal.specs.declared.config.Config.{Config}
 use Rattle.zre_journal.specs.Arrivals.{at_opened, end_of_run, taken_over, start_unknown, start, at_first, answer_to, at_later, at_message, at_shaken, at_said, at_place}
 use Rattle.zre_journal.specs.Chronicle.{Mark, Comes, Starts, Counts, Ignores, Ends, after, followed}
 use Rattle.zre_journal.specs.Connections.{open_ones, is_open, is_new, identity, started, runs, is_ignored, is_live, other_with}
-use Rattle.zre_journal.specs.Events.{chronicle}
+use Rattle.zre_journal.specs.Events.{chronicle, events}
 use Rattle.zre_journal.specs.Happens.{at_input}
 use Rattle.zre_journal.specs.Laws.{counted_on}
 use Rattle.zre_journal.specs.Ledger.{Ledger, IsDrawn, IsNearWhereItComes, IsWithinWindow, KeepsLedgers}
@@ -247,5 +247,5 @@ module _ (g : Config) (J : List Entry) (b : Ledger) (drawn : IsDrawn g b (chroni
   is_within_window = walk g J P (λ H e p. p) entry (λ c one K a p. place c one K a p) (λ d. tt)
 
 -- a journal keeps its ledgers
-pub keeps_ledgers : (g : Config) (J : List Entry) → KeepsLedgers g J
+pub keeps_ledgers : (g : Config) (J : List Entry) → KeepsLedgers g J (events g J)
 keeps_ledgers g J = λ b drawn near. (keeps_ledger g J b drawn (is_within_window g J b drawn near), λ c l m K a run. is_placed g J c (Arrived (arrival.Message m)) K a m refl l run b drawn)

@@ -15,7 +15,7 @@ use Rattle.zre_mailbox.specs.declared.arrival.Arrival.TheVariants as arrival
 use Rattle.zre_mailbox.specs.Talk.{Arrived}
 use Rattle.zre_journal.specs.Arrivals.{answer_to, at_message}
 use Rattle.zre_journal.specs.Chronicle.{Mark, Counts, Ends, after}
-use Rattle.zre_journal.specs.Events.{chronicle, events}
+use Rattle.zre_journal.specs.Events.{chronicle}
 use Rattle.zre_journal.specs.Connections.{runs}
 use Rattle.zre_journal.specs.Hearing.{heard_on}
 use Rattle.zre_journal.specs.Laws.{counted_on}
@@ -84,11 +84,12 @@ pub record IsPlaced (g : Config) (b : Ledger) (J : List Entry) (c l : ℕ) (m : 
   pub newer : List Mark
   pub goes_on : chronicle g J ≡ newer ++ after (at_message g c (runs c K) m K) K
 
--- A journal keeps its ledgers: where its messages are drawn from them, each fewer than 65536 places from the one due,
--- what was counted is the beginning of what was sent, and each message that comes is judged by its place.
-abbrev pub KeepsLedgers : Config → List Entry → Type 0
-KeepsLedgers g J =
+-- A journal of which these events were told keeps its ledgers: where its messages are drawn from them, each fewer than
+-- 65536 places from the one due, what was counted is the beginning of what was sent, and what was told is told of it;
+-- and each message that comes is judged by its place.
+abbrev pub KeepsLedgers : Config → List Entry → List Event → Type 0
+KeepsLedgers g J es =
     (b : Ledger) → IsDrawn g b (chronicle g J) → IsNearWhereItComes g b J
-    → KeepsLedger b (events g J) (chronicle g J)
+    → KeepsLedger b es (chronicle g J)
     × ((c l : ℕ) (m : Message) (K : List Mark) → Arrives g J c (Arrived (arrival.Message m)) K → runs c K ≡ Some l
     → IsPlaced g b J c l m K)

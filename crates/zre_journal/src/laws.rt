@@ -206,7 +206,7 @@ pub fn what_comes_near_is_counted_near()
 
 /// Every journal keeps its ledgers: the laws before, of all ledgers, in one.
 pub fn ledgers_are_kept()
-    ensures { (g : Config) (J : List Entry) → KeepsLedgers g J }
+    ensures { (g : Config) (J : List Entry) → KeepsLedgers g J (events g J) }
 {}
 
 /// Where the messages of a journal are drawn from ledgers, each message that comes on a connection that runs a peer is

@@ -5,8 +5,9 @@ ghost use Rattle.zre_outside.specs.declared.entry.Entry.{Entry as EntryValue};
 ghost use Rattle.zre_zmtp.specs.Looks.{Looks};
 ghost use Rattle.zre_journal.specs.declared.config.Config.{Config as ConfigValue};
 ghost use Rattle.zre_journal.specs.Config.{is_valid};
-ghost use Rattle.zre_journal.specs.Events.{chronicle};
+ghost use Rattle.zre_journal.specs.Events.{chronicle, events};
 ghost use Rattle.zre_journal.specs.Held.{kept};
+ghost use Rattle.zre_journal.specs.Ledger.{KeepsLedgers};
 ghost use Rattle.zre_node.specs.Brings.{octets_of};
 ghost use Rattle.zre_node.specs.Journal.{is_spent, StandsFor, Steps};
 
@@ -58,9 +59,15 @@ impl Node {
 
     /// One entry of the journal: what it tells, and what it asks of the outside. After a stop nothing has an effect.
     /// After `OutOfMemory` the node is spent: it answers that to every later entry.
+    ///
+    /// Where messages come from a sender's numbered list, each fewer than 65,536 places from the one due, a missing,
+    /// repeated or reordered one ends its peer before anything later of it, and the next one is always counted, unless
+    /// a limit of the view forbids it.
     pub fn step(&mut self, entry: Entry) -> Result<Step, OutOfMemory>
         ensures steps { (g : ConfigValue) (J : List EntryValue) → StandsFor g J self.old →
             IfOk result (λ s. Steps g J entry self.new s) }
+        ensures ledgers { (g : ConfigValue) (J : List EntryValue) → StandsFor g J self.old →
+            IfOk result (λ s. KeepsLedgers g (J ++ entry ∷ []) (events g J ++ s.events)) }
         ensures spent { IsTrue (is_spent self.new) ↔ IsErr result }
         ensures ended { IsTrue (is_spent self.old) → IsErr result }
     {
