@@ -1,5 +1,5 @@
 -- How many octets are kept turn by turn, and how many looks that costs.
-use Rattle.std.proofs.Common.{◌≡◌, ℕ, ◌+◌, ◌*◌, ◌-◌, ◌≤◌, Bool, true, false, cond, not, List, [], ◌∷◌, ◌++◌, length, ap, ◌∙◌, arith}
+use Rattle.std.proofs.Common.{◌≡◌, ℕ, ◌+◌, ◌*◌, ◌≤◌, Bool, true, false, cond, not, List, [], ◌∷◌, ◌++◌, length, ap, arith}
 use Rattle.std.specs.Prelude.{sum_by, Result, Ok, Err, OnOk}
 use Rattle.std.proofs.lemmas.List.Sums.{sum_by-append}
 use Rattle.zre_zmtp.specs.declared.header.Header.{Header}

@@ -1,4 +1,3 @@
-use Rattle.std.proofs.Common.{[]}
 use Rattle.zre_zmtp.specs.Stream.{Any, Traffic}
 use Rattle.zre_zmtp.proofs.Looked.{nothing_kept, all_paid}
 use Rattle.zre_zmtp.proofs.laws.looks_are_few.Goals as goal
