@@ -189,8 +189,8 @@ pub fn a_ledger_is_kept()
 {}
 
 /// And the next message that comes, fewer than 65,536 places from the one due, is counted where it is that one and the
-/// view after it is within the limits; a missing, repeated or reordered one ends the peer at once, before anything later
-/// of it.
+/// view after it is within the limits; a missing, repeated or reordered one ends the peer at once, before anything
+/// later of it.
 pub fn a_gap_shows_at_once()
     ensures { (g : Config) (sent : List Message) (c l pick : ℕ) (m : Message) (K : List Mark) → IsNumbered sent
         → IsPicked sent pick m → runs c K ≡ Some l → 0 < length (counted l K) → IsNear (length (counted l K)) pick

@@ -23,7 +23,8 @@ fn answer(
         OnOk result ((slow_at (length queue.old) ts ≡ None) × (queue.new ≡ queue.old ++ flat_map pong_frame ts)
         × (written.new ≡ written.old + length (flat_map pong_frame ts))) }
     ensures refused { IfErr result (λ e.
-        RefusesReply e (slow_at (length queue.old) (option_to_list (context_in what.now))) None (queue.new ≡ queue.old)) }
+        RefusesReply e (slow_at (length queue.old) (option_to_list (context_in what.now))) None
+        (queue.new ≡ queue.old)) }
     ensures unchanged { OnErr result ((queue.new ≡ queue.old) × (written.new ≡ written.old)) }
     ensures within { length queue.old ≤ UNSENT_OCTETS → length queue.new ≤ UNSENT_OCTETS }
 {

@@ -1,6 +1,6 @@
 //! Outgoing connections: a node speaks as a DEALER (RFC 23), and numbers the messages of ZRE that it puts on the link
-//! (RFC 36). What comes back is read as the stream of a ROUTER: it tells how much may go out, and its PINGs are answered
-//! (RFC 37).
+//! (RFC 36). What comes back is read as the stream of a ROUTER: it tells how much may go out, and its PINGs are
+//! answered (RFC 37).
 #![tactic(auto)]
 
 mod answers;

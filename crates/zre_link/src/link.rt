@@ -165,9 +165,9 @@ impl Link {
 
     /// Reads one more piece of what comes back, which is the stream of a ROUTER (RFC 23). Each PING that becomes whole
     /// with it is answered by a PONG at the end of what waits; other commands and messages are dropped. `Slow` comes at
-    /// the first PONG with which more than 4,194,304 octets would wait: those before it were put, and no fault is told. A
-    /// fault stays: each further piece is refused with it. After OutOfMemory what is kept of the replies, and how many
-    /// PONGs were put, is left open.
+    /// the first PONG with which more than 4,194,304 octets would wait: those before it were put, and no fault is
+    /// told. A fault stays: each further piece is refused with it. After OutOfMemory what is kept of the replies, and
+    /// how many PONGs were put, is left open.
     pub fn reply(&mut self, piece: &[u8]) -> Result<(), ReplyFault>
         requires { self.old.linked ≡ true }
         ensures ok { (own : PeerIdValue) (line : List Member) (linked : Bool) (o : List ℕ) (n : ℕ) →
@@ -201,9 +201,10 @@ impl Link {
             (self.new ≡ link_answering own line linked o n piece.now)) }
         ensures rest { (self.new.sent ≡ self.old.sent) × (self.new.taken ≡ self.old.taken)
             × (self.new.linked ≡ self.old.linked) }
-        ensures looks { Looks steps.old steps.new (kept_of self.old.replies) (kept_of self.new.replies) (length piece.now)
-            result }
-        ensures paid { IfErr result (λ e. e ≢ ReplyFault.OutOfMemory → IsPaid steps.old steps.new (kept_of self.old.replies)
+        ensures looks { Looks steps.old steps.new (kept_of self.old.replies) (kept_of self.new.replies)
+            (length piece.now) result }
+        ensures paid { IfErr result (λ e. e ≢ ReplyFault.OutOfMemory
+            → IsPaid steps.old steps.new (kept_of self.old.replies)
             (kept_of self.new.replies) (length piece.now)) }
     {
         let mut items = Items::new(self.alloc);

@@ -41,7 +41,8 @@ fn read_piece<L: Ledger>(
 ) -> Result<(), FeedFault>
     requires { out.old ≡ [] }
     ensures ok { (o : List ℕ) → IsAfter Router Whole o reader.old → expected_of awaits.old ≡ awaited o →
-        OnOk result (IsAfter Router Whole (o ++ piece.now) reader.new × (expected_of awaits.new ≡ awaited (o ++ piece.now))
+        OnOk result (IsAfter Router Whole (o ++ piece.now) reader.new
+        × (expected_of awaits.new ≡ awaited (o ++ piece.now))
         × (contexts_in out.new ≡ new_pings o piece.now)) }
     ensures refused { (o : List ℕ) → IsAfter Router Whole o reader.old → expected_of awaits.old ≡ awaited o →
         IfErr result (λ e. Refuses e (reply_fault (o ++ piece.now)) ((expected_of awaits.new ≡ awaited (o ++ piece.now))

@@ -77,16 +77,18 @@ impl Conn {
         }
     }
 
-    /// Reads one more piece: what becomes whole with it is appended, and messages outside the grammar and commands other
-    /// than PING are left out. A fault is told after the arrivals before it, and READY of another socket or without a good identity is one. After
-    /// a refusal the connection is spent, and keeps nothing; after OutOfMemory what was appended is left open.
+    /// Reads one more piece: what becomes whole with it is appended, and messages outside the grammar and commands
+    /// other than PING are left out. A fault is told after the arrivals before it, and READY of another socket or
+    /// without a good identity is one. After a refusal the connection is spent, and keeps nothing; after OutOfMemory
+    /// what was appended is left open.
     pub fn feed(&mut self, piece: &[u8], out: &mut Arrivals) -> Result<(), FeedFault>
         requires heard { is_ignored self.old ≡ false }
         requires unspent { is_spent self.old ≡ false }
         ensures ok { (own : PeerIdValue) (o : List ℕ) → self.old ≡ conn_after own o →
             OnOk result ((fault_in own (o ++ piece.now) ≡ None) × Hears own o piece.now self.new out.old out.new) }
         ensures refused { (own : PeerIdValue) (o : List ℕ) → self.old ≡ conn_after own o →
-            IfErr result (λ e. Refuses e (fault_in own (o ++ piece.now)) (Hears own o piece.now self.new out.old out.new)) }
+            IfErr result (λ e.
+            Refuses e (fault_in own (o ++ piece.now)) (Hears own o piece.now self.new out.old out.new)) }
         ensures spent { is_spent self.new ≡ is_err result }
         ensures heard { is_ignored self.new ≡ false }
     {
@@ -105,7 +107,8 @@ impl Conn {
         ensures ok { (own : PeerIdValue) (o : List ℕ) → self.old ≡ conn_after own o →
             OnOk result ((fault_in own (o ++ piece.now) ≡ None) × Hears own o piece.now self.new out.old out.new) }
         ensures refused { (own : PeerIdValue) (o : List ℕ) → self.old ≡ conn_after own o →
-            IfErr result (λ e. Refuses e (fault_in own (o ++ piece.now)) (Hears own o piece.now self.new out.old out.new)) }
+            IfErr result (λ e.
+            Refuses e (fault_in own (o ++ piece.now)) (Hears own o piece.now self.new out.old out.new)) }
         ensures spent { is_spent self.new ≡ is_err result }
         ensures heard { is_ignored self.new ≡ false }
         ensures looks { Looks steps.old steps.new (kept_of self.old) (kept_of self.new) (length piece.now) result }
@@ -137,7 +140,8 @@ impl Conn {
         ensures ok { (own : PeerIdValue) (o : List ℕ) → self.old ≡ conn_after own o →
             OnOk result ((fault_in own (o ++ piece.now) ≡ None) × Hears own o piece.now self.new out.old out.new) }
         ensures refused { (own : PeerIdValue) (o : List ℕ) → self.old ≡ conn_after own o →
-            IfErr result (λ e. Refuses e (fault_in own (o ++ piece.now)) (Hears own o piece.now self.new out.old out.new)) }
+            IfErr result (λ e.
+            Refuses e (fault_in own (o ++ piece.now)) (Hears own o piece.now self.new out.old out.new)) }
         ensures spent { is_spent self.new ≡ is_err result }
         ensures heard { is_ignored self.new ≡ false }
     {

@@ -69,7 +69,8 @@ impl Effects {
         cause: Cause,
     ) -> Result<(), OutOfMemory>
         ensures { (ms : List Message) → view_in run.now ≡ shown ms →
-            OnOk result (self.new ≡ record self.old { events = self.old.events ++ EventValue.Exit id (view_of ms).name cause ∷ [] }) }
+            OnOk result (self.new
+            ≡ record self.old { events = self.old.events ++ EventValue.Exit id (view_of ms).name cause ∷ [] }) }
     {
         let name = name_of(alloc, run)?;
         self.tell(Event::Exit { id, name, cause })

@@ -132,7 +132,8 @@ fn conns_octets(conns: &BTreeMap<u64, Connection>) -> u64
 impl Tables {
     // Of the node itself.
     fn own_octets(&self) -> u64
-        ensures { result ≡ capped (length self.now.config.name + header_octets self.now.config.headers + sum_by length self.now.own.groups) }
+        ensures { result ≡ capped (length self.now.config.name + header_octets self.now.config.headers
+            + sum_by length self.now.own.groups) }
     {
         (self.config.name.len() as u64)
             .saturating_add(pairs_octets(&self.config.headers))
@@ -145,7 +146,8 @@ impl Tables {
             AllByRecursion (λ (e : ℕ × PeerValue). IsSending e.1) self.now.peers.entries →
             result ≡ capped (sum_by (λ (e : ℕ × ConnectionValue). conn_row_octets e.1) self.now.conns.entries
             + sum_by (λ (e : ℕ × PeerValue). peer_row_octets e.1) self.now.peers.entries
-            + (length self.now.config.name + header_octets self.now.config.headers + sum_by length self.now.own.groups)) }
+            + (length self.now.config.name + header_octets self.now.config.headers
+            + sum_by length self.now.own.groups)) }
     {
         conns_octets(&self.conns)
             .saturating_add(peers_octets(&self.peers))

@@ -62,9 +62,11 @@ impl Tables {
         bytes: &[u8],
         steps: &mut Steps<L>,
     ) -> Result<(), OutOfMemory>
-        ensures took { (g : Config) (H : List Mark) (e : EntryValue) → e.at ≡ at → e.input ≡ given.Piece conn bytes.now →
+        ensures took { (g : Config) (H : List Mark) (e : EntryValue) → e.at ≡ at
+            → e.input ≡ given.Piece conn bytes.now →
             out.old.pushed ≡ [] → Holds g H self.old → OnOk result (Took g e H self.new out.old out.new) }
-        ensures looks { (g : Config) (H : List Mark) (e : EntryValue) → e.input ≡ given.Piece conn bytes.now → Holds g H self.old →
+        ensures looks { (g : Config) (H : List Mark) (e : EntryValue) → e.input ≡ given.Piece conn bytes.now
+            → Holds g H self.old →
             Looks steps.old steps.new (kept g H) (kept g (with_entry g e H)) (length bytes.now) result }
     {
         let heard = self.come_piece(at, conn, bytes, steps)?;

@@ -106,7 +106,8 @@ impl World for ScriptWorld {
         ensures failed { IsErrOf result NextFault.Failed → Rose (world_faults_of self.old) (world_faults_of self.new) }
         ensures counted { world_faults_of self.new ≡ counted (is_failed result) (world_faults_of self.old) }
         ensures script { IfOk result (λ t. (t ≡ turn_of (script_left self.old) (reading_of self.old) command)
-            × (script_left self.new ≡ left_after (script_left self.old) command) × (reading_of self.new ≡ reading_after (reading_of self.old) t)) }
+            × (script_left self.new ≡ left_after (script_left self.old) command)
+            × (reading_of self.new ≡ reading_after (reading_of self.old) t)) }
         ensures row { IfOk result (λ t. row_of self.new ≡ row_later (row_of self.old) t) }
         ensures kept { OnErr result ((script_left self.new ≡ script_left self.old)
             × (reading_of self.new ≡ reading_of self.old) × (row_of self.new ≡ row_of self.old)) }

@@ -87,7 +87,8 @@ impl World for SureWorld {
     }
 
     fn offer(&mut self, link: u64, bytes: &[u8]) -> Result<(), OutOfMemory>
-        ensures ok { OnOk result (Some (sure_seen_by self.new) ≡ option_map (with_deed (DeedValue.Offered link bytes.now)) (Some (sure_seen_by self.old))) }
+        ensures ok { OnOk result (Some (sure_seen_by self.new)
+            ≡ option_map (with_deed (DeedValue.Offered link bytes.now)) (Some (sure_seen_by self.old))) }
         ensures err { OnErr result (Some (sure_seen_by self.new) ≡ Some (sure_seen_by self.old)) }
         ensures looked { sure_has_looked self.new ≡ sure_has_looked self.old }
         ensures script { SureWaits self.old self.new }

@@ -63,10 +63,12 @@ fn joined(
 ) -> Result<(), RunFault>
     requires { is_small view.old ≡ true }
     ensures ok { OnOk result ((is_small (after view.old (bodies.Join group.now status)) ≡ true)
-        × (view.new ≡ after view.old (bodies.Join group.now status)) × (events.new ≡ events.old ++ events_of id view.old (bodies.Join group.now status))) }
+        × (view.new ≡ after view.old (bodies.Join group.now status))
+        × (events.new ≡ events.old ++ events_of id view.old (bodies.Join group.now status))) }
     ensures kept { OnErr result (view.new ≡ view.old) }
     ensures refused { IfErr result (λ e. e ≢ RunFault.OutOfMemory →
-        (is_small (after view.old (bodies.Join group.now status)) ≡ false) × (e ≡ RunFault.Limit) × (events.new ≡ events.old)) }
+        (is_small (after view.old (bodies.Join group.now status)) ≡ false) × (e ≡ RunFault.Limit)
+        × (events.new ≡ events.old)) }
 {
     if !can_join(view, group) {
         return Err(RunFault::Limit);
@@ -90,7 +92,8 @@ fn left(
 ) -> Result<(), RunFault>
     requires { is_small view.old ≡ true }
     ensures ok { OnOk result ((is_small (after view.old (bodies.Leave group.now status)) ≡ true)
-        × (view.new ≡ after view.old (bodies.Leave group.now status)) × (events.new ≡ events.old ++ events_of id view.old (bodies.Leave group.now status))) }
+        × (view.new ≡ after view.old (bodies.Leave group.now status))
+        × (events.new ≡ events.old ++ events_of id view.old (bodies.Leave group.now status))) }
     ensures kept { OnErr result (view.new ≡ view.old) }
     ensures refused { IfErr result (λ e. e ≡ RunFault.OutOfMemory) }
 {

@@ -117,7 +117,8 @@ pub(crate) fn tell_hello(
     events: &mut Events,
 ) -> Result<(), OutOfMemory>
     ensures { OnOk result (events.new ≡ events.old
-        ++ kinds.Enter id view.now.name view.now.endpoint view.now.headers ∷ map (λ g. kinds.Join id view.now.name g) view.now.groups) }
+        ++ kinds.Enter id view.now.name view.now.endpoint view.now.headers
+        ∷ map (λ g. kinds.Join id view.now.name g) view.now.groups) }
 {
     events.push(Event::Enter {
         id,

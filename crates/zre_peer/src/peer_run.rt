@@ -152,7 +152,8 @@ fn tell_later(
     ensures small { is_small view.new ≡ true }
     ensures kept { OnErr result (view.new ≡ view.old) }
     ensures refused { IfErr result (λ e. e ≢ RunFault.OutOfMemory →
-        (goes_on view.old due (message_of lent.now) ≡ false) × (e ≡ later_fault due (message_of lent.now)) × (out.new ≡ out.old)) }
+        (goes_on view.old due (message_of lent.now) ≡ false) × (e ≡ later_fault due (message_of lent.now))
+        × (out.new ≡ out.old)) }
 {
     expect_number(due, lent.sequence)?;
     tell_change(alloc, view, lent, heads, out)
@@ -232,7 +233,8 @@ impl Run {
             × (events.new ≡ events.old ++ events_of (id_of self.old) (view_of ms) message.body)) }
         ensures going { OnOk result (is_spent self.new ≡ false) }
         ensures refused { (ms : List Message) → Stands self.old ms → IfErr result (λ e. e ≢ RunFault.OutOfMemory →
-            (may_follow ms message ≡ false) × (in_order (ms ++ message ∷ []) ≡ false) × (e ≡ fault_of ms message) × (events.new ≡ events.old)) }
+            (may_follow ms message ≡ false) × (in_order (ms ++ message ∷ []) ≡ false) × (e ≡ fault_of ms message)
+            × (events.new ≡ events.old)) }
         ensures spent { IfErr result (λ e. e ≢ RunFault.OutOfMemory → is_spent self.new ≡ true) }
         ensures unchanged { result ≡ Err RunFault.OutOfMemory → self.new ≡ self.old }
         ensures kept { OnErr result (view_in self.new ≡ view_in self.old) }
@@ -280,7 +282,8 @@ impl Run {
             × (out.new ≡ out.old ++ lines (events_of (id_of self.old) (view_of ms) (message_of lent.now).body))) }
         ensures going { OnOk result (is_spent self.new ≡ false) }
         ensures refused { (ms : List Message) → Stands self.old ms → IfErr result (λ e. e ≢ RunFault.OutOfMemory →
-            (may_follow ms (message_of lent.now) ≡ false) × (e ≡ fault_of ms (message_of lent.now)) × (out.new ≡ out.old)) }
+            (may_follow ms (message_of lent.now) ≡ false) × (e ≡ fault_of ms (message_of lent.now))
+            × (out.new ≡ out.old)) }
         ensures spent { IfErr result (λ e. e ≢ RunFault.OutOfMemory → is_spent self.new ≡ true) }
         ensures kept { OnErr result (view_in self.new ≡ view_in self.old) }
         ensures ready { IsReady self.new heads.now }

@@ -141,7 +141,8 @@ impl Teller {
             × (out.new ≡ out.old ++ lines (events_of (id_of self.old) (view_of ms) (message_of lent.now).body))) }
         ensures going { OnOk result (is_spent self.new ≡ false) }
         ensures refused { (ms : List Message) → Stands self.old ms → IfErr result (λ e. e ≢ RunFault.OutOfMemory →
-            (may_follow ms (message_of lent.now) ≡ false) × (e ≡ fault_of ms (message_of lent.now)) × (out.new ≡ out.old)) }
+            (may_follow ms (message_of lent.now) ≡ false) × (e ≡ fault_of ms (message_of lent.now))
+            × (out.new ≡ out.old)) }
         ensures spent { IfErr result (λ e. e ≢ RunFault.OutOfMemory →
             (is_spent self.new ≡ true) × (view_in self.new ≡ view_in self.old)) }
         ensures id { id_of self.new ≡ id_of self.old }

@@ -62,7 +62,8 @@ fn tell_join(
         → OnOk result (out.new ≡ out.old ++ lines (events_of id view.old (bodies.Join group.now status))) }
     ensures kept { OnErr result (view.new ≡ view.old) }
     ensures refused { IfErr result (λ e. e ≢ RunFault.OutOfMemory →
-        (is_small (after view.old (bodies.Join group.now status)) ≡ false) × (e ≡ RunFault.Limit) × (out.new ≡ out.old)) }
+        (is_small (after view.old (bodies.Join group.now status)) ≡ false) × (e ≡ RunFault.Limit)
+        × (out.new ≡ out.old)) }
 {
     if !can_join(view, group) {
         return Err(RunFault::Limit);

@@ -132,7 +132,8 @@ fn first_value<'a>(
     wanted: &[u8],
 ) -> Option<&'a [u8]>
     ensures { option_copied result
-        ≡ option_or (option_copied found.entry) (if str_eq_ignore_ascii_case name.now wanted.now then Some value.now else None) }
+        ≡ option_or (option_copied found.entry)
+        (if str_eq_ignore_ascii_case name.now wanted.now then Some value.now else None) }
 {
     match found {
         Some(first) => Some(first),

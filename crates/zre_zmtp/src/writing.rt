@@ -23,8 +23,8 @@ const GREETING: [u8; 64] = [
     0, 0, 0, 0, 0, 0,
 ];
 
-/// The greeting of this node (RFC 23, greeting): version 3.1 (RFC 37), of which it has PING and PONG, the NULL mechanism,
-/// no server.
+/// The greeting of this node (RFC 23, greeting): version 3.1 (RFC 37), of which it has PING and PONG, the NULL
+/// mechanism, no server.
 pub fn greeting() -> [u8; 64]
     ensures { result ≡ own_greeting }
 {

@@ -153,7 +153,8 @@ impl Tables {
         arrivals: Vec<Arrival>,
     ) -> Result<(), OutOfMemory>
         ensures { (g : Config) (K : List Mark) → Holds g K self.old →
-            OnOk result (Did g (in_turn (at_place g conn) (map (λ a. Arrived a) arrivals.items) K) K self.new out.old out.new) }
+            OnOk result (Did g (in_turn (at_place g conn) (map (λ a. Arrived a) arrivals.items) K) K self.new out.old
+            out.new) }
     {
         for arrival in arrivals {
             self.arrive(out, conn, arrival)?;

@@ -85,7 +85,8 @@ fn carry(conns: &mut BTreeMap<u64, Connection>, conn: u64, link: u64)
 // The peer of this link has a run, which shows that it is there.
 fn enter(peers: &mut BTreeMap<u64, Peer>, link: u64, running: Running, now: u64)
     ensures { (x : PeerValue) → lookup (is_at (nat_cmp link)) peers.old.entries ≡ Some x →
-        peers.new.entries ≡ set_value (is_at (nat_cmp link)) peers.old.entries (record x { run = Some running; active = now }) }
+        peers.new.entries ≡ set_value (is_at (nat_cmp link)) peers.old.entries
+        (record x { run = Some running; active = now }) }
 {
     if let Some(peer) = peers.get_mut(&link) {
         peer.run = Some(running);
@@ -107,7 +108,8 @@ impl Tables {
     fn start(&mut self, conn: u64, link: u64, run: Run)
         ensures { (g : Config) (H : List Mark) (m : MessageValue) (v : Life) → Holds g H self.old
             → is_live conn H ≡ true →
-            runs conn H ≡ None → life link H ≡ Some v → identity conn H ≡ Some v.id → Stands run (m ∷ []) → id_of run ≡ v.id →
+            runs conn H ≡ None → life link H ≡ Some v → identity conn H ≡ Some v.id → Stands run (m ∷ [])
+            → id_of run ≡ v.id →
             Holds g (Starts conn link m ∷ H) self.new }
     {
         carry(&mut self.conns, conn, link);

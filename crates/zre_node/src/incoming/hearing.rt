@@ -45,7 +45,8 @@ fn read<L: Ledger>(
     steps: &mut Steps<L>,
 ) -> Result<Heard, OutOfMemory>
     ensures heard { (own : PeerId) (o : List ℕ) → conn.old ≡ conn_after own o →
-        IfOk result (λ heard. (conn.new ≡ conn_after own (o ++ bytes.now)) × (said_in heard ≡ completed own o bytes.now)) }
+        IfOk result (λ heard. (conn.new ≡ conn_after own (o ++ bytes.now))
+        × (said_in heard ≡ completed own o bytes.now)) }
     ensures looks { (own : PeerId) (o : List ℕ) → conn.old ≡ conn_after own o →
         Looks steps.old steps.new (kept_of conn.old) (kept_of conn.new) (length bytes.now) result }
 {
@@ -110,8 +111,10 @@ impl Tables {
         ensures came { (g : Config) (H : List Mark) (e : Entry) → e.at ≡ at → e.input ≡ input.Piece conn bytes.now
             → Holds g H self.old →
             IfOk result (λ heard. Holds g (Comes e ∷ H) self.new
-            × (at_places g conn (said_in heard) (Comes e ∷ H) ≡ at_places g conn (newly_completed g.id conn H (Comes e ∷ H)) (Comes e ∷ H))) }
-        ensures looks { (g : Config) (H : List Mark) (e : Entry) → e.input ≡ input.Piece conn bytes.now → Holds g H self.old →
+            × (at_places g conn (said_in heard) (Comes e ∷ H)
+            ≡ at_places g conn (newly_completed g.id conn H (Comes e ∷ H)) (Comes e ∷ H))) }
+        ensures looks { (g : Config) (H : List Mark) (e : Entry) → e.input ≡ input.Piece conn bytes.now
+            → Holds g H self.old →
             Looks steps.old steps.new (kept g H) (kept g (Comes e ∷ H)) (length bytes.now) result }
     {
         self.clock = at.max(self.clock);

@@ -52,7 +52,8 @@ fn hear_reply<L: Ledger>(
         IfOk result (λ why. (link.new ≡ link_answering own line true o n bytes.now)
         × (why ≡ cause_by_reply (slow_in own line o n bytes.now) (reply_fault (o ++ bytes.now)))) }
     ensures waiting { link.old.linked ≡ false → IfOk result (λ why. (link.new ≡ link.old) × (why ≡ None)) }
-    ensures looks { Looks steps.old steps.new (kept_of link.old.replies) (kept_of link.new.replies) (length bytes.now) result }
+    ensures looks { Looks steps.old steps.new (kept_of link.old.replies) (kept_of link.new.replies)
+        (length bytes.now) result }
 {
     if !link.is_linked() {
         return Ok(None);
@@ -108,7 +109,8 @@ impl Tables {
     ) -> Result<Option<Cause>, OutOfMemory>
         ensures came { (g : Config) (H : List Mark) (e : EntryValue) → e.at ≡ at → e.input ≡ given.Reply link bytes.now
             → Holds g H self.old → IfOk result (λ why. IsReplied g H e link why self.new) }
-        ensures looks { (g : Config) (H : List Mark) (e : EntryValue) → e.input ≡ given.Reply link bytes.now → Holds g H self.old →
+        ensures looks { (g : Config) (H : List Mark) (e : EntryValue) → e.input ≡ given.Reply link bytes.now
+            → Holds g H self.old →
             Looks steps.old steps.new (kept g H) (kept g (Comes e ∷ H)) (length bytes.now) result }
     {
         self.clock = at.max(self.clock);
@@ -150,8 +152,8 @@ impl Tables {
         self.offer(out)
     }
 
-    /// A reply comes on a link: its PINGs are answered. Where a PONG has no room, and else where the replies are no stream
-    /// of a ROUTER, the peer ends.
+    /// A reply comes on a link: its PINGs are answered. Where a PONG has no room, and else where the replies are no
+    /// stream of a ROUTER, the peer ends.
     #[inline(never)]
     pub fn take_reply<L: Ledger>(
         &mut self,
@@ -161,9 +163,11 @@ impl Tables {
         bytes: &[u8],
         steps: &mut Steps<L>,
     ) -> Result<(), OutOfMemory>
-        ensures took { (g : Config) (H : List Mark) (e : EntryValue) → e.at ≡ at → e.input ≡ given.Reply link bytes.now →
+        ensures took { (g : Config) (H : List Mark) (e : EntryValue) → e.at ≡ at
+            → e.input ≡ given.Reply link bytes.now →
             out.old.pushed ≡ [] → Holds g H self.old → OnOk result (Took g e H self.new out.old out.new) }
-        ensures looks { (g : Config) (H : List Mark) (e : EntryValue) → e.input ≡ given.Reply link bytes.now → Holds g H self.old →
+        ensures looks { (g : Config) (H : List Mark) (e : EntryValue) → e.input ≡ given.Reply link bytes.now
+            → Holds g H self.old →
             Looks steps.old steps.new (kept g H) (kept g (with_entry g e H)) (length bytes.now) result }
     {
         out.pushed.push(link)?;

@@ -21,7 +21,8 @@ use zre_values::OutOfMemory;
 /// The connection is ignored from now on, if it is open.
 pub fn ignore(conns: &mut BTreeMap<u64, Connection>, conn: u64, now: u64)
     ensures found { (x : ConnectionValue) → lookup (is_at (nat_cmp conn)) conns.old.entries ≡ Some x →
-        conns.new.entries ≡ set_value (is_at (nat_cmp conn)) conns.old.entries (record x { since = now; run = None; conn = None }) }
+        conns.new.entries ≡ set_value (is_at (nat_cmp conn)) conns.old.entries
+        (record x { since = now; run = None; conn = None }) }
 {
     if let Some(found) = conns.get_mut(&conn) {
         found.since = now;
