@@ -3,3 +3,5 @@ pub mod follow
 pub mod show
 pub mod replay
 pub mod exercise
+pub mod upgrade
+pub mod simulate

@@ -1,5 +1,5 @@
-//! The commands that read one stream and write text: `follow`, `show`, `replay` and `exercise`, each a machine that
-//! makes text of octets, and the pump that runs a machine over a source and a sink.
+//! The commands that read one stream and write text: `follow`, `show`, `replay`, `upgrade`, `exercise` and `simulate`,
+//! each a machine that makes text of octets, and the pump that runs a machine over a source and a sink.
 #![tactic(auto)]
 
 pub mod exercise;
@@ -7,3 +7,5 @@ pub mod follow;
 pub mod pump;
 pub mod replay;
 pub mod show;
+pub mod simulate;
+pub mod upgrade;
