@@ -7,13 +7,12 @@ use Rattle.zre_commands.specs.pump.Outcome.{Pumped}
 use Rattle.zre_commands.specs.follow.Follow.{follow}
 use Rattle.zre_commands.specs.show.Show.{show}
 use Rattle.zre_commands.specs.replay.Replay.{replay}
-use Rattle.zre_commands.specs.simulate.Simulate.{simulate}
 use Rattle.zre_commands.specs.exercise.Exercise.{text as exercise_text}
 use Rattle.zre_chat.specs.Chat.{Seen, IsChat}
 use Rattle.zre_app.specs.declared.command.Command.{Command}
 use Rattle.zre_app.specs.declared.command.Command.TheVariants as commands
 use Rattle.zre_app.specs.declared.plain_words.Plain.{Plain}
-use Rattle.zre_app.specs.declared.plain_words.Plain.TheVariants.{Follow, Show, Simulate, Replay, Exercise}
+use Rattle.zre_app.specs.declared.plain_words.Plain.TheVariants.{Follow, Show, Replay, Exercise}
 use Rattle.zre_app.specs.Given.{Streams, StreamViews, streams, streams_of, Handed, Views, seen_of}
 use Rattle.zre_app.specs.Usage.{UsageOutcome, WritesText}
 
@@ -27,7 +26,6 @@ pub data Work : Type 0 where
 abbrev pub work_of : Plain → Work
 work_of (Follow id) = Reads (follow id)
 work_of Show = Reads show
-work_of Simulate = Reads simulate
 work_of (Replay g) = Reads (replay g)
 work_of (Exercise seed peers messages) = Writes (exercise_text seed peers messages)
 

@@ -9,7 +9,7 @@ use Rattle.zre_app.specs.NodeWords.{node_keys, between, config_in}
 use Rattle.zre_app.specs.declared.keys.Often.{Often}
 use Rattle.zre_app.specs.declared.keys.Often.TheVariants.{Once}
 use Rattle.zre_app.specs.declared.plain_words.Plain.{Plain}
-use Rattle.zre_app.specs.declared.plain_words.Plain.TheVariants.{Follow, Show, Simulate, Replay, Exercise}
+use Rattle.zre_app.specs.declared.plain_words.Plain.TheVariants.{Follow, Show, Replay, Exercise}
 
 -- the keys of `follow`: the identity of the peer
 abbrev pub follow_keys : List (List ℕ × Often)
@@ -24,10 +24,6 @@ follow_of words =
 -- `show` has no words
 abbrev pub show_of : List (List ℕ) → Option Plain
 show_of words = if are_words_of [] words then Some Show else None
-
--- and neither has `simulate`
-abbrev pub simulate_of : List (List ℕ) → Option Plain
-simulate_of words = if are_words_of [] words then Some Simulate else None
 
 -- `replay` has those of a node
 abbrev pub replay_of : List (List ℕ) → Option Plain
@@ -55,7 +51,6 @@ abbrev pub plain_named : List ℕ → List (List ℕ) → Option Plain
 plain_named name words =
     if bytes_eq name (codes "follow") then follow_of words
     else if bytes_eq name (codes "show") then show_of words
-    else if bytes_eq name (codes "simulate") then simulate_of words
     else if bytes_eq name (codes "replay") then replay_of words
     else if bytes_eq name (codes "exercise") then exercise_of words
     else None
@@ -69,6 +64,5 @@ plain_of (name ∷ words) = if not (list_all is_utf8 (name ∷ words)) then None
 abbrev pub CanDo : Plain → Type 0
 CanDo (Follow id) = Unit {0}
 CanDo Show = Unit {0}
-CanDo Simulate = Unit {0}
 CanDo (Replay g) = is_valid g ≡ true
 CanDo (Exercise seed peers messages) = (1 ≤ peers) × (peers ≤ 256) × (messages ≤ 1000000)

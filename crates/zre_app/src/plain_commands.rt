@@ -17,7 +17,6 @@ use zre_commands::follow::Follower;
 use zre_commands::pump::{Status, pump};
 use zre_commands::replay::Replayer;
 use zre_commands::show::Lister;
-use zre_commands::simulate::Simulator;
 use zre_journal::Config;
 use zre_outside::{NextFault, Sink, Source, write_all};
 use zre_values::{Frames, Octets, OutOfMemory, PeerId};
@@ -60,19 +59,6 @@ fn show<I: Source, O: Sink>(alloc: Global, input: &mut I, out: &mut O, limit: u6
         (Some Plain.Show) limit result input.old input.new out.old out.new }
 {
     let mut machine = Lister::new(alloc);
-    pump(alloc, &mut machine, input, out, limit)
-}
-
-fn simulate<I: Source, O: Sink>(
-    alloc: Global,
-    input: &mut I,
-    out: &mut O,
-    limit: u64,
-) -> Status
-    ensures does { DidPlain (stream_views I.left I.taken I.faults O.written O.faults)
-        (Some Plain.Simulate) limit result input.old input.new out.old out.new }
-{
-    let mut machine = Simulator::new(alloc);
     pump(alloc, &mut machine, input, out, limit)
 }
 
@@ -136,7 +122,6 @@ fn obey<I: Source, O: Sink>(
         None => usage(out),
         Some(Plain::Follow { id }) => follow(alloc, id, input, out, limit),
         Some(Plain::Show) => show(alloc, input, out, limit),
-        Some(Plain::Simulate) => simulate(alloc, input, out, limit),
         Some(Plain::Replay { config }) => replay(alloc, config, input, out, limit),
         Some(
             Plain::Exercise {

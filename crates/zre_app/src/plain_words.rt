@@ -1,8 +1,7 @@
 //! The words of the commands but `chat`.
 
 ghost use Rattle.std.specs.Prelude.{◌≡◌, ◌≤◌, map, IfOk, IfSome};
-ghost use Rattle.zre_app.specs.PlainWords.{follow_of, show_of, simulate_of, replay_of, number_in, exercise_in};
-ghost use Rattle.zre_app.specs.PlainWords.{exercise_keys};
+ghost use Rattle.zre_app.specs.PlainWords.{follow_of, show_of, replay_of, number_in, exercise_in, exercise_keys};
 ghost use Rattle.zre_app.specs.PlainWords.{exercise_of, plain_named, plain_of, CanDo};
 
 use crate::keys::{Key, Often, are_words_of, identity, value_of};
@@ -22,8 +21,6 @@ pub enum Plain {
     },
     /// Write a line for each item of a whole stream.
     Show,
-    /// Write the events of several nodes, from a schedule.
-    Simulate,
     /// Write the events of a node with these settings, from a capture of its journal.
     Replay {
         config: Config,
@@ -62,17 +59,6 @@ fn show_of(words: &[Octets]) -> Option<Plain>
 {
     if are_words_of(&[], words) {
         Some(Plain::Show)
-    } else {
-        None
-    }
-}
-
-fn simulate_of(words: &[Octets]) -> Option<Plain>
-    ensures value { result ≡ simulate_of words.now }
-    ensures ready { IfSome result CanDo }
-{
-    if are_words_of(&[], words) {
-        Some(Plain::Simulate)
     } else {
         None
     }
@@ -167,9 +153,6 @@ fn plain_named(alloc: Global, name: &[u8], words: &[Octets]) -> Result<Option<Pl
     }
     if name == b"show".as_slice() {
         return Ok(show_of(words));
-    }
-    if name == b"simulate".as_slice() {
-        return Ok(simulate_of(words));
     }
     if name == b"replay".as_slice() {
         return replay_of(alloc, words);

@@ -4,4 +4,3 @@ pub mod show
 pub mod replay
 pub mod exercise
 pub mod upgrade
-pub mod simulate

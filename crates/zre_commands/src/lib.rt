@@ -1,4 +1,4 @@
-//! The commands that read one stream and write text: `follow`, `show`, `replay`, `upgrade`, `exercise` and `simulate`,
+//! The commands that read one stream and write text: `follow`, `show`, `replay`, `upgrade` and `exercise`,
 //! each a machine that makes text of octets, and the pump that runs a machine over a source and a sink.
 #![tactic(auto)]
 
@@ -7,5 +7,4 @@ pub mod follow;
 pub mod pump;
 pub mod replay;
 pub mod show;
-pub mod simulate;
 pub mod upgrade;

@@ -1,2 +1,0 @@
-pub mod Simulate
-pub mod Simulator

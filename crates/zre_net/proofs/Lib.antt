@@ -1,7 +1,0 @@
-mod Computed
-mod Cut
-mod Cutting
-mod Grows
-mod Lines
-mod Long
-mod Same
