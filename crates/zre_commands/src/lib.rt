@@ -6,5 +6,6 @@ pub mod exercise;
 pub mod follow;
 pub mod pump;
 pub mod replay;
+pub mod settings;
 pub mod show;
 pub mod upgrade;

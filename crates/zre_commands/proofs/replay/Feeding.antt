@@ -22,7 +22,7 @@ use Rattle.zre_commands.specs.replay.Replayer.{Fed}
 use Rattle.zre_commands.specs.replay.State.{IsState}
 
 -- more events have more lines
-lines_more : (g : Config) (J K : List Entry) (told : List Event) → events g (J ++ K) ≡ events g J ++ told → lines (events g (J ++ K)) ≡ lines (events g J) ++ lines told
+pub lines_more : (g : Config) (J K : List Entry) (told : List Event) → events g (J ++ K) ≡ events g J ++ told → lines (events g (J ++ K)) ≡ lines (events g J) ++ lines told
 lines_more g J K told e = ap lines e ∙ flat_map-append line (events g J) told
 
 text_by : (g : Config) (o x : List ℕ) (es : List Entry) (told : List Event) → journal First (o ++ x) ≡ journal First o ++ es → events g (journal First o ++ es) ≡ events g (journal First o) ++ told → text g (o ++ x) ≡ text g o ++ lines told
