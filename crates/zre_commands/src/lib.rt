@@ -4,6 +4,7 @@
 
 pub mod exercise;
 pub mod follow;
+pub mod laws;
 pub mod pump;
 pub mod replay;
 pub mod settings;

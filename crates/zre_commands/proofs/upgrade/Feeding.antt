@@ -12,7 +12,11 @@ use Rattle.zre_capture.proofs.After.{lines-append}
 use Rattle.zre_capture.proofs.Growing.{journal_grows}
 use Rattle.zre_commands.specs.declared.replay.reading.State.{State}
 use Rattle.zre_commands.specs.declared.replay.reading.State.TheVariants.{Going, Bad, Lost}
-use Rattle.zre_commands.specs.upgrade.Upgrade.{text}
+use Rattle.zre_commands.specs.declared.upgrade.upgrader.Upgrader.{Upgrader}
+use Rattle.zre_commands.specs.pump.Meaning.{Grows}
+use Rattle.zre_commands.specs.upgrade.Upgrade.{text, upgrade}
+use Rattle.zre_commands.specs.upgrade.Upgrader.{Fed}
+use Rattle.zre_commands.specs.upgrade.Written.{Wrote}
 use Rattle.zre_commands.specs.replay.State.{IsState}
 
 pub no_entries : journal First [] ≡ []
@@ -27,10 +31,12 @@ pub nothing_stopped : is_some (bad First []) ≡ false
 nothing_stopped = ap is_some not_bad
 
 pub text_nothing : (s : Settings) → text s [] ≡ head Second s
+unfolding text
 text_nothing s = ap (λ (J : List Entry). head Second s ++ lines Second 0 J) no_entries ∙ append-nil (head Second s)
 
 -- more entries, more lines
 pub text_by : (s : Settings) (o x : List ℕ) (es : List Entry) (added : List ℕ) → journal First (o ++ x) ≡ journal First o ++ es → lines Second 0 (journal First o ++ es) ≡ lines Second 0 (journal First o) ++ added → text s (o ++ x) ≡ text s o ++ added
+unfolding text
 text_by s o x es added j e =
     ap (λ (J : List Entry). head Second s ++ lines Second 0 J) j ∙ ap (λ (l : List ℕ). head Second s ++ l) e ∙ sym (append_assoc (head Second s) (lines Second 0 (journal First o)) added)
 
@@ -38,3 +44,16 @@ pub text_grows : (s : Settings) (o x : List ℕ) → (added : List ℕ) × (text
 text_grows s o x =
     let more = journal_grows First o x in
     (_, text_by s o x more.0 _ more.1 (lines-append Second 0 (journal First o) more.0))
+
+-- the lines of the entries of a piece were written
+pub text_on : (s : Settings) (o x : List ℕ) (es : List Entry) (at : ℕ) (out out' : List ℕ) → journal First (o ++ x) ≡ journal First o ++ es → Wrote (journal First o) es at out out' → Grows (upgrade s) o x out out'
+text_on s o x es at out out' j w = record { added = w.added; longer = text_by s o x es w.added j w.more; appended = w.appended }
+
+-- what the machine knows after it
+pub feeds_on : (u : Upgrader) (o x : List ℕ) (es : List Entry) (at : ℕ) (out out' : List ℕ) → IsState First u.state (o ++ x) → journal First (o ++ x) ≡ journal First o ++ es
+    → Wrote (journal First o) es at out out' → u.before ≡ at → Fed u (o ++ x)
+feeds_on u o x es at out out' is j w e = record { reads = is; before = e ∙ w.last ∙ ap (last_reading 0) (sym j) }
+
+-- the entries that a piece adds to an empty list
+pub added_alone : (f : Format) (o x : List ℕ) (old new : List Entry) → Adds f o x old new → old ≡ [] → journal f (o ++ x) ≡ journal f o ++ new
+added_alone f o x old new a e = a.more ∙ ap (λ (es : List Entry). journal f o ++ es) (sym (a.added ∙ ap (λ (es : List Entry). es ++ a.entries) e))

@@ -7,7 +7,7 @@ use Rattle.zre_commands.specs.pump.Meaning.{Meaning}
 use Rattle.zre_commands.specs.replay.Capture.{of_capture}
 
 -- the capture of format 2 of these settings and of its journal
-abbrev pub text : Settings → List ℕ → List ℕ
+unfoldable pub text : Settings → List ℕ → List ℕ
 text s o = capture Second s (journal First o)
 
 -- all that `upgrade` makes of octets
