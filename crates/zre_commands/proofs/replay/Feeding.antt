@@ -14,7 +14,7 @@ use Rattle.zre_outside.specs.declared.entry.Entry.{Entry}
 use Rattle.zre_peer.specs.Lines.{line, lines}
 use Rattle.zre_peer.specs.declared.event.Event.{Event}
 use Rattle.zre_commands.specs.declared.replay.reading.State.{State}
-use Rattle.zre_commands.specs.declared.replay.reading.State.TheVariants.{Going, Bad, Lost}
+use Rattle.zre_commands.specs.declared.replay.reading.State.TheVariants.{Going}
 use Rattle.zre_commands.specs.declared.replay.replayer.Replayer.{Replayer}
 use Rattle.zre_commands.specs.declared.replay.waiting.Waiting.{Waiting}
 use Rattle.zre_commands.specs.replay.Replay.{text}
@@ -51,9 +51,3 @@ nothing_fed r w e reads format stands = record {
   reads = subst (λ s. IsState First s []) (sym e) (not_bad, reads, format);
   stands = subst (λ J. StandsFor r.config J r.node) (sym no_entries) stands;
 }
-
--- a capture that isn't bad so far has a reader
-pub goes_on : {C : Type 0} (s : State) (o : List ℕ) → IsState First s o → is_some (bad First o) ≡ false → ((w : _) → s ≡ Going w → ⊥) → C
-goes_on (Going w) o h e no_reader = absurd (no_reader w refl)
-goes_on (Bad r) o h e no_reader = let z : true ≡ false = sym (ap is_some h.0) ∙ e in absurd cc
-goes_on Lost o h e no_reader = absurd h

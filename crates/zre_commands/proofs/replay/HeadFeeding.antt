@@ -19,9 +19,12 @@ use Rattle.zre_outside.specs.declared.entry.Entry.{Entry}
 use Rattle.zre_peer.specs.Lines.{lines}
 use Rattle.zre_peer.specs.declared.event.Event.{Event}
 use Rattle.zre_commands.specs.Settings.{as_config}
+use Rattle.zre_commands.specs.declared.replay.head_replayer.HeadReplayer.{HeadReplayer}
 use Rattle.zre_commands.specs.pump.Meaning.{Grows}
+use Rattle.zre_commands.specs.replay.HeadReplayer.{Fed}
 use Rattle.zre_commands.specs.replay.Lives.{Lives, AreStill, Tells, TookIfAny}
 use Rattle.zre_commands.specs.replay.Replay.{told_text, told_replay}
+use Rattle.zre_commands.specs.replay.State.{IsState}
 use Rattle.zre_commands.proofs.replay.Feeding.{lines_more}
 
 -- ---- before any octet
@@ -93,21 +96,25 @@ none_before o x e = by (settings Second o) refl
 
 -- ---- a node that lives
 
--- made where there was none
-pub lives_first : (before : Option Settings) (J : List Entry) (s : Settings) (n : Option Node) → Lives before J None → AreStill before J (Some s) → Lives (Some s) [] n → Lives (Some s) J n
-lives_first None J s n l e h = subst (λ K. Lives (Some s) K n) (sym e) h
-lives_first (Some t) J s n l e h = absurd l
-
 -- there still
-pub lives_still : (before : Option Settings) (J : List Entry) (told : Option Settings) (n : Node) → Lives before J (Some n) → AreStill before J told → Lives told J (Some n)
-lives_still None J told n l e = absurd l
-lives_still (Some s) J told n l e = subst (λ t. Lives t J (Some n)) (sym e) l
+pub lives_still : (before : Option Settings) (J : List Entry) (told : Option Settings) (n : Option Node) → is_some n ≡ true → Lives before J n → Tells before J told → Lives told J n
+lives_still None J told None e l t = absurd cc
+lives_still (Some s) J told None e l t = absurd l
+lives_still None J told (Some n) e l t = absurd l
+lives_still (Some s) J told (Some n) e l t = subst (λ u. Lives u J (Some n)) (sym t.still) l
+
+-- made where there was none
+pub lives_first : (before : Option Settings) (J : List Entry) (s : Settings) (m n : Option Node) → is_some m ≡ false → Lives before J m → Tells before J (Some s) → (are_valid s ≡ true → Lives (Some s) [] n) → Lives (Some s) J n
+lives_first None J s None n e l t h = subst (λ K. Lives (Some s) K n) (sym t.still) (h t.valid)
+lives_first (Some u) J s None n e l t h = absurd l
+lives_first None J s (Some m) n e l t h = absurd l
+lives_first (Some u) J s (Some m) n e l t h = absurd cc
 
 -- not there yet
-pub lives_later : (before : Option Settings) (J : List Entry) (n : Option Node) → Lives before J n → AreStill before J None → Lives None J n
-lives_later None J None l e = tt
-lives_later None J (Some n) l e = absurd l
-lives_later (Some s) J n l e = absurd cc
+pub lives_later : (before : Option Settings) (J : List Entry) (n : Option Node) → Lives before J n → Tells before J None → Lives None J n
+lives_later None J None l t = tt
+lives_later None J (Some n) l t = absurd l
+lives_later (Some s) J n l t = let z : None ≡ Some s = t.still in absurd cc
 
 pub lives_on : (told : Option Settings) (J es K : List Entry) (n : Option Node) (out out' : List ℕ) → TookIfAny told J es n out out' → K ≡ J ++ es → Lives told K n
 lives_on None J es K None out out' t e = tt
@@ -157,3 +164,11 @@ text_on o x None es None out out' e t j = record { added = []; longer = silent o
 text_on o x None es (Some n) out out' e t j = absurd t
 text_on o x (Some s) es None out out' e t j = absurd t
 text_on o x (Some s) es (Some n) out out' e t j = record { added = lines t.told; longer = grown o x s es t.told (sym e) j t.more; appended = t.appended }
+
+-- what the machine knows after a piece
+pub feeds_on : (h : HeadReplayer) (o x : List ℕ) (told : Option Settings) (es : List Entry) (out out' : List ℕ) → IsState Second h.state (o ++ x) → told ≡ settings Second (o ++ x)
+    → TookIfAny told (journal Second o) es h.node out out' → journal Second (o ++ x) ≡ journal Second o ++ es → Fed h (o ++ x)
+feeds_on h o x told es out out' is e t j = record {
+  reads = is;
+  lives = subst (λ u. Lives u (journal Second (o ++ x)) h.node) e (lives_on told (journal Second o) es (journal Second (o ++ x)) h.node out out' t j);
+}

@@ -3,15 +3,12 @@ use Rattle.std.proofs.Common.{◌≡◌, ℕ, true, false, None, List, [], ◌++
 use Rattle.std.specs.Prelude.{is_some}
 use Rattle.zre_outside.specs.declared.entry.Entry.{Entry}
 use Rattle.zre_capture.specs.Heads.{head}
-use Rattle.zre_capture.specs.Journal.{journal, bad, bad_from, entries_from, last_reading, Reads, format_of, Adds}
+use Rattle.zre_capture.specs.Journal.{journal, bad, bad_from, entries_from, last_reading}
 use Rattle.zre_capture.specs.Lines.{lines}
-use Rattle.zre_capture.specs.declared.format.Format.{Format}
 use Rattle.zre_capture.specs.declared.format.Format.TheVariants.{First, Second}
 use Rattle.zre_capture.specs.declared.settings.Settings.{Settings}
 use Rattle.zre_capture.proofs.After.{lines-append}
 use Rattle.zre_capture.proofs.Growing.{journal_grows}
-use Rattle.zre_commands.specs.declared.replay.reading.State.{State}
-use Rattle.zre_commands.specs.declared.replay.reading.State.TheVariants.{Going, Bad, Lost}
 use Rattle.zre_commands.specs.declared.upgrade.upgrader.Upgrader.{Upgrader}
 use Rattle.zre_commands.specs.pump.Meaning.{Grows}
 use Rattle.zre_commands.specs.upgrade.Upgrade.{text, upgrade}
@@ -53,7 +50,3 @@ text_on s o x es at out out' j w = record { added = w.added; longer = text_by s 
 pub feeds_on : (u : Upgrader) (o x : List ℕ) (es : List Entry) (at : ℕ) (out out' : List ℕ) → IsState First u.state (o ++ x) → journal First (o ++ x) ≡ journal First o ++ es
     → Wrote (journal First o) es at out out' → u.before ≡ at → Fed u (o ++ x)
 feeds_on u o x es at out out' is j w e = record { reads = is; before = e ∙ w.last ∙ ap (last_reading 0) (sym j) }
-
--- the entries that a piece adds to an empty list
-pub added_alone : (f : Format) (o x : List ℕ) (old new : List Entry) → Adds f o x old new → old ≡ [] → journal f (o ++ x) ≡ journal f o ++ new
-added_alone f o x old new a e = a.more ∙ ap (λ (es : List Entry). journal f o ++ es) (sym (a.added ∙ ap (λ (es : List Entry). es ++ a.entries) e))

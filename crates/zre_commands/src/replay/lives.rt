@@ -35,11 +35,16 @@ pub(crate) fn make_node(
         → Tells before J (option_map (λ s. s.now) told)
         → OnOk result (Lives (option_map (λ s. s.now) told) J node.new) }
 {
-    let (None, Some(settings)) = (&*node, told) else {
+    if node.is_some() {
         return Ok(());
-    };
-    *node = node_of(alloc, settings)?;
-    Ok(())
+    }
+    match told {
+        Some(settings) => {
+            *node = node_of(alloc, settings)?;
+            Ok(())
+        }
+        None => Ok(()),
+    }
 }
 
 /// The node takes entries, one after the other, if there is one. The list that is handed back has their memory.
