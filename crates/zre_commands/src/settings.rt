@@ -12,11 +12,12 @@ use zre_values::{Octets, OutOfMemory, Pairs};
 pub fn as_settings(config: Config) -> Settings
     ensures { result ≡ as_settings config }
 {
+    let host = config.host;
     Settings {
         id: config.id,
         name: config.name,
         headers: config.headers,
-        host: config.host,
+        host,
         port: config.port,
         evasive: config.evasive,
         expired: config.expired,
@@ -27,11 +28,12 @@ pub fn as_settings(config: Config) -> Settings
 pub fn as_config(alloc: Global, settings: &Settings) -> Result<Config, OutOfMemory>
     ensures { IfOk result (λ config. config ≡ as_config settings.now) }
 {
+    let host = settings.host;
     Ok(Config {
         id: settings.id,
         name: Octets::copy(alloc, settings.name.as_slice())?,
         headers: Pairs::copy(alloc, &settings.headers)?,
-        host: settings.host,
+        host,
         port: settings.port,
         evasive: settings.evasive,
         expired: settings.expired,

@@ -45,7 +45,7 @@ text_nothing = refl
 -- ---- settings
 
 -- a head that says no settings says no entries, and what follows it isn't read
-bad_head : (long : Bool) (s : Option Settings) → cond long None s ≡ None → cond long None (cond (is_some s) (Some []) None) ≡ None
+bad_head : (long : Bool) (s : Option Settings) → cond long None s ≡ None → cond {A = Option (List Entry)} long None (cond (is_some s) (Some []) None) ≡ None
 bad_head true s e = refl
 bad_head false None e = refl
 bad_head false (Some s) e = absurd cc
@@ -158,17 +158,23 @@ text_grows o x = by (settings Second (o ++ x)) refl
         let more = journal_grows Second o x in
         (_, grown o x s more.0 _ e more.1 (continues (as_config s) (journal Second o) more.0).told)
 
-pub text_on : (o x : List ℕ) (told : Option Settings) (es : List Entry) (n : Option Node) (out out' : List ℕ) → told ≡ settings Second (o ++ x) → TookIfAny told (journal Second o) es n out out'
-    → journal Second (o ++ x) ≡ journal Second o ++ es → Grows told_replay o x out out'
-text_on o x None es None out out' e t j = record { added = []; longer = silent o x (sym e); appended = t ∙ sym (append-nil out) }
-text_on o x None es (Some n) out out' e t j = absurd t
-text_on o x (Some s) es None out out' e t j = absurd t
-text_on o x (Some s) es (Some n) out out' e t j = record { added = lines t.told; longer = grown o x s es t.told (sym e) j t.more; appended = t.appended }
+-- the entries of a piece were told to the node of the settings
+pub text_on : (o x : List ℕ) (told : Option Settings) (given es : List Entry) (n : Option Node) (out out' : List ℕ) → told ≡ settings Second (o ++ x) → given ≡ es
+    → TookIfAny told (journal Second o) given n out out' → journal Second (o ++ x) ≡ journal Second o ++ es → Grows told_replay o x out out'
+text_on o x None given es None out out' e same t j = record { added = []; longer = silent o x (sym e); appended = t ∙ sym (append-nil out) }
+text_on o x None given es (Some n) out out' e same t j = absurd t
+text_on o x (Some s) given es None out out' e same t j = absurd t
+text_on o x (Some s) given es (Some n) out out' e same t j = record {
+  added = lines t.told;
+  longer = grown o x s given t.told (sym e) (j ∙ ap (λ (fs : List Entry). journal Second o ++ fs) (sym same)) t.more;
+  appended = t.appended;
+}
 
--- what the machine knows after a piece
-pub feeds_on : (h : HeadReplayer) (o x : List ℕ) (told : Option Settings) (es : List Entry) (out out' : List ℕ) → IsState Second h.state (o ++ x) → told ≡ settings Second (o ++ x)
-    → TookIfAny told (journal Second o) es h.node out out' → journal Second (o ++ x) ≡ journal Second o ++ es → Fed h (o ++ x)
-feeds_on h o x told es out out' is e t j = record {
+-- what the machine knows after it
+pub feeds_on : (h : HeadReplayer) (o x : List ℕ) (told : Option Settings) (given es : List Entry) (out out' : List ℕ) → IsState Second h.state (o ++ x) → told ≡ settings Second (o ++ x)
+    → given ≡ es → TookIfAny told (journal Second o) given h.node out out' → journal Second (o ++ x) ≡ journal Second o ++ es → Fed h (o ++ x)
+feeds_on h o x told given es out out' is e same t j = record {
   reads = is;
-  lives = subst (λ u. Lives u (journal Second (o ++ x)) h.node) e (lives_on told (journal Second o) es (journal Second (o ++ x)) h.node out out' t j);
+  lives = subst (λ u. Lives u (journal Second (o ++ x)) h.node) e
+      (lives_on told (journal Second o) given (journal Second (o ++ x)) h.node out out' t (j ∙ ap (λ (fs : List Entry). journal Second o ++ fs) (sym same)));
 }

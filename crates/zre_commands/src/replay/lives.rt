@@ -32,8 +32,8 @@ pub(crate) fn make_node(
     told: Option<&Settings>,
 ) -> Result<(), OutOfMemory>
     ensures { (before : Option SettingsValue) (J : List EntryValue) → Lives before J node.old
-        → Tells before J (option_map (λ s. s.now) told)
-        → OnOk result (Lives (option_map (λ s. s.now) told) J node.new) }
+        → Tells before J (option_map (λ s. s.now) told.entry)
+        → OnOk result (Lives (option_map (λ s. s.now) told.entry) J node.new) }
 {
     if node.is_some() {
         return Ok(());
