@@ -268,4 +268,5 @@ abbrev pub Broke : Config → List Entry → Entry → Bool → ℕ → Option L
     → Option (List ℕ) → ℕ → ℕ → Node → Ending → Type 0
 Broke g J e keep before told told' kept kept' rf rf' n ended =
     IsUnput g J e keep before told told' kept kept' rf rf' n ended
-    ⊎ (IsUnstepped e keep before told told' kept kept' n ended ⊎ IsUndone g J e keep before told told' kept kept' n ended)
+    ⊎ (IsUnstepped e keep before told told' kept kept' n ended
+    ⊎ IsUndone g J e keep before told told' kept kept' n ended)

@@ -73,8 +73,10 @@ fn keep_line<R: Recorder>(
     entry: &Entry,
 ) -> Result<(), Ending>
     requires { keep ≡ true → R.begun rec.old ≡ true }
-    ensures kept { OnOk result (keep ≡ true → Appends (R.kept rec.old) (R.kept rec.new) (line Second before entry.now)) }
-    ensures broke { IfErr result (λ x. (keep ≡ true) × AppendsFront (R.kept rec.old) (R.kept rec.new) (line Second before entry.now)
+    ensures kept { OnOk result (keep ≡ true
+        → Appends (R.kept rec.old) (R.kept rec.new) (line Second before entry.now)) }
+    ensures broke { IfErr result (λ x. (keep ≡ true)
+        × AppendsFront (R.kept rec.old) (R.kept rec.new) (line Second before entry.now)
         × IsRefusal (R.faults rec.old) (R.faults rec.new) x) }
     ensures unkept { keep ≡ false → rec.new ≡ rec.old }
     ensures begun { R.begun rec.new ≡ R.begun rec.old }
