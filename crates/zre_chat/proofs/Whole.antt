@@ -32,10 +32,11 @@ use Rattle.zre_console.specs.declared.reader.ending.InputEnd.TheVariants as end
 use Rattle.zre_console.specs.reader.Putting.{IsShort}
 use Rattle.zre_console.specs.reader.Reading.{Outcome, BreaksOff}
 use Rattle.zre_console.proofs.lines.Quits.{orders-begin}
+use Rattle.zre_commands.specs.Settings.{as_settings}
 use Rattle.zre_commands.specs.declared.pump.status.Status.{Status}
 use Rattle.zre_commands.specs.declared.pump.status.Status.TheVariants.{Done, Usage, BadInput, ReadFault, WriteFault, WorldFault, NoThread, TooLong, OutOfMemory}
 use Rattle.zre_chat.specs.Chat.{Seen, IsChat, IsCaused, Holds, started}
-use Rattle.zre_chat.specs.Keeping.{settings_of, head_of}
+use Rattle.zre_chat.specs.Keeping.{head_of}
 use Rattle.zre_chat.specs.Stages.{IsEarly, Unprepared}
 use Rattle.zre_chat.specs.Statuses.{of_fault, of_read}
 use Rattle.zre_chat.proofs.Fronts.{map-prefix, quits_through, none_before, breaks_front, breaks_plain, orders_break}
@@ -54,14 +55,14 @@ none_started None = refl
 none_started (Some l) = refl
 
 -- a capture of no entries
-pub head_only : (g : Config) (kept u t : Option (List ℕ)) → Appends (option_map (λ _. []) kept) u (head_of g) → t ≡ u → Appends (option_map (λ _. []) kept) t (capture Second (settings_of g) [])
+pub head_only : (g : Config) (kept u t : Option (List ℕ)) → Appends (option_map (λ _. []) kept) u (head_of g) → t ≡ u → Appends (option_map (λ _. []) kept) t (capture Second (as_settings g) [])
 head_only g kept u t is same = subst (λ (x : Option (List ℕ) × List ℕ). Appends (option_map (λ _. []) kept) x.0 x.1) (λ i. (sym same i, sym (append-nil (head_of g)) i)) is
 
 -- no commands begin the orders of any text
 pub nothing_begins : (o : List ℕ) → Begins [] o
 nothing_begins o = orders-begin o [] (orders_from 1 (ended_lines (lines_in o))) refl refl
 
-module _ (g : Config) (start : Start) (name : Option (List ℕ)) (limit : ℕ) (settings : AreSettings (settings_of g)) where
+module _ (g : Config) (start : Start) (name : Option (List ℕ)) (limit : ℕ) (settings : AreSettings (as_settings g)) where
   untold : (begun : Bool) (told : Option Log) → option_map (started begun start) told ≡ option_map (λ l. went [] 0 [] [] (started begun start l)) told
   untold begun None = refl
   untold begun (Some l) = went-none (Some (started begun start l))

@@ -24,9 +24,9 @@ use Rattle.zre_actor.specs.Work.{went, AreDeeds, acts_of, done_by, AllGo}
 use Rattle.zre_console.specs.lines.Orders.{is_quit, typed, orders}
 use Rattle.zre_console.specs.reader.Putting.{IsShort}
 use Rattle.zre_console.specs.reader.Reading.{IsReadOn, BreaksOff}
+use Rattle.zre_commands.specs.Settings.{as_settings}
 use Rattle.zre_commands.specs.declared.pump.status.Status.{Status}
 use Rattle.zre_commands.specs.declared.pump.status.Status.TheVariants.{Done, Usage, BadInput, ReadFault, WriteFault, WorldFault, NoThread, TooLong, OutOfMemory}
-use Rattle.zre_chat.specs.Keeping.{settings_of}
 use Rattle.zre_chat.specs.Statuses.{least}
 
 -- what is seen of all that a chat works with, at one moment
@@ -100,7 +100,7 @@ HasEnded limit octets handed left = (IsAtEnd left × (length octets < limit))
 -- tells what it holds
 abbrev pub Holds : Config → List ℕ → List Entry → Seen → Seen → Type 0
 Holds g name es s t =
-    Appends (option_map (λ _. []) s.kept) t.kept (capture Second (settings_of g) es)
+    Appends (option_map (λ _. []) s.kept) t.kept (capture Second (as_settings g) es)
     × Keeps (option_map (λ _. name) s.named) t.named
 
 -- a world was started, unless the chat ended before
@@ -142,7 +142,7 @@ pub record IsChat (g : Config) (start : Start) (name : Option (List ℕ)) (limit
   pub whole : IsSpared status (Rose s.write_faults t.write_faults)
       → Appends s.written t.written (lines (events g entries))
   -- the capture of all that was given was kept, its head with the node's settings, which are values of their types
-  pub are_settings : AreSettings (settings_of g)
+  pub are_settings : AreSettings (as_settings g)
   pub held : (file : List ℕ) → name ≡ Some file → IsSpared status (Rose s.record_faults t.record_faults)
       → Holds g file entries s t
   -- the commands that were handed in are done by entries that were given, in order

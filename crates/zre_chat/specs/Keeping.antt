@@ -4,23 +4,11 @@ use Rattle.std.specs.Io.KnownBytes.{Keeps, Appends}
 use Rattle.zre_journal.specs.declared.config.Config.{Config}
 use Rattle.zre_capture.specs.Heads.{head}
 use Rattle.zre_capture.specs.declared.format.Format.TheVariants.{Second}
-use Rattle.zre_capture.specs.declared.settings.Settings.{Settings}
-
--- the settings of a node, as the head of its capture says them
-abbrev pub settings_of : Config → Settings
-settings_of g = record {
-  id = g.id;
-  name = g.name;
-  headers = g.headers;
-  host = g.host;
-  port = g.port;
-  evasive = g.evasive;
-  expired = g.expired;
-}
+use Rattle.zre_commands.specs.Settings.{as_settings}
 
 -- the head of the capture of a node with these settings
 abbrev pub head_of : Config → List ℕ
-head_of g = head Second (settings_of g)
+head_of g = head Second (as_settings g)
 
 -- a recorder was begun under a name, emptied, and this head was put, where it tells what it holds
 pub record Begins (top name : List ℕ) (begun : Bool) (kept kept' named named' : Option (List ℕ)) : Type 0 where

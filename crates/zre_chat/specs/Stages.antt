@@ -6,10 +6,11 @@ use Rattle.zre_outside.specs.Causes.{Rose}
 use Rattle.zre_outside.specs.Worlds.{Log, with_start}
 use Rattle.zre_journal.specs.declared.config.Config.{Config}
 use Rattle.zre_capture.specs.Heads.{AreSettings}
+use Rattle.zre_commands.specs.Settings.{as_settings}
 use Rattle.zre_commands.specs.declared.pump.status.Status.{Status}
 use Rattle.zre_commands.specs.declared.pump.status.Status.TheVariants.{Done, Usage, BadInput, ReadFault, WriteFault, WorldFault, NoThread, TooLong, OutOfMemory}
 use Rattle.zre_chat.specs.Chat.{Seen, started}
-use Rattle.zre_chat.specs.Keeping.{settings_of, head_of}
+use Rattle.zre_chat.specs.Keeping.{head_of}
 
 -- the recorder was begun where a capture is kept, and the world was started; nothing was read or written
 pub record Prepared (g : Config) (start : Start) (name : Option (List ℕ)) (keep : Bool) (s u : Seen) : Type 0 where
@@ -23,7 +24,7 @@ pub record Prepared (g : Config) (start : Start) (name : Option (List ℕ)) (kee
   pub world_later : s.world_faults ≤ u.world_faults
   pub record_later : s.record_faults ≤ u.record_faults
   pub keeps : keep ≡ is_some name
-  pub are_settings : AreSettings (settings_of g)
+  pub are_settings : AreSettings (as_settings g)
   pub head_kept : (file : List ℕ) → name ≡ Some file → Appends (option_map (λ _. []) s.kept) u.kept (head_of g)
   pub file_named : (file : List ℕ) → name ≡ Some file → Keeps (option_map (λ _. file) s.named) u.named
 

@@ -3,35 +3,21 @@
 ghost use Rattle.std.specs.Prelude.{◌≡◌, ◌≤◌, ℕ, List, Option, None, Some, true, is_ok, IfSome, IfOk, OnOk, IsErrOf};
 ghost use Rattle.std.specs.Str.{is_utf8};
 ghost use Rattle.zre_outside.specs.Causes.{Rose};
-ghost use Rattle.zre_chat.specs.Keeping.{settings_of, head_of, Begins};
+ghost use Rattle.zre_chat.specs.Keeping.{head_of, Begins};
 
 use std::alloc::Global;
 use std::str;
-use zre_capture::{Settings, write_head2};
+use zre_capture::write_head2;
+use zre_commands::settings::as_settings;
 use zre_journal::Config;
 use zre_outside::{NextFault, Recorder};
-use zre_values::{Octets, OutOfMemory, Pairs};
-
-// The settings of a node, as the head of its capture says them.
-fn settings_of(alloc: Global, config: &Config) -> Result<Settings, OutOfMemory>
-    ensures { IfOk result (λ settings. settings ≡ settings_of config.now) }
-{
-    Ok(Settings {
-        id: config.id,
-        name: Octets::copy(alloc, config.name.as_slice())?,
-        headers: Pairs::copy(alloc, &config.headers)?,
-        host: config.host,
-        port: config.port,
-        evasive: config.evasive,
-        expired: config.expired,
-    })
-}
+use zre_values::{Octets, OutOfMemory};
 
 // The head of the capture of a node with these settings.
 fn head_of(alloc: Global, config: &Config) -> Result<Octets, OutOfMemory>
     ensures { IfOk result (λ head. head ≡ head_of config.now) }
 {
-    let settings = settings_of(alloc, config)?;
+    let settings = as_settings(Config::copy(alloc, config)?);
     write_head2(alloc, &settings)
 }
 

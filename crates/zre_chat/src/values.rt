@@ -6,7 +6,7 @@ ghost use Rattle.zre_values.specs.PlainId.{IsPeerId};
 ghost use Rattle.zre_capture.specs.Heads.{IsHeader, AreSettings};
 ghost use Rattle.zre_capture.specs.Lines.{IsOctets};
 ghost use Rattle.zre_journal.specs.Config.{is_valid};
-ghost use Rattle.zre_chat.specs.Keeping.{settings_of};
+ghost use Rattle.zre_commands.specs.Settings.{as_settings};
 
 use zre_journal::Config;
 use zre_values::{Octets, Pairs, PeerId};
@@ -53,7 +53,7 @@ fn is_address(host: &[u8; 4])
 /// Shows that valid settings are values of their types.
 pub(crate) fn are_values(config: &Config)
     requires { is_valid config.now ≡ true }
-    ensures { AreSettings (settings_of config.now) }
+    ensures { AreSettings (as_settings config.now) }
 {
     is_id(&config.id);
     are_octets(&config.name);
