@@ -83,7 +83,13 @@ impl Pipes {
                 Turn::Entry(entry) => {
                     let at = entry.at;
                     match take_entry(
-                        &mut world, &mut node, &mut rec, &mut buffer, keep, before, entry,
+                        &mut world,
+                        &mut node,
+                        &mut rec,
+                        &mut buffer,
+                        keep,
+                        before,
+                        entry,
                     ) {
                         Ok(events) => {
                             before = at;
