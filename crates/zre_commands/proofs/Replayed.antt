@@ -22,8 +22,8 @@ use Rattle.zre_commands.specs.replay.Replay.{told_text, told_replay}
 of_capture : (s : Settings) (J : List Entry) (o : List ℕ) → IsCaptureOf Second s J o → IsReplayed s J o
 of_capture s J o is =
     let text : told_text o ≡ lines (events (as_config s) J) =
-        ap (λ t. option_map_or (λ (u : Settings). lines (events (as_config u) (journal Second o))) t []) is.settings_are
-        ∙ ap (λ K. lines (events (as_config s) K)) is.entries in
+    ap (λ t. option_map_or (λ (u : Settings). lines (events (as_config u) (journal Second o))) t []) is.settings_are
+    ∙ ap (λ K. lines (events (as_config s) K)) is.entries in
     record {
       is_good = ap is_some is.whole;
       is_written = ap (λ b. told_text o ++ refusal b) is.whole ∙ append-nil (told_text o) ∙ text;
