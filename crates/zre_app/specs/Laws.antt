@@ -5,7 +5,6 @@ use Rattle.zre_outside.specs.Causes.{Rose}
 use Rattle.zre_outside.specs.declared.entry.Entry.{Entry}
 use Rattle.zre_outside.specs.declared.start.Start.{Start}
 use Rattle.zre_journal.specs.declared.config.Config.{Config}
-use Rattle.zre_capture.specs.Heads.{IsShortHead}
 use Rattle.zre_capture.specs.Journal.{capture}
 use Rattle.zre_capture.specs.Lines.{AreShort}
 use Rattle.zre_capture.specs.declared.format.Format.TheVariants.{Second}
@@ -35,4 +34,4 @@ KeptIsReplayed =
     (chat : IsChat g start (Some file) limit s t status)
     → IsSpared status (Rose s.write_faults t.write_faults)
     → IsSpared status (Rose s.record_faults t.record_faults)
-    → IsShortHead Second (as_settings g) → AreShort Second 0 chat.entries → Replays g file s t
+    → AreShort Second 0 chat.entries → Replays g file s t
