@@ -1,0 +1,4 @@
+pub mod Ages
+pub mod Members
+pub mod Putting
+pub mod Tabling

@@ -1,7 +1,6 @@
 pub mod Gathering
 pub mod Kept
 pub mod Replicas
-pub mod SetFault
 pub mod Tables
 pub mod Welcome
 pub mod Writes

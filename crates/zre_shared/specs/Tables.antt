@@ -1,8 +1,8 @@
 -- The table of some writes: for each key the greatest of its writes, the keys rising by their octets.
-use Rattle.std.specs.Prelude.{◌≡◌, ℕ, Bool, true, List, [], ◌∷◌, if◌then◌else◌, All, Contains}
+use Rattle.std.specs.Prelude.{◌≡◌, false, List, [], ◌∷◌, if◌then◌else◌, All, Contains}
 use Rattle.std.specs.Cmp.Lexicographic.{slice_cmp}
 use Rattle.std.specs.List.Sorted.{IsStrictlySortedBy}
-use Rattle.std.specs.Ordering.{nat_cmp, ordering_then, match_ordering, is_lt, is_le}
+use Rattle.std.specs.Ordering.{nat_cmp, ordering_then, match_ordering, is_lt, is_gt}
 use Rattle.std.specs.declared.cmp.Ordering.{Ordering}
 use Rattle.std.specs.declared.cmp.Ordering.TheVariants.{Less, Equal, Greater}
 use Rattle.zre_shared.specs.declared.write.Write.{Write}
@@ -38,7 +38,7 @@ pub record IsCovered (t : List Write) (w : Write) : Type 0 where
   pub by : Write
   pub there : Contains t by
   pub same_key : by_key w by ≡ Equal
-  pub not_less : is_le (by_age w by) ≡ true
+  pub not_less : is_gt (by_age w by) ≡ false
 
 -- what the table of some writes is: its keys rise, so none is there twice; each of its writes is one of them; and of
 -- each key it has the greatest

@@ -1,6 +1,7 @@
 //! The fields of a frame, and the write that they make.
 
-ghost use Rattle.std.specs.Prelude.{◌≡◌, None, IfOk, MatchOption};
+ghost use Rattle.std.specs.Prelude.{◌≡◌, None, codes, IfOk, MatchOption};
+ghost use Rattle.std.specs.Str.{bytes_eq};
 ghost use Rattle.zre_shared.specs.Writes.{short_of, pair_of, said_by as said, write_of};
 
 use crate::write::{KEY_OCTETS, VALUE_OCTETS, Write};
@@ -27,19 +28,29 @@ impl<'a> Fields<'a> {
         let (count, rest) = split_once(rest, b' ')?;
         let (id, rest) = split_once(rest, b' ')?;
         let (key, value) = split_once(rest, b' ')?;
-        if word != b"zre-set".as_slice() || split_once(value, b' ').is_some() {
+        if !is_word(word) {
             return None;
         }
-        Some(Fields {
-            count,
-            id,
-            key,
-            value,
-        })
+        match split_once(value, b' ') {
+            None => Some(Fields {
+                count,
+                id,
+                key,
+                value,
+            }),
+            Some(_) => None,
+        }
     }
 }
 
+fn is_word(field: &[u8]) -> bool
+    ensures { result ≡ bytes_eq field.now (codes "zre-set") }
+{
+    field == b"zre-set".as_slice()
+}
+
 // Octets from their quoted text, if they are at most so many.
+#[tactic(auto, unfolding(crate::specs::Writes::short_of))]
 fn short(alloc: Global, field: &[u8], most: usize) -> Result<Option<Octets>, OutOfMemory>
     ensures { IfOk result (λ found. found ≡ short_of most field.now) }
 {
@@ -49,6 +60,7 @@ fn short(alloc: Global, field: &[u8], most: usize) -> Result<Option<Octets>, Out
     }
 }
 
+#[tactic(auto, unfolding(crate::specs::Writes::pair_of))]
 fn pair(alloc: Global, key: &[u8], value: &[u8]) -> Result<Option<(Octets, Octets)>, OutOfMemory>
     ensures { IfOk result (λ found. found ≡ pair_of key.now value.now) }
 {
@@ -62,6 +74,7 @@ fn pair(alloc: Global, key: &[u8], value: &[u8]) -> Result<Option<(Octets, Octet
 }
 
 /// The write of these fields, if each has the form of its own.
+#[tactic(auto, unfolding(crate::specs::Writes::said_by))]
 pub(crate) fn said_by(alloc: Global, fields: Fields<'_>) -> Result<Option<Write>, OutOfMemory>
     ensures { IfOk result (λ found. found ≡ said fields.entry.count.now fields.entry.id.now fields.entry.key.now
         fields.entry.value.now) }

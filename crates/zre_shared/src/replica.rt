@@ -60,8 +60,6 @@ impl From<OutOfMemory> for SetFault {
 }
 
 impl Replica {
-    ghost use Rattle.zre_shared.specs.SetFault.{IsCause};
-
     /// The empty table of a member with this identity. It takes no memory.
     pub fn new(alloc: Global, id: PeerId) -> Replica
         ensures { result ≡ none_held id }
