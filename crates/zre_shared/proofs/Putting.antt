@@ -25,7 +25,7 @@ put-all P w (v ∷ vs) pw all =
       | Greater ↦ (all.0, put-all P w vs pw all.1)
     ]
 
-less_of_all : (w v : Write) (vs : List Write) → by_key w v ≡ Less → AllByRecursion (λ y. by_key v y ≡ Less) vs → AllByRecursion (λ y. by_key w y ≡ Less) vs
+pub less_of_all : (w v : Write) (vs : List Write) → by_key w v ≡ Less → AllByRecursion (λ y. by_key v y ≡ Less) vs → AllByRecursion (λ y. by_key w y ≡ Less) vs
 less_of_all w v [] e all = tt
 less_of_all w v (y ∷ ys) e all = (key_total.trans w v y e all.0, less_of_all w v ys e all.1)
 
