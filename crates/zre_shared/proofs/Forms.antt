@@ -120,13 +120,13 @@ pair-some key value p e =
     stepped (λ (k : List ℕ). option_and_then (λ (v : List ℕ). Some (k, v)) (short_of VALUE_OCTETS value)) (short_of KEY_OCTETS key) p (ArePair key value p) e
     (λ k hk ek. stepped (λ (v : List ℕ). Some (k, v)) (short_of VALUE_OCTETS value) p (ArePair key value p) ek
     (λ v hv ev.
-      let same : (k, v) ≡ p = same_Some (k, v) p ev in
-      let keys : k ≡ p.0 = ap (λ (q : List ℕ × List ℕ). q.0) same in
-      let values : v ≡ p.1 = ap (λ (q : List ℕ × List ℕ). q.1) same in
-      record {
-        first = short-some KEY_OCTETS key p.0 (hk ∙ ap (λ (y : List ℕ). Some y) keys);
-        second = short-some VALUE_OCTETS value p.1 (hv ∙ ap (λ (y : List ℕ). Some y) values);
-      }))
+    let same : (k, v) ≡ p = same_Some (k, v) p ev in
+    let keys : k ≡ p.0 = ap (λ (q : List ℕ × List ℕ). q.0) same in
+    let values : v ≡ p.1 = ap (λ (q : List ℕ × List ℕ). q.1) same in
+    record {
+      first = short-some KEY_OCTETS key p.0 (hk ∙ ap (λ (y : List ℕ). Some y) keys);
+      second = short-some VALUE_OCTETS value p.1 (hv ∙ ap (λ (y : List ℕ). Some y) values);
+    }))
 
 -- the fields are those of a write
 pub record AreFieldsOf (w : Write) (fs : List (List ℕ)) : Type 0 where
@@ -145,13 +145,13 @@ said-some c i k v w e =
     (λ n hn en. stepped (λ (id : PeerId). option_and_then (λ (p : List ℕ × List ℕ). Some (record { key = p.0; count = n; id = id; value = p.1 })) (pair_of k v)) (id_of i) w (IsSaid w c i k v) en
     (λ id hi ei. stepped (λ (p : List ℕ × List ℕ). Some (record { key = p.0; count = n; id = id; value = p.1 })) (pair_of k v) w (IsSaid w c i k v) ei
     (λ p hp ep.
-      let made : Write = record { key = p.0; count = n; id = id; value = p.1 } in
-      let same : made ≡ w = same_Some made w ep in
-      record {
-        number = hn ∙ ap (λ (x : Write). Some x.count) same;
-        id = hi ∙ ap (λ (x : Write). Some x.id) same;
-        pair = pair-some k v (w.key, w.value) (hp ∙ ap (λ (x : Write). Some (x.key, x.value)) same);
-      })))
+    let made : Write = record { key = p.0; count = n; id = id; value = p.1 } in
+    let same : made ≡ w = same_Some made w ep in
+    record {
+      number = hn ∙ ap (λ (x : Write). Some x.count) same;
+      id = hi ∙ ap (λ (x : Write). Some x.id) same;
+      pair = pair-some k v (w.key, w.value) (hp ∙ ap (λ (x : Write). Some (x.key, x.value)) same);
+    })))
 
 said-fields : (w : Write) (word c i k v : List ℕ) → bytes_eq word (codes "zre-set") ≡ true → IsSaid w c i k v → AreFieldsOf w (word ∷ c ∷ i ∷ k ∷ v ∷ [])
 said-fields w word c i k v is s =

@@ -158,7 +158,7 @@ next-greater held key value =
     All-from_recursion (λ v. by_age v (next_write held key value) ≡ Less) held.writes
     (all_members (λ v. by_age v (next_write held key value) ≡ Less) held.writes
     (λ v i. let le : v.count ≤ greatest_count held.writes = at_member (λ x. x.count ≤ greatest_count held.writes) held.writes v (count-within held.writes) i in
-      by_count v (next_write held key value) (omega (arith, le))))
+    by_count v (next_write held key value) (omega (arith, le))))
 
 pub octets-all : (xs : List ℕ) → ((i : ℕ) → get_or xs i 0 < 256) → All (λ b. b < 2 ^ 8) xs
 octets-all xs h = λ k d lt. omega (arith, get_or_default xs k d 0 lt, h k)

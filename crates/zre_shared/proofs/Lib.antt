@@ -2,6 +2,8 @@ pub mod Ages
 pub mod Forms
 pub mod Joining
 pub mod Keeping
+pub mod Lengths
 pub mod Members
 pub mod Putting
 pub mod Tabling
+pub mod Welcoming

@@ -114,6 +114,6 @@ same_list (x ∷ xs) [] r s to from = absurd (to x (inl refl))
 same_list (x ∷ xs) (y ∷ ys) r s to from =
     let first : x ≡ y = same_head x xs y ys r s (to x (inl refl)) (from y (inl refl)) in
     let rest : xs ≡ ys = same_list xs ys (rising-tail x xs r) (rising-tail y ys s)
-        (λ z i. in_tail x y xs r ys first z i (to z (inr i)))
-        (λ z i. in_tail y x ys s xs (sym first) z i (from z (inr i))) in
+    (λ z i. in_tail x y xs r ys first z i (to z (inr i)))
+    (λ z i. in_tail y x ys s xs (sym first) z i (from z (inr i))) in
     λ i. first i ∷ rest i

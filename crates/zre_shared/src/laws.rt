@@ -44,12 +44,12 @@ pub fn tables_stand_for_their_writes()
 pub fn frames_are_taken_together()
     ensures { (id : PeerId) (ws : List Write) (frames : List (List ℕ))
         → with_frames (record { id = id; writes = table ws }) frames
-            ≡ record { id = id; writes = table (ws ++ filter_map write_of frames) } }
+        ≡ record { id = id; writes = table (ws ++ filter_map write_of frames) } }
 {}
 
 /// Who takes the frame of each write of another's table has the table of both.
 pub fn a_welcome_joins_tables()
     ensures { (id : PeerId) (xs ys : List Write) → All IsWrite ys
         → with_frames (record { id = id; writes = table xs }) (map write_text (table ys))
-            ≡ record { id = id; writes = table (xs ++ ys) } }
+        ≡ record { id = id; writes = table (xs ++ ys) } }
 {}

@@ -2,6 +2,7 @@ ghost use Rattle.std.specs.Prelude.{◌≡◌, ◌≢◌, ◌<◌, ◌≤◌, �
 ghost use Rattle.std.specs.Prelude.{Some, Err, IfOk, IfErr, OnOk, OnErr};
 ghost use Rattle.std.specs.List.Sorted.{IsStrictlySortedBy};
 ghost use Rattle.std.specs.declared.cmp.Ordering.TheVariants.{Less};
+ghost use Rattle.zre_values.specs.PlainId.{IsPeerId};
 ghost use Rattle.zre_shared.specs.Replicas.{none_held, with_write, with_frame, greatest_count, next_write};
 ghost use Rattle.zre_shared.specs.Tables.{by_key, by_age};
 ghost use Rattle.zre_shared.specs.Writes.{IsWrite, write_of, write_text};
@@ -59,6 +60,16 @@ impl From<OutOfMemory> for SetFault {
     }
 }
 
+// An identity is sixteen octets.
+fn of_octets(octets: [u8; 16]) -> PeerId
+    ensures value { result ≡ record { 0 = octets } }
+    ensures fits { IsPeerId result }
+{
+    // The slice is taken for what its type says of the octets.
+    let _slice = octets.as_slice();
+    PeerId(octets)
+}
+
 impl Replica {
     /// The empty table of a member with this identity. It takes no memory.
     pub fn new(alloc: Global, id: PeerId) -> Replica
@@ -67,7 +78,7 @@ impl Replica {
         Replica {
             writes: BTreeMap::new(alloc),
             greatest: 0,
-            id,
+            id: of_octets(id.0),
             alloc,
         }
     }
