@@ -1,3 +1,5 @@
+pub mod Laws
+pub mod Settings
 pub mod pump
 pub mod follow
 pub mod show

@@ -4,7 +4,9 @@
 
 pub mod exercise;
 pub mod follow;
+pub mod laws;
 pub mod pump;
 pub mod replay;
+pub mod settings;
 pub mod show;
 pub mod upgrade;

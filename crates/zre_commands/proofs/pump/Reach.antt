@@ -73,7 +73,7 @@ Rose-since before mid now le h = omega (arith, h)
 front_after : (a b c : Option (List ℕ)) (x y : List ℕ) → Appends a b x → AppendsFront b c y → AppendsFront a c (x ++ y)
 front_after a b c x y p q = (x ++ q.0, q.1, ap (λ r. x ++ r) q.2 ∙ sym (append_assoc x q.0 q.1), Appends-trans a b c x q.0 p q.3)
 
-front_longer : (a c : Option (List ℕ)) (x z : List ℕ) → AppendsFront a c x → AppendsFront a c (x ++ z)
+pub front_longer : (a c : Option (List ℕ)) (x z : List ℕ) → AppendsFront a c x → AppendsFront a c (x ++ z)
 front_longer a c x z q = (q.0, q.1 ++ z, ap (λ r. r ++ z) q.2 ∙ append_assoc q.0 q.1 z, q.3)
 
 -- a piece was read, and only a front of its text was written

@@ -9,20 +9,23 @@ use Rattle.zre_capture.proofs.Growing.{journal_grows}
 use Rattle.zre_journal.specs.declared.config.Config.{Config}
 use Rattle.zre_journal.specs.Events.{events}
 use Rattle.zre_journal.proofs.Joined.{continues}
+use Rattle.zre_node.specs.declared.node.Node.{Node}
 use Rattle.zre_node.specs.Journal.{StandsFor}
 use Rattle.zre_outside.specs.declared.entry.Entry.{Entry}
 use Rattle.zre_peer.specs.Lines.{line, lines}
 use Rattle.zre_peer.specs.declared.event.Event.{Event}
 use Rattle.zre_commands.specs.declared.replay.reading.State.{State}
-use Rattle.zre_commands.specs.declared.replay.reading.State.TheVariants.{Going, Bad, Lost}
+use Rattle.zre_commands.specs.declared.replay.reading.State.TheVariants.{Going}
 use Rattle.zre_commands.specs.declared.replay.replayer.Replayer.{Replayer}
 use Rattle.zre_commands.specs.declared.replay.waiting.Waiting.{Waiting}
-use Rattle.zre_commands.specs.replay.Replay.{text}
+use Rattle.zre_commands.specs.pump.Meaning.{Grows}
+use Rattle.zre_commands.specs.replay.Replay.{text, replay}
 use Rattle.zre_commands.specs.replay.Replayer.{Fed}
 use Rattle.zre_commands.specs.replay.State.{IsState}
+use Rattle.zre_commands.specs.replay.Taken.{Took}
 
 -- more events have more lines
-lines_more : (g : Config) (J K : List Entry) (told : List Event) → events g (J ++ K) ≡ events g J ++ told → lines (events g (J ++ K)) ≡ lines (events g J) ++ lines told
+pub lines_more : (g : Config) (J K : List Entry) (told : List Event) → events g (J ++ K) ≡ events g J ++ told → lines (events g (J ++ K)) ≡ lines (events g J) ++ lines told
 lines_more g J K told e = ap lines e ∙ flat_map-append line (events g J) told
 
 text_by : (g : Config) (o x : List ℕ) (es : List Entry) (told : List Event) → journal First (o ++ x) ≡ journal First o ++ es → events g (journal First o ++ es) ≡ events g (journal First o) ++ told → text g (o ++ x) ≡ text g o ++ lines told
@@ -38,6 +41,15 @@ no_entries = refl
 pub text_nothing : (g : Config) → text g [] ≡ []
 text_nothing g = ap (λ J. lines (events g J)) no_entries
 
+-- the entries of a piece were told to the node
+pub text_on : (g : Config) (o x : List ℕ) (given es : List Entry) (n : Node) (out out' : List ℕ) → given ≡ es → Took g (journal First o) given n out out' → journal First (o ++ x) ≡ journal First o ++ es
+    → Grows (replay g) o x out out'
+text_on g o x given es n out out' same t j = record {
+  added = lines t.told;
+  longer = text_by g o x given t.told (j ∙ ap (λ (fs : List Entry). journal First o ++ fs) (sym same)) t.more;
+  appended = t.appended;
+}
+
 not_bad : bad First [] ≡ None
 unfolding bad_from
 not_bad = refl
@@ -51,9 +63,3 @@ nothing_fed r w e reads format stands = record {
   reads = subst (λ s. IsState First s []) (sym e) (not_bad, reads, format);
   stands = subst (λ J. StandsFor r.config J r.node) (sym no_entries) stands;
 }
-
--- a capture that isn't bad so far has a reader
-pub goes_on : {C : Type 0} (s : State) (o : List ℕ) → IsState First s o → is_some (bad First o) ≡ false → ((w : _) → s ≡ Going w → ⊥) → C
-goes_on (Going w) o h e no_reader = absurd (no_reader w refl)
-goes_on (Bad r) o h e no_reader = let z : true ≡ false = sym (ap is_some h.0) ∙ e in absurd cc
-goes_on Lost o h e no_reader = absurd h
