@@ -7,8 +7,9 @@ use zre_values::{Octets, PeerId};
 
 const ANN: PeerId = PeerId([0, 1, 2, 3, 4, 5, 6, 7, 8, 9, 10, 11, 12, 13, 14, 15]);
 
-const ME: PeerId =
-    PeerId([255, 238, 221, 204, 187, 170, 153, 136, 119, 102, 85, 68, 51, 34, 17, 0]);
+const ME: PeerId = PeerId([
+    255, 238, 221, 204, 187, 170, 153, 136, 119, 102, 85, 68, 51, 34, 17, 0,
+]);
 
 fn is_one_whisper(commands: &Commands, to: PeerId, frame: &[u8]) -> bool {
     let [Command::Whisper { peer, content }] = commands.as_slice() else {
