@@ -12,7 +12,7 @@ use Rattle.zre_shared.proofs.Ages.{key_total, not_above, below, itself, over, ke
 use Rattle.zre_shared.proofs.Members.{In, Rising, rising-head, rising-tail, rising-nil, rising-cons, at_member, all_members}
 
 -- the greater of two is one of them
-greater-one : (P : Write → Type 0) (w v : Write) → P w → P v → P (greater w v)
+pub greater-one : (P : Write → Type 0) (w v : Write) → P w → P v → P (greater w v)
 greater-one P w v pw pv = elim (is_lt (by_age v w)) as (λ b. P (cond b w v)) [ true ↦ pw | false ↦ pv ]
 
 -- what holds of all holds of all after it
