@@ -1,7 +1,6 @@
-use Rattle.std.proofs.Common.{◌≡◌, ℕ, List, Option, Some, None, sym, ap, ◌∙◌}
+use Rattle.std.proofs.Common.{◌≡◌, ℕ, List, Some, None, sym, ap, ◌∙◌}
 use Rattle.std.specs.BTreeMap.{insert_entry}
 use Rattle.std.specs.Map.{lookup, set_value}
-use Rattle.zre_shared.specs.declared.write.Write.{Write}
 use Rattle.zre_shared.specs.Kept.{Map, by_name}
 use Rattle.zre_shared.proofs.Keeping.{finds, IsPut, added-put, replaced-put, put-kept, put-held}
 use Rattle.zre_shared.proofs.replica.Replica.put.Goals as goal
