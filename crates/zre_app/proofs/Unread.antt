@@ -6,7 +6,7 @@ use Rattle.zre_commands.specs.pump.Outcome.{Pumped}
 use Rattle.zre_commands.specs.declared.pump.status.Status.TheVariants as statuses
 use Rattle.zre_chat.specs.Chat.{Seen}
 use Rattle.zre_chat.proofs.Rows.{memory_isnt}
-use Rattle.zre_chat.proofs.Whole.{untalked, none_started}
+use Rattle.zre_chat.proofs.Whole.{unstarted, none_started}
 use Rattle.zre_app.specs.declared.command.Command.{Command}
 use Rattle.zre_app.specs.declared.command.Command.TheVariants.{Plain, Chat}
 use Rattle.zre_app.specs.declared.plain_words.Plain.{Plain as PlainCommand}
@@ -37,7 +37,7 @@ nothing_done : (c : Option Command) (limit : ℕ) (s : Seen) → Does c limit st
 nothing_done None limit s = nothing_plain None limit (streams_of s)
 nothing_done (Some (Plain p)) limit s = nothing_plain (Some p) limit (streams_of s)
 nothing_done (Some (Chat c)) limit s =
-    untalked c.config c.start c.capture limit false s s statuses.OutOfMemory refl refl refl (none_started s.told)
+    unstarted c.config c.start c.capture limit false s s statuses.OutOfMemory (λ isnt. absurd (isnt refl)) refl refl refl (none_started s.told)
     memory_isnt tt (λ file named isnt still. absurd (isnt refl))
 
 -- so it did what a command does then

@@ -26,8 +26,8 @@ pub record Replays (g : Config) (file : List ℕ) (s t : Seen) : Type 0 where
   pub is_written : Appends s.written t.written (whole_text told_replay (kept_of g entries))
   pub is_kept : Holds g file entries s t
 
--- it did, where all went well or neither writing nor keeping failed nor memory ran out, and no line of it is too long
--- to be read
+-- it did, where all went well or neither writing nor keeping failed nor memory ran out, and no line of an entry is too
+-- long to be read
 abbrev pub KeptIsReplayed : Type 0
 KeptIsReplayed =
     (g : Config) (start : Start) (file : List ℕ) (limit : ℕ) (s t : Seen) (status : Status)

@@ -348,7 +348,7 @@ module _ (g : Config) (start : Start) (name : Option (List ℕ)) (keep : Bool) (
     all_done = λ isnt. w.all_done (memory isnt);
     front = front;
     whole = whole;
-    are_settings = p.are_settings;
+    are_settings = λ _. p.are_settings;
     held = held;
     are_done = w.goes.are_done;
     in_order = in_order;

@@ -62,17 +62,17 @@ head_only g kept u t is same = subst (λ (x : Option (List ℕ) × List ℕ). Ap
 pub nothing_begins : (o : List ℕ) → Begins [] o
 nothing_begins o = orders-begin o [] (orders_from 1 (ended_lines (lines_in o))) refl refl
 
-module _ (g : Config) (start : Start) (name : Option (List ℕ)) (limit : ℕ) (settings : AreSettings (as_settings g)) where
+module _ (g : Config) (start : Start) (name : Option (List ℕ)) (limit : ℕ) where
   untold : (begun : Bool) (told : Option Log) → option_map (started begun start) told ≡ option_map (λ l. went [] 0 [] [] (started begun start l)) told
   untold begun None = refl
   untold begun (Some l) = went-none (Some (started begun start l))
 
   -- a chat that ended before the threads were started
-  pub untalked : (begun : Bool) (s t : Seen) (status : Status) → t.left ≡ s.left → t.taken ≡ s.taken → t.written ≡ s.written → t.told ≡ option_map (started begun start) s.told
+  pub unstarted : (begun : Bool) (s t : Seen) (status : Status) → (status ≢ OutOfMemory → AreSettings (as_settings g)) → t.left ≡ s.left → t.taken ≡ s.taken → t.written ≡ s.written → t.told ≡ option_map (started begun start) s.told
       → status ≢ Done → IsCaused status limit [] 0 false s t
       → ((file : List ℕ) → name ≡ Some file → status ≢ OutOfMemory → ¬ Rose s.record_faults t.record_faults → Holds g file [] s t)
       → IsChat g start name limit s t status
-  untalked begun s t status left taken written told not_done cause holds = record {
+  unstarted begun s t status settings left taken written told not_done cause holds = record {
     octets = [];
     are_taken = record { consumed = subst (λ x. Consumes s.left x []) (sym left) (Consumes-nil s.left); recorded = subst (λ x. Appends s.taken x []) (sym taken) (Appends-nil s.taken) };
     within = omega arith;
@@ -109,6 +109,14 @@ module _ (g : Config) (start : Start) (name : Option (List ℕ)) (limit : ℕ) (
     done = λ d. absurd (not_done d);
     ended = λ d. absurd (not_done d);
   }
+
+module _ (g : Config) (start : Start) (name : Option (List ℕ)) (limit : ℕ) (settings : AreSettings (as_settings g)) where
+  -- the same, where its settings are values of their types
+  pub untalked : (begun : Bool) (s t : Seen) (status : Status) → t.left ≡ s.left → t.taken ≡ s.taken → t.written ≡ s.written → t.told ≡ option_map (started begun start) s.told
+      → status ≢ Done → IsCaused status limit [] 0 false s t
+      → ((file : List ℕ) → name ≡ Some file → status ≢ OutOfMemory → ¬ Rose s.record_faults t.record_faults → Holds g file [] s t)
+      → IsChat g start name limit s t status
+  untalked begun s t status = unstarted g start name limit begun s t status (λ _. settings)
 
   early : (s t : Seen) (status : Status) → IsEarly status s.world_faults t.world_faults s.record_faults t.record_faults → (status ≢ Done) × IsCaused status limit [] 0 false s t
   early s t WriteFault is = (write_isnt, inr is)

@@ -142,7 +142,7 @@ pub record IsChat (g : Config) (start : Start) (name : Option (List ℕ)) (limit
   pub whole : IsSpared status (Rose s.write_faults t.write_faults)
       → Appends s.written t.written (lines (events g entries))
   -- the capture of all that was given was kept, its head with the node's settings, which are values of their types
-  pub are_settings : AreSettings (as_settings g)
+  pub are_settings : status ≢ OutOfMemory → AreSettings (as_settings g)
   pub held : (file : List ℕ) → name ≡ Some file → IsSpared status (Rose s.record_faults t.record_faults)
       → Holds g file entries s t
   -- the commands that were handed in are done by entries that were given, in order

@@ -1,18 +1,28 @@
-use Rattle.std.proofs.Common.{◌++◌, refl, sym, ap, ◌∙◌, subst, append-nil}
+use Rattle.std.proofs.Common.{◌≡◌, ◌≢◌, ◌++◌, refl, sym, ap, ◌∙◌, subst, append-nil, ⊎_elim}
 use Rattle.std.specs.Prelude.{All}
 use Rattle.std.specs.Io.KnownBytes.{Appends}
+use Rattle.zre_outside.specs.Causes.{Rose}
 use Rattle.zre_capture.specs.Lines.{IsEntry}
 use Rattle.zre_commands.specs.Settings.{as_settings}
-use Rattle.zre_commands.proofs.Replayed.{written as replayed}
+use Rattle.zre_commands.specs.declared.pump.status.Status.{Status}
+use Rattle.zre_commands.specs.declared.pump.status.Status.TheVariants.{Done, OutOfMemory}
+use Rattle.zre_commands.proofs.Replayed.{written}
+use Rattle.zre_chat.specs.Chat.{IsSpared}
+use Rattle.zre_chat.proofs.Rows.{memory_isnt}
 use Rattle.zre_app.proofs.laws.kept_captures_are_replayed.Goals as goal
 
+-- where something was spared memory didn't run out
+has_memory : (status : Status) (rose : Type 0) → IsSpared status rose → status ≢ OutOfMemory
+has_memory status rose spared = ⊎_elim (λ (is : status ≡ Done) (e : status ≡ OutOfMemory). memory_isnt (sym e ∙ is)) (λ (x : (status ≢ OutOfMemory) × ¬ rose). x.0) spared
+
 pub returns : goal.returns
-returns c = λ g start file limit s t status chat written kept short. (
+returns c = λ g start file limit s t status chat whole kept short. (
     let es = chat.entries in
     let values = subst (All IsEntry) (ap (λ l. es ++ l) (chat.all_taken kept) ∙ append-nil es) chat.are_values in
-    let is = replayed (as_settings g) es chat.are_settings values short in record {
+    let settings = chat.are_settings (has_memory status (Rose s.record_faults t.record_faults) kept) in
+    let r = written (as_settings g) es settings values short in record {
       entries = es;
-      is_good = is.is_good;
-      is_written = subst (Appends s.written t.written) (sym is.is_written) (chat.whole written);
+      is_good = r.is_good;
+      is_written = subst (Appends s.written t.written) (sym r.is_written) (chat.whole whole);
       is_kept = chat.held file refl kept;
     })
