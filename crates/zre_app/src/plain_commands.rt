@@ -81,12 +81,7 @@ fn replay<I: Source, O: Sink>(
     }
 }
 
-fn replay_told<I: Source, O: Sink>(
-    alloc: Global,
-    input: &mut I,
-    out: &mut O,
-    limit: u64,
-) -> Status
+fn replay_told<I: Source, O: Sink>(alloc: Global, input: &mut I, out: &mut O, limit: u64) -> Status
     ensures does { DidPlain (stream_views I.left I.taken I.faults O.written O.faults)
         (Some Plain.ReplayTold) limit result input.old input.new out.old out.new }
 {

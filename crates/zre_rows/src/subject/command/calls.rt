@@ -46,9 +46,24 @@ pub fn call<T: Threads + Wait + Copy + Send + 'static>(
     out: &mut MemSink,
     limit: u64,
 ) -> Ran {
-    let Stand { input, world, rec, threads } = stand;
+    let Stand {
+        input,
+        world,
+        rec,
+        threads,
+    } = stand;
     let mut spawner = PlainSpawner::new(rt, alloc, threads);
-    run(rt, alloc, words, input, world, out, rec, &mut spawner, limit)
+    run(
+        rt,
+        alloc,
+        words,
+        input,
+        world,
+        out,
+        rec,
+        &mut spawner,
+        limit,
+    )
 }
 
 /// Any command, with the limit of the program.
@@ -59,7 +74,12 @@ pub fn call_zre<T: Threads + Wait + Copy + Send + 'static>(
     stand: Stand,
     out: &mut MemSink,
 ) -> Ran {
-    let Stand { input, world, rec, threads } = stand;
+    let Stand {
+        input,
+        world,
+        rec,
+        threads,
+    } = stand;
     let mut spawner = PlainSpawner::new(rt, alloc, threads);
     zre(rt, alloc, words, input, world, out, rec, &mut spawner)
 }
