@@ -1,6 +1,7 @@
 //! The rule of the command pipe, and what each of its steps tells.
 ghost use Rattle.std.specs.Prelude.{◌≡◌, ◌++◌, ◌∷◌, []};
-ghost use Rattle.zre_actor.specs.Commands.{placed, first, without_one, one_caller, joined, nobody, wrote, Reads, Accounts};
+ghost use Rattle.zre_actor.specs.Commands.{placed, first, without_one, one_caller, joined, nobody, wrote, Reads};
+ghost use Rattle.zre_actor.specs.Commands.{Accounts};
 
 use crate::Told;
 use crate::views::{Hearing, Placed, View};

@@ -2,17 +2,19 @@
 use Rattle.std.specs.Prelude.{◌≡◌, ◌≤◌, ℕ, Bool, true, false, not, is_some, List, Option, Some, None}
 use Rattle.zre_outside.specs.Causes.{Rose}
 use Rattle.zre_commands.specs.declared.pump.status.Status.{Status}
+use Rattle.zre_commands.specs.Settings.{as_settings}
 use Rattle.zre_commands.specs.pump.Meaning.{Meaning}
 use Rattle.zre_commands.specs.pump.Outcome.{Pumped}
 use Rattle.zre_commands.specs.follow.Follow.{follow}
 use Rattle.zre_commands.specs.show.Show.{show}
-use Rattle.zre_commands.specs.replay.Replay.{replay}
+use Rattle.zre_commands.specs.replay.Replay.{replay, told_replay}
+use Rattle.zre_commands.specs.upgrade.Upgrade.{upgrade}
 use Rattle.zre_commands.specs.exercise.Exercise.{text as exercise_text}
 use Rattle.zre_chat.specs.Chat.{Seen, IsChat}
 use Rattle.zre_app.specs.declared.command.Command.{Command}
 use Rattle.zre_app.specs.declared.command.Command.TheVariants as commands
 use Rattle.zre_app.specs.declared.plain_words.Plain.{Plain}
-use Rattle.zre_app.specs.declared.plain_words.Plain.TheVariants.{Follow, Show, Replay, Exercise}
+use Rattle.zre_app.specs.declared.plain_words.Plain.TheVariants.{Follow, Show, Replay, ReplayTold, Upgrade, Exercise}
 use Rattle.zre_app.specs.Given.{Streams, StreamViews, streams, streams_of, Handed, Views, seen_of}
 use Rattle.zre_app.specs.Usage.{UsageOutcome, WritesText}
 
@@ -27,6 +29,8 @@ abbrev pub work_of : Plain → Work
 work_of (Follow id) = Reads (follow id)
 work_of Show = Reads show
 work_of (Replay g) = Reads (replay g)
+work_of ReplayTold = Reads told_replay
+work_of (Upgrade g) = Reads (upgrade (as_settings g))
 work_of (Exercise seed peers messages) = Writes (exercise_text seed peers messages)
 
 -- the status says of it what was taken of the source and what was written

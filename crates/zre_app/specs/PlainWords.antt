@@ -4,12 +4,13 @@ use Rattle.std.specs.List.{list_all}
 use Rattle.std.specs.Str.{bytes_eq, is_utf8}
 use Rattle.zre_capture.specs.Values.{number_of}
 use Rattle.zre_journal.specs.Config.{is_valid}
+use Rattle.zre_journal.specs.declared.config.Config.{Config}
 use Rattle.zre_app.specs.Keys.{are_words_of, value_of, identity}
 use Rattle.zre_app.specs.NodeWords.{node_keys, between, config_in}
 use Rattle.zre_app.specs.declared.keys.Often.{Often}
 use Rattle.zre_app.specs.declared.keys.Often.TheVariants.{Once}
 use Rattle.zre_app.specs.declared.plain_words.Plain.{Plain}
-use Rattle.zre_app.specs.declared.plain_words.Plain.TheVariants.{Follow, Show, Replay, Exercise}
+use Rattle.zre_app.specs.declared.plain_words.Plain.TheVariants.{Follow, Show, Replay, ReplayTold, Upgrade, Exercise}
 
 -- the keys of `follow`: the identity of the peer
 abbrev pub follow_keys : List (List ℕ × Often)
@@ -25,9 +26,18 @@ follow_of words =
 abbrev pub show_of : List (List ℕ) → Option Plain
 show_of words = if are_words_of [] words then Some Show else None
 
--- `replay` has those of a node
+-- the settings of a node by its words alone
+abbrev pub node_of : List (List ℕ) → Option Config
+node_of words = if are_words_of node_keys words then config_in words else None
+
+-- `replay` has those of a node, or none: then the capture says its settings
 abbrev pub replay_of : List (List ℕ) → Option Plain
-replay_of words = if are_words_of node_keys words then option_map Replay (config_in words) else None
+replay_of [] = Some ReplayTold
+replay_of (word ∷ words) = option_map Replay (node_of (word ∷ words))
+
+-- `upgrade` has those of a node
+abbrev pub upgrade_of : List (List ℕ) → Option Plain
+upgrade_of words = option_map Upgrade (node_of words)
 
 -- the keys of `exercise`: the seed, and how many peers and messages there are
 abbrev pub exercise_keys : List (List ℕ × Often)
@@ -52,6 +62,7 @@ plain_named name words =
     if bytes_eq name (codes "follow") then follow_of words
     else if bytes_eq name (codes "show") then show_of words
     else if bytes_eq name (codes "replay") then replay_of words
+    else if bytes_eq name (codes "upgrade") then upgrade_of words
     else if bytes_eq name (codes "exercise") then exercise_of words
     else None
 
@@ -65,4 +76,6 @@ abbrev pub CanDo : Plain → Type 0
 CanDo (Follow id) = Unit {0}
 CanDo Show = Unit {0}
 CanDo (Replay g) = is_valid g ≡ true
+CanDo ReplayTold = Unit {0}
+CanDo (Upgrade g) = is_valid g ≡ true
 CanDo (Exercise seed peers messages) = (1 ≤ peers) × (peers ≤ 256) × (messages ≤ 1000000)

@@ -15,8 +15,10 @@ use std::alloc::Global;
 use zre_commands::exercise::push_summary;
 use zre_commands::follow::Follower;
 use zre_commands::pump::{Status, pump};
-use zre_commands::replay::Replayer;
+use zre_commands::replay::{HeadReplayer, Replayer};
+use zre_commands::settings::as_settings;
 use zre_commands::show::Lister;
+use zre_commands::upgrade::Upgrader;
 use zre_journal::Config;
 use zre_outside::{NextFault, Sink, Source, write_all};
 use zre_values::{Frames, Octets, OutOfMemory, PeerId};
@@ -79,6 +81,33 @@ fn replay<I: Source, O: Sink>(
     }
 }
 
+fn replay_told<I: Source, O: Sink>(
+    alloc: Global,
+    input: &mut I,
+    out: &mut O,
+    limit: u64,
+) -> Status
+    ensures does { DidPlain (stream_views I.left I.taken I.faults O.written O.faults)
+        (Some Plain.ReplayTold) limit result input.old input.new out.old out.new }
+{
+    let mut machine = HeadReplayer::new(alloc);
+    pump(alloc, &mut machine, input, out, limit)
+}
+
+fn upgrade<I: Source, O: Sink>(
+    alloc: Global,
+    config: Config,
+    input: &mut I,
+    out: &mut O,
+    limit: u64,
+) -> Status
+    ensures does { DidPlain (stream_views I.left I.taken I.faults O.written O.faults)
+        (Some (Plain.Upgrade config)) limit result input.old input.new out.old out.new }
+{
+    let mut machine = Upgrader::new(alloc, as_settings(config));
+    pump(alloc, &mut machine, input, out, limit)
+}
+
 fn write_text<O: Sink>(text: &[u8], out: &mut O) -> Status
     ensures written { WritesText result text.now (O.written out.old) (O.written out.new)
         (Rose (O.faults out.old) (O.faults out.new)) }
@@ -123,6 +152,8 @@ fn obey<I: Source, O: Sink>(
         Some(Plain::Follow { id }) => follow(alloc, id, input, out, limit),
         Some(Plain::Show) => show(alloc, input, out, limit),
         Some(Plain::Replay { config }) => replay(alloc, config, input, out, limit),
+        Some(Plain::ReplayTold) => replay_told(alloc, input, out, limit),
+        Some(Plain::Upgrade { config }) => upgrade(alloc, config, input, out, limit),
         Some(
             Plain::Exercise {
                 seed,

@@ -1,8 +1,9 @@
 //! The words of the commands but `chat`.
 
-ghost use Rattle.std.specs.Prelude.{◌≡◌, ◌≤◌, map, IfOk, IfSome};
-ghost use Rattle.zre_app.specs.PlainWords.{follow_of, show_of, replay_of, number_in, exercise_in, exercise_keys};
-ghost use Rattle.zre_app.specs.PlainWords.{exercise_of, plain_named, plain_of, CanDo};
+ghost use Rattle.std.specs.Prelude.{◌≡◌, ◌≤◌, true, map, IfOk, IfSome};
+ghost use Rattle.zre_journal.specs.Config.{is_valid};
+ghost use Rattle.zre_app.specs.PlainWords.{follow_of, show_of, node_of, replay_of, upgrade_of, number_in, exercise_in};
+ghost use Rattle.zre_app.specs.PlainWords.{exercise_keys, exercise_of, plain_named, plain_of, CanDo};
 
 use crate::keys::{Key, Often, are_words_of, identity, value_of};
 use crate::node_words::{config_in, node_keys};
@@ -21,8 +22,14 @@ pub enum Plain {
     },
     /// Write a line for each item of a whole stream.
     Show,
-    /// Write the events of a node with these settings, from a capture of its journal.
+    /// Write the events of a node with these settings, from a capture of format 1 of its journal.
     Replay {
+        config: Config,
+    },
+    /// Write the events of a node from a capture of format 2, which says its settings.
+    ReplayTold,
+    /// Write a capture of format 1 of a node with these settings in format 2.
+    Upgrade {
         config: Config,
     },
     /// Write the summary of a large journal that is made from a number.
@@ -64,15 +71,36 @@ fn show_of(words: &[Octets]) -> Option<Plain>
     }
 }
 
-fn replay_of(alloc: Global, words: &[Octets]) -> Result<Option<Plain>, OutOfMemory>
-    ensures value { IfOk result (λ plain. plain ≡ replay_of words.now) }
-    ensures ready { IfOk result (λ plain. IfSome plain CanDo) }
+// The settings of a node by its words alone.
+fn node_of(alloc: Global, words: &[Octets]) -> Result<Option<Config>, OutOfMemory>
+    ensures value { IfOk result (λ config. config ≡ node_of words.now) }
+    ensures ready { IfOk result (λ config. IfSome config (λ g. is_valid g ≡ true)) }
 {
     if !are_words_of(&node_keys(), words) {
         return Ok(None);
     }
-    match config_in(alloc, words)? {
+    config_in(alloc, words)
+}
+
+fn replay_of(alloc: Global, words: &[Octets]) -> Result<Option<Plain>, OutOfMemory>
+    ensures value { IfOk result (λ plain. plain ≡ replay_of words.now) }
+    ensures ready { IfOk result (λ plain. IfSome plain CanDo) }
+{
+    if words.is_empty() {
+        return Ok(Some(Plain::ReplayTold));
+    }
+    match node_of(alloc, words)? {
         Some(config) => Ok(Some(Plain::Replay { config })),
+        None => Ok(None),
+    }
+}
+
+fn upgrade_of(alloc: Global, words: &[Octets]) -> Result<Option<Plain>, OutOfMemory>
+    ensures value { IfOk result (λ plain. plain ≡ upgrade_of words.now) }
+    ensures ready { IfOk result (λ plain. IfSome plain CanDo) }
+{
+    match node_of(alloc, words)? {
+        Some(config) => Ok(Some(Plain::Upgrade { config })),
         None => Ok(None),
     }
 }
@@ -156,6 +184,9 @@ fn plain_named(alloc: Global, name: &[u8], words: &[Octets]) -> Result<Option<Pl
     }
     if name == b"replay".as_slice() {
         return replay_of(alloc, words);
+    }
+    if name == b"upgrade".as_slice() {
+        return upgrade_of(alloc, words);
     }
     if name == b"exercise".as_slice() {
         return Ok(exercise_of(words));

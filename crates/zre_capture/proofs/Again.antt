@@ -14,10 +14,13 @@ use Rattle.zre_capture.specs.declared.word.CommandWord.{CommandWord}
 use Rattle.zre_capture.specs.declared.word.CommandWord.TheVariants as order
 use Rattle.zre_values.specs.Address.{address_text}
 use Rattle.zre_values.specs.Text.{quoted, quoted_list, id_text}
-use Rattle.zre_capture.specs.Lines.{hex_text, command_word_text, command_word, command_fields, input_word_text, input_word, input_fields, fields, text, IsCommand, IsInput, IsEntry}
-use Rattle.zre_capture.specs.Values.{input_word_of, command_word_of}
+use Rattle.zre_capture.specs.Lines.{hex_text, command_word_text, command_word, command_fields, input_word_text, input_word, input_fields, reading_text, fields, text, IsNumber, IsCommand, IsInput, IsEntry}
+use Rattle.zre_capture.specs.declared.format.Format.{Format}
+use Rattle.zre_capture.specs.declared.format.Format.TheVariants.{First, Second}
+use Rattle.zre_capture.specs.Values.{reading_of, input_word_of, command_word_of}
 use Rattle.zre_capture.specs.Reading.{one_number, one_group, two_numbers, number_and_hex, address_and_hex, id_and_frames, group_and_frames, command_from, command_in, input_from, input_in, entry_in, entry_of}
 use Rattle.zre_capture.proofs.Spelled.{number_of-decimal, hex_of-text, address_of-text, id_of-text, group_of-quoted}
+use Rattle.zre_capture.proofs.Differences.{reading_after-difference, difference-visible}
 use Rattle.zre_capture.proofs.Members.{frames_of-list}
 use Rattle.zre_capture.proofs.Visible.{visible, decimal-visible, address-visible, hex-visible, id-visible, quoted-visible, list-visible, fields-joined}
 
@@ -75,9 +78,13 @@ again_input : (i : Input) → IsInput i → input_in (input_word_text (input_wor
 unfolding input_in
 again_input i is = rw (again_input_word (input_word i)) (again_input_fields i is)
 
-again_fields : (e : Entry) → IsEntry e → entry_in (fields e) ≡ Some e
+again_reading : (f : Format) (before at : ℕ) → IsNumber before → IsNumber at → reading_of f before (reading_text f before at) ≡ Some at
+again_reading First before at fits is = number_of-decimal at is
+again_reading Second before at fits is = reading_after-difference before at fits is
+
+again_fields : (f : Format) (before : ℕ) (e : Entry) → IsNumber before → IsEntry e → entry_in f before (fields f before e) ≡ Some e
 unfolding entry_in
-again_fields e is = rw (number_of-decimal e.at is.at, again_input e.input is.input) refl
+again_fields f before e fits is = rw (again_reading f before e.at fits is.at, again_input e.input is.input) refl
 
 -- ---- fields are visible
 
@@ -129,11 +136,16 @@ input_fields-visible got.Tick is = refl
 input_fields-visible (got.Do command) is = and_from (visible (command_word_text (command_word command))) (list_all visible (command_fields command)) (command_words-visible (command_word command)) (command_fields-visible command is)
 input_fields-visible got.End is = refl
 
-pub fields-visible : (e : Entry) → IsEntry e → list_all visible (fields e) ≡ true
-fields-visible e is =
-    and_from (visible (decimal e.at)) (list_all visible (input_word_text (input_word e.input) ∷ input_fields e.input)) (decimal-visible e.at is.at)
+reading-visible : (f : Format) (before at : ℕ) → IsNumber before → IsNumber at → visible (reading_text f before at) ≡ true
+reading-visible First before at fits is = decimal-visible at is
+reading-visible Second before at fits is = difference-visible before at fits is
+
+pub fields-visible : (f : Format) (before : ℕ) (e : Entry) → IsNumber before → IsEntry e → list_all visible (fields f before e) ≡ true
+fields-visible f before e fits is =
+    and_from (visible (reading_text f before e.at)) (list_all visible (input_word_text (input_word e.input) ∷ input_fields e.input)) (reading-visible f before e.at fits is.at)
     (and_from (visible (input_word_text (input_word e.input))) (list_all visible (input_fields e.input)) (input_words-visible (input_word e.input)) (input_fields-visible e.input is.input))
 
 -- the entry of its own line
-pub entry_of-text : (e : Entry) → IsEntry e → entry_of (text e) ≡ Some e
-entry_of-text e is = ap entry_in (fields-joined (decimal e.at) (input_word_text (input_word e.input) ∷ input_fields e.input) (fields-visible e is)) ∙ again_fields e is
+pub entry_of-text : (f : Format) (before : ℕ) (e : Entry) → IsNumber before → IsEntry e → entry_of f before (text f before e) ≡ Some e
+entry_of-text f before e fits is =
+    ap (entry_in f before) (fields-joined (reading_text f before e.at) (input_word_text (input_word e.input) ∷ input_fields e.input) (fields-visible f before e fits is)) ∙ again_fields f before e fits is

@@ -5,7 +5,8 @@ use Rattle.zre_capture.specs.declared.word.InputWord.TheVariants as word
 use Rattle.zre_capture.specs.declared.word.CommandWord.{CommandWord}
 use Rattle.zre_capture.specs.declared.word.CommandWord.TheVariants as order
 use Rattle.std.specs.Prelude.{option_and_then}
-use Rattle.zre_capture.specs.Values.{number_of}
+use Rattle.zre_capture.specs.Values.{reading_of}
+use Rattle.zre_capture.specs.declared.format.Format.{Format}
 use Rattle.zre_capture.specs.Reading.{one_number, one_group, two_numbers, number_and_hex, address_and_hex, id_and_frames, group_and_frames, command_from, command_in, input_from, input_in, entry_in}
 
 pub no_command : (w : CommandWord) → (w ≡ order.Quit → ⊥) → None ≡ command_from w []
@@ -39,6 +40,6 @@ nothing None = refl
 nothing (Some v) = refl
 
 -- a clock's reading alone is no entry
-pub no_entry : (text : List ℕ) → None ≡ entry_in (text ∷ [])
+pub no_entry : (f : Format) (before : ℕ) (text : List ℕ) → None ≡ entry_in f before (text ∷ [])
 unfolding entry_in input_in
-no_entry text = nothing (number_of text)
+no_entry f before text = nothing (reading_of f before text)

@@ -19,10 +19,13 @@ use Rattle.zre_capture.specs.declared.word.InputWord.{InputWord}
 use Rattle.zre_capture.specs.declared.word.InputWord.TheVariants as word
 use Rattle.zre_capture.specs.declared.word.CommandWord.{CommandWord}
 use Rattle.zre_capture.specs.declared.word.CommandWord.TheVariants as order
-use Rattle.zre_capture.specs.Lines.{hex_text, command_word_text, command_word, command_fields, input_word_text, input_word, input_fields, fields, text}
-use Rattle.zre_capture.specs.Values.{first_of, input_words, command_words, input_word_of, command_word_of, number_of, hex_of, address_of, id_of, group_of, frames_of}
+use Rattle.zre_capture.specs.Lines.{hex_text, command_word_text, command_word, command_fields, input_word_text, input_word, input_fields, reading_text, fields, text}
+use Rattle.zre_capture.specs.declared.format.Format.{Format}
+use Rattle.zre_capture.specs.declared.format.Format.TheVariants.{First, Second}
+use Rattle.zre_capture.specs.Values.{first_of, input_words, command_words, input_word_of, command_word_of, number_of, reading_of, hex_of, address_of, id_of, group_of, frames_of}
 use Rattle.zre_capture.specs.Reading.{fields_in, alone, one_number, one_group, two_numbers, number_and_hex, address_and_hex, id_and_frames, group_and_frames, command_from, command_in, input_from, input_in, entry_in, entry_of}
 use Rattle.zre_capture.proofs.Spelled.{number_of-some, hex_of-some, address_of-some, id_of-some, group_of-some}
+use Rattle.zre_capture.proofs.Differences.{reading_after-some}
 use Rattle.zre_capture.proofs.Members.{frames_of-some}
 
 -- the word that was found is spelled so
@@ -45,17 +48,17 @@ unfolding input_word_of
 input_word-back field w e = found_word input_word_text input_words field w e
 
 -- both values were there
-record Both {A B : Type 0} (o : Option A) (q : Option B) (p : A × B) : Type 0 where
-  first : o ≡ Some p.0
-  second : q ≡ Some p.1
+pub record Both {A B : Type 0} (o : Option A) (q : Option B) (p : A × B) : Type 0 where
+  pub first : o ≡ Some p.0
+  pub second : q ≡ Some p.1
 
-both : {A B : Type 0} (o : Option A) (q : Option B) (p : A × B) → option_and_then (λ (a : A). option_and_then (λ (b : B). Some (a, b)) q) o ≡ Some p → Both o q p
+pub both : {A B : Type 0} (o : Option A) (q : Option B) (p : A × B) → option_and_then (λ (a : A). option_and_then (λ (b : B). Some (a, b)) q) o ≡ Some p → Both o q p
 both {A = A} {B = B} (Some a) (Some b) p e = let same : (a, b) ≡ p = same_Some (a, b) p e in record { first = ap (λ (x : A × B). Some x.0) same; second = ap (λ (x : A × B). Some x.1) same }
 both (Some a) None p e = absurd cc
 both None q p e = absurd cc
 
 -- a value that was made of another
-made : {A B : Type 0} (f : A → B) (o : Option A) (y : B) (P : B → Type 0) → option_map f o ≡ Some y → ((x : A) → o ≡ Some x → P (f x)) → P y
+pub made : {A B : Type 0} (f : A → B) (o : Option A) (y : B) (P : B → Type 0) → option_map f o ≡ Some y → ((x : A) → o ≡ Some x → P (f x)) → P y
 made f (Some x) y P e h = subst P (same_Some (f x) y e) (h x refl)
 made f None y P e h = absurd cc
 
@@ -110,7 +113,7 @@ group_and_frames-back (a ∷ b ∷ []) p e = let q = both (group_of a) (frames_o
 group_and_frames-back (a ∷ b ∷ c ∷ fs) p e = absurd cc
 
 -- a value that stands alone
-stood_alone : {V : Type 0} (value v : V) (fs : List (List ℕ)) (P : V → Type 0) → alone value fs ≡ Some v → ([] ≡ fs → P value) → P v
+pub stood_alone : {V : Type 0} (value v : V) (fs : List (List ℕ)) (P : V → Type 0) → alone value fs ≡ Some v → ([] ≡ fs → P value) → P v
 stood_alone value v [] P e h = subst P (same_Some value v e) (h refl)
 stood_alone value v (f ∷ fs) P e h = absurd cc
 
@@ -133,7 +136,7 @@ command_from-back order.Bad fs c e = made ask.Bad (one_number fs) c (IsCommandOf
 command_from-back order.Quit fs c e = stood_alone ask.Quit c fs (IsCommandOf order.Quit fs) e (λ h. after (command_word_text order.Quit) [] fs h)
 
 -- what stands after a step that gave a value
-stepped : {A B : Type 0} (f : A → Option B) (o : Option A) (y : B) (P : Type 0) → option_and_then f o ≡ Some y → ((x : A) → o ≡ Some x → f x ≡ Some y → P) → P
+pub stepped : {A B : Type 0} (f : A → Option B) (o : Option A) (y : B) (P : Type 0) → option_and_then f o ≡ Some y → ((x : A) → o ≡ Some x → f x ≡ Some y → P) → P
 stepped f (Some x) y P e h = h x refl e
 stepped f None y P e h = absurd cc
 
@@ -164,16 +167,20 @@ input_in-back (f ∷ fs) i e =
     stepped (λ (w : InputWord). input_from w fs) (input_word_of f) i (input_word_text (input_word i) ∷ input_fields i ≡ f ∷ fs) e
     (λ w is from. input_from-back w fs i from ∙ ap (λ (g : List ℕ). g ∷ fs) (input_word-back f w is))
 
-entry_in-back : (fs : List (List ℕ)) (e : Entry) → entry_in fs ≡ Some e → fields e ≡ fs
+reading-back : (f : Format) (before : ℕ) (field : List ℕ) (at : ℕ) → reading_of f before field ≡ Some at → reading_text f before at ≡ field
+reading-back First before field at e = (number_of-some field at e).text
+reading-back Second before field at e = (reading_after-some before field at e).text
+
+entry_in-back : (f : Format) (before : ℕ) (fs : List (List ℕ)) (e : Entry) → entry_in f before fs ≡ Some e → fields f before e ≡ fs
 unfolding entry_in
-entry_in-back [] e h = absurd cc
-entry_in-back (f ∷ fs) e h =
-    stepped (λ (at : ℕ). option_and_then (λ (input : Input). Some (record { at = at; input = input })) (input_in fs)) (number_of f) e (fields e ≡ f ∷ fs) h
-    (λ at is more. stepped (λ (input : Input). Some (record { at = at; input = input })) (input_in fs) e (fields e ≡ f ∷ fs) more
+entry_in-back f before [] e h = absurd cc
+entry_in-back f before (t ∷ fs) e h =
+    stepped (λ (at : ℕ). option_and_then (λ (input : Input). Some (record { at = at; input = input })) (input_in fs)) (reading_of f before t) e (fields f before e ≡ t ∷ fs) h
+    (λ at is more. stepped (λ (input : Input). Some (record { at = at; input = input })) (input_in fs) e (fields f before e ≡ t ∷ fs) more
     (λ input there same.
-    let both_parts : fields (record { at = at; input = input }) ≡ f ∷ fs = ap (λ (g : List ℕ). g ∷ input_word_text (input_word input) ∷ input_fields input) (number_of-some f at is).text ∙ ap (λ (r : List (List ℕ)). f ∷ r) (input_in-back fs input there) in
-    ap fields (sym (same_Some (record { at = at; input = input }) e same)) ∙ both_parts))
+    let both_parts : fields f before (record { at = at; input = input }) ≡ t ∷ fs = ap (λ (g : List ℕ). g ∷ input_word_text (input_word input) ∷ input_fields input) (reading-back f before t at is) ∙ ap (λ (r : List (List ℕ)). t ∷ r) (input_in-back fs input there) in
+    ap (fields f before) (sym (same_Some (record { at = at; input = input }) e same)) ∙ both_parts))
 
 -- a line is that of its entry
-pub text-entry_of : (t : List ℕ) (e : Entry) → entry_of t ≡ Some e → text e ≡ t
-text-entry_of t e h = ap (join_with_byte 32) (entry_in-back (fields_in t) e h) ∙ join_with_byte-slice_split 32 t
+pub text-entry_of : (f : Format) (before : ℕ) (t : List ℕ) (e : Entry) → entry_of f before t ≡ Some e → text f before e ≡ t
+text-entry_of f before t e h = ap (join_with_byte 32) (entry_in-back f before (fields_in t) e h) ∙ join_with_byte-slice_split 32 t

@@ -1,8 +1,11 @@
 -- The journal of more octets begins with that of fewer.
-use Rattle.std.proofs.Common.{◌≡◌, ℕ, ◌+◌, ◌<◌, ◌==◌, Bool, true, false, cond, List, [], ◌∷◌, ◌++◌, length, Option, Some, None, refl, sym, ap, ◌∙◌, arith, append_assoc}
+use Rattle.std.proofs.Common.{◌≡◌, ℕ, ◌<◌, ◌==◌, Bool, true, false, cond, List, [], ◌∷◌, ◌++◌, length, Option, Some, None, refl, sym, ap, ◌∙◌, arith, append_assoc}
 use Rattle.std.specs.List.{onto_first}
 use Rattle.zre_outside.specs.declared.entry.Entry.{Entry}
-use Rattle.zre_capture.specs.Journal.{line_of, lines_in, entries_from, journal}
+use Rattle.zre_capture.specs.Journal.{line_of, lines_in, next, entries_from, settings_in, start, settings, journal}
+use Rattle.zre_capture.specs.declared.format.Format.{Format}
+use Rattle.zre_capture.specs.declared.place.Place.{Place}
+use Rattle.zre_capture.specs.declared.settings.Settings.{Settings}
 use Rattle.zre_capture.proofs.Lines.{entries-good, entries-bad}
 
 -- parts after parts: the first of these goes on with the last of those
@@ -49,20 +52,31 @@ some_joined u [] (m ∷ ms) = omega arith
 some_joined u (v ∷ ls) ms = omega arith
 
 -- the entries of parts after parts begin with those of the first
-grows_by : (n : ℕ) (ls ms : List (List ℕ)) → (more : List Entry) × (entries_from n (joined ls ms) ≡ entries_from n ls ++ more)
+grows_by : (p : Place) (ls ms : List (List ℕ)) → (more : List Entry) × (entries_from p (joined ls ms) ≡ entries_from p ls ++ more)
 unfolding entries_from
-grows_by n [] ms = (entries_from n ms, refl)
-grows_by n (t ∷ []) ms = (entries_from n (joined (t ∷ []) ms), refl)
-grows_by n (t ∷ u ∷ ls) ms = by (grows_by (n + 1) (u ∷ ls) ms) (line_of n t) refl
+grows_by p [] ms = (entries_from p ms, refl)
+grows_by p (t ∷ []) ms = (entries_from p (joined (t ∷ []) ms), refl)
+grows_by p (t ∷ u ∷ ls) ms = by (λ es. grows_by (next p es) (u ∷ ls) ms) (line_of p t) refl
   where
-    by : (more : List Entry) × (entries_from (n + 1) (joined (u ∷ ls) ms) ≡ entries_from (n + 1) (u ∷ ls) ++ more) → (o : Option (List Entry)) → line_of n t ≡ o
-        → (more : List Entry) × (entries_from n (t ∷ joined (u ∷ ls) ms) ≡ entries_from n (t ∷ u ∷ ls) ++ more)
-    by r None e = ([], entries-bad n t (joined (u ∷ ls) ms) (some_joined u ls ms) e ∙ sym (ap (λ es. es ++ []) (entries-bad n t (u ∷ ls) (omega arith) e)))
+    by : ((es : List Entry) → (more : List Entry) × (entries_from (next p es) (joined (u ∷ ls) ms) ≡ entries_from (next p es) (u ∷ ls) ++ more)) → (o : Option (List Entry)) → line_of p t ≡ o
+        → (more : List Entry) × (entries_from p (t ∷ joined (u ∷ ls) ms) ≡ entries_from p (t ∷ u ∷ ls) ++ more)
+    by r None e = ([], entries-bad p t (joined (u ∷ ls) ms) (some_joined u ls ms) e ∙ sym (ap (λ es. es ++ []) (entries-bad p t (u ∷ ls) (omega arith) e)))
     by r (Some es) e = (
-      r.0,
-      entries-good n t es (joined (u ∷ ls) ms) (some_joined u ls ms) e ∙ ap (λ fs. es ++ fs) r.1 ∙ sym (append_assoc es (entries_from (n + 1) (u ∷ ls)) r.0)
-          ∙ sym (ap (λ fs. fs ++ r.0) (entries-good n t es (u ∷ ls) (omega arith) e)),
+      (r es).0,
+      entries-good p t es (joined (u ∷ ls) ms) (some_joined u ls ms) e ∙ ap (λ fs. es ++ fs) (r es).1 ∙ sym (append_assoc es (entries_from (next p es) (u ∷ ls)) (r es).0)
+          ∙ sym (ap (λ fs. fs ++ (r es).0) (entries-good p t es (u ∷ ls) (omega arith) e)),
     )
 
-pub journal_grows : (o x : List ℕ) → (more : List Entry) × (journal (o ++ x) ≡ journal o ++ more)
-journal_grows o x = let r = grows_by 1 (lines_in o) (lines_in x) in (r.0, ap (entries_from 1) (lines_joined o x) ∙ r.1)
+pub journal_grows : (f : Format) (o x : List ℕ) → (more : List Entry) × (journal f (o ++ x) ≡ journal f o ++ more)
+journal_grows f o x = let r = grows_by (start f) (lines_in o) (lines_in x) in (r.0, ap (entries_from (start f)) (lines_joined o x) ∙ r.1)
+
+-- settings that are told stay
+head_stays : (f : Format) (ls ms : List (List ℕ)) (s : Settings) → settings_in f ls ≡ Some s → settings_in f (joined ls ms) ≡ Some s
+head_stays f [] ms s e = absurd cc
+head_stays f (t ∷ []) ms s e = absurd cc
+head_stays f (t ∷ u ∷ []) [] s e = e
+head_stays f (t ∷ u ∷ []) (m ∷ ms) s e = e
+head_stays f (t ∷ u ∷ v ∷ ls) ms s e = e
+
+pub settings_stay : (f : Format) (o x : List ℕ) (s : Settings) → settings f o ≡ Some s → settings f (o ++ x) ≡ Some s
+settings_stay f o x s e = ap (settings_in f) (lines_joined o x) ∙ head_stays f (lines_in o) (lines_in x) s e

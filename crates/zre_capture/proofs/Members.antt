@@ -21,14 +21,15 @@ use Rattle.zre_capture.proofs.Unquoting.{unquoted-quoted}
 
 -- ---- octets that don't stand in quoted texts
 
--- not a plain octet, nor `%`, nor a digit
+pub digit_other : (o n : ℕ) → o < 48 → n < 16 → (hex_digit n == o) ≡ false
+digit_other o n low lt = grind (arith, nat_tests)
+
+-- not a plain octet, nor `%` or `~`, nor a digit
 pub record IsOutside (o : ℕ) : Type 0 where
   pub not_plain : is_plain o ≡ false
-  pub low : o < 48
+  pub no_digit : (n : ℕ) → n < 16 → (hex_digit n == o) ≡ false
   pub not_percent : (o == 37) ≡ false
-
-digit_other : (o n : ℕ) → o < 48 → n < 16 → (hex_digit n == o) ≡ false
-digit_other o n low lt = grind (arith, nat_tests)
+  pub not_tilde : (126 == o) ≡ false
 
 plain_other : (o b : ℕ) → is_plain o ≡ false → is_plain b ≡ true → (b == o) ≡ false
 plain_other o b isnt is = ne_eqb b o (λ same. let p : is_plain o ≡ true = ap is_plain (sym same) ∙ is in absurd cc)
@@ -42,7 +43,7 @@ by_kind p b = cond p (b ∷ []) (37 ∷ hex_digit (b / 16) ∷ hex_digit (b % 16
 kind_lacks : (p : Bool) (o b : ℕ) → IsOutside o → is_plain b ≡ p → b < 2 ^ 8 → list_any (λ x. x == o) (by_kind p b) ≡ false
 kind_lacks true o b is e lt = rw (plain_other o b is.not_plain e) refl
 kind_lacks false o b is e lt =
-    rw (percent_other o is.not_percent, digit_other o (b / 16) is.low (omega (arith, lt)), digit_other o (b % 16) is.low (omega arith)) refl
+    rw (percent_other o is.not_percent, is.no_digit (b / 16) (omega (arith, lt)), is.no_digit (b % 16) (omega arith)) refl
 
 octets-lack : (o : ℕ) (v : List ℕ) → IsOutside o → All (λ b. b < 2 ^ 8) v → list_any (λ x. x == o) (flat_map quoted_octet v) ≡ false
 octets-lack o [] is h = refl
@@ -51,17 +52,23 @@ octets-lack o (b ∷ v) is h =
     ∙ rw (kind_lacks (is_plain b) o b is refl (All-head (λ n. n < 2 ^ 8) b v h), octets-lack o v is (All-tail (λ n. n < 2 ^ 8) b v h)) refl
 
 pub quoted-lacks : (o : ℕ) (v : List ℕ) → IsOutside o → All (λ b. b < 2 ^ 8) v → list_any (λ x. x == o) (quoted v) ≡ false
-quoted-lacks o [] is h = rw (ne_eqb 126 o (λ same. let low = is.low in absurd (omega (arith, low, same)))) refl
+quoted-lacks o [] is h = rw is.not_tilde refl
 quoted-lacks o (b ∷ v) is h = octets-lack o (b ∷ v) is h
 
 pub comma : IsOutside 44
-comma = record { not_plain = refl; low = omega arith; not_percent = refl }
+comma = record { not_plain = refl; no_digit = λ n lt. digit_other 44 n (omega arith) lt; not_percent = refl; not_tilde = refl }
+
+equal_sign : (n : ℕ) → n < 16 → (hex_digit n == 61) ≡ false
+equal_sign n lt = grind (arith, nat_tests)
+
+pub equals : IsOutside 61
+equals = record { not_plain = refl; no_digit = equal_sign; not_percent = refl; not_tilde = refl }
 
 pub space : IsOutside 32
-space = record { not_plain = refl; low = omega arith; not_percent = refl }
+space = record { not_plain = refl; no_digit = λ n lt. digit_other 32 n (omega arith) lt; not_percent = refl; not_tilde = refl }
 
 pub line_feed : IsOutside 10
-line_feed = record { not_plain = refl; low = omega arith; not_percent = refl }
+line_feed = record { not_plain = refl; no_digit = λ n lt. digit_other 10 n (omega arith) lt; not_percent = refl; not_tilde = refl }
 
 -- ---- lists
 

@@ -14,7 +14,7 @@ use Rattle.zre_capture.specs.Values.{digit_value, unescaped, unquoted}
 value-digit : (n : ℕ) → n < 16 → digit_value (hex_digit n) ≡ n
 value-digit n lt = grind (arith, nat_tests)
 
-not_percent : (b : ℕ) → is_plain b ≡ true → (b == 37) ≡ false
+pub not_percent : (b : ℕ) → is_plain b ≡ true → (b == 37) ≡ false
 not_percent b e = ne_eqb b 37 (λ same. let p : is_plain 37 ≡ true = ap is_plain (sym same) ∙ e in absurd cc)
 
 octet-plain : (b : ℕ) (r : List ℕ) → is_plain b ≡ true → unescaped [] (b ∷ r) ≡ b ∷ unescaped [] r

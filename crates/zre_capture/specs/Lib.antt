@@ -1,5 +1,8 @@
 pub mod Draws
 pub mod Exercise
+pub mod Formats
+pub mod Headers
+pub mod Heads
 pub mod Journal
 pub mod Left
 pub mod Lines

@@ -1,7 +1,6 @@
--- The lines of a capture: its head, and a line for each entry. Fields stand with one space between, and a line feed
--- after.
-use Rattle.std.specs.Prelude.{ℕ, ◌<◌, ◌≤◌, ◌^◌, List, [], ◌∷◌, ◌++◌, length, codes, decimal, All}
-use Rattle.std.specs.List.{join_with_byte, flat_map}
+-- The lines of entries. Fields stand with one space between, and a line feed after.
+use Rattle.std.specs.Prelude.{ℕ, ◌-◌, ◌<◌, ◌≤◌, ◌^◌, nat_le, if◌then◌else◌, List, [], ◌∷◌, ◌++◌, length, codes, decimal, All}
+use Rattle.std.specs.List.{join_with_byte}
 use Rattle.hex.specs.Hex.{encode_lower}
 use Rattle.zre_values.specs.Address.{address_text, IsAddress}
 use Rattle.zre_values.specs.PlainId.{IsPeerId}
@@ -11,11 +10,13 @@ use Rattle.zre_outside.specs.declared.entry.Input.{Input}
 use Rattle.zre_outside.specs.declared.entry.Input.TheVariants as got
 use Rattle.zre_outside.specs.declared.entry.Command.{Command}
 use Rattle.zre_outside.specs.declared.entry.Command.TheVariants as ask
+use Rattle.zre_capture.specs.Formats.{longest}
+use Rattle.zre_capture.specs.declared.format.Format.{Format}
+use Rattle.zre_capture.specs.declared.format.Format.TheVariants.{First, Second}
 use Rattle.zre_capture.specs.declared.word.InputWord.{InputWord}
 use Rattle.zre_capture.specs.declared.word.InputWord.TheVariants as word
 use Rattle.zre_capture.specs.declared.word.CommandWord.{CommandWord}
 use Rattle.zre_capture.specs.declared.word.CommandWord.TheVariants as order
-use Rattle.zre_capture.specs.declared.line.TheConstants.{LINE_OCTETS}
 
 -- two digits an octet, in lower case; `-` for no octets
 abbrev pub hex_text : List ℕ → List ℕ
@@ -97,25 +98,31 @@ command_text command = join_with_byte 32 (command_word_text (command_word comman
 abbrev pub input_text : Input → List ℕ
 input_text input = join_with_byte 32 (input_word_text (input_word input) ∷ input_fields input)
 
--- the fields of an entry: its clock reading, a word, and what belongs to that
-abbrev pub fields : Entry → List (List ℕ)
-fields e = decimal e.at ∷ input_word_text (input_word e.input) ∷ input_fields e.input
+-- what a reading differs by from the one before: a number, with a minus where it is less
+abbrev pub difference : ℕ → ℕ → List ℕ
+difference before at = if nat_le before at then decimal (at - before) else 45 ∷ decimal (before - at)
 
--- an entry as it is written, without its line feed
-abbrev pub text : Entry → List ℕ
-text e = join_with_byte 32 (fields e)
+-- how a line tells its entry's reading of the clock, by the reading before
+abbrev pub reading_text : Format → ℕ → ℕ → List ℕ
+reading_text First before at = decimal at
+reading_text Second before at = difference before at
+
+-- the fields of an entry: its clock reading, a word, and what belongs to that
+abbrev pub fields : Format → ℕ → Entry → List (List ℕ)
+fields f before e = reading_text f before e.at ∷ input_word_text (input_word e.input) ∷ input_fields e.input
+
+-- an entry as it is written after this reading, without its line feed
+abbrev pub text : Format → ℕ → Entry → List ℕ
+text f before e = join_with_byte 32 (fields f before e)
 
 -- the line of an entry
-abbrev pub line : Entry → List ℕ
-line e = text e ++ 10 ∷ []
+abbrev pub line : Format → ℕ → Entry → List ℕ
+line f before e = text f before e ++ 10 ∷ []
 
--- the lines of entries
-abbrev pub lines : List Entry → List ℕ
-lines es = flat_map line es
-
--- the line that a capture of format 1 begins with
-abbrev pub head : List ℕ
-head = codes "zre-capture 1\n"
+-- the lines of entries, the first of them after this reading, each other after that of the entry before it
+abbrev pub lines : Format → ℕ → List Entry → List ℕ
+lines f before [] = []
+lines f before (e ∷ es) = line f before e ++ lines f e.at es
 
 -- ---- values that have a line: all that the code's types can hold
 
@@ -152,6 +159,7 @@ pub record IsEntry (e : Entry) : Type 0 where
   pub at : IsNumber e.at
   pub input : IsInput e.input
 
--- its line isn't too long to be read
-abbrev pub IsWritable : Entry → Type 0
-IsWritable e = length (text e) ≤ LINE_OCTETS
+-- their lines aren't too long to be read
+abbrev pub AreShort : Format → ℕ → List Entry → Type 0
+AreShort f before [] = Unit {0}
+AreShort f before (e ∷ es) = (length (text f before e) ≤ longest f) × AreShort f e.at es

@@ -9,7 +9,9 @@ use Rattle.uuid.specs.Text.{parsed}
 use Rattle.zre_values.specs.declared.peer_id.PeerId.{PeerId}
 use Rattle.zre_values.specs.Address.{address_text}
 use Rattle.zre_values.specs.Text.{id_text, quoted, quoted_list}
-use Rattle.zre_capture.specs.Lines.{hex_text, input_word_text, command_word_text}
+use Rattle.zre_capture.specs.Lines.{hex_text, difference, input_word_text, command_word_text}
+use Rattle.zre_capture.specs.declared.format.Format.{Format}
+use Rattle.zre_capture.specs.declared.format.Format.TheVariants.{First, Second}
 use Rattle.zre_capture.specs.declared.word.InputWord.{InputWord}
 use Rattle.zre_capture.specs.declared.word.InputWord.TheVariants as word
 use Rattle.zre_capture.specs.declared.word.CommandWord.{CommandWord}
@@ -25,6 +27,28 @@ are_octets o = list_all (λ b. nat_lt b 256) o
 -- a number of 64 bits, decimal and without leading zeros
 unfoldable pub number_of : List ℕ → Option ℕ
 number_of field = where_spelled decimal (nat_lt (digits_value 10 field) (2 ^ 64)) (digits_value 10 field) field
+
+-- the same, in these bounds
+unfoldable pub number_within : ℕ → ℕ → List ℕ → Option ℕ
+number_within least most field =
+    where_spelled decimal (nat_le least (digits_value 10 field) && nat_le (digits_value 10 field) most)
+    (digits_value 10 field) field
+
+-- the reading that differs by a field from the one before
+abbrev pub differing : ℕ → List ℕ → ℕ
+differing before [] = before
+differing before (c ∷ digits) =
+    if c == 45 then before - digits_value 10 digits else before + digits_value 10 (c ∷ digits)
+
+-- the same, where the field is what that differs by, and a clock has such a reading
+unfoldable pub reading_after : ℕ → List ℕ → Option ℕ
+reading_after before field =
+    where_spelled (difference before) (nat_lt (differing before field) (2 ^ 64)) (differing before field) field
+
+-- the reading of the clock that a line's first field tells
+abbrev pub reading_of : Format → ℕ → List ℕ → Option ℕ
+reading_of First before field = number_of field
+reading_of Second before field = reading_after before field
 
 -- the numbers between dots
 abbrev pub dotted : List ℕ → List ℕ
@@ -82,6 +106,11 @@ unquoted_list field = if bytes_eq field (codes "%") then [] else map unquoted (s
 -- frames
 unfoldable pub frames_of : List ℕ → Option (List (List ℕ))
 frames_of field = where_spelled quoted_list (list_all are_octets (unquoted_list field)) (unquoted_list field) field
+
+-- a quoted text of few octets
+unfoldable pub short_of : ℕ → List ℕ → Option (List ℕ)
+short_of most field =
+    where_spelled quoted (are_octets (unquoted field) && nat_le (length (unquoted field)) most) (unquoted field) field
 
 -- the identity of thirty-two digits
 abbrev pub id_in : List ℕ → PeerId

@@ -1,23 +1,33 @@
 //! The fields of lines, and what is required of each.
 
 ghost use Rattle.std.specs.Prelude.{◌≡◌, ◌≤◌, ◌<◌, ◌+◌, ◌^◌, length, true, false, if◌then◌else◌};
-ghost use Rattle.zre_capture.specs.Reading.{is_field, input_form, command_form, meets, after, after_field, form, first_bad, but_last, fields_in};
+ghost use Rattle.zre_capture.specs.Reading.{is_field, input_form, command_form, meets, after, after_field};
+ghost use Rattle.zre_capture.specs.Reading.{given_after, given_by, form, head_form, entry_form, bad_field};
+ghost use Rattle.zre_capture.specs.Reading.{but_last, fields_in};
 
+use crate::format::Format;
+use crate::headers::are_headers;
 use crate::hexadecimal::is_hex;
 use crate::list::are_frames;
+use crate::place::Place;
 use crate::split::split_once;
-use crate::value::{address, id, is_group, number};
+use crate::value::{address, id, is_group, is_short, number, number_within, reading_after};
 use crate::word::{CommandWord, InputWord, command_word, input_word};
+use zre_values::{DAY, NAME_OCTETS};
 
 /// What a field has to be.
 #[derive(Clone, Copy)]
 pub enum Field {
     /// `zre-capture`.
     Mark,
-    /// The number of the format.
-    Format,
+    /// The number of format 1.
+    First,
+    /// That of format 2.
+    Second,
     /// A number of 64 bits in decimal digits.
     Number,
+    /// What a reading differs by from the one before.
+    Difference,
     /// A word of what happened.
     Input,
     /// A word of a command.
@@ -31,15 +41,28 @@ pub enum Field {
     Frames,
     /// An identity.
     Id,
+    /// The quoted name of a node.
+    Name,
+    /// The number of a port.
+    Port,
+    /// Milliseconds of silence after which a peer is evasive.
+    Evasive,
+    /// Those after which it has expired, no fewer.
+    Expired,
+    /// A dictionary of headers.
+    Headers,
 }
 
-fn is_field(field: Field, text: &[u8]) -> bool
-    ensures { result ≡ is_field field text.now }
+// A field may rest on a number that is given by what came before it.
+fn is_field(given: u64, field: Field, text: &[u8]) -> bool
+    ensures { result ≡ is_field given field text.now }
 {
     match field {
         Field::Mark => text == b"zre-capture".as_slice(),
-        Field::Format => text == b"1".as_slice(),
+        Field::First => text == b"1".as_slice(),
+        Field::Second => text == b"2".as_slice(),
         Field::Number => number(text).is_some(),
+        Field::Difference => reading_after(given, text).is_some(),
         Field::Input => input_word(text).is_some(),
         Field::Command => command_word(text).is_some(),
         Field::Address => address(text).is_some(),
@@ -47,6 +70,11 @@ fn is_field(field: Field, text: &[u8]) -> bool
         Field::Group => is_group(text),
         Field::Frames => are_frames(text),
         Field::Id => id(text).is_some(),
+        Field::Name => is_short(NAME_OCTETS, text),
+        Field::Port => number_within(1, 65535, text).is_some(),
+        Field::Evasive => number_within(1, DAY, text).is_some(),
+        Field::Expired => number_within(given, DAY, text).is_some(),
+        Field::Headers => are_headers(text),
     }
 }
 
@@ -81,23 +109,85 @@ fn input_form(word: InputWord) -> &'static [Field]
     }
 }
 
-// The fields that a line begins with.
-fn form(line: u64) -> &'static [Field]
-    ensures { result.now ≡ form line }
+fn head_form(format: Format) -> &'static [Field]
+    ensures { result.now ≡ head_form format }
 {
-    if line == 1 {
-        &[Field::Mark, Field::Format]
-    } else {
-        &[Field::Number, Field::Input]
+    match format {
+        Format::First => &[Field::Mark, Field::First],
+        Format::Second => &[
+            Field::Mark,
+            Field::Second,
+            Field::Id,
+            Field::Name,
+            Field::Address,
+            Field::Port,
+            Field::Evasive,
+            Field::Expired,
+            Field::Headers,
+        ],
     }
 }
 
-fn meets(required: &[Field], text: &[u8]) -> bool
-    ensures { result ≡ meets required.now text.now }
+fn entry_form(format: Format) -> &'static [Field]
+    ensures { result.now ≡ entry_form format }
+{
+    match format {
+        Format::First => &[Field::Number, Field::Input],
+        Format::Second => &[Field::Difference, Field::Input],
+    }
+}
+
+// The fields that a line begins with.
+fn form(place: Place) -> &'static [Field]
+    ensures { result.now ≡ form place }
+{
+    if place.line == 1 {
+        head_form(place.format)
+    } else {
+        entry_form(place.format)
+    }
+}
+
+fn meets(given: u64, required: &[Field], text: &[u8]) -> bool
+    ensures { result ≡ meets given required.now text.now }
 {
     match required {
         [] => false,
-        [field, ..] => is_field(*field, text),
+        [field, ..] => is_field(given, *field, text),
+    }
+}
+
+fn given_by(field: Field, given: u64, text: &[u8]) -> u64
+    ensures { result ≡ given_by field given text.now }
+{
+    match field {
+        Field::Evasive => number_within(1, DAY, text).unwrap_or(given),
+        Field::Mark => given,
+        Field::First => given,
+        Field::Second => given,
+        Field::Number => given,
+        Field::Difference => given,
+        Field::Input => given,
+        Field::Command => given,
+        Field::Address => given,
+        Field::Hex => given,
+        Field::Group => given,
+        Field::Frames => given,
+        Field::Id => given,
+        Field::Name => given,
+        Field::Port => given,
+        Field::Expired => given,
+        Field::Headers => given,
+    }
+}
+
+// What is given after a field.
+fn given_after(given: u64, required: &[Field], text: &[u8]) -> u64
+    ensures { result ≡ given_after given required.now text.now }
+{
+    match required {
+        [] => given,
+        [field, ..] => given_by(*field, given, text),
     }
 }
 
@@ -114,13 +204,20 @@ fn after_field(field: Field, more: &'static [Field], text: &[u8]) -> &'static [F
             None => &[],
         },
         Field::Mark => more,
-        Field::Format => more,
+        Field::First => more,
+        Field::Second => more,
         Field::Number => more,
+        Field::Difference => more,
         Field::Address => more,
         Field::Hex => more,
         Field::Group => more,
         Field::Frames => more,
         Field::Id => more,
+        Field::Name => more,
+        Field::Port => more,
+        Field::Evasive => more,
+        Field::Expired => more,
+        Field::Headers => more,
     }
 }
 
@@ -135,17 +232,19 @@ fn after(required: &'static [Field], text: &[u8]) -> &'static [Field]
 
 /// The column, from 1, of the first field of a line that isn't as required. The last field, after the last space, is
 /// looked at only where it is whole.
-pub fn first_bad(line: u64, text: &[u8], whole: bool) -> Option<u64>
+pub fn first_bad(place: Place, text: &[u8], whole: bool) -> Option<u64>
     requires { length text.now < 2 ^ 32 }
-    ensures { result ≡ first_bad (form line) (if whole then fields_in text.now else but_last (fields_in text.now)) 1 }
+    ensures { result ≡ bad_field place (if whole then fields_in text.now else but_last (fields_in text.now)) }
 {
-    let mut required = form(line);
+    let mut given = place.before;
+    let mut required = form(place);
     let mut rest = text;
     let mut column: u64 = 1;
     'fields: while let Some((field, others)) = split_once(rest, b' ') {
-        if !meets(required, field) {
+        if !meets(given, required, field) {
             return Some(column);
         }
+        given = given_after(given, required, field);
         required = after(required, field);
         column += field.len() as u64 + 1;
         rest = others;
@@ -153,7 +252,7 @@ pub fn first_bad(line: u64, text: &[u8], whole: bool) -> Option<u64>
     if !whole {
         return None;
     }
-    if meets(required, rest) {
+    if meets(given, required, rest) {
         None
     } else {
         Some(column)

@@ -1,18 +1,23 @@
-//! Captures: journals of a node as texts. A capture has a head line and a line for each entry. Beside them stands the
-//! exercise, a large journal that is made from a number.
+//! Captures: journals of a node as texts. A capture has a head line and a line for each entry; that of format 2 has the
+//! settings of the node too. Beside them stands the exercise, a large journal that is made from a number.
 #![tactic(auto)]
 
 mod draws;
 mod exercise;
 mod fault;
 mod field;
+mod format;
+mod head;
+mod headers;
 mod hexadecimal;
 mod introduction;
 pub mod laws;
 mod line;
 mod list;
+mod place;
 mod read;
 mod reader;
+mod settings;
 mod split;
 mod stage;
 mod talk;
@@ -21,7 +26,12 @@ mod word;
 
 pub use exercise::Exercise;
 pub use fault::{BadCapture, CaptureFault};
-pub use line::{HEAD, LINE_OCTETS, push_entry, write_entry};
+pub use format::{Format, LINE_OCTETS, LINE_OCTETS_2};
+pub use head::{HEAD, push_head2, write_head2};
+pub use hexadecimal::hex;
+pub use line::{push_entry, push_entry2, write_entry, write_entry2};
+pub use read::{command, first_field, number_and_hex, one_number, two_fields, two_numbers};
 pub use reader::CaptureReader;
+pub use settings::Settings;
 pub use split::split_once;
 pub use value::{address, group, id, number};

@@ -3,8 +3,10 @@
 ghost use Rattle.std.specs.Prelude.{◌≡◌, ◌++◌, ◌∷◌, decimal, IfOk, OnOk};
 ghost use Rattle.zre_values.specs.Text.{quoted, quoted_list, id_text};
 ghost use Rattle.zre_values.specs.Address.{address_text};
-ghost use Rattle.zre_capture.specs.Lines.{hex_text, command_text, input_text, text, line};
+ghost use Rattle.zre_capture.specs.Lines.{hex_text, command_text, input_text, difference, reading_text, line};
+ghost use Rattle.zre_capture.specs.declared.format.Format.TheVariants.{First, Second};
 
+use crate::format::Format;
 use crate::hexadecimal::push_hex;
 use std::alloc::Global;
 use zre_outside::{Command, Entry, Input};
@@ -12,12 +14,6 @@ use zre_values::{
     Frames, Octets, OutOfMemory, PeerId, push_address, push_decimal, push_quoted,
     push_quoted_frames,
 };
-
-/// The line that a capture begins with.
-pub const HEAD: &[u8] = b"zre-capture 1\n";
-
-/// As many octets as a line may have before its line feed.
-pub const LINE_OCTETS: usize = 4194304;
 
 fn push_number(out: &mut Octets, word: &[u8], n: u64) -> Result<(), OutOfMemory>
     ensures { OnOk result (out.new ≡ out.old ++ (word.now ++ (32 ∷ decimal n))) }
@@ -115,21 +111,70 @@ fn push_input(out: &mut Octets, input: &Input) -> Result<(), OutOfMemory>
     }
 }
 
-/// Appends the line of an entry. After an error a front of it may stand there.
-pub fn push_entry(out: &mut Octets, entry: &Entry) -> Result<(), OutOfMemory>
-    ensures { OnOk result (out.new ≡ out.old ++ line entry.now) }
+// What a reading differs by from the one before.
+fn push_difference(out: &mut Octets, before: u64, at: u64) -> Result<(), OutOfMemory>
+    ensures { OnOk result (out.new ≡ out.old ++ difference before at) }
 {
-    push_decimal(out, entry.at)?;
+    if before <= at {
+        return push_decimal(out, at - before);
+    }
+    out.push(b'-')?;
+    push_decimal(out, before - at)
+}
+
+fn push_reading(out: &mut Octets, format: Format, before: u64, at: u64) -> Result<(), OutOfMemory>
+    ensures { OnOk result (out.new ≡ out.old ++ reading_text format before at) }
+{
+    match format {
+        Format::First => push_decimal(out, at),
+        Format::Second => push_difference(out, before, at),
+    }
+}
+
+fn push_line(
+    out: &mut Octets,
+    format: Format,
+    before: u64,
+    entry: &Entry,
+) -> Result<(), OutOfMemory>
+    ensures { OnOk result (out.new ≡ out.old ++ line format before entry.now) }
+{
+    push_reading(out, format, before, entry.at)?;
     out.push(b' ')?;
     push_input(out, &entry.input)?;
     out.push(b'\n')
 }
 
-/// The line of an entry, with its line feed. An entry has one line alone.
+/// Appends the line of an entry in format 1, which doesn't rest on a reading before. After an error a front of it may
+/// stand there.
+pub fn push_entry(out: &mut Octets, entry: &Entry) -> Result<(), OutOfMemory>
+    ensures { OnOk result (out.new ≡ out.old ++ line First 0 entry.now) }
+{
+    push_line(out, Format::First, 0, entry)
+}
+
+/// Appends the line of an entry in format 2, after an entry with this reading, 0 at first. After an error a front of it
+/// may stand there.
+pub fn push_entry2(out: &mut Octets, before: u64, entry: &Entry) -> Result<(), OutOfMemory>
+    ensures { OnOk result (out.new ≡ out.old ++ line Second before entry.now) }
+{
+    push_line(out, Format::Second, before, entry)
+}
+
+/// The line of an entry in format 1, with its line feed. An entry has one line alone.
 pub fn write_entry(alloc: Global, entry: &Entry) -> Result<Octets, OutOfMemory>
-    ensures { IfOk result (λ written. written ≡ line entry.now) }
+    ensures { IfOk result (λ written. written ≡ line First 0 entry.now) }
 {
     let mut written = Octets::new(alloc);
     push_entry(&mut written, entry)?;
+    Ok(written)
+}
+
+/// The line of an entry in format 2, with its line feed, after an entry with this reading, 0 at first.
+pub fn write_entry2(alloc: Global, before: u64, entry: &Entry) -> Result<Octets, OutOfMemory>
+    ensures { IfOk result (λ written. written ≡ line Second before entry.now) }
+{
+    let mut written = Octets::new(alloc);
+    push_entry2(&mut written, before, entry)?;
     Ok(written)
 }

@@ -1,20 +1,24 @@
 //! Entries read from their lines.
 
 ghost use Rattle.std.specs.Prelude.{◌≡◌, [], ◌∷◌, Option, Some, None, option_map, IfOk, MatchOption};
-ghost use Rattle.zre_capture.specs.Reading.{fields_in, one, two, one_number, one_group, two_numbers, number_and_hex, address_and_hex, id_and_frames, group_and_frames, command_from, command_in, input_from, input_in, entry_of};
-ghost use Rattle.zre_capture.specs.Values.{number_of, address_of, id_of, group_of, frames_of, hex_of};
+ghost use Rattle.zre_capture.specs.Parts.{between, one, two};
+ghost use Rattle.zre_capture.specs.Reading.{fields_in, one_number, one_group, two_numbers, number_and_hex};
+ghost use Rattle.zre_capture.specs.Reading.{address_and_hex, id_and_frames, group_and_frames, command_from};
+ghost use Rattle.zre_capture.specs.Reading.{command_in, input_from, input_in, entry_of};
+ghost use Rattle.zre_capture.specs.Values.{number_of, reading_of, address_of, id_of, group_of, frames_of, hex_of};
 
+use crate::format::Format;
 use crate::hexadecimal::hex;
 use crate::list::frames;
 use crate::split::split_once;
-use crate::value::{address, group, id, number};
+use crate::value::{address, group, id, number, reading};
 use crate::word::{CommandWord, InputWord, command_word, input_word};
 use std::alloc::Global;
 use zre_outside::{Command, Entry, Input};
 use zre_values::{Frames, Octets, OutOfMemory, PeerId};
 
-// The first field, and the text of those after it, if there are any.
-fn first_field(text: &[u8]) -> Option<(&[u8], &[u8])>
+/// The first field, and the text of those after it, if there are any.
+pub fn first_field(text: &[u8]) -> Option<(&[u8], &[u8])>
     ensures { MatchOption result (fields_in text.now ≡ text.now ∷ [])
         (λ p. fields_in text.now ≡ p.0.now ∷ fields_in p.1.now) }
 {
@@ -22,37 +26,46 @@ fn first_field(text: &[u8]) -> Option<(&[u8], &[u8])>
     Some((first, rest))
 }
 
-// A field with no other after it.
-fn one_field(text: &[u8]) -> Option<&[u8]>
-    ensures { option_map (λ f. f.now) result ≡ one (fields_in text.now) }
+/// A part with no other after it, where this octet stands between parts.
+pub(crate) fn one_part(text: &[u8], octet: u8) -> Option<&[u8]>
+    ensures { option_map (λ f. f.now) result ≡ one (between octet text.now) }
 {
-    match split_once(text, b' ') {
+    match split_once(text, octet) {
         None => Some(text),
         Some(_) => None,
     }
 }
 
-// Two fields with no other after them.
-fn two_fields(text: &[u8]) -> Option<(&[u8], &[u8])>
-    ensures { option_map (λ p. (p.0.now, p.1.now)) result ≡ two (fields_in text.now) }
+/// Two parts with no other after them.
+pub(crate) fn two_parts(text: &[u8], octet: u8) -> Option<(&[u8], &[u8])>
+    ensures { option_map (λ p. (p.0.now, p.1.now)) result ≡ two (between octet text.now) }
 {
-    let (first, rest) = split_once(text, b' ')?;
-    let second = one_field(rest)?;
+    let (first, rest) = split_once(text, octet)?;
+    let second = one_part(rest, octet)?;
     Some((first, second))
 }
 
-#[tactic(auto, unfolding(crate::specs::Reading::one_number))]
-fn one_number(text: &[u8]) -> Option<u64>
-    ensures { result ≡ one_number (fields_in text.now) }
+/// Two fields with no other after them.
+pub fn two_fields(text: &[u8]) -> Option<(&[u8], &[u8])>
+    ensures { option_map (λ p. (p.0.now, p.1.now)) result ≡ two (fields_in text.now) }
 {
-    number(one_field(text)?)
+    two_parts(text, b' ')
 }
 
+/// A number, alone.
+#[tactic(auto, unfolding(crate::specs::Reading::one_number))]
+pub fn one_number(text: &[u8]) -> Option<u64>
+    ensures { result ≡ one_number (fields_in text.now) }
+{
+    number(one_part(text, b' ')?)
+}
+
+/// Two numbers with no field after them.
 #[tactic(auto, unfolding(crate::specs::Reading::two_numbers))]
-fn two_numbers(text: &[u8]) -> Option<(u64, u64)>
+pub fn two_numbers(text: &[u8]) -> Option<(u64, u64)>
     ensures { result ≡ two_numbers (fields_in text.now) }
 {
-    let (first, second) = two_fields(text)?;
+    let (first, second) = two_parts(text, b' ')?;
     Some((number(first)?, number(second)?))
 }
 
@@ -60,17 +73,18 @@ fn two_numbers(text: &[u8]) -> Option<(u64, u64)>
 fn one_group(alloc: Global, text: &[u8]) -> Result<Option<Octets>, OutOfMemory>
     ensures { IfOk result (λ found. found ≡ one_group (fields_in text.now)) }
 {
-    let Some(field) = one_field(text) else {
+    let Some(field) = one_part(text, b' ') else {
         return Ok(None);
     };
     group(alloc, field)
 }
 
+/// A number, and octets in hexadecimal digits.
 #[tactic(auto, unfolding(crate::specs::Reading::number_and_hex))]
-fn number_and_hex(alloc: Global, text: &[u8]) -> Result<Option<(u64, Octets)>, OutOfMemory>
+pub fn number_and_hex(alloc: Global, text: &[u8]) -> Result<Option<(u64, Octets)>, OutOfMemory>
     ensures { IfOk result (λ found. found ≡ number_and_hex (fields_in text.now)) }
 {
-    let Some((first, second)) = two_fields(text) else {
+    let Some((first, second)) = two_parts(text, b' ') else {
         return Ok(None);
     };
     let Some(n) = number(first) else {
@@ -86,7 +100,7 @@ fn number_and_hex(alloc: Global, text: &[u8]) -> Result<Option<(u64, Octets)>, O
 fn address_and_hex(alloc: Global, text: &[u8]) -> Result<Option<([u8; 4], Octets)>, OutOfMemory>
     ensures { IfOk result (λ found. found ≡ address_and_hex (fields_in text.now)) }
 {
-    let Some((first, second)) = two_fields(text) else {
+    let Some((first, second)) = two_parts(text, b' ') else {
         return Ok(None);
     };
     let Some(host) = address(first) else {
@@ -102,7 +116,7 @@ fn address_and_hex(alloc: Global, text: &[u8]) -> Result<Option<([u8; 4], Octets
 fn id_and_frames(alloc: Global, text: &[u8]) -> Result<Option<(PeerId, Frames)>, OutOfMemory>
     ensures { IfOk result (λ found. found ≡ id_and_frames (fields_in text.now)) }
 {
-    let Some((first, second)) = two_fields(text) else {
+    let Some((first, second)) = two_parts(text, b' ') else {
         return Ok(None);
     };
     let Some(peer) = id(first) else {
@@ -118,7 +132,7 @@ fn id_and_frames(alloc: Global, text: &[u8]) -> Result<Option<(PeerId, Frames)>,
 fn group_and_frames(alloc: Global, text: &[u8]) -> Result<Option<(Octets, Frames)>, OutOfMemory>
     ensures { IfOk result (λ found. found ≡ group_and_frames (fields_in text.now)) }
 {
-    let Some((first, second)) = two_fields(text) else {
+    let Some((first, second)) = two_parts(text, b' ') else {
         return Ok(None);
     };
     let Some(name) = group(alloc, first)? else {
@@ -164,8 +178,9 @@ fn command_alone(word: CommandWord) -> Option<Command>
     }
 }
 
+/// The command of some fields.
 #[tactic(auto, unfolding(crate::specs::Reading::command_in))]
-fn command(alloc: Global, text: &[u8]) -> Result<Option<Command>, OutOfMemory>
+pub fn command(alloc: Global, text: &[u8]) -> Result<Option<Command>, OutOfMemory>
     ensures { IfOk result (λ found. found ≡ command_in (fields_in text.now)) }
 {
     match first_field(text) {
@@ -233,15 +248,20 @@ fn input(alloc: Global, text: &[u8]) -> Result<Option<Input>, OutOfMemory>
     }
 }
 
-/// The entry of a line, if the line, without its line feed, is that of one.
+/// The entry of a line, if the line, without its line feed, is that of one, after an entry with this reading.
 #[tactic(auto, unfolding(crate::specs::Reading::entry_in))]
-pub fn entry(alloc: Global, text: &[u8]) -> Result<Option<Entry>, OutOfMemory>
-    ensures { IfOk result (λ found. found ≡ entry_of text.now) }
+pub fn entry(
+    alloc: Global,
+    format: Format,
+    before: u64,
+    text: &[u8],
+) -> Result<Option<Entry>, OutOfMemory>
+    ensures { IfOk result (λ found. found ≡ entry_of format before text.now) }
 {
     let Some((field, rest)) = first_field(text) else {
         return Ok(None);
     };
-    let Some(at) = number(field) else {
+    let Some(at) = reading(format, before, field) else {
         return Ok(None);
     };
     match input(alloc, rest)? {

@@ -1,101 +1,174 @@
 //! A reader of a capture that comes in pieces.
 
-ghost use Rattle.std.specs.Prelude.{◌≡◌, ◌==◌, ◌&&◌, not, ℕ, ◌+◌, ◌≤◌, ◌<◌, ◌^◌, ◌∷◌, ◌++◌, List, [], None, Some, length, unwrap_or, OnOk, OnErr, IfErr, MatchResult};
+ghost use Rattle.std.specs.Prelude.{◌≡◌, ◌==◌, ◌&&◌, not, ℕ, ◌+◌, ◌≤◌, ◌<◌, ◌∷◌, ◌++◌, List, [], None, Some};
+ghost use Rattle.std.specs.Prelude.{length, option_map, unwrap_or, IfOk, OnOk, OnErr, IfErr, MatchOption};
+ghost use Rattle.std.specs.Prelude.{MatchResult};
+ghost use Rattle.std.specs.Bool.{OnTrue, OnFalse};
+ghost use Rattle.std.specs.Option.{option_or};
 ghost use Rattle.zre_outside.specs.declared.entry.Entry.{Entry as EntryValue};
-ghost use Rattle.zre_capture.specs.Parts.{Lacks};
-ghost use Rattle.zre_capture.specs.Reading.{form, first_bad, but_last, fields_in, column, bad_column};
-ghost use Rattle.zre_capture.specs.Journal.{said, line_of, bad_line, Waits, Reads, Adds, AddsFront, Refuses, bad, bad_at_end};
+ghost use Rattle.zre_capture.specs.Formats.{longest};
+ghost use Rattle.zre_capture.specs.Reading.{entry_of, bad_field, but_last, fields_in, column};
+ghost use Rattle.zre_capture.specs.Journal.{settings_said, is_head, said, line_of, last_reading, told_after};
+ghost use Rattle.zre_capture.specs.Journal.{after_line, bad_line, settings, format_of, Waits, Reads, Adds};
+ghost use Rattle.zre_capture.specs.Journal.{AddsFront, Refuses, bad, bad_at_end};
+ghost use Rattle.zre_capture.specs.declared.format.Format.TheVariants.{First, Second};
 
 use crate::fault::{BadCapture, CaptureFault};
-use crate::field;
-use crate::line::LINE_OCTETS;
+use crate::format::Format;
+use crate::place::Place;
 use crate::read::entry;
+use crate::settings::Settings;
 use crate::split::split_once;
+use crate::{field, head};
 use std::alloc::Global;
 use std::marker::Model;
 use zre_outside::Entries;
 use zre_values::{Octets, OutOfMemory};
 
 // Where a line is bad that isn't one of a capture.
-fn column(line: u64, text: &[u8]) -> u64
-    requires { length text.now ≤ LINE_OCTETS }
-    ensures { result ≡ column line text.now }
+fn column(place: Place, text: &[u8]) -> u64
+    requires { length text.now ≤ longest place.format }
+    ensures { result ≡ column place text.now }
 {
-    field::first_bad(line, text, true).unwrap_or(text.len() as u64 + 1)
+    field::first_bad(place, text, true).unwrap_or(text.len() as u64 + 1)
 }
 
 // Where a line is bad that is too long, by its octets up to the first too many.
-fn long_column(line: u64, front: &[u8]) -> u64
-    requires { length front.now ≤ LINE_OCTETS + 1 }
-    ensures { result ≡ unwrap_or (first_bad (form line) (but_last (fields_in front.now)) 1) (LINE_OCTETS + 1) }
+fn long_column(place: Place, front: &[u8]) -> u64
+    requires { length front.now ≤ longest place.format + 1 }
+    ensures { result ≡ unwrap_or (bad_field place (but_last (fields_in front.now))) (longest place.format + 1) }
 {
-    field::first_bad(line, front, false).unwrap_or(LINE_OCTETS as u64 + 1)
+    field::first_bad(place, front, false).unwrap_or(place.format.longest() as u64 + 1)
 }
 
-// Reads a whole line.
-#[tactic(auto, unfolding(crate::specs::Journal::said))]
-fn read_line(alloc: Global, line: u64, text: &[u8], out: &mut Entries) -> Result<(), CaptureFault>
-    requires { length text.now ≤ LINE_OCTETS }
-    ensures kept { OnErr result (out.new ≡ out.old) }
-    ensures ok { OnOk result ((es : List EntryValue) × (said line text.now ≡ Some es) × (out.new ≡ out.old ++ es)) }
-    ensures refused { IfErr result (λ e. Refuses e (λ b. (said line text.now ≡ None)
-        × (b ≡ record { line = line; column = column line text.now }))) }
+// Reads the head line. Whether it is one; the settings that it says are kept.
+fn read_head(
+    alloc: Global,
+    format: Format,
+    told: &mut Option<Settings>,
+    text: &[u8],
+) -> Result<bool, OutOfMemory>
+    ensures head { IfOk result (λ is. is ≡ is_head format text.now) }
+    ensures told { IfOk result (λ is. OnTrue is (told.new ≡ option_or (settings_said format text.now) told.old)) }
+    ensures other { IfOk result (λ is. OnFalse is (told.new ≡ told.old)) }
+    ensures kept { OnErr result (told.new ≡ told.old) }
 {
-    if line == 1 {
-        if text == b"zre-capture 1".as_slice() {
-            return Ok(());
-        }
-    } else if let Some(entry) = entry(alloc, text)? {
-        out.push(entry)?;
-        return Ok(());
+    match format {
+        Format::First => Ok(text == b"zre-capture 1".as_slice()),
+        Format::Second => match head::settings(alloc, text)? {
+            Some(settings) => {
+                *told = Some(settings);
+                Ok(true)
+            }
+            None => Ok(false),
+        },
     }
-    Err(CaptureFault::Bad(BadCapture {
-        line,
-        column: column(line, text),
-    }))
+}
+
+// Reads the line of an entry, and gives the reading of that.
+fn read_entry(
+    alloc: Global,
+    place: Place,
+    text: &[u8],
+    out: &mut Entries,
+) -> Result<Option<u64>, OutOfMemory>
+    ensures read { IfOk result (λ at. MatchOption at
+        ((entry_of place.format place.before text.now ≡ None) × (out.new ≡ out.old))
+        (λ at. (e : EntryValue) × (entry_of place.format place.before text.now ≡ Some e)
+        × (out.new ≡ out.old ++ e ∷ []) × (at ≡ e.at))) }
+    ensures kept { OnErr result (out.new ≡ out.old) }
+{
+    match entry(alloc, place.format, place.before, text)? {
+        Some(entry) => {
+            let at = entry.at;
+            out.push(entry)?;
+            Ok(Some(at))
+        }
+        None => Ok(None),
+    }
+}
+
+// Reads a whole line that isn't too long. Gives the reading of its entry, or that before it, unless the line is bad.
+#[tactic(auto, unfolding(crate::specs::Journal::said))]
+fn read_line(
+    alloc: Global,
+    place: Place,
+    told: &mut Option<Settings>,
+    text: &[u8],
+    out: &mut Entries,
+) -> Result<Option<u64>, OutOfMemory>
+    ensures read { IfOk result (λ at. MatchOption at
+        ((said place text.now ≡ None) × (out.new ≡ out.old) × (told.new ≡ told.old))
+        (λ at. (es : List EntryValue) × (said place text.now ≡ Some es) × (out.new ≡ out.old ++ es)
+        × (at ≡ last_reading place.before es) × (told.new ≡ told_after place text.now told.old))) }
+    ensures kept { OnErr result (out.new ≡ out.old) }
+    ensures kept_told { OnErr result (told.new ≡ told.old) }
+{
+    if place.line == 1 {
+        let is_head = read_head(alloc, place.format, told, text)?;
+        return Ok(if is_head { Some(place.before) } else { None });
+    }
+    read_entry(alloc, place, text, out)
 }
 
 // Refuses a line that is too long, by its octets up to the first too many.
-fn too_long(line: u64, front: &[u8]) -> CaptureFault
-    requires { length front.now ≤ LINE_OCTETS + 1 }
+fn too_long(place: Place, front: &[u8]) -> CaptureFault
+    requires { length front.now ≤ longest place.format + 1 }
     ensures { result ≡ CaptureFault.Bad (record {
-      line = line;
-      column = unwrap_or (first_bad (form line) (but_last (fields_in front.now)) 1) (LINE_OCTETS + 1);
+      line = place.line;
+      column = unwrap_or (bad_field place (but_last (fields_in front.now))) (longest place.format + 1);
     }) }
 {
     CaptureFault::Bad(BadCapture {
-        line,
-        column: long_column(line, front),
+        line: place.line,
+        column: long_column(place, front),
     })
 }
 
-// Reads a whole line of any length.
-fn read_whole(alloc: Global, line: u64, text: &[u8], out: &mut Entries) -> Result<(), CaptureFault>
-    ensures ok { OnOk result ((es : List EntryValue) × (line_of line text.now ≡ Some es) × (out.new ≡ out.old ++ es)) }
-    ensures refused { IfErr result (λ e. Refuses e (λ b. (line_of line text.now ≡ None)
-        × (b ≡ bad_line line text.now))) }
+// Reads a whole line of any length. Gives the reading of its entry, or that before it.
+fn read_whole(
+    alloc: Global,
+    place: Place,
+    told: &mut Option<Settings>,
+    text: &[u8],
+    out: &mut Entries,
+) -> Result<u64, CaptureFault>
+    ensures ok { IfOk result (λ at. (es : List EntryValue) × (line_of place text.now ≡ Some es)
+        × (out.new ≡ out.old ++ es) × (at ≡ last_reading place.before es)
+        × (told.new ≡ told_after place text.now told.old)) }
+    ensures refused { IfErr result (λ e. Refuses e (λ b. (line_of place text.now ≡ None)
+        × (b ≡ bad_line place text.now))) }
     ensures kept { OnErr result (out.new ≡ out.old) }
+    ensures kept_told { OnErr result (told.new ≡ told.old) }
 {
-    if text.len() > LINE_OCTETS {
-        return Err(too_long(line, &text[..LINE_OCTETS + 1]));
+    let most = place.format.longest();
+    if text.len() > most {
+        return Err(too_long(place, &text[..most + 1]));
     }
-    read_line(alloc, line, text, out)
+    match read_line(alloc, place, told, text, out)? {
+        Some(at) => Ok(at),
+        None => Err(CaptureFault::Bad(BadCapture {
+            line: place.line,
+            column: column(place, text),
+        })),
+    }
 }
 
 // Keeps more octets of a line, unless it gets too long by them.
-fn gather(left: &mut Octets, line: u64, text: &[u8]) -> Result<(), CaptureFault>
-    requires { length left.old ≤ LINE_OCTETS }
-    ensures ok { OnOk result ((left.new ≡ left.old ++ text.now) × (length (left.old ++ text.now) ≤ LINE_OCTETS)) }
-    ensures refused { IfErr result (λ e. Refuses e (λ b. (LINE_OCTETS < length (left.old ++ text.now))
-        × (b ≡ bad_line line (left.old ++ text.now)))) }
+fn gather(left: &mut Octets, place: Place, text: &[u8]) -> Result<(), CaptureFault>
+    requires { length left.old ≤ longest place.format }
+    ensures ok { OnOk result ((left.new ≡ left.old ++ text.now)
+        × (length (left.old ++ text.now) ≤ longest place.format)) }
+    ensures refused { IfErr result (λ e. Refuses e (λ b. (longest place.format < length (left.old ++ text.now))
+        × (b ≡ bad_line place (left.old ++ text.now)))) }
 {
-    let room = LINE_OCTETS - left.len();
+    let room = place.format.longest() - left.len();
     if text.len() <= room {
         left.append(text)?;
         return Ok(());
     }
     left.append(&text[..room + 1])?;
-    Err(too_long(line, left.as_slice()))
+    Err(too_long(place, left.as_slice()))
 }
 
 /// A reader of a capture that is handed the octets in any pieces. It keeps the octets of the line that isn't whole, and
@@ -103,7 +176,8 @@ fn gather(left: &mut Octets, line: u64, text: &[u8]) -> Result<(), CaptureFault>
 #[derive(Drop)]
 pub struct CaptureReader {
     alloc: Global,
-    line: u64,
+    place: Place,
+    told: Option<Settings>,
     left: Octets,
 }
 
@@ -112,42 +186,84 @@ impl Model for CaptureReader {
 
     ghost Value = { Reading };
 
-    ghost view = { λ r. record { line = r.line; left = r.left } };
+    ghost view = { λ r. record { place = r.place; told = r.told; left = r.left } };
 }
 
 impl CaptureReader {
-    /// Expects the head line.
-    pub fn new(alloc: Global) -> Self
+    fn at_start(alloc: Global, format: Format) -> Self
         ensures reads { Reads [] result }
         ensures waits { Waits result }
+        ensures format { format_of result ≡ format }
     {
         CaptureReader {
             alloc,
-            line: 1,
+            place: Place {
+                format,
+                line: 1,
+                before: 0,
+            },
+            told: None,
             left: Octets::new(alloc),
         }
+    }
+
+    /// Expects the head line of format 1.
+    pub fn new(alloc: Global) -> Self
+        ensures reads { Reads [] result }
+        ensures waits { Waits result }
+        ensures format { format_of result ≡ First }
+    {
+        CaptureReader::at_start(alloc, Format::First)
+    }
+
+    /// Expects the head line of format 2.
+    pub fn second(alloc: Global) -> Self
+        ensures reads { Reads [] result }
+        ensures waits { Waits result }
+        ensures format { format_of result ≡ Second }
+    {
+        CaptureReader::at_start(alloc, Format::Second)
+    }
+
+    /// The settings that the head said. They are there exactly where a whole head of format 2 was read; a refusal by a
+    /// line after it leaves them there.
+    pub fn settings(&self) -> Option<&Settings>
+        ensures { option_map (λ s. s.now) result ≡ self.now.told }
+    {
+        self.told.as_ref()
     }
 
     // Reads what a line feed ends.
     fn take_line(&mut self, text: &[u8], out: &mut Entries) -> Result<(), CaptureFault>
         requires { Waits self.old }
-        ensures ok { OnOk result ((es : List EntryValue) × (line_of self.old.line (self.old.left ++ text.now) ≡ Some es)
-            × (out.new ≡ out.old ++ es)) }
-        ensures next { OnOk result (self.new ≡ record { line = self.old.line + 1; left = [] }) }
+        ensures ok { OnOk result ((es : List EntryValue)
+            × (line_of self.old.place (self.old.left ++ text.now) ≡ Some es) × (out.new ≡ out.old ++ es)
+            × (self.new ≡ after_line self.old text.now es)) }
         ensures refused { IfErr result (λ e. Refuses e (λ b.
-            (line_of self.old.line (self.old.left ++ text.now) ≡ None)
-            × (b ≡ bad_line self.old.line (self.old.left ++ text.now)))) }
+            (line_of self.old.place (self.old.left ++ text.now) ≡ None)
+            × (b ≡ bad_line self.old.place (self.old.left ++ text.now)))) }
         ensures kept { OnErr result (out.new ≡ out.old) }
+        ensures kept_told { OnErr result (self.new.told ≡ self.old.told) }
     {
-        let next = self.line.checked_add(1).ok_or(OutOfMemory)?;
-        if self.left.is_empty() {
-            read_whole(self.alloc, self.line, text, out)?;
+        let line = self.place.line.checked_add(1).ok_or(OutOfMemory)?;
+        let before = if self.left.is_empty() {
+            read_whole(self.alloc, self.place, &mut self.told, text, out)?
         } else {
-            gather(&mut self.left, self.line, text)?;
-            read_whole(self.alloc, self.line, self.left.as_slice(), out)?;
-            self.left.clear();
-        }
-        self.line = next;
+            gather(&mut self.left, self.place, text)?;
+            read_whole(
+                self.alloc,
+                self.place,
+                &mut self.told,
+                self.left.as_slice(),
+                out,
+            )?
+        };
+        self.left.clear();
+        self.place = Place {
+            format: self.place.format,
+            line,
+            before,
+        };
         Ok(())
     }
 
@@ -157,39 +273,45 @@ impl CaptureReader {
     pub fn feed(&mut self, piece: &[u8], out: &mut Entries) -> Result<(), CaptureFault>
         requires { Waits self.old }
         ensures ok { (o : List ℕ) → Reads o self.old → OnOk result (Reads (o ++ piece.now) self.new
-            × Adds o piece.now out.old out.new × (bad (o ++ piece.now) ≡ None)) }
+            × Adds (format_of self.old) o piece.now out.old out.new
+            × (bad (format_of self.old) (o ++ piece.now) ≡ None)) }
         ensures waits { OnOk result (Waits self.new) }
+        ensures format { OnOk result (format_of self.new ≡ format_of self.old) }
         ensures refused { (o : List ℕ) → Reads o self.old → IfErr result (λ e. Refuses e (λ b.
-            (bad (o ++ piece.now) ≡ Some b) × Adds o piece.now out.old out.new)) }
-        ensures front { (o : List ℕ) → Reads o self.old → OnErr result (AddsFront o piece.now out.old out.new) }
+            (bad (format_of self.old) (o ++ piece.now) ≡ Some b)
+            × Adds (format_of self.old) o piece.now out.old out.new
+            × (self.new.told ≡ settings (format_of self.old) (o ++ piece.now)))) }
+        ensures front { (o : List ℕ) → Reads o self.old →
+            OnErr result (AddsFront (format_of self.old) o piece.now out.old out.new) }
     {
         let mut rest = piece;
         'lines: while let Some((text, after)) = split_once(rest, b'\n') {
             self.take_line(text, out)?;
             rest = after;
         }
-        gather(&mut self.left, self.line, rest)?;
+        gather(&mut self.left, self.place, rest)?;
         Ok(())
     }
 
-    /// Looks at the end of the input: a last line without its line feed is bad, and so is an input of no octets.
+    /// Looks at the end of the input: a last line without its line feed is bad, and so is an input of no octets. It
+    /// takes no memory.
     pub fn finish(&self) -> Result<(), BadCapture>
         requires { Waits self.now }
-        ensures { (o : List ℕ) → Reads o self.now →
-            MatchResult result (λ _. bad_at_end o ≡ None) (λ b. bad_at_end o ≡ Some b) }
+        ensures { (o : List ℕ) → Reads o self.now → MatchResult result
+            (λ _. bad_at_end (format_of self.now) o ≡ None) (λ b. bad_at_end (format_of self.now) o ≡ Some b) }
     {
         if self.is_after_a_line() {
             return Ok(());
         }
         Err(BadCapture {
-            line: self.line,
-            column: column(self.line, self.left.as_slice()),
+            line: self.place.line,
+            column: column(self.place, self.left.as_slice()),
         })
     }
 
     fn is_after_a_line(&self) -> bool
-        ensures { result ≡ ((length self.now.left == 0) && not (self.now.line == 1)) }
+        ensures { result ≡ ((length self.now.left == 0) && not (self.now.place.line == 1)) }
     {
-        self.left.is_empty() && self.line != 1
+        self.left.is_empty() && self.place.line != 1
     }
 }

@@ -3,7 +3,8 @@
 ghost use Rattle.std.specs.Prelude.{suc, ◌≡◌, ◌≤◌, ◌+◌, ◌++◌, ◌%◌, IfOk, OnOk, codes};
 ghost use Rattle.zre_msg.specs.Spelling.{Fits, FitsBody, octets};
 ghost use Rattle.zre_capture.specs.Draws.{after_draws, octets_drawn};
-ghost use Rattle.zre_capture.specs.Exercise.{changes, status, content, body, after_content, after, spelling, cut, first_piece, second_piece};
+ghost use Rattle.zre_capture.specs.Exercise.{changes, status, content, body, after_content, after, spelling, cut};
+ghost use Rattle.zre_capture.specs.Exercise.{first_piece, second_piece};
 
 use crate::draws::{drawn, push_drawn, upper_half};
 use std::alloc::Global;

@@ -1,2 +1,4 @@
 pub mod Feeding
+pub mod HeadFeeding
+pub mod Pieces
 pub mod Telling

@@ -1,3 +1,6 @@
+pub mod Capture
+pub mod HeadReplayer
+pub mod Lives
 pub mod Replay
 pub mod Replayer
 pub mod State

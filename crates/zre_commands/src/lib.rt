@@ -1,9 +1,12 @@
-//! The commands that read one stream and write text: `follow`, `show`, `replay` and `exercise`, each a machine that
-//! makes text of octets, and the pump that runs a machine over a source and a sink.
+//! The commands that read one stream and write text: `follow`, `show`, `replay`, `upgrade` and `exercise`,
+//! each a machine that makes text of octets, and the pump that runs a machine over a source and a sink.
 #![tactic(auto)]
 
 pub mod exercise;
 pub mod follow;
+pub mod laws;
 pub mod pump;
 pub mod replay;
+pub mod settings;
 pub mod show;
+pub mod upgrade;

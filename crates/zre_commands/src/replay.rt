@@ -1,8 +1,11 @@
 //! The command `replay`: the events of a node, from a capture of its journal.
 
-mod reading;
+mod head_replayer;
+mod lives;
+pub(crate) mod reading;
 mod replayer;
 mod taking;
-mod waiting;
+pub(crate) mod waiting;
 
+pub use head_replayer::HeadReplayer;
 pub use replayer::Replayer;

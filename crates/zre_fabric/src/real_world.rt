@@ -26,7 +26,8 @@ pub struct RealWorld<R> {
 }
 
 impl<R> RealWorld<R> {
-    ghost use Rattle.zre_fabric.specs.RealWorlds.{has_looked, faults_of, reason_of, reading_of, entries_of, commands_of};
+    ghost use Rattle.zre_fabric.specs.RealWorlds.{has_looked, faults_of, reason_of, reading_of, entries_of};
+    ghost use Rattle.zre_fabric.specs.RealWorlds.{commands_of};
 
     /// A world that isn't started yet. It takes no memory and opens nothing.
     pub fn new(rt: R, alloc: Global) -> Self

@@ -1,110 +1,86 @@
-//! A case file, line by line.
+//! A case file, section by section. A section begins with a row, or with the line that names its subject.
 
+use crate::opening::open;
 use crate::page::Page;
-use crate::report::{Place, Report};
-use crate::subject::Subject;
+use crate::report::Place;
+use crate::section::{Line, Section};
+use crate::subject::{Missing, take_lines};
 use crate::words::Words;
-use std::mem;
+use std::alloc::{AllocError, Global};
 use std::sync::Wait;
 use std::thread::Threads;
 
-// `on NAME ARGUMENTS`
-fn make_subject(page: &mut Page, arguments: &[u8]) -> Subject {
-    let text = page.expanded(arguments);
-    if text.is_whole(&mut page.row.answer) {
-        let words = Words::of_line(page.alloc, text.as_slice());
-        Subject::new(words, &mut page.row.answer)
-    } else {
-        Subject::Missing
+fn line_of<'a>(alloc: Global, place: Place<'a>, text: &'a [u8]) -> Line<'a> {
+    let words = Words::of_line(alloc, text);
+    let is_head = words.is("row") || words.is("on");
+    Line {
+        place,
+        text,
+        is_head,
     }
 }
 
-// A step of the subject.
-fn step<T: Threads + Wait + AllocGlobal + Copy + Send + 'static>(
-    rt: T,
-    page: &mut Page,
-    subject: &mut Subject,
-    words: Words<'_>,
-) {
-    let text = page.expanded(words.rest());
-    if text.is_whole(&mut page.row.answer) {
-        let words = words.with_rest(text.as_slice());
-        subject.step(rt, words, &mut page.row.answer);
-    }
-}
-
-// `repeat FROM TO KEY ARGUMENTS`: the step once for each number. What all of them answer is the answer.
-fn repeat<T: Threads + Wait + AllocGlobal + Copy + Send + 'static>(
-    rt: T,
-    page: &mut Page,
-    subject: &mut Subject,
-    mut words: Words<'_>,
-) {
-    let from = words.number();
-    let to = words.number();
-    if words.are_good(&mut page.row.answer) {
-        let repeated = Words::of_line(page.alloc, words.rest());
-        for n in from..=to {
-            page.count(n);
-            step(rt, page, subject, repeated);
-        }
-    }
-}
-
-// What stood there before goes.
-fn put(place: &mut Subject, subject: Subject) {
-    drop(mem::replace(place, subject));
-}
-
-// A line of the subject.
-fn act<T: Threads + Wait + AllocGlobal + Copy + Send + 'static>(
-    rt: T,
-    page: &mut Page,
-    subject: &mut Subject,
-    line: &[u8],
-) {
-    let words = Words::of_line(page.alloc, line);
-    if words.is(b"row") {
-        put(subject, Subject::Missing);
-    } else if words.is(b"on") {
-        put(subject, make_subject(page, words.rest()));
-    } else if words.is(b"repeat") {
-        repeat(rt, page, subject, words);
-    } else {
-        step(rt, page, subject, words);
-    }
-}
-
-// Takes all lines of the file but comments and empty ones.
-fn take_all<T: Threads + Wait + AllocGlobal + Copy + Send + 'static>(
-    rt: T,
-    page: &mut Page,
-    file: &[u8],
-    text: &[u8],
-    report: &mut Report,
-) {
-    let mut subject = Subject::Missing;
+// All lines but comments and empty ones.
+fn lines_of<'a>(
+    alloc: Global,
+    file: &'a [u8],
+    text: &'a [u8],
+) -> Result<Vec<Line<'a>>, AllocError> {
+    let mut lines = Vec::new(alloc);
     let mut line: u64 = 0;
     for part in text.split(|octet| *octet == b'\n') {
         line = line.saturating_add(1);
         if !part.is_empty() && !part.starts_with(b"#") {
-            if page.take(Place { file, line }, part, report) {
-                act(rt, page, &mut subject, part);
-            }
-            page.settle_line(Place { file, line }, report);
+            lines.push(line_of(alloc, Place { file, line }, part))?;
         }
     }
-    drop(subject);
-    page.close(Place { file, line }, report);
+    Ok(lines)
+}
+
+// `row TITLE`, with no subject after it, or `on NAME ARGUMENTS`.
+fn take_section<T: Threads + Wait + AllocGlobal + Copy + Send + 'static>(
+    rt: T,
+    page: &mut Page,
+    section: Section<'_>,
+) {
+    page.take(section.head);
+    let words = Words::of_line(page.alloc, section.head.text);
+    if words.is("on") {
+        open(rt, page, words.rest(), section);
+    } else {
+        page.settle_line(section.head.place);
+        take_lines(page, &mut Missing, section.lines);
+    }
+}
+
+fn take_sections<T: Threads + Wait + AllocGlobal + Copy + Send + 'static>(
+    rt: T,
+    page: &mut Page,
+    lines: &[Line<'_>],
+) {
+    for i in 0..lines.len() {
+        let head = lines[i];
+        if head.is_head {
+            let lines = &lines[i + 1..];
+            take_section(rt, page, Section { head, lines });
+        }
+    }
 }
 
 /// Goes over a case file.
 pub fn go_over<T: Threads + Wait + AllocGlobal + Copy + Send + 'static>(
     rt: T,
+    page: &mut Page,
     file: &[u8],
     text: &[u8],
-    report: &mut Report,
 ) {
-    let mut page = Page::new(rt.alloc());
-    take_all(rt, &mut page, file, text, report);
+    page.begin();
+    match lines_of(page.alloc, file, text) {
+        Ok(lines) => {
+            take_lines(page, &mut Missing, lines.as_slice());
+            take_sections(rt, page, lines.as_slice());
+        }
+        Err(_) => page.fail(Place { file, line: 0 }, b"out of memory"),
+    }
+    page.close(file);
 }

@@ -8,9 +8,11 @@ mod acts;
 mod cases;
 mod journal;
 mod names;
+mod opening;
 mod page;
 mod report;
 mod row;
+mod section;
 mod subject;
 mod text;
 mod trouble;
@@ -18,6 +20,7 @@ mod wire;
 mod words;
 
 use cases::go_over;
+use page::Page;
 use report::{Place, Report};
 use std::io::Write;
 use std::process::ExitCode;
@@ -44,14 +47,14 @@ fn case_files<R: Files + AllocGlobal + Clone + Drop>(rt: &R) -> io::Result<Vec<S
 fn take_file<R: Files + Threads + Wait + AllocGlobal + Copy + Send + 'static>(
     rt: R,
     name: &str,
-    report: &mut Report,
+    page: &mut Page,
 ) {
     let file = name.as_bytes();
     match fs::read(&rt, name) {
-        Ok(text) => go_over(rt, file, text.as_slice(), report),
+        Ok(text) => go_over(rt, page, file, text.as_slice()),
         Err(_) => {
-            report.count_failed();
-            report.tell(Place { file, line: 0 }, b"can't be read");
+            page.report.count_failed();
+            page.report.tell(Place { file, line: 0 }, b"can't be read");
         }
     }
 }
@@ -59,12 +62,12 @@ fn take_file<R: Files + Threads + Wait + AllocGlobal + Copy + Send + 'static>(
 fn take_files<R: Files + Threads + Wait + AllocGlobal + Copy + Send + 'static>(
     rt: R,
     names: &[String],
-    report: &mut Report,
-) {
+) -> Report {
+    let mut page = Page::new(rt.alloc());
     for name in names {
-        take_file(rt, name.as_str(), report);
+        take_file(rt, name.as_str(), &mut page);
     }
-    report.close();
+    page.into_report()
 }
 
 // Prints the report, and says whether all is well. One for which memory didn't suffice isn't printed.
@@ -78,11 +81,7 @@ fn go<R: Files + Threads + Wait + AllocGlobal + Print + Clone + Drop + Copy + Se
     rt: R,
 ) -> bool {
     match case_files(&rt) {
-        Ok(names) => {
-            let mut report = Report::new(rt.alloc());
-            take_files(rt, names.as_slice(), &mut report);
-            print(&rt, &report)
-        }
+        Ok(names) => print(&rt, &take_files(rt, names.as_slice())),
         Err(_) => false,
     }
 }

@@ -3,17 +3,20 @@
 use crate::names::Names;
 use crate::report::{Place, Report};
 use crate::row::Row;
+use crate::section::Line;
 use crate::text::Text;
 use crate::words::Words;
 use std::alloc::Global;
+use std::mem;
 use zre_values::Octets;
 
-/// The file under way: its names, and its row.
+/// The file under way: its names, and its row. The report is one of all files.
 #[derive(Drop)]
 pub struct Page {
     pub alloc: Global,
     names: Names,
     pub row: Row,
+    pub report: Report,
 }
 
 impl Page {
@@ -22,12 +25,21 @@ impl Page {
             alloc,
             names: Names::new(alloc),
             row: Row::new(alloc),
+            report: Report::new(alloc),
         }
     }
 
-    /// The count of a repetition.
-    pub fn count(&mut self, n: u64) {
-        self.names.count = n;
+    /// The report of all files, with its last line.
+    pub fn into_report(self) -> Report {
+        let Page { mut report, .. } = self;
+        report.close();
+        report
+    }
+
+    /// Begins a file.
+    pub fn begin(&mut self) {
+        drop(mem::replace(&mut self.names, Names::new(self.alloc)));
+        self.row.clear();
     }
 
     /// The text with its names replaced.
@@ -35,6 +47,16 @@ impl Page {
         let mut out = Text::new(self.alloc);
         self.names.expand(text, &mut out);
         out
+    }
+
+    /// The count of a repetition.
+    pub fn count(&mut self, n: u64) {
+        self.names.count = n;
+    }
+
+    /// Arguments that aren't good, or of which some are left, are a fault of the line.
+    pub fn end(&mut self, words: &Words<'_>) {
+        words.end(&mut self.row.answer);
     }
 
     // `let NAME TEXT`
@@ -88,65 +110,70 @@ impl Page {
         }
     }
 
+    /// What is wrong at a place fails the row.
+    pub fn fail(&mut self, place: Place<'_>, what: &[u8]) {
+        self.row.has_failed = true;
+        self.report.tell(place, what);
+    }
+
     // Compares what the last step answered with what it is to answer.
-    fn settle_step(&mut self, file: &[u8], report: &mut Report) {
+    fn settle_step(&mut self, file: &[u8]) {
         if !self.row.is_answered() {
             self.row.has_failed = true;
             let line = self.row.line;
-            report.tell(Place { file, line }, self.row.title());
-            report.tell_answers(self.row.due.as_slice(), self.row.answer.as_slice());
+            self.report.tell(Place { file, line }, self.row.title());
+            self.report
+                .tell_answers(self.row.due.as_slice(), self.row.answer.as_slice());
         }
     }
 
     // Ends the row.
-    fn settle_row(&mut self, file: &[u8], report: &mut Report) {
+    fn settle_row(&mut self, file: &[u8]) {
         if self.row.is_row {
-            report.count_row();
+            self.report.count_row();
             if self.row.is_empty() {
-                self.row.has_failed = true;
                 let line = self.row.line;
-                report.tell(Place { file, line }, b"a row with no answers");
+                self.fail(Place { file, line }, b"a row with no answers");
             }
         }
         if self.row.has_failed {
-            report.count_failed();
+            self.report.count_failed();
         }
     }
 
     /// What is wrong with a line fails its row.
-    pub fn settle_line(&mut self, place: Place<'_>, report: &mut Report) {
+    pub fn settle_line(&mut self, place: Place<'_>) {
         if let Some(trouble) = self.row.take_fault() {
-            self.row.has_failed = true;
-            report.tell_trouble(place, trouble);
+            self.fail(place, trouble.text());
         }
     }
 
     /// Takes a line, and tells whether the subject has to know it, too.
-    pub fn take(&mut self, place: Place<'_>, line: &[u8], report: &mut Report) -> bool {
-        let words = Words::of_line(self.alloc, line);
-        if line.starts_with(b"= ") {
+    pub fn take(&mut self, line: Line<'_>) -> bool {
+        let words = Words::of_line(self.alloc, line.text);
+        if line.text.starts_with(b"= ") {
             self.expect(words.rest());
             false
-        } else if line.starts_with(b"=* ") {
+        } else if line.text.starts_with(b"=* ") {
             self.expect_series(words);
             false
         } else {
-            self.settle_step(place.file, report);
-            self.take_step(place, words, report)
+            self.settle_step(line.place.file);
+            self.take_step(line.place, words)
         }
     }
 
-    fn take_step(&mut self, place: Place<'_>, words: Words<'_>, report: &mut Report) -> bool {
-        if words.is(b"row") {
-            self.settle_row(place.file, report);
+    fn take_step(&mut self, place: Place<'_>, words: Words<'_>) -> bool {
+        if words.is("row") {
+            self.settle_row(place.file);
             self.row.begin(place.line, words.rest());
             return true;
         }
         self.row.go_on(place.line);
-        if words.is(b"let") {
+        if words.is("let") {
             self.define(words);
             false
-        } else if words.is(b"series") {
+        } else if words.is("series") {
             self.define_series(words);
             false
         } else {
@@ -155,12 +182,11 @@ impl Page {
     }
 
     /// Ends the file.
-    pub fn close(&mut self, place: Place<'_>, report: &mut Report) {
-        self.settle_step(place.file, report);
+    pub fn close(&mut self, file: &[u8]) {
+        self.settle_step(file);
         if !self.row.is_row {
-            self.row.has_failed = true;
-            report.tell(place, b"a file with no row");
+            self.fail(Place { file, line: 0 }, b"a file with no row");
         }
-        self.settle_row(place.file, report);
+        self.settle_row(file);
     }
 }

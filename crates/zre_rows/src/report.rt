@@ -2,7 +2,6 @@
 //! counts.
 
 use crate::text::Text;
-use crate::trouble::Trouble;
 use std::alloc::Global;
 
 /// A line of a case file.
@@ -52,11 +51,6 @@ impl Report {
         self.text.number(place.line);
         self.text.put(b": ");
         self.text.line(what);
-    }
-
-    /// A line that can't be done.
-    pub fn tell_trouble(&mut self, place: Place<'_>, trouble: Trouble) {
-        self.tell(place, trouble.text());
     }
 
     /// What was due, and what was answered.

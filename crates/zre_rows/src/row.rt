@@ -32,14 +32,21 @@ impl Row {
         }
     }
 
-    /// Becomes the row with this title.
-    pub fn begin(&mut self, line: u64, title: &[u8]) {
-        self.is_row = true;
+    /// Becomes what stands before the first row.
+    pub fn clear(&mut self) {
+        self.is_row = false;
         self.title.clear();
-        self.title.put(title);
         self.answers = 0;
         self.has_failed = false;
-        self.go_on(line);
+        self.go_on(0);
+    }
+
+    /// Becomes the row with this title.
+    pub fn begin(&mut self, line: u64, title: &[u8]) {
+        self.clear();
+        self.is_row = true;
+        self.title.put(title);
+        self.line = line;
     }
 
     /// A line that the last step is to answer.

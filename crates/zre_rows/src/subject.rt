@@ -1,80 +1,88 @@
-//! What a row is about. Each subject has a module, with a method that does one step: it takes the step's key and its
-//! arguments, and appends the lines that it answers, each with its line feed. What is wrong with a step is a fault of
-//! the answer.
+//! What a row is about.
 
-mod captures;
-mod command;
-mod exercises;
-mod memory;
-mod nodes;
-mod worlds;
+pub mod captures;
+pub mod command;
+pub mod exercises;
+pub mod memory;
+pub mod nodes;
+pub mod worlds;
 
+use crate::page::Page;
+use crate::section::Line;
 use crate::text::Text;
 use crate::trouble::Trouble;
-use crate::wire::Wire;
-use crate::wire::plain::Plain;
 use crate::words::Words;
-use captures::Captures;
-use command::Commands;
-use exercises::Exercises;
-use memory::Memory;
-use nodes::Nodes;
-use std::sync::Wait;
-use std::thread::Threads;
-use worlds::Worlds;
 
-/// The subject of a row.
-#[derive(Drop)]
-pub enum Subject {
-    /// No line has named one yet, or its arguments were bad.
-    Missing,
-    Capture(Captures),
-    Command(Commands),
-    Exercise(Exercises),
-    Memory(Memory),
-    Node(Nodes),
-    Plain(Plain),
-    Wire(Wire),
-    World(Worlds),
+/// The subject of a section. What is wrong with a step is a fault of the answer, or of the words: an argument that is
+/// missing or isn't of its kind fails the row, whatever the step did, and so does one that is left.
+pub trait Subject: Drop {
+    /// Does one step: it takes its arguments, and appends the lines that it answers, each with its line feed.
+    fn step(&mut self, words: &mut Words<'_>, answer: &mut Text);
 }
 
-impl Subject {
-    /// The subject of a line `on NAME ARGUMENTS`.
-    pub fn new(words: Words<'_>, answer: &mut Text) -> Subject {
-        if words.is(b"capture") {
-            captures::make(words, answer)
-        } else if words.is(b"command") {
-            command::make(words, answer)
-        } else if words.is(b"exercise") {
-            exercises::make(words, answer)
-        } else if words.is(b"memory") {
-            memory::make(words, answer)
-        } else if words.is(b"node") {
-            nodes::make(words, answer)
-        } else if words.is(b"world") {
-            worlds::make(words, answer)
-        } else {
-            Wire::make(words, answer)
+/// No line has named one yet, or its arguments were bad.
+#[derive(Drop)]
+pub struct Missing;
+
+impl Subject for Missing {
+    fn step(&mut self, _words: &mut Words<'_>, answer: &mut Text) {
+        answer.fail(Trouble::UnknownKey);
+    }
+}
+
+/// Does the step whose key is the name of one of these methods.
+macro_rules! steps {
+    ($subject:expr, $words:ident, $answer:ident; $($key:ident),+) => {{
+        $(if $words.is(stringify!($key)) {
+            return $subject.$key($words, $answer);
+        })+
+        $answer.fail($crate::trouble::Trouble::UnknownKey)
+    }};
+}
+
+pub(crate) use steps;
+
+fn step<S: Subject>(page: &mut Page, subject: &mut S, words: Words<'_>) {
+    let text = page.expanded(words.rest());
+    if text.is_whole(&mut page.row.answer) {
+        let mut words = words.with_rest(text.as_slice());
+        subject.step(&mut words, &mut page.row.answer);
+        page.end(&words);
+    }
+}
+
+// `repeat FROM TO KEY ARGUMENTS`: the step once for each number. What all of them answer is the answer.
+fn repeat<S: Subject>(page: &mut Page, subject: &mut S, mut words: Words<'_>) {
+    let from = words.number();
+    let to = words.number();
+    if words.are_good(&mut page.row.answer) {
+        let repeated = Words::of_line(page.alloc, words.rest());
+        for n in from..=to {
+            page.count(n);
+            step(page, subject, repeated);
         }
     }
+}
 
-    /// Does one step.
-    pub fn step<T: Threads + Wait + AllocGlobal + Copy + Send + 'static>(
-        &mut self,
-        rt: T,
-        words: Words<'_>,
-        answer: &mut Text,
-    ) {
-        match self {
-            Subject::Missing => answer.fail(Trouble::UnknownKey),
-            Subject::Capture(captures) => captures.step(words, answer),
-            Subject::Command(commands) => commands.step(rt, words, answer),
-            Subject::Exercise(exercises) => exercises.step(words, answer),
-            Subject::Memory(memory) => memory.step(words, answer),
-            Subject::Node(nodes) => nodes.step(words, answer),
-            Subject::Plain(plain) => plain.step(words, answer),
-            Subject::Wire(wire) => wire.step(words, answer),
-            Subject::World(worlds) => worlds.step(words, answer),
+/// Does what a line says, but for what it answers.
+pub fn take_line<S: Subject>(page: &mut Page, subject: &mut S, line: Line<'_>) {
+    if page.take(line) {
+        let words = Words::of_line(page.alloc, line.text);
+        if words.is("repeat") {
+            repeat(page, subject, words);
+        } else {
+            step(page, subject, words);
         }
+    }
+}
+
+/// Takes lines up to the next section.
+pub fn take_lines<S: Subject>(page: &mut Page, subject: &mut S, lines: &[Line<'_>]) {
+    for line in lines {
+        if line.is_head {
+            return;
+        }
+        take_line(page, subject, *line);
+        page.settle_line(line.place);
     }
 }

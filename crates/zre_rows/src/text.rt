@@ -76,6 +76,12 @@ impl Text {
         }
     }
 
+    /// Notes a fault. There is nothing in place of what was asked for.
+    pub fn refuse<T>(&mut self, trouble: Trouble) -> Option<T> {
+        self.fail(trouble);
+        None
+    }
+
     /// Notes that memory ran out, where it did.
     pub fn note(&mut self, done: Result<(), OutOfMemory>) {
         if done.is_err() {

@@ -8,8 +8,8 @@ use zre_capture::{address, id, number, split_once};
 use zre_values::{Frames, Octets, OutOfMemory, PeerId};
 
 /// The key of a step, and those of its arguments that weren't taken yet. None are left where the text is empty. An
-/// argument that is missing or isn't of its kind is noted, and a value that says nothing stands for it: `end` tells
-/// before anything is done with it.
+/// argument that is missing or isn't of its kind is noted, and a value that says nothing stands for it: `end` fails
+/// the answer, whatever was done with it.
 #[derive(Clone, Copy)]
 pub struct Words<'a> {
     alloc: Global,
@@ -47,8 +47,8 @@ impl<'a> Words<'a> {
     }
 
     /// Whether the step has this key.
-    pub fn is(&self, key: &[u8]) -> bool {
-        self.key == key
+    pub fn is(&self, key: &str) -> bool {
+        self.key == key.as_bytes()
     }
 
     /// All that is left, as it stands.
@@ -176,8 +176,8 @@ impl<'a> Words<'a> {
         octets
     }
 
-    // All that is left, of which nothing is left then.
-    fn take_rest(&mut self) -> &'a [u8] {
+    /// All that is left, as it stands, of which nothing is left then.
+    pub fn take_rest(&mut self) -> &'a [u8] {
         let rest = self.rest;
         self.rest = &[];
         rest
@@ -186,14 +186,18 @@ impl<'a> Words<'a> {
     /// All fields that are left, which are octets in hexadecimal digits.
     pub fn frames(&mut self) -> Frames {
         let mut frames = Frames::new(self.alloc);
+        self.push_frames(&mut frames);
+        frames
+    }
+
+    fn push_frames(&mut self, list: &mut Frames) {
         let rest = self.take_rest();
         if !rest.is_empty() {
             for field in rest.split(|octet| *octet == b' ') {
                 let frame = self.octets_of(field);
-                self.note(frames.push(frame));
+                self.note(list.push(frame));
             }
         }
-        frames
     }
 
     /// All fields that are left, which are quoted texts.
@@ -243,11 +247,10 @@ impl<'a> Words<'a> {
         }
     }
 
-    /// Whether each field that was taken is of its kind, and none is left. Else the answer fails.
-    pub fn end(&self, answer: &mut Text) -> bool {
-        if !self.rest.is_empty() {
+    /// Fails the answer where a field that was taken isn't of its kind, or one is left.
+    pub fn end(&self, answer: &mut Text) {
+        if self.are_good(answer) && !self.rest.is_empty() {
             answer.fail(Trouble::BadArgument);
         }
-        self.are_good(answer) && self.rest.is_empty()
     }
 }

@@ -2,7 +2,8 @@
 
 ghost use Rattle.std.specs.Prelude.{◌≡◌, ◌+◌, ◌<◌, ◌^◌, ◌++◌, ◌∷◌, [], None, IsSome, IfSome};
 ghost use Rattle.zre_tests.specs.Ready.{IsReady};
-ghost use Rattle.zre_actor.specs.Passes.{IsActorOf, IsCallerOf, IsTakerOf, AreCallersOf, given_of, room_of, unused_by, ending_of, ended, how_many, last_of};
+ghost use Rattle.zre_actor.specs.Passes.{IsActorOf, IsCallerOf, IsTakerOf, AreCallersOf, given_of, room_of};
+ghost use Rattle.zre_actor.specs.Passes.{unused_by, ending_of, ended, how_many, last_of};
 
 use std::alloc::Global;
 use std::sync::{Arc, Wait};

@@ -3,7 +3,8 @@ ghost use Rattle.std.specs.Prelude.{◌≡◌, ◌≤◌, ◌+◌, ◌++◌, ◌
 ghost use mathlib.Core.List.{IsPrefix};
 ghost use Rattle.zre_actor.specs.declared.views.Placed.{Placed};
 ghost use Rattle.zre_actor.specs.Commands.{times, under};
-ghost use Rattle.zre_actor.specs.Passes.{IsActorOf, IsTakerOf, AreCallersOf, given_of, popped_by, raised_by, ending_of, taken_by, last_of, put_by, puts_of, live_of, AllBack};
+ghost use Rattle.zre_actor.specs.Passes.{IsActorOf, IsTakerOf, AreCallersOf, given_of, popped_by, raised_by};
+ghost use Rattle.zre_actor.specs.Passes.{ending_of, taken_by, last_of, put_by, puts_of, live_of, AllBack};
 
 use super::{ActorPass, CallerPass, CallerPasses, Pipes, TakerPass};
 use crate::rules::{AllTaken, Ends, TakeIn, Total};

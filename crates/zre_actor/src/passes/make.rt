@@ -1,7 +1,9 @@
 //! The pipes are made.
 ghost use Rattle.std.specs.Prelude.{◌≡◌, ◌≤◌, ◌<◌, ◌+◌, [], length, IfOk, None, All};
 ghost use Rattle.crossbeam_queue.specs.Passes.{view, IsPassOf, IsSamePass};
-ghost use Rattle.zre_actor.specs.Passes.{IsCallerOf, IsActorOf, IsTakerOf, AreCallersOf, numbers_of, fresh_of, given_of, room_of, IsNew, popped_by, unused_by, raised_by, ending_of, taken_by, last_of};
+ghost use Rattle.zre_actor.specs.Passes.{IsCallerOf, IsActorOf, IsTakerOf, AreCallersOf, numbers_of, fresh_of};
+ghost use Rattle.zre_actor.specs.Passes.{given_of, room_of, IsNew, popped_by, unused_by, raised_by, ending_of};
+ghost use Rattle.zre_actor.specs.Passes.{taken_by, last_of};
 ghost use Rattle.zre_actor.specs.Commands.{row, without_one, one_caller};
 
 use super::{ActorPass, CallerPass, CallerPasses, Made, Pipes, TakerPass};

@@ -32,10 +32,6 @@ steps_on g J e m s c steps counts = record {
   counts = counts ∙ ap (tally (length (J ++ e ∷ []))) (sym steps.told);
 }
 
-pub on_ok : {T E A C : Type 0} (r : Result T E) → OnOk r A → (A → C) → OnOk r C
-on_ok (Ok x) a f = f a
-on_ok (Err x) a f = tt
-
 -- of all entries after J these are left, and the others were taken
 pub record Goes (g : Config) (J all left : List Entry) (n : Node) (c : Counts) : Type 0 where
   pub taken : List Entry

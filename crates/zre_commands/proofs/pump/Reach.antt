@@ -37,14 +37,14 @@ Moves-nil a b = record { consumed = Consumes-nil a; recorded = Appends-nil b }
 pub Moves-trans : (a b c d e f : Option (List ℕ)) (x y : List ℕ) → Moves a b d e x → Moves b c e f y → Moves a c d f (x ++ y)
 Moves-trans a b c d e f x y p q = record { consumed = Consumes-trans a b c x y p.consumed q.consumed; recorded = Appends-trans d e f x y p.recorded q.recorded }
 
-pub starts : (fed : List ℕ → Type 0) (m : Meaning) (left taken written : Option (List ℕ)) → fed [] → m.text [] ≡ [] → m.is_stopped [] ≡ false → Reached fed m left left taken taken written written 0
-starts fed m left taken written h e s = record {
+pub starts : (fed : List ℕ → Type 0) (m : Meaning) (left taken w w' : Option (List ℕ)) → fed [] → Appends w w' (m.text []) → m.is_stopped [] ≡ false → Reached fed m left left taken taken w w' 0
+starts fed m left taken w w' h e s = record {
   octets = [];
   moved = Moves-nil left taken;
   counted = refl;
   known = h;
   going = s;
-  appended = subst (Appends written written) (sym e) (Appends-nil written);
+  appended = e;
 }
 
 -- the text of one piece more was written
@@ -73,7 +73,7 @@ Rose-since before mid now le h = omega (arith, h)
 front_after : (a b c : Option (List ℕ)) (x y : List ℕ) → Appends a b x → AppendsFront b c y → AppendsFront a c (x ++ y)
 front_after a b c x y p q = (x ++ q.0, q.1, ap (λ r. x ++ r) q.2 ∙ sym (append_assoc x q.0 q.1), Appends-trans a b c x q.0 p q.3)
 
-front_longer : (a c : Option (List ℕ)) (x z : List ℕ) → AppendsFront a c x → AppendsFront a c (x ++ z)
+pub front_longer : (a c : Option (List ℕ)) (x z : List ℕ) → AppendsFront a c x → AppendsFront a c (x ++ z)
 front_longer a c x z q = (q.0, q.1 ++ z, ap (λ r. r ++ z) q.2 ∙ append_assoc q.0 q.1 z, q.3)
 
 -- a piece was read, and only a front of its text was written

@@ -2,7 +2,9 @@
 use Rattle.std.proofs.Common.{◌≡◌, ℕ, true, false, None, List, [], ◌++◌, refl, sym, ap, ◌∙◌, subst}
 use Rattle.std.specs.Prelude.{is_some}
 use Rattle.std.proofs.lemmas.List.Concat.{flat_map-append}
-use Rattle.zre_capture.specs.Journal.{journal, bad, bad_from, entries_from, Reads}
+use Rattle.zre_capture.specs.Journal.{journal, bad, bad_from, entries_from, format_of, Reads}
+use Rattle.zre_capture.specs.declared.format.Format.{Format}
+use Rattle.zre_capture.specs.declared.format.Format.TheVariants.{First}
 use Rattle.zre_capture.proofs.Growing.{journal_grows}
 use Rattle.zre_journal.specs.declared.config.Config.{Config}
 use Rattle.zre_journal.specs.Events.{events}
@@ -12,7 +14,7 @@ use Rattle.zre_outside.specs.declared.entry.Entry.{Entry}
 use Rattle.zre_peer.specs.Lines.{line, lines}
 use Rattle.zre_peer.specs.declared.event.Event.{Event}
 use Rattle.zre_commands.specs.declared.replay.reading.State.{State}
-use Rattle.zre_commands.specs.declared.replay.reading.State.TheVariants.{Going, Bad, Lost}
+use Rattle.zre_commands.specs.declared.replay.reading.State.TheVariants.{Going}
 use Rattle.zre_commands.specs.declared.replay.replayer.Replayer.{Replayer}
 use Rattle.zre_commands.specs.declared.replay.waiting.Waiting.{Waiting}
 use Rattle.zre_commands.specs.replay.Replay.{text}
@@ -20,38 +22,32 @@ use Rattle.zre_commands.specs.replay.Replayer.{Fed}
 use Rattle.zre_commands.specs.replay.State.{IsState}
 
 -- more events have more lines
-lines_more : (g : Config) (J K : List Entry) (told : List Event) → events g (J ++ K) ≡ events g J ++ told → lines (events g (J ++ K)) ≡ lines (events g J) ++ lines told
+pub lines_more : (g : Config) (J K : List Entry) (told : List Event) → events g (J ++ K) ≡ events g J ++ told → lines (events g (J ++ K)) ≡ lines (events g J) ++ lines told
 lines_more g J K told e = ap lines e ∙ flat_map-append line (events g J) told
 
-text_by : (g : Config) (o x : List ℕ) (es : List Entry) (told : List Event) → journal (o ++ x) ≡ journal o ++ es → events g (journal o ++ es) ≡ events g (journal o) ++ told → text g (o ++ x) ≡ text g o ++ lines told
-text_by g o x es told j e = ap (λ J. lines (events g J)) j ∙ lines_more g (journal o) es told e
+text_by : (g : Config) (o x : List ℕ) (es : List Entry) (told : List Event) → journal First (o ++ x) ≡ journal First o ++ es → events g (journal First o ++ es) ≡ events g (journal First o) ++ told → text g (o ++ x) ≡ text g o ++ lines told
+text_by g o x es told j e = ap (λ J. lines (events g J)) j ∙ lines_more g (journal First o) es told e
 
 pub text_grows : (g : Config) (o x : List ℕ) → (added : List ℕ) × (text g (o ++ x) ≡ text g o ++ added)
-text_grows g o x = let more = journal_grows o x in (_, text_by g o x more.0 _ more.1 (continues g (journal o) more.0).told)
+text_grows g o x = let more = journal_grows First o x in (_, text_by g o x more.0 _ more.1 (continues g (journal First o) more.0).told)
 
-no_entries : journal [] ≡ []
+no_entries : journal First [] ≡ []
 unfolding entries_from
 no_entries = refl
 
 pub text_nothing : (g : Config) → text g [] ≡ []
 text_nothing g = ap (λ J. lines (events g J)) no_entries
 
-not_bad : bad [] ≡ None
+not_bad : bad First [] ≡ None
 unfolding bad_from
 not_bad = refl
 
-pub nothing_stopped : is_some (bad []) ≡ false
+pub nothing_stopped : is_some (bad First []) ≡ false
 nothing_stopped = ap is_some not_bad
 
 -- the machine before any octet
-pub nothing_fed : (r : Replayer) (w : Waiting) → r.state ≡ Going w → Reads [] w.reader → StandsFor r.config [] r.node → Fed r []
-nothing_fed r w e reads stands = record {
-  reads = subst (λ s. IsState s []) (sym e) (not_bad, reads);
+pub nothing_fed : (r : Replayer) (w : Waiting) → r.state ≡ Going w → Reads [] w.reader → format_of w.reader ≡ First → StandsFor r.config [] r.node → Fed r []
+nothing_fed r w e reads format stands = record {
+  reads = subst (λ s. IsState First s []) (sym e) (not_bad, reads, format);
   stands = subst (λ J. StandsFor r.config J r.node) (sym no_entries) stands;
 }
-
--- a capture that isn't bad so far has a reader
-pub goes_on : {C : Type 0} (s : State) (o : List ℕ) → IsState s o → is_some (bad o) ≡ false → ((w : _) → s ≡ Going w → ⊥) → C
-goes_on (Going w) o h e no_reader = absurd (no_reader w refl)
-goes_on (Bad b) o h e no_reader = let z : true ≡ false = sym (ap is_some h) ∙ e in absurd cc
-goes_on Lost o h e no_reader = absurd h

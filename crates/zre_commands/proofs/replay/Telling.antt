@@ -9,10 +9,6 @@ use Rattle.zre_outside.specs.declared.entry.Entry.{Entry}
 use Rattle.zre_peer.specs.Lines.{line, lines}
 use Rattle.zre_commands.specs.replay.Taken.{Took}
 
-pub on_ok : {T E A C : Type 0} (r : Result T E) → OnOk r A → (A → C) → OnOk r C
-on_ok (Ok x) a f = f a
-on_ok (Err x) a f = tt
-
 pub took_none : (g : Config) (J : List Entry) (n : Node) (out : List ℕ) → StandsFor g J n → Took g J [] n out out
 took_none g J n out s = record {
   stands = subst (λ K. StandsFor g K n) (sym (append-nil J)) s;

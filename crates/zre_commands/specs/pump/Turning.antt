@@ -1,6 +1,8 @@
 -- What one turn of the pump does, and what the end of the input does.
 use Rattle.std.specs.Prelude.{◌≡◌, ℕ, ◌<◌, true, false, List, [], ◌++◌, length, Option}
 use Rattle.std.specs.Io.KnownBytes.{Appends, IsAtEnd, Keeps}
+use Rattle.zre_outside.specs.declared.sink.NextFault.{NextFault}
+use Rattle.zre_outside.specs.declared.sink.NextFault.TheVariants as sink
 use Rattle.zre_outside.specs.Told.{AppendsFront}
 use Rattle.zre_commands.specs.pump.Meaning.{Meaning}
 use Rattle.zre_commands.specs.declared.pump.pumping.Next.{Next}
@@ -19,6 +21,11 @@ pub record WritesFront (m : Meaning) (o piece : List ℕ) (written written' : Op
   pub added : List ℕ
   pub longer : m.text (o ++ piece) ≡ m.text o ++ added
   pub appended : AppendsFront written written' added
+
+-- the text that comes before any input wasn't written whole: a front of it was
+abbrev pub FailsToBegin : NextFault → (m : Meaning) (written written' : Option (List ℕ)) (write : Type 0) → Type 0
+FailsToBegin sink.Failed m written written' write = write × AppendsFront written written' (m.text [])
+FailsToBegin sink.OutOfMemory m written written' write = AppendsFront written written' (m.text [])
 
 -- a piece after the octets o was fed and its text written
 abbrev pub Told : Next

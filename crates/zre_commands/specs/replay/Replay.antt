@@ -1,27 +1,28 @@
 -- What `replay` makes of the octets of a capture.
-use Rattle.std.specs.Prelude.{ℕ, List, [], Option, Some, None, is_some}
-use Rattle.zre_capture.specs.Journal.{journal, bad, bad_at_end}
-use Rattle.zre_capture.specs.declared.fault.BadCapture.{BadCapture}
+use Rattle.std.specs.Prelude.{ℕ, List, []}
+use Rattle.std.specs.Option.{option_map_or}
+use Rattle.zre_capture.specs.Journal.{journal, settings}
+use Rattle.zre_capture.specs.declared.format.Format.TheVariants.{First, Second}
 use Rattle.zre_journal.specs.declared.config.Config.{Config}
 use Rattle.zre_journal.specs.Events.{events}
 use Rattle.zre_peer.specs.Lines.{lines}
-use Rattle.zre_commands.specs.pump.Lines.{bad_line_at}
+use Rattle.zre_commands.specs.Settings.{as_config}
 use Rattle.zre_commands.specs.pump.Meaning.{Meaning}
+use Rattle.zre_commands.specs.replay.Capture.{of_capture}
 
--- the lines of the events of the journal
+-- the lines of the events of the journal of a capture of format 1, for a node with these settings
 abbrev pub text : Config → List ℕ → List ℕ
-text g o = lines (events g (journal o))
+text g o = lines (events g (journal First o))
 
--- the last line of a capture that is bad there
-abbrev pub refusal : Option BadCapture → List ℕ
-refusal None = []
-refusal (Some b) = bad_line_at b.line b.column
-
--- all that `replay` makes of octets
+-- all that `replay` makes of octets with the settings of a node
 abbrev pub replay : Config → Meaning
-replay g = record {
-  text = text g;
-  is_stopped = λ o. is_some (bad o);
-  is_bad = λ o. is_some (bad_at_end o);
-  ending = λ o. refusal (bad_at_end o);
-}
+replay g = of_capture First (text g)
+
+-- the lines of the events of the journal of a capture of format 2, for the node of its settings: there are none before
+-- those are told
+abbrev pub told_text : List ℕ → List ℕ
+told_text o = option_map_or (λ s. lines (events (as_config s) (journal Second o))) (settings Second o) []
+
+-- all that `replay` makes of octets without words
+abbrev pub told_replay : Meaning
+told_replay = of_capture Second told_text

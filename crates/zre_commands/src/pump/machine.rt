@@ -1,4 +1,4 @@
-ghost use Rattle.std.specs.Prelude.{◌≡◌, ◌++◌, ℕ, List, true, false, length, IfOk, OnOk};
+ghost use Rattle.std.specs.Prelude.{◌≡◌, ◌++◌, ℕ, List, [], true, false, length, IfOk, OnOk};
 ghost use Rattle.zre_commands.specs.pump.Meaning.{Meaning, Grows, is_stop};
 
 use zre_values::{Octets, OutOfMemory};
@@ -22,6 +22,10 @@ pub trait Machine {
 
     /// What the command makes of octets.
     ghost says: { Self → Meaning };
+
+    /// Appends the text that comes before any input is read, as the head of a file.
+    fn begin(&self, out: &mut Octets) -> Result<(), OutOfMemory>
+        ensures head { fed self.now [] → OnOk result (out.new ≡ out.old ++ (says self.now).text []) };
 
     /// Takes the next piece, and appends the text that it adds.
     fn feed(&mut self, piece: &[u8], out: &mut Octets) -> Result<Going, OutOfMemory>

@@ -1,10 +1,11 @@
 //! Reads a source in pieces, feeds a machine, and writes its text.
 
-ghost use Rattle.std.specs.Prelude.{◌≡◌, ◌<◌, ◌≤◌, ◌+◌, ◌++◌, ℕ, List, [], false, length, take};
+ghost use Rattle.std.specs.Prelude.{◌≡◌, ◌<◌, ◌≤◌, ◌+◌, ◌++◌, ℕ, List, [], false, length, take, OnOk, IfErr};
+ghost use Rattle.std.specs.Io.KnownBytes.{Appends};
 ghost use Rattle.zre_outside.specs.Causes.{Rose};
 ghost use Rattle.zre_outside.specs.Told.{Moves};
 ghost use Rattle.zre_commands.specs.pump.Outcome.{Pumped};
-ghost use Rattle.zre_commands.specs.pump.Turning.{Finishes, Told, Turned};
+ghost use Rattle.zre_commands.specs.pump.Turning.{FailsToBegin, Finishes, Told, Turned};
 
 use crate::pump::machine::{Going, Machine};
 use crate::pump::status::Status;
@@ -28,6 +29,22 @@ enum Next {
 struct Turn {
     read: usize,
     next: Next,
+}
+
+// Writes the text that comes before any input is read.
+fn begin<M: Machine, O: Sink>(machine: &M, out: &mut O, text: &mut Octets) -> Result<(), NextFault>
+    ensures begun { M.fed machine.now [] →
+        OnOk result (Appends (O.written out.old) (O.written out.new) ((M.says machine.now).text [])) }
+    ensures failed { M.fed machine.now [] →
+        IfErr result (λ fault. FailsToBegin fault (M.says machine.now) (O.written out.old) (O.written out.new)
+        (Rose (O.faults out.old) (O.faults out.new))) }
+    ensures writes { O.faults out.old ≤ O.faults out.new }
+{
+    text.clear();
+    let Ok(()) = machine.begin(text) else {
+        return Err(NextFault::OutOfMemory);
+    };
+    write_all(out, text.as_slice())
 }
 
 // Feeds a piece and writes its text.
@@ -111,8 +128,8 @@ fn finish<M: Machine, O: Sink>(machine: &M, taken: u64, out: &mut O, text: &mut 
     }
 }
 
-/// Reads the source to its end, feeds the machine with it and writes its text, up to a limit of octets. It keeps
-/// one piece of the input and that piece's text, and asks for no octet past the limit.
+/// Writes the text that comes first, reads the source to its end, feeds the machine with it and writes its text, up to
+/// a limit of octets. It keeps one piece of the input and that piece's text, and asks for no octet past the limit.
 pub fn pump<M: Machine, I: Source, O: Sink>(
     alloc: Global,
     machine: &mut M,
@@ -121,7 +138,6 @@ pub fn pump<M: Machine, I: Source, O: Sink>(
     limit: u64,
 ) -> Status
     requires start { M.fed machine.old [] }
-    requires nothing { (M.says machine.old).text [] ≡ [] }
     requires going { (M.says machine.old).is_stopped [] ≡ false }
     ensures pumped { Pumped result limit (M.says machine.old)
         (I.left input.old) (I.left input.new) (I.taken input.old) (I.taken input.new) (O.written out.old) (O.written out.new)
@@ -134,6 +150,11 @@ pub fn pump<M: Machine, I: Source, O: Sink>(
         Err(_) => return Status::OutOfMemory,
     };
     let mut text = Octets::new(alloc);
+    match begin(machine, out, &mut text) {
+        Ok(()) => {}
+        Err(NextFault::Failed) => return Status::WriteFault,
+        Err(NextFault::OutOfMemory) => return Status::OutOfMemory,
+    }
     let mut taken: u64 = 0;
     while taken < limit {
         let room = room_for(limit - taken);

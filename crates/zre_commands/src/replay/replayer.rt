@@ -1,11 +1,8 @@
-ghost use Rattle.std.specs.Prelude.{◌≡◌, ℕ, List, [], true, false, is_some, IfOk};
-ghost use Rattle.zre_capture.specs.Journal.{bad};
+ghost use Rattle.std.specs.Prelude.{◌≡◌, [], true, false, IfOk};
 ghost use Rattle.zre_journal.specs.Config.{is_valid};
-ghost use Rattle.zre_commands.specs.pump.Meaning.{is_stop};
-ghost use Rattle.zre_commands.specs.replay.State.{IsState};
 
 use crate::pump::{Going, Machine, push_bad_line_at};
-use crate::replay::reading::{State, bad_at_end, read_piece};
+use crate::replay::reading::{State, bad_at_end, going_after, read_piece};
 use crate::replay::taking::take_entries;
 use crate::replay::waiting::Waiting;
 use std::alloc::Global;
@@ -39,7 +36,6 @@ impl Replayer {
         ensures fed { IfOk result (λ r. Fed r []) }
         ensures config { IfOk result (λ r. config_of r ≡ config) }
         // No octets have no text, and may go on.
-        ensures nothing { (replay config).text [] ≡ [] }
         ensures going { (replay config).is_stopped [] ≡ false }
     {
         let node = Node::new(alloc, Config::copy(alloc, &config)?)?;
@@ -54,15 +50,6 @@ impl Replayer {
     }
 }
 
-fn going_after(state: &State) -> Going
-    ensures { (o : List ℕ) → IsState state.now o → is_stop result ≡ is_some (bad o) }
-{
-    match state {
-        State::Going(_) => Going::On,
-        _ => Going::Stop,
-    }
-}
-
 impl Machine for Replayer {
     ghost use Rattle.zre_commands.specs.replay.Replay.{replay};
     ghost use Rattle.zre_commands.specs.replay.Replayer.{Fed, config_of};
@@ -70,6 +57,11 @@ impl Machine for Replayer {
     ghost fed = { Fed };
 
     ghost says = { λ r. replay (config_of r) };
+
+    #[tactic(auto, using(crate::proofs::replay::Feeding::text_nothing))]
+    fn begin(&self, _out: &mut Octets) -> Result<(), OutOfMemory> {
+        Ok(())
+    }
 
     #[tactic(auto, using(crate::proofs::replay::Feeding::text_grows))]
     fn feed(&mut self, piece: &[u8], out: &mut Octets) -> Result<Going, OutOfMemory> {

@@ -1,7 +1,8 @@
 //! The texts of what messages mean.
 
 ghost use Rattle.std.specs.Prelude.{◌≡◌, ◌++◌, OnOk};
-ghost use Rattle.zre_commands.specs.show.Lines.{head_text, sender_text, hello_text, whisper_text, shout_text, group_text, other_text, body_text, why_text, bad_text};
+ghost use Rattle.zre_commands.specs.show.Lines.{head_text, sender_text, hello_text, whisper_text, shout_text};
+ghost use Rattle.zre_commands.specs.show.Lines.{group_text, other_text, body_text, why_text, bad_text};
 
 use zre_msg::{Bad, BadWhy, Body};
 use zre_values::{

@@ -5,7 +5,8 @@ ghost use Rattle.std.specs.List.{list_any};
 ghost use Rattle.zre_outside.specs.declared.entry.Command.{Command};
 ghost use Rattle.zre_outside.specs.declared.entry.Command.TheVariants.{Quit};
 ghost use Rattle.zre_capture.specs.Journal.{lines_in};
-ghost use Rattle.zre_console.specs.lines.Orders.{orders_from, ended_lines, is_quit, through_quit, typed, orders, Begins};
+ghost use Rattle.zre_console.specs.lines.Orders.{orders_from, ended_lines, is_quit, through_quit, typed, orders};
+ghost use Rattle.zre_console.specs.lines.Orders.{Begins};
 ghost use Rattle.zre_console.specs.lines.Typing.{unfinished, finished};
 
 /// What was typed begins what a longer text types.

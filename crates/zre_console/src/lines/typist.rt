@@ -1,6 +1,7 @@
 //! Lines that come in pieces.
 
-ghost use Rattle.std.specs.Prelude.{◌≡◌, ◌==◌, ◌&&◌, not, ◌+◌, ◌++◌, [], ◌∷◌, ℕ, false, List, length, IfOk, OnOk, OnErr};
+ghost use Rattle.std.specs.Prelude.{◌≡◌, ◌==◌, ◌&&◌, not, ◌+◌, ◌++◌, [], ◌∷◌, ℕ, false, List, length, IfOk, OnOk};
+ghost use Rattle.std.specs.Prelude.{OnErr};
 ghost use Rattle.std.specs.Option.{option_to_list};
 ghost use Rattle.zre_capture.specs.Parts.{Lacks};
 ghost use Rattle.zre_capture.specs.Journal.{lines_in};

@@ -1,6 +1,6 @@
 //! Captures: texts that are read in pieces, and the lines of their entries.
 
-use crate::subject::Subject;
+use crate::subject::{Subject, steps};
 use crate::text::Text;
 use crate::trouble::Trouble;
 use crate::words::Words;
@@ -9,71 +9,65 @@ use zre_capture::{BadCapture, CaptureFault, CaptureReader};
 use zre_outside::Entries;
 use zre_values::OutOfMemory;
 
-/// The text of a capture.
+/// `on capture`: the text of a capture. `line TEXT` appends to it with a line feed, `text TEXT` without one,
+/// `octets HEX` octets, and `many N HEX` the same octets so many times.
 #[derive(Drop)]
 pub struct Captures {
     text: Text,
 }
 
-/// `on capture`
-pub fn make(words: Words<'_>, answer: &mut Text) -> Subject {
-    if words.end(answer) {
-        let text = Text::new(words.alloc());
-        Subject::Capture(Captures { text })
-    } else {
-        Subject::Missing
+impl Subject for Captures {
+    fn step(&mut self, words: &mut Words<'_>, answer: &mut Text) {
+        steps!(self, words, answer; read, place, line, text, octets, many)
     }
 }
 
 impl Captures {
-    pub fn step(&mut self, words: Words<'_>, answer: &mut Text) {
-        if words.is(b"read") {
-            self.read(words, true, answer);
-        } else if words.is(b"place") {
-            self.read(words, false, answer);
-        } else if words.is(b"line") {
-            self.text.line(words.rest());
-        } else if words.is(b"text") {
-            self.text.put(words.rest());
-        } else if words.is(b"octets") {
-            self.extend(1, words, answer);
-        } else if words.is(b"many") {
-            self.extend_often(words, answer);
-        } else {
-            answer.fail(Trouble::UnknownKey);
-        }
+    pub fn make(words: &mut Words<'_>) -> Self {
+        let text = Text::new(words.alloc());
+        Captures { text }
     }
 
-    // The text: `line TEXT` with a line feed, `text TEXT` without one, `octets HEX`, and `many N HEX` for the same
-    // octets so many times.
-    fn extend_often(&mut self, mut words: Words<'_>, answer: &mut Text) {
+    fn line(&mut self, words: &mut Words<'_>, _answer: &mut Text) {
+        self.text.line(words.take_rest());
+    }
+
+    fn text(&mut self, words: &mut Words<'_>, _answer: &mut Text) {
+        self.text.put(words.take_rest());
+    }
+
+    fn octets(&mut self, words: &mut Words<'_>, _answer: &mut Text) {
+        self.text.put(words.octets().as_slice());
+    }
+
+    fn many(&mut self, words: &mut Words<'_>, _answer: &mut Text) {
         let times = words.number();
-        self.extend(times, words, answer);
-    }
-
-    fn extend(&mut self, times: u64, mut words: Words<'_>, answer: &mut Text) {
         let octets = words.octets();
-        if words.end(answer) {
-            for _ in 0..times {
-                self.text.put(octets.as_slice());
-            }
+        for _ in 0..times {
+            self.text.put(octets.as_slice());
         }
     }
 
-    // `read SIZE SIZE ..`: the lines of the entries that are read, and
-    // where the text is bad, or `whole`, in pieces of each of these sizes.
+    // `read SIZE SIZE ..`: the lines of the entries that are read, and where the text is bad, or `whole`, in pieces of
+    // each of these sizes.
+    fn read(&self, words: &mut Words<'_>, answer: &mut Text) {
+        self.compare(words.alloc(), words.numbers().as_slice(), true, answer);
+    }
+
     // `place SIZE SIZE ..`: the same without the lines.
-    fn read(&self, mut words: Words<'_>, is_listed: bool, answer: &mut Text) {
-        let sizes = words.numbers();
-        if words.end(answer) && self.text.is_whole(answer) {
-            if let Some((first, others)) = sizes.as_slice().split_first() {
-                let text = self.told(words.alloc(), *first, is_listed);
-                answer.add(&text);
-                for size in others {
-                    let other = self.told(words.alloc(), *size, is_listed);
-                    if !answer.is_same(&text, &other) {
-                        answer.line(b"other sizes read otherwise");
-                    }
+    fn place(&self, words: &mut Words<'_>, answer: &mut Text) {
+        self.compare(words.alloc(), words.numbers().as_slice(), false, answer);
+    }
+
+    fn compare(&self, alloc: Global, sizes: &[u64], is_listed: bool, answer: &mut Text) {
+        self.text.is_whole(answer);
+        if let Some((first, others)) = sizes.split_first() {
+            let text = self.told(alloc, *first, is_listed);
+            answer.add(&text);
+            for size in others {
+                let other = self.told(alloc, *size, is_listed);
+                if !answer.is_same(&text, &other) {
+                    answer.line(b"other sizes read otherwise");
                 }
             }
         }

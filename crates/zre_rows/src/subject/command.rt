@@ -5,13 +5,14 @@ mod cut;
 mod telling;
 
 use crate::journal::script_of;
-use crate::subject::Subject;
+use crate::subject::{Subject, steps};
 use crate::text::Text;
 use crate::trouble::Trouble;
 use crate::words::Words;
-use calls::{Ran, Stand, call_plain, call_run, call_zre};
+use calls::{Ran, Stand, call, call_plain, call_zre};
 use cut::Cut;
 use std::alloc::Global;
+use std::mem;
 use std::sync::Wait;
 use std::thread::Threads;
 use telling::{Naming, Telling};
@@ -19,7 +20,8 @@ use zre_app::Status;
 use zre_outside::{MemRecorder, MemSink, ScriptWorld};
 use zre_values::{Frames, Octets, OutOfMemory};
 
-/// The words of a command, what it is run over, and what came of its last run.
+/// `on command WORD WORD ..`: the words of a command line, as quoted texts, what the command is run over, and what came
+/// of its last run.
 #[derive(Drop)]
 pub struct Commands {
     words: Frames,
@@ -31,31 +33,40 @@ pub struct Commands {
     /// The sizes of the pieces of the input, or nothing.
     sizes: Text,
     limit: u64,
+    /// The run that a line asked for.
+    due: Option<Due>,
     left: u64,
     told: Text,
     kept: Text,
     file: Text,
 }
 
-/// `on command WORD WORD ..`: the words of the command line, as quoted texts.
-pub fn make(mut words: Words<'_>, answer: &mut Text) -> Subject {
-    let list = words.texts();
-    if words.end(answer) {
-        Subject::Command(Commands::new(words.alloc(), list))
-    } else {
-        Subject::Missing
+/// A run of any command: with a limit, or with that of the program.
+#[derive(Clone, Copy)]
+enum Due {
+    Run(u64),
+    Zre,
+}
+
+impl Subject for Commands {
+    fn step(&mut self, words: &mut Words<'_>, answer: &mut Text) {
+        steps!(self, words, answer; run, zre, plain, both, words, read, limit, fail, turn, look, octets, line, text,
+            input, left, told, kept, file)
     }
 }
 
+// What it is run over.
 impl Commands {
-    fn new(alloc: Global, words: Frames) -> Self {
+    pub fn new(words: &mut Words<'_>) -> Self {
+        let alloc = words.alloc();
         Commands {
-            words,
+            words: words.texts(),
             input: Text::new(alloc),
             script: Text::new(alloc),
             fails: Text::new(alloc),
             sizes: Text::new(alloc),
             limit: u64::MAX,
+            due: None,
             left: 0,
             told: Text::new(alloc),
             kept: Text::new(alloc),
@@ -63,90 +74,48 @@ impl Commands {
         }
     }
 
-    pub fn step<T: Threads + Wait + AllocGlobal + Copy + Send + 'static>(
-        &mut self,
-        rt: T,
-        words: Words<'_>,
-        answer: &mut Text,
-    ) {
-        if words.is(b"run") {
-            self.run(rt, true, words, answer);
-        } else if words.is(b"zre") {
-            self.run(rt, false, words, answer);
-        } else if words.is(b"plain") {
-            self.plain(words, answer);
-        } else if words.is(b"both") {
-            self.both(words, answer);
-        } else {
-            self.set(words, answer);
-        }
+    fn words(&mut self, words: &mut Words<'_>, _answer: &mut Text) {
+        drop(mem::replace(&mut self.words, words.texts()));
     }
 
-    // What it is run over, and the script of the world: `turn ENTRY` and `look`.
-    fn set(&mut self, words: Words<'_>, answer: &mut Text) {
-        if words.is(b"words") {
-            self.set_words(words, answer);
-        } else if words.is(b"read") {
-            self.sizes.clear();
-            self.sizes.put(words.rest());
-        } else if words.is(b"limit") {
-            self.set_limit(words, answer);
-        } else if words.is(b"fail") {
-            self.fails.line(words.rest());
-        } else if words.is(b"turn") {
-            self.script.line(words.rest());
-        } else if words.is(b"look") {
-            self.look(words, answer);
-        } else {
-            self.set_input(words, answer);
-        }
+    fn read(&mut self, words: &mut Words<'_>, _answer: &mut Text) {
+        self.sizes.clear();
+        self.sizes.put(words.take_rest());
     }
 
-    fn set_words(&mut self, mut words: Words<'_>, answer: &mut Text) {
-        let list = words.texts();
-        if words.end(answer) {
-            self.words = list;
-        }
+    fn limit(&mut self, words: &mut Words<'_>, _answer: &mut Text) {
+        self.limit = words.number();
     }
 
-    fn set_limit(&mut self, mut words: Words<'_>, answer: &mut Text) {
-        let limit = words.number();
-        if words.end(answer) {
-            self.limit = limit;
-        }
+    fn fail(&mut self, words: &mut Words<'_>, _answer: &mut Text) {
+        self.fails.line(words.take_rest());
     }
 
-    fn look(&mut self, words: Words<'_>, answer: &mut Text) {
-        if words.end(answer) {
-            self.script.line(b"look");
-        }
+    // The script of the world: `turn ENTRY` and `look`.
+    fn turn(&mut self, words: &mut Words<'_>, _answer: &mut Text) {
+        self.script.line(words.take_rest());
+    }
+
+    fn look(&mut self, _words: &mut Words<'_>, _answer: &mut Text) {
+        self.script.line(b"look");
     }
 
     // The octets of the input: `octets HEX`, `line TEXT` with a line feed, `text TEXT` without one, and `input kept`
     // for what the recorder holds.
-    fn set_input(&mut self, words: Words<'_>, answer: &mut Text) {
-        if words.is(b"octets") {
-            self.push_input(words, answer);
-        } else if words.is(b"line") {
-            self.input.line(words.rest());
-        } else if words.is(b"text") {
-            self.input.put(words.rest());
-        } else if words.is(b"input") {
-            self.set_kept(words, answer);
-        } else {
-            self.show(words, answer);
-        }
+    fn octets(&mut self, words: &mut Words<'_>, _answer: &mut Text) {
+        self.input.put(words.octets().as_slice());
     }
 
-    fn push_input(&mut self, mut words: Words<'_>, answer: &mut Text) {
-        let octets = words.octets();
-        if words.end(answer) {
-            self.input.put(octets.as_slice());
-        }
+    fn line(&mut self, words: &mut Words<'_>, _answer: &mut Text) {
+        self.input.line(words.take_rest());
     }
 
-    fn set_kept(&mut self, words: Words<'_>, answer: &mut Text) {
-        if words.rest() == b"kept".as_slice() {
+    fn text(&mut self, words: &mut Words<'_>, _answer: &mut Text) {
+        self.input.put(words.take_rest());
+    }
+
+    fn input(&mut self, words: &mut Words<'_>, answer: &mut Text) {
+        if words.field() == b"kept".as_slice() {
             self.input.clear();
             self.input.add(&self.kept);
         } else {
@@ -156,29 +125,27 @@ impl Commands {
 
     // What came of the last run: `left` how many octets of the input weren't read, `told` what the world was told,
     // `kept` what the recorder holds and `file` its name, quoted.
-    fn show(&self, words: Words<'_>, answer: &mut Text) {
-        if !words.end(answer) {
-            return;
-        }
-        if words.is(b"left") {
-            answer.number(self.left);
-            answer.end();
-        } else if words.is(b"told") {
-            answer.add(&self.told);
-        } else if words.is(b"kept") {
-            self.kept.is_whole(answer);
-            push_ended(answer, self.kept.as_slice());
-        } else if words.is(b"file") {
-            self.file.is_whole(answer);
-            answer.quoted(self.file.as_slice());
-            answer.end();
-        } else {
-            answer.fail(Trouble::UnknownKey);
-        }
+    fn left(&self, _words: &mut Words<'_>, answer: &mut Text) {
+        answer.number_line(Some(self.left));
+    }
+
+    fn told(&self, _words: &mut Words<'_>, answer: &mut Text) {
+        answer.add(&self.told);
+    }
+
+    fn kept(&self, _words: &mut Words<'_>, answer: &mut Text) {
+        self.kept.is_whole(answer);
+        push_ended(answer, self.kept.as_slice());
+    }
+
+    fn file(&self, _words: &mut Words<'_>, answer: &mut Text) {
+        self.file.is_whole(answer);
+        answer.quoted(self.file.as_slice());
+        answer.end();
     }
 
     // The numbers of the calls of a kind that are to fail.
-    fn calls_of(&self, alloc: Global, kind: &[u8], answer: &mut Text) -> Vec<u64> {
+    fn calls_of(&self, alloc: Global, kind: &str, answer: &mut Text) -> Vec<u64> {
         let mut calls = Vec::new(alloc);
         for line in self.fails.as_slice().split(|octet| *octet == b'\n') {
             let mut words = Words::of_line(alloc, line);
@@ -198,24 +165,24 @@ impl Commands {
         }
         words.end(answer);
         let input = copy_of(alloc, &self.input, answer);
-        Cut::new(input, sizes, self.calls_of(alloc, b"read", answer))
+        Cut::new(input, sizes, self.calls_of(alloc, "read", answer))
     }
 
     fn sink(&self, alloc: Global, answer: &mut Text) -> MemSink {
-        MemSink::new(alloc, self.calls_of(alloc, b"write", answer))
+        MemSink::new(alloc, self.calls_of(alloc, "write", answer))
     }
 
     fn world(&self, alloc: Global, answer: &mut Text) -> Telling {
-        let starts = self.calls_of(alloc, b"start", answer);
-        let nexts = self.calls_of(alloc, b"next", answer);
+        let starts = self.calls_of(alloc, "start", answer);
+        let nexts = self.calls_of(alloc, "next", answer);
         let script = script_of(alloc, self.script.as_slice(), answer);
         let inner = ScriptWorld::new(alloc, script, starts, nexts);
         Telling::new(inner, Text::new(alloc))
     }
 
     fn recorder(&self, alloc: Global, answer: &mut Text) -> Naming {
-        let begins = self.calls_of(alloc, b"begin", answer);
-        let puts = self.calls_of(alloc, b"put", answer);
+        let begins = self.calls_of(alloc, "begin", answer);
+        let puts = self.calls_of(alloc, "put", answer);
         Naming::new(MemRecorder::new(alloc, begins, puts), Text::new(alloc))
     }
 
@@ -224,13 +191,16 @@ impl Commands {
             input: self.source(alloc, answer),
             world: self.world(alloc, answer),
             rec: self.recorder(alloc, answer),
-            threads: self.calls_of(alloc, b"thread", answer),
+            threads: self.calls_of(alloc, "thread", answer),
         }
     }
 
-    // Whether the texts that it is run over are whole.
+    // Whether the texts that it is run over are whole, and nothing else was wrong.
     fn is_whole(&self, answer: &mut Text) -> bool {
-        self.script.is_whole(answer) && self.fails.is_whole(answer) && self.sizes.is_whole(answer)
+        self.script.is_whole(answer)
+            && self.fails.is_whole(answer)
+            && self.sizes.is_whole(answer)
+            && !answer.has_fault()
     }
 
     fn note_given(&mut self, given: u64) {
@@ -238,18 +208,17 @@ impl Commands {
     }
 
     // `plain`: a command other than `chat`.
-    fn plain(&mut self, words: Words<'_>, answer: &mut Text) {
-        if words.end(answer) && self.is_whole(answer) {
-            let input = self.source(words.alloc(), answer);
-            let mut out = self.sink(words.alloc(), answer);
-            if !answer.has_fault() {
-                match call_plain(words.alloc(), &self.words, input, &mut out, self.limit) {
-                    Some((status, given)) => {
-                        self.note_given(given);
-                        push_outcome(answer, out.written(), status);
-                    }
-                    None => answer.fail(Trouble::BadArgument),
+    fn plain(&mut self, words: &mut Words<'_>, answer: &mut Text) {
+        let alloc = words.alloc();
+        let input = self.source(alloc, answer);
+        let mut out = self.sink(alloc, answer);
+        if self.is_whole(answer) {
+            match call_plain(alloc, &self.words, input, &mut out, self.limit) {
+                Some((status, given)) => {
+                    self.note_given(given);
+                    push_outcome(answer, out.written(), status);
                 }
+                None => answer.fail(Trouble::BadArgument),
             }
         }
     }
@@ -257,7 +226,7 @@ impl Commands {
     // `both`: the same of an input that comes an octet a read and of one
     // that comes whole. What the first answers is told only where it
     // differs.
-    fn both(&mut self, words: Words<'_>, answer: &mut Text) {
+    fn both(&mut self, words: &mut Words<'_>, answer: &mut Text) {
         let mut by_octet = Text::new(words.alloc());
         self.sizes.clear();
         self.sizes.put(b"1");
@@ -273,29 +242,6 @@ impl Commands {
         answer.add(&whole);
     }
 
-    // `run`, and `zre`, which has no limit.
-    fn run<T: Threads + Wait + AllocGlobal + Copy + Send + 'static>(
-        &mut self,
-        rt: T,
-        is_limited: bool,
-        words: Words<'_>,
-        answer: &mut Text,
-    ) {
-        if words.end(answer) && self.is_whole(answer) {
-            let stand = self.stand(words.alloc(), answer);
-            let mut out = self.sink(words.alloc(), answer);
-            if !answer.has_fault() {
-                let ran = if is_limited {
-                    call_run(rt, words.alloc(), &self.words, stand, &mut out, self.limit)
-                } else {
-                    call_zre(rt, words.alloc(), &self.words, stand, &mut out)
-                };
-                push_outcome(answer, out.written(), ran.status);
-                self.note(ran);
-            }
-        }
-    }
-
     fn note(&mut self, ran: Ran) {
         let Ran {
             input,
@@ -308,6 +254,47 @@ impl Commands {
         self.kept.put(rec.inner.kept());
         self.told = world.into_told();
         self.file = rec.into_names();
+    }
+}
+
+// Runs of any command.
+impl Commands {
+    // `run`, with the limit. A line can ask for one run.
+    fn run(&mut self, _words: &mut Words<'_>, answer: &mut Text) {
+        self.ask(Due::Run(self.limit), answer);
+    }
+
+    // `zre`, which has none.
+    fn zre(&mut self, _words: &mut Words<'_>, answer: &mut Text) {
+        self.ask(Due::Zre, answer);
+    }
+
+    fn ask(&mut self, due: Due, answer: &mut Text) {
+        if self.due.is_some() {
+            answer.fail(Trouble::BadArgument);
+        }
+        self.due = Some(due);
+    }
+
+    /// Does the run that the last line asked for.
+    pub fn run_due<T: Threads + Wait + AllocGlobal + Copy + Send + 'static>(
+        &mut self,
+        rt: T,
+        alloc: Global,
+        answer: &mut Text,
+    ) {
+        if let Some(due) = self.due.take() {
+            let stand = self.stand(alloc, answer);
+            let mut out = self.sink(alloc, answer);
+            if self.is_whole(answer) {
+                let ran = match due {
+                    Due::Run(limit) => call(rt, alloc, &self.words, stand, &mut out, limit),
+                    Due::Zre => call_zre(rt, alloc, &self.words, stand, &mut out),
+                };
+                push_outcome(answer, out.written(), ran.status);
+                self.note(ran);
+            }
+        }
     }
 }
 

@@ -1,6 +1,6 @@
 //! The entries of the exercise.
 
-use crate::subject::Subject;
+use crate::subject::{Subject, steps};
 use crate::text::Text;
 use crate::trouble::Trouble;
 use crate::words::Words;
@@ -8,26 +8,10 @@ use zre_capture::Exercise;
 use zre_outside::Entry;
 use zre_values::OutOfMemory;
 
-/// An exercise whose entries are given one by one.
+/// `on exercise SEED PEERS MESSAGES`: an exercise whose entries are given one by one.
 #[derive(Drop)]
 pub struct Exercises {
     exercise: Exercise,
-}
-
-/// `on exercise SEED PEERS MESSAGES`
-pub fn make(mut words: Words<'_>, answer: &mut Text) -> Subject {
-    let seed = words.number();
-    let peers = words.number();
-    let messages = words.number();
-    if peers < 1 || peers > 256 || messages > 1000000 {
-        answer.fail(Trouble::BadArgument);
-        Subject::Missing
-    } else if words.end(answer) {
-        let exercise = Exercise::new(words.alloc(), seed, peers as u16, messages as u32);
-        Subject::Exercise(Exercises { exercise })
-    } else {
-        Subject::Missing
-    }
 }
 
 fn push_next(answer: &mut Text, next: Result<Option<Entry>, OutOfMemory>) {
@@ -38,13 +22,27 @@ fn push_next(answer: &mut Text, next: Result<Option<Entry>, OutOfMemory>) {
     }
 }
 
+impl Subject for Exercises {
+    fn step(&mut self, words: &mut Words<'_>, answer: &mut Text) {
+        steps!(self, words, answer; next)
+    }
+}
+
 impl Exercises {
-    /// `next` answers the line of the next entry in a capture, or `none`.
-    pub fn step(&mut self, words: Words<'_>, answer: &mut Text) {
-        if !words.is(b"next") {
-            answer.fail(Trouble::UnknownKey);
-        } else if words.end(answer) {
-            push_next(answer, self.exercise.next());
+    pub fn make(words: &mut Words<'_>, answer: &mut Text) -> Option<Self> {
+        let seed = words.number();
+        let peers = words.number();
+        let messages = words.number();
+        if peers < 1 || peers > 256 || messages > 1000000 {
+            answer.refuse(Trouble::BadArgument)
+        } else {
+            let exercise = Exercise::new(words.alloc(), seed, peers as u16, messages as u32);
+            Some(Exercises { exercise })
         }
+    }
+
+    // `next` answers the line of the next entry in a capture, or `none`.
+    fn next(&mut self, _words: &mut Words<'_>, answer: &mut Text) {
+        push_next(answer, self.exercise.next());
     }
 }

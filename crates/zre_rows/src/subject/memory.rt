@@ -1,6 +1,6 @@
 //! The objects in memory that stand for the outside: where octets come from and go to, and where a capture is kept.
 
-use crate::subject::Subject;
+use crate::subject::{Subject, steps};
 use crate::text::Text;
 use crate::trouble::Trouble;
 use crate::words::Words;
@@ -10,7 +10,8 @@ use zre_outside::{
 };
 use zre_values::Octets;
 
-/// One of each, the calls of those with a list fail at its numbers.
+/// `on memory HEX NUMBER NUMBER ..`: one of each. The sources hold the octets, and the calls of those with a list fail
+/// at its numbers.
 #[derive(Drop)]
 pub struct Memory {
     source: MemSource,
@@ -21,65 +22,46 @@ pub struct Memory {
     sure_recorder: SureRecorder,
 }
 
-/// `on memory HEX NUMBER NUMBER ..`: the octets that the sources hold, and the numbers of the calls that are to fail.
-pub fn make(words: Words<'_>, answer: &mut Text) -> Subject {
-    let mut all = words;
-    drop(all.octets());
-    drop(all.numbers());
-    if all.end(answer) {
-        Subject::Memory(make_memory(words))
-    } else {
-        Subject::Missing
-    }
+// The octets, of which each source has its own.
+fn octets_of(words: &Words<'_>) -> Octets {
+    let mut words = *words;
+    words.octets()
 }
 
 // The numbers after the octets.
-fn fails_of(mut words: Words<'_>) -> Vec<u64> {
+fn fails_of(words: &Words<'_>) -> Vec<u64> {
+    let mut words = *words;
     let _ = words.field();
     words.numbers()
 }
 
-fn make_memory(words: Words<'_>) -> Memory {
-    let alloc = words.alloc();
-    Memory {
-        source: MemSource::new(octets_of(words), fails_of(words)),
-        sure_source: SureSource::new(octets_of(words)),
-        sink: MemSink::new(alloc, fails_of(words)),
-        sure_sink: SureSink::new(alloc),
-        recorder: MemRecorder::new(alloc, fails_of(words), fails_of(words)),
-        sure_recorder: SureRecorder::new(alloc),
+impl Subject for Memory {
+    fn step(&mut self, words: &mut Words<'_>, answer: &mut Text) {
+        steps!(self, words, answer; read, write, record, held)
     }
-}
-
-fn octets_of(mut words: Words<'_>) -> Octets {
-    words.octets()
 }
 
 impl Memory {
-    // `read N` reads from both sources, `write HEX` writes to both sinks,
-    // and `record HEX` begins both recorders and puts, each with an
-    // answer of the object with a list and one of that without. `held` shows what the sinks and the recorders hold.
-    pub fn step(&mut self, words: Words<'_>, answer: &mut Text) {
-        if words.is(b"read") {
-            self.read(words, answer);
-        } else if words.is(b"held") {
-            self.show(words, answer);
-        } else if words.is(b"write") {
-            self.write(words, answer);
-        } else if words.is(b"record") {
-            self.record(words, answer);
-        } else {
-            answer.fail(Trouble::UnknownKey);
+    pub fn make(words: &mut Words<'_>) -> Self {
+        let alloc = words.alloc();
+        let all = *words;
+        drop(words.octets());
+        Memory {
+            source: MemSource::new(octets_of(&all), words.numbers()),
+            sure_source: SureSource::new(octets_of(&all)),
+            sink: MemSink::new(alloc, fails_of(&all)),
+            sure_sink: SureSink::new(alloc),
+            recorder: MemRecorder::new(alloc, fails_of(&all), fails_of(&all)),
+            sure_recorder: SureRecorder::new(alloc),
         }
     }
 
-    fn read(&mut self, mut words: Words<'_>, answer: &mut Text) {
+    // `read N` reads from both sources.
+    fn read(&mut self, words: &mut Words<'_>, answer: &mut Text) {
         let size = (words.number().min(65536) as usize).max(1);
-        if words.end(answer) {
-            match Vec::from_elem(words.alloc(), 0u8, size) {
-                Ok(mut room) => self.read_into(&mut room, answer),
-                Err(_) => answer.fail(Trouble::OutOfMemory),
-            }
+        match Vec::from_elem(words.alloc(), 0u8, size) {
+            Ok(mut room) => self.read_into(&mut room, answer),
+            Err(_) => answer.fail(Trouble::OutOfMemory),
         }
     }
 
@@ -88,29 +70,26 @@ impl Memory {
         push_read(&mut self.sure_source, room, answer);
     }
 
-    fn write(&mut self, mut words: Words<'_>, answer: &mut Text) {
+    // `write HEX` writes to both sinks, with an answer of that with a list and one of that without.
+    fn write(&mut self, words: &mut Words<'_>, answer: &mut Text) {
         let octets = words.octets();
-        if words.end(answer) {
-            push_outcome(write_all(&mut self.sink, octets.as_slice()), answer);
-            push_outcome(write_all(&mut self.sure_sink, octets.as_slice()), answer);
-        }
+        push_outcome(write_all(&mut self.sink, octets.as_slice()), answer);
+        push_outcome(write_all(&mut self.sure_sink, octets.as_slice()), answer);
     }
 
-    fn record(&mut self, mut words: Words<'_>, answer: &mut Text) {
+    // `record HEX` begins both recorders and puts.
+    fn record(&mut self, words: &mut Words<'_>, answer: &mut Text) {
         let octets = words.octets();
-        if words.end(answer) {
-            push_outcome(record(&mut self.recorder, octets.as_slice()), answer);
-            push_outcome(record(&mut self.sure_recorder, octets.as_slice()), answer);
-        }
+        push_outcome(record(&mut self.recorder, octets.as_slice()), answer);
+        push_outcome(record(&mut self.sure_recorder, octets.as_slice()), answer);
     }
 
-    fn show(&self, words: Words<'_>, answer: &mut Text) {
-        if words.end(answer) {
-            answer.hex_line(self.sink.written());
-            answer.hex_line(self.sure_sink.written());
-            answer.hex_line(self.recorder.kept());
-            answer.hex_line(self.sure_recorder.kept());
-        }
+    // `held` shows what the sinks and the recorders hold.
+    fn held(&self, _words: &mut Words<'_>, answer: &mut Text) {
+        answer.hex_line(self.sink.written());
+        answer.hex_line(self.sure_sink.written());
+        answer.hex_line(self.recorder.kept());
+        answer.hex_line(self.sure_recorder.kept());
     }
 }
 

@@ -2,7 +2,7 @@
 
 use crate::acts::push_act;
 use crate::journal::entries_of;
-use crate::subject::Subject;
+use crate::subject::{Subject, steps};
 use crate::text::Text;
 use crate::trouble::Trouble;
 use crate::words::Words;
@@ -12,25 +12,14 @@ use zre_journal::Config;
 use zre_node::{Ids, Node, Step};
 use zre_outside::Entry;
 use zre_peer::View;
-use zre_values::{Frames, Octets, OutOfMemory, PeerId};
+use zre_values::{Frames, Octets, OutOfMemory};
 
-/// A node, and the lines of the acts of its last step.
+/// `on node id=.. host=.. port=..` and further words of a node, as quoted texts: a node, and the lines of the acts of
+/// its last step.
 #[derive(Drop)]
 pub struct Nodes {
     node: Node,
     acts: Text,
-}
-
-/// `on node id=.. host=.. port=..` and further words of a node, as quoted texts.
-pub fn make(mut words: Words<'_>, answer: &mut Text) -> Subject {
-    let mut list = Frames::new(words.alloc());
-    push_copy(words.alloc(), &mut list, b"replay", answer);
-    words.push_texts(&mut list);
-    if words.end(answer) && !answer.has_fault() {
-        make_asked(words.alloc(), &list, answer)
-    } else {
-        Subject::Missing
-    }
 }
 
 fn push_copy(alloc: Global, list: &mut Frames, word: &[u8], answer: &mut Text) {
@@ -49,29 +38,21 @@ fn config_of(alloc: Global, words: &Frames) -> Result<Option<Config>, OutOfMemor
     }
 }
 
-fn make_asked(alloc: Global, words: &Frames, answer: &mut Text) -> Subject {
+fn node_of(alloc: Global, words: &Frames, answer: &mut Text) -> Option<Node> {
     match config_of(alloc, words) {
         Ok(Some(config)) => make_node(alloc, config, answer),
-        Ok(None) => missing(Trouble::BadArgument, answer),
-        Err(OutOfMemory) => missing(Trouble::OutOfMemory, answer),
+        Ok(None) => answer.refuse(Trouble::BadArgument),
+        Err(OutOfMemory) => answer.refuse(Trouble::OutOfMemory),
     }
 }
 
-fn missing(trouble: Trouble, answer: &mut Text) -> Subject {
-    answer.fail(trouble);
-    Subject::Missing
-}
-
-fn make_node(alloc: Global, config: Config, answer: &mut Text) -> Subject {
+fn make_node(alloc: Global, config: Config, answer: &mut Text) -> Option<Node> {
     if !config.valid() {
-        return missing(Trouble::BadArgument, answer);
+        return answer.refuse(Trouble::BadArgument);
     }
     match Node::new(alloc, config) {
-        Ok(node) => Subject::Node(Nodes {
-            node,
-            acts: Text::new(alloc),
-        }),
-        Err(_) => missing(Trouble::OutOfMemory, answer),
+        Ok(node) => Some(node),
+        Err(_) => answer.refuse(Trouble::OutOfMemory),
     }
 }
 
@@ -80,25 +61,79 @@ fn next(node: &mut Node, entry: Entry) -> Option<Step> {
     node.step(entry).ok()
 }
 
+impl Subject for Nodes {
+    fn step(&mut self, words: &mut Words<'_>, answer: &mut Text) {
+        steps!(self, words, answer; entry, acts, peer, groups, link_of, unsent, front, peers, known, held, stopped)
+    }
+}
+
 impl Nodes {
-    pub fn step(&mut self, words: Words<'_>, answer: &mut Text) {
-        if words.is(b"entry") {
-            self.take(words, answer);
-        } else if words.is(b"acts") {
-            answer.add(&self.acts);
-        } else {
-            tell(&self.node, words, answer);
-        }
+    pub fn make(words: &mut Words<'_>, answer: &mut Text) -> Option<Self> {
+        let alloc = words.alloc();
+        let mut list = Frames::new(alloc);
+        push_copy(alloc, &mut list, b"replay", answer);
+        words.push_texts(&mut list);
+        let node = node_of(alloc, &list, answer)?;
+        Some(Nodes {
+            node,
+            acts: Text::new(alloc),
+        })
     }
 
-    // `entry LINE`, a line of a capture: what it tells. `acts` answers the acts of the last one.
-    fn take(&mut self, words: Words<'_>, answer: &mut Text) {
-        for entry in entries_of(words.alloc(), words.rest(), answer).into_vec() {
+    // `entry LINE`, a line of a capture: what it tells.
+    fn entry(&mut self, words: &mut Words<'_>, answer: &mut Text) {
+        for entry in entries_of(words.alloc(), words.take_rest(), answer).into_vec() {
             match next(&mut self.node, entry) {
                 Some(step) => push_step(step, answer, &mut self.acts),
                 None => answer.fail(Trouble::OutOfMemory),
             }
         }
+    }
+
+    // `acts` answers the acts of the last one.
+    fn acts(&self, _words: &mut Words<'_>, answer: &mut Text) {
+        answer.add(&self.acts);
+    }
+
+    // `peer ID`: the view. `groups ID`: how many groups it has. `link_of ID`: the number of the link. Each is `none`
+    // where there is none.
+    fn peer(&self, words: &mut Words<'_>, answer: &mut Text) {
+        push_view(answer, self.node.peer(words.id()));
+    }
+
+    fn groups(&self, words: &mut Words<'_>, answer: &mut Text) {
+        answer.number_line(groups_of(self.node.peer(words.id())));
+    }
+
+    fn link_of(&self, words: &mut Words<'_>, answer: &mut Text) {
+        answer.number_line(self.node.link_of(words.id()));
+    }
+
+    // `unsent LINK` and `front LINK`: how many octets wait, and those that may go out.
+    fn unsent(&self, words: &mut Words<'_>, answer: &mut Text) {
+        answer.number_line(self.node.unsent(words.number()));
+    }
+
+    fn front(&self, words: &mut Words<'_>, answer: &mut Text) {
+        push_front(answer, self.node.front(words.number()));
+    }
+
+    // `peers`: the entered peers, a line for each.
+    fn peers(&self, _words: &mut Words<'_>, answer: &mut Text) {
+        push_peers(answer, self.node.peers());
+    }
+
+    // `known`, `held`: how many peers and octets. `stopped`: whether it has.
+    fn known(&self, _words: &mut Words<'_>, answer: &mut Text) {
+        answer.number_line(Some(self.node.known() as u64));
+    }
+
+    fn held(&self, _words: &mut Words<'_>, answer: &mut Text) {
+        answer.number_line(Some(self.node.held()));
+    }
+
+    fn stopped(&self, _words: &mut Words<'_>, answer: &mut Text) {
+        answer.line(if self.node.stopped() { b"yes" } else { b"no" });
     }
 }
 
@@ -107,47 +142,6 @@ fn push_step(step: Step, answer: &mut Text, acts: &mut Text) {
     acts.clear();
     for act in step.acts.as_slice() {
         push_act(acts, act);
-    }
-}
-
-// What a node says of itself. Nothing changes by it, so that the arguments may be looked at last.
-fn tell(node: &Node, mut words: Words<'_>, answer: &mut Text) {
-    if words.is(b"peer") || words.is(b"groups") || words.is(b"link_of") {
-        tell_of_peer(node, words.id(), words, answer);
-    } else if words.is(b"unsent") {
-        answer.number_line(node.unsent(words.number()));
-    } else if words.is(b"front") {
-        push_front(answer, node.front(words.number()));
-    } else {
-        tell_of_all(node, words, answer);
-    }
-    words.end(answer);
-}
-
-// `peer ID`: the view. `groups ID`: how many groups it has. `link_of
-// ID`: the number of the link. Each is `none` where there is none.
-fn tell_of_peer(node: &Node, id: PeerId, words: Words<'_>, answer: &mut Text) {
-    if words.is(b"peer") {
-        push_view(answer, node.peer(id));
-    } else if words.is(b"groups") {
-        answer.number_line(groups_of(node.peer(id)));
-    } else {
-        answer.number_line(node.link_of(id));
-    }
-}
-
-// `peers`: the entered peers, a line for each. `known`, `held`: how many peers and octets. `stopped`: whether it has.
-fn tell_of_all(node: &Node, words: Words<'_>, answer: &mut Text) {
-    if words.is(b"peers") {
-        push_peers(answer, node.peers());
-    } else if words.is(b"known") {
-        answer.number_line(Some(node.known() as u64));
-    } else if words.is(b"held") {
-        answer.number_line(Some(node.held()));
-    } else if words.is(b"stopped") {
-        answer.line(if node.stopped() { b"yes" } else { b"no" });
-    } else {
-        answer.fail(Trouble::UnknownKey);
     }
 }
 

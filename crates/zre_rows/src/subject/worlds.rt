@@ -1,7 +1,7 @@
 //! The worlds in memory: scripts that are played.
 
 use crate::journal::script_of;
-use crate::subject::Subject;
+use crate::subject::{Subject, steps};
 use crate::text::Text;
 use crate::trouble::Trouble;
 use crate::words::Words;
@@ -9,7 +9,8 @@ use std::alloc::Global;
 use std::mem;
 use zre_outside::{Act, Command, NextFault, ScriptWorld, SureWorld, Turn, World};
 
-/// A script, and the two worlds that play it from its first turn that is asked for.
+/// `on world NUMBER NUMBER ..`: a script, and the two worlds that play it from its first turn that is asked for. The
+/// numbers are those of the turns that fail in the world with a list.
 #[derive(Drop)]
 pub struct Worlds {
     script: Text,
@@ -23,52 +24,45 @@ struct Played {
     sure: SureWorld,
 }
 
-/// `on world NUMBER NUMBER ..`: the numbers of the turns that are to fail in the world with a list.
-pub fn make(mut words: Words<'_>, answer: &mut Text) -> Subject {
-    let fails = words.numbers();
-    if words.end(answer) {
-        let script = Text::new(words.alloc());
-        Subject::World(Worlds {
-            script,
-            fails,
-            played: None,
-        })
-    } else {
-        Subject::Missing
+impl Subject for Worlds {
+    fn step(&mut self, words: &mut Words<'_>, answer: &mut Text) {
+        steps!(self, words, answer; turn, look, next, quit)
     }
 }
 
 impl Worlds {
-    // `turn ENTRY` and `look` make the script. `next` asks both worlds for a
-    // turn, and `quit` too: where that is a look, a quit is handed in,
-    // and after it both are told an act and an offer.
-    pub fn step(&mut self, words: Words<'_>, answer: &mut Text) {
-        if words.is(b"turn") {
-            self.script.line(words.rest());
-        } else if words.is(b"look") {
-            self.look(words, answer);
-        } else if words.is(b"next") {
-            self.next(words, false, answer);
-        } else if words.is(b"quit") {
-            self.next(words, true, answer);
-        } else {
-            answer.fail(Trouble::UnknownKey);
+    pub fn make(words: &mut Words<'_>) -> Self {
+        Worlds {
+            script: Text::new(words.alloc()),
+            fails: words.numbers(),
+            played: None,
         }
     }
 
-    fn look(&mut self, words: Words<'_>, answer: &mut Text) {
-        if words.end(answer) {
-            self.script.line(b"look");
-        }
+    // `turn ENTRY` and `look` make the script.
+    fn turn(&mut self, words: &mut Words<'_>, _answer: &mut Text) {
+        self.script.line(words.take_rest());
     }
 
-    fn next(&mut self, words: Words<'_>, quits: bool, answer: &mut Text) {
-        if words.end(answer) {
-            self.begin(words.alloc(), answer);
-            if let Some(played) = &mut self.played {
-                push_turn(&mut played.first, quits, answer);
-                push_turn(&mut played.sure, quits, answer);
-            }
+    fn look(&mut self, _words: &mut Words<'_>, _answer: &mut Text) {
+        self.script.line(b"look");
+    }
+
+    // `next` asks both worlds for a turn.
+    fn next(&mut self, words: &mut Words<'_>, answer: &mut Text) {
+        self.ask(words.alloc(), false, answer);
+    }
+
+    // `quit` too: where that is a look, a quit is handed in, and after it both are told an act and an offer.
+    fn quit(&mut self, words: &mut Words<'_>, answer: &mut Text) {
+        self.ask(words.alloc(), true, answer);
+    }
+
+    fn ask(&mut self, alloc: Global, quits: bool, answer: &mut Text) {
+        self.begin(alloc, answer);
+        if let Some(played) = &mut self.played {
+            push_turn(&mut played.first, quits, answer);
+            push_turn(&mut played.sure, quits, answer);
         }
     }
 

@@ -1,26 +1,24 @@
 //! Beacons.
 
+use crate::subject::{Subject, steps};
 use crate::text::Text;
-use crate::trouble::Trouble;
 use crate::words::Words;
 use zre_beacon::Beacon;
 
-/// Reads or writes a datagram.
-pub fn step(words: Words<'_>, answer: &mut Text) {
-    if words.is(b"read") {
-        read(words, answer);
-    } else if words.is(b"write") {
-        write(words, answer);
-    } else {
-        answer.fail(Trouble::UnknownKey);
+/// `on beacons`: datagrams, read and written.
+#[derive(Drop)]
+pub struct Beacons;
+
+impl Subject for Beacons {
+    fn step(&mut self, words: &mut Words<'_>, answer: &mut Text) {
+        steps!(self, words, answer; read, write)
     }
 }
 
-// `read HEX` answers `ID PORT`, or `none`.
-fn read(mut words: Words<'_>, answer: &mut Text) {
-    let octets = words.octets();
-    if words.end(answer) {
-        match Beacon::read(octets.as_slice()) {
+impl Beacons {
+    // `read HEX` answers `ID PORT`, or `none`.
+    fn read(&self, words: &mut Words<'_>, answer: &mut Text) {
+        match Beacon::read(words.octets().as_slice()) {
             Some(Beacon { id, port }) => {
                 answer.id(id);
                 answer.octet(b' ');
@@ -30,13 +28,11 @@ fn read(mut words: Words<'_>, answer: &mut Text) {
         }
         answer.end();
     }
-}
 
-// `write ID PORT` answers the octets.
-fn write(mut words: Words<'_>, answer: &mut Text) {
-    let id = words.id();
-    let port = words.port();
-    if words.end(answer) {
+    // `write ID PORT` answers the octets.
+    fn write(&self, words: &mut Words<'_>, answer: &mut Text) {
+        let id = words.id();
+        let port = words.port();
         answer.hex_line(&Beacon { id, port }.write());
     }
 }

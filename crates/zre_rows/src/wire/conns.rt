@@ -1,9 +1,7 @@
 //! Incoming connections.
 
-use crate::subject::Subject;
+use crate::subject::{Subject, steps};
 use crate::text::Text;
-use crate::trouble::Trouble;
-use crate::wire::Wire;
 use crate::wire::body::push_body;
 use crate::wire::texts::push_fed;
 use crate::words::Words;
@@ -11,22 +9,12 @@ use std::alloc::Global;
 use zre_mailbox::{Arrival, Arrivals, Conn};
 use zre_values::PeerId;
 
-/// A connection to the node with this identity, and what arrived with the last step.
+/// `on conns ID`: a connection to the node with this identity, and what arrived with the last step.
 #[derive(Drop)]
 pub struct Conns {
     own: PeerId,
     conn: Conn,
     arrivals: Arrivals,
-}
-
-/// `on conns ID`
-pub fn make(mut words: Words<'_>, answer: &mut Text) -> Subject {
-    let own = words.id();
-    if words.end(answer) {
-        Subject::Wire(Wire::Conns(Conns::new(words.alloc(), own)))
-    } else {
-        Subject::Missing
-    }
 }
 
 fn push_arrivals(out: &mut Text, arrivals: &Arrivals) {
@@ -47,7 +35,17 @@ fn push_arrivals(out: &mut Text, arrivals: &Arrivals) {
     }
 }
 
+impl Subject for Conns {
+    fn step(&mut self, words: &mut Words<'_>, answer: &mut Text) {
+        steps!(self, words, answer; feed, ignore, state, cuts)
+    }
+}
+
 impl Conns {
+    pub fn make(words: &mut Words<'_>) -> Self {
+        Conns::new(words.alloc(), words.id())
+    }
+
     fn new(alloc: Global, own: PeerId) -> Self {
         Conns {
             own,
@@ -57,7 +55,7 @@ impl Conns {
     }
 
     // Appends what arrives with a piece, and the fault in it. One that is spent or ignored takes nothing.
-    fn feed(&mut self, piece: &[u8], answer: &mut Text) {
+    fn take(&mut self, piece: &[u8], answer: &mut Text) {
         if !self.conn.ignored() && !self.conn.spent() {
             self.arrivals.clear();
             let fed = self.conn.feed(piece, &mut self.arrivals);
@@ -82,41 +80,20 @@ impl Conns {
         answer.end();
     }
 
-    pub fn step(&mut self, words: Words<'_>, answer: &mut Text) {
-        if words.is(b"feed") {
-            self.feed_octets(words, answer);
-        } else if words.is(b"ignore") {
-            self.ignore(words, answer);
-        } else if words.is(b"state") {
-            self.state(words, answer);
-        } else if words.is(b"cuts") {
-            self.cuts(words, answer);
-        } else {
-            answer.fail(Trouble::UnknownKey);
-        }
-    }
-
     // `feed HEX`
-    fn feed_octets(&mut self, mut words: Words<'_>, answer: &mut Text) {
-        let piece = words.octets();
-        if words.end(answer) {
-            self.feed(piece.as_slice(), answer);
-        }
+    fn feed(&mut self, words: &mut Words<'_>, answer: &mut Text) {
+        self.take(words.octets().as_slice(), answer);
     }
 
     // `ignore`: it is ignored, and its state.
-    fn ignore(&mut self, words: Words<'_>, answer: &mut Text) {
-        if words.end(answer) {
-            self.conn.ignore();
-            self.push_state(answer);
-        }
+    fn ignore(&mut self, _words: &mut Words<'_>, answer: &mut Text) {
+        self.conn.ignore();
+        self.push_state(answer);
     }
 
     // `state`
-    fn state(&self, words: Words<'_>, answer: &mut Text) {
-        if words.end(answer) {
-            self.push_state(answer);
-        }
+    fn state(&self, _words: &mut Words<'_>, answer: &mut Text) {
+        self.push_state(answer);
     }
 
     // What comes of octets in pieces of at most so many, the state of the connection after them, and that when it is
@@ -125,7 +102,7 @@ impl Conns {
         let mut text = Text::new(alloc);
         let mut conns = Conns::new(alloc, self.own);
         for piece in octets.chunks(most.max(1)) {
-            conns.feed(piece, &mut text);
+            conns.take(piece, &mut text);
         }
         conns.push_state(&mut text);
         conns.conn.ignore();
@@ -134,11 +111,8 @@ impl Conns {
     }
 
     // `cuts HEX`: what comes of the octets in one piece. In pieces of a few octets they have to say the same.
-    fn cuts(&self, mut words: Words<'_>, answer: &mut Text) {
-        let octets = words.octets();
-        if words.end(answer) {
-            self.compare_cuts(words.alloc(), octets.as_slice(), answer);
-        }
+    fn cuts(&self, words: &mut Words<'_>, answer: &mut Text) {
+        self.compare_cuts(words.alloc(), words.octets().as_slice(), answer);
     }
 
     fn compare_cuts(&self, alloc: Global, octets: &[u8], answer: &mut Text) {

@@ -1,14 +1,14 @@
 //! Which keys are in which groups.
 
+use crate::subject::{Subject, steps};
 use crate::text::Text;
 use crate::trouble::Trouble;
 use crate::wire::texts::push_keys;
 use crate::words::Words;
-use std::alloc::Global;
 use zre_group::Index;
 use zre_values::{Keys, OutOfMemory};
 
-/// An index, from the empty one on.
+/// `on index`: an index, from the empty one on.
 #[derive(Drop)]
 pub struct Groups {
     index: Index,
@@ -24,58 +24,37 @@ fn push_members(answer: &mut Text, keys: Result<Keys, OutOfMemory>) {
     }
 }
 
-impl Groups {
-    pub fn new(alloc: Global) -> Self {
-        Groups {
-            index: Index::new(alloc),
-        }
+impl Subject for Groups {
+    fn step(&mut self, words: &mut Words<'_>, answer: &mut Text) {
+        steps!(self, words, answer; add, remove, forget, members)
     }
+}
 
-    pub fn step(&mut self, words: Words<'_>, answer: &mut Text) {
-        if words.is(b"add") {
-            self.add(words, answer);
-        } else if words.is(b"remove") {
-            self.remove(words, answer);
-        } else if words.is(b"forget") {
-            self.forget(words, answer);
-        } else if words.is(b"members") {
-            self.members(words, answer);
-        } else {
-            answer.fail(Trouble::UnknownKey);
-        }
+impl Groups {
+    pub fn make(words: &mut Words<'_>) -> Self {
+        let index = Index::new(words.alloc());
+        Groups { index }
     }
 
     // `add GROUP KEY`, with the group as text, as in each step.
-    fn add(&mut self, mut words: Words<'_>, answer: &mut Text) {
+    fn add(&mut self, words: &mut Words<'_>, answer: &mut Text) {
         let group = words.text();
-        let key = words.number();
-        if words.end(answer) {
-            answer.note(self.index.add(group.as_slice(), key));
-        }
+        answer.note(self.index.add(group.as_slice(), words.number()));
     }
 
     // `remove GROUP KEY`
-    fn remove(&mut self, mut words: Words<'_>, answer: &mut Text) {
+    fn remove(&mut self, words: &mut Words<'_>, _answer: &mut Text) {
         let group = words.text();
-        let key = words.number();
-        if words.end(answer) {
-            self.index.remove(group.as_slice(), key);
-        }
+        self.index.remove(group.as_slice(), words.number());
     }
 
     // `forget KEY`
-    fn forget(&mut self, mut words: Words<'_>, answer: &mut Text) {
-        let key = words.number();
-        if words.end(answer) {
-            self.index.forget(key);
-        }
+    fn forget(&mut self, words: &mut Words<'_>, _answer: &mut Text) {
+        self.index.forget(words.number());
     }
 
     // `members GROUP` answers the keys.
-    fn members(&self, mut words: Words<'_>, answer: &mut Text) {
-        let group = words.text();
-        if words.end(answer) {
-            push_members(answer, self.index.members(group.as_slice()));
-        }
+    fn members(&self, words: &mut Words<'_>, answer: &mut Text) {
+        push_members(answer, self.index.members(words.text().as_slice()));
     }
 }

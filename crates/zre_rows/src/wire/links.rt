@@ -1,44 +1,23 @@
 //! Outgoing connections.
 
-use crate::subject::Subject;
+use crate::subject::{Subject, steps};
 use crate::text::Text;
 use crate::trouble::Trouble;
-use crate::wire::Wire;
 use crate::wire::texts::push_fault;
 use crate::words::Words;
 use std::alloc::Global;
 use zre_link::{Link, PushFault, ReplyFault};
 use zre_msg::{Body, Message};
-use zre_values::{Frames, Octets, PeerId};
+use zre_values::{Frames, Octets};
 use zre_zmtp::FeedFault;
 
 /// More octets than this aren't whispered by a step.
 const CONTENT: u64 = 2097152;
 
-/// The link of a node.
+/// `on links ID`: the link of the node with this identity.
 #[derive(Drop)]
 pub struct Links {
     link: Link,
-}
-
-/// `on links ID`
-pub fn make(mut words: Words<'_>, answer: &mut Text) -> Subject {
-    let own = words.id();
-    if words.end(answer) {
-        make_link(words.alloc(), own, answer)
-    } else {
-        Subject::Missing
-    }
-}
-
-fn make_link(alloc: Global, own: PeerId, answer: &mut Text) -> Subject {
-    match Link::new(alloc, own) {
-        Ok(link) => Subject::Wire(Wire::Links(Links { link })),
-        Err(_) => {
-            answer.fail(Trouble::OutOfMemory);
-            Subject::Missing
-        }
-    }
 }
 
 // `slow UNSENT SIZE`
@@ -101,42 +80,34 @@ fn whisper_of(alloc: Global, frame: Octets) -> Message {
     }
 }
 
+impl Subject for Links {
+    fn step(&mut self, words: &mut Words<'_>, answer: &mut Text) {
+        steps!(self, words, answer; push, whisper, linked, reply, talk, counts)
+    }
+}
+
 impl Links {
-    pub fn step(&mut self, words: Words<'_>, answer: &mut Text) {
-        if words.is(b"push") {
-            self.push(words, answer);
-        } else if words.is(b"whisper") {
-            self.whisper(words, answer);
-        } else if words.is(b"linked") {
-            self.linked(words, answer);
-        } else if words.is(b"reply") {
-            self.reply(words, answer);
-        } else if words.is(b"talk") {
-            self.talk(words, answer);
-        } else if words.is(b"counts") {
-            self.counts(words, answer);
-        } else {
-            answer.fail(Trouble::UnknownKey);
+    pub fn make(words: &mut Words<'_>, answer: &mut Text) -> Option<Self> {
+        match Link::new(words.alloc(), words.id()) {
+            Ok(link) => Some(Links { link }),
+            Err(_) => answer.refuse(Trouble::OutOfMemory),
         }
     }
 
     // `push HEX ..`: puts the body of the message with these frames.
-    fn push(&mut self, mut words: Words<'_>, answer: &mut Text) {
-        let frames = words.frames();
-        if words.end(answer) {
-            match Message::from_frames(words.alloc(), frames) {
-                Ok(mut message) => push(&mut self.link, &mut message, answer),
-                Err(_) => answer.fail(Trouble::BadArgument),
-            }
+    fn push(&mut self, words: &mut Words<'_>, answer: &mut Text) {
+        match Message::from_frames(words.alloc(), words.frames()) {
+            Ok(mut message) => push(&mut self.link, &mut message, answer),
+            Err(_) => answer.fail(Trouble::BadArgument),
         }
     }
 
     // `whisper COUNT`: puts a WHISPER of a frame of so many zeros.
-    fn whisper(&mut self, mut words: Words<'_>, answer: &mut Text) {
+    fn whisper(&mut self, words: &mut Words<'_>, answer: &mut Text) {
         let count = words.number();
         if count > CONTENT {
             answer.fail(Trouble::BadArgument);
-        } else if words.end(answer) {
+        } else {
             self.whisper_zeros(words.alloc(), count as usize, answer);
         }
     }
@@ -152,35 +123,28 @@ impl Links {
     }
 
     // `linked`
-    fn linked(&mut self, words: Words<'_>, answer: &mut Text) {
-        if words.end(answer) {
-            self.link.linked();
-        }
+    fn linked(&mut self, _words: &mut Words<'_>, _answer: &mut Text) {
+        self.link.linked();
     }
 
     // `reply HEX`: hears a piece of replies, and takes nothing of what may go out. It answers why it was refused.
-    fn reply(&mut self, mut words: Words<'_>, answer: &mut Text) {
-        let piece = words.octets();
-        if words.end(answer) {
-            let heard = reply(&mut self.link, piece.as_slice());
-            push_heard(answer, heard);
-        }
+    fn reply(&mut self, words: &mut Words<'_>, answer: &mut Text) {
+        let heard = reply(&mut self.link, words.octets().as_slice());
+        push_heard(answer, heard);
     }
 
-    // `talk MOST HEX`: hears replies in pieces of at most so many
-    // octets, and takes what may go out before and after each, at most
-    // so many octets at a time. It answers the octets that went out, and what is wrong with the last piece.
-    fn talk(&mut self, mut words: Words<'_>, answer: &mut Text) {
+    // `talk MOST HEX`: hears replies in pieces of at most so many octets, and takes what may go out before and after
+    // each, at most so many octets at a time. It answers the octets that went out, and what is wrong with the last
+    // piece.
+    fn talk(&mut self, words: &mut Words<'_>, answer: &mut Text) {
         let most = usize::try_from(words.number()).unwrap_or(usize::MAX).max(1);
         let replies = words.octets();
-        if words.end(answer) {
-            let mut out = Text::new(words.alloc());
-            let heard = self.hear(replies.as_slice(), most, &mut out);
-            if out.is_whole(answer) {
-                answer.hex_line(out.as_slice());
-            }
-            push_heard(answer, heard);
+        let mut out = Text::new(words.alloc());
+        let heard = self.hear(replies.as_slice(), most, &mut out);
+        if out.is_whole(answer) {
+            answer.hex_line(out.as_slice());
         }
+        push_heard(answer, heard);
     }
 
     fn hear(&mut self, replies: &[u8], most: usize, out: &mut Text) -> Result<(), ReplyFault> {
@@ -193,15 +157,13 @@ impl Links {
         heard
     }
 
-    // `counts` answers how many bodies were put, how many octets
-    // wait and may go out, and how many are kept of the replies.
-    fn counts(&self, words: Words<'_>, answer: &mut Text) {
-        if words.end(answer) {
-            answer.count(b"sent", self.link.sent());
-            answer.count(b" unsent", self.link.unsent());
-            answer.count(b" front", self.link.front().len() as u64);
-            answer.count(b" kept", self.link.kept());
-            answer.end();
-        }
+    // `counts` answers how many bodies were put, how many octets wait and may go out, and how many are kept of the
+    // replies.
+    fn counts(&self, _words: &mut Words<'_>, answer: &mut Text) {
+        answer.count(b"sent", self.link.sent());
+        answer.count(b" unsent", self.link.unsent());
+        answer.count(b" front", self.link.front().len() as u64);
+        answer.count(b" kept", self.link.kept());
+        answer.end();
     }
 }

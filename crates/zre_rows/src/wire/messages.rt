@@ -1,5 +1,6 @@
 //! Messages and their frames, read and written again, one message at a time.
 
+use crate::subject::{Subject, steps};
 use crate::text::Text;
 use crate::trouble::Trouble;
 use crate::wire::body::push_body;
@@ -46,7 +47,7 @@ fn push_read(out: &mut Text, read: Result<Message, ReadFault>) {
 fn push_lent(out: &mut Text, lent: &LentMessage<'_>) {
     out.count(b"lent", u64::from(lent.sequence));
     out.count(b"", lent.content.len() as u64);
-    push_command(out, lent.command);
+    push_command(out, &lent.command);
     out.end();
 }
 
@@ -56,19 +57,19 @@ fn push_group(out: &mut Text, word: &[u8], group: &[u8], status: u8) {
     out.count(b"", u64::from(status));
 }
 
-fn push_command(out: &mut Text, command: Command<'_>) {
+fn push_command(out: &mut Text, command: &Command<'_>) {
     match command {
         Command::Whisper => out.put(b" whisper"),
         Command::Shout { group } => {
             out.put(b" shout ");
             out.hex(group);
         }
-        Command::Join { group, status } => push_group(out, b" join ", group, status),
-        Command::Leave { group, status } => push_group(out, b" leave ", group, status),
+        Command::Join { group, status } => push_group(out, b" join ", group, *status),
+        Command::Leave { group, status } => push_group(out, b" leave ", group, *status),
         Command::Ping => out.put(b" ping"),
         Command::PingOk => out.put(b" ping-ok"),
         Command::Other { number, rest } => {
-            out.count(b" other", u64::from(number));
+            out.count(b" other", u64::from(*number));
             out.octet(b' ');
             out.hex(rest);
         }
@@ -86,17 +87,21 @@ fn push_seen(out: &mut Text, frames: &Frames) {
 // The octets of a message that fits on a connection, their number, and its frames where they are asked for.
 fn push_octets_of(alloc: Global, out: &mut Text, message: &Message, with_frames: bool) {
     if !message.fits() {
-        out.line(b"fits no frames");
-        return;
+        return out.line(b"fits no frames");
     }
     let mut octets = Octets::new(alloc);
     out.note(message.push_to(&mut octets));
-    out.hex(octets.as_slice());
-    out.count(b"", message.octets_len());
-    out.line(if message.is_big() { b" big" } else { b" fits" });
+    push_measured(out, octets.as_slice(), message);
+    drop(octets);
     if with_frames {
         push_frames(out, message.write(alloc));
     }
+}
+
+fn push_measured(out: &mut Text, octets: &[u8], message: &Message) {
+    out.hex(octets);
+    out.count(b"", message.octets_len());
+    out.line(if message.is_big() { b" big" } else { b" fits" });
 }
 
 fn push_frames(out: &mut Text, frames: Result<Frames, OutOfMemory>) {
@@ -111,25 +116,21 @@ fn push_frames(out: &mut Text, frames: Result<Frames, OutOfMemory>) {
     }
 }
 
-pub fn step(words: Words<'_>, answer: &mut Text) {
-    if words.is(b"read") {
-        read(words, answer);
-    } else if words.is(b"spell") {
-        spell(words, answer);
-    } else if words.is(b"join") {
-        join(words, answer);
-    } else if words.is(b"whisper") {
-        whisper(words, answer);
-    } else {
-        answer.fail(Trouble::UnknownKey);
+/// `on messages`: each step is of one message.
+#[derive(Drop)]
+pub struct Messages;
+
+impl Subject for Messages {
+    fn step(&mut self, words: &mut Words<'_>, answer: &mut Text) {
+        steps!(self, words, answer; read, spell, join, whisper)
     }
 }
 
-// `read HEX ..` answers what the frames mean; it has to be the same
-// whether they are lent or given. Then what lies in them.
-fn read(mut words: Words<'_>, answer: &mut Text) {
-    let frames = words.frames();
-    if words.end(answer) {
+impl Messages {
+    // `read HEX ..` answers what the frames mean; it has to be the same whether they are lent or given. Then what lies
+    // in them.
+    fn read(&self, words: &mut Words<'_>, answer: &mut Text) {
+        let frames = words.frames();
         let mut lent = Text::new(words.alloc());
         push_read(&mut lent, Message::read(words.alloc(), &frames));
         answer.add(&lent);
@@ -140,37 +141,33 @@ fn read(mut words: Words<'_>, answer: &mut Text) {
             answer.line(b"not so of frames that are given");
         }
     }
-}
 
-// `spell HEX ..` answers the octets of the message that the frames mean, and its frames.
-fn spell(mut words: Words<'_>, answer: &mut Text) {
-    let frames = words.frames();
-    if words.end(answer) {
-        match Message::read(words.alloc(), &frames) {
-            Ok(message) => push_octets_of(words.alloc(), answer, &message, true),
+    // `spell HEX ..` answers the octets of the message that the frames mean, and its frames.
+    fn spell(&self, words: &mut Words<'_>, answer: &mut Text) {
+        let alloc = words.alloc();
+        match Message::from_frames(alloc, words.frames()) {
+            Ok(message) => push_octets_of(alloc, answer, &message, true),
             Err(_) => answer.fail(Trouble::BadArgument),
         }
     }
-}
 
-// `join HEX`: the octets of a JOIN of this group with the number 9 and the status 0.
-fn join(mut words: Words<'_>, answer: &mut Text) {
-    let group = words.octets();
-    if words.end(answer) {
-        let body = Body::Join { group, status: 0 };
-        push_octets_of(words.alloc(), answer, &Message { sequence: 9, body }, false);
+    // `join HEX`: the octets of a JOIN of this group with the number 9 and the status 0.
+    fn join(&self, words: &mut Words<'_>, answer: &mut Text) {
+        let group = words.octets();
+        push_ninth(words.alloc(), answer, Body::Join { group, status: 0 });
     }
-}
 
-// `whisper COUNT HEX`: the octets of a WHISPER with so many frames of these octets and the number 9.
-fn whisper(mut words: Words<'_>, answer: &mut Text) {
-    let count = words.number();
-    let octets = words.octets();
-    if words.end(answer) {
+    // `whisper COUNT HEX`: the octets of a WHISPER with so many frames of these octets and the number 9.
+    fn whisper(&self, words: &mut Words<'_>, answer: &mut Text) {
+        let count = words.number();
+        let octets = words.octets();
         let content = copies_of(words.alloc(), count, octets.as_slice(), answer);
-        let body = Body::Whisper { content };
-        push_octets_of(words.alloc(), answer, &Message { sequence: 9, body }, false);
+        push_ninth(words.alloc(), answer, Body::Whisper { content });
     }
+}
+
+fn push_ninth(alloc: Global, answer: &mut Text, body: Body) {
+    push_octets_of(alloc, answer, &Message { sequence: 9, body }, false);
 }
 
 fn copies_of(alloc: Global, count: u64, octets: &[u8], answer: &mut Text) -> Frames {

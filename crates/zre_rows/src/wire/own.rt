@@ -1,12 +1,12 @@
 //! The groups that a node is in.
 
+use crate::subject::{Subject, steps};
 use crate::text::Text;
 use crate::trouble::Trouble;
 use crate::words::Words;
-use std::alloc::Global;
 use zre_group::{JoinFault, NoGroup, Own};
 
-/// The groups, from none on.
+/// `on own`: the groups, from none on.
 #[derive(Drop)]
 pub struct OwnGroups {
     own: Own,
@@ -30,53 +30,41 @@ fn push_left(answer: &mut Text, left: Result<u8, NoGroup>) {
     answer.end();
 }
 
-impl OwnGroups {
-    pub fn new(alloc: Global) -> Self {
-        OwnGroups {
-            own: Own::new(alloc),
-        }
+impl Subject for OwnGroups {
+    fn step(&mut self, words: &mut Words<'_>, answer: &mut Text) {
+        steps!(self, words, answer; join, leave, list)
     }
+}
 
-    pub fn step(&mut self, words: Words<'_>, answer: &mut Text) {
-        if words.is(b"join") {
-            self.join(words, answer);
-        } else if words.is(b"leave") {
-            self.leave(words, answer);
-        } else if words.is(b"list") {
-            self.list(words, answer);
-        } else {
-            answer.fail(Trouble::UnknownKey);
-        }
+impl OwnGroups {
+    pub fn make(words: &mut Words<'_>) -> Self {
+        let own = Own::new(words.alloc());
+        OwnGroups { own }
     }
 
     // `join HEX` answers the status, `same` or `limit`.
-    fn join(&mut self, mut words: Words<'_>, answer: &mut Text) {
+    fn join(&mut self, words: &mut Words<'_>, answer: &mut Text) {
         let group = words.octets();
         if group.len() > 255 {
             answer.fail(Trouble::BadArgument);
-        } else if words.end(answer) {
+        } else {
             push_joined(answer, self.own.join(group.as_slice()));
         }
     }
 
     // `leave HEX` answers the status, or `none`.
-    fn leave(&mut self, mut words: Words<'_>, answer: &mut Text) {
-        let group = words.octets();
-        if words.end(answer) {
-            push_left(answer, self.own.leave(group.as_slice()));
-        }
+    fn leave(&mut self, words: &mut Words<'_>, answer: &mut Text) {
+        push_left(answer, self.own.leave(words.octets().as_slice()));
     }
 
     // `list` answers the groups, a line each, and then their number and the status.
-    fn list(&self, words: Words<'_>, answer: &mut Text) {
-        if words.end(answer) {
-            for i in 0..self.own.len() {
-                answer.quoted(self.own.get(i));
-                answer.end();
-            }
-            answer.count(b"groups", self.own.len() as u64);
-            answer.count(b", status", u64::from(self.own.status()));
+    fn list(&self, _words: &mut Words<'_>, answer: &mut Text) {
+        for i in 0..self.own.len() {
+            answer.quoted(self.own.get(i));
             answer.end();
         }
+        answer.count(b"groups", self.own.len() as u64);
+        answer.count(b", status", u64::from(self.own.status()));
+        answer.end();
     }
 }

@@ -1,40 +1,43 @@
 //! The quoted texts of octets.
 
+use crate::subject::{Subject, steps};
 use crate::text::Text;
 use crate::trouble::Trouble;
 use crate::words::Words;
 use zre_values::{Octets, OutOfMemory, is_quoted, quote, unquote};
 
-/// Both ways, of one text at a time.
-pub fn step(words: Words<'_>, answer: &mut Text) {
-    if words.is(b"quote") {
-        push_quoted(words, answer);
-    } else if words.is(b"unquote") {
-        let unquoted = unquote(words.alloc(), words.rest());
-        push_unquoted(unquoted, is_quoted(words.rest()), answer);
-    } else {
-        answer.fail(Trouble::UnknownKey);
+/// `on quoting`: both ways, of one text at a time.
+#[derive(Drop)]
+pub struct Quoting;
+
+impl Subject for Quoting {
+    fn step(&mut self, words: &mut Words<'_>, answer: &mut Text) {
+        steps!(self, words, answer; quote, unquote)
     }
 }
 
-// `quote HEX` answers the text.
-fn push_quoted(mut words: Words<'_>, answer: &mut Text) {
-    let octets = words.octets();
-    if words.end(answer) {
-        match quote(words.alloc(), octets.as_slice()) {
+impl Quoting {
+    // `quote HEX` answers the text.
+    fn quote(&self, words: &mut Words<'_>, answer: &mut Text) {
+        match quote(words.alloc(), words.octets().as_slice()) {
             Ok(text) => answer.line(text.as_slice()),
             Err(OutOfMemory) => answer.fail(Trouble::OutOfMemory),
         }
     }
+
+    // `unquote TEXT` answers the octets, or `none`. The text is the rest of the line as it stands, and may be empty.
+    fn unquote(&self, words: &mut Words<'_>, answer: &mut Text) {
+        let text = words.take_rest();
+        push_unquoted(&unquote(words.alloc(), text), is_quoted(text), answer);
+    }
 }
 
-// `unquote TEXT` answers the octets, or `none`. The text is the rest of the line as it stands, and may be empty.
 fn push_unquoted(
-    unquoted: Result<Option<Octets>, OutOfMemory>,
+    unquoted: &Result<Option<Octets>, OutOfMemory>,
     is_quoted: bool,
     answer: &mut Text,
 ) {
-    match &unquoted {
+    match unquoted {
         Ok(Some(octets)) => answer.hex(octets.as_slice()),
         Ok(None) => answer.put(b"none"),
         Err(OutOfMemory) => answer.fail(Trouble::OutOfMemory),

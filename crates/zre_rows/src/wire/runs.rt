@@ -1,33 +1,19 @@
 //! The run of a peer's messages.
 
-use crate::subject::Subject;
+use crate::subject::{Subject, steps};
 use crate::text::Text;
 use crate::trouble::Trouble;
-use crate::wire::Wire;
 use crate::words::Words;
 use std::alloc::Global;
 use zre_msg::{LentMessage, Message};
 use zre_peer::{Run, RunFault, Teller, View};
 use zre_values::Frames;
 
-/// Two runs of the same messages: one that gives events, and one that writes their lines at once.
+/// `on runs ID`: two runs of the same messages, one that gives events, and one that writes their lines at once.
 #[derive(Drop)]
 pub struct Runs {
     run: Run,
     teller: Teller,
-}
-
-/// `on runs ID`
-pub fn make(mut words: Words<'_>, answer: &mut Text) -> Subject {
-    let id = words.id();
-    if words.end(answer) {
-        Subject::Wire(Wire::Runs(Runs {
-            run: Run::new(words.alloc(), id),
-            teller: Teller::new(words.alloc(), id),
-        }))
-    } else {
-        Subject::Missing
-    }
 }
 
 fn push_fault(out: &mut Text, fault: RunFault) {
@@ -135,39 +121,39 @@ fn push_headers(out: &mut Text, view: &View) {
     }
 }
 
+impl Subject for Runs {
+    fn step(&mut self, words: &mut Words<'_>, answer: &mut Text) {
+        steps!(self, words, answer; message, view)
+    }
+}
+
 impl Runs {
-    pub fn step(&mut self, words: Words<'_>, answer: &mut Text) {
-        if words.is(b"message") {
-            self.message(words, answer);
-        } else if words.is(b"view") {
-            self.view(words, answer);
-        } else {
-            answer.fail(Trouble::UnknownKey);
+    pub fn make(words: &mut Words<'_>) -> Self {
+        let id = words.id();
+        Runs {
+            run: Run::new(words.alloc(), id),
+            teller: Teller::new(words.alloc(), id),
         }
     }
 
     // `message HEX ..`: the lines of what the next message tells, or the fault. Both runs have to answer the same.
-    fn message(&mut self, mut words: Words<'_>, answer: &mut Text) {
+    fn message(&mut self, words: &mut Words<'_>, answer: &mut Text) {
         let frames = words.frames();
-        if words.end(answer) {
-            let mut lines = Text::new(words.alloc());
-            tell_lines(words.alloc(), &mut self.teller, &frames, &mut lines);
-            let mut events = Text::new(words.alloc());
-            tell_events(words.alloc(), &mut self.run, &frames, &mut events);
-            answer.add(&events);
-            if !answer.is_same(&lines, &events) {
-                answer.line(b"not so where lines are written at once");
-            }
+        let mut lines = Text::new(words.alloc());
+        tell_lines(words.alloc(), &mut self.teller, &frames, &mut lines);
+        let mut events = Text::new(words.alloc());
+        tell_events(words.alloc(), &mut self.run, &frames, &mut events);
+        answer.add(&events);
+        if !answer.is_same(&lines, &events) {
+            answer.line(b"not so where lines are written at once");
         }
     }
 
     // `view` answers what the peer has told of itself.
-    fn view(&self, words: Words<'_>, answer: &mut Text) {
-        if words.end(answer) {
-            match self.run.view() {
-                Some(view) => push_view(answer, view),
-                None => answer.line(b"none"),
-            }
+    fn view(&self, _words: &mut Words<'_>, answer: &mut Text) {
+        match self.run.view() {
+            Some(view) => push_view(answer, view),
+            None => answer.line(b"none"),
         }
     }
 }

@@ -1,16 +1,16 @@
 //! Streams of ZMTP, in any pieces.
 
-use crate::subject::Subject;
+use crate::subject::{Subject, steps};
 use crate::text::Text;
 use crate::trouble::Trouble;
-use crate::wire::Wire;
 use crate::wire::texts::{push_fault, push_fed};
 use crate::words::Words;
 use std::alloc::Global;
 use zre_values::{Frames, Octets};
 use zre_zmtp::{Item, Items, Reader, Want, What};
 
-/// A reader with the items of the last step, and what it wants; traffic alone where it wants nothing.
+/// `on streams traffic`, `any`, `router` or `dealer ID`, where the identity is the node's own: a reader with the items
+/// of the last step, and what it wants; traffic alone where it wants nothing.
 #[derive(Drop)]
 pub struct Streams {
     want: Option<Want>,
@@ -84,33 +84,35 @@ fn push_items(out: &mut Text, items: &Items) {
     }
 }
 
-/// `on streams traffic`, `any`, `router` or `dealer ID`, where the identity is the node's own.
-pub fn make(words: Words<'_>, answer: &mut Text) -> Subject {
-    let mut wanted = Words::of_line(words.alloc(), words.rest());
-    if wanted.is(b"dealer") {
-        let id = wanted.id();
-        make_of(wanted, Some(Want::Dealer(id)), answer)
-    } else if wanted.is(b"traffic") {
-        make_of(wanted, None, answer)
-    } else if wanted.is(b"any") {
-        make_of(wanted, Some(Want::Any), answer)
-    } else if wanted.is(b"router") {
-        make_of(wanted, Some(Want::Router), answer)
+fn want_of(kind: &[u8], words: &mut Words<'_>, answer: &mut Text) -> Option<Want> {
+    if kind == b"dealer".as_slice() {
+        Some(Want::Dealer(words.id()))
+    } else if kind == b"router".as_slice() {
+        Some(Want::Router)
+    } else if kind == b"any".as_slice() {
+        Some(Want::Any)
     } else {
-        answer.fail(Trouble::BadArgument);
-        Subject::Missing
+        answer.refuse(Trouble::BadArgument)
     }
 }
 
-fn make_of(words: Words<'_>, want: Option<Want>, answer: &mut Text) -> Subject {
-    if words.end(answer) {
-        Subject::Wire(Wire::Streams(Streams::new(words.alloc(), want)))
-    } else {
-        Subject::Missing
+impl Subject for Streams {
+    fn step(&mut self, words: &mut Words<'_>, answer: &mut Text) {
+        steps!(self, words, answer; feed, contents, rest, cuts, octets)
     }
 }
 
 impl Streams {
+    pub fn make(words: &mut Words<'_>, answer: &mut Text) -> Option<Self> {
+        let kind = words.field();
+        let want = if kind == b"traffic".as_slice() {
+            None
+        } else {
+            want_of(kind, words, answer)
+        };
+        Some(Streams::new(words.alloc(), want))
+    }
+
     fn new(alloc: Global, want: Option<Want>) -> Self {
         Streams {
             want,
@@ -147,28 +149,9 @@ impl Streams {
         }
     }
 
-    pub fn step(&mut self, words: Words<'_>, answer: &mut Text) {
-        if words.is(b"feed") {
-            self.feed(words, answer);
-        } else if words.is(b"contents") {
-            self.contents(words, answer);
-        } else if words.is(b"rest") {
-            self.rest(words, answer);
-        } else if words.is(b"cuts") {
-            self.cuts(words, answer);
-        } else if words.is(b"octets") {
-            self.octets(words, answer);
-        } else {
-            answer.fail(Trouble::UnknownKey);
-        }
-    }
-
     // `feed HEX ..`: reads pieces one after another.
-    fn feed(&mut self, mut words: Words<'_>, answer: &mut Text) {
-        let pieces = words.frames();
-        if words.end(answer) {
-            self.feed_pieces(&pieces, answer);
-        }
+    fn feed(&mut self, words: &mut Words<'_>, answer: &mut Text) {
+        self.feed_pieces(&words.frames(), answer);
     }
 
     fn feed_pieces(&mut self, pieces: &Frames, answer: &mut Text) {
@@ -183,22 +166,18 @@ impl Streams {
     }
 
     // `contents`: the frames of each message of the last step.
-    fn contents(&self, words: Words<'_>, answer: &mut Text) {
-        if words.end(answer) {
-            for item in self.items.as_slice() {
-                if let What::Message(frames) = &item.what {
-                    answer.frames(frames);
-                    answer.end();
-                }
+    fn contents(&self, _words: &mut Words<'_>, answer: &mut Text) {
+        for item in self.items.as_slice() {
+            if let What::Message(frames) = &item.what {
+                answer.frames(frames);
+                answer.end();
             }
         }
     }
 
     // `rest`: whether the stream is at rest, and how many octets are kept.
-    fn rest(&self, words: Words<'_>, answer: &mut Text) {
-        if words.end(answer) {
-            self.push_rest(answer);
-        }
+    fn rest(&self, _words: &mut Words<'_>, answer: &mut Text) {
+        self.push_rest(answer);
     }
 
     // What comes of a piece, and of others of at most so many octets after it.
@@ -215,13 +194,11 @@ impl Streams {
 
     // `cuts HEX`: what comes of the octets in one piece. Each cut into
     // two pieces, and one octet after another, has to answer the same.
-    fn cuts(&self, mut words: Words<'_>, answer: &mut Text) {
+    fn cuts(&self, words: &mut Words<'_>, answer: &mut Text) {
         let octets = words.octets();
-        if words.end(answer) {
-            let whole = self.text_of(words.alloc(), octets.as_slice(), &[], 1);
-            answer.add(&whole);
-            self.compare_cuts(words.alloc(), octets.as_slice(), &whole, answer);
-        }
+        let whole = self.text_of(words.alloc(), octets.as_slice(), &[], 1);
+        answer.add(&whole);
+        self.compare_cuts(words.alloc(), octets.as_slice(), &whole, answer);
     }
 
     fn compare_cuts(&self, alloc: Global, octets: &[u8], whole: &Text, answer: &mut Text) {
@@ -240,16 +217,13 @@ impl Streams {
     }
 
     // `octets HEX`: reads one octet after another up to the first fault, and tells which octet showed it.
-    fn octets(&mut self, mut words: Words<'_>, answer: &mut Text) {
-        let octets = words.octets();
-        if words.end(answer) {
-            match self.first_refused(octets.as_slice(), answer) {
-                Some(i) => {
-                    answer.count(b"shown by octet", i);
-                    answer.end();
-                }
-                None => self.push_rest(answer),
+    fn octets(&mut self, words: &mut Words<'_>, answer: &mut Text) {
+        match self.first_refused(words.octets().as_slice(), answer) {
+            Some(i) => {
+                answer.count(b"shown by octet", i);
+                answer.end();
             }
+            None => self.push_rest(answer),
         }
     }
 

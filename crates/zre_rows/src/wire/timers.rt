@@ -2,6 +2,7 @@
 
 ghost use Rattle.zre_timers.specs.Moments.{NoneAfter};
 
+use crate::subject::{Subject, steps};
 use crate::text::Text;
 use crate::trouble::Trouble;
 use crate::wire::texts::push_keys;
@@ -17,7 +18,7 @@ struct Touch {
     at: Option<u64>,
 }
 
-/// What was done to the keys so far.
+/// `on timers`: what was done to the keys so far.
 #[derive(Drop)]
 pub struct Moments {
     alloc: Global,
@@ -65,23 +66,18 @@ fn push_due(answer: &mut Text, due: Result<Due, OutOfMemory>) {
     }
 }
 
+impl Subject for Moments {
+    fn step(&mut self, words: &mut Words<'_>, answer: &mut Text) {
+        steps!(self, words, answer; touch, forget, due)
+    }
+}
+
 impl Moments {
-    pub fn new(alloc: Global) -> Self {
+    pub fn make(words: &mut Words<'_>) -> Self {
+        let alloc = words.alloc();
         Moments {
             alloc,
             touches: Vec::new(alloc),
-        }
-    }
-
-    pub fn step(&mut self, words: Words<'_>, answer: &mut Text) {
-        if words.is(b"touch") {
-            self.touch(words, answer);
-        } else if words.is(b"forget") {
-            self.forget(words, answer);
-        } else if words.is(b"due") {
-            self.due(words, answer);
-        } else {
-            answer.fail(Trouble::UnknownKey);
         }
     }
 
@@ -92,34 +88,28 @@ impl Moments {
     }
 
     // `touch KEY AT`
-    fn touch(&mut self, mut words: Words<'_>, answer: &mut Text) {
+    fn touch(&mut self, words: &mut Words<'_>, answer: &mut Text) {
         let key = words.number();
         let at = Some(words.number());
-        if words.end(answer) {
-            self.push(Touch { key, at }, answer);
-        }
+        self.push(Touch { key, at }, answer);
     }
 
     // `forget KEY`
-    fn forget(&mut self, mut words: Words<'_>, answer: &mut Text) {
+    fn forget(&mut self, words: &mut Words<'_>, answer: &mut Text) {
         let key = words.number();
-        if words.end(answer) {
-            self.push(Touch { key, at: None }, answer);
-        }
+        self.push(Touch { key, at: None }, answer);
     }
 
     // `due NOW EVASIVE EXPIRED` answers the two lists.
-    fn due(&self, mut words: Words<'_>, answer: &mut Text) {
+    fn due(&self, words: &mut Words<'_>, answer: &mut Text) {
         let now = words.number();
         let evasive = words.number();
         let expired = words.number();
         if evasive > expired {
             answer.fail(Trouble::BadArgument);
-        } else if words.end(answer) {
+        } else {
             let timers = changed(self.alloc, self.touches.as_slice(), now, answer);
-            if !answer.has_fault() {
-                push_due(answer, timers.due(now, evasive, expired));
-            }
+            push_due(answer, timers.due(now, evasive, expired));
         }
     }
 }

@@ -1,5 +1,6 @@
 //! Numbers, identities, addresses and endpoints in their texts.
 
+use crate::subject::{Subject, steps};
 use crate::text::Text;
 use crate::trouble::Trouble;
 use crate::words::Words;
@@ -36,12 +37,11 @@ fn push_addr(answer: &mut Text, found: Option<[u8; 4]>) {
 fn push_endpoint(alloc: Global, answer: &mut Text, text: &[u8]) {
     match Endpoint::read(text) {
         Some(endpoint) => {
-            let written = endpoint.write(alloc);
             answer.hex(&endpoint.addr);
             answer.octet(b' ');
             answer.number(u64::from(endpoint.port));
             answer.octet(b' ');
-            push_written(answer, written);
+            push_written(answer, endpoint.write(alloc));
         }
         None => answer.put(b"none"),
     }
@@ -62,26 +62,34 @@ fn id_of(text: &[u8]) -> Option<PeerId> {
     }
 }
 
-/// Each step takes a quoted text, and answers what it says, or `none`.
-pub fn step(mut words: Words<'_>, answer: &mut Text) {
-    let text = words.text();
-    if words.end(answer) {
-        answer_text(words, text.as_slice(), answer);
+/// `on values`: each step takes a quoted text, and answers what it says, or `none`.
+#[derive(Drop)]
+pub struct Values;
+
+impl Subject for Values {
+    fn step(&mut self, words: &mut Words<'_>, answer: &mut Text) {
+        steps!(self, words, answer; number, id, plain, address, endpoint)
     }
 }
 
-fn answer_text(words: Words<'_>, text: &[u8], answer: &mut Text) {
-    if words.is(b"number") {
-        answer.number_line(read_decimal(text));
-    } else if words.is(b"id") {
-        push_id(answer, id_of(text));
-    } else if words.is(b"plain") {
-        push_id(answer, PeerId::read_plain(text));
-    } else if words.is(b"address") {
-        push_addr(answer, read_address(text));
-    } else if words.is(b"endpoint") {
-        push_endpoint(words.alloc(), answer, text);
-    } else {
-        answer.fail(Trouble::UnknownKey);
+impl Values {
+    fn number(&self, words: &mut Words<'_>, answer: &mut Text) {
+        answer.number_line(read_decimal(words.text().as_slice()));
+    }
+
+    fn id(&self, words: &mut Words<'_>, answer: &mut Text) {
+        push_id(answer, id_of(words.text().as_slice()));
+    }
+
+    fn plain(&self, words: &mut Words<'_>, answer: &mut Text) {
+        push_id(answer, PeerId::read_plain(words.text().as_slice()));
+    }
+
+    fn address(&self, words: &mut Words<'_>, answer: &mut Text) {
+        push_addr(answer, read_address(words.text().as_slice()));
+    }
+
+    fn endpoint(&self, words: &mut Words<'_>, answer: &mut Text) {
+        push_endpoint(words.alloc(), answer, words.text().as_slice());
     }
 }

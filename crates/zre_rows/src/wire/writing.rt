@@ -1,5 +1,6 @@
 //! What is written of a stream.
 
+use crate::subject::{Subject, steps};
 use crate::text::Text;
 use crate::trouble::Trouble;
 use crate::words::Words;
@@ -13,73 +14,56 @@ fn push_written(answer: &mut Text, written: Result<Octets, OutOfMemory>) {
     }
 }
 
-/// The greeting, READY, PONG, and the frames of messages.
-pub fn step(words: Words<'_>, answer: &mut Text) {
-    if words.is(b"greeting") {
-        push_greeting(words, answer);
-    } else if words.is(b"router") {
-        push_router(words, answer);
-    } else if words.is(b"dealer") {
-        push_dealer(words, answer);
-    } else if words.is(b"pong") {
-        push_pong(words, answer);
-    } else if words.is(b"context") {
-        push_context(words, answer);
-    } else if words.is(b"message") {
-        push_message(words, answer);
-    } else {
-        answer.fail(Trouble::UnknownKey);
+/// `on writing`: the greeting, READY, PONG, and the frames of messages.
+#[derive(Drop)]
+pub struct Writing;
+
+impl Subject for Writing {
+    fn step(&mut self, words: &mut Words<'_>, answer: &mut Text) {
+        steps!(self, words, answer; greeting, router, dealer, pong, context, message)
     }
 }
 
-// `greeting`
-fn push_greeting(words: Words<'_>, answer: &mut Text) {
-    if words.end(answer) {
+impl Writing {
+    // `greeting`
+    fn greeting(&self, _words: &mut Words<'_>, answer: &mut Text) {
         answer.hex_line(&greeting());
     }
-}
 
-// `router`: READY of a mailbox.
-fn push_router(words: Words<'_>, answer: &mut Text) {
-    if words.end(answer) {
+    // `router`: READY of a mailbox.
+    fn router(&self, words: &mut Words<'_>, answer: &mut Text) {
         push_written(answer, ready(words.alloc(), SocketType::Router, None));
     }
-}
 
-// `dealer ID`: READY of the node with this identity.
-fn push_dealer(mut words: Words<'_>, answer: &mut Text) {
-    let id = words.id();
-    if words.end(answer) {
-        push_written(answer, ready(words.alloc(), SocketType::Dealer, Some(id)));
+    // `dealer ID`: READY of the node with this identity.
+    fn dealer(&self, words: &mut Words<'_>, answer: &mut Text) {
+        let id = Some(words.id());
+        push_written(answer, ready(words.alloc(), SocketType::Dealer, id));
     }
-}
 
-// `pong HEX`: PONG with this context.
-fn push_pong(mut words: Words<'_>, answer: &mut Text) {
-    let context = words.octets();
-    if words.end(answer) {
+    // `pong HEX`: PONG with this context.
+    fn pong(&self, words: &mut Words<'_>, answer: &mut Text) {
+        let context = words.octets();
         push_written(answer, pong(words.alloc(), context.as_slice()));
     }
-}
 
-// `context HEX HEX`: the context of the command with this name and these octets after it, or `none`.
-fn push_context(mut words: Words<'_>, answer: &mut Text) {
-    let name = words.octets();
-    let rest = words.octets();
-    if words.end(answer) {
+    // `context HEX HEX`: the context of the command with this name and these octets after it, or `none`.
+    fn context(&self, words: &mut Words<'_>, answer: &mut Text) {
+        let name = words.octets();
+        let rest = words.octets();
         match context_of(name.as_slice(), rest.as_slice()) {
             Some(context) => answer.hex_line(context),
             None => answer.line(b"none"),
         }
     }
-}
 
-// `message HEX ..`: the octets of frames with these bodies, of which there is one at least.
-fn push_message(mut words: Words<'_>, answer: &mut Text) {
-    let frames = words.frames();
-    if frames.len() < 1 {
-        answer.fail(Trouble::BadArgument);
-    } else if words.end(answer) {
-        push_written(answer, write_message(words.alloc(), &frames));
+    // `message HEX ..`: the octets of frames with these bodies, of which there is one at least.
+    fn message(&self, words: &mut Words<'_>, answer: &mut Text) {
+        let frames = words.frames();
+        if frames.len() < 1 {
+            answer.fail(Trouble::BadArgument);
+        } else {
+            push_written(answer, write_message(words.alloc(), &frames));
+        }
     }
 }

@@ -38,7 +38,7 @@ pub fn call_plain(
 }
 
 /// Any command, with a limit.
-pub fn call_run<T: Threads + Wait + Copy + Send + 'static>(
+pub fn call<T: Threads + Wait + Copy + Send + 'static>(
     rt: T,
     alloc: Global,
     words: &Frames,
@@ -46,27 +46,12 @@ pub fn call_run<T: Threads + Wait + Copy + Send + 'static>(
     out: &mut MemSink,
     limit: u64,
 ) -> Ran {
-    let Stand {
-        input,
-        world,
-        rec,
-        threads,
-    } = stand;
+    let Stand { input, world, rec, threads } = stand;
     let mut spawner = PlainSpawner::new(rt, alloc, threads);
-    run(
-        rt,
-        alloc,
-        words,
-        input,
-        world,
-        out,
-        rec,
-        &mut spawner,
-        limit,
-    )
+    run(rt, alloc, words, input, world, out, rec, &mut spawner, limit)
 }
 
-/// Any command, with no limit.
+/// Any command, with the limit of the program.
 pub fn call_zre<T: Threads + Wait + Copy + Send + 'static>(
     rt: T,
     alloc: Global,
@@ -74,12 +59,7 @@ pub fn call_zre<T: Threads + Wait + Copy + Send + 'static>(
     stand: Stand,
     out: &mut MemSink,
 ) -> Ran {
-    let Stand {
-        input,
-        world,
-        rec,
-        threads,
-    } = stand;
+    let Stand { input, world, rec, threads } = stand;
     let mut spawner = PlainSpawner::new(rt, alloc, threads);
     zre(rt, alloc, words, input, world, out, rec, &mut spawner)
 }

@@ -2,7 +2,8 @@ use Rattle.std.proofs.Common.{List, [], ◌∷◌, ◌++◌, length, ap, ◌∙�
 use Rattle.zre_journal.specs.Events.{events}
 use Rattle.zre_peer.specs.declared.event.Event.{Event}
 use Rattle.zre_commands.specs.exercise.Counts.{tally}
-use Rattle.zre_commands.proofs.exercise.Running.{on_ok, entry_counted, steps_on}
+use Rattle.zre_values.proofs.Answered.{on_ok}
+use Rattle.zre_commands.proofs.exercise.Running.{entry_counted, steps_on}
 use Rattle.zre_commands.proofs.exercise.run.take.Goals as goal
 
 pub returns : goal.returns

@@ -1,19 +1,39 @@
-use Rattle.std.proofs.Common.{◌≡◌, ◌++◌, length, take, refl, sym, ap, ◌∙◌, subst, arith, inl, inr}
+use Rattle.std.proofs.Common.{◌≡◌, [], ◌++◌, length, take, refl, sym, ap, ◌∙◌, subst, arith, inl, inr}
 use Rattle.std.proofs.lemmas.List.{length-take, length-take-le, append-nil}
 use Rattle.std.proofs.KnownBytes.{Appends-kept}
 use Rattle.zre_outside.specs.Told.{Moves}
-use Rattle.zre_commands.proofs.pump.Reach.{Moves-trans, starts, goes_on, written_more, counted_more, Rose-since, finished, front_of_more}
+use Rattle.zre_commands.proofs.pump.Reach.{Moves-nil, Moves-trans, front_longer, starts, goes_on, written_more, counted_more, Rose-since, finished, front_of_more}
 use Rattle.zre_commands.proofs.pump.pumping.pump.Goals as goal
 
 pub loop-taken-init : goal.loop-taken-init
 loop-taken-init g c = record {
-  reached = starts _ _ _ _ _ c.requires.start c.requires.nothing c.requires.going;
+  reached = starts _ _ _ _ _ _ c.requires.start (c.in-Ok-begin.ensures.begun c.requires.start) c.requires.going;
   same = refl;
   within = omega arith;
   room = c.in-Ok.ensures;
   reads = omega arith;
-  writes = omega arith;
+  writes = c.begin.ensures.writes;
 }
+
+pub returns-in-Err-Failed-clause-pumped : goal.returns-in-Err-Failed-clause-pumped
+returns-in-Err-Failed-clause-pumped g c =
+    let f = rw c.in-Err-Failed.field-0-is at (c.in-Err-Failed.ensures.failed c.requires.start) in
+    record {
+      octets = [];
+      moved = Moves-nil _ _;
+      within = omega arith;
+      outcome = (f.0, front_longer _ _ ((g.M.Machine.says c.args.machine.now).text []) ((g.M.Machine.says c.args.machine.now).ending []) f.1);
+    }
+
+pub returns-in-Err-OutOfMemory-clause-pumped : goal.returns-in-Err-OutOfMemory-clause-pumped
+returns-in-Err-OutOfMemory-clause-pumped g c =
+    let f = rw c.in-Err-OutOfMemory.field-0-is at (c.in-Err-OutOfMemory.ensures.failed c.requires.start) in
+    record {
+      octets = [];
+      moved = Moves-nil _ _;
+      within = omega arith;
+      outcome = front_longer _ _ ((g.M.Machine.says c.args.machine.now).text []) ((g.M.Machine.says c.args.machine.now).ending []) f;
+    }
 
 pub loop-taken-preserved : goal.loop-taken-preserved
 loop-taken-preserved g c =

@@ -1,7 +1,7 @@
 use Rattle.std.proofs.Common.{◌++◌, List, ap, ◌∙◌}
 use Rattle.zre_peer.specs.Lines.{lines}
 use Rattle.zre_peer.specs.declared.event.Event.{Event}
-use Rattle.zre_commands.proofs.replay.Telling.{on_ok}
+use Rattle.zre_values.proofs.Answered.{on_ok}
 use Rattle.zre_commands.proofs.replay.taking.take_entry.Goals as goal
 
 pub returns : goal.returns

@@ -1,6 +1,6 @@
 use Rattle.std.proofs.Common.{sym, subst, ◌∙◌}
 use Rattle.zre_peer.specs.Standing.{Stands}
-use Rattle.zre_commands.proofs.follow.Growing.{nothing_over, no_messages, no_fault, text_nothing, nothing_stopped}
+use Rattle.zre_commands.proofs.follow.Growing.{nothing_over, no_messages, no_fault, nothing_stopped}
 use Rattle.zre_commands.proofs.follow.follower.Follower.new.Goals as goal
 
 pub returns-clause-fed : goal.returns-clause-fed
@@ -10,9 +10,6 @@ returns-clause-fed c = record {
   faulty = λ _. sym no_fault;
   reads = λ _ _. c.traffic.ensures;
 }
-
-pub returns-clause-nothing : goal.returns-clause-nothing
-returns-clause-nothing c = text_nothing c.args.id
 
 pub returns-clause-going : goal.returns-clause-going
 returns-clause-going c = nothing_stopped

@@ -1,0 +1,3 @@
+pub mod Upgrade
+pub mod Upgrader
+pub mod Written
