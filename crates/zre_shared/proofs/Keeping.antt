@@ -1,0 +1,164 @@
+-- How the map of a replica keeps its table.
+use Rattle.std.proofs.Common.{◌≡◌, ℕ, ◌+◌, ◌<◌, ◌≤◌, ◌^◌, max, Bool, true, false, cond, List, [], ◌∷◌, ◌++◌, length, Option, Some, None, map, All, get_or, refl, sym, ap, ◌∙◌, subst, arith}
+use Rattle.std.specs.BTreeMap as tree
+use Rattle.std.specs.BTreeMap.{is_at, insert_entry}
+use Rattle.std.specs.Cmp.Lexicographic.{slice_cmp}
+use Rattle.std.specs.List.{AllByRecursion}
+use Rattle.std.specs.List.Sorted.{IsStrictlySortedBy}
+use Rattle.std.specs.Map.{lookup, keys_of, values_of}
+use Rattle.std.specs.Option.{option_map_or}
+use Rattle.std.specs.Ordering.{nat_cmp, match_ordering, is_lt, is_eq}
+use Rattle.std.specs.declared.cmp.Ordering.{Ordering}
+use Rattle.std.specs.declared.cmp.Ordering.TheVariants.{Less, Equal, Greater}
+use Rattle.std.proofs.lemmas.List.{get_or_default}
+use Rattle.std.proofs.lemmas.List.Elements.{All-from_recursion, recursion_from_All}
+use Rattle.std.proofs.lemmas.Map.Entries.{lookup_head, lookup_tail}
+use Rattle.std.proofs.lemmas.Map.Keys.{sorted_head, sorted_tail}
+use Rattle.std.proofs.lemmas.Map.Lookups.{exact_bytes}
+use Rattle.zre_values.specs.declared.peer_id.PeerId.{PeerId}
+use Rattle.zre_shared.specs.declared.write.Write.{Write}
+use Rattle.zre_shared.specs.Kept.{Name, Map, by_name, IsAtKey, IsKept}
+use Rattle.zre_shared.specs.Replicas.{Held, with_write, greatest_count, next_write}
+use Rattle.zre_shared.specs.Tables.{by_key, by_age, greater, put, table}
+use Rattle.zre_shared.specs.Writes.{IsWrite}
+use Rattle.zre_shared.proofs.Ages.{by_count}
+use Rattle.zre_shared.proofs.Members.{Rising, rising-head, rising-tail, rising-nil, rising-cons, at_member, all_members}
+use Rattle.zre_shared.proofs.Putting.{less_of_all, put-count, count-within}
+use Rattle.zre_shared.proofs.Tabling.{put-table}
+
+abbrev pub Entries : Type 0
+Entries = List (Name × Write)
+
+abbrev pub AtKeys : Entries → Type 0
+AtKeys es = AllByRecursion IsAtKey es
+
+-- ---- keys rise
+
+above : (e : Name × Write) (es : Entries) → AllByRecursion (λ y. by_name e.0 y ≡ Less) (keys_of es) → IsAtKey e → AtKeys es → AllByRecursion (λ y. by_key e.1 y ≡ Less) (values_of es)
+above e [] less at all = tt
+above e (f ∷ fs) less at all = ((λ i. slice_cmp nat_cmp (sym at.key i) (sym all.0.key i)) ∙ less.0, above e fs less.1 at all.1)
+
+pub rising-values : (es : Entries) → IsStrictlySortedBy by_name (keys_of es) → AtKeys es → Rising (values_of es)
+rising-values [] s at = rising-nil
+rising-values (e ∷ es) s at =
+    rising-cons e.1 (values_of es) (above e es (sorted_head by_name e.0 (keys_of es) s) at.0 at.1) (rising-values es (sorted_tail by_name e.0 (keys_of es) s) at.1)
+
+-- ---- the write of a key
+
+abbrev pub finds : List ℕ → Name → Bool
+finds key name = is_at (λ (x : Name). slice_cmp nat_cmp key x.items) name
+
+abbrev pub is_news : Option Write → Write → Bool
+is_news held w = option_map_or (λ v. is_lt (by_age v w)) held true
+
+finds-by : (w : Write) (e : Name × Write) → IsAtKey e → (o : Ordering) → by_key w e.1 ≡ o → finds w.key e.0 ≡ is_eq o
+finds-by w e at o is = ap is_eq (ap (slice_cmp nat_cmp w.key) at.key ∙ is)
+
+absent : (w : Write) (es : Entries) → AllByRecursion (λ v. by_key w v ≡ Less) (values_of es) → AtKeys es → lookup (finds w.key) es ≡ None
+absent w [] less at = refl
+absent w (e ∷ es) less at = lookup_tail (finds w.key) e es (finds-by w e at.0 Less less.0) ∙ absent w es less.1 at.1
+
+-- what a write that is news makes of the writes
+pub news : (w : Write) (k : Name) → k.items ≡ w.key → (es : Entries) → Rising (values_of es) → AtKeys es → is_news (lookup (finds w.key) es) w ≡ true → values_of (insert_entry by_name es k w) ≡ put w (values_of es)
+news w k same [] r at n = refl
+news w k same (e ∷ es) r at n =
+    let cmp : by_name k e.0 ≡ by_key w e.1 = λ i. slice_cmp nat_cmp (same i) (at.0.key i) in
+    ap (λ (o : Ordering). values_of (match_ordering o ((k, w) ∷ e ∷ es) ((e.0, w) ∷ es) (e ∷ insert_entry by_name es k w))) cmp
+    ∙ elim (by_key w e.1) as (λ o. by_key w e.1 ≡ o → values_of (match_ordering o ((k, w) ∷ e ∷ es) ((e.0, w) ∷ es) (e ∷ insert_entry by_name es k w)) ≡ match_ordering o (w ∷ e.1 ∷ values_of es) (greater w e.1 ∷ values_of es) (e.1 ∷ put w (values_of es))) [
+      | Less ↦ λ o. refl
+      | Equal ↦ λ o.
+          let found : lookup (finds w.key) (e ∷ es) ≡ Some e.1 = lookup_head (finds w.key) e es (finds-by w e at.0 Equal o) in
+          let lt : is_lt (by_age e.1 w) ≡ true = ap (λ (x : Option Write). is_news x w) (sym found) ∙ n in
+          ap (λ (b : Bool). cond b w e.1 ∷ values_of es) (sym lt)
+      | Greater ↦ λ o.
+          let tail : lookup (finds w.key) (e ∷ es) ≡ lookup (finds w.key) es = lookup_tail (finds w.key) e es (finds-by w e at.0 Greater o) in
+          ap (λ (vs : List Write). e.1 ∷ vs) (news w k same es (rising-tail e.1 (values_of es) r) at.1 (ap (λ (x : Option Write). is_news x w) (sym tail) ∙ n))
+    ] refl
+
+-- one that isn't makes nothing
+pub old : (w : Write) (es : Entries) → Rising (values_of es) → AtKeys es → is_news (lookup (finds w.key) es) w ≡ false → values_of es ≡ put w (values_of es)
+old w [] r at n = absurd cc
+old w (e ∷ es) r at n =
+    elim (by_key w e.1) as (λ o. by_key w e.1 ≡ o → e.1 ∷ values_of es ≡ match_ordering o (w ∷ e.1 ∷ values_of es) (greater w e.1 ∷ values_of es) (e.1 ∷ put w (values_of es))) [
+      | Less ↦ λ o.
+          let none : lookup (finds w.key) (e ∷ es) ≡ None = absent w (e ∷ es) (o, less_of_all w e.1 (values_of es) o (rising-head e.1 (values_of es) r)) at in
+          let news_too : true ≡ false = ap (λ (x : Option Write). is_news x w) (sym none) ∙ n in
+          absurd cc
+      | Equal ↦ λ o.
+          let found : lookup (finds w.key) (e ∷ es) ≡ Some e.1 = lookup_head (finds w.key) e es (finds-by w e at.0 Equal o) in
+          let lt : is_lt (by_age e.1 w) ≡ false = ap (λ (x : Option Write). is_news x w) (sym found) ∙ n in
+          ap (λ (b : Bool). cond b w e.1 ∷ values_of es) (sym lt)
+      | Greater ↦ λ o.
+          let tail : lookup (finds w.key) (e ∷ es) ≡ lookup (finds w.key) es = lookup_tail (finds w.key) e es (finds-by w e at.0 Greater o) in
+          ap (λ (vs : List Write). e.1 ∷ vs) (old w es (rising-tail e.1 (values_of es) r) at.1 (ap (λ (x : Option Write). is_news x w) (sym tail) ∙ n))
+    ] refl
+
+inserted : (w : Write) (k : Name) → k.items ≡ w.key → IsWrite w → (es : Entries) → AtKeys es → AtKeys (insert_entry by_name es k w)
+inserted w k same is [] at = (record { key = same; fits = is }, tt)
+inserted w k same is (e ∷ es) at =
+    elim (by_name k e.0) as (λ o. by_name k e.0 ≡ o → AtKeys (match_ordering o ((k, w) ∷ e ∷ es) ((e.0, w) ∷ es) (e ∷ insert_entry by_name es k w))) [
+      | Less ↦ λ o. (record { key = same; fits = is }, at)
+      | Equal ↦ λ o. (record { key = sym (exact_bytes k.items e.0.items o) ∙ same; fits = is }, at.1)
+      | Greater ↦ λ o. (at.0, inserted w k same is es at.1)
+    ] refl
+
+-- ---- the replica
+
+pub at_keys : (m : Map) (g : ℕ) (id : PeerId) → IsKept m g id → AtKeys m.entries
+at_keys m g id h = recursion_from_All IsAtKey m.entries h.entries
+
+pub rising : (m : Map) (g : ℕ) (id : PeerId) → IsKept m g id → Rising (values_of m.entries)
+rising m g id h = rising-values m.entries h.ordered (at_keys m g id h)
+
+fits_in : (es : Entries) → AtKeys es → AllByRecursion IsWrite (values_of es)
+fits_in [] at = tt
+fits_in (e ∷ es) at = (at.0.fits, fits_in es at.1)
+
+-- what is held is within the limits
+pub held-fits : (m : Map) (g : ℕ) (id : PeerId) → IsKept m g id → AllByRecursion IsWrite (values_of m.entries)
+held-fits m g id h = fits_in m.entries (at_keys m g id h)
+
+-- a write that is news is put into the table
+pub record IsNews (m n : Map) (k : Name) (w : Write) : Type 0 where
+  pub named : k.items ≡ w.key
+  pub is : IsWrite w
+  pub news : is_news (lookup (finds w.key) m.entries) w ≡ true
+  pub entries : n.entries ≡ insert_entry by_name m.entries k w
+  pub ordered : tree.IsOrdered by_name n
+
+pub news-values : (m n : Map) (g : ℕ) (id : PeerId) (k : Name) (w : Write) → IsKept m g id → IsNews m n k w → values_of n.entries ≡ put w (values_of m.entries)
+news-values m n g id k w h is = ap values_of is.entries ∙ news w k is.named m.entries (rising m g id h) (at_keys m g id h) is.news
+
+pub news-kept : (m n : Map) (g count : ℕ) (id : PeerId) (k : Name) (w : Write) → IsKept m g id → IsNews m n k w → count ≡ max g w.count → IsKept n count id
+news-kept m n g count id k w h is e =
+    let counts : greatest_count (values_of n.entries) ≡ max w.count (greatest_count (values_of m.entries)) =
+    ap greatest_count (news-values m n g id k w h is) ∙ put-count w (values_of m.entries) in
+    record {
+      ordered = is.ordered;
+      entries = All-from_recursion IsAtKey n.entries (subst AtKeys (sym is.entries) (inserted w k is.named is.is m.entries (at_keys m g id h)));
+      greatest_is = omega (arith, counts, e, h.greatest_is);
+      id_fits = h.id_fits;
+    }
+
+pub news-held : (m n : Map) (g : ℕ) (id : PeerId) (k : Name) (w : Write) (held : Held) → IsKept m g id → IsNews m n k w → record { id = id; writes = values_of m.entries } ≡ held → record { id = id; writes = values_of n.entries } ≡ with_write held w
+news-held m n g id k w held h is view =
+    ap (λ (vs : List Write). record { id = id; writes = vs }) (news-values m n g id k w h is ∙ put-table w (values_of m.entries) (rising m g id h))
+    ∙ ap (λ (x : Held). with_write x w) view
+
+pub old-held : (m : Map) (g : ℕ) (id : PeerId) (w : Write) (held : Held) → IsKept m g id → is_news (lookup (finds w.key) m.entries) w ≡ false → record { id = id; writes = values_of m.entries } ≡ held → held ≡ with_write held w
+old-held m g id w held h n view =
+    sym view
+    ∙ ap (λ (vs : List Write). record { id = id; writes = vs }) (old w m.entries (rising m g id h) (at_keys m g id h) n ∙ put-table w (values_of m.entries) (rising m g id h))
+    ∙ ap (λ (x : Held). with_write x w) view
+
+-- ---- a write of its own
+
+pub next-greater : (held : Held) (key value : List ℕ) → All (λ v. by_age v (next_write held key value) ≡ Less) held.writes
+next-greater held key value =
+    All-from_recursion (λ v. by_age v (next_write held key value) ≡ Less) held.writes
+    (all_members (λ v. by_age v (next_write held key value) ≡ Less) held.writes
+    (λ v i. let le : v.count ≤ greatest_count held.writes = at_member (λ x. x.count ≤ greatest_count held.writes) held.writes v (count-within held.writes) i in
+    by_count v (next_write held key value) (omega (arith, le))))
+
+pub octets-all : (xs : List ℕ) → ((i : ℕ) → get_or xs i 0 < 256) → All (λ b. b < 2 ^ 8) xs
+octets-all xs h = λ k d lt. omega (arith, get_or_default xs k d 0 lt, h k)

@@ -1,0 +1,9 @@
+pub mod Ages
+pub mod Forms
+pub mod Joining
+pub mod Keeping
+pub mod Lengths
+pub mod Members
+pub mod Putting
+pub mod Tabling
+pub mod Welcoming

@@ -1,0 +1,5 @@
+use Rattle.zre_shared.proofs.Joining.{taken}
+use Rattle.zre_shared.proofs.laws.frames_are_taken_together.Goals as goal
+
+pub returns : goal.returns
+returns c = λ id ws frames. taken id ws frames

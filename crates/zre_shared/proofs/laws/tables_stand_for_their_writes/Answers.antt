@@ -1,0 +1,5 @@
+use Rattle.zre_shared.proofs.Tabling.{table-left}
+use Rattle.zre_shared.proofs.laws.tables_stand_for_their_writes.Goals as goal
+
+pub returns : goal.returns
+returns c = λ xs ys. table-left xs ys

@@ -1,0 +1,6 @@
+pub mod Gathering
+pub mod Kept
+pub mod Replicas
+pub mod Tables
+pub mod Welcome
+pub mod Writes

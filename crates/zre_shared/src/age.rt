@@ -1,0 +1,42 @@
+//! Which of two writes of a key lasts.
+
+ghost use Rattle.std.specs.Prelude.{◌≡◌};
+ghost use Rattle.std.specs.Option.{option_map_or, option_copied};
+ghost use Rattle.std.specs.Ordering.{is_lt};
+ghost use Rattle.std.specs.Prelude.{true};
+ghost use Rattle.zre_shared.specs.Tables.{by_age, by_octets};
+
+use crate::write::Write;
+use std::cmp::Ordering;
+
+// By the identities, and then by the values.
+fn is_below_by_octets(held: &Write, write: &Write) -> bool
+    ensures { result ≡ is_lt (by_octets held.now write.now) }
+{
+    match held.id.0.as_slice().cmp(write.id.0.as_slice()) {
+        Ordering::Less => true,
+        Ordering::Equal => held.value.as_slice().cmp(write.value.as_slice()) == Ordering::Less,
+        Ordering::Greater => false,
+    }
+}
+
+/// Whether a write is greater than one of its key that is held.
+pub(crate) fn is_below(held: &Write, write: &Write) -> bool
+    ensures { result ≡ is_lt (by_age held.now write.now) }
+{
+    match held.count.cmp(&write.count) {
+        Ordering::Less => true,
+        Ordering::Equal => is_below_by_octets(held, write),
+        Ordering::Greater => false,
+    }
+}
+
+/// The same, where none may be held.
+pub(crate) fn is_news(held: Option<&Write>, write: &Write) -> bool
+    ensures { result ≡ option_map_or (λ v. is_lt (by_age v write.now)) (option_copied held.entry) true }
+{
+    match held {
+        Some(held) => is_below(held, write),
+        None => true,
+    }
+}

@@ -1,0 +1,172 @@
+ghost use Rattle.std.specs.Prelude.{◌≡◌, ◌≢◌, ◌<◌, ◌≤◌, ◌-◌, ◌^◌, ◌↔◌, length, map, filter_map, slice_get, is_some, All};
+ghost use Rattle.std.specs.Prelude.{Some, Err, IfOk, IfErr, OnOk, OnErr};
+ghost use Rattle.std.specs.List.Sorted.{IsStrictlySortedBy};
+ghost use Rattle.std.specs.declared.cmp.Ordering.TheVariants.{Less};
+ghost use Rattle.zre_values.specs.PlainId.{IsPeerId};
+ghost use Rattle.zre_shared.specs.Replicas.{none_held, with_write, with_frame, greatest_count, next_write};
+ghost use Rattle.zre_shared.specs.Tables.{by_key, by_age};
+ghost use Rattle.zre_shared.specs.Writes.{IsWrite, write_of, write_text};
+ghost use Rattle.zre_shared.specs.Welcome.{IsWelcome};
+
+use crate::age::is_news;
+use crate::gathered::{Commands, Gathered};
+use crate::write::{KEY_OCTETS, VALUE_OCTETS, Write};
+use std::alloc::Global;
+use std::collections::BTreeMap;
+use std::marker::Model;
+use thiserror::Error;
+use zre_values::{Octets, OutOfMemory, PeerId};
+
+/// What a member holds of the shared table: for each key the greatest of the writes that it took and made. It holds as
+/// many keys as come.
+#[derive(Drop)]
+pub struct Replica {
+    writes: BTreeMap<Vec<u8>, Write>,
+    greatest: u64,
+    id: PeerId,
+    alloc: Global,
+}
+
+impl Model for Replica {
+    ghost use Rattle.std.specs.Map.{values_of};
+    ghost use Rattle.zre_shared.specs.Replicas.{Held};
+    ghost use Rattle.zre_shared.specs.Kept.{IsKept};
+
+    ghost Value = { Held };
+
+    ghost view = { λ replica. record { id = replica.id; writes = values_of replica.writes.entries } };
+
+    ghost invariant = { λ replica. IsKept replica.writes replica.greatest replica.id };
+}
+
+/// Why a write isn't made. Nothing has changed then.
+#[derive(Clone, Copy, Debug, PartialEq, Eq, Error)]
+pub enum SetFault {
+    /// The greatest count that is held is 2^64 - 1, so that no greater one is left.
+    #[error("no greater count is left")]
+    Spent,
+    /// No memory was left.
+    #[error("out of memory")]
+    OutOfMemory,
+}
+
+impl From<OutOfMemory> for SetFault {
+    ghost use Rattle.zre_shared.specs.declared.replica.SetFault.{SetFault};
+
+    ghost from_gives = { λ _ fault. fault ≡ SetFault.OutOfMemory };
+
+    fn from(_: OutOfMemory) -> Self {
+        SetFault::OutOfMemory
+    }
+}
+
+// An identity is sixteen octets.
+fn of_octets(octets: [u8; 16]) -> PeerId
+    ensures value { result ≡ record { 0 = octets } }
+    ensures fits { IsPeerId result }
+{
+    // The slice is taken for what its type says of the octets.
+    let _slice = octets.as_slice();
+    PeerId(octets)
+}
+
+impl Replica {
+    /// The empty table of a member with this identity. It takes no memory.
+    pub fn new(alloc: Global, id: PeerId) -> Replica
+        ensures { result ≡ none_held id }
+    {
+        Replica {
+            writes: BTreeMap::new(alloc),
+            greatest: 0,
+            id: of_octets(id.0),
+            alloc,
+        }
+    }
+
+    // Puts a write into the table, where it is greater than the one of its key that is held, or changes nothing where
+    // no memory is left.
+    fn put(&mut self, write: Write) -> Result<(), OutOfMemory>
+        requires { IsWrite write }
+        ensures ok { OnOk result (self.new ≡ with_write self.old write) }
+        ensures err { OnErr result (self.new ≡ self.old) }
+    {
+        if !is_news(self.writes.get(write.key.as_slice()), &write) {
+            return Ok(());
+        }
+        let key = Vec::from_slice(self.alloc, write.key.as_slice())?;
+        let count = write.count;
+        self.writes.insert(key, write)?;
+        self.greatest = self.greatest.max(count);
+        Ok(())
+    }
+
+    /// Takes a frame of content: where it is a write the table is that with the write, and otherwise nothing changes.
+    /// Answers whether it was one. So frames may come in any order, and more than once.
+    pub fn take(&mut self, frame: &[u8]) -> Result<bool, OutOfMemory>
+        ensures answer { IfOk result (λ is. is ≡ is_some (write_of frame.now)) }
+        ensures ok { OnOk result (self.new ≡ with_frame self.old frame.now) }
+        ensures err { OnErr result (self.new ≡ self.old) }
+    {
+        match Write::read(self.alloc, frame)? {
+            Some(write) => {
+                self.put(write)?;
+                Ok(true)
+            }
+            None => Ok(false),
+        }
+    }
+
+    /// Writes a value for a key, with a count above every count that is held, and gives the frame to be shouted to the
+    /// group.
+    pub fn set(&mut self, key: &[u8], value: &[u8]) -> Result<Octets, SetFault>
+        requires key { length key.now ≤ KEY_OCTETS }
+        requires value { length value.now ≤ VALUE_OCTETS }
+        ensures frame { IfOk result (λ frame. frame ≡ write_text (next_write self.old key.now value.now)) }
+        ensures ok { OnOk result (self.new ≡ with_write self.old (next_write self.old key.now value.now)) }
+        ensures greater { All (λ held. by_age held (next_write self.old key.now value.now) ≡ Less) self.old.writes }
+        ensures spent { (result ≡ Err SetFault.Spent) ↔ (greatest_count self.old.writes ≡ 2 ^ 64 - 1) }
+        ensures err { OnErr result (self.new ≡ self.old) }
+    {
+        let Some(count) = self.greatest.checked_add(1) else {
+            return Err(SetFault::Spent);
+        };
+        let write = Write {
+            key: Octets::copy(self.alloc, key)?,
+            count,
+            id: self.id,
+            value: Octets::copy(self.alloc, value)?,
+        };
+        let frame = write.write(self.alloc)?;
+        self.put(write)?;
+        Ok(frame)
+    }
+
+    /// How many keys there are.
+    pub fn len(&self) -> usize
+        ensures len { result ≡ length self.now.writes }
+        ensures rising { IsStrictlySortedBy by_key self.now.writes }
+    {
+        self.writes.len()
+    }
+
+    /// The write of the key at this place, counted from 0 in the order of the keys' octets. It walks there from the
+    /// first key.
+    pub fn get(&self, i: usize) -> &Write
+        requires { i < length self.now.writes }
+        ensures { slice_get self.now.writes i ≡ Some result.now }
+    {
+        self.writes.values().nth(i).unwrap()
+    }
+
+    /// The commands that tell a peer the whole table, by whispers of as many frames as a message may have. The peer
+    /// that takes every frame of them has the table of both.
+    pub fn welcome(&self, peer: PeerId) -> Result<Commands, OutOfMemory>
+        ensures { IfOk result (IsWelcome peer self.now.writes) }
+    {
+        let mut gathered = Gathered::new(self.alloc, peer);
+        for write in self.writes.values() {
+            gathered.push(write.write(self.alloc)?)?;
+        }
+        gathered.finish()
+    }
+}

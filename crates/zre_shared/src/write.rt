@@ -1,0 +1,66 @@
+//! Writes as frames of content.
+
+ghost use Rattle.std.specs.Prelude.{◌≡◌, ◌≤◌, ◌++◌, length, codes, IfOk, OnOk};
+ghost use Rattle.zre_shared.specs.Writes.{head_text, write_text, write_of};
+
+use crate::reading::{Fields, said_by};
+use std::alloc::Global;
+use zre_values::{Octets, OutOfMemory, PeerId, push_decimal, push_quoted};
+
+/// The most octets of a key.
+pub const KEY_OCTETS: usize = 255;
+
+/// The most octets of a value.
+pub const VALUE_OCTETS: usize = 65535;
+
+/// What a member of a group wrote into the shared table.
+#[derive(Debug, Drop)]
+pub struct Write {
+    /// The key, at most [`KEY_OCTETS`] octets.
+    pub key: Octets,
+    /// Of two writes of a key the one with the greater count lasts.
+    pub count: u64,
+    /// Who wrote it. Of writes of a key with one count the one with the greater identity lasts.
+    pub id: PeerId,
+    /// The value, at most [`VALUE_OCTETS`] octets. It decides between writes of a key that are alike otherwise.
+    pub value: Octets,
+}
+
+// Appends the fields before the key.
+fn push_head(out: &mut Octets, count: u64, id: PeerId) -> Result<(), OutOfMemory>
+    ensures { OnOk result (out.new ≡ out.old ++ head_text count id) }
+{
+    out.append(b"zre-set ")?;
+    push_decimal(out, count)?;
+    out.push(b' ')?;
+    id.push_to(out)?;
+    out.push(b' ')
+}
+
+impl Write {
+    /// The write that a frame is: `zre-set COUNT ID KEY VALUE`, with one space between the fields, COUNT in decimal
+    /// digits without leading zeros, ID thirty-two upper-case digits, KEY and VALUE quoted and within their limits. A
+    /// frame of any other form is none.
+    pub fn read(alloc: Global, frame: &[u8]) -> Result<Option<Write>, OutOfMemory>
+        ensures { IfOk result (λ found. found ≡ write_of frame.now) }
+    {
+        match Fields::of(frame) {
+            Some(fields) => said_by(alloc, fields),
+            None => Ok(None),
+        }
+    }
+
+    /// The frame that [`Write::read`] reads.
+    pub fn write(&self, alloc: Global) -> Result<Octets, OutOfMemory>
+        requires key { length self.now.key ≤ KEY_OCTETS }
+        requires value { length self.now.value ≤ VALUE_OCTETS }
+        ensures { IfOk result (λ frame. frame ≡ write_text self.now) }
+    {
+        let mut frame = Octets::new(alloc);
+        push_head(&mut frame, self.count, self.id)?;
+        push_quoted(&mut frame, self.key.as_slice())?;
+        frame.push(b' ')?;
+        push_quoted(&mut frame, self.value.as_slice())?;
+        Ok(frame)
+    }
+}
