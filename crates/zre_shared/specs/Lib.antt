@@ -1,5 +1,6 @@
 pub mod Gathering
 pub mod Kept
+pub mod Lines
 pub mod Replicas
 pub mod Tables
 pub mod Welcome

@@ -1,6 +1,6 @@
 //! The fields of a frame, and the write that they make.
 
-ghost use Rattle.std.specs.Prelude.{◌≡◌, None, codes, IfOk, MatchOption};
+ghost use Rattle.std.specs.Prelude.{◌≡◌, ◌≤◌, None, codes, IfOk, MatchOption};
 ghost use Rattle.std.specs.Str.{bytes_eq};
 ghost use Rattle.zre_shared.specs.Writes.{short_of, pair_of, said_by as said, write_of};
 
@@ -49,11 +49,15 @@ fn is_word(field: &[u8]) -> bool
     field == b"zre-set".as_slice()
 }
 
-// Octets from their quoted text, if they are at most so many.
+// Octets from their quoted text, if they are at most so many. A text that is too long for them takes no memory.
 #[tactic(auto, unfolding(crate::specs::Writes::short_of))]
 fn short(alloc: Global, field: &[u8], most: usize) -> Result<Option<Octets>, OutOfMemory>
+    requires { most ≤ VALUE_OCTETS }
     ensures { IfOk result (λ found. found ≡ short_of most field.now) }
 {
+    if field.len() > 3 * most + 1 {
+        return Ok(None);
+    }
     match group(alloc, field)? {
         Some(octets) if octets.len() <= most => Ok(Some(octets)),
         _ => Ok(None),

@@ -1,8 +1,9 @@
-ghost use Rattle.std.specs.Prelude.{◌≡◌, ◌≢◌, ◌<◌, ◌≤◌, ◌-◌, ◌^◌, ◌↔◌, length, map, filter_map, slice_get, is_some, All};
+ghost use Rattle.std.specs.Prelude.{◌≡◌, ◌≢◌, ◌<◌, ◌≤◌, ◌-◌, ◌^◌, ◌↔◌, ◌++◌, length, map, filter_map, slice_get, is_some, All};
 ghost use Rattle.std.specs.Prelude.{Some, Err, IfOk, IfErr, OnOk, OnErr};
 ghost use Rattle.std.specs.List.Sorted.{IsStrictlySortedBy};
 ghost use Rattle.std.specs.declared.cmp.Ordering.TheVariants.{Less};
 ghost use Rattle.zre_values.specs.PlainId.{IsPeerId};
+ghost use Rattle.zre_shared.specs.Lines.{lines};
 ghost use Rattle.zre_shared.specs.Replicas.{none_held, with_write, with_frame, greatest_count, next_write};
 ghost use Rattle.zre_shared.specs.Tables.{by_key, by_age};
 ghost use Rattle.zre_shared.specs.Writes.{IsWrite, write_of, write_text};
@@ -122,6 +123,7 @@ impl Replica {
         requires key { length key.now ≤ KEY_OCTETS }
         requires value { length value.now ≤ VALUE_OCTETS }
         ensures frame { IfOk result (λ frame. frame ≡ write_text (next_write self.old key.now value.now)) }
+        ensures again { IfOk result (λ frame. write_of frame ≡ Some (next_write self.old key.now value.now)) }
         ensures ok { OnOk result (self.new ≡ with_write self.old (next_write self.old key.now value.now)) }
         ensures greater { All (λ held. by_age held (next_write self.old key.now value.now) ≡ Less) self.old.writes }
         ensures spent { (result ≡ Err SetFault.Spent) ↔ (greatest_count self.old.writes ≡ 2 ^ 64 - 1) }
@@ -136,7 +138,7 @@ impl Replica {
             id: self.id,
             value: Octets::copy(self.alloc, value)?,
         };
-        let frame = write.write(self.alloc)?;
+        let frame = write.frame(self.alloc)?;
         self.put(write)?;
         Ok(frame)
     }
@@ -150,12 +152,23 @@ impl Replica {
     }
 
     /// The write of the key at this place, counted from 0 in the order of the keys' octets. It walks there from the
-    /// first key.
+    /// first key: for all of them there is [`Replica::push_lines`].
     pub fn get(&self, i: usize) -> &Write
         requires { i < length self.now.writes }
         ensures { slice_get self.now.writes i ≡ Some result.now }
     {
         self.writes.values().nth(i).unwrap()
+    }
+
+    /// Appends the table as text: a line `KEY COUNT ID VALUE` for each key, KEY and VALUE quoted, in the order of the
+    /// keys' octets. After an error a front of it may stand there.
+    pub fn push_lines(&self, out: &mut Octets) -> Result<(), OutOfMemory>
+        ensures { OnOk result (out.new ≡ out.old ++ lines self.now.writes) }
+    {
+        for write in self.writes.values() {
+            write.push_line(out)?;
+        }
+        Ok(())
     }
 
     /// The commands that tell a peer the whole table, by whispers of as many frames as a message may have. The peer

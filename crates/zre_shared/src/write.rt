@@ -1,7 +1,9 @@
 //! Writes as frames of content.
 
 ghost use Rattle.std.specs.Prelude.{◌≡◌, ◌≤◌, ◌++◌, length, codes, IfOk, OnOk};
-ghost use Rattle.zre_shared.specs.Writes.{head_text, write_text, write_of};
+ghost use Rattle.std.specs.Prelude.{Some};
+ghost use Rattle.zre_shared.specs.Lines.{line};
+ghost use Rattle.zre_shared.specs.Writes.{head_text, IsWrite, write_text, write_of};
 
 use crate::reading::{Fields, said_by};
 use std::alloc::Global;
@@ -62,5 +64,28 @@ impl Write {
         frame.push(b' ')?;
         push_quoted(&mut frame, self.value.as_slice())?;
         Ok(frame)
+    }
+
+    // The frame of a write that a member makes, which every member reads as that write.
+    pub(crate) fn frame(&self, alloc: Global) -> Result<Octets, OutOfMemory>
+        requires { IsWrite self.now }
+        ensures text { IfOk result (λ frame. frame ≡ write_text self.now) }
+        ensures again { IfOk result (λ frame. write_of frame ≡ Some self.now) }
+    {
+        self.write(alloc)
+    }
+
+    // Appends the line of a table.
+    pub(crate) fn push_line(&self, out: &mut Octets) -> Result<(), OutOfMemory>
+        ensures { OnOk result (out.new ≡ out.old ++ line self.now) }
+    {
+        push_quoted(out, self.key.as_slice())?;
+        out.push(b' ')?;
+        push_decimal(out, self.count)?;
+        out.push(b' ')?;
+        self.id.push_to(out)?;
+        out.push(b' ')?;
+        push_quoted(out, self.value.as_slice())?;
+        out.push(b'\n')
     }
 }

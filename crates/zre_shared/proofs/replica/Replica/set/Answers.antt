@@ -30,3 +30,13 @@ put-requires c = record {
   value = All-same (λ (b : ℕ). b < 2 ^ 8) c.in_ok-copy-2.field-0 c.args.value.now c.in_ok-copy-2.ensures (octets-all c.args.value.now (λ i. omega (arith, c.type_inv.value i)));
   value_fits = omega (arith, c.requires.value, ap (length {A = ℕ}) c.in_ok-copy-2.ensures);
 }
+
+pub frame-requires : goal.frame-requires
+frame-requires c = record {
+  key = All-same (λ (b : ℕ). b < 2 ^ 8) c.in_ok-copy.field-0 c.args.key.now c.in_ok-copy.ensures (octets-all c.args.key.now (λ i. omega (arith, c.type_inv.key i)));
+  key_fits = omega (arith, c.requires.key, ap (length {A = ℕ}) c.in_ok-copy.ensures);
+  count = search rules;
+  id = c.self.invariant.id_fits;
+  value = All-same (λ (b : ℕ). b < 2 ^ 8) c.in_ok-copy-2.field-0 c.args.value.now c.in_ok-copy-2.ensures (octets-all c.args.value.now (λ i. omega (arith, c.type_inv.value i)));
+  value_fits = omega (arith, c.requires.value, ap (length {A = ℕ}) c.in_ok-copy-2.ensures);
+}
