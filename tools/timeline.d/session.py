@@ -1,14 +1,16 @@
 """A session as the program tells it: its events and their times."""
+import itertools
 import os
 import re
 import subprocess
 from collections import namedtuple
 
-from words import plain, plain_text
+from words import field, plain, plain_text
 
 TOP = os.path.dirname(os.path.dirname(os.path.dirname(os.path.realpath(__file__))))
 PROGRAM = os.environ.get("ZRE") or os.path.join(TOP, "zre")
-HEAD = b"zre-capture 1"
+# The head of a capture of format 2 has the settings of the node, and its entries say what their readings differ by.
+SETTINGS = b"zre-capture 2 "
 
 # An event: its time in milliseconds since the first reading, its kind, and its other fields, quoted as they are.
 Event = namedtuple("Event", "time kind fields")
@@ -40,16 +42,17 @@ def replay(words, capture):
 def free_numbers(capture, count):
     """The first of so many numbers in a row of which the capture has none in a line `do bad N`."""
     first = 1
-    for number in sorted({int(n) for n in re.findall(rb"^[0-9]+ do bad ([0-9]+)$", capture, re.MULTILINE)}):
+    for number in sorted({int(n) for n in re.findall(rb"^-?[0-9]+ do bad ([0-9]+)$", capture, re.MULTILINE)}):
         if number - first >= count:
             break
         first = max(first, number + 1)
     return first
 
 
-def with_marks(entries, first):
-    """The capture with a mark before each entry. The reading 0 never moves the clock, which is the greatest so far."""
-    lines = [HEAD]
+def with_marks(head, entries, first):
+    """The capture with a mark before each entry. The reading 0 never moves the clock, which is the greatest so far, and
+    a difference of 0 moves no reading."""
+    lines = [head]
     for number, entry in enumerate(entries, first):
         lines.append(b"0 do bad %d" % number)
         lines.append(entry)
@@ -75,9 +78,11 @@ def placed(told, first, count):
     return lines
 
 
-def clocks(entries):
+def clocks(entries, differ):
     """The node's clock at each entry, since the first reading, in milliseconds: the greatest reading so far."""
     readings = [int(entry[:entry.index(b" ")]) for entry in entries]
+    if differ:
+        readings = list(itertools.accumulate(readings))
     clock, times = 0, []
     for reading in readings:
         clock = max(clock, reading)
@@ -90,18 +95,18 @@ class Session:
 
     def __init__(self, capture, words):
         alone = replay(words, capture)
-        if not capture.startswith(HEAD + b"\n"):
-            raise Trouble("timeline: the capture isn't of format 1")
-        entries = capture.split(b"\n")[1:-1]
+        head, *entries = capture.split(b"\n")[:-1]
+        differ = head.startswith(SETTINGS)
         first = free_numbers(capture, len(entries))
-        lines = placed(replay(words, with_marks(entries, first)), first, len(entries))
+        lines = placed(replay(words, with_marks(head, entries, first)), first, len(entries))
         if [line for _, line in lines] != alone.splitlines():
             raise Trouble("timeline: with marks between its entries the capture tells other events")
-        times = clocks(entries)
+        times = clocks(entries, differ)
         self.events, self.entries = [], len(entries)
         for entry, line in lines:
             kind, *fields = line.decode("ascii").split(" ")
             self.events.append(Event(times[entry], kind, fields))
         is_stopped = lines and lines[-1][1] == b"STOP"
         self.length = self.events[-1].time if is_stopped else (times or [0])[-1]
-        self.name = next((plain_text(word[5:]) for word in words if word.startswith("name=")), "")
+        called = (plain_text(word[5:]) for word in words if word.startswith("name="))
+        self.name = field(head.split(b" ")[3].decode("ascii")) if differ else next(called, "")

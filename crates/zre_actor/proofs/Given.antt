@@ -1,5 +1,5 @@
 -- How many numbers passes have that were given back.
-use Rattle.std.proofs.Common.{◌≡◌, ℕ, [], ◌∷◌, length, ap, arith, length-append}
+use Rattle.std.proofs.Common.{◌≡◌, [], ◌∷◌, length, ap, arith, length-append}
 use Rattle.zre_actor.specs.declared.passes.CallerPass.{CallerPass}
 use Rattle.zre_actor.specs.Passes.{caller, ended, live_of, how_many}
 

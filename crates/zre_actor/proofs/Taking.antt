@@ -14,11 +14,12 @@ use Rattle.zre_node.specs.declared.node.Node.{Node}
 use Rattle.zre_node.specs.declared.effects.Step.{Step}
 use Rattle.zre_node.specs.Journal.{Steps}
 use Rattle.zre_capture.specs.Lines.{line}
+use Rattle.zre_capture.specs.declared.format.Format.TheVariants.{Second}
 use Rattle.zre_actor.specs.declared.ending.Ending.TheVariants as ending
 use Rattle.zre_actor.specs.Work.{AreDeeds, beside, DoesAll, Went, IsUndone}
 use Rattle.zre_actor.proofs.Deeds.{beside-append}
 
-module _ (g : Config) (J : List Entry) (e : Entry) (keep : Bool) (told told' : Option Log) (kept kept' : Option (List ℕ)) (n : Node) (s : Step) (st : Steps g J e n s) (k : keep ≡ true → Appends kept kept' (line e)) where
+module _ (g : Config) (J : List Entry) (e : Entry) (keep : Bool) (before : ℕ) (told told' : Option Log) (kept kept' : Option (List ℕ)) (n : Node) (s : Step) (st : Steps g J e n s) (k : keep ≡ true → Appends kept kept' (line Second before e)) where
   -- the acts of a step are those of its entry
   its_acts : acts_after g (e ∷ []) (chronicle g J) ≡ s.acts
   its_acts = append_cancel_left (acts g J) (acts_after g (e ∷ []) (chronicle g J)) s.acts (let c : Continues g J (e ∷ []) = continues g J (e ∷ []) in sym c.done ∙ st.done)
@@ -27,7 +28,7 @@ module _ (g : Config) (J : List Entry) (e : Entry) (keep : Bool) (told told' : O
   pub its_due : AreDue g (chronicle g (J ++ e ∷ [])) s.acts
   its_due = subst (AreDue g (chronicle g (J ++ e ∷ []))) its_acts (entry_due g J e)
 
-  pub went_on : DoesAll g (J ++ e ∷ []) s.acts true told told' → Went g J e keep told told' kept kept' n s.events
+  pub went_on : DoesAll g (J ++ e ∷ []) s.acts true told told' → Went g J e keep before told told' kept kept' n s.events
   went_on d =
       let all : acts_after g (e ∷ []) (chronicle g J) ≡ d.did = its_acts ∙ d.are_acts ∙ ap (λ x. d.did ++ x) (d.all_done refl) ∙ append-nil d.did in
       record {
@@ -39,7 +40,7 @@ module _ (g : Config) (J : List Entry) (e : Entry) (keep : Bool) (told told' : O
         is_kept = k;
       }
 
-  pub left_undone : DoesAll g (J ++ e ∷ []) s.acts false told told' → IsUndone g J e keep told told' kept kept' n ending.OutOfMemory
+  pub left_undone : DoesAll g (J ++ e ∷ []) s.acts false told told' → IsUndone g J e keep before told told' kept kept' n ending.OutOfMemory
   left_undone d = record {
     stands = st.stands;
     did = beside (J ++ e ∷ []) d.did;

@@ -31,6 +31,9 @@ use Rattle.zre_journal.proofs.Stopping.{stopped, stop-is}
 use Rattle.zre_node.specs.declared.node.Node.{Node}
 use Rattle.zre_node.specs.Journal.{StandsFor, is_spent}
 use Rattle.zre_capture.specs.Lines.{line, lines, IsEntry}
+use Rattle.zre_capture.specs.Journal.{last_reading}
+use Rattle.zre_capture.specs.declared.format.Format.TheVariants.{Second}
+use Rattle.zre_capture.proofs.After.{last-append, lines-append}
 use Rattle.zre_actor.specs.declared.ending.Ending.{Ending}
 use Rattle.zre_actor.specs.declared.ending.Ending.TheVariants as ending
 use Rattle.zre_actor.specs.declared.views.Placed.{Placed}
@@ -60,12 +63,18 @@ is_late turns limit e pos = let same : (turns == limit) ≡ true = eq-eqb turns 
 pub rose_later : (a b c : ℕ) → a ≤ b → Rose b c → Rose a c
 rose_later a b c le rose = omega (arith, le, rose)
 
--- one line more
-lines-snoc : (es : List Entry) (e : Entry) → lines (es ++ e ∷ []) ≡ lines es ++ line e
-lines-snoc es e = flat_map-append line es (e ∷ []) ∙ ap (λ l. lines es ++ l) (append-nil (line e))
+-- one line more, after the reading of the last entry
+lines-snoc : (es : List Entry) (e : Entry) → lines Second 0 (es ++ e ∷ []) ≡ lines Second 0 es ++ line Second (last_reading 0 es) e
+lines-snoc es e = lines-append Second 0 es (e ∷ []) ∙ ap (λ l. lines Second 0 es ++ l) (append-nil (line Second (last_reading 0 es) e))
 
-kept_more : (a b c : Option (List ℕ)) (es : List Entry) (e : Entry) → Appends a b (lines es) → Appends b c (line e) → Appends a c (lines (es ++ e ∷ []))
-kept_more a b c es e p q = subst (Appends a c) (sym (lines-snoc es e)) (Appends-trans a b c (lines es) (line e) p q)
+-- the line of an entry after the reading of the last is that after this one, which is the same
+next_line : (before : ℕ) (es : List Entry) (e : Entry) → before ≡ last_reading 0 es → line Second before e ≡ line Second (last_reading 0 es) e
+next_line before es e is = ap (λ b. line Second b e) is
+
+kept_more : (a b c : Option (List ℕ)) (before : ℕ) (es : List Entry) (e : Entry) → before ≡ last_reading 0 es → Appends a b (lines Second 0 es) → Appends b c (line Second before e)
+    → Appends a c (lines Second 0 (es ++ e ∷ []))
+kept_more a b c before es e is p q =
+    subst (Appends a c) (ap (λ l. lines Second 0 es ++ l) (next_line before es e is) ∙ sym (lines-snoc es e)) (Appends-trans a b c (lines Second 0 es) (line Second before e) p q)
 
 few : (c : Option Command) → length (option_to_list c) ≤ 1
 few None = omega arith
@@ -117,7 +126,7 @@ no_quit g J e (Some c) is going on = (λ q. true≢false (sym (quit_stops g J e 
 
 module _ (g : Config) (K : List Entry) (keep : Bool) (limit : ℕ) (s : Scene) where
   -- after so many turns: the node took all that was given, its acts are done, its events raised and its lines kept
-  pub record Running (turns : ℕ) (t : Scene) (n : Node) (command : Option Command) : Type 0 where
+  pub record Running (turns : ℕ) (t : Scene) (n : Node) (command : Option Command) (before : ℕ) : Type 0 where
     pub entries : List Entry
     pub deeds : List Deed
     pub goes : Goes turns limit s t entries deeds (option_to_list command)
@@ -129,7 +138,9 @@ module _ (g : Config) (K : List Entry) (keep : Bool) (limit : ℕ) (s : Scene) w
     pub told : List Event
     pub are_events : events g (K ++ entries) ≡ events g K ++ told
     pub are_raised : t.raised ≡ s.raised ++ told
-    pub are_kept : keep ≡ true → Appends s.kept t.kept (lines entries)
+    pub are_kept : keep ≡ true → Appends s.kept t.kept (lines Second 0 entries)
+    -- the reading of the last entry
+    pub is_before : before ≡ last_reading 0 entries
     pub busy : (c : Command) → command ≡ Some c → has_stopped (chronicle g (K ++ entries)) ≡ false
     -- no Quit was handed to a node that goes on, and nothing was popped after one
     pub unquit : has_stopped (chronicle g (K ++ entries)) ≡ false → NoQuit goes.handed
@@ -151,7 +162,7 @@ module _ (g : Config) (K : List Entry) (keep : Bool) (limit : ℕ) (s : Scene) w
     are_looks = h.are_looks;
   }
 
-  pub running_start : (n : Node) → StandsFor g K n → Running 0 s n None
+  pub running_start : (n : Node) → StandsFor g K n → Running 0 s n None 0
   running_start n here = record {
     entries = [];
     deeds = [];
@@ -175,6 +186,7 @@ module _ (g : Config) (K : List Entry) (keep : Bool) (limit : ℕ) (s : Scene) w
     are_events = ap (events g) (append-nil K) ∙ sym (append-nil (events g K));
     are_raised = sym (append-nil s.raised);
     are_kept = λ _. Appends-nil s.kept;
+    is_before = refl;
     busy = λ c is. absurd (cc);
     unquit = λ _. tt;
     quits_last = tt;
@@ -182,7 +194,7 @@ module _ (g : Config) (K : List Entry) (keep : Bool) (limit : ℕ) (s : Scene) w
     record_later = omega arith;
   }
 
-  module _ (turns : ℕ) (t : Scene) (n : Node) (command : Option Command) (k : Running turns t n command) where
+  module _ (turns : ℕ) (t : Scene) (n : Node) (command : Option Command) (before : ℕ) (k : Running turns t n command before) where
     -- the pipe was not found empty more often than there were turns
     pub rare : t.empties ≤ s.empties + turns
     rare = let h = k.goes in omega (arith, h.counted, h.are_looks)
@@ -239,7 +251,7 @@ module _ (g : Config) (K : List Entry) (keep : Bool) (limit : ℕ) (s : Scene) w
     look_handed u (Some c) told popped now later hands = refl
 
     -- a look, and then a pop
-    pub looked_again : (u : Scene) (found : Option Command) → Looks u → Pops t found u → turns + 1 < limit → IsTurn command turn.Look → has_stopped (chronicle g (K ++ k.entries)) ≡ false → Running (turns + 1) u n found
+    pub looked_again : (u : Scene) (found : Option Command) → Looks u → Pops t found u → turns + 1 < limit → IsTurn command turn.Look → has_stopped (chronicle g (K ++ k.entries)) ≡ false → Running (turns + 1) u n found before
     looked_again u found w popped more is going =
         let h = k.goes in
         let now : late turns limit t.looked ≡ 0 = not_late turns limit t.looked (λ e. omega arith) in
@@ -257,7 +269,8 @@ module _ (g : Config) (K : List Entry) (keep : Bool) (limit : ℕ) (s : Scene) w
           told = k.told;
           are_events = k.are_events;
           are_raised = w.raised ∙ k.are_raised;
-          are_kept = λ i. subst (λ x. Appends s.kept x (lines k.entries)) (sym w.kept) (k.are_kept i);
+          are_kept = λ i. subst (λ x. Appends s.kept x (lines Second 0 k.entries)) (sym w.kept) (k.are_kept i);
+          is_before = k.is_before;
           busy = λ c is. going;
           unquit = λ on. subst NoQuit (sym (look_handed u found w.told popped now later hands)) (k.unquit going);
           quits_last = look_quits u found w.told popped now later hands (k.unquit going);
@@ -266,7 +279,7 @@ module _ (g : Config) (K : List Entry) (keep : Bool) (limit : ℕ) (s : Scene) w
         }
 
     -- a look in the last turn, after which nothing is popped
-    pub looked_last : (u : Scene) → Looks u → u.popped ≡ t.popped → u.empties ≡ t.empties → turns + 1 ≡ limit → IsTurn command turn.Look → Running (turns + 1) u n None
+    pub looked_last : (u : Scene) → Looks u → u.popped ≡ t.popped → u.empties ≡ t.empties → turns + 1 ≡ limit → IsTurn command turn.Look → Running (turns + 1) u n None before
     looked_last u w popped empties last is =
         let h = k.goes in
         let now : late turns limit t.looked ≡ 0 = not_late turns limit t.looked (λ e. omega arith) in
@@ -293,7 +306,8 @@ module _ (g : Config) (K : List Entry) (keep : Bool) (limit : ℕ) (s : Scene) w
           told = k.told;
           are_events = k.are_events;
           are_raised = w.raised ∙ k.are_raised;
-          are_kept = λ i. subst (λ x. Appends s.kept x (lines k.entries)) (sym w.kept) (k.are_kept i);
+          are_kept = λ i. subst (λ x. Appends s.kept x (lines Second 0 k.entries)) (sym w.kept) (k.are_kept i);
+          is_before = k.is_before;
           busy = λ c is. absurd (cc);
           unquit = k.unquit;
           quits_last = k.quits_last;
@@ -338,8 +352,8 @@ module _ (g : Config) (K : List Entry) (keep : Bool) (limit : ℕ) (s : Scene) w
     along e = append_assoc K k.entries (e ∷ [])
 
     -- an entry was given, put, stepped and done, and its events were raised
-    pub went_on : (e : Entry) (told : Option Log) (u : Scene) (n' : Node) (es : List Event) → Gives e told u → turns < limit → IsTurn command (turn.Entry e) → has_stopped (chronicle g (K ++ k.entries)) ≡ false → Went g (K ++ k.entries) e keep told u.told t.kept u.kept n' es → u.raised ≡ t.raised ++ es
-        → Running (turns + 1) u n' None
+    pub went_on : (e : Entry) (told : Option Log) (u : Scene) (n' : Node) (es : List Event) → Gives e told u → turns < limit → IsTurn command (turn.Entry e) → has_stopped (chronicle g (K ++ k.entries)) ≡ false → Went g (K ++ k.entries) e keep before told u.told t.kept u.kept n' es → u.raised ≡ t.raised ++ es
+        → Running (turns + 1) u n' None e.at
     went_on e told u n' es w less is going x raised = record {
       entries = k.entries ++ e ∷ [];
       deeds = k.deeds ++ x.deeds;
@@ -352,7 +366,8 @@ module _ (g : Config) (K : List Entry) (keep : Bool) (limit : ℕ) (s : Scene) w
       told = k.told ++ es;
       are_events = ap (events g) (sym (along e)) ∙ x.are_events ∙ ap (λ l. l ++ es) k.are_events ∙ append_assoc (events g K) k.told es;
       are_raised = raised ∙ ap (λ l. l ++ es) k.are_raised ∙ append_assoc s.raised k.told es;
-      are_kept = λ i. kept_more s.kept t.kept u.kept k.entries e (k.are_kept i) (x.is_kept i);
+      are_kept = λ i. kept_more s.kept t.kept u.kept before k.entries e k.is_before (k.are_kept i) (x.is_kept i);
+      is_before = sym (last-append 0 k.entries (e ∷ []));
       busy = λ c is. absurd (cc);
       unquit = λ on. no_quit_more k.goes.handed (option_to_list command) (k.unquit going)
           (no_quit g (K ++ k.entries) e command is going (subst (λ J. has_stopped (chronicle g J) ≡ false) (sym (along e)) on));
@@ -391,7 +406,7 @@ module _ (g : Config) (K : List Entry) (keep : Bool) (limit : ℕ) (s : Scene) w
       are_events = k.are_events ∙ ap (λ l. events g K ++ l) (sym (append-nil k.told));
       are_raised = k.are_raised;
       all_raised = λ _. refl;
-      are_kept = λ i. record { part = []; rest = []; is_kept = subst (Appends s.kept t.kept) (sym (append-nil (lines k.entries))) (k.are_kept i); is_part = refl };
+      are_kept = λ i. record { part = []; rest = []; is_kept = subst (Appends s.kept t.kept) (sym (append-nil (lines Second 0 k.entries))) (k.are_kept i); is_part = refl };
       ends = ends;
     }
 
@@ -432,7 +447,7 @@ module _ (g : Config) (K : List Entry) (keep : Bool) (limit : ℕ) (s : Scene) w
       are_looks = omega (arith, h.are_looks, empties, same);
     }
 
-    abbrev pub refused : (f : NextFault) (u : Scene) → Refuses f u → Running turns u n command
+    abbrev pub refused : (f : NextFault) (u : Scene) → Refuses f u → Running turns u n command before
     refused f u w = record {
       entries = k.entries;
       deeds = k.deeds;
@@ -445,7 +460,8 @@ module _ (g : Config) (K : List Entry) (keep : Bool) (limit : ℕ) (s : Scene) w
       told = k.told;
       are_events = k.are_events;
       are_raised = w.raised ∙ k.are_raised;
-      are_kept = λ i. subst (λ x. Appends s.kept x (lines k.entries)) (sym w.kept) (k.are_kept i);
+      are_kept = λ i. subst (λ x. Appends s.kept x (lines Second 0 k.entries)) (sym w.kept) (k.are_kept i);
+      is_before = k.is_before;
       busy = k.busy;
       unquit = k.unquit;
       quits_last = k.quits_last;
@@ -487,11 +503,16 @@ module _ (g : Config) (K : List Entry) (keep : Bool) (limit : ℕ) (s : Scene) w
       ends = ends;
     }
 
-    one_line : (e : Entry) → lines (e ∷ []) ≡ line e
-    one_line e = append-nil (line e)
+    one_line : (e : Entry) → lines Second (last_reading 0 k.entries) (e ∷ []) ≡ line Second before e
+    one_line e = append-nil (line Second (last_reading 0 k.entries) e) ∙ sym (next_line before k.entries e k.is_before)
 
-    whole_line : (e : Entry) (u : Scene) → (keep ≡ true → Appends t.kept u.kept (line e)) → keep ≡ true → KeptLines s.kept u.kept k.entries (e ∷ [])
-    whole_line e u kept i = record { part = line e; rest = []; is_kept = Appends-trans s.kept t.kept u.kept (lines k.entries) (line e) (k.are_kept i) (kept i); is_part = refl }
+    whole_line : (e : Entry) (u : Scene) → (keep ≡ true → Appends t.kept u.kept (line Second before e)) → keep ≡ true → KeptLines s.kept u.kept k.entries (e ∷ [])
+    whole_line e u kept i = record {
+      part = line Second before e;
+      rest = [];
+      is_kept = Appends-trans s.kept t.kept u.kept (lines Second 0 k.entries) (line Second before e) (k.are_kept i) (kept i);
+      is_part = one_line e ∙ sym (append-nil (line Second before e));
+    }
 
     unput_ends : (e : Entry) (u : Scene) (ended : Ending) → IsRefusal t.record_faults u.record_faults ended → keep ≡ true → has_stopped (chronicle g (K ++ k.entries)) ≡ false
         → Ends ended (has_stopped (chronicle g (K ++ k.entries))) (turns + 1) limit keep s u (e ∷ []) []
@@ -502,7 +523,7 @@ module _ (g : Config) (K : List Entry) (keep : Bool) (limit : ℕ) (s : Scene) w
         how
 
     -- the world found no memory for an act
-    left_undone : (e : Entry) (told : Option Log) (u : Scene) (n' : Node) (ended : Ending) → Gives e told u → turns < limit → has_stopped (chronicle g (K ++ k.entries)) ≡ false → u.raised ≡ t.raised → IsUndone g (K ++ k.entries) e keep told u.told t.kept u.kept n' ended → IsWork g K keep limit s u n' ended
+    left_undone : (e : Entry) (told : Option Log) (u : Scene) (n' : Node) (ended : Ending) → Gives e told u → turns < limit → has_stopped (chronicle g (K ++ k.entries)) ≡ false → u.raised ≡ t.raised → IsUndone g (K ++ k.entries) e keep before told u.told t.kept u.kept n' ended → IsWork g K keep limit s u n' ended
     left_undone e told u n' ended w less going raised x = record {
       turns = turns + 1;
       entries = k.entries ++ e ∷ [];
@@ -528,24 +549,24 @@ module _ (g : Config) (K : List Entry) (keep : Bool) (limit : ℕ) (s : Scene) w
       are_kept = λ i. record {
         part = [];
         rest = [];
-        is_kept = subst (Appends s.kept u.kept) (sym (append-nil (lines (k.entries ++ e ∷ [])))) (kept_more s.kept t.kept u.kept k.entries e (k.are_kept i) (x.is_kept i));
+        is_kept = subst (Appends s.kept u.kept) (sym (append-nil (lines Second 0 (k.entries ++ e ∷ [])))) (kept_more s.kept t.kept u.kept before k.entries e k.is_before (k.are_kept i) (x.is_kept i));
         is_part = refl;
       };
       ends = subst (λ y. Ends y (has_stopped (chronicle g (K ++ (k.entries ++ e ∷ [])))) (turns + 1) limit keep s u [] []) (sym x.ends) (omega arith);
     }
 
     pub broke : (e : Entry) (told : Option Log) (u : Scene) (n' : Node) (ended : Ending) → Gives e told u → turns < limit → u.raised ≡ t.raised → has_stopped (chronicle g (K ++ k.entries)) ≡ false
-        → Broke g (K ++ k.entries) e keep told u.told t.kept u.kept t.record_faults u.record_faults n' ended → IsWork g K keep limit s u n' ended
+        → Broke g (K ++ k.entries) e keep before told u.told t.kept u.kept t.record_faults u.record_faults n' ended → IsWork g K keep limit s u n' ended
     broke e told u n' ended w less raised going how = ⊎_elim
-        (λ (x : IsUnput g (K ++ k.entries) e keep told u.told t.kept u.kept t.record_faults u.record_faults n' ended).
+        (λ (x : IsUnput g (K ++ k.entries) e keep before told u.told t.kept u.kept t.record_faults u.record_faults n' ended).
         given_up e told u n' ended w less going x.is_told raised (inl x.stands)
-        (λ i. record { part = x.part; rest = x.rest; is_kept = Appends-trans s.kept t.kept u.kept (lines k.entries) x.part (k.are_kept i) x.is_kept; is_part = one_line e ∙ x.is_part })
+        (λ i. record { part = x.part; rest = x.rest; is_kept = Appends-trans s.kept t.kept u.kept (lines Second 0 k.entries) x.part (k.are_kept i) x.is_kept; is_part = one_line e ∙ x.is_part })
         (unput_ends e u ended x.ends x.keeps going))
         (λ rest. ⊎_elim
-        (λ (x : IsUnstepped e keep told u.told t.kept u.kept n' ended).
+        (λ (x : IsUnstepped e keep before told u.told t.kept u.kept n' ended).
         given_up e told u n' ended w less going x.is_told raised (inr (x.spent, x.ends, refl)) (whole_line e u x.is_kept)
         (subst (λ y. Ends y (has_stopped (chronicle g (K ++ k.entries))) (turns + 1) limit keep s u (e ∷ []) []) (sym x.ends) (omega arith)))
-        (λ (x : IsUndone g (K ++ k.entries) e keep told u.told t.kept u.kept n' ended). left_undone e told u n' ended w less going raised x)
+        (λ (x : IsUndone g (K ++ k.entries) e keep before told u.told t.kept u.kept n' ended). left_undone e told u n' ended w less going raised x)
         rest)
         how
 

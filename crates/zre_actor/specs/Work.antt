@@ -23,6 +23,8 @@ use Rattle.zre_journal.specs.Happens.{has_stopped}
 use Rattle.zre_node.specs.declared.node.Node.{Node}
 use Rattle.zre_node.specs.Journal.{StandsFor, is_spent}
 use Rattle.zre_capture.specs.Lines.{line, lines, IsEntry}
+use Rattle.zre_capture.specs.Journal.{last_reading}
+use Rattle.zre_capture.specs.declared.format.Format.TheVariants.{Second}
 use Rattle.zre_actor.specs.declared.ending.Ending.{Ending}
 use Rattle.zre_actor.specs.declared.ending.Ending.TheVariants as ending
 use Rattle.zre_actor.specs.declared.views.Placed.{Placed}
@@ -146,12 +148,13 @@ Ends ending.TooLong stopped turns limit keep s t unstepped pending =
     (stopped ≡ false) × (unstepped ≡ []) × (pending ≡ []) × (turns ≡ limit)
 Ends ending.OutOfMemory stopped turns limit keep s t unstepped pending = length unstepped + length pending ≤ 1
 
--- a recorder holds the lines of entries more, and after them a front of the line of the one that wasn't stepped
+-- a recorder holds the lines of format 2 of entries more, the first of them after the reading 0 and each other after
+-- that of the entry before it, and then a front of the line of the one that wasn't stepped
 pub record KeptLines (before now : Option (List ℕ)) (entries unstepped : List Entry) : Type 0 where
   pub part : List ℕ
   pub rest : List ℕ
-  pub is_kept : Appends before now (lines entries ++ part)
-  pub is_part : lines unstepped ≡ part ++ rest
+  pub is_kept : Appends before now (lines Second 0 entries ++ part)
+  pub is_part : lines Second (last_reading 0 entries) unstepped ≡ part ++ rest
 
 -- a Quit stands at the end of commands, and nowhere else
 abbrev pub QuitsLast : List Command → Type 0
@@ -215,38 +218,38 @@ pub record DoesAll (g : Config) (J : List Entry) (acts : List Act) (all : Bool) 
   pub is_told : told' ≡ option_map (went [] 0 [] deeds) told
   pub all_done : all ≡ true → undone ≡ []
 
--- an entry was put, stepped and done after J, and these events are to be raised
-pub record Went (g : Config) (J : List Entry) (e : Entry) (keep : Bool) (told told' : Option Log)
+-- an entry was put after this reading, stepped and done after J, and these events are to be raised
+pub record Went (g : Config) (J : List Entry) (e : Entry) (keep : Bool) (before : ℕ) (told told' : Option Log)
     (kept kept' : Option (List ℕ)) (n : Node) (es : List Event) : Type 0 where
   pub stands : StandsFor g (J ++ e ∷ []) n
   pub deeds : List Deed
   pub are_deeds : AreDeeds g (beside (J ++ e ∷ []) (acts_after g (e ∷ []) (chronicle g J))) deeds
   pub is_told : told' ≡ option_map (went [] 0 [] deeds) told
   pub are_events : events g (J ++ e ∷ []) ≡ events g J ++ es
-  pub is_kept : keep ≡ true → Appends kept kept' (line e)
+  pub is_kept : keep ≡ true → Appends kept kept' (line Second before e)
 
 -- its line wasn't kept, so it wasn't stepped
-pub record IsUnput (g : Config) (J : List Entry) (e : Entry) (keep : Bool) (told told' : Option Log)
+pub record IsUnput (g : Config) (J : List Entry) (e : Entry) (keep : Bool) (before : ℕ) (told told' : Option Log)
     (kept kept' : Option (List ℕ)) (rf rf' : ℕ) (n : Node) (ended : Ending) : Type 0 where
   pub stands : StandsFor g J n
   pub is_told : told' ≡ told
   pub part : List ℕ
   pub rest : List ℕ
   pub is_kept : Appends kept kept' part
-  pub is_part : line e ≡ part ++ rest
+  pub is_part : line Second before e ≡ part ++ rest
   pub keeps : keep ≡ true
   pub ends : IsRefusal rf rf' ended
 
 -- the node found no memory for it
-pub record IsUnstepped (e : Entry) (keep : Bool) (told told' : Option Log) (kept kept' : Option (List ℕ)) (n : Node)
-    (ended : Ending) : Type 0 where
+pub record IsUnstepped (e : Entry) (keep : Bool) (before : ℕ) (told told' : Option Log)
+    (kept kept' : Option (List ℕ)) (n : Node) (ended : Ending) : Type 0 where
   pub spent : IsTrue (is_spent n)
   pub is_told : told' ≡ told
-  pub is_kept : keep ≡ true → Appends kept kept' (line e)
+  pub is_kept : keep ≡ true → Appends kept kept' (line Second before e)
   pub ends : ended ≡ ending.OutOfMemory
 
 -- the world found no memory for an act
-pub record IsUndone (g : Config) (J : List Entry) (e : Entry) (keep : Bool) (told told' : Option Log)
+pub record IsUndone (g : Config) (J : List Entry) (e : Entry) (keep : Bool) (before : ℕ) (told told' : Option Log)
     (kept kept' : Option (List ℕ)) (n : Node) (ended : Ending) : Type 0 where
   pub stands : StandsFor g (J ++ e ∷ []) n
   pub did : List (List Entry × Act)
@@ -257,12 +260,13 @@ pub record IsUndone (g : Config) (J : List Entry) (e : Entry) (keep : Bool) (tol
   pub is_told : told' ≡ option_map (went [] 0 [] deeds) told
   pub untold : List Event
   pub are_events : events g (J ++ e ∷ []) ≡ events g J ++ untold
-  pub is_kept : keep ≡ true → Appends kept kept' (line e)
+  pub is_kept : keep ≡ true → Appends kept kept' (line Second before e)
   pub ends : ended ≡ ending.OutOfMemory
 
 -- an entry that wasn't put, wasn't stepped, or wasn't done whole
-abbrev pub Broke : Config → List Entry → Entry → Bool → Option Log → Option Log → Option (List ℕ) → Option (List ℕ)
-    → ℕ → ℕ → Node → Ending → Type 0
-Broke g J e keep told told' kept kept' rf rf' n ended =
-    IsUnput g J e keep told told' kept kept' rf rf' n ended
-    ⊎ (IsUnstepped e keep told told' kept kept' n ended ⊎ IsUndone g J e keep told told' kept kept' n ended)
+abbrev pub Broke : Config → List Entry → Entry → Bool → ℕ → Option Log → Option Log → Option (List ℕ)
+    → Option (List ℕ) → ℕ → ℕ → Node → Ending → Type 0
+Broke g J e keep before told told' kept kept' rf rf' n ended =
+    IsUnput g J e keep before told told' kept kept' rf rf' n ended
+    ⊎ (IsUnstepped e keep before told told' kept kept' n ended
+    ⊎ IsUndone g J e keep before told told' kept kept' n ended)

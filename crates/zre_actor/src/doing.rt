@@ -13,33 +13,35 @@ ghost use Rattle.zre_journal.specs.declared.config.Config.{Config};
 ghost use Rattle.zre_journal.specs.Events.{chronicle};
 ghost use Rattle.zre_node.specs.Journal.{StandsFor};
 ghost use Rattle.zre_capture.specs.Lines.{line, IsEntry};
+ghost use Rattle.zre_capture.specs.declared.format.Format.TheVariants.{Second};
 ghost use Rattle.zre_actor.specs.Work.{IsDeed, DoesAll, IsRefusal, Went, Broke};
 
 use crate::Ending;
 use crate::values::is_value;
-use std::alloc::Global;
-use zre_capture::write_entry;
+use zre_capture::push_entry2;
 use zre_node::{Node, Step};
 use zre_outside::{Act, Entry, NextFault, Recorder, World};
 use zre_peer::Events;
-use zre_values::OutOfMemory;
+use zre_values::{Octets, OutOfMemory};
 
-/// Puts an entry to the recorder, where that is wanted, steps the node with it, and has the world do the acts. What
-/// is to be told comes back.
+/// Puts an entry to the recorder, where that is wanted, after an entry with the reading `before`, steps the node with
+/// it, and has the world do the acts. What is to be told comes back. The line that is put is made in the buffer,
+/// whatever stood there.
 pub(crate) fn take_entry<W: World, R: Recorder>(
-    alloc: Global,
     world: &mut W,
     node: &mut Node,
     rec: &mut R,
+    buffer: &mut Octets,
     keep: bool,
+    before: u64,
     entry: Entry,
 ) -> Result<Events, Ending>
     requires { keep ≡ true → R.begun rec.old ≡ true }
     ensures ok { (g : Config) (J : List EntryValue) → StandsFor g J node.old
-        → IfOk result (λ es. Went g J entry keep (W.told world.old) (W.told world.new) (R.kept rec.old)
+        → IfOk result (λ es. Went g J entry keep before (W.told world.old) (W.told world.new) (R.kept rec.old)
         (R.kept rec.new) node.new es) }
     ensures broke { (g : Config) (J : List EntryValue) → StandsFor g J node.old
-        → IfErr result (λ x. Broke g J entry keep (W.told world.old) (W.told world.new) (R.kept rec.old)
+        → IfErr result (λ x. Broke g J entry keep before (W.told world.old) (W.told world.new) (R.kept rec.old)
         (R.kept rec.new) (R.faults rec.old) (R.faults rec.new) node.new x) }
     ensures world { (W.looked world.new ≡ W.looked world.old) × (W.faults world.new ≡ W.faults world.old) }
     ensures unkept { keep ≡ false → rec.new ≡ rec.old }
@@ -49,7 +51,7 @@ pub(crate) fn take_entry<W: World, R: Recorder>(
     ensures value { IsEntry entry }
 {
     is_value(&entry);
-    if let Err(ending) = keep_line(alloc, rec, keep, &entry) {
+    if let Err(ending) = keep_line(rec, buffer, keep, before, &entry) {
         return Err(ending);
     }
     let Ok(Step { events, acts }) = node.step(entry) else {
@@ -62,16 +64,19 @@ pub(crate) fn take_entry<W: World, R: Recorder>(
     }
 }
 
-// Puts the line of an entry, where that is wanted.
+// Puts the line of an entry after this reading, where that is wanted.
 fn keep_line<R: Recorder>(
-    alloc: Global,
     rec: &mut R,
+    buffer: &mut Octets,
     keep: bool,
+    before: u64,
     entry: &Entry,
 ) -> Result<(), Ending>
     requires { keep ≡ true → R.begun rec.old ≡ true }
-    ensures kept { OnOk result (keep ≡ true → Appends (R.kept rec.old) (R.kept rec.new) (line entry.now)) }
-    ensures broke { IfErr result (λ x. (keep ≡ true) × AppendsFront (R.kept rec.old) (R.kept rec.new) (line entry.now)
+    ensures kept { OnOk result (keep ≡ true
+        → Appends (R.kept rec.old) (R.kept rec.new) (line Second before entry.now)) }
+    ensures broke { IfErr result (λ x. (keep ≡ true)
+        × AppendsFront (R.kept rec.old) (R.kept rec.new) (line Second before entry.now)
         × IsRefusal (R.faults rec.old) (R.faults rec.new) x) }
     ensures unkept { keep ≡ false → rec.new ≡ rec.old }
     ensures begun { R.begun rec.new ≡ R.begun rec.old }
@@ -79,26 +84,32 @@ fn keep_line<R: Recorder>(
     ensures later { R.faults rec.old ≤ R.faults rec.new }
 {
     if keep {
-        put_line(alloc, rec, entry)
+        put_line(rec, buffer, before, entry)
     } else {
         Ok(())
     }
 }
 
-// Puts the line of an entry.
-fn put_line<R: Recorder>(alloc: Global, rec: &mut R, entry: &Entry) -> Result<(), Ending>
+// Puts the line of an entry after this reading.
+fn put_line<R: Recorder>(
+    rec: &mut R,
+    buffer: &mut Octets,
+    before: u64,
+    entry: &Entry,
+) -> Result<(), Ending>
     requires { R.begun rec.old ≡ true }
-    ensures kept { OnOk result (Appends (R.kept rec.old) (R.kept rec.new) (line entry.now)) }
-    ensures front { AppendsFront (R.kept rec.old) (R.kept rec.new) (line entry.now) }
+    ensures kept { OnOk result (Appends (R.kept rec.old) (R.kept rec.new) (line Second before entry.now)) }
+    ensures front { AppendsFront (R.kept rec.old) (R.kept rec.new) (line Second before entry.now) }
     ensures ending { IfErr result (λ x. IsRefusal (R.faults rec.old) (R.faults rec.new) x) }
     ensures begun { R.begun rec.new ≡ R.begun rec.old }
     ensures named { Keeps (R.named rec.old) (R.named rec.new) }
     ensures later { R.faults rec.old ≤ R.faults rec.new }
 {
-    let Ok(line) = write_entry(alloc, entry) else {
+    buffer.clear();
+    let Ok(()) = push_entry2(buffer, before, entry) else {
         return Err(Ending::OutOfMemory);
     };
-    match rec.put(line.as_slice()) {
+    match rec.put(buffer.as_slice()) {
         Ok(()) => Ok(()),
         Err(NextFault::Failed) => Err(Ending::RecordFault),
         Err(NextFault::OutOfMemory) => Err(Ending::OutOfMemory),

@@ -18,6 +18,7 @@ use std::sync::Wait;
 use zre_node::Node;
 use zre_outside::{NextFault, Recorder, Turn, World};
 use zre_peer::Events;
+use zre_values::Octets;
 
 /// What the work left.
 #[derive(Drop)]
@@ -31,8 +32,10 @@ pub struct Worked<W, R> {
 
 impl Pipes {
     /// Takes one turn of the world after the other, and raises what the node tells. After each look the command pipe
-    /// is popped once, and a command found goes into the next turn; after a look in the last turn it isn't. It ends
-    /// at a node that has stopped, at a fault, out of memory or after so many turns, and raises last why.
+    /// is popped once, and a command found goes into the next turn; after a look in the last turn it isn't. Where
+    /// entries are kept, each is put to the recorder as its line of a capture of format 2 before the node takes it,
+    /// the first after the reading 0. It ends at a node that has stopped, at a fault, out of memory or after so many
+    /// turns, and raises last why.
     pub fn work<W: World, R: Recorder, T: Wait + Copy>(
         &self,
         rt: T,
@@ -57,7 +60,8 @@ impl Pipes {
             (scene (W.told result.world) (W.looked result.world) (W.faults result.world) (R.kept result.rec) (R.faults result.rec) result.pass)
             result.node result.ending }
     {
-        let alloc = self.alloc;
+        let mut buffer = Octets::new(self.alloc);
+        let mut before = 0;
         let mut command = None;
         for turn in 0..limit {
             if node.stopped() {
@@ -77,8 +81,20 @@ impl Pipes {
                     }
                 }
                 Turn::Entry(entry) => {
-                    match take_entry(alloc, &mut world, &mut node, &mut rec, keep, entry) {
-                        Ok(events) => pass = self.raise_all(rt, pass, events),
+                    let at = entry.at;
+                    match take_entry(
+                        &mut world,
+                        &mut node,
+                        &mut rec,
+                        &mut buffer,
+                        keep,
+                        before,
+                        entry,
+                    ) {
+                        Ok(events) => {
+                            before = at;
+                            pass = self.raise_all(rt, pass, events);
+                        }
                         Err(ending) => {
                             return self.leave(rt, world, node, rec, pass, ending);
                         }

@@ -1,2 +1,3 @@
 pub mod KeyPairs
+pub mod Ledgers
 pub mod Unread

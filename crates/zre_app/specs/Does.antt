@@ -1,8 +1,14 @@
 -- What a call does, by the command that its words are.
 use Rattle.std.specs.Prelude.{◌≡◌, ◌≤◌, ℕ, Bool, true, false, not, is_some, List, Option, Some, None}
 use Rattle.zre_outside.specs.Causes.{Rose}
+use Rattle.zre_outside.specs.declared.entry.Entry.{Entry}
+use Rattle.zre_capture.specs.Journal.{journal, settings}
+use Rattle.zre_capture.specs.declared.format.Format.TheVariants.{First, Second}
+use Rattle.zre_capture.specs.declared.settings.Settings.{Settings}
+use Rattle.zre_journal.specs.Events.{events}
+use Rattle.zre_journal.specs.Ledger.{KeepsLedgers}
 use Rattle.zre_commands.specs.declared.pump.status.Status.{Status}
-use Rattle.zre_commands.specs.Settings.{as_settings}
+use Rattle.zre_commands.specs.Settings.{as_settings, as_config}
 use Rattle.zre_commands.specs.pump.Meaning.{Meaning}
 use Rattle.zre_commands.specs.pump.Outcome.{Pumped}
 use Rattle.zre_commands.specs.follow.Follow.{follow}
@@ -51,6 +57,18 @@ abbrev pub Does : Option Command → (limit : ℕ) → Status → Seen → Seen 
 Does None limit status s t = DoesPlain None limit status (streams_of s) (streams_of t)
 Does (Some (commands.Plain p)) limit status s t = DoesPlain (Some p) limit status (streams_of s) (streams_of t)
 Does (Some (commands.Chat c)) limit status s t = IsChat c.config c.start c.capture limit s t status
+
+-- The journals whose events a call writes, whatever octets it reads or its world gives, keep every ledger that their
+-- messages are drawn from.
+abbrev pub KeepsItsLedgers : Option Command → Type 0
+KeepsItsLedgers (Some (commands.Plain (Replay g))) =
+    (o : List ℕ) → KeepsLedgers g (journal First o) (events g (journal First o))
+KeepsItsLedgers (Some (commands.Plain ReplayTold)) =
+    (o : List ℕ) (s : Settings) → settings Second o ≡ Some s
+    → KeepsLedgers (as_config s) (journal Second o) (events (as_config s) (journal Second o))
+KeepsItsLedgers (Some (commands.Chat c)) =
+    (entries : List Entry) → KeepsLedgers c.config entries (events c.config entries)
+KeepsItsLedgers _ = Unit {0}
 
 -- it reads nothing
 abbrev pub is_writing : Work → Bool

@@ -1,7 +1,7 @@
 //! The top call: the command that the words ask for, over a source and a sink, and for `chat` a world, a recorder and a
 //! spawner.
 
-ghost use Rattle.zre_app.specs.Does.{Did};
+ghost use Rattle.zre_app.specs.Does.{Did, KeepsItsLedgers};
 ghost use Rattle.zre_app.specs.Given.{handed, stream_views, views};
 ghost use Rattle.zre_app.specs.Words.{command_of};
 
@@ -52,6 +52,7 @@ pub fn run<
         W.told W.faults R.kept R.named R.faults P.faults)
         (command_of words.now) limit result.status (handed input world out.old rec spawner.old)
         (handed result.input result.world out.new result.rec spawner.new) }
+    ensures ledgers { KeepsItsLedgers (command_of words.now) }
 {
     if !is_chat(words) {
         let PlainEnded { status, input } = plain(alloc, words, input, out, limit);
@@ -101,6 +102,7 @@ pub fn zre<
         W.told W.faults R.kept R.named R.faults P.faults)
         (command_of words.now) LIMIT result.status (handed input world out.old rec spawner.old)
         (handed result.input result.world out.new result.rec spawner.new) }
+    ensures ledgers { KeepsItsLedgers (command_of words.now) }
 {
     run(rt, alloc, words, input, world, out, rec, spawner, LIMIT)
 }

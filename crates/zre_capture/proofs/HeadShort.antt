@@ -71,13 +71,13 @@ second-short s are =
     let expired : length (decimal s.expired) ≤ 20 = length-decimal-le 20 s.expired (omega arith) (omega (arith, last)) (omega (arith, last)) in
     let headers = pairs-short s.headers v.few_headers v.fitting in
     let times = after (decimal s.port) (decimal s.evasive) (decimal s.expired ∷ quoted_pairs s.headers ∷ []) 20 983338 port_text
-        (after (decimal s.evasive) (decimal s.expired) (quoted_pairs s.headers ∷ []) 20 983317 evasive (after (decimal s.expired) (quoted_pairs s.headers) [] 20 983296 expired headers)) in
+    (after (decimal s.evasive) (decimal s.expired) (quoted_pairs s.headers ∷ []) 20 983317 evasive (after (decimal s.expired) (quoted_pairs s.headers) [] 20 983296 expired headers)) in
     let rest = decimal s.port ∷ decimal s.evasive ∷ decimal s.expired ∷ quoted_pairs s.headers ∷ [] in
     let whole = after (codes "zre-capture") (codes "2") (id_text s.id ∷ quoted s.name ∷ address_text s.host ∷ rest) 11 984177 (omega arith)
-        (after (codes "2") (id_text s.id) (quoted s.name ∷ address_text s.host ∷ rest) 1 984175 (omega arith)
-        (after (id_text s.id) (quoted s.name) (address_text s.host ∷ rest) 32 984142 (omega (arith, id-short s.id))
-        (after (quoted s.name) (address_text s.host) rest 766 983375 (quoted-short 255 s.name v.name)
-        (after (address_text s.host) (decimal s.port) (decimal s.evasive ∷ decimal s.expired ∷ quoted_pairs s.headers ∷ []) 15 983359 (address_text-short s.host are.host) times)))) in
+    (after (codes "2") (id_text s.id) (quoted s.name ∷ address_text s.host ∷ rest) 1 984175 (omega arith)
+    (after (id_text s.id) (quoted s.name) (address_text s.host ∷ rest) 32 984142 (omega (arith, id-short s.id))
+    (after (quoted s.name) (address_text s.host) rest 766 983375 (quoted-short 255 s.name v.name)
+    (after (address_text s.host) (decimal s.port) (decimal s.evasive ∷ decimal s.expired ∷ quoted_pairs s.headers ∷ []) 15 983359 (address_text-short s.host are.host) times)))) in
     omega (arith, whole)
 
 pub head-short : (f : Format) (s : Settings) → AreSettings s → IsShortHead f s

@@ -26,6 +26,8 @@ use Rattle.zre_node.specs.declared.node.Node.{Node}
 use Rattle.zre_node.specs.Journal.{StandsFor, is_spent}
 use Rattle.zre_node.proofs.Amounts.{can_be}
 use Rattle.zre_capture.specs.Lines as capture
+use Rattle.zre_capture.specs.Journal.{last_reading}
+use Rattle.zre_capture.specs.declared.format.Format.TheVariants.{Second}
 use Rattle.zre_actor.specs.declared.ending.Ending.{Ending}
 use Rattle.zre_actor.specs.declared.ending.Ending.TheVariants as ending
 use Rattle.zre_actor.specs.declared.passes.ActorPass.{ActorPass}
@@ -49,6 +51,7 @@ use Rattle.zre_console.specs.declared.printer.asker.Wish.TheVariants.{No, Due, P
 use Rattle.zre_console.specs.printer.Asking.{asked, asker_of, HasAsked}
 use Rattle.zre_chat.specs.Chat.{Seen, IsChat, IsCaused, IsSpared, HasEnded, Holds}
 use Rattle.zre_console.specs.printer.Printing.{HasPrinted}
+use Rattle.zre_chat.specs.Keeping.{head_of}
 use Rattle.zre_chat.specs.Stages.{Prepared}
 use Rattle.zre_chat.specs.Statuses.{least, of_read, of_print, of_work, of_thread}
 use Rattle.zre_chat.proofs.Fronts.{prefix_trans, quits_through, all_front, none_front, short_front, breaks_front}
@@ -66,7 +69,7 @@ pub asker_ended : (asker : CallerPass) (refused : Bool) (taker taker' : TakerPas
     → HasPrinted (asker_of asker refused) taker taker' asker' broke written written' → ended asker' ≡ ended asker
 asker_ended asker refused taker taker' asker' broke written written' d = ap ended (sym d.is_last) ∙ (d.asked asker (none_wished asker refused)).same_ended
 
-module _ (g : Config) (start : Start) (name : Option (List ℕ)) (keep : Bool) (limit : ℕ) (s u t : Seen) (p : Prepared start name keep s u)
+module _ (g : Config) (start : Start) (name : Option (List ℕ)) (keep : Bool) (limit : ℕ) (s u t : Seen) (p : Prepared g start name keep s u)
     (n : Node) (how : Ending) (looked looked' : Bool) (actor actor' : ActorPass)
     (w : IsWork g [] keep limit (scene u.told looked u.world_faults u.kept u.record_faults actor) (scene t.told looked' t.world_faults t.kept t.record_faults actor') n how)
     (named : Keeps u.named t.named) (none_popped : popped_by actor ≡ []) (none_raised : raised_by actor ≡ [])
@@ -253,11 +256,12 @@ module _ (g : Config) (start : Start) (name : Option (List ℕ)) (keep : Bool) (
   given spared = ⊎_elim (λ (is : status ≡ Done). none_at_stop _ _ _ w.turns w.unstepped w.pending how w.ends (work_done is))
       (λ (x : (status ≢ OutOfMemory) × ¬ Rose s.record_faults t.record_faults). none _ _ _ w.turns w.unstepped w.pending how w.ends (memory x.0) (λ y. x.1 (record_rose y))) spared
 
-  held : (file : List ℕ) → name ≡ Some file → IsSpared status (Rose s.record_faults t.record_faults) → Holds file w.entries s t
+  held : (file : List ℕ) → name ≡ Some file → IsSpared status (Rose s.record_faults t.record_faults) → Holds g file w.entries s t
   held file is spared =
       let k : KeptLines u.kept t.kept w.entries w.unstepped = w.are_kept (p.keeps ∙ ap is_some is) in
-      let nothing : k.part ≡ [] = front_nil k.part k.rest (sym k.is_part ∙ ap capture.lines (given spared)) in (
-        Appends-trans (option_map (λ _. []) s.kept) u.kept t.kept capture.head (capture.lines w.entries) (p.head_kept file is) (subst (Appends u.kept t.kept) (ap (λ l. capture.lines w.entries ++ l) nothing ∙ append-nil (capture.lines w.entries)) k.is_kept),
+      let all : List ℕ = capture.lines Second 0 w.entries in
+      let nothing : k.part ≡ [] = front_nil k.part k.rest (sym k.is_part ∙ ap (capture.lines Second (last_reading 0 w.entries)) (given spared)) in (
+        Appends-trans (option_map (λ _. []) s.kept) u.kept t.kept (head_of g) all (p.head_kept file is) (subst (Appends u.kept t.kept) (ap (λ l. all ++ l) nothing ∙ append-nil all) k.is_kept),
         Keeps-trans (option_map (λ _. file) s.named) u.named t.named (p.file_named file is) named,
       )
     where
@@ -344,6 +348,7 @@ module _ (g : Config) (start : Start) (name : Option (List ℕ)) (keep : Bool) (
     all_done = λ isnt. w.all_done (memory isnt);
     front = front;
     whole = whole;
+    are_settings = p.are_settings;
     held = held;
     are_done = w.goes.are_done;
     in_order = in_order;

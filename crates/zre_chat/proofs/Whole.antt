@@ -16,8 +16,10 @@ use Rattle.zre_outside.specs.declared.start.Start.{Start}
 use Rattle.zre_outside.specs.Causes.{Rose}
 use Rattle.zre_outside.specs.Worlds.{Log}
 use Rattle.zre_journal.specs.declared.config.Config.{Config}
-use Rattle.zre_capture.specs.Lines as capture
+use Rattle.zre_capture.specs.Heads.{AreSettings}
+use Rattle.zre_capture.specs.Journal.{capture}
 use Rattle.zre_capture.specs.Lines.{IsEntry}
+use Rattle.zre_capture.specs.declared.format.Format.TheVariants.{Second}
 use Rattle.zre_actor.specs.declared.views.Placed.{Placed}
 use Rattle.zre_actor.specs.Commands.{under, command_of}
 use Rattle.zre_actor.specs.Work.{went, QuitsLast}
@@ -30,9 +32,11 @@ use Rattle.zre_console.specs.declared.reader.ending.InputEnd.TheVariants as end
 use Rattle.zre_console.specs.reader.Putting.{IsShort}
 use Rattle.zre_console.specs.reader.Reading.{Outcome, BreaksOff}
 use Rattle.zre_console.proofs.lines.Quits.{orders-begin}
+use Rattle.zre_commands.specs.Settings.{as_settings}
 use Rattle.zre_commands.specs.declared.pump.status.Status.{Status}
 use Rattle.zre_commands.specs.declared.pump.status.Status.TheVariants.{Done, Usage, BadInput, ReadFault, WriteFault, WorldFault, NoThread, TooLong, OutOfMemory}
 use Rattle.zre_chat.specs.Chat.{Seen, IsChat, IsCaused, Holds, started}
+use Rattle.zre_chat.specs.Keeping.{head_of}
 use Rattle.zre_chat.specs.Stages.{IsEarly, Unprepared}
 use Rattle.zre_chat.specs.Statuses.{of_fault, of_read}
 use Rattle.zre_chat.proofs.Fronts.{map-prefix, quits_through, none_before, breaks_front, breaks_plain, orders_break}
@@ -51,14 +55,14 @@ none_started None = refl
 none_started (Some l) = refl
 
 -- a capture of no entries
-pub head_only : (kept u t : Option (List ℕ)) → Appends (option_map (λ _. []) kept) u capture.head → t ≡ u → Appends (option_map (λ _. []) kept) t (capture.head ++ capture.lines [])
-head_only kept u t is same = subst (λ (x : Option (List ℕ) × List ℕ). Appends (option_map (λ _. []) kept) x.0 x.1) (λ i. (sym same i, sym (append-nil capture.head) i)) is
+pub head_only : (g : Config) (kept u t : Option (List ℕ)) → Appends (option_map (λ _. []) kept) u (head_of g) → t ≡ u → Appends (option_map (λ _. []) kept) t (capture Second (as_settings g) [])
+head_only g kept u t is same = subst (λ (x : Option (List ℕ) × List ℕ). Appends (option_map (λ _. []) kept) x.0 x.1) (λ i. (sym same i, sym (append-nil (head_of g)) i)) is
 
 -- no commands begin the orders of any text
 pub nothing_begins : (o : List ℕ) → Begins [] o
 nothing_begins o = orders-begin o [] (orders_from 1 (ended_lines (lines_in o))) refl refl
 
-module _ (g : Config) (start : Start) (name : Option (List ℕ)) (limit : ℕ) where
+module _ (g : Config) (start : Start) (name : Option (List ℕ)) (limit : ℕ) (settings : AreSettings (as_settings g)) where
   untold : (begun : Bool) (told : Option Log) → option_map (started begun start) told ≡ option_map (λ l. went [] 0 [] [] (started begun start l)) told
   untold begun None = refl
   untold begun (Some l) = went-none (Some (started begun start l))
@@ -66,7 +70,7 @@ module _ (g : Config) (start : Start) (name : Option (List ℕ)) (limit : ℕ) w
   -- a chat that ended before the threads were started
   pub untalked : (begun : Bool) (s t : Seen) (status : Status) → t.left ≡ s.left → t.taken ≡ s.taken → t.written ≡ s.written → t.told ≡ option_map (started begun start) s.told
       → status ≢ Done → IsCaused status limit [] 0 false s t
-      → ((file : List ℕ) → name ≡ Some file → status ≢ OutOfMemory → ¬ Rose s.record_faults t.record_faults → Holds file [] s t)
+      → ((file : List ℕ) → name ≡ Some file → status ≢ OutOfMemory → ¬ Rose s.record_faults t.record_faults → Holds g file [] s t)
       → IsChat g start name limit s t status
   untalked begun s t status left taken written told not_done cause holds = record {
     octets = [];
@@ -93,6 +97,7 @@ module _ (g : Config) (start : Start) (name : Option (List ℕ)) (limit : ℕ) w
     all_done = λ _. refl;
     front = ([], [], refl, subst (λ x. Appends s.written x []) (sym written) (Appends-nil s.written));
     whole = λ _. subst (λ x. Appends s.written x []) (sym written) (Appends-nil s.written);
+    are_settings = settings;
     held = λ file is spared. ⊎_elim (λ (d : status ≡ Done). absurd (not_done d)) (λ (x : (status ≢ OutOfMemory) × ¬ Rose s.record_faults t.record_faults). holds file is x.0 x.1) spared;
     are_done = nil-sublist [];
     in_order = record { front = []; tail = []; parts = refl; begins = nothing_begins []; closes = inl refl };
@@ -118,9 +123,9 @@ module _ (g : Config) (start : Start) (name : Option (List ℕ)) (limit : ℕ) w
 
   -- what was begun was refused, or memory ran out
   pub unprepared : (s t : Seen) (status : Status) → t.left ≡ s.left → t.taken ≡ s.taken → t.written ≡ s.written
-      → Unprepared start name status s.told t.told s.world_faults t.world_faults s.kept t.kept s.named t.named s.record_faults t.record_faults → IsChat g start name limit s t status
+      → Unprepared g start name status s.told t.told s.world_faults t.world_faults s.kept t.kept s.named t.named s.record_faults t.record_faults → IsChat g start name limit s t status
   unprepared s t status left taken written u = let e = early s t status u.cause in
-      untalked u.begun s t status left taken written u.is_told e.0 e.1 (λ file is isnt still. (let h = u.holds file is isnt still in (head_only s.kept t.kept t.kept h.0 refl, h.1)))
+      untalked u.begun s t status left taken written u.is_told e.0 e.1 (λ file is isnt still. (let h = u.holds file is isnt still in (head_only g s.kept t.kept t.kept h.0 refl, h.1)))
 
 -- ---- a refusal of the outside
 

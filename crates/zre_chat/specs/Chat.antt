@@ -16,12 +16,15 @@ use Rattle.zre_journal.specs.declared.config.Config.{Config}
 use Rattle.zre_journal.specs.Endings.{is_end}
 use Rattle.zre_journal.specs.Events.{chronicle, events}
 use Rattle.zre_journal.specs.Happens.{has_stopped}
-use Rattle.zre_capture.specs.Lines as capture
+use Rattle.zre_capture.specs.Heads.{AreSettings}
+use Rattle.zre_capture.specs.Journal.{capture}
 use Rattle.zre_capture.specs.Lines.{IsEntry}
+use Rattle.zre_capture.specs.declared.format.Format.TheVariants.{Second}
 use Rattle.zre_actor.specs.Work.{went, AreDeeds, acts_of, done_by, AllGo}
 use Rattle.zre_console.specs.lines.Orders.{is_quit, typed, orders}
 use Rattle.zre_console.specs.reader.Putting.{IsShort}
 use Rattle.zre_console.specs.reader.Reading.{IsReadOn, BreaksOff}
+use Rattle.zre_commands.specs.Settings.{as_settings}
 use Rattle.zre_commands.specs.declared.pump.status.Status.{Status}
 use Rattle.zre_commands.specs.declared.pump.status.Status.TheVariants.{Done, Usage, BadInput, ReadFault, WriteFault, WorldFault, NoThread, TooLong, OutOfMemory}
 use Rattle.zre_chat.specs.Statuses.{least}
@@ -93,10 +96,11 @@ HasEnded limit octets handed left = (IsAtEnd left × (length octets < limit))
     ⊎ ((list_any is_quit (typed octets) ≡ true)
     ⊎ ((list_any is_quit handed ≡ false) × ((length octets < limit) ⊎ IsShort handed (typed octets))))
 
--- the recorder, emptied and named, holds the capture of these entries, where it tells what it holds
-abbrev pub Holds : List ℕ → List Entry → Seen → Seen → Type 0
-Holds name es s t =
-    Appends (option_map (λ _. []) s.kept) t.kept (capture.head ++ capture.lines es)
+-- the recorder, emptied and named, holds the capture of format 2 of a node with settings g and these entries, where it
+-- tells what it holds
+abbrev pub Holds : Config → List ℕ → List Entry → Seen → Seen → Type 0
+Holds g name es s t =
+    Appends (option_map (λ _. []) s.kept) t.kept (capture Second (as_settings g) es)
     × Keeps (option_map (λ _. name) s.named) t.named
 
 -- a world was started, unless the chat ended before
@@ -137,9 +141,10 @@ pub record IsChat (g : Config) (start : Start) (name : Option (List ℕ)) (limit
   pub front : AppendsFront s.written t.written (lines (events g entries))
   pub whole : IsSpared status (Rose s.write_faults t.write_faults)
       → Appends s.written t.written (lines (events g entries))
-  -- the capture of all that was given was kept
+  -- the capture of all that was given was kept, its head with the node's settings, which are values of their types
+  pub are_settings : AreSettings (as_settings g)
   pub held : (file : List ℕ) → name ≡ Some file → IsSpared status (Rose s.record_faults t.record_faults)
-      → Holds file entries s t
+      → Holds g file entries s t
   -- the commands that were handed in are done by entries that were given, in order
   pub are_done : Sublist handed (done_by (entries ++ unstepped))
   -- they begin the orders of the input before its quit, but for a quit at their end; where all went well they begin

@@ -6,7 +6,7 @@ ghost use Rattle.zre_outside.specs.Worlds.{with_start};
 ghost use Rattle.zre_journal.specs.Config.{is_valid};
 ghost use Rattle.zre_node.specs.Journal.{StandsFor};
 ghost use Rattle.zre_chat.specs.Chat.{IsChat, seen};
-ghost use Rattle.zre_chat.specs.Keeping.{Begins};
+ghost use Rattle.zre_chat.specs.Keeping.{head_of, Begins};
 ghost use Rattle.zre_chat.specs.Stages.{Unprepared};
 ghost use Rattle.zre_chat.specs.Tables.{IsLaid};
 
@@ -14,6 +14,7 @@ use crate::keeping::begin;
 use crate::statuses::of_fault;
 use crate::table::Table;
 use crate::threads::converse;
+use crate::values::are_values;
 use std::alloc::Global;
 use std::sync::Wait;
 use std::thread::Threads;
@@ -29,7 +30,7 @@ pub struct Chat {
     pub config: Config,
     /// How it goes on the network.
     pub start: Start,
-    /// The name under which a capture of its journal is kept, if it is to be kept.
+    /// The name under which a capture of its journal, of format 2, is kept, if it is to be kept.
     pub capture: Option<Octets>,
 }
 
@@ -79,6 +80,7 @@ impl Chat {
             start,
             capture,
         } = self;
+        are_values(&config);
         let (mut world, mut rec) = (world, rec);
         match prepare(alloc, config, &start, &capture, &mut world, &mut rec) {
             Ok(table) => {
@@ -111,14 +113,15 @@ fn prepare<W: World, R: Recorder>(
     ensures laid { IfOk result (λ table. IsLaid table × StandsFor config [] table.node) }
     ensures told { OnOk result (W.told world.new ≡ option_map (with_start start.now) (W.told world.old)) }
     ensures kept { (name : List ℕ) → capture.now ≡ Some name →
-        OnOk result (Begins name (R.begun rec.new) (R.kept rec.old) (R.kept rec.new) (R.named rec.old) (R.named rec.new)) }
+        OnOk result (Begins (head_of config) name (R.begun rec.new) (R.kept rec.old) (R.kept rec.new) (R.named rec.old)
+        (R.named rec.new)) }
     ensures unkept { capture.now ≡ None → rec.new ≡ rec.old }
     ensures later { (W.faults world.old ≤ W.faults world.new) × (R.faults rec.old ≤ R.faults rec.new) }
-    ensures refused { IfErr result (λ status. Unprepared start.now capture.now status (W.told world.old)
+    ensures refused { IfErr result (λ status. Unprepared config start.now capture.now status (W.told world.old)
         (W.told world.new) (W.faults world.old) (W.faults world.new)
         (R.kept rec.old) (R.kept rec.new) (R.named rec.old) (R.named rec.new) (R.faults rec.old) (R.faults rec.new)) }
 {
-    if let Err(fault) = begin(rec, capture) {
+    if let Err(fault) = begin(alloc, rec, &config, capture) {
         return Err(of_fault(fault, Status::WriteFault));
     }
     if let Err(fault) = world.start(start) {

@@ -1,32 +1,49 @@
 //! The capture is begun.
 
-ghost use Rattle.std.specs.Prelude.{◌≡◌, ◌≤◌, ℕ, List, Option, None, Some, true, is_ok, IfSome, OnOk, IsErrOf};
+ghost use Rattle.std.specs.Prelude.{◌≡◌, ◌≤◌, ℕ, List, Option, None, Some, true, is_ok, IfSome, IfOk, OnOk, IsErrOf};
 ghost use Rattle.std.specs.Str.{is_utf8};
 ghost use Rattle.zre_outside.specs.Causes.{Rose};
-ghost use Rattle.zre_chat.specs.Keeping.{Begins};
+ghost use Rattle.zre_chat.specs.Keeping.{head_of, Begins};
 
+use std::alloc::Global;
 use std::str;
-use zre_capture::HEAD;
+use zre_capture::write_head2;
+use zre_commands::settings::as_settings;
+use zre_journal::Config;
 use zre_outside::{NextFault, Recorder};
-use zre_values::Octets;
+use zre_values::{Octets, OutOfMemory};
 
-// Begins a recorder under a name, and puts the head of a capture.
-fn begin_named<R: Recorder>(rec: &mut R, name: &str) -> Result<(), NextFault>
-    ensures begins { OnOk result (Begins name.now (R.begun rec.new) (R.kept rec.old) (R.kept rec.new)
+// The head of the capture of a node with these settings.
+fn head_of(alloc: Global, config: &Config) -> Result<Octets, OutOfMemory>
+    ensures { IfOk result (λ head. head ≡ head_of config.now) }
+{
+    let settings = as_settings(Config::copy(alloc, config)?);
+    write_head2(alloc, &settings)
+}
+
+// Begins a recorder under a name, and puts this head.
+fn begin_named<R: Recorder>(rec: &mut R, name: &str, head: &[u8]) -> Result<(), NextFault>
+    ensures begins { OnOk result (Begins head.now name.now (R.begun rec.new) (R.kept rec.old) (R.kept rec.new)
         (R.named rec.old) (R.named rec.new)) }
     ensures later { R.faults rec.old ≤ R.faults rec.new }
     ensures failed { IsErrOf result NextFault.Failed → Rose (R.faults rec.old) (R.faults rec.new) }
 {
     rec.begin(name)?;
-    rec.put(HEAD)?;
+    rec.put(head)?;
     Ok(())
 }
 
-/// The same under the name of a capture, where there is one.
-pub(crate) fn begin<R: Recorder>(rec: &mut R, capture: &Option<Octets>) -> Result<(), NextFault>
+/// Begins a recorder under the name of a capture, where there is one, and puts the head of a capture of format 2 of a
+/// node with these settings. Where no memory is left for the head, the recorder isn't begun.
+pub(crate) fn begin<R: Recorder>(
+    alloc: Global,
+    rec: &mut R,
+    config: &Config,
+    capture: &Option<Octets>,
+) -> Result<(), NextFault>
     requires { IfSome capture.now (λ name. is_utf8 name ≡ true) }
-    ensures begins { (name : List ℕ) → capture.now ≡ Some name →
-        OnOk result (Begins name (R.begun rec.new) (R.kept rec.old) (R.kept rec.new) (R.named rec.old) (R.named rec.new)) }
+    ensures begins { (name : List ℕ) → capture.now ≡ Some name → OnOk result (Begins (head_of config.now) name
+        (R.begun rec.new) (R.kept rec.old) (R.kept rec.new) (R.named rec.old) (R.named rec.new)) }
     ensures unkept { capture.now ≡ None → (rec.new ≡ rec.old) × (is_ok result ≡ true) }
     ensures later { R.faults rec.old ≤ R.faults rec.new }
     ensures failed { IsErrOf result NextFault.Failed → Rose (R.faults rec.old) (R.faults rec.new) }
@@ -34,8 +51,11 @@ pub(crate) fn begin<R: Recorder>(rec: &mut R, capture: &Option<Octets>) -> Resul
     let Some(name) = capture else {
         return Ok(());
     };
+    let Ok(head) = head_of(alloc, config) else {
+        return Err(NextFault::OutOfMemory);
+    };
     match str::from_utf8(name.as_slice()) {
-        Ok(name) => begin_named(rec, name),
+        Ok(name) => begin_named(rec, name, head.as_slice()),
         Err(_) => unreachable!(),
     }
 }

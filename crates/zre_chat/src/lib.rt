@@ -8,5 +8,6 @@ mod statuses;
 mod table;
 mod talk;
 mod threads;
+mod values;
 
 pub use chat::{Chat, Chatted};

@@ -18,12 +18,13 @@ use Rattle.zre_commands.specs.Settings.{as_config}
 use Rattle.zre_commands.specs.pump.Lines.{refusal}
 use Rattle.zre_commands.specs.pump.Meaning.{whole_text}
 use Rattle.zre_commands.specs.replay.Replay.{told_text, told_replay}
+use Rattle.zre_commands.specs.upgrade.Upgrade.{text}
 
 of_capture : (s : Settings) (J : List Entry) (o : List ℕ) → IsCaptureOf Second s J o → IsReplayed s J o
 of_capture s J o is =
     let text : told_text o ≡ lines (events (as_config s) J) =
-        ap (λ t. option_map_or (λ (u : Settings). lines (events (as_config u) (journal Second o))) t []) is.settings_are
-        ∙ ap (λ K. lines (events (as_config s) K)) is.entries in
+    ap (λ t. option_map_or (λ (u : Settings). lines (events (as_config u) (journal Second o))) t []) is.settings_are
+    ∙ ap (λ K. lines (events (as_config s) K)) is.entries in
     record {
       is_good = ap is_some is.whole;
       is_written = ap (λ b. told_text o ++ refusal b) is.whole ∙ append-nil (told_text o) ∙ text;
@@ -32,5 +33,6 @@ of_capture s J o is =
 pub written : (s : Settings) (J : List Entry) → AreSettings s → All IsEntry J → AreShort Second 0 J → IsReplayed s J (capture Second s J)
 written s J are entries short = of_capture s J (capture Second s J) (captured Second s J are (head-short Second s are) entries short)
 
-pub upgraded : (s : Settings) (o : List ℕ) → AreSettings s → IsReplayed s (journal First o) (capture Second s (journal First o))
+pub upgraded : (s : Settings) (o : List ℕ) → AreSettings s → IsReplayed s (journal First o) (text s o)
+unfolding text
 upgraded s o are = written s (journal First o) are (journal-are o) (journal-short o)

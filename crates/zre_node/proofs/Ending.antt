@@ -1,5 +1,5 @@
 -- The end of a known peer, at the tables.
-use Rattle.std.proofs.Common.{◌≡◌, ℕ, ◌≤◌, Bool, true, false, not, ◌||◌, eqb, List, [], ◌∷◌, ◌++◌, Option, Some, None, Result, Ok, Err, OnOk, is_some, append-nil, refl, sym, ap, ◌∙◌, nat_cmp, eqb-true, eq-eqb, subst}
+use Rattle.std.proofs.Common.{◌≡◌, ℕ, ◌≤◌, Bool, true, false, not, ◌||◌, eqb, List, [], ◌∷◌, ◌++◌, Option, Some, None, is_some, append-nil, refl, sym, ap, ◌∙◌, nat_cmp, eqb-true, eq-eqb, subst}
 use Rattle.std.specs.BTreeMap.{BTreeMap, is_at}
 use Rattle.std.specs.Map.{lookup, set_value}
 use Rattle.std.specs.List.{list_any}

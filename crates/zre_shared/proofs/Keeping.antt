@@ -1,17 +1,17 @@
 -- How the map of a replica keeps its table.
-use Rattle.std.proofs.Common.{◌≡◌, ℕ, ◌+◌, ◌<◌, ◌≤◌, ◌^◌, max, Bool, true, false, cond, List, [], ◌∷◌, ◌++◌, length, Option, Some, None, map, All, get_or, refl, sym, ap, ◌∙◌, subst, arith}
+use Rattle.std.proofs.Common.{◌≡◌, ℕ, ◌<◌, ◌≤◌, ◌^◌, max, Bool, true, false, cond, List, [], ◌∷◌, Some, None, map, All, get_or, refl, sym, ap, ◌∙◌, subst, arith}
 use Rattle.std.specs.BTreeMap as tree
 use Rattle.std.specs.BTreeMap.{is_at, insert_entry}
 use Rattle.std.specs.Cmp.Lexicographic.{slice_cmp}
 use Rattle.std.specs.List.{AllByRecursion}
 use Rattle.std.specs.List.Sorted.{IsStrictlySortedBy}
-use Rattle.std.specs.Map.{lookup, keys_of, values_of}
-use Rattle.std.specs.Option.{option_map_or}
-use Rattle.std.specs.Ordering.{nat_cmp, match_ordering, is_lt, is_eq}
+use Rattle.std.specs.Map.{lookup, keys_of, values_of, set_value}
+use Rattle.std.specs.Ordering.{nat_cmp, match_ordering, is_eq}
 use Rattle.std.specs.declared.cmp.Ordering.{Ordering}
 use Rattle.std.specs.declared.cmp.Ordering.TheVariants.{Less, Equal, Greater}
 use Rattle.std.proofs.lemmas.List.{get_or_default}
 use Rattle.std.proofs.lemmas.List.Elements.{All-from_recursion, recursion_from_All}
+use Rattle.std.proofs.lemmas.Option.{same_Some}
 use Rattle.std.proofs.lemmas.Map.Entries.{lookup_head, lookup_tail}
 use Rattle.std.proofs.lemmas.Map.Keys.{sorted_head, sorted_tail}
 use Rattle.std.proofs.lemmas.Map.Lookups.{exact_bytes}
@@ -23,7 +23,7 @@ use Rattle.zre_shared.specs.Tables.{by_key, by_age, greater, put, table}
 use Rattle.zre_shared.specs.Writes.{IsWrite}
 use Rattle.zre_shared.proofs.Ages.{by_count}
 use Rattle.zre_shared.proofs.Members.{Rising, rising-head, rising-tail, rising-nil, rising-cons, at_member, all_members}
-use Rattle.zre_shared.proofs.Putting.{less_of_all, put-count, count-within}
+use Rattle.zre_shared.proofs.Putting.{greater-one, less_of_all, put-count, count-within}
 use Rattle.zre_shared.proofs.Tabling.{put-table}
 
 abbrev pub Entries : Type 0
@@ -48,9 +48,6 @@ rising-values (e ∷ es) s at =
 abbrev pub finds : List ℕ → Name → Bool
 finds key name = is_at (λ (x : Name). slice_cmp nat_cmp key x.items) name
 
-abbrev pub is_news : Option Write → Write → Bool
-is_news held w = option_map_or (λ v. is_lt (by_age v w)) held true
-
 finds-by : (w : Write) (e : Name × Write) → IsAtKey e → (o : Ordering) → by_key w e.1 ≡ o → finds w.key e.0 ≡ is_eq o
 finds-by w e at o is = ap is_eq (ap (slice_cmp nat_cmp w.key) at.key ∙ is)
 
@@ -58,48 +55,69 @@ absent : (w : Write) (es : Entries) → AllByRecursion (λ v. by_key w v ≡ Les
 absent w [] less at = refl
 absent w (e ∷ es) less at = lookup_tail (finds w.key) e es (finds-by w e at.0 Less less.0) ∙ absent w es less.1 at.1
 
--- what a write that is news makes of the writes
-pub news : (w : Write) (k : Name) → k.items ≡ w.key → (es : Entries) → Rising (values_of es) → AtKeys es → is_news (lookup (finds w.key) es) w ≡ true → values_of (insert_entry by_name es k w) ≡ put w (values_of es)
-news w k same [] r at n = refl
-news w k same (e ∷ es) r at n =
+-- a write of a key that none is held of
+added : (w : Write) (k : Name) → k.items ≡ w.key → (es : Entries) → Rising (values_of es) → AtKeys es → lookup (finds w.key) es ≡ None → values_of (insert_entry by_name es k w) ≡ put w (values_of es)
+added w k same [] r at n = refl
+added w k same (e ∷ es) r at n =
     let cmp : by_name k e.0 ≡ by_key w e.1 = λ i. slice_cmp nat_cmp (same i) (at.0.key i) in
     ap (λ (o : Ordering). values_of (match_ordering o ((k, w) ∷ e ∷ es) ((e.0, w) ∷ es) (e ∷ insert_entry by_name es k w))) cmp
     ∙ elim (by_key w e.1) as (λ o. by_key w e.1 ≡ o → values_of (match_ordering o ((k, w) ∷ e ∷ es) ((e.0, w) ∷ es) (e ∷ insert_entry by_name es k w)) ≡ match_ordering o (w ∷ e.1 ∷ values_of es) (greater w e.1 ∷ values_of es) (e.1 ∷ put w (values_of es))) [
       | Less ↦ λ o. refl
       | Equal ↦ λ o.
-          let found : lookup (finds w.key) (e ∷ es) ≡ Some e.1 = lookup_head (finds w.key) e es (finds-by w e at.0 Equal o) in
-          let lt : is_lt (by_age e.1 w) ≡ true = ap (λ (x : Option Write). is_news x w) (sym found) ∙ n in
-          ap (λ (b : Bool). cond b w e.1 ∷ values_of es) (sym lt)
-      | Greater ↦ λ o.
-          let tail : lookup (finds w.key) (e ∷ es) ≡ lookup (finds w.key) es = lookup_tail (finds w.key) e es (finds-by w e at.0 Greater o) in
-          ap (λ (vs : List Write). e.1 ∷ vs) (news w k same es (rising-tail e.1 (values_of es) r) at.1 (ap (λ (x : Option Write). is_news x w) (sym tail) ∙ n))
-    ] refl
-
--- one that isn't makes nothing
-pub old : (w : Write) (es : Entries) → Rising (values_of es) → AtKeys es → is_news (lookup (finds w.key) es) w ≡ false → values_of es ≡ put w (values_of es)
-old w [] r at n = absurd cc
-old w (e ∷ es) r at n =
-    elim (by_key w e.1) as (λ o. by_key w e.1 ≡ o → e.1 ∷ values_of es ≡ match_ordering o (w ∷ e.1 ∷ values_of es) (greater w e.1 ∷ values_of es) (e.1 ∷ put w (values_of es))) [
-      | Less ↦ λ o.
-          let none : lookup (finds w.key) (e ∷ es) ≡ None = absent w (e ∷ es) (o, less_of_all w e.1 (values_of es) o (rising-head e.1 (values_of es) r)) at in
-          let news_too : true ≡ false = ap (λ (x : Option Write). is_news x w) (sym none) ∙ n in
+          let found : Some e.1 ≡ None = sym (lookup_head (finds w.key) e es (finds-by w e at.0 Equal o)) ∙ n in
           absurd cc
-      | Equal ↦ λ o.
-          let found : lookup (finds w.key) (e ∷ es) ≡ Some e.1 = lookup_head (finds w.key) e es (finds-by w e at.0 Equal o) in
-          let lt : is_lt (by_age e.1 w) ≡ false = ap (λ (x : Option Write). is_news x w) (sym found) ∙ n in
-          ap (λ (b : Bool). cond b w e.1 ∷ values_of es) (sym lt)
       | Greater ↦ λ o.
           let tail : lookup (finds w.key) (e ∷ es) ≡ lookup (finds w.key) es = lookup_tail (finds w.key) e es (finds-by w e at.0 Greater o) in
-          ap (λ (vs : List Write). e.1 ∷ vs) (old w es (rising-tail e.1 (values_of es) r) at.1 (ap (λ (x : Option Write). is_news x w) (sym tail) ∙ n))
+          ap (λ (vs : List Write). e.1 ∷ vs) (added w k same es (rising-tail e.1 (values_of es) r) at.1 (sym tail ∙ n))
     ] refl
 
-inserted : (w : Write) (k : Name) → k.items ≡ w.key → IsWrite w → (es : Entries) → AtKeys es → AtKeys (insert_entry by_name es k w)
-inserted w k same is [] at = (record { key = same; fits = is }, tt)
-inserted w k same is (e ∷ es) at =
+added-at : (w : Write) (k : Name) → k.items ≡ w.key → IsWrite w → (es : Entries) → AtKeys es → AtKeys (insert_entry by_name es k w)
+added-at w k same is [] at = (record { key = same; fits = is }, tt)
+added-at w k same is (e ∷ es) at =
     elim (by_name k e.0) as (λ o. by_name k e.0 ≡ o → AtKeys (match_ordering o ((k, w) ∷ e ∷ es) ((e.0, w) ∷ es) (e ∷ insert_entry by_name es k w))) [
       | Less ↦ λ o. (record { key = same; fits = is }, at)
       | Equal ↦ λ o. (record { key = sym (exact_bytes k.items e.0.items o) ∙ same; fits = is }, at.1)
-      | Greater ↦ λ o. (at.0, inserted w k same is es at.1)
+      | Greater ↦ λ o. (at.0, added-at w k same is es at.1)
+    ] refl
+
+-- a write of a key that one is held of
+replaced : (w v : Write) (es : Entries) → Rising (values_of es) → AtKeys es → lookup (finds w.key) es ≡ Some v → values_of (set_value (finds w.key) es (greater w v)) ≡ put w (values_of es)
+replaced w v [] r at n = absurd cc
+replaced w v (e ∷ es) r at n =
+    elim (by_key w e.1) as (λ o. by_key w e.1 ≡ o → values_of (set_value (finds w.key) (e ∷ es) (greater w v)) ≡ match_ordering o (w ∷ e.1 ∷ values_of es) (greater w e.1 ∷ values_of es) (e.1 ∷ put w (values_of es))) [
+      | Less ↦ λ o.
+          let none : None ≡ Some v = sym (absent w (e ∷ es) (o, less_of_all w e.1 (values_of es) o (rising-head e.1 (values_of es) r)) at) ∙ n in
+          absurd cc
+      | Equal ↦ λ o.
+          let test : finds w.key e.0 ≡ true = finds-by w e at.0 Equal o in
+          let same : e.1 ≡ v = same_Some e.1 v (sym (lookup_head (finds w.key) e es test) ∙ n) in
+          ap (λ (b : Bool). values_of (cond b ((e.0, greater w v) ∷ es) (e ∷ set_value (finds w.key) es (greater w v)))) test
+          ∙ ap (λ (x : Write). greater w x ∷ values_of es) (sym same)
+      | Greater ↦ λ o.
+          let test : finds w.key e.0 ≡ false = finds-by w e at.0 Greater o in
+          ap (λ (b : Bool). values_of (cond b ((e.0, greater w v) ∷ es) (e ∷ set_value (finds w.key) es (greater w v)))) test
+          ∙ ap (λ (vs : List Write). e.1 ∷ vs) (replaced w v es (rising-tail e.1 (values_of es) r) at.1 (sym (lookup_tail (finds w.key) e es test) ∙ n))
+    ] refl
+
+equal_from_test : (r : Ordering) → is_eq r ≡ true → r ≡ Equal
+equal_from_test Less e = absurd cc
+equal_from_test Equal e = refl
+equal_from_test Greater e = absurd cc
+
+replaced-at : (w v : Write) → IsWrite w → (es : Entries) → AtKeys es → lookup (finds w.key) es ≡ Some v → AtKeys (set_value (finds w.key) es (greater w v))
+replaced-at w v is [] at n = tt
+replaced-at w v is (e ∷ es) at n =
+    elim (finds w.key e.0) as (λ b. finds w.key e.0 ≡ b → AtKeys (cond b ((e.0, greater w v) ∷ es) (e ∷ set_value (finds w.key) es (greater w v)))) [
+      | true ↦ λ test.
+          let same : e.1 ≡ v = same_Some e.1 v (sym (lookup_head (finds w.key) e es test) ∙ n) in
+          let key : w.key ≡ e.0.items = exact_bytes w.key e.0.items (equal_from_test (slice_cmp nat_cmp w.key e.0.items) test) in (
+            record {
+              key = greater-one (λ x. e.0.items ≡ x.key) w v (sym key) (at.0.key ∙ ap (λ (x : Write). x.key) same);
+              fits = greater-one IsWrite w v is (subst IsWrite same at.0.fits);
+            },
+            at.1,
+          )
+      | false ↦ λ test. (at.0, replaced-at w v is es at.1 (sym (lookup_tail (finds w.key) e es test) ∙ n))
     ] refl
 
 -- ---- the replica
@@ -118,37 +136,42 @@ fits_in (e ∷ es) at = (at.0.fits, fits_in es at.1)
 pub held-fits : (m : Map) (g : ℕ) (id : PeerId) → IsKept m g id → AllByRecursion IsWrite (values_of m.entries)
 held-fits m g id h = fits_in m.entries (at_keys m g id h)
 
--- a write that is news is put into the table
-pub record IsNews (m n : Map) (k : Name) (w : Write) : Type 0 where
-  pub named : k.items ≡ w.key
-  pub is : IsWrite w
-  pub news : is_news (lookup (finds w.key) m.entries) w ≡ true
-  pub entries : n.entries ≡ insert_entry by_name m.entries k w
+-- a write was put into the map
+pub record IsPut (m n : Map) (w : Write) : Type 0 where
+  pub values : values_of n.entries ≡ put w (values_of m.entries)
+  pub at : AtKeys n.entries
   pub ordered : tree.IsOrdered by_name n
 
-pub news-values : (m n : Map) (g : ℕ) (id : PeerId) (k : Name) (w : Write) → IsKept m g id → IsNews m n k w → values_of n.entries ≡ put w (values_of m.entries)
-news-values m n g id k w h is = ap values_of is.entries ∙ news w k is.named m.entries (rising m g id h) (at_keys m g id h) is.news
+pub added-put : (m n : Map) (g : ℕ) (id : PeerId) (k : Name) (w : Write) → IsKept m g id → IsWrite w → k.items ≡ w.key → lookup (finds w.key) m.entries ≡ None → n.entries ≡ insert_entry by_name m.entries k w → tree.IsOrdered by_name n → IsPut m n w
+added-put m n g id k w h is named none e ordered = record {
+  values = ap values_of e ∙ added w k named m.entries (rising m g id h) (at_keys m g id h) none;
+  at = subst AtKeys (sym e) (added-at w k named is m.entries (at_keys m g id h));
+  ordered = ordered;
+}
 
-pub news-kept : (m n : Map) (g count : ℕ) (id : PeerId) (k : Name) (w : Write) → IsKept m g id → IsNews m n k w → count ≡ max g w.count → IsKept n count id
-news-kept m n g count id k w h is e =
+pub replaced-put : (m n : Map) (g : ℕ) (id : PeerId) (v w x : Write) → IsKept m g id → IsWrite w → lookup (finds w.key) m.entries ≡ Some v → x ≡ greater w v → n.entries ≡ set_value (finds w.key) m.entries x → tree.IsOrdered by_name n → IsPut m n w
+replaced-put m n g id v w x h is some is_greater e ordered =
+    let set : n.entries ≡ set_value (finds w.key) m.entries (greater w v) = e ∙ ap (set_value (finds w.key) m.entries) is_greater in
+    record {
+      values = ap values_of set ∙ replaced w v m.entries (rising m g id h) (at_keys m g id h) some;
+      at = subst AtKeys (sym set) (replaced-at w v is m.entries (at_keys m g id h) some);
+      ordered = ordered;
+    }
+
+pub put-kept : (m n : Map) (g count : ℕ) (id : PeerId) (w : Write) → IsKept m g id → IsPut m n w → count ≡ max g w.count → IsKept n count id
+put-kept m n g count id w h is e =
     let counts : greatest_count (values_of n.entries) ≡ max w.count (greatest_count (values_of m.entries)) =
-    ap greatest_count (news-values m n g id k w h is) ∙ put-count w (values_of m.entries) in
+    ap greatest_count is.values ∙ put-count w (values_of m.entries) in
     record {
       ordered = is.ordered;
-      entries = All-from_recursion IsAtKey n.entries (subst AtKeys (sym is.entries) (inserted w k is.named is.is m.entries (at_keys m g id h)));
+      entries = All-from_recursion IsAtKey n.entries is.at;
       greatest_is = omega (arith, counts, e, h.greatest_is);
       id_fits = h.id_fits;
     }
 
-pub news-held : (m n : Map) (g : ℕ) (id : PeerId) (k : Name) (w : Write) (held : Held) → IsKept m g id → IsNews m n k w → record { id = id; writes = values_of m.entries } ≡ held → record { id = id; writes = values_of n.entries } ≡ with_write held w
-news-held m n g id k w held h is view =
-    ap (λ (vs : List Write). record { id = id; writes = vs }) (news-values m n g id k w h is ∙ put-table w (values_of m.entries) (rising m g id h))
-    ∙ ap (λ (x : Held). with_write x w) view
-
-pub old-held : (m : Map) (g : ℕ) (id : PeerId) (w : Write) (held : Held) → IsKept m g id → is_news (lookup (finds w.key) m.entries) w ≡ false → record { id = id; writes = values_of m.entries } ≡ held → held ≡ with_write held w
-old-held m g id w held h n view =
-    sym view
-    ∙ ap (λ (vs : List Write). record { id = id; writes = vs }) (old w m.entries (rising m g id h) (at_keys m g id h) n ∙ put-table w (values_of m.entries) (rising m g id h))
+pub put-held : (m n : Map) (g : ℕ) (id : PeerId) (w : Write) (held : Held) → IsKept m g id → IsPut m n w → record { id = id; writes = values_of m.entries } ≡ held → record { id = id; writes = values_of n.entries } ≡ with_write held w
+put-held m n g id w held h is view =
+    ap (λ (vs : List Write). record { id = id; writes = vs }) (is.values ∙ put-table w (values_of m.entries) (rising m g id h))
     ∙ ap (λ (x : Held). with_write x w) view
 
 -- ---- a write of its own

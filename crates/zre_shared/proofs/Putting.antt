@@ -1,18 +1,17 @@
 -- What a further write does to a table.
-use Rattle.std.proofs.Common.{◌≡◌, ℕ, ◌≤◌, max, ◌⊎◌, inl, inr, Bool, true, false, cond, List, [], ◌∷◌, refl, sym, ap, ◌∙◌, arith}
+use Rattle.std.proofs.Common.{◌≡◌, ◌≤◌, max, inl, inr, true, false, cond, List, [], ◌∷◌, refl, sym, ap, ◌∙◌, arith}
 use Rattle.std.specs.List.{AllByRecursion}
 use Rattle.std.specs.Cmp.{tied_itself, tied_back}
 use Rattle.std.specs.Ordering.{match_ordering, is_lt, is_gt}
-use Rattle.std.specs.declared.cmp.Ordering.{Ordering}
 use Rattle.std.specs.declared.cmp.Ordering.TheVariants.{Less, Equal, Greater}
 use Rattle.zre_shared.specs.declared.write.Write.{Write}
 use Rattle.zre_shared.specs.Tables.{by_key, by_age, greater, put}
 use Rattle.zre_shared.specs.Replicas.{greatest_count}
 use Rattle.zre_shared.proofs.Ages.{key_total, not_above, below, itself, over, key_back, count_up, count_down}
-use Rattle.zre_shared.proofs.Members.{In, Rising, rising-head, rising-tail, rising-nil, rising-cons, at_member, all_members}
+use Rattle.zre_shared.proofs.Members.{In, Rising, rising-head, rising-tail, rising-nil, rising-cons, all_members}
 
 -- the greater of two is one of them
-greater-one : (P : Write → Type 0) (w v : Write) → P w → P v → P (greater w v)
+pub greater-one : (P : Write → Type 0) (w v : Write) → P w → P v → P (greater w v)
 greater-one P w v pw pv = elim (is_lt (by_age v w)) as (λ b. P (cond b w v)) [ true ↦ pw | false ↦ pv ]
 
 -- what holds of all holds of all after it

@@ -1,13 +1,12 @@
 -- The table of some writes is the one list that has what a table has.
-use Rattle.std.proofs.Common.{◌≡◌, false, ◌⊎◌, inl, inr, List, [], ◌∷◌, ◌++◌, refl, sym, ap, ◌∙◌, subst, All}
-use Rattle.std.specs.List.{AllByRecursion, Contains}
-use Rattle.std.specs.Cmp.{tied_itself}
-use Rattle.std.specs.declared.cmp.Ordering.TheVariants.{Less, Equal, Greater}
+use Rattle.std.proofs.Common.{◌≡◌, false, inl, inr, List, [], ◌∷◌, ◌++◌, refl, sym, ap, ◌∙◌, subst}
+use Rattle.std.specs.List.{Contains}
+use Rattle.std.specs.declared.cmp.Ordering.TheVariants.{Equal}
 use Rattle.std.proofs.lemmas.List.Elements.{All-from_recursion, recursion_from_All}
 use Rattle.zre_shared.specs.declared.write.Write.{Write}
 use Rattle.std.specs.Ordering.{is_gt}
 use Rattle.zre_shared.specs.Tables.{by_key, by_age, put, table, IsCovered, IsTableOf, HaveSameMembers}
-use Rattle.zre_shared.proofs.Ages.{key_total, same_write, over, alike}
+use Rattle.zre_shared.proofs.Ages.{key_total, same_write, alike}
 use Rattle.zre_shared.proofs.Members.{In, in-from, contains-from, at_member, all_members, in-left, in-right, in-cases, Rising, rising-nil, one_of_key, same_list}
 use Rattle.zre_shared.proofs.Putting.{put-all, put-rising, Covered, covered-itself, covered-over, put-covers, put-keeps}
 

@@ -1,6 +1,5 @@
 -- Frames of a table, one after the other.
-use Rattle.std.proofs.Common.{◌≡◌, ℕ, ◌≤◌, List, [], ◌∷◌, ◌++◌, length, map, filter_map, All, refl, sym, ap, ◌∙◌, append_assoc, subst}
-use Rattle.std.specs.Prelude.{flat_map}
+use Rattle.std.proofs.Common.{◌≡◌, ℕ, List, [], ◌∷◌, ◌++◌, map, filter_map, All, sym, ap, ◌∙◌, append_assoc, subst}
 use Rattle.std.specs.List.{AllByRecursion}
 use Rattle.std.proofs.lemmas.List.{append-nil}
 use Rattle.zre_values.specs.declared.peer_id.PeerId.{PeerId}
@@ -8,7 +7,7 @@ use Rattle.zre_outside.specs.declared.entry.Command.{Command}
 use Rattle.zre_shared.specs.declared.gathered.Gathered.{Gathered}
 use Rattle.zre_shared.specs.declared.write.Write.{Write}
 use Rattle.zre_shared.specs.Gathering.{frames_of, IsGathered, IsPushed, AreAll}
-use Rattle.zre_shared.specs.Welcome.{content_of, IsWhisper, IsWelcome}
+use Rattle.zre_shared.specs.Welcome.{IsWhisper, IsWelcome}
 use Rattle.zre_shared.specs.Writes.{IsWrite, write_of, write_text}
 use Rattle.zre_shared.proofs.Joining.{again}
 

@@ -1,10 +1,8 @@
 //! Which of two writes of a key lasts.
 
 ghost use Rattle.std.specs.Prelude.{◌≡◌};
-ghost use Rattle.std.specs.Option.{option_map_or, option_copied};
 ghost use Rattle.std.specs.Ordering.{is_lt};
-ghost use Rattle.std.specs.Prelude.{true};
-ghost use Rattle.zre_shared.specs.Tables.{by_age, by_octets};
+ghost use Rattle.zre_shared.specs.Tables.{by_age, by_octets, greater};
 
 use crate::write::Write;
 use std::cmp::Ordering;
@@ -20,8 +18,8 @@ fn is_below_by_octets(held: &Write, write: &Write) -> bool
     }
 }
 
-/// Whether a write is greater than one of its key that is held.
-pub(crate) fn is_below(held: &Write, write: &Write) -> bool
+// Whether a write is greater than one of its key that is held.
+fn is_below(held: &Write, write: &Write) -> bool
     ensures { result ≡ is_lt (by_age held.now write.now) }
 {
     match held.count.cmp(&write.count) {
@@ -31,12 +29,11 @@ pub(crate) fn is_below(held: &Write, write: &Write) -> bool
     }
 }
 
-/// The same, where none may be held.
-pub(crate) fn is_news(held: Option<&Write>, write: &Write) -> bool
-    ensures { result ≡ option_map_or (λ v. is_lt (by_age v write.now)) (option_copied held.entry) true }
+/// Puts a write in the place of one of its key that is held, where it is greater.
+pub(crate) fn replace(held: &mut Write, write: Write)
+    ensures { held.new ≡ greater write held.old }
 {
-    match held {
-        Some(held) => is_below(held, write),
-        None => true,
+    if is_below(held, &write) {
+        *held = write;
     }
 }

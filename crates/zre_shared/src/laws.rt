@@ -3,7 +3,7 @@
 ghost use Rattle.std.specs.Prelude.{◌≡◌, ◌↔◌, ℕ, ◌++◌, List, Some, map, filter_map, All};
 ghost use Rattle.std.specs.List.Sorted.{IsStrictlySortedBy};
 ghost use Rattle.zre_values.specs.declared.peer_id.PeerId.{PeerId};
-ghost use Rattle.zre_shared.specs.Replicas.{Held, with_frames};
+ghost use Rattle.zre_shared.specs.Replicas.{with_frames};
 ghost use Rattle.zre_shared.specs.Tables.{by_key, table, IsTableOf, HaveSameMembers};
 ghost use Rattle.zre_shared.specs.Writes.{IsWrite, write_of, write_text};
 ghost use Rattle.zre_shared.specs.declared.write.Write.{Write};

@@ -1,5 +1,5 @@
-ghost use Rattle.std.specs.Prelude.{◌≡◌, ◌≢◌, ◌<◌, ◌≤◌, ◌-◌, ◌^◌, ◌↔◌, ◌++◌, length, map, filter_map, slice_get, is_some, All};
-ghost use Rattle.std.specs.Prelude.{Some, Err, IfOk, IfErr, OnOk, OnErr};
+ghost use Rattle.std.specs.Prelude.{◌≡◌, ◌<◌, ◌≤◌, ◌-◌, ◌^◌, ◌↔◌, ◌++◌, length, slice_get, is_some, All};
+ghost use Rattle.std.specs.Prelude.{Some, Err, IfOk, OnOk, OnErr};
 ghost use Rattle.std.specs.List.Sorted.{IsStrictlySortedBy};
 ghost use Rattle.std.specs.declared.cmp.Ordering.TheVariants.{Less};
 ghost use Rattle.zre_values.specs.PlainId.{IsPeerId};
@@ -9,7 +9,7 @@ ghost use Rattle.zre_shared.specs.Tables.{by_key, by_age};
 ghost use Rattle.zre_shared.specs.Writes.{IsWrite, write_of, write_text};
 ghost use Rattle.zre_shared.specs.Welcome.{IsWelcome};
 
-use crate::age::is_news;
+use crate::age::replace;
 use crate::gathered::{Commands, Gathered};
 use crate::write::{KEY_OCTETS, VALUE_OCTETS, Write};
 use std::alloc::Global;
@@ -91,13 +91,15 @@ impl Replica {
         ensures ok { OnOk result (self.new ≡ with_write self.old write) }
         ensures err { OnErr result (self.new ≡ self.old) }
     {
-        if !is_news(self.writes.get(write.key.as_slice()), &write) {
+        let greatest = self.greatest.max(write.count);
+        if let Some(held) = self.writes.get_mut(write.key.as_slice()) {
+            replace(held, write);
+            self.greatest = greatest;
             return Ok(());
         }
         let key = Vec::from_slice(self.alloc, write.key.as_slice())?;
-        let count = write.count;
         self.writes.insert(key, write)?;
-        self.greatest = self.greatest.max(count);
+        self.greatest = greatest;
         Ok(())
     }
 

@@ -1,6 +1,6 @@
 //! Writes as frames of content.
 
-ghost use Rattle.std.specs.Prelude.{◌≡◌, ◌≤◌, ◌++◌, length, codes, IfOk, OnOk};
+ghost use Rattle.std.specs.Prelude.{◌≡◌, ◌≤◌, ◌++◌, length, IfOk, OnOk};
 ghost use Rattle.std.specs.Prelude.{Some};
 ghost use Rattle.zre_shared.specs.Lines.{line};
 ghost use Rattle.zre_shared.specs.Writes.{head_text, IsWrite, write_text, write_of};

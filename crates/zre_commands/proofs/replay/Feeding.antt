@@ -9,6 +9,7 @@ use Rattle.zre_capture.proofs.Growing.{journal_grows}
 use Rattle.zre_journal.specs.declared.config.Config.{Config}
 use Rattle.zre_journal.specs.Events.{events}
 use Rattle.zre_journal.proofs.Joined.{continues}
+use Rattle.zre_node.specs.declared.node.Node.{Node}
 use Rattle.zre_node.specs.Journal.{StandsFor}
 use Rattle.zre_outside.specs.declared.entry.Entry.{Entry}
 use Rattle.zre_peer.specs.Lines.{line, lines}
@@ -17,9 +18,11 @@ use Rattle.zre_commands.specs.declared.replay.reading.State.{State}
 use Rattle.zre_commands.specs.declared.replay.reading.State.TheVariants.{Going}
 use Rattle.zre_commands.specs.declared.replay.replayer.Replayer.{Replayer}
 use Rattle.zre_commands.specs.declared.replay.waiting.Waiting.{Waiting}
-use Rattle.zre_commands.specs.replay.Replay.{text}
+use Rattle.zre_commands.specs.pump.Meaning.{Grows}
+use Rattle.zre_commands.specs.replay.Replay.{text, replay}
 use Rattle.zre_commands.specs.replay.Replayer.{Fed}
 use Rattle.zre_commands.specs.replay.State.{IsState}
+use Rattle.zre_commands.specs.replay.Taken.{Took}
 
 -- more events have more lines
 pub lines_more : (g : Config) (J K : List Entry) (told : List Event) → events g (J ++ K) ≡ events g J ++ told → lines (events g (J ++ K)) ≡ lines (events g J) ++ lines told
@@ -37,6 +40,15 @@ no_entries = refl
 
 pub text_nothing : (g : Config) → text g [] ≡ []
 text_nothing g = ap (λ J. lines (events g J)) no_entries
+
+-- the entries of a piece were told to the node
+pub text_on : (g : Config) (o x : List ℕ) (given es : List Entry) (n : Node) (out out' : List ℕ) → given ≡ es → Took g (journal First o) given n out out' → journal First (o ++ x) ≡ journal First o ++ es
+    → Grows (replay g) o x out out'
+text_on g o x given es n out out' same t j = record {
+  added = lines t.told;
+  longer = text_by g o x given t.told (j ∙ ap (λ (fs : List Entry). journal First o ++ fs) (sym same)) t.more;
+  appended = t.appended;
+}
 
 not_bad : bad First [] ≡ None
 unfolding bad_from

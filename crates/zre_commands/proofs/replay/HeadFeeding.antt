@@ -136,6 +136,7 @@ text_before o x s e = by (settings Second o) refl
   where
     same : (t : Settings) → settings Second o ≡ Some t → Some s ≡ Some t
     same t h = sym e ∙ settings_stay Second o x t h
+
     by : (t : Option Settings) → settings Second o ≡ t → told_text o ≡ lines (events (as_config s) (journal Second o))
     by None h = text_none o h ∙ sym (ap (λ J. lines (events (as_config s) J)) (no_journal o h))
     by (Some t) h = text_at o s (h ∙ sym (same t h))

@@ -79,7 +79,6 @@ impl Machine for Follower {
 
     ghost says = { λ f. follow (peer_of f) };
 
-    #[tactic(auto, using(crate::proofs::follow::Growing::text_nothing))]
     fn begin(&self, _out: &mut Octets) -> Result<(), OutOfMemory> {
         Ok(())
     }

@@ -58,7 +58,6 @@ impl Machine for Replayer {
 
     ghost says = { λ r. replay (config_of r) };
 
-    #[tactic(auto, using(crate::proofs::replay::Feeding::text_nothing))]
     fn begin(&self, _out: &mut Octets) -> Result<(), OutOfMemory> {
         Ok(())
     }

@@ -75,7 +75,6 @@ impl Machine for Lister {
 
     ghost says = { λ _. show };
 
-    #[tactic(auto, using(crate::proofs::show::Listing::text_nothing))]
     fn begin(&self, _out: &mut Octets) -> Result<(), OutOfMemory> {
         Ok(())
     }

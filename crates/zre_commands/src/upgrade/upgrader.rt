@@ -46,7 +46,6 @@ impl Machine for Upgrader {
 
     ghost says = { λ u. upgrade (settings_of u) };
 
-    #[tactic(auto, using(crate::proofs::upgrade::Feeding::text_nothing))]
     fn begin(&self, out: &mut Octets) -> Result<(), OutOfMemory> {
         push_head2(out, &self.settings)
     }

@@ -22,13 +22,13 @@ returns-in-Err-clause-chat g c = λ f start name s stands p. (
     let back = c.in-Err.ensures.refused in
     let kept = ap (λ j. r.kept j.rec) back in
     let named = ap (λ j. r.named j.rec) back in
-    untalked f start name a.limit true s
+    untalked f start name a.limit p.are_settings true s
     (seen (i.left a.input) (i.taken a.input) (i.faults a.input) (w.told c.in-Err.refused.job.world) (w.faults c.in-Err.refused.job.world) (o.written a.out.now) (o.faults a.out.now)
     (r.kept c.in-Err.refused.job.rec) (r.named c.in-Err.refused.job.rec) (r.faults c.in-Err.refused.job.rec) (g.P.Spawner.faults c.start.new.self))
     NoThread p.same_left p.same_taken p.same_written (ap (λ j. w.told j.world) back ∙ p.told) thread_isnt
     (subst (λ k. Rose k (g.P.Spawner.faults c.start.new.self)) p.same_refusals c.in-Err.ensures.failed)
     (λ file is isnt rose. (
-      head_only s.kept (r.kept a.rec) (r.kept c.in-Err.refused.job.rec) (p.head_kept file is) kept,
+      head_only f s.kept (r.kept a.rec) (r.kept c.in-Err.refused.job.rec) (p.head_kept file is) kept,
       subst (λ k. Keeps (option_map (λ _. file) s.named) k) (sym named) (p.file_named file is),
     )))
 

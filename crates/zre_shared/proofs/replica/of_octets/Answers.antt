@@ -1,4 +1,4 @@
-use Rattle.std.proofs.Common.{rules, ℕ, ◌≡◌, ◌<◌, List, get_or, subst}
+use Rattle.std.proofs.Common.{rules, ℕ, ◌<◌, List, get_or, subst}
 use Rattle.zre_shared.proofs.Keeping.{octets-all}
 use Rattle.zre_shared.proofs.replica.of_octets.Goals as goal
 

@@ -29,7 +29,7 @@ returns-then-stopped-clause-work g c = λ f K here. (
     let t = scene (w.told l.world) (w.looked l.world) (w.faults l.world) (r.kept l.rec) (r.faults l.rec) l.pass in
     let k = l.invariant.running f K here in
     let stopped = sym (c.stopped.ensures f (K ++ k.entries) k.node) ∙ c.if-stopped.true in
-    working.handed_back f K c.args.keep c.args.limit s t _ l.node _ ending.Stopped _ (working.leaves_stopped f K c.args.keep c.args.limit s l.turn t l.node l.command k stopped)
+    working.handed_back f K c.args.keep c.args.limit s t _ l.node _ ending.Stopped _ (working.leaves_stopped f K c.args.keep c.args.limit s l.turn t l.node l.command l.before k stopped)
     (λ i. record { told = w.told (same.0 i); looked = w.looked (same.0 i); world_faults = w.faults (same.0 i); kept = r.kept (same.2 i); record_faults = r.faults (same.2 i); popped = p.0 i; raised = p.1 i; empties = p.2 i })
     same.1 same.3)
 
@@ -41,7 +41,7 @@ returns-in-Err-clause-work g c = λ f K here. (
     let u = scene (w.told x) (w.looked x) (w.faults x) (r.kept l.rec) (r.faults l.rec) l.pass in
     let k = l.invariant.running f K here in
     let going = sym (c.stopped.ensures f (K ++ k.entries) k.node) ∙ c.if-stopped.false in
-    let refuses : working.Refuses f K c.args.keep c.args.limit s l.turn t l.node l.command k c.in-Err.fault u = record {
+    let refuses : working.Refuses f K c.args.keep c.args.limit s l.turn t l.node l.command l.before k c.in-Err.fault u = record {
       told = c.in-Err.ensures.refused.0;
       looked = c.in-Err.ensures.refused.1;
       popped = refl;
@@ -53,7 +53,7 @@ returns-in-Err-clause-work g c = λ f K here. (
       record_same = refl;
     } in
     working.handed_back f K c.args.keep c.args.limit s u _ l.node _ (world_ending c.in-Err.fault) _
-    (working.refused_ends f K c.args.keep c.args.limit s l.turn u l.node l.command (working.refused f K c.args.keep c.args.limit s l.turn t l.node l.command k c.in-Err.fault u refuses) c.in-Err.fault c.loop-turn-test.true
+    (working.refused_ends f K c.args.keep c.args.limit s l.turn u l.node l.command l.before (working.refused f K c.args.keep c.args.limit s l.turn t l.node l.command l.before k c.in-Err.fault u refuses) c.in-Err.fault c.loop-turn-test.true
     (λ e. working.rose_later s.world_faults t.world_faults u.world_faults k.world_later (refuses.rose e)) going)
     (λ i. record { told = w.told (same.0 i); looked = w.looked (same.0 i); world_faults = w.faults (same.0 i); kept = r.kept (same.2 i); record_faults = r.faults (same.2 i); popped = p.0 i; raised = p.1 i; empties = p.2 i })
     same.1 (same.3 ∙ c.ending_by.ensures))
@@ -68,7 +68,7 @@ returns-in-Err-take_entry-clause-work g c = λ f K here. (
     let k = l.invariant.running f K here in
     let going = sym (c.stopped.ensures f (K ++ k.entries) k.node) ∙ c.if-stopped.false in
     let facts = subst (λ (a : Turn). IsTurn l.command a × (w.told x ≡ option_map (after_turn l.command a) (w.told l.world)) × (w.looked x ≡ is_look a)) c.in-Entry.is (c.in-Ok.ensures.turn, c.in-Ok.ensures.told, c.in-Ok.ensures.looked) in
-    let gives : working.Gives f K c.args.keep c.args.limit s l.turn t l.node l.command k c.in-Entry.entry (w.told x) u = record {
+    let gives : working.Gives f K c.args.keep c.args.limit s l.turn t l.node l.command l.before k c.in-Entry.entry (w.told x) u = record {
       is_turn = facts.0;
       given = facts.1;
       value = took.value;
@@ -79,7 +79,7 @@ returns-in-Err-take_entry-clause-work g c = λ f K here. (
       record_later = took.later;
     } in
     working.handed_back f K c.args.keep c.args.limit s u _ z.node _ c.in-Err-take_entry.ending _
-    (working.broke f K c.args.keep c.args.limit s l.turn t l.node l.command k c.in-Entry.entry (w.told x) u z.node c.in-Err-take_entry.ending gives c.loop-turn-test.true refl going
+    (working.broke f K c.args.keep c.args.limit s l.turn t l.node l.command l.before k c.in-Entry.entry (w.told x) u z.node c.in-Err-take_entry.ending gives c.loop-turn-test.true refl going
     (c.in-Err-take_entry.ensures.broke f (K ++ k.entries) k.node))
     (λ i. record { told = w.told (same.0 i); looked = w.looked (same.0 i); world_faults = w.faults (same.0 i); kept = r.kept (same.2 i); record_faults = r.faults (same.2 i); popped = p.0 i; raised = p.1 i; empties = p.2 i })
     same.1 same.3)
@@ -92,7 +92,7 @@ returns-clause-work g c = λ f K here. (
     let k = l.invariant.running f K here in
     let last : l.turn ≡ c.args.limit = omega (arith, c.loop-turn-test.false) in
     working.handed_back f K c.args.keep c.args.limit s t _ l.node _ c.last_ending-ending.result _
-    (working.leaves_at_end f K c.args.keep c.args.limit s l.turn t l.node l.command k (l.invariant.last last) last c.last_ending-ending.result (c.last_ending-ending.ensures f (K ++ k.entries) k.node))
+    (working.leaves_at_end f K c.args.keep c.args.limit s l.turn t l.node l.command l.before k (l.invariant.last last) last c.last_ending-ending.result (c.last_ending-ending.ensures f (K ++ k.entries) k.node))
     (λ i. record { told = w.told (same.0 i); looked = w.looked (same.0 i); world_faults = w.faults (same.0 i); kept = r.kept (same.2 i); record_faults = r.faults (same.2 i); popped = p.0 i; raised = p.1 i; empties = p.2 i })
     same.1 same.3)
 
@@ -104,7 +104,7 @@ loop-turn-preserved g c =
     elim c.match-answer.branch [
       | in-Look+then-turn-limit m ↦
           let facts = subst (λ (a : Turn). IsTurn l.command a × (w.told x ≡ option_map (after_turn l.command a) (w.told l.world)) × (w.looked x ≡ is_look a)) m.in-Look.is (c.in-Ok.ensures.turn, c.in-Ok.ensures.told, c.in-Ok.ensures.looked) in
-          rw (m.pass-is, m.world-is, m.node-is, m.rec-is, m.command-is) (record {
+          rw (m.pass-is, m.world-is, m.node-is, m.rec-is, m.before-is, m.command-is) (record {
             pipes = (m.pop.ensures.pipes, m.pop.ensures.unused ∙ h.pipes.1);
             open_ = m.pop.ensures.events.1 ∙ h.open_;
             looked = λ _. facts.2;
@@ -115,15 +115,15 @@ loop-turn-preserved g c =
             running = λ f K here. (let k = h.running f K here in
                 let u = scene (w.told x) (w.looked x) (w.faults x) (r.kept l.rec) (r.faults l.rec) m.pop.result.0 in
                 let going = sym (c.stopped.ensures f (K ++ k.entries) k.node) ∙ c.if-stopped.false in
-                let looks : working.Looks f K c.args.keep c.args.limit s l.turn t l.node l.command k u = record { told = facts.1; looked = facts.2; raised = m.pop.ensures.events.0; kept = refl; world_later = c.in-Ok.ensures.later; record_same = refl } in
-                working.looked_again f K c.args.keep c.args.limit s l.turn t l.node l.command k u m.pop.result.1 looks
+                let looks : working.Looks f K c.args.keep c.args.limit s l.turn t l.node l.command l.before k u = record { told = facts.1; looked = facts.2; raised = m.pop.ensures.events.0; kept = refl; world_later = c.in-Ok.ensures.later; record_same = refl } in
+                working.looked_again f K c.args.keep c.args.limit s l.turn t l.node l.command l.before k u m.pop.result.1 looks
                 (working.pops l.pass m.pop.result.0 m.pop.result.1 (w.told l.world) (w.told x) (w.looked l.world) (w.looked x) (w.faults l.world) (w.faults x) (r.kept l.rec) (r.faults l.rec)
-                (let rare = working.rare f K c.args.keep c.args.limit s l.turn t l.node l.command k in omega (arith, rare, c.requires.room, c.loop-turn-test.true)) m.pop.ensures.popped)
+                (let rare = working.rare f K c.args.keep c.args.limit s l.turn t l.node l.command l.before k in omega (arith, rare, c.requires.room, c.loop-turn-test.true)) m.pop.ensures.popped)
                 m.if-turn-limit.true facts.0 going);
           })
       | in-Look+else-turn-limit m ↦
           let facts = subst (λ (a : Turn). IsTurn l.command a × (w.told x ≡ option_map (after_turn l.command a) (w.told l.world)) × (w.looked x ≡ is_look a)) m.in-Look.is (c.in-Ok.ensures.turn, c.in-Ok.ensures.told, c.in-Ok.ensures.looked) in
-          rw (m.pass-is, m.world-is, m.node-is, m.rec-is, m.command-is) (record {
+          rw (m.pass-is, m.world-is, m.node-is, m.rec-is, m.before-is, m.command-is) (record {
             pipes = h.pipes;
             open_ = h.open_;
             looked = λ is. absurd (true≢false (sym is));
@@ -133,13 +133,13 @@ loop-turn-preserved g c =
             named = h.named;
             running = λ f K here. (let k = h.running f K here in
                 let u = scene (w.told x) (w.looked x) (w.faults x) (r.kept l.rec) (r.faults l.rec) l.pass in
-                let looks : working.Looks f K c.args.keep c.args.limit s l.turn t l.node l.command k u = record { told = facts.1; looked = facts.2; raised = refl; kept = refl; world_later = c.in-Ok.ensures.later; record_same = refl } in
-                working.looked_last f K c.args.keep c.args.limit s l.turn t l.node l.command k u looks refl refl (omega (arith, m.if-turn-limit.false, c.loop-turn-test.true)) facts.0);
+                let looks : working.Looks f K c.args.keep c.args.limit s l.turn t l.node l.command l.before k u = record { told = facts.1; looked = facts.2; raised = refl; kept = refl; world_later = c.in-Ok.ensures.later; record_same = refl } in
+                working.looked_last f K c.args.keep c.args.limit s l.turn t l.node l.command l.before k u looks refl refl (omega (arith, m.if-turn-limit.false, c.loop-turn-test.true)) facts.0);
           })
       | in-Entry+in-Ok-take_entry m ↦
           let z = m.take_entry.new in let took = m.take_entry.ensures in
           let facts = subst (λ (a : Turn). IsTurn l.command a × (w.told x ≡ option_map (after_turn l.command a) (w.told l.world)) × (w.looked x ≡ is_look a)) m.in-Entry.is (c.in-Ok.ensures.turn, c.in-Ok.ensures.told, c.in-Ok.ensures.looked) in
-          rw (m.pass-is, m.world-is, m.node-is, m.rec-is, m.command-is) (record {
+          rw (m.pass-is, m.world-is, m.node-is, m.rec-is, m.before-is, m.command-is) (record {
             pipes = (m.raise_all-pass.ensures.pipes.0, m.raise_all-pass.ensures.pipes.1 ∙ h.pipes.1);
             open_ = m.raise_all-pass.ensures.open;
             looked = λ is. absurd (true≢false (sym is));
@@ -149,7 +149,7 @@ loop-turn-preserved g c =
             named = Keeps-trans (r.named c.args.rec) (r.named l.rec) (r.named z.rec) h.named took.named;
             running = λ f K here. (let k = h.running f K here in
                 let u = scene (w.told z.world) (w.looked z.world) (w.faults z.world) (r.kept z.rec) (r.faults z.rec) m.raise_all-pass.result in
-                let gives : working.Gives f K c.args.keep c.args.limit s l.turn t l.node l.command k m.in-Entry.entry (w.told x) u = record {
+                let gives : working.Gives f K c.args.keep c.args.limit s l.turn t l.node l.command l.before k m.in-Entry.entry (w.told x) u = record {
                   is_turn = facts.0;
                   given = facts.1;
                   value = took.value;
@@ -159,7 +159,7 @@ loop-turn-preserved g c =
                   world_later = omega (arith, c.in-Ok.ensures.later, took.world.1);
                   record_later = took.later;
                 } in
-                working.went_on f K c.args.keep c.args.limit s l.turn t l.node l.command k m.in-Entry.entry (w.told x) u z.node m.in-Ok-take_entry.events gives c.loop-turn-test.true facts.0
+                working.went_on f K c.args.keep c.args.limit s l.turn t l.node l.command l.before k m.in-Entry.entry (w.told x) u z.node m.in-Ok-take_entry.events gives c.loop-turn-test.true facts.0
                 (sym (c.stopped.ensures f (K ++ k.entries) k.node) ∙ c.if-stopped.false)
                 (m.in-Ok-take_entry.ensures.ok f (K ++ k.entries) k.node) m.raise_all-pass.ensures.raised);
           })

@@ -19,5 +19,5 @@ invariant-loop-turn g l = record {
   named : Keeps (g.R.Recorder.named l.fn.rec) (g.R.Recorder.named l.rec);
   running : (c : Config) (K : List Entry) → StandsFor c K l.fn.node → Running c K l.keep l.limit
       (scene (g.W.World.told l.fn.world) (g.W.World.looked l.fn.world) (g.W.World.faults l.fn.world) (g.R.Recorder.kept l.fn.rec) (g.R.Recorder.faults l.fn.rec) l.fn.pass)
-      l.turn (scene (g.W.World.told l.world) (g.W.World.looked l.world) (g.W.World.faults l.world) (g.R.Recorder.kept l.rec) (g.R.Recorder.faults l.rec) l.pass) l.node l.command;
+      l.turn (scene (g.W.World.told l.world) (g.W.World.looked l.world) (g.W.World.faults l.world) (g.R.Recorder.kept l.rec) (g.R.Recorder.faults l.rec) l.pass) l.node l.command l.before;
 }

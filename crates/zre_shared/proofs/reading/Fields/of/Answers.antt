@@ -1,4 +1,4 @@
-use Rattle.std.proofs.Common.{◌≡◌, ℕ, List, [], ◌∷◌, refl, sym, ◌∙◌}
+use Rattle.std.proofs.Common.{◌≡◌, [], ◌∷◌, refl, sym, ◌∙◌}
 use Rattle.zre_capture.specs.Parts.{between}
 use Rattle.zre_shared.proofs.Forms.{next, last, of_fields, other_word, too_many, five}
 use Rattle.zre_shared.proofs.reading.Fields.of.Goals as goal

@@ -1,4 +1,4 @@
-use Rattle.std.proofs.Common.{List, subst}
+use Rattle.std.proofs.Common.{subst}
 use Rattle.zre_shared.specs.Replicas.{Held}
 use Rattle.zre_shared.proofs.Keeping.{rising}
 use Rattle.zre_shared.proofs.Members.{Rising}

@@ -1,13 +1,12 @@
-use Rattle.std.proofs.Common.{◌≡◌, ℕ, List, ap, ◌∙◌, length, subst, arith}
+use Rattle.std.proofs.Common.{◌≡◌, ℕ, ap, ◌∙◌, length, subst, arith}
 use Rattle.std.specs.List.{AllByRecursion}
 use Rattle.std.specs.Map.{values_of}
 use Rattle.std.proofs.lemmas.Result.{IfOk-weaker}
 use Rattle.zre_shared.specs.Replicas.{Held}
 use Rattle.zre_shared.specs.Writes.{IsWrite}
-use Rattle.zre_shared.specs.declared.write.Write.{Write}
 use Rattle.zre_shared.proofs.Keeping.{held-fits}
 use Rattle.zre_shared.proofs.Lengths.{frame-short}
-use Rattle.zre_shared.proofs.Welcoming.{Welcoming, started, stepped, fits-next, welcomed}
+use Rattle.zre_shared.proofs.Welcoming.{started, stepped, fits-next, welcomed}
 use Rattle.zre_shared.proofs.replica.Replica.welcome.Goals as goal
 
 pub loop-write-init : goal.loop-write-init

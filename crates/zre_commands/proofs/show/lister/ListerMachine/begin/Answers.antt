@@ -1,0 +1,6 @@
+use Rattle.std.proofs.Common.{List, ℕ, ◌++◌, sym, ap, ◌∙◌, append-nil}
+use Rattle.zre_commands.proofs.show.Listing.{text_nothing}
+use Rattle.zre_commands.proofs.show.lister.ListerMachine.begin.Goals as goal
+
+pub returns : goal.returns
+returns c = record { head = λ _. sym (ap (λ (t : List ℕ). c.args._out.now ++ t) text_nothing ∙ append-nil c.args._out.now) }

@@ -1,0 +1,121 @@
+-- A node that was told octets in two pieces stands for the journal that has them in one.
+use Rattle.std.proofs.Common.{◌≡◌, ℕ, ◌+◌, ◌-◌, ◌%◌, ◌≤◌, max, Bool, true, false, cond, not, ◌&&◌, ◌||◌, eqb, ltb, List, [], ◌∷◌, ◌++◌, length, reverse, Option, Some, None, is_some, is_none, refl, sym, ap, ◌∙◌, subst, arith, append_assoc, append-nil, true≢false}
+use Rattle.std.proofs.lemmas.List.{reverse-append, reverse-reverse, append_cancel_right}
+use Rattle.std.specs.Option.{option_and_then, option_or, option_map_or}
+use Rattle.std.specs.List.{AllByRecursion}
+use Rattle.zre_values.specs.Lists.{without}
+use Rattle.zre_values.specs.declared.peer_id.PeerId.{PeerId}
+use Rattle.zre_outside.specs.declared.entry.Entry.{Entry}
+use Rattle.zre_mailbox.specs.Conn.{Hearing}
+use Rattle.zre_link.specs.Link.{link_after}
+use Rattle.zre_outside.specs.declared.entry.Input.TheVariants as input
+use Rattle.zre_journal.specs.declared.config.Config.{Config}
+use Rattle.zre_journal.specs.Chronicle.{Mark, Comes, Opens, TurnsAway, Closes, IsShut, ClosesAtStop, Born, Ends, Sends, Joins, Leaves, after, latest, followed, each, ever}
+use Rattle.zre_journal.specs.Connections.{open_ones, is_new, identity, identity_at, started, start_at, ends, has_ended, runs, refuses, was_used, is_ignored, turns, since, others}
+use Rattle.zre_journal.specs.Cutting.{is_entry, but_entries, piece}
+use Rattle.zre_journal.specs.Events.{chronicle}
+use Rattle.zre_journal.specs.Happens.{is_stop, has_stopped, at_input, marks, with_entry}
+use Rattle.zre_journal.specs.Heard.{clock, bytes}
+use Rattle.zre_journal.specs.Links.{groups, status, line, put_on, links, is_linked, reply_of, replies, taken}
+use Rattle.zre_journal.specs.Peers.{Life, lives, other_lives, births, runner, runner_at, counted, message_at, refreshes, active}
+use Rattle.zre_journal.specs.Proper.{IsProper}
+use Rattle.zre_journal.proofs.Always.{is_proper}
+use Rattle.zre_journal.proofs.Cutting.{same_cut}
+use Rattle.zre_journal.proofs.Going.{are_others}
+use Rattle.zre_journal.proofs.Joined.{continues, after-append}
+use Rattle.zre_journal.proofs.Says.{input_sound}
+use Rattle.zre_journal.proofs.Silent.{Comes-proper}
+use Rattle.zre_journal.proofs.Sound.{Sound, AreSound}
+use Rattle.zre_net.proofs.Same.{Sim, by_marks, same_runs, same_ignored, latest_but, each_but, ever_but, lives_but, births_but, open_but, new_but, groups_but, status_but, taken_but, sim}
+use Rattle.zre_node.specs.Journal.{StandsIn, StandsFor}
+use Rattle.zre_node.specs.Stands.{Holds, Rests, IsKept, IsPeer, IsConn, kept_conn, heard_by, link_of_life, is_above}
+use Rattle.zre_node.specs.declared.connection.Connection.{Connection}
+use Rattle.zre_node.specs.declared.node.Node.{Node}
+use Rattle.zre_node.specs.declared.peer.Peer.{Peer}
+use Rattle.zre_node.specs.declared.tables.Tables.{Tables}
+use Rattle.zre_node.specs.Tabled.{Tabled}
+use Rattle.zre_node.proofs.Entries.{retold}
+
+-- ---- the tables of a node hold in either
+
+abbrev conn_with : ℕ → Option PeerId → Option ℕ → Option Hearing → Connection
+conn_with n i r h = record { since = n; identity = i; run = r; conn = h }
+
+module _ (g : Config) (K L : List Mark) (s : Sim K L) (octets : (c : ℕ) → bytes c K ≡ bytes c L) where
+  same_conn : (c : ℕ) → kept_conn g K c ≡ kept_conn g L c
+  same_conn c =
+      ap (λ n. conn_with n (identity c K) (runs c K) (heard_by (is_ignored c K) g.id (bytes c K))) (s.sinces c)
+      ∙ ap (λ i. conn_with (since c L) i (runs c K) (heard_by (is_ignored c K) g.id (bytes c K))) (by_marks K L s.alike (identity c) (latest_but (identity_at c) (λ e. refl)))
+      ∙ ap (λ r. conn_with (since c L) (identity c L) r (heard_by (is_ignored c K) g.id (bytes c K))) (same_runs K L s.alike c)
+      ∙ ap (λ b. conn_with (since c L) (identity c L) (runs c L) (heard_by b g.id (bytes c K))) (same_ignored K L s.alike c)
+      ∙ ap (λ o. conn_with (since c L) (identity c L) (runs c L) (heard_by (is_ignored c L) g.id o)) (octets c)
+
+  same_link : (l : ℕ) → link_of_life g K l ≡ link_of_life g L l
+  same_link l =
+      ap (λ ms. link_after g.id ms (is_linked l K) (replies l K) (taken l K)) (by_marks K L s.alike (line l) (each_but (put_on l) (λ e. refl)))
+      ∙ ap (λ b. link_after g.id (line l L) b (replies l K) (taken l K)) (by_marks K L s.alike (is_linked l) (ever_but (links l) (λ e. refl)))
+      ∙ ap (λ o. link_after g.id (line l L) (is_linked l L) o (taken l K)) (s.replied l)
+      ∙ ap (λ n. link_after g.id (line l L) (is_linked l L) (replies l L) n) (by_marks K L s.alike (taken l) (taken_but l))
+
+  same_peer : (v : Life) (k : Peer) → IsPeer g K v k → IsPeer g L v k
+  same_peer v k p =
+      let l = v.link in
+      subst (λ x. IsKept v.id (active l L) (runner l L) (counted l L) x k) (same_link l)
+      (subst (λ ms. IsKept v.id (active l L) (runner l L) ms (link_of_life g K l) k) (by_marks K L s.alike (counted l) (each_but (message_at l) (λ e. refl)))
+      (subst (λ o. IsKept v.id (active l L) o (counted l K) (link_of_life g K l) k) (by_marks K L s.alike (runner l) (latest_but (runner_at l) (λ e. refl)))
+      (subst (λ n. IsKept v.id n (runner l K) (counted l K) (link_of_life g K l) k) (s.actives l) p)))
+
+  stopped_too : has_stopped K ≡ has_stopped L
+  stopped_too = by_marks K L s.alike has_stopped (ever_but is_stop (λ e. refl))
+
+  holds : (t : Tables) → IsProper L → Holds g K t → Holds g L t
+  holds t proper h = record {
+    keeps = record {
+      can = h.keeps.can;
+      proper = proper;
+      going = sym stopped_too ∙ h.keeps.going;
+      awake = h.keeps.awake;
+      config = h.keeps.config;
+      mailbox = h.keeps.mailbox;
+      clock_is = h.keeps.clock_is ∙ s.clocks;
+      births_is = h.keeps.births_is ∙ by_marks K L s.alike births births_but;
+      last_is = λ c. sym (by_marks K L s.alike (is_new c) (new_but c)) ∙ h.keeps.last_is c;
+      groups_fit = subst (λ gs. AllByRecursion (λ (group : List ℕ). length group ≤ 255) gs) (by_marks K L s.alike groups groups_but) h.keeps.groups_fit;
+      own = h.keeps.own ∙ ap (λ gs. record { groups = gs; status = status K }) (by_marks K L s.alike groups groups_but)
+          ∙ ap (λ n. record { groups = groups L; status = n }) (by_marks K L s.alike status status_but);
+      conns = subst (λ cs. Tabled (λ (c : ℕ). c) (IsConn g L) cs t.conns.entries) (by_marks K L s.alike open_ones open_but)
+          (retold (λ (c : ℕ). c) (IsConn g K) (IsConn g L) (λ c k e. e ∙ same_conn c) (open_ones K) t.conns.entries h.keeps.conns);
+    };
+    peers = subst (λ vs. Tabled (λ (v : Life). v.link) (IsPeer g L) vs t.peers.entries) (by_marks K L s.alike lives lives_but)
+        (retold (λ (v : Life). v.link) (IsPeer g K) (IsPeer g L) same_peer (lives K) t.peers.entries h.peers);
+  }
+
+  rests : (t : Tables) → Rests g K t → Rests g L t
+  rests t r = record {
+    can = r.can;
+    stopped = sym stopped_too ∙ r.stopped;
+    asleep = r.asleep;
+    config = r.config;
+    own = r.own ∙ ap (λ gs. record { groups = gs; status = status K }) (by_marks K L s.alike groups groups_but)
+        ∙ ap (λ n. record { groups = groups L; status = n }) (by_marks K L s.alike status status_but);
+    none_known = sym (by_marks K L s.alike lives lives_but) ∙ r.none_known;
+    no_peers = r.no_peers;
+    none_open = sym (by_marks K L s.alike open_ones open_but) ∙ r.none_open;
+    no_conns = r.no_conns;
+  }
+
+  stands_in : (t : Tables) → IsProper L → StandsIn g K t → StandsIn g L t
+  stands_in t proper x = record {
+    stopped = x.stopped ∙ stopped_too;
+    going = λ e. holds t proper (x.going (stopped_too ∙ e));
+    resting = λ e. rests t (x.resting (stopped_too ∙ e));
+  }
+
+-- ---- a piece that is cut
+
+pub stands_for_whole : (g : Config) (J : List Entry) (at c : ℕ) (a b : List ℕ) (n : Node) → StandsFor g (J ++ piece at c a ∷ piece at c b ∷ []) n → StandsFor g (J ++ piece at c (a ++ b) ∷ []) n
+stands_for_whole g J at c a b n s = record {
+  stands = stands_in g (chronicle g (J ++ piece at c a ∷ piece at c b ∷ [])) (chronicle g (J ++ piece at c (a ++ b) ∷ [])) (sim g J at c a b) (same_cut g J at c a b).octets_are n.tables
+      (is_proper g (J ++ piece at c (a ++ b) ∷ [])) s.stands;
+  whole = s.whole;
+}

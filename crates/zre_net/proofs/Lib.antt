@@ -1,0 +1,7 @@
+mod Computed
+mod Cut
+mod Cutting
+mod Grows
+mod Lines
+mod Long
+mod Same

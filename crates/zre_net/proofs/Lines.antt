@@ -1,0 +1,56 @@
+-- Texts, line by line.
+use Rattle.std.proofs.Common.{◌≡◌, ℕ, ◌+◌, ◌<◌, ◌==◌, ◌&&◌, not, cond, List, [], ◌∷◌, ◌++◌, length, Option, Some, None, refl, sym, ap, ◌∙◌, arith, append_assoc, append-nil}
+use Rattle.std.proofs.lemmas.List.Splits.{length-slice_split}
+use Rattle.zre_capture.specs.Parts.{Lacks}
+use Rattle.zre_capture.proofs.Parts.{between-cut, between-whole}
+use Rattle.zre_net.specs.declared.moves.Move.{Move}
+use Rattle.zre_net.specs.Fields.{move_of}
+use Rattle.zre_net.specs.Reading.{parts_in, but_last, lines_in, is_line, bad_from, with_first, moves_in}
+
+pub some_parts : (text : List ℕ) → 0 < length (parts_in text)
+some_parts text = omega (arith, length-slice_split (λ b. b == 10) text)
+
+-- ---- the first bad line
+
+pub bad_of : (n used : ℕ) (line : List ℕ) (ps : List (List ℕ)) → 0 < length ps
+    → bad_from n used (line ∷ ps) ≡ cond (is_line n (used + (length line + 1)) line) (bad_from (n + 1) (used + (length line + 1)) ps) (Some n)
+unfolding bad_from
+bad_of n used line [] some = absurd (omega (arith, some))
+bad_of n used line (p ∷ ps) some = refl
+
+pub bad-cut : (n used : ℕ) (text line after : List ℕ) → text ≡ line ++ (10 ∷ after) → Lacks 10 line
+    → bad_from n used (parts_in text) ≡ cond (is_line n (used + (length line + 1)) line) (bad_from (n + 1) (used + (length line + 1)) (parts_in after)) (Some n)
+bad-cut n used text line after e none = ap (bad_from n used) (between-cut 10 text line after e none) ∙ bad_of n used line (parts_in after) (some_parts after)
+
+-- ---- moves
+
+but_last_of : (line : List ℕ) (ps : List (List ℕ)) → 0 < length ps → but_last (line ∷ ps) ≡ line ∷ but_last ps
+but_last_of line [] some = absurd (omega (arith, some))
+but_last_of line (p ∷ ps) some = refl
+
+pub lines-cut : (text line after : List ℕ) → text ≡ line ++ (10 ∷ after) → Lacks 10 line → lines_in text ≡ line ∷ lines_in after
+lines-cut text line after e none = ap but_last (between-cut 10 text line after e none) ∙ but_last_of line (parts_in after) (some_parts after)
+
+pub lines-whole : (text : List ℕ) → Lacks 10 text → lines_in text ≡ []
+lines-whole text none = ap but_last (between-whole 10 text none)
+
+first_joined : (o : Option Move) (ms : List Move) → with_first o ms ≡ with_first o [] ++ ms
+first_joined None ms = refl
+first_joined (Some m) ms = refl
+
+-- with the move of one line more
+pub moves-cut : (done : List Move) (text line after : List ℕ) → text ≡ line ++ (10 ∷ after) → Lacks 10 line
+    → (done ++ moves_in (line ∷ [])) ++ moves_in (lines_in after) ≡ done ++ moves_in (lines_in text)
+moves-cut done text line after e none =
+    append_assoc done (moves_in (line ∷ [])) (moves_in (lines_in after))
+    ∙ ap (λ ms. done ++ ms) (sym (first_joined (move_of line) (moves_in (lines_in after))) ∙ sym (ap moves_in (lines-cut text line after e none)))
+
+pub moves-whole : (done : List Move) (text : List ℕ) → Lacks 10 text → done ++ moves_in (lines_in text) ≡ done
+moves-whole done text none = ap (λ ls. done ++ moves_in ls) (lines-whole text none) ∙ append-nil done
+
+-- ---- the end
+
+pub bad-end : (n used : ℕ) (text : List ℕ) → Lacks 10 text
+    → bad_from n used (parts_in text) ≡ cond ((length text == 0) && not (n == 1)) None (Some n)
+unfolding bad_from
+bad-end n used text none = ap (bad_from n used) (between-whole 10 text none)

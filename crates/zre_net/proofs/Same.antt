@@ -1,0 +1,262 @@
+-- Octets that come in two pieces at one reading, or in one: the same came about at the same times.
+use Rattle.std.proofs.Common.{◌≡◌, ℕ, ◌+◌, ◌-◌, ◌%◌, ◌≤◌, max, Bool, true, false, cond, not, ◌&&◌, ◌||◌, eqb, ltb, List, [], ◌∷◌, ◌++◌, length, reverse, Option, Some, None, is_some, is_none, refl, sym, ap, ◌∙◌, subst, arith, append_assoc, append-nil, true≢false}
+use Rattle.std.proofs.lemmas.List.{reverse-append, reverse-reverse, append_cancel_right}
+use Rattle.std.specs.Option.{option_and_then, option_or, option_map_or}
+use Rattle.std.specs.List.{AllByRecursion}
+use Rattle.zre_values.specs.Lists.{without}
+use Rattle.zre_outside.specs.declared.entry.Entry.{Entry}
+use Rattle.zre_outside.specs.declared.entry.Input.TheVariants as input
+use Rattle.zre_journal.specs.declared.config.Config.{Config}
+use Rattle.zre_journal.specs.Chronicle.{Mark, Comes, Opens, TurnsAway, Closes, IsShut, ClosesAtStop, Born, Ends, Sends, Joins, Leaves, after, latest, followed, each, ever}
+use Rattle.zre_journal.specs.Connections.{open_ones, is_new, identity, identity_at, started, start_at, ends, has_ended, runs, refuses, was_used, is_ignored, turns, since, others}
+use Rattle.zre_journal.specs.Cutting.{is_entry, but_entries, piece}
+use Rattle.zre_journal.specs.Events.{chronicle}
+use Rattle.zre_journal.specs.Happens.{is_stop, has_stopped, at_input, marks, with_entry}
+use Rattle.zre_journal.specs.Heard.{clock, bytes}
+use Rattle.zre_journal.specs.Links.{groups, status, bodies, put_on, links, is_linked, reply_of, replies, taken}
+use Rattle.zre_journal.specs.Peers.{Life, lives, other_lives, births, runner, runner_at, counted, message_at, refreshes, active}
+use Rattle.zre_journal.specs.Proper.{IsProper}
+use Rattle.zre_journal.proofs.Always.{is_proper}
+use Rattle.zre_journal.proofs.Cutting.{same_cut}
+use Rattle.zre_journal.proofs.Going.{are_others}
+use Rattle.zre_journal.proofs.Joined.{continues, after-append}
+use Rattle.zre_journal.proofs.Says.{input_sound}
+use Rattle.zre_journal.proofs.Silent.{Comes-proper}
+use Rattle.zre_journal.proofs.Sound.{Sound, AreSound}
+
+-- ---- marks that are no entries
+
+abbrev AreInner : List Mark → Type 0
+AreInner hs = AllByRecursion (λ h. is_entry h ≡ false) hs
+
+inner_of : (g : Config) (hs K : List Mark) → AreSound g hs K → AreInner hs
+inner_of g [] K s = tt
+inner_of g (h ∷ hs) K s = (one h s.0, inner_of g hs (h ∷ K) s.1)
+  where
+    one : (h : Mark) → Sound g h K → is_entry h ≡ false
+    one (Comes e) z = absurd z
+    one _ z = refl
+
+-- those of a piece are such
+piece_inner : (g : Config) (J : List Entry) (at c : ℕ) (o : List ℕ) → AreInner (marks g (piece at c o) (chronicle g J))
+piece_inner g J at c o = by (has_stopped H) refl
+  where
+    H : List Mark
+    H = chronicle g J
+
+    M : List Mark
+    M = Comes (piece at c o) ∷ H
+
+    by : (b : Bool) → has_stopped H ≡ b → AreInner (cond b [] (at_input g (input.Piece c o) H M))
+    by true s = tt
+    by false s = inner_of g (at_input g (input.Piece c o) H M) M (input_sound g (input.Piece c o) H M (Comes-proper H (is_proper g J) (piece at c o)) refl (are_others g J))
+
+but_after : (hs K : List Mark) → AreInner hs → but_entries (after hs K) ≡ after hs (but_entries K)
+but_after [] K n = refl
+but_after (h ∷ hs) K n = but_after hs (h ∷ K) n.1 ∙ ap (λ b. after hs (cond (not b) (h ∷ but_entries K) (but_entries K))) n.0
+
+onto : (hs K : List Mark) → after hs K ≡ reverse hs ++ K
+onto [] K = refl
+onto (h ∷ hs) K = onto hs (h ∷ K) ∙ sym (append_assoc (reverse hs) (h ∷ []) K) ∙ ap (λ xs. xs ++ K) (sym (reverse-append (h ∷ []) hs))
+
+same_marks : (hs ks B : List Mark) → after hs B ≡ after ks B → hs ≡ ks
+same_marks hs ks B e =
+    sym (reverse-reverse hs)
+    ∙ ap reverse (append_cancel_right (reverse hs) (reverse ks) B (sym (onto hs B) ∙ e ∙ onto ks B))
+    ∙ reverse-reverse ks
+
+-- ---- what marks say, but for those of entries
+
+module _ {A : Type 0} (f : Mark → Option A) (none : (e : Entry) → f (Comes e) ≡ None) where
+  pub latest_but : (H : List Mark) → latest f (but_entries H) ≡ latest f H
+  latest_but [] = refl
+  latest_but (Comes e ∷ H) = latest_but H ∙ ap (λ o. option_or o (latest f H)) (sym (none e))
+  latest_but (h ∷ H) = ap (λ o. option_or (f h) o) (latest_but H)
+
+  pub each_but : (H : List Mark) → each f (but_entries H) ≡ each f H
+  each_but [] = refl
+  each_but (Comes e ∷ H) = each_but H ∙ ap (λ o. followed (each f H) o) (sym (none e))
+  each_but (h ∷ H) = ap (λ xs. followed xs (f h)) (each_but H)
+
+pub ever_but : (t : Mark → Bool) → ((e : Entry) → t (Comes e) ≡ false) → (H : List Mark) → ever t (but_entries H) ≡ ever t H
+ever_but t none [] = refl
+ever_but t none (Comes e ∷ H) = ever_but t none H ∙ ap (λ b. cond b true (ever t H)) (sym (none e))
+ever_but t none (h ∷ H) = ap (λ b. cond (t h) true b) (ever_but t none H)
+
+pub lives_but : (H : List Mark) → lives (but_entries H) ≡ lives H
+lives_but [] = refl
+lives_but (Born l p to ∷ H) = ap (λ (vs : List Life). vs ++ record { link = l; id = p; endpoint = to } ∷ []) (lives_but H)
+lives_but (Ends l why ∷ H) = ap (other_lives l) (lives_but H)
+lives_but (_ ∷ H) = lives_but H
+
+pub births_but : (H : List Mark) → births (but_entries H) ≡ births H
+births_but [] = refl
+births_but (Born l p to ∷ H) = ap (λ n. n + 1) (births_but H)
+births_but (_ ∷ H) = births_but H
+
+pub open_but : (H : List Mark) → open_ones (but_entries H) ≡ open_ones H
+open_but [] = refl
+open_but (Opens c ∷ H) = ap (λ cs. cs ++ c ∷ []) (open_but H)
+open_but (Closes c why ∷ H) = ap (others c) (open_but H)
+open_but (IsShut c ∷ H) = ap (others c) (open_but H)
+open_but (ClosesAtStop c ∷ H) = ap (others c) (open_but H)
+open_but (_ ∷ H) = open_but H
+
+pub new_but : (c : ℕ) (H : List Mark) → is_new c (but_entries H) ≡ is_new c H
+new_but c [] = refl
+new_but c (Opens d ∷ H) = ap (λ b. ltb d c && b) (new_but c H)
+new_but c (TurnsAway d ∷ H) = ap (λ b. ltb d c && b) (new_but c H)
+new_but c (_ ∷ H) = new_but c H
+
+pub groups_but : (H : List Mark) → groups (but_entries H) ≡ groups H
+groups_but [] = refl
+groups_but (Joins group ∷ H) = ap (λ gs. gs ++ group ∷ []) (groups_but H)
+groups_but (Leaves group ∷ H) = ap (without group) (groups_but H)
+groups_but (_ ∷ H) = groups_but H
+
+pub status_but : (H : List Mark) → status (but_entries H) ≡ status H
+status_but [] = refl
+status_but (Joins group ∷ H) = ap (λ n. (n + 1) % 256) (status_but H)
+status_but (Leaves group ∷ H) = ap (λ n. (n + 1) % 256) (status_but H)
+status_but (_ ∷ H) = status_but H
+
+pub taken_but : (l : ℕ) (H : List Mark) → taken l (but_entries H) ≡ taken l H
+taken_but l [] = refl
+taken_but l (Sends k n ∷ H) = ap (λ m. cond (eqb l k) (m + n) m) (taken_but l H)
+taken_but l (_ ∷ H) = taken_but l H
+
+unless_same : (s t : ℕ → Bool) (o : Option ℕ) → ((l : ℕ) → s l ≡ t l) → option_and_then (λ l. cond (s l) None (Some l)) o ≡ option_and_then (λ l. cond (t l) None (Some l)) o
+unless_same s t None e = refl
+unless_same s t (Some l) e = ap (λ b. cond b None (Some l)) (e l)
+
+-- ---- chronicles in which the same came about at the same times
+
+pub record Sim (K L : List Mark) : Type 0 where
+  pub alike : but_entries K ≡ but_entries L
+  pub clocks : clock K ≡ clock L
+  pub actives : (l : ℕ) → active l K ≡ active l L
+  pub sinces : (c : ℕ) → since c K ≡ since c L
+  pub replied : (l : ℕ) → replies l K ≡ replies l L
+
+module _ (K L : List Mark) (alike : but_entries K ≡ but_entries L) where
+  pub by_marks : {A : Type 0} (O : List Mark → A) → ((H : List Mark) → O (but_entries H) ≡ O H) → O K ≡ O L
+  by_marks O l = sym (l K) ∙ ap O alike ∙ l L
+
+  same_started : (c : ℕ) → started c K ≡ started c L
+  same_started c = by_marks (started c) (latest_but (start_at c) (λ e. refl))
+
+  pub same_runs : (c : ℕ) → runs c K ≡ runs c L
+  same_runs c = ap (option_and_then (λ l. cond (has_ended l K) None (Some l))) (same_started c)
+      ∙ unless_same (λ l. has_ended l K) (λ l. has_ended l L) (started c L) (λ l. by_marks (has_ended l) (ever_but (ends l) (λ e. refl)))
+
+  pub same_ignored : (c : ℕ) → is_ignored c K ≡ is_ignored c L
+  same_ignored c = ap (λ o. is_none o && was_used c K) (same_runs c)
+      ∙ ap (λ b. is_none (runs c L) && (b || is_some (started c K))) (by_marks (ever (refuses c)) (ever_but (refuses c) (λ e. refl)))
+      ∙ ap (λ o. is_none (runs c L) && (ever (refuses c) L || is_some o)) (same_started c)
+
+  same_turns : (c : ℕ) (h : Mark) → turns c K h ≡ turns c L h
+  same_turns c (Ends l why) = ap (λ o. option_map_or (eqb l) o false) (same_runs c)
+  same_turns c _ = refl
+
+-- one mark more, which is no entry
+one_more : (h : Mark) (K L : List Mark) → is_entry h ≡ false → Sim K L → Sim (h ∷ K) (h ∷ L)
+one_more h K L n s = record {
+  alike = ap (λ X. cond (not (is_entry h)) (h ∷ X) X) s.alike;
+  clocks = at_clock h n;
+  actives = λ l. ap (λ m. cond (refreshes l h) m (active l K)) s.clocks ∙ ap (λ m. cond (refreshes l h) (clock L) m) (s.actives l);
+  sinces = λ c. ap (λ b. cond b (clock K) (since c K)) (same_turns K L s.alike c h) ∙ ap (λ m. cond (turns c L h) m (since c K)) s.clocks
+      ∙ ap (λ m. cond (turns c L h) (clock L) m) (s.sinces c);
+  replied = λ l. on_replies l h n;
+}
+  where
+    at_clock : (h : Mark) → is_entry h ≡ false → clock (h ∷ K) ≡ clock (h ∷ L)
+    at_clock (Comes e) z = absurd (true≢false z)
+    at_clock _ z = s.clocks
+
+    on_replies : (l : ℕ) (h : Mark) → is_entry h ≡ false → replies l (h ∷ K) ≡ replies l (h ∷ L)
+    on_replies l (Comes e) z = absurd (true≢false z)
+    on_replies l _ z = s.replied l
+
+many_more : (hs K L : List Mark) → AreInner hs → Sim K L → Sim (after hs K) (after hs L)
+many_more [] K L n s = s
+many_more (h ∷ hs) K L n s = many_more hs (h ∷ K) (h ∷ L) n.1 (one_more h K L n.0 s)
+
+-- a piece comes in its place, or once more at the same time
+in_place : (H : List Mark) (at c : ℕ) (a b : List ℕ) → Sim (Comes (piece at c a) ∷ H) (Comes (piece at c b) ∷ H)
+in_place H at c a b = record { alike = refl; clocks = refl; actives = λ l. refl; sinces = λ d. refl; replied = λ l. refl }
+
+once_more : (K L : List Mark) (at c : ℕ) (b : List ℕ) → at ≤ clock K → Sim K L → Sim (Comes (piece at c b) ∷ K) L
+once_more K L at c b low s = record {
+  alike = s.alike;
+  clocks = (omega (arith, low)) ∙ s.clocks;
+  actives = s.actives;
+  sinces = s.sinces;
+  replied = λ l. ap (λ o. replies l K ++ o) (nothing (is_linked l K)) ∙ append-nil (replies l K) ∙ s.replied l;
+}
+  where
+    nothing : (t : Bool) → cond {A = List ℕ} t [] [] ≡ []
+    nothing true = refl
+    nothing false = refl
+
+inner_clock : (hs K : List Mark) → AreInner hs → clock (after hs K) ≡ clock K
+inner_clock [] K n = refl
+inner_clock (h ∷ hs) K n = inner_clock hs (h ∷ K) n.1 ∙ one h n.0
+  where
+    one : (h : Mark) → is_entry h ≡ false → clock (h ∷ K) ≡ clock K
+    one (Comes e) z = absurd (true≢false z)
+    one _ z = refl
+
+-- ---- a piece that is cut
+
+module _ (g : Config) (J : List Entry) (at c : ℕ) (a b : List ℕ) where
+  abbrev H : List Mark
+  H = chronicle g J
+
+  abbrev M : List Mark
+  M = marks g (piece at c a) H
+
+  abbrev X : List Mark
+  X = with_entry g (piece at c a) H
+
+  abbrev N : List Mark
+  N = marks g (piece at c b) X
+
+  abbrev W : List Mark
+  W = marks g (piece at c (a ++ b)) H
+
+  reached : chronicle g (J ++ piece at c a ∷ []) ≡ X
+  reached = (continues g J (piece at c a ∷ [])).happened
+
+  inner_first : AreInner M
+  inner_first = piece_inner g J at c a
+
+  inner_second : AreInner N
+  inner_second = subst (λ Y. AreInner (marks g (piece at c b) Y)) reached (piece_inner g (J ++ piece at c a ∷ []) at c b)
+
+  twice : chronicle g (J ++ piece at c a ∷ piece at c b ∷ []) ≡ after N (Comes (piece at c b) ∷ X)
+  twice = (continues g J (piece at c a ∷ piece at c b ∷ [])).happened
+
+  once : chronicle g (J ++ piece at c (a ++ b) ∷ []) ≡ after W (Comes (piece at c (a ++ b)) ∷ H)
+  once = (continues g J (piece at c (a ++ b) ∷ [])).happened
+
+  together : M ++ N ≡ W
+  together = same_marks (M ++ N) W (but_entries H)
+      (after-append M N (but_entries H)
+      ∙ ap (after N) (sym (but_after M (Comes (piece at c a) ∷ H) inner_first))
+      ∙ sym (but_after N (Comes (piece at c b) ∷ X) inner_second)
+      ∙ sym (ap but_entries twice) ∙ (same_cut g J at c a b).happened ∙ ap but_entries once
+      ∙ but_after W (Comes (piece at c (a ++ b)) ∷ H) (piece_inner g J at c (a ++ b)))
+
+  alike_at_last : Sim (after N (Comes (piece at c b) ∷ X)) (after N (after M (Comes (piece at c (a ++ b)) ∷ H)))
+  alike_at_last = many_more N (Comes (piece at c b) ∷ X) (after M (Comes (piece at c (a ++ b)) ∷ H)) inner_second
+      (once_more X (after M (Comes (piece at c (a ++ b)) ∷ H)) at c b late
+      (many_more M (Comes (piece at c a) ∷ H) (Comes (piece at c (a ++ b)) ∷ H) inner_first (in_place H at c a (a ++ b))))
+    where
+      late : at ≤ clock X
+      late = let e = inner_clock M (Comes (piece at c a) ∷ H) inner_first in omega (arith, e)
+
+  ends_alike : after N (after M (Comes (piece at c (a ++ b)) ∷ H)) ≡ chronicle g (J ++ piece at c (a ++ b) ∷ [])
+  ends_alike = sym (after-append M N (Comes (piece at c (a ++ b)) ∷ H)) ∙ ap (λ hs. after hs (Comes (piece at c (a ++ b)) ∷ H)) together ∙ sym once
+
+  pub sim : Sim (chronicle g (J ++ piece at c a ∷ piece at c b ∷ [])) (chronicle g (J ++ piece at c (a ++ b) ∷ []))
+  sim = subst (λ Y. Sim Y (chronicle g (J ++ piece at c (a ++ b) ∷ []))) (sym twice) (subst (λ Z. Sim (after N (Comes (piece at c b) ∷ X)) Z) ends_alike alike_at_last)

@@ -1,0 +1,5 @@
+use Rattle.zre_net.proofs.Long.{is_short}
+use Rattle.zre_net.proofs.laws.schedules_are_short.Goals as goal
+
+pub returns : goal.returns
+returns c = is_short

@@ -1,0 +1,12 @@
+pub mod Answer
+pub mod Carried
+pub mod Comes
+pub mod Example
+pub mod Fields
+pub mod Grammar
+pub mod History
+pub mod Lists
+pub mod Numbers
+pub mod Reading
+pub mod Restart
+pub mod Said
