@@ -5,4 +5,5 @@ pub mod follow
 pub mod show
 pub mod replay
 pub mod exercise
+pub mod table
 pub mod upgrade

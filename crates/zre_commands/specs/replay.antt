@@ -1,5 +1,6 @@
 pub mod Capture
 pub mod HeadReplayer
+pub mod Headed
 pub mod Lives
 pub mod Replay
 pub mod Replayer

@@ -9,4 +9,5 @@ pub mod pump;
 pub mod replay;
 pub mod settings;
 pub mod show;
+pub mod table;
 pub mod upgrade;

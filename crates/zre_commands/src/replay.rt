@@ -1,6 +1,7 @@
 //! The command `replay`: the events of a node, from a capture of its journal.
 
 mod head_replayer;
+pub(crate) mod headed;
 mod lives;
 pub(crate) mod reading;
 mod replayer;
