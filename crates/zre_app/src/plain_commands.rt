@@ -18,6 +18,7 @@ use zre_commands::pump::{Status, pump};
 use zre_commands::replay::{HeadReplayer, Replayer};
 use zre_commands::settings::as_settings;
 use zre_commands::show::Lister;
+use zre_commands::table::Tabulator;
 use zre_commands::upgrade::Upgrader;
 use zre_journal::Config;
 use zre_outside::{NextFault, Sink, Source, write_all};
@@ -81,12 +82,7 @@ fn replay<I: Source, O: Sink>(
     }
 }
 
-fn replay_told<I: Source, O: Sink>(
-    alloc: Global,
-    input: &mut I,
-    out: &mut O,
-    limit: u64,
-) -> Status
+fn replay_told<I: Source, O: Sink>(alloc: Global, input: &mut I, out: &mut O, limit: u64) -> Status
     ensures does { DidPlain (stream_views I.left I.taken I.faults O.written O.faults)
         (Some Plain.ReplayTold) limit result input.old input.new out.old out.new }
 {
@@ -105,6 +101,20 @@ fn upgrade<I: Source, O: Sink>(
         (Some (Plain.Upgrade config)) limit result input.old input.new out.old out.new }
 {
     let mut machine = Upgrader::new(alloc, as_settings(config));
+    pump(alloc, &mut machine, input, out, limit)
+}
+
+fn table<I: Source, O: Sink>(
+    alloc: Global,
+    group: Octets,
+    input: &mut I,
+    out: &mut O,
+    limit: u64,
+) -> Status
+    ensures does { DidPlain (stream_views I.left I.taken I.faults O.written O.faults)
+        (Some (Plain.Table group)) limit result input.old input.new out.old out.new }
+{
+    let mut machine = Tabulator::new(alloc, group);
     pump(alloc, &mut machine, input, out, limit)
 }
 
@@ -154,6 +164,7 @@ fn obey<I: Source, O: Sink>(
         Some(Plain::Replay { config }) => replay(alloc, config, input, out, limit),
         Some(Plain::ReplayTold) => replay_told(alloc, input, out, limit),
         Some(Plain::Upgrade { config }) => upgrade(alloc, config, input, out, limit),
+        Some(Plain::Table { group }) => table(alloc, group, input, out, limit),
         Some(
             Plain::Exercise {
                 seed,
