@@ -1,8 +1,9 @@
 -- The words of the commands but `chat`: the name of one, and then its words.
-use Rattle.std.specs.Prelude.{◌≡◌, ◌≤◌, ℕ, true, not, List, [], ◌∷◌, Option, Some, None, option_and_then, option_map, codes, if◌then◌else◌}
+use Rattle.std.specs.Prelude.{◌≡◌, ◌≤◌, ℕ, true, not, List, [], ◌∷◌, length, nat_le, Option, Some, None, option_and_then, option_map, codes, if◌then◌else◌}
 use Rattle.std.specs.List.{list_all}
 use Rattle.std.specs.Str.{bytes_eq, is_utf8}
-use Rattle.zre_capture.specs.Values.{number_of}
+use Rattle.zre_capture.specs.Values.{number_of, group_of}
+use Rattle.zre_values.specs.declared.limits.TheConstants.{GROUP_OCTETS}
 use Rattle.zre_journal.specs.Config.{is_valid}
 use Rattle.zre_journal.specs.declared.config.Config.{Config}
 use Rattle.zre_app.specs.Keys.{are_words_of, value_of, identity}
@@ -10,7 +11,7 @@ use Rattle.zre_app.specs.NodeWords.{node_keys, between, config_in}
 use Rattle.zre_app.specs.declared.keys.Often.{Often}
 use Rattle.zre_app.specs.declared.keys.Often.TheVariants.{Once}
 use Rattle.zre_app.specs.declared.plain_words.Plain.{Plain}
-use Rattle.zre_app.specs.declared.plain_words.Plain.TheVariants.{Follow, Show, Replay, ReplayTold, Upgrade, Exercise}
+use Rattle.zre_app.specs.declared.plain_words.Plain.TheVariants.{Follow, Show, Replay, ReplayTold, Upgrade, Table, Exercise}
 
 -- the keys of `follow`: the identity of the peer
 abbrev pub follow_keys : List (List ℕ × Often)
@@ -39,6 +40,21 @@ replay_of (word ∷ words) = option_map Replay (node_of (word ∷ words))
 abbrev pub upgrade_of : List (List ℕ) → Option Plain
 upgrade_of words = option_map Upgrade (node_of words)
 
+-- a group by its quoted text, where a group can have this name
+abbrev pub group_in : List ℕ → Option (List ℕ)
+group_in text =
+    option_and_then (λ name. if nat_le (length name) GROUP_OCTETS then Some name else None) (group_of text)
+
+-- the keys of `table`: the group
+abbrev pub table_keys : List (List ℕ × Often)
+table_keys = (codes "group=", Once) ∷ []
+
+abbrev pub table_of : List (List ℕ) → Option Plain
+table_of words =
+    if are_words_of table_keys words
+    then option_map Table (option_and_then group_in (value_of (codes "group=") words))
+    else None
+
 -- the keys of `exercise`: the seed, and how many peers and messages there are
 abbrev pub exercise_keys : List (List ℕ × Often)
 exercise_keys = (codes "seed=", Once) ∷ (codes "peers=", Once) ∷ (codes "messages=", Once) ∷ []
@@ -63,6 +79,7 @@ plain_named name words =
     else if bytes_eq name (codes "show") then show_of words
     else if bytes_eq name (codes "replay") then replay_of words
     else if bytes_eq name (codes "upgrade") then upgrade_of words
+    else if bytes_eq name (codes "table") then table_of words
     else if bytes_eq name (codes "exercise") then exercise_of words
     else None
 
@@ -78,4 +95,5 @@ CanDo Show = Unit {0}
 CanDo (Replay g) = is_valid g ≡ true
 CanDo ReplayTold = Unit {0}
 CanDo (Upgrade g) = is_valid g ≡ true
+CanDo (Table group) = Unit {0}
 CanDo (Exercise seed peers messages) = (1 ≤ peers) × (peers ≤ 256) × (messages ≤ 1000000)

@@ -18,6 +18,7 @@ use zre_commands::pump::{Status, pump};
 use zre_commands::replay::{HeadReplayer, Replayer};
 use zre_commands::settings::as_settings;
 use zre_commands::show::Lister;
+use zre_commands::table::Tabulator;
 use zre_commands::upgrade::Upgrader;
 use zre_journal::Config;
 use zre_outside::{NextFault, Sink, Source, write_all};
@@ -103,6 +104,20 @@ fn upgrade<I: Source, O: Sink>(
     pump(alloc, &mut machine, input, out, limit)
 }
 
+fn table<I: Source, O: Sink>(
+    alloc: Global,
+    group: Octets,
+    input: &mut I,
+    out: &mut O,
+    limit: u64,
+) -> Status
+    ensures does { DidPlain (stream_views I.left I.taken I.faults O.written O.faults)
+        (Some (Plain.Table group)) limit result input.old input.new out.old out.new }
+{
+    let mut machine = Tabulator::new(alloc, group);
+    pump(alloc, &mut machine, input, out, limit)
+}
+
 fn write_text<O: Sink>(text: &[u8], out: &mut O) -> Status
     ensures written { WritesText result text.now (O.written out.old) (O.written out.new)
         (Rose (O.faults out.old) (O.faults out.new)) }
@@ -149,6 +164,7 @@ fn obey<I: Source, O: Sink>(
         Some(Plain::Replay { config }) => replay(alloc, config, input, out, limit),
         Some(Plain::ReplayTold) => replay_told(alloc, input, out, limit),
         Some(Plain::Upgrade { config }) => upgrade(alloc, config, input, out, limit),
+        Some(Plain::Table { group }) => table(alloc, group, input, out, limit),
         Some(
             Plain::Exercise {
                 seed,

@@ -2,15 +2,17 @@
 
 ghost use Rattle.std.specs.Prelude.{◌≡◌, ◌≤◌, true, map, IfOk, IfSome};
 ghost use Rattle.zre_journal.specs.Config.{is_valid};
-ghost use Rattle.zre_app.specs.PlainWords.{follow_of, show_of, node_of, replay_of, upgrade_of, number_in, exercise_in};
+ghost use Rattle.zre_app.specs.PlainWords.{follow_of, show_of, node_of, replay_of, upgrade_of, group_in, table_of};
+ghost use Rattle.zre_app.specs.PlainWords.{number_in, exercise_in};
 ghost use Rattle.zre_app.specs.PlainWords.{exercise_keys, exercise_of, plain_named, plain_of, CanDo};
 
 use crate::keys::{Key, Often, are_words_of, identity, value_of};
 use crate::node_words::{config_in, node_keys};
 use crate::words::are_texts;
 use std::alloc::Global;
-use zre_capture::number;
+use zre_capture::{group, number};
 use zre_journal::Config;
+use zre_values::limits::GROUP_OCTETS;
 use zre_values::{Frames, Octets, OutOfMemory, PeerId};
 
 /// A command that has to do with a source and a sink alone.
@@ -31,6 +33,10 @@ pub enum Plain {
     /// Write a capture of format 1 of a node with these settings in format 2.
     Upgrade {
         config: Config,
+    },
+    /// Write the table that a node shares over a group, from a capture of format 2 of its journal.
+    Table {
+        group: Octets,
     },
     /// Write the summary of a large journal that is made from a number.
     Exercise {
@@ -101,6 +107,36 @@ fn upgrade_of(alloc: Global, words: &[Octets]) -> Result<Option<Plain>, OutOfMem
 {
     match node_of(alloc, words)? {
         Some(config) => Ok(Some(Plain::Upgrade { config })),
+        None => Ok(None),
+    }
+}
+
+// A group by its quoted text, where a group can have this name.
+fn group_in(alloc: Global, text: &[u8]) -> Result<Option<Octets>, OutOfMemory>
+    ensures { IfOk result (λ found. found ≡ group_in text.now) }
+{
+    match group(alloc, text)? {
+        Some(name) if name.len() <= GROUP_OCTETS => Ok(Some(name)),
+        _ => Ok(None),
+    }
+}
+
+fn table_of(alloc: Global, words: &[Octets]) -> Result<Option<Plain>, OutOfMemory>
+    ensures value { IfOk result (λ plain. plain ≡ table_of words.now) }
+    ensures ready { IfOk result (λ plain. IfSome plain CanDo) }
+{
+    let keys = [Key {
+        name: b"group=",
+        often: Often::Once,
+    }];
+    if !are_words_of(&keys, words) {
+        return Ok(None);
+    }
+    let Some(text) = value_of(b"group=", words) else {
+        return Ok(None);
+    };
+    match group_in(alloc, text)? {
+        Some(group) => Ok(Some(Plain::Table { group })),
         None => Ok(None),
     }
 }
@@ -187,6 +223,9 @@ fn plain_named(alloc: Global, name: &[u8], words: &[Octets]) -> Result<Option<Pl
     }
     if name == b"upgrade".as_slice() {
         return upgrade_of(alloc, words);
+    }
+    if name == b"table".as_slice() {
+        return table_of(alloc, words);
     }
     if name == b"exercise".as_slice() {
         return Ok(exercise_of(words));
