@@ -7,7 +7,7 @@ use Rattle.zre_journal.proofs.Windows.{keeps_ledgers}
 use Rattle.zre_app.specs.Does.{KeepsItsLedgers}
 use Rattle.zre_app.specs.declared.command.Command.{Command}
 use Rattle.zre_app.specs.declared.command.Command.TheVariants as commands
-use Rattle.zre_app.specs.declared.plain_words.Plain.TheVariants.{Follow, Show, Replay, ReplayTold, Upgrade, Exercise}
+use Rattle.zre_app.specs.declared.plain_words.Plain.TheVariants.{Follow, Show, Replay, ReplayTold, Upgrade, Table, Exercise}
 
 pub keeps_its_ledgers : (c : Option Command) → KeepsItsLedgers c
 keeps_its_ledgers (Some (commands.Plain (Replay g))) = λ o. keeps_ledgers g (journal First o)
