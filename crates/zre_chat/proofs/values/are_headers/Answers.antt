@@ -8,8 +8,8 @@ loop-header-init c = All-nil IsHeader
 
 pub loop-header-preserved : goal.loop-header-preserved
 loop-header-preserved c =
-    All-more IsHeader c.loop-header.header-items c.loop-header.header-index _ c.loop-header-test.true c.loop-header.invariant (subst IsHeader c.header-item.is c.is_header.ensures)
+    All-more IsHeader c.as_slice-header-items.result.now c.loop-header.header-index _ c.loop-header-test.true c.loop-header.invariant (subst IsHeader c.header-item.is c.is_header.ensures)
 
 pub returns : goal.returns
 returns c =
-    subst (All IsHeader) c.as_slice.ensures (subst (All IsHeader) (take_all c.loop-header.header-index c.loop-header.header-items c.loop-header-test.false) c.loop-header.invariant)
+    subst (All IsHeader) c.as_slice-header-items.ensures (subst (All IsHeader) (take_all c.loop-header.header-index c.as_slice-header-items.result.now c.loop-header-test.false) c.loop-header.invariant)
