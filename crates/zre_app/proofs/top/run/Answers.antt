@@ -15,4 +15,4 @@ pub returns-in-Err-clause-ledgers : goal.returns-in-Err-clause-ledgers
 returns-in-Err-clause-ledgers g c = keeps_its_ledgers _
 
 pub returns-in-Err-clause-does : goal.returns-in-Err-clause-does
-returns-in-Err-clause-does g c = record { does = nothing_did _ _ _ _ }
+returns-in-Err-clause-does g c = nothing_did _ _ _ _
