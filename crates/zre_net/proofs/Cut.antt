@@ -16,7 +16,7 @@ use Rattle.zre_journal.specs.Cutting.{is_entry, but_entries, piece}
 use Rattle.zre_journal.specs.Events.{chronicle}
 use Rattle.zre_journal.specs.Happens.{is_stop, has_stopped, at_input, marks, with_entry}
 use Rattle.zre_journal.specs.Heard.{clock, bytes}
-use Rattle.zre_journal.specs.Links.{groups, status, bodies, put_on, links, is_linked, reply_of, replies, taken}
+use Rattle.zre_journal.specs.Links.{groups, status, line, put_on, links, is_linked, reply_of, replies, taken}
 use Rattle.zre_journal.specs.Peers.{Life, lives, other_lives, births, runner, runner_at, counted, message_at, refreshes, active}
 use Rattle.zre_journal.specs.Proper.{IsProper}
 use Rattle.zre_journal.proofs.Always.{is_proper}
@@ -52,10 +52,10 @@ module _ (g : Config) (K L : List Mark) (s : Sim K L) (octets : (c : ℕ) → by
 
   same_link : (l : ℕ) → link_of_life g K l ≡ link_of_life g L l
   same_link l =
-      ap (λ bs. link_after g.id bs (is_linked l K) (replies l K) (taken l K)) (by_marks K L s.alike (bodies l) (each_but (put_on l) (λ e. refl)))
-      ∙ ap (λ b. link_after g.id (bodies l L) b (replies l K) (taken l K)) (by_marks K L s.alike (is_linked l) (ever_but (links l) (λ e. refl)))
-      ∙ ap (λ o. link_after g.id (bodies l L) (is_linked l L) o (taken l K)) (s.replied l)
-      ∙ ap (λ n. link_after g.id (bodies l L) (is_linked l L) (replies l L) n) (by_marks K L s.alike (taken l) (taken_but l))
+      ap (λ ms. link_after g.id ms (is_linked l K) (replies l K) (taken l K)) (by_marks K L s.alike (line l) (each_but (put_on l) (λ e. refl)))
+      ∙ ap (λ b. link_after g.id (line l L) b (replies l K) (taken l K)) (by_marks K L s.alike (is_linked l) (ever_but (links l) (λ e. refl)))
+      ∙ ap (λ o. link_after g.id (line l L) (is_linked l L) o (taken l K)) (s.replied l)
+      ∙ ap (λ n. link_after g.id (line l L) (is_linked l L) (replies l L) n) (by_marks K L s.alike (taken l) (taken_but l))
 
   same_peer : (v : Life) (k : Peer) → IsPeer g K v k → IsPeer g L v k
   same_peer v k p =
