@@ -1,7 +1,9 @@
 mod Computed
 mod Cut
 mod Cutting
+mod Fate
 mod Grows
 mod Lines
 mod Long
+mod Putting
 mod Same

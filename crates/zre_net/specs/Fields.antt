@@ -2,7 +2,8 @@
 use Rattle.std.specs.Prelude.{ℕ, ◌&&◌, nat_le, nat_lt, ◌^◌, List, [], ◌∷◌, length, Option, Some, None, if◌then◌else◌, option_map, codes}
 use Rattle.std.specs.Str.{bytes_eq}
 use Rattle.zre_values.specs.declared.peer_id.PeerId.{PeerId}
-use Rattle.zre_capture.specs.Reading.{◌>>=◌, fields_in, two, one_number, two_numbers, number_and_hex, command_in}
+use Rattle.zre_capture.specs.Parts.{◌>>=◌, two}
+use Rattle.zre_capture.specs.Reading.{fields_in, one_number, two_numbers, number_and_hex, command_in}
 use Rattle.zre_capture.specs.Values.{number_of, address_of, group_of, id_of}
 use Rattle.zre_net.specs.declared.limits.TheConstants.{NODES, NAME_OCTETS}
 use Rattle.zre_net.specs.declared.word.MoveWord.{MoveWord}

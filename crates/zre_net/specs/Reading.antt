@@ -2,7 +2,7 @@
 use Rattle.std.specs.Prelude.{ℕ, ◌+◌, ◌==◌, Bool, not, ◌&&◌, nat_le, if◌then◌else◌, List, [], ◌∷◌, length, Option, Some, None, is_some, codes}
 use Rattle.std.specs.Str.{bytes_eq}
 use Rattle.zre_capture.specs.Parts.{between}
-use Rattle.zre_capture.specs.declared.line.TheConstants.{LINE_OCTETS}
+use Rattle.zre_capture.specs.declared.format.TheConstants.{LINE_OCTETS}
 use Rattle.zre_net.specs.declared.limits.TheConstants.{LINES, OCTETS}
 use Rattle.zre_net.specs.declared.moves.Move.{Move}
 use Rattle.zre_net.specs.Fields.{move_of}
