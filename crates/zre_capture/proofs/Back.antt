@@ -48,17 +48,17 @@ unfolding input_word_of
 input_word-back field w e = found_word input_word_text input_words field w e
 
 -- both values were there
-record Both {A B : Type 0} (o : Option A) (q : Option B) (p : A × B) : Type 0 where
-  first : o ≡ Some p.0
-  second : q ≡ Some p.1
+pub record Both {A B : Type 0} (o : Option A) (q : Option B) (p : A × B) : Type 0 where
+  pub first : o ≡ Some p.0
+  pub second : q ≡ Some p.1
 
-both : {A B : Type 0} (o : Option A) (q : Option B) (p : A × B) → option_and_then (λ (a : A). option_and_then (λ (b : B). Some (a, b)) q) o ≡ Some p → Both o q p
+pub both : {A B : Type 0} (o : Option A) (q : Option B) (p : A × B) → option_and_then (λ (a : A). option_and_then (λ (b : B). Some (a, b)) q) o ≡ Some p → Both o q p
 both {A = A} {B = B} (Some a) (Some b) p e = let same : (a, b) ≡ p = same_Some (a, b) p e in record { first = ap (λ (x : A × B). Some x.0) same; second = ap (λ (x : A × B). Some x.1) same }
 both (Some a) None p e = absurd cc
 both None q p e = absurd cc
 
 -- a value that was made of another
-made : {A B : Type 0} (f : A → B) (o : Option A) (y : B) (P : B → Type 0) → option_map f o ≡ Some y → ((x : A) → o ≡ Some x → P (f x)) → P y
+pub made : {A B : Type 0} (f : A → B) (o : Option A) (y : B) (P : B → Type 0) → option_map f o ≡ Some y → ((x : A) → o ≡ Some x → P (f x)) → P y
 made f (Some x) y P e h = subst P (same_Some (f x) y e) (h x refl)
 made f None y P e h = absurd cc
 
@@ -113,7 +113,7 @@ group_and_frames-back (a ∷ b ∷ []) p e = let q = both (group_of a) (frames_o
 group_and_frames-back (a ∷ b ∷ c ∷ fs) p e = absurd cc
 
 -- a value that stands alone
-stood_alone : {V : Type 0} (value v : V) (fs : List (List ℕ)) (P : V → Type 0) → alone value fs ≡ Some v → ([] ≡ fs → P value) → P v
+pub stood_alone : {V : Type 0} (value v : V) (fs : List (List ℕ)) (P : V → Type 0) → alone value fs ≡ Some v → ([] ≡ fs → P value) → P v
 stood_alone value v [] P e h = subst P (same_Some value v e) (h refl)
 stood_alone value v (f ∷ fs) P e h = absurd cc
 

@@ -134,12 +134,15 @@ settings_in-head s are =
     let order = v.order in
     let last = v.last in
     let some = v.port in
-    rw (id_of-text s.id are.id, address_of-text s.host are.host,
-        within-decimal 1 65535 s.port fit.2 (omega (arith, some)) (omega (arith, port)),
-        within-decimal 1 86400000 s.evasive fit.0 v.first (omega (arith, order, last)),
-        within-decimal s.evasive 86400000 s.expired fit.1 order last,
-        short-quoted 255 s.name are.name v.name,
-        headers_of-pairs s.headers are.headers v.few_headers v.fitting v.apart) refl
+    rw (
+      id_of-text s.id are.id,
+      address_of-text s.host are.host,
+      within-decimal 1 65535 s.port fit.2 (omega (arith, some)) (omega (arith, port)),
+      within-decimal 1 86400000 s.evasive fit.0 v.first (omega (arith, order, last)),
+      within-decimal s.evasive 86400000 s.expired fit.1 order last,
+      short-quoted 255 s.name are.name v.name,
+      headers_of-pairs s.headers are.headers v.few_headers v.fitting v.apart,
+    ) refl
 
 pub settings_of-head : (s : Settings) → AreSettings s → settings_of (head_text Second s) ≡ Some s
 settings_of-head s are =

@@ -36,7 +36,7 @@ pub long-place : (p : Place) (left text front : List ℕ) → length left ≤ lo
 long-place p left text front short long e =
     let same = long-front (longest p.format) left text front short e in
     ap (λ (c : ℕ). record { line = p.line; column = c })
-        (ap (λ (f : List ℕ). unwrap_or (bad_field p (but_last (fields_in f))) (longest p.format + 1)) (sym same) ∙ sym (bad_long p (left ++ text) long))
+    (ap (λ (f : List ℕ). unwrap_or (bad_field p (but_last (fields_in f))) (longest p.format + 1)) (sym same) ∙ sym (bad_long p (left ++ text) long))
 
 -- ---- one line
 

@@ -223,9 +223,9 @@ some_pairs : (h : List ℕ × List ℕ) (hs : List (List ℕ × List ℕ)) → A
 unfolding headers_of
 some_pairs h hs is few apart cut read =
     let other : bytes_eq (quoted_pairs (h ∷ hs)) (codes "%") ≡ false = false_from_ne_true _ (λ same.
-        let text : quoted_pairs (h ∷ hs) ≡ codes "%" = (bytes_eq-Decides (quoted_pairs (h ∷ hs)) (codes "%")).0 same in
-        let none : Some (h ∷ hs) ≡ None = sym read ∙ ap headers_in (sym cut) ∙ ap (λ (t : List ℕ). headers_in (between 44 t)) text ∙ no_percent in
-        absurd cc) in
+    let text : quoted_pairs (h ∷ hs) ≡ codes "%" = (bytes_eq-Decides (quoted_pairs (h ∷ hs)) (codes "%")).0 same in
+    let none : Some (h ∷ hs) ≡ None = sym read ∙ ap headers_in (sym cut) ∙ ap (λ (t : List ℕ). headers_in (between 44 t)) text ∙ no_percent in
+    absurd cc) in
     let long : leb (length (map quoted_pair (h ∷ hs))) 256 ≡ true = ap (λ (n : ℕ). leb n 256) (length-map (h ∷ hs) quoted_pair) ∙ few in
     let names : are_named_apart (map quoted_pair (h ∷ hs)) ≡ true = apart-same (map quoted_pair (h ∷ hs)) (h ∷ hs) is (names-of_pairs (h ∷ hs) is) ∙ apart in
     let all : are_listed (between 44 (quoted_pairs (h ∷ hs))) ≡ true = ap (λ (ms : List (List ℕ)). are_listed ms) cut ∙ listed (map quoted_pair (h ∷ hs)) long names in

@@ -166,7 +166,7 @@ settings_with plain name headers = do
 unfoldable pub settings_in : List (List ℕ) → Option Settings
 settings_in (mark ∷ number ∷ id ∷ name ∷ host ∷ port ∷ evasive ∷ expired ∷ headers ∷ []) =
     if bytes_eq mark (codes "zre-capture") && bytes_eq number (codes "2") then (plain_with id host port evasive expired
-        >>= λ plain. settings_with plain name headers) else None
+    >>= λ plain. settings_with plain name headers) else None
 settings_in _ = None
 
 -- the settings of a head of format 2, if it is one

@@ -14,7 +14,8 @@ use crate::settings::Settings;
 use crate::value::{address, id, number_within, short};
 use std::alloc::Global;
 use zre_values::{
-    DAY, NAME_OCTETS, Octets, OutOfMemory, PeerId, push_address, push_decimal, push_quoted, push_quoted_pairs,
+    DAY, NAME_OCTETS, Octets, OutOfMemory, PeerId, push_address, push_decimal, push_quoted,
+    push_quoted_pairs,
 };
 
 /// The line that a capture of format 1 begins with.
@@ -95,7 +96,7 @@ struct HeadFields<'a> {
 fn head_fields(text: &[u8]) -> Option<HeadFields<'_>>
     ensures { MatchOption result (settings_in (fields_in text.now) ≡ None)
         (λ h. fields_in text.now ≡ h.mark.now ∷ h.number.now ∷ h.id.now ∷ h.name.now ∷ h.host.now ∷ h.port.now
-            ∷ h.evasive.now ∷ h.expired.now ∷ h.headers.now ∷ []) }
+        ∷ h.evasive.now ∷ h.expired.now ∷ h.headers.now ∷ []) }
 {
     let (mark, after_mark) = first_field(text)?;
     let (number, after_number) = first_field(after_mark)?;

@@ -5,9 +5,9 @@ ghost use Rattle.zre_outside.specs.declared.entry.Entry.{Entry};
 ghost use Rattle.zre_capture.specs.Heads.{head, AreSettings, IsShortHead};
 ghost use Rattle.zre_capture.specs.Lines.{text, IsNumber, IsEntry, AreShort};
 ghost use Rattle.zre_capture.specs.Reading.{entry_of};
-ghost use Rattle.zre_capture.specs.Journal.{capture, IsCaptureOf};
+ghost use Rattle.zre_capture.specs.Journal.{capture, journal, IsCaptureOf};
 ghost use Rattle.zre_capture.specs.declared.format.Format.{Format};
-ghost use Rattle.zre_capture.specs.declared.format.Format.TheVariants.{First};
+ghost use Rattle.zre_capture.specs.declared.format.Format.TheVariants.{First, Second};
 ghost use Rattle.zre_capture.specs.declared.settings.Settings.{Settings};
 
 use crate::head::HEAD;
@@ -34,4 +34,16 @@ pub fn lines_are_written()
 /// The head line of format 1 is the one that definitions speak of.
 pub fn head_is_written()
     ensures { (s : Settings) → HEAD.now ≡ head First s }
+{}
+
+/// The journal of a capture of format 1 can be written in format 2, with a first reading of 0 before it: its entries hold
+/// values of their types, and no line is too long there.
+pub fn journals_are_upgraded()
+    ensures values { (o : List ℕ) → All IsEntry (journal First o) }
+    ensures short { (o : List ℕ) → AreShort Second 0 (journal First o) }
+{}
+
+/// The head line of valid settings isn't too long to be read.
+pub fn heads_are_short()
+    ensures { (f : Format) (s : Settings) → AreSettings s → IsShortHead f s }
 {}

@@ -122,12 +122,7 @@ fn push_difference(out: &mut Octets, before: u64, at: u64) -> Result<(), OutOfMe
     push_decimal(out, before - at)
 }
 
-fn push_reading(
-    out: &mut Octets,
-    format: Format,
-    before: u64,
-    at: u64,
-) -> Result<(), OutOfMemory>
+fn push_reading(out: &mut Octets, format: Format, before: u64, at: u64) -> Result<(), OutOfMemory>
     ensures { OnOk result (out.new ≡ out.old ++ reading_text format before at) }
 {
     match format {

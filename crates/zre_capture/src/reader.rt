@@ -14,13 +14,12 @@ ghost use Rattle.zre_capture.specs.Journal.{AddsFront, Refuses, bad, bad_at_end}
 ghost use Rattle.zre_capture.specs.declared.format.Format.TheVariants.{First, Second};
 
 use crate::fault::{BadCapture, CaptureFault};
-use crate::field;
 use crate::format::Format;
-use crate::head;
 use crate::place::Place;
 use crate::read::entry;
 use crate::settings::Settings;
 use crate::split::split_once;
+use crate::{field, head};
 use std::alloc::Global;
 use std::marker::Model;
 use zre_outside::Entries;
@@ -76,7 +75,7 @@ fn read_entry(
     ensures read { IfOk result (λ at. MatchOption at
         ((entry_of place.format place.before text.now ≡ None) × (out.new ≡ out.old))
         (λ at. (e : EntryValue) × (entry_of place.format place.before text.now ≡ Some e)
-            × (out.new ≡ out.old ++ e ∷ []) × (at ≡ e.at))) }
+        × (out.new ≡ out.old ++ e ∷ []) × (at ≡ e.at))) }
     ensures kept { OnErr result (out.new ≡ out.old) }
 {
     match entry(alloc, place.format, place.before, text)? {
@@ -101,7 +100,7 @@ fn read_line(
     ensures read { IfOk result (λ at. MatchOption at
         ((said place text.now ≡ None) × (out.new ≡ out.old) × (told.new ≡ told.old))
         (λ at. (es : List EntryValue) × (said place text.now ≡ Some es) × (out.new ≡ out.old ++ es)
-            × (at ≡ last_reading place.before es) × (told.new ≡ told_after place text.now told.old))) }
+        × (at ≡ last_reading place.before es) × (told.new ≡ told_after place text.now told.old))) }
     ensures kept { OnErr result (out.new ≡ out.old) }
     ensures kept_told { OnErr result (told.new ≡ told.old) }
 {

@@ -42,6 +42,7 @@ use Rattle.zre_journal.specs.Ticks.{is_silent, is_evasive, is_stale, probe, at_t
 use Rattle.zre_journal.specs.Commands.{has_group, at_join, at_leave, is_too_big, at_whisper, is_member, at_shout, at_stop, at_command}
 use Rattle.zre_journal.proofs.Listed.{All-kept, Apart-kept, eqb-comm}
 use Rattle.zre_journal.proofs.Steps.{choice}
+use Rattle.zre_net.specs.Sender.{is_slight}
 
 abbrev pub pongs : ℕ → Mark → Bool
 pongs l (PutsPong k t) = eqb l k
@@ -336,12 +337,7 @@ module _ (l : ℕ) where
 
       -- ---- an entry
 
-      -- a piece completes one place at most
-      abbrev pub IsSlight : Input → List Mark → Type 0
-      IsSlight (input.Piece c o) H = length (newly_completed g.id c H K) ≤ 1
-      IsSlight _ H = Unit {0}
-
-      pub input_fate : (i : Input) (H : List Mark) → IsSlight i H → Fate l (at_input g i H K)
+      pub input_fate : (i : Input) (H : List Mark) → is_slight g i H K → Fate l (at_input g i H K)
       input_fate (input.Datagram from o) H s = datagram_fate from (beacon_in o)
       input_fate (input.Opened c) H s = opened_fate c
       input_fate (input.Piece c o) H s = places_fate c (newly_completed g.id c H K) s

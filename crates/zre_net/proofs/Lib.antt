@@ -5,5 +5,7 @@ mod Fate
 mod Grows
 mod Lines
 mod Long
+mod Looking
 mod Putting
 mod Same
+mod Sending

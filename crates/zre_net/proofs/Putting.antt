@@ -26,11 +26,8 @@ use Rattle.zre_journal.proofs.Listed.{eqb-comm}
 use Rattle.zre_journal.proofs.Says.{input_allowed}
 use Rattle.zre_journal.proofs.Silent.{Comes-proper}
 use Rattle.zre_journal.proofs.Steps.{May, Allowed}
-use Rattle.zre_net.proofs.Fate.{Fate, IsQuiet, GoesOn, pongs, IsSlight, input_fate}
-
--- the messages of a link, as they are spelled
-abbrev pub spelled : ℕ → List Mark → List (List ℕ)
-spelled l H = map octets (queued l H)
+use Rattle.zre_net.specs.Sender.{spelled, is_slight}
+use Rattle.zre_net.proofs.Fate.{Fate, IsQuiet, GoesOn, pongs, input_fate}
 
 -- what an entry put on l: nothing, or these messages at its end, and then it goes on if there are any
 pub data Put (l : ℕ) (H K : List Mark) : Type 0 where
@@ -130,7 +127,7 @@ module _ (g : Config) (J : List Entry) (e : Entry) (l : ℕ) where
   reached : chronicle g (J ++ e ∷ []) ≡ K
   reached = (continues g J (e ∷ [])).happened
 
-  put_by : IsSlight l g (Comes e ∷ H) (Comes-proper H (is_proper g J) e) e.input H → Put l H K
+  pub put_by : is_slight g e.input H (Comes e ∷ H) → Put l H K
   put_by slight = by (has_stopped H)
     where
       M : List Mark

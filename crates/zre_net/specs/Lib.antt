@@ -7,7 +7,7 @@ pub mod Grammar
 pub mod History
 pub mod Lists
 pub mod Numbers
-pub mod Puts
 pub mod Reading
 pub mod Restart
 pub mod Said
+pub mod Sender

@@ -17,4 +17,3 @@ pub use laws::{
 };
 pub use moves::{Move, Moves, Part};
 pub use reading::{Schedule, read_schedule};
-pub use running::{Said, run_schedule};

@@ -12,4 +12,4 @@ returns c =
     e ∙ ap (λ (o : List ℕ). o ++ quoted_pairs c.args.settings.now.headers) (c.in_ok-push.ensures.ok ∙ ap (λ (o : List ℕ). o ++ (32 ∷ []))
     (c.in_ok-push_numbers.ensures ∙ ap (λ (o : List ℕ). o ++ (32 ∷ (decimal c.args.settings.now.port ++ (32 ∷ (decimal c.args.settings.now.evasive ++ (32 ∷ decimal c.args.settings.now.expired)))))) c.in_ok-push_who.ensures))
     ∙ head_joined c.args.out.now (id_text c.args.settings.now.id) (quoted c.args.settings.now.name) (address_text c.args.settings.now.host) (decimal c.args.settings.now.port)
-        (decimal c.args.settings.now.evasive) (decimal c.args.settings.now.expired) (quoted_pairs c.args.settings.now.headers)) c.push_quoted_pairs.ensures
+    (decimal c.args.settings.now.evasive) (decimal c.args.settings.now.expired) (quoted_pairs c.args.settings.now.headers)) c.push_quoted_pairs.ensures
