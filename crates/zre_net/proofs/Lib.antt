@@ -1,6 +1,7 @@
 mod Computed
 mod Cut
 mod Cutting
+mod Ears
 mod Fate
 mod Grows
 mod Lines

@@ -18,12 +18,12 @@ got [] i v z = absurd (omega (arith, z))
 got (x ∷ xs) zero v z = refl
 got (x ∷ xs) (suc i) v z = got xs i v (omega (arith, z))
 
-kept : {A : Type 0} (xs : List A) (i k : ℕ) (v : A) → eqb i k ≡ false → slice_get (slice_set xs i v) k ≡ slice_get xs k
-kept [] i k v z = refl
-kept (x ∷ xs) zero zero v z = absurd (true≢false z)
-kept (x ∷ xs) zero (suc k) v z = refl
-kept (x ∷ xs) (suc i) zero v z = refl
-kept (x ∷ xs) (suc i) (suc k) v z = kept xs i k v z
+kept : {A : Type 0} (xs : List A) (i k : ℕ) (v : A) → (i ≡ k → ⊥) → slice_get (slice_set xs i v) k ≡ slice_get xs k
+kept [] i k v n = refl
+kept (x ∷ xs) zero zero v n = absurd (n refl)
+kept (x ∷ xs) zero (suc k) v n = refl
+kept (x ∷ xs) (suc i) zero v n = refl
+kept (x ∷ xs) (suc i) (suc k) v n = kept xs i k v (λ e. n (ap suc e))
 
 there : {A : Type 0} (xs : List A) (i : ℕ) (d : A) → i < length xs → slice_get xs i ≡ Some (get_or xs i d)
 there [] i d z = absurd (omega (arith, z))
@@ -57,7 +57,7 @@ module _ (g : Config) (K : List Mark) where
     where
       other : (k : ℕ) → eqb (suc i) k ≡ false → nth k ys ≡ nth k xs
       other zero far = refl
-      other (suc k) far = ap (λ ws. slice_get ws k) s ∙ kept xs i k y far
+      other (suc k) far = ap (λ ws. slice_get ws k) s ∙ kept xs i k y (λ e. true≢false (sym (eq-eqb (suc i) (suc k) (ap suc e)) ∙ far))
 
   -- ---- many looks
 
@@ -72,13 +72,13 @@ module _ (g : Config) (K : List Mark) where
   some_one : {A : Type 0} {a b : A} → Some a ≡ Some b → a ≡ b
   some_one e = cc
 
+  abbrev More : ℕ → List ℕ → Line → Line → Type 0
+  More sent w s t = ((sent ≡ length s.messages) × (t.messages ≡ s.messages)) ⊎ ((sent ≡ length s.messages + 1) × (t.messages ≡ s.messages ++ drop s.waited w ∷ []))
+
   noted_twice : (sent : ℕ) (w : List ℕ) (x y z : Line) → IsNoted sent w x y → IsNoted sent w y z → IsNoted sent w x z
   noted_twice sent w x y z a b = record { waited = b.waited; messages = by a.messages b.messages }
     where
-      abbrev M : Line → Line → Type 0
-      M s t = ((sent ≡ length s.messages) × (t.messages ≡ s.messages)) ⊎ ((sent ≡ length s.messages + 1) × (t.messages ≡ s.messages ++ drop s.waited w ∷ []))
-
-      by : M x y → M y z → M x z
+      by : More sent w x y → More sent w y z → More sent w x z
       by (inl p) (inl q) = inl (p.0, q.1 ∙ p.1)
       by (inr p) (inl q) = inr (p.0, q.1 ∙ p.1)
       by (inl p) (inr q) = absurd (let c = ap (λ ms. length ms) p.1 in omega (arith, p.0, q.0, c))
@@ -90,11 +90,11 @@ module _ (g : Config) (K : List Mark) where
       by : (b : Bool) → (b || false) ≡ b
       by true = refl
       by false = refl
-  any-last k l (d ∷ done) = ap (λ b. eqb k d || b) (any-last k l done) ∙ by (eqb k d)
+  any-last k l (d ∷ done) = ap (λ b. eqb k d || b) (any-last k l done) ∙ by (eqb k d) (list_any (eqb k) done) (eqb k l)
     where
-      by : (b : Bool) → (b || list_any (eqb k) done || eqb k l) ≡ ((b || list_any (eqb k) done) || eqb k l)
-      by true = refl
-      by false = refl
+      by : (a b c : Bool) → (a || (b || c)) ≡ ((a || b) || c)
+      by true b c = refl
+      by false b c = refl
 
   pub one_look : (done : List ℕ) (l : ℕ) (xs ys zs : List Line) → Progress done xs ys → IsLookedAt g K l ys zs → Progress (done ++ l ∷ []) xs zs
   one_look done l xs ys zs p a = record {

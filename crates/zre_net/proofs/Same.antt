@@ -260,4 +260,3 @@ module _ (g : Config) (J : List Entry) (at c : ℕ) (a b : List ℕ) where
 
   pub sim : Sim (chronicle g (J ++ piece at c a ∷ piece at c b ∷ [])) (chronicle g (J ++ piece at c (a ++ b) ∷ []))
   sim = subst (λ Y. Sim Y (chronicle g (J ++ piece at c (a ++ b) ∷ []))) (sym twice) (subst (λ Z. Sim (after N (Comes (piece at c b) ∷ X)) Z) ends_alike alike_at_last)
-

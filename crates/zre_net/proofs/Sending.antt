@@ -1,7 +1,7 @@
 -- The table of a node's links, after an entry.
 use Rattle.std.proofs.Common.{◌≡◌, ◌⊎◌, ℕ, zero, suc, ◌+◌, ◌-◌, ◌≤◌, ◌<◌, Bool, true, false, cond, not, eqb, List, [], ◌∷◌, ◌++◌, length, drop, map, filter, replicate, Option, Some, None, IsSome, is_some, find, refl, sym, ap, ◌∙◌, subst, inl, inr, arith, append_assoc, append-nil, length-append, true≢false, eqb-true, eq-eqb}
-use Rattle.std.proofs.lemmas.List.{length-drop}
-use Rattle.std.specs.Prelude.{slice_get}
+use Rattle.std.proofs.lemmas.List.{length-drop, take_more}
+use Rattle.std.specs.Prelude.{slice_get, get_or, take}
 use Rattle.std.specs.Option.{option_map_or}
 use Rattle.zre_zmtp.specs.Laws.{handshake}
 use Rattle.zre_zmtp.specs.declared.writing.SocketType.TheVariants.{Dealer}
@@ -32,9 +32,23 @@ use Rattle.zre_net.proofs.Putting.{Put, put_by, as_many, when_gone, one_more}
 
 -- ---- links that are made
 
-replicate-more : (n : ℕ) (x : Line) → replicate n x ++ x ∷ [] ≡ replicate (n + 1) x
-replicate-more zero x = refl
-replicate-more (suc n) x = ap (λ xs. x ∷ xs) (replicate-more n x)
+connects-both : (xs ys : List Act) → connects (xs ++ ys) ≡ connects xs + connects ys
+connects-both [] ys = omega arith
+connects-both (act.Connect l to ∷ xs) ys = let r = connects-both xs ys in omega (arith, r)
+connects-both (_ ∷ xs) ys = connects-both xs ys
+
+replicate-both : (n m : ℕ) (x : Line) → replicate n x ++ replicate m x ≡ replicate (n + m) x
+replicate-both zero m x = let z : m ≡ 0 + m = omega arith in ap (λ k. replicate k x) z
+replicate-both (suc n) m x = let z : suc (n + m) ≡ suc n + m = omega arith in ap (λ xs. x ∷ xs) (replicate-both n m x) ∙ ap (λ k. replicate k x) z
+
+-- what one act more adds
+pub one_line : (h : ℕ) (xs ys zs : List Line) (acts : List Act) (i : ℕ) (a : Act) → i < length acts → a ≡ get_or acts i a → ys ≡ xs ++ replicate (connects (take i acts)) (fresh h) → zs ≡ ys ++ replicate (connects (a ∷ [])) (fresh h)
+    → zs ≡ xs ++ replicate (connects (take (i + 1) acts)) (fresh h)
+one_line h xs ys zs acts i a lt is e f =
+    let n = connects (take i acts) in
+    let m = connects (a ∷ []) in
+    f ∙ ap (λ ws. ws ++ replicate m (fresh h)) e ∙ append_assoc xs (replicate n (fresh h)) (replicate m (fresh h)) ∙ ap (λ ws. xs ++ ws) (replicate-both n m (fresh h))
+    ∙ ap (λ k. xs ++ replicate k (fresh h)) (sym (connects-both (take i acts) (a ∷ []))) ∙ ap (λ as_. xs ++ replicate (connects as_) (fresh h)) (sym (take_more acts i a lt ∙ ap (λ x. take i acts ++ x ∷ []) (sym is)))
 
 module _ (h : ℕ) where
   fresh_messages : (n k : ℕ) → option_map_or (λ (x : Line). x.messages) (slice_get (replicate n (fresh h)) k) [] ≡ []
@@ -60,11 +74,6 @@ module _ (h : ℕ) where
   same_waits n (suc (suc k)) (x ∷ xs) = same_waits n (suc k) xs
 
 -- ---- births
-
-connects-both : (xs ys : List Act) → connects (xs ++ ys) ≡ connects xs + connects ys
-connects-both [] ys = omega arith
-connects-both (act.Connect l to ∷ xs) ys = let r = connects-both xs ys in omega (arith, r)
-connects-both (_ ∷ xs) ys = connects-both xs ys
 
 no_connects : (g : Config) (vs : List Life) → connects (map (λ (v : Life). act.Offer v.link) vs) ≡ 0
 no_connects g [] = refl

@@ -11,3 +11,4 @@ pub mod Reading
 pub mod Restart
 pub mod Said
 pub mod Sender
+pub mod Sending

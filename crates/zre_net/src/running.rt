@@ -1,3 +1,4 @@
 //! Schedules run.
 
+mod ear;
 mod sender;

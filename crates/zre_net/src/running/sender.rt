@@ -1,15 +1,17 @@
 //! A node, and all messages that it has put on its links.
 
-ghost use Rattle.std.specs.Prelude.{◌≡◌, ◌++◌, List, replicate, OnOk};
+ghost use Rattle.std.specs.Prelude.{◌≡◌, ◌++◌, ◌∷◌, [], List, replicate, OnOk, IfOk};
 ghost use Rattle.zre_outside.specs.declared.entry.Entry.{Entry as EntryValue};
 ghost use Rattle.zre_journal.specs.declared.config.Config.{Config};
 ghost use Rattle.zre_journal.specs.Events.{chronicle};
 ghost use Rattle.zre_node.specs.Journal.{StandsFor};
-ghost use Rattle.zre_net.specs.Sender.{connects, fresh, IsNoted, IsLookedAt, IsLooked};
+ghost use Rattle.zre_journal.specs.Chronicle.{Comes};
+ghost use Rattle.zre_net.specs.Sender.{connects, fresh, is_slight, IsNoted, IsLookedAt, IsLooked};
+ghost use Rattle.zre_net.specs.Sending.{HasSent, Stepped};
 
 use std::alloc::Global;
-use zre_node::Node;
-use zre_outside::Act;
+use zre_node::{Node, Step};
+use zre_outside::{Act, Entry};
 use zre_values::{Frames, Octets, OutOfMemory};
 
 /// A link: the messages that were put on it, as they are spelled, and how many octets waited after the last entry.
@@ -19,14 +21,39 @@ pub(crate) struct Line {
     pub waited: usize,
 }
 
+/// A node, with all messages that it has put on its links, those of peers that are gone too.
+#[derive(Drop)]
+pub(crate) struct Sender {
+    alloc: Global,
+    /// How many octets the greeting and READY have, which wait first on each link.
+    handshake: usize,
+    node: Node,
+    pub lines: Vec<Line>,
+}
+
 // A link on which nothing was put: its greeting and READY wait.
-fn line(alloc: Global, handshake: usize) -> Line
+fn fresh_line(alloc: Global, handshake: usize) -> Line
     ensures { result ≡ fresh handshake }
 {
     Line {
         messages: Frames::new(alloc),
         waited: handshake,
     }
+}
+
+// One line more, where this makes a link.
+fn add_line(
+    alloc: Global,
+    lines: &mut Vec<Line>,
+    act: &Act,
+    handshake: usize,
+) -> Result<(), OutOfMemory>
+    ensures { OnOk result (lines.new.items ≡ lines.old.items ++ replicate (connects (act.now ∷ [])) (fresh handshake)) }
+{
+    if let Act::Connect { .. } = act {
+        lines.push(fresh_line(alloc, handshake))?;
+    }
+    Ok(())
 }
 
 // One line more for each link that was made.
@@ -39,9 +66,7 @@ fn add_lines(
     ensures { OnOk result (lines.new.items ≡ lines.old.items ++ replicate (connects acts.now) (fresh handshake)) }
 {
     for act in acts {
-        if let Act::Connect { .. } = act {
-            lines.push(line(alloc, handshake))?;
-        }
+        add_line(alloc, lines, act, handshake)?;
     }
     Ok(())
 }
@@ -92,4 +117,28 @@ fn look(alloc: Global, node: &Node, lines: &mut Vec<Line>) -> Result<(), OutOfMe
         look_at(alloc, node, lines, *link)?;
     }
     Ok(())
+}
+
+impl Sender {
+    /// A node that was made now: nothing was put on a link.
+    pub fn new(alloc: Global, node: Node, handshake: usize) -> Sender {
+        Sender {
+            alloc,
+            handshake,
+            node,
+            lines: Vec::new(alloc),
+        }
+    }
+
+    /// One entry of the node, and what it puts on links. At most one message may come with it.
+    pub fn step(&mut self, entry: Entry) -> Result<Step, OutOfMemory>
+        ensures { (g : Config) (J : List EntryValue) → HasSent g J self.old →
+            is_slight g entry.input (chronicle g J) (Comes entry ∷ chronicle g J) →
+            IfOk result (λ s. Stepped g J entry s × HasSent g (J ++ entry ∷ []) self.new) }
+    {
+        let step = self.node.step(entry)?;
+        add_lines(self.alloc, &mut self.lines, step.acts.as_slice(), self.handshake)?;
+        look(self.alloc, &self.node, &mut self.lines)?;
+        Ok(step)
+    }
 }

@@ -3,5 +3,5 @@ use Rattle.std.specs.Map.{keys_of}
 use Rattle.zre_node.proofs.accessors.links_of.Given as goal
 
 -- the links so far, with those of the rows that are left
-abbrev pub invariant-loop-field-0-0 : goal.invariant-loop-field-0-0
-invariant-loop-field-0-0 l = l.links ++ keys_of l.peers-iterator ≡ keys_of l.peers.entries
+abbrev pub invariant-loop-link : goal.invariant-loop-link
+invariant-loop-link l = l.links ++ keys_of l.link-iterator ≡ keys_of l.peers.entries
