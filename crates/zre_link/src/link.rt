@@ -1,7 +1,7 @@
 //! One outgoing connection.
 
 ghost use Rattle.std.specs.Prelude.{◌≡◌, ◌≢◌, ℕ, ◌+◌, ◌-◌, ◌<◌, ◌≤◌, ◌∷◌, Bool, true, false, List, [], ◌++◌};
-ghost use Rattle.std.specs.Prelude.{length, None, IfOk, OnOk, IfErr, OnErr};
+ghost use Rattle.std.specs.Prelude.{length, drop, None, IfOk, OnOk, IfErr, OnErr};
 ghost use Rattle.zre_values.specs.declared.limits.TheConstants.{MESSAGE_OCTETS, COMMAND_OCTETS, UNSENT_OCTETS};
 ghost use Rattle.zre_values.specs.declared.peer_id.PeerId.{PeerId as PeerIdValue};
 ghost use Rattle.zre_zmtp.specs.Laws.{handshake};
@@ -294,6 +294,15 @@ impl Link {
         ensures within { result ≤ UNSENT_OCTETS }
     {
         self.queue.len() as u64
+    }
+
+    /// The octets that wait, in one piece.
+    pub fn waiting(&self) -> &[u8]
+        ensures { (own : PeerIdValue) (line : List Member) (linked : Bool) (o : List ℕ) (n : ℕ) →
+            self.now ≡ link_after own line linked o n →
+            (result.now ≡ drop n (text_of own line)) × (n ≤ length (text_of own line)) }
+    {
+        self.queue.as_slice()
     }
 
     /// How many messages were put.

@@ -1,16 +1,18 @@
 //! What a node is asked between its steps. After OutOfMemory nothing is said of the answers.
 
 ghost use Rattle.std.specs.Prelude.{◌≡◌, ◌<◌, ◌≤◌, ℕ, List, [], Some, None, is_some, length, option_map};
-ghost use Rattle.std.specs.Prelude.{option_copied, IfOk};
+ghost use Rattle.std.specs.Prelude.{option_copied, IfOk, IfSome};
+ghost use Rattle.std.specs.Map.{keys_of};
 ghost use Rattle.zre_outside.specs.declared.entry.Entry.{Entry as EntryValue};
 ghost use Rattle.zre_journal.specs.Asked.{bound_after, entered_after, front_after, held_after, link_later};
 ghost use Rattle.zre_journal.specs.Asked.{unsent_after, view_after, HasFront, HasSome, IsDue};
 ghost use Rattle.zre_journal.specs.declared.config.Config.{Config as ConfigValue};
 ghost use Rattle.zre_journal.specs.Events.{chronicle};
 ghost use Rattle.zre_journal.specs.Happens.{has_stopped};
+ghost use Rattle.zre_journal.specs.Links.{taken, text};
 ghost use Rattle.zre_journal.specs.Peers.{lives};
 ghost use Rattle.zre_node.specs.Journal.{StandsFor};
-ghost use Rattle.zre_node.specs.Asked.{ids_entered, view_among};
+ghost use Rattle.zre_node.specs.Asked.{ids_entered, view_among, sent_after, waiting_after, links_after};
 
 use crate::node::Node;
 use crate::peer::Peer;
@@ -22,6 +24,20 @@ use zre_values::{List, OutOfMemory, PeerId};
 
 /// A list of peers.
 pub type Ids = List<PeerId>;
+
+/// A list of links, by their numbers.
+pub type Links = List<u64>;
+
+// The links of these peers, in order.
+fn links_of(alloc: Global, peers: &BTreeMap<u64, Peer>) -> Result<Links, OutOfMemory>
+    ensures { IfOk result (λ links. links ≡ keys_of peers.now.entries) }
+{
+    let mut links = Links::new(alloc);
+    for (link, _) in peers {
+        links.push(*link)?;
+    }
+    Ok(links)
+}
 
 // The peers among these that are entered, in order.
 fn entered(alloc: Global, peers: &BTreeMap<u64, Peer>) -> Result<Ids, OutOfMemory>
@@ -103,6 +119,37 @@ impl Node {
             Some(peer) => Some(peer.link.unsent()),
             None => None,
         }
+    }
+
+    /// How many messages were put on a link. None where the link isn't that of a known peer.
+    pub fn sent(&self, link: u64) -> Option<u64>
+        ensures { (g : ConfigValue) (J : List EntryValue) → StandsFor g J self.now → result ≡ sent_after g J link }
+    {
+        match self.tables.peers.get(&link) {
+            Some(peer) => Some(peer.link.sent()),
+            None => None,
+        }
+    }
+
+    /// The octets that wait on a link. None where the link isn't that of a known peer.
+    pub fn waiting(&self, link: u64) -> Option<&[u8]>
+        ensures octets { (g : ConfigValue) (J : List EntryValue) → StandsFor g J self.now
+            → option_map (λ r. r.now) result ≡ waiting_after g J link }
+        ensures within { (g : ConfigValue) (J : List EntryValue) → StandsFor g J self.now
+            → IfSome result (λ _. taken link (chronicle g J) ≤ length (text g link (chronicle g J))) }
+    {
+        match self.tables.peers.get(&link) {
+            Some(peer) => Some(peer.link.waiting()),
+            None => None,
+        }
+    }
+
+    /// The links of the known peers, in order of birth.
+    pub fn links(&self) -> Result<Links, OutOfMemory>
+        ensures { (g : ConfigValue) (J : List EntryValue) → StandsFor g J self.now
+            → IfOk result (λ links. links ≡ links_after g J) }
+    {
+        links_of(self.tables.alloc, &self.tables.peers)
     }
 
     /// How many octets the node keeps. Of each connection that is heard, and of the replies on each link, they are

@@ -15,6 +15,6 @@ mod steps;
 mod stops;
 mod tables;
 
-pub use accessors::Ids;
+pub use accessors::{Ids, Links};
 pub use effects::Step;
 pub use node::Node;
