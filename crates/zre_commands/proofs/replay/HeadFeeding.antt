@@ -4,7 +4,7 @@ use Rattle.std.proofs.Common.{◌≡◌, ℕ, Bool, true, false, cond, Option, S
 use Rattle.std.specs.Prelude.{is_some, IfSome, nat_lt}
 use Rattle.zre_capture.specs.Formats.{longest}
 use Rattle.zre_capture.specs.Heads.{are_valid}
-use Rattle.zre_capture.specs.Journal.{journal, settings, settings_in, bad, bad_from, line_of, lines_in, said, start, entries_from, Reads, format_of, Adds}
+use Rattle.zre_capture.specs.Journal.{journal, settings, settings_in, bad, bad_from, lines_in, said, start, entries_from}
 use Rattle.zre_capture.specs.Reading.{settings_of}
 use Rattle.zre_capture.specs.declared.format.Format.TheVariants.{Second}
 use Rattle.zre_capture.specs.declared.settings.Settings.{Settings}
@@ -19,9 +19,10 @@ use Rattle.zre_outside.specs.declared.entry.Entry.{Entry}
 use Rattle.zre_peer.specs.Lines.{lines}
 use Rattle.zre_peer.specs.declared.event.Event.{Event}
 use Rattle.zre_commands.specs.Settings.{as_config}
-use Rattle.zre_commands.specs.declared.replay.head_replayer.HeadReplayer.{HeadReplayer}
+use Rattle.zre_commands.specs.declared.replay.headed.Headed.{Headed}
+use Rattle.zre_commands.specs.declared.replay.reading.State.{State}
 use Rattle.zre_commands.specs.pump.Meaning.{Grows}
-use Rattle.zre_commands.specs.replay.HeadReplayer.{Fed}
+use Rattle.zre_commands.specs.replay.Headed.{Follows, HasRead}
 use Rattle.zre_commands.specs.replay.Lives.{Lives, AreStill, Tells, TookIfAny}
 use Rattle.zre_commands.specs.replay.Replay.{told_text, told_replay}
 use Rattle.zre_commands.specs.replay.State.{IsState}
@@ -171,11 +172,11 @@ text_on o x (Some s) given es (Some n) out out' e same t j = record {
   appended = t.appended;
 }
 
--- what the machine knows after it
-pub feeds_on : (h : HeadReplayer) (o x : List ℕ) (told : Option Settings) (given es : List Entry) (out out' : List ℕ) → IsState Second h.state (o ++ x) → told ≡ settings Second (o ++ x)
-    → given ≡ es → TookIfAny told (journal Second o) given h.node out out' → journal Second (o ++ x) ≡ journal Second o ++ es → Fed h (o ++ x)
-feeds_on h o x told given es out out' is e same t j = record {
-  reads = is;
-  lives = subst (λ u. Lives u (journal Second (o ++ x)) h.node) e
-      (lives_on told (journal Second o) given (journal Second (o ++ x)) h.node out out' t (j ∙ ap (λ (fs : List Entry). journal Second o ++ fs) (sym same)));
+-- and what is known after them, once the list was given back
+pub follows_on : (o x : List ℕ) (es : List Entry) (h m : Headed) (n : Option Node) (out out' : List ℕ) → HasRead o x es h → m.state ≡ h.state → m.node ≡ n
+    → TookIfAny (settings Second (o ++ x)) (journal Second o) es n out out' → Follows m (o ++ x)
+follows_on o x es h m n out out' r state node t = record {
+  reads = subst (λ (s : State). IsState Second s (o ++ x)) (sym state) r.reads;
+  lives = subst (λ (u : Option Node). Lives (settings Second (o ++ x)) (journal Second (o ++ x)) u) (sym node)
+      (lives_on (settings Second (o ++ x)) (journal Second o) es (journal Second (o ++ x)) n out out' t r.more);
 }

@@ -1,7 +1,6 @@
 -- The writes of an entry after a journal.
-use Rattle.std.proofs.Common.{◌≡◌, ℕ, Bool, cond, not, ◌&&◌, Option, List, [], ◌∷◌, ◌++◌, flat_map, refl, sym, ap, ◌∙◌, subst, append_assoc, append-nil}
+use Rattle.std.proofs.Common.{◌≡◌, ℕ, Bool, cond, not, ◌&&◌, List, [], ◌∷◌, ◌++◌, flat_map, refl, sym, ap, ◌∙◌, subst, append_assoc, append-nil}
 use Rattle.std.specs.List.{list_any}
-use Rattle.std.specs.Option.{option_map_or}
 use Rattle.std.proofs.lemmas.List.{append_cancel_left}
 use Rattle.zre_journal.specs.declared.config.Config.{Config}
 use Rattle.zre_journal.specs.Chronicle.{Mark}
@@ -10,13 +9,12 @@ use Rattle.zre_journal.specs.Happens.{has_stopped, with_entry, chronicle_after}
 use Rattle.zre_journal.proofs.Joined.{continues}
 use Rattle.zre_node.specs.declared.node.Node.{Node}
 use Rattle.zre_node.specs.declared.effects.Step.{Step}
-use Rattle.zre_node.specs.Journal.{StandsFor, Steps}
-use Rattle.zre_outside.specs.declared.entry.Command.{Command}
+use Rattle.zre_node.specs.Journal.{Steps}
 use Rattle.zre_outside.specs.declared.entry.Entry.{Entry}
 use Rattle.zre_peer.specs.declared.event.Event.{Event}
 use Rattle.zre_shared.specs.Replicas.{Held}
 use Rattle.zre_commands.specs.table.Kept.{Gathered, Keeps}
-use Rattle.zre_commands.specs.table.Writes.{frames_told, frames_asked, frames_shouted, is_refusal, is_done, frames_at, frames_after, frames}
+use Rattle.zre_commands.specs.table.Writes.{frames_told, frames_shouted, is_refusal, frames_at, frames_after, frames}
 use Rattle.zre_commands.proofs.table.Keeping.{keeps_same}
 
 frames-append : (g : Config) (group : List ℕ) (J K : List Entry) (H : List Mark) → frames_after g group (J ++ K) H ≡ frames_after g group J H ++ frames_after g group K (chronicle_after g J H)

@@ -19,7 +19,7 @@ use Rattle.zre_commands.specs.replay.Headed.{Follows, HasRead}
 use Rattle.zre_commands.specs.declared.replay.reading.State.{State}
 use Rattle.zre_commands.specs.replay.State.{IsState}
 use Rattle.zre_commands.specs.replay.Lives.{Lives, AreStill}
-use Rattle.zre_commands.specs.table.Kept.{Gathered, GatheredIfAny, Keeps}
+use Rattle.zre_commands.specs.table.Kept.{GatheredIfAny, Keeps}
 use Rattle.zre_commands.specs.table.Table.{text, table}
 use Rattle.zre_commands.specs.table.Tabulator.{Fed}
 use Rattle.zre_commands.specs.table.Writes.{frames, writes}

@@ -1,14 +1,9 @@
 ghost use Rattle.std.specs.Prelude.{◌≡◌, [], false};
 
 use crate::pump::{Going, Machine, push_bad_line_at};
-use crate::replay::lives::{make_node, take_if_any};
-use crate::replay::reading::{State, bad_at_end, going_after, read_piece, settings_told};
-use crate::replay::waiting::Waiting;
+use crate::replay::headed::Headed;
+use crate::replay::lives::take_if_any;
 use std::alloc::Global;
-use std::mem;
-use zre_capture::CaptureReader;
-use zre_node::Node;
-use zre_outside::Entries;
 use zre_values::{Octets, OutOfMemory};
 
 /// The machine of `replay` without words: a node with the settings that the head of a capture of format 2 says, to
@@ -16,11 +11,7 @@ use zre_values::{Octets, OutOfMemory};
 /// for the entries of each piece. The journal isn't kept.
 #[derive(Drop)]
 pub struct HeadReplayer {
-    alloc: Global,
-    state: State,
-    // None until the head is whole, and where it is bad.
-    node: Option<Node>,
-    entries: Entries,
+    headed: Headed,
 }
 
 impl HeadReplayer {
@@ -32,12 +23,8 @@ impl HeadReplayer {
         ensures fed { Fed result [] }
         ensures going { told_replay.is_stopped [] ≡ false }
     {
-        let reader = CaptureReader::second(alloc);
         HeadReplayer {
-            alloc,
-            state: State::Going(Waiting { reader }),
-            node: None,
-            entries: Entries::new(alloc),
+            headed: Headed::new(alloc),
         }
     }
 }
@@ -56,24 +43,14 @@ impl Machine for HeadReplayer {
 
     #[tactic(auto, using(crate::proofs::replay::HeadFeeding::text_grows))]
     fn feed(&mut self, piece: &[u8], out: &mut Octets) -> Result<Going, OutOfMemory> {
-        let waiting = match mem::replace(&mut self.state, State::Lost) {
-            State::Going(waiting) => waiting,
-            refused => {
-                self.state = refused;
-                return Ok(Going::Stop);
-            }
-        };
-        self.entries.clear();
-        let state = read_piece(waiting, piece, &mut self.entries)?;
-        make_node(self.alloc, &mut self.node, settings_told(&state))?;
-        let entries = mem::replace(&mut self.entries, Entries::new(self.alloc));
-        self.entries = take_if_any(&mut self.node, entries, out)?;
-        self.state = state;
-        Ok(going_after(&self.state))
+        let entries = self.headed.read(piece)?;
+        let emptied = take_if_any(&mut self.headed.node, entries, out)?;
+        self.headed.give_back(emptied);
+        Ok(self.headed.going())
     }
 
     fn finish(&self, _taken: u64, out: &mut Octets) -> Result<bool, OutOfMemory> {
-        match bad_at_end(&self.state)? {
+        match self.headed.bad_at_end()? {
             Some(bad) => {
                 push_bad_line_at(out, bad.line, bad.column)?;
                 Ok(true)

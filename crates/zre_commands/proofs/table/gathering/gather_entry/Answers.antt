@@ -1,4 +1,4 @@
-use Rattle.std.proofs.Common.{◌≡◌, List, ◌++◌, ℕ, not, ◌&&◌, flat_map, [], subst}
+use Rattle.std.proofs.Common.{◌≡◌, List, ◌++◌, not, ◌&&◌, flat_map, [], subst}
 use Rattle.std.specs.List.{list_any}
 use Rattle.std.specs.Option.{option_map_or}
 use Rattle.zre_peer.specs.declared.event.Event.{Event}

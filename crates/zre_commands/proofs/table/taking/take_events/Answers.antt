@@ -1,4 +1,4 @@
-use Rattle.std.proofs.Common.{ℕ, List, ◌++◌, take, flat_map, subst, ap}
+use Rattle.std.proofs.Common.{ℕ, List, ◌++◌, take, flat_map, subst}
 use Rattle.zre_commands.specs.table.Kept.{Keeps}
 use Rattle.zre_commands.specs.table.Writes.{frames_told}
 use Rattle.zre_commands.proofs.table.Keeping.{no_event, next_event, all_events}
