@@ -1,5 +1,5 @@
 -- Where nothing fails, a command does all that it is asked for, unless memory runs out.
-use Rattle.std.proofs.Common.{◌≡◌, ◌⊎◌, ℕ, ◌<◌, ◌≤◌, Bool, true, false, List, [], ◌∷◌, ◌++◌, length, Option, Some, None, inl, inr, refl, sym, ap, ◌∙◌, subst, arith, append_nil, length_append}
+use Rattle.std.proofs.Common.{◌≡◌, ◌⊎◌, ℕ, ◌<◌, ◌≤◌, Bool, true, false, List, [], ◌∷◌, ◌++◌, length, Option, Some, None, inl, inr, refl, sym, ap, ◌∙◌, subst, arith, append-nil, length-append}
 use Rattle.std.specs.Prelude.{nat_le, if◌then◌else◌, ⊤}
 use Rattle.std.specs.Io.KnownBytes.{Appends, Consumes, IsAtEnd}
 use Rattle.zre_outside.specs.Causes.{Rose}
@@ -40,19 +40,19 @@ whole_outcome : (m : Meaning) → KeepsRefusing m → (status : Status) (limit :
     → m.is_bad o ≡ false → length o < limit → ¬ read → ¬ write → WellOrShort status (Appends written written' (whole_text m o))
 whole_outcome m keeps Done limit o taken left written written' read write c out good short unread unwritten =
     let r = rest_of o taken left c in
-    let all : taken ≡ o = sym (r.1 ∙ ap (λ (x : List ℕ). taken ++ x) (r.2 out.1) ∙ append_nil taken) in
+    let all : taken ≡ o = sym (r.1 ∙ ap (λ (x : List ℕ). taken ++ x) (r.2 out.1) ∙ append-nil taken) in
     inl (refl, subst (λ (x : List ℕ). Appends written written' (whole_text m x)) all out.2.1)
 whole_outcome m keeps BadInput limit o taken left written written' read write c out good short unread unwritten =
     let r = rest_of o taken left c in
-    elim out.1 [
+    elim (out.1) [
       | inl stopped ↦ both_ways (m.is_bad o) (ap m.is_bad r.1 ∙ keeps taken r.0 stopped) good
-      | inr ended ↦ both_ways (m.is_bad o) (ap m.is_bad (r.1 ∙ ap (λ (x : List ℕ). taken ++ x) (r.2 ended.0) ∙ append_nil taken) ∙ out.0) good
+      | inr ended ↦ both_ways (m.is_bad o) (ap m.is_bad (r.1 ∙ ap (λ (x : List ℕ). taken ++ x) (r.2 ended.0) ∙ append-nil taken) ∙ out.0) good
     ]
 whole_outcome m keeps ReadFault limit o taken left written written' read write c out good short unread unwritten = absurd (unread out.0)
 whole_outcome m keeps WriteFault limit o taken left written written' read write c out good short unread unwritten = absurd (unwritten out.0)
 whole_outcome m keeps TooLong limit o taken left written written' read write c out good short unread unwritten =
     let r = rest_of o taken left c in
-    absurd (omega (arith, out.0, short, ap length r.1, length_append taken r.0))
+    absurd (omega (arith, out.0, short, ap length r.1, length-append taken r.0))
 whole_outcome m keeps OutOfMemory limit o taken left written written' read write c out good short unread unwritten = inr refl
 whole_outcome m keeps Usage limit o taken left written written' read write c out good short unread unwritten = absurd out
 whole_outcome m keeps WorldFault limit o taken left written written' read write c out good short unread unwritten = absurd out
@@ -100,11 +100,11 @@ spared Done limit octets turns stopped s t cause none few early = inl refl
 spared OutOfMemory limit octets turns stopped s t cause none few early = inr refl
 spared ReadFault limit octets turns stopped s t cause none few early = absurd (none.read cause.0)
 spared WriteFault limit octets turns stopped s t cause none few early =
-    elim cause [ | inl rose ↦ absurd (none.write rose) | inr rose ↦ absurd (none.recorded rose) ]
+    elim (cause) [ | inl rose ↦ absurd (none.write rose) | inr rose ↦ absurd (none.recorded rose) ]
 spared WorldFault limit octets turns stopped s t cause none few early = absurd (none.world cause)
 spared NoThread limit octets turns stopped s t cause none few early = absurd (none.thread cause)
 spared TooLong limit octets turns stopped s t cause none few early =
-    elim cause [ | inl many ↦ absurd (omega (arith, many.0, few)) | inr late ↦ absurd (omega (arith, late.0, early)) ]
+    elim (cause) [ | inl many ↦ absurd (omega (arith, many.0, few)) | inr late ↦ absurd (omega (arith, late.0, early)) ]
 spared Usage limit octets turns stopped s t cause none few early = absurd cause
 spared BadInput limit octets turns stopped s t cause none few early = absurd cause
 

@@ -1,5 +1,5 @@
 -- What is bad in a capture, whatever follows, stays bad.
-use Rattle.std.proofs.Common.{◌≡◌, ℕ, ◌<◌, ◌==◌, Bool, true, false, cond, List, [], ◌∷◌, ◌++◌, length, Option, Some, None, refl, sym, ap, ◌∙◌, subst, arith, append_assoc, length_append}
+use Rattle.std.proofs.Common.{◌≡◌, ℕ, ◌<◌, ◌==◌, Bool, true, false, cond, List, [], ◌∷◌, ◌++◌, length, Option, Some, None, refl, sym, ap, ◌∙◌, subst, arith, append_assoc, length-append}
 use Rattle.std.specs.Prelude.{ltb, is_some}
 use Rattle.std.specs.List.{slice_split, onto_first}
 use Rattle.std.specs.Option.{option_map_or}
@@ -50,10 +50,10 @@ long_stays : (p : Place) (l m : List ℕ) (ms : List (List ℕ)) (h : List ℕ) 
     → ltb (longest p.format) (length l) ≡ true → is_some (bad_from p (m ∷ ms)) ≡ true
 unfolding bad_from
 long_stays p l m [] h e long =
-    let longer : longest p.format < length m = omega (arith, ltb-true _ _ long, ap length e, length_append l h) in
+    let longer : longest p.format < length m = omega (arith, ltb-true _ _ long, ap length e, length-append l h) in
     rw (lt-ltb (longest p.format) (length m) longer) refl
 long_stays p l m (k ∷ ms) h e long =
-    let longer : longest p.format < length m = omega (arith, ltb-true _ _ long, ap length e, length_append l h) in
+    let longer : longest p.format < length m = omega (arith, ltb-true _ _ long, ap length e, length-append l h) in
     rw (lt-ltb (longest p.format) (length m) longer) refl
 
 said_stays : (said : Option (List Entry)) (f g : List Entry → Option BadCapture) (here : BadCapture)
