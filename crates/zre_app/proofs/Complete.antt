@@ -100,11 +100,11 @@ spared Done limit octets turns stopped s t cause none few early = inl refl
 spared OutOfMemory limit octets turns stopped s t cause none few early = inr refl
 spared ReadFault limit octets turns stopped s t cause none few early = absurd (none.read cause.0)
 spared WriteFault limit octets turns stopped s t cause none few early =
-    elim (cause) [ | inl rose ↦ absurd (none.write rose) | inr rose ↦ absurd (none.recorded rose) ]
+    elim (cause) [ inl rose ↦ absurd (none.write rose) | inr rose ↦ absurd (none.recorded rose) ]
 spared WorldFault limit octets turns stopped s t cause none few early = absurd (none.world cause)
 spared NoThread limit octets turns stopped s t cause none few early = absurd (none.thread cause)
 spared TooLong limit octets turns stopped s t cause none few early =
-    elim (cause) [ | inl many ↦ absurd (omega (arith, many.0, few)) | inr late ↦ absurd (omega (arith, late.0, early)) ]
+    elim (cause) [ inl many ↦ absurd (omega (arith, many.0, few)) | inr late ↦ absurd (omega (arith, late.0, early)) ]
 spared Usage limit octets turns stopped s t cause none few early = absurd cause
 spared BadInput limit octets turns stopped s t cause none few early = absurd cause
 

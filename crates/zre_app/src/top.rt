@@ -59,10 +59,10 @@ pub fn run<
     ensures ledgers { KeepsItsLedgers (command_of words.now) }
     ensures complete { Completes (command_of words.now) limit result.status
         (seen_of (views (stream_views I.left I.taken I.faults O.written O.faults)
-            W.told W.faults R.kept R.named R.faults P.faults) (handed input world out.old rec spawner.old))
+        W.told W.faults R.kept R.named R.faults P.faults) (handed input world out.old rec spawner.old))
         (seen_of (views (stream_views I.left I.taken I.faults O.written O.faults)
-            W.told W.faults R.kept R.named R.faults P.faults)
-            (handed result.input result.world out.new result.rec spawner.new)) }
+        W.told W.faults R.kept R.named R.faults P.faults)
+        (handed result.input result.world out.new result.rec spawner.new)) }
 {
     dispatch(rt, alloc, words, input, world, out, rec, spawner, limit)
 }
@@ -142,10 +142,10 @@ pub fn zre<
     ensures ledgers { KeepsItsLedgers (command_of words.now) }
     ensures complete { Completes (command_of words.now) LIMIT result.status
         (seen_of (views (stream_views I.left I.taken I.faults O.written O.faults)
-            W.told W.faults R.kept R.named R.faults P.faults) (handed input world out.old rec spawner.old))
+        W.told W.faults R.kept R.named R.faults P.faults) (handed input world out.old rec spawner.old))
         (seen_of (views (stream_views I.left I.taken I.faults O.written O.faults)
-            W.told W.faults R.kept R.named R.faults P.faults)
-            (handed result.input result.world out.new result.rec spawner.new)) }
+        W.told W.faults R.kept R.named R.faults P.faults)
+        (handed result.input result.world out.new result.rec spawner.new)) }
 {
     run(rt, alloc, words, input, world, out, rec, spawner, LIMIT)
 }

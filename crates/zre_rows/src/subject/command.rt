@@ -179,7 +179,10 @@ impl Commands {
     }
 
     fn sink(&self, alloc: Global, answer: &mut Text) -> Narrow {
-        Narrow::new(MemSink::new(alloc, self.calls_of(alloc, "write", answer)), self.most)
+        Narrow::new(
+            MemSink::new(alloc, self.calls_of(alloc, "write", answer)),
+            self.most,
+        )
     }
 
     fn world(&self, alloc: Global, answer: &mut Text) -> Telling {
