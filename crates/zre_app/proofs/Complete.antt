@@ -90,7 +90,7 @@ plain_completes (Exercise seed peers messages) limit status s t does = λ unwrit
 
 -- ---- a chat
 
-Spares : Status → Type 0
+abbrev Spares : Status → Type 0
 Spares status = (status ≡ Done) ⊎ (status ≡ OutOfMemory)
 
 -- nothing else has a cause

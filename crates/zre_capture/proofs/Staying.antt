@@ -13,7 +13,7 @@ use Rattle.zre_capture.specs.declared.place.Place.{Place}
 use Rattle.zre_capture.proofs.Lines.{some_lines}
 
 -- the lines of a text that begins another: all but the last are lines of that one too, and the last begins one
-Begins : List (List ℕ) → List (List ℕ) → Type 0
+abbrev Begins : List (List ℕ) → List (List ℕ) → Type 0
 Begins [] ms = ⊥
 Begins (l ∷ ls) [] = ⊥
 Begins (l ∷ []) (m ∷ ms) = (h : List ℕ) × (m ≡ l ++ h)
@@ -46,7 +46,11 @@ begins [] x = any_begins (lines_in x) (some_lines x)
 begins (c ∷ o) x = either_begins (c == 10) c (lines_in o) (lines_in (o ++ x)) (begins o x)
 
 -- a last line that is too long already is bad, whatever follows
-long_stays : (p : Place) (l m : List ℕ) (ms : List (List ℕ)) (h : List ℕ) → m ≡ l ++ h
+long_none_begins : (k : List ℕ) (ls : List (List ℕ)) → Begins (k ∷ ls) [] → ⊥
+none_begins k [] b = b
+none_begins k (j ∷ ls) b = b
+
+stays : (p : Place) (l m : List ℕ) (ms : List (List ℕ)) (h : List ℕ) → m ≡ l ++ h
     → ltb (longest p.format) (length l) ≡ true → is_some (bad_from p (m ∷ ms)) ≡ true
 unfolding bad_from
 long_stays p l m [] h e long =
@@ -77,10 +81,6 @@ stays p (l ∷ k ∷ ls) (m ∷ n ∷ ms) b e =
     subst (λ (t : List ℕ). is_some (option_map_or (λ es. bad_from (next p es) (n ∷ ms)) (line_of p t) (Some (bad_line p t))) ≡ true) (sym b.0)
     (said_stays (line_of p l) (λ es. bad_from (next p es) (k ∷ ls)) (λ es. bad_from (next p es) (n ∷ ms)) (bad_line p l)
     (λ es h. stays (next p es) (k ∷ ls) (n ∷ ms) b.1 h) e)
-  where
-    none_begins : (k : List ℕ) (ls : List (List ℕ)) → Begins (k ∷ ls) [] → ⊥
-    none_begins k [] b = b
-    none_begins k (j ∷ ls) b = b
 
 pub bad_stays : (f : Format) (o x : List ℕ) → is_some (bad f o) ≡ true → is_some (bad f (o ++ x)) ≡ true
 bad_stays f o x e = stays (start f) (lines_in o) (lines_in (o ++ x)) (begins o x) e
