@@ -41,7 +41,7 @@ whole_outcome : (m : Meaning) → KeepsRefusing m → (status : Status) (limit :
 whole_outcome m keeps Done limit o taken left written written' read write c out good short unread unwritten =
     let r = rest_of o taken left c in
     let all : taken ≡ o = sym (r.1 ∙ ap (λ (x : List ℕ). taken ++ x) (r.2 out.1) ∙ append-nil taken) in
-    inl (refl, subst (λ (x : List ℕ). Appends written written' (whole_text m x)) all out.2.1)
+    inl (refl, subst (λ (x : List ℕ). Appends written written' (whole_text m x)) all out.3)
 whole_outcome m keeps BadInput limit o taken left written written' read write c out good short unread unwritten =
     let r = rest_of o taken left c in
     elim (out.1) [
