@@ -46,11 +46,7 @@ begins [] x = any_begins (lines_in x) (some_lines x)
 begins (c ∷ o) x = either_begins (c == 10) c (lines_in o) (lines_in (o ++ x)) (begins o x)
 
 -- a last line that is too long already is bad, whatever follows
-long_none_begins : (k : List ℕ) (ls : List (List ℕ)) → Begins (k ∷ ls) [] → ⊥
-none_begins k [] b = b
-none_begins k (j ∷ ls) b = b
-
-stays : (p : Place) (l m : List ℕ) (ms : List (List ℕ)) (h : List ℕ) → m ≡ l ++ h
+long_stays : (p : Place) (l m : List ℕ) (ms : List (List ℕ)) (h : List ℕ) → m ≡ l ++ h
     → ltb (longest p.format) (length l) ≡ true → is_some (bad_from p (m ∷ ms)) ≡ true
 unfolding bad_from
 long_stays p l m [] h e long =
@@ -69,6 +65,10 @@ said_stays (Some es) f g here h e = h es e
 long_is : (b : Bool) (here : BadCapture) → is_some (cond b (Some here) None) ≡ true → b ≡ true
 long_is true here e = refl
 long_is false here e = absurd cc
+
+none_begins : (k : List ℕ) (ls : List (List ℕ)) → Begins (k ∷ ls) [] → ⊥
+none_begins k [] b = b
+none_begins k (j ∷ ls) b = b
 
 stays : (p : Place) (ls ms : List (List ℕ)) → Begins ls ms → is_some (bad_from p ls) ≡ true → is_some (bad_from p ms) ≡ true
 unfolding bad_from
