@@ -1,4 +1,4 @@
-"""Inputs for the fuzzer: streams, traffic and captures that are mostly well formed, and mutations of them."""
+"""Inputs for the fuzzer: streams, traffic, captures and schedules that are mostly well formed, and mutations of them."""
 
 GREETING = bytes.fromhex("ff00000000000000017f03014e554c4c") + bytes(48)
 NAMES = [b"Ann", b"Ben", b"", b"%", b"a b", b"\xc3\xa9", b"n" * 255]
@@ -160,6 +160,79 @@ def captures(chance):
         first.append(f"{clock} {entry}")
         second.append(f"{step} {entry}")
     return tuple(("\n".join(lines) + "\n").encode() for lines in (first, second))
+
+
+class Network:
+    """Moves of a schedule of three nodes, most of which can be made."""
+
+    def __init__(self, chance):
+        self.chance = chance
+        self.beacons = []
+        self.links = []
+        self.known = set()
+        self.conns = 0
+        self.moves = [f"start {node} 0 {str(node) * 32} n{node} 10.0.0.{node} 5000" for node in (1, 2, 3)]
+
+    def tick(self):
+        node = self.chance.randrange(1, 4)
+        self.beacons.append(node)
+        return f"tick {node} {self.chance.choice([0, 0, 100, 5000])}"
+
+    def beacon(self):
+        if not self.beacons:
+            return self.tick()
+        number = self.chance.randrange(len(self.beacons)) + 1
+        sender, node = self.beacons[number - 1], self.chance.randrange(1, 4)
+        if sender != node and (node, sender) not in self.known:
+            self.known.add((node, sender))
+            self.links.append(sender)
+        return f"beacon {number} {node} 0"
+
+    def open(self):
+        if not self.links:
+            return self.beacon()
+        number = self.chance.randrange(len(self.links)) + 1
+        self.conns += 1
+        return f"open {number} {self.links[number - 1]} 0"
+
+    def carry(self):
+        if not self.conns:
+            return self.open()
+        number = self.chance.randrange(self.conns) + 1
+        return f"carry {number} {self.chance.choice(['greeting', 'ready', 1, 1, 1, 2, 3])}"
+
+    def handed(self):
+        """A whole beginning of a connection: its greeting, READY and HELLO, in one piece or two."""
+        first = self.open()
+        if not first.startswith("open"):
+            return first
+        size, cut = 64 + 60 + 40, self.chance.choice([0, 10, 64, 120])
+        self.moves += [first, *(f"carry {self.conns} {part}" for part in ("greeting", "ready", 1))]
+        self.moves += [f"piece {self.conns} {cut} 0"] if cut else []
+        return f"piece {self.conns} {size - cut} 0"
+
+    def link(self):
+        if not self.links:
+            return self.beacon()
+        number = self.chance.randrange(len(self.links)) + 1
+        return self.chance.choice([f"linked {number} 0", f"took {number} {self.chance.randrange(300)} 0",
+                                   f"reply {number} 0 {piece(GREETING[:self.chance.choice([0, 9, 64])])}"])
+
+    def wish(self):
+        node, other = self.chance.randrange(1, 4), self.chance.randrange(1, 4)
+        return f"do {node} 0 " + self.chance.choice(["join g", "leave g", "shout g x", f"whisper {str(other) * 32} y", "bad 7"])
+
+    def end(self):
+        node = self.chance.randrange(1, 4)
+        number = self.chance.randrange(self.conns or 1) + 1
+        return self.chance.choice([f"shut {number} 0", f"crash {node}", f"do {node} 0 quit",
+                                   f"start {node} 0 {str(node) * 32} n{node} 10.0.0.{node} 5000"])
+
+    def schedule(self):
+        ways = [self.tick, self.beacon, self.beacon, self.handed, self.handed, self.carry, self.link, self.wish, self.wish]
+        for _ in range(self.chance.randrange(4, 30)):
+            self.moves.append(self.end() if self.chance.random() < 0.04 else self.chance.choice(ways)())
+        return ("\n".join(["zre-schedule 1", *self.moves]) + "\n").encode()
 
 
 def mutated(chance, octets):
