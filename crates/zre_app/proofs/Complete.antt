@@ -1,13 +1,15 @@
 -- Where nothing fails, a command does all that it is asked for, unless memory runs out.
-use Rattle.std.proofs.Common.{◌≡◌, ◌⊎◌, ℕ, ◌<◌, Bool, true, false, List, [], ◌∷◌, ◌++◌, length, Option, Some, None, inl, inr, refl, sym, ap, ◌∙◌, subst, arith, append-nil, length-append}
+use Rattle.std.proofs.Common.{◌≡◌, ◌⊎◌, ℕ, ◌<◌, ◌≤◌, Bool, true, false, List, [], ◌∷◌, ◌++◌, length, Option, Some, None, inl, inr, refl, sym, ap, ◌∙◌, subst, arith, append-nil, length-append}
 use Rattle.std.specs.Prelude.{nat_le, if◌then◌else◌, ⊤}
 use Rattle.std.specs.Io.KnownBytes.{Appends, Consumes, IsAtEnd}
+use Rattle.zre_outside.specs.Causes.{Rose}
 use Rattle.zre_commands.specs.declared.pump.status.Status.{Status}
 use Rattle.zre_commands.specs.declared.pump.status.Status.TheVariants.{Done, Usage, BadInput, ReadFault, WriteFault, WorldFault, NoThread, TooLong, OutOfMemory}
 use Rattle.zre_commands.specs.pump.Meaning.{Meaning, KeepsRefusing, whole_text}
 use Rattle.zre_commands.specs.pump.Outcome.{Outcome, Pumped}
+use Rattle.zre_commands.specs.replay.Replay.{replay, told_replay}
 use Rattle.zre_commands.proofs.Refusing.{show_refuses, follow_refuses, capture_refuses, simulate_refuses}
-use Rattle.zre_chat.specs.Chat.{Seen, IsChat, IsCaused, AreCaused}
+use Rattle.zre_chat.specs.Chat.{Seen, IsChat, IsCaused, AreCaused, IsSpared}
 use Rattle.zre_chat.specs.Statuses.{rank, least}
 use Rattle.zre_capture.specs.declared.format.Format.TheVariants.{First, Second}
 use Rattle.zre_app.specs.declared.command.Command.{Command}
