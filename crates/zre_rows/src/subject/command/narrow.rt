@@ -13,7 +13,7 @@ impl Narrow {
     pub fn new(inner: MemSink, most: u64) -> Self {
         Narrow {
             inner,
-            most: usize::try_from(most).unwrap_or(usize::MAX).max(1),
+            most: usize::try_from(most).unwrap_or(usize::MAX),
         }
     }
 
@@ -31,7 +31,7 @@ impl Sink for Narrow {
     ghost faults = { λ s. write_faults_of s.inner };
 
     fn write(&mut self, bytes: &[u8]) -> Result<usize, NextFault> {
-        let n = bytes.len().min(self.most);
+        let n = bytes.len().min(self.most.max(1));
         self.inner.write(&bytes[..n])
     }
 }
