@@ -77,6 +77,13 @@ room expect.Ready (Some h) body = h.size - length body
 room expect.Traffic None body = 1
 room expect.Traffic (Some h) body = h.size - length body
 
+-- No octets are kept, and all of this header stands at the front of the octets o.
+pub record HasHeader (p : Progress) (h : Header) (o : List ℕ) : Type 0 where
+  pub frame : p.expected ≢ expect.Greeting
+  pub no_head : p.partial.head ≡ []
+  pub no_body : p.partial.body ≡ []
+  pub header : header_of o ≡ Some h
+
 -- No octets are kept, and all of a frame with this header stands at the front of the octets o.
 pub record BeginsFrame (p : Progress) (h : Header) (o : List ℕ) : Type 0 where
   pub frame : p.expected ≢ expect.Greeting
