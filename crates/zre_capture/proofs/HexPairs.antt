@@ -26,7 +26,7 @@ pair_octets (a ∷ b ∷ rest) = (value a * 16 + value b) ∷ pair_octets rest
 has_value : (c : ℕ) → is_lower_digit c ≡ true → hex_digit_value c ≡ Some (value c)
 has_value c e = grind (arith, nat_tests, e)
 
-value_below : (c : ℕ) → is_lower_digit c ≡ true → value c < 16
+pub value_below : (c : ℕ) → is_lower_digit c ≡ true → value c < 16
 value_below c e = grind (arith, nat_tests, e)
 
 -- the digit at a place of the table
@@ -46,16 +46,16 @@ all_at-place (suc n) d h lt =
       | inr top ↦ let e : d ≡ n = omega arith in rw e (eqb-true _ _ p.0)
     ]
 
-table : (d : ℕ) → d < 16 → slice_index lower_digits d ≡ digit d
+pub table : (d : ℕ) → d < 16 → slice_index lower_digits d ≡ digit d
 table d lt = all_at-place 16 d refl lt
 
-digit-value : (c : ℕ) → is_lower_digit c ≡ true → digit (value c) ≡ c
+pub digit-value : (c : ℕ) → is_lower_digit c ≡ true → digit (value c) ≡ c
 digit-value c e = grind (arith, nat_tests, e)
 
 digit-lower : (d : ℕ) → d < 16 → is_lower_digit (digit d) ≡ true
 digit-lower d lt = grind (arith, nat_tests)
 
-halves : (x y : ℕ) → x < 16 → y < 16 → ((x * 16 + y) / 16 ≡ x) × ((x * 16 + y) % 16 ≡ y)
+pub halves : (x y : ℕ) → x < 16 → y < 16 → ((x * 16 + y) / 16 ≡ x) × ((x * 16 + y) % 16 ≡ y)
 halves x y p q = (omega arith, omega arith)
 
 abbrev lower : List ℕ → Bool
