@@ -4,7 +4,7 @@ use Rattle.std.specs.Io.KnownBytes.{Appends, IsAtEnd}
 use Rattle.zre_outside.specs.Told.{Moves, AppendsFront}
 use Rattle.zre_commands.specs.pump.Meaning.{Meaning, whole_text}
 use Rattle.zre_commands.specs.declared.pump.status.Status.{Status}
-use Rattle.zre_commands.specs.declared.pump.status.Status.TheVariants.{Done, Usage, BadInput, ReadFault, WriteFault, WorldFault, NoThread, TooLong, OutOfMemory}
+use Rattle.zre_commands.specs.declared.pump.status.Status.TheVariants.{Done, Usage, BadInput, ReadFault, WriteFault, WorldFault, NoThread, TooLong, OutOfMemory, DeskFault}
 
 -- the octets o were taken, and then: read and write say that the counts of faults of the source and the sink rose
 abbrev pub Outcome : Status
@@ -29,6 +29,7 @@ Outcome OutOfMemory limit m o left written written' read write = AppendsFront wr
 Outcome Usage limit m o left written written' read write = ⊥
 Outcome WorldFault limit m o left written written' read write = ⊥
 Outcome NoThread limit m o left written written' read write = ⊥
+Outcome DeskFault limit m o left written written' read write = ⊥
 
 -- some octets were taken from the source, no more than the limit, and the status says how it ended
 pub record Pumped (status : Status) (limit : ℕ) (m : Meaning)
