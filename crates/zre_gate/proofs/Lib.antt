@@ -1,6 +1,7 @@
 pub mod Attended
 pub mod Clients
-pub mod Gated
 pub mod Gathered
+pub mod Holding
 pub mod Merged
 pub mod Places
+pub mod Unopened

@@ -55,7 +55,7 @@ module _ (P : Placed → Type 0) where
   all_front [] ys a = All-nil P
   all_front (x ∷ xs) ys a = All-cons P x xs (All-head P x (xs ++ ys) a) (all_front xs ys (All-tail P x (xs ++ ys) a))
 
-  all_last : (xs : List Placed) (x : Placed) → All P (xs ++ x ∷ []) → P x
+  pub all_last : (xs : List Placed) (x : Placed) → All P (xs ++ x ∷ []) → P x
   all_last [] x a = All-head P x [] a
   all_last (y ∷ xs) x a = all_last xs x (All-tail P y (xs ++ x ∷ []) a)
 
@@ -135,7 +135,7 @@ all_closing P n ended cs (inr one) p = All-same P (all_under n ended cs) (placed
 
 -- ---- a quit at the end
 
-nothing_mapped : (es : List Placed) → map command_of es ≡ [] → es ≡ []
+pub nothing_mapped : (es : List Placed) → map command_of es ≡ [] → es ≡ []
 nothing_mapped [] is = refl
 nothing_mapped (e ∷ es) is = absurd (let x : e.command ∷ map command_of es ≡ [] = is in cc)
 
@@ -228,6 +228,12 @@ module _ (S : List Served) (c a : ℕ) (ea : List ℕ) (tail asks : List Command
 
   good : All IsGood es
   good = holds IsGood (all_for IsGood (IsThere S) (λ x h command isnt. inl (isnt, h)) S plain (all_there S)) (all_closing IsGood c ns tail few_tail (inr refl)) (all_closing IsGood a ea asks few_asks (inr refl))
+
+  -- where neither the closer nor the other caller put a quit, none was popped
+  pub none_quit : tail ≡ [] → asks ≡ [] → All (λ e. is_quit e.command ≡ false) es
+  none_quit t k = holds (λ e. is_quit e.command ≡ false) (all_for (λ e. is_quit e.command ≡ false) (IsThere S) (λ x h command isnt. isnt) S plain (all_there S))
+      (All-same (λ e. is_quit e.command ≡ false) closing [] (ap (all_under c ns) t) (All-nil (λ e. is_quit e.command ≡ false)))
+      (All-same (λ e. is_quit e.command ≡ false) asking [] (ap (all_under a ea) k) (All-nil (λ e. is_quit e.command ≡ false)))
 
   -- under the number of a client stands what was put for it
   pub own_puts : All (λ x. under x.number puts ≡ put_for x) S

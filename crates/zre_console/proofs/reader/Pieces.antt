@@ -110,4 +110,9 @@ end-over o a b none p = ([], p, typed-begin o (typed o ++ []) [] (sym (append-ni
 
 -- memory ran out at the end
 pub end-memory : (o : List ℕ) (a : CallerPass) → list_any is_quit (typed o) ≡ false → PutsPart a a o o
-end-memory o a none = let begun = end-over o a a none (puts-none a) in ([], puts-none a, begun.2, ([], append-nil (typed o ++ []) ∙ append-nil (typed o)))
+end-memory o a none = (
+  [],
+  puts-none a,
+  typed-begin o (typed o ++ []) [] (sym (append-nil (typed o)) ∙ sym (append-nil (typed o ++ []))) (none-append (typed o) [] none refl),
+  ([], append-nil (typed o ++ []) ∙ append-nil (typed o)),
+)

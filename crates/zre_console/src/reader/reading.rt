@@ -129,7 +129,8 @@ fn finish<R: Wait + Copy>(
     };
     let (pass, sent) = put_one(rt, pipes, over, pass, command);
     match sent {
-        Sent::On | Sent::Quit => (pass, InputEnd::AtEnd),
+        Sent::On => (pass, InputEnd::AtEnd),
+        Sent::Quit => (pass, InputEnd::AtEnd),
         Sent::Over => (pass, InputEnd::Over),
     }
 }
