@@ -1,7 +1,12 @@
 mod Computed
 mod Cut
 mod Cutting
+mod Ears
+mod Fate
 mod Grows
 mod Lines
 mod Long
+mod Looking
+mod Putting
 mod Same
+mod Sending

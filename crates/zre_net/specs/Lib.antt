@@ -10,3 +10,5 @@ pub mod Numbers
 pub mod Reading
 pub mod Restart
 pub mod Said
+pub mod Sender
+pub mod Sending

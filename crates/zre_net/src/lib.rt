@@ -1,5 +1,5 @@
 //! A network of nodes under a schedule: what its moves mean, and what its nodes then tell. The definitions stand in
-//! `specs/`, and `read_schedule` reads the text of one.
+//! `specs/`.
 #![tactic(auto)]
 
 mod fault;
@@ -7,12 +7,13 @@ mod laws;
 pub mod limits;
 mod moves;
 mod reading;
+mod running;
 mod word;
 
 pub use fault::{BadSchedule, ScheduleFault};
 pub use laws::{
-    a_cut_piece_is_a_whole_one, a_restart_computes, an_example_computes, links_only_grow,
-    long_texts_are_refused_early, schedules_are_short,
+    a_cut_piece_is_a_whole_one, a_restart_computes, an_example_computes, links_only_grow, long_texts_are_refused_early,
+    schedules_are_short,
 };
 pub use moves::{Move, Moves, Part};
 pub use reading::{Schedule, read_schedule};

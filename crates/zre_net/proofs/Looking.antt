@@ -1,0 +1,149 @@
+-- Looks at a node's links, one after the other.
+use Rattle.std.proofs.Common.{◌≡◌, ◌⊎◌, ℕ, zero, suc, ◌+◌, ◌≤◌, ◌<◌, Bool, true, false, cond, ◌||◌, eqb, List, [], ◌∷◌, ◌++◌, length, drop, map, Option, Some, None, IsSome, is_some, find, refl, sym, ap, ◌∙◌, subst, inl, inr, arith, append_assoc, append-nil, length-append, true≢false, eqb-true, eq-eqb}
+use Rattle.std.specs.Prelude.{slice_get, slice_set, get_or}
+use Rattle.std.specs.List.{list_any}
+use Rattle.zre_journal.specs.declared.config.Config.{Config}
+use Rattle.zre_journal.specs.Chronicle.{Mark}
+use Rattle.zre_journal.specs.Links.{bodies, text, taken}
+use Rattle.zre_journal.specs.Peers.{Life, lives, life}
+use Rattle.zre_journal.proofs.Listed.{eqb-comm}
+use Rattle.zre_net.specs.declared.running.sender.Line.{Line}
+use Rattle.zre_net.specs.Lists.{nth}
+use Rattle.zre_net.specs.Sender.{IsNoted, IsSeen, IsLookedAt, IsLooked}
+
+-- ---- a place that is written
+
+got : {A : Type 0} (xs : List A) (i : ℕ) (v : A) → i < length xs → slice_get (slice_set xs i v) i ≡ Some v
+got [] i v z = absurd (omega (arith, z))
+got (x ∷ xs) zero v z = refl
+got (x ∷ xs) (suc i) v z = got xs i v (omega (arith, z))
+
+kept : {A : Type 0} (xs : List A) (i k : ℕ) (v : A) → (i ≡ k → ⊥) → slice_get (slice_set xs i v) k ≡ slice_get xs k
+kept [] i k v n = refl
+kept (x ∷ xs) zero zero v n = absurd (n refl)
+kept (x ∷ xs) zero (suc k) v n = refl
+kept (x ∷ xs) (suc i) zero v n = refl
+kept (x ∷ xs) (suc i) (suc k) v n = kept xs i k v (λ e. n (ap suc e))
+
+there : {A : Type 0} (xs : List A) (i : ℕ) (d : A) → i < length xs → slice_get xs i ≡ Some (get_or xs i d)
+there [] i d z = absurd (omega (arith, z))
+there (x ∷ xs) zero d z = refl
+there (x ∷ xs) (suc i) d z = there xs i d (omega (arith, z))
+
+as_many : {A : Type 0} (xs : List A) (i : ℕ) (v : A) → length (slice_set xs i v) ≡ length xs
+as_many [] i v = refl
+as_many (x ∷ xs) zero v = refl
+as_many (x ∷ xs) (suc i) v = let r = as_many xs i v in omega (arith, r)
+
+module _ (g : Config) (K : List Mark) where
+  abbrev waits : ℕ → List ℕ
+  waits l = drop (taken l K) (text g l K)
+
+  pub looked_at : (l i : ℕ) (xs ys : List Line) (x y : Line) → l ≡ i + 1 → i < length xs → x ≡ get_or xs i x → ys ≡ slice_set xs i y → IsNoted (length (bodies l K)) (waits l) x y → taken l K ≤ length (text g l K) → IsLookedAt g K l xs ys
+  looked_at zero i xs ys x y e z w s n b = absurd (omega (arith, e))
+  looked_at (suc l) i xs ys x y e z w s n b =
+      let same : l ≡ i = omega (arith, e) in record {
+        count = ap (λ ws. length ws) s ∙ as_many xs i y;
+        seen = record {
+          before = x;
+          now = y;
+          was = ap (slice_get xs) same ∙ there xs i x z ∙ ap (λ v. Some v) (sym w);
+          is = ap (slice_get ys) same ∙ ap (λ ws. slice_get ws i) s ∙ got xs i y z;
+          noted = n;
+          within = b;
+        };
+        others = λ k far. other k (subst (λ j. eqb (suc j) k ≡ false) same far);
+      }
+    where
+      other : (k : ℕ) → eqb (suc i) k ≡ false → nth k ys ≡ nth k xs
+      other zero far = refl
+      other (suc k) far = ap (λ ws. slice_get ws k) s ∙ kept xs i k y (λ e. true≢false (sym (eq-eqb (suc i) (suc k) (ap suc e)) ∙ far))
+
+  -- ---- many looks
+
+  pub record Progress (done : List ℕ) (xs ys : List Line) : Type 0 where
+    pub count : length ys ≡ length xs
+    pub seen : (l : ℕ) → list_any (eqb l) done ≡ true → IsSeen g K l xs ys
+    pub others : (l : ℕ) → list_any (eqb l) done ≡ false → nth l ys ≡ nth l xs
+
+  pub none_yet : (xs : List Line) → Progress [] xs xs
+  none_yet xs = record { count = refl; seen = λ l z. absurd (true≢false (sym z)); others = λ l z. refl }
+
+  some_one : {A : Type 0} {a b : A} → Some a ≡ Some b → a ≡ b
+  some_one e = cc
+
+  abbrev More : ℕ → List ℕ → Line → Line → Type 0
+  More sent w s t = ((sent ≡ length s.messages) × (t.messages ≡ s.messages)) ⊎ ((sent ≡ length s.messages + 1) × (t.messages ≡ s.messages ++ drop s.waited w ∷ []))
+
+  noted_twice : (sent : ℕ) (w : List ℕ) (x y z : Line) → IsNoted sent w x y → IsNoted sent w y z → IsNoted sent w x z
+  noted_twice sent w x y z a b = record { waited = b.waited; messages = by a.messages b.messages }
+    where
+      by : More sent w x y → More sent w y z → More sent w x z
+      by (inl p) (inl q) = inl (p.0, q.1 ∙ p.1)
+      by (inr p) (inl q) = inr (p.0, q.1 ∙ p.1)
+      by (inl p) (inr q) = absurd (let c = ap (λ ms. length ms) p.1 in omega (arith, p.0, q.0, c))
+      by (inr p) (inr q) = absurd (let c = ap (λ ms. length ms) p.1 in let d = length-append x.messages (drop x.waited w ∷ []) in omega (arith, p.0, q.0, c, d))
+
+  any-last : (k l : ℕ) (done : List ℕ) → list_any (eqb k) (done ++ l ∷ []) ≡ (list_any (eqb k) done || eqb k l)
+  any-last k l [] = by (eqb k l)
+    where
+      by : (b : Bool) → (b || false) ≡ b
+      by true = refl
+      by false = refl
+  any-last k l (d ∷ done) = ap (λ b. eqb k d || b) (any-last k l done) ∙ by (eqb k d) (list_any (eqb k) done) (eqb k l)
+    where
+      by : (a b c : Bool) → (a || (b || c)) ≡ ((a || b) || c)
+      by true b c = refl
+      by false b c = refl
+
+  pub one_look : (done : List ℕ) (l : ℕ) (xs ys zs : List Line) → Progress done xs ys → IsLookedAt g K l ys zs → Progress (done ++ l ∷ []) xs zs
+  one_look done l xs ys zs p a = record {
+    count = a.count ∙ p.count;
+    seen = λ k z. seen_by k (eqb l k) refl (list_any (eqb k) done) refl (sym (any-last k l done) ∙ z);
+    others = λ k z. others_by k (eqb l k) refl (list_any (eqb k) done) refl (sym (any-last k l done) ∙ z);
+  }
+    where
+      again : IsSeen g K l xs ys → IsSeen g K l ys zs → IsSeen g K l xs zs
+      again s t = record {
+        before = s.before;
+        now = t.now;
+        was = s.was;
+        is = t.is;
+        noted = noted_twice (length (bodies l K)) (waits l) s.before s.now t.now s.noted (subst (λ v. IsNoted (length (bodies l K)) (waits l) v t.now) (some_one (sym t.was ∙ s.is)) t.noted);
+        within = t.within;
+      }
+
+      at_it : (b : Bool) → list_any (eqb l) done ≡ b → IsSeen g K l xs zs
+      at_it true z = again (p.seen l z) a.seen
+      at_it false z = record { before = a.seen.before; now = a.seen.now; was = sym (p.others l z) ∙ a.seen.was; is = a.seen.is; noted = a.seen.noted; within = a.seen.within }
+
+      seen_by : (k : ℕ) (b : Bool) → eqb l k ≡ b → (d : Bool) → list_any (eqb k) done ≡ d → (list_any (eqb k) done || eqb k l) ≡ true → IsSeen g K k xs zs
+      seen_by k true e d f z = subst (λ j. IsSeen g K j xs zs) (eqb-true l k e) (at_it (list_any (eqb l) done) refl)
+      seen_by k false e true f z = let s = p.seen k f in record { before = s.before; now = s.now; was = s.was; is = a.others k e ∙ s.is; noted = s.noted; within = s.within }
+      seen_by k false e false f z = absurd (true≢false (sym z ∙ ap (λ b. b || eqb k l) f ∙ eqb-comm k l ∙ e))
+
+      others_by : (k : ℕ) (b : Bool) → eqb l k ≡ b → (d : Bool) → list_any (eqb k) done ≡ d → (list_any (eqb k) done || eqb k l) ≡ false → nth k zs ≡ nth k xs
+      others_by k true e d f z = absurd (true≢false (sym (tr d (eqb k l) (eqb-comm k l ∙ e)) ∙ ap (λ b. b || eqb k l) (sym f) ∙ z))
+        where
+          tr : (s t : Bool) → t ≡ true → (s || t) ≡ true
+          tr true t y = refl
+          tr false t y = y
+      others_by k false e true f z = absurd (true≢false (ap (λ b. b || eqb k l) (sym f) ∙ z))
+      others_by k false e false f z = a.others k e ∙ p.others k f
+
+  -- when all known peers' links have been
+  pub all_looked : (xs ys : List Line) → Progress (map (λ (v : Life). v.link) (lives K)) xs ys → IsLooked g K xs ys
+  all_looked xs ys p = record {
+    count = p.count;
+    seen = λ l s. p.seen l (same l (lives K) ∙ s);
+    others = λ l n. p.others l (same l (lives K) ∙ ap is_some n);
+  }
+    where
+      same : (l : ℕ) (vs : List Life) → list_any (eqb l) (map (λ (v : Life). v.link) vs) ≡ is_some (find (λ (v : Life). eqb l v.link) vs)
+      same l [] = refl
+      same l (v ∷ vs) = by (eqb l v.link) (same l vs)
+        where
+          by : (b : Bool) → list_any (eqb l) (map (λ (u : Life). u.link) vs) ≡ is_some (find (λ (u : Life). eqb l u.link) vs)
+              → (b || list_any (eqb l) (map (λ (u : Life). u.link) vs)) ≡ is_some (cond b (Some v) (find (λ (u : Life). eqb l u.link) vs))
+          by true r = refl
+          by false r = r

@@ -1,0 +1,4 @@
+//! Schedules run.
+
+mod ear;
+mod sender;
