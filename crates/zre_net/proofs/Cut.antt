@@ -9,10 +9,10 @@ use Rattle.zre_outside.specs.declared.entry.Entry.{Entry}
 use Rattle.zre_mailbox.specs.Conn.{Hearing}
 use Rattle.zre_msg.specs.Spelling.{octets}
 use Rattle.zre_link.specs.Text.{bodies_in, numbered_from, text_of}
-use Rattle.zre_net.specs.declared.running.sender.Line.{Line}
+use Rattle.zre_net.specs.declared.running.lines.Line.{Line}
 use Rattle.zre_net.specs.declared.running.sender.Sender.{Sender}
 use Rattle.zre_net.specs.Sender.{Keeps}
-use Rattle.zre_net.specs.Sending.{HasSent}
+use Rattle.zre_net.specs.Sending.{Holds as Keeping, HasSent}
 use Rattle.zre_link.specs.Link.{link_after}
 use Rattle.zre_outside.specs.declared.entry.Input.TheVariants as input
 use Rattle.zre_journal.specs.declared.config.Config.{Config}
@@ -146,10 +146,14 @@ module _ (g : Config) (K L : List Mark) (s : Sim K L) (h : ℕ) (lines : List Li
     within = λ l z. subst (λ ms. taken l L ≤ length (text_of g.id ms)) (same_line l) (subst (λ n. n ≤ length (text g l K)) (same_taken l) (k.within l (subst IsSome (sym (same_life l)) z)));
   }
 
+keeping_whole : (g : Config) (J : List Entry) (at c : ℕ) (a b : List ℕ) (n : Option Node) → Keeping g (J ++ piece at c a ∷ piece at c b ∷ []) n → Keeping g (J ++ piece at c (a ++ b) ∷ []) n
+keeping_whole g J at c a b None s = tt
+keeping_whole g J at c a b (Some n) s = stands_for_whole g J at c a b n s
+
 -- a node that has taken a piece in two has taken it in one
 pub has_sent_whole : (g : Config) (J : List Entry) (at c : ℕ) (a b : List ℕ) (x : Sender) → HasSent g (J ++ piece at c a ∷ piece at c b ∷ []) x → HasSent g (J ++ piece at c (a ++ b) ∷ []) x
 has_sent_whole g J at c a b x s = record {
-  stands = stands_for_whole g J at c a b x.node s.stands;
+  stands = keeping_whole g J at c a b x.node s.stands;
   waits_first = s.waits_first;
-  keeps = keeps_too g (chronicle g (J ++ piece at c a ∷ piece at c b ∷ [])) (chronicle g (J ++ piece at c (a ++ b) ∷ [])) (sim g J at c a b) x.handshake x.lines.items s.keeps;
+  keeps = keeps_too g (chronicle g (J ++ piece at c a ∷ piece at c b ∷ [])) (chronicle g (J ++ piece at c (a ++ b) ∷ [])) (sim g J at c a b) x.handshake x.lines s.keeps;
 }

@@ -1,55 +1,37 @@
 -- Looks at a node's links, one after the other.
 use Rattle.std.proofs.Common.{◌≡◌, ◌⊎◌, ℕ, zero, suc, ◌+◌, ◌≤◌, ◌<◌, Bool, true, false, cond, ◌||◌, eqb, List, [], ◌∷◌, ◌++◌, length, drop, map, Option, Some, None, IsSome, is_some, find, refl, sym, ap, ◌∙◌, subst, inl, inr, arith, append_assoc, append-nil, length-append, true≢false, eqb-true, eq-eqb}
-use Rattle.std.specs.Prelude.{slice_get, slice_set, get_or}
+use Rattle.std.specs.Prelude.{slice_get}
+use Rattle.zre_net.proofs.Listing.{some_one, in_reach, got_same, got_other, set_length}
 use Rattle.std.specs.List.{list_any}
 use Rattle.zre_journal.specs.declared.config.Config.{Config}
 use Rattle.zre_journal.specs.Chronicle.{Mark}
+use Rattle.zre_journal.specs.Events.{chronicle}
+use Rattle.zre_outside.specs.declared.entry.Entry.{Entry}
+use Rattle.zre_node.specs.Asked.{sent_after, waiting_after}
+use Rattle.std.specs.Option.{option_map}
 use Rattle.zre_journal.specs.Links.{bodies, text, taken}
 use Rattle.zre_journal.specs.Peers.{Life, lives, life}
 use Rattle.zre_journal.proofs.Listed.{eqb-comm}
-use Rattle.zre_net.specs.declared.running.sender.Line.{Line}
+use Rattle.zre_net.specs.declared.running.lines.Line.{Line}
 use Rattle.zre_net.specs.Lists.{nth}
-use Rattle.zre_net.specs.Sender.{IsNoted, IsSeen, IsLookedAt, IsLooked}
-
--- ---- a place that is written
-
-got : {A : Type 0} (xs : List A) (i : ℕ) (v : A) → i < length xs → slice_get (slice_set xs i v) i ≡ Some v
-got [] i v z = absurd (omega (arith, z))
-got (x ∷ xs) zero v z = refl
-got (x ∷ xs) (suc i) v z = got xs i v (omega (arith, z))
-
-kept : {A : Type 0} (xs : List A) (i k : ℕ) (v : A) → (i ≡ k → ⊥) → slice_get (slice_set xs i v) k ≡ slice_get xs k
-kept [] i k v n = refl
-kept (x ∷ xs) zero zero v n = absurd (n refl)
-kept (x ∷ xs) zero (suc k) v n = refl
-kept (x ∷ xs) (suc i) zero v n = refl
-kept (x ∷ xs) (suc i) (suc k) v n = kept xs i k v (λ e. n (ap suc e))
-
-there : {A : Type 0} (xs : List A) (i : ℕ) (d : A) → i < length xs → slice_get xs i ≡ Some (get_or xs i d)
-there [] i d z = absurd (omega (arith, z))
-there (x ∷ xs) zero d z = refl
-there (x ∷ xs) (suc i) d z = there xs i d (omega (arith, z))
-
-as_many : {A : Type 0} (xs : List A) (i : ℕ) (v : A) → length (slice_set xs i v) ≡ length xs
-as_many [] i v = refl
-as_many (x ∷ xs) zero v = refl
-as_many (x ∷ xs) (suc i) v = let r = as_many xs i v in omega (arith, r)
+use Rattle.zre_net.specs.Lines.{IsNoted, IsNotedAt}
+use Rattle.zre_net.specs.Sender.{IsSeen, IsLookedAt, IsLooked}
 
 module _ (g : Config) (K : List Mark) where
   abbrev waits : ℕ → List ℕ
   waits l = drop (taken l K) (text g l K)
 
-  pub looked_at : (l i : ℕ) (xs ys : List Line) (x y : Line) → l ≡ i + 1 → i < length xs → x ≡ get_or xs i x → ys ≡ slice_set xs i y → IsNoted (length (bodies l K)) (waits l) x y → taken l K ≤ length (text g l K) → IsLookedAt g K l xs ys
-  looked_at zero i xs ys x y e z w s n b = absurd (omega (arith, e))
-  looked_at (suc l) i xs ys x y e z w s n b =
+  pub looked_at : (l i : ℕ) (xs ys : List Line) → l ≡ i + 1 → IsNotedAt (length (bodies l K)) (waits l) i xs ys → taken l K ≤ length (text g l K) → IsLookedAt g K l xs ys
+  looked_at zero i xs ys e n b = absurd (omega (arith, e))
+  looked_at (suc l) i xs ys e n b =
       let same : l ≡ i = omega (arith, e) in record {
-        count = ap (λ ws. length ws) s ∙ as_many xs i y;
+        count = ap (λ ws. length ws) n.is ∙ set_length xs i n.now;
         seen = record {
-          before = x;
-          now = y;
-          was = ap (slice_get xs) same ∙ there xs i x z ∙ ap (λ v. Some v) (sym w);
-          is = ap (slice_get ys) same ∙ ap (λ ws. slice_get ws i) s ∙ got xs i y z;
-          noted = n;
+          before = n.before;
+          now = n.now;
+          was = ap (slice_get xs) same ∙ n.was;
+          is = ap (slice_get ys) same ∙ ap (λ ws. slice_get ws i) n.is ∙ got_same xs i n.now (in_reach xs i n.before n.was);
+          noted = n.noted;
           within = b;
         };
         others = λ k far. other k (subst (λ j. eqb (suc j) k ≡ false) same far);
@@ -57,7 +39,7 @@ module _ (g : Config) (K : List Mark) where
     where
       other : (k : ℕ) → eqb (suc i) k ≡ false → nth k ys ≡ nth k xs
       other zero far = refl
-      other (suc k) far = ap (λ ws. slice_get ws k) s ∙ kept xs i k y (λ e. true≢false (sym (eq-eqb (suc i) (suc k) (ap suc e)) ∙ far))
+      other (suc k) far = ap (λ ws. slice_get ws k) n.is ∙ got_other xs i k n.now far
 
   -- ---- many looks
 
@@ -68,9 +50,6 @@ module _ (g : Config) (K : List Mark) where
 
   pub none_yet : (xs : List Line) → Progress [] xs xs
   none_yet xs = record { count = refl; seen = λ l z. absurd (true≢false (sym z)); others = λ l z. refl }
-
-  some_one : {A : Type 0} {a b : A} → Some a ≡ Some b → a ≡ b
-  some_one e = cc
 
   abbrev More : ℕ → List ℕ → Line → Line → Type 0
   More sent w s t = ((sent ≡ length s.messages) × (t.messages ≡ s.messages)) ⊎ ((sent ≡ length s.messages + 1) × (t.messages ≡ s.messages ++ drop s.waited w ∷ []))
@@ -147,3 +126,27 @@ module _ (g : Config) (K : List Mark) where
               → (b || list_any (eqb l) (map (λ (u : Life). u.link) vs)) ≡ is_some (cond b (Some v) (find (λ (u : Life). eqb l u.link) vs))
           by true r = refl
           by false r = r
+
+-- ---- what a node answers of a link
+
+found : (l : ℕ) (vs : List Life) (v : Life) → find (λ (u : Life). eqb l u.link) vs ≡ Some v → l ≡ v.link
+found l [] v e = absurd cc
+found l (u ∷ vs) v e = by (eqb l u.link) refl e
+  where
+    by : (b : Bool) → eqb l u.link ≡ b → cond b (Some u) (find (λ (w : Life). eqb l w.link) vs) ≡ Some v → l ≡ v.link
+    by true z s = eqb-true l u.link z ∙ ap (λ (w : Life). w.link) (some_one s)
+    by false z s = found l vs v s
+
+pub sent_is : (g : Config) (J : List Entry) (l n : ℕ) → Some n ≡ sent_after g J l → n ≡ length (bodies l (chronicle g J))
+sent_is g J l n e = by (life l (chronicle g J)) refl e
+  where
+    by : (o : Option Life) → life l (chronicle g J) ≡ o → Some n ≡ option_map (λ (v : Life). length (bodies v.link (chronicle g J))) o → n ≡ length (bodies l (chronicle g J))
+    by None z s = absurd cc
+    by (Some v) z s = some_one s ∙ ap (λ k. length (bodies k (chronicle g J))) (sym (found l (lives (chronicle g J)) v z))
+
+pub waiting_is : (g : Config) (J : List Entry) (l : ℕ) (w : List ℕ) → Some w ≡ waiting_after g J l → w ≡ drop (taken l (chronicle g J)) (text g l (chronicle g J))
+waiting_is g J l w e = by (life l (chronicle g J)) refl e
+  where
+    by : (o : Option Life) → life l (chronicle g J) ≡ o → Some w ≡ option_map (λ (v : Life). drop (taken v.link (chronicle g J)) (text g v.link (chronicle g J))) o → w ≡ drop (taken l (chronicle g J)) (text g l (chronicle g J))
+    by None z s = absurd cc
+    by (Some v) z s = some_one s ∙ ap (λ k. drop (taken k (chronicle g J)) (text g k (chronicle g J))) (sym (found l (lives (chronicle g J)) v z))

@@ -25,9 +25,10 @@ use Rattle.zre_journal.proofs.Always.{is_proper}
 use Rattle.zre_journal.proofs.Says.{input_allowed}
 use Rattle.zre_journal.proofs.Silent.{Comes-proper}
 use Rattle.zre_journal.proofs.Steps.{May, Allowed}
-use Rattle.zre_net.specs.declared.running.sender.Line.{Line}
+use Rattle.zre_net.specs.declared.running.lines.Line.{Line}
 use Rattle.zre_net.specs.Lists.{nth}
-use Rattle.zre_net.specs.Sender.{spelled, is_slight, connects, fresh, messages_at, waited_at, Keeps, IsNoted, IsSeen, IsLooked}
+use Rattle.zre_net.specs.Lines.{connects, fresh, messages_at, waited_at, IsNoted}
+use Rattle.zre_net.specs.Sender.{spelled, is_slight, Keeps, IsSeen, IsLooked}
 use Rattle.zre_net.proofs.Putting.{Put, put_by, as_many, when_gone, one_more}
 
 -- ---- links that are made

@@ -1,20 +1,16 @@
 -- A node with the messages that it has put on its links.
-use Rattle.std.specs.Prelude.{◌≡◌, ◌⊎◌, ℕ, false, ◌+◌, ◌≤◌, List, [], ◌∷◌, ◌++◌, length, map, drop, Option, Some, None, IsSome, nat_eq}
-use Rattle.std.specs.Option.{option_map_or}
-use Rattle.zre_outside.specs.declared.act.Act.{Act}
-use Rattle.zre_outside.specs.declared.act.Act.TheVariants as act
-use Rattle.zre_outside.specs.declared.entry.Entry.{Entry}
+use Rattle.std.specs.Prelude.{◌≡◌, ℕ, false, ◌≤◌, List, length, map, drop, Some, None, IsSome, nat_eq}
 use Rattle.zre_outside.specs.declared.entry.Input.{Input}
 use Rattle.zre_outside.specs.declared.entry.Input.TheVariants as input
 use Rattle.zre_msg.specs.Spelling.{octets}
 use Rattle.zre_journal.specs.declared.config.Config.{Config}
-use Rattle.zre_journal.specs.Chronicle.{Mark, Comes}
-use Rattle.zre_journal.specs.Events.{chronicle}
+use Rattle.zre_journal.specs.Chronicle.{Mark}
 use Rattle.zre_journal.specs.Heard.{newly_completed}
 use Rattle.zre_journal.specs.Links.{bodies, queued, text, taken, unsent}
 use Rattle.zre_journal.specs.Peers.{life, births}
-use Rattle.zre_net.specs.declared.running.sender.Line.{Line}
+use Rattle.zre_net.specs.declared.running.lines.Line.{Line}
 use Rattle.zre_net.specs.Lists.{nth}
+use Rattle.zre_net.specs.Lines.{messages_at, waited_at, IsNoted}
 
 -- the messages of a link, as they are spelled
 abbrev pub spelled : ℕ → List Mark → List (List ℕ)
@@ -25,24 +21,6 @@ abbrev pub is_slight : Config → Input → List Mark → List Mark → Type 0
 is_slight g (input.Piece c o) H K = length (newly_completed g.id c H K) ≤ 1
 is_slight g _ H K = Unit {0}
 
--- how many links were made
-abbrev pub connects : List Act → ℕ
-connects [] = 0
-connects (act.Connect l to ∷ acts) = connects acts + 1
-connects (_ ∷ acts) = connects acts
-
--- a link on which nothing was put
-abbrev pub fresh : ℕ → Line
-fresh handshake = record { messages = []; waited = handshake }
-
--- ---- a table of links, which are counted from 1
-
-abbrev pub messages_at : ℕ → List Line → List (List ℕ)
-messages_at l lines = option_map_or (λ (x : Line). x.messages) (nth l lines) []
-
-abbrev pub waited_at : ℕ → ℕ → List Line → ℕ
-waited_at handshake l lines = option_map_or (λ (x : Line). x.waited) (nth l lines) handshake
-
 -- all is kept that was put on links, and how much waits
 pub record Keeps (g : Config) (K : List Mark) (handshake : ℕ) (lines : List Line) : Type 0 where
   pub count : length lines ≡ births K
@@ -51,13 +29,6 @@ pub record Keeps (g : Config) (K : List Mark) (handshake : ℕ) (lines : List Li
   pub within : (l : ℕ) → IsSome (life l K) → taken l K ≤ length (text g l K)
 
 -- ---- one look
-
--- of a link with so many messages, where this waits, there is one message more than before at most: what waits after
--- what waited
-pub record IsNoted (sent : ℕ) (waits : List ℕ) (x y : Line) : Type 0 where
-  pub waited : y.waited ≡ length waits
-  pub messages : ((sent ≡ length x.messages) × (y.messages ≡ x.messages))
-      ⊎ ((sent ≡ length x.messages + 1) × (y.messages ≡ x.messages ++ drop x.waited waits ∷ []))
 
 -- link l has been looked at
 pub record IsSeen (g : Config) (K : List Mark) (l : ℕ) (xs ys : List Line) : Type 0 where

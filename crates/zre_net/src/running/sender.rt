@@ -1,57 +1,44 @@
 //! A node, and all messages that it has put on its links.
 
-ghost use Rattle.std.specs.Prelude.{◌≡◌, ◌++◌, ◌∷◌, [], List, replicate, OnOk, IfOk};
+ghost use Rattle.std.specs.Prelude.{◌≡◌, ◌++◌, ◌∷◌, [], List, length, replicate, OnOk, IfOk};
 ghost use Rattle.zre_outside.specs.declared.entry.Entry.{Entry as EntryValue};
+ghost use Rattle.zre_zmtp.specs.Laws.{handshake as handshake_of};
+ghost use Rattle.zre_zmtp.specs.declared.writing.SocketType.TheVariants.{Dealer};
 ghost use Rattle.zre_journal.specs.declared.config.Config.{Config};
 ghost use Rattle.zre_journal.specs.Events.{chronicle};
-ghost use Rattle.zre_node.specs.Journal.{StandsFor};
 ghost use Rattle.zre_journal.specs.Chronicle.{Comes};
-ghost use Rattle.zre_net.specs.Sender.{connects, fresh, is_slight, IsNoted, IsLookedAt, IsLooked};
+ghost use Rattle.zre_node.specs.Journal.{StandsFor};
+ghost use Rattle.zre_net.specs.Lines.{connects, fresh};
+ghost use Rattle.zre_net.specs.Sender.{is_slight, Keeps, IsLookedAt, IsLooked};
 ghost use Rattle.zre_net.specs.Sending.{HasSent, Stepped};
 
+use crate::running::lines::Lines;
 use std::alloc::Global;
 use zre_node::{Node, Step};
 use zre_outside::{Act, Entry};
-use zre_values::{Frames, Octets, OutOfMemory};
+use zre_values::OutOfMemory;
 
-/// A link: the messages that were put on it, as they are spelled, and how many octets waited after the last entry.
-#[derive(Drop)]
-pub(crate) struct Line {
-    pub messages: Frames,
-    pub waited: usize,
-}
-
-/// A node, with all messages that it has put on its links, those of peers that are gone too.
+/// A node until it crashes, with all messages that it has put on its links, those of peers that are gone too.
 #[derive(Drop)]
 pub(crate) struct Sender {
     alloc: Global,
     /// How many octets the greeting and READY have, which wait first on each link.
     handshake: usize,
-    node: Node,
-    pub lines: Vec<Line>,
-}
-
-// A link on which nothing was put: its greeting and READY wait.
-fn fresh_line(alloc: Global, handshake: usize) -> Line
-    ensures { result ≡ fresh handshake }
-{
-    Line {
-        messages: Frames::new(alloc),
-        waited: handshake,
-    }
+    node: Option<Node>,
+    pub lines: Lines,
 }
 
 // One line more, where this makes a link.
 fn add_line(
     alloc: Global,
-    lines: &mut Vec<Line>,
+    lines: &mut Lines,
     act: &Act,
     handshake: usize,
 ) -> Result<(), OutOfMemory>
-    ensures { OnOk result (lines.new.items ≡ lines.old.items ++ replicate (connects (act.now ∷ [])) (fresh handshake)) }
+    ensures { OnOk result (lines.new ≡ lines.old ++ replicate (connects (act.now ∷ [])) (fresh handshake)) }
 {
     if let Act::Connect { .. } = act {
-        lines.push(fresh_line(alloc, handshake))?;
+        lines.add(alloc, handshake)?;
     }
     Ok(())
 }
@@ -59,11 +46,11 @@ fn add_line(
 // One line more for each link that was made.
 fn add_lines(
     alloc: Global,
-    lines: &mut Vec<Line>,
+    lines: &mut Lines,
     acts: &[Act],
     handshake: usize,
 ) -> Result<(), OutOfMemory>
-    ensures { OnOk result (lines.new.items ≡ lines.old.items ++ replicate (connects acts.now) (fresh handshake)) }
+    ensures { OnOk result (lines.new ≡ lines.old ++ replicate (connects acts.now) (fresh handshake)) }
 {
     for act in acts {
         add_line(alloc, lines, act, handshake)?;
@@ -71,25 +58,10 @@ fn add_lines(
     Ok(())
 }
 
-// So many messages were put on a link, and this waits on it: at most one message more than before.
-fn note(alloc: Global, line: &mut Line, sent: u64, waits: &[u8]) -> Result<(), OutOfMemory>
-    ensures { OnOk result (IsNoted sent waits.now line.old line.new) }
-{
-    let count = line.messages.len() as u64;
-    if sent != count {
-        if sent != count.saturating_add(1) || waits.len() < line.waited {
-            return Err(OutOfMemory);
-        }
-        line.messages.push(Octets::copy(alloc, &waits[line.waited..])?)?;
-    }
-    line.waited = waits.len();
-    Ok(())
-}
-
 // What was put on one link.
-fn look_at(alloc: Global, node: &Node, lines: &mut Vec<Line>, link: u64) -> Result<(), OutOfMemory>
+fn look_at(alloc: Global, node: &Node, lines: &mut Lines, link: u64) -> Result<(), OutOfMemory>
     ensures { (g : Config) (J : List EntryValue) → StandsFor g J node.now →
-        OnOk result (IsLookedAt g (chronicle g J) link lines.old.items lines.new.items) }
+        OnOk result (IsLookedAt g (chronicle g J) link lines.old lines.new) }
 {
     let Some(sent) = node.sent(link) else {
         return Err(OutOfMemory);
@@ -100,17 +72,13 @@ fn look_at(alloc: Global, node: &Node, lines: &mut Vec<Line>, link: u64) -> Resu
     let Some(place) = link.checked_sub(1) else {
         return Err(OutOfMemory);
     };
-    let place = place as usize;
-    if place >= lines.len() {
-        return Err(OutOfMemory);
-    }
-    note(alloc, &mut lines[place], sent, waits)
+    lines.note(alloc, place as usize, sent, waits)
 }
 
 // What was put on each link of a known peer.
-fn look(alloc: Global, node: &Node, lines: &mut Vec<Line>) -> Result<(), OutOfMemory>
+fn look(alloc: Global, node: &Node, lines: &mut Lines) -> Result<(), OutOfMemory>
     ensures { (g : Config) (J : List EntryValue) → StandsFor g J node.now →
-        OnOk result (IsLooked g (chronicle g J) lines.old.items lines.new.items) }
+        OnOk result (IsLooked g (chronicle g J) lines.old lines.new) }
 {
     let links = node.links()?;
     for link in links.as_slice() {
@@ -119,14 +87,36 @@ fn look(alloc: Global, node: &Node, lines: &mut Vec<Line>) -> Result<(), OutOfMe
     Ok(())
 }
 
+// One entry of a node, and what it puts on links. At most one message may come with it.
+fn step(
+    alloc: Global,
+    node: &mut Node,
+    lines: &mut Lines,
+    handshake: usize,
+    entry: Entry,
+) -> Result<Step, OutOfMemory>
+    ensures { (g : Config) (J : List EntryValue) → StandsFor g J node.old →
+        handshake ≡ length (handshake_of Dealer (Some g.id)) → Keeps g (chronicle g J) handshake lines.old →
+        is_slight g entry.input (chronicle g J) (Comes entry ∷ chronicle g J) →
+        IfOk result (λ s. Stepped g J entry s × StandsFor g (J ++ entry ∷ []) node.new
+        × Keeps g (chronicle g (J ++ entry ∷ [])) handshake lines.new) }
+{
+    let step = node.step(entry)?;
+    add_lines(alloc, lines, step.acts.as_slice(), handshake)?;
+    look(alloc, node, lines)?;
+    Ok(step)
+}
+
 impl Sender {
     /// A node that was made now: nothing was put on a link.
-    pub fn new(alloc: Global, node: Node, handshake: usize) -> Sender {
+    pub fn new(alloc: Global, node: Node) -> Sender
+        ensures { (g : Config) → StandsFor g [] node → HasSent g [] result }
+    {
         Sender {
             alloc,
-            handshake,
-            node,
-            lines: Vec::new(alloc),
+            handshake: 124,
+            node: Some(node),
+            lines: Lines::new(alloc),
         }
     }
 
@@ -136,9 +126,17 @@ impl Sender {
             is_slight g entry.input (chronicle g J) (Comes entry ∷ chronicle g J) →
             IfOk result (λ s. Stepped g J entry s × HasSent g (J ++ entry ∷ []) self.new) }
     {
-        let step = self.node.step(entry)?;
-        add_lines(self.alloc, &mut self.lines, step.acts.as_slice(), self.handshake)?;
-        look(self.alloc, &self.node, &mut self.lines)?;
-        Ok(step)
+        match &mut self.node {
+            Some(node) => step(self.alloc, node, &mut self.lines, self.handshake, entry),
+            None => Err(OutOfMemory),
+        }
+    }
+
+    /// The node is gone. What it had put on its links stays.
+    pub fn stop(&mut self)
+        ensures sent { (g : Config) (J : List EntryValue) → HasSent g J self.old → HasSent g J self.new }
+        ensures lines { self.new.lines ≡ self.old.lines }
+    {
+        self.node = None;
     }
 }
