@@ -1,3 +1,4 @@
+mod Begins
 mod Computed
 mod Connecting
 mod Cut

@@ -1,5 +1,5 @@
 -- Lists that are counted from 1: what stands in longer ones, and in ones that were written; and sums over them.
-use Rattle.std.proofs.Common.{◌≡◌, ◌⊎◌, ℕ, zero, suc, ◌+◌, ◌≤◌, ◌<◌, Bool, true, false, eqb, List, [], ◌∷◌, ◌++◌, length, map, Option, Some, None, refl, sym, ap, ◌∙◌, inl, inr, arith, eq-eqb, true≢false}
+use Rattle.std.proofs.Common.{◌≡◌, ◌⊎◌, ℕ, zero, suc, ◌+◌, ◌≤◌, ◌<◌, Bool, true, false, eqb, List, [], ◌∷◌, ◌++◌, length, map, Option, Some, None, refl, sym, ap, ◌∙◌, subst, inl, inr, arith, eq-eqb, true≢false}
 use Rattle.std.specs.Prelude.{slice_get, slice_set, get_or}
 use Rattle.std.specs.List.{sum_by, filter_map, AllByRecursion}
 use Rattle.std.specs.Option.{option_map}
@@ -21,12 +21,18 @@ got_same [] i v z = absurd (omega (arith, z))
 got_same (x ∷ xs) zero v z = refl
 got_same (x ∷ xs) (suc i) v z = got_same xs i v (omega (arith, z))
 
+kept : {A : Type 0} (xs : List A) (i k : ℕ) (v : A) → (i ≡ k → ⊥) → slice_get (slice_set xs i v) k ≡ slice_get xs k
+kept [] i k v n = refl
+kept (x ∷ xs) zero zero v n = absurd (n refl)
+kept (x ∷ xs) zero (suc k) v n = refl
+kept (x ∷ xs) (suc i) zero v n = refl
+kept (x ∷ xs) (suc i) (suc k) v n = kept xs i k v (λ e. n (ap suc e))
+
+apart : (a b : ℕ) → eqb a b ≡ false → a ≡ b → ⊥
+apart a b e q = true≢false (sym (eq-eqb a b q) ∙ e)
+
 pub got_other : {A : Type 0} (xs : List A) (i k : ℕ) (v : A) → eqb i k ≡ false → slice_get (slice_set xs i v) k ≡ slice_get xs k
-got_other [] i k v n = refl
-got_other (x ∷ xs) zero zero v n = absurd (true≢false n)
-got_other (x ∷ xs) zero (suc k) v n = refl
-got_other (x ∷ xs) (suc i) zero v n = refl
-got_other (x ∷ xs) (suc i) (suc k) v n = got_other xs i k v n
+got_other xs i k v n = kept xs i k v (apart i k n)
 
 pub set_length : {A : Type 0} (xs : List A) (i : ℕ) (v : A) → length (slice_set xs i v) ≡ length xs
 set_length [] i v = refl
@@ -75,12 +81,12 @@ nth_more (suc k) [] ys x e = absurd cc
 nth_more (suc zero) (y ∷ xs) ys x e = e
 nth_more (suc (suc k)) (y ∷ xs) ys x e = nth_more (suc k) xs ys x e
 
+got_last : {A : Type 0} (xs : List A) (x : A) → slice_get (xs ++ x ∷ []) (length xs) ≡ Some x
+got_last [] x = refl
+got_last (y ∷ xs) x = got_last xs x
+
 pub nth_last : {A : Type 0} (xs : List A) (x : A) → nth (length xs + 1) (xs ++ x ∷ []) ≡ Some x
-nth_last xs x = nth_at (length xs + 1) (length xs) (xs ++ x ∷ []) refl ∙ by xs
-  where
-    by : (ys : List _) → slice_get (ys ++ x ∷ []) (length ys) ≡ Some x
-    by [] = refl
-    by (y ∷ ys) = by ys
+nth_last xs x = nth_at (length xs + 1) (length xs) (xs ++ x ∷ []) refl ∙ got_last xs x
 
 pub nth_cases : {A : Type 0} (k : ℕ) (xs : List A) (x y : A) → nth k (xs ++ x ∷ []) ≡ Some y → (nth k xs ≡ Some y) ⊎ ((k ≡ length xs + 1) × (y ≡ x))
 nth_cases zero xs x y e = absurd cc
@@ -98,18 +104,7 @@ nth_same k i xs v e z = nth_at k i (slice_set xs i v) e ∙ got_same xs i v z
 
 pub nth_other : {A : Type 0} (k i j : ℕ) (xs : List A) (v : A) → k ≡ i + 1 → eqb j k ≡ false → nth j (slice_set xs i v) ≡ nth j xs
 nth_other k i zero xs v e n = refl
-nth_other zero i (suc j) xs v e n = absurd (omega (arith, e))
-nth_other (suc k) i (suc j) xs v e n = got_other xs i j v (by (eqb i j) refl)
-  where
-    same : k ≡ i
-    same = omega (arith, e)
-
-    by : (b : Bool) → eqb i j ≡ b → b ≡ false
-    by false z = refl
-    by true z = absurd (true≢false (sym (eq-eqb j k (sym (eqb_is i j z) ∙ sym same)) ∙ n))
-      where
-        eqb_is : (a b : ℕ) → eqb a b ≡ true → a ≡ b
-        eqb_is a b q = omega (arith, q)
+nth_other k i (suc j) xs v e n = kept xs i j v (λ q. apart (suc j) k n (omega (arith, q, e)))
 
 pub nth_map : {A B : Type 0} (f : A → B) (k : ℕ) (xs : List A) → nth k (map f xs) ≡ option_map f (nth k xs)
 nth_map f zero xs = refl
@@ -117,13 +112,13 @@ nth_map f (suc k) [] = refl
 nth_map f (suc zero) (x ∷ xs) = refl
 nth_map f (suc (suc k)) (x ∷ xs) = nth_map f (suc k) xs
 
+same_holds : {A : Type 0} (P : A → Type 0) (y x : A) → Some y ≡ Some x → P y → P x
+same_holds P y x e p = subst P (some_one e) p
+
 pub all_at : {A : Type 0} (P : A → Type 0) (k : ℕ) (xs : List A) (x : A) → AllByRecursion P xs → nth k xs ≡ Some x → P x
 all_at P zero xs x a e = absurd cc
 all_at P (suc k) [] x a e = absurd cc
-all_at P (suc zero) (y ∷ xs) x a e = subst_some y x e a.0
-  where
-    subst_some : (y x : _) → Some y ≡ Some x → P y → P x
-    subst_some y x q p = rw (some_one q) at p
+all_at P (suc zero) (y ∷ xs) x a e = same_holds P y x e a.0
 all_at P (suc (suc k)) (y ∷ xs) x a e = all_at P (suc k) xs x a.1 e
 
 pub all_more : {A : Type 0} (P : A → Type 0) (xs ys : List A) → AllByRecursion P xs → AllByRecursion P ys → AllByRecursion P (xs ++ ys)
@@ -149,6 +144,10 @@ sum_set f (z ∷ xs) (suc i) x y e =
     let r = sum_set f xs i x y e in
     omega (arith, a, b, r)
 
+later_same : {A B : Type 0} (f : A → ℕ) (g : B → ℕ) (x : A) (y : B) (xs : List A) (ys : List B) → ((k : ℕ) (z : A) → nth k (x ∷ xs) ≡ Some z → (w : B) × (nth k (y ∷ ys) ≡ Some w) × (f z ≡ g w)) → (k : ℕ) (z : A) → nth k xs ≡ Some z → (w : B) × (nth k ys ≡ Some w) × (f z ≡ g w)
+later_same f g x y xs ys a zero z q = absurd cc
+later_same f g x y xs ys a (suc k) z q = a (suc (suc k)) z q
+
 -- two lists whose members agree under each number
 pub sum_same : {A B : Type 0} (f : A → ℕ) (g : B → ℕ) (xs : List A) (ys : List B) → length ys ≡ length xs → ((k : ℕ) (x : A) → nth k xs ≡ Some x → (y : B) × (nth k ys ≡ Some y) × (f x ≡ g y)) → sum_by f xs ≡ sum_by g ys
 sum_same f g [] [] n a = refl
@@ -157,11 +156,7 @@ sum_same f g (x ∷ xs) [] n a = absurd (omega (arith, n))
 sum_same f g (x ∷ xs) (y ∷ ys) n a =
     let h = a 1 x refl in
     let e = h.2 ∙ ap g (sym (some_one h.1)) in
-    let r = sum_same f g xs ys (omega (arith, n)) (λ k z q. later k z q) in
+    let r = sum_same f g xs ys (omega (arith, n)) (later_same f g x y xs ys a) in
     let b = sum_by-cons f x xs in
     let c = sum_by-cons g y ys in
     omega (arith, e, r, b, c)
-  where
-    later : (k : ℕ) (z : _) → nth k xs ≡ Some z → (w : _) × (nth k ys ≡ Some w) × (f z ≡ g w)
-    later zero z q = absurd cc
-    later (suc k) z q = a (suc (suc k)) z q

@@ -12,7 +12,7 @@ use Rattle.zre_net.specs.declared.moves.Move.TheVariants as move
 use Rattle.zre_net.specs.declared.moves.Part.{Part}
 use Rattle.zre_net.specs.declared.running.network.Network.{Network}
 use Rattle.zre_net.specs.declared.running.rows.Carrier.{Carrier}
-use Rattle.zre_net.specs.Carried.{appended, pending}
+use Rattle.zre_net.specs.Carried.{spelling, appended, pending}
 use Rattle.zre_net.specs.Comes.{turn_of}
 use Rattle.zre_net.specs.History.{Incarnation, Turn, Happening, Happens, incarnations, running, journal, chronicle_of}
 use Rattle.zre_net.specs.Lists.{nth}
@@ -48,7 +48,7 @@ no_pending x (Happens m t ∷ H) z = by m z
     by (move.Open g n at) z = no_pending x H (let q = grows (conn_of (length (conns H) + 1) (nth g (routes H)) (running n H)) in omega (arith, q, z))
     by (move.Carry y p) z =
         let r = no_pending x H z in
-        same (eqb x y) (pending x H ++ appended x p H) (pending x H) (ap (λ q. q ++ appended x p H) r ∙ ap (λ o. option_map_or _ o []) (nth_past x (conns H) z)) r
+        same (eqb x y) (pending x H ++ appended x p H) (pending x H) (ap (λ q. q ++ appended x p H) r ∙ ap (λ o. option_map_or (λ (c : Conn). spelling c.along H p) o []) (nth_past x (conns H) z)) r
     by (move.Piece y count at) z =
         let r = no_pending x H z in
         same (eqb x y) (drop count (pending x H)) (pending x H) (ap (drop count) r ∙ drop-none count) r

@@ -34,7 +34,7 @@ use Rattle.zre_net.specs.Lines.{octets_in}
 use Rattle.zre_net.specs.Lists.{nth}
 use Rattle.zre_net.specs.Numbers.{Route, Broadcast, Conn, routes, route_in, broadcasts, broadcast_in, conns}
 use Rattle.zre_net.specs.Rows.{running_at, Fits, IsHeard}
-use Rattle.zre_net.specs.Running.{IsKnown, IsStarted, HasStarted, AreStarted, Finds, AreNodes, IsConn, HasConn, AreConns, StandsAfter}
+use Rattle.zre_net.specs.Running.{IsKnown, IsStarted, HasStarted, AreStarted, Finds, AreNodes, IsConn, HasConn, AreConns, StandsAfter, sent_of, way_of}
 use Rattle.zre_net.specs.Said.{said_in}
 use Rattle.zre_net.specs.Sender.{is_slight}
 use Rattle.zre_net.specs.Sending.{HasSent}
@@ -147,6 +147,10 @@ module _ (H : List Happening) (x place most at : ℕ) (net : Network) (s : Stand
 
 -- ---- two pieces are one
 
+dropped : (k : ℕ) → drop k ([] : List ℕ) ≡ []
+dropped zero = refl
+dropped (suc k) = refl
+
 but_sends : (a : Incarnation) (xs : List Act) → filter_map (broadcast_in a) (but_offers xs) ≡ filter_map (broadcast_in a) xs
 but_sends a [] = refl
 but_sends a (act.Offer l ∷ xs) = but_sends a xs
@@ -165,13 +169,13 @@ but_connects a (act.CloseLink l ∷ xs) = but_connects a xs
 but_connects a (act.CloseConn k ∷ xs) = but_connects a xs
 but_connects a (act.Answer k o ∷ xs) = but_connects a xs
 
+one_first : {B : Type 0} (o : Option B) (xs ys : List B) → cons_option o (xs ++ ys) ≡ cons_option o xs ++ ys
+one_first None xs ys = refl
+one_first (Some z) xs ys = refl
+
 filter_map-both : {A B : Type 0} (f : A → Option B) (xs ys : List A) → filter_map f (xs ++ ys) ≡ filter_map f xs ++ filter_map f ys
 filter_map-both f [] ys = refl
-filter_map-both f (x ∷ xs) ys = by (f x)
-  where
-    by : (o : Option _) → cons_option o (filter_map f (xs ++ ys)) ≡ cons_option o (filter_map f xs) ++ filter_map f ys
-    by None = filter_map-both f xs ys
-    by (Some z) = ap (λ zs. z ∷ zs) (filter_map-both f xs ys)
+filter_map-both f (x ∷ xs) ys = ap (cons_option (f x)) (filter_map-both f xs ys) ∙ one_first (f x) (filter_map f xs) (filter_map f ys)
 
 map-two : {A B : Type 0} (f : A → B) (xs ys : List A) → map f (xs ++ ys) ≡ map f xs ++ map f ys
 map-two f [] ys = refl
@@ -245,6 +249,12 @@ module _ (H : List Happening) (x i j at : ℕ) (w : Incarnation) (known : IsKnow
       ap (λ z. followed (followed (journal v H) (cond z (Some (piece t x a)) None)) (cond z (Some (piece t x b)) None)) q
       ∙ sym (ap (λ z. followed (journal v H) (cond z (Some (piece t x (a ++ b))) None)) q)
 
+  abbrev A : List Mark
+  A = chronicle G (I ++ piece t x a ∷ piece t x b ∷ [])
+
+  abbrev B : List Mark
+  B = chronicle G (I ++ piece t x (a ++ b) ∷ [])
+
   s : Sim (chronicle G (I ++ piece t x a ∷ piece t x b ∷ [])) (chronicle G (I ++ piece t x (a ++ b) ∷ []))
   s = sim G I t x a b
 
@@ -263,13 +273,6 @@ module _ (H : List Happening) (x i j at : ℕ) (w : Incarnation) (known : IsKnow
     heard = λ o. f.heard (by_marks A B s.alike (was_opened y) (ever_but (opens y) (λ e. refl)) ∙ o) ∙ ap (λ o. conn_after G.id o) ((same_cut G I t x a b).octets_are y);
     old = subst (λ n. (n ≡ false) ⊎ (has_stopped B ≡ true)) (by_marks A B s.alike (is_new y) (new_but y)) (subst (λ n. (is_new y A ≡ false) ⊎ (n ≡ true)) (by_marks A B s.alike has_stopped (ever_but is_stop (λ e. refl))) f.old);
   }
-    where
-      abbrev A : List Mark
-      A = chronicle G (I ++ piece t x a ∷ piece t x b ∷ [])
-
-      abbrev B : List Mark
-      B = chronicle G (I ++ piece t x (a ++ b) ∷ [])
-
   chronicle_one : chronicle_of w H1 ≡ with_entry G (piece t x a) (chronicle_of w H)
   chronicle_one = ap (chronicle G) journal_one ∙ (continues G I (piece t x a ∷ [])).happened
 
@@ -280,7 +283,7 @@ module _ (H : List Happening) (x i j at : ℕ) (w : Incarnation) (known : IsKnow
         ∙ append_assoc (said_in H) (map (λ e. (w.node, e)) (events_at G (piece t x a) (chronicle_of w H))) (map (λ e. (w.node, e)) (events_at G (piece t x b) (with_entry G (piece t x a) (chronicle_of w H))))
         ∙ ap (λ es. said_in H ++ es) (sym (map-two (λ (e : Event). (w.node, e)) (events_at G (piece t x a) (chronicle_of w H)) (events_at G (piece t x b) (with_entry G (piece t x a) (chronicle_of w H)))) ∙ ap (λ es. map (λ (e : Event). (w.node, e)) es) (twice G I t x a b))
 
-    acts_same : {B : Type 0} (f : Act → Option B) (base : List B) → ((xs : List Act) → filter_map f (but_offers xs) ≡ filter_map f xs)
+    acts_same : {C : Type 0} (f : Act → Option C) (base : List C) → ((xs : List Act) → filter_map f (but_offers xs) ≡ filter_map f xs)
         → (base ++ filter_map f (acts_at G (piece t x a) (chronicle_of w H))) ++ filter_map f (acts_at G (piece t x b) (chronicle_of w H1)) ≡ base ++ filter_map f (acts_at G (piece t x (a ++ b)) (chronicle_of w H))
     acts_same f base but =
         let xs = acts_at G (piece t x a) (chronicle_of w H) in
@@ -324,11 +327,7 @@ module _ (H : List Happening) (x i j at : ℕ) (w : Incarnation) (known : IsKnow
 
     drop-twice : (n m : ℕ) (o : List ℕ) → drop m (drop n o) ≡ drop (n + m) o
     drop-twice zero m o = let e : m ≡ 0 + m = omega arith in ap (λ k. drop k o) e
-    drop-twice (suc n) m [] = by m ∙ by (n + m) ∙ (let e : suc (n + m) ≡ suc n + m = omega arith in ap (λ k. drop k []) e)
-      where
-        by : (k : ℕ) → drop k [] ≡ []
-        by zero = refl
-        by (suc k) = refl
+    drop-twice (suc n) m [] = dropped m ∙ sym (dropped (suc n + m))
     drop-twice (suc n) m (z ∷ o) = drop-twice n m o ∙ (let e : suc (n + m) ≡ suc n + m = omega arith in ap (λ k. drop k (z ∷ o)) e)
 
     pending_same : (y : ℕ) → pending y H2 ≡ pending y W
@@ -345,8 +344,8 @@ module _ (H : List Happening) (x i j at : ℕ) (w : Incarnation) (known : IsKnow
         started = started_same;
         runs = λ n. finds n (running n H) (running_at n net.running.items) (st.nodes.runs n);
         owners = st.nodes.owners;
-        beacons = st.nodes.beacons ∙ ap (λ xs. map _ xs) broadcasts_same;
-        links = st.nodes.links ∙ ap (λ xs. map _ xs) routes_same;
+        beacons = st.nodes.beacons ∙ ap (λ xs. map sent_of xs) broadcasts_same;
+        links = st.nodes.links ∙ ap (λ xs. map way_of xs) routes_same;
         known = subst (λ rs. AllByRecursion (λ (r : Route). IsKnown W r.from) rs) routes_same (all_map (λ (r : Route). IsKnown H2 r.from) (λ (r : Route). IsKnown W r.from) (λ r z. z) (routes H2) st.nodes.known);
         queued = st.nodes.queued;
       };
@@ -376,13 +375,13 @@ module _ (H : List Happening) (x i j at : ℕ) (w : Incarnation) (known : IsKnow
         silent : (v : Incarnation) → IsKnown W v → (y : ℕ) → length (conns W) < y → bytes y (chronicle_of v W) ≡ []
         silent v l y z = for_all (λ u Z. bytes y (chronicle u.settings Z) ≡ []) (λ u Z. bytes y (chronicle u.settings Z) ≡ []) (λ q. sym ((same_cut G I t x a b).octets_are y) ∙ q) (λ u Z q. q) v l (st.conns_are.silent v l y z)
 
+taken-none : (k : ℕ) → take k ([] : List ℕ) ≡ []
+taken-none zero = refl
+taken-none (suc k) = refl
+
 take-more : (i j : ℕ) (o : List ℕ) → take i o ++ take j (drop i o) ≡ take (i + j) o
 take-more zero j o = let e : j ≡ 0 + j = omega arith in ap (λ k. take k o) e
-take-more (suc i) j [] = by j ∙ sym (by (i + j)) ∙ (let e : suc (i + j) ≡ suc i + j = omega arith in ap (λ k. take k []) e)
-  where
-    by : (k : ℕ) → take k [] ≡ []
-    by zero = refl
-    by (suc k) = refl
+take-more (suc i) j [] = taken-none j ∙ sym (taken-none (suc i + j))
 take-more (suc i) j (z ∷ o) = ap (λ q. z ∷ q) (take-more i j o) ∙ (let e : suc (i + j) ≡ suc i + j = omega arith in ap (λ k. take k (z ∷ o)) e)
 
 -- octets that come one after the other

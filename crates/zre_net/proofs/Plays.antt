@@ -1,6 +1,7 @@
 -- Moves that bring an entry to a node: what they find, and what stands after them.
 use Rattle.std.proofs.Common.{◌≡◌, ℕ, ◌+◌, Bool, true, false, cond, ◌&&◌, eqb, List, [], ◌∷◌, length, map, Option, Some, None, is_some, refl, sym, ap, ◌∙◌, subst, true≢false, eqb-true, eq-eqb, arith}
 use Rattle.std.specs.Prelude.{option_map, slice_get}
+use Rattle.zre_outside.specs.declared.entry.Command.{Command}
 use Rattle.zre_outside.specs.declared.entry.Input.{Input}
 use Rattle.zre_net.specs.declared.moves.Move.{Move}
 use Rattle.zre_net.specs.declared.moves.Move.TheVariants as move
@@ -25,10 +26,10 @@ tick_still n at = record { incarnations_stay = λ t H. refl; running_stay = λ t
 pub tick_kept : (n at : ℕ) → IsKept (move.Tick n at)
 tick_kept n at = record { conns_stay = λ t H. refl; pending_stay = λ t H x. refl }
 
-pub do_still : (n at : ℕ) (c : _) → IsStill (move.Do n at c)
+pub do_still : (n at : ℕ) (c : Command) → IsStill (move.Do n at c)
 do_still n at c = record { incarnations_stay = λ t H. refl; running_stay = λ t H k. refl }
 
-pub do_kept : (n at : ℕ) (c : _) → IsKept (move.Do n at c)
+pub do_kept : (n at : ℕ) (c : Command) → IsKept (move.Do n at c)
 do_kept n at c = record { conns_stay = λ t H. refl; pending_stay = λ t H x. refl }
 
 pub beacon_still : (k n at : ℕ) → IsStill (move.Beacon k n at)
@@ -99,10 +100,23 @@ pub somebody : (H : List Happening) (n k : ℕ) (o : Option Incarnation) → Fin
 somebody H n k None f = absurd cc
 somebody H n k (Some a) f = let e = some_one f.0 in record { who = a; is = refl; number = e; known = f.1; node = f.2; there = ap (λ j. nth j (incarnations H)) e ∙ f.1 }
 
+pub not_running : (H : List Happening) (net : Network) (n : ℕ) → StandsAfter H net → None ≡ running_at n net.running.items → is_some (running n H) ≡ false
+not_running H net n s e = nobody H n (running n H) (subst (λ f. Finds H n (running n H) f) (sym e) (s.nodes.runs n))
+
+pub runs_there : (H : List Happening) (net : Network) (n k : ℕ) → StandsAfter H net → Some k ≡ running_at n net.running.items → Runs H n k (running n H)
+runs_there H net n k s e = somebody H n k (running n H) (subst (λ f. Finds H n (running n H) f) (sym e) (s.nodes.runs n))
+
 -- the entry of who runs there
 pub at_it : (H : List Happening) (m : Move) (i : Input) (at : ℕ) (new : Network) (a : Incarnation) (o : Option Incarnation) → o ≡ Some a
     → StandsAfter (Happens m (Some (turn_of a at i)) ∷ H) new → StandsAfter (Happens m (option_map (λ b. turn_of b at i) o) ∷ H) new
-at_it H m i at new a o e s = rw (sym e) at s
+at_it H m i at new a o e s = subst (λ z. StandsAfter (Happens m (option_map (λ b. turn_of b at i) z) ∷ H) new) (sym e) s
+
+-- a move that brings an entry to who runs at a node, which is all that it needs
+pub plays_at : (H : List Happening) (m : Move) (i : Input) (n k at : ℕ) (net new : Network) → StandsAfter H net → Some k ≡ running_at n net.running.items → may_come m H ≡ is_some (running n H) → turn m H ≡ option_map (λ b. turn_of b at i) (running n H)
+    → ((a : Incarnation) → nth k (incarnations H) ≡ Some a → StandsAfter (Happens m (Some (turn_of a at i)) ∷ H) new) → IsPlayed m H true new
+plays_at H m i n k at net new s e may brings f =
+    let r = runs_there H net n k s e in
+    played m H new (may ∙ ap (λ o. is_some o) r.is) (subst (λ t. StandsAfter (Happens m t ∷ H) new) (sym brings) (at_it H m i at new r.who (running n H) r.is (f r.who r.there)))
 
 -- ---- whether a start is there
 
@@ -191,7 +205,7 @@ received H k (Some c) r = let e = r.1 k refl in record { conn = c; is = refl; nu
 
 pub at_its_conn : (H : List Happening) (m : Move) (i : Conn → Input) (at : ℕ) (new : Network) (c : Conn) (o : Option Conn) → o ≡ Some c
     → StandsAfter (Happens m (Some (turn_of c.to at (i c))) ∷ H) new → StandsAfter (Happens m (option_map (λ (d : Conn). turn_of d.to at (i d)) o) ∷ H) new
-at_its_conn H m i at new c o e s = rw (sym e) at s
+at_its_conn H m i at new c o e s = subst (λ z. StandsAfter (Happens m (option_map (λ (d : Conn). turn_of d.to at (i d)) z) ∷ H) new) (sym e) s
 
 -- ---- what a number of a link names
 
@@ -260,4 +274,16 @@ sent_by H w (Some s) r = let e = r.1 w refl in record { route = s; is = refl; wa
 
 pub at_its_link : (H : List Happening) (m : Move) (i : ℕ → Input) (at l : ℕ) (new : Network) (s : Route) (o : Option Route) → o ≡ Some s → l ≡ s.link
     → StandsAfter (Happens m (Some (turn_of s.from at (i l))) ∷ H) new → StandsAfter (Happens m (option_map (λ (r : Route). turn_of r.from at (i r.link)) o) ∷ H) new
-at_its_link H m i at l new s o e q z = rw (sym e) at (rw q at z)
+at_its_link H m i at l new s o e q z = subst (λ r. StandsAfter (Happens m (option_map (λ (r : Route). turn_of r.from at (i r.link)) r) ∷ H) new) (sym e) (subst (λ k. StandsAfter (Happens m (Some (turn_of s.from at (i k))) ∷ H) new) q z)
+
+-- ---- moves about links
+
+pub link_refused : (m : Move) (H : List Happening) (g : ℕ) (new : Network) → may_come m H ≡ passes (λ (s : Route). is_there H s.from) (nth g (routes H)) → Sends H (nth g (routes H)) None → IsPlayed m H false new
+link_refused m H g new may r = refused m H new (may ∙ not_sent H (nth g (routes H)) r)
+
+pub link_played : (H : List Happening) (m : Move) (i : ℕ → Input) (g at : ℕ) (w : Way) (new : Network) → may_come m H ≡ passes (λ (s : Route). is_there H s.from) (nth g (routes H))
+    → turn m H ≡ option_map (λ (r : Route). turn_of r.from at (i r.link)) (nth g (routes H)) → Sends H (nth g (routes H)) (Some w)
+    → ((a : Incarnation) → nth w.start (incarnations H) ≡ Some a → StandsAfter (Happens m (Some (turn_of a at (i w.link))) ∷ H) new) → IsPlayed m H true new
+link_played H m i g at w new may brings r f =
+    let q = sent_by H w (nth g (routes H)) r in
+    played m H new (may ∙ q.may) (subst (λ t. StandsAfter (Happens m t ∷ H) new) (sym brings) (at_its_link H m i at w.link new q.route (nth g (routes H)) q.is (ap (λ (v : Way). v.link) q.way) (f q.route.from q.there)))

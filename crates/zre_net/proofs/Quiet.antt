@@ -172,7 +172,7 @@ module _ (H : List Happening) (x place : ℕ) (p : Part) (net new : Network) (s 
             row = now;
             there = ap (nth y) rows ∙ nth_same y place net.conns.items now at (in_reach net.conns.items place was before);
             is = record {
-              to = ap (λ w. w) loaded.to ∙ r.to;
+              to = loaded.to ∙ r.to;
               to_known = r.to_known;
               along = loaded.along ∙ r.along;
               along_known = r.along_known;

@@ -10,8 +10,10 @@ use Rattle.zre_journal.specs.Events.{chronicle}
 use Rattle.zre_journal.specs.Heard.{bytes}
 use Rattle.zre_net.specs.declared.moves.Move.{Move}
 use Rattle.zre_net.specs.declared.moves.Move.TheVariants as move
+use Rattle.zre_net.specs.declared.running.lines.Line.{Line}
 use Rattle.zre_net.specs.declared.running.network.Network.{Network}
 use Rattle.zre_net.specs.declared.running.rows.Started.{Started}
+use Rattle.zre_net.specs.declared.running.rows.Carrier.{Carrier}
 use Rattle.zre_net.specs.declared.running.rows.Owner.{Owner}
 use Rattle.zre_net.specs.Comes.{with_move}
 use Rattle.zre_net.specs.Grammar.{may_come, agrees}
@@ -79,6 +81,10 @@ pub owners_same : (n : ℕ) (id : PeerId) (as_ : List Incarnation) → list_all 
 owners_same n id [] = refl
 owners_same n id (a ∷ as_) = ap (λ b. b && list_all (fits_owner n id) (map owner_of as_)) (fits_same n id a) ∙ ap (λ b. agrees n id a && b) (owners_same n id as_)
 
+none_put : (ls : List Line) → length ls ≡ 0 → octets_in ls ≡ 0
+none_put [] z = refl
+none_put (l ∷ ls) z = absurd (omega (arith, z))
+
 -- ---- a start
 
 module _ (H : List Happening) (n at : ℕ) (id : PeerId) (name host : List ℕ) (port : ℕ) (net new : Network) (s : StandsAfter H net) where
@@ -133,9 +139,9 @@ module _ (H : List Happening) (n at : ℕ) (id : PeerId) (name host : List ℕ) 
         later None f z = z
         later (Some b) f z = (z.0, known_later b z.1, z.2)
 
-        by : (t : Bool) → eqb k n ≡ t → Finds N k (cond (eqb k n) (Some a) (running k H)) (cond (eqb k n) (Some (length new.started.items)) (running_at k net.running.items))
-        by true e = rw e (ap (λ m. Some m) (count ∙ its_number), a_known, sym (eqb-true k n e))
-        by false e = rw e (later (running k H) (running_at k net.running.items) (s.nodes.runs k))
+        by : (t : Bool) → eqb k n ≡ t → Finds N k (cond t (Some a) (running k H)) (cond t (Some (length new.started.items)) (running_at k net.running.items))
+        by true e = (ap (λ m. Some m) (count ∙ its_number), a_known, sym (eqb-true k n e))
+        by false e = later (running k H) (running_at k net.running.items) (s.nodes.runs k)
 
     nodes : AreNodes N new
     nodes = record {
@@ -154,11 +160,7 @@ module _ (H : List Happening) (n at : ℕ) (id : PeerId) (name host : List ℕ) 
     }
       where
         empty : octets_in x.sender.lines ≡ 0
-        empty = by x.sender.lines begun.sent.keeps.count
-          where
-            by : (ls : List _) → length ls ≡ 0 → octets_in ls ≡ 0
-            by [] z = refl
-            by (l ∷ ls) z = absurd (omega (arith, z))
+        empty = none_put x.sender.lines begun.sent.keeps.count
 
         more : sum_by (λ (y : Started). octets_in y.sender.lines) net.started.items ≡ sum_by (λ (y : Started). octets_in y.sender.lines) (net.started.items ++ x ∷ [])
         more = let p = sum_by_push (λ (y : Started). octets_in y.sender.lines) net.started.items x in omega (arith, p, empty)
@@ -167,7 +169,7 @@ module _ (H : List Happening) (n at : ℕ) (id : PeerId) (name host : List ℕ) 
     starts_stand = record {
       nodes = nodes;
       conns_are = subst (λ ys. AreConns N ys.items) (sym conns_stay) (record { count = s.conns_are.count; each = λ x c e. one x c (s.conns_are.each x c e); silent = silent });
-      pending_is = pending_stay ∙ s.pending_is ∙ ap (λ ys. sum_by _ ys.items) (sym conns_stay);
+      pending_is = pending_stay ∙ s.pending_is ∙ ap (λ ys. sum_by (λ (y : Carrier). length y.waiting) ys.items) (sym conns_stay);
     }
       where
         one : (x : ℕ) (c : Conn) → HasConn H x c net.conns.items → HasConn N x c net.conns.items

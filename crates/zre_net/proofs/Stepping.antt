@@ -26,7 +26,7 @@ use Rattle.zre_net.specs.Lines.{octets_in}
 use Rattle.zre_net.specs.Lists.{nth}
 use Rattle.zre_net.specs.Numbers.{Route, Broadcast, acts_of, route_in, routes, broadcast_in, broadcasts}
 use Rattle.zre_net.specs.Rows.{entry_at, Turned, StaysAt, sent_in, way_in, running_at}
-use Rattle.zre_net.specs.Running.{IsKnown, IsStarted, HasStarted, AreStarted, Finds, AreNodes, IsStill, sent_of, way_of}
+use Rattle.zre_net.specs.Running.{IsKnown, IsStarted, HasStarted, AreStarted, Finds, AreNodes, IsStill, owner_of, sent_of, way_of}
 use Rattle.zre_net.specs.Said.{said_in, said_at}
 use Rattle.zre_net.specs.Sender.{is_slight}
 use Rattle.zre_net.specs.Sending.{HasSent}
@@ -214,7 +214,7 @@ module _ (H : List Happening) (m : Move) (still : IsStill m) (a : Incarnation) (
       said = s.said ∙ ap (λ xs. xs ++ map (λ e. (s.took.node, e)) s.took.step.events) nodes.said ∙ ap (λ xs. said_in H ++ xs) told_is;
       started = started;
       runs = λ n. finds n (running n N') (running_at n new.running.items) (subst (λ o. Finds H n o (running_at n new.running.items)) (sym (still.running_stay (Some T') H n)) (subst (λ r. Finds H n (running n H) (running_at n r.items)) (sym s.running) (nodes.runs n)));
-      owners = s.owners ∙ nodes.owners ∙ ap (λ xs. map _ xs) (sym stay);
+      owners = s.owners ∙ nodes.owners ∙ ap (λ xs. map owner_of xs) (sym stay);
       beacons = s.beacons ∙ ap (λ xs. xs ++ filter_map (sent_in s.took.host) s.took.step.acts) nodes.beacons
           ∙ ap (λ h. map sent_of (broadcasts H) ++ filter_map (sent_in h) s.took.step.acts) (s.stays.told_host ∙ old.host)
           ∙ ap (λ xs. map sent_of (broadcasts H) ++ filter_map (sent_in a.settings.host) xs) done_is

@@ -8,6 +8,8 @@ pub mod limits;
 mod moves;
 mod reading;
 mod running;
+#[cfg(test)]
+mod tests;
 mod word;
 
 pub use fault::{BadSchedule, ScheduleFault};

@@ -1,7 +1,7 @@
 //! Octets of connections come.
 
 ghost use Rattle.std.specs.Prelude.{◌≡◌, ◌≤◌, List, Some, length, IfOk, OnOk};
-ghost use Rattle.zre_net.specs.declared.moves.Move.TheVariants as move;
+ghost use Rattle.zre_net.specs.declared.moves.Move.TheVariants as MoveValue;
 ghost use Rattle.zre_net.specs.Comes.{with_move};
 ghost use Rattle.zre_net.specs.History.{Happening};
 ghost use Rattle.zre_net.specs.Lists.{nth as nth_of};
@@ -35,7 +35,7 @@ impl Network {
         ensures few { IfOk result (λ count. count ≤ most) }
         ensures come { (H : List Happening) (c : Conn) → StandsAfter H self.old → nth_of conn (conns H) ≡ Some c →
             to ≡ c.to.number →
-            IfOk result (λ count. StandsAfter (with_move (move.Piece conn count at) H) self.new) }
+            IfOk result (λ count. StandsAfter (with_move (MoveValue.Piece conn count at) H) self.new) }
     {
         let Some(place) = conn.checked_sub(1) else {
             return Err(OutOfMemory);
@@ -58,7 +58,7 @@ impl Network {
     // So many octets come, part by part: cut or not, a piece brings about the same.
     fn hand_all(&mut self, to: u64, conn: u64, count: u64, at: u64) -> Result<(), OutOfMemory>
         ensures { (H : List Happening) (c : Conn) → StandsAfter H self.old → nth_of conn (conns H) ≡ Some c →
-            to ≡ c.to.number → OnOk result (StandsAfter (with_move (move.Piece conn count at) H) self.new) }
+            to ≡ c.to.number → OnOk result (StandsAfter (with_move (MoveValue.Piece conn count at) H) self.new) }
     {
         let mut left = count - self.hand(to, conn, count, at)?;
         'parts: while left > 0 {
@@ -85,7 +85,7 @@ impl Network {
     /// The next octets of a connection come.
     pub fn piece(&mut self, conn: u64, count: u64, at: u64) -> Result<bool, OutOfMemory>
         ensures { (H : List Happening) → StandsAfter H self.old →
-            IfOk result (λ may. IsPlayed (move.Piece conn count at) H may self.new) }
+            IfOk result (λ may. IsPlayed (MoveValue.Piece conn count at) H may self.new) }
     {
         let Some(to) = self.receiver(conn) else {
             return Ok(false);

@@ -1,7 +1,7 @@
 //! The moves but for pieces, one by one. Each answers whether it may come.
 
 ghost use Rattle.std.specs.Prelude.{◌≡◌, List, IfOk, OnOk};
-ghost use Rattle.zre_net.specs.declared.moves.Move.TheVariants as move;
+ghost use Rattle.zre_net.specs.declared.moves.Move.TheVariants as MoveValue;
 ghost use Rattle.zre_net.specs.History.{Happening, settings_of};
 ghost use Rattle.zre_net.specs.Lists.{nth as nth_of};
 ghost use Rattle.zre_net.specs.Rows.{IsBegun, HasStopped, IsLoaded, IsSpelled, IsSpelledAt};
@@ -104,7 +104,7 @@ impl Network {
         port: u16,
     ) -> Result<bool, OutOfMemory>
         ensures { (H : List Happening) → StandsAfter H self.old →
-            IfOk result (λ may. IsPlayed (move.Start node at id name host port) H may self.new) }
+            IfOk result (λ may. IsPlayed (MoveValue.Start node at id name host port) H may self.new) }
     {
         if self.runner(node).is_some() || !may_have(self.owners.as_slice(), node, id) || port == 0 {
             return Ok(false);
@@ -124,7 +124,7 @@ impl Network {
     /// A node is gone.
     pub fn crash(&mut self, node: u8) -> Result<bool, OutOfMemory>
         ensures { (H : List Happening) → StandsAfter H self.old →
-            IfOk result (λ may. IsPlayed (move.Crash node) H may self.new) }
+            IfOk result (λ may. IsPlayed (MoveValue.Crash node) H may self.new) }
     {
         let Some(start) = self.runner(node) else {
             return Ok(false);
@@ -144,7 +144,7 @@ impl Network {
     /// Time has passed at a node.
     pub fn tick(&mut self, node: u8, at: u64) -> Result<bool, OutOfMemory>
         ensures { (H : List Happening) → StandsAfter H self.old →
-            IfOk result (λ may. IsPlayed (move.Tick node at) H may self.new) }
+            IfOk result (λ may. IsPlayed (MoveValue.Tick node at) H may self.new) }
     {
         let Some(start) = self.runner(node) else {
             return Ok(false);
@@ -156,7 +156,7 @@ impl Network {
     /// The user of a node asks for something.
     pub fn ask(&mut self, node: u8, at: u64, command: Command) -> Result<bool, OutOfMemory>
         ensures { (H : List Happening) → StandsAfter H self.old →
-            IfOk result (λ may. IsPlayed (move.Do node at command) H may self.new) }
+            IfOk result (λ may. IsPlayed (MoveValue.Do node at command) H may self.new) }
     {
         let Some(start) = self.runner(node) else {
             return Ok(false);
@@ -168,7 +168,7 @@ impl Network {
     /// A node hears a beacon.
     pub fn hear(&mut self, beacon: u64, node: u8, at: u64) -> Result<bool, OutOfMemory>
         ensures { (H : List Happening) → StandsAfter H self.old →
-            IfOk result (λ may. IsPlayed (move.Beacon beacon node at) H may self.new) }
+            IfOk result (λ may. IsPlayed (MoveValue.Beacon beacon node at) H may self.new) }
     {
         let Some(start) = self.runner(node) else {
             return Ok(false);
@@ -185,7 +185,7 @@ impl Network {
     /// A connection that carries a link opens at a node.
     pub fn open(&mut self, link: u64, node: u8, at: u64) -> Result<bool, OutOfMemory>
         ensures { (H : List Happening) → StandsAfter H self.old →
-            IfOk result (λ may. IsPlayed (move.Open link node at) H may self.new) }
+            IfOk result (λ may. IsPlayed (MoveValue.Open link node at) H may self.new) }
     {
         let Some(to) = self.runner(node) else {
             return Ok(false);
@@ -222,7 +222,7 @@ impl Network {
     /// A connection is made to carry one part more.
     pub fn carry(&mut self, conn: u64, part: Part) -> Result<bool, OutOfMemory>
         ensures { (H : List Happening) → StandsAfter H self.old →
-            IfOk result (λ may. IsPlayed (move.Carry conn part) H may self.new) }
+            IfOk result (λ may. IsPlayed (MoveValue.Carry conn part) H may self.new) }
     {
         let Some(carrier) = nth(self.conns.as_slice(), conn) else {
             return Ok(false);
@@ -248,7 +248,7 @@ impl Network {
     /// A connection is closed.
     pub fn shut(&mut self, conn: u64, at: u64) -> Result<bool, OutOfMemory>
         ensures { (H : List Happening) → StandsAfter H self.old →
-            IfOk result (λ may. IsPlayed (move.Shut conn at) H may self.new) }
+            IfOk result (λ may. IsPlayed (MoveValue.Shut conn at) H may self.new) }
     {
         let Some(to) = self.receiver(conn) else {
             return Ok(false);
@@ -260,7 +260,7 @@ impl Network {
     /// A link stands.
     pub fn linked(&mut self, link: u64, at: u64) -> Result<bool, OutOfMemory>
         ensures { (H : List Happening) → StandsAfter H self.old →
-            IfOk result (λ may. IsPlayed (move.Linked link at) H may self.new) }
+            IfOk result (λ may. IsPlayed (MoveValue.Linked link at) H may self.new) }
     {
         let Some(Way { start, link }) = self.sender(link) else {
             return Ok(false);
@@ -272,7 +272,7 @@ impl Network {
     /// A link breaks.
     pub fn unlinked(&mut self, link: u64, at: u64) -> Result<bool, OutOfMemory>
         ensures { (H : List Happening) → StandsAfter H self.old →
-            IfOk result (λ may. IsPlayed (move.Unlinked link at) H may self.new) }
+            IfOk result (λ may. IsPlayed (MoveValue.Unlinked link at) H may self.new) }
     {
         let Some(Way { start, link }) = self.sender(link) else {
             return Ok(false);
@@ -284,7 +284,7 @@ impl Network {
     /// Octets come back on a link.
     pub fn reply(&mut self, link: u64, at: u64, bytes: Octets) -> Result<bool, OutOfMemory>
         ensures { (H : List Happening) → StandsAfter H self.old →
-            IfOk result (λ may. IsPlayed (move.Reply link at bytes) H may self.new) }
+            IfOk result (λ may. IsPlayed (MoveValue.Reply link at bytes) H may self.new) }
     {
         let Some(Way { start, link }) = self.sender(link) else {
             return Ok(false);
@@ -296,7 +296,7 @@ impl Network {
     /// Octets of a link are sent.
     pub fn took(&mut self, link: u64, count: u64, at: u64) -> Result<bool, OutOfMemory>
         ensures { (H : List Happening) → StandsAfter H self.old →
-            IfOk result (λ may. IsPlayed (move.Took link count at) H may self.new) }
+            IfOk result (λ may. IsPlayed (MoveValue.Took link count at) H may self.new) }
     {
         let Some(Way { start, link }) = self.sender(link) else {
             return Ok(false);
