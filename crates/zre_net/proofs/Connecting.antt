@@ -3,7 +3,6 @@ use Rattle.std.proofs.Common.{◌≡◌, ◌⊎◌, ℕ, ◌+◌, ◌≤◌, ◌
 use Rattle.std.specs.Prelude.{sum_by}
 use Rattle.zre_outside.specs.declared.entry.Input.{Input}
 use Rattle.zre_journal.specs.Chronicle.{Mark, Comes}
-use Rattle.zre_journal.specs.Endings.{is_end}
 use Rattle.zre_journal.specs.Heard.{bytes, piece_of}
 use Rattle.zre_net.specs.declared.moves.Move.{Move}
 use Rattle.zre_net.specs.declared.running.ear.Ear.{Ear}
@@ -16,14 +15,14 @@ use Rattle.zre_net.specs.Lists.{nth}
 use Rattle.zre_net.specs.Numbers.{Conn, conns}
 use Rattle.zre_net.specs.Rows.{Fits}
 use Rattle.zre_net.specs.Running.{IsKnown, AreNodes, IsConn, HasConn, AreConns, StandsAfter, IsStill, IsKept, IsSilent}
-use Rattle.zre_net.proofs.Hearing.{bytes_same, fits_still, no_piece, goes_on}
+use Rattle.zre_net.proofs.Hearing.{bytes_same, fits_still, no_piece}
 use Rattle.zre_net.proofs.Listing.{some_one}
 use Rattle.zre_net.proofs.Stepping.{chronicle_now, other_chronicle}
 
 pub same_who : (H : List Happening) (a b : Incarnation) → IsKnown H a → IsKnown H b → a.number ≡ b.number → a ≡ b
 same_who H a b p q e = some_one (sym p ∙ ap (λ n. nth n (incarnations H)) e ∙ q)
 
-module _ (H : List Happening) (m : Move) (still : IsStill m) (a : Incarnation) (at : ℕ) (i : Input) (a_known : IsKnown H a) (live : is_end i ≡ false) where
+module _ (H : List Happening) (m : Move) (still : IsStill m) (a : Incarnation) (at : ℕ) (i : Input) (a_known : IsKnown H a) where
   abbrev T : Turn
   T = turn_of a at i
 
@@ -46,11 +45,11 @@ module _ (H : List Happening) (m : Move) (still : IsStill m) (a : Incarnation) (
 
   pub fits_other : (x : ℕ) (ear : Ear) → piece_of x i ≡ [] → (b : Incarnation) → IsKnown H b → Fits b.settings x (chronicle_of b H) ear → Fits b.settings x (chronicle_of b N) ear
   fits_other x ear p b k = for_all (λ c K. Fits c.settings x (chronicle_of c H) ear → Fits c.settings x K ear)
-      (λ f. subst (λ K. Fits a.settings x K ear) (sym (chronicle_now H m a at i)) (fits_still a.settings (journal a H) T.entry live x ear p f)) (λ c f. f) b k
+      (λ f. subst (λ K. Fits a.settings x K ear) (sym (chronicle_now H m a at i)) (fits_still a.settings (journal a H) T.entry x ear p f)) (λ c f. f) b k
 
   pub silent_more : (x : ℕ) → piece_of x i ≡ [] → ((b : Incarnation) → IsKnown H b → bytes x (chronicle_of b H) ≡ []) → (b : Incarnation) → IsKnown N b → bytes x (chronicle_of b N) ≡ []
   silent_more x p s b k =
-      for_all (λ c K. bytes x (chronicle_of c H) ≡ [] → bytes x K ≡ []) (λ z. ap (bytes x) (chronicle_now H m a at i) ∙ bytes_same a.settings (journal a H) T.entry live x p ∙ z) (λ c z. z)
+      for_all (λ c K. bytes x (chronicle_of c H) ≡ [] → bytes x K ≡ []) (λ z. ap (bytes x) (chronicle_now H m a at i) ∙ bytes_same a.settings (journal a H) T.entry x p ∙ z) (λ c z. z)
       b (known_before b k) (s b (known_before b k))
 
   -- a connection to which nothing comes

@@ -1,5 +1,5 @@
 -- The ear of a connection, after an entry of its node.
-use Rattle.std.proofs.Common.{◌≡◌, ◌⊎◌, ℕ, ◌+◌, ◌≤◌, ◌<◌, Bool, true, false, cond, not, ◌&&◌, eqb, ltb, List, [], ◌∷◌, ◌++◌, length, drop, refl, sym, ap, ◌∙◌, inl, inr, arith, append-nil, true≢false, eqb-true, eq-eqb}
+use Rattle.std.proofs.Common.{◌≡◌, ◌⊎◌, ℕ, ◌+◌, ◌≤◌, ◌<◌, Bool, true, false, cond, not, ◌&&◌, eqb, ltb, List, [], ◌∷◌, ◌++◌, length, map, drop, refl, subst, ltb-true, sym, ap, ◌∙◌, inl, inr, arith, append-nil, true≢false, eqb-true, eq-eqb}
 use Rattle.zre_outside.specs.declared.entry.Entry.{Entry}
 use Rattle.zre_outside.specs.declared.entry.Input.{Input}
 use Rattle.zre_outside.specs.declared.entry.Input.TheVariants as input
@@ -8,7 +8,13 @@ use Rattle.zre_mailbox.specs.Conn.{conn_after}
 use Rattle.zre_mailbox.specs.Talk.{talk, completed}
 use Rattle.zre_journal.specs.declared.config.Config.{Config}
 use Rattle.zre_journal.specs.Arrivals.{at_opened}
-use Rattle.zre_journal.specs.Chronicle.{Mark, Comes, Opens, TurnsAway, after}
+use Rattle.zre_journal.specs.Commands.{at_stop}
+use Rattle.zre_journal.specs.Cutting.{is_entry}
+use Rattle.zre_journal.specs.Peers.{Life, lives}
+use Rattle.zre_journal.proofs.Stopping.{at_end}
+use Rattle.zre_peer.specs.declared.causes.Cause.TheVariants as cause
+use Rattle.std.specs.List.{AllByRecursion}
+use Rattle.zre_journal.specs.Chronicle.{Mark, Comes, Opens, TurnsAway, Ends, ClosesAtStop, SendsBeacon, Stops, after}
 use Rattle.zre_journal.specs.Connections.{is_new, open_ones}
 use Rattle.zre_journal.specs.Endings.{is_end}
 use Rattle.zre_journal.specs.Events.{chronicle}
@@ -26,12 +32,33 @@ use Rattle.zre_net.specs.Running.{IsSilent}
 use Rattle.zre_net.specs.Rows.{Fits}
 use Rattle.zre_net.specs.Sender.{is_slight}
 
-bytes_after : (g : Config) (d : ℕ) (hs K : List Mark) → AreSound g hs K → bytes d (after hs K) ≡ bytes d K
-bytes_after g d [] K s = refl
-bytes_after g d (h ∷ hs) K s = bytes_after g d hs (h ∷ K) s.1 ∙ one h s.0
+-- ---- no mark of an entry is an entry
+
+abbrev AreInner : List Mark → Type 0
+AreInner hs = AllByRecursion (λ h. is_entry h ≡ false) hs
+
+inner_of : (g : Config) (hs K : List Mark) → AreSound g hs K → AreInner hs
+inner_of g [] K s = tt
+inner_of g (h ∷ hs) K s = (one h s.0, inner_of g hs (h ∷ K) s.1)
   where
-    one : (h : Mark) → Sound g h K → bytes d (h ∷ K) ≡ bytes d K
+    one : (h : Mark) → Sound g h K → is_entry h ≡ false
     one (Comes e) z = absurd z
+    one _ z = refl
+
+inner_map : {A : Type 0} (f : A → Mark) → ((x : A) → is_entry (f x) ≡ false) → (xs : List A) (hs : List Mark) → AreInner hs → AreInner (map f xs ++ hs)
+inner_map f n [] hs a = a
+inner_map f n (x ∷ xs) hs a = (n x, inner_map f n xs hs a)
+
+inner_stop : (g : Config) (K : List Mark) → AreInner (at_stop g K)
+inner_stop g K = inner_map (λ (v : Life). Ends v.link cause.Stop) (λ v. refl) (lives K) (map (λ c. ClosesAtStop c) (open_ones K) ++ SendsBeacon 0 ∷ Stops ∷ [])
+    (inner_map (λ c. ClosesAtStop c) (λ c. refl) (open_ones K) (SendsBeacon 0 ∷ Stops ∷ []) (refl, (refl, tt)))
+
+bytes_after : (d : ℕ) (hs K : List Mark) → AreInner hs → bytes d (after hs K) ≡ bytes d K
+bytes_after d [] K n = refl
+bytes_after d (h ∷ hs) K n = bytes_after d hs (h ∷ K) n.1 ∙ one h n.0
+  where
+    one : (h : Mark) → is_entry h ≡ false → bytes d (h ∷ K) ≡ bytes d K
+    one (Comes e) z = absurd (true≢false z)
     one _ z = refl
 
 and_false : (b c : Bool) → c ≡ false → (b && c) ≡ false
@@ -62,7 +89,7 @@ module _ (x : ℕ) where
   opened_after [] K a n = refl
   opened_after (h ∷ hs) K a n = opened_after hs (h ∷ K) a.1 (old_one h K n) ∙ opened_one h K a.0 n
 
-module _ (g : Config) (J : List Entry) (e : Entry) (live : is_end e.input ≡ false) where
+module _ (g : Config) (J : List Entry) (e : Entry) where
   abbrev K : List Mark
   K = chronicle g J
 
@@ -83,9 +110,16 @@ module _ (g : Config) (J : List Entry) (e : Entry) (live : is_end e.input ≡ fa
       by true z = s z
       by false z = t z
 
+  inner_marks : AreInner (at_input g e.input K M)
+  inner_marks = by (is_end e.input) refl
+    where
+      by : (b : Bool) → is_end e.input ≡ b → AreInner (at_input g e.input K M)
+      by true z = subst AreInner (sym (at_end g e.input K M z)) (inner_stop g M)
+      by false z = inner_of g (at_input g e.input K M) M (input_sound g e.input K M q z (are_others g J))
+
   pub bytes_now : (x : ℕ) → bytes x N ≡ bytes x K ++ cond (was_opened x K) (piece_of x e.input) []
   bytes_now x = by_stop (λ Z. bytes x Z ≡ bytes x K ++ cond (was_opened x K) (piece_of x e.input) []) (λ s. refl)
-      (λ t. bytes_after g x (at_input g e.input K M) M (input_sound g e.input K M q live (are_others g J)))
+      (λ t. bytes_after x (at_input g e.input K M) M inner_marks)
 
   none : (b : Bool) → cond {A = List ℕ} b [] [] ≡ []
   none true = refl
@@ -133,7 +167,7 @@ module _ (g : Config) (J : List Entry) (e : Entry) (live : is_end e.input ≡ fa
       not_before n = by (ltb x x) refl
         where
           by : (b : Bool) → ltb x x ≡ b → (b && n) ≡ false
-          by true z = absurd (omega (arith, z))
+          by true z = let l = ltb-true x x z in absurd (omega (arith, l))
           by false z = refl
 
       opens_it : (n : Bool) → is_new x M ≡ n → (b : Bool) → is_new x (after (cond n (cond b (Opens x ∷ []) (TurnsAway x ∷ [])) []) M) ≡ false
@@ -161,17 +195,9 @@ completes_few g x K e o ear i f h = by (was_opened x K) refl
 pub no_piece : (x : ℕ) (i : Input) → IsSilent i → piece_of x i ≡ []
 no_piece x (input.Piece c o) s = absurd s
 no_piece x (input.Opened c) s = absurd s
-no_piece x input.End s = absurd s
 no_piece x _ s = refl
-
-pub goes_on : (i : Input) → IsSilent i → is_end i ≡ false
-goes_on (input.Piece c o) s = absurd s
-goes_on (input.Opened c) s = absurd s
-goes_on input.End s = absurd s
-goes_on _ s = refl
 
 pub is_slight_too : (g : Config) (i : Input) (H K : List Mark) → IsSilent i → is_slight g i H K
 is_slight_too g (input.Piece c o) H K s = absurd s
 is_slight_too g (input.Opened c) H K s = absurd s
-is_slight_too g input.End H K s = absurd s
 is_slight_too g _ H K s = tt

@@ -20,5 +20,6 @@ mod Rooms
 mod Runs
 mod Same
 mod Sending
+mod Sent
 mod Starting
 mod Stepping

@@ -21,14 +21,14 @@ got_same [] i v z = absurd (omega (arith, z))
 got_same (x ∷ xs) zero v z = refl
 got_same (x ∷ xs) (suc i) v z = got_same xs i v (omega (arith, z))
 
-kept : {A : Type 0} (xs : List A) (i k : ℕ) (v : A) → (i ≡ k → ⊥) → slice_get (slice_set xs i v) k ≡ slice_get xs k
+pub kept : {A : Type 0} (xs : List A) (i k : ℕ) (v : A) → (i ≡ k → ⊥) → slice_get (slice_set xs i v) k ≡ slice_get xs k
 kept [] i k v n = refl
 kept (x ∷ xs) zero zero v n = absurd (n refl)
 kept (x ∷ xs) zero (suc k) v n = refl
 kept (x ∷ xs) (suc i) zero v n = refl
 kept (x ∷ xs) (suc i) (suc k) v n = kept xs i k v (λ e. n (ap suc e))
 
-apart : (a b : ℕ) → eqb a b ≡ false → a ≡ b → ⊥
+pub apart : (a b : ℕ) → eqb a b ≡ false → a ≡ b → ⊥
 apart a b e q = true≢false (sym (eq-eqb a b q) ∙ e)
 
 pub got_other : {A : Type 0} (xs : List A) (i k : ℕ) (v : A) → eqb i k ≡ false → slice_get (slice_set xs i v) k ≡ slice_get xs k

@@ -1,7 +1,7 @@
 -- Looks at a node's links, one after the other.
 use Rattle.std.proofs.Common.{◌≡◌, ◌⊎◌, ℕ, zero, suc, ◌+◌, ◌≤◌, ◌<◌, Bool, true, false, cond, ◌||◌, eqb, List, [], ◌∷◌, ◌++◌, length, drop, map, Option, Some, None, IsSome, is_some, find, refl, sym, ap, ◌∙◌, subst, inl, inr, arith, append_assoc, append-nil, length-append, true≢false, eqb-true, eq-eqb}
 use Rattle.std.specs.Prelude.{slice_get}
-use Rattle.zre_net.proofs.Listing.{some_one, in_reach, got_same, got_other, set_length}
+use Rattle.zre_net.proofs.Listing.{some_one, in_reach, got_same, kept, apart, set_length}
 use Rattle.std.specs.List.{list_any}
 use Rattle.zre_journal.specs.declared.config.Config.{Config}
 use Rattle.zre_journal.specs.Chronicle.{Mark}
@@ -39,7 +39,7 @@ module _ (g : Config) (K : List Mark) where
     where
       other : (k : ℕ) → eqb (suc i) k ≡ false → nth k ys ≡ nth k xs
       other zero far = refl
-      other (suc k) far = ap (λ ws. slice_get ws k) n.is ∙ got_other xs i k n.now far
+      other (suc k) far = ap (λ ws. slice_get ws k) n.is ∙ kept xs i k n.now (λ q. apart (suc i) (suc k) far (ap suc q))
 
   -- ---- many looks
 
@@ -131,11 +131,11 @@ module _ (g : Config) (K : List Mark) where
 
 found : (l : ℕ) (vs : List Life) (v : Life) → find (λ (u : Life). eqb l u.link) vs ≡ Some v → l ≡ v.link
 found l [] v e = absurd cc
-found l (u ∷ vs) v e = by (eqb l u.link) refl e
+found l (u ∷ vs) v e = by (eqb l u.link) refl e (λ s. found l vs v s)
   where
-    by : (b : Bool) → eqb l u.link ≡ b → cond b (Some u) (find (λ (w : Life). eqb l w.link) vs) ≡ Some v → l ≡ v.link
-    by true z s = eqb-true l u.link z ∙ ap (λ (w : Life). w.link) (some_one s)
-    by false z s = found l vs v s
+    by : (b : Bool) → eqb l u.link ≡ b → cond b (Some u) (find (λ (w : Life). eqb l w.link) vs) ≡ Some v → (find (λ (w : Life). eqb l w.link) vs ≡ Some v → l ≡ v.link) → l ≡ v.link
+    by true z s f = eqb-true l u.link z ∙ ap (λ (w : Life). w.link) (some_one s)
+    by false z s f = f s
 
 pub sent_is : (g : Config) (J : List Entry) (l n : ℕ) → Some n ≡ sent_after g J l → n ≡ length (bodies l (chronicle g J))
 sent_is g J l n e = by (life l (chronicle g J)) refl e

@@ -1,5 +1,5 @@
 -- Octets of a connection come, part by part.
-use Rattle.std.proofs.Common.{◌≡◌, ◌⊎◌, ℕ, zero, suc, ◌+◌, ◌-◌, ◌≤◌, ◌<◌, max, Bool, true, false, cond, not, eqb, List, [], ◌∷◌, ◌++◌, length, map, take, drop, filter, Option, Some, None, refl, sym, ap, ◌∙◌, subst, arith, eqb-true, eq-eqb, append_assoc, append-nil, true≢false}
+use Rattle.std.proofs.Common.{◌≡◌, ◌⊎◌, ℕ, zero, suc, ◌+◌, ◌-◌, ◌≤◌, ◌<◌, max, Bool, true, false, cond, not, ◌&&◌, eqb, ltb, leb, List, [], ◌∷◌, ◌++◌, length, map, take, drop, filter, Option, Some, None, refl, sym, ap, ◌∙◌, subst, arith, eqb-true, eq-eqb, ltb-true, ltb-false, leb-true, leb-false, append_assoc, append-nil, true≢false}
 use Rattle.std.specs.Prelude.{slice_get, slice_set, sum_by, option_map}
 use Rattle.std.specs.List.{filter_map, AllByRecursion}
 use Rattle.std.proofs.lemmas.List.{append_cancel_left, length-drop}
@@ -13,7 +13,6 @@ use Rattle.zre_mailbox.specs.Conn.{conn_after}
 use Rattle.zre_mailbox.specs.Talk.{completed}
 use Rattle.zre_journal.specs.declared.config.Config.{Config}
 use Rattle.zre_journal.specs.Chronicle.{Mark, Comes, followed}
-use Rattle.core.specs.List.{cons_option}
 use Rattle.zre_journal.specs.Connections.{is_new}
 use Rattle.zre_journal.specs.Cutting.{is_offer, but_offers, piece, IsSameCut}
 use Rattle.zre_journal.specs.Done.{acts_at}
@@ -29,12 +28,13 @@ use Rattle.zre_net.specs.declared.running.rows.Started.{Started}
 use Rattle.zre_net.specs.declared.running.rows.Carrier.{Carrier}
 use Rattle.zre_net.specs.Carried.{pending}
 use Rattle.zre_net.specs.Comes.{turn_of, with_move, at_conn}
+use Rattle.zre_net.specs.Grammar.{may_come, passes, is_there}
 use Rattle.zre_net.specs.History.{Incarnation, Turn, Happening, Happens, incarnations, running, journal, chronicle_of}
 use Rattle.zre_net.specs.Lines.{octets_in}
 use Rattle.zre_net.specs.Lists.{nth}
 use Rattle.zre_net.specs.Numbers.{Route, Broadcast, Conn, routes, route_in, broadcasts, broadcast_in, conns}
 use Rattle.zre_net.specs.Rows.{running_at, Fits, IsHeard}
-use Rattle.zre_net.specs.Running.{IsKnown, IsStarted, HasStarted, AreStarted, Finds, AreNodes, IsConn, HasConn, AreConns, StandsAfter, sent_of, way_of}
+use Rattle.zre_net.specs.Running.{IsKnown, IsStarted, HasStarted, AreStarted, Finds, AreNodes, IsConn, HasConn, AreConns, StandsAfter, IsPlayed, Receives, sent_of, way_of}
 use Rattle.zre_net.specs.Said.{said_in}
 use Rattle.zre_net.specs.Sender.{is_slight}
 use Rattle.zre_net.specs.Sending.{HasSent}
@@ -42,9 +42,9 @@ use Rattle.zre_net.proofs.Connecting.{same_who, known_later, conn_still, silent_
 use Rattle.zre_net.proofs.Cut.{has_sent_whole}
 use Rattle.zre_net.proofs.Hearing.{fits_piece, completes_few}
 use Rattle.zre_net.proofs.Listing.{some_one, in_reach, nth_at, nth_reach, nth_same, nth_other, set_length, sum_set, all_map}
-use Rattle.zre_net.proofs.Plays.{piece_still}
+use Rattle.zre_net.proofs.Plays.{piece_still, played, not_received, received, IsReceived}
 use Rattle.zre_net.proofs.Same.{by_marks, ever_but, new_but, sim, Sim}
-use Rattle.zre_net.proofs.Stepping.{chronicle_now, other_chronicle}
+use Rattle.zre_net.proofs.Stepping.{chronicle_now, other_chronicle, filter_map-both}
 
 -- ---- some octets come
 
@@ -96,12 +96,12 @@ module _ (H : List Happening) (x place most at : ℕ) (net : Network) (s : Stand
               there = ap (nth y) rows ∙ nth_same y place net.conns.items now (sym same ∙ under) (in_reach net.conns.items place was before);
               is = subst (λ w. IsConn N w now) who (record {
                 to = heard.to ∙ is.to;
-                to_known = known_later H (move.Piece x (length b) at) (piece_still x (length b) at) c.to at (input.Piece x b) is.to_known refl c.to is.to_known;
+                to_known = known_later H (move.Piece x (length b) at) (piece_still x (length b) at) c.to at (input.Piece x b) is.to_known c.to is.to_known;
                 along = heard.along ∙ is.along;
-                along_known = known_later H (move.Piece x (length b) at) (piece_still x (length b) at) c.to at (input.Piece x b) is.to_known refl c.along.from is.along_known;
+                along_known = known_later H (move.Piece x (length b) at) (piece_still x (length b) at) c.to at (input.Piece x b) is.to_known c.along.from is.along_known;
                 waits = heard.waiting ∙ ap (drop (length b)) is.waits ∙ sym (ap (λ t. cond t (drop (length b) (pending c.number H)) (pending c.number H)) (eq-eqb c.number x its.number));
                 fits = subst (λ K. Fits c.to.settings c.number K now.ear) (sym (chronicle_now H (move.Piece x (length b) at) c.to at (input.Piece x b)))
-                    (fits_piece c.to.settings (journal c.to H) T.entry refl c.number b was.ear now.ear (ap (λ k. input.Piece k b) (sym its.number)) (λ o e. (heard.ear c.to.settings.id o e).1) is.fits);
+                    (fits_piece c.to.settings (journal c.to H) T.entry c.number b was.ear now.ear (ap (λ k. input.Piece k b) (sym its.number)) (λ o e. (heard.ear c.to.settings.id o e).1) is.fits);
               });
             }
         by false z =
@@ -109,7 +109,7 @@ module _ (H : List Happening) (x place most at : ℕ) (net : Network) (s : Stand
               number = h.number;
               row = h.row;
               there = ap (nth y) rows ∙ nth_other x place y net.conns.items now under z ∙ h.there;
-              is = conn_still H (move.Piece x (length b) at) (piece_still x (length b) at) c.to at (input.Piece x b) is.to_known refl d h.row (not_its d.number far)
+              is = conn_still H (move.Piece x (length b) at) (piece_still x (length b) at) c.to at (input.Piece x b) is.to_known d h.row (not_its d.number far)
                   (ap (λ t. cond t (drop (length b) (pending d.number H)) (pending d.number H)) far) h.is;
             }
 
@@ -119,7 +119,7 @@ module _ (H : List Happening) (x place most at : ℕ) (net : Network) (s : Stand
       conns_are = record {
         count = ap (λ xs. length xs) rows ∙ set_length net.conns.items place now ∙ s.conns_are.count;
         each = conns_now;
-        silent = λ d k y z. silent_more H (move.Piece x (length b) at) (piece_still x (length b) at) c.to at (input.Piece x b) is.to_known refl y (not_its y (beyond y z)) (λ w l. s.conns_are.silent w l y z) d k;
+        silent = λ d k y z. silent_more H (move.Piece x (length b) at) (piece_still x (length b) at) c.to at (input.Piece x b) is.to_known y (not_its y (beyond y z)) (λ w l. s.conns_are.silent w l y z) d k;
       };
       pending_is =
           let f = sum_set (λ (y : Carrier). length y.waiting) net.conns.items place was now before in
@@ -147,9 +147,10 @@ module _ (H : List Happening) (x place most at : ℕ) (net : Network) (s : Stand
 
 -- ---- two pieces are one
 
-dropped : (k : ℕ) → drop k ([] : List ℕ) ≡ []
-dropped zero = refl
-dropped (suc k) = refl
+dropped : (k : ℕ) (o : List ℕ) → o ≡ [] → drop k o ≡ []
+dropped zero o e = e
+dropped (suc k) [] e = refl
+dropped (suc k) (z ∷ o) e = absurd cc
 
 but_sends : (a : Incarnation) (xs : List Act) → filter_map (broadcast_in a) (but_offers xs) ≡ filter_map (broadcast_in a) xs
 but_sends a [] = refl
@@ -168,14 +169,6 @@ but_connects a (act.Connect l to ∷ xs) = ap (λ ys. record { from = a; link = 
 but_connects a (act.CloseLink l ∷ xs) = but_connects a xs
 but_connects a (act.CloseConn k ∷ xs) = but_connects a xs
 but_connects a (act.Answer k o ∷ xs) = but_connects a xs
-
-one_first : {B : Type 0} (o : Option B) (xs ys : List B) → cons_option o (xs ++ ys) ≡ cons_option o xs ++ ys
-one_first None xs ys = refl
-one_first (Some z) xs ys = refl
-
-filter_map-both : {A B : Type 0} (f : A → Option B) (xs ys : List A) → filter_map f (xs ++ ys) ≡ filter_map f xs ++ filter_map f ys
-filter_map-both f [] ys = refl
-filter_map-both f (x ∷ xs) ys = ap (cons_option (f x)) (filter_map-both f xs ys) ∙ one_first (f x) (filter_map f xs) (filter_map f ys)
 
 map-two : {A B : Type 0} (f : A → B) (xs ys : List A) → map f (xs ++ ys) ≡ map f xs ++ map f ys
 map-two f [] ys = refl
@@ -327,7 +320,7 @@ module _ (H : List Happening) (x i j at : ℕ) (w : Incarnation) (known : IsKnow
 
     drop-twice : (n m : ℕ) (o : List ℕ) → drop m (drop n o) ≡ drop (n + m) o
     drop-twice zero m o = let e : m ≡ 0 + m = omega arith in ap (λ k. drop k o) e
-    drop-twice (suc n) m [] = dropped m ∙ sym (dropped (suc n + m))
+    drop-twice (suc n) m [] = dropped m [] refl ∙ sym (dropped (suc n + m) [] refl)
     drop-twice (suc n) m (z ∷ o) = drop-twice n m o ∙ (let e : suc (n + m) ≡ suc n + m = omega arith in ap (λ k. drop k (z ∷ o)) e)
 
     pending_same : (y : ℕ) → pending y H2 ≡ pending y W
@@ -375,13 +368,14 @@ module _ (H : List Happening) (x i j at : ℕ) (w : Incarnation) (known : IsKnow
         silent : (v : Incarnation) → IsKnown W v → (y : ℕ) → length (conns W) < y → bytes y (chronicle_of v W) ≡ []
         silent v l y z = for_all (λ u Z. bytes y (chronicle u.settings Z) ≡ []) (λ u Z. bytes y (chronicle u.settings Z) ≡ []) (λ q. sym ((same_cut G I t x a b).octets_are y) ∙ q) (λ u Z q. q) v l (st.conns_are.silent v l y z)
 
-taken-none : (k : ℕ) → take k ([] : List ℕ) ≡ []
-taken-none zero = refl
-taken-none (suc k) = refl
+taken-none : (k : ℕ) (o : List ℕ) → o ≡ [] → take k o ≡ []
+taken-none zero o e = refl
+taken-none (suc k) [] e = refl
+taken-none (suc k) (z ∷ o) e = absurd cc
 
 take-more : (i j : ℕ) (o : List ℕ) → take i o ++ take j (drop i o) ≡ take (i + j) o
 take-more zero j o = let e : j ≡ 0 + j = omega arith in ap (λ k. take k o) e
-take-more (suc i) j [] = taken-none j ∙ sym (taken-none (suc i + j))
+take-more (suc i) j [] = taken-none j [] refl ∙ sym (taken-none (suc i + j) [] refl)
 take-more (suc i) j (z ∷ o) = ap (λ q. z ∷ q) (take-more i j o) ∙ (let e : suc (i + j) ≡ suc i + j = omega arith in ap (λ k. take k (z ∷ o)) e)
 
 -- octets that come one after the other
@@ -397,3 +391,33 @@ pieces_join H x i j at c net there known s =
     once n Z t o e =
         ap (λ d. Happens (move.Piece x n at) (option_map (λ (w : Conn). turn_of w.to at (input.Piece x (take n (pending x Z)))) d) ∷ Z) t
         ∙ ap (λ q. Happens (move.Piece x n at) (Some (turn_of c.to at (input.Piece x q))) ∷ Z) (sym e)
+
+-- ---- as a move
+
+pub hand_on : (H : List Happening) (x count left came at : ℕ) (c : Conn) (net new : Network) → StandsAfter H net → nth x (conns H) ≡ Some c → left ≤ count → came ≤ left
+    → StandsAfter (with_move (move.Piece x came at) (with_move (move.Piece x (count - left) at) H)) new → StandsAfter (with_move (move.Piece x (count - (left - came)) at) H) new
+hand_on H x count left came at c net new s there a b t =
+    let same : count - left + came ≡ count - (left - came) = omega (arith, a, b) in
+    subst (λ n. StandsAfter (with_move (move.Piece x n at) H) new) same (pieces_join H x (count - left) came at c new there (s.conns_are.each x c there).is.to_known t)
+
+pub piece_gone : (H : List Happening) (x count at : ℕ) → Receives H (nth x (conns H)) None → may_come (move.Piece x count at) H ≡ false
+piece_gone H x count at r = not_received H (λ c. leb count (length (pending x H))) (nth x (conns H)) r
+
+pub piece_refused : (H : List Happening) (x count at k : ℕ) (net : Network) (w : ℕ) → Receives H (nth x (conns H)) (Some k) → ((c : Conn) → nth x (conns H) ≡ Some c → w ≡ length (pending x H)) → ltb w count ≡ true → may_come (move.Piece x count at) H ≡ false
+piece_refused H x count at k net w r f z =
+    let q = received H k (nth x (conns H)) r in
+    ap (passes (λ (c : Conn). is_there H c.to && leb count (length (pending x H)))) q.is ∙ ap (λ b. b && leb count (length (pending x H))) q.runs ∙ too_many (leb count (length (pending x H))) refl (f q.conn q.is)
+  where
+    too_many : (b : Bool) → leb count (length (pending x H)) ≡ b → w ≡ length (pending x H) → b ≡ false
+    too_many false e l = refl
+    too_many true e l = let p = leb-true count (length (pending x H)) e in let q = ltb-true w count z in absurd (omega (arith, p, q, l))
+
+pub piece_played : (H : List Happening) (x count at k : ℕ) (net new : Network) (w : ℕ) → Receives H (nth x (conns H)) (Some k) → ((c : Conn) → nth x (conns H) ≡ Some c → w ≡ length (pending x H)) → ltb w count ≡ false
+    → ((c : Conn) → nth x (conns H) ≡ Some c → k ≡ c.to.number → StandsAfter (with_move (move.Piece x count at) H) new) → IsPlayed (move.Piece x count at) H true new
+piece_played H x count at k net new w r f z t =
+    let q = received H k (nth x (conns H)) r in
+    played (move.Piece x count at) H new (ap (passes (λ (c : Conn). is_there H c.to && leb count (length (pending x H)))) q.is ∙ ap (λ b. b && leb count (length (pending x H))) q.runs ∙ few (leb count (length (pending x H))) refl (f q.conn q.is)) (t q.conn q.is q.number)
+  where
+    few : (b : Bool) → leb count (length (pending x H)) ≡ b → w ≡ length (pending x H) → b ≡ true
+    few true e l = refl
+    few false e l = let p = leb-false count (length (pending x H)) e in let q = ltb-false w count z in absurd (omega (arith, p, q, l))

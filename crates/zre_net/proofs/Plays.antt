@@ -3,19 +3,21 @@ use Rattle.std.proofs.Common.{◌≡◌, ℕ, ◌+◌, Bool, true, false, cond, 
 use Rattle.std.specs.Prelude.{option_map, slice_get}
 use Rattle.zre_outside.specs.declared.entry.Command.{Command}
 use Rattle.zre_outside.specs.declared.entry.Input.{Input}
+use Rattle.zre_outside.specs.declared.entry.Input.TheVariants as input
 use Rattle.zre_net.specs.declared.moves.Move.{Move}
 use Rattle.zre_net.specs.declared.moves.Move.TheVariants as move
 use Rattle.zre_net.specs.declared.running.network.Network.{Network}
 use Rattle.zre_net.specs.declared.running.rows.Started.{Started}
 use Rattle.zre_net.specs.declared.running.rows.Carrier.{Carrier}
+use Rattle.zre_net.specs.declared.running.rows.Sent.{Sent}
 use Rattle.zre_net.specs.declared.running.rows.Way.{Way}
-use Rattle.zre_net.specs.Comes.{turn_of, turn, with_move, at_conn, at_link}
+use Rattle.zre_net.specs.Comes.{turn_of, turn, with_move, at_broadcast}
 use Rattle.zre_net.specs.Grammar.{may_come, is_there, passes}
 use Rattle.zre_net.specs.History.{Incarnation, Turn, Happening, Happens, incarnations, running}
 use Rattle.zre_net.specs.Lists.{nth}
-use Rattle.zre_net.specs.Numbers.{Route, Conn, routes, conns}
+use Rattle.zre_net.specs.Numbers.{Broadcast, Route, Conn, broadcasts, routes, conns}
 use Rattle.zre_net.specs.Rows.{running_at, is_at, same_number}
-use Rattle.zre_net.specs.Running.{IsKnown, Finds, AreNodes, HasStarted, IsConn, HasConn, StandsAfter, IsStill, IsKept, IsPlayed, Receives, Sends, way_of}
+use Rattle.zre_net.specs.Running.{IsKnown, Finds, AreNodes, HasStarted, IsConn, HasConn, StandsAfter, IsStill, IsKept, IsPlayed, Receives, Sends, sent_of, way_of}
 use Rattle.zre_net.proofs.Listing.{some_one, nth_map, nth_reach, nth_first, nth_there, all_at}
 
 -- ---- moves that start and end no node, and that do nothing with connections
@@ -287,3 +289,46 @@ pub link_played : (H : List Happening) (m : Move) (i : ℕ → Input) (g at : �
 link_played H m i g at w new may brings r f =
     let q = sent_by H w (nth g (routes H)) r in
     played m H new (may ∙ q.may) (subst (λ t. StandsAfter (Happens m t ∷ H) new) (sym brings) (at_its_link H m i at w.link new q.route (nth g (routes H)) q.is (ap (λ (v : Way). v.link) q.way) (f q.route.from q.there)))
+
+-- ---- beacons
+
+and_none : (b : Bool) → (b && false) ≡ false
+and_none true = refl
+and_none false = refl
+
+pub no_beacon : (H : List Happening) (net : Network) (k n at : ℕ) → StandsAfter H net → None ≡ nth k net.beacons → may_come (move.Beacon k n at) H ≡ false
+no_beacon H net k n at s e = by (nth k (broadcasts H)) refl
+  where
+    by : (o : Option Broadcast) → nth k (broadcasts H) ≡ o → (is_some (running n H) && is_some o) ≡ false
+    by None z = and_none (is_some (running n H))
+    by (Some b) z = absurd (let q = e ∙ ap (nth k) s.nodes.beacons ∙ nth_map sent_of k (broadcasts H) ∙ ap (option_map sent_of) z in cc)
+
+pub hears : (H : List Happening) (net new : Network) (k n l at : ℕ) (w : Sent) → StandsAfter H net → Some l ≡ running_at n net.running.items → Some w ≡ nth k net.beacons
+    → ((a : Incarnation) → nth l (incarnations H) ≡ Some a → StandsAfter (Happens (move.Beacon k n at) (Some (turn_of a at (input.Datagram w.from w.octets))) ∷ H) new) → IsPlayed (move.Beacon k n at) H true new
+hears H net new k n l at w s e q f = by (nth k (broadcasts H)) refl
+  where
+    r : Runs H n l (running n H)
+    r = runs_there H net n l s e
+
+    p : Some w ≡ option_map sent_of (nth k (broadcasts H))
+    p = q ∙ ap (nth k) s.nodes.beacons ∙ nth_map sent_of k (broadcasts H)
+
+    by : (o : Option Broadcast) → nth k (broadcasts H) ≡ o → IsPlayed (move.Beacon k n at) H true new
+    by None z = absurd (let x = p ∙ ap (option_map sent_of) z in cc)
+    by (Some b) z =
+        let same : w ≡ sent_of b = some_one (p ∙ ap (option_map sent_of) z) in
+        let brings : turn (move.Beacon k n at) H ≡ Some (turn_of r.who at (input.Datagram w.from w.octets)) =
+            ap (at_broadcast n at H) z ∙ ap (option_map (λ a. turn_of a at (input.Datagram b.from.settings.host b.octets))) r.is ∙ ap (λ (v : Sent). Some (turn_of r.who at (input.Datagram v.from v.octets))) (sym same) in
+        played (move.Beacon k n at) H new (ap (λ o. is_some o && is_some (nth k (broadcasts H))) r.is ∙ ap (λ o. is_some o) z)
+            (subst (λ t. StandsAfter (Happens (move.Beacon k n at) t ∷ H) new) (sym brings) (f r.who r.there))
+
+-- ---- a connection that closes
+
+pub shut_gone : (H : List Happening) (x at : ℕ) (new : Network) → Receives H (nth x (conns H)) None → IsPlayed (move.Shut x at) H false new
+shut_gone H x at new r = refused (move.Shut x at) H new (not_there H (nth x (conns H)) r)
+
+pub shut_played : (H : List Happening) (x at k : ℕ) (new : Network) → Receives H (nth x (conns H)) (Some k)
+    → ((a : Incarnation) → nth k (incarnations H) ≡ Some a → StandsAfter (Happens (move.Shut x at) (Some (turn_of a at (input.Shut x))) ∷ H) new) → IsPlayed (move.Shut x at) H true new
+shut_played H x at k new r f =
+    let q = received H k (nth x (conns H)) r in
+    played (move.Shut x at) H new (ap (passes (λ (c : Conn). is_there H c.to)) q.is ∙ q.runs) (at_its_conn H (move.Shut x at) (λ c. input.Shut x) at new q.conn (nth x (conns H)) q.is (f q.conn.to q.there))

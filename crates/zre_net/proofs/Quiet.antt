@@ -14,15 +14,17 @@ use Rattle.zre_net.specs.declared.moves.Part.TheVariants as part
 use Rattle.zre_net.specs.declared.running.network.Network.{Network}
 use Rattle.zre_net.specs.declared.running.rows.Started.{Started}
 use Rattle.zre_net.specs.declared.running.rows.Carrier.{Carrier}
+use Rattle.zre_net.specs.declared.running.rows.Way.{Way}
 use Rattle.zre_net.specs.Carried.{spelling, appended, pending}
-use Rattle.zre_net.specs.Grammar.{can_carry}
+use Rattle.zre_net.specs.Grammar.{can_carry, may_come, passes}
 use Rattle.zre_net.specs.History.{Incarnation, Happening, Happens, incarnations, running, journal, chronicle_of}
 use Rattle.zre_net.specs.Lines.{octets_in, messages_at}
 use Rattle.zre_net.specs.Lists.{nth}
 use Rattle.zre_net.specs.Numbers.{Route, Conn, routes, conns, queued_on}
-use Rattle.zre_net.specs.Rows.{running_at, with_running, HasStopped, part_octets, IsLoaded, Fits}
-use Rattle.zre_net.specs.Running.{IsKnown, IsStarted, HasStarted, AreStarted, Finds, AreNodes, IsConn, HasConn, AreConns, StandsAfter}
+use Rattle.zre_net.specs.Rows.{running_at, with_running, HasStopped, part_octets, IsSpelledAt, IsLoaded, Fits}
+use Rattle.zre_net.specs.Running.{IsKnown, IsStarted, HasStarted, AreStarted, Finds, AreNodes, IsConn, HasConn, AreConns, StandsAfter, IsPlayed}
 use Rattle.zre_net.specs.Sender.{spelled}
+use Rattle.zre_net.proofs.Plays.{played, not_running, runs_there, Runs, conn_found, conn_missing, IsFound}
 use Rattle.zre_net.proofs.Listing.{some_one, in_reach, nth_at, nth_same, nth_other, nth_map, set_length, sum_set, all_map}
 
 -- ---- a node is gone
@@ -206,3 +208,35 @@ module _ (H : List Happening) (x place : ℕ) (p : Part) (net new : Network) (s 
         let a = length-append was.waiting o in
         omega (arith, f, w, l, a, pending_now, s.pending_is);
   }
+
+-- ---- as moves
+
+pub crash_refused : (H : List Happening) (net : Network) (n : ℕ) → StandsAfter H net → None ≡ running_at n net.running.items → may_come (move.Crash n) H ≡ false
+crash_refused H net n s e = not_running H net n s e
+
+pub crash_played : (H : List Happening) (n k : ℕ) (net new : Network) → StandsAfter H net → Some k ≡ running_at n net.running.items → StandsAfter (Happens (move.Crash n) None ∷ H) new → IsPlayed (move.Crash n) H true new
+crash_played H n k net new s e t = let r = runs_there H net n k s e in played (move.Crash n) H new (ap (λ o. is_some o) r.is) t
+
+module _ (H : List Happening) (net : Network) (s : StandsAfter H net) (x : ℕ) (p : Part) (y : Carrier) (found : nth x net.conns.items ≡ Some y) where
+  f : IsFound H x y
+  f = conn_found H net s x y found
+
+  row_of : HasStarted H f.conn.along.from.number f.conn.along.from net.started.items
+  row_of = s.nodes.started.each f.conn.along.from.number f.conn.along.from f.is.along_known
+
+  spelled_row : (o : Option (List ℕ)) → IsSpelledAt (nth y.along.start net.started.items) y.along.link p o → o ≡ part_octets row_of.row f.conn.along.link p
+  spelled_row o q = subst (λ r. IsSpelledAt r f.conn.along.link p o) row_of.there (subst (λ (w : Way). IsSpelledAt (nth w.start net.started.items) w.link p o) f.is.along q)
+
+  pub carry_refused : IsSpelledAt (nth y.along.start net.started.items) y.along.link p None → may_come (move.Carry x p) H ≡ false
+  carry_refused q = ap (passes (can_carry H p)) f.there ∙ part_missing H f.conn.along row_of.row row_of.is p f.conn refl (sym (spelled_row None q))
+
+  pub carry_played : (o : List ℕ) → IsSpelledAt (nth y.along.start net.started.items) y.along.link p (Some o) → (place : ℕ) (was now : Carrier) (new : Network) → x ≡ place + 1 → slice_get net.conns.items place ≡ Some was → IsLoaded was o now
+      → new.conns.items ≡ slice_set net.conns.items place now → new.pending ≡ net.pending + length o → new.started ≡ net.started → new.running ≡ net.running → new.owners ≡ net.owners → new.said ≡ net.said → new.beacons ≡ net.beacons → new.links ≡ net.links → new.queued ≡ net.queued
+      → IsPlayed (move.Carry x p) H true new
+  carry_played o q place was now new under before loaded rows pending_now started runs owners said beacons links queued =
+      let t = part_there H f.conn.along row_of.row row_of.is p f.conn refl o (sym (spelled_row (Some o) q)) in
+      played (move.Carry x p) H new (ap (passes (can_carry H p)) f.there ∙ t.0)
+      (carry_stands H x place p net new s f.conn f.there was now under before o t.1 loaded rows pending_now started runs owners said beacons links queued)
+
+pub carry_missing : (H : List Happening) (net : Network) (x : ℕ) (p : Part) → StandsAfter H net → nth x net.conns.items ≡ None → may_come (move.Carry x p) H ≡ false
+carry_missing H net x p s e = ap (passes (can_carry H p)) (conn_missing H net s x e)

@@ -19,11 +19,11 @@ history_more (y ∷ ys) m H = history_more ys m (with_move y H)
 
 later_bad : (n : ℕ) (ys zs : List Move) (H : List Happening) → bad_move_after n ys H ≡ None → bad_move_after n (ys ++ zs) H ≡ bad_move_after (n + length ys) zs (history_after ys H)
 later_bad n [] zs H e = let z : n ≡ n + 0 = omega arith in ap (λ k. bad_move_after k zs H) z
-later_bad n (m ∷ ys) zs H e = by (is_good m H) e
+later_bad n (m ∷ ys) zs H e = by (is_good m H) e (λ z. later_bad (n + 1) ys zs (with_move m H) z)
   where
-    by : (b : Bool) → cond b (bad_move_after (n + 1) ys (with_move m H)) (Some n) ≡ None → cond b (bad_move_after (n + 1) (ys ++ zs) (with_move m H)) (Some n) ≡ bad_move_after (n + length (m ∷ ys)) zs (history_after ys (with_move m H))
-    by true z = later_bad (n + 1) ys zs (with_move m H) z ∙ (let q : n + 1 + length ys ≡ n + length (m ∷ ys) = omega arith in ap (λ k. bad_move_after k zs (history_after ys (with_move m H))) q)
-    by false z = absurd cc
+    by : (b : Bool) → cond b (bad_move_after (n + 1) ys (with_move m H)) (Some n) ≡ None → (bad_move_after (n + 1) ys (with_move m H) ≡ None → bad_move_after (n + 1) (ys ++ zs) (with_move m H) ≡ bad_move_after (n + 1 + length ys) zs (history_after ys (with_move m H))) → cond b (bad_move_after (n + 1) (ys ++ zs) (with_move m H)) (Some n) ≡ bad_move_after (n + length (m ∷ ys)) zs (history_after ys (with_move m H))
+    by true z f = f z ∙ (let q : n + 1 + length ys ≡ n + length (m ∷ ys) = omega arith in ap (λ k. bad_move_after k zs (history_after ys (with_move m H))) q)
+    by false z f = absurd cc
 
 bad_at : (line : ℕ) (ys zs : List Move) → bad_move ys ≡ None → line ≡ 2 + length ys → bad_move (ys ++ zs) ≡ bad_move_after line zs (history ys)
 bad_at line ys zs e l = later_bad 2 ys zs [] e ∙ ap (λ k. bad_move_after k zs (history ys)) (sym l)

@@ -186,3 +186,20 @@ module _ (H : List Happening) (n at : ℕ) (id : PeerId) (name host : List ℕ) 
             by : (nth b.number (incarnations H) ≡ Some b) ⊎ ((b.number ≡ length (incarnations H) + 1) × (b ≡ a)) → bytes x (chronicle_of b N) ≡ []
             by (inl q) = s.conns_are.silent b q x z
             by (inr q) = ap (λ c. bytes x (chronicle_of c N)) q.1 ∙ ap (λ J. bytes x (chronicle a.settings J)) none_yet
+
+-- ---- whether one may
+
+same_none : (H : List Happening) (n : ℕ) (o : Option Incarnation) (f : Option ℕ) → Finds H n o f → is_none f ≡ is_none o
+same_none H n None f z = ap (λ x. is_none x) z
+same_none H n (Some a) f z = ap (λ x. is_none x) z.0
+
+pub may_start : (H : List Happening) (net : Network) (n at : ℕ) (id : PeerId) (name host : List ℕ) (port : ℕ) → StandsAfter H net
+    → (is_none (running_at n net.running.items) && (list_all (fits_owner n id) net.owners && ltb 0 port)) ≡ may_come (move.Start n at id name host port) H
+may_start H net n at id name host port s =
+    ap (λ b. b && (list_all (fits_owner n id) net.owners && ltb 0 port)) (same_none H n (running n H) (running_at n net.running.items) (s.nodes.runs n))
+    ∙ ap (λ b. is_none (running n H) && (b && ltb 0 port)) (ap (list_all (fits_owner n id)) s.nodes.owners ∙ owners_same n id (incarnations H))
+    ∙ grouped (is_none (running n H)) (list_all (agrees n id) (incarnations H)) (ltb 0 port)
+  where
+    grouped : (a b c : Bool) → (a && (b && c)) ≡ (a && b && c)
+    grouped true b c = refl
+    grouped false b c = refl

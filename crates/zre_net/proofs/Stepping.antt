@@ -1,6 +1,8 @@
 -- The nodes of a network, after an entry of one of them.
 use Rattle.std.proofs.Common.{◌≡◌, ◌⊎◌, ℕ, ◌+◌, ◌≤◌, ◌<◌, max, Bool, true, false, cond, eqb, List, [], ◌∷◌, ◌++◌, length, map, Option, Some, None, refl, sym, ap, ◌∙◌, subst, inl, inr, arith, eqb-true, eq-eqb, append_assoc}
-use Rattle.std.specs.Prelude.{slice_get, slice_set, sum_by}
+use Rattle.std.specs.Prelude.{slice_get, slice_set, sum_by, get_or, take}
+use Rattle.std.specs.List.{cons_option}
+use Rattle.std.proofs.lemmas.List.{take_more}
 use Rattle.std.specs.List.{filter_map, AllByRecursion}
 use Rattle.std.specs.Option.{option_map}
 use Rattle.zre_outside.specs.declared.act.Act.{Act}
@@ -35,6 +37,25 @@ use Rattle.zre_net.proofs.Listing.{some_one, in_reach, nth_at, nth_reach, nth_sa
 map-both : {A B : Type 0} (f : A → B) (xs ys : List A) → map f (xs ++ ys) ≡ map f xs ++ map f ys
 map-both f [] ys = refl
 map-both f (x ∷ xs) ys = ap (λ zs. f x ∷ zs) (map-both f xs ys)
+
+one_first : {B : Type 0} (o : Option B) (xs ys : List B) → cons_option o (xs ++ ys) ≡ cons_option o xs ++ ys
+one_first None xs ys = refl
+one_first (Some z) xs ys = refl
+
+pub filter_map-both : {A B : Type 0} (f : A → Option B) (xs ys : List A) → filter_map f (xs ++ ys) ≡ filter_map f xs ++ filter_map f ys
+filter_map-both f [] ys = refl
+filter_map-both f (x ∷ xs) ys = ap (cons_option (f x)) (filter_map-both f xs ys) ∙ one_first (f x) (filter_map f xs) (filter_map f ys)
+
+
+-- what one act more brings
+pub one_more : {B : Type 0} (f : Act → Option B) (xs ys zs : List B) (acts : List Act) (i : ℕ) (a : Act) → i < length acts → a ≡ get_or acts i a → ys ≡ xs ++ filter_map f (take i acts) → zs ≡ ys ++ filter_map f (a ∷ []) → zs ≡ xs ++ filter_map f (take (i + 1) acts)
+one_more f xs ys zs acts i a lt is e q =
+    q ∙ ap (λ ws. ws ++ filter_map f (a ∷ [])) e ∙ append_assoc xs (filter_map f (take i acts)) (filter_map f (a ∷ []))
+    ∙ ap (λ ws. xs ++ ws) (sym (filter_map-both f (take i acts) (a ∷ [])) ∙ ap (filter_map f) (sym (take_more acts i a lt ∙ ap (λ x. take i acts ++ x ∷ []) (sym is))))
+
+-- what one event more tells
+pub tell_more : (n : ℕ) (xs ys zs : List (ℕ × Event)) (es : List Event) (e : Event) → ys ≡ xs ++ map (λ x. (n, x)) es → zs ≡ ys ++ (n, e) ∷ [] → zs ≡ xs ++ map (λ x. (n, x)) (es ++ e ∷ [])
+tell_more n xs ys zs es e p q = q ∙ ap (λ ws. ws ++ (n, e) ∷ []) p ∙ append_assoc xs (map (λ x. (n, x)) es) ((n, e) ∷ []) ∙ ap (λ ws. xs ++ ws) (sym (map-both (λ (x : Event). (n, x)) es (e ∷ [])))
 
 -- ---- journals
 

@@ -111,11 +111,10 @@ pub record IsKept (m : Move) : Type 0 where
   pub conns_stay : (t : Option Turn) (H : List Happening) → conns (Happens m t ∷ H) ≡ conns H
   pub pending_stay : (t : Option Turn) (H : List Happening) (x : ℕ) → pending x (Happens m t ∷ H) ≡ pending x H
 
--- an entry that is neither about the opening of a connection, nor a piece of one, nor the end
+-- an entry that is neither about the opening of a connection nor a piece of one
 abbrev pub IsSilent : Input → Type 0
 IsSilent (input.Opened c) = ⊥
 IsSilent (input.Piece c o) = ⊥
-IsSilent input.End = ⊥
 IsSilent _ = Unit {0}
 
 -- a move has come, if it may, but for the octets

@@ -1,6 +1,6 @@
 //! What a connection says, read beside the node to which it is handed.
 
-ghost use Rattle.std.specs.Prelude.{◌≡◌, ◌++◌, ℕ, List, [], length, IfOk};
+ghost use Rattle.std.specs.Prelude.{◌≡◌, ◌+◌, ◌++◌, ℕ, List, [], length, IfOk};
 ghost use Rattle.zre_values.specs.declared.peer_id.PeerId.{PeerId as PeerIdValue};
 ghost use Rattle.zre_mailbox.specs.Conn.{conn_after};
 ghost use Rattle.zre_mailbox.specs.Talk.{completed};

@@ -1,6 +1,7 @@
 //! The moves but for pieces, one by one. Each answers whether it may come.
 
-ghost use Rattle.std.specs.Prelude.{◌≡◌, List, IfOk, OnOk};
+ghost use Rattle.std.specs.Prelude.{◌≡◌, ℕ, List, IfOk, OnOk};
+ghost use Rattle.zre_net.specs.Grammar.{may_come};
 ghost use Rattle.zre_net.specs.declared.moves.Move.TheVariants as MoveValue;
 ghost use Rattle.zre_net.specs.History.{Happening, settings_of};
 ghost use Rattle.zre_net.specs.Lists.{nth as nth_of};
@@ -93,6 +94,14 @@ fn load(carrier: &mut Carrier, octets: Bytes) -> Result<(), OutOfMemory>
 }
 
 impl Network {
+    // Whether a node may start.
+    fn may_start(&self, node: u8, id: PeerId, port: u16) -> bool
+        ensures { (H : List Happening) (at : ℕ) (name host : List ℕ) → StandsAfter H self.now →
+            result ≡ may_come (MoveValue.Start node at id name host port) H }
+    {
+        self.runner(node).is_none() && may_have(self.owners.as_slice(), node, id) && 0 < port
+    }
+
     /// A node starts.
     pub fn start(
         &mut self,
@@ -106,7 +115,7 @@ impl Network {
         ensures { (H : List Happening) → StandsAfter H self.old →
             IfOk result (λ may. IsPlayed (MoveValue.Start node at id name host port) H may self.new) }
     {
-        if self.runner(node).is_some() || !may_have(self.owners.as_slice(), node, id) || port == 0 {
+        if !self.may_start(node, id, port) {
             return Ok(false);
         }
         let started = begin(

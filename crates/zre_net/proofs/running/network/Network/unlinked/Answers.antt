@@ -2,7 +2,7 @@ use Rattle.std.proofs.Common.{◌≡◌, List, refl, ap, sym, ◌∙◌}
 use Rattle.zre_outside.specs.declared.entry.Input.TheVariants as input
 use Rattle.zre_net.specs.declared.moves.Move.TheVariants as move
 use Rattle.zre_net.proofs.Plays.{link_refused, link_played, unlinked_still, unlinked_kept}
-use Rattle.zre_net.proofs.running.plays.Network.unlinked.Goals as goal
+use Rattle.zre_net.proofs.running.network.Network.unlinked.Goals as goal
 
 pub returns-in_default : goal.returns-in_default
 returns-in_default c = λ H s. link_refused (move.Unlinked c.args.link c.args.at) H c.args.link _ refl (c.in_default.ensures H s)

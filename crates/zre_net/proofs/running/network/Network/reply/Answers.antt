@@ -2,7 +2,7 @@ use Rattle.std.proofs.Common.{◌≡◌, List, refl, ap, sym, ◌∙◌}
 use Rattle.zre_outside.specs.declared.entry.Input.TheVariants as input
 use Rattle.zre_net.specs.declared.moves.Move.TheVariants as move
 use Rattle.zre_net.proofs.Plays.{link_refused, link_played, reply_still, reply_kept}
-use Rattle.zre_net.proofs.running.plays.Network.reply.Goals as goal
+use Rattle.zre_net.proofs.running.network.Network.reply.Goals as goal
 
 pub returns-in_default : goal.returns-in_default
 returns-in_default c = λ H s. link_refused (move.Reply c.args.link c.args.at c.args.bytes) H c.args.link _ refl (c.in_default.ensures H s)

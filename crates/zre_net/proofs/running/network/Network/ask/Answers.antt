@@ -2,7 +2,7 @@ use Rattle.std.proofs.Common.{◌≡◌, List, refl, ap, sym, ◌∙◌}
 use Rattle.zre_outside.specs.declared.entry.Input.TheVariants as input
 use Rattle.zre_net.specs.declared.moves.Move.TheVariants as move
 use Rattle.zre_net.proofs.Plays.{refused, not_running, plays_at, do_still, do_kept}
-use Rattle.zre_net.proofs.running.plays.Network.ask.Goals as goal
+use Rattle.zre_net.proofs.running.network.Network.ask.Goals as goal
 
 pub returns-in_default : goal.returns-in_default
 returns-in_default c = λ H s. refused (move.Do c.args.node c.args.at c.args.command) H _ (not_running H _ c.args.node s c.in_default.ensures)
