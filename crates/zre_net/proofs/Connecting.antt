@@ -1,6 +1,6 @@
 -- The connections of a network, after an entry of one of its nodes.
 use Rattle.std.proofs.Common.{◌≡◌, ◌⊎◌, ℕ, ◌+◌, ◌≤◌, ◌<◌, Bool, true, false, cond, eqb, List, [], ◌∷◌, ◌++◌, length, Option, Some, None, refl, sym, ap, ◌∙◌, subst, inl, inr, arith, eqb-true, eq-eqb, append-nil}
-use Rattle.std.specs.Prelude.{sum_by}
+use Rattle.std.specs.Prelude.{sum_by, Result, Ok, Err, OnOk}
 use Rattle.zre_outside.specs.declared.entry.Input.{Input}
 use Rattle.zre_journal.specs.Chronicle.{Mark, Comes}
 use Rattle.zre_journal.specs.Heard.{bytes, piece_of}
@@ -82,3 +82,7 @@ module _ (H : List Happening) (m : Move) (still : IsStill m) (a : Incarnation) (
     conns_are = subst (λ ys. AreConns N ys.items) (sym c) (conns_more kept quiet net.conns.items s.conns_are);
     pending_is = p ∙ s.pending_is ∙ ap (λ ys. sum_by (λ (y : Carrier). length y.waiting) ys.items) (sym c);
   }
+
+pub on_all : {T E A B C D : Type 0} (r : Result T E) → OnOk r A → OnOk r B → OnOk r C → (A → B → C → D) → OnOk r D
+on_all (Ok x) a b c f = f a b c
+on_all (Err x) a b c f = tt

@@ -1,5 +1,5 @@
 -- The ear of a connection, after an entry of its node.
-use Rattle.std.proofs.Common.{◌≡◌, ◌⊎◌, ℕ, ◌+◌, ◌≤◌, ◌<◌, Bool, true, false, cond, not, ◌&&◌, eqb, ltb, List, [], ◌∷◌, ◌++◌, length, map, drop, refl, subst, ltb-true, sym, ap, ◌∙◌, inl, inr, arith, append-nil, true≢false, eqb-true, eq-eqb}
+use Rattle.std.proofs.Common.{◌≡◌, ◌⊎◌, ℕ, ◌+◌, ◌≤◌, ◌<◌, Bool, true, false, cond, not, ◌&&◌, eqb, ltb, List, [], ◌∷◌, ◌++◌, length, map, drop, refl, subst, ltb-true, sym, ap, ◌∙◌, inl, inr, arith, append_assoc, append-nil, true≢false, eqb-true, eq-eqb}
 use Rattle.zre_outside.specs.declared.entry.Entry.{Entry}
 use Rattle.zre_outside.specs.declared.entry.Input.{Input}
 use Rattle.zre_outside.specs.declared.entry.Input.TheVariants as input
@@ -50,8 +50,12 @@ inner_map f n [] hs a = a
 inner_map f n (x ∷ xs) hs a = (n x, inner_map f n xs hs a)
 
 inner_stop : (g : Config) (K : List Mark) → AreInner (at_stop g K)
-inner_stop g K = inner_map (λ (v : Life). Ends v.link cause.Stop) (λ v. refl) (lives K) (map (λ c. ClosesAtStop c) (open_ones K) ++ SendsBeacon 0 ∷ Stops ∷ [])
-    (inner_map (λ c. ClosesAtStop c) (λ c. refl) (open_ones K) (SendsBeacon 0 ∷ Stops ∷ []) (refl, (refl, tt)))
+inner_stop g K =
+    let xs = map (λ (v : Life). Ends v.link cause.Stop) (lives K) in
+    let ys = map (λ c. ClosesAtStop c) (open_ones K) in
+    subst AreInner (sym (append_assoc xs ys (SendsBeacon 0 ∷ Stops ∷ [])))
+    (inner_map (λ (v : Life). Ends v.link cause.Stop) (λ v. refl) (lives K) (ys ++ SendsBeacon 0 ∷ Stops ∷ [])
+    (inner_map (λ c. ClosesAtStop c) (λ c. refl) (open_ones K) (SendsBeacon 0 ∷ Stops ∷ []) (refl, (refl, tt))))
 
 bytes_after : (d : ℕ) (hs K : List Mark) → AreInner hs → bytes d (after hs K) ≡ bytes d K
 bytes_after d [] K n = refl

@@ -136,15 +136,15 @@ same_fields H net mid said started running owners beacons links queued n = recor
   queued = queued ∙ n.queued ∙ ap (λ xs. sum_by (λ (x : Started). octets_in x.sender.lines) xs.items) (sym started);
 }
 
-pub opens_played : (H : List Happening) (net mid new : Network) (s : StandsAfter H net) (g n at k num : ℕ) (w : Way) (x : Started) (y : Carrier) → Some k ≡ running_at n net.running.items → Some w ≡ nth g net.links → Some x ≡ nth k net.started.items
-    → y.to ≡ k → y.along ≡ w → y.waiting ≡ [] → y.ear.conn ≡ conn_after x.id [] → mid.conns.items ≡ net.conns.items ++ y ∷ [] → num ≡ length mid.conns.items
-    → ((a : Incarnation) → nth k (incarnations H) ≡ Some a → AreNodes (Happens (move.Open g n at) (Some (turn_of a at (input.Opened num))) ∷ H) new) → new.conns ≡ mid.conns → new.pending ≡ net.pending → IsPlayed (move.Open g n at) H true new
-opens_played H net mid new s g n at k num w x y e l t to along waiting ear rows count f conns_stay pending_stay =
+pub opens_played : (H : List Happening) (net new : Network) (mid : List Carrier) (s : StandsAfter H net) (g n at k num : ℕ) (w : Way) (x : Started) (y : Carrier) → Some k ≡ running_at n net.running.items → Some w ≡ nth g net.links → Some x ≡ nth k net.started.items
+    → y.to ≡ k → y.along ≡ w → y.waiting ≡ [] → y.ear.conn ≡ conn_after x.id [] → mid ≡ net.conns.items ++ y ∷ [] → num ≡ length mid
+    → ((a : Incarnation) → nth k (incarnations H) ≡ Some a → AreNodes (Happens (move.Open g n at) (Some (turn_of a at (input.Opened num))) ∷ H) new) → new.conns.items ≡ mid → new.pending ≡ net.pending → IsPlayed (move.Open g n at) H true new
+opens_played H net new mid s g n at k num w x y e l t to along waiting ear rows count f conns_stay pending_stay =
     played (move.Open g n at) H new (ap (λ o. is_some o && is_some (nth g (routes H))) r.is ∙ ap (λ o. is_some o) q.there)
     (subst (λ u. StandsAfter (Happens (move.Open g n at) u ∷ H) new) (sym brings)
     (open_stands H g n at net new s r.who q.route r.known r.is q.there q.known (length (conns H) + 1) refl
         (subst (λ j. AreNodes (Happens (move.Open g n at) (Some (turn_of r.who at (input.Opened j))) ∷ H) new) next (f r.who r.there))
-        y (to ∙ r.number) (along ∙ q.is) waiting (ear ∙ ap (λ i. conn_after i []) its_id) (ap (λ ys. ys.items) conns_stay ∙ rows) pending_stay))
+        y (to ∙ r.number) (along ∙ q.is) waiting (ear ∙ ap (λ i. conn_after i []) its_id) (conns_stay ∙ rows) pending_stay))
   where
     r : Runs H n k (running_in n H)
     r = runs_there H net n k s e

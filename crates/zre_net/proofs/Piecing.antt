@@ -421,3 +421,13 @@ piece_played H x count at k net new w r f z t =
     few : (b : Bool) → leb count (length (pending x H)) ≡ b → w ≡ length (pending x H) → b ≡ true
     few true e l = refl
     few false e l = let p = leb-false count (length (pending x H)) e in let q = ltb-false w count z in absurd (omega (arith, p, q, l))
+
+-- ---- how much waits
+
+pub waits_for : (H : List Happening) (net : Network) (s : StandsAfter H net) (x : ℕ) (c : Conn) (y : Carrier) → nth x (conns H) ≡ Some c → nth x net.conns.items ≡ Some y → length y.waiting ≡ length (pending x H)
+waits_for H net s x c y t e =
+    let h = s.conns_are.each x c t in
+    ap (λ (r : Carrier). length r.waiting) (some_one (sym e ∙ h.there)) ∙ ap (λ o. length o) h.is.waits ∙ ap (λ k. length (pending k H)) h.number
+
+pub waits_not : (H : List Happening) (net : Network) (s : StandsAfter H net) (x : ℕ) (c : Conn) → nth x (conns H) ≡ Some c → nth x net.conns.items ≡ None → 0 ≡ length (pending x H)
+waits_not H net s x c t e = absurd (let h = (s.conns_are.each x c t).there in cc)

@@ -44,3 +44,8 @@ goes_on ys m line net new g t = record {
 
 pub stops_at : (ys zs : List Move) (m : Move) (line : ℕ) (net new : Network) → Goes ys line net → IsTaken m (history ys) false new → bad_move (ys ++ m ∷ zs) ≡ Some line
 stops_at ys zs m line net new g t = bad_at line ys (m ∷ zs) g.all_good g.line_is ∙ ap (λ b. cond b (bad_move_after (line + 1) zs (with_move m (history ys))) (Some line)) (sym t.fits)
+
+-- all have come
+pub took_all : (given came left : List Move) (n : ℕ) → given ≡ came ++ left → n ≡ length left → n ≡ 0 → came ≡ given
+took_all given came [] n is long none = sym (append-nil came) ∙ sym is
+took_all given came (m ∷ ms) n is long none = absurd (omega (arith, long, none))

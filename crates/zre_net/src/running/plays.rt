@@ -1,6 +1,6 @@
 //! The moves but for pieces, one by one. Each answers whether it may come.
 
-ghost use Rattle.std.specs.Prelude.{◌≡◌, ℕ, List, IfOk, OnOk};
+ghost use Rattle.std.specs.Prelude.{◌≡◌, ◌&&◌, ℕ, List, is_none, IfOk, OnOk};
 ghost use Rattle.zre_net.specs.Grammar.{may_come};
 ghost use Rattle.zre_net.specs.declared.moves.Move.TheVariants as MoveValue;
 ghost use Rattle.zre_net.specs.History.{Happening, settings_of};
@@ -36,6 +36,19 @@ fn settings(alloc: Global, id: PeerId, name: Octets, host: [u8; 4], port: u16) -
         evasive: 5000,
         expired: 30000,
     }
+}
+
+// Whether none runs.
+fn is_free(start: Option<u64>) -> bool
+    ensures { result ≡ is_none start }
+{
+    start.is_none()
+}
+
+fn all(first: bool, second: bool, third: bool) -> bool
+    ensures { result ≡ (first && (second && third)) }
+{
+    first && second && third
 }
 
 // A node that starts.
@@ -99,7 +112,11 @@ impl Network {
         ensures { (H : List Happening) (at : ℕ) (name host : List ℕ) → StandsAfter H self.now →
             result ≡ may_come (MoveValue.Start node at id name host port) H }
     {
-        self.runner(node).is_none() && may_have(self.owners.as_slice(), node, id) && 0 < port
+        all(
+            is_free(self.runner(node)),
+            may_have(self.owners.as_slice(), node, id),
+            0 < port,
+        )
     }
 
     /// A node starts.
