@@ -1,3 +1,4 @@
+pub mod Complete
 pub mod KeyPairs
 pub mod Ledgers
 pub mod Unread

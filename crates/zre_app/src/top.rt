@@ -1,8 +1,9 @@
 //! The top call: the command that the words ask for, over a source and a sink, and for `chat` a world, a recorder and a
 //! spawner.
 
+ghost use Rattle.zre_app.specs.Complete.{Completes};
 ghost use Rattle.zre_app.specs.Does.{Did, KeepsItsLedgers};
-ghost use Rattle.zre_app.specs.Given.{handed, stream_views, views};
+ghost use Rattle.zre_app.specs.Given.{handed, seen_of, stream_views, views};
 ghost use Rattle.zre_app.specs.Words.{command_of};
 
 use crate::chat::chat;
@@ -30,6 +31,9 @@ pub struct Ended<I, W, R> {
 
 /// Does what the words ask for, and reads at most `limit` octets; `chat` takes at most as many turns of the world, too.
 /// What is handed in comes back as it was left.
+///
+/// Where the input is what the command reads, nothing fails and the limit isn't reached, it does all of that, unless memory
+/// runs out.
 pub fn run<
     T: Wait + Threads + Copy,
     I: Source + Send + Drop + 'static,
@@ -53,6 +57,39 @@ pub fn run<
         (command_of words.now) limit result.status (handed input world out.old rec spawner.old)
         (handed result.input result.world out.new result.rec spawner.new) }
     ensures ledgers { KeepsItsLedgers (command_of words.now) }
+    ensures complete { Completes (command_of words.now) limit result.status
+        (seen_of (views (stream_views I.left I.taken I.faults O.written O.faults)
+        W.told W.faults R.kept R.named R.faults P.faults) (handed input world out.old rec spawner.old))
+        (seen_of (views (stream_views I.left I.taken I.faults O.written O.faults)
+        W.told W.faults R.kept R.named R.faults P.faults)
+        (handed result.input result.world out.new result.rec spawner.new)) }
+{
+    dispatch(rt, alloc, words, input, world, out, rec, spawner, limit)
+}
+
+// The plain command, or the chat, that the words are.
+fn dispatch<
+    T: Wait + Threads + Copy,
+    I: Source + Send + Drop + 'static,
+    W: World + Send + Drop + 'static,
+    O: Sink,
+    R: Recorder + Send + Drop + 'static,
+    P: Spawner,
+>(
+    rt: T,
+    alloc: Global,
+    words: &Frames,
+    input: I,
+    world: W,
+    out: &mut O,
+    rec: R,
+    spawner: &mut P,
+    limit: u64,
+) -> Ended<I, W, R>
+    ensures does { Did (views (stream_views I.left I.taken I.faults O.written O.faults)
+        W.told W.faults R.kept R.named R.faults P.faults)
+        (command_of words.now) limit result.status (handed input world out.old rec spawner.old)
+        (handed result.input result.world out.new result.rec spawner.new) }
 {
     if !is_chat(words) {
         let PlainEnded { status, input } = plain(alloc, words, input, out, limit);
@@ -103,6 +140,12 @@ pub fn zre<
         (command_of words.now) LIMIT result.status (handed input world out.old rec spawner.old)
         (handed result.input result.world out.new result.rec spawner.new) }
     ensures ledgers { KeepsItsLedgers (command_of words.now) }
+    ensures complete { Completes (command_of words.now) LIMIT result.status
+        (seen_of (views (stream_views I.left I.taken I.faults O.written O.faults)
+        W.told W.faults R.kept R.named R.faults P.faults) (handed input world out.old rec spawner.old))
+        (seen_of (views (stream_views I.left I.taken I.faults O.written O.faults)
+        W.told W.faults R.kept R.named R.faults P.faults)
+        (handed result.input result.world out.new result.rec spawner.new)) }
 {
     run(rt, alloc, words, input, world, out, rec, spawner, LIMIT)
 }

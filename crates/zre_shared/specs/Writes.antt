@@ -1,11 +1,11 @@
 -- Writes of a shared table as frames of content: fields with one space between.
-use Rattle.std.specs.Prelude.{ℕ, ◌<◌, ◌≤◌, ◌^◌, nat_le, if◌then◌else◌, List, [], ◌∷◌, ◌++◌, length, All, Option, Some, None, option_and_then, codes, decimal}
+use Rattle.std.specs.Prelude.{ℕ, ◌<◌, ◌≤◌, ◌^◌, nat_le, if◌then◌else◌, List, [], ◌∷◌, ◌++◌, length, All, Option, Some, None, codes, decimal}
 use Rattle.std.specs.List.{join_with_byte}
 use Rattle.std.specs.Str.{bytes_eq}
 use Rattle.zre_values.specs.PlainId.{IsPeerId}
 use Rattle.zre_values.specs.Text.{id_text, quoted}
 use Rattle.zre_values.specs.declared.peer_id.PeerId.{PeerId}
-use Rattle.zre_capture.specs.Parts.{between}
+use Rattle.zre_capture.specs.Parts.{between, ◌>>=◌}
 use Rattle.zre_capture.specs.Values.{number_of, id_of, group_of}
 use Rattle.zre_shared.specs.declared.write.Write.{Write}
 use Rattle.zre_shared.specs.declared.write.TheConstants.{KEY_OCTETS, VALUE_OCTETS}
@@ -32,10 +32,6 @@ pub record IsWrite (w : Write) : Type 0 where
   pub value_fits : length w.value ≤ VALUE_OCTETS
 
 -- ---- what a frame says
-
-infixl 10 ◌>>=◌
-abbrev ◌>>=◌ : {A B : Type 0} → Option A → (A → Option B) → Option B
-o >>= f = option_and_then f o
 
 -- octets, where they are at most so many
 abbrev pub at_most : ℕ → List ℕ → Option (List ℕ)

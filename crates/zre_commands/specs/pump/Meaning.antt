@@ -23,6 +23,10 @@ pub record Grows (m : Meaning) (o piece out out' : List ℕ) : Type 0 where
   pub longer : m.text (o ++ piece) ≡ m.text o ++ added
   pub appended : out' ≡ out ++ added
 
+-- what is refused however it goes on is refused with whatever follows
+abbrev pub KeepsRefusing : Meaning → Type 0
+KeepsRefusing m = (o x : List ℕ) → m.is_stopped o ≡ true → m.is_bad (o ++ x) ≡ true
+
 abbrev pub is_stop : Going → Bool
 is_stop On = false
 is_stop Stop = true

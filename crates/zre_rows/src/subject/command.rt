@@ -2,6 +2,7 @@
 
 mod calls;
 mod cut;
+mod narrow;
 mod telling;
 
 use crate::journal::script_of;
@@ -11,6 +12,7 @@ use crate::trouble::Trouble;
 use crate::words::Words;
 use calls::{Ran, Stand, call, call_plain, call_zre};
 use cut::Cut;
+use narrow::Narrow;
 use std::alloc::Global;
 use std::mem;
 use std::sync::Wait;
@@ -32,6 +34,8 @@ pub struct Commands {
     fails: Text,
     /// The sizes of the pieces of the input, or nothing.
     sizes: Text,
+    /// The most octets that the output takes in one write.
+    most: u64,
     limit: u64,
     /// The run that a line asked for.
     due: Option<Due>,
@@ -50,7 +54,7 @@ enum Due {
 
 impl Subject for Commands {
     fn step(&mut self, words: &mut Words<'_>, answer: &mut Text) {
-        steps!(self, words, answer; run, zre, plain, both, words, read, limit, fail, turn, look, octets, line, text,
+        steps!(self, words, answer; run, zre, plain, both, words, read, write, limit, fail, turn, look, octets, line, text,
             input, left, told, kept, file)
     }
 }
@@ -65,6 +69,7 @@ impl Commands {
             script: Text::new(alloc),
             fails: Text::new(alloc),
             sizes: Text::new(alloc),
+            most: u64::MAX,
             limit: u64::MAX,
             due: None,
             left: 0,
@@ -81,6 +86,11 @@ impl Commands {
     fn read(&mut self, words: &mut Words<'_>, _answer: &mut Text) {
         self.sizes.clear();
         self.sizes.put(words.take_rest());
+    }
+
+    // `write N`: its output takes at most so many octets a write.
+    fn write(&mut self, words: &mut Words<'_>, _answer: &mut Text) {
+        self.most = words.number();
     }
 
     fn limit(&mut self, words: &mut Words<'_>, _answer: &mut Text) {
@@ -168,8 +178,11 @@ impl Commands {
         Cut::new(input, sizes, self.calls_of(alloc, "read", answer))
     }
 
-    fn sink(&self, alloc: Global, answer: &mut Text) -> MemSink {
-        MemSink::new(alloc, self.calls_of(alloc, "write", answer))
+    fn sink(&self, alloc: Global, answer: &mut Text) -> Narrow {
+        Narrow::new(
+            MemSink::new(alloc, self.calls_of(alloc, "write", answer)),
+            self.most,
+        )
     }
 
     fn world(&self, alloc: Global, answer: &mut Text) -> Telling {

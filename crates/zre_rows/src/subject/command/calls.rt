@@ -1,12 +1,13 @@
 //! The calls of the program's commands, each in a function of its own.
 
 use crate::subject::command::cut::Cut;
+use crate::subject::command::narrow::Narrow;
 use crate::subject::command::telling::{Naming, Telling};
 use std::alloc::Global;
 use std::sync::Wait;
 use std::thread::Threads;
 use zre_app::{Ended, PlainEnded, Status, is_chat, plain, run, zre};
-use zre_outside::{MemSink, PlainSpawner};
+use zre_outside::PlainSpawner;
 use zre_values::Frames;
 
 /// What a command is run over, but for what it writes to.
@@ -27,7 +28,7 @@ pub fn call_plain(
     alloc: Global,
     words: &Frames,
     input: Cut,
-    out: &mut MemSink,
+    out: &mut Narrow,
     limit: u64,
 ) -> Option<(Status, u64)> {
     if is_chat(words) {
@@ -43,7 +44,7 @@ pub fn call<T: Threads + Wait + Copy + Send + 'static>(
     alloc: Global,
     words: &Frames,
     stand: Stand,
-    out: &mut MemSink,
+    out: &mut Narrow,
     limit: u64,
 ) -> Ran {
     let Stand {
@@ -72,7 +73,7 @@ pub fn call_zre<T: Threads + Wait + Copy + Send + 'static>(
     alloc: Global,
     words: &Frames,
     stand: Stand,
-    out: &mut MemSink,
+    out: &mut Narrow,
 ) -> Ran {
     let Stand {
         input,

@@ -1,0 +1,138 @@
+-- Where nothing fails, a command does all that it is asked for, unless memory runs out.
+use Rattle.std.proofs.Common.{◌≡◌, ◌⊎◌, ℕ, ◌<◌, ◌≤◌, Bool, true, false, List, [], ◌∷◌, ◌++◌, length, Option, Some, None, inl, inr, refl, sym, ap, ◌∙◌, subst, arith, append-nil, length-append}
+use Rattle.std.specs.Prelude.{nat_le, if◌then◌else◌, ⊤}
+use Rattle.std.specs.Io.KnownBytes.{Appends, Consumes, IsAtEnd}
+use Rattle.zre_outside.specs.Causes.{Rose}
+use Rattle.zre_commands.specs.declared.pump.status.Status.{Status}
+use Rattle.zre_commands.specs.declared.pump.status.Status.TheVariants.{Done, Usage, BadInput, ReadFault, WriteFault, WorldFault, NoThread, TooLong, OutOfMemory}
+use Rattle.zre_commands.specs.pump.Meaning.{Meaning, KeepsRefusing, whole_text}
+use Rattle.zre_commands.specs.pump.Outcome.{Outcome, Pumped}
+use Rattle.zre_commands.specs.replay.Replay.{replay, told_replay}
+use Rattle.zre_commands.proofs.Refusing.{show_refuses, follow_refuses, capture_refuses}
+use Rattle.zre_chat.specs.Chat.{Seen, IsChat, IsCaused, AreCaused, IsSpared}
+use Rattle.zre_chat.specs.Statuses.{rank, least}
+use Rattle.zre_capture.specs.declared.format.Format.TheVariants.{First, Second}
+use Rattle.zre_app.specs.declared.command.Command.{Command}
+use Rattle.zre_app.specs.declared.command.Command.TheVariants.{Plain, Chat}
+use Rattle.zre_app.specs.declared.plain_words.Plain.{Plain as PlainCommand}
+use Rattle.zre_app.specs.declared.plain_words.Plain.TheVariants.{Follow, Show, Replay, ReplayTold, Upgrade, Table, Exercise}
+use Rattle.zre_app.specs.Complete.{WellOrShort, NoneRose, CompletesWork, Completes}
+use Rattle.zre_app.specs.Does.{Work, DoesWork, work_of, Does, Did}
+use Rattle.zre_app.specs.Does.Work.{Reads, Writes}
+use Rattle.zre_app.specs.Given.{Streams, streams_of, Handed, Views, seen_of}
+use Rattle.zre_app.specs.Usage.{WritesText}
+
+-- ---- a command that reads
+
+-- what stands after the octets that were taken, and that it is all of the rest
+rest_of : (o taken : List ℕ) (left : Option (List ℕ)) → Consumes (Some o) left taken
+    → (rest : List ℕ) × (o ≡ taken ++ rest) × (IsAtEnd left → rest ≡ [])
+rest_of o taken None c = absurd c
+rest_of o taken (Some rest) c = (rest, c, λ none. none)
+
+both_ways : {A : Type 0} (b : Bool) → b ≡ true → b ≡ false → A
+both_ways true e f = absurd cc
+both_ways false e f = absurd cc
+
+whole_outcome : (m : Meaning) → KeepsRefusing m → (status : Status) (limit : ℕ) (o taken : List ℕ)
+    (left written written' : Option (List ℕ)) (read write : Type 0)
+    → Consumes (Some o) left taken → Outcome status limit m taken left written written' read write
+    → m.is_bad o ≡ false → length o < limit → ¬ read → ¬ write → WellOrShort status (Appends written written' (whole_text m o))
+whole_outcome m keeps Done limit o taken left written written' read write c out good short unread unwritten =
+    let r = rest_of o taken left c in
+    let all : taken ≡ o = sym (r.1 ∙ ap (λ (x : List ℕ). taken ++ x) (r.2 out.1) ∙ append-nil taken) in
+    inl (refl, subst (λ (x : List ℕ). Appends written written' (whole_text m x)) all out.3)
+whole_outcome m keeps BadInput limit o taken left written written' read write c out good short unread unwritten =
+    let r = rest_of o taken left c in
+    elim (out.1) [
+      | inl stopped ↦ both_ways (m.is_bad o) (ap m.is_bad r.1 ∙ keeps taken r.0 stopped) good
+      | inr ended ↦ both_ways (m.is_bad o) (ap m.is_bad (r.1 ∙ ap (λ (x : List ℕ). taken ++ x) (r.2 ended.0) ∙ append-nil taken) ∙ out.0) good
+    ]
+whole_outcome m keeps ReadFault limit o taken left written written' read write c out good short unread unwritten = absurd (unread out.0)
+whole_outcome m keeps WriteFault limit o taken left written written' read write c out good short unread unwritten = absurd (unwritten out.0)
+whole_outcome m keeps TooLong limit o taken left written written' read write c out good short unread unwritten =
+    let r = rest_of o taken left c in
+    absurd (omega (arith, out.0, short, ap length r.1, length-append taken r.0))
+whole_outcome m keeps OutOfMemory limit o taken left written written' read write c out good short unread unwritten = inr refl
+whole_outcome m keeps Usage limit o taken left written written' read write c out good short unread unwritten = absurd out
+whole_outcome m keeps WorldFault limit o taken left written written' read write c out good short unread unwritten = absurd out
+whole_outcome m keeps NoThread limit o taken left written written' read write c out good short unread unwritten = absurd out
+
+reads_all : (m : Meaning) → KeepsRefusing m → (limit : ℕ) (status : Status) (s t : Streams) → DoesWork (Reads m) limit status s t
+    → CompletesWork (Reads m) limit status s t
+reads_all m keeps limit status s t does o told good short unread unwritten =
+    whole_outcome m keeps status limit o does.octets t.left s.written t.written _ _
+    (subst (λ (l : Option (List ℕ)). Consumes l t.left does.octets) told does.moved.consumed) does.outcome good short unread unwritten
+
+-- ---- a command that writes
+
+writes_all : (status : Status) (text : List ℕ) (written written' : Option (List ℕ)) (write : Type 0)
+    → WritesText status text written written' write → ¬ write → WellOrShort status (Appends written written' text)
+writes_all Done text written written' write out unwritten = inl (refl, out)
+writes_all WriteFault text written written' write out unwritten = absurd (unwritten out.0)
+writes_all OutOfMemory text written written' write out unwritten = inr refl
+writes_all Usage text written written' write out unwritten = absurd out
+writes_all BadInput text written written' write out unwritten = absurd out
+writes_all ReadFault text written written' write out unwritten = absurd out
+writes_all WorldFault text written written' write out unwritten = absurd out
+writes_all NoThread text written written' write out unwritten = absurd out
+writes_all TooLong text written written' write out unwritten = absurd out
+
+plain_completes : (p : PlainCommand) (limit : ℕ) (status : Status) (s t : Streams) → DoesWork (work_of p) limit status s t
+    → CompletesWork (work_of p) limit status s t
+plain_completes (Follow id) limit status s t does = reads_all _ (follow_refuses id) limit status s t does
+plain_completes Show limit status s t does = reads_all _ show_refuses limit status s t does
+plain_completes (Replay g) limit status s t does = reads_all _ (capture_refuses First) limit status s t does
+plain_completes ReplayTold limit status s t does = reads_all _ (capture_refuses Second) limit status s t does
+plain_completes (Upgrade g) limit status s t does = reads_all _ (capture_refuses First) limit status s t does
+plain_completes (Table group) limit status s t does = reads_all _ (capture_refuses Second) limit status s t does
+plain_completes (Exercise seed peers messages) limit status s t does = λ unwritten. writes_all status _ s.written t.written _ does unwritten
+
+-- ---- a chat
+
+abbrev Spares : Status → Type 0
+Spares status = (status ≡ Done) ⊎ (status ≡ OutOfMemory)
+
+-- nothing else has a cause
+spared : (x : Status) (limit : ℕ) (octets : List ℕ) (turns : ℕ) (stopped : Bool) (s t : Seen)
+    → IsCaused x limit octets turns stopped s t → NoneRose s t → length octets < limit → turns < limit → Spares x
+spared Done limit octets turns stopped s t cause none few early = inl refl
+spared OutOfMemory limit octets turns stopped s t cause none few early = inr refl
+spared ReadFault limit octets turns stopped s t cause none few early = absurd (none.read cause.0)
+spared WriteFault limit octets turns stopped s t cause none few early =
+    elim (cause) [ inl rose ↦ absurd (none.write rose) | inr rose ↦ absurd (none.recorded rose) ]
+spared WorldFault limit octets turns stopped s t cause none few early = absurd (none.world cause)
+spared NoThread limit octets turns stopped s t cause none few early = absurd (none.thread cause)
+spared TooLong limit octets turns stopped s t cause none few early =
+    elim (cause) [ inl many ↦ absurd (omega (arith, many.0, few)) | inr late ↦ absurd (omega (arith, late.0, early)) ]
+spared Usage limit octets turns stopped s t cause none few early = absurd cause
+spared BadInput limit octets turns stopped s t cause none few early = absurd cause
+
+either_spares : (b : Bool) (x y : Status) → Spares x → Spares y → Spares (if b then x else y)
+either_spares true x y p q = p
+either_spares false x y p q = q
+
+least_spares : (xs : List Status) (limit : ℕ) (octets : List ℕ) (turns : ℕ) (stopped : Bool) (s t : Seen)
+    → AreCaused xs limit octets turns stopped s t → NoneRose s t → length octets < limit → turns < limit → Spares (least xs)
+least_spares [] limit octets turns stopped s t caused none few early = inl refl
+least_spares (x ∷ xs) limit octets turns stopped s t caused none few early =
+    either_spares (nat_le (rank x) (rank (least xs))) x (least xs)
+    (spared x limit octets turns stopped s t caused.0 none few early)
+    (least_spares xs limit octets turns stopped s t caused.1 none few early)
+
+well_or_short : (status : Status) (all : Type 0) → Spares status → (status ≡ Done → all) → WellOrShort status all
+well_or_short status all (inl done) whole = inl (done, whole done)
+well_or_short status all (inr short) whole = inr short
+
+completes : (c : Option Command) (limit : ℕ) (status : Status) (s t : Seen) → Does c limit status s t → Completes c limit status s t
+completes None limit status s t does = tt
+completes (Some (Plain p)) limit status s t does = plain_completes p limit status (streams_of s) (streams_of t) does
+completes (Some (Chat c)) limit status s t does = λ chat none few early.
+    well_or_short status _
+    (subst Spares (sym chat.is_status) (least_spares chat.occurred limit chat.octets chat.turns _ s t chat.caused none few early))
+    (λ done. chat.whole (inl done))
+
+-- any call does
+pub all_complete : {I W O R P : Type 0} (v : Views I W O R P) (c : Option Command) (limit : ℕ) (status : Status) (h h' : Handed I W O R P)
+    → Did v c limit status h h' → Completes c limit status (seen_of v h) (seen_of v h')
+all_complete v c limit status h h' did = completes c limit status (seen_of v h) (seen_of v h') did.does

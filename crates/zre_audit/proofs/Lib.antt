@@ -1,0 +1,14 @@
+pub mod Births
+pub mod Codes
+pub mod Counted
+pub mod Firsts
+pub mod Judged
+pub mod Lines
+pub mod Loops
+pub mod Ordered
+pub mod Places
+pub mod Pushes
+pub mod Runs
+pub mod Still
+pub mod Told
+pub mod Watching

@@ -1,0 +1,37 @@
+//! An output that takes few octets at a time.
+
+use zre_outside::{MemSink, NextFault, Sink};
+
+/// A sink that takes at most so many octets a write, and one at least.
+#[derive(Drop)]
+pub struct Narrow {
+    inner: MemSink,
+    most: usize,
+}
+
+impl Narrow {
+    pub fn new(inner: MemSink, most: u64) -> Self {
+        Narrow {
+            inner,
+            most: usize::try_from(most).unwrap_or(usize::MAX).max(1),
+        }
+    }
+
+    pub fn written(&self) -> &[u8] {
+        self.inner.written()
+    }
+}
+
+impl Sink for Narrow {
+    ghost use Rattle.std.specs.Prelude.{None};
+    ghost use Rattle.zre_outside.specs.Memory.{write_faults_of};
+
+    ghost written = { λ _. None };
+
+    ghost faults = { λ s. write_faults_of s.inner };
+
+    fn write(&mut self, bytes: &[u8]) -> Result<usize, NextFault> {
+        let n = bytes.len().min(self.most);
+        self.inner.write(&bytes[..n])
+    }
+}
