@@ -143,8 +143,8 @@ opens_played H net new mid s g n at k num w x y e l t to along waiting ear rows 
     played (move.Open g n at) H new (ap (λ o. is_some o && is_some (nth g (routes H))) r.is ∙ ap (λ o. is_some o) q.there)
     (subst (λ u. StandsAfter (Happens (move.Open g n at) u ∷ H) new) (sym brings)
     (open_stands H g n at net new s r.who q.route r.known r.is q.there q.known (length (conns H) + 1) refl
-        (subst (λ j. AreNodes (Happens (move.Open g n at) (Some (turn_of r.who at (input.Opened j))) ∷ H) new) next (f r.who r.there))
-        y (to ∙ r.number) (along ∙ q.is) waiting (ear ∙ ap (λ i. conn_after i []) its_id) (conns_stay ∙ rows) pending_stay))
+    (subst (λ j. AreNodes (Happens (move.Open g n at) (Some (turn_of r.who at (input.Opened j))) ∷ H) new) next (f r.who r.there))
+    y (to ∙ r.number) (along ∙ q.is) waiting (ear ∙ ap (λ i. conn_after i []) its_id) (conns_stay ∙ rows) pending_stay))
   where
     r : Runs H n k (running_in n H)
     r = runs_there H net n k s e

@@ -266,6 +266,7 @@ module _ (H : List Happening) (x i j at : ℕ) (w : Incarnation) (known : IsKnow
     heard = λ o. f.heard (by_marks A B s.alike (was_opened y) (ever_but (opens y) (λ e. refl)) ∙ o) ∙ ap (λ o. conn_after G.id o) ((same_cut G I t x a b).octets_are y);
     old = subst (λ n. (n ≡ false) ⊎ (has_stopped B ≡ true)) (by_marks A B s.alike (is_new y) (new_but y)) (subst (λ n. (is_new y A ≡ false) ⊎ (n ≡ true)) (by_marks A B s.alike has_stopped (ever_but is_stop (λ e. refl))) f.old);
   }
+
   chronicle_one : chronicle_of w H1 ≡ with_entry G (piece t x a) (chronicle_of w H)
   chronicle_one = ap (chronicle G) journal_one ∙ (continues G I (piece t x a ∷ [])).happened
 

@@ -173,7 +173,7 @@ receives_by : (H : List Happening) (net : Network) (s : StandsAfter H net) (x : 
 receives_by H net s x y e b z =
     let f = conn_found H net s x y e in
     let same : is_at y.to (nth y.to net.started.items) net.running.items ≡ is_there H f.conn.to =
-        ap (λ n. is_at n (nth n net.started.items) net.running.items) f.is.to ∙ there_same H net s.nodes f.conn.to f.is.to_known in
+    ap (λ n. is_at n (nth n net.started.items) net.running.items) f.is.to ∙ there_same H net s.nodes f.conn.to f.is.to_known in
     subst (λ o. Receives H o (cond b (Some y.to) None)) (sym f.there) (by b f (sym z ∙ same))
   where
     by : (t : Bool) → (f : IsFound H x y) → t ≡ is_there H f.conn.to → Receives H (Some f.conn) (cond t (Some y.to) None)
@@ -246,7 +246,7 @@ sends_by H net s g w e b z =
     let f = link_found H net s g w e in
     let start : w.start ≡ f.route.from.number = ap (λ (v : Way). v.start) f.is in
     let same : is_at w.start (nth w.start net.started.items) net.running.items ≡ is_there H f.route.from =
-        ap (λ n. is_at n (nth n net.started.items) net.running.items) start ∙ there_same H net s.nodes f.route.from f.known in
+    ap (λ n. is_at n (nth n net.started.items) net.running.items) start ∙ there_same H net s.nodes f.route.from f.known in
     subst (λ o. Sends H o (cond b (Some w) None)) (sym f.there) (by b f (sym z ∙ same))
   where
     by : (t : Bool) → (f : IsLinkFound H g w) → t ≡ is_there H f.route.from → Sends H (Some f.route) (cond t (Some w) None)
@@ -318,9 +318,9 @@ hears H net new k n l at w s e q f = by (nth k (broadcasts H)) refl
     by (Some b) z =
         let same : w ≡ sent_of b = some_one (p ∙ ap (option_map sent_of) z) in
         let brings : turn (move.Beacon k n at) H ≡ Some (turn_of r.who at (input.Datagram w.from w.octets)) =
-            ap (at_broadcast n at H) z ∙ ap (option_map (λ a. turn_of a at (input.Datagram b.from.settings.host b.octets))) r.is ∙ ap (λ (v : Sent). Some (turn_of r.who at (input.Datagram v.from v.octets))) (sym same) in
+        ap (at_broadcast n at H) z ∙ ap (option_map (λ a. turn_of a at (input.Datagram b.from.settings.host b.octets))) r.is ∙ ap (λ (v : Sent). Some (turn_of r.who at (input.Datagram v.from v.octets))) (sym same) in
         played (move.Beacon k n at) H new (ap (λ o. is_some o && is_some (nth k (broadcasts H))) r.is ∙ ap (λ o. is_some o) z)
-            (subst (λ t. StandsAfter (Happens (move.Beacon k n at) t ∷ H) new) (sym brings) (f r.who r.there))
+        (subst (λ t. StandsAfter (Happens (move.Beacon k n at) t ∷ H) new) (sym brings) (f r.who r.there))
 
 -- ---- a connection that closes
 

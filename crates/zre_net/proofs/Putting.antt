@@ -87,21 +87,27 @@ module _ (l : ℕ) where
       W k = after hs (k ∷ H)
 
       same : (k : Mark) → line l (k ∷ H) ≡ line l H → taken l (k ∷ H) ≡ taken l H → ends l k ≡ false → (bs : List Body) × Going bs (k ∷ H) (after hs (k ∷ H)) → (bs : List Body) × Going bs H (after hs (k ∷ H))
-      same k e t n r = (r.0, record {
-        line_is = r.1.line_is ∙ ap (λ (ms : List Member). ms ++ map (λ b. Says b) r.0) e;
-        taken_is = r.1.taken_is ∙ t;
-        known = r.1.known;
-        stays = λ s. r.1.stays (life_kept k H n s);
-      })
+      same k e t n r = (
+        r.0,
+        record {
+          line_is = r.1.line_is ∙ ap (λ (ms : List Member). ms ++ map (λ b. Says b) r.0) e;
+          taken_is = r.1.taken_is ∙ t;
+          known = r.1.known;
+          stays = λ s. r.1.stays (life_kept k H n s);
+        },
+      )
 
       said : (b : Bool) (k : ℕ) (x : Body) → eqb l k ≡ b → IsSome (life k H) → (bs : List Body) × Going bs (Puts k x ∷ H) (after hs (Puts k x ∷ H)) → (bs : List Body) × Going bs H (after hs (Puts k x ∷ H))
       said false k x e s r = same (Puts k x) (ap (λ z. followed (line l H) (cond z (Some (Says x)) None)) e) refl refl r
-      said true k x e s r = (x ∷ r.0, record {
-        line_is = r.1.line_is ∙ ap (λ z. followed (line l H) (cond z (Some (Says x)) None) ++ map (λ b. Says b) r.0) e ∙ append_assoc (line l H) (Says x ∷ []) (map (λ b. Says b) r.0);
-        taken_is = r.1.taken_is;
-        known = λ z. r.1.stays (subst (λ n. IsSome (life n H)) (sym (eqb-true l k e)) s);
-        stays = r.1.stays;
-      })
+      said true k x e s r = (
+        x ∷ r.0,
+        record {
+          line_is = r.1.line_is ∙ ap (λ z. followed (line l H) (cond z (Some (Says x)) None) ++ map (λ b. Says b) r.0) e ∙ append_assoc (line l H) (Says x ∷ []) (map (λ b. Says b) r.0);
+          taken_is = r.1.taken_is;
+          known = λ z. r.1.stays (subst (λ n. IsSome (life n H)) (sym (eqb-true l k e)) s);
+          stays = r.1.stays;
+        },
+      )
 
       ponged : (k : ℕ) (t : List ℕ) → eqb l k ≡ false → line l (PutsPong k t ∷ H) ≡ line l H
       ponged k t e = ap (λ z. followed (line l H) (cond z (Some (Pongs t)) None)) e

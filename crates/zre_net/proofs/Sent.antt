@@ -34,6 +34,9 @@ module _ (g : Config) (J : List Entry) (e : Entry) (n : Node) (s : Step) (st : S
   pub sends_one : (h : ℕ) (xs zs ys : List Line) → h ≡ length (handshake Dealer (Some g.id)) → Keeps g (chronicle g J) h xs → is_slight g e.input (chronicle g J) (Comes e ∷ chronicle g J) → zs ≡ xs ++ replicate (connects s.acts) (fresh h)
       → IsLooked g (chronicle g (J ++ e ∷ [])) zs ys → Stepped g J e s × StandsFor g (J ++ e ∷ []) n × Keeps g (chronicle g (J ++ e ∷ [])) h ys
   sends_one h xs zs ys base kept slight made looked =
-      let same : chronicle g (J ++ e ∷ []) ≡ with_entry g e (chronicle g J) = (continues g J (e ∷ [])).happened in
-      (step_told, st.stands, subst (λ K. Keeps g K h ys) (sym same)
-        (keeps g J e h base slight xs ys kept (subst (λ zs. IsLooked g (with_entry g e (chronicle g J)) zs ys) (made ∙ ap (λ as_. xs ++ replicate (connects as_) (fresh h)) step_told.done) (subst (λ K. IsLooked g K zs ys) same looked))))
+      let same : chronicle g (J ++ e ∷ []) ≡ with_entry g e (chronicle g J) = (continues g J (e ∷ [])).happened in (
+        step_told,
+        st.stands,
+        subst (λ K. Keeps g K h ys) (sym same)
+            (keeps g J e h base slight xs ys kept (subst (λ zs. IsLooked g (with_entry g e (chronicle g J)) zs ys) (made ∙ ap (λ as_. xs ++ replicate (connects as_) (fresh h)) step_told.done) (subst (λ K. IsLooked g K zs ys) same looked))),
+      )

@@ -46,7 +46,6 @@ pub filter_map-both : {A B : Type 0} (f : A → Option B) (xs ys : List A) → f
 filter_map-both f [] ys = refl
 filter_map-both f (x ∷ xs) ys = ap (cons_option (f x)) (filter_map-both f xs ys) ∙ one_first (f x) (filter_map f xs) (filter_map f ys)
 
-
 -- what one act more brings
 pub one_more : {B : Type 0} (f : Act → Option B) (xs ys zs : List B) (acts : List Act) (i : ℕ) (a : Act) → i < length acts → a ≡ get_or acts i a → ys ≡ xs ++ filter_map f (take i acts) → zs ≡ ys ++ filter_map f (a ∷ []) → zs ≡ xs ++ filter_map f (take (i + 1) acts)
 one_more f xs ys zs acts i a lt is e q =

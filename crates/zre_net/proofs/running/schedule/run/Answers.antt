@@ -18,7 +18,7 @@ returns-then-not-branch-clause-refused c =
     let i = c.loop-one.invariant in
     ap bad_move (i.rest ∙ ap (λ xs. c.loop-one.yielded ++ xs) c.in-Some.ensures.steps.0)
     ∙ stops_at c.loop-one.yielded (into_iter_items c.next.new.self) c.in-Some.one c.loop-one.line c.loop-one.network c.take.new.self i.goes
-        (subst (λ (b : Bool). IsTaken c.in-Some.one (history c.loop-one.yielded) b c.take.new.self) c.if-not-branch.true (c.in_ok-take.ensures (history c.loop-one.yielded) i.goes.stands))
+    (subst (λ (b : Bool). IsTaken c.in-Some.one (history c.loop-one.yielded) b c.take.new.self) c.if-not-branch.true (c.in_ok-take.ensures (history c.loop-one.yielded) i.goes.stands))
 
 pub loop-one-preserved : goal.loop-one-preserved
 loop-one-preserved c =
