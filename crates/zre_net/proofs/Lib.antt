@@ -9,7 +9,7 @@ mod Grows
 mod Hearing
 mod Lines
 mod Listing
-mod Long
+pub mod Long
 mod Looking
 mod Opening
 mod Piecing
