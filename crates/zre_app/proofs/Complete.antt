@@ -8,14 +8,14 @@ use Rattle.zre_commands.specs.declared.pump.status.Status.TheVariants.{Done, Usa
 use Rattle.zre_commands.specs.pump.Meaning.{Meaning, KeepsRefusing, whole_text}
 use Rattle.zre_commands.specs.pump.Outcome.{Outcome, Pumped}
 use Rattle.zre_commands.specs.replay.Replay.{replay, told_replay}
-use Rattle.zre_commands.proofs.Refusing.{show_refuses, follow_refuses, capture_refuses}
+use Rattle.zre_commands.proofs.Refusing.{show_refuses, follow_refuses, capture_refuses, simulate_refuses}
 use Rattle.zre_chat.specs.Chat.{Seen, IsChat, IsCaused, AreCaused, IsSpared}
 use Rattle.zre_chat.specs.Statuses.{rank, least}
 use Rattle.zre_capture.specs.declared.format.Format.TheVariants.{First, Second}
 use Rattle.zre_app.specs.declared.command.Command.{Command}
 use Rattle.zre_app.specs.declared.command.Command.TheVariants.{Plain, Chat}
 use Rattle.zre_app.specs.declared.plain_words.Plain.{Plain as PlainCommand}
-use Rattle.zre_app.specs.declared.plain_words.Plain.TheVariants.{Follow, Show, Replay, ReplayTold, Upgrade, Table, Exercise}
+use Rattle.zre_app.specs.declared.plain_words.Plain.TheVariants.{Follow, Show, Replay, ReplayTold, Upgrade, Table, Simulate, Exercise}
 use Rattle.zre_app.specs.Complete.{WellOrShort, NoneRose, CompletesWork, Completes}
 use Rattle.zre_app.specs.Does.{Work, DoesWork, work_of, Does, Did}
 use Rattle.zre_app.specs.Does.Work.{Reads, Writes}
@@ -86,6 +86,7 @@ plain_completes (Replay g) limit status s t does = reads_all _ (capture_refuses 
 plain_completes ReplayTold limit status s t does = reads_all _ (capture_refuses Second) limit status s t does
 plain_completes (Upgrade g) limit status s t does = reads_all _ (capture_refuses First) limit status s t does
 plain_completes (Table group) limit status s t does = reads_all _ (capture_refuses Second) limit status s t does
+plain_completes Simulate limit status s t does = reads_all _ simulate_refuses limit status s t does
 plain_completes (Exercise seed peers messages) limit status s t does = λ unwritten. writes_all status _ s.written t.written _ does unwritten
 
 -- ---- a chat

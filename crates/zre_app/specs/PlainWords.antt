@@ -11,7 +11,7 @@ use Rattle.zre_app.specs.NodeWords.{node_keys, between, config_in}
 use Rattle.zre_app.specs.declared.keys.Often.{Often}
 use Rattle.zre_app.specs.declared.keys.Often.TheVariants.{Once}
 use Rattle.zre_app.specs.declared.plain_words.Plain.{Plain}
-use Rattle.zre_app.specs.declared.plain_words.Plain.TheVariants.{Follow, Show, Replay, ReplayTold, Upgrade, Table, Exercise}
+use Rattle.zre_app.specs.declared.plain_words.Plain.TheVariants.{Follow, Show, Replay, ReplayTold, Upgrade, Table, Simulate, Exercise}
 
 -- the keys of `follow`: the identity of the peer
 abbrev pub follow_keys : List (List ℕ × Often)
@@ -55,6 +55,10 @@ table_of words =
     then option_map Table (option_and_then group_in (value_of (codes "group=") words))
     else None
 
+-- `simulate` has no words
+abbrev pub simulate_of : List (List ℕ) → Option Plain
+simulate_of words = if are_words_of [] words then Some Simulate else None
+
 -- the keys of `exercise`: the seed, and how many peers and messages there are
 abbrev pub exercise_keys : List (List ℕ × Often)
 exercise_keys = (codes "seed=", Once) ∷ (codes "peers=", Once) ∷ (codes "messages=", Once) ∷ []
@@ -80,6 +84,7 @@ plain_named name words =
     else if bytes_eq name (codes "replay") then replay_of words
     else if bytes_eq name (codes "upgrade") then upgrade_of words
     else if bytes_eq name (codes "table") then table_of words
+    else if bytes_eq name (codes "simulate") then simulate_of words
     else if bytes_eq name (codes "exercise") then exercise_of words
     else None
 
@@ -96,4 +101,5 @@ CanDo (Replay g) = is_valid g ≡ true
 CanDo ReplayTold = Unit {0}
 CanDo (Upgrade g) = is_valid g ≡ true
 CanDo (Table group) = Unit {0}
+CanDo Simulate = Unit {0}
 CanDo (Exercise seed peers messages) = (1 ≤ peers) × (peers ≤ 256) × (messages ≤ 1000000)

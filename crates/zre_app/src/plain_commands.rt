@@ -18,6 +18,7 @@ use zre_commands::pump::{Status, pump};
 use zre_commands::replay::{HeadReplayer, Replayer};
 use zre_commands::settings::as_settings;
 use zre_commands::show::Lister;
+use zre_commands::simulate::Simulator;
 use zre_commands::table::Tabulator;
 use zre_commands::upgrade::Upgrader;
 use zre_journal::Config;
@@ -118,6 +119,14 @@ fn table<I: Source, O: Sink>(
     pump(alloc, &mut machine, input, out, limit)
 }
 
+fn simulate<I: Source, O: Sink>(alloc: Global, input: &mut I, out: &mut O, limit: u64) -> Status
+    ensures does { DidPlain (stream_views I.left I.taken I.faults O.written O.faults)
+        (Some Plain.Simulate) limit result input.old input.new out.old out.new }
+{
+    let mut machine = Simulator::new(alloc);
+    pump(alloc, &mut machine, input, out, limit)
+}
+
 fn write_text<O: Sink>(text: &[u8], out: &mut O) -> Status
     ensures written { WritesText result text.now (O.written out.old) (O.written out.new)
         (Rose (O.faults out.old) (O.faults out.new)) }
@@ -165,6 +174,7 @@ fn obey<I: Source, O: Sink>(
         Some(Plain::ReplayTold) => replay_told(alloc, input, out, limit),
         Some(Plain::Upgrade { config }) => upgrade(alloc, config, input, out, limit),
         Some(Plain::Table { group }) => table(alloc, group, input, out, limit),
+        Some(Plain::Simulate) => simulate(alloc, input, out, limit),
         Some(
             Plain::Exercise {
                 seed,

@@ -16,6 +16,7 @@ use Rattle.zre_commands.specs.follow.Follow as follows
 use Rattle.zre_commands.specs.follow.Messages.{messages, messages_in}
 use Rattle.zre_commands.specs.follow.Runs.{is_over}
 use Rattle.zre_commands.specs.show.Show as shows
+use Rattle.zre_commands.specs.simulate.Simulate as simulates
 use Rattle.zre_commands.proofs.follow.Growing as growing
 use Rattle.zre_commands.proofs.show.Listing as listing
 
@@ -40,6 +41,10 @@ follow_refuses id o x e =
     growing.stopped_is_bad (o ++ x)
     (ap (λ ms. not (is_over [] ms) && is_some (fault Any Traffic (o ++ x))) same
     ∙ ap (λ f. not (follows.over o) && is_some f) (h.fault x) ∙ e)
+
+-- of a schedule, which is read whole first
+pub simulate_refuses : KeepsRefusing simulates.simulate
+simulate_refuses o x e = absurd cc
 
 or_there : (b e : Option BadCapture) → is_some b ≡ true → is_some (option_or b e) ≡ true
 or_there None e there = absurd cc

@@ -6,4 +6,5 @@ pub mod show
 pub mod replay
 pub mod exercise
 pub mod table
+pub mod simulate
 pub mod upgrade

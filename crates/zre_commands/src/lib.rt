@@ -1,5 +1,5 @@
-//! The commands that read one stream and write text: `follow`, `show`, `replay`, `upgrade` and `exercise`,
-//! each a machine that makes text of octets, and the pump that runs a machine over a source and a sink.
+//! The commands that read one stream and write text: `follow`, `show`, `replay`, `upgrade`, `table`, `simulate` and
+//! `exercise`, each a machine that makes text of octets, and the pump that runs a machine over a source and a sink.
 #![tactic(auto)]
 
 pub mod exercise;
@@ -9,5 +9,6 @@ pub mod pump;
 pub mod replay;
 pub mod settings;
 pub mod show;
+pub mod simulate;
 pub mod table;
 pub mod upgrade;

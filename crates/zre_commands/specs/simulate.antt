@@ -1,0 +1,2 @@
+pub mod Simulate
+pub mod Simulator

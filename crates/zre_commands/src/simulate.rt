@@ -1,0 +1,6 @@
+//! The command `simulate`: the events of several nodes, from a schedule.
+
+mod answer;
+mod simulator;
+
+pub use simulator::Simulator;
