@@ -63,11 +63,7 @@ fn push_run(alloc: Global, schedule: &Schedule, out: &mut Octets) -> Result<bool
 
 /// Appends what a text comes to: the lines of what the nodes tell, or the line at which it is no schedule. Says whether
 /// it is refused.
-pub(crate) fn push_answer(
-    alloc: Global,
-    text: &[u8],
-    out: &mut Octets,
-) -> Result<bool, OutOfMemory>
+pub(crate) fn push_answer(alloc: Global, text: &[u8], out: &mut Octets) -> Result<bool, OutOfMemory>
     ensures bad { IfOk result (λ bad. bad ≡ is_some (bad_in text.now)) }
     ensures appended { OnOk result (out.new ≡ out.old ++ answer text.now) }
 {
