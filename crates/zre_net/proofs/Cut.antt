@@ -1,5 +1,5 @@
 -- A node that was told octets in two pieces stands for the journal that has them in one.
-use Rattle.std.proofs.Common.{◌≡◌, ℕ, ◌+◌, ◌-◌, ◌%◌, ◌≤◌, max, Bool, true, false, cond, not, ◌&&◌, ◌||◌, eqb, ltb, List, [], ◌∷◌, ◌++◌, length, reverse, Option, Some, None, is_some, is_none, refl, sym, ap, ◌∙◌, subst, arith, append_assoc, append-nil, true≢false}
+use Rattle.std.proofs.Common.{◌≡◌, ℕ, ◌+◌, ◌-◌, ◌%◌, ◌≤◌, max, Bool, true, false, cond, not, ◌&&◌, ◌||◌, eqb, ltb, List, [], ◌∷◌, ◌++◌, length, reverse, Option, Some, None, IsSome, is_some, is_none, map, find, refl, sym, ap, ◌∙◌, subst, arith, append_assoc, append-nil, true≢false}
 use Rattle.std.proofs.lemmas.List.{reverse-append, reverse-reverse, append_cancel_right}
 use Rattle.std.specs.Option.{option_and_then, option_or, option_map_or}
 use Rattle.std.specs.List.{AllByRecursion}
@@ -7,6 +7,12 @@ use Rattle.zre_values.specs.Lists.{without}
 use Rattle.zre_values.specs.declared.peer_id.PeerId.{PeerId}
 use Rattle.zre_outside.specs.declared.entry.Entry.{Entry}
 use Rattle.zre_mailbox.specs.Conn.{Hearing}
+use Rattle.zre_msg.specs.Spelling.{octets}
+use Rattle.zre_link.specs.Text.{bodies_in, numbered_from, text_of}
+use Rattle.zre_net.specs.declared.running.lines.Line.{Line}
+use Rattle.zre_net.specs.declared.running.sender.Sender.{Sender}
+use Rattle.zre_net.specs.Sender.{Keeps}
+use Rattle.zre_net.specs.Sending.{Holds as Keeping, HasSent}
 use Rattle.zre_link.specs.Link.{link_after}
 use Rattle.zre_outside.specs.declared.entry.Input.TheVariants as input
 use Rattle.zre_journal.specs.declared.config.Config.{Config}
@@ -16,8 +22,8 @@ use Rattle.zre_journal.specs.Cutting.{is_entry, but_entries, piece}
 use Rattle.zre_journal.specs.Events.{chronicle}
 use Rattle.zre_journal.specs.Happens.{is_stop, has_stopped, at_input, marks, with_entry}
 use Rattle.zre_journal.specs.Heard.{clock, bytes}
-use Rattle.zre_journal.specs.Links.{groups, status, line, put_on, links, is_linked, reply_of, replies, taken}
-use Rattle.zre_journal.specs.Peers.{Life, lives, other_lives, births, runner, runner_at, counted, message_at, refreshes, active}
+use Rattle.zre_journal.specs.Links.{groups, status, line, put_on, links, is_linked, reply_of, replies, text, taken, unsent}
+use Rattle.zre_journal.specs.Peers.{Life, life, lives, other_lives, births, runner, runner_at, counted, message_at, refreshes, active}
 use Rattle.zre_journal.specs.Proper.{IsProper}
 use Rattle.zre_journal.proofs.Always.{is_proper}
 use Rattle.zre_journal.proofs.Cutting.{same_cut}
@@ -118,4 +124,36 @@ stands_for_whole g J at c a b n s = record {
   stands = stands_in g (chronicle g (J ++ piece at c a ∷ piece at c b ∷ [])) (chronicle g (J ++ piece at c (a ++ b) ∷ [])) (sim g J at c a b) (same_cut g J at c a b).octets_are n.tables
       (is_proper g (J ++ piece at c (a ++ b) ∷ [])) s.stands;
   whole = s.whole;
+}
+
+-- ---- what was put on links
+
+module _ (g : Config) (K L : List Mark) (s : Sim K L) (h : ℕ) (lines : List Line) (k : Keeps g K h lines) where
+  same_line : (l : ℕ) → line l K ≡ line l L
+  same_line l = by_marks K L s.alike (line l) (each_but (put_on l) (λ e. refl))
+
+  same_taken : (l : ℕ) → taken l K ≡ taken l L
+  same_taken l = by_marks K L s.alike (taken l) (taken_but l)
+
+  same_life : (l : ℕ) → life l K ≡ life l L
+  same_life l = ap (λ (vs : List Life). find (λ (v : Life). eqb l v.link) vs) (by_marks K L s.alike lives lives_but)
+
+  pub keeps_too : Keeps g L h lines
+  keeps_too = record {
+    count = k.count ∙ by_marks K L s.alike births births_but;
+    messages_are = λ l. k.messages_are l ∙ ap (λ ms. map octets (numbered_from 1 (bodies_in ms))) (same_line l);
+    waits = λ l z. k.waits l (subst IsSome (sym (same_life l)) z) ∙ ap (λ ms. length (text_of g.id ms) - taken l K) (same_line l) ∙ ap (λ n. length (text g l L) - n) (same_taken l);
+    within = λ l z. subst (λ ms. taken l L ≤ length (text_of g.id ms)) (same_line l) (subst (λ n. n ≤ length (text g l K)) (same_taken l) (k.within l (subst IsSome (sym (same_life l)) z)));
+  }
+
+keeping_whole : (g : Config) (J : List Entry) (at c : ℕ) (a b : List ℕ) (n : Option Node) → Keeping g (J ++ piece at c a ∷ piece at c b ∷ []) n → Keeping g (J ++ piece at c (a ++ b) ∷ []) n
+keeping_whole g J at c a b None s = tt
+keeping_whole g J at c a b (Some n) s = stands_for_whole g J at c a b n s
+
+-- a node that has taken a piece in two has taken it in one
+pub has_sent_whole : (g : Config) (J : List Entry) (at c : ℕ) (a b : List ℕ) (x : Sender) → HasSent g (J ++ piece at c a ∷ piece at c b ∷ []) x → HasSent g (J ++ piece at c (a ++ b) ∷ []) x
+has_sent_whole g J at c a b x s = record {
+  stands = keeping_whole g J at c a b x.node s.stands;
+  waits_first = s.waits_first;
+  keeps = keeps_too g (chronicle g (J ++ piece at c a ∷ piece at c b ∷ [])) (chronicle g (J ++ piece at c (a ++ b) ∷ [])) (sim g J at c a b) x.handshake x.lines s.keeps;
 }

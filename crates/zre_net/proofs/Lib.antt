@@ -1,7 +1,25 @@
+mod Begins
 mod Computed
+mod Connecting
 mod Cut
 mod Cutting
+mod Ears
+mod Fate
 mod Grows
+mod Hearing
 mod Lines
-mod Long
+mod Listing
+pub mod Long
+mod Looking
+mod Opening
+mod Piecing
+mod Plays
+mod Putting
+mod Quiet
+mod Rooms
+mod Runs
 mod Same
+mod Sending
+mod Sent
+mod Starting
+mod Stepping

@@ -9,8 +9,11 @@ use Rattle.zre_net.specs.declared.moves.Move.TheVariants as move
 use Rattle.zre_net.specs.declared.moves.Part.{Part}
 use Rattle.zre_net.specs.declared.moves.Part.TheVariants as part
 use Rattle.zre_net.specs.declared.limits.TheConstants.{QUEUED_OCTETS, PENDING_OCTETS}
-use Rattle.zre_net.specs.Lists.{nth}
-use Rattle.zre_net.specs.History.{Incarnation, Happening, incarnations, running}
+use Rattle.zre_journal.specs.Chronicle.{Mark}
+use Rattle.zre_journal.specs.Links.{queued}
+use Rattle.zre_journal.specs.Peers.{births}
+use Rattle.zre_net.specs.Lists.{nth, numbers_from}
+use Rattle.zre_net.specs.History.{Incarnation, Happening, incarnations, running, chronicle_of}
 use Rattle.zre_net.specs.Numbers.{Route, Conn, broadcasts, routes, conns, queued_on}
 use Rattle.zre_net.specs.Carried.{pending}
 use Rattle.zre_net.specs.Comes.{with_move}
@@ -44,19 +47,26 @@ may_come (move.Beacon k n at) H = is_some (running n H) && is_some (nth k (broad
 may_come (move.Open g n at) H = is_some (running n H) && is_some (nth g (routes H))
 may_come (move.Carry x p) H = passes (can_carry H p) (nth x (conns H))
 may_come (move.Piece x count at) H =
-    passes (λ (c : Conn). is_there H c.to && nat_le count (length (pending c H))) (nth x (conns H))
+    passes (λ (c : Conn). is_there H c.to && nat_le count (length (pending x H))) (nth x (conns H))
 may_come (move.Shut x at) H = passes (λ (c : Conn). is_there H c.to) (nth x (conns H))
 may_come (move.Linked g at) H = passes (λ (s : Route). is_there H s.from) (nth g (routes H))
 may_come (move.Unlinked g at) H = passes (λ (s : Route). is_there H s.from) (nth g (routes H))
 may_come (move.Reply g at o) H = passes (λ (s : Route). is_there H s.from) (nth g (routes H))
 may_come (move.Took g count at) H = passes (λ (s : Route). is_there H s.from) (nth g (routes H))
 
--- the octets of all messages put on links so far; those that connections have yet to hand in
+-- the octets of the messages that were put on link l, and on all links of a node
+abbrev pub octets_on : List Mark → ℕ → ℕ
+octets_on K l = length (flat_map octets (queued l K))
+
+abbrev pub octets_put : List Mark → ℕ
+octets_put K = sum_by (octets_on K) (numbers_from 1 (births K))
+
+-- the octets of all messages that were put on links so far; those that connections have yet to hand in
 abbrev pub queued_octets : List Happening → ℕ
-queued_octets H = sum_by (λ s. length (flat_map octets (queued_on s H))) (routes H)
+queued_octets H = sum_by (λ a. octets_put (chronicle_of a H)) (incarnations H)
 
 abbrev pub pending_octets : List Happening → ℕ
-pending_octets H = sum_by (λ c. length (pending c H)) (conns H)
+pending_octets H = sum_by (λ (c : Conn). length (pending c.number H)) (conns H)
 
 -- there is room for both
 abbrev pub has_room : List Happening → Bool

@@ -5,8 +5,13 @@ pub mod Example
 pub mod Fields
 pub mod Grammar
 pub mod History
+pub mod Lines
 pub mod Lists
 pub mod Numbers
 pub mod Reading
 pub mod Restart
+pub mod Rows
+pub mod Running
 pub mod Said
+pub mod Sender
+pub mod Sending

@@ -5,4 +5,5 @@ mod line;
 mod lines;
 mod schedule;
 
+pub(crate) use lines::moves_of;
 pub use schedule::{Schedule, read_schedule};

@@ -28,7 +28,7 @@ impl Model for Schedule {
 
 impl Schedule {
     /// The moves of its lines.
-    pub fn moves(&self) -> Result<Moves, OutOfMemory>
+    pub(crate) fn moves(&self) -> Result<Moves, OutOfMemory>
         ensures { IfOk result (λ moves. moves ≡ moves_of_lines self.now) }
     {
         moves_of(self.alloc, self.text.as_slice())

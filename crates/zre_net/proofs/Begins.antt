@@ -1,0 +1,47 @@
+-- A network before any move, and who runs at a node from now on.
+use Rattle.std.proofs.Common.{◌≡◌, ℕ, zero, suc, ◌<◌, Bool, true, false, cond, eqb, List, [], ◌∷◌, length, replicate, Option, Some, None, refl, sym, ap, ◌∙◌, subst, eqb-true, eq-eqb, true≢false, arith}
+use Rattle.std.specs.Prelude.{slice_get, slice_set, option_and_then, sum_by}
+use Rattle.zre_net.specs.declared.running.network.Network.{Network}
+use Rattle.zre_net.specs.declared.running.rows.Started.{Started}
+use Rattle.zre_net.specs.declared.running.rows.Carrier.{Carrier}
+use Rattle.zre_net.specs.Lines.{octets_in}
+use Rattle.zre_net.specs.Lists.{nth}
+use Rattle.zre_net.specs.Rows.{running_at, with_running}
+use Rattle.zre_net.specs.Running.{AreStarted, AreConns, StandsAfter}
+use Rattle.zre_net.proofs.Listing.{got_same, got_other}
+
+none_at : (k n : ℕ) → running_at n (replicate k None) ≡ None
+none_at zero n = refl
+none_at (suc k) zero = refl
+none_at (suc k) (suc n) = none_at k n
+
+pub begins : (net : Network) → net.said ≡ [] → net.started.items ≡ [] → net.running.items ≡ replicate 17 None → net.owners ≡ [] → net.beacons ≡ [] → net.links ≡ [] → net.conns.items ≡ [] → net.queued ≡ 0 → net.pending ≡ 0 → StandsAfter [] net
+begins net said started running owners beacons links conns queued pending = record {
+  nodes = record {
+    said = said;
+    started = subst (λ xs. AreStarted [] xs) (sym started) (record { count = refl; each = λ k a e. none k e; none_yet = λ a z. refl });
+    runs = λ n. ap (running_at n) running ∙ none_at 17 n;
+    owners = owners;
+    beacons = beacons;
+    links = links;
+    known = tt;
+    queued = queued ∙ ap (λ xs. sum_by (λ (x : Started). octets_in x.sender.lines) xs) (sym started);
+  };
+  conns_are = subst (λ xs. AreConns [] xs) (sym conns) (record { count = refl; each = λ x c e. none x e; silent = λ a k x z. refl });
+  pending_is = pending ∙ ap (λ xs. sum_by (λ (y : Carrier). length y.waiting) xs) (sym conns);
+}
+  where
+    none : {A B : Type 0} {x : A} (k : ℕ) → nth k [] ≡ Some x → B
+    none zero e = absurd cc
+    none (suc k) e = absurd cc
+
+pub runs_now : (n : ℕ) (start : Option ℕ) (rows now : List (Option ℕ)) → n < length rows → now ≡ slice_set rows n start → with_running n start rows now
+runs_now n start rows now z e k = ap (running_at k) e ∙ by (eqb k n) refl
+  where
+    by : (t : Bool) → eqb k n ≡ t → running_at k (slice_set rows n start) ≡ cond t start (running_at k rows)
+    by true q = ap (λ j. running_at j (slice_set rows n start)) (eqb-true k n q) ∙ ap (λ (o : Option (Option ℕ)). option_and_then (λ z. z) o) (got_same rows n start z)
+    by false q = ap (λ (o : Option (Option ℕ)). option_and_then (λ z. z) o) (got_other rows n k start (turned (eqb n k) refl))
+      where
+        turned : (t : Bool) → eqb n k ≡ t → t ≡ false
+        turned false r = refl
+        turned true r = absurd (true≢false (sym (eq-eqb k n (sym (eqb-true n k r))) ∙ q))

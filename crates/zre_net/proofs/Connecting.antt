@@ -1,0 +1,88 @@
+-- The connections of a network, after an entry of one of its nodes.
+use Rattle.std.proofs.Common.{◌≡◌, ◌⊎◌, ℕ, ◌+◌, ◌≤◌, ◌<◌, Bool, true, false, cond, eqb, List, [], ◌∷◌, ◌++◌, length, Option, Some, None, refl, sym, ap, ◌∙◌, subst, inl, inr, arith, eqb-true, eq-eqb, append-nil}
+use Rattle.std.specs.Prelude.{sum_by, Result, Ok, Err, OnOk}
+use Rattle.zre_outside.specs.declared.entry.Input.{Input}
+use Rattle.zre_journal.specs.Chronicle.{Mark, Comes}
+use Rattle.zre_journal.specs.Heard.{bytes, piece_of}
+use Rattle.zre_net.specs.declared.moves.Move.{Move}
+use Rattle.zre_net.specs.declared.running.ear.Ear.{Ear}
+use Rattle.zre_net.specs.declared.running.network.Network.{Network}
+use Rattle.zre_net.specs.declared.running.rows.Carrier.{Carrier}
+use Rattle.zre_net.specs.Carried.{pending}
+use Rattle.zre_net.specs.Comes.{turn_of}
+use Rattle.zre_net.specs.History.{Incarnation, Turn, Happening, Happens, incarnations, journal, chronicle_of}
+use Rattle.zre_net.specs.Lists.{nth}
+use Rattle.zre_net.specs.Numbers.{Conn, conns}
+use Rattle.zre_net.specs.Rows.{Fits}
+use Rattle.zre_net.specs.Running.{IsKnown, AreNodes, IsConn, HasConn, AreConns, StandsAfter, IsStill, IsKept, IsSilent}
+use Rattle.zre_net.proofs.Hearing.{bytes_same, fits_still, no_piece}
+use Rattle.zre_net.proofs.Listing.{some_one}
+use Rattle.zre_net.proofs.Stepping.{chronicle_now, other_chronicle}
+
+pub same_who : (H : List Happening) (a b : Incarnation) → IsKnown H a → IsKnown H b → a.number ≡ b.number → a ≡ b
+same_who H a b p q e = some_one (sym p ∙ ap (λ n. nth n (incarnations H)) e ∙ q)
+
+module _ (H : List Happening) (m : Move) (still : IsStill m) (a : Incarnation) (at : ℕ) (i : Input) (a_known : IsKnown H a) where
+  abbrev T : Turn
+  T = turn_of a at i
+
+  abbrev N : List Happening
+  N = Happens m (Some T) ∷ H
+
+  pub known_later : (b : Incarnation) → IsKnown H b → IsKnown N b
+  known_later b e = ap (nth b.number) (still.incarnations_stay (Some T) H) ∙ e
+
+  pub known_before : (b : Incarnation) → IsKnown N b → IsKnown H b
+  known_before b e = ap (nth b.number) (sym (still.incarnations_stay (Some T) H)) ∙ e
+
+  -- what is so of the chronicles of all, is so after the entry
+  pub for_all : (P : Incarnation → List Mark → Type 0) → (P a (chronicle_of a N)) → ((b : Incarnation) → P b (chronicle_of b H)) → (b : Incarnation) → IsKnown H b → P b (chronicle_of b N)
+  for_all P p f b k = by (eqb b.number a.number) refl
+    where
+      by : (t : Bool) → eqb b.number a.number ≡ t → P b (chronicle_of b N)
+      by true z = subst (λ c. P c (chronicle_of c N)) (same_who H a b a_known k (sym (eqb-true b.number a.number z))) p
+      by false z = subst (λ K. P b K) (sym (other_chronicle H m a at i b z)) (f b)
+
+  pub fits_other : (x : ℕ) (ear : Ear) → piece_of x i ≡ [] → (b : Incarnation) → IsKnown H b → Fits b.settings x (chronicle_of b H) ear → Fits b.settings x (chronicle_of b N) ear
+  fits_other x ear p b k = for_all (λ c K. Fits c.settings x (chronicle_of c H) ear → Fits c.settings x K ear)
+      (λ f. subst (λ K. Fits a.settings x K ear) (sym (chronicle_now H m a at i)) (fits_still a.settings (journal a H) T.entry x ear p f)) (λ c f. f) b k
+
+  pub silent_more : (x : ℕ) → piece_of x i ≡ [] → ((b : Incarnation) → IsKnown H b → bytes x (chronicle_of b H) ≡ []) → (b : Incarnation) → IsKnown N b → bytes x (chronicle_of b N) ≡ []
+  silent_more x p s b k =
+      for_all (λ c K. bytes x (chronicle_of c H) ≡ [] → bytes x K ≡ []) (λ z. ap (bytes x) (chronicle_now H m a at i) ∙ bytes_same a.settings (journal a H) T.entry x p ∙ z) (λ c z. z)
+      b (known_before b k) (s b (known_before b k))
+
+  -- a connection to which nothing comes
+  pub conn_still : (c : Conn) (y : Carrier) → piece_of c.number i ≡ [] → pending c.number N ≡ pending c.number H → IsConn H c y → IsConn N c y
+  conn_still c y p w r = record {
+    to = r.to;
+    to_known = known_later c.to r.to_known;
+    along = r.along;
+    along_known = known_later c.along.from r.along_known;
+    waits = r.waits ∙ sym w;
+    fits = fits_other c.number y.ear p c.to r.to_known r.fits;
+  }
+
+  pub conns_more : IsKept m → IsSilent i → (ys : List Carrier) → AreConns H ys → AreConns N ys
+  conns_more kept quiet ys s = record {
+    count = s.count ∙ ap (λ xs. length xs) (sym stay);
+    each = λ x c e. one x c (s.each x c (ap (nth x) (sym stay) ∙ e));
+    silent = λ b k x z. silent_more x (no_piece x i quiet) (λ d l. s.silent d l x (let n = ap (λ xs. length xs) stay in omega (arith, n, z))) b k;
+  }
+    where
+      stay : conns N ≡ conns H
+      stay = kept.conns_stay (Some T) H
+
+      one : (x : ℕ) (c : Conn) → HasConn H x c ys → HasConn N x c ys
+      one x c h = record { number = h.number; row = h.row; there = h.there; is = conn_still c h.row (no_piece c.number i quiet) (kept.pending_stay (Some T) H c.number) h.is }
+
+  pub stands_more : IsKept m → IsSilent i → (net new : Network) → StandsAfter H net → AreNodes N new → new.conns ≡ net.conns → new.pending ≡ net.pending → StandsAfter N new
+  stands_more kept quiet net new s nodes c p = record {
+    nodes = nodes;
+    conns_are = subst (λ ys. AreConns N ys.items) (sym c) (conns_more kept quiet net.conns.items s.conns_are);
+    pending_is = p ∙ s.pending_is ∙ ap (λ ys. sum_by (λ (y : Carrier). length y.waiting) ys.items) (sym c);
+  }
+
+pub on_all : {T E A B C D : Type 0} (r : Result T E) → OnOk r A → OnOk r B → OnOk r C → (A → B → C → D) → OnOk r D
+on_all (Ok x) a b c f = f a b c
+on_all (Err x) a b c f = tt

@@ -1,0 +1,434 @@
+-- Octets of a connection come, part by part.
+use Rattle.std.proofs.Common.{◌≡◌, ◌⊎◌, ℕ, zero, suc, ◌+◌, ◌-◌, ◌≤◌, ◌<◌, max, Bool, true, false, cond, not, ◌&&◌, eqb, ltb, leb, List, [], ◌∷◌, ◌++◌, length, map, take, drop, filter, Option, Some, None, refl, sym, ap, ◌∙◌, subst, arith, eqb-true, eq-eqb, ltb-true, ltb-false, leb-true, leb-false, append_assoc, append-nil, true≢false}
+use Rattle.std.specs.Prelude.{slice_get, slice_set, sum_by, option_map}
+use Rattle.std.specs.List.{filter_map, AllByRecursion}
+use Rattle.std.proofs.lemmas.List.{append_cancel_left, length-drop}
+use Rattle.std.proofs.lemmas.List.Elements.{filter-append}
+use Rattle.zre_outside.specs.declared.act.Act.{Act}
+use Rattle.zre_outside.specs.declared.act.Act.TheVariants as act
+use Rattle.zre_outside.specs.declared.entry.Entry.{Entry}
+use Rattle.zre_outside.specs.declared.entry.Input.TheVariants as input
+use Rattle.zre_peer.specs.declared.event.Event.{Event}
+use Rattle.zre_mailbox.specs.Conn.{conn_after}
+use Rattle.zre_mailbox.specs.Talk.{completed}
+use Rattle.zre_journal.specs.declared.config.Config.{Config}
+use Rattle.zre_journal.specs.Chronicle.{Mark, Comes, followed}
+use Rattle.zre_journal.specs.Connections.{is_new}
+use Rattle.zre_journal.specs.Cutting.{is_offer, but_offers, piece, IsSameCut}
+use Rattle.zre_journal.specs.Done.{acts_at}
+use Rattle.zre_journal.specs.Events.{chronicle, events, acts, events_at}
+use Rattle.zre_journal.specs.Happens.{has_stopped, is_stop, with_entry}
+use Rattle.zre_journal.specs.Heard.{bytes, was_opened, opens, piece_of}
+use Rattle.zre_journal.proofs.Cutting.{same_cut}
+use Rattle.zre_journal.proofs.Joined.{continues}
+use Rattle.zre_net.specs.declared.moves.Move.TheVariants as move
+use Rattle.zre_net.specs.declared.running.ear.Ear.{Ear}
+use Rattle.zre_net.specs.declared.running.network.Network.{Network}
+use Rattle.zre_net.specs.declared.running.rows.Started.{Started}
+use Rattle.zre_net.specs.declared.running.rows.Carrier.{Carrier}
+use Rattle.zre_net.specs.Carried.{pending}
+use Rattle.zre_net.specs.Comes.{turn_of, with_move, at_conn}
+use Rattle.zre_net.specs.Grammar.{may_come, passes, is_there}
+use Rattle.zre_net.specs.History.{Incarnation, Turn, Happening, Happens, incarnations, running, journal, chronicle_of}
+use Rattle.zre_net.specs.Lines.{octets_in}
+use Rattle.zre_net.specs.Lists.{nth}
+use Rattle.zre_net.specs.Numbers.{Route, Broadcast, Conn, routes, route_in, broadcasts, broadcast_in, conns}
+use Rattle.zre_net.specs.Rows.{running_at, Fits, IsHeard}
+use Rattle.zre_net.specs.Running.{IsKnown, IsStarted, HasStarted, AreStarted, Finds, AreNodes, IsConn, HasConn, AreConns, StandsAfter, IsPlayed, Receives, sent_of, way_of}
+use Rattle.zre_net.specs.Said.{said_in}
+use Rattle.zre_net.specs.Sender.{is_slight}
+use Rattle.zre_net.specs.Sending.{HasSent}
+use Rattle.zre_net.proofs.Connecting.{same_who, known_later, conn_still, silent_more}
+use Rattle.zre_net.proofs.Cut.{has_sent_whole}
+use Rattle.zre_net.proofs.Hearing.{fits_piece, completes_few}
+use Rattle.zre_net.proofs.Listing.{some_one, in_reach, nth_at, nth_reach, nth_same, nth_other, set_length, sum_set, all_map}
+use Rattle.zre_net.proofs.Plays.{piece_still, played, not_received, received, IsReceived}
+use Rattle.zre_net.proofs.Same.{by_marks, ever_but, new_but, sim, Sim}
+use Rattle.zre_net.proofs.Stepping.{chronicle_now, other_chronicle, filter_map-both}
+
+-- ---- some octets come
+
+module _ (H : List Happening) (x place most at : ℕ) (net : Network) (s : StandsAfter H net) (c : Conn) (there : nth x (conns H) ≡ Some c) (was now : Carrier) (under : x ≡ place + 1) (before : slice_get net.conns.items place ≡ Some was) (b : List ℕ) (heard : IsHeard was most b now) where
+  its : HasConn H x c net.conns.items
+  its = s.conns_are.each x c there
+
+  is : IsConn H c was
+  is = subst (λ w. IsConn H c w) (some_one (sym its.there ∙ nth_at x place net.conns.items under ∙ before)) its.is
+
+  abbrev T : Turn
+  T = turn_of c.to at (input.Piece x b)
+
+  abbrev N : List Happening
+  N = Happens (move.Piece x (length b) at) (Some T) ∷ H
+
+  fit : Fits c.to.settings x (chronicle_of c.to H) was.ear
+  fit = subst (λ k. Fits c.to.settings k (chronicle_of c.to H) was.ear) its.number is.fits
+
+  waits : was.waiting ≡ pending x H
+  waits = is.waits ∙ ap (λ k. pending k H) its.number
+
+  pub slight_now : is_slight c.to.settings (input.Piece x b) (chronicle_of c.to H) (Comes T.entry ∷ chronicle_of c.to H)
+  slight_now = completes_few c.to.settings x (chronicle_of c.to H) T.entry b was.ear refl fit (λ o e. (heard.ear c.to.settings.id o e).0)
+
+  pub next_octets : b ≡ take (length b) (pending x H)
+  next_octets = heard.next ∙ ap (take (length b)) waits
+
+  pub comes_so : with_move (move.Piece x (length b) at) H ≡ N
+  comes_so = ap (λ o. Happens (move.Piece x (length b) at) (option_map (λ (d : Conn). turn_of d.to at (input.Piece x (take (length b) (pending x H)))) o) ∷ H) there
+      ∙ ap (λ o. Happens (move.Piece x (length b) at) (Some (turn_of c.to at (input.Piece x o))) ∷ H) (sym next_octets)
+
+  module _ (new : Network) (nodes : AreNodes N new) (rows : new.conns.items ≡ slice_set net.conns.items place now) (pending_now : new.pending + length b ≡ net.pending) where
+    not_its : (y : ℕ) → eqb y x ≡ false → piece_of y (input.Piece x b) ≡ []
+    not_its y z = ap (λ t. cond t b []) z
+
+    conns_now : (y : ℕ) (d : Conn) → nth y (conns H) ≡ Some d → HasConn N y d new.conns.items
+    conns_now y d e = by (eqb y x) refl
+      where
+        h : HasConn H y d net.conns.items
+        h = s.conns_are.each y d e
+
+        by : (t : Bool) → eqb y x ≡ t → HasConn N y d new.conns.items
+        by true z =
+            let same : x ≡ y = sym (eqb-true y x z) in
+            let who : c ≡ d = some_one (sym there ∙ ap (λ j. nth j (conns H)) same ∙ e) in record {
+              number = h.number;
+              row = now;
+              there = ap (nth y) rows ∙ nth_same y place net.conns.items now (sym same ∙ under) (in_reach net.conns.items place was before);
+              is = subst (λ w. IsConn N w now) who (record {
+                to = heard.to ∙ is.to;
+                to_known = known_later H (move.Piece x (length b) at) (piece_still x (length b) at) c.to at (input.Piece x b) is.to_known c.to is.to_known;
+                along = heard.along ∙ is.along;
+                along_known = known_later H (move.Piece x (length b) at) (piece_still x (length b) at) c.to at (input.Piece x b) is.to_known c.along.from is.along_known;
+                waits = heard.waiting ∙ ap (drop (length b)) is.waits ∙ sym (ap (λ t. cond t (drop (length b) (pending c.number H)) (pending c.number H)) (eq-eqb c.number x its.number));
+                fits = subst (λ K. Fits c.to.settings c.number K now.ear) (sym (chronicle_now H (move.Piece x (length b) at) c.to at (input.Piece x b)))
+                    (fits_piece c.to.settings (journal c.to H) T.entry c.number b was.ear now.ear (ap (λ k. input.Piece k b) (sym its.number)) (λ o e. (heard.ear c.to.settings.id o e).1) is.fits);
+              });
+            }
+        by false z =
+            let far : eqb d.number x ≡ false = ap (λ j. eqb j x) h.number ∙ z in record {
+              number = h.number;
+              row = h.row;
+              there = ap (nth y) rows ∙ nth_other x place y net.conns.items now under z ∙ h.there;
+              is = conn_still H (move.Piece x (length b) at) (piece_still x (length b) at) c.to at (input.Piece x b) is.to_known d h.row (not_its d.number far)
+                  (ap (λ t. cond t (drop (length b) (pending d.number H)) (pending d.number H)) far) h.is;
+            }
+
+    piece_stands : StandsAfter N new
+    piece_stands = record {
+      nodes = nodes;
+      conns_are = record {
+        count = ap (λ xs. length xs) rows ∙ set_length net.conns.items place now ∙ s.conns_are.count;
+        each = conns_now;
+        silent = λ d k y z. silent_more H (move.Piece x (length b) at) (piece_still x (length b) at) c.to at (input.Piece x b) is.to_known y (not_its y (beyond y z)) (λ w l. s.conns_are.silent w l y z) d k;
+      };
+      pending_is =
+          let f = sum_set (λ (y : Carrier). length y.waiting) net.conns.items place was now before in
+          let w = ap (λ xs. sum_by (λ (y : Carrier). length y.waiting) xs) rows in
+          let l = ap (λ q. length q) heard.waiting ∙ length-drop (length b) was.waiting in
+          let m = ap (λ q. length q) heard.next in
+          let t = few (length b) was.waiting in
+          omega (arith, f, w, l, m, t, pending_now, s.pending_is);
+    }
+      where
+        few : (k : ℕ) (o : List ℕ) → length (take k o) ≤ length o
+        few zero o = omega arith
+        few (suc k) [] = omega arith
+        few (suc k) (z ∷ o) = let r = few k o in omega (arith, r)
+
+        beyond : (y : ℕ) → length (conns H) < y → eqb y x ≡ false
+        beyond y z = by (eqb y x) refl
+          where
+            by : (t : Bool) → eqb y x ≡ t → t ≡ false
+            by false q = refl
+            by true q = absurd (let e = eqb-true y x q in let r = nth_reach x (conns H) c there in omega (arith, e, r, z))
+
+    pub hand_stands : StandsAfter (with_move (move.Piece x (length b) at) H) new
+    hand_stands = subst (λ Z. StandsAfter Z new) (sym comes_so) piece_stands
+
+-- ---- two pieces are one
+
+dropped : (k : ℕ) (o : List ℕ) → o ≡ [] → drop k o ≡ []
+dropped zero o e = e
+dropped (suc k) [] e = refl
+dropped (suc k) (z ∷ o) e = absurd cc
+
+but_sends : (a : Incarnation) (xs : List Act) → filter_map (broadcast_in a) (but_offers xs) ≡ filter_map (broadcast_in a) xs
+but_sends a [] = refl
+but_sends a (act.Offer l ∷ xs) = but_sends a xs
+but_sends a (act.Beacon o ∷ xs) = ap (λ ys. record { from = a; octets = o } ∷ ys) (but_sends a xs)
+but_sends a (act.Connect l to ∷ xs) = but_sends a xs
+but_sends a (act.CloseLink l ∷ xs) = but_sends a xs
+but_sends a (act.CloseConn k ∷ xs) = but_sends a xs
+but_sends a (act.Answer k o ∷ xs) = but_sends a xs
+
+but_connects : (a : Incarnation) (xs : List Act) → filter_map (route_in a) (but_offers xs) ≡ filter_map (route_in a) xs
+but_connects a [] = refl
+but_connects a (act.Offer l ∷ xs) = but_connects a xs
+but_connects a (act.Beacon o ∷ xs) = but_connects a xs
+but_connects a (act.Connect l to ∷ xs) = ap (λ ys. record { from = a; link = l } ∷ ys) (but_connects a xs)
+but_connects a (act.CloseLink l ∷ xs) = but_connects a xs
+but_connects a (act.CloseConn k ∷ xs) = but_connects a xs
+but_connects a (act.Answer k o ∷ xs) = but_connects a xs
+
+map-two : {A B : Type 0} (f : A → B) (xs ys : List A) → map f (xs ++ ys) ≡ map f xs ++ map f ys
+map-two f [] ys = refl
+map-two f (x ∷ xs) ys = ap (λ zs. f x ∷ zs) (map-two f xs ys)
+
+module _ (g : Config) (J : List Entry) (at x : ℕ) (a b : List ℕ) where
+  abbrev K : List Mark
+  K = chronicle g J
+
+  abbrev one : Entry
+  one = piece at x a
+
+  abbrev two : Entry
+  two = piece at x b
+
+  abbrev whole : Entry
+  whole = piece at x (a ++ b)
+
+  cut : IsSameCut g J at x a b
+  cut = same_cut g J at x a b
+
+  twice : events_at g one K ++ events_at g two (with_entry g one K) ≡ events_at g whole K
+  twice =
+      let p = append_cancel_left (events g J) (events_at g one K ++ (events_at g two (with_entry g one K) ++ [])) (events_at g whole K ++ []) (sym (continues g J (one ∷ two ∷ [])).told ∙ cut.told ∙ (continues g J (whole ∷ [])).told) in
+      ap (λ es. events_at g one K ++ es) (sym (append-nil (events_at g two (with_entry g one K)))) ∙ p ∙ append-nil (events_at g whole K)
+
+  offers-both : (xs ys : List Act) → but_offers (xs ++ ys) ≡ but_offers xs ++ but_offers ys
+  offers-both xs ys = filter-append (λ z. not (is_offer z)) xs ys
+
+  both_done : but_offers (acts_at g one K ++ acts_at g two (with_entry g one K)) ≡ but_offers (acts_at g whole K)
+  both_done =
+      let l = ap but_offers (continues g J (one ∷ two ∷ [])).done ∙ offers-both (acts g J) (acts_at g one K ++ (acts_at g two (with_entry g one K) ++ [])) in
+      let r = ap but_offers (continues g J (whole ∷ [])).done ∙ offers-both (acts g J) (acts_at g whole K ++ []) in
+      let p = append_cancel_left (but_offers (acts g J)) (but_offers (acts_at g one K ++ (acts_at g two (with_entry g one K) ++ []))) (but_offers (acts_at g whole K ++ [])) (sym l ∙ cut.done ∙ r) in
+      ap (λ xs. but_offers (acts_at g one K ++ xs)) (sym (append-nil (acts_at g two (with_entry g one K)))) ∙ p ∙ ap but_offers (append-nil (acts_at g whole K))
+
+module _ (H : List Happening) (x i j at : ℕ) (w : Incarnation) (known : IsKnown H w) (a b : List ℕ) where
+  abbrev t : ℕ
+  t = max at w.since
+
+  abbrev G : Config
+  G = w.settings
+
+  abbrev I : List Entry
+  I = journal w H
+
+  abbrev H1 : List Happening
+  H1 = Happens (move.Piece x i at) (Some (turn_of w at (input.Piece x a))) ∷ H
+
+  abbrev H2 : List Happening
+  H2 = Happens (move.Piece x j at) (Some (turn_of w at (input.Piece x b))) ∷ H1
+
+  abbrev W : List Happening
+  W = Happens (move.Piece x (i + j) at) (Some (turn_of w at (input.Piece x (a ++ b)))) ∷ H
+
+  mine : (v : Incarnation) → v.number ≡ w.number → (e : Entry) → cond (eqb v.number w.number) (Some e) None ≡ Some e
+  mine v q e = ap (λ z. cond z (Some e) None) (eq-eqb v.number w.number q)
+
+  journal_two : journal w H2 ≡ I ++ piece t x a ∷ piece t x b ∷ []
+  journal_two = ap (λ z. followed (followed I z) (cond (eqb w.number w.number) (Some (piece t x b)) None)) (mine w refl (piece t x a))
+      ∙ ap (λ z. followed (I ++ piece t x a ∷ []) z) (mine w refl (piece t x b)) ∙ append_assoc I (piece t x a ∷ []) (piece t x b ∷ [])
+
+  journal_one : journal w H1 ≡ I ++ piece t x a ∷ []
+  journal_one = ap (λ z. followed I z) (mine w refl (piece t x a))
+
+  journal_whole : journal w W ≡ I ++ piece t x (a ++ b) ∷ []
+  journal_whole = ap (λ z. followed I z) (mine w refl (piece t x (a ++ b)))
+
+  other_two : (v : Incarnation) → eqb v.number w.number ≡ false → journal v H2 ≡ journal v W
+  other_two v q =
+      ap (λ z. followed (followed (journal v H) (cond z (Some (piece t x a)) None)) (cond z (Some (piece t x b)) None)) q
+      ∙ sym (ap (λ z. followed (journal v H) (cond z (Some (piece t x (a ++ b))) None)) q)
+
+  abbrev A : List Mark
+  A = chronicle G (I ++ piece t x a ∷ piece t x b ∷ [])
+
+  abbrev B : List Mark
+  B = chronicle G (I ++ piece t x (a ++ b) ∷ [])
+
+  s : Sim (chronicle G (I ++ piece t x a ∷ piece t x b ∷ [])) (chronicle G (I ++ piece t x (a ++ b) ∷ []))
+  s = sim G I t x a b
+
+  -- what is so of the journals after two pieces is so after the whole
+  for_all : (P Q : Incarnation → List Entry → Type 0) → (P w (I ++ piece t x a ∷ piece t x b ∷ []) → Q w (I ++ piece t x (a ++ b) ∷ [])) → ((v : Incarnation) (Z : List Entry) → P v Z → Q v Z) → (v : Incarnation) → IsKnown H v → P v (journal v H2) → Q v (journal v W)
+  for_all P Q f k v l p = by (eqb v.number w.number) refl
+    where
+      by : (z : Bool) → eqb v.number w.number ≡ z → Q v (journal v W)
+      by true z =
+          let same : w ≡ v = same_who H w v known l (sym (eqb-true v.number w.number z)) in
+          subst (λ u. Q u (journal u W)) same (subst (λ Z. Q w Z) (sym journal_whole) (f (subst (λ Z. P w Z) journal_two (subst (λ u. P u (journal u H2)) (sym same) p))))
+      by false z = k v (journal v W) (subst (λ Z. P v Z) (other_two v z) p)
+
+  fits_whole : (y : ℕ) (ear : Ear) → Fits G y (chronicle G (I ++ piece t x a ∷ piece t x b ∷ [])) ear → Fits G y (chronicle G (I ++ piece t x (a ++ b) ∷ [])) ear
+  fits_whole y ear f = record {
+    heard = λ o. f.heard (by_marks A B s.alike (was_opened y) (ever_but (opens y) (λ e. refl)) ∙ o) ∙ ap (λ o. conn_after G.id o) ((same_cut G I t x a b).octets_are y);
+    old = subst (λ n. (n ≡ false) ⊎ (has_stopped B ≡ true)) (by_marks A B s.alike (is_new y) (new_but y)) (subst (λ n. (is_new y A ≡ false) ⊎ (n ≡ true)) (by_marks A B s.alike has_stopped (ever_but is_stop (λ e. refl))) f.old);
+  }
+
+  chronicle_one : chronicle_of w H1 ≡ with_entry G (piece t x a) (chronicle_of w H)
+  chronicle_one = ap (chronicle G) journal_one ∙ (continues G I (piece t x a ∷ [])).happened
+
+  module _ (net : Network) (st : StandsAfter H2 net) where
+    said_same : said_in H2 ≡ said_in W
+    said_same =
+        ap (λ K. (said_in H ++ map (λ e. (w.node, e)) (events_at G (piece t x a) (chronicle_of w H))) ++ map (λ e. (w.node, e)) (events_at G (piece t x b) K)) chronicle_one
+        ∙ append_assoc (said_in H) (map (λ e. (w.node, e)) (events_at G (piece t x a) (chronicle_of w H))) (map (λ e. (w.node, e)) (events_at G (piece t x b) (with_entry G (piece t x a) (chronicle_of w H))))
+        ∙ ap (λ es. said_in H ++ es) (sym (map-two (λ (e : Event). (w.node, e)) (events_at G (piece t x a) (chronicle_of w H)) (events_at G (piece t x b) (with_entry G (piece t x a) (chronicle_of w H)))) ∙ ap (λ es. map (λ (e : Event). (w.node, e)) es) (twice G I t x a b))
+
+    acts_same : {C : Type 0} (f : Act → Option C) (base : List C) → ((xs : List Act) → filter_map f (but_offers xs) ≡ filter_map f xs)
+        → (base ++ filter_map f (acts_at G (piece t x a) (chronicle_of w H))) ++ filter_map f (acts_at G (piece t x b) (chronicle_of w H1)) ≡ base ++ filter_map f (acts_at G (piece t x (a ++ b)) (chronicle_of w H))
+    acts_same f base but =
+        let xs = acts_at G (piece t x a) (chronicle_of w H) in
+        let ys = acts_at G (piece t x b) (with_entry G (piece t x a) (chronicle_of w H)) in
+        ap (λ K. (base ++ filter_map f xs) ++ filter_map f (acts_at G (piece t x b) K)) chronicle_one
+        ∙ append_assoc base (filter_map f xs) (filter_map f ys)
+        ∙ ap (λ zs. base ++ zs) (sym (filter_map-both f xs ys) ∙ sym (but (xs ++ ys)) ∙ ap (filter_map f) (both_done G I t x a b) ∙ but (acts_at G (piece t x (a ++ b)) (chronicle_of w H)))
+
+    broadcasts_same : broadcasts H2 ≡ broadcasts W
+    broadcasts_same = acts_same (broadcast_in w) (broadcasts H) (but_sends w)
+
+    routes_same : routes H2 ≡ routes W
+    routes_same = acts_same (route_in w) (routes H) (but_connects w)
+
+    started_same : AreStarted W net.started.items
+    started_same = record { count = st.nodes.started.count; each = λ k v e. one_row k v e (st.nodes.started.each k v e); none_yet = λ v z. none v z (st.nodes.started.none_yet v z) }
+      where
+        one_row : (k : ℕ) (v : Incarnation) → nth k (incarnations H) ≡ Some v → HasStarted H2 k v net.started.items → HasStarted W k v net.started.items
+        one_row k v e h = record {
+          number = h.number;
+          row = h.row;
+          there = h.there;
+          is = record {
+            node = h.is.node;
+            since = h.is.since;
+            id = h.is.id;
+            host = h.is.host;
+            sent = for_all (λ u Z. HasSent u.settings Z h.row.sender) (λ u Z. HasSent u.settings Z h.row.sender) (has_sent_whole G I t x a b h.row.sender) (λ u Z q. q) v (ap (λ n. nth n (incarnations H)) h.number ∙ e) h.is.sent;
+          };
+        }
+
+        none : (v : Incarnation) → length (incarnations H) < v.number → journal v H2 ≡ [] → journal v W ≡ []
+        none v z q = sym (other_two v far) ∙ q
+          where
+            far : eqb v.number w.number ≡ false
+            far = by (eqb v.number w.number) refl
+              where
+                by : (u : Bool) → eqb v.number w.number ≡ u → u ≡ false
+                by false y = refl
+                by true y = absurd (let e = eqb-true v.number w.number y in let r = nth_reach w.number (incarnations H) w known in omega (arith, e, r, z))
+
+    drop-twice : (n m : ℕ) (o : List ℕ) → drop m (drop n o) ≡ drop (n + m) o
+    drop-twice zero m o = let e : m ≡ 0 + m = omega arith in ap (λ k. drop k o) e
+    drop-twice (suc n) m [] = dropped m [] refl ∙ sym (dropped (suc n + m) [] refl)
+    drop-twice (suc n) m (z ∷ o) = drop-twice n m o ∙ (let e : suc (n + m) ≡ suc n + m = omega arith in ap (λ k. drop k (z ∷ o)) e)
+
+    pending_same : (y : ℕ) → pending y H2 ≡ pending y W
+    pending_same y = by (eqb y x)
+      where
+        by : (u : Bool) → cond u (drop j (cond u (drop i (pending y H)) (pending y H))) (cond u (drop i (pending y H)) (pending y H)) ≡ cond u (drop (i + j) (pending y H)) (pending y H)
+        by true = drop-twice i j (pending y H)
+        by false = refl
+
+    pub whole_stands : StandsAfter W net
+    whole_stands = record {
+      nodes = record {
+        said = st.nodes.said ∙ said_same;
+        started = started_same;
+        runs = λ n. finds n (running n H) (running_at n net.running.items) (st.nodes.runs n);
+        owners = st.nodes.owners;
+        beacons = st.nodes.beacons ∙ ap (λ xs. map sent_of xs) broadcasts_same;
+        links = st.nodes.links ∙ ap (λ xs. map way_of xs) routes_same;
+        known = subst (λ rs. AllByRecursion (λ (r : Route). IsKnown W r.from) rs) routes_same (all_map (λ (r : Route). IsKnown H2 r.from) (λ (r : Route). IsKnown W r.from) (λ r z. z) (routes H2) st.nodes.known);
+        queued = st.nodes.queued;
+      };
+      conns_are = record { count = st.conns_are.count; each = λ y d e. one_conn y d (st.conns_are.each y d e); silent = silent };
+      pending_is = st.pending_is;
+    }
+      where
+        finds : (n : ℕ) (o : Option Incarnation) (f : Option ℕ) → Finds H2 n o f → Finds W n o f
+        finds n None f z = z
+        finds n (Some v) f z = (z.0, z.1, z.2)
+
+        one_conn : (y : ℕ) (d : Conn) → HasConn H2 y d net.conns.items → HasConn W y d net.conns.items
+        one_conn y d h = record {
+          number = h.number;
+          row = h.row;
+          there = h.there;
+          is = record {
+            to = h.is.to;
+            to_known = h.is.to_known;
+            along = h.is.along;
+            along_known = h.is.along_known;
+            waits = h.is.waits ∙ pending_same d.number;
+            fits = for_all (λ u Z. Fits u.settings d.number (chronicle u.settings Z) h.row.ear) (λ u Z. Fits u.settings d.number (chronicle u.settings Z) h.row.ear) (fits_whole d.number h.row.ear) (λ u Z q. q) d.to h.is.to_known h.is.fits;
+          };
+        }
+
+        silent : (v : Incarnation) → IsKnown W v → (y : ℕ) → length (conns W) < y → bytes y (chronicle_of v W) ≡ []
+        silent v l y z = for_all (λ u Z. bytes y (chronicle u.settings Z) ≡ []) (λ u Z. bytes y (chronicle u.settings Z) ≡ []) (λ q. sym ((same_cut G I t x a b).octets_are y) ∙ q) (λ u Z q. q) v l (st.conns_are.silent v l y z)
+
+taken-none : (k : ℕ) (o : List ℕ) → o ≡ [] → take k o ≡ []
+taken-none zero o e = refl
+taken-none (suc k) [] e = refl
+taken-none (suc k) (z ∷ o) e = absurd cc
+
+take-more : (i j : ℕ) (o : List ℕ) → take i o ++ take j (drop i o) ≡ take (i + j) o
+take-more zero j o = let e : j ≡ 0 + j = omega arith in ap (λ k. take k o) e
+take-more (suc i) j [] = taken-none j [] refl ∙ sym (taken-none (suc i + j) [] refl)
+take-more (suc i) j (z ∷ o) = ap (λ q. z ∷ q) (take-more i j o) ∙ (let e : suc (i + j) ≡ suc i + j = omega arith in ap (λ k. take k (z ∷ o)) e)
+
+-- octets that come one after the other
+pub pieces_join : (H : List Happening) (x i j at : ℕ) (c : Conn) (net : Network) → nth x (conns H) ≡ Some c → IsKnown H c.to
+    → StandsAfter (with_move (move.Piece x j at) (with_move (move.Piece x i at) H)) net → StandsAfter (with_move (move.Piece x (i + j) at) H) net
+pieces_join H x i j at c net there known s =
+    subst (λ Z. StandsAfter Z net) (sym (once (i + j) H there (take (i + j) (pending x H)) refl))
+    (subst (λ o. StandsAfter (Happens (move.Piece x (i + j) at) (Some (turn_of c.to at (input.Piece x o))) ∷ H) net) (take-more i j (pending x H))
+    (whole_stands H x i j at c.to known (take i (pending x H)) (take j (drop i (pending x H))) net
+    (subst (λ Z. StandsAfter Z net) (ap (λ Z. with_move (move.Piece x j at) Z) (once i H there (take i (pending x H)) refl) ∙ once j (H1 H x i j at c.to known (take i (pending x H)) (take j (drop i (pending x H)))) there (take j (drop i (pending x H))) (ap (take j) (sym (ap (λ b. cond b (drop i (pending x H)) (pending x H)) (eq-eqb x x refl))))) s)))
+  where
+    once : (n : ℕ) (Z : List Happening) → nth x (conns Z) ≡ Some c → (o : List ℕ) → o ≡ take n (pending x Z) → with_move (move.Piece x n at) Z ≡ Happens (move.Piece x n at) (Some (turn_of c.to at (input.Piece x o))) ∷ Z
+    once n Z t o e =
+        ap (λ d. Happens (move.Piece x n at) (option_map (λ (w : Conn). turn_of w.to at (input.Piece x (take n (pending x Z)))) d) ∷ Z) t
+        ∙ ap (λ q. Happens (move.Piece x n at) (Some (turn_of c.to at (input.Piece x q))) ∷ Z) (sym e)
+
+-- ---- as a move
+
+pub hand_on : (H : List Happening) (x count left came at : ℕ) (c : Conn) (net new : Network) → StandsAfter H net → nth x (conns H) ≡ Some c → left ≤ count → came ≤ left
+    → StandsAfter (with_move (move.Piece x came at) (with_move (move.Piece x (count - left) at) H)) new → StandsAfter (with_move (move.Piece x (count - (left - came)) at) H) new
+hand_on H x count left came at c net new s there a b t =
+    let same : count - left + came ≡ count - (left - came) = omega (arith, a, b) in
+    subst (λ n. StandsAfter (with_move (move.Piece x n at) H) new) same (pieces_join H x (count - left) came at c new there (s.conns_are.each x c there).is.to_known t)
+
+pub piece_gone : (H : List Happening) (x count at : ℕ) → Receives H (nth x (conns H)) None → may_come (move.Piece x count at) H ≡ false
+piece_gone H x count at r = not_received H (λ c. leb count (length (pending x H))) (nth x (conns H)) r
+
+pub piece_refused : (H : List Happening) (x count at k : ℕ) (net : Network) (w : ℕ) → Receives H (nth x (conns H)) (Some k) → ((c : Conn) → nth x (conns H) ≡ Some c → w ≡ length (pending x H)) → ltb w count ≡ true → may_come (move.Piece x count at) H ≡ false
+piece_refused H x count at k net w r f z =
+    let q = received H k (nth x (conns H)) r in
+    ap (passes (λ (c : Conn). is_there H c.to && leb count (length (pending x H)))) q.is ∙ ap (λ b. b && leb count (length (pending x H))) q.runs ∙ too_many (leb count (length (pending x H))) refl (f q.conn q.is)
+  where
+    too_many : (b : Bool) → leb count (length (pending x H)) ≡ b → w ≡ length (pending x H) → b ≡ false
+    too_many false e l = refl
+    too_many true e l = let p = leb-true count (length (pending x H)) e in let q = ltb-true w count z in absurd (omega (arith, p, q, l))
+
+pub piece_played : (H : List Happening) (x count at k : ℕ) (net new : Network) (w : ℕ) → Receives H (nth x (conns H)) (Some k) → ((c : Conn) → nth x (conns H) ≡ Some c → w ≡ length (pending x H)) → ltb w count ≡ false
+    → ((c : Conn) → nth x (conns H) ≡ Some c → k ≡ c.to.number → StandsAfter (with_move (move.Piece x count at) H) new) → IsPlayed (move.Piece x count at) H true new
+piece_played H x count at k net new w r f z t =
+    let q = received H k (nth x (conns H)) r in
+    played (move.Piece x count at) H new (ap (passes (λ (c : Conn). is_there H c.to && leb count (length (pending x H)))) q.is ∙ ap (λ b. b && leb count (length (pending x H))) q.runs ∙ few (leb count (length (pending x H))) refl (f q.conn q.is)) (t q.conn q.is q.number)
+  where
+    few : (b : Bool) → leb count (length (pending x H)) ≡ b → w ≡ length (pending x H) → b ≡ true
+    few true e l = refl
+    few false e l = let p = leb-false count (length (pending x H)) e in let q = ltb-false w count z in absurd (omega (arith, p, q, l))
+
+-- ---- how much waits
+
+pub waits_for : (H : List Happening) (net : Network) (s : StandsAfter H net) (x : ℕ) (c : Conn) (y : Carrier) → nth x (conns H) ≡ Some c → nth x net.conns.items ≡ Some y → length y.waiting ≡ length (pending x H)
+waits_for H net s x c y t e =
+    let h = s.conns_are.each x c t in
+    ap (λ (r : Carrier). length r.waiting) (some_one (sym e ∙ h.there)) ∙ ap (λ o. length o) h.is.waits ∙ ap (λ k. length (pending k H)) h.number
+
+pub waits_not : (H : List Happening) (net : Network) (s : StandsAfter H net) (x : ℕ) (c : Conn) → nth x (conns H) ≡ Some c → nth x net.conns.items ≡ None → 0 ≡ length (pending x H)
+waits_not H net s x c t e = absurd (let h = (s.conns_are.each x c t).there in cc)

@@ -1,0 +1,51 @@
+-- Moves, one after the other.
+use Rattle.std.proofs.Common.{◌≡◌, ℕ, ◌+◌, Bool, true, false, cond, ◌&&◌, List, [], ◌∷◌, ◌++◌, length, Option, Some, None, refl, sym, ap, ◌∙◌, subst, arith, true≢false, append-nil}
+use Rattle.zre_net.specs.declared.moves.Move.{Move}
+use Rattle.zre_net.specs.declared.running.network.Network.{Network}
+use Rattle.zre_net.specs.Answer.{bad_move, bad_move_after}
+use Rattle.zre_net.specs.Comes.{with_move, history, history_after}
+use Rattle.zre_net.specs.Grammar.{may_come, has_room, is_good}
+use Rattle.zre_net.specs.History.{Happening}
+use Rattle.zre_net.specs.Running.{StandsAfter, IsPlayed, IsTaken, Goes}
+
+-- a move that may come is within the grammar where there is room
+pub taken : (m : Move) (H : List Happening) (may room : Bool) (net : Network) → IsPlayed m H may net → (StandsAfter (with_move m H) net → room ≡ has_room (with_move m H)) → IsTaken m H (may && room) net
+taken m H true room net p r = record { fits = r (p.stands refl) ∙ ap (λ b. b && has_room (with_move m H)) p.fits; stands = λ z. p.stands refl }
+taken m H false room net p r = record { fits = ap (λ b. b && has_room (with_move m H)) p.fits; stands = λ z. absurd (true≢false (sym z)) }
+
+history_more : (ys : List Move) (m : Move) (H : List Happening) → history_after (ys ++ m ∷ []) H ≡ with_move m (history_after ys H)
+history_more [] m H = refl
+history_more (y ∷ ys) m H = history_more ys m (with_move y H)
+
+later_bad : (n : ℕ) (ys zs : List Move) (H : List Happening) → bad_move_after n ys H ≡ None → bad_move_after n (ys ++ zs) H ≡ bad_move_after (n + length ys) zs (history_after ys H)
+later_bad n [] zs H e = let z : n ≡ n + 0 = omega arith in ap (λ k. bad_move_after k zs H) z
+later_bad n (m ∷ ys) zs H e = by (is_good m H) e (λ z. later_bad (n + 1) ys zs (with_move m H) z)
+  where
+    by : (b : Bool) → cond b (bad_move_after (n + 1) ys (with_move m H)) (Some n) ≡ None → (bad_move_after (n + 1) ys (with_move m H) ≡ None → bad_move_after (n + 1) (ys ++ zs) (with_move m H) ≡ bad_move_after (n + 1 + length ys) zs (history_after ys (with_move m H))) → cond b (bad_move_after (n + 1) (ys ++ zs) (with_move m H)) (Some n) ≡ bad_move_after (n + length (m ∷ ys)) zs (history_after ys (with_move m H))
+    by true z f = f z ∙ (let q : n + 1 + length ys ≡ n + length (m ∷ ys) = omega arith in ap (λ k. bad_move_after k zs (history_after ys (with_move m H))) q)
+    by false z f = absurd cc
+
+bad_at : (line : ℕ) (ys zs : List Move) → bad_move ys ≡ None → line ≡ 2 + length ys → bad_move (ys ++ zs) ≡ bad_move_after line zs (history ys)
+bad_at line ys zs e l = later_bad 2 ys zs [] e ∙ ap (λ k. bad_move_after k zs (history ys)) (sym l)
+
+pub goes_first : (net : Network) → StandsAfter [] net → Goes [] 2 net
+goes_first net s = record { stands = s; all_good = refl; line_is = refl }
+
+pub goes_on : (ys : List Move) (m : Move) (line : ℕ) (net new : Network) → Goes ys line net → IsTaken m (history ys) true new → Goes (ys ++ m ∷ []) (line + 1) new
+goes_on ys m line net new g t = record {
+  stands = subst (λ H. StandsAfter H new) (sym (history_more ys m [])) (t.stands refl);
+  all_good = bad_at line ys (m ∷ []) g.all_good g.line_is ∙ ap (λ b. cond b None (Some line)) (sym t.fits);
+  line_is = let l = g.line_is in let n = longer ys in omega (arith, l, n);
+}
+  where
+    longer : (xs : List Move) → length (xs ++ m ∷ []) ≡ length xs + 1
+    longer [] = refl
+    longer (x ∷ xs) = let r = longer xs in omega (arith, r)
+
+pub stops_at : (ys zs : List Move) (m : Move) (line : ℕ) (net new : Network) → Goes ys line net → IsTaken m (history ys) false new → bad_move (ys ++ m ∷ zs) ≡ Some line
+stops_at ys zs m line net new g t = bad_at line ys (m ∷ zs) g.all_good g.line_is ∙ ap (λ b. cond b (bad_move_after (line + 1) zs (with_move m (history ys))) (Some line)) (sym t.fits)
+
+-- all have come
+pub took_all : (given came left : List Move) (n : ℕ) → given ≡ came ++ left → n ≡ length left → n ≡ 0 → came ≡ given
+took_all given came [] n is long none = sym (append-nil came) ∙ sym is
+took_all given came (m ∷ ms) n is long none = absurd (omega (arith, long, none))

@@ -1,0 +1,253 @@
+-- The nodes of a network, after an entry of one of them.
+use Rattle.std.proofs.Common.{◌≡◌, ◌⊎◌, ℕ, ◌+◌, ◌≤◌, ◌<◌, max, Bool, true, false, cond, eqb, List, [], ◌∷◌, ◌++◌, length, map, Option, Some, None, refl, sym, ap, ◌∙◌, subst, inl, inr, arith, eqb-true, eq-eqb, append_assoc}
+use Rattle.std.specs.Prelude.{slice_get, slice_set, sum_by, get_or, take}
+use Rattle.std.specs.List.{cons_option}
+use Rattle.std.proofs.lemmas.List.{take_more}
+use Rattle.std.specs.List.{filter_map, AllByRecursion}
+use Rattle.std.specs.Option.{option_map}
+use Rattle.zre_outside.specs.declared.act.Act.{Act}
+use Rattle.zre_outside.specs.declared.act.Act.TheVariants as act
+use Rattle.zre_outside.specs.declared.entry.Entry.{Entry}
+use Rattle.zre_outside.specs.declared.entry.Input.{Input}
+use Rattle.zre_peer.specs.declared.event.Event.{Event}
+use Rattle.zre_journal.specs.declared.config.Config.{Config}
+use Rattle.zre_journal.specs.Chronicle.{Mark, Comes, followed}
+use Rattle.zre_journal.specs.Done.{acts_at}
+use Rattle.zre_journal.specs.Events.{chronicle, events_at}
+use Rattle.zre_journal.specs.Happens.{with_entry}
+use Rattle.zre_journal.proofs.Joined.{continues}
+use Rattle.zre_net.specs.declared.moves.Move.{Move}
+use Rattle.zre_net.specs.declared.running.network.Network.{Network}
+use Rattle.zre_net.specs.declared.running.rows.Started.{Started}
+use Rattle.zre_net.specs.declared.running.rows.Sent.{Sent}
+use Rattle.zre_net.specs.declared.running.rows.Way.{Way}
+use Rattle.zre_net.specs.declared.running.steps.Turn.{Turn as Took}
+use Rattle.zre_net.specs.Comes.{turn_of}
+use Rattle.zre_net.specs.History.{Incarnation, Turn, Happening, Happens, incarnations, running, journal, chronicle_of}
+use Rattle.zre_net.specs.Lines.{octets_in}
+use Rattle.zre_net.specs.Lists.{nth}
+use Rattle.zre_net.specs.Numbers.{Route, Broadcast, acts_of, route_in, routes, broadcast_in, broadcasts}
+use Rattle.zre_net.specs.Rows.{entry_at, Turned, StaysAt, sent_in, way_in, running_at}
+use Rattle.zre_net.specs.Running.{IsKnown, IsStarted, HasStarted, AreStarted, Finds, AreNodes, IsStill, owner_of, sent_of, way_of}
+use Rattle.zre_net.specs.Said.{said_in, said_at}
+use Rattle.zre_net.specs.Sender.{is_slight}
+use Rattle.zre_net.specs.Sending.{HasSent}
+use Rattle.zre_net.proofs.Listing.{some_one, in_reach, nth_at, nth_reach, nth_same, nth_other, set_length, sum_set, all_more, all_map}
+
+map-both : {A B : Type 0} (f : A → B) (xs ys : List A) → map f (xs ++ ys) ≡ map f xs ++ map f ys
+map-both f [] ys = refl
+map-both f (x ∷ xs) ys = ap (λ zs. f x ∷ zs) (map-both f xs ys)
+
+one_first : {B : Type 0} (o : Option B) (xs ys : List B) → cons_option o (xs ++ ys) ≡ cons_option o xs ++ ys
+one_first None xs ys = refl
+one_first (Some z) xs ys = refl
+
+pub filter_map-both : {A B : Type 0} (f : A → Option B) (xs ys : List A) → filter_map f (xs ++ ys) ≡ filter_map f xs ++ filter_map f ys
+filter_map-both f [] ys = refl
+filter_map-both f (x ∷ xs) ys = ap (cons_option (f x)) (filter_map-both f xs ys) ∙ one_first (f x) (filter_map f xs) (filter_map f ys)
+
+-- what one act more brings
+pub one_more : {B : Type 0} (f : Act → Option B) (xs ys zs : List B) (acts : List Act) (i : ℕ) (a : Act) → i < length acts → a ≡ get_or acts i a → ys ≡ xs ++ filter_map f (take i acts) → zs ≡ ys ++ filter_map f (a ∷ []) → zs ≡ xs ++ filter_map f (take (i + 1) acts)
+one_more f xs ys zs acts i a lt is e q =
+    q ∙ ap (λ ws. ws ++ filter_map f (a ∷ [])) e ∙ append_assoc xs (filter_map f (take i acts)) (filter_map f (a ∷ []))
+    ∙ ap (λ ws. xs ++ ws) (sym (filter_map-both f (take i acts) (a ∷ [])) ∙ ap (filter_map f) (sym (take_more acts i a lt ∙ ap (λ x. take i acts ++ x ∷ []) (sym is))))
+
+-- what one event more tells
+pub tell_more : (n : ℕ) (xs ys zs : List (ℕ × Event)) (es : List Event) (e : Event) → ys ≡ xs ++ map (λ x. (n, x)) es → zs ≡ ys ++ (n, e) ∷ [] → zs ≡ xs ++ map (λ x. (n, x)) (es ++ e ∷ [])
+tell_more n xs ys zs es e p q = q ∙ ap (λ ws. ws ++ (n, e) ∷ []) p ∙ append_assoc xs (map (λ x. (n, x)) es) ((n, e) ∷ []) ∙ ap (λ ws. xs ++ ws) (sym (map-both (λ (x : Event). (n, x)) es (e ∷ [])))
+
+-- ---- journals
+
+module _ (H : List Happening) (m : Move) (a : Incarnation) (at : ℕ) (i : Input) where
+  abbrev T : Turn
+  T = turn_of a at i
+
+  abbrev N : List Happening
+  N = Happens m (Some T) ∷ H
+
+  abbrev J : List Entry
+  J = journal a H
+
+  pub journal_now : (b : Incarnation) → b.number ≡ a.number → journal b N ≡ journal b H ++ T.entry ∷ []
+  journal_now b e = ap (λ z. followed (journal b H) (cond z (Some T.entry) None)) (eq-eqb b.number a.number e)
+
+  pub other_journal : (b : Incarnation) → eqb b.number a.number ≡ false → journal b N ≡ journal b H
+  other_journal b e = ap (λ z. followed (journal b H) (cond z (Some T.entry) None)) e
+
+  pub chronicle_now : chronicle_of a N ≡ with_entry a.settings T.entry (chronicle_of a H)
+  chronicle_now = ap (chronicle a.settings) (journal_now a refl) ∙ (continues a.settings J (T.entry ∷ [])).happened
+
+  pub other_chronicle : (b : Incarnation) → eqb b.number a.number ≡ false → chronicle_of b N ≡ chronicle_of b H
+  other_chronicle b e = ap (chronicle b.settings) (other_journal b e)
+
+-- ---- acts
+
+sent_same : (a : Incarnation) (acts : List Act) → map sent_of (filter_map (broadcast_in a) acts) ≡ filter_map (sent_in a.settings.host) acts
+sent_same a [] = refl
+sent_same a (act.Beacon o ∷ acts) = ap (λ xs. record { from = a.settings.host; octets = o } ∷ xs) (sent_same a acts)
+sent_same a (_ ∷ acts) = sent_same a acts
+
+ways_same : (a : Incarnation) (acts : List Act) → map way_of (filter_map (route_in a) acts) ≡ filter_map (way_in a.number) acts
+ways_same a [] = refl
+ways_same a (act.Connect l to ∷ acts) = ap (λ xs. record { start = a.number; link = l } ∷ xs) (ways_same a acts)
+ways_same a (_ ∷ acts) = ways_same a acts
+
+from_it : (P : Incarnation → Type 0) (a : Incarnation) → P a → (acts : List Act) → AllByRecursion (λ (s : Route). P s.from) (filter_map (route_in a) acts)
+from_it P a p [] = tt
+from_it P a p (act.Connect l to ∷ acts) = (p, from_it P a p acts)
+from_it P a p (_ ∷ acts) = from_it P a p acts
+
+-- ---- nodes
+
+pub record HasStepped (k at : ℕ) (i : Input) (net new : Network) : Type 0 where
+  pub place : ℕ
+  pub under : k ≡ place + 1
+  pub was : Started
+  pub now : Started
+  pub took : Took
+  pub before : slice_get net.started.items place ≡ Some was
+  pub written : new.started.items ≡ slice_set net.started.items place now
+  pub turned : (g : Config) (J : List Entry) → HasSent g J was.sender → is_slight g i (chronicle g J) (Comes (entry_at was at i) ∷ chronicle g J) → Turned g J (entry_at was at i) took now
+  pub stays : StaysAt took was now
+  pub queued : new.queued + took.before ≡ net.queued + took.after
+  pub beacons : new.beacons ≡ net.beacons ++ filter_map (sent_in took.host) took.step.acts
+  pub links : new.links ≡ net.links ++ filter_map (way_in k) took.step.acts
+  pub said : new.said ≡ net.said ++ map (λ e. (took.node, e)) took.step.events
+  pub running : new.running ≡ net.running
+  pub owners : new.owners ≡ net.owners
+
+module _ (H : List Happening) (m : Move) (still : IsStill m) (a : Incarnation) (k at : ℕ) (i : Input) (net new : Network) (nodes : AreNodes H net) (there : nth k (incarnations H) ≡ Some a) where
+  abbrev T' : Turn
+  T' = turn_of a at i
+
+  abbrev N' : List Happening
+  N' = Happens m (Some T') ∷ H
+
+  stay : incarnations N' ≡ incarnations H
+  stay = still.incarnations_stay (Some T') H
+
+  pub known_too : (b : Incarnation) → IsKnown H b → IsKnown N' b
+  known_too b e = ap (nth b.number) stay ∙ e
+
+  pub known_back : (b : Incarnation) → IsKnown N' b → IsKnown H b
+  known_back b e = ap (nth b.number) (sym stay) ∙ e
+
+  its : HasStarted H k a net.started.items
+  its = nodes.started.each k a there
+
+  pub is_number : a.number ≡ k
+  is_number = its.number
+
+  pub a_known : IsKnown H a
+  a_known = ap (λ n. nth n (incarnations H)) is_number ∙ there
+
+  module _ (slight : is_slight a.settings i (chronicle_of a H) (Comes T'.entry ∷ chronicle_of a H)) (s : HasStepped k at i net new) where
+    same_row : its.row ≡ s.was
+    same_row = some_one (sym its.there ∙ nth_at k s.place net.started.items s.under ∙ s.before)
+
+    old : IsStarted H a s.was
+    old = subst (λ x. IsStarted H a x) same_row its.is
+
+    same_entry : entry_at s.was at i ≡ T'.entry
+    same_entry = ap (λ n. record { at = max at n; input = i }) old.since
+
+    turned : Turned a.settings (journal a H) T'.entry s.took s.now
+    turned = subst (λ e. Turned a.settings (journal a H) e s.took s.now) same_entry
+        (s.turned a.settings (journal a H) old.sent (subst (λ e. is_slight a.settings i (chronicle_of a H) (Comes e ∷ chronicle_of a H)) (sym same_entry) slight))
+
+    new_row : IsStarted N' a s.now
+    new_row = record {
+      node = s.stays.node ∙ old.node;
+      since = s.stays.since ∙ old.since;
+      id = s.stays.id ∙ old.id;
+      host = s.stays.host ∙ old.host;
+      sent = subst (λ Z. HasSent a.settings Z s.now.sender) (sym (journal_now H m a at i a refl)) turned.sent;
+    }
+
+    reach : s.place < length net.started.items
+    reach = in_reach net.started.items s.place s.was s.before
+
+    each : (j : ℕ) (b : Incarnation) → nth j (incarnations N') ≡ Some b → HasStarted N' j b new.started.items
+    each j b e = by (eqb j k) refl
+      where
+        e' : nth j (incarnations H) ≡ Some b
+        e' = ap (nth j) (sym stay) ∙ e
+
+        o : HasStarted H j b net.started.items
+        o = nodes.started.each j b e'
+
+        by : (z : Bool) → eqb j k ≡ z → HasStarted N' j b new.started.items
+        by true z =
+            let same : j ≡ k = eqb-true j k z in
+            let who : a ≡ b = some_one (sym there ∙ ap (λ n. nth n (incarnations H)) (sym same) ∙ e') in record {
+              number = o.number;
+              row = s.now;
+              there = ap (nth j) s.written ∙ nth_same j s.place net.started.items s.now (same ∙ s.under) reach;
+              is = subst (λ c. IsStarted N' c s.now) who new_row;
+            }
+        by false z = record {
+          number = o.number;
+          row = o.row;
+          there = ap (nth j) s.written ∙ nth_other k s.place j net.started.items s.now s.under z ∙ o.there;
+          is = record {
+            node = o.is.node;
+            since = o.is.since;
+            id = o.is.id;
+            host = o.is.host;
+            sent = subst (λ Z. HasSent b.settings Z o.row.sender) (sym (other_journal H m a at i b (ap (λ n. eqb n a.number) o.number ∙ ap (eqb j) is_number ∙ z))) o.is.sent;
+          };
+        }
+
+    started : AreStarted N' new.started.items
+    started = record {
+      count = ap (λ xs. length xs) s.written ∙ set_length net.started.items s.place s.now ∙ nodes.started.count ∙ ap (λ xs. length xs) (sym stay);
+      each = each;
+      none_yet = λ b z. later b z;
+    }
+      where
+        later : (b : Incarnation) → length (incarnations N') < b.number → journal b N' ≡ []
+        later b z = other_journal H m a at i b far ∙ nodes.started.none_yet b (let c = ap (λ xs. length xs) stay in omega (arith, c, z))
+          where
+            far : eqb b.number a.number ≡ false
+            far = by (eqb b.number a.number) refl
+              where
+                by : (t : Bool) → eqb b.number a.number ≡ t → t ≡ false
+                by false q = refl
+                by true q =
+                    let same = eqb-true b.number a.number q in
+                    let r = nth_reach k (incarnations H) a there in
+                    let c = ap (λ xs. length xs) stay in
+                    absurd (omega (arith, same, r, c, z, is_number))
+
+    finds : (n : ℕ) (o : Option Incarnation) (f : Option ℕ) → Finds H n o f → Finds N' n o f
+    finds n None f z = z
+    finds n (Some b) f z = (z.0, known_too b z.1, z.2)
+
+    done_is : s.took.step.acts ≡ acts_of T' H
+    done_is = turned.stepped.done
+
+    told_is : map (λ e. (s.took.node, e)) s.took.step.events ≡ said_at T' H
+    told_is = ap (λ es. map (λ e. (s.took.node, e)) es) turned.stepped.told ∙ ap (λ n. map (λ (e : Event). (n, e)) (events_at a.settings T'.entry (chronicle_of a H))) (s.stays.told_node ∙ old.node)
+
+    pub nodes_more : AreNodes N' new
+    nodes_more = record {
+      said = s.said ∙ ap (λ xs. xs ++ map (λ e. (s.took.node, e)) s.took.step.events) nodes.said ∙ ap (λ xs. said_in H ++ xs) told_is;
+      started = started;
+      runs = λ n. finds n (running n N') (running_at n new.running.items) (subst (λ o. Finds H n o (running_at n new.running.items)) (sym (still.running_stay (Some T') H n)) (subst (λ r. Finds H n (running n H) (running_at n r.items)) (sym s.running) (nodes.runs n)));
+      owners = s.owners ∙ nodes.owners ∙ ap (λ xs. map owner_of xs) (sym stay);
+      beacons = s.beacons ∙ ap (λ xs. xs ++ filter_map (sent_in s.took.host) s.took.step.acts) nodes.beacons
+          ∙ ap (λ h. map sent_of (broadcasts H) ++ filter_map (sent_in h) s.took.step.acts) (s.stays.told_host ∙ old.host)
+          ∙ ap (λ xs. map sent_of (broadcasts H) ++ filter_map (sent_in a.settings.host) xs) done_is
+          ∙ ap (λ xs. map sent_of (broadcasts H) ++ xs) (sym (sent_same a (acts_of T' H))) ∙ sym (map-both sent_of (broadcasts H) (filter_map (broadcast_in a) (acts_of T' H)));
+      links = s.links ∙ ap (λ xs. xs ++ filter_map (way_in k) s.took.step.acts) nodes.links
+          ∙ ap (λ n. map way_of (routes H) ++ filter_map (way_in n) s.took.step.acts) (sym is_number)
+          ∙ ap (λ xs. map way_of (routes H) ++ filter_map (way_in a.number) xs) done_is
+          ∙ ap (λ xs. map way_of (routes H) ++ xs) (sym (ways_same a (acts_of T' H))) ∙ sym (map-both way_of (routes H) (filter_map (route_in a) (acts_of T' H)));
+      known = all_more (λ (r : Route). IsKnown N' r.from) (routes H) (filter_map (route_in a) (acts_of T' H))
+          (all_map (λ (r : Route). IsKnown H r.from) (λ (r : Route). IsKnown N' r.from) (λ r z. known_too r.from z) (routes H) nodes.known)
+          (from_it (λ b. IsKnown N' b) a (known_too a a_known) (acts_of T' H));
+      queued =
+          let f = sum_set (λ (x : Started). octets_in x.sender.lines) net.started.items s.place s.was s.now s.before in
+          let w = ap (λ xs. sum_by (λ (x : Started). octets_in x.sender.lines) xs) s.written in
+          omega (arith, f, w, s.queued, nodes.queued, s.stays.before, s.stays.after);
+    }

@@ -1,0 +1,36 @@
+use Rattle.std.proofs.Common.{◌≡◌, ◌+◌, ◌++◌, ◌∷◌, [], ◌∙◌, Bool, true, false, Some, None, ap, sym, subst, append_assoc, ℕ}
+use Rattle.std.specs.Vec.Iter.{into_iter_items}
+use Rattle.zre_net.specs.Answer.{bad_move}
+use Rattle.zre_net.specs.Comes.{history}
+use Rattle.zre_net.specs.Running.{IsTaken, Goes}
+use Rattle.zre_net.specs.Said.{said}
+use Rattle.zre_net.proofs.Runs.{goes_first, goes_on, stops_at, took_all}
+use Rattle.zre_net.proofs.running.schedule.run.Goals as goal
+
+pub loop-one-init : goal.loop-one-init
+loop-one-init c = record {
+  goes = goes_first c.in_ok-network.network c.in_ok-network.ensures;
+  rest = sym (c.into_iter-one-iterator.ensures.into_iter_gives.0 ∙ c.into_vec-one-items.ensures);
+}
+
+pub returns-then-not-branch-clause-refused : goal.returns-then-not-branch-clause-refused
+returns-then-not-branch-clause-refused c =
+    let i = c.loop-one.invariant in
+    ap bad_move (i.rest ∙ ap (λ xs. c.loop-one.yielded ++ xs) c.in-Some.ensures.steps.0)
+    ∙ stops_at c.loop-one.yielded (into_iter_items c.next.new.self) c.in-Some.one c.loop-one.line c.loop-one.network c.take.new.self i.goes
+    (subst (λ (b : Bool). IsTaken c.in-Some.one (history c.loop-one.yielded) b c.take.new.self) c.if-not-branch.true (c.in_ok-take.ensures (history c.loop-one.yielded) i.goes.stands))
+
+pub loop-one-preserved : goal.loop-one-preserved
+loop-one-preserved c =
+    let i = c.loop-one.invariant in record {
+      goes = subst (λ (n : ℕ). Goes (c.loop-one.yielded ++ c.in-Some.one ∷ []) n c.take.new.self) (sym c.in-Some-checked_add.ensures.1)
+          (goes_on c.loop-one.yielded c.in-Some.one c.loop-one.line c.loop-one.network c.take.new.self i.goes
+          (subst (λ (b : Bool). IsTaken c.in-Some.one (history c.loop-one.yielded) b c.take.new.self) c.if-not-branch.false (c.in_ok-take.ensures (history c.loop-one.yielded) i.goes.stands)));
+      rest = i.rest ∙ ap (λ xs. c.loop-one.yielded ++ xs) c.in-Some.ensures.steps.0 ∙ sym (append_assoc c.loop-one.yielded (c.in-Some.one ∷ []) (into_iter_items c.next.new.self));
+    }
+
+pub returns-clause-told : goal.returns-clause-told
+returns-clause-told c =
+    let i = c.loop-one.invariant in
+    let all = took_all c.args.moves c.loop-one.yielded (into_iter_items c.loop-one.one-iterator) c.loop-one.one-iterator.rest.len i.rest c.loop-one.one-iterator.rest.ok.0 c.in-None.ensures.steps.0 in
+    (ap bad_move (sym all) ∙ i.goes.all_good, i.goes.stands.nodes.said ∙ ap said all)

@@ -1,0 +1,148 @@
+-- A network that has run a history.
+use Rattle.std.specs.Prelude.{◌≡◌, ℕ, Bool, true, ◌+◌, ◌<◌, List, [], ◌∷◌, length, map, Option, Some, None, is_some, sum_by}
+use Rattle.std.specs.List.{AllByRecursion}
+use Rattle.zre_outside.specs.declared.entry.Input.{Input}
+use Rattle.zre_outside.specs.declared.entry.Input.TheVariants as input
+use Rattle.zre_journal.specs.Heard.{bytes}
+use Rattle.zre_net.specs.declared.moves.Move.{Move}
+use Rattle.zre_net.specs.declared.running.network.Network.{Network}
+use Rattle.zre_net.specs.declared.running.rows.Carrier.{Carrier}
+use Rattle.zre_net.specs.declared.running.rows.Owner.{Owner}
+use Rattle.zre_net.specs.declared.running.rows.Sent.{Sent}
+use Rattle.zre_net.specs.declared.running.rows.Started.{Started}
+use Rattle.zre_net.specs.declared.running.rows.Way.{Way}
+use Rattle.zre_net.specs.Lists.{nth}
+use Rattle.zre_net.specs.Lines.{octets_in}
+use Rattle.zre_net.specs.Sending.{HasSent}
+use Rattle.zre_net.specs.Rows.{running_at, Fits}
+use Rattle.zre_net.specs.History.{Incarnation, Turn, Happening, Happens, incarnations, running, journal, chronicle_of}
+use Rattle.zre_net.specs.Numbers.{Broadcast, Route, Conn, broadcasts, routes, conns}
+use Rattle.zre_net.specs.Carried.{pending}
+use Rattle.zre_net.specs.Answer.{bad_move}
+use Rattle.zre_net.specs.Comes.{with_move, history}
+use Rattle.zre_net.specs.Grammar.{may_come, is_good, is_there}
+use Rattle.zre_net.specs.Said.{said_in}
+
+-- ---- nodes
+
+-- the incarnation stands under its number
+abbrev pub IsKnown : List Happening → Incarnation → Type 0
+IsKnown H a = nth a.number (incarnations H) ≡ Some a
+
+pub record IsStarted (H : List Happening) (a : Incarnation) (x : Started) : Type 0 where
+  pub node : x.node ≡ a.node
+  pub since : x.since ≡ a.since
+  pub id : x.id ≡ a.settings.id
+  pub host : x.host ≡ a.settings.host
+  pub sent : HasSent a.settings (journal a H) x.sender
+
+pub record HasStarted (H : List Happening) (k : ℕ) (a : Incarnation) (xs : List Started) : Type 0 where
+  pub number : a.number ≡ k
+  pub row : Started
+  pub there : nth k xs ≡ Some row
+  pub is : IsStarted H a row
+
+pub record AreStarted (H : List Happening) (xs : List Started) : Type 0 where
+  pub count : length xs ≡ length (incarnations H)
+  pub each : (k : ℕ) (a : Incarnation) → nth k (incarnations H) ≡ Some a → HasStarted H k a xs
+  pub none_yet : (a : Incarnation) → length (incarnations H) < a.number → journal a H ≡ []
+
+-- who runs at node n is found by its number
+abbrev pub Finds : List Happening → ℕ → Option Incarnation → Option ℕ → Type 0
+Finds H n None found = found ≡ None
+Finds H n (Some a) found = (found ≡ Some a.number) × IsKnown H a × (a.node ≡ n)
+
+abbrev pub owner_of : Incarnation → Owner
+owner_of a = record { node = a.node; id = a.settings.id }
+
+abbrev pub sent_of : Broadcast → Sent
+sent_of b = record { from = b.from.settings.host; octets = b.octets }
+
+abbrev pub way_of : Route → Way
+way_of s = record { start = s.from.number; link = s.link }
+
+pub record AreNodes (H : List Happening) (net : Network) : Type 0 where
+  pub said : net.said ≡ said_in H
+  pub started : AreStarted H net.started.items
+  pub runs : (n : ℕ) → Finds H n (running n H) (running_at n net.running.items)
+  pub owners : net.owners ≡ map owner_of (incarnations H)
+  pub beacons : net.beacons ≡ map sent_of (broadcasts H)
+  pub links : net.links ≡ map way_of (routes H)
+  pub known : AllByRecursion (λ (s : Route). IsKnown H s.from) (routes H)
+  pub queued : net.queued ≡ sum_by (λ (x : Started). octets_in x.sender.lines) net.started.items
+
+-- ---- connections
+
+pub record IsConn (H : List Happening) (c : Conn) (y : Carrier) : Type 0 where
+  pub to : y.to ≡ c.to.number
+  pub to_known : IsKnown H c.to
+  pub along : y.along ≡ way_of c.along
+  pub along_known : IsKnown H c.along.from
+  pub waits : y.waiting ≡ pending c.number H
+  pub fits : Fits c.to.settings c.number (chronicle_of c.to H) y.ear
+
+pub record HasConn (H : List Happening) (x : ℕ) (c : Conn) (ys : List Carrier) : Type 0 where
+  pub number : c.number ≡ x
+  pub row : Carrier
+  pub there : nth x ys ≡ Some row
+  pub is : IsConn H c row
+
+pub record AreConns (H : List Happening) (ys : List Carrier) : Type 0 where
+  pub count : length ys ≡ length (conns H)
+  pub each : (x : ℕ) (c : Conn) → nth x (conns H) ≡ Some c → HasConn H x c ys
+  pub silent : (a : Incarnation) → IsKnown H a → (x : ℕ) → length (conns H) < x → bytes x (chronicle_of a H) ≡ []
+
+-- ---- all
+
+pub record StandsAfter (H : List Happening) (net : Network) : Type 0 where
+  pub nodes : AreNodes H net
+  pub conns_are : AreConns H net.conns.items
+  pub pending_is : net.pending ≡ sum_by (λ (y : Carrier). length y.waiting) net.conns.items
+
+-- ---- moves
+
+-- a move that starts and ends no node
+pub record IsStill (m : Move) : Type 0 where
+  pub incarnations_stay : (t : Option Turn) (H : List Happening) → incarnations (Happens m t ∷ H) ≡ incarnations H
+  pub running_stay : (t : Option Turn) (H : List Happening) (n : ℕ) → running n (Happens m t ∷ H) ≡ running n H
+
+-- one that does nothing with connections but to bring an entry about them
+pub record IsKept (m : Move) : Type 0 where
+  pub conns_stay : (t : Option Turn) (H : List Happening) → conns (Happens m t ∷ H) ≡ conns H
+  pub pending_stay : (t : Option Turn) (H : List Happening) (x : ℕ) → pending x (Happens m t ∷ H) ≡ pending x H
+
+-- an entry that is neither about the opening of a connection nor a piece of one
+abbrev pub IsSilent : Input → Type 0
+IsSilent (input.Opened c) = ⊥
+IsSilent (input.Piece c o) = ⊥
+IsSilent _ = Unit {0}
+
+-- a move has come, if it may, but for the octets
+pub record IsPlayed (m : Move) (H : List Happening) (may : Bool) (net : Network) : Type 0 where
+  pub fits : may ≡ may_come m H
+  pub stands : may ≡ true → StandsAfter (with_move m H) net
+
+-- a move has come, if it is within the grammar
+pub record IsTaken (m : Move) (H : List Happening) (good : Bool) (net : Network) : Type 0 where
+  pub fits : good ≡ is_good m H
+  pub stands : good ≡ true → StandsAfter (with_move m H) net
+
+-- ---- what numbers of connections and links name
+
+-- the start at which a connection opened, where that still runs
+abbrev pub Receives : List Happening → Option Conn → Option ℕ → Type 0
+Receives H None found = found ≡ None
+Receives H (Some c) found = (is_some found ≡ is_there H c.to) × ((k : ℕ) → found ≡ Some k → k ≡ c.to.number) × IsKnown H c.to
+
+-- the start of the node of a link, where that still runs, and the link's number there
+abbrev pub Sends : List Happening → Option Route → Option Way → Type 0
+Sends H None found = found ≡ None
+Sends H (Some s) found = (is_some found ≡ is_there H s.from) × ((w : Way) → found ≡ Some w → w ≡ way_of s) × IsKnown H s.from
+
+-- ---- many moves
+
+-- these moves have come, all within the grammar, and this is the line of the next
+pub record Goes (moves : List Move) (line : ℕ) (net : Network) : Type 0 where
+  pub stands : StandsAfter (history moves) net
+  pub all_good : bad_move moves ≡ None
+  pub line_is : line ≡ 2 + length moves

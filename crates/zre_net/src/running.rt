@@ -1,0 +1,18 @@
+//! Schedules run.
+
+mod ear;
+mod lines;
+mod network;
+mod nth;
+mod pieces;
+mod play;
+mod plays;
+mod rows;
+mod said;
+mod schedule;
+mod sender;
+mod steps;
+mod waiting;
+
+pub use said::Said;
+pub use schedule::run_schedule;

@@ -1,0 +1,122 @@
+//! The links of a node, and the messages that were put on them.
+
+ghost use Rattle.std.specs.Prelude.{◌≡◌, ◌+◌, ◌++◌, ◌∷◌, [], length, option_map, OnOk, OnErr, IfOk};
+ghost use Rattle.zre_net.specs.Lists.{nth as nth_of};
+ghost use Rattle.zre_net.specs.Lines.{messages_at, message_octets, octets_in, IsNoted, IsNotedAt};
+
+use crate::running::nth::nth;
+use bytes::Bytes;
+use std::alloc::Global;
+use std::marker::Model;
+use zre_values::{List, OutOfMemory};
+
+/// A link: the messages that were put on it, as they are spelled, and how many octets waited after the last entry.
+#[derive(Drop)]
+pub(crate) struct Line {
+    pub messages: List<Bytes>,
+    pub waited: usize,
+}
+
+/// The links of a node, by their numbers from 1.
+#[derive(Drop)]
+pub(crate) struct Lines {
+    rows: Vec<Line>,
+    octets: u64,
+}
+
+impl Model for Lines {
+    ghost use Rattle.std.specs.Prelude.{◌≡◌, List};
+    ghost use Rattle.zre_net.specs.declared.running.lines.Line.{Line};
+    ghost use Rattle.zre_net.specs.Lines.{octets_in};
+
+    ghost Value = { List Line };
+
+    ghost view = { λ lines. lines.rows.items };
+
+    ghost invariant = { λ lines. lines.octets ≡ octets_in lines.rows.items };
+}
+
+// So many messages were put on a link, and this waits on it: at most one message more than before. Gives how many
+// octets all messages have, where they had so many before.
+fn note(
+    alloc: Global,
+    line: &mut Line,
+    octets: u64,
+    sent: u64,
+    waits: &[u8],
+) -> Result<u64, OutOfMemory>
+    ensures noted { OnOk result (IsNoted sent waits.now line.old line.new) }
+    ensures octets { IfOk result (λ all. all + message_octets line.old ≡ octets + message_octets line.new) }
+    ensures unchanged { OnErr result (line.new ≡ line.old) }
+{
+    let count = line.messages.len() as u64;
+    if sent == count {
+        line.waited = waits.len();
+        return Ok(octets);
+    }
+    if sent != count.saturating_add(1) || waits.len() < line.waited {
+        return Err(OutOfMemory);
+    }
+    let message = Bytes::copy_from_slice(alloc, &waits[line.waited..])?;
+    let Some(all) = octets.checked_add(message.len() as u64) else {
+        return Err(OutOfMemory);
+    };
+    line.messages.push(message)?;
+    line.waited = waits.len();
+    Ok(all)
+}
+
+impl Lines {
+    /// None.
+    pub fn new(alloc: Global) -> Lines
+        ensures { result ≡ [] }
+    {
+        Lines {
+            rows: Vec::new(alloc),
+            octets: 0,
+        }
+    }
+
+    /// How many octets all messages have.
+    pub fn octets(&self) -> u64
+        ensures { result ≡ octets_in self.now }
+    {
+        self.octets
+    }
+
+    /// A message of a link, by their numbers from 1.
+    pub fn message(&self, link: u64, number: u64) -> Option<&Bytes>
+        ensures { option_map (λ b. b.now) result ≡ nth_of number (messages_at link self.now) }
+    {
+        let line = nth(self.rows.as_slice(), link)?;
+        nth(line.messages.as_slice(), number)
+    }
+
+    /// A link on which nothing was put: its greeting and READY wait.
+    pub fn add(&mut self, alloc: Global, handshake: usize) -> Result<(), OutOfMemory>
+        ensures { OnOk result (self.new ≡ self.old ++ record { messages = []; waited = handshake } ∷ []) }
+    {
+        self.rows.push(Line {
+            messages: List::new(alloc),
+            waited: handshake,
+        })?;
+        Ok(())
+    }
+
+    /// So many messages were put on the link at this place, and this waits on it: at most one message more than before.
+    pub fn note(
+        &mut self,
+        alloc: Global,
+        place: usize,
+        sent: u64,
+        waits: &[u8],
+    ) -> Result<(), OutOfMemory>
+        ensures { OnOk result (IsNotedAt sent waits.now place self.old self.new) }
+    {
+        if place >= self.rows.len() {
+            return Err(OutOfMemory);
+        }
+        self.octets = note(alloc, &mut self.rows[place], self.octets, sent, waits)?;
+        Ok(())
+    }
+}

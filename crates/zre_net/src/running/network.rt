@@ -1,0 +1,147 @@
+ghost use Rattle.std.specs.Prelude.{◌≡◌, [], List, Some, option_map, IfOk, OnOk};
+ghost use Rattle.std.specs.List.{list_all};
+ghost use Rattle.zre_net.specs.History.{Happening, Incarnation, incarnations};
+ghost use Rattle.zre_net.specs.Numbers.{conns, routes};
+ghost use Rattle.zre_net.specs.Lists.{nth as nth_of};
+ghost use Rattle.zre_net.specs.Rows.{running_at, fits_owner, is_at, with_running};
+ghost use Rattle.zre_net.specs.Running.{StandsAfter, Receives, Sends};
+
+use crate::running::nth::nth;
+use crate::running::rows::{Carrier, Owner, Sent, Started, Way};
+use crate::running::said::Said;
+use std::alloc::Global;
+use zre_values::{List, OutOfMemory, PeerId};
+
+/// All that has come about so far.
+#[derive(Drop)]
+pub(crate) struct Network {
+    pub alloc: Global,
+    /// What the nodes have told.
+    pub said: Said,
+    /// The starts, and which of them runs at each node.
+    pub started: Vec<Started>,
+    pub running: Vec<Option<u64>>,
+    /// Whose IDs the numbers of nodes have.
+    pub owners: List<Owner>,
+    /// Beacons, links and connections.
+    pub beacons: List<Sent>,
+    pub links: List<Way>,
+    pub conns: Vec<Carrier>,
+    /// The octets of all messages, and those that connections have yet to hand in.
+    pub queued: u64,
+    pub pending: u64,
+}
+
+// Whether an ID belongs to this node and to no other, as far as one owner knows.
+fn fits_owner(owner: Owner, node: u8, id: PeerId) -> bool
+    ensures { result ≡ fits_owner node id owner }
+{
+    if owner.node == node {
+        owner.id == id
+    } else {
+        owner.id != id
+    }
+}
+
+/// Whether a node may have this ID: it had no other, and no other node had it.
+pub(crate) fn may_have(owners: &[Owner], node: u8, id: PeerId) -> bool
+    ensures { result ≡ list_all (fits_owner node id) owners.now }
+{
+    for owner in owners {
+        if !fits_owner(*owner, node, id) {
+            return false;
+        }
+    }
+    true
+}
+
+// Which start runs at a node.
+fn running_at(rows: &[Option<u64>], node: u8) -> Option<u64>
+    ensures { result ≡ running_at node rows.now }
+{
+    match rows.get(node as usize) {
+        Some(row) => *row,
+        None => None,
+    }
+}
+
+impl Network {
+    /// Nothing has come about.
+    pub fn new(alloc: Global) -> Result<Network, OutOfMemory>
+        ensures { IfOk result (StandsAfter []) }
+    {
+        Ok(Network {
+            alloc,
+            said: Said::new(alloc),
+            started: Vec::new(alloc),
+            running: Vec::from_array(alloc, [None; 17])?,
+            owners: List::new(alloc),
+            beacons: List::new(alloc),
+            links: List::new(alloc),
+            conns: Vec::new(alloc),
+            queued: 0,
+            pending: 0,
+        })
+    }
+
+    /// The start that runs at a node.
+    pub fn runner(&self, node: u8) -> Option<u64>
+        ensures { result ≡ running_at node self.now.running.items }
+    {
+        running_at(self.running.as_slice(), node)
+    }
+
+    // Whether a start still runs at its node.
+    fn is_there(&self, start: u64) -> bool
+        ensures { result ≡ is_at start (nth_of start self.now.started.items) self.now.running.items }
+    {
+        let Some(started) = nth(self.started.as_slice(), start) else {
+            return false;
+        };
+        self.runner(started.node) == Some(start)
+    }
+
+    /// The start at which a connection opened, where it still runs.
+    pub fn receiver(&self, conn: u64) -> Option<u64>
+        ensures { (H : List Happening) → StandsAfter H self.now → Receives H (nth_of conn (conns H)) result }
+    {
+        let Some(carrier) = nth(self.conns.as_slice(), conn) else {
+            return None;
+        };
+        if self.is_there(carrier.to) {
+            Some(carrier.to)
+        } else {
+            None
+        }
+    }
+
+    /// The start of the node of a link, where it still runs, and the link's number there.
+    pub fn sender(&self, link: u64) -> Option<Way>
+        ensures { (H : List Happening) → StandsAfter H self.now → Sends H (nth_of link (routes H)) result }
+    {
+        let Some(way) = nth(self.links.as_slice(), link) else {
+            return None;
+        };
+        if self.is_there(way.start) {
+            Some(*way)
+        } else {
+            None
+        }
+    }
+}
+
+/// From now on this start runs at a node, or none.
+pub(crate) fn set_running(
+    rows: &mut Vec<Option<u64>>,
+    node: u8,
+    start: Option<u64>,
+) -> Result<(), OutOfMemory>
+    ensures { OnOk result (with_running node start rows.old.items rows.new.items) }
+{
+    let place = node as usize;
+    if place >= rows.len() {
+        return Err(OutOfMemory);
+    }
+    rows[place] = start;
+    Ok(())
+}

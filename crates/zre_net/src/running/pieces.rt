@@ -1,0 +1,99 @@
+//! Octets of connections come.
+
+ghost use Rattle.std.specs.Prelude.{◌≡◌, ◌≤◌, List, Some, length, IfOk, OnOk};
+ghost use Rattle.zre_net.specs.declared.moves.Move.TheVariants as MoveValue;
+ghost use Rattle.zre_net.specs.Comes.{with_move};
+ghost use Rattle.zre_net.specs.History.{Happening};
+ghost use Rattle.zre_net.specs.Lists.{nth as nth_of};
+ghost use Rattle.zre_net.specs.Numbers.{Conn, conns};
+ghost use Rattle.zre_net.specs.Carried.{pending};
+ghost use Rattle.zre_net.specs.Rows.{IsHeard};
+ghost use Rattle.zre_net.specs.Running.{StandsAfter, IsPlayed};
+
+use crate::running::network::Network;
+use crate::running::nth::nth;
+use crate::running::rows::Carrier;
+use bytes::Bytes;
+use zre_outside::Input;
+use zre_values::{Octets, OutOfMemory};
+
+// The next octets of a connection, of one part: so many of them at most. They complete one place at most.
+fn hear(carrier: &mut Carrier, most: u64) -> Result<Bytes, OutOfMemory>
+    ensures { IfOk result (λ b. IsHeard carrier.old most b carrier.new) }
+{
+    let octets = carrier.waiting.take(most)?;
+    if carrier.ear.hear(octets.as_slice())? > 1 {
+        return Err(OutOfMemory);
+    }
+    Ok(octets)
+}
+
+impl Network {
+    // The next octets of a connection come to the start at which it opened: so many of them at most. They are of one
+    // part, so that no more than one part is copied, and no more than one message comes. Gives how many came.
+    fn hand(&mut self, to: u64, conn: u64, most: u64, at: u64) -> Result<u64, OutOfMemory>
+        ensures few { IfOk result (λ count. count ≤ most) }
+        ensures come { (H : List Happening) (c : Conn) → StandsAfter H self.old → nth_of conn (conns H) ≡ Some c →
+            to ≡ c.to.number →
+            IfOk result (λ count. StandsAfter (with_move (MoveValue.Piece conn count at) H) self.new) }
+    {
+        let Some(place) = conn.checked_sub(1) else {
+            return Err(OutOfMemory);
+        };
+        let place = place as usize;
+        if place >= self.conns.len() {
+            return Err(OutOfMemory);
+        }
+        let octets = hear(&mut self.conns[place], most)?;
+        let count = octets.len() as u64;
+        let Some(pending) = self.pending.checked_sub(count) else {
+            return Err(OutOfMemory);
+        };
+        self.pending = pending;
+        let bytes = Octets::copy(self.alloc, octets.as_slice())?;
+        self.step(to, at, Input::Piece { conn, bytes })?;
+        Ok(count)
+    }
+
+    // So many octets come, part by part: cut or not, a piece brings about the same.
+    fn hand_all(&mut self, to: u64, conn: u64, count: u64, at: u64) -> Result<(), OutOfMemory>
+        ensures { (H : List Happening) (c : Conn) → StandsAfter H self.old → nth_of conn (conns H) ≡ Some c →
+            to ≡ c.to.number → OnOk result (StandsAfter (with_move (MoveValue.Piece conn count at) H) self.new) }
+    {
+        let mut left = count - self.hand(to, conn, count, at)?;
+        'parts: while left > 0 {
+            let came = self.hand(to, conn, left, at)?;
+            if came == 0 {
+                return Err(OutOfMemory);
+            }
+            left -= came;
+        }
+        Ok(())
+    }
+
+    // How many octets a connection has yet to hand in.
+    fn waits(&self, conn: u64) -> u64
+        ensures { (H : List Happening) (c : Conn) → StandsAfter H self.now → nth_of conn (conns H) ≡ Some c →
+            result ≡ length (pending conn H) }
+    {
+        match nth(self.conns.as_slice(), conn) {
+            Some(carrier) => carrier.waiting.len(),
+            None => 0,
+        }
+    }
+
+    /// The next octets of a connection come.
+    pub fn piece(&mut self, conn: u64, count: u64, at: u64) -> Result<bool, OutOfMemory>
+        ensures { (H : List Happening) → StandsAfter H self.old →
+            IfOk result (λ may. IsPlayed (MoveValue.Piece conn count at) H may self.new) }
+    {
+        let Some(to) = self.receiver(conn) else {
+            return Ok(false);
+        };
+        if count > self.waits(conn) {
+            return Ok(false);
+        }
+        self.hand_all(to, conn, count, at)?;
+        Ok(true)
+    }
+}

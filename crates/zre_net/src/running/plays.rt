@@ -1,0 +1,333 @@
+//! The moves but for pieces, one by one. Each answers whether it may come.
+
+ghost use Rattle.std.specs.Prelude.{◌≡◌, ◌&&◌, ℕ, List, is_none, IfOk, OnOk};
+ghost use Rattle.zre_net.specs.Grammar.{may_come};
+ghost use Rattle.zre_net.specs.declared.moves.Move.TheVariants as MoveValue;
+ghost use Rattle.zre_net.specs.History.{Happening, settings_of};
+ghost use Rattle.zre_net.specs.Lists.{nth as nth_of};
+ghost use Rattle.zre_net.specs.Rows.{IsBegun, HasStopped, IsLoaded, IsSpelled, IsSpelledAt};
+ghost use Rattle.zre_net.specs.Running.{StandsAfter, IsPlayed};
+
+use crate::moves::Part;
+use crate::running::ear::Ear;
+use crate::running::network::{Network, may_have, set_running};
+use crate::running::nth::nth;
+use crate::running::rows::{Carrier, Owner, Started, Way};
+use crate::running::sender::Sender;
+use crate::running::waiting::Waiting;
+use bytes::Bytes;
+use std::alloc::Global;
+use zre_journal::Config;
+use zre_node::Node;
+use zre_outside::{Command, Input};
+use zre_values::{Octets, OutOfMemory, Pairs, PeerId};
+use zre_zmtp::{SocketType, greeting, ready};
+
+// The settings of a node of a schedule.
+fn settings(alloc: Global, id: PeerId, name: Octets, host: [u8; 4], port: u16) -> Config
+    ensures { result ≡ settings_of id name host port }
+{
+    Config {
+        id,
+        name,
+        headers: Pairs::new(alloc),
+        host,
+        port,
+        evasive: 5000,
+        expired: 30000,
+    }
+}
+
+// Whether none runs.
+fn is_free(start: Option<u64>) -> bool
+    ensures { result ≡ is_none start }
+{
+    start.is_none()
+}
+
+fn all(first: bool, second: bool, third: bool) -> bool
+    ensures { result ≡ (first && (second && third)) }
+{
+    first && second && third
+}
+
+// A node that starts.
+fn begin(alloc: Global, node: u8, since: u64, config: Config) -> Result<Started, OutOfMemory>
+    ensures { IfOk result (IsBegun node since config) }
+{
+    if !config.valid() {
+        return Err(OutOfMemory);
+    }
+    let id = config.id;
+    let host = config.host;
+    let core = Node::new(alloc, config)?;
+    Ok(Started {
+        node,
+        since,
+        id,
+        host,
+        sender: Sender::new(alloc, core),
+    })
+}
+
+// The node of a start is gone.
+fn stop(started: &mut Started)
+    ensures { HasStopped started.old started.new }
+{
+    started.sender.stop();
+}
+
+// The octets of a part of a link, where it has that part.
+fn spelled(
+    alloc: Global,
+    started: &Started,
+    link: u64,
+    part: Part,
+) -> Result<Option<Bytes>, OutOfMemory>
+    ensures { IfOk result (IsSpelled started.now link part) }
+{
+    match part {
+        Part::Greeting => Ok(Some(Bytes::copy_from_slice(alloc, &greeting())?)),
+        Part::Ready => {
+            let octets = ready(alloc, SocketType::Dealer, Some(started.id))?;
+            Ok(Some(Bytes::copy_from_slice(alloc, octets.as_slice())?))
+        }
+        Part::Message { number } => match started.sender.lines.message(link, number) {
+            Some(octets) => Ok(Some(octets.clone()?)),
+            None => Ok(None),
+        },
+    }
+}
+
+// A connection is made to carry these octets.
+fn load(carrier: &mut Carrier, octets: Bytes) -> Result<(), OutOfMemory>
+    ensures { OnOk result (IsLoaded carrier.old octets carrier.new) }
+{
+    carrier.waiting.push(octets)
+}
+
+impl Network {
+    // Whether a node may start.
+    fn may_start(&self, node: u8, id: PeerId, port: u16) -> bool
+        ensures { (H : List Happening) (at : ℕ) (name host : List ℕ) → StandsAfter H self.now →
+            result ≡ may_come (MoveValue.Start node at id name host port) H }
+    {
+        all(
+            is_free(self.runner(node)),
+            may_have(self.owners.as_slice(), node, id),
+            0 < port,
+        )
+    }
+
+    /// A node starts.
+    pub fn start(
+        &mut self,
+        node: u8,
+        at: u64,
+        id: PeerId,
+        name: Octets,
+        host: [u8; 4],
+        port: u16,
+    ) -> Result<bool, OutOfMemory>
+        ensures { (H : List Happening) → StandsAfter H self.old →
+            IfOk result (λ may. IsPlayed (MoveValue.Start node at id name host port) H may self.new) }
+    {
+        if !self.may_start(node, id, port) {
+            return Ok(false);
+        }
+        let started = begin(
+            self.alloc,
+            node,
+            at,
+            settings(self.alloc, id, name, host, port),
+        )?;
+        self.started.push(started)?;
+        self.owners.push(Owner { node, id })?;
+        set_running(&mut self.running, node, Some(self.started.len() as u64))?;
+        Ok(true)
+    }
+
+    /// A node is gone.
+    pub fn crash(&mut self, node: u8) -> Result<bool, OutOfMemory>
+        ensures { (H : List Happening) → StandsAfter H self.old →
+            IfOk result (λ may. IsPlayed (MoveValue.Crash node) H may self.new) }
+    {
+        let Some(start) = self.runner(node) else {
+            return Ok(false);
+        };
+        let Some(place) = start.checked_sub(1) else {
+            return Err(OutOfMemory);
+        };
+        let place = place as usize;
+        if place >= self.started.len() {
+            return Err(OutOfMemory);
+        }
+        stop(&mut self.started[place]);
+        set_running(&mut self.running, node, None)?;
+        Ok(true)
+    }
+
+    /// Time has passed at a node.
+    pub fn tick(&mut self, node: u8, at: u64) -> Result<bool, OutOfMemory>
+        ensures { (H : List Happening) → StandsAfter H self.old →
+            IfOk result (λ may. IsPlayed (MoveValue.Tick node at) H may self.new) }
+    {
+        let Some(start) = self.runner(node) else {
+            return Ok(false);
+        };
+        self.turn(start, at, Input::Tick)?;
+        Ok(true)
+    }
+
+    /// The user of a node asks for something.
+    pub fn ask(&mut self, node: u8, at: u64, command: Command) -> Result<bool, OutOfMemory>
+        ensures { (H : List Happening) → StandsAfter H self.old →
+            IfOk result (λ may. IsPlayed (MoveValue.Do node at command) H may self.new) }
+    {
+        let Some(start) = self.runner(node) else {
+            return Ok(false);
+        };
+        self.turn(start, at, Input::Do(command))?;
+        Ok(true)
+    }
+
+    /// A node hears a beacon.
+    pub fn hear(&mut self, beacon: u64, node: u8, at: u64) -> Result<bool, OutOfMemory>
+        ensures { (H : List Happening) → StandsAfter H self.old →
+            IfOk result (λ may. IsPlayed (MoveValue.Beacon beacon node at) H may self.new) }
+    {
+        let Some(start) = self.runner(node) else {
+            return Ok(false);
+        };
+        let Some(sent) = nth(self.beacons.as_slice(), beacon) else {
+            return Ok(false);
+        };
+        let from = sent.from;
+        let bytes = Octets::copy(self.alloc, &sent.octets)?;
+        self.turn(start, at, Input::Datagram { from, bytes })?;
+        Ok(true)
+    }
+
+    /// A connection that carries a link opens at a node.
+    pub fn open(&mut self, link: u64, node: u8, at: u64) -> Result<bool, OutOfMemory>
+        ensures { (H : List Happening) → StandsAfter H self.old →
+            IfOk result (λ may. IsPlayed (MoveValue.Open link node at) H may self.new) }
+    {
+        let Some(to) = self.runner(node) else {
+            return Ok(false);
+        };
+        let Some(way) = nth(self.links.as_slice(), link) else {
+            return Ok(false);
+        };
+        let along = *way;
+        let Some(started) = nth(self.started.as_slice(), to) else {
+            return Err(OutOfMemory);
+        };
+        let ear = Ear::new(self.alloc, started.id);
+        self.conns.push(Carrier {
+            to,
+            along,
+            waiting: Waiting::new(self.alloc),
+            ear,
+        })?;
+        let conn = self.conns.len() as u64;
+        self.step(to, at, Input::Opened { conn })?;
+        Ok(true)
+    }
+
+    // The octets of a part of a link, where it has that part.
+    fn spelled(&self, along: Way, part: Part) -> Result<Option<Bytes>, OutOfMemory>
+        ensures { IfOk result (IsSpelledAt (nth_of along.start self.now.started.items) along.link part) }
+    {
+        match nth(self.started.as_slice(), along.start) {
+            Some(started) => spelled(self.alloc, started, along.link, part),
+            None => Err(OutOfMemory),
+        }
+    }
+
+    /// A connection is made to carry one part more.
+    pub fn carry(&mut self, conn: u64, part: Part) -> Result<bool, OutOfMemory>
+        ensures { (H : List Happening) → StandsAfter H self.old →
+            IfOk result (λ may. IsPlayed (MoveValue.Carry conn part) H may self.new) }
+    {
+        let Some(carrier) = nth(self.conns.as_slice(), conn) else {
+            return Ok(false);
+        };
+        let Some(octets) = self.spelled(carrier.along, part)? else {
+            return Ok(false);
+        };
+        let Some(pending) = self.pending.checked_add(octets.len() as u64) else {
+            return Err(OutOfMemory);
+        };
+        let Some(place) = conn.checked_sub(1) else {
+            return Err(OutOfMemory);
+        };
+        let place = place as usize;
+        if place >= self.conns.len() {
+            return Err(OutOfMemory);
+        }
+        load(&mut self.conns[place], octets)?;
+        self.pending = pending;
+        Ok(true)
+    }
+
+    /// A connection is closed.
+    pub fn shut(&mut self, conn: u64, at: u64) -> Result<bool, OutOfMemory>
+        ensures { (H : List Happening) → StandsAfter H self.old →
+            IfOk result (λ may. IsPlayed (MoveValue.Shut conn at) H may self.new) }
+    {
+        let Some(to) = self.receiver(conn) else {
+            return Ok(false);
+        };
+        self.turn(to, at, Input::Shut { conn })?;
+        Ok(true)
+    }
+
+    /// A link stands.
+    pub fn linked(&mut self, link: u64, at: u64) -> Result<bool, OutOfMemory>
+        ensures { (H : List Happening) → StandsAfter H self.old →
+            IfOk result (λ may. IsPlayed (MoveValue.Linked link at) H may self.new) }
+    {
+        let Some(Way { start, link }) = self.sender(link) else {
+            return Ok(false);
+        };
+        self.turn(start, at, Input::Linked { link })?;
+        Ok(true)
+    }
+
+    /// A link breaks.
+    pub fn unlinked(&mut self, link: u64, at: u64) -> Result<bool, OutOfMemory>
+        ensures { (H : List Happening) → StandsAfter H self.old →
+            IfOk result (λ may. IsPlayed (MoveValue.Unlinked link at) H may self.new) }
+    {
+        let Some(Way { start, link }) = self.sender(link) else {
+            return Ok(false);
+        };
+        self.turn(start, at, Input::Unlinked { link })?;
+        Ok(true)
+    }
+
+    /// Octets come back on a link.
+    pub fn reply(&mut self, link: u64, at: u64, bytes: Octets) -> Result<bool, OutOfMemory>
+        ensures { (H : List Happening) → StandsAfter H self.old →
+            IfOk result (λ may. IsPlayed (MoveValue.Reply link at bytes) H may self.new) }
+    {
+        let Some(Way { start, link }) = self.sender(link) else {
+            return Ok(false);
+        };
+        self.turn(start, at, Input::Reply { link, bytes })?;
+        Ok(true)
+    }
+
+    /// Octets of a link are sent.
+    pub fn took(&mut self, link: u64, count: u64, at: u64) -> Result<bool, OutOfMemory>
+        ensures { (H : List Happening) → StandsAfter H self.old →
+            IfOk result (λ may. IsPlayed (MoveValue.Took link count at) H may self.new) }
+    {
+        let Some(Way { start, link }) = self.sender(link) else {
+            return Ok(false);
+        };
+        self.turn(start, at, Input::Took { link, count })?;
+        Ok(true)
+    }
+}

@@ -1,0 +1,46 @@
+//! What a network keeps of starts, beacons, links and connections, each under its number from 1.
+
+use crate::running::ear::Ear;
+use crate::running::sender::Sender;
+use crate::running::waiting::Waiting;
+use zre_values::PeerId;
+
+/// A node from one start on.
+#[derive(Drop)]
+pub(crate) struct Started {
+    pub node: u8,
+    pub since: u64,
+    pub id: PeerId,
+    pub host: [u8; 4],
+    pub sender: Sender,
+}
+
+/// A beacon, and the host from which it was sent.
+#[derive(Clone, Copy)]
+pub(crate) struct Sent {
+    pub from: [u8; 4],
+    pub octets: [u8; 22],
+}
+
+/// A link: the start of its node, and its number there.
+#[derive(Clone, Copy)]
+pub(crate) struct Way {
+    pub start: u64,
+    pub link: u64,
+}
+
+/// A connection: the start at which it opened, the link that it carries, and what it has yet to hand in.
+#[derive(Drop)]
+pub(crate) struct Carrier {
+    pub to: u64,
+    pub along: Way,
+    pub waiting: Waiting,
+    pub ear: Ear,
+}
+
+/// The ID that a node has, or had.
+#[derive(Clone, Copy)]
+pub(crate) struct Owner {
+    pub node: u8,
+    pub id: PeerId,
+}

@@ -1,0 +1,39 @@
+ghost use Rattle.std.specs.Prelude.{◌≡◌, None, Some, IfOk, IfErr};
+ghost use Rattle.zre_net.specs.Answer.{Refuses, bad_move};
+ghost use Rattle.zre_net.specs.Reading.{moves_of};
+ghost use Rattle.zre_net.specs.Said.{said as said_by};
+
+use crate::fault::{BadSchedule, ScheduleFault};
+use crate::moves::Moves;
+use crate::reading::Schedule;
+use crate::running::network::Network;
+use crate::running::said::Said;
+use std::alloc::Global;
+
+// Runs moves.
+fn run(alloc: Global, moves: Moves) -> Result<Said, ScheduleFault>
+    ensures told { IfOk result (λ said. (bad_move moves ≡ None) × (said ≡ said_by moves)) }
+    ensures refused { IfErr result (λ fault. Refuses fault (λ number. bad_move moves ≡ Some number)) }
+{
+    let mut network = Network::new(alloc)?;
+    let mut line: u64 = 2;
+    for one in moves.into_vec() {
+        if !network.take(one)? {
+            return Err(ScheduleFault::Bad(BadSchedule { number: line }));
+        }
+        let Some(next) = line.checked_add(1) else {
+            return Err(ScheduleFault::OutOfMemory);
+        };
+        line = next;
+    }
+    Ok(network.said)
+}
+
+/// Runs a schedule: what its nodes tell. It refuses the first move that is outside the grammar.
+pub fn run_schedule(alloc: Global, schedule: &Schedule) -> Result<Said, ScheduleFault>
+    ensures told { IfOk result (λ said. (bad_move (moves_of schedule.now) ≡ None)
+        × (said ≡ said_by (moves_of schedule.now))) }
+    ensures refused { IfErr result (λ fault. Refuses fault (λ number. bad_move (moves_of schedule.now) ≡ Some number)) }
+{
+    run(alloc, schedule.moves()?)
+}

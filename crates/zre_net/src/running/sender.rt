@@ -1,0 +1,142 @@
+//! A node, and all messages that it has put on its links.
+
+ghost use Rattle.std.specs.Prelude.{◌≡◌, ◌++◌, ◌∷◌, [], List, length, replicate, OnOk, IfOk};
+ghost use Rattle.zre_outside.specs.declared.entry.Entry.{Entry as EntryValue};
+ghost use Rattle.zre_zmtp.specs.Laws.{handshake as handshake_of};
+ghost use Rattle.zre_zmtp.specs.declared.writing.SocketType.TheVariants.{Dealer};
+ghost use Rattle.zre_journal.specs.declared.config.Config.{Config};
+ghost use Rattle.zre_journal.specs.Events.{chronicle};
+ghost use Rattle.zre_journal.specs.Chronicle.{Comes};
+ghost use Rattle.zre_node.specs.Journal.{StandsFor};
+ghost use Rattle.zre_net.specs.Lines.{connects, fresh};
+ghost use Rattle.zre_net.specs.Sender.{is_slight, Keeps, IsLookedAt, IsLooked};
+ghost use Rattle.zre_net.specs.Sending.{HasSent, Stepped};
+
+use crate::running::lines::Lines;
+use std::alloc::Global;
+use zre_node::{Node, Step};
+use zre_outside::{Act, Entry};
+use zre_values::OutOfMemory;
+
+/// A node until it crashes, with all messages that it has put on its links, those of peers that are gone too.
+#[derive(Drop)]
+pub(crate) struct Sender {
+    alloc: Global,
+    /// How many octets the greeting and READY have, which wait first on each link.
+    handshake: usize,
+    node: Option<Node>,
+    pub lines: Lines,
+}
+
+// One line more, where this makes a link.
+fn add_line(
+    alloc: Global,
+    lines: &mut Lines,
+    act: &Act,
+    handshake: usize,
+) -> Result<(), OutOfMemory>
+    ensures { OnOk result (lines.new ≡ lines.old ++ replicate (connects (act.now ∷ [])) (fresh handshake)) }
+{
+    if let Act::Connect { .. } = act {
+        lines.add(alloc, handshake)?;
+    }
+    Ok(())
+}
+
+// One line more for each link that was made.
+fn add_lines(
+    alloc: Global,
+    lines: &mut Lines,
+    acts: &[Act],
+    handshake: usize,
+) -> Result<(), OutOfMemory>
+    ensures { OnOk result (lines.new ≡ lines.old ++ replicate (connects acts.now) (fresh handshake)) }
+{
+    for act in acts {
+        add_line(alloc, lines, act, handshake)?;
+    }
+    Ok(())
+}
+
+// What was put on one link.
+fn look_at(alloc: Global, node: &Node, lines: &mut Lines, link: u64) -> Result<(), OutOfMemory>
+    ensures { (g : Config) (J : List EntryValue) → StandsFor g J node.now →
+        OnOk result (IsLookedAt g (chronicle g J) link lines.old lines.new) }
+{
+    let Some(sent) = node.sent(link) else {
+        return Err(OutOfMemory);
+    };
+    let Some(waits) = node.waiting(link) else {
+        return Err(OutOfMemory);
+    };
+    let Some(place) = link.checked_sub(1) else {
+        return Err(OutOfMemory);
+    };
+    lines.note(alloc, place as usize, sent, waits)
+}
+
+// What was put on each link of a known peer.
+fn look(alloc: Global, node: &Node, lines: &mut Lines) -> Result<(), OutOfMemory>
+    ensures { (g : Config) (J : List EntryValue) → StandsFor g J node.now →
+        OnOk result (IsLooked g (chronicle g J) lines.old lines.new) }
+{
+    let links = node.links()?;
+    for link in links.as_slice() {
+        look_at(alloc, node, lines, *link)?;
+    }
+    Ok(())
+}
+
+// One entry of a node, and what it puts on links. At most one message may come with it.
+fn step(
+    alloc: Global,
+    node: &mut Node,
+    lines: &mut Lines,
+    handshake: usize,
+    entry: Entry,
+) -> Result<Step, OutOfMemory>
+    ensures { (g : Config) (J : List EntryValue) → StandsFor g J node.old →
+        handshake ≡ length (handshake_of Dealer (Some g.id)) → Keeps g (chronicle g J) handshake lines.old →
+        is_slight g entry.input (chronicle g J) (Comes entry ∷ chronicle g J) →
+        IfOk result (λ s. Stepped g J entry s × StandsFor g (J ++ entry ∷ []) node.new
+        × Keeps g (chronicle g (J ++ entry ∷ [])) handshake lines.new) }
+{
+    let step = node.step(entry)?;
+    add_lines(alloc, lines, step.acts.as_slice(), handshake)?;
+    look(alloc, node, lines)?;
+    Ok(step)
+}
+
+impl Sender {
+    /// A node that was made now: nothing was put on a link.
+    pub fn new(alloc: Global, node: Node) -> Sender
+        ensures { (g : Config) → StandsFor g [] node → HasSent g [] result }
+    {
+        Sender {
+            alloc,
+            handshake: 124,
+            node: Some(node),
+            lines: Lines::new(alloc),
+        }
+    }
+
+    /// One entry of the node, and what it puts on links. At most one message may come with it.
+    pub fn step(&mut self, entry: Entry) -> Result<Step, OutOfMemory>
+        ensures { (g : Config) (J : List EntryValue) → HasSent g J self.old →
+            is_slight g entry.input (chronicle g J) (Comes entry ∷ chronicle g J) →
+            IfOk result (λ s. Stepped g J entry s × HasSent g (J ++ entry ∷ []) self.new) }
+    {
+        match &mut self.node {
+            Some(node) => step(self.alloc, node, &mut self.lines, self.handshake, entry),
+            None => Err(OutOfMemory),
+        }
+    }
+
+    /// The node is gone. What it had put on its links stays.
+    pub fn stop(&mut self)
+        ensures sent { (g : Config) (J : List EntryValue) → HasSent g J self.old → HasSent g J self.new }
+        ensures lines { self.new.lines ≡ self.old.lines }
+    {
+        self.node = None;
+    }
+}

@@ -1,0 +1,77 @@
+//! What a connection has yet to hand in.
+
+ghost use Rattle.std.specs.Prelude.{◌≡◌, ◌++◌, ◌≤◌, [], length, take, drop, OnOk, OnErr, IfOk};
+
+use bytes::Bytes;
+use std::alloc::Global;
+use std::collections::VecDeque;
+use std::marker::Model;
+use zre_values::OutOfMemory;
+
+/// Octets that wait: the rest of one part, and the parts after it. Parts are shared with those who hold the same.
+#[derive(Drop)]
+pub(crate) struct Waiting {
+    front: Bytes,
+    parts: VecDeque<Bytes>,
+    count: u64,
+}
+
+impl Model for Waiting {
+    ghost use Rattle.std.specs.Prelude.{◌≡◌, ◌++◌, ℕ, List, length};
+    ghost use Rattle.zre_net.specs.Lists.{joined};
+
+    ghost Value = { List ℕ };
+
+    ghost view = { λ w. w.front ++ joined w.parts.items };
+
+    ghost invariant = { λ w. w.count ≡ length (w.front ++ joined w.parts.items) };
+}
+
+impl Waiting {
+    /// None wait.
+    pub fn new(alloc: Global) -> Waiting
+        ensures { result ≡ [] }
+    {
+        Waiting {
+            front: Bytes::new(),
+            parts: VecDeque::new(alloc),
+            count: 0,
+        }
+    }
+
+    /// How many wait.
+    pub fn len(&self) -> u64
+        ensures { result ≡ length self.now }
+    {
+        self.count
+    }
+
+    /// One part more waits.
+    pub fn push(&mut self, part: Bytes) -> Result<(), OutOfMemory>
+        ensures { OnOk result (self.new ≡ self.old ++ part) }
+    {
+        let Some(count) = self.count.checked_add(part.len() as u64) else {
+            return Err(OutOfMemory);
+        };
+        self.parts.push_back(part)?;
+        self.count = count;
+        Ok(())
+    }
+
+    /// The next octets, of one part: so many of them at most.
+    pub fn take(&mut self, most: u64) -> Result<Bytes, OutOfMemory>
+        ensures next { IfOk result (λ b. b ≡ take (length b) self.old) }
+        ensures few { IfOk result (λ b. length b ≤ most) }
+        ensures rest { IfOk result (λ b. self.new ≡ drop (length b) self.old) }
+    {
+        if self.front.is_empty() {
+            if let Some(part) = self.parts.pop_front() {
+                self.front = part;
+            }
+        }
+        let count = most.min(self.front.len() as u64);
+        let octets = self.front.split_to(count as usize)?;
+        self.count -= count;
+        Ok(octets)
+    }
+}
