@@ -1,0 +1,76 @@
+-- How runs and links are kept.
+use Rattle.std.specs.Prelude.{◌≡◌, ℕ, ◌+◌, ◌-◌, ◌<◌, Bool, false, List, [], ◌∷◌, ◌++◌, length, map, flat_map, Option, Some, None, bytes_eq, if◌then◌else◌, nat_eq, nat_lt, slice_get, slice_index_or}
+use Rattle.std.specs.BTreeMap as tree
+use Rattle.std.specs.Cmp.Lexicographic.{slice_cmp}
+use Rattle.std.specs.List.{AllByRecursion, filter, fold}
+use Rattle.std.specs.Option.{option_map_or, unwrap_or}
+use Rattle.std.specs.Ordering.{nat_cmp}
+use Rattle.zre_values.specs.declared.peer_id.PeerId.{PeerId}
+use Rattle.zre_outside.specs.declared.entry.Entry.{Entry}
+use Rattle.zre_journal.specs.declared.config.Config.{Config}
+use Rattle.zre_journal.specs.Events.{chronicle}
+use Rattle.zre_journal.specs.Chronicle.{Mark}
+use Rattle.zre_journal.specs.Links.{bodies}
+use Rattle.zre_journal.specs.Peers.{Life, lives, births}
+use Rattle.zre_audit.specs.Coding.{code}
+use Rattle.zre_audit.specs.Exchanged.{peer_on}
+use Rattle.zre_audit.specs.declared.put.Line.{Line}
+use Rattle.zre_audit.specs.declared.put.Put.{Put}
+use Rattle.zre_audit.specs.declared.put.Count.{Count}
+
+-- ---- runs
+
+abbrev pub Runs : Type 0
+Runs = tree.BTreeMap (List ℕ) (List (List ℕ))
+
+-- the runs of the peer with this identity
+abbrev pub runs_in : Runs → List ℕ → List (List ℕ)
+runs_in runs p = unwrap_or (tree.get (slice_cmp nat_cmp) runs p) []
+
+-- ---- links
+
+-- the octets of the messages at these places
+abbrev pub octets_at : List (List ℕ) → List ℕ → List ℕ
+octets_at messages places = flat_map (λ i. slice_index_or messages i []) places
+
+abbrev pub with_place : ℕ → Line → Line
+with_place place x = record { id = x.id; said = x.said ++ place ∷ [] }
+
+-- the message at a place was put on link l, where links are counted from 1
+abbrev pub noted : ℕ → List Line → ℕ → List Line
+noted place [] l = []
+noted place (x ∷ xs) l = if nat_eq l 1 then with_place place x ∷ xs else x ∷ noted place xs (l - 1)
+
+-- and on all of these
+abbrev pub all_noted : ℕ → List Line → List ℕ → List Line
+all_noted place lines links = fold (noted place) lines links
+
+-- the links on which more was put by then
+abbrev pub risen : (ℕ → Option ℕ) → List Count → List ℕ
+risen sent counts = map (λ (s : Count). s.link) (filter (λ (s : Count). option_map_or (nat_lt s.count) (sent s.link) false) counts)
+
+-- a link of a peer that is born
+abbrev pub lines_with : List Line → Option PeerId → List Line
+lines_with lines None = lines
+lines_with lines (Some p) = lines ++ record { id = p; said = [] } ∷ []
+
+-- what was said on the links of p
+abbrev pub lines_of : List (List ℕ) → List Line → PeerId → List (List ℕ)
+lines_of messages lines p =
+    map (λ (x : Line). octets_at messages x.said) (filter (λ (x : Line). bytes_eq x.id.0 p.0) lines)
+
+-- how many messages were put on the links of the known peers
+abbrev pub counts_after : Config → List Entry → List Count
+counts_after g J =
+    map (λ (v : Life). record { link = v.link; count = length (bodies v.link (chronicle g J)) }) (lives (chronicle g J))
+
+-- a line is that of link l
+pub record IsLine (messages : List (List ℕ)) (H : List Mark) (l : ℕ) (x : Line) : Type 0 where
+  pub of : peer_on l H ≡ Some x.id
+  pub said_is : octets_at messages x.said ≡ code (bodies l H)
+  pub within : AllByRecursion (λ i. i < length messages) x.said
+
+-- the lines are those of all links that were made, in their order
+pub record HasPut (H : List Mark) (put : Put) : Type 0 where
+  pub count : length put.lines.items ≡ births H
+  pub lines_are : (i : ℕ) (x : Line) → slice_get put.lines.items i ≡ Some x → IsLine put.messages H (i + 1) x

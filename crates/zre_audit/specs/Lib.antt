@@ -1,0 +1,9 @@
+pub mod Agreement
+pub mod Coding
+pub mod Exchanged
+pub mod Kept
+pub mod Prefixes
+pub mod Seen
+pub mod Sorted
+pub mod Told
+pub mod Watching
