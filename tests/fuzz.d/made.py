@@ -1,0 +1,186 @@
+"""Inputs for the fuzzer: streams, traffic and captures that are mostly well formed, and mutations of them."""
+
+GREETING = bytes.fromhex("ff00000000000000017f03014e554c4c") + bytes(48)
+NAMES = [b"Ann", b"Ben", b"", b"%", b"a b", b"\xc3\xa9", b"n" * 255]
+GROUPS = [b"chat", b"g", b"", b"a b%", b"\xff", b"g" * 255]
+# Numbers at the edges of their types and of the limits.
+NUMBERS = [0, 1, 2, 9, 10, 255, 256, 1023, 1024, 65535, 65536, 1048576, 4194304, 2 ** 32, 2 ** 63, 2 ** 64 - 1, 2 ** 64]
+# The octets that stand for themselves in a quoted text.
+PLAIN = frozenset(range(0x21, 0x7f)) - frozenset(b"%~=,")
+
+
+def string(octets):
+    return bytes([len(octets)]) + octets
+
+
+def long_string(octets):
+    return len(octets).to_bytes(4, "big") + octets
+
+
+def frame(body, flags=0):
+    """A frame of RFC 23: short where it can be."""
+    if len(body) > 255:
+        return bytes([flags | 2]) + len(body).to_bytes(8, "big") + body
+    return bytes([flags, len(body)]) + body
+
+
+def command(name, rest):
+    return frame(string(name) + rest, 4)
+
+
+def metadata(pairs):
+    return b"".join(string(name) + long_string(value) for name, value in pairs)
+
+
+def ready(identity, kind=b"DEALER"):
+    return command(b"READY", metadata([(b"Socket-Type", kind), (b"Identity", b"\x01" + identity)]))
+
+
+def message(frames):
+    last = len(frames) - 1
+    return b"".join(frame(body, 1 if at < last else 0) for at, body in enumerate(frames))
+
+
+def hello(chance, number):
+    groups = [chance.choice(GROUPS) for _ in range(chance.choice([0, 0, 1, 2, 5]))]
+    headers = [(chance.choice(NAMES), chance.choice(GROUPS)) for _ in range(chance.choice([0, 0, 1, 3]))]
+    endpoint = chance.choice([b"tcp://10.0.0.2:49152", b"tcp://10.0.0.2:49152", b"", b"tcp://256.0.0.1:1", b"ipc://x"])
+    body = b"\xaa\xa1\x01\x02" + number.to_bytes(2, "big") + string(endpoint)
+    body += len(groups).to_bytes(4, "big") + b"".join(map(long_string, groups))
+    body += bytes([chance.randrange(256)]) + string(chance.choice(NAMES))
+    body += len(headers).to_bytes(4, "big") + metadata(headers)
+    return [body]
+
+
+def said(chance, number):
+    """The frames of a message that isn't HELLO."""
+    kind = chance.choice([2, 3, 3, 4, 4, 5, 6, 7])
+    body = b"\xaa\xa1" + bytes([kind, 2]) + number.to_bytes(2, "big")
+    if kind in (3, 4, 5):
+        body += string(chance.choice(GROUPS))
+    if kind in (4, 5):
+        body += bytes([chance.randrange(256)])
+    content = [chance.randbytes(chance.choice([0, 1, 5, 300])) for _ in range(chance.choice([0, 1, 1, 2, 4]))]
+    return [body] + (content if kind in (2, 3) else [])
+
+
+def traffic(chance):
+    """Messages of one sender, now and then with one that is lost, repeated or out of place, and PINGs between frames."""
+    parts = []
+    number = 1
+    for at in range(chance.randrange(1, 12)):
+        frames = hello(chance, number % 65536) if at == 0 else said(chance, number % 65536)
+        parts.append(message(frames))
+        if chance.random() < 0.2:
+            parts.append(command(b"PING", bytes(2) + chance.randbytes(chance.randrange(18))))
+        number += chance.choice([1] * 30 + [0, 2, 65535])
+    return b"".join(parts)
+
+
+def stream(chance, identity):
+    return GREETING + ready(identity, chance.choice([b"DEALER"] * 9 + [b"ROUTER"])) + traffic(chance)
+
+
+def quoted(octets):
+    return "".join(chr(o) if o in PLAIN else f"%{o:02X}" for o in octets) or "~"
+
+
+def piece(octets):
+    return octets.hex() or "-"
+
+
+class Journal:
+    """Entries of a journal, line by line, with the identities of three peers."""
+
+    def __init__(self, chance):
+        self.chance = chance
+        self.peers = [bytes([0x10 * at + 1]) * 16 for at in range(1, 4)]
+        self.streams = {}
+        self.linked = []
+
+    def datagram(self):
+        at = self.chance.randrange(3)
+        port = self.chance.choice([b"\xc0\x00"] * 5 + [b"\x00\x00"])
+        return f"datagram 10.0.0.{at + 2} {(b'ZRE' + bytes([1]) + self.peers[at] + port).hex()}"
+
+    def opened(self):
+        number = self.chance.randrange(1, 6)
+        self.streams[number] = stream(self.chance, self.chance.choice(self.peers))
+        return f"opened {number}"
+
+    def piece(self):
+        if not self.streams:
+            return self.opened()
+        number = self.chance.choice(list(self.streams))
+        octets = self.streams[number]
+        cut = self.chance.choice([1, 7, 64, 200, len(octets)])
+        self.streams[number] = octets[cut:]
+        return f"piece {number} {piece(octets[:cut])}"
+
+    def shut(self):
+        return f"shut {self.chance.randrange(1, 6)}"
+
+    def link(self):
+        number = self.chance.randrange(1, 5)
+        octets = GREETING + ready(b"", b"ROUTER") + command(b"PING", bytes(2) + b"x")
+        return self.chance.choice([
+            f"linked {number}", f"linked {number}", f"unlinked {number}",
+            f"took {number} {self.chance.choice(NUMBERS[:-1])}",
+            f"reply {number} {piece(octets[:self.chance.choice([0, 20, 64, len(octets)])])}",
+        ])
+
+    def wish(self):
+        group = quoted(self.chance.choice(GROUPS))
+        peer = self.chance.choice(self.peers).hex().upper()
+        table = quoted(f"zre-set {self.chance.randrange(4)} {peer} k {self.chance.choice('abc')}".encode())
+        return "do " + self.chance.choice([
+            f"join {group}", f"leave {group}", f"shout {group} {table}", f"shout {group} x,~,y", f"whisper {peer} {table}",
+            f"bad {self.chance.choice(NUMBERS[:-1])}",
+        ])
+
+    def entry(self):
+        chance = self.chance
+        if chance.random() < 0.02:
+            return chance.choice(["do quit", "end"])
+        ways = [self.datagram, self.opened, self.piece, self.piece, self.piece, self.shut, self.link, self.link, self.wish]
+        return chance.choice(ways + [lambda: "tick"])()
+
+
+def captures(chance):
+    """The same entries as a capture of format 1 and of format 2."""
+    journal = Journal(chance)
+    first = ["zre-capture 1"]
+    second = [f"zre-capture 2 {'F' * 32} Me 10.0.0.1 49153 5000 30000 %"]
+    clock = 0
+    for _ in range(chance.randrange(0, 25)):
+        step = chance.choice([0, 0, 1, 100, 6000, 31000, -50])
+        step = max(step, -clock)
+        clock += step
+        entry = journal.entry()
+        first.append(f"{clock} {entry}")
+        second.append(f"{step} {entry}")
+    return tuple(("\n".join(lines) + "\n").encode() for lines in (first, second))
+
+
+def mutated(chance, octets):
+    """One to three changes: octets changed, left out, put in, doubled, or a number that is at an edge."""
+    octets = bytearray(octets)
+    for _ in range(chance.choice([1, 1, 2, 3])):
+        at = chance.randrange(len(octets) + 1)
+        end = min(len(octets), at + chance.choice([1, 1, 2, 8, 40]))
+        kind = chance.randrange(7)
+        if kind == 0:
+            octets[at:end] = chance.randbytes(end - at)
+        elif kind == 1:
+            del octets[at:end]
+        elif kind == 2:
+            octets[at:at] = chance.randbytes(chance.choice([1, 2, 9]))
+        elif kind == 3:
+            octets[at:at] = octets[at:end]
+        elif kind == 4:
+            octets[at:end] = str(chance.choice(NUMBERS)).encode()
+        elif kind == 5 and at < len(octets):
+            octets[at] ^= 1 << chance.randrange(8)
+        else:
+            del octets[at:]
+    return bytes(octets)
