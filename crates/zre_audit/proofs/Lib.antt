@@ -1,0 +1,10 @@
+pub mod Births
+pub mod Codes
+pub mod Judged
+pub mod Lines
+pub mod Loops
+pub mod Ordered
+pub mod Places
+pub mod Pushes
+pub mod Still
+pub mod Told

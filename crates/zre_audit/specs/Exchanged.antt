@@ -1,6 +1,6 @@
 -- What a node heard of a peer, and what it put on the links of that peer: the messages that a user or a program sends,
 -- WHISPER and SHOUT, as the journal's chronicle has them.
-use Rattle.std.specs.Prelude.{ℕ, Bool, true, false, ◌&&◌, List, [], ◌∷◌, map, Option, Some, None, if◌then◌else◌, nat_eq, bytes_eq}
+use Rattle.std.specs.Prelude.{ℕ, Bool, true, false, List, [], ◌∷◌, map, Option, Some, None, if◌then◌else◌, nat_eq, bytes_eq}
 use Rattle.std.specs.Cmp.Lexicographic.{pointwise}
 use Rattle.std.specs.List.{filter}
 use Rattle.zre_values.specs.declared.peer_id.PeerId.{PeerId}
@@ -26,11 +26,15 @@ bodies_of messages = map (λ (m : Message). m.body) messages
 abbrev pub said : List Body → List Body
 said bodies = filter is_said bodies
 
--- whether two are the same
+-- a message that is said, as a list: whether it is to a group and to which, and its content
+abbrev pub parts_of : Body → List (List ℕ)
+parts_of (Whisper content) = [] ∷ content
+parts_of (Shout group content) = (1 ∷ group) ∷ content
+parts_of _ = []
+
+-- whether two that are said are the same
 abbrev pub is_same_said : Body → Body → Bool
-is_same_said (Whisper content) (Whisper other) = pointwise bytes_eq content other
-is_same_said (Shout group content) (Shout to other) = bytes_eq group to && pointwise bytes_eq content other
-is_same_said _ _ = false
+is_same_said b c = pointwise bytes_eq (parts_of b) (parts_of c)
 
 -- ---- a peer's lives, of which each has its own link
 

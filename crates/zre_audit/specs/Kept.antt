@@ -1,10 +1,7 @@
--- How runs and links are kept.
-use Rattle.std.specs.Prelude.{◌≡◌, ℕ, ◌+◌, ◌-◌, ◌<◌, Bool, false, List, [], ◌∷◌, ◌++◌, length, map, flat_map, Option, Some, None, bytes_eq, if◌then◌else◌, nat_eq, nat_lt, slice_get, slice_index_or}
-use Rattle.std.specs.BTreeMap as tree
-use Rattle.std.specs.Cmp.Lexicographic.{slice_cmp}
+-- How links are kept.
+use Rattle.std.specs.Prelude.{◌≡◌, ℕ, zero, suc, ◌+◌, ◌<◌, false, List, [], ◌∷◌, ◌++◌, length, map, flat_map, Option, Some, None, bytes_eq, nat_lt, slice_get, slice_index_or}
 use Rattle.std.specs.List.{AllByRecursion, filter, fold}
-use Rattle.std.specs.Option.{option_map_or, unwrap_or}
-use Rattle.std.specs.Ordering.{nat_cmp}
+use Rattle.std.specs.Option.{option_map_or}
 use Rattle.zre_values.specs.declared.peer_id.PeerId.{PeerId}
 use Rattle.zre_outside.specs.declared.entry.Entry.{Entry}
 use Rattle.zre_journal.specs.declared.config.Config.{Config}
@@ -18,17 +15,6 @@ use Rattle.zre_audit.specs.declared.put.Line.{Line}
 use Rattle.zre_audit.specs.declared.put.Put.{Put}
 use Rattle.zre_audit.specs.declared.put.Count.{Count}
 
--- ---- runs
-
-abbrev pub Runs : Type 0
-Runs = tree.BTreeMap (List ℕ) (List (List ℕ))
-
--- the runs of the peer with this identity
-abbrev pub runs_in : Runs → List ℕ → List (List ℕ)
-runs_in runs p = unwrap_or (tree.get (slice_cmp nat_cmp) runs p) []
-
--- ---- links
-
 -- the octets of the messages at these places
 abbrev pub octets_at : List (List ℕ) → List ℕ → List ℕ
 octets_at messages places = flat_map (λ i. slice_index_or messages i []) places
@@ -36,10 +22,15 @@ octets_at messages places = flat_map (λ i. slice_index_or messages i []) places
 abbrev pub with_place : ℕ → Line → Line
 with_place place x = record { id = x.id; said = x.said ++ place ∷ [] }
 
+abbrev pub with_place_at : ℕ → List Line → ℕ → List Line
+with_place_at place [] i = []
+with_place_at place (x ∷ xs) zero = with_place place x ∷ xs
+with_place_at place (x ∷ xs) (suc i) = x ∷ with_place_at place xs i
+
 -- the message at a place was put on link l, where links are counted from 1
 abbrev pub noted : ℕ → List Line → ℕ → List Line
-noted place [] l = []
-noted place (x ∷ xs) l = if nat_eq l 1 then with_place place x ∷ xs else x ∷ noted place xs (l - 1)
+noted place xs zero = xs
+noted place xs (suc l) = with_place_at place xs l
 
 -- and on all of these
 abbrev pub all_noted : ℕ → List Line → List ℕ → List Line
@@ -71,6 +62,9 @@ pub record IsLine (messages : List (List ℕ)) (H : List Mark) (l : ℕ) (x : Li
   pub within : AllByRecursion (λ i. i < length messages) x.said
 
 -- the lines are those of all links that were made, in their order
-pub record HasPut (H : List Mark) (put : Put) : Type 0 where
-  pub count : length put.lines.items ≡ births H
-  pub lines_are : (i : ℕ) (x : Line) → slice_get put.lines.items i ≡ Some x → IsLine put.messages H (i + 1) x
+pub record ArePut (H : List Mark) (messages : List (List ℕ)) (lines : List Line) : Type 0 where
+  pub count : length lines ≡ births H
+  pub lines_are : (i : ℕ) (x : Line) → slice_get lines i ≡ Some x → IsLine messages H (i + 1) x
+
+abbrev pub HasPut : List Mark → Put → Type 0
+HasPut H put = ArePut H put.messages put.lines.items

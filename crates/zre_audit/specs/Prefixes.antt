@@ -1,5 +1,5 @@
 -- Lists that begin others, and whether each of some lists can be given a place of its own among others that it begins.
-use Rattle.std.specs.Prelude.{◌≡◌, ℕ, ◌+◌, ◌<◌, Bool, true, false, ◌&&◌, List, [], ◌∷◌, ◌++◌, length, nat_lt}
+use Rattle.std.specs.Prelude.{◌≡◌, ℕ, ◌+◌, ◌<◌, Bool, true, false, ◌&&◌, List, [], ◌∷◌, ◌++◌, Option, Some, None, if◌then◌else◌, length, nat_lt}
 use Rattle.std.specs.List.{AllByRecursion, count_by}
 
 module _ {A : Type 0} (same : A → A → Bool) where
@@ -45,3 +45,13 @@ module _ {A : Type 0} (same : A → A → Bool) where
     pub fewer_is : fewer ≡ begun list others
     pub exceeds : fewer < more
     pub none_earlier : AllByRecursion (λ xs. is_short firsts others xs ≡ false) before
+
+  -- the same as a function: these are the last of the first lists, from this number on
+  abbrev pub first_from : ℕ → (firsts others last : List (List A)) → Option (ℕ × ℕ × ℕ)
+  first_from number firsts others [] = None
+  first_from number firsts others (xs ∷ xss) =
+      if is_short firsts others xs then Some (number, begun xs firsts, begun xs others)
+      else first_from (number + 1) firsts others xss
+
+  abbrev pub first_short : (firsts others : List (List A)) → Option (ℕ × ℕ × ℕ)
+  first_short firsts others = first_from 1 firsts others firsts

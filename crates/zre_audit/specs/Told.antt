@@ -1,6 +1,10 @@
 -- What events tell of the runs of a peer, as octets.
 use Rattle.std.specs.Prelude.{ℕ, List, [], ◌∷◌, ◌++◌, if◌then◌else◌, bytes_eq}
+use Rattle.std.specs.BTreeMap as tree
+use Rattle.std.specs.Cmp.Lexicographic.{slice_cmp}
 use Rattle.std.specs.List.{fold}
+use Rattle.std.specs.Option.{unwrap_or}
+use Rattle.std.specs.Ordering.{nat_cmp}
 use Rattle.zre_msg.specs.declared.message.Body.TheVariants as body
 use Rattle.zre_peer.specs.declared.event.Event.{Event}
 use Rattle.zre_peer.specs.declared.event.Event.TheVariants.{Enter, Whisper, Shout}
@@ -23,3 +27,12 @@ runs_with p runs _ = runs
 
 abbrev pub runs_after : List ℕ → List (List ℕ) → List Event → List (List ℕ)
 runs_after p runs events = fold (runs_with p) runs events
+
+-- ---- how they are kept
+
+abbrev pub Runs : Type 0
+Runs = tree.BTreeMap (List ℕ) (List (List ℕ))
+
+-- the runs of the peer with this identity
+abbrev pub runs_in : Runs → List ℕ → List (List ℕ)
+runs_in runs p = unwrap_or (tree.get (slice_cmp nat_cmp) runs p) []

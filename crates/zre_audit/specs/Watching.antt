@@ -7,7 +7,8 @@ use Rattle.zre_journal.specs.Events.{chronicle}
 use Rattle.zre_node.specs.Journal.{StandsFor}
 use Rattle.zre_audit.specs.Coding.{code}
 use Rattle.zre_audit.specs.Exchanged.{heard}
-use Rattle.zre_audit.specs.Kept.{runs_in, HasPut}
+use Rattle.zre_audit.specs.Kept.{HasPut}
+use Rattle.zre_audit.specs.Told.{runs_in}
 use Rattle.zre_audit.specs.declared.watch.Watch.{Watch}
 
 -- the watch stands for the journal J of the node g: its node does, and it keeps what was heard and put

@@ -1,7 +1,7 @@
 //! The first of some lists that is one too many for others.
 
-ghost use Rattle.std.specs.Prelude.{◌≡◌, nat_eq, IfOk, MatchOption};
-ghost use Rattle.zre_audit.specs.Prefixes.{NoneIsShort, IsFirstShort};
+ghost use Rattle.std.specs.Prelude.{◌≡◌, nat_eq, option_map, IfOk};
+ghost use Rattle.zre_audit.specs.Prefixes.{first_short};
 
 use crate::counting::{count_begun, rising};
 use std::alloc::Global;
@@ -24,8 +24,8 @@ pub(crate) fn first_excess(
     lists: &[Octets],
     others: &[Octets],
 ) -> Result<Option<Excess>, OutOfMemory>
-    ensures { IfOk result (λ found. MatchOption found (NoneIsShort nat_eq lists.now others.now)
-        (λ e. IsFirstShort nat_eq lists.now others.now e.number e.more e.fewer)) }
+    ensures { IfOk result (λ found. option_map (λ e. (e.number, e.more, e.fewer)) found
+        ≡ first_short nat_eq lists.now others.now) }
 {
     let rising_lists = rising(alloc, lists)?;
     let rising_others = rising(alloc, others)?;

@@ -1,8 +1,7 @@
 //! What was said in the runs of peers.
 
 ghost use Rattle.std.specs.Prelude.{◌≡◌, ℕ, List, [], ◌∷◌, ◌++◌, if◌then◌else◌, bytes_eq, OnOk};
-ghost use Rattle.zre_audit.specs.Kept.{runs_in};
-ghost use Rattle.zre_audit.specs.Told.{at_last, runs_with, runs_after};
+ghost use Rattle.zre_audit.specs.Told.{at_last, runs_in, runs_with, runs_after};
 
 use crate::coding::{push_shout, push_whisper};
 use std::alloc::Global;
