@@ -173,12 +173,15 @@ begins-code (b ∷ bs) (c ∷ cs) s t = (λ i. begins nat_eq (flat_map-cons octe
 abbrev pub AllSaid : List (List Body) → Type 0
 AllSaid bss = AllByRecursion AreSaid bss
 
+abbrev one : Bool → ℕ
+one b = cond b 1 0
+
 begun-code : (bs : List Body) (css : List (List Body)) → AreSaid bs → AllSaid css → begun nat_eq (code bs) (map code css) ≡ begun is_same_said bs css
 begun-code bs [] s t = refl
 begun-code bs (cs ∷ css) s t =
     let a = sum_by-cons (λ xs. cond (begins nat_eq (code bs) xs) 1 0) (code cs) (map code css) in
     let b = sum_by-cons (λ xs. cond (begins is_same_said bs xs) 1 0) cs css in
-    let c = ap (λ w. cond w 1 0) (begins-code bs cs s t.0) in
+    let c = ap one (begins-code bs cs s t.0) in
     let r = begun-code bs css s t.1 in
     omega (arith, a, b, c, r)
 

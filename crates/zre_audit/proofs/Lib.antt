@@ -6,5 +6,6 @@ pub mod Loops
 pub mod Ordered
 pub mod Places
 pub mod Pushes
+pub mod Runs
 pub mod Still
 pub mod Told

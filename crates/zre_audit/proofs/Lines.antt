@@ -86,6 +86,12 @@ eqb-suc i m = by (eqb i m) refl
     by true e = eq-eqb (suc i) (suc m) (ap suc (eqb-true i m e)) ∙ sym e
     by false e = ne_eqb (suc i) (suc m) (λ z. let y : i ≡ m = omega (arith, z) in absurd (true≢false (sym (eq-eqb i m y) ∙ e))) ∙ sym e
 
+above-zero : (i : ℕ) → eqb (suc i) zero ≡ false
+above-zero i = ne_eqb (suc i) zero (λ z. omega (arith, z))
+
+below-suc : (m : ℕ) → eqb zero (suc m) ≡ false
+below-suc m = ne_eqb zero (suc m) (λ z. omega (arith, z))
+
 abbrev either : ℕ → Bool → Line → Line
 either place b x = cond b (with_place place x) x
 
@@ -96,12 +102,12 @@ same_option place (Some x) = refl
 placed_get : (place : ℕ) (xs : List Line) (m i : ℕ) → slice_get (with_place_at place xs m) i ≡ option_map (λ x. either place (eqb i m) x) (slice_get xs i)
 placed_get place [] m i = refl
 placed_get place (x ∷ xs) zero zero = refl
-placed_get place (x ∷ xs) zero (suc i) = same_option place (slice_get xs i)
-placed_get place (x ∷ xs) (suc m) zero = refl
+placed_get place (x ∷ xs) zero (suc i) = same_option place (slice_get xs i) ∙ ap (λ b. option_map (λ y. either place b y) (slice_get xs i)) (sym (above-zero i))
+placed_get place (x ∷ xs) (suc m) zero = ap (λ b. Some (either place b x)) (sym (below-suc m))
 placed_get place (x ∷ xs) (suc m) (suc i) = placed_get place xs m i ∙ ap (λ b. option_map (λ y. either place b y) (slice_get xs i)) (sym (eqb-suc i m))
 
 noted_get : (place : ℕ) (xs : List Line) (l i : ℕ) → slice_get (noted place xs l) i ≡ option_map (λ x. either place (eqb (suc i) l) x) (slice_get xs i)
-noted_get place xs zero i = same_option place (slice_get xs i)
+noted_get place xs zero i = same_option place (slice_get xs i) ∙ ap (λ b. option_map (λ y. either place b y) (slice_get xs i)) (sym (above-zero i))
 noted_get place xs (suc m) i = placed_get place xs m i ∙ ap (λ b. option_map (λ y. either place b y) (slice_get xs i)) (sym (eqb-suc i m))
 
 all_noted_get : (place : ℕ) (links : List ℕ) → Apart (λ (k : ℕ). k) links → (xs : List Line) (i : ℕ) → slice_get (all_noted place xs links) i ≡ option_map (λ x. either place (list_any (eqb (suc i)) links) x) (slice_get xs i)
@@ -312,7 +318,7 @@ range-lacks : (l a n : ℕ) → a + n ≤ l → Lacks l (range_with_len a n)
 range-lacks l a zero le = tt
 range-lacks l a (suc n) le = (ne_eqb l a (λ z. omega (arith, z, le)), range-lacks l (a + 1) n (omega (arith, le)))
 
-AreLinks : List Mark → Type 0
+abbrev pub AreLinks : List Mark → Type 0
 AreLinks H = (p : PeerId) → links_of p H ≡ filter (λ l. is_same p (peer_on l H)) (range_with_len 1 (births H))
 
 links_more : (h : Mark) (H : List Mark) → IsProper H → May h H → AreLinks H → AreLinks (h ∷ H)
@@ -341,7 +347,7 @@ links_more (Born n i a) H q y o p = ap (λ ks. followed ks (cond (bytes_eq p.0 i
         last : (b : Bool) → followed (filter (λ l. is_same p (peer_on l H)) range) (cond b (Some n) None) ≡ filter (λ l. is_same p (peer_on l H)) range ++ cond b (n ∷ []) []
         last true = refl
         last false = sym (append-nil (filter (λ l. is_same p (peer_on l H)) range))
-links_more _ H q y o = o
+links_more _ H q y o p = o p
 
 pub are_links : (g : Config) (journal : List Entry) → AreLinks (chronicle g journal)
 are_links g journal = always g AreLinks links_more (λ p. refl) journal

@@ -54,7 +54,7 @@ far_put : (b : Body) (l : ℕ) (H K L : List Mark) → IsFar l H K → PutOn b l
 far_put b l H K L f (Nothing e) = Nothing (e ∙ f.same_bodies)
 far_put b l H K L f (Once e s t) = Once (e ∙ ap (λ bs. bs ++ b ∷ []) f.same_bodies) (subst IsSome f.same_life s) t
 
-AllFar : ℕ → List Life → Type 0
+abbrev AllFar : ℕ → List Life → Type 0
 AllFar l vs = AllByRecursion (λ (v : Life). eqb l v.link ≡ false) vs
 
 module _ (g : Config) (b : Body) where

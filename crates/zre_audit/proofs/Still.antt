@@ -22,7 +22,7 @@ use Rattle.zre_link.specs.Heard.{reply_fault}
 use Rattle.zre_link.specs.Link.{answered, slow_at}
 use Rattle.zre_link.specs.Text.{Member, Says, Pongs, bodies_in, size_of}
 use Rattle.zre_journal.specs.declared.config.Config.{Config}
-use Rattle.zre_journal.specs.Chronicle.{Mark, Comes, Opens, TurnsAway, Greets, Shakes, AnswersPing, Starts, Counts, Ignores, Closes, IsShut, ClosesAtStop, Born, HearsBeacon, Ends, IsEvasive, Puts, PutsPong, Links, Sends, Joins, Leaves, Refuses, SendsBeacon, Stops, after, followed}
+use Rattle.zre_journal.specs.Chronicle.{Mark, Comes, Opens, TurnsAway, Greets, Shakes, AnswersPing, Starts, Counts, Ignores, Closes, IsShut, ClosesAtStop, Born, HearsBeacon, Ends, IsEvasive, Puts, PutsPong, Links, Sends, Joins, Refuses, SendsBeacon, Stops, after, followed}
 use Rattle.zre_journal.specs.Connections.{open_ones, is_new, is_open, runs, other_with}
 use Rattle.zre_journal.specs.Done.{done, done_at, close_link}
 use Rattle.zre_journal.specs.Peers.{Life, lives, births, life, is_entered, counted}
@@ -203,16 +203,18 @@ module _ (g : Config) where
       let gone = map (λ (v : Life). Ends v.link cause.Expired) (filter (is_silent g g.expired K) (lives K)) in
       let probed = probe g (filter (is_evasive g K) (lives K)) K in
       let shut = map (λ c. Closes c close.Timeout) (filter (is_stale g K) (open_ones K)) in
-      still_both gone (probed ++ shut ++ SendsBeacon g.port ∷ []) (still_map (λ (v : Life). Ends v.link cause.Expired) (λ v. (tt, tt, tt)) (filter (is_silent g g.expired K) (lives K)))
-      (still_both probed (shut ++ SendsBeacon g.port ∷ []) (still_probe (filter (is_evasive g K) (lives K)) K)
-      (still_both shut (SendsBeacon g.port ∷ []) (still_map (λ c. Closes c close.Timeout) (λ c. (tt, tt, tt)) (filter (is_stale g K) (open_ones K))) ((tt, tt, tt), tt)))
+      still_both (gone ++ probed ++ shut) (SendsBeacon g.port ∷ [])
+      (still_both (gone ++ probed) shut
+      (still_both gone probed (still_map (λ (v : Life). Ends v.link cause.Expired) (λ v. (tt, tt, tt)) (filter (is_silent g g.expired K) (lives K))) (still_probe (filter (is_evasive g K) (lives K)) K))
+      (still_map (λ c. Closes c close.Timeout) (λ c. (tt, tt, tt)) (filter (is_stale g K) (open_ones K)))) ((tt, tt, tt), tt)
 
   pub still_stop : (K : List Mark) → AreStill (at_stop g K)
   still_stop K =
       let gone = map (λ (v : Life). Ends v.link cause.Stop) (lives K) in
       let shut = map (λ c. ClosesAtStop c) (open_ones K) in
-      still_both gone (shut ++ SendsBeacon 0 ∷ Stops ∷ []) (still_map (λ (v : Life). Ends v.link cause.Stop) (λ v. (tt, tt, tt)) (lives K))
-      (still_both shut (SendsBeacon 0 ∷ Stops ∷ []) (still_map (λ c. ClosesAtStop c) (λ c. (tt, tt, tt)) (open_ones K)) ((tt, tt, tt), ((tt, tt, tt), tt)))
+      still_both (gone ++ shut) (SendsBeacon 0 ∷ Stops ∷ [])
+      (still_both gone shut (still_map (λ (v : Life). Ends v.link cause.Stop) (λ v. (tt, tt, tt)) (lives K)) (still_map (λ c. ClosesAtStop c) (λ c. (tt, tt, tt)) (open_ones K)))
+      ((tt, tt, tt), ((tt, tt, tt), tt))
 
   pub still_join : (group : List ℕ) (K : List Mark) → AreStill (at_join g group K)
   still_join group K = choice S (ltb GROUP_OCTETS (length group)) _ _ (λ z. ((tt, tt, tt), tt))

@@ -19,7 +19,7 @@ use Rattle.zre_peer.specs.declared.view.View.{View}
 use Rattle.zre_peer.specs.declared.event.Event.{Event}
 use Rattle.zre_peer.specs.declared.event.Event.TheVariants as event
 use Rattle.zre_journal.specs.declared.config.Config.{Config}
-use Rattle.zre_journal.specs.Chronicle.{Mark, Born, Starts, Counts, Ends, IsEvasive, each, followed, latest}
+use Rattle.zre_journal.specs.Chronicle.{Mark, TurnsAway, Starts, Counts, Ignores, Closes, Born, Ends, IsEvasive, Refuses, Stops, each, followed}
 use Rattle.zre_journal.specs.Connections.{is_same}
 use Rattle.zre_journal.specs.Peers.{Life, lives, life, life_of, births, runner, runner_at, is_entered, counted, view}
 use Rattle.zre_journal.specs.Told.{told_at, by_message, exit, becoming_evasive}
@@ -178,16 +178,16 @@ no_run l (h ∷ H) e = by h e (λ z. no_run l H z)
     by _ z r = r z
 
 -- l is the last of these, and once
-record IsLast (l : ℕ) (ks : List ℕ) : Type 0 where
-  others : List ℕ
-  parts : ks ≡ others ++ l ∷ []
-  apart : Lacks l others
+pub record IsLast (l : ℕ) (ks : List ℕ) : Type 0 where
+  pub others : List ℕ
+  pub parts : ks ≡ others ++ l ∷ []
+  pub apart : Lacks l others
 
-record IsTold (H : List Mark) : Type 0 where
-  are_named : AreNamed H
-  tells : (p : PeerId) → runs_after p.0 [] (told_by H) ≡ rows p H
-  living : (l : ℕ) (v : Life) → life l H ≡ Some v → peer_on l H ≡ Some v.id
-  last : (c l : ℕ) (v : Life) → life l H ≡ Some v → runner l H ≡ Some c → IsLast l (runs_of v.id H)
+pub record IsTold (H : List Mark) : Type 0 where
+  pub are_named : AreNamed H
+  pub tells : (p : PeerId) → runs_after p.0 [] (told_by H) ≡ rows p H
+  pub living : (l : ℕ) (v : Life) → life l H ≡ Some v → peer_on l H ≡ Some v.id
+  pub last : (c l : ℕ) (v : Life) → life l H ≡ Some v → runner l H ≡ Some c → IsLast l (runs_of v.id H)
 
 module _ (H : List Mark) (q : IsProper H) (o : IsTold H) where
   -- the runs of a peer that is known are of its own links
@@ -212,7 +212,7 @@ module _ (H : List Mark) (q : IsProper H) (o : IsTold H) where
   -- ---- a run begins
 
   module _ (c l : ℕ) (m : Message) (y : May (Starts c l m) H) where
-    K : List Mark
+    abbrev K : List Mark
     K = Starts c l m ∷ H
 
     fresh : Lacks l (each run_at H)
@@ -266,7 +266,7 @@ module _ (H : List Mark) (q : IsProper H) (o : IsTold H) where
               apart = subst (λ x. Lacks x (runs_of v.id H)) (sym here) (lacks-some l (λ j. is_same v.id (peer_on j H)) (each run_at H) fresh);
             }
         by false s =
-            let older : runner k H ≡ Some d = rw s at r in
+            let older : runner k H ≡ Some d = sym (ap (λ t. option_or (cond t (Some c) None) (runner k H)) s) ∙ r in
             let w = o.last d k v e older in
             let off : bytes_eq v.id.0 y.who.id.0 ≡ false = apart k l v y.who e y.known s in
             record {
@@ -278,7 +278,7 @@ module _ (H : List Mark) (q : IsProper H) (o : IsTold H) where
   -- ---- a message is counted
 
   module _ (c l : ℕ) (m : Message) (y : May (Counts c l m) H) where
-    L : List Mark
+    abbrev L : List Mark
     L = Counts c l m ∷ H
 
     count_other : (k : ℕ) → eqb l k ≡ false → told_on k L ≡ told_on k H
@@ -314,7 +314,7 @@ module _ (H : List Mark) (q : IsProper H) (o : IsTold H) where
   -- ---- a peer is born
 
   module _ (n : ℕ) (i : PeerId) (a : Endpoint) (y : May (Born n i a) H) where
-    M : List Mark
+    abbrev M : List Mark
     M = Born n i a ∷ H
 
     unrun : runner n H ≡ None

@@ -28,7 +28,8 @@ fn begin(
         → runs_in runs.new p ≡ (if bytes_eq id.0 p then runs_in runs.old p ++ [] ∷ [] else runs_in runs.old p)) }
 {
     if let Some(lists) = runs.get_mut(&id.0) {
-        return lists.push(Octets::new(alloc));
+        lists.push(Octets::new(alloc))?;
+        return Ok(());
     }
     runs.insert(id.0, Frames::of(alloc, Octets::new(alloc)))?;
     Ok(())
@@ -52,10 +53,10 @@ fn append(
     ensures { OnOk result ((p : List ℕ) → runs_in runs.new p
         ≡ (if bytes_eq id.0 p then at_last octets.now (runs_in runs.old p) else runs_in runs.old p)) }
 {
-    match runs.get_mut(&id.0) {
-        Some(lists) => append_last(lists, octets),
-        None => Ok(()),
+    if let Some(lists) = runs.get_mut(&id.0) {
+        append_last(lists, octets)?;
     }
+    Ok(())
 }
 
 impl Heard {

@@ -12,8 +12,8 @@ module _ (g k : Config) (J K : List Entry) where
   TooMany = (side : ℕ) × (run : ℕ) × (runs : ℕ) × (links : ℕ) × IsTooMany g k J K side run runs links
 
   first : (Agree g k J K → ⊥) → (v : Verdict) → Judges g k J K v → TooMany
-  first no Yes a = absurd (no a)
-  first no (No side run runs links) t = (side, run, runs, links, t)
+  first differ Yes a = absurd (differ a)
+  first differ (No side run runs links) t = (side, run, runs, links, t)
 
 pub returns : goal.returns
-returns c = λ g k J K. (λ no. first g k J K no (judged g k J K) (judged_right g k J K), λ t. not_both g k J K t.0 t.1 t.2 t.3 t.4)
+returns c = λ g k J K. (λ differ. first g k J K differ (judged g k J K) (judged_right g k J K), λ t. not_both g k J K t.0 t.1 t.2 t.3 t.4)
