@@ -1,5 +1,6 @@
 pub mod Births
 pub mod Codes
+pub mod Counted
 pub mod Judged
 pub mod Lines
 pub mod Loops

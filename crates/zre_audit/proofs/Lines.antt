@@ -1,5 +1,5 @@
 -- The lines of links, entry by entry.
-use Rattle.std.proofs.Common.{◌≡◌, ◌⊎◌, ℕ, zero, suc, ◌+◌, ◌<◌, ◌≤◌, Bool, true, false, cond, ◌&&◌, ◌||◌, eqb, ltb, List, [], ◌∷◌, ◌++◌, length, map, filter, Option, Some, None, IsSome, is_some, find, refl, sym, ap, ◌∙◌, subst, inl, inr, arith, append-nil, true≢false, eqb-true, eq-eqb, ne_eqb, ltb-true, lt-ltb, option_map, bytes_eq, slice_get, slice_index_or, fold}
+use Rattle.std.proofs.Common.{◌≡◌, ◌⊎◌, ℕ, zero, suc, ◌+◌, ◌<◌, ◌≤◌, Bool, true, false, cond, ◌&&◌, ◌||◌, eqb, ltb, List, [], ◌∷◌, ◌++◌, length, map, filter, Option, Some, None, IsSome, is_some, find, refl, sym, ap, ◌∙◌, subst, inl, inr, arith, append-nil, true≢false, eqb-true, eq-eqb, ne_eqb, ltb-true, lt-ltb, option_map, bytes_eq, slice_get, slice_set, slice_index_or, fold}
 use Rattle.std.proofs.lemmas.List.{length-append}
 use Rattle.std.proofs.lemmas.List.Concat.{flat_map-cons, flat_map-append}
 use Rattle.std.proofs.lemmas.List.Elements.{filter-append}
@@ -286,14 +286,16 @@ module _ (H K : List Mark) (q : IsProper H) (n : IsProper K) (b : Body) (says : 
 
       is_put : (i : ℕ) (x : Line) → IsLine messages H (i + 1) x → PutOn b (i + 1) H K → IsLine (messages ++ octets ∷ []) K (i + 1) (either (length messages) (list_any (eqb (suc i)) links) x)
       is_put i x s (Nothing same) =
-          let none : list_any (eqb (i + 1)) links ≡ false = risen_here (i + 1) false (none_risen (i + 1) same (life (i + 1) K) refl) ∙ off (is_some (life (i + 1) H)) in
+          let here : suc i ≡ i + 1 = omega arith in
+          let none : list_any (eqb (suc i)) links ≡ false = ap (λ n. list_any (eqb n) links) here ∙ risen_here (i + 1) false (none_risen (i + 1) same (life (i + 1) K) refl) ∙ off (is_some (life (i + 1) H)) in
           subst (λ t. IsLine (messages ++ octets ∷ []) K (i + 1) (either (length messages) t x)) (sym none) (unchanged (i + 1) x s same)
         where
           off : (z : Bool) → (z && false) ≡ false
           off true = refl
           off false = refl
       is_put i x s (Once more old now) =
-          let some : list_any (eqb (i + 1)) links ≡ true = risen_here (i + 1) true (one_risen (i + 1) more now) ∙ on (is_some (life (i + 1) H)) old in
+          let here : suc i ≡ i + 1 = omega arith in
+          let some : list_any (eqb (suc i)) links ≡ true = ap (λ n. list_any (eqb n) links) here ∙ risen_here (i + 1) true (one_risen (i + 1) more now) ∙ on (is_some (life (i + 1) H)) old in
           subst (λ t. IsLine (messages ++ octets ∷ []) K (i + 1) (either (length messages) t x)) (sym some) (changed (i + 1) x s more)
         where
           on : (z : Bool) → z ≡ true → (z && true) ≡ true
@@ -379,3 +381,18 @@ lines_put g journal messages xs r p = by xs 1 (λ i x e. let same : i + 1 ≡ 1 
             ≡ map code (map spoken (cond (mine k) (k ∷ filter mine (range_with_len (k + 1) (length ys))) (filter mine (range_with_len (k + 1) (length ys)))))
         one true e r = (λ i. (s.said_is ∙ sym (code-said (bodies k H))) i ∷ r i) ∙ ap (λ b. map code (map spoken (cond b (k ∷ filter mine (range_with_len (k + 1) (length ys))) (filter mine (range_with_len (k + 1) (length ys)))))) (sym (is_mine ∙ e))
         one false e r = r ∙ ap (λ b. map code (map spoken (cond b (k ∷ filter mine (range_with_len (k + 1) (length ys))) (filter mine (range_with_len (k + 1) (length ys)))))) (sym (is_mine ∙ e))
+
+-- ---- one line that is noted
+
+pub placed_set : (place : ℕ) (xs : List Line) (i : ℕ) (x : Line) → x ≡ slice_index_or xs i x → i < length xs → slice_set xs i (with_place place x) ≡ with_place_at place xs i
+placed_set place [] i x e lt = absurd (omega (arith, lt))
+placed_set place (y ∷ xs) zero x e lt = ap (λ z. with_place place z ∷ xs) e
+placed_set place (y ∷ xs) (suc i) x e lt = ap (λ zs. y ∷ zs) (placed_set place xs i x e (omega (arith, lt)))
+
+pub placed_none : (place : ℕ) (xs : List Line) (i : ℕ) → length xs ≤ i → xs ≡ with_place_at place xs i
+placed_none place [] i le = refl
+placed_none place (x ∷ xs) zero le = absurd (omega (arith, le))
+placed_none place (x ∷ xs) (suc i) le = ap (λ ys. x ∷ ys) (placed_none place xs i (omega (arith, le)))
+
+pub noted_at : (place : ℕ) (xs : List Line) (l i : ℕ) → l ≡ i + 1 → noted place xs l ≡ with_place_at place xs i
+noted_at place xs l i e = let same : l ≡ suc i = omega (arith, e) in ap (noted place xs) same

@@ -1,5 +1,5 @@
 -- The map of runs, with those of one peer changed.
-use Rattle.std.proofs.Common.{◌≡◌, ℕ, Bool, true, false, cond, List, [], Option, Some, None, refl, sym, ap, ◌∙◌, bytes_eq}
+use Rattle.std.proofs.Common.{◌≡◌, ℕ, zero, suc, ◌+◌, ◌<◌, Bool, true, false, cond, List, [], ◌∷◌, ◌++◌, length, Option, Some, None, refl, sym, ap, ◌∙◌, arith, bytes_eq, slice_set, slice_index_or}
 use Rattle.std.proofs.lemmas.Map.Text.{is_eq-slice_cmp}
 use Rattle.std.proofs.lemmas.Slice.Eq.{bytes_eq-Decides}
 use Rattle.std.specs.BTreeMap as tree
@@ -34,3 +34,16 @@ unchanged m n id F e f p = ap (λ r. runs_in r p) e ∙ by (bytes_eq id p) refl
 
 pub found : (m : Runs) (id : List ℕ) (o : Option (List (List ℕ))) → o ≡ tree.get (slice_cmp nat_cmp) m id → runs_in m id ≡ unwrap_or o []
 found m id o e = ap (λ p. unwrap_or p []) (sym e)
+
+-- ---- the last of some lists
+
+pub last_set : (octets : List ℕ) (xs : List (List ℕ)) (n : ℕ) → length xs ≡ n + 1 → slice_set xs n (slice_index_or xs n [] ++ octets) ≡ at_last octets xs
+last_set octets [] n e = absurd (omega (arith, e))
+last_set octets (x ∷ []) zero e = refl
+last_set octets (x ∷ []) (suc n) e = absurd (omega (arith, e))
+last_set octets (x ∷ y ∷ ys) zero e = absurd (omega (arith, e))
+last_set octets (x ∷ y ∷ ys) (suc n) e = ap (λ zs. x ∷ zs) (last_set octets (y ∷ ys) n (omega (arith, e)))
+
+pub last_of_none : (octets : List ℕ) (xs : List (List ℕ)) → length xs < 1 → xs ≡ at_last octets xs
+last_of_none octets [] e = refl
+last_of_none octets (x ∷ xs) e = absurd (omega (arith, e))

@@ -38,10 +38,10 @@ fn begin(
 fn append_last(lists: &mut Frames, octets: &[u8]) -> Result<(), OutOfMemory>
     ensures { OnOk result (lists.new ≡ at_last octets.now lists.old) }
 {
-    match lists.len().checked_sub(1) {
-        Some(last) => lists.append_at(last, octets),
-        None => Ok(()),
+    if let Some(last) = lists.len().checked_sub(1) {
+        lists.append_at(last, octets)?;
     }
+    Ok(())
 }
 
 // The peer says something in its last run.

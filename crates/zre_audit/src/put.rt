@@ -94,7 +94,8 @@ fn note_at(lines: &mut Vec<Line>, link: u64, place: u64) -> Result<(), OutOfMemo
     if at >= lines.len() {
         return Ok(());
     }
-    note(&mut lines[at], place)
+    note(&mut lines[at], place)?;
+    Ok(())
 }
 
 fn note_all(lines: &mut Vec<Line>, links: &[u64], place: u64) -> Result<(), OutOfMemory>
