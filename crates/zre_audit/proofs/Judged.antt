@@ -11,7 +11,11 @@ use Rattle.std.specs.List.{AllByRecursion}
 use Rattle.zre_msg.specs.declared.message.Body.{Body}
 use Rattle.zre_msg.specs.declared.message.Body.TheVariants as body
 use Rattle.zre_audit.specs.Coding.{octets_of, code, part, parts}
-use Rattle.zre_audit.specs.Exchanged.{is_said, said, parts_of, is_same_said}
+use Rattle.zre_values.specs.declared.peer_id.PeerId.{PeerId}
+use Rattle.zre_journal.specs.Chronicle.{Mark}
+use Rattle.zre_journal.specs.Links.{bodies}
+use Rattle.zre_journal.specs.Peers.{counted}
+use Rattle.zre_audit.specs.Exchanged.{is_said, said, bodies_of, parts_of, is_same_said, runs_of, links_of, heard, put}
 use Rattle.zre_outside.specs.declared.entry.Entry.{Entry}
 use Rattle.zre_journal.specs.declared.config.Config.{Config}
 use Rattle.zre_audit.specs.Agreement.{Agree, IsTooMany, Judges, judged, too_many, heard_first, heard_second, put_first, put_second}
@@ -256,3 +260,13 @@ module _ (g k : Config) (J K : List Entry) where
   pub yes_agree : (v : Verdict) → Judges g k J K v → (v ≡ Yes) ↔ Agree g k J K
   yes_agree Yes j = (λ e. j, λ a. refl)
   yes_agree (No side run runs links) j = (λ e. absurd cc, λ a. absurd (not_both side run runs links j a))
+
+said-all : {A : Type 0} (f : A → List Body) (xs : List A) → ((x : A) → AreSaid (f x)) → AllSaid (map f xs)
+said-all f [] s = tt
+said-all f (x ∷ xs) s = (s x, said-all f xs s)
+
+pub heard-said : (p : PeerId) (H : List Mark) → AllSaid (heard p H)
+heard-said p H = said-all (λ l. said (bodies_of (counted l H))) (runs_of p H) (λ l. said-are (bodies_of (counted l H)))
+
+pub put-said : (p : PeerId) (H : List Mark) → AllSaid (put p H)
+put-said p H = said-all (λ l. said (bodies l H)) (links_of p H) (λ l. said-are (bodies l H))

@@ -1,6 +1,7 @@
 pub mod Births
 pub mod Codes
 pub mod Counted
+pub mod Firsts
 pub mod Judged
 pub mod Lines
 pub mod Loops
@@ -10,3 +11,4 @@ pub mod Pushes
 pub mod Runs
 pub mod Still
 pub mod Told
+pub mod Watching

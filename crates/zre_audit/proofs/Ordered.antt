@@ -7,7 +7,7 @@ use Rattle.std.proofs.lemmas.List.Sorted.{ranks_by, sorted_far, sum_by-IsPermuta
 use Rattle.std.proofs.lemmas.List.Sums.{sum_by-cons}
 use Rattle.std.specs.Cmp.Lexicographic.{slice_cmp, pointwise}
 use Rattle.std.specs.List.{AllWithin}
-use Rattle.std.specs.List.Sorted.{IsPermutation, IsPartitionedBy, IsPartitionPoint}
+use Rattle.std.specs.List.Sorted.{IsPermutation, IsPartitionedBy, IsPartitionPoint, IsSortedBy}
 use Rattle.std.specs.Ordering.{nat_cmp, is_lt, ordering_then, ordering_reverse}
 use Rattle.std.specs.declared.cmp.Ordering.{Ordering}
 use Rattle.std.specs.declared.cmp.Ordering.TheVariants.{Less, Equal, Greater}
@@ -180,3 +180,16 @@ module _ {X : Type 0} (f : X → List ℕ) where
       let l = count-map (up_to h) xs in
       let s = both_counts h (map f xs) in
       omega (arith, m, n, k, l, s)
+
+  -- what is sorted by what it leads to leads to what is sorted
+  pub rises-map : (xs : List X) → IsSortedBy (λ x y. is_lt (cmp (f x) (f y))) xs → AreRising (map f xs)
+  rises-map [] up k d a lt = absurd (omega (arith, lt))
+  rises-map (x ∷ xs) up k d a lt =
+      let long = length-map (x ∷ xs) in
+      let within : k + 1 < length (x ∷ xs) = omega (arith, lt, long) in
+      (λ i. is_lt (cmp (at (x ∷ xs) x (k + 1) d within i) (at (x ∷ xs) x k d (omega (arith, within)) i))) ∙ up k x a within
+    where
+      at : (ys : List X) (y : X) (k : ℕ) (d : List ℕ) → k < length ys → get_or (map f ys) k d ≡ f (get_or ys k y)
+      at [] y k d lt = absurd (omega (arith, lt))
+      at (z ∷ ys) y zero d lt = refl
+      at (z ∷ ys) y (suc k) d lt = at ys y k d (omega (arith, lt))

@@ -8,7 +8,7 @@ ghost use Rattle.zre_audit.specs.Kept.{lines_of};
 ghost use Rattle.zre_audit.specs.Prefixes.{first_short};
 ghost use Rattle.zre_audit.specs.Told.{runs_in};
 ghost use Rattle.zre_audit.specs.Watching.{Watches};
-ghost use Rattle.zre_audit.specs.declared.verdicts.Verdict.TheVariants.{Yes};
+ghost use Rattle.zre_audit.specs.declared.verdicts.Verdict.TheVariants.{Yes, No};
 
 use crate::excess::{Excess, first_excess};
 use crate::verdicts::Verdict;
@@ -21,11 +21,13 @@ fn excess(heard: &Watch, put: &Watch) -> Result<Option<Excess>, OutOfMemory>
         ≡ first_short nat_eq (runs_in heard.now.heard.runs put.now.id.0)
         (lines_of put.now.put.messages put.now.put.lines.items heard.now.id)) }
 {
-    let links = put.put.links(heard.id())?;
-    first_excess(heard.alloc, heard.heard.runs(put.id()), links.as_slice())
+    let links = put.put.links(heard.id)?;
+    first_excess(heard.alloc, heard.heard.runs(put.id), links.as_slice())
 }
 
-fn against(side: u8, excess: Excess) -> Verdict {
+fn against(side: u8, excess: Excess) -> Verdict
+    ensures { result ≡ No side excess.number excess.more excess.fewer }
+{
     Verdict::No {
         side,
         run: excess.number,

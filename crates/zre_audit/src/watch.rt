@@ -24,7 +24,7 @@ use zre_values::{Octets, OutOfMemory, PeerId};
 #[derive(Drop)]
 pub struct Watch {
     pub(crate) alloc: Global,
-    id: PeerId,
+    pub(crate) id: PeerId,
     node: Node,
     pub(crate) heard: Heard,
     pub(crate) put: Put,
@@ -54,7 +54,9 @@ impl Watch {
         let step = self.node.step(entry)?;
         let events = step.events.as_slice();
         self.heard.take_all(events)?;
-        self.put.add_line(born(announced, step.acts.as_slice(), events))
+        self.put
+            .add_line(born(announced, step.acts.as_slice(), events))?;
+        Ok(())
     }
 
     // An entry that asks for a message with these octets to be said.
@@ -65,7 +67,9 @@ impl Watch {
         let before = counts(self.alloc, &self.node)?;
         let step = self.node.step(entry)?;
         self.heard.take_all(step.events.as_slice())?;
-        self.put.add_message(octets, before.as_slice(), &self.node)
+        self.put
+            .add_message(octets, before.as_slice(), &self.node)?;
+        Ok(())
     }
 
     /// One entry of the journal. After `OutOfMemory` nothing is known of the watch.
