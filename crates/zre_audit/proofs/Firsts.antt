@@ -1,5 +1,5 @@
 -- The first list that is one too many, list by list.
-use Rattle.std.proofs.Common.{◌≡◌, ℕ, ◌+◌, ◌<◌, ◌≤◌, Bool, true, false, cond, ltb, nat_eq, List, [], ◌∷◌, length, drop, get_or, Option, Some, None, refl, sym, ap, ◌∙◌, arith}
+use Rattle.std.proofs.Common.{◌≡◌, ℕ, ◌+◌, ◌<◌, ◌≤◌, Bool, true, false, cond, ltb, nat_eq, List, [], ◌∷◌, length, drop, get_or, Option, Some, None, refl, sym, ap, ◌∙◌, arith, ltb-true, lt-ltb}
 use Rattle.std.proofs.lemmas.List.{drop_more, drop_all}
 use Rattle.zre_audit.specs.Prefixes.{begun, is_short, first_from, first_short}
 use Rattle.zre_audit.specs.Sorted.{IsRising}
@@ -20,11 +20,15 @@ module _ (lists others : List (List ℕ)) where
         ∙ (λ j. cond (ltb (sym f j) (sym m j)) (Some (i + 1, sym m j, sym f j)) (first_from nat_eq (i + 1 + 1) lists others (drop (i + 1) lists)))
         ∙ ap (λ b. cond b (Some (i + 1, more, fewer)) (first_from nat_eq (i + 1 + 1) lists others (drop (i + 1) lists))) e
 
-    pub none_here : ltb fewer more ≡ false → NoneBefore i → NoneBefore (i + 1)
-    none_here e n = here false e n
+    pub none_here : more ≤ fewer → NoneBefore i → NoneBefore (i + 1)
+    none_here le n = here false (not_less (ltb fewer more) refl) n
+      where
+        not_less : (b : Bool) → ltb fewer more ≡ b → ltb fewer more ≡ false
+        not_less false e = e
+        not_less true e = let less = ltb-true fewer more e in absurd (omega (arith, less, le))
 
-    pub one_here : ltb fewer more ≡ true → NoneBefore i → first_short nat_eq lists others ≡ Some (i + 1, more, fewer)
-    one_here e n = here true e n
+    pub one_here : fewer < more → NoneBefore i → first_short nat_eq lists others ≡ Some (i + 1, more, fewer)
+    one_here less n = here true (lt-ltb fewer more less) n
 
   pub none_at_all : (i : ℕ) → length lists ≤ i → NoneBefore i → first_short nat_eq lists others ≡ None
   none_at_all i le n = n ∙ ap (first_from nat_eq (i + 1) lists others) (drop_all i lists le)

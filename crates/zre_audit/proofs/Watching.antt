@@ -19,7 +19,10 @@ use Rattle.zre_node.specs.Asked.{sent_after}
 use Rattle.zre_node.specs.Journal.{Steps}
 use Rattle.zre_node.specs.declared.effects.Step.{Step}
 use Rattle.zre_node.specs.declared.node.Node.{Node}
+use Rattle.zre_audit.specs.Agreement.{heard_first, heard_second, put_first, put_second, too_many, judged, Judges}
 use Rattle.zre_audit.specs.Coding.{octets_of, code}
+use Rattle.zre_audit.specs.declared.verdicts.Verdict.{Verdict}
+use Rattle.zre_audit.specs.declared.verdicts.Verdict.TheVariants.{Yes, No}
 use Rattle.zre_audit.specs.Exchanged.{heard, put, is_same_said}
 use Rattle.zre_audit.specs.Prefixes.{first_short}
 use Rattle.zre_audit.specs.Watching.{Watches}
@@ -29,7 +32,7 @@ use Rattle.zre_audit.specs.Seen.{asked_by, announced_by, born_with}
 use Rattle.zre_audit.specs.Told.{Runs, runs_in, runs_with, runs_after}
 use Rattle.zre_audit.specs.declared.put.Line.{Line}
 use Rattle.zre_audit.proofs.Births.{entry_adds}
-use Rattle.zre_audit.proofs.Judged.{first-code, heard-said, put-said}
+use Rattle.zre_audit.proofs.Judged.{first-code, heard-said, put-said, judged_right}
 use Rattle.zre_audit.proofs.Lines.{lines_added, lines_said, lines_put}
 use Rattle.zre_audit.proofs.Pushes.{Says, entry_says}
 use Rattle.zre_audit.proofs.Told.{hears}
@@ -87,3 +90,24 @@ first_found g k J K a b w v =
     let runs : runs_in a.heard.runs b.id.0 ≡ map code (heard k.id (chronicle g J)) = ap (λ (p : PeerId). runs_in a.heard.runs p.0) v.id_is ∙ w.has_heard k.id in
     let links : lines_of b.put.messages b.put.lines.items a.id ≡ map code (put g.id (chronicle k K)) = ap (lines_of b.put.messages b.put.lines.items) w.id_is ∙ lines_put k K b.put.messages b.put.lines.items v.has_put g.id in
     (λ i. first_short nat_eq (runs i) (links i)) ∙ first-code (heard k.id (chronicle g J)) (put g.id (chronicle k K)) (heard-said k.id (chronicle g J)) (put-said g.id (chronicle k K))
+
+-- ---- verdicts
+
+module _ (g k : Config) (J K : List Entry) where
+  abbrev first : Option (ℕ × ℕ × ℕ)
+  first = first_short is_same_said (heard_first g k J K) (put_second g k J K)
+
+  abbrev second : Option (ℕ × ℕ × ℕ)
+  second = first_short is_same_said (heard_second g k J K) (put_first g k J K)
+
+  pub first_judged : (t : ℕ × ℕ × ℕ) → first ≡ Some t → No 1 t.0 t.1 t.2 ≡ judged g k J K
+  first_judged t e = sym (ap (λ o. too_many 1 o (too_many 2 second Yes)) e)
+
+  pub second_judged : (t : ℕ × ℕ × ℕ) → first ≡ None → second ≡ Some t → No 2 t.0 t.1 t.2 ≡ judged g k J K
+  second_judged t n e = sym (λ i. too_many 1 (n i) (too_many 2 (e i) Yes))
+
+  pub yes_judged : first ≡ None → second ≡ None → Yes ≡ judged g k J K
+  yes_judged n e = sym (λ i. too_many 1 (n i) (too_many 2 (e i) Yes))
+
+  pub is_right : (v : Verdict) → v ≡ judged g k J K → Judges g k J K v
+  is_right v e = subst (Judges g k J K) (sym e) (judged_right g k J K)
