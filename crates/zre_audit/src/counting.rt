@@ -25,10 +25,7 @@ fn is_up_to(x: &[u8], octets: &[u8]) -> bool
 }
 
 /// The lists, in the order of their octets.
-pub(crate) fn rising<'a>(
-    alloc: Global,
-    lists: &'a [Octets],
-) -> Result<Vec<&'a [u8]>, OutOfMemory>
+pub(crate) fn rising<'a>(alloc: Global, lists: &'a [Octets]) -> Result<Vec<&'a [u8]>, OutOfMemory>
     ensures { IfOk result (λ rising. IsRising lists.now (map (λ list. list.now) rising.items)) }
 {
     let mut rising = Vec::new(alloc);

@@ -83,7 +83,10 @@ impl Heard {
                 append(&mut self.runs, *id, self.said.as_slice())
             }
             Event::Shout {
-                id, group, content, ..
+                id,
+                group,
+                content,
+                ..
             } => {
                 push_shout(&mut self.said, group.as_slice(), content.as_slice())?;
                 append(&mut self.runs, *id, self.said.as_slice())

@@ -67,8 +67,7 @@ impl Watch {
         let before = counts(self.alloc, &self.node)?;
         let step = self.node.step(entry)?;
         self.heard.take_all(step.events.as_slice())?;
-        self.put
-            .add_message(octets, before.as_slice(), &self.node)?;
+        self.put.add_message(octets, before.as_slice(), &self.node)?;
         Ok(())
     }
 
