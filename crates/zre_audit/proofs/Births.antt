@@ -1,6 +1,6 @@
 -- Who is born with an entry, as it is seen from outside: with one entry one peer at most is born, by a datagram that
 -- announces it or by the first message of a connection, with which it enters.
-use Rattle.std.proofs.Common.{◌≡◌, ℕ, ◌+◌, Bool, true, false, cond, not, ◌&&◌, ◌||◌, eqb, ltb, List, [], ◌∷◌, ◌++◌, length, map, filter, Option, Some, None, is_some, is_none, refl, sym, ap, ◌∙◌, subst, arith, append_assoc, append-nil, true≢false, eq-eqb, option_map}
+use Rattle.std.proofs.Common.{◌≡◌, ℕ, ◌+◌, Bool, true, false, cond, not, ◌&&◌, ◌||◌, eqb, ltb, List, [], ◌∷◌, ◌++◌, length, map, filter, Option, Some, None, is_some, is_none, refl, sym, ap, ◌∙◌, subst, append_assoc, true≢false, eq-eqb, option_map}
 use Rattle.std.specs.List.{AllByRecursion, list_any}
 use Rattle.std.specs.Option.{option_or}
 use Rattle.zre_values.specs.Endpoint.{endpoint_in}
@@ -20,10 +20,8 @@ use Rattle.zre_mailbox.specs.declared.arrival.Arrival.TheVariants as arrival
 use Rattle.zre_msg.specs.declared.message.Body.{Body}
 use Rattle.zre_msg.specs.declared.message.Body.TheVariants as body
 use Rattle.zre_msg.specs.declared.message.Message.{Message}
-use Rattle.zre_peer.specs.Members.{distinct}
 use Rattle.zre_peer.specs.Runs.{events_of, is_hello}
 use Rattle.zre_peer.specs.Views.{view_of, is_small}
-use Rattle.zre_peer.specs.declared.causes.Cause.{Cause}
 use Rattle.zre_peer.specs.declared.causes.Cause.TheVariants as cause
 use Rattle.zre_peer.specs.declared.causes.CloseWhy.TheVariants as close
 use Rattle.zre_peer.specs.declared.event.Event.{Event}
@@ -34,26 +32,23 @@ use Rattle.zre_journal.specs.Chronicle.{Mark, Comes, Starts, Counts, Closes, Bor
 use Rattle.zre_journal.specs.Arrivals.{end_of_run, start_unknown, start, at_first, at_message, at_said, at_place, at_places}
 use Rattle.zre_journal.specs.Connections.{is_open, is_live, is_ignored, identity, runs, started, start_at, refuses, was_used}
 use Rattle.zre_journal.specs.Chronicle.{ever}
-use Rattle.zre_journal.specs.Done.{done, done_at, is_offered, offers, acts_at}
+use Rattle.zre_journal.specs.Done.{done, is_offered, offers, acts_at}
 use Rattle.zre_journal.specs.Events.{events_at}
-use Rattle.zre_journal.specs.Happens.{is_welcome, at_beacon, at_datagram, at_input, has_stopped, marks, with_entry}
+use Rattle.zre_journal.specs.Happens.{is_welcome, at_beacon, at_datagram, at_input, has_stopped, with_entry}
 use Rattle.zre_journal.specs.Heard.{newly_completed}
-use Rattle.zre_journal.specs.Links.{bodies, line}
 use Rattle.zre_journal.specs.Peers.{Life, lives, births, life, life_of, is_entered, view}
 use Rattle.zre_journal.specs.Proper.{IsProper}
 use Rattle.zre_journal.specs.Pushes.{birth, hello}
 use Rattle.zre_journal.specs.Told.{told, told_at, by_message, exit, becoming_evasive}
 use Rattle.zre_journal.proofs.Joined.{after-append, told-append, done-append}
 use Rattle.zre_journal.proofs.Known.{newborn_known}
-use Rattle.zre_journal.proofs.Listed.{some_is}
 use Rattle.zre_journal.proofs.Says.{input_allowed}
 use Rattle.zre_journal.proofs.Silent.{Comes-proper}
-use Rattle.zre_journal.proofs.Steps.{May, Allowed, Each, steps, step, choice}
+use Rattle.zre_journal.proofs.Steps.{May, Allowed, Each, steps, choice}
 use Rattle.zre_journal.proofs.Telling.{first_is_hello}
-use Rattle.zre_audit.specs.Coding.{octets_of, code}
-use Rattle.zre_audit.specs.Exchanged.{peer_on, peer_at}
+use Rattle.zre_audit.specs.Exchanged.{peer_on}
 use Rattle.zre_audit.specs.Seen.{asked_by, announced_by, is_connect, entered_by, first_entered, born_with}
-use Rattle.zre_audit.proofs.Still.{BearsNone, SaysNone, IsStill, AreStill, still_both, Leaves, leaves_all, leaves_then, SaysAsMuch, says_all, connects_none, still_run, still_opened, still_shut, still_linked, still_unlinked, still_took, still_reply, still_tick, still_stop, still_join, still_leave, still_shaken, still_later}
+use Rattle.zre_audit.proofs.Still.{BearsNone, SaysNone, IsStill, AreStill, still_both, Leaves, leaves_all, SaysAsMuch, says_all, connects_none, still_run, still_opened, still_shut, still_linked, still_unlinked, still_took, still_reply, still_tick, still_stop, still_join, still_leave, still_shaken, still_later}
 
 -- ---- a connection that has started a run starts no other
 

@@ -1,6 +1,5 @@
 -- How many messages were put on links, as a node answers it.
-use Rattle.std.proofs.Common.{◌≡◌, ℕ, List, [], ◌∷◌, length, map, Option, Some, IsSome, refl, sym, ap, ◌∙◌, option_map}
-use Rattle.std.specs.List.{AllByRecursion}
+use Rattle.std.proofs.Common.{◌≡◌, ℕ, List, [], ◌∷◌, length, map, IsSome, refl, sym, ap, ◌∙◌, option_map}
 use Rattle.std.specs.Option.{unwrap_or}
 use Rattle.zre_outside.specs.declared.entry.Entry.{Entry}
 use Rattle.zre_journal.specs.declared.config.Config.{Config}

@@ -1,7 +1,7 @@
 -- The first list that is one too many, list by list.
-use Rattle.std.proofs.Common.{◌≡◌, ℕ, ◌+◌, ◌<◌, ◌≤◌, Bool, true, false, cond, ltb, nat_eq, List, [], ◌∷◌, length, drop, get_or, Option, Some, None, refl, sym, ap, ◌∙◌, arith, ltb-true, lt-ltb}
+use Rattle.std.proofs.Common.{◌≡◌, ℕ, ◌+◌, ◌<◌, ◌≤◌, Bool, true, false, cond, ltb, nat_eq, List, ◌∷◌, length, drop, get_or, Some, None, refl, sym, ap, ◌∙◌, arith, ltb-true, lt-ltb}
 use Rattle.std.proofs.lemmas.List.{drop_more, drop_all}
-use Rattle.zre_audit.specs.Prefixes.{begun, is_short, first_from, first_short}
+use Rattle.zre_audit.specs.Prefixes.{begun, first_from, first_short}
 use Rattle.zre_audit.specs.Sorted.{IsRising}
 use Rattle.zre_audit.proofs.Ordered.{same-begun}
 

@@ -1,20 +1,19 @@
 -- The lines of links, entry by entry.
-use Rattle.std.proofs.Common.{◌≡◌, ◌⊎◌, ℕ, zero, suc, ◌+◌, ◌<◌, ◌≤◌, Bool, true, false, cond, ◌&&◌, ◌||◌, eqb, ltb, List, [], ◌∷◌, ◌++◌, length, map, filter, Option, Some, None, IsSome, is_some, find, refl, sym, ap, ◌∙◌, subst, inl, inr, arith, append-nil, true≢false, eqb-true, eq-eqb, ne_eqb, ltb-true, lt-ltb, option_map, bytes_eq, slice_get, slice_set, slice_index_or, fold}
+use Rattle.std.proofs.Common.{◌≡◌, ◌⊎◌, ℕ, zero, suc, ◌+◌, ◌<◌, ◌≤◌, Bool, true, false, cond, ◌&&◌, ◌||◌, eqb, ltb, List, [], ◌∷◌, ◌++◌, length, map, filter, Option, Some, None, IsSome, is_some, find, refl, sym, ap, ◌∙◌, subst, inl, inr, arith, append-nil, true≢false, eqb-true, eq-eqb, ne_eqb, ltb-true, lt-ltb, option_map, bytes_eq, slice_get, slice_set, slice_index_or}
 use Rattle.std.proofs.lemmas.List.{length-append}
 use Rattle.std.proofs.lemmas.List.Concat.{flat_map-cons, flat_map-append}
 use Rattle.std.proofs.lemmas.List.Elements.{filter-append}
 use Rattle.std.specs.List.{AllByRecursion, list_any, range_with_len}
 use Rattle.std.specs.Option.{option_or, option_map_or}
 use Rattle.zre_values.specs.declared.peer_id.PeerId.{PeerId}
-use Rattle.zre_values.specs.declared.endpoint.Endpoint.{Endpoint}
 use Rattle.zre_outside.specs.declared.entry.Entry.{Entry}
 use Rattle.zre_msg.specs.declared.message.Body.{Body}
 use Rattle.zre_link.specs.Text.{bodies_in}
 use Rattle.zre_journal.specs.declared.config.Config.{Config}
-use Rattle.zre_journal.specs.Chronicle.{Mark, Born, each, followed}
+use Rattle.zre_journal.specs.Chronicle.{Mark, Born, followed}
 use Rattle.zre_journal.specs.Connections.{is_same}
 use Rattle.zre_journal.specs.Events.{chronicle}
-use Rattle.zre_journal.specs.Links.{bodies, line}
+use Rattle.zre_journal.specs.Links.{bodies}
 use Rattle.zre_journal.specs.Peers.{Life, lives, life, births}
 use Rattle.zre_journal.specs.Proper.{IsProper, Apart}
 use Rattle.zre_journal.proofs.Always.{always}
@@ -28,7 +27,6 @@ use Rattle.zre_audit.specs.declared.put.Count.{Count}
 use Rattle.zre_audit.specs.declared.put.Line.{Line}
 use Rattle.zre_audit.proofs.Births.{Added, NoneIs, OneIs}
 use Rattle.zre_audit.proofs.Pushes.{PutOn, Nothing, Once, Says}
-use Rattle.zre_audit.proofs.Still.{Leaves, SaysAsMuch}
 use Rattle.zre_audit.proofs.Told.{Lacks, same-kept, same_as, code-said, code-last}
 
 -- ---- places in lists

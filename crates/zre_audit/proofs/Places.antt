@@ -1,12 +1,12 @@
 -- Each of some lists has a place of its own exactly where none is short of places: the longest takes any that it
 -- begins, since what begins that place too begins it.
-use Rattle.std.proofs.Common.{◌≡◌, ◌⊎◌, ℕ, zero, suc, ◌+◌, ◌<◌, ◌≤◌, Bool, true, false, cond, ◌&&◌, leb, ltb, List, [], ◌∷◌, ◌++◌, length, refl, sym, ap, ◌∙◌, subst, inl, inr, arith, append_assoc, true≢false, ltb-false, ltb-true, leb-true, leb-false}
+use Rattle.std.proofs.Common.{◌≡◌, ℕ, zero, suc, ◌+◌, ◌<◌, ◌≤◌, Bool, true, false, cond, leb, ltb, List, [], ◌∷◌, ◌++◌, length, refl, sym, ap, ◌∙◌, subst, arith, append_assoc, true≢false, ltb-false, ltb-true, leb-true, leb-false}
 use Rattle.std.proofs.lemmas.Bool.{and_parts, and_from}
 use Rattle.std.proofs.lemmas.List.{length-append}
 use Rattle.std.proofs.lemmas.List.Sums.{sum_by-cons, sum_by-append}
 use Rattle.std.specs.Cmp.{IsEquivalence}
-use Rattle.std.specs.List.{AllByRecursion, count_by}
-use Rattle.zre_audit.specs.Prefixes.{begins, begun, HasPlace, Fits, is_short, NoneIsShort}
+use Rattle.std.specs.List.{AllByRecursion}
+use Rattle.zre_audit.specs.Prefixes.{begins, begun, Fits, is_short, NoneIsShort}
 
 -- ---- lists
 

@@ -1,5 +1,5 @@
 -- What an entry puts on links that asks for a message to be said: on each link that message, or none.
-use Rattle.std.proofs.Common.{◌≡◌, ℕ, ◌+◌, Bool, true, false, cond, not, ◌&&◌, ◌||◌, eqb, ltb, List, [], ◌∷◌, ◌++◌, length, filter, Option, Some, None, IsSome, is_some, refl, sym, ap, ◌∙◌, subst, true≢false, eqb-true, eq-eqb, find}
+use Rattle.std.proofs.Common.{◌≡◌, ℕ, ◌+◌, Bool, true, false, cond, not, ◌||◌, eqb, ltb, List, [], ◌∷◌, ◌++◌, length, filter, Option, Some, None, IsSome, refl, sym, ap, ◌∙◌, subst, eqb-true, eq-eqb}
 use Rattle.std.specs.List.{AllByRecursion}
 use Rattle.zre_values.specs.declared.peer_id.PeerId.{PeerId}
 use Rattle.zre_values.specs.declared.limits.TheConstants.{UNSENT_OCTETS, GROUP_OCTETS}
@@ -9,14 +9,13 @@ use Rattle.zre_outside.specs.declared.entry.Input.{Input}
 use Rattle.zre_outside.specs.declared.entry.Input.TheVariants as input
 use Rattle.zre_msg.specs.declared.message.Body.{Body}
 use Rattle.zre_msg.specs.declared.message.Body.TheVariants as body
-use Rattle.zre_peer.specs.declared.causes.Cause.{Cause}
 use Rattle.zre_peer.specs.declared.causes.Cause.TheVariants as cause
 use Rattle.zre_peer.specs.declared.causes.RefuseWhy.{RefuseWhy}
 use Rattle.zre_peer.specs.declared.causes.RefuseWhy.TheVariants as refuse
 use Rattle.zre_link.specs.Text.{size_of}
 use Rattle.zre_journal.specs.declared.config.Config.{Config}
 use Rattle.zre_journal.specs.Chronicle.{Mark, Comes, Ends, Puts, Refuses, after}
-use Rattle.zre_journal.specs.Commands.{is_too_big, at_whisper, is_member, at_shout, at_command}
+use Rattle.zre_journal.specs.Commands.{is_too_big, at_whisper, is_member, at_shout}
 use Rattle.zre_journal.specs.Happens.{at_input, has_stopped, with_entry}
 use Rattle.zre_journal.specs.Links.{bodies, line, unsent}
 use Rattle.zre_journal.specs.Peers.{Life, lives, life, life_of, is_entered}
@@ -24,7 +23,7 @@ use Rattle.zre_journal.specs.Proper.{IsProper, Apart}
 use Rattle.zre_journal.specs.Pushes.{push, push_all}
 use Rattle.zre_journal.proofs.Joined.{after-append}
 use Rattle.zre_journal.proofs.Known.{life_stays, known_of, AreKnown, each_known, still_known}
-use Rattle.zre_journal.proofs.Listed.{All-kept, Apart-kept, eqb-comm, some_is}
+use Rattle.zre_journal.proofs.Listed.{All-kept, Apart-kept, eqb-comm}
 use Rattle.zre_journal.proofs.Silent.{Comes-proper}
 use Rattle.zre_audit.specs.Seen.{asked_by}
 use Rattle.zre_audit.proofs.Still.{BearsNone, Leaves, leaves_all, put_bodies}

@@ -1,13 +1,8 @@
 -- Marks with which nobody is born and nothing is said, and what they leave as it is.
-use Rattle.std.proofs.Common.{◌≡◌, ℕ, ◌+◌, Bool, true, false, cond, not, ◌&&◌, ◌||◌, eqb, ltb, leb, List, [], ◌∷◌, ◌++◌, length, map, filter, Option, Some, None, refl, sym, ap, ◌∙◌, subst, min, ◌-◌, ◌%◌, append-nil, true≢false}
+use Rattle.std.proofs.Common.{◌≡◌, ℕ, ◌+◌, Bool, true, false, cond, not, eqb, ltb, leb, List, [], ◌∷◌, ◌++◌, length, map, filter, Option, Some, None, refl, ap, ◌∙◌, ◌%◌, append-nil}
 use Rattle.std.specs.List.{AllByRecursion, list_any}
-use Rattle.zre_values.specs.Endpoint.{endpoint_in}
 use Rattle.zre_values.specs.declared.peer_id.PeerId.{PeerId}
-use Rattle.zre_values.specs.declared.endpoint.Endpoint.{Endpoint}
-use Rattle.zre_values.specs.declared.limits.TheConstants.{PEERS, CONNECTIONS, UNSENT_OCTETS, OWN_GROUPS, GROUP_OCTETS}
-use Rattle.zre_outside.specs.declared.act.Act.{Act}
-use Rattle.zre_mailbox.specs.Talk.{Said, Arrived, Fault}
-use Rattle.zre_mailbox.specs.declared.arrival.Arrival.TheVariants as arrival
+use Rattle.zre_values.specs.declared.limits.TheConstants.{CONNECTIONS, UNSENT_OCTETS, OWN_GROUPS, GROUP_OCTETS}
 use Rattle.zre_msg.specs.declared.message.Body.{Body}
 use Rattle.zre_msg.specs.declared.message.Body.TheVariants as body
 use Rattle.zre_msg.specs.declared.message.Message.{Message}
@@ -15,18 +10,16 @@ use Rattle.zre_peer.specs.Runs.{is_hello, due}
 use Rattle.zre_peer.specs.Views.{view_of, is_small}
 use Rattle.zre_peer.specs.declared.causes.Cause.{Cause}
 use Rattle.zre_peer.specs.declared.causes.Cause.TheVariants as cause
-use Rattle.zre_peer.specs.declared.causes.RefuseWhy.TheVariants as refuse
 use Rattle.zre_peer.specs.declared.causes.CloseWhy.TheVariants as close
-use Rattle.zre_peer.specs.declared.causes.IgnoreWhy.TheVariants as ignore
 use Rattle.zre_link.specs.Heard.{reply_fault}
 use Rattle.zre_link.specs.Link.{answered, slow_at}
 use Rattle.zre_link.specs.Text.{Member, Says, Pongs, bodies_in, size_of}
 use Rattle.zre_journal.specs.declared.config.Config.{Config}
-use Rattle.zre_journal.specs.Chronicle.{Mark, Comes, Opens, TurnsAway, Greets, Shakes, AnswersPing, Starts, Counts, Ignores, Closes, IsShut, ClosesAtStop, Born, HearsBeacon, Ends, IsEvasive, Puts, PutsPong, Links, Sends, Joins, Refuses, SendsBeacon, Stops, after, followed}
+use Rattle.zre_journal.specs.Chronicle.{Mark, Shakes, Starts, Closes, IsShut, ClosesAtStop, Born, Ends, IsEvasive, Puts, PutsPong, SendsBeacon, Stops, after, followed}
 use Rattle.zre_journal.specs.Connections.{open_ones, is_new, is_open, runs, other_with}
 use Rattle.zre_journal.specs.Done.{done, done_at, close_link}
-use Rattle.zre_journal.specs.Peers.{Life, lives, births, life, is_entered, counted}
-use Rattle.zre_journal.specs.Links.{line, bodies, unsent, is_linked, replies, newly_pinged, gate, taken, groups, status}
+use Rattle.zre_journal.specs.Peers.{Life, lives, births, counted}
+use Rattle.zre_journal.specs.Links.{line, bodies, unsent, is_linked, replies, newly_pinged, groups, status}
 use Rattle.zre_journal.specs.Pushes.{push, push_all}
 use Rattle.zre_journal.specs.Arrivals.{at_opened, end_of_run, at_shut, taken_over, answer_to, at_later, at_shaken}
 use Rattle.zre_journal.specs.LinkEntries.{at_linked, cause_by_reply, end_by, at_reply, at_unlinked, at_took}

@@ -1,10 +1,10 @@
 -- What events tell of the runs of peers is what was said in them.
-use Rattle.std.proofs.Common.{◌≡◌, ℕ, ◌+◌, ◌≤◌, ◌<◌, Bool, true, false, cond, eqb, List, [], ◌∷◌, ◌++◌, map, filter, Option, Some, None, IsSome, refl, sym, ap, ◌∙◌, subst, arith, eqb-true, eq-eqb, append_assoc, append-nil, true≢false, is_some, flat_map, bytes_eq}
+use Rattle.std.proofs.Common.{◌≡◌, ℕ, ◌+◌, Bool, true, false, cond, eqb, List, [], ◌∷◌, ◌++◌, map, filter, Option, Some, None, refl, sym, ap, ◌∙◌, subst, arith, eqb-true, eq-eqb, append-nil, true≢false, bytes_eq}
 use Rattle.std.proofs.lemmas.Cmp.{nat_list_eq_equiv}
 use Rattle.std.proofs.lemmas.List.Concat.{flat_map-cons, flat_map-append}
 use Rattle.std.proofs.lemmas.List.Elements.{filter-append}
 use Rattle.std.proofs.lemmas.List.Sums.{fold-append}
-use Rattle.std.specs.List.{AllByRecursion, fold}
+use Rattle.std.specs.List.{AllByRecursion}
 use Rattle.std.specs.Option.{option_or}
 use Rattle.zre_values.specs.declared.peer_id.PeerId.{PeerId}
 use Rattle.zre_values.specs.declared.endpoint.Endpoint.{Endpoint}
@@ -12,7 +12,7 @@ use Rattle.zre_msg.specs.declared.message.Body.{Body}
 use Rattle.zre_msg.specs.declared.message.Body.TheVariants as body
 use Rattle.zre_msg.specs.declared.message.Message.{Message}
 use Rattle.zre_outside.specs.declared.entry.Entry.{Entry}
-use Rattle.zre_peer.specs.Members.{distinct, first_named}
+use Rattle.zre_peer.specs.Members.{distinct}
 use Rattle.zre_peer.specs.Runs.{events_of, is_hello}
 use Rattle.zre_peer.specs.declared.causes.Cause.{Cause}
 use Rattle.zre_peer.specs.declared.view.View.{View}
@@ -21,7 +21,7 @@ use Rattle.zre_peer.specs.declared.event.Event.TheVariants as event
 use Rattle.zre_journal.specs.declared.config.Config.{Config}
 use Rattle.zre_journal.specs.Chronicle.{Mark, TurnsAway, Starts, Counts, Ignores, Closes, Born, Ends, IsEvasive, Refuses, Stops, each, followed}
 use Rattle.zre_journal.specs.Connections.{is_same}
-use Rattle.zre_journal.specs.Peers.{Life, lives, life, life_of, births, runner, runner_at, is_entered, counted, view}
+use Rattle.zre_journal.specs.Peers.{Life, lives, life, life_of, births, runner, is_entered, counted, view}
 use Rattle.zre_journal.specs.Told.{told_at, by_message, exit, becoming_evasive}
 use Rattle.zre_journal.specs.Events.{events, chronicle}
 use Rattle.zre_journal.specs.Proper.{IsProper}
@@ -33,7 +33,7 @@ use Rattle.zre_journal.proofs.Listed.{some_is, eqb-comm}
 use Rattle.zre_journal.proofs.Steps.{May, step}
 use Rattle.zre_journal.proofs.Telling.{told_by, events_are, first_is_hello}
 use Rattle.zre_audit.specs.Coding.{octets_of, code}
-use Rattle.zre_audit.specs.Exchanged.{is_said, said, bodies_of, peer_at, peer_on, run_at, runs_of, heard}
+use Rattle.zre_audit.specs.Exchanged.{is_said, said, bodies_of, peer_on, run_at, runs_of, heard}
 use Rattle.zre_audit.specs.Told.{at_last, runs_with, runs_after}
 
 -- ---- lists

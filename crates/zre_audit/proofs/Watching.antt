@@ -1,18 +1,14 @@
 -- A watch that is told one more entry.
-use Rattle.std.proofs.Common.{◌≡◌, ℕ, List, [], ◌∷◌, ◌++◌, length, map, Option, Some, None, refl, sym, ap, ◌∙◌, subst, append-nil, option_map, drop, nat_eq}
+use Rattle.std.proofs.Common.{◌≡◌, ℕ, List, [], ◌∷◌, ◌++◌, length, map, Option, Some, None, refl, sym, ap, ◌∙◌, subst, append-nil, drop, nat_eq}
 use Rattle.std.proofs.lemmas.List.Sums.{fold-append}
 use Rattle.zre_values.specs.declared.peer_id.PeerId.{PeerId}
 use Rattle.zre_msg.specs.declared.message.Body.{Body}
-use Rattle.zre_outside.specs.declared.act.Act.{Act}
 use Rattle.zre_outside.specs.declared.entry.Entry.{Entry}
-use Rattle.zre_peer.specs.declared.event.Event.{Event}
 use Rattle.zre_journal.specs.declared.config.Config.{Config}
 use Rattle.zre_journal.specs.Chronicle.{Mark}
 use Rattle.zre_journal.specs.Done.{acts_at}
-use Rattle.zre_journal.specs.Events.{chronicle, events, events_at, acts, acts_after}
+use Rattle.zre_journal.specs.Events.{chronicle, events, events_at, acts}
 use Rattle.zre_journal.specs.Happens.{with_entry}
-use Rattle.zre_journal.specs.Links.{bodies}
-use Rattle.zre_journal.specs.Peers.{Life, life}
 use Rattle.zre_journal.proofs.Always.{is_proper}
 use Rattle.zre_journal.proofs.Joined.{continues}
 use Rattle.zre_node.specs.Asked.{sent_after}

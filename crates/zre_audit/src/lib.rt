@@ -10,6 +10,8 @@ mod judging;
 pub mod laws;
 mod put;
 mod seen;
+#[cfg(test)]
+mod tests;
 mod verdicts;
 mod watch;
 

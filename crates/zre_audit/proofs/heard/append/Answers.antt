@@ -1,4 +1,4 @@
-use Rattle.std.proofs.Common.{◌≡◌, List, ℕ, ap, sym, ◌∙◌, is_some}
+use Rattle.std.proofs.Common.{ap, sym, ◌∙◌, is_some}
 use Rattle.zre_audit.specs.Told.{at_last}
 use Rattle.zre_audit.proofs.Runs.{changed, found}
 use Rattle.zre_audit.proofs.heard.append.Goals as goal

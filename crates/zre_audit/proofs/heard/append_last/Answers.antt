@@ -1,4 +1,4 @@
-use Rattle.std.proofs.Common.{◌≡◌, ◌∙◌, arith}
+use Rattle.std.proofs.Common.{◌∙◌, arith}
 use Rattle.zre_audit.proofs.Runs.{last_set}
 use Rattle.zre_audit.proofs.heard.append_last.Goals as goal
 

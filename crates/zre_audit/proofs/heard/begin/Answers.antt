@@ -1,4 +1,4 @@
-use Rattle.std.proofs.Common.{◌≡◌, List, ℕ, [], ◌∷◌, ◌++◌, None, ap, sym, ◌∙◌, subst, is_some}
+use Rattle.std.proofs.Common.{[], ◌∷◌, ◌++◌, None, ap, sym, ◌∙◌, subst, is_some}
 use Rattle.zre_audit.specs.Told.{Runs}
 use Rattle.zre_audit.proofs.Runs.{Changes, changed, found}
 use Rattle.zre_audit.proofs.heard.begin.Goals as goal

@@ -1,8 +1,5 @@
-use Rattle.std.proofs.Common.{◌≡◌, ℕ, List, Option, Some, None, refl, sym, ap, ◌∙◌, option_map}
-use Rattle.zre_outside.specs.declared.entry.Entry.{Entry}
-use Rattle.zre_journal.specs.declared.config.Config.{Config}
+use Rattle.std.proofs.Common.{ℕ, sym, ap, ◌∙◌, option_map}
 use Rattle.zre_audit.specs.declared.excess.Excess.{Excess}
-use Rattle.zre_audit.specs.declared.verdicts.Verdict.{Verdict}
 use Rattle.zre_audit.specs.declared.verdicts.Verdict.TheVariants.{Yes}
 use Rattle.zre_audit.proofs.Judged.{yes_agree}
 use Rattle.zre_audit.proofs.Watching.{first_found, first_judged, second_judged, yes_judged, is_right}

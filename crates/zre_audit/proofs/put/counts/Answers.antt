@@ -1,6 +1,4 @@
-use Rattle.std.proofs.Common.{◌≡◌, List, map, ap, ◌∙◌, take_all}
-use Rattle.zre_outside.specs.declared.entry.Entry.{Entry}
-use Rattle.zre_journal.specs.declared.config.Config.{Config}
+use Rattle.std.proofs.Common.{map, ap, ◌∙◌, take_all}
 use Rattle.zre_audit.proofs.Counted.{count_of, counts_are}
 use Rattle.zre_audit.proofs.put.counts.Goals as goal
 

@@ -1,4 +1,4 @@
-use Rattle.std.proofs.Common.{◌≡◌, ℕ, ap, sym, ◌∙◌, arith, slice_set}
+use Rattle.std.proofs.Common.{ap, sym, ◌∙◌, arith, slice_set}
 use Rattle.zre_audit.proofs.Lines.{placed_set, placed_none, noted_at}
 use Rattle.zre_audit.proofs.put.note_at.Goals as goal
 

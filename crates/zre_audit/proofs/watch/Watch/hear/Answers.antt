@@ -1,4 +1,4 @@
-use Rattle.std.proofs.Common.{◌≡◌, List, ℕ, ap, sym, ◌∙◌}
+use Rattle.std.proofs.Common.{List, ℕ, ap, ◌∙◌}
 use Rattle.zre_audit.specs.Kept.{lines_with}
 use Rattle.zre_audit.specs.Seen.{born_with}
 use Rattle.zre_audit.specs.Told.{runs_in, runs_after}

@@ -1,4 +1,4 @@
-use Rattle.std.proofs.Common.{◌≡◌, List, [], ◌∷◌, ◌++◌, ℕ, length, ap, sym, ◌∙◌}
+use Rattle.std.proofs.Common.{List, [], ◌∷◌, ◌++◌, ℕ, length, ap, ◌∙◌}
 use Rattle.zre_node.specs.Asked.{sent_after}
 use Rattle.zre_audit.specs.Kept.{all_noted, risen}
 use Rattle.zre_audit.specs.Told.{runs_in, runs_after}
