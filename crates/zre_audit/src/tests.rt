@@ -74,11 +74,35 @@ fn each_run_wants_a_link(rt: HostRuntime) -> Result<(), Fail> {
     let mut ann = node(alloc, ANN)?;
     come(&mut me, alloc, 1, ANN, WHISPER)?;
     come(&mut ann, alloc, 1, ME, b"")?;
-    assert!(rt; verdict(&me, &ann)? == Verdict::No { side: 1, run: 1, runs: 1, links: 0 });
-    assert!(rt; verdict(&ann, &me)? == Verdict::No { side: 2, run: 1, runs: 1, links: 0 });
+    assert!(rt;
+        verdict(&me, &ann)?
+            == Verdict::No {
+                side: 1,
+                run: 1,
+                runs: 1,
+                links: 0
+            }
+    );
+    assert!(rt;
+        verdict(&ann, &me)?
+            == Verdict::No {
+                side: 2,
+                run: 1,
+                runs: 1,
+                links: 0
+            }
+    );
     whisper(&mut ann, alloc, ME)?;
     assert!(rt; verdict(&me, &ann)? == Verdict::Yes);
     come(&mut me, alloc, 2, ANN, WHISPER)?;
-    assert!(rt; verdict(&me, &ann)? == Verdict::No { side: 1, run: 1, runs: 2, links: 1 });
+    assert!(rt;
+        verdict(&me, &ann)?
+            == Verdict::No {
+                side: 1,
+                run: 1,
+                runs: 2,
+                links: 1
+            }
+    );
     Ok(())
 }
