@@ -2,6 +2,7 @@ pub mod Agreement
 pub mod Coding
 pub mod Exchanged
 pub mod Kept
+pub mod Lines
 pub mod Prefixes
 pub mod Seen
 pub mod Sorted

@@ -67,6 +67,12 @@ fn whisper(watch: &mut Watch, alloc: Global, peer: PeerId) -> Result<(), OutOfMe
     })
 }
 
+fn is_line(alloc: Global, verdict: Verdict, line: &[u8]) -> Result<bool, OutOfMemory> {
+    let mut text = Octets::new(alloc);
+    verdict.push_line(&mut text)?;
+    Ok(text.as_slice() == line)
+}
+
 #[test]
 fn each_run_wants_a_link(rt: HostRuntime) -> Result<(), Fail> {
     let alloc = rt.alloc();
@@ -74,35 +80,11 @@ fn each_run_wants_a_link(rt: HostRuntime) -> Result<(), Fail> {
     let mut ann = node(alloc, ANN)?;
     come(&mut me, alloc, 1, ANN, WHISPER)?;
     come(&mut ann, alloc, 1, ME, b"")?;
-    assert!(rt;
-        verdict(&me, &ann)?
-            == Verdict::No {
-                side: 1,
-                run: 1,
-                runs: 1,
-                links: 0
-            }
-    );
-    assert!(rt;
-        verdict(&ann, &me)?
-            == Verdict::No {
-                side: 2,
-                run: 1,
-                runs: 1,
-                links: 0
-            }
-    );
+    assert!(rt; is_line(alloc, verdict(&me, &ann)?, b"AUDIT no 1 1 1 0\n")?);
+    assert!(rt; is_line(alloc, verdict(&ann, &me)?, b"AUDIT no 2 1 1 0\n")?);
     whisper(&mut ann, alloc, ME)?;
-    assert!(rt; verdict(&me, &ann)? == Verdict::Yes);
+    assert!(rt; is_line(alloc, verdict(&me, &ann)?, b"AUDIT yes\n")?);
     come(&mut me, alloc, 2, ANN, WHISPER)?;
-    assert!(rt;
-        verdict(&me, &ann)?
-            == Verdict::No {
-                side: 1,
-                run: 1,
-                runs: 2,
-                links: 1
-            }
-    );
+    assert!(rt; is_line(alloc, verdict(&me, &ann)?, b"AUDIT no 1 1 2 1\n")?);
     Ok(())
 }

@@ -1,3 +1,8 @@
+ghost use Rattle.std.specs.Prelude.{◌≡◌, [], ◌∷◌, ◌++◌, decimal, OnOk};
+ghost use Rattle.zre_audit.specs.Lines.{line};
+
+use zre_values::{Octets, OutOfMemory, push_decimal};
+
 /// Whether two journals agree.
 #[derive(Clone, Copy, Debug, PartialEq, Eq)]
 pub enum Verdict {
@@ -16,4 +21,36 @@ pub enum Verdict {
         /// On how many links of the other the same was put first.
         links: u64,
     },
+}
+
+// Appends a number and an octet after it.
+fn push_number(out: &mut Octets, n: u64, after: u8) -> Result<(), OutOfMemory>
+    ensures { OnOk result (out.new ≡ out.old ++ (decimal n ++ after ∷ [])) }
+{
+    push_decimal(out, n)?;
+    out.push(after)
+}
+
+impl Verdict {
+    /// Appends the line of the verdict: `AUDIT yes`, or `AUDIT no SIDE RUN RUNS LINKS`. After an error a front of it
+    /// may stand there.
+    pub fn push_line(self, out: &mut Octets) -> Result<(), OutOfMemory>
+        ensures { OnOk result (out.new ≡ out.old ++ line self) }
+    {
+        match self {
+            Verdict::Yes => out.append(b"AUDIT yes\n"),
+            Verdict::No {
+                side,
+                run,
+                runs,
+                links,
+            } => {
+                out.append(b"AUDIT no ")?;
+                push_number(out, u64::from(side), b' ')?;
+                push_number(out, run, b' ')?;
+                push_number(out, runs, b' ')?;
+                push_number(out, links, b'\n')
+            }
+        }
+    }
 }
