@@ -1,5 +1,5 @@
 -- A head isn't too long to be read.
-use Rattle.std.proofs.Common.{◌≡◌, ℕ, ◌+◌, ◌*◌, ◌/◌, ◌%◌, ◌<◌, ◌≤◌, ◌^◌, Bool, true, false, cond, leb, List, [], ◌∷◌, ◌++◌, length, refl, sym, ap, ◌∙◌, arith}
+use Rattle.std.proofs.Common.{◌≡◌, ℕ, ◌+◌, ◌*◌, ◌/◌, ◌%◌, ◌≤◌, Bool, true, false, cond, leb, List, [], ◌∷◌, ◌++◌, length, ap, arith}
 use Rattle.std.specs.Prelude.{codes, decimal, flat_map}
 use Rattle.std.specs.List.{join_with_byte, list_all}
 use Rattle.std.proofs.lemmas.Bool.{and_parts, leb-true, eqb-true}
@@ -13,7 +13,7 @@ use Rattle.zre_values.specs.Text.{id_text, is_plain, quoted_octet, hex_digit, qu
 use Rattle.zre_values.specs.declared.peer_id.PeerId.{PeerId}
 use Rattle.zre_values.proofs.Endpoints.{address_text-short}
 use Rattle.zre_values.proofs.PlainIds.{text-plain}
-use Rattle.zre_capture.specs.Heads.{head_text, head_fields, AreSettings, IsShortHead}
+use Rattle.zre_capture.specs.Heads.{head_text, AreSettings, IsShortHead}
 use Rattle.zre_capture.specs.declared.format.Format.{Format}
 use Rattle.zre_capture.specs.declared.format.Format.TheVariants.{First, Second}
 use Rattle.zre_capture.specs.declared.settings.Settings.{Settings}

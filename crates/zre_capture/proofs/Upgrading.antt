@@ -1,12 +1,12 @@
 -- A journal that was read in format 1 can be written in format 2: its entries hold values of their types, and none of its
 -- lines is too long there.
-use Rattle.std.proofs.Common.{◌≡◌, ℕ, ◌+◌, ◌-◌, ◌<◌, ◌≤◌, ◌^◌, ◌==◌, Bool, true, false, cond, leb, ltb, List, [], ◌∷◌, ◌++◌, length, All, Option, Some, None, inl, inr, refl, sym, ap, ◌∙◌, subst, arith}
-use Rattle.std.specs.Prelude.{decimal, nat_lt, option_map, option_and_then}
+use Rattle.std.proofs.Common.{◌≡◌, ℕ, ◌+◌, ◌-◌, ◌≤◌, ◌==◌, Bool, true, false, cond, leb, ltb, List, [], ◌∷◌, ◌++◌, length, All, Option, Some, None, inl, inr, refl, sym, subst, arith}
+use Rattle.std.specs.Prelude.{decimal, option_map, option_and_then}
 use Rattle.std.specs.List.{join_with_byte}
-use Rattle.std.proofs.lemmas.Bool.{cases_Bool, leb-true, leb-false, ltb-false}
+use Rattle.std.proofs.lemmas.Bool.{cases_Bool, ltb-false}
 use Rattle.std.proofs.lemmas.Fmt.{decimal_nonempty, length-decimal-le}
 use Rattle.std.proofs.lemmas.List.{length-append}
-use Rattle.std.proofs.lemmas.List.Elements.{All-nil, All-cons, All-append}
+use Rattle.std.proofs.lemmas.List.Elements.{All-nil, All-cons}
 use Rattle.std.proofs.lemmas.Option.{same_Some}
 use Rattle.zre_values.specs.declared.peer_id.PeerId.{PeerId}
 use Rattle.zre_outside.specs.declared.entry.Entry.{Entry}
@@ -15,8 +15,8 @@ use Rattle.zre_outside.specs.declared.entry.Input.TheVariants as got
 use Rattle.zre_outside.specs.declared.entry.Command.{Command}
 use Rattle.zre_outside.specs.declared.entry.Command.TheVariants as ask
 use Rattle.zre_capture.specs.Formats.{longest}
-use Rattle.zre_capture.specs.Journal.{journal, start, next, lines_in, is_head, said, line_of, last_reading, entries_from}
-use Rattle.zre_capture.specs.Lines.{difference, reading_text, input_word_text, input_word, input_fields, text, IsNumber, IsOctets, IsCommand, IsInput, IsEntry, AreShort}
+use Rattle.zre_capture.specs.Journal.{journal, next, lines_in, is_head, said, line_of, last_reading, entries_from}
+use Rattle.zre_capture.specs.Lines.{difference, input_word_text, input_word, input_fields, text, IsNumber, IsOctets, IsCommand, IsInput, IsEntry, AreShort}
 use Rattle.zre_capture.specs.Reading.{one_number, one_group, two_numbers, number_and_hex, address_and_hex, id_and_frames, group_and_frames, command_from, command_in, input_from, input_in, entry_in, entry_of, fields_in}
 use Rattle.zre_capture.specs.Values.{number_of, hex_of, address_of, id_of, group_of, frames_of, reading_of, command_word_of, input_word_of}
 use Rattle.zre_capture.specs.declared.format.Format.{Format}

@@ -1,5 +1,5 @@
 -- What comes about at a place ends a known peer as the table of causes says.
-use Rattle.std.proofs.Common.{◌≡◌, ℕ, ◌+◌, ◌%◌, Bool, true, false, true≢false, cond, not, ◌&&◌, ◌||◌, eqb, ltb, leb, List, [], ◌∷◌, ◌++◌, length, map, Option, Some, None, find, filter, is_none, refl, sym, ap, ◌∙◌, subst, eq-eqb, ne_eqb, eqb-true, append-nil}
+use Rattle.std.proofs.Common.{◌≡◌, ℕ, ◌+◌, ◌%◌, Bool, true, false, true≢false, cond, not, ◌&&◌, ◌||◌, eqb, ltb, leb, List, [], ◌∷◌, ◌++◌, length, map, Option, Some, None, find, filter, refl, sym, ap, ◌∙◌, subst, eq-eqb, eqb-true, append-nil}
 use Rattle.std.proofs.lemmas.List.Elements.{filter_map-append}
 use Rattle.std.specs.List.{AllByRecursion, cons_option}
 use Rattle.std.specs.Option.{option_and_then}
@@ -31,16 +31,16 @@ use Rattle.zre_peer.specs.declared.causes.CloseWhy.TheVariants as close
 use Rattle.zre_peer.specs.declared.causes.RefuseWhy.TheVariants as refuse
 use Rattle.zre_journal.specs.declared.config.Config.{Config}
 use Rattle.zre_journal.specs.Arrivals.{at_opened, at_shut, end_of_run, taken_over, start_unknown, start, at_first, answer_to, at_later, at_message, at_shaken, at_said, at_place}
-use Rattle.zre_journal.specs.Causes.{where_so, is_run_by, is_last_beacon, may_join, may_shout, due_by, slow_by, cause_at, answer_due, cause_of_message, cause_said, end_of, ends_in, EndsByTable}
+use Rattle.zre_journal.specs.Causes.{where_so, is_run_by, is_last_beacon, may_join, due_by, slow_by, cause_at, answer_due, cause_of_message, cause_said, end_of, ends_in, EndsByTable}
 use Rattle.zre_journal.specs.Chronicle.{Mark, Comes, Ends, Counts, Closes, ClosesAtStop, IsShut, IsEvasive, Puts, PutsPong, Joins, Leaves, Refuses, HearsBeacon, after, in_turn}
 use Rattle.zre_journal.specs.Commands.{has_group, is_too_big, is_member, at_join, at_leave, at_whisper, at_shout, at_stop, at_command}
 use Rattle.zre_journal.specs.Connections.{open_ones, is_open, is_new, identity, runs, is_live, other_with}
 use Rattle.zre_journal.specs.Events.{chronicle}
 use Rattle.zre_journal.specs.Happens.{is_welcome, at_beacon, at_datagram, at_input}
 use Rattle.zre_journal.specs.LinkEntries.{cause_by_reply, at_linked, end_by, at_reply, at_unlinked, at_took}
-use Rattle.zre_journal.specs.Links.{groups, status, line, put_on, is_linked, replies, newly_pinged, taken, unsent}
-use Rattle.zre_journal.specs.Peers.{Life, lives, life, life_of, births, is_entered, counted}
-use Rattle.zre_journal.specs.Places.{is_piece, IsEntry, Arrives}
+use Rattle.zre_journal.specs.Links.{groups, status, line, is_linked, replies, newly_pinged, taken, unsent}
+use Rattle.zre_journal.specs.Peers.{Life, lives, life, life_of, is_entered, counted}
+use Rattle.zre_journal.specs.Places.{is_piece}
 use Rattle.zre_journal.specs.Proper.{IsProper, Apart}
 use Rattle.zre_journal.specs.Pushes.{push, push_all, birth}
 use Rattle.zre_journal.specs.Ticks.{is_silent, is_evasive, is_stale, probe, at_tick}

@@ -1,5 +1,5 @@
 -- Messages that come near the one due are counted near it.
-use Rattle.std.proofs.Common.{◌≡◌, ℕ, zero, suc, ◌+◌, ◌<◌, Bool, true, false, cond, not, ◌&&◌, eqb, ltb, List, [], ◌∷◌, ◌++◌, length, take, Option, Some, None, refl, sym, ap, ◌∙◌, arith, subst, ne_eqb, eq-eqb, eqb-true}
+use Rattle.std.proofs.Common.{◌≡◌, ℕ, zero, suc, ◌+◌, Bool, true, false, cond, not, ◌&&◌, eqb, ltb, List, [], ◌∷◌, ◌++◌, length, take, Option, Some, None, refl, sym, ap, ◌∙◌, arith, subst, eq-eqb, eqb-true}
 use Rattle.std.specs.Prelude.{slice_get}
 use Rattle.std.specs.List.{AllByRecursion}
 use Rattle.std.proofs.lemmas.Bool.{and_parts}
@@ -27,7 +27,7 @@ use Rattle.zre_peer.specs.declared.causes.IgnoreWhy.TheVariants as ignore
 use Rattle.zre_journal.specs.declared.config.Config.{Config}
 use Rattle.zre_journal.specs.Arrivals.{at_opened, end_of_run, taken_over, start_unknown, start, at_first, answer_to, at_later, at_message, at_shaken, at_said, at_place}
 use Rattle.zre_journal.specs.Chronicle.{Mark, Comes, Starts, Counts, Ignores, Ends, after, followed}
-use Rattle.zre_journal.specs.Connections.{open_ones, is_open, is_new, identity, started, runs, is_ignored, is_live, other_with}
+use Rattle.zre_journal.specs.Connections.{open_ones, is_open, is_new, identity, runs, is_ignored, is_live, other_with}
 use Rattle.zre_journal.specs.Events.{chronicle, events}
 use Rattle.zre_journal.specs.Happens.{at_input}
 use Rattle.zre_journal.specs.Laws.{counted_on}

@@ -1,8 +1,8 @@
 -- The connections of a network, after an entry of one of its nodes.
-use Rattle.std.proofs.Common.{◌≡◌, ◌⊎◌, ℕ, ◌+◌, ◌≤◌, ◌<◌, Bool, true, false, cond, eqb, List, [], ◌∷◌, ◌++◌, length, Option, Some, None, refl, sym, ap, ◌∙◌, subst, inl, inr, arith, eqb-true, eq-eqb, append-nil}
+use Rattle.std.proofs.Common.{◌≡◌, ℕ, Bool, true, false, eqb, List, [], ◌∷◌, length, Some, refl, sym, ap, ◌∙◌, subst, arith, eqb-true}
 use Rattle.std.specs.Prelude.{sum_by, Result, Ok, Err, OnOk}
 use Rattle.zre_outside.specs.declared.entry.Input.{Input}
-use Rattle.zre_journal.specs.Chronicle.{Mark, Comes}
+use Rattle.zre_journal.specs.Chronicle.{Mark}
 use Rattle.zre_journal.specs.Heard.{bytes, piece_of}
 use Rattle.zre_net.specs.declared.moves.Move.{Move}
 use Rattle.zre_net.specs.declared.running.ear.Ear.{Ear}

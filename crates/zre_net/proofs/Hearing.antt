@@ -1,5 +1,5 @@
 -- The ear of a connection, after an entry of its node.
-use Rattle.std.proofs.Common.{◌≡◌, ◌⊎◌, ℕ, ◌+◌, ◌≤◌, ◌<◌, Bool, true, false, cond, not, ◌&&◌, eqb, ltb, List, [], ◌∷◌, ◌++◌, length, map, drop, refl, subst, ltb-true, sym, ap, ◌∙◌, inl, inr, arith, append_assoc, append-nil, true≢false, eqb-true, eq-eqb}
+use Rattle.std.proofs.Common.{◌≡◌, ◌⊎◌, ℕ, ◌+◌, ◌≤◌, Bool, true, false, cond, ◌&&◌, eqb, ltb, List, [], ◌∷◌, ◌++◌, length, map, drop, refl, subst, ltb-true, sym, ap, ◌∙◌, inl, inr, arith, append_assoc, append-nil, true≢false, eqb-true, eq-eqb}
 use Rattle.zre_outside.specs.declared.entry.Entry.{Entry}
 use Rattle.zre_outside.specs.declared.entry.Input.{Input}
 use Rattle.zre_outside.specs.declared.entry.Input.TheVariants as input
@@ -7,7 +7,6 @@ use Rattle.zre_values.specs.declared.limits.TheConstants.{CONNECTIONS}
 use Rattle.zre_mailbox.specs.Conn.{conn_after}
 use Rattle.zre_mailbox.specs.Talk.{talk, completed}
 use Rattle.zre_journal.specs.declared.config.Config.{Config}
-use Rattle.zre_journal.specs.Arrivals.{at_opened}
 use Rattle.zre_journal.specs.Commands.{at_stop}
 use Rattle.zre_journal.specs.Cutting.{is_entry}
 use Rattle.zre_journal.specs.Peers.{Life, lives}
@@ -18,8 +17,8 @@ use Rattle.zre_journal.specs.Chronicle.{Mark, Comes, Opens, TurnsAway, Ends, Clo
 use Rattle.zre_journal.specs.Connections.{is_new, open_ones}
 use Rattle.zre_journal.specs.Endings.{is_end}
 use Rattle.zre_journal.specs.Events.{chronicle}
-use Rattle.zre_journal.specs.Happens.{has_stopped, at_input, marks, with_entry}
-use Rattle.zre_journal.specs.Heard.{bytes, was_opened, piece_of, opens, newly_completed}
+use Rattle.zre_journal.specs.Happens.{has_stopped, at_input, with_entry}
+use Rattle.zre_journal.specs.Heard.{bytes, was_opened, piece_of, newly_completed}
 use Rattle.zre_journal.specs.Proper.{IsProper}
 use Rattle.zre_journal.proofs.Always.{is_proper}
 use Rattle.zre_journal.proofs.Going.{are_others}

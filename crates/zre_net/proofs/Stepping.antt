@@ -1,32 +1,28 @@
 -- The nodes of a network, after an entry of one of them.
-use Rattle.std.proofs.Common.{◌≡◌, ◌⊎◌, ℕ, ◌+◌, ◌≤◌, ◌<◌, max, Bool, true, false, cond, eqb, List, [], ◌∷◌, ◌++◌, length, map, Option, Some, None, refl, sym, ap, ◌∙◌, subst, inl, inr, arith, eqb-true, eq-eqb, append_assoc}
+use Rattle.std.proofs.Common.{◌≡◌, ℕ, ◌+◌, ◌<◌, max, Bool, true, false, cond, eqb, List, [], ◌∷◌, ◌++◌, length, map, Option, Some, None, refl, sym, ap, ◌∙◌, subst, arith, eqb-true, eq-eqb, append_assoc}
 use Rattle.std.specs.Prelude.{slice_get, slice_set, sum_by, get_or, take}
 use Rattle.std.specs.List.{cons_option}
 use Rattle.std.proofs.lemmas.List.{take_more}
 use Rattle.std.specs.List.{filter_map, AllByRecursion}
-use Rattle.std.specs.Option.{option_map}
 use Rattle.zre_outside.specs.declared.act.Act.{Act}
 use Rattle.zre_outside.specs.declared.act.Act.TheVariants as act
 use Rattle.zre_outside.specs.declared.entry.Entry.{Entry}
 use Rattle.zre_outside.specs.declared.entry.Input.{Input}
 use Rattle.zre_peer.specs.declared.event.Event.{Event}
 use Rattle.zre_journal.specs.declared.config.Config.{Config}
-use Rattle.zre_journal.specs.Chronicle.{Mark, Comes, followed}
-use Rattle.zre_journal.specs.Done.{acts_at}
+use Rattle.zre_journal.specs.Chronicle.{Comes, followed}
 use Rattle.zre_journal.specs.Events.{chronicle, events_at}
 use Rattle.zre_journal.specs.Happens.{with_entry}
 use Rattle.zre_journal.proofs.Joined.{continues}
 use Rattle.zre_net.specs.declared.moves.Move.{Move}
 use Rattle.zre_net.specs.declared.running.network.Network.{Network}
 use Rattle.zre_net.specs.declared.running.rows.Started.{Started}
-use Rattle.zre_net.specs.declared.running.rows.Sent.{Sent}
-use Rattle.zre_net.specs.declared.running.rows.Way.{Way}
 use Rattle.zre_net.specs.declared.running.steps.Turn.{Turn as Took}
 use Rattle.zre_net.specs.Comes.{turn_of}
 use Rattle.zre_net.specs.History.{Incarnation, Turn, Happening, Happens, incarnations, running, journal, chronicle_of}
 use Rattle.zre_net.specs.Lines.{octets_in}
 use Rattle.zre_net.specs.Lists.{nth}
-use Rattle.zre_net.specs.Numbers.{Route, Broadcast, acts_of, route_in, routes, broadcast_in, broadcasts}
+use Rattle.zre_net.specs.Numbers.{Route, acts_of, route_in, routes, broadcast_in, broadcasts}
 use Rattle.zre_net.specs.Rows.{entry_at, Turned, StaysAt, sent_in, way_in, running_at}
 use Rattle.zre_net.specs.Running.{IsKnown, IsStarted, HasStarted, AreStarted, Finds, AreNodes, IsStill, owner_of, sent_of, way_of}
 use Rattle.zre_net.specs.Said.{said_in, said_at}

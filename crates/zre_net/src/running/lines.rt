@@ -22,6 +22,8 @@ pub(crate) struct Line {
 pub(crate) struct Lines {
     rows: Vec<Line>,
     octets: u64,
+    /// The newest first message of a link, a HELLO: the next may be the same.
+    first: Bytes,
 }
 
 impl Model for Lines {
@@ -36,11 +38,22 @@ impl Model for Lines {
     ghost invariant = { λ lines. lines.octets ≡ octets_in lines.rows.items };
 }
 
+// These octets, shared with those before where they are the same.
+fn shared(alloc: Global, before: &Bytes, octets: &[u8]) -> Result<Bytes, OutOfMemory>
+    ensures { IfOk result (λ b. b ≡ octets.now) }
+{
+    if before.as_slice() == octets {
+        return Ok(before.clone()?);
+    }
+    Ok(Bytes::copy_from_slice(alloc, octets)?)
+}
+
 // So many messages were put on a link, and this waits on it: at most one message more than before. Gives how many
 // octets all messages have, where they had so many before.
 fn note(
     alloc: Global,
     line: &mut Line,
+    first: &mut Bytes,
     octets: u64,
     sent: u64,
     waits: &[u8],
@@ -57,10 +70,13 @@ fn note(
     if sent != count.saturating_add(1) || waits.len() < line.waited {
         return Err(OutOfMemory);
     }
-    let message = Bytes::copy_from_slice(alloc, &waits[line.waited..])?;
+    let message = shared(alloc, first, &waits[line.waited..])?;
     let Some(all) = octets.checked_add(message.len() as u64) else {
         return Err(OutOfMemory);
     };
+    if count == 0 {
+        *first = message.clone()?;
+    }
     line.messages.push(message)?;
     line.waited = waits.len();
     Ok(all)
@@ -74,6 +90,7 @@ impl Lines {
         Lines {
             rows: Vec::new(alloc),
             octets: 0,
+            first: Bytes::new(),
         }
     }
 
@@ -116,7 +133,8 @@ impl Lines {
         if place >= self.rows.len() {
             return Err(OutOfMemory);
         }
-        self.octets = note(alloc, &mut self.rows[place], self.octets, sent, waits)?;
+        let line = &mut self.rows[place];
+        self.octets = note(alloc, line, &mut self.first, self.octets, sent, waits)?;
         Ok(())
     }
 }
