@@ -7,8 +7,6 @@ mod gathered;
 pub mod laws;
 mod reading;
 mod replica;
-#[cfg(test)]
-mod tests;
 mod write;
 
 pub use gathered::Commands;

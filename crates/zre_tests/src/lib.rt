@@ -11,4 +11,6 @@ mod pipes;
 #[cfg(test)]
 mod runs_beside;
 #[cfg(test)]
+mod shared_table;
+#[cfg(test)]
 mod two_nodes;
