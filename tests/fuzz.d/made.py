@@ -162,6 +162,12 @@ def captures(chance):
     return tuple(("\n".join(lines) + "\n").encode() for lines in (first, second))
 
 
+def two_captures(chance):
+    """Captures of format 2 of two nodes, one after the other; now and then both of one node."""
+    other = chance.choice(["E", "E", "E", "F"]) * 32
+    return captures(chance)[1] + captures(chance)[1].replace(b"F" * 32, other.encode(), 1)
+
+
 class Network:
     """Moves of a schedule of three nodes, most of which can be made."""
 

@@ -1,24 +1,22 @@
 -- Where nothing fails, a command does all that it is asked for, unless memory runs out.
-use Rattle.std.proofs.Common.{◌≡◌, ◌⊎◌, ℕ, ◌<◌, ◌≤◌, Bool, true, false, List, [], ◌∷◌, ◌++◌, length, Option, Some, None, inl, inr, refl, sym, ap, ◌∙◌, subst, arith, append-nil, length-append}
-use Rattle.std.specs.Prelude.{nat_le, if◌then◌else◌, ⊤}
+use Rattle.std.proofs.Common.{◌≡◌, ◌⊎◌, ℕ, ◌<◌, Bool, true, false, List, [], ◌∷◌, ◌++◌, length, Option, Some, None, inl, inr, refl, sym, ap, ◌∙◌, subst, arith, append-nil, length-append}
+use Rattle.std.specs.Prelude.{nat_le, if◌then◌else◌}
 use Rattle.std.specs.Io.KnownBytes.{Appends, Consumes, IsAtEnd}
-use Rattle.zre_outside.specs.Causes.{Rose}
 use Rattle.zre_commands.specs.declared.pump.status.Status.{Status}
 use Rattle.zre_commands.specs.declared.pump.status.Status.TheVariants.{Done, Usage, BadInput, ReadFault, WriteFault, WorldFault, NoThread, TooLong, OutOfMemory}
 use Rattle.zre_commands.specs.pump.Meaning.{Meaning, KeepsRefusing, whole_text}
-use Rattle.zre_commands.specs.pump.Outcome.{Outcome, Pumped}
-use Rattle.zre_commands.specs.replay.Replay.{replay, told_replay}
-use Rattle.zre_commands.proofs.Refusing.{show_refuses, follow_refuses, capture_refuses, simulate_refuses}
-use Rattle.zre_chat.specs.Chat.{Seen, IsChat, IsCaused, AreCaused, IsSpared}
+use Rattle.zre_commands.specs.pump.Outcome.{Outcome}
+use Rattle.zre_commands.proofs.Refusing.{show_refuses, follow_refuses, capture_refuses, audit_refuses, simulate_refuses}
+use Rattle.zre_chat.specs.Chat.{Seen, IsCaused, AreCaused}
 use Rattle.zre_chat.specs.Statuses.{rank, least}
 use Rattle.zre_capture.specs.declared.format.Format.TheVariants.{First, Second}
 use Rattle.zre_app.specs.declared.command.Command.{Command}
 use Rattle.zre_app.specs.declared.command.Command.TheVariants.{Plain, Chat}
 use Rattle.zre_app.specs.declared.plain_words.Plain.{Plain as PlainCommand}
-use Rattle.zre_app.specs.declared.plain_words.Plain.TheVariants.{Follow, Show, Replay, ReplayTold, Upgrade, Table, Simulate, Exercise}
+use Rattle.zre_app.specs.declared.plain_words.Plain.TheVariants.{Follow, Show, Replay, ReplayTold, Upgrade, Table, Audit, Simulate, Exercise}
 use Rattle.zre_app.specs.Complete.{WellOrShort, NoneRose, CompletesWork, Completes}
-use Rattle.zre_app.specs.Does.{Work, DoesWork, work_of, Does, Did}
-use Rattle.zre_app.specs.Does.Work.{Reads, Writes}
+use Rattle.zre_app.specs.Does.{DoesWork, work_of, Does, Did}
+use Rattle.zre_app.specs.Does.Work.{Reads}
 use Rattle.zre_app.specs.Given.{Streams, streams_of, Handed, Views, seen_of}
 use Rattle.zre_app.specs.Usage.{WritesText}
 
@@ -86,6 +84,7 @@ plain_completes (Replay g) limit status s t does = reads_all _ (capture_refuses 
 plain_completes ReplayTold limit status s t does = reads_all _ (capture_refuses Second) limit status s t does
 plain_completes (Upgrade g) limit status s t does = reads_all _ (capture_refuses First) limit status s t does
 plain_completes (Table group) limit status s t does = reads_all _ (capture_refuses Second) limit status s t does
+plain_completes Audit limit status s t does = reads_all _ audit_refuses limit status s t does
 plain_completes Simulate limit status s t does = reads_all _ simulate_refuses limit status s t does
 plain_completes (Exercise seed peers messages) limit status s t does = λ unwritten. writes_all status _ s.written t.written _ does unwritten
 

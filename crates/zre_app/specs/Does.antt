@@ -16,6 +16,7 @@ use Rattle.zre_commands.specs.show.Show.{show}
 use Rattle.zre_commands.specs.replay.Replay.{replay, told_replay}
 use Rattle.zre_commands.specs.upgrade.Upgrade.{upgrade}
 use Rattle.zre_commands.specs.table.Table.{table}
+use Rattle.zre_commands.specs.audit.Audit.{audit}
 use Rattle.zre_commands.specs.simulate.Simulate.{simulate}
 use Rattle.zre_commands.specs.exercise.Exercise.{text as exercise_text}
 use Rattle.zre_chat.specs.Chat.{Seen, IsChat}
@@ -23,7 +24,7 @@ use Rattle.zre_app.specs.declared.command.Command.{Command}
 use Rattle.zre_app.specs.declared.command.Command.TheVariants as commands
 use Rattle.zre_app.specs.declared.plain_words.Plain.{Plain}
 use Rattle.zre_app.specs.declared.plain_words.Plain.TheVariants.{Follow, Show, Replay, ReplayTold, Upgrade, Table}
-use Rattle.zre_app.specs.declared.plain_words.Plain.TheVariants.{Simulate, Exercise}
+use Rattle.zre_app.specs.declared.plain_words.Plain.TheVariants.{Audit, Simulate, Exercise}
 use Rattle.zre_app.specs.Given.{Streams, StreamViews, streams, streams_of, Handed, Views, seen_of}
 use Rattle.zre_app.specs.Usage.{UsageOutcome, WritesText}
 
@@ -41,6 +42,7 @@ work_of (Replay g) = Reads (replay g)
 work_of ReplayTold = Reads told_replay
 work_of (Upgrade g) = Reads (upgrade (as_settings g))
 work_of (Table group) = Reads (table group)
+work_of Audit = Reads audit
 work_of Simulate = Reads simulate
 work_of (Exercise seed peers messages) = Writes (exercise_text seed peers messages)
 

@@ -13,7 +13,7 @@ use Rattle.zre_app.specs.declared.keys.Often.{Often}
 use Rattle.zre_app.specs.declared.keys.Often.TheVariants.{Once}
 use Rattle.zre_app.specs.declared.plain_words.Plain.{Plain}
 use Rattle.zre_app.specs.declared.plain_words.Plain.TheVariants.{Follow, Show, Replay, ReplayTold, Upgrade, Table}
-use Rattle.zre_app.specs.declared.plain_words.Plain.TheVariants.{Simulate, Exercise}
+use Rattle.zre_app.specs.declared.plain_words.Plain.TheVariants.{Audit, Simulate, Exercise}
 
 -- the keys of `follow`: the identity of the peer
 abbrev pub follow_keys : List (List ℕ × Often)
@@ -57,7 +57,11 @@ table_of words =
     then option_map Table (option_and_then group_in (value_of (codes "group=") words))
     else None
 
--- `simulate` has no words
+-- `audit` has no words
+abbrev pub audit_of : List (List ℕ) → Option Plain
+audit_of words = if are_words_of [] words then Some Audit else None
+
+-- `simulate` has none
 abbrev pub simulate_of : List (List ℕ) → Option Plain
 simulate_of words = if are_words_of [] words then Some Simulate else None
 
@@ -86,6 +90,7 @@ plain_named name words =
     else if bytes_eq name (codes "replay") then replay_of words
     else if bytes_eq name (codes "upgrade") then upgrade_of words
     else if bytes_eq name (codes "table") then table_of words
+    else if bytes_eq name (codes "audit") then audit_of words
     else if bytes_eq name (codes "simulate") then simulate_of words
     else if bytes_eq name (codes "exercise") then exercise_of words
     else None
@@ -103,5 +108,6 @@ CanDo (Replay g) = is_valid g ≡ true
 CanDo ReplayTold = Unit {0}
 CanDo (Upgrade g) = is_valid g ≡ true
 CanDo (Table group) = Unit {0}
+CanDo Audit = Unit {0}
 CanDo Simulate = Unit {0}
 CanDo (Exercise seed peers messages) = (1 ≤ peers) × (peers ≤ 256) × (messages ≤ 1000000)

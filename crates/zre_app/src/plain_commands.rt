@@ -12,6 +12,7 @@ ghost use Rattle.zre_app.specs.Words.{is_chat};
 
 use crate::plain_words::{Plain, plain_of};
 use std::alloc::Global;
+use zre_commands::audit::Auditor;
 use zre_commands::exercise::push_summary;
 use zre_commands::follow::Follower;
 use zre_commands::pump::{Status, pump};
@@ -119,6 +120,14 @@ fn table<I: Source, O: Sink>(
     pump(alloc, &mut machine, input, out, limit)
 }
 
+fn audit<I: Source, O: Sink>(alloc: Global, input: &mut I, out: &mut O, limit: u64) -> Status
+    ensures does { DidPlain (stream_views I.left I.taken I.faults O.written O.faults)
+        (Some Plain.Audit) limit result input.old input.new out.old out.new }
+{
+    let mut machine = Auditor::new(alloc);
+    pump(alloc, &mut machine, input, out, limit)
+}
+
 fn simulate<I: Source, O: Sink>(alloc: Global, input: &mut I, out: &mut O, limit: u64) -> Status
     ensures does { DidPlain (stream_views I.left I.taken I.faults O.written O.faults)
         (Some Plain.Simulate) limit result input.old input.new out.old out.new }
@@ -174,6 +183,7 @@ fn obey<I: Source, O: Sink>(
         Some(Plain::ReplayTold) => replay_told(alloc, input, out, limit),
         Some(Plain::Upgrade { config }) => upgrade(alloc, config, input, out, limit),
         Some(Plain::Table { group }) => table(alloc, group, input, out, limit),
+        Some(Plain::Audit) => audit(alloc, input, out, limit),
         Some(Plain::Simulate) => simulate(alloc, input, out, limit),
         Some(
             Plain::Exercise {

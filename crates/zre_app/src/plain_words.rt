@@ -3,7 +3,7 @@
 ghost use Rattle.std.specs.Prelude.{◌≡◌, ◌≤◌, true, map, IfOk, IfSome};
 ghost use Rattle.zre_journal.specs.Config.{is_valid};
 ghost use Rattle.zre_app.specs.PlainWords.{follow_of, show_of, node_of, replay_of, upgrade_of, group_in, table_of};
-ghost use Rattle.zre_app.specs.PlainWords.{simulate_of};
+ghost use Rattle.zre_app.specs.PlainWords.{audit_of, simulate_of};
 ghost use Rattle.zre_app.specs.PlainWords.{number_in, exercise_in};
 ghost use Rattle.zre_app.specs.PlainWords.{exercise_keys, exercise_of, plain_named, plain_of, CanDo};
 
@@ -39,6 +39,8 @@ pub enum Plain {
     Table {
         group: Octets,
     },
+    /// Write whether two nodes agree, from two captures of format 2.
+    Audit,
     /// Write the events of several nodes, from a schedule.
     Simulate,
     /// Write the summary of a large journal that is made from a number.
@@ -144,6 +146,17 @@ fn table_of(alloc: Global, words: &[Octets]) -> Result<Option<Plain>, OutOfMemor
     }
 }
 
+fn audit_of(words: &[Octets]) -> Option<Plain>
+    ensures value { result ≡ audit_of words.now }
+    ensures ready { IfSome result CanDo }
+{
+    if are_words_of(&[], words) {
+        Some(Plain::Audit)
+    } else {
+        None
+    }
+}
+
 fn simulate_of(words: &[Octets]) -> Option<Plain>
     ensures value { result ≡ simulate_of words.now }
     ensures ready { IfSome result CanDo }
@@ -240,6 +253,9 @@ fn plain_named(alloc: Global, name: &[u8], words: &[Octets]) -> Result<Option<Pl
     }
     if name == b"table".as_slice() {
         return table_of(alloc, words);
+    }
+    if name == b"audit".as_slice() {
+        return Ok(audit_of(words));
     }
     if name == b"simulate".as_slice() {
         return Ok(simulate_of(words));

@@ -10,8 +10,6 @@ mod judging;
 pub mod laws;
 mod put;
 mod seen;
-#[cfg(test)]
-mod tests;
 mod verdicts;
 mod watch;
 

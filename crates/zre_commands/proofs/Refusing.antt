@@ -12,11 +12,13 @@ use Rattle.zre_capture.specs.declared.fault.BadCapture.{BadCapture}
 use Rattle.zre_capture.specs.declared.format.Format.{Format}
 use Rattle.zre_capture.proofs.Staying.{bad_stays}
 use Rattle.zre_commands.specs.pump.Meaning.{KeepsRefusing}
+use Rattle.zre_commands.specs.audit.Audit as audits
 use Rattle.zre_commands.specs.follow.Follow as follows
 use Rattle.zre_commands.specs.follow.Messages.{messages, messages_in}
 use Rattle.zre_commands.specs.follow.Runs.{is_over}
 use Rattle.zre_commands.specs.show.Show as shows
 use Rattle.zre_commands.specs.simulate.Simulate as simulates
+use Rattle.zre_commands.proofs.audit.Auditing as auditing
 use Rattle.zre_commands.proofs.follow.Growing as growing
 use Rattle.zre_commands.proofs.show.Listing as listing
 
@@ -41,6 +43,10 @@ follow_refuses id o x e =
     growing.stopped_is_bad (o ++ x)
     (ap (λ ms. not (is_over [] ms) && is_some (fault Any Traffic (o ++ x))) same
     ∙ ap (λ f. not (follows.over o) && is_some f) (h.fault x) ∙ e)
+
+-- of two captures
+pub audit_refuses : KeepsRefusing audits.audit
+audit_refuses = auditing.audit_refuses
 
 -- of a schedule, which is read whole first
 pub simulate_refuses : KeepsRefusing simulates.simulate

@@ -1,9 +1,9 @@
 -- Captures that are replayed without words.
-use Rattle.std.proofs.Common.{◌≡◌, ℕ, false, All, Option, Some, None, List, [], ◌++◌, refl, sym, ap, ◌∙◌, append-nil}
+use Rattle.std.proofs.Common.{◌≡◌, ℕ, All, List, [], ◌++◌, ap, ◌∙◌, append-nil}
 use Rattle.std.specs.Prelude.{is_some}
 use Rattle.std.specs.Option.{option_map_or}
 use Rattle.zre_capture.specs.Heads.{AreSettings}
-use Rattle.zre_capture.specs.Journal.{capture, journal, settings, bad_at_end, IsCaptureOf}
+use Rattle.zre_capture.specs.Journal.{capture, journal, IsCaptureOf}
 use Rattle.zre_capture.specs.Lines.{IsEntry, AreShort}
 use Rattle.zre_capture.specs.declared.format.Format.TheVariants.{First, Second}
 use Rattle.zre_capture.specs.declared.settings.Settings.{Settings}
@@ -16,8 +16,7 @@ use Rattle.zre_peer.specs.Lines.{lines}
 use Rattle.zre_commands.specs.Laws.{IsReplayed}
 use Rattle.zre_commands.specs.Settings.{as_config}
 use Rattle.zre_commands.specs.pump.Lines.{refusal}
-use Rattle.zre_commands.specs.pump.Meaning.{whole_text}
-use Rattle.zre_commands.specs.replay.Replay.{told_text, told_replay}
+use Rattle.zre_commands.specs.replay.Replay.{told_text}
 use Rattle.zre_commands.specs.upgrade.Upgrade.{text}
 
 of_capture : (s : Settings) (J : List Entry) (o : List ℕ) → IsCaptureOf Second s J o → IsReplayed s J o

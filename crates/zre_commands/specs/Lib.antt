@@ -1,5 +1,6 @@
 pub mod Laws
 pub mod Settings
+pub mod audit
 pub mod pump
 pub mod follow
 pub mod show

@@ -1,7 +1,8 @@
-//! The commands that read one stream and write text: `follow`, `show`, `replay`, `upgrade`, `table`, `simulate` and
-//! `exercise`, each a machine that makes text of octets, and the pump that runs a machine over a source and a sink.
+//! The commands that read one stream and write text: `follow`, `show`, `replay`, `upgrade`, `table`, `audit`, `simulate`
+//! and `exercise`, each a machine that makes text of octets, and the pump that runs a machine over a source and a sink.
 #![tactic(auto)]
 
+pub mod audit;
 pub mod exercise;
 pub mod follow;
 pub mod laws;

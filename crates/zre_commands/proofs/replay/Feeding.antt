@@ -1,9 +1,8 @@
 -- The machine of `replay`, fed one more piece: the text of more octets begins with that of fewer.
-use Rattle.std.proofs.Common.{◌≡◌, ℕ, true, false, None, List, [], ◌++◌, refl, sym, ap, ◌∙◌, subst}
+use Rattle.std.proofs.Common.{◌≡◌, ℕ, false, None, List, [], ◌++◌, refl, sym, ap, ◌∙◌, subst}
 use Rattle.std.specs.Prelude.{is_some}
 use Rattle.std.proofs.lemmas.List.Concat.{flat_map-append}
 use Rattle.zre_capture.specs.Journal.{journal, bad, bad_from, entries_from, format_of, Reads}
-use Rattle.zre_capture.specs.declared.format.Format.{Format}
 use Rattle.zre_capture.specs.declared.format.Format.TheVariants.{First}
 use Rattle.zre_capture.proofs.Growing.{journal_grows}
 use Rattle.zre_journal.specs.declared.config.Config.{Config}
@@ -14,7 +13,6 @@ use Rattle.zre_node.specs.Journal.{StandsFor}
 use Rattle.zre_outside.specs.declared.entry.Entry.{Entry}
 use Rattle.zre_peer.specs.Lines.{line, lines}
 use Rattle.zre_peer.specs.declared.event.Event.{Event}
-use Rattle.zre_commands.specs.declared.replay.reading.State.{State}
 use Rattle.zre_commands.specs.declared.replay.reading.State.TheVariants.{Going}
 use Rattle.zre_commands.specs.declared.replay.replayer.Replayer.{Replayer}
 use Rattle.zre_commands.specs.declared.replay.waiting.Waiting.{Waiting}

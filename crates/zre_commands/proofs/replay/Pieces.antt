@@ -1,5 +1,5 @@
 -- A capture that is read in pieces.
-use Rattle.std.proofs.Common.{◌≡◌, ℕ, true, false, Some, None, List, [], ◌++◌, refl, sym, ap, ◌∙◌, subst}
+use Rattle.std.proofs.Common.{◌≡◌, ℕ, true, false, List, [], ◌++◌, refl, sym, ap, ◌∙◌, subst}
 use Rattle.std.specs.Prelude.{is_some}
 use Rattle.zre_capture.specs.Journal.{journal, bad, format_of, Reads, Adds}
 use Rattle.zre_capture.specs.declared.format.Format.{Format}

@@ -1,5 +1,5 @@
 -- Entries taken after entries.
-use Rattle.std.proofs.Common.{ℕ, Result, Ok, Err, OnOk, List, [], ◌++◌, sym, ap, ◌∙◌, subst, append_assoc, append-nil}
+use Rattle.std.proofs.Common.{ℕ, List, [], ◌++◌, sym, ap, ◌∙◌, subst, append_assoc, append-nil}
 use Rattle.std.proofs.lemmas.List.Concat.{flat_map-append}
 use Rattle.zre_journal.specs.declared.config.Config.{Config}
 use Rattle.zre_journal.specs.Events.{events}

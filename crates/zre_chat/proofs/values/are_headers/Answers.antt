@@ -1,4 +1,4 @@
-use Rattle.std.proofs.Common.{All, sym, subst, take_all}
+use Rattle.std.proofs.Common.{All, subst, take_all}
 use Rattle.std.proofs.lemmas.List.Elements.{All-nil, All-more}
 use Rattle.zre_capture.specs.Heads.{IsHeader}
 use Rattle.zre_chat.proofs.values.are_headers.Goals as goal

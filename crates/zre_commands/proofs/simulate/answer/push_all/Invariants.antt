@@ -1,4 +1,4 @@
-use Rattle.std.proofs.Common.{◌≡◌, ◌++◌, List, take}
+use Rattle.std.proofs.Common.{◌≡◌, ◌++◌, take}
 use Rattle.zre_commands.specs.simulate.Simulate.{told_lines}
 use Rattle.zre_commands.proofs.simulate.answer.push_all.Given as goal
 

@@ -1,4 +1,4 @@
-use Rattle.std.proofs.Common.{◌≡◌, arith}
+use Rattle.std.proofs.Common.{arith}
 use Rattle.zre_commands.proofs.simulate.Keeping.{fed_on}
 use Rattle.zre_commands.proofs.simulate.simulator.SimulatorMachine.feed.Goals as goal
 

@@ -1,4 +1,4 @@
-use Rattle.std.proofs.Common.{◌≡◌, ◌++◌, ◌∙◌, ap, is_some}
+use Rattle.std.proofs.Common.{◌++◌, ◌∙◌, ap, is_some}
 use Rattle.zre_net.specs.Answer.{bad_in}
 use Rattle.zre_values.proofs.Answered.{on_ok}
 use Rattle.zre_commands.specs.simulate.Simulate.{answer}

@@ -1,0 +1,10 @@
+pub mod Auditing
+pub mod Cutting
+pub mod Ending
+pub mod Feeding
+pub mod Judging
+pub mod Lining
+pub mod Placing
+pub mod Seeing
+pub mod Seeking
+pub mod Telling
