@@ -1,4 +1,4 @@
--- What is proved of what the commands make of captures.
+-- What is proved of what the commands make of captures and of schedules.
 use Rattle.std.specs.Prelude.{◌≡◌, ℕ, false, List, All}
 use Rattle.zre_capture.specs.Heads.{AreSettings}
 use Rattle.zre_capture.specs.Journal.{capture, journal}
@@ -6,11 +6,15 @@ use Rattle.zre_capture.specs.Lines.{IsEntry, AreShort}
 use Rattle.zre_capture.specs.declared.format.Format.TheVariants.{First, Second}
 use Rattle.zre_capture.specs.declared.settings.Settings.{Settings}
 use Rattle.zre_journal.specs.Events.{events}
+use Rattle.zre_net.specs.Agreement.{IsAgreed}
+use Rattle.zre_net.specs.Reading.{lines_in, moves_of}
+use Rattle.zre_net.specs.Said.{said}
 use Rattle.zre_outside.specs.declared.entry.Entry.{Entry}
 use Rattle.zre_peer.specs.Lines.{lines}
 use Rattle.zre_commands.specs.Settings.{as_config}
 use Rattle.zre_commands.specs.pump.Meaning.{whole_text}
 use Rattle.zre_commands.specs.replay.Replay.{told_replay}
+use Rattle.zre_commands.specs.simulate.Simulate.{simulate, told_lines}
 use Rattle.zre_commands.specs.upgrade.Upgrade.{upgrade}
 
 -- these octets are replayed without words: nothing in them is refused, and what is written are the lines of the events of
@@ -29,3 +33,12 @@ CapturesAreReplayed =
 abbrev pub UpgradedIsReplayed : Type 0
 UpgradedIsReplayed =
     (s : Settings) (o : List ℕ) → AreSettings s → IsReplayed s (journal First o) ((upgrade s).text o)
+
+-- the nodes of this schedule agree, and what is written are the lines of what they tell
+pub record IsSimulated (o : List ℕ) : Type 0 where
+  pub agreed : IsAgreed (moves_of (lines_in o))
+  pub is_written : whole_text simulate o ≡ told_lines (said (moves_of (lines_in o)))
+
+-- so it is of every schedule that isn't refused
+abbrev pub SchedulesAgree : Type 0
+SchedulesAgree = (o : List ℕ) → simulate.is_bad o ≡ false → IsSimulated o

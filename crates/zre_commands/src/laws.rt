@@ -1,6 +1,6 @@
-//! Laws of what commands make of captures. The functions do nothing: what they ensure is for proofs.
+//! Laws of what commands make of captures and of schedules. The functions do nothing: what they ensure is for proofs.
 
-ghost use Rattle.zre_commands.specs.Laws.{CapturesAreReplayed, UpgradedIsReplayed};
+ghost use Rattle.zre_commands.specs.Laws.{CapturesAreReplayed, SchedulesAgree, UpgradedIsReplayed};
 
 /// A replay without words of a capture of format 2 writes the lines of the events of its journal, where no line of it is
 /// too long to be read.
@@ -12,4 +12,10 @@ pub fn captures_are_replayed()
 /// the events of the journal of that input. No line that `upgrade` writes is too long.
 pub fn upgraded_captures_are_replayed()
     ensures { UpgradedIsReplayed }
+{}
+
+/// The nodes of a schedule that `simulate` doesn't refuse agree, and what it writes are the lines of what they tell: where
+/// messages came within the window, what a node shows of another is what that one was as it queued the last of them.
+pub fn schedules_agree()
+    ensures { SchedulesAgree }
 {}
