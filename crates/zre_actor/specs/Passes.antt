@@ -1,5 +1,6 @@
 -- What a clause says of a pass, and of the pipes that it belongs to.
-use Rattle.std.specs.Prelude.{◌≡◌, ℕ, ◌+◌, ◌-◌, ◌^◌, List, [], ◌∷◌, ◌++◌, map, min, All, Option, Some, None, length, vec_len, vec_capacity}
+use Rattle.std.specs.Prelude.{◌≡◌, ℕ, ◌+◌, ◌-◌, ◌^◌, List, [], ◌∷◌, ◌++◌, map, min, All, Option, Some, None, length}
+use Rattle.std.specs.Prelude.{vec_len, vec_capacity}
 use Rattle.crossbeam_queue.specs.Passes as queue
 use Rattle.crossbeam_channel.specs.Claims as channel
 use Rattle.crossbeam_channel.specs.Ends.{sends_on}

@@ -1,5 +1,6 @@
 -- The words that set up a node.
-use Rattle.std.specs.Prelude.{ℕ, ◌+◌, ◌==◌, ◌&&◌, List, [], ◌∷◌, ◌++◌, Option, Some, None, nat_le, nat_lt, take, drop, position, unwrap_or, option_and_then, option_map, codes, if◌then◌else◌}
+use Rattle.std.specs.Prelude.{ℕ, ◌+◌, ◌==◌, ◌&&◌, List, [], ◌∷◌, ◌++◌, Option, Some, None, nat_le, nat_lt, take, drop}
+use Rattle.std.specs.Prelude.{position, unwrap_or, option_and_then, option_map, codes, if◌then◌else◌}
 use Rattle.zre_values.specs.Text.{id_text}
 use Rattle.zre_values.specs.declared.peer_id.PeerId.{PeerId}
 use Rattle.zre_capture.specs.Values.{number_of, address_of}

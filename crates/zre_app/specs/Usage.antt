@@ -3,7 +3,8 @@ use Rattle.std.specs.Prelude.{ℕ, List, codes, Option}
 use Rattle.std.specs.Io.KnownBytes.{Appends}
 use Rattle.zre_outside.specs.Told.{AppendsFront}
 use Rattle.zre_commands.specs.declared.pump.status.Status.{Status}
-use Rattle.zre_commands.specs.declared.pump.status.Status.TheVariants.{Done, Usage, BadInput, ReadFault, WriteFault, WorldFault, NoThread, TooLong, OutOfMemory}
+use Rattle.zre_commands.specs.declared.pump.status.Status.TheVariants.{Done, Usage, BadInput, ReadFault, WriteFault}
+use Rattle.zre_commands.specs.declared.pump.status.Status.TheVariants.{WorldFault, NoThread, TooLong, OutOfMemory}
 
 abbrev pub usage_line : List ℕ
 usage_line = codes "USAGE\n"

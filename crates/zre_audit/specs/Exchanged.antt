@@ -1,6 +1,7 @@
 -- What a node heard of a peer, and what it put on the links of that peer: the messages that a user or a program sends,
 -- WHISPER and SHOUT, as the journal's chronicle has them.
-use Rattle.std.specs.Prelude.{ℕ, Bool, true, false, List, [], ◌∷◌, map, Option, Some, None, if◌then◌else◌, nat_eq, bytes_eq}
+use Rattle.std.specs.Prelude.{ℕ, Bool, true, false, List, [], ◌∷◌, map, Option, Some, None, if◌then◌else◌, nat_eq}
+use Rattle.std.specs.Prelude.{bytes_eq}
 use Rattle.std.specs.Cmp.Lexicographic.{pointwise}
 use Rattle.std.specs.List.{filter}
 use Rattle.zre_values.specs.declared.peer_id.PeerId.{PeerId}

@@ -1,5 +1,6 @@
 -- How links are kept.
-use Rattle.std.specs.Prelude.{◌≡◌, ℕ, zero, suc, ◌+◌, ◌<◌, false, List, [], ◌∷◌, ◌++◌, length, map, flat_map, Option, Some, None, bytes_eq, nat_lt, slice_get, slice_index_or}
+use Rattle.std.specs.Prelude.{◌≡◌, ℕ, zero, suc, ◌+◌, ◌<◌, false, List, [], ◌∷◌, ◌++◌, length, map, flat_map, Option}
+use Rattle.std.specs.Prelude.{Some, None, bytes_eq, nat_lt, slice_get, slice_index_or}
 use Rattle.std.specs.List.{AllByRecursion, filter, fold}
 use Rattle.std.specs.Option.{option_map_or}
 use Rattle.zre_values.specs.declared.peer_id.PeerId.{PeerId}
@@ -38,7 +39,8 @@ all_noted place lines links = fold (noted place) lines links
 
 -- the links on which more was put by then
 abbrev pub risen : (ℕ → Option ℕ) → List Count → List ℕ
-risen sent counts = map (λ (s : Count). s.link) (filter (λ (s : Count). option_map_or (nat_lt s.count) (sent s.link) false) counts)
+risen sent counts = map (λ (s : Count). s.link)
+    (filter (λ (s : Count). option_map_or (nat_lt s.count) (sent s.link) false) counts)
 
 -- a link of a peer that is born
 abbrev pub lines_with : List Line → Option PeerId → List Line

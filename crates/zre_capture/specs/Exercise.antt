@@ -1,6 +1,7 @@
 -- The journal of the exercise: p peers come and introduce themselves, then their messages come in turn, and the node
 -- is told to quit. Peers, messages and the messages of one peer are counted from 0.
-use Rattle.std.specs.Prelude.{ℕ, zero, suc, ◌+◌, ◌/◌, ◌%◌, Bool, ◌==◌, ◌||◌, if◌then◌else◌, List, [], ◌∷◌, ◌++◌, length, take, drop, replicate, Some, codes, decimal}
+use Rattle.std.specs.Prelude.{ℕ, zero, suc, ◌+◌, ◌/◌, ◌%◌, Bool, ◌==◌, ◌||◌, if◌then◌else◌, List, [], ◌∷◌, ◌++◌, length}
+use Rattle.std.specs.Prelude.{take, drop, replicate, Some, codes, decimal}
 use Rattle.std.specs.Int.{w32, to_be_bytes}
 use Rattle.zre_values.specs.Endpoint.{endpoint_text}
 use Rattle.zre_values.specs.declared.peer_id.PeerId.{PeerId}

@@ -1,5 +1,6 @@
 -- Lines as they are read: the settings of a head, the entry of a line, and where a line is bad.
-use Rattle.std.specs.Prelude.{ℕ, ◌+◌, ◌==◌, ◌&&◌, nat_lt, Bool, false, if◌then◌else◌, List, [], ◌∷◌, length, take, Option, Some, None, is_some, option_map, unwrap_or, codes}
+use Rattle.std.specs.Prelude.{ℕ, ◌+◌, ◌==◌, ◌&&◌, nat_lt, Bool, false, if◌then◌else◌, List, [], ◌∷◌, length, take}
+use Rattle.std.specs.Prelude.{Option, Some, None, is_some, option_map, unwrap_or, codes}
 use Rattle.std.specs.Option.{option_map_or}
 use Rattle.std.specs.List.{slice_split}
 use Rattle.std.specs.Str.{bytes_eq}
@@ -12,7 +13,8 @@ use Rattle.zre_outside.specs.declared.entry.Command.TheVariants as ask
 use Rattle.zre_capture.specs.Formats.{longest}
 use Rattle.zre_capture.specs.Headers.{headers_of}
 use Rattle.zre_capture.specs.Parts.{◌>>=◌, one, two}
-use Rattle.zre_capture.specs.Values.{number_of, number_within, reading_after, reading_of, address_of, hex_of, group_of, short_of, frames_of, id_of, input_word_of, command_word_of}
+use Rattle.zre_capture.specs.Values.{number_of, number_within, reading_after, reading_of, address_of, hex_of, group_of}
+use Rattle.zre_capture.specs.Values.{short_of, frames_of, id_of, input_word_of, command_word_of}
 use Rattle.zre_capture.specs.declared.format.Format.{Format}
 use Rattle.zre_capture.specs.declared.format.Format.TheVariants.{First, Second}
 use Rattle.zre_capture.specs.declared.head.Plain.{Plain}

@@ -8,7 +8,8 @@ use Rattle.zre_journal.specs.declared.config.Config.{Config}
 use Rattle.zre_capture.specs.Heads.{AreSettings}
 use Rattle.zre_commands.specs.Settings.{as_settings}
 use Rattle.zre_commands.specs.declared.pump.status.Status.{Status}
-use Rattle.zre_commands.specs.declared.pump.status.Status.TheVariants.{Done, Usage, BadInput, ReadFault, WriteFault, WorldFault, NoThread, TooLong, OutOfMemory}
+use Rattle.zre_commands.specs.declared.pump.status.Status.TheVariants.{Done, Usage, BadInput, ReadFault, WriteFault}
+use Rattle.zre_commands.specs.declared.pump.status.Status.TheVariants.{WorldFault, NoThread, TooLong, OutOfMemory}
 use Rattle.zre_chat.specs.Chat.{Seen, started}
 use Rattle.zre_chat.specs.Keeping.{head_of}
 

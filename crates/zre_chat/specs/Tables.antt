@@ -1,7 +1,8 @@
 -- The pipes before any step.
 use Rattle.std.specs.Prelude.{◌≡◌, ◌≢◌, ◌≤◌, ◌+◌, [], None, length}
 use Rattle.std.specs.Arc.{arc_value}
-use Rattle.zre_actor.specs.Passes.{IsActorOf, IsCallerOf, IsTakerOf, IsNew, number, given_of, room_of, unused_by, popped_by, raised_by, ending_of, taken_by, last_of}
+use Rattle.zre_actor.specs.Passes.{IsActorOf, IsCallerOf, IsTakerOf, IsNew, number, given_of, room_of, unused_by}
+use Rattle.zre_actor.specs.Passes.{popped_by, raised_by, ending_of, taken_by, last_of}
 use Rattle.zre_chat.specs.declared.table.Table.{Table}
 
 -- all passes belong to the pipes, and nothing was done with any; the two callers put under two numbers

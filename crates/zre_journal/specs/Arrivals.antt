@@ -1,6 +1,7 @@
 -- What comes about where a connection is opened or shut, and at what arrives on it: its greeting, READY, PINGs, its
 -- first message and later ones.
-use Rattle.std.specs.Prelude.{ℕ, ◌+◌, not, ◌&&◌, List, [], ◌∷◌, ◌++◌, Option, Some, None, if◌then◌else◌, nat_eq, nat_lt, length}
+use Rattle.std.specs.Prelude.{ℕ, ◌+◌, not, ◌&&◌, List, [], ◌∷◌, ◌++◌, Option, Some, None, if◌then◌else◌, nat_eq, nat_lt}
+use Rattle.std.specs.Prelude.{length}
 use Rattle.zre_values.specs.declared.peer_id.PeerId.{PeerId}
 use Rattle.zre_values.specs.declared.endpoint.Endpoint.{Endpoint}
 use Rattle.zre_mailbox.specs.declared.arrival.Arrival.{Arrival}
@@ -18,7 +19,8 @@ use Rattle.zre_peer.specs.declared.causes.Cause.TheVariants as cause
 use Rattle.zre_peer.specs.declared.causes.CloseWhy.TheVariants as close
 use Rattle.zre_peer.specs.declared.causes.IgnoreWhy.TheVariants as ignore
 use Rattle.zre_journal.specs.declared.config.Config.{Config}
-use Rattle.zre_journal.specs.Chronicle.{Mark, Opens, TurnsAway, Greets, Shakes, AnswersPing, Starts, Counts, Ignores, Closes, IsShut, Ends, in_turn}
+use Rattle.zre_journal.specs.Chronicle.{Mark, Opens, TurnsAway, Greets, Shakes, AnswersPing, Starts, Counts, Ignores}
+use Rattle.zre_journal.specs.Chronicle.{Closes, IsShut, Ends, in_turn}
 use Rattle.zre_journal.specs.Connections.{open_ones, is_open, is_new, identity, runs, is_live, other_with}
 use Rattle.zre_journal.specs.Peers.{Life, lives, births, life_of, counted}
 use Rattle.zre_journal.specs.Pushes.{push, birth}

@@ -1,6 +1,7 @@
 -- What a node is asked after a journal: who is entered and with what view, what the links of known peers have to
 -- send, and what it holds.
-use Rattle.std.specs.Prelude.{◌≡◌, ◌≢◌, ℕ, ◌<◌, List, [], ◌++◌, Option, Some, None, option_map, option_and_then, map, length, if◌then◌else◌, IsSome}
+use Rattle.std.specs.Prelude.{◌≡◌, ◌≢◌, ℕ, ◌<◌, List, [], ◌++◌, Option, Some, None, option_map, option_and_then, map}
+use Rattle.std.specs.Prelude.{length, if◌then◌else◌, IsSome}
 use Rattle.std.specs.List.{filter, AllByRecursion}
 use Rattle.zre_values.specs.declared.peer_id.PeerId.{PeerId}
 use Rattle.zre_outside.specs.declared.act.Act.{Act}

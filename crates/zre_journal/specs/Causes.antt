@@ -1,5 +1,6 @@
 -- Why a known peer ends at a place of the journal: the table of causes, a row for each kind of place.
-use Rattle.std.specs.Prelude.{◌≡◌, ℕ, ◌+◌, ◌%◌, Bool, false, not, ◌&&◌, ◌||◌, List, ◌∷◌, ◌++◌, [], Option, Some, None, if◌then◌else◌, nat_eq, nat_lt, nat_le, length, is_none}
+use Rattle.std.specs.Prelude.{◌≡◌, ℕ, ◌+◌, ◌%◌, Bool, false, not, ◌&&◌, ◌||◌, List, ◌∷◌, ◌++◌, [], Option, Some, None}
+use Rattle.std.specs.Prelude.{if◌then◌else◌, nat_eq, nat_lt, nat_le, length, is_none}
 use Rattle.std.specs.List.{filter_map, cons_option}
 use Rattle.std.specs.Option.{option_and_then, option_map_or}
 use Rattle.std.specs.Str.{bytes_eq}
@@ -54,7 +55,8 @@ module _ (g : Config) where
 
   abbrev pub may_join : List ℕ → List Mark → Bool
   may_join group K =
-      not (nat_lt GROUP_OCTETS (length group)) && (not (has_group group (groups K)) && not (nat_le OWN_GROUPS (length (groups K))))
+      not (nat_lt GROUP_OCTETS (length group)) &&
+          (not (has_group group (groups K)) && not (nat_le OWN_GROUPS (length (groups K))))
 
   abbrev pub may_shout : List ℕ → List (List ℕ) → Bool
   may_shout group content = not (nat_lt GROUP_OCTETS (length group) || is_too_big g (body.Shout group content))
@@ -64,7 +66,8 @@ module _ (g : Config) where
   due_by (command.Join group) K v = where_so (may_join group K) (body.Join group ((status K + 1) % 256))
   due_by (command.Leave group) K v = where_so (has_group group (groups K)) (body.Leave group ((status K + 1) % 256))
   due_by (command.Whisper p content) K v =
-      where_so (bytes_eq p.0 v.id.0 && (is_entered K v && not (is_too_big g (body.Whisper content)))) (body.Whisper content)
+      where_so (bytes_eq p.0 v.id.0 &&
+          (is_entered K v && not (is_too_big g (body.Whisper content)))) (body.Whisper content)
   due_by (command.Shout group content) K v =
       where_so (may_shout group content && is_member g group K v) (body.Shout group content)
   due_by _ K v = None
@@ -73,7 +76,8 @@ module _ (g : Config) where
   abbrev pub slow_by : ℕ → Option Body → List Mark → Option Cause
   slow_by l None K = None
   slow_by l (Some b) K =
-      let size = size_of (line l K) b in where_so (nat_lt UNSENT_OCTETS (unsent g l K + size)) (cause.Slow (unsent g l K) size)
+      let size = size_of (line l K) b in
+      where_so (nat_lt UNSENT_OCTETS (unsent g l K + size)) (cause.Slow (unsent g l K) size)
 
   -- ---- the table
 

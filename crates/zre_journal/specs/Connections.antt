@@ -1,10 +1,12 @@
 -- Connections: open, waiting, running or ignored.
-use Rattle.std.specs.Prelude.{ℕ, Bool, true, false, not, ◌&&◌, ◌||◌, List, [], ◌∷◌, ◌++◌, Option, Some, None, if◌then◌else◌, nat_eq, nat_lt, is_some, is_none}
+use Rattle.std.specs.Prelude.{ℕ, Bool, true, false, not, ◌&&◌, ◌||◌, List, [], ◌∷◌, ◌++◌, Option, Some, None}
+use Rattle.std.specs.Prelude.{if◌then◌else◌, nat_eq, nat_lt, is_some, is_none}
 use Rattle.std.specs.Option.{option_and_then, option_map_or}
 use Rattle.std.specs.List.{list_any, filter, find}
 use Rattle.zre_values.specs.declared.peer_id.PeerId.{PeerId}
 use Rattle.std.specs.Str.{bytes_eq}
-use Rattle.zre_journal.specs.Chronicle.{Mark, Opens, TurnsAway, Shakes, Starts, Ignores, Closes, IsShut, ClosesAtStop, Ends, latest, ever}
+use Rattle.zre_journal.specs.Chronicle.{Mark, Opens, TurnsAway, Shakes, Starts, Ignores, Closes, IsShut, ClosesAtStop}
+use Rattle.zre_journal.specs.Chronicle.{Ends, latest, ever}
 use Rattle.zre_journal.specs.Heard.{clock}
 
 -- the numbers but n

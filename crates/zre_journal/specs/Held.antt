@@ -1,7 +1,8 @@
 -- The octets that a node holds of its peers, and how many they are at most.
 use Rattle.std.specs.Prelude.{ℕ, ◌+◌, ◌*◌, ◌≤◌, List, length, if◌then◌else◌, sum_by}
 use Rattle.std.specs.List.{filter, AllByRecursion}
-use Rattle.zre_values.specs.declared.limits.TheConstants.{PEERS, CONNECTIONS, MESSAGE_OCTETS, COMMAND_OCTETS, GROUPS, HEADERS, GROUP_OCTETS, OWN_GROUPS, UNSENT_OCTETS}
+use Rattle.zre_values.specs.declared.limits.TheConstants.{PEERS, CONNECTIONS, MESSAGE_OCTETS, COMMAND_OCTETS, GROUPS}
+use Rattle.zre_values.specs.declared.limits.TheConstants.{HEADERS, GROUP_OCTETS, OWN_GROUPS, UNSENT_OCTETS}
 use Rattle.zre_zmtp.specs.declared.want.Want.{Want}
 use Rattle.zre_zmtp.specs.declared.want.Want.TheVariants.{Router, Dealer}
 use Rattle.zre_zmtp.specs.Stream.{Whole, opened, split}

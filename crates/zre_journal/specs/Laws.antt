@@ -1,5 +1,6 @@
 -- What holds of every journal.
-use Rattle.std.specs.Prelude.{◌≡◌, ℕ, ◌≤◌, true, false, List, ◌++◌, Option, Some, None, IsSome, if◌then◌else◌, nat_eq, length}
+use Rattle.std.specs.Prelude.{◌≡◌, ℕ, ◌≤◌, true, false, List, ◌++◌, Option, Some, None, IsSome, if◌then◌else◌, nat_eq}
+use Rattle.std.specs.Prelude.{length}
 use Rattle.std.specs.List.{filter}
 use Rattle.zre_values.specs.declared.limits.TheConstants.{PEERS, CONNECTIONS}
 use Rattle.zre_values.specs.declared.peer_id.PeerId.{PeerId}

@@ -5,7 +5,8 @@ use Rattle.zre_peer.specs.declared.causes.CloseWhy.TheVariants as close
 use Rattle.zre_peer.specs.declared.event.Event.{Event}
 use Rattle.zre_peer.specs.declared.event.Event.TheVariants as event
 use Rattle.zre_msg.specs.declared.message.Message.{Message}
-use Rattle.zre_journal.specs.Chronicle.{Mark, TurnsAway, Starts, Counts, Ignores, Closes, Ends, IsEvasive, Refuses, Stops}
+use Rattle.zre_journal.specs.Chronicle.{Mark, TurnsAway, Starts, Counts, Ignores, Closes, Ends, IsEvasive, Refuses}
+use Rattle.zre_journal.specs.Chronicle.{Stops}
 use Rattle.zre_peer.specs.Runs.{events_of}
 use Rattle.zre_journal.specs.Peers.{Life, life, is_entered, view}
 

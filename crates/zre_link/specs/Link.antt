@@ -1,5 +1,6 @@
 -- What a link keeps, as a function of its line, of what came back and of what went out.
-use Rattle.std.specs.Prelude.{◌≡◌, ℕ, ◌+◌, ◌-◌, ◌<◌, min, nat_lt, Bool, if◌then◌else◌, List, [], ◌∷◌, ◌++◌, length, take, drop, map, Option, Some, None}
+use Rattle.std.specs.Prelude.{◌≡◌, ℕ, ◌+◌, ◌-◌, ◌<◌, min, nat_lt, Bool, if◌then◌else◌, List, [], ◌∷◌, ◌++◌, length}
+use Rattle.std.specs.Prelude.{take, drop, map, Option, Some, None}
 use Rattle.zre_values.specs.declared.limits.TheConstants.{UNSENT_OCTETS}
 use Rattle.zre_values.specs.declared.peer_id.PeerId.{PeerId}
 use Rattle.zre_zmtp.specs.Written.{pong_frame}
@@ -106,7 +107,8 @@ answering own line n ts = line ++ map (λ t. Pongs t) (answered (unsent_of own l
 
 -- the link after one more piece of replies: the PINGs that are whole with it are answered, in their order
 abbrev pub link_answering : PeerId → List Member → Bool → List ℕ → ℕ → List ℕ → Sending
-link_answering own line linked o n piece = link_after own (answering own line n (new_pings o piece)) linked (o ++ piece) n
+link_answering own line linked o n piece =
+    link_after own (answering own line n (new_pings o piece)) linked (o ++ piece) n
 
 -- the PONG that has no room among those that answer one more piece
 abbrev pub slow_in : PeerId → List Member → List ℕ → ℕ → List ℕ → Option (ℕ × ℕ)

@@ -1,6 +1,8 @@
 -- What an incoming connection says, read off all of its octets: its greeting, READY, its PINGs and the messages of ZRE
 -- in the order of their ends, and its fault.
-use Rattle.std.specs.Prelude.{◌≡◌, ◌≢◌, ◌⊎◌, ℕ, Bool, true, false, ◌==◌, ◌&&◌, if◌then◌else◌, List, [], ◌∷◌, ◌++◌, length, drop, map, slice_index, Option, Some, None, option_map, option_and_then, option_to_list}
+use Rattle.std.specs.Prelude.{◌≡◌, ◌≢◌, ◌⊎◌, ℕ, Bool, true, false, ◌==◌, ◌&&◌, if◌then◌else◌, List, [], ◌∷◌, ◌++◌}
+use Rattle.std.specs.Prelude.{length, drop, map, slice_index, Option, Some, None, option_map, option_and_then}
+use Rattle.std.specs.Prelude.{option_to_list}
 use Rattle.std.specs.Result.{result_ok}
 use Rattle.std.specs.List.{filter_map, list_any, AllByRecursion}
 use Rattle.zre_values.specs.declared.peer_id.PeerId.{PeerId}

@@ -1,5 +1,6 @@
 -- Messages that lie in their frames, as the messages that they are.
-use Rattle.std.specs.Prelude.{◌≡◌, ◌≤◌, ℕ, List, [], length, slice_index, slice_index_or, Option, Some, None, Result, Ok, Err}
+use Rattle.std.specs.Prelude.{◌≡◌, ◌≤◌, ℕ, List, [], length, slice_index, slice_index_or, Option, Some, None, Result}
+use Rattle.std.specs.Prelude.{Ok, Err}
 use Rattle.zre_msg.specs.declared.commands.Command.{Command}
 use Rattle.zre_msg.specs.declared.lent.LentMessage.{LentMessage}
 use Rattle.zre_msg.specs.declared.message.Message.{Message}

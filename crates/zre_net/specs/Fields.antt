@@ -1,5 +1,6 @@
 -- Lines as they are read: the move of a line.
-use Rattle.std.specs.Prelude.{ℕ, ◌&&◌, nat_le, nat_lt, ◌^◌, List, [], ◌∷◌, length, Option, Some, None, if◌then◌else◌, option_map, codes}
+use Rattle.std.specs.Prelude.{ℕ, ◌&&◌, nat_le, nat_lt, ◌^◌, List, [], ◌∷◌, length, Option, Some, None, if◌then◌else◌}
+use Rattle.std.specs.Prelude.{option_map, codes}
 use Rattle.std.specs.Str.{bytes_eq}
 use Rattle.zre_values.specs.declared.peer_id.PeerId.{PeerId}
 use Rattle.zre_capture.specs.Parts.{◌>>=◌, two}

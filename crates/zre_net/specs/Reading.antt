@@ -1,5 +1,6 @@
 -- Schedules as they are read: a head, and a line for each move.
-use Rattle.std.specs.Prelude.{ℕ, ◌+◌, ◌==◌, Bool, not, ◌&&◌, nat_le, if◌then◌else◌, List, [], ◌∷◌, length, Option, Some, None, is_some, codes}
+use Rattle.std.specs.Prelude.{ℕ, ◌+◌, ◌==◌, Bool, not, ◌&&◌, nat_le, if◌then◌else◌, List, [], ◌∷◌, length, Option, Some}
+use Rattle.std.specs.Prelude.{None, is_some, codes}
 use Rattle.std.specs.Str.{bytes_eq}
 use Rattle.zre_capture.specs.Parts.{between}
 use Rattle.zre_capture.specs.declared.format.TheConstants.{LINE_OCTETS}

@@ -1,5 +1,6 @@
 -- A network that has run a history.
-use Rattle.std.specs.Prelude.{◌≡◌, ℕ, Bool, true, ◌+◌, ◌<◌, List, [], ◌∷◌, length, map, Option, Some, None, is_some, sum_by}
+use Rattle.std.specs.Prelude.{◌≡◌, ℕ, Bool, true, ◌+◌, ◌<◌, List, [], ◌∷◌, length, map, Option, Some, None, is_some}
+use Rattle.std.specs.Prelude.{sum_by}
 use Rattle.std.specs.List.{AllByRecursion}
 use Rattle.zre_outside.specs.declared.entry.Input.{Input}
 use Rattle.zre_outside.specs.declared.entry.Input.TheVariants as input
@@ -132,12 +133,14 @@ pub record IsTaken (m : Move) (H : List Happening) (good : Bool) (net : Network)
 -- the start at which a connection opened, where that still runs
 abbrev pub Receives : List Happening → Option Conn → Option ℕ → Type 0
 Receives H None found = found ≡ None
-Receives H (Some c) found = (is_some found ≡ is_there H c.to) × ((k : ℕ) → found ≡ Some k → k ≡ c.to.number) × IsKnown H c.to
+Receives H (Some c) found = (is_some found ≡ is_there H c.to) ×
+    ((k : ℕ) → found ≡ Some k → k ≡ c.to.number) × IsKnown H c.to
 
 -- the start of the node of a link, where that still runs, and the link's number there
 abbrev pub Sends : List Happening → Option Route → Option Way → Type 0
 Sends H None found = found ≡ None
-Sends H (Some s) found = (is_some found ≡ is_there H s.from) × ((w : Way) → found ≡ Some w → w ≡ way_of s) × IsKnown H s.from
+Sends H (Some s) found = (is_some found ≡ is_there H s.from) ×
+    ((w : Way) → found ≡ Some w → w ≡ way_of s) × IsKnown H s.from
 
 -- ---- many moves
 

@@ -8,8 +8,6 @@ pub mod limits;
 mod moves;
 mod reading;
 mod running;
-#[cfg(test)]
-mod tests;
 mod word;
 
 pub use fault::{BadSchedule, ScheduleFault};

@@ -1,5 +1,6 @@
 -- What is read off the rows of known peers.
-use Rattle.std.specs.Prelude.{ℕ, List, [], ◌∷◌, Option, None, is_some, option_and_then, option_map, if◌then◌else◌, map, drop, length}
+use Rattle.std.specs.Prelude.{ℕ, List, [], ◌∷◌, Option, None, is_some, option_and_then, option_map, if◌then◌else◌, map}
+use Rattle.std.specs.Prelude.{drop, length}
 use Rattle.std.specs.Str.{bytes_eq}
 use Rattle.zre_values.specs.declared.peer_id.PeerId.{PeerId}
 use Rattle.zre_outside.specs.declared.entry.Entry.{Entry}
@@ -33,7 +34,8 @@ sent_after g J l = option_map (λ (v : Life). length (bodies v.link (chronicle g
 -- the octets that wait on a link, where it is that of a known peer
 abbrev pub waiting_after : Config → List Entry → ℕ → Option (List ℕ)
 waiting_after g J l =
-    option_map (λ (v : Life). drop (taken v.link (chronicle g J)) (text g v.link (chronicle g J))) (life l (chronicle g J))
+    option_map (λ (v : Life). drop (taken v.link (chronicle g J)) (text g v.link (chronicle g J)))
+        (life l (chronicle g J))
 
 -- the links of the known peers, in order of birth
 abbrev pub links_after : Config → List Entry → List ℕ

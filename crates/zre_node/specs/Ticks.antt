@@ -1,5 +1,6 @@
 -- A tick, as the tables see it.
-use Rattle.std.specs.Prelude.{◌≡◌, ℕ, ◌-◌, Bool, true, false, not, ◌&&◌, List, [], ◌∷◌, None, if◌then◌else◌, nat_eq, nat_le, IsSome, is_some, is_none}
+use Rattle.std.specs.Prelude.{◌≡◌, ℕ, ◌-◌, Bool, true, false, not, ◌&&◌, List, [], ◌∷◌, None, if◌then◌else◌, nat_eq}
+use Rattle.std.specs.Prelude.{nat_le, IsSome, is_some, is_none}
 use Rattle.std.specs.List.{AllByRecursion}
 use Rattle.zre_msg.specs.declared.message.Body.TheVariants as body
 use Rattle.zre_journal.specs.declared.config.Config.{Config}

@@ -5,7 +5,8 @@ use Rattle.zre_values.specs.Text.{id_text, quoted, quoted_list, quoted_pairs}
 use Rattle.zre_values.specs.declared.peer_id.PeerId.{PeerId}
 use Rattle.zre_peer.specs.Causes.{cause_text, close_text, ignore_text, refuse_text}
 use Rattle.zre_peer.specs.declared.event.Event.{Event}
-use Rattle.zre_peer.specs.declared.event.Event.TheVariants.{Enter, Join, Leave, Whisper, Shout, Evasive, Exit, Stop, Closed, Ignored, Refused}
+use Rattle.zre_peer.specs.declared.event.Event.TheVariants.{Enter, Join, Leave, Whisper, Shout, Evasive, Exit, Stop}
+use Rattle.zre_peer.specs.declared.event.Event.TheVariants.{Closed, Ignored, Refused}
 
 -- who the peer is, before further fields: its identity and its name
 abbrev pub who_text : PeerId → List ℕ → List ℕ

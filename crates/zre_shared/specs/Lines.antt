@@ -6,7 +6,8 @@ use Rattle.zre_shared.specs.declared.write.Write.{Write}
 -- the key, the count, the identity and the value, with one space between, and a line feed
 abbrev pub line : Write → List ℕ
 line w =
-    quoted w.key ++ codes " " ++ decimal w.count ++ codes " " ++ id_text w.id ++ codes " " ++ quoted w.value ++ codes "\n"
+    quoted w.key ++ codes " " ++ decimal w.count ++ codes " " ++ id_text w.id ++ codes " " ++ quoted w.value ++
+        codes "\n"
 
 -- the lines of a table
 abbrev pub lines : List Write → List ℕ

@@ -5,7 +5,8 @@ use Rattle.zre_actor.specs.declared.passes.ActorPass.{ActorPass}
 use Rattle.zre_actor.specs.declared.passes.CallerPass.{CallerPass}
 use Rattle.zre_actor.specs.declared.passes.CallerPasses.{CallerPasses}
 use Rattle.zre_actor.specs.declared.passes.TakerPass.{TakerPass}
-use Rattle.zre_actor.specs.Passes.{IsActorOf, IsCallerOf, IsTakerOf, given_of, room_of, unused_by, ending_of, ended, last_of}
+use Rattle.zre_actor.specs.Passes.{IsActorOf, IsCallerOf, IsTakerOf, given_of, room_of, unused_by, ending_of, ended}
+use Rattle.zre_actor.specs.Passes.{last_of}
 
 pub record IsReady (pipes : Pipes) (actor : ActorPass) (callers : CallerPasses) (first second : CallerPass)
     (taker : TakerPass) : Type 0 where

@@ -2,6 +2,7 @@ pub mod Addresses
 pub mod Answered
 pub mod Digits
 pub mod Endpoints
+pub mod Numbers
 pub mod Orders
 pub mod Plain
 pub mod PlainIds

@@ -1,5 +1,6 @@
 -- The texts of small values: identities, and octets in quotes.
-use Rattle.std.specs.Prelude.{ℕ, ◌+◌, ◌/◌, ◌%◌, ◌==◌, nat_lt, nat_le, not, ◌&&◌, Bool, List, [], ◌∷◌, ◌++◌, if◌then◌else◌, flat_map}
+use Rattle.std.specs.Prelude.{ℕ, ◌+◌, ◌/◌, ◌%◌, ◌==◌, nat_lt, nat_le, not, ◌&&◌, Bool, List, [], ◌∷◌, ◌++◌}
+use Rattle.std.specs.Prelude.{if◌then◌else◌, flat_map}
 use Rattle.std.specs.List.{join_by}
 use Rattle.uuid.specs.Text.{simple_text, upper}
 use Rattle.zre_values.specs.declared.peer_id.PeerId.{PeerId}

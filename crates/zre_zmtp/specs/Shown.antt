@@ -1,5 +1,6 @@
 -- How the fields of a reader are seen, and what a turn over some octets does.
-use Rattle.std.specs.Prelude.{◌≡◌, ◌≢◌, ℕ, ◌+◌, ◌-◌, ◌≤◌, ◌==◌, if◌then◌else◌, nat_le, Bool, false, List, [], ◌++◌, length, Option, Some, None, option_map, sum_by}
+use Rattle.std.specs.Prelude.{◌≡◌, ◌≢◌, ℕ, ◌+◌, ◌-◌, ◌≤◌, ◌==◌, if◌then◌else◌, nat_le, Bool, false, List, [], ◌++◌}
+use Rattle.std.specs.Prelude.{length, Option, Some, None, option_map, sum_by}
 use Rattle.std.specs.Option.{option_or}
 use Rattle.zre_zmtp.specs.declared.fault.ZmtpWhy.{ZmtpWhy}
 use Rattle.zre_zmtp.specs.declared.progress.Progress.{Progress}
@@ -8,7 +9,8 @@ use Rattle.zre_zmtp.specs.declared.expected.Expected.{Expected}
 use Rattle.zre_zmtp.specs.declared.expected.Expected.TheVariants as expect
 use Rattle.zre_zmtp.specs.declared.item.Item.{Item}
 use Rattle.zre_zmtp.specs.Frame.{is_message, flags, size, has_header, header_len, header_of}
-use Rattle.zre_zmtp.specs.Stream.{Want, Before, once, flags_fault, size_fault, fault_of, whole_len, said, start_of, opened_by}
+use Rattle.zre_zmtp.specs.Stream.{Want, Before, once, flags_fault, size_fault, fault_of, whole_len, said, start_of}
+use Rattle.zre_zmtp.specs.Stream.{opened_by}
 use Rattle.zre_zmtp.specs.Run.{Found, run_all}
 use Rattle.zre_zmtp.specs.declared.fault.FeedFault.{FeedFault}
 use Rattle.zre_zmtp.specs.Reading.{ReadsAll, Refuses}
@@ -76,6 +78,13 @@ room expect.Ready None body = 1
 room expect.Ready (Some h) body = h.size - length body
 room expect.Traffic None body = 1
 room expect.Traffic (Some h) body = h.size - length body
+
+-- No octets are kept, and all of this header stands at the front of the octets o.
+pub record HasHeader (p : Progress) (h : Header) (o : List ℕ) : Type 0 where
+  pub frame : p.expected ≢ expect.Greeting
+  pub no_head : p.partial.head ≡ []
+  pub no_body : p.partial.body ≡ []
+  pub header : header_of o ≡ Some h
 
 -- No octets are kept, and all of a frame with this header stands at the front of the octets o.
 pub record BeginsFrame (p : Progress) (h : Header) (o : List ℕ) : Type 0 where

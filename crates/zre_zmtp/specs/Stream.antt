@@ -1,6 +1,8 @@
 -- A stream of ZMTP 3 with the NULL mechanism (RFC 23), all octets of it at once: which parts of it are whole, what
 -- they say, and the first fault. A part is the greeting or a frame.
-use Rattle.std.specs.Prelude.{◌≡◌, ℕ, zero, suc, ◌+◌, ◌-◌, Bool, true, false, not, ◌&&◌, nat_le, nat_lt, ◌==◌, if◌then◌else◌, List, [], ◌∷◌, ◌++◌, length, take, drop, slice_index, Option, Some, None, option_map, option_to_list, unwrap_or, is_some, codes, bytes_eq, sum_by}
+use Rattle.std.specs.Prelude.{◌≡◌, ℕ, zero, suc, ◌+◌, ◌-◌, Bool, true, false, not, ◌&&◌, nat_le, nat_lt, ◌==◌}
+use Rattle.std.specs.Prelude.{if◌then◌else◌, List, [], ◌∷◌, ◌++◌, length, take, drop, slice_index, Option, Some, None}
+use Rattle.std.specs.Prelude.{option_map, option_to_list, unwrap_or, is_some, codes, bytes_eq, sum_by}
 use Rattle.std.specs.Option.{option_or}
 use Rattle.zre_values.specs.declared.limits.TheConstants.{MESSAGE_OCTETS, MESSAGE_FRAMES, COMMAND_OCTETS}
 use Rattle.zre_zmtp.specs.Frame.{is_flags, is_message, has_more, flags, has_header, size, frame_len, is_whole, body}

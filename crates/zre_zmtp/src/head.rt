@@ -1,6 +1,6 @@
 //! The header of a frame, octet by octet.
 
-ghost use Rattle.std.specs.Prelude.{◌≡◌, ◌<◌, List, [], ◌∷◌, ◌++◌, length};
+ghost use Rattle.std.specs.Prelude.{◌≡◌, ◌≤◌, ◌<◌, List, [], ◌∷◌, ◌++◌, length};
 
 use std::marker::Model;
 
@@ -30,6 +30,18 @@ impl Head {
             octets: [0; 9],
             count: 0,
         }
+    }
+
+    /// These octets have come.
+    pub fn of(octets: &[u8]) -> Self
+        requires { length octets.now ≤ 9 }
+        ensures { result ≡ octets.now }
+    {
+        let mut head = Head::new();
+        for octet in octets {
+            head.push(*octet);
+        }
+        head
     }
 
     /// The octets that have come.

@@ -2,6 +2,7 @@
 //! in any pieces, and what this node writes of them.
 #![tactic(auto)]
 
+mod begun;
 mod command;
 mod expected;
 mod fault;

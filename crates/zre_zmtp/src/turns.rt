@@ -13,6 +13,7 @@ ghost use Rattle.zre_zmtp.specs.Shown.{room as room_of};
 ghost use Rattle.zre_zmtp.specs.Reading.{Refuses};
 ghost use Rattle.zre_zmtp.specs.Looks.{Looks, IsPaid, IsPaidOnRefusal};
 
+use crate::begun::{begin_frame, header_at};
 use crate::command::{command_fault, identity, name, socket_type};
 use crate::expected::Expected;
 use crate::fault::{FeedFault, ZmtpFault, ZmtpWhy};
@@ -338,22 +339,6 @@ fn take_body<L: Ledger>(
     take_frame(want, progress, header, head.as_slice(), body.finish(), out)
 }
 
-// What the header at the front of some octets says, where nothing is kept and all of that frame is there.
-fn whole_frame(progress: &Progress, octets: &[u8]) -> Option<Header>
-    ensures { IfSome result (λ header. BeginsFrame progress.now header octets.now) }
-{
-    if progress.expected == Expected::Greeting || progress.partial.head.len() > 0 {
-        return None;
-    }
-    let header = read_header(octets)?;
-    let (_, later) = octets.split_at(header_len(octets));
-    if header.size <= later.len() as u64 {
-        Some(header)
-    } else {
-        None
-    }
-}
-
 // Whether a frame with this header belongs to a message after READY.
 fn is_content(progress: &Progress, header: Header) -> bool
     ensures { result ≡ is_content_of progress.now.expected header.flags }
@@ -479,8 +464,8 @@ fn take_part<L: Ledger>(
     }
 }
 
-/// Takes octets from the front of these: a whole frame, where one begins there, and else octets of the part that
-/// isn't whole. It gives how many it took.
+/// Takes octets from the front of these: a whole frame, where one begins there, or all of one that isn't whole but has
+/// its header, and else octets of the part that isn't whole. It gives how many it took.
 pub fn take_turn<L: Ledger>(
     want: &Want,
     progress: &mut Progress,
@@ -499,11 +484,16 @@ pub fn take_turn<L: Ledger>(
     ensures looks { IfOk result (λ len. IsPaid steps.old steps.new (held progress.old) (held progress.new) len) }
     ensures refused_looks { OnErr result (IsPaidOnRefusal steps.old steps.new (held progress.old) (length octets.now)) }
 {
-    if let Some(header) = whole_frame(progress, octets) {
+    let Some(header) = header_at(progress, octets) else {
+        let len = room(progress).min(octets.len() as u64) as usize;
+        let (front, _) = octets.split_at(len);
+        take_part(want, progress, front, out, steps)?;
+        return Ok(len);
+    };
+    let (_, later) = octets.split_at(header_len(octets));
+    if header.size <= later.len() as u64 {
         return take_whole(want, progress, header, octets, out, steps);
     }
-    let len = room(progress).min(octets.len() as u64) as usize;
-    let (front, _) = octets.split_at(len);
-    take_part(want, progress, front, out, steps)?;
-    Ok(len)
+    begin_frame(progress, header, octets, steps)?;
+    Ok(octets.len())
 }

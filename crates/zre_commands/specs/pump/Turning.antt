@@ -8,7 +8,8 @@ use Rattle.zre_commands.specs.pump.Meaning.{Meaning}
 use Rattle.zre_commands.specs.declared.pump.pumping.Next.{Next}
 use Rattle.zre_commands.specs.declared.pump.pumping.Next.TheVariants as nexts
 use Rattle.zre_commands.specs.declared.pump.status.Status.{Status}
-use Rattle.zre_commands.specs.declared.pump.status.Status.TheVariants.{Done, Usage, BadInput, ReadFault, WriteFault, WorldFault, NoThread, TooLong, OutOfMemory}
+use Rattle.zre_commands.specs.declared.pump.status.Status.TheVariants.{Done, Usage, BadInput, ReadFault, WriteFault}
+use Rattle.zre_commands.specs.declared.pump.status.Status.TheVariants.{WorldFault, NoThread, TooLong, OutOfMemory}
 
 -- the text of a piece after o was written
 pub record WritesText (m : Meaning) (o piece : List ℕ) (written written' : Option (List ℕ)) : Type 0 where

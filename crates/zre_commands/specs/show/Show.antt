@@ -1,6 +1,7 @@
 -- What `show` makes of the octets of a whole stream, from the greeting on. Any socket type and any identity may stand
 -- in READY.
-use Rattle.std.specs.Prelude.{ℕ, Bool, not, ◌&&◌, ◌||◌, ◌==◌, List, [], length, Option, Some, None, is_some, if◌then◌else◌}
+use Rattle.std.specs.Prelude.{ℕ, Bool, not, ◌&&◌, ◌||◌, ◌==◌, List, [], length, Option, Some, None, is_some}
+use Rattle.std.specs.Prelude.{if◌then◌else◌}
 use Rattle.zre_commands.specs.pump.Lines.{bad_line}
 use Rattle.zre_commands.specs.pump.Meaning.{Meaning}
 use Rattle.zre_zmtp.specs.Stream.{Whole, items, fault, opened, split}

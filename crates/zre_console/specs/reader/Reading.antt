@@ -7,7 +7,8 @@ use Rattle.zre_outside.specs.Told.{Moves}
 use Rattle.zre_actor.specs.declared.passes.CallerPass.{CallerPass}
 use Rattle.zre_console.specs.lines.Orders.{is_quit, typed, orders, Begins}
 use Rattle.zre_console.specs.declared.reader.ending.InputEnd.{InputEnd}
-use Rattle.zre_console.specs.declared.reader.ending.InputEnd.TheVariants.{Quit, AtEnd, Over, ReadFault, TooLong, OutOfMemory}
+use Rattle.zre_console.specs.declared.reader.ending.InputEnd.TheVariants.{Quit, AtEnd, Over, ReadFault, TooLong}
+use Rattle.zre_console.specs.declared.reader.ending.InputEnd.TheVariants.{OutOfMemory}
 use Rattle.zre_console.specs.reader.Putting.{Puts, IsClose, IsShort}
 
 -- these begin the orders of a text, but for a quit that may stand after them
