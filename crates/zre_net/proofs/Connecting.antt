@@ -1,8 +1,8 @@
 -- The connections of a network, after an entry of one of its nodes.
-use Rattle.std.proofs.Common.{◌≡◌, ◌⊎◌, ℕ, ◌+◌, ◌≤◌, ◌<◌, Bool, true, false, cond, eqb, List, [], ◌∷◌, ◌++◌, length, Option, Some, None, refl, sym, ap, ◌∙◌, subst, inl, inr, arith, eqb-true, eq-eqb, append-nil}
+use Rattle.std.proofs.Common.{◌≡◌, ℕ, Bool, true, false, eqb, List, [], ◌∷◌, length, Some, refl, sym, ap, ◌∙◌, subst, arith, eqb-true}
 use Rattle.std.specs.Prelude.{sum_by, Result, Ok, Err, OnOk}
 use Rattle.zre_outside.specs.declared.entry.Input.{Input}
-use Rattle.zre_journal.specs.Chronicle.{Mark, Comes}
+use Rattle.zre_journal.specs.Chronicle.{Mark}
 use Rattle.zre_journal.specs.Heard.{bytes, piece_of}
 use Rattle.zre_net.specs.declared.moves.Move.{Move}
 use Rattle.zre_net.specs.declared.running.ear.Ear.{Ear}
@@ -10,17 +10,14 @@ use Rattle.zre_net.specs.declared.running.network.Network.{Network}
 use Rattle.zre_net.specs.declared.running.rows.Carrier.{Carrier}
 use Rattle.zre_net.specs.Carried.{pending}
 use Rattle.zre_net.specs.Comes.{turn_of}
-use Rattle.zre_net.specs.History.{Incarnation, Turn, Happening, Happens, incarnations, journal, chronicle_of}
+use Rattle.zre_net.specs.History.{Incarnation, Turn, Happening, Happens, IsKnown, journal, chronicle_of}
 use Rattle.zre_net.specs.Lists.{nth}
 use Rattle.zre_net.specs.Numbers.{Conn, conns}
 use Rattle.zre_net.specs.Rows.{Fits}
-use Rattle.zre_net.specs.Running.{IsKnown, AreNodes, IsConn, HasConn, AreConns, StandsAfter, IsStill, IsKept, IsSilent}
-use Rattle.zre_net.proofs.Hearing.{bytes_same, fits_still, no_piece}
-use Rattle.zre_net.proofs.Listing.{some_one}
-use Rattle.zre_net.proofs.Stepping.{chronicle_now, other_chronicle}
-
-pub same_who : (H : List Happening) (a b : Incarnation) → IsKnown H a → IsKnown H b → a.number ≡ b.number → a ≡ b
-same_who H a b p q e = some_one (sym p ∙ ap (λ n. nth n (incarnations H)) e ∙ q)
+use Rattle.zre_net.specs.Running.{AreNodes, IsConn, HasConn, AreConns, StandsAfter, IsStill, IsKept, IsSilent}
+use Rattle.zre_net.proofs.Hearing.{fits_still, no_piece}
+use Rattle.zre_net.proofs.Opened.{bytes_same}
+use Rattle.zre_net.proofs.Journals.{same_who, chronicle_now, other_chronicle}
 
 module _ (H : List Happening) (m : Move) (still : IsStill m) (a : Incarnation) (at : ℕ) (i : Input) (a_known : IsKnown H a) where
   abbrev T : Turn

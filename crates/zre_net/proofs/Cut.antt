@@ -1,9 +1,6 @@
 -- A node that was told octets in two pieces stands for the journal that has them in one.
-use Rattle.std.proofs.Common.{◌≡◌, ℕ, ◌+◌, ◌-◌, ◌%◌, ◌≤◌, max, Bool, true, false, cond, not, ◌&&◌, ◌||◌, eqb, ltb, List, [], ◌∷◌, ◌++◌, length, reverse, Option, Some, None, IsSome, is_some, is_none, map, find, refl, sym, ap, ◌∙◌, subst, arith, append_assoc, append-nil, true≢false}
-use Rattle.std.proofs.lemmas.List.{reverse-append, reverse-reverse, append_cancel_right}
-use Rattle.std.specs.Option.{option_and_then, option_or, option_map_or}
+use Rattle.std.proofs.Common.{◌≡◌, ℕ, ◌-◌, ◌≤◌, eqb, List, [], ◌∷◌, ◌++◌, length, Option, Some, None, IsSome, map, find, refl, sym, ap, ◌∙◌, subst}
 use Rattle.std.specs.List.{AllByRecursion}
-use Rattle.zre_values.specs.Lists.{without}
 use Rattle.zre_values.specs.declared.peer_id.PeerId.{PeerId}
 use Rattle.zre_outside.specs.declared.entry.Entry.{Entry}
 use Rattle.zre_mailbox.specs.Conn.{Hearing}
@@ -14,27 +11,21 @@ use Rattle.zre_net.specs.declared.running.sender.Sender.{Sender}
 use Rattle.zre_net.specs.Sender.{Keeps}
 use Rattle.zre_net.specs.Sending.{Holds as Keeping, HasSent}
 use Rattle.zre_link.specs.Link.{link_after}
-use Rattle.zre_outside.specs.declared.entry.Input.TheVariants as input
 use Rattle.zre_journal.specs.declared.config.Config.{Config}
-use Rattle.zre_journal.specs.Chronicle.{Mark, Comes, Opens, TurnsAway, Closes, IsShut, ClosesAtStop, Born, Ends, Sends, Joins, Leaves, after, latest, followed, each, ever}
-use Rattle.zre_journal.specs.Connections.{open_ones, is_new, identity, identity_at, started, start_at, ends, has_ended, runs, refuses, was_used, is_ignored, turns, since, others}
-use Rattle.zre_journal.specs.Cutting.{is_entry, but_entries, piece}
+use Rattle.zre_journal.specs.Chronicle.{Mark}
+use Rattle.zre_journal.specs.Connections.{open_ones, is_new, identity, identity_at, runs, is_ignored, since}
+use Rattle.zre_journal.specs.Cutting.{piece}
 use Rattle.zre_journal.specs.Events.{chronicle}
-use Rattle.zre_journal.specs.Happens.{is_stop, has_stopped, at_input, marks, with_entry}
-use Rattle.zre_journal.specs.Heard.{clock, bytes}
-use Rattle.zre_journal.specs.Links.{groups, status, line, put_on, links, is_linked, reply_of, replies, text, taken, unsent}
-use Rattle.zre_journal.specs.Peers.{Life, life, lives, other_lives, births, runner, runner_at, counted, message_at, refreshes, active}
+use Rattle.zre_journal.specs.Happens.{is_stop, has_stopped}
+use Rattle.zre_journal.specs.Heard.{bytes}
+use Rattle.zre_journal.specs.Links.{groups, status, line, put_on, links, is_linked, replies, text, taken}
+use Rattle.zre_journal.specs.Peers.{Life, life, lives, births, runner, runner_at, counted, message_at, active}
 use Rattle.zre_journal.specs.Proper.{IsProper}
 use Rattle.zre_journal.proofs.Always.{is_proper}
 use Rattle.zre_journal.proofs.Cutting.{same_cut}
-use Rattle.zre_journal.proofs.Going.{are_others}
-use Rattle.zre_journal.proofs.Joined.{continues, after-append}
-use Rattle.zre_journal.proofs.Says.{input_sound}
-use Rattle.zre_journal.proofs.Silent.{Comes-proper}
-use Rattle.zre_journal.proofs.Sound.{Sound, AreSound}
 use Rattle.zre_net.proofs.Same.{Sim, by_marks, same_runs, same_ignored, latest_but, each_but, ever_but, lives_but, births_but, open_but, new_but, groups_but, status_but, taken_but, sim}
 use Rattle.zre_node.specs.Journal.{StandsIn, StandsFor}
-use Rattle.zre_node.specs.Stands.{Holds, Rests, IsKept, IsPeer, IsConn, kept_conn, heard_by, link_of_life, is_above}
+use Rattle.zre_node.specs.Stands.{Holds, Rests, IsKept, IsPeer, IsConn, kept_conn, heard_by, link_of_life}
 use Rattle.zre_node.specs.declared.connection.Connection.{Connection}
 use Rattle.zre_node.specs.declared.node.Node.{Node}
 use Rattle.zre_node.specs.declared.peer.Peer.{Peer}

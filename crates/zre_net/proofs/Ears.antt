@@ -7,7 +7,7 @@ use Rattle.zre_zmtp.specs.declared.want.Want.TheVariants.{Dealer}
 use Rattle.zre_zmtp.specs.declared.fault.ZmtpFault.{ZmtpFault}
 use Rattle.zre_zmtp.proofs.Feeding.{is_over}
 use Rattle.zre_mailbox.specs.Conn.{Hearing, conn_after, phase_by, reading, identity_in, is_spent, is_ignored, is_spent_in, is_ignored_in, Hears}
-use Rattle.zre_mailbox.specs.Talk.{Said, Arrived, arrivals, arrivals_in, fault_in, fault_said, new_arrivals, completed, talk}
+use Rattle.zre_mailbox.specs.Talk.{Arrived, arrivals, arrivals_in, fault_in, fault_said, new_arrivals, completed}
 use Rattle.zre_mailbox.specs.declared.arrival.Arrival.{Arrival}
 use Rattle.zre_mailbox.proofs.Growing.{goes}
 

@@ -1,7 +1,6 @@
 -- What an entry does with one link: it puts no message on it, or the link goes on and gets no PONG.
-use Rattle.std.proofs.Common.{◌≡◌, ◌⊎◌, ℕ, ◌+◌, ◌≤◌, Bool, true, false, cond, not, ◌&&◌, ◌||◌, eqb, ltb, leb, List, [], ◌∷◌, ◌++◌, length, map, filter, Option, Some, None, refl, sym, ap, ◌∙◌, subst, inl, inr, true≢false, arith, eqb-true, min, ◌-◌, ◌%◌}
+use Rattle.std.proofs.Common.{◌≡◌, ◌⊎◌, ℕ, ◌+◌, ◌≤◌, Bool, true, false, cond, not, ◌&&◌, ◌||◌, eqb, ltb, leb, List, [], ◌∷◌, ◌++◌, length, map, filter, Option, Some, None, refl, sym, ◌∙◌, subst, inl, inr, arith, eqb-true, min, ◌-◌, ◌%◌}
 use Rattle.std.specs.List.{AllByRecursion}
-use Rattle.std.specs.Str.{bytes_eq}
 use Rattle.zre_values.specs.Endpoint.{endpoint_in}
 use Rattle.zre_values.specs.declared.peer_id.PeerId.{PeerId}
 use Rattle.zre_values.specs.declared.endpoint.Endpoint.{Endpoint}
@@ -27,20 +26,20 @@ use Rattle.zre_link.specs.Heard.{reply_fault}
 use Rattle.zre_link.specs.Link.{answered, slow_at}
 use Rattle.zre_link.specs.Text.{size_of}
 use Rattle.zre_journal.specs.declared.config.Config.{Config}
-use Rattle.zre_journal.specs.Chronicle.{Mark, Opens, TurnsAway, Greets, Shakes, AnswersPing, Starts, Counts, Ignores, Closes, IsShut, ClosesAtStop, Born, HearsBeacon, Ends, IsEvasive, Puts, PutsPong, Links, Sends, Joins, Leaves, Refuses, SendsBeacon, Stops, after}
+use Rattle.zre_journal.specs.Chronicle.{Mark, Opens, TurnsAway, Greets, Shakes, AnswersPing, Starts, Counts, Ignores, Closes, IsShut, ClosesAtStop, HearsBeacon, Ends, IsEvasive, PutsPong, Links, Sends, Joins, Leaves, Refuses, SendsBeacon, Stops, after}
 use Rattle.zre_journal.specs.Connections.{open_ones, is_new, is_open, is_live, runs, identity, ends, other_with}
 use Rattle.zre_journal.specs.Done.{puts}
-use Rattle.zre_journal.specs.Peers.{Life, lives, births, life, life_of, is_entered, counted}
+use Rattle.zre_journal.specs.Peers.{Life, lives, life, life_of, is_entered, counted}
 use Rattle.zre_journal.specs.Links.{line, unsent, is_linked, replies, newly_pinged, gate, taken, groups, status}
 use Rattle.zre_journal.specs.Proper.{IsProper, Apart}
-use Rattle.zre_journal.specs.Pushes.{push, push_all, birth, hello}
+use Rattle.zre_journal.specs.Pushes.{push, push_all, birth}
 use Rattle.zre_journal.specs.Arrivals.{at_opened, end_of_run, at_shut, taken_over, start_unknown, start, at_first, answer_to, at_later, at_message, at_shaken, at_said, at_place, at_places}
 use Rattle.zre_journal.specs.Happens.{is_welcome, at_beacon, at_datagram, at_input}
 use Rattle.zre_journal.specs.Heard.{newly_completed}
 use Rattle.zre_journal.specs.LinkEntries.{at_linked, cause_by_reply, end_by, at_reply, at_unlinked, at_took}
 use Rattle.zre_journal.specs.Ticks.{is_silent, is_evasive, is_stale, probe, at_tick}
 use Rattle.zre_journal.specs.Commands.{has_group, at_join, at_leave, is_too_big, at_whisper, is_member, at_shout, at_stop, at_command}
-use Rattle.zre_journal.proofs.Listed.{All-kept, Apart-kept, eqb-comm}
+use Rattle.zre_journal.proofs.Listed.{All-kept, Apart-kept}
 use Rattle.zre_journal.proofs.Steps.{choice}
 use Rattle.zre_net.specs.Sender.{is_slight}
 

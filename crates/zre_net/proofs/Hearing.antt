@@ -1,160 +1,40 @@
 -- The ear of a connection, after an entry of its node.
-use Rattle.std.proofs.Common.{◌≡◌, ◌⊎◌, ℕ, ◌+◌, ◌≤◌, ◌<◌, Bool, true, false, cond, not, ◌&&◌, eqb, ltb, List, [], ◌∷◌, ◌++◌, length, map, drop, refl, subst, ltb-true, sym, ap, ◌∙◌, inl, inr, arith, append_assoc, append-nil, true≢false, eqb-true, eq-eqb}
+use Rattle.std.proofs.Common.{◌≡◌, ℕ, ◌≤◌, Bool, true, false, cond, List, [], ◌∷◌, ◌++◌, length, drop, refl, sym, ap, ◌∙◌, arith, append-nil, eq-eqb}
 use Rattle.zre_outside.specs.declared.entry.Entry.{Entry}
 use Rattle.zre_outside.specs.declared.entry.Input.{Input}
 use Rattle.zre_outside.specs.declared.entry.Input.TheVariants as input
-use Rattle.zre_values.specs.declared.limits.TheConstants.{CONNECTIONS}
 use Rattle.zre_mailbox.specs.Conn.{conn_after}
 use Rattle.zre_mailbox.specs.Talk.{talk, completed}
 use Rattle.zre_journal.specs.declared.config.Config.{Config}
-use Rattle.zre_journal.specs.Arrivals.{at_opened}
-use Rattle.zre_journal.specs.Commands.{at_stop}
-use Rattle.zre_journal.specs.Cutting.{is_entry}
-use Rattle.zre_journal.specs.Peers.{Life, lives}
-use Rattle.zre_journal.proofs.Stopping.{at_end}
-use Rattle.zre_peer.specs.declared.causes.Cause.TheVariants as cause
-use Rattle.std.specs.List.{AllByRecursion}
-use Rattle.zre_journal.specs.Chronicle.{Mark, Comes, Opens, TurnsAway, Ends, ClosesAtStop, SendsBeacon, Stops, after}
-use Rattle.zre_journal.specs.Connections.{is_new, open_ones}
-use Rattle.zre_journal.specs.Endings.{is_end}
+use Rattle.zre_journal.specs.Chronicle.{Mark, Comes}
 use Rattle.zre_journal.specs.Events.{chronicle}
-use Rattle.zre_journal.specs.Happens.{has_stopped, at_input, marks, with_entry}
-use Rattle.zre_journal.specs.Heard.{bytes, was_opened, piece_of, opens, newly_completed}
-use Rattle.zre_journal.specs.Proper.{IsProper}
-use Rattle.zre_journal.proofs.Always.{is_proper}
-use Rattle.zre_journal.proofs.Going.{are_others}
-use Rattle.zre_journal.proofs.Says.{input_sound, input_allowed}
-use Rattle.zre_journal.proofs.Silent.{Comes-proper}
-use Rattle.zre_journal.proofs.Sound.{Sound, AreSound}
-use Rattle.zre_journal.proofs.Steps.{May, Allowed}
+use Rattle.zre_journal.specs.Happens.{with_entry}
+use Rattle.zre_journal.specs.Heard.{bytes, was_opened, piece_of, newly_completed}
 use Rattle.zre_net.specs.declared.running.ear.Ear.{Ear}
 use Rattle.zre_net.specs.Running.{IsSilent}
 use Rattle.zre_net.specs.Rows.{Fits}
 use Rattle.zre_net.specs.Sender.{is_slight}
-
--- ---- no mark of an entry is an entry
-
-abbrev AreInner : List Mark → Type 0
-AreInner hs = AllByRecursion (λ h. is_entry h ≡ false) hs
-
-inner_of : (g : Config) (hs K : List Mark) → AreSound g hs K → AreInner hs
-inner_of g [] K s = tt
-inner_of g (h ∷ hs) K s = (one h s.0, inner_of g hs (h ∷ K) s.1)
-  where
-    one : (h : Mark) → Sound g h K → is_entry h ≡ false
-    one (Comes e) z = absurd z
-    one _ z = refl
-
-inner_map : {A : Type 0} (f : A → Mark) → ((x : A) → is_entry (f x) ≡ false) → (xs : List A) (hs : List Mark) → AreInner hs → AreInner (map f xs ++ hs)
-inner_map f n [] hs a = a
-inner_map f n (x ∷ xs) hs a = (n x, inner_map f n xs hs a)
-
-inner_stop : (g : Config) (K : List Mark) → AreInner (at_stop g K)
-inner_stop g K =
-    let xs = map (λ (v : Life). Ends v.link cause.Stop) (lives K) in
-    let ys = map (λ c. ClosesAtStop c) (open_ones K) in
-    subst AreInner (sym (append_assoc xs ys (SendsBeacon 0 ∷ Stops ∷ [])))
-    (inner_map (λ (v : Life). Ends v.link cause.Stop) (λ v. refl) (lives K) (ys ++ SendsBeacon 0 ∷ Stops ∷ [])
-    (inner_map (λ c. ClosesAtStop c) (λ c. refl) (open_ones K) (SendsBeacon 0 ∷ Stops ∷ []) (refl, (refl, tt))))
-
-bytes_after : (d : ℕ) (hs K : List Mark) → AreInner hs → bytes d (after hs K) ≡ bytes d K
-bytes_after d [] K n = refl
-bytes_after d (h ∷ hs) K n = bytes_after d hs (h ∷ K) n.1 ∙ one h n.0
-  where
-    one : (h : Mark) → is_entry h ≡ false → bytes d (h ∷ K) ≡ bytes d K
-    one (Comes e) z = absurd (true≢false z)
-    one _ z = refl
-
-and_false : (b c : Bool) → c ≡ false → (b && c) ≡ false
-and_false true c e = e
-and_false false c e = refl
-
-module _ (x : ℕ) where
-  -- a number that isn't new stays so
-  old_one : (h : Mark) (K : List Mark) → is_new x K ≡ false → is_new x (h ∷ K) ≡ false
-  old_one (Opens d) K n = and_false (ltb d x) (is_new x K) n
-  old_one (TurnsAway d) K n = and_false (ltb d x) (is_new x K) n
-  old_one _ K n = n
-
-  old_after : (hs K : List Mark) → is_new x K ≡ false → is_new x (after hs K) ≡ false
-  old_after [] K n = n
-  old_after (h ∷ hs) K n = old_after hs (h ∷ K) (old_one h K n)
-
-  -- and is not opened any more
-  opened_one : (h : Mark) (K : List Mark) → May h K → is_new x K ≡ false → was_opened x (h ∷ K) ≡ was_opened x K
-  opened_one (Opens d) K m n = by (eqb x d) refl
-    where
-      by : (b : Bool) → eqb x d ≡ b → cond b true (was_opened x K) ≡ was_opened x K
-      by true e = absurd (true≢false (sym m.is_fresh ∙ ap (λ y. is_new y K) (sym (eqb-true x d e)) ∙ n))
-      by false e = refl
-  opened_one _ K m n = refl
-
-  opened_after : (hs K : List Mark) → Allowed hs K → is_new x K ≡ false → was_opened x (after hs K) ≡ was_opened x K
-  opened_after [] K a n = refl
-  opened_after (h ∷ hs) K a n = opened_after hs (h ∷ K) a.1 (old_one h K n) ∙ opened_one h K a.0 n
+use Rattle.zre_net.proofs.Opened.{bytes_now, bytes_same, still_old, opened_now, new_old}
 
 module _ (g : Config) (J : List Entry) (e : Entry) where
   abbrev K : List Mark
   K = chronicle g J
 
-  abbrev M : List Mark
-  M = Comes e ∷ K
-
   abbrev N : List Mark
   N = with_entry g e K
-
-  q : IsProper M
-  q = Comes-proper K (is_proper g J) e
-
-  -- after the marks of the entry, of which there are none after a stop
-  by_stop : (P : List Mark → Type 0) → (has_stopped K ≡ true → P M) → (has_stopped K ≡ false → P (after (at_input g e.input K M) M)) → P N
-  by_stop P s t = by (has_stopped K) refl
-    where
-      by : (b : Bool) → has_stopped K ≡ b → P (after (cond b [] (at_input g e.input K M)) M)
-      by true z = s z
-      by false z = t z
-
-  inner_marks : AreInner (at_input g e.input K M)
-  inner_marks = by (is_end e.input) refl
-    where
-      by : (b : Bool) → is_end e.input ≡ b → AreInner (at_input g e.input K M)
-      by true z = subst AreInner (sym (at_end g e.input K M z)) (inner_stop g M)
-      by false z = inner_of g (at_input g e.input K M) M (input_sound g e.input K M q z (are_others g J))
-
-  pub bytes_now : (x : ℕ) → bytes x N ≡ bytes x K ++ cond (was_opened x K) (piece_of x e.input) []
-  bytes_now x = by_stop (λ Z. bytes x Z ≡ bytes x K ++ cond (was_opened x K) (piece_of x e.input) []) (λ s. refl)
-      (λ t. bytes_after x (at_input g e.input K M) M inner_marks)
-
-  none : (b : Bool) → cond {A = List ℕ} b [] [] ≡ []
-  none true = refl
-  none false = refl
-
-  pub bytes_same : (x : ℕ) → piece_of x e.input ≡ [] → bytes x N ≡ bytes x K
-  bytes_same x p = bytes_now x ∙ ap (λ o. bytes x K ++ cond (was_opened x K) o []) p ∙ ap (λ o. bytes x K ++ o) (none (was_opened x K)) ∙ append-nil (bytes x K)
-
-  abbrev IsOld : ℕ → List Mark → Type 0
-  IsOld x Z = (is_new x Z ≡ false) ⊎ (has_stopped Z ≡ true)
-
-  still_old : (x : ℕ) → IsOld x K → IsOld x N
-  still_old x (inl n) = inl (by_stop (λ Z. is_new x Z ≡ false) (λ s. n) (λ t. old_after x (at_input g e.input K M) M n))
-  still_old x (inr s) = by_stop (λ Z. IsOld x Z) (λ z. inr s) (λ t. absurd (true≢false (sym s ∙ t)))
-
-  opened_now : (x : ℕ) → IsOld x K → was_opened x N ≡ was_opened x K
-  opened_now x (inl n) = by_stop (λ Z. was_opened x Z ≡ was_opened x K) (λ s. refl) (λ t. opened_after x (at_input g e.input K M) M (input_allowed g e.input K M q) n)
-  opened_now x (inr s) = by_stop (λ Z. was_opened x Z ≡ was_opened x K) (λ z. refl) (λ t. absurd (true≢false (sym s ∙ t)))
 
   -- an entry that brings it no octets
   pub fits_still : (x : ℕ) (ear : Ear) → piece_of x e.input ≡ [] → Fits g x K ear → Fits g x N ear
   fits_still x ear p f = record {
-    heard = λ o. f.heard (sym (opened_now x f.old) ∙ o) ∙ ap (λ b. conn_after g.id b) (sym (bytes_same x p));
-    old = still_old x f.old;
+    heard = λ o. f.heard (sym (opened_now g J e x f.old) ∙ o) ∙ ap (λ b. conn_after g.id b) (sym (bytes_same g J e x p));
+    old = still_old g J e x f.old;
   }
 
   -- one that does
   pub fits_piece : (x : ℕ) (o : List ℕ) (ear now : Ear) → e.input ≡ input.Piece x o → ((b : List ℕ) → ear.conn ≡ conn_after g.id b → now.conn ≡ conn_after g.id (b ++ o)) → Fits g x K ear → Fits g x N now
   fits_piece x o ear now i h f = record {
-    heard = λ z. let was = sym (opened_now x f.old) ∙ z in h (bytes x K) (f.heard was) ∙ ap (λ b. conn_after g.id b) (sym (bytes_now x ∙ ap (λ b. bytes x K ++ cond b (piece_of x e.input) []) was ∙ ap (λ b. bytes x K ++ b) (ap (piece_of x) i ∙ its_own)));
-    old = still_old x f.old;
+    heard = λ z. let was = sym (opened_now g J e x f.old) ∙ z in h (bytes x K) (f.heard was) ∙ ap (λ b. conn_after g.id b) (sym (bytes_now g J e x ∙ ap (λ b. bytes x K ++ cond b (piece_of x e.input) []) was ∙ ap (λ b. bytes x K ++ b) (ap (piece_of x) i ∙ its_own)));
+    old = still_old g J e x f.old;
   }
     where
       its_own : piece_of x (input.Piece x o) ≡ o
@@ -162,22 +42,7 @@ module _ (g : Config) (J : List Entry) (e : Entry) where
 
   -- and one with which it opens
   pub fits_new : (x : ℕ) (ear : Ear) → e.input ≡ input.Opened x → bytes x K ≡ [] → ear.conn ≡ conn_after g.id [] → Fits g x N ear
-  fits_new x ear i b c = record {
-    heard = λ z. c ∙ ap (λ o. conn_after g.id o) (sym (bytes_same x (ap (piece_of x) i) ∙ b));
-    old = by_stop (λ Z. IsOld x Z) (λ s. inr s) (λ t. inl (ap (λ j. is_new x (after (at_input g j K M) M)) i ∙ opens_it (is_new x M) refl (ltb (length (open_ones M)) CONNECTIONS)));
-  }
-    where
-      not_before : (n : Bool) → (ltb x x && n) ≡ false
-      not_before n = by (ltb x x) refl
-        where
-          by : (b : Bool) → ltb x x ≡ b → (b && n) ≡ false
-          by true z = let l = ltb-true x x z in absurd (omega (arith, l))
-          by false z = refl
-
-      opens_it : (n : Bool) → is_new x M ≡ n → (b : Bool) → is_new x (after (cond n (cond b (Opens x ∷ []) (TurnsAway x ∷ [])) []) M) ≡ false
-      opens_it true z true = not_before (is_new x M)
-      opens_it true z false = not_before (is_new x M)
-      opens_it false z b = z
+  fits_new x ear i b c = record { heard = λ z. c ∙ ap (λ o. conn_after g.id o) (sym (bytes_same g J e x (ap (piece_of x) i) ∙ b)); old = new_old g J e x i }
 
 -- what a piece completes on a connection whose ear fits
 pub completes_few : (g : Config) (x : ℕ) (K : List Mark) (e : Entry) (o : List ℕ) (ear : Ear) → e.input ≡ input.Piece x o → Fits g x K ear

@@ -1,17 +1,28 @@
+pub mod Agreed
+mod Agreeing
 mod Begins
+mod Carrying
 mod Computed
 mod Connecting
 mod Cut
 mod Cutting
 mod Ears
 mod Fate
+pub mod Fielded
 mod Grows
 mod Hearing
+mod Identities
+mod Journals
 mod Lines
 mod Listing
 pub mod Long
 mod Looking
+mod Moments
+mod Moving
+mod Opened
 mod Opening
+mod Passing
+mod Pending
 mod Piecing
 mod Plays
 mod Putting
@@ -19,7 +30,11 @@ mod Quiet
 mod Rooms
 mod Runs
 mod Same
+mod Sendable
 mod Sending
 mod Sent
+mod Speaking
 mod Starting
 mod Stepping
+mod Truly
+mod Utterances

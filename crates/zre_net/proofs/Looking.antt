@@ -1,5 +1,5 @@
 -- Looks at a node's links, one after the other.
-use Rattle.std.proofs.Common.{◌≡◌, ◌⊎◌, ℕ, zero, suc, ◌+◌, ◌≤◌, ◌<◌, Bool, true, false, cond, ◌||◌, eqb, List, [], ◌∷◌, ◌++◌, length, drop, map, Option, Some, None, IsSome, is_some, find, refl, sym, ap, ◌∙◌, subst, inl, inr, arith, append_assoc, append-nil, length-append, true≢false, eqb-true, eq-eqb}
+use Rattle.std.proofs.Common.{◌≡◌, ◌⊎◌, ℕ, zero, suc, ◌+◌, ◌≤◌, ◌<◌, Bool, true, false, cond, ◌||◌, eqb, List, [], ◌∷◌, ◌++◌, length, drop, map, Option, Some, None, is_some, find, refl, sym, ap, ◌∙◌, subst, inl, inr, arith, length-append, true≢false, eqb-true}
 use Rattle.std.specs.Prelude.{slice_get, get_or, take}
 use Rattle.std.proofs.lemmas.List.{take_more}
 use Rattle.zre_net.proofs.Listing.{some_one, in_reach, got_same, kept, apart, set_length}

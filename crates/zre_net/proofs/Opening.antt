@@ -1,72 +1,29 @@
 -- A connection opens.
-use Rattle.std.proofs.Common.{◌≡◌, ◌⊎◌, ℕ, zero, suc, ◌+◌, ◌≤◌, ◌<◌, Bool, true, false, cond, ◌&&◌, is_some, eqb, List, [], ◌∷◌, ◌++◌, length, drop, Option, Some, None, refl, sym, ap, ◌∙◌, subst, inl, inr, arith, eqb-true, append-nil}
+use Rattle.std.proofs.Common.{◌≡◌, ◌⊎◌, ℕ, ◌+◌, Bool, true, false, ◌&&◌, is_some, List, [], ◌∷◌, ◌++◌, length, Some, None, refl, sym, ap, ◌∙◌, subst, inl, inr, arith}
 use Rattle.std.specs.Prelude.{sum_by, option_map}
-use Rattle.std.specs.Option.{option_map_or}
 use Rattle.std.proofs.lemmas.List.Sums.{sum_by_push}
 use Rattle.zre_outside.specs.declared.entry.Input.TheVariants as input
 use Rattle.zre_mailbox.specs.Conn.{conn_after}
-use Rattle.zre_journal.specs.Chronicle.{Mark, followed}
-use Rattle.zre_journal.specs.Heard.{bytes}
-use Rattle.zre_net.specs.declared.moves.Move.{Move}
+use Rattle.zre_journal.specs.Chronicle.{followed}
 use Rattle.zre_net.specs.declared.moves.Move.TheVariants as move
-use Rattle.zre_net.specs.declared.moves.Part.{Part}
 use Rattle.zre_net.specs.declared.running.network.Network.{Network}
 use Rattle.zre_net.specs.declared.running.rows.Carrier.{Carrier}
 use Rattle.zre_net.specs.declared.running.rows.Started.{Started}
 use Rattle.zre_net.specs.declared.running.rows.Way.{Way}
-use Rattle.zre_net.specs.Carried.{spelling, appended, pending}
 use Rattle.zre_net.specs.Comes.{turn_of, turn}
-use Rattle.zre_net.specs.History.{Incarnation, Turn, Happening, Happens, incarnations, running as running_in, journal, chronicle_of}
+use Rattle.zre_net.specs.History.{Incarnation, Happening, Happens, IsKnown, incarnations, running as running_in, journal}
 use Rattle.zre_net.specs.Lists.{nth}
 use Rattle.zre_net.specs.Numbers.{Route, Conn, routes, conns, conn_of}
 use Rattle.zre_net.specs.Grammar.{may_come}
 use Rattle.zre_net.specs.Lines.{octets_in}
 use Rattle.zre_net.specs.Rows.{Fits, running_at}
-use Rattle.zre_net.specs.Running.{IsKnown, AreNodes, IsConn, HasConn, AreConns, StandsAfter, AreStarted, Finds, IsPlayed, way_of}
+use Rattle.zre_net.specs.Running.{AreNodes, IsConn, HasConn, StandsAfter, AreStarted, Finds, IsPlayed, way_of}
 use Rattle.zre_net.proofs.Connecting.{known_later, conn_still, silent_more}
 use Rattle.zre_net.proofs.Hearing.{fits_new}
-use Rattle.zre_net.proofs.Listing.{some_one, nth_past, nth_more, nth_last, nth_cases}
+use Rattle.zre_net.proofs.Listing.{some_one, nth_more, nth_last, nth_cases}
 use Rattle.zre_net.proofs.Plays.{open_still, played, runs_there, Runs, not_running, link_found, IsLinkFound, no_link}
-use Rattle.zre_net.proofs.Starting.{length-last}
-use Rattle.zre_net.proofs.Stepping.{chronicle_now}
-
--- ---- a connection that hasn't opened carries nothing
-
-drop-none : (n : ℕ) (o : List ℕ) → o ≡ [] → drop n o ≡ []
-drop-none zero o e = e
-drop-none (suc n) [] e = refl
-drop-none (suc n) (z ∷ o) e = absurd cc
-
-pub no_pending : (x : ℕ) (H : List Happening) → length (conns H) < x → pending x H ≡ []
-no_pending x [] z = refl
-no_pending x (Happens m t ∷ H) z = by m z (λ l. no_pending x H l)
-  where
-    same : (b : Bool) (o q : List ℕ) → o ≡ [] → q ≡ [] → cond b o q ≡ []
-    same true o q e f = e
-    same false o q e f = f
-
-    grows : (o : Option Conn) → length (conns H) ≤ length (followed (conns H) o)
-    grows None = omega arith
-    grows (Some c) = let l = length-last (conns H) c in omega (arith, l)
-
-    by : (m : Move) → length (conns (Happens m t ∷ H)) < x → (length (conns H) < x → pending x H ≡ []) → pending x (Happens m t ∷ H) ≡ []
-    by (move.Open g n at) z f = f (let q = grows (conn_of (length (conns H) + 1) (nth g (routes H)) (running_in n H)) in omega (arith, q, z))
-    by (move.Carry y p) z f =
-        let r = f z in
-        same (eqb x y) (pending x H ++ appended x p H) (pending x H) (ap (λ q. q ++ appended x p H) r ∙ ap (λ o. option_map_or (λ (c : Conn). spelling c.along H p) o []) (nth_past x (conns H) z)) r
-    by (move.Piece y count at) z f =
-        let r = f z in
-        same (eqb x y) (drop count (pending x H)) (pending x H) (drop-none count (pending x H) r) r
-    by (move.Start n at id name host port) z f = f z
-    by (move.Crash n) z f = f z
-    by (move.Tick n at) z f = f z
-    by (move.Do n at c) z f = f z
-    by (move.Beacon k n at) z f = f z
-    by (move.Shut y at) z f = f z
-    by (move.Linked g at) z f = f z
-    by (move.Unlinked g at) z f = f z
-    by (move.Reply g at o) z f = f z
-    by (move.Took g count at) z f = f z
+use Rattle.zre_net.proofs.Journals.{chronicle_now, length-last}
+use Rattle.zre_net.proofs.Pending.{no_pending}
 
 -- ---- one opens
 

@@ -1,23 +1,19 @@
 -- What an entry puts on a link, as it can be seen from outside: by how many messages were put, and by what waits.
-use Rattle.std.proofs.Common.{◌≡◌, ◌⊎◌, ℕ, zero, suc, ◌+◌, ◌-◌, ◌%◌, ◌^◌, ◌≤◌, ◌<◌, Bool, true, false, cond, eqb, List, [], ◌∷◌, ◌++◌, length, drop, map, Option, Some, None, IsSome, is_some, find, refl, sym, ap, ◌∙◌, subst, inl, inr, arith, append_assoc, append-nil, length-append, true≢false, eq-eqb, eqb-true}
+use Rattle.std.proofs.Common.{◌≡◌, ℕ, ◌+◌, ◌%◌, ◌^◌, ◌≤◌, ◌<◌, Bool, true, false, cond, eqb, List, [], ◌∷◌, ◌++◌, length, drop, map, Some, None, IsSome, is_some, find, refl, sym, ap, ◌∙◌, subst, inl, inr, arith, append_assoc, append-nil, true≢false, eqb-true}
 use Rattle.std.proofs.lemmas.List.{drop-append-le, length-drop, drop_at}
-use Rattle.std.specs.List.{AllByRecursion}
-use Rattle.zre_zmtp.specs.Laws.{handshake}
-use Rattle.zre_zmtp.specs.declared.writing.SocketType.TheVariants.{Dealer}
 use Rattle.zre_outside.specs.declared.entry.Entry.{Entry}
 use Rattle.zre_msg.specs.declared.message.Body.{Body}
-use Rattle.zre_msg.specs.declared.message.Message.{Message}
 use Rattle.zre_msg.specs.Spelling.{octets}
-use Rattle.zre_link.specs.Text.{Member, Says, Pongs, bodies_in, numbered_from, octets_from, text_of, next_message}
+use Rattle.zre_link.specs.Text.{Member, Says, Pongs, bodies_in, numbered_from, text_of, next_message}
 use Rattle.zre_link.proofs.Numbered.{bodies-more, text_more}
 use Rattle.zre_journal.specs.declared.config.Config.{Config}
 use Rattle.zre_journal.specs.Chronicle.{Mark, Comes, Puts, PutsPong, Sends, Ends, Born, after, followed}
 use Rattle.zre_journal.specs.Connections.{ends}
 use Rattle.zre_journal.specs.Done.{puts}
 use Rattle.zre_journal.specs.Events.{chronicle}
-use Rattle.zre_journal.specs.Happens.{has_stopped, at_input, marks, with_entry}
-use Rattle.zre_journal.specs.Links.{line, bodies, queued, text, taken, unsent, put_on}
-use Rattle.zre_journal.specs.Peers.{Life, lives, life, births, other_lives}
+use Rattle.zre_journal.specs.Happens.{has_stopped, at_input, with_entry}
+use Rattle.zre_journal.specs.Links.{line, bodies, queued, text, taken, unsent}
+use Rattle.zre_journal.specs.Peers.{Life, lives, life}
 use Rattle.zre_journal.specs.Proper.{IsProper}
 use Rattle.zre_journal.proofs.Always.{is_proper}
 use Rattle.zre_journal.proofs.Joined.{continues}

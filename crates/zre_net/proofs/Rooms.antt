@@ -1,6 +1,6 @@
 -- The octets that a network counts.
-use Rattle.std.proofs.Common.{◌≡◌, ℕ, zero, suc, ◌+◌, ◌≤◌, Bool, true, false, ◌&&◌, leb, List, [], ◌∷◌, length, map, Some, refl, sym, ap, ◌∙◌, arith}
-use Rattle.std.specs.Prelude.{sum_by, slice_get, flat_map}
+use Rattle.std.proofs.Common.{◌≡◌, ℕ, suc, ◌+◌, ◌&&◌, leb, List, [], ◌∷◌, length, map, Some, refl, sym, ap, ◌∙◌, arith}
+use Rattle.std.specs.Prelude.{sum_by, slice_get}
 use Rattle.std.specs.Option.{option_map_or}
 use Rattle.std.proofs.lemmas.List.Concat.{length-flat_map}
 use Rattle.std.proofs.lemmas.List.Sums.{sum_by-cons}
@@ -9,7 +9,6 @@ use Rattle.zre_msg.specs.Spelling.{octets}
 use Rattle.zre_journal.specs.declared.config.Config.{Config}
 use Rattle.zre_journal.specs.Chronicle.{Mark}
 use Rattle.zre_journal.specs.Links.{queued}
-use Rattle.zre_journal.specs.Peers.{births}
 use Rattle.zre_net.specs.declared.limits.TheConstants.{QUEUED_OCTETS, PENDING_OCTETS}
 use Rattle.zre_net.specs.declared.running.lines.Line.{Line}
 use Rattle.zre_net.specs.declared.running.network.Network.{Network}
@@ -18,10 +17,10 @@ use Rattle.zre_net.specs.declared.running.rows.Carrier.{Carrier}
 use Rattle.zre_net.specs.Carried.{pending}
 use Rattle.zre_net.specs.Grammar.{octets_on, octets_put, queued_octets, pending_octets, has_room}
 use Rattle.zre_net.specs.History.{Incarnation, Happening, incarnations, chronicle_of}
-use Rattle.zre_net.specs.Lines.{message_octets, octets_in, messages_at}
+use Rattle.zre_net.specs.Lines.{message_octets, octets_in}
 use Rattle.zre_net.specs.Lists.{nth, numbers_from}
 use Rattle.zre_net.specs.Numbers.{Conn, conns}
-use Rattle.zre_net.specs.Running.{HasStarted, StandsAfter}
+use Rattle.zre_net.specs.Running.{StandsAfter}
 use Rattle.zre_net.specs.Sender.{Keeps, spelled}
 use Rattle.zre_net.proofs.Listing.{sum_same}
 

@@ -1,10 +1,10 @@
 -- Moves, one after the other.
-use Rattle.std.proofs.Common.{◌≡◌, ℕ, ◌+◌, Bool, true, false, cond, ◌&&◌, List, [], ◌∷◌, ◌++◌, length, Option, Some, None, refl, sym, ap, ◌∙◌, subst, arith, true≢false, append-nil}
+use Rattle.std.proofs.Common.{◌≡◌, ℕ, ◌+◌, Bool, true, false, cond, ◌&&◌, List, [], ◌∷◌, ◌++◌, length, Some, None, refl, sym, ap, ◌∙◌, subst, arith, true≢false, append-nil}
 use Rattle.zre_net.specs.declared.moves.Move.{Move}
 use Rattle.zre_net.specs.declared.running.network.Network.{Network}
 use Rattle.zre_net.specs.Answer.{bad_move, bad_move_after}
 use Rattle.zre_net.specs.Comes.{with_move, history, history_after}
-use Rattle.zre_net.specs.Grammar.{may_come, has_room, is_good}
+use Rattle.zre_net.specs.Grammar.{has_room, is_good}
 use Rattle.zre_net.specs.History.{Happening}
 use Rattle.zre_net.specs.Running.{StandsAfter, IsPlayed, IsTaken, Goes}
 

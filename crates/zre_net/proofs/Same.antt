@@ -1,5 +1,5 @@
 -- Octets that come in two pieces at one reading, or in one: the same came about at the same times.
-use Rattle.std.proofs.Common.{◌≡◌, ℕ, ◌+◌, ◌-◌, ◌%◌, ◌≤◌, max, Bool, true, false, cond, not, ◌&&◌, ◌||◌, eqb, ltb, List, [], ◌∷◌, ◌++◌, length, reverse, Option, Some, None, is_some, is_none, refl, sym, ap, ◌∙◌, subst, arith, append_assoc, append-nil, true≢false}
+use Rattle.std.proofs.Common.{◌≡◌, ℕ, ◌+◌, ◌%◌, ◌≤◌, Bool, true, false, cond, not, ◌&&◌, ◌||◌, eqb, ltb, List, [], ◌∷◌, ◌++◌, reverse, Option, Some, None, is_some, is_none, refl, sym, ap, ◌∙◌, subst, arith, append_assoc, append-nil, true≢false}
 use Rattle.std.proofs.lemmas.List.{reverse-append, reverse-reverse, append_cancel_right}
 use Rattle.std.specs.Option.{option_and_then, option_or, option_map_or}
 use Rattle.std.specs.List.{AllByRecursion}
@@ -8,14 +8,13 @@ use Rattle.zre_outside.specs.declared.entry.Entry.{Entry}
 use Rattle.zre_outside.specs.declared.entry.Input.TheVariants as input
 use Rattle.zre_journal.specs.declared.config.Config.{Config}
 use Rattle.zre_journal.specs.Chronicle.{Mark, Comes, Opens, TurnsAway, Closes, IsShut, ClosesAtStop, Born, Ends, Sends, Joins, Leaves, after, latest, followed, each, ever}
-use Rattle.zre_journal.specs.Connections.{open_ones, is_new, identity, identity_at, started, start_at, ends, has_ended, runs, refuses, was_used, is_ignored, turns, since, others}
+use Rattle.zre_journal.specs.Connections.{open_ones, is_new, started, start_at, ends, has_ended, runs, refuses, was_used, is_ignored, turns, since, others}
 use Rattle.zre_journal.specs.Cutting.{is_entry, but_entries, piece}
 use Rattle.zre_journal.specs.Events.{chronicle}
-use Rattle.zre_journal.specs.Happens.{is_stop, has_stopped, at_input, marks, with_entry}
-use Rattle.zre_journal.specs.Heard.{clock, bytes}
-use Rattle.zre_journal.specs.Links.{groups, status, bodies, put_on, links, is_linked, reply_of, replies, taken}
-use Rattle.zre_journal.specs.Peers.{Life, lives, other_lives, births, runner, runner_at, counted, message_at, refreshes, active}
-use Rattle.zre_journal.specs.Proper.{IsProper}
+use Rattle.zre_journal.specs.Happens.{has_stopped, at_input, marks, with_entry}
+use Rattle.zre_journal.specs.Heard.{clock}
+use Rattle.zre_journal.specs.Links.{groups, status, is_linked, replies, taken}
+use Rattle.zre_journal.specs.Peers.{Life, lives, other_lives, births, refreshes, active}
 use Rattle.zre_journal.proofs.Always.{is_proper}
 use Rattle.zre_journal.proofs.Cutting.{same_cut}
 use Rattle.zre_journal.proofs.Going.{are_others}

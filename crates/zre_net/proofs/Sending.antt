@@ -1,5 +1,5 @@
 -- The table of a node's links, after an entry.
-use Rattle.std.proofs.Common.{◌≡◌, ◌⊎◌, ℕ, zero, suc, ◌+◌, ◌-◌, ◌≤◌, ◌<◌, Bool, true, false, cond, not, eqb, List, [], ◌∷◌, ◌++◌, length, drop, map, filter, replicate, Option, Some, None, IsSome, is_some, find, refl, sym, ap, ◌∙◌, subst, inl, inr, arith, append_assoc, append-nil, length-append, true≢false, eqb-true, eq-eqb}
+use Rattle.std.proofs.Common.{◌≡◌, ◌⊎◌, ℕ, zero, suc, ◌+◌, ◌≤◌, ◌<◌, Bool, true, false, cond, not, eqb, List, [], ◌∷◌, ◌++◌, length, drop, map, filter, replicate, Option, Some, None, IsSome, is_some, find, refl, sym, ap, ◌∙◌, inl, inr, arith, append_assoc, append-nil, length-append, eqb-true}
 use Rattle.std.proofs.lemmas.List.{length-drop, take_more}
 use Rattle.std.specs.Prelude.{slice_get, get_or, take}
 use Rattle.std.specs.Option.{option_map_or}
@@ -11,11 +11,10 @@ use Rattle.zre_outside.specs.declared.entry.Entry.{Entry}
 use Rattle.zre_link.specs.Text.{text_of}
 use Rattle.zre_journal.specs.declared.config.Config.{Config}
 use Rattle.zre_journal.specs.Chronicle.{Mark, Comes, Born, Ends, after}
-use Rattle.zre_journal.specs.Connections.{others}
 use Rattle.zre_journal.specs.Done.{done, done_at, close_link, offers, is_offered, acts_at}
 use Rattle.zre_journal.specs.Events.{chronicle}
-use Rattle.zre_journal.specs.Happens.{has_stopped, at_input, marks, with_entry}
-use Rattle.zre_journal.specs.Links.{line, bodies, text, taken, unsent}
+use Rattle.zre_journal.specs.Happens.{has_stopped, at_input, with_entry}
+use Rattle.zre_journal.specs.Links.{bodies, text, taken, unsent}
 use Rattle.zre_journal.specs.Peers.{Life, lives, life, births, other_lives}
 use Rattle.zre_journal.specs.Proper.{IsProper}
 use Rattle.zre_values.specs.declared.peer_id.PeerId.{PeerId}
@@ -26,8 +25,7 @@ use Rattle.zre_journal.proofs.Says.{input_allowed}
 use Rattle.zre_journal.proofs.Silent.{Comes-proper}
 use Rattle.zre_journal.proofs.Steps.{May, Allowed}
 use Rattle.zre_net.specs.declared.running.lines.Line.{Line}
-use Rattle.zre_net.specs.Lists.{nth}
-use Rattle.zre_net.specs.Lines.{connects, fresh, messages_at, waited_at, IsNoted}
+use Rattle.zre_net.specs.Lines.{connects, fresh, messages_at, waited_at}
 use Rattle.zre_net.specs.Sender.{spelled, is_slight, Keeps, IsSeen, IsLooked}
 use Rattle.zre_net.proofs.Putting.{Put, put_by, as_many, when_gone, one_more}
 

@@ -1,12 +1,12 @@
 -- A node and the table of its links, after an entry.
-use Rattle.std.proofs.Common.{◌≡◌, ℕ, List, [], ◌∷◌, ◌++◌, length, replicate, Option, Some, None, refl, sym, ap, ◌∙◌, subst, append-nil}
+use Rattle.std.proofs.Common.{◌≡◌, ℕ, List, [], ◌∷◌, ◌++◌, length, replicate, Some, sym, ap, ◌∙◌, subst, append-nil}
 use Rattle.std.proofs.lemmas.List.{append_cancel_left}
 use Rattle.std.specs.Prelude.{IfOk, Result, Ok, Err}
 use Rattle.zre_zmtp.specs.Laws.{handshake}
 use Rattle.zre_zmtp.specs.declared.writing.SocketType.TheVariants.{Dealer}
 use Rattle.zre_outside.specs.declared.entry.Entry.{Entry}
 use Rattle.zre_journal.specs.declared.config.Config.{Config}
-use Rattle.zre_journal.specs.Chronicle.{Mark, Comes}
+use Rattle.zre_journal.specs.Chronicle.{Comes}
 use Rattle.zre_journal.specs.Done.{acts_at}
 use Rattle.zre_journal.specs.Events.{chronicle, events, acts, events_at}
 use Rattle.zre_journal.specs.Happens.{with_entry}

@@ -1,38 +1,33 @@
 -- The nodes of a network, after an entry of one of them.
-use Rattle.std.proofs.Common.{◌≡◌, ◌⊎◌, ℕ, ◌+◌, ◌≤◌, ◌<◌, max, Bool, true, false, cond, eqb, List, [], ◌∷◌, ◌++◌, length, map, Option, Some, None, refl, sym, ap, ◌∙◌, subst, inl, inr, arith, eqb-true, eq-eqb, append_assoc}
+use Rattle.std.proofs.Common.{◌≡◌, ℕ, ◌+◌, ◌<◌, max, Bool, true, false, eqb, List, [], ◌∷◌, ◌++◌, length, map, Option, Some, None, refl, sym, ap, ◌∙◌, subst, arith, eqb-true, append_assoc}
 use Rattle.std.specs.Prelude.{slice_get, slice_set, sum_by, get_or, take}
 use Rattle.std.specs.List.{cons_option}
 use Rattle.std.proofs.lemmas.List.{take_more}
 use Rattle.std.specs.List.{filter_map, AllByRecursion}
-use Rattle.std.specs.Option.{option_map}
 use Rattle.zre_outside.specs.declared.act.Act.{Act}
 use Rattle.zre_outside.specs.declared.act.Act.TheVariants as act
 use Rattle.zre_outside.specs.declared.entry.Entry.{Entry}
 use Rattle.zre_outside.specs.declared.entry.Input.{Input}
 use Rattle.zre_peer.specs.declared.event.Event.{Event}
 use Rattle.zre_journal.specs.declared.config.Config.{Config}
-use Rattle.zre_journal.specs.Chronicle.{Mark, Comes, followed}
-use Rattle.zre_journal.specs.Done.{acts_at}
+use Rattle.zre_journal.specs.Chronicle.{Comes}
 use Rattle.zre_journal.specs.Events.{chronicle, events_at}
-use Rattle.zre_journal.specs.Happens.{with_entry}
-use Rattle.zre_journal.proofs.Joined.{continues}
 use Rattle.zre_net.specs.declared.moves.Move.{Move}
 use Rattle.zre_net.specs.declared.running.network.Network.{Network}
 use Rattle.zre_net.specs.declared.running.rows.Started.{Started}
-use Rattle.zre_net.specs.declared.running.rows.Sent.{Sent}
-use Rattle.zre_net.specs.declared.running.rows.Way.{Way}
 use Rattle.zre_net.specs.declared.running.steps.Turn.{Turn as Took}
 use Rattle.zre_net.specs.Comes.{turn_of}
-use Rattle.zre_net.specs.History.{Incarnation, Turn, Happening, Happens, incarnations, running, journal, chronicle_of}
+use Rattle.zre_net.specs.History.{Incarnation, Turn, Happening, Happens, IsKnown, incarnations, running, journal, chronicle_of}
 use Rattle.zre_net.specs.Lines.{octets_in}
 use Rattle.zre_net.specs.Lists.{nth}
-use Rattle.zre_net.specs.Numbers.{Route, Broadcast, acts_of, route_in, routes, broadcast_in, broadcasts}
+use Rattle.zre_net.specs.Numbers.{Route, acts_of, route_in, routes, broadcast_in, broadcasts}
 use Rattle.zre_net.specs.Rows.{entry_at, Turned, StaysAt, sent_in, way_in, running_at}
-use Rattle.zre_net.specs.Running.{IsKnown, IsStarted, HasStarted, AreStarted, Finds, AreNodes, IsStill, owner_of, sent_of, way_of}
+use Rattle.zre_net.specs.Running.{IsStarted, HasStarted, AreStarted, Finds, AreNodes, IsStill, owner_of, sent_of, way_of}
 use Rattle.zre_net.specs.Said.{said_in, said_at}
 use Rattle.zre_net.specs.Sender.{is_slight}
 use Rattle.zre_net.specs.Sending.{HasSent}
 use Rattle.zre_net.proofs.Listing.{some_one, in_reach, nth_at, nth_reach, nth_same, nth_other, set_length, sum_set, all_more, all_map}
+use Rattle.zre_net.proofs.Journals.{journal_now, other_journal}
 
 map-both : {A B : Type 0} (f : A → B) (xs ys : List A) → map f (xs ++ ys) ≡ map f xs ++ map f ys
 map-both f [] ys = refl
@@ -55,30 +50,6 @@ one_more f xs ys zs acts i a lt is e q =
 -- what one event more tells
 pub tell_more : (n : ℕ) (xs ys zs : List (ℕ × Event)) (es : List Event) (e : Event) → ys ≡ xs ++ map (λ x. (n, x)) es → zs ≡ ys ++ (n, e) ∷ [] → zs ≡ xs ++ map (λ x. (n, x)) (es ++ e ∷ [])
 tell_more n xs ys zs es e p q = q ∙ ap (λ ws. ws ++ (n, e) ∷ []) p ∙ append_assoc xs (map (λ x. (n, x)) es) ((n, e) ∷ []) ∙ ap (λ ws. xs ++ ws) (sym (map-both (λ (x : Event). (n, x)) es (e ∷ [])))
-
--- ---- journals
-
-module _ (H : List Happening) (m : Move) (a : Incarnation) (at : ℕ) (i : Input) where
-  abbrev T : Turn
-  T = turn_of a at i
-
-  abbrev N : List Happening
-  N = Happens m (Some T) ∷ H
-
-  abbrev J : List Entry
-  J = journal a H
-
-  pub journal_now : (b : Incarnation) → b.number ≡ a.number → journal b N ≡ journal b H ++ T.entry ∷ []
-  journal_now b e = ap (λ z. followed (journal b H) (cond z (Some T.entry) None)) (eq-eqb b.number a.number e)
-
-  pub other_journal : (b : Incarnation) → eqb b.number a.number ≡ false → journal b N ≡ journal b H
-  other_journal b e = ap (λ z. followed (journal b H) (cond z (Some T.entry) None)) e
-
-  pub chronicle_now : chronicle_of a N ≡ with_entry a.settings T.entry (chronicle_of a H)
-  chronicle_now = ap (chronicle a.settings) (journal_now a refl) ∙ (continues a.settings J (T.entry ∷ [])).happened
-
-  pub other_chronicle : (b : Incarnation) → eqb b.number a.number ≡ false → chronicle_of b N ≡ chronicle_of b H
-  other_chronicle b e = ap (chronicle b.settings) (other_journal b e)
 
 -- ---- acts
 

@@ -1,5 +1,5 @@
 -- What a connection is made to carry, and what of it has not come yet.
-use Rattle.std.specs.Prelude.{ℕ, List, [], ◌∷◌, ◌++◌, Option, Some, if◌then◌else◌, nat_eq, drop}
+use Rattle.std.specs.Prelude.{ℕ, List, [], ◌∷◌, ◌++◌, Some, if◌then◌else◌, nat_eq, drop}
 use Rattle.std.specs.Option.{option_map_or}
 use Rattle.zre_zmtp.specs.declared.writing.SocketType.TheVariants as socket
 use Rattle.zre_zmtp.specs.Written.{own_greeting, ready_frame}

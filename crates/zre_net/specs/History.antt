@@ -1,6 +1,6 @@
 -- The history of a schedule: its moves so far, the newest first, each with the turn that it gave to a node.
 -- Every fact about a moment is a question that is asked of this list.
-use Rattle.std.specs.Prelude.{ℕ, ◌+◌, List, [], ◌∷◌, Option, Some, None, if◌then◌else◌, nat_eq}
+use Rattle.std.specs.Prelude.{◌≡◌, ℕ, ◌+◌, List, [], ◌∷◌, Option, Some, None, if◌then◌else◌, nat_eq}
 use Rattle.zre_values.specs.declared.peer_id.PeerId.{PeerId}
 use Rattle.zre_outside.specs.declared.entry.Entry.{Entry}
 use Rattle.zre_journal.specs.declared.config.Config.{Config}
@@ -8,6 +8,7 @@ use Rattle.zre_journal.specs.Chronicle.{Mark, followed}
 use Rattle.zre_journal.specs.Events.{chronicle}
 use Rattle.zre_net.specs.declared.moves.Move.{Move}
 use Rattle.zre_net.specs.declared.moves.Move.TheVariants as move
+use Rattle.zre_net.specs.Lists.{nth}
 
 -- a node from one start to its crash: which start of the schedule it is, at which node and when, with which settings
 pub record Incarnation : Type 0 where
@@ -52,6 +53,10 @@ started _ H = None
 abbrev pub incarnations : List Happening → List Incarnation
 incarnations [] = []
 incarnations (h ∷ H) = followed (incarnations H) (started h H)
+
+-- it is one of these, under its number
+abbrev pub IsKnown : List Happening → Incarnation → Type 0
+IsKnown H a = nth a.number (incarnations H) ≡ Some a
 
 -- the incarnation that runs at node n
 abbrev pub running : ℕ → List Happening → Option Incarnation

@@ -1,3 +1,4 @@
+pub mod Agreement
 pub mod Answer
 pub mod Carried
 pub mod Comes
@@ -5,6 +6,7 @@ pub mod Example
 pub mod Fields
 pub mod Grammar
 pub mod History
+pub mod Joined
 pub mod Lines
 pub mod Lists
 pub mod Numbers
@@ -15,3 +17,5 @@ pub mod Running
 pub mod Said
 pub mod Sender
 pub mod Sending
+pub mod Speaking
+pub mod Utterances

@@ -16,7 +16,8 @@ use Rattle.zre_net.specs.Lists.{nth}
 use Rattle.zre_net.specs.Lines.{octets_in}
 use Rattle.zre_net.specs.Sending.{HasSent}
 use Rattle.zre_net.specs.Rows.{running_at, Fits}
-use Rattle.zre_net.specs.History.{Incarnation, Turn, Happening, Happens, incarnations, running, journal, chronicle_of}
+use Rattle.zre_net.specs.History.{Incarnation, Turn, Happening, Happens, IsKnown, incarnations, running, journal}
+use Rattle.zre_net.specs.History.{chronicle_of}
 use Rattle.zre_net.specs.Numbers.{Broadcast, Route, Conn, broadcasts, routes, conns}
 use Rattle.zre_net.specs.Carried.{pending}
 use Rattle.zre_net.specs.Answer.{bad_move}
@@ -25,10 +26,6 @@ use Rattle.zre_net.specs.Grammar.{may_come, is_good, is_there}
 use Rattle.zre_net.specs.Said.{said_in}
 
 -- ---- nodes
-
--- the incarnation stands under its number
-abbrev pub IsKnown : List Happening → Incarnation → Type 0
-IsKnown H a = nth a.number (incarnations H) ≡ Some a
 
 pub record IsStarted (H : List Happening) (a : Incarnation) (x : Started) : Type 0 where
   pub node : x.node ≡ a.node

@@ -7,10 +7,13 @@ ghost use Rattle.zre_journal.specs.declared.config.Config.{Config};
 ghost use Rattle.zre_journal.specs.Cutting.{piece};
 ghost use Rattle.zre_node.specs.declared.node.Node.{Node};
 ghost use Rattle.zre_node.specs.Journal.{StandsFor};
+ghost use Rattle.zre_net.specs.Agreement.{IsAgreed};
+ghost use Rattle.zre_net.specs.Answer.{bad_move};
 ghost use Rattle.zre_net.specs.Example.{IsExample};
 ghost use Rattle.zre_net.specs.History.{Happening};
+ghost use Rattle.zre_net.specs.Joined.{IsJoined};
 ghost use Rattle.zre_net.specs.Numbers.{Route, queued_on};
-ghost use Rattle.zre_net.specs.Reading.{bad_line};
+ghost use Rattle.zre_net.specs.Reading.{bad_line, moves_of};
 ghost use Rattle.zre_net.specs.Restart.{IsRestart};
 
 /// Of a text that is too long no more than its first 16,777,217 octets have to be looked at.
@@ -43,4 +46,15 @@ pub fn a_restart_computes()
 pub fn a_cut_piece_is_a_whole_one()
     ensures { (g : Config) (J : List Entry) (at c : ℕ) (a b : List ℕ) (n : Node) →
         StandsFor g (J ++ piece at c a ∷ piece at c b ∷ []) n → StandsFor g (J ++ piece at c (a ++ b) ∷ []) n }
+{}
+
+/// Network agreement: in a schedule within the window, what a node shows of another that one of its connections runs is
+/// what that one was, by its own account, as it queued the last message that was processed.
+pub fn nodes_agree()
+    ensures { (lines : List (List ℕ)) → bad_move (moves_of lines) ≡ None → IsAgreed (moves_of lines) }
+{}
+
+/// Two nodes that agree, at a moment at which the one is in another group than as it spoke.
+pub fn an_agreement_computes()
+    ensures { IsJoined }
 {}

@@ -1,4 +1,5 @@
-ghost use Rattle.std.specs.Prelude.{◌≡◌, None, Some, IfOk, IfErr};
+ghost use Rattle.std.specs.Prelude.{◌≡◌, None, Some, IfOk, IfErr, OnOk};
+ghost use Rattle.zre_net.specs.Agreement.{IsAgreed};
 ghost use Rattle.zre_net.specs.Answer.{Refuses, bad_move};
 ghost use Rattle.zre_net.specs.Reading.{moves_of};
 ghost use Rattle.zre_net.specs.Said.{said as said_by};
@@ -29,11 +30,14 @@ fn run(alloc: Global, moves: Moves) -> Result<Said, ScheduleFault>
     Ok(network.said)
 }
 
-/// Runs a schedule: what its nodes tell. It refuses the first move that is outside the grammar.
+/// Runs a schedule: what its nodes tell. It refuses the first move that is outside the grammar. Where it does not, its
+/// nodes agree: over losses, repeats, reorderings, crashes and restarts within the window, what one shows of an entered
+/// other is what that one was as it queued the last message that was processed.
 pub fn run_schedule(alloc: Global, schedule: &Schedule) -> Result<Said, ScheduleFault>
     ensures told { IfOk result (λ said. (bad_move (moves_of schedule.now) ≡ None)
         × (said ≡ said_by (moves_of schedule.now))) }
     ensures refused { IfErr result (λ fault. Refuses fault (λ number. bad_move (moves_of schedule.now) ≡ Some number)) }
+    ensures agreed { OnOk result (IsAgreed (moves_of schedule.now)) }
 {
     run(alloc, schedule.moves()?)
 }

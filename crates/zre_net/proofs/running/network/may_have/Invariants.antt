@@ -1,4 +1,4 @@
-use Rattle.std.proofs.Common.{◌≡◌, Bool, true, take}
+use Rattle.std.proofs.Common.{◌≡◌, true, take}
 use Rattle.std.specs.List.{list_all}
 use Rattle.zre_net.specs.Rows.{fits_owner}
 use Rattle.zre_net.proofs.running.network.may_have.Given as goal

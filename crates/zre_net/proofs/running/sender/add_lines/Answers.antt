@@ -1,4 +1,3 @@
-use Rattle.std.proofs.Common.{◌≡◌, ◌++◌, ◌∷◌, List, take, replicate, ap, ◌∙◌}
 use Rattle.zre_net.proofs.Sending.{one_line}
 use Rattle.zre_net.proofs.running.sender.add_lines.Goals as goal
 

@@ -1,4 +1,4 @@
-use Rattle.std.proofs.Common.{◌≡◌, ◌++◌, List, replicate, take}
+use Rattle.std.proofs.Common.{◌≡◌, ◌++◌, replicate, take}
 use Rattle.zre_net.specs.Lines.{connects, fresh}
 use Rattle.zre_net.proofs.running.sender.add_lines.Given as goal
 

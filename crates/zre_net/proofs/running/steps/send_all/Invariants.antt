@@ -1,4 +1,4 @@
-use Rattle.std.proofs.Common.{◌≡◌, ◌++◌, List, take}
+use Rattle.std.proofs.Common.{◌≡◌, ◌++◌, take}
 use Rattle.std.specs.List.{filter_map}
 use Rattle.zre_net.specs.Rows.{sent_in}
 use Rattle.zre_net.proofs.running.steps.send_all.Given as goal

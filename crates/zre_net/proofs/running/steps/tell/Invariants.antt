@@ -1,4 +1,4 @@
-use Rattle.std.proofs.Common.{◌≡◌, ◌++◌, List, map}
+use Rattle.std.proofs.Common.{◌≡◌, ◌++◌, map}
 use Rattle.zre_net.proofs.running.steps.tell.Given as goal
 
 abbrev pub invariant-loop-event : goal.invariant-loop-event

@@ -1,4 +1,4 @@
-use Rattle.std.proofs.Common.{◌≡◌, ◌∙◌, ◌||◌, ap, refl}
+use Rattle.std.proofs.Common.{◌∙◌, ◌||◌, ap, refl}
 use Rattle.zre_mailbox.specs.Conn.{is_spent}
 use Rattle.zre_net.proofs.Ears.{deaf}
 use Rattle.zre_net.proofs.running.ear.Ear.hear.Goals.{then-ignored-via-then-ignored, then-ignored-via-else-ignored+then-spent}

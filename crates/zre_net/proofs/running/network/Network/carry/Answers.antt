@@ -1,4 +1,4 @@
-use Rattle.std.proofs.Common.{◌≡◌, ◌+◌, ◌∙◌, Some, None, Option, List, ℕ, ap, sym, refl, subst, arith}
+use Rattle.std.proofs.Common.{◌+◌, ◌∙◌, Some, Option, List, ℕ, ap, sym, refl, subst, arith}
 use Rattle.zre_net.specs.declared.moves.Move.TheVariants as move
 use Rattle.zre_net.specs.Lists.{nth}
 use Rattle.zre_net.specs.Rows.{IsSpelledAt}

@@ -1,4 +1,4 @@
-use Rattle.std.proofs.Common.{◌≡◌, ◌∙◌, Some, ap, sym, refl, arith}
+use Rattle.std.proofs.Common.{◌∙◌, Some, ap, sym, refl, arith}
 use Rattle.zre_net.proofs.Listing.{there}
 use Rattle.zre_net.proofs.Quiet.{crash_played, crash_stands}
 use Rattle.zre_net.proofs.running.network.Network.crash.Goals as goal

@@ -1,4 +1,4 @@
-use Rattle.std.proofs.Common.{◌≡◌, ◌-◌, ◌≤◌, arith, subst, sym, ℕ}
+use Rattle.std.proofs.Common.{◌≡◌, ◌-◌, arith, subst, ℕ}
 use Rattle.zre_net.specs.declared.moves.Move.TheVariants as move
 use Rattle.zre_net.specs.Comes.{with_move}
 use Rattle.zre_net.specs.Running.{StandsAfter}

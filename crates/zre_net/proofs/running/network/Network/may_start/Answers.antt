@@ -1,4 +1,4 @@
-use Rattle.std.proofs.Common.{◌≡◌, ◌&&◌, ◌∙◌, Bool, ap, ltb}
+use Rattle.std.proofs.Common.{◌&&◌, ◌∙◌, ap, ltb}
 use Rattle.std.specs.Prelude.{is_none}
 use Rattle.std.specs.List.{list_all}
 use Rattle.zre_net.specs.Rows.{running_at, fits_owner}

@@ -1,4 +1,4 @@
-use Rattle.std.proofs.Common.{◌≡◌, ◌∙◌, ap, sym, refl, arith, length}
+use Rattle.std.proofs.Common.{◌≡◌, ◌∙◌, ap, refl, arith, length}
 use Rattle.zre_net.specs.declared.moves.Move.TheVariants as move
 use Rattle.zre_net.specs.Lists.{nth}
 use Rattle.zre_net.proofs.Opening.{opens_played, same_fields}

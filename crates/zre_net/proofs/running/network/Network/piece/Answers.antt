@@ -1,7 +1,5 @@
-use Rattle.std.proofs.Common.{◌≡◌, refl, le-ltb}
-use Rattle.zre_net.specs.declared.moves.Move.TheVariants as move
-use Rattle.zre_net.proofs.Plays.{refused}
-use Rattle.zre_net.proofs.Piecing.{piece_gone, piece_refused, piece_played}
+use Rattle.std.proofs.Common.{le-ltb}
+use Rattle.zre_net.proofs.Piecing.{piece_played}
 use Rattle.zre_net.proofs.running.network.Network.piece.Goals as goal
 
 pub returns : goal.returns

@@ -1,4 +1,4 @@
-use Rattle.std.proofs.Common.{◌≡◌, List, refl, ap, sym, ◌∙◌}
+use Rattle.std.proofs.Common.{refl}
 use Rattle.zre_outside.specs.declared.entry.Input.TheVariants as input
 use Rattle.zre_net.specs.declared.moves.Move.TheVariants as move
 use Rattle.zre_net.proofs.Plays.{link_refused, link_played, reply_still, reply_kept}

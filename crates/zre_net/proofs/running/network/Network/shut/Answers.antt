@@ -1,5 +1,3 @@
-use Rattle.std.proofs.Common.{◌≡◌, List, refl, ap, sym, ◌∙◌}
-use Rattle.zre_outside.specs.declared.entry.Input.TheVariants as input
 use Rattle.zre_net.specs.declared.moves.Move.TheVariants as move
 use Rattle.zre_net.proofs.Plays.{shut_gone, shut_played, shut_still, shut_kept}
 use Rattle.zre_net.proofs.running.network.Network.shut.Goals as goal

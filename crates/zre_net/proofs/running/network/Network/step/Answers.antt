@@ -1,4 +1,4 @@
-use Rattle.std.proofs.Common.{◌≡◌, ◌++◌, ◌∙◌, Some, ap, sym, refl, arith}
+use Rattle.std.proofs.Common.{◌++◌, ◌∙◌, Some, ap, sym, refl, arith}
 use Rattle.std.specs.List.{filter_map}
 use Rattle.zre_values.proofs.Answered.{on_ok}
 use Rattle.zre_net.specs.Rows.{sent_in, way_in}

@@ -1,5 +1,5 @@
-use Rattle.std.proofs.Common.{◌≡◌, ◌&&◌, ◌∙◌, ap, sym, subst, true, Bool}
-use Rattle.zre_net.specs.Running.{IsPlayed, IsTaken}
+use Rattle.std.proofs.Common.{subst, true, Bool}
+use Rattle.zre_net.specs.Running.{IsPlayed}
 use Rattle.zre_net.specs.Comes.{with_move}
 use Rattle.zre_net.proofs.Runs.{taken}
 use Rattle.zre_net.proofs.running.network.Network.take.Goals as goal

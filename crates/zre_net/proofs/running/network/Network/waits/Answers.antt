@@ -1,4 +1,4 @@
-use Rattle.std.proofs.Common.{◌≡◌, ◌∙◌, ap, sym, length}
+use Rattle.std.proofs.Common.{◌∙◌, ap, sym}
 use Rattle.zre_net.specs.Lists.{nth}
 use Rattle.zre_net.proofs.Piecing.{waits_for, waits_not}
 use Rattle.zre_net.proofs.running.network.Network.waits.Goals as goal
