@@ -226,8 +226,8 @@ class Network:
         conn = self.conns[number - 1]
         for _ in range(self.chance.choice([1, 2, 5])):
             part = conn.last + 1
-            if self.chance.random() < 0.04:
-                part = self.chance.choice(["greeting", "ready", "ready", 1, part + 1, max(1, part - 1)])
+            if self.chance.random() < 0.15:
+                part = self.chance.choice(["greeting", "ready", "ready", 1, part + 1, part + 1, part + 1, max(1, part - 1)])
             if part in ("greeting", "ready") or part <= len(conn.link.messages):
                 self.carries(number, part)
 
