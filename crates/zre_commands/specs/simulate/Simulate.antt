@@ -1,5 +1,6 @@
 -- What `simulate` makes of the octets of a schedule.
-use Rattle.std.specs.Prelude.{ℕ, false, List, [], ◌∷◌, ◌++◌, Option, Some, None, is_some, flat_map, decimal}
+use Rattle.std.specs.Prelude.{◌≡◌, ℕ, false, List, [], ◌∷◌, ◌++◌, Option, Some, None, is_some, flat_map, decimal}
+use Rattle.zre_net.specs.Agreement.{IsAgreed}
 use Rattle.zre_net.specs.Answer.{bad_in}
 use Rattle.zre_net.specs.Reading.{lines_in, moves_of}
 use Rattle.zre_net.specs.Said.{said}
@@ -31,3 +32,9 @@ simulate = record {
   is_bad = λ o. is_some (bad_in o);
   ending = answer;
 }
+
+-- Where octets are a schedule, `simulate` writes what its nodes tell, and they agree: what one shows of another is what
+-- that one was as it queued the last message that was processed.
+pub record AreSimulated (o : List ℕ) : Type 0 where
+  pub ends : simulate.ending o ≡ told_lines (said (moves_of (lines_in o)))
+  pub agreed : IsAgreed (moves_of (lines_in o))

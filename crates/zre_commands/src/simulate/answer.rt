@@ -1,9 +1,9 @@
 //! The text of an answer.
 
-ghost use Rattle.std.specs.Prelude.{◌≡◌, ℕ, List, ◌++◌, Some, None, is_some, IfOk, OnOk};
+ghost use Rattle.std.specs.Prelude.{◌≡◌, ℕ, List, ◌++◌, Some, None, false, is_some, IfOk, OnOk};
 ghost use Rattle.zre_net.specs.Answer.{Refuses, bad_in};
 ghost use Rattle.zre_net.specs.Reading.{bad_line as bad_line_of, lines_in};
-ghost use Rattle.zre_commands.specs.simulate.Simulate.{told_line, told_lines, answer};
+ghost use Rattle.zre_commands.specs.simulate.Simulate.{told_line, told_lines, answer, AreSimulated};
 
 use crate::pump::push_bad_line;
 use std::alloc::Global;
@@ -51,6 +51,8 @@ fn push_run(alloc: Global, schedule: &Schedule, out: &mut Octets) -> Result<bool
         IfOk result (λ bad. bad ≡ is_some (bad_in text)) }
     ensures appended { (text : List ℕ) → bad_line_of text ≡ None → schedule.now ≡ lines_in text →
         OnOk result (out.new ≡ out.old ++ answer text) }
+    ensures agreed { (text : List ℕ) → bad_line_of text ≡ None → schedule.now ≡ lines_in text →
+        IfOk result (λ bad. bad ≡ false → AreSimulated text) }
 {
     match run_schedule(alloc, schedule) {
         Ok(said) => {
@@ -62,10 +64,11 @@ fn push_run(alloc: Global, schedule: &Schedule, out: &mut Octets) -> Result<bool
 }
 
 /// Appends what a text comes to: the lines of what the nodes tell, or the line at which it is no schedule. Says whether
-/// it is refused.
+/// it is refused; where it isn't, the nodes agree.
 pub(crate) fn push_answer(alloc: Global, text: &[u8], out: &mut Octets) -> Result<bool, OutOfMemory>
     ensures bad { IfOk result (λ bad. bad ≡ is_some (bad_in text.now)) }
     ensures appended { OnOk result (out.new ≡ out.old ++ answer text.now) }
+    ensures agreed { IfOk result (λ bad. bad ≡ false → AreSimulated text.now) }
 {
     match read_schedule(alloc, text) {
         Ok(schedule) => push_run(alloc, &schedule, out),
