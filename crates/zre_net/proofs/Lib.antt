@@ -33,6 +33,7 @@ mod Same
 mod Sendable
 mod Sending
 mod Sent
+mod Short
 mod Speaking
 mod Starting
 mod Stepping

@@ -2,7 +2,7 @@
 -- message that was processed.
 use Rattle.std.specs.Prelude.{◌≡◌, ℕ, ◌≤◌, List, [], ◌++◌, Option, Some, None, if◌then◌else◌, nat_eq, length, take}
 use Rattle.std.specs.Option.{option_map_or}
-use Rattle.std.specs.List.{filter_map}
+use Rattle.std.specs.List.{filter_map, AllByRecursion}
 use Rattle.zre_peer.specs.Runs.{told}
 use Rattle.zre_journal.specs.Chronicle.{Mark}
 use Rattle.zre_journal.specs.Connections.{runs}
@@ -47,6 +47,11 @@ ledger_of H = record {
 -- the one that is due.
 abbrev pub IsWithinWindow : List Happening → Type 0
 IsWithinWindow H = (b : Incarnation) → IsKnown H b → IsNearWhereItComes b.settings (ledger_of H) (journal b H)
+
+-- each connection is made to carry at most 65535 messages, and none past the 65535th of its link
+abbrev pub CarryFew : List Happening → Type 0
+CarryFew H =
+    (x : ℕ) → (length ((ledger_of H).picks x) ≤ 65535) × AllByRecursion (λ k. k ≤ 65535) ((ledger_of H).picks x)
 
 -- ---- agreement
 
