@@ -1,11 +1,11 @@
-"""Whether the nodes of a schedule agree: random schedules with losses, repeats, reorderings, crashes and restarts, and a small
-model that keeps what each node was as it queued each message.
+"""Whether the nodes of a schedule agree: random schedules with losses, repeats, reorderings, crashes and restarts, and a
+small model that keeps what each node was as it queued each message.
 
     python3 tests/fuzz.d/agreeing.py PROGRAM [COUNT [SEED]]
 
-Of what `simulate` writes only each run of a peer is looked at, from its ENTER on: it must tell what the first messages of one
-link tell, as many as the model has counted, and the groups that it leads to must be those that the peer had as it queued the
-last of them.
+Of what `simulate` writes only each run of a peer is looked at, from its ENTER on: it must tell what the first messages
+of one link tell, as many as the model has counted, and the groups that it leads to must be those that the peer had as it
+queued the last of them.
 """
 import os
 import random
@@ -227,7 +227,8 @@ class Network:
         for _ in range(self.chance.choice([1, 2, 5])):
             part = conn.last + 1
             if self.chance.random() < 0.15:
-                part = self.chance.choice(["greeting", "ready", "ready", 1, part + 1, part + 1, part + 1, max(1, part - 1)])
+                others = ["greeting", "ready", "ready", 1, part + 1, part + 1, part + 1, max(1, part - 1)]
+                part = self.chance.choice(others)
             if part in ("greeting", "ready") or part <= len(conn.link.messages):
                 self.carries(number, part)
 
@@ -243,7 +244,8 @@ class Network:
         node, group = self.node(), self.chance.choice(GROUPS)
         text = "t" * self.chance.choice([1, 5, 300])
         other = self.chance.choice([*node.peers, *(one.id for one in self.nodes.values())])
-        words = self.chance.choice([("join", group), ("join", group), ("leave", group), ("whisper", other, text), ("shout", group, text)])
+        words = self.chance.choice([("join", group), ("join", group), ("leave", group), ("whisper", other, text),
+                                    ("shout", group, text)])
         self.move("do", node.number, 0, *words)
         node.wishes(words)
 
