@@ -12,10 +12,10 @@ use Rattle.zre_mailbox.specs.declared.arrival.Arrival.{Arrival}
 use Rattle.zre_mailbox.specs.declared.arrival.Arrival.TheVariants as arrival
 use Rattle.zre_mailbox.specs.Conn.{identity_in}
 use Rattle.zre_mailbox.specs.Talk.{Arrived, arrivals, fault_in, fault_said, talk}
-use Rattle.zre_net.specs.Utterances.{Utterance, Greeting, Ready, Says, stream, said_by, messages, IsReadable, IsHearable, up_to_greeting, heard as heard_of}
+use Rattle.zre_mailbox.specs.Utterances.{Utterance, Greeting, Ready, Says, stream, said_by, messages, IsReadable, IsHearable, up_to_greeting, heard as heard_of}
 use Rattle.zre_mailbox.proofs.Growing.{goes, nothing_said}
 use Rattle.zre_mailbox.proofs.Hearing.{identity_kept}
-use Rattle.zre_net.proofs.Utterances.{are_heard}
+use Rattle.zre_mailbox.proofs.Utterances.{are_heard}
 use Rattle.zre_peer.specs.Ledger.{IsNumbered, IsPicked, ArePicked}
 use Rattle.zre_peer.specs.Runs.{told}
 use Rattle.zre_peer.specs.Views.{view_of}
@@ -29,14 +29,15 @@ use Rattle.zre_journal.specs.Laws.{message_on, counted_on}
 use Rattle.zre_journal.specs.Ledger.{Ledger, IsDrawn, KeepsLedger}
 use Rattle.zre_journal.specs.Peers.{Life, life, runner, counted, message_at}
 use Rattle.zre_journal.specs.Proper.{IsProper}
-use Rattle.zre_net.proofs.Identities.{is_introduced}
+use Rattle.zre_journal.proofs.Identities.{is_introduced}
 use Rattle.zre_journal.proofs.Keeping.{keeps}
-use Rattle.zre_journal.proofs.Lawful.{IsTold, told_more}
+use Rattle.zre_journal.proofs.Lawful.{IsTold, none_told, told_more}
+use Rattle.zre_journal.proofs.Ledgers.{front_picked}
 use Rattle.zre_journal.proofs.Listed.{any_has}
-use Rattle.zre_net.proofs.Moments.{at_moments, each_grows, still_opened, still_identified}
-use Rattle.zre_net.proofs.Passing.{ArePassed, passed_more, none_passed}
+use Rattle.zre_journal.proofs.Moments.{at_moments, each_grows, still_opened, still_identified}
+use Rattle.zre_journal.proofs.Passing.{ArePassed, passed_more, none_passed}
 use Rattle.zre_journal.proofs.Silent.{has_started, run_is}
-use Rattle.zre_net.proofs.Truly.{spoke_truly, are_readable}
+use Rattle.zre_journal.proofs.Truly.{spoke_truly, are_readable}
 use Rattle.zre_journal.proofs.Windows.{keeps_ledgers}
 use Rattle.zre_net.specs.declared.moves.Part.{Part}
 use Rattle.zre_net.specs.declared.moves.Part.TheVariants as part
@@ -49,15 +50,6 @@ use Rattle.zre_net.specs.Numbers.{Route, Conn, conns, queued_on}
 use Rattle.zre_net.proofs.Carrying.{streamed, Carries}
 use Rattle.zre_net.proofs.Journals.{same_who}
 use Rattle.zre_net.proofs.Listing.{some_one, all_at}
-
-none_told : IsTold []
-none_told = record { ordered = λ c. refl; unbegun = λ c e. refl; begun = λ c l e. cc; whose = λ c l r. cc; same = λ c l r. cc }
-
--- the first of what came is picked where all of it is
-front_picked : (sent : List Message) (picks : List ℕ) (ms rest : List Message) → ArePicked sent picks (ms ++ rest) → ArePicked sent picks ms
-front_picked sent picks [] rest p = tt
-front_picked sent [] (m ∷ ms) rest p = absurd p
-front_picked sent (pick ∷ picks) (m ∷ ms) rest p = (p.0, front_picked sent picks ms rest p.1)
 
 -- ---- lists
 

@@ -8,9 +8,9 @@ use Rattle.zre_journal.specs.Chronicle.{Mark}
 use Rattle.zre_journal.specs.Connections.{runs}
 use Rattle.zre_journal.specs.Ledger.{Ledger, IsNearWhereItComes}
 use Rattle.zre_journal.specs.Peers.{Life, life, counted, view}
-use Rattle.zre_net.specs.Speaking.{moment}
+use Rattle.zre_journal.specs.Speaking.{moment}
 use Rattle.zre_journal.specs.Spoken.{run_of}
-use Rattle.zre_net.specs.Speaking.{told_in}
+use Rattle.zre_journal.specs.Told.{told_in}
 use Rattle.zre_journal.specs.Truth.{own_view}
 use Rattle.zre_net.specs.declared.moves.Move.{Move}
 use Rattle.zre_net.specs.declared.moves.Move.TheVariants as move

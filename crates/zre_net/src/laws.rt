@@ -1,16 +1,10 @@
 //! Laws of what schedules mean. The functions do nothing: what they ensure is for proofs.
 
 ghost use Rattle.std.specs.Prelude.{◌≡◌, ◌≤◌, ◌++◌, ◌∷◌, ℕ, List, [], None, length, take};
-ghost use Rattle.std.specs.List.{AllByRecursion};
-ghost use Rattle.zre_values.specs.declared.peer_id.PeerId.{PeerId};
 ghost use Rattle.zre_msg.specs.declared.message.Message.{Message};
-ghost use Rattle.zre_mailbox.specs.Talk.{arrivals};
 ghost use Rattle.zre_outside.specs.declared.entry.Entry.{Entry};
 ghost use Rattle.zre_journal.specs.declared.config.Config.{Config};
-ghost use Rattle.zre_journal.specs.Config.{CanBe};
 ghost use Rattle.zre_journal.specs.Cutting.{piece};
-ghost use Rattle.zre_journal.specs.Events.{chronicle};
-ghost use Rattle.zre_journal.specs.Links.{queued};
 ghost use Rattle.zre_node.specs.declared.node.Node.{Node};
 ghost use Rattle.zre_node.specs.Journal.{StandsFor};
 ghost use Rattle.zre_net.specs.Agreement.{CarryFew, IsWithinWindow, IsAgreed};
@@ -21,8 +15,6 @@ ghost use Rattle.zre_net.specs.Joined.{IsJoined};
 ghost use Rattle.zre_net.specs.Numbers.{Route, queued_on};
 ghost use Rattle.zre_net.specs.Reading.{bad_line, moves_of};
 ghost use Rattle.zre_net.specs.Restart.{IsRestart};
-ghost use Rattle.zre_net.specs.Speaking.{SpokeTruly};
-ghost use Rattle.zre_net.specs.Utterances.{Utterance, IsReadable, IsHearable, stream, heard};
 
 /// Of a text that is too long no more than its first 16,777,217 octets have to be looked at.
 pub fn long_texts_are_refused_early()
@@ -71,24 +63,4 @@ pub fn few_messages_are_within_the_window()
 /// Two nodes that agree, at a moment at which the one is in another group than as it spoke.
 pub fn an_agreement_computes()
     ensures { IsJoined }
-{}
-
-/// What a node said of itself was true, message by message: on each link, also that of a peer that is gone, who reads
-/// the messages up to the n-th has the view of the node that was true as it put that one there, within the limits of a
-/// view. So HELLO has the groups of the moment at which the link was made.
-pub fn a_node_spoke_truly()
-    ensures { (g : Config) (J : List Entry) → CanBe g → SpokeTruly g (chronicle g J) }
-{}
-
-/// Each message that a node puts on a link is read as it was spelled, and passes no limit.
-pub fn messages_are_readable()
-    ensures { (g : Config) (J : List Entry) (l : ℕ) → CanBe g → AllByRecursion IsReadable (queued l (chronicle g J)) }
-{}
-
-/// Of what a node says, in whichever order its greeting, its READY and its messages come, just this arrives: where the
-/// greeting is first and READY next, every message, as it was spelled, up to a further greeting; a further READY is
-/// skipped, and all else that is out of place is a fault.
-pub fn just_whole_parts_are_heard()
-    ensures { (own id : PeerId) (us : List Utterance) → length id.0 ≡ 16 → AllByRecursion IsHearable us
-        → arrivals own (stream id us) ≡ heard own id us }
 {}

@@ -12,10 +12,8 @@ mod word;
 
 pub use fault::{BadSchedule, ScheduleFault};
 pub use laws::{
-    a_cut_piece_is_a_whole_one, a_node_spoke_truly, a_restart_computes, an_agreement_computes,
-    an_example_computes, few_messages_are_within_the_window, just_whole_parts_are_heard,
-    links_only_grow, long_texts_are_refused_early, messages_are_readable, nodes_agree,
-    schedules_are_short,
+    a_cut_piece_is_a_whole_one, a_restart_computes, an_agreement_computes, an_example_computes,
+    links_only_grow, long_texts_are_refused_early, nodes_agree, schedules_are_short,
 };
 pub use moves::{Move, Moves, Part};
 pub use reading::{Schedule, read_schedule};

@@ -24,7 +24,7 @@ use Rattle.zre_journal.specs.Links.{groups, status}
 use Rattle.zre_journal.specs.Peers.{Life, lives, life, births}
 use Rattle.zre_journal.specs.Proper.{IsProper, Apart}
 use Rattle.zre_journal.specs.Pushes.{hello, push, push_all, birth}
-use Rattle.zre_net.specs.Speaking.{moment}
+use Rattle.zre_journal.specs.Speaking.{moment}
 use Rattle.zre_journal.specs.Truth.{own_view, only_begins_with_hello}
 use Rattle.zre_journal.proofs.Always.{empty, marks_allowed}
 use Rattle.zre_journal.proofs.Brings.{pushed, Outcome, plainly, birth_of, start_of, joining, leaving, then, all_brought}
@@ -36,18 +36,7 @@ use Rattle.zre_journal.proofs.Listed.{All-map, eqb-comm}
 use Rattle.zre_journal.proofs.Says.{outcome}
 use Rattle.zre_journal.proofs.Silent.{Comes-proper}
 use Rattle.zre_journal.proofs.Steps.{May, Allowed, steps, choice}
-use Rattle.zre_journal.proofs.Truth.{told, once_more, once_less, apart_of, Truth, plain_step, born, changes}
-
-none_of : (bs : List Body) (b : Body) → is_hello b ≡ false → list_any is_hello (bs ++ b ∷ []) ≡ list_any is_hello bs
-none_of [] b n = rw n refl
-none_of (x ∷ bs) b n = ap (λ t. is_hello x || t) (none_of bs b n)
-
-still_begins : (bs : List Body) (b : Body) → is_hello b ≡ false → only_begins_with_hello bs ≡ true → only_begins_with_hello (bs ++ b ∷ []) ≡ true
-still_begins [] b n e = cc
-still_begins (x ∷ bs) b n e = ap (λ t. is_hello x && not t) (none_of bs b n) ∙ e
-
-told_more : (bs : List Body) (b : Body) → told (bs ++ b ∷ []) ≡ reading (told bs) b
-told_more bs b = fold-append reading blank bs (b ∷ [])
+use Rattle.zre_journal.proofs.Truth.{told, once_more, once_less, apart_of, still_begins, told_more, Truth, plain_step, born, changes}
 
 module _ (g : Config) where
   pub record Spoke (H : List Mark) : Type 0 where

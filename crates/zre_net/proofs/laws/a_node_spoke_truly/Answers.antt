@@ -1,5 +1,0 @@
-use Rattle.zre_net.proofs.Truly.{spoke_truly}
-use Rattle.zre_net.proofs.laws.a_node_spoke_truly.Goals as goal
-
-pub returns : goal.returns
-returns c = λ g J can. spoke_truly g J can

@@ -1,5 +1,0 @@
-use Rattle.zre_net.proofs.Utterances.{are_heard}
-use Rattle.zre_net.proofs.laws.just_whole_parts_are_heard.Goals as goal
-
-pub returns : goal.returns
-returns c = λ own id us sixteen h. are_heard own id sixteen us h

@@ -1,5 +1,0 @@
-use Rattle.zre_net.proofs.Truly.{are_readable}
-use Rattle.zre_net.proofs.laws.messages_are_readable.Goals as goal
-
-pub returns : goal.returns
-returns c = λ g J l can. are_readable g J can l
