@@ -19,31 +19,38 @@ ghost use Rattle.zre_node.specs.Stands.{Holds, is_quiet};
 use crate::connection::Connection;
 use crate::incoming::arrivals::Heard;
 use crate::tables::Tables;
-use std::alloc::Global;
 use std::sync::ledger::Ledger;
-use zre_mailbox::{Arrivals, Conn};
+use zre_mailbox::Conn;
 use zre_values::OutOfMemory;
-use zre_zmtp::{FeedFault, Steps};
+use zre_zmtp::{FeedFault, Items, Steps};
 
 impl Heard {
-    // Nothing is completed.
-    fn nothing(alloc: Global) -> Self
+    // Nothing is completed. The list is empty.
+    fn nothing(items: Items) -> Self
+        requires { items ≡ [] }
         ensures { said_in result ≡ [] }
     {
-        Heard {
-            arrivals: Arrivals::new(alloc),
-            fault: None,
-        }
+        Heard { items, fault: None }
+    }
+
+    /// The list again, emptied.
+    pub fn emptied(self) -> Items
+        ensures { result ≡ [] }
+    {
+        let Heard { mut items, .. } = self;
+        items.clear();
+        items
     }
 }
 
-// A connection is fed, and what it says is read. After a fault it says nothing more.
+// A connection is fed, and what it says is read into an empty list. After a fault it says nothing more.
 fn read<L: Ledger>(
-    alloc: Global,
     conn: &mut Conn,
     bytes: &[u8],
+    mut items: Items,
     steps: &mut Steps<L>,
 ) -> Result<Heard, OutOfMemory>
+    requires { items ≡ [] }
     ensures heard { (own : PeerId) (o : List ℕ) → conn.old ≡ conn_after own o →
         IfOk result (λ heard. (conn.new ≡ conn_after own (o ++ bytes.now))
         × (said_in heard ≡ completed own o bytes.now)) }
@@ -51,19 +58,15 @@ fn read<L: Ledger>(
         Looks steps.old steps.new (kept_of conn.old) (kept_of conn.new) (length bytes.now) result }
 {
     if conn.ignored() {
-        return Ok(Heard::nothing(alloc));
+        return Ok(Heard::nothing(items));
     }
     if conn.spent() {
-        return Ok(Heard::nothing(alloc));
+        return Ok(Heard::nothing(items));
     }
-    let mut arrivals = Arrivals::new(alloc);
-    match conn.feed_counted(bytes, &mut arrivals, steps) {
-        Ok(()) => Ok(Heard {
-            arrivals,
-            fault: None,
-        }),
+    match conn.feed_items(bytes, &mut items, steps) {
+        Ok(()) => Ok(Heard { items, fault: None }),
         Err(FeedFault::Zmtp(fault)) => Ok(Heard {
-            arrivals,
+            items,
             fault: Some(fault),
         }),
         Err(FeedFault::OutOfMemory) => Err(OutOfMemory),
@@ -72,11 +75,12 @@ fn read<L: Ledger>(
 
 // The octets of an open connection are read, unless it is ignored.
 fn hear<L: Ledger>(
-    alloc: Global,
     found: &mut Connection,
     bytes: &[u8],
+    items: Items,
     steps: &mut Steps<L>,
 ) -> Result<Heard, OutOfMemory>
+    requires { items ≡ [] }
     ensures live { (own : PeerId) (o : List ℕ) → found.old.conn ≡ Some (conn_after own o) →
         IfOk result (λ heard. (found.new ≡ record found.old { conn = Some (conn_after own (o ++ bytes.now)) })
         × (said_in heard ≡ completed own o bytes.now)) }
@@ -86,8 +90,8 @@ fn hear<L: Ledger>(
     ensures no_looks { found.old.conn ≡ None → steps.new ≡ steps.old }
 {
     match &mut found.conn {
-        Some(conn) => read(alloc, conn, bytes, steps),
-        None => Ok(Heard::nothing(alloc)),
+        Some(conn) => read(conn, bytes, items, steps),
+        None => Ok(Heard::nothing(items)),
     }
 }
 
@@ -100,14 +104,17 @@ impl Tables {
         self.clock = at.max(self.clock);
     }
 
-    /// The same, with a piece of a connection: what it completes of what that connection says.
+    /// The same, with a piece of a connection: what it completes of what that connection says, in a list that is
+    /// handed over empty.
     pub fn come_piece<L: Ledger>(
         &mut self,
         at: u64,
         conn: u64,
         bytes: &[u8],
+        items: Items,
         steps: &mut Steps<L>,
     ) -> Result<Heard, OutOfMemory>
+        requires { items ≡ [] }
         ensures came { (g : Config) (H : List Mark) (e : Entry) → e.at ≡ at → e.input ≡ input.Piece conn bytes.now
             → Holds g H self.old →
             IfOk result (λ heard. Holds g (Comes e ∷ H) self.new
@@ -119,8 +126,8 @@ impl Tables {
     {
         self.clock = at.max(self.clock);
         match self.conns.get_mut(&conn) {
-            Some(found) => hear(self.alloc, found, bytes, steps),
-            None => Ok(Heard::nothing(self.alloc)),
+            Some(found) => hear(found, bytes, items, steps),
+            None => Ok(Heard::nothing(items)),
         }
     }
 }

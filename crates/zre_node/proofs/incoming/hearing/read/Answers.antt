@@ -1,6 +1,6 @@
 use Rattle.std.proofs.Common.{◌≡◌, ◌++◌, true, false, sym, ap, ◌∙◌, arith}
 use Rattle.zre_mailbox.specs.Conn.{Hearing, is_ignored, is_spent}
-use Rattle.zre_node.proofs.Hearings.{never_ignored, spent_stays, kept_refused}
+use Rattle.zre_node.proofs.Hearings.{never_ignored, spent_stays, kept_refused, said_fine, said_faulty}
 use Rattle.zre_node.proofs.incoming.hearing.read.Goals as goal
 
 pub returns-then-ignored-clause-heard : goal.returns-then-ignored-clause-heard
@@ -26,8 +26,16 @@ pub returns-in-Err-Zmtp-clause-looks : goal.returns-in-Err-Zmtp-clause-looks
 returns-in-Err-Zmtp-clause-looks over c = λ own o e.
     let all = rw c.in-Err-Zmtp.field-0-is at c.in-Err-Zmtp.ensures.refused in
     let r = all own o e in
-    let none = kept_refused own (o ++ c.args.bytes.now) _ c.feed_counted.new.self r.1.now_is r.0 in
+    let none = kept_refused own (o ++ c.args.bytes.now) _ c.feed_items.new.self r.1.1.now_is r.0 in
     (omega (arith, c.in-Err-Zmtp.ensures.looks.1, none), tt)
 
 pub returns-in-Err-OutOfMemory-clause-looks : goal.returns-in-Err-OutOfMemory-clause-looks
 returns-in-Err-OutOfMemory-clause-looks over c = λ own o e. (tt, c.in-Err-OutOfMemory.ensures.looks.1)
+
+pub returns-in-Ok-clause-heard : goal.returns-in-Ok-clause-heard
+returns-in-Ok-clause-heard over c = λ own o e. said_fine own o c.args.bytes.now c.feed_items.new.self c.args.items c.feed_items.new.items (c.in-Ok.ensures.ok own o e)
+
+pub returns-in-Err-Zmtp-clause-heard : goal.returns-in-Err-Zmtp-clause-heard
+returns-in-Err-Zmtp-clause-heard over c = λ own o e.
+    let all = rw c.in-Err-Zmtp.field-0-is at c.in-Err-Zmtp.ensures.refused in
+    said_faulty own o c.args.bytes.now c.feed_items.new.self c.args.items c.feed_items.new.items _ (all own o e)

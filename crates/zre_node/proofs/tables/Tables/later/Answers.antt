@@ -1,5 +1,6 @@
 use Rattle.std.proofs.Common.{Bool, ◌++◌, [], ◌∷◌, refl, sym, ap, ◌∙◌, if◌then◌else◌}
 use Rattle.zre_msg.specs.declared.message.Body.TheVariants as body
+use Rattle.zre_msg.specs.Lent.{message_of}
 use Rattle.zre_peer.specs.declared.peer_run.RunFault.TheVariants as fault
 use Rattle.zre_journal.specs.Chronicle.{Counts}
 use Rattle.zre_journal.specs.Pushes.{push}
@@ -20,7 +21,7 @@ pub returns-in-Ok : goal.returns-in-Ok
 returns-in-Ok c = λ g H h r.
     let t = c.args.self.now in
     let l = c.args.link in
-    let m = c.args.message in
+    let m = message_of c.args.lent.now in
     let k = c.in-Some.peer.now in
     let was = c.in-Some.ensures.value in
     let its_row = its g H t h c.args.conn l r k was in
@@ -32,25 +33,25 @@ returns-in-Ok c = λ g H h r.
     on_ok c.answer_ping.result (c.answer_ping.ensures g (Counts c.args.conn l m ∷ H) held (run_known H h.keeps.proper c.args.conn l r)) (λ second.
     did_as g _ _ H _ _ _ (counts_it g c.args.conn l m H (some_counted g H t h c.args.conn l r k was) took.0)
     (did_then g (Counts c.args.conn l m ∷ []) (if is_ping m.body then push g l body.PingOk H else []) H _ c.answer_ping.new.self c.args.out.now (record c.args.out.now { events = c.take.new.events }) c.answer_ping.new.out first
-    (did_as g _ _ (Counts c.args.conn l m ∷ H) _ _ _ (ap (λ (b : Bool). if b then push g l body.PingOk H else []) (sym c.is_ping-ping.ensures)) second)))
+    (did_as g _ _ (Counts c.args.conn l m ∷ H) _ _ _ (ap (λ (b : Bool). if b then push g l body.PingOk H else []) (sym (c.is_ping-ping.ensures c.args.lent.now.content.now))) second)))
 
 pub returns-in-Err-SecondHello : goal.returns-in-Err-SecondHello
 returns-in-Err-SecondHello c = λ g H h r.
     let all = rw c.in-Err-SecondHello.field-0-is at c.in-Err-SecondHello.ensures.refused in
-    refused_by g H c.args.self.now h c.args.conn c.args.link r c.in-Some.peer.now c.in-Some.ensures.value c.args.message fault.SecondHello c.take.new.peer (c.get_mut.follows.lender c.take.new.peer)
+    refused_by g H c.args.self.now h c.args.conn c.args.link r c.in-Some.peer.now c.in-Some.ensures.value (message_of c.args.lent.now) fault.SecondHello c.take.new.peer (c.get_mut.follows.lender c.take.new.peer)
     c.in-Err-SecondHello.ensures.id (c.get_mut.follows.holds c.take.new.peer).0 c.end.new.self c.args.out.now c.end.new.out c.take.new.events c.end.result
     (λ id runs. all c.args.conn id (counted c.args.link H) runs (λ e. absurd cc)) (c.end.ensures g H)
 
 pub returns-in-Err-Broken : goal.returns-in-Err-Broken
 returns-in-Err-Broken c = λ g H h r.
     let all = rw c.in-Err-Broken.field-0-is at c.in-Err-Broken.ensures.refused in
-    refused_by g H c.args.self.now h c.args.conn c.args.link r c.in-Some.peer.now c.in-Some.ensures.value c.args.message (fault.Broken c.in-Err-Broken.due c.in-Err-Broken.got) c.take.new.peer (c.get_mut.follows.lender c.take.new.peer)
+    refused_by g H c.args.self.now h c.args.conn c.args.link r c.in-Some.peer.now c.in-Some.ensures.value (message_of c.args.lent.now) (fault.Broken c.in-Err-Broken.due c.in-Err-Broken.got) c.take.new.peer (c.get_mut.follows.lender c.take.new.peer)
     c.in-Err-Broken.ensures.id (c.get_mut.follows.holds c.take.new.peer).0 c.end-in-Err-Broken.new.self c.args.out.now c.end-in-Err-Broken.new.out c.take.new.events c.end-in-Err-Broken.result
     (λ id runs. all c.args.conn id (counted c.args.link H) runs (λ e. absurd cc)) (c.end-in-Err-Broken.ensures g H)
 
 pub returns-in-Err-Limit : goal.returns-in-Err-Limit
 returns-in-Err-Limit c = λ g H h r.
     let all = rw c.in-Err-Limit.field-0-is at c.in-Err-Limit.ensures.refused in
-    refused_by g H c.args.self.now h c.args.conn c.args.link r c.in-Some.peer.now c.in-Some.ensures.value c.args.message fault.Limit c.take.new.peer (c.get_mut.follows.lender c.take.new.peer)
+    refused_by g H c.args.self.now h c.args.conn c.args.link r c.in-Some.peer.now c.in-Some.ensures.value (message_of c.args.lent.now) fault.Limit c.take.new.peer (c.get_mut.follows.lender c.take.new.peer)
     c.in-Err-Limit.ensures.id (c.get_mut.follows.holds c.take.new.peer).0 c.end-in-Err-Limit.new.self c.args.out.now c.end-in-Err-Limit.new.out c.take.new.events c.end-in-Err-Limit.result
     (λ id runs. all c.args.conn id (counted c.args.link H) runs (λ e. absurd cc)) (c.end-in-Err-Limit.ensures g H)
