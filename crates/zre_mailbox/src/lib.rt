@@ -14,3 +14,4 @@ pub use laws::{
     arrivals_are_in_order, completed_in_turn, identity_stays, nothing_said, ready_introduces,
     talk_grows,
 };
+pub use taking::arrival_of;
