@@ -124,8 +124,8 @@ impl Conn {
         }
     }
 
-    /// The same with the items that become whole in place of what arrives with them, which [`arrival_of`](crate::arrival_of)
-    /// tells of each. A list that is cleared serves again and again.
+    /// The same with the items that become whole in place of what arrives with them, which
+    /// [`arrival_of`](crate::arrival_of) tells of each. A list that is cleared serves again and again.
     pub fn feed_items<L: Ledger>(
         &mut self,
         piece: &[u8],
