@@ -2,6 +2,7 @@
 
 ghost use Rattle.std.specs.Prelude.{ℕ, ◌≡◌, ◌≢◌, ◌++◌, true, false, IfOk, IfErr, OnOk, OnErr};
 ghost use Rattle.zre_msg.specs.declared.message.Body.TheVariants as bodies;
+ghost use Rattle.zre_msg.specs.Lent.{message_of};
 ghost use Rattle.zre_peer.specs.Runs.{events_of, is_hello};
 ghost use Rattle.zre_peer.specs.Views.{after, is_small};
 
@@ -9,7 +10,7 @@ use crate::event::{Event, Events};
 use crate::peer_run::RunFault;
 use crate::view::View;
 use std::alloc::Global;
-use zre_msg::Body;
+use zre_msg::{Body, Command, LentMessage};
 use zre_values::{Frames, Octets, PeerId};
 
 // Whether the view stays within the limits with one more group.
@@ -172,5 +173,39 @@ pub(crate) fn change(
         Body::Ping | Body::PingOk => Ok(()),
         Body::Other { .. } => Ok(()),
         Body::Hello { .. } => Ok(()),
+    }
+}
+
+/// The same of a message that lies in its frames: its group and its content are copied once, into the event.
+pub(crate) fn change_by_lent(
+    alloc: Global,
+    id: PeerId,
+    view: &mut View,
+    lent: &LentMessage<'_>,
+    events: &mut Events,
+) -> Result<(), RunFault>
+    requires { is_small view.old ≡ true }
+    ensures ok { OnOk result ((is_small (after view.old (message_of lent.now).body) ≡ true)
+        × (view.new ≡ after view.old (message_of lent.now).body)
+        × (events.new ≡ events.old ++ events_of id view.old (message_of lent.now).body)) }
+    ensures kept { OnErr result (view.new ≡ view.old) }
+    ensures refused { IfErr result (λ e. e ≢ RunFault.OutOfMemory →
+        (is_small (after view.old (message_of lent.now).body) ≡ false) × (e ≡ RunFault.Limit)
+        × (events.new ≡ events.old)) }
+{
+    match lent.command {
+        Command::Join { group, status } => joined(alloc, id, view, group, status, events),
+        Command::Leave { group, status } => left(alloc, id, view, group, status, events),
+        Command::Whisper => {
+            let content = Frames::copy(alloc, lent.content)?;
+            whispered(alloc, id, view, content, events)
+        }
+        Command::Shout { group } => {
+            let group = Octets::copy(alloc, group)?;
+            let content = Frames::copy(alloc, lent.content)?;
+            shouted(alloc, id, view, group, content, events)
+        }
+        Command::Ping | Command::PingOk => Ok(()),
+        Command::Other { .. } => Ok(()),
     }
 }

@@ -23,6 +23,7 @@ pub use causes::{Cause, CloseWhy, IgnoreWhy, RefuseWhy};
 pub use event::{Event, Events};
 pub use groups::Groups;
 pub use headers::Headers;
+pub use lending::lent;
 pub use line::{push_line, push_lines};
 pub use peer_run::{Run, RunFault};
 pub use teller::Teller;

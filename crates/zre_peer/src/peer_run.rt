@@ -10,7 +10,7 @@ ghost use Rattle.zre_peer.specs.Lines.{lines};
 ghost use Rattle.zre_peer.specs.Runs.{events_of, may_follow, fault_of, in_order, is_hello};
 ghost use Rattle.zre_peer.specs.Views.{after, blank, is_small, view_of};
 
-use crate::changes::change;
+use crate::changes::{change, change_by_lent};
 use crate::event::Events;
 use crate::heads::Heads;
 use crate::hello::{is_hello, opened, tell_hello};
@@ -131,6 +131,29 @@ fn later(
 {
     expect(due, &message)?;
     change(alloc, id, view, message.body, events)
+}
+
+// The same of a message that lies in its frames.
+#[tactic(auto, using(crate::proofs::Named::lent_is_later))]
+fn later_lent(
+    alloc: Global,
+    id: PeerId,
+    view: &mut View,
+    due: u16,
+    lent: &LentMessage<'_>,
+    events: &mut Events,
+) -> Result<(), RunFault>
+    requires { is_small view.old ≡ true }
+    ensures ok { OnOk result ((goes_on view.old due (message_of lent.now) ≡ true)
+        × (view.new ≡ after view.old (message_of lent.now).body)
+        × (events.new ≡ events.old ++ events_of id view.old (message_of lent.now).body)) }
+    ensures kept { OnErr result (view.new ≡ view.old) }
+    ensures refused { IfErr result (λ e. e ≢ RunFault.OutOfMemory →
+        (goes_on view.old due (message_of lent.now) ≡ false) × (e ≡ later_fault due (message_of lent.now))
+        × (events.new ≡ events.old)) }
+{
+    expect_number(due, lent.sequence)?;
+    change_by_lent(alloc, id, view, lent, events)
 }
 
 // The same, with the lines of the events, which begin with `heads`.
@@ -266,7 +289,40 @@ impl Run {
         }
     }
 
-    /// The same for a message after HELLO that lies in its frames, with the lines of its events appended to a text;
+    /// The same for a message after HELLO that lies in its frames: its fields and its content are copied once, into its
+    /// event.
+    pub fn take_lent(&mut self, lent: &LentMessage<'_>, events: &mut Events) -> Result<(), RunFault>
+        requires going { is_spent self.old ≡ false }
+        requires later { is_some (view_in self.old) ≡ true }
+        ensures ok { (ms : List Message) → Stands self.old ms → OnOk result (
+            (may_follow ms (message_of lent.now) ≡ true) × Stands self.new (ms ++ (message_of lent.now) ∷ [])
+            × (events.new ≡ events.old ++ events_of (id_of self.old) (view_of ms) (message_of lent.now).body)) }
+        ensures going { OnOk result (is_spent self.new ≡ false) }
+        ensures refused { (ms : List Message) → Stands self.old ms → IfErr result (λ e. e ≢ RunFault.OutOfMemory →
+            (may_follow ms (message_of lent.now) ≡ false) × (in_order (ms ++ (message_of lent.now) ∷ []) ≡ false)
+            × (e ≡ fault_of ms (message_of lent.now)) × (events.new ≡ events.old)) }
+        ensures spent { IfErr result (λ e. e ≢ RunFault.OutOfMemory → is_spent self.new ≡ true) }
+        ensures unchanged { result ≡ Err RunFault.OutOfMemory → self.new ≡ self.old }
+        ensures kept { OnErr result (view_in self.new ≡ view_in self.old) }
+        ensures id { id_of self.new ≡ id_of self.old }
+    {
+        let next = self.due();
+        let Some(view) = &mut self.view else {
+            return Err(RunFault::NotHello);
+        };
+        match later_lent(self.alloc, self.id, view, next, lent, events) {
+            Ok(()) => {
+                self.count = next;
+                Ok(())
+            }
+            Err(fault) => {
+                self.spent = fault != RunFault::OutOfMemory;
+                Err(fault)
+            }
+        }
+    }
+
+    /// The same, with the lines of its events appended to a text;
     /// they begin with `heads`. After `OutOfMemory` a front of them may stand there.
     pub(crate) fn tell(
         &mut self,
