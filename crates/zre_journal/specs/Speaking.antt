@@ -1,12 +1,10 @@
 -- What a node has said of itself on its links, message by message.
-use Rattle.std.specs.Prelude.{◌≡◌, ℕ, ◌≤◌, true, List, [], ◌∷◌, ◌++◌, length, take, nat_le, if◌then◌else◌}
+use Rattle.std.specs.Prelude.{◌≡◌, ℕ, ◌≤◌, true, List, [], ◌∷◌, length, take, nat_le, if◌then◌else◌}
 use Rattle.zre_peer.specs.Ledger.{IsNumbered}
 use Rattle.zre_peer.specs.Views.{view_of, is_small}
 use Rattle.zre_journal.specs.declared.config.Config.{Config}
 use Rattle.zre_journal.specs.Chronicle.{Mark}
 use Rattle.zre_journal.specs.Links.{bodies, queued}
-use Rattle.zre_peer.specs.declared.event.Event.{Event}
-use Rattle.zre_journal.specs.Told.{told_at}
 use Rattle.zre_journal.specs.Truth.{own_view}
 
 -- the chronicle H as it was just after the n-th message was put on link l
@@ -21,8 +19,3 @@ pub record SpokeTruly (g : Config) (H : List Mark) : Type 0 where
   pub are_numbered : (l : ℕ) → IsNumbered (queued l H)
   pub was_true : (l n : ℕ) → 1 ≤ n → n ≤ length (queued l H) → view_of (take n (queued l H)) ≡ own_view g (moment l n H)
   pub was_small : (l n : ℕ) → 1 ≤ n → n ≤ length (queued l H) → is_small (own_view g (moment l n H)) ≡ true
-
--- what all marks of a chronicle told, the oldest first
-abbrev pub told_in : List Mark → List Event
-told_in [] = []
-told_in (h ∷ H) = told_in H ++ told_at h H

@@ -10,7 +10,7 @@ use Rattle.zre_outside.specs.declared.entry.Entry.{Entry}
 use Rattle.zre_msg.specs.declared.message.Body.{Body}
 use Rattle.zre_msg.specs.declared.message.Message.{Message}
 use Rattle.zre_link.specs.Text.{numbered_from}
-use Rattle.zre_net.specs.Utterances.{IsReadable}
+use Rattle.zre_mailbox.specs.Utterances.{IsReadable}
 use Rattle.zre_peer.specs.Ledger.{IsNumbered}
 use Rattle.zre_peer.specs.Members.{with_header, first_named}
 use Rattle.zre_peer.specs.Runs.{is_hello}
@@ -21,12 +21,12 @@ use Rattle.zre_journal.specs.Chronicle.{Mark}
 use Rattle.zre_journal.specs.Config.{CanBe}
 use Rattle.zre_journal.specs.Events.{chronicle}
 use Rattle.zre_journal.specs.Links.{groups, bodies, queued}
-use Rattle.zre_net.specs.Speaking.{moment, SpokeTruly}
+use Rattle.zre_journal.specs.Speaking.{moment, SpokeTruly}
 use Rattle.zre_journal.specs.Truth.{own_view, only_begins_with_hello}
 use Rattle.zre_journal.proofs.Introduction.{small}
 use Rattle.zre_journal.proofs.Lines.{bodies_on, are_bodies}
-use Rattle.zre_net.proofs.Sendable.{AreSent, are_sent, each_readable}
-use Rattle.zre_net.proofs.Speaking.{Spoke, both_of}
+use Rattle.zre_journal.proofs.Sendable.{AreSent, are_sent, each_readable}
+use Rattle.zre_journal.proofs.Speaking.{Spoke, both_of}
 use Rattle.zre_journal.proofs.Truth.{told, view_told}
 
 -- ---- numbers

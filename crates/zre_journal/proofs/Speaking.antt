@@ -13,7 +13,6 @@ use Rattle.zre_peer.specs.Members.{first_named}
 use Rattle.zre_peer.specs.Runs.{is_hello}
 use Rattle.zre_peer.specs.Views.{blank}
 use Rattle.zre_peer.specs.Views.{after as reading}
-use Rattle.zre_peer.specs.declared.causes.Cause.{Cause}
 use Rattle.zre_peer.specs.declared.view.View.{View}
 use Rattle.zre_journal.specs.declared.config.Config.{Config}
 use Rattle.zre_journal.specs.Chronicle.{Mark, Comes, Born, Starts, Ends, Puts, Joins, Leaves, after, followed}
@@ -21,34 +20,23 @@ use Rattle.zre_journal.specs.Commands.{has_group}
 use Rattle.zre_journal.specs.Config.{own_endpoint}
 use Rattle.zre_journal.specs.Events.{chronicle}
 use Rattle.zre_journal.specs.Happens.{has_stopped, marks, with_entry, chronicle_after}
-use Rattle.zre_journal.specs.Links.{groups, status, bodies}
+use Rattle.zre_journal.specs.Links.{groups, status}
 use Rattle.zre_journal.specs.Peers.{Life, lives, life, births}
 use Rattle.zre_journal.specs.Proper.{IsProper, Apart}
 use Rattle.zre_journal.specs.Pushes.{hello, push, push_all, birth}
-use Rattle.zre_net.specs.Speaking.{moment}
+use Rattle.zre_journal.specs.Speaking.{moment}
 use Rattle.zre_journal.specs.Truth.{own_view, only_begins_with_hello}
 use Rattle.zre_journal.proofs.Always.{empty, marks_allowed}
 use Rattle.zre_journal.proofs.Brings.{pushed, Outcome, plainly, birth_of, start_of, joining, leaving, then, all_brought}
 use Rattle.zre_journal.proofs.Brought.{Ground, Plain, ArePlain, allowed, plain}
 use Rattle.zre_journal.proofs.Joined.{after-append}
 use Rattle.zre_journal.proofs.Known.{each_known, newborn_known}
-use Rattle.zre_journal.proofs.Lines.{body_on, bodies_on, are_bodies}
+use Rattle.zre_journal.proofs.Lines.{bodies_on, are_bodies}
 use Rattle.zre_journal.proofs.Listed.{All-map, eqb-comm}
 use Rattle.zre_journal.proofs.Says.{outcome}
 use Rattle.zre_journal.proofs.Silent.{Comes-proper}
-use Rattle.zre_journal.proofs.Steps.{May, Allowed, step, steps, choice}
-use Rattle.zre_journal.proofs.Truth.{told, once_more, once_less, apart_of, Truth, plain_step, born, changes}
-
-none_of : (bs : List Body) (b : Body) → is_hello b ≡ false → list_any is_hello (bs ++ b ∷ []) ≡ list_any is_hello bs
-none_of [] b n = rw n refl
-none_of (x ∷ bs) b n = ap (λ t. is_hello x || t) (none_of bs b n)
-
-still_begins : (bs : List Body) (b : Body) → is_hello b ≡ false → only_begins_with_hello bs ≡ true → only_begins_with_hello (bs ++ b ∷ []) ≡ true
-still_begins [] b n e = cc
-still_begins (x ∷ bs) b n e = ap (λ t. is_hello x && not t) (none_of bs b n) ∙ e
-
-told_more : (bs : List Body) (b : Body) → told (bs ++ b ∷ []) ≡ reading (told bs) b
-told_more bs b = fold-append reading blank bs (b ∷ [])
+use Rattle.zre_journal.proofs.Steps.{May, Allowed, steps, choice}
+use Rattle.zre_journal.proofs.Truth.{told, once_more, once_less, apart_of, still_begins, told_more, Truth, plain_step, born, changes}
 
 module _ (g : Config) where
   pub record Spoke (H : List Mark) : Type 0 where
