@@ -3,7 +3,7 @@ use Rattle.std.proofs.Common.{◌≡◌, ◌⊎◌, ℕ, ◌<◌, Bool, true, fa
 use Rattle.std.specs.Prelude.{nat_le, if◌then◌else◌}
 use Rattle.std.specs.Io.KnownBytes.{Appends, Consumes, IsAtEnd}
 use Rattle.zre_commands.specs.declared.pump.status.Status.{Status}
-use Rattle.zre_commands.specs.declared.pump.status.Status.TheVariants.{Done, Usage, BadInput, ReadFault, WriteFault, WorldFault, NoThread, TooLong, OutOfMemory}
+use Rattle.zre_commands.specs.declared.pump.status.Status.TheVariants.{Done, Usage, BadInput, ReadFault, WriteFault, WorldFault, NoThread, TooLong, OutOfMemory, DeskFault}
 use Rattle.zre_commands.specs.pump.Meaning.{Meaning, KeepsRefusing, whole_text}
 use Rattle.zre_commands.specs.pump.Outcome.{Outcome}
 use Rattle.zre_commands.proofs.Refusing.{show_refuses, follow_refuses, capture_refuses, audit_refuses, simulate_refuses}
@@ -55,6 +55,7 @@ whole_outcome m keeps OutOfMemory limit o taken left written written' read write
 whole_outcome m keeps Usage limit o taken left written written' read write c out good short unread unwritten = absurd out
 whole_outcome m keeps WorldFault limit o taken left written written' read write c out good short unread unwritten = absurd out
 whole_outcome m keeps NoThread limit o taken left written written' read write c out good short unread unwritten = absurd out
+whole_outcome m keeps DeskFault limit o taken left written written' read write c out good short unread unwritten = absurd out
 
 reads_all : (m : Meaning) → KeepsRefusing m → (limit : ℕ) (status : Status) (s t : Streams) → DoesWork (Reads m) limit status s t
     → CompletesWork (Reads m) limit status s t
@@ -75,6 +76,7 @@ writes_all ReadFault text written written' write out unwritten = absurd out
 writes_all WorldFault text written written' write out unwritten = absurd out
 writes_all NoThread text written written' write out unwritten = absurd out
 writes_all TooLong text written written' write out unwritten = absurd out
+writes_all DeskFault text written written' write out unwritten = absurd out
 
 plain_completes : (p : PlainCommand) (limit : ℕ) (status : Status) (s t : Streams) → DoesWork (work_of p) limit status s t
     → CompletesWork (work_of p) limit status s t
@@ -107,6 +109,7 @@ spared TooLong limit octets turns stopped s t cause none few early =
     elim (cause) [ inl many ↦ absurd (omega (arith, many.0, few)) | inr late ↦ absurd (omega (arith, late.0, early)) ]
 spared Usage limit octets turns stopped s t cause none few early = absurd cause
 spared BadInput limit octets turns stopped s t cause none few early = absurd cause
+spared DeskFault limit octets turns stopped s t cause none few early = absurd cause
 
 either_spares : (b : Bool) (x y : Status) → Spares x → Spares y → Spares (if b then x else y)
 either_spares true x y p q = p

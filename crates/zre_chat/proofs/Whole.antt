@@ -34,7 +34,7 @@ use Rattle.zre_console.specs.reader.Reading.{Outcome, BreaksOff}
 use Rattle.zre_console.proofs.lines.Quits.{orders-begin}
 use Rattle.zre_commands.specs.Settings.{as_settings}
 use Rattle.zre_commands.specs.declared.pump.status.Status.{Status}
-use Rattle.zre_commands.specs.declared.pump.status.Status.TheVariants.{Done, Usage, BadInput, ReadFault, WriteFault, WorldFault, NoThread, TooLong, OutOfMemory}
+use Rattle.zre_commands.specs.declared.pump.status.Status.TheVariants.{Done, Usage, BadInput, ReadFault, WriteFault, WorldFault, NoThread, TooLong, OutOfMemory, DeskFault}
 use Rattle.zre_chat.specs.Chat.{Seen, IsChat, IsCaused, Holds, started}
 use Rattle.zre_chat.specs.Keeping.{head_of}
 use Rattle.zre_chat.specs.Stages.{IsEarly, Unprepared}
@@ -128,6 +128,7 @@ module _ (g : Config) (start : Start) (name : Option (List ℕ)) (limit : ℕ) (
   early s t ReadFault is = absurd is
   early s t NoThread is = absurd is
   early s t TooLong is = absurd is
+  early s t DeskFault is = absurd is
 
   -- what was begun was refused, or memory ran out
   pub unprepared : (s t : Seen) (status : Status) → t.left ≡ s.left → t.taken ≡ s.taken → t.written ≡ s.written

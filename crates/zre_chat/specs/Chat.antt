@@ -29,6 +29,7 @@ use Rattle.zre_commands.specs.Settings.{as_settings}
 use Rattle.zre_commands.specs.declared.pump.status.Status.{Status}
 use Rattle.zre_commands.specs.declared.pump.status.Status.TheVariants.{Done, Usage, BadInput, ReadFault, WriteFault}
 use Rattle.zre_commands.specs.declared.pump.status.Status.TheVariants.{WorldFault, NoThread, TooLong, OutOfMemory}
+use Rattle.zre_commands.specs.declared.pump.status.Status.TheVariants.{DeskFault}
 use Rattle.zre_chat.specs.Statuses.{least}
 
 -- what is seen of all that a chat works with, at one moment
@@ -80,6 +81,7 @@ IsCaused TooLong limit octets turns stopped s t =
 IsCaused OutOfMemory limit octets turns stopped s t = ⊤
 IsCaused Usage limit octets turns stopped s t = ⊥
 IsCaused BadInput limit octets turns stopped s t = ⊥
+IsCaused DeskFault limit octets turns stopped s t = ⊥
 
 -- all of these
 abbrev pub AreCaused : List Status → (limit : ℕ) (octets : List ℕ) (turns : ℕ) (stopped : Bool) → Seen → Seen → Type 0

@@ -14,7 +14,7 @@ fn rank(status: Status) -> u8
 {
     match status {
         Status::OutOfMemory => 0,
-        Status::Done => 10,
+        Status::Done => 11,
         other => other.code(),
     }
 }
