@@ -92,7 +92,7 @@ plain_completes (Exercise seed peers messages) limit status s t does = λ unwrit
 
 -- ---- a chat
 
-abbrev Spares : Status → Type 0
+abbrev pub Spares : Status → Type 0
 Spares status = (status ≡ Done) ⊎ (status ≡ OutOfMemory)
 
 -- nothing else has a cause
@@ -111,7 +111,7 @@ spared Usage limit octets turns stopped s t cause none few early = absurd cause
 spared BadInput limit octets turns stopped s t cause none few early = absurd cause
 spared DeskFault limit octets turns stopped s t cause none few early = absurd cause
 
-either_spares : (b : Bool) (x y : Status) → Spares x → Spares y → Spares (if b then x else y)
+pub either_spares : (b : Bool) (x y : Status) → Spares x → Spares y → Spares (if b then x else y)
 either_spares true x y p q = p
 either_spares false x y p q = q
 
@@ -123,7 +123,7 @@ least_spares (x ∷ xs) limit octets turns stopped s t caused none few early =
     (spared x limit octets turns stopped s t caused.0 none few early)
     (least_spares xs limit octets turns stopped s t caused.1 none few early)
 
-well_or_short : (status : Status) (all : Type 0) → Spares status → (status ≡ Done → all) → WellOrShort status all
+pub well_or_short : (status : Status) (all : Type 0) → Spares status → (status ≡ Done → all) → WellOrShort status all
 well_or_short status all (inl done) whole = inl (done, whole done)
 well_or_short status all (inr short) whole = inr short
 
@@ -132,8 +132,8 @@ completes None limit status s t does = tt
 completes (Some (Plain p)) limit status s t does = plain_completes p limit status (streams_of s) (streams_of t) does
 completes (Some (Chat c)) limit status s t does = λ chat none few early.
     well_or_short status _
-    (subst Spares (sym chat.is_status) (least_spares chat.occurred limit chat.octets chat.turns _ s t chat.caused none few early))
-    (λ done. chat.whole (inl done))
+    (subst Spares (sym chat.is_status) (least_spares chat.occurred limit chat.octets chat.lived.turns _ s t chat.caused none few early))
+    (λ done. chat.wrote.whole (inl done))
 
 -- any call does
 pub all_complete : {I W O R P : Type 0} (v : Views I W O R P) (c : Option Command) (limit : ℕ) (status : Status) (h h' : Handed I W O R P)

@@ -44,5 +44,5 @@ Completes None limit status s t = ⊤
 Completes (Some (Plain p)) limit status s t = CompletesWork (work_of p) limit status (streams_of s) (streams_of t)
 Completes (Some (Chat c)) limit status s t =
     (chat : IsChat c.config c.start c.capture limit s t status) → NoneRose s t
-    → length chat.octets < limit → chat.turns < limit
-    → WellOrShort status (Appends s.written t.written (lines (events c.config chat.entries)))
+    → length chat.octets < limit → chat.lived.turns < limit
+    → WellOrShort status (Appends s.written t.written (lines (events c.config chat.lived.entries)))

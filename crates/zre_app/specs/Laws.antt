@@ -34,4 +34,4 @@ KeptIsReplayed =
     (chat : IsChat g start (Some file) limit s t status)
     → IsSpared status (Rose s.write_faults t.write_faults)
     → IsSpared status (Rose s.record_faults t.record_faults)
-    → AreShort Second 0 chat.entries → Replays g file s t
+    → AreShort Second 0 chat.lived.entries → Replays g file s t
