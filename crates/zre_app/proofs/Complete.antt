@@ -6,7 +6,8 @@ use Rattle.zre_commands.specs.declared.pump.status.Status.{Status}
 use Rattle.zre_commands.specs.declared.pump.status.Status.TheVariants.{Done, Usage, BadInput, ReadFault, WriteFault, WorldFault, NoThread, TooLong, OutOfMemory, DeskFault}
 use Rattle.zre_commands.specs.pump.Meaning.{Meaning, KeepsRefusing, whole_text}
 use Rattle.zre_commands.specs.pump.Outcome.{Outcome}
-use Rattle.zre_commands.proofs.Refusing.{show_refuses, follow_refuses, capture_refuses, audit_refuses, simulate_refuses}
+use Rattle.zre_commands.proofs.Refusing.{show_refuses, follow_refuses}
+use Rattle.zre_records.proofs.Refusing.{capture_refuses, audit_refuses, simulate_refuses}
 use Rattle.zre_chat.specs.Chat.{Seen, IsCaused, AreCaused}
 use Rattle.zre_chat.specs.Statuses.{rank, least}
 use Rattle.zre_capture.specs.declared.format.Format.TheVariants.{First, Second}

@@ -11,7 +11,7 @@ use Rattle.zre_capture.specs.declared.format.Format.TheVariants.{Second}
 use Rattle.zre_commands.specs.Settings.{as_settings}
 use Rattle.zre_commands.specs.pump.Meaning.{whole_text}
 use Rattle.zre_commands.specs.declared.pump.status.Status.{Status}
-use Rattle.zre_commands.specs.replay.Replay.{told_replay}
+use Rattle.zre_records.specs.replay.Replay.{told_replay}
 use Rattle.zre_chat.specs.Chat.{Seen, IsChat, IsSpared, Holds}
 
 -- the capture of a node with these settings and of these entries

@@ -6,7 +6,7 @@ use Rattle.zre_capture.specs.Lines.{IsEntry}
 use Rattle.zre_commands.specs.Settings.{as_settings}
 use Rattle.zre_commands.specs.declared.pump.status.Status.{Status}
 use Rattle.zre_commands.specs.declared.pump.status.Status.TheVariants.{Done, OutOfMemory}
-use Rattle.zre_commands.proofs.Replayed.{written}
+use Rattle.zre_records.proofs.Replayed.{written}
 use Rattle.zre_chat.specs.Chat.{IsSpared}
 use Rattle.zre_chat.proofs.Rows.{memory_isnt}
 use Rattle.zre_app.proofs.laws.kept_captures_are_replayed.Goals as goal
