@@ -149,7 +149,8 @@ fn do_one<W: World>(world: &mut W, node: &Node, act: &Act) -> bool
 fn offer_front<W: World>(world: &mut W, node: &Node, link: u64) -> bool
     ensures done { (g : Config) (J : List EntryValue) → StandsFor g J node.now → IsDue g (chronicle g J) link
         → result ≡ true →
-        (d : DeedValue) × IsDeed g J (ActValue.Offer link) d × (W.told world.new ≡ option_map (with_deed d) (W.told world.old)) }
+        (d : DeedValue) × IsDeed g J (ActValue.Offer link) d
+        × (W.told world.new ≡ option_map (with_deed d) (W.told world.old)) }
     ensures undone { result ≡ false → W.told world.new ≡ W.told world.old }
     ensures world { (W.looked world.new ≡ W.looked world.old) × (W.faults world.new ≡ W.faults world.old) }
 {

@@ -57,7 +57,8 @@ impl Pipes {
         ensures named { Keeps (R.named rec) (R.named result.rec) }
         ensures work { (g : Config) (K : List EntryValue) → StandsFor g K node → IsWork g K keep limit
             (scene (W.told world) (W.looked world) (W.faults world) (R.kept rec) (R.faults rec) pass)
-            (scene (W.told result.world) (W.looked result.world) (W.faults result.world) (R.kept result.rec) (R.faults result.rec) result.pass)
+            (scene (W.told result.world) (W.looked result.world) (W.faults result.world)
+            (R.kept result.rec) (R.faults result.rec) result.pass)
             result.node result.ending }
     {
         let mut buffer = Octets::new(self.alloc);

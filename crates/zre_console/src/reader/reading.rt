@@ -84,7 +84,8 @@ fn take_turn<R: Wait + Copy, I: Source>(
     ensures moved { Moves (I.left input.old) (I.left input.new) (I.taken input.old) (I.taken input.new)
         (take result.read buf.new) }
     ensures turned { (o : List ℕ) → Typed o typist.old → list_any is_quit (typed o) ≡ false →
-        Turned result.next typist.new o (take result.read buf.new) (I.left input.new) pass result.pass (Rose (I.faults input.old) (I.faults input.new)) }
+        Turned result.next typist.new o (take result.read buf.new) (I.left input.new) pass result.pass
+        (Rose (I.faults input.old) (I.faults input.new)) }
     ensures later { I.faults input.old ≤ I.faults input.new }
 {
     let read = match input.read(buf) {
