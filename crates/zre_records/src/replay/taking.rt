@@ -6,17 +6,22 @@ ghost use Rattle.zre_journal.specs.declared.config.Config.{Config};
 ghost use Rattle.zre_node.specs.Journal.{StandsFor};
 ghost use Rattle.zre_records.specs.replay.Taken.{Took};
 
-use zre_node::Node;
+use zre_node::{Node, Step};
 use zre_outside::{Entries, Entry};
 use zre_peer::push_lines;
 use zre_values::{Octets, OutOfMemory};
 
 // The node takes an entry, and the lines of what it tells are appended.
-fn take_entry(node: &mut Node, entry: Entry, out: &mut Octets) -> Result<(), OutOfMemory>
+fn take_entry(
+    node: &mut Node,
+    entry: Entry,
+    step: &mut Step,
+    out: &mut Octets,
+) -> Result<(), OutOfMemory>
     ensures { (g : Config) (J : List EntryValue) → StandsFor g J node.old →
         OnOk result (Took g J (entry ∷ []) node.new out.old out.new) }
 {
-    let step = node.step(entry)?;
+    node.step_into(entry, step)?;
     push_lines(out, step.events.as_slice())
 }
 
@@ -30,8 +35,9 @@ pub(crate) fn take_entries(
         OnOk result (Took g J entries node.new out.old out.new) }
 {
     let mut items = entries.into_vec();
+    let mut step = Step::new(*items.allocator());
     for entry in items.drain(..) {
-        take_entry(node, entry, out)?;
+        take_entry(node, entry, &mut step, out)?;
     }
     Ok(Entries::from_vec(items))
 }
