@@ -1,13 +1,20 @@
 //! Makers of the inputs that are measured. Each writes one input.
 
 use crate::exercise::{peer_beacon, peer_handshake, peer_hello, Draws, Talk, Talks};
-use crate::quoting::push_hex;
-use crate::spelling::{push_message, Body};
+use crate::quoting::{push_hex, push_quoted};
+use crate::spelling::{greeting, push_message, ready, Body};
 use std::io::{self, Write};
 
 /// Octets of the content of each message of [`large_capture`], and of its pieces.
 const LARGE_CONTENT: usize = 1000;
 const LARGE_PIECE: usize = 60_000;
+
+/// Peers of [`shouts`] and of [`ticks`], the shouts after which each has taken what waits for it, the connections that stay without a peer,
+/// and the moment from which on peers are silent.
+const PEERS: usize = 256;
+const BATCH: usize = 64;
+const STRANGERS: usize = 256;
+const SILENT: usize = 5000;
 
 /// Names in each HELLO of [`hellos`], and octets of a name.
 const NAMES: usize = 80_000;
@@ -111,6 +118,51 @@ pub fn hellos(messages: usize, mut out: impl Write) -> io::Result<()> {
     out.flush()
 }
 
+/// A capture of so many shouts of 1,000 octets by the user, to a group of 256 peers whose links stand.
+pub fn shouts(messages: usize, mut out: impl Write) -> io::Result<()> {
+    let mut lines = introductions(PEERS);
+    let mut join = Vec::new();
+    push_message(&mut join, 2, &Body::Join { group: b"all", status: 1 });
+    let replies = [&greeting()[..], &ready("ROUTER", None)].concat();
+    for link in 1..=PEERS {
+        push_piece(&mut lines, 0, link, &join);
+        lines.extend(format!("0 linked {link}\n0 reply {link} ").bytes());
+        push_hex(&mut lines, &replies);
+        lines.push(b'\n');
+    }
+    out.write_all(&lines)?;
+    let mut draws = Draws::new(1);
+    let mut content = vec![0; LARGE_CONTENT];
+    for at in 0..messages {
+        draws.fill(&mut content);
+        lines.clear();
+        lines.extend(format!("{at} do shout all ").bytes());
+        push_quoted(&mut lines, &content);
+        lines.push(b'\n');
+        if at % BATCH == BATCH - 1 {
+            (1..=PEERS).for_each(|link| lines.extend(format!("{at} took {link} 1000000\n").bytes()));
+        }
+        out.write_all(&lines)?;
+    }
+    writeln!(out, "{messages} do quit")?;
+    out.flush()
+}
+
+/// A capture of so many ticks with 256 peers that are silent, and as many connections of which only a greeting has come.
+pub fn ticks(messages: usize, mut out: impl Write) -> io::Result<()> {
+    let mut lines = introductions(PEERS);
+    for connection in PEERS + 1..=PEERS + STRANGERS {
+        lines.extend(format!("0 opened {connection}\n").bytes());
+        push_piece(&mut lines, 0, connection, &greeting());
+    }
+    out.write_all(&lines)?;
+    for at in 0..messages {
+        writeln!(out, "{} tick", SILENT + at)?;
+    }
+    writeln!(out, "{} do quit", SILENT + messages)?;
+    out.flush()
+}
+
 /// The head of a capture, and the entries by which the peers become known and entered.
 fn introductions(peers: usize) -> Vec<u8> {
     let mut lines = b"zre-capture 1\n".to_vec();
@@ -168,6 +220,12 @@ mod tests {
         let lines = lines_of(|out| replay(settings(), &octets[..], out));
         assert_eq!(lines.len(), 1 + 100 + 1 + 1);
         assert_eq!(lines.last().unwrap(), "STOP");
+        let octets = made(|out| shouts(130, out));
+        let lines = lines_of(|out| replay(settings(), &octets[..], out));
+        assert_eq!(lines.len(), 256 + 256 + 256 + 1);
+        let octets = made(|out| ticks(2, out));
+        let lines = lines_of(|out| replay(settings(), &octets[..], out));
+        assert_eq!(lines.len(), 256 + 2 * 256 + 256 + 1);
         let octets = made(|out| hellos(3, out));
         let lines = lines_of(|out| replay(settings(), &octets[..], out));
         assert_eq!(lines, ["IGNORED 1 Limit", "CLOSED 1 Taken", "IGNORED 2 Limit", "CLOSED 2 Taken", "IGNORED 3 Limit", "STOP"]);

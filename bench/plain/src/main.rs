@@ -47,6 +47,8 @@ fn run(task: Task) -> Status {
                 words::Made::Joins { messages } => inputs::joins(messages, out),
                 words::Made::Capture { peers, messages } => inputs::capture(peers, messages, out),
                 words::Made::LargeCapture { messages } => inputs::large_capture(messages, out),
+                words::Made::Shouts { messages } => inputs::shouts(messages, out),
+                words::Made::Ticks { messages } => inputs::ticks(messages, out),
                 words::Made::Hellos { messages } => inputs::hellos(messages, out),
             })
         }

@@ -21,6 +21,8 @@ pub enum Made {
     Joins { messages: usize },
     Capture { peers: usize, messages: usize },
     LargeCapture { messages: usize },
+    Shouts { messages: usize },
+    Ticks { messages: usize },
     Hellos { messages: usize },
 }
 
@@ -42,6 +44,8 @@ pub fn read(words: &[String]) -> Option<Task> {
         "make-joins" => Task::Make(Made::Joins { messages: messages(&mut words)? }),
         "make-capture" => Task::Make(Made::Capture { peers: peers(&mut words)?, messages: messages(&mut words)? }),
         "make-large-capture" => Task::Make(Made::LargeCapture { messages: messages(&mut words)? }),
+        "make-shouts" => Task::Make(Made::Shouts { messages: messages(&mut words)? }),
+        "make-ticks" => Task::Make(Made::Ticks { messages: messages(&mut words)? }),
         "make-hellos" => Task::Make(Made::Hellos { messages: messages(&mut words)? }),
         _ => return None,
     };
