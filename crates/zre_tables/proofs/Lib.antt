@@ -7,3 +7,4 @@ pub mod Finding
 pub mod Hearings
 pub mod Indexed
 pub mod Listing
+pub mod Offering

@@ -1,6 +1,6 @@
 //! Searches among rows.
 
-ghost use Rattle.std.specs.Prelude.{◌≡◌, ◌-◌, ◌++◌, nat_eq, nat_le, option_copied, IfOk, OnOk, MatchOption};
+ghost use Rattle.std.specs.Prelude.{◌≡◌, ◌-◌, nat_le, option_copied, IfOk, MatchOption};
 ghost use Rattle.std.specs.Prelude.{ℕ, ◌≤◌, ◌^◌, ◌==◌, Bool, true, false, Some};
 ghost use Rattle.std.specs.List.{filter, list_any};
 ghost use Rattle.std.specs.List.Sorted.{IsStrictlyIncreasing};
@@ -8,7 +8,7 @@ ghost use Rattle.std.specs.Map.{keys_of};
 ghost use Rattle.zre_journal.specs.Connections.{is_same as same_peer};
 ghost use Rattle.zre_tables.specs.Agreement.{AreHeard};
 ghost use Rattle.zre_tables.specs.Rows.{numbers_of, passes_at, row_at};
-ghost use Rattle.zre_tables.specs.Searches.{link_among, other_among, offered_among, row_evasive, row_silent, row_stale};
+ghost use Rattle.zre_tables.specs.Searches.{link_among, other_among, row_evasive, row_silent, row_stale};
 ghost use Rattle.zre_tables.specs.Views.{ids_entered, row_in, view_among};
 ghost use Rattle.zre_tables.specs.declared.peer.Peer.{Peer as PeerValue};
 
@@ -18,7 +18,6 @@ use crate::peer::Peer;
 use crate::peers::{Ids, Links, Peers};
 use std::alloc::Global;
 use std::collections::BTreeMap;
-use zre_outside::{Act, Acts};
 use zre_peer::View;
 use zre_timers::Timers;
 use zre_values::{Keys, OutOfMemory, PeerId};
@@ -171,12 +170,6 @@ fn latest_of(span: u64, now: u64) -> Option<u64>
     now.checked_sub(span)
 }
 
-fn has_key(keys: &Keys, key: u64) -> bool
-    ensures { result ≡ list_any (nat_eq key) keys.now }
-{
-    keys.as_slice().iter().any(|k| key == *k)
-}
-
 impl Peers {
     /// The link of the peer with this id.
     pub fn link_of(&self, id: PeerId) -> Option<u64>
@@ -273,21 +266,6 @@ impl Peers {
             expired,
             now,
         )
-    }
-
-    /// The links on which something was put, and that have something to send, are offered.
-    pub fn offer(&self, pushed: &Keys, acts: &mut Acts) -> Result<(), OutOfMemory>
-        ensures { OnOk result (acts.new ≡ acts.old ++ offered_among pushed.now self.now) }
-    {
-        if pushed.len() == 0 {
-            return Ok(());
-        }
-        for (link, peer) in &self.rows {
-            if has_key(pushed, *link) && peer.link.is_offered() {
-                acts.push(Act::Offer { link: *link })?;
-            }
-        }
-        Ok(())
     }
 }
 
