@@ -8,3 +8,4 @@ pub mod Hearings
 pub mod Indexed
 pub mod Listing
 pub mod Offering
+pub mod Resting

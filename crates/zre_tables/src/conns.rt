@@ -13,19 +13,26 @@ use std::marker::Model;
 use zre_values::{OutOfMemory, PeerId};
 
 /// The open connections by their numbers. It is seen as the list of its rows.
+///
+/// Beside the rows stands a moment before which none of those that run no peer began to rest, so that they are gone over
+/// only where one of them may have rested for too long.
 #[derive(Drop)]
 pub struct Conns {
     pub(crate) rows: BTreeMap<u64, Connection>,
+    pub(crate) first: u64,
     pub(crate) alloc: Global,
 }
 
 impl Model for Conns {
     ghost use Rattle.std.specs.Prelude.{ℕ, List};
+    ghost use Rattle.zre_tables.specs.Resting.{AllRestFrom};
     ghost use Rattle.zre_tables.specs.declared.connection.Connection.{Connection as ConnectionValue};
 
     ghost Value = { List (ℕ × ConnectionValue) };
 
     ghost view = { λ conns. conns.rows.entries };
+
+    ghost invariant = { λ conns. AllRestFrom conns.first conns.rows.entries };
 }
 
 impl Conns {
@@ -35,6 +42,7 @@ impl Conns {
     {
         Conns {
             rows: BTreeMap::new(alloc),
+            first: u64::MAX,
             alloc,
         }
     }
@@ -65,6 +73,7 @@ impl Conns {
         ensures ok { OnOk result (self.new ≡ insert_entry nat_cmp self.old conn opened) }
         ensures err { OnErr result (self.new ≡ self.old) }
     {
+        self.first = self.first.min(opened.since);
         self.rows.insert(conn, opened)?;
         Ok(())
     }
@@ -101,6 +110,7 @@ impl Conns {
         ensures { (x : ConnectionValue) → row_at conn self.old ≡ Some x →
             self.new ≡ with_row conn (record x { since = now; run = None; conn = None }) self.old }
     {
+        self.first = self.first.min(now);
         if let Some(found) = self.rows.get_mut(&conn) {
             found.since = now;
             found.run = None;
