@@ -1,13 +1,8 @@
 -- Rows that pass a test, found one by one.
-use Rattle.std.proofs.Common.{◌≡◌, ℕ, Bool, true, false, cond, ◌&&◌, eqb, List, [], ◌∷◌, ◌++◌, map, filter, is_some, refl, ap, ◌∙◌, append_assoc}
-use Rattle.std.specs.List.{list_any}
+use Rattle.std.proofs.Common.{◌≡◌, ℕ, Bool, true, false, cond, List, [], ◌∷◌, ◌++◌, map, filter, is_some, refl, ap, ◌∙◌, append_assoc}
 use Rattle.zre_values.specs.declared.peer_id.PeerId.{PeerId}
-use Rattle.zre_outside.specs.declared.act.Act.{Act}
-use Rattle.zre_outside.specs.declared.act.Act.TheVariants as act
-use Rattle.zre_link.specs.Link.{has_front}
 use Rattle.zre_tables.specs.declared.peer.Peer.{Peer}
 use Rattle.zre_tables.specs.Rows.{numbers_of}
-use Rattle.zre_tables.specs.Searches.{offered_among}
 use Rattle.zre_tables.specs.Tabled.{Tabled}
 use Rattle.zre_tables.specs.Views.{ids_entered}
 

@@ -1,5 +1,6 @@
 -- Since when connections that run no peer have rested, after a change.
 use Rattle.std.proofs.Common.{◌≡◌, ℕ, ◌+◌, ◌-◌, ◌≤◌, ◌<◌, ◌&&◌, Bool, true, false, cond, eqb, nat_le, List, [], ◌∷◌, Option, Some, None, is_none, refl, sym, ap, ◌∙◌, arith, nat_cmp, subst}
+use Rattle.std.proofs.lemmas.Bool.{leb-false, lt-leb}
 use Rattle.std.specs.BTreeMap.{is_at, insert_entry}
 use Rattle.std.specs.declared.cmp.Ordering.{Ordering}
 use Rattle.std.specs.declared.cmp.Ordering.TheVariants.{Less, Equal, Greater}
@@ -80,7 +81,7 @@ none_stale limit now first (e ∷ es) l a = by (none_stale limit now first es l 
     by more false q = rw q more
 
     below : (x y z : ℕ) → nat_le x y ≡ false → z ≤ y → nat_le x z ≡ false
-    below x y z f l = omega (arith, f, l)
+    below x y z f l = lt-leb x z (let g = leb-false x y f in omega (arith, g, l))
 
 -- one row more
 pub rest_next : (m first first' : ℕ) (n : ℕ) (k : Connection) (es rest all : List (ℕ × Connection)) → es ≡ (n, k) ∷ rest → first' ≤ first → RestsFrom first' k → ((j : ℕ) → j ≤ first → AllRestFrom j es → AllRestFrom j all)
