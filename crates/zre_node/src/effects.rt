@@ -10,49 +10,27 @@ ghost use Rattle.zre_peer.specs.Runs.{shown};
 ghost use Rattle.zre_peer.specs.Standing.{view_in};
 
 use std::alloc::Global;
-use std::mem;
 use zre_outside::{Act, Acts};
 use zre_peer::{Cause, CloseWhy, Event, Events, IgnoreWhy, Run};
 use zre_values::{Keys, Octets, OutOfMemory, PeerId};
 
-/// What one entry brought about: what the user is told, and what the node asks of the outside.
+/// What one entry brings about: what the user is told, and what the node asks of the outside.
 #[derive(Drop)]
 pub struct Step {
     /// What the user is told, in order.
     pub events: Events,
     /// What is asked of the outside, in order.
     pub acts: Acts,
+    // The links on which something was put, and the one that the entry names.
+    pub(crate) pushed: Keys,
 }
 
 impl Step {
     /// Nothing yet. It takes no memory.
     pub fn new(alloc: Global) -> Self
-        ensures { result ≡ record { events = []; acts = [] } }
-    {
-        Step {
-            events: Events::new(alloc),
-            acts: Acts::new(alloc),
-        }
-    }
-}
-
-/// The same while an entry is taken, with the links on which something was put.
-#[derive(Drop)]
-pub struct Effects {
-    /// What the user is told so far.
-    pub events: Events,
-    /// What is asked of the outside so far.
-    pub acts: Acts,
-    /// The links on which something was put, and the one that the entry names.
-    pub pushed: Keys,
-}
-
-impl Effects {
-    /// Nothing yet.
-    pub fn new(alloc: Global) -> Self
         ensures { result ≡ record { events = []; acts = []; pushed = [] } }
     {
-        Effects {
+        Step {
             events: Events::new(alloc),
             acts: Acts::new(alloc),
             pushed: Keys::new(alloc),
@@ -66,16 +44,6 @@ impl Effects {
         self.events.clear();
         self.acts.clear();
         self.pushed.clear();
-    }
-
-    /// Hands over what was told and asked for, in place of what stands in a step, and takes the lists of that.
-    pub fn hand_to(&mut self, step: &mut Step)
-        ensures { step.new ≡ record { events = self.old.events; acts = self.old.acts } }
-    {
-        step.events.clear();
-        step.acts.clear();
-        mem::swap(&mut self.events, &mut step.events);
-        mem::swap(&mut self.acts, &mut step.acts);
     }
 
     /// Asks for one more act.
