@@ -1,15 +1,16 @@
 -- What a piece completes of what its connection says, and what comes about at an item of it.
 use Rattle.std.specs.Prelude.{ℕ, List, [], ◌++◌, map, Option, Some, None}
+use Rattle.zre_zmtp.specs.declared.fault.ZmtpFault.{ZmtpFault}
+use Rattle.zre_zmtp.specs.declared.item.Item.{Item}
 use Rattle.zre_msg.specs.declared.message.Message.{Message}
 use Rattle.zre_mailbox.specs.declared.arrival.Arrival.{Arrival}
 use Rattle.zre_mailbox.specs.Talk.{Said, Arrived, arrivals_in, fault_said}
 use Rattle.zre_journal.specs.declared.config.Config.{Config}
 use Rattle.zre_journal.specs.Chronicle.{Mark}
 use Rattle.zre_journal.specs.Arrivals.{at_arrival, at_later}
-use Rattle.zre_node.specs.declared.incoming.arrivals.Heard.{Heard}
 
-abbrev pub said_in : Heard → List Said
-said_in h = map (λ a. Arrived a) (arrivals_in h.items) ++ fault_said h.fault
+abbrev pub said_in : List Item → Option ZmtpFault → List Said
+said_in items fault = map (λ a. Arrived a) (arrivals_in items) ++ fault_said fault
 
 -- at what arrives with an item on a live connection, if anything does
 abbrev pub at_item : Config → ℕ → Option Arrival → List Mark → List Mark

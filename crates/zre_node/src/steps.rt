@@ -17,7 +17,6 @@ ghost use Rattle.zre_node.specs.Stands.{Holds, Did};
 
 use crate::effects::Step;
 use crate::tables::Tables;
-use std::mem;
 use std::sync::ledger::Ledger;
 use zre_outside::{Command, Entry, Input};
 use zre_values::OutOfMemory;
@@ -71,11 +70,10 @@ impl Tables {
             → Holds g H self.old →
             Looks steps.old steps.new (kept g H) (kept g (with_entry g e H)) (length bytes.now) result }
     {
-        let mut list = mem::replace(items, Items::new(self.alloc));
-        list.clear();
-        let heard = self.come_piece(at, conn, bytes, list, steps)?;
-        self.said(out, conn, &heard)?;
-        *items = heard.emptied();
+        items.clear();
+        let fault = self.come_piece(at, conn, bytes, items, steps)?;
+        self.said(out, conn, items.as_slice(), fault)?;
+        items.clear();
         self.offer(out)
     }
 

@@ -18,7 +18,7 @@ use crate::tables::Tables;
 use zre_mailbox::{Arrival, arrival_of};
 use zre_peer::{Cause, CloseWhy};
 use zre_values::{OutOfMemory, PeerId};
-use zre_zmtp::{Item, Items, SocketType, What, ZmtpFault, pong, ready};
+use zre_zmtp::{Item, SocketType, What, ZmtpFault, pong, ready};
 
 /// What a live connection runs, and whom it introduced.
 #[derive(Clone, Copy)]
@@ -27,15 +27,6 @@ pub struct Standing {
     pub run: Option<u64>,
     /// Whom its READY introduced.
     pub identity: Option<PeerId>,
-}
-
-/// What a piece completes of what its connection says.
-#[derive(Drop)]
-pub struct Heard {
-    /// What is whole, in order.
-    pub items: Items,
-    /// The fault that ends it, if there is one.
-    pub fault: Option<ZmtpFault>,
 }
 
 impl Tables {
@@ -218,12 +209,18 @@ impl Tables {
         self.close(out, conn, CloseWhy::Zmtp(fault))
     }
 
-    /// All that a piece completed of what its connection says.
-    pub fn said(&mut self, out: &mut Step, conn: u64, heard: &Heard) -> Result<(), OutOfMemory>
+    /// All that a piece completed of what its connection says, and the fault that ends it, if there is one.
+    pub fn said(
+        &mut self,
+        out: &mut Step,
+        conn: u64,
+        items: &[Item],
+        fault: Option<ZmtpFault>,
+    ) -> Result<(), OutOfMemory>
         ensures { (g : Config) (K : List Mark) → Holds g K self.old →
-            OnOk result (Did g (at_places g conn (said_in heard.now) K) K self.new out.old out.new) }
+            OnOk result (Did g (at_places g conn (said_in items.now fault) K) K self.new out.old out.new) }
     {
-        self.arrive_all(out, conn, heard.items.as_slice())?;
-        self.fault(out, conn, heard.fault)
+        self.arrive_all(out, conn, items)?;
+        self.fault(out, conn, fault)
     }
 }

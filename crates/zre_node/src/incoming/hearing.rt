@@ -12,22 +12,10 @@ ghost use Rattle.zre_journal.specs.Arrivals.{at_places};
 ghost use Rattle.zre_node.specs.Said.{said_in};
 ghost use Rattle.zre_node.specs.Stands.{Holds, is_quiet};
 
-use crate::incoming::arrivals::Heard;
 use crate::tables::Tables;
 use std::sync::ledger::Ledger;
 use zre_values::OutOfMemory;
-use zre_zmtp::{Items, Steps};
-
-impl Heard {
-    /// The list again, emptied.
-    pub fn emptied(self) -> Items
-        ensures { result ≡ [] }
-    {
-        let Heard { mut items, .. } = self;
-        items.clear();
-        items
-    }
-}
+use zre_zmtp::{Items, Steps, ZmtpFault};
 
 impl Tables {
     /// The clock goes on to the reading of an entry.
@@ -38,30 +26,27 @@ impl Tables {
         self.clock = at.max(self.clock);
     }
 
-    /// The same, with a piece of a connection: what it completes of what that connection says, in a list that is
-    /// handed over empty.
+    /// The same, with a piece of a connection: what it completes of what that connection says goes into an empty list,
+    /// and the fault that ends it is the answer, if there is one.
     pub fn come_piece<L: Ledger>(
         &mut self,
         at: u64,
         conn: u64,
         bytes: &[u8],
-        mut items: Items,
+        items: &mut Items,
         steps: &mut Steps<L>,
-    ) -> Result<Heard, OutOfMemory>
-        requires { items ≡ [] }
+    ) -> Result<Option<ZmtpFault>, OutOfMemory>
+        requires { items.old ≡ [] }
         ensures came { (g : Config) (H : List Mark) (e : Entry) → e.at ≡ at → e.input ≡ input.Piece conn bytes.now
             → Holds g H self.old →
-            IfOk result (λ heard. Holds g (Comes e ∷ H) self.new
-            × (at_places g conn (said_in heard) (Comes e ∷ H)
+            IfOk result (λ fault. Holds g (Comes e ∷ H) self.new
+            × (at_places g conn (said_in items.new fault) (Comes e ∷ H)
             ≡ at_places g conn (newly_completed g.id conn H (Comes e ∷ H)) (Comes e ∷ H))) }
         ensures looks { (g : Config) (H : List Mark) (e : Entry) → e.input ≡ input.Piece conn bytes.now
             → Holds g H self.old →
             Looks steps.old steps.new (kept g H) (kept g (Comes e ∷ H)) (length bytes.now) result }
     {
         self.clock = at.max(self.clock);
-        match self.conns.feed(conn, bytes, &mut items, steps) {
-            Ok(fault) => Ok(Heard { items, fault }),
-            Err(none) => Err(none),
-        }
+        self.conns.feed(conn, bytes, items, steps)
     }
 }
