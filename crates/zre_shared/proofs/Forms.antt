@@ -28,6 +28,20 @@ next done frame rest field after e parts none = e ∙ ap (λ (l : List (List ℕ
 pub last : (done : List (List ℕ)) (frame rest : List ℕ) → between 32 frame ≡ done ++ between 32 rest → Lacks 32 rest → between 32 frame ≡ done ++ (rest ∷ [])
 last done frame rest e none = e ∙ ap (λ (l : List (List ℕ)). done ++ l) (between-whole 32 rest none)
 
+-- the first fields, and what comes after them
+pub first_field : {f w : List ℕ} (r : List ℕ) → f ≡ w ++ (32 ∷ r) → Lacks 32 w → between 32 f ≡ w ∷ between 32 r
+first_field {f} {w} r p q = next [] f f w r refl p q
+
+pub two_fields : {f w r n : List ℕ} (s : List ℕ) → f ≡ w ++ (32 ∷ r) → Lacks 32 w → r ≡ n ++ (32 ∷ s) → Lacks 32 n → between 32 f ≡ w ∷ n ∷ between 32 s
+two_fields {f} {w} {r} {n} s p q p2 q2 = next (w ∷ []) f r n s (first_field r p q) p2 q2
+
+pub three_fields : {f w r n s i : List ℕ} (t : List ℕ) → f ≡ w ++ (32 ∷ r) → Lacks 32 w → r ≡ n ++ (32 ∷ s) → Lacks 32 n → s ≡ i ++ (32 ∷ t) → Lacks 32 i → between 32 f ≡ w ∷ n ∷ i ∷ between 32 t
+three_fields {f} {w} {r} {n} {s} {i} t p q p2 q2 p3 q3 = next (w ∷ n ∷ []) f s i t (two_fields s p q p2 q2) p3 q3
+
+pub four_fields : {f w r n s i t k : List ℕ} (v : List ℕ) → f ≡ w ++ (32 ∷ r) → Lacks 32 w → r ≡ n ++ (32 ∷ s) → Lacks 32 n → s ≡ i ++ (32 ∷ t) → Lacks 32 i → t ≡ k ++ (32 ∷ v) → Lacks 32 k
+    → between 32 f ≡ w ∷ n ∷ i ∷ k ∷ between 32 v
+four_fields {f} {w} {r} {n} {s} {i} {t} {k} v p q p2 q2 p3 q3 p4 q4 = next (w ∷ n ∷ i ∷ []) f t k v (three_fields t p q p2 q2 p3 q3) p4 q4
+
 -- what the fields make
 pub of_fields : (frame : List ℕ) (fs : List (List ℕ)) → between 32 frame ≡ fs → write_of frame ≡ write_in fs
 unfolding write_of
