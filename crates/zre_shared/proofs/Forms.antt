@@ -12,7 +12,7 @@ use Rattle.zre_values.specs.declared.peer_id.PeerId.{PeerId}
 use Rattle.zre_capture.specs.Parts.{between, Lacks}
 use Rattle.zre_capture.specs.Values.{number_of, id_of, group_of}
 use Rattle.zre_capture.proofs.Parts.{between-cut, between-whole}
-use Rattle.zre_capture.proofs.Spelled.{number_of-decimal, number_of-some, id_of-text, id_of-some, group_of-quoted, group_of-some}
+use Rattle.zre_capture.proofs.Spelled.{IsTextOf, number_of-decimal, number_of-some, id_of-text, id_of-some, group_of-quoted, group_of-some}
 use Rattle.zre_capture.proofs.Visible.{visible, decimal-visible, id-visible, quoted-visible, fields-joined}
 use Rattle.zre_shared.specs.declared.write.Write.{Write}
 use Rattle.zre_shared.specs.declared.write.TheConstants.{KEY_OCTETS, VALUE_OCTETS}
@@ -192,11 +192,7 @@ written (a ∷ c ∷ i ∷ k ∷ v ∷ []) w e =
     ]
 written (a ∷ b ∷ c ∷ d ∷ f ∷ g ∷ fs) w e = absurd cc
 
-pub record IsFrameOf (w : Write) (frame : List ℕ) : Type 0 where
-  pub is : IsWrite w
-  pub text : write_text w ≡ frame
-
-pub write_of-some : (frame : List ℕ) (w : Write) → write_of frame ≡ Some w → IsFrameOf w frame
+pub write_of-some : (frame : List ℕ) (w : Write) → write_of frame ≡ Some w → IsTextOf IsWrite write_text w frame
 unfolding write_of
 write_of-some frame w e =
     let h = written (between 32 frame) w e in
