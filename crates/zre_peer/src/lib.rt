@@ -19,6 +19,7 @@ mod teller;
 mod telling;
 mod view;
 
+pub use cause_text::zmtp_name;
 pub use causes::{Cause, CloseWhy, IgnoreWhy, RefuseWhy};
 pub use event::{Event, Events};
 pub use groups::Groups;
