@@ -1,5 +1,5 @@
 -- What is kept beside the rows agrees with them after a change.
-use Rattle.std.proofs.Common.{◌≡◌, ℕ, ◌==◌, ◌≤◌, ◌-◌, ◌^◌, ◌&&◌, ◌||◌, not, Bool, true, false, cond, eqb, ltb, nat_le, List, [], Option, Some, None, IfSome, IsSome, is_some, refl, sym, ap, ◌∙◌, arith, nat_cmp, eqb-true, eq-eqb, subst}
+use Rattle.std.proofs.Common.{◌≡◌, ℕ, ◌==◌, ◌≤◌, ◌-◌, ◌^◌, ◌&&◌, ◌||◌, not, Bool, true, false, cond, eqb, ltb, nat_le, List, [], Option, Some, None, IfSome, is_some, refl, sym, ap, ◌∙◌, arith, nat_cmp, eqb-true, eq-eqb, subst}
 use Rattle.std.specs.BTreeMap.{is_at}
 use Rattle.std.specs.FinMap as map
 use Rattle.std.specs.FinSet as set
@@ -11,9 +11,9 @@ use Rattle.std.proofs.lemmas.Bool.{ltb-false, le-leb}
 use Rattle.std.proofs.lemmas.Slice.Eq.{bytes_eq-Decides}
 use Rattle.zre_journal.proofs.Listed.{eqb-comm}
 use Rattle.zre_group.specs.Index.{Memberships, is_member, without_key}
-use Rattle.zre_group.specs.Membership.{is_member-insert, is_member-remove, is_member-without_key}
+use Rattle.zre_group.specs.Membership.{is_member-remove, is_member-without_key}
 use Rattle.zre_timers.specs.Moments.{Moments, NoneAfter, moment_of, moment_of-empty, moment_of-insert, moment_of-remove, NoneAfter-empty, NoneAfter-insert, NoneAfter-remove}
-use Rattle.zre_tables.specs.Agreement.{IsRun, IsIndexed, AreHeard, Agree}
+use Rattle.zre_tables.specs.Agreement.{IsIndexed, AreHeard, Agree}
 use Rattle.zre_tables.specs.Indexing.{IsGrown}
 use Rattle.zre_tables.specs.Rows.{row_at}
 use Rattle.zre_tables.specs.Views.{row_in}

@@ -1,5 +1,5 @@
 -- A row that was found, and what was put in its place.
-use Rattle.std.proofs.Common.{◌≡◌, ℕ, ◌++◌, Bool, true, false, if◌then◌else◌, List, length, Option, Some, None, Result, Ok, Err, IfOk, refl, sym, ap, ◌∙◌, arith, nat_cmp}
+use Rattle.std.proofs.Common.{◌≡◌, ℕ, ◌++◌, Bool, true, false, if◌then◌else◌, List, length, Some, None, Result, Ok, Err, IfOk, sym, ap, ◌∙◌, arith, nat_cmp}
 use Rattle.std.proofs.lemmas.Map.Steps.{set_value_same}
 use Rattle.std.specs.BTreeMap.{is_at}
 use Rattle.zre_values.specs.declared.memory.OutOfMemory.{OutOfMemory}

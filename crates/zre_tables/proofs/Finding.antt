@@ -1,13 +1,8 @@
 -- Rows that pass a test, found one by one.
-use Rattle.std.proofs.Common.{◌≡◌, ℕ, Bool, true, false, cond, ◌&&◌, eqb, List, [], ◌∷◌, ◌++◌, map, filter, is_some, refl, ap, ◌∙◌, append_assoc}
-use Rattle.std.specs.List.{list_any}
+use Rattle.std.proofs.Common.{◌≡◌, ℕ, Bool, true, false, cond, List, [], ◌∷◌, ◌++◌, map, filter, is_some, refl, ap, ◌∙◌, append_assoc}
 use Rattle.zre_values.specs.declared.peer_id.PeerId.{PeerId}
-use Rattle.zre_outside.specs.declared.act.Act.{Act}
-use Rattle.zre_outside.specs.declared.act.Act.TheVariants as act
-use Rattle.zre_link.specs.Link.{has_front}
 use Rattle.zre_tables.specs.declared.peer.Peer.{Peer}
 use Rattle.zre_tables.specs.Rows.{numbers_of}
-use Rattle.zre_tables.specs.Searches.{offered_among}
 use Rattle.zre_tables.specs.Tabled.{Tabled}
 use Rattle.zre_tables.specs.Views.{ids_entered}
 
@@ -42,27 +37,3 @@ one_entered k l es ids ids' all b p e =
 
 pub none_entered : (k : Peer) (l : ℕ) (es : List (ℕ × Peer)) (ids all : List PeerId) → is_some k.run ≡ false → ids ++ ids_entered ((l, k) ∷ es) ≡ all → ids ++ ids_entered es ≡ all
 none_entered k l es ids all b e = rw b at e
-
--- ---- offers
-
--- one row more
-pub one_more : (pushed : List ℕ) (l : ℕ) (k : Peer) (es : List (ℕ × Peer)) (acts acts' start : List Act) → list_any (eqb l) pushed ≡ true → has_front k.link ≡ true → acts' ≡ acts ++ act.Offer l ∷ []
-    → acts ++ offered_among pushed ((l, k) ∷ es) ≡ start → acts' ++ offered_among pushed es ≡ start
-one_more pushed l k es acts acts' start a b p e =
-    let whole : acts ++ act.Offer l ∷ offered_among pushed es ≡ start = rw (a, b) at e in
-    ap (λ (xs : List Act). xs ++ offered_among pushed es) p ∙ append_assoc acts (act.Offer l ∷ []) (offered_among pushed es) ∙ whole
-
--- nothing is offered where nothing was put
-pub none_pushed : (es : List (ℕ × Peer)) → offered_among [] es ≡ []
-none_pushed [] = refl
-none_pushed (e ∷ es) = none_pushed es
-
--- one row that isn't offered
-pub none_more : (pushed : List ℕ) (l : ℕ) (k : Peer) (es : List (ℕ × Peer)) (acts start : List Act) → (list_any (eqb l) pushed && has_front k.link) ≡ false → acts ++ offered_among pushed ((l, k) ∷ es) ≡ start → acts ++ offered_among pushed es ≡ start
-none_more pushed l k es acts start b e = rw b at e
-
-pub not_pushed : (a b : Bool) → a ≡ false → (a && b) ≡ false
-not_pushed a b e = rw e refl
-
-pub no_front : (a b : Bool) → a ≡ true → b ≡ false → (a && b) ≡ false
-no_front a b e f = rw (e, f) refl

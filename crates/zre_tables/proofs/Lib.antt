@@ -7,3 +7,5 @@ pub mod Finding
 pub mod Hearings
 pub mod Indexed
 pub mod Listing
+pub mod Offering
+pub mod Resting

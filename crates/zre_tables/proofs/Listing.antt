@@ -1,6 +1,5 @@
 -- The rows that pass a test, found among some of their numbers.
-use Rattle.std.proofs.Common.{◌≡◌, ℕ, ◌+◌, ◌<◌, ◌==◌, ◌&&◌, ◌||◌, Bool, true, false, cond, eqb, List, [], ◌∷◌, ◌++◌, length, take, filter, Option, Some, None, refl, sym, ap, ◌∙◌, nat_cmp, eqb-true, eq-eqb, append-nil, subst}
-use Rattle.std.proofs.lemmas.List.{take_more}
+use Rattle.std.proofs.Common.{◌≡◌, ℕ, ◌+◌, ◌<◌, ◌==◌, ◌&&◌, Bool, true, false, eqb, List, [], ◌∷◌, ◌++◌, length, take, filter, Option, Some, None, refl, sym, ap, ◌∙◌, nat_cmp, eqb-true, eq-eqb, append-nil, subst}
 use Rattle.std.proofs.lemmas.List.Elements.{filter-append}
 use Rattle.std.proofs.lemmas.List.Kept.{IsStrictlyIncreasing-filter}
 use Rattle.std.proofs.lemmas.Map.Keys.{IsStrictlyIncreasing-from_sorted}
@@ -8,7 +7,7 @@ use Rattle.std.proofs.lemmas.Map.Views.{any-filter_same}
 use Rattle.std.specs.BTreeMap.{is_at}
 use Rattle.std.specs.List.{AllByRecursion, list_any}
 use Rattle.std.specs.List.Sorted.{IsStrictlySortedBy, IsStrictlyIncreasing}
-use Rattle.std.specs.Map.{keys_of, lookup}
+use Rattle.std.specs.Map.{keys_of}
 use Rattle.std.specs.Option.{option_map_or}
 use Rattle.std.specs.Ordering.{is_eq}
 use Rattle.std.specs.declared.cmp.Ordering.TheVariants.{Less}
@@ -68,13 +67,16 @@ module _ {V : Type 0} (test : V → Bool) where
       by n true e = all n e
       by n false e = refl
 
+  -- the numbers of the rows that pass rise, and are those that pass
+  pub rising_numbers : (es : List (ℕ × V)) → IsStrictlySortedBy nat_cmp (keys_of es) → IsRisingListOf (passes_at test es) (numbers_of test es)
+  rising_numbers es sorted = subst (IsRisingListOf (passes_at test es)) (sym (numbers_filter es sorted))
+      (rising_part es (keys_of es) (IsStrictlyIncreasing-from_sorted (keys_of es) sorted) (λ n p. passing _ es n p (λ x e q. among_keys es n x e)))
+
   -- those of some rising numbers that pass are the numbers of the rows that pass, where all of these are among them
   pub same_numbers : (es : List (ℕ × V)) (ks : List ℕ) → IsStrictlySortedBy nat_cmp (keys_of es) → IsStrictlyIncreasing ks → ((n : ℕ) (x : V) → row_at n es ≡ Some x → test x ≡ true → list_any (λ k. k == n) ks ≡ true)
       → filter (passes_at test es) ks ≡ numbers_of test es
   same_numbers es ks sorted up all =
-      same_rising_list (passes_at test es) _ _ (rising_part es ks up (λ n p. passing _ es n p (all n)))
-      (subst (IsRisingListOf (passes_at test es)) (sym (numbers_filter es sorted))
-      (rising_part es (keys_of es) (IsStrictlyIncreasing-from_sorted (keys_of es) sorted) (λ n p. passing _ es n p (λ x e q. among_keys es n x e))))
+      same_rising_list (passes_at test es) _ _ (rising_part es ks up (λ n p. passing _ es n p (all n))) (rising_numbers es sorted)
 
   -- all of the numbers rise, and each row's is among them
   pub all_keys : (es : List (ℕ × V)) → IsStrictlySortedBy nat_cmp (keys_of es) → IsStrictlyIncreasing (keys_of es)

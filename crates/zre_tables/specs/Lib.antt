@@ -1,6 +1,7 @@
 pub mod Agreement
 pub mod Holding
 pub mod Indexing
+pub mod Resting
 pub mod Rows
 pub mod Runs
 pub mod Searches

@@ -33,6 +33,10 @@ row_evasive evasive expired now k = is_some k.run && not (row_silent expired now
 abbrev pub row_stale : ℕ → ℕ → Connection → Bool
 row_stale limit now k = is_none k.run && nat_le limit (now - k.since)
 
+-- the link of this row has something to send
+abbrev pub row_offered : Peer → Bool
+row_offered k = has_front k.link
+
 -- the offers of the rows on whose links something was put
 abbrev pub offered_among : List ℕ → List (ℕ × Peer) → List Act
 offered_among pushed [] = []

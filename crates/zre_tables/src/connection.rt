@@ -32,4 +32,13 @@ impl Connection {
             conn: Some(Conn::accept(alloc, own)),
         }
     }
+
+    // It is ignored from now on, and runs no peer.
+    pub(crate) fn put_aside(&mut self, now: u64)
+        ensures { self.new ≡ record self.old { since = now; run = None; conn = None } }
+    {
+        self.since = now;
+        self.run = None;
+        self.conn = None;
+    }
 }

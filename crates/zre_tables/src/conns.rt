@@ -7,25 +7,33 @@ ghost use Rattle.zre_tables.specs.Rows.{row_at, with_row, without_row};
 ghost use Rattle.zre_tables.specs.declared.connection.Connection.{Connection as ConnectionValue};
 
 use crate::connection::Connection;
+use crate::searches::earlier_rest;
 use std::alloc::Global;
 use std::collections::BTreeMap;
 use std::marker::Model;
 use zre_values::{OutOfMemory, PeerId};
 
 /// The open connections by their numbers. It is seen as the list of its rows.
+///
+/// Beside the rows stands a moment before which none of those that run no peer began to rest, so that they are gone over
+/// only where one of them may have rested for too long.
 #[derive(Drop)]
 pub struct Conns {
     pub(crate) rows: BTreeMap<u64, Connection>,
+    pub(crate) first: u64,
     pub(crate) alloc: Global,
 }
 
 impl Model for Conns {
     ghost use Rattle.std.specs.Prelude.{ℕ, List};
+    ghost use Rattle.zre_tables.specs.Resting.{AllRestFrom};
     ghost use Rattle.zre_tables.specs.declared.connection.Connection.{Connection as ConnectionValue};
 
     ghost Value = { List (ℕ × ConnectionValue) };
 
     ghost view = { λ conns. conns.rows.entries };
+
+    ghost invariant = { λ conns. AllRestFrom conns.first conns.rows.entries };
 }
 
 impl Conns {
@@ -35,6 +43,7 @@ impl Conns {
     {
         Conns {
             rows: BTreeMap::new(alloc),
+            first: u64::MAX,
             alloc,
         }
     }
@@ -65,6 +74,7 @@ impl Conns {
         ensures ok { OnOk result (self.new ≡ insert_entry nat_cmp self.old conn opened) }
         ensures err { OnErr result (self.new ≡ self.old) }
     {
+        self.first = earlier_rest(&opened, self.first);
         self.rows.insert(conn, opened)?;
         Ok(())
     }
@@ -81,9 +91,10 @@ impl Conns {
         ensures { (x : ConnectionValue) → row_at conn self.old ≡ Some x →
             self.new ≡ with_row conn (record x { identity = Some peer }) self.old }
     {
-        if let Some(found) = self.rows.get_mut(&conn) {
-            found.identity = Some(peer);
-        }
+        let Some(found) = self.rows.get_mut(&conn) else {
+            return;
+        };
+        found.identity = Some(peer);
     }
 
     /// The connection runs the peer of this link.
@@ -91,9 +102,10 @@ impl Conns {
         ensures { (x : ConnectionValue) → row_at conn self.old ≡ Some x →
             self.new ≡ with_row conn (record x { run = Some link }) self.old }
     {
-        if let Some(found) = self.rows.get_mut(&conn) {
-            found.run = Some(link);
-        }
+        let Some(found) = self.rows.get_mut(&conn) else {
+            return;
+        };
+        found.run = Some(link);
     }
 
     /// The connection is ignored from now on, and runs no peer.
@@ -101,10 +113,10 @@ impl Conns {
         ensures { (x : ConnectionValue) → row_at conn self.old ≡ Some x →
             self.new ≡ with_row conn (record x { since = now; run = None; conn = None }) self.old }
     {
-        if let Some(found) = self.rows.get_mut(&conn) {
-            found.since = now;
-            found.run = None;
-            found.conn = None;
-        }
+        let Some(found) = self.rows.get_mut(&conn) else {
+            return;
+        };
+        found.put_aside(now);
+        self.first = earlier_rest(found, self.first);
     }
 }

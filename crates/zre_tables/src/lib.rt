@@ -6,6 +6,7 @@ mod conns;
 mod feeding;
 mod holding;
 mod indexing;
+mod offers;
 mod peer;
 mod peers;
 mod replies;

@@ -1,14 +1,15 @@
 //! Searches among rows.
 
-ghost use Rattle.std.specs.Prelude.{◌≡◌, ◌-◌, ◌++◌, nat_eq, nat_le, option_copied, IfOk, OnOk, MatchOption};
+ghost use Rattle.std.specs.Prelude.{◌≡◌, ◌-◌, nat_le, option_copied, IfOk, MatchOption};
 ghost use Rattle.std.specs.Prelude.{ℕ, ◌≤◌, ◌^◌, ◌==◌, Bool, true, false, Some};
 ghost use Rattle.std.specs.List.{filter, list_any};
 ghost use Rattle.std.specs.List.Sorted.{IsStrictlyIncreasing};
 ghost use Rattle.std.specs.Map.{keys_of};
 ghost use Rattle.zre_journal.specs.Connections.{is_same as same_peer};
 ghost use Rattle.zre_tables.specs.Agreement.{AreHeard};
+ghost use Rattle.zre_tables.specs.Resting.{AllRestFrom, RestsFrom};
 ghost use Rattle.zre_tables.specs.Rows.{numbers_of, passes_at, row_at};
-ghost use Rattle.zre_tables.specs.Searches.{link_among, other_among, offered_among, row_evasive, row_silent, row_stale};
+ghost use Rattle.zre_tables.specs.Searches.{link_among, other_among, row_evasive, row_silent, row_stale};
 ghost use Rattle.zre_tables.specs.Views.{ids_entered, row_in, view_among};
 ghost use Rattle.zre_tables.specs.declared.peer.Peer.{Peer as PeerValue};
 
@@ -18,7 +19,6 @@ use crate::peer::Peer;
 use crate::peers::{Ids, Links, Peers};
 use std::alloc::Global;
 use std::collections::BTreeMap;
-use zre_outside::{Act, Acts};
 use zre_peer::View;
 use zre_timers::Timers;
 use zre_values::{Keys, OutOfMemory, PeerId};
@@ -69,6 +69,47 @@ fn is_stale(conn: &Connection, limit: u64, now: u64) -> bool
     ensures { result ≡ row_stale limit now conn.now }
 {
     conn.run.is_none() && has_passed(limit, now, conn.since)
+}
+
+// The numbers of those of these connections that are stale, rising.
+fn stale_among(
+    alloc: Global,
+    rows: &BTreeMap<u64, Connection>,
+    limit: u64,
+    now: u64,
+) -> Result<Keys, OutOfMemory>
+    ensures { IfOk result (λ numbers. numbers ≡ numbers_of (row_stale limit now) rows.now.entries) }
+{
+    let mut numbers = Keys::new(alloc);
+    for (number, conn) in rows {
+        if is_stale(conn, limit, now) {
+            numbers.push(*number)?;
+        }
+    }
+    Ok(numbers)
+}
+
+// The earlier of a moment and that at which a connection began to rest, if it runs no peer.
+pub(crate) fn earlier_rest(conn: &Connection, first: u64) -> u64
+    ensures before { result ≤ first }
+    ensures rests { RestsFrom result conn.now }
+{
+    if conn.run.is_none() && conn.since < first {
+        conn.since
+    } else {
+        first
+    }
+}
+
+// A moment before which none of these connections that run no peer began to rest.
+fn first_rest(rows: &BTreeMap<u64, Connection>) -> u64
+    ensures { AllRestFrom result rows.now.entries }
+{
+    let mut first = u64::MAX;
+    for (_, conn) in rows {
+        first = earlier_rest(conn, first);
+    }
+    first
 }
 
 // Those of these links whose peers have told that they are in the group, in order.
@@ -171,12 +212,6 @@ fn latest_of(span: u64, now: u64) -> Option<u64>
     now.checked_sub(span)
 }
 
-fn has_key(keys: &Keys, key: u64) -> bool
-    ensures { result ≡ list_any (nat_eq key) keys.now }
-{
-    keys.as_slice().iter().any(|k| key == *k)
-}
-
 impl Peers {
     /// The link of the peer with this id.
     pub fn link_of(&self, id: PeerId) -> Option<u64>
@@ -274,21 +309,6 @@ impl Peers {
             now,
         )
     }
-
-    /// The links on which something was put, and that have something to send, are offered.
-    pub fn offer(&self, pushed: &Keys, acts: &mut Acts) -> Result<(), OutOfMemory>
-        ensures { OnOk result (acts.new ≡ acts.old ++ offered_among pushed.now self.now) }
-    {
-        if pushed.len() == 0 {
-            return Ok(());
-        }
-        for (link, peer) in &self.rows {
-            if has_key(pushed, *link) && peer.link.is_offered() {
-                acts.push(Act::Offer { link: *link })?;
-            }
-        }
-        Ok(())
-    }
 }
 
 impl Conns {
@@ -311,16 +331,16 @@ impl Conns {
         Ok(Keys::from_vec(self.rows.keys().copied().collect(self.alloc)?))
     }
 
-    /// The numbers of those that run no peer, and have rested for so long, rising.
-    pub fn stale(&self, limit: u64, now: u64) -> Result<Keys, OutOfMemory>
-        ensures { IfOk result (λ numbers. numbers ≡ numbers_of (row_stale limit now) self.now) }
+    /// The numbers of those that run no peer, and have rested for so long, rising. It looks at none of them where none
+    /// began to rest so long ago.
+    pub fn stale(&mut self, limit: u64, now: u64) -> Result<Keys, OutOfMemory>
+        ensures found { IfOk result (λ numbers. numbers ≡ numbers_of (row_stale limit now) self.old) }
+        ensures rows { self.new ≡ self.old }
     {
-        let mut numbers = Keys::new(self.alloc);
-        for (number, conn) in &self.rows {
-            if is_stale(conn, limit, now) {
-                numbers.push(*number)?;
-            }
+        if !has_passed(limit, now, self.first) {
+            return Ok(Keys::new(self.alloc));
         }
-        Ok(numbers)
+        self.first = first_rest(&self.rows);
+        stale_among(self.alloc, &self.rows, limit, now)
     }
 }

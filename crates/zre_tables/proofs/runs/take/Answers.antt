@@ -1,5 +1,4 @@
-use Rattle.std.proofs.Common.{Result, Ok, Err, refl}
-use Rattle.std.specs.Prelude.{IfErr}
+use Rattle.std.proofs.Common.{refl}
 use Rattle.zre_tables.proofs.Carrying.{run_in, of_err}
 use Rattle.zre_values.proofs.Answered.{on_ok}
 use Rattle.zre_tables.proofs.runs.take.Goals as goal

@@ -1,7 +1,6 @@
-use Rattle.std.proofs.Common.{ℕ, List, Some, is_some, sym, ap, ◌∙◌, subst}
+use Rattle.std.proofs.Common.{ℕ, Some, is_some, sym, ap, subst}
 use Rattle.std.specs.BTreeMap.{BTreeMap}
 use Rattle.zre_tables.specs.declared.peer.Peer.{Peer}
-use Rattle.zre_tables.specs.declared.peer.Running.{Running}
 use Rattle.zre_tables.specs.Agreement.{Agree, IsRun}
 use Rattle.zre_tables.proofs.Agreeing.{grown_all, renewed_agrees, some_is}
 use Rattle.zre_tables.proofs.peers.Peers.enter.Goals as goal

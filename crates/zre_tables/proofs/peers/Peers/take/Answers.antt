@@ -1,4 +1,4 @@
-use Rattle.std.proofs.Common.{ℕ, ◌∙◌, List, Option, Some, is_some, sym, ap, subst}
+use Rattle.std.proofs.Common.{ℕ, ◌∙◌, Option, Some, is_some, sym, ap, subst}
 use Rattle.std.specs.BTreeMap.{BTreeMap}
 use Rattle.zre_values.proofs.Answered.{on_ok}
 use Rattle.zre_tables.specs.Agreement.{Agree}
