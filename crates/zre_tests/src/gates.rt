@@ -374,9 +374,11 @@ fn hall_of(alloc: Global, flag: &Arc<AtomicBool, Global>) -> Result<Hall, OutOfM
     Ok(Hall { clients, faults: 0 })
 }
 
-#[test]
-fn gate_beside(rt: HostRuntime) -> Result<(), Fail> {
-    let alloc = rt.alloc();
+/// How such a gate ended, what was written, and how often a client failed at most.
+fn held_beside<R: Threads + Wait + Send + Copy + 'static>(
+    rt: R,
+    alloc: Global,
+) -> Result<(Status, MemSink, Option<u64>), OutOfMemory> {
     let flag = Arc::new(alloc, AtomicBool::new(false))?;
     let desk = hall_of(alloc, &flag)?;
     let mut out = Showing {
@@ -385,8 +387,15 @@ fn gate_beside(rt: HostRuntime) -> Result<(), Fail> {
     };
     let stand = Stand { looks: 2, ..PLAIN };
     let ended = hold(rt, alloc, stand, desk, &mut out)?;
-    assert_eq!(rt; ended.status, Status::Done);
-    assert_eq!(rt; out.inner.written(), TEXT);
-    assert_eq!(rt; ended.clients.iter().map(|c| c.faults).max(), Some(0));
+    let faults = ended.clients.iter().map(|c| c.faults).max();
+    Ok((ended.status, out.inner, faults))
+}
+
+#[test]
+fn gate_beside(rt: HostRuntime) -> Result<(), Fail> {
+    let (status, out, faults) = held_beside(rt, rt.alloc())?;
+    assert_eq!(rt; status, Status::Done);
+    assert_eq!(rt; out.written(), TEXT);
+    assert_eq!(rt; faults, Some(0));
     Ok(())
 }

@@ -6,7 +6,7 @@ use Rattle.zre_tests.proofs.pipes.meet.Goals as goal
 
 pub finish-finished-requires-clause-pipes : goal.finish-finished-requires-clause-pipes
 finish-finished-requires-clause-pipes g c =
-    let now = c.pipes.now in
+    let now = c.args.pipes.now in
     let p = c.talk_and_take-first.result.0.0 in
     let q = c.talk_and_take-first.result.0.1 in
     let b = c.talk_and_take-first.ensures.pipes in
