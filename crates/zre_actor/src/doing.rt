@@ -24,24 +24,25 @@ use zre_outside::{Act, Entry, NextFault, Recorder, World};
 use zre_peer::Events;
 use zre_values::{Octets, OutOfMemory};
 
-/// Puts an entry to the recorder, where that is wanted, after an entry with the reading `before`, steps the node with
-/// it, and has the world do the acts. What is to be told comes back. The line that is put is made in the buffer,
-/// whatever stood there.
+/// Puts an entry to the recorder, where that is wanted, after an entry with the reading `before`, which is this entry's
+/// from then on, steps the node with it, and has the world do the acts. What is to be told comes back. The line that
+/// is put is made in the buffer, whatever stood there.
 pub(crate) fn take_entry<W: World, R: Recorder>(
     world: &mut W,
     node: &mut Node,
     rec: &mut R,
     buffer: &mut Octets,
     keep: bool,
-    before: u64,
+    before: &mut u64,
     entry: Entry,
 ) -> Result<Events, Ending>
     requires { keep ≡ true → R.begun rec.old ≡ true }
     ensures ok { (g : Config) (J : List EntryValue) → StandsFor g J node.old
-        → IfOk result (λ es. Went g J entry keep before (W.told world.old) (W.told world.new) (R.kept rec.old)
+        → IfOk result (λ es. Went g J entry keep before.old (W.told world.old) (W.told world.new) (R.kept rec.old)
         (R.kept rec.new) node.new es) }
+    ensures next { OnOk result (before.new ≡ entry.at) }
     ensures broke { (g : Config) (J : List EntryValue) → StandsFor g J node.old
-        → IfErr result (λ x. Broke g J entry keep before (W.told world.old) (W.told world.new) (R.kept rec.old)
+        → IfErr result (λ x. Broke g J entry keep before.old (W.told world.old) (W.told world.new) (R.kept rec.old)
         (R.kept rec.new) (R.faults rec.old) (R.faults rec.new) node.new x) }
     ensures world { (W.looked world.new ≡ W.looked world.old) × (W.faults world.new ≡ W.faults world.old) }
     ensures unkept { keep ≡ false → rec.new ≡ rec.old }
@@ -51,9 +52,10 @@ pub(crate) fn take_entry<W: World, R: Recorder>(
     ensures value { IsEntry entry }
 {
     is_value(&entry);
-    if let Err(ending) = keep_line(rec, buffer, keep, before, &entry) {
+    if let Err(ending) = keep_line(rec, buffer, keep, *before, &entry) {
         return Err(ending);
     }
+    *before = entry.at;
     let Ok(Step { events, acts }) = node.step(entry) else {
         return Err(Ending::OutOfMemory);
     };
@@ -149,7 +151,8 @@ fn do_one<W: World>(world: &mut W, node: &Node, act: &Act) -> bool
 fn offer_front<W: World>(world: &mut W, node: &Node, link: u64) -> bool
     ensures done { (g : Config) (J : List EntryValue) → StandsFor g J node.now → IsDue g (chronicle g J) link
         → result ≡ true →
-        (d : DeedValue) × IsDeed g J (ActValue.Offer link) d × (W.told world.new ≡ option_map (with_deed d) (W.told world.old)) }
+        (d : DeedValue) × IsDeed g J (ActValue.Offer link) d
+        × (W.told world.new ≡ option_map (with_deed d) (W.told world.old)) }
     ensures undone { result ≡ false → W.told world.new ≡ W.told world.old }
     ensures world { (W.looked world.new ≡ W.looked world.old) × (W.faults world.new ≡ W.faults world.old) }
 {

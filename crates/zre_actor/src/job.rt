@@ -45,8 +45,10 @@ impl<W: World + Send + Drop + 'static, R: Recorder + Send + Drop + 'static> Task
         × (R.begun out.rec ≡ R.begun job.rec)
         × Keeps (R.named job.rec) (R.named out.rec)
         × ((g : Config) (K : List Entry) → StandsFor g K job.node → IsWork g K job.keep job.limit
-        (scene (W.told job.world) (W.looked job.world) (W.faults job.world) (R.kept job.rec) (R.faults job.rec) job.pass)
-        (scene (W.told out.world) (W.looked out.world) (W.faults out.world) (R.kept out.rec) (R.faults out.rec) out.pass)
+        (scene (W.told job.world) (W.looked job.world) (W.faults job.world)
+        (R.kept job.rec) (R.faults job.rec) job.pass)
+        (scene (W.told out.world) (W.looked out.world) (W.faults out.world)
+        (R.kept out.rec) (R.faults out.rec) out.pass)
         out.node out.ending) };
 }
 

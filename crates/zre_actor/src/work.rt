@@ -57,7 +57,8 @@ impl Pipes {
         ensures named { Keeps (R.named rec) (R.named result.rec) }
         ensures work { (g : Config) (K : List EntryValue) → StandsFor g K node → IsWork g K keep limit
             (scene (W.told world) (W.looked world) (W.faults world) (R.kept rec) (R.faults rec) pass)
-            (scene (W.told result.world) (W.looked result.world) (W.faults result.world) (R.kept result.rec) (R.faults result.rec) result.pass)
+            (scene (W.told result.world) (W.looked result.world) (W.faults result.world)
+            (R.kept result.rec) (R.faults result.rec) result.pass)
             result.node result.ending }
     {
         let mut buffer = Octets::new(self.alloc);
@@ -69,35 +70,24 @@ impl Pipes {
             }
             let answer = match world.next(command) {
                 Ok(answer) => answer,
-                Err(fault) => {
-                    return self.leave(rt, world, node, rec, pass, ending_by(fault));
-                }
+                Err(fault) => return self.leave(rt, world, node, rec, pass, ending_by(fault)),
             };
             command = None;
             match answer {
-                Turn::Look => {
-                    if turn + 1 < limit {
-                        (pass, command) = self.pop(rt, pass);
-                    }
-                }
+                Turn::Look if turn + 1 < limit => (pass, command) = self.pop(rt, pass),
+                Turn::Look => {}
                 Turn::Entry(entry) => {
-                    let at = entry.at;
                     match take_entry(
                         &mut world,
                         &mut node,
                         &mut rec,
                         &mut buffer,
                         keep,
-                        before,
+                        &mut before,
                         entry,
                     ) {
-                        Ok(events) => {
-                            before = at;
-                            pass = self.raise_all(rt, pass, events);
-                        }
-                        Err(ending) => {
-                            return self.leave(rt, world, node, rec, pass, ending);
-                        }
+                        Ok(events) => pass = self.raise_all(rt, pass, events),
+                        Err(ending) => return self.leave(rt, world, node, rec, pass, ending),
                     }
                 }
             }

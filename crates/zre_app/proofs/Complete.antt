@@ -3,10 +3,11 @@ use Rattle.std.proofs.Common.{◌≡◌, ◌⊎◌, ℕ, ◌<◌, Bool, true, fa
 use Rattle.std.specs.Prelude.{nat_le, if◌then◌else◌}
 use Rattle.std.specs.Io.KnownBytes.{Appends, Consumes, IsAtEnd}
 use Rattle.zre_commands.specs.declared.pump.status.Status.{Status}
-use Rattle.zre_commands.specs.declared.pump.status.Status.TheVariants.{Done, Usage, BadInput, ReadFault, WriteFault, WorldFault, NoThread, TooLong, OutOfMemory}
+use Rattle.zre_commands.specs.declared.pump.status.Status.TheVariants.{Done, Usage, BadInput, ReadFault, WriteFault, WorldFault, NoThread, TooLong, OutOfMemory, DeskFault}
 use Rattle.zre_commands.specs.pump.Meaning.{Meaning, KeepsRefusing, whole_text}
 use Rattle.zre_commands.specs.pump.Outcome.{Outcome}
-use Rattle.zre_commands.proofs.Refusing.{show_refuses, follow_refuses, capture_refuses, audit_refuses, simulate_refuses}
+use Rattle.zre_commands.proofs.Refusing.{show_refuses, follow_refuses}
+use Rattle.zre_records.proofs.Refusing.{capture_refuses, audit_refuses, simulate_refuses}
 use Rattle.zre_chat.specs.Chat.{Seen, IsCaused, AreCaused}
 use Rattle.zre_chat.specs.Statuses.{rank, least}
 use Rattle.zre_capture.specs.declared.format.Format.TheVariants.{First, Second}
@@ -55,6 +56,7 @@ whole_outcome m keeps OutOfMemory limit o taken left written written' read write
 whole_outcome m keeps Usage limit o taken left written written' read write c out good short unread unwritten = absurd out
 whole_outcome m keeps WorldFault limit o taken left written written' read write c out good short unread unwritten = absurd out
 whole_outcome m keeps NoThread limit o taken left written written' read write c out good short unread unwritten = absurd out
+whole_outcome m keeps DeskFault limit o taken left written written' read write c out good short unread unwritten = absurd out
 
 reads_all : (m : Meaning) → KeepsRefusing m → (limit : ℕ) (status : Status) (s t : Streams) → DoesWork (Reads m) limit status s t
     → CompletesWork (Reads m) limit status s t
@@ -75,6 +77,7 @@ writes_all ReadFault text written written' write out unwritten = absurd out
 writes_all WorldFault text written written' write out unwritten = absurd out
 writes_all NoThread text written written' write out unwritten = absurd out
 writes_all TooLong text written written' write out unwritten = absurd out
+writes_all DeskFault text written written' write out unwritten = absurd out
 
 plain_completes : (p : PlainCommand) (limit : ℕ) (status : Status) (s t : Streams) → DoesWork (work_of p) limit status s t
     → CompletesWork (work_of p) limit status s t
@@ -90,7 +93,7 @@ plain_completes (Exercise seed peers messages) limit status s t does = λ unwrit
 
 -- ---- a chat
 
-abbrev Spares : Status → Type 0
+abbrev pub Spares : Status → Type 0
 Spares status = (status ≡ Done) ⊎ (status ≡ OutOfMemory)
 
 -- nothing else has a cause
@@ -107,8 +110,9 @@ spared TooLong limit octets turns stopped s t cause none few early =
     elim (cause) [ inl many ↦ absurd (omega (arith, many.0, few)) | inr late ↦ absurd (omega (arith, late.0, early)) ]
 spared Usage limit octets turns stopped s t cause none few early = absurd cause
 spared BadInput limit octets turns stopped s t cause none few early = absurd cause
+spared DeskFault limit octets turns stopped s t cause none few early = absurd cause
 
-either_spares : (b : Bool) (x y : Status) → Spares x → Spares y → Spares (if b then x else y)
+pub either_spares : (b : Bool) (x y : Status) → Spares x → Spares y → Spares (if b then x else y)
 either_spares true x y p q = p
 either_spares false x y p q = q
 
@@ -120,7 +124,7 @@ least_spares (x ∷ xs) limit octets turns stopped s t caused none few early =
     (spared x limit octets turns stopped s t caused.0 none few early)
     (least_spares xs limit octets turns stopped s t caused.1 none few early)
 
-well_or_short : (status : Status) (all : Type 0) → Spares status → (status ≡ Done → all) → WellOrShort status all
+pub well_or_short : (status : Status) (all : Type 0) → Spares status → (status ≡ Done → all) → WellOrShort status all
 well_or_short status all (inl done) whole = inl (done, whole done)
 well_or_short status all (inr short) whole = inr short
 
@@ -129,8 +133,8 @@ completes None limit status s t does = tt
 completes (Some (Plain p)) limit status s t does = plain_completes p limit status (streams_of s) (streams_of t) does
 completes (Some (Chat c)) limit status s t does = λ chat none few early.
     well_or_short status _
-    (subst Spares (sym chat.is_status) (least_spares chat.occurred limit chat.octets chat.turns _ s t chat.caused none few early))
-    (λ done. chat.whole (inl done))
+    (subst Spares (sym chat.is_status) (least_spares chat.occurred limit chat.octets chat.lived.turns _ s t chat.caused none few early))
+    (λ done. chat.wrote.whole (inl done))
 
 -- any call does
 pub all_complete : {I W O R P : Type 0} (v : Views I W O R P) (c : Option Command) (limit : ℕ) (status : Status) (h h' : Handed I W O R P)

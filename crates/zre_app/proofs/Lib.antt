@@ -1,4 +1,5 @@
 pub mod Complete
+pub mod CompleteGate
 pub mod KeyPairs
 pub mod Ledgers
 pub mod Unread

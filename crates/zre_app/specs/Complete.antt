@@ -1,13 +1,17 @@
 -- Where nothing fails, a command does all that it is asked for, unless memory runs out.
-use Rattle.std.specs.Prelude.{◌≡◌, ◌⊎◌, ℕ, ◌<◌, false, List, length, Option, Some, None, ⊤}
+use Rattle.std.specs.Prelude.{◌≡◌, ◌⊎◌, ℕ, ◌<◌, false, List, length, All, Option, Some, None, ⊤}
 use Rattle.std.specs.Io.KnownBytes.{Appends}
 use Rattle.zre_outside.specs.Causes.{Rose}
 use Rattle.zre_peer.specs.Lines.{lines}
-use Rattle.zre_journal.specs.Events.{events}
+use Rattle.zre_journal.specs.Events.{chronicle, events}
+use Rattle.zre_journal.specs.Happens.{has_stopped}
 use Rattle.zre_commands.specs.declared.pump.status.Status.{Status}
 use Rattle.zre_commands.specs.declared.pump.status.Status.TheVariants.{Done, OutOfMemory}
 use Rattle.zre_commands.specs.pump.Meaning.{whole_text}
 use Rattle.zre_chat.specs.Chat.{Seen, IsChat}
+use Rattle.zre_gate.specs.Clients.{Row}
+use Rattle.zre_gate.specs.Gate.{Client, HasServed, IsGate}
+use Rattle.zre_gate.specs.declared.gate.Gate.{Gate}
 use Rattle.zre_app.specs.declared.command.Command.{Command}
 use Rattle.zre_app.specs.declared.command.Command.TheVariants.{Plain, Chat}
 use Rattle.zre_app.specs.Does.{Work, work_of}
@@ -44,5 +48,21 @@ Completes None limit status s t = ⊤
 Completes (Some (Plain p)) limit status s t = CompletesWork (work_of p) limit status (streams_of s) (streams_of t)
 Completes (Some (Chat c)) limit status s t =
     (chat : IsChat c.config c.start c.capture limit s t status) → NoneRose s t
-    → length chat.octets < limit → chat.turns < limit
-    → WellOrShort status (Appends s.written t.written (lines (events c.config chat.entries)))
+    → length chat.octets < limit → chat.lived.turns < limit
+    → WellOrShort status (Appends s.written t.written (lines (events c.config chat.lived.entries)))
+
+-- fewer octets of it than the limit were taken
+abbrev pub IsBelow : (limit : ℕ) → Client → Type 0
+IsBelow limit c = length c.octets < limit
+
+-- A gate refuses no client's lines: where nothing but clients failed, fewer octets than the limit were taken of each,
+-- and fewer turns than the limit were answered, the lines of all events of the journal that its world gave are written.
+abbrev pub CompletesGate : Option Gate → (limit : ℕ) → Status → Seen → Seen → (desk : Type 0) → Type 0
+CompletesGate None limit status s t desk = ⊤
+CompletesGate (Some g) limit status s t desk =
+    (before after : List Row)
+    (gate : IsGate g.chat.config g.chat.start g.chat.capture limit g.clients s t desk before after status)
+    (served : HasServed limit gate.lived.handed gate.lived.turns
+    (has_stopped (chronicle g.chat.config gate.lived.entries)) s t desk before after status)
+    → NoneRose s t → ¬ desk → All (IsBelow limit) served.clients → gate.lived.turns < limit
+    → WellOrShort status (Appends s.written t.written (lines (events g.chat.config gate.lived.entries)))

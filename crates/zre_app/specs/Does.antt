@@ -13,11 +13,11 @@ use Rattle.zre_commands.specs.pump.Meaning.{Meaning}
 use Rattle.zre_commands.specs.pump.Outcome.{Pumped}
 use Rattle.zre_commands.specs.follow.Follow.{follow}
 use Rattle.zre_commands.specs.show.Show.{show}
-use Rattle.zre_commands.specs.replay.Replay.{replay, told_replay}
-use Rattle.zre_commands.specs.upgrade.Upgrade.{upgrade}
-use Rattle.zre_commands.specs.table.Table.{table}
-use Rattle.zre_commands.specs.audit.Audit.{audit}
-use Rattle.zre_commands.specs.simulate.Simulate.{simulate}
+use Rattle.zre_records.specs.replay.Replay.{replay, told_replay}
+use Rattle.zre_records.specs.upgrade.Upgrade.{upgrade}
+use Rattle.zre_records.specs.table.Table.{table}
+use Rattle.zre_records.specs.audit.Audit.{audit}
+use Rattle.zre_records.specs.simulate.Simulate.{simulate}
 use Rattle.zre_commands.specs.exercise.Exercise.{text as exercise_text}
 use Rattle.zre_chat.specs.Chat.{Seen, IsChat}
 use Rattle.zre_app.specs.declared.command.Command.{Command}

@@ -11,7 +11,7 @@ use Rattle.zre_capture.specs.declared.format.Format.TheVariants.{Second}
 use Rattle.zre_commands.specs.Settings.{as_settings}
 use Rattle.zre_commands.specs.pump.Meaning.{whole_text}
 use Rattle.zre_commands.specs.declared.pump.status.Status.{Status}
-use Rattle.zre_commands.specs.replay.Replay.{told_replay}
+use Rattle.zre_records.specs.replay.Replay.{told_replay}
 use Rattle.zre_chat.specs.Chat.{Seen, IsChat, IsSpared, Holds}
 
 -- the capture of a node with these settings and of these entries
@@ -34,4 +34,4 @@ KeptIsReplayed =
     (chat : IsChat g start (Some file) limit s t status)
     → IsSpared status (Rose s.write_faults t.write_faults)
     → IsSpared status (Rose s.record_faults t.record_faults)
-    → AreShort Second 0 chat.entries → Replays g file s t
+    → AreShort Second 0 chat.lived.entries → Replays g file s t

@@ -5,6 +5,7 @@ use Rattle.zre_outside.specs.Told.{AppendsFront}
 use Rattle.zre_commands.specs.declared.pump.status.Status.{Status}
 use Rattle.zre_commands.specs.declared.pump.status.Status.TheVariants.{Done, Usage, BadInput, ReadFault, WriteFault}
 use Rattle.zre_commands.specs.declared.pump.status.Status.TheVariants.{WorldFault, NoThread, TooLong, OutOfMemory}
+use Rattle.zre_commands.specs.declared.pump.status.Status.TheVariants.{DeskFault}
 
 abbrev pub usage_line : List ℕ
 usage_line = codes "USAGE\n"
@@ -20,6 +21,7 @@ UsageOutcome ReadFault written written' write = ⊥
 UsageOutcome WorldFault written written' write = ⊥
 UsageOutcome NoThread written written' write = ⊥
 UsageOutcome TooLong written written' write = ⊥
+UsageOutcome DeskFault written written' write = ⊥
 
 -- a text was written, or the sink failed or memory ran out and a front of it was
 abbrev pub WritesText : Status → (text : List ℕ) → (written written' : Option (List ℕ)) (write : Type 0) → Type 0
@@ -32,3 +34,4 @@ WritesText ReadFault text written written' write = ⊥
 WritesText WorldFault text written written' write = ⊥
 WritesText NoThread text written written' write = ⊥
 WritesText TooLong text written written' write = ⊥
+WritesText DeskFault text written written' write = ⊥

@@ -26,8 +26,8 @@ const ADDRESSES: usize = 64;
 // The milliseconds of a day, the longest time from one beacon to the next.
 const DAY: u64 = 86400000;
 
-// The keys of `chat`: those of a node, and five more.
-fn chat_keys() -> [Key<'static>; 12]
+/// The keys of `chat`: those of a node, and five more.
+pub(crate) fn chat_keys() -> [Key<'static>; 12]
     ensures { map (λ key. (key.name.now, key.often)) result ≡ chat_keys }
 {
     let [id, host, port, name, header, evasive, expired] = node_keys();
@@ -205,7 +205,8 @@ fn capture_in(alloc: Global, words: &[Octets]) -> Result<Option<Option<Octets>>,
     }
 }
 
-fn chat_in(alloc: Global, words: &[Octets]) -> Result<Option<Chat>, OutOfMemory>
+/// The chat of these words.
+pub(crate) fn chat_in(alloc: Global, words: &[Octets]) -> Result<Option<Chat>, OutOfMemory>
     ensures value { IfOk result (λ chat. chat ≡ chat_in words.now) }
     ensures ready { IfOk result (λ chat. IfSome chat CanChat) }
 {

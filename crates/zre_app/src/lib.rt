@@ -5,6 +5,8 @@
 mod chat;
 mod chat_words;
 mod command;
+mod gate_call;
+mod gate_words;
 mod keys;
 mod laws;
 mod node_words;
@@ -14,6 +16,8 @@ mod top;
 mod words;
 
 pub use command::{Command, command_of, is_chat};
+pub use gate_call::{GateEnded, gate};
+pub use gate_words::{gate_of, is_gate};
 pub use laws::kept_captures_are_replayed;
 pub use plain_commands::{PlainEnded, plain};
 pub use plain_words::Plain;

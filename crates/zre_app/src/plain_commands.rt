@@ -12,18 +12,18 @@ ghost use Rattle.zre_app.specs.Words.{is_chat};
 
 use crate::plain_words::{Plain, plain_of};
 use std::alloc::Global;
-use zre_commands::audit::Auditor;
 use zre_commands::exercise::push_summary;
 use zre_commands::follow::Follower;
 use zre_commands::pump::{Status, pump};
-use zre_commands::replay::{HeadReplayer, Replayer};
 use zre_commands::settings::as_settings;
 use zre_commands::show::Lister;
-use zre_commands::simulate::Simulator;
-use zre_commands::table::Tabulator;
-use zre_commands::upgrade::Upgrader;
 use zre_journal::Config;
 use zre_outside::{NextFault, Sink, Source, write_all};
+use zre_records::audit::Auditor;
+use zre_records::replay::{HeadReplayer, Replayer};
+use zre_records::simulate::Simulator;
+use zre_records::table::Tabulator;
+use zre_records::upgrade::Upgrader;
 use zre_values::{Frames, Octets, OutOfMemory, PeerId};
 
 /// How a call ended, and the source that was handed in.

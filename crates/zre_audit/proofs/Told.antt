@@ -22,7 +22,7 @@ use Rattle.zre_journal.specs.declared.config.Config.{Config}
 use Rattle.zre_journal.specs.Chronicle.{Mark, TurnsAway, Starts, Counts, Ignores, Closes, Born, Ends, IsEvasive, Refuses, Stops, each, followed}
 use Rattle.zre_journal.specs.Connections.{is_same}
 use Rattle.zre_journal.specs.Peers.{Life, lives, life, life_of, births, runner, is_entered, counted, view}
-use Rattle.zre_journal.specs.Told.{told_at, by_message, exit, becoming_evasive}
+use Rattle.zre_journal.specs.Told.{told_in, told_at, by_message, exit, becoming_evasive}
 use Rattle.zre_journal.specs.Events.{events, chronicle}
 use Rattle.zre_journal.specs.Proper.{IsProper}
 use Rattle.zre_journal.proofs.Always.{always}
@@ -31,7 +31,7 @@ use Rattle.zre_journal.proofs.Silent.{known_lives, run_known, run_is}
 use Rattle.zre_journal.proofs.Known.{same_id, life_stays}
 use Rattle.zre_journal.proofs.Listed.{some_is, eqb-comm}
 use Rattle.zre_journal.proofs.Steps.{May, step}
-use Rattle.zre_journal.proofs.Telling.{told_by, events_are, first_is_hello}
+use Rattle.zre_journal.proofs.Telling.{events_are, first_is_hello}
 use Rattle.zre_audit.specs.Coding.{octets_of, code}
 use Rattle.zre_audit.specs.Exchanged.{is_said, said, bodies_of, peer_on, run_at, runs_of, heard}
 use Rattle.zre_audit.specs.Told.{at_last, runs_with, runs_after}
@@ -185,7 +185,7 @@ pub record IsLast (l : ℕ) (ks : List ℕ) : Type 0 where
 
 pub record IsTold (H : List Mark) : Type 0 where
   pub are_named : AreNamed H
-  pub tells : (p : PeerId) → runs_after p.0 [] (told_by H) ≡ rows p H
+  pub tells : (p : PeerId) → runs_after p.0 [] (told_in H) ≡ rows p H
   pub living : (l : ℕ) (v : Life) → life l H ≡ Some v → peer_on l H ≡ Some v.id
   pub last : (c l : ℕ) (v : Life) → life l H ≡ Some v → runner l H ≡ Some c → IsLast l (runs_of v.id H)
 
@@ -206,8 +206,8 @@ module _ (H : List Mark) (q : IsProper H) (o : IsTold H) where
           let link : l ≡ k = (known_lives H q l v e).2 ∙ ap (λ (x : Life). x.link) same ∙ sym (known_lives H q k w f).2 in
           absurd (true≢false (sym (eq-eqb l k link) ∙ far))
 
-  still : (p : PeerId) (es : List Event) (h : Mark) → told_at h H ≡ es → ((xs : List (List ℕ)) → runs_after p.0 xs es ≡ xs) → runs_after p.0 [] (told_by (h ∷ H)) ≡ rows p H
-  still p es h e f = fold-append (runs_with p.0) [] (told_by H) (told_at h H) ∙ ap (λ fs. runs_after p.0 (runs_after p.0 [] (told_by H)) fs) e ∙ f (runs_after p.0 [] (told_by H)) ∙ o.tells p
+  still : (p : PeerId) (es : List Event) (h : Mark) → told_at h H ≡ es → ((xs : List (List ℕ)) → runs_after p.0 xs es ≡ xs) → runs_after p.0 [] (told_in (h ∷ H)) ≡ rows p H
+  still p es h e f = fold-append (runs_with p.0) [] (told_in H) (told_at h H) ∙ ap (λ fs. runs_after p.0 (runs_after p.0 [] (told_in H)) fs) e ∙ f (runs_after p.0 [] (told_in H)) ∙ o.tells p
 
   -- ---- a run begins
 
@@ -242,9 +242,9 @@ module _ (H : List Mark) (q : IsProper H) (o : IsTold H) where
         by true = map-last (λ k. told_on k K) (runs_of p H) l ∙ (λ i. old i ++ start_new i ∷ [])
         by false = ap (map (λ k. told_on k K)) (append-nil (runs_of p H)) ∙ old
 
-    start_tells : (p : PeerId) → runs_after p.0 [] (told_by K) ≡ rows p K
+    start_tells : (p : PeerId) → runs_after p.0 [] (told_in K) ≡ rows p K
     start_tells p =
-        fold-append (runs_with p.0) [] (told_by H) (told_at (Starts c l m) H)
+        fold-append (runs_with p.0) [] (told_in H) (told_at (Starts c l m) H)
         ∙ ap (λ xs. runs_after p.0 xs (by_message (life l H) m H)) (o.tells p)
         ∙ ap (λ w. runs_after p.0 (rows p H) (by_message w m H)) y.known
         ∙ hello_tells p.0 y.who.id (view y.who.link H) m.body (rows p H) (first_is_hello m y.first)
@@ -301,10 +301,10 @@ module _ (H : List Mark) (q : IsProper H) (o : IsTold H) where
         ∙ sym (last-more (octets_of m.body) (told_on l H) (map (λ k. told_on k H) r.others))
         ∙ ap (at_last (octets_of m.body)) (sym (map-last (λ k. told_on k H) r.others l) ∙ ap (map (λ k. told_on k H)) (sym parts))
 
-    count_tells : (p : PeerId) → runs_after p.0 [] (told_by L) ≡ rows p L
+    count_tells : (p : PeerId) → runs_after p.0 [] (told_in L) ≡ rows p L
     count_tells p =
         let w = some_is (life l H) (run_known H q c l y.running) in
-        fold-append (runs_with p.0) [] (told_by H) (told_at (Counts c l m) H)
+        fold-append (runs_with p.0) [] (told_in H) (told_at (Counts c l m) H)
         ∙ ap (λ xs. runs_after p.0 xs (by_message (life l H) m H)) (o.tells p)
         ∙ ap (λ u. runs_after p.0 (rows p H) (by_message u m H)) w.1
         ∙ later_tells p.0 w.0.id (view w.0.link H) m.body (rows p H) y.later
@@ -326,7 +326,7 @@ module _ (H : List Mark) (q : IsProper H) (o : IsTold H) where
     born_runs : (p : PeerId) → runs_of p M ≡ runs_of p H
     born_runs p = same-kept n (λ k. is_same p (peer_on k M)) (λ k. is_same p (peer_on k H)) (λ k e. ap (is_same p) (born_other k e)) (each run_at H) (no_run n H unrun)
 
-    born_tells : (p : PeerId) → runs_after p.0 [] (told_by M) ≡ rows p M
+    born_tells : (p : PeerId) → runs_after p.0 [] (told_in M) ≡ rows p M
     born_tells p = still p [] (Born n i a) refl (λ xs. refl) ∙ ap (map (λ k. told_on k H)) (sym (born_runs p))
 
     low : (l : ℕ) (v : Life) → life l H ≡ Some v → eqb n l ≡ false
@@ -387,7 +387,7 @@ told_more (Closes c why) H q y o = record { are_named = o.are_named; tells = λ 
 told_more (Ignores c why) H q y o = record { are_named = o.are_named; tells = λ p. still H q o p (told_at (Ignores c why) H) (Ignores c why) refl (λ xs. refl); living = o.living; last = o.last }
 told_more (Refuses why) H q y o = record { are_named = o.are_named; tells = λ p. still H q o p (told_at (Refuses why) H) (Refuses why) refl (λ xs. refl); living = o.living; last = o.last }
 told_more Stops H q y o = record { are_named = o.are_named; tells = λ p. still H q o p (told_at Stops H) Stops refl (λ xs. refl); living = o.living; last = o.last }
-told_more _ H q y o = record { are_named = o.are_named; tells = λ p. fold-append (runs_with p.0) [] (told_by H) [] ∙ o.tells p; living = o.living; last = o.last }
+told_more _ H q y o = record { are_named = o.are_named; tells = λ p. fold-append (runs_with p.0) [] (told_in H) [] ∙ o.tells p; living = o.living; last = o.last }
 
 pub is_told : (g : Config) (journal : List Entry) → IsTold (chronicle g journal)
 is_told g journal = always g IsTold told_more (record { are_named = λ l v e. absurd cc; tells = λ p. refl; living = λ l v e. absurd cc; last = λ c l v e r. absurd cc }) journal

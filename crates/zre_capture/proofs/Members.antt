@@ -16,7 +16,7 @@ use Rattle.zre_values.specs.Text.{hex_digit, is_plain, quoted_octet, quoted, quo
 use Rattle.zre_capture.specs.Parts.{between}
 use Rattle.zre_capture.specs.Values.{group_of, frames_of, unquoted, unquoted_list, are_octets, are_groups}
 use Rattle.zre_capture.proofs.Parts.{lacks-from_any}
-use Rattle.zre_capture.proofs.Spelled.{found, spelled-one, group_of-quoted, octets-from, octets-true, value_there, some_is, none_spec}
+use Rattle.zre_capture.proofs.Spelled.{IsTextOf, AreOctets, found, spelled-one, group_of-quoted, octets-from, octets-true, value_there, some_is, none_spec}
 use Rattle.zre_capture.proofs.Unquoting.{unquoted-quoted}
 
 -- ---- octets that don't stand in quoted texts
@@ -131,11 +131,7 @@ frames_of-list vs h =
     let same = unquoted-list vs h in
     spelled-one quoted_list _ (unquoted_list (quoted_list vs)) (quoted_list vs) vs same (ap (list_all are_octets) same ∙ octets-all vs h) refl
 
-pub record IsFramesText (vs : List (List ℕ)) (field : List ℕ) : Type 0 where
-  pub is : All (λ v. All (λ b. b < 2 ^ 8) v) vs
-  pub text : quoted_list vs ≡ field
-
-pub frames_of-some : (field : List ℕ) (vs : List (List ℕ)) → frames_of field ≡ Some vs → IsFramesText vs field
+pub frames_of-some : (field : List ℕ) (vs : List (List ℕ)) → frames_of field ≡ Some vs → IsTextOf (All AreOctets) quoted_list vs field
 unfolding frames_of
 frames_of-some field vs e =
     let f = found quoted_list _ (unquoted_list field) field vs e in

@@ -31,6 +31,14 @@ use Rattle.zre_capture.specs.Lines.{hex_text}
 use Rattle.zre_capture.specs.Values.{where_spelled, number_of, id_of, group_of, hex_of, address_of, dotted, decoded, unquoted}
 use Rattle.zre_capture.proofs.Unquoting.{unquoted-quoted}
 
+-- a value is of its type, and a field is its text
+pub record IsTextOf {V : Type 0} (Is : V → Type 0) (spell : V → List ℕ) (v : V) (field : List ℕ) : Type 0 where
+  pub is : Is v
+  pub text : spell v ≡ field
+
+abbrev pub AreOctets : List ℕ → Type 0
+AreOctets o = All (λ b. b < 2 ^ 8) o
+
 -- what was found is spelled so, and is of its type
 pub record Found {V : Type 0} (text : V → List ℕ) (valid : Bool) (value : V) (field : List ℕ) (found : V) : Type 0 where
   pub same : value ≡ found
@@ -85,6 +93,14 @@ octets-true o e = λ k d lt. ltb-true (get_or o k d) 256 (AllPass-from_list_all 
 pub octets-from : (o : List ℕ) → All (λ b. b < 2 ^ 8) o → list_all (λ b. ltb b 256) o ≡ true
 octets-from o h = list_all-from_AllPass (λ b. ltb b 256) o (λ k d lt. lt-ltb (get_or o k d) 256 (h k d lt))
 
+octets-spelled : (text : List ℕ → List ℕ) (value v : List ℕ) → value ≡ v → AreOctets v → where_spelled text (list_all (λ b. ltb b 256) value) value (text v) ≡ Some v
+octets-spelled text value v same h = spelled-one text _ value (text v) v same (ap (list_all (λ b. ltb b 256)) same ∙ octets-from v h) refl
+
+octets-found : (text : List ℕ → List ℕ) (value field v : List ℕ) → where_spelled text (list_all (λ b. ltb b 256) value) value field ≡ Some v → IsTextOf AreOctets text v field
+octets-found text value field v e =
+    let f = found text _ value field v e in
+    record { is = subst (λ (o : List ℕ). AreOctets o) f.same (octets-true value f.is_valid); text = f.spelled }
+
 -- ---- identities
 
 pub id_of-text : (id : PeerId) → IsPeerId id → id_of (id_text id) ≡ Some id
@@ -96,11 +112,7 @@ id_of-text id is =
     ap (λ (o : List ℕ). (length o == 16) && list_all (λ b. ltb b 256) o) octets ∙ and_from _ _ (eq-eqb (length id.0) 16 is.sixteen) (octets-from id.0 is.octets) in
     spelled-one id_text _ (record { 0 = unwrap_or (parsed (simple_text upper id.0)) [] }) (simple_text upper id.0) id (ap (λ (o : List ℕ). record { 0 = o }) octets) valid refl
 
-pub record IsIdText (id : PeerId) (field : List ℕ) : Type 0 where
-  pub is : IsPeerId id
-  pub text : id_text id ≡ field
-
-pub id_of-some : (field : List ℕ) (id : PeerId) → id_of field ≡ Some id → IsIdText id field
+pub id_of-some : (field : List ℕ) (id : PeerId) → id_of field ≡ Some id → IsTextOf IsPeerId id_text id field
 unfolding id_of
 id_of-some field id e =
     let f = found id_text _ _ field id e in
@@ -115,19 +127,11 @@ id_of-some field id e =
 
 pub group_of-quoted : (v : List ℕ) → All (λ b. b < 2 ^ 8) v → group_of (quoted v) ≡ Some v
 unfolding group_of
-group_of-quoted v h =
-    let same = unquoted-quoted v h in
-    spelled-one quoted _ (unquoted (quoted v)) (quoted v) v same (ap (list_all (λ b. ltb b 256)) same ∙ octets-from v h) refl
+group_of-quoted v h = octets-spelled quoted (unquoted (quoted v)) v (unquoted-quoted v h) h
 
-pub record IsGroupText (v field : List ℕ) : Type 0 where
-  pub is : All (λ b. b < 2 ^ 8) v
-  pub text : quoted v ≡ field
-
-pub group_of-some : (field v : List ℕ) → group_of field ≡ Some v → IsGroupText v field
+pub group_of-some : (field v : List ℕ) → group_of field ≡ Some v → IsTextOf AreOctets quoted v field
 unfolding group_of
-group_of-some field v e =
-    let f = found quoted _ (unquoted field) field v e in
-    record { is = subst (λ (o : List ℕ). All (λ b. b < 2 ^ 8) o) f.same (octets-true (unquoted field) f.is_valid); text = f.spelled }
+group_of-some field v e = octets-found quoted (unquoted field) field v e
 
 -- ---- hexadecimal digits
 
@@ -146,19 +150,11 @@ hex-decoded (b ∷ v) h = ap (λ (r : Result (List ℕ) FromHexError). result_un
 
 pub hex_of-text : (v : List ℕ) → All (λ b. b < 2 ^ 8) v → hex_of (hex_text v) ≡ Some v
 unfolding hex_of
-hex_of-text v h =
-    let same = hex-decoded v h in
-    spelled-one hex_text _ (decoded (hex_text v)) (hex_text v) v same (ap (list_all (λ b. ltb b 256)) same ∙ octets-from v h) refl
+hex_of-text v h = octets-spelled hex_text (decoded (hex_text v)) v (hex-decoded v h) h
 
-pub record IsHexText (v field : List ℕ) : Type 0 where
-  pub is : All (λ b. b < 2 ^ 8) v
-  pub text : hex_text v ≡ field
-
-pub hex_of-some : (field v : List ℕ) → hex_of field ≡ Some v → IsHexText v field
+pub hex_of-some : (field v : List ℕ) → hex_of field ≡ Some v → IsTextOf AreOctets hex_text v field
 unfolding hex_of
-hex_of-some field v e =
-    let f = found hex_text _ (decoded field) field v e in
-    record { is = subst (λ (o : List ℕ). All (λ b. b < 2 ^ 8) o) f.same (octets-true (decoded field) f.is_valid); text = f.spelled }
+hex_of-some field v e = octets-found hex_text (decoded field) field v e
 
 -- ---- addresses
 
@@ -198,11 +194,7 @@ address_of-text host is =
     spelled-one address_text _ (dotted (address_text host)) (address_text host) host same
     (ap (λ (o : List ℕ). (length o == 4) && list_all (λ b. ltb b 256) o) same ∙ and_from _ _ (eq-eqb (length host) 4 is.four) (octets-from host is.octets)) refl
 
-pub record IsAddressText (host field : List ℕ) : Type 0 where
-  pub is : IsAddress host
-  pub text : address_text host ≡ field
-
-pub address_of-some : (field host : List ℕ) → address_of field ≡ Some host → IsAddressText host field
+pub address_of-some : (field host : List ℕ) → address_of field ≡ Some host → IsTextOf IsAddress address_text host field
 unfolding address_of
 address_of-some field host e =
     let f = found address_text _ (dotted field) field host e in

@@ -48,16 +48,23 @@ pub fn push_hex(out: &mut Octets, bytes: &[u8]) -> Result<(), OutOfMemory>
     push_digits(out, bytes)
 }
 
+// Without a jump, so that many octets are tested in one go.
+#[inline]
 fn is_digit(octet: u8) -> bool
     ensures { result ≡ is_lower_digit octet }
 {
-    matches!(octet, b'0'..=b'9' | b'a'..=b'f')
+    ((b'0' <= octet) & (octet <= b'9')) | ((b'a' <= octet) & (octet <= b'f'))
 }
 
+// The loop goes on after another octet, which costs less than to stop at it.
 fn are_digits(field: &[u8]) -> bool
     ensures { result ≡ list_all is_lower_digit field.now }
 {
-    field.iter().all(|octet| is_digit(*octet))
+    let mut all = true;
+    for octet in field {
+        all &= is_digit(*octet);
+    }
+    all
 }
 
 // Whether two digits stand for each of some octets.

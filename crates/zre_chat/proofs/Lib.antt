@@ -1,4 +1,5 @@
 pub mod Fronts
+pub mod Living
 pub mod Merged
 pub mod Rows
 pub mod Talked

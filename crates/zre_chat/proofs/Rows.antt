@@ -4,7 +4,7 @@ use Rattle.std.specs.Prelude.{nat_le}
 use Rattle.zre_outside.specs.declared.sink.NextFault.{NextFault}
 use Rattle.zre_outside.specs.declared.sink.NextFault.TheVariants as fault
 use Rattle.zre_commands.specs.declared.pump.status.Status.{Status}
-use Rattle.zre_commands.specs.declared.pump.status.Status.TheVariants.{Done, Usage, BadInput, ReadFault, WriteFault, WorldFault, NoThread, TooLong, OutOfMemory}
+use Rattle.zre_commands.specs.declared.pump.status.Status.TheVariants.{Done, Usage, BadInput, ReadFault, WriteFault, WorldFault, NoThread, TooLong, OutOfMemory, DeskFault}
 use Rattle.zre_chat.specs.Statuses.{rank, least, of_fault}
 
 pub one_least : (s : Status) → s ≡ least (s ∷ [])
@@ -17,6 +17,7 @@ one_least WorldFault = refl
 one_least NoThread = refl
 one_least TooLong = refl
 one_least OutOfMemory = refl
+one_least DeskFault = refl
 
 abbrev pub first_of : Status → Status → Status
 first_of s r = cond (nat_le (rank s) (rank r)) s r
@@ -32,6 +33,7 @@ no_memory WorldFault = refl
 no_memory NoThread = refl
 no_memory TooLong = refl
 no_memory OutOfMemory = refl
+no_memory DeskFault = refl
 
 memory_first : (r : Status) → first_of OutOfMemory r ≡ OutOfMemory
 memory_first Done = refl
@@ -43,6 +45,7 @@ memory_first WorldFault = refl
 memory_first NoThread = refl
 memory_first TooLong = refl
 memory_first OutOfMemory = refl
+memory_first DeskFault = refl
 
 pub memory_here : (s : Status) (ss : List Status) → s ≡ OutOfMemory → least (s ∷ ss) ≡ OutOfMemory
 memory_here s ss is = ap (λ x. first_of x (least ss)) is ∙ memory_first (least ss)
@@ -61,6 +64,7 @@ before_done WorldFault = refl
 before_done NoThread = refl
 before_done TooLong = refl
 before_done OutOfMemory = refl
+before_done DeskFault = refl
 
 last_done : (r : Status) → first_of Done r ≡ r
 last_done Done = refl
@@ -72,6 +76,7 @@ last_done WorldFault = refl
 last_done NoThread = refl
 last_done TooLong = refl
 last_done OutOfMemory = refl
+last_done DeskFault = refl
 
 -- where the first is Done, so is each
 pub done_here : (s : Status) (ss : List Status) → least (s ∷ ss) ≡ Done → s ≡ Done

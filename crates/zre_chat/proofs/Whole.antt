@@ -34,8 +34,8 @@ use Rattle.zre_console.specs.reader.Reading.{Outcome, BreaksOff}
 use Rattle.zre_console.proofs.lines.Quits.{orders-begin}
 use Rattle.zre_commands.specs.Settings.{as_settings}
 use Rattle.zre_commands.specs.declared.pump.status.Status.{Status}
-use Rattle.zre_commands.specs.declared.pump.status.Status.TheVariants.{Done, Usage, BadInput, ReadFault, WriteFault, WorldFault, NoThread, TooLong, OutOfMemory}
-use Rattle.zre_chat.specs.Chat.{Seen, IsChat, IsCaused, Holds, started}
+use Rattle.zre_commands.specs.declared.pump.status.Status.TheVariants.{Done, Usage, BadInput, ReadFault, WriteFault, WorldFault, NoThread, TooLong, OutOfMemory, DeskFault}
+use Rattle.zre_chat.specs.Chat.{Seen, IsChat, IsCaused, Holds, started, Lived, Wrote, Captured}
 use Rattle.zre_chat.specs.Keeping.{head_of}
 use Rattle.zre_chat.specs.Stages.{IsEarly, Unprepared}
 use Rattle.zre_chat.specs.Statuses.{of_fault, of_read}
@@ -63,19 +63,13 @@ pub nothing_begins : (o : List ℕ) → Begins [] o
 nothing_begins o = orders-begin o [] (orders_from 1 (ended_lines (lines_in o))) refl refl
 
 module _ (g : Config) (start : Start) (name : Option (List ℕ)) (limit : ℕ) where
-  untold : (begun : Bool) (told : Option Log) → option_map (started begun start) told ≡ option_map (λ l. went [] 0 [] [] (started begun start l)) told
+  pub untold : (begun : Bool) (told : Option Log) → option_map (started begun start) told ≡ option_map (λ l. went [] 0 [] [] (started begun start l)) told
   untold begun None = refl
   untold begun (Some l) = went-none (Some (started begun start l))
 
-  -- a chat that ended before the threads were started
-  pub unstarted : (begun : Bool) (s t : Seen) (status : Status) → (status ≢ OutOfMemory → AreSettings (as_settings g)) → t.left ≡ s.left → t.taken ≡ s.taken → t.written ≡ s.written → t.told ≡ option_map (started begun start) s.told
-      → status ≢ Done → IsCaused status limit [] 0 false s t
-      → ((file : List ℕ) → name ≡ Some file → status ≢ OutOfMemory → ¬ Rose s.record_faults t.record_faults → Holds g file [] s t)
-      → IsChat g start name limit s t status
-  unstarted begun s t status settings left taken written told not_done cause holds = record {
-    octets = [];
-    are_taken = record { consumed = subst (λ x. Consumes s.left x []) (sym left) (Consumes-nil s.left); recorded = subst (λ x. Appends s.taken x []) (sym taken) (Appends-nil s.taken) };
-    within = omega arith;
+  -- where the threads weren't started, the world gave nothing
+  abbrev pub unlived : (begun : Bool) (s t : Seen) (status : Status) → t.told ≡ option_map (started begun start) s.told → status ≢ Done → Lived g start limit s t status
+  unlived begun s t status told not_done = record {
     begun = begun;
     turns = 0;
     looks = 0;
@@ -87,27 +81,55 @@ module _ (g : Config) (start : Start) (name : Option (List ℕ)) (limit : ℕ) w
     counted = refl;
     most = omega arith;
     one_unstepped = omega arith;
+    are_values = All-nil IsEntry;
     all_taken = λ _. refl;
     all_go = tt;
-    are_values = All-nil IsEntry;
     did = [];
     undone = [];
     are_acts = refl;
     are_deeds = tt;
     all_done = λ _. refl;
+    are_done = nil-sublist [];
+    done = λ d. absurd (not_done d);
+  }
+
+  -- nothing was written
+  pub unwritten : (s t : Seen) (status : Status) → t.written ≡ s.written → Wrote g [] s t status
+  unwritten s t status written = record {
     front = ([], [], refl, subst (λ x. Appends s.written x []) (sym written) (Appends-nil s.written));
     whole = λ _. subst (λ x. Appends s.written x []) (sym written) (Appends-nil s.written);
+  }
+
+  -- and the head at most was kept
+  pub uncaptured : (s t : Seen) (status : Status) → (status ≢ OutOfMemory → AreSettings (as_settings g)) → status ≢ Done
+      → ((file : List ℕ) → name ≡ Some file → status ≢ OutOfMemory → ¬ Rose s.record_faults t.record_faults → Holds g file [] s t)
+      → Captured g name [] s t status
+  uncaptured s t status settings not_done holds = record {
     are_settings = settings;
     held = λ file is spared. ⊎_elim (λ (d : status ≡ Done). absurd (not_done d)) (λ (x : (status ≢ OutOfMemory) × ¬ Rose s.record_faults t.record_faults). holds file is x.0 x.1) spared;
-    are_done = nil-sublist [];
-    in_order = record { front = []; tail = []; parts = refl; begins = nothing_begins []; closes = inl refl };
-    are_front = λ d. absurd (not_done d);
-    all_handed = λ d. absurd (not_done d);
+  }
+
+  -- a chat that ended before the threads were started
+  pub unstarted : (begun : Bool) (s t : Seen) (status : Status) → (status ≢ OutOfMemory → AreSettings (as_settings g)) → t.left ≡ s.left → t.taken ≡ s.taken → t.written ≡ s.written → t.told ≡ option_map (started begun start) s.told
+      → status ≢ Done → IsCaused status limit [] 0 false s t
+      → ((file : List ℕ) → name ≡ Some file → status ≢ OutOfMemory → ¬ Rose s.record_faults t.record_faults → Holds g file [] s t)
+      → IsChat g start name limit s t status
+  unstarted begun s t status settings left taken written told not_done cause holds = record {
+    octets = [];
+    are_taken = record { consumed = subst (λ x. Consumes s.left x []) (sym left) (Consumes-nil s.left); recorded = subst (λ x. Appends s.taken x []) (sym taken) (Appends-nil s.taken) };
+    within = omega arith;
+    lived = unlived begun s t status told not_done;
+    wrote = unwritten s t status written;
+    captured = uncaptured s t status settings not_done holds;
+    ordered = record {
+      in_order = record { front = []; tail = []; parts = refl; begins = nothing_begins []; closes = inl refl };
+      are_front = λ d. absurd (not_done d);
+      all_handed = λ d. absurd (not_done d);
+      ended = λ d. absurd (not_done d);
+    };
     occurred = status ∷ [];
     is_status = one_least status;
     caused = (cause, tt);
-    done = λ d. absurd (not_done d);
-    ended = λ d. absurd (not_done d);
   }
 
 module _ (g : Config) (start : Start) (name : Option (List ℕ)) (limit : ℕ) (settings : AreSettings (as_settings g)) where
@@ -128,6 +150,7 @@ module _ (g : Config) (start : Start) (name : Option (List ℕ)) (limit : ℕ) (
   early s t ReadFault is = absurd is
   early s t NoThread is = absurd is
   early s t TooLong is = absurd is
+  early s t DeskFault is = absurd is
 
   -- what was begun was refused, or memory ran out
   pub unprepared : (s t : Seen) (status : Status) → t.left ≡ s.left → t.taken ≡ s.taken → t.written ≡ s.written

@@ -29,6 +29,7 @@ use Rattle.zre_commands.specs.Settings.{as_settings}
 use Rattle.zre_commands.specs.declared.pump.status.Status.{Status}
 use Rattle.zre_commands.specs.declared.pump.status.Status.TheVariants.{Done, Usage, BadInput, ReadFault, WriteFault}
 use Rattle.zre_commands.specs.declared.pump.status.Status.TheVariants.{WorldFault, NoThread, TooLong, OutOfMemory}
+use Rattle.zre_commands.specs.declared.pump.status.Status.TheVariants.{DeskFault}
 use Rattle.zre_chat.specs.Statuses.{least}
 
 -- what is seen of all that a chat works with, at one moment
@@ -80,6 +81,7 @@ IsCaused TooLong limit octets turns stopped s t =
 IsCaused OutOfMemory limit octets turns stopped s t = ⊤
 IsCaused Usage limit octets turns stopped s t = ⊥
 IsCaused BadInput limit octets turns stopped s t = ⊥
+IsCaused DeskFault limit octets turns stopped s t = ⊥
 
 -- all of these
 abbrev pub AreCaused : List Status → (limit : ℕ) (octets : List ℕ) (turns : ℕ) (stopped : Bool) → Seen → Seen → Type 0
@@ -110,13 +112,8 @@ abbrev pub started : Bool → Start → Log → Log
 started false start l = l
 started true start l = with_start start l
 
--- a chat of a node with settings g, which goes on the network by start and keeps a capture under a name
-pub record IsChat (g : Config) (start : Start) (name : Option (List ℕ)) (limit : ℕ) (s t : Seen) (status : Status)
-    : Type 0 where
-  -- what was taken of the input
-  pub octets : List ℕ
-  pub are_taken : Moves s.left t.left s.taken t.taken octets
-  pub within : length octets ≤ limit
+-- what the world of a node with settings g was told and gave, and what the node did
+pub record Lived (g : Config) (start : Start) (limit : ℕ) (s t : Seen) (status : Status) : Type 0 where
   -- what the world gave: the entries that the node took, and at most one that it didn't
   pub begun : Bool
   pub turns : ℕ
@@ -139,26 +136,46 @@ pub record IsChat (g : Config) (start : Start) (name : Option (List ℕ)) (limit
   pub are_acts : acts_of g [] entries ≡ did ++ undone
   pub are_deeds : AreDeeds g did deeds
   pub all_done : status ≢ OutOfMemory → undone ≡ []
-  -- the lines of the journal's events were written
+  -- the commands that were handed in are done by entries that were given, in order
+  pub are_done : Sublist handed (done_by (entries ++ unstepped))
+  -- where all went well, the world was started, it told the node to stop, and so the node did
+  pub done : status ≡ Done → (begun ≡ true) × (list_any (λ e. is_end e.input) entries ≡ true)
+      × (has_stopped (chronicle g entries) ≡ true)
+
+-- the lines of the events of these entries were written
+pub record Wrote (g : Config) (entries : List Entry) (s t : Seen) (status : Status) : Type 0 where
   pub front : AppendsFront s.written t.written (lines (events g entries))
   pub whole : IsSpared status (Rose s.write_faults t.write_faults)
       → Appends s.written t.written (lines (events g entries))
-  -- the capture of all that was given was kept, its head with the node's settings, which are values of their types
+
+-- the capture of these entries was kept under a name, its head with the node's settings, which are values of their types
+pub record Captured (g : Config) (name : Option (List ℕ)) (entries : List Entry) (s t : Seen) (status : Status)
+    : Type 0 where
   pub are_settings : status ≢ OutOfMemory → AreSettings (as_settings g)
   pub held : (file : List ℕ) → name ≡ Some file → IsSpared status (Rose s.record_faults t.record_faults)
       → Holds g file entries s t
-  -- the commands that were handed in are done by entries that were given, in order
-  pub are_done : Sublist handed (done_by (entries ++ unstepped))
-  -- they begin the orders of the input before its quit, but for a quit at their end; where all went well they begin
-  -- the orders as they stand, and with a quit they are all of them
+
+-- the commands that were handed in begin the orders of the octets that were taken, before their quit, but for a quit at
+-- their end; where all went well they begin the orders as they stand, and with a quit they are all of them
+pub record Ordered (limit : ℕ) (octets : List ℕ) (handed : List Command) (left : Option (List ℕ)) (status : Status)
+    : Type 0 where
   pub in_order : BreaksOff handed octets
   pub are_front : status ≡ Done → IsPrefix handed (orders octets)
   pub all_handed : status ≡ Done → list_any is_quit handed ≡ true → handed ≡ orders octets
+  pub ended : status ≡ Done → HasEnded limit octets handed left
+
+-- a chat of a node with settings g, which goes on the network by start and keeps a capture under a name
+pub record IsChat (g : Config) (start : Start) (name : Option (List ℕ)) (limit : ℕ) (s t : Seen) (status : Status)
+    : Type 0 where
+  -- what was taken of the input
+  pub octets : List ℕ
+  pub are_taken : Moves s.left t.left s.taken t.taken octets
+  pub within : length octets ≤ limit
+  pub lived : Lived g start limit s t status
+  pub wrote : Wrote g lived.entries s t status
+  pub captured : Captured g name lived.entries s t status
+  pub ordered : Ordered limit octets lived.handed t.left status
   -- the status is the first of what occurred, each with its cause
   pub occurred : List Status
   pub is_status : status ≡ least occurred
-  pub caused : AreCaused occurred limit octets turns (has_stopped (chronicle g entries)) s t
-  -- where nothing did, the world was started, it told the node to stop, and so the node did
-  pub done : status ≡ Done → (begun ≡ true) × (list_any (λ e. is_end e.input) entries ≡ true)
-      × (has_stopped (chronicle g entries) ≡ true)
-  pub ended : status ≡ Done → HasEnded limit octets handed t.left
+  pub caused : AreCaused occurred limit octets lived.turns (has_stopped (chronicle g lived.entries)) s t

@@ -10,6 +10,7 @@ use Rattle.zre_commands.specs.Settings.{as_settings}
 use Rattle.zre_commands.specs.declared.pump.status.Status.{Status}
 use Rattle.zre_commands.specs.declared.pump.status.Status.TheVariants.{Done, Usage, BadInput, ReadFault, WriteFault}
 use Rattle.zre_commands.specs.declared.pump.status.Status.TheVariants.{WorldFault, NoThread, TooLong, OutOfMemory}
+use Rattle.zre_commands.specs.declared.pump.status.Status.TheVariants.{DeskFault}
 use Rattle.zre_chat.specs.Chat.{Seen, started}
 use Rattle.zre_chat.specs.Keeping.{head_of}
 
@@ -40,6 +41,7 @@ IsEarly BadInput worlds worlds' records records' = ⊥
 IsEarly ReadFault worlds worlds' records records' = ⊥
 IsEarly NoThread worlds worlds' records records' = ⊥
 IsEarly TooLong worlds worlds' records records' = ⊥
+IsEarly DeskFault worlds worlds' records records' = ⊥
 
 -- it did not come that far: the recorder or the world refused, or memory ran out
 pub record Unprepared (g : Config) (start : Start) (name : Option (List ℕ)) (status : Status)

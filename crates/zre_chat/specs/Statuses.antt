@@ -14,7 +14,7 @@ use Rattle.zre_console.specs.declared.reader.ending.InputEnd.TheVariants as end
 -- OutOfMemory comes first and Done last; the others stand as their numbers
 abbrev pub rank : Status → ℕ
 rank OutOfMemory = 0
-rank Done = 10
+rank Done = 11
 rank s = code_of s
 
 -- the first of what occurred; Done where nothing did

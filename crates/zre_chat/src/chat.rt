@@ -68,8 +68,12 @@ impl Chat {
         requires valid { is_valid self.config ≡ true }
         requires text { IfSome self.capture (λ name. is_utf8 name ≡ true) }
         ensures chat { IsChat self.config self.start self.capture limit
-            (seen (I.left input) (I.taken input) (I.faults input) (W.told world) (W.faults world) (O.written out.old) (O.faults out.old) (R.kept rec) (R.named rec) (R.faults rec) (P.faults spawner.old))
-            (seen (I.left result.input) (I.taken result.input) (I.faults result.input) (W.told result.world) (W.faults result.world) (O.written out.new) (O.faults out.new) (R.kept result.rec) (R.named result.rec) (R.faults result.rec) (P.faults spawner.new))
+            (seen (I.left input) (I.taken input) (I.faults input)
+            (W.told world) (W.faults world) (O.written out.old) (O.faults out.old)
+            (R.kept rec) (R.named rec) (R.faults rec) (P.faults spawner.old))
+            (seen (I.left result.input) (I.taken result.input) (I.faults result.input)
+            (W.told result.world) (W.faults result.world) (O.written out.new) (O.faults out.new)
+            (R.kept result.rec) (R.named result.rec) (R.faults result.rec) (P.faults spawner.new))
             result.status }
         ensures unkept { self.capture ≡ None → result.rec ≡ rec }
         ensures later { (I.faults input ≤ I.faults result.input) × (O.faults out.old ≤ O.faults out.new)

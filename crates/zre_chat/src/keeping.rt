@@ -35,7 +35,7 @@ fn begin_named<R: Recorder>(rec: &mut R, name: &str, head: &[u8]) -> Result<(), 
 
 /// Begins a recorder under the name of a capture, where there is one, and puts the head of a capture of format 2 of a
 /// node with these settings. Where no memory is left for the head, the recorder isn't begun.
-pub(crate) fn begin<R: Recorder>(
+pub fn begin<R: Recorder>(
     alloc: Global,
     rec: &mut R,
     config: &Config,

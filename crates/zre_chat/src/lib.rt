@@ -3,11 +3,11 @@
 #![tactic(auto)]
 
 mod chat;
-mod keeping;
-mod statuses;
+pub mod keeping;
+pub mod statuses;
 mod table;
 mod talk;
 mod threads;
-mod values;
+pub mod values;
 
 pub use chat::{Chat, Chatted};

@@ -14,20 +14,20 @@ fn rank(status: Status) -> u8
 {
     match status {
         Status::OutOfMemory => 0,
-        Status::Done => 10,
+        Status::Done => 11,
         other => other.code(),
     }
 }
 
-// The first of two.
-fn first(a: Status, b: Status) -> Status
+/// The first of two.
+pub fn first(a: Status, b: Status) -> Status
     ensures { result ≡ least (a ∷ b ∷ []) }
 {
     if rank(a) <= rank(b) { a } else { b }
 }
 
 /// What a refusal of the outside comes to, where its failing is this status.
-pub(crate) fn of_fault(fault: NextFault, failed: Status) -> Status
+pub fn of_fault(fault: NextFault, failed: Status) -> Status
     ensures { result ≡ of_fault fault failed }
 {
     match fault {
@@ -47,7 +47,8 @@ fn of_read(end: InputEnd) -> Status
     }
 }
 
-fn of_print(fault: Option<NextFault>) -> Status
+/// What a fault of the printer, if there was one, comes to.
+pub fn of_print(fault: Option<NextFault>) -> Status
     ensures { result ≡ of_print fault }
 {
     match fault {
@@ -56,7 +57,8 @@ fn of_print(fault: Option<NextFault>) -> Status
     }
 }
 
-fn of_work(ending: Ending) -> Status
+/// What the end of the node's thread comes to.
+pub fn of_work(ending: Ending) -> Status
     ensures { result ≡ of_work ending }
 {
     match ending {
@@ -68,7 +70,8 @@ fn of_work(ending: Ending) -> Status
     }
 }
 
-fn of_thread(refused: bool) -> Status
+/// What the refusal of a thread comes to.
+pub fn of_thread(refused: bool) -> Status
     ensures { result ≡ of_thread refused }
 {
     if refused {

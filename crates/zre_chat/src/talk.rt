@@ -72,7 +72,8 @@ where
     ensures read { HasRead result.read.end job.limit job.pass result.read.pass (I.left job.input)
         (I.left result.read.input) (I.taken job.input) (I.taken result.read.input)
         (Rose (I.faults job.input) (I.faults result.read.input)) }
-    ensures printed { HasPrinted (asker_of asker result.refused) taker result.printed.taker result.printed.pass result.printed.fault (O.written out.old) (O.written out.new) }
+    ensures printed { HasPrinted (asker_of asker result.refused) taker result.printed.taker result.printed.pass
+        result.printed.fault (O.written out.old) (O.written out.new) }
     ensures failed { result.printed.fault ≡ Some Failed → Rose (O.faults out.old) (O.faults out.new) }
     ensures refused { result.refused ≡ true → Rose (P.faults spawner.old) (P.faults spawner.new) }
     ensures reads { I.faults job.input ≤ I.faults result.read.input }

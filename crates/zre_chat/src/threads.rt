@@ -49,9 +49,13 @@ where
     requires begun { keep ≡ true → R.begun rec ≡ true }
     ensures chat { (g : ConfigValue) (start : StartValue) (name : Option (List ℕ)) (s : Seen)
         → StandsFor g [] table.node →
-        Prepared g start name keep s (seen (I.left input) (I.taken input) (I.faults input) (W.told world) (W.faults world) (O.written out.old) (O.faults out.old) (R.kept rec) (R.named rec) (R.faults rec) (P.faults spawner.old)) →
+        Prepared g start name keep s (seen (I.left input) (I.taken input) (I.faults input)
+        (W.told world) (W.faults world) (O.written out.old) (O.faults out.old)
+        (R.kept rec) (R.named rec) (R.faults rec) (P.faults spawner.old)) →
         IsChat g start name limit s
-        (seen (I.left result.input) (I.taken result.input) (I.faults result.input) (W.told result.world) (W.faults result.world) (O.written out.new) (O.faults out.new) (R.kept result.rec) (R.named result.rec) (R.faults result.rec) (P.faults spawner.new))
+        (seen (I.left result.input) (I.taken result.input) (I.faults result.input)
+        (W.told result.world) (W.faults result.world) (O.written out.new) (O.faults out.new)
+        (R.kept result.rec) (R.named result.rec) (R.faults result.rec) (P.faults spawner.new))
         result.status }
     ensures unkept { keep ≡ false → result.rec ≡ rec }
     ensures later { (I.faults input ≤ I.faults result.input) × (O.faults out.old ≤ O.faults out.new)

@@ -51,7 +51,7 @@ fn is_address(host: &[u8; 4])
 }
 
 /// Shows that valid settings are values of their types.
-pub(crate) fn are_values(config: &Config)
+pub fn are_values(config: &Config)
     requires { is_valid config.now ≡ true }
     ensures { AreSettings (as_settings config.now) }
 {

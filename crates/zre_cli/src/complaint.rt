@@ -61,14 +61,28 @@ pub(crate) fn of_world<R: Eprint>(rt: &R, reason: Option<Reason>) {
     };
 }
 
-/// The name of the capture among the words.
-pub(crate) fn capture_of(words: &Frames) -> &str {
+/// Clients couldn't be waited for.
+pub(crate) fn of_desk<R: Eprint>(rt: &R, words: &Frames, reason: Option<io::Error>) {
+    let place = value_of(words, b"local=").unwrap_or("the address of clients");
+    let _ = match reason {
+        Some(reason) => eprintln!(rt; "zre: cannot listen on {place}: {}", Why(reason)),
+        None => eprintln!(rt; "zre: cannot listen on {place}"),
+    };
+}
+
+// The value of a key among the words.
+fn value_of<'a>(words: &'a Frames, key: &[u8]) -> Option<&'a str> {
     for word in words.as_slice() {
-        if let Some(name) = word.as_slice().strip_prefix(b"capture=".as_slice())
-            && let Ok(name) = str::from_utf8(name)
+        if let Some(value) = word.as_slice().strip_prefix(key)
+            && let Ok(value) = str::from_utf8(value)
         {
-            return name;
+            return Some(value);
         }
     }
-    "the capture"
+    None
+}
+
+/// The name of the capture among the words.
+pub(crate) fn capture_of(words: &Frames) -> &str {
+    value_of(words, b"capture=").unwrap_or("the capture")
 }

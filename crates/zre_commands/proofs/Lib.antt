@@ -1,3 +1,1 @@
 pub mod Refusing
-pub mod Replayed
-mod Simulated

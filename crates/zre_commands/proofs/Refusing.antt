@@ -1,24 +1,16 @@
 -- What is refused however it goes on is refused with whatever follows.
 use Rattle.std.proofs.Common.{◌≡◌, ℕ, Bool, true, false, not, ◌&&◌, is_some, List, [], ◌++◌, Option, Some, None, refl, ap, ◌∙◌}
-use Rattle.std.specs.Option.{option_or}
 use Rattle.zre_values.specs.declared.peer_id.PeerId.{PeerId}
 use Rattle.zre_zmtp.specs.Reading.{IsOver}
 use Rattle.zre_zmtp.specs.Stream.{Kind, Whole, Traffic, fault}
 use Rattle.zre_zmtp.specs.declared.fault.ZmtpFault.{ZmtpFault}
 use Rattle.zre_zmtp.specs.declared.want.Want.TheVariants.{Any}
 use Rattle.zre_zmtp.proofs.Feeding.{is_over as stays_faulty}
-use Rattle.zre_capture.specs.Journal.{bad, bad_at_end}
-use Rattle.zre_capture.specs.declared.fault.BadCapture.{BadCapture}
-use Rattle.zre_capture.specs.declared.format.Format.{Format}
-use Rattle.zre_capture.proofs.Staying.{bad_stays}
 use Rattle.zre_commands.specs.pump.Meaning.{KeepsRefusing}
-use Rattle.zre_commands.specs.audit.Audit as audits
 use Rattle.zre_commands.specs.follow.Follow as follows
 use Rattle.zre_commands.specs.follow.Messages.{messages, messages_in}
 use Rattle.zre_commands.specs.follow.Runs.{is_over}
 use Rattle.zre_commands.specs.show.Show as shows
-use Rattle.zre_commands.specs.simulate.Simulate as simulates
-use Rattle.zre_commands.proofs.audit.Auditing as auditing
 use Rattle.zre_commands.proofs.follow.Growing as growing
 use Rattle.zre_commands.proofs.show.Listing as listing
 
@@ -43,19 +35,3 @@ follow_refuses id o x e =
     growing.stopped_is_bad (o ++ x)
     (ap (λ ms. not (is_over [] ms) && is_some (fault Any Traffic (o ++ x))) same
     ∙ ap (λ f. not (follows.over o) && is_some f) (h.fault x) ∙ e)
-
--- of two captures
-pub audit_refuses : KeepsRefusing audits.audit
-audit_refuses = auditing.audit_refuses
-
--- of a schedule, which is read whole first
-pub simulate_refuses : KeepsRefusing simulates.simulate
-simulate_refuses o x e = absurd cc
-
-or_there : (b e : Option BadCapture) → is_some b ≡ true → is_some (option_or b e) ≡ true
-or_there None e there = absurd cc
-or_there (Some x) e there = refl
-
--- of a capture with a bad line
-pub capture_refuses : (f : Format) (o x : List ℕ) → is_some (bad f o) ≡ true → is_some (bad_at_end f (o ++ x)) ≡ true
-capture_refuses f o x e = or_there (bad f (o ++ x)) _ (bad_stays f o x e)

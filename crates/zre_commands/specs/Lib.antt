@@ -1,11 +1,5 @@
-pub mod Laws
 pub mod Settings
-pub mod audit
 pub mod pump
 pub mod follow
 pub mod show
-pub mod replay
 pub mod exercise
-pub mod table
-pub mod simulate
-pub mod upgrade

@@ -3,5 +3,6 @@ pub mod Pieces
 pub mod Readings
 pub mod RealWorlds
 pub mod Rows
+pub mod TcpDesks
 pub mod Tokens
 pub mod Troubles

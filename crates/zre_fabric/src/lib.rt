@@ -55,9 +55,11 @@ mod sockets;
 mod source;
 mod step;
 mod stopwatch;
+mod tcp_desk;
 mod trouble;
 
 pub use bell::{Bell, Ringing};
 pub use errors::{ErrorClass, class_of};
 pub use real_world::RealWorld;
+pub use tcp_desk::TcpDesk;
 pub use trouble::{Part, Reason};

@@ -155,7 +155,7 @@ told_more (Counts c l m) H p y o =
     counting c l m H o s r (follows (counted_on c H) m (o.begun c l s) y.later (subst (λ ms. eqb m.sequence (due ms) ≡ true) is y.next) (subst (λ ms. is_small (view_of (ms ++ m ∷ [])) ≡ true) is y.small))
 told_more _ H p y o = record { ordered = o.ordered; unbegun = o.unbegun; begun = o.begun; whose = o.whose; same = o.same }
 
-none_told : IsTold []
+pub none_told : IsTold []
 none_told = record { ordered = λ c. refl; unbegun = λ c e. refl; begun = λ c l e. cc; whose = λ c l r. cc; same = λ c l r. cc }
 
 pub told_of : (g : Config) (journal : List Entry) → IsTold (chronicle g journal)

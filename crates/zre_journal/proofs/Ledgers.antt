@@ -22,7 +22,7 @@ use Rattle.zre_journal.proofs.Octets.{runs_on_octets}
 use Rattle.zre_journal.proofs.Passing.{follows_messages}
 
 -- the first of what came is picked where all of it is
-front_picked : (sent : List Message) (picks : List ℕ) (ms rest : List Message) → ArePicked sent picks (ms ++ rest) → ArePicked sent picks ms
+pub front_picked : (sent : List Message) (picks : List ℕ) (ms rest : List Message) → ArePicked sent picks (ms ++ rest) → ArePicked sent picks ms
 front_picked sent picks [] rest p = tt
 front_picked sent [] (m ∷ ms) rest p = absurd p
 front_picked sent (pick ∷ picks) (m ∷ ms) rest p = (p.0, front_picked sent picks ms rest p.1)

@@ -14,6 +14,7 @@ pub mod Fields
 pub mod Going
 pub mod Hearing
 pub mod Holding
+pub mod Identities
 pub mod Idle
 pub mod Introduction
 pub mod Joined
@@ -25,6 +26,7 @@ pub mod Ledgers
 pub mod Lines
 pub mod Listed
 pub mod Lowered
+pub mod Moments
 pub mod Octets
 pub mod Passing
 pub mod Places
@@ -33,8 +35,10 @@ pub mod Room
 mod Rows
 pub mod Sayings
 pub mod Says
+pub mod Sendable
 pub mod Silent
 pub mod Sound
+pub mod Speaking
 pub mod Standing
 pub mod Steps
 pub mod Stopping
@@ -43,6 +47,7 @@ pub mod Streams
 pub mod Telling
 pub mod Ticks
 pub mod Truth
+pub mod Truly
 pub mod Truthful
 pub mod Viewed
 pub mod Walk

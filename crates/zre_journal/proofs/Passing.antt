@@ -20,7 +20,7 @@ use Rattle.zre_peer.specs.declared.event.Event.TheVariants as event
 use Rattle.zre_journal.specs.declared.config.Config.{Config}
 use Rattle.zre_journal.specs.Chronicle.{Mark, Born, Starts, Counts, Ends, IsEvasive}
 use Rattle.zre_journal.specs.Peers.{Life, lives, life, life_of, births, runner, is_entered, counted, view}
-use Rattle.zre_journal.specs.Told.{told_at, by_message, exit, becoming_evasive}
+use Rattle.zre_journal.specs.Told.{told_in, told_at, by_message, exit, becoming_evasive}
 use Rattle.zre_journal.specs.Events.{events, chronicle}
 use Rattle.zre_journal.specs.Proper.{IsProper}
 use Rattle.zre_journal.specs.Spoken.{subject, run_with, run_of, FollowsMessages}
@@ -31,7 +31,7 @@ use Rattle.zre_journal.proofs.Known.{same_id, life_stays}
 use Rattle.zre_journal.proofs.Lawful.{shows_messages}
 use Rattle.zre_journal.proofs.Listed.{some_is, eqb-comm}
 use Rattle.zre_journal.proofs.Steps.{May, step}
-use Rattle.zre_journal.proofs.Telling.{told_by, events_are, first_is_hello}
+use Rattle.zre_journal.proofs.Telling.{events_are, first_is_hello}
 
 -- ---- what messages tell, with one more
 
@@ -114,7 +114,7 @@ goes_on p v (body.Other number rest more) xs h = sym (append-nil xs)
 -- ---- mark by mark
 
 -- xs is the run of each entered peer so far
-abbrev IsPassed : (PeerId → List Event) → List Mark → Type 0
+abbrev pub IsPassed : (PeerId → List Event) → List Mark → Type 0
 IsPassed xs H = (c l : ℕ) (v : Life) → life l H ≡ Some v → runner l H ≡ Some c → xs v.id ≡ told v.id (counted l H)
 
 module _ (xs : PeerId → List Event) (H : List Mark) (q : IsProper H) (n : AreNamed H) (o : IsPassed xs H) where
@@ -214,18 +214,21 @@ passes _ xs H q y n o = o
 
 -- ---- all of them
 
-record ArePassed (H : List Mark) : Type 0 where
-  are_named : AreNamed H
-  passed : IsPassed (λ p. run_of p (told_by H)) H
+pub record ArePassed (H : List Mark) : Type 0 where
+  pub are_named : AreNamed H
+  pub passed : IsPassed (λ p. run_of p (told_in H)) H
 
-passed_more : (h : Mark) (H : List Mark) → IsProper H → May h H → ArePassed H → ArePassed (h ∷ H)
+pub passed_more : (h : Mark) (H : List Mark) → IsProper H → May h H → ArePassed H → ArePassed (h ∷ H)
 passed_more h H q m o = record {
   are_named = named_more h H q m (step h H q m) o.are_named;
-  passed = λ c l v e r. fold-append (run_with v.id) [] (told_by H) (told_at h H) ∙ passes h (λ p. run_of p (told_by H)) H q m o.are_named o.passed c l v e r;
+  passed = λ c l v e r. fold-append (run_with v.id) [] (told_in H) (told_at h H) ∙ passes h (λ p. run_of p (told_in H)) H q m o.are_named o.passed c l v e r;
 }
+
+pub none_passed : ArePassed []
+none_passed = record { are_named = λ l v e. cc; passed = λ c l v e r. cc }
 
 pub follows_messages : (g : Config) (journal : List Entry) → FollowsMessages (events g journal) (chronicle g journal)
 follows_messages g journal c l v e r =
-    let all = always g ArePassed passed_more (record { are_named = λ l v e. cc; passed = λ c l v e r. cc }) journal in
+    let all = always g ArePassed passed_more none_passed journal in
     ap (run_of v.id) (sym (events_are g journal)) ∙ all.passed c l v e r
     ∙ ap (told v.id) ((shows_messages g journal).are_its_own c l (rw e refl) r)

@@ -21,7 +21,7 @@ use Rattle.zre_peer.specs.declared.event.Event.TheVariants as event
 use Rattle.zre_journal.specs.declared.config.Config.{Config}
 use Rattle.zre_journal.specs.Chronicle.{Mark, Comes, TurnsAway, Closes, Ignores, Refuses, Stops, Born, Starts, Counts, Ends, IsEvasive, after}
 use Rattle.zre_journal.specs.Peers.{Life, lives, life, life_of, births, runner, is_entered, view}
-use Rattle.zre_journal.specs.Told.{told, told_at, by_message, exit, becoming_evasive}
+use Rattle.zre_journal.specs.Told.{told, told_in, told_at, by_message, exit, becoming_evasive}
 use Rattle.zre_journal.specs.Happens.{marks, with_entry, chronicle_after}
 use Rattle.zre_journal.specs.Events.{events_at, events_after, events, chronicle}
 use Rattle.zre_journal.specs.Proper.{IsProper}
@@ -35,20 +35,16 @@ use Rattle.zre_journal.proofs.Steps.{May, step}
 
 -- ---- the events of a chronicle
 
-abbrev pub told_by : List Mark → List Event
-told_by [] = []
-told_by (h ∷ H) = told_by H ++ told_at h H
+told_after : (hs H : List Mark) → told_in (after hs H) ≡ told_in H ++ told hs H
+told_after [] H = sym (append-nil (told_in H))
+told_after (h ∷ hs) H = told_after hs (h ∷ H) ∙ append_assoc (told_in H) (told_at h H) (told hs (h ∷ H))
 
-told_after : (hs H : List Mark) → told_by (after hs H) ≡ told_by H ++ told hs H
-told_after [] H = sym (append-nil (told_by H))
-told_after (h ∷ hs) H = told_after hs (h ∷ H) ∙ append_assoc (told_by H) (told_at h H) (told hs (h ∷ H))
-
-told_later : (g : Config) (es : List Entry) (H : List Mark) → told_by (chronicle_after g es H) ≡ told_by H ++ events_after g es H
-told_later g [] H = sym (append-nil (told_by H))
+told_later : (g : Config) (es : List Entry) (H : List Mark) → told_in (chronicle_after g es H) ≡ told_in H ++ events_after g es H
+told_later g [] H = sym (append-nil (told_in H))
 told_later g (e ∷ es) H =
     told_later g es (with_entry g e H)
-    ∙ ap (λ xs. xs ++ events_after g es (with_entry g e H)) (told_after (marks g e H) (Comes e ∷ H) ∙ ap (λ xs. xs ++ events_at g e H) (append-nil (told_by H)))
-    ∙ append_assoc (told_by H) (events_at g e H) (events_after g es (with_entry g e H))
+    ∙ ap (λ xs. xs ++ events_after g es (with_entry g e H)) (told_after (marks g e H) (Comes e ∷ H) ∙ ap (λ xs. xs ++ events_at g e H) (append-nil (told_in H)))
+    ∙ append_assoc (told_in H) (events_at g e H) (events_after g es (with_entry g e H))
 
 -- ---- events that may come, where b says whether p is in
 
@@ -283,20 +279,20 @@ leads p h H q m n = record { fit = tt; last = stays_in (life_of p H) h H (λ k. 
 
 record IsSpoken (H : List Mark) : Type 0 where
   are_named : AreNamed H
-  fits : (p : PeerId) → AreFit p false (told_by H)
-  ends : (p : PeerId) → is_in p (told_by H) ≡ has_entered p H
+  fits : (p : PeerId) → AreFit p false (told_in H)
+  ends : (p : PeerId) → is_in p (told_in H) ≡ has_entered p H
 
 spoken_more : (h : Mark) (H : List Mark) → IsProper H → May h H → IsSpoken H → IsSpoken (h ∷ H)
 spoken_more h H q m o = record {
   are_named = named_more h H q m (step h H q m) o.are_named;
-  fits = λ p. fit_both p false (told_by H) (told_at h H) (o.fits p) (subst (λ b. AreFit p b (told_at h H)) (sym (o.ends p)) (leads p h H q m o.are_named).fit);
-  ends = λ p. fold-append (in_after p) false (told_by H) (told_at h H) ∙ ap (λ b. fold (in_after p) b (told_at h H)) (o.ends p) ∙ (leads p h H q m o.are_named).last;
+  fits = λ p. fit_both p false (told_in H) (told_at h H) (o.fits p) (subst (λ b. AreFit p b (told_at h H)) (sym (o.ends p)) (leads p h H q m o.are_named).fit);
+  ends = λ p. fold-append (in_after p) false (told_in H) (told_at h H) ∙ ap (λ b. fold (in_after p) b (told_at h H)) (o.ends p) ∙ (leads p h H q m o.are_named).last;
 }
 
 none_spoken : IsSpoken []
 none_spoken = record { are_named = λ l v e. cc; fits = λ p. tt; ends = λ p. refl }
 
-pub events_are : (g : Config) (journal : List Entry) → told_by (chronicle g journal) ≡ events g journal
+pub events_are : (g : Config) (journal : List Entry) → told_in (chronicle g journal) ≡ events g journal
 events_are g journal = told_later g journal []
 
 pub are_in_turn : (g : Config) (journal : List Entry) → AreInTurn (events g journal) (chronicle g journal)

@@ -100,7 +100,7 @@ distinct_same gs o = distinct_on [] gs (all gs) o
 abbrev pub told : List Body → View
 told bs = fold reading blank bs
 
-told_more : (bs : List Body) (b : Body) → told (bs ++ b ∷ []) ≡ reading (told bs) b
+pub told_more : (bs : List Body) (b : Body) → told (bs ++ b ∷ []) ≡ reading (told bs) b
 told_more bs b = fold-append reading blank bs (b ∷ [])
 
 pub view_told : (n : ℕ) (v : View) (bs : List Body) → fold (λ w m. reading w m.body) v (numbered_from n bs) ≡ fold reading v bs
@@ -111,7 +111,7 @@ none_of : (bs : List Body) (b : Body) → is_hello b ≡ false → list_any is_h
 none_of [] b n = rw n refl
 none_of (x ∷ bs) b n = ap (λ t. is_hello x || t) (none_of bs b n)
 
-still_begins : (bs : List Body) (b : Body) → is_hello b ≡ false → only_begins_with_hello bs ≡ true → only_begins_with_hello (bs ++ b ∷ []) ≡ true
+pub still_begins : (bs : List Body) (b : Body) → is_hello b ≡ false → only_begins_with_hello bs ≡ true → only_begins_with_hello (bs ++ b ∷ []) ≡ true
 still_begins [] b n e = cc
 still_begins (x ∷ bs) b n e = ap (λ t. is_hello x && not t) (none_of bs b n) ∙ e
 

@@ -1,12 +1,13 @@
 -- What a node is asked after a journal: who is entered and with what view, what the links of known peers have to
 -- send, and what it holds.
-use Rattle.std.specs.Prelude.{◌≡◌, ◌≢◌, ℕ, ◌<◌, List, [], ◌++◌, Option, Some, None, option_map, option_and_then, map}
+use Rattle.std.specs.Prelude.{◌≡◌, ◌≢◌, ℕ, ◌<◌, List, [], Option, Some, None, option_map, option_and_then, map}
 use Rattle.std.specs.Prelude.{length, if◌then◌else◌, IsSome}
 use Rattle.std.specs.List.{filter, AllByRecursion}
 use Rattle.zre_values.specs.declared.peer_id.PeerId.{PeerId}
 use Rattle.zre_outside.specs.declared.act.Act.{Act}
 use Rattle.zre_outside.specs.declared.act.Act.TheVariants as act
 use Rattle.zre_outside.specs.declared.entry.Entry.{Entry}
+use Rattle.zre_link.specs.Front.{IsFront}
 use Rattle.zre_peer.specs.declared.view.View.{View}
 use Rattle.zre_journal.specs.declared.config.Config.{Config}
 use Rattle.zre_journal.specs.Chronicle.{Mark}
@@ -48,13 +49,7 @@ held_after g J = held g (chronicle g J)
 abbrev pub bound_after : Config → List Entry → ℕ
 bound_after g J = bound (length (lives (chronicle g J))) (length (open_ones (chronicle g J)))
 
--- some of the first of these octets, where there are any
-pub record IsFront (whole part : List ℕ) : Type 0 where
-  pub rest : List ℕ
-  pub begins : whole ≡ part ++ rest
-  pub some : whole ≢ [] → part ≢ []
-
--- the same where there are octets to speak of
+-- some of the first of these octets, where there are octets to speak of
 abbrev pub HasFront : Option (List ℕ) → Option (List ℕ) → Type 0
 HasFront None o = o ≡ None
 HasFront (Some whole) o = (part : List ℕ) × (o ≡ Some part) × IsFront whole part

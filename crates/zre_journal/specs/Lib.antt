@@ -25,6 +25,7 @@ pub mod Peers
 pub mod Places
 pub mod Proper
 pub mod Pushes
+pub mod Speaking
 pub mod Spoken
 pub mod Standing
 pub mod Ticks

@@ -39,3 +39,8 @@ told_at _ H = []
 abbrev pub told : List Mark → List Mark → List Event
 told [] H = []
 told (h ∷ hs) H = told_at h H ++ told hs (h ∷ H)
+
+-- what all marks of a chronicle told, the oldest first
+abbrev pub told_in : List Mark → List Event
+told_in [] = []
+told_in (h ∷ H) = told_in H ++ told_at h H

@@ -1,7 +1,7 @@
 //! Laws of what journals mean. The functions do nothing: what they ensure is for proofs.
 
 ghost use Rattle.std.specs.Prelude.{◌≡◌, ℕ, ◌≤◌, ◌<◌, ◌++◌, ◌∷◌, [], true, List, length, Some};
-ghost use Rattle.std.specs.List.{list_any};
+ghost use Rattle.std.specs.List.{list_any, AllByRecursion};
 ghost use Rattle.zre_outside.specs.declared.entry.Entry.{Entry};
 ghost use Rattle.zre_outside.specs.declared.entry.Input.TheVariants.{Tick};
 ghost use Rattle.zre_journal.specs.Endings.{is_end};
@@ -18,6 +18,7 @@ ghost use Rattle.zre_journal.specs.Happens.{has_stopped};
 ghost use Rattle.zre_journal.specs.Closing.{LeavesNothing, ArePaired, IsNoPeer};
 ghost use Rattle.zre_mailbox.specs.declared.arrival.Arrival.TheVariants as arrival;
 ghost use Rattle.zre_mailbox.specs.Talk.{Arrived};
+ghost use Rattle.zre_mailbox.specs.Utterances.{IsReadable};
 ghost use Rattle.zre_msg.specs.declared.message.Message.{Message};
 ghost use Rattle.zre_peer.specs.Ledger.{IsNumbered, IsPicked, IsNear};
 ghost use Rattle.zre_journal.specs.Connections.{runs};
@@ -30,6 +31,8 @@ ghost use Rattle.zre_journal.specs.Standing.{KnownIsBorn, OpenIsOpened};
 ghost use Rattle.zre_journal.specs.Laws.{Continues, HasEnded, RunsAlone, AreStrangers, AreFew, EndsOnce};
 ghost use Rattle.zre_journal.specs.Laws.{ShowsItsMessages};
 ghost use Rattle.zre_journal.specs.Proper.{IsProper};
+ghost use Rattle.zre_journal.specs.Links.{queued};
+ghost use Rattle.zre_journal.specs.Speaking.{SpokeTruly};
 ghost use Rattle.zre_journal.specs.Truth.{TellsTruth};
 ghost use Rattle.zre_journal.specs.Hearing.{RunsOnOctets};
 ghost use Rattle.zre_journal.specs.Cleaning.{IsClean};
@@ -215,4 +218,17 @@ pub fn each_message_is_judged_by_its_place()
     ensures { (g : Config) (b : Ledger) (J : List Entry) (c l : ℕ) (m : Message) (K : List Mark)
         → IsDrawn g b (chronicle g J) → Arrives g J c (Arrived (arrival.Message m)) K → runs c K ≡ Some l
         → IsPlaced g b J c l m K }
+{}
+
+/// What a node said of itself was true, message by message: on each link, also that of a peer that is gone, who reads
+/// the messages up to the n-th has the view of the node that was true as it put that one there, within the limits of a
+/// view. So HELLO has the groups of the moment at which the link was made.
+pub fn a_node_spoke_truly()
+    ensures { (g : Config) (J : List Entry) → CanBe g → SpokeTruly g (chronicle g J) }
+{}
+
+/// Each message that a node puts on a link is read as it was spelled, and passes no limit.
+pub fn messages_are_readable()
+    ensures { (g : Config) (J : List Entry) (l : ℕ) → CanBe g
+        → AllByRecursion IsReadable (queued l (chronicle g J)) }
 {}

@@ -1,4 +1,8 @@
 pub mod After
 pub mod Answering
+pub mod Bodies
+pub mod Fronts
+pub mod Lasts
 pub mod Numbered
+pub mod Removing
 pub mod Replied

@@ -1,3 +1,5 @@
+pub mod Front
+pub mod Tail
 pub mod Text
 pub mod Heard
 pub mod Link

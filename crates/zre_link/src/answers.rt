@@ -40,7 +40,7 @@ fn answer(
     if unsent.saturating_add(size) > UNSENT_OCTETS as u64 {
         return Err(ReplyFault::Slow { unsent, size });
     }
-    queue.append(octets)?;
+    queue.append(octets.as_slice())?;
     *written = all;
     Ok(())
 }

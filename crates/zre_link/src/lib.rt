@@ -8,8 +8,12 @@ mod awaits;
 mod fault;
 mod hearing;
 mod link;
+mod putting;
 mod queue;
 mod replies;
+mod tail;
 
 pub use fault::{PushFault, ReplyFault};
 pub use link::Link;
+pub use queue::Queue;
+pub use tail::Tail;

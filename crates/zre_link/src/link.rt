@@ -8,7 +8,9 @@ ghost use Rattle.zre_zmtp.specs.Laws.{handshake};
 ghost use Rattle.zre_zmtp.specs.declared.writing.SocketType.TheVariants.{Dealer};
 ghost use Rattle.zre_zmtp.specs.Looks.{Looks, IsPaid};
 ghost use Rattle.zre_zmtp.specs.Ping.{contexts_in};
-ghost use Rattle.zre_msg.specs.Spelling.{FitsBody, Fits, octets as octets_of};
+ghost use Rattle.zre_msg.specs.declared.message.Body.TheVariants.{Shout};
+ghost use Rattle.zre_msg.specs.Spelling.{FitsBody, FitsString};
+ghost use Rattle.zre_link.specs.Front.{IsFront};
 ghost use Rattle.zre_link.specs.Text.{Member, Says, bodies_in, text_of, size_of};
 ghost use Rattle.zre_link.specs.Heard.{reply_fault, heard_after, kept_of};
 ghost use Rattle.zre_link.specs.Link.{link_after, gate_at, has_front, front_of, taken_by, unsent_of, RefusesPush};
@@ -17,14 +19,15 @@ ghost use Rattle.zre_link.specs.Link.{slow_at, answering, link_answering, slow_i
 use crate::answers::answer_all;
 use crate::awaits::Awaits;
 use crate::fault::{PushFault, ReplyFault};
+use crate::putting::{queue_message, queue_shout};
 use crate::queue::Queue;
 use crate::replies::Replies;
+use crate::tail::Tail;
 use std::alloc::Global;
 use std::marker::{Brand, Model};
 use std::mem;
 use std::sync::ledger::{Blank, Ledger};
 use zre_msg::{Body, Message};
-use zre_values::limits::UNSENT_OCTETS;
 use zre_values::{Octets, OutOfMemory, PeerId};
 use zre_zmtp::{FeedFault, Item, Items, SocketType, Steps, greeting, ready};
 
@@ -35,6 +38,8 @@ use zre_zmtp::{FeedFault, Item, Items, SocketType, Steps, greeting, ready};
 pub struct Link {
     alloc: Global,
     queue: Queue,
+    /// Where messages are spelled before they are queued.
+    spelled: Octets,
     sent: u64,
     /// All octets so far: those that wait and those that were taken.
     written: u64,
@@ -74,35 +79,6 @@ fn handshake_of(alloc: Global, own: PeerId) -> Result<Octets, OutOfMemory>
     Ok(octets)
 }
 
-// Queues a message after `written` octets, unless it passes the limit, and gives how many there are with it.
-fn queue_message(
-    alloc: Global,
-    queue: &mut Queue,
-    written: u64,
-    message: &Message,
-) -> Result<u64, PushFault>
-    requires fits { Fits message.now }
-    requires some { 0 < written }
-    ensures ok { IfOk result (λ all. (queue.new ≡ queue.old ++ octets_of message.now)
-        × (all ≡ written + length (octets_of message.now))
-        × (length queue.old + length (octets_of message.now) ≤ UNSENT_OCTETS)) }
-    ensures refused { IfErr result (λ e. RefusesPush e (length queue.old) (length (octets_of message.now))) }
-    ensures unchanged { OnErr result (queue.new ≡ queue.old) }
-{
-    let unsent = queue.len() as u64;
-    let size = message.octets_len();
-    let Some(all) = written.checked_add(size) else {
-        return Err(PushFault::OutOfMemory);
-    };
-    if unsent.saturating_add(size) > UNSENT_OCTETS as u64 {
-        return Err(PushFault::Slow { unsent, size });
-    }
-    let mut octets = Octets::new(alloc);
-    message.push_to(&mut octets)?;
-    queue.append(octets)?;
-    Ok(all)
-}
-
 impl Link {
     /// The link of the node with this UUID: its greeting and READY wait, 124 octets.
     pub fn new(alloc: Global, own: PeerId) -> Result<Link, OutOfMemory>
@@ -110,7 +86,8 @@ impl Link {
     {
         Ok(Link {
             alloc,
-            queue: Queue::new(alloc, handshake_of(alloc, own)?),
+            queue: Queue::new(alloc, handshake_of(alloc, own)?.as_slice())?,
+            spelled: Octets::new(alloc),
             sent: 0,
             written: 124,
             taken: 0,
@@ -141,9 +118,43 @@ impl Link {
             body: Body::Ping,
         };
         mem::swap(&mut message.body, body);
-        let queued = queue_message(self.alloc, &mut self.queue, self.written, &message);
+        let queued = queue_message(
+            self.alloc,
+            &mut self.queue,
+            &mut self.spelled,
+            self.written,
+            &message,
+        );
         mem::swap(&mut message.body, body);
         self.written = queued?;
+        self.sent = sent;
+        Ok(())
+    }
+
+    /// Puts a SHOUT to this group in the same way: what `push` does for it with the content of the tail.
+    pub fn push_shout(&mut self, group: &[u8], tail: &Tail) -> Result<(), PushFault>
+        requires { FitsString group.now }
+        ensures ok { (own : PeerIdValue) (line : List Member) (linked : Bool) (o : List ℕ) (n : ℕ) →
+            self.old ≡ link_after own line linked o n → let body = Shout group.now tail.now in
+            OnOk result ((unsent_of own line n + size_of line body ≤ UNSENT_OCTETS)
+            × (self.new ≡ link_after own (line ++ Says body ∷ []) linked o n)) }
+        ensures refused { (own : PeerIdValue) (line : List Member) (linked : Bool) (o : List ℕ) (n : ℕ) →
+            self.old ≡ link_after own line linked o n →
+            IfErr result (λ e. RefusesPush e (unsent_of own line n) (size_of line (Shout group.now tail.now))) }
+        ensures unchanged { OnErr result (self.new ≡ self.old) }
+    {
+        let Some(sent) = self.sent.checked_add(1) else {
+            return Err(PushFault::OutOfMemory);
+        };
+        let number = (sent % 65536) as u16;
+        self.written = queue_shout(
+            &mut self.queue,
+            &mut self.spelled,
+            self.written,
+            number,
+            group,
+            tail,
+        )?;
         self.sent = sent;
         Ok(())
     }
@@ -258,14 +269,14 @@ impl Link {
         answer_all(self.alloc, &mut self.queue, &mut self.written, items)
     }
 
-    /// The octets that may go out now, all of them in one piece.
+    /// The first of the octets that may go out now: what is left of the first part that waits, as far as it may go.
     pub fn front(&self) -> &[u8]
         ensures front { (own : PeerIdValue) (line : List Member) (linked : Bool) (o : List ℕ) (n : ℕ) →
-            self.now ≡ link_after own line linked o n → result.now ≡ front_of own line linked o n }
+            self.now ≡ link_after own line linked o n → IsFront (front_of own line linked o n) result.now }
         ensures some { has_front self.now ≡ true → result.now ≢ [] }
     {
-        let (front, _) = self.queue.as_slice().split_at(self.open());
-        front
+        let part = self.queue.front();
+        &part[..self.open().min(part.len())]
     }
 
     /// Whether there are octets that may go out now.
@@ -296,13 +307,13 @@ impl Link {
         self.queue.len() as u64
     }
 
-    /// The octets that wait, in one piece.
-    pub fn waiting(&self) -> &[u8]
+    /// The octets that wait.
+    pub fn waiting(&self) -> &Queue
         ensures { (own : PeerIdValue) (line : List Member) (linked : Bool) (o : List ℕ) (n : ℕ) →
             self.now ≡ link_after own line linked o n →
             (result.now ≡ drop n (text_of own line)) × (n ≤ length (text_of own line)) }
     {
-        self.queue.as_slice()
+        &self.queue
     }
 
     /// How many messages were put.

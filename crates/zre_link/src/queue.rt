@@ -1,81 +1,268 @@
 //! Octets that wait.
 
-ghost use Rattle.std.specs.Prelude.{◌≡◌, ◌++◌, length, drop, OnOk, OnErr};
+ghost use Rattle.std.specs.Prelude.{◌≡◌, ◌<◌, ◌-◌, [], ◌++◌, length, drop, All, IfOk, OnOk, OnErr};
+ghost use Rattle.std.specs.List.{concat};
+ghost use Rattle.std.specs.VecDeque.{deque_len, deque_capacity};
+ghost use Rattle.zre_link.specs.Front.{IsFront, HasOctets};
 
+use bytes::{Bytes, BytesMut};
 use std::alloc::Global;
+use std::collections::VecDeque;
 use std::marker::Model;
-use zre_values::{Octets, OutOfMemory};
+use zre_values::OutOfMemory;
 
-/// Octets in one buffer, appended at its end and removed at its front. Octets that were removed stay before `start`
-/// until they are as many as those that wait; so the buffer has at most twice as many as wait, and each octet is moved
-/// at most once for each that is removed.
+/// Where the newest part has as many octets, a further text begins a new one; and a text with as many is a part alone.
+const PART: usize = 16 * 1024;
+
+/// Octets that wait to go out, in parts. Texts are appended to the newest part, which nothing else holds; the parts
+/// before it are shared with those who hold the same. Octets are removed at the front without moving the others.
 #[derive(Drop)]
 pub struct Queue {
     alloc: Global,
-    octets: Octets,
-    start: usize,
+    /// The parts before the newest: none of them is empty.
+    parts: VecDeque<Bytes>,
+    newest: BytesMut,
+    /// How many octets all parts have.
+    count: usize,
 }
 
 impl Model for Queue {
-    ghost use Rattle.std.specs.Prelude.{ℕ, ◌≤◌, List, length, drop};
+    ghost use Rattle.std.specs.Prelude.{◌≡◌, ℕ, ◌++◌, List, length, All};
+    ghost use Rattle.std.specs.List.{concat};
+    ghost use Rattle.zre_link.specs.Front.{HasOctets};
 
     ghost Value = { List ℕ };
 
-    ghost view = { λ queue. drop queue.start queue.octets };
+    ghost view = { λ queue. concat queue.parts.items ++ queue.newest.items };
 
-    ghost invariant = { λ queue. queue.start ≤ length queue.octets };
+    ghost invariant = { λ queue. (queue.count ≡ length (concat queue.parts.items ++ queue.newest.items))
+        × All HasOctets queue.parts.items };
+}
+
+// Makes the newest part one of those before it, and room for one more.
+fn close(parts: &mut VecDeque<Bytes>, newest: &mut BytesMut) -> Result<(), OutOfMemory>
+    ensures ok { OnOk result ((newest.new.items ≡ [])
+        × (concat parts.new.items ≡ concat parts.old.items ++ newest.old.items)) }
+    ensures room { OnOk result (deque_len parts.new < deque_capacity parts.new) }
+    ensures some { All HasOctets parts.old.items → All HasOctets parts.new.items }
+    ensures err { OnErr result ((newest.new.items ≡ newest.old.items) × (parts.new.items ≡ parts.old.items)) }
+{
+    parts.reserve(2)?;
+    let len = newest.len();
+    if len == 0 {
+        return Ok(());
+    }
+    let part = newest.freeze_to(len)?;
+    parts.push_back_reserved(part);
+    Ok(())
+}
+
+// Appends a text and then a part, or nothing.
+fn put(
+    parts: &mut VecDeque<Bytes>,
+    newest: &mut BytesMut,
+    text: &[u8],
+    part: Bytes,
+) -> Result<(), OutOfMemory>
+    requires { HasOctets part }
+    ensures ok { OnOk result ((newest.new.items ≡ [])
+        × (concat parts.new.items ≡ ((concat parts.old.items ++ newest.old.items) ++ text.now) ++ part)) }
+    ensures some { All HasOctets parts.old.items → All HasOctets parts.new.items }
+    ensures err { OnErr result ((newest.new.items ≡ newest.old.items) × (parts.new.items ≡ parts.old.items)) }
+{
+    let len = newest.len();
+    newest.extend_from_slice(text)?;
+    match close(parts, newest) {
+        Ok(()) => {
+            parts.push_back_reserved(part);
+            Ok(())
+        }
+        Err(fault) => {
+            newest.truncate(len);
+            Err(fault)
+        }
+    }
+}
+
+// Appends a copy of these octets, or nothing.
+fn add(
+    alloc: Global,
+    parts: &mut VecDeque<Bytes>,
+    newest: &mut BytesMut,
+    octets: &[u8],
+) -> Result<(), OutOfMemory>
+    ensures ok { OnOk result (concat parts.new.items ++ newest.new.items
+        ≡ (concat parts.old.items ++ newest.old.items) ++ octets.now) }
+    ensures some { All HasOctets parts.old.items → All HasOctets parts.new.items }
+    ensures err { OnErr result (concat parts.new.items ++ newest.new.items
+        ≡ concat parts.old.items ++ newest.old.items) }
+{
+    if octets.len() >= PART {
+        let part = Bytes::copy_from_slice(alloc, octets)?;
+        return put(parts, newest, &[], part);
+    }
+    if newest.len() >= PART {
+        close(parts, newest)?;
+    }
+    newest.extend_from_slice(octets)?;
+    Ok(())
+}
+
+// Removes so many octets from the front, or all, and tells how many fewer they were.
+fn remove_parts(parts: &mut VecDeque<Bytes>, count: usize) -> usize
+    ensures rest { concat parts.new.items ≡ drop count (concat parts.old.items) }
+    ensures left { result ≡ count - length (concat parts.old.items) }
+    ensures some { All HasOctets parts.old.items → All HasOctets parts.new.items }
+{
+    let mut left = count;
+    'parts: while left > 0 {
+        let Some(mut part) = parts.pop_front() else {
+            return left;
+        };
+        let len = part.len();
+        if left < len {
+            part.advance(left);
+            parts.push_front_reserved(part);
+            return 0;
+        }
+        left -= len;
+    }
+    left
+}
+
+// Removes so many octets from the front of the newest part, or all: then it has all its room again.
+fn remove_newest(newest: &mut BytesMut, count: usize)
+    ensures { newest.new.items ≡ drop count newest.old.items }
+{
+    if count < newest.len() {
+        newest.advance(count);
+    } else {
+        newest.clear();
+    }
+}
+
+// Where the last octets of some parts begin, so many or all: in which part, and after how many of its octets.
+fn place_of_last(parts: &VecDeque<Bytes>, count: usize) -> (usize, usize)
+    ensures { drop result.1 (concat (drop result.0 parts.now.items))
+        ≡ drop (length (concat parts.now.items) - count) (concat parts.now.items) }
+{
+    let mut first = parts.len();
+    let mut left = count;
+    'parts: while first > 0 {
+        let len = parts[first - 1].len();
+        if left < len {
+            return (first - 1, len - left);
+        }
+        left -= len;
+        first -= 1;
+    }
+    (0, 0)
+}
+
+// Appends the octets of the parts from this one on, without so many of the first of them.
+fn copy_parts(
+    parts: &VecDeque<Bytes>,
+    first: usize,
+    skipped: usize,
+    out: &mut Vec<u8>,
+) -> Result<(), OutOfMemory>
+    ensures { OnOk result (out.new.items ≡ out.old.items ++ drop skipped (concat (drop first parts.now.items))) }
+{
+    let mut next = first;
+    let mut skip = skipped;
+    'parts: while next < parts.len() {
+        let part = parts[next].as_slice();
+        let at = skip.min(part.len());
+        let (_, rest) = part.split_at(at);
+        out.extend_from_slice(rest)?;
+        skip -= at;
+        next += 1;
+    }
+    Ok(())
 }
 
 impl Queue {
-    /// These octets wait.
-    pub fn new(alloc: Global, octets: Octets) -> Self
-        ensures { result ≡ octets }
+    /// A copy of these octets waits.
+    pub fn new(alloc: Global, octets: &[u8]) -> Result<Self, OutOfMemory>
+        ensures { IfOk result (λ queue. queue ≡ octets.now) }
     {
-        Queue {
+        Ok(Queue {
             alloc,
-            octets,
-            start: 0,
-        }
+            parts: VecDeque::new(alloc),
+            newest: BytesMut::copy_from_slice(alloc, octets)?,
+            count: octets.len(),
+        })
     }
 
     /// How many octets wait.
+    #[inline]
     pub fn len(&self) -> usize
         ensures { result ≡ length self.now }
     {
-        self.octets.len() - self.start
+        self.count
     }
 
-    /// The octets that wait, in one piece.
-    pub fn as_slice(&self) -> &[u8]
-        ensures { result.now ≡ self.now }
+    /// What is left of the first part.
+    pub fn front(&self) -> &[u8]
+        ensures { IsFront self.now result.now }
     {
-        &self.octets.as_slice()[self.start..]
+        match self.parts.front() {
+            Some(part) => part.as_slice(),
+            None => self.newest.as_slice(),
+        }
     }
 
-    /// Appends the octets, or nothing. Where none wait they become the buffer themselves.
-    pub fn append(&mut self, octets: Octets) -> Result<(), OutOfMemory>
-        ensures ok { OnOk result (self.new ≡ self.old ++ octets) }
+    /// A copy of the last octets, so many or all. It looks at the parts that hold them, and at no others.
+    pub fn last(&self, count: usize) -> Result<Bytes, OutOfMemory>
+        ensures { IfOk result (λ last. last ≡ drop (length self.now - count) self.now) }
+    {
+        let newest = self.newest.as_slice();
+        if count <= newest.len() {
+            return Ok(Bytes::copy_from_slice(self.alloc, &newest[newest.len() - count..])?);
+        }
+        let mut octets = Vec::with_capacity(self.alloc, count.min(self.count))?;
+        let (first, skipped) = place_of_last(&self.parts, count - newest.len());
+        copy_parts(&self.parts, first, skipped, &mut octets)?;
+        octets.extend_from_slice(newest)?;
+        Ok(Bytes::from_vec(octets)?)
+    }
+
+    /// Appends a copy of these octets, or nothing.
+    pub fn append(&mut self, octets: &[u8]) -> Result<(), OutOfMemory>
+        ensures ok { OnOk result (self.new ≡ self.old ++ octets.now) }
         ensures err { OnErr result (self.new ≡ self.old) }
     {
-        if self.len() == 0 {
-            *self = Queue::new(self.alloc, octets);
-            return Ok(());
-        }
-        self.octets.append(octets.as_slice())
+        let Some(count) = self.count.checked_add(octets.len()) else {
+            return Err(OutOfMemory);
+        };
+        add(self.alloc, &mut self.parts, &mut self.newest, octets)?;
+        self.count = count;
+        Ok(())
     }
 
-    /// Removes so many octets from the front, or all. Where no memory is left to move the others, they stay where
-    /// they are.
+    /// Appends a copy of a text, and then this part as it is; or nothing.
+    pub fn share(&mut self, text: &[u8], part: Bytes) -> Result<(), OutOfMemory>
+        ensures ok { OnOk result (self.new ≡ (self.old ++ text.now) ++ part) }
+        ensures err { OnErr result (self.new ≡ self.old) }
+    {
+        if part.is_empty() {
+            return self.append(text);
+        }
+        let size = text.len().saturating_add(part.len());
+        let Some(count) = self.count.checked_add(size) else {
+            return Err(OutOfMemory);
+        };
+        put(&mut self.parts, &mut self.newest, text, part)?;
+        self.count = count;
+        Ok(())
+    }
+
+    /// Removes so many octets from the front, or all.
     pub fn remove(&mut self, count: usize)
         ensures { self.new ≡ drop count self.old }
     {
-        let len = self.octets.len();
-        self.start += count.min(len - self.start);
-        if self.start < len - self.start {
-            return;
-        }
-        if let Ok(octets) = Octets::copy(self.alloc, self.as_slice()) {
-            *self = Queue::new(self.alloc, octets);
-        }
+        let left = remove_parts(&mut self.parts, count);
+        remove_newest(&mut self.newest, left);
+        self.count -= count.min(self.count);
     }
 }

@@ -1,11 +1,13 @@
 -- A connection and the octets that it was fed.
-use Rattle.std.proofs.Common.{◌≡◌, ℕ, Bool, false, List, [], ◌∷◌, ◌++◌, Option, Some, None, refl, sym, ap, subst, ◌∙◌, append_assoc}
-use Rattle.std.specs.Prelude.{option_to_list}
+use Rattle.std.proofs.Common.{◌≡◌, ℕ, ◌+◌, ◌<◌, Bool, false, List, [], ◌∷◌, ◌++◌, length, get_or, take, drop, Option, Some, None, Result, Ok, Err, refl, sym, ap, subst, ◌∙◌, arith}
+use Rattle.std.specs.Prelude.{option_to_list, option_and_then}
+use Rattle.std.proofs.lemmas.List.{take_more, at_drop_more}
 use Rattle.std.specs.Option.{option_or}
 use Rattle.std.specs.List.{cons_option}
 use Rattle.zre_values.specs.declared.peer_id.PeerId.{PeerId}
 use Rattle.zre_zmtp.specs.Stream.{Before, Kind, Whole, before, split, fault, cut, greeting_fault}
 use Rattle.zre_zmtp.specs.Reading.{Reading, Reads, Adds, IsOver, Refuses, new_items}
+use Rattle.zre_zmtp.specs.Looks.{Looks, IsPaidOnRefusal}
 use Rattle.zre_zmtp.specs.declared.want.Want.{Want}
 use Rattle.zre_zmtp.specs.declared.want.Want.TheVariants.{Dealer}
 use Rattle.zre_zmtp.specs.declared.item.Item.{Item}
@@ -16,7 +18,7 @@ use Rattle.zre_mailbox.specs.declared.arrival.Arrival.{Arrival}
 use Rattle.zre_mailbox.specs.declared.phase.Phase.{Phase}
 use Rattle.zre_mailbox.specs.declared.phase.Phase.TheVariants.{Live, Spent}
 use Rattle.zre_mailbox.specs.Talk.{arrival_of, arrivals_in, arrivals, fault_in, new_arrivals}
-use Rattle.zre_mailbox.specs.Conn.{introduced, identity_in, Hearing, reading, phase_by, conn_after, Takes, Hears}
+use Rattle.zre_mailbox.specs.Conn.{introduced, identity_in, Hearing, reading, phase_by, conn_after, Brings, Hears}
 use Rattle.zre_mailbox.proofs.Growing.{arrivals_in-append, new_arrivals-items, arrivals_grow, goes}
 
 -- ---- whom arrivals introduce
@@ -36,24 +38,30 @@ identity_kept own o more peer e =
 
 -- ---- items, one after the other
 
-pub takes_more : (xs ys : List Arrival) (known now next : Option PeerId) (out mid end : List Arrival) → Takes xs known now out mid → Takes ys now next mid end → Takes (xs ++ ys) known next out end
-takes_more xs ys known now next out mid end t u = record {
-  appended = u.appended ∙ ap (λ (l : List Arrival). l ++ ys) t.appended ∙ append_assoc out xs ys;
-  identity =
-      u.identity ∙ ap (λ p. option_or p (identity_in ys)) t.identity ∙ option_or-assoc known (identity_in xs) (identity_in ys)
-      ∙ ap (λ p. option_or known p) (sym (identity_in-append xs ys));
-}
-
 one_arrival : (a : Option Arrival) → cons_option a [] ≡ option_to_list a
 one_arrival None = refl
 one_arrival (Some x) = refl
 
-pub takes_next : (items : List Item) (item : Item) (known now next : Option PeerId) (out mid end : List Arrival) → Takes (arrivals_in items) known now out mid
-    → Takes (option_to_list (arrival_of item.what)) now next mid end → Takes (arrivals_in (items ++ item ∷ [])) known next out end
-takes_next items item known now next out mid end t u =
-    subst (λ (l : List Arrival). Takes l known next out end)
-    (ap (λ (l : List Arrival). arrivals_in items ++ l) (sym (one_arrival (arrival_of item.what))) ∙ sym (arrivals_in-append items (item ∷ [])))
-    (takes_more (arrivals_in items) (option_to_list (arrival_of item.what)) known now next out mid end t u)
+-- what arrives with one item more
+pub arrives_next : (items : List Item) (i : ℕ) (item : Item) → i < length items → item ≡ get_or items i item → arrivals_in (take i items) ++ option_to_list (arrival_of item.what) ≡ arrivals_in (take (i + 1) items)
+arrives_next items i item lt is =
+    ap (λ (l : List Arrival). arrivals_in (take i items) ++ l) (sym (one_arrival (arrival_of item.what)))
+    ∙ sym (arrivals_in-append (take i items) (item ∷ []))
+    ∙ ap (λ (x : Item). arrivals_in (take i items ++ x ∷ [])) is
+    ∙ ap arrivals_in (sym (take_more items i item lt))
+
+identity_in-cons : (a : Option Arrival) (rest : List Arrival) → identity_in (cons_option a rest) ≡ option_or (option_and_then introduced a) (identity_in rest)
+identity_in-cons None rest = refl
+identity_in-cons (Some x) rest = refl
+
+-- whom an item and those after it introduce
+pub shaken_next : (items : List Item) (i : ℕ) (item : Item) (peer : Option PeerId) → i < length items → item ≡ get_or items i item → peer ≡ option_and_then introduced (arrival_of item.what)
+    → identity_in (arrivals_in (drop i items)) ≡ option_or peer (identity_in (arrivals_in (drop (i + 1) items)))
+shaken_next items i item peer lt is by =
+    at_drop_more (λ (l : List Item). identity_in (arrivals_in l)) items i item lt
+    ∙ ap (λ (x : Item). identity_in (arrivals_in (x ∷ drop (i + 1) items))) (sym is)
+    ∙ identity_in-cons (arrival_of item.what) (arrivals_in (drop (i + 1) items))
+    ∙ ap (λ p. option_or p (identity_in (arrivals_in (drop (i + 1) items)))) (sym by)
 
 -- ---- what a reader keeps, as a function of its octets
 
@@ -103,40 +111,55 @@ accepted own r h = is_live own [] r None h (sym (no_arrivals own))
 
 -- ---- a piece
 
--- the items that were appended to none bring what arrives with the piece
-pub takes_new : (own : PeerId) (o piece : List ℕ) (start items : List Item) (known known' : Option PeerId) (out out' : List Arrival) → start ≡ [] → Adds (Dealer own) Whole o piece start items
-    → Takes (arrivals_in items) known known' out out' → Takes (new_arrivals own o piece) known known' out out'
-takes_new own o piece start items known known' out out' none a t =
-    let is : arrivals_in items ≡ new_arrivals own o piece =
-    ap arrivals_in (a.appended ∙ ap (λ (l : List Item). l ++ new_items (Dealer own) Whole o piece) none) ∙ sym (new_arrivals-items own o piece) in
-    subst (λ (l : List Arrival). Takes l known known' out out') is t
+-- the items that were appended to none are what arrives with the piece
+new_of : (own : PeerId) (o piece : List ℕ) (start items : List Item) → start ≡ [] → Adds (Dealer own) Whole o piece start items → arrivals_in items ≡ new_arrivals own o piece
+new_of own o piece start items none a = ap arrivals_in (a.appended ∙ ap (λ (l : List Item). l ++ new_items (Dealer own) Whole o piece) none) ∙ sym (new_arrivals-items own o piece)
 
-pub takes_refused : (own : PeerId) (o piece : List ℕ) (fault : FeedFault) (start items : List Item) (known known' : Option PeerId) (out out' : List Arrival) → start ≡ []
-    → Refuses fault (fault_in own (o ++ piece)) (Adds (Dealer own) Whole o piece start items × IsOver (Dealer own) Whole (o ++ piece)) → Takes (arrivals_in items) known known' out out'
-    → Refuses fault (fault_in own (o ++ piece)) (Takes (new_arrivals own o piece) known known' out out')
-takes_refused own o piece (Zmtp x) start items known known' out out' none a t = (a.0, takes_new own o piece start items known known' out out' none a.1.0 t)
-takes_refused own o piece OutOfMemory start items known known' out out' none a t = tt
+pub brings_refused : (own : PeerId) (o piece : List ℕ) (fault : FeedFault) (start items : List Item) (known known' : Option PeerId) → known' ≡ option_or known (identity_in (arrivals_in items))
+    → Refuses fault (fault_in own (o ++ piece)) (Adds (Dealer own) Whole o piece start items × IsOver (Dealer own) Whole (o ++ piece)) → Refuses fault (fault_in own (o ++ piece)) (Brings own o piece known known' start items)
+brings_refused own o piece (Zmtp x) start items known known' is a = (a.0, record { added = a.1.0; identity = is })
+brings_refused own o piece OutOfMemory start items known known' is a = tt
 
 -- whom all of the octets introduce
-known_by : (own : PeerId) (o piece : List ℕ) (h : Hearing) (known : Option PeerId) (out out' : List Arrival) → h ≡ conn_after own o → Takes (new_arrivals own o piece) h.identity known out out' → known ≡ identity_in (arrivals own (o ++ piece))
-known_by own o piece h known out out' e t =
-    t.identity ∙ ap (λ (x : Hearing). option_or x.identity (identity_in (new_arrivals own o piece))) e
+known_by : (own : PeerId) (o piece : List ℕ) (h : Hearing) (known : Option PeerId) (start items : List Item) → h ≡ conn_after own o → start ≡ [] → Brings own o piece h.identity known start items → known ≡ identity_in (arrivals own (o ++ piece))
+known_by own o piece h known start items e none b =
+    b.identity ∙ ap (λ (l : List Arrival). option_or h.identity (identity_in l)) (new_of own o piece start items none b.added)
+    ∙ ap (λ (x : Hearing). option_or x.identity (identity_in (new_arrivals own o piece))) e
     ∙ sym (identity_in-append (arrivals own o) (new_arrivals own o piece)) ∙ ap identity_in (sym (arrivals_grow own o piece))
 
-hears : (own : PeerId) (o piece : List ℕ) (now : Hearing) (out out' : List Arrival) → fault_in own o ≡ None → out' ≡ out ++ new_arrivals own o piece → now ≡ conn_after own (o ++ piece) → Hears own o piece now out out'
-hears own o piece now out out' none a e = record { now_is = e; appended = a; arrived = arrivals_grow own o piece; completes = (goes own o piece).faultless none }
+hears : (own : PeerId) (o piece : List ℕ) (now : Hearing) (start items : List Item) → fault_in own o ≡ None → start ≡ [] → Adds (Dealer own) Whole o piece start items → now ≡ conn_after own (o ++ piece) → Hears own o piece now [] (arrivals_in items)
+hears own o piece now start items fine none a e = record { now_is = e; appended = new_of own o piece start items none a; arrived = arrivals_grow own o piece; completes = (goes own o piece).faultless fine }
 
-pub heard : (own : PeerId) (o piece : List ℕ) (h : Hearing) (r new : Reading) (known : Option PeerId) (out out' : List Arrival) → h ≡ conn_after own o → h.phase ≡ Live r
-    → Reads (Dealer own) Whole (o ++ piece) new × Takes (new_arrivals own o piece) h.identity known out out'
-    → let now : Hearing = record { phase = Live new; identity = known } in (fault_in own (o ++ piece) ≡ None) × Hears own o piece now out out'
-heard own o piece h r new known out out' e live a =
+pub heard : (own : PeerId) (o piece : List ℕ) (h : Hearing) (r new : Reading) (known : Option PeerId) (start items : List Item) → h ≡ conn_after own o → h.phase ≡ Live r → start ≡ []
+    → Reads (Dealer own) Whole (o ++ piece) new × Brings own o piece h.identity known start items
+    → let now : Hearing = record { phase = Live new; identity = known } in (fault_in own (o ++ piece) ≡ None) × Adds (Dealer own) Whole o piece start items × Hears own o piece now [] (arrivals_in items)
+heard own o piece h r new known start items e live none a =
     let fine = (live_reads own o h r e live).faultless in
-    (a.0.faultless, hears own o piece _ out out' fine a.1.appended (is_live own (o ++ piece) new known a.0 (known_by own o piece h known out out' e a.1)))
+    (a.0.faultless, a.1.added, hears own o piece _ start items fine none a.1.added (is_live own (o ++ piece) new known a.0 (known_by own o piece h known start items e none a.1)))
 
-pub refused : (own : PeerId) (o piece : List ℕ) (h : Hearing) (r : Reading) (fault : FeedFault) (phase : Phase) (known : Option PeerId) (out out' : List Arrival) → h ≡ conn_after own o → h.phase ≡ Live r
-    → phase ≡ Spent → Refuses fault (fault_in own (o ++ piece)) (Takes (new_arrivals own o piece) h.identity known out out')
-    → let now : Hearing = record { phase = phase; identity = known } in Refuses fault (fault_in own (o ++ piece)) (Hears own o piece now out out')
-refused own o piece h r (Zmtp x) phase known out out' e live ended a =
+pub refused : (own : PeerId) (o piece : List ℕ) (h : Hearing) (r : Reading) (fault : FeedFault) (phase : Phase) (known : Option PeerId) (start items : List Item) → h ≡ conn_after own o → h.phase ≡ Live r → start ≡ []
+    → phase ≡ Spent → Refuses fault (fault_in own (o ++ piece)) (Brings own o piece h.identity known start items)
+    → let now : Hearing = record { phase = phase; identity = known } in Refuses fault (fault_in own (o ++ piece)) (Adds (Dealer own) Whole o piece start items × Hears own o piece now [] (arrivals_in items))
+refused own o piece h r (Zmtp x) phase known start items e live none ended a =
     let fine = (live_reads own o h r e live).faultless in
-    (a.0, hears own o piece _ out out' fine a.1.appended (is_spent_by own (o ++ piece) x phase known ended a.0 (known_by own o piece h known out out' e a.1)))
-refused own o piece h r OutOfMemory phase known out out' e live ended a = tt
+    (a.0, (a.1.added, hears own o piece _ start items fine none a.1.added (is_spent_by own (o ++ piece) x phase known ended a.0 (known_by own o piece h known start items e none a.1))))
+refused own o piece h r OutOfMemory phase known start items e live none ended a = tt
+
+-- ---- arrivals in place of items
+
+onto : (own : PeerId) (o piece : List ℕ) (now : Hearing) (came out out' : List Arrival) → out' ≡ out ++ came → Hears own o piece now [] came → Hears own o piece now out out'
+onto own o piece now came out out' a h = record { now_is = h.now_is; appended = a ∙ ap (λ (l : List Arrival). out ++ l) h.appended; arrived = h.arrived; completes = h.completes }
+
+pub heard_onto : (own : PeerId) (o piece : List ℕ) (now : Hearing) (start items : List Item) (out out' : List Arrival) → out' ≡ out ++ arrivals_in items
+    → (fault_in own (o ++ piece) ≡ None) × Adds (Dealer own) Whole o piece start items × Hears own o piece now [] (arrivals_in items) → (fault_in own (o ++ piece) ≡ None) × Hears own o piece now out out'
+heard_onto own o piece now start items out out' a h = (h.0, onto own o piece now (arrivals_in items) out out' a h.2)
+
+pub refused_onto : (own : PeerId) (o piece : List ℕ) (now : Hearing) (fault : FeedFault) (start items : List Item) (out out' : List Arrival) → out' ≡ out ++ arrivals_in items
+    → Refuses fault (fault_in own (o ++ piece)) (Adds (Dealer own) Whole o piece start items × Hears own o piece now [] (arrivals_in items)) → Refuses fault (fault_in own (o ++ piece)) (Hears own o piece now out out')
+refused_onto own o piece now (Zmtp x) start items out out' a h = (h.0, onto own o piece now (arrivals_in items) out out' a h.1.1)
+refused_onto own o piece now OutOfMemory start items out out' a h = tt
+
+-- what was paid for all, if anything is refused
+pub refused_looks : {A E : Type 0} (r : Result A E) (looks looks' kept kept' n : ℕ) → Looks looks looks' kept kept' n r → IsPaidOnRefusal looks looks' kept n
+refused_looks (Ok x) looks looks' kept kept' n h = omega (arith, h.0)
+refused_looks (Err e) looks looks' kept kept' n h = h.1

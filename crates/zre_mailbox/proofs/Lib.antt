@@ -1,3 +1,4 @@
 pub mod Growing
 pub mod Hearing
 pub mod InOrder
+pub mod Utterances

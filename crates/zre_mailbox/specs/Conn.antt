@@ -4,14 +4,15 @@ use Rattle.std.specs.Option.{option_or}
 use Rattle.zre_values.specs.declared.peer_id.PeerId.{PeerId}
 use Rattle.zre_zmtp.specs.Stream.{Kind, Whole, before, split}
 use Rattle.zre_zmtp.specs.declared.want.Want.{Want}
-use Rattle.zre_zmtp.specs.Reading.{Reading, kept}
+use Rattle.zre_zmtp.specs.Reading.{Reading, Adds, kept}
 use Rattle.zre_zmtp.specs.declared.want.Want.TheVariants.{Dealer}
 use Rattle.zre_zmtp.specs.declared.fault.ZmtpFault.{ZmtpFault}
+use Rattle.zre_zmtp.specs.declared.item.Item.{Item}
 use Rattle.zre_mailbox.specs.declared.arrival.Arrival.{Arrival}
 use Rattle.zre_mailbox.specs.declared.arrival.Arrival.TheVariants.{Greeted, Shaken, Ping, Message}
 use Rattle.zre_mailbox.specs.declared.phase.Phase.{Phase}
 use Rattle.zre_mailbox.specs.declared.phase.Phase.TheVariants.{Live, Spent, Ignored}
-use Rattle.zre_mailbox.specs.Talk.{Arrived, arrivals, fault_in, fault_said, new_arrivals, completed}
+use Rattle.zre_mailbox.specs.Talk.{Arrived, arrivals, arrivals_in, fault_in, fault_said, new_arrivals, completed}
 
 -- ---- whom it shook hands with
 
@@ -85,10 +86,11 @@ kept_of h = kept_in h.phase
 
 -- ---- what a piece does
 
--- These arrivals were appended, and whom they introduce is known, unless somebody was before.
-pub record Takes (taken : List Arrival) (known known' : Option PeerId) (out out' : List Arrival) : Type 0 where
-  pub appended : out' ≡ out ++ taken
-  pub identity : known' ≡ option_or known (identity_in taken)
+-- After the octets o a piece was read: the items that become whole with it were appended, and whom they introduce is
+-- known, unless somebody was before.
+pub record Brings (own : PeerId) (o piece : List ℕ) (known known' : Option PeerId) (out out' : List Item) : Type 0 where
+  pub added : Adds (Dealer own) Whole o piece out out'
+  pub identity : known' ≡ option_or known (identity_in (arrivals_in out'))
 
 -- After the octets o a piece was read: what it completes of all that is said is what was appended, and the fault,
 -- where there is one.

@@ -4,16 +4,17 @@ ghost use Rattle.std.specs.Prelude.{◌≡◌, ℕ, ◌+◌, ◌≤◌, ◌<◌,
 ghost use Rattle.std.specs.Prelude.{is_err};
 ghost use Rattle.zre_values.specs.declared.limits.TheConstants.{MESSAGE_OCTETS, COMMAND_OCTETS};
 ghost use Rattle.zre_values.specs.declared.peer_id.PeerId.{PeerId as PeerIdValue};
-ghost use Rattle.zre_zmtp.specs.Reading.{Reads, Refuses, kept};
+ghost use Rattle.zre_zmtp.specs.Reading.{Reads, Refuses, Adds, kept};
 ghost use Rattle.zre_zmtp.specs.Looks.{Looks};
 ghost use Rattle.zre_zmtp.specs.Stream.{Whole};
 ghost use Rattle.zre_zmtp.specs.declared.want.Want.TheVariants.{Dealer};
-ghost use Rattle.zre_mailbox.specs.Talk.{fault_in, new_arrivals};
-ghost use Rattle.zre_mailbox.specs.Conn.{conn_after, ignoring, is_ignored, is_spent, kept_of, Takes, Hears};
+ghost use Rattle.zre_mailbox.specs.Talk.{arrivals_in, fault_in};
+ghost use Rattle.zre_mailbox.specs.Conn.{conn_after, ignoring, is_ignored, is_spent, kept_of, Brings, Hears};
+ghost use Rattle.zre_mailbox.specs.declared.phase.Phase.TheVariants.{Spent as SpentPhase};
 
 use crate::arrival::Arrivals;
 use crate::phase::Phase;
-use crate::taking::take_items;
+use crate::taking::{known_after, take_items};
 use std::alloc::Global;
 use std::marker::{Brand, Model};
 use std::sync::ledger::{Blank, Ledger};
@@ -37,28 +38,27 @@ impl Model for Conn {
     ghost view = { λ c. record { phase = c.phase; identity = c.identity } };
 }
 
-// Reads a piece, and takes what becomes whole with it.
+// Reads a piece into an empty list, and notes whom it introduces, unless somebody was introduced before.
 fn read_piece<L: Ledger>(
-    alloc: Global,
     reader: &mut Reader,
     piece: &[u8],
     identity: &mut Option<PeerId>,
-    out: &mut Arrivals,
+    items: &mut Items,
     steps: &mut Steps<L>,
 ) -> Result<(), FeedFault>
-    requires { reader.old.spent ≡ false }
+    requires unspent { reader.old.spent ≡ false }
+    requires empty { items.old ≡ [] }
     ensures ok { (own : PeerIdValue) (o : List ℕ) → Reads (Dealer own) Whole o reader.old →
         OnOk result (Reads (Dealer own) Whole (o ++ piece.now) reader.new
-        × Takes (new_arrivals own o piece.now) identity.old identity.new out.old out.new) }
+        × Brings own o piece.now identity.old identity.new items.old items.new) }
     ensures refused { (own : PeerIdValue) (o : List ℕ) → Reads (Dealer own) Whole o reader.old →
         IfErr result (λ e. Refuses e (fault_in own (o ++ piece.now))
-        (Takes (new_arrivals own o piece.now) identity.old identity.new out.old out.new)) }
+        (Brings own o piece.now identity.old identity.new items.old items.new)) }
     ensures unspent { OnOk result (reader.new.spent ≡ false) }
     ensures looks { Looks steps.old steps.new (kept reader.old) (kept reader.new) (length piece.now) result }
 {
-    let mut items = Items::new(alloc);
-    let fed = reader.feed_counted(piece, &mut items, steps);
-    take_items(alloc, items, identity, out)?;
+    let fed = reader.feed_counted(piece, items, steps);
+    *identity = known_after(*identity, items.as_slice());
     match fed {
         Ok(()) => Ok(()),
         Err(fault) => Err(fault),
@@ -113,16 +113,57 @@ impl Conn {
         ensures heard { is_ignored self.new ≡ false }
         ensures looks { Looks steps.old steps.new (kept_of self.old) (kept_of self.new) (length piece.now) result }
     {
+        let mut items = Items::new(self.alloc);
+        let fed = self.feed_items(piece, &mut items, steps);
+        match take_items(self.alloc, items.as_slice(), out) {
+            Ok(()) => fed,
+            Err(_) => {
+                self.give_up();
+                Err(FeedFault::OutOfMemory)
+            }
+        }
+    }
+
+    /// The same with the items that become whole in place of what arrives with them, which
+    /// [`arrival_of`](crate::arrival_of) tells of each. A list that is cleared serves again and again.
+    pub fn feed_items<L: Ledger>(
+        &mut self,
+        piece: &[u8],
+        items: &mut Items,
+        steps: &mut Steps<L>,
+    ) -> Result<(), FeedFault>
+        requires heard { is_ignored self.old ≡ false }
+        requires unspent { is_spent self.old ≡ false }
+        requires empty { items.old ≡ [] }
+        ensures ok { (own : PeerIdValue) (o : List ℕ) → self.old ≡ conn_after own o →
+            OnOk result ((fault_in own (o ++ piece.now) ≡ None)
+            × Adds (Dealer own) Whole o piece.now items.old items.new
+            × Hears own o piece.now self.new [] (arrivals_in items.new)) }
+        ensures refused { (own : PeerIdValue) (o : List ℕ) → self.old ≡ conn_after own o →
+            IfErr result (λ e. Refuses e (fault_in own (o ++ piece.now))
+            (Adds (Dealer own) Whole o piece.now items.old items.new
+            × Hears own o piece.now self.new [] (arrivals_in items.new))) }
+        ensures spent { is_spent self.new ≡ is_err result }
+        ensures heard { is_ignored self.new ≡ false }
+        ensures looks { Looks steps.old steps.new (kept_of self.old) (kept_of self.new) (length piece.now) result }
+    {
         let Phase::Live(reader) = &mut self.phase else {
             return Err(FeedFault::OutOfMemory);
         };
-        match read_piece(self.alloc, reader, piece, &mut self.identity, out, steps) {
+        match read_piece(reader, piece, &mut self.identity, items, steps) {
             Ok(()) => Ok(()),
             Err(fault) => {
-                self.phase = Phase::Spent;
+                self.give_up();
                 Err(fault)
             }
         }
+    }
+
+    // A piece was refused, and nothing is kept.
+    fn give_up(&mut self)
+        ensures { self.new ≡ record self.old { phase = SpentPhase } }
+    {
+        self.phase = Phase::Spent;
     }
 
     // The same for a caller that counts nothing.

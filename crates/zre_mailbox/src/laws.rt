@@ -1,9 +1,11 @@
 //! Laws of what connections say. The functions do nothing: what they ensure is for proofs.
 
-ghost use Rattle.std.specs.Prelude.{◌≡◌, ℕ, List, [], ◌++◌, true, Some};
+ghost use Rattle.std.specs.Prelude.{◌≡◌, ℕ, List, [], ◌++◌, true, Some, length};
+ghost use Rattle.std.specs.List.{AllByRecursion};
 ghost use Rattle.zre_values.specs.declared.peer_id.PeerId.{PeerId};
 ghost use Rattle.zre_mailbox.specs.Talk.{arrivals, talk, completed, has_ready, Goes, Introduced, IsInOrder};
 ghost use Rattle.zre_mailbox.specs.Conn.{identity_in};
+ghost use Rattle.zre_mailbox.specs.Utterances.{Utterance, IsHearable, stream, heard};
 
 /// What was said stays said: more octets say more after it, and after a fault nothing.
 pub fn talk_grows()
@@ -36,4 +38,12 @@ pub fn ready_introduces()
 pub fn identity_stays()
     ensures { (own : PeerId) (o more : List ℕ) (peer : PeerId) → identity_in (arrivals own o) ≡ Some peer
         → identity_in (arrivals own (o ++ more)) ≡ Some peer }
+{}
+
+/// Of what a node says, in whichever order its greeting, its READY and its messages come, just this arrives: where the
+/// greeting is first and READY next, every message, as it was spelled, up to a further greeting; a further READY is
+/// skipped, and all else that is out of place is a fault.
+pub fn just_whole_parts_are_heard()
+    ensures { (own id : PeerId) (us : List Utterance) → length id.0 ≡ 16 → AllByRecursion IsHearable us
+        → arrivals own (stream id us) ≡ heard own id us }
 {}

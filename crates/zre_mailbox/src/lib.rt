@@ -11,6 +11,7 @@ mod taking;
 pub use arrival::{Arrival, Arrivals};
 pub use conn::Conn;
 pub use laws::{
-    arrivals_are_in_order, completed_in_turn, identity_stays, nothing_said, ready_introduces,
-    talk_grows,
+    arrivals_are_in_order, completed_in_turn, identity_stays, just_whole_parts_are_heard,
+    nothing_said, ready_introduces, talk_grows,
 };
+pub use taking::arrival_of;

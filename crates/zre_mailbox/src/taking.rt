@@ -1,11 +1,12 @@
-//! Items become arrivals.
+//! Items, and what arrives with them.
 
-ghost use Rattle.std.specs.Prelude.{◌≡◌, Option, option_map, option_to_list, IfOk, OnOk};
+ghost use Rattle.std.specs.Prelude.{◌≡◌, ◌++◌, Option, option_map, option_and_then, option_to_list, IfOk, OnOk};
+ghost use Rattle.std.specs.Option.{option_or};
 ghost use Rattle.zre_zmtp.specs.Ping.{context_in};
 ghost use Rattle.std.specs.Result.{result_ok};
 ghost use Rattle.zre_msg.specs.Reading.{read_frames};
 ghost use Rattle.zre_mailbox.specs.Talk.{peer_of, arrival_of, arrivals_in};
-ghost use Rattle.zre_mailbox.specs.Conn.{introduced, Takes};
+ghost use Rattle.zre_mailbox.specs.Conn.{introduced, identity_in};
 ghost use Rattle.zre_mailbox.specs.declared.arrival.Arrival.TheVariants.{Ping as PingArrival};
 ghost use Rattle.zre_mailbox.specs.declared.arrival.Arrival.TheVariants.{Message as MessageArrival};
 
@@ -13,7 +14,7 @@ use crate::arrival::{Arrival, Arrivals};
 use std::alloc::Global;
 use zre_msg::{Message, ReadFault};
 use zre_values::{Frames, Octets, OutOfMemory, PeerId};
-use zre_zmtp::{Items, What};
+use zre_zmtp::{Item, What};
 
 // The peer with that identity, if it is one.
 fn peer_of(identity: &[u8]) -> Option<PeerId>
@@ -26,11 +27,11 @@ fn peer_of(identity: &[u8]) -> Option<PeerId>
     }
 }
 
-// The message that the frames mean, if they mean one. Its content is moved.
-fn message_of(alloc: Global, frames: Frames) -> Result<Option<Arrival>, OutOfMemory>
-    ensures { IfOk result (λ a. a ≡ option_map (λ m. MessageArrival m) (result_ok (read_frames frames))) }
+// The message that the frames mean, if they mean one, with copies of what it holds.
+fn message_of(alloc: Global, frames: &Frames) -> Result<Option<Arrival>, OutOfMemory>
+    ensures { IfOk result (λ a. a ≡ option_map (λ m. MessageArrival m) (result_ok (read_frames frames.now))) }
 {
-    match Message::from_frames(alloc, frames) {
+    match Message::read(alloc, frames) {
         Ok(message) => Ok(Some(Arrival::Message(message))),
         Err(ReadFault::Bad(_)) => Ok(None),
         Err(ReadFault::OutOfMemory) => Err(OutOfMemory),
@@ -47,57 +48,73 @@ fn ping_of(alloc: Global, what: &What) -> Result<Option<Arrival>, OutOfMemory>
     }
 }
 
-// What arrives with an item, if anything does.
-fn arrival_of(alloc: Global, what: What) -> Result<Option<Arrival>, OutOfMemory>
-    ensures { IfOk result (λ a. a ≡ arrival_of what) }
+/// What arrives with an item, if anything does. Messages outside the grammar and commands other than PING don't.
+pub fn arrival_of(alloc: Global, what: &What) -> Result<Option<Arrival>, OutOfMemory>
+    ensures { IfOk result (λ a. a ≡ arrival_of what.now) }
 {
     match what {
         What::Greeting { .. } => Ok(Some(Arrival::Greeted)),
-        What::Ready { identity, .. } => match identity {
-            Some(identity) => Ok(peer_of(identity.as_slice()).map(Arrival::Shaken)),
-            None => Ok(None),
-        },
-        command @ What::Command { .. } => ping_of(alloc, &command),
+        What::Ready { .. } => Ok(shaken_by(what).map(Arrival::Shaken)),
+        What::Command { .. } => ping_of(alloc, what),
         What::Message(frames) => message_of(alloc, frames),
     }
 }
 
-fn introduced(arrival: &Arrival) -> Option<PeerId>
-    ensures { result ≡ introduced arrival.now }
+// Whom READY introduces.
+fn shaken_by(what: &What) -> Option<PeerId>
+    ensures { result ≡ option_and_then introduced (arrival_of what.now) }
 {
-    match arrival {
-        Arrival::Shaken(peer) => Some(*peer),
-        Arrival::Greeted | Arrival::Ping(_) | Arrival::Message(_) => None,
+    match what {
+        What::Ready { identity, .. } => match identity {
+            Some(identity) => peer_of(identity.as_slice()),
+            None => None,
+        },
+        What::Greeting { .. } | What::Command { .. } | What::Message(_) => None,
     }
 }
 
-// Appends what arrives with an item, and notes whom it introduces.
-fn take_item(
-    alloc: Global,
-    what: What,
-    identity: &mut Option<PeerId>,
-    out: &mut Arrivals,
-) -> Result<(), OutOfMemory>
-    ensures { OnOk result (Takes (option_to_list (arrival_of what)) identity.old identity.new out.old out.new) }
+// Whom the first READY among the items introduces.
+fn shaken_in(items: &[Item]) -> Option<PeerId>
+    ensures { result ≡ identity_in (arrivals_in items.now) }
+{
+    for item in items {
+        if let Some(peer) = shaken_by(&item.what) {
+            return Some(peer);
+        }
+    }
+    None
+}
+
+/// Who is known after the items: who was before, and else whom they introduce.
+pub(crate) fn known_after(known: Option<PeerId>, items: &[Item]) -> Option<PeerId>
+    ensures { result ≡ option_or known (identity_in (arrivals_in items.now)) }
+{
+    match known {
+        Some(peer) => Some(peer),
+        None => shaken_in(items),
+    }
+}
+
+// Appends what arrives with an item.
+fn take_item(alloc: Global, what: &What, out: &mut Arrivals) -> Result<(), OutOfMemory>
+    ensures { OnOk result (out.new ≡ out.old ++ option_to_list (arrival_of what.now)) }
 {
     if let Some(arrival) = arrival_of(alloc, what)? {
-        *identity = identity.or(introduced(&arrival));
         out.push(arrival)?;
     }
     Ok(())
 }
 
-/// Appends what arrives with the items, and notes whom they introduce, unless somebody was introduced before.
+/// Appends what arrives with the items.
 pub(crate) fn take_items(
     alloc: Global,
-    items: Items,
-    identity: &mut Option<PeerId>,
+    items: &[Item],
     out: &mut Arrivals,
 ) -> Result<(), OutOfMemory>
-    ensures { OnOk result (Takes (arrivals_in items) identity.old identity.new out.old out.new) }
+    ensures { OnOk result (out.new ≡ out.old ++ arrivals_in items.now) }
 {
-    for item in items.into_vec() {
-        take_item(alloc, item.what, identity, out)?;
+    for item in items {
+        take_item(alloc, &item.what, out)?;
     }
     Ok(())
 }

@@ -69,23 +69,23 @@ count_takes o x fits e =
     let below : from_be_bytes w32 (take 4 o) < 2 ^ 32 = omega (arith, f 0, f 1, f 2, f 3) in
     subst (λ (y : ℕ × List ℕ). Takes o (to_be_bytes w32 y.0) y.1 × (y.0 < 2 ^ 32)) g.1 (whole, below)
 
+-- a length, and so many octets
+sized_takes : (number : List ℕ → Option (ℕ × List ℕ)) (text : ℕ → List ℕ) (most : ℕ) → ((o : List ℕ) (n : ℕ × List ℕ) → IsBytes o → number o ≡ Some n → Takes o (text n.0) n.1 × (n.0 < most))
+    → (o : List ℕ) (x : List ℕ × List ℕ) → IsBytes o → (number o >>= λ n. octets_at n.0 n.1) ≡ Some x → Takes o (text (length x.0) ++ x.0) x.1 × (length x.0 < most)
+sized_takes number text most takes o x fits e =
+    let b = bind_some (number o) (λ n. octets_at n.0 n.1) x e in
+    let t = takes o b.0 fits b.1 in
+    let u = octets_takes b.0.0 b.0.1 x t.0.rest_fits b.2 in
+    let both = Takes-then o (text b.0.0) b.0.1 x.0 x.1 t.0 u.0 in
+    (subst (λ (n : ℕ). Takes o (text n ++ x.0) x.1) (sym u.1) both, omega (arith, t.1, u.1))
+
 string_takes : (o : List ℕ) (x : List ℕ × List ℕ) → IsBytes o → string_at o ≡ Some x → Takes o (string x.0) x.1 × FitsString x.0
 unfolding string_at
-string_takes o x fits e =
-    let b = bind_some (octet_at o) (λ n. octets_at n.0 n.1) x e in
-    let t = octet_takes o b.0 fits b.1 in
-    let u = octets_takes b.0.0 b.0.1 x t.0.rest_fits b.2 in
-    let both = Takes-then o (b.0.0 ∷ []) b.0.1 x.0 x.1 t.0 u.0 in
-    (subst (λ (n : ℕ). Takes o (n ∷ x.0) x.1) (sym u.1) both, omega (arith, t.1, u.1))
+string_takes o x fits e = sized_takes octet_at (λ n. n ∷ []) (2 ^ 8) octet_takes o x fits e
 
 long_string_takes : (o : List ℕ) (x : List ℕ × List ℕ) → IsBytes o → long_string_at o ≡ Some x → Takes o (long_string x.0) x.1 × FitsLong x.0
 unfolding long_string_at
-long_string_takes o x fits e =
-    let b = bind_some (count_at o) (λ n. octets_at n.0 n.1) x e in
-    let t = count_takes o b.0 fits b.1 in
-    let u = octets_takes b.0.0 b.0.1 x t.0.rest_fits b.2 in
-    let both = Takes-then o (to_be_bytes w32 b.0.0) b.0.1 x.0 x.1 t.0 u.0 in
-    (subst (λ (n : ℕ). Takes o (to_be_bytes w32 n ++ x.0) x.1) (sym u.1) both, omega (arith, t.1, u.1))
+long_string_takes o x fits e = sized_takes count_at (λ n. to_be_bytes w32 n) (2 ^ 32) count_takes o x fits e
 
 pair_takes : (o : List ℕ) (x : (List ℕ × List ℕ) × List ℕ) → IsBytes o → pair_at o ≡ Some x → Takes o (pair x.0) x.1 × (FitsString x.0.0 × FitsLong x.0.1)
 unfolding pair_at
@@ -112,23 +112,23 @@ each_takes {A} one spelled Fits takes (suc n) o x fits e =
     subst (λ (y : List A × List ℕ). Takes o (flat_map spelled y.0) y.1 × (All Fits y.0 × (length y.0 ≡ suc n))) (some_is _ x b.2)
     (whole, (All-cons Fits a.0.0 b.0.0 t.1 u.1.0, ap suc u.1.1))
 
+-- how many, and then each of them
+counted_takes : {A : Type 0} (one : List ℕ → Option (A × List ℕ)) (spelled : A → List ℕ) (Fits : A → Type 0) → ((o : List ℕ) (x : A × List ℕ) → IsBytes o → one o ≡ Some x → Takes o (spelled x.0) x.1 × Fits x.0)
+    → (o : List ℕ) (x : List A × List ℕ) → IsBytes o → (count_at o >>= λ n. each_at one n.0 n.1) ≡ Some x → Takes o (to_be_bytes w32 (length x.0) ++ flat_map spelled x.0) x.1 × ((length x.0 < 2 ^ 32) × All Fits x.0)
+counted_takes one spelled Fits takes o x fits e =
+    let b = bind_some (count_at o) (λ n. each_at one n.0 n.1) x e in
+    let t = count_takes o b.0 fits b.1 in
+    let u = each_takes one spelled Fits takes b.0.0 b.0.1 x t.0.rest_fits b.2 in
+    let both = Takes-then o (to_be_bytes w32 b.0.0) b.0.1 (flat_map spelled x.0) x.1 t.0 u.0 in
+    (subst (λ (n : ℕ). Takes o (to_be_bytes w32 n ++ flat_map spelled x.0) x.1) (sym u.1.1) both, (omega (arith, t.1, u.1.1), u.1.0))
+
 strings_takes : (o : List ℕ) (x : List (List ℕ) × List ℕ) → IsBytes o → strings_at o ≡ Some x → Takes o (strings x.0) x.1 × ((length x.0 < 2 ^ 32) × All FitsLong x.0)
 unfolding strings_at
-strings_takes o x fits e =
-    let b = bind_some (count_at o) (λ n. each_at long_string_at n.0 n.1) x e in
-    let t = count_takes o b.0 fits b.1 in
-    let u = each_takes long_string_at long_string FitsLong long_string_takes b.0.0 b.0.1 x t.0.rest_fits b.2 in
-    let both = Takes-then o (to_be_bytes w32 b.0.0) b.0.1 (flat_map long_string x.0) x.1 t.0 u.0 in
-    (subst (λ (n : ℕ). Takes o (to_be_bytes w32 n ++ flat_map long_string x.0) x.1) (sym u.1.1) both, (omega (arith, t.1, u.1.1), u.1.0))
+strings_takes o x fits e = counted_takes long_string_at long_string FitsLong long_string_takes o x fits e
 
 dictionary_takes : (o : List ℕ) (x : List (List ℕ × List ℕ) × List ℕ) → IsBytes o → dictionary_at o ≡ Some x → Takes o (dictionary x.0) x.1 × ((length x.0 < 2 ^ 32) × All FitsPair x.0)
 unfolding dictionary_at
-dictionary_takes o x fits e =
-    let b = bind_some (count_at o) (λ n. each_at pair_at n.0 n.1) x e in
-    let t = count_takes o b.0 fits b.1 in
-    let u = each_takes pair_at pair FitsPair pair_takes b.0.0 b.0.1 x t.0.rest_fits b.2 in
-    let both = Takes-then o (to_be_bytes w32 b.0.0) b.0.1 (flat_map pair x.0) x.1 t.0 u.0 in
-    (subst (λ (n : ℕ). Takes o (to_be_bytes w32 n ++ flat_map pair x.0) x.1) (sym u.1.1) both, (omega (arith, t.1, u.1.1), u.1.0))
+dictionary_takes o x fits e = counted_takes pair_at pair FitsPair pair_takes o x fits e
 
 -- ---- commands
 
@@ -175,25 +175,26 @@ hello_takes o more x fits e =
     let whole = hello_parts o a.0.1 b.0.1 c.0.1 d.0.1 f.0.1 more a.0.0 b.0.0 c.0.0 d.0.0 f.0.0 ta tb tc td tf in
     hello_is o more x (Hello a.0.0 b.0.0 c.0.0 d.0.0 f.0.0, f.0.1) f.2 (whole, refl)
 
+-- a group and a status, of which a command is made
+change_takes : (make : List ℕ → ℕ → Body) (o : List ℕ) (x : Body × List ℕ) (P : Body × List ℕ → Type 0) → IsBytes o
+    → (string_at o >>= λ group. octet_at group.1 >>= λ status. Some (make group.0 status.0, status.1)) ≡ Some x
+    → ((group : List ℕ) (status : ℕ) (rest : List ℕ) → Takes o (string group ++ (status ∷ [])) rest → FitsString group → P (make group status, rest)) → P x
+change_takes make o x P fits e made =
+    let a = bind_some (string_at o) (λ group. octet_at group.1 >>= λ status. Some (make group.0 status.0, status.1)) x e in
+    let b = bind_some (octet_at a.0.1) (λ status. Some (make a.0.0 status.0, status.1)) x a.2 in
+    let ta = string_takes o a.0 fits a.1 in
+    let tb = octet_takes a.0.1 b.0 ta.0.rest_fits b.1 in
+    subst P (some_is (make a.0.0 b.0.0, b.0.1) x b.2) (made a.0.0 b.0.0 b.0.1 (Takes-then o (string a.0.0) a.0.1 (b.0.0 ∷ []) b.0.1 ta.0 tb.0) ta.1)
+
 join_takes : (o : List ℕ) (more : List (List ℕ)) (x : Body × List ℕ) → IsBytes o → join_at o ≡ Some x → TakesBody o 4 more x × (further x.0 ≡ [])
 unfolding join_at
 join_takes o more x fits e =
-    let a = bind_some (string_at o) (λ group. octet_at group.1 >>= λ status. Some (Join group.0 status.0, status.1)) x e in
-    let b = bind_some (octet_at a.0.1) (λ status. Some (Join a.0.0 status.0, status.1)) x a.2 in
-    let ta = string_takes o a.0 fits a.1 in
-    let tb = octet_takes a.0.1 b.0 ta.0.rest_fits b.1 in
-    subst (λ (y : Body × List ℕ). TakesBody o 4 more y × (further y.0 ≡ [])) (some_is (Join a.0.0 b.0.0, b.0.1) x b.2)
-    (record { text = Takes-then o (string a.0.0) a.0.1 (b.0.0 ∷ []) b.0.1 ta.0 tb.0; fits = ta.1; number_is = refl }, refl)
+    change_takes (λ group status. Join group status) o x (λ y. TakesBody o 4 more y × (further y.0 ≡ [])) fits e (λ group status rest t is. (record { text = t; fits = is; number_is = refl }, refl))
 
 leave_takes : (o : List ℕ) (more : List (List ℕ)) (x : Body × List ℕ) → IsBytes o → leave_at o ≡ Some x → TakesBody o 5 more x × (further x.0 ≡ [])
 unfolding leave_at
 leave_takes o more x fits e =
-    let a = bind_some (string_at o) (λ group. octet_at group.1 >>= λ status. Some (Leave group.0 status.0, status.1)) x e in
-    let b = bind_some (octet_at a.0.1) (λ status. Some (Leave a.0.0 status.0, status.1)) x a.2 in
-    let ta = string_takes o a.0 fits a.1 in
-    let tb = octet_takes a.0.1 b.0 ta.0.rest_fits b.1 in
-    subst (λ (y : Body × List ℕ). TakesBody o 5 more y × (further y.0 ≡ [])) (some_is (Leave a.0.0 b.0.0, b.0.1) x b.2)
-    (record { text = Takes-then o (string a.0.0) a.0.1 (b.0.0 ∷ []) b.0.1 ta.0 tb.0; fits = ta.1; number_is = refl }, refl)
+    change_takes (λ group status. Leave group status) o x (λ y. TakesBody o 5 more y × (further y.0 ≡ [])) fits e (λ group status rest t is. (record { text = t; fits = is; number_is = refl }, refl))
 
 shout_takes : (o : List ℕ) (more : List (List ℕ)) (x : Body × List ℕ) → IsBytes o → shout_at more o ≡ Some x → TakesBody o 3 more x × (further x.0 ≡ more)
 unfolding shout_at

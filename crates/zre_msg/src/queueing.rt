@@ -3,9 +3,10 @@
 ghost use Rattle.std.specs.Prelude.{◌≡◌, ◌<◌, ℕ, List, ◌∷◌, ◌++◌, length, OnOk};
 ghost use Rattle.zre_values.specs.Framing.{frame, frames};
 ghost use Rattle.zre_msg.specs.Flags.{flag_of};
-ghost use Rattle.zre_msg.specs.Spelling.{Fits, octets};
+ghost use Rattle.zre_msg.specs.Spelling.{Fits, FitsString, octets, shout_head};
 
 use crate::message::Message;
+use crate::writing::{push_head, push_string};
 use zre_values::{Octets, OutOfMemory};
 
 // What stands before the body in a frame. `more` is 1 where another frame follows, and 0 where none does.
@@ -44,6 +45,22 @@ fn push_frames(out: &mut Octets, bodies: &[Octets]) -> Result<(), OutOfMemory>
         rest = later;
     }
     Ok(())
+}
+
+/// Appends the first frame of a SHOUT, in its shortest form. `more` tells whether frames of content follow it. After an
+/// error a front of it may stand there.
+pub fn push_shout_head(
+    out: &mut Octets,
+    sequence: u16,
+    group: &[u8],
+    more: bool,
+) -> Result<(), OutOfMemory>
+    requires { FitsString group.now }
+    ensures { OnOk result (out.new ≡ out.old ++ shout_head sequence group.now more) }
+{
+    push_size(out, more as u8, group.len() as u64 + 7)?;
+    push_head(out, 3, sequence)?;
+    push_string(out, group)
 }
 
 impl Message {

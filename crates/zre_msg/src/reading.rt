@@ -214,6 +214,7 @@ impl Message {
 
     /// The message that the frames mean, where they don't begin as HELLO does, with its fields and its content where
     /// they lie. It takes no memory; `OutOfMemory` is told of a first frame of 2^32 octets alone.
+    #[inline(always)]
     pub fn see(frames: &Frames) -> Result<Option<LentMessage<'_>>, ReadFault>
         ensures { Sees result frames.now }
     {

@@ -18,7 +18,7 @@ fn push_count(out: &mut Octets, n: usize) -> Result<(), OutOfMemory>
     out.append(&(n as u32).to_be_bytes())
 }
 
-fn push_string(out: &mut Octets, octets: &[u8]) -> Result<(), OutOfMemory>
+pub(crate) fn push_string(out: &mut Octets, octets: &[u8]) -> Result<(), OutOfMemory>
     requires { FitsString octets.now }
     ensures { OnOk result (out.new ≡ out.old ++ string octets.now) }
 {
@@ -103,6 +103,15 @@ impl Body {
     }
 }
 
+// What each first frame begins with.
+#[inline]
+pub(crate) fn push_head(out: &mut Octets, number: u8, sequence: u16) -> Result<(), OutOfMemory>
+    ensures { OnOk result (out.new ≡ out.old ++ head number sequence) }
+{
+    out.append(&[0xaa, 0xa1, number, 2])?;
+    out.append(&sequence.to_be_bytes())
+}
+
 fn push_fields(out: &mut Octets, body: &Body) -> Result<(), OutOfMemory>
     requires { FitsBody body.now }
     ensures { OnOk result (out.new ≡ out.old ++ fields body.now) }
@@ -135,8 +144,7 @@ impl Message {
         requires { Fits self.now }
         ensures { OnOk result (out.new ≡ out.old ++ first_frame self.now) }
     {
-        out.append(&[0xaa, 0xa1, self.body.number(), 2])?;
-        out.append(&self.sequence.to_be_bytes())?;
+        push_head(out, self.body.number(), self.sequence)?;
         push_fields(out, &self.body)
     }
 

@@ -10,7 +10,8 @@ use Rattle.zre_net.specs.Comes.{with_move, history_after, history}
 use Rattle.zre_net.specs.Grammar.{may_come, has_room, is_good}
 use Rattle.zre_net.specs.History.{Happening}
 use Rattle.zre_net.proofs.Agreeing.{all_agree}
-use Rattle.zre_net.proofs.Carrying.{Carries, MayStart, begins, step}
+use Rattle.zre_net.proofs.Carrying.{Carries, MayStart}
+use Rattle.zre_net.proofs.Moving.{begins, step}
 
 carries_after : (line : ℕ) (ms : List Move) (H : List Happening) → Carries H → AllByRecursion MayStart ms → bad_move_after line ms H ≡ None → Carries (history_after ms H)
 carries_after line [] H s f good = s

@@ -1,5 +1,5 @@
 -- Nodes agree: what one has counted of another is the beginning of what that one queued, and what it shows is what that one was.
-use Rattle.std.proofs.Common.{◌≡◌, ◌⊎◌, ℕ, zero, suc, ◌+◌, ◌-◌, ◌≤◌, ◌<◌, Bool, true, false, cond, eqb, List, [], ◌∷◌, ◌++◌, length, map, take, Option, Some, None, is_some, refl, sym, ap, ◌∙◌, subst, inl, inr, arith, eqb-true, eq-eqb, true≢false, append_assoc, append-nil, length-append}
+use Rattle.std.proofs.Common.{◌≡◌, ℕ, zero, suc, ◌-◌, ◌≤◌, Bool, true, false, cond, eqb, List, [], ◌∷◌, ◌++◌, length, map, take, Option, Some, None, is_some, refl, sym, ap, ◌∙◌, subst, arith, eqb-true, true≢false, length-append}
 use Rattle.std.specs.Prelude.{slice_get, bytes_eq}
 use Rattle.std.specs.Option.{option_map_or}
 use Rattle.std.specs.List.{filter_map, cons_option, AllByRecursion}
@@ -11,38 +11,33 @@ use Rattle.zre_msg.specs.Spelling.{octets}
 use Rattle.zre_mailbox.specs.declared.arrival.Arrival.{Arrival}
 use Rattle.zre_mailbox.specs.declared.arrival.Arrival.TheVariants as arrival
 use Rattle.zre_mailbox.specs.Conn.{identity_in}
-use Rattle.zre_mailbox.specs.Talk.{Said, Arrived, arrivals, fault_in, fault_said, talk}
-use Rattle.zre_net.specs.Utterances.{Utterance, Greeting, Ready, Says, stream, said_by, messages, IsReadable, IsHearable, up_to_greeting, heard_after, heard as heard_of}
+use Rattle.zre_mailbox.specs.Talk.{Arrived, arrivals, fault_in, fault_said, talk}
+use Rattle.zre_mailbox.specs.Utterances.{Utterance, Greeting, Ready, Says, stream, said_by, messages, IsReadable, IsHearable, up_to_greeting, heard as heard_of}
 use Rattle.zre_mailbox.proofs.Growing.{goes, nothing_said}
 use Rattle.zre_mailbox.proofs.Hearing.{identity_kept}
-use Rattle.zre_net.proofs.Utterances.{are_heard}
+use Rattle.zre_mailbox.proofs.Utterances.{are_heard}
 use Rattle.zre_peer.specs.Ledger.{IsNumbered, IsPicked, ArePicked}
 use Rattle.zre_peer.specs.Runs.{told}
 use Rattle.zre_peer.specs.Views.{view_of}
 use Rattle.zre_journal.specs.declared.config.Config.{Config}
 use Rattle.zre_journal.specs.Chronicle.{Mark}
-use Rattle.zre_journal.specs.Config.{CanBe}
-use Rattle.zre_journal.specs.Connections.{open_ones, identity, started, has_ended, runs}
-use Rattle.zre_journal.specs.Events.{chronicle, events}
+use Rattle.zre_journal.specs.Connections.{open_ones, started, has_ended, runs}
+use Rattle.zre_journal.specs.Events.{events}
 use Rattle.zre_journal.specs.Heard.{bytes, was_opened}
-use Rattle.zre_journal.specs.Hearing.{message_in, heard, heard_on}
+use Rattle.zre_journal.specs.Hearing.{heard, heard_on}
 use Rattle.zre_journal.specs.Laws.{message_on, counted_on}
 use Rattle.zre_journal.specs.Ledger.{Ledger, IsDrawn, KeepsLedger}
-use Rattle.zre_journal.specs.Peers.{Life, life, runner, counted, message_at, view}
+use Rattle.zre_journal.specs.Peers.{Life, life, runner, counted, message_at}
 use Rattle.zre_journal.specs.Proper.{IsProper}
-use Rattle.zre_net.specs.Speaking.{moment, SpokeTruly}
-use Rattle.zre_journal.specs.Spoken.{run_of}
-use Rattle.zre_net.specs.Speaking.{told_in}
-use Rattle.zre_journal.specs.Truth.{own_view}
-use Rattle.zre_net.proofs.Identities.{is_introduced}
+use Rattle.zre_journal.proofs.Identities.{is_introduced}
 use Rattle.zre_journal.proofs.Keeping.{keeps}
-use Rattle.zre_journal.proofs.Lawful.{IsTold, told_more}
+use Rattle.zre_journal.proofs.Lawful.{IsTold, none_told, told_more}
+use Rattle.zre_journal.proofs.Ledgers.{front_picked}
 use Rattle.zre_journal.proofs.Listed.{any_has}
-use Rattle.zre_net.proofs.Moments.{at_moments, each_grows, still_opened, still_identified}
-use Rattle.zre_net.proofs.Passing.{ArePassed, passed_more, none_passed}
+use Rattle.zre_journal.proofs.Moments.{at_moments, each_grows, still_opened, still_identified}
+use Rattle.zre_journal.proofs.Passing.{ArePassed, passed_more, none_passed}
 use Rattle.zre_journal.proofs.Silent.{has_started, run_is}
-use Rattle.zre_journal.proofs.Steps.{May}
-use Rattle.zre_net.proofs.Truly.{spoke_truly, are_readable}
+use Rattle.zre_journal.proofs.Truly.{spoke_truly, are_readable}
 use Rattle.zre_journal.proofs.Windows.{keeps_ledgers}
 use Rattle.zre_net.specs.declared.moves.Part.{Part}
 use Rattle.zre_net.specs.declared.moves.Part.TheVariants as part
@@ -52,18 +47,9 @@ use Rattle.zre_net.specs.Grammar.{can_carry}
 use Rattle.zre_net.specs.History.{Incarnation, Happening, IsKnown, journal, chronicle_of}
 use Rattle.zre_net.specs.Lists.{nth}
 use Rattle.zre_net.specs.Numbers.{Route, Conn, conns, queued_on}
-use Rattle.zre_net.proofs.Carrying.{streamed, IsCarried, Carries}
+use Rattle.zre_net.proofs.Carrying.{streamed, Carries}
 use Rattle.zre_net.proofs.Journals.{same_who}
-use Rattle.zre_net.proofs.Listing.{some_one, nth_first, all_at}
-
-none_told : IsTold []
-none_told = record { ordered = λ c. refl; unbegun = λ c e. refl; begun = λ c l e. cc; whose = λ c l r. cc; same = λ c l r. cc }
-
--- the first of what came is picked where all of it is
-front_picked : (sent : List Message) (picks : List ℕ) (ms rest : List Message) → ArePicked sent picks (ms ++ rest) → ArePicked sent picks ms
-front_picked sent picks [] rest p = tt
-front_picked sent [] (m ∷ ms) rest p = absurd p
-front_picked sent (pick ∷ picks) (m ∷ ms) rest p = (p.0, front_picked sent picks ms rest p.1)
+use Rattle.zre_net.proofs.Listing.{some_one, all_at}
 
 -- ---- lists
 

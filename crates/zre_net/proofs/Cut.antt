@@ -26,12 +26,12 @@ use Rattle.zre_journal.proofs.Cutting.{same_cut}
 use Rattle.zre_net.proofs.Same.{Sim, by_marks, same_runs, same_ignored, latest_but, each_but, ever_but, lives_but, births_but, open_but, new_but, groups_but, status_but, taken_but, sim}
 use Rattle.zre_node.specs.Journal.{StandsIn, StandsFor}
 use Rattle.zre_node.specs.Stands.{Holds, Rests, IsKept, IsPeer, IsConn, kept_conn, heard_by, link_of_life}
-use Rattle.zre_node.specs.declared.connection.Connection.{Connection}
+use Rattle.zre_tables.specs.declared.connection.Connection.{Connection}
 use Rattle.zre_node.specs.declared.node.Node.{Node}
-use Rattle.zre_node.specs.declared.peer.Peer.{Peer}
+use Rattle.zre_tables.specs.declared.peer.Peer.{Peer}
 use Rattle.zre_node.specs.declared.tables.Tables.{Tables}
-use Rattle.zre_node.specs.Tabled.{Tabled}
-use Rattle.zre_node.proofs.Entries.{retold}
+use Rattle.zre_tables.specs.Tabled.{Tabled}
+use Rattle.zre_tables.proofs.Entries.{retold}
 
 -- ---- the tables of a node hold in either
 
@@ -80,11 +80,11 @@ module _ (g : Config) (K L : List Mark) (s : Sim K L) (octets : (c : ℕ) → by
       groups_fit = subst (λ gs. AllByRecursion (λ (group : List ℕ). length group ≤ 255) gs) (by_marks K L s.alike groups groups_but) h.keeps.groups_fit;
       own = h.keeps.own ∙ ap (λ gs. record { groups = gs; status = status K }) (by_marks K L s.alike groups groups_but)
           ∙ ap (λ n. record { groups = groups L; status = n }) (by_marks K L s.alike status status_but);
-      conns = subst (λ cs. Tabled (λ (c : ℕ). c) (IsConn g L) cs t.conns.entries) (by_marks K L s.alike open_ones open_but)
-          (retold (λ (c : ℕ). c) (IsConn g K) (IsConn g L) (λ c k e. e ∙ same_conn c) (open_ones K) t.conns.entries h.keeps.conns);
+      conns = subst (λ cs. Tabled (λ (c : ℕ). c) (IsConn g L) cs t.conns) (by_marks K L s.alike open_ones open_but)
+          (retold (λ (c : ℕ). c) (IsConn g K) (IsConn g L) (λ c k e. e ∙ same_conn c) (open_ones K) t.conns h.keeps.conns);
     };
-    peers = subst (λ vs. Tabled (λ (v : Life). v.link) (IsPeer g L) vs t.peers.entries) (by_marks K L s.alike lives lives_but)
-        (retold (λ (v : Life). v.link) (IsPeer g K) (IsPeer g L) same_peer (lives K) t.peers.entries h.peers);
+    peers = subst (λ vs. Tabled (λ (v : Life). v.link) (IsPeer g L) vs t.peers) (by_marks K L s.alike lives lives_but)
+        (retold (λ (v : Life). v.link) (IsPeer g K) (IsPeer g L) same_peer (lives K) t.peers h.peers);
   }
 
   rests : (t : Tables) → Rests g K t → Rests g L t

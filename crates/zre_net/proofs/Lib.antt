@@ -11,16 +11,14 @@ mod Fate
 pub mod Fielded
 mod Grows
 mod Hearing
-mod Identities
 mod Journals
 mod Lines
 mod Listing
 pub mod Long
 mod Looking
-mod Moments
+mod Moving
 mod Opened
 mod Opening
-mod Passing
 mod Pending
 mod Piecing
 mod Plays
@@ -29,11 +27,8 @@ mod Quiet
 mod Rooms
 mod Runs
 mod Same
-mod Sendable
 mod Sending
 mod Sent
-mod Speaking
+mod Short
 mod Starting
 mod Stepping
-mod Truly
-mod Utterances

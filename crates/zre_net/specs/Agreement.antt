@@ -1,17 +1,16 @@
 -- Network agreement: what a node shows of another is what that one was, by its own account, as it queued the last
 -- message that was processed.
-use Rattle.std.specs.Prelude.{◌≡◌, ℕ, ◌≤◌, List, [], ◌∷◌, ◌++◌, Option, Some, None, if◌then◌else◌, nat_eq, length, take}
+use Rattle.std.specs.Prelude.{◌≡◌, ℕ, ◌≤◌, List, [], ◌++◌, Option, Some, None, if◌then◌else◌, nat_eq, length, take}
 use Rattle.std.specs.Option.{option_map_or}
-use Rattle.std.specs.List.{filter_map}
-use Rattle.zre_msg.specs.declared.message.Message.{Message}
+use Rattle.std.specs.List.{filter_map, AllByRecursion}
 use Rattle.zre_peer.specs.Runs.{told}
 use Rattle.zre_journal.specs.Chronicle.{Mark}
 use Rattle.zre_journal.specs.Connections.{runs}
 use Rattle.zre_journal.specs.Ledger.{Ledger, IsNearWhereItComes}
 use Rattle.zre_journal.specs.Peers.{Life, life, counted, view}
-use Rattle.zre_net.specs.Speaking.{moment}
+use Rattle.zre_journal.specs.Speaking.{moment}
 use Rattle.zre_journal.specs.Spoken.{run_of}
-use Rattle.zre_net.specs.Speaking.{told_in}
+use Rattle.zre_journal.specs.Told.{told_in}
 use Rattle.zre_journal.specs.Truth.{own_view}
 use Rattle.zre_net.specs.declared.moves.Move.{Move}
 use Rattle.zre_net.specs.declared.moves.Move.TheVariants as move
@@ -49,6 +48,11 @@ ledger_of H = record {
 abbrev pub IsWithinWindow : List Happening → Type 0
 IsWithinWindow H = (b : Incarnation) → IsKnown H b → IsNearWhereItComes b.settings (ledger_of H) (journal b H)
 
+-- each connection is made to carry at most 65535 messages, and none past the 65535th of its link
+abbrev pub CarryFew : List Happening → Type 0
+CarryFew H =
+    (x : ℕ) → (length ((ledger_of H).picks x) ≤ 65535) × AllByRecursion (λ k. k ≤ 65535) ((ledger_of H).picks x)
+
 -- ---- agreement
 
 -- at the moment K of the node b, its connection x runs the peer v
@@ -82,4 +86,5 @@ AllAgree H = (b : Incarnation) (x : ℕ) (K : List Mark) (v : Life) → IsShown 
 
 -- Nodes agree: after each part of the schedule that is within the window.
 abbrev pub IsAgreed : List Move → Type 0
-IsAgreed s = (before later : List Move) → s ≡ before ++ later → IsWithinWindow (history before) → AllAgree (history before)
+IsAgreed s =
+    (before later : List Move) → s ≡ before ++ later → IsWithinWindow (history before) → AllAgree (history before)

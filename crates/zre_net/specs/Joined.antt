@@ -11,7 +11,7 @@ use Rattle.zre_net.specs.Answer.{bad_move}
 use Rattle.zre_net.specs.Comes.{history}
 use Rattle.zre_net.specs.Example.{first_id, second_id}
 use Rattle.zre_net.specs.History.{Incarnation, IsKnown, chronicle_of, settings_of}
-use Rattle.zre_net.specs.Speaking.{moment}
+use Rattle.zre_journal.specs.Speaking.{moment}
 
 abbrev pub joined_first : List Move
 joined_first =

@@ -17,5 +17,3 @@ pub mod Running
 pub mod Said
 pub mod Sender
 pub mod Sending
-pub mod Speaking
-pub mod Utterances

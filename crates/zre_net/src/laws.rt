@@ -7,7 +7,7 @@ ghost use Rattle.zre_journal.specs.declared.config.Config.{Config};
 ghost use Rattle.zre_journal.specs.Cutting.{piece};
 ghost use Rattle.zre_node.specs.declared.node.Node.{Node};
 ghost use Rattle.zre_node.specs.Journal.{StandsFor};
-ghost use Rattle.zre_net.specs.Agreement.{IsAgreed};
+ghost use Rattle.zre_net.specs.Agreement.{CarryFew, IsWithinWindow, IsAgreed};
 ghost use Rattle.zre_net.specs.Answer.{bad_move};
 ghost use Rattle.zre_net.specs.Example.{IsExample};
 ghost use Rattle.zre_net.specs.History.{Happening};
@@ -52,6 +52,12 @@ pub fn a_cut_piece_is_a_whole_one()
 /// what that one was, by its own account, as it queued the last message that was processed.
 pub fn nodes_agree()
     ensures { (lines : List (List ℕ)) → bad_move (moves_of lines) ≡ None → IsAgreed (moves_of lines) }
+{}
+
+/// A schedule in which no connection carries more than 65,535 messages, nor one past the 65,535th of its link, is within
+/// the window.
+pub fn few_messages_are_within_the_window()
+    ensures { (H : List Happening) → CarryFew H → IsWithinWindow H }
 {}
 
 /// Two nodes that agree, at a moment at which the one is in another group than as it spoke.

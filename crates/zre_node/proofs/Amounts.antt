@@ -23,14 +23,14 @@ use Rattle.zre_journal.specs.Happens.{has_stopped}
 use Rattle.zre_journal.specs.Config.{CanBe}
 use Rattle.zre_journal.proofs.Known.{each_known}
 use Rattle.zre_journal.proofs.Listed.{All-map}
-use Rattle.zre_node.specs.declared.connection.Connection.{Connection}
-use Rattle.zre_node.specs.declared.peer.Peer.{Peer}
+use Rattle.zre_tables.specs.declared.connection.Connection.{Connection}
+use Rattle.zre_tables.specs.declared.peer.Peer.{Peer}
 use Rattle.zre_node.specs.declared.tables.Tables.{Tables}
-use Rattle.zre_node.specs.Asked.{view_of_row}
-use Rattle.zre_node.specs.Holding.{capped, reader_octets, conn_row_octets, IsReading, shown_octets, peer_row_octets, IsSending}
+use Rattle.zre_tables.specs.Views.{view_of_row}
+use Rattle.zre_tables.specs.Holding.{capped, reader_octets, conn_row_octets, IsReading, shown_octets, peer_row_octets, IsSending}
 use Rattle.zre_node.specs.Journal.{StandsIn}
 use Rattle.zre_node.specs.Stands.{IsConn, IsPeer, heard_by}
-use Rattle.zre_node.specs.Tabled.{Tabled}
+use Rattle.zre_tables.specs.Tabled.{Tabled}
 use Rattle.zre_node.proofs.Asking.{rows, its_view}
 
 -- ---- the tables of a node that goes on, and of one that rests
@@ -56,10 +56,10 @@ own_is g H t s = by (has_stopped H) refl
     by true z = (s.resting z).own
     by false z = (s.going z).keeps.own
 
-conn_rows : (g : Config) (H : List Mark) (t : Tables) → StandsIn g H t → Tabled (λ (c : ℕ). c) (IsConn g H) (open_ones H) t.conns.entries
+conn_rows : (g : Config) (H : List Mark) (t : Tables) → StandsIn g H t → Tabled (λ (c : ℕ). c) (IsConn g H) (open_ones H) t.conns
 conn_rows g H t s = by (has_stopped H) refl
   where
-    by : (b : Bool) → has_stopped H ≡ b → Tabled (λ (c : ℕ). c) (IsConn g H) (open_ones H) t.conns.entries
+    by : (b : Bool) → has_stopped H ≡ b → Tabled (λ (c : ℕ). c) (IsConn g H) (open_ones H) t.conns
     by true z = let r = s.resting z in rw (r.none_open, r.no_conns) tt
     by false z = (s.going z).keeps.conns
 
@@ -181,21 +181,21 @@ module _ (g : Config) (H : List Mark) where
   -- ---- all of them
 
   module _ (t : Tables) (s : StandsIn g H t) where
-    pub all_read : AllByRecursion (λ (e : ℕ × Connection). IsReading e.1.conn) t.conns.entries
-    all_read = conns_read g H (open_ones H) t.conns.entries (conn_rows g H t s)
+    pub all_read : AllByRecursion (λ (e : ℕ × Connection). IsReading e.1.conn) t.conns
+    all_read = conns_read g H (open_ones H) t.conns (conn_rows g H t s)
 
-    pub all_send : AllByRecursion (λ (e : ℕ × Peer). IsSending e.1) t.peers.entries
-    all_send = peers_send g H (lives H) t.peers.entries (rows g H t s)
+    pub all_send : AllByRecursion (λ (e : ℕ × Peer). IsSending e.1) t.peers
+    all_send = peers_send g H (lives H) t.peers (rows g H t s)
 
     pub all_held : ((c : ℕ) → is_live c H ≡ true → fault_in g.id (bytes c H) ≡ None) → ((l : ℕ) → IsSome (life l H) → reply_fault (replies l H) ≡ None)
-        → sum_by (λ (e : ℕ × Connection). conn_row_octets e.1) t.conns.entries + sum_by (λ (e : ℕ × Peer). peer_row_octets e.1) t.peers.entries
+        → sum_by (λ (e : ℕ × Connection). conn_row_octets e.1) t.conns + sum_by (λ (e : ℕ × Peer). peer_row_octets e.1) t.peers
         + (length t.config.name + header_octets t.config.headers + sum_by length t.own.groups) ≡ held g H
     all_held talks answers =
-        let conns = conns_are g H (open_ones H) t.conns.entries (each_open g H (open_ones H)) talks (conn_rows g H t s) in
-        let peers = peers_are (lives H) t.peers.entries (each_known H) answers (rows g H t s) in
+        let conns = conns_are g H (open_ones H) t.conns (each_open g H (open_ones H)) talks (conn_rows g H t s) in
+        let peers = peers_are (lives H) t.peers (each_known H) answers (rows g H t s) in
         let own : length t.config.name + header_octets t.config.headers + sum_by length t.own.groups ≡ own_octets g H =
         ap (λ (c : Config). length c.name + header_octets c.headers + sum_by length t.own.groups) (config_is g H t s) ∙ ap (λ n. length g.name + header_octets g.headers + n) (ap (λ o. sum_by length o.groups) (own_is g H t s)) in
-        ap (λ n. n + sum_by (λ (e : ℕ × Peer). peer_row_octets e.1) t.peers.entries + (length t.config.name + header_octets t.config.headers + sum_by length t.own.groups)) conns
+        ap (λ n. n + sum_by (λ (e : ℕ × Peer). peer_row_octets e.1) t.peers + (length t.config.name + header_octets t.config.headers + sum_by length t.own.groups)) conns
         ∙ ap (λ n. sum_by (conn_octets g H) (filter (λ c. is_live c H) (open_ones H)) + n + (length t.config.name + header_octets t.config.headers + sum_by length t.own.groups)) peers
         ∙ ap (λ n. sum_by (conn_octets g H) (filter (λ c. is_live c H) (open_ones H)) + sum_by (peer_octets g H) (lives H) + n) own
 

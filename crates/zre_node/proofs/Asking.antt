@@ -4,24 +4,25 @@ use Rattle.zre_values.specs.declared.peer_id.PeerId.{PeerId}
 use Rattle.zre_msg.specs.declared.message.Message.{Message}
 use Rattle.zre_peer.specs.Runs.{shown}
 use Rattle.zre_peer.specs.Views.{view_of}
-use Rattle.zre_journal.specs.Asked.{view_if_entered, HasFront}
+use Rattle.zre_journal.specs.Asked.{view_if_entered}
 use Rattle.zre_journal.specs.declared.config.Config.{Config}
 use Rattle.zre_journal.specs.Chronicle.{Mark}
 use Rattle.zre_journal.specs.Happens.{has_stopped}
 use Rattle.zre_journal.specs.Peers.{Life, lives, runner, counted, is_entered}
 use Rattle.zre_journal.proofs.Entered.{unheard_idle}
-use Rattle.zre_node.specs.Asked.{view_of_row, view_among, ids_entered}
-use Rattle.zre_node.specs.declared.peer.Peer.{Peer}
+use Rattle.zre_tables.specs.Views.{view_of_row, view_among, ids_entered}
+use Rattle.zre_tables.specs.declared.peer.Peer.{Peer}
 use Rattle.zre_node.specs.declared.tables.Tables.{Tables}
 use Rattle.zre_node.specs.Journal.{StandsIn}
-use Rattle.zre_node.specs.Tabled.{Tabled}
-use Rattle.zre_node.specs.Stands.{IsPeer, HasRun}
+use Rattle.zre_tables.specs.Tabled.{Tabled}
+use Rattle.zre_tables.specs.Runs.{HasRun}
+use Rattle.zre_node.specs.Stands.{IsPeer}
 
 -- the rows are those of the known peers
-pub rows : (g : Config) (H : List Mark) (t : Tables) → StandsIn g H t → Tabled (λ (v : Life). v.link) (IsPeer g H) (lives H) t.peers.entries
+pub rows : (g : Config) (H : List Mark) (t : Tables) → StandsIn g H t → Tabled (λ (v : Life). v.link) (IsPeer g H) (lives H) t.peers
 rows g H t s = by (has_stopped H) refl
   where
-    by : (b : Bool) → has_stopped H ≡ b → Tabled (λ (v : Life). v.link) (IsPeer g H) (lives H) t.peers.entries
+    by : (b : Bool) → has_stopped H ≡ b → Tabled (λ (v : Life). v.link) (IsPeer g H) (lives H) t.peers
     by true z = let r = s.resting z in rw (r.none_known, r.no_peers) tt
     by false z = (s.going z).peers
 
@@ -68,16 +69,3 @@ all_entered g H (v ∷ vs) (e ∷ es) t = rw (t.1.id_is, has_run g H v e.1 t.1) 
         → cond b (v.id ∷ ids_entered es) (ids_entered es) ≡ map (λ (u : Life). u.id) (cond b (v ∷ filter (is_entered H) vs) (filter (is_entered H) vs))
     by r true = ap (λ (ids : List PeerId). v.id ∷ ids) r
     by r false = r
-
--- one row more, entered or not
-pub one_entered : (k : Peer) (l : ℕ) (es : List (ℕ × Peer)) (ids ids' all : List PeerId) → is_some k.run ≡ true → ids' ≡ ids ++ k.id ∷ [] → ids ++ ids_entered ((l, k) ∷ es) ≡ all → ids' ++ ids_entered es ≡ all
-one_entered k l es ids ids' all b p e =
-    let whole : ids ++ k.id ∷ ids_entered es ≡ all = rw b at e in
-    rw p (append_assoc ids (k.id ∷ []) (ids_entered es) ∙ whole)
-
-pub none_entered : (k : Peer) (l : ℕ) (es : List (ℕ × Peer)) (ids all : List PeerId) → is_some k.run ≡ false → ids ++ ids_entered ((l, k) ∷ es) ≡ all → ids ++ ids_entered es ≡ all
-none_entered k l es ids all b e = rw b at e
-
--- all that may go out is some of it
-pub whole_front : (whole part : List ℕ) → part ≡ whole → HasFront (Some whole) (Some part)
-whole_front whole part e = (part, refl, record { rest = []; begins = sym e ∙ sym (append-nil part); some = λ n z. n (sym e ∙ z) })

@@ -1,7 +1,7 @@
 -- A birth and a beacon, at the tables.
 use Rattle.std.proofs.Common.{◌≡◌, ℕ, ◌+◌, ◌<◌, ◌≤◌, true, false, eqb, List, [], ◌∷◌, ◌++◌, Some, None, refl, sym, ap, ◌∙◌, nat_cmp, subst, arith, ne_eqb, eq-eqb, eqb-true, append-nil}
 use Rattle.std.specs.List.{AllByRecursion, list_any}
-use Rattle.std.specs.BTreeMap.{BTreeMap, is_at, insert_entry}
+use Rattle.std.specs.BTreeMap.{is_at, insert_entry}
 use Rattle.std.specs.Map.{lookup, set_value}
 use Rattle.zre_values.specs.declared.peer_id.PeerId.{PeerId}
 use Rattle.zre_values.specs.declared.endpoint.Endpoint.{Endpoint}
@@ -15,13 +15,13 @@ use Rattle.zre_journal.specs.Peers.{Life, lives, births, counted}
 use Rattle.zre_journal.specs.Pushes.{hello, birth}
 use Rattle.zre_journal.proofs.Kept.{born, newborn, born-proper, HearsBeacon-proper}
 use Rattle.zre_journal.proofs.Listed.{eqb-comm, found_passes}
-use Rattle.zre_node.specs.declared.peer.Peer.{Peer}
+use Rattle.zre_tables.specs.declared.peer.Peer.{Peer}
 use Rattle.zre_node.specs.declared.tables.Tables.{Tables}
 use Rattle.zre_node.specs.declared.effects.Effects.{Effects}
-use Rattle.zre_node.specs.Tabled.{Tabled}
+use Rattle.zre_tables.specs.Tabled.{Tabled}
 use Rattle.zre_node.specs.Stands.{Holds, Did, IsPeer}
 use Rattle.std.proofs.lemmas.List.Folds.{list_any-append}
-use Rattle.zre_node.proofs.Entries.{inserted, changed}
+use Rattle.zre_tables.proofs.Entries.{inserted, changed}
 use Rattle.zre_node.proofs.Parting.{its_row}
 use Rattle.zre_node.proofs.Keeping.{keeps_as}
 
@@ -38,12 +38,12 @@ module _ (g : Config) (H : List Mark) (t : Tables) (h : Holds g H t) (p : PeerId
       let silent : counted (births H + 1) H ≡ [] = h.keeps.proper.running.is_silent (births H + 1) u.no_run in
       rw (me, u.no_run, u.no_member, u.not_linked, u.no_reply, u.none_taken, silent) record { id_is = id; active_is = now; run_is = run; link_is = link }
 
-  pub is_born : (k : Peer) (P : BTreeMap ℕ Peer) → k.id ≡ p → k.active ≡ clock H → k.run ≡ None → k.link ≡ link_after g.id (Says (hello g H) ∷ []) false [] 0
-      → P.entries ≡ insert_entry nat_cmp t.peers.entries (births H + 1) k → Holds g (born p e (hello g H) H) (record t { births = births H + 1; peers = P })
+  pub is_born : (k : Peer) (P : List (ℕ × Peer)) → k.id ≡ p → k.active ≡ clock H → k.run ≡ None → k.link ≡ link_after g.id (Says (hello g H) ∷ []) false [] 0
+      → P ≡ insert_entry nat_cmp t.peers (births H + 1) k → Holds g (born p e (hello g H) H) (record t { births = births H + 1; peers = P })
   is_born k P id now run link put = record {
     keeps = keeps_as g H _ _ _ h.keeps (born-proper H h.keeps.proper p e (hello g H)) refl (refl, refl, refl) h.keeps.clock_is refl h.keeps.last_is h.keeps.groups_fit h.keeps.own h.keeps.conns;
     peers = subst (λ es. Tabled (λ (v : Life). v.link) (IsPeer g (born p e (hello g H) H)) (lives H ++ newborn (births H + 1) p e ∷ []) es) (sym put)
-        (inserted (λ (v : Life). v.link) (IsPeer g H) (IsPeer g (born p e (hello g H) H)) (newborn (births H + 1) p e) k (lives H) t.peers.entries
+        (inserted (λ (v : Life). v.link) (IsPeer g H) (IsPeer g (born p e (hello g H) H)) (newborn (births H + 1) p e) k (lives H) t.peers
         (below (lives H) h.keeps.proper.living.numbered) others (fresh k id now run link) h.peers);
   }
     where
@@ -64,15 +64,15 @@ module _ (g : Config) (H : List Mark) (t : Tables) (h : Holds g H t) (p : PeerId
 -- ---- a beacon
 
 module _ (g : Config) (H : List Mark) (t : Tables) (h : Holds g H t) (l : ℕ) where
-  pub renewed : (k : Peer) (P : BTreeMap ℕ Peer) → Some k ≡ lookup (is_at (nat_cmp l)) t.peers.entries → P.entries ≡ set_value (is_at (nat_cmp l)) t.peers.entries (record k { active = t.clock })
+  pub renewed : (k : Peer) (P : List (ℕ × Peer)) → Some k ≡ lookup (is_at (nat_cmp l)) t.peers → P ≡ set_value (is_at (nat_cmp l)) t.peers (record k { active = t.clock })
       → Holds g (HearsBeacon l ∷ H) (record t { peers = P })
   renewed k P was put =
-      let r = its_row (IsPeer g H) H t.peers.entries h.peers l k was in
+      let r = its_row (IsPeer g H) H t.peers h.peers l k was in
       record {
         keeps = keeps_as g H _ _ _ h.keeps (HearsBeacon-proper H h.keeps.proper l) refl (refl, refl, refl) h.keeps.clock_is h.keeps.births_is h.keeps.last_is h.keeps.groups_fit h.keeps.own h.keeps.conns;
         peers = subst (λ es. Tabled (λ (v : Life). v.link) (IsPeer g (HearsBeacon l ∷ H)) (lives H) es) (sym put)
             (changed (λ (v : Life). v.link) (IsPeer g H) (IsPeer g (HearsBeacon l ∷ H)) l (record k { active = t.clock })
-            (λ v w far is. let off : eqb v.link l ≡ false = eqb-comm v.link l ∙ far in rw off is) (lives H) t.peers.entries h.keeps.proper.living.apart
+            (λ v w far is. let off : eqb v.link l ≡ false = eqb-comm v.link l ∙ far in rw off is) (lives H) t.peers h.keeps.proper.living.apart
             (λ v f. let same : v ≡ r.0 = (let z : Some v ≡ Some r.0 = sym f ∙ r.1 in cc) in
             let me : eqb v.link l ≡ true = eq-eqb v.link l (sym (eqb-true l v.link (found_passes (λ (u : Life). eqb l u.link) (lives H) v f))) in
             let is = subst (λ u. IsPeer g H u k) (sym same) r.2 in

@@ -17,15 +17,16 @@ use Rattle.zre_journal.specs.Pushes.{push, push_all}
 use Rattle.zre_journal.proofs.Joined.{after-append}
 use Rattle.zre_journal.proofs.Known.{each_known}
 use Rattle.zre_journal.proofs.Listed.{All-kept, Apart-kept}
-use Rattle.zre_node.specs.declared.peer.Peer.{Peer}
+use Rattle.zre_tables.specs.declared.peer.Peer.{Peer}
 use Rattle.zre_node.specs.declared.tables.Tables.{Tables}
-use Rattle.zre_node.specs.Groups.{lists_group, row_in}
-use Rattle.zre_node.specs.Ticks.{numbers_of}
-use Rattle.zre_node.specs.Stands.{Holds, AreKnown, HasRun, IsPeer}
+use Rattle.zre_tables.specs.Views.{lists_group, row_in}
+use Rattle.zre_tables.specs.Rows.{numbers_of}
+use Rattle.zre_tables.specs.Runs.{HasRun}
+use Rattle.zre_node.specs.Stands.{Holds, AreKnown, IsPeer}
 use Rattle.zre_node.proofs.Many.{still_known}
 use Rattle.zre_node.proofs.Pushing.{Alike, alike_after, same_push}
 use Rattle.zre_node.proofs.Stopping.{link_list, known_from}
-use Rattle.zre_node.proofs.Ticking.{numbers_are}
+use Rattle.zre_tables.proofs.Finding.{numbers_are}
 
 -- ---- each of the peers is known when its turn comes
 
@@ -83,9 +84,9 @@ in_row : (o : Option ℕ) (id : PeerId) (ms : List Message) (k : Peer) (group : 
 in_row None id ms k group h = rw h refl
 in_row (Some c) id ms k group h = rw (h.1, h.2.stands.view) (shows group ms)
 
-pub members_are : (g : Config) (K : List Mark) (t : Tables) → Holds g K t → (group : List ℕ) → numbers_of (row_in group) t.peers.entries ≡ link_list (filter (is_member g group K) (lives K))
+pub members_are : (g : Config) (K : List Mark) (t : Tables) → Holds g K t → (group : List ℕ) → numbers_of (row_in group) t.peers ≡ link_list (filter (is_member g group K) (lives K))
 members_are g K t h group =
-    numbers_are (λ (v : Life). v.link) (IsPeer g K) (row_in group) (is_member g group K) (λ v k is. in_row (runner v.link K) v.id (counted v.link K) k group is.run_is) (lives K) t.peers.entries h.peers
+    numbers_are (λ (v : Life). v.link) (IsPeer g K) (row_in group) (is_member g group K) (λ v k is. in_row (runner v.link K) v.id (counted v.link K) k group is.run_is) (lives K) t.peers h.peers
 
 -- some of the known peers are known
 pub some_known : (g : Config) (K : List Mark) (t : Tables) → Holds g K t → (p : Life → Bool) → AreKnown K (link_list (filter p (lives K)))

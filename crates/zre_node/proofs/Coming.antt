@@ -1,8 +1,10 @@
 -- An entry comes: the clock goes on, and a piece is read.
-use Rattle.std.proofs.Common.{◌≡◌, ℕ, Bool, true, false, ◌||◌, eqb, if◌then◌else◌, max, List, [], ◌∷◌, ◌++◌, length, drop, Some, None, Result, Ok, Err, OnOk, IfOk, refl, sym, ap, ◌∙◌, nat_cmp, subst, eq-eqb, eqb-true, append-nil}
+use Rattle.std.proofs.Common.{◌≡◌, ℕ, Bool, true, false, ◌||◌, eqb, if◌then◌else◌, max, List, [], ◌∷◌, ◌++◌, length, drop, Option, Some, None, is_some, option_and_then, Result, Ok, Err, IfOk, refl, sym, ap, ◌∙◌, nat_cmp, subst, eq-eqb, eqb-true, append-nil}
 use Rattle.std.specs.List.{AllByRecursion, list_any}
-use Rattle.std.specs.BTreeMap.{BTreeMap, is_at}
-use Rattle.std.specs.Map.{set_value}
+use Rattle.std.specs.BTreeMap.{is_at}
+use Rattle.std.specs.Map.{lookup, set_value}
+use Rattle.std.proofs.lemmas.Map.Steps.{set_value_same}
+use Rattle.zre_values.specs.declared.peer_id.PeerId.{PeerId}
 use Rattle.zre_outside.specs.declared.entry.Entry.{Entry}
 use Rattle.zre_outside.specs.declared.entry.Input.{Input}
 use Rattle.zre_outside.specs.declared.entry.Input.TheVariants as input
@@ -18,13 +20,16 @@ use Rattle.zre_journal.specs.Links.{line, is_linked, replies, reply_of, taken}
 use Rattle.zre_journal.specs.Arrivals.{at_places}
 use Rattle.zre_journal.proofs.Kept.{Comes-proper}
 use Rattle.zre_journal.proofs.Listed.{eqb-comm, found_passes, any_has}
-use Rattle.zre_node.specs.declared.connection.Connection.{Connection}
+use Rattle.zre_tables.specs.declared.connection.Connection.{Connection}
 use Rattle.zre_node.specs.declared.incoming.arrivals.Heard.{Heard}
 use Rattle.zre_node.specs.declared.tables.Tables.{Tables}
 use Rattle.zre_node.specs.Said.{said_in}
-use Rattle.zre_node.specs.Tabled.{Tabled}
+use Rattle.zre_tables.specs.Holding.{reader_at}
+use Rattle.zre_tables.specs.Rows.{row_at, with_row}
+use Rattle.zre_tables.specs.Tabled.{Tabled}
 use Rattle.zre_node.specs.Stands.{Holds, IsPeer, IsConn, kept_conn, heard_by, is_quiet}
-use Rattle.zre_node.proofs.Entries.{changed, retold, retold_of}
+use Rattle.zre_tables.proofs.Entries.{changed, retold, retold_of}
+use Rattle.zre_node.proofs.Ending.{conn_row, some_row}
 use Rattle.zre_node.proofs.Faulting.{dead_places}
 use Rattle.zre_node.proofs.Keeping.{keeps_as}
 
@@ -54,7 +59,7 @@ module _ (g : Config) (H : List Mark) (t : Tables) (h : Holds g H t) (e : Entry)
   pub other_conn : (c : ℕ) → piece_of c e.input ≡ [] → kept_conn g H c ≡ kept_conn g (Comes e ∷ H) c
   other_conn c p = ap (λ o. record { since = since c H; identity = identity c H; run = runs c H; conn = heard_by (is_ignored c H) g.id o }) (no_bytes c p)
 
-  pub comes : (C : BTreeMap ℕ Connection) → ((l : ℕ) → reply_of l e.input ≡ []) → Tabled (λ (c : ℕ). c) (IsConn g (Comes e ∷ H)) (open_ones H) C.entries → Holds g (Comes e ∷ H) (record t { clock = max e.at t.clock; conns = C })
+  pub comes : (C : List (ℕ × Connection)) → ((l : ℕ) → reply_of l e.input ≡ []) → Tabled (λ (c : ℕ). c) (IsConn g (Comes e ∷ H)) (open_ones H) C → Holds g (Comes e ∷ H) (record t { clock = max e.at t.clock; conns = C })
   comes C none conns = record {
     keeps = keeps_as g H _ _ _ h.keeps (Comes-proper H h.keeps.proper e) refl (refl, refl, refl) (ap (max e.at) h.keeps.clock_is) h.keeps.births_is h.keeps.last_is h.keeps.groups_fit h.keeps.own conns;
     peers = retold (λ (v : Life). v.link) (IsPeer g H) (IsPeer g (Comes e ∷ H))
@@ -64,15 +69,19 @@ module _ (g : Config) (H : List Mark) (t : Tables) (h : Holds g H t) (e : Entry)
           run_is = is.run_is;
           link_is = is.link_is ∙ ap (λ r. link_after g.id (line v.link H) (is_linked v.link H) r (taken v.link H)) (no_replies v.link (none v.link));
         })
-        (lives H) t.peers.entries h.peers;
+        (lives H) t.peers h.peers;
   }
 
   -- an entry that brings no octets
   pub quietly : is_quiet e.input ≡ true → Holds g (Comes e ∷ H) (record t { clock = max e.at t.clock })
   quietly q = comes t.conns (λ l. quiet_reply l e.input q)
-      (retold (λ (c : ℕ). c) (IsConn g H) (IsConn g (Comes e ∷ H)) (λ c k is. is ∙ other_conn c (quiet_piece c e.input q)) (open_ones H) t.conns.entries h.keeps.conns)
+      (retold (λ (c : ℕ). c) (IsConn g H) (IsConn g (Comes e ∷ H)) (λ c k is. is ∙ other_conn c (quiet_piece c e.input q)) (open_ones H) t.conns h.keeps.conns)
 
 -- ---- a piece
+
+none_from : {A : Type 0} (o : Option A) → is_some o ≡ false → o ≡ None
+none_from None e = refl
+none_from (Some x) e = absurd cc
 
 none_is : (c : ℕ) (xs : List ℕ) → list_any (eqb c) xs ≡ false → AllByRecursion (λ d. eqb c d ≡ false) xs
 none_is c [] e = tt
@@ -92,16 +101,16 @@ module _ (g : Config) (H : List Mark) (t : Tables) (h : Holds g H t) (e : Entry)
   -- it isn't open
   pub not_heard : is_open c H ≡ false → Holds g (Comes e ∷ H) (record t { clock = max e.at t.clock })
   not_heard shut = comes g H t h e t.conns no_reply
-      (retold_of (λ (d : ℕ). d) (λ d. eqb c d ≡ false) (IsConn g H) (IsConn g (Comes e ∷ H)) (λ d k far q. q ∙ another d far) (open_ones H) t.conns.entries (none_is c (open_ones H) shut) h.keeps.conns)
+      (retold_of (λ (d : ℕ). d) (λ d. eqb c d ≡ false) (IsConn g H) (IsConn g (Comes e ∷ H)) (λ d k far q. q ∙ another d far) (open_ones H) t.conns (none_is c (open_ones H) shut) h.keeps.conns)
 
   pub silent : (heard : Heard) → is_live c H ≡ false → at_places g c (said_in heard) (Comes e ∷ H) ≡ at_places g c (newly_completed g.id c H (Comes e ∷ H)) (Comes e ∷ H)
   silent heard dead = dead_places g c (Comes e ∷ H) dead (said_in heard) ∙ sym (dead_places g c (Comes e ∷ H) dead (newly_completed g.id c H (Comes e ∷ H)))
 
   -- it is open, and its row is this one now
-  with_row : is_open c H ≡ true → (x : Connection) → x ≡ kept_conn g (Comes e ∷ H) c → (C : BTreeMap ℕ Connection) → C.entries ≡ set_value (is_at (nat_cmp c)) t.conns.entries x → Holds g (Comes e ∷ H) (record t { clock = max e.at t.clock; conns = C })
-  with_row there x row C put = comes g H t h e C no_reply
+  with_its : is_open c H ≡ true → (x : Connection) → x ≡ kept_conn g (Comes e ∷ H) c → (C : List (ℕ × Connection)) → C ≡ set_value (is_at (nat_cmp c)) t.conns x → Holds g (Comes e ∷ H) (record t { clock = max e.at t.clock; conns = C })
+  with_its there x row C put = comes g H t h e C no_reply
       (subst (λ es. Tabled (λ (d : ℕ). d) (IsConn g (Comes e ∷ H)) (open_ones H) es) (sym put)
-      (changed (λ (d : ℕ). d) (IsConn g H) (IsConn g (Comes e ∷ H)) c x (λ d k far q. q ∙ another d far) (open_ones H) t.conns.entries h.keeps.proper.opening.open_apart
+      (changed (λ (d : ℕ). d) (IsConn g H) (IsConn g (Comes e ∷ H)) c x (λ d k far q. q ∙ another d far) (open_ones H) t.conns h.keeps.proper.opening.open_apart
       (λ d f. subst (λ y. x ≡ kept_conn g (Comes e ∷ H) y) (eqb-true c d (found_passes (eqb c) (open_ones H) d f)) row) h.keeps.conns))
 
   pub grown : is_open c H ≡ true → bytes c (Comes e ∷ H) ≡ bytes c H ++ o
@@ -112,22 +121,39 @@ module _ (g : Config) (H : List Mark) (t : Tables) (h : Holds g H t) (e : Entry)
   said_is : is_open c H ≡ true → completed g.id (bytes c H) o ≡ newly_completed g.id c H (Comes e ∷ H)
   said_is there = ap (λ (all : List ℕ). drop (length (talk g.id (bytes c H))) (talk g.id all)) (sym (grown there))
 
+  -- its row, by what reads it
+  reads : (b : Bool) → is_ignored c H ≡ b → is_open c H ≡ true → reader_at c t.conns ≡ heard_by b g.id (bytes c H)
+  reads b q there = ap (λ (x : Option Connection). option_and_then (λ (k : Connection). k.conn) x) (conn_row g H t h.keeps c there) ∙ rw q refl
+
+  pub unread : is_open c H ≡ false → reader_at c t.conns ≡ None
+  unread shut = ap (λ (x : Option Connection). option_and_then (λ (k : Connection). k.conn) x) (none_from (lookup (is_at (nat_cmp c)) t.conns) (some_row g H t h.keeps c ∙ shut))
+
+  pub deaf : is_open c H ≡ true → is_ignored c H ≡ true → reader_at c t.conns ≡ None
+  deaf there q = reads true q there
+
+  pub hears : is_open c H ≡ true → is_ignored c H ≡ false → reader_at c t.conns ≡ Some (conn_after g.id (bytes c H))
+  hears there q = reads false q there
+
   -- what was heard of it
-  pub heard_it : is_open c H ≡ true → (x x' : Connection) (heard : Heard) → x ≡ kept_conn g H c → (C : BTreeMap ℕ Connection) → C.entries ≡ set_value (is_at (nat_cmp c)) t.conns.entries x'
-      → ((q : List ℕ) → x.conn ≡ Some (conn_after g.id q) → (x' ≡ record x { conn = Some (conn_after g.id (q ++ o)) }) × (said_in heard ≡ completed g.id q o)) → (x.conn ≡ None → x' ≡ x)
+  pub heard_it : (C : List (ℕ × Connection)) (heard : Heard)
+      → ((x : Connection) (own : PeerId) (q : List ℕ) → row_at c t.conns ≡ Some x → x.conn ≡ Some (conn_after own q) → (C ≡ with_row c (record x { conn = Some (conn_after own (q ++ o)) }) t.conns) × (said_in heard ≡ completed own q o))
+      → (reader_at c t.conns ≡ None → C ≡ t.conns)
       → Holds g (Comes e ∷ H) (record t { clock = max e.at t.clock; conns = C }) × (at_places g c (said_in heard) (Comes e ∷ H) ≡ at_places g c (newly_completed g.id c H (Comes e ∷ H)) (Comes e ∷ H))
-  heard_it there x x' heard row C put live dead = by (is_ignored c H) refl
+  heard_it C heard live dead = by (is_open c H) refl (is_ignored c H) refl
     where
-      by : (b : Bool) → is_ignored c H ≡ b → Holds g (Comes e ∷ H) (record t { clock = max e.at t.clock; conns = C }) × (at_places g c (said_in heard) (Comes e ∷ H) ≡ at_places g c (newly_completed g.id c H (Comes e ∷ H)) (Comes e ∷ H))
-      by true q =
-          let deaf : x.conn ≡ None = ap (λ (y : Connection). y.conn) row ∙ rw q refl in
-          let same : x' ≡ kept_conn g (Comes e ∷ H) c = dead deaf ∙ row ∙ rw q refl in
-          (with_row there x' same C put, silent heard (rw (there, q) refl))
-      by false q =
-          let hears : x.conn ≡ Some (conn_after g.id (bytes c H)) = ap (λ (y : Connection). y.conn) row ∙ rw q refl in
-          let l = live (bytes c H) hears in
-          let same : x' ≡ kept_conn g (Comes e ∷ H) c = l.0 ∙ ap (λ (y : Connection). record y { conn = Some (conn_after g.id (bytes c H ++ o)) }) row ∙ rw (q, grown there) refl in
-          (with_row there x' same C put, ap (λ xs. at_places g c xs (Comes e ∷ H)) (l.1 ∙ said_is there))
+      by : (b : Bool) → is_open c H ≡ b → (d : Bool) → is_ignored c H ≡ d
+          → Holds g (Comes e ∷ H) (record t { clock = max e.at t.clock; conns = C }) × (at_places g c (said_in heard) (Comes e ∷ H) ≡ at_places g c (newly_completed g.id c H (Comes e ∷ H)) (Comes e ∷ H))
+      by false z d q =
+          (subst (λ es. Holds g (Comes e ∷ H) (record t { clock = max e.at t.clock; conns = es })) (sym (dead (unread z))) (not_heard z), silent heard (rw z refl))
+      by true z true q =
+          let row : lookup (is_at (nat_cmp c)) t.conns ≡ Some (kept_conn g H c) = conn_row g H t h.keeps c z in
+          let same : kept_conn g H c ≡ kept_conn g (Comes e ∷ H) c = rw q refl in
+          (with_its z (kept_conn g H c) same C (dead (deaf z q) ∙ sym (set_value_same (is_at (nat_cmp c)) t.conns (kept_conn g H c) row)), silent heard (rw (z, q) refl))
+      by true z false q =
+          let row : lookup (is_at (nat_cmp c)) t.conns ≡ Some (kept_conn g H c) = conn_row g H t h.keeps c z in
+          let l = live (kept_conn g H c) g.id (bytes c H) row (rw q refl) in
+          let same : record (kept_conn g H c) { conn = Some (conn_after g.id (bytes c H ++ o)) } ≡ kept_conn g (Comes e ∷ H) c = rw (q, grown z) refl in
+          (with_its z (record (kept_conn g H c) { conn = Some (conn_after g.id (bytes c H ++ o)) }) same C l.0, ap (λ xs. at_places g c xs (Comes e ∷ H)) (l.1 ∙ said_is z))
 
 -- ---- answers that are Ok
 
@@ -138,7 +164,3 @@ ok_of Q (Err e) f = tt
 pub at_ok : {T E : Type 0} (P : T → Type 0) (r : Result T E) (x : T) → r ≡ Ok x → IfOk r P → P x
 at_ok P (Ok y) x e h = let same : y ≡ x = cc in subst P same h
 at_ok P (Err y) x e h = absurd cc
-
-pub on_at : {T E : Type 0} {B : Type 0} (r : Result T E) (x : T) → r ≡ Ok x → OnOk r B → B
-on_at (Ok y) x e h = h
-on_at (Err y) x e h = absurd cc

@@ -25,10 +25,11 @@ use Rattle.zre_journal.specs.Commands.{has_group, is_member, is_too_big, at_join
 use Rattle.zre_journal.specs.Pushes.{push, push_all}
 use Rattle.zre_journal.proofs.Kept.{Joins-proper, Leaves-proper, Refuses-proper}
 use Rattle.zre_journal.proofs.Listed.{All-append, All-without}
-use Rattle.zre_node.specs.declared.peer.Peer.{Peer}
+use Rattle.zre_tables.specs.declared.peer.Peer.{Peer}
 use Rattle.zre_node.specs.declared.tables.Tables.{Tables}
 use Rattle.zre_node.specs.declared.effects.Effects.{Effects}
-use Rattle.zre_node.specs.Stands.{Holds, Did, IsPeer, link_among, is_quiet}
+use Rattle.zre_tables.specs.Searches.{link_among}
+use Rattle.zre_node.specs.Stands.{Holds, Did, IsPeer, is_quiet}
 use Rattle.zre_node.proofs.Broadcasting.{pushed_after}
 use Rattle.zre_node.proofs.Datagram.{link_found, its_life, no_life}
 use Rattle.zre_node.proofs.Many.{did_as, did_then, silent_did}
@@ -116,10 +117,10 @@ leaves_tell g K group b m n a s held second =
 -- ---- the known peer with an id, by its row
 
 module _ (g : Config) (K : List Mark) (t : Tables) (h : Holds g K t) (p : PeerId) where
-  pub unknown : None ≡ link_among p t.peers.entries → (v : Life) → life_of p K ≡ Some v → is_entered K v ≡ false
+  pub unknown : None ≡ link_among p t.peers → (v : Life) → life_of p K ≡ Some v → is_entered K v ≡ false
   unknown n v e = let z : None ≡ Some v = sym (no_life (life_of p K) (n ∙ link_found g K t p h)) ∙ e in absurd cc
 
-  module _ (l : ℕ) (found : Some l ≡ link_among p t.peers.entries) where
+  module _ (l : ℕ) (found : Some l ≡ link_among p t.peers) where
     its : (v : Life) × (life_of p K ≡ Some v) × (v.link ≡ l)
     its = its_life (life_of p K) l (found ∙ link_found g K t p h)
 
@@ -127,17 +128,17 @@ module _ (g : Config) (K : List Mark) (t : Tables) (h : Holds g K t) (p : PeerId
     here = ap (λ (j : ℕ). life j K) (sym its.2) ∙ (its_own_life K h.keeps.proper p its.0 its.1).0
 
     -- a known peer has a row
-    pub has_row : {C : Type 0} → None ≡ lookup (is_at (nat_cmp l)) t.peers.entries → C
-    has_row n = let z : None ≡ Some its.0 = sym (no_row (IsPeer g K) K t.peers.entries h.peers l n) ∙ here in absurd cc
+    pub has_row : {C : Type 0} → None ≡ lookup (is_at (nat_cmp l)) t.peers → C
+    has_row n = let z : None ≡ Some its.0 = sym (no_row (IsPeer g K) K t.peers h.peers l n) ∙ here in absurd cc
 
-    pub entered_by : (k : Peer) → Some k ≡ lookup (is_at (nat_cmp l)) t.peers.entries → (v : Life) × (life_of p K ≡ Some v) × (is_entered K v ≡ is_some k.run) × (v.link ≡ l)
+    pub entered_by : (k : Peer) → Some k ≡ lookup (is_at (nat_cmp l)) t.peers → (v : Life) × (life_of p K ≡ Some v) × (is_entered K v ≡ is_some k.run) × (v.link ≡ l)
     entered_by k was =
-        let r = its_row (IsPeer g K) K t.peers.entries h.peers l k was in
+        let r = its_row (IsPeer g K) K t.peers h.peers l k was in
         let same : r.0 ≡ its.0 = (let z : Some r.0 ≡ Some its.0 = sym r.1 ∙ here in cc) in
         let row : IsPeer g K its.0 k = subst (λ u. IsPeer g K u k) same r.2 in
         (its.0, its.1, sym (enters (runner its.0.link K) its.0.id (counted its.0.link K) k.run row.run_is), its.2)
 
-    pub not_entered : (k : Peer) → Some k ≡ lookup (is_at (nat_cmp l)) t.peers.entries → is_some k.run ≡ false → (v : Life) → life_of p K ≡ Some v → is_entered K v ≡ false
+    pub not_entered : (k : Peer) → Some k ≡ lookup (is_at (nat_cmp l)) t.peers → is_some k.run ≡ false → (v : Life) → life_of p K ≡ Some v → is_entered K v ≡ false
     not_entered k was none v e =
         let r = entered_by k was in
         let same : r.0 ≡ v = (let z : Some r.0 ≡ Some v = sym r.1 ∙ e in cc) in

@@ -1,6 +1,6 @@
 -- A later message on a connection that runs a peer.
 use Rattle.std.proofs.Common.{◌≡◌, ℕ, Bool, true, false, not, ◌&&◌, eqb, if◌then◌else◌, List, [], ◌∷◌, ◌++◌, Option, Some, IsSome, Result, Ok, Err, OnOk, OnErr, IfErr, refl, sym, ap, ◌∙◌, nat_cmp, subst, eq-eqb, eqb-true, append-nil}
-use Rattle.std.specs.BTreeMap.{BTreeMap, is_at}
+use Rattle.std.specs.BTreeMap.{is_at}
 use Rattle.std.specs.Map.{lookup, set_value}
 use Rattle.zre_values.specs.declared.peer_id.PeerId.{PeerId}
 use Rattle.zre_msg.specs.declared.message.Message.{Message}
@@ -23,25 +23,19 @@ use Rattle.zre_journal.specs.Arrivals.{at_later, answer_to}
 use Rattle.zre_journal.specs.Pushes.{push}
 use Rattle.zre_journal.proofs.Kept.{run_is, Counts-proper, run_known}
 use Rattle.zre_journal.proofs.Listed.{eqb-comm, found_passes}
-use Rattle.zre_node.specs.declared.peer.Peer.{Peer}
-use Rattle.zre_node.specs.declared.peer.Running.{Running}
+use Rattle.zre_tables.specs.declared.peer.Peer.{Peer}
+use Rattle.zre_tables.specs.declared.peer.Running.{Running}
 use Rattle.zre_node.specs.declared.tables.Tables.{Tables}
 use Rattle.zre_node.specs.declared.effects.Effects.{Effects}
-use Rattle.zre_node.specs.Tabled.{Tabled}
-use Rattle.zre_node.specs.Stands.{Holds, Nearly, Did, HasRun, HadRun, IsRunning, IsPeer, IsBut, IsLeaving, is_ping}
-use Rattle.zre_node.proofs.Entries.{changed}
+use Rattle.zre_tables.specs.Tabled.{Tabled}
+use Rattle.zre_tables.specs.Runs.{HasRun, HadRun, IsTaken}
+use Rattle.zre_node.specs.Stands.{Holds, Nearly, Did, IsPeer, IsBut, IsLeaving, is_ping}
+use Rattle.zre_tables.proofs.Entries.{changed}
 use Rattle.zre_node.proofs.Parting.{its_row, keeps_with, leaves}
 use Rattle.zre_journal.specs.Told.{told}
 use Rattle.zre_journal.proofs.Idle.{not_true}
 use Rattle.zre_node.proofs.Many.{did_by}
 use Rattle.zre_node.proofs.Keeping.{keeps_as}
-
-pub if_err : {T E B : Type 0} {P Q : E → Type 0} (r : Result T E) → IfErr r P → OnErr r B → ((e : E) → P e → B → Q e) → IfErr r Q
-if_err (Ok x) p b f = tt
-if_err (Err e) p b f = f e p b
-
-pub run_in : (c : ℕ) (id : PeerId) (ms : List Message) (o : Option Running) (x : Running) → HasRun (Some c) id ms o → o ≡ Some x → IsRunning c id ms x
-run_in c id ms o x h e = let z : Some h.0 ≡ Some x = sym h.1 ∙ e in let same : h.0 ≡ x = cc in subst (IsRunning c id ms) same h.2
 
 -- ---- a peer that is run has told something
 
@@ -109,9 +103,9 @@ counts_it g c l m H some e = by (counted l H) some.0 some.1 some.2 e
 
 -- ---- at the tables
 
-module _ (g : Config) (H : List Mark) (t : Tables) (h : Holds g H t) (c l : ℕ) (r : runs c H ≡ Some l) (k : Peer) (was : Some k ≡ lookup (is_at (nat_cmp l)) t.peers.entries) where
+module _ (g : Config) (H : List Mark) (t : Tables) (h : Holds g H t) (c l : ℕ) (r : runs c H ≡ Some l) (k : Peer) (was : Some k ≡ lookup (is_at (nat_cmp l)) t.peers) where
   pub its : (v : Life) × (life l H ≡ Some v) × IsPeer g H v k
-  its = its_row (IsPeer g H) H t.peers.entries h.peers l k was
+  its = its_row (IsPeer g H) H t.peers h.peers l k was
 
   link_is : l ≡ its.0.link
   link_is = eqb-true l its.0.link (found_passes (λ (u : Life). eqb l u.link) (lives H) its.0 its.1)
@@ -129,13 +123,13 @@ module _ (g : Config) (H : List Mark) (t : Tables) (h : Holds g H t) (c l : ℕ)
   that : (u : Life) → life l H ≡ Some u → u ≡ its.0
   that u f = let z : Some u ≡ Some its.0 = sym f ∙ its.1 in cc
 
-  pub counts : (m : Message) (w : Peer) (P : BTreeMap ℕ Peer) → w.id ≡ k.id → w.link ≡ k.link → w.active ≡ t.clock → HasRun (Some c) its.0.id (counted l H ++ m ∷ []) w.run
-      → P.entries ≡ set_value (is_at (nat_cmp l)) t.peers.entries w → Holds g (Counts c l m ∷ H) (record t { peers = P })
+  pub counts : (m : Message) (w : Peer) (P : List (ℕ × Peer)) → w.id ≡ k.id → w.link ≡ k.link → w.active ≡ t.clock → HasRun (Some c) its.0.id (counted l H ++ m ∷ []) w.run
+      → P ≡ set_value (is_at (nat_cmp l)) t.peers w → Holds g (Counts c l m ∷ H) (record t { peers = P })
   counts m w P id link now run put = record {
     keeps = keeps_as g H _ _ _ h.keeps (Counts-proper H h.keeps.proper c l m r) refl (refl, refl, refl) h.keeps.clock_is h.keeps.births_is h.keeps.last_is h.keeps.groups_fit h.keeps.own h.keeps.conns;
     peers = subst (λ es. Tabled (λ (v : Life). v.link) (IsPeer g (Counts c l m ∷ H)) (lives H) es) (sym put)
         (changed (λ (v : Life). v.link) (IsPeer g H) (IsPeer g (Counts c l m ∷ H)) l w
-        (λ v x far is. let off : eqb v.link l ≡ false = eqb-comm v.link l ∙ far in rw off is) (lives H) t.peers.entries h.keeps.proper.living.apart
+        (λ v x far is. let off : eqb v.link l ≡ false = eqb-comm v.link l ∙ far in rw off is) (lives H) t.peers h.keeps.proper.living.apart
         (λ v f. subst (λ u. IsPeer g (Counts c l m ∷ H) u w) (sym (that v f)) here) h.peers);
   }
     where
@@ -149,12 +143,12 @@ module _ (g : Config) (H : List Mark) (t : Tables) (h : Holds g H t) (c l : ℕ)
       here = rw me record { id_is = id ∙ its.2.id_is; active_is = now ∙ h.keeps.clock_is; run_is = runs_on; link_is = link ∙ its.2.link_is }
 
   -- a run that has refused is that of a peer that is to end
-  pub breaks : (w : Peer) (P : BTreeMap ℕ Peer) → w.id ≡ k.id → HadRun (Some c) (counted l H) w.run → P.entries ≡ set_value (is_at (nat_cmp l)) t.peers.entries w → Nearly g H l (record t { peers = P })
+  pub breaks : (w : Peer) (P : List (ℕ × Peer)) → w.id ≡ k.id → HadRun (Some c) (counted l H) w.run → P ≡ set_value (is_at (nat_cmp l)) t.peers w → Nearly g H l (record t { peers = P })
   breaks w P id run put = record {
     keeps = keeps_with g H t h.keeps P;
     peers = subst (λ es. Tabled (λ (v : Life). v.link) (IsBut g H l) (lives H) es) (sym put)
         (changed (λ (v : Life). v.link) (IsPeer g H) (IsBut g H l) l w
-        (λ v x far is. record { leaving = leaves g H v x is; staying = λ o. is }) (lives H) t.peers.entries h.keeps.proper.living.apart
+        (λ v x far is. record { leaving = leaves g H v x is; staying = λ o. is }) (lives H) t.peers h.keeps.proper.living.apart
         (λ v f. record {
           leaving = subst (λ u. IsLeaving H u w) (sym (that v f)) record { id_is = id ∙ its.2.id_is; run_is = had };
           staying = λ off. let here : eqb l v.link ≡ true = found_passes (λ (u : Life). eqb l u.link) (lives H) v f in absurd cc;
@@ -183,12 +177,13 @@ ended_from g c l m H n a es s (Ok x) some e f is same d =
     rw marks (subst (λ b. Did g (Ends l (cause_by f) ∷ []) H n b s) from d)
 ended_from g c l m H n a es s (Err x) some e f is same d = tt
 
--- a message that makes no run: w is the row as it is left, in P
-pub refused_by : (g : Config) (H : List Mark) (t : Tables) (h : Holds g H t) (c l : ℕ) (r : runs c H ≡ Some l) (k : Peer) (was : Some k ≡ lookup (is_at (nat_cmp l)) t.peers.entries)
-    (m : Message) (f : RunFault) (w : Peer) (P : BTreeMap ℕ Peer) → w.id ≡ k.id → P.entries ≡ set_value (is_at (nat_cmp l)) t.peers.entries w
-    → (n : Tables) (a s : Effects) (es : List Event) (x : Result (Unit {0}) OutOfMemory)
-    → ((id : PeerId) → HasRun (Some c) id (counted l H) k.run → (may_follow (counted l H) m ≡ false) × (f ≡ fault_of (counted l H) m) × HadRun (Some c) (counted l H) w.run × (es ≡ a.events))
+-- a message that makes no run: P are the rows as they are left
+pub refused_by : (g : Config) (H : List Mark) (t : Tables) (h : Holds g H t) (c l : ℕ) (r : runs c H ≡ Some l) (k : Peer) (was : Some k ≡ lookup (is_at (nat_cmp l)) t.peers)
+    (m : Message) (f : RunFault) (now : ℕ) (P : List (ℕ × Peer)) (n : Tables) (a s : Effects) (es : List Event) (x : Result (Unit {0}) OutOfMemory)
+    → ((id : PeerId) → HasRun (Some c) id (counted l H) k.run → (may_follow (counted l H) m ≡ false) × (f ≡ fault_of (counted l H) m) × (es ≡ a.events) × IsTaken l k now (HadRun (Some c) (counted l H)) t.peers P)
     → (Nearly g H l (record t { peers = P }) → IsSome (life l H) → OnOk x (Did g (Ends l (cause_by f) ∷ []) H n (record a { events = es }) s)) → OnOk x (Did g (at_later g c l m H) H n a s)
-refused_by g H t h c l r k was m f w P id put n a s es x told ended =
+refused_by g H t h c l r k was m f now P n a s es x told ended =
     let took = told (its g H t h c l r k was).0.id (row_runs g H t h c l r k was) in
-    ended_from g c l m H n a es s x (some_counted g H t h c l r k was) took.0 f took.1 took.3 (ended (breaks g H t h c l r k was w P id took.2 put) (run_known H h.keeps.proper c l r))
+    let left = took.3 in
+    ended_from g c l m H n a es s x (some_counted g H t h c l r k was) took.0 f took.1 took.2
+    (ended (breaks g H t h c l r k was (record k { active = now; run = left.run }) P refl left.its_run left.rows) (run_known H h.keeps.proper c l r))

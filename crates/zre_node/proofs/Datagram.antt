@@ -8,11 +8,12 @@ use Rattle.zre_journal.specs.Chronicle.{Mark, Ends, HearsBeacon}
 use Rattle.zre_journal.specs.Peers.{Life, lives, life, life_of}
 use Rattle.zre_journal.specs.Happens.{is_welcome, at_datagram}
 use Rattle.zre_journal.specs.Pushes.{birth}
-use Rattle.zre_node.specs.declared.peer.Peer.{Peer}
+use Rattle.zre_tables.specs.declared.peer.Peer.{Peer}
 use Rattle.zre_node.specs.declared.tables.Tables.{Tables}
-use Rattle.zre_node.specs.Tabled.{Tabled}
-use Rattle.zre_node.specs.Stands.{Holds, IsPeer, link_among}
-use Rattle.zre_node.proofs.Entries.{as_many}
+use Rattle.zre_tables.specs.Tabled.{Tabled}
+use Rattle.zre_tables.specs.Searches.{link_among}
+use Rattle.zre_node.specs.Stands.{Holds, IsPeer}
+use Rattle.zre_tables.proofs.Entries.{as_many}
 use Rattle.zre_journal.proofs.Known.{known_of}
 
 -- a search of the rows by an id finds the link of the known peer
@@ -29,8 +30,8 @@ link_in_rows g H p (v ∷ vs) (e ∷ es) t = rw (t.0, t.1.id_is) (by (link_in_ro
     by r false = r
 
 -- the code's search finds the known peer
-pub link_found : (g : Config) (H : List Mark) (t : Tables) (p : PeerId) → Holds g H t → link_among p t.peers.entries ≡ option_map (λ (v : Life). v.link) (life_of p H)
-link_found g H t p h = link_in_rows g H p (lives H) t.peers.entries h.peers
+pub link_found : (g : Config) (H : List Mark) (t : Tables) (p : PeerId) → Holds g H t → link_among p t.peers ≡ option_map (λ (v : Life). v.link) (life_of p H)
+link_found g H t p h = link_in_rows g H p (lives H) t.peers h.peers
 
 -- the peer of a found link
 pub its_life : (o : Option Life) (l : ℕ) → Some l ≡ option_map (λ (v : Life). v.link) o → (v : Life) × (o ≡ Some v) × (v.link ≡ l)
@@ -42,13 +43,13 @@ no_life None e = refl
 no_life (Some v) e = cc
 
 -- the known peer whose link the code's search finds
-pub known_by : (g : Config) (H : List Mark) (t : Tables) (p : PeerId) (l : ℕ) → Holds g H t → Some l ≡ link_among p t.peers.entries → (v : Life) × (life_of p H ≡ Some v) × (v.link ≡ l) × IsSome (life l H)
+pub known_by : (g : Config) (H : List Mark) (t : Tables) (p : PeerId) (l : ℕ) → Holds g H t → Some l ≡ link_among p t.peers → (v : Life) × (life_of p H ≡ Some v) × (v.link ≡ l) × IsSome (life l H)
 known_by g H t p l h e =
     let v = its_life (life_of p H) l (e ∙ link_found g H t p h) in
     let k : IsSome (life v.0.link H) = rw (known_of H h.keeps.proper p v.0 v.1) refl in
     (v.0, v.1, v.2, subst (λ j. IsSome (life j H)) v.2 k)
 
-pub unknown_by : (g : Config) (H : List Mark) (t : Tables) (p : PeerId) → Holds g H t → None ≡ link_among p t.peers.entries → life_of p H ≡ None
+pub unknown_by : (g : Config) (H : List Mark) (t : Tables) (p : PeerId) → Holds g H t → None ≡ link_among p t.peers → life_of p H ≡ None
 unknown_by g H t p h e = no_life (life_of p H) (e ∙ link_found g H t p h)
 
 module _ (g : Config) (from o : List ℕ) (H : List Mark) (p : PeerId) (port : ℕ) (b : beacon_in o ≡ Some (p, port)) where
@@ -68,5 +69,5 @@ pub no_beacon : (g : Config) (from o : List ℕ) (H : List Mark) → beacon_in o
 no_beacon g from o H b = rw b refl
 
 -- the code's test is that of the chronicle
-pub welcome_is : (g : Config) (H : List Mark) (t : Tables) (p : PeerId) (port : ℕ) → Holds g H t → is_welcome t.config p port (length t.peers.entries) ≡ is_welcome g p port (length (lives H))
-welcome_is g H t p port h = ap (λ (c : Config). is_welcome c p port (length t.peers.entries)) h.keeps.config ∙ ap (is_welcome g p port) (as_many (λ (v : Life). v.link) (IsPeer g H) (lives H) t.peers.entries h.peers)
+pub welcome_is : (g : Config) (H : List Mark) (t : Tables) (p : PeerId) (port : ℕ) → Holds g H t → is_welcome t.config p port (length t.peers) ≡ is_welcome g p port (length (lives H))
+welcome_is g H t p port h = ap (λ (c : Config). is_welcome c p port (length t.peers)) h.keeps.config ∙ ap (is_welcome g p port) (as_many (λ (v : Life). v.link) (IsPeer g H) (lives H) t.peers h.peers)

@@ -1,6 +1,6 @@
 -- The end of a known peer, at the tables.
 use Rattle.std.proofs.Common.{◌≡◌, ℕ, ◌≤◌, Bool, true, false, not, ◌||◌, eqb, List, [], ◌∷◌, ◌++◌, Option, Some, None, is_some, append-nil, refl, sym, ap, ◌∙◌, nat_cmp, eqb-true, eq-eqb, subst}
-use Rattle.std.specs.BTreeMap.{BTreeMap, is_at}
+use Rattle.std.specs.BTreeMap.{is_at}
 use Rattle.std.specs.Map.{lookup, set_value}
 use Rattle.std.specs.List.{list_any}
 use Rattle.zre_values.specs.declared.peer_id.PeerId.{PeerId}
@@ -16,43 +16,44 @@ use Rattle.zre_journal.specs.Told.{exit}
 use Rattle.zre_journal.specs.Done.{close_link}
 use Rattle.zre_journal.proofs.Kept.{known_lives, run_is, Ends-proper}
 use Rattle.zre_journal.proofs.Listed.{eqb-comm, found_any, none_any, found_passes}
-use Rattle.zre_node.specs.declared.peer.Peer.{Peer}
-use Rattle.zre_node.specs.declared.peer.Running.{Running}
+use Rattle.zre_tables.specs.declared.peer.Peer.{Peer}
+use Rattle.zre_tables.specs.declared.peer.Running.{Running}
 use Rattle.zre_msg.specs.declared.message.Message.{Message}
 use Rattle.zre_peer.specs.Runs.{shown}
 use Rattle.zre_peer.specs.Standing.{view_in}
-use Rattle.zre_node.specs.declared.connection.Connection.{Connection}
+use Rattle.zre_tables.specs.declared.connection.Connection.{Connection}
 use Rattle.zre_node.specs.declared.tables.Tables.{Tables}
 use Rattle.zre_node.specs.declared.effects.Effects.{Effects}
-use Rattle.zre_node.specs.Tabled.{Tabled}
-use Rattle.zre_node.specs.Stands.{Holds, Keeps, Parted, Did, HadRun, IsConn, kept_conn, heard_by}
-use Rattle.zre_node.proofs.Entries.{Row, Is, IsNone, row, changed, retold}
+use Rattle.zre_tables.specs.Tabled.{Tabled}
+use Rattle.zre_tables.specs.Runs.{HadRun}
+use Rattle.zre_node.specs.Stands.{Holds, Keeps, Parted, Did, IsConn, kept_conn, heard_by}
+use Rattle.zre_tables.proofs.Entries.{Row, Is, IsNone, row, changed, retold}
 use Rattle.zre_node.proofs.Many.{or-nil}
 use Rattle.zre_node.proofs.Keeping.{keeps_as}
 
 -- ---- connections, by number
 
 -- an open connection has its row
-pub conn_row : (g : Config) (H : List Mark) (t : Tables) → Keeps g H t → (c : ℕ) → is_open c H ≡ true → lookup (is_at (nat_cmp c)) t.conns.entries ≡ Some (kept_conn g H c)
-conn_row g H t k c o = by (row (λ (d : ℕ). d) (IsConn g H) c (open_ones H) t.conns.entries k.conns)
+pub conn_row : (g : Config) (H : List Mark) (t : Tables) → Keeps g H t → (c : ℕ) → is_open c H ≡ true → lookup (is_at (nat_cmp c)) t.conns ≡ Some (kept_conn g H c)
+conn_row g H t k c o = by (row (λ (d : ℕ). d) (IsConn g H) c (open_ones H) t.conns k.conns)
   where
-    by : Row (λ (d : ℕ). d) (IsConn g H) c (open_ones H) (lookup (is_at (nat_cmp c)) t.conns.entries) → lookup (is_at (nat_cmp c)) t.conns.entries ≡ Some (kept_conn g H c)
+    by : Row (λ (d : ℕ). d) (IsConn g H) c (open_ones H) (lookup (is_at (nat_cmp c)) t.conns) → lookup (is_at (nat_cmp c)) t.conns ≡ Some (kept_conn g H c)
     by (Is d w f e q p) = e ∙ ap (λ (x : Connection). Some x) p ∙ ap (λ x. Some (kept_conn g H x)) (sym (eqb-true c d q))
     by (IsNone f e) = let z : false ≡ true = sym (none_any (eqb c) (open_ones H) f) ∙ o in cc
 
 -- a row is that of an open connection
-pub row_conn : (g : Config) (H : List Mark) (t : Tables) → Keeps g H t → (c : ℕ) (x : Connection) → Some x ≡ lookup (is_at (nat_cmp c)) t.conns.entries → (is_open c H ≡ true) × (x ≡ kept_conn g H c)
-row_conn g H t k c x e = by (row (λ (d : ℕ). d) (IsConn g H) c (open_ones H) t.conns.entries k.conns)
+pub row_conn : (g : Config) (H : List Mark) (t : Tables) → Keeps g H t → (c : ℕ) (x : Connection) → Some x ≡ lookup (is_at (nat_cmp c)) t.conns → (is_open c H ≡ true) × (x ≡ kept_conn g H c)
+row_conn g H t k c x e = by (row (λ (d : ℕ). d) (IsConn g H) c (open_ones H) t.conns k.conns)
   where
-    by : Row (λ (d : ℕ). d) (IsConn g H) c (open_ones H) (lookup (is_at (nat_cmp c)) t.conns.entries) → (is_open c H ≡ true) × (x ≡ kept_conn g H c)
+    by : Row (λ (d : ℕ). d) (IsConn g H) c (open_ones H) (lookup (is_at (nat_cmp c)) t.conns) → (is_open c H ≡ true) × (x ≡ kept_conn g H c)
     by (Is d w f o q p) = let z : Some x ≡ Some w = e ∙ o in let same : x ≡ w = cc in (found_any (eqb c) (open_ones H) d f, same ∙ p ∙ ap (kept_conn g H) (sym (eqb-true c d q)))
     by (IsNone f o) = let z : Some x ≡ None = e ∙ o in cc
 
 -- no row is that of one that isn't open
-pub no_conn : (g : Config) (H : List Mark) (t : Tables) → Keeps g H t → (c : ℕ) → None ≡ lookup (is_at (nat_cmp c)) t.conns.entries → is_open c H ≡ false
-no_conn g H t k c e = by (row (λ (d : ℕ). d) (IsConn g H) c (open_ones H) t.conns.entries k.conns)
+pub no_conn : (g : Config) (H : List Mark) (t : Tables) → Keeps g H t → (c : ℕ) → None ≡ lookup (is_at (nat_cmp c)) t.conns → is_open c H ≡ false
+no_conn g H t k c e = by (row (λ (d : ℕ). d) (IsConn g H) c (open_ones H) t.conns k.conns)
   where
-    by : Row (λ (d : ℕ). d) (IsConn g H) c (open_ones H) (lookup (is_at (nat_cmp c)) t.conns.entries) → is_open c H ≡ false
+    by : Row (λ (d : ℕ). d) (IsConn g H) c (open_ones H) (lookup (is_at (nat_cmp c)) t.conns) → is_open c H ≡ false
     by (Is d w f o q p) = let z : None ≡ Some w = e ∙ o in cc
     by (IsNone f o) = none_any (eqb c) (open_ones H) f
 
@@ -95,7 +96,7 @@ module _ (g : Config) (H : List Mark) (l : ℕ) (k : Peer) (t : Tables) (p : Par
   known : (has_ended l H ≡ false) × (l ≤ births H) × (l ≡ p.gone.link)
   known = known_lives H p.keeps.proper l p.gone p.known
 
-  with_conns : (C : BTreeMap ℕ Connection) → Tabled (λ (c : ℕ). c) (IsConn g (Ends l why ∷ H)) (open_ones H) C.entries → Holds g (Ends l why ∷ H) (record t { conns = C })
+  with_conns : (C : List (ℕ × Connection)) → Tabled (λ (c : ℕ). c) (IsConn g (Ends l why ∷ H)) (open_ones H) C → Holds g (Ends l why ∷ H) (record t { conns = C })
   with_conns C conns = record {
     keeps = keeps_as g H _ _ _ p.keeps (Ends-proper H p.keeps.proper l why known.1) refl (refl, refl, refl) p.keeps.clock_is p.keeps.births_is p.keeps.last_is p.keeps.groups_fit p.keeps.own conns;
     peers = p.peers;
@@ -108,7 +109,7 @@ module _ (g : Config) (H : List Mark) (l : ℕ) (k : Peer) (t : Tables) (p : Par
   no_exit : runner l H ≡ None → exit (life l H) why H ≡ []
   no_exit r = rw p.known (let e : runner p.gone.link H ≡ None = subst (λ m. runner m H ≡ None) known.2 r in rw e refl)
 
-  ended : (C : BTreeMap ℕ Connection) (a s : Effects) → Holds g (Ends l why ∷ H) (record t { conns = C }) → s.events ≡ a.events ++ exit (life l H) why H
+  ended : (C : List (ℕ × Connection)) (a s : Effects) → Holds g (Ends l why ∷ H) (record t { conns = C }) → s.events ≡ a.events ++ exit (life l H) why H
       → s.acts ≡ a.acts ++ close_link l why → s.pushed ≡ a.pushed → Did g (Ends l why ∷ []) H (record t { conns = C }) a s
   ended C a s h ev ac pu = record {
     holds = h;
@@ -122,8 +123,8 @@ module _ (g : Config) (H : List Mark) (l : ℕ) (k : Peer) (t : Tables) (p : Par
   entered x e = let h = had_some (runner p.gone.link H) (counted p.gone.link H) k.run x p.leaving.run_is e in
       (ap (λ m. runner m H) known.2 ∙ h.0, h.1 ∙ ap (λ m. shown (counted m H)) (sym known.2))
 
-  pub with_run : (x : Running) → k.run ≡ Some x → (C : BTreeMap ℕ Connection)
-      → ((y : Connection) → lookup (is_at (nat_cmp x.conn)) t.conns.entries ≡ Some y → C.entries ≡ set_value (is_at (nat_cmp x.conn)) t.conns.entries (record y { since = t.clock; run = None; conn = None }))
+  pub with_run : (x : Running) → k.run ≡ Some x → (C : List (ℕ × Connection))
+      → ((y : Connection) → lookup (is_at (nat_cmp x.conn)) t.conns ≡ Some y → C ≡ set_value (is_at (nat_cmp x.conn)) t.conns (record y { since = t.clock; run = None; conn = None }))
       → (a s : Effects) → s.events ≡ a.events ++ event.Exit k.id (view_of (counted l H)).name why ∷ [] → s.acts ≡ a.acts ++ close_link l why → s.pushed ≡ a.pushed
       → Did g (Ends l why ∷ []) H (record t { conns = C }) a s
   with_run x e C set a s ev ac pu =
@@ -133,11 +134,11 @@ module _ (g : Config) (H : List Mark) (l : ℕ) (k : Peer) (t : Tables) (p : Par
       let runs_it : runs x.conn H ≡ Some l = rw (s0, known.0) refl in
       let there = q.is_heard x.conn l r known.0 in
       let old = conn_row g H t p.keeps x.conn there in
-      let at : C.entries ≡ set_value (is_at (nat_cmp x.conn)) t.conns.entries (record (kept_conn g H x.conn) { since = clock H; run = None; conn = None }) =
-      set (kept_conn g H x.conn) old ∙ ap (λ n. set_value (is_at (nat_cmp x.conn)) t.conns.entries (record (kept_conn g H x.conn) { since = n; run = None; conn = None })) p.keeps.clock_is in
+      let at : C ≡ set_value (is_at (nat_cmp x.conn)) t.conns (record (kept_conn g H x.conn) { since = clock H; run = None; conn = None }) =
+      set (kept_conn g H x.conn) old ∙ ap (λ n. set_value (is_at (nat_cmp x.conn)) t.conns (record (kept_conn g H x.conn) { since = n; run = None; conn = None })) p.keeps.clock_is in
       let conns = changed (λ (c : ℕ). c) (IsConn g H) (IsConn g (Ends l why ∷ H)) x.conn (record (kept_conn g H x.conn) { since = clock H; run = None; conn = None })
       (λ c w far is. is ∙ unmoved g H l why known.0 c (λ z. let same : Some x.conn ≡ Some c = sym r ∙ run_is H p.keeps.proper c l z in let u : x.conn ≡ c = cc in let w : true ≡ false = sym (eq-eqb x.conn c u) ∙ far in cc))
-      (open_ones H) t.conns.entries p.keeps.proper.opening.open_apart
+      (open_ones H) t.conns p.keeps.proper.opening.open_apart
       (λ c f. let u : x.conn ≡ c = eqb-true x.conn c (found_passes (eqb x.conn) (open_ones H) c f) in subst (λ d. record (kept_conn g H x.conn) { since = clock H; run = None; conn = None } ≡ kept_conn g (Ends l why ∷ H) d) u (sym (ignored g H l why known.0 x.conn runs_it s0)))
       p.keeps.conns in
       ended C a s (with_conns C (subst (λ es. Tabled (λ (c : ℕ). c) (IsConn g (Ends l why ∷ H)) (open_ones H) es) (sym at) conns))
@@ -147,14 +148,14 @@ module _ (g : Config) (H : List Mark) (l : ℕ) (k : Peer) (t : Tables) (p : Par
   without_run e a s ev ac pu =
       let r : runner l H ≡ None = ap (λ m. runner m H) known.2 ∙ had_none (runner p.gone.link H) (counted p.gone.link H) k.run p.leaving.run_is e in
       ended t.conns a s (with_conns t.conns (retold (λ (c : ℕ). c) (IsConn g H) (IsConn g (Ends l why ∷ H))
-      (λ c w is. is ∙ unmoved g H l why known.0 c (λ z. let u : None ≡ Some c = sym r ∙ run_is H p.keeps.proper c l z in cc)) (open_ones H) t.conns.entries p.keeps.conns))
+      (λ c w is. is ∙ unmoved g H l why known.0 c (λ z. let u : None ≡ Some c = sym r ∙ run_is H p.keeps.proper c l z in cc)) (open_ones H) t.conns p.keeps.conns))
       (ev ∙ sym (append-nil a.events) ∙ ap (λ es. a.events ++ es) (sym (no_exit r))) ac pu
 
 -- whether a number has a row
-pub some_row : (g : Config) (H : List Mark) (t : Tables) → Keeps g H t → (c : ℕ) → is_some (lookup (is_at (nat_cmp c)) t.conns.entries) ≡ is_open c H
-some_row g H t k c = by (lookup (is_at (nat_cmp c)) t.conns.entries) refl
+pub some_row : (g : Config) (H : List Mark) (t : Tables) → Keeps g H t → (c : ℕ) → is_some (lookup (is_at (nat_cmp c)) t.conns) ≡ is_open c H
+some_row g H t k c = by (lookup (is_at (nat_cmp c)) t.conns) refl
   where
-    by : (o : Option Connection) → lookup (is_at (nat_cmp c)) t.conns.entries ≡ o → is_some o ≡ is_open c H
+    by : (o : Option Connection) → lookup (is_at (nat_cmp c)) t.conns ≡ o → is_some o ≡ is_open c H
     by None e = sym (no_conn g H t k c (sym e))
     by (Some x) e = sym (row_conn g H t k c x (sym e)).0
 

@@ -1,35 +1,41 @@
--- Connections that are fed.
-use Rattle.std.proofs.Common.{◌≡◌, ℕ, true, false, List, [], ◌++◌, Option, Some, None, refl, ap, ◌∙◌}
-use Rattle.zre_values.specs.declared.peer_id.PeerId.{PeerId}
-use Rattle.zre_zmtp.specs.Stream.{Whole}
-use Rattle.zre_zmtp.specs.declared.want.Want.TheVariants.{Dealer}
-use Rattle.zre_zmtp.specs.declared.fault.ZmtpFault.{ZmtpFault}
-use Rattle.zre_zmtp.specs.Reading.{IsOver}
-use Rattle.zre_zmtp.proofs.Feeding.{is_over}
-use Rattle.zre_mailbox.specs.Conn.{Hearing, conn_after, is_ignored, is_spent, identity_in, reading, phase_by, kept_in, kept_of}
-use Rattle.zre_mailbox.specs.declared.phase.Phase.TheVariants.{Spent}
-use Rattle.zre_mailbox.specs.Talk.{arrivals, arrivals_in, fault_in, completed}
-use Rattle.zre_mailbox.proofs.Growing.{goes}
+-- What is heard, item by item.
+use Rattle.std.proofs.Common.{◌≡◌, ℕ, ◌+◌, ◌<◌, Bool, true, false, cond, List, [], map, length, get_or, take, Option, Some, None, refl, sym, ap, ◌∙◌, append-nil, subst}
+use Rattle.std.specs.Prelude.{option_to_list}
+use Rattle.std.proofs.lemmas.List.{map-append}
+use Rattle.zre_zmtp.specs.declared.item.Item.{Item}
+use Rattle.zre_mailbox.specs.declared.arrival.Arrival.{Arrival}
+use Rattle.zre_mailbox.specs.Talk.{Said, Arrived, arrival_of, arrivals_in}
+use Rattle.zre_mailbox.proofs.Hearing.{arrives_next}
+use Rattle.zre_journal.specs.declared.config.Config.{Config}
+use Rattle.zre_journal.specs.Chronicle.{Mark, after, in_turn}
+use Rattle.zre_journal.specs.Connections.{is_live}
+use Rattle.zre_journal.specs.Arrivals.{at_place}
+use Rattle.zre_journal.proofs.Joined.{in_turn-append}
+use Rattle.zre_node.specs.declared.tables.Tables.{Tables}
+use Rattle.zre_node.specs.declared.effects.Effects.{Effects}
+use Rattle.zre_node.specs.Said.{at_item}
+use Rattle.zre_node.specs.Stands.{Did}
+use Rattle.zre_node.proofs.Many.{did_as, did_then}
 
-pub never_ignored : (own : PeerId) (o : List ℕ) → is_ignored (conn_after own o) ≡ false
-never_ignored own o = by (fault_in own o) refl
+-- what an item brings, as one place of what is said
+placed : (g : Config) (c : ℕ) (a : Option Arrival) (K : List Mark) → in_turn (at_place g c) (map (λ (x : Arrival). Arrived x) (option_to_list a)) K ≡ cond (is_live c K) (at_item g c a K) []
+placed g c (Some a) K = append-nil (at_place g c (Arrived a) K)
+placed g c None K = by (is_live c K)
   where
-    by : (f : Option ZmtpFault) → fault_in own o ≡ f → is_ignored (conn_after own o) ≡ false
-    by None e = rw e refl
-    by (Some f) e = rw e refl
+    by : (b : Bool) → [] ≡ cond b (at_item g c None K) []
+    by true = refl
+    by false = refl
 
--- after a fault nothing changes, and nothing is completed
-pub spent_stays : (own : PeerId) (o more : List ℕ) → is_spent (conn_after own o) ≡ true → (conn_after own (o ++ more) ≡ conn_after own o) × (completed own o more ≡ [])
-spent_stays own o more s = by (fault_in own o) refl
-  where
-    by : (f : Option ZmtpFault) → fault_in own o ≡ f → (conn_after own (o ++ more) ≡ conn_after own o) × (completed own o more ≡ [])
-    by None e = let z : false ≡ true = rw e at s in absurd cc
-    by (Some f) e =
-        let h : IsOver (Dealer own) Whole o = is_over (Dealer own) Whole o f e in
-        let later : fault_in own (o ++ more) ≡ Some f = h.fault more ∙ e in
-        let same : identity_in (arrivals own (o ++ more)) ≡ identity_in (arrivals own o) = ap (λ is. identity_in (arrivals_in is)) (h.items more) in
-        (rw (later, e) (ap (λ (i : Option PeerId). record { phase = Spent; identity = i }) same), ((goes own o more).over f e).1)
-
--- after a fault nothing is kept
-pub kept_refused : (own : PeerId) (o : List ℕ) (f : ZmtpFault) (h : Hearing) → h ≡ conn_after own o → fault_in own o ≡ Some f → kept_of h ≡ 0
-kept_refused own o f h is e = ap kept_of is ∙ ap (λ x. kept_in (phase_by x (reading (Dealer own) Whole o))) e
+-- one more of the items that arrive
+pub one_more_item : (g : Config) (c : ℕ) (items : List Item) (i : ℕ) (item : Item) (K : List Mark) (t n : Tables) (a b s : Effects) → i < length items → item ≡ get_or items i item
+    → Did g (in_turn (at_place g c) (map (λ (x : Arrival). Arrived x) (arrivals_in (take i items))) K) K t a b
+    → (let now = after (in_turn (at_place g c) (map (λ (x : Arrival). Arrived x) (arrivals_in (take i items))) K) K in Did g (cond (is_live c now) (at_item g c (arrival_of item.what) now) []) now n b s)
+    → Did g (in_turn (at_place g c) (map (λ (x : Arrival). Arrived x) (arrivals_in (take (i + 1) items))) K) K n a s
+one_more_item g c items i item K t n a b s lt is d e =
+    let f = at_place g c in
+    let xs = map (λ (x : Arrival). Arrived x) (arrivals_in (take i items)) in
+    let ys = map (λ (x : Arrival). Arrived x) (option_to_list (arrival_of item.what)) in
+    subst (λ (zs : List Said). Did g (in_turn f zs K) K n a s)
+    (sym (map-append (λ (x : Arrival). Arrived x) (arrivals_in (take i items)) (option_to_list (arrival_of item.what))) ∙ ap (λ (l : List Arrival). map (λ (x : Arrival). Arrived x) l) (arrives_next items i item lt is))
+    (did_as g _ _ K n a s (in_turn-append f xs ys K)
+    (did_then g (in_turn f xs K) _ K t n a b s d (did_as g _ _ _ n b s (placed g c (arrival_of item.what) (after (in_turn f xs K) K)) e)))

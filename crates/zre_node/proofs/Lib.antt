@@ -1,4 +1,3 @@
-pub mod Adding
 pub mod Amounts
 pub mod Asking
 pub mod Birth
@@ -9,7 +8,6 @@ pub mod Copying
 pub mod Counting
 pub mod Datagram
 pub mod Ending
-pub mod Entries
 pub mod Many
 pub mod Faulting
 pub mod Hearings

@@ -1,7 +1,7 @@
 -- What comes about on links, at the tables.
 use Rattle.std.proofs.Common.{◌≡◌, ℕ, ◌+◌, ◌-◌, ◌≤◌, min, Bool, true, false, ◌||◌, eqb, if◌then◌else◌, List, [], ◌∷◌, ◌++◌, length, Option, Some, None, IsSome, is_some, refl, sym, ap, ◌∙◌, nat_cmp, subst, eq-eqb}
 use Rattle.std.specs.List.{AllByRecursion, list_any}
-use Rattle.std.specs.BTreeMap.{BTreeMap, is_at}
+use Rattle.std.specs.BTreeMap.{is_at}
 use Rattle.std.specs.Map.{lookup, set_value}
 use Rattle.std.proofs.lemmas.List.Folds.{list_any-append}
 use Rattle.zre_outside.specs.declared.entry.Entry.{Entry}
@@ -22,12 +22,12 @@ use Rattle.zre_journal.specs.Proper.{IsProper}
 use Rattle.zre_journal.proofs.Kept.{known_lives, Links-proper, Sends-proper}
 use Rattle.zre_journal.proofs.Listed.{eqb-comm}
 use Rattle.zre_node.specs.declared.effects.Effects.{Effects}
-use Rattle.zre_node.specs.declared.peer.Peer.{Peer}
+use Rattle.zre_tables.specs.declared.peer.Peer.{Peer}
 use Rattle.zre_node.specs.declared.tables.Tables.{Tables}
 use Rattle.zre_node.specs.Links.{is_about_link, Notes}
-use Rattle.zre_node.specs.Tabled.{Tabled}
+use Rattle.zre_tables.specs.Tabled.{Tabled}
 use Rattle.zre_node.specs.Stands.{Holds, Keeps, Did, IsPeer, IsConn, is_quiet}
-use Rattle.zre_node.proofs.Entries.{Agree, changed}
+use Rattle.zre_tables.proofs.Entries.{Agree, changed}
 use Rattle.zre_node.proofs.Many.{or-nil, idle_did, silent_did}
 use Rattle.zre_node.proofs.Parting.{PeerRow, Found, Missing, peer_row, its_row}
 use Rattle.zre_node.proofs.Pushing.{row_link, written_back}
@@ -37,13 +37,13 @@ abbrev pub key : Life → ℕ
 key v = v.link
 
 -- all but the table of peers, after a mark that says nothing of it
-keeps_after : (g : Config) (K H : List Mark) (t : Tables) (P : BTreeMap ℕ Peer) → Keeps g K t → IsProper H → has_stopped H ≡ has_stopped K → clock H ≡ clock K → births H ≡ births K → ((c : ℕ) → is_new c H ≡ is_new c K)
-    → groups H ≡ groups K → status H ≡ status K → Tabled (λ (c : ℕ). c) (IsConn g H) (open_ones H) t.conns.entries → Keeps g H (record t { peers = P })
+keeps_after : (g : Config) (K H : List Mark) (t : Tables) (P : List (ℕ × Peer)) → Keeps g K t → IsProper H → has_stopped H ≡ has_stopped K → clock H ≡ clock K → births H ≡ births K → ((c : ℕ) → is_new c H ≡ is_new c K)
+    → groups H ≡ groups K → status H ≡ status K → Tabled (λ (c : ℕ). c) (IsConn g H) (open_ones H) t.conns → Keeps g H (record t { peers = P })
 keeps_after g K H t P k proper going same_clock same_births same_new same_groups same_status conns = keeps_as g K _ _ _ k proper going (refl, refl, refl) (k.clock_is ∙ sym same_clock) (k.births_is ∙ sym same_births) (λ c. same_new c ∙ k.last_is c) (subst (λ gs. AllByRecursion (λ group. length group ≤ 255) gs) (sym same_groups) k.groups_fit) (k.own ∙ rw (same_groups, same_status) refl) conns
 
-module _ (g : Config) (K : List Mark) (t : Tables) (h : Holds g K t) (l : ℕ) (k : Peer) (was : Some k ≡ lookup (is_at (nat_cmp l)) t.peers.entries) where
+module _ (g : Config) (K : List Mark) (t : Tables) (h : Holds g K t) (l : ℕ) (k : Peer) (was : Some k ≡ lookup (is_at (nat_cmp l)) t.peers) where
   pub its : (v : Life) × (life l K ≡ Some v) × IsPeer g K v k
-  its = its_row (IsPeer g K) K t.peers.entries h.peers l k was
+  its = its_row (IsPeer g K) K t.peers h.peers l k was
 
   pub link_is : l ≡ its.0.link
   link_is = (known_lives K h.keeps.proper l its.0 its.1).2
@@ -55,15 +55,15 @@ module _ (g : Config) (K : List Mark) (t : Tables) (h : Holds g K t) (l : ℕ) (
   me = eq-eqb its.0.link l (sym link_is)
 
   -- the rows with another link in that of l
-  pub relinked : (H : List Mark) (o : Sending) (P : BTreeMap ℕ Peer) → Agree key l (IsPeer g K) (IsPeer g H) → IsPeer g H its.0 (record k { link = o }) → P.entries ≡ set_value (is_at (nat_cmp l)) t.peers.entries (record k { link = o })
-      → Tabled key (IsPeer g H) (lives K) P.entries
+  pub relinked : (H : List Mark) (o : Sending) (P : List (ℕ × Peer)) → Agree key l (IsPeer g K) (IsPeer g H) → IsPeer g H its.0 (record k { link = o }) → P ≡ set_value (is_at (nat_cmp l)) t.peers (record k { link = o })
+      → Tabled key (IsPeer g H) (lives K) P
   relinked H o P others here put = subst (λ es. Tabled key (IsPeer g H) (lives K) es) (sym put)
-      (changed key (IsPeer g K) (IsPeer g H) l (record k { link = o }) others (lives K) t.peers.entries h.keeps.proper.living.apart
+      (changed key (IsPeer g K) (IsPeer g H) l (record k { link = o }) others (lives K) t.peers h.keeps.proper.living.apart
       (λ v f. let that : its.0 ≡ v = (let z : Some its.0 ≡ Some v = sym its.1 ∙ f in cc) in subst (λ u. IsPeer g H u (record k { link = o })) that here) h.peers)
 
   -- ---- it stands
 
-  stands_now : (o : Sending) (P : BTreeMap ℕ Peer) → o ≡ link_after g.id (line l K) true (replies l K) (taken l K) → P.entries ≡ set_value (is_at (nat_cmp l)) t.peers.entries (record k { link = o })
+  stands_now : (o : Sending) (P : List (ℕ × Peer)) → o ≡ link_after g.id (line l K) true (replies l K) (taken l K) → P ≡ set_value (is_at (nat_cmp l)) t.peers (record k { link = o })
       → Holds g (Links l ∷ K) (record t { peers = P })
   stands_now o P new put = record {
     keeps = keeps_after g K (Links l ∷ K) t P h.keeps (Links-proper K h.keeps.proper l (known_lives K h.keeps.proper l its.0 its.1).1) refl refl refl (λ c. refl) refl refl h.keeps.conns;
@@ -71,7 +71,7 @@ module _ (g : Config) (K : List Mark) (t : Tables) (h : Holds g K t) (l : ℕ) (
         (rw me record { id_is = its.2.id_is; active_is = its.2.active_is; run_is = its.2.run_is; link_is = new ∙ ap (λ j. link_after g.id (line j K) true (replies j K) (taken j K)) link_is }) put;
   }
 
-  pub linked_holds : (o : Sending) (P : BTreeMap ℕ Peer) → o ≡ link_after g.id (line l K) true (replies l K) (taken l K) → P.entries ≡ set_value (is_at (nat_cmp l)) t.peers.entries (record k { link = o })
+  pub linked_holds : (o : Sending) (P : List (ℕ × Peer)) → o ≡ link_after g.id (line l K) true (replies l K) (taken l K) → P ≡ set_value (is_at (nat_cmp l)) t.peers (record k { link = o })
       → Holds g (after (at_linked g l (life l K) K) K) (record t { peers = P })
   linked_holds o P new put = subst (λ (x : Option Life). Holds g (after (at_linked g l x K) K) (record t { peers = P })) (sym its.1) (by (is_linked l K) refl)
     where
@@ -81,7 +81,7 @@ module _ (g : Config) (K : List Mark) (t : Tables) (h : Holds g K t) (l : ℕ) (
 
   -- ---- it takes octets
 
-  takes_now : (n : ℕ) (o : Sending) (P : BTreeMap ℕ Peer) → o ≡ link_after g.id (line l K) (is_linked l K) (replies l K) (taken l K + n) → P.entries ≡ set_value (is_at (nat_cmp l)) t.peers.entries (record k { link = o })
+  takes_now : (n : ℕ) (o : Sending) (P : List (ℕ × Peer)) → o ≡ link_after g.id (line l K) (is_linked l K) (replies l K) (taken l K + n) → P ≡ set_value (is_at (nat_cmp l)) t.peers (record k { link = o })
       → Holds g (Sends l n ∷ K) (record t { peers = P })
   takes_now n o P new put = record {
     keeps = keeps_after g K (Sends l n ∷ K) t P h.keeps (Sends-proper K h.keeps.proper l n (known_lives K h.keeps.proper l its.0 its.1).1) refl refl refl (λ c. refl) refl refl h.keeps.conns;
@@ -89,8 +89,8 @@ module _ (g : Config) (K : List Mark) (t : Tables) (h : Holds g K t) (l : ℕ) (
         (rw me record { id_is = its.2.id_is; active_is = its.2.active_is; run_is = its.2.run_is; link_is = new ∙ ap (λ j. link_after g.id (line j K) (is_linked j K) (replies j K) (taken j K + n)) link_is }) put;
   }
 
-  pub took_holds : (n : ℕ) (o : Sending) (P : BTreeMap ℕ Peer) → o ≡ link_after g.id (line l K) (is_linked l K) (replies l K) (taken_by g.id (line l K) (is_linked l K) (replies l K) (taken l K) n)
-      → P.entries ≡ set_value (is_at (nat_cmp l)) t.peers.entries (record k { link = o }) → Holds g (after (at_took g l n (life l K) K) K) (record t { peers = P })
+  pub took_holds : (n : ℕ) (o : Sending) (P : List (ℕ × Peer)) → o ≡ link_after g.id (line l K) (is_linked l K) (replies l K) (taken_by g.id (line l K) (is_linked l K) (replies l K) (taken l K) n)
+      → P ≡ set_value (is_at (nat_cmp l)) t.peers (record k { link = o }) → Holds g (after (at_took g l n (life l K) K) K) (record t { peers = P })
   took_holds n o P new put = subst (λ (x : Option Life). Holds g (after (at_took g l n x K) K) (record t { peers = P })) (sym its.1) (takes_now (min n (gate g l K - taken l K)) o P new put)
 
 -- no mark comes about on a link of no known peer
@@ -122,10 +122,10 @@ took_did g K l m n a = known (life l K)
 -- ---- it breaks
 
 -- whether a link has a row
-pub some_peer : (g : Config) (K : List Mark) (t : Tables) → Holds g K t → (l : ℕ) → is_some (lookup (is_at (nat_cmp l)) t.peers.entries) ≡ is_some (life l K)
-some_peer g K t h l = by (peer_row (IsPeer g K) K t.peers.entries h.peers l)
+pub some_peer : (g : Config) (K : List Mark) (t : Tables) → Holds g K t → (l : ℕ) → is_some (lookup (is_at (nat_cmp l)) t.peers) ≡ is_some (life l K)
+some_peer g K t h l = by (peer_row (IsPeer g K) K t.peers h.peers l)
   where
-    by : PeerRow (IsPeer g K) K l (lookup (is_at (nat_cmp l)) t.peers.entries) → is_some (lookup (is_at (nat_cmp l)) t.peers.entries) ≡ is_some (life l K)
+    by : PeerRow (IsPeer g K) K l (lookup (is_at (nat_cmp l)) t.peers) → is_some (lookup (is_at (nat_cmp l)) t.peers) ≡ is_some (life l K)
     by (Found v k f o p) = rw (f, o) refl
     by (Missing f o) = rw (f, o) refl
 

@@ -1,11 +1,10 @@
 -- How many looks an entry takes.
-use Rattle.std.proofs.Common.{nat_cmp, eqb, eq-eqb, ◌≡◌, ℕ, ◌+◌, ◌≤◌, Bool, true, false, cond, List, [], ◌∷◌, ◌++◌, length, Some, None, Result, Ok, Err, IsErrAnd, OnOk, IfOk, refl, sym, ap, ◌∙◌, arith, subst, append-nil}
+use Rattle.std.proofs.Common.{nat_cmp, eqb, eq-eqb, ◌≡◌, ℕ, ◌+◌, ◌≤◌, Bool, true, false, cond, if◌then◌else◌, List, [], ◌∷◌, ◌++◌, length, Some, None, Result, Ok, Err, IsErrAnd, refl, sym, ap, ◌∙◌, arith, subst, append-nil}
 use Rattle.std.proofs.lemmas.Result.{err_from_is_err_and}
 use Rattle.zre_values.specs.declared.memory.OutOfMemory.{OutOfMemory}
 use Rattle.zre_outside.specs.declared.entry.Entry.{Entry}
 use Rattle.zre_outside.specs.declared.entry.Input.{Input}
 use Rattle.zre_outside.specs.declared.entry.Input.TheVariants as input
-use Rattle.zre_values.proofs.Answered.{on_ok}
 use Rattle.zre_zmtp.specs.Looks.{Looks, IsPaid, IsPaidOnRefusal}
 use Rattle.zre_mailbox.specs.Conn.{conn_after, kept_of}
 use Rattle.zre_link.specs.Heard.{heard_after, kept_of as kept_of_replies}
@@ -22,17 +21,18 @@ use Rattle.zre_journal.specs.Proper.{IsProper}
 use Rattle.zre_journal.proofs.Kept.{Comes-proper}
 use Rattle.zre_journal.proofs.Joined.{continues}
 use Rattle.zre_journal.proofs.Lowered.{input_lowers, quiet_keeps, piece_moves, piece_lost, piece_part, reply_moves, reply_lost, reply_part}
-use Rattle.zre_node.specs.declared.connection.Connection.{Connection}
-use Rattle.zre_node.specs.Holding.{reader_octets, conn_row_octets}
+use Rattle.zre_tables.specs.Holding.{reader_at}
 use Rattle.std.specs.BTreeMap.{is_at}
 use Rattle.std.specs.Map.{lookup}
-use Rattle.zre_link.specs.Link.{Sending, link_after, link_answering}
-use Rattle.zre_node.specs.declared.peer.Peer.{Peer}
-use Rattle.zre_node.proofs.Coming.{quiet_piece, quiet_reply, grown}
+use Rattle.zre_link.specs.Link.{link_after}
+use Rattle.zre_link.specs.Text.{Member}
+use Rattle.zre_values.specs.declared.peer_id.PeerId.{PeerId}
+use Rattle.zre_tables.specs.declared.peer.Peer.{Peer}
+use Rattle.zre_node.proofs.Coming.{quiet_piece, quiet_reply, grown, unread, deaf, hears}
 use Rattle.zre_node.proofs.Linking.{its, link_is}
 use Rattle.zre_node.proofs.Pushing.{row_link}
 use Rattle.zre_node.specs.Brings.{octets_of}
-use Rattle.zre_node.specs.Stands.{Holds, Rests, heard_by, is_quiet, kept_conn}
+use Rattle.zre_node.specs.Stands.{Holds, Rests, is_quiet}
 use Rattle.zre_node.specs.declared.tables.Tables.{Tables}
 
 -- ---- what was paid
@@ -98,40 +98,26 @@ kept_happened g J e = ap (kept g) (sym (continues g J (e ∷ [])).happened)
 
 -- ---- a piece
 
-pub on_map : {T E : Type 0} {B : Type 0} (r : Result T E) (P : T → Type 0) → (f : (x : T) → P x → B) → IfOk r P → OnOk r B
-on_map (Ok x) P f p = f x p
-on_map (Err e) P f p = tt
-
--- the answer of a call that has read a connection: only where it is Ok the row is known
-row_looks : {A : Type 0} (r : Result A OutOfMemory) (looks looks' one one' row' all all' n : ℕ) → all' + one ≡ all + one' → one ≤ all → OnOk r (row' ≡ one') → Looks looks looks' one row' n r → Looks looks looks' all all' n r
-row_looks (Ok x) looks looks' one one' row' all all' n moves part is p = (omega (arith, moves, part, is, p.0), tt)
-row_looks (Err e) looks looks' one one' row' all all' n moves part is p = (tt, omega (arith, part, p.1))
-
 module _ (g : Config) (H : List Mark) (t : Tables) (h : Holds g H t) (e : Entry) (c : ℕ) (o : List ℕ) (is : e.input ≡ input.Piece c o) where
   pub lost_looks : {A : Type 0} (r : Result A OutOfMemory) (looks : ℕ) → is_open c H ≡ false → Looks looks looks (kept g H) (kept g (Comes e ∷ H)) (length o) r
   lost_looks r looks gone = no_looks r looks (kept g H) (kept g (Comes e ∷ H)) (length o) (omega (arith, piece_lost g H h.keeps.proper e c o is gone))
 
-  pub heard_looks : {A : Type 0} (r : Result A OutOfMemory) (looks looks' : ℕ) → is_open c H ≡ true → (x x' : Connection) → x ≡ kept_conn g H c
-      → ((q : List ℕ) → x.conn ≡ Some (conn_after g.id q) → OnOk r (x' ≡ record x { conn = Some (conn_after g.id (q ++ o)) }) × Looks looks looks' (conn_row_octets x) (conn_row_octets x') (length o) r)
-      → (x.conn ≡ None → looks' ≡ looks) → Looks looks looks' (kept g H) (kept g (Comes e ∷ H)) (length o) r
-  heard_looks {A} r looks looks' there x x' row live dead = by (is_ignored c H) refl
+  pub heard_looks : {A : Type 0} (r : Result A OutOfMemory) (looks looks' : ℕ)
+      → ((own : PeerId) (q : List ℕ) → reader_at c t.conns ≡ Some (conn_after own q) → Looks looks looks' (kept_of (conn_after own q)) (kept_of (conn_after own (q ++ o))) (length o) r)
+      → (reader_at c t.conns ≡ None → looks' ≡ looks) → Looks looks looks' (kept g H) (kept g (Comes e ∷ H)) (length o) r
+  heard_looks {A} r looks looks' live dead = by (is_open c H) refl (is_ignored c H) refl
     where
-      moves : kept g (Comes e ∷ H) + conn_kept g H c ≡ kept g H + conn_kept g (Comes e ∷ H) c
-      moves = piece_moves g H h.keeps.proper e c o is there
-
-      by : (b : Bool) → is_ignored c H ≡ b → Looks looks looks' (kept g H) (kept g (Comes e ∷ H)) (length o) r
-      by true q =
-          let deaf : x.conn ≡ None = ap (λ (y : Connection). y.conn) row ∙ ap (λ b. heard_by b g.id (bytes c H)) q in
+      by : (b : Bool) → is_open c H ≡ b → (d : Bool) → is_ignored c H ≡ d → Looks looks looks' (kept g H) (kept g (Comes e ∷ H)) (length o) r
+      by false z d q = subst (λ l. Looks looks l (kept g H) (kept g (Comes e ∷ H)) (length o) r) (sym (dead (unread g H t h e c o is z))) (lost_looks r looks z)
+      by true z true q =
           let now : conn_kept g (Comes e ∷ H) c ≡ 0 = ap (λ b. cond b 0 (kept_of (conn_after g.id (bytes c (Comes e ∷ H))))) q in
-          subst (λ l. Looks looks l (kept g H) (kept g (Comes e ∷ H)) (length o) r) (sym (dead deaf)) (no_looks r looks (kept g H) (kept g (Comes e ∷ H)) (length o) (omega (arith, moves, now)))
-      by false q =
-          let hears : x.conn ≡ Some (conn_after g.id (bytes c H)) = ap (λ (y : Connection). y.conn) row ∙ ap (λ b. heard_by b g.id (bytes c H)) q in
-          let l = live (bytes c H) hears in
-          let was : conn_row_octets x ≡ conn_kept g H c = ap reader_octets hears ∙ sym (ap (λ b. cond b 0 (kept_of (conn_after g.id (bytes c H)))) q) in
-          let now : conn_kept g (Comes e ∷ H) c ≡ kept_of (conn_after g.id (bytes c H ++ o)) = ap (λ b. cond b 0 (kept_of (conn_after g.id (bytes c (Comes e ∷ H))))) q ∙ ap (λ p. kept_of (conn_after g.id p)) (grown g H t h e c o is there) in
-          row_looks r looks looks' (conn_row_octets x) (conn_kept g (Comes e ∷ H) c) (conn_row_octets x') (kept g H) (kept g (Comes e ∷ H)) (length o)
-          (omega (arith, moves, was)) (omega (arith, piece_part g H h.keeps.proper e c o is there, was))
-          (on_ok r l.0 (λ y. ap conn_row_octets y ∙ sym now)) l.1
+          subst (λ l. Looks looks l (kept g H) (kept g (Comes e ∷ H)) (length o) r) (sym (dead (deaf g H t h e c o is z q)))
+          (no_looks r looks (kept g H) (kept g (Comes e ∷ H)) (length o) (omega (arith, piece_moves g H h.keeps.proper e c o is z, now)))
+      by true z false q =
+          let was : conn_kept g H c ≡ kept_of (conn_after g.id (bytes c H)) = ap (λ b. cond b 0 (kept_of (conn_after g.id (bytes c H)))) q in
+          let now : conn_kept g (Comes e ∷ H) c ≡ kept_of (conn_after g.id (bytes c H ++ o)) = ap (λ b. cond b 0 (kept_of (conn_after g.id (bytes c (Comes e ∷ H))))) q ∙ ap (λ p. kept_of (conn_after g.id p)) (grown g H t h e c o is z) in
+          part_looks r looks looks' (kept_of (conn_after g.id (bytes c H))) (kept_of (conn_after g.id (bytes c H ++ o))) (kept g H) (kept g (Comes e ∷ H)) (length o)
+          (omega (arith, piece_moves g H h.keeps.proper e c o is z, was, now)) (omega (arith, piece_part g H h.keeps.proper e c o is z, was)) (live g.id (bytes c H) (hears g H t h e c o is z q))
 
 -- ---- a reply
 
@@ -139,13 +125,13 @@ module _ (g : Config) (H : List Mark) (t : Tables) (h : Holds g H t) (e : Entry)
   pub unknown_looks : (A : Type 0) (r : Result A OutOfMemory) (looks : ℕ) → life l H ≡ None → Looks looks looks (kept g H) (kept g (Comes e ∷ H)) (length o) r
   unknown_looks A r looks none = no_looks r looks (kept g H) (kept g (Comes e ∷ H)) (length o) (omega (arith, reply_lost g H h.keeps.proper e l o is none))
 
-  module _ (k : Peer) (was : Some k ≡ lookup (is_at (nat_cmp l)) t.peers.entries) where
-    pub replied_looks : {A : Type 0} (r : Result A OutOfMemory) (s : Sending) (looks looks' : ℕ) → Looks looks looks' (kept_of_replies k.link.replies) (kept_of_replies s.replies) (length o) r
-        → (k.link ≡ link_after g.id (line l H) true (replies l H) (taken l H) → OnOk r (s ≡ link_answering g.id (line l H) true (replies l H) (taken l H) o))
-        → (k.link.linked ≡ false → OnOk r (s ≡ k.link)) → Looks looks looks' (kept g H) (kept g (Comes e ∷ H)) (length o) r
-    replied_looks {A} r s looks looks' paid live dead =
-        row_looks r looks looks' (kept_of_replies k.link.replies) (replies_kept g (Comes e ∷ H) v) (kept_of_replies s.replies) (kept g H) (kept g (Comes e ∷ H)) (length o)
-        (omega (arith, reply_moves g H h.keeps.proper e l o is v known, had)) (omega (arith, reply_part g H h.keeps.proper e l o is v known, had)) (by (is_linked l H) refl) paid
+  module _ (k : Peer) (was : Some k ≡ lookup (is_at (nat_cmp l)) t.peers) where
+    pub replied_looks : {A : Type 0} (r : Result A OutOfMemory) (looks looks' : ℕ)
+        → ((own : PeerId) (ms : List Member) (b : Bool) (q : List ℕ) (n : ℕ) → k.link ≡ link_after own ms b q n → Looks looks looks' (kept_of_replies (heard_after q)) (kept_of_replies (heard_after (if b then q ++ o else q))) (length o) r)
+        → Looks looks looks' (kept g H) (kept g (Comes e ∷ H)) (length o) r
+    replied_looks {A} r looks looks' paid =
+        part_looks r looks looks' (kept_of_replies (heard_after (replies l H))) (kept_of_replies (heard_after (if is_linked l H then replies l H ++ o else replies l H))) (kept g H) (kept g (Comes e ∷ H)) (length o)
+        (omega (arith, reply_moves g H h.keeps.proper e l o is v known, had, now)) (omega (arith, reply_part g H h.keeps.proper e l o is v known, had)) (paid g.id (line l H) (is_linked l H) (replies l H) (taken l H) (row_link g H t h l k was))
       where
         v : Life
         v = (its g H t h l k was).0
@@ -153,24 +139,15 @@ module _ (g : Config) (H : List Mark) (t : Tables) (h : Holds g H t) (e : Entry)
         known : life l H ≡ Some v
         known = (its g H t h l k was).1
 
-        row : k.link ≡ link_after g.id (line l H) (is_linked l H) (replies l H) (taken l H)
-        row = row_link g H t h l k was
-
         same : l ≡ v.link
         same = link_is g H t h l k was
 
-        had : kept_of_replies k.link.replies ≡ replies_kept g H v
-        had = ap (λ (x : Sending). kept_of_replies x.replies) row ∙ ap (λ n. kept_of_replies (heard_after (replies n H))) same
+        had : kept_of_replies (heard_after (replies l H)) ≡ replies_kept g H v
+        had = ap (λ n. kept_of_replies (heard_after (replies n H))) same
 
-        now : (p : List ℕ) → replies l (Comes e ∷ H) ≡ p → s.replies ≡ heard_after p → kept_of_replies s.replies ≡ replies_kept g (Comes e ∷ H) v
-        now p q y = ap kept_of_replies y ∙ ap (λ z. kept_of_replies (heard_after z)) (sym q) ∙ ap (λ n. kept_of_replies (heard_after (replies n (Comes e ∷ H)))) same
+        grows : (b : Bool) → is_linked l H ≡ b → replies l (Comes e ∷ H) ≡ (if b then replies l H ++ o else replies l H)
+        grows true q = let this : eqb l l ≡ true = eq-eqb l l refl in rw (q, is, this) refl
+        grows false q = rw q (append-nil (replies l H))
 
-        up : is_linked l H ≡ true → replies l (Comes e ∷ H) ≡ replies l H ++ o
-        up q = let this : eqb l l ≡ true = eq-eqb l l refl in rw (q, is, this) refl
-
-        down : is_linked l H ≡ false → replies l (Comes e ∷ H) ≡ replies l H
-        down q = rw q (append-nil (replies l H))
-
-        by : (b : Bool) → is_linked l H ≡ b → OnOk r (kept_of_replies s.replies ≡ replies_kept g (Comes e ∷ H) v)
-        by true q = on_ok r (live (row ∙ ap (λ b. link_after g.id (line l H) b (replies l H) (taken l H)) q)) (λ y. now (replies l H ++ o) (up q) (ap (λ (z : Sending). z.replies) y))
-        by false q = on_ok r (dead (ap (λ (x : Sending). x.linked) row ∙ q)) (λ y. now (replies l H) (down q) (ap (λ (z : Sending). z.replies) y ∙ ap (λ (z : Sending). z.replies) row))
+        now : kept_of_replies (heard_after (if is_linked l H then replies l H ++ o else replies l H)) ≡ replies_kept g (Comes e ∷ H) v
+        now = ap (λ p. kept_of_replies (heard_after p)) (sym (grows (is_linked l H) refl)) ∙ ap (λ n. kept_of_replies (heard_after (replies n (Comes e ∷ H)))) same

@@ -1,6 +1,6 @@
 -- Peers found in their table, and taken out of it.
 use Rattle.std.proofs.Common.{◌≡◌, ℕ, List, Option, Some, None, IsSome, sym, ◌∙◌, nat_cmp, subst, refl}
-use Rattle.std.specs.BTreeMap.{BTreeMap, is_at}
+use Rattle.std.specs.BTreeMap.{is_at}
 use Rattle.std.specs.Map.{lookup, remove_entry}
 use Rattle.zre_msg.specs.declared.message.Message.{Message}
 use Rattle.zre_peer.specs.Runs.{shown}
@@ -9,15 +9,16 @@ use Rattle.zre_values.specs.declared.peer_id.PeerId.{PeerId}
 use Rattle.zre_journal.specs.declared.config.Config.{Config}
 use Rattle.zre_journal.specs.Chronicle.{Mark}
 use Rattle.zre_journal.specs.Peers.{Life, lives, life, runner, counted, other_lives}
-use Rattle.zre_node.specs.declared.peer.Peer.{Peer}
-use Rattle.zre_node.specs.declared.peer.Running.{Running}
+use Rattle.zre_tables.specs.declared.peer.Peer.{Peer}
+use Rattle.zre_tables.specs.declared.peer.Running.{Running}
 use Rattle.zre_node.specs.declared.tables.Tables.{Tables}
-use Rattle.zre_node.specs.Tabled.{Tabled}
-use Rattle.zre_node.specs.Stands.{IsRunning, Holds, Keeps, Nearly, Parted, HadRun, HasRun, IsLeaving, IsBut, IsPeer}
-use Rattle.zre_node.proofs.Entries.{Row, Is, IsNone, row, removed, retold}
+use Rattle.zre_tables.specs.Tabled.{Tabled}
+use Rattle.zre_tables.specs.Runs.{IsRunning, HadRun, HasRun}
+use Rattle.zre_node.specs.Stands.{Holds, Keeps, Nearly, Parted, IsLeaving, IsBut, IsPeer}
+use Rattle.zre_tables.proofs.Entries.{Row, Is, IsNone, row, removed, retold}
 use Rattle.zre_node.proofs.Keeping.{keeps_as}
 
-pub keeps_with : (g : Config) (H : List Mark) (t : Tables) → Keeps g H t → (P : BTreeMap ℕ Peer) → Keeps g H (record t { peers = P })
+pub keeps_with : (g : Config) (H : List Mark) (t : Tables) → Keeps g H t → (P : List (ℕ × Peer)) → Keeps g H (record t { peers = P })
 keeps_with g H t k P = keeps_as g H _ _ _ k k.proper refl (refl, refl, refl) k.clock_is k.births_is k.last_is k.groups_fit k.own k.conns
 
 -- the row of a known peer
@@ -51,6 +52,14 @@ pub not_missing : {C : Type 0} (o : Option Life) → IsSome o → o ≡ None →
 not_missing None s e = cc
 not_missing (Some v) s e = cc
 
+-- a known peer has a row
+pub known_row : (P : Life → Peer → Type 0) (H : List Mark) (es : List (ℕ × Peer)) → Tabled (λ (v : Life). v.link) P (lives H) es → (l : ℕ) → IsSome (life l H) → (k : Peer) × (lookup (is_at (nat_cmp l)) es ≡ Some k)
+known_row P H es t l s = by (peer_row P H es t l)
+  where
+    by : PeerRow P H l (lookup (is_at (nat_cmp l)) es) → (k : Peer) × (lookup (is_at (nat_cmp l)) es ≡ Some k)
+    by (Found v k f o p) = (k, o)
+    by (Missing f o) = not_missing (life l H) s f
+
 -- ---- a peer that ends
 
 -- a run shows its view
@@ -67,20 +76,20 @@ leaves g H v k p = record { id_is = p.id_is; run_is = had (runner v.link H) v.id
 pub nearly : (g : Config) (H : List Mark) (l : ℕ) (t : Tables) → Holds g H t → Nearly g H l t
 nearly g H l t h = record {
   keeps = h.keeps;
-  peers = retold (λ (v : Life). v.link) (IsPeer g H) (IsBut g H l) (λ v k p. record { leaving = leaves g H v k p; staying = λ far. p }) (lives H) t.peers.entries h.peers;
+  peers = retold (λ (v : Life). v.link) (IsPeer g H) (IsBut g H l) (λ v k p. record { leaving = leaves g H v k p; staying = λ far. p }) (lives H) t.peers h.peers;
 }
 
-pub parts : (g : Config) (H : List Mark) (l : ℕ) (t : Tables) → Nearly g H l t → (k : Peer) → Some k ≡ lookup (is_at (nat_cmp l)) t.peers.entries
-    → (P : BTreeMap ℕ Peer) → P.entries ≡ remove_entry (is_at (nat_cmp l)) t.peers.entries → Parted g H l k (record t { peers = P })
+pub parts : (g : Config) (H : List Mark) (l : ℕ) (t : Tables) → Nearly g H l t → (k : Peer) → Some k ≡ lookup (is_at (nat_cmp l)) t.peers
+    → (P : List (ℕ × Peer)) → P ≡ remove_entry (is_at (nat_cmp l)) t.peers → Parted g H l k (record t { peers = P })
 parts g H l t n k e P is =
-    let r = its_row (IsBut g H l) H t.peers.entries n.peers l k e in
+    let r = its_row (IsBut g H l) H t.peers n.peers l k e in
     record {
       keeps = keeps_with g H t n.keeps P;
       gone = r.0;
       known = r.1;
       leaving = r.2.leaving;
       peers = subst (λ es. Tabled (λ (v : Life). v.link) (IsPeer g H) (other_lives l (lives H)) es) (sym is)
-          (removed (λ (v : Life). v.link) (IsBut g H l) (IsPeer g H) l (λ v w far b. b.staying far) (lives H) t.peers.entries n.keeps.proper.living.apart n.peers);
+          (removed (λ (v : Life). v.link) (IsBut g H l) (IsPeer g H) l (λ v w far b. b.staying far) (lives H) t.peers n.keeps.proper.living.apart n.peers);
     }
 
 -- a known peer has its row

@@ -1,7 +1,7 @@
 -- A body put on a link, at the tables.
 use Rattle.std.proofs.Common.{◌≡◌, ℕ, ◌+◌, ◌-◌, ◌<◌, ◌≤◌, true, false, eqb, ltb, if◌then◌else◌, List, [], ◌∷◌, ◌++◌, length, Some, refl, sym, ap, ◌∙◌, nat_cmp, subst, eq-eqb, eqb-true, lt-ltb, le-ltb, append-nil}
 use Rattle.std.specs.List.{list_any}
-use Rattle.std.specs.BTreeMap.{BTreeMap, is_at}
+use Rattle.std.specs.BTreeMap.{is_at}
 use Rattle.std.specs.Map.{lookup, set_value}
 use Rattle.std.proofs.lemmas.List.Folds.{list_any-append}
 use Rattle.zre_msg.specs.declared.message.Body.{Body}
@@ -15,18 +15,18 @@ use Rattle.zre_journal.specs.Links.{line, put_on, is_linked, replies, taken, uns
 use Rattle.zre_journal.specs.Pushes.{push}
 use Rattle.zre_journal.proofs.Kept.{known_lives, Puts-proper}
 use Rattle.zre_journal.proofs.Listed.{eqb-comm, found_passes}
-use Rattle.zre_node.specs.declared.peer.Peer.{Peer}
+use Rattle.zre_tables.specs.declared.peer.Peer.{Peer}
 use Rattle.zre_node.specs.declared.tables.Tables.{Tables}
 use Rattle.zre_node.specs.declared.effects.Effects.{Effects}
-use Rattle.zre_node.specs.Tabled.{Tabled}
+use Rattle.zre_tables.specs.Tabled.{Tabled}
 use Rattle.zre_node.specs.Stands.{Holds, Did, IsPeer, link_of_life}
-use Rattle.zre_node.proofs.Entries.{changed}
+use Rattle.zre_tables.proofs.Entries.{changed}
 use Rattle.zre_node.proofs.Parting.{its_row, keeps_with}
 use Rattle.zre_node.proofs.Keeping.{keeps_as}
 
-module _ (g : Config) (K : List Mark) (t : Tables) (h : Holds g K t) (l : ℕ) (k : Peer) (was : Some k ≡ lookup (is_at (nat_cmp l)) t.peers.entries) where
+module _ (g : Config) (K : List Mark) (t : Tables) (h : Holds g K t) (l : ℕ) (k : Peer) (was : Some k ≡ lookup (is_at (nat_cmp l)) t.peers) where
   its : (v : Life) × (life l K ≡ Some v) × IsPeer g K v k
-  its = its_row (IsPeer g K) K t.peers.entries h.peers l k was
+  its = its_row (IsPeer g K) K t.peers h.peers l k was
 
   link_is : l ≡ its.0.link
   link_is = eqb-true l its.0.link (found_passes (λ (u : Life). eqb l u.link) (lives K) its.0 its.1)
@@ -36,24 +36,24 @@ module _ (g : Config) (K : List Mark) (t : Tables) (h : Holds g K t) (l : ℕ) (
   row_link = its.2.link_is ∙ ap (link_of_life g K) (sym link_is)
 
   -- a row whose link is as before
-  pub written_back : (o : Sending) (P : BTreeMap ℕ Peer) → o ≡ k.link → P.entries ≡ set_value (is_at (nat_cmp l)) t.peers.entries (record k { link = o }) → Holds g K (record t { peers = P })
+  pub written_back : (o : Sending) (P : List (ℕ × Peer)) → o ≡ k.link → P ≡ set_value (is_at (nat_cmp l)) t.peers (record k { link = o }) → Holds g K (record t { peers = P })
   written_back o P same put = record {
     keeps = keeps_with g K t h.keeps P;
     peers = subst (λ es. Tabled (λ (v : Life). v.link) (IsPeer g K) (lives K) es) (sym put)
-        (changed (λ (v : Life). v.link) (IsPeer g K) (IsPeer g K) l (record k { link = o }) (λ v w far is. is) (lives K) t.peers.entries h.keeps.proper.living.apart
+        (changed (λ (v : Life). v.link) (IsPeer g K) (IsPeer g K) l (record k { link = o }) (λ v w far is. is) (lives K) t.peers h.keeps.proper.living.apart
         (λ v f. let at : v ≡ its.0 = (let z : Some v ≡ Some its.0 = sym f ∙ its.1 in cc) in
         let is = subst (λ u. IsPeer g K u k) (sym at) its.2 in
         record { id_is = is.id_is; active_is = is.active_is; run_is = is.run_is; link_is = same ∙ is.link_is }) h.peers);
   }
 
   -- a row on whose link a body was put
-  pub puts_it : (b : Body) (o : Sending) (P : BTreeMap ℕ Peer) → o ≡ link_after g.id (line l K ++ Says b ∷ []) (is_linked l K) (replies l K) (taken l K)
-      → P.entries ≡ set_value (is_at (nat_cmp l)) t.peers.entries (record k { link = o }) → Holds g (Puts l b ∷ K) (record t { peers = P })
+  pub puts_it : (b : Body) (o : Sending) (P : List (ℕ × Peer)) → o ≡ link_after g.id (line l K ++ Says b ∷ []) (is_linked l K) (replies l K) (taken l K)
+      → P ≡ set_value (is_at (nat_cmp l)) t.peers (record k { link = o }) → Holds g (Puts l b ∷ K) (record t { peers = P })
   puts_it b o P new put = record {
     keeps = keeps_as g K _ _ _ h.keeps (Puts-proper K h.keeps.proper l b (known_lives K h.keeps.proper l its.0 its.1).1) refl (refl, refl, refl) h.keeps.clock_is h.keeps.births_is h.keeps.last_is h.keeps.groups_fit h.keeps.own h.keeps.conns;
     peers = subst (λ es. Tabled (λ (v : Life). v.link) (IsPeer g (Puts l b ∷ K)) (lives K) es) (sym put)
         (changed (λ (v : Life). v.link) (IsPeer g K) (IsPeer g (Puts l b ∷ K)) l (record k { link = o })
-        (λ v w far is. let off : eqb v.link l ≡ false = eqb-comm v.link l ∙ far in rw off is) (lives K) t.peers.entries h.keeps.proper.living.apart
+        (λ v w far is. let off : eqb v.link l ≡ false = eqb-comm v.link l ∙ far in rw off is) (lives K) t.peers h.keeps.proper.living.apart
         (λ v f. let at : v ≡ its.0 = (let z : Some v ≡ Some its.0 = sym f ∙ its.1 in cc) in
         let here : l ≡ v.link = eqb-true l v.link (found_passes (λ (u : Life). eqb l u.link) (lives K) v f) in
         let me : eqb v.link l ≡ true = eq-eqb v.link l (sym here) in

@@ -1,8 +1,11 @@
 -- Replies on links, at the tables: PONGs are put, and peers end.
-use Rattle.std.proofs.Common.{◌≡◌, ℕ, ◌≤◌, max, Bool, true, false, cond, ◌||◌, eqb, List, [], ◌∷◌, ◌++◌, length, map, Option, Some, None, IsSome, IfSome, find, refl, sym, ap, ◌∙◌, nat_cmp, subst, eq-eqb, append-nil, append_assoc, drop}
+use Rattle.std.proofs.Common.{◌≡◌, ℕ, ◌≤◌, max, Bool, true, false, cond, ◌||◌, eqb, List, [], ◌∷◌, ◌++◌, length, map, Option, Some, None, IsSome, IfSome, Result, IfOk, find, refl, sym, ap, ◌∙◌, nat_cmp, subst, eq-eqb, append-nil, append_assoc, drop}
 use Rattle.std.specs.List.{AllByRecursion, list_any}
-use Rattle.std.specs.BTreeMap.{BTreeMap, is_at}
-use Rattle.std.specs.Map.{lookup, set_value}
+use Rattle.std.specs.BTreeMap.{is_at}
+use Rattle.std.specs.Map.{lookup}
+use Rattle.std.proofs.lemmas.Map.Steps.{set_value_same}
+use Rattle.std.proofs.lemmas.Result.{IfOk-weaker}
+use Rattle.zre_values.specs.declared.memory.OutOfMemory.{OutOfMemory}
 use Rattle.zre_values.specs.declared.peer_id.PeerId.{PeerId}
 use Rattle.zre_outside.specs.declared.entry.Entry.{Entry}
 use Rattle.zre_outside.specs.declared.entry.Input.TheVariants as input
@@ -22,13 +25,14 @@ use Rattle.zre_journal.specs.Told.{told}
 use Rattle.zre_journal.proofs.Kept.{known_lives, Comes-proper, PutsPong-proper}
 use Rattle.zre_journal.proofs.Listed.{eqb-comm}
 use Rattle.zre_node.specs.declared.effects.Effects.{Effects}
-use Rattle.zre_node.specs.declared.peer.Peer.{Peer}
+use Rattle.zre_tables.specs.declared.peer.Peer.{Peer}
 use Rattle.zre_node.specs.declared.tables.Tables.{Tables}
 use Rattle.zre_node.specs.Links.{pongs, IsReplied}
-use Rattle.zre_node.specs.Tabled.{Tabled}
+use Rattle.zre_tables.specs.Rows.{with_row}
+use Rattle.zre_tables.specs.Tabled.{Tabled}
 use Rattle.zre_node.specs.Stands.{Holds, Keeps, Did, IsPeer, IsKept, IsConn, link_of_life}
 use Rattle.zre_node.proofs.Coming.{other_conn, no_replies}
-use Rattle.zre_node.proofs.Entries.{Agree, retold, retold_of}
+use Rattle.zre_tables.proofs.Entries.{Agree, retold, retold_of}
 use Rattle.zre_node.proofs.Linking.{key, its, link_is, its_known, relinked}
 use Rattle.zre_node.proofs.Many.{or-nil}
 use Rattle.zre_node.proofs.Pushing.{row_link}
@@ -127,8 +131,8 @@ module _ (g : Config) (H : List Mark) (t : Tables) (h : Holds g H t) (e : Entry)
     link_is = p.link_is ∙ ap (λ r. link_after g.id (line v.link H) (is_linked v.link H) r (taken v.link H)) (no_replies g H t h e v.link (let off : eqb v.link l ≡ false = eqb-comm v.link l ∙ far in rw (is, off) refl));
   }
 
-  comes_keeps : (P : BTreeMap ℕ Peer) → Keeps g K (record t { clock = max e.at t.clock; peers = P })
-  comes_keeps P = keeps_as g H _ _ _ h.keeps (Comes-proper H h.keeps.proper e) refl (refl, refl, refl) (ap (max e.at) h.keeps.clock_is) h.keeps.births_is h.keeps.last_is h.keeps.groups_fit h.keeps.own (retold (λ (c : ℕ). c) (IsConn g H) (IsConn g K) (λ c k q. q ∙ other_conn g H t h e c (no_piece c)) (open_ones H) t.conns.entries h.keeps.conns)
+  comes_keeps : (P : List (ℕ × Peer)) → Keeps g K (record t { clock = max e.at t.clock; peers = P })
+  comes_keeps P = keeps_as g H _ _ _ h.keeps (Comes-proper H h.keeps.proper e) refl (refl, refl, refl) (ap (max e.at) h.keeps.clock_is) h.keeps.births_is h.keeps.last_is h.keeps.groups_fit h.keeps.own (retold (λ (c : ℕ). c) (IsConn g H) (IsConn g K) (λ c k q. q ∙ other_conn g H t h e c (no_piece c)) (open_ones H) t.conns h.keeps.conns)
 
   -- no known peer has the link
   pub not_replied : life l H ≡ None → IsReplied g H e l None (record t { clock = max e.at t.clock })
@@ -136,13 +140,13 @@ module _ (g : Config) (H : List Mark) (t : Tables) (h : Holds g H t) (e : Entry)
     contexts = [];
     holds = record {
       keeps = comes_keeps t.peers;
-      peers = retold_of key (λ (v : Life). eqb l v.link ≡ false) (IsPeer g H) (IsPeer g K) (λ v k far p. another v k far p) (lives H) t.peers.entries (none_found l (lives H) none) h.peers;
+      peers = retold_of key (λ (v : Life). eqb l v.link ≡ false) (IsPeer g H) (IsPeer g K) (λ v k far p. another v k far p) (lives H) t.peers (none_found l (lives H) none) h.peers;
     };
     brings = rw none refl;
     known = tt;
   }
 
-  module _ (k : Peer) (was : Some k ≡ lookup (is_at (nat_cmp l)) t.peers.entries) (s : Sending) (P : BTreeMap ℕ Peer) (put : P.entries ≡ set_value (is_at (nat_cmp l)) t.peers.entries (record k { link = s })) where
+  module _ (k : Peer) (was : Some k ≡ lookup (is_at (nat_cmp l)) t.peers) where
     -- the replies with this one
     grown : is_linked l H ≡ true → replies l K ≡ replies l H ++ o
     grown up = let this : eqb l l ≡ true = eq-eqb l l refl in rw (up, is, this) refl
@@ -151,13 +155,13 @@ module _ (g : Config) (H : List Mark) (t : Tables) (h : Holds g H t) (e : Entry)
     dropped down = rw down (append-nil (replies l H))
 
     -- the link has these PONGs more
-    with_row : (ts : List (List ℕ)) → s ≡ link_after g.id (line l H ++ map (λ c. Pongs c) ts) (is_linked l H) (replies l K) (taken l H) → Holds g (after (pongs l ts) K) (record t { clock = max e.at t.clock; peers = P })
-    with_row ts new =
+    with_pongs : (ts : List (List ℕ)) (s : Sending) (P : List (ℕ × Peer)) → P ≡ with_row l (record k { link = s }) t.peers → s ≡ link_after g.id (line l H ++ map (λ c. Pongs c) ts) (is_linked l H) (replies l K) (taken l H) → Holds g (after (pongs l ts) K) (record t { clock = max e.at t.clock; peers = P })
+    with_pongs ts s P put new =
         let p = (its g H t h l k was).2 in
         let same = link_is g H t h l k was in
         record {
           keeps = keeps_pongs g l (record t { clock = max e.at t.clock; peers = P }) ts K (comes_keeps P) (known_lives H h.keeps.proper l (its g H t h l k was).0 (its g H t h l k was).1).1;
-          peers = subst (λ vs. Tabled key (IsPeer g (after (pongs l ts) K)) vs P.entries) (sym (unmoved lives l (λ c J. refl) ts K))
+          peers = subst (λ vs. Tabled key (IsPeer g (after (pongs l ts) K)) vs P) (sym (unmoved lives l (λ c J. refl) ts K))
               (relinked g H t h l k was (after (pongs l ts) K) s P (λ v w far q. pongs_other g l ts K v w far (another v w far q))
               (pongs_own g l ts K (its g H t h l k was).0 (record k { link = s }) same (record { id_is = p.id_is; active_is = p.active_is; run_is = p.run_is; link_is = new })) put);
         }
@@ -165,33 +169,32 @@ module _ (g : Config) (H : List Mark) (t : Tables) (h : Holds g H t) (e : Entry)
     still : (ts : List (List ℕ)) → IsSome (life l (after (pongs l ts) K))
     still ts = subst IsSome (sym (unmoved (life l) l (λ c J. refl) ts K)) (its_known g H t h l k was)
 
-    pub replied : (why : Option Cause)
-        → (k.link ≡ link_after g.id (line l H) true (replies l H) (taken l H)
-        → (s ≡ link_answering g.id (line l H) true (replies l H) (taken l H) o) × (why ≡ cause_by_reply (slow_in g.id (line l H) (replies l H) (taken l H) o) (reply_fault (replies l H ++ o))))
-        → (k.link.linked ≡ false → (s ≡ k.link) × (why ≡ None))
-        → IsReplied g H e l why (record t { clock = max e.at t.clock; peers = P })
-    replied why live dead = by (is_linked l H) refl
+    pub replied : (P : List (ℕ × Peer)) (r : Result (Option Cause) OutOfMemory)
+        → ((own : PeerId) (ms : List Member) (q : List ℕ) (n : ℕ) → k.link ≡ link_after own ms true q n
+        → IfOk r (λ why. (P ≡ with_row l (record k { link = link_answering own ms true q n o }) t.peers) × (why ≡ cause_by_reply (slow_in own ms q n o) (reply_fault (q ++ o)))))
+        → (k.link.linked ≡ false → IfOk r (λ why. (P ≡ t.peers) × (why ≡ None)))
+        → IfOk r (λ why. IsReplied g H e l why (record t { clock = max e.at t.clock; peers = P }))
+    replied P r live dead = by (is_linked l H) refl
       where
         row : k.link ≡ link_after g.id (line l H) (is_linked l H) (replies l H) (taken l H)
         row = row_link g H t h l k was
 
-        by : (b : Bool) → is_linked l H ≡ b → IsReplied g H e l why (record t { clock = max e.at t.clock; peers = P })
+        by : (b : Bool) → is_linked l H ≡ b → IfOk r (λ why. IsReplied g H e l why (record t { clock = max e.at t.clock; peers = P }))
         by true q =
             let ts = answered (unsent g l K) (new_pings (replies l H) o) in
-            let r = live (row ∙ ap (λ b. link_after g.id (line l H) b (replies l H) (taken l H)) q) in
-            record {
+            IfOk-weaker r _ _ (λ why a. record {
               contexts = ts;
-              holds = with_row ts (r.0 ∙ ap (λ b. link_after g.id (line l H ++ map (λ c. Pongs c) ts) b (replies l H ++ o) (taken l H)) (sym q) ∙ ap (λ (rs : List ℕ). link_after g.id (line l H ++ map (λ c. Pongs c) ts) (is_linked l H) rs (taken l H)) (sym (grown q)));
+              holds = with_pongs ts _ P a.0 (ap (λ b. link_after g.id (line l H ++ map (λ c. Pongs c) ts) b (replies l H ++ o) (taken l H)) (sym q) ∙ ap (λ (rs : List ℕ). link_after g.id (line l H ++ map (λ c. Pongs c) ts) (is_linked l H) rs (taken l H)) (sym (grown q)));
               brings =
                   reply_up g l H K (life l H) (its g H t h l k was).0 (its g H t h l k was).1 q ∙ ap (λ (rs : List ℕ). answers g l (drop (length (pings (replies l H))) (pings rs)) (reply_fault rs) K) (grown q)
-                  ∙ ap (λ w. pongs l ts ++ end_by g l w) (sym r.1);
+                  ∙ ap (λ w. pongs l ts ++ end_by g l w) (sym a.1);
               known = if_any why (still ts);
-            }
+            }) (live g.id (line l H) (replies l H) (taken l H) (row ∙ ap (λ b. link_after g.id (line l H) b (replies l H) (taken l H)) q))
         by false q =
-            let r = dead (ap (λ (x : Sending). x.linked) row ∙ q) in
-            record {
+            IfOk-weaker r _ _ (λ why a. record {
               contexts = [];
-              holds = with_row [] (r.0 ∙ row ∙ ap (λ (rs : List ℕ). link_after g.id (line l H) (is_linked l H) rs (taken l H)) (sym (dropped q)) ∙ ap (λ (ms : List Member). link_after g.id ms (is_linked l H) (replies l K) (taken l H)) (sym (append-nil (line l H))));
-              brings = reply_down g l H K (life l H) (its g H t h l k was).0 (its g H t h l k was).1 q ∙ ap (λ w. end_by g l w) (sym r.1);
+              holds = with_pongs [] k.link P (a.0 ∙ sym (set_value_same (is_at (nat_cmp l)) t.peers k (sym was)))
+                  (row ∙ ap (λ (rs : List ℕ). link_after g.id (line l H) (is_linked l H) rs (taken l H)) (sym (dropped q)) ∙ ap (λ (ms : List Member). link_after g.id ms (is_linked l H) (replies l K) (taken l H)) (sym (append-nil (line l H))));
+              brings = reply_down g l H K (life l H) (its g H t h l k was).0 (its g H t h l k was).1 q ∙ ap (λ w. end_by g l w) (sym a.1);
               known = if_any why (still []);
-            }
+            }) (dead (ap (λ (x : Sending). x.linked) row ∙ q))

@@ -16,7 +16,7 @@ use Rattle.zre_node.specs.declared.effects.Effects.{Effects}
 use Rattle.zre_journal.specs.Arrivals.{at_first, start, start_unknown}
 use Rattle.zre_journal.specs.Pushes.{birth}
 use Rattle.zre_journal.specs.Told.{told}
-use Rattle.std.specs.BTreeMap.{BTreeMap, is_at}
+use Rattle.std.specs.BTreeMap.{is_at}
 use Rattle.std.specs.Map.{lookup, set_value}
 use Rattle.zre_values.specs.declared.peer_id.PeerId.{PeerId}
 use Rattle.zre_msg.specs.declared.message.Message.{Message}
@@ -30,12 +30,13 @@ use Rattle.zre_journal.proofs.Kept.{known_lives, newborn, runner_runs, Starts-pr
 use Rattle.zre_journal.proofs.Listed.{eqb-comm, found_passes, All-map}
 use Rattle.zre_journal.proofs.Idle.{not_true}
 use Rattle.zre_journal.proofs.Known.{known_of, id_of}
-use Rattle.zre_node.specs.declared.connection.Connection.{Connection}
-use Rattle.zre_node.specs.declared.peer.Peer.{Peer}
+use Rattle.zre_tables.specs.declared.connection.Connection.{Connection}
+use Rattle.zre_tables.specs.declared.peer.Peer.{Peer}
 use Rattle.zre_node.specs.declared.tables.Tables.{Tables}
-use Rattle.zre_node.specs.Tabled.{Tabled}
-use Rattle.zre_node.specs.Stands.{Holds, Did, HasRun, IsPeer, IsConn, kept_conn}
-use Rattle.zre_node.proofs.Entries.{changed}
+use Rattle.zre_tables.specs.Tabled.{Tabled}
+use Rattle.zre_tables.specs.Runs.{HasRun}
+use Rattle.zre_node.specs.Stands.{Holds, Did, IsPeer, IsConn, kept_conn}
+use Rattle.zre_tables.proofs.Entries.{changed}
 use Rattle.zre_node.proofs.Opening.{with_conns}
 use Rattle.zre_node.proofs.Parting.{its_row}
 use Rattle.zre_node.proofs.Keeping.{keeps_as}
@@ -66,11 +67,11 @@ waits c H live idle =
 -- ---- it is refused
 
 module _ (g : Config) (H : List Mark) (t : Tables) (h : Holds g H t) (c : ℕ) (why : IgnoreWhy) (live : is_live c H ≡ true) (idle : runs c H ≡ None) where
-  pub refused : (C : BTreeMap ℕ Connection) → C.entries ≡ set_value (is_at (nat_cmp c)) t.conns.entries (record (kept_conn g H c) { since = t.clock; run = None; conn = None }) → Holds g (Ignores c why ∷ H) (record t { conns = C })
+  pub refused : (C : List (ℕ × Connection)) → C ≡ set_value (is_at (nat_cmp c)) t.conns (record (kept_conn g H c) { since = t.clock; run = None; conn = None }) → Holds g (Ignores c why ∷ H) (record t { conns = C })
   refused C is = with_conns g H (Ignores c why ∷ H) t t.last C h (Ignores-proper H h.keeps.proper c why (live_open c H live)) refl refl refl h.peers refl refl refl h.keeps.last_is
       (subst (λ es. Tabled (λ (d : ℕ). d) (IsConn g (Ignores c why ∷ H)) (open_ones H) es) (sym is)
       (changed (λ (d : ℕ). d) (IsConn g H) (IsConn g (Ignores c why ∷ H)) c (record (kept_conn g H c) { since = t.clock; run = None; conn = None })
-      (λ d w far k. let off : eqb d c ≡ false = eqb-comm d c ∙ far in k ∙ rw off refl) (open_ones H) t.conns.entries h.keeps.proper.opening.open_apart
+      (λ d w far k. let off : eqb d c ≡ false = eqb-comm d c ∙ far in k ∙ rw off refl) (open_ones H) t.conns h.keeps.proper.opening.open_apart
       (λ d f. let same : c ≡ d = eqb-true c d (found_passes (eqb c) (open_ones H) d f) in
       let me : eqb c c ≡ true = eq-eqb c c refl in
       let s = (waits c H live idle).1 in
@@ -97,32 +98,32 @@ module _ (g : Config) (H : List Mark) (t : Tables) (h : Holds g H t) (c l : ℕ)
   link_is : l ≡ v.link
   link_is = (known_lives H h.keeps.proper l v k).2
 
-  conns_after : (C : BTreeMap ℕ Connection) → C.entries ≡ set_value (is_at (nat_cmp c)) t.conns.entries (record (kept_conn g H c) { run = Some l }) → Tabled (λ (d : ℕ). d) (IsConn g (Starts c l m ∷ H)) (open_ones H) C.entries
+  conns_after : (C : List (ℕ × Connection)) → C ≡ set_value (is_at (nat_cmp c)) t.conns (record (kept_conn g H c) { run = Some l }) → Tabled (λ (d : ℕ). d) (IsConn g (Starts c l m ∷ H)) (open_ones H) C
   conns_after C is = subst (λ es. Tabled (λ (d : ℕ). d) (IsConn g (Starts c l m ∷ H)) (open_ones H) es) (sym is)
       (changed (λ (d : ℕ). d) (IsConn g H) (IsConn g (Starts c l m ∷ H)) c (record (kept_conn g H c) { run = Some l })
-      (λ d w far z. let off : eqb d c ≡ false = eqb-comm d c ∙ far in z ∙ rw off refl) (open_ones H) t.conns.entries h.keeps.proper.opening.open_apart
+      (λ d w far z. let off : eqb d c ≡ false = eqb-comm d c ∙ far in z ∙ rw off refl) (open_ones H) t.conns h.keeps.proper.opening.open_apart
       (λ d f. let same : c ≡ d = eqb-true c d (found_passes (eqb c) (open_ones H) d f) in
       let me : eqb c c ≡ true = eq-eqb c c refl in
       let quiet = heard c H live in
       subst (λ x. record (kept_conn g H c) { run = Some l } ≡ kept_conn g (Starts c l m ∷ H) x) same (rw (me, alive, quiet) refl)) h.keeps.conns)
 
-  peers_after : (x : Peer) (w : Peer) (P : BTreeMap ℕ Peer) → Some x ≡ lookup (is_at (nat_cmp l)) t.peers.entries → w.id ≡ x.id → w.link ≡ x.link → w.active ≡ t.clock → HasRun (Some c) v.id (m ∷ []) w.run
-      → P.entries ≡ set_value (is_at (nat_cmp l)) t.peers.entries w → Tabled (λ (u : Life). u.link) (IsPeer g (Starts c l m ∷ H)) (lives H) P.entries
+  peers_after : (x : Peer) (w : Peer) (P : List (ℕ × Peer)) → Some x ≡ lookup (is_at (nat_cmp l)) t.peers → w.id ≡ x.id → w.link ≡ x.link → w.active ≡ t.clock → HasRun (Some c) v.id (m ∷ []) w.run
+      → P ≡ set_value (is_at (nat_cmp l)) t.peers w → Tabled (λ (u : Life). u.link) (IsPeer g (Starts c l m ∷ H)) (lives H) P
   peers_after x w P was id link now run put =
-      let r = its_row (IsPeer g H) H t.peers.entries h.peers l x was in
+      let r = its_row (IsPeer g H) H t.peers h.peers l x was in
       let that : r.0 ≡ v = (let z : Some r.0 ≡ Some v = sym r.1 ∙ k in cc) in
       let is : IsPeer g H v x = subst (λ u. IsPeer g H u x) that r.2 in
       subst (λ es. Tabled (λ (u : Life). u.link) (IsPeer g (Starts c l m ∷ H)) (lives H) es) (sym put)
       (changed (λ (u : Life). u.link) (IsPeer g H) (IsPeer g (Starts c l m ∷ H)) l w
-      (λ u y far z. let off : eqb u.link l ≡ false = eqb-comm u.link l ∙ far in rw off z) (lives H) t.peers.entries h.keeps.proper.living.apart
+      (λ u y far z. let off : eqb u.link l ≡ false = eqb-comm u.link l ∙ far in rw off z) (lives H) t.peers h.keeps.proper.living.apart
       (λ u f. let same : v ≡ u = (let z : Some v ≡ Some u = sym k ∙ f in cc) in
       let me : eqb v.link l ≡ true = eq-eqb v.link l (sym link_is) in
       let silent : counted v.link H ≡ [] = ap (λ j. counted j H) (sym link_is) ∙ h.keeps.proper.running.is_silent l free in
       subst (λ y. IsPeer g (Starts c l m ∷ H) y w) same (rw (me, silent) record { id_is = id ∙ is.id_is; active_is = now ∙ h.keeps.clock_is; run_is = run; link_is = link ∙ is.link_is })) h.peers)
 
-  pub starts : (C : BTreeMap ℕ Connection) → C.entries ≡ set_value (is_at (nat_cmp c)) t.conns.entries (record (kept_conn g H c) { run = Some l })
-      → (x w : Peer) (P : BTreeMap ℕ Peer) → Some x ≡ lookup (is_at (nat_cmp l)) t.peers.entries → w.id ≡ x.id → w.link ≡ x.link → w.active ≡ t.clock → HasRun (Some c) v.id (m ∷ []) w.run
-      → P.entries ≡ set_value (is_at (nat_cmp l)) t.peers.entries w → Holds g (Starts c l m ∷ H) (record t { peers = P; conns = C })
+  pub starts : (C : List (ℕ × Connection)) → C ≡ set_value (is_at (nat_cmp c)) t.conns (record (kept_conn g H c) { run = Some l })
+      → (x w : Peer) (P : List (ℕ × Peer)) → Some x ≡ lookup (is_at (nat_cmp l)) t.peers → w.id ≡ x.id → w.link ≡ x.link → w.active ≡ t.clock → HasRun (Some c) v.id (m ∷ []) w.run
+      → P ≡ set_value (is_at (nat_cmp l)) t.peers w → Holds g (Starts c l m ∷ H) (record t { peers = P; conns = C })
   starts C conns x w P was id link now run put = record {
     keeps = keeps_as g H _ _ _ h.keeps (Starts-proper H h.keeps.proper c l m v (live_open c H live) (waits c H live idle).1 k who free) refl (refl, refl, refl) h.keeps.clock_is h.keeps.births_is h.keeps.last_is h.keeps.groups_fit h.keeps.own (conns_after C conns);
     peers = peers_after x w P was id link now run put;

@@ -11,6 +11,7 @@ use Rattle.zre_journal.specs.Happens.{marks, has_stopped}
 use Rattle.zre_journal.specs.Told.{told}
 use Rattle.zre_journal.proofs.Joined.{continues}
 use Rattle.zre_node.specs.declared.effects.Effects.{Effects}
+use Rattle.zre_node.specs.declared.node.Node.{Node}
 use Rattle.zre_node.specs.declared.tables.Tables.{Tables}
 use Rattle.zre_node.specs.Journal.{StandsIn, Took, Steps}
 
@@ -30,11 +31,11 @@ took_nothing g e H t a z s =
     }
 
 -- what was taken is a step
-pub steps : (g : Config) (J : List Entry) (e : Entry) (t : Tables) (a s : Effects) → a.events ≡ [] → a.acts ≡ [] → Took g e (chronicle g J) t a s → Steps g J e (record { tables = t; spent = false }) (record { events = s.events; acts = s.acts })
-steps g J e t a s ev ac w =
+pub steps : (g : Config) (J : List Entry) (e : Entry) (n : Node) (a s : Effects) → n.spent ≡ false → a.events ≡ [] → a.acts ≡ [] → Took g e (chronicle g J) n.tables a s → Steps g J e n (record { events = s.events; acts = s.acts })
+steps g J e n a s whole ev ac w =
     let c = continues g J (e ∷ []) in
     record {
-      stands = record { stands = subst (λ K. StandsIn g K t) (sym c.happened) w.stands; whole = refl };
+      stands = record { stands = subst (λ K. StandsIn g K n.tables) (sym c.happened) w.stands; whole = whole };
       told = c.told ∙ ap (λ (xs : List Event). events g J ++ xs) (append-nil (events_at g e (chronicle g J)) ∙ sym (w.events ∙ ap (λ (xs : List Event). xs ++ events_at g e (chronicle g J)) ev));
       done = c.done ∙ ap (λ (xs : List Act). acts g J ++ xs) (append-nil (acts_at g e (chronicle g J)) ∙ sym (w.acts ∙ ap (λ (xs : List Act). xs ++ acts_at g e (chronicle g J)) ac));
     }

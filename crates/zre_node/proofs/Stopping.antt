@@ -21,9 +21,9 @@ use Rattle.zre_journal.proofs.Known.{end_all, each_known}
 use Rattle.zre_journal.proofs.Stopping.{stop-is, none_known, none_open, drops_lives}
 use Rattle.zre_node.specs.declared.tables.Tables.{Tables}
 use Rattle.zre_node.specs.declared.effects.Effects.{Effects}
-use Rattle.zre_node.specs.Tabled.{Tabled}
+use Rattle.zre_tables.specs.Tabled.{Tabled}
 use Rattle.zre_node.specs.Stands.{Holds, Did, Rests, Stopped, AreKnown, RunNone, IsPeer, IsConn}
-use Rattle.zre_node.proofs.Entries.{keys_are}
+use Rattle.zre_tables.proofs.Entries.{keys_are}
 use Rattle.zre_node.proofs.Many.{did_then}
 
 pub map-map : {A B C : Type 0} (f : A → B) (g : B → C) (xs : List A) → map g (map f xs) ≡ map (λ x. g (f x)) xs
@@ -43,11 +43,11 @@ known_from H (v ∷ vs) a h = (h.0, apart_links v.link vs a.0, known_from H vs a
 
 module _ (g : Config) (H : List Mark) (t : Tables) (h : Holds g H t) where
   -- the keys of the tables are the links and the numbers
-  pub links_are : keys_of t.peers.entries ≡ link_list (lives H)
-  links_are = keys_are (λ (v : Life). v.link) (IsPeer g H) (lives H) t.peers.entries h.peers
+  pub links_are : keys_of t.peers ≡ link_list (lives H)
+  links_are = keys_are (λ (v : Life). v.link) (IsPeer g H) (lives H) t.peers h.peers
 
-  pub numbers_are : keys_of t.conns.entries ≡ open_ones H
-  numbers_are = keys_are (λ (c : ℕ). c) (IsConn g H) (open_ones H) t.conns.entries h.keeps.conns ∙ map-id (open_ones H)
+  pub numbers_are : keys_of t.conns ≡ open_ones H
+  numbers_are = keys_are (λ (c : ℕ). c) (IsConn g H) (open_ones H) t.conns h.keeps.conns ∙ map-id (open_ones H)
 
   pub all_known : AreKnown H (link_list (lives H))
   all_known = known_from H (lives H) h.keeps.proper.living.apart (each_known H)
@@ -94,9 +94,9 @@ stops g H ls cs t m a b c d le ce first second ev ac =
       config = both.holds.keeps.config;
       own = both.holds.keeps.own;
       none_known = gone;
-      no_peers = no_entries (λ (v : Life). v.link) (IsPeer g (after hs H)) (lives (after hs H)) m.peers.entries gone both.holds.peers;
+      no_peers = no_entries (λ (v : Life). v.link) (IsPeer g (after hs H)) (lives (after hs H)) m.peers gone both.holds.peers;
       none_open = shut;
-      no_conns = no_entries (λ (c : ℕ). c) (IsConn g (after hs H)) (open_ones (after hs H)) m.conns.entries shut both.holds.keeps.conns;
+      no_conns = no_entries (λ (c : ℕ). c) (IsConn g (after hs H)) (open_ones (after hs H)) m.conns shut both.holds.keeps.conns;
     } in
     let events : d.events ≡ a.events ++ told (hs ++ SendsBeacon 0 ∷ Stops ∷ []) H = ev ∙ ap (λ es. es ++ event.Stop ∷ []) both.events ∙ append_assoc a.events (told hs H) (event.Stop ∷ []) ∙ ap (λ es. a.events ++ es) (sym (told-append hs (SendsBeacon 0 ∷ Stops ∷ []) H)) in
     let acts : d.acts ≡ a.acts ++ done g.id (hs ++ SendsBeacon 0 ∷ Stops ∷ []) = ac ∙ ap (λ es. es ++ act.Beacon (beacon_octets g.id 0) ∷ []) both.acts ∙ append_assoc a.acts (done g.id hs) (act.Beacon (beacon_octets g.id 0) ∷ []) ∙ ap (λ es. a.acts ++ es) (sym (done-append g.id hs (SendsBeacon 0 ∷ Stops ∷ []))) in

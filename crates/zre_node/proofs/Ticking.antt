@@ -34,14 +34,18 @@ use Rattle.zre_journal.proofs.Kept.{IsEvasive-proper, SendsBeacon-proper}
 use Rattle.zre_journal.proofs.Known.{ends_keep, life_stays, end_all}
 use Rattle.zre_journal.proofs.Listed.{found_passes}
 use Rattle.zre_journal.proofs.Ticks.{expiring, wavering, stale, expired, expiring_apart, wavering_apart, wavering_known, expiring_known as are_known, wavering_entered as are_entered, stale_idle as are_idle}
-use Rattle.zre_node.specs.declared.connection.Connection.{Connection}
+use Rattle.zre_tables.specs.declared.connection.Connection.{Connection}
 use Rattle.zre_node.specs.declared.effects.Effects.{Effects}
-use Rattle.zre_node.specs.declared.peer.Peer.{Peer}
-use Rattle.zre_node.specs.declared.peer.Running.{Running}
+use Rattle.zre_tables.specs.declared.peer.Peer.{Peer}
+use Rattle.zre_tables.specs.declared.peer.Running.{Running}
 use Rattle.zre_node.specs.declared.tables.Tables.{Tables}
-use Rattle.zre_node.specs.Tabled.{Tabled}
-use Rattle.zre_node.specs.Ticks.{row_silent, row_evasive, row_stale, numbers_of, probes, IsEntered, AreEntered, AreIdle}
-use Rattle.zre_node.specs.Stands.{Holds, Did, HasRun, IsPeer, IsConn, AreKnown, is_quiet}
+use Rattle.zre_tables.specs.Tabled.{Tabled}
+use Rattle.zre_tables.specs.Rows.{numbers_of}
+use Rattle.zre_tables.specs.Searches.{row_silent, row_evasive, row_stale}
+use Rattle.zre_node.specs.Ticks.{probes, IsEntered, AreEntered, AreIdle}
+use Rattle.zre_tables.specs.Runs.{HasRun}
+use Rattle.zre_node.specs.Stands.{Holds, Did, IsPeer, IsConn, AreKnown, is_quiet}
+use Rattle.zre_tables.proofs.Finding.{numbers_are}
 use Rattle.zre_node.proofs.Many.{did_as, did_then}
 use Rattle.zre_node.proofs.Opening.{with_conns}
 use Rattle.zre_node.proofs.Parting.{its_row, shows}
@@ -49,27 +53,6 @@ use Rattle.zre_node.proofs.Pushing.{Alike, alike_after}
 use Rattle.zre_node.proofs.Stopping.{link_list, map-map, apart_links, known_from}
 
 -- ---- which rows pass
-
--- one row more
-pub one_row : {V : Type 0} (test : V → Bool) (n : ℕ) (k : V) (es : List (ℕ × V)) (found found' start : List ℕ) → test k ≡ true → found' ≡ found ++ n ∷ [] → found ++ numbers_of test ((n, k) ∷ es) ≡ start → found' ++ numbers_of test es ≡ start
-one_row test n k es found found' start t f e =
-    let whole : found ++ n ∷ numbers_of test es ≡ start = rw t at e in
-    ap (λ (ns : List ℕ). ns ++ numbers_of test es) f ∙ append_assoc found (n ∷ []) (numbers_of test es) ∙ whole
-
--- one row that doesn't pass
-pub no_row_more : {V : Type 0} (test : V → Bool) (n : ℕ) (k : V) (es : List (ℕ × V)) (found start : List ℕ) → test k ≡ false → found ++ numbers_of test ((n, k) ∷ es) ≡ start → found ++ numbers_of test es ≡ start
-no_row_more test n k es found start t e = rw t at e
-
--- the rows that pass are those of the things that pass
-pub numbers_are : {A V : Type 0} (key : A → ℕ) (P : A → V → Type 0) (s : V → Bool) (t : A → Bool) → ((x : A) (w : V) → P x w → s w ≡ t x) → (xs : List A) (es : List (ℕ × V)) → Tabled key P xs es → numbers_of s es ≡ map key (filter t xs)
-numbers_are key P s t same [] [] h = refl
-numbers_are key P s t same [] (e ∷ es) h = absurd h
-numbers_are key P s t same (x ∷ xs) [] h = absurd h
-numbers_are key P s t same (x ∷ xs) (e ∷ es) h = rw (h.0, same x e.1 h.1) (by (numbers_are key P s t same xs es h.2) (t x))
-  where
-    by : numbers_of s es ≡ map key (filter t xs) → (b : Bool) → cond b (key x ∷ numbers_of s es) (numbers_of s es) ≡ map key (cond b (x ∷ filter t xs) (filter t xs))
-    by r true = ap (λ ns. key x ∷ ns) r
-    by r false = r
 
 -- a peer is entered where its row has a run
 pub enters : (o : Option ℕ) (id : PeerId) (ms : List Message) (r : Option Running) → HasRun o id ms r → is_some r ≡ is_some o
@@ -87,21 +70,21 @@ module _ (g : Config) (H : List Mark) (t : Tables) (h : Holds g H t) where
   stale_row : (limit now : ℕ) → limit ≡ g.expired → now ≡ clock H → (c : ℕ) (k : Connection) → IsConn g H c k → row_stale limit now k ≡ is_stale g H c
   stale_row limit now b e c k is = rw (b, e, is) refl
 
-  pub silent_are : numbers_of (row_silent t.config.expired t.clock) t.peers.entries ≡ link_list (filter (is_silent g g.expired H) (lives H))
+  pub silent_are : numbers_of (row_silent t.config.expired t.clock) t.peers ≡ link_list (filter (is_silent g g.expired H) (lives H))
   silent_are =
       let same : t.config.expired ≡ g.expired = ap (λ (f : Config). f.expired) h.keeps.config in
       numbers_are (λ (v : Life). v.link) (IsPeer g H) (row_silent t.config.expired t.clock) (is_silent g g.expired H)
-      (λ v k is. ap (λ n. row_silent n t.clock k) same ∙ silent_row g.expired t.clock h.keeps.clock_is v k is) (lives H) t.peers.entries h.peers
+      (λ v k is. ap (λ n. row_silent n t.clock k) same ∙ silent_row g.expired t.clock h.keeps.clock_is v k is) (lives H) t.peers h.peers
 
-  pub evasive_are : numbers_of (row_evasive t.config.evasive t.config.expired t.clock) t.peers.entries ≡ link_list (filter (is_evasive g H) (lives H))
+  pub evasive_are : numbers_of (row_evasive t.config.evasive t.config.expired t.clock) t.peers ≡ link_list (filter (is_evasive g H) (lives H))
   evasive_are =
       numbers_are (λ (v : Life). v.link) (IsPeer g H) (row_evasive t.config.evasive t.config.expired t.clock) (is_evasive g H)
-      (evasive_row t.config.evasive t.config.expired t.clock (ap (λ (f : Config). f.evasive) h.keeps.config) (ap (λ (f : Config). f.expired) h.keeps.config) h.keeps.clock_is) (lives H) t.peers.entries h.peers
+      (evasive_row t.config.evasive t.config.expired t.clock (ap (λ (f : Config). f.evasive) h.keeps.config) (ap (λ (f : Config). f.expired) h.keeps.config) h.keeps.clock_is) (lives H) t.peers h.peers
 
-  pub stale_are : numbers_of (row_stale t.config.expired t.clock) t.conns.entries ≡ filter (is_stale g H) (open_ones H)
+  pub stale_are : numbers_of (row_stale t.config.expired t.clock) t.conns ≡ filter (is_stale g H) (open_ones H)
   stale_are =
       numbers_are (λ (c : ℕ). c) (IsConn g H) (row_stale t.config.expired t.clock) (is_stale g H)
-      (stale_row t.config.expired t.clock (ap (λ (f : Config). f.expired) h.keeps.config) h.keeps.clock_is) (open_ones H) t.conns.entries h.keeps.conns
+      (stale_row t.config.expired t.clock (ap (λ (f : Config). f.expired) h.keeps.config) h.keeps.clock_is) (open_ones H) t.conns h.keeps.conns
       ∙ map-id (filter (is_stale g H) (open_ones H))
 
 -- ---- EVASIVE
@@ -122,9 +105,9 @@ pub record Wavers (g : Config) (K : List Mark) (l : ℕ) (k : Peer) (x : Running
   pub its_view : view_in x.run ≡ shown (counted l K)
   pub tells : told (IsEvasive l ∷ []) K ≡ event.Evasive k.id (view l K).name ∷ []
 
-pub wavers : (g : Config) (K : List Mark) (t : Tables) → Holds g K t → (l : ℕ) (k : Peer) → Some k ≡ lookup (is_at (nat_cmp l)) t.peers.entries → (x : Running) → k.run ≡ Some x → Wavers g K l k x
+pub wavers : (g : Config) (K : List Mark) (t : Tables) → Holds g K t → (l : ℕ) (k : Peer) → Some k ≡ lookup (is_at (nat_cmp l)) t.peers → (x : Running) → k.run ≡ Some x → Wavers g K l k x
 wavers g K t h l k was x e =
-    let its = its_row (IsPeer g K) K t.peers.entries h.peers l k was in
+    let its = its_row (IsPeer g K) K t.peers h.peers l k was in
     let here : l ≡ its.0.link = found_link its.0 its.1 in
     record {
       its_view = run_shows (runner its.0.link K) its.0.id (counted its.0.link K) k.run x its.2.run_is e ∙ ap (λ n. shown (counted n K)) (sym here);
@@ -136,9 +119,9 @@ wavers g K t h l k was x e =
     found_link v f = eqb-true l v.link (found_passes (λ (u : Life). eqb l u.link) (lives K) v f)
 
 -- an entered peer has a run
-pub has_run : {C : Type 0} (g : Config) (K : List Mark) (t : Tables) → Holds g K t → (l : ℕ) (k : Peer) → Some k ≡ lookup (is_at (nat_cmp l)) t.peers.entries → is_some (runner l K) ≡ true → k.run ≡ None → C
+pub has_run : {C : Type 0} (g : Config) (K : List Mark) (t : Tables) → Holds g K t → (l : ℕ) (k : Peer) → Some k ≡ lookup (is_at (nat_cmp l)) t.peers → is_some (runner l K) ≡ true → k.run ≡ None → C
 has_run g K t h l k was r e =
-    let its = its_row (IsPeer g K) K t.peers.entries h.peers l k was in
+    let its = its_row (IsPeer g K) K t.peers h.peers l k was in
     let here : l ≡ its.0.link = eqb-true l its.0.link (found_passes (λ (u : Life). eqb l u.link) (lives K) its.0 its.1) in
     let none : false ≡ is_some (runner l K) = ap is_some (sym e) ∙ enters (runner its.0.link K) its.0.id (counted its.0.link K) k.run its.2.run_is ∙ ap (λ n. is_some (runner n K)) (sym here) in
     let z : false ≡ true = none ∙ r in absurd cc

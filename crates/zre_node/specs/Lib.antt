@@ -1,13 +1,10 @@
 pub mod Asked
 pub mod Brings
 pub mod First
-pub mod Groups
-pub mod Holding
 pub mod Journal
 pub mod Kinds
 pub mod Links
 pub mod Offers
 pub mod Said
 pub mod Stands
-pub mod Tabled
 pub mod Ticks

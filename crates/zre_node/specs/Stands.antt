@@ -1,23 +1,20 @@
 -- What a node keeps of a chronicle.
-use Rattle.std.specs.Prelude.{◌≡◌, ℕ, ◌≤◌, Bool, true, false, ◌||◌, not, ◌&&◌, List, [], ◌∷◌, ◌++◌, Option, Some, None}
-use Rattle.std.specs.Prelude.{if◌then◌else◌, nat_lt, nat_eq, IsSome, length}
+use Rattle.std.specs.Prelude.{◌≡◌, ℕ, ◌≤◌, Bool, true, false, ◌||◌, List, [], ◌∷◌, ◌++◌, Option, Some, None, nat_lt}
+use Rattle.std.specs.Prelude.{nat_eq, IsSome, length}
 use Rattle.std.specs.List.{AllByRecursion, list_any}
-use Rattle.std.specs.Str.{bytes_eq}
 use Rattle.zre_values.specs.declared.peer_id.PeerId.{PeerId}
 use Rattle.zre_outside.specs.declared.entry.Input.{Input}
 use Rattle.zre_outside.specs.declared.entry.Input.TheVariants as input
 use Rattle.zre_msg.specs.declared.message.Message.{Message}
 use Rattle.zre_msg.specs.declared.message.Body.{Body}
 use Rattle.zre_msg.specs.declared.message.Body.TheVariants as body
-use Rattle.zre_peer.specs.Runs.{shown}
-use Rattle.zre_peer.specs.Standing.{Stands, id_of, view_in}
 use Rattle.zre_mailbox.specs.Conn.{Hearing, conn_after}
 use Rattle.zre_link.specs.Link.{Sending, link_after}
 use Rattle.zre_journal.specs.declared.config.Config.{Config}
 use Rattle.zre_journal.specs.Chronicle.{Mark, after}
 use Rattle.zre_journal.specs.Config.{CanBe, own_endpoint}
 use Rattle.zre_journal.specs.Heard.{clock, bytes}
-use Rattle.zre_journal.specs.Connections.{open_ones, is_open, is_new, is_ignored, identity, runs, since, is_same}
+use Rattle.zre_journal.specs.Connections.{open_ones, is_open, is_new, is_ignored, identity, runs, since}
 use Rattle.zre_journal.specs.Peers.{Life, life, lives, other_lives, births, active, runner, counted}
 use Rattle.zre_journal.specs.Proper.{IsProper}
 use Rattle.zre_journal.specs.Links.{line, is_linked, replies, taken, groups, status}
@@ -25,25 +22,14 @@ use Rattle.zre_journal.specs.Happens.{has_stopped}
 use Rattle.zre_journal.specs.Commands.{at_stop}
 use Rattle.zre_journal.specs.Told.{told}
 use Rattle.zre_journal.specs.Done.{done, puts}
-use Rattle.zre_node.specs.declared.peer.Peer.{Peer}
-use Rattle.zre_node.specs.declared.peer.Running.{Running}
-use Rattle.zre_node.specs.declared.connection.Connection.{Connection}
+use Rattle.zre_tables.specs.declared.peer.Peer.{Peer}
+use Rattle.zre_tables.specs.declared.connection.Connection.{Connection}
+use Rattle.zre_tables.specs.Runs.{HasRun, HadRun}
+use Rattle.zre_tables.specs.Tabled.{Tabled}
 use Rattle.zre_node.specs.declared.tables.Tables.{Tables}
 use Rattle.zre_node.specs.declared.effects.Effects.{Effects}
-use Rattle.zre_node.specs.Tabled.{Tabled}
 
 -- ---- a known peer
-
--- the run that connection c carries has taken these messages of this peer
-pub record IsRunning (c : ℕ) (id : PeerId) (messages : List Message) (x : Running) : Type 0 where
-  pub conn : x.conn ≡ c
-  pub stands : Stands x.run messages
-  pub of : id_of x.run ≡ id
-
--- a run, where some connection carries one
-abbrev pub HasRun : Option ℕ → PeerId → List Message → Option Running → Type 0
-HasRun None id messages o = o ≡ None
-HasRun (Some c) id messages o = (x : Running) × (o ≡ Some x) × IsRunning c id messages x
 
 pub record IsKept (id : PeerId) (now : ℕ) (run : Option ℕ) (messages : List Message) (link : Sending) (k : Peer)
     : Type 0 where
@@ -99,19 +85,14 @@ pub record Keeps (g : Config) (H : List Mark) (t : Tables) : Type 0 where
   pub last_is : (c : ℕ) → is_new c H ≡ is_above t.last c
   pub groups_fit : AllByRecursion (λ group. length group ≤ 255) (groups H)
   pub own : t.own ≡ record { groups = groups H; status = status H }
-  pub conns : Tabled (λ (c : ℕ). c) (IsConn g H) (open_ones H) t.conns.entries
+  pub conns : Tabled (λ (c : ℕ). c) (IsConn g H) (open_ones H) t.conns
 
 -- the node keeps what follows from the chronicle H, and goes on
 pub record Holds (g : Config) (H : List Mark) (t : Tables) : Type 0 where
   pub keeps : Keeps g H t
-  pub peers : Tabled (λ (v : Life). v.link) (IsPeer g H) (lives H) t.peers.entries
+  pub peers : Tabled (λ (v : Life). v.link) (IsPeer g H) (lives H) t.peers
 
 -- ---- a peer that ends
-
--- the view of its run is the one before a refused message
-abbrev pub HadRun : Option ℕ → List Message → Option Running → Type 0
-HadRun None messages o = o ≡ None
-HadRun (Some c) messages o = (x : Running) × (o ≡ Some x) × (x.conn ≡ c) × (view_in x.run ≡ shown messages)
 
 -- what its end needs of a peer
 pub record IsLeaving (H : List Mark) (v : Life) (k : Peer) : Type 0 where
@@ -126,7 +107,7 @@ pub record IsBut (g : Config) (H : List Mark) (l : ℕ) (v : Life) (k : Peer) : 
 -- the node keeps what follows from H but for the peer of link l, which is to end
 pub record Nearly (g : Config) (H : List Mark) (l : ℕ) (t : Tables) : Type 0 where
   pub keeps : Keeps g H t
-  pub peers : Tabled (λ (v : Life). v.link) (IsBut g H l) (lives H) t.peers.entries
+  pub peers : Tabled (λ (v : Life). v.link) (IsBut g H l) (lives H) t.peers
 
 -- the same, with that peer taken out
 pub record Parted (g : Config) (H : List Mark) (l : ℕ) (k : Peer) (t : Tables) : Type 0 where
@@ -134,7 +115,7 @@ pub record Parted (g : Config) (H : List Mark) (l : ℕ) (k : Peer) (t : Tables)
   pub gone : Life
   pub known : life l H ≡ Some gone
   pub leaving : IsLeaving H gone k
-  pub peers : Tabled (λ (v : Life). v.link) (IsPeer g H) (other_lives l (lives H)) t.peers.entries
+  pub peers : Tabled (λ (v : Life). v.link) (IsPeer g H) (other_lives l (lives H)) t.peers
 
 -- ---- what calls do
 
@@ -153,9 +134,9 @@ pub record Rests (g : Config) (H : List Mark) (t : Tables) : Type 0 where
   pub config : t.config ≡ g
   pub own : t.own ≡ record { groups = groups H; status = status H }
   pub none_known : lives H ≡ []
-  pub no_peers : t.peers.entries ≡ []
+  pub no_peers : t.peers ≡ []
   pub none_open : open_ones H ≡ []
-  pub no_conns : t.conns.entries ≡ []
+  pub no_conns : t.conns ≡ []
 
 -- a stop has left its marks, after H
 pub record Stopped (g : Config) (H : List Mark) (t : Tables) (before now : Effects) : Type 0 where
@@ -163,17 +144,7 @@ pub record Stopped (g : Config) (H : List Mark) (t : Tables) (before now : Effec
   pub events : now.events ≡ before.events ++ told (at_stop g H) H
   pub acts : now.acts ≡ before.acts ++ done g.id (at_stop g H)
 
--- ---- searches
-
--- the number of the first row with this id
-abbrev pub link_among : PeerId → List (ℕ × Peer) → Option ℕ
-link_among p [] = None
-link_among p (e ∷ es) = if bytes_eq p.0 e.1.id.0 then Some e.0 else link_among p es
-
--- the number of the first other row with this identity
-abbrev pub other_among : PeerId → ℕ → List (ℕ × Connection) → Option ℕ
-other_among p c [] = None
-other_among p c (e ∷ es) = if not (nat_eq c e.0) && is_same p e.1.identity then Some e.0 else other_among p c es
+-- ---- links and connections
 
 -- these are links of known peers, each once
 abbrev pub AreKnown : List Mark → List ℕ → Type 0

@@ -2,7 +2,6 @@
 
 ghost use Rattle.std.specs.Prelude.{◌≡◌, ◌<◌, ◌≤◌, ℕ, List, [], Some, None, is_some, length, option_map};
 ghost use Rattle.std.specs.Prelude.{option_copied, IfOk, IfSome};
-ghost use Rattle.std.specs.Map.{keys_of};
 ghost use Rattle.zre_outside.specs.declared.entry.Entry.{Entry as EntryValue};
 ghost use Rattle.zre_journal.specs.Asked.{bound_after, entered_after, front_after, held_after, link_later};
 ghost use Rattle.zre_journal.specs.Asked.{unsent_after, view_after, HasFront, HasSome, IsDue};
@@ -12,57 +11,13 @@ ghost use Rattle.zre_journal.specs.Happens.{has_stopped};
 ghost use Rattle.zre_journal.specs.Links.{taken, text};
 ghost use Rattle.zre_journal.specs.Peers.{lives};
 ghost use Rattle.zre_node.specs.Journal.{StandsFor};
-ghost use Rattle.zre_node.specs.Asked.{ids_entered, view_among, sent_after, waiting_after, links_after};
+ghost use Rattle.zre_node.specs.Asked.{sent_after, waiting_after, links_after};
 
 use crate::node::Node;
-use crate::peer::Peer;
-use crate::tables::link_of;
-use std::alloc::Global;
-use std::collections::BTreeMap;
+use zre_link::Queue;
 use zre_peer::View;
-use zre_values::{List, OutOfMemory, PeerId};
-
-/// A list of peers.
-pub type Ids = List<PeerId>;
-
-/// A list of links, by their numbers.
-pub type Links = List<u64>;
-
-// The links of these peers, in order.
-fn links_of(alloc: Global, peers: &BTreeMap<u64, Peer>) -> Result<Links, OutOfMemory>
-    ensures { IfOk result (λ links. links ≡ keys_of peers.now.entries) }
-{
-    let mut links = Links::new(alloc);
-    for (link, _) in peers {
-        links.push(*link)?;
-    }
-    Ok(links)
-}
-
-// The peers among these that are entered, in order.
-fn entered(alloc: Global, peers: &BTreeMap<u64, Peer>) -> Result<Ids, OutOfMemory>
-    ensures { IfOk result (λ ids. ids ≡ ids_entered peers.now.entries) }
-{
-    let mut ids = Ids::new(alloc);
-    for (_, peer) in peers {
-        if peer.is_entered() {
-            ids.push(peer.id)?;
-        }
-    }
-    Ok(ids)
-}
-
-// The view of the peer with this id, where it is entered.
-fn view_of(peers: &BTreeMap<u64, Peer>, id: PeerId) -> Option<&View>
-    ensures { option_copied result ≡ view_among id peers.now.entries }
-{
-    for (_, peer) in peers {
-        if id == peer.id {
-            return peer.view();
-        }
-    }
-    None
-}
+use zre_tables::{Ids, Links};
+use zre_values::{OutOfMemory, PeerId};
 
 impl Node {
     /// What the peer with this id has told in its run: its name, its endpoint, its headers and its groups. None where
@@ -71,7 +26,7 @@ impl Node {
         ensures { (g : ConfigValue) (J : List EntryValue) → StandsFor g J self.now
             → option_copied result ≡ view_after g J id }
     {
-        view_of(&self.tables.peers, id)
+        self.tables.peers.view_of(id)
     }
 
     /// The entered peers, in order of birth.
@@ -79,7 +34,7 @@ impl Node {
         ensures { (g : ConfigValue) (J : List EntryValue) → StandsFor g J self.now
             → IfOk result (λ ids. ids ≡ entered_after g J) }
     {
-        entered(self.tables.alloc, &self.tables.peers)
+        self.tables.peers.entered()
     }
 
     /// How many peers are known.
@@ -94,7 +49,7 @@ impl Node {
     pub fn link_of(&self, id: PeerId) -> Option<u64>
         ensures { (g : ConfigValue) (J : List EntryValue) → StandsFor g J self.now → result ≡ link_later g J id }
     {
-        link_of(&self.tables.peers, id)
+        self.tables.peers.link_of(id)
     }
 
     /// Octets that may go out on a link now: the first of them at least, where there are any. None where the link
@@ -105,7 +60,7 @@ impl Node {
         ensures due { (g : ConfigValue) (J : List EntryValue) → StandsFor g J self.now → IsDue g (chronicle g J) link →
             HasSome (option_map (λ r. r.now) result) }
     {
-        match self.tables.peers.get(&link) {
+        match self.tables.peers.get(link) {
             Some(peer) => Some(peer.link.front()),
             None => None,
         }
@@ -115,7 +70,7 @@ impl Node {
     pub fn unsent(&self, link: u64) -> Option<u64>
         ensures { (g : ConfigValue) (J : List EntryValue) → StandsFor g J self.now → result ≡ unsent_after g J link }
     {
-        match self.tables.peers.get(&link) {
+        match self.tables.peers.get(link) {
             Some(peer) => Some(peer.link.unsent()),
             None => None,
         }
@@ -125,20 +80,20 @@ impl Node {
     pub fn sent(&self, link: u64) -> Option<u64>
         ensures { (g : ConfigValue) (J : List EntryValue) → StandsFor g J self.now → result ≡ sent_after g J link }
     {
-        match self.tables.peers.get(&link) {
+        match self.tables.peers.get(link) {
             Some(peer) => Some(peer.link.sent()),
             None => None,
         }
     }
 
     /// The octets that wait on a link. None where the link isn't that of a known peer.
-    pub fn waiting(&self, link: u64) -> Option<&[u8]>
+    pub fn waiting(&self, link: u64) -> Option<&Queue>
         ensures octets { (g : ConfigValue) (J : List EntryValue) → StandsFor g J self.now
             → option_map (λ r. r.now) result ≡ waiting_after g J link }
         ensures within { (g : ConfigValue) (J : List EntryValue) → StandsFor g J self.now
             → IfSome result (λ _. taken link (chronicle g J) ≤ length (text g link (chronicle g J))) }
     {
-        match self.tables.peers.get(&link) {
+        match self.tables.peers.get(link) {
             Some(peer) => Some(peer.link.waiting()),
             None => None,
         }
@@ -149,7 +104,7 @@ impl Node {
         ensures { (g : ConfigValue) (J : List EntryValue) → StandsFor g J self.now
             → IfOk result (λ links. links ≡ links_after g J) }
     {
-        links_of(self.tables.alloc, &self.tables.peers)
+        self.tables.peers.links()
     }
 
     /// How many octets the node keeps. Of each connection that is heard, and of the replies on each link, they are

@@ -10,6 +10,7 @@ ghost use Rattle.zre_peer.specs.Runs.{shown};
 ghost use Rattle.zre_peer.specs.Standing.{view_in};
 
 use std::alloc::Global;
+use std::mem;
 use zre_outside::{Act, Acts};
 use zre_peer::{Cause, CloseWhy, Event, Events, IgnoreWhy, Run};
 use zre_values::{Keys, Octets, OutOfMemory, PeerId};
@@ -21,6 +22,18 @@ pub struct Step {
     pub events: Events,
     /// What is asked of the outside, in order.
     pub acts: Acts,
+}
+
+impl Step {
+    /// Nothing yet. It takes no memory.
+    pub fn new(alloc: Global) -> Self
+        ensures { result ≡ record { events = []; acts = [] } }
+    {
+        Step {
+            events: Events::new(alloc),
+            acts: Acts::new(alloc),
+        }
+    }
 }
 
 /// The same while an entry is taken, with the links on which something was put.
@@ -44,6 +57,25 @@ impl Effects {
             acts: Acts::new(alloc),
             pushed: Keys::new(alloc),
         }
+    }
+
+    /// Nothing again. The lists keep their memory.
+    pub fn clear(&mut self)
+        ensures { self.new ≡ record { events = []; acts = []; pushed = [] } }
+    {
+        self.events.clear();
+        self.acts.clear();
+        self.pushed.clear();
+    }
+
+    /// Hands over what was told and asked for, in place of what stands in a step, and takes the lists of that.
+    pub fn hand_to(&mut self, step: &mut Step)
+        ensures { step.new ≡ record { events = self.old.events; acts = self.old.acts } }
+    {
+        step.events.clear();
+        step.acts.clear();
+        mem::swap(&mut self.events, &mut step.events);
+        mem::swap(&mut self.acts, &mut step.acts);
     }
 
     /// Asks for one more act.

@@ -3,18 +3,16 @@
 #![tactic(auto)]
 
 mod accessors;
-mod connection;
 mod effects;
 mod holding;
 mod incoming;
 mod node;
 mod outgoing;
-mod peer;
 mod peers;
 mod steps;
 mod stops;
 mod tables;
 
-pub use accessors::{Ids, Links};
 pub use effects::Step;
 pub use node::Node;
+pub use zre_tables::{Ids, Links};

@@ -1,6 +1,6 @@
 //! A node.
 
-ghost use Rattle.std.specs.Prelude.{◌≡◌, ◌↔◌, ◌<◌, List, [], ◌∷◌, ◌++◌, true, IfOk, IsErr, IsTrue};
+ghost use Rattle.std.specs.Prelude.{◌≡◌, ◌↔◌, ◌<◌, List, [], ◌∷◌, ◌++◌, true, IfOk, OnOk, IsErr, IsTrue};
 ghost use Rattle.zre_outside.specs.declared.entry.Entry.{Entry as EntryValue};
 ghost use Rattle.zre_zmtp.specs.Looks.{Looks};
 ghost use Rattle.zre_journal.specs.declared.config.Config.{Config as ConfigValue};
@@ -14,19 +14,21 @@ ghost use Rattle.zre_node.specs.Journal.{is_spent, StandsFor, Steps};
 use crate::effects::{Effects, Step};
 use crate::tables::Tables;
 use std::alloc::Global;
-use std::collections::BTreeMap;
 use std::marker::Brand;
 use std::sync::ledger::{Blank, Ledger};
 use zre_group::Own;
 use zre_journal::Config;
 use zre_outside::Entry;
+use zre_tables::{Conns, Peers};
 use zre_values::{Endpoint, OutOfMemory};
-use zre_zmtp::Steps as Counter;
+use zre_zmtp::{Items, Steps as Counter};
 
 /// A node of RFC 36, to which the entries of a journal are told one by one.
 #[derive(Drop)]
 pub struct Node {
     pub(crate) tables: Tables,
+    effects: Effects,
+    items: Items,
     spent: bool,
 }
 
@@ -48,11 +50,13 @@ impl Node {
                 clock: 0,
                 births: 0,
                 last: None,
-                peers: BTreeMap::new(alloc),
-                conns: BTreeMap::new(alloc),
+                peers: Peers::new(alloc),
+                conns: Conns::new(alloc),
                 own: Own::new(alloc),
                 stopped: false,
             },
+            effects: Effects::new(alloc),
+            items: Items::new(alloc),
             spent: false,
         })
     }
@@ -71,11 +75,27 @@ impl Node {
         ensures spent { IsTrue (is_spent self.new) ↔ IsErr result }
         ensures ended { IsTrue (is_spent self.old) → IsErr result }
     {
-        self.step_from::<Brand>(entry, Blank::new(1))
+        let mut step = Step::new(self.tables.alloc);
+        match self.step_into(entry, &mut step) {
+            Ok(()) => Ok(step),
+            Err(none) => Err(none),
+        }
     }
 
-    /// The same, and looks are counted, as the readers of connections and of replies count them. Looks and three times
-    /// what these readers keep rise by at most four for each octet of a piece or a reply, and not with other entries.
+    /// The same, with what it tells and asks for in place of what stands in a step, whose lists serve again and again.
+    pub fn step_into(&mut self, entry: Entry, step: &mut Step) -> Result<(), OutOfMemory>
+        ensures steps { (g : ConfigValue) (J : List EntryValue) → StandsFor g J self.old →
+            OnOk result (Steps g J entry self.new step.new) }
+        ensures ledgers { (g : ConfigValue) (J : List EntryValue) → StandsFor g J self.old →
+            OnOk result (KeepsLedgers g (J ++ entry ∷ []) (events g J ++ step.new.events)) }
+        ensures spent { IsTrue (is_spent self.new) ↔ IsErr result }
+        ensures ended { IsTrue (is_spent self.old) → IsErr result }
+    {
+        self.step_from::<Brand>(entry, step, Blank::new(1))
+    }
+
+    /// `step`, with looks counted, as the readers of connections and of replies count them. Looks and three times what
+    /// these readers keep rise by at most four for each octet of a piece or a reply, and not with other entries.
     pub fn step_counted<L: Ledger>(
         &mut self,
         entry: Entry,
@@ -90,30 +110,59 @@ impl Node {
             (octets_of entry.input) result }
         ensures none { IsTrue (is_spent self.old) → steps.new ≡ steps.old }
     {
+        let mut step = Step::new(self.tables.alloc);
+        match self.step_into_counted(entry, &mut step, steps) {
+            Ok(()) => Ok(step),
+            Err(none) => Err(none),
+        }
+    }
+
+    /// `step_into`, with looks counted.
+    pub fn step_into_counted<L: Ledger>(
+        &mut self,
+        entry: Entry,
+        step: &mut Step,
+        steps: &mut Counter<L>,
+    ) -> Result<(), OutOfMemory>
+        ensures steps { (g : ConfigValue) (J : List EntryValue) → StandsFor g J self.old →
+            OnOk result (Steps g J entry self.new step.new) }
+        ensures spent { IsTrue (is_spent self.new) ↔ IsErr result }
+        ensures ended { IsTrue (is_spent self.old) → IsErr result }
+        ensures looks { (g : ConfigValue) (J : List EntryValue) → StandsFor g J self.old →
+            Looks steps.old steps.new (kept g (chronicle g J)) (kept g (chronicle g (J ++ entry ∷ [])))
+            (octets_of entry.input) result }
+        ensures none { IsTrue (is_spent self.old) → steps.new ≡ steps.old }
+    {
         if self.spent {
             return Err(OutOfMemory);
         }
         self.spent = true;
-        let mut out = Effects::new(self.tables.alloc);
+        self.effects.clear();
         if !self.tables.stopped {
-            self.tables.take(&mut out, entry, steps)?;
+            self.tables
+                .take(&mut self.effects, &mut self.items, entry, steps)?;
         }
         self.spent = false;
-        let Effects { events, acts, .. } = out;
-        Ok(Step { events, acts })
+        self.effects.hand_to(step);
+        Ok(())
     }
 
     // The same for a caller that counts nothing.
-    fn step_from<L: Ledger>(&mut self, entry: Entry, blank: Blank) -> Result<Step, OutOfMemory>
+    fn step_from<L: Ledger>(
+        &mut self,
+        entry: Entry,
+        step: &mut Step,
+        blank: Blank,
+    ) -> Result<(), OutOfMemory>
         requires name { blank.name ≡ L.name }
         requires parts { blank.parts ≡ L.parts }
         requires some { 0 < blank.parts }
         ensures steps { (g : ConfigValue) (J : List EntryValue) → StandsFor g J self.old →
-            IfOk result (λ s. Steps g J entry self.new s) }
+            OnOk result (Steps g J entry self.new step.new) }
         ensures spent { IsTrue (is_spent self.new) ↔ IsErr result }
         ensures ended { IsTrue (is_spent self.old) → IsErr result }
     {
         let mut steps = Counter::<L>::new(blank);
-        self.step_counted(entry, &mut steps)
+        self.step_into_counted(entry, step, &mut steps)
     }
 }

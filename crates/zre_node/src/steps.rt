@@ -17,10 +17,11 @@ ghost use Rattle.zre_node.specs.Stands.{Holds, Did};
 
 use crate::effects::Effects;
 use crate::tables::Tables;
+use std::mem;
 use std::sync::ledger::Ledger;
 use zre_outside::{Command, Entry, Input};
 use zre_values::OutOfMemory;
-use zre_zmtp::Steps;
+use zre_zmtp::{Items, Steps};
 
 impl Tables {
     // What a datagram, or a connection that comes or goes, brings.
@@ -53,10 +54,11 @@ impl Tables {
         self.offer(out)
     }
 
-    /// A piece of a connection comes.
+    /// A piece of a connection comes. What becomes whole with it lies in the list while it is taken.
     pub fn take_piece<L: Ledger>(
         &mut self,
         out: &mut Effects,
+        items: &mut Items,
         at: u64,
         conn: u64,
         bytes: &[u8],
@@ -69,8 +71,11 @@ impl Tables {
             → Holds g H self.old →
             Looks steps.old steps.new (kept g H) (kept g (with_entry g e H)) (length bytes.now) result }
     {
-        let heard = self.come_piece(at, conn, bytes, steps)?;
-        self.said(out, conn, heard)?;
+        let mut list = mem::replace(items, Items::new(self.alloc));
+        list.clear();
+        let heard = self.come_piece(at, conn, bytes, list, steps)?;
+        self.said(out, conn, &heard)?;
+        *items = heard.emptied();
         self.offer(out)
     }
 
@@ -84,10 +89,12 @@ impl Tables {
         self.stop(out)
     }
 
-    /// What an entry brings, where the node hasn't stopped.
+    /// What an entry brings, where the node hasn't stopped. The list is for what becomes whole with a piece, and serves
+    /// again and again.
     pub fn take<L: Ledger>(
         &mut self,
         out: &mut Effects,
+        items: &mut Items,
         entry: Entry,
         steps: &mut Steps<L>,
     ) -> Result<(), OutOfMemory>
@@ -98,7 +105,9 @@ impl Tables {
     {
         let Entry { at, input } = entry;
         match input {
-            Input::Piece { conn, bytes } => self.take_piece(out, at, conn, bytes.as_slice(), steps),
+            Input::Piece { conn, bytes } => {
+                self.take_piece(out, items, at, conn, bytes.as_slice(), steps)
+            }
             Input::Reply { link, bytes } => self.take_reply(out, at, link, bytes.as_slice(), steps),
             Input::Linked { link } => self.take_link(out, at, Input::Linked { link }),
             Input::Unlinked { link } => self.take_link(out, at, Input::Unlinked { link }),

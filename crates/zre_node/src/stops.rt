@@ -19,10 +19,10 @@ impl Tables {
         ensures { (g : Config) (H : List Mark) → Holds g H self.old →
             OnOk result (Stopped g H self.new out.old out.new) }
     {
-        let links = self.links()?;
-        let conns = self.numbers()?;
-        self.end_all(out, &links, Cause::Stop)?;
-        self.drop_all(out, &conns)?;
+        let links = self.peers.links()?;
+        let conns = self.conns.numbers()?;
+        self.end_all(out, links.as_slice(), Cause::Stop)?;
+        self.drop_all(out, conns.as_slice())?;
         let id = self.config.id;
         out.act(Act::Beacon {
             bytes: Beacon { id, port: 0 }.write(),

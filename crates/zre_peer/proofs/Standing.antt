@@ -2,11 +2,14 @@
 use Rattle.std.proofs.Common.{◌≡◌, ℕ, ◌+◌, ◌%◌, Bool, true, false, ◌&&◌, List, [], ◌∷◌, ◌++◌, length, Some, refl, sym, ap, ◌∙◌, arith}
 use Rattle.std.proofs.lemmas.List.Sums.{fold_push}
 use Rattle.std.proofs.lemmas.Bool.{and_parts, and_from}
-use Rattle.std.proofs.lemmas.List.{append-nil, append_assoc}
+use Rattle.std.proofs.lemmas.List.{append-nil, append_assoc, length_push}
 use Rattle.zre_msg.specs.declared.message.Message.{Message}
 use Rattle.zre_peer.specs.declared.view.View.{View}
+use Rattle.zre_peer.specs.declared.peer_run.Run.{Run}
+use Rattle.zre_peer.specs.declared.peer_run.RunFault.{RunFault}
 use Rattle.zre_peer.specs.Later.{goes_on, later_fault}
-use Rattle.zre_peer.specs.Runs.{due, may_follow, fault_of, shown, in_order_after}
+use Rattle.zre_peer.specs.Runs.{due, may_follow, fault_of, shown, in_order, in_order_after}
+use Rattle.zre_peer.specs.Standing.{Stands}
 use Rattle.zre_peer.specs.Views.{view_of, after, blank}
 
 and_false : (b : Bool) → (b && false) ≡ false
@@ -60,3 +63,34 @@ view_before ms v e = (shown_some ms v e).3
 
 pub shown_after : (ms : List Message) (v w : View) (m : Message) → Some v ≡ shown ms → w ≡ after v m.body → Some w ≡ shown (ms ++ m ∷ [])
 shown_after ms v w m e h = ap (λ x. Some x) (h ∙ ap (λ x. after x m.body) (view_before ms v e) ∙ sym (view_of_more ms m)) ∙ sym (shown_more ms m)
+
+-- a message after the first was taken: what the run then knows
+pub record Taken (ms : List Message) (m : Message) (w : View) (next : ℕ) : Type 0 where
+  pub may : may_follow ms m ≡ true
+  pub ordered : in_order (ms ++ m ∷ []) ≡ true
+  pub view : Some w ≡ shown (ms ++ m ∷ [])
+  pub count : next ≡ length (ms ++ m ∷ []) % 65536
+
+pub taken_later : (r : Run) (ms : List Message) (v w : View) (m : Message) (next : ℕ) → Stands r ms → r.view ≡ Some v → next ≡ (r.count + 1) % 65536 → goes_on v next m ≡ true → w ≡ after v m.body → Taken ms m w next
+taken_later r ms v w m next s is next_is fine changed =
+    let e : Some v ≡ shown ms = sym is ∙ s.view in
+    let number = next_is ∙ count_more r.count ms s.count in
+    let may = follows_later ms v m next e number ∙ fine in
+    record {
+      may = may;
+      ordered = in_order-push [] ms m s.ordered may;
+      view = shown_after ms v w m e changed;
+      count = number ∙ sym (ap (λ k. k % 65536) (length_push ms m));
+    }
+
+-- it was refused
+pub refused_later : (r : Run) (ms : List Message) (v : View) (m : Message) (next : ℕ) (f : RunFault) → Stands r ms → r.view ≡ Some v → next ≡ (r.count + 1) % 65536 → goes_on v next m ≡ false → f ≡ later_fault next m
+    → (may_follow ms m ≡ false) × (f ≡ fault_of ms m)
+refused_later r ms v m next f s is next_is refused why =
+    let e : Some v ≡ shown ms = sym is ∙ s.view in
+    let number = next_is ∙ count_more r.count ms s.count in
+    (follows_later ms v m next e number ∙ refused, why ∙ sym (fault_later ms v m next e number))
+
+-- the view of a run is that of its messages
+pub view_of_run : (r : Run) (ms : List Message) (v : View) → Stands r ms → r.view ≡ Some v → v ≡ view_of ms
+view_of_run r ms v s is = view_before ms v (sym is ∙ s.view)

@@ -8,7 +8,8 @@ use crate::causes::{Cause, CloseWhy, IgnoreWhy, RefuseWhy};
 use zre_values::{Octets, OutOfMemory, push_decimal, push_quoted};
 use zre_zmtp::{ZmtpFault, ZmtpWhy};
 
-fn zmtp_name(why: ZmtpWhy) -> &'static [u8]
+/// The name of what is wrong with a stream, as events have it.
+pub fn zmtp_name(why: ZmtpWhy) -> &'static [u8]
     ensures { result.now ≡ zmtp_name why }
 {
     match why {

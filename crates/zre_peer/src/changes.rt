@@ -1,7 +1,9 @@
 //! What a message after HELLO does to the view, and what it tells.
 
-ghost use Rattle.std.specs.Prelude.{ℕ, ◌≡◌, ◌≢◌, ◌++◌, true, false, IfOk, IfErr, OnOk, OnErr};
+ghost use Rattle.std.specs.Prelude.{ℕ, ◌≡◌, ◌++◌, true, false, IfOk, IfErr, OnOk, OnErr};
 ghost use Rattle.zre_msg.specs.declared.message.Body.TheVariants as bodies;
+ghost use Rattle.zre_msg.specs.Lent.{message_of};
+ghost use Rattle.zre_peer.specs.Changes.{ChangesWithEvents, PassesLimit};
 ghost use Rattle.zre_peer.specs.Runs.{events_of, is_hello};
 ghost use Rattle.zre_peer.specs.Views.{after, is_small};
 
@@ -9,7 +11,7 @@ use crate::event::{Event, Events};
 use crate::peer_run::RunFault;
 use crate::view::View;
 use std::alloc::Global;
-use zre_msg::Body;
+use zre_msg::{Body, Command, LentMessage};
 use zre_values::{Frames, Octets, PeerId};
 
 // Whether the view stays within the limits with one more group.
@@ -62,13 +64,10 @@ fn joined(
     events: &mut Events,
 ) -> Result<(), RunFault>
     requires { is_small view.old ≡ true }
-    ensures ok { OnOk result ((is_small (after view.old (bodies.Join group.now status)) ≡ true)
-        × (view.new ≡ after view.old (bodies.Join group.now status))
-        × (events.new ≡ events.old ++ events_of id view.old (bodies.Join group.now status))) }
+    ensures ok { OnOk result (ChangesWithEvents id view.old view.new (bodies.Join group.now status)
+        events.old events.new) }
     ensures kept { OnErr result (view.new ≡ view.old) }
-    ensures refused { IfErr result (λ e. e ≢ RunFault.OutOfMemory →
-        (is_small (after view.old (bodies.Join group.now status)) ≡ false) × (e ≡ RunFault.Limit)
-        × (events.new ≡ events.old)) }
+    ensures refused { PassesLimit result view.old (bodies.Join group.now status) events.old events.new }
 {
     if !can_join(view, group) {
         return Err(RunFault::Limit);
@@ -91,9 +90,8 @@ fn left(
     events: &mut Events,
 ) -> Result<(), RunFault>
     requires { is_small view.old ≡ true }
-    ensures ok { OnOk result ((is_small (after view.old (bodies.Leave group.now status)) ≡ true)
-        × (view.new ≡ after view.old (bodies.Leave group.now status))
-        × (events.new ≡ events.old ++ events_of id view.old (bodies.Leave group.now status))) }
+    ensures ok { OnOk result (ChangesWithEvents id view.old view.new (bodies.Leave group.now status)
+        events.old events.new) }
     ensures kept { OnErr result (view.new ≡ view.old) }
     ensures refused { IfErr result (λ e. e ≡ RunFault.OutOfMemory) }
 {
@@ -158,11 +156,9 @@ pub(crate) fn change(
 ) -> Result<(), RunFault>
     requires within { is_small view.old ≡ true }
     requires no_hello { is_hello body ≡ false }
-    ensures ok { OnOk result ((is_small (after view.old body) ≡ true)
-        × (view.new ≡ after view.old body) × (events.new ≡ events.old ++ events_of id view.old body)) }
+    ensures ok { OnOk result (ChangesWithEvents id view.old view.new body events.old events.new) }
     ensures kept { OnErr result (view.new ≡ view.old) }
-    ensures refused { IfErr result (λ e. e ≢ RunFault.OutOfMemory →
-        (is_small (after view.old body) ≡ false) × (e ≡ RunFault.Limit) × (events.new ≡ events.old)) }
+    ensures refused { PassesLimit result view.old body events.old events.new }
 {
     match body {
         Body::Join { group, status } => joined(alloc, id, view, group.as_slice(), status, events),
@@ -172,5 +168,35 @@ pub(crate) fn change(
         Body::Ping | Body::PingOk => Ok(()),
         Body::Other { .. } => Ok(()),
         Body::Hello { .. } => Ok(()),
+    }
+}
+
+/// The same of a message that lies in its frames: its group and its content are copied once, into the event.
+pub(crate) fn change_by_lent(
+    alloc: Global,
+    id: PeerId,
+    view: &mut View,
+    lent: &LentMessage<'_>,
+    events: &mut Events,
+) -> Result<(), RunFault>
+    requires { is_small view.old ≡ true }
+    ensures ok { OnOk result (ChangesWithEvents id view.old view.new (message_of lent.now).body events.old events.new) }
+    ensures kept { OnErr result (view.new ≡ view.old) }
+    ensures refused { PassesLimit result view.old (message_of lent.now).body events.old events.new }
+{
+    match lent.command {
+        Command::Join { group, status } => joined(alloc, id, view, group, status, events),
+        Command::Leave { group, status } => left(alloc, id, view, group, status, events),
+        Command::Whisper => {
+            let content = Frames::copy(alloc, lent.content)?;
+            whispered(alloc, id, view, content, events)
+        }
+        Command::Shout { group } => {
+            let group = Octets::copy(alloc, group)?;
+            let content = Frames::copy(alloc, lent.content)?;
+            shouted(alloc, id, view, group, content, events)
+        }
+        Command::Ping | Command::PingOk => Ok(()),
+        Command::Other { .. } => Ok(()),
     }
 }

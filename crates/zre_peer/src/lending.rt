@@ -37,7 +37,7 @@ fn command_of(body: &Body) -> Option<(Command<'_>, &[Octets])>
 }
 
 /// The message with its fields lent, unless it is HELLO.
-pub(crate) fn lent(message: &Message) -> Option<LentMessage<'_>>
+pub fn lent(message: &Message) -> Option<LentMessage<'_>>
     ensures { MatchOption result (is_hello message.now.body ≡ true) (λ found. message_of found ≡ message.now) }
 {
     let (command, content) = command_of(&message.body)?;

@@ -19,10 +19,12 @@ mod teller;
 mod telling;
 mod view;
 
+pub use cause_text::zmtp_name;
 pub use causes::{Cause, CloseWhy, IgnoreWhy, RefuseWhy};
 pub use event::{Event, Events};
 pub use groups::Groups;
 pub use headers::Headers;
+pub use lending::lent;
 pub use line::{push_line, push_lines};
 pub use peer_run::{Run, RunFault};
 pub use teller::Teller;

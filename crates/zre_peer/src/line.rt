@@ -1,6 +1,6 @@
 //! The lines of events.
 
-ghost use Rattle.std.specs.Prelude.{◌≡◌, ◌++◌, OnOk, IfOk, codes};
+ghost use Rattle.std.specs.Prelude.{◌≡◌, ◌++◌, OnOk, IfOk, codes, decimal};
 ghost use Rattle.zre_peer.specs.Lines.{who_text, content_end, enter_end, group_end, shout_end, line, lines};
 ghost use Rattle.zre_peer.specs.declared.event.Event.TheVariants as kinds;
 
@@ -139,12 +139,19 @@ fn push_exit(out: &mut Octets, id: PeerId, name: &Octets, cause: Cause) -> Resul
     out.push(b'\n')
 }
 
+// The word of an event, and the number of a connection.
+fn push_conn(out: &mut Octets, word: &[u8], conn: u64) -> Result<(), OutOfMemory>
+    ensures { OnOk result (out.new ≡ out.old ++ word.now ++ decimal conn ++ codes " ") }
+{
+    out.append(word)?;
+    push_decimal(out, conn)?;
+    out.push(b' ')
+}
+
 fn push_closed(out: &mut Octets, conn: u64, why: CloseWhy) -> Result<(), OutOfMemory>
     ensures { OnOk result (out.new ≡ out.old ++ line (kinds.Closed conn why)) }
 {
-    out.append(b"CLOSED ")?;
-    push_decimal(out, conn)?;
-    out.push(b' ')?;
+    push_conn(out, b"CLOSED ", conn)?;
     push_close(out, why)?;
     out.push(b'\n')
 }
@@ -152,9 +159,7 @@ fn push_closed(out: &mut Octets, conn: u64, why: CloseWhy) -> Result<(), OutOfMe
 fn push_ignored(out: &mut Octets, conn: u64, why: IgnoreWhy) -> Result<(), OutOfMemory>
     ensures { OnOk result (out.new ≡ out.old ++ line (kinds.Ignored conn why)) }
 {
-    out.append(b"IGNORED ")?;
-    push_decimal(out, conn)?;
-    out.push(b' ')?;
+    push_conn(out, b"IGNORED ", conn)?;
     push_ignore(out, why)?;
     out.push(b'\n')
 }

@@ -4,13 +4,12 @@ ghost use Rattle.std.specs.Option.{ForSome};
 ghost use Rattle.zre_msg.specs.declared.message.Message.{Message};
 ghost use Rattle.zre_msg.specs.Lent.{message_of};
 ghost use Rattle.zre_peer.specs.declared.peer_run.RunFault.TheVariants as faults;
-ghost use Rattle.zre_peer.specs.Heads.{heads_of};
-ghost use Rattle.zre_peer.specs.Later.{goes_on, later_fault};
-ghost use Rattle.zre_peer.specs.Lines.{lines};
+ghost use Rattle.zre_peer.specs.Changes.{TellsLines};
+ghost use Rattle.zre_peer.specs.Later.{goes_on, later_fault, RefusesLater};
 ghost use Rattle.zre_peer.specs.Runs.{events_of, may_follow, fault_of, in_order, is_hello};
 ghost use Rattle.zre_peer.specs.Views.{after, blank, is_small, view_of};
 
-use crate::changes::change;
+use crate::changes::{change, change_by_lent};
 use crate::event::Events;
 use crate::heads::Heads;
 use crate::hello::{is_hello, opened, tell_hello};
@@ -126,11 +125,31 @@ fn later(
     ensures ok { OnOk result ((goes_on view.old due message ≡ true)
         × (view.new ≡ after view.old message.body) × (events.new ≡ events.old ++ events_of id view.old message.body)) }
     ensures kept { OnErr result (view.new ≡ view.old) }
-    ensures refused { IfErr result (λ e. e ≢ RunFault.OutOfMemory →
-        (goes_on view.old due message ≡ false) × (e ≡ later_fault due message) × (events.new ≡ events.old)) }
+    ensures refused { RefusesLater result view.old due message events.old events.new }
 {
     expect(due, &message)?;
     change(alloc, id, view, message.body, events)
+}
+
+// The same of a message that lies in its frames.
+#[tactic(auto, using(crate::proofs::Named::lent_is_later))]
+fn later_lent(
+    alloc: Global,
+    id: PeerId,
+    view: &mut View,
+    due: u16,
+    lent: &LentMessage<'_>,
+    events: &mut Events,
+) -> Result<(), RunFault>
+    requires { is_small view.old ≡ true }
+    ensures ok { OnOk result ((goes_on view.old due (message_of lent.now) ≡ true)
+        × (view.new ≡ after view.old (message_of lent.now).body)
+        × (events.new ≡ events.old ++ events_of id view.old (message_of lent.now).body)) }
+    ensures kept { OnErr result (view.new ≡ view.old) }
+    ensures refused { RefusesLater result view.old due (message_of lent.now) events.old events.new }
+{
+    expect_number(due, lent.sequence)?;
+    change_by_lent(alloc, id, view, lent, events)
 }
 
 // The same, with the lines of the events, which begin with `heads`.
@@ -146,21 +165,18 @@ fn tell_later(
     requires { is_small view.old ≡ true }
     ensures ok { OnOk result ((goes_on view.old due (message_of lent.now) ≡ true)
         × (view.new ≡ after view.old (message_of lent.now).body)) }
-    ensures told { (id : PeerId) → heads.now ≡ heads_of id view.old.name
-        → OnOk result (out.new ≡ out.old ++ lines (events_of id view.old (message_of lent.now).body)) }
+    ensures told { TellsLines result heads.now view.old (message_of lent.now).body out.old out.new }
     ensures name { view.new.name ≡ view.old.name }
     ensures small { is_small view.new ≡ true }
     ensures kept { OnErr result (view.new ≡ view.old) }
-    ensures refused { IfErr result (λ e. e ≢ RunFault.OutOfMemory →
-        (goes_on view.old due (message_of lent.now) ≡ false) × (e ≡ later_fault due (message_of lent.now))
-        × (out.new ≡ out.old)) }
+    ensures refused { RefusesLater result view.old due (message_of lent.now) out.old out.new }
 {
     expect_number(due, lent.sequence)?;
     tell_change(alloc, view, lent, heads, out)
 }
 
 impl Run {
-    ghost use Rattle.zre_peer.specs.Standing.{Stands, IsReady, id_of, view_in, is_spent};
+    ghost use Rattle.zre_peer.specs.Standing.{Stands, Tells, RefusesToTell, IsReady, id_of, view_in, is_spent};
     ghost use Rattle.std.specs.Prelude.{option_copied};
 
     /// The run of a peer of which no message was taken yet. It takes no memory.
@@ -266,7 +282,40 @@ impl Run {
         }
     }
 
-    /// The same for a message after HELLO that lies in its frames, with the lines of its events appended to a text;
+    /// The same for a message after HELLO that lies in its frames: its fields and its content are copied once, into its
+    /// event.
+    pub fn take_lent(&mut self, lent: &LentMessage<'_>, events: &mut Events) -> Result<(), RunFault>
+        requires going { is_spent self.old ≡ false }
+        requires later { is_some (view_in self.old) ≡ true }
+        ensures ok { (ms : List Message) → Stands self.old ms → OnOk result (
+            (may_follow ms (message_of lent.now) ≡ true) × Stands self.new (ms ++ (message_of lent.now) ∷ [])
+            × (events.new ≡ events.old ++ events_of (id_of self.old) (view_of ms) (message_of lent.now).body)) }
+        ensures going { OnOk result (is_spent self.new ≡ false) }
+        ensures refused { (ms : List Message) → Stands self.old ms → IfErr result (λ e. e ≢ RunFault.OutOfMemory →
+            (may_follow ms (message_of lent.now) ≡ false) × (in_order (ms ++ (message_of lent.now) ∷ []) ≡ false)
+            × (e ≡ fault_of ms (message_of lent.now)) × (events.new ≡ events.old)) }
+        ensures spent { IfErr result (λ e. e ≢ RunFault.OutOfMemory → is_spent self.new ≡ true) }
+        ensures unchanged { result ≡ Err RunFault.OutOfMemory → self.new ≡ self.old }
+        ensures kept { OnErr result (view_in self.new ≡ view_in self.old) }
+        ensures id { id_of self.new ≡ id_of self.old }
+    {
+        let next = self.due();
+        let Some(view) = &mut self.view else {
+            return Err(RunFault::NotHello);
+        };
+        match later_lent(self.alloc, self.id, view, next, lent, events) {
+            Ok(()) => {
+                self.count = next;
+                Ok(())
+            }
+            Err(fault) => {
+                self.spent = fault != RunFault::OutOfMemory;
+                Err(fault)
+            }
+        }
+    }
+
+    /// The same, with the lines of its events appended to a text;
     /// they begin with `heads`. After `OutOfMemory` a front of them may stand there.
     pub(crate) fn tell(
         &mut self,
@@ -277,13 +326,9 @@ impl Run {
         requires going { is_spent self.old ≡ false }
         requires later { is_some (view_in self.old) ≡ true }
         requires ready { IsReady self.old heads.now }
-        ensures ok { (ms : List Message) → Stands self.old ms → OnOk result (
-            (may_follow ms (message_of lent.now) ≡ true) × Stands self.new (ms ++ (message_of lent.now) ∷ [])
-            × (out.new ≡ out.old ++ lines (events_of (id_of self.old) (view_of ms) (message_of lent.now).body))) }
+        ensures ok { Tells result self.old self.new (message_of lent.now) out.old out.new }
         ensures going { OnOk result (is_spent self.new ≡ false) }
-        ensures refused { (ms : List Message) → Stands self.old ms → IfErr result (λ e. e ≢ RunFault.OutOfMemory →
-            (may_follow ms (message_of lent.now) ≡ false) × (e ≡ fault_of ms (message_of lent.now))
-            × (out.new ≡ out.old)) }
+        ensures refused { RefusesToTell result self.old (message_of lent.now) out.old out.new }
         ensures spent { IfErr result (λ e. e ≢ RunFault.OutOfMemory → is_spent self.new ≡ true) }
         ensures kept { OnErr result (view_in self.new ≡ view_in self.old) }
         ensures ready { IsReady self.new heads.now }

@@ -1,14 +1,12 @@
 //! A run whose events are wanted as lines.
 
-ghost use Rattle.std.specs.Prelude.{◌≡◌, ◌≢◌, ◌++◌, [], ◌∷◌, List, true, false, is_some, IfErr, IfOk, OnOk, OnErr};
+ghost use Rattle.std.specs.Prelude.{◌≡◌, [], true, false, is_some, IfOk, OnOk};
 ghost use Rattle.std.specs.Option.{ForSome};
 ghost use Rattle.zre_msg.specs.Lent.{message_of};
-ghost use Rattle.zre_msg.specs.declared.message.Message.{Message};
 ghost use Rattle.zre_peer.specs.Heads.{heads_of};
-ghost use Rattle.zre_peer.specs.Lines.{lines};
-ghost use Rattle.zre_peer.specs.Runs.{events_of, fault_of, is_hello, may_follow};
+ghost use Rattle.zre_peer.specs.Runs.{is_hello};
 ghost use Rattle.zre_peer.specs.Standing.{IsReady};
-ghost use Rattle.zre_peer.specs.Views.{after, blank, view_of};
+ghost use Rattle.zre_peer.specs.Views.{after, blank};
 
 use crate::event::Events;
 use crate::heads::Heads;
@@ -56,7 +54,7 @@ fn put(place: &mut Heads, heads: Heads)
 }
 
 impl Teller {
-    ghost use Rattle.zre_peer.specs.Standing.{Stands, id_of, view_in, is_spent};
+    ghost use Rattle.zre_peer.specs.Standing.{Stands, Tells, RefusesToTell, IsSpentByRefusal, id_of, view_in, is_spent};
 
     /// The run of a peer of which no message was taken yet. It takes no memory.
     pub fn new(alloc: Global, id: PeerId) -> Self
@@ -89,14 +87,10 @@ impl Teller {
     /// there, and nothing is said of the run.
     pub fn take(&mut self, message: Message, out: &mut Octets) -> Result<(), RunFault>
         requires { is_spent self.old ≡ false }
-        ensures ok { (ms : List Message) → Stands self.old ms → OnOk result (
-            (may_follow ms message ≡ true) × Stands self.new (ms ++ message ∷ [])
-            × (out.new ≡ out.old ++ lines (events_of (id_of self.old) (view_of ms) message.body))) }
+        ensures ok { Tells result self.old self.new message out.old out.new }
         ensures going { OnOk result (is_spent self.new ≡ false) }
-        ensures refused { (ms : List Message) → Stands self.old ms → IfErr result (λ e. e ≢ RunFault.OutOfMemory →
-            (may_follow ms message ≡ false) × (e ≡ fault_of ms message) × (out.new ≡ out.old)) }
-        ensures spent { IfErr result (λ e. e ≢ RunFault.OutOfMemory →
-            (is_spent self.new ≡ true) × (view_in self.new ≡ view_in self.old)) }
+        ensures refused { RefusesToTell result self.old message out.old out.new }
+        ensures spent { IsSpentByRefusal result self.old self.new }
         ensures id { id_of self.new ≡ id_of self.old }
     {
         if self.is_after() {
@@ -116,14 +110,10 @@ impl Teller {
     pub fn take_later(&mut self, message: &Message, out: &mut Octets) -> Result<(), RunFault>
         requires going { is_spent self.old ≡ false }
         requires later { is_some (view_in self.old) ≡ true }
-        ensures ok { (ms : List Message) → Stands self.old ms → OnOk result (
-            (may_follow ms message.now ≡ true) × Stands self.new (ms ++ message.now ∷ [])
-            × (out.new ≡ out.old ++ lines (events_of (id_of self.old) (view_of ms) message.now.body))) }
+        ensures ok { Tells result self.old self.new message.now out.old out.new }
         ensures going { OnOk result (is_spent self.new ≡ false) }
-        ensures refused { (ms : List Message) → Stands self.old ms → IfErr result (λ e. e ≢ RunFault.OutOfMemory →
-            (may_follow ms message.now ≡ false) × (e ≡ fault_of ms message.now) × (out.new ≡ out.old)) }
-        ensures spent { IfErr result (λ e. e ≢ RunFault.OutOfMemory →
-            (is_spent self.new ≡ true) × (view_in self.new ≡ view_in self.old)) }
+        ensures refused { RefusesToTell result self.old message.now out.old out.new }
+        ensures spent { IsSpentByRefusal result self.old self.new }
         ensures id { id_of self.new ≡ id_of self.old }
     {
         match lent(message) {
@@ -136,15 +126,10 @@ impl Teller {
     pub fn take_lent(&mut self, lent: &LentMessage<'_>, out: &mut Octets) -> Result<(), RunFault>
         requires going { is_spent self.old ≡ false }
         requires later { is_some (view_in self.old) ≡ true }
-        ensures ok { (ms : List Message) → Stands self.old ms → OnOk result (
-            (may_follow ms (message_of lent.now) ≡ true) × Stands self.new (ms ++ (message_of lent.now) ∷ [])
-            × (out.new ≡ out.old ++ lines (events_of (id_of self.old) (view_of ms) (message_of lent.now).body))) }
+        ensures ok { Tells result self.old self.new (message_of lent.now) out.old out.new }
         ensures going { OnOk result (is_spent self.new ≡ false) }
-        ensures refused { (ms : List Message) → Stands self.old ms → IfErr result (λ e. e ≢ RunFault.OutOfMemory →
-            (may_follow ms (message_of lent.now) ≡ false) × (e ≡ fault_of ms (message_of lent.now))
-            × (out.new ≡ out.old)) }
-        ensures spent { IfErr result (λ e. e ≢ RunFault.OutOfMemory →
-            (is_spent self.new ≡ true) × (view_in self.new ≡ view_in self.old)) }
+        ensures refused { RefusesToTell result self.old (message_of lent.now) out.old out.new }
+        ensures spent { IsSpentByRefusal result self.old self.new }
         ensures id { id_of self.new ≡ id_of self.old }
     {
         self.run.tell(lent, &self.heads, out)
@@ -153,14 +138,10 @@ impl Teller {
     fn take_first(&mut self, message: Message, out: &mut Octets) -> Result<(), RunFault>
         requires going { is_spent self.old ≡ false }
         requires first { is_some (view_in self.old) ≡ false }
-        ensures ok { (ms : List Message) → Stands self.old ms → OnOk result (
-            (may_follow ms message ≡ true) × Stands self.new (ms ++ message ∷ [])
-            × (out.new ≡ out.old ++ lines (events_of (id_of self.old) (view_of ms) message.body))) }
+        ensures ok { Tells result self.old self.new message out.old out.new }
         ensures going { OnOk result (is_spent self.new ≡ false) }
-        ensures refused { (ms : List Message) → Stands self.old ms → IfErr result (λ e. e ≢ RunFault.OutOfMemory →
-            (may_follow ms message ≡ false) × (e ≡ fault_of ms message) × (out.new ≡ out.old)) }
-        ensures spent { IfErr result (λ e. e ≢ RunFault.OutOfMemory →
-            (is_spent self.new ≡ true) × (view_in self.new ≡ view_in self.old)) }
+        ensures refused { RefusesToTell result self.old message out.old out.new }
+        ensures spent { IsSpentByRefusal result self.old self.new }
         ensures id { id_of self.new ≡ id_of self.old }
     {
         let heads = heads_of(self.alloc, self.run.id(), &message.body)?;

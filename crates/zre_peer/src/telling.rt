@@ -1,12 +1,13 @@
 //! What a message after HELLO does to the view, with the lines of its events in place of the events.
 
-ghost use Rattle.std.specs.Prelude.{◌≡◌, ◌≢◌, ◌++◌, true, false, IfErr, OnOk, OnErr};
+ghost use Rattle.std.specs.Prelude.{◌≡◌, ◌++◌, true, IfErr, OnOk, OnErr};
 ghost use Rattle.zre_msg.specs.declared.message.Body.TheVariants as bodies;
 ghost use Rattle.zre_msg.specs.Lent.{message_of};
+ghost use Rattle.zre_peer.specs.Changes.{Changes, TellsLines, PassesLimit};
 ghost use Rattle.zre_peer.specs.Lines.{content_end, group_end, lines, shout_end};
 ghost use Rattle.zre_peer.specs.Heads.{heads_of};
 ghost use Rattle.zre_peer.specs.Runs.{events_of};
-ghost use Rattle.zre_peer.specs.Views.{after, is_small};
+ghost use Rattle.zre_peer.specs.Views.{is_small};
 ghost use Rattle.zre_values.specs.declared.peer_id.PeerId.{PeerId};
 
 use crate::changes::{can_join, join, leave};
@@ -56,14 +57,10 @@ fn tell_join(
     out: &mut Octets,
 ) -> Result<(), RunFault>
     requires { is_small view.old ≡ true }
-    ensures ok { OnOk result ((is_small (after view.old (bodies.Join group.now status)) ≡ true)
-        × (view.new ≡ after view.old (bodies.Join group.now status))) }
-    ensures told { (id : PeerId) → heads.now ≡ heads_of id view.old.name
-        → OnOk result (out.new ≡ out.old ++ lines (events_of id view.old (bodies.Join group.now status))) }
+    ensures ok { OnOk result (Changes view.old view.new (bodies.Join group.now status)) }
+    ensures told { TellsLines result heads.now view.old (bodies.Join group.now status) out.old out.new }
     ensures kept { OnErr result (view.new ≡ view.old) }
-    ensures refused { IfErr result (λ e. e ≢ RunFault.OutOfMemory →
-        (is_small (after view.old (bodies.Join group.now status)) ≡ false) × (e ≡ RunFault.Limit)
-        × (out.new ≡ out.old)) }
+    ensures refused { PassesLimit result view.old (bodies.Join group.now status) out.old out.new }
 {
     if !can_join(view, group) {
         return Err(RunFault::Limit);
@@ -80,10 +77,8 @@ fn tell_leave(
     out: &mut Octets,
 ) -> Result<(), RunFault>
     requires { is_small view.old ≡ true }
-    ensures ok { OnOk result ((is_small (after view.old (bodies.Leave group.now status)) ≡ true)
-        × (view.new ≡ after view.old (bodies.Leave group.now status))) }
-    ensures told { (id : PeerId) → heads.now ≡ heads_of id view.old.name
-        → OnOk result (out.new ≡ out.old ++ lines (events_of id view.old (bodies.Leave group.now status))) }
+    ensures ok { OnOk result (Changes view.old view.new (bodies.Leave group.now status)) }
+    ensures told { TellsLines result heads.now view.old (bodies.Leave group.now status) out.old out.new }
     ensures kept { OnErr result (view.new ≡ view.old) }
     ensures refused { IfErr result (λ e. e ≡ RunFault.OutOfMemory) }
 {
@@ -102,13 +97,10 @@ pub(crate) fn tell_change(
     out: &mut Octets,
 ) -> Result<(), RunFault>
     requires { is_small view.old ≡ true }
-    ensures ok { OnOk result ((is_small (after view.old (message_of lent.now).body) ≡ true)
-        × (view.new ≡ after view.old (message_of lent.now).body)) }
-    ensures told { (id : PeerId) → heads.now ≡ heads_of id view.old.name
-        → OnOk result (out.new ≡ out.old ++ lines (events_of id view.old (message_of lent.now).body)) }
+    ensures ok { OnOk result (Changes view.old view.new (message_of lent.now).body) }
+    ensures told { TellsLines result heads.now view.old (message_of lent.now).body out.old out.new }
     ensures kept { OnErr result (view.new ≡ view.old) }
-    ensures refused { IfErr result (λ e. e ≢ RunFault.OutOfMemory →
-        (is_small (after view.old (message_of lent.now).body) ≡ false) × (e ≡ RunFault.Limit) × (out.new ≡ out.old)) }
+    ensures refused { PassesLimit result view.old (message_of lent.now).body out.old out.new }
 {
     match lent.command {
         Command::Join { group, status } => tell_join(alloc, view, group, status, heads, out),

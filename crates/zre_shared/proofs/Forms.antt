@@ -12,7 +12,7 @@ use Rattle.zre_values.specs.declared.peer_id.PeerId.{PeerId}
 use Rattle.zre_capture.specs.Parts.{between, Lacks}
 use Rattle.zre_capture.specs.Values.{number_of, id_of, group_of}
 use Rattle.zre_capture.proofs.Parts.{between-cut, between-whole}
-use Rattle.zre_capture.proofs.Spelled.{number_of-decimal, number_of-some, id_of-text, id_of-some, group_of-quoted, group_of-some}
+use Rattle.zre_capture.proofs.Spelled.{IsTextOf, number_of-decimal, number_of-some, id_of-text, id_of-some, group_of-quoted, group_of-some}
 use Rattle.zre_capture.proofs.Visible.{visible, decimal-visible, id-visible, quoted-visible, fields-joined}
 use Rattle.zre_shared.specs.declared.write.Write.{Write}
 use Rattle.zre_shared.specs.declared.write.TheConstants.{KEY_OCTETS, VALUE_OCTETS}
@@ -27,6 +27,20 @@ next done frame rest field after e parts none = e ∙ ap (λ (l : List (List ℕ
 -- the last field
 pub last : (done : List (List ℕ)) (frame rest : List ℕ) → between 32 frame ≡ done ++ between 32 rest → Lacks 32 rest → between 32 frame ≡ done ++ (rest ∷ [])
 last done frame rest e none = e ∙ ap (λ (l : List (List ℕ)). done ++ l) (between-whole 32 rest none)
+
+-- the first fields, and what comes after them
+pub first_field : {f w : List ℕ} (r : List ℕ) → f ≡ w ++ (32 ∷ r) → Lacks 32 w → between 32 f ≡ w ∷ between 32 r
+first_field {f} {w} r p q = next [] f f w r refl p q
+
+pub two_fields : {f w r n : List ℕ} (s : List ℕ) → f ≡ w ++ (32 ∷ r) → Lacks 32 w → r ≡ n ++ (32 ∷ s) → Lacks 32 n → between 32 f ≡ w ∷ n ∷ between 32 s
+two_fields {f} {w} {r} {n} s p q p2 q2 = next (w ∷ []) f r n s (first_field r p q) p2 q2
+
+pub three_fields : {f w r n s i : List ℕ} (t : List ℕ) → f ≡ w ++ (32 ∷ r) → Lacks 32 w → r ≡ n ++ (32 ∷ s) → Lacks 32 n → s ≡ i ++ (32 ∷ t) → Lacks 32 i → between 32 f ≡ w ∷ n ∷ i ∷ between 32 t
+three_fields {f} {w} {r} {n} {s} {i} t p q p2 q2 p3 q3 = next (w ∷ n ∷ []) f s i t (two_fields s p q p2 q2) p3 q3
+
+pub four_fields : {f w r n s i t k : List ℕ} (v : List ℕ) → f ≡ w ++ (32 ∷ r) → Lacks 32 w → r ≡ n ++ (32 ∷ s) → Lacks 32 n → s ≡ i ++ (32 ∷ t) → Lacks 32 i → t ≡ k ++ (32 ∷ v) → Lacks 32 k
+    → between 32 f ≡ w ∷ n ∷ i ∷ k ∷ between 32 v
+four_fields {f} {w} {r} {n} {s} {i} {t} {k} v p q p2 q2 p3 q3 p4 q4 = next (w ∷ n ∷ i ∷ []) f t k v (three_fields t p q p2 q2 p3 q3) p4 q4
 
 -- what the fields make
 pub of_fields : (frame : List ℕ) (fs : List (List ℕ)) → between 32 frame ≡ fs → write_of frame ≡ write_in fs
@@ -178,11 +192,7 @@ written (a ∷ c ∷ i ∷ k ∷ v ∷ []) w e =
     ]
 written (a ∷ b ∷ c ∷ d ∷ f ∷ g ∷ fs) w e = absurd cc
 
-pub record IsFrameOf (w : Write) (frame : List ℕ) : Type 0 where
-  pub is : IsWrite w
-  pub text : write_text w ≡ frame
-
-pub write_of-some : (frame : List ℕ) (w : Write) → write_of frame ≡ Some w → IsFrameOf w frame
+pub write_of-some : (frame : List ℕ) (w : Write) → write_of frame ≡ Some w → IsTextOf IsWrite write_text w frame
 unfolding write_of
 write_of-some frame w e =
     let h = written (between 32 frame) w e in

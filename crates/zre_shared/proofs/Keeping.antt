@@ -19,7 +19,7 @@ use Rattle.zre_values.specs.declared.peer_id.PeerId.{PeerId}
 use Rattle.zre_shared.specs.declared.write.Write.{Write}
 use Rattle.zre_shared.specs.Kept.{Name, Map, by_name, IsAtKey, IsKept}
 use Rattle.zre_shared.specs.Replicas.{Held, with_write, greatest_count, next_write}
-use Rattle.zre_shared.specs.Tables.{by_key, by_age, greater, put, table}
+use Rattle.zre_shared.specs.Tables.{by_key, by_age, greater, put}
 use Rattle.zre_shared.specs.Writes.{IsWrite}
 use Rattle.zre_shared.proofs.Ages.{by_count}
 use Rattle.zre_shared.proofs.Members.{Rising, rising-head, rising-tail, rising-nil, rising-cons, at_member, all_members}
@@ -157,6 +157,17 @@ replaced-put m n g id v w x h is some is_greater e ordered =
       at = subst AtKeys (sym set) (replaced-at w v is m.entries (at_keys m g id h) some);
       ordered = ordered;
     }
+
+-- the same by the octets that the key was looked up by
+pub replaces : (m n : Map) (g : ℕ) (id : PeerId) (v w x : Write) (key : List ℕ) → IsKept m g id → IsWrite w → key ≡ w.key → Some v ≡ lookup (finds key) m.entries → x ≡ greater w v → n.entries ≡ set_value (finds key) m.entries x
+    → tree.IsOrdered by_name n → IsPut m n w
+replaces m n g id v w x key h is same some is_greater e ordered =
+    replaced-put m n g id v w x h is (ap (λ (k : List ℕ). lookup (finds k) m.entries) (sym same) ∙ sym some) is_greater (e ∙ ap (λ (k : List ℕ). set_value (finds k) m.entries x) same) ordered
+
+pub adds : (m same n : Map) (g : ℕ) (id : PeerId) (k : Name) (w : Write) (key : List ℕ) → IsKept m g id → IsWrite w → k.items ≡ w.key → key ≡ w.key → None ≡ lookup (finds key) m.entries → same ≡ m
+    → n.entries ≡ insert_entry by_name same.entries k w → tree.IsOrdered by_name n → IsPut m n w
+adds m same n g id k w key h is named found none unchanged e ordered =
+    added-put m n g id k w h is named (ap (λ (o : List ℕ). lookup (finds o) m.entries) (sym found) ∙ sym none) (e ∙ ap (λ (b : Map). insert_entry by_name b.entries k w) unchanged) ordered
 
 pub put-kept : (m n : Map) (g count : ℕ) (id : PeerId) (w : Write) → IsKept m g id → IsPut m n w → count ≡ max g w.count → IsKept n count id
 put-kept m n g count id w h is e =

@@ -1,5 +1,7 @@
 //! The pipes with their callers, and the actor over worlds in memory: one after the other, and in threads of their own.
 
+ghost use Rattle.std.specs.Arc.{arc_value};
+ghost use Rattle.zre_outside.specs.Spawners.{job_of};
 ghost use Rattle.std.specs.Prelude.{◌≡◌, ◌+◌, ◌<◌, ◌^◌, ◌++◌, ◌∷◌, [], None, IsSome, IfSome};
 ghost use Rattle.zre_tests.specs.Ready.{IsReady};
 ghost use Rattle.zre_actor.specs.Passes.{IsActorOf, IsCallerOf, IsTakerOf, AreCallersOf, given_of, room_of};
@@ -13,7 +15,9 @@ use zre_actor::{
 };
 use zre_journal::Config;
 use zre_node::Node;
-use zre_outside::{Command, Script, Spawner, SureRecorder, SureWorld, ThreadSpawner, Turn};
+use zre_outside::{
+    Command, Running, Script, Spawner, SureRecorder, SureWorld, ThreadSpawner, Turn,
+};
 use zre_peer::Event;
 use zre_values::{Octets, OutOfMemory, Pairs, PeerId};
 
@@ -166,19 +170,26 @@ fn talk<R: Wait + Copy>(
     }
 }
 
-/// Pipes whose two callers' passes were taken, before any step.
+/// The passes of those beside the actor.
 #[derive(Drop)]
-struct Ready {
-    pipes: Pipes,
-    actor: ActorPass,
+struct Passes {
     callers: CallerPasses,
     first: CallerPass,
     second: CallerPass,
     taker: TakerPass,
 }
 
+/// Pipes whose two callers' passes were taken, before any step.
+#[derive(Drop)]
+struct Ready {
+    pipes: Pipes,
+    actor: ActorPass,
+    passes: Passes,
+}
+
 fn make_ready(alloc: Global) -> Option<Ready>
-    ensures { IfSome result (λ s. IsReady s.pipes s.actor s.callers s.first s.second s.taker) }
+    ensures { IfSome result (λ s. IsReady s.pipes s.actor s.passes.callers s.passes.first s.passes.second
+        s.passes.taker) }
 {
     let Ok(made) = Pipes::make(alloc, 2) else {
         return None;
@@ -198,29 +209,36 @@ fn make_ready(alloc: Global) -> Option<Ready>
     Some(Ready {
         pipes,
         actor,
-        callers,
-        first,
-        second,
-        taker,
+        passes: Passes {
+            callers,
+            first,
+            second,
+            taker,
+        },
     })
 }
 
-/// What an actor works with: a node, and a world of three looks. And the groups that the callers name.
+/// What an actor works with: a node, and a world of three looks.
 #[derive(Drop)]
-struct Stand {
+struct Work {
     node: Node,
     world: SureWorld,
     rec: SureRecorder,
+}
+
+/// What an actor works with, and the groups that the callers name.
+#[derive(Drop)]
+struct Stand {
+    work: Work,
     groups: (Octets, Octets),
 }
 
 fn stand_of(alloc: Global, node: Node) -> Result<Stand, OutOfMemory> {
     let world = looks(alloc, 3)?;
     let groups = (Octets::copy(alloc, b"g")?, Octets::copy(alloc, b"g")?);
+    let rec = SureRecorder::new(alloc);
     Ok(Stand {
-        node,
-        world,
-        rec: SureRecorder::new(alloc),
+        work: Work { node, world, rec },
         groups,
     })
 }
@@ -241,22 +259,22 @@ fn one_by_one<R: Wait + Copy>(
     limit: u64,
     absorbs: bool,
 ) -> (u64, Ending, u32)
-    requires { IsReady ready.pipes ready.actor ready.callers ready.first ready.second ready.taker }
+    requires { IsReady ready.pipes ready.actor ready.passes.callers ready.passes.first ready.passes.second
+        ready.passes.taker }
 {
     let Ready {
         pipes,
         actor,
+        passes,
+    } = ready;
+    let Passes {
         callers,
         first,
         second,
         taker,
-    } = ready;
-    let Stand {
-        node,
-        world,
-        rec,
-        groups,
-    } = stand;
+    } = passes;
+    let Stand { work, groups } = stand;
+    let Work { node, world, rec } = work;
     let callers = talk(rt, &pipes, callers, first, second, groups, absorbs);
     let worked = pipes.work(rt, world, node, actor, rec, false, limit);
     let (taker, stops, ending) = take_all(rt, &pipes, taker);
@@ -321,6 +339,62 @@ fn talk_and_take<R: Threads + Wait + Send + Copy>(
     )
 }
 
+/// Starts the actor. Nothing where it wasn't started.
+fn start_actor<P: Spawner>(
+    spawner: &mut P,
+    pipes: &Arc<Pipes>,
+    actor: ActorPass,
+    work: Work,
+    limit: u64,
+) -> Option<Running<ActorJob<SureWorld, SureRecorder>>>
+    requires actor { IsActorOf (arc_value pipes.now) actor }
+    requires open { (ending_of actor ≡ None) × (actor.empties ≡ 0) }
+    ensures started { IfSome result (λ r. (arc_value (job_of r).pipes ≡ arc_value pipes.now)
+        × ((job_of r).pass ≡ actor)) }
+{
+    let Ok(pipes) = Arc::try_clone(pipes) else {
+        return None;
+    };
+    let Work { node, world, rec } = work;
+    let job = ActorJob {
+        pipes,
+        world,
+        node,
+        pass: actor,
+        rec,
+        keep: false,
+        limit,
+    };
+    spawner.start(job).ok()
+}
+
+/// Beside a running actor the callers put and the taker takes, and when the actor is done the passes come back.
+fn meet<R: Threads + Wait + Send + Copy>(
+    rt: R,
+    pipes: &Pipes,
+    running: Running<ActorJob<SureWorld, SureRecorder>>,
+    passes: Passes,
+    groups: (Octets, Octets),
+) -> (u64, Ending, u32)
+    requires same { arc_value (job_of running).pipes ≡ pipes.now }
+    requires ready { IsReady pipes.now (job_of running).pass passes.callers passes.first passes.second passes.taker }
+{
+    let Passes {
+        mut callers,
+        first,
+        second,
+        taker,
+    } = passes;
+    let ((first, second), (taker, stops, ending)) = talk_and_take(
+        rt, pipes, first, second, taker, groups,
+    );
+    let worked = running.join(rt);
+    callers.give(first);
+    callers.give(second);
+    let finished = pipes.finish(rt, worked.pass, callers, taker);
+    (stops, ending, finished.left)
+}
+
 /// Two callers, the actor and the taker, each in a thread of its own, to the end. Nothing where the actor wasn't
 /// started.
 fn side_by_side<P: Spawner>(
@@ -329,42 +403,23 @@ fn side_by_side<P: Spawner>(
     ready: Ready,
     stand: Stand,
     limit: u64,
-) -> Result<Option<(u64, Ending, u32)>, OutOfMemory>
-    requires { IsReady ready.pipes ready.actor ready.callers ready.first ready.second ready.taker }
+) -> Option<(u64, Ending, u32)>
+    requires { IsReady ready.pipes ready.actor ready.passes.callers ready.passes.first ready.passes.second
+        ready.passes.taker }
 {
     let Ready {
         pipes,
         actor,
-        mut callers,
-        first,
-        second,
-        taker,
+        passes,
     } = ready;
-    let pipes = Arc::new(spawner.alloc(), pipes)?;
-    let Ok(running) = spawner.start(ActorJob {
-        pipes: Arc::try_clone(&pipes)?,
-        world: stand.world,
-        node: stand.node,
-        pass: actor,
-        rec: stand.rec,
-        keep: false,
-        limit,
-    }) else {
-        return Ok(None);
+    let Stand { work, groups } = stand;
+    let Ok(pipes) = Arc::new(spawner.alloc(), pipes) else {
+        return None;
     };
-    let ((first, second), (taker, stops, ending)) = talk_and_take(
-        rt,
-        &pipes,
-        first,
-        second,
-        taker,
-        stand.groups,
-    );
-    let worked = running.join(rt);
-    callers.give(first);
-    callers.give(second);
-    let finished = pipes.finish(rt, worked.pass, callers, taker);
-    Ok(Some((stops, ending, finished.left)))
+    let Some(running) = start_actor(spawner, &pipes, actor, work, limit) else {
+        return None;
+    };
+    Some(meet(rt, &pipes, running, passes, groups))
 }
 
 /// Puts so many commands. How many came back, and the number of the last of them.
@@ -394,10 +449,11 @@ fn line_of(command: &Command) -> u64 {
 }
 
 fn fill<R: Wait + Copy>(rt: R, ready: Ready) -> (u64, u64)
-    requires { IsReady ready.pipes ready.actor ready.callers ready.first ready.second ready.taker }
+    requires { IsReady ready.pipes ready.actor ready.passes.callers ready.passes.first ready.passes.second
+        ready.passes.taker }
 {
-    let Ready { pipes, first, .. } = ready;
-    put_many(rt, &pipes, first, 1025)
+    let Ready { pipes, passes, .. } = ready;
+    put_many(rt, &pipes, passes.first, 1025)
 }
 
 #[test]
@@ -446,7 +502,8 @@ fn run_one_by_one<R: Wait + Copy>(
     ready: Ready,
     run: &Run,
 ) -> Option<(u64, Ending, u32)>
-    requires { IsReady ready.pipes ready.actor ready.callers ready.first ready.second ready.taker }
+    requires { IsReady ready.pipes ready.actor ready.passes.callers ready.passes.first ready.passes.second
+        ready.passes.taker }
 {
     match make_stand(alloc) {
         Some(stand) => Some(one_by_one(rt, ready, stand, run.limit, run.absorbs)),
@@ -474,13 +531,11 @@ fn run_side_by_side<P: Spawner>(
     spawner: &mut P,
     ready: Ready,
 ) -> Option<(u64, Ending, u32)>
-    requires { IsReady ready.pipes ready.actor ready.callers ready.first ready.second ready.taker }
+    requires { IsReady ready.pipes ready.actor ready.passes.callers ready.passes.first ready.passes.second
+        ready.passes.taker }
 {
     match make_stand(spawner.alloc()) {
-        Some(stand) => match side_by_side(rt, spawner, ready, stand, 1000000000000) {
-            Ok(ran) => ran,
-            Err(OutOfMemory) => None,
-        },
+        Some(stand) => side_by_side(rt, spawner, ready, stand, 1000000000000),
         None => None,
     }
 }

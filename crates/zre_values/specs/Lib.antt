@@ -7,4 +7,5 @@ pub mod Lists
 pub mod PlainId
 pub mod Quoting
 pub mod Settings
+pub mod Stored
 pub mod Text

@@ -1,5 +1,5 @@
-ghost use Rattle.std.specs.Prelude.{◌≡◌, ◌<◌, ◌-◌, ◌^◌, ℕ, List, [], ◌∷◌, ◌++◌, length, min, remove, sum_by, OnOk};
-ghost use Rattle.std.specs.Prelude.{OnErr, MatchOption, slice_get, slice_set, slice_index_or, Some};
+ghost use Rattle.std.specs.Prelude.{◌≡◌, ◌<◌, ◌-◌, ◌^◌, ℕ, List, [], ◌∷◌, ◌++◌, length, min, remove, sum_by, IfOk};
+ghost use Rattle.std.specs.Prelude.{OnOk, OnErr, MatchOption, slice_get, slice_set, slice_index_or, Some};
 ghost use Rattle.std.specs.List.{list_any};
 ghost use Rattle.std.specs.Str.{bytes_eq};
 ghost use Rattle.zre_values.specs.Lists.{without};
@@ -41,6 +41,17 @@ impl Frames {
         Frames { items }
     }
 
+    /// The same list, in memory of its own.
+    pub fn copy(alloc: Global, frames: &[Octets]) -> Result<Self, OutOfMemory>
+        ensures { IfOk result (λ copied. copied ≡ frames.now) }
+    {
+        let mut copied = Frames::new(alloc);
+        for frame in frames {
+            copied.push(Octets::copy(alloc, frame.as_slice())?)?;
+        }
+        Ok(copied)
+    }
+
     /// How many members there are.
     pub fn len(&self) -> usize
         ensures { result ≡ length self.now }
@@ -68,7 +79,8 @@ impl Frames {
         ensures ok { OnOk result (self.new ≡ self.old ++ frame ∷ []) }
         ensures err { OnErr result (self.new ≡ self.old) }
     {
-        self.items.push(frame)?;
+        self.items.reserve(1)?;
+        self.items.push_reserved(frame);
         Ok(())
     }
 

@@ -15,6 +15,7 @@ mod plain_id;
 mod quoted_table;
 mod quoting;
 mod settings;
+mod short;
 mod texts;
 mod unquoting;
 

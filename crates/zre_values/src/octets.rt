@@ -1,43 +1,63 @@
-ghost use Rattle.std.specs.Prelude.{◌≡◌, ◌==◌, ◌<◌, ℕ, List, [], ◌∷◌, ◌++◌, length, IfOk, OnOk, OnErr, Some, slice_get};
+ghost use Rattle.std.specs.Prelude.{◌≡◌, ◌==◌, ◌<◌, [], ◌∷◌, ◌++◌, length, IfOk, OnOk, OnErr, Some, slice_get};
 
 use crate::OutOfMemory;
-use smallvec::SmallVec;
+use crate::short::{INLINE, Short};
 use std::alloc::Global;
 use std::default::MadeWith;
 use std::marker::Model;
 
-/// As many octets as most names, groups, first frames and short contents have.
-const INLINE: usize = 32;
+#[derive(Debug, Drop)]
+enum Store {
+    Inline(Short),
+    Heap(Vec<u8>),
+}
 
 /// A list of octets that owns its memory: a name, a group, a frame, or a text that grows. Up to 32 octets lie in the
 /// value itself, and take none.
 #[derive(Debug, Drop)]
 pub struct Octets {
-    items: SmallVec<u8, INLINE>,
+    store: Store,
+    alloc: Global,
 }
 
 impl Model for Octets {
+    ghost use Rattle.std.specs.Prelude.{ℕ, List};
+
     ghost Value = { List ℕ };
 
-    ghost view = { λ octets. octets.items.items };
+    ghost use Rattle.zre_values.specs.Stored.{stored};
+
+    ghost view = { λ octets. stored octets.store };
 }
 
 impl Octets {
     /// The empty list, which takes no memory.
+    #[inline]
     pub fn new(alloc: Global) -> Self
         ensures { result ≡ [] }
     {
         Octets {
-            items: SmallVec::new(alloc),
+            store: Store::Inline(Short::new()),
+            alloc,
         }
     }
 
     /// The same list, in memory of its own.
+    #[inline]
     pub fn copy(alloc: Global, bytes: &[u8]) -> Result<Self, OutOfMemory>
         ensures { IfOk result (λ octets. octets ≡ bytes.now) }
     {
+        if bytes.len() > INLINE {
+            return Ok(Octets {
+                store: Store::Heap(Vec::from_slice(alloc, bytes)?),
+                alloc,
+            });
+        }
+        let mut short = Short::new();
+        short.append(bytes);
         Ok(Octets {
-            items: SmallVec::from_slice(alloc, bytes)?,
+            store: Store::Inline(short),
+            alloc,
         })
     }
 
@@ -45,8 +65,18 @@ impl Octets {
     pub fn from_vec(items: Vec<u8>) -> Self
         ensures { result ≡ items.items }
     {
+        let alloc = *items.allocator();
+        if items.len() > INLINE {
+            return Octets {
+                store: Store::Heap(items),
+                alloc,
+            };
+        }
+        let mut short = Short::new();
+        short.append(items.as_slice());
         Octets {
-            items: SmallVec::from_vec(items),
+            store: Store::Inline(short),
+            alloc,
         }
     }
 
@@ -55,7 +85,10 @@ impl Octets {
     pub fn as_slice(&self) -> &[u8]
         ensures { result.now ≡ self.now }
     {
-        self.items.as_slice()
+        match &self.store {
+            Store::Inline(short) => short.as_slice(),
+            Store::Heap(items) => items.as_slice(),
+        }
     }
 
     /// How many octets there are.
@@ -63,7 +96,10 @@ impl Octets {
     pub fn len(&self) -> usize
         ensures { result ≡ length self.now }
     {
-        self.items.len()
+        match &self.store {
+            Store::Inline(short) => short.len(),
+            Store::Heap(items) => items.len(),
+        }
     }
 
     /// Whether there are none.
@@ -71,7 +107,7 @@ impl Octets {
     pub fn is_empty(&self) -> bool
         ensures { result ≡ (length self.now == 0) }
     {
-        self.items.is_empty()
+        self.len() == 0
     }
 
     /// The octet at this place, counted from 0.
@@ -80,7 +116,7 @@ impl Octets {
         requires { i < length self.now }
         ensures { slice_get self.now i ≡ Some result.now }
     {
-        &self.items.as_slice()[i]
+        &self.as_slice()[i]
     }
 
     /// Appends an octet, or nothing where no memory is left.
@@ -89,8 +125,19 @@ impl Octets {
         ensures ok { OnOk result (self.new ≡ self.old ++ octet ∷ []) }
         ensures err { OnErr result (self.new ≡ self.old) }
     {
-        self.items.push(octet)?;
-        Ok(())
+        match &mut self.store {
+            Store::Inline(short) => {
+                if short.has_room(1) {
+                    short.push(octet);
+                    return Ok(());
+                }
+            }
+            Store::Heap(items) => {
+                items.push(octet)?;
+                return Ok(());
+            }
+        }
+        self.spill(&[octet])
     }
 
     /// Appends a copy of these octets, or nothing.
@@ -99,16 +146,53 @@ impl Octets {
         ensures ok { OnOk result (self.new ≡ self.old ++ bytes.now) }
         ensures err { OnErr result (self.new ≡ self.old) }
     {
-        self.items.extend_from_slice(bytes)?;
+        match &mut self.store {
+            Store::Inline(short) => {
+                if short.has_room(bytes.len()) {
+                    short.append(bytes);
+                    return Ok(());
+                }
+            }
+            Store::Heap(items) => {
+                items.extend_from_slice(bytes)?;
+                return Ok(());
+            }
+        }
+        self.spill(bytes)
+    }
+
+    // Appends octets for which the value has no room: all of them go into memory of their own.
+    #[cold]
+    #[inline(never)]
+    fn spill(&mut self, bytes: &[u8]) -> Result<(), OutOfMemory>
+        ensures ok { OnOk result (self.new ≡ self.old ++ bytes.now) }
+        ensures err { OnErr result (self.new ≡ self.old) }
+    {
+        let items = with_both(self.alloc, self.as_slice(), bytes)?;
+        self.store = Store::Heap(items);
         Ok(())
     }
 
     /// Empties the list. It keeps its memory, so that a buffer is filled again without a new allocation.
+    #[inline]
     pub fn clear(&mut self)
         ensures { self.new ≡ [] }
     {
-        self.items.clear();
+        match &mut self.store {
+            Store::Inline(short) => short.clear(),
+            Store::Heap(items) => items.clear(),
+        }
     }
+}
+
+// Octets and more after them, in memory of their own.
+fn with_both(alloc: Global, front: &[u8], more: &[u8]) -> Result<Vec<u8>, OutOfMemory>
+    ensures { IfOk result (λ items. items.items ≡ front.now ++ more.now) }
+{
+    let mut items = Vec::with_capacity(alloc, 2 * INLINE)?;
+    items.extend_from_slice(front)?;
+    items.extend_from_slice(more)?;
+    Ok(items)
 }
 
 impl MadeWith<Global> for Octets {

@@ -41,12 +41,10 @@ fn write_octet(text: &mut [u8; CHUNK_TEXT], at: usize, octet: u8) -> usize
     ensures text { take result text.new ≡ take at text.old ++ quoted_octet octet }
     ensures place { result ≤ at + 3 }
 {
-    let [first, high, low, len] = row_of(octet);
-    text[at] = first;
-    text[at + 1] = high;
-    text[at + 2] = low;
-    text[at + 3] = len;
-    at + len as usize
+    let row = row_of(octet);
+    let room = &mut text[at..at + 4];
+    room.copy_from_slice(&row);
+    at + row[3] as usize
 }
 
 fn push_chunk(out: &mut Octets, bytes: &[u8]) -> Result<(), OutOfMemory>

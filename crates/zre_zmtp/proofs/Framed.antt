@@ -6,12 +6,14 @@ use Rattle.std.proofs.lemmas.Option.{cond_some, none-some}
 use Rattle.std.proofs.lemmas.List.{length-append, take_all, drop_at, take-append-drop, length-take-le}
 use Rattle.zre_zmtp.specs.declared.fault.ZmtpWhy.{ZmtpWhy}
 use Rattle.zre_zmtp.specs.declared.header.Header.{Header}
+use Rattle.zre_zmtp.specs.declared.partial.Partial.{Partial}
+use Rattle.zre_zmtp.specs.declared.progress.Progress.{Progress}
 use Rattle.zre_zmtp.specs.declared.expected.Expected.{Expected}
 use Rattle.zre_zmtp.specs.declared.expected.Expected.TheVariants as expect
 use Rattle.zre_zmtp.specs.Frame.{flags, header_len, has_header, size, frame_len, is_whole, body, header_of, is_long}
 use Rattle.zre_zmtp.specs.Stream.{Want, Before, once, flags_fault, size_fault, body_fault, frame_why, frame_fault, fault_of, fault_at, whole_len, what_of, said, start_of, opened_with, opened_by, item}
 use Rattle.zre_zmtp.specs.Run.{after, next_expected}
-use Rattle.zre_zmtp.specs.Shown.{header_fault, frame_item, frame_after, left_by, room, Waits}
+use Rattle.zre_zmtp.specs.Shown.{header_fault, frame_item, frame_after, left_by, left_of, room, Waits}
 use Rattle.zre_zmtp.proofs.Grow.{flags-more, Headed, headed, has_header-from, Headed-more, size-more, header_len-more, IsWhole, is_whole-from}
 use Rattle.zre_zmtp.proofs.Later.{HeadFine, HeadFine-more, head_fine, why_after}
 use Rattle.zre_zmtp.proofs.Cuts.{cases_Option}
@@ -193,10 +195,18 @@ left-frame expect.Greeting greeting head o h = absurd (h refl)
 left-frame expect.Ready greeting head o h = refl
 left-frame expect.Traffic greeting head o h = refl
 
+-- the same by what stands for the frame that isn't whole
+pub left-partial : (p : Progress) (part : Partial) → p.expected ≢ expect.Greeting → part ≡ p.partial → left_of p ≡ part.head ++ part.body
+left-partial p part frame was = left-frame p.expected p.greeting _ _ frame ∙ ap (λ (x : Partial). x.head ++ x.body) (sym was)
+
 pub left-nothing : (e : Expected) (greeting head o : List ℕ) → e ≡ expect.Traffic → head ≡ [] → o ≡ [] → left_by e greeting head o ≡ []
 left-nothing expect.Greeting greeting head o h p q = absurd cc
 left-nothing expect.Ready greeting head o h p q = absurd cc
 left-nothing expect.Traffic greeting head o h p q = rw (p, q) refl
+
+-- the same where the frame that isn't whole stayed as it was
+pub left-none : (was now : Progress) → was.partial.head ≡ [] → was.partial.body ≡ [] → now.partial ≡ was.partial → now.expected ≡ expect.Traffic → left_of now ≡ []
+left-none was now no_head no_body same next = left-nothing now.expected now.greeting _ _ next (ap (λ (x : Partial). x.head) same ∙ no_head) (ap (λ (x : Partial). x.body) same ∙ no_body)
 
 -- ---- one octet more of a header
 

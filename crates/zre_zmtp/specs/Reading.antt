@@ -1,5 +1,6 @@
 -- What contracts see of a reader, and of which octets it is the reader.
 use Rattle.std.specs.Prelude.{◌≡◌, ℕ, ◌+◌, Bool, false, List, ◌++◌, length, drop, Option, Some, None, sum_by}
+use Rattle.std.specs.Prelude.{Result, OnOk, IfErr}
 use Rattle.zre_zmtp.specs.declared.fault.ZmtpFault.{ZmtpFault}
 use Rattle.zre_zmtp.specs.declared.fault.FeedFault.{FeedFault}
 use Rattle.zre_zmtp.specs.declared.fault.FeedFault.TheVariants.{Zmtp, OutOfMemory}
@@ -40,6 +41,19 @@ pub record IsOver (want : Want) (kind : Kind) (o : List ℕ) : Type 0 where
 abbrev pub Refuses : FeedFault → Option ZmtpFault → Type 0 → Type 0
 Refuses (Zmtp found) there P = (there ≡ Some found) × P
 Refuses OutOfMemory there P = Unit {0}
+
+-- These octets were read, after whatever the reader had: it stands after them too, and what became whole was appended.
+abbrev pub ReadsOn : Result (Unit {0}) FeedFault → Reading → Reading → List ℕ → List Item → List Item → Type 0
+ReadsOn result was now more old new =
+    (want : Want) (kind : Kind) (o : List ℕ) → Reads want kind o was →
+    OnOk result (Reads want kind (o ++ more) now × Adds want kind o more old new)
+
+-- They were refused: the refusal names their fault, what became whole was appended, and no further octet changes it.
+abbrev pub RefusesOn : Result (Unit {0}) FeedFault → Reading → List ℕ → List Item → List Item → Type 0
+RefusesOn result was more old new =
+    (want : Want) (kind : Kind) (o : List ℕ) → Reads want kind o was →
+    IfErr result (λ e.
+    Refuses e (fault want kind (o ++ more)) (Adds want kind o more old new × IsOver want kind (o ++ more)))
 
 -- what is kept of a stream: the bodies of an unfinished message, and the octets of an unfinished greeting or frame
 abbrev pub kept : Reading → ℕ

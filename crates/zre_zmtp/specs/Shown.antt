@@ -1,6 +1,6 @@
 -- How the fields of a reader are seen, and what a turn over some octets does.
 use Rattle.std.specs.Prelude.{◌≡◌, ◌≢◌, ℕ, ◌+◌, ◌-◌, ◌≤◌, ◌==◌, if◌then◌else◌, nat_le, Bool, false, List, [], ◌++◌}
-use Rattle.std.specs.Prelude.{length, Option, Some, None, option_map, sum_by}
+use Rattle.std.specs.Prelude.{length, Option, Some, None, option_map, sum_by, Result, OnOk, IfErr}
 use Rattle.std.specs.Option.{option_or}
 use Rattle.zre_zmtp.specs.declared.fault.ZmtpWhy.{ZmtpWhy}
 use Rattle.zre_zmtp.specs.declared.progress.Progress.{Progress}
@@ -69,6 +69,19 @@ abbrev pub RefusesAt : FeedFault → Want → Before → List ℕ → List Item 
 RefusesAt e want b o old new =
     let found = run_all want b o in
     Refuses e (fault_of want found.before found.left) (new ≡ old ++ found.given)
+
+-- These octets were read: where the reader waited for more, it stands after them too.
+abbrev pub StandsAfter : Result (Unit {0}) FeedFault → Want → Progress → Progress → List ℕ → List Item → List Item
+    → Type 0
+StandsAfter result want was now o old new =
+    Waits want (before_of was) (left_of was) →
+    OnOk result (Advances want (before_of was) (left_of was ++ o) old new (before_of now) (left_of now))
+
+-- They were refused: where the reader waited for more, the refusal names the fault that is in them.
+abbrev pub NamesFault : {A : Type 0} → Result A FeedFault → Want → Progress → List ℕ → List Item → List Item → Type 0
+NamesFault result want was o old new =
+    Waits want (before_of was) (left_of was) →
+    IfErr result (λ e. RefusesAt e want (before_of was) (left_of was ++ o) old new)
 
 -- how many octets the next turn of a reader takes at most: one of a greeting or of a header, and else what is missing
 -- of a body

@@ -1,13 +1,12 @@
 //! A reader of a stream that comes in pieces.
 
-ghost use Rattle.std.specs.Prelude.{◌≡◌, ℕ, ◌+◌, ◌-◌, ◌^◌, ◌<◌, ◌≤◌, ◌↔◌, min, false, List, [], ◌++◌, length, OnOk};
-ghost use Rattle.std.specs.Prelude.{IfErr, IsErr, IsTrue};
+ghost use Rattle.std.specs.Prelude.{◌≡◌, ℕ, ◌+◌, ◌-◌, ◌^◌, ◌<◌, ◌≤◌, ◌↔◌, min, false, List, [], length, IsErr, IsTrue};
 ghost use Rattle.std.specs.List.{concat};
 ghost use Rattle.zre_values.specs.declared.limits.TheConstants.{MESSAGE_OCTETS, COMMAND_OCTETS};
 ghost use Rattle.zre_zmtp.specs.Stream.{Want as WantValue, Any, Kind, Whole as whole_kind, Traffic as traffic_kind};
-ghost use Rattle.zre_zmtp.specs.Stream.{fault, IsAtRest};
-ghost use Rattle.zre_zmtp.specs.Shown.{before_of, left_of, held, Waits, Advances, RefusesAt};
-ghost use Rattle.zre_zmtp.specs.Reading.{Reads, Refuses, Adds, IsOver, kept};
+ghost use Rattle.zre_zmtp.specs.Stream.{IsAtRest};
+ghost use Rattle.zre_zmtp.specs.Shown.{held, StandsAfter, NamesFault};
+ghost use Rattle.zre_zmtp.specs.Reading.{Reads, ReadsOn, RefusesOn, kept};
 ghost use Rattle.zre_zmtp.specs.Looks.{Looks};
 
 use crate::expected::Expected;
@@ -32,12 +31,8 @@ fn read<L: Ledger>(
     out: &mut Items,
     steps: &mut Steps<L>,
 ) -> Result<(), FeedFault>
-    ensures ok { Waits want.now (before_of progress.old) (left_of progress.old) →
-        OnOk result (Advances want.now (before_of progress.old) (left_of progress.old ++ octets.now) out.old out.new
-        (before_of progress.new) (left_of progress.new)) }
-    ensures refused { Waits want.now (before_of progress.old) (left_of progress.old) →
-        IfErr result (λ e.
-        RefusesAt e want.now (before_of progress.old) (left_of progress.old ++ octets.now) out.old out.new) }
+    ensures ok { StandsAfter result want.now progress.old progress.new octets.now out.old out.new }
+    ensures refused { NamesFault result want.now progress.old octets.now out.old out.new }
     ensures looks { Looks steps.old steps.new (held progress.old) (held progress.new) (length octets.now) result }
 {
     let mut rest = octets;
@@ -99,12 +94,8 @@ impl Reader {
     /// After a refusal the reader is spent. OutOfMemory is also told where a place would be above 2^64 - 1.
     pub fn feed(&mut self, piece: &[u8], out: &mut Items) -> Result<(), FeedFault>
         requires { self.old.spent ≡ false }
-        ensures ok { (want : WantValue) (kind : Kind) (o : List ℕ) → Reads want kind o self.old →
-            OnOk result (Reads want kind (o ++ piece.now) self.new
-            × Adds want kind o piece.now out.old out.new) }
-        ensures refused { (want : WantValue) (kind : Kind) (o : List ℕ) → Reads want kind o self.old →
-            IfErr result (λ e. Refuses e (fault want kind (o ++ piece.now))
-            (Adds want kind o piece.now out.old out.new × IsOver want kind (o ++ piece.now))) }
+        ensures ok { ReadsOn result self.old self.new piece.now out.old out.new }
+        ensures refused { RefusesOn result self.old piece.now out.old out.new }
         ensures spent { IsTrue self.new.spent ↔ IsErr result }
     {
         self.feed_from::<Brand>(piece, out, Blank::new(1))
@@ -122,12 +113,8 @@ impl Reader {
         steps: &mut Steps<L>,
     ) -> Result<(), FeedFault>
         requires { self.old.spent ≡ false }
-        ensures ok { (want : WantValue) (kind : Kind) (o : List ℕ) → Reads want kind o self.old →
-            OnOk result (Reads want kind (o ++ piece.now) self.new
-            × Adds want kind o piece.now out.old out.new) }
-        ensures refused { (want : WantValue) (kind : Kind) (o : List ℕ) → Reads want kind o self.old →
-            IfErr result (λ e. Refuses e (fault want kind (o ++ piece.now))
-            (Adds want kind o piece.now out.old out.new × IsOver want kind (o ++ piece.now))) }
+        ensures ok { ReadsOn result self.old self.new piece.now out.old out.new }
+        ensures refused { RefusesOn result self.old piece.now out.old out.new }
         ensures spent { IsTrue self.new.spent ↔ IsErr result }
         ensures looks { Looks steps.old steps.new (kept self.old) (kept self.new) (length piece.now) result }
     {
@@ -148,12 +135,8 @@ impl Reader {
         requires parts { blank.parts ≡ L.parts }
         requires some { 0 < blank.parts }
         requires unspent { self.old.spent ≡ false }
-        ensures ok { (want : WantValue) (kind : Kind) (o : List ℕ) → Reads want kind o self.old →
-            OnOk result (Reads want kind (o ++ piece.now) self.new
-            × Adds want kind o piece.now out.old out.new) }
-        ensures refused { (want : WantValue) (kind : Kind) (o : List ℕ) → Reads want kind o self.old →
-            IfErr result (λ e. Refuses e (fault want kind (o ++ piece.now))
-            (Adds want kind o piece.now out.old out.new × IsOver want kind (o ++ piece.now))) }
+        ensures ok { ReadsOn result self.old self.new piece.now out.old out.new }
+        ensures refused { RefusesOn result self.old piece.now out.old out.new }
         ensures spent { IsTrue self.new.spent ↔ IsErr result }
     {
         let mut steps = Steps::<L>::new(blank);
@@ -164,13 +147,8 @@ impl Reader {
     /// fault come of it.
     pub fn feed_pieces(&mut self, pieces: &Frames, out: &mut Items) -> Result<(), FeedFault>
         requires { self.old.spent ≡ false }
-        ensures ok { (want : WantValue) (kind : Kind) (o : List ℕ) → Reads want kind o self.old →
-            OnOk result (Reads want kind (o ++ concat pieces.now) self.new
-            × Adds want kind o (concat pieces.now) out.old out.new) }
-        ensures refused { (want : WantValue) (kind : Kind) (o : List ℕ) → Reads want kind o self.old →
-            IfErr result (λ e. Refuses e (fault want kind (o ++ concat pieces.now))
-            (Adds want kind o (concat pieces.now) out.old out.new
-            × IsOver want kind (o ++ concat pieces.now))) }
+        ensures ok { ReadsOn result self.old self.new (concat pieces.now) out.old out.new }
+        ensures refused { RefusesOn result self.old (concat pieces.now) out.old out.new }
         ensures spent { IsTrue self.new.spent ↔ IsErr result }
     {
         self.feed_pieces_from::<Brand>(pieces, out, Blank::new(1))
@@ -184,13 +162,8 @@ impl Reader {
         steps: &mut Steps<L>,
     ) -> Result<(), FeedFault>
         requires { self.old.spent ≡ false }
-        ensures ok { (want : WantValue) (kind : Kind) (o : List ℕ) → Reads want kind o self.old →
-            OnOk result (Reads want kind (o ++ concat pieces.now) self.new
-            × Adds want kind o (concat pieces.now) out.old out.new) }
-        ensures refused { (want : WantValue) (kind : Kind) (o : List ℕ) → Reads want kind o self.old →
-            IfErr result (λ e. Refuses e (fault want kind (o ++ concat pieces.now))
-            (Adds want kind o (concat pieces.now) out.old out.new
-            × IsOver want kind (o ++ concat pieces.now))) }
+        ensures ok { ReadsOn result self.old self.new (concat pieces.now) out.old out.new }
+        ensures refused { RefusesOn result self.old (concat pieces.now) out.old out.new }
         ensures spent { IsTrue self.new.spent ↔ IsErr result }
         ensures looks { Looks steps.old steps.new (kept self.old) (kept self.new) (length (concat pieces.now)) result }
     {
@@ -211,13 +184,8 @@ impl Reader {
         requires parts { blank.parts ≡ L.parts }
         requires some { 0 < blank.parts }
         requires unspent { self.old.spent ≡ false }
-        ensures ok { (want : WantValue) (kind : Kind) (o : List ℕ) → Reads want kind o self.old →
-            OnOk result (Reads want kind (o ++ concat pieces.now) self.new
-            × Adds want kind o (concat pieces.now) out.old out.new) }
-        ensures refused { (want : WantValue) (kind : Kind) (o : List ℕ) → Reads want kind o self.old →
-            IfErr result (λ e. Refuses e (fault want kind (o ++ concat pieces.now))
-            (Adds want kind o (concat pieces.now) out.old out.new
-            × IsOver want kind (o ++ concat pieces.now))) }
+        ensures ok { ReadsOn result self.old self.new (concat pieces.now) out.old out.new }
+        ensures refused { RefusesOn result self.old (concat pieces.now) out.old out.new }
         ensures spent { IsTrue self.new.spent ↔ IsErr result }
     {
         let mut steps = Steps::<L>::new(blank);

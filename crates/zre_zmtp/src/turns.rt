@@ -9,7 +9,7 @@ ghost use Rattle.zre_zmtp.specs.Stream.{Want as WantValue, said as said_by, open
 ghost use Rattle.zre_zmtp.specs.Run.{after as after_of};
 ghost use Rattle.zre_zmtp.specs.Shown.{before_of, left_of, held, frame_item, frame_after, header_fault, Waits};
 ghost use Rattle.zre_zmtp.specs.Shown.{Advances, RefusesAt, BeginsFrame, is_content as is_content_of};
-ghost use Rattle.zre_zmtp.specs.Shown.{room as room_of};
+ghost use Rattle.zre_zmtp.specs.Shown.{StandsAfter, NamesFault, room as room_of};
 ghost use Rattle.zre_zmtp.specs.Reading.{Refuses};
 ghost use Rattle.zre_zmtp.specs.Looks.{Looks, IsPaid, IsPaidOnRefusal};
 
@@ -226,12 +226,8 @@ fn take_greeting<L: Ledger>(
     steps: &mut Steps<L>,
 ) -> Result<(), FeedFault>
     requires { progress.old.expected ≡ Expected.Greeting }
-    ensures ok { (want : WantValue) → Waits want (before_of progress.old) (left_of progress.old) →
-        OnOk result (Advances want (before_of progress.old) (left_of progress.old ++ octet ∷ []) out.old out.new
-        (before_of progress.new) (left_of progress.new)) }
-    ensures refused { (want : WantValue) → Waits want (before_of progress.old) (left_of progress.old) →
-        IfErr result (λ e.
-        RefusesAt e want (before_of progress.old) (left_of progress.old ++ octet ∷ []) out.old out.new) }
+    ensures ok { (want : WantValue) → StandsAfter result want progress.old progress.new (octet ∷ []) out.old out.new }
+    ensures refused { (want : WantValue) → NamesFault result want progress.old (octet ∷ []) out.old out.new }
     ensures looks { Looks steps.old steps.new (held progress.old) (held progress.new) 1 result }
 {
     let i = progress.greeting.len();
@@ -290,12 +286,8 @@ fn take_header(
 ) -> Result<(), FeedFault>
     requires frame { progress.old.expected ≢ Expected.Greeting }
     requires header { progress.old.partial.header ≡ None }
-    ensures ok { Waits want.now (before_of progress.old) (left_of progress.old) →
-        OnOk result (Advances want.now (before_of progress.old) (left_of progress.old ++ octet ∷ []) out.old out.new
-        (before_of progress.new) (left_of progress.new)) }
-    ensures refused { Waits want.now (before_of progress.old) (left_of progress.old) →
-        IfErr result (λ e.
-        RefusesAt e want.now (before_of progress.old) (left_of progress.old ++ octet ∷ []) out.old out.new) }
+    ensures ok { StandsAfter result want.now progress.old progress.new (octet ∷ []) out.old out.new }
+    ensures refused { NamesFault result want.now progress.old (octet ∷ []) out.old out.new }
     ensures kept { OnOk result (held progress.new ≤ held progress.old + 1) }
 {
     let none = Partial::new(progress.alloc);
@@ -320,12 +312,8 @@ fn take_body<L: Ledger>(
     requires frame { progress.old.expected ≢ Expected.Greeting }
     requires header { progress.old.partial.header ≡ Some header }
     requires within { length progress.old.partial.body + length octets.now ≤ header.size }
-    ensures ok { Waits want.now (before_of progress.old) (left_of progress.old) →
-        OnOk result (Advances want.now (before_of progress.old) (left_of progress.old ++ octets.now) out.old out.new
-        (before_of progress.new) (left_of progress.new)) }
-    ensures refused { Waits want.now (before_of progress.old) (left_of progress.old) →
-        IfErr result (λ e.
-        RefusesAt e want.now (before_of progress.old) (left_of progress.old ++ octets.now) out.old out.new) }
+    ensures ok { StandsAfter result want.now progress.old progress.new octets.now out.old out.new }
+    ensures refused { NamesFault result want.now progress.old octets.now out.old out.new }
     ensures looks { Looks steps.old steps.new (held progress.old) (held progress.new) (length octets.now) result }
 {
     let none = Partial::new(progress.alloc);
@@ -449,12 +437,8 @@ fn take_part<L: Ledger>(
     requires some { 0 < length octets.now }
     requires room { length octets.now
         ≤ room_of progress.old.expected progress.old.partial.header progress.old.partial.body }
-    ensures ok { Waits want.now (before_of progress.old) (left_of progress.old) →
-        OnOk result (Advances want.now (before_of progress.old) (left_of progress.old ++ octets.now) out.old out.new
-        (before_of progress.new) (left_of progress.new)) }
-    ensures refused { Waits want.now (before_of progress.old) (left_of progress.old) →
-        IfErr result (λ e.
-        RefusesAt e want.now (before_of progress.old) (left_of progress.old ++ octets.now) out.old out.new) }
+    ensures ok { StandsAfter result want.now progress.old progress.new octets.now out.old out.new }
+    ensures refused { NamesFault result want.now progress.old octets.now out.old out.new }
     ensures looks { Looks steps.old steps.new (held progress.old) (held progress.new) (length octets.now) result }
 {
     match (progress.expected, progress.partial.header) {
@@ -477,9 +461,7 @@ pub fn take_turn<L: Ledger>(
     ensures ok { Waits want.now (before_of progress.old) (left_of progress.old) →
         IfOk result (λ len. Advances want.now (before_of progress.old) (left_of progress.old ++ take len octets.now)
         out.old out.new (before_of progress.new) (left_of progress.new)) }
-    ensures refused { Waits want.now (before_of progress.old) (left_of progress.old) →
-        IfErr result (λ e.
-        RefusesAt e want.now (before_of progress.old) (left_of progress.old ++ octets.now) out.old out.new) }
+    ensures refused { NamesFault result want.now progress.old octets.now out.old out.new }
     ensures within { IfOk result (λ len. 0 < len × len ≤ length octets.now) }
     ensures looks { IfOk result (λ len. IsPaid steps.old steps.new (held progress.old) (held progress.new) len) }
     ensures refused_looks { OnErr result (IsPaidOnRefusal steps.old steps.new (held progress.old) (length octets.now)) }

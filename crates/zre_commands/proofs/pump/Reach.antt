@@ -109,3 +109,4 @@ finished statuses.ReadFault limit m o left w w' w'' read write write' rises p en
 finished statuses.WorldFault limit m o left w w' w'' read write write' rises p ends f = absurd f
 finished statuses.NoThread limit m o left w w' w'' read write write' rises p ends f = absurd f
 finished statuses.TooLong limit m o left w w' w'' read write write' rises p ends f = absurd f
+finished statuses.DeskFault limit m o left w w' w'' read write write' rises p ends f = absurd f

@@ -6,6 +6,7 @@ use Rattle.zre_commands.specs.pump.Meaning.{Meaning, whole_text}
 use Rattle.zre_commands.specs.declared.pump.status.Status.{Status}
 use Rattle.zre_commands.specs.declared.pump.status.Status.TheVariants.{Done, Usage, BadInput, ReadFault, WriteFault}
 use Rattle.zre_commands.specs.declared.pump.status.Status.TheVariants.{WorldFault, NoThread, TooLong, OutOfMemory}
+use Rattle.zre_commands.specs.declared.pump.status.Status.TheVariants.{DeskFault}
 
 -- the octets o were taken, and then: read and write say that the counts of faults of the source and the sink rose
 abbrev pub Outcome : Status
@@ -30,6 +31,7 @@ Outcome OutOfMemory limit m o left written written' read write = AppendsFront wr
 Outcome Usage limit m o left written written' read write = ⊥
 Outcome WorldFault limit m o left written written' read write = ⊥
 Outcome NoThread limit m o left written written' read write = ⊥
+Outcome DeskFault limit m o left written written' read write = ⊥
 
 -- some octets were taken from the source, no more than the limit, and the status says how it ended
 pub record Pumped (status : Status) (limit : ℕ) (m : Meaning)

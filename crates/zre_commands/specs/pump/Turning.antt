@@ -10,6 +10,7 @@ use Rattle.zre_commands.specs.declared.pump.pumping.Next.TheVariants as nexts
 use Rattle.zre_commands.specs.declared.pump.status.Status.{Status}
 use Rattle.zre_commands.specs.declared.pump.status.Status.TheVariants.{Done, Usage, BadInput, ReadFault, WriteFault}
 use Rattle.zre_commands.specs.declared.pump.status.Status.TheVariants.{WorldFault, NoThread, TooLong, OutOfMemory}
+use Rattle.zre_commands.specs.declared.pump.status.Status.TheVariants.{DeskFault}
 
 -- the text of a piece after o was written
 pub record WritesText (m : Meaning) (o piece : List ℕ) (written written' : Option (List ℕ)) : Type 0 where
@@ -68,3 +69,4 @@ Finishes ReadFault m o written written' write = ⊥
 Finishes WorldFault m o written written' write = ⊥
 Finishes NoThread m o written written' write = ⊥
 Finishes TooLong m o written written' write = ⊥
+Finishes DeskFault m o written written' write = ⊥

@@ -12,28 +12,39 @@ use crate::exercise::settings::settings;
 use crate::exercise::text::push_counts;
 use std::alloc::Global;
 use zre_capture::Exercise;
-use zre_node::Node;
+use zre_node::{Node, Step};
 use zre_outside::Entry;
 use zre_values::{Octets, OutOfMemory};
 
-// The node takes an entry, and what it tells is counted.
-fn take(node: &mut Node, counts: &mut Counts, entry: Entry) -> Result<(), OutOfMemory>
+// The node takes an entry, and what it tells is counted. The step is used again and again.
+fn take(
+    node: &mut Node,
+    counts: &mut Counts,
+    entry: Entry,
+    step: &mut Step,
+) -> Result<(), OutOfMemory>
     ensures { (g : Config) (J : List EntryValue) → Counted g J node.old counts.old →
         OnOk result (Counted g (J ++ entry ∷ []) node.new counts.new) }
 {
-    let step = node.step(entry)?;
+    node.step_into(entry, step)?;
     counts.count_entry()?;
     counts.count_events(step.events.as_slice())
 }
 
 // The same of all entries that are left.
-fn take_all(exercise: Exercise, node: &mut Node, counts: &mut Counts) -> Result<(), OutOfMemory>
+fn take_all(
+    alloc: Global,
+    exercise: Exercise,
+    node: &mut Node,
+    counts: &mut Counts,
+) -> Result<(), OutOfMemory>
     ensures { (g : Config) (J : List EntryValue) → Counted g J node.old counts.old →
         OnOk result (Counted g (J ++ left exercise) node.new counts.new) }
 {
     let mut exercise = exercise;
+    let mut step = Step::new(alloc);
     'entries: while let Some(entry) = exercise.next()? {
-        take(node, counts, entry)?;
+        take(node, counts, entry, &mut step)?;
     }
     Ok(())
 }
@@ -55,6 +66,7 @@ pub fn push_summary(
     let mut node = Node::new(alloc, settings(alloc)?)?;
     let mut counts = Counts::new();
     take_all(
+        alloc,
         Exercise::new(alloc, seed, peers, messages),
         &mut node,
         &mut counts,

@@ -76,7 +76,8 @@ fn take_whole(
 ) -> Result<bool, OutOfMemory>
     requires { is_spent run.old ≡ false }
     ensures took { (ms : List Message) → Stands run.old ms →
-        OnOk result (Took (id_of run.old) ms (cons_option (result_ok (read_frames frames.now)) []) run.new out.old out.new) }
+        OnOk result (Took (id_of run.old) ms (cons_option (result_ok (read_frames frames.now)) [])
+        run.new out.old out.new) }
     ensures spent { IfOk result (λ on. is_spent run.new ≡ not on) }
     ensures id { id_of run.new ≡ id_of run.old }
 {
@@ -97,7 +98,8 @@ fn take_later_frames(
     requires going { is_spent run.old ≡ false }
     requires later { is_some (view_in run.old) ≡ true }
     ensures took { (ms : List Message) → Stands run.old ms →
-        OnOk result (Took (id_of run.old) ms (cons_option (result_ok (read_frames frames.now)) []) run.new out.old out.new) }
+        OnOk result (Took (id_of run.old) ms (cons_option (result_ok (read_frames frames.now)) [])
+        run.new out.old out.new) }
     ensures spent { IfOk result (λ on. is_spent run.new ≡ not on) }
     ensures id { id_of run.new ≡ id_of run.old }
 {
@@ -118,7 +120,8 @@ fn take_frames(
 ) -> Result<bool, OutOfMemory>
     requires { is_spent run.old ≡ false }
     ensures took { (ms : List Message) → Stands run.old ms →
-        OnOk result (Took (id_of run.old) ms (cons_option (result_ok (read_frames frames.now)) []) run.new out.old out.new) }
+        OnOk result (Took (id_of run.old) ms (cons_option (result_ok (read_frames frames.now)) [])
+        run.new out.old out.new) }
     ensures spent { IfOk result (λ on. is_spent run.new ≡ not on) }
     ensures id { id_of run.new ≡ id_of run.old }
 {

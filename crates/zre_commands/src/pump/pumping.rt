@@ -112,7 +112,8 @@ fn take_turn<M: Machine, I: Source, O: Sink>(
 // Takes the end of the input, of which so many octets were taken, and writes the last text.
 fn finish<M: Machine, O: Sink>(machine: &M, taken: u64, out: &mut O, text: &mut Octets) -> Status
     ensures finishes { (o : List ℕ) → M.fed machine.now o → length o ≡ taken →
-        Finishes result (M.says machine.now) o (O.written out.old) (O.written out.new) (Rose (O.faults out.old) (O.faults out.new)) }
+        Finishes result (M.says machine.now) o (O.written out.old) (O.written out.new)
+        (Rose (O.faults out.old) (O.faults out.new)) }
     ensures writes { O.faults out.old ≤ O.faults out.new }
 {
     text.clear();
@@ -140,7 +141,8 @@ pub fn pump<M: Machine, I: Source, O: Sink>(
     requires start { M.fed machine.old [] }
     requires going { (M.says machine.old).is_stopped [] ≡ false }
     ensures pumped { Pumped result limit (M.says machine.old)
-        (I.left input.old) (I.left input.new) (I.taken input.old) (I.taken input.new) (O.written out.old) (O.written out.new)
+        (I.left input.old) (I.left input.new) (I.taken input.old) (I.taken input.new)
+        (O.written out.old) (O.written out.new)
         (Rose (I.faults input.old) (I.faults input.new)) (Rose (O.faults out.old) (O.faults out.new)) }
     ensures reads { I.faults input.old ≤ I.faults input.new }
     ensures writes { O.faults out.old ≤ O.faults out.new }

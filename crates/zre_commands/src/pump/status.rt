@@ -23,6 +23,8 @@ pub enum Status {
     TooLong,
     /// No memory was left.
     OutOfMemory,
+    /// The desk of a gate failed.
+    DeskFault,
 }
 
 impl Status {
@@ -40,6 +42,7 @@ impl Status {
             Status::NoThread => 7,
             Status::TooLong => 8,
             Status::OutOfMemory => 9,
+            Status::DeskFault => 10,
         }
     }
 }

@@ -7,8 +7,9 @@ use Rattle.std.proofs.lemmas.List.Folds.{list_any-append}
 use Rattle.zre_outside.specs.declared.entry.Command.{Command}
 use Rattle.zre_outside.specs.declared.entry.Command.TheVariants.{Join, Leave, Whisper, Shout, Bad, Quit}
 use Rattle.zre_capture.specs.Journal.{lines_in}
-use Rattle.zre_console.specs.lines.Orders.{orders_from, ended_lines, is_quit, through_quit, before_quit, typed, orders, Begins}
+use Rattle.zre_console.specs.lines.Orders.{orders_from, ended_lines, is_quit, through_quit, before_quit, typed, orders, asked, Begins}
 use Rattle.zre_console.specs.lines.Typing.{unfinished}
+use Rattle.zre_console.specs.reader.Putting.{IsShort}
 use Rattle.zre_console.proofs.lines.Unfinished.{ended-more, ended-last}
 
 -- one command more at the front
@@ -44,7 +45,7 @@ commands-are_orders o x isnt = orders-more o x ∙ without_quit (typed o) _ isnt
 -- ---- fronts of the orders
 
 -- a quit after them all comes to be the last
-quit-last : (cs : List Command) → through_quit (cs ++ Quit ∷ []) ≡ before_quit cs ++ Quit ∷ []
+pub quit-last : (cs : List Command) → through_quit (cs ++ Quit ∷ []) ≡ before_quit cs ++ Quit ∷ []
 quit-last [] = refl
 quit-last (Join group ∷ cs) = ap (λ (r : List Command). Join group ∷ r) (quit-last cs)
 quit-last (Leave group ∷ cs) = ap (λ (r : List Command). Leave group ∷ r) (quit-last cs)
@@ -53,7 +54,7 @@ quit-last (Shout group content ∷ cs) = ap (λ (r : List Command). Shout group 
 quit-last (Bad line ∷ cs) = ap (λ (r : List Command). Bad line ∷ r) (quit-last cs)
 quit-last (Quit ∷ cs) = refl
 
-none-before : (cs : List Command) → list_any is_quit (before_quit cs) ≡ false
+pub none-before : (cs : List Command) → list_any is_quit (before_quit cs) ≡ false
 none-before [] = refl
 none-before (Join group ∷ cs) = none-before cs
 none-before (Leave group ∷ cs) = none-before cs
@@ -115,3 +116,56 @@ pub last-quits : (o : List ℕ) (front : List Command) (c : Command) → orders_
 last-quits o front c e none is =
     ap (λ (cs : List Command). through_quit (cs ++ Quit ∷ [])) e ∙ ap through_quit (append_assoc front (c ∷ []) (Quit ∷ []))
     ∙ without_quit front (c ∷ Quit ∷ []) none ∙ ap (λ (b : Bool). front ++ (c ∷ cond b [] (Quit ∷ []))) is
+
+-- ---- without the quit
+
+right-false : (a b : Bool) → (a || b) ≡ false → b ≡ false
+right-false true b e = absurd cc
+right-false false b e = e
+
+-- what stands before a quit that is the first
+pub before-one : (front : List Command) (c : Command) (others : List Command) → list_any is_quit front ≡ false → is_quit c ≡ true → before_quit (front ++ (c ∷ others)) ≡ front
+before-one [] c others none is = ap (λ (b : Bool). cond b [] (c ∷ before_quit others)) is
+before-one (d ∷ ds) c others none is =
+    ap (λ (b : Bool). cond b [] (d ∷ before_quit (ds ++ (c ∷ others)))) (left-false (is_quit d) (list_any is_quit ds) none)
+    ∙ ap (λ (cs : List Command). d ∷ cs) (before-one ds c others (right-false (is_quit d) (list_any is_quit ds) none) is)
+
+pub before-through : (cs : List Command) → before_quit (through_quit cs) ≡ before_quit cs
+before-through [] = refl
+before-through (Join group ∷ cs) = ap (λ (r : List Command). Join group ∷ r) (before-through cs)
+before-through (Leave group ∷ cs) = ap (λ (r : List Command). Leave group ∷ r) (before-through cs)
+before-through (Whisper peer content ∷ cs) = ap (λ (r : List Command). Whisper peer content ∷ r) (before-through cs)
+before-through (Shout group content ∷ cs) = ap (λ (r : List Command). Shout group content ∷ r) (before-through cs)
+before-through (Bad line ∷ cs) = ap (λ (r : List Command). Bad line ∷ r) (before-through cs)
+before-through (Quit ∷ cs) = refl
+
+-- what is before a quit is fewer
+pub quit-short : (cs : List Command) → list_any is_quit cs ≡ true → IsShort (before_quit cs) cs
+quit-short [] is = absurd cc
+quit-short (Join group ∷ cs) is = let r = quit-short cs is in (r.0, r.1, ap (λ (l : List Command). Join group ∷ l) r.2)
+quit-short (Leave group ∷ cs) is = let r = quit-short cs is in (r.0, r.1, ap (λ (l : List Command). Leave group ∷ l) r.2)
+quit-short (Whisper peer content ∷ cs) is = let r = quit-short cs is in (r.0, r.1, ap (λ (l : List Command). Whisper peer content ∷ l) r.2)
+quit-short (Shout group content ∷ cs) is = let r = quit-short cs is in (r.0, r.1, ap (λ (l : List Command). Shout group content ∷ l) r.2)
+quit-short (Bad line ∷ cs) is = let r = quit-short cs is in (r.0, r.1, ap (λ (l : List Command). Bad line ∷ l) r.2)
+quit-short (Quit ∷ cs) is = (Quit, cs, refl)
+
+-- what is asked for, and the quit
+pub asked-quits : (o : List ℕ) → orders o ≡ asked false o ++ Quit ∷ []
+asked-quits o =
+    let ended = orders_from 1 (ended_lines (lines_in o)) in
+    let same : before_quit (orders o) ≡ before_quit ended = ap before_quit (quit-last ended) ∙ before-one (before_quit ended) Quit [] (none-before ended) refl in
+    quit-last ended ∙ ap (λ (cs : List Command). cs ++ Quit ∷ []) (sym same)
+
+pub asked-begins : (o : List ℕ) → Begins (asked false o) o
+asked-begins o = record { rest = []; parts = asked-quits o }
+
+-- where a line is a quit, no more is asked for than what was typed before it
+pub asked-typed : (o : List ℕ) → list_any is_quit (typed o) ≡ true → asked false o ≡ before_quit (typed o)
+asked-typed o is = ap before_quit (ap orders (sym (append-nil o)) ∙ quit-ends o [] is) ∙ before-through (typed o)
+
+-- where no line is a quit, all that was typed is asked for
+pub before-none : (cs : List Command) → list_any is_quit cs ≡ false → before_quit cs ≡ cs
+before-none [] none = refl
+before-none (c ∷ cs) none =
+    ap (λ (b : Bool). cond b [] (c ∷ before_quit cs)) (left-false (is_quit c) (list_any is_quit cs) none)
+    ∙ ap (λ (l : List Command). c ∷ l) (before-none cs (right-false (is_quit c) (list_any is_quit cs) none))

@@ -7,16 +7,14 @@ use Rattle.zre_outside.specs.declared.entry.Command.{Command}
 use Rattle.zre_outside.specs.declared.entry.Command.TheVariants.{Quit}
 use Rattle.zre_capture.specs.Journal.{lines_in}
 use Rattle.zre_actor.specs.declared.passes.CallerPass.{CallerPass}
-use Rattle.zre_console.specs.lines.Orders.{is_quit, typed, orders_from, ended_lines, Begins}
+use Rattle.zre_console.specs.lines.Orders.{is_quit, typed, asked, before_quit, orders_from, ended_lines, Begins}
 use Rattle.zre_console.specs.lines.Typing.{Typing, Typed, Adds, AddsFront}
-use Rattle.zre_console.proofs.lines.Quits.{quit-found, orders-begin, typed-begin, end-quits, last-quits}
+use Rattle.zre_console.proofs.lines.Quits.{quit-found, typed-begin, end-quits, last-quits, before-one}
 use Rattle.zre_console.specs.declared.reader.reading.Next.{Next}
 use Rattle.zre_console.specs.declared.reader.reading.Next.TheVariants as nexts
-use Rattle.zre_console.specs.declared.reader.ending.InputEnd.{InputEnd}
-use Rattle.zre_console.specs.declared.reader.ending.InputEnd.TheVariants as ends
 use Rattle.zre_console.specs.reader.Putting.{Puts, PutsQuit, PutsFront}
-use Rattle.zre_console.specs.reader.Turning.{PutsTyped, PutsOrders, PutsBegin, PutsShort, Took, Turned, Ends, Finishes}
-use Rattle.zre_console.proofs.reader.Puts.{puts-then, none-append}
+use Rattle.zre_console.specs.reader.Turning.{PutsTyped, PutsAsked, PutsPart, PutsShort, Took, Turned}
+use Rattle.zre_console.proofs.reader.Puts.{puts-none, none-append, none-one}
 
 -- ---- a piece
 
@@ -38,10 +36,11 @@ split o piece commands front rest f e =
     f.more ∙ ap (λ (cs : List Command). typed o ++ (cs ++ f.others)) (sym f.added ∙ e) ∙ regroup (typed o) front rest f.others
 
 pub took-quit : (o piece : List ℕ) (commands : List Command) (a b : CallerPass) → AddsFront o piece [] commands → list_any is_quit (typed o) ≡ false → PutsQuit a b commands
-    → (list_any is_quit (typed (o ++ piece)) ≡ true) × PutsOrders a b o (o ++ piece)
+    → (list_any is_quit (typed (o ++ piece)) ≡ true) × PutsAsked a b o (o ++ piece)
 took-quit o piece commands a b f none q =
-    let found = quit-found (o ++ piece) (typed o ++ q.front) q.last (q.rest ++ f.others) (split o piece commands q.front (q.last ∷ q.rest) f q.parts) (none-append (typed o) q.front none q.none) q.quits in
-    (found.0, (q.front ++ q.last ∷ [], q.puts, sym (append_assoc (typed o) q.front (q.last ∷ [])) ∙ sym found.1))
+    let plain = none-append (typed o) q.front none q.none in
+    let found = quit-found (o ++ piece) (typed o ++ q.front) q.last (q.rest ++ f.others) (split o piece commands q.front (q.last ∷ q.rest) f q.parts) plain q.quits in
+    (found.0, (q.front, q.puts, sym (ap before_quit found.1 ∙ before-one (typed o ++ q.front) q.last [] plain q.quits)))
 
 -- a front of its commands, after those that stood before, begins the orders
 part-begins : (o piece : List ℕ) (commands front rest : List Command) → AddsFront o piece [] commands → list_any is_quit (typed o) ≡ false → commands ≡ front ++ rest → list_any is_quit front ≡ false
@@ -60,8 +59,13 @@ took-front o piece commands a b f none q = (
 
 -- all of them were put
 pub took-some : (o piece : List ℕ) (commands : List Command) (a b : CallerPass) → AddsFront o piece [] commands → list_any is_quit (typed o) ≡ false → Puts a b commands
-    → list_any is_quit commands ≡ false → PutsBegin a b o (o ++ piece)
-took-some o piece commands a b f none p plain = (commands, p, part-begins o piece commands commands [] f none (sym (append-nil commands)) plain)
+    → list_any is_quit commands ≡ false → PutsPart a b o (o ++ piece)
+took-some o piece commands a b f none p plain = (
+  commands,
+  p,
+  part-begins o piece commands commands [] f none (sym (append-nil commands)) plain,
+  (f.others, sym (split o piece commands commands [] f (sym (append-nil commands)))),
+)
 
 pub took-all_of : (o piece : List ℕ) (t : Typing) (commands : List Command) (a b : CallerPass) → Typed (o ++ piece) t × Adds o piece [] commands → list_any is_quit (typed o) ≡ false → Puts a b commands
     → list_any is_quit commands ≡ false → Typed (o ++ piece) t × (list_any is_quit (typed (o ++ piece)) ≡ false) × PutsTyped a b o (o ++ piece)
@@ -83,28 +87,32 @@ turned nexts.ReadFault t o piece left a b read some took = absurd took
 abbrev pub ended : List ℕ → List Command
 ended o = orders_from 1 (ended_lines (lines_in o))
 
--- the unfinished line is empty, or was put
-pub end-put : (end : InputEnd) (o : List ℕ) (last : List Command) (a b c : CallerPass) → typed o ++ last ≡ ended o → list_any is_quit (typed o) ≡ false → list_any is_quit last ≡ false
-    → Puts a b last → Ends end b c → Finishes end o a c
-end-put ends.AtEnd o last a b c e none plain p q = (
-  last ++ Quit ∷ [],
-  puts-then a b c last (Quit ∷ []) p q,
-  sym (append_assoc (typed o) last (Quit ∷ [])) ∙ sym (end-quits o (typed o ++ last) (sym e) (none-append (typed o) last none plain)),
-)
-end-put ends.Over o last a b c e none plain p q = (
-  last ++ [],
-  puts-then a b c last [] p q,
-  rw (append-nil last) (orders-begin o (typed o ++ last) [] (sym e ∙ sym (append-nil (typed o ++ last))) (none-append (typed o) last none plain)),
-)
-end-put ends.Quit o last a b c e none plain p q = absurd q
-end-put ends.ReadFault o last a b c e none plain p q = absurd q
-end-put ends.TooLong o last a b c e none plain p q = absurd q
-end-put ends.OutOfMemory o last a b c e none plain p q = absurd q
+-- the unfinished line is empty
+pub end-none : (o : List ℕ) (a : CallerPass) → typed o ++ [] ≡ ended o → list_any is_quit (typed o) ≡ false → PutsAsked a a o o
+end-none o a e none =
+    let plain = none-append (typed o) [] none refl in
+    ([], puts-none a, sym (ap before_quit (end-quits o (typed o ++ []) (sym e) plain) ∙ before-one (typed o ++ []) Quit [] plain refl))
 
--- the unfinished line is a quit
-pub end-quit : (o : List ℕ) (last : Command) (a b : CallerPass) → typed o ++ last ∷ [] ≡ ended o → list_any is_quit (typed o) ≡ false → is_quit last ≡ true → Puts a b (last ∷ []) → PutsOrders a b o o
-end-quit o last a b e none is p = (last ∷ [], p, sym (last-quits o (typed o) last (sym e) none is))
+-- or it was put
+pub end-put : (o : List ℕ) (last : Command) (a b : CallerPass) → typed o ++ last ∷ [] ≡ ended o → list_any is_quit (typed o) ≡ false → is_quit last ≡ false → Puts a b (last ∷ []) → PutsAsked a b o o
+end-put o last a b e none isnt p =
+    let plain = none-append (typed o) (last ∷ []) none (none-one last isnt) in
+    (last ∷ [], p, sym (ap before_quit (end-quits o (typed o ++ last ∷ []) (sym e) plain) ∙ before-one (typed o ++ last ∷ []) Quit [] plain refl))
+
+-- or it is a quit
+pub end-quit : (o : List ℕ) (last : Command) (a b : CallerPass) → typed o ++ last ∷ [] ≡ ended o → list_any is_quit (typed o) ≡ false → is_quit last ≡ true → Puts a b [] → PutsAsked a b o o
+end-quit o last a b e none is p =
+    ([], p, append-nil (typed o) ∙ sym (ap before_quit (last-quits o (typed o) last (sym e) none is) ∙ before-one (typed o) last [] none is))
 
 -- nothing was put at the end
-pub end-over : (o : List ℕ) (a b : CallerPass) → list_any is_quit (typed o) ≡ false → Puts a b [] → PutsBegin a b o o
-end-over o a b none p = ([], p, typed-begin o (typed o ++ []) [] (sym (append-nil (typed o)) ∙ sym (append-nil (typed o ++ []))) (none-append (typed o) [] none refl))
+pub end-over : (o : List ℕ) (a b : CallerPass) → list_any is_quit (typed o) ≡ false → Puts a b [] → PutsPart a b o o
+end-over o a b none p = (
+  [],
+  p,
+  typed-begin o (typed o ++ []) [] (sym (append-nil (typed o)) ∙ sym (append-nil (typed o ++ []))) (none-append (typed o) [] none refl),
+  ([], append-nil (typed o ++ []) ∙ append-nil (typed o)),
+)
+
+-- memory ran out at the end
+pub end-memory : (o : List ℕ) (a : CallerPass) → list_any is_quit (typed o) ≡ false → PutsPart a a o o
+end-memory o a none = end-over o a a none (puts-none a)

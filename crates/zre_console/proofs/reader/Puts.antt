@@ -47,9 +47,9 @@ none-append xs ys e f = list_any-append is_quit xs ys ∙ or-false (list_any is_
 pub none-one : (c : Command) → is_quit c ≡ false → list_any is_quit (c ∷ []) ≡ false
 none-one c e = or-false (is_quit c) false e refl
 
--- a quit was put after others
+-- a quit came after others, and isn't put
 pub put-quit : (a b c : CallerPass) (all front rest : List Command) (last : Command) → all ≡ front ++ (last ∷ rest) → list_any is_quit front ≡ false
-    → Puts a b front → Puts b c (last ∷ []) → is_quit last ≡ true → PutsQuit a c all
+    → Puts a b front → Puts b c [] → is_quit last ≡ true → PutsQuit a c all
 put-quit a b c all front rest last e none p q is = record {
   front = front;
   last = last;
@@ -57,7 +57,7 @@ put-quit a b c all front rest last e none p q is = record {
   parts = e;
   none = none;
   quits = is;
-  puts = puts-then a b c front (last ∷ []) p q;
+  puts = let all_put : Puts a c (front ++ []) = puts-then a b c front [] p q in rw (append-nil front) at all_put;
 }
 
 -- nothing was put after them, though there are more

@@ -76,6 +76,12 @@ typed o = orders_from 1 (but_last (lines_in o))
 abbrev pub orders : List ℕ → List Command
 orders o = through_quit (orders_from 1 (ended_lines (lines_in o)) ++ Quit ∷ [])
 
+-- what a text asks for, without the quit at its end; where its last line is cut off and so isn't counted, by its whole
+-- lines alone
+abbrev pub asked : Bool → List ℕ → List Command
+asked true o = before_quit (typed o)
+asked false o = before_quit (orders o)
+
 -- these begin the orders of a text, before its quit
 pub record Begins (front : List Command) (o : List ℕ) : Type 0 where
   pub rest : List Command

@@ -28,13 +28,13 @@ Closes old new = (tail : List Command) × IsClose tail × Puts old new tail
 abbrev pub IsShort : List Command → List Command → Type 0
 IsShort front all = (next : Command) × (rest : List Command) × (all ≡ front ++ (next ∷ rest))
 
--- what became of a command
+-- what became of a command: a quit isn't put
 abbrev pub Sends : Sent → CallerPass → CallerPass → Command → Type 0
 Sends sents.On old new command = Puts old new (command ∷ []) × (is_quit command ≡ false)
-Sends sents.Quit old new command = Puts old new (command ∷ []) × (is_quit command ≡ true)
+Sends sents.Quit old new command = Puts old new [] × (is_quit command ≡ true)
 Sends sents.Over old new command = Puts old new []
 
--- commands were put up to the first quit
+-- commands were put up to the first quit, and without it
 pub record PutsQuit (old new : CallerPass) (commands : List Command) : Type 0 where
   pub front : List Command
   pub last : Command
@@ -42,7 +42,7 @@ pub record PutsQuit (old new : CallerPass) (commands : List Command) : Type 0 wh
   pub parts : commands ≡ front ++ (last ∷ rest)
   pub none : list_any is_quit front ≡ false
   pub quits : is_quit last ≡ true
-  pub puts : Puts old new (front ++ last ∷ [])
+  pub puts : Puts old new front
 
 -- some commands were put, but not all of them, and no quit
 pub record PutsFront (old new : CallerPass) (commands : List Command) : Type 0 where

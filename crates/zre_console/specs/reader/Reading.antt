@@ -1,11 +1,12 @@
 -- What is put of what is read.
 use Rattle.std.specs.Prelude.{◌≡◌, ℕ, ◌<◌, ◌≤◌, true, false, List, [], ◌++◌, ◌⊎◌, length, Option}
+use mathlib.Core.List.{IsPrefix}
 use Rattle.std.specs.List.{list_any}
 use Rattle.std.specs.Io.KnownBytes.{IsAtEnd}
 use Rattle.zre_outside.specs.declared.entry.Command.{Command}
 use Rattle.zre_outside.specs.Told.{Moves}
 use Rattle.zre_actor.specs.declared.passes.CallerPass.{CallerPass}
-use Rattle.zre_console.specs.lines.Orders.{is_quit, typed, orders, Begins}
+use Rattle.zre_console.specs.lines.Orders.{is_quit, typed, orders, asked, Begins}
 use Rattle.zre_console.specs.declared.reader.ending.InputEnd.{InputEnd}
 use Rattle.zre_console.specs.declared.reader.ending.InputEnd.TheVariants.{Quit, AtEnd, Over, ReadFault, TooLong}
 use Rattle.zre_console.specs.declared.reader.ending.InputEnd.TheVariants.{OutOfMemory}
@@ -38,6 +39,28 @@ Outcome ReadFault limit commands o left read = read × (length o < limit) × IsR
 -- as many octets as the limit were taken and a read was due
 Outcome TooLong limit commands o left read = (length o ≡ limit) × IsReadOn o × BreaksOff commands o
 Outcome OutOfMemory limit commands o left read = BreaksOff commands o
+
+-- the same of the lines alone, whose quit isn't put
+abbrev pub LinesOutcome : InputEnd
+    → (limit : ℕ) (commands : List Command) (o : List ℕ) (left : Option (List ℕ)) (read : Type 0) → Type 0
+LinesOutcome Quit limit commands o left read = (list_any is_quit (typed o) ≡ true) × (commands ≡ asked false o)
+LinesOutcome AtEnd limit commands o left read = IsAtEnd left × (length o < limit) × (commands ≡ asked false o)
+LinesOutcome Over limit commands o left read =
+    Begins commands o × IsPrefix commands (typed o)
+    × ((o ≡ []) ⊎ ((length o < limit) ⊎ IsShort commands (typed o)))
+LinesOutcome ReadFault limit commands o left read = read × (length o < limit) × IsReadOn o × (commands ≡ typed o)
+LinesOutcome TooLong limit commands o left read = (length o ≡ limit) × IsReadOn o × (commands ≡ typed o)
+LinesOutcome OutOfMemory limit commands o left read = Begins commands o × IsPrefix commands (typed o)
+
+-- some octets were taken from the source and the commands of some of its lines put with the pass, but no quit
+pub record HasReadLines (end : InputEnd) (limit : ℕ) (old new : CallerPass)
+    (left left' taken taken' : Option (List ℕ)) (read : Type 0) : Type 0 where
+  pub octets : List ℕ
+  pub moved : Moves left left' taken taken' octets
+  pub within : length octets ≤ limit
+  pub commands : List Command
+  pub puts : Puts old new commands
+  pub outcome : LinesOutcome end limit commands octets left' read
 
 -- some octets were taken from the source and some commands put with the pass, and the end says how they belong together
 pub record HasRead (end : InputEnd) (limit : ℕ) (old new : CallerPass) (left left' taken taken' : Option (List ℕ))

@@ -1,11 +1,12 @@
 -- What one turn of the reader does, and what the end of the input does.
-use Rattle.std.specs.Prelude.{◌≡◌, ℕ, ◌<◌, true, false, List, [], ◌∷◌, ◌++◌, length, Option}
+use Rattle.std.specs.Prelude.{◌≡◌, ◌⊎◌, ℕ, ◌<◌, true, false, List, [], ◌∷◌, ◌++◌, length, Option}
+use mathlib.Core.List.{IsPrefix}
 use Rattle.std.specs.List.{list_any}
 use Rattle.std.specs.Io.KnownBytes.{IsAtEnd}
 use Rattle.zre_outside.specs.declared.entry.Command.{Command}
 use Rattle.zre_outside.specs.declared.entry.Command.TheVariants as command
 use Rattle.zre_actor.specs.declared.passes.CallerPass.{CallerPass}
-use Rattle.zre_console.specs.lines.Orders.{is_quit, typed, orders, Begins}
+use Rattle.zre_console.specs.lines.Orders.{is_quit, typed, asked, Begins}
 use Rattle.zre_console.specs.lines.Typing.{Typing, Typed}
 use Rattle.zre_console.specs.declared.reader.ending.InputEnd.{InputEnd}
 use Rattle.zre_console.specs.declared.reader.ending.InputEnd.TheVariants as ends
@@ -17,13 +18,16 @@ use Rattle.zre_console.specs.reader.Putting.{Puts, Closes, IsShort}
 abbrev pub PutsTyped : CallerPass → CallerPass → (o longer : List ℕ) → Type 0
 PutsTyped old new o longer = (commands : List Command) × Puts old new commands × (typed o ++ commands ≡ typed longer)
 
--- they are now all of its orders
-abbrev pub PutsOrders : CallerPass → CallerPass → (o longer : List ℕ) → Type 0
-PutsOrders old new o longer = (commands : List Command) × Puts old new commands × (typed o ++ commands ≡ orders longer)
+-- they are now all that it asks for
+abbrev pub PutsAsked : CallerPass → CallerPass → (o longer : List ℕ) → Type 0
+PutsAsked old new o longer =
+    (commands : List Command) × Puts old new commands × (typed o ++ commands ≡ asked false longer)
 
--- they now begin its orders
-abbrev pub PutsBegin : CallerPass → CallerPass → (o longer : List ℕ) → Type 0
-PutsBegin old new o longer = (commands : List Command) × Puts old new commands × Begins (typed o ++ commands) longer
+-- they now begin its orders, and what was typed
+abbrev pub PutsPart : CallerPass → CallerPass → (o longer : List ℕ) → Type 0
+PutsPart old new o longer =
+    (commands : List Command) × Puts old new commands × Begins (typed o ++ commands) longer
+    × IsPrefix (typed o ++ commands) (typed longer)
 
 -- and there are more commands than these
 abbrev pub PutsShort : CallerPass → CallerPass → (o longer : List ℕ) → Type 0
@@ -35,9 +39,9 @@ PutsShort old new o longer =
 abbrev pub Took : Next → (t : Typing) (o piece : List ℕ) (old new : CallerPass) → Type 0
 Took nexts.Go t o piece old new =
     Typed (o ++ piece) t × (list_any is_quit (typed (o ++ piece)) ≡ false) × PutsTyped old new o (o ++ piece)
-Took nexts.Quit t o piece old new = (list_any is_quit (typed (o ++ piece)) ≡ true) × PutsOrders old new o (o ++ piece)
+Took nexts.Quit t o piece old new = (list_any is_quit (typed (o ++ piece)) ≡ true) × PutsAsked old new o (o ++ piece)
 Took nexts.Over t o piece old new = PutsShort old new o (o ++ piece)
-Took nexts.OutOfMemory t o piece old new = PutsBegin old new o (o ++ piece)
+Took nexts.OutOfMemory t o piece old new = PutsPart old new o (o ++ piece)
 Took nexts.End t o piece old new = ⊥
 Took nexts.ReadFault t o piece old new = ⊥
 
@@ -51,20 +55,25 @@ Turned nexts.OutOfMemory t o piece left old new read = Took nexts.OutOfMemory t 
 Turned nexts.End t o piece left old new read = Typed o t × (piece ≡ []) × IsAtEnd left × (new ≡ old)
 Turned nexts.ReadFault t o piece left old new read = (piece ≡ []) × read × (new ≡ old)
 
--- the quit that the end of the input is
-abbrev pub Ends : InputEnd → CallerPass → CallerPass → Type 0
-Ends ends.AtEnd old new = Puts old new (command.Quit ∷ [])
-Ends ends.Over old new = Puts old new []
-Ends ends.Quit old new = ⊥
-Ends ends.ReadFault old new = ⊥
-Ends ends.TooLong old new = ⊥
-Ends ends.OutOfMemory old new = ⊥
-
 -- the end of the input o, whose typed commands were put
 abbrev pub Finishes : InputEnd → (o : List ℕ) (old new : CallerPass) → Type 0
-Finishes ends.AtEnd o old new = PutsOrders old new o o
-Finishes ends.Over o old new = PutsBegin old new o o
-Finishes ends.OutOfMemory o old new = Closes old new
+Finishes ends.AtEnd o old new = PutsAsked old new o o
+Finishes ends.Over o old new = PutsPart old new o o
+Finishes ends.OutOfMemory o old new = PutsPart old new o o
 Finishes ends.Quit o old new = ⊥
 Finishes ends.ReadFault o old new = ⊥
 Finishes ends.TooLong o old new = ⊥
+
+-- the quit that a line or the end of the input is: it was put, or the chat was over before
+abbrev pub Quits : (end final : InputEnd) → CallerPass → CallerPass → Type 0
+Quits end final old new =
+    ((final ≡ end) × Puts old new (command.Quit ∷ [])) ⊎ ((final ≡ ends.Over) × Puts old new [])
+
+-- after a source's lines a quit was put, unless the chat was over
+abbrev pub Closing : (end final : InputEnd) → CallerPass → CallerPass → Type 0
+Closing ends.Quit final old new = Quits ends.Quit final old new
+Closing ends.AtEnd final old new = Quits ends.AtEnd final old new
+Closing ends.Over final old new = (final ≡ ends.Over) × (new ≡ old)
+Closing ends.ReadFault final old new = (final ≡ ends.ReadFault) × Closes old new
+Closing ends.TooLong final old new = (final ≡ ends.TooLong) × Closes old new
+Closing ends.OutOfMemory final old new = (final ≡ ends.OutOfMemory) × Closes old new

@@ -53,7 +53,8 @@ impl<I: Source + Send + Drop + 'static> Task for ReaderJob<I> {
     type Out = ReaderDone<I>;
 
     ghost means = { λ job out. IsCallerOf (arc_value job.pipes) out.pass × (I.faults job.input ≤ I.faults out.input)
-        × HasRead out.end job.limit job.pass out.pass (I.left job.input) (I.left out.input) (I.taken job.input) (I.taken out.input)
+        × HasRead out.end job.limit job.pass out.pass
+        (I.left job.input) (I.left out.input) (I.taken job.input) (I.taken out.input)
         (Rose (I.faults job.input) (I.faults out.input)) };
 }
 

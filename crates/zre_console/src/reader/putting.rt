@@ -5,7 +5,9 @@ ghost use Rattle.zre_outside.specs.declared.entry.Command.TheVariants.{Quit};
 ghost use Rattle.zre_actor.specs.Passes.{IsCallerOf};
 ghost use Rattle.zre_console.specs.lines.Orders.{is_quit};
 ghost use Rattle.zre_console.specs.reader.Putting.{Puts, Sends, SendsAll, Closes};
+ghost use Rattle.zre_console.specs.reader.Turning.{Quits};
 
+use crate::reader::InputEnd;
 use std::sync::Wait;
 use std::sync::atomic::{AtomicBool, Ordering};
 use std::thread::yield_now;
@@ -17,7 +19,7 @@ use zre_outside::Command;
 pub(crate) enum Sent {
     /// They were put, and none of them is a quit.
     On,
-    /// They were put up to the first quit.
+    /// They were put up to the first quit, which isn't put.
     Quit,
     /// The chat was over before all of them were put.
     Over,
@@ -64,8 +66,8 @@ fn put_command<R: Wait + Copy>(
     unreachable!()
 }
 
-// Puts a quit, unless the pipe is full and the chat over.
-pub(crate) fn close<R: Wait + Copy>(
+/// Puts a quit, again while the pipe is full, unless `over` is set meanwhile.
+pub fn close<R: Wait + Copy>(
     rt: R,
     pipes: &Pipes,
     over: &AtomicBool,
@@ -79,7 +81,30 @@ pub(crate) fn close<R: Wait + Copy>(
     pass
 }
 
-// Puts a command, unless the chat is over.
+// Puts the quit that a line or the end of the input is, unless the chat is over.
+pub(crate) fn put_quit<R: Wait + Copy>(
+    rt: R,
+    pipes: &Pipes,
+    over: &AtomicBool,
+    pass: CallerPass,
+    end: InputEnd,
+) -> (CallerPass, InputEnd)
+    requires { IsCallerOf pipes.now pass }
+    ensures pipes { IsCallerOf pipes.now result.0 }
+    ensures quits { Quits end result.1 pass result.0 }
+{
+    if over.load(Ordering::SeqCst) {
+        return (pass, InputEnd::Over);
+    }
+    let (pass, is_put) = put_command(rt, pipes, over, pass, Command::Quit);
+    if is_put {
+        (pass, end)
+    } else {
+        (pass, InputEnd::Over)
+    }
+}
+
+// Puts a command that isn't a quit, unless the chat is over.
 pub(crate) fn put_one<R: Wait + Copy>(
     rt: R,
     pipes: &Pipes,
@@ -94,19 +119,18 @@ pub(crate) fn put_one<R: Wait + Copy>(
     if over.load(Ordering::SeqCst) {
         return (pass, Sent::Over);
     }
-    let quits = is_quit(&command);
-    let (pass, is_put) = put_command(rt, pipes, over, pass, command);
-    if !is_put {
-        return (pass, Sent::Over);
+    if is_quit(&command) {
+        return (pass, Sent::Quit);
     }
-    if quits {
-        (pass, Sent::Quit)
-    } else {
+    let (pass, is_put) = put_command(rt, pipes, over, pass, command);
+    if is_put {
         (pass, Sent::On)
+    } else {
+        (pass, Sent::Over)
     }
 }
 
-// Puts commands up to the first quit, unless the chat is over.
+// Puts the commands before the first quit, unless the chat is over.
 pub(crate) fn put_all<R: Wait + Copy>(
     rt: R,
     pipes: &Pipes,

@@ -7,17 +7,17 @@ ghost use Rattle.zre_outside.specs.Told.{Moves};
 ghost use Rattle.zre_actor.specs.Passes.{IsCallerOf};
 ghost use Rattle.zre_console.specs.lines.Orders.{is_quit, typed};
 ghost use Rattle.zre_console.specs.lines.Typing.{Typed};
-ghost use Rattle.zre_console.specs.reader.Reading.{HasRead};
-ghost use Rattle.zre_console.specs.reader.Turning.{Took, Turned, Finishes, Ends};
+ghost use Rattle.zre_console.specs.reader.Reading.{HasRead, HasReadLines};
+ghost use Rattle.zre_console.specs.reader.Turning.{Took, Turned, Finishes, Closing};
 
 use crate::lines::Typist;
 use crate::reader::InputEnd;
-use crate::reader::putting::{Sent, close, put_all, put_one};
+use crate::reader::putting::{Sent, close, put_all, put_one, put_quit};
 use std::alloc::Global;
 use std::sync::Wait;
 use std::sync::atomic::{AtomicBool, Ordering};
 use zre_actor::{CallerPass, Pipes};
-use zre_outside::{Command, Failed, PIECE, Source, room_for, zeros};
+use zre_outside::{Failed, PIECE, Source, room_for, zeros};
 
 /// How a turn ended.
 #[derive(Clone, Copy, Debug, PartialEq, Eq)]
@@ -84,7 +84,8 @@ fn take_turn<R: Wait + Copy, I: Source>(
     ensures moved { Moves (I.left input.old) (I.left input.new) (I.taken input.old) (I.taken input.new)
         (take result.read buf.new) }
     ensures turned { (o : List ℕ) → Typed o typist.old → list_any is_quit (typed o) ≡ false →
-        Turned result.next typist.new o (take result.read buf.new) (I.left input.new) pass result.pass (Rose (I.faults input.old) (I.faults input.new)) }
+        Turned result.next typist.new o (take result.read buf.new) (I.left input.new) pass result.pass
+        (Rose (I.faults input.old) (I.faults input.new)) }
     ensures later { I.faults input.old ≤ I.faults input.new }
 {
     let read = match input.read(buf) {
@@ -108,24 +109,6 @@ fn take_turn<R: Wait + Copy, I: Source>(
     Turn { read, pass, next }
 }
 
-// Puts the quit that the end of the input is, unless the chat is over.
-fn put_end<R: Wait + Copy>(
-    rt: R,
-    pipes: &Pipes,
-    over: &AtomicBool,
-    pass: CallerPass,
-) -> (CallerPass, InputEnd)
-    requires { IsCallerOf pipes.now pass }
-    ensures pipes { IsCallerOf pipes.now result.0 }
-    ensures ends { Ends result.1 pass result.0 }
-{
-    let (pass, sent) = put_one(rt, pipes, over, pass, Command::Quit);
-    match sent {
-        Sent::Over => (pass, InputEnd::Over),
-        _ => (pass, InputEnd::AtEnd),
-    }
-}
-
 // Takes the end of the input: the line that isn't finished counts.
 fn finish<R: Wait + Copy>(
     rt: R,
@@ -140,21 +123,23 @@ fn finish<R: Wait + Copy>(
         Finishes result.1 o pass result.0 }
 {
     let Ok(last) = typist.finish() else {
-        return (close(rt, pipes, over, pass), InputEnd::OutOfMemory);
+        return (pass, InputEnd::OutOfMemory);
     };
     let Some(command) = last else {
-        return put_end(rt, pipes, over, pass);
+        return (pass, InputEnd::AtEnd);
     };
     let (pass, sent) = put_one(rt, pipes, over, pass, command);
     match sent {
-        Sent::On => put_end(rt, pipes, over, pass),
+        Sent::On => (pass, InputEnd::AtEnd),
         Sent::Quit => (pass, InputEnd::AtEnd),
         Sent::Over => (pass, InputEnd::Over),
     }
 }
 
-// Reads the source and puts the commands of its lines, up to a limit of octets.
-pub(crate) fn read_all<R: Wait + Copy, I: Source>(
+/// Reads a source, at most so many octets of it, and puts the commands of its lines with the pass up to a quit, which
+/// isn't put, each again while the pipe is full. It looks at `over` before each read, before each command of a line and
+/// whenever the pipe is full, and puts nothing more where that is set; nothing is claimed of when it sees it.
+pub fn read_lines<R: Wait + Copy, I: Source>(
     rt: R,
     alloc: Global,
     pipes: &Pipes,
@@ -165,12 +150,12 @@ pub(crate) fn read_all<R: Wait + Copy, I: Source>(
 ) -> (CallerPass, InputEnd)
     requires { IsCallerOf pipes.now pass }
     ensures pipes { IsCallerOf pipes.now result.0 }
-    ensures read { HasRead result.1 limit pass result.0 (I.left input.old) (I.left input.new) (I.taken input.old)
+    ensures read { HasReadLines result.1 limit pass result.0 (I.left input.old) (I.left input.new) (I.taken input.old)
         (I.taken input.new) (Rose (I.faults input.old) (I.faults input.new)) }
     ensures later { I.faults input.old ≤ I.faults input.new }
 {
     let Ok(mut buf) = zeros(alloc, PIECE) else {
-        return (close(rt, pipes, over, pass), InputEnd::OutOfMemory);
+        return (pass, InputEnd::OutOfMemory);
     };
     let mut typist = Typist::new(alloc);
     let mut taken: u64 = 0;
@@ -191,9 +176,50 @@ pub(crate) fn read_all<R: Wait + Copy, I: Source>(
             Next::Quit => return (back, InputEnd::Quit),
             Next::End => return finish(rt, pipes, over, &typist, back),
             Next::Over => return (back, InputEnd::Over),
-            Next::ReadFault => return (close(rt, pipes, over, back), InputEnd::ReadFault),
-            Next::OutOfMemory => return (close(rt, pipes, over, back), InputEnd::OutOfMemory),
+            Next::ReadFault => return (back, InputEnd::ReadFault),
+            Next::OutOfMemory => return (back, InputEnd::OutOfMemory),
         }
     }
-    (close(rt, pipes, over, pass), InputEnd::TooLong)
+    (pass, InputEnd::TooLong)
+}
+
+// Puts the quit at the end of what was read, unless the chat was over.
+fn end_reading<R: Wait + Copy>(
+    rt: R,
+    pipes: &Pipes,
+    over: &AtomicBool,
+    pass: CallerPass,
+    end: InputEnd,
+) -> (CallerPass, InputEnd)
+    requires { IsCallerOf pipes.now pass }
+    ensures pipes { IsCallerOf pipes.now result.0 }
+    ensures closing { Closing end result.1 pass result.0 }
+{
+    match end {
+        InputEnd::Over => (pass, InputEnd::Over),
+        InputEnd::Quit | InputEnd::AtEnd => put_quit(rt, pipes, over, pass, end),
+        InputEnd::ReadFault | InputEnd::TooLong | InputEnd::OutOfMemory => {
+            (close(rt, pipes, over, pass), end)
+        }
+    }
+}
+
+// Reads the source and puts the commands of its lines, up to a limit of octets, and then a quit.
+pub(crate) fn read_all<R: Wait + Copy, I: Source>(
+    rt: R,
+    alloc: Global,
+    pipes: &Pipes,
+    over: &AtomicBool,
+    pass: CallerPass,
+    input: &mut I,
+    limit: u64,
+) -> (CallerPass, InputEnd)
+    requires { IsCallerOf pipes.now pass }
+    ensures pipes { IsCallerOf pipes.now result.0 }
+    ensures read { HasRead result.1 limit pass result.0 (I.left input.old) (I.left input.new) (I.taken input.old)
+        (I.taken input.new) (Rose (I.faults input.old) (I.faults input.new)) }
+    ensures later { I.faults input.old ≤ I.faults input.new }
+{
+    let (pass, end) = read_lines(rt, alloc, pipes, over, pass, input, limit);
+    end_reading(rt, pipes, over, pass, end)
 }

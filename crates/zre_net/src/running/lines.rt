@@ -8,6 +8,7 @@ use crate::running::nth::nth;
 use bytes::Bytes;
 use std::alloc::Global;
 use std::marker::Model;
+use zre_link::Queue;
 use zre_values::{List, OutOfMemory};
 
 /// A link: the messages that were put on it, as they are spelled, and how many octets waited after the last entry.
@@ -39,24 +40,23 @@ impl Model for Lines {
 }
 
 // These octets, shared with those before where they are the same.
-fn shared(alloc: Global, before: &Bytes, octets: &[u8]) -> Result<Bytes, OutOfMemory>
-    ensures { IfOk result (λ b. b ≡ octets.now) }
+fn shared(before: &Bytes, octets: Bytes) -> Result<Bytes, OutOfMemory>
+    ensures { IfOk result (λ b. b ≡ octets) }
 {
-    if before.as_slice() == octets {
+    if before.as_slice() == octets.as_slice() {
         return Ok(before.clone()?);
     }
-    Ok(Bytes::copy_from_slice(alloc, octets)?)
+    Ok(octets)
 }
 
 // So many messages were put on a link, and this waits on it: at most one message more than before. Gives how many
 // octets all messages have, where they had so many before.
 fn note(
-    alloc: Global,
     line: &mut Line,
     first: &mut Bytes,
     octets: u64,
     sent: u64,
-    waits: &[u8],
+    waits: &Queue,
 ) -> Result<u64, OutOfMemory>
     ensures noted { OnOk result (IsNoted sent waits.now line.old line.new) }
     ensures octets { IfOk result (λ all. all + message_octets line.old ≡ octets + message_octets line.new) }
@@ -70,7 +70,7 @@ fn note(
     if sent != count.saturating_add(1) || waits.len() < line.waited {
         return Err(OutOfMemory);
     }
-    let message = shared(alloc, first, &waits[line.waited..])?;
+    let message = shared(first, waits.last(waits.len() - line.waited)?)?;
     let Some(all) = octets.checked_add(message.len() as u64) else {
         return Err(OutOfMemory);
     };
@@ -121,20 +121,14 @@ impl Lines {
     }
 
     /// So many messages were put on the link at this place, and this waits on it: at most one message more than before.
-    pub fn note(
-        &mut self,
-        alloc: Global,
-        place: usize,
-        sent: u64,
-        waits: &[u8],
-    ) -> Result<(), OutOfMemory>
+    pub fn note(&mut self, place: usize, sent: u64, waits: &Queue) -> Result<(), OutOfMemory>
         ensures { OnOk result (IsNotedAt sent waits.now place self.old self.new) }
     {
         if place >= self.rows.len() {
             return Err(OutOfMemory);
         }
         let line = &mut self.rows[place];
-        self.octets = note(alloc, line, &mut self.first, self.octets, sent, waits)?;
+        self.octets = note(line, &mut self.first, self.octets, sent, waits)?;
         Ok(())
     }
 }

@@ -59,7 +59,7 @@ fn add_lines(
 }
 
 // What was put on one link.
-fn look_at(alloc: Global, node: &Node, lines: &mut Lines, link: u64) -> Result<(), OutOfMemory>
+fn look_at(node: &Node, lines: &mut Lines, link: u64) -> Result<(), OutOfMemory>
     ensures { (g : Config) (J : List EntryValue) → StandsFor g J node.now →
         OnOk result (IsLookedAt g (chronicle g J) link lines.old lines.new) }
 {
@@ -72,17 +72,17 @@ fn look_at(alloc: Global, node: &Node, lines: &mut Lines, link: u64) -> Result<(
     let Some(place) = link.checked_sub(1) else {
         return Err(OutOfMemory);
     };
-    lines.note(alloc, place as usize, sent, waits)
+    lines.note(place as usize, sent, waits)
 }
 
 // What was put on each link of a known peer.
-fn look(alloc: Global, node: &Node, lines: &mut Lines) -> Result<(), OutOfMemory>
+fn look(node: &Node, lines: &mut Lines) -> Result<(), OutOfMemory>
     ensures { (g : Config) (J : List EntryValue) → StandsFor g J node.now →
         OnOk result (IsLooked g (chronicle g J) lines.old lines.new) }
 {
     let links = node.links()?;
     for link in links.as_slice() {
-        look_at(alloc, node, lines, *link)?;
+        look_at(node, lines, *link)?;
     }
     Ok(())
 }
@@ -103,7 +103,7 @@ fn step(
 {
     let step = node.step(entry)?;
     add_lines(alloc, lines, step.acts.as_slice(), handshake)?;
-    look(alloc, node, lines)?;
+    look(node, lines)?;
     Ok(step)
 }
 

@@ -1,7 +1,8 @@
 //! What connections say.
 
 ghost use Rattle.std.specs.Prelude.{◌≡◌, List, ◌∷◌, [], ◌++◌, None, Some, OnOk, IfOk, MatchOption, map, true, false};
-ghost use Rattle.zre_mailbox.specs.Talk.{Arrived, Fault, fault_said};
+ghost use Rattle.std.specs.Prelude.{if◌then◌else◌};
+ghost use Rattle.zre_mailbox.specs.Talk.{Arrived, Fault, fault_said, arrival_of, arrivals_in};
 ghost use Rattle.zre_outside.specs.declared.entry.Entry.{Entry as EntryValue};
 ghost use Rattle.zre_outside.specs.declared.entry.Input.TheVariants as input;
 ghost use Rattle.zre_journal.specs.declared.config.Config.{Config};
@@ -10,14 +11,14 @@ ghost use Rattle.zre_journal.specs.Heard.{newly_completed};
 ghost use Rattle.zre_journal.specs.Connections.{is_live, is_open, identity, runs, other_with as other_in};
 ghost use Rattle.zre_journal.specs.Arrivals.{at_place, at_places, at_arrival, at_shaken, taken_over};
 ghost use Rattle.zre_node.specs.Stands.{Holds, Did, IsOpenIfAny};
-ghost use Rattle.zre_node.specs.Said.{said_in};
+ghost use Rattle.zre_node.specs.Said.{said_in, at_item};
 
 use crate::effects::Effects;
-use crate::tables::{Tables, other_with};
-use zre_mailbox::{Arrival, Arrivals};
+use crate::tables::Tables;
+use zre_mailbox::{Arrival, arrival_of};
 use zre_peer::{Cause, CloseWhy};
 use zre_values::{OutOfMemory, PeerId};
-use zre_zmtp::{FeedFault, SocketType, ZmtpFault, pong, ready};
+use zre_zmtp::{Item, Items, SocketType, What, ZmtpFault, pong, ready};
 
 /// What a live connection runs, and whom it introduced.
 #[derive(Clone, Copy)]
@@ -32,7 +33,7 @@ pub struct Standing {
 #[derive(Drop)]
 pub struct Heard {
     /// What is whole, in order.
-    pub arrivals: Arrivals,
+    pub items: Items,
     /// The fault that ends it, if there is one.
     pub fault: Option<ZmtpFault>,
 }
@@ -44,7 +45,7 @@ impl Tables {
             MatchOption result (is_live conn H ≡ false)
             (λ s. (is_live conn H ≡ true) × (s.run ≡ runs conn H) × (s.identity ≡ identity conn H)) }
     {
-        let Some(found) = self.conns.get(&conn) else {
+        let Some(found) = self.conns.get(conn) else {
             return None;
         };
         if found.conn.is_none() {
@@ -73,9 +74,7 @@ impl Tables {
         ensures { (g : Config) (H : List Mark) → Holds g H self.old → is_open conn H ≡ true → identity conn H ≡ None →
             other_in peer conn H ≡ None → Holds g (Shakes conn peer ∷ H) self.new }
     {
-        if let Some(found) = self.conns.get_mut(&conn) {
-            found.identity = Some(peer);
-        }
+        self.conns.introduce(conn, peer);
     }
 
     // READY of a connection that had none.
@@ -84,7 +83,7 @@ impl Tables {
         ensures { (g : Config) (H : List Mark) → Holds g H self.old → is_open conn H ≡ true → identity conn H ≡ None →
             OnOk result (Did g (at_shaken g conn peer None H) H self.new out.old out.new) }
     {
-        let older = other_with(&self.conns, peer, conn);
+        let older = self.conns.other_with(peer, conn);
         self.take_over(out, older)?;
         self.introduce(conn, peer);
         Ok(())
@@ -110,7 +109,7 @@ impl Tables {
         out.answer(conn, pong)
     }
 
-    // What is whole on a live connection.
+    // What arrives on a live connection.
     fn arrive_live(
         &mut self,
         out: &mut Effects,
@@ -128,19 +127,61 @@ impl Tables {
             (Arrival::Shaken(peer), _, None) => self.shaken(out, conn, peer),
             (Arrival::Shaken(_), _, Some(_)) => Ok(()),
             (Arrival::Ping(context), _, _) => self.pinged(out, conn, context.as_slice()),
-            (Arrival::Message(message), Some(link), _) => self.later(out, conn, link, message),
+            (Arrival::Message(message), Some(link), _) => {
+                self.later_whole(out, conn, link, &message)
+            }
             (Arrival::Message(message), None, Some(peer)) => self.first(out, conn, peer, message),
             (Arrival::Message(_), None, None) => Ok(()),
         }
     }
 
+    // What is whole on a live connection, with copies of what it holds.
+    #[inline(never)]
+    fn arrive_copied(
+        &mut self,
+        out: &mut Effects,
+        conn: u64,
+        standing: Standing,
+        what: &What,
+    ) -> Result<(), OutOfMemory>
+        ensures { (g : Config) (H : List Mark) → Holds g H self.old → is_live conn H ≡ true
+            → standing.run ≡ runs conn H →
+            standing.identity ≡ identity conn H →
+            OnOk result (Did g (at_item g conn (arrival_of what.now) H) H self.new out.old out.new) }
+    {
+        match arrival_of(self.alloc, what)? {
+            Some(arrival) => self.arrive_live(out, conn, standing, arrival),
+            None => Ok(()),
+        }
+    }
+
+    // What is whole on a live connection. A message after the first is taken where it lies.
+    fn arrive_lent(
+        &mut self,
+        out: &mut Effects,
+        conn: u64,
+        standing: Standing,
+        what: &What,
+    ) -> Result<(), OutOfMemory>
+        ensures { (g : Config) (H : List Mark) → Holds g H self.old → is_live conn H ≡ true
+            → standing.run ≡ runs conn H →
+            standing.identity ≡ identity conn H →
+            OnOk result (Did g (at_item g conn (arrival_of what.now) H) H self.new out.old out.new) }
+    {
+        match (what, standing.run) {
+            (What::Message(frames), Some(link)) => self.later_in(out, conn, link, frames),
+            _ => self.arrive_copied(out, conn, standing, what),
+        }
+    }
+
     // What is whole on a connection. Where it isn't live, it has no effect.
-    fn arrive(&mut self, out: &mut Effects, conn: u64, arrival: Arrival) -> Result<(), OutOfMemory>
+    fn arrive(&mut self, out: &mut Effects, conn: u64, what: &What) -> Result<(), OutOfMemory>
         ensures { (g : Config) (H : List Mark) → Holds g H self.old →
-            OnOk result (Did g (at_place g conn (Arrived arrival) H) H self.new out.old out.new) }
+            OnOk result (Did g (if is_live conn H then at_item g conn (arrival_of what.now) H else []) H self.new
+            out.old out.new) }
     {
         match self.standing(conn) {
-            Some(standing) => self.arrive_live(out, conn, standing, arrival),
+            Some(standing) => self.arrive_lent(out, conn, standing, what),
             None => Ok(()),
         }
     }
@@ -150,14 +191,14 @@ impl Tables {
         &mut self,
         out: &mut Effects,
         conn: u64,
-        arrivals: Vec<Arrival>,
+        items: &[Item],
     ) -> Result<(), OutOfMemory>
         ensures { (g : Config) (K : List Mark) → Holds g K self.old →
-            OnOk result (Did g (in_turn (at_place g conn) (map (λ a. Arrived a) arrivals.items) K) K self.new out.old
-            out.new) }
+            OnOk result (Did g (in_turn (at_place g conn) (map (λ a. Arrived a) (arrivals_in items.now)) K) K self.new
+            out.old out.new) }
     {
-        for arrival in arrivals {
-            self.arrive(out, conn, arrival)?;
+        for item in items {
+            self.arrive(out, conn, &item.what)?;
         }
         Ok(())
     }
@@ -183,11 +224,11 @@ impl Tables {
     }
 
     /// All that a piece completed of what its connection says.
-    pub fn said(&mut self, out: &mut Effects, conn: u64, heard: Heard) -> Result<(), OutOfMemory>
+    pub fn said(&mut self, out: &mut Effects, conn: u64, heard: &Heard) -> Result<(), OutOfMemory>
         ensures { (g : Config) (K : List Mark) → Holds g K self.old →
-            OnOk result (Did g (at_places g conn (said_in heard) K) K self.new out.old out.new) }
+            OnOk result (Did g (at_places g conn (said_in heard.now) K) K self.new out.old out.new) }
     {
-        self.arrive_all(out, conn, heard.arrivals.into_vec())?;
+        self.arrive_all(out, conn, heard.items.as_slice())?;
         self.fault(out, conn, heard.fault)
     }
 }

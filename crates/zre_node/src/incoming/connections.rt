@@ -8,11 +8,11 @@ ghost use Rattle.zre_journal.specs.Connections.{is_open, runs};
 ghost use Rattle.zre_journal.specs.Arrivals.{at_opened, at_shut, end_of_run};
 ghost use Rattle.zre_node.specs.Stands.{Holds, Did, RunNone};
 
-use crate::connection::Connection;
 use crate::effects::Effects;
 use crate::tables::{Tables, is_new};
 use zre_outside::Act;
 use zre_peer::{Cause, CloseWhy};
+use zre_tables::Connection;
 use zre_values::limits::CONNECTIONS;
 use zre_values::{Octets, OutOfMemory};
 use zre_zmtp::greeting;
@@ -51,7 +51,7 @@ impl Tables {
     fn run_of(&self, conn: u64) -> Option<u64>
         ensures { (g : Config) (H : List Mark) → Holds g H self.now → is_open conn H ≡ true → result ≡ runs conn H }
     {
-        match self.conns.get(&conn) {
+        match self.conns.get(conn) {
             Some(found) => found.run,
             None => None,
         }
@@ -63,7 +63,7 @@ impl Tables {
         ensures { (g : Config) (H : List Mark) → Holds g H self.old → runs conn H ≡ None →
             OnOk result (Did g (Closes conn why ∷ []) H self.new out.old out.new) }
     {
-        self.conns.remove(&conn);
+        self.conns.remove(conn);
         out.close(conn, why)
     }
 
@@ -72,11 +72,11 @@ impl Tables {
         ensures { (g : Config) (H : List Mark) → Holds g H self.old →
             OnOk result (Did g (at_shut g conn H) H self.new out.old out.new) }
     {
-        if !self.conns.contains_key(&conn) {
+        if !self.conns.contains(conn) {
             return Ok(());
         }
         self.end_run(out, conn, Cause::Shut)?;
-        self.conns.remove(&conn);
+        self.conns.remove(conn);
         Ok(())
     }
 
@@ -86,7 +86,7 @@ impl Tables {
             OnOk result (Did g (map (λ c. ClosesAtStop c) conns.now) H self.new out.old out.new) }
     {
         for conn in conns {
-            self.conns.remove(conn);
+            self.conns.remove(*conn);
             out.act(Act::CloseConn { conn: *conn })?;
         }
         Ok(())

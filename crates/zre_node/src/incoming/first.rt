@@ -15,21 +15,13 @@ ghost use Rattle.zre_journal.specs.Connections.{is_live, is_open, identity, runs
 ghost use Rattle.zre_journal.specs.Peers.{Life, life};
 ghost use Rattle.zre_journal.specs.Arrivals.{at_first};
 ghost use Rattle.zre_node.specs.Stands.{Holds, Did};
-ghost use Rattle.zre_node.specs.declared.connection.Connection.{Connection as ConnectionValue};
-ghost use Rattle.zre_node.specs.declared.peer.Peer.{Peer as PeerValue};
-ghost use Rattle.std.specs.Ordering.{nat_cmp};
-ghost use Rattle.std.specs.BTreeMap.{is_at};
-ghost use Rattle.std.specs.Map.{lookup, set_value};
 
-use crate::connection::Connection;
 use crate::effects::Effects;
-use crate::peer::{Peer, Running};
-use crate::peers::ends::ignore;
-use crate::tables::{Tables, link_of};
+use crate::tables::Tables;
 use std::alloc::Global;
-use std::collections::BTreeMap;
 use zre_msg::{Body, Message};
 use zre_peer::{Events, IgnoreWhy, Run, RunFault};
+use zre_tables::Running;
 use zre_values::limits::PEERS;
 use zre_values::{Endpoint, OutOfMemory, PeerId};
 
@@ -72,55 +64,34 @@ fn opened(
     }
 }
 
-// The connection runs the peer of this link.
-fn carry(conns: &mut BTreeMap<u64, Connection>, conn: u64, link: u64)
-    ensures { (x : ConnectionValue) → lookup (is_at (nat_cmp conn)) conns.old.entries ≡ Some x →
-        conns.new.entries ≡ set_value (is_at (nat_cmp conn)) conns.old.entries (record x { run = Some link }) }
-{
-    if let Some(found) = conns.get_mut(&conn) {
-        found.run = Some(link);
-    }
-}
-
-// The peer of this link has a run, which shows that it is there.
-fn enter(peers: &mut BTreeMap<u64, Peer>, link: u64, running: Running, now: u64)
-    ensures { (x : PeerValue) → lookup (is_at (nat_cmp link)) peers.old.entries ≡ Some x →
-        peers.new.entries ≡ set_value (is_at (nat_cmp link)) peers.old.entries
-        (record x { run = Some running; active = now }) }
-{
-    if let Some(peer) = peers.get_mut(&link) {
-        peer.run = Some(running);
-        peer.active = now;
-    }
-}
-
 impl Tables {
     // The connection is ignored, and the user is told why.
     fn refuse(&mut self, out: &mut Effects, conn: u64, why: IgnoreWhy) -> Result<(), OutOfMemory>
         ensures { (g : Config) (H : List Mark) → Holds g H self.old → is_live conn H ≡ true → runs conn H ≡ None →
             OnOk result (Did g (Ignores conn why ∷ []) H self.new out.old out.new) }
     {
-        ignore(&mut self.conns, conn, self.clock);
+        self.conns.ignore(conn, self.clock);
         out.ignored(conn, why)
     }
 
     // The connection runs the peer of this link from now on.
-    fn start(&mut self, conn: u64, link: u64, run: Run)
+    fn start(&mut self, conn: u64, link: u64, run: Run) -> Result<(), OutOfMemory>
+        requires { (messages : List MessageValue) × Stands run messages }
         ensures { (g : Config) (H : List Mark) (m : MessageValue) (v : Life) → Holds g H self.old
             → is_live conn H ≡ true →
             runs conn H ≡ None → life link H ≡ Some v → identity conn H ≡ Some v.id → Stands run (m ∷ [])
             → id_of run ≡ v.id →
-            Holds g (Starts conn link m ∷ H) self.new }
+            OnOk result (Holds g (Starts conn link m ∷ H) self.new) }
     {
-        carry(&mut self.conns, conn, link);
-        enter(&mut self.peers, link, Running { conn, run }, self.clock);
+        self.conns.carry(conn, link);
+        self.peers.enter(link, Running { conn, run }, self.clock)
     }
 
     // Where the peer of a first message is to be reached.
     fn place(&self, peer: PeerId, message: &Message) -> Place
         ensures { (g : Config) (H : List Mark) → Holds g H self.now → IsPlace g peer message.now H result }
     {
-        if let Some(link) = link_of(&self.peers, peer) {
+        if let Some(link) = self.peers.link_of(peer) {
             return Place::Known(link);
         }
         match mailbox_of(message) {
@@ -164,10 +135,7 @@ impl Tables {
             OnOk result (Did g (at_first g conn (Some peer) message H) H self.new out.old out.new) }
     {
         match opened(self.alloc, peer, message, &mut out.events) {
-            Ok(run) => {
-                self.start(conn, link, run);
-                Ok(())
-            }
+            Ok(run) => self.start(conn, link, run),
             Err(fault) => self.refuse_by(out, conn, fault),
         }
     }
@@ -188,8 +156,7 @@ impl Tables {
         match opened(self.alloc, peer, message, &mut out.events) {
             Ok(run) => {
                 self.born(out, peer, to)?;
-                self.start(conn, self.births, run);
-                Ok(())
+                self.start(conn, self.births, run)
             }
             Err(fault) => self.refuse_by(out, conn, fault),
         }

@@ -1,10 +1,7 @@
 //! Pieces of connections.
 
-ghost use Rattle.std.specs.Prelude.{◌≡◌, ℕ, List, [], ◌∷◌, ◌++◌, None, Some, IfOk, OnOk, true, length};
-ghost use Rattle.zre_values.specs.declared.peer_id.PeerId.{PeerId};
+ghost use Rattle.std.specs.Prelude.{◌≡◌, ℕ, List, [], ◌∷◌, IfOk, true, length};
 ghost use Rattle.zre_zmtp.specs.Looks.{Looks};
-ghost use Rattle.zre_mailbox.specs.Conn.{conn_after, kept_of};
-ghost use Rattle.zre_mailbox.specs.Talk.{completed};
 ghost use Rattle.zre_outside.specs.declared.entry.Entry.{Entry};
 ghost use Rattle.zre_outside.specs.declared.entry.Input.TheVariants as input;
 ghost use Rattle.zre_journal.specs.declared.config.Config.{Config};
@@ -12,82 +9,23 @@ ghost use Rattle.zre_journal.specs.Chronicle.{Mark, Comes};
 ghost use Rattle.zre_journal.specs.Heard.{newly_completed};
 ghost use Rattle.zre_journal.specs.Held.{kept};
 ghost use Rattle.zre_journal.specs.Arrivals.{at_places};
-ghost use Rattle.zre_node.specs.Holding.{conn_row_octets};
 ghost use Rattle.zre_node.specs.Said.{said_in};
 ghost use Rattle.zre_node.specs.Stands.{Holds, is_quiet};
 
-use crate::connection::Connection;
 use crate::incoming::arrivals::Heard;
 use crate::tables::Tables;
-use std::alloc::Global;
 use std::sync::ledger::Ledger;
-use zre_mailbox::{Arrivals, Conn};
 use zre_values::OutOfMemory;
-use zre_zmtp::{FeedFault, Steps};
+use zre_zmtp::{Items, Steps};
 
 impl Heard {
-    // Nothing is completed.
-    fn nothing(alloc: Global) -> Self
-        ensures { said_in result ≡ [] }
+    /// The list again, emptied.
+    pub fn emptied(self) -> Items
+        ensures { result ≡ [] }
     {
-        Heard {
-            arrivals: Arrivals::new(alloc),
-            fault: None,
-        }
-    }
-}
-
-// A connection is fed, and what it says is read. After a fault it says nothing more.
-fn read<L: Ledger>(
-    alloc: Global,
-    conn: &mut Conn,
-    bytes: &[u8],
-    steps: &mut Steps<L>,
-) -> Result<Heard, OutOfMemory>
-    ensures heard { (own : PeerId) (o : List ℕ) → conn.old ≡ conn_after own o →
-        IfOk result (λ heard. (conn.new ≡ conn_after own (o ++ bytes.now))
-        × (said_in heard ≡ completed own o bytes.now)) }
-    ensures looks { (own : PeerId) (o : List ℕ) → conn.old ≡ conn_after own o →
-        Looks steps.old steps.new (kept_of conn.old) (kept_of conn.new) (length bytes.now) result }
-{
-    if conn.ignored() {
-        return Ok(Heard::nothing(alloc));
-    }
-    if conn.spent() {
-        return Ok(Heard::nothing(alloc));
-    }
-    let mut arrivals = Arrivals::new(alloc);
-    match conn.feed_counted(bytes, &mut arrivals, steps) {
-        Ok(()) => Ok(Heard {
-            arrivals,
-            fault: None,
-        }),
-        Err(FeedFault::Zmtp(fault)) => Ok(Heard {
-            arrivals,
-            fault: Some(fault),
-        }),
-        Err(FeedFault::OutOfMemory) => Err(OutOfMemory),
-    }
-}
-
-// The octets of an open connection are read, unless it is ignored.
-fn hear<L: Ledger>(
-    alloc: Global,
-    found: &mut Connection,
-    bytes: &[u8],
-    steps: &mut Steps<L>,
-) -> Result<Heard, OutOfMemory>
-    ensures live { (own : PeerId) (o : List ℕ) → found.old.conn ≡ Some (conn_after own o) →
-        IfOk result (λ heard. (found.new ≡ record found.old { conn = Some (conn_after own (o ++ bytes.now)) })
-        × (said_in heard ≡ completed own o bytes.now)) }
-    ensures ignored { found.old.conn ≡ None → OnOk result (found.new ≡ found.old) }
-    ensures looks { (own : PeerId) (o : List ℕ) → found.old.conn ≡ Some (conn_after own o) →
-        Looks steps.old steps.new (conn_row_octets found.old) (conn_row_octets found.new) (length bytes.now) result }
-    ensures no_looks { found.old.conn ≡ None → steps.new ≡ steps.old }
-{
-    match &mut found.conn {
-        Some(conn) => read(alloc, conn, bytes, steps),
-        None => Ok(Heard::nothing(alloc)),
+        let Heard { mut items, .. } = self;
+        items.clear();
+        items
     }
 }
 
@@ -100,14 +38,17 @@ impl Tables {
         self.clock = at.max(self.clock);
     }
 
-    /// The same, with a piece of a connection: what it completes of what that connection says.
+    /// The same, with a piece of a connection: what it completes of what that connection says, in a list that is
+    /// handed over empty.
     pub fn come_piece<L: Ledger>(
         &mut self,
         at: u64,
         conn: u64,
         bytes: &[u8],
+        mut items: Items,
         steps: &mut Steps<L>,
     ) -> Result<Heard, OutOfMemory>
+        requires { items ≡ [] }
         ensures came { (g : Config) (H : List Mark) (e : Entry) → e.at ≡ at → e.input ≡ input.Piece conn bytes.now
             → Holds g H self.old →
             IfOk result (λ heard. Holds g (Comes e ∷ H) self.new
@@ -118,9 +59,9 @@ impl Tables {
             Looks steps.old steps.new (kept g H) (kept g (Comes e ∷ H)) (length bytes.now) result }
     {
         self.clock = at.max(self.clock);
-        match self.conns.get_mut(&conn) {
-            Some(found) => hear(self.alloc, found, bytes, steps),
-            None => Ok(Heard::nothing(self.alloc)),
+        match self.conns.feed(conn, bytes, &mut items, steps) {
+            Ok(fault) => Ok(Heard { items, fault }),
+            Err(none) => Err(none),
         }
     }
 }

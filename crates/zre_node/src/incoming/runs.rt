@@ -2,11 +2,10 @@
 
 ghost use Rattle.std.specs.Prelude.{◌≡◌, ◌≢◌, List, ◌∷◌, [], ◌++◌, None, Some, OnOk, IfErr, OnErr, IfOk, IsSome};
 ghost use Rattle.std.specs.Prelude.{true, false, ℕ, if◌then◌else◌};
-ghost use Rattle.zre_msg.specs.declared.message.Message.{Message as MessageValue};
-ghost use Rattle.zre_values.specs.declared.peer_id.PeerId.{PeerId as PeerIdValue};
-ghost use Rattle.zre_peer.specs.Views.{view_of};
-ghost use Rattle.zre_peer.specs.Runs.{events_of, may_follow, fault_of, shown};
-ghost use Rattle.zre_peer.specs.Standing.{view_in};
+ghost use Rattle.std.specs.Result.{result_ok};
+ghost use Rattle.zre_msg.specs.Commands.{body_of};
+ghost use Rattle.zre_msg.specs.Lent.{message_of};
+ghost use Rattle.zre_msg.specs.Reading.{read_frames};
 ghost use Rattle.zre_journal.specs.declared.config.Config.{Config};
 ghost use Rattle.zre_journal.specs.Chronicle.{Mark};
 ghost use Rattle.zre_journal.specs.Connections.{runs};
@@ -14,77 +13,99 @@ ghost use Rattle.zre_journal.specs.Arrivals.{at_later};
 ghost use Rattle.zre_journal.specs.Pushes.{push as pushing};
 ghost use Rattle.zre_journal.specs.Peers.{life};
 ghost use Rattle.zre_msg.specs.declared.message.Body.TheVariants.{PingOk};
-ghost use Rattle.zre_node.specs.Stands.{Holds, Did, HasRun, HadRun, IsRunning, is_ping};
+ghost use Rattle.zre_node.specs.Said.{at_read};
+ghost use Rattle.zre_node.specs.Stands.{Holds, Did, is_ping};
 
 use crate::effects::Effects;
-use crate::peer::{Peer, Running};
 use crate::tables::Tables;
-use zre_msg::{Body, Message};
-use zre_peer::{Cause, Events, RunFault};
-use zre_values::OutOfMemory;
+use zre_msg::{Body, Command, LentMessage, Message, ReadFault};
+use zre_peer::{Cause, RunFault, lent};
+use zre_values::{Frames, OutOfMemory};
 
-// A run takes one more message.
-fn go_on(running: &mut Running, message: Message, events: &mut Events) -> Result<(), RunFault>
-    ensures ok { (c : ℕ) (id : PeerIdValue) (ms : List MessageValue) → IsRunning c id ms running.old →
-        OnOk result ((may_follow ms message ≡ true) × IsRunning c id (ms ++ message ∷ []) running.new
-        × (events.new ≡ events.old ++ events_of id (view_of ms) message.body)) }
-    ensures refused { (c : ℕ) (id : PeerIdValue) (ms : List MessageValue) → IsRunning c id ms running.old →
-        IfErr result (λ e. e ≢ RunFault.OutOfMemory → (may_follow ms message ≡ false) × (e ≡ fault_of ms message)
-        × (running.new.conn ≡ c) × (view_in running.new.run ≡ shown ms) × (events.new ≡ events.old)) }
+fn is_ping(command: &Command<'_>) -> bool
+    ensures { (more : List (List ℕ)) → result ≡ is_ping (body_of command.now more) }
 {
-    if running.run.spent() {
-        return Err(RunFault::OutOfMemory);
-    }
-    running.run.take(message, events)
-}
-
-// The run of a peer takes one more message, which shows that the peer is there.
-fn take(peer: &mut Peer, now: u64, message: Message, events: &mut Events) -> Result<(), RunFault>
-    ensures ok { (c : ℕ) (id : PeerIdValue) (ms : List MessageValue) → HasRun (Some c) id ms peer.old.run →
-        OnOk result ((may_follow ms message ≡ true) × HasRun (Some c) id (ms ++ message ∷ []) peer.new.run
-        × (peer.new.active ≡ now) × (events.new ≡ events.old ++ events_of id (view_of ms) message.body)) }
-    ensures refused { (c : ℕ) (id : PeerIdValue) (ms : List MessageValue) → HasRun (Some c) id ms peer.old.run →
-        IfErr result (λ e. e ≢ RunFault.OutOfMemory → (may_follow ms message ≡ false) × (e ≡ fault_of ms message)
-        × HadRun (Some c) ms peer.new.run × (events.new ≡ events.old)) }
-    ensures id { peer.new.id ≡ peer.old.id }
-    ensures link { peer.new.link ≡ peer.old.link }
-{
-    peer.active = now;
-    match &mut peer.run {
-        Some(running) => go_on(running, message, events),
-        None => Err(RunFault::OutOfMemory),
-    }
-}
-
-fn is_ping(body: &Body) -> bool
-    ensures { result ≡ is_ping body.now }
-{
-    matches!(body, Body::Ping)
+    matches!(command, Command::Ping)
 }
 
 impl Tables {
-    /// A message after the first, on the connection that runs the peer of this link.
+    /// A message after the first, which lies in its frames, on the connection that runs the peer of this link.
     pub fn later(
         &mut self,
         out: &mut Effects,
         conn: u64,
         link: u64,
-        message: Message,
+        lent: &LentMessage<'_>,
     ) -> Result<(), OutOfMemory>
         ensures { (g : Config) (H : List Mark) → Holds g H self.old → runs conn H ≡ Some link →
-            OnOk result (Did g (at_later g conn link message H) H self.new out.old out.new) }
+            OnOk result (Did g (at_later g conn link (message_of lent.now) H) H self.new out.old out.new) }
     {
-        let ping = is_ping(&message.body);
-        let Some(peer) = self.peers.get_mut(&link) else {
-            return Ok(());
-        };
-        match take(peer, self.clock, message, &mut out.events) {
+        let ping = is_ping(&lent.command);
+        match self.peers.take(link, self.clock, lent, &mut out.events) {
             Ok(()) => self.answer_ping(out, link, ping),
             Err(RunFault::SecondHello) => self.end(out, link, Cause::Hello),
             Err(RunFault::Broken { due, got }) => self.end(out, link, Cause::Order { due, got }),
             Err(RunFault::Limit) => self.end(out, link, Cause::Limit),
             Err(RunFault::NotHello) => Err(OutOfMemory),
             Err(RunFault::OutOfMemory) => Err(OutOfMemory),
+        }
+    }
+
+    /// The same of a message that stands by itself.
+    #[inline(never)]
+    pub fn later_whole(
+        &mut self,
+        out: &mut Effects,
+        conn: u64,
+        link: u64,
+        message: &Message,
+    ) -> Result<(), OutOfMemory>
+        ensures { (g : Config) (H : List Mark) → Holds g H self.old → runs conn H ≡ Some link →
+            OnOk result (Did g (at_later g conn link message.now H) H self.new out.old out.new) }
+    {
+        match lent(message) {
+            Some(lent) => self.later(out, conn, link, &lent),
+            None => self.end(out, link, Cause::Hello),
+        }
+    }
+
+    /// The message that the frames mean, if they mean one, on the connection that runs the peer of this link.
+    pub fn later_in(
+        &mut self,
+        out: &mut Effects,
+        conn: u64,
+        link: u64,
+        frames: &Frames,
+    ) -> Result<(), OutOfMemory>
+        ensures { (g : Config) (H : List Mark) → Holds g H self.old → runs conn H ≡ Some link →
+            OnOk result (Did g (at_read g conn link (result_ok (read_frames frames.now)) H) H self.new out.old
+            out.new) }
+    {
+        match Message::see(frames) {
+            Ok(Some(lent)) => self.later(out, conn, link, &lent),
+            Ok(None) => self.later_hello(out, conn, link, frames),
+            Err(ReadFault::Bad(_)) => Ok(()),
+            Err(ReadFault::OutOfMemory) => Err(OutOfMemory),
+        }
+    }
+
+    // The same of frames that begin as HELLO does.
+    #[inline(never)]
+    fn later_hello(
+        &mut self,
+        out: &mut Effects,
+        conn: u64,
+        link: u64,
+        frames: &Frames,
+    ) -> Result<(), OutOfMemory>
+        ensures { (g : Config) (H : List Mark) → Holds g H self.old → runs conn H ≡ Some link →
+            OnOk result (Did g (at_read g conn link (result_ok (read_frames frames.now)) H) H self.new out.old
+            out.new) }
+    {
+        match Message::read(self.alloc, frames) {
+            Ok(message) => self.later_whole(out, conn, link, &message),
+            Err(ReadFault::Bad(_)) => Ok(()),
+            Err(ReadFault::OutOfMemory) => Err(OutOfMemory),
         }
     }
 

@@ -13,9 +13,9 @@ ghost use Rattle.zre_node.specs.Journal.{Took};
 ghost use Rattle.zre_node.specs.Stands.{Holds, Did};
 
 use crate::effects::Effects;
-use crate::peers::broadcasts::members;
-use crate::tables::{Tables, link_of};
+use crate::tables::Tables;
 use zre_group::JoinFault;
+use zre_link::Tail;
 use zre_msg::{Body, Message};
 use zre_outside::Command;
 use zre_peer::{Event, RefuseWhy};
@@ -68,10 +68,10 @@ impl Tables {
             MatchOption result ((v : Life) → life_of id K ≡ Some v → is_entered K v ≡ false)
             (λ l. (v : Life) × (life_of id K ≡ Some v) × (is_entered K v ≡ true) × (v.link ≡ l)) }
     {
-        let Some(link) = link_of(&self.peers, id) else {
+        let Some(link) = self.peers.link_of(id) else {
             return None;
         };
-        let Some(peer) = self.peers.get(&link) else {
+        let Some(peer) = self.peers.get(link) else {
             return None;
         };
         if !peer.is_entered() {
@@ -103,7 +103,7 @@ impl Tables {
         self.push(out, link, &mut message.body)
     }
 
-    // Content is sent to the peers that are in a group.
+    // Content is sent to the peers that are in a group. It's spelled once for all of them.
     fn shout(
         &mut self,
         out: &mut Effects,
@@ -116,15 +116,19 @@ impl Tables {
         if group.len() > GROUP_OCTETS {
             return decline(out, RefuseWhy::TooBig);
         }
-        let links = members(self.alloc, &self.peers, group.as_slice())?;
-        let mut message = Message {
+        let links = self.peers.members(group.as_slice())?;
+        let message = Message {
             sequence: 0,
             body: Body::Shout { group, content },
         };
         if message.is_big() {
             return decline(out, RefuseWhy::TooBig);
         }
-        self.push_all(out, links.as_slice(), &mut message.body)
+        let Body::Shout { group, content } = &message.body else {
+            unreachable!()
+        };
+        let tail = Tail::of(self.alloc, content)?;
+        self.shout_all(out, links.as_slice(), group.as_slice(), &tail)
     }
 
     // What a command brings, but for the one that stops the node.

@@ -3,19 +3,15 @@
 ghost use Rattle.std.specs.Prelude.{◌≡◌, ℕ, length, List, [], ◌∷◌, ◌++◌, true, false, None, OnOk, IfOk, IfSome};
 ghost use Rattle.std.specs.Prelude.{IsSome, if◌then◌else◌, nat_eq, ◌||◌};
 ghost use Rattle.std.specs.List.{list_any};
-ghost use Rattle.zre_values.specs.declared.peer_id.PeerId.{PeerId as PeerIdValue};
 ghost use Rattle.zre_outside.specs.declared.entry.Entry.{Entry as EntryValue};
 ghost use Rattle.zre_outside.specs.declared.entry.Input.TheVariants as given;
 ghost use Rattle.zre_zmtp.specs.Looks.{Looks};
-ghost use Rattle.zre_link.specs.Heard.{kept_of, reply_fault};
-ghost use Rattle.zre_link.specs.Link.{link_after, link_answering, slow_in};
-ghost use Rattle.zre_link.specs.Text.{Member};
 ghost use Rattle.zre_journal.specs.declared.config.Config.{Config};
 ghost use Rattle.zre_journal.specs.Chronicle.{Mark, Comes, after};
 ghost use Rattle.zre_journal.specs.Peers.{life};
 ghost use Rattle.zre_journal.specs.Happens.{at_input, with_entry};
 ghost use Rattle.zre_journal.specs.Held.{kept};
-ghost use Rattle.zre_journal.specs.LinkEntries.{at_linked, at_reply, at_unlinked, at_took, cause_by_reply, end_by};
+ghost use Rattle.zre_journal.specs.LinkEntries.{at_linked, at_reply, at_unlinked, at_took, end_by};
 ghost use Rattle.zre_node.specs.Journal.{Took};
 ghost use Rattle.zre_node.specs.Links.{is_about_link, Notes, IsReplied};
 ghost use Rattle.zre_node.specs.Stands.{Holds, Did};
@@ -23,7 +19,6 @@ ghost use Rattle.zre_node.specs.Stands.{Holds, Did};
 use crate::effects::Effects;
 use crate::tables::Tables;
 use std::sync::ledger::Ledger;
-use zre_link::{Link, ReplyFault};
 use zre_outside::Input;
 use zre_peer::Cause;
 use zre_values::OutOfMemory;
@@ -41,40 +36,13 @@ fn note(out: &mut Effects, input: &Input) -> Result<(), OutOfMemory>
     }
 }
 
-// A reply on a link: why it ends its peer, if it does. Before the link stands, a reply is dropped.
-fn hear_reply<L: Ledger>(
-    link: &mut Link,
-    bytes: &[u8],
-    steps: &mut Steps<L>,
-) -> Result<Option<Cause>, OutOfMemory>
-    ensures standing { (own : PeerIdValue) (line : List Member) (o : List ℕ) (n : ℕ)
-        → link.old ≡ link_after own line true o n →
-        IfOk result (λ why. (link.new ≡ link_answering own line true o n bytes.now)
-        × (why ≡ cause_by_reply (slow_in own line o n bytes.now) (reply_fault (o ++ bytes.now)))) }
-    ensures waiting { link.old.linked ≡ false → IfOk result (λ why. (link.new ≡ link.old) × (why ≡ None)) }
-    ensures looks { Looks steps.old steps.new (kept_of link.old.replies) (kept_of link.new.replies)
-        (length bytes.now) result }
-{
-    if !link.is_linked() {
-        return Ok(None);
-    }
-    match link.reply_counted(bytes, steps) {
-        Ok(()) => Ok(None),
-        Err(ReplyFault::Zmtp(fault)) => Ok(Some(Cause::Reply(fault))),
-        Err(ReplyFault::Slow { unsent, size }) => Ok(Some(Cause::Slow { unsent, size })),
-        Err(ReplyFault::OutOfMemory) => Err(OutOfMemory),
-    }
-}
-
 impl Tables {
     // The link of a known peer stands.
     fn linked(&mut self, link: u64)
         ensures { (g : Config) (K : List Mark) → Holds g K self.old →
             Holds g (after (at_linked g link (life link K) K) K) self.new }
     {
-        if let Some(peer) = self.peers.get_mut(&link) {
-            peer.link.linked();
-        }
+        self.peers.linked(link);
     }
 
     // So many octets of the link of a known peer have gone out, or as many as might.
@@ -82,9 +50,7 @@ impl Tables {
         ensures { (g : Config) (K : List Mark) → Holds g K self.old →
             Holds g (after (at_took g link count (life link K) K) K) self.new }
     {
-        if let Some(peer) = self.peers.get_mut(&link) {
-            peer.link.took(count);
-        }
+        self.peers.took(link, count);
     }
 
     // The link of a known peer broke, and the peer ends.
@@ -92,7 +58,7 @@ impl Tables {
         ensures { (g : Config) (K : List Mark) → Holds g K self.old →
             OnOk result (Did g (at_unlinked g link (life link K)) K self.new out.old out.new) }
     {
-        if !self.peers.contains_key(&link) {
+        if !self.peers.contains(link) {
             return Ok(());
         }
         self.end(out, link, Cause::Link)
@@ -114,10 +80,7 @@ impl Tables {
             Looks steps.old steps.new (kept g H) (kept g (Comes e ∷ H)) (length bytes.now) result }
     {
         self.clock = at.max(self.clock);
-        match self.peers.get_mut(&link) {
-            Some(peer) => hear_reply(&mut peer.link, bytes, steps),
-            None => Ok(None),
-        }
+        self.peers.reply(link, bytes, steps)
     }
 
     // What an entry about a link brings, but for replies.

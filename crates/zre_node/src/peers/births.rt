@@ -1,8 +1,6 @@
 //! Peers are born, and their beacons are heard.
 
 ghost use Rattle.std.specs.Prelude.{◌≡◌, List, ℕ, ◌∷◌, [], OnOk, IfOk, IsSome, false, length};
-ghost use Rattle.std.specs.Ordering.{nat_cmp};
-ghost use Rattle.std.specs.BTreeMap.{insert_entry};
 ghost use Rattle.zre_journal.specs.declared.config.Config.{Config};
 ghost use Rattle.zre_journal.specs.Chronicle.{Mark, Ends, HearsBeacon};
 ghost use Rattle.zre_journal.specs.Peers.{life};
@@ -16,10 +14,8 @@ ghost use Rattle.zre_link.specs.Text.{Says};
 ghost use Rattle.zre_node.specs.Stands.{Keeps, Holds, Did};
 
 use crate::effects::Effects;
-use crate::peer::Peer;
-use crate::tables::{Tables, link_of};
+use crate::tables::Tables;
 use std::alloc::Global;
-use std::collections::BTreeMap;
 use zre_beacon::Beacon;
 use zre_link::{Link, PushFault};
 use zre_msg::{Body, Message};
@@ -27,14 +23,6 @@ use zre_outside::Act;
 use zre_peer::Cause;
 use zre_values::limits::PEERS;
 use zre_values::{Endpoint, Frames, Octets, OutOfMemory, Pairs, PeerId};
-
-// A new peer is listed.
-fn list(peers: &mut BTreeMap<u64, Peer>, link: u64, peer: Peer) -> Result<(), OutOfMemory>
-    ensures { OnOk result (peers.new.entries ≡ insert_entry nat_cmp peers.old.entries link peer) }
-{
-    peers.insert(link, peer)?;
-    Ok(())
-}
 
 // A link on which this body is put. HELLO is far from the limit of a link.
 fn link_with(alloc: Global, own: PeerId, body: &mut Body) -> Result<Link, OutOfMemory>
@@ -97,14 +85,9 @@ impl Tables {
         let Some(births) = self.births.checked_add(1) else {
             return Err(OutOfMemory);
         };
-        let peer = Peer {
-            id,
-            active: self.clock,
-            run: None,
-            link: self.greeted_link()?,
-        };
+        let link = self.greeted_link()?;
         self.births = births;
-        list(&mut self.peers, births, peer)?;
+        self.peers.insert(births, id, link, self.clock)?;
         out.pushed.push(births)?;
         out.act(Act::Connect { link: births, to })
     }
@@ -114,14 +97,12 @@ impl Tables {
         ensures { (g : Config) (H : List Mark) → Holds g H self.old → IsSome (life link H) →
             Holds g (HearsBeacon link ∷ H) self.new }
     {
-        if let Some(peer) = self.peers.get_mut(&link) {
-            peer.active = self.clock;
-        }
+        self.peers.touch(link, self.clock);
     }
 
     // Whether a beacon of an unknown peer makes it known.
     fn is_welcome(&self, id: PeerId, port: u16) -> bool
-        ensures { result ≡ welcome self.now.config id port (length self.now.peers.entries) }
+        ensures { result ≡ welcome self.now.config id port (length self.now.peers) }
     {
         port != 0 && id != self.config.id && self.peers.len() < PEERS
     }
@@ -139,7 +120,7 @@ impl Tables {
         let Some(Beacon { id, port }) = Beacon::read(bytes) else {
             return Ok(());
         };
-        match link_of(&self.peers, id) {
+        match self.peers.link_of(id) {
             Some(link) => {
                 if port == 0 {
                     return self.end(out, link, Cause::Beacon);

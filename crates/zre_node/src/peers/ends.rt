@@ -1,35 +1,16 @@
 //! Peers end.
 
 ghost use Rattle.std.specs.Prelude.{◌≡◌, List, ℕ, ◌∷◌, [], None, OnOk, IsSome, Some, map};
-ghost use Rattle.std.specs.Ordering.{nat_cmp};
-ghost use Rattle.std.specs.BTreeMap.{is_at};
-ghost use Rattle.std.specs.Map.{lookup, set_value};
 ghost use Rattle.zre_journal.specs.declared.config.Config.{Config};
 ghost use Rattle.zre_journal.specs.Chronicle.{Mark, Ends};
 ghost use Rattle.zre_journal.specs.Peers.{life};
 ghost use Rattle.zre_node.specs.Stands.{Holds, Nearly, Parted, Did, AreKnown};
-ghost use Rattle.zre_node.specs.declared.connection.Connection.{Connection as ConnectionValue};
 
-use crate::connection::Connection;
 use crate::effects::Effects;
-use crate::peer::Peer;
 use crate::tables::Tables;
-use std::collections::BTreeMap;
 use zre_peer::Cause;
+use zre_tables::Peer;
 use zre_values::OutOfMemory;
-
-/// The connection is ignored from now on, if it is open.
-pub fn ignore(conns: &mut BTreeMap<u64, Connection>, conn: u64, now: u64)
-    ensures found { (x : ConnectionValue) → lookup (is_at (nat_cmp conn)) conns.old.entries ≡ Some x →
-        conns.new.entries ≡ set_value (is_at (nat_cmp conn)) conns.old.entries
-        (record x { since = now; run = None; conn = None }) }
-{
-    if let Some(found) = conns.get_mut(&conn) {
-        found.since = now;
-        found.run = None;
-        found.conn = None;
-    }
-}
 
 impl Tables {
     // What is left to do where a peer that has ended was taken out of its table.
@@ -44,7 +25,7 @@ impl Tables {
             OnOk result (Did g (Ends link cause ∷ []) H self.new out.old out.new) }
     {
         if let Some(running) = &peer.run {
-            ignore(&mut self.conns, running.conn, self.clock);
+            self.conns.ignore(running.conn, self.clock);
             out.exit(self.alloc, peer.id, &running.run, cause)?;
         }
         out.close_link(link, cause)
@@ -57,7 +38,7 @@ impl Tables {
         ensures { (g : Config) (H : List Mark) → Nearly g H link self.old → IsSome (life link H) →
             OnOk result (Did g (Ends link cause ∷ []) H self.new out.old out.new) }
     {
-        let Some(peer) = self.peers.remove(&link) else {
+        let Some(peer) = self.peers.remove(link) else {
             return Ok(());
         };
         self.part(out, link, &peer, cause)

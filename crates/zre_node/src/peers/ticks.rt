@@ -1,6 +1,6 @@
 //! Time goes by: peers become evasive or expire, and connections that run no peer are closed.
 
-ghost use Rattle.std.specs.Prelude.{◌≡◌, ℕ, ◌-◌, List, ◌∷◌, [], OnOk, IfOk, map, nat_le};
+ghost use Rattle.std.specs.Prelude.{◌≡◌, ℕ, List, ◌∷◌, [], OnOk, map};
 ghost use Rattle.zre_outside.specs.declared.entry.Entry.{Entry as EntryValue};
 ghost use Rattle.zre_outside.specs.declared.entry.Input.TheVariants as given;
 ghost use Rattle.zre_peer.specs.declared.causes.CloseWhy.TheVariants as closing;
@@ -9,103 +9,15 @@ ghost use Rattle.zre_journal.specs.Chronicle.{Mark, SendsBeacon, Closes, IsEvasi
 ghost use Rattle.zre_journal.specs.Ticks.{at_tick};
 ghost use Rattle.zre_node.specs.Journal.{Took};
 ghost use Rattle.zre_node.specs.Stands.{Holds, Did};
-ghost use Rattle.zre_node.specs.Ticks.{probes, IsEntered, AreEntered, AreIdle, numbers_of, row_silent, row_evasive};
-ghost use Rattle.zre_node.specs.Ticks.{row_stale};
+ghost use Rattle.zre_node.specs.Ticks.{probes, IsEntered, AreEntered, AreIdle};
 
-use crate::connection::Connection;
 use crate::effects::{Effects, name_of};
-use crate::peer::Peer;
 use crate::tables::Tables;
-use std::alloc::Global;
-use std::collections::BTreeMap;
 use zre_beacon::Beacon;
 use zre_msg::Body;
 use zre_outside::Act;
 use zre_peer::{Cause, CloseWhy, Event};
 use zre_values::OutOfMemory;
-
-// Whether so much time has gone by since then.
-fn has_passed(limit: u64, now: u64, since: u64) -> bool
-    ensures { result ≡ nat_le limit (now - since) }
-{
-    now.saturating_sub(since) >= limit
-}
-
-// Whether a peer was silent for so long.
-fn is_silent(peer: &Peer, limit: u64, now: u64) -> bool
-    ensures { result ≡ row_silent limit now peer.now }
-{
-    has_passed(limit, now, peer.active)
-}
-
-// Whether an entered peer was silent for so long, but not so long that it has expired.
-fn is_evasive(peer: &Peer, evasive: u64, expired: u64, now: u64) -> bool
-    ensures { result ≡ row_evasive evasive expired now peer.now }
-{
-    peer.run.is_some() && !is_silent(peer, expired, now) && is_silent(peer, evasive, now)
-}
-
-// Whether a connection runs no peer, and has rested for so long.
-fn is_stale(conn: &Connection, limit: u64, now: u64) -> bool
-    ensures { result ≡ row_stale limit now conn.now }
-{
-    conn.run.is_none() && has_passed(limit, now, conn.since)
-}
-
-// The links of the peers that were silent for so long.
-fn silent_links(
-    alloc: Global,
-    peers: &BTreeMap<u64, Peer>,
-    limit: u64,
-    now: u64,
-) -> Result<Vec<u64>, OutOfMemory>
-    ensures { IfOk result (λ found. found.items ≡ numbers_of (row_silent limit now) peers.now.entries) }
-{
-    let mut found = Vec::new(alloc);
-    for (link, peer) in peers {
-        if is_silent(peer, limit, now) {
-            found.push(*link)?;
-        }
-    }
-    Ok(found)
-}
-
-// The links of the entered peers that are evasive now.
-fn evasive_links(
-    alloc: Global,
-    peers: &BTreeMap<u64, Peer>,
-    evasive: u64,
-    expired: u64,
-    now: u64,
-) -> Result<Vec<u64>, OutOfMemory>
-    ensures { IfOk result (λ found. found.items ≡ numbers_of (row_evasive evasive expired now) peers.now.entries) }
-{
-    let mut found = Vec::new(alloc);
-    for (link, peer) in peers {
-        if is_evasive(peer, evasive, expired, now) {
-            found.push(*link)?;
-        }
-    }
-    Ok(found)
-}
-
-// The numbers of the connections that run no peer, and have rested for so long.
-fn stale_numbers(
-    alloc: Global,
-    conns: &BTreeMap<u64, Connection>,
-    limit: u64,
-    now: u64,
-) -> Result<Vec<u64>, OutOfMemory>
-    ensures { IfOk result (λ found. found.items ≡ numbers_of (row_stale limit now) conns.now.entries) }
-{
-    let mut found = Vec::new(alloc);
-    for (number, conn) in conns {
-        if is_stale(conn, limit, now) {
-            found.push(*number)?;
-        }
-    }
-    Ok(found)
-}
 
 impl Tables {
     // The user is told that an entered peer is evasive.
@@ -113,7 +25,7 @@ impl Tables {
         ensures { (g : Config) (K : List Mark) → Holds g K self.now → IsEntered link K →
             OnOk result (Did g (IsEvasive link ∷ []) K self.now out.old out.new) }
     {
-        let Some(peer) = self.peers.get(&link) else {
+        let Some(peer) = self.peers.get(link) else {
             return Ok(());
         };
         let Some(running) = &peer.run else {
@@ -175,12 +87,12 @@ impl Tables {
             OnOk result (Did g (at_tick g K) K self.new out.old out.new) }
     {
         let (evasive, expired, now) = (self.config.evasive, self.config.expired, self.clock);
-        let silent = silent_links(self.alloc, &self.peers, expired, now)?;
-        let evasive_ones = evasive_links(self.alloc, &self.peers, evasive, expired, now)?;
-        let stale = stale_numbers(self.alloc, &self.conns, expired, now)?;
-        self.end_all(out, &silent, Cause::Expired)?;
-        self.probe_all(out, &evasive_ones)?;
-        self.close_all(out, &stale)?;
+        let silent = self.peers.silent(expired, now)?;
+        let evasive_ones = self.peers.evasive(evasive, expired, now)?;
+        let stale = self.conns.stale(expired, now)?;
+        self.end_all(out, silent.as_slice(), Cause::Expired)?;
+        self.probe_all(out, evasive_ones.as_slice())?;
+        self.close_all(out, stale.as_slice())?;
         self.call(out)
     }
 

@@ -341,6 +341,7 @@ fn name_of(status: Status) -> &'static [u8] {
         Status::NoThread => b"NoThread",
         Status::TooLong => b"TooLong",
         Status::OutOfMemory => b"OutOfMemory",
+        Status::DeskFault => b"DeskFault",
     }
 }
 

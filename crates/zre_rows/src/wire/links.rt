@@ -6,7 +6,7 @@ use crate::trouble::Trouble;
 use crate::wire::texts::push_fault;
 use crate::words::Words;
 use std::alloc::Global;
-use zre_link::{Link, PushFault, ReplyFault};
+use zre_link::{Link, PushFault, ReplyFault, Tail};
 use zre_msg::{Body, Message};
 use zre_values::{Frames, Octets};
 use zre_zmtp::FeedFault;
@@ -53,6 +53,15 @@ fn push(link: &mut Link, message: &mut Message, answer: &mut Text) {
     }
 }
 
+// Puts a SHOUT to a group, whose content is that of the tail.
+fn shout(link: &mut Link, group: &[u8], tail: &Tail, answer: &mut Text) {
+    if group.len() < 256 {
+        push_pushed(answer, link.push_shout(group, tail));
+    } else {
+        answer.fail(Trouble::BadArgument);
+    }
+}
+
 // Takes what may go out, at most so many octets at a time.
 fn drain(link: &mut Link, most: usize, out: &mut Text) {
     for _ in 0..1024 {
@@ -82,7 +91,7 @@ fn whisper_of(alloc: Global, frame: Octets) -> Message {
 
 impl Subject for Links {
     fn step(&mut self, words: &mut Words<'_>, answer: &mut Text) {
-        steps!(self, words, answer; push, whisper, linked, reply, talk, counts)
+        steps!(self, words, answer; push, whisper, shout, linked, reply, took, talk, counts)
     }
 }
 
@@ -120,6 +129,20 @@ impl Links {
             }
             Err(_) => answer.fail(Trouble::OutOfMemory),
         }
+    }
+
+    // `shout HEX HEX ..`: puts a SHOUT to this group with these frames of content.
+    fn shout(&mut self, words: &mut Words<'_>, answer: &mut Text) {
+        let group = words.octets();
+        match Tail::of(words.alloc(), &words.frames()) {
+            Ok(tail) => shout(&mut self.link, group.as_slice(), &tail, answer),
+            Err(_) => answer.fail(Trouble::OutOfMemory),
+        }
+    }
+
+    // `took COUNT`: so many octets have gone out.
+    fn took(&mut self, words: &mut Words<'_>, _answer: &mut Text) {
+        self.link.took(words.number());
     }
 
     // `linked`

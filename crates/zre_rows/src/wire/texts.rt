@@ -2,32 +2,16 @@
 
 use crate::text::Text;
 use crate::trouble::Trouble;
+use zre_peer::zmtp_name;
 use zre_values::Keys;
-use zre_zmtp::{FeedFault, ZmtpFault, ZmtpWhy};
-
-fn why_text(why: ZmtpWhy) -> &'static [u8] {
-    match why {
-        ZmtpWhy::Signature => b"Signature",
-        ZmtpWhy::OldVersion => b"OldVersion",
-        ZmtpWhy::Mechanism => b"Mechanism",
-        ZmtpWhy::Flags => b"Flags",
-        ZmtpWhy::CommandName => b"CommandName",
-        ZmtpWhy::Metadata => b"Metadata",
-        ZmtpWhy::SocketType => b"SocketType",
-        ZmtpWhy::Identity => b"Identity",
-        ZmtpWhy::PeerError => b"PeerError",
-        ZmtpWhy::Order => b"Order",
-        ZmtpWhy::TooLarge => b"TooLarge",
-        ZmtpWhy::TooManyFrames => b"TooManyFrames",
-    }
-}
+use zre_zmtp::{FeedFault, ZmtpFault};
 
 /// Appends the line `fault WHY PLACE`. OutOfMemory is no answer.
 pub fn push_fault(answer: &mut Text, fault: FeedFault) {
     match fault {
         FeedFault::Zmtp(ZmtpFault { why, place }) => {
             answer.put(b"fault ");
-            answer.count(why_text(why), place);
+            answer.count(zmtp_name(why), place);
             answer.end();
         }
         FeedFault::OutOfMemory => answer.fail(Trouble::OutOfMemory),

@@ -6,7 +6,7 @@ use Rattle.zre_capture.specs.Lines.{IsEntry}
 use Rattle.zre_commands.specs.Settings.{as_settings}
 use Rattle.zre_commands.specs.declared.pump.status.Status.{Status}
 use Rattle.zre_commands.specs.declared.pump.status.Status.TheVariants.{Done, OutOfMemory}
-use Rattle.zre_commands.proofs.Replayed.{written}
+use Rattle.zre_records.proofs.Replayed.{written}
 use Rattle.zre_chat.specs.Chat.{IsSpared}
 use Rattle.zre_chat.proofs.Rows.{memory_isnt}
 use Rattle.zre_app.proofs.laws.kept_captures_are_replayed.Goals as goal
@@ -17,12 +17,12 @@ has_memory status rose spared = ⊎_elim (λ (is : status ≡ Done) (e : status 
 
 pub returns : goal.returns
 returns c = λ g start file limit s t status chat whole kept short. (
-    let es = chat.entries in
-    let values = subst (All IsEntry) (ap (λ l. es ++ l) (chat.all_taken kept) ∙ append-nil es) chat.are_values in
-    let settings = chat.are_settings (has_memory status (Rose s.record_faults t.record_faults) kept) in
+    let es = chat.lived.entries in
+    let values = subst (All IsEntry) (ap (λ l. es ++ l) (chat.lived.all_taken kept) ∙ append-nil es) chat.lived.are_values in
+    let settings = chat.captured.are_settings (has_memory status (Rose s.record_faults t.record_faults) kept) in
     let r = written (as_settings g) es settings values short in record {
       entries = es;
       is_good = r.is_good;
-      is_written = subst (Appends s.written t.written) (sym r.is_written) (chat.whole whole);
-      is_kept = chat.held file refl kept;
+      is_written = subst (Appends s.written t.written) (sym r.is_written) (chat.wrote.whole whole);
+      is_kept = chat.captured.held file refl kept;
     })

@@ -1,5 +1,5 @@
 use Rattle.std.proofs.Common.{◌≡◌, length, take, sum_by}
-use Rattle.zre_node.specs.Holding.{capped}
+use Rattle.zre_tables.specs.Holding.{capped}
 use Rattle.zre_node.proofs.holding.own_groups_octets.Given as goal
 
 -- of the groups so far

@@ -1,6 +1,6 @@
 use Rattle.std.proofs.Common.{◌≡◌, take}
 use Rattle.zre_journal.specs.Held.{header_octets}
-use Rattle.zre_node.specs.Holding.{capped}
+use Rattle.zre_tables.specs.Holding.{capped}
 use Rattle.zre_node.proofs.holding.pairs_octets.Given as goal
 
 -- of the headers so far

@@ -1,11 +1,10 @@
-use Rattle.std.proofs.Common.{◌≡◌, ◌++◌, [], length, sym, ap, ◌∙◌, refl}
+use Rattle.std.proofs.Common.{◌++◌, length, sym, ap, ◌∙◌, refl}
 use Rattle.std.specs.Prelude.{option_to_list}
 use Rattle.std.proofs.lemmas.List.{append-nil}
 use Rattle.std.proofs.lemmas.Result.{err_from_is_err_and}
-use Rattle.zre_zmtp.specs.declared.partial.Partial.{Partial}
 use Rattle.zre_zmtp.specs.Stream.{Before}
 use Rattle.zre_zmtp.specs.Shown.{before_of}
-use Rattle.zre_zmtp.proofs.Framed.{is_framed, left-nothing}
+use Rattle.zre_zmtp.proofs.Framed.{is_framed, left-none}
 use Rattle.zre_zmtp.proofs.Looked.{frame_kept}
 use Rattle.zre_zmtp.proofs.Turning.{frame_taken, frame_refused}
 use Rattle.zre_zmtp.proofs.turns.take_frame.Goals as goal
@@ -21,38 +20,26 @@ pub returns-in_ok-push-clause-ok : goal.returns-in_ok-push-clause-ok
 returns-in_ok-push-clause-ok c =
     let b = before_of c.args.progress.now in
     let e = c.in_ok-item.ensures in
-    let none : c.finish_frame.new.progress.partial.head ≡ [] = ap (λ (p : Partial). p.head) e.partial ∙ c.requires.no_head in
-    let none' : c.finish_frame.new.progress.partial.body ≡ [] = ap (λ (p : Partial). p.body) e.partial ∙ c.requires.no_body in
     λ fine. frame_taken c.args.want.now b c.args.header c.args.head.now c.args.body (length c.args.head.now) c.args.out.now c.push.new.self _ _
-    (is_framed c.args.want.now b c.args.header c.args.head.now c.args.body c.requires.frame c.requires.header c.requires.within c.requires.whole fine)
-    e.faultless refl
+    (is_framed c.args.want.now b c.args.header c.args.head.now c.args.body c.requires.frame c.requires.header c.requires.within c.requires.whole fine) e.faultless refl
     (c.in_ok-push.ensures.ok ∙ ap (λ i. c.args.out.now ++ option_to_list i) (sym c.in-Some.is ∙ e.says)) e.after
-    (left-nothing c.finish_frame.new.progress.expected c.finish_frame.new.progress.greeting _ _ (ap (λ (x : Before). x.expected) e.after) none none')
+    (left-none c.args.progress.now c.finish_frame.new.progress c.requires.no_head c.requires.no_body e.partial (ap (λ (x : Before). x.expected) e.after))
 
 pub returns-in_default-clause-ok : goal.returns-in_default-clause-ok
 returns-in_default-clause-ok c =
     let b = before_of c.args.progress.now in
     let e = c.in_ok-item.ensures in
-    let none : c.finish_frame.new.progress.partial.head ≡ [] = ap (λ (p : Partial). p.head) e.partial ∙ c.requires.no_head in
-    let none' : c.finish_frame.new.progress.partial.body ≡ [] = ap (λ (p : Partial). p.body) e.partial ∙ c.requires.no_body in
     λ fine. frame_taken c.args.want.now b c.args.header c.args.head.now c.args.body (length c.args.head.now) c.args.out.now c.args.out.now _ _
-    (is_framed c.args.want.now b c.args.header c.args.head.now c.args.body c.requires.frame c.requires.header c.requires.within c.requires.whole fine)
-    e.faultless refl
+    (is_framed c.args.want.now b c.args.header c.args.head.now c.args.body c.requires.frame c.requires.header c.requires.within c.requires.whole fine) e.faultless refl
     (sym (append-nil c.args.out.now) ∙ ap (λ i. c.args.out.now ++ option_to_list i) (sym c.in_default.is ∙ e.says)) e.after
-    (left-nothing c.finish_frame.new.progress.expected c.finish_frame.new.progress.greeting _ _ (ap (λ (x : Before). x.expected) e.after) none none')
+    (left-none c.args.progress.now c.finish_frame.new.progress c.requires.no_head c.requires.no_body e.partial (ap (λ (x : Before). x.expected) e.after))
 
 pub returns-in_ok-push-clause-kept : goal.returns-in_ok-push-clause-kept
 returns-in_ok-push-clause-kept c =
     let e = c.in_ok-item.ensures in
-    let now = c.finish_frame.new.progress in
-    let none : now.partial.head ≡ [] = ap (λ (x : Partial). x.head) e.partial ∙ c.requires.no_head in
-    let none' : now.partial.body ≡ [] = ap (λ (x : Partial). x.body) e.partial ∙ c.requires.no_body in
-    frame_kept (before_of c.args.progress.now) c.args.header c.args.body _ (before_of now) _ e.after (left-nothing now.expected now.greeting _ _ (ap (λ (x : Before). x.expected) e.after) none none')
+    frame_kept (before_of c.args.progress.now) c.args.header c.args.body _ (before_of c.finish_frame.new.progress) _ e.after (left-none c.args.progress.now c.finish_frame.new.progress c.requires.no_head c.requires.no_body e.partial (ap (λ (x : Before). x.expected) e.after))
 
 pub returns-in_default-clause-kept : goal.returns-in_default-clause-kept
 returns-in_default-clause-kept c =
     let e = c.in_ok-item.ensures in
-    let now = c.finish_frame.new.progress in
-    let none : now.partial.head ≡ [] = ap (λ (x : Partial). x.head) e.partial ∙ c.requires.no_head in
-    let none' : now.partial.body ≡ [] = ap (λ (x : Partial). x.body) e.partial ∙ c.requires.no_body in
-    frame_kept (before_of c.args.progress.now) c.args.header c.args.body _ (before_of now) _ e.after (left-nothing now.expected now.greeting _ _ (ap (λ (x : Before). x.expected) e.after) none none')
+    frame_kept (before_of c.args.progress.now) c.args.header c.args.body _ (before_of c.finish_frame.new.progress) _ e.after (left-none c.args.progress.now c.finish_frame.new.progress c.requires.no_head c.requires.no_body e.partial (ap (λ (x : Before). x.expected) e.after))

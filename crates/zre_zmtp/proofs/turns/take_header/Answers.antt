@@ -1,23 +1,24 @@
-use Rattle.std.proofs.Common.{◌≡◌, ◌∷◌, [], ◌++◌, List, ℕ, length, Some, refl, sym, ap, ◌∙◌, arith}
+use Rattle.std.proofs.Common.{◌≡◌, ◌≢◌, ◌∷◌, [], ◌++◌, List, ℕ, length, Some, None, refl, sym, ap, ◌∙◌, arith}
 use Rattle.std.proofs.lemmas.List.{append-nil, length-append}
 use Rattle.zre_zmtp.specs.declared.partial.Partial.{Partial}
+use Rattle.zre_zmtp.specs.declared.progress.Progress.{Progress}
+use Rattle.zre_zmtp.specs.declared.expected.Expected.TheVariants as expect
 use Rattle.zre_zmtp.specs.Shown.{before_of, left_of, header_fault}
-use Rattle.zre_zmtp.proofs.Framed.{left-frame, header-short, header-within, header-refused}
+use Rattle.zre_zmtp.proofs.Framed.{left-partial, header-short, header-within, header-refused}
 use Rattle.zre_zmtp.proofs.Looked.{at_most}
 use Rattle.zre_zmtp.proofs.Turning.{turn_refused}
 use Rattle.zre_zmtp.proofs.turns.take_header.Goals as goal
 
 -- the octets of the header so far, and one more
-grown : (left head body more : List ℕ) (x : ℕ) → left ≡ head ++ body → body ≡ [] → more ≡ head ++ x ∷ [] → left ++ x ∷ [] ≡ more
-grown left head body more x is none e = ap (λ (o : List ℕ). o ++ x ∷ []) (is ∙ ap (λ (o : List ℕ). head ++ o) none ∙ append-nil head) ∙ sym e
+grown : (p : Progress) (part : Partial) (more : List ℕ) (x : ℕ) → p.expected ≢ expect.Greeting → p.partial.header ≡ None → part ≡ p.partial → more ≡ part.head ++ x ∷ [] → left_of p ++ x ∷ [] ≡ more
+grown p part more x frame unknown was e =
+    let none = part.apart (ap (λ (y : Partial). y.header) was ∙ unknown) in
+    ap (λ (o : List ℕ). o ++ x ∷ []) (left-partial p part frame was ∙ ap (λ (o : List ℕ). part.head ++ o) none ∙ append-nil part.head) ∙ sym e
 
 pub returns-in-Some-clause-refused : goal.returns-in-Some-clause-refused
 returns-in-Some-clause-refused c =
     let b = before_of c.args.progress.now in
-    let p = c.replace-head.result in
-    let was = c.replace-head.ensures.value in
-    let left : left_of c.args.progress.now ≡ p.head ++ p.body = left-frame c.args.progress.now.expected c.args.progress.now.greeting _ _ c.requires.frame ∙ ap (λ (x : Partial). x.head ++ x.body) (sym was) in
-    let all = grown (left_of c.args.progress.now) p.head p.body c.push.new.self c.args.octet left (p.apart (ap (λ (x : Partial). x.header) was ∙ c.requires.header)) c.push.ensures in
+    let all = grown c.args.progress.now c.replace-head.result c.push.new.self c.args.octet c.requires.frame c.requires.header c.replace-head.ensures.value c.push.ensures in
     let bad : header_fault b c.push.new.self ≡ Some c.in-Some.why = ap (λ (o : List ℕ). header_fault b o) (sym c.as_slice.ensures) ∙ sym c.fault_of_header.ensures ∙ c.in-Some.is in
     λ w. rw all (turn_refused c.args.want.now b c.push.new.self c.args.out.now c.args.out.now _ (header-refused c.args.want.now b c.push.new.self c.in-Some.why c.requires.frame bad) refl)
 
@@ -28,26 +29,17 @@ begin_body-requires-clause-within c =
 
 pub returns-clause-ok : goal.returns-clause-ok
 returns-clause-ok c =
-    let p = c.replace-head.result in
-    let was = c.replace-head.ensures.value in
-    let left : left_of c.args.progress.now ≡ p.head ++ p.body = left-frame c.args.progress.now.expected c.args.progress.now.greeting _ _ c.requires.frame ∙ ap (λ (x : Partial). x.head ++ x.body) (sym was) in
-    let all = grown (left_of c.args.progress.now) p.head p.body c.push.new.self c.args.octet left (p.apart (ap (λ (x : Partial). x.header) was ∙ c.requires.header)) c.push.ensures in
+    let all = grown c.args.progress.now c.replace-head.result c.push.new.self c.args.octet c.requires.frame c.requires.header c.replace-head.ensures.value c.push.ensures in
     λ w. rw all c.begin_body.ensures.ok
 
 pub returns-clause-refused : goal.returns-clause-refused
 returns-clause-refused c =
-    let p = c.replace-head.result in
-    let was = c.replace-head.ensures.value in
-    let left : left_of c.args.progress.now ≡ p.head ++ p.body = left-frame c.args.progress.now.expected c.args.progress.now.greeting _ _ c.requires.frame ∙ ap (λ (x : Partial). x.head ++ x.body) (sym was) in
-    let all = grown (left_of c.args.progress.now) p.head p.body c.push.new.self c.args.octet left (p.apart (ap (λ (x : Partial). x.header) was ∙ c.requires.header)) c.push.ensures in
+    let all = grown c.args.progress.now c.replace-head.result c.push.new.self c.args.octet c.requires.frame c.requires.header c.replace-head.ensures.value c.push.ensures in
     λ w. rw all c.begin_body.ensures.refused
 
 pub returns-clause-kept : goal.returns-clause-kept
 returns-clause-kept c =
-    let p = c.replace-head.result in
-    let was = c.replace-head.ensures.value in
-    let left : left_of c.args.progress.now ≡ p.head ++ p.body = left-frame c.args.progress.now.expected c.args.progress.now.greeting _ _ c.requires.frame ∙ ap (λ (x : Partial). x.head ++ x.body) (sym was) in
-    let all = grown (left_of c.args.progress.now) p.head p.body c.push.new.self c.args.octet left (p.apart (ap (λ (x : Partial). x.header) was ∙ c.requires.header)) c.push.ensures in
+    let all = grown c.args.progress.now c.replace-head.result c.push.new.self c.args.octet c.requires.frame c.requires.header c.replace-head.ensures.value c.push.ensures in
     at_most c.begin_body.result _ _ _ (omega (arith, ap length all, length-append (left_of c.args.progress.now) (c.args.octet ∷ []))) c.begin_body.ensures.kept
 
 pub push-requires : goal.push-requires

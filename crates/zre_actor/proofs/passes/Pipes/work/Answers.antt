@@ -7,7 +7,7 @@ use Rattle.zre_actor.specs.declared.ending.Ending.TheVariants as ending
 use Rattle.zre_actor.specs.Work.{scene, world_ending}
 use Rattle.zre_actor.proofs.Working as working
 use Rattle.zre_actor.proofs.passes.Pipes.work.Goals as goal
-use Rattle.zre_actor.proofs.passes.Pipes.work.Goals.{in-Look+then-turn-limit, in-Look+else-turn-limit, in-Entry+in-Ok-take_entry}
+use Rattle.zre_actor.proofs.passes.Pipes.work.Goals.{in-Look, in-Look+else-turn-limit, in-Entry+in-Ok-take_entry}
 
 pub loop-turn-init : goal.loop-turn-init
 loop-turn-init g c = record {
@@ -102,7 +102,7 @@ loop-turn-preserved g c =
     let s = scene (w.told c.args.world) (w.looked c.args.world) (w.faults c.args.world) (r.kept c.args.rec) (r.faults c.args.rec) c.args.pass in
     let t = scene (w.told l.world) (w.looked l.world) (w.faults l.world) (r.kept l.rec) (r.faults l.rec) l.pass in
     elim c.match-answer.branch [
-      | in-Look+then-turn-limit m ↦
+      | in-Look m ↦
           let facts = subst (λ (a : Turn). IsTurn l.command a × (w.told x ≡ option_map (after_turn l.command a) (w.told l.world)) × (w.looked x ≡ is_look a)) m.in-Look.is (c.in-Ok.ensures.turn, c.in-Ok.ensures.told, c.in-Ok.ensures.looked) in
           rw (m.pass-is, m.world-is, m.node-is, m.rec-is, m.before-is, m.command-is) (record {
             pipes = (m.pop.ensures.pipes, m.pop.ensures.unused ∙ h.pipes.1);
@@ -139,7 +139,7 @@ loop-turn-preserved g c =
       | in-Entry+in-Ok-take_entry m ↦
           let z = m.take_entry.new in let took = m.take_entry.ensures in
           let facts = subst (λ (a : Turn). IsTurn l.command a × (w.told x ≡ option_map (after_turn l.command a) (w.told l.world)) × (w.looked x ≡ is_look a)) m.in-Entry.is (c.in-Ok.ensures.turn, c.in-Ok.ensures.told, c.in-Ok.ensures.looked) in
-          rw (m.pass-is, m.world-is, m.node-is, m.rec-is, m.before-is, m.command-is) (record {
+          rw (m.pass-is, m.world-is, m.node-is, m.rec-is, m.before-is, m.in-Ok-take_entry.ensures.next, m.command-is) (record {
             pipes = (m.raise_all-pass.ensures.pipes.0, m.raise_all-pass.ensures.pipes.1 ∙ h.pipes.1);
             open_ = m.raise_all-pass.ensures.open;
             looked = λ is. absurd (true≢false (sym is));

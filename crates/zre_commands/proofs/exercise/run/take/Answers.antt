@@ -11,5 +11,5 @@ returns c = λ g J counted.
     let K = J ++ c.args.entry ∷ [] in
     on_ok c.count_events.result
     (c.count_events.ensures (length K) (events g J) (entry_counted g J c.args.entry _ _ _ counted c.in_ok-count_entry.ensures))
-    (λ p. steps_on g J c.args.entry c.step.new.self c.in_ok-step.step _ (c.in_ok-step.ensures.steps g J counted.stands)
+    (λ p. steps_on g J c.args.entry c.step_into.new.self c.step_into.new.step _ (c.in_ok-step_into.ensures.steps g J counted.stands)
     (p ∙ ap (λ (es : List Event). tally (length K) (events g J ++ es)) c.as_slice.ensures))

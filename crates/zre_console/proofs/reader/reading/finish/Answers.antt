@@ -1,19 +1,17 @@
-use Rattle.std.proofs.Common.{[], ◌∷◌, refl}
-use Rattle.zre_console.proofs.reader.Puts.{puts-none, none-one}
-use Rattle.zre_console.proofs.reader.Pieces.{end-put, end-quit, end-over}
+use Rattle.zre_console.proofs.reader.Pieces.{end-none, end-put, end-quit, end-over, end-memory}
 use Rattle.zre_console.proofs.reader.reading.finish.Goals as goal
 
+pub returns-in_default-clause-finishes : goal.returns-in_default-clause-finishes
+returns-in_default-clause-finishes g c = λ o known none. end-memory o c.args.pass none
+
 pub returns-in_default-last-clause-finishes : goal.returns-in_default-last-clause-finishes
-returns-in_default-last-clause-finishes g c = λ o known none.
-    let e = rw c.in_default-last.is at (c.in-Ok.ensures o known) in
-    end-put c.put_end.result.1 o [] c.args.pass c.args.pass c.put_end.result.0 e none refl (puts-none c.args.pass) c.put_end.ensures.ends
+returns-in_default-last-clause-finishes g c = λ o known none. end-none o c.args.pass (rw c.in_default-last.is at (c.in-Ok.ensures o known)) none
 
 pub returns-in-On-clause-finishes : goal.returns-in-On-clause-finishes
 returns-in-On-clause-finishes g c = λ o known none.
-    let command = c.in-Some.command in
     let e = rw c.in-Some.is at (c.in-Ok.ensures o known) in
     let sent = rw c.in-On.is at c.put_one-pass.ensures.sent in
-    end-put c.put_end-in-On.result.1 o (command ∷ []) c.args.pass c.put_one-pass.result.0 c.put_end-in-On.result.0 e none (none-one command sent.1) sent.0 c.put_end-in-On.ensures.ends
+    end-put o c.in-Some.command c.args.pass c.put_one-pass.result.0 e none sent.1 sent.0
 
 pub returns-in-Quit-clause-finishes : goal.returns-in-Quit-clause-finishes
 returns-in-Quit-clause-finishes g c = λ o known none.

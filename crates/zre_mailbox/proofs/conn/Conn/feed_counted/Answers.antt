@@ -1,23 +1,23 @@
-use Rattle.std.proofs.Common.{◌++◌, refl, sym, ap, subst, ◌∙◌}
-use Rattle.zre_zmtp.specs.Reading.{Refuses}
-use Rattle.zre_mailbox.specs.Talk.{fault_in, new_arrivals}
-use Rattle.zre_mailbox.specs.Conn.{Hearing, Takes}
-use Rattle.zre_mailbox.specs.declared.phase.Phase.TheVariants.{Spent}
-use Rattle.zre_mailbox.proofs.Hearing.{live_reads, heard, refused}
+use Rattle.std.proofs.Common.{◌++◌, ap, ◌∙◌, List}
+use Rattle.std.proofs.lemmas.Result.{IfErr-weaker}
+use Rattle.zre_values.proofs.Answered.{on_ok}
+use Rattle.zre_zmtp.specs.declared.item.Item.{Item}
+use Rattle.zre_mailbox.specs.Talk.{arrivals_in}
+use Rattle.zre_mailbox.proofs.Hearing.{heard_onto, refused_onto, refused_looks}
 use Rattle.zre_mailbox.proofs.conn.Conn.feed_counted.Goals as goal
 
 pub returns-in-Ok-clause-ok : goal.returns-in-Ok-clause-ok
 returns-in-Ok-clause-ok g c = λ own o e.
-    let live = sym (ap (λ (h : Hearing). h.phase) c.self.view_is) ∙ c.in-Live.is in
-    let piece = c.args.piece.now in
-    let read = c.in-Ok.ensures.ok own o (live_reads own o c.args.self.now c.in-Live.reader e live) in
-    heard own o piece c.args.self.now c.in-Live.reader c.read_piece.new.reader c.read_piece.new.identity c.args.out.now c.read_piece.new.out e live
-    (read.0, subst (λ (h : Hearing). Takes (new_arrivals own o piece) h.identity c.read_piece.new.identity c.args.out.now c.read_piece.new.out) c.self.view_is read.1)
+    let added = c.in-Ok.ensures ∙ ap (λ (is : List Item). c.args.out.now ++ arrivals_in is) c.as_slice.ensures in
+    on_ok c.feed_items-fed.result (c.feed_items-fed.ensures.ok own o e)
+    (heard_onto own o c.args.piece.now c.feed_items-fed.new.self c.new-items.result c.feed_items-fed.new.items c.args.out.now c.take_items.new.out added)
 
-pub returns-in-Err-clause-refused : goal.returns-in-Err-clause-refused
-returns-in-Err-clause-refused g c = λ own o e.
-    let live = sym (ap (λ (h : Hearing). h.phase) c.self.view_is) ∙ c.in-Live.is in
-    let piece = c.args.piece.now in
-    let read = c.in-Err.ensures.refused own o (live_reads own o c.args.self.now c.in-Live.reader e live) in
-    refused own o piece c.args.self.now c.in-Live.reader c.in-Err.fault Spent c.read_piece.new.identity c.args.out.now c.read_piece.new.out e live refl
-    (subst (λ (h : Hearing). Refuses c.in-Err.fault (fault_in own (o ++ piece)) (Takes (new_arrivals own o piece) h.identity c.read_piece.new.identity c.args.out.now c.read_piece.new.out)) c.self.view_is read)
+pub returns-in-Ok-clause-refused : goal.returns-in-Ok-clause-refused
+returns-in-Ok-clause-refused g c = λ own o e.
+    let added = c.in-Ok.ensures ∙ ap (λ (is : List Item). c.args.out.now ++ arrivals_in is) c.as_slice.ensures in
+    IfErr-weaker c.feed_items-fed.result _ _
+    (λ f h. refused_onto own o c.args.piece.now c.feed_items-fed.new.self f c.new-items.result c.feed_items-fed.new.items c.args.out.now c.take_items.new.out added h)
+    (c.feed_items-fed.ensures.refused own o e)
+
+pub returns-clause-looks : goal.returns-clause-looks
+returns-clause-looks g c = (tt, refused_looks c.feed_items-fed.result _ _ _ _ _ c.feed_items-fed.ensures.looks)

@@ -3,10 +3,10 @@ use Rattle.zre_journal.specs.Events.{chronicle}
 use Rattle.zre_journal.specs.Peers.{Life, lives}
 use Rattle.zre_node.specs.Stands.{IsPeer}
 use Rattle.zre_node.proofs.Asking.{rows}
-use Rattle.zre_node.proofs.Entries.{as_many}
+use Rattle.zre_tables.proofs.Entries.{as_many}
 use Rattle.zre_node.proofs.node.Node.known.Goals as goal
 
 pub returns : goal.returns
 returns c = λ g J s.
     let H = chronicle g J in
-    c.len.ensures.len ∙ as_many (λ (v : Life). v.link) (IsPeer g H) (lives H) c.args.self.now.tables.peers.entries (rows g H c.args.self.now.tables s.stands)
+    c.len.ensures ∙ as_many (λ (v : Life). v.link) (IsPeer g H) (lives H) c.args.self.now.tables.peers (rows g H c.args.self.now.tables s.stands)

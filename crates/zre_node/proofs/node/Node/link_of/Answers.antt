@@ -8,4 +8,4 @@ use Rattle.zre_node.proofs.node.Node.link_of.Goals as goal
 pub returns : goal.returns
 returns c = λ g J s.
     let H = chronicle g J in
-    c.link_of.ensures ∙ link_in_rows g H c.args.id (lives H) c.args.self.now.tables.peers.entries (rows g H c.args.self.now.tables s.stands)
+    c.link_of.ensures ∙ link_in_rows g H c.args.id (lives H) c.args.self.now.tables.peers (rows g H c.args.self.now.tables s.stands)

@@ -3,11 +3,11 @@ use Rattle.zre_journal.specs.Events.{chronicle}
 use Rattle.zre_journal.specs.Peers.{Life, lives}
 use Rattle.zre_node.specs.Stands.{IsPeer}
 use Rattle.zre_node.proofs.Asking.{rows}
-use Rattle.zre_node.proofs.Entries.{keys_are}
+use Rattle.zre_tables.proofs.Entries.{keys_are}
 use Rattle.zre_node.proofs.node.Node.links.Goals as goal
 
 pub returns : goal.returns
 returns c = λ g J s.
     let H = chronicle g J in
-    subst (λ (ks : List ℕ). IfOk c.links_of.result (λ links. links ≡ ks))
-    (keys_are (λ (v : Life). v.link) (IsPeer g H) (lives H) c.args.self.now.tables.peers.entries (rows g H c.args.self.now.tables s.stands)) c.links_of.ensures
+    subst (λ (ks : List ℕ). IfOk c.links.result (λ links. links ≡ ks))
+    (keys_are (λ (v : Life). v.link) (IsPeer g H) (lives H) c.args.self.now.tables.peers (rows g H c.args.self.now.tables s.stands)) c.links.ensures

@@ -7,4 +7,4 @@ use Rattle.zre_node.proofs.node.Node.peer.Goals as goal
 pub returns : goal.returns
 returns c = λ g J s.
     let H = chronicle g J in
-    c.view_of.ensures ∙ view_found g H c.args.id (lives H) c.args.self.now.tables.peers.entries (rows g H c.args.self.now.tables s.stands)
+    c.view_of.ensures ∙ view_found g H c.args.id (lives H) c.args.self.now.tables.peers (rows g H c.args.self.now.tables s.stands)

@@ -8,4 +8,4 @@ use Rattle.zre_node.proofs.node.Node.peers.Goals as goal
 pub returns : goal.returns
 returns c = λ g J s.
     let H = chronicle g J in
-    subst (λ (all : List PeerId). IfOk c.entered.result (λ ids. ids ≡ all)) (all_entered g H (lives H) c.args.self.now.tables.peers.entries (rows g H c.args.self.now.tables s.stands)) c.entered.ensures
+    subst (λ (all : List PeerId). IfOk c.entered.result (λ ids. ids ≡ all)) (all_entered g H (lives H) c.args.self.now.tables.peers (rows g H c.args.self.now.tables s.stands)) c.entered.ensures

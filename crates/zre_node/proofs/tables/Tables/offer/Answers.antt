@@ -7,5 +7,5 @@ use Rattle.zre_node.proofs.tables.Tables.offer.Goals as goal
 
 pub returns : goal.returns
 returns c = λ g K h.
-    on_ok c.push_offers.result c.push_offers.ensures (λ e.
-    ap (λ (xs : List Act). record c.args.out.now { acts = xs }) (e ∙ ap (λ (xs : List Act). c.args.out.now.acts ++ xs) (among g K c.args.out.now.pushed (lives K) c.args.self.now.peers.entries h.peers)))
+    on_ok c.offer.result c.offer.ensures (λ e.
+    ap (λ (xs : List Act). record c.args.out.now { acts = xs }) (e ∙ ap (λ (xs : List Act). c.args.out.now.acts ++ xs) (among g K c.args.out.now.pushed (lives K) c.args.self.now.peers h.peers)))

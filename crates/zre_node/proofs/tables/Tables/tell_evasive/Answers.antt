@@ -13,7 +13,7 @@ use Rattle.zre_node.proofs.tables.Tables.tell_evasive.Goals as goal
 
 pub returns-in_default : goal.returns-in_default
 returns-in_default c = λ g K h k.
-    not_missing (life c.args.link K) k.0 (no_row (IsPeer g K) K c.args.self.now.peers.entries h.peers c.args.link c.in_default.ensures.value)
+    not_missing (life c.args.link K) k.0 (no_row (IsPeer g K) K c.args.self.now.peers h.peers c.args.link c.in_default.ensures.value)
 
 pub returns-in_default-run : goal.returns-in_default-run
 returns-in_default-run c = λ g K h k. has_run g K c.args.self.now h c.args.link c.in-Some.peer.now c.in-Some.ensures.value k.1 c.in_default-run.is

@@ -6,13 +6,13 @@ use Rattle.zre_node.proofs.Parting.{nearly}
 use Rattle.zre_node.proofs.Starting.{on_did_as}
 use Rattle.zre_node.proofs.tables.Tables.unlinked.Goals as goal
 
-pub returns-then-not-contains_key : goal.returns-then-not-contains_key
-returns-then-not-contains_key c = λ g K h.
-    let o = sym (c.contains_key.ensures ∙ some_peer g K c.args.self.now h c.args.link) ∙ c.if-not-contains_key.true in
+pub returns-then-not-contains : goal.returns-then-not-contains
+returns-then-not-contains c = λ g K h.
+    let o = sym (c.contains.ensures ∙ some_peer g K c.args.self.now h c.args.link) ∙ c.if-not-contains.true in
     did_as g _ [] K _ _ _ (no_break g c.args.link (life c.args.link K) o) (idle_did g K c.args.self.now c.args.out.now h)
 
 pub returns : goal.returns
 returns c = λ g K h.
-    let o = sym (c.contains_key.ensures ∙ some_peer g K c.args.self.now h c.args.link) ∙ c.if-not-contains_key.false in
+    let o = sym (c.contains.ensures ∙ some_peer g K c.args.self.now h c.args.link) ∙ c.if-not-contains.false in
     let b = break g c.args.link (life c.args.link K) o in
     on_did_as g _ _ K _ _ _ c.end.result b.1 (c.end.ensures g K (nearly g K c.args.link c.args.self.now h) b.0)

@@ -1,32 +1,18 @@
-use Rattle.std.proofs.Common.{◌≡◌, ◌++◌, ◌%◌, [], Some, sym, ap, ◌∙◌}
-use Rattle.std.proofs.lemmas.List.{length_push}
-use Rattle.zre_peer.specs.Runs.{events_of, shown}
-use Rattle.zre_peer.proofs.Standing.{follows_later, fault_later, in_order-push, in_order-refused, count_more, view_before, shown_after}
+use Rattle.std.proofs.Common.{◌++◌, [], ap, ◌∙◌}
+use Rattle.zre_peer.specs.Runs.{events_of}
+use Rattle.zre_peer.proofs.Standing.{taken_later, refused_later, in_order-refused, view_of_run}
 use Rattle.zre_peer.proofs.peer_run.Run.take.Goals as goal
 
 pub returns-in-Ok-later-clause-ok : goal.returns-in-Ok-later-clause-ok
 returns-in-Ok-later-clause-ok c = λ ms s.
     let m = c.args.message in
     let v = c.in-Some.view in
-    let e : Some v ≡ shown ms = sym c.in-Some.is ∙ s.view in
-    let number = c.due-next.ensures ∙ count_more c.args.self.now.count ms s.count in
-    let may = follows_later ms v m _ e number ∙ c.in-Ok-later.ensures.ok.0 in (
-      may,
-      record {
-        ordered = in_order-push [] ms m s.ordered may;
-        going = s.going;
-        view = shown_after ms v c.later.new.view m e c.in-Ok-later.ensures.ok.1;
-        count = number ∙ sym (ap (λ k. k % 65536) (length_push ms m));
-      },
-      c.in-Ok-later.ensures.ok.2 ∙ ap (λ x. c.args.events.now ++ events_of c.args.self.now.id x m.body) (view_before ms v e),
-    )
+    let t = taken_later c.args.self.now ms v c.later.new.view m _ s c.in-Some.is c.due-next.ensures c.in-Ok-later.ensures.ok.0 c.in-Ok-later.ensures.ok.1 in
+    (t.may, record { ordered = t.ordered; going = s.going; view = t.view; count = t.count }, c.in-Ok-later.ensures.ok.2 ∙ ap (λ x. c.args.events.now ++ events_of c.args.self.now.id x m.body) (view_of_run c.args.self.now ms v s c.in-Some.is))
 
 pub returns-in-Err-later-clause-refused : goal.returns-in-Err-later-clause-refused
 returns-in-Err-later-clause-refused c = λ ms s ne.
     let m = c.args.message in
-    let v = c.in-Some.view in
-    let e : Some v ≡ shown ms = sym c.in-Some.is ∙ s.view in
-    let number = c.due-next.ensures ∙ count_more c.args.self.now.count ms s.count in
     let h = c.in-Err-later.ensures.refused ne in
-    let may = follows_later ms v m _ e number ∙ h.0 in
-    (may, in_order-refused [] ms m may, h.1 ∙ sym (fault_later ms v m _ e number), h.2)
+    let f = refused_later c.args.self.now ms c.in-Some.view m _ _ s c.in-Some.is c.due-next.ensures h.0 h.1 in
+    (f.0, in_order-refused [] ms m f.0, f.1, h.2)

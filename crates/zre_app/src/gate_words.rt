@@ -1,0 +1,170 @@
+//! The words of `gate`.
+
+ghost use Rattle.std.specs.Prelude.{◌≡◌, ◌==◌, ◌≤◌, map, position, IfOk, IfSome};
+ghost use Rattle.zre_app.specs.GateWords.{gate_keys, clients_in, port_of_place, place_of, local_in, gate_in, gate_with};
+ghost use Rattle.zre_app.specs.GateWords.{is_gate, gate_of, CanGate};
+
+use crate::chat_words::{chat_in, chat_keys};
+use crate::keys::{Key, Often, are_words_of, value_of};
+use crate::words::are_texts;
+use std::alloc::Global;
+use zre_capture::{address, number};
+use zre_gate::Gate;
+use zre_values::{Endpoint, Frames, Octets, OutOfMemory};
+
+// The keys of `gate`: those of `chat`, and two more.
+fn gate_keys() -> [Key<'static>; 14]
+    ensures { map (λ key. (key.name.now, key.often)) result ≡ gate_keys }
+{
+    let [
+        id,
+        host,
+        port,
+        name,
+        header,
+        evasive,
+        expired,
+        to,
+        listen,
+        beacon,
+        interval,
+        capture,
+    ] = chat_keys();
+    [
+        id,
+        host,
+        port,
+        name,
+        header,
+        evasive,
+        expired,
+        to,
+        listen,
+        beacon,
+        interval,
+        capture,
+        Key {
+            name: b"clients=",
+            often: Often::Once,
+        },
+        Key {
+            name: b"local=",
+            often: Often::Once,
+        },
+    ]
+}
+
+// How many clients there are.
+fn clients_in(words: &[Octets]) -> Option<u8>
+    ensures value { result ≡ clients_in words.now }
+    ensures some { IfSome result (λ n. 1 ≤ n) }
+    ensures few { IfSome result (λ n. n ≤ 14) }
+{
+    let text = value_of(b"clients=", words)?;
+    match number(text) {
+        Some(n) if 1 <= n && n <= 14 => Some(n as u8),
+        _ => None,
+    }
+}
+
+fn port_of_place(text: &[u8]) -> Option<u16>
+    ensures { result ≡ port_of_place text.now }
+{
+    match number(text) {
+        Some(n) if 1 <= n && n <= 65535 => Some(n as u16),
+        _ => None,
+    }
+}
+
+fn colon_in(text: &[u8]) -> Option<usize>
+    ensures { result ≡ position (λ b. b == 58) text.now }
+{
+    text.iter().position(|b| *b == b':')
+}
+
+// An address and a port, with `:` between them.
+fn place_of(text: &[u8]) -> Option<Endpoint>
+    ensures { result ≡ place_of text.now }
+{
+    let Some(i) = colon_in(text) else {
+        return None;
+    };
+    let (front, rest) = text.split_at(i);
+    let (_, after) = rest.split_at(1);
+    let Some(addr) = address(front) else {
+        return None;
+    };
+    let Some(port) = port_of_place(after) else {
+        return None;
+    };
+    Some(Endpoint { addr, port })
+}
+
+// Where the clients come to.
+fn local_in(words: &[Octets]) -> Option<Endpoint>
+    ensures { result ≡ local_in words.now }
+{
+    match value_of(b"local=", words) {
+        Some(text) => place_of(text),
+        None => None,
+    }
+}
+
+fn gate_in(alloc: Global, words: &[Octets]) -> Result<Option<Gate>, OutOfMemory>
+    ensures value { IfOk result (λ gate. gate ≡ gate_in words.now) }
+    ensures ready { IfOk result (λ gate. IfSome gate CanGate) }
+{
+    let Some(chat) = chat_in(alloc, words)? else {
+        return Ok(None);
+    };
+    let Some(local) = local_in(words) else {
+        return Ok(None);
+    };
+    let Some(clients) = clients_in(words) else {
+        return Ok(None);
+    };
+    Ok(Some(Gate {
+        chat,
+        local,
+        clients,
+    }))
+}
+
+// The gate of these words, which stand after its name.
+fn gate_with(alloc: Global, words: &[Octets]) -> Result<Option<Gate>, OutOfMemory>
+    ensures value { IfOk result (λ gate. gate ≡ gate_with words.now) }
+    ensures ready { IfOk result (λ gate. IfSome gate CanGate) }
+{
+    if !are_words_of(&gate_keys(), words) {
+        return Ok(None);
+    }
+    gate_in(alloc, words)
+}
+
+/// Whether the name of the call is `gate`.
+pub fn is_gate(words: &Frames) -> bool
+    ensures { result ≡ is_gate words.now }
+{
+    match words.as_slice().split_first() {
+        Some((name, _)) => name.as_slice() == b"gate".as_slice(),
+        None => false,
+    }
+}
+
+/// The gate that the words are. None where they aren't its name and words of its list, or where one isn't UTF-8.
+pub fn gate_of(alloc: Global, words: &Frames) -> Result<Option<Gate>, OutOfMemory>
+    ensures value { IfOk result (λ gate. gate ≡ gate_of words.now) }
+    ensures ready { IfOk result (λ gate. IfSome gate CanGate) }
+{
+    let words = words.as_slice();
+    let Some((name, others)) = words.split_first() else {
+        return Ok(None);
+    };
+    if !are_texts(words) {
+        return Ok(None);
+    }
+    if name.as_slice() == b"gate".as_slice() {
+        return gate_with(alloc, others);
+    }
+    Ok(None)
+}

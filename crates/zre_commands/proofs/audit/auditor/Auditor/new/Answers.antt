@@ -1,5 +1,0 @@
-use Rattle.zre_commands.proofs.audit.Auditing.{start_going}
-use Rattle.zre_commands.proofs.audit.auditor.Auditor.new.Goals as goal
-
-pub returns-clause-going : goal.returns-clause-going
-returns-clause-going c = start_going

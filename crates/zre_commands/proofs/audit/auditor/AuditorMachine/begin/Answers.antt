@@ -1,5 +1,0 @@
-use Rattle.std.proofs.Common.{sym, append-nil}
-use Rattle.zre_commands.proofs.audit.auditor.AuditorMachine.begin.Goals as goal
-
-pub returns : goal.returns
-returns c = record { head = λ _. sym (append-nil c.args._out.now) }

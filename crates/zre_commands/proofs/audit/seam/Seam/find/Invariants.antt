@@ -1,5 +1,0 @@
-use Rattle.zre_commands.proofs.audit.Seeking.{IsSought}
-use Rattle.zre_commands.proofs.audit.seam.Seam.find.Given as goal
-
-abbrev pub invariant-loop-place : goal.invariant-loop-place
-invariant-loop-place l = IsSought l.fn.self l.piece l.place l.self

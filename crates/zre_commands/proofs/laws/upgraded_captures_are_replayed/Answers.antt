@@ -1,5 +1,0 @@
-use Rattle.zre_commands.proofs.Replayed.{upgraded}
-use Rattle.zre_commands.proofs.laws.upgraded_captures_are_replayed.Goals as goal
-
-pub returns : goal.returns
-returns c = upgraded

@@ -1,8 +1,0 @@
-use Rattle.zre_commands.proofs.replay.HeadFeeding.{not_bad}
-use Rattle.zre_commands.proofs.replay.headed.Headed.new.Goals as goal
-
-pub returns : goal.returns
-returns c = record {
-  reads = (not_bad, c.second-reader.ensures.reads, c.second-reader.ensures.format);
-  lives = tt;
-}

@@ -1,0 +1,16 @@
+use Rattle.std.proofs.Common.{◌≡◌, ◌≤◌, ◌-◌, vec_len}
+use Rattle.zre_actor.specs.Passes.{IsCallerOf}
+use Rattle.zre_console.proofs.reader.Reach.{Reached}
+use Rattle.zre_console.proofs.reader.reading.read_lines.Given as goal
+
+abbrev pub invariant-loop-taken : goal.invariant-loop-taken
+invariant-loop-taken g l = record {
+  pipes : IsCallerOf l.pipes l.pass;
+  reached : Reached l.typist l.fn.pass l.pass (g.I.Source.left l.fn.input) (g.I.Source.left l.input) (g.I.Source.taken l.fn.input) (g.I.Source.taken l.input) l.taken;
+  within : l.taken ≤ l.limit;
+  room : vec_len l.buf ≡ 65536;
+  later : g.I.Source.faults l.fn.input ≤ g.I.Source.faults l.input;
+}
+
+abbrev pub decreases-loop-taken : goal.decreases-loop-taken
+decreases-loop-taken g l = l.limit - l.taken

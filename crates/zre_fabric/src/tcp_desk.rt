@@ -1,0 +1,117 @@
+ghost use Rattle.std.specs.Prelude.{◌≡◌, ◌≤◌, None, option_map, is_err, IsSome, IfOk, OnOk, OnErr};
+ghost use Rattle.zre_outside.specs.Causes.{Rose, raised, counted};
+ghost use Rattle.zre_outside.specs.Desks.{with_begun, with_given};
+
+use crate::beacons::address;
+use crate::errors::{ErrorClass, class_of};
+use std::io::{self, ErrorKind};
+use std::net::{Net, TcpListener, TcpStream};
+use zre_outside::{Desk, Failed, StdSource};
+
+/// A TCP listener as a desk. Each connection is a client. It tells nothing of what it gave.
+#[derive(Drop)]
+pub struct TcpDesk<R> {
+    rt: R,
+    listener: Option<TcpListener>,
+    faults: u64,
+    reason: Option<io::Error>,
+}
+
+impl<R> TcpDesk<R> {
+    ghost use Rattle.zre_fabric.specs.TcpDesks.{tcp_faults_of, tcp_reason_of};
+
+    /// A desk that isn't begun. It opens nothing.
+    pub fn new(rt: R) -> Self
+        ensures faults { tcp_faults_of result ≡ 0 }
+        ensures reason { tcp_reason_of result ≡ None }
+    {
+        TcpDesk {
+            rt,
+            listener: None,
+            faults: 0,
+            reason: None,
+        }
+    }
+
+    /// Why the last call that failed did, as the system says it.
+    pub fn reason(&self) -> Option<io::Error>
+        ensures { result ≡ tcp_reason_of self.now }
+    {
+        self.reason
+    }
+
+    // A call failed.
+    fn fail(&mut self, reason: io::Error) -> Failed
+        ensures faults { tcp_faults_of self.new ≡ raised (tcp_faults_of self.old) }
+        ensures later { tcp_faults_of self.old ≤ tcp_faults_of self.new }
+        ensures reason { IsSome (tcp_reason_of self.new) }
+    {
+        self.faults = self.faults.saturating_add(1);
+        self.reason = Some(reason);
+        Failed
+    }
+}
+
+// The next connection. One that was lost before it was taken is passed over.
+fn accept(listener: &TcpListener) -> io::Result<TcpStream> {
+    for _ in 0..u64::MAX {
+        match listener.accept() {
+            Ok((stream, _)) => return Ok(stream),
+            Err(reason) => {
+                if !matches!(class_of(&reason), ErrorClass::Transient) {
+                    return Err(reason);
+                }
+            }
+        }
+    }
+    Err(io::Error::from(ErrorKind::ConnectionAborted))
+}
+
+impl<R: Net<Listener = TcpListener, Stream = TcpStream>> Desk for TcpDesk<R> {
+    ghost use Rattle.zre_fabric.specs.TcpDesks.{tcp_told_of, tcp_faults_of, tcp_reason_of};
+
+    type Client = StdSource<TcpStream>;
+
+    ghost told = { tcp_told_of };
+
+    ghost faults = { tcp_faults_of };
+
+    /// Binds the address and the port. What was begun before is closed in any case.
+    fn begin(&mut self, addr: [u8; 4], port: u16) -> Result<(), Failed>
+        ensures told { OnOk result (tcp_told_of self.new ≡ option_map (with_begun addr port) (tcp_told_of self.old)) }
+        ensures refused { OnErr result (tcp_told_of self.new ≡ tcp_told_of self.old) }
+        ensures later { tcp_faults_of self.old ≤ tcp_faults_of self.new }
+        ensures failed { OnErr result (Rose (tcp_faults_of self.old) (tcp_faults_of self.new)) }
+        // The count rises where it failed, and nowhere else.
+        ensures counted { tcp_faults_of self.new ≡ counted (is_err result) (tcp_faults_of self.old) }
+        ensures reason { OnErr result (IsSome (tcp_reason_of self.new)) }
+    {
+        self.listener = None;
+        match TcpListener::bind(&self.rt, address(addr, port)) {
+            Ok(listener) => {
+                self.listener = Some(listener);
+                Ok(())
+            }
+            Err(reason) => Err(self.fail(reason)),
+        }
+    }
+
+    /// Waits for a connection. It fails where the desk isn't begun.
+    fn next(&mut self) -> Result<StdSource<TcpStream>, Failed>
+        ensures told { IfOk result (λ c. tcp_told_of self.new ≡ option_map (with_given c) (tcp_told_of self.old)) }
+        ensures refused { OnErr result (tcp_told_of self.new ≡ tcp_told_of self.old) }
+        ensures later { tcp_faults_of self.old ≤ tcp_faults_of self.new }
+        ensures failed { OnErr result (Rose (tcp_faults_of self.old) (tcp_faults_of self.new)) }
+        // The count rises where it failed, and nowhere else.
+        ensures counted { tcp_faults_of self.new ≡ counted (is_err result) (tcp_faults_of self.old) }
+        ensures reason { OnErr result (IsSome (tcp_reason_of self.new)) }
+    {
+        let Some(listener) = &self.listener else {
+            return Err(self.fail(io::Error::from(ErrorKind::NotConnected)));
+        };
+        match accept(listener) {
+            Ok(stream) => Ok(StdSource::new(stream)),
+            Err(reason) => Err(self.fail(reason)),
+        }
+    }
+}

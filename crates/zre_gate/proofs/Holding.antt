@@ -1,0 +1,381 @@
+-- A gate whose threads were started.
+use Rattle.std.proofs.Common.{◌≡◌, ◌≢◌, ℕ, ◌+◌, ◌≤◌, ◌<◌, Bool, true, false, true≢false, cond, List, [], ◌∷◌, ◌++◌, map, length, Option, Some, None, refl, sym, ap, ◌∙◌, subst, arith, append_assoc, append-nil}
+use Rattle.std.specs.Prelude.{◌⊎◌, nat_le, All, Contains}
+use mathlib.Core.HLevel.{⊥_prop}
+use mathlib.Core.Logic.{inl, inr}
+use mathlib.Core.List.{IsPrefix}
+use Rattle.std.specs.List.{list_any}
+use Rattle.std.specs.Io.KnownBytes.{Keeps}
+use Rattle.std.proofs.Math.Logic.{∥∥₁_map, ∥∥₁_elim}
+use Rattle.std.proofs.lemmas.List.{map-append, length-map}
+use Rattle.std.proofs.lemmas.List.Elements.{All-nil, All-cons, All-head, All-tail, All-map, All-weaker, All-contains, All-contains_itself}
+use Rattle.zre_outside.specs.declared.entry.Entry.{Entry}
+use Rattle.zre_outside.specs.declared.entry.Command.{Command}
+use Rattle.zre_outside.specs.declared.entry.Command.TheVariants.{Quit}
+use Rattle.zre_outside.specs.declared.sink.NextFault.{NextFault}
+use Rattle.zre_outside.specs.declared.sink.NextFault.TheVariants as fault
+use Rattle.zre_outside.specs.declared.start.Start.{Start}
+use Rattle.zre_outside.specs.Causes.{Rose}
+use Rattle.zre_journal.specs.declared.config.Config.{Config}
+use Rattle.zre_journal.specs.Events.{chronicle}
+use Rattle.zre_journal.specs.Happens.{has_stopped}
+use Rattle.zre_node.specs.declared.node.Node.{Node}
+use Rattle.zre_actor.specs.declared.ending.Ending.{Ending}
+use Rattle.zre_actor.specs.declared.ending.Ending.TheVariants as ending
+use Rattle.zre_actor.specs.declared.passes.ActorPass.{ActorPass}
+use Rattle.zre_actor.specs.declared.passes.CallerPass.{CallerPass}
+use Rattle.zre_actor.specs.declared.passes.TakerPass.{TakerPass}
+use Rattle.zre_actor.specs.declared.views.Placed.{Placed}
+use Rattle.zre_actor.specs.Commands.{under, times, command_of}
+use Rattle.zre_actor.specs.Passes.{IsNew, number, ended, put_by, puts_of, popped_by, raised_by, taken_by}
+use Rattle.zre_actor.specs.Work.{Scene, scene, IsWork, Ends, QuitsLast}
+use Rattle.zre_actor.proofs.Working.{rose_later}
+use Rattle.zre_console.specs.lines.Orders.{is_quit}
+use Rattle.zre_console.specs.declared.reader.ending.InputEnd.TheVariants as end
+use Rattle.zre_console.specs.reader.Putting.{Puts, IsClose}
+use Rattle.zre_console.proofs.reader.Puts.{puts-none}
+use Rattle.zre_commands.specs.declared.pump.status.Status.{Status}
+use Rattle.zre_commands.specs.declared.pump.status.Status.TheVariants.{Done, TooLong, OutOfMemory, DeskFault, WriteFault, WorldFault, NoThread}
+use Rattle.zre_console.specs.declared.printer.asker.Wish.{Wish}
+use Rattle.zre_console.specs.declared.printer.asker.Wish.TheVariants.{No, Due, Put}
+use Rattle.zre_console.specs.printer.Asking.{asked, asker_of, HasAsked}
+use Rattle.zre_console.specs.printer.Printing.{HasPrinted}
+use Rattle.zre_chat.specs.Chat.{Seen, Lived, Wrote, Captured}
+use Rattle.zre_chat.specs.Stages.{Prepared}
+use Rattle.zre_chat.specs.Statuses.{rank, least, of_print, of_work, of_thread}
+use Rattle.zre_chat.proofs.Living as living
+use Rattle.zre_chat.proofs.Merged.{all_under}
+use Rattle.zre_chat.proofs.Rows.{memory_isnt, memory_here, memory_after, done_here, done_after}
+use Rattle.zre_gate.specs.Clients.{Row, Served, IsServed, put_for_all, is_over, of_client}
+use Rattle.zre_gate.specs.Clients as clients
+use Rattle.zre_gate.specs.Gate.{Client, IsClient, IsWhole, IsFree, IsLong, IsCaused, Merged, HasServed, IsGate, before_of, after_of, handed_of}
+use Rattle.zre_gate.specs.Gathering as gathering
+use Rattle.zre_gate.specs.Gathering.{IsWell, IsOwnEnd, Gathers, Closes}
+use Rattle.zre_gate.specs.Halls as halls
+use Rattle.zre_gate.specs.Interleaving.{IsInterleaving}
+use Rattle.zre_gate.specs.Halls.{Guest, number_of, guest_of}
+use Rattle.zre_gate.proofs.Answering.{nat_prop}
+use Rattle.zre_gate.proofs.Clients.{client_for, plain_commands, is_client, is_free, is_whole, is_long}
+use Rattle.zre_gate.proofs.Merged.{num, IsPlain, its_named, quit_split, quits_front, map_split, nothing_mapped, named_front, is_interleaved, named_all, none_quit, all_last}
+
+-- ---- the first of several statuses
+
+least_isnt : (x : Status) (xs : List Status) → x ≢ DeskFault → least xs ≢ DeskFault → least (x ∷ xs) ≢ DeskFault
+least_isnt x xs first rest is = by (nat_le (rank x) (rank (least xs))) refl
+  where
+    by : (b : Bool) → nat_le (rank x) (rank (least xs)) ≡ b → ⊥
+    by true e = first (sym (ap (λ b. cond b x (least xs)) e) ∙ is)
+    by false e = rest (sym (ap (λ b. cond b x (least xs)) e) ∙ is)
+
+-- ---- lists of clients
+
+pub map_map : {X Y Z : Type 0} (f : Y → Z) (h : X → Y) (xs : List X) → map f (map h xs) ≡ map (λ x. f (h x)) xs
+map_map f h [] = refl
+map_map f h (x ∷ xs) = ap (λ l. f (h x) ∷ l) (map_map f h xs)
+
+unmapped : {X Y : Type 0} (P : Y → Type 0) (f : X → Y) (xs : List X) → All P (map f xs) → All (λ x. P (f x)) xs
+unmapped P f [] a = All-nil (λ x. P (f x))
+unmapped P f (x ∷ xs) a = All-cons (λ x. P (f x)) x xs (All-head P (f x) (map f xs) a) (unmapped P f xs (All-tail P (f x) (map f xs) a))
+
+contains_mapped : {X Y : Type 0} (f : X → Y) (xs : List X) (x : X) → Contains xs x → Contains (map f xs) (f x)
+contains_mapped f xs x there = All-contains (λ y. Contains (map f xs) (f y)) xs x (unmapped (Contains (map f xs)) f xs (All-contains_itself (map f xs))) there
+
+pub none_wished : (asker : CallerPass) (refused : Bool) → HasAsked asker (asker_of asker refused)
+none_wished asker true = puts-none asker
+none_wished asker false = puts-none asker
+
+-- the one that asks the node to stop absorbs nothing
+pub asker_ended : (asker : CallerPass) (refused : Bool) (taker taker' : TakerPass) (asker' : CallerPass) (broke : Option NextFault) (written written' : Option (List ℕ))
+    → HasPrinted (asker_of asker refused) taker taker' asker' broke written written' → ended asker' ≡ ended asker
+asker_ended asker refused taker taker' asker' broke written written' d = ap ended (sym d.is_last) ∙ (d.asked asker (none_wished asker refused)).same_ended
+
+module _ (g : Config) (start : Start) (name : Option (List ℕ)) (keep : Bool) (limit many : ℕ) (s u t : Seen) (p : Prepared g start name keep s u)
+    (n : Node) (how : Ending) (looked looked' : Bool) (actor actor' : ActorPass)
+    (w : IsWork g [] keep limit (scene u.told looked u.world_faults u.kept u.record_faults actor) (scene t.told looked' t.world_faults t.kept t.record_faults actor') n how)
+    (named : Keeps u.named t.named) (none_popped : popped_by actor ≡ []) (none_raised : raised_by actor ≡ [])
+    (guests : List Guest) (afters : List Row) (closer closer' : CallerPass) (close : Status)
+    (asker asker' : CallerPass) (refused : Bool) (taker taker' : TakerPass) (broke : Option NextFault)
+    (d : HasPrinted (asker_of asker refused) taker taker' asker' broke u.written t.written)
+    (write_rose : broke ≡ Some fault.Failed → Rose u.write_faults t.write_faults) (start_rose : refused ≡ true → Rose u.refusals t.refusals)
+    (none_taken : taken_by taker ≡ []) (new_closer : IsNew closer) (new_asker : IsNew asker)
+    (apart : (m : ℕ) → times m (number closer ∷ number asker ∷ map number_of guests) ≤ 1)
+    (fronts : (m : ℕ) → IsPrefix (under m (popped_by actor')) (under m (puts_of (closer' ∷ asker' ∷ []))))
+    (ends : (before : List Placed) (last : Placed) (m : ℕ) → popped_by actor' ≡ before ++ last ∷ [] → 1 ≤ times m last.ended → under m (popped_by actor') ≡ under m (puts_of (closer' ∷ asker' ∷ [])))
+    (all_taken : taken_by taker' ≡ raised_by actor') (desk : Type 0) (are_many : length guests ≡ many) where
+  abbrev fourth : List Status
+  fourth = of_thread refused ∷ []
+
+  abbrev third : List Status
+  third = of_work how ∷ fourth
+
+  abbrev second : List Status
+  second = of_print broke ∷ third
+
+  abbrev statuses : List Status
+  statuses = close ∷ second
+
+  abbrev status : Status
+  status = least statuses
+
+  -- ---- what the status says of the parts
+
+  memory : status ≢ OutOfMemory → how ≢ ending.OutOfMemory
+  memory isnt is = isnt (memory_after close second (memory_after (of_print broke) third (memory_here (of_work how) fourth (ap of_work is))))
+
+  page : status ≢ OutOfMemory → broke ≢ Some fault.OutOfMemory
+  page isnt is = isnt (memory_after close second (memory_here (of_print broke) third (ap of_print is)))
+
+  close_done : status ≡ Done → close ≡ Done
+  close_done is = done_here close second is
+
+  print_done : status ≡ Done → of_print broke ≡ Done
+  print_done is = done_here (of_print broke) third (done_after close second is)
+
+  work_done : status ≡ Done → of_work how ≡ Done
+  work_done is = done_here (of_work how) fourth (done_after (of_print broke) third (done_after close second is))
+
+  thread_done : status ≡ Done → of_thread refused ≡ Done
+  thread_done is = done_here (of_thread refused) [] (done_after (of_work how) fourth (done_after (of_print broke) third (done_after close second is)))
+
+  printed_whole : status ≡ Done → broke ≡ None
+  printed_whole is = by broke refl
+    where
+      by : (f : Option NextFault) → broke ≡ f → broke ≡ None
+      by None e = e
+      by (Some fault.Failed) e = absurd (let x = sym (ap of_print e) ∙ print_done is in cc)
+      by (Some fault.OutOfMemory) e = absurd (let x = sym (ap of_print e) ∙ print_done is in cc)
+
+  has_started : status ≡ Done → refused ≡ false
+  has_started is = by refused refl
+    where
+      by : (b : Bool) → refused ≡ b → refused ≡ false
+      by true e = absurd (let x = sym (ap of_thread e) ∙ thread_done is in cc)
+      by false e = e
+
+  both : status ≢ OutOfMemory → (how ≢ ending.OutOfMemory) × (broke ≢ Some fault.OutOfMemory)
+  both isnt = (memory isnt, page isnt)
+
+  well : status ≡ Done → (of_work how ≡ Done) × (broke ≡ None)
+  well is = (work_done is, printed_whole is)
+
+  -- ---- what the callers put
+
+  abbrev popped : List Placed
+  popped = w.goes.popped
+
+  abbrev handed : List Command
+  handed = w.goes.handed
+
+  is_popped : popped_by actor' ≡ popped
+  is_popped = living.is_popped g start name keep limit s u t p n how looked looked' actor actor' w named none_popped none_raised (asker_of asker refused) asker' taker taker' broke d write_rose none_taken all_taken status both well
+
+  abbrev wished : List Command
+  wished = asked d.last.wish
+
+  few : (x : Wish) → (asked x ≡ []) ⊎ (asked x ≡ Quit ∷ [])
+  few No = inl refl
+  few Due = inl refl
+  few Put = inr refl
+
+  calm : status ≡ Done → wished ≡ []
+  calm is = ap asked (d.calm (printed_whole is) (ap (λ b. (asker_of asker b).wish) (has_started is)))
+
+  put_last : put_by asker' ≡ all_under (number asker) (ended asker) wished
+  put_last = (let asks = d.asked asker (none_wished asker refused) in ap put_by (sym d.is_last) ∙ asks.put ∙ ap (λ l. l ++ all_under (number asker) (ended asker) wished) new_asker.1)
+
+  some : status ≡ Done → 0 < limit
+  some is = living.turned g start name keep limit s u t p n how looked looked' actor actor' w named none_popped none_raised (asker_of asker refused) asker' taker taker' broke d write_rose none_taken all_taken status both well is
+
+  none_pending : (e : Ending) (x y : Scene) (stopped : Bool) (turns : ℕ) (unstepped : List Entry) (pending : List Command) → Ends e stopped turns limit keep x y unstepped pending → of_work e ≡ Done → pending ≡ []
+  none_pending ending.Stopped x y stopped turns unstepped pending h is = h.2
+  none_pending ending.WorldFault x y stopped turns unstepped pending h is = absurd (cc)
+  none_pending ending.RecordFault x y stopped turns unstepped pending h is = absurd (cc)
+  none_pending ending.TooLong x y stopped turns unstepped pending h is = absurd (cc)
+  none_pending ending.OutOfMemory x y stopped turns unstepped pending h is = absurd (cc)
+
+  module _ (k : Closes limit guests afters closer closer' close) where
+    -- ---- what the clients put
+
+    abbrev gathers : Gathers limit guests afters closer k.mid close k.over
+    gathers = k.gathers
+
+    abbrev S : List Served
+    S = k.gathers.served
+
+    their_numbers : map num S ≡ map number_of guests
+    their_numbers = sym (map_map number_of guest_of S) ∙ ap (map number_of) gathers.are_guests
+
+    put_first : put_by closer' ≡ put_for_all S ++ all_under (number closer) (map num S) k.tail
+    put_first =
+        let numbers : ended k.mid ≡ map num S = gathers.absorbed ∙ ap (λ l. l ++ map number_of guests) new_closer.0 ∙ sym their_numbers in
+        k.puts.put ∙ ap (λ l. l ++ all_under (number k.mid) (ended k.mid) k.tail) (gathers.put ∙ ap (λ l. l ++ put_for_all S) new_closer.1)
+        ∙ ap (λ (x : ℕ × List ℕ). put_for_all S ++ all_under x.0 x.1 k.tail) (λ i. (gathers.same_number i, numbers i))
+
+    all_puts : puts_of (closer' ∷ asker' ∷ []) ≡ (put_for_all S ++ all_under (number closer) (map num S) k.tail) ++ (all_under (number asker) (ended asker) wished ++ [])
+    all_puts = ap (λ (x : List Placed × List Placed). x.0 ++ (x.1 ++ [])) (λ i. (put_first i, put_last i))
+
+    its_fronts : (m : ℕ) → IsPrefix (under m popped) (under m ((put_for_all S ++ all_under (number closer) (map num S) k.tail) ++ (all_under (number asker) (ended asker) wished ++ [])))
+    its_fronts m = subst (λ (x : List Placed × List Placed). IsPrefix (under m x.0) (under m x.1)) (λ i. (is_popped i, all_puts i)) (fronts m)
+
+    its_apart : (m : ℕ) → times m (number closer ∷ number asker ∷ map num S) ≤ 1
+    its_apart m = subst (λ l. times m (number closer ∷ number asker ∷ l) ≤ 1) (sym their_numbers) (apart m)
+
+    plain : All IsPlain S
+    plain = All-weaker (IsServed limit) IsPlain (λ x h. plain_commands x.end limit x.commands x.octets x.after.left (Rose x.before.faults x.after.faults) h.outcome) S gathers.each
+
+    ends_well : status ≡ Done → All IsWell S
+    ends_well is = gathers.ends.well (close_done is)
+
+    -- ---- the clients, where this much was handed in without a quit
+
+    module _ (b : List Placed) where
+      abbrev the_clients : List Client
+      the_clients = map (client_for (its_named b)) S
+
+      module _ (r : List Placed) (is_front : popped ≡ b ++ r) (none : list_any is_quit (map command_of b) ≡ false) where
+        its_front : All (λ x. IsPrefix (its_named b x) x.commands) S
+        its_front = named_front S (number closer) (number asker) (ended asker) k.tail wished its_apart k.closes (few d.last.wish) plain popped its_fronts b r is_front none
+
+        each : All (IsClient limit) the_clients
+        each = All-map (IsClient limit) (client_for (its_named b)) S
+            (All-weaker (λ x. IsServed limit x × IsPrefix (its_named b x) x.commands) (λ x. IsClient limit (client_for (its_named b) x)) (λ x h. is_client limit (its_named b) x h.0 h.1) S (λ i e h. (gathers.each i e h, its_front i e h)))
+
+        free : status ≡ Done → All (IsFree limit) the_clients
+        free is = All-map (IsFree limit) (client_for (its_named b)) S
+            (All-weaker (λ x. (IsServed limit x × IsWell x) × IsPrefix (its_named b x) x.commands) (λ x. IsFree limit (client_for (its_named b) x))
+            (λ x h. is_free limit (its_named b) x h.0.0 h.0.1 (some is) h.1) S (λ i e h. ((gathers.each i e h, ends_well is i e h), its_front i e h)))
+
+        interleaved : IsInterleaving (map handed_of the_clients) (map command_of b)
+        interleaved = subst (λ l. IsInterleaving l (map command_of b)) (sym (map_map handed_of (client_for (its_named b)) S))
+            (is_interleaved S (number closer) (number asker) (ended asker) k.tail wished its_apart k.closes (few d.last.wish) plain popped its_fronts b r is_front none)
+
+        long : (x : Served) → Contains S x → x.end ≡ end.TooLong → (c : Client) × Contains the_clients c × IsLong limit c
+        long x there is = (client_for (its_named b) x, contains_mapped (client_for (its_named b)) S x there, is_long limit (its_named b) x (All-contains (IsServed limit) S x gathers.each there) is)
+
+        -- ---- the causes
+
+        close_cause : (close ≡ Done) ⊎ ((close ≡ OutOfMemory) ⊎ ((close ≡ TooLong) × (x : Served) × Contains S x × (x.end ≡ end.TooLong))) → (turns : ℕ) (stopped : Bool)
+            → IsCaused close limit the_clients turns stopped s t desk
+        close_cause (inl is) turns stopped = subst (λ (z : Status). IsCaused z limit the_clients turns stopped s t desk) (sym is) tt
+        close_cause (inr (inl is)) turns stopped = subst (λ (z : Status). IsCaused z limit the_clients turns stopped s t desk) (sym is) tt
+        close_cause (inr (inr (is, x, there, too))) turns stopped = subst (λ (z : Status). IsCaused z limit the_clients turns stopped s t desk) (sym is) (inl (long x there too))
+
+        print_cause : (f : Option NextFault) → broke ≡ f → (turns : ℕ) (stopped : Bool) → IsCaused (of_print f) limit the_clients turns stopped s t desk
+        print_cause None e turns stopped = tt
+        print_cause (Some fault.Failed) e turns stopped = inl (subst (λ m. Rose m t.write_faults) p.same_writes (write_rose e))
+        print_cause (Some fault.OutOfMemory) e turns stopped = tt
+
+        work_cause : (e : Ending) (turns : ℕ) (stopped : Bool) (unstepped : List Entry) (pending : List Command)
+            → Ends e stopped turns limit keep (scene u.told looked u.world_faults u.kept u.record_faults actor) (scene t.told looked' t.world_faults t.kept t.record_faults actor') unstepped pending
+            → IsCaused (of_work e) limit the_clients turns stopped s t desk
+        work_cause ending.Stopped turns stopped unstepped pending h = tt
+        work_cause ending.WorldFault turns stopped unstepped pending h = rose_later s.world_faults u.world_faults t.world_faults p.world_later h.4
+        work_cause ending.RecordFault turns stopped unstepped pending h = inr (rose_later s.record_faults u.record_faults t.record_faults p.record_later h.4)
+        work_cause ending.TooLong turns stopped unstepped pending h = inr (h.3, h.0)
+        work_cause ending.OutOfMemory turns stopped unstepped pending h = tt
+
+        thread_cause : (b : Bool) → refused ≡ b → (turns : ℕ) (stopped : Bool) → IsCaused (of_thread b) limit the_clients turns stopped s t desk
+        thread_cause true e turns stopped = subst (λ m. Rose m t.refusals) p.same_refusals (start_rose e)
+        thread_cause false e turns stopped = tt
+
+        has_served : Merged limit the_clients handed status → HasServed limit handed w.turns (has_stopped (chronicle g w.entries)) s t desk (map halls.before_of guests) afters status
+        has_served merged = record {
+          clients = the_clients;
+          are_before = map_map before_of (client_for (its_named b)) S ∙ sym (map_map halls.before_of guest_of S) ∙ ap (map halls.before_of) gathers.are_guests;
+          are_after = map_map after_of (client_for (its_named b)) S ∙ gathers.are_after;
+          each = each;
+          merged = merged;
+          occurred = statuses;
+          is_status = refl;
+          caused = (close_cause gathers.ends.cause w.turns (has_stopped (chronicle g w.entries)), (print_cause broke refl w.turns (has_stopped (chronicle g w.entries)), (work_cause how w.turns (has_stopped (chronicle g w.entries)) w.unstepped w.pending w.ends, (thread_cause refused refl w.turns (has_stopped (chronicle g w.entries)), tt))));
+        }
+
+    -- none of these is the desk's
+    isnt_desk : status ≢ DeskFault
+    isnt_desk = least_isnt close second (closes gathers.ends.cause) (least_isnt (of_print broke) third (prints broke) (least_isnt (of_work how) fourth (works how) (least_isnt (of_thread refused) [] (threads refused) (λ e. cc))))
+      where
+        closes : (close ≡ Done) ⊎ ((close ≡ OutOfMemory) ⊎ ((close ≡ TooLong) × (x : Served) × Contains S x × (x.end ≡ end.TooLong))) → close ≢ DeskFault
+        closes (inl is) e = (let y : Done ≡ DeskFault = sym is ∙ e in cc)
+        closes (inr (inl is)) e = (let y : OutOfMemory ≡ DeskFault = sym is ∙ e in cc)
+        closes (inr (inr (is, x, there, too))) e = (let y : TooLong ≡ DeskFault = sym is ∙ e in cc)
+
+        prints : (f : Option NextFault) → of_print f ≢ DeskFault
+        prints None e = cc
+        prints (Some fault.Failed) e = cc
+        prints (Some fault.OutOfMemory) e = cc
+
+        works : (e : Ending) → of_work e ≢ DeskFault
+        works ending.Stopped e = cc
+        works ending.WorldFault e = cc
+        works ending.RecordFault e = cc
+        works ending.TooLong e = cc
+        works ending.OutOfMemory e = cc
+
+        threads : (b : Bool) → of_thread b ≢ DeskFault
+        threads true e = cc
+        threads false e = cc
+
+    their_afters : length afters ≡ many
+    their_afters = ap length (sym gathers.are_after) ∙ length-map S clients.after_of ∙ sym (length-map S guest_of) ∙ ap length gathers.are_guests ∙ are_many
+
+    served : HasServed limit handed w.turns (has_stopped (chronicle g w.entries)) s t desk (map halls.before_of guests) afters status
+    served =
+        let cut = map_split popped handed w.pending w.goes.are_handed in
+        by cut.0 cut.1 cut.2 cut.3 cut.4 (quit_split cut.0 (subst QuitsLast (sym cut.3) (quits_front handed w.pending (subst QuitsLast w.goes.are_handed w.quits_last))))
+      where
+        by : (f r : List Placed) → popped ≡ f ++ r → map command_of f ≡ handed → map command_of r ≡ w.pending
+            → (list_any is_quit (map command_of f) ≡ false) ⊎ ((b : List Placed) × (l : Placed) × (f ≡ b ++ l ∷ []) × (l.command ≡ Quit) × (list_any is_quit (map command_of b) ≡ false))
+            → HasServed limit handed w.turns (has_stopped (chronicle g w.entries)) s t desk (map halls.before_of guests) afters status
+        by f r is_all is_handed is_pending (inl none) = has_served f r is_all none (record {
+          body = map command_of f;
+          tail = [];
+          parts = sym is_handed ∙ sym (append-nil (map command_of f));
+          closes = inl refl;
+          interleaved = interleaved f r is_all none;
+          all_handed = λ is any. absurd (true≢false (sym any ∙ ap (list_any is_quit) (sym is_handed) ∙ none));
+          free = free f r is_all none;
+        })
+        by f r is_all is_handed is_pending (inr (b, l, is_cut, quit, none)) = has_served b (l ∷ r) front none (record {
+          body = map command_of b;
+          tail = Quit ∷ [];
+          parts = sym is_handed ∙ ap (map command_of) is_cut ∙ map-append command_of b (l ∷ []) ∙ ap (λ c. map command_of b ++ c ∷ []) quit;
+          closes = inr refl;
+          interleaved = interleaved b (l ∷ r) front none;
+          all_handed = λ is any. whole is;
+          free = free b (l ∷ r) front none;
+        })
+          where
+            front : popped ≡ b ++ (l ∷ r)
+            front = is_all ∙ ap (λ x. x ++ r) is_cut ∙ append_assoc b (l ∷ []) r
+
+            last : status ≡ Done → popped ≡ b ++ l ∷ []
+            last is = is_all ∙ ap (λ x. f ++ x) (nothing_mapped r (is_pending ∙ none_pending how _ _ _ w.turns w.unstepped w.pending w.ends (work_done is))) ∙ append-nil f ∙ is_cut
+
+            was_open : status ≡ Done → k.over ≡ false
+            was_open is = shut k.over refl
+              where
+                shut : (z : Bool) → k.over ≡ z → k.over ≡ false
+                shut false e = e
+                shut true e = absurd (true≢false (sym (ap is_quit quit) ∙ all_last (λ x. is_quit x.command ≡ false) b l (subst (All (λ x. is_quit x.command ≡ false)) (last is)
+                    (none_quit S (number closer) (number asker) (ended asker) k.tail wished its_apart k.closes (few d.last.wish) plain popped its_fronts (k.calm e) (calm is)))))
+
+            whole : status ≡ Done → All (IsWhole limit) (the_clients b)
+            whole is = All-map (IsWhole limit) (client_for (its_named b)) S
+                (All-weaker (λ x. ((IsServed limit x × IsWell x) × IsOwnEnd x) × (its_named b x ≡ x.commands)) (λ x. IsWhole limit (client_for (its_named b) x))
+                (λ x h. is_whole limit (its_named b) x h.0.0.0 h.0.0.1 h.0.1 h.1) S
+                (λ i e h. (((gathers.each i e h, ends_well is i e h), gathers.own_ends (was_open is) i e h), all_of i e h)))
+              where
+                all_of : All (λ x. its_named b x ≡ x.commands) S
+                all_of = named_all S (number closer) (number asker) (ended asker) k.tail wished its_apart k.closes (few d.last.wish) plain popped its_fronts b l (last is) quit (calm is)
+                    (λ m told. (let e = ends b l m (is_popped ∙ last is) told in ap (under m) (sym is_popped) ∙ e ∙ ap (under m) all_puts))
+
+  -- the clients are known to be there, and no more
+  pub gated : ∥ Closes limit guests afters closer closer' close ∥₁ → IsGate g start name limit many s t desk (map halls.before_of guests) afters status
+  gated closes = record {
+    lived = living.lived g start name keep limit s u t p n how looked looked' actor actor' w named none_popped none_raised (asker_of asker refused) asker' taker taker' broke d write_rose none_taken all_taken status both well;
+    wrote = living.wrote g start name keep limit s u t p n how looked looked' actor actor' w named none_popped none_raised (asker_of asker refused) asker' taker taker' broke d write_rose none_taken all_taken status both well;
+    captured = living.captured g start name keep limit s u t p n how looked looked' actor actor' w named none_popped none_raised (asker_of asker refused) asker' taker taker' broke d write_rose none_taken all_taken status both well;
+    unwritten = λ is. absurd (∥∥₁_elim closes ⊥_prop (λ k. isnt_desk k is));
+    full = λ is. ∥∥₁_elim closes (nat_prop (length afters) many) their_afters;
+    served = ∥∥₁_map closes served;
+  }

@@ -1,0 +1,9 @@
+pub mod Answering
+pub mod Attended
+pub mod Clients
+pub mod Gathered
+pub mod Holding
+pub mod Merged
+pub mod Places
+pub mod Seating
+pub mod Unopened

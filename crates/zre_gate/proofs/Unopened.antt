@@ -1,0 +1,122 @@
+-- A gate that ended before its threads were started.
+use Rattle.std.proofs.Common.{◌≡◌, ◌≢◌, ℕ, suc, ◌≤◌, Bool, true, false, List, [], ◌∷◌, map, length, Option, Some, refl, sym, ap, subst, arith}
+use Rattle.std.specs.Prelude.{All, option_map}
+use mathlib.Core.Logic.{inl, inr}
+use mathlib.Core.List.{IsPrefix}
+use Rattle.std.specs.Io.KnownBytes.{Appends}
+use Rattle.std.proofs.KnownBytes.{Appends-nil, Consumes-nil}
+use Rattle.std.proofs.lemmas.List.Elements.{All-nil, All-cons}
+use Rattle.zre_values.specs.declared.endpoint.Endpoint.{Endpoint}
+use Rattle.zre_outside.specs.declared.entry.Command.{Command}
+use Rattle.zre_outside.specs.declared.start.Start.{Start}
+use Rattle.zre_outside.specs.Causes.{Rose}
+use Rattle.zre_outside.specs.Desks.{Register}
+use Rattle.zre_journal.specs.declared.config.Config.{Config}
+use Rattle.zre_capture.specs.Heads.{AreSettings}
+use Rattle.zre_actor.specs.Commands.{times, row as row_of}
+use Rattle.zre_commands.specs.Settings.{as_settings}
+use Rattle.zre_console.specs.lines.Orders.{asked}
+use Rattle.zre_commands.specs.declared.pump.status.Status.{Status}
+use Rattle.zre_commands.specs.declared.pump.status.Status.TheVariants.{Done, Usage, BadInput, ReadFault, WriteFault, WorldFault, NoThread, TooLong, OutOfMemory, DeskFault}
+use Rattle.zre_chat.specs.Chat.{Seen, Holds, started}
+use Rattle.zre_chat.proofs.Whole.{unlived, unwritten, uncaptured, none_started}
+use Rattle.zre_chat.proofs.Rows.{one_least, memory_isnt}
+use Rattle.zre_gate.specs.Clients.{Row}
+use Rattle.zre_gate.specs.Gate.{Client, IsClient, IsCaused, IsGate, HasGated, before_of, after_of, handed_of}
+use Rattle.zre_gate.specs.Interleaving.{IsInterleaving, of_name}
+use Rattle.zre_gate.specs.Stages.{IsEarly}
+use Rattle.zre_gate.proofs.Attended.{not_attended}
+use Rattle.zre_gate.proofs.Places.{row_once}
+
+-- a client of which nothing was read
+abbrev pub unread : Row → Client
+unread r = record { before = r; after = r; octets = []; handed = [] }
+
+is_unread : (limit : ℕ) (r : Row) → IsClient limit (unread r)
+is_unread limit r = record {
+  moved = record { consumed = Consumes-nil r.left; recorded = Appends-nil r.taken };
+  within = omega arith;
+  later = omega arith;
+  in_order = (asked false [], refl);
+  unfinished = inl (asked true [], refl);
+}
+
+all_unread : (limit : ℕ) (rows : List Row) → All (IsClient limit) (map unread rows)
+all_unread limit [] = All-nil (IsClient limit)
+all_unread limit (r ∷ rows) = All-cons (IsClient limit) (unread r) (map unread rows) (is_unread limit r) (all_unread limit rows)
+
+same_rows : (f : Client → Row) → ((r : Row) → f (unread r) ≡ r) → (rows : List Row) → map f (map unread rows) ≡ rows
+same_rows f same [] = refl
+same_rows f same (r ∷ rows) = λ i. same r i ∷ same_rows f same rows i
+
+-- nothing is an interleaving of empty lists
+none_merged : (rows : List Row) → IsInterleaving (map handed_of (map unread rows)) []
+none_merged rows = record {
+  names = row_of 1 (length rows);
+  apart = λ n. (row_once (length rows) n).0;
+  named = [];
+  are_whole = refl;
+  are_lists = by 1 rows;
+  known = All-nil (λ (x : ℕ × Command). 1 ≤ times x.0 (row_of 1 (length rows)));
+}
+  where
+    by : (a : ℕ) (rs : List Row) → map (λ n. of_name n []) (row_of a (length rs)) ≡ map handed_of (map unread rs)
+    by a [] = refl
+    by a (r ∷ rs) = ap (λ l. [] ∷ l) (by (suc a) rs)
+
+module _ (g : Config) (start : Start) (name : Option (List ℕ)) (limit many : ℕ) (s t : Seen) (desk : Type 0) (rows : List Row) where
+  pub unopened : (begun : Bool) (status : Status) → (status ≢ OutOfMemory → AreSettings (as_settings g)) → t.written ≡ s.written → t.told ≡ option_map (started begun start) s.told → status ≢ Done
+      → IsCaused status limit (map unread rows) 0 false s t desk
+      → ((file : List ℕ) → name ≡ Some file → status ≢ OutOfMemory → ¬ Rose s.record_faults t.record_faults → Holds g file [] s t)
+      → IsGate g start name limit many s t desk rows rows status
+  unopened begun status settings written told not_done cause holds = record {
+    lived = unlived g start name limit begun s t status told not_done;
+    wrote = unwritten g start name limit s t status written;
+    captured = uncaptured g start name limit s t status settings not_done holds;
+    unwritten = λ _. subst (λ x. Appends s.written x []) (sym written) (Appends-nil s.written);
+    full = λ d. absurd (not_done d);
+    served = ∣ record {
+      clients = map unread rows;
+      are_before = same_rows before_of (λ r. refl) rows;
+      are_after = same_rows after_of (λ r. refl) rows;
+      each = all_unread limit rows;
+      merged = record {
+        body = [];
+        tail = [];
+        parts = refl;
+        closes = inl refl;
+        interleaved = none_merged rows;
+        all_handed = λ d. absurd (not_done d);
+        free = λ d. absurd (not_done d);
+      };
+      occurred = status ∷ [];
+      is_status = one_least status;
+      caused = (cause, tt);
+    } ∣₁;
+  }
+
+  -- what ends it before
+  pub early : (status : Status) (worlds records : Type 0) → (worlds → Rose s.world_faults t.world_faults) → (records → Rose s.record_faults t.record_faults) → IsEarly status desk worlds records
+      → (status ≢ Done) × IsCaused status limit (map unread rows) 0 false s t desk
+  early WriteFault worlds records v r is = ((λ e. cc), inr (r is))
+  early WorldFault worlds records v r is = ((λ e. cc), v is)
+  early DeskFault worlds records v r is = ((λ e. cc), is)
+  early OutOfMemory worlds records v r is = ((λ e. cc), tt)
+  early Done worlds records v r is = absurd is
+  early Usage worlds records v r is = absurd is
+  early BadInput worlds records v r is = absurd is
+  early ReadFault worlds records v r is = absurd is
+  early NoThread worlds records v r is = absurd is
+  early TooLong worlds records v r is = absurd is
+
+-- one that found no memory before anything was begun
+pub not_gated : {C : Type 0} (look : C → Row) (place : Endpoint) (told : Option (Register C)) (g : Config) (start : Start) (name : Option (List ℕ)) (limit many : ℕ) (s : Seen) (desk : Type 0) (returned : List C) → returned ≡ []
+    → HasGated look place told told g start name limit many s s desk returned OutOfMemory
+not_gated look place told g start name limit many s desk returned none = record {
+  given = [];
+  begun = false;
+  is_told = not_attended place told;
+  opened = λ is. absurd (memory_isnt is);
+  gate = subst (λ xs. IsGate g start name limit many s s desk [] (map look xs) OutOfMemory) (sym none)
+      (unopened g start name limit many s s desk [] false OutOfMemory (λ isnt. absurd (isnt refl)) refl (none_started s.told) memory_isnt tt (λ file is isnt still. absurd (isnt refl)));
+}

@@ -1,0 +1,32 @@
+use Rattle.std.proofs.Common.{◌≡◌, ◌∙◌, ◌∷◌, [], true, length, length-append, refl, sym, ap, subst, arith}
+use Rattle.std.specs.Prelude.{option_map}
+use Rattle.zre_gate.specs.Gate.{attended}
+use Rattle.zre_gate.proofs.Attended.{just_begun, one_attended}
+use Rattle.zre_gate.proofs.arrivals.attend.Goals as goal
+
+pub each-init : goal.each-init
+each-init g c = let d = g.D.Desk in let place = c.args.place in record {
+  told = subst (λ xs. d.told c.begin.new.self ≡ option_map (attended true place xs) (d.told c.args.desk.now)) (sym c.requires.room.0)
+      (just_begun place (d.told c.args.desk.now) (d.told c.begin.new.self) c.in_ok-begin.ensures.told);
+  many = (ap length c.requires.room.0, omega (arith, c.args.clients.now.ok.0, ap length c.requires.room.0));
+  room = refl;
+  later = c.begin.ensures.later;
+}
+
+pub each-preserved : goal.each-preserved
+each-preserved g c = let d = g.D.Desk in let place = c.args.place in let i = c.each.invariant in record {
+  told = subst (λ xs. d.told c.next.new.self ≡ option_map (attended true place xs) (d.told c.args.desk.now)) (sym c.push_reserved.ensures.items)
+      (one_attended place c.each.clients.items c.in_ok-client.client (d.told c.args.desk.now) (d.told c.each.desk) (d.told c.next.new.self) i.told c.in_ok-client.ensures.told);
+  many = (ap length c.push_reserved.ensures.items ∙ omega (arith, i.many.0, length-append c.each.clients.items (c.in_ok-client.client ∷ [])), omega (arith, i.many.1, c.push_reserved.ensures.len));
+  room = c.push_reserved.ensures.capacity ∙ i.room;
+  later = omega (arith, i.later, c.next.ensures.later);
+}
+
+pub returns-in_err-client-clause-attends : goal.returns-in_err-client-clause-attends
+returns-in_err-client-clause-attends g c = record { begun = true; is_told = c.in_err-client.ensures.refused ∙ c.each.invariant.told }
+
+pub returns-clause-attends : goal.returns-clause-attends
+returns-clause-attends g c = record { begun = true; is_told = c.each.invariant.told }
+
+pub returns-clause-all : goal.returns-clause-all
+returns-clause-all g c = record { is_told = c.each.invariant.told; are_many = omega (arith, c.each.invariant.many.0, c.each.auto.counter-end, c.each-test.false) }

@@ -1,0 +1,10 @@
+use Rattle.std.specs.Arc.{arc_value}
+use Rattle.std.proofs.Math.Logic.{∥∥₁_map}
+use Rattle.zre_gate.specs.Clients.{row}
+use Rattle.zre_gate.proofs.Answering.{left_alone}
+use Rattle.zre_gate.proofs.client.leave_client.Goals as goal
+
+pub invariant_of-answer : goal.invariant_of-answer
+invariant_of-answer g c =
+    let s = g.C.Source in let job = c.args.job in
+    record { known = ∥∥₁_map job.known (left_alone g.B.Known.hall (arc_value job.pipes) job.limit job.place job.pass (row s.left s.taken s.faults job.input)) }

@@ -1,0 +1,33 @@
+use Rattle.std.proofs.Common.{◌≡◌, ◌∙◌, ◌+◌, ◌++◌, ◌∷◌, [], length, length-append, refl, sym, ap, arith, append_assoc, ⊎_elim}
+use Rattle.std.specs.Vec.Iter.{into_iter_items}
+use Rattle.zre_gate.specs.Clients.{row}
+use Rattle.zre_gate.proofs.Seating.{seated_guest}
+use Rattle.zre_gate.proofs.threads.seat_all.Goals as goal
+
+pub job_for-job-requires-after_bounds : goal.job_for-job-requires-after_bounds
+job_for-job-requires-after_bounds g c κs within =
+    let s = g.C.Source in let i = c.loop-input.invariant in let hall = c.requires.hall in let chair = c.in-Some-pop_front.chair in
+    seated_guest (row s.left s.taken s.faults) g.B.Known.hall hall.0 c.args.limit c.args.chairs.items i.chairs.0 c.pop_front.new.self.items chair
+    c.args.clients.items c.loop-input.yielded (into_iter_items c.next.new.self) c.in-Some.input c.loop-input.place hall.1 hall.2
+    (i.chairs.1 ∙ ap (λ l. i.chairs.0 ++ l) c.in-Some-pop_front.ensures.items)
+    (i.rest ∙ ap (λ l. c.loop-input.yielded ++ l) c.in-Some.ensures.steps.0)
+    i.chairs.2 (sym i.place)
+
+pub loop-input-preserved : goal.loop-input-preserved
+loop-input-preserved g c =
+    let i = c.loop-input.invariant in let chair = c.in-Some-pop_front.chair in let one = c.seat_one.ensures in record {
+      rest = i.rest ∙ ap (λ l. c.loop-input.yielded ++ l) c.in-Some.ensures.steps.0 ∙ sym (append_assoc c.loop-input.yielded (c.in-Some.input ∷ []) (into_iter_items c.next.new.self));
+      place = omega (arith, i.place, length-append c.loop-input.yielded (c.in-Some.input ∷ []));
+      chairs = (
+        i.chairs.0 ++ chair ∷ [],
+        i.chairs.1 ∙ ap (λ l. i.chairs.0 ++ l) c.in-Some-pop_front.ensures.items ∙ sym (append_assoc i.chairs.0 (chair ∷ []) c.pop_front.new.self.items),
+        length-append i.chairs.0 (chair ∷ []) ∙ ap (λ n. n + 1) i.chairs.2,
+      );
+      ins = omega (arith, i.ins, ap length c.in-Some-pop_front-2.ensures.items);
+      room = (omega (arith, i.room.0, one.room.0), one.room.1 ∙ i.room.1);
+      refused = λ is. ⊎_elim
+          (λ before. (let h = i.refused before in omega (arith, h, one.later)))
+          (λ after. (let h = after in omega (arith, h, i.later)))
+          (one.refused is);
+      later = omega (arith, i.later, one.later);
+    }

@@ -1,0 +1,29 @@
+//! The clients come.
+
+ghost use Rattle.std.specs.Prelude.{◌≡◌, ◌≤◌, [], length, vec_capacity, OnOk, OnErr, true};
+ghost use Rattle.zre_outside.specs.Causes.{Rose};
+ghost use Rattle.zre_gate.specs.Stages.{Attends, AttendsAll};
+
+use zre_outside::{Desk, Failed};
+use zre_values::Endpoint;
+
+/// Begins a desk at a place, and takes so many clients of it, in order. The list has room for them.
+pub(crate) fn attend<D: Desk>(
+    desk: &mut D,
+    place: Endpoint,
+    many: u8,
+    clients: &mut Vec<D::Client>,
+) -> Result<(), Failed>
+    requires room { (clients.old.items ≡ []) × (many ≤ vec_capacity clients.old) }
+    ensures attends { Attends place (D.told desk.old) (D.told desk.new) clients.new.items }
+    ensures all { OnOk result (AttendsAll place many (D.told desk.old) (D.told desk.new) clients.new.items) }
+    ensures failed { OnErr result (Rose (D.faults desk.old) (D.faults desk.new)) }
+    ensures later { D.faults desk.old ≤ D.faults desk.new }
+{
+    desk.begin(place.addr, place.port)?;
+    'each: for _ in 0..many {
+        let client = desk.next()?;
+        clients.push_reserved(client);
+    }
+    Ok(())
+}

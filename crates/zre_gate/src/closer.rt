@@ -1,0 +1,142 @@
+//! The work of the closer's thread.
+
+ghost use Rattle.std.specs.Prelude.{◌≡◌, ◌≤◌, [], map, length, Option, vec_capacity};
+ghost use Rattle.std.specs.Arc.{arc_value};
+ghost use Rattle.zre_actor.specs.declared.passes.CallerPass.{CallerPass as CallerPassValue};
+ghost use Rattle.zre_actor.specs.Passes.{IsCallerOf};
+ghost use Rattle.zre_gate.specs.Clients.{row};
+ghost use Rattle.zre_gate.specs.Gathering.{IsHall, IsFull, GathersAll, ClosesAll};
+ghost use Rattle.zre_gate.specs.Halls.{Hall};
+
+use crate::client::Answer;
+use crate::gathering::{Gathered, gather};
+use crate::known::Known;
+use crossbeam_channel::Receiver;
+use std::alloc::Global;
+use std::sync::atomic::AtomicBool;
+use std::sync::{Arc, Wait};
+use zre_actor::{CallerPass, Pipes};
+use zre_commands::pump::Status;
+use zre_console::reader::close;
+use zre_outside::{Job, Source, Task};
+
+/// Waits for all clients and absorbs their passes into its own. Then it puts a quit, again while the pipe is full,
+/// unless a client ended because the gate was over. Once `over` is set it ends at its next try.
+#[derive(Drop)]
+pub struct CloserJob<C: Source, B: Known> {
+    /// Where the quit is put.
+    pub pipes: Arc<Pipes, Global>,
+    /// Whether nothing more is to be put.
+    pub over: Arc<AtomicBool, Global>,
+    /// The pass under which it is put.
+    pub pass: CallerPass,
+    /// Where the answers of the clients come from, in the order of their places.
+    pub lines: Vec<Receiver<Answer<C, B>>>,
+    /// Where the clients are kept that were waited for.
+    pub clients: Vec<C>,
+    ghost of_pipes: { IsCallerOf (arc_value pipes) pass },
+    ghost hall: { ∥ IsHall B.hall (arc_value pipes) ∥₁ },
+    ghost many: { IsFull B.hall (length lines.items) },
+    ghost room: { (clients.items ≡ []) × (length lines.items ≤ vec_capacity clients) },
+}
+
+/// What comes back of a [`CloserJob`].
+#[derive(Drop)]
+pub struct Closed<C> {
+    /// The clients, as they were left.
+    pub clients: Vec<C>,
+    /// The pass, with all that was put under it and under those of the clients.
+    pub pass: CallerPass,
+    /// What the ends of the clients come to.
+    pub status: Status,
+}
+
+impl<C: Source + Send + Drop + 'static, B: Known + Send + 'static> Task for CloserJob<C, B> {
+    ghost use Rattle.std.specs.Prelude.{map};
+    ghost use Rattle.std.specs.Arc.{arc_value};
+    ghost use Rattle.zre_actor.specs.Passes.{IsCallerOf};
+    ghost use Rattle.zre_gate.specs.Clients.{row};
+    ghost use Rattle.zre_gate.specs.Gathering.{ClosesAll};
+
+    type Out = Closed<C>;
+
+    ghost means = { λ job out. IsCallerOf (arc_value job.pipes) out.pass
+        × ClosesAll B.hall (map (row C.left C.taken C.faults) out.clients.items) job.pass out.pass out.status };
+}
+
+impl<T: Wait + Copy, C: Source + Send + Drop + 'static, B: Known + Send + 'static> Job<T>
+    for CloserJob<C, B> {
+    fn run(self, rt: T) -> Closed<C> {
+        let CloserJob {
+            pipes,
+            over,
+            pass,
+            lines,
+            clients,
+        } = self;
+        let gathered = gather(rt, &pipes, pass, lines, clients);
+        close_after(rt, &pipes, &over, gathered)
+    }
+}
+
+// Puts a quit after all clients, unless one of them ended because the gate was over.
+fn close_after<C, T>(rt: T, pipes: &Pipes, over: &AtomicBool, gathered: Gathered<C>) -> Closed<C>
+where
+    C: Source + Drop,
+    T: Wait + Copy,
+    requires pipes { IsCallerOf pipes.now gathered.pass }
+    ensures pipes { IsCallerOf pipes.now result.pass }
+    ensures closes { (hall : Option Hall) (first : CallerPassValue)
+        → GathersAll hall (map (row C.left C.taken C.faults) gathered.clients.items) first gathered.pass
+        gathered.status gathered.over
+        → ClosesAll hall (map (row C.left C.taken C.faults) result.clients.items) first result.pass result.status }
+{
+    let Gathered {
+        clients,
+        pass,
+        status,
+        over: was_over,
+    } = gathered;
+    if was_over {
+        return Closed {
+            clients,
+            pass,
+            status,
+        };
+    }
+    Closed {
+        clients,
+        pass: close(rt, pipes, over, pass),
+        status,
+    }
+}
+
+/// What comes back of a closer that wasn't started: the clients are waited for here, and no quit is put.
+pub(crate) fn close_here<C, B, T>(rt: T, job: CloserJob<C, B>) -> Closed<C>
+where
+    C: Source + Drop,
+    B: Known,
+    T: Wait + Copy,
+    ensures pipes { IsCallerOf (arc_value job.pipes) result.pass }
+    ensures closes { ClosesAll B.hall (map (row C.left C.taken C.faults) result.clients.items) job.pass result.pass
+        result.status }
+{
+    let CloserJob {
+        pipes,
+        over: _,
+        pass,
+        lines,
+        clients,
+    } = job;
+    let Gathered {
+        clients,
+        pass,
+        status,
+        over: _,
+    } = gather(rt, &pipes, pass, lines, clients);
+    Closed {
+        clients,
+        pass,
+        status,
+    }
+}

@@ -1,0 +1,195 @@
+//! The whole call, with its order of starts.
+
+ghost use Rattle.std.specs.Prelude.{◌≡◌, ◌≤◌, ℕ, List, [], true, None, Some, option_map, IfSome, IfOk, IfErr, OnOk};
+ghost use Rattle.std.specs.Prelude.{length, map, vec_capacity};
+ghost use Rattle.std.specs.Str.{is_utf8};
+ghost use Rattle.zre_outside.specs.Causes.{Rose};
+ghost use Rattle.zre_outside.specs.Worlds.{with_start};
+ghost use Rattle.zre_journal.specs.Config.{is_valid};
+ghost use Rattle.zre_node.specs.Journal.{StandsFor};
+ghost use Rattle.zre_chat.specs.Keeping.{head_of, Begins};
+ghost use Rattle.zre_gate.specs.Clients.{row};
+ghost use Rattle.zre_gate.specs.Gate.{HasGated, seen_beside};
+ghost use Rattle.zre_gate.specs.Stages.{Attends, AttendsAll, Unopened};
+ghost use Rattle.zre_gate.specs.Tables.{IsLaid};
+
+use crate::arrivals::attend;
+use crate::table::Table;
+use crate::threads::{Served, serve};
+use std::alloc::Global;
+use std::sync::Wait;
+use std::thread::Threads;
+use zre_chat::Chat;
+use zre_chat::keeping::begin;
+use zre_chat::statuses::of_fault;
+use zre_chat::values::are_values;
+use zre_commands::pump::Status;
+use zre_journal::Config;
+use zre_outside::{Desk, Failed, Recorder, Sink, Spawner, Start, World};
+use zre_values::{Endpoint, Octets, OutOfMemory};
+
+/// What a gate is asked for.
+#[derive(Drop)]
+pub struct Gate {
+    /// What a chat is asked for.
+    pub chat: Chat,
+    /// Where clients come to.
+    pub local: Endpoint,
+    /// How many clients there are.
+    pub clients: u8,
+}
+
+/// How a gate ended, what was handed in, as it was left, and the clients that the desk gave, in order.
+#[derive(Drop)]
+pub struct Gated<D: Desk, W, R> {
+    pub status: Status,
+    pub desk: D,
+    pub clients: Vec<D::Client>,
+    pub world: W,
+    pub rec: R,
+}
+
+impl Gate {
+    /// Begins the capture, where one is kept, waits for all clients, and goes on the network. Then starts the node's
+    /// thread, one for each client and the closer's, prints what the node tells until it ends, and waits for all. At
+    /// most `limit` octets are read of each client and `limit` turns of the world taken.
+    pub fn run<D, W, O, R, P, T>(
+        self,
+        rt: T,
+        alloc: Global,
+        desk: D,
+        world: W,
+        out: &mut O,
+        rec: R,
+        spawner: &mut P,
+        limit: u64,
+    ) -> Gated<D, W, R>
+    where
+        D: Desk + Drop,
+        W: World + Send + Drop + 'static,
+        O: Sink,
+        R: Recorder + Send + Drop + 'static,
+        P: Spawner,
+        T: Wait + Threads + Copy,
+        requires valid { is_valid self.chat.config ≡ true }
+        requires text { IfSome self.chat.capture (λ name. is_utf8 name ≡ true) }
+        requires few { (1 ≤ self.clients) × (self.clients ≤ 14) }
+        ensures gate { HasGated (row D.Client.left D.Client.taken D.Client.faults) self.local
+            (D.told desk) (D.told result.desk) self.chat.config self.chat.start self.chat.capture limit self.clients
+            (seen_beside (W.told world) (W.faults world) (O.written out.old) (O.faults out.old)
+            (R.kept rec) (R.named rec) (R.faults rec) (P.faults spawner.old))
+            (seen_beside (W.told result.world) (W.faults result.world) (O.written out.new) (O.faults out.new)
+            (R.kept result.rec) (R.named result.rec) (R.faults result.rec) (P.faults spawner.new))
+            (Rose (D.faults desk) (D.faults result.desk)) result.clients.items result.status }
+        ensures unkept { self.chat.capture ≡ None → result.rec ≡ rec }
+        ensures later { (O.faults out.old ≤ O.faults out.new) × (P.faults spawner.old ≤ P.faults spawner.new) }
+    {
+        let Gate {
+            chat,
+            local,
+            clients: many,
+        } = self;
+        let Chat {
+            config,
+            start,
+            capture,
+        } = chat;
+        are_values(&config);
+        let (mut desk, mut world, mut rec) = (desk, world, rec);
+        let Ok(mut clients) = Vec::with_capacity(alloc, usize::from(many)) else {
+            return Gated {
+                status: Status::OutOfMemory,
+                desk,
+                clients: Vec::new(alloc),
+                world,
+                rec,
+            };
+        };
+        let opened = prepare(
+            alloc,
+            config,
+            &start,
+            &capture,
+            local,
+            many,
+            &mut desk,
+            &mut clients,
+            &mut world,
+            &mut rec,
+        );
+        let table = match opened {
+            Ok(table) => table,
+            Err(status) => {
+                return Gated {
+                    status,
+                    desk,
+                    clients,
+                    world,
+                    rec,
+                };
+            }
+        };
+        let keep = capture.is_some();
+        let Served {
+            status,
+            clients,
+            world,
+            rec,
+        } = serve(
+            rt, alloc, table, clients, world, out, rec, keep, spawner, limit,
+        );
+        Gated {
+            status,
+            desk,
+            clients,
+            world,
+            rec,
+        }
+    }
+}
+
+// Begins the capture, where one is kept, waits for the clients, goes on the network, and makes what the threads need.
+fn prepare<D: Desk, W: World, R: Recorder>(
+    alloc: Global,
+    config: Config,
+    start: &Start,
+    capture: &Option<Octets>,
+    local: Endpoint,
+    many: u8,
+    desk: &mut D,
+    clients: &mut Vec<D::Client>,
+    world: &mut W,
+    rec: &mut R,
+) -> Result<Table<D::Client>, Status>
+    requires valid { is_valid config ≡ true }
+    requires text { IfSome capture.now (λ name. is_utf8 name ≡ true) }
+    requires few { (1 ≤ many) × (many ≤ 14) }
+    requires room { (clients.old.items ≡ []) × (many ≤ vec_capacity clients.old) }
+    ensures laid { IfOk result (λ table. IsLaid many table × StandsFor config [] table.node) }
+    ensures attends { Attends local (D.told desk.old) (D.told desk.new) clients.new.items }
+    ensures all { OnOk result (AttendsAll local many (D.told desk.old) (D.told desk.new) clients.new.items) }
+    ensures told { OnOk result (W.told world.new ≡ option_map (with_start start.now) (W.told world.old)) }
+    ensures kept { (name : List ℕ) → capture.now ≡ Some name →
+        OnOk result (Begins (head_of config) name (R.begun rec.new) (R.kept rec.old) (R.kept rec.new) (R.named rec.old)
+        (R.named rec.new)) }
+    ensures unkept { capture.now ≡ None → rec.new ≡ rec.old }
+    ensures later { (W.faults world.old ≤ W.faults world.new) × (R.faults rec.old ≤ R.faults rec.new) }
+    ensures refused { IfErr result (λ status. Unopened config start.now capture.now status (W.told world.old)
+        (W.told world.new) (R.kept rec.old) (R.kept rec.new) (R.named rec.old) (R.named rec.new)
+        (Rose (D.faults desk.old) (D.faults desk.new)) (Rose (W.faults world.old) (W.faults world.new))
+        (Rose (R.faults rec.old) (R.faults rec.new))) }
+{
+    if let Err(fault) = begin(alloc, rec, &config, capture) {
+        return Err(of_fault(fault, Status::WriteFault));
+    }
+    if let Err(Failed) = attend(desk, local, many, clients) {
+        return Err(Status::DeskFault);
+    }
+    if let Err(fault) = world.start(start) {
+        return Err(of_fault(fault, Status::WorldFault));
+    }
+    match Table::lay(alloc, config, many) {
+        Ok(table) => Ok(table),
+        Err(OutOfMemory) => Err(Status::OutOfMemory),
+    }
+}

@@ -1,0 +1,19 @@
+//! The call `gate`: a node in a thread of its own over the world, as in a chat, and beside it a thread for each of
+//! several clients, which puts the commands of the client's lines, and one that closes the gate once all clients have
+//! ended. The caller's own thread writes the lines of what the node tells.
+#![tactic(auto)]
+
+mod arrivals;
+mod client;
+mod closer;
+mod gate;
+mod gathering;
+mod known;
+mod table;
+mod talk;
+mod threads;
+
+pub use client::{Answer, ClientJob};
+pub use closer::{Closed, CloserJob};
+pub use gate::{Gate, Gated};
+pub use known::Known;

@@ -1,0 +1,102 @@
+//! Messages are queued.
+
+ghost use Rattle.std.specs.Prelude.{◌≡◌, ◌+◌, ◌-◌, ◌^◌, ◌<◌, ◌≤◌, ℕ, [], ◌++◌, length, min, IfOk, OnOk, IfErr, OnErr};
+ghost use Rattle.zre_values.specs.declared.limits.TheConstants.{UNSENT_OCTETS};
+ghost use Rattle.zre_msg.specs.declared.message.Body.TheVariants.{Shout};
+ghost use Rattle.zre_msg.specs.Spelling.{Fits, FitsString, octets as octets_of};
+ghost use Rattle.zre_link.specs.Link.{RefusesPush};
+
+use crate::fault::PushFault;
+use crate::queue::Queue;
+use crate::tail::Tail;
+use std::alloc::Global;
+use zre_msg::{Message, push_shout_head};
+use zre_values::limits::UNSENT_OCTETS;
+use zre_values::{Octets, OutOfMemory};
+
+/// Messages with more octets are spelled in memory of their own.
+const SHORT: u64 = 16 * 1024;
+
+// How many octets there are with so many more, unless more would wait then than may.
+fn with_more(queue: &Queue, written: u64, size: u64) -> Result<u64, PushFault>
+    requires some { 0 < written }
+    ensures ok { (takes : ℕ) → size ≡ min takes (2 ^ 64 - 1) → IfOk result (λ all. (all ≡ written + takes)
+        × (length queue.now + takes ≤ UNSENT_OCTETS)) }
+    ensures refused { (takes : ℕ) → size ≡ min takes (2 ^ 64 - 1) →
+        IfErr result (λ e. RefusesPush e (length queue.now) takes) }
+{
+    let unsent = queue.len() as u64;
+    let Some(all) = written.checked_add(size) else {
+        return Err(PushFault::OutOfMemory);
+    };
+    if unsent.saturating_add(size) > UNSENT_OCTETS as u64 {
+        return Err(PushFault::Slow { unsent, size });
+    }
+    Ok(all)
+}
+
+// Appends a message, spelled into an empty list.
+fn spell(queue: &mut Queue, spelled: &mut Octets, message: &Message) -> Result<(), OutOfMemory>
+    requires fits { Fits message.now }
+    requires empty { spelled.old ≡ [] }
+    ensures ok { OnOk result (queue.new ≡ queue.old ++ octets_of message.now) }
+    ensures err { OnErr result (queue.new ≡ queue.old) }
+{
+    message.push_to(spelled)?;
+    queue.append(spelled.as_slice())
+}
+
+/// Queues a message after `written` octets, unless it passes the limit, and gives how many there are with it. Short ones
+/// are spelled in `spelled`, whose memory serves again and again.
+pub fn queue_message(
+    alloc: Global,
+    queue: &mut Queue,
+    spelled: &mut Octets,
+    written: u64,
+    message: &Message,
+) -> Result<u64, PushFault>
+    requires fits { Fits message.now }
+    requires some { 0 < written }
+    ensures ok { IfOk result (λ all. (queue.new ≡ queue.old ++ octets_of message.now)
+        × (all ≡ written + length (octets_of message.now))
+        × (length queue.old + length (octets_of message.now) ≤ UNSENT_OCTETS)) }
+    ensures refused { IfErr result (λ e. RefusesPush e (length queue.old) (length (octets_of message.now))) }
+    ensures unchanged { OnErr result (queue.new ≡ queue.old) }
+{
+    let size = message.octets_len();
+    let all = with_more(queue, written, size)?;
+    if size > SHORT {
+        spell(queue, &mut Octets::new(alloc), message)?;
+        return Ok(all);
+    }
+    spelled.clear();
+    spell(queue, spelled, message)?;
+    Ok(all)
+}
+
+/// Queues a SHOUT in the same way: its first frame, spelled in `head`, and then the octets of its content, which are
+/// shared where they are many.
+pub fn queue_shout(
+    queue: &mut Queue,
+    head: &mut Octets,
+    written: u64,
+    sequence: u16,
+    group: &[u8],
+    tail: &Tail,
+) -> Result<u64, PushFault>
+    requires fits { FitsString group.now }
+    requires some { 0 < written }
+    ensures ok { let m = octets_of (record { sequence = sequence; body = Shout group.now tail.now }) in
+        IfOk result (λ all. (queue.new ≡ queue.old ++ m) × (all ≡ written + length m)
+        × (length queue.old + length m ≤ UNSENT_OCTETS)) }
+    ensures refused { let m = octets_of (record { sequence = sequence; body = Shout group.now tail.now }) in
+        IfErr result (λ e. RefusesPush e (length queue.old) (length m)) }
+    ensures unchanged { OnErr result (queue.new ≡ queue.old) }
+{
+    head.clear();
+    push_shout_head(head, sequence, group, !tail.is_empty())?;
+    let size = (head.len() as u64).saturating_add(tail.len() as u64);
+    let all = with_more(queue, written, size)?;
+    tail.put_after(queue, head)?;
+    Ok(all)
+}

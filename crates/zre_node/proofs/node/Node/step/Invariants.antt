@@ -1,4 +1,0 @@
-use Rattle.zre_node.proofs.node.Node.step.Given as goal
-
-abbrev pub ghosts-step_from : goal.ghosts-step_from
-ghosts-step_from a = record { name = a.blank.name; parts = a.blank.parts }

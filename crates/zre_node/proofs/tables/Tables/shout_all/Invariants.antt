@@ -1,0 +1,12 @@
+use Rattle.std.proofs.Common.{List, take}
+use Rattle.zre_msg.specs.declared.message.Body.TheVariants.{Shout}
+use Rattle.zre_journal.specs.declared.config.Config.{Config}
+use Rattle.zre_journal.specs.Chronicle.{Mark, in_turn}
+use Rattle.zre_journal.specs.Pushes.{push}
+use Rattle.zre_node.specs.Stands.{Holds, Did, AreKnown}
+use Rattle.zre_node.proofs.tables.Tables.shout_all.Given as goal
+
+-- it was put on those so far
+abbrev pub invariant-loop-link : goal.invariant-loop-link
+invariant-loop-link l =
+    (g : Config) (K : List Mark) → Holds g K l.fn.self → AreKnown K l.links → Did g (in_turn (λ k J. push g k (Shout l.group l.tail) J) (take l.link-index l.links) K) K l.self l.fn.out l.out

@@ -1,7 +1,0 @@
-use Rattle.std.proofs.Common.{◌≡◌}
-use Rattle.zre_node.specs.Stands.{other_among}
-use Rattle.zre_node.proofs.tables.other_with.Given as goal
-
--- no row so far is another with the identity
-abbrev pub invariant-loop-number : goal.invariant-loop-number
-invariant-loop-number l = other_among l.id l.conn l.conns.entries ≡ other_among l.id l.conn l.number-iterator

@@ -1,0 +1,5 @@
+use Rattle.zre_records.proofs.Simulated.{simulated}
+use Rattle.zre_records.proofs.laws.schedules_agree.Goals as goal
+
+pub returns : goal.returns
+returns c = simulated

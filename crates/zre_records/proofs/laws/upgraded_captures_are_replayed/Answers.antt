@@ -1,0 +1,5 @@
+use Rattle.zre_records.proofs.Replayed.{upgraded}
+use Rattle.zre_records.proofs.laws.upgraded_captures_are_replayed.Goals as goal
+
+pub returns : goal.returns
+returns c = upgraded

@@ -1,0 +1,10 @@
+use Rattle.std.proofs.Common.{List}
+use Rattle.zre_outside.specs.declared.entry.Entry.{Entry}
+use Rattle.zre_journal.specs.declared.config.Config.{Config}
+use Rattle.zre_node.specs.Journal.{StandsFor}
+use Rattle.zre_records.specs.replay.Taken.{Took}
+use Rattle.zre_records.proofs.replay.taking.take_entries.Given as goal
+
+-- those so far were taken
+abbrev pub invariant-loop-entry : goal.invariant-loop-entry
+invariant-loop-entry l = (g : Config) (J : List Entry) → StandsFor g J l.fn.node → Took g J l.yielded l.node l.fn.out l.out

@@ -1,0 +1,28 @@
+-- A replica that took the writes of a journal.
+use Rattle.std.specs.Prelude.{◌≡◌, ℕ, List, Option, Some, None, filter_map, []}
+use Rattle.zre_capture.specs.declared.settings.Settings.{Settings}
+use Rattle.zre_journal.specs.declared.config.Config.{Config}
+use Rattle.zre_node.specs.declared.node.Node.{Node}
+use Rattle.zre_node.specs.Journal.{StandsFor}
+use Rattle.zre_outside.specs.declared.entry.Entry.{Entry}
+use Rattle.zre_shared.specs.Replicas.{Held}
+use Rattle.zre_shared.specs.Tables.{table}
+use Rattle.zre_shared.specs.Writes.{write_of}
+use Rattle.zre_commands.specs.Settings.{as_config}
+use Rattle.zre_records.specs.table.Writes.{frames}
+
+-- it holds the table of the writes among these frames
+abbrev pub Keeps : List (List ℕ) → Held → Type 0
+Keeps fs held = held.writes ≡ table (filter_map write_of fs)
+
+-- the node stands for a journal, and the replica holds the table of its writes to the group
+pub record Gathered (g : Config) (group : List ℕ) (J : List Entry) (node : Node) (held : Held) : Type 0 where
+  pub stands : StandsFor g J node
+  pub keeps : Keeps (frames g group J) held
+
+-- so it is with the node of the settings that are told; before that there is none, and the replica is empty
+abbrev pub GatheredIfAny : Option Settings → (group : List ℕ) → List Entry → Option Node → Held → Type 0
+GatheredIfAny None group J None held = Keeps [] held
+GatheredIfAny None group J (Some n) held = ⊥
+GatheredIfAny (Some s) group J None held = ⊥
+GatheredIfAny (Some s) group J (Some n) held = Gathered (as_config s) group J n held

@@ -1,0 +1,11 @@
+pub mod Adding
+pub mod Agreeing
+pub mod Carrying
+pub mod Changing
+pub mod Entries
+pub mod Finding
+pub mod Hearings
+pub mod Indexed
+pub mod Listing
+pub mod Offering
+pub mod Resting

@@ -1,0 +1,30 @@
+use Rattle.std.proofs.Common.{◌++◌, is_some, refl, sym, ap, ◌∙◌}
+use Rattle.zre_values.specs.declared.peer_id.PeerId.{PeerId}
+use Rattle.zre_msg.specs.Lent.{message_of}
+use Rattle.zre_peer.specs.Runs.{events_of}
+use Rattle.zre_peer.specs.Views.{view_of}
+use Rattle.zre_peer.specs.Standing.{view_in}
+use Rattle.zre_tables.proofs.Carrying.{if_err}
+use Rattle.zre_tables.proofs.Indexed.{goes_on_in}
+use Rattle.zre_values.proofs.Answered.{on_ok}
+use Rattle.zre_tables.proofs.runs.go_on.Goals as goal
+
+pub returns-clause-ok : goal.returns-clause-ok
+returns-clause-ok c = λ n id ms r.
+    on_ok c.take_lent.result (c.take_lent.ensures.ok ms r.stands) (λ a. (
+      a.0,
+      record { conn = r.conn; stands = a.1; of = c.take_lent.ensures.id ∙ r.of },
+      a.2 ∙ ap (λ (i : PeerId). c.args.events.now ++ events_of i (view_of ms) (message_of c.args.lent.now).body) r.of,
+    ))
+
+pub returns-clause-refused : goal.returns-clause-refused
+returns-clause-refused c = λ n id ms r.
+    if_err c.take_lent.result (c.take_lent.ensures.refused ms r.stands) c.take_lent.ensures.kept (λ e a kept other.
+    let f = a other in
+    (f.0, f.2, r.conn, kept ∙ r.stands.view, f.3))
+
+pub returns-clause-groups : goal.returns-clause-groups
+returns-clause-groups c = λ is.
+    let some = is (sym c.spent.ensures ∙ c.if-spent.false) in
+    goes_on_in c.take_lent.result some.0 (message_of c.args.lent.now) c.args.lent.now.command c.args.lent.now.content.now (view_in c.args.running.now.run) (view_in c.take_lent.new.self)
+    (sym (ap is_some c.in-Some.ensures)) some.1.view refl (on_ok c.take_lent.result (c.take_lent.ensures.ok some.0 some.1) (λ a. a.1.view)) c.take_lent.ensures.kept

@@ -1,0 +1,13 @@
+use Rattle.std.proofs.Common.{◌≤◌, ◌-◌, ◌^◌, get_or, sym, ap, ◌∙◌, subst}
+use Rattle.std.specs.FinMap as map
+use Rattle.zre_timers.specs.Moments.{Moments}
+use Rattle.zre_tables.specs.Agreement.{AreHeard}
+use Rattle.zre_tables.proofs.Agreeing.{touch_heard}
+use Rattle.zre_tables.proofs.searches.update.Goals as goal
+
+pub loop-link-preserved : goal.loop-link-preserved
+loop-link-preserved c = λ r a. touch_heard c.args.rows.now.entries c.loop-link.heard c.touch.new.self r _ c.in-Some.peer.now c.in-Some.ensures.value
+    (subst (λ n. n ≤ 2 ^ 64 - 1) c.active_of.ensures.active c.active_of.ensures.fits) (c.in_ok-touch.ensures.ok ∙ ap (λ n. map.insert c.loop-link.heard (get_or c.args.links.now c.loop-link.link-index 0) n) c.active_of.ensures.active) (c.loop-link.invariant r a)
+
+pub returns-in_err-touch : goal.returns-in_err-touch
+returns-in_err-touch c = λ r a. subst (λ (m : Moments). AreHeard c.args.rows.now.entries m r) (sym c.in_err-touch.ensures.err) (c.loop-link.invariant r a)

@@ -1,0 +1,15 @@
+-- How the index of groups goes on.
+use Rattle.std.specs.Prelude.{◌≡◌, ℕ, Bool, true, false, List}
+use Rattle.std.specs.Str.{bytes_eq}
+use Rattle.zre_group.specs.Index.{Memberships, is_member}
+use Rattle.zre_msg.specs.declared.commands.Command.{Command}
+use Rattle.zre_msg.specs.declared.commands.Command.TheVariants as lent
+
+-- who was in a group is in it still
+abbrev pub IsGrown : Memberships → Memberships → Type 0
+IsGrown before now = (group : List ℕ) (key : ℕ) → is_member before group key ≡ true → is_member now group key ≡ true
+
+-- the command is JOIN of this group
+abbrev pub joins : Command → List ℕ → Bool
+joins (lent.Join joined status) group = bytes_eq joined.now group
+joins _ group = false

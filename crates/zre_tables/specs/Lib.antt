@@ -1,0 +1,9 @@
+pub mod Agreement
+pub mod Holding
+pub mod Indexing
+pub mod Resting
+pub mod Rows
+pub mod Runs
+pub mod Searches
+pub mod Tabled
+pub mod Views

@@ -1,0 +1,122 @@
+//! The open connections.
+
+ghost use Rattle.std.specs.Prelude.{◌≡◌, ℕ, List, [], Some, None, length, is_some, option_copied, OnOk, OnErr};
+ghost use Rattle.std.specs.BTreeMap.{insert_entry};
+ghost use Rattle.std.specs.Ordering.{nat_cmp};
+ghost use Rattle.zre_tables.specs.Rows.{row_at, with_row, without_row};
+ghost use Rattle.zre_tables.specs.declared.connection.Connection.{Connection as ConnectionValue};
+
+use crate::connection::Connection;
+use crate::searches::earlier_rest;
+use std::alloc::Global;
+use std::collections::BTreeMap;
+use std::marker::Model;
+use zre_values::{OutOfMemory, PeerId};
+
+/// The open connections by their numbers. It is seen as the list of its rows.
+///
+/// Beside the rows stands a moment before which none of those that run no peer began to rest, so that they are gone over
+/// only where one of them may have rested for too long.
+#[derive(Drop)]
+pub struct Conns {
+    pub(crate) rows: BTreeMap<u64, Connection>,
+    pub(crate) first: u64,
+    pub(crate) alloc: Global,
+}
+
+impl Model for Conns {
+    ghost use Rattle.std.specs.Prelude.{ℕ, List};
+    ghost use Rattle.zre_tables.specs.Resting.{AllRestFrom};
+    ghost use Rattle.zre_tables.specs.declared.connection.Connection.{Connection as ConnectionValue};
+
+    ghost Value = { List (ℕ × ConnectionValue) };
+
+    ghost view = { λ conns. conns.rows.entries };
+
+    ghost invariant = { λ conns. AllRestFrom conns.first conns.rows.entries };
+}
+
+impl Conns {
+    /// No connections. It takes no memory.
+    pub fn new(alloc: Global) -> Self
+        ensures { result ≡ [] }
+    {
+        Conns {
+            rows: BTreeMap::new(alloc),
+            first: u64::MAX,
+            alloc,
+        }
+    }
+
+    /// How many there are.
+    pub fn len(&self) -> usize
+        ensures { result ≡ length self.now }
+    {
+        self.rows.len()
+    }
+
+    /// The connection with this number.
+    pub fn get(&self, conn: u64) -> Option<&Connection>
+        ensures value { option_copied result ≡ row_at conn self.now }
+    {
+        self.rows.get(&conn)
+    }
+
+    /// Whether a connection with this number is open.
+    pub fn contains(&self, conn: u64) -> bool
+        ensures { result ≡ is_some (row_at conn self.now) }
+    {
+        self.rows.contains_key(&conn)
+    }
+
+    /// Lists a connection, or changes nothing where no memory is left.
+    pub fn insert(&mut self, conn: u64, opened: Connection) -> Result<(), OutOfMemory>
+        ensures ok { OnOk result (self.new ≡ insert_entry nat_cmp self.old conn opened) }
+        ensures err { OnErr result (self.new ≡ self.old) }
+    {
+        self.first = earlier_rest(&opened, self.first);
+        self.rows.insert(conn, opened)?;
+        Ok(())
+    }
+
+    /// Takes a connection out, if it is there.
+    pub fn remove(&mut self, conn: u64)
+        ensures { self.new ≡ without_row conn self.old }
+    {
+        self.rows.remove(&conn);
+    }
+
+    /// READY introduced this peer on the connection.
+    pub fn introduce(&mut self, conn: u64, peer: PeerId)
+        ensures { (x : ConnectionValue) → row_at conn self.old ≡ Some x →
+            self.new ≡ with_row conn (record x { identity = Some peer }) self.old }
+    {
+        let Some(found) = self.rows.get_mut(&conn) else {
+            return;
+        };
+        found.identity = Some(peer);
+    }
+
+    /// The connection runs the peer of this link.
+    pub fn carry(&mut self, conn: u64, link: u64)
+        ensures { (x : ConnectionValue) → row_at conn self.old ≡ Some x →
+            self.new ≡ with_row conn (record x { run = Some link }) self.old }
+    {
+        let Some(found) = self.rows.get_mut(&conn) else {
+            return;
+        };
+        found.run = Some(link);
+    }
+
+    /// The connection is ignored from now on, and runs no peer.
+    pub fn ignore(&mut self, conn: u64, now: u64)
+        ensures { (x : ConnectionValue) → row_at conn self.old ≡ Some x →
+            self.new ≡ with_row conn (record x { since = now; run = None; conn = None }) self.old }
+    {
+        let Some(found) = self.rows.get_mut(&conn) else {
+            return;
+        };
+        found.put_aside(now);
+        self.first = earlier_rest(found, self.first);
+    }
+}

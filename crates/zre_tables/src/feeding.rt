@@ -1,0 +1,75 @@
+//! Pieces of connections.
+
+ghost use Rattle.std.specs.Prelude.{◌≡◌, ℕ, List, [], ◌++◌, None, Some, Ok, IfOk, length, map};
+ghost use Rattle.zre_values.specs.declared.peer_id.PeerId.{PeerId as PeerIdValue};
+ghost use Rattle.zre_zmtp.specs.Looks.{Looks};
+ghost use Rattle.zre_mailbox.specs.Conn.{conn_after, kept_of};
+ghost use Rattle.zre_mailbox.specs.Talk.{Arrived, arrivals_in, completed, fault_said};
+ghost use Rattle.zre_tables.specs.Rows.{row_at, with_row};
+ghost use Rattle.zre_tables.specs.Holding.{reader_at};
+ghost use Rattle.zre_tables.specs.declared.connection.Connection.{Connection as ConnectionValue};
+
+use crate::conns::Conns;
+use std::sync::ledger::Ledger;
+use zre_mailbox::Conn;
+use zre_values::OutOfMemory;
+use zre_zmtp::{FeedFault, Items, Steps, ZmtpFault};
+
+// A connection is fed, and what it says is read into an empty list. After a fault it says nothing more.
+fn read<L: Ledger>(
+    conn: &mut Conn,
+    bytes: &[u8],
+    items: &mut Items,
+    steps: &mut Steps<L>,
+) -> Result<Option<ZmtpFault>, OutOfMemory>
+    requires { items.old ≡ [] }
+    ensures heard { (own : PeerIdValue) (o : List ℕ) → conn.old ≡ conn_after own o →
+        IfOk result (λ fault. (conn.new ≡ conn_after own (o ++ bytes.now))
+        × (map (λ a. Arrived a) (arrivals_in items.new) ++ fault_said fault ≡ completed own o bytes.now)) }
+    ensures looks { (own : PeerIdValue) (o : List ℕ) → conn.old ≡ conn_after own o →
+        Looks steps.old steps.new (kept_of conn.old) (kept_of conn.new) (length bytes.now) result }
+{
+    if conn.ignored() {
+        return Ok(None);
+    }
+    if conn.spent() {
+        return Ok(None);
+    }
+    match conn.feed_items(bytes, items, steps) {
+        Ok(()) => Ok(None),
+        Err(FeedFault::Zmtp(fault)) => Ok(Some(fault)),
+        Err(FeedFault::OutOfMemory) => Err(OutOfMemory),
+    }
+}
+
+impl Conns {
+    /// The octets of an open connection are read, unless it is ignored: what becomes whole with them goes into an
+    /// empty list.
+    pub fn feed<L: Ledger>(
+        &mut self,
+        conn: u64,
+        bytes: &[u8],
+        items: &mut Items,
+        steps: &mut Steps<L>,
+    ) -> Result<Option<ZmtpFault>, OutOfMemory>
+        requires { items.old ≡ [] }
+        ensures live { (x : ConnectionValue) (own : PeerIdValue) (o : List ℕ) → row_at conn self.old ≡ Some x
+            → x.conn ≡ Some (conn_after own o) →
+            IfOk result (λ fault. (self.new
+            ≡ with_row conn (record x { conn = Some (conn_after own (o ++ bytes.now)) }) self.old)
+            × (map (λ a. Arrived a) (arrivals_in items.new) ++ fault_said fault ≡ completed own o bytes.now)) }
+        ensures looks { (own : PeerIdValue) (o : List ℕ) → reader_at conn self.old ≡ Some (conn_after own o) →
+            Looks steps.old steps.new (kept_of (conn_after own o)) (kept_of (conn_after own (o ++ bytes.now)))
+            (length bytes.now) result }
+        ensures silent { reader_at conn self.old ≡ None →
+            (self.new ≡ self.old) × (items.new ≡ []) × (result ≡ Ok None) × (steps.new ≡ steps.old) }
+    {
+        let Some(found) = self.rows.get_mut(&conn) else {
+            return Ok(None);
+        };
+        let Some(conn) = &mut found.conn else {
+            return Ok(None);
+        };
+        read(conn, bytes, items, steps)
+    }
+}

@@ -1,0 +1,19 @@
+//! The rows of a node's tables: the known peers by their links, and the open connections by their numbers.
+#![tactic(auto)]
+
+mod connection;
+mod conns;
+mod feeding;
+mod holding;
+mod indexing;
+mod offers;
+mod peer;
+mod peers;
+mod replies;
+mod runs;
+mod searches;
+
+pub use connection::Connection;
+pub use conns::Conns;
+pub use peer::{Peer, Running};
+pub use peers::{Ids, Links, Peers};

@@ -1,0 +1,256 @@
+//! The known peers.
+
+ghost use Rattle.std.specs.Prelude.{◌≡◌, ◌+◌, ◌≤◌, ℕ, Bool, true, List, [], ◌∷◌, ◌++◌, Some, None, length, is_some, option_copied};
+ghost use Rattle.std.specs.Prelude.{OnOk, OnErr, IfOk, IfErr, ◌||◌, nat_lt};
+ghost use Rattle.std.specs.BTreeMap.{insert_entry, IsOrdered, Updates};
+ghost use Rattle.std.specs.Ordering.{nat_cmp};
+ghost use Rattle.zre_values.specs.declared.limits.TheConstants.{UNSENT_OCTETS};
+ghost use Rattle.zre_values.specs.declared.peer_id.PeerId.{PeerId as PeerIdValue};
+ghost use Rattle.zre_msg.specs.declared.message.Body.TheVariants.{Shout};
+ghost use Rattle.zre_msg.specs.Spelling.{FitsBody, FitsString};
+ghost use Rattle.zre_link.specs.Link.{link_after, taken_by, unsent_of, RefusesPush};
+ghost use Rattle.zre_link.specs.Text.{Member, Says, size_of};
+ghost use Rattle.zre_tables.specs.Agreement.{IsRun};
+ghost use Rattle.zre_tables.specs.Rows.{row_at, with_row, without_row};
+ghost use Rattle.zre_tables.specs.declared.peer.Peer.{Peer as PeerValue};
+
+use crate::indexing::index_groups;
+use crate::peer::{Peer, Running};
+use std::alloc::Global;
+use std::collections::BTreeMap;
+use std::marker::Model;
+use zre_group::Index;
+use zre_link::{Link, PushFault, Tail};
+use zre_msg::Body;
+use zre_timers::Timers;
+use zre_values::{List, OutOfMemory, PeerId};
+
+/// A list of peers.
+pub type Ids = List<PeerId>;
+
+/// A list of links, by their numbers.
+pub type Links = List<u64>;
+
+/// The known peers by their links. It is seen as the list of its rows.
+///
+/// Beside the rows stands an index of the groups that they have told, and a moment for each, so that the members of a
+/// group and the peers that are due are found without a look at the others. A message costs no work at the moments:
+/// they are brought up to date where a search comes to them.
+#[derive(Drop)]
+pub struct Peers {
+    pub(crate) rows: BTreeMap<u64, Peer>,
+    // Each group that a peer has told, with its link. There may be more.
+    pub(crate) groups: Index,
+    // For each link a moment at or after which its peer has shown that it is there.
+    pub(crate) heard: Timers,
+    // Whether a reading went back, so that the moments say nothing.
+    pub(crate) rewound: bool,
+    pub(crate) alloc: Global,
+}
+
+// A peer is listed, or nothing has changed.
+fn list(rows: &mut BTreeMap<u64, Peer>, number: u64, peer: Peer) -> Result<(), OutOfMemory>
+    ensures updates { OnOk result (Updates nat_cmp rows.old rows.new number (Some peer)) }
+    ensures entries { OnOk result (rows.new.entries ≡ insert_entry nat_cmp rows.old.entries number peer) }
+    ensures rising { IsOrdered nat_cmp rows.new }
+    ensures absent { OnErr result (row_at number rows.old.entries ≡ None) }
+    ensures err { OnErr result (rows.new.entries ≡ rows.old.entries) }
+{
+    rows.insert(number, peer)?;
+    Ok(())
+}
+
+// A peer has shown that it is there: whether a reading has gone back, with this one.
+pub(crate) fn renew(peer: &mut Peer, now: u64, rewound: bool) -> bool
+    ensures back { result ≡ (rewound || nat_lt now peer.old.active) }
+    ensures only { peer.new ≡ record peer.old { active = now } }
+{
+    let back = now < peer.active;
+    peer.active = now;
+    rewound || back
+}
+
+impl Model for Peers {
+    ghost use Rattle.std.specs.Prelude.{ℕ, List};
+    ghost use Rattle.zre_tables.specs.Agreement.{Agree};
+    ghost use Rattle.zre_tables.specs.declared.peer.Peer.{Peer as PeerValue};
+
+    ghost Value = { List (ℕ × PeerValue) };
+
+    ghost view = { λ peers. peers.rows.entries };
+
+    ghost invariant = { λ peers. Agree peers.rows.entries peers.groups peers.heard peers.rewound };
+}
+
+impl Peers {
+    /// No peers. It takes no memory.
+    pub fn new(alloc: Global) -> Self
+        ensures { result ≡ [] }
+    {
+        Peers {
+            rows: BTreeMap::new(alloc),
+            groups: Index::new(alloc),
+            heard: Timers::new(alloc),
+            rewound: false,
+            alloc,
+        }
+    }
+
+    /// How many there are.
+    pub fn len(&self) -> usize
+        ensures { result ≡ length self.now }
+    {
+        self.rows.len()
+    }
+
+    /// The peer of this link.
+    pub fn get(&self, link: u64) -> Option<&Peer>
+        ensures value { option_copied result ≡ row_at link self.now }
+    {
+        self.rows.get(&link)
+    }
+
+    /// Whether a peer has this link.
+    pub fn contains(&self, link: u64) -> bool
+        ensures { result ≡ is_some (row_at link self.now) }
+    {
+        self.rows.contains_key(&link)
+    }
+
+    /// Lists a peer that isn't entered, with its link, or changes nothing where no memory is left.
+    pub fn insert(
+        &mut self,
+        number: u64,
+        id: PeerId,
+        link: Link,
+        now: u64,
+    ) -> Result<(), OutOfMemory>
+        ensures ok { OnOk result (self.new ≡ insert_entry nat_cmp self.old number
+            (record { id = id; active = now; run = None; link = link })) }
+        ensures err { OnErr result (self.new ≡ self.old) }
+    {
+        self.heard.touch(number, 0)?;
+        let peer = Peer {
+            id,
+            active: now,
+            run: None,
+            link,
+        };
+        match list(&mut self.rows, number, peer) {
+            Ok(()) => Ok(()),
+            Err(none) => {
+                self.heard.forget(number);
+                Err(none)
+            }
+        }
+    }
+
+    /// Takes the peer of this link out, if there is one.
+    pub fn remove(&mut self, link: u64) -> Option<Peer>
+        ensures value { result ≡ row_at link self.old }
+        ensures rows { self.new ≡ without_row link self.old }
+    {
+        let found = self.rows.remove(&link);
+        self.heard.forget(link);
+        self.groups.forget(link);
+        found
+    }
+
+    /// The peer of this link has shown that it is there.
+    pub fn touch(&mut self, link: u64, now: u64)
+        ensures { (x : PeerValue) → row_at link self.old ≡ Some x →
+            self.new ≡ with_row link (record x { active = now }) self.old }
+    {
+        let Some(peer) = self.rows.get_mut(&link) else {
+            return;
+        };
+        self.rewound = renew(peer, now, self.rewound);
+    }
+
+    /// The peer of this link has a run, which shows that it is there.
+    pub fn enter(&mut self, link: u64, running: Running, now: u64) -> Result<(), OutOfMemory>
+        requires { IsRun running }
+        ensures ok { (x : PeerValue) → row_at link self.old ≡ Some x →
+            OnOk result (self.new ≡ with_row link (record x { run = Some running; active = now }) self.old) }
+        ensures err { OnErr result (self.new ≡ self.old) }
+    {
+        index_groups(&mut self.groups, link, &running.run)?;
+        let Some(peer) = self.rows.get_mut(&link) else {
+            return Ok(());
+        };
+        self.rewound = renew(peer, now, self.rewound);
+        peer.run = Some(running);
+        Ok(())
+    }
+
+    /// This link stands from now on.
+    pub fn linked(&mut self, link: u64)
+        ensures found { (x : PeerValue) (own : PeerIdValue) (line : List Member) (linked : Bool) (o : List ℕ) (n : ℕ)
+            → row_at link self.old ≡ Some x → x.link ≡ link_after own line linked o n →
+            self.new ≡ with_row link (record x { link = link_after own line true o n }) self.old }
+        ensures missing { row_at link self.old ≡ None → self.new ≡ self.old }
+    {
+        let Some(peer) = self.rows.get_mut(&link) else {
+            return;
+        };
+        peer.link.linked();
+    }
+
+    /// So many octets of this link have gone out, or as many as might.
+    pub fn took(&mut self, link: u64, count: u64)
+        ensures found { (x : PeerValue) (own : PeerIdValue) (line : List Member) (linked : Bool) (o : List ℕ) (n : ℕ)
+            → row_at link self.old ≡ Some x → x.link ≡ link_after own line linked o n →
+            self.new ≡ with_row link (record x {
+              link = link_after own line linked o (taken_by own line linked o n
+                  count);
+            }) self.old }
+        ensures missing { row_at link self.old ≡ None → self.new ≡ self.old }
+    {
+        let Some(peer) = self.rows.get_mut(&link) else {
+            return;
+        };
+        peer.link.took(count);
+    }
+
+    /// Puts a body on this link. The body is lent, and handed back as it was.
+    pub fn push(&mut self, link: u64, body: &mut Body) -> Result<(), PushFault>
+        requires { FitsBody body.old }
+        ensures ok { (x : PeerValue) (own : PeerIdValue) (line : List Member) (linked : Bool) (o : List ℕ) (n : ℕ)
+            → row_at link self.old ≡ Some x → x.link ≡ link_after own line linked o n →
+            OnOk result ((unsent_of own line n + size_of line body.old ≤ UNSENT_OCTETS)
+            × (self.new ≡ with_row link
+            (record x { link = link_after own (line ++ Says body.old ∷ []) linked o n }) self.old)) }
+        ensures refused { (x : PeerValue) (own : PeerIdValue) (line : List Member) (linked : Bool) (o : List ℕ) (n : ℕ)
+            → row_at link self.old ≡ Some x → x.link ≡ link_after own line linked o n →
+            IfErr result (λ e. RefusesPush e (unsent_of own line n) (size_of line body.old)) }
+        ensures unchanged { OnErr result (self.new ≡ self.old) }
+        ensures missing { row_at link self.old ≡ None → self.new ≡ self.old }
+        ensures lent { body.new ≡ body.old }
+    {
+        let Some(peer) = self.rows.get_mut(&link) else {
+            return Ok(());
+        };
+        peer.link.push(body)
+    }
+
+    /// Puts a SHOUT to this group on this link in the same way: its content is that of the tail.
+    pub fn push_shout(&mut self, link: u64, group: &[u8], tail: &Tail) -> Result<(), PushFault>
+        requires { FitsString group.now }
+        ensures ok { (x : PeerValue) (own : PeerIdValue) (line : List Member) (linked : Bool) (o : List ℕ) (n : ℕ)
+            → row_at link self.old ≡ Some x → x.link ≡ link_after own line linked o n →
+            let body = Shout group.now tail.now in
+            OnOk result ((unsent_of own line n + size_of line body ≤ UNSENT_OCTETS)
+            × (self.new ≡ with_row link
+            (record x { link = link_after own (line ++ Says body ∷ []) linked o n }) self.old)) }
+        ensures refused { (x : PeerValue) (own : PeerIdValue) (line : List Member) (linked : Bool) (o : List ℕ) (n : ℕ)
+            → row_at link self.old ≡ Some x → x.link ≡ link_after own line linked o n →
+            IfErr result (λ e. RefusesPush e (unsent_of own line n) (size_of line (Shout group.now tail.now))) }
+        ensures unchanged { OnErr result (self.new ≡ self.old) }
+        ensures missing { row_at link self.old ≡ None → self.new ≡ self.old }
+    {
+        let Some(peer) = self.rows.get_mut(&link) else {
+            return Ok(());
+        };
+        peer.link.push_shout(group, tail)
+    }
+}

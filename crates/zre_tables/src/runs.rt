@@ -1,0 +1,102 @@
+//! Messages, and the runs of peers that they make.
+
+ghost use Rattle.std.specs.Prelude.{◌≡◌, ◌≢◌, ℕ, List, ◌∷◌, [], ◌++◌, Some, OnOk, IfErr, IfOk, ◌||◌, true, false};
+ghost use Rattle.zre_msg.specs.Lent.{message_of};
+ghost use Rattle.zre_msg.specs.declared.message.Message.{Message as MessageValue};
+ghost use Rattle.zre_values.specs.declared.peer_id.PeerId.{PeerId as PeerIdValue};
+ghost use Rattle.zre_peer.specs.Views.{view_of};
+ghost use Rattle.zre_peer.specs.Runs.{events_of, may_follow, fault_of, shown};
+ghost use Rattle.zre_peer.specs.Standing.{view_in};
+ghost use Rattle.zre_tables.specs.Agreement.{IsRun};
+ghost use Rattle.zre_tables.specs.Indexing.{joins};
+ghost use Rattle.zre_tables.specs.Rows.{row_at};
+ghost use Rattle.zre_tables.specs.Runs.{HasRun, HadRun, IsRunning, IsTaken};
+ghost use Rattle.zre_tables.specs.Views.{lists_group, row_in};
+ghost use Rattle.zre_tables.specs.declared.peer.Peer.{Peer as PeerValue};
+ghost use Rattle.zre_tables.specs.declared.peer.Running.{Running as RunningValue};
+
+use crate::indexing::{index_join, left_by};
+use crate::peer::{Peer, Running};
+use crate::peers::{Peers, renew};
+use zre_msg::LentMessage;
+use zre_peer::{Events, RunFault};
+
+// A run takes one more message.
+fn go_on(running: &mut Running, lent: &LentMessage<'_>, events: &mut Events) -> Result<(), RunFault>
+    ensures ok { (c : ℕ) (id : PeerIdValue) (ms : List MessageValue) → IsRunning c id ms running.old →
+        OnOk result ((may_follow ms (message_of lent.now) ≡ true)
+        × IsRunning c id (ms ++ message_of lent.now ∷ []) running.new
+        × (events.new ≡ events.old ++ events_of id (view_of ms) (message_of lent.now).body)) }
+    ensures refused { (c : ℕ) (id : PeerIdValue) (ms : List MessageValue) → IsRunning c id ms running.old →
+        IfErr result (λ e. e ≢ RunFault.OutOfMemory → (may_follow ms (message_of lent.now) ≡ false)
+        × (e ≡ fault_of ms (message_of lent.now))
+        × (running.new.conn ≡ c) × (view_in running.new.run ≡ shown ms) × (events.new ≡ events.old)) }
+    ensures run { IsRun running.old → IsRun running.new }
+    ensures groups { IsRun running.old → (group : List ℕ) → lists_group group (view_in running.new.run) ≡ true
+        → (lists_group group (view_in running.old.run) || joins lent.now.command group) ≡ true }
+{
+    if running.run.spent() {
+        return Err(RunFault::OutOfMemory);
+    }
+    let Some(_) = running.run.view() else {
+        return Err(RunFault::OutOfMemory);
+    };
+    running.run.take_lent(lent, events)
+}
+
+// The run of a peer takes one more message.
+fn take(peer: &mut Peer, lent: &LentMessage<'_>, events: &mut Events) -> Result<(), RunFault>
+    ensures ok { (c : ℕ) (id : PeerIdValue) (ms : List MessageValue) → HasRun (Some c) id ms peer.old.run →
+        OnOk result ((may_follow ms (message_of lent.now) ≡ true)
+        × HasRun (Some c) id (ms ++ message_of lent.now ∷ []) peer.new.run
+        × (events.new ≡ events.old ++ events_of id (view_of ms) (message_of lent.now).body)) }
+    ensures refused { (c : ℕ) (id : PeerIdValue) (ms : List MessageValue) → HasRun (Some c) id ms peer.old.run →
+        IfErr result (λ e. e ≢ RunFault.OutOfMemory → (may_follow ms (message_of lent.now) ≡ false)
+        × (e ≡ fault_of ms (message_of lent.now))
+        × HadRun (Some c) ms peer.new.run × (events.new ≡ events.old)) }
+    ensures only { peer.new ≡ record peer.old { run = peer.new.run } }
+    ensures run { ((x : RunningValue) → peer.old.run ≡ Some x → IsRun x)
+        → (x : RunningValue) → peer.new.run ≡ Some x → IsRun x }
+    ensures groups { ((x : RunningValue) → peer.old.run ≡ Some x → IsRun x)
+        → (group : List ℕ) → row_in group peer.new ≡ true
+        → (row_in group peer.old || joins lent.now.command group) ≡ true }
+{
+    match &mut peer.run {
+        Some(running) => go_on(running, lent, events),
+        None => Err(RunFault::OutOfMemory),
+    }
+}
+
+impl Peers {
+    /// The run of the peer of this link takes one more message, which lies in its frames and isn't HELLO, and which
+    /// shows that the peer is there.
+    pub fn take(
+        &mut self,
+        link: u64,
+        now: u64,
+        lent: &LentMessage<'_>,
+        events: &mut Events,
+    ) -> Result<(), RunFault>
+        ensures ok { (x : PeerValue) (c : ℕ) (id : PeerIdValue) (ms : List MessageValue)
+            → row_at link self.old ≡ Some x → HasRun (Some c) id ms x.run →
+            OnOk result ((may_follow ms (message_of lent.now) ≡ true)
+            × (events.new ≡ events.old ++ events_of id (view_of ms) (message_of lent.now).body)
+            × IsTaken link x now (HasRun (Some c) id (ms ++ message_of lent.now ∷ [])) self.old self.new) }
+        ensures refused { (x : PeerValue) (c : ℕ) (id : PeerIdValue) (ms : List MessageValue)
+            → row_at link self.old ≡ Some x → HasRun (Some c) id ms x.run →
+            IfErr result (λ e. e ≢ RunFault.OutOfMemory → (may_follow ms (message_of lent.now) ≡ false)
+            × (e ≡ fault_of ms (message_of lent.now)) × (events.new ≡ events.old)
+            × IsTaken link x now (HadRun (Some c) ms) self.old self.new) }
+    {
+        index_join(&mut self.groups, link, &lent.command)?;
+        let Some(peer) = self.rows.get_mut(&link) else {
+            return Err(RunFault::OutOfMemory);
+        };
+        self.rewound = renew(peer, now, self.rewound);
+        let taken = take(peer, lent, events);
+        if let Some(group) = left_by(peer, &lent.command) {
+            self.groups.remove(group, link);
+        }
+        taken
+    }
+}
