@@ -14,10 +14,19 @@ use zre_capture::{BadCapture, Settings};
 use zre_values::OutOfMemory;
 
 /// The second capture as it is read, and whether it is of the node of the first.
-#[derive(Drop)]
 pub(crate) struct Later {
     pub capture: Watched,
     again: Option<Again>,
+}
+
+// By hand, so that each way out calls it. A derived drop is inlined there, field by field, and proved each time.
+impl Drop for Later {
+    fn drop(self) {
+        let Later {
+            capture: _capture,
+            again: _again,
+        } = self;
+    }
 }
 
 impl Later {
@@ -26,8 +35,8 @@ impl Later {
         ensures { IfOk result (IsLater (option_map (λ s. s.now) told.entry) mark) }
     {
         let mut later = Later {
-            capture: Watched::new(alloc),
             again: unseen(alloc, told)?,
+            capture: Watched::new(alloc),
         };
         later.take(&MARK)?;
         Ok(later)

@@ -22,7 +22,6 @@ use zre_outside::Entries;
 use zre_values::OutOfMemory;
 
 /// How far a capture is read, and the watch of the node with the settings that its head says.
-#[derive(Drop)]
 pub(crate) struct Watched {
     alloc: Global,
     state: State,
@@ -30,6 +29,18 @@ pub(crate) struct Watched {
     pub watch: Option<Watch>,
     // Used again for the entries of each piece.
     entries: Entries,
+}
+
+// By hand, so that each way out calls it. A derived drop is inlined there, field by field, and proved each time.
+impl Drop for Watched {
+    fn drop(self) {
+        let Watched {
+            alloc: _,
+            state: _state,
+            watch: _watch,
+            entries: _entries,
+        } = self;
+    }
 }
 
 // The watch of these settings, before any entry: there is one, since settings that are told are valid.
