@@ -1,5 +1,5 @@
 -- Where the second of two captures begins, as it is defined and as it is seen.
-use Rattle.std.proofs.Common.{◌≡◌, ℕ, ◌+◌, ◌==◌, Bool, true, false, cond, ◌&&◌, List, [], ◌∷◌, ◌++◌, Option, Some, None, refl, sym, ap, ◌∙◌, true≢false, eqb-true, append-nil}
+use Rattle.std.proofs.Common.{◌≡◌, ℕ, ◌==◌, Bool, true, false, cond, ◌&&◌, List, [], ◌∷◌, ◌++◌, Option, Some, None, refl, sym, ap, ◌∙◌, true≢false, eqb-true, append-nil}
 use Rattle.zre_records.specs.audit.Cut.{mark, is_separator, is_first_field, cut}
 use Rattle.zre_records.specs.audit.Seam.{is_whole, same_line, step, after, is_seam, parted}
 

@@ -1,4 +1,4 @@
-use Rattle.std.proofs.Common.{◌-◌, Some, arith, refl}
+use Rattle.std.proofs.Common.{arith, refl}
 use Rattle.zre_values.proofs.Answered.{on_ok}
 use Rattle.zre_records.proofs.audit.Seeing.{seen_more}
 use Rattle.zre_records.proofs.audit.again.see.Goals as goal

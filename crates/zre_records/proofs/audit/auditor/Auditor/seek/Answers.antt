@@ -1,4 +1,4 @@
-use Rattle.std.proofs.Common.{◌++◌, ℕ, List, Option, take, Some, refl, subst}
+use Rattle.std.proofs.Common.{◌++◌, ℕ, List, Option, take, refl, subst}
 use Rattle.std.specs.Prelude.{MatchOption}
 use Rattle.zre_values.proofs.Answered.{on_ok}
 use Rattle.zre_capture.specs.Journal.{settings}
