@@ -1,10 +1,9 @@
 -- What comes back of a client.
-use Rattle.std.proofs.Common.{◌≡◌, ℕ, ◌≤◌, List, [], ◌∷◌, ◌++◌, map, length, Option, refl, sym, ap, ◌∙◌, subst, arith}
+use Rattle.std.proofs.Common.{◌≡◌, ℕ, ◌≤◌, List, [], ◌++◌, map, length, Option, refl, sym, ap, ◌∙◌, subst, arith}
 use mathlib.Core.Logic.{inl}
 use Rattle.std.proofs.Math.Logic.{∥∥₁_elim}
 use Rattle.std.proofs.Props.{props}
 use Rattle.std.proofs.KnownBytes.{Appends-nil, Consumes-nil}
-use Rattle.zre_outside.specs.declared.entry.Command.{Command}
 use Rattle.zre_outside.specs.Causes.{Rose}
 use Rattle.zre_actor.specs.declared.passes.Pipes.{Pipes}
 use Rattle.zre_actor.specs.declared.passes.CallerPass.{CallerPass}

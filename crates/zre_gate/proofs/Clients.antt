@@ -1,5 +1,5 @@
 -- What a client came to, from how its thread ended.
-use Rattle.std.proofs.Common.{◌≡◌, ◌≢◌, ℕ, ◌<◌, Bool, true, false, true≢false, cond, List, [], ◌∷◌, ◌++◌, length, Option, refl, sym, ap, ◌∙◌, subst, arith, append_assoc, append-nil}
+use Rattle.std.proofs.Common.{◌≡◌, ℕ, ◌<◌, Bool, true, false, true≢false, cond, List, [], ◌∷◌, ◌++◌, length, Option, refl, sym, ap, ◌∙◌, subst, arith, append_assoc, append-nil}
 use Rattle.std.specs.Prelude.{◌⊎◌, ◌||◌}
 use mathlib.Core.Logic.{inl, inr}
 use mathlib.Core.List.{IsPrefix}
@@ -14,7 +14,7 @@ use Rattle.zre_console.proofs.lines.Quits.{begun-none, none-before, asked-quits,
 use Rattle.zre_console.specs.declared.reader.ending.InputEnd.{InputEnd}
 use Rattle.zre_console.specs.declared.reader.ending.InputEnd.TheVariants as end
 use Rattle.zre_console.specs.reader.Putting.{IsShort}
-use Rattle.zre_console.specs.reader.Reading.{LinesOutcome, IsReadOn}
+use Rattle.zre_console.specs.reader.Reading.{LinesOutcome}
 use Rattle.zre_commands.specs.declared.pump.status.Status.TheVariants.{Done, TooLong, OutOfMemory}
 use Rattle.zre_chat.proofs.Fronts.{prefix_self, prefix_trans, short_front}
 use Rattle.zre_gate.specs.Clients.{Served, IsServed, is_over, of_client}

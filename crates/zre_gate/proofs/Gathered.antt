@@ -1,13 +1,11 @@
 -- One client after the other is waited for.
-use Rattle.std.proofs.Common.{◌≡◌, ◌≢◌, ℕ, ◌+◌, Bool, true, false, true≢false, List, [], ◌∷◌, ◌++◌, map, take, length, Option, Some, None, refl, sym, ap, ◌∙◌, subst, append_assoc, append-nil}
-use Rattle.std.specs.Prelude.{◌⊎◌, ◌||◌, All, Contains, flat_map}
+use Rattle.std.proofs.Common.{◌≡◌, ℕ, ◌+◌, Bool, true, false, true≢false, List, [], ◌∷◌, ◌++◌, map, take, length, Option, Some, None, refl, sym, ap, ◌∙◌, subst, append_assoc, append-nil}
+use Rattle.std.specs.Prelude.{◌⊎◌, ◌||◌, Contains}
 use mathlib.Core.Logic.{inl, inr}
 use Rattle.std.proofs.lemmas.List.{map-append, length-map}
 use Rattle.std.proofs.lemmas.List.Elements.{All-nil, All-push, Contains-append_left, Contains-push}
 use Rattle.std.proofs.lemmas.Grind.{flat_map-append}
-use Rattle.zre_outside.specs.declared.entry.Command.{Command}
 use Rattle.zre_actor.specs.declared.passes.CallerPass.{CallerPass}
-use Rattle.zre_actor.specs.declared.views.Placed.{Placed}
 use Rattle.zre_actor.specs.Passes.{number, ended, put_by}
 use Rattle.zre_console.specs.declared.reader.ending.InputEnd.{InputEnd}
 use Rattle.zre_console.specs.declared.reader.ending.InputEnd.TheVariants as end

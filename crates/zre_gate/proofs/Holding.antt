@@ -1,5 +1,5 @@
 -- A gate whose threads were started.
-use Rattle.std.proofs.Common.{◌≡◌, ◌≢◌, ℕ, ◌+◌, ◌≤◌, ◌<◌, Bool, true, false, true≢false, cond, List, [], ◌∷◌, ◌++◌, map, length, Option, Some, None, refl, sym, ap, ◌∙◌, subst, arith, append_assoc, append-nil}
+use Rattle.std.proofs.Common.{◌≡◌, ◌≢◌, ℕ, ◌≤◌, ◌<◌, Bool, true, false, true≢false, cond, List, [], ◌∷◌, ◌++◌, map, length, Option, Some, None, refl, sym, ap, ◌∙◌, subst, append_assoc, append-nil}
 use Rattle.std.specs.Prelude.{◌⊎◌, nat_le, All, Contains}
 use mathlib.Core.HLevel.{⊥_prop}
 use mathlib.Core.Logic.{inl, inr}
@@ -32,24 +32,22 @@ use Rattle.zre_actor.specs.Work.{Scene, scene, IsWork, Ends, QuitsLast}
 use Rattle.zre_actor.proofs.Working.{rose_later}
 use Rattle.zre_console.specs.lines.Orders.{is_quit}
 use Rattle.zre_console.specs.declared.reader.ending.InputEnd.TheVariants as end
-use Rattle.zre_console.specs.reader.Putting.{Puts, IsClose}
 use Rattle.zre_console.proofs.reader.Puts.{puts-none}
 use Rattle.zre_commands.specs.declared.pump.status.Status.{Status}
-use Rattle.zre_commands.specs.declared.pump.status.Status.TheVariants.{Done, TooLong, OutOfMemory, DeskFault, WriteFault, WorldFault, NoThread}
+use Rattle.zre_commands.specs.declared.pump.status.Status.TheVariants.{Done, TooLong, OutOfMemory, DeskFault}
 use Rattle.zre_console.specs.declared.printer.asker.Wish.{Wish}
 use Rattle.zre_console.specs.declared.printer.asker.Wish.TheVariants.{No, Due, Put}
 use Rattle.zre_console.specs.printer.Asking.{asked, asker_of, HasAsked}
 use Rattle.zre_console.specs.printer.Printing.{HasPrinted}
-use Rattle.zre_chat.specs.Chat.{Seen, Lived, Wrote, Captured}
+use Rattle.zre_chat.specs.Chat.{Seen}
 use Rattle.zre_chat.specs.Stages.{Prepared}
 use Rattle.zre_chat.specs.Statuses.{rank, least, of_print, of_work, of_thread}
 use Rattle.zre_chat.proofs.Living as living
 use Rattle.zre_chat.proofs.Merged.{all_under}
-use Rattle.zre_chat.proofs.Rows.{memory_isnt, memory_here, memory_after, done_here, done_after}
+use Rattle.zre_chat.proofs.Rows.{memory_here, memory_after, done_here, done_after}
 use Rattle.zre_gate.specs.Clients.{Row, Served, IsServed, put_for_all, is_over, of_client}
 use Rattle.zre_gate.specs.Clients as clients
 use Rattle.zre_gate.specs.Gate.{Client, IsClient, IsWhole, IsFree, IsLong, IsCaused, Merged, HasServed, IsGate, before_of, after_of, handed_of}
-use Rattle.zre_gate.specs.Gathering as gathering
 use Rattle.zre_gate.specs.Gathering.{IsWell, IsOwnEnd, Gathers, Closes}
 use Rattle.zre_gate.specs.Halls as halls
 use Rattle.zre_gate.specs.Interleaving.{IsInterleaving}

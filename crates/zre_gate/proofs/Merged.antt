@@ -1,5 +1,5 @@
 -- What the actor popped is an interleaving of what the clients put, but for a quit at its end.
-use Rattle.std.proofs.Common.{◌≡◌, ◌≢◌, ℕ, ◌+◌, ◌≤◌, ◌==◌, Bool, true, false, true≢false, cond, List, [], ◌∷◌, ◌++◌, map, refl, sym, ap, ◌∙◌, subst, arith, append_assoc, append-nil, eq-eqb}
+use Rattle.std.proofs.Common.{◌≡◌, ℕ, ◌≤◌, ◌==◌, Bool, true, false, true≢false, cond, List, [], ◌∷◌, ◌++◌, map, refl, sym, ap, ◌∙◌, subst, arith, append-nil, eq-eqb}
 use Rattle.std.specs.Prelude.{◌⊎◌, ◌||◌, All}
 use mathlib.Core.Logic.{inl, inr}
 use mathlib.Core.List.{IsPrefix}
@@ -16,7 +16,7 @@ use Rattle.zre_actor.proofs.Sums.{under-append}
 use Rattle.zre_console.specs.lines.Orders.{is_quit}
 use Rattle.zre_console.specs.reader.Putting.{IsClose}
 use Rattle.zre_chat.proofs.Fronts.{prefix_trans, map-prefix, quit_is}
-use Rattle.zre_chat.proofs.Merged.{all_under, its_own, no_others, commands_under, prefix_nil}
+use Rattle.zre_chat.proofs.Merged.{all_under, its_own, no_others, commands_under}
 use Rattle.zre_gate.specs.Clients.{Served, put_for, put_for_all}
 use Rattle.zre_gate.specs.Interleaving.{of_name, IsInterleaving}
 use Rattle.zre_gate.proofs.Places.{other_number, is_first, not_first}

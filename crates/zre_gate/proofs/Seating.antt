@@ -12,7 +12,7 @@ use Rattle.zre_actor.proofs.Rows.{length_row}
 use Rattle.zre_actor.proofs.Sums.{times-append}
 use Rattle.zre_gate.specs.declared.table.Chair.{Chair}
 use Rattle.zre_gate.specs.Clients.{Row}
-use Rattle.zre_gate.specs.Halls.{Hall, hall_of, guest, guest_at, guests_of, IsGuest}
+use Rattle.zre_gate.specs.Halls.{Hall, hall_of, guest_at, guests_of, IsGuest}
 use Rattle.zre_gate.specs.Tables.{IsChair, chair_number}
 use Rattle.zre_gate.proofs.Places.{guest_there, row_once}
 

@@ -1,5 +1,5 @@
 -- What is seen of a client, and what one was read and put for.
-use Rattle.std.specs.Prelude.{◌≡◌, ℕ, ◌≤◌, ◌==◌, Bool, true, false, List, [], ◌∷◌, map, flat_map, length, Option}
+use Rattle.std.specs.Prelude.{ℕ, ◌≤◌, Bool, true, false, List, [], map, flat_map, length, Option}
 use Rattle.zre_outside.specs.declared.entry.Command.{Command}
 use Rattle.zre_outside.specs.Causes.{Rose}
 use Rattle.zre_outside.specs.Told.{Moves}

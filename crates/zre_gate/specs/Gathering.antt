@@ -1,5 +1,5 @@
 -- What comes of waiting for all clients.
-use Rattle.std.specs.Prelude.{◌≡◌, ◌⊎◌, ℕ, Bool, true, false, List, [], ◌∷◌, ◌++◌, map, length, All, Contains, Option}
+use Rattle.std.specs.Prelude.{◌≡◌, ◌⊎◌, ℕ, Bool, true, false, List, [], ◌++◌, map, length, All, Contains, Option}
 use Rattle.std.specs.Prelude.{Some}
 use Rattle.zre_outside.specs.declared.entry.Command.{Command}
 use Rattle.zre_actor.specs.declared.passes.Pipes.{Pipes}

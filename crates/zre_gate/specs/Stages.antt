@@ -3,7 +3,6 @@ use Rattle.std.specs.Prelude.{◌≡◌, ◌≢◌, ℕ, Bool, true, List, [], O
 use Rattle.std.specs.Io.KnownBytes.{Keeps, Appends}
 use Rattle.zre_values.specs.declared.endpoint.Endpoint.{Endpoint}
 use Rattle.zre_outside.specs.declared.start.Start.{Start}
-use Rattle.zre_outside.specs.Causes.{Rose}
 use Rattle.zre_outside.specs.Desks.{Register}
 use Rattle.zre_outside.specs.Worlds.{Log}
 use Rattle.zre_journal.specs.declared.config.Config.{Config}

@@ -5,7 +5,8 @@ ghost use Rattle.std.specs.Arc.{arc_value};
 ghost use Rattle.zre_journal.specs.Config.{is_valid};
 ghost use Rattle.zre_node.specs.Journal.{StandsFor};
 ghost use Rattle.zre_actor.specs.Commands.{times, row as row_of_numbers};
-ghost use Rattle.zre_actor.specs.Passes.{AreCallersOf, IsNew, fresh_of, given_of, room_of, numbers_of};
+ghost use Rattle.zre_actor.specs.Passes.{AreCallersOf, IsCallerOf, IsNew, fresh_of, given_of, room_of};
+ghost use Rattle.zre_actor.specs.Passes.{number, numbers_of};
 ghost use Rattle.zre_gate.specs.Tables.{IsLaid, IsChair, chair_number};
 
 use std::alloc::Global;
@@ -87,6 +88,83 @@ fn chairs_for(
     Ok(chairs)
 }
 
+// What the threads of a gate share.
+#[derive(Drop)]
+struct Shares {
+    pipes: Arc<Pipes, Global>,
+    pipes_of_actor: Arc<Pipes, Global>,
+    pipes_of_closer: Arc<Pipes, Global>,
+    over: Arc<AtomicBool, Global>,
+    over_of_closer: Arc<AtomicBool, Global>,
+}
+
+// Shares the pipes, and the sign that the gate is over.
+fn share(alloc: Global, pipes: Pipes) -> Result<Shares, OutOfMemory>
+    ensures { IfOk result (λ shares. (arc_value shares.pipes ≡ pipes) × (arc_value shares.pipes_of_actor ≡ pipes)
+        × (arc_value shares.pipes_of_closer ≡ pipes)) }
+{
+    let pipes = Arc::new(alloc, pipes)?;
+    let pipes_of_actor = Arc::try_clone(&pipes)?;
+    let pipes_of_closer = Arc::try_clone(&pipes)?;
+    let over = Arc::new(alloc, AtomicBool::new(false))?;
+    let over_of_closer = Arc::try_clone(&over)?;
+    Ok(Shares {
+        pipes,
+        pipes_of_actor,
+        pipes_of_closer,
+        over,
+        over_of_closer,
+    })
+}
+
+// The places of all callers, and what they share.
+#[derive(Drop)]
+struct Places {
+    shares: Shares,
+    closer: CallerPass,
+    asker: CallerPass,
+    chairs: VecDeque<Chair>,
+    callers: CallerPasses,
+}
+
+// Shares the pipes, and gives each caller a place.
+fn places_for(
+    alloc: Global,
+    pipes: Pipes,
+    mut callers: CallerPasses,
+    many: u8,
+) -> Result<Places, OutOfMemory>
+    requires numbers { numbers_of (fresh_of callers) ≡ row_of_numbers 1 (many + 2) }
+    requires pipes { AreCallersOf pipes (fresh_of callers) }
+    requires new { All IsNew (fresh_of callers) }
+    ensures shares { IfOk result (λ places. (arc_value places.shares.pipes ≡ pipes)
+        × (arc_value places.shares.pipes_of_actor ≡ pipes) × (arc_value places.shares.pipes_of_closer ≡ pipes)) }
+    ensures callers { IfOk result (λ places. IsCallerOf pipes places.closer × IsCallerOf pipes places.asker
+        × All (IsChair pipes) places.chairs.items) }
+    ensures new { IfOk result (λ places. IsNew places.closer × IsNew places.asker) }
+    ensures many { IfOk result (λ places. length places.chairs.items ≡ many) }
+    ensures apart { (n : ℕ) → IfOk result (λ places. times n (number places.closer ∷ number places.asker
+        ∷ map chair_number places.chairs.items) ≤ 1) }
+    ensures given { IfOk result (λ places. (given_of places.callers ≡ given_of callers)
+        × (room_of places.callers ≡ room_of callers)) }
+{
+    let shares = share(alloc, pipes)?;
+    let Some(closer) = callers.take() else {
+        unreachable!();
+    };
+    let Some(asker) = callers.take() else {
+        unreachable!();
+    };
+    let chairs = chairs_for(alloc, &shares.pipes, &shares.over, &mut callers, many)?;
+    Ok(Places {
+        shares,
+        closer,
+        asker,
+        chairs,
+        callers,
+    })
+}
+
 impl<C: Drop> Table<C> {
     /// Makes all of it, for so many clients.
     pub fn lay(alloc: Global, config: Config, many: u8) -> Result<Table<C>, OutOfMemory>
@@ -95,38 +173,27 @@ impl<C: Drop> Table<C> {
         ensures laid { IfOk result (IsLaid many) }
         ensures node { IfOk result (λ t. StandsFor config [] t.node) }
     {
+        let left = Vec::with_capacity(alloc, usize::from(many))?;
+        let node = Node::new(alloc, config)?;
         let Made {
             pipes,
             actor,
-            mut callers,
+            callers,
             taker,
         } = Pipes::make(alloc, many + 2)?;
-        let node = Node::new(alloc, config)?;
-        let pipes = Arc::new(alloc, pipes)?;
-        let pipes_of_actor = Arc::try_clone(&pipes)?;
-        let pipes_of_closer = Arc::try_clone(&pipes)?;
-        let over = Arc::new(alloc, AtomicBool::new(false))?;
-        let over_of_closer = Arc::try_clone(&over)?;
-        let left = Vec::with_capacity(alloc, usize::from(many))?;
-        let Some(closer) = callers.take() else {
-            unreachable!();
-        };
-        let Some(asker) = callers.take() else {
-            unreachable!();
-        };
-        let chairs = chairs_for(alloc, &pipes, &over, &mut callers, many)?;
+        let places = places_for(alloc, pipes, callers, many)?;
         Ok(Table {
-            pipes,
-            pipes_of_actor,
-            pipes_of_closer,
-            over,
-            over_of_closer,
+            pipes: places.shares.pipes,
+            pipes_of_actor: places.shares.pipes_of_actor,
+            pipes_of_closer: places.shares.pipes_of_closer,
+            over: places.shares.over,
+            over_of_closer: places.shares.over_of_closer,
             node,
             actor,
-            closer,
-            asker,
-            chairs,
-            callers,
+            closer: places.closer,
+            asker: places.asker,
+            chairs: places.chairs,
+            callers: places.callers,
             taker,
             left,
         })

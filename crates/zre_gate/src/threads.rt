@@ -30,7 +30,8 @@ use crossbeam_channel::{Receiver, Sender, bounded};
 use std::alloc::Global;
 use std::collections::VecDeque;
 use std::marker::Brand;
-use std::sync::Wait;
+use std::sync::atomic::AtomicBool;
+use std::sync::{Arc, Wait};
 use std::thread::Threads;
 use zre_actor::{ActorJob, ActorPass, CallerPass, CallerPasses, Ending, Pipes, TakerPass, Worked};
 use zre_chat::statuses::{first, of_print, of_thread, of_work};
@@ -226,6 +227,21 @@ where
     )
 }
 
+// A table without what the node's thread takes of it. Where that isn't started, it is let go as one.
+#[derive(Drop)]
+struct Rest<C> {
+    pipes: Arc<Pipes, Global>,
+    pipes_of_closer: Arc<Pipes, Global>,
+    over: Arc<AtomicBool, Global>,
+    over_of_closer: Arc<AtomicBool, Global>,
+    closer: CallerPass,
+    asker: CallerPass,
+    chairs: VecDeque<Chair>,
+    callers: CallerPasses,
+    taker: TakerPass,
+    left: Vec<C>,
+}
+
 fn serve_known<C, W, O, R, P, T, B>(
     rt: T,
     alloc: Global,
@@ -262,7 +278,7 @@ where
     ensures unkept { keep ≡ false → result.rec ≡ rec }
     ensures later { (O.faults out.old ≤ O.faults out.new) × (P.faults spawner.old ≤ P.faults spawner.new) }
 {
-    let Ok((lines, running)) = room_for::<C, B>(alloc, clients.len() as u64) else {
+    let Ok(room) = room_for::<C, B>(alloc, clients.len() as u64) else {
         return Served {
             status: Status::OutOfMemory,
             clients,
@@ -285,6 +301,18 @@ where
         taker,
         left,
     } = table;
+    let rest = Rest {
+        pipes,
+        pipes_of_closer,
+        over,
+        over_of_closer,
+        closer,
+        asker,
+        chairs,
+        callers,
+        taker,
+        left,
+    };
     let job = ActorJob {
         pipes: pipes_of_actor,
         world,
@@ -306,7 +334,19 @@ where
             };
         }
     };
-    let Lines { ins, outs } = lines;
+    let (Lines { ins, outs }, running) = room;
+    let Rest {
+        pipes,
+        pipes_of_closer,
+        over,
+        over_of_closer,
+        closer,
+        asker,
+        chairs,
+        callers,
+        taker,
+        left,
+    } = rest;
     let Seated { running, refused } = seat_all(
         rt, alloc, clients, chairs, ins, limit, running, spawner,
     );

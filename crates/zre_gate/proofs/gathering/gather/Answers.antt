@@ -1,10 +1,9 @@
-use Rattle.std.proofs.Common.{◌≡◌, ◌++◌, ◌∷◌, [], ◌∙◌, true, false, Some, map, take, refl, sym, ap, subst, append_assoc, length, length-append, arith}
+use Rattle.std.proofs.Common.{◌++◌, ◌∷◌, [], ◌∙◌, false, map, refl, sym, ap, subst, append_assoc, length, length-append, arith}
 use Rattle.std.proofs.Math.Logic.{∥∥₁_map}
 use Rattle.std.specs.Vec.Iter.{into_iter_items}
 use Rattle.zre_commands.specs.declared.pump.status.Status.TheVariants.{Done}
 use Rattle.zre_gate.specs.Clients.{row}
 use Rattle.zre_gate.specs.Gathering.{Gathers}
-use Rattle.zre_gate.specs.Halls.{Hall}
 use Rattle.zre_gate.proofs.Gathered.{all_gathered, none_gathered}
 use Rattle.zre_gate.proofs.gathering.gather.Goals as goal
 

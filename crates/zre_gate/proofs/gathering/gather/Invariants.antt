@@ -1,4 +1,4 @@
-use Rattle.std.proofs.Common.{◌≡◌, ◌++◌, ◌≤◌, ℕ, map, take, length, vec_len, Some}
+use Rattle.std.proofs.Common.{◌≡◌, ◌++◌, map, take, length, vec_len, Some}
 use Rattle.std.specs.Prelude.{vec_capacity}
 use Rattle.std.specs.Vec.Iter.{into_iter_items}
 use Rattle.zre_actor.specs.Passes.{IsCallerOf}

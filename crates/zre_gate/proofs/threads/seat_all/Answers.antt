@@ -1,4 +1,4 @@
-use Rattle.std.proofs.Common.{◌≡◌, ◌∙◌, ◌+◌, ◌++◌, ◌∷◌, [], length, length-append, refl, sym, ap, arith, append_assoc, ⊎_elim}
+use Rattle.std.proofs.Common.{◌∙◌, ◌+◌, ◌++◌, ◌∷◌, [], length, length-append, sym, ap, arith, append_assoc, ⊎_elim}
 use Rattle.std.specs.Vec.Iter.{into_iter_items}
 use Rattle.zre_gate.specs.Clients.{row}
 use Rattle.zre_gate.proofs.Seating.{seated_guest}

@@ -1,4 +1,4 @@
-use Rattle.std.proofs.Common.{◌≡◌, ◌∙◌, true, map, refl, sym, subst}
+use Rattle.std.proofs.Common.{◌∙◌, true, map, refl, sym, subst}
 use Rattle.zre_outside.specs.Causes.{Rose}
 use Rattle.zre_chat.proofs.Whole.{head_only, there}
 use Rattle.zre_gate.specs.Clients.{row}
