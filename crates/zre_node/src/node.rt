@@ -32,6 +32,10 @@ pub struct Node {
     spent: bool,
 }
 
+// An entry is let go. It stands apart, so that a step makes no room for that.
+#[inline(never)]
+fn let_go(_entry: Entry) {}
+
 impl Node {
     /// A node before any entry. Its settings have to be valid ([`Config::valid`]).
     pub fn new(alloc: Global, config: Config) -> Result<Node, OutOfMemory>
@@ -134,11 +138,14 @@ impl Node {
         ensures none { IsTrue (is_spent self.old) → steps.new ≡ steps.old }
     {
         if self.spent {
+            let_go(entry);
             return Err(OutOfMemory);
         }
         self.spent = true;
         self.effects.clear();
-        if !self.tables.stopped {
+        if self.tables.stopped {
+            let_go(entry);
+        } else {
             self.tables
                 .take(&mut self.effects, &mut self.items, entry, steps)?;
         }
