@@ -56,7 +56,7 @@ pub(crate) fn take_entry<W: World, R: Recorder>(
         return Err(ending);
     }
     *before = entry.at;
-    let Ok(Step { events, acts }) = node.step(entry) else {
+    let Ok(Step { events, acts, .. }) = node.step(entry) else {
         return Err(Ending::OutOfMemory);
     };
     if do_all(world, node, acts.as_slice()) {

@@ -17,7 +17,7 @@ use Rattle.zre_journal.proofs.Kept.{born, newborn, born-proper, HearsBeacon-prop
 use Rattle.zre_journal.proofs.Listed.{eqb-comm, found_passes}
 use Rattle.zre_tables.specs.declared.peer.Peer.{Peer}
 use Rattle.zre_node.specs.declared.tables.Tables.{Tables}
-use Rattle.zre_node.specs.declared.effects.Effects.{Effects}
+use Rattle.zre_node.specs.declared.effects.Step.{Step}
 use Rattle.zre_tables.specs.Tabled.{Tabled}
 use Rattle.zre_node.specs.Stands.{Holds, Did, IsPeer}
 use Rattle.std.proofs.lemmas.List.Folds.{list_any-append}
@@ -52,7 +52,7 @@ module _ (g : Config) (H : List Mark) (t : Tables) (h : Holds g H t) (p : PeerId
       below (v ∷ vs) a = (let low : v.link ≤ births H = a.0 in omega arith, below vs a.1)
 
   -- a birth, with its act
-  pub birth_did : (n : Tables) (a s : Effects) → Holds g (born p e (hello g H) H) n → s.events ≡ a.events → s.acts ≡ a.acts ++ act.Connect (births H + 1) e ∷ [] → s.pushed ≡ a.pushed ++ (births H + 1) ∷ []
+  pub birth_did : (n : Tables) (a s : Step) → Holds g (born p e (hello g H) H) n → s.events ≡ a.events → s.acts ≡ a.acts ++ act.Connect (births H + 1) e ∷ [] → s.pushed ≡ a.pushed ++ (births H + 1) ∷ []
       → Did g (birth g p e H) H n a s
   birth_did n a s holds ev ac pu = record {
     holds = holds;

@@ -27,7 +27,7 @@ use Rattle.zre_journal.proofs.Kept.{Joins-proper, Leaves-proper, Refuses-proper}
 use Rattle.zre_journal.proofs.Listed.{All-append, All-without}
 use Rattle.zre_tables.specs.declared.peer.Peer.{Peer}
 use Rattle.zre_node.specs.declared.tables.Tables.{Tables}
-use Rattle.zre_node.specs.declared.effects.Effects.{Effects}
+use Rattle.zre_node.specs.declared.effects.Step.{Step}
 use Rattle.zre_tables.specs.Searches.{link_among}
 use Rattle.zre_node.specs.Stands.{Holds, Did, IsPeer, is_quiet}
 use Rattle.zre_node.proofs.Broadcasting.{pushed_after}
@@ -100,17 +100,17 @@ not_joined group (x ∷ xs) long a = by (not_joined group xs long a.1) (bytes_eq
     by r false e = r
 
 -- a join or a leave, and the pushes after it
-pub told_all : (g : Config) (K : List Mark) (h : Mark) (b : Body) (m n : Tables) (a s : Effects) → Did g (h ∷ []) K m a a → lives (h ∷ K) ≡ lives K → push_all g (lives K) b (h ∷ K) ≡ push_all g (lives K) b K
+pub told_all : (g : Config) (K : List Mark) (h : Mark) (b : Body) (m n : Tables) (a s : Step) → Did g (h ∷ []) K m a a → lives (h ∷ K) ≡ lives K → push_all g (lives K) b (h ∷ K) ≡ push_all g (lives K) b K
     → Did g (push_all g (lives (h ∷ K)) b (h ∷ K)) (h ∷ K) n a s → Did g (h ∷ push_all g (lives K) b K) K n a s
 told_all g K h b m n a s first same pushes second =
     did_then g (h ∷ []) (push_all g (lives K) b K) K m n a a s first
     (did_as g _ _ (h ∷ K) n a s (sym (ap (λ (vs : List Life). push_all g vs b (h ∷ K)) same ∙ pushes)) second)
 
-pub joins_tell : (g : Config) (K : List Mark) (group : List ℕ) (b : Body) (m n : Tables) (a s : Effects) → Holds g (Joins group ∷ K) m → Did g (push_all g (lives (Joins group ∷ K)) b (Joins group ∷ K)) (Joins group ∷ K) n a s → Did g (Joins group ∷ push_all g (lives K) b K) K n a s
+pub joins_tell : (g : Config) (K : List Mark) (group : List ℕ) (b : Body) (m n : Tables) (a s : Step) → Holds g (Joins group ∷ K) m → Did g (push_all g (lives (Joins group ∷ K)) b (Joins group ∷ K)) (Joins group ∷ K) n a s → Did g (Joins group ∷ push_all g (lives K) b K) K n a s
 joins_tell g K group b m n a s held second =
     told_all g K (Joins group) b m n a s (silent_did g (Joins group) K m a held refl refl (λ l. refl)) refl (pushed_after g (lives K) b (Joins group) K (λ l. (refl, refl))) second
 
-pub leaves_tell : (g : Config) (K : List Mark) (group : List ℕ) (b : Body) (m n : Tables) (a s : Effects) → Holds g (Leaves group ∷ K) m → Did g (push_all g (lives (Leaves group ∷ K)) b (Leaves group ∷ K)) (Leaves group ∷ K) n a s → Did g (Leaves group ∷ push_all g (lives K) b K) K n a s
+pub leaves_tell : (g : Config) (K : List Mark) (group : List ℕ) (b : Body) (m n : Tables) (a s : Step) → Holds g (Leaves group ∷ K) m → Did g (push_all g (lives (Leaves group ∷ K)) b (Leaves group ∷ K)) (Leaves group ∷ K) n a s → Did g (Leaves group ∷ push_all g (lives K) b K) K n a s
 leaves_tell g K group b m n a s held second =
     told_all g K (Leaves group) b m n a s (silent_did g (Leaves group) K m a held refl refl (λ l. refl)) refl (pushed_after g (lives K) b (Leaves group) K (λ l. (refl, refl))) second
 

@@ -1,5 +1,5 @@
 -- A later message on a connection that runs a peer.
-use Rattle.std.proofs.Common.{◌≡◌, ℕ, Bool, true, false, not, ◌&&◌, eqb, if◌then◌else◌, List, [], ◌∷◌, ◌++◌, Option, Some, IsSome, Result, Ok, Err, OnOk, OnErr, IfErr, refl, sym, ap, ◌∙◌, nat_cmp, subst, eq-eqb, eqb-true, append-nil}
+use Rattle.std.proofs.Common.{◌≡◌, ℕ, Bool, true, false, not, ◌&&◌, eqb, if◌then◌else◌, List, [], ◌∷◌, ◌++◌, Some, IsSome, Result, Ok, Err, OnOk, refl, sym, ap, ◌∙◌, nat_cmp, subst, eq-eqb, eqb-true, append-nil}
 use Rattle.std.specs.BTreeMap.{is_at}
 use Rattle.std.specs.Map.{lookup, set_value}
 use Rattle.zre_values.specs.declared.peer_id.PeerId.{PeerId}
@@ -24,9 +24,8 @@ use Rattle.zre_journal.specs.Pushes.{push}
 use Rattle.zre_journal.proofs.Kept.{run_is, Counts-proper, run_known}
 use Rattle.zre_journal.proofs.Listed.{eqb-comm, found_passes}
 use Rattle.zre_tables.specs.declared.peer.Peer.{Peer}
-use Rattle.zre_tables.specs.declared.peer.Running.{Running}
 use Rattle.zre_node.specs.declared.tables.Tables.{Tables}
-use Rattle.zre_node.specs.declared.effects.Effects.{Effects}
+use Rattle.zre_node.specs.declared.effects.Step.{Step}
 use Rattle.zre_tables.specs.Tabled.{Tabled}
 use Rattle.zre_tables.specs.Runs.{HasRun, HadRun, IsTaken}
 use Rattle.zre_node.specs.Stands.{Holds, Nearly, Did, IsPeer, IsBut, IsLeaving, is_ping}
@@ -165,11 +164,11 @@ module _ (g : Config) (H : List Mark) (t : Tables) (h : Holds g H t) (c l : ℕ)
 pub known_here : (H : List Mark) (l : ℕ) (v : Life) → life l H ≡ Some v → IsSome (life l H)
 known_here H l v e = rw e refl
 
-pub counted_did : (g : Config) (H : List Mark) (n : Tables) (c l : ℕ) (m : Message) (a s : Effects) → Holds g (Counts c l m ∷ H) n → s.events ≡ a.events ++ told (Counts c l m ∷ []) H → s.acts ≡ a.acts → s.pushed ≡ a.pushed → Did g (Counts c l m ∷ []) H n a s
+pub counted_did : (g : Config) (H : List Mark) (n : Tables) (c l : ℕ) (m : Message) (a s : Step) → Holds g (Counts c l m ∷ H) n → s.events ≡ a.events ++ told (Counts c l m ∷ []) H → s.acts ≡ a.acts → s.pushed ≡ a.pushed → Did g (Counts c l m ∷ []) H n a s
 counted_did g H n c l m a s h ev ac pu = did_by g (Counts c l m ∷ []) H n a s h ev (ac ∙ sym (append-nil a.acts)) pu (λ j. refl)
 
 -- an end for a refused message, which has told nothing
-pub ended_from : (g : Config) (c l : ℕ) (m : Message) (H : List Mark) (n : Tables) (a : Effects) (es : List Event) (s : Effects) (r : Result (Unit {0}) OutOfMemory) → IsCons (counted l H) → may_follow (counted l H) m ≡ false
+pub ended_from : (g : Config) (c l : ℕ) (m : Message) (H : List Mark) (n : Tables) (a : Step) (es : List Event) (s : Step) (r : Result (Unit {0}) OutOfMemory) → IsCons (counted l H) → may_follow (counted l H) m ≡ false
     → (f : RunFault) → f ≡ fault_of (counted l H) m → es ≡ a.events → OnOk r (Did g (Ends l (cause_by f) ∷ []) H n (record a { events = es }) s) → OnOk r (Did g (at_later g c l m H) H n a s)
 ended_from g c l m H n a es s (Ok x) some e f is same d =
     let marks = refuses_it g c l m H some e ∙ ap (λ k. Ends l (cause_by k) ∷ []) (sym is) in
@@ -179,7 +178,7 @@ ended_from g c l m H n a es s (Err x) some e f is same d = tt
 
 -- a message that makes no run: P are the rows as they are left
 pub refused_by : (g : Config) (H : List Mark) (t : Tables) (h : Holds g H t) (c l : ℕ) (r : runs c H ≡ Some l) (k : Peer) (was : Some k ≡ lookup (is_at (nat_cmp l)) t.peers)
-    (m : Message) (f : RunFault) (now : ℕ) (P : List (ℕ × Peer)) (n : Tables) (a s : Effects) (es : List Event) (x : Result (Unit {0}) OutOfMemory)
+    (m : Message) (f : RunFault) (now : ℕ) (P : List (ℕ × Peer)) (n : Tables) (a s : Step) (es : List Event) (x : Result (Unit {0}) OutOfMemory)
     → ((id : PeerId) → HasRun (Some c) id (counted l H) k.run → (may_follow (counted l H) m ≡ false) × (f ≡ fault_of (counted l H) m) × (es ≡ a.events) × IsTaken l k now (HadRun (Some c) (counted l H)) t.peers P)
     → (Nearly g H l (record t { peers = P }) → IsSome (life l H) → OnOk x (Did g (Ends l (cause_by f) ∷ []) H n (record a { events = es }) s)) → OnOk x (Did g (at_later g c l m H) H n a s)
 refused_by g H t h c l r k was m f now P n a s es x told ended =

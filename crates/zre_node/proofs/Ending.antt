@@ -23,7 +23,7 @@ use Rattle.zre_peer.specs.Runs.{shown}
 use Rattle.zre_peer.specs.Standing.{view_in}
 use Rattle.zre_tables.specs.declared.connection.Connection.{Connection}
 use Rattle.zre_node.specs.declared.tables.Tables.{Tables}
-use Rattle.zre_node.specs.declared.effects.Effects.{Effects}
+use Rattle.zre_node.specs.declared.effects.Step.{Step}
 use Rattle.zre_tables.specs.Tabled.{Tabled}
 use Rattle.zre_tables.specs.Runs.{HadRun}
 use Rattle.zre_node.specs.Stands.{Holds, Keeps, Parted, Did, IsConn, kept_conn, heard_by}
@@ -109,7 +109,7 @@ module _ (g : Config) (H : List Mark) (l : ℕ) (k : Peer) (t : Tables) (p : Par
   no_exit : runner l H ≡ None → exit (life l H) why H ≡ []
   no_exit r = rw p.known (let e : runner p.gone.link H ≡ None = subst (λ m. runner m H ≡ None) known.2 r in rw e refl)
 
-  ended : (C : List (ℕ × Connection)) (a s : Effects) → Holds g (Ends l why ∷ H) (record t { conns = C }) → s.events ≡ a.events ++ exit (life l H) why H
+  ended : (C : List (ℕ × Connection)) (a s : Step) → Holds g (Ends l why ∷ H) (record t { conns = C }) → s.events ≡ a.events ++ exit (life l H) why H
       → s.acts ≡ a.acts ++ close_link l why → s.pushed ≡ a.pushed → Did g (Ends l why ∷ []) H (record t { conns = C }) a s
   ended C a s h ev ac pu = record {
     holds = h;
@@ -125,7 +125,7 @@ module _ (g : Config) (H : List Mark) (l : ℕ) (k : Peer) (t : Tables) (p : Par
 
   pub with_run : (x : Running) → k.run ≡ Some x → (C : List (ℕ × Connection))
       → ((y : Connection) → lookup (is_at (nat_cmp x.conn)) t.conns ≡ Some y → C ≡ set_value (is_at (nat_cmp x.conn)) t.conns (record y { since = t.clock; run = None; conn = None }))
-      → (a s : Effects) → s.events ≡ a.events ++ event.Exit k.id (view_of (counted l H)).name why ∷ [] → s.acts ≡ a.acts ++ close_link l why → s.pushed ≡ a.pushed
+      → (a s : Step) → s.events ≡ a.events ++ event.Exit k.id (view_of (counted l H)).name why ∷ [] → s.acts ≡ a.acts ++ close_link l why → s.pushed ≡ a.pushed
       → Did g (Ends l why ∷ []) H (record t { conns = C }) a s
   with_run x e C set a s ev ac pu =
       let r = (entered x e).0 in
@@ -144,7 +144,7 @@ module _ (g : Config) (H : List Mark) (l : ℕ) (k : Peer) (t : Tables) (p : Par
       ended C a s (with_conns C (subst (λ es. Tabled (λ (c : ℕ). c) (IsConn g (Ends l why ∷ H)) (open_ones H) es) (sym at) conns))
       (ev ∙ ap (λ es. a.events ++ es) (sym (its_exit (rw r refl)))) ac pu
 
-  pub without_run : k.run ≡ None → (a s : Effects) → s.events ≡ a.events → s.acts ≡ a.acts ++ close_link l why → s.pushed ≡ a.pushed → Did g (Ends l why ∷ []) H t a s
+  pub without_run : k.run ≡ None → (a s : Step) → s.events ≡ a.events → s.acts ≡ a.acts ++ close_link l why → s.pushed ≡ a.pushed → Did g (Ends l why ∷ []) H t a s
   without_run e a s ev ac pu =
       let r : runner l H ≡ None = ap (λ m. runner m H) known.2 ∙ had_none (runner p.gone.link H) (counted p.gone.link H) k.run p.leaving.run_is e in
       ended t.conns a s (with_conns t.conns (retold (λ (c : ℕ). c) (IsConn g H) (IsConn g (Ends l why ∷ H))

@@ -12,7 +12,7 @@ use Rattle.zre_journal.specs.Connections.{is_live}
 use Rattle.zre_journal.specs.Arrivals.{at_place}
 use Rattle.zre_journal.proofs.Joined.{in_turn-append}
 use Rattle.zre_node.specs.declared.tables.Tables.{Tables}
-use Rattle.zre_node.specs.declared.effects.Effects.{Effects}
+use Rattle.zre_node.specs.declared.effects.Step.{Step}
 use Rattle.zre_node.specs.Said.{at_item}
 use Rattle.zre_node.specs.Stands.{Did}
 use Rattle.zre_node.proofs.Many.{did_as, did_then}
@@ -27,7 +27,7 @@ placed g c None K = by (is_live c K)
     by false = refl
 
 -- one more of the items that arrive
-pub one_more_item : (g : Config) (c : ℕ) (items : List Item) (i : ℕ) (item : Item) (K : List Mark) (t n : Tables) (a b s : Effects) → i < length items → item ≡ get_or items i item
+pub one_more_item : (g : Config) (c : ℕ) (items : List Item) (i : ℕ) (item : Item) (K : List Mark) (t n : Tables) (a b s : Step) → i < length items → item ≡ get_or items i item
     → Did g (in_turn (at_place g c) (map (λ (x : Arrival). Arrived x) (arrivals_in (take i items))) K) K t a b
     → (let now = after (in_turn (at_place g c) (map (λ (x : Arrival). Arrived x) (arrivals_in (take i items))) K) K in Did g (cond (is_live c now) (at_item g c (arrival_of item.what) now) []) now n b s)
     → Did g (in_turn (at_place g c) (map (λ (x : Arrival). Arrived x) (arrivals_in (take (i + 1) items))) K) K n a s

@@ -21,7 +21,7 @@ use Rattle.zre_journal.specs.LinkEntries.{at_linked, at_reply, at_unlinked, at_t
 use Rattle.zre_journal.specs.Proper.{IsProper}
 use Rattle.zre_journal.proofs.Kept.{known_lives, Links-proper, Sends-proper}
 use Rattle.zre_journal.proofs.Listed.{eqb-comm}
-use Rattle.zre_node.specs.declared.effects.Effects.{Effects}
+use Rattle.zre_node.specs.declared.effects.Step.{Step}
 use Rattle.zre_tables.specs.declared.peer.Peer.{Peer}
 use Rattle.zre_node.specs.declared.tables.Tables.{Tables}
 use Rattle.zre_node.specs.Links.{is_about_link, Notes}
@@ -101,7 +101,7 @@ pub untaken_holds : (g : Config) (K : List Mark) (t : Tables) (l n : ℕ) → Ho
 untaken_holds g K t l n h e = subst (λ (x : Option Life). Holds g (after (at_took g l n x K) K) t) (sym e) h
 
 -- these marks tell nothing and ask for nothing
-pub linked_did : (g : Config) (K : List Mark) (l : ℕ) (n : Tables) (a : Effects) → Holds g (after (at_linked g l (life l K) K) K) n → Did g (at_linked g l (life l K) K) K n a a
+pub linked_did : (g : Config) (K : List Mark) (l : ℕ) (n : Tables) (a : Step) → Holds g (after (at_linked g l (life l K) K) K) n → Did g (at_linked g l (life l K) K) K n a a
 linked_did g K l n a = known (life l K)
   where
     by : (b : Bool) → Holds g (after (if b then [] else Links l ∷ []) K) n → Did g (if b then [] else Links l ∷ []) K n a a
@@ -112,7 +112,7 @@ linked_did g K l n a = known (life l K)
     known None h = idle_did g K n a h
     known (Some v) h = by (is_linked l K) h
 
-pub took_did : (g : Config) (K : List Mark) (l m : ℕ) (n : Tables) (a : Effects) → Holds g (after (at_took g l m (life l K) K) K) n → Did g (at_took g l m (life l K) K) K n a a
+pub took_did : (g : Config) (K : List Mark) (l m : ℕ) (n : Tables) (a : Step) → Holds g (after (at_took g l m (life l K) K) K) n → Did g (at_took g l m (life l K) K) K n a a
 took_did g K l m n a = known (life l K)
   where
     known : (o : Option Life) → Holds g (after (at_took g l m o K) K) n → Did g (at_took g l m o K) K n a a
@@ -145,7 +145,7 @@ or-false false true = refl
 or-false false false = refl
 
 -- the link that is named was noted after the others
-pub noted : (l : ℕ) (i : Input) (a s : Effects) → ((j : ℕ) → names j i ≡ eqb j l) → s.events ≡ a.events → s.acts ≡ a.acts → s.pushed ≡ a.pushed ++ l ∷ [] → Notes i a s
+pub noted : (l : ℕ) (i : Input) (a s : Step) → ((j : ℕ) → names j i ≡ eqb j l) → s.events ≡ a.events → s.acts ≡ a.acts → s.pushed ≡ a.pushed ++ l ∷ [] → Notes i a s
 noted l i a s n ev ac pu = record {
   events = ev;
   acts = ac;
@@ -153,7 +153,7 @@ noted l i a s n ev ac pu = record {
 }
 
 -- no link is named
-pub not_noted : (i : Input) (a : Effects) → ((j : ℕ) → names j i ≡ false) → Notes i a a
+pub not_noted : (i : Input) (a : Step) → ((j : ℕ) → names j i ≡ false) → Notes i a a
 not_noted i a n = record { events = refl; acts = refl; pushed = λ j. or-nil (list_any (eqb j) a.pushed) ∙ ap (λ b. list_any (eqb j) a.pushed || b) (sym (n j)) }
 
 pub unnamed : (i : Input) → ((l : ℕ) → i ≡ input.Linked l → ⊥) → ((l : ℕ) (o : List ℕ) → i ≡ input.Reply l o → ⊥) → ((l n : ℕ) → i ≡ input.Took l n → ⊥) → (j : ℕ) → names j i ≡ false

@@ -17,7 +17,7 @@ use Rattle.zre_journal.proofs.Kept.{known_lives, Puts-proper}
 use Rattle.zre_journal.proofs.Listed.{eqb-comm, found_passes}
 use Rattle.zre_tables.specs.declared.peer.Peer.{Peer}
 use Rattle.zre_node.specs.declared.tables.Tables.{Tables}
-use Rattle.zre_node.specs.declared.effects.Effects.{Effects}
+use Rattle.zre_node.specs.declared.effects.Step.{Step}
 use Rattle.zre_tables.specs.Tabled.{Tabled}
 use Rattle.zre_node.specs.Stands.{Holds, Did, IsPeer, link_of_life}
 use Rattle.zre_tables.proofs.Entries.{changed}
@@ -71,7 +71,7 @@ pub is_slow : (g : Config) (l : ℕ) (b : Body) (K : List Mark) (waits size : �
 is_slow g l b K waits size w s high = let e : ltb 4194304 (unsent g l K + size_of (line l K) b) ≡ true = lt-ltb 4194304 (unsent g l K + size_of (line l K) b) high in rw (e, w, s) refl
 
 -- it was put, and its link is noted
-pub put_did : (g : Config) (l : ℕ) (b : Body) (K : List Mark) (n : Tables) (a s : Effects) → Holds g (Puts l b ∷ K) n → s.events ≡ a.events → s.acts ≡ a.acts → s.pushed ≡ a.pushed ++ l ∷ [] → Did g (Puts l b ∷ []) K n a s
+pub put_did : (g : Config) (l : ℕ) (b : Body) (K : List Mark) (n : Tables) (a s : Step) → Holds g (Puts l b ∷ K) n → s.events ≡ a.events → s.acts ≡ a.acts → s.pushed ≡ a.pushed ++ l ∷ [] → Did g (Puts l b ∷ []) K n a s
 put_did g l b K n a s h ev ac pu = record {
   holds = h;
   events = ev ∙ sym (append-nil a.events);

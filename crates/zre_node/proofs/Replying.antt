@@ -24,7 +24,7 @@ use Rattle.zre_journal.specs.Peers.{Life, lives, life, births, active, runner, c
 use Rattle.zre_journal.specs.Told.{told}
 use Rattle.zre_journal.proofs.Kept.{known_lives, Comes-proper, PutsPong-proper}
 use Rattle.zre_journal.proofs.Listed.{eqb-comm}
-use Rattle.zre_node.specs.declared.effects.Effects.{Effects}
+use Rattle.zre_node.specs.declared.effects.Step.{Step}
 use Rattle.zre_tables.specs.declared.peer.Peer.{Peer}
 use Rattle.zre_node.specs.declared.tables.Tables.{Tables}
 use Rattle.zre_node.specs.Links.{pongs, IsReplied}
@@ -58,7 +58,7 @@ no_message l k [] = refl
 no_message l k (c ∷ ts) = no_message l k ts
 
 -- they tell nothing and ask for nothing
-pub pongs_did : (g : Config) (l : ℕ) (ts : List (List ℕ)) (K : List Mark) (n : Tables) (a : Effects) → Holds g (after (pongs l ts) K) n → Did g (pongs l ts) K n a a
+pub pongs_did : (g : Config) (l : ℕ) (ts : List (List ℕ)) (K : List Mark) (n : Tables) (a : Step) → Holds g (after (pongs l ts) K) n → Did g (pongs l ts) K n a a
 pongs_did g l ts K n a h = record {
   holds = h;
   events = sym (append-nil a.events) ∙ ap (λ es. a.events ++ es) (sym (untold l ts K));

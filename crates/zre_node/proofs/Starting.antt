@@ -12,7 +12,7 @@ use Rattle.zre_values.specs.Endpoint.{endpoint_in}
 use Rattle.zre_peer.specs.declared.event.Event.{Event}
 use Rattle.zre_values.specs.declared.memory.OutOfMemory.{OutOfMemory}
 use Rattle.std.specs.Result.{is_err}
-use Rattle.zre_node.specs.declared.effects.Effects.{Effects}
+use Rattle.zre_node.specs.declared.effects.Step.{Step}
 use Rattle.zre_journal.specs.Arrivals.{at_first, start, start_unknown}
 use Rattle.zre_journal.specs.Pushes.{birth}
 use Rattle.zre_journal.specs.Told.{told}
@@ -191,7 +191,7 @@ pub full : (g : Config) (p : PeerId) (m : Message) (H : List Mark) (to : Endpoin
 full g p m H to e high c = let none : ltb (length (lives H)) 256 ≡ false = le-ltb (length (lives H)) 256 high in rw (e, none) refl
 
 -- a birth and a start, with what both tell
-pub new_did : (g : Config) (H : List Mark) (t b : Tables) (n : Tables) (c : ℕ) (m : Message) (p : PeerId) (e : Endpoint) (a : Effects) (es : List Event) (s : Effects) → Holds g H t → is_live c H ≡ true → runs c H ≡ None → identity c H ≡ Some p
+pub new_did : (g : Config) (H : List Mark) (t b : Tables) (n : Tables) (c : ℕ) (m : Message) (p : PeerId) (e : Endpoint) (a : Step) (es : List Event) (s : Step) → Holds g H t → is_live c H ≡ true → runs c H ≡ None → identity c H ≡ Some p
     → es ≡ a.events ++ events_of p (view_of []) m.body → Did g (birth g p e H) H b (record a { events = es }) s → Holds g (Starts c (births H + 1) m ∷ after (birth g p e H) H) n
     → Did g (birth g p e H ++ Starts c (births H + 1) m ∷ []) H n a s
 new_did g H t b n c m p e a es s h live idle who ev d holds =
@@ -204,11 +204,11 @@ new_did g H t b n c m p e a es s h live idle who ev d holds =
       pushed = d.pushed;
     }
 
-pub on_did_as : (g : Config) (hs ks H : List Mark) (t : Tables) (a b : Effects) {T E : Type 0} (r : Result T E) → hs ≡ ks → OnOk r (Did g ks H t a b) → OnOk r (Did g hs H t a b)
+pub on_did_as : (g : Config) (hs ks H : List Mark) (t : Tables) (a b : Step) {T E : Type 0} (r : Result T E) → hs ≡ ks → OnOk r (Did g ks H t a b) → OnOk r (Did g hs H t a b)
 on_did_as g hs ks H t a b r e d = rw e d
 
 -- a refusal tells nothing before it
-pub untold_did : (g : Config) (hs H : List Mark) (n : Tables) (a : Effects) (es : List Event) (s : Effects) (f : RunFault) (r : Result (Unit {0}) OutOfMemory) → (f ≢ fault.OutOfMemory → es ≡ a.events) → (f ≡ fault.OutOfMemory → is_err r ≡ true)
+pub untold_did : (g : Config) (hs H : List Mark) (n : Tables) (a : Step) (es : List Event) (s : Step) (f : RunFault) (r : Result (Unit {0}) OutOfMemory) → (f ≢ fault.OutOfMemory → es ≡ a.events) → (f ≡ fault.OutOfMemory → is_err r ≡ true)
     → OnOk r (Did g hs H n (record a { events = es }) s) → OnOk r (Did g hs H n a s)
 untold_did g hs H n a es s f (Err x) u m d = tt
 untold_did g hs H n a es s fault.OutOfMemory (Ok x) u m d = let z : false ≡ true = m refl in absurd cc

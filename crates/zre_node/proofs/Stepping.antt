@@ -10,13 +10,13 @@ use Rattle.zre_journal.specs.Events.{chronicle, events, acts, events_at}
 use Rattle.zre_journal.specs.Happens.{marks, has_stopped}
 use Rattle.zre_journal.specs.Told.{told}
 use Rattle.zre_journal.proofs.Joined.{continues}
-use Rattle.zre_node.specs.declared.effects.Effects.{Effects}
+use Rattle.zre_node.specs.declared.effects.Step.{Step}
 use Rattle.zre_node.specs.declared.node.Node.{Node}
 use Rattle.zre_node.specs.declared.tables.Tables.{Tables}
 use Rattle.zre_node.specs.Journal.{StandsIn, Took, Steps}
 
 -- an entry after a stop changes nothing
-pub took_nothing : (g : Config) (e : Entry) (H : List Mark) (t : Tables) (a : Effects) → has_stopped H ≡ true → StandsIn g H t → Took g e H t a a
+pub took_nothing : (g : Config) (e : Entry) (H : List Mark) (t : Tables) (a : Step) → has_stopped H ≡ true → StandsIn g H t → Took g e H t a a
 took_nothing g e H t a z s =
     let m : marks g e H ≡ [] = rw z refl in
     let r = s.resting z in
@@ -31,7 +31,7 @@ took_nothing g e H t a z s =
     }
 
 -- what was taken is a step
-pub steps : (g : Config) (J : List Entry) (e : Entry) (n : Node) (a s : Effects) → n.spent ≡ false → a.events ≡ [] → a.acts ≡ [] → Took g e (chronicle g J) n.tables a s → Steps g J e n (record { events = s.events; acts = s.acts })
+pub steps : (g : Config) (J : List Entry) (e : Entry) (n : Node) (a s : Step) → n.spent ≡ false → a.events ≡ [] → a.acts ≡ [] → Took g e (chronicle g J) n.tables a s → Steps g J e n s
 steps g J e n a s whole ev ac w =
     let c = continues g J (e ∷ []) in
     record {

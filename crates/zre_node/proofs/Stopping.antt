@@ -20,7 +20,7 @@ use Rattle.zre_journal.proofs.Kept.{run_known}
 use Rattle.zre_journal.proofs.Known.{end_all, each_known}
 use Rattle.zre_journal.proofs.Stopping.{stop-is, none_known, none_open, drops_lives}
 use Rattle.zre_node.specs.declared.tables.Tables.{Tables}
-use Rattle.zre_node.specs.declared.effects.Effects.{Effects}
+use Rattle.zre_node.specs.declared.effects.Step.{Step}
 use Rattle.zre_tables.specs.Tabled.{Tabled}
 use Rattle.zre_node.specs.Stands.{Holds, Did, Rests, Stopped, AreKnown, RunNone, IsPeer, IsConn}
 use Rattle.zre_tables.proofs.Entries.{keys_are}
@@ -72,7 +72,7 @@ no_entries key P [] (x ∷ es) e t = absurd t
 no_entries key P (x ∷ xs) es e t = absurd cc
 
 -- the whole stop from its parts
-pub stops : (g : Config) (H : List Mark) (ls cs : List ℕ) (t m : Tables) (a b c d : Effects) → ls ≡ link_list (lives H) → cs ≡ open_ones H
+pub stops : (g : Config) (H : List Mark) (ls cs : List ℕ) (t m : Tables) (a b c d : Step) → ls ≡ link_list (lives H) → cs ≡ open_ones H
     → Did g (map (λ l. Ends l cause.Stop) ls) H t a b → Did g (map (λ c. ClosesAtStop c) cs) (after (map (λ l. Ends l cause.Stop) ls) H) m b c
     → d.events ≡ c.events ++ event.Stop ∷ [] → d.acts ≡ c.acts ++ act.Beacon (beacon_octets g.id 0) ∷ [] → Stopped g H (record m { stopped = true }) a d
 stops g H ls cs t m a b c d le ce first second ev ac =

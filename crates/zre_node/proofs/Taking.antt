@@ -18,7 +18,7 @@ use Rattle.zre_journal.specs.Heard.{newly_completed}
 use Rattle.zre_journal.specs.Links.{gate, taken}
 use Rattle.zre_journal.specs.Peers.{Life, lives}
 use Rattle.zre_journal.specs.Told.{told}
-use Rattle.zre_node.specs.declared.effects.Effects.{Effects}
+use Rattle.zre_node.specs.declared.effects.Step.{Step}
 use Rattle.zre_node.specs.declared.tables.Tables.{Tables}
 use Rattle.zre_journal.proofs.Stopping.{at_end}
 use Rattle.zre_node.specs.Kinds.{is_incoming}
@@ -59,7 +59,7 @@ goes_on g K t h = record {
 }
 
 -- what an entry's marks did, and then the offers, where the link that it names was noted before
-pub took_named : (g : Config) (e : Entry) (H : List Mark) (t : Tables) (a b c : Effects) → has_stopped H ≡ false → ((l : ℕ) → list_any (eqb l) a.pushed ≡ names l e.input)
+pub took_named : (g : Config) (e : Entry) (H : List Mark) (t : Tables) (a b c : Step) → has_stopped H ≡ false → ((l : ℕ) → list_any (eqb l) a.pushed ≡ names l e.input)
     → Did g (at_input g e.input H (Comes e ∷ H)) (Comes e ∷ H) t a b → c ≡ record b { acts = b.acts ++ offered g (after (at_input g e.input H (Comes e ∷ H)) (Comes e ∷ H)) b.pushed } → Took g e H t a c
 took_named g e H t a b c going named d is =
     let hs = at_input g e.input H (Comes e ∷ H) in
@@ -67,8 +67,8 @@ took_named g e H t a b c going named d is =
     let gives = same_offers g e hs (after hs (Comes e ∷ H)) b.pushed (λ l. d.pushed l ∙ ap (λ q. q || list_any (puts l) hs) (named l)) in
     record {
       stands = subst (λ ks. StandsIn g (after ks (Comes e ∷ H)) t) (sym m) (goes_on g (after hs (Comes e ∷ H)) t d.holds);
-      events = ap (λ (s : Effects). s.events) is ∙ d.events ∙ ap (λ ks. a.events ++ told ks (Comes e ∷ H)) (sym m);
-      acts = ap (λ (s : Effects). s.acts) is ∙ ap (λ xs. xs ++ offered g (after hs (Comes e ∷ H)) b.pushed) d.acts
+      events = ap (λ (s : Step). s.events) is ∙ d.events ∙ ap (λ ks. a.events ++ told ks (Comes e ∷ H)) (sym m);
+      acts = ap (λ (s : Step). s.acts) is ∙ ap (λ xs. xs ++ offered g (after hs (Comes e ∷ H)) b.pushed) d.acts
           ∙ append_assoc a.acts (done g.id hs) (offered g (after hs (Comes e ∷ H)) b.pushed)
           ∙ ap (λ xs. a.acts ++ (done g.id hs ++ xs)) gives
           ∙ ap (λ ks. a.acts ++ (done g.id ks ++ offers g e ks (after ks (Comes e ∷ H)))) (sym m)
@@ -76,12 +76,12 @@ took_named g e H t a b c going named d is =
     }
 
 -- the same of an entry that names none
-pub took : (g : Config) (e : Entry) (H : List Mark) (t : Tables) (a b c : Effects) → has_stopped H ≡ false → ((l : ℕ) → names l e.input ≡ false) → a.pushed ≡ []
+pub took : (g : Config) (e : Entry) (H : List Mark) (t : Tables) (a b c : Step) → has_stopped H ≡ false → ((l : ℕ) → names l e.input ≡ false) → a.pushed ≡ []
     → Did g (at_input g e.input H (Comes e ∷ H)) (Comes e ∷ H) t a b → c ≡ record b { acts = b.acts ++ offered g (after (at_input g e.input H (Comes e ∷ H)) (Comes e ∷ H)) b.pushed } → Took g e H t a c
 took g e H t a b c going unnamed none d is = took_named g e H t a b c going (λ l. ap (λ (ks : List ℕ). list_any (eqb l) ks) none ∙ sym (unnamed l)) d is
 
 -- the same from effects to which a link was noted
-pub took_noted : (g : Config) (e : Entry) (H : List Mark) (t : Tables) (a n b c : Effects) → has_stopped H ≡ false → a.pushed ≡ [] → Notes e.input a n
+pub took_noted : (g : Config) (e : Entry) (H : List Mark) (t : Tables) (a n b c : Step) → has_stopped H ≡ false → a.pushed ≡ [] → Notes e.input a n
     → Did g (at_input g e.input H (Comes e ∷ H)) (Comes e ∷ H) t n b → c ≡ record b { acts = b.acts ++ offered g (after (at_input g e.input H (Comes e ∷ H)) (Comes e ∷ H)) b.pushed } → Took g e H t a c
 took_noted g e H t a n b c going none notes d is =
     let w = took_named g e H t n b c going (λ l. notes.pushed l ∙ ap (λ (ks : List ℕ). list_any (eqb l) ks || names l e.input) none) d is in
@@ -92,7 +92,7 @@ took_noted g e H t a n b c going none notes d is =
     }
 
 -- a stop, after which no peer is known, so nothing is offered
-pub took_stop : (g : Config) (e : Entry) (H : List Mark) (t : Tables) (a c : Effects) → has_stopped H ≡ false → at_input g e.input H (Comes e ∷ H) ≡ at_stop g (Comes e ∷ H) → Stopped g (Comes e ∷ H) t a c → Took g e H t a c
+pub took_stop : (g : Config) (e : Entry) (H : List Mark) (t : Tables) (a c : Step) → has_stopped H ≡ false → at_input g e.input H (Comes e ∷ H) ≡ at_stop g (Comes e ∷ H) → Stopped g (Comes e ∷ H) t a c → Took g e H t a c
 took_stop g e H t a c going is s =
     let hs = at_stop g (Comes e ∷ H) in
     let m : marks g e H ≡ hs = its_marks g e H going ∙ is in

@@ -35,11 +35,10 @@ use Rattle.zre_journal.proofs.Known.{ends_keep, life_stays, end_all}
 use Rattle.zre_journal.proofs.Listed.{found_passes}
 use Rattle.zre_journal.proofs.Ticks.{expiring, wavering, stale, expired, expiring_apart, wavering_apart, wavering_known, expiring_known as are_known, wavering_entered as are_entered, stale_idle as are_idle}
 use Rattle.zre_tables.specs.declared.connection.Connection.{Connection}
-use Rattle.zre_node.specs.declared.effects.Effects.{Effects}
+use Rattle.zre_node.specs.declared.effects.Step.{Step}
 use Rattle.zre_tables.specs.declared.peer.Peer.{Peer}
 use Rattle.zre_tables.specs.declared.peer.Running.{Running}
 use Rattle.zre_node.specs.declared.tables.Tables.{Tables}
-use Rattle.zre_tables.specs.Tabled.{Tabled}
 use Rattle.zre_tables.specs.Rows.{numbers_of}
 use Rattle.zre_tables.specs.Searches.{row_silent, row_evasive, row_stale}
 use Rattle.zre_node.specs.Ticks.{probes, IsEntered, AreEntered, AreIdle}
@@ -203,7 +202,7 @@ module _ (g : Config) (K : List Mark) (t : Tables) (h : Holds g K t) where
   pub expiring_known : (ls : List ℕ) → ls ≡ link_list (expiring g K) → AreKnown K ls
   expiring_known ls e = subst (AreKnown K) (sym e) (known_from K (expiring g K) (expiring_apart g K h.keeps.proper) (are_known g K))
 
-  pub expire : (ls : List ℕ) (n : Tables) (a b : Effects) → ls ≡ link_list (expiring g K) → Did g (map (λ l. Ends l cause.Expired) ls) K n a b → Did g (end_all cause.Expired (expiring g K)) K n a b
+  pub expire : (ls : List ℕ) (n : Tables) (a b : Step) → ls ≡ link_list (expiring g K) → Did g (map (λ l. Ends l cause.Expired) ls) K n a b → Did g (end_all cause.Expired (expiring g K)) K n a b
   expire ls n a b e d =
       did_as g (end_all cause.Expired (expiring g K)) (map (λ l. Ends l cause.Expired) ls) K n a b
       (sym (ap (λ ks. map (λ l. Ends l cause.Expired) ks) e ∙ map-map (λ (v : Life). v.link) (λ l. Ends l cause.Expired) (expiring g K))) d
@@ -213,7 +212,7 @@ module _ (g : Config) (K : List Mark) (t : Tables) (h : Holds g K t) where
   wavering_entered ls e = subst (AreEntered (expired g K)) (sym e)
       (entered_from (expired g K) (wavering g K) (wavering_apart g K h.keeps.proper) (wavering_known g K h.keeps.proper) (are_entered g K))
 
-  pub probe_then : (ls : List ℕ) (n : Tables) (a b : Effects) → ls ≡ link_list (wavering g K) → Did g (in_turn (probes g) ls (expired g K)) (expired g K) n a b → Did g (in_turn (probes g) (link_list (wavering g K)) (expired g K)) (expired g K) n a b
+  pub probe_then : (ls : List ℕ) (n : Tables) (a b : Step) → ls ≡ link_list (wavering g K) → Did g (in_turn (probes g) ls (expired g K)) (expired g K) n a b → Did g (in_turn (probes g) (link_list (wavering g K)) (expired g K)) (expired g K) n a b
   probe_then ls n a b e d = subst (λ ks. Did g (in_turn (probes g) ks (expired g K)) (expired g K) n a b) e d
 
   -- the connections run no peer even then
@@ -231,7 +230,7 @@ tick_marks g K =
     (sym (probes_are g (wavering g K) (expired g K) K (ends_alike cause.Expired (expiring g K) K)))
 
 -- the whole tick from its parts
-pub ticks : (g : Config) (K : List Mark) (cs : List ℕ) (t n m : Tables) (a b c d e : Effects) → cs ≡ stale g K → Did g (end_all cause.Expired (expiring g K)) K t a b
+pub ticks : (g : Config) (K : List Mark) (cs : List ℕ) (t n m : Tables) (a b c d e : Step) → cs ≡ stale g K → Did g (end_all cause.Expired (expiring g K)) K t a b
     → Did g (in_turn (probes g) (link_list (wavering g K)) (expired g K)) (expired g K) n b c → Did g (map (λ k. Closes k close.Timeout) cs) (probed g K) m c d
     → Did g (SendsBeacon g.port ∷ []) (after (map (λ k. Closes k close.Timeout) cs) (probed g K)) m d e → Did g (at_tick g K) K m a e
 ticks g K cs t n m a b c d e is first second third fourth =

@@ -6,7 +6,6 @@ use Rattle.zre_journal.specs.Chronicle.{Mark}
 use Rattle.zre_journal.specs.Events.{chronicle, events, acts, events_at}
 use Rattle.zre_journal.specs.Done.{acts_at}
 use Rattle.zre_journal.specs.Happens.{has_stopped, with_entry}
-use Rattle.zre_node.specs.declared.effects.Effects.{Effects}
 use Rattle.zre_node.specs.declared.effects.Step.{Step}
 use Rattle.zre_node.specs.declared.node.Node.{Node}
 use Rattle.zre_node.specs.declared.tables.Tables.{Tables}
@@ -19,7 +18,7 @@ pub record StandsIn (g : Config) (H : List Mark) (t : Tables) : Type 0 where
   pub resting : has_stopped H ≡ true → Rests g H t
 
 -- an entry was taken after H: the tables hold with it, and what it tells and asks for was added
-pub record Took (g : Config) (e : Entry) (H : List Mark) (t : Tables) (before now : Effects) : Type 0 where
+pub record Took (g : Config) (e : Entry) (H : List Mark) (t : Tables) (before now : Step) : Type 0 where
   pub stands : StandsIn g (with_entry g e H) t
   pub events : now.events ≡ before.events ++ events_at g e H
   pub acts : now.acts ≡ before.acts ++ acts_at g e H

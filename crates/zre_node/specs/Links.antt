@@ -12,7 +12,7 @@ use Rattle.zre_journal.specs.LinkEntries.{at_reply, end_by}
 use Rattle.zre_journal.specs.Peers.{life}
 use Rattle.zre_node.specs.Stands.{Holds}
 use Rattle.zre_node.specs.declared.tables.Tables.{Tables}
-use Rattle.zre_node.specs.declared.effects.Effects.{Effects}
+use Rattle.zre_node.specs.declared.effects.Step.{Step}
 
 -- a link stands, breaks, or has taken octets
 abbrev pub is_about_link : Input → Bool
@@ -22,7 +22,7 @@ is_about_link (input.Took l n) = true
 is_about_link _ = false
 
 -- the link that an entry names is among those that are to be offered
-pub record Notes (i : Input) (before now : Effects) : Type 0 where
+pub record Notes (i : Input) (before now : Step) : Type 0 where
   pub events : now.events ≡ before.events
   pub acts : now.acts ≡ before.acts
   pub pushed : (l : ℕ) → list_any (nat_eq l) now.pushed ≡ (list_any (nat_eq l) before.pushed || names l i)

@@ -27,7 +27,7 @@ use Rattle.zre_tables.specs.declared.connection.Connection.{Connection}
 use Rattle.zre_tables.specs.Runs.{HasRun, HadRun}
 use Rattle.zre_tables.specs.Tabled.{Tabled}
 use Rattle.zre_node.specs.declared.tables.Tables.{Tables}
-use Rattle.zre_node.specs.declared.effects.Effects.{Effects}
+use Rattle.zre_node.specs.declared.effects.Step.{Step}
 
 -- ---- a known peer
 
@@ -120,7 +120,7 @@ pub record Parted (g : Config) (H : List Mark) (l : ℕ) (k : Peer) (t : Tables)
 -- ---- what calls do
 
 -- a call has left these marks, after H
-pub record Did (g : Config) (hs H : List Mark) (t : Tables) (before now : Effects) : Type 0 where
+pub record Did (g : Config) (hs H : List Mark) (t : Tables) (before now : Step) : Type 0 where
   pub holds : Holds g (after hs H) t
   pub events : now.events ≡ before.events ++ told hs H
   pub acts : now.acts ≡ before.acts ++ done g.id hs
@@ -139,7 +139,7 @@ pub record Rests (g : Config) (H : List Mark) (t : Tables) : Type 0 where
   pub no_conns : t.conns ≡ []
 
 -- a stop has left its marks, after H
-pub record Stopped (g : Config) (H : List Mark) (t : Tables) (before now : Effects) : Type 0 where
+pub record Stopped (g : Config) (H : List Mark) (t : Tables) (before now : Step) : Type 0 where
   pub rests : Rests g (after (at_stop g H) H) t
   pub events : now.events ≡ before.events ++ told (at_stop g H) H
   pub acts : now.acts ≡ before.acts ++ done g.id (at_stop g H)

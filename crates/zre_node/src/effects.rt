@@ -10,49 +10,27 @@ ghost use Rattle.zre_peer.specs.Runs.{shown};
 ghost use Rattle.zre_peer.specs.Standing.{view_in};
 
 use std::alloc::Global;
-use std::mem;
 use zre_outside::{Act, Acts};
 use zre_peer::{Cause, CloseWhy, Event, Events, IgnoreWhy, Run};
 use zre_values::{Keys, Octets, OutOfMemory, PeerId};
 
-/// What one entry brought about: what the user is told, and what the node asks of the outside.
+/// What one entry brings about: what the user is told, and what the node asks of the outside.
 #[derive(Drop)]
 pub struct Step {
     /// What the user is told, in order.
     pub events: Events,
     /// What is asked of the outside, in order.
     pub acts: Acts,
+    // The links on which something was put, and the one that the entry names.
+    pub(crate) pushed: Keys,
 }
 
 impl Step {
     /// Nothing yet. It takes no memory.
     pub fn new(alloc: Global) -> Self
-        ensures { result ≡ record { events = []; acts = [] } }
-    {
-        Step {
-            events: Events::new(alloc),
-            acts: Acts::new(alloc),
-        }
-    }
-}
-
-/// The same while an entry is taken, with the links on which something was put.
-#[derive(Drop)]
-pub struct Effects {
-    /// What the user is told so far.
-    pub events: Events,
-    /// What is asked of the outside so far.
-    pub acts: Acts,
-    /// The links on which something was put, and the one that the entry names.
-    pub pushed: Keys,
-}
-
-impl Effects {
-    /// Nothing yet.
-    pub fn new(alloc: Global) -> Self
         ensures { result ≡ record { events = []; acts = []; pushed = [] } }
     {
-        Effects {
+        Step {
             events: Events::new(alloc),
             acts: Acts::new(alloc),
             pushed: Keys::new(alloc),
@@ -60,7 +38,7 @@ impl Effects {
     }
 
     /// Nothing again. The lists keep their memory.
-    pub fn clear(&mut self)
+    pub(crate) fn clear(&mut self)
         ensures { self.new ≡ record { events = []; acts = []; pushed = [] } }
     {
         self.events.clear();
@@ -68,32 +46,22 @@ impl Effects {
         self.pushed.clear();
     }
 
-    /// Hands over what was told and asked for, in place of what stands in a step, and takes the lists of that.
-    pub fn hand_to(&mut self, step: &mut Step)
-        ensures { step.new ≡ record { events = self.old.events; acts = self.old.acts } }
-    {
-        step.events.clear();
-        step.acts.clear();
-        mem::swap(&mut self.events, &mut step.events);
-        mem::swap(&mut self.acts, &mut step.acts);
-    }
-
     /// Asks for one more act.
-    pub fn act(&mut self, act: Act) -> Result<(), OutOfMemory>
+    pub(crate) fn act(&mut self, act: Act) -> Result<(), OutOfMemory>
         ensures { OnOk result (self.new ≡ record self.old { acts = self.old.acts ++ act ∷ [] }) }
     {
         self.acts.push(act)
     }
 
     /// Tells one more event.
-    pub fn tell(&mut self, event: Event) -> Result<(), OutOfMemory>
+    pub(crate) fn tell(&mut self, event: Event) -> Result<(), OutOfMemory>
         ensures { OnOk result (self.new ≡ record self.old { events = self.old.events ++ event ∷ [] }) }
     {
         self.events.push(event)
     }
 
     /// EXIT of an entered peer, with the name that it has told.
-    pub fn exit(
+    pub(crate) fn exit(
         &mut self,
         alloc: Global,
         id: PeerId,
@@ -109,7 +77,7 @@ impl Effects {
     }
 
     /// A connection is closed, and the user is told why.
-    pub fn close(&mut self, conn: u64, why: CloseWhy) -> Result<(), OutOfMemory>
+    pub(crate) fn close(&mut self, conn: u64, why: CloseWhy) -> Result<(), OutOfMemory>
         ensures { OnOk result (self.new ≡ record self.old {
           events = self.old.events ++ EventValue.Closed conn why ∷ [];
           acts = self.old.acts ++ ActValue.CloseConn conn ∷ [];
@@ -120,7 +88,7 @@ impl Effects {
     }
 
     /// The first message of a connection is refused.
-    pub fn ignored(&mut self, conn: u64, why: IgnoreWhy) -> Result<(), OutOfMemory>
+    pub(crate) fn ignored(&mut self, conn: u64, why: IgnoreWhy) -> Result<(), OutOfMemory>
         ensures { OnOk result (self.new ≡ record self.old {
           events = self.old.events
               ++ EventValue.Ignored conn why ∷ [];
@@ -130,14 +98,14 @@ impl Effects {
     }
 
     /// Sends octets back on a connection.
-    pub fn answer(&mut self, conn: u64, bytes: Octets) -> Result<(), OutOfMemory>
+    pub(crate) fn answer(&mut self, conn: u64, bytes: Octets) -> Result<(), OutOfMemory>
         ensures { OnOk result (self.new ≡ record self.old { acts = self.old.acts ++ ActValue.Answer conn bytes ∷ [] }) }
     {
         self.act(Act::Answer { conn, bytes })
     }
 
     /// The link of a peer that ends is closed, unless it was lost.
-    pub fn close_link(&mut self, link: u64, cause: Cause) -> Result<(), OutOfMemory>
+    pub(crate) fn close_link(&mut self, link: u64, cause: Cause) -> Result<(), OutOfMemory>
         ensures { OnOk result (self.new ≡ record self.old { acts = self.old.acts ++ closing link cause }) }
     {
         match cause {

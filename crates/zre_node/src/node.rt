@@ -11,7 +11,7 @@ ghost use Rattle.zre_journal.specs.Ledger.{KeepsLedgers};
 ghost use Rattle.zre_node.specs.Brings.{octets_of};
 ghost use Rattle.zre_node.specs.Journal.{is_spent, StandsFor, Steps};
 
-use crate::effects::{Effects, Step};
+use crate::effects::Step;
 use crate::tables::Tables;
 use std::alloc::Global;
 use std::marker::Brand;
@@ -27,10 +27,13 @@ use zre_zmtp::{Items, Steps as Counter};
 #[derive(Drop)]
 pub struct Node {
     pub(crate) tables: Tables,
-    effects: Effects,
     items: Items,
     spent: bool,
 }
+
+// An entry is let go. It stands apart, so that a step makes no room for that.
+#[inline(never)]
+fn let_go(_entry: Entry) {}
 
 impl Node {
     /// A node before any entry. Its settings have to be valid ([`Config::valid`]).
@@ -55,7 +58,6 @@ impl Node {
                 own: Own::new(alloc),
                 stopped: false,
             },
-            effects: Effects::new(alloc),
             items: Items::new(alloc),
             spent: false,
         })
@@ -134,16 +136,17 @@ impl Node {
         ensures none { IsTrue (is_spent self.old) → steps.new ≡ steps.old }
     {
         if self.spent {
+            let_go(entry);
             return Err(OutOfMemory);
         }
         self.spent = true;
-        self.effects.clear();
-        if !self.tables.stopped {
-            self.tables
-                .take(&mut self.effects, &mut self.items, entry, steps)?;
+        step.clear();
+        if self.tables.stopped {
+            let_go(entry);
+        } else {
+            self.tables.take(step, &mut self.items, entry, steps)?;
         }
         self.spent = false;
-        self.effects.hand_to(step);
         Ok(())
     }
 

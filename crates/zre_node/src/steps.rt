@@ -1,6 +1,6 @@
 //! Whole entries.
 
-ghost use Rattle.std.specs.Prelude.{◌≡◌, List, [], true, length, OnOk};
+ghost use Rattle.std.specs.Prelude.{◌≡◌, List, [], true, false, length, OnOk};
 ghost use Rattle.zre_outside.specs.declared.entry.Entry.{Entry as EntryValue};
 ghost use Rattle.zre_outside.specs.declared.entry.Input.TheVariants as given;
 ghost use Rattle.zre_zmtp.specs.Looks.{Looks};
@@ -12,10 +12,10 @@ ghost use Rattle.zre_journal.specs.Held.{kept};
 ghost use Rattle.zre_journal.specs.Commands.{at_stop};
 ghost use Rattle.zre_node.specs.Brings.{octets_of};
 ghost use Rattle.zre_node.specs.Journal.{Took};
-ghost use Rattle.zre_node.specs.Kinds.{is_incoming};
+ghost use Rattle.zre_node.specs.Kinds.{is_incoming, is_piece};
 ghost use Rattle.zre_node.specs.Stands.{Holds, Did};
 
-use crate::effects::Effects;
+use crate::effects::Step;
 use crate::tables::Tables;
 use std::mem;
 use std::sync::ledger::Ledger;
@@ -25,7 +25,7 @@ use zre_zmtp::{Items, Steps};
 
 impl Tables {
     // What a datagram, or a connection that comes or goes, brings.
-    fn bring(&mut self, out: &mut Effects, input: Input) -> Result<(), OutOfMemory>
+    fn bring(&mut self, out: &mut Step, input: Input) -> Result<(), OutOfMemory>
         ensures { (g : Config) (H K : List Mark) → is_incoming input ≡ true → Holds g K self.old →
             OnOk result (Did g (at_input g input H K) K self.new out.old out.new) }
     {
@@ -41,7 +41,7 @@ impl Tables {
     #[inline(never)]
     pub fn take_incoming(
         &mut self,
-        out: &mut Effects,
+        out: &mut Step,
         at: u64,
         input: Input,
     ) -> Result<(), OutOfMemory>
@@ -57,7 +57,7 @@ impl Tables {
     /// A piece of a connection comes. What becomes whole with it lies in the list while it is taken.
     pub fn take_piece<L: Ledger>(
         &mut self,
-        out: &mut Effects,
+        out: &mut Step,
         items: &mut Items,
         at: u64,
         conn: u64,
@@ -81,7 +81,7 @@ impl Tables {
 
     /// The node stops.
     #[inline(never)]
-    pub fn take_stop(&mut self, out: &mut Effects, at: u64) -> Result<(), OutOfMemory>
+    pub fn take_stop(&mut self, out: &mut Step, at: u64) -> Result<(), OutOfMemory>
         ensures { (g : Config) (H : List Mark) (e : EntryValue) → e.at ≡ at → is_end e.input ≡ true →
             Holds g H self.old → OnOk result (Took g e H self.new out.old out.new) }
     {
@@ -89,11 +89,40 @@ impl Tables {
         self.stop(out)
     }
 
+    // What an entry other than a piece brings. It stands apart from `take`, since a function begins by making room for
+    // all that it may need, and most entries are pieces.
+    #[inline(never)]
+    fn take_other<L: Ledger>(
+        &mut self,
+        out: &mut Step,
+        entry: Entry,
+        steps: &mut Steps<L>,
+    ) -> Result<(), OutOfMemory>
+        requires { is_piece entry.input ≡ false }
+        ensures took { (g : Config) (H : List Mark) → out.old.pushed ≡ [] → Holds g H self.old →
+            OnOk result (Took g entry H self.new out.old out.new) }
+        ensures looks { (g : Config) (H : List Mark) → Holds g H self.old →
+            Looks steps.old steps.new (kept g H) (kept g (with_entry g entry H)) (octets_of entry.input) result }
+    {
+        let Entry { at, input } = entry;
+        match input {
+            Input::Reply { link, bytes } => self.take_reply(out, at, link, bytes.as_slice(), steps),
+            Input::Linked { link } => self.take_link(out, at, Input::Linked { link }),
+            Input::Unlinked { link } => self.take_link(out, at, Input::Unlinked { link }),
+            Input::Took { link, count } => self.take_link(out, at, Input::Took { link, count }),
+            Input::Tick => self.take_tick(out, at),
+            Input::Do(Command::Quit) => self.take_stop(out, at),
+            Input::Do(command) => self.take_command(out, at, command),
+            Input::End => self.take_stop(out, at),
+            other => self.take_incoming(out, at, other),
+        }
+    }
+
     /// What an entry brings, where the node hasn't stopped. The list is for what becomes whole with a piece, and serves
     /// again and again.
     pub fn take<L: Ledger>(
         &mut self,
-        out: &mut Effects,
+        out: &mut Step,
         items: &mut Items,
         entry: Entry,
         steps: &mut Steps<L>,
@@ -108,15 +137,7 @@ impl Tables {
             Input::Piece { conn, bytes } => {
                 self.take_piece(out, items, at, conn, bytes.as_slice(), steps)
             }
-            Input::Reply { link, bytes } => self.take_reply(out, at, link, bytes.as_slice(), steps),
-            Input::Linked { link } => self.take_link(out, at, Input::Linked { link }),
-            Input::Unlinked { link } => self.take_link(out, at, Input::Unlinked { link }),
-            Input::Took { link, count } => self.take_link(out, at, Input::Took { link, count }),
-            Input::Tick => self.take_tick(out, at),
-            Input::Do(Command::Quit) => self.take_stop(out, at),
-            Input::Do(command) => self.take_command(out, at, command),
-            Input::End => self.take_stop(out, at),
-            other => self.take_incoming(out, at, other),
+            other => self.take_other(out, Entry { at, input: other }, steps),
         }
     }
 }

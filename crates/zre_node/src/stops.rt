@@ -6,7 +6,7 @@ ghost use Rattle.zre_journal.specs.Chronicle.{Mark};
 ghost use Rattle.zre_journal.specs.Commands.{at_stop};
 ghost use Rattle.zre_node.specs.Stands.{Holds, Stopped};
 
-use crate::effects::Effects;
+use crate::effects::Step;
 use crate::tables::Tables;
 use zre_beacon::Beacon;
 use zre_outside::Act;
@@ -15,7 +15,7 @@ use zre_values::OutOfMemory;
 
 impl Tables {
     /// All known peers end, all connections are closed, and a last beacon goes out.
-    pub fn stop(&mut self, out: &mut Effects) -> Result<(), OutOfMemory>
+    pub fn stop(&mut self, out: &mut Step) -> Result<(), OutOfMemory>
         ensures { (g : Config) (H : List Mark) → Holds g H self.old →
             OnOk result (Stopped g H self.new out.old out.new) }
     {

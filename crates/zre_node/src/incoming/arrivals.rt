@@ -13,7 +13,7 @@ ghost use Rattle.zre_journal.specs.Arrivals.{at_place, at_places, at_arrival, at
 ghost use Rattle.zre_node.specs.Stands.{Holds, Did, IsOpenIfAny};
 ghost use Rattle.zre_node.specs.Said.{said_in, at_item};
 
-use crate::effects::Effects;
+use crate::effects::Step;
 use crate::tables::Tables;
 use zre_mailbox::{Arrival, arrival_of};
 use zre_peer::{Cause, CloseWhy};
@@ -58,7 +58,7 @@ impl Tables {
     }
 
     // An older connection gives way, where there is one.
-    fn take_over(&mut self, out: &mut Effects, older: Option<u64>) -> Result<(), OutOfMemory>
+    fn take_over(&mut self, out: &mut Step, older: Option<u64>) -> Result<(), OutOfMemory>
         ensures { (g : Config) (H : List Mark) → Holds g H self.old → IsOpenIfAny older H →
             OnOk result (Did g (taken_over g older H) H self.new out.old out.new) }
     {
@@ -79,7 +79,7 @@ impl Tables {
 
     // READY of a connection that had none.
     #[inline(never)]
-    fn shaken(&mut self, out: &mut Effects, conn: u64, peer: PeerId) -> Result<(), OutOfMemory>
+    fn shaken(&mut self, out: &mut Step, conn: u64, peer: PeerId) -> Result<(), OutOfMemory>
         ensures { (g : Config) (H : List Mark) → Holds g H self.old → is_open conn H ≡ true → identity conn H ≡ None →
             OnOk result (Did g (at_shaken g conn peer None H) H self.new out.old out.new) }
     {
@@ -91,7 +91,7 @@ impl Tables {
 
     // READY of a router, in answer to a greeting.
     #[inline(never)]
-    fn greeted(&mut self, out: &mut Effects, conn: u64) -> Result<(), OutOfMemory>
+    fn greeted(&mut self, out: &mut Step, conn: u64) -> Result<(), OutOfMemory>
         ensures { (g : Config) (H : List Mark) → Holds g H self.old →
             OnOk result (Did g (Greets conn ∷ []) H self.new out.old out.new) }
     {
@@ -101,7 +101,7 @@ impl Tables {
 
     // PONG, in answer to a PING with this context.
     #[inline(never)]
-    fn pinged(&mut self, out: &mut Effects, conn: u64, context: &[u8]) -> Result<(), OutOfMemory>
+    fn pinged(&mut self, out: &mut Step, conn: u64, context: &[u8]) -> Result<(), OutOfMemory>
         ensures { (g : Config) (H : List Mark) → Holds g H self.old →
             OnOk result (Did g (AnswersPing conn context.now ∷ []) H self.new out.old out.new) }
     {
@@ -112,7 +112,7 @@ impl Tables {
     // What arrives on a live connection.
     fn arrive_live(
         &mut self,
-        out: &mut Effects,
+        out: &mut Step,
         conn: u64,
         standing: Standing,
         arrival: Arrival,
@@ -139,7 +139,7 @@ impl Tables {
     #[inline(never)]
     fn arrive_copied(
         &mut self,
-        out: &mut Effects,
+        out: &mut Step,
         conn: u64,
         standing: Standing,
         what: &What,
@@ -158,7 +158,7 @@ impl Tables {
     // What is whole on a live connection. A message after the first is taken where it lies.
     fn arrive_lent(
         &mut self,
-        out: &mut Effects,
+        out: &mut Step,
         conn: u64,
         standing: Standing,
         what: &What,
@@ -175,7 +175,7 @@ impl Tables {
     }
 
     // What is whole on a connection. Where it isn't live, it has no effect.
-    fn arrive(&mut self, out: &mut Effects, conn: u64, what: &What) -> Result<(), OutOfMemory>
+    fn arrive(&mut self, out: &mut Step, conn: u64, what: &What) -> Result<(), OutOfMemory>
         ensures { (g : Config) (H : List Mark) → Holds g H self.old →
             OnOk result (Did g (if is_live conn H then at_item g conn (arrival_of what.now) H else []) H self.new
             out.old out.new) }
@@ -187,12 +187,7 @@ impl Tables {
     }
 
     // All that is whole on a connection, in order.
-    fn arrive_all(
-        &mut self,
-        out: &mut Effects,
-        conn: u64,
-        items: &[Item],
-    ) -> Result<(), OutOfMemory>
+    fn arrive_all(&mut self, out: &mut Step, conn: u64, items: &[Item]) -> Result<(), OutOfMemory>
         ensures { (g : Config) (K : List Mark) → Holds g K self.old →
             OnOk result (Did g (in_turn (at_place g conn) (map (λ a. Arrived a) (arrivals_in items.now)) K) K self.new
             out.old out.new) }
@@ -206,7 +201,7 @@ impl Tables {
     // A fault on a connection.
     fn fault(
         &mut self,
-        out: &mut Effects,
+        out: &mut Step,
         conn: u64,
         fault: Option<ZmtpFault>,
     ) -> Result<(), OutOfMemory>
@@ -224,7 +219,7 @@ impl Tables {
     }
 
     /// All that a piece completed of what its connection says.
-    pub fn said(&mut self, out: &mut Effects, conn: u64, heard: &Heard) -> Result<(), OutOfMemory>
+    pub fn said(&mut self, out: &mut Step, conn: u64, heard: &Heard) -> Result<(), OutOfMemory>
         ensures { (g : Config) (K : List Mark) → Holds g K self.old →
             OnOk result (Did g (at_places g conn (said_in heard.now) K) K self.new out.old out.new) }
     {

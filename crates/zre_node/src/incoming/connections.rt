@@ -8,7 +8,7 @@ ghost use Rattle.zre_journal.specs.Connections.{is_open, runs};
 ghost use Rattle.zre_journal.specs.Arrivals.{at_opened, at_shut, end_of_run};
 ghost use Rattle.zre_node.specs.Stands.{Holds, Did, RunNone};
 
-use crate::effects::Effects;
+use crate::effects::Step;
 use crate::tables::{Tables, is_new};
 use zre_outside::Act;
 use zre_peer::{Cause, CloseWhy};
@@ -19,7 +19,7 @@ use zre_zmtp::greeting;
 
 impl Tables {
     /// A connection comes. It is answered by the greeting, or turned away where too many are open.
-    pub fn opened(&mut self, out: &mut Effects, conn: u64) -> Result<(), OutOfMemory>
+    pub fn opened(&mut self, out: &mut Step, conn: u64) -> Result<(), OutOfMemory>
         ensures { (g : Config) (H : List Mark) → Holds g H self.old →
             OnOk result (Did g (at_opened g conn H) H self.new out.old out.new) }
     {
@@ -37,7 +37,7 @@ impl Tables {
 
     /// The peer that an open connection runs ends, if it runs one.
     #[inline(never)]
-    pub fn end_run(&mut self, out: &mut Effects, conn: u64, cause: Cause) -> Result<(), OutOfMemory>
+    pub fn end_run(&mut self, out: &mut Step, conn: u64, cause: Cause) -> Result<(), OutOfMemory>
         ensures { (g : Config) (H : List Mark) → Holds g H self.old → is_open conn H ≡ true →
             OnOk result (Did g (end_of_run g (runs conn H) cause) H self.new out.old out.new) }
     {
@@ -59,7 +59,7 @@ impl Tables {
 
     /// An open connection that runs no peer is closed.
     #[inline(never)]
-    pub fn close(&mut self, out: &mut Effects, conn: u64, why: CloseWhy) -> Result<(), OutOfMemory>
+    pub fn close(&mut self, out: &mut Step, conn: u64, why: CloseWhy) -> Result<(), OutOfMemory>
         ensures { (g : Config) (H : List Mark) → Holds g H self.old → runs conn H ≡ None →
             OnOk result (Did g (Closes conn why ∷ []) H self.new out.old out.new) }
     {
@@ -68,7 +68,7 @@ impl Tables {
     }
 
     /// A connection is shut.
-    pub fn shut(&mut self, out: &mut Effects, conn: u64) -> Result<(), OutOfMemory>
+    pub fn shut(&mut self, out: &mut Step, conn: u64) -> Result<(), OutOfMemory>
         ensures { (g : Config) (H : List Mark) → Holds g H self.old →
             OnOk result (Did g (at_shut g conn H) H self.new out.old out.new) }
     {
@@ -81,7 +81,7 @@ impl Tables {
     }
 
     /// These open connections, which run no peers, are closed without a word to the user.
-    pub fn drop_all(&mut self, out: &mut Effects, conns: &[u64]) -> Result<(), OutOfMemory>
+    pub fn drop_all(&mut self, out: &mut Step, conns: &[u64]) -> Result<(), OutOfMemory>
         ensures { (g : Config) (H : List Mark) → Holds g H self.old → RunNone H →
             OnOk result (Did g (map (λ c. ClosesAtStop c) conns.now) H self.new out.old out.new) }
     {

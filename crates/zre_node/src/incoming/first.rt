@@ -16,7 +16,7 @@ ghost use Rattle.zre_journal.specs.Peers.{Life, life};
 ghost use Rattle.zre_journal.specs.Arrivals.{at_first};
 ghost use Rattle.zre_node.specs.Stands.{Holds, Did};
 
-use crate::effects::Effects;
+use crate::effects::Step;
 use crate::tables::Tables;
 use std::alloc::Global;
 use zre_msg::{Body, Message};
@@ -66,7 +66,7 @@ fn opened(
 
 impl Tables {
     // The connection is ignored, and the user is told why.
-    fn refuse(&mut self, out: &mut Effects, conn: u64, why: IgnoreWhy) -> Result<(), OutOfMemory>
+    fn refuse(&mut self, out: &mut Step, conn: u64, why: IgnoreWhy) -> Result<(), OutOfMemory>
         ensures { (g : Config) (H : List Mark) → Holds g H self.old → is_live conn H ≡ true → runs conn H ≡ None →
             OnOk result (Did g (Ignores conn why ∷ []) H self.new out.old out.new) }
     {
@@ -102,12 +102,7 @@ impl Tables {
     }
 
     // A first message that isn't one of a run.
-    fn refuse_by(
-        &mut self,
-        out: &mut Effects,
-        conn: u64,
-        fault: RunFault,
-    ) -> Result<(), OutOfMemory>
+    fn refuse_by(&mut self, out: &mut Step, conn: u64, fault: RunFault) -> Result<(), OutOfMemory>
         ensures did { (g : Config) (H : List Mark) (p : PeerIdValue) (m : MessageValue) → Holds g H self.old
             → is_live conn H ≡ true →
             runs conn H ≡ None → IsFirstFault fault m →
@@ -124,7 +119,7 @@ impl Tables {
     // HELLO of a peer that is known.
     fn start_known(
         &mut self,
-        out: &mut Effects,
+        out: &mut Step,
         conn: u64,
         link: u64,
         peer: PeerId,
@@ -143,7 +138,7 @@ impl Tables {
     // HELLO of a peer that becomes known by it.
     fn start_new(
         &mut self,
-        out: &mut Effects,
+        out: &mut Step,
         conn: u64,
         to: Endpoint,
         peer: PeerId,
@@ -165,7 +160,7 @@ impl Tables {
     // HELLO of a peer that can't become known.
     fn start_nowhere(
         &mut self,
-        out: &mut Effects,
+        out: &mut Step,
         conn: u64,
         why: IgnoreWhy,
         peer: PeerId,
@@ -185,7 +180,7 @@ impl Tables {
     #[inline(never)]
     pub fn first(
         &mut self,
-        out: &mut Effects,
+        out: &mut Step,
         conn: u64,
         peer: PeerId,
         message: Message,

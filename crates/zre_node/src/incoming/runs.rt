@@ -16,7 +16,7 @@ ghost use Rattle.zre_msg.specs.declared.message.Body.TheVariants.{PingOk};
 ghost use Rattle.zre_node.specs.Said.{at_read};
 ghost use Rattle.zre_node.specs.Stands.{Holds, Did, is_ping};
 
-use crate::effects::Effects;
+use crate::effects::Step;
 use crate::tables::Tables;
 use zre_msg::{Body, Command, LentMessage, Message, ReadFault};
 use zre_peer::{Cause, RunFault, lent};
@@ -32,7 +32,7 @@ impl Tables {
     /// A message after the first, which lies in its frames, on the connection that runs the peer of this link.
     pub fn later(
         &mut self,
-        out: &mut Effects,
+        out: &mut Step,
         conn: u64,
         link: u64,
         lent: &LentMessage<'_>,
@@ -55,7 +55,7 @@ impl Tables {
     #[inline(never)]
     pub fn later_whole(
         &mut self,
-        out: &mut Effects,
+        out: &mut Step,
         conn: u64,
         link: u64,
         message: &Message,
@@ -72,7 +72,7 @@ impl Tables {
     /// The message that the frames mean, if they mean one, on the connection that runs the peer of this link.
     pub fn later_in(
         &mut self,
-        out: &mut Effects,
+        out: &mut Step,
         conn: u64,
         link: u64,
         frames: &Frames,
@@ -93,7 +93,7 @@ impl Tables {
     #[inline(never)]
     fn later_hello(
         &mut self,
-        out: &mut Effects,
+        out: &mut Step,
         conn: u64,
         link: u64,
         frames: &Frames,
@@ -110,7 +110,7 @@ impl Tables {
     }
 
     // PING is answered.
-    fn answer_ping(&mut self, out: &mut Effects, link: u64, ping: bool) -> Result<(), OutOfMemory>
+    fn answer_ping(&mut self, out: &mut Step, link: u64, ping: bool) -> Result<(), OutOfMemory>
         ensures { (g : Config) (K : List Mark) → Holds g K self.old → IsSome (life link K) →
             OnOk result (Did g (if ping then pushing g link PingOk K else []) K self.new out.old out.new) }
     {

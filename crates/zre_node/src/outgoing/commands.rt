@@ -12,7 +12,7 @@ ghost use Rattle.zre_node.specs.declared.tables.Tables.{Tables as TablesValue};
 ghost use Rattle.zre_node.specs.Journal.{Took};
 ghost use Rattle.zre_node.specs.Stands.{Holds, Did};
 
-use crate::effects::Effects;
+use crate::effects::Step;
 use crate::tables::Tables;
 use zre_group::JoinFault;
 use zre_link::Tail;
@@ -23,7 +23,7 @@ use zre_values::limits::{GROUP_OCTETS, OWN_GROUPS};
 use zre_values::{Frames, Octets, OutOfMemory, PeerId};
 
 // A command isn't done, and the user is told why. The tables stay as they are.
-fn decline(out: &mut Effects, why: RefuseWhy) -> Result<(), OutOfMemory>
+fn decline(out: &mut Step, why: RefuseWhy) -> Result<(), OutOfMemory>
     ensures { (g : Config) (K : List Mark) (t : TablesValue) → Holds g K t →
         OnOk result (Did g (Refuses why ∷ []) K t out.old out.new) }
 {
@@ -32,7 +32,7 @@ fn decline(out: &mut Effects, why: RefuseWhy) -> Result<(), OutOfMemory>
 
 impl Tables {
     // The node joins a group, and tells all peers so.
-    fn join(&mut self, out: &mut Effects, group: Octets) -> Result<(), OutOfMemory>
+    fn join(&mut self, out: &mut Step, group: Octets) -> Result<(), OutOfMemory>
         ensures { (g : Config) (K : List Mark) → Holds g K self.old →
             OnOk result (Did g (at_join g group K) K self.new out.old out.new) }
     {
@@ -49,7 +49,7 @@ impl Tables {
     }
 
     // The node leaves a group, and tells all peers so. None of its groups has a name that is too long to be joined.
-    fn leave(&mut self, out: &mut Effects, group: Octets) -> Result<(), OutOfMemory>
+    fn leave(&mut self, out: &mut Step, group: Octets) -> Result<(), OutOfMemory>
         ensures { (g : Config) (K : List Mark) → Holds g K self.old →
             OnOk result (Did g (at_leave g group K) K self.new out.old out.new) }
     {
@@ -81,12 +81,7 @@ impl Tables {
     }
 
     // Content is sent to one peer.
-    fn whisper(
-        &mut self,
-        out: &mut Effects,
-        peer: PeerId,
-        content: Frames,
-    ) -> Result<(), OutOfMemory>
+    fn whisper(&mut self, out: &mut Step, peer: PeerId, content: Frames) -> Result<(), OutOfMemory>
         ensures { (g : Config) (K : List Mark) → Holds g K self.old →
             OnOk result (Did g (at_whisper g peer content (life_of peer K) K) K self.new out.old out.new) }
     {
@@ -104,12 +99,7 @@ impl Tables {
     }
 
     // Content is sent to the peers that are in a group. It's spelled once for all of them.
-    fn shout(
-        &mut self,
-        out: &mut Effects,
-        group: Octets,
-        content: Frames,
-    ) -> Result<(), OutOfMemory>
+    fn shout(&mut self, out: &mut Step, group: Octets, content: Frames) -> Result<(), OutOfMemory>
         ensures { (g : Config) (K : List Mark) → Holds g K self.old →
             OnOk result (Did g (at_shout g group content K) K self.new out.old out.new) }
     {
@@ -132,7 +122,7 @@ impl Tables {
     }
 
     // What a command brings, but for the one that stops the node.
-    fn command(&mut self, out: &mut Effects, command: Command) -> Result<(), OutOfMemory>
+    fn command(&mut self, out: &mut Step, command: Command) -> Result<(), OutOfMemory>
         ensures { (g : Config) (K : List Mark) → is_end (given.Do command) ≡ false → Holds g K self.old →
             OnOk result (Did g (at_command g command K) K self.new out.old out.new) }
     {
@@ -150,7 +140,7 @@ impl Tables {
     #[inline(never)]
     pub fn take_command(
         &mut self,
-        out: &mut Effects,
+        out: &mut Step,
         at: u64,
         command: Command,
     ) -> Result<(), OutOfMemory>

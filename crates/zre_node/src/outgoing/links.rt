@@ -16,7 +16,7 @@ ghost use Rattle.zre_node.specs.Journal.{Took};
 ghost use Rattle.zre_node.specs.Links.{is_about_link, Notes, IsReplied};
 ghost use Rattle.zre_node.specs.Stands.{Holds, Did};
 
-use crate::effects::Effects;
+use crate::effects::Step;
 use crate::tables::Tables;
 use std::sync::ledger::Ledger;
 use zre_outside::Input;
@@ -25,7 +25,7 @@ use zre_values::OutOfMemory;
 use zre_zmtp::Steps;
 
 // The link that an entry names is noted, so that what it has to send is offered.
-fn note(out: &mut Effects, input: &Input) -> Result<(), OutOfMemory>
+fn note(out: &mut Step, input: &Input) -> Result<(), OutOfMemory>
     ensures { OnOk result (Notes input.now out.old out.new) }
 {
     match input {
@@ -54,7 +54,7 @@ impl Tables {
     }
 
     // The link of a known peer broke, and the peer ends.
-    fn unlinked(&mut self, out: &mut Effects, link: u64) -> Result<(), OutOfMemory>
+    fn unlinked(&mut self, out: &mut Step, link: u64) -> Result<(), OutOfMemory>
         ensures { (g : Config) (K : List Mark) → Holds g K self.old →
             OnOk result (Did g (at_unlinked g link (life link K)) K self.new out.old out.new) }
     {
@@ -84,7 +84,7 @@ impl Tables {
     }
 
     // What an entry about a link brings, but for replies.
-    fn bring_link(&mut self, out: &mut Effects, input: Input) -> Result<(), OutOfMemory>
+    fn bring_link(&mut self, out: &mut Step, input: Input) -> Result<(), OutOfMemory>
         ensures { (g : Config) (H K : List Mark) → is_about_link input ≡ true → Holds g K self.old →
             OnOk result (Did g (at_input g input H K) K self.new out.old out.new) }
     {
@@ -104,7 +104,7 @@ impl Tables {
 
     /// A link stands, breaks, or has taken octets.
     #[inline(never)]
-    pub fn take_link(&mut self, out: &mut Effects, at: u64, input: Input) -> Result<(), OutOfMemory>
+    pub fn take_link(&mut self, out: &mut Step, at: u64, input: Input) -> Result<(), OutOfMemory>
         ensures { (g : Config) (H : List Mark) (e : EntryValue) → e.at ≡ at → e.input ≡ input
             → is_about_link input ≡ true →
             out.old.pushed ≡ [] → Holds g H self.old → OnOk result (Took g e H self.new out.old out.new) }
@@ -120,7 +120,7 @@ impl Tables {
     #[inline(never)]
     pub fn take_reply<L: Ledger>(
         &mut self,
-        out: &mut Effects,
+        out: &mut Step,
         at: u64,
         link: u64,
         bytes: &[u8],
@@ -142,7 +142,7 @@ impl Tables {
     // The known peer of a link ends, where there is a cause.
     fn end_by_reply(
         &mut self,
-        out: &mut Effects,
+        out: &mut Step,
         link: u64,
         why: Option<Cause>,
     ) -> Result<(), OutOfMemory>

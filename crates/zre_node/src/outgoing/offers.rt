@@ -6,13 +6,13 @@ ghost use Rattle.zre_journal.specs.Chronicle.{Mark};
 ghost use Rattle.zre_node.specs.Offers.{offered};
 ghost use Rattle.zre_node.specs.Stands.{Holds};
 
-use crate::effects::Effects;
+use crate::effects::Step;
 use crate::tables::Tables;
 use zre_values::OutOfMemory;
 
 impl Tables {
     /// The links on which something was put, and that have something to send, are offered.
-    pub fn offer(&self, out: &mut Effects) -> Result<(), OutOfMemory>
+    pub fn offer(&self, out: &mut Step) -> Result<(), OutOfMemory>
         ensures { (g : Config) (K : List Mark) → Holds g K self.now →
             OnOk result (out.new ≡ record out.old { acts = out.old.acts ++ offered g K out.old.pushed }) }
     {

@@ -9,7 +9,7 @@ ghost use Rattle.zre_msg.specs.declared.message.Body.TheVariants.{Shout};
 ghost use Rattle.zre_msg.specs.Spelling.{FitsBody, FitsString};
 ghost use Rattle.zre_node.specs.Stands.{Holds, Did};
 
-use crate::effects::Effects;
+use crate::effects::Step;
 use crate::tables::Tables;
 use zre_link::{PushFault, Tail};
 use zre_msg::Body;
@@ -19,7 +19,7 @@ use zre_values::OutOfMemory;
 impl Tables {
     /// A body is put on the link of a known peer, or the peer is too slow and ends.
     #[inline(never)]
-    pub fn push(&mut self, out: &mut Effects, link: u64, body: &mut Body) -> Result<(), OutOfMemory>
+    pub fn push(&mut self, out: &mut Step, link: u64, body: &mut Body) -> Result<(), OutOfMemory>
         requires { FitsBody body.old }
         ensures did { (g : Config) (K : List Mark) → Holds g K self.old → IsSome (life link K) →
             OnOk result (Did g (pushing g link body.old K) K self.new out.old out.new) }
@@ -38,7 +38,7 @@ impl Tables {
     #[inline(never)]
     pub fn push_shout(
         &mut self,
-        out: &mut Effects,
+        out: &mut Step,
         link: u64,
         group: &[u8],
         tail: &Tail,

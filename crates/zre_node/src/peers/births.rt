@@ -13,7 +13,7 @@ ghost use Rattle.zre_link.specs.Link.{link_after};
 ghost use Rattle.zre_link.specs.Text.{Says};
 ghost use Rattle.zre_node.specs.Stands.{Keeps, Holds, Did};
 
-use crate::effects::Effects;
+use crate::effects::Step;
 use crate::tables::Tables;
 use std::alloc::Global;
 use zre_beacon::Beacon;
@@ -78,7 +78,7 @@ impl Tables {
     }
 
     /// A peer is born: a link to its endpoint is asked for, and HELLO is put on it.
-    pub fn born(&mut self, out: &mut Effects, id: PeerId, to: Endpoint) -> Result<(), OutOfMemory>
+    pub fn born(&mut self, out: &mut Step, id: PeerId, to: Endpoint) -> Result<(), OutOfMemory>
         ensures { (g : Config) (H : List Mark) → Holds g H self.old →
             OnOk result (Did g (birth g id to H) H self.new out.old out.new) }
     {
@@ -110,7 +110,7 @@ impl Tables {
     /// A datagram comes.
     pub fn datagram(
         &mut self,
-        out: &mut Effects,
+        out: &mut Step,
         from: [u8; 4],
         bytes: &[u8],
     ) -> Result<(), OutOfMemory>

@@ -9,7 +9,7 @@ ghost use Rattle.zre_msg.specs.declared.message.Body.TheVariants.{Shout};
 ghost use Rattle.zre_msg.specs.Spelling.{FitsBody, FitsString};
 ghost use Rattle.zre_node.specs.Stands.{Holds, Did, AreKnown};
 
-use crate::effects::Effects;
+use crate::effects::Step;
 use crate::tables::Tables;
 use zre_link::Tail;
 use zre_msg::Body;
@@ -19,7 +19,7 @@ impl Tables {
     /// A body is put on these links of known peers, one after the other. A peer that is too slow for it ends.
     pub fn push_all(
         &mut self,
-        out: &mut Effects,
+        out: &mut Step,
         links: &[u64],
         body: &mut Body,
     ) -> Result<(), OutOfMemory>
@@ -37,7 +37,7 @@ impl Tables {
     /// A SHOUT to this group, with the content of the tail, in the same way.
     pub fn shout_all(
         &mut self,
-        out: &mut Effects,
+        out: &mut Step,
         links: &[u64],
         group: &[u8],
         tail: &Tail,
@@ -53,7 +53,7 @@ impl Tables {
     }
 
     /// A body for all known peers.
-    pub fn push_everywhere(&mut self, out: &mut Effects, body: &mut Body) -> Result<(), OutOfMemory>
+    pub fn push_everywhere(&mut self, out: &mut Step, body: &mut Body) -> Result<(), OutOfMemory>
         requires { FitsBody body.old }
         ensures { (g : Config) (K : List Mark) → Holds g K self.old →
             OnOk result (Did g (pushing_all g (lives K) body.old K) K self.new out.old out.new) }

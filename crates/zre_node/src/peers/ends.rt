@@ -6,7 +6,7 @@ ghost use Rattle.zre_journal.specs.Chronicle.{Mark, Ends};
 ghost use Rattle.zre_journal.specs.Peers.{life};
 ghost use Rattle.zre_node.specs.Stands.{Holds, Nearly, Parted, Did, AreKnown};
 
-use crate::effects::Effects;
+use crate::effects::Step;
 use crate::tables::Tables;
 use zre_peer::Cause;
 use zre_tables::Peer;
@@ -16,7 +16,7 @@ impl Tables {
     // What is left to do where a peer that has ended was taken out of its table.
     fn part(
         &mut self,
-        out: &mut Effects,
+        out: &mut Step,
         link: u64,
         peer: &Peer,
         cause: Cause,
@@ -34,7 +34,7 @@ impl Tables {
     /// The known peer of this link ends: the user is told, where it was entered, its connection is ignored from now
     /// on, and its link is closed.
     #[inline(never)]
-    pub fn end(&mut self, out: &mut Effects, link: u64, cause: Cause) -> Result<(), OutOfMemory>
+    pub fn end(&mut self, out: &mut Step, link: u64, cause: Cause) -> Result<(), OutOfMemory>
         ensures { (g : Config) (H : List Mark) → Nearly g H link self.old → IsSome (life link H) →
             OnOk result (Did g (Ends link cause ∷ []) H self.new out.old out.new) }
     {
@@ -47,7 +47,7 @@ impl Tables {
     /// The known peers of these links end, one after the other.
     pub fn end_all(
         &mut self,
-        out: &mut Effects,
+        out: &mut Step,
         links: &[u64],
         cause: Cause,
     ) -> Result<(), OutOfMemory>

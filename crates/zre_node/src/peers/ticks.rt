@@ -11,7 +11,7 @@ ghost use Rattle.zre_node.specs.Journal.{Took};
 ghost use Rattle.zre_node.specs.Stands.{Holds, Did};
 ghost use Rattle.zre_node.specs.Ticks.{probes, IsEntered, AreEntered, AreIdle};
 
-use crate::effects::{Effects, name_of};
+use crate::effects::{Step, name_of};
 use crate::tables::Tables;
 use zre_beacon::Beacon;
 use zre_msg::Body;
@@ -21,7 +21,7 @@ use zre_values::OutOfMemory;
 
 impl Tables {
     // The user is told that an entered peer is evasive.
-    fn tell_evasive(&self, out: &mut Effects, link: u64) -> Result<(), OutOfMemory>
+    fn tell_evasive(&self, out: &mut Step, link: u64) -> Result<(), OutOfMemory>
         ensures { (g : Config) (K : List Mark) → Holds g K self.now → IsEntered link K →
             OnOk result (Did g (IsEvasive link ∷ []) K self.now out.old out.new) }
     {
@@ -36,7 +36,7 @@ impl Tables {
     }
 
     // An entered peer is evasive: the user is told, and the peer is sent a PING.
-    fn probe(&mut self, out: &mut Effects, link: u64) -> Result<(), OutOfMemory>
+    fn probe(&mut self, out: &mut Step, link: u64) -> Result<(), OutOfMemory>
         ensures { (g : Config) (K : List Mark) → Holds g K self.old → IsEntered link K →
             OnOk result (Did g (probes g link K) K self.new out.old out.new) }
     {
@@ -45,7 +45,7 @@ impl Tables {
     }
 
     // The entered peers of these links are evasive: they are probed one after the other.
-    fn probe_all(&mut self, out: &mut Effects, links: &[u64]) -> Result<(), OutOfMemory>
+    fn probe_all(&mut self, out: &mut Step, links: &[u64]) -> Result<(), OutOfMemory>
         ensures { (g : Config) (K : List Mark) → Holds g K self.old → AreEntered K links.now →
             OnOk result (Did g (in_turn (probes g) links.now K) K self.new out.old out.new) }
     {
@@ -56,7 +56,7 @@ impl Tables {
     }
 
     // These open connections, which run no peers, have waited too long.
-    fn close_all(&mut self, out: &mut Effects, conns: &[u64]) -> Result<(), OutOfMemory>
+    fn close_all(&mut self, out: &mut Step, conns: &[u64]) -> Result<(), OutOfMemory>
         ensures { (g : Config) (H : List Mark) → Holds g H self.old → AreIdle H conns.now →
             OnOk result (Did g (map (λ c. Closes c closing.Timeout) conns.now) H self.new out.old out.new) }
     {
@@ -67,7 +67,7 @@ impl Tables {
     }
 
     // The node's own beacon goes out.
-    fn call(&self, out: &mut Effects) -> Result<(), OutOfMemory>
+    fn call(&self, out: &mut Step) -> Result<(), OutOfMemory>
         ensures { (g : Config) (H : List Mark) → Holds g H self.now →
             OnOk result (Did g (SendsBeacon g.port ∷ []) H self.now out.old out.new) }
     {
@@ -82,7 +82,7 @@ impl Tables {
 
     /// Time goes by. Who is silent for too long, and which connections have waited for too long, is judged before any
     /// of them ends or is closed.
-    pub fn tick(&mut self, out: &mut Effects) -> Result<(), OutOfMemory>
+    pub fn tick(&mut self, out: &mut Step) -> Result<(), OutOfMemory>
         ensures { (g : Config) (K : List Mark) → Holds g K self.old →
             OnOk result (Did g (at_tick g K) K self.new out.old out.new) }
     {
@@ -98,7 +98,7 @@ impl Tables {
 
     /// A tick of the clock comes.
     #[inline(never)]
-    pub fn take_tick(&mut self, out: &mut Effects, at: u64) -> Result<(), OutOfMemory>
+    pub fn take_tick(&mut self, out: &mut Step, at: u64) -> Result<(), OutOfMemory>
         ensures { (g : Config) (H : List Mark) (e : EntryValue) → e.at ≡ at → e.input ≡ given.Tick →
             out.old.pushed ≡ [] → Holds g H self.old → OnOk result (Took g e H self.new out.old out.new) }
     {

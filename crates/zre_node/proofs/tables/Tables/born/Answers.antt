@@ -2,7 +2,7 @@ use Rattle.std.proofs.Common.{◌≡◌, ◌+◌, ◌++◌, [], ◌∷◌, None,
 use Rattle.std.specs.BTreeMap.{insert_entry}
 use Rattle.zre_journal.specs.Peers.{births}
 use Rattle.zre_outside.specs.declared.act.Act.TheVariants as act
-use Rattle.zre_node.specs.declared.effects.Effects.{Effects}
+use Rattle.zre_node.specs.declared.effects.Step.{Step}
 use Rattle.zre_tables.specs.declared.peer.Peer.{Peer}
 use Rattle.zre_node.proofs.Birth.{is_born, birth_did}
 use Rattle.zre_values.proofs.Answered.{on_ok}
@@ -18,6 +18,6 @@ returns c = λ g H h.
     on_ok c.act.result c.act.ensures (λ out.
     rw number (birth_did g H t h c.args.id c.args.to _ c.args.out.now c.act.new.self
     (is_born g H t h c.args.id c.args.to k c.insert.new.self refl h.keeps.clock_is refl link put)
-    (ap (λ (s : Effects). s.events) out)
-    (ap (λ (s : Effects). s.acts) out ∙ ap (λ n. c.args.out.now.acts ++ act.Connect n c.args.to ∷ []) number)
-    (ap (λ (s : Effects). s.pushed) out ∙ c.in_ok-push.ensures.ok ∙ ap (λ n. c.args.out.now.pushed ++ n ∷ []) number)))
+    (ap (λ (s : Step). s.events) out)
+    (ap (λ (s : Step). s.acts) out ∙ ap (λ n. c.args.out.now.acts ++ act.Connect n c.args.to ∷ []) number)
+    (ap (λ (s : Step). s.pushed) out ∙ c.in_ok-push.ensures.ok ∙ ap (λ n. c.args.out.now.pushed ++ n ∷ []) number)))

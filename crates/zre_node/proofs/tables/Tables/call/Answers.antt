@@ -3,7 +3,7 @@ use Rattle.zre_beacon.specs.Beacon.{beacon_octets}
 use Rattle.zre_outside.specs.declared.act.Act.TheVariants as act
 use Rattle.zre_journal.specs.declared.config.Config.{Config}
 use Rattle.zre_journal.specs.Chronicle.{SendsBeacon}
-use Rattle.zre_node.specs.declared.effects.Effects.{Effects}
+use Rattle.zre_node.specs.declared.effects.Step.{Step}
 use Rattle.zre_values.proofs.Answered.{on_ok}
 use Rattle.zre_node.proofs.Many.{did_by}
 use Rattle.zre_node.proofs.Ticking.{holds_calls}
@@ -15,6 +15,6 @@ returns c = λ g H h.
     let bytes = c.write.ensures.spelled ∙ ap (λ (f : Config). beacon_octets f.id f.port) h.keeps.config in
     on_ok c.act.result c.act.ensures (λ out.
     did_by g (SendsBeacon g.port ∷ []) H t c.args.out.now c.act.new.self (holds_calls g H t h g.port)
-    (ap (λ (s : Effects). s.events) out ∙ sym (append-nil c.args.out.now.events))
-    (ap (λ (s : Effects). s.acts) out ∙ ap (λ (o : List ℕ). c.args.out.now.acts ++ act.Beacon o ∷ []) bytes)
-    (ap (λ (s : Effects). s.pushed) out) (λ l. refl))
+    (ap (λ (s : Step). s.events) out ∙ sym (append-nil c.args.out.now.events))
+    (ap (λ (s : Step). s.acts) out ∙ ap (λ (o : List ℕ). c.args.out.now.acts ++ act.Beacon o ∷ []) bytes)
+    (ap (λ (s : Step). s.pushed) out) (λ l. refl))

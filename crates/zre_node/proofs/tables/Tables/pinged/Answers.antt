@@ -1,7 +1,7 @@
 use Rattle.std.proofs.Common.{ℕ, List, ◌++◌, [], ◌∷◌, refl, sym, ap, ◌∙◌, append-nil}
 use Rattle.zre_outside.specs.declared.act.Act.TheVariants as act
 use Rattle.zre_journal.specs.Chronicle.{AnswersPing}
-use Rattle.zre_node.specs.declared.effects.Effects.{Effects}
+use Rattle.zre_node.specs.declared.effects.Step.{Step}
 use Rattle.zre_values.proofs.Answered.{on_ok}
 use Rattle.zre_node.proofs.Many.{did_by}
 use Rattle.zre_node.proofs.Shaking.{pings}
@@ -11,6 +11,6 @@ pub returns : goal.returns
 returns c = λ g H h.
     on_ok c.answer.result c.answer.ensures (λ out.
     did_by g (AnswersPing c.args.conn c.args.context.now ∷ []) H c.args.self.now c.args.out.now c.answer.new.self (pings g H c.args.self.now h c.args.conn c.args.context.now)
-    (ap (λ (s : Effects). s.events) out ∙ sym (append-nil c.args.out.now.events))
-    (ap (λ (s : Effects). s.acts) out ∙ ap (λ (o : List ℕ). c.args.out.now.acts ++ act.Answer c.args.conn o ∷ []) c.in_ok-pong.ensures)
-    (ap (λ (s : Effects). s.pushed) out) (λ l. refl))
+    (ap (λ (s : Step). s.events) out ∙ sym (append-nil c.args.out.now.events))
+    (ap (λ (s : Step). s.acts) out ∙ ap (λ (o : List ℕ). c.args.out.now.acts ++ act.Answer c.args.conn o ∷ []) c.in_ok-pong.ensures)
+    (ap (λ (s : Step). s.pushed) out) (λ l. refl))

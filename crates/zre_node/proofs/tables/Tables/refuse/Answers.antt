@@ -1,6 +1,6 @@
 use Rattle.std.proofs.Common.{[], ◌∷◌, refl, sym, ap, ◌∙◌, append-nil}
 use Rattle.zre_journal.specs.Chronicle.{Ignores}
-use Rattle.zre_node.specs.declared.effects.Effects.{Effects}
+use Rattle.zre_node.specs.declared.effects.Step.{Step}
 use Rattle.zre_node.specs.Stands.{kept_conn}
 use Rattle.zre_values.proofs.Answered.{on_ok}
 use Rattle.zre_node.proofs.Ending.{conn_row}
@@ -13,4 +13,4 @@ returns c = λ g H h live idle.
     let row = c.ignore.ensures (kept_conn g H c.args.conn) (conn_row g H c.args.self.now h.keeps c.args.conn (live_open c.args.conn H live)) in
     on_ok c.ignored.result c.ignored.ensures (λ out.
     did_by g (Ignores c.args.conn c.args.why ∷ []) H _ c.args.out.now c.ignored.new.self (refused g H c.args.self.now h c.args.conn c.args.why live idle c.ignore.new.self row)
-    (ap (λ (s : Effects). s.events) out) (ap (λ (s : Effects). s.acts) out ∙ sym (append-nil c.args.out.now.acts)) (ap (λ (s : Effects). s.pushed) out) (λ l. refl))
+    (ap (λ (s : Step). s.events) out) (ap (λ (s : Step). s.acts) out ∙ sym (append-nil c.args.out.now.acts)) (ap (λ (s : Step). s.pushed) out) (λ l. refl))

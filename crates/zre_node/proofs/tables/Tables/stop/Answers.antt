@@ -3,7 +3,7 @@ use Rattle.zre_beacon.specs.Beacon.{beacon_octets}
 use Rattle.zre_outside.specs.declared.act.Act.TheVariants as act
 use Rattle.zre_peer.specs.declared.event.Event.TheVariants as event
 use Rattle.zre_journal.specs.declared.config.Config.{Config}
-use Rattle.zre_node.specs.declared.effects.Effects.{Effects}
+use Rattle.zre_node.specs.declared.effects.Step.{Step}
 use Rattle.zre_node.specs.Stands.{AreKnown}
 use Rattle.zre_node.proofs.Stopping.{links_are, numbers_are, all_known, none_known_by, run_none, stops}
 use Rattle.zre_node.proofs.tables.Tables.stop.Goals as goal
@@ -17,5 +17,5 @@ returns c = λ g H h.
     let second = c.in_ok-drop_all.ensures g _ first.holds (run_none g _ c.end_all.new.self first.holds (none_known_by g H c.as_slice.result.now links)) in
     let bytes = c.write.ensures.spelled ∙ ap (λ (f : Config). beacon_octets f.id 0) second.holds.keeps.config in
     stops g H c.as_slice.result.now c.as_slice-2.result.now c.end_all.new.self c.drop_all.new.self c.args.out.now c.end_all.new.out c.drop_all.new.out c.tell.new.self links conns first second
-    (ap (λ (s : Effects). s.events) c.in_ok-tell.ensures ∙ ap (λ (s : Effects). s.events ++ event.Stop ∷ []) c.in_ok-act.ensures)
-    (ap (λ (s : Effects). s.acts) c.in_ok-tell.ensures ∙ ap (λ (s : Effects). s.acts) c.in_ok-act.ensures ∙ ap (λ (o : List ℕ). c.drop_all.new.out.acts ++ act.Beacon o ∷ []) bytes)
+    (ap (λ (s : Step). s.events) c.in_ok-tell.ensures ∙ ap (λ (s : Step). s.events ++ event.Stop ∷ []) c.in_ok-act.ensures)
+    (ap (λ (s : Step). s.acts) c.in_ok-tell.ensures ∙ ap (λ (s : Step). s.acts) c.in_ok-act.ensures ∙ ap (λ (o : List ℕ). c.drop_all.new.out.acts ++ act.Beacon o ∷ []) bytes)

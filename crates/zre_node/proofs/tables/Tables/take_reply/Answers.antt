@@ -4,7 +4,7 @@ use Rattle.zre_journal.specs.Happens.{at_input, with_entry}
 use Rattle.zre_journal.specs.Held.{kept}
 use Rattle.zre_journal.specs.LinkEntries.{end_by}
 use Rattle.zre_node.specs.Links.{pongs}
-use Rattle.zre_node.specs.declared.effects.Effects.{Effects}
+use Rattle.zre_node.specs.declared.effects.Step.{Step}
 use Rattle.zre_values.proofs.Answered.{on_ok}
 use Rattle.zre_node.proofs.Linking.{noted, reply_marks, reply_names}
 use Rattle.zre_node.proofs.Looking.{less_looks, entry_lowers, err_looks}
@@ -17,7 +17,7 @@ pub returns-clause-took : goal.returns-clause-took
 returns-clause-took over c = λ g H e at_is is none h.
     let l = c.args.link in
     let K = Comes e ∷ H in
-    let n : Effects = record c.args.out.now { pushed = c.push.new.self } in
+    let n : Step = record c.args.out.now { pushed = c.push.new.self } in
     let came = c.in_ok-why.ensures.came g H e at_is is h in
     let J = after (pongs l came.contexts) K in
     let ended = c.in_ok-end_by_reply.ensures g J came.holds came.known in

@@ -3,7 +3,7 @@ use Rattle.zre_peer.specs.declared.event.Event.{Event}
 use Rattle.zre_peer.specs.declared.event.Event.TheVariants as event
 use Rattle.zre_journal.specs.Chronicle.{IsEvasive}
 use Rattle.zre_journal.specs.Peers.{life, counted}
-use Rattle.zre_node.specs.declared.effects.Effects.{Effects}
+use Rattle.zre_node.specs.declared.effects.Step.{Step}
 use Rattle.zre_node.specs.Stands.{IsPeer}
 use Rattle.zre_values.proofs.Answered.{on_ok}
 use Rattle.zre_node.proofs.Many.{did_by}
@@ -26,5 +26,5 @@ returns c = λ g K h k.
     let name = c.in_ok-name.ensures (counted l K) w.its_view in
     on_ok c.tell.result c.tell.ensures (λ out.
     did_by g (IsEvasive l ∷ []) K c.args.self.now c.args.out.now c.tell.new.self (holds_probes g K c.args.self.now h l)
-    (ap (λ (s : Effects). s.events) out ∙ ap (λ n. c.args.out.now.events ++ event.Evasive p.id n ∷ []) name ∙ ap (λ (es : List Event). c.args.out.now.events ++ es) (sym w.tells))
-    (ap (λ (s : Effects). s.acts) out ∙ sym (append-nil c.args.out.now.acts)) (ap (λ (s : Effects). s.pushed) out) (λ n. refl))
+    (ap (λ (s : Step). s.events) out ∙ ap (λ n. c.args.out.now.events ++ event.Evasive p.id n ∷ []) name ∙ ap (λ (es : List Event). c.args.out.now.events ++ es) (sym w.tells))
+    (ap (λ (s : Step). s.acts) out ∙ sym (append-nil c.args.out.now.acts)) (ap (λ (s : Step). s.pushed) out) (λ n. refl))
