@@ -279,6 +279,7 @@ where
     ensures later { (O.faults out.old ≤ O.faults out.new) × (P.faults spawner.old ≤ P.faults spawner.new) }
 {
     let Ok(room) = room_for::<C, B>(alloc, clients.len() as u64) else {
+        drop(table);
         return Served {
             status: Status::OutOfMemory,
             clients,
@@ -326,6 +327,8 @@ where
         Ok(working) => working,
         Err(refused) => {
             let Refused { job } = refused;
+            drop(rest);
+            drop(room);
             return Served {
                 status: Status::NoThread,
                 clients,

@@ -32,6 +32,7 @@ use Rattle.zre_node.proofs.Coming.{quiet_piece, quiet_reply, grown, unread, deaf
 use Rattle.zre_node.proofs.Linking.{its, link_is}
 use Rattle.zre_node.proofs.Pushing.{row_link}
 use Rattle.zre_node.specs.Brings.{octets_of}
+use Rattle.zre_node.specs.Kinds.{is_piece}
 use Rattle.zre_node.specs.Stands.{Holds, Rests, is_quiet}
 use Rattle.zre_node.specs.declared.tables.Tables.{Tables}
 
@@ -80,8 +81,8 @@ quiet_looks g e H t h i is quiet r looks =
     no_looks r looks (kept g H) (kept g (with_entry g e H)) (octets_of e.input) (quiet_lowers g e H (ap is_quiet is ∙ quiet) h.keeps.going h.keeps.proper)
 
 -- an entry that is neither a piece nor a reply
-pub quiet_other : (i : Input) → ((c : ℕ) (o : List ℕ) → i ≡ input.Piece c o → ⊥) → ((l : ℕ) (o : List ℕ) → i ≡ input.Reply l o → ⊥) → is_quiet i ≡ true
-quiet_other (input.Piece c o) p r = absurd (p c o refl)
+pub quiet_other : (i : Input) → is_piece i ≡ false → ((l : ℕ) (o : List ℕ) → i ≡ input.Reply l o → ⊥) → is_quiet i ≡ true
+quiet_other (input.Piece c o) p r = absurd cc
 quiet_other (input.Reply l o) p r = absurd (r l o refl)
 quiet_other _ p r = refl
 

@@ -39,7 +39,6 @@ use Rattle.zre_node.specs.declared.effects.Effects.{Effects}
 use Rattle.zre_tables.specs.declared.peer.Peer.{Peer}
 use Rattle.zre_tables.specs.declared.peer.Running.{Running}
 use Rattle.zre_node.specs.declared.tables.Tables.{Tables}
-use Rattle.zre_tables.specs.Tabled.{Tabled}
 use Rattle.zre_tables.specs.Rows.{numbers_of}
 use Rattle.zre_tables.specs.Searches.{row_silent, row_evasive, row_stale}
 use Rattle.zre_node.specs.Ticks.{probes, IsEntered, AreEntered, AreIdle}

@@ -9,3 +9,8 @@ is_incoming (input.Datagram from o) = true
 is_incoming (input.Opened c) = true
 is_incoming (input.Shut c) = true
 is_incoming _ = false
+
+-- octets of a connection
+abbrev pub is_piece : Input → Bool
+is_piece (input.Piece c o) = true
+is_piece _ = false

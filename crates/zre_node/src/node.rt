@@ -24,13 +24,28 @@ use zre_values::{Endpoint, OutOfMemory};
 use zre_zmtp::{Items, Steps as Counter};
 
 /// A node of RFC 36, to which the entries of a journal are told one by one.
-#[derive(Drop)]
 pub struct Node {
     pub(crate) tables: Tables,
     effects: Effects,
     items: Items,
     spent: bool,
 }
+
+// A derived drop would be inlined, field by field, wherever a node is let go; this one is called there.
+impl Drop for Node {
+    fn drop(self) {
+        let Node {
+            tables: _tables,
+            effects: _effects,
+            items: _items,
+            spent: _spent,
+        } = self;
+    }
+}
+
+// An entry is let go. It stands apart, so that a step makes no room for that.
+#[inline(never)]
+fn let_go(_entry: Entry) {}
 
 impl Node {
     /// A node before any entry. Its settings have to be valid ([`Config::valid`]).
@@ -134,11 +149,14 @@ impl Node {
         ensures none { IsTrue (is_spent self.old) → steps.new ≡ steps.old }
     {
         if self.spent {
+            let_go(entry);
             return Err(OutOfMemory);
         }
         self.spent = true;
         self.effects.clear();
-        if !self.tables.stopped {
+        if self.tables.stopped {
+            let_go(entry);
+        } else {
             self.tables
                 .take(&mut self.effects, &mut self.items, entry, steps)?;
         }

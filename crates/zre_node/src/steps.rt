@@ -1,6 +1,6 @@
 //! Whole entries.
 
-ghost use Rattle.std.specs.Prelude.{◌≡◌, List, [], true, length, OnOk};
+ghost use Rattle.std.specs.Prelude.{◌≡◌, List, [], true, false, length, OnOk};
 ghost use Rattle.zre_outside.specs.declared.entry.Entry.{Entry as EntryValue};
 ghost use Rattle.zre_outside.specs.declared.entry.Input.TheVariants as given;
 ghost use Rattle.zre_zmtp.specs.Looks.{Looks};
@@ -12,7 +12,7 @@ ghost use Rattle.zre_journal.specs.Held.{kept};
 ghost use Rattle.zre_journal.specs.Commands.{at_stop};
 ghost use Rattle.zre_node.specs.Brings.{octets_of};
 ghost use Rattle.zre_node.specs.Journal.{Took};
-ghost use Rattle.zre_node.specs.Kinds.{is_incoming};
+ghost use Rattle.zre_node.specs.Kinds.{is_incoming, is_piece};
 ghost use Rattle.zre_node.specs.Stands.{Holds, Did};
 
 use crate::effects::Effects;
@@ -89,6 +89,35 @@ impl Tables {
         self.stop(out)
     }
 
+    // What an entry other than a piece brings. It stands apart from `take`, since a function begins by making room for
+    // all that it may need, and most entries are pieces.
+    #[inline(never)]
+    fn take_other<L: Ledger>(
+        &mut self,
+        out: &mut Effects,
+        entry: Entry,
+        steps: &mut Steps<L>,
+    ) -> Result<(), OutOfMemory>
+        requires { is_piece entry.input ≡ false }
+        ensures took { (g : Config) (H : List Mark) → out.old.pushed ≡ [] → Holds g H self.old →
+            OnOk result (Took g entry H self.new out.old out.new) }
+        ensures looks { (g : Config) (H : List Mark) → Holds g H self.old →
+            Looks steps.old steps.new (kept g H) (kept g (with_entry g entry H)) (octets_of entry.input) result }
+    {
+        let Entry { at, input } = entry;
+        match input {
+            Input::Reply { link, bytes } => self.take_reply(out, at, link, bytes.as_slice(), steps),
+            Input::Linked { link } => self.take_link(out, at, Input::Linked { link }),
+            Input::Unlinked { link } => self.take_link(out, at, Input::Unlinked { link }),
+            Input::Took { link, count } => self.take_link(out, at, Input::Took { link, count }),
+            Input::Tick => self.take_tick(out, at),
+            Input::Do(Command::Quit) => self.take_stop(out, at),
+            Input::Do(command) => self.take_command(out, at, command),
+            Input::End => self.take_stop(out, at),
+            other => self.take_incoming(out, at, other),
+        }
+    }
+
     /// What an entry brings, where the node hasn't stopped. The list is for what becomes whole with a piece, and serves
     /// again and again.
     pub fn take<L: Ledger>(
@@ -108,15 +137,7 @@ impl Tables {
             Input::Piece { conn, bytes } => {
                 self.take_piece(out, items, at, conn, bytes.as_slice(), steps)
             }
-            Input::Reply { link, bytes } => self.take_reply(out, at, link, bytes.as_slice(), steps),
-            Input::Linked { link } => self.take_link(out, at, Input::Linked { link }),
-            Input::Unlinked { link } => self.take_link(out, at, Input::Unlinked { link }),
-            Input::Took { link, count } => self.take_link(out, at, Input::Took { link, count }),
-            Input::Tick => self.take_tick(out, at),
-            Input::Do(Command::Quit) => self.take_stop(out, at),
-            Input::Do(command) => self.take_command(out, at, command),
-            Input::End => self.take_stop(out, at),
-            other => self.take_incoming(out, at, other),
+            other => self.take_other(out, Entry { at, input: other }, steps),
         }
     }
 }

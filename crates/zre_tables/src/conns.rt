@@ -88,8 +88,9 @@ impl Conns {
 
     /// READY introduced this peer on the connection.
     pub fn introduce(&mut self, conn: u64, peer: PeerId)
-        ensures { (x : ConnectionValue) → row_at conn self.old ≡ Some x →
+        ensures found { (x : ConnectionValue) → row_at conn self.old ≡ Some x →
             self.new ≡ with_row conn (record x { identity = Some peer }) self.old }
+        ensures missing { row_at conn self.old ≡ None → self.new ≡ self.old }
     {
         let Some(found) = self.rows.get_mut(&conn) else {
             return;
@@ -99,8 +100,9 @@ impl Conns {
 
     /// The connection runs the peer of this link.
     pub fn carry(&mut self, conn: u64, link: u64)
-        ensures { (x : ConnectionValue) → row_at conn self.old ≡ Some x →
+        ensures found { (x : ConnectionValue) → row_at conn self.old ≡ Some x →
             self.new ≡ with_row conn (record x { run = Some link }) self.old }
+        ensures missing { row_at conn self.old ≡ None → self.new ≡ self.old }
     {
         let Some(found) = self.rows.get_mut(&conn) else {
             return;
@@ -110,8 +112,9 @@ impl Conns {
 
     /// The connection is ignored from now on, and runs no peer.
     pub fn ignore(&mut self, conn: u64, now: u64)
-        ensures { (x : ConnectionValue) → row_at conn self.old ≡ Some x →
+        ensures found { (x : ConnectionValue) → row_at conn self.old ≡ Some x →
             self.new ≡ with_row conn (record x { since = now; run = None; conn = None }) self.old }
+        ensures missing { row_at conn self.old ≡ None → self.new ≡ self.old }
     {
         let Some(found) = self.rows.get_mut(&conn) else {
             return;

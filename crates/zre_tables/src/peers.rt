@@ -1,7 +1,7 @@
 //! The known peers.
 
-ghost use Rattle.std.specs.Prelude.{◌≡◌, ◌+◌, ◌≤◌, ℕ, Bool, true, List, [], ◌∷◌, ◌++◌, Some, None, length, is_some, option_copied};
-ghost use Rattle.std.specs.Prelude.{OnOk, OnErr, IfOk, IfErr, ◌||◌, nat_lt};
+ghost use Rattle.std.specs.Prelude.{◌≡◌, ◌+◌, ◌≤◌, ℕ, Bool, true, List, [], ◌∷◌, ◌++◌, Some, None, length};
+ghost use Rattle.std.specs.Prelude.{is_some, option_copied, OnOk, OnErr, IfOk, IfErr, Ok, ◌||◌, nat_lt};
 ghost use Rattle.std.specs.BTreeMap.{insert_entry, IsOrdered, Updates};
 ghost use Rattle.std.specs.Ordering.{nat_cmp};
 ghost use Rattle.zre_values.specs.declared.limits.TheConstants.{UNSENT_OCTETS};
@@ -158,8 +158,9 @@ impl Peers {
 
     /// The peer of this link has shown that it is there.
     pub fn touch(&mut self, link: u64, now: u64)
-        ensures { (x : PeerValue) → row_at link self.old ≡ Some x →
+        ensures found { (x : PeerValue) → row_at link self.old ≡ Some x →
             self.new ≡ with_row link (record x { active = now }) self.old }
+        ensures missing { row_at link self.old ≡ None → self.new ≡ self.old }
     {
         let Some(peer) = self.rows.get_mut(&link) else {
             return;
@@ -173,11 +174,12 @@ impl Peers {
         ensures ok { (x : PeerValue) → row_at link self.old ≡ Some x →
             OnOk result (self.new ≡ with_row link (record x { run = Some running; active = now }) self.old) }
         ensures err { OnErr result (self.new ≡ self.old) }
+        ensures missing { row_at link self.old ≡ None → (self.new ≡ self.old) × (result ≡ Ok tt) }
     {
-        index_groups(&mut self.groups, link, &running.run)?;
         let Some(peer) = self.rows.get_mut(&link) else {
             return Ok(());
         };
+        index_groups(&mut self.groups, link, &running.run)?;
         self.rewound = renew(peer, now, self.rewound);
         peer.run = Some(running);
         Ok(())
@@ -224,7 +226,7 @@ impl Peers {
             → row_at link self.old ≡ Some x → x.link ≡ link_after own line linked o n →
             IfErr result (λ e. RefusesPush e (unsent_of own line n) (size_of line body.old)) }
         ensures unchanged { OnErr result (self.new ≡ self.old) }
-        ensures missing { row_at link self.old ≡ None → self.new ≡ self.old }
+        ensures missing { row_at link self.old ≡ None → (self.new ≡ self.old) × (result ≡ Ok tt) }
         ensures lent { body.new ≡ body.old }
     {
         let Some(peer) = self.rows.get_mut(&link) else {
@@ -246,7 +248,7 @@ impl Peers {
             → row_at link self.old ≡ Some x → x.link ≡ link_after own line linked o n →
             IfErr result (λ e. RefusesPush e (unsent_of own line n) (size_of line (Shout group.now tail.now))) }
         ensures unchanged { OnErr result (self.new ≡ self.old) }
-        ensures missing { row_at link self.old ≡ None → self.new ≡ self.old }
+        ensures missing { row_at link self.old ≡ None → (self.new ≡ self.old) × (result ≡ Ok tt) }
     {
         let Some(peer) = self.rows.get_mut(&link) else {
             return Ok(());

@@ -1,6 +1,6 @@
 //! Messages, and the runs of peers that they make.
 
-ghost use Rattle.std.specs.Prelude.{◌≡◌, ◌≢◌, ℕ, List, ◌∷◌, [], ◌++◌, Some, OnOk, IfErr, IfOk, ◌||◌, true, false};
+ghost use Rattle.std.specs.Prelude.{◌≡◌, ◌≢◌, ℕ, List, ◌∷◌, [], ◌++◌, Some, None, OnOk, Err, IfErr, IfOk, ◌||◌, true, false};
 ghost use Rattle.zre_msg.specs.Lent.{message_of};
 ghost use Rattle.zre_msg.specs.declared.message.Message.{Message as MessageValue};
 ghost use Rattle.zre_values.specs.declared.peer_id.PeerId.{PeerId as PeerIdValue};
@@ -87,11 +87,13 @@ impl Peers {
             IfErr result (λ e. e ≢ RunFault.OutOfMemory → (may_follow ms (message_of lent.now) ≡ false)
             × (e ≡ fault_of ms (message_of lent.now)) × (events.new ≡ events.old)
             × IsTaken link x now (HadRun (Some c) ms) self.old self.new) }
+        ensures missing { row_at link self.old ≡ None →
+            (self.new ≡ self.old) × (events.new ≡ events.old) × (result ≡ Err RunFault.OutOfMemory) }
     {
-        index_join(&mut self.groups, link, &lent.command)?;
         let Some(peer) = self.rows.get_mut(&link) else {
             return Err(RunFault::OutOfMemory);
         };
+        index_join(&mut self.groups, link, &lent.command)?;
         self.rewound = renew(peer, now, self.rewound);
         let taken = take(peer, lent, events);
         if let Some(group) = left_by(peer, &lent.command) {

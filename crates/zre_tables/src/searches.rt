@@ -195,7 +195,10 @@ fn update(rows: &BTreeMap<u64, Peer>, heard: &mut Timers, links: &[u64]) -> Resu
         let Some(peer) = rows.get(link) else {
             continue;
         };
-        heard.touch(*link, active_of(peer))?;
+        let active = active_of(peer);
+        if heard.moment(*link) != Some(active) {
+            heard.touch(*link, active)?;
+        }
     }
     Ok(())
 }

@@ -1,6 +1,6 @@
 ghost use Rattle.std.specs.Prelude.{◌≡◌, ◌≤◌, not, ◌&&◌, IfOk, OnOk, OnErr};
 ghost use Rattle.std.specs.FinMap as map;
-ghost use Rattle.zre_timers.specs.Moments.{NoneAfter, has_rested, has_moment_between};
+ghost use Rattle.zre_timers.specs.Moments.{NoneAfter, has_rested, has_moment_between, moment_of};
 ghost use Rattle.zre_values.specs.Keys.{IsRisingListOf};
 
 use std::alloc::Global;
@@ -70,6 +70,13 @@ impl Timers {
             }
         }
         Ok(())
+    }
+
+    /// The moment of a key, if it has one.
+    pub fn moment(&self, key: u64) -> Option<u64>
+        ensures { result ≡ moment_of self.now key }
+    {
+        self.moments.get(&key).copied()
     }
 
     /// Takes a key out, if it is there.

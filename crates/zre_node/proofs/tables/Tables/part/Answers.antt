@@ -16,7 +16,7 @@ returns c = λ g H p.
           let x = w.in-Some.running in
           let told = w.in_ok-exit.ensures (counted c.args.link H) (entered g H c.args.link c.args.peer.now c.args.self.now p c.args.cause x w.in-Some.is).1 in
           let out = done ∙ ap closes w.out-is ∙ ap closes told in
-          rw w.self-is (with_run g H c.args.link c.args.peer.now c.args.self.now p c.args.cause x w.in-Some.is w.ignore.new.self w.ignore.ensures c.args.out.now c.close_link.new.self
+          rw w.self-is (with_run g H c.args.link c.args.peer.now c.args.self.now p c.args.cause x w.in-Some.is w.ignore.new.self w.ignore.ensures.found c.args.out.now c.close_link.new.self
           (ap (λ (s : Effects). s.events) out) (ap (λ (s : Effects). s.acts) out) (ap (λ (s : Effects). s.pushed) out))
       | in_default w ↦
           let out = done ∙ ap closes w.out-is in

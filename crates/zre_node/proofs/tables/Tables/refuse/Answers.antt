@@ -10,7 +10,7 @@ use Rattle.zre_node.proofs.tables.Tables.refuse.Goals as goal
 
 pub returns : goal.returns
 returns c = λ g H h live idle.
-    let row = c.ignore.ensures (kept_conn g H c.args.conn) (conn_row g H c.args.self.now h.keeps c.args.conn (live_open c.args.conn H live)) in
+    let row = c.ignore.ensures.found (kept_conn g H c.args.conn) (conn_row g H c.args.self.now h.keeps c.args.conn (live_open c.args.conn H live)) in
     on_ok c.ignored.result c.ignored.ensures (λ out.
     did_by g (Ignores c.args.conn c.args.why ∷ []) H _ c.args.out.now c.ignored.new.self (refused g H c.args.self.now h c.args.conn c.args.why live idle c.ignore.new.self row)
     (ap (λ (s : Effects). s.events) out) (ap (λ (s : Effects). s.acts) out ∙ sym (append-nil c.args.out.now.acts)) (ap (λ (s : Effects). s.pushed) out) (λ l. refl))

@@ -1,5 +1,4 @@
-use Rattle.std.proofs.Common.{ℕ, ◌∙◌, Option, Some, is_some, sym, ap, subst}
-use Rattle.std.specs.BTreeMap.{BTreeMap}
+use Rattle.std.proofs.Common.{ℕ, ◌∙◌, List, Option, Some, is_some, refl, sym, ap, subst}
 use Rattle.zre_values.proofs.Answered.{on_ok}
 use Rattle.zre_tables.specs.Agreement.{Agree}
 use Rattle.zre_tables.specs.Runs.{HasRun}
@@ -7,19 +6,17 @@ use Rattle.zre_tables.specs.declared.peer.Peer.{Peer}
 use Rattle.zre_tables.specs.declared.peer.Running.{Running}
 use Rattle.zre_tables.proofs.Agreeing.{grown_all, left_agrees}
 use Rattle.zre_tables.proofs.Carrying.{of_err}
-use Rattle.zre_tables.proofs.Changing.{same, put_back, retaken}
+use Rattle.zre_tables.proofs.Changing.{same, put_back, put_same, retaken}
 use Rattle.zre_tables.proofs.Indexed.{taken_agrees}
 use Rattle.zre_tables.proofs.peers.Peers.take.Goals as goal
 
-pub invariant_of-self : goal.invariant_of-self
-invariant_of-self c =
+-- no memory for the group: the row stands as before
+pub invariant_of-self-in_err-index_join : goal.invariant_of-self-in_err-index_join
+invariant_of-self-in_err-index_join c =
     let i = c.self.inside in
-    grown_all i.rows.entries i.groups c.index_join.new.groups i.heard i.rewound c.index_join.ensures.grows c.self.invariant
-
-pub invariant_of-self-in_default : goal.invariant_of-self-in_default
-invariant_of-self-in_default c =
-    let i = c.self.inside in
-    subst (λ (m : BTreeMap ℕ Peer). Agree m.entries c.index_join.new.groups i.heard i.rewound) (sym c.get_mut.follows.holds-at-none)
+    let k = c.in-Some.peer.now in
+    subst (λ (es : List (ℕ × Peer)). Agree es c.index_join.new.groups i.heard i.rewound)
+    (sym (put_same c.args.link i.rows.entries i.rows.entries refl k c.in-Some.ensures.value k _ (c.get_mut.follows.holds k).0 refl))
     (grown_all i.rows.entries i.groups c.index_join.new.groups i.heard i.rewound c.index_join.ensures.grows c.self.invariant)
 
 pub invariant_of-self-in_default-left_by : goal.invariant_of-self-in_default-left_by
