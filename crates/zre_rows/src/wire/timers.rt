@@ -68,7 +68,7 @@ fn push_due(answer: &mut Text, due: Result<Due, OutOfMemory>) {
 
 impl Subject for Moments {
     fn step(&mut self, words: &mut Words<'_>, answer: &mut Text) {
-        steps!(self, words, answer; touch, forget, due)
+        steps!(self, words, answer; touch, forget, moment, due)
     }
 }
 
@@ -98,6 +98,13 @@ impl Moments {
     fn forget(&mut self, words: &mut Words<'_>, answer: &mut Text) {
         let key = words.number();
         self.push(Touch { key, at: None }, answer);
+    }
+
+    // `moment KEY` answers when it was last heard of, or `none`.
+    fn moment(&self, words: &mut Words<'_>, answer: &mut Text) {
+        let key = words.number();
+        let timers = changed(self.alloc, self.touches.as_slice(), u64::MAX, answer);
+        answer.number_line(timers.moment(key));
     }
 
     // `due NOW EVASIVE EXPIRED` answers the two lists.
