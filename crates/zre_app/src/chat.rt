@@ -5,11 +5,10 @@ ghost use Rattle.zre_app.specs.Does.{Did};
 ghost use Rattle.zre_app.specs.Given.{handed, stream_views, views};
 
 use crate::command::Command;
-use crate::top::Ended;
 use std::alloc::Global;
 use std::sync::Wait;
 use std::thread::Threads;
-use zre_chat::{Chat, Chatted};
+use zre_chat::{Chat, Ended};
 use zre_outside::{Recorder, Sink, Source, Spawner, World};
 
 /// Is a node with these settings, and keeps a capture of what comes to it in the file, if one is named.
@@ -37,16 +36,5 @@ pub(crate) fn chat<
         (Some (Command.Chat asked)) limit result.status (handed input world out.old rec spawner.old)
         (handed result.input result.world out.new result.rec spawner.new) }
 {
-    let Chatted {
-        status,
-        input,
-        world,
-        rec,
-    } = asked.run(rt, alloc, input, world, out, rec, spawner, limit);
-    Ended {
-        status,
-        input,
-        world,
-        rec,
-    }
+    asked.run(rt, alloc, input, world, out, rec, spawner, limit)
 }

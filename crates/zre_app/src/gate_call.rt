@@ -14,19 +14,9 @@ use std::alloc::Global;
 use std::sync::Wait;
 use std::thread::Threads;
 use zre_commands::pump::Status;
-use zre_gate::Gated;
+use zre_gate::GateEnded;
 use zre_outside::{Desk, Recorder, Sink, Spawner, World};
 use zre_values::{Frames, OutOfMemory};
-
-/// How a call of [`gate`] ended, what was handed in, and the clients that the desk gave, in its order.
-#[derive(Drop)]
-pub struct GateEnded<D: Desk, W, R> {
-    pub status: Status,
-    pub desk: D,
-    pub clients: Vec<D::Client>,
-    pub world: W,
-    pub rec: R,
-}
 
 /// Is a node with the settings of the words, which are those of `chat` and two more, and serves the clients that come
 /// to the desk. Reads at most `limit` octets of each client, and takes at most as many turns of the world. What is
@@ -70,22 +60,7 @@ where
     ensures later { (O.faults out.old ≤ O.faults out.new) × (P.faults spawner.old ≤ P.faults spawner.new) }
 {
     match gate_of(alloc, words) {
-        Ok(Some(asked)) => {
-            let Gated {
-                status,
-                desk,
-                clients,
-                world,
-                rec,
-            } = asked.run(rt, alloc, desk, world, out, rec, spawner, limit);
-            GateEnded {
-                status,
-                desk,
-                clients,
-                world,
-                rec,
-            }
-        }
+        Ok(Some(asked)) => asked.run(rt, alloc, desk, world, out, rec, spawner, limit),
         Ok(None) => GateEnded {
             status: usage(out),
             desk,

@@ -16,11 +16,12 @@ mod top;
 mod words;
 
 pub use command::{Command, command_of, is_chat};
-pub use gate_call::{GateEnded, gate};
+pub use gate_call::gate;
 pub use gate_words::{gate_of, is_gate};
 pub use laws::kept_captures_are_replayed;
 pub use plain_commands::{PlainEnded, plain};
 pub use plain_words::Plain;
-pub use top::{Ended, LIMIT, run, zre};
-pub use zre_chat::Chat;
+pub use top::{LIMIT, run, zre};
+pub use zre_chat::{Chat, Ended};
 pub use zre_commands::pump::Status;
+pub use zre_gate::GateEnded;

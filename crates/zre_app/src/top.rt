@@ -13,21 +13,13 @@ use crate::plain_commands::{PlainEnded, plain, usage};
 use std::alloc::Global;
 use std::sync::Wait;
 use std::thread::Threads;
+use zre_chat::Ended;
 use zre_commands::pump::Status;
 use zre_outside::{Recorder, Sink, Source, Spawner, World};
 use zre_values::{Frames, OutOfMemory};
 
 /// The most octets that `zre` reads.
 pub const LIMIT: u64 = (1 << 63) - 1;
-
-/// How a call ended, and what was handed in.
-#[derive(Debug, Drop)]
-pub struct Ended<I, W, R> {
-    pub status: Status,
-    pub input: I,
-    pub world: W,
-    pub rec: R,
-}
 
 /// Does what the words ask for, and reads at most `limit` octets; `chat` takes at most as many turns of the world, too.
 /// What is handed in comes back as it was left.

@@ -34,9 +34,9 @@ pub struct Chat {
     pub capture: Option<Octets>,
 }
 
-/// How a chat ended, and what was handed in, as it was left.
-#[derive(Drop)]
-pub struct Chatted<I, W, R> {
+/// How a call ended, and what was handed in, as it was left.
+#[derive(Debug, Drop)]
+pub struct Ended<I, W, R> {
     pub status: Status,
     pub input: I,
     pub world: W,
@@ -57,7 +57,7 @@ impl Chat {
         rec: R,
         spawner: &mut P,
         limit: u64,
-    ) -> Chatted<I, W, R>
+    ) -> Ended<I, W, R>
     where
         I: Source + Send + Drop + 'static,
         W: World + Send + Drop + 'static,
@@ -93,7 +93,7 @@ impl Chat {
                     rt, alloc, table, input, world, out, rec, keep, spawner, limit,
                 )
             }
-            Err(status) => Chatted {
+            Err(status) => Ended {
                 status,
                 input,
                 world,

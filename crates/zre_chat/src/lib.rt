@@ -10,4 +10,4 @@ mod talk;
 mod threads;
 pub mod values;
 
-pub use chat::{Chat, Chatted};
+pub use chat::{Chat, Ended};

@@ -13,7 +13,7 @@ ghost use Rattle.zre_chat.specs.Stages.{Prepared};
 ghost use Rattle.zre_chat.specs.Statuses.{least, of_read, of_print, of_work, of_thread};
 ghost use Rattle.zre_chat.specs.Tables.{IsLaid};
 
-use crate::chat::Chatted;
+use crate::chat::Ended;
 use crate::statuses::status_of;
 use crate::table::Table;
 use crate::talk::{Talk, hold_talk};
@@ -37,7 +37,7 @@ pub(crate) fn converse<I, W, O, R, P, T>(
     keep: bool,
     spawner: &mut P,
     limit: u64,
-) -> Chatted<I, W, R>
+) -> Ended<I, W, R>
 where
     I: Source + Send + Drop + 'static,
     W: World + Send + Drop + 'static,
@@ -87,7 +87,7 @@ where
         Ok(working) => working,
         Err(refused) => {
             let Refused { job } = refused;
-            return Chatted {
+            return Ended {
                 status: Status::NoThread,
                 input,
                 world: job.world,
@@ -115,7 +115,7 @@ fn settle<I, W, R, T: Wait + Copy>(
     mut callers: CallerPasses,
     talk: Talk<I>,
     worked: Worked<W, R>,
-) -> Chatted<I, W, R>
+) -> Ended<I, W, R>
     requires given { given_of callers ≡ [] }
     requires room { 2 ≤ room_of callers }
     requires pipes { IsActorOf pipes.now worked.pass × IsTakerOf pipes.now talk.printed.taker }
@@ -138,7 +138,7 @@ fn settle<I, W, R, T: Wait + Copy>(
     callers.give(printed.pass);
     let status = status_of(read.end, printed.fault, worked.ending, refused);
     pipes.finish(rt, worked.pass, callers, printed.taker);
-    Chatted {
+    Ended {
         status,
         input: read.input,
         world: worked.world,

@@ -41,7 +41,7 @@ pub struct Gate {
 
 /// How a gate ended, what was handed in, as it was left, and the clients that the desk gave, in order.
 #[derive(Drop)]
-pub struct Gated<D: Desk, W, R> {
+pub struct GateEnded<D: Desk, W, R> {
     pub status: Status,
     pub desk: D,
     pub clients: Vec<D::Client>,
@@ -63,7 +63,7 @@ impl Gate {
         rec: R,
         spawner: &mut P,
         limit: u64,
-    ) -> Gated<D, W, R>
+    ) -> GateEnded<D, W, R>
     where
         D: Desk + Drop,
         W: World + Send + Drop + 'static,
@@ -97,7 +97,7 @@ impl Gate {
         are_values(&config);
         let (mut desk, mut world, mut rec) = (desk, world, rec);
         let Ok(mut clients) = Vec::with_capacity(alloc, usize::from(many)) else {
-            return Gated {
+            return GateEnded {
                 status: Status::OutOfMemory,
                 desk,
                 clients: Vec::new(alloc),
@@ -120,7 +120,7 @@ impl Gate {
         let table = match opened {
             Ok(table) => table,
             Err(status) => {
-                return Gated {
+                return GateEnded {
                     status,
                     desk,
                     clients,
@@ -138,7 +138,7 @@ impl Gate {
         } = serve(
             rt, alloc, table, clients, world, out, rec, keep, spawner, limit,
         );
-        Gated {
+        GateEnded {
             status,
             desk,
             clients,

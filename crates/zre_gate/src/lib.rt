@@ -15,5 +15,5 @@ mod threads;
 
 pub use client::{Answer, ClientJob};
 pub use closer::{Closed, CloserJob};
-pub use gate::{Gate, Gated};
+pub use gate::{Gate, GateEnded};
 pub use known::Known;
