@@ -15,4 +15,6 @@ mod runs_beside;
 #[cfg(test)]
 mod shared_table;
 #[cfg(test)]
+mod terminal;
+#[cfg(test)]
 mod two_nodes;

@@ -107,11 +107,21 @@ fn moved<T: Send>(value: T) -> T {
 }
 
 /// A world, and the first thing that wasn't as it should be, or nothing. After it nothing more is waited for.
-#[derive(Drop)]
 struct Watched {
     alloc: Global,
     world: RealWorld<HostRuntime>,
     missed: &'static str,
+}
+
+// By hand, so that each way out calls it. A derived drop is inlined there, field by field, and proved each time.
+impl Drop for Watched {
+    fn drop(self) {
+        let Watched {
+            alloc: _,
+            world: _world,
+            missed: _missed,
+        } = self;
+    }
 }
 
 impl Watched {

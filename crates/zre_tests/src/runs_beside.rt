@@ -1,18 +1,15 @@
 //! A chat that reads, works and prints beside each other: its input holds its last line back until something was
 //! written.
 
+use crate::terminal::{Patient, Showing, sign_of, words_of};
 use std::alloc::Global;
-use std::sync::atomic::{AtomicBool, Ordering};
-use std::sync::{Arc, Wait};
+use std::sync::Wait;
 use std::test::Fail;
-use std::thread::{Threads, yield_now};
+use std::thread::Threads;
 use zre_app::{Status, run};
 use zre_capture::CaptureReader;
-use zre_outside::{
-    Entries, Failed, MemRecorder, MemSink, MemSource, NextFault, PlainSpawner, Script, ScriptWorld,
-    Sink, Source, Turn,
-};
-use zre_values::{Frames, Octets, OutOfMemory};
+use zre_outside::{Entries, MemRecorder, PlainSpawner, Script, ScriptWorld, Turn};
+use zre_values::{Frames, OutOfMemory};
 
 const CHAT: &[&[u8]] = &[
     b"chat",
@@ -87,118 +84,25 @@ fn script_of(alloc: Global) -> Result<Script, OutOfMemory> {
     Ok(script)
 }
 
-fn words_of(alloc: Global) -> Result<Frames, OutOfMemory> {
-    let mut words = Frames::new(alloc);
-    for word in CHAT {
-        words.push(Octets::copy(alloc, word)?)?;
-    }
-    Ok(words)
-}
-
-/// Lines, and after them others that are held back until something was written.
-#[derive(Drop)]
-struct Withholding {
-    front: MemSource,
-    back: MemSource,
-    is_written: Arc<AtomicBool, Global>,
-    faults: u64,
-}
-
-impl Withholding {
-    /// Looks for the first octet, and gives up after so many looks.
-    fn waits(&self) -> bool {
-        for _ in 0..50000000u64 {
-            if self.is_written.load(Ordering::SeqCst) {
-                return true;
-            }
-            yield_now();
-        }
-        false
-    }
-}
-
-impl Source for Withholding {
-    ghost use Rattle.std.specs.Prelude.{None};
-
-    ghost left = { λ _. None };
-
-    ghost taken = { λ _. None };
-
-    ghost faults = { λ s. s.faults };
-
-    fn read(&mut self, buf: &mut [u8]) -> Result<usize, Failed> {
-        if let Ok(n) = self.front.read(buf) {
-            if n > 0 {
-                return Ok(n);
-            }
-        }
-        if self.waits() {
-            if let Ok(n) = self.back.read(buf) {
-                return Ok(n);
-            }
-        }
-        self.faults = self.faults.saturating_add(1);
-        Err(Failed)
-    }
-}
-
-/// Tells that something was written.
-#[derive(Drop)]
-struct Showing {
-    inner: MemSink,
-    is_written: Arc<AtomicBool, Global>,
-}
-
-impl Sink for Showing {
-    ghost use Rattle.zre_outside.specs.Memory.{write_faults_of};
-    ghost use Rattle.std.specs.Prelude.{None};
-
-    ghost written = { λ _. None };
-
-    ghost faults = { λ s. write_faults_of s.inner };
-
-    fn write(&mut self, bytes: &[u8]) -> Result<usize, NextFault> {
-        let n = self.inner.write(bytes)?;
-        self.is_written.store(true, Ordering::SeqCst);
-        Ok(n)
-    }
-}
-
 /// The words, the world's script, and what stands for the terminal.
 #[derive(Drop)]
 struct Stand {
     words: Frames,
     script: Script,
-    input: Withholding,
+    input: Patient,
     out: Showing,
 }
 
-fn source_of(alloc: Global, text: &[u8]) -> Result<MemSource, OutOfMemory> {
-    Ok(MemSource::new(Octets::copy(alloc, text)?, Vec::new(alloc)))
-}
-
-fn input_of(
-    alloc: Global,
-    is_written: &Arc<AtomicBool, Global>,
-) -> Result<Withholding, OutOfMemory> {
-    Ok(Withholding {
-        front: source_of(alloc, LINES)?,
-        back: source_of(alloc, QUIT)?,
-        is_written: Arc::try_clone(is_written)?,
-        faults: 0,
-    })
-}
-
+/// The last line is held back until something was written.
 fn make_stand(alloc: Global) -> Result<Stand, OutOfMemory> {
-    let is_written = Arc::new(alloc, AtomicBool::new(false))?;
+    let is_written = sign_of(alloc)?;
+    let mut input = Patient::new(alloc, LINES, QUIT)?;
+    input.wait_for(&is_written)?;
     Ok(Stand {
-        words: words_of(alloc)?,
+        words: words_of(alloc, CHAT)?,
         script: script_of(alloc)?,
-        input: input_of(alloc, &is_written)?,
-        out: Showing {
-            inner: MemSink::new(alloc, Vec::new(alloc)),
-            is_written,
-        },
+        input,
+        out: Showing::new(alloc, b"", is_written),
     })
 }
 
@@ -236,6 +140,6 @@ fn runs_beside(rt: HostRuntime) -> Result<(), Fail> {
     let stand = make_stand(rt.alloc())?;
     let (status, out) = chat(rt, rt.alloc(), stand);
     assert_eq!(rt; status, Status::Done);
-    assert_eq!(rt; out.inner.written(), TEXT);
+    assert_eq!(rt; out.written(), TEXT);
     Ok(())
 }
