@@ -8,7 +8,6 @@ use zre_mailbox::Conn;
 use zre_values::PeerId;
 
 /// An open connection, by its number.
-#[derive(Drop)]
 pub struct Connection {
     /// When it was opened or, where it is ignored, when it became so.
     pub since: u64,
@@ -18,6 +17,18 @@ pub struct Connection {
     pub run: Option<u64>,
     /// What reads it. Where it is ignored, nothing does.
     pub conn: Option<Conn>,
+}
+
+// By hand, so that each way out calls it. A derived drop is inlined there, field by field, and proved each time.
+impl Drop for Connection {
+    fn drop(self) {
+        let Connection {
+            since: _,
+            identity: _identity,
+            run: _,
+            conn: _conn,
+        } = self;
+    }
 }
 
 impl Connection {

@@ -8,7 +8,6 @@ use zre_peer::{Run, View};
 use zre_values::PeerId;
 
 /// The run of an entered peer, and the connection that carries it.
-#[derive(Drop)]
 pub struct Running {
     /// The number of the connection.
     pub conn: u64,
@@ -16,8 +15,14 @@ pub struct Running {
     pub run: Run,
 }
 
+// By hand, so that each way out calls it. A derived drop is inlined there, field by field, and proved each time.
+impl Drop for Running {
+    fn drop(self) {
+        let Running { conn: _, run: _run } = self;
+    }
+}
+
 /// A known peer, by its link.
-#[derive(Drop)]
 pub struct Peer {
     /// Its identity.
     pub id: PeerId,
@@ -27,6 +32,18 @@ pub struct Peer {
     pub run: Option<Running>,
     /// What is sent to it.
     pub link: Link,
+}
+
+// By hand, so that each way out calls it. A derived drop is inlined there, field by field, and proved each time.
+impl Drop for Peer {
+    fn drop(self) {
+        let Peer {
+            id: _,
+            active: _,
+            run: _run,
+            link: _link,
+        } = self;
+    }
 }
 
 impl Peer {

@@ -2,6 +2,7 @@
 
 ghost use Rattle.std.specs.Prelude.{◌≡◌, List, ◌∷◌, [], ◌++◌, None, Some, OnOk, IfOk, MatchOption, map, true, false};
 ghost use Rattle.std.specs.Prelude.{if◌then◌else◌};
+ghost use Rattle.zre_mailbox.specs.declared.arrival.Arrival.TheVariants as arrived;
 ghost use Rattle.zre_mailbox.specs.Talk.{Arrived, Fault, fault_said, arrival_of, arrivals_in};
 ghost use Rattle.zre_outside.specs.declared.entry.Entry.{Entry as EntryValue};
 ghost use Rattle.zre_outside.specs.declared.entry.Input.TheVariants as input;
@@ -16,6 +17,7 @@ ghost use Rattle.zre_node.specs.Said.{said_in, at_item};
 use crate::effects::Effects;
 use crate::tables::Tables;
 use zre_mailbox::{Arrival, arrival_of};
+use zre_msg::Message;
 use zre_peer::{Cause, CloseWhy};
 use zre_values::{OutOfMemory, PeerId};
 use zre_zmtp::{Item, Items, SocketType, What, ZmtpFault, pong, ready};
@@ -109,6 +111,51 @@ impl Tables {
         out.answer(conn, pong)
     }
 
+    // READY of a live connection: a second one says nothing.
+    fn arrive_shaken(
+        &mut self,
+        out: &mut Effects,
+        conn: u64,
+        standing: Standing,
+        peer: PeerId,
+    ) -> Result<(), OutOfMemory>
+        ensures { (g : Config) (H : List Mark) → Holds g H self.old → is_live conn H ≡ true
+            → standing.identity ≡ identity conn H →
+            OnOk result (Did g (at_arrival g conn (arrived.Shaken peer) H) H self.new out.old out.new) }
+    {
+        match standing.identity {
+            None => self.shaken(out, conn, peer),
+            Some(_) => Ok(()),
+        }
+    }
+
+    // A message of a live connection, which is dropped where READY didn't come before.
+    fn arrive_message(
+        &mut self,
+        out: &mut Effects,
+        conn: u64,
+        standing: Standing,
+        message: Message,
+    ) -> Result<(), OutOfMemory>
+        ensures { (g : Config) (H : List Mark) → Holds g H self.old → is_live conn H ≡ true
+            → standing.run ≡ runs conn H →
+            standing.identity ≡ identity conn H →
+            OnOk result (Did g (at_arrival g conn (arrived.Message message) H) H self.new out.old out.new) }
+    {
+        if let Some(link) = standing.run {
+            let taken = self.later_whole(out, conn, link, &message);
+            drop(message);
+            return taken;
+        }
+        match standing.identity {
+            Some(peer) => self.first(out, conn, peer, message),
+            None => {
+                drop(message);
+                Ok(())
+            }
+        }
+    }
+
     // What arrives on a live connection.
     fn arrive_live(
         &mut self,
@@ -122,16 +169,11 @@ impl Tables {
             standing.identity ≡ identity conn H →
             OnOk result (Did g (at_arrival g conn arrival H) H self.new out.old out.new) }
     {
-        match (arrival, standing.run, standing.identity) {
-            (Arrival::Greeted, _, _) => self.greeted(out, conn),
-            (Arrival::Shaken(peer), _, None) => self.shaken(out, conn, peer),
-            (Arrival::Shaken(_), _, Some(_)) => Ok(()),
-            (Arrival::Ping(context), _, _) => self.pinged(out, conn, context.as_slice()),
-            (Arrival::Message(message), Some(link), _) => {
-                self.later_whole(out, conn, link, &message)
-            }
-            (Arrival::Message(message), None, Some(peer)) => self.first(out, conn, peer, message),
-            (Arrival::Message(_), None, None) => Ok(()),
+        match arrival {
+            Arrival::Greeted => self.greeted(out, conn),
+            Arrival::Shaken(peer) => self.arrive_shaken(out, conn, standing, peer),
+            Arrival::Ping(context) => self.pinged(out, conn, context.as_slice()),
+            Arrival::Message(message) => self.arrive_message(out, conn, standing, message),
         }
     }
 

@@ -176,7 +176,10 @@ impl Tables {
             OnOk result (Did g (at_first g conn (Some peer) message H) H self.new out.old out.new) }
     {
         match opened(self.alloc, peer, message, &mut Events::new(self.alloc)) {
-            Ok(_) => self.refuse(out, conn, why),
+            Ok(run) => {
+                drop(run);
+                self.refuse(out, conn, why)
+            }
             Err(fault) => self.refuse_by(out, conn, fault),
         }
     }

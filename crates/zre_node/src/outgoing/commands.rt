@@ -122,13 +122,16 @@ impl Tables {
             body: Body::Shout { group, content },
         };
         if message.is_big() {
+            drop(message);
             return decline(out, RefuseWhy::TooBig);
         }
         let Body::Shout { group, content } = &message.body else {
             unreachable!()
         };
         let tail = Tail::of(self.alloc, content)?;
-        self.shout_all(out, links.as_slice(), group.as_slice(), &tail)
+        let shouted = self.shout_all(out, links.as_slice(), group.as_slice(), &tail);
+        drop(message);
+        shouted
     }
 
     // What a command brings, but for the one that stops the node.

@@ -72,9 +72,12 @@ impl Tables {
             body: self.hello()?,
         };
         if !hello.fits() {
+            drop(hello);
             return Err(OutOfMemory);
         }
-        link_with(self.alloc, self.config.id, &mut hello.body)
+        let link = link_with(self.alloc, self.config.id, &mut hello.body);
+        drop(hello);
+        link
     }
 
     /// A peer is born: a link to its endpoint is asked for, and HELLO is put on it.

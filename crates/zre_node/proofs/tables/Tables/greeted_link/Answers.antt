@@ -13,7 +13,7 @@ returns c = λ g H k.
     let made = c.in_ok-hello.field-0 in
     let own = c.args.self.now.config.id in
     let same = same_hello g H c.args.self.now k made c.in_ok-hello.ensures in
-    ok_of (λ (link : Sending). link ≡ link_after g.id (Says (hello g H) ∷ []) false [] 0) c.link_with.result (λ link ok.
-    at_ok (λ (l : Sending). l ≡ link_after own (Says made ∷ []) false [] 0) c.link_with.result link ok c.link_with.ensures
+    ok_of (λ (link : Sending). link ≡ link_after g.id (Says (hello g H) ∷ []) false [] 0) c.link_with-link.result (λ link ok.
+    at_ok (λ (l : Sending). l ≡ link_after own (Says made ∷ []) false [] 0) c.link_with-link.result link ok c.link_with-link.ensures
     ∙ ap (λ (f : Config). link_after f.id (Says made ∷ []) false [] 0) k.config
     ∙ ap (λ (b : Body). link_after g.id (Says b ∷ []) false [] 0) same)

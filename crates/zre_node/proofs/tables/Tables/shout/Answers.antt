@@ -26,6 +26,6 @@ returns c = λ g K h.
     let named = c.as_slice-3.ensures in
     let spelled = c.in_ok-tail.ensures in
     let said : body.Shout c.as_slice-3.result.now c.in_ok-tail.tail ≡ body.Shout group content = cc in
-    on_did_as g _ _ K _ _ _ c.shout_all.result (shouts g K group content short (sym c.is_big.ensures ∙ c.if-is_big.false) ∙ push_links g c.as_slice-2.result.now vs (body.Shout group content) K links)
-    (subst (λ (m : Body). OnOk c.shout_all.result (Did g (in_turn (λ l J. push g l m J) c.as_slice-2.result.now K) K c.shout_all.new.self c.args.out.now c.shout_all.new.out)) said
-    (c.shout_all.ensures g K h (subst (λ (ls : List ℕ). AreKnown K ls) (sym links) (some_known g K t h (is_member g group K)))))
+    on_did_as g _ _ K _ _ _ c.shout_all-shouted.result (shouts g K group content short (sym c.is_big.ensures ∙ c.if-is_big.false) ∙ push_links g c.as_slice-2.result.now vs (body.Shout group content) K links)
+    (subst (λ (m : Body). OnOk c.shout_all-shouted.result (Did g (in_turn (λ l J. push g l m J) c.as_slice-2.result.now K) K c.shout_all-shouted.new.self c.args.out.now c.shout_all-shouted.new.out)) said
+    (c.shout_all-shouted.ensures g K h (subst (λ (ls : List ℕ). AreKnown K ls) (sym links) (some_known g K t h (is_member g group K)))))
