@@ -138,12 +138,16 @@ impl<T: Write> Sink for StdSink<T> {
         ensures counted { writer_faults_of self.new ≡ counted (is_failed result) (writer_faults_of self.old) }
         ensures reason { OnErr result (IsSome (writer_reason_of self.new)) }
     {
-        let reason = match self.inner.write(bytes) {
-            Ok(n) if n > 0 || bytes.is_empty() => return Ok(n),
-            Ok(_) => io::Error::from(ErrorKind::WriteZero),
-            Err(reason) => reason,
-        };
-        self.fail(reason);
-        Err(NextFault::Failed)
+        match self.inner.write(bytes) {
+            Ok(n) if n > 0 || bytes.is_empty() => Ok(n),
+            Ok(_) => {
+                self.fail(io::Error::from(ErrorKind::WriteZero));
+                Err(NextFault::Failed)
+            }
+            Err(reason) => {
+                self.fail(reason);
+                Err(NextFault::Failed)
+            }
+        }
     }
 }

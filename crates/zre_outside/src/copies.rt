@@ -1,6 +1,7 @@
 //! The same values, in memory of their own.
 
-ghost use Rattle.std.specs.Prelude.{◌≡◌, IfOk};
+ghost use Rattle.std.specs.Prelude.{◌≡◌, ◌∷◌, ◌++◌, [], IfOk, OnOk};
+ghost use Rattle.zre_outside.specs.declared.entry.Command.{Command as CommandValue};
 
 use crate::{Act, Addresses, Command, Entry, Input, Start};
 use std::alloc::Global;
@@ -11,19 +12,37 @@ fn copy_frames(alloc: Global, frames: &Frames) -> Result<Frames, OutOfMemory>
 {
     let mut copy = Frames::new(alloc);
     for frame in frames.as_slice() {
-        copy.push(Octets::copy(alloc, frame.as_slice())?)?;
+        let Ok(()) = push_copy(alloc, &mut copy, frame) else {
+            drop(copy);
+            return Err(OutOfMemory);
+        };
     }
     Ok(copy)
+}
+
+// One frame more.
+fn push_copy(alloc: Global, frames: &mut Frames, frame: &Octets) -> Result<(), OutOfMemory>
+    ensures { OnOk result (frames.new ≡ frames.old ++ frame.now ∷ []) }
+{
+    frames.push(Octets::copy(alloc, frame.as_slice())?)?;
+    Ok(())
+}
+
+fn copy_shout(alloc: Global, group: &Octets, content: &Frames) -> Result<Command, OutOfMemory>
+    ensures { IfOk result (λ copy. copy ≡ CommandValue.Shout group.now content.now) }
+{
+    let group = Octets::copy(alloc, group.as_slice())?;
+    let Ok(content) = copy_frames(alloc, content) else {
+        drop(group);
+        return Err(OutOfMemory);
+    };
+    Ok(Command::Shout { group, content })
 }
 
 fn copy_addresses(alloc: Global, addresses: &Addresses) -> Result<Addresses, OutOfMemory>
     ensures { IfOk result (λ copy. copy ≡ addresses.now) }
 {
-    let mut copy = Addresses::new(alloc);
-    for address in addresses.as_slice() {
-        copy.push(*address)?;
-    }
-    Ok(copy)
+    Ok(Addresses::from_vec(Vec::from_slice(alloc, addresses.as_slice())?))
 }
 
 impl Command {
@@ -42,10 +61,7 @@ impl Command {
                 peer: *peer,
                 content: copy_frames(alloc, content)?,
             }),
-            Command::Shout { group, content } => Ok(Command::Shout {
-                group: Octets::copy(alloc, group.as_slice())?,
-                content: copy_frames(alloc, content)?,
-            }),
+            Command::Shout { group, content } => copy_shout(alloc, group, content),
             Command::Bad { line } => Ok(Command::Bad { line: *line }),
             Command::Quit => Ok(Command::Quit),
         }

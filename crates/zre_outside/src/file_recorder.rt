@@ -3,7 +3,7 @@ ghost use Rattle.zre_outside.specs.Causes.{Rose, raised, is_failed, counted};
 
 use crate::{NextFault, Recorder};
 use std::fs;
-use std::io::{self, ErrorKind, Write};
+use std::io::{self, Write};
 use std::rt::Files;
 
 /// A file as a recorder. What was in the file of this name before is gone once it is begun. Each put goes to the
@@ -74,7 +74,7 @@ impl<R: Files> Recorder for FileRecorder<R> {
         self.file = None;
         match fs::create(&self.rt, name) {
             Ok(file) => {
-                self.file = Some(file);
+                drop(self.file.replace(file));
                 Ok(())
             }
             Err(reason) => {
@@ -92,14 +92,12 @@ impl<R: Files> Recorder for FileRecorder<R> {
         ensures counted { file_faults_of self.new ≡ counted (is_failed result) (file_faults_of self.old) }
         ensures reason { OnErr result (IsSome (file_reason_of self.new)) }
     {
-        let reason = match &mut self.file {
-            Some(file) => match file.write_all(bytes) {
-                Ok(()) => return Ok(()),
-                Err(reason) => reason,
-            },
-            None => io::Error::from(ErrorKind::NotFound),
-        };
-        self.fail(reason);
-        Err(NextFault::Failed)
+        match self.file.as_mut().unwrap().write_all(bytes) {
+            Ok(()) => Ok(()),
+            Err(reason) => {
+                self.fail(reason);
+                Err(NextFault::Failed)
+            }
+        }
     }
 }

@@ -6,10 +6,11 @@ ghost use Rattle.zre_outside.specs.Told.{AppendsFront};
 
 use crate::{NextFault, Recorder};
 use std::alloc::Global;
+use std::mem;
 use zre_values::Octets;
 
 /// A capture in memory. The calls of `begin` and of `put` with the numbers of two lists fail, counted from 1.
-#[derive(Debug, Drop)]
+#[derive(Debug)]
 pub struct MemRecorder {
     alloc: Global,
     bytes: Octets,
@@ -20,6 +21,23 @@ pub struct MemRecorder {
     begins: u64,
     puts: u64,
     faults: u64,
+}
+
+// By hand, so that each way out calls it. A derived drop is inlined there, field by field, and proved each time.
+impl Drop for MemRecorder {
+    fn drop(self) {
+        let MemRecorder {
+            alloc: _,
+            bytes: _bytes,
+            file: _file,
+            begun: _,
+            begin_fails: _begin_fails,
+            put_fails: _put_fails,
+            begins: _,
+            puts: _,
+            faults: _,
+        } = self;
+    }
 }
 
 impl MemRecorder {
@@ -93,7 +111,7 @@ impl Recorder for MemRecorder {
         let Ok(file) = Octets::copy(self.alloc, name.as_bytes()) else {
             return Err(NextFault::OutOfMemory);
         };
-        self.file = file;
+        drop(mem::replace(&mut self.file, file));
         self.bytes.clear();
         self.begun = true;
         Ok(())

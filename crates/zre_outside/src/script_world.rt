@@ -16,7 +16,6 @@ pub const LOOKS_IN_A_ROW: u64 = 50000000;
 
 /// A script as a world, as [`crate::SureWorld`]. The calls of `start` and of `next` with the numbers of two lists
 /// fail, counted from 1, and so does a look after [`LOOKS_IN_A_ROW`] others.
-#[derive(Drop)]
 pub struct ScriptWorld {
     stage: Stage,
     row: u64,
@@ -25,6 +24,21 @@ pub struct ScriptWorld {
     starts: u64,
     nexts: u64,
     faults: u64,
+}
+
+// By hand, so that each way out calls it. A derived drop is inlined there, field by field, and proved each time.
+impl Drop for ScriptWorld {
+    fn drop(self) {
+        let ScriptWorld {
+            stage: _stage,
+            row: _,
+            start_fails: _start_fails,
+            next_fails: _next_fails,
+            starts: _,
+            nexts: _,
+            faults: _,
+        } = self;
+    }
 }
 
 impl ScriptWorld {
@@ -52,6 +66,15 @@ impl ScriptWorld {
             nexts: 0,
             faults: 0,
         }
+    }
+
+    // Whether the turn that is counted already is to fail.
+    fn is_to_fail(&self, command: &Option<Command>) -> bool
+        ensures { result ≡ list_any (λ n. n == nexts_of self.now) (next_fails_of self.now)
+            || (at_look (script_left self.now) command.now && nat_le 50000000 (row_of self.now)) }
+    {
+        self.next_fails.contains(&self.nexts)
+            || (self.stage.is_at_look(command) && self.row >= LOOKS_IN_A_ROW)
     }
 }
 
@@ -118,10 +141,9 @@ impl World for ScriptWorld {
             × (next_fails_of self.new ≡ next_fails_of self.old) }
     {
         self.nexts = self.nexts.saturating_add(1);
-        if self.next_fails.contains(&self.nexts)
-            || (self.stage.is_at_look(&command) && self.row >= LOOKS_IN_A_ROW)
-        {
+        if self.is_to_fail(&command) {
             self.faults = self.faults.saturating_add(1);
+            drop(command);
             return Err(NextFault::Failed);
         }
         match self.stage.next(command) {

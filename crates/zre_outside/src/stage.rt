@@ -13,7 +13,6 @@ use std::collections::VecDeque;
 use zre_values::{Octets, OutOfMemory};
 
 /// What is left of a script, and what was seen of it.
-#[derive(Drop)]
 pub(crate) struct Stage {
     alloc: Global,
     left: VecDeque<Turn>,
@@ -24,6 +23,23 @@ pub(crate) struct Stage {
     looks: u64,
     handed: Vec<Command>,
     done: Vec<Deed>,
+}
+
+// By hand, so that each way out calls it. A derived drop is inlined there, field by field, and proved each time.
+impl Drop for Stage {
+    fn drop(self) {
+        let Stage {
+            alloc: _,
+            left: _left,
+            reading: _,
+            looked: _,
+            begun: _begun,
+            given: _given,
+            looks: _,
+            handed: _handed,
+            done: _done,
+        } = self;
+    }
 }
 
 impl Stage {
@@ -83,11 +99,14 @@ impl Stage {
         self.handed.reserve(1)?;
         self.given.reserve(1)?;
         let handed = command.copy(self.alloc)?;
-        let input = Input::Do(command.copy(self.alloc)?);
+        let Ok(given) = command.copy(self.alloc) else {
+            drop(handed);
+            return Err(OutOfMemory);
+        };
         self.handed.push_reserved(handed);
         self.given.push_reserved(Entry {
             at: self.reading,
-            input,
+            input: Input::Do(given),
         });
         Ok(())
     }
@@ -97,7 +116,7 @@ impl Stage {
         ensures same { self.new ≡ record self.old { left = self.new.left } }
         ensures left { left_on self.new ≡ drop 1 (left_on self.old) }
     {
-        self.left.pop_front();
+        drop(self.left.pop_front());
     }
 
     // A command is done in place of a look.
@@ -105,7 +124,10 @@ impl Stage {
         ensures ok { IfOk result (λ t. Plays (Some command) t self.old self.new) }
         ensures err { OnErr result (Stays self.old self.new) }
     {
-        self.hand(&command)?;
+        let Ok(()) = self.hand(&command) else {
+            drop(command);
+            return Err(OutOfMemory);
+        };
         self.skip();
         self.looked = false;
         Ok(Turn::Entry(Entry {
