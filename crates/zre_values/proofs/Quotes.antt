@@ -72,6 +72,16 @@ flat-one u v fu fv e =
     let w = later u v [] fu fv (append-nil (flat_map quoted_octet u) ∙ e) in
     w.parts ∙ ap (λ (t : List ℕ). u ++ t) (flat-nil w.others (sym w.text)) ∙ append-nil u
 
+-- one more octet, whose text stands at the front of what stood after the text of the others
+pub one-more : (o grown : List ℕ) (b : ℕ) (rest later text : List ℕ) → grown ≡ o ++ (b ∷ []) → rest ≡ quoted_octet b ++ later → flat_map quoted_octet o ++ rest ≡ text → flat_map quoted_octet grown ++ later ≡ text
+one-more o grown b rest later text is front so_far =
+    ap (λ (l : List ℕ). flat_map quoted_octet l ++ later) is
+    ∙ ap (λ (t : List ℕ). t ++ later) (flat_map-append quoted_octet o (b ∷ []))
+    ∙ append_assoc (flat_map quoted_octet o) (flat_map quoted_octet (b ∷ [])) later
+    ∙ ap (λ (t : List ℕ). flat_map quoted_octet o ++ (t ++ later)) (flat_map-cons quoted_octet b [] ∙ append-nil (quoted_octet b))
+    ∙ ap (λ (t : List ℕ). flat_map quoted_octet o ++ t) (sym front)
+    ∙ so_far
+
 no_tilde : (p : Bool) (b : ℕ) (r : List ℕ) → is_plain b ≡ p → by_kind p b ++ r ≡ 126 ∷ [] → ⊥
 no_tilde true b r plain e = let p : is_plain 126 ≡ true = ap is_plain (sym (heads b 126 r [] e).0) ∙ plain in cc
 no_tilde false b r plain e = let first = (heads 37 126 _ [] e).0 in absurd (omega (arith, first))

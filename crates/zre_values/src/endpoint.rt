@@ -39,7 +39,12 @@ fn read_octet(text: &[u8]) -> Option<u8>
     ensures value { IfSome result (λ n. text.now ≡ decimal n) }
     ensures back { (n : ℕ) → n < 2 ^ 8 → text.now ≡ decimal n → result ≡ Some n }
 {
-    u8::try_from(read_decimal(text)?).ok()
+    let n = read_decimal(text)?;
+    if n <= u64::from(u8::MAX) {
+        Some(n as u8)
+    } else {
+        None
+    }
 }
 
 // A number before the first dot, and what stands after that.
@@ -48,8 +53,11 @@ fn octet_before_dot(text: &[u8]) -> Option<(u8, &[u8])>
     ensures back { (n : ℕ) (y : List ℕ) → n < 2 ^ 8 → text.now ≡ decimal n ++ (46 ∷ y)
         → IsSomeAnd result (λ x. (x.0 ≡ n) × (x.1.now ≡ y)) }
 {
-    let (front, rest) = split_once(text, b'.')?;
-    Some((read_octet(front)?, rest))
+    let Some((front, rest)) = split_once(text, b'.') else {
+        return None;
+    };
+    let n = read_octet(front)?;
+    Some((n, rest))
 }
 
 /// Reads an address `a.b.c.d`: four numbers from 0 to 255 in decimal, without leading zeros.
@@ -58,9 +66,15 @@ pub fn read_address(text: &[u8]) -> Option<[u8; 4]>
     ensures back { (addr : List ℕ) → IsAddress addr → text.now ≡ address_text addr
         → IsSomeAnd result (λ read. read ≡ addr) }
 {
-    let (a, rest) = octet_before_dot(text)?;
-    let (b, rest) = octet_before_dot(rest)?;
-    let (c, rest) = octet_before_dot(rest)?;
+    let Some((a, rest)) = octet_before_dot(text) else {
+        return None;
+    };
+    let Some((b, rest)) = octet_before_dot(rest) else {
+        return None;
+    };
+    let Some((c, rest)) = octet_before_dot(rest) else {
+        return None;
+    };
     let d = read_octet(rest)?;
     Some([a, b, c, d])
 }
@@ -90,7 +104,11 @@ fn read_port(text: &[u8]) -> Option<u16>
     ensures value { IfSome result (λ n. (text.now ≡ decimal n) × (0 < n)) }
     ensures back { (n : ℕ) → 0 < n → n < 2 ^ 16 → text.now ≡ decimal n → result ≡ Some n }
 {
-    let port = u16::try_from(read_decimal(text)?).ok()?;
+    let n = read_decimal(text)?;
+    if n > u64::from(u16::MAX) {
+        return None;
+    }
+    let port = n as u16;
     if port == 0 { None } else { Some(port) }
 }
 
@@ -98,10 +116,7 @@ fn after_scheme(text: &[u8]) -> Option<&[u8]>
     ensures value { IfSome result (λ rest. text.now ≡ codes "tcp://" ++ rest.now) }
     ensures back { (y : List ℕ) → text.now ≡ codes "tcp://" ++ y → IsSomeAnd result (λ rest. rest.now ≡ y) }
 {
-    match text {
-        [b't', b'c', b'p', b':', b'/', b'/', rest @ ..] => Some(rest),
-        _ => None,
-    }
+    text.strip_prefix(b"tcp://")
 }
 
 impl Endpoint {
@@ -123,7 +138,9 @@ impl Endpoint {
         ensures read { result ≡ endpoint_in text.now }
     {
         let rest = after_scheme(text)?;
-        let (addr, port) = split_once(rest, b':')?;
+        let Some((addr, port)) = split_once(rest, b':') else {
+            return None;
+        };
         let addr = read_address(addr)?;
         let port = read_port(port)?;
         Some(Endpoint::at(addr, port))

@@ -1,4 +1,4 @@
-use Rattle.std.proofs.Common.{◌≡◌, ◌∷◌, ◌++◌, List, ℕ, Some, sym, ap, ◌∙◌}
+use Rattle.std.proofs.Common.{◌≡◌, ◌∷◌, ◌++◌, List, ℕ, Some, None, refl, sym, ap, ◌∙◌}
 use Rattle.std.specs.Prelude.{codes, decimal}
 use Rattle.zre_values.specs.declared.endpoint.Endpoint.{Endpoint}
 use Rattle.zre_values.specs.Address.{address_text}
@@ -18,40 +18,40 @@ made addr port endpoint a p =
 pub returns-in_err-rest-clause-back : goal.returns-in_err-rest-clause-back
 returns-in_err-rest-clause-back c = λ endpoint is e. absurd (c.in_err-rest.ensures.back (named endpoint) e)
 
+pub returns-in_default-clause-back : goal.returns-in_default-clause-back
+returns-in_default-clause-back c = λ endpoint is e.
+    let rest = c.in_ok-rest.ensures.back (named endpoint) e in
+    absurd (c.in_default.ensures.back (address_text endpoint.addr) (decimal endpoint.port) (address_text-lacks endpoint.addr is.address) rest)
+
 pub returns-in_err-addr-clause-back : goal.returns-in_err-addr-clause-back
 returns-in_err-addr-clause-back c = λ endpoint is e.
     let rest = c.in_ok-rest.ensures.back (named endpoint) e in
-    absurd (c.in_err-addr.ensures.back (address_text endpoint.addr) (decimal endpoint.port) (address_text-lacks endpoint.addr is.address) rest)
-
-pub returns-in_err-addr-2-clause-back : goal.returns-in_err-addr-2-clause-back
-returns-in_err-addr-2-clause-back c = λ endpoint is e.
-    let rest = c.in_ok-rest.ensures.back (named endpoint) e in
-    let parts = c.in_ok-addr.ensures.back (address_text endpoint.addr) (decimal endpoint.port) (address_text-lacks endpoint.addr is.address) rest in
-    absurd (c.in_err-addr-2.ensures.back endpoint.addr is.address parts.0)
+    let parts = c.in-Some.ensures.back (address_text endpoint.addr) (decimal endpoint.port) (address_text-lacks endpoint.addr is.address) rest in
+    absurd (c.in_err-addr.ensures.back endpoint.addr is.address parts.0)
 
 pub returns-in_err-port-clause-back : goal.returns-in_err-port-clause-back
 returns-in_err-port-clause-back c = λ endpoint is e.
     let rest = c.in_ok-rest.ensures.back (named endpoint) e in
-    let parts = c.in_ok-addr.ensures.back (address_text endpoint.addr) (decimal endpoint.port) (address_text-lacks endpoint.addr is.address) rest in
-    let port = c.in_err-port.ensures.back endpoint.port is.port_is_some is.port_fits parts.1 in
-    absurd cc
+    let parts = c.in-Some.ensures.back (address_text endpoint.addr) (decimal endpoint.port) (address_text-lacks endpoint.addr is.address) rest in
+    let port : None ≡ Some endpoint.port = c.in_err-port.ensures.back endpoint.port is.port_is_some is.port_fits parts.1 in
+    absurd cc port
 
 pub returns-clause-back : goal.returns-clause-back
 returns-clause-back c = λ endpoint is e.
     let rest = c.in_ok-rest.ensures.back (named endpoint) e in
-    let parts = c.in_ok-addr.ensures.back (address_text endpoint.addr) (decimal endpoint.port) (address_text-lacks endpoint.addr is.address) rest in
-    let addr = c.in_ok-addr-2.ensures.back endpoint.addr is.address parts.0 in
+    let parts = c.in-Some.ensures.back (address_text endpoint.addr) (decimal endpoint.port) (address_text-lacks endpoint.addr is.address) rest in
+    let addr = c.in_ok-addr.ensures.back endpoint.addr is.address parts.0 in
     let port = c.in_ok-port.ensures.back endpoint.port is.port_is_some is.port_fits parts.1 in
     made c.at.result.addr c.at.result.port endpoint (c.at.ensures.value.0 ∙ addr) (ap (λ (n : ℕ). Some n) c.at.ensures.value.1 ∙ port)
 
 pub returns-in_err-rest-clause-read : goal.returns-in_err-rest-clause-read
 returns-in_err-rest-clause-read c = nothing-read c.args.text.now c.from_residual.result c.from_residual.ensures (returns-in_err-rest-clause-back c)
 
+pub returns-in_default-clause-read : goal.returns-in_default-clause-read
+returns-in_default-clause-read c = nothing-read c.args.text.now None refl (returns-in_default-clause-back c)
+
 pub returns-in_err-addr-clause-read : goal.returns-in_err-addr-clause-read
 returns-in_err-addr-clause-read c = nothing-read c.args.text.now c.from_residual-in_err-addr.result c.from_residual-in_err-addr.ensures (returns-in_err-addr-clause-back c)
-
-pub returns-in_err-addr-2-clause-read : goal.returns-in_err-addr-2-clause-read
-returns-in_err-addr-2-clause-read c = nothing-read c.args.text.now c.from_residual-in_err-addr-2.result c.from_residual-in_err-addr-2.ensures (returns-in_err-addr-2-clause-back c)
 
 pub returns-in_err-port-clause-read : goal.returns-in_err-port-clause-read
 returns-in_err-port-clause-read c = nothing-read c.args.text.now c.from_residual-in_err-port.result c.from_residual-in_err-port.ensures (returns-in_err-port-clause-back c)
@@ -65,4 +65,4 @@ joined e addr port text rest front later a n whole parts left right =
     whole ∙ ap (λ (r : List ℕ). codes "tcp://" ++ r) named_rest
 
 pub returns-clause-read : goal.returns-clause-read
-returns-clause-read c = this-read c.args.text.now c.at.result c.at.ensures.fits (joined c.at.result c.in_ok-addr-2.addr c.in_ok-port.port c.args.text.now c.in_ok-rest.rest.now c.in_ok-addr.addr.now c.in_ok-addr.port.now c.at.ensures.value.0 c.at.ensures.value.1 c.in_ok-rest.ensures.value c.in_ok-addr.ensures.value c.in_ok-addr-2.ensures.value c.in_ok-port.ensures.value.0)
+returns-clause-read c = this-read c.args.text.now c.at.result c.at.ensures.fits (joined c.at.result c.in_ok-addr.addr c.in_ok-port.port c.args.text.now c.in_ok-rest.rest.now c.in-Some.addr.now c.in-Some.port.now c.at.ensures.value.0 c.at.ensures.value.1 c.in_ok-rest.ensures.value c.in-Some.ensures.value c.in_ok-addr.ensures.value c.in_ok-port.ensures.value.0)
