@@ -4,7 +4,7 @@ ghost use Rattle.std.specs.Prelude.{◌≡◌};
 ghost use Rattle.zre_link.specs.Heard.{expected_of, expected_after};
 
 /// What the other end has to send next.
-#[derive(Clone, Copy, Debug, PartialEq, Eq)]
+#[derive(Clone, Copy)]
 pub enum Awaits {
     /// The greeting: only this node's own may go out before it.
     Greeting,

@@ -34,7 +34,6 @@ use zre_zmtp::{FeedFault, Item, Items, SocketType, Steps, greeting, ready};
 /// The connection of a node to the mailbox of a peer. The node speaks as a DEALER with the identity 01 and its UUID:
 /// its greeting, READY, and then the messages that are put, numbered from 1. The octets wait here until the socket
 /// takes them, each kind once the other end has come far enough.
-#[derive(Drop)]
 pub struct Link {
     alloc: Global,
     queue: Queue,
@@ -46,6 +45,22 @@ pub struct Link {
     taken: u64,
     linked: bool,
     replies: Replies,
+}
+
+// By hand, so that each way out calls it. A derived drop is inlined there, field by field, and proved each time.
+impl Drop for Link {
+    fn drop(self) {
+        let Link {
+            alloc: _,
+            queue: _queue,
+            spelled: _spelled,
+            sent: _,
+            written: _,
+            taken: _,
+            linked: _,
+            replies: _replies,
+        } = self;
+    }
 }
 
 impl Model for Link {
@@ -70,13 +85,13 @@ impl Model for Link {
 }
 
 // The greeting and READY of a node with this UUID.
-fn handshake_of(alloc: Global, own: PeerId) -> Result<Octets, OutOfMemory>
-    ensures is { IfOk result (λ octets. octets ≡ handshake Dealer (Some own)) }
-    ensures count { IfOk result (λ octets. length octets ≡ 124) }
+fn handshake_of(alloc: Global, own: PeerId) -> Result<Queue, OutOfMemory>
+    ensures is { IfOk result (λ queue. queue ≡ handshake Dealer (Some own)) }
+    ensures count { IfOk result (λ queue. length queue ≡ 124) }
 {
-    let mut octets = Octets::copy(alloc, &greeting())?;
-    octets.append(ready(alloc, SocketType::Dealer, Some(own))?.as_slice())?;
-    Ok(octets)
+    let mut queue = Queue::new(alloc, &greeting())?;
+    queue.append(ready(alloc, SocketType::Dealer, Some(own))?.as_slice())?;
+    Ok(queue)
 }
 
 impl Link {
@@ -86,7 +101,7 @@ impl Link {
     {
         Ok(Link {
             alloc,
-            queue: Queue::new(alloc, handshake_of(alloc, own)?.as_slice())?,
+            queue: handshake_of(alloc, own)?,
             spelled: Octets::new(alloc),
             sent: 0,
             written: 124,
@@ -126,6 +141,7 @@ impl Link {
             &message,
         );
         mem::swap(&mut message.body, body);
+        drop(message);
         self.written = queued?;
         self.sent = sent;
         Ok(())

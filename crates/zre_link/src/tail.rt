@@ -25,9 +25,15 @@ pub enum Spelled {
 
 /// The frames of a SHOUT after its first, as the octets that go out: each in its shortest form. It's made once, and put on
 /// any number of links.
-#[derive(Drop)]
 pub struct Tail {
     spelled: Spelled,
+}
+
+// By hand, so that each way out calls it. A derived drop is inlined there, field by field, and proved each time.
+impl Drop for Tail {
+    fn drop(self) {
+        let Tail { spelled: _spelled } = self;
+    }
 }
 
 impl Model for Tail {
