@@ -3,7 +3,6 @@
 use zre_zmtp::Reader;
 
 /// What a connection does with octets.
-#[derive(Drop)]
 pub enum Phase {
     /// They are read.
     Live(Reader),
@@ -11,4 +10,14 @@ pub enum Phase {
     Spent,
     /// Nothing that comes is looked at, and nothing is kept.
     Ignored,
+}
+
+// By hand, so that each way out calls it. A derived drop is inlined there, form by form, and proved each time.
+impl Drop for Phase {
+    fn drop(self) {
+        match self {
+            Phase::Live(_reader) => {}
+            Phase::Spent | Phase::Ignored => {}
+        }
+    }
 }
