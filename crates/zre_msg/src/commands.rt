@@ -3,7 +3,7 @@
 ghost use Rattle.std.specs.Prelude.{◌≡◌, ◌≢◌, ℕ, List, Result, IfOk};
 ghost use Rattle.zre_msg.specs.declared.message.Bad.{Bad};
 ghost use Rattle.zre_msg.specs.declared.message.Body.TheVariants as bodies;
-ghost use Rattle.zre_msg.specs.Reading.{is_single as single_test, hello_at, join_at, leave_at, shout_at, body_at};
+ghost use Rattle.zre_msg.specs.Reading.{is_single as single_test, hello_at, named_at, join_at, leave_at, shout_at, body_at};
 ghost use Rattle.zre_msg.specs.Reading.{Answers};
 ghost use Rattle.zre_msg.specs.Commands.{body_of, Says};
 ghost use Rattle.zre_msg.specs.Fields.{Gives};
@@ -13,7 +13,7 @@ use crate::fields::{Stop, dictionary_at, lent_string_at, octet_at, string_at, st
 use crate::further::Further;
 use crate::message::{Body, Message, ReadFault};
 use std::alloc::Global;
-use zre_values::{Octets, OutOfMemory};
+use zre_values::{Octets, OutOfMemory, Pairs};
 
 /// A command other than HELLO, with the fields that its frame lends: those of `Body`, but for the content.
 #[derive(Clone, Copy)]
@@ -34,24 +34,58 @@ pub enum Command<'a> {
     Other { number: u8, rest: &'a [u8] },
 }
 
+// The last three fields of HELLO: the status, the name and the headers.
+#[tactic(auto, unfolding(crate::specs::Reading::named_at))]
+fn named_at(alloc: Global, octets: &[u8]) -> Result<(u8, Octets, Pairs, &[u8]), Stop>
+    ensures { Gives (λ x. ((x.0, x.1, x.2), x.3.now)) result (named_at octets.now) }
+{
+    let (status, rest) = octet_at(octets)?;
+    let (name, rest) = match string_at(alloc, rest) {
+        Ok(found) => found,
+        Err(stop) => return Err(stop),
+    };
+    match dictionary_at(alloc, rest) {
+        Ok((headers, rest)) => Ok((status, name, headers, rest)),
+        Err(stop) => {
+            drop(name);
+            Err(stop)
+        }
+    }
+}
+
 /// The fields of HELLO (RFC 36), and the octets that are left over after them.
 #[tactic(auto, unfolding(crate::specs::Reading::hello_at))]
 pub fn read_hello(alloc: Global, octets: &[u8]) -> Result<(Body, &[u8]), Stop>
     ensures { Gives (λ x. (x.0, x.1.now)) result (hello_at octets.now) }
 {
-    let (endpoint, rest) = string_at(alloc, octets)?;
-    let (groups, rest) = strings_at(alloc, rest)?;
-    let (status, rest) = octet_at(rest)?;
-    let (name, rest) = string_at(alloc, rest)?;
-    let (headers, rest) = dictionary_at(alloc, rest)?;
-    let body = Body::Hello {
-        endpoint,
-        groups,
-        status,
-        name,
-        headers,
+    let (endpoint, rest) = match string_at(alloc, octets) {
+        Ok(found) => found,
+        Err(stop) => return Err(stop),
     };
-    Ok((body, rest))
+    let (groups, rest) = match strings_at(alloc, rest) {
+        Ok(found) => found,
+        Err(stop) => {
+            drop(endpoint);
+            return Err(stop);
+        }
+    };
+    match named_at(alloc, rest) {
+        Ok((status, name, headers, rest)) => {
+            let body = Body::Hello {
+                endpoint,
+                groups,
+                status,
+                name,
+                headers,
+            };
+            Ok((body, rest))
+        }
+        Err(stop) => {
+            drop(groups);
+            drop(endpoint);
+            Err(stop)
+        }
+    }
 }
 
 #[tactic(auto, unfolding(crate::specs::Reading::join_at))]
@@ -145,10 +179,22 @@ impl<'a> Command<'a> {
         match self {
             Command::Whisper => whisper(alloc, further),
             Command::Shout { group } => shout(alloc, group, further),
-            Command::Join { group, status } => join(alloc, group, status),
-            Command::Leave { group, status } => leave(alloc, group, status),
-            Command::Ping => Ok(Body::Ping),
-            Command::PingOk => Ok(Body::PingOk),
+            Command::Join { group, status } => {
+                drop(further);
+                join(alloc, group, status)
+            }
+            Command::Leave { group, status } => {
+                drop(further);
+                leave(alloc, group, status)
+            }
+            Command::Ping => {
+                drop(further);
+                Ok(Body::Ping)
+            }
+            Command::PingOk => {
+                drop(further);
+                Ok(Body::PingOk)
+            }
             Command::Other { number, rest } => other(alloc, number, rest, further),
         }
     }

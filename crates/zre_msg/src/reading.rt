@@ -107,6 +107,7 @@ fn read_hello_frame(
         Err(Stop::Short) => return Err(fault(BadWhy::Short, 0, first.len())),
     };
     if let Some(bad) = end_fault(first, rest.len(), further) {
+        drop(body);
         return Err(ReadFault::Bad(bad));
     }
     let sequence = sequence_of(first);
