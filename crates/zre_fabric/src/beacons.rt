@@ -13,12 +13,23 @@ use zre_outside::{Input, Start};
 use zre_values::{Endpoint, Octets};
 
 /// The socket that beacons come to and go out from, and where they go to.
-#[derive(Drop)]
 pub(crate) struct Beacons {
     pub(crate) socket: UdpSocket,
     pub(crate) is_queued: bool,
     to: Vec<[u8; 4]>,
     at: Endpoint,
+}
+
+// By hand, so that each way out calls it. A derived drop is inlined there, field by field, and proved each time.
+impl Drop for Beacons {
+    fn drop(self) {
+        let Beacons {
+            socket: _socket,
+            is_queued: _,
+            to: _to,
+            at: _,
+        } = self;
+    }
 }
 
 pub(crate) fn address(addr: [u8; 4], port: u16) -> SocketAddr {
@@ -27,8 +38,13 @@ pub(crate) fn address(addr: [u8; 4], port: u16) -> SocketAddr {
 
 fn bind<R: Net>(rt: &R, s: &Start) -> io::Result<UdpSocket> {
     let socket = UdpSocket::bind(rt, address(s.listen, s.beacon_port))?;
-    socket.set_broadcast(true)?;
-    Ok(socket)
+    match socket.set_broadcast(true) {
+        Ok(()) => Ok(socket),
+        Err(error) => {
+            drop(socket);
+            Err(error)
+        }
+    }
 }
 
 impl Beacons {
@@ -42,6 +58,7 @@ impl Beacons {
             Err(error) => return Err(failed(Part::Beacons(at), error)),
         };
         let Ok(to) = Vec::from_slice(alloc, s.to.as_slice()) else {
+            drop(socket);
             return Err(Trouble::OutOfMemory);
         };
         Ok(Beacons {

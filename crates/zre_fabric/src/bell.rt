@@ -1,6 +1,6 @@
 //! The bell that the reader of the user's input rings, so that what was typed is looked for at once.
 
-ghost use Rattle.std.specs.Prelude.{◌≡◌};
+ghost use Rattle.std.specs.Prelude.{◌≡◌, ◌≤◌, ◌<◌};
 
 use mio::net::UnixStream;
 use std::io::{self, Read, Write};
@@ -74,6 +74,19 @@ impl<S> Ringing<S> {
         &self.inner
     }
 
+    // How many octets the next read asks for, where there is room for so many.
+    fn room(&self, len: usize) -> usize
+        requires { 0 < len }
+        ensures some { 0 < result }
+        ensures most { result ≤ len }
+    {
+        if self.line.is_some() {
+            len.min(PIECE)
+        } else {
+            len
+        }
+    }
+
     // Nothing that is wrong with the bell is told, since commands are looked for without it, too.
     fn ring(&mut self)
         ensures { source_under self.new ≡ source_under self.old }
@@ -119,11 +132,7 @@ impl<S: Source> Source for Ringing<S> {
     /// octets at most.
     fn read(&mut self, buf: &mut [u8]) -> Result<usize, Failed> {
         self.ring();
-        let room = if self.line.is_some() {
-            buf.len().min(PIECE)
-        } else {
-            buf.len()
-        };
+        let room = self.room(buf.len());
         let read = self.inner.read(&mut buf[..room])?;
         self.given = read;
         Ok(read)
@@ -157,13 +166,22 @@ impl Bell {
 
 fn pair<R: Net>(rt: &R) -> io::Result<(Line, Bell)> {
     let (line, far) = Line::pair(rt)?;
-    far.set_nonblocking(true)?;
-    let patience = Some(Duration::from_millis(PATIENCE));
-    line.set_read_timeout(patience)?;
-    line.set_write_timeout(patience)?;
+    if let Err(error) = prepare(&line, &far) {
+        drop(line);
+        drop(far);
+        return Err(error);
+    }
     let bell = Bell {
         stream: UnixStream::from_std(far),
         is_asked: false,
     };
     Ok((line, bell))
+}
+
+// The far end doesn't wait, and the line waits no longer than the patience.
+fn prepare(line: &Line, far: &Line) -> io::Result<()> {
+    far.set_nonblocking(true)?;
+    let patience = Some(Duration::from_millis(PATIENCE));
+    line.set_read_timeout(patience)?;
+    line.set_write_timeout(patience)
 }

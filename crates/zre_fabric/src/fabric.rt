@@ -17,7 +17,6 @@ use zre_outside::{Act, Command, Entry, Input, Start, Turn};
 use zre_values::OutOfMemory;
 
 /// The clock, and the network once it was started.
-#[derive(Drop)]
 pub(crate) struct Fabric<R> {
     rt: R,
     alloc: Global,
@@ -25,6 +24,20 @@ pub(crate) struct Fabric<R> {
     row: Row,
     bell: Option<Bell>,
     network: Option<Network>,
+}
+
+// By hand, so that each way out calls it. A derived drop is inlined there, field by field, and proved each time.
+impl<R: Drop> Drop for Fabric<R> {
+    fn drop(self) {
+        let Fabric {
+            rt: _rt,
+            alloc: _,
+            stopwatch: _stopwatch,
+            row: _row,
+            bell: _bell,
+            network: _network,
+        } = self;
+    }
 }
 
 impl<R> Fabric<R> {
@@ -49,10 +62,11 @@ impl<R: Net + Clock> Fabric<R> {
         ensures later { self.old.stopwatch.last ≤ self.new.stopwatch.last }
         ensures row { (self.new.row.entries ≡ 0) × (self.new.row.commands ≡ 0) }
     {
-        self.network = None;
+        drop(self.network.take());
         self.row = Row::new();
         let at = self.stopwatch.read(&self.rt)?;
-        self.network = Some(Network::open(&self.rt, self.alloc, s, at, &mut self.bell)?);
+        let network = Network::open(&self.rt, self.alloc, s, at, &mut self.bell)?;
+        drop(self.network.replace(network));
         Ok(())
     }
 
@@ -96,7 +110,13 @@ impl<R: Net + Clock> Fabric<R> {
             × (self.new.row.commands ≡ commands_after self.old.row.commands (Some command) t)) }
         ensures kept { OnErr result (self.new.row ≡ self.old.row) }
     {
-        let at = self.stopwatch.read(&self.rt)?;
+        let at = match self.stopwatch.read(&self.rt) {
+            Ok(at) => at,
+            Err(trouble) => {
+                drop(command);
+                return Err(trouble);
+            }
+        };
         if let Some(network) = &mut self.network {
             network.gave_command(at);
         }

@@ -1,27 +1,24 @@
 ghost use Rattle.std.specs.Prelude.{IfOk, IfSome};
 ghost use Rattle.zre_fabric.specs.Pieces.{IsShort};
 
-use crate::beacons::{Beacons, address};
 use crate::bell::Bell;
 use crate::pace::Pace;
 use crate::sockets::Sockets;
 use crate::source::{Source, source_of, token_of};
 use crate::trouble::{Part, Trouble, failed, no_memory};
 use mio::event::Source as Watched;
-use mio::net::TcpListener;
 use mio::{Events, Interest, Poll, Registry};
 use std::alloc::Global;
 use std::io::{self, ErrorKind};
 use std::net::Net;
 use std::time::Duration;
 use zre_outside::{Act, Input, Start};
-use zre_values::{Endpoint, OutOfMemory};
+use zre_values::OutOfMemory;
 
 /// So many events one poll tells at most. The others come with the next.
 const EVENTS: usize = 256;
 
 /// A node's sockets under one poll.
-#[derive(Drop)]
 pub(crate) struct Network {
     poll: Poll,
     events: Events,
@@ -29,6 +26,19 @@ pub(crate) struct Network {
     pace: Pace,
     // A look was given since the last poll.
     is_due_to_poll: bool,
+}
+
+// By hand, so that each way out calls it. A derived drop is inlined there, field by field, and proved each time.
+impl Drop for Network {
+    fn drop(self) {
+        let Network {
+            poll: _poll,
+            events: _events,
+            sockets: _sockets,
+            pace: _pace,
+            is_due_to_poll: _,
+        } = self;
+    }
 }
 
 fn watch<S: Watched>(registry: &Registry, socket: &mut S, source: Source) -> Result<(), Trouble> {
@@ -41,18 +51,16 @@ fn watch<S: Watched>(registry: &Registry, socket: &mut S, source: Source) -> Res
     }
 }
 
-fn new_poll<R: Net>(rt: &R) -> Result<Poll, Trouble> {
-    match Poll::new(rt) {
-        Ok(poll) => Ok(poll),
-        Err(error) => Err(failed(Part::Poll, error)),
-    }
-}
-
-fn listen<R: Net>(rt: &R, at: Endpoint) -> Result<TcpListener, Trouble> {
-    match TcpListener::bind(rt, address(at.addr, at.port)) {
-        Ok(listener) => Ok(listener),
-        Err(error) => Err(failed(Part::Mailbox(at), error)),
-    }
+fn new_poll<R: Net>(rt: &R, alloc: Global) -> Result<(Poll, Events), Trouble> {
+    let poll = match Poll::new(rt) {
+        Ok(poll) => poll,
+        Err(error) => return Err(failed(Part::Poll, error)),
+    };
+    let Ok(events) = Events::with_capacity(alloc, EVENTS) else {
+        drop(poll);
+        return Err(Trouble::OutOfMemory);
+    };
+    Ok((poll, events))
 }
 
 impl Network {
@@ -64,28 +72,39 @@ impl Network {
         at: u64,
         bell: &mut Option<Bell>,
     ) -> Result<Self, Trouble> {
-        let poll = new_poll(rt)?;
-        let Ok(events) = Events::with_capacity(alloc, EVENTS) else {
-            return Err(Trouble::OutOfMemory);
+        let (poll, events) = new_poll(rt, alloc)?;
+        let sockets = match Sockets::open(rt, alloc, s) {
+            Ok(sockets) => sockets,
+            Err(trouble) => {
+                drop(poll);
+                drop(events);
+                return Err(trouble);
+            }
         };
-        let mut beacons = Beacons::open(rt, alloc, s)?;
-        let listens_at = Endpoint {
-            addr: s.host,
-            port: s.port,
-        };
-        let mut listener = listen(rt, listens_at)?;
-        watch(poll.registry(), &mut beacons.socket, Source::Beacons)?;
-        watch(poll.registry(), &mut listener, Source::Mailbox)?;
-        if let Some(bell) = bell {
-            watch(poll.registry(), &mut bell.stream, Source::Bell)?;
-        }
-        Ok(Network {
+        let mut network = Network {
             poll,
             events,
-            sockets: Sockets::new(alloc, beacons, listener, listens_at).map_err(no_memory)?,
+            sockets,
             pace: Pace::new(s.interval, at),
             is_due_to_poll: true,
-        })
+        };
+        match network.watch_all(bell) {
+            Ok(()) => Ok(network),
+            Err(trouble) => {
+                drop(network);
+                Err(trouble)
+            }
+        }
+    }
+
+    fn watch_all(&mut self, bell: &mut Option<Bell>) -> Result<(), Trouble> {
+        let registry = self.poll.registry();
+        watch(registry, &mut self.sockets.beacons.socket, Source::Beacons)?;
+        watch(registry, &mut self.sockets.listener, Source::Mailbox)?;
+        match bell {
+            Some(bell) => watch(registry, &mut bell.stream, Source::Bell),
+            None => Ok(()),
+        }
     }
 
     pub(crate) fn gave_look(&mut self, at: u64) {

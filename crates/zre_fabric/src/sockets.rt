@@ -12,20 +12,19 @@ use crate::source::{Source, token_of};
 use crate::step::Step;
 use crate::trouble::{Part, Trouble, failed, no_memory};
 use mio::net::{TcpListener, TcpStream};
-use mio::{Interest, Registry};
+use mio::{Interest, Registry, Token};
 use std::alloc::Global;
 use std::collections::{BTreeMap, VecDeque};
 use std::net::Net;
-use zre_outside::Input;
+use zre_outside::{Input, Start};
 use zre_values::{Endpoint, OutOfMemory};
 
 /// A source stands in the queue once, where `is_queued` says so, and keeps its place until a look at it finds
 /// nothing. One that is closed leaves it at its turn. So the queue is no longer than there are sockets, and each has
 /// its turn.
-#[derive(Drop)]
 pub(crate) struct Sockets {
     pub(crate) beacons: Beacons,
-    listener: TcpListener,
+    pub(crate) listener: TcpListener,
     listens_at: Endpoint,
     listener_is_queued: bool,
     opened: u64,
@@ -35,13 +34,43 @@ pub(crate) struct Sockets {
     buffer: ReadBuffer,
 }
 
+// By hand, so that each way out calls it. A derived drop is inlined there, field by field, and proved each time.
+impl Drop for Sockets {
+    fn drop(self) {
+        let Sockets {
+            beacons: _beacons,
+            listener: _listener,
+            listens_at: _,
+            listener_is_queued: _,
+            opened: _,
+            conns: _conns,
+            links: _links,
+            queue: _queue,
+            buffer: _buffer,
+        } = self;
+    }
+}
+
 impl Sockets {
-    pub(crate) fn new(
-        alloc: Global,
-        beacons: Beacons,
-        listener: TcpListener,
-        listens_at: Endpoint,
-    ) -> Result<Self, OutOfMemory> {
+    /// Binds the socket for beacons and the listener.
+    pub(crate) fn open<R: Net>(rt: &R, alloc: Global, s: &Start) -> Result<Self, Trouble> {
+        let beacons = Beacons::open(rt, alloc, s)?;
+        let listens_at = Endpoint {
+            addr: s.host,
+            port: s.port,
+        };
+        let listener = match listen(rt, listens_at) {
+            Ok(listener) => listener,
+            Err(trouble) => {
+                drop(beacons);
+                return Err(trouble);
+            }
+        };
+        let Ok(buffer) = ReadBuffer::new(alloc) else {
+            drop(beacons);
+            drop(listener);
+            return Err(Trouble::OutOfMemory);
+        };
         Ok(Sockets {
             beacons,
             listener,
@@ -51,7 +80,7 @@ impl Sockets {
             conns: BTreeMap::new(alloc),
             links: BTreeMap::new(alloc),
             queue: VecDeque::new(alloc),
-            buffer: ReadBuffer::new(alloc)?,
+            buffer,
         })
     }
 
@@ -105,10 +134,13 @@ impl Sockets {
         ensures { IfOk result (λ input. IfSome input (λ i. IsShort i)) }
     {
         match self.step(source, registry)? {
-            Step::More(input) => {
-                self.keep(source)?;
-                Ok(Some(input))
-            }
+            Step::More(input) => match self.keep(source) {
+                Ok(()) => Ok(Some(input)),
+                Err(trouble) => {
+                    drop(input);
+                    Err(trouble)
+                }
+            },
             Step::Last(input) => {
                 self.close(source);
                 Ok(Some(input))
@@ -173,20 +205,29 @@ impl Sockets {
         }
     }
 
+    // The number of the next connection, and its token.
+    fn next_conn(&self) -> Option<(u64, Token)> {
+        let conn = self.opened.checked_add(1)?;
+        Some((conn, token_of(Source::Conn(conn))?))
+    }
+
     // A connection that the poll has no place for is closed.
     fn admit(&mut self, mut stream: TcpStream, registry: &Registry) -> Result<Step, OutOfMemory>
         ensures { IfOk result (λ step. StepIsShort step) }
     {
-        let conn = self.opened.checked_add(1).ok_or(OutOfMemory)?;
-        let token = token_of(Source::Conn(conn)).ok_or(OutOfMemory)?;
+        let Some((conn, token)) = self.next_conn() else {
+            drop(stream);
+            return Err(OutOfMemory);
+        };
         let _ = stream.set_nodelay(true);
         if registry
             .register(&mut stream, token, Interest::READABLE)
             .is_err()
         {
+            drop(stream);
             return Ok(Step::Again);
         }
-        self.conns.insert(conn, Conn::new(stream))?;
+        drop(self.conns.insert(conn, Conn::new(stream))?);
         self.opened = conn;
         Ok(Step::More(Input::Opened { conn }))
     }
@@ -202,7 +243,7 @@ impl Sockets {
         let source = Source::Link(link);
         let stream = dial(rt, registry, source, to);
         let is_tried = stream.is_some();
-        self.links.insert(link, Link::new(stream))?;
+        drop(self.links.insert(link, Link::new(stream))?);
         if is_tried {
             return Ok(());
         }
@@ -232,12 +273,24 @@ impl Sockets {
     }
 }
 
+fn listen<R: Net>(rt: &R, at: Endpoint) -> Result<TcpListener, Trouble> {
+    match TcpListener::bind(rt, address(at.addr, at.port)) {
+        Ok(listener) => Ok(listener),
+        Err(error) => Err(failed(Part::Mailbox(at), error)),
+    }
+}
+
 fn dial<R: Net>(rt: &R, registry: &Registry, source: Source, to: Endpoint) -> Option<TcpStream> {
     let token = token_of(source)?;
-    let mut stream = TcpStream::connect(rt, address(to.addr, to.port)).ok()?;
+    let Ok(mut stream) = TcpStream::connect(rt, address(to.addr, to.port)) else {
+        return None;
+    };
     // Without this, small messages are held back for 40 milliseconds.
     let _ = stream.set_nodelay(true);
     let both = Interest::READABLE | Interest::WRITABLE;
-    registry.register(&mut stream, token, both).ok()?;
+    if registry.register(&mut stream, token, both).is_err() {
+        drop(stream);
+        return None;
+    }
     Some(stream)
 }
