@@ -11,6 +11,7 @@ use crate::event::{Event, Events};
 use crate::peer_run::RunFault;
 use crate::view::View;
 use std::alloc::Global;
+use std::mem;
 use zre_msg::{Body, Command, LentMessage};
 use zre_values::{Frames, Octets, PeerId};
 
@@ -147,24 +148,32 @@ fn shouted(
 }
 
 /// Takes a message that is no HELLO: changes the view, and appends the events. After an error the view is as it was.
+/// The content is taken out of the message.
 pub(crate) fn change(
     alloc: Global,
     id: PeerId,
     view: &mut View,
-    body: Body,
+    body: &mut Body,
     events: &mut Events,
 ) -> Result<(), RunFault>
     requires within { is_small view.old ≡ true }
-    requires no_hello { is_hello body ≡ false }
-    ensures ok { OnOk result (ChangesWithEvents id view.old view.new body events.old events.new) }
+    requires no_hello { is_hello body.old ≡ false }
+    ensures ok { OnOk result (ChangesWithEvents id view.old view.new body.old events.old events.new) }
     ensures kept { OnErr result (view.new ≡ view.old) }
-    ensures refused { PassesLimit result view.old body events.old events.new }
+    ensures refused { PassesLimit result view.old body.old events.old events.new }
 {
     match body {
-        Body::Join { group, status } => joined(alloc, id, view, group.as_slice(), status, events),
-        Body::Leave { group, status } => left(alloc, id, view, group.as_slice(), status, events),
-        Body::Whisper { content } => whispered(alloc, id, view, content, events),
-        Body::Shout { group, content } => shouted(alloc, id, view, group, content, events),
+        Body::Join { group, status } => joined(alloc, id, view, group.as_slice(), *status, events),
+        Body::Leave { group, status } => left(alloc, id, view, group.as_slice(), *status, events),
+        Body::Whisper { content } => {
+            let content = mem::replace(content, Frames::new(alloc));
+            whispered(alloc, id, view, content, events)
+        }
+        Body::Shout { group, content } => {
+            let group = mem::replace(group, Octets::new(alloc));
+            let content = mem::replace(content, Frames::new(alloc));
+            shouted(alloc, id, view, group, content, events)
+        }
         Body::Ping | Body::PingOk => Ok(()),
         Body::Other { .. } => Ok(()),
         Body::Hello { .. } => Ok(()),

@@ -10,9 +10,16 @@ use zre_values::{Octets, OutOfMemory, Pairs};
 
 /// The headers of a peer in the order in which it told them, of equal names the first. One is found by the hash of its
 /// name, with no look at the others.
-#[derive(Debug, Drop)]
+#[derive(Debug)]
 pub struct Headers {
     named: IndexMap<Vec<u8>, Octets>,
+}
+
+// By hand, so that each way out calls it. A derived drop is inlined there, field by field, and proved each time.
+impl Drop for Headers {
+    fn drop(self) {
+        let Headers { named: _named } = self;
+    }
 }
 
 impl Model for Headers {

@@ -54,7 +54,6 @@ impl From<OutOfMemory> for RunFault {
 
 /// The messages of one connection of a peer, from its HELLO on: RFC 36 numbers them 1, 2, 3 and so on in sixteen
 /// bits, and the run takes each with the number that is due and no other.
-#[derive(Drop)]
 pub struct Run {
     alloc: Global,
     id: PeerId,
@@ -64,12 +63,25 @@ pub struct Run {
     ghost within: { ForSome view (λ v. is_small v ≡ true) },
 }
 
+// By hand, so that each way out calls it. A derived drop is inlined there, field by field, and proved each time.
+impl Drop for Run {
+    fn drop(self) {
+        let Run {
+            alloc: _,
+            id: _,
+            view: _view,
+            count: _,
+            spent: _,
+        } = self;
+    }
+}
+
 // The view that the first message of a run sets.
-fn view_of_first(alloc: Global, mut message: Message) -> Result<View, RunFault>
-    ensures ok { IfOk result (λ view. (message.sequence ≡ 1) × (is_hello message.body ≡ true)
-        × (view ≡ after blank message.body) × (is_small (after blank message.body) ≡ true)) }
+fn view_of_first(alloc: Global, message: &mut Message) -> Result<View, RunFault>
+    ensures ok { IfOk result (λ view. (message.old.sequence ≡ 1) × (is_hello message.old.body ≡ true)
+        × (view ≡ after blank message.old.body) × (is_small (after blank message.old.body) ≡ true)) }
     ensures refused { IfErr result (λ e. e ≢ RunFault.OutOfMemory →
-        (may_follow [] message ≡ false) × (e ≡ fault_of [] message)) }
+        (may_follow [] message.old ≡ false) × (e ≡ fault_of [] message.old)) }
 {
     if message.sequence != 1 {
         return Err(RunFault::NotHello);
@@ -78,12 +90,18 @@ fn view_of_first(alloc: Global, mut message: Message) -> Result<View, RunFault>
 }
 
 // The first message of a run.
-fn first(alloc: Global, id: PeerId, message: Message, events: &mut Events) -> Result<View, RunFault>
-    ensures hello { IfOk result (λ view. (is_hello message.body ≡ true) × (view ≡ after blank message.body)) }
-    ensures ok { IfOk result (λ view. (may_follow [] message ≡ true)
-        × (view ≡ view_of (message ∷ [])) × (events.new ≡ events.old ++ events_of id (view_of []) message.body)) }
+fn first(
+    alloc: Global,
+    id: PeerId,
+    message: &mut Message,
+    events: &mut Events,
+) -> Result<View, RunFault>
+    ensures hello { IfOk result (λ view. (is_hello message.old.body ≡ true) × (view ≡ after blank message.old.body)) }
+    ensures ok { IfOk result (λ view. (may_follow [] message.old ≡ true)
+        × (view ≡ view_of (message.old ∷ []))
+        × (events.new ≡ events.old ++ events_of id (view_of []) message.old.body)) }
     ensures refused { IfErr result (λ e. e ≢ RunFault.OutOfMemory →
-        (may_follow [] message ≡ false) × (e ≡ fault_of [] message) × (events.new ≡ events.old)) }
+        (may_follow [] message.old ≡ false) × (e ≡ fault_of [] message.old) × (events.new ≡ events.old)) }
 {
     let view = view_of_first(alloc, message)?;
     tell_hello(alloc, id, &view, events)?;
@@ -118,17 +136,18 @@ fn later(
     id: PeerId,
     view: &mut View,
     due: u16,
-    message: Message,
+    message: &mut Message,
     events: &mut Events,
 ) -> Result<(), RunFault>
     requires { is_small view.old ≡ true }
-    ensures ok { OnOk result ((goes_on view.old due message ≡ true)
-        × (view.new ≡ after view.old message.body) × (events.new ≡ events.old ++ events_of id view.old message.body)) }
+    ensures ok { OnOk result ((goes_on view.old due message.old ≡ true)
+        × (view.new ≡ after view.old message.old.body)
+        × (events.new ≡ events.old ++ events_of id view.old message.old.body)) }
     ensures kept { OnErr result (view.new ≡ view.old) }
-    ensures refused { RefusesLater result view.old due message events.old events.new }
+    ensures refused { RefusesLater result view.old due message.old events.old events.new }
 {
-    expect(due, &message)?;
-    change(alloc, id, view, message.body, events)
+    expect(due, message)?;
+    change(alloc, id, view, &mut message.body, events)
 }
 
 // The same of a message that lies in its frames.
@@ -240,7 +259,7 @@ impl Run {
     }
 
     /// The same, with the events appended to a list. After `OutOfMemory` some of them may stand there.
-    pub fn take(&mut self, message: Message, events: &mut Events) -> Result<(), RunFault>
+    pub fn take(&mut self, mut message: Message, events: &mut Events) -> Result<(), RunFault>
         requires { is_spent self.old ≡ false }
         ensures first { view_in self.old ≡ None → OnOk result (
             (is_hello message.body ≡ true) × (view_in self.new ≡ Some (after blank message.body))) }
@@ -251,6 +270,32 @@ impl Run {
         ensures refused { (ms : List Message) → Stands self.old ms → IfErr result (λ e. e ≢ RunFault.OutOfMemory →
             (may_follow ms message ≡ false) × (in_order (ms ++ message ∷ []) ≡ false) × (e ≡ fault_of ms message)
             × (events.new ≡ events.old)) }
+        ensures spent { IfErr result (λ e. e ≢ RunFault.OutOfMemory → is_spent self.new ≡ true) }
+        ensures unchanged { result ≡ Err RunFault.OutOfMemory → self.new ≡ self.old }
+        ensures kept { OnErr result (view_in self.new ≡ view_in self.old) }
+        ensures id { id_of self.new ≡ id_of self.old }
+    {
+        let taken = self.take_from(&mut message, events);
+        drop(message);
+        taken
+    }
+
+    /// The same, with what the message holds taken out of it.
+    pub(crate) fn take_from(
+        &mut self,
+        message: &mut Message,
+        events: &mut Events,
+    ) -> Result<(), RunFault>
+        requires { is_spent self.old ≡ false }
+        ensures first { view_in self.old ≡ None → OnOk result (
+            (is_hello message.old.body ≡ true) × (view_in self.new ≡ Some (after blank message.old.body))) }
+        ensures ok { (ms : List Message) → Stands self.old ms → OnOk result (
+            (may_follow ms message.old ≡ true) × Stands self.new (ms ++ message.old ∷ [])
+            × (events.new ≡ events.old ++ events_of (id_of self.old) (view_of ms) message.old.body)) }
+        ensures going { OnOk result (is_spent self.new ≡ false) }
+        ensures refused { (ms : List Message) → Stands self.old ms → IfErr result (λ e. e ≢ RunFault.OutOfMemory →
+            (may_follow ms message.old ≡ false) × (in_order (ms ++ message.old ∷ []) ≡ false)
+            × (e ≡ fault_of ms message.old) × (events.new ≡ events.old)) }
         ensures spent { IfErr result (λ e. e ≢ RunFault.OutOfMemory → is_spent self.new ≡ true) }
         ensures unchanged { result ≡ Err RunFault.OutOfMemory → self.new ≡ self.old }
         ensures kept { OnErr result (view_in self.new ≡ view_in self.old) }

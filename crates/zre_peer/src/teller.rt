@@ -20,13 +20,24 @@ use zre_values::{Octets, OutOfMemory, PeerId};
 
 /// A run that writes the lines of its events and makes no events: from its HELLO on their beginnings stand ready as
 /// texts.
-#[derive(Drop)]
 pub struct Teller {
     alloc: Global,
     run: Run,
     heads: Heads,
     events: Events,
     ghost within: { IsReady run heads },
+}
+
+// By hand, so that each way out calls it. A derived drop is inlined there, field by field, and proved each time.
+impl Drop for Teller {
+    fn drop(self) {
+        let Teller {
+            alloc: _,
+            run: _run,
+            heads: _heads,
+            events: _events,
+        } = self;
+    }
 }
 
 impl Model for Teller {
@@ -85,7 +96,7 @@ impl Teller {
 
     /// Takes the next message, and appends the lines of its events. After `OutOfMemory` a front of them may stand
     /// there, and nothing is said of the run.
-    pub fn take(&mut self, message: Message, out: &mut Octets) -> Result<(), RunFault>
+    pub fn take(&mut self, mut message: Message, out: &mut Octets) -> Result<(), RunFault>
         requires { is_spent self.old ≡ false }
         ensures ok { Tells result self.old self.new message out.old out.new }
         ensures going { OnOk result (is_spent self.new ≡ false) }
@@ -94,9 +105,13 @@ impl Teller {
         ensures id { id_of self.new ≡ id_of self.old }
     {
         if self.is_after() {
-            return self.take_later(&message, out);
+            let told = self.take_later(&message, out);
+            drop(message);
+            return told;
         }
-        self.take_first(message, out)
+        let told = self.take_first(&mut message, out);
+        drop(message);
+        told
     }
 
     /// Whether HELLO was taken.
@@ -135,19 +150,19 @@ impl Teller {
         self.run.tell(lent, &self.heads, out)
     }
 
-    fn take_first(&mut self, message: Message, out: &mut Octets) -> Result<(), RunFault>
+    fn take_first(&mut self, message: &mut Message, out: &mut Octets) -> Result<(), RunFault>
         requires going { is_spent self.old ≡ false }
         requires first { is_some (view_in self.old) ≡ false }
-        ensures ok { Tells result self.old self.new message out.old out.new }
+        ensures ok { Tells result self.old self.new message.old out.old out.new }
         ensures going { OnOk result (is_spent self.new ≡ false) }
-        ensures refused { RefusesToTell result self.old message out.old out.new }
+        ensures refused { RefusesToTell result self.old message.old out.old out.new }
         ensures spent { IsSpentByRefusal result self.old self.new }
         ensures id { id_of self.new ≡ id_of self.old }
     {
         let heads = heads_of(self.alloc, self.run.id(), &message.body)?;
         put(&mut self.heads, heads);
         self.events.clear();
-        self.run.take(message, &mut self.events)?;
+        self.run.take_from(message, &mut self.events)?;
         Ok(push_lines(out, self.events.as_slice())?)
     }
 }
