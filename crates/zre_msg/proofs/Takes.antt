@@ -173,7 +173,7 @@ hello_takes o more x fits e =
     let td = string_takes c.0.1 d.0 tc.0.rest_fits d.1 in
     let tf = dictionary_takes d.0.1 f.0 td.0.rest_fits f.1 in
     let whole = hello_parts o a.0.1 b.0.1 c.0.1 d.0.1 f.0.1 more a.0.0 b.0.0 c.0.0 d.0.0 f.0.0 ta tb tc td tf in
-    hello_is o more x (Hello a.0.0 b.0.0 c.0.0 d.0.0 f.0.0, f.0.1) f.2 (whole, refl)
+    hello_is o more x (Hello a.0.0 b.0.0 c.0.0 d.0.0 f.0.0, f.0.1) f.2 (whole, refl {a = []})
 
 -- a group and a status, of which a command is made
 change_takes : (make : List ℕ → ℕ → Body) (o : List ℕ) (x : Body × List ℕ) (P : Body × List ℕ → Type 0) → IsBytes o

@@ -145,8 +145,13 @@ fn shout(alloc: Global, group: &[u8], further: Further<'_>) -> Result<Body, OutO
     ensures { IfOk result (λ body. body ≡ bodies.Shout group.now (frames_of further.entry)) }
 {
     let content = further.take(alloc)?;
-    let group = Octets::copy(alloc, group)?;
-    Ok(Body::Shout { group, content })
+    match Octets::copy(alloc, group) {
+        Ok(group) => Ok(Body::Shout { group, content }),
+        Err(fault) => {
+            drop(content);
+            Err(fault)
+        }
+    }
 }
 
 fn join(alloc: Global, group: &[u8], status: u8) -> Result<Body, OutOfMemory>
@@ -167,8 +172,13 @@ fn other(alloc: Global, number: u8, rest: &[u8], further: Further<'_>) -> Result
     ensures { IfOk result (λ body. body ≡ bodies.Other number rest.now (frames_of further.entry)) }
 {
     let more = further.take(alloc)?;
-    let rest = Octets::copy(alloc, rest)?;
-    Ok(Body::Other { number, rest, more })
+    match Octets::copy(alloc, rest) {
+        Ok(rest) => Ok(Body::Other { number, rest, more }),
+        Err(fault) => {
+            drop(more);
+            Err(fault)
+        }
+    }
 }
 
 impl<'a> Command<'a> {

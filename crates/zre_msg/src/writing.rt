@@ -155,8 +155,7 @@ impl Message {
     {
         let mut first = Octets::new(alloc);
         self.push_first(&mut first)?;
-        let mut frames = Frames::new(alloc);
-        frames.push(first)?;
+        let mut frames = Frames::of(alloc, first);
         if let Some(further) = self.body.further() {
             push_copies(alloc, &mut frames, further.as_slice())?;
         }
