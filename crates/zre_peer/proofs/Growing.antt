@@ -61,3 +61,21 @@ named_with headers n v few = by (list_any (λ pair. bytes_eq pair.0 n) headers)
       | inl lt ↦ or_left (ltb (length headers) 256) false lt ∙ sym (le-leb _ _ (let less = ltb-true _ _ lt in omega (arith, less, length-append headers ((n, v) ∷ []))))
       | inr ge ↦ or_from (ltb (length headers) 256) false ge refl ∙ sym (lt-leb _ _ (let full = ltb-false _ _ ge in omega (arith, full, length-append headers ((n, v) ∷ []))))
     ]
+
+-- the next group was joined
+pub many_next : (found new whole items : List (List ℕ)) (i : ℕ) (g : List ℕ) → i < length items → g ≡ get_or items i g → fold with_group found (drop i items) ≡ whole → new ≡ with_group found g → are_few (with_group found g) ≡ true
+    → (fold with_group new (drop (i + 1) items) ≡ whole) × (are_few new ≡ true)
+many_next found new whole items i g lt is ahead joined few = (
+  ap (λ x. fold with_group x (drop (i + 1) items)) joined
+      ∙ ap (λ x. fold with_group found (x ∷ drop (i + 1) items)) is ∙ sym (at_drop_more (fold with_group found) items i g lt) ∙ ahead,
+  ap are_few joined ∙ few,
+)
+
+-- the next header was told
+pub named_next : (found new whole items : List (List ℕ × List ℕ)) (i : ℕ) (h : List ℕ × List ℕ) → i < length items → h ≡ get_or items i h → fold with_header found (drop i items) ≡ whole → new ≡ with_header found h
+    → are_named (with_header found h) ≡ true → (fold with_header new (drop (i + 1) items) ≡ whole) × (length new ≤ 256)
+named_next found new whole items i h lt is ahead told few = (
+  ap (λ x. fold with_header x (drop (i + 1) items)) told
+      ∙ ap (λ x. fold with_header found (x ∷ drop (i + 1) items)) is ∙ sym (at_drop_more (fold with_header found) items i h lt) ∙ ahead,
+  leb-true _ _ (ap are_named told ∙ few),
+)
