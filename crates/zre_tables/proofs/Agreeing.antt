@@ -14,7 +14,7 @@ use Rattle.zre_group.specs.Index.{Memberships, is_member, without_key}
 use Rattle.zre_group.specs.Membership.{is_member-remove, is_member-without_key}
 use Rattle.zre_timers.specs.Moments.{Moments, NoneAfter, moment_of, moment_of-empty, moment_of-insert, moment_of-remove, NoneAfter-empty, NoneAfter-insert, NoneAfter-remove}
 use Rattle.zre_tables.specs.Agreement.{IsIndexed, AreHeard, Agree}
-use Rattle.zre_tables.specs.Indexing.{IsGrown}
+use Rattle.zre_tables.specs.Indexing.{IsGrown, IsShrunk}
 use Rattle.zre_tables.specs.Rows.{row_at}
 use Rattle.zre_tables.specs.Views.{row_in}
 use Rattle.zre_tables.specs.declared.peer.Peer.{Peer}
@@ -204,26 +204,30 @@ remove_agrees old new groups left heard now r n forgot gone up put a = record {
     by q false far = ap (λ b. is_some (cond b None (moment_of heard q))) (eqb-comm q n ∙ far) ∙ a.times.timed q ∙ ap is_some (sym (elsewhere old new n None put q far))
 
 -- a group that the peer of a link isn't in was taken out of the index for it
-pub left_agrees : (rows : List (ℕ × Peer)) (groups left : Memberships) (heard : Moments) (r : Bool) (n : ℕ) (k : Peer) (group : List ℕ) → row_at n rows ≡ Some k → row_in group k ≡ false → left ≡ set.remove groups (group, n)
+pub left_out : (groups left : Memberships) (n : ℕ) (k : Peer) (group : List ℕ) → row_in group k ≡ false → left ≡ set.remove groups (group, n) → IsShrunk n k groups left
+left_out groups left n k group out gone g q was its = ap (λ v. is_member v g q) gone ∙ is_member-remove groups group n g q ∙ by (eqb q n) refl
+  where
+    other : row_in g k ≡ true → (b : Bool) → bytes_eq group g ≡ b → (not b && is_member groups g q) ≡ true
+    other i true same_name =
+        let name : group ≡ g = (bytes_eq-Decides group g).0 same_name in
+        let z : false ≡ true = sym out ∙ ap (λ h. row_in h k) name ∙ i in absurd cc
+    other i false far = was
+
+    by : (b : Bool) → eqb q n ≡ b → (not ((q == n) && bytes_eq group g) && is_member groups g q) ≡ true
+    by false far = ap (λ b. not (b && bytes_eq group g) && is_member groups g q) far ∙ was
+    by true same = ap (λ b. not (b && bytes_eq group g) && is_member groups g q) same ∙ other (its (eqb-true q n same)) (bytes_eq group g) refl
+
+-- groups that the peer of a link isn't in were taken out
+pub left_agrees : (rows : List (ℕ × Peer)) (groups left : Memberships) (heard : Moments) (r : Bool) (n : ℕ) (k : Peer) → row_at n rows ≡ Some k → IsShrunk n k groups left
     → Agree rows groups heard r → Agree rows left heard r
-left_agrees rows groups left heard r n k group found out gone a = record {
+left_agrees rows groups left heard r n k found shrunk a = record {
   rising = a.rising;
-  indexed = λ q x e. record { groups_in = λ g i. ap (λ v. is_member v g q) gone ∙ is_member-remove groups group n g q ∙ by q x e g i (eqb q n) refl; run_is = (a.indexed q x e).run_is };
+  indexed = λ q x e. record {
+    groups_in = λ g i. shrunk g q ((a.indexed q x e).groups_in g i) (λ same. ap (λ (y : Peer). row_in g y) (some_is k x (sym found ∙ ap (λ j. row_at j rows) (sym same) ∙ e)) ∙ i);
+    run_is = (a.indexed q x e).run_is;
+  };
   times = a.times;
 }
-  where
-    by : (q : ℕ) (x : Peer) → row_at q rows ≡ Some x → (g : List ℕ) → row_in g x ≡ true → (b : Bool) → eqb q n ≡ b → (not ((q == n) && bytes_eq group g) && is_member groups g q) ≡ true
-    by q x e g i false far = ap (λ b. not (b && bytes_eq group g) && is_member groups g q) far ∙ (a.indexed q x e).groups_in g i
-    by q x e g i true same = ap (λ b. not (b && bytes_eq group g) && is_member groups g q) same ∙ other (bytes_eq group g) refl
-      where
-        its : k ≡ x
-        its = some_is k x (sym found ∙ ap (λ j. row_at j rows) (sym (eqb-true q n same)) ∙ e)
-
-        other : (b : Bool) → bytes_eq group g ≡ b → (not b && is_member groups g q) ≡ true
-        other true same_name =
-            let name : group ≡ g = (bytes_eq-Decides group g).0 same_name in
-            let z : false ≡ true = sym out ∙ ap (λ (y : Peer). row_in group y) its ∙ ap (λ h. row_in h x) name ∙ i in absurd cc
-        other false far = (a.indexed q x e).groups_in g i
 
 -- a moment that was brought up to date
 pub touch_heard : (rows : List (ℕ × Peer)) (heard now : Moments) (r : Bool) (n : ℕ) (x : Peer) → Some x ≡ row_at n rows → x.active ≤ 2 ^ 64 - 1 → now ≡ map.insert heard n x.active → AreHeard rows heard r → AreHeard rows now r

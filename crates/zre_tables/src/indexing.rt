@@ -4,7 +4,7 @@ ghost use Rattle.std.specs.Prelude.{◌≡◌, ℕ, List, true, false, OnOk, IfS
 ghost use Rattle.zre_group.specs.Index.{is_member};
 ghost use Rattle.zre_peer.specs.Standing.{view_in};
 ghost use Rattle.zre_journal.specs.Commands.{has_group};
-ghost use Rattle.zre_tables.specs.Indexing.{IsGrown, joins};
+ghost use Rattle.zre_tables.specs.Indexing.{IsGrown, IsShrunk, joins};
 ghost use Rattle.zre_tables.specs.Views.{lists_group, row_in};
 
 use crate::peer::Peer;
@@ -55,7 +55,7 @@ pub(crate) fn index_join(
 }
 
 // The group that LEAVE names, where the peer isn't in it.
-pub(crate) fn left_by<'a>(peer: &Peer, command: &Command<'a>) -> Option<&'a [u8]>
+fn left_by<'a>(peer: &Peer, command: &Command<'a>) -> Option<&'a [u8]>
     ensures { IfSome result (λ group. row_in group.now peer.now ≡ false) }
 {
     let Command::Leave { group, .. } = *command else {
@@ -65,4 +65,13 @@ pub(crate) fn left_by<'a>(peer: &Peer, command: &Command<'a>) -> Option<&'a [u8]
         return None;
     }
     Some(group)
+}
+
+// The group that LEAVE names goes out of the index for this link, where its peer isn't in it.
+pub(crate) fn index_leave(groups: &mut Index, link: u64, peer: &Peer, command: &Command<'_>)
+    ensures { IsShrunk link peer.now groups.old groups.new }
+{
+    if let Some(group) = left_by(peer, command) {
+        groups.remove(group, link);
+    }
 }

@@ -15,7 +15,7 @@ ghost use Rattle.zre_tables.specs.Views.{lists_group, row_in};
 ghost use Rattle.zre_tables.specs.declared.peer.Peer.{Peer as PeerValue};
 ghost use Rattle.zre_tables.specs.declared.peer.Running.{Running as RunningValue};
 
-use crate::indexing::{index_join, left_by};
+use crate::indexing::{index_join, index_leave};
 use crate::peer::{Peer, Running};
 use crate::peers::{Peers, renew};
 use zre_msg::LentMessage;
@@ -96,9 +96,7 @@ impl Peers {
         index_join(&mut self.groups, link, &lent.command)?;
         self.rewound = renew(peer, now, self.rewound);
         let taken = take(peer, lent, events);
-        if let Some(group) = left_by(peer, &lent.command) {
-            self.groups.remove(group, link);
-        }
+        index_leave(&mut self.groups, link, peer, &lent.command);
         taken
     }
 }
