@@ -10,6 +10,7 @@ pub mod Kept
 pub mod Framed
 pub mod Looked
 pub mod Turning
+pub mod Faulty
 pub mod Feeding
 pub mod Pieces
 pub mod Spelled

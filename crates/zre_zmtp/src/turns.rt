@@ -117,9 +117,11 @@ fn finish_frame(
 {
     if let Some(why) = fault_of_body(want, progress, header.flags, body.as_slice()) {
         let place = progress.place;
+        drop(body);
         return Err(FeedFault::Zmtp(ZmtpFault { why, place }));
     }
     let Some(end) = end_of(progress.place, header_len, body.len()) else {
+        drop(body);
         return Err(FeedFault::OutOfMemory);
     };
     let start = if progress.expected == Expected::Traffic && is_message(header.flags) {
