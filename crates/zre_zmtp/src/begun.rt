@@ -49,7 +49,13 @@ pub fn begin_frame<L: Ledger>(
         return Err(FeedFault::Zmtp(ZmtpFault { why, place }));
     }
     let mut body = Store::new(progress.alloc);
-    body.add(later, steps)?;
+    match body.add(later, steps) {
+        Ok(()) => {}
+        Err(fault) => {
+            drop(body);
+            return Err(FeedFault::from(fault));
+        }
+    }
     progress.partial = Partial {
         head: Head::of(head),
         header: Some(header),
