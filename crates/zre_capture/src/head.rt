@@ -75,7 +75,10 @@ pub fn write_head2(alloc: Global, settings: &Settings) -> Result<Octets, OutOfMe
     ensures { IfOk result (λ written. written ≡ head Second settings.now) }
 {
     let mut written = Octets::new(alloc);
-    push_head2(&mut written, settings)?;
+    let Ok(()) = push_head2(&mut written, settings) else {
+        drop(written);
+        return Err(OutOfMemory);
+    };
     Ok(written)
 }
 
@@ -173,8 +176,8 @@ fn with_texts(
         return Ok(None);
     };
     let host = plain.host;
-    match headers(alloc, headers_field)? {
-        Some(headers) => Ok(Some(Settings {
+    match headers(alloc, headers_field) {
+        Ok(Some(headers)) => Ok(Some(Settings {
             id: plain.id,
             name,
             headers,
@@ -183,7 +186,14 @@ fn with_texts(
             evasive: plain.evasive,
             expired: plain.expired,
         })),
-        None => Ok(None),
+        Ok(None) => {
+            drop(name);
+            Ok(None)
+        }
+        Err(OutOfMemory) => {
+            drop(name);
+            Err(OutOfMemory)
+        }
     }
 }
 

@@ -124,9 +124,16 @@ fn header(alloc: Global, member: &[u8]) -> Result<Option<(Octets, Octets)>, OutO
     let Some(name) = short(alloc, NAME_OCTETS, name)? else {
         return Ok(None);
     };
-    match short(alloc, VALUE_OCTETS, value)? {
-        Some(value) => Ok(Some((name, value))),
-        None => Ok(None),
+    match short(alloc, VALUE_OCTETS, value) {
+        Ok(Some(value)) => Ok(Some((name, value))),
+        Ok(None) => {
+            drop(name);
+            Ok(None)
+        }
+        Err(OutOfMemory) => {
+            drop(name);
+            Err(OutOfMemory)
+        }
     }
 }
 
@@ -152,14 +159,24 @@ fn members(alloc: Global, field: &[u8]) -> Result<Option<Pairs>, OutOfMemory>
     let mut headers = Pairs::new(alloc);
     let mut rest = field;
     'members: while let Some((member, after)) = split_once(rest, b',') {
-        if !push_header(alloc, &mut headers, member)? {
+        let Ok(one) = push_header(alloc, &mut headers, member) else {
+            drop(headers);
+            return Err(OutOfMemory);
+        };
+        if !one {
+            drop(headers);
             return Ok(None);
         }
         rest = after;
     }
-    if push_header(alloc, &mut headers, rest)? {
+    let Ok(last) = push_header(alloc, &mut headers, rest) else {
+        drop(headers);
+        return Err(OutOfMemory);
+    };
+    if last {
         Ok(Some(headers))
     } else {
+        drop(headers);
         Ok(None)
     }
 }

@@ -166,7 +166,10 @@ pub fn write_entry(alloc: Global, entry: &Entry) -> Result<Octets, OutOfMemory>
     ensures { IfOk result (λ written. written ≡ line First 0 entry.now) }
 {
     let mut written = Octets::new(alloc);
-    push_entry(&mut written, entry)?;
+    let Ok(()) = push_entry(&mut written, entry) else {
+        drop(written);
+        return Err(OutOfMemory);
+    };
     Ok(written)
 }
 
@@ -175,6 +178,9 @@ pub fn write_entry2(alloc: Global, before: u64, entry: &Entry) -> Result<Octets,
     ensures { IfOk result (λ written. written ≡ line Second before entry.now) }
 {
     let mut written = Octets::new(alloc);
-    push_entry2(&mut written, before, entry)?;
+    let Ok(()) = push_entry2(&mut written, before, entry) else {
+        drop(written);
+        return Err(OutOfMemory);
+    };
     Ok(written)
 }

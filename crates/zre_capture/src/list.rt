@@ -51,14 +51,24 @@ fn members(alloc: Global, field: &[u8]) -> Result<Option<Frames>, OutOfMemory>
     let mut frames = Frames::new(alloc);
     let mut rest = field;
     'members: while let Some((member, after)) = split_once(rest, b',') {
-        if !push_member(alloc, &mut frames, member)? {
+        let Ok(one) = push_member(alloc, &mut frames, member) else {
+            drop(frames);
+            return Err(OutOfMemory);
+        };
+        if !one {
+            drop(frames);
             return Ok(None);
         }
         rest = after;
     }
-    if push_member(alloc, &mut frames, rest)? {
+    let Ok(last) = push_member(alloc, &mut frames, rest) else {
+        drop(frames);
+        return Err(OutOfMemory);
+    };
+    if last {
         Ok(Some(frames))
     } else {
+        drop(frames);
         Ok(None)
     }
 }

@@ -138,9 +138,16 @@ fn group_and_frames(alloc: Global, text: &[u8]) -> Result<Option<(Octets, Frames
     let Some(name) = group(alloc, first)? else {
         return Ok(None);
     };
-    match frames(alloc, second)? {
-        Some(content) => Ok(Some((name, content))),
-        None => Ok(None),
+    match frames(alloc, second) {
+        Ok(Some(content)) => Ok(Some((name, content))),
+        Ok(None) => {
+            drop(name);
+            Ok(None)
+        }
+        Err(OutOfMemory) => {
+            drop(name);
+            Err(OutOfMemory)
+        }
     }
 }
 

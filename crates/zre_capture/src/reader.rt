@@ -57,7 +57,7 @@ fn read_head(
         Format::First => Ok(text == b"zre-capture 1".as_slice()),
         Format::Second => match head::settings(alloc, text)? {
             Some(settings) => {
-                *told = Some(settings);
+                drop(told.replace(settings));
                 Ok(true)
             }
             None => Ok(false),
@@ -173,12 +173,23 @@ fn gather(left: &mut Octets, place: Place, text: &[u8]) -> Result<(), CaptureFau
 
 /// A reader of a capture that is handed the octets in any pieces. It keeps the octets of the line that isn't whole, and
 /// reads a line that lies whole in a piece where it lies.
-#[derive(Drop)]
 pub struct CaptureReader {
     alloc: Global,
     place: Place,
     told: Option<Settings>,
     left: Octets,
+}
+
+// By hand, so that each way out calls it. A derived drop is inlined there, field by field, and proved each time.
+impl Drop for CaptureReader {
+    fn drop(self) {
+        let CaptureReader {
+            alloc: _,
+            place: _,
+            told: _told,
+            left: _left,
+        } = self;
+    }
 }
 
 impl Model for CaptureReader {
@@ -233,6 +244,32 @@ impl CaptureReader {
         self.told.as_ref()
     }
 
+    // Reads the line of which these octets are the end. Gives the reading of its entry, or that before it.
+    fn read_end(&mut self, text: &[u8], out: &mut Entries) -> Result<u64, CaptureFault>
+        requires { Waits self.old }
+        ensures ok { IfOk result (λ at. (es : List EntryValue)
+            × (line_of self.old.place (self.old.left ++ text.now) ≡ Some es) × (out.new ≡ out.old ++ es)
+            × (at ≡ last_reading self.old.place.before es)
+            × (self.new.told ≡ told_after self.old.place (self.old.left ++ text.now) self.old.told)) }
+        ensures refused { IfErr result (λ e. Refuses e (λ b.
+            (line_of self.old.place (self.old.left ++ text.now) ≡ None)
+            × (b ≡ bad_line self.old.place (self.old.left ++ text.now)))) }
+        ensures kept { OnErr result (out.new ≡ out.old) }
+        ensures kept_told { OnErr result (self.new.told ≡ self.old.told) }
+    {
+        if self.left.is_empty() {
+            return read_whole(self.alloc, self.place, &mut self.told, text, out);
+        }
+        gather(&mut self.left, self.place, text)?;
+        read_whole(
+            self.alloc,
+            self.place,
+            &mut self.told,
+            self.left.as_slice(),
+            out,
+        )
+    }
+
     // Reads what a line feed ends.
     fn take_line(&mut self, text: &[u8], out: &mut Entries) -> Result<(), CaptureFault>
         requires { Waits self.old }
@@ -245,22 +282,12 @@ impl CaptureReader {
         ensures kept { OnErr result (out.new ≡ out.old) }
         ensures kept_told { OnErr result (self.new.told ≡ self.old.told) }
     {
-        let line = self.place.line.checked_add(1).ok_or(OutOfMemory)?;
-        let before = if self.left.is_empty() {
-            read_whole(self.alloc, self.place, &mut self.told, text, out)?
-        } else {
-            gather(&mut self.left, self.place, text)?;
-            read_whole(
-                self.alloc,
-                self.place,
-                &mut self.told,
-                self.left.as_slice(),
-                out,
-            )?
-        };
+        let place = self.place;
+        let line = place.line.checked_add(1).ok_or(OutOfMemory)?;
+        let before = self.read_end(text, out)?;
         self.left.clear();
         self.place = Place {
-            format: self.place.format,
+            format: place.format,
             line,
             before,
         };

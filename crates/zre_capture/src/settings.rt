@@ -6,7 +6,7 @@ ghost use Rattle.zre_capture.specs.Heads.{are_valid};
 use zre_values::{Octets, Pairs, PeerId, are_settings};
 
 /// Who a node is, and how long it waits for the others: what a head of format 2 says.
-#[derive(Debug, Drop)]
+#[derive(Debug)]
 pub struct Settings {
     /// The identity by which other nodes know it.
     pub id: PeerId,
@@ -22,6 +22,21 @@ pub struct Settings {
     pub evasive: u64,
     /// Milliseconds of silence after which it has expired.
     pub expired: u64,
+}
+
+// By hand, so that each way out calls it. A derived drop is inlined there, field by field, and proved each time.
+impl Drop for Settings {
+    fn drop(self) {
+        let Settings {
+            id: _,
+            name: _name,
+            headers: _headers,
+            host: _host,
+            port: _,
+            evasive: _,
+            expired: _,
+        } = self;
+    }
 }
 
 impl Settings {

@@ -83,7 +83,10 @@ fn body(alloc: Global, k: u32, x: u64) -> Result<(Body, u64), OutOfMemory>
     if kind == 2 {
         return Ok((Body::Whisper { content }, x));
     }
-    let group = group(alloc)?;
+    let Ok(group) = group(alloc) else {
+        drop(content);
+        return Err(OutOfMemory);
+    };
     Ok((Body::Shout { group, content }, x))
 }
 
@@ -92,7 +95,9 @@ pub(crate) fn push_message(out: &mut Octets, message: Message) -> Result<(), Out
     requires { Fits message }
     ensures { OnOk result (out.new ≡ out.old ++ octets message) }
 {
-    message.push_to(out)
+    let pushed = message.push_to(out);
+    drop(message);
+    pushed
 }
 
 // Its octets in place of what stands there, and where the draws stand after its content.
@@ -130,9 +135,10 @@ pub(crate) fn talk(
     let x = drawn(spell(alloc, buffer, k, x)?);
     let octets = buffer.as_slice();
     let (first, second) = octets.split_at(cut_by(upper_half(x), octets.len()));
-    Ok(Pieces {
-        first: Octets::copy(alloc, first)?,
-        second: Octets::copy(alloc, second)?,
-        x,
-    })
+    let first = Octets::copy(alloc, first)?;
+    let Ok(second) = Octets::copy(alloc, second) else {
+        drop(first);
+        return Err(OutOfMemory);
+    };
+    Ok(Pieces { first, second, x })
 }

@@ -10,24 +10,24 @@ pub members-init : goal.members-init
 members-init c =
     ap (λ (hs : List (List ℕ × List ℕ)). with_more hs (headers_in (between 44 c.args.field.now))) c.new-headers.ensures ∙ with_none (headers_in (between 44 c.args.field.now))
 
-pub returns-then-not-branch : goal.returns-then-not-branch
-returns-then-not-branch c =
+pub returns-then-not-one : goal.returns-then-not-one
+returns-then-not-one c =
     let cut = between-cut 44 c.members.rest.now c.in-Some.member.now c.in-Some.after.now c.in-Some.ensures.parts c.in-Some.ensures.first in
-    bad_read c.members.headers c.members.rest.now c.in-Some.member.now c.in-Some.after.now (headers_in (between 44 c.args.field.now)) cut (sym c.in_ok-push_header.ensures.test ∙ c.if-not-branch.true) c.members.invariant
+    bad_read c.members.headers c.members.rest.now c.in-Some.member.now c.in-Some.after.now (headers_in (between 44 c.args.field.now)) cut (sym c.in-Ok.ensures.test ∙ c.if-not-one.true) c.members.invariant
 
 pub members-preserved : goal.members-preserved
 members-preserved c =
     let cut = between-cut 44 c.members.rest.now c.in-Some.member.now c.in-Some.after.now c.in-Some.ensures.parts c.in-Some.ensures.first in
-    let pushed = OnTrue_at c.if-not-branch.false c.in_ok-push_header.ensures.pushed in
+    let pushed = OnTrue_at c.if-not-one.false c.in-Ok.ensures.pushed in
     cut_read c.members.headers c.push_header.new.headers c.members.rest.now c.in-Some.member.now c.in-Some.after.now pushed.0 (headers_in (between 44 c.args.field.now)) cut pushed.1 pushed.2 c.members.invariant
 
-pub returns-then-branch : goal.returns-then-branch
-returns-then-branch c =
+pub returns-then-last : goal.returns-then-last
+returns-then-last c =
     let whole = between-whole 44 c.members.rest.now c.in_default.ensures.none in
-    let pushed = OnTrue_at c.if-branch.true c.in_ok-push_header-2.ensures.pushed in
+    let pushed = OnTrue_at c.if-last.true c.in-Ok-push_header.ensures.pushed in
     last_read c.members.headers c.push_header-2.new.headers c.members.rest.now pushed.0 (headers_in (between 44 c.args.field.now)) whole pushed.1 pushed.2 c.members.invariant
 
-pub returns-else-branch : goal.returns-else-branch
-returns-else-branch c =
+pub returns-else-last : goal.returns-else-last
+returns-else-last c =
     let whole = between-whole 44 c.members.rest.now c.in_default.ensures.none in
-    last_bad c.members.headers c.members.rest.now (headers_in (between 44 c.args.field.now)) whole (sym c.in_ok-push_header-2.ensures.test ∙ c.if-branch.false) c.members.invariant
+    last_bad c.members.headers c.members.rest.now (headers_in (between 44 c.args.field.now)) whole (sym c.in-Ok-push_header.ensures.test ∙ c.if-last.false) c.members.invariant
