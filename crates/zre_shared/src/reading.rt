@@ -71,9 +71,16 @@ fn pair(alloc: Global, key: &[u8], value: &[u8]) -> Result<Option<(Octets, Octet
     let Some(key) = short(alloc, key, KEY_OCTETS)? else {
         return Ok(None);
     };
-    match short(alloc, value, VALUE_OCTETS)? {
-        Some(value) => Ok(Some((key, value))),
-        None => Ok(None),
+    match short(alloc, value, VALUE_OCTETS) {
+        Ok(Some(value)) => Ok(Some((key, value))),
+        Ok(None) => {
+            drop(key);
+            Ok(None)
+        }
+        Err(OutOfMemory) => {
+            drop(key);
+            Err(OutOfMemory)
+        }
     }
 }
 
@@ -89,13 +96,14 @@ pub(crate) fn said_by(alloc: Global, fields: Fields<'_>) -> Result<Option<Write>
     let Some(id) = id(fields.id) else {
         return Ok(None);
     };
-    match pair(alloc, fields.key, fields.value)? {
-        Some((key, value)) => Ok(Some(Write {
+    match pair(alloc, fields.key, fields.value) {
+        Ok(Some((key, value))) => Ok(Some(Write {
             key,
             count,
             id,
             value,
         })),
-        None => Ok(None),
+        Ok(None) => Ok(None),
+        Err(OutOfMemory) => Err(OutOfMemory),
     }
 }

@@ -20,12 +20,23 @@ use zre_values::{Octets, OutOfMemory, PeerId};
 
 /// What a member holds of the shared table: for each key the greatest of the writes that it took and made. It holds as
 /// many keys as come.
-#[derive(Drop)]
 pub struct Replica {
     writes: BTreeMap<Vec<u8>, Write>,
     greatest: u64,
     id: PeerId,
     alloc: Global,
+}
+
+// By hand, so that each way out calls it. A derived drop is inlined there, field by field, and proved each time.
+impl Drop for Replica {
+    fn drop(self) {
+        let Replica {
+            writes: _writes,
+            greatest: _,
+            id: _,
+            alloc: _,
+        } = self;
+    }
 }
 
 impl Model for Replica {
@@ -98,7 +109,7 @@ impl Replica {
             return Ok(());
         }
         let key = Vec::from_slice(self.alloc, write.key.as_slice())?;
-        self.writes.insert(key, write)?;
+        drop(self.writes.insert(key, write)?);
         self.greatest = greatest;
         Ok(())
     }
@@ -119,6 +130,30 @@ impl Replica {
         }
     }
 
+    // The write of a value for a key that comes next.
+    fn make(&self, key: &[u8], value: &[u8]) -> Result<Write, SetFault>
+        requires key { length key.now ≤ KEY_OCTETS }
+        requires value { length value.now ≤ VALUE_OCTETS }
+        ensures made { IfOk result (λ write. write ≡ next_write self.now key.now value.now) }
+        ensures is { IfOk result (λ write. IsWrite write) }
+        ensures spent { (result ≡ Err SetFault.Spent) ↔ (greatest_count self.now.writes ≡ 2 ^ 64 - 1) }
+    {
+        let Some(count) = self.greatest.checked_add(1) else {
+            return Err(SetFault::Spent);
+        };
+        let name = Octets::copy(self.alloc, key)?;
+        let Ok(text) = Octets::copy(self.alloc, value) else {
+            drop(name);
+            return Err(SetFault::OutOfMemory);
+        };
+        Ok(Write {
+            key: name,
+            count,
+            id: self.id,
+            value: text,
+        })
+    }
+
     /// Writes a value for a key, with a count above every count that is held, and gives the frame to be shouted to the
     /// group.
     pub fn set(&mut self, key: &[u8], value: &[u8]) -> Result<Octets, SetFault>
@@ -131,17 +166,12 @@ impl Replica {
         ensures spent { (result ≡ Err SetFault.Spent) ↔ (greatest_count self.old.writes ≡ 2 ^ 64 - 1) }
         ensures err { OnErr result (self.new ≡ self.old) }
     {
-        let Some(count) = self.greatest.checked_add(1) else {
-            return Err(SetFault::Spent);
-        };
-        let write = Write {
-            key: Octets::copy(self.alloc, key)?,
-            count,
-            id: self.id,
-            value: Octets::copy(self.alloc, value)?,
-        };
+        let write = self.make(key, value)?;
         let frame = write.frame(self.alloc)?;
-        self.put(write)?;
+        let Ok(()) = self.put(write) else {
+            drop(frame);
+            return Err(SetFault::OutOfMemory);
+        };
         Ok(frame)
     }
 
@@ -180,7 +210,14 @@ impl Replica {
     {
         let mut gathered = Gathered::new(self.alloc, peer);
         for write in self.writes.values() {
-            gathered.push(write.write(self.alloc)?)?;
+            let Ok(frame) = write.write(self.alloc) else {
+                drop(gathered);
+                return Err(OutOfMemory);
+            };
+            let Ok(()) = gathered.push(frame) else {
+                drop(gathered);
+                return Err(OutOfMemory);
+            };
         }
         gathered.finish()
     }

@@ -1,7 +1,8 @@
 //! Writes as frames of content.
 
-ghost use Rattle.std.specs.Prelude.{◌≡◌, ◌≤◌, ◌++◌, length, IfOk, OnOk};
+ghost use Rattle.std.specs.Prelude.{◌≡◌, ◌≤◌, ◌∷◌, ◌++◌, [], length, decimal, IfOk, OnOk};
 ghost use Rattle.std.specs.Prelude.{Some};
+ghost use Rattle.zre_values.specs.Text.{id_text};
 ghost use Rattle.zre_shared.specs.Lines.{line};
 ghost use Rattle.zre_shared.specs.Writes.{head_text, IsWrite, write_text, write_of};
 
@@ -16,7 +17,7 @@ pub const KEY_OCTETS: usize = 255;
 pub const VALUE_OCTETS: usize = 65535;
 
 /// What a member of a group wrote into the shared table.
-#[derive(Debug, Drop)]
+#[derive(Debug)]
 pub struct Write {
     /// The key, at most [`KEY_OCTETS`] octets.
     pub key: Octets,
@@ -28,15 +29,34 @@ pub struct Write {
     pub value: Octets,
 }
 
+// By hand, so that each way out calls it. A derived drop is inlined there, field by field, and proved each time.
+impl Drop for Write {
+    fn drop(self) {
+        let Write {
+            key: _key,
+            count: _,
+            id: _,
+            value: _value,
+        } = self;
+    }
+}
+
+// Appends a count and an identity, each with a space after it.
+fn push_stamp(out: &mut Octets, count: u64, id: PeerId) -> Result<(), OutOfMemory>
+    ensures { OnOk result (out.new ≡ out.old ++ (decimal count ++ (32 ∷ (id_text id ++ 32 ∷ [])))) }
+{
+    push_decimal(out, count)?;
+    out.push(b' ')?;
+    id.push_to(out)?;
+    out.push(b' ')
+}
+
 // Appends the fields before the key.
 fn push_head(out: &mut Octets, count: u64, id: PeerId) -> Result<(), OutOfMemory>
     ensures { OnOk result (out.new ≡ out.old ++ head_text count id) }
 {
     out.append(b"zre-set ")?;
-    push_decimal(out, count)?;
-    out.push(b' ')?;
-    id.push_to(out)?;
-    out.push(b' ')
+    push_stamp(out, count, id)
 }
 
 impl Write {
@@ -59,11 +79,20 @@ impl Write {
         ensures { IfOk result (λ frame. frame ≡ write_text self.now) }
     {
         let mut frame = Octets::new(alloc);
-        push_head(&mut frame, self.count, self.id)?;
-        push_quoted(&mut frame, self.key.as_slice())?;
-        frame.push(b' ')?;
-        push_quoted(&mut frame, self.value.as_slice())?;
+        let Ok(()) = self.push_frame(&mut frame) else {
+            drop(frame);
+            return Err(OutOfMemory);
+        };
         Ok(frame)
+    }
+
+    fn push_frame(&self, out: &mut Octets) -> Result<(), OutOfMemory>
+        ensures { OnOk result (out.new ≡ out.old ++ write_text self.now) }
+    {
+        push_head(out, self.count, self.id)?;
+        push_quoted(out, self.key.as_slice())?;
+        out.push(b' ')?;
+        push_quoted(out, self.value.as_slice())
     }
 
     // The frame of a write that a member makes, which every member reads as that write.
@@ -81,10 +110,7 @@ impl Write {
     {
         push_quoted(out, self.key.as_slice())?;
         out.push(b' ')?;
-        push_decimal(out, self.count)?;
-        out.push(b' ')?;
-        self.id.push_to(out)?;
-        out.push(b' ')?;
+        push_stamp(out, self.count, self.id)?;
         push_quoted(out, self.value.as_slice())?;
         out.push(b'\n')
     }

@@ -30,12 +30,12 @@ push-requires-clause-gathered c = c.loop-write.invariant.gathered
 pub push-requires-clause-fits : goal.push-requires-clause-fits
 push-requires-clause-fits c =
     let is : IsWrite c.in-Some.write.now = fits-next c.args.peer c.args.self.now.writes c.loop-write.write-iterator c.next.new.self c.in-Some.write.now c.loop-write.gathered c.loop-write.invariant c.in-Some.ensures.steps in
-    omega (arith, ap (length {A = ℕ}) c.in_ok-write.ensures, frame-short c.in-Some.write.now is)
+    omega (arith, ap (length {A = ℕ}) c.in-Ok.ensures, frame-short c.in-Some.write.now is)
 
 pub loop-write-preserved : goal.loop-write-preserved
 loop-write-preserved c =
-    stepped c.args.peer c.args.self.now.writes c.loop-write.write-iterator c.next.new.self c.in-Some.write.now c.loop-write.gathered c.push.new.self c.in_ok-write.field-0
-    c.loop-write.invariant c.in-Some.ensures.steps c.in_ok-write.ensures c.in_ok-push.ensures
+    stepped c.args.peer c.args.self.now.writes c.loop-write.write-iterator c.next.new.self c.in-Some.write.now c.loop-write.gathered c.push.new.self c.in-Ok.frame
+    c.loop-write.invariant c.in-Some.ensures.steps c.in-Ok.ensures c.in-Ok-push.ensures
 
 pub finish-requires : goal.finish-requires
 finish-requires c = c.loop-write.invariant.gathered
