@@ -6,6 +6,7 @@ use Rattle.std.proofs.Math.Seq.{drop-append-add}
 use Rattle.std.proofs.lemmas.List.{take-append-drop, drop_more}
 use Rattle.std.proofs.lemmas.List.Folds.{concat-append}
 use Rattle.bytes.proofs.Chunks.{drop-append_min}
+use Rattle.zre_link.proofs.Removing.{drop_both}
 
 parted : (parts : List (List ℕ)) (i : ℕ) → concat parts ≡ concat (take i parts) ++ concat (drop i parts)
 parted parts i = ap concat (sym (take-append-drop i parts)) ∙ concat-append (take i parts) (drop i parts)
@@ -32,3 +33,13 @@ copied parts part i skip at out more lt is few added =
     ap (λ l. l ++ drop (skip - at) rest) added ∙ append_assoc out (drop at part) (drop (skip - at) rest)
     ∙ ap (λ n. out ++ (drop n part ++ drop (skip - n) rest)) few ∙ ap (λ l. out ++ l) (sym (drop-append_min part rest skip))
     ∙ ap (λ l. out ++ drop skip l) (sym (from_part parts part i lt is))
+
+-- the last of two lists, where the second has too few
+pub last_of_both : (parts newest whole got : List ℕ) (count : ℕ) → parts ++ newest ≡ whole → length newest < count → got ≡ drop (length parts - (count - length newest)) parts ++ newest
+    → got ≡ drop (length whole - count) whole
+last_of_both parts newest whole got count is few got_is =
+    let len = length-append parts newest in
+    let here : length parts - (count - length newest) ≡ length (parts ++ newest) - count = omega (arith, len, few) in
+    let none : 0 ≡ length (parts ++ newest) - count - length parts = omega (arith, len, few) in
+    got_is ∙ ap (λ n. drop n parts ++ newest) here ∙ ap (λ k. drop (length (parts ++ newest) - count) parts ++ drop k newest) none
+    ∙ drop_both (length (parts ++ newest) - count) parts newest ∙ ap (λ w. drop (length w - count) w) is

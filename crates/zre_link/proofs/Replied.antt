@@ -1,10 +1,11 @@
 -- A piece of replies, at the link.
-use Rattle.std.proofs.Common.{◌≡◌, ℕ, Bool, List, ◌++◌, Option, Some, None, Result, Ok, Err, OnOk, IfErr, sym, ap, ◌∙◌}
+use Rattle.std.proofs.Common.{◌≡◌, ℕ, Bool, List, ◌++◌, Option, Some, None, Result, Ok, Err, OnOk, IfErr, sym, ap, subst, ◌∙◌, arith}
 use Rattle.zre_values.specs.declared.peer_id.PeerId.{PeerId}
 use Rattle.zre_zmtp.specs.declared.fault.ZmtpFault.{ZmtpFault}
 use Rattle.zre_link.specs.declared.fault.ReplyFault.{ReplyFault}
 use Rattle.zre_link.specs.declared.fault.ReplyFault.TheVariants as answer
-use Rattle.zre_link.specs.Heard.{Heard, heard_after}
+use Rattle.zre_zmtp.specs.Looks.{IsPaid, IsPaidOnRefusal}
+use Rattle.zre_link.specs.Heard.{Heard, heard_after, kept_of}
 use Rattle.zre_link.specs.Link.{Sending, link_after, RefusesReply}
 use Rattle.zre_link.specs.Text.{Member}
 
@@ -29,3 +30,21 @@ on_ok (Err e) f p = p
 pub if_err : (P Q : ReplyFault → Type 0) (r : Result (Unit {0}) ReplyFault) → ((e : ReplyFault) → P e → Q e) → IfErr r P → IfErr r Q
 if_err P Q (Ok x) f p = p
 if_err P Q (Err e) f p = f e p
+
+-- the looks that a piece takes, where the same is kept by other names
+pub still_paid : (looks looks' n : ℕ) (was heard was' heard' : Heard) → was ≡ was' → heard' ≡ heard → IsPaid looks looks' (kept_of was) (kept_of heard) n → IsPaid looks looks' (kept_of was') (kept_of heard') n
+still_paid looks looks' n was heard was' heard' a b paid =
+    subst (λ h. IsPaid looks looks' (kept_of was') (kept_of h) n) (sym b) (subst (λ h. IsPaid looks looks' (kept_of h) (kept_of heard) n) a paid)
+
+pub paid_by : (looks looks' n : ℕ) (was heard was' : Heard) → was ≡ was' → IsPaid looks looks' (kept_of was) (kept_of heard) n → IsPaidOnRefusal looks looks' (kept_of was') n
+paid_by looks looks' n was heard was' a paid = let same = ap kept_of a in omega (arith, paid, same)
+
+pub refusal_paid : (looks looks' n : ℕ) (was was' : Heard) → was ≡ was' → IsPaidOnRefusal looks looks' (kept_of was) n → IsPaidOnRefusal looks looks' (kept_of was') n
+refusal_paid looks looks' n was was' a paid = subst (λ h. IsPaidOnRefusal looks looks' (kept_of h) n) a paid
+
+-- and where a refusal keeps nothing
+pub emptied_paid : (looks looks' n : ℕ) (was heard was' heard' : Heard) → was ≡ was' → heard' ≡ heard → kept_of heard ≡ 0 → IsPaidOnRefusal looks looks' (kept_of was) n → IsPaid looks looks' (kept_of was') (kept_of heard') n
+emptied_paid looks looks' n was heard was' heard' a b none paid =
+    let same = ap kept_of a in
+    let now = ap kept_of b in
+    omega (arith, paid, same, now, none)

@@ -1,8 +1,8 @@
-use Rattle.std.proofs.Common.{◌≡◌, ℕ, List, ◌++◌, None, ap, subst, ◌∙◌}
+use Rattle.std.proofs.Common.{◌≡◌, ℕ, List, ◌++◌, None, length, refl, ap, subst, ◌∙◌}
 use Rattle.zre_zmtp.specs.Ping.{contexts_in}
 use Rattle.zre_link.specs.Heard.{reply_fault}
 use Rattle.zre_link.specs.Link.{Sending, link_after, unsent_of, slow_at, answering}
-use Rattle.zre_link.proofs.Replied.{read, answers_refused}
+use Rattle.zre_link.proofs.Replied.{read, answers_refused, still_paid, paid_by, refusal_paid, emptied_paid}
 use Rattle.zre_link.proofs.link.Link.reply_counted.Goals as goal
 
 pub returns-in-Ok-answer-clause-ok : goal.returns-in-Ok-answer-clause-ok
@@ -54,3 +54,30 @@ returns-in-Err-Zmtp-clause-refused g c = λ own line linked o n e.
     let same = ap contexts_in c.as_slice-in-Err-Zmtp.ensures ∙ fed.1.1 in
     answers_refused c.in-Err-answer.slow _ _ (reply_fault (o ++ p)) (ap (slow_at (unsent_of own line n)) same)
     (λ q. subst (λ (cs : List (List ℕ)). c.answer-in-Err-Zmtp.new.self ≡ link_after own (answering own line n cs) linked (o ++ p) n) same q) (c.in-Err-answer.ensures.refused own line linked (o ++ p) n now)
+
+pub returns-in-Ok-answer-clause-looks : goal.returns-in-Ok-answer-clause-looks
+returns-in-Ok-answer-clause-looks g c = (still_paid c.args.steps.now c.feed.new.steps (length c.args.piece.now) c.self.inside.replies c.feed.new.self c.args.self.now.replies c.answer.new.self.replies (ap (λ (s : Sending). s.replies) c.self.view_is) c.answer.ensures.rest.3 c.in-Ok.ensures.looks.0, tt)
+
+pub returns-in-Ok-clause-looks : goal.returns-in-Ok-clause-looks
+returns-in-Ok-clause-looks g c = (tt, paid_by c.args.steps.now c.feed.new.steps (length c.args.piece.now) c.self.inside.replies c.feed.new.self c.args.self.now.replies (ap (λ (s : Sending). s.replies) c.self.view_is) c.in-Ok.ensures.looks.0)
+
+pub returns-in-Ok-clause-paid : goal.returns-in-Ok-clause-paid
+returns-in-Ok-clause-paid g c = λ _. still_paid c.args.steps.now c.feed.new.steps (length c.args.piece.now) c.self.inside.replies c.feed.new.self c.args.self.now.replies c.answer.new.self.replies (ap (λ (s : Sending). s.replies) c.self.view_is) c.answer.ensures.rest.3 c.in-Ok.ensures.looks.0
+
+pub returns-in-Ok-answer-2-clause-looks : goal.returns-in-Ok-answer-2-clause-looks
+returns-in-Ok-answer-2-clause-looks g c = (tt, refusal_paid c.args.steps.now c.feed.new.steps (length c.args.piece.now) c.self.inside.replies c.args.self.now.replies (ap (λ (s : Sending). s.replies) c.self.view_is) c.in-Err-Zmtp.ensures.looks.1)
+
+pub returns-in-Ok-answer-2-clause-paid : goal.returns-in-Ok-answer-2-clause-paid
+returns-in-Ok-answer-2-clause-paid g c = λ _. emptied_paid c.args.steps.now c.feed.new.steps (length c.args.piece.now) c.self.inside.replies c.feed.new.self c.args.self.now.replies c.answer-in-Err-Zmtp.new.self.replies (ap (λ (s : Sending). s.replies) c.self.view_is) c.answer-in-Err-Zmtp.ensures.rest.3 c.in-Err-Zmtp.ensures.emptied c.in-Err-Zmtp.ensures.looks.1
+
+pub returns-in-Err-Zmtp-clause-looks : goal.returns-in-Err-Zmtp-clause-looks
+returns-in-Err-Zmtp-clause-looks g c = (tt, refusal_paid c.args.steps.now c.feed.new.steps (length c.args.piece.now) c.self.inside.replies c.args.self.now.replies (ap (λ (s : Sending). s.replies) c.self.view_is) c.in-Err-Zmtp.ensures.looks.1)
+
+pub returns-in-Err-Zmtp-clause-paid : goal.returns-in-Err-Zmtp-clause-paid
+returns-in-Err-Zmtp-clause-paid g c = λ _. emptied_paid c.args.steps.now c.feed.new.steps (length c.args.piece.now) c.self.inside.replies c.feed.new.self c.args.self.now.replies c.answer-in-Err-Zmtp.new.self.replies (ap (λ (s : Sending). s.replies) c.self.view_is) c.answer-in-Err-Zmtp.ensures.rest.3 c.in-Err-Zmtp.ensures.emptied c.in-Err-Zmtp.ensures.looks.1
+
+pub returns-clause-looks : goal.returns-clause-looks
+returns-clause-looks g c = (tt, refusal_paid c.args.steps.now c.feed.new.steps (length c.args.piece.now) c.self.inside.replies c.args.self.now.replies (ap (λ (s : Sending). s.replies) c.self.view_is) c.in-Err-OutOfMemory.ensures.looks.1)
+
+pub returns-clause-paid : goal.returns-clause-paid
+returns-clause-paid g c = λ other. absurd (other refl)
