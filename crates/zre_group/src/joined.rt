@@ -23,9 +23,7 @@ pub(crate) fn list(
     if let Some(groups) = joined.get_mut(&key) {
         return groups.push(name);
     }
-    let mut groups = Frames::new(alloc);
-    groups.push(name)?;
-    joined.insert(key, groups)?;
+    joined.insert(key, Frames::of(alloc, name))?;
     Ok(())
 }
 
