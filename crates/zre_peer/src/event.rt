@@ -2,7 +2,7 @@ use crate::causes::{Cause, CloseWhy, IgnoreWhy, RefuseWhy};
 use zre_values::{Frames, List, Octets, Pairs, PeerId};
 
 /// What the node tells. The events are those of the zyre manual; `name` is the peer's own.
-#[derive(Debug, Drop)]
+#[derive(Debug)]
 pub enum Event {
     /// A peer has come; of headers of one name it has the first.
     Enter {
@@ -63,6 +63,51 @@ pub enum Event {
     Refused {
         why: RefuseWhy,
     },
+}
+
+// By hand, so that each way out calls it. A derived drop is inlined there, form by form, and proved each time.
+impl Drop for Event {
+    fn drop(self) {
+        match self {
+            Event::Enter {
+                id: _,
+                name: _name,
+                endpoint: _endpoint,
+                headers: _headers,
+            } => {}
+            Event::Join {
+                id: _,
+                name: _name,
+                group: _group,
+            } => {}
+            Event::Leave {
+                id: _,
+                name: _name,
+                group: _group,
+            } => {}
+            Event::Whisper {
+                id: _,
+                name: _name,
+                content: _content,
+            } => {}
+            Event::Shout {
+                id: _,
+                name: _name,
+                group: _group,
+                content: _content,
+            } => {}
+            Event::Evasive { id: _, name: _name } => {}
+            Event::Exit {
+                id: _,
+                name: _name,
+                cause: _,
+            } => {}
+            Event::Stop => {}
+            Event::Closed { conn: _, why: _ } => {}
+            Event::Ignored { conn: _, why: _ } => {}
+            Event::Refused { why: _why } => {}
+        }
+    }
 }
 
 /// A list of events.
