@@ -13,11 +13,21 @@ pub struct Place<'a> {
 
 /// The text so far, and how many rows there were and how many of them failed. What is wrong outside of a row counts
 /// as failed, too.
-#[derive(Drop)]
 pub struct Report {
     pub text: Text,
     rows: u64,
     failed: u64,
+}
+
+// By hand, so that each way out calls it. A derived drop is inlined there, field by field, and proved each time.
+impl Drop for Report {
+    fn drop(self) {
+        let Report {
+            text: _text,
+            rows: _,
+            failed: _,
+        } = self;
+    }
 }
 
 impl Report {

@@ -6,7 +6,6 @@ use std::alloc::Global;
 
 /// A row: its title, the step that was done last with what it answered and what it is to answer, and how many lines
 /// are to be answered so far.
-#[derive(Drop)]
 pub struct Row {
     /// Not so before the first row of a file.
     pub is_row: bool,
@@ -16,6 +15,21 @@ pub struct Row {
     pub due: Text,
     answers: u64,
     pub has_failed: bool,
+}
+
+// By hand, so that each way out calls it. A derived drop is inlined there, field by field, and proved each time.
+impl Drop for Row {
+    fn drop(self) {
+        let Row {
+            is_row: _,
+            title: _title,
+            line: _,
+            answer: _answer,
+            due: _due,
+            answers: _,
+            has_failed: _,
+        } = self;
+    }
 }
 
 impl Row {

@@ -24,7 +24,6 @@ use zre_values::{Frames, Octets, OutOfMemory};
 
 /// `on command WORD WORD ..`: the words of a command line, as quoted texts, what the command is run over, and what came
 /// of its last run.
-#[derive(Drop)]
 pub struct Commands {
     words: Frames,
     input: Text,
@@ -43,6 +42,26 @@ pub struct Commands {
     told: Text,
     kept: Text,
     file: Text,
+}
+
+// By hand, so that each way out calls it. A derived drop is inlined there, field by field, and proved each time.
+impl Drop for Commands {
+    fn drop(self) {
+        let Commands {
+            words: _words,
+            input: _input,
+            script: _script,
+            fails: _fails,
+            sizes: _sizes,
+            most: _,
+            limit: _,
+            due: _due,
+            left: _,
+            told: _told,
+            kept: _kept,
+            file: _file,
+        } = self;
+    }
 }
 
 /// A run of any command: with a limit, or with that of the program.

@@ -12,7 +12,6 @@ use zre_values::Octets;
 
 /// `on memory HEX NUMBER NUMBER ..`: one of each. The sources hold the octets, and the calls of those with a list fail
 /// at its numbers.
-#[derive(Drop)]
 pub struct Memory {
     source: MemSource,
     sure_source: SureSource,
@@ -20,6 +19,20 @@ pub struct Memory {
     sure_sink: SureSink,
     recorder: MemRecorder,
     sure_recorder: SureRecorder,
+}
+
+// By hand, so that each way out calls it. A derived drop is inlined there, field by field, and proved each time.
+impl Drop for Memory {
+    fn drop(self) {
+        let Memory {
+            source: _source,
+            sure_source: _sure_source,
+            sink: _sink,
+            sure_sink: _sure_sink,
+            recorder: _recorder,
+            sure_recorder: _sure_recorder,
+        } = self;
+    }
 }
 
 // The octets, of which each source has its own.

@@ -11,17 +11,36 @@ use zre_outside::{Act, Command, NextFault, ScriptWorld, SureWorld, Turn, World};
 
 /// `on world NUMBER NUMBER ..`: a script, and the two worlds that play it from its first turn that is asked for. The
 /// numbers are those of the turns that fail in the world with a list.
-#[derive(Drop)]
 pub struct Worlds {
     script: Text,
     fails: Vec<u64>,
     played: Option<Played>,
 }
 
-#[derive(Drop)]
+// By hand, so that each way out calls it. A derived drop is inlined there, field by field, and proved each time.
+impl Drop for Worlds {
+    fn drop(self) {
+        let Worlds {
+            script: _script,
+            fails: _fails,
+            played: _played,
+        } = self;
+    }
+}
+
 struct Played {
     first: ScriptWorld,
     sure: SureWorld,
+}
+
+// By hand, so that each way out calls it. A derived drop is inlined there, field by field, and proved each time.
+impl Drop for Played {
+    fn drop(self) {
+        let Played {
+            first: _first,
+            sure: _sure,
+        } = self;
+    }
 }
 
 impl Subject for Worlds {

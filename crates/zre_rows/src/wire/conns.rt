@@ -10,11 +10,21 @@ use zre_mailbox::{Arrival, Arrivals, Conn};
 use zre_values::PeerId;
 
 /// `on conns ID`: a connection to the node with this identity, and what arrived with the last step.
-#[derive(Drop)]
 pub struct Conns {
     own: PeerId,
     conn: Conn,
     arrivals: Arrivals,
+}
+
+// By hand, so that each way out calls it. A derived drop is inlined there, field by field, and proved each time.
+impl Drop for Conns {
+    fn drop(self) {
+        let Conns {
+            own: _,
+            conn: _conn,
+            arrivals: _arrivals,
+        } = self;
+    }
 }
 
 fn push_arrivals(out: &mut Text, arrivals: &Arrivals) {

@@ -7,9 +7,15 @@ use crate::words::Words;
 use zre_group::{JoinFault, NoGroup, Own};
 
 /// `on own`: the groups, from none on.
-#[derive(Drop)]
 pub struct OwnGroups {
     own: Own,
+}
+
+// By hand, so that each way out calls it. A derived drop is inlined there, field by field, and proved each time.
+impl Drop for OwnGroups {
+    fn drop(self) {
+        let OwnGroups { own: _own } = self;
+    }
 }
 
 fn push_joined(answer: &mut Text, joined: Result<u8, JoinFault>) {

@@ -11,11 +11,21 @@ use zre_zmtp::{Item, Items, Reader, Want, What};
 
 /// `on streams traffic`, `any`, `router` or `dealer ID`, where the identity is the node's own: a reader with the items
 /// of the last step, and what it wants; traffic alone where it wants nothing.
-#[derive(Drop)]
 pub struct Streams {
     want: Option<Want>,
     reader: Reader,
     items: Items,
+}
+
+// By hand, so that each way out calls it. A derived drop is inlined there, field by field, and proved each time.
+impl Drop for Streams {
+    fn drop(self) {
+        let Streams {
+            want: _want,
+            reader: _reader,
+            items: _items,
+        } = self;
+    }
 }
 
 fn reader_of(alloc: Global, want: Option<Want>) -> Reader {

@@ -19,10 +19,19 @@ struct Touch {
 }
 
 /// `on timers`: what was done to the keys so far.
-#[derive(Drop)]
 pub struct Moments {
     alloc: Global,
     touches: Vec<Touch>,
+}
+
+// By hand, so that each way out calls it. A derived drop is inlined there, field by field, and proved each time.
+impl Drop for Moments {
+    fn drop(self) {
+        let Moments {
+            alloc: _,
+            touches: _touches,
+        } = self;
+    }
 }
 
 fn change(timers: &mut Timers, now: u64, touch: Touch, answer: &mut Text)

@@ -3,10 +3,19 @@
 use zre_outside::{MemSink, NextFault, Sink};
 
 /// A sink that takes at most so many octets a write, and one at least.
-#[derive(Drop)]
 pub struct Narrow {
     inner: MemSink,
     most: usize,
+}
+
+// By hand, so that each way out calls it. A derived drop is inlined there, field by field, and proved each time.
+impl Drop for Narrow {
+    fn drop(self) {
+        let Narrow {
+            inner: _inner,
+            most: _,
+        } = self;
+    }
 }
 
 impl Narrow {
