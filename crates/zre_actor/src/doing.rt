@@ -53,6 +53,7 @@ pub(crate) fn take_entry<W: World, R: Recorder>(
 {
     is_value(&entry);
     if let Err(ending) = keep_line(rec, buffer, keep, *before, &entry) {
+        drop(entry);
         return Err(ending);
     }
     *before = entry.at;
@@ -60,8 +61,11 @@ pub(crate) fn take_entry<W: World, R: Recorder>(
         return Err(Ending::OutOfMemory);
     };
     if do_all(world, node, acts.as_slice()) {
+        drop(acts);
         Ok(events)
     } else {
+        drop(acts);
+        drop(events);
         Err(Ending::OutOfMemory)
     }
 }

@@ -66,6 +66,7 @@ impl Pipes {
         let mut command = None;
         for turn in 0..limit {
             if node.stopped() {
+                drop(command);
                 return self.leave(rt, world, node, rec, pass, Ending::Stopped);
             }
             let answer = match world.next(command) {
@@ -92,6 +93,7 @@ impl Pipes {
                 }
             }
         }
+        drop(command);
         let ending = last_ending(&node);
         self.leave(rt, world, node, rec, pass, ending)
     }

@@ -1,10 +1,10 @@
 //! The pipes are made.
-ghost use Rattle.std.specs.Prelude.{◌≡◌, ◌≤◌, ◌<◌, ◌+◌, [], length, IfOk, None, All};
+ghost use Rattle.std.specs.Prelude.{◌≡◌, ◌≤◌, ◌<◌, ◌+◌, ◌-◌, true, [], length, IfOk, OnOk, None, All};
 ghost use Rattle.crossbeam_queue.specs.Passes.{view, IsPassOf, IsSamePass};
 ghost use Rattle.zre_actor.specs.Passes.{IsCallerOf, IsActorOf, IsTakerOf, AreCallersOf, numbers_of, fresh_of};
 ghost use Rattle.zre_actor.specs.Passes.{given_of, room_of, IsNew, popped_by, unused_by, raised_by, ending_of};
 ghost use Rattle.zre_actor.specs.Passes.{taken_by, last_of};
-ghost use Rattle.zre_actor.specs.Commands.{row, without_one, one_caller};
+ghost use Rattle.zre_actor.specs.Commands.{view as known, first, row, without_one, one_caller};
 
 use super::{ActorPass, CallerPass, CallerPasses, Made, Pipes, TakerPass};
 use crate::Told;
@@ -33,20 +33,24 @@ impl Pipes {
         ensures events { IfOk result (λ m. (raised_by m.actor ≡ []) × (ending_of m.actor ≡ None)
             × (taken_by m.taker ≡ []) × (last_of m.taker ≡ None)) }
     {
-        let mut fresh = Vec::with_capacity(alloc, usize::from(callers))?;
-        let given = Vec::with_capacity(alloc, usize::from(callers))?;
         let (commands, mut actor) = Commands::ruled(alloc, ROOM)?;
-        let (events_in, events_out, mut events) = bounded_with::<
+        let Ok(callers) = new_callers(alloc, callers, &commands, &mut actor) else {
+            drop(actor);
+            drop(commands);
+            return Err(OutOfMemory);
+        };
+        let Ok((events_in, events_out, mut events)) = bounded_with::<
             Told,
             Hearing,
             EventsInOrder,
             Global,
-        >(alloc, ROOM)?;
+        >(alloc, ROOM) else {
+            drop(callers);
+            drop(actor);
+            drop(commands);
+            return Err(OutOfMemory);
+        };
         let taker = events_in.another::<Ends>(&mut events);
-        for number in 0..callers {
-            prove!(number < 16);
-            fresh.push(new_caller(&commands, &mut actor))?;
-        }
         Ok(Made {
             pipes: Pipes {
                 alloc,
@@ -59,10 +63,39 @@ impl Pipes {
                 events,
                 empties: 0,
             },
-            callers: CallerPasses { fresh, given },
+            callers,
             taker: TakerPass { events: taker },
         })
     }
+}
+
+// So many callers, with the first numbers.
+fn new_callers(
+    alloc: Global,
+    count: u8,
+    commands: &Commands,
+    actor: &mut Pass<Command, View>,
+) -> Result<CallerPasses, OutOfMemory>
+    requires few { count ≤ 16 }
+    requires queue { IsPassOf commands.now actor.old }
+    requires first { view actor.old ≡ first }
+    ensures queue { OnOk result (IsPassOf commands.now actor.new) }
+    ensures actor { OnOk result (view actor.new ≡ known true [] [] [] (row (1 + count) (16 - count)) []) }
+    ensures callers { IfOk result (λ c. All (λ p. IsPassOf commands.now p.commands) (fresh_of c)) }
+    ensures numbers { IfOk result (λ c. numbers_of (fresh_of c) ≡ row 1 count) }
+    ensures new { IfOk result (λ c. All IsNew (fresh_of c)) }
+    ensures given { IfOk result (λ c. (given_of c ≡ []) × (count ≤ room_of c)) }
+{
+    let mut fresh = Vec::with_capacity(alloc, usize::from(count))?;
+    let Ok(given) = Vec::with_capacity(alloc, usize::from(count)) else {
+        drop(fresh);
+        return Err(OutOfMemory);
+    };
+    for number in 0..count {
+        prove!(number < 16);
+        fresh.push_reserved(new_caller(commands, actor));
+    }
+    Ok(CallerPasses { fresh, given })
 }
 
 // A caller with the first unused number.
