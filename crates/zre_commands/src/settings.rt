@@ -29,10 +29,15 @@ pub fn as_config(alloc: Global, settings: &Settings) -> Result<Config, OutOfMemo
     ensures { IfOk result (λ config. config ≡ as_config settings.now) }
 {
     let host = settings.host;
+    let name = Octets::copy(alloc, settings.name.as_slice())?;
+    let Ok(headers) = Pairs::copy(alloc, &settings.headers) else {
+        drop(name);
+        return Err(OutOfMemory);
+    };
     Ok(Config {
         id: settings.id,
-        name: Octets::copy(alloc, settings.name.as_slice())?,
-        headers: Pairs::copy(alloc, &settings.headers)?,
+        name,
+        headers,
         host,
         port: settings.port,
         evasive: settings.evasive,

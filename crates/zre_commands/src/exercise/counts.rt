@@ -39,6 +39,15 @@ fn octets_of(content: &Frames) -> Result<u64, OutOfMemory>
     }
 }
 
+// One more event of a kind with content, and its octets.
+fn raise_both(count: &mut u64, octets: &mut u64, content: &Frames) -> Result<(), OutOfMemory>
+    ensures count { OnOk result (count.new ≡ count.old + 1) }
+    ensures octets { OnOk result (octets.new ≡ octets.old + sum_by length content.now) }
+{
+    raise(count, 1)?;
+    raise(octets, octets_of(content)?)
+}
+
 impl Counts {
     ghost use Rattle.zre_commands.specs.exercise.Counts.{nothing, with_entry, with_event, tally};
 
@@ -74,12 +83,10 @@ impl Counts {
             Event::Join { .. } => raise(&mut self.join, 1),
             Event::Leave { .. } => raise(&mut self.leave, 1),
             Event::Whisper { content, .. } => {
-                raise(&mut self.whisper, 1)?;
-                raise(&mut self.content, octets_of(content)?)
+                raise_both(&mut self.whisper, &mut self.content, content)
             }
             Event::Shout { content, .. } => {
-                raise(&mut self.shout, 1)?;
-                raise(&mut self.content, octets_of(content)?)
+                raise_both(&mut self.shout, &mut self.content, content)
             }
             Event::Exit { .. } => raise(&mut self.exit, 1),
             _ => Ok(()),

@@ -33,18 +33,16 @@ fn take(
 
 // The same of all entries that are left.
 fn take_all(
-    alloc: Global,
-    exercise: Exercise,
+    exercise: &mut Exercise,
     node: &mut Node,
     counts: &mut Counts,
+    step: &mut Step,
 ) -> Result<(), OutOfMemory>
     ensures { (g : Config) (J : List EntryValue) → Counted g J node.old counts.old →
-        OnOk result (Counted g (J ++ left exercise) node.new counts.new) }
+        OnOk result (Counted g (J ++ left exercise.old) node.new counts.new) }
 {
-    let mut exercise = exercise;
-    let mut step = Step::new(alloc);
     'entries: while let Some(entry) = exercise.next()? {
-        take(node, counts, entry, &mut step)?;
+        take(node, counts, entry, step)?;
     }
     Ok(())
 }
@@ -65,11 +63,14 @@ pub fn push_summary(
 {
     let mut node = Node::new(alloc, settings(alloc)?)?;
     let mut counts = Counts::new();
-    take_all(
-        alloc,
-        Exercise::new(alloc, seed, peers, messages),
-        &mut node,
-        &mut counts,
-    )?;
-    push_counts(out, &counts)
+    let mut exercise = Exercise::new(alloc, seed, peers, messages);
+    let mut step = Step::new(alloc);
+    let taken = take_all(&mut exercise, &mut node, &mut counts, &mut step);
+    drop(step);
+    drop(exercise);
+    drop(node);
+    match taken {
+        Ok(()) => push_counts(out, &counts),
+        Err(OutOfMemory) => Err(OutOfMemory),
+    }
 }

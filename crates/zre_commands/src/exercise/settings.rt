@@ -11,9 +11,10 @@ use zre_values::{Octets, OutOfMemory, Pairs, PeerId};
 pub(crate) fn settings(alloc: Global) -> Result<Config, OutOfMemory>
     ensures { IfOk result (λ config. config ≡ settings) }
 {
+    let name = Octets::copy(alloc, b"node")?;
     Ok(Config {
         id: PeerId([0xff; 16]),
-        name: Octets::copy(alloc, b"node")?,
+        name,
         headers: Pairs::new(alloc),
         host: [10, 0, 0, 1],
         port: 49152,

@@ -56,5 +56,7 @@ pub(crate) fn push_end(
     ensures { OnOk result (out.new ≡ out.old ++ line (end_of (id_of run.now) (view_in run.now) fault)) }
 {
     let end = end_of(alloc, run, fault)?;
-    push_line(out, &end)
+    let told = push_line(out, &end);
+    drop(end);
+    told
 }

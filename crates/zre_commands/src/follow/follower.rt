@@ -14,13 +14,25 @@ use zre_zmtp::{FeedFault, Items, Reader, ZmtpFault};
 
 /// The machine of `follow`: the traffic of one connection, after its handshake, of a peer that is known. It keeps
 /// the octets of an unfinished message, and reads no more once the run has ended.
-#[derive(Drop)]
 pub struct Follower {
     alloc: Global,
     reader: Reader,
     fault: Option<ZmtpFault>,
     run: Teller,
     items: Items,
+}
+
+// By hand, so that each way out calls it. A derived drop is inlined there, field by field, and proved each time.
+impl Drop for Follower {
+    fn drop(self) {
+        let Follower {
+            alloc: _,
+            reader: _reader,
+            fault: _fault,
+            run: _run,
+            items: _items,
+        } = self;
+    }
 }
 
 impl Follower {

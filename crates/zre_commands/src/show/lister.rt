@@ -13,12 +13,23 @@ use zre_zmtp::{FeedFault, Items, Reader, ZmtpFault};
 
 /// The machine of `show`: a whole stream, from the greeting on. It keeps the octets of an unfinished message, and the
 /// items of the last piece.
-#[derive(Drop)]
 pub struct Lister {
     alloc: Global,
     reader: Reader,
     fault: Option<ZmtpFault>,
     items: Items,
+}
+
+// By hand, so that each way out calls it. A derived drop is inlined there, field by field, and proved each time.
+impl Drop for Lister {
+    fn drop(self) {
+        let Lister {
+            alloc: _,
+            reader: _reader,
+            fault: _fault,
+            items: _items,
+        } = self;
+    }
 }
 
 impl Lister {

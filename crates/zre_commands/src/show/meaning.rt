@@ -1,7 +1,7 @@
 //! What the frames of a message mean, as text. Content isn't copied: a WHISPER or SHOUT with content is known by its
 //! first frame, and its content is quoted from where it stands.
 
-ghost use Rattle.std.specs.Prelude.{◌≡◌, ◌++◌, [], ◌∷◌, IfOk, OnOk};
+ghost use Rattle.std.specs.Prelude.{◌≡◌, ◌++◌, [], ◌∷◌, List, ℕ, IfOk, OnOk};
 ghost use Rattle.zre_msg.specs.Reading.{read_frames};
 ghost use Rattle.zre_msg.specs.Spelling.{Means};
 ghost use Rattle.zre_commands.specs.show.Lines.{meaning_text};
@@ -16,7 +16,11 @@ fn push_read(alloc: Global, out: &mut Octets, frames: &Frames) -> Result<(), Out
     ensures { OnOk result (out.new ≡ out.old ++ meaning_text (read_frames frames.now)) }
 {
     match Message::read(alloc, frames) {
-        Ok(message) => push_body(out, message.sequence, &message.body),
+        Ok(message) => {
+            let told = push_body(out, message.sequence, &message.body);
+            drop(message);
+            told
+        }
         Err(ReadFault::Bad(bad)) => push_bad(out, bad),
         Err(ReadFault::OutOfMemory) => Err(OutOfMemory),
     }
@@ -26,12 +30,37 @@ fn push_read(alloc: Global, out: &mut Octets, frames: &Frames) -> Result<(), Out
 fn read_first(alloc: Global, first: &[u8]) -> Result<Message, ReadFault>
     ensures { IfOk result (λ m. Means (first.now ∷ []) m) }
 {
+    let frame = Octets::copy(alloc, first)?;
     let mut alone = Frames::new(alloc);
-    alone.push(Octets::copy(alloc, first)?)?;
-    Message::read(alloc, &alone)
+    let Ok(()) = alone.push(frame) else {
+        drop(alone);
+        return Err(ReadFault::OutOfMemory);
+    };
+    let read = Message::read(alloc, &alone);
+    drop(alone);
+    read
 }
 
-// Appends what the frames mean, where there are several: a first one and more.
+// Appends what the frames mean, where this message is what the first one means alone.
+fn push_content(
+    alloc: Global,
+    out: &mut Octets,
+    frames: &Frames,
+    message: &Message,
+    more: &[Octets],
+) -> Result<(), OutOfMemory>
+    ensures { (first : List ℕ) → frames.now ≡ first ∷ more.now → Means (first ∷ []) message.now
+        → OnOk result (out.new ≡ out.old ++ meaning_text (read_frames frames.now)) }
+{
+    let sequence = message.sequence;
+    match &message.body {
+        Body::Whisper { .. } => push_whisper(out, sequence, more),
+        Body::Shout { group, .. } => push_shout(out, sequence, group, more),
+        _ => push_read(alloc, out, frames),
+    }
+}
+
+// The same, where there are several: a first one and more.
 fn push_several(
     alloc: Global,
     out: &mut Octets,
@@ -42,14 +71,14 @@ fn push_several(
     requires { frames.now ≡ first.now ∷ more.now }
     ensures { OnOk result (out.new ≡ out.old ++ meaning_text (read_frames frames.now)) }
 {
-    if let Ok(Message { sequence, body }) = read_first(alloc, first) {
-        match body {
-            Body::Whisper { .. } => return push_whisper(out, sequence, more),
-            Body::Shout { group, .. } => return push_shout(out, sequence, &group, more),
-            _ => {}
+    match read_first(alloc, first) {
+        Ok(message) => {
+            let told = push_content(alloc, out, frames, &message, more);
+            drop(message);
+            told
         }
+        Err(_) => push_read(alloc, out, frames),
     }
-    push_read(alloc, out, frames)
 }
 
 /// Appends what the frames mean, or what is wrong with them. After an error a front of it may stand there.

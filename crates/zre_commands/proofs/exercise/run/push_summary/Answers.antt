@@ -1,6 +1,7 @@
 use Rattle.std.proofs.Common.{[], ◌++◌, ap, ◌∙◌}
 use Rattle.zre_capture.specs.Exercise.{exercise}
 use Rattle.zre_capture.specs.Left.{left}
+use Rattle.zre_commands.specs.exercise.Counted.{Counted}
 use Rattle.zre_commands.specs.exercise.Settings.{settings}
 use Rattle.zre_commands.specs.exercise.Summary.{summary}
 use Rattle.zre_commands.specs.declared.exercise.counts.Counts.{Counts}
@@ -8,10 +9,10 @@ use Rattle.zre_values.proofs.Answered.{on_ok}
 use Rattle.zre_commands.proofs.exercise.Running.{starts_with, counted_all}
 use Rattle.zre_commands.proofs.exercise.run.push_summary.Goals as goal
 
-pub returns : goal.returns
-returns c =
+pub returns-in-Ok : goal.returns-in-Ok
+returns-in-Ok c =
     let begun = starts_with c.in_ok-settings.field-0 settings c.in_ok-node.node c.new-counts.result c.in_ok-node.ensures c.in_ok-settings.ensures c.new-counts.ensures in
-    let done = c.in_ok-take_all.ensures settings [] begun in
+    let done : Counted settings (left c.new-exercise.result) c.take_all-taken.new.node c.take_all-taken.new.counts = rw c.in-Ok.is at (c.take_all-taken.ensures settings [] begun) in
     on_ok c.push_counts.result c.push_counts.ensures
     (λ p. p ∙ ap (λ (k : Counts). c.args.out.now ++ summary k)
-    (counted_all settings (left c.new-2.result) (exercise c.args.seed c.args.peers c.args.messages) c.take_all.new.node c.take_all.new.counts done c.new-2.ensures))
+    (counted_all settings (left c.new-exercise.result) (exercise c.args.seed c.args.peers c.args.messages) c.take_all-taken.new.node c.take_all-taken.new.counts done c.new-exercise.ensures))
