@@ -1,6 +1,6 @@
 //! Reads a source in pieces, feeds a machine, and writes its text.
 
-ghost use Rattle.std.specs.Prelude.{◌≡◌, ◌<◌, ◌≤◌, ◌+◌, ◌++◌, ℕ, List, [], false, length, take, OnOk, IfErr};
+ghost use Rattle.std.specs.Prelude.{◌≡◌, ◌<◌, ◌≤◌, ◌+◌, ◌++◌, ℕ, List, [], false, length, take, vec_len, OnOk, IfErr};
 ghost use Rattle.std.specs.Io.KnownBytes.{Appends};
 ghost use Rattle.zre_outside.specs.Causes.{Rose};
 ghost use Rattle.zre_outside.specs.Told.{Moves};
@@ -14,7 +14,7 @@ use zre_outside::{Failed, NextFault, PIECE, Sink, Source, room_for, write_all, z
 use zre_values::{Octets, OutOfMemory};
 
 /// How a turn ended.
-#[derive(Clone, Copy, Debug, PartialEq, Eq)]
+#[derive(Clone, Copy)]
 enum Next {
     Go,
     Stop,
@@ -25,7 +25,7 @@ enum Next {
 }
 
 /// One turn: how many octets it read, and how it ended.
-#[derive(Clone, Copy, Debug, PartialEq, Eq)]
+#[derive(Clone, Copy)]
 struct Turn {
     read: usize,
     next: Next,
@@ -129,6 +129,47 @@ fn finish<M: Machine, O: Sink>(machine: &M, taken: u64, out: &mut O, text: &mut 
     }
 }
 
+// The pump, with memory for a piece of the input and for that piece's text.
+fn pump_through<M: Machine, I: Source, O: Sink>(
+    machine: &mut M,
+    input: &mut I,
+    out: &mut O,
+    limit: u64,
+    buf: &mut Vec<u8>,
+    text: &mut Octets,
+) -> Status
+    requires room { vec_len buf.old ≡ 65536 }
+    requires start { M.fed machine.old [] }
+    requires going { (M.says machine.old).is_stopped [] ≡ false }
+    ensures pumped { Pumped result limit (M.says machine.old)
+        (I.left input.old) (I.left input.new) (I.taken input.old) (I.taken input.new)
+        (O.written out.old) (O.written out.new)
+        (Rose (I.faults input.old) (I.faults input.new)) (Rose (O.faults out.old) (O.faults out.new)) }
+    ensures reads { I.faults input.old ≤ I.faults input.new }
+    ensures writes { O.faults out.old ≤ O.faults out.new }
+{
+    match begin(machine, out, text) {
+        Ok(()) => {}
+        Err(NextFault::Failed) => return Status::WriteFault,
+        Err(NextFault::OutOfMemory) => return Status::OutOfMemory,
+    }
+    let mut taken: u64 = 0;
+    while taken < limit {
+        let room = room_for(limit - taken);
+        let turn = take_turn(machine, input, out, &mut buf[..room], text);
+        taken += turn.read as u64;
+        match turn.next {
+            Next::Go => {}
+            Next::Stop => return finish(machine, taken, out, text),
+            Next::End => return finish(machine, taken, out, text),
+            Next::ReadFault => return Status::ReadFault,
+            Next::WriteFault => return Status::WriteFault,
+            Next::OutOfMemory => return Status::OutOfMemory,
+        }
+    }
+    Status::TooLong
+}
+
 /// Writes the text that comes first, reads the source to its end, feeds the machine with it and writes its text, up to
 /// a limit of octets. It keeps one piece of the input and that piece's text, and asks for no octet past the limit.
 pub fn pump<M: Machine, I: Source, O: Sink>(
@@ -152,24 +193,8 @@ pub fn pump<M: Machine, I: Source, O: Sink>(
         Err(_) => return Status::OutOfMemory,
     };
     let mut text = Octets::new(alloc);
-    match begin(machine, out, &mut text) {
-        Ok(()) => {}
-        Err(NextFault::Failed) => return Status::WriteFault,
-        Err(NextFault::OutOfMemory) => return Status::OutOfMemory,
-    }
-    let mut taken: u64 = 0;
-    while taken < limit {
-        let room = room_for(limit - taken);
-        let turn = take_turn(machine, input, out, &mut buf[..room], &mut text);
-        taken += turn.read as u64;
-        match turn.next {
-            Next::Go => {}
-            Next::Stop => return finish(machine, taken, out, &mut text),
-            Next::End => return finish(machine, taken, out, &mut text),
-            Next::ReadFault => return Status::ReadFault,
-            Next::WriteFault => return Status::WriteFault,
-            Next::OutOfMemory => return Status::OutOfMemory,
-        }
-    }
-    Status::TooLong
+    let status = pump_through(machine, input, out, limit, &mut buf, &mut text);
+    drop(text);
+    drop(buf);
+    status
 }

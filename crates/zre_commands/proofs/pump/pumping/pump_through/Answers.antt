@@ -3,14 +3,14 @@ use Rattle.std.proofs.lemmas.List.{length-take, length-take-le, append-nil}
 use Rattle.std.proofs.KnownBytes.{Appends-kept}
 use Rattle.zre_outside.specs.Told.{Moves}
 use Rattle.zre_commands.proofs.pump.Reach.{Moves-nil, Moves-trans, front_longer, starts, goes_on, written_more, counted_more, Rose-since, finished, front_of_more}
-use Rattle.zre_commands.proofs.pump.pumping.pump.Goals as goal
+use Rattle.zre_commands.proofs.pump.pumping.pump_through.Goals as goal
 
 pub loop-taken-init : goal.loop-taken-init
 loop-taken-init g c = record {
-  reached = starts _ _ _ _ _ _ c.requires.start (c.in-Ok-begin.ensures.begun c.requires.start) c.requires.going;
+  reached = starts _ _ _ _ _ _ c.requires.start (c.in-Ok.ensures.begun c.requires.start) c.requires.going;
   same = refl;
   within = omega arith;
-  room = c.in-Ok.ensures;
+  room = c.requires.room;
   reads = omega arith;
   writes = c.begin.ensures.writes;
 }
