@@ -1,8 +1,9 @@
 //! The words of moves.
 
-ghost use Rattle.std.specs.Prelude.{◌≡◌};
+ghost use Rattle.std.specs.Prelude.{◌≡◌, if◌then◌else◌, Some, None, codes};
 ghost use Rattle.std.specs.Str.{bytes_eq};
 ghost use Rattle.zre_net.specs.Fields.{move_word_of};
+ghost use Rattle.zre_net.specs.declared.word.MoveWord.TheVariants as MoveWordValue;
 
 /// What is done, by its word alone.
 #[derive(Clone, Copy)]
@@ -29,6 +30,33 @@ pub(crate) fn is(field: &[u8], word: &[u8]) -> bool
     field == word
 }
 
+// The word of a move of octets or of a link, if the field is one.
+fn later_word(field: &[u8]) -> Option<MoveWord>
+    ensures { result ≡ (if bytes_eq field.now (codes "piece") then Some MoveWordValue.Piece
+        else if bytes_eq field.now (codes "shut") then Some MoveWordValue.Shut
+        else if bytes_eq field.now (codes "linked") then Some MoveWordValue.Linked
+        else if bytes_eq field.now (codes "unlinked") then Some MoveWordValue.Unlinked
+        else if bytes_eq field.now (codes "reply") then Some MoveWordValue.Reply
+        else if bytes_eq field.now (codes "took") then Some MoveWordValue.Took
+        else None) }
+{
+    if is(field, b"piece") {
+        Some(MoveWord::Piece)
+    } else if is(field, b"shut") {
+        Some(MoveWord::Shut)
+    } else if is(field, b"linked") {
+        Some(MoveWord::Linked)
+    } else if is(field, b"unlinked") {
+        Some(MoveWord::Unlinked)
+    } else if is(field, b"reply") {
+        Some(MoveWord::Reply)
+    } else if is(field, b"took") {
+        Some(MoveWord::Took)
+    } else {
+        None
+    }
+}
+
 /// The word of a move, if the field is one.
 #[tactic(auto, unfolding(crate::specs::Fields::move_word_of))]
 pub(crate) fn move_word(field: &[u8]) -> Option<MoveWord>
@@ -48,19 +76,7 @@ pub(crate) fn move_word(field: &[u8]) -> Option<MoveWord>
         Some(MoveWord::Open)
     } else if is(field, b"carry") {
         Some(MoveWord::Carry)
-    } else if is(field, b"piece") {
-        Some(MoveWord::Piece)
-    } else if is(field, b"shut") {
-        Some(MoveWord::Shut)
-    } else if is(field, b"linked") {
-        Some(MoveWord::Linked)
-    } else if is(field, b"unlinked") {
-        Some(MoveWord::Unlinked)
-    } else if is(field, b"reply") {
-        Some(MoveWord::Reply)
-    } else if is(field, b"took") {
-        Some(MoveWord::Took)
     } else {
-        None
+        later_word(field)
     }
 }

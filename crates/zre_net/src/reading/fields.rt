@@ -16,8 +16,7 @@ use zre_values::{Octets, OutOfMemory};
 pub(crate) fn cut(text: &[u8]) -> Option<(&[u8], &[u8])>
     ensures { option_map (λ p. (p.0.now, fields_in p.1.now)) result ≡ cut (fields_in text.now) }
 {
-    let (first, rest) = first_field(text)?;
-    Some((first, rest))
+    first_field(text)
 }
 
 fn node(n: u64) -> Option<u8>
@@ -41,8 +40,13 @@ fn port(n: u64) -> Option<u16>
 pub(crate) fn number_then(text: &[u8]) -> Option<(u64, &[u8])>
     ensures { option_map (λ p. (p.0, fields_in p.1.now)) result ≡ number_then (fields_in text.now) }
 {
-    let (first, rest) = cut(text)?;
-    Some((number(first)?, rest))
+    let Some((first, rest)) = cut(text) else {
+        return None;
+    };
+    let Some(n) = number(first) else {
+        return None;
+    };
+    Some((n, rest))
 }
 
 /// The number of a node, and the text of the fields after it.
@@ -50,8 +54,13 @@ pub(crate) fn number_then(text: &[u8]) -> Option<(u64, &[u8])>
 pub(crate) fn node_then(text: &[u8]) -> Option<(u8, &[u8])>
     ensures { option_map (λ p. (p.0, fields_in p.1.now)) result ≡ node_then (fields_in text.now) }
 {
-    let (n, rest) = number_then(text)?;
-    Some((node(n)?, rest))
+    let Some((n, rest)) = number_then(text) else {
+        return None;
+    };
+    let Some(node) = node(n) else {
+        return None;
+    };
+    Some((node, rest))
 }
 
 /// The number of a node, alone.
@@ -59,7 +68,10 @@ pub(crate) fn node_then(text: &[u8]) -> Option<(u8, &[u8])>
 pub(crate) fn one_node(text: &[u8]) -> Option<u8>
     ensures { result ≡ one_node (fields_in text.now) }
 {
-    node(one_number(text)?)
+    let Some(n) = one_number(text) else {
+        return None;
+    };
+    node(n)
 }
 
 /// The number of a node and another number.
@@ -67,8 +79,13 @@ pub(crate) fn one_node(text: &[u8]) -> Option<u8>
 pub(crate) fn node_and_number(text: &[u8]) -> Option<(u8, u64)>
     ensures { result ≡ node_and_number (fields_in text.now) }
 {
-    let (n, at) = two_numbers(text)?;
-    Some((node(n)?, at))
+    let Some((n, at)) = two_numbers(text) else {
+        return None;
+    };
+    let Some(node) = node(n) else {
+        return None;
+    };
+    Some((node, at))
 }
 
 /// A number, and then those.
@@ -76,16 +93,26 @@ pub(crate) fn node_and_number(text: &[u8]) -> Option<(u8, u64)>
 pub(crate) fn number_and_node(text: &[u8]) -> Option<(u64, (u8, u64))>
     ensures { result ≡ number_and_node (fields_in text.now) }
 {
-    let (n, rest) = number_then(text)?;
-    Some((n, node_and_number(rest)?))
+    let Some((n, rest)) = number_then(text) else {
+        return None;
+    };
+    let Some(after) = node_and_number(rest) else {
+        return None;
+    };
+    Some((n, after))
 }
 
 #[tactic(auto, unfolding(crate::specs::Fields::three_numbers))]
 pub(crate) fn three_numbers(text: &[u8]) -> Option<(u64, (u64, u64))>
     ensures { result ≡ three_numbers (fields_in text.now) }
 {
-    let (n, rest) = number_then(text)?;
-    Some((n, two_numbers(rest)?))
+    let Some((n, rest)) = number_then(text) else {
+        return None;
+    };
+    let Some(after) = two_numbers(rest) else {
+        return None;
+    };
+    Some((n, after))
 }
 
 /// An address and a port.
@@ -93,9 +120,19 @@ pub(crate) fn three_numbers(text: &[u8]) -> Option<(u64, (u64, u64))>
 pub(crate) fn host_and_port(text: &[u8]) -> Option<([u8; 4], u16)>
     ensures { result ≡ host_and_port (fields_in text.now) }
 {
-    let (first, second) = two_fields(text)?;
-    let host = address(first)?;
-    Some((host, port(number(second)?)?))
+    let Some((first, second)) = two_fields(text) else {
+        return None;
+    };
+    let Some(host) = address(first) else {
+        return None;
+    };
+    let Some(n) = number(second) else {
+        return None;
+    };
+    let Some(port) = port(n) else {
+        return None;
+    };
+    Some((host, port))
 }
 
 /// A quoted name of at most 255 octets.

@@ -30,9 +30,10 @@ fn name_and_place(
     let Some(place) = host_and_port(rest) else {
         return Ok(None);
     };
-    match name(alloc, first)? {
-        Some(name) => Ok(Some((name, place))),
-        None => Ok(None),
+    match name(alloc, first) {
+        Ok(Some(name)) => Ok(Some((name, place))),
+        Ok(None) => Ok(None),
+        Err(OutOfMemory) => Err(OutOfMemory),
     }
 }
 
@@ -50,9 +51,10 @@ fn who_and_place(
     let Some(id) = id(first) else {
         return Ok(None);
     };
-    match name_and_place(alloc, rest)? {
-        Some(place) => Ok(Some((id, place))),
-        None => Ok(None),
+    match name_and_place(alloc, rest) {
+        Ok(Some(place)) => Ok(Some((id, place))),
+        Ok(None) => Ok(None),
+        Err(OutOfMemory) => Err(OutOfMemory),
     }
 }
 
@@ -97,9 +99,10 @@ fn ask(alloc: Global, text: &[u8]) -> Result<Option<Move>, OutOfMemory>
     let Some((at, rest)) = number_then(rest) else {
         return Ok(None);
     };
-    match command(alloc, rest)? {
-        Some(command) => Ok(Some(Move::Do { node, at, command })),
-        None => Ok(None),
+    match command(alloc, rest) {
+        Ok(Some(command)) => Ok(Some(Move::Do { node, at, command })),
+        Ok(None) => Ok(None),
+        Err(OutOfMemory) => Err(OutOfMemory),
     }
 }
 
@@ -107,9 +110,15 @@ fn ask(alloc: Global, text: &[u8]) -> Result<Option<Move>, OutOfMemory>
 fn carry(text: &[u8]) -> Option<Move>
     ensures { result ≡ carry_in (fields_in text.now) }
 {
-    let (first, second) = two_fields(text)?;
-    let conn = number(first)?;
-    let part = part(second)?;
+    let Some((first, second)) = two_fields(text) else {
+        return None;
+    };
+    let Some(conn) = number(first) else {
+        return None;
+    };
+    let Some(part) = part(second) else {
+        return None;
+    };
     Some(Move::Carry { conn, part })
 }
 

@@ -20,7 +20,10 @@ fn says(alloc: Global, n: u64, line: &[u8]) -> Result<bool, OutOfMemory>
     if n == 1 {
         Ok(is(line, b"zre-schedule 1"))
     } else {
-        Ok(read_move(alloc, line)?.is_some())
+        let read = read_move(alloc, line)?;
+        let is = read.is_some();
+        drop(read);
+        Ok(is)
     }
 }
 
@@ -85,7 +88,10 @@ pub(crate) fn moves_of(alloc: Global, text: &[u8]) -> Result<Moves, OutOfMemory>
     };
     let mut rest = others;
     'lines: while let Some((line, after)) = split_once(rest, b'\n') {
-        push_move(alloc, &mut moves, line)?;
+        let Ok(()) = push_move(alloc, &mut moves, line) else {
+            drop(moves);
+            return Err(OutOfMemory);
+        };
         rest = after;
     }
     Ok(moves)

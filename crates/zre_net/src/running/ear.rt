@@ -11,10 +11,19 @@ use zre_values::{OutOfMemory, PeerId};
 use zre_zmtp::FeedFault;
 
 /// The octets of a connection so far.
-#[derive(Drop)]
 pub(crate) struct Ear {
     alloc: Global,
     conn: Conn,
+}
+
+// By hand, so that each way out calls it. A derived drop is inlined there, field by field, and proved each time.
+impl Drop for Ear {
+    fn drop(self) {
+        let Ear {
+            alloc: _,
+            conn: _conn,
+        } = self;
+    }
 }
 
 // So many arrivals, and a fault.
@@ -48,9 +57,12 @@ impl Ear {
             return Ok(0);
         }
         let mut out = Arrivals::new(self.alloc);
-        match self.conn.feed(piece, &mut out) {
-            Ok(()) => Ok(out.len() as u64),
-            Err(FeedFault::Zmtp(_)) => with_fault(out.len()),
+        let fed = self.conn.feed(piece, &mut out);
+        let arrivals = out.len();
+        drop(out);
+        match fed {
+            Ok(()) => Ok(arrivals as u64),
+            Err(FeedFault::Zmtp(_)) => with_fault(arrivals),
             Err(FeedFault::OutOfMemory) => Err(OutOfMemory),
         }
     }

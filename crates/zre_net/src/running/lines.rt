@@ -12,19 +12,38 @@ use zre_link::Queue;
 use zre_values::{List, OutOfMemory};
 
 /// A link: the messages that were put on it, as they are spelled, and how many octets waited after the last entry.
-#[derive(Drop)]
 pub(crate) struct Line {
     pub messages: List<Bytes>,
     pub waited: usize,
 }
 
+// By hand, so that each way out calls it. A derived drop is inlined there, field by field, and proved each time.
+impl Drop for Line {
+    fn drop(self) {
+        let Line {
+            messages: _messages,
+            waited: _,
+        } = self;
+    }
+}
+
 /// The links of a node, by their numbers from 1.
-#[derive(Drop)]
 pub(crate) struct Lines {
     rows: Vec<Line>,
     octets: u64,
     /// The newest first message of a link, a HELLO: the next may be the same.
     first: Bytes,
+}
+
+// By hand, so that each way out calls it. A derived drop is inlined there, field by field, and proved each time.
+impl Drop for Lines {
+    fn drop(self) {
+        let Lines {
+            rows: _rows,
+            octets: _,
+            first: _first,
+        } = self;
+    }
 }
 
 impl Model for Lines {
@@ -47,6 +66,14 @@ fn shared(before: &Bytes, octets: Bytes) -> Result<Bytes, OutOfMemory>
         return Ok(before.clone()?);
     }
     Ok(octets)
+}
+
+// The first message of a link, for those that are the same.
+fn keep_first(first: &mut Bytes, count: u64, message: &Bytes) -> Result<(), OutOfMemory> {
+    if count == 0 {
+        *first = message.clone()?;
+    }
+    Ok(())
 }
 
 // So many messages were put on a link, and this waits on it: at most one message more than before. Gives how many
@@ -72,11 +99,13 @@ fn note(
     }
     let message = shared(first, waits.last(waits.len() - line.waited)?)?;
     let Some(all) = octets.checked_add(message.len() as u64) else {
+        drop(message);
         return Err(OutOfMemory);
     };
-    if count == 0 {
-        *first = message.clone()?;
-    }
+    let Ok(()) = keep_first(first, count, &message) else {
+        drop(message);
+        return Err(OutOfMemory);
+    };
     line.messages.push(message)?;
     line.waited = waits.len();
     Ok(all)

@@ -56,6 +56,7 @@ fn begin(alloc: Global, node: u8, since: u64, config: Config) -> Result<Started,
     ensures { IfOk result (IsBegun node since config) }
 {
     if !config.valid() {
+        drop(config);
         return Err(OutOfMemory);
     }
     let id = config.id;
@@ -185,6 +186,7 @@ impl Network {
             IfOk result (λ may. IsPlayed (MoveValue.Do node at command) H may self.new) }
     {
         let Some(start) = self.runner(node) else {
+            drop(command);
             return Ok(false);
         };
         self.turn(start, at, Input::Do(command))?;
@@ -253,12 +255,7 @@ impl Network {
         let Some(carrier) = nth(self.conns.as_slice(), conn) else {
             return Ok(false);
         };
-        let Some(octets) = self.spelled(carrier.along, part)? else {
-            return Ok(false);
-        };
-        let Some(pending) = self.pending.checked_add(octets.len() as u64) else {
-            return Err(OutOfMemory);
-        };
+        let along = carrier.along;
         let Some(place) = conn.checked_sub(1) else {
             return Err(OutOfMemory);
         };
@@ -266,6 +263,13 @@ impl Network {
         if place >= self.conns.len() {
             return Err(OutOfMemory);
         }
+        let Some(octets) = self.spelled(along, part)? else {
+            return Ok(false);
+        };
+        let Some(pending) = self.pending.checked_add(octets.len() as u64) else {
+            drop(octets);
+            return Err(OutOfMemory);
+        };
         load(&mut self.conns[place], octets)?;
         self.pending = pending;
         Ok(true)

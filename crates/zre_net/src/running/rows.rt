@@ -6,13 +6,25 @@ use crate::running::waiting::Waiting;
 use zre_values::PeerId;
 
 /// A node from one start on.
-#[derive(Drop)]
 pub(crate) struct Started {
     pub node: u8,
     pub since: u64,
     pub id: PeerId,
     pub host: [u8; 4],
     pub sender: Sender,
+}
+
+// By hand, so that each way out calls it. A derived drop is inlined there, field by field, and proved each time.
+impl Drop for Started {
+    fn drop(self) {
+        let Started {
+            node: _,
+            since: _,
+            id: _,
+            host: _,
+            sender: _sender,
+        } = self;
+    }
 }
 
 /// A beacon, and the host from which it was sent.
@@ -30,12 +42,23 @@ pub(crate) struct Way {
 }
 
 /// A connection: the start at which it opened, the link that it carries, and what it has yet to hand in.
-#[derive(Drop)]
 pub(crate) struct Carrier {
     pub to: u64,
     pub along: Way,
     pub waiting: Waiting,
     pub ear: Ear,
+}
+
+// By hand, so that each way out calls it. A derived drop is inlined there, field by field, and proved each time.
+impl Drop for Carrier {
+    fn drop(self) {
+        let Carrier {
+            to: _,
+            along: _,
+            waiting: _waiting,
+            ear: _ear,
+        } = self;
+    }
 }
 
 /// The ID that a node has, or had.

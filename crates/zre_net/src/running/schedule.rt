@@ -10,6 +10,7 @@ use crate::reading::Schedule;
 use crate::running::network::Network;
 use crate::running::said::Said;
 use std::alloc::Global;
+use std::mem;
 
 // Runs moves.
 fn run(alloc: Global, moves: Moves) -> Result<Said, ScheduleFault>
@@ -27,7 +28,7 @@ fn run(alloc: Global, moves: Moves) -> Result<Said, ScheduleFault>
         };
         line = next;
     }
-    Ok(network.said)
+    Ok(mem::replace(&mut network.said, Said::new(alloc)))
 }
 
 /// Runs a schedule: what its nodes tell. It refuses the first move that is outside the grammar. Where it does not, its

@@ -19,13 +19,24 @@ use zre_outside::{Act, Entry};
 use zre_values::OutOfMemory;
 
 /// A node until it crashes, with all messages that it has put on its links, those of peers that are gone too.
-#[derive(Drop)]
 pub(crate) struct Sender {
     alloc: Global,
     /// How many octets the greeting and READY have, which wait first on each link.
     handshake: usize,
     node: Option<Node>,
     pub lines: Lines,
+}
+
+// By hand, so that each way out calls it. A derived drop is inlined there, field by field, and proved each time.
+impl Drop for Sender {
+    fn drop(self) {
+        let Sender {
+            alloc: _,
+            handshake: _,
+            node: _node,
+            lines: _lines,
+        } = self;
+    }
 }
 
 // One line more, where this makes a link.
@@ -102,8 +113,14 @@ fn step(
         × Keeps g (chronicle g (J ++ entry ∷ [])) handshake lines.new) }
 {
     let step = node.step(entry)?;
-    add_lines(alloc, lines, step.acts.as_slice(), handshake)?;
-    look(node, lines)?;
+    let Ok(()) = add_lines(alloc, lines, step.acts.as_slice(), handshake) else {
+        drop(step);
+        return Err(OutOfMemory);
+    };
+    let Ok(()) = look(node, lines) else {
+        drop(step);
+        return Err(OutOfMemory);
+    };
     Ok(step)
 }
 
@@ -128,7 +145,10 @@ impl Sender {
     {
         match &mut self.node {
             Some(node) => step(self.alloc, node, &mut self.lines, self.handshake, entry),
-            None => Err(OutOfMemory),
+            None => {
+                drop(entry);
+                Err(OutOfMemory)
+            }
         }
     }
 

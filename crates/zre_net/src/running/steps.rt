@@ -130,16 +130,28 @@ impl Network {
         ensures pending { OnOk result (self.new.pending ≡ self.old.pending) }
     {
         let Some(place) = start.checked_sub(1) else {
+            drop(input);
             return Err(OutOfMemory);
         };
         let place = place as usize;
         if place >= self.started.len() {
+            drop(input);
             return Err(OutOfMemory);
         }
         let turn = take_turn(&mut self.started[place], at, input)?;
-        self.queued = changed(self.queued, turn.before, turn.after)?;
-        send_all(&mut self.beacons, turn.host, turn.step.acts.as_slice())?;
-        connect_all(&mut self.links, start, turn.step.acts.as_slice())?;
+        let Ok(queued) = changed(self.queued, turn.before, turn.after) else {
+            drop(turn);
+            return Err(OutOfMemory);
+        };
+        self.queued = queued;
+        let Ok(()) = send_all(&mut self.beacons, turn.host, turn.step.acts.as_slice()) else {
+            drop(turn);
+            return Err(OutOfMemory);
+        };
+        let Ok(()) = connect_all(&mut self.links, start, turn.step.acts.as_slice()) else {
+            drop(turn);
+            return Err(OutOfMemory);
+        };
         tell(&mut self.said, turn.node, turn.step.events)
     }
 

@@ -15,7 +15,7 @@ lines-init c =
 pub lines-preserved : goal.lines-preserved
 lines-preserved c =
     let e = c.in-Some-split_once.ensures in
-    ap (λ (ms : List Move). ms ++ moves_in (lines_in c.in-Some-split_once.after.now)) c.in_ok-push_move.ensures
+    ap (λ (ms : List Move). ms ++ moves_in (lines_in c.in-Some-split_once.after.now)) c.in-Ok.ensures
     ∙ moves-cut c.lines.moves c.lines.rest.now c.in-Some-split_once.line.now c.in-Some-split_once.after.now e.parts e.first
     ∙ c.lines.invariant
 

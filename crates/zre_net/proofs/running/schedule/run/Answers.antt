@@ -33,4 +33,4 @@ pub returns-clause-told : goal.returns-clause-told
 returns-clause-told c =
     let i = c.loop-one.invariant in
     let all = took_all c.args.moves c.loop-one.yielded (into_iter_items c.loop-one.one-iterator) c.loop-one.one-iterator.rest.len i.rest c.loop-one.one-iterator.rest.ok.0 c.in-None.ensures.steps.0 in
-    (ap bad_move (sym all) ∙ i.goes.all_good, i.goes.stands.nodes.said ∙ ap said all)
+    (ap bad_move (sym all) ∙ i.goes.all_good, c.replace.ensures.value ∙ i.goes.stands.nodes.said ∙ ap said all)
