@@ -18,7 +18,6 @@ use zre_outside::Entries;
 use zre_values::OutOfMemory;
 
 /// How far a capture is read, and the node with the settings that its head says.
-#[derive(Drop)]
 pub(crate) struct Headed {
     alloc: Global,
     state: State,
@@ -26,6 +25,18 @@ pub(crate) struct Headed {
     pub node: Option<Node>,
     // Used again for the entries of each piece.
     entries: Entries,
+}
+
+// By hand, so that each way out calls it. A derived drop is inlined there, field by field, and proved each time.
+impl Drop for Headed {
+    fn drop(self) {
+        let Headed {
+            alloc: _,
+            state: _state,
+            node: _node,
+            entries: _entries,
+        } = self;
+    }
 }
 
 impl Headed {

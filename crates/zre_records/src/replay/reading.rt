@@ -13,10 +13,19 @@ use zre_outside::Entries;
 use zre_values::OutOfMemory;
 
 /// A reader that has refused a line, and where.
-#[derive(Drop)]
 pub(crate) struct Refused {
     pub reader: CaptureReader,
     pub bad: BadCapture,
+}
+
+// By hand, so that each way out calls it. A derived drop is inlined there, field by field, and proved each time.
+impl Drop for Refused {
+    fn drop(self) {
+        let Refused {
+            reader: _reader,
+            bad: _bad,
+        } = self;
+    }
 }
 
 /// How far a capture is read.

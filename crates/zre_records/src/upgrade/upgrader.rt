@@ -15,13 +15,24 @@ use zre_values::{Octets, OutOfMemory};
 /// The machine of `upgrade`: the entries of a capture of format 1 are written as they come, in format 2, after a head
 /// with the settings that it is handed. It keeps the octets of an unfinished line, and a list that is used again for the
 /// entries of each piece.
-#[derive(Drop)]
 pub struct Upgrader {
     settings: Settings,
     state: State,
     // The reading of the entry that was written last.
     before: u64,
     entries: Entries,
+}
+
+// By hand, so that each way out calls it. A derived drop is inlined there, field by field, and proved each time.
+impl Drop for Upgrader {
+    fn drop(self) {
+        let Upgrader {
+            settings: _settings,
+            state: _state,
+            before: _,
+            entries: _entries,
+        } = self;
+    }
 }
 
 impl Upgrader {
