@@ -44,8 +44,9 @@ fn with_group(alloc: Global, word: &[u8], text: &[u8]) -> Result<Option<Command>
 fn one_frame(alloc: Global, text: &[u8]) -> Result<Frames, OutOfMemory>
     ensures { IfOk result (λ content. content ≡ text.now ∷ []) }
 {
+    let text = Octets::copy(alloc, text)?;
     let mut content = Frames::new(alloc);
-    content.push(Octets::copy(alloc, text)?)?;
+    content.push(text)?;
     Ok(content)
 }
 
@@ -61,7 +62,10 @@ fn with_text(
         let Some(group) = group(alloc, to)? else {
             return Ok(None);
         };
-        let content = one_frame(alloc, text)?;
+        let Ok(content) = one_frame(alloc, text) else {
+            drop(group);
+            return Err(OutOfMemory);
+        };
         return Ok(Some(Command::Shout { group, content }));
     }
     if word == b"whisper".as_slice() {

@@ -54,6 +54,7 @@ fn next_told<O: Sink, T: Wait + Copy>(
     if found.is_some() {
         return (taker, found);
     }
+    drop(found);
     page.write(out);
     if wish == Wish::Due || (wish == Wish::No && page.fault.is_some()) {
         return (taker, None);

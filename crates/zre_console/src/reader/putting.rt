@@ -15,7 +15,7 @@ use zre_actor::{CallerPass, Full, Pipes};
 use zre_outside::Command;
 
 /// What became of commands that were to be put.
-#[derive(Clone, Copy, Debug, PartialEq, Eq)]
+#[derive(Clone, Copy)]
 pub(crate) enum Sent {
     /// They were put, and none of them is a quit.
     On,
@@ -55,6 +55,7 @@ fn put_command<R: Wait + Copy>(
                     command: again,
                 } = full;
                 if over.load(Ordering::SeqCst) {
+                    drop(again);
                     return (back, false);
                 }
                 pass = back;
@@ -117,9 +118,11 @@ pub(crate) fn put_one<R: Wait + Copy>(
     ensures sent { Sends result.1 pass result.0 command }
 {
     if over.load(Ordering::SeqCst) {
+        drop(command);
         return (pass, Sent::Over);
     }
     if is_quit(&command) {
+        drop(command);
         return (pass, Sent::Quit);
     }
     let (pass, is_put) = put_command(rt, pipes, over, pass, command);

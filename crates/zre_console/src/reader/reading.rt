@@ -20,7 +20,7 @@ use zre_actor::{CallerPass, Pipes};
 use zre_outside::{Failed, PIECE, Source, room_for, zeros};
 
 /// How a turn ended.
-#[derive(Clone, Copy, Debug, PartialEq, Eq)]
+#[derive(Clone, Copy)]
 enum Next {
     Go,
     Quit,
