@@ -24,8 +24,8 @@ pub const LIMIT: u64 = (1 << 63) - 1;
 /// Does what the words ask for, and reads at most `limit` octets; `chat` takes at most as many turns of the world, too.
 /// What is handed in comes back as it was left.
 ///
-/// Where the input is what the command reads, nothing fails and the limit isn't reached, it does all of that, unless memory
-/// runs out.
+/// Where the input is what the command reads, nothing fails and the limit isn't reached, it does all of that, unless
+/// memory runs out.
 pub fn run<
     T: Wait + Threads + Copy,
     I: Source + Send + Drop + 'static,

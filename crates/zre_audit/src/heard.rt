@@ -17,7 +17,7 @@ pub(crate) struct Heard {
     said: Octets,
 }
 
-// By hand, so that each way out calls it. A derived drop is inlined there, field by field, and proved each time.
+// By hand: docs/DECISIONS.md says why, at "Drops by hand".
 impl Drop for Heard {
     fn drop(self) {
         let Heard {

@@ -29,7 +29,7 @@ pub(crate) struct Line {
     pub said: Keys,
 }
 
-// By hand, so that each way out calls it. A derived drop is inlined there, field by field, and proved each time.
+// By hand: docs/DECISIONS.md says why, at "Drops by hand".
 impl Drop for Line {
     fn drop(self) {
         let Line { id: _, said: _said } = self;
@@ -43,7 +43,7 @@ pub(crate) struct Put {
     lines: Vec<Line>,
 }
 
-// By hand, so that each way out calls it. A derived drop is inlined there, field by field, and proved each time.
+// By hand: docs/DECISIONS.md says why, at "Drops by hand".
 impl Drop for Put {
     fn drop(self) {
         let Put {

@@ -29,7 +29,7 @@ pub struct Watch {
     pub(crate) put: Put,
 }
 
-// By hand, so that each way out calls it. A derived drop is inlined there, field by field, and proved each time.
+// By hand: docs/DECISIONS.md says why, at "Drops by hand".
 impl Drop for Watch {
     fn drop(self) {
         let Watch {

@@ -36,8 +36,8 @@ pub fn head_is_written()
     ensures { (s : Settings) → HEAD.now ≡ head First s }
 {}
 
-/// The journal of a capture of format 1 can be written in format 2, with a first reading of 0 before it: its entries hold
-/// values of their types, and no line is too long there.
+/// The journal of a capture of format 1 can be written in format 2, with a first reading of 0 before it: its entries
+/// hold values of their types, and no line is too long there.
 pub fn journals_are_upgraded()
     ensures values { (o : List ℕ) → All IsEntry (journal First o) }
     ensures short { (o : List ℕ) → AreShort Second 0 (journal First o) }

@@ -180,7 +180,7 @@ pub struct CaptureReader {
     left: Octets,
 }
 
-// By hand, so that each way out calls it. A derived drop is inlined there, field by field, and proved each time.
+// By hand: docs/DECISIONS.md says why, at "Drops by hand".
 impl Drop for CaptureReader {
     fn drop(self) {
         let CaptureReader {

@@ -148,7 +148,8 @@ pub record Wrote (g : Config) (entries : List Entry) (s t : Seen) (status : Stat
   pub whole : IsSpared status (Rose s.write_faults t.write_faults)
       → Appends s.written t.written (lines (events g entries))
 
--- the capture of these entries was kept under a name, its head with the node's settings, which are values of their types
+-- the capture of these entries was kept under a name, its head with the node's settings, which are values of their
+-- types
 pub record Captured (g : Config) (name : Option (List ℕ)) (entries : List Entry) (s t : Seen) (status : Status)
     : Type 0 where
   pub are_settings : status ≢ OutOfMemory → AreSettings (as_settings g)

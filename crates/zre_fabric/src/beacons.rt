@@ -20,7 +20,7 @@ pub(crate) struct Beacons {
     at: Endpoint,
 }
 
-// By hand, so that each way out calls it. A derived drop is inlined there, field by field, and proved each time.
+// By hand: docs/DECISIONS.md says why, at "Drops by hand".
 impl Drop for Beacons {
     fn drop(self) {
         let Beacons {

@@ -26,7 +26,7 @@ pub(crate) struct Fabric<R> {
     network: Option<Network>,
 }
 
-// By hand, so that each way out calls it. A derived drop is inlined there, field by field, and proved each time.
+// By hand: docs/DECISIONS.md says why, at "Drops by hand".
 impl<R: Drop> Drop for Fabric<R> {
     fn drop(self) {
         let Fabric {

@@ -28,7 +28,7 @@ pub(crate) struct Network {
     is_due_to_poll: bool,
 }
 
-// By hand, so that each way out calls it. A derived drop is inlined there, field by field, and proved each time.
+// By hand: docs/DECISIONS.md says why, at "Drops by hand".
 impl Drop for Network {
     fn drop(self) {
         let Network {

@@ -24,7 +24,7 @@ pub struct RealWorld<R> {
     reason: Option<Reason>,
 }
 
-// By hand, so that each way out calls it. A derived drop is inlined there, field by field, and proved each time.
+// By hand: docs/DECISIONS.md says why, at "Drops by hand".
 impl<R: Drop> Drop for RealWorld<R> {
     fn drop(self) {
         let RealWorld {

@@ -34,7 +34,7 @@ pub(crate) struct Sockets {
     buffer: ReadBuffer,
 }
 
-// By hand, so that each way out calls it. A derived drop is inlined there, field by field, and proved each time.
+// By hand: docs/DECISIONS.md says why, at "Drops by hand".
 impl Drop for Sockets {
     fn drop(self) {
         let Sockets {

@@ -17,8 +17,8 @@ use Rattle.zre_link.specs.Heard.{awaited, new_pings, Heard, heard_after}
 -- ---- what contracts see of a link
 
 -- the octets that haven't gone out (queue), how many messages are in its line (sent), how many octets the line makes
--- with the greeting and READY (written), how many have gone out (taken), whether the link stands, and what is kept of the
--- replies
+-- with the greeting and READY (written), how many have gone out (taken), whether the link stands, and what is kept of
+-- the replies
 pub record Sending : Type 0 where
   pub queue : List ℕ
   pub sent : ℕ

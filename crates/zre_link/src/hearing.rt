@@ -10,7 +10,7 @@ pub enum Hearing {
     Refused(FeedFault),
 }
 
-// By hand, so that each way out calls it. A derived drop is inlined there, form by form, and proved each time.
+// By hand: docs/DECISIONS.md says why, at "Drops by hand".
 impl Drop for Hearing {
     fn drop(self) {
         match self {

@@ -47,7 +47,7 @@ pub struct Link {
     replies: Replies,
 }
 
-// By hand, so that each way out calls it. A derived drop is inlined there, field by field, and proved each time.
+// By hand: docs/DECISIONS.md says why, at "Drops by hand".
 impl Drop for Link {
     fn drop(self) {
         let Link {

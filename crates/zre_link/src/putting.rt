@@ -46,8 +46,8 @@ fn spell(queue: &mut Queue, spelled: &mut Octets, message: &Message) -> Result<(
     queue.append(spelled.as_slice())
 }
 
-/// Queues a message after `written` octets, unless it passes the limit, and gives how many there are with it. Short ones
-/// are spelled in `spelled`, whose memory serves again and again.
+/// Queues a message after `written` octets, unless it passes the limit, and gives how many there are with it. Short
+/// ones are spelled in `spelled`, whose memory serves again and again.
 pub fn queue_message(
     alloc: Global,
     queue: &mut Queue,

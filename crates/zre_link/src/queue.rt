@@ -25,7 +25,7 @@ pub struct Queue {
     count: usize,
 }
 
-// By hand, so that each way out calls it. A derived drop is inlined there, field by field, and proved each time.
+// By hand: docs/DECISIONS.md says why, at "Drops by hand".
 impl Drop for Queue {
     fn drop(self) {
         let Queue {

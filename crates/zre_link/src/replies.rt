@@ -22,7 +22,7 @@ pub struct Replies {
     hearing: Hearing,
 }
 
-// By hand, so that each way out calls it. A derived drop is inlined there, field by field, and proved each time.
+// By hand: docs/DECISIONS.md says why, at "Drops by hand".
 impl Drop for Replies {
     fn drop(self) {
         let Replies {

@@ -23,13 +23,13 @@ pub enum Spelled {
     Shared(Bytes),
 }
 
-/// The frames of a SHOUT after its first, as the octets that go out: each in its shortest form. It's made once, and put on
-/// any number of links.
+/// The frames of a SHOUT after its first, as the octets that go out: each in its shortest form. It's made once, and put
+/// on any number of links.
 pub struct Tail {
     spelled: Spelled,
 }
 
-// By hand, so that each way out calls it. A derived drop is inlined there, field by field, and proved each time.
+// By hand: docs/DECISIONS.md says why, at "Drops by hand".
 impl Drop for Tail {
     fn drop(self) {
         let Tail { spelled: _spelled } = self;

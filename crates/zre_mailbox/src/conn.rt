@@ -29,7 +29,7 @@ pub struct Conn {
     identity: Option<PeerId>,
 }
 
-// By hand, so that each way out calls it. A derived drop is inlined there, field by field, and proved each time.
+// By hand: docs/DECISIONS.md says why, at "Drops by hand".
 impl Drop for Conn {
     fn drop(self) {
         let Conn {

@@ -12,7 +12,7 @@ pub enum Phase {
     Ignored,
 }
 
-// By hand, so that each way out calls it. A derived drop is inlined there, form by form, and proved each time.
+// By hand: docs/DECISIONS.md says why, at "Drops by hand".
 impl Drop for Phase {
     fn drop(self) {
         match self {

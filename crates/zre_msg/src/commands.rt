@@ -3,7 +3,8 @@
 ghost use Rattle.std.specs.Prelude.{◌≡◌, ◌≢◌, ℕ, List, Result, IfOk};
 ghost use Rattle.zre_msg.specs.declared.message.Bad.{Bad};
 ghost use Rattle.zre_msg.specs.declared.message.Body.TheVariants as bodies;
-ghost use Rattle.zre_msg.specs.Reading.{is_single as single_test, hello_at, named_at, join_at, leave_at, shout_at, body_at};
+ghost use Rattle.zre_msg.specs.Reading.{is_single as single_test, hello_at, named_at, join_at, leave_at, shout_at};
+ghost use Rattle.zre_msg.specs.Reading.{body_at};
 ghost use Rattle.zre_msg.specs.Reading.{Answers};
 ghost use Rattle.zre_msg.specs.Commands.{body_of, Says};
 ghost use Rattle.zre_msg.specs.Fields.{Gives};

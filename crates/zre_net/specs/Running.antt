@@ -16,7 +16,8 @@ use Rattle.zre_net.specs.Lists.{nth}
 use Rattle.zre_net.specs.Lines.{octets_in}
 use Rattle.zre_net.specs.Sending.{HasSent}
 use Rattle.zre_net.specs.Rows.{running_at, Fits}
-use Rattle.zre_net.specs.History.{Incarnation, Turn, Happening, Happens, IsKnown, incarnations, running, journal, chronicle_of}
+use Rattle.zre_net.specs.History.{Incarnation, Turn, Happening, Happens, IsKnown, incarnations, running, journal}
+use Rattle.zre_net.specs.History.{chronicle_of}
 use Rattle.zre_net.specs.Numbers.{Broadcast, Route, Conn, broadcasts, routes, conns}
 use Rattle.zre_net.specs.Carried.{pending}
 use Rattle.zre_net.specs.Answer.{bad_move}

@@ -54,8 +54,8 @@ pub fn nodes_agree()
     ensures { (lines : List (List ℕ)) → bad_move (moves_of lines) ≡ None → IsAgreed (moves_of lines) }
 {}
 
-/// A schedule in which no connection carries more than 65,535 messages, nor one past the 65,535th of its link, is within
-/// the window.
+/// A schedule in which no connection carries more than 65,535 messages, nor one past the 65,535th of its link, is
+/// within the window.
 pub fn few_messages_are_within_the_window()
     ensures { (H : List Happening) → CarryFew H → IsWithinWindow H }
 {}

@@ -21,7 +21,7 @@ pub struct MemSource {
     faults: u64,
 }
 
-// By hand, so that each way out calls it. A derived drop is inlined there, field by field, and proved each time.
+// By hand: docs/DECISIONS.md says why, at "Drops by hand".
 impl Drop for MemSource {
     fn drop(self) {
         let MemSource {
@@ -97,7 +97,7 @@ pub struct MemSink {
     faults: u64,
 }
 
-// By hand, so that each way out calls it. A derived drop is inlined there, field by field, and proved each time.
+// By hand: docs/DECISIONS.md says why, at "Drops by hand".
 impl Drop for MemSink {
     fn drop(self) {
         let MemSink {

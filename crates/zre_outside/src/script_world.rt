@@ -26,7 +26,7 @@ pub struct ScriptWorld {
     faults: u64,
 }
 
-// By hand, so that each way out calls it. A derived drop is inlined there, field by field, and proved each time.
+// By hand: docs/DECISIONS.md says why, at "Drops by hand".
 impl Drop for ScriptWorld {
     fn drop(self) {
         let ScriptWorld {

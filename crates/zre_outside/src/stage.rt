@@ -25,7 +25,7 @@ pub(crate) struct Stage {
     done: Vec<Deed>,
 }
 
-// By hand, so that each way out calls it. A derived drop is inlined there, field by field, and proved each time.
+// By hand: docs/DECISIONS.md says why, at "Drops by hand".
 impl Drop for Stage {
     fn drop(self) {
         let Stage {

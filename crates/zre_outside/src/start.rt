@@ -19,7 +19,7 @@ pub struct Start {
     pub interval: u64,
 }
 
-// By hand, so that each way out calls it. A derived drop is inlined there, field by field, and proved each time.
+// By hand: docs/DECISIONS.md says why, at "Drops by hand".
 impl Drop for Start {
     fn drop(self) {
         let Start {

@@ -15,7 +15,7 @@ pub struct SureWorld {
     stage: Stage,
 }
 
-// By hand, so that each way out calls it. A derived drop is inlined there, field by field, and proved each time.
+// By hand: docs/DECISIONS.md says why, at "Drops by hand".
 impl Drop for SureWorld {
     fn drop(self) {
         let SureWorld { stage: _stage } = self;

@@ -65,7 +65,7 @@ pub enum Event {
     },
 }
 
-// By hand, so that each way out calls it. A derived drop is inlined there, form by form, and proved each time.
+// By hand: docs/DECISIONS.md says why, at "Drops by hand".
 impl Drop for Event {
     fn drop(self) {
         match self {

@@ -23,7 +23,7 @@ pub struct Groups {
     more: GroupTable,
 }
 
-// By hand, so that each way out calls it. A derived drop is inlined there, field by field, and proved each time.
+// By hand: docs/DECISIONS.md says why, at "Drops by hand".
 impl Drop for Groups {
     fn drop(self) {
         let Groups {

@@ -15,7 +15,7 @@ pub struct Headers {
     named: IndexMap<Vec<u8>, Octets>,
 }
 
-// By hand, so that each way out calls it. A derived drop is inlined there, field by field, and proved each time.
+// By hand: docs/DECISIONS.md says why, at "Drops by hand".
 impl Drop for Headers {
     fn drop(self) {
         let Headers { named: _named } = self;

@@ -20,7 +20,7 @@ pub struct Heads {
     pub shout: Octets,
 }
 
-// By hand, so that each way out calls it. A derived drop is inlined there, field by field, and proved each time.
+// By hand: docs/DECISIONS.md says why, at "Drops by hand".
 impl Drop for Heads {
     fn drop(self) {
         let Heads {

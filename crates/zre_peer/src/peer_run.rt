@@ -63,7 +63,7 @@ pub struct Run {
     ghost within: { ForSome view (λ v. is_small v ≡ true) },
 }
 
-// By hand, so that each way out calls it. A derived drop is inlined there, field by field, and proved each time.
+// By hand: docs/DECISIONS.md says why, at "Drops by hand".
 impl Drop for Run {
     fn drop(self) {
         let Run {

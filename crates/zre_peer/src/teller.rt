@@ -28,7 +28,7 @@ pub struct Teller {
     ghost within: { IsReady run heads },
 }
 
-// By hand, so that each way out calls it. A derived drop is inlined there, field by field, and proved each time.
+// By hand: docs/DECISIONS.md says why, at "Drops by hand".
 impl Drop for Teller {
     fn drop(self) {
         let Teller {

@@ -17,8 +17,8 @@ use Rattle.zre_records.specs.replay.Replay.{told_replay}
 use Rattle.zre_records.specs.simulate.Simulate.{simulate, told_lines}
 use Rattle.zre_records.specs.upgrade.Upgrade.{upgrade}
 
--- these octets are replayed without words: nothing in them is refused, and what is written are the lines of the events of
--- this journal, for the node of these settings
+-- these octets are replayed without words: nothing in them is refused, and what is written are the lines of the events
+-- of this journal, for the node of these settings
 pub record IsReplayed (s : Settings) (J : List Entry) (o : List ℕ) : Type 0 where
   pub is_good : told_replay.is_bad o ≡ false
   pub is_written : whole_text told_replay o ≡ lines (events (as_config s) J)

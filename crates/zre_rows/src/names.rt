@@ -14,7 +14,7 @@ pub struct Names {
     pub count: u64,
 }
 
-// By hand, so that each way out calls it. A derived drop is inlined there, field by field, and proved each time.
+// By hand: docs/DECISIONS.md says why, at "Drops by hand".
 impl Drop for Names {
     fn drop(self) {
         let Names {

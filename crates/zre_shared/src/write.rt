@@ -29,7 +29,7 @@ pub struct Write {
     pub value: Octets,
 }
 
-// By hand, so that each way out calls it. A derived drop is inlined there, field by field, and proved each time.
+// By hand: docs/DECISIONS.md says why, at "Drops by hand".
 impl Drop for Write {
     fn drop(self) {
         let Write {

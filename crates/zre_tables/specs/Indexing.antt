@@ -13,7 +13,8 @@ IsGrown before now = (group : List ℕ) (key : ℕ) → is_member before group k
 
 -- the same but for groups that the peer of a link isn't in
 abbrev pub IsShrunk : ℕ → Peer → Memberships → Memberships → Type 0
-IsShrunk link peer before now = (group : List ℕ) (key : ℕ) → is_member before group key ≡ true → (key ≡ link → row_in group peer ≡ true) → is_member now group key ≡ true
+IsShrunk link peer before now = (group : List ℕ) (key : ℕ) → is_member before group key ≡ true →
+    (key ≡ link → row_in group peer ≡ true) → is_member now group key ≡ true
 
 -- the command is JOIN of this group
 abbrev pub joins : Command → List ℕ → Bool

@@ -19,7 +19,7 @@ pub struct Connection {
     pub conn: Option<Conn>,
 }
 
-// By hand, so that each way out calls it. A derived drop is inlined there, field by field, and proved each time.
+// By hand: docs/DECISIONS.md says why, at "Drops by hand".
 impl Drop for Connection {
     fn drop(self) {
         let Connection {

@@ -15,8 +15,8 @@ use zre_values::{OutOfMemory, PeerId};
 
 /// The open connections by their numbers. It is seen as the list of its rows.
 ///
-/// Beside the rows stands a moment before which none of those that run no peer began to rest, so that they are gone over
-/// only where one of them may have rested for too long.
+/// Beside the rows stands a moment before which none of those that run no peer began to rest, so that they are gone
+/// over only where one of them may have rested for too long.
 #[derive(Drop)]
 pub struct Conns {
     pub(crate) rows: BTreeMap<u64, Connection>,

@@ -3,7 +3,8 @@
 ghost use Rattle.std.specs.Prelude.{◌≡◌, ℕ, length, sum_by};
 ghost use Rattle.std.specs.List.{AllByRecursion};
 ghost use Rattle.zre_journal.specs.Held.{header_octets, view_octets};
-ghost use Rattle.zre_tables.specs.Holding.{capped, conn_row_octets, peer_row_octets, shown_octets, IsReading, IsSending};
+ghost use Rattle.zre_tables.specs.Holding.{capped, conn_row_octets, peer_row_octets, shown_octets};
+ghost use Rattle.zre_tables.specs.Holding.{IsReading, IsSending};
 ghost use Rattle.zre_tables.specs.Views.{view_of_row};
 ghost use Rattle.zre_tables.specs.declared.connection.Connection.{Connection as ConnectionValue};
 ghost use Rattle.zre_tables.specs.declared.peer.Peer.{Peer as PeerValue};

@@ -15,7 +15,7 @@ pub struct Running {
     pub run: Run,
 }
 
-// By hand, so that each way out calls it. A derived drop is inlined there, field by field, and proved each time.
+// By hand: docs/DECISIONS.md says why, at "Drops by hand".
 impl Drop for Running {
     fn drop(self) {
         let Running { conn: _, run: _run } = self;
@@ -34,7 +34,7 @@ pub struct Peer {
     pub link: Link,
 }
 
-// By hand, so that each way out calls it. A derived drop is inlined there, field by field, and proved each time.
+// By hand: docs/DECISIONS.md says why, at "Drops by hand".
 impl Drop for Peer {
     fn drop(self) {
         let Peer {

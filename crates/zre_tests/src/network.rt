@@ -113,7 +113,7 @@ struct Watched {
     missed: &'static str,
 }
 
-// By hand, so that each way out calls it. A derived drop is inlined there, field by field, and proved each time.
+// By hand: docs/DECISIONS.md says why, at "Drops by hand".
 impl Drop for Watched {
     fn drop(self) {
         let Watched {

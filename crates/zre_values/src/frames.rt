@@ -16,7 +16,7 @@ pub struct Frames {
     items: SmallVec<Octets, 2>,
 }
 
-// By hand, so that each way out calls it. A derived drop is inlined there, field by field, and proved each time.
+// By hand: docs/DECISIONS.md says why, at "Drops by hand".
 impl Drop for Frames {
     fn drop(self) {
         let Frames { items: _items } = self;

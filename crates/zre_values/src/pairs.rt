@@ -12,7 +12,7 @@ pub struct Pairs {
     items: Vec<(Octets, Octets)>,
 }
 
-// By hand, so that each way out calls it. A derived drop is inlined there, field by field, and proved each time.
+// By hand: docs/DECISIONS.md says why, at "Drops by hand".
 impl Drop for Pairs {
     fn drop(self) {
         let Pairs { items: _items } = self;

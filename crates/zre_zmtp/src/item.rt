@@ -17,7 +17,7 @@ pub struct Item {
     pub what: What,
 }
 
-// By hand, so that each way out calls it. A derived drop is inlined there, field by field, and proved each time.
+// By hand: docs/DECISIONS.md says why, at "Drops by hand".
 impl Drop for Item {
     fn drop(self) {
         let Item {
@@ -55,7 +55,7 @@ pub enum What {
     Message(Frames),
 }
 
-// By hand, so that each way out calls it. A derived drop is inlined there, form by form, and proved each time.
+// By hand: docs/DECISIONS.md says why, at "Drops by hand".
 impl Drop for What {
     fn drop(self) {
         match self {

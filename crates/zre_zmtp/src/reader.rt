@@ -52,7 +52,7 @@ pub struct Reader {
     spent: bool,
 }
 
-// By hand, so that each way out calls it. A derived drop is inlined there, field by field, and proved each time.
+// By hand: docs/DECISIONS.md says why, at "Drops by hand".
 impl Drop for Reader {
     fn drop(self) {
         let Reader {

@@ -22,7 +22,7 @@ pub struct Follower {
     items: Items,
 }
 
-// By hand, so that each way out calls it. A derived drop is inlined there, field by field, and proved each time.
+// By hand: docs/DECISIONS.md says why, at "Drops by hand".
 impl Drop for Follower {
     fn drop(self) {
         let Follower {

@@ -20,7 +20,7 @@ pub struct Lister {
     items: Items,
 }
 
-// By hand, so that each way out calls it. A derived drop is inlined there, field by field, and proved each time.
+// By hand: docs/DECISIONS.md says why, at "Drops by hand".
 impl Drop for Lister {
     fn drop(self) {
         let Lister {

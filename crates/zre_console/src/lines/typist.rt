@@ -23,7 +23,7 @@ pub struct Typist {
     long: bool,
 }
 
-// By hand, so that each way out calls it. A derived drop is inlined there, field by field, and proved each time.
+// By hand: docs/DECISIONS.md says why, at "Drops by hand".
 impl Drop for Typist {
     fn drop(self) {
         let Typist {

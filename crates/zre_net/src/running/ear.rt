@@ -16,7 +16,7 @@ pub(crate) struct Ear {
     conn: Conn,
 }
 
-// By hand, so that each way out calls it. A derived drop is inlined there, field by field, and proved each time.
+// By hand: docs/DECISIONS.md says why, at "Drops by hand".
 impl Drop for Ear {
     fn drop(self) {
         let Ear {

@@ -17,7 +17,7 @@ pub(crate) struct Line {
     pub waited: usize,
 }
 
-// By hand, so that each way out calls it. A derived drop is inlined there, field by field, and proved each time.
+// By hand: docs/DECISIONS.md says why, at "Drops by hand".
 impl Drop for Line {
     fn drop(self) {
         let Line {
@@ -35,7 +35,7 @@ pub(crate) struct Lines {
     first: Bytes,
 }
 
-// By hand, so that each way out calls it. A derived drop is inlined there, field by field, and proved each time.
+// By hand: docs/DECISIONS.md says why, at "Drops by hand".
 impl Drop for Lines {
     fn drop(self) {
         let Lines {

@@ -31,7 +31,7 @@ pub(crate) struct Network {
     pub pending: u64,
 }
 
-// By hand, so that each way out calls it. A derived drop is inlined there, field by field, and proved each time.
+// By hand: docs/DECISIONS.md says why, at "Drops by hand".
 impl Drop for Network {
     fn drop(self) {
         let Network {

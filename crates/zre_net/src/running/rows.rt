@@ -14,7 +14,7 @@ pub(crate) struct Started {
     pub sender: Sender,
 }
 
-// By hand, so that each way out calls it. A derived drop is inlined there, field by field, and proved each time.
+// By hand: docs/DECISIONS.md says why, at "Drops by hand".
 impl Drop for Started {
     fn drop(self) {
         let Started {
@@ -49,7 +49,7 @@ pub(crate) struct Carrier {
     pub ear: Ear,
 }
 
-// By hand, so that each way out calls it. A derived drop is inlined there, field by field, and proved each time.
+// By hand: docs/DECISIONS.md says why, at "Drops by hand".
 impl Drop for Carrier {
     fn drop(self) {
         let Carrier {

@@ -27,7 +27,7 @@ pub(crate) struct Sender {
     pub lines: Lines,
 }
 
-// By hand, so that each way out calls it. A derived drop is inlined there, field by field, and proved each time.
+// By hand: docs/DECISIONS.md says why, at "Drops by hand".
 impl Drop for Sender {
     fn drop(self) {
         let Sender {

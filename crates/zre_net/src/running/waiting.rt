@@ -15,7 +15,7 @@ pub(crate) struct Waiting {
     count: u64,
 }
 
-// By hand, so that each way out calls it. A derived drop is inlined there, field by field, and proved each time.
+// By hand: docs/DECISIONS.md says why, at "Drops by hand".
 impl Drop for Waiting {
     fn drop(self) {
         let Waiting {

@@ -65,8 +65,8 @@ verdict o =
     judgement (settings Second (earlier o)) (settings Second (later o)) (journal Second (earlier o))
     (journal Second (later o))
 
--- all that `audit` makes of octets: nothing is written before their end, and then whether the two nodes agree, or else the
--- place where the input is bad
+-- all that `audit` makes of octets: nothing is written before their end, and then whether the two nodes agree, or else
+-- the place where the input is bad
 abbrev pub audit : Meaning
 audit = record {
   text = λ o. [];

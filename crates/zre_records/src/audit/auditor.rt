@@ -20,8 +20,8 @@ use zre_capture::BadCapture;
 use zre_commands::pump::{Going, Machine, push_bad_line_at};
 use zre_values::{Octets, OutOfMemory};
 
-/// The machine of `audit`: two captures of format 2, one after the other, each read as it comes and told to the watch of
-/// its node. It keeps the octets of an unfinished line, and what was said by both nodes. The journals aren't kept.
+/// The machine of `audit`: two captures of format 2, one after the other, each read as it comes and told to the watch
+/// of its node. It keeps the octets of an unfinished line, and what was said by both nodes. The journals aren't kept.
 pub struct Auditor {
     alloc: Global,
     seam: Seam,
@@ -30,7 +30,7 @@ pub struct Auditor {
     second: Option<Later>,
 }
 
-// By hand, so that each way out calls it. A derived drop is inlined there, field by field, and proved each time.
+// By hand: docs/DECISIONS.md says why, at "Drops by hand".
 impl Drop for Auditor {
     fn drop(self) {
         let Auditor {

@@ -86,8 +86,8 @@ impl Seam {
         Ok(())
     }
 
-    /// Looks for the octet after the mark of a second capture, and says where in the piece it is. Without it all octets of
-    /// the piece are of the first capture, and else those before it.
+    /// Looks for the octet after the mark of a second capture, and says where in the piece it is. Without it all octets
+    /// of the piece are of the first capture, and else those before it.
     pub fn find(&mut self, piece: &[u8]) -> Result<Option<usize>, OutOfMemory>
         ensures { IfOk result (λ found. MatchOption found
             (IsUnparted self.old piece.now self.new) (λ place. IsParted self.old piece.now place self.new)) }

@@ -13,7 +13,7 @@ pub struct HeadReplayer {
     headed: Headed,
 }
 
-// By hand, so that each way out calls it. A derived drop is inlined there, field by field, and proved each time.
+// By hand: docs/DECISIONS.md says why, at "Drops by hand".
 impl Drop for HeadReplayer {
     fn drop(self) {
         let HeadReplayer { headed: _headed } = self;

@@ -18,7 +18,7 @@ pub(crate) struct Refused {
     pub bad: BadCapture,
 }
 
-// By hand, so that each way out calls it. A derived drop is inlined there, field by field, and proved each time.
+// By hand: docs/DECISIONS.md says why, at "Drops by hand".
 impl Drop for Refused {
     fn drop(self) {
         let Refused {

@@ -14,7 +14,7 @@ pub struct Simulator {
     kept: Octets,
 }
 
-// By hand, so that each way out calls it. A derived drop is inlined there, field by field, and proved each time.
+// By hand: docs/DECISIONS.md says why, at "Drops by hand".
 impl Drop for Simulator {
     fn drop(self) {
         let Simulator {

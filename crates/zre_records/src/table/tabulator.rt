@@ -19,7 +19,7 @@ pub struct Tabulator {
     replica: Replica,
 }
 
-// By hand, so that each way out calls it. A derived drop is inlined there, field by field, and proved each time.
+// By hand: docs/DECISIONS.md says why, at "Drops by hand".
 impl Drop for Tabulator {
     fn drop(self) {
         let Tabulator {

@@ -13,8 +13,8 @@ use zre_outside::Entries;
 use zre_values::{Octets, OutOfMemory};
 
 /// The machine of `upgrade`: the entries of a capture of format 1 are written as they come, in format 2, after a head
-/// with the settings that it is handed. It keeps the octets of an unfinished line, and a list that is used again for the
-/// entries of each piece.
+/// with the settings that it is handed. It keeps the octets of an unfinished line, and a list that is used again for
+/// the entries of each piece.
 pub struct Upgrader {
     settings: Settings,
     state: State,
@@ -23,7 +23,7 @@ pub struct Upgrader {
     entries: Entries,
 }
 
-// By hand, so that each way out calls it. A derived drop is inlined there, field by field, and proved each time.
+// By hand: docs/DECISIONS.md says why, at "Drops by hand".
 impl Drop for Upgrader {
     fn drop(self) {
         let Upgrader {

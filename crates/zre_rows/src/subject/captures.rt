@@ -15,7 +15,7 @@ pub struct Captures {
     text: Text,
 }
 
-// By hand, so that each way out calls it. A derived drop is inlined there, field by field, and proved each time.
+// By hand: docs/DECISIONS.md says why, at "Drops by hand".
 impl Drop for Captures {
     fn drop(self) {
         let Captures { text: _text } = self;

@@ -44,7 +44,7 @@ pub struct Commands {
     file: Text,
 }
 
-// By hand, so that each way out calls it. A derived drop is inlined there, field by field, and proved each time.
+// By hand: docs/DECISIONS.md says why, at "Drops by hand".
 impl Drop for Commands {
     fn drop(self) {
         let Commands {

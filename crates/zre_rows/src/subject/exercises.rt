@@ -13,7 +13,7 @@ pub struct Exercises {
     exercise: Exercise,
 }
 
-// By hand, so that each way out calls it. A derived drop is inlined there, field by field, and proved each time.
+// By hand: docs/DECISIONS.md says why, at "Drops by hand".
 impl Drop for Exercises {
     fn drop(self) {
         let Exercises {

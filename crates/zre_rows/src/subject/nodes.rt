@@ -21,7 +21,7 @@ pub struct Nodes {
     acts: Text,
 }
 
-// By hand, so that each way out calls it. A derived drop is inlined there, field by field, and proved each time.
+// By hand: docs/DECISIONS.md says why, at "Drops by hand".
 impl Drop for Nodes {
     fn drop(self) {
         let Nodes {

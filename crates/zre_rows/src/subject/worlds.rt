@@ -17,7 +17,7 @@ pub struct Worlds {
     played: Option<Played>,
 }
 
-// By hand, so that each way out calls it. A derived drop is inlined there, field by field, and proved each time.
+// By hand: docs/DECISIONS.md says why, at "Drops by hand".
 impl Drop for Worlds {
     fn drop(self) {
         let Worlds {
@@ -33,7 +33,7 @@ struct Played {
     sure: SureWorld,
 }
 
-// By hand, so that each way out calls it. A derived drop is inlined there, field by field, and proved each time.
+// By hand: docs/DECISIONS.md says why, at "Drops by hand".
 impl Drop for Played {
     fn drop(self) {
         let Played {

@@ -16,7 +16,7 @@ pub struct Conns {
     arrivals: Arrivals,
 }
 
-// By hand, so that each way out calls it. A derived drop is inlined there, field by field, and proved each time.
+// By hand: docs/DECISIONS.md says why, at "Drops by hand".
 impl Drop for Conns {
     fn drop(self) {
         let Conns {

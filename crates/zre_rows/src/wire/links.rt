@@ -19,7 +19,7 @@ pub struct Links {
     link: Link,
 }
 
-// By hand, so that each way out calls it. A derived drop is inlined there, field by field, and proved each time.
+// By hand: docs/DECISIONS.md says why, at "Drops by hand".
 impl Drop for Links {
     fn drop(self) {
         let Links { link: _link } = self;

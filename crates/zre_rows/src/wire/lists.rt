@@ -15,7 +15,7 @@ pub struct Lists {
     keys: Keys,
 }
 
-// By hand, so that each way out calls it. A derived drop is inlined there, field by field, and proved each time.
+// By hand: docs/DECISIONS.md says why, at "Drops by hand".
 impl Drop for Lists {
     fn drop(self) {
         let Lists {

@@ -11,7 +11,7 @@ pub struct OwnGroups {
     own: Own,
 }
 
-// By hand, so that each way out calls it. A derived drop is inlined there, field by field, and proved each time.
+// By hand: docs/DECISIONS.md says why, at "Drops by hand".
 impl Drop for OwnGroups {
     fn drop(self) {
         let OwnGroups { own: _own } = self;

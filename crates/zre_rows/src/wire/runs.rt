@@ -15,7 +15,7 @@ pub struct Runs {
     teller: Teller,
 }
 
-// By hand, so that each way out calls it. A derived drop is inlined there, field by field, and proved each time.
+// By hand: docs/DECISIONS.md says why, at "Drops by hand".
 impl Drop for Runs {
     fn drop(self) {
         let Runs {

@@ -17,7 +17,7 @@ pub struct Streams {
     items: Items,
 }
 
-// By hand, so that each way out calls it. A derived drop is inlined there, field by field, and proved each time.
+// By hand: docs/DECISIONS.md says why, at "Drops by hand".
 impl Drop for Streams {
     fn drop(self) {
         let Streams {

@@ -24,7 +24,7 @@ pub struct Moments {
     touches: Vec<Touch>,
 }
 
-// By hand, so that each way out calls it. A derived drop is inlined there, field by field, and proved each time.
+// By hand: docs/DECISIONS.md says why, at "Drops by hand".
 impl Drop for Moments {
     fn drop(self) {
         let Moments {

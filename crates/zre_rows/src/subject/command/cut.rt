@@ -10,7 +10,7 @@ struct Sizes {
     last: u64,
 }
 
-// By hand, so that each way out calls it. A derived drop is inlined there, field by field, and proved each time.
+// By hand: docs/DECISIONS.md says why, at "Drops by hand".
 impl Drop for Sizes {
     fn drop(self) {
         let Sizes {
@@ -41,7 +41,7 @@ pub struct Cut {
     pub given: u64,
 }
 
-// By hand, so that each way out calls it. A derived drop is inlined there, field by field, and proved each time.
+// By hand: docs/DECISIONS.md says why, at "Drops by hand".
 impl Drop for Cut {
     fn drop(self) {
         let Cut {

@@ -8,7 +8,7 @@ pub struct Narrow {
     most: usize,
 }
 
-// By hand, so that each way out calls it. A derived drop is inlined there, field by field, and proved each time.
+// By hand: docs/DECISIONS.md says why, at "Drops by hand".
 impl Drop for Narrow {
     fn drop(self) {
         let Narrow {
