@@ -5,6 +5,8 @@
 #[cfg(test)]
 mod adapters;
 #[cfg(test)]
+mod callers;
+#[cfg(test)]
 mod gates;
 #[cfg(test)]
 mod network;

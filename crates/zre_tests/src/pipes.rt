@@ -2,80 +2,21 @@
 
 ghost use Rattle.std.specs.Arc.{arc_value};
 ghost use Rattle.zre_outside.specs.Spawners.{job_of};
-ghost use Rattle.std.specs.Prelude.{◌≡◌, ◌+◌, ◌<◌, ◌^◌, ◌++◌, ◌∷◌, [], None, IsSome, IfSome};
+ghost use Rattle.std.specs.Prelude.{◌≡◌, None, IsSome, IfSome};
 ghost use Rattle.zre_tests.specs.Ready.{IsReady};
-ghost use Rattle.zre_actor.specs.Passes.{IsActorOf, IsCallerOf, IsTakerOf, AreCallersOf, given_of, room_of};
-ghost use Rattle.zre_actor.specs.Passes.{unused_by, ending_of, ended, how_many, last_of};
+ghost use Rattle.zre_actor.specs.Passes.{IsActorOf, IsCallerOf, IsTakerOf, ending_of, ended, last_of};
 
+use crate::callers::{put_again, take_all, talk};
 use std::alloc::Global;
 use std::sync::{Arc, Wait};
 use std::thread::{Threads, join};
-use zre_actor::{
-    ActorJob, ActorPass, CallerPass, CallerPasses, Ending, Full, Made, Pipes, TakerPass, Told,
-};
+use zre_actor::{ActorJob, ActorPass, CallerPass, CallerPasses, Ending, Made, Pipes, TakerPass};
 use zre_journal::Config;
 use zre_node::Node;
 use zre_outside::{
     Command, Running, Script, Spawner, SureRecorder, SureWorld, ThreadSpawner, Turn,
 };
-use zre_peer::Event;
 use zre_values::{Octets, OutOfMemory, Pairs, PeerId};
-
-/// Puts a command, and tries again while the pipe is full.
-fn put_again<R: Wait + Copy>(
-    rt: R,
-    pipes: &Pipes,
-    mut pass: CallerPass,
-    mut command: Command,
-) -> CallerPass
-    requires { IsCallerOf pipes.now pass }
-    ensures pipes { IsCallerOf pipes.now result }
-    ensures ended { ended result ≡ ended pass }
-{
-    for _ in rt.forever() {
-        match pipes.put(rt, pass, command) {
-            Ok(done) => return done,
-            Err(full) => {
-                let Full {
-                    pass: back,
-                    command: again,
-                } = full;
-                pass = back;
-                command = again;
-            }
-        }
-    }
-    unreachable!()
-}
-
-/// One more, where the node told that it stopped.
-fn with_stop(stops: u64, event: &Event) -> u64 {
-    match event {
-        Event::Stop => stops.saturating_add(1),
-        _ => stops,
-    }
-}
-
-/// Takes events until Last. How often the node told that it stopped, and the ending.
-fn take_all<R: Wait + Copy>(rt: R, pipes: &Pipes, mut taker: TakerPass) -> (TakerPass, u64, Ending)
-    requires pipes { IsTakerOf pipes.now taker }
-    requires open { last_of taker ≡ None }
-    ensures pipes { IsTakerOf pipes.now result.0 }
-    ensures last { IsSome (last_of result.0) }
-{
-    let mut stops: u64 = 0;
-    for _ in rt.forever() {
-        let (pass, told) = pipes.take(rt, taker);
-        match told {
-            Told::Last(ending) => return (pass, stops, ending),
-            Told::Event(event) => {
-                stops = with_stop(stops, &event);
-                taker = pass;
-            }
-        }
-    }
-    unreachable!()
-}
 
 fn node_of(alloc: Global) -> Result<Option<Node>, OutOfMemory> {
     let config = Config {
@@ -101,73 +42,6 @@ fn looks(alloc: Global, n: u64) -> Result<SureWorld, OutOfMemory> {
         script.push(Turn::Look)?;
     }
     Ok(SureWorld::new(alloc, script))
-}
-
-/// The first caller joins and leaves a group, and the second asks to leave the network: each with a pass of its own.
-fn talk_apart<R: Wait + Copy>(
-    rt: R,
-    pipes: &Pipes,
-    mut callers: CallerPasses,
-    first: CallerPass,
-    second: CallerPass,
-    groups: (Octets, Octets),
-) -> CallerPasses
-    requires pipes { IsCallerOf pipes.now first × IsCallerOf pipes.now second }
-    requires new { (ended first ≡ []) × (ended second ≡ []) }
-    requires callers { (given_of callers ≡ []) × (1 < room_of callers) }
-    ensures pipes { AreCallersOf pipes.now (given_of result) }
-    ensures many { how_many (given_of result) ≡ 2 }
-{
-    let first = put_again(rt, pipes, first, Command::Join { group: groups.0 });
-    let first = put_again(rt, pipes, first, Command::Leave { group: groups.1 });
-    let second = put_again(rt, pipes, second, Command::Quit);
-    callers.give(first);
-    callers.give(second);
-    callers
-}
-
-/// The same, but the second takes in the first one's pass before it asks.
-fn talk_absorbed<R: Wait + Copy>(
-    rt: R,
-    pipes: &Pipes,
-    mut callers: CallerPasses,
-    first: CallerPass,
-    second: CallerPass,
-    groups: (Octets, Octets),
-) -> CallerPasses
-    requires pipes { IsCallerOf pipes.now first × IsCallerOf pipes.now second }
-    requires new { (ended first ≡ []) × (ended second ≡ []) }
-    requires callers { (given_of callers ≡ []) × (1 < room_of callers) }
-    ensures pipes { AreCallersOf pipes.now (given_of result) }
-    ensures many { how_many (given_of result) ≡ 2 }
-{
-    let first = put_again(rt, pipes, first, Command::Join { group: groups.0 });
-    let first = put_again(rt, pipes, first, Command::Leave { group: groups.1 });
-    let both = pipes.absorb(rt, second, first);
-    callers.give(put_again(rt, pipes, both, Command::Quit));
-    callers
-}
-
-fn talk<R: Wait + Copy>(
-    rt: R,
-    pipes: &Pipes,
-    callers: CallerPasses,
-    first: CallerPass,
-    second: CallerPass,
-    groups: (Octets, Octets),
-    absorbs: bool,
-) -> CallerPasses
-    requires pipes { IsCallerOf pipes.now first × IsCallerOf pipes.now second }
-    requires new { (ended first ≡ []) × (ended second ≡ []) }
-    requires callers { (given_of callers ≡ []) × (1 < room_of callers) }
-    ensures pipes { AreCallersOf pipes.now (given_of result) }
-    ensures many { how_many (given_of result) ≡ 2 }
-{
-    if absorbs {
-        talk_absorbed(rt, pipes, callers, first, second, groups)
-    } else {
-        talk_apart(rt, pipes, callers, first, second, groups)
-    }
 }
 
 /// The passes of those beside the actor.

@@ -2,7 +2,7 @@ use Rattle.std.proofs.Common.{◌∷◌, ◌++◌, [], ap, ◌∙◌, subst, sym
 use Rattle.std.proofs.lemmas.List.Elements.{All-push}
 use Rattle.zre_actor.specs.Passes.{IsCallerOf, AreCallersOf, how_many}
 use Rattle.zre_actor.proofs.Given.{two_alone}
-use Rattle.zre_tests.proofs.pipes.talk_apart.Goals as goal
+use Rattle.zre_tests.proofs.callers.talk_apart.Goals as goal
 
 pub returns-clause-pipes : goal.returns-clause-pipes
 returns-clause-pipes g c = let p = c.put_again-first-2.result in let q = c.put_again-second.result in

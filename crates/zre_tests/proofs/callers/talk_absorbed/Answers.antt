@@ -2,7 +2,7 @@ use Rattle.std.proofs.Common.{◌≡◌, ◌∷◌, ◌++◌, [], ap, ◌∙◌,
 use Rattle.std.proofs.lemmas.List.Elements.{All-push}
 use Rattle.zre_actor.specs.Passes.{IsCallerOf, AreCallersOf, number, ended, how_many}
 use Rattle.zre_tests.proofs.Given.{with_one}
-use Rattle.zre_tests.proofs.pipes.talk_absorbed.Goals as goal
+use Rattle.zre_tests.proofs.callers.talk_absorbed.Goals as goal
 
 pub returns-clause-pipes : goal.returns-clause-pipes
 returns-clause-pipes g c = let r = c.put_again.result in
