@@ -1,5 +1,5 @@
 -- Where nothing but clients fails, a gate does all that it is asked for, unless memory runs out.
-use Rattle.std.proofs.Common.{◌≡◌, ◌⊎◌, ℕ, ◌<◌, Bool, false, List, [], ◌∷◌, length, Option, Some, None, inl, inr, refl, sym, subst, arith}
+use Rattle.std.proofs.Common.{◌≡◌, ◌⊎◌, ℕ, ◌<◌, Bool, false, List, [], ◌∷◌, map, length, Option, Some, None, inl, inr, refl, sym, subst, arith}
 use Rattle.std.specs.Prelude.{nat_le, All, Contains}
 use Rattle.std.proofs.KnownBytes.{Appends-nil}
 use Rattle.std.proofs.lemmas.List.Elements.{All-contains}
@@ -8,10 +8,13 @@ use Rattle.zre_commands.specs.declared.pump.status.Status.{Status}
 use Rattle.zre_commands.specs.declared.pump.status.Status.TheVariants.{Done, Usage, BadInput, ReadFault, WriteFault, WorldFault, NoThread, TooLong, OutOfMemory, DeskFault}
 use Rattle.zre_chat.specs.Chat.{Seen}
 use Rattle.zre_chat.specs.Statuses.{rank, least}
+use Rattle.zre_chat.proofs.Rows.{memory_isnt}
+use Rattle.zre_chat.proofs.Whole.{none_started}
 use Rattle.zre_gate.specs.Clients.{Row}
-use Rattle.zre_gate.specs.Gate.{Client, IsCaused, AreCaused}
+use Rattle.zre_gate.specs.Gate.{Client, IsCaused, AreCaused, IsGate}
 use Rattle.zre_gate.specs.declared.gate.Gate.{Gate}
-use Rattle.zre_gate.proofs.Unopened.{not_gated}
+use Rattle.zre_gate.proofs.Attended.{not_attended}
+use Rattle.zre_gate.proofs.Unopened.{unopened}
 use Rattle.zre_app.specs.Complete.{WellOrShort, NoneRose, IsBelow, CompletesGate}
 use Rattle.zre_app.specs.DoesGate.{DoesGate}
 use Rattle.zre_app.specs.Usage.{usage_line}
@@ -47,4 +50,12 @@ gate_completes (Some g) limit status s t desk = λ before after gate served none
 -- a call that found no memory at its start
 pub nothing_gated : {C : Type 0} (look : C → Row) (g : Option Gate) (limit : ℕ) (told : Option (Register C)) (s : Seen) (desk : Type 0) (returned : List C) → returned ≡ [] → DoesGate look g limit OutOfMemory told told s s desk returned
 nothing_gated look None limit told s desk returned none = ([], usage_line, refl, Appends-nil s.written)
-nothing_gated look (Some g) limit told s desk returned none = not_gated look g.local told g.chat.config g.chat.start g.chat.capture limit g.clients s desk returned none
+nothing_gated look (Some g) limit told s desk returned none = record {
+  given = [];
+  begun = false;
+  is_told = not_attended g.local told;
+  opened = λ is. absurd (memory_isnt is);
+  gate = subst (λ xs. IsGate g.chat.config g.chat.start g.chat.capture limit g.clients s s desk [] (map look xs) OutOfMemory) (sym none)
+      (unopened g.chat.config g.chat.start g.chat.capture limit g.clients s s desk [] false OutOfMemory (λ isnt. absurd (isnt refl)) refl (none_started s.told)
+      memory_isnt tt (λ file is isnt still. absurd (isnt refl)));
+}

@@ -1,27 +1,41 @@
--- The pipes before any step.
-use Rattle.std.specs.Prelude.{◌≡◌, ◌≢◌, ◌≤◌, ◌+◌, [], None, length}
+-- The pipes before any step, and what each thread is given.
+use Rattle.std.specs.Prelude.{◌≡◌, ◌≢◌, ℕ, ◌≤◌, ◌+◌, [], None, length}
 use Rattle.std.specs.Arc.{arc_value}
+use Rattle.zre_actor.specs.declared.passes.Pipes.{Pipes}
 use Rattle.zre_actor.specs.Passes.{IsActorOf, IsCallerOf, IsTakerOf, IsNew, number, given_of, room_of, unused_by}
 use Rattle.zre_actor.specs.Passes.{popped_by, raised_by, ending_of, taken_by, last_of}
+use Rattle.zre_chat.specs.declared.places.Chair.{Chair}
+use Rattle.zre_chat.specs.declared.places.NodeSeat.{NodeSeat}
 use Rattle.zre_chat.specs.declared.table.Table.{Table}
+
+-- it belongs to these pipes, and nothing was put under its pass
+abbrev pub IsChair : Pipes → Chair → Type 0
+IsChair pipes c = (arc_value c.pipes ≡ pipes) × IsCallerOf pipes c.pass × IsNew c.pass
+
+-- it belongs to these pipes, which have so many callers, and nothing was done with its pass
+pub record IsFree (pipes : Pipes) (callers : ℕ) (s : NodeSeat) : Type 0 where
+  pub same : arc_value s.pipes ≡ pipes
+  pub of_pipes : IsActorOf pipes s.pass
+  pub unused : length (unused_by s.pass) + callers ≡ 16
+  pub none_popped : popped_by s.pass ≡ []
+  pub no_finds : s.pass.empties ≡ 0
+  pub none_raised : raised_by s.pass ≡ []
+  pub no_ending : ending_of s.pass ≡ None
+
+-- what the node's thread is started with: the pipes, the world, the node, the pass, the recorder, whether a capture is
+-- kept, and the most turns
+abbrev pub parts : {A B C D E F G : Type 0} → A → B → C → D → E → F → G → A × B × C × D × E × F × G
+parts pipes world node pass recorder keep limit = (pipes, world, node, pass, recorder, keep, limit)
 
 -- all passes belong to the pipes, and nothing was done with any; the two callers put under two numbers
 pub record IsLaid (t : Table) : Type 0 where
-  pub same_actor : arc_value t.pipes_of_actor ≡ arc_value t.pipes
-  pub same_reader : arc_value t.pipes_of_reader ≡ arc_value t.pipes
-  pub of_actor : IsActorOf (arc_value t.pipes) t.actor
-  pub of_reader : IsCallerOf (arc_value t.pipes) t.reader
+  pub seat : IsFree (arc_value t.pipes) 2 t.seat
+  pub reader : IsChair (arc_value t.pipes) t.reader
   pub of_asker : IsCallerOf (arc_value t.pipes) t.asker
   pub of_taker : IsTakerOf (arc_value t.pipes) t.taker
-  pub apart : number t.reader ≢ number t.asker
-  pub new_reader : IsNew t.reader
+  pub apart : number t.reader.pass ≢ number t.asker
   pub new_asker : IsNew t.asker
   pub none_given : given_of t.callers ≡ []
   pub room : 2 ≤ room_of t.callers
-  pub unused : length (unused_by t.actor) + 2 ≡ 16
-  pub none_popped : popped_by t.actor ≡ []
-  pub no_finds : t.actor.empties ≡ 0
-  pub none_raised : raised_by t.actor ≡ []
-  pub no_ending : ending_of t.actor ≡ None
   pub none_taken : taken_by t.taker ≡ []
   pub no_last : last_of t.taker ≡ None

@@ -114,7 +114,7 @@ fn prepare<W: World, R: Recorder>(
 ) -> Result<Table, Status>
     requires valid { is_valid config ≡ true }
     requires text { IfSome capture.now (λ name. is_utf8 name ≡ true) }
-    ensures laid { IfOk result (λ table. IsLaid table × StandsFor config [] table.node) }
+    ensures laid { IfOk result (λ table. IsLaid table × StandsFor config [] table.seat.node) }
     ensures told { OnOk result (W.told world.new ≡ option_map (with_start start.now) (W.told world.old)) }
     ensures kept { (name : List ℕ) → capture.now ≡ Some name →
         OnOk result (Begins (head_of config) name (R.begun rec.new) (R.kept rec.old) (R.kept rec.new) (R.named rec.old)

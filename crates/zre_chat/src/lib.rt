@@ -3,7 +3,10 @@
 #![tactic(auto)]
 
 mod chat;
+pub mod finishing;
 pub mod keeping;
+pub mod places;
+pub mod starting;
 pub mod statuses;
 mod table;
 mod talk;

@@ -14,16 +14,18 @@ ghost use Rattle.zre_chat.specs.Statuses.{least, of_read, of_print, of_work, of_
 ghost use Rattle.zre_chat.specs.Tables.{IsLaid};
 
 use crate::chat::Ended;
+use crate::finishing::finish_pipes;
+use crate::starting::start_node;
 use crate::statuses::status_of;
 use crate::table::Table;
 use crate::talk::{Talk, hold_talk};
 use std::alloc::Global;
 use std::sync::Wait;
 use std::thread::Threads;
-use zre_actor::{ActorJob, CallerPasses, Pipes, Worked};
+use zre_actor::{CallerPasses, Pipes, Worked};
 use zre_commands::pump::Status;
 use zre_console::reader::ReaderJob;
-use zre_outside::{Recorder, Refused, Sink, Source, Spawner, World};
+use zre_outside::{Recorder, Sink, Source, Spawner, World};
 
 /// Starts the node's thread and the reader's, prints, and waits for both.
 pub(crate) fn converse<I, W, O, R, P, T>(
@@ -48,7 +50,7 @@ where
     requires laid { IsLaid table }
     requires begun { keep ≡ true → R.begun rec ≡ true }
     ensures chat { (g : ConfigValue) (start : StartValue) (name : Option (List ℕ)) (s : Seen)
-        → StandsFor g [] table.node →
+        → StandsFor g [] table.seat.node →
         Prepared g start name keep s (seen (I.left input) (I.taken input) (I.faults input)
         (W.told world) (W.faults world) (O.written out.old) (O.faults out.old)
         (R.kept rec) (R.named rec) (R.faults rec) (P.faults spawner.old)) →
@@ -62,44 +64,30 @@ where
         × (P.faults spawner.old ≤ P.faults spawner.new) }
 {
     let Table {
+        seat,
         pipes,
-        pipes_of_actor,
-        pipes_of_reader,
         over,
-        over_of_reader,
-        node,
-        actor,
         reader,
         asker,
         callers,
         taker,
     } = table;
-    let job = ActorJob {
-        pipes: pipes_of_actor,
-        world,
-        node,
-        pass: actor,
-        rec,
-        keep,
-        limit,
-    };
-    let working = match spawner.start(job) {
+    let working = match start_node(spawner, seat, world, rec, keep, limit) {
         Ok(working) => working,
-        Err(refused) => {
-            let Refused { job } = refused;
+        Err((world, rec)) => {
             return Ended {
                 status: Status::NoThread,
                 input,
-                world: job.world,
-                rec: job.rec,
+                world,
+                rec,
             };
         }
     };
     let job = ReaderJob {
         alloc,
-        pipes: pipes_of_reader,
-        over: over_of_reader,
-        pass: reader,
+        pipes: reader.pipes,
+        over: reader.over,
+        pass: reader.pass,
         input,
         limit,
     };
@@ -112,7 +100,7 @@ where
 fn settle<I, W, R, T: Wait + Copy>(
     rt: T,
     pipes: &Pipes,
-    mut callers: CallerPasses,
+    callers: CallerPasses,
     talk: Talk<I>,
     worked: Worked<W, R>,
 ) -> Ended<I, W, R>
@@ -134,10 +122,16 @@ fn settle<I, W, R, T: Wait + Copy>(
         printed,
         refused,
     } = talk;
-    callers.give(read.pass);
-    callers.give(printed.pass);
     let status = status_of(read.end, printed.fault, worked.ending, refused);
-    pipes.finish(rt, worked.pass, callers, printed.taker);
+    finish_pipes(
+        rt,
+        pipes,
+        callers,
+        read.pass,
+        printed.pass,
+        printed.taker,
+        worked.pass,
+    );
     Ended {
         status,
         input: read.input,

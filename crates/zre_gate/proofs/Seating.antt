@@ -10,10 +10,11 @@ use Rattle.zre_actor.specs.Commands.{times, row as row_of}
 use Rattle.zre_actor.specs.Passes.{caller, number, numbers_of, ended, live_of, how_many}
 use Rattle.zre_actor.proofs.Rows.{length_row}
 use Rattle.zre_actor.proofs.Sums.{times-append}
-use Rattle.zre_gate.specs.declared.table.Chair.{Chair}
+use Rattle.zre_chat.specs.declared.places.Chair.{Chair}
+use Rattle.zre_chat.specs.Tables.{IsChair}
 use Rattle.zre_gate.specs.Clients.{Row}
 use Rattle.zre_gate.specs.Halls.{Hall, hall_of, guest_at, guests_of, IsGuest}
-use Rattle.zre_gate.specs.Tables.{IsChair, chair_number}
+use Rattle.zre_gate.specs.Tables.{chair_number}
 use Rattle.zre_gate.proofs.Places.{guest_there, row_once}
 
 -- one amid others

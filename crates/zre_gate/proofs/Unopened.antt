@@ -107,15 +107,3 @@ module _ (g : Config) (start : Start) (name : Option (List ℕ)) (limit many : �
   early ReadFault worlds records v r is = absurd is
   early NoThread worlds records v r is = absurd is
   early TooLong worlds records v r is = absurd is
-
--- one that found no memory before anything was begun
-pub not_gated : {C : Type 0} (look : C → Row) (place : Endpoint) (told : Option (Register C)) (g : Config) (start : Start) (name : Option (List ℕ)) (limit many : ℕ) (s : Seen) (desk : Type 0) (returned : List C) → returned ≡ []
-    → HasGated look place told told g start name limit many s s desk returned OutOfMemory
-not_gated look place told g start name limit many s desk returned none = record {
-  given = [];
-  begun = false;
-  is_told = not_attended place told;
-  opened = λ is. absurd (memory_isnt is);
-  gate = subst (λ xs. IsGate g start name limit many s s desk [] (map look xs) OutOfMemory) (sym none)
-      (unopened g start name limit many s s desk [] false OutOfMemory (λ isnt. absurd (isnt refl)) refl (none_started s.told) memory_isnt tt (λ file is isnt still. absurd (isnt refl)));
-}

@@ -1,7 +1,7 @@
 //! The whole call, with its order of starts.
 
 ghost use Rattle.std.specs.Prelude.{◌≡◌, ◌≤◌, ℕ, List, [], true, None, Some, option_map, IfSome, IfOk, IfErr, OnOk};
-ghost use Rattle.std.specs.Prelude.{length, map, vec_capacity};
+ghost use Rattle.std.specs.Prelude.{length, map};
 ghost use Rattle.std.specs.Str.{is_utf8};
 ghost use Rattle.zre_outside.specs.Causes.{Rose};
 ghost use Rattle.zre_outside.specs.Worlds.{with_start};
@@ -15,7 +15,7 @@ ghost use Rattle.zre_gate.specs.Tables.{IsLaid};
 
 use crate::arrivals::attend;
 use crate::table::Table;
-use crate::threads::{Served, serve};
+use crate::threads::serve;
 use std::alloc::Global;
 use std::sync::Wait;
 use std::thread::Threads;
@@ -96,15 +96,7 @@ impl Gate {
         } = chat;
         are_values(&config);
         let (mut desk, mut world, mut rec) = (desk, world, rec);
-        let Ok(mut clients) = Vec::with_capacity(alloc, usize::from(many)) else {
-            return GateEnded {
-                status: Status::OutOfMemory,
-                desk,
-                clients: Vec::new(alloc),
-                world,
-                rec,
-            };
-        };
+        let mut clients = Vec::new(alloc);
         let opened = prepare(
             alloc,
             config,
@@ -117,33 +109,27 @@ impl Gate {
             &mut world,
             &mut rec,
         );
-        let table = match opened {
-            Ok(table) => table,
-            Err(status) => {
-                return GateEnded {
-                    status,
+        match opened {
+            Ok(table) => {
+                let keep = capture.is_some();
+                let served = serve(
+                    rt, alloc, table, clients, world, out, rec, keep, spawner, limit,
+                );
+                GateEnded {
+                    status: served.status,
                     desk,
-                    clients,
-                    world,
-                    rec,
-                };
+                    clients: served.clients,
+                    world: served.world,
+                    rec: served.rec,
+                }
             }
-        };
-        let keep = capture.is_some();
-        let Served {
-            status,
-            clients,
-            world,
-            rec,
-        } = serve(
-            rt, alloc, table, clients, world, out, rec, keep, spawner, limit,
-        );
-        GateEnded {
-            status,
-            desk,
-            clients,
-            world,
-            rec,
+            Err(status) => GateEnded {
+                status,
+                desk,
+                clients,
+                world,
+                rec,
+            },
         }
     }
 }
@@ -164,8 +150,8 @@ fn prepare<D: Desk, W: World, R: Recorder>(
     requires valid { is_valid config ≡ true }
     requires text { IfSome capture.now (λ name. is_utf8 name ≡ true) }
     requires few { (1 ≤ many) × (many ≤ 14) }
-    requires room { (clients.old.items ≡ []) × (many ≤ vec_capacity clients.old) }
-    ensures laid { IfOk result (λ table. IsLaid many table × StandsFor config [] table.node) }
+    requires none { clients.old.items ≡ [] }
+    ensures laid { IfOk result (λ table. IsLaid many table × StandsFor config [] table.seat.node) }
     ensures attends { Attends local (D.told desk.old) (D.told desk.new) clients.new.items }
     ensures all { OnOk result (AttendsAll local many (D.told desk.old) (D.told desk.new) clients.new.items) }
     ensures told { OnOk result (W.told world.new ≡ option_map (with_start start.now) (W.told world.old)) }
@@ -179,6 +165,9 @@ fn prepare<D: Desk, W: World, R: Recorder>(
         (Rose (D.faults desk.old) (D.faults desk.new)) (Rose (W.faults world.old) (W.faults world.new))
         (Rose (R.faults rec.old) (R.faults rec.new))) }
 {
+    if clients.reserve(usize::from(many)).is_err() {
+        return Err(Status::OutOfMemory);
+    }
     if let Err(fault) = begin(alloc, rec, &config, capture) {
         return Err(of_fault(fault, Status::WriteFault));
     }

@@ -19,21 +19,24 @@ ghost use Rattle.zre_chat.specs.Statuses.{least, of_print, of_work, of_thread};
 ghost use Rattle.zre_gate.specs.Clients.{row};
 ghost use Rattle.zre_gate.specs.Gate.{IsGate, seen_beside};
 ghost use Rattle.zre_gate.specs.Halls.{hall_of, IsGuest};
-ghost use Rattle.zre_gate.specs.Tables.{IsLaid, IsChair, chair_number};
+ghost use Rattle.zre_chat.specs.Tables.{IsChair};
+ghost use Rattle.zre_gate.specs.Tables.{IsLaid, chair_number};
 
 use crate::client::{Answer, ClientJob, excuse};
 use crate::closer::CloserJob;
 use crate::known::Known;
-use crate::table::{Chair, Table};
+use crate::table::{Others, Table};
 use crate::talk::{Talk, hold_talk};
 use crossbeam_channel::{Receiver, Sender, bounded};
 use std::alloc::Global;
 use std::collections::VecDeque;
 use std::marker::Brand;
-use std::sync::atomic::AtomicBool;
-use std::sync::{Arc, Wait};
+use std::sync::Wait;
 use std::thread::Threads;
-use zre_actor::{ActorJob, ActorPass, CallerPass, CallerPasses, Ending, Pipes, TakerPass, Worked};
+use zre_actor::{CallerPasses, Ending, Pipes, Worked};
+use zre_chat::finishing::finish_pipes;
+use zre_chat::places::Chair;
+use zre_chat::starting::start_node;
 use zre_chat::statuses::{first, of_print, of_thread, of_work};
 use zre_commands::pump::Status;
 use zre_outside::{NextFault, Recorder, Refused, Running, Sink, Source, Spawner, Task, World};
@@ -211,7 +214,7 @@ where
     requires laid { IsLaid (length clients.items) table }
     requires begun { keep ≡ true → R.begun rec ≡ true }
     ensures gate { (g : ConfigValue) (start : StartValue) (name : Option (List ℕ)) (s : Seen) (before after : ℕ)
-        → StandsFor g [] table.node →
+        → StandsFor g [] table.seat.node →
         Prepared g start name keep s (seen_beside (W.told world) (W.faults world) (O.written out.old) (O.faults out.old)
         (R.kept rec) (R.named rec) (R.faults rec) (P.faults spawner.old)) →
         IsGate g start name limit (length clients.items) s
@@ -225,21 +228,6 @@ where
     serve_known::<C, W, O, R, P, T, Brand>(
         rt, alloc, table, clients, world, out, rec, keep, spawner, limit,
     )
-}
-
-// A table without what the node's thread takes of it. Where that isn't started, it is let go as one.
-#[derive(Drop)]
-struct Rest<C> {
-    pipes: Arc<Pipes, Global>,
-    pipes_of_closer: Arc<Pipes, Global>,
-    over: Arc<AtomicBool, Global>,
-    over_of_closer: Arc<AtomicBool, Global>,
-    closer: CallerPass,
-    asker: CallerPass,
-    chairs: VecDeque<Chair>,
-    callers: CallerPasses,
-    taker: TakerPass,
-    left: Vec<C>,
 }
 
 fn serve_known<C, W, O, R, P, T, B>(
@@ -264,10 +252,10 @@ where
     B: Known + Send + 'static,
     requires laid { IsLaid (length clients.items) table }
     requires begun { keep ≡ true → R.begun rec ≡ true }
-    requires hall { B.hall ≡ Some (hall_of (arc_value table.pipes) limit (map chair_number table.chairs.items)
+    requires hall { B.hall ≡ Some (hall_of (arc_value table.others.pipes) limit (map chair_number table.others.chairs.items)
         (map (row C.left C.taken C.faults) clients.items)) }
     ensures gate { (g : ConfigValue) (start : StartValue) (name : Option (List ℕ)) (s : Seen) (before after : ℕ)
-        → StandsFor g [] table.node →
+        → StandsFor g [] table.seat.node →
         Prepared g start name keep s (seen_beside (W.told world) (W.faults world) (O.written out.old) (O.faults out.old)
         (R.kept rec) (R.named rec) (R.faults rec) (P.faults spawner.old)) →
         IsGate g start name limit (length clients.items) s
@@ -287,76 +275,38 @@ where
             rec,
         };
     };
-    let Table {
-        pipes,
-        pipes_of_actor,
-        pipes_of_closer,
-        over,
-        over_of_closer,
-        node,
-        actor,
-        closer,
-        asker,
-        chairs,
-        callers,
-        taker,
-        left,
-    } = table;
-    let rest = Rest {
-        pipes,
-        pipes_of_closer,
-        over,
-        over_of_closer,
-        closer,
-        asker,
-        chairs,
-        callers,
-        taker,
-        left,
-    };
-    let job = ActorJob {
-        pipes: pipes_of_actor,
-        world,
-        node,
-        pass: actor,
-        rec,
-        keep,
-        limit,
-    };
-    let working = match spawner.start(job) {
+    let Table { seat, others } = table;
+    let working = match start_node(spawner, seat, world, rec, keep, limit) {
         Ok(working) => working,
-        Err(refused) => {
-            let Refused { job } = refused;
-            drop(rest);
+        Err((world, rec)) => {
+            drop(others);
             drop(room);
             return Served {
                 status: Status::NoThread,
                 clients,
-                world: job.world,
-                rec: job.rec,
+                world,
+                rec,
             };
         }
     };
     let (Lines { ins, outs }, running) = room;
-    let Rest {
+    let Others {
         pipes,
-        pipes_of_closer,
         over,
-        over_of_closer,
         closer,
         asker,
         chairs,
         callers,
         taker,
         left,
-    } = rest;
+    } = others;
     let Seated { running, refused } = seat_all(
         rt, alloc, clients, chairs, ins, limit, running, spawner,
     );
     let job = CloserJob {
-        pipes: pipes_of_closer,
-        over: over_of_closer,
-        pass: closer,
+        pipes: closer.pipes,
+        over: closer.over,
+        pass: closer.pass,
         lines: outs,
         clients: left,
     };
@@ -390,34 +340,6 @@ fn status_of(clients: Status, printed: Option<NextFault>, worked: Ending, refuse
 {
     let last = first(of_work(worked), of_thread(refused));
     first(clients, first(of_print(printed), last))
-}
-
-// The pipes end: all that the actor popped begins what was put under the passes of the closer and of who printed.
-fn finish_pipes<T: Wait + Copy>(
-    rt: T,
-    pipes: &Pipes,
-    mut callers: CallerPasses,
-    closed: CallerPass,
-    printed: CallerPass,
-    taker: TakerPass,
-    actor: ActorPass,
-)
-    requires given { given_of callers ≡ [] }
-    requires room { 2 ≤ room_of callers }
-    requires pipes { IsActorOf pipes.now actor × IsTakerOf pipes.now taker }
-    requires callers { IsCallerOf pipes.now closed × IsCallerOf pipes.now printed }
-    requires back { AllBack actor (closed ∷ printed ∷ []) }
-    requires last { IsSome (last_of taker) }
-    ensures fronts { (n : ℕ)
-        → IsPrefix (under n (popped_by actor)) (under n (puts_of (closed ∷ printed ∷ []))) }
-    ensures ended { (before : List Placed) (last : Placed) (n : ℕ) → popped_by actor ≡ before ++ last ∷ []
-        → 1 ≤ times n last.ended
-        → under n (popped_by actor) ≡ under n (puts_of (closed ∷ printed ∷ [])) }
-    ensures taken { taken_by taker ≡ raised_by actor }
-{
-    callers.give(closed);
-    callers.give(printed);
-    pipes.finish(rt, actor, callers, taker);
 }
 
 // Gives both callers' passes back, ends the pipes, and says how the gate ended.

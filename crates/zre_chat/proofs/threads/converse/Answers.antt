@@ -20,15 +20,16 @@ pub returns-in-Err-clause-chat : goal.returns-in-Err-clause-chat
 returns-in-Err-clause-chat g c = λ f start name s stands p. (
     let i = g.I.Source in let w = g.W.World in let o = g.O.Sink in let r = g.R.Recorder in let a = c.args in
     let back = c.in-Err.ensures.refused in
-    let kept = ap (λ j. r.kept j.rec) back in
-    let named = ap (λ j. r.named j.rec) back in
+    let world = c.in-Err.world in let rec_ = c.in-Err.rec in
+    let kept = ap (λ x. r.kept x.1) back in
+    let named = ap (λ x. r.named x.1) back in
     untalked f start name a.limit p.are_settings true s
-    (seen (i.left a.input) (i.taken a.input) (i.faults a.input) (w.told c.in-Err.refused.job.world) (w.faults c.in-Err.refused.job.world) (o.written a.out.now) (o.faults a.out.now)
-    (r.kept c.in-Err.refused.job.rec) (r.named c.in-Err.refused.job.rec) (r.faults c.in-Err.refused.job.rec) (g.P.Spawner.faults c.start.new.self))
-    NoThread p.same_left p.same_taken p.same_written (ap (λ j. w.told j.world) back ∙ p.told) thread_isnt
-    (subst (λ k. Rose k (g.P.Spawner.faults c.start.new.self)) p.same_refusals c.in-Err.ensures.failed)
+    (seen (i.left a.input) (i.taken a.input) (i.faults a.input) (w.told world) (w.faults world) (o.written a.out.now) (o.faults a.out.now)
+    (r.kept rec_) (r.named rec_) (r.faults rec_) (g.P.Spawner.faults c.start_node.new.spawner))
+    NoThread p.same_left p.same_taken p.same_written (ap (λ x. w.told x.0) back ∙ p.told) thread_isnt
+    (subst (λ k. Rose k (g.P.Spawner.faults c.start_node.new.spawner)) p.same_refusals c.in-Err.ensures.failed)
     (λ file is isnt rose. (
-      head_only f s.kept (r.kept a.rec) (r.kept c.in-Err.refused.job.rec) (p.head_kept file is) kept,
+      head_only f s.kept (r.kept a.rec) (r.kept rec_) (p.head_kept file is) kept,
       subst (λ k. Keeps (option_map (λ _. file) s.named) k) (sym named) (p.file_named file is),
     )))
 
@@ -39,36 +40,36 @@ returns-clause-chat g c = λ f start name s stands p. (
     let out = c.join-worked.result in let means = c.join-worked.ensures in let began = c.in-Ok.ensures.started in let same = c.settle.ensures.same in
     let u = seen (i.left a.input) (i.taken a.input) (i.faults a.input) (w.told a.world) (w.faults a.world) (o.written a.out.now) (o.faults a.out.now) (r.kept a.rec) (r.named a.rec) (r.faults a.rec) (g.P.Spawner.faults a.spawner.now) in
     let t = seen (i.left read.input) (i.taken read.input) (i.faults read.input) (w.told out.world) (w.faults out.world) (o.written told.new.out) (o.faults told.new.out) (r.kept out.rec) (r.named out.rec) (r.faults out.rec) (g.P.Spawner.faults told.new.spawner) in
-    let work = subst (λ j. StandsFor f [] j.node → IsWork f [] j.keep j.limit (scene (w.told j.world) (w.looked j.world) (w.faults j.world) (r.kept j.rec) (r.faults j.rec) j.pass)
+    let work = subst (λ j. StandsFor f [] j.2 → IsWork f [] j.5 j.6 (scene (w.told j.1) (w.looked j.1) (w.faults j.1) (r.kept j.4) (r.faults j.4) j.3)
     (scene (w.told out.world) (w.looked out.world) (w.faults out.world) (r.kept out.rec) (r.faults out.rec) out.pass) out.node out.ending) began (means.6 f []) in
     subst (λ (x : Seen × Status). IsChat f start name a.limit s x.0 x.1)
     (λ k. (
       seen (i.left (sym same.0 k)) (i.taken (sym same.0 k)) (i.faults (sym same.0 k)) (w.told (sym same.1 k)) (w.faults (sym same.1 k)) (o.written told.new.out) (o.faults told.new.out) (r.kept (sym same.2 k)) (r.named (sym same.2 k)) (r.faults (sym same.2 k)) (g.P.Spawner.faults told.new.spawner),
       sym c.settle.ensures.status k,
     ))
-    (talked f start name a.keep a.limit s u t p out.node out.ending (w.looked a.world) (w.looked out.world) a.table.actor out.pass (work stands)
-    (subst (λ j. Keeps (r.named j.rec) (r.named out.rec)) began means.5) l.none_popped l.none_raised
-    read.end a.table.reader read.pass told.ensures.read a.table.asker printed.pass told.result.refused a.table.taker printed.taker printed.fault told.ensures.printed
-    told.ensures.failed (λ is. rose_later (g.P.Spawner.faults a.spawner.now) (g.P.Spawner.faults c.start.new.self) (g.P.Spawner.faults told.new.spawner) c.in-Ok.ensures.later (told.ensures.refused is))
-    l.none_taken l.new_reader l.new_asker l.apart c.settle.ensures.fronts c.settle.ensures.taken))
+    (talked f start name a.keep a.limit s u t p out.node out.ending (w.looked a.world) (w.looked out.world) a.table.seat.pass out.pass (work stands)
+    (subst (λ j. Keeps (r.named j.4) (r.named out.rec)) began means.5) l.seat.none_popped l.seat.none_raised
+    read.end a.table.reader.pass read.pass told.ensures.read a.table.asker printed.pass told.result.refused a.table.taker printed.taker printed.fault told.ensures.printed
+    told.ensures.failed (λ is. rose_later (g.P.Spawner.faults a.spawner.now) (g.P.Spawner.faults c.start_node.new.spawner) (g.P.Spawner.faults told.new.spawner) c.in-Ok.ensures.later (told.ensures.refused is))
+    l.none_taken l.reader.2 l.new_asker l.apart c.settle.ensures.fronts c.settle.ensures.taken))
 
 pub settle-requires-clause-pipes : goal.settle-requires-clause-pipes
 settle-requires-clause-pipes g c =
     let l = c.requires.laid in let told = c.hold_talk-talk in (
-      subst (λ ps. IsActorOf ps c.join-worked.result.pass) (ap (λ j. arc_value j.pipes) c.in-Ok.ensures.started ∙ l.same_actor ∙ sym c.deref-3.ensures) c.join-worked.ensures.0,
+      subst (λ ps. IsActorOf ps c.join-worked.result.pass) (ap (λ j. arc_value j.0) c.in-Ok.ensures.started ∙ l.seat.same ∙ sym c.deref-3.ensures) c.join-worked.ensures.0,
       subst (λ ps. IsTakerOf ps told.result.printed.taker) (c.deref.ensures ∙ sym c.deref-3.ensures) told.ensures.pipes.0,
     )
 
 pub settle-requires-clause-callers : goal.settle-requires-clause-callers
 settle-requires-clause-callers g c =
     let l = c.requires.laid in let told = c.hold_talk-talk in (
-      subst (λ ps. IsCallerOf ps told.result.read.pass) (l.same_reader ∙ sym c.deref-3.ensures) told.ensures.pipes.2,
+      subst (λ ps. IsCallerOf ps told.result.read.pass) (l.reader.0 ∙ sym c.deref-3.ensures) told.ensures.pipes.2,
       subst (λ ps. IsCallerOf ps told.result.printed.pass) (c.deref.ensures ∙ sym c.deref-3.ensures) told.ensures.pipes.1,
     )
 
 pub settle-requires-clause-back : goal.settle-requires-clause-back
 settle-requires-clause-back g c =
     let l = c.requires.laid in let told = c.hold_talk-talk in let read = told.result.read in let printed = told.result.printed in let o = g.O.Sink in
-    let many = two_alone read.pass printed.pass (told.ensures.read.puts.same_ended ∙ l.new_reader.0)
+    let many = two_alone read.pass printed.pass (told.ensures.read.puts.same_ended ∙ l.reader.2.0)
     (asker_ended c.args.table.asker told.result.refused c.args.table.taker printed.taker printed.pass printed.fault (o.written c.args.out.now) (o.written told.new.out) told.ensures.printed ∙ l.new_asker.0) in
-    omega (arith, many, ap length (c.join-worked.ensures.1 ∙ ap (λ j. unused_by j.pass) c.in-Ok.ensures.started), l.unused)
+    omega (arith, many, ap length (c.join-worked.ensures.1 ∙ ap (λ j. unused_by j.3) c.in-Ok.ensures.started), l.seat.unused)

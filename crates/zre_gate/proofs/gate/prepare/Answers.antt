@@ -11,11 +11,27 @@ use Rattle.zre_gate.specs.Stages.{IsEarly}
 use Rattle.zre_gate.proofs.Attended.{not_attended}
 use Rattle.zre_gate.proofs.gate.prepare.Goals as goal
 
+-- no memory for the clients
+pub returns-then-is_err-clause-attends : goal.returns-then-is_err-clause-attends
+returns-then-is_err-clause-attends g c =
+    let t = g.D.Desk.told c.args.desk.now in let place = c.args.local in record {
+      begun = false;
+      is_told = subst (λ xs. t ≡ option_map (attended false place xs) t) (sym (c.reserve.ensures.items ∙ c.requires.none)) (not_attended place t);
+    }
+
+pub returns-then-is_err-clause-refused : goal.returns-then-is_err-clause-refused
+returns-then-is_err-clause-refused g c = record {
+  begun = false;
+  is_told = none_started (g.W.World.told c.args.world.now);
+  cause = tt;
+  holds = λ file is isnt still. absurd (isnt refl);
+}
+
 pub returns-in-Err-clause-attends : goal.returns-in-Err-clause-attends
 returns-in-Err-clause-attends g c =
     let t = g.D.Desk.told c.args.desk.now in let place = c.args.local in record {
       begun = false;
-      is_told = subst (λ xs. t ≡ option_map (attended false place xs) t) (sym c.requires.room.0) (not_attended place t);
+      is_told = subst (λ xs. t ≡ option_map (attended false place xs) t) (sym (c.reserve.ensures.items ∙ c.requires.none)) (not_attended place t);
     }
 
 pub returns-in-Err-clause-refused : goal.returns-in-Err-clause-refused

@@ -6,7 +6,8 @@ use Rattle.std.proofs.lemmas.List.Elements.{All-push}
 use Rattle.zre_actor.specs.Commands.{times}
 use Rattle.zre_actor.specs.Passes.{IsCallerOf, IsNew, fresh_of, numbers_of, number}
 use Rattle.zre_actor.proofs.Sums.{times-append}
-use Rattle.zre_gate.specs.Tables.{IsChair, chair_number}
+use Rattle.zre_chat.specs.Tables.{IsChair}
+use Rattle.zre_gate.specs.Tables.{chair_number}
 use Rattle.zre_gate.proofs.table.chairs_for.Goals as goal
 
 pub each-preserved : goal.each-preserved

@@ -3,7 +3,8 @@ use Rattle.std.specs.Prelude.{All}
 use Rattle.std.specs.Arc.{arc_value}
 use Rattle.zre_actor.specs.Commands.{times}
 use Rattle.zre_actor.specs.Passes.{AreCallersOf, IsNew, fresh_of, given_of, room_of, numbers_of}
-use Rattle.zre_gate.specs.Tables.{IsChair, chair_number}
+use Rattle.zre_chat.specs.Tables.{IsChair}
+use Rattle.zre_gate.specs.Tables.{chair_number}
 use Rattle.zre_gate.proofs.table.chairs_for.Given as goal
 
 abbrev pub invariant-each : goal.invariant-each

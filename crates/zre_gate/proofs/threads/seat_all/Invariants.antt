@@ -2,7 +2,7 @@ use Rattle.std.proofs.Common.{◌≡◌, ◌≤◌, ◌+◌, ◌++◌, List, tru
 use Rattle.std.specs.Prelude.{vec_capacity}
 use Rattle.std.specs.Vec.Iter.{into_iter_items}
 use Rattle.zre_outside.specs.Causes.{Rose}
-use Rattle.zre_gate.specs.declared.table.Chair.{Chair}
+use Rattle.zre_chat.specs.declared.places.Chair.{Chair}
 use Rattle.zre_gate.proofs.threads.seat_all.Given as goal
 
 abbrev pub invariant-loop-input : goal.invariant-loop-input

@@ -7,6 +7,6 @@ use Rattle.zre_gate.proofs.threads.serve.Given as goal
 
 abbrev pub ghosts-serve_known : goal.ghosts-serve_known
 ghosts-serve_known g a = record {
-  hall = Some (hall_of (arc_value a.table.pipes) a.limit (map chair_number a.table.chairs.items)
+  hall = Some (hall_of (arc_value a.table.others.pipes) a.limit (map chair_number a.table.others.chairs.items)
       (map (row g.C.Source.left g.C.Source.taken g.C.Source.faults) a.clients.items));
 }

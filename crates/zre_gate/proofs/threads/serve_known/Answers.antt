@@ -43,15 +43,15 @@ returns-in-Err-clause-gate g c = λ f start name s before after stands p. (
     let w = g.W.World in let o = g.O.Sink in let r = g.R.Recorder in let a = c.args in
     let rows = map (row g.C.Source.left g.C.Source.taken g.C.Source.faults) a.clients.items in
     let back = c.in-Err.ensures.refused in
-    let job = c.in-Err.refused.job in
-    let kept = ap (λ j. r.kept j.rec) back in
-    let named = ap (λ j. r.named j.rec) back in
+    let world = c.in-Err.world in let rec_ = c.in-Err.rec in
+    let kept = ap (λ x. r.kept x.1) back in
+    let named = ap (λ x. r.named x.1) back in
     unopened f start name a.limit (length a.clients.items) s
-    (seen_beside (w.told job.world) (w.faults job.world) (o.written a.out.now) (o.faults a.out.now) (r.kept job.rec) (r.named job.rec) (r.faults job.rec) (g.P.Spawner.faults c.start.new.self))
-    desk rows true NoThread (λ _. p.are_settings) p.same_written (ap (λ j. w.told j.world) back ∙ p.told) thread_isnt
-    (subst (λ k. Rose k (g.P.Spawner.faults c.start.new.self)) p.same_refusals c.in-Err.ensures.failed)
+    (seen_beside (w.told world) (w.faults world) (o.written a.out.now) (o.faults a.out.now) (r.kept rec_) (r.named rec_) (r.faults rec_) (g.P.Spawner.faults c.start_node.new.spawner))
+    desk rows true NoThread (λ _. p.are_settings) p.same_written (ap (λ x. w.told x.0) back ∙ p.told) thread_isnt
+    (subst (λ k. Rose k (g.P.Spawner.faults c.start_node.new.spawner)) p.same_refusals c.in-Err.ensures.failed)
     (λ file is isnt still. (
-      head_only f s.kept (r.kept a.rec) (r.kept job.rec) (p.head_kept file is) kept,
+      head_only f s.kept (r.kept a.rec) (r.kept rec_) (p.head_kept file is) kept,
       subst (λ k. Keeps (option_map (λ _. file) s.named) k) (sym named) (p.file_named file is),
     )))
 
@@ -61,25 +61,25 @@ returns-clause-gate g c = λ f start name s before after stands p. (
     let w = g.W.World in let o = g.O.Sink in let r = g.R.Recorder in let a = c.args in let l = c.requires.laid in
     let look = row g.C.Source.left g.C.Source.taken g.C.Source.faults in
     let rows = map look a.clients.items in
-    let numbers = map chair_number a.table.chairs.items in
-    let even = length-map a.table.chairs.items chair_number ∙ l.many_chairs ∙ sym (length-map a.clients.items look) in
+    let numbers = map chair_number a.table.others.chairs.items in
+    let even = length-map a.table.others.chairs.items chair_number ∙ l.many_chairs ∙ sym (length-map a.clients.items look) in
     let guests = guests_of numbers rows in
     let told = c.hold_talk-talk in let closed = told.result.closed in let printed = told.result.printed in let seated = c.seat_all-running in
-    let close = told.ensures.closed (hall_of (arc_value a.table.pipes) a.limit numbers rows) c.requires.hall in
-    let out = c.join-worked.result in let means = c.join-worked.ensures in let began = c.in-Ok-start.ensures.started in let same = c.settle.ensures.same in
+    let close = told.ensures.closed (hall_of (arc_value a.table.others.pipes) a.limit numbers rows) c.requires.hall in
+    let out = c.join-worked.result in let means = c.join-worked.ensures in let began = c.in-Ok-start_node.ensures.started in let same = c.settle.ensures.same in
     let u = seen_beside (w.told a.world) (w.faults a.world) (o.written a.out.now) (o.faults a.out.now) (r.kept a.rec) (r.named a.rec) (r.faults a.rec) (g.P.Spawner.faults a.spawner.now) in
     let t = seen_beside (w.told out.world) (w.faults out.world) (o.written told.new.out) (o.faults told.new.out) (r.kept out.rec) (r.named out.rec) (r.faults out.rec) (g.P.Spawner.faults told.new.spawner) in
-    let work = subst (λ j. StandsFor f [] j.node → IsWork f [] j.keep j.limit (scene (w.told j.world) (w.looked j.world) (w.faults j.world) (r.kept j.rec) (r.faults j.rec) j.pass)
+    let work = subst (λ j. StandsFor f [] j.2 → IsWork f [] j.5 j.6 (scene (w.told j.1) (w.looked j.1) (w.faults j.1) (r.kept j.4) (r.faults j.4) j.3)
     (scene (w.told out.world) (w.looked out.world) (w.faults out.world) (r.kept out.rec) (r.faults out.rec) out.pass) out.node out.ending) began (means.6 f []) in
     let rose : told.result.refused ≡ true → Rose (g.P.Spawner.faults a.spawner.now) (g.P.Spawner.faults told.new.spawner) = λ is. ⊎_elim
-    (λ before. (let h = seated.ensures.refused before in omega (arith, h, c.in-Ok-start.ensures.later, told.ensures.starts)))
-    (λ after. (let h = after in omega (arith, h, c.in-Ok-start.ensures.later, seated.ensures.later))) (told.ensures.refused is) in
-    let held = gated f start name a.keep a.limit (length a.clients.items) s u t p out.node out.ending (w.looked a.world) (w.looked out.world) a.table.actor out.pass (work stands)
-    (subst (λ j. Keeps (r.named j.rec) (r.named out.rec)) began means.5) l.none_popped l.none_raised
-    guests (map look closed.clients.items) a.table.closer closed.pass closed.status
-    a.table.asker printed.pass told.result.refused a.table.taker printed.taker printed.fault told.ensures.printed
-    told.ensures.failed rose l.none_taken l.new_closer l.new_asker
-    (λ m. subst (λ ns. times m (number a.table.closer ∷ number a.table.asker ∷ ns) ≤ 1) (sym (guests_numbers numbers rows even)) (l.apart m))
+    (λ before. (let h = seated.ensures.refused before in omega (arith, h, c.in-Ok-start_node.ensures.later, told.ensures.starts)))
+    (λ after. (let h = after in omega (arith, h, c.in-Ok-start_node.ensures.later, seated.ensures.later))) (told.ensures.refused is) in
+    let held = gated f start name a.keep a.limit (length a.clients.items) s u t p out.node out.ending (w.looked a.world) (w.looked out.world) a.table.seat.pass out.pass (work stands)
+    (subst (λ j. Keeps (r.named j.4) (r.named out.rec)) began means.5) l.seat.none_popped l.seat.none_raised
+    guests (map look closed.clients.items) a.table.others.closer.pass closed.pass closed.status
+    a.table.others.asker printed.pass told.result.refused a.table.others.taker printed.taker printed.fault told.ensures.printed
+    told.ensures.failed rose l.none_taken l.closer.2 l.new_asker
+    (λ m. subst (λ ns. times m (number a.table.others.closer.pass ∷ number a.table.others.asker ∷ ns) ≤ 1) (sym (guests_numbers numbers rows even)) (l.apart m))
     c.settle.ensures.fronts c.settle.ensures.ended c.settle.ensures.taken desk (guests_length numbers rows even ∙ length-map a.clients.items look) close in
     subst (λ (x : Seen × List Row × List Row × Status). IsGate f start name a.limit (length a.clients.items) s x.0 desk x.1 x.2 x.3)
     (λ k. (
@@ -90,17 +90,17 @@ returns-clause-gate g c = λ f start name s before after stands p. (
     ))
     held)
 
-pub invariant_of-job-2 : goal.invariant_of-job-2
-invariant_of-job-2 g c =
+pub invariant_of-job : goal.invariant_of-job
+invariant_of-job g c =
     let l = c.requires.laid in let a = c.args in
     let look = row g.C.Source.left g.C.Source.taken g.C.Source.faults in
     let rows = map look a.clients.items in
-    let numbers = map chair_number a.table.chairs.items in
-    let even = length-map a.table.chairs.items chair_number ∙ l.many_chairs ∙ sym (length-map a.clients.items look) in record {
-      of_pipes = subst (λ ps. IsCallerOf ps a.table.closer) (sym l.same_closer) l.of_closer;
-      hall = ∣ (hall_of (arc_value a.table.pipes) a.limit numbers rows, c.requires.hall, sym l.same_closer) ∣₁;
+    let numbers = map chair_number a.table.others.chairs.items in
+    let even = length-map a.table.others.chairs.items chair_number ∙ l.many_chairs ∙ sym (length-map a.clients.items look) in record {
+      of_pipes = subst (λ ps. IsCallerOf ps a.table.others.closer.pass) (sym l.closer.0) l.closer.1;
+      hall = ∣ (hall_of (arc_value a.table.others.pipes) a.limit numbers rows, c.requires.hall, sym l.closer.0) ∣₁;
       many = λ there known. (
-          let same = same_hall g.B.Known.hall (hall_of (arc_value a.table.pipes) a.limit numbers rows) there c.requires.hall known in
+          let same = same_hall g.B.Known.hall (hall_of (arc_value a.table.others.pipes) a.limit numbers rows) there c.requires.hall known in
           ap (λ h. length h.guests) (sym same) ∙ guests_length numbers rows even ∙ length-map a.clients.items look ∙ omega (arith, c.in-Ok.ensures.lines, c.len.ensures, a.clients.ok));
       room = (l.left_room.0, omega (arith, l.left_room.1, c.in-Ok.ensures.lines, c.len.ensures, a.clients.ok));
     }
@@ -108,14 +108,14 @@ invariant_of-job-2 g c =
 pub settle-requires-clause-pipes : goal.settle-requires-clause-pipes
 settle-requires-clause-pipes g c =
     let l = c.requires.laid in let told = c.hold_talk-talk in (
-      subst (λ ps. IsActorOf ps c.join-worked.result.pass) (ap (λ j. arc_value j.pipes) c.in-Ok-start.ensures.started ∙ l.same_actor ∙ sym c.deref-3.ensures) c.join-worked.ensures.0,
+      subst (λ ps. IsActorOf ps c.join-worked.result.pass) (ap (λ j. arc_value j.0) c.in-Ok-start_node.ensures.started ∙ l.seat.same ∙ sym c.deref-3.ensures) c.join-worked.ensures.0,
       subst (λ ps. IsTakerOf ps told.result.printed.taker) (c.deref.ensures ∙ sym c.deref-3.ensures) told.ensures.pipes.0,
     )
 
 pub settle-requires-clause-callers : goal.settle-requires-clause-callers
 settle-requires-clause-callers g c =
     let l = c.requires.laid in let told = c.hold_talk-talk in (
-      subst (λ ps. IsCallerOf ps told.result.closed.pass) (l.same_closer ∙ sym c.deref-3.ensures) told.ensures.pipes.2,
+      subst (λ ps. IsCallerOf ps told.result.closed.pass) (l.closer.0 ∙ sym c.deref-3.ensures) told.ensures.pipes.2,
       subst (λ ps. IsCallerOf ps told.result.printed.pass) (c.deref.ensures ∙ sym c.deref-3.ensures) told.ensures.pipes.1,
     )
 
@@ -123,11 +123,11 @@ pub settle-requires-clause-back : goal.settle-requires-clause-back
 settle-requires-clause-back g c =
     let l = c.requires.laid in let told = c.hold_talk-talk in let a = c.args in let o = g.O.Sink in
     let closed = told.result.closed in let printed = told.result.printed in
-    let numbers = map chair_number a.table.chairs.items in
+    let numbers = map chair_number a.table.others.chairs.items in
     let rows = map (row g.C.Source.left g.C.Source.taken g.C.Source.faults) a.clients.items in
-    let even = length-map a.table.chairs.items chair_number ∙ l.many_chairs ∙ sym (length-map a.clients.items (row g.C.Source.left g.C.Source.taken g.C.Source.faults)) in
-    let close = told.ensures.closed (hall_of (arc_value a.table.pipes) a.limit numbers rows) c.requires.hall in
+    let even = length-map a.table.others.chairs.items chair_number ∙ l.many_chairs ∙ sym (length-map a.clients.items (row g.C.Source.left g.C.Source.taken g.C.Source.faults)) in
+    let close = told.ensures.closed (hall_of (arc_value a.table.others.pipes) a.limit numbers rows) c.requires.hall in
     let many = how_back closed.pass printed.pass (length a.clients.items)
-    (∥∥₁_elim close (nat_prop _ _) (λ k. closed_ended _ _ _ _ _ _ k l.new_closer.0) ∙ guests_length numbers rows even ∙ length-map a.clients.items (row g.C.Source.left g.C.Source.taken g.C.Source.faults))
-    (asker_ended a.table.asker told.result.refused a.table.taker printed.taker printed.pass printed.fault (o.written a.out.now) (o.written told.new.out) told.ensures.printed ∙ l.new_asker.0) in
-    omega (arith, many, ap length (c.join-worked.ensures.1 ∙ ap (λ j. unused_by j.pass) c.in-Ok-start.ensures.started), l.unused)
+    (∥∥₁_elim close (nat_prop _ _) (λ k. closed_ended _ _ _ _ _ _ k l.closer.2.0) ∙ guests_length numbers rows even ∙ length-map a.clients.items (row g.C.Source.left g.C.Source.taken g.C.Source.faults))
+    (asker_ended a.table.others.asker told.result.refused a.table.others.taker printed.taker printed.pass printed.fault (o.written a.out.now) (o.written told.new.out) told.ensures.printed ∙ l.new_asker.0) in
+    omega (arith, many, ap length (c.join-worked.ensures.1 ∙ ap (λ j. unused_by j.3) c.in-Ok-start_node.ensures.started), l.seat.unused)

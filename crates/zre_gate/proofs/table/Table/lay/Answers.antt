@@ -2,7 +2,7 @@ use Rattle.std.proofs.Common.{◌≡◌, ◌≤◌, ◌∙◌, sym, subst, arith
 use Rattle.std.specs.Prelude.{All, vec_capacity}
 use Rattle.std.specs.Arc.{arc_value}
 use Rattle.zre_actor.specs.Passes.{IsActorOf, IsCallerOf, IsTakerOf}
-use Rattle.zre_gate.specs.Tables.{IsChair}
+use Rattle.zre_chat.specs.Tables.{IsChair}
 use Rattle.zre_gate.proofs.table.Table.lay.Goals as goal
 
 pub returns-clause-laid : goal.returns-clause-laid
@@ -13,24 +13,24 @@ returns-clause-laid g c =
     let places = c.in_ok-places.places in
     let all : made.pipes ≡ arc_value places.shares.pipes = sym p.shares.0 in
     record {
-      same_actor = p.shares.1 ∙ all;
-      same_closer = p.shares.2 ∙ all;
-      of_actor = subst (λ ps. IsActorOf ps made.actor) all m.pipes.0;
-      of_closer = subst (λ ps. IsCallerOf ps places.closer) all p.callers.0;
-      of_asker = subst (λ ps. IsCallerOf ps places.asker) all p.callers.1;
+      seat = record {
+        same = p.shares.1 ∙ all;
+        of_pipes = subst (λ ps. IsActorOf ps made.actor) all m.pipes.0;
+        unused = m.unused;
+        none_popped = m.popped.0;
+        no_finds = m.popped.1;
+        none_raised = m.events.0;
+        no_ending = m.events.1;
+      };
+      closer = subst (λ ps. IsChair ps places.closer) all p.closer;
+      of_asker = subst (λ ps. IsCallerOf ps places.asker) all p.asker.0;
       of_taker = subst (λ ps. IsTakerOf ps made.taker) all m.pipes.1;
-      are_chairs = subst (λ ps. All (IsChair ps) places.chairs.items) all p.callers.2;
+      are_chairs = subst (λ ps. All (IsChair ps) places.chairs.items) all p.chairs;
       many_chairs = p.many;
       apart = p.apart;
-      new_closer = p.new.0;
-      new_asker = p.new.1;
+      new_asker = p.asker.1;
       none_given = p.given.0 ∙ m.given.0;
       room = omega (arith, m.given.1, p.given.1);
-      unused = m.unused;
-      none_popped = m.popped.0;
-      no_finds = m.popped.1;
-      none_raised = m.events.0;
-      no_ending = m.events.1;
       none_taken = m.events.2;
       no_last = m.events.3;
       left_room = (c.in_ok-left.ensures.items, subst (λ n. n ≤ vec_capacity c.in_ok-left.left) c.from.ensures c.in_ok-left.ensures.capacity);

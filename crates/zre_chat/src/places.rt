@@ -1,0 +1,87 @@
+//! What each thread of a chat, or of a gate, is given.
+
+ghost use Rattle.std.specs.Prelude.{◌≡◌, ◌≤◌, [], ◌∷◌, ◌++◌, length, All, IfOk};
+ghost use Rattle.std.specs.Arc.{arc_value};
+ghost use Rattle.zre_actor.specs.declared.passes.Pipes.{Pipes as PipesValue};
+ghost use Rattle.zre_actor.specs.Passes.{AreCallersOf, IsCallerOf, IsNew, fresh_of, given_of, room_of};
+
+use std::alloc::Global;
+use std::sync::Arc;
+use std::sync::atomic::AtomicBool;
+use zre_actor::{ActorPass, CallerPass, CallerPasses, Pipes};
+use zre_node::Node;
+use zre_values::OutOfMemory;
+
+/// What the node's thread is given beside the world and the recorder.
+#[derive(Drop)]
+pub struct NodeSeat {
+    pub pipes: Arc<Pipes, Global>,
+    pub node: Node,
+    pub pass: ActorPass,
+}
+
+/// What a thread that puts commands is given.
+#[derive(Drop)]
+pub struct Chair {
+    pub pipes: Arc<Pipes, Global>,
+    /// Whether nothing more is to be put.
+    pub over: Arc<AtomicBool, Global>,
+    pub pass: CallerPass,
+}
+
+/// A chair with this pass.
+pub fn chair_at(
+    pipes: &Arc<Pipes, Global>,
+    over: &Arc<AtomicBool, Global>,
+    pass: CallerPass,
+) -> Result<Chair, OutOfMemory>
+    ensures pipes { IfOk result (λ chair. arc_value chair.pipes ≡ arc_value pipes.now) }
+    ensures pass { IfOk result (λ chair. chair.pass ≡ pass) }
+{
+    Ok(Chair {
+        pipes: Arc::try_clone(pipes)?,
+        over: Arc::try_clone(over)?,
+        pass,
+    })
+}
+
+/// The pipes for the caller's own thread and for the node's, and the sign that nothing more is to be put.
+#[derive(Drop)]
+pub struct Shares {
+    pub pipes: Arc<Pipes, Global>,
+    pub pipes_of_node: Arc<Pipes, Global>,
+    pub over: Arc<AtomicBool, Global>,
+}
+
+/// Shares the pipes.
+pub fn share(alloc: Global, pipes: Pipes) -> Result<Shares, OutOfMemory>
+    ensures { IfOk result (λ shares. (arc_value shares.pipes ≡ pipes) × (arc_value shares.pipes_of_node ≡ pipes)) }
+{
+    let pipes = Arc::new(alloc, pipes)?;
+    let pipes_of_node = Arc::try_clone(&pipes)?;
+    let over = Arc::new(alloc, AtomicBool::new(false))?;
+    Ok(Shares {
+        pipes,
+        pipes_of_node,
+        over,
+    })
+}
+
+/// Two of the passes that weren't taken yet: of who puts last, and of who asks the node to stop.
+pub fn take_two(callers: &mut CallerPasses) -> (CallerPass, CallerPass)
+    requires { 2 ≤ length (fresh_of callers.old) }
+    ensures taken { fresh_of callers.old ≡ (fresh_of callers.new ++ result.1 ∷ []) ++ result.0 ∷ [] }
+    ensures pipes { (pipes : PipesValue) → AreCallersOf pipes (fresh_of callers.old)
+        → AreCallersOf pipes (fresh_of callers.new) × IsCallerOf pipes result.0 × IsCallerOf pipes result.1 }
+    ensures new { All IsNew (fresh_of callers.old)
+        → All IsNew (fresh_of callers.new) × IsNew result.0 × IsNew result.1 }
+    ensures given { (given_of callers.new ≡ given_of callers.old) × (room_of callers.new ≡ room_of callers.old) }
+{
+    let Some(last) = callers.take() else {
+        unreachable!();
+    };
+    let Some(asker) = callers.take() else {
+        unreachable!();
+    };
+    (last, asker)
+}
