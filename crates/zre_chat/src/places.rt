@@ -15,27 +15,33 @@ use zre_values::OutOfMemory;
 /// What the node's thread is given beside the world and the recorder.
 #[derive(Drop)]
 pub struct NodeSeat {
+    /// Where it pops commands, and raises events.
     pub pipes: Arc<Pipes, Global>,
+    /// The node, before any entry.
     pub node: Node,
+    /// By which it pops and raises.
     pub pass: ActorPass,
 }
 
 /// What a thread that puts commands is given.
 #[derive(Drop)]
 pub struct Chair {
+    /// Where it puts commands.
     pub pipes: Arc<Pipes, Global>,
     /// Whether nothing more is to be put.
     pub over: Arc<AtomicBool, Global>,
+    /// By which it puts, under a number of its own.
     pub pass: CallerPass,
 }
 
-/// A chair with this pass.
+/// A chair with this pass, which shares the pipes and the sign. OutOfMemory comes where no further share can be made.
 pub fn chair_at(
     pipes: &Arc<Pipes, Global>,
     over: &Arc<AtomicBool, Global>,
     pass: CallerPass,
 ) -> Result<Chair, OutOfMemory>
     ensures pipes { IfOk result (λ chair. arc_value chair.pipes ≡ arc_value pipes.now) }
+    ensures over { IfOk result (λ chair. arc_value chair.over ≡ arc_value over.now) }
     ensures pass { IfOk result (λ chair. chair.pass ≡ pass) }
 {
     Ok(Chair {
@@ -48,8 +54,11 @@ pub fn chair_at(
 /// The pipes for the caller's own thread and for the node's, and the sign that nothing more is to be put.
 #[derive(Drop)]
 pub struct Shares {
+    /// Of the caller's own thread.
     pub pipes: Arc<Pipes, Global>,
+    /// Of the node's thread.
     pub pipes_of_node: Arc<Pipes, Global>,
+    /// Whether nothing more is to be put: not yet.
     pub over: Arc<AtomicBool, Global>,
 }
 
