@@ -15,7 +15,7 @@ ghost use Rattle.zre_gate.specs.Tables.{IsLaid};
 
 use crate::arrivals::attend;
 use crate::table::Table;
-use crate::threads::serve;
+use crate::threads::{Served, serve, unserved};
 use std::alloc::Global;
 use std::sync::Wait;
 use std::thread::Threads;
@@ -115,22 +115,29 @@ impl Gate {
                 let served = serve(
                     rt, alloc, table, clients, world, out, rec, keep, spawner, limit,
                 );
-                GateEnded {
-                    status: served.status,
-                    desk,
-                    clients: served.clients,
-                    world: served.world,
-                    rec: served.rec,
-                }
+                ended(desk, served)
             }
-            Err(status) => GateEnded {
-                status,
-                desk,
-                clients,
-                world,
-                rec,
-            },
+            Err(status) => ended(desk, unserved(status, clients, world, rec)),
         }
+    }
+}
+
+// How a gate ended, with its desk.
+fn ended<D: Desk, W, R>(desk: D, served: Served<D::Client, W, R>) -> GateEnded<D, W, R>
+    ensures { result ≡ record {
+      status = served.status;
+      desk = desk;
+      clients = served.clients;
+      world = served.world;
+      rec = served.rec;
+    } }
+{
+    GateEnded {
+        status: served.status,
+        desk,
+        clients: served.clients,
+        world: served.world,
+        rec: served.rec,
     }
 }
 

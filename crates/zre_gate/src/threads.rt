@@ -268,12 +268,7 @@ where
 {
     let Ok(room) = room_for::<C, B>(alloc, clients.len() as u64) else {
         drop(table);
-        return Served {
-            status: Status::OutOfMemory,
-            clients,
-            world,
-            rec,
-        };
+        return unserved(Status::OutOfMemory, clients, world, rec);
     };
     let Table { seat, others } = table;
     let working = match start_node(spawner, seat, world, rec, keep, limit) {
@@ -281,12 +276,7 @@ where
         Err((world, rec)) => {
             drop(others);
             drop(room);
-            return Served {
-                status: Status::NoThread,
-                clients,
-                world,
-                rec,
-            };
+            return unserved(Status::NoThread, clients, world, rec);
         }
     };
     let (Lines { ins, outs }, running) = room;
@@ -316,6 +306,23 @@ where
     join_all(rt, running);
     let worked = working.join(rt);
     settle(rt, &pipes, callers, talk, worked)
+}
+
+/// What was handed in, where nothing was put or printed.
+pub(crate) fn unserved<C, W, R>(
+    status: Status,
+    clients: Vec<C>,
+    world: W,
+    rec: R,
+) -> Served<C, W, R>
+    ensures { result ≡ record { status = status; clients = clients; world = world; rec = rec } }
+{
+    Served {
+        status,
+        clients,
+        world,
+        rec,
+    }
 }
 
 // The channels of so many clients, and room for their threads.

@@ -32,9 +32,9 @@ returns-in_default-clause-gate g c = λ f start name s before after stands p. (
     let desk = Rose before after in
     let w = g.W.World in let o = g.O.Sink in let r = g.R.Recorder in let a = c.args in
     let rows = map (row g.C.Source.left g.C.Source.taken g.C.Source.faults) a.clients.items in
-    unopened f start name a.limit (length a.clients.items) s
+    rw (c.unserved.ensures) (unopened f start name a.limit (length a.clients.items) s
     (seen_beside (w.told a.world) (w.faults a.world) (o.written a.out.now) (o.faults a.out.now) (r.kept a.rec) (r.named a.rec) (r.faults a.rec) (g.P.Spawner.faults a.spawner.now))
-    desk rows true OutOfMemory (λ _. p.are_settings) p.same_written p.told memory_isnt tt (λ file is isnt still. absurd (isnt refl)))
+    desk rows true OutOfMemory (λ _. p.are_settings) p.same_written p.told memory_isnt tt (λ file is isnt still. absurd (isnt refl))))
 
 -- no thread for the node
 pub returns-in-Err-clause-gate : goal.returns-in-Err-clause-gate
@@ -46,14 +46,14 @@ returns-in-Err-clause-gate g c = λ f start name s before after stands p. (
     let world = c.in-Err.world in let rec_ = c.in-Err.rec in
     let kept = ap (λ x. r.kept x.1) back in
     let named = ap (λ x. r.named x.1) back in
-    unopened f start name a.limit (length a.clients.items) s
+    rw (c.unserved-in-Err.ensures) (unopened f start name a.limit (length a.clients.items) s
     (seen_beside (w.told world) (w.faults world) (o.written a.out.now) (o.faults a.out.now) (r.kept rec_) (r.named rec_) (r.faults rec_) (g.P.Spawner.faults c.start_node.new.spawner))
     desk rows true NoThread (λ _. p.are_settings) p.same_written (ap (λ x. w.told x.0) back ∙ p.told) thread_isnt
     (subst (λ k. Rose k (g.P.Spawner.faults c.start_node.new.spawner)) p.same_refusals c.in-Err.ensures.failed)
     (λ file is isnt still. (
       head_only f s.kept (r.kept a.rec) (r.kept rec_) (p.head_kept file is) kept,
       subst (λ k. Keeps (option_map (λ _. file) s.named) k) (sym named) (p.file_named file is),
-    )))
+    ))))
 
 pub returns-clause-gate : goal.returns-clause-gate
 returns-clause-gate g c = λ f start name s before after stands p. (

@@ -16,14 +16,14 @@ returns-clause-gate g c =
     let t = seen_beside (w.told x) (w.faults x) (o.written a.out.now) (o.faults a.out.now) (r.kept n) (r.named n) (r.faults n) (g.P.Spawner.faults a.spawner.now) in
     let desk = Rose (k.faults a.desk) (k.faults d) in
     let rows = map look opened.new.clients.items in
-    let e = early a.self.chat.config a.self.chat.start a.self.chat.capture a.limit a.self.clients s t desk rows c.in-Err.status (Rose (w.faults a.world) (w.faults x)) (Rose (r.faults a.rec) (r.faults n)) (λ h. h) (λ h. h) u.cause in record {
+    let e = early a.self.chat.config a.self.chat.start a.self.chat.capture a.limit a.self.clients s t desk rows c.in-Err.status (Rose (w.faults a.world) (w.faults x)) (Rose (r.faults a.rec) (r.faults n)) (λ h. h) (λ h. h) u.cause in rw (c.ended-in-Err.ensures) (rw (c.unserved.ensures) (record {
       given = opened.new.clients.items;
       begun = at.begun;
       is_told = at.is_told;
       opened = λ is. absurd (e.0 is);
       gate = unopened a.self.chat.config a.self.chat.start a.self.chat.capture a.limit a.self.clients s t desk rows u.begun c.in-Err.status (λ _. c.are_values.ensures) refl u.is_told e.0 e.1
           (λ file is isnt still. (let h = u.holds file is isnt still in (head_only a.self.chat.config s.kept t.kept t.kept h.0 refl, h.1)));
-    }
+    }))
 
 pub serve-served-requires-clause-laid : goal.serve-served-requires-clause-laid
 serve-served-requires-clause-laid g c κs within = subst (λ n. IsLaid n c.in-Ok.table) (sym c.in-Ok.ensures.all.are_many) c.in-Ok.ensures.laid.0
@@ -38,7 +38,7 @@ returns-in-Ok-clause-gate g c =
     let opened = c.prepare-opened in let served = c.serve-served in let all = c.in-Ok.ensures.all in
     let s = seen_beside (w.told a.world) (w.faults a.world) (o.written a.out.now) (o.faults a.out.now) (r.kept a.rec) (r.named a.rec) (r.faults a.rec) (g.P.Spawner.faults a.spawner.now) in
     let t = seen_beside (w.told served.result.world) (w.faults served.result.world) (o.written served.new.out) (o.faults served.new.out) (r.kept served.result.rec) (r.named served.result.rec) (r.faults served.result.rec) (g.P.Spawner.faults served.new.spawner) in
-    let desk = Rose (k.faults a.desk) (k.faults opened.new.desk) in record {
+    let desk = Rose (k.faults a.desk) (k.faults opened.new.desk) in rw (c.ended.ensures) (record {
       given = opened.new.clients.items;
       begun = true;
       is_told = all.is_told;
@@ -59,4 +59,4 @@ returns-in-Ok-clause-gate g c =
             head_kept = λ file is. (c.in-Ok.ensures.kept file is).is_kept;
             file_named = λ file is. (c.in-Ok.ensures.kept file is).is_named;
           }));
-    }
+    })
