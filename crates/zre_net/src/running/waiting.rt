@@ -68,17 +68,25 @@ impl Waiting {
         Ok(())
     }
 
+    // Where the part at the front is taken whole, the next one stands there.
+    fn refill(&mut self)
+        ensures { self.new ≡ self.old }
+    {
+        if !self.front.is_empty() {
+            return;
+        }
+        if let Some(part) = self.parts.pop_front() {
+            self.front = part;
+        }
+    }
+
     /// The next octets, of one part: so many of them at most.
     pub fn take(&mut self, most: u64) -> Result<Bytes, OutOfMemory>
         ensures next { IfOk result (λ b. b ≡ take (length b) self.old) }
         ensures few { IfOk result (λ b. length b ≤ most) }
         ensures rest { IfOk result (λ b. self.new ≡ drop (length b) self.old) }
     {
-        if self.front.is_empty() {
-            if let Some(part) = self.parts.pop_front() {
-                self.front = part;
-            }
-        }
+        self.refill();
         let count = most.min(self.front.len() as u64);
         let octets = self.front.split_to(count as usize)?;
         self.count -= count;
