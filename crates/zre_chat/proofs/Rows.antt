@@ -47,6 +47,10 @@ memory_first TooLong = refl
 memory_first OutOfMemory = refl
 memory_first DeskFault = refl
 
+-- the first of one and of the first of others
+pub least_nested : (s : Status) (ss : List Status) → least (s ∷ least ss ∷ []) ≡ least (s ∷ ss)
+least_nested s ss = ap (first_of s) (sym (one_least (least ss)))
+
 pub memory_here : (s : Status) (ss : List Status) → s ≡ OutOfMemory → least (s ∷ ss) ≡ OutOfMemory
 memory_here s ss is = ap (λ x. first_of x (least ss)) is ∙ memory_first (least ss)
 
