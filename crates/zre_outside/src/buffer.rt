@@ -5,7 +5,7 @@ ghost use Rattle.std.specs.Prelude.{◌≡◌, ◌<◌, ◌≤◌, vec_len, IfOk
 use std::alloc::{AllocError, Global};
 
 /// The most octets that one read asks for.
-pub const PIECE: usize = 65536;
+pub const PIECE: usize = 8192;
 
 /// How many octets the next read asks for, where so many may still be taken.
 pub fn room_for(left: u64) -> usize

@@ -138,7 +138,7 @@ fn pump_through<M: Machine, I: Source, O: Sink>(
     buf: &mut Vec<u8>,
     text: &mut Octets,
 ) -> Status
-    requires room { vec_len buf.old ≡ 65536 }
+    requires room { vec_len buf.old ≡ 8192 }
     requires start { M.fed machine.old [] }
     requires going { (M.says machine.old).is_stopped [] ≡ false }
     ensures pumped { Pumped result limit (M.says machine.old)

@@ -8,7 +8,7 @@ invariant-loop-taken g l = record {
   pipes : IsCallerOf l.pipes l.pass;
   reached : Reached l.typist l.fn.pass l.pass (g.I.Source.left l.fn.input) (g.I.Source.left l.input) (g.I.Source.taken l.fn.input) (g.I.Source.taken l.input) l.taken;
   within : l.taken ≤ l.limit;
-  room : vec_len l.buf ≡ 65536;
+  room : vec_len l.buf ≡ 8192;
   later : g.I.Source.faults l.fn.input ≤ g.I.Source.faults l.input;
 }
 
