@@ -8,7 +8,7 @@ ghost use Rattle.zre_zmtp.specs.Laws.{handshake};
 ghost use Rattle.zre_zmtp.specs.declared.writing.SocketType.TheVariants.{Dealer};
 ghost use Rattle.zre_zmtp.specs.Looks.{Looks, IsPaid};
 ghost use Rattle.zre_zmtp.specs.Ping.{contexts_in};
-ghost use Rattle.zre_msg.specs.declared.message.Body.TheVariants.{Shout};
+ghost use Rattle.zre_msg.specs.declared.message.Body.TheVariants.{Ping, Shout};
 ghost use Rattle.zre_msg.specs.Spelling.{FitsBody, FitsString};
 ghost use Rattle.zre_link.specs.Front.{IsFront};
 ghost use Rattle.zre_link.specs.Text.{Member, Says, bodies_in, text_of, size_of};
@@ -19,7 +19,7 @@ ghost use Rattle.zre_link.specs.Link.{slow_at, answering, link_answering, slow_i
 use crate::answers::answer_all;
 use crate::awaits::Awaits;
 use crate::fault::{PushFault, ReplyFault};
-use crate::putting::{queue_message, queue_shout};
+use crate::putting::{queue_message, queue_ping, queue_shout};
 use crate::queue::Queue;
 use crate::replies::Replies;
 use crate::tail::Tail;
@@ -143,6 +143,26 @@ impl Link {
         mem::swap(&mut message.body, body);
         drop(message);
         self.written = queued?;
+        self.sent = sent;
+        Ok(())
+    }
+
+    /// Puts a PING in the same way: what `push` does for it.
+    pub fn push_ping(&mut self) -> Result<(), PushFault>
+        ensures ok { (own : PeerIdValue) (line : List Member) (linked : Bool) (o : List ℕ) (n : ℕ) →
+            self.old ≡ link_after own line linked o n →
+            OnOk result ((unsent_of own line n + size_of line Ping ≤ UNSENT_OCTETS)
+            × (self.new ≡ link_after own (line ++ Says Ping ∷ []) linked o n)) }
+        ensures refused { (own : PeerIdValue) (line : List Member) (linked : Bool) (o : List ℕ) (n : ℕ) →
+            self.old ≡ link_after own line linked o n →
+            IfErr result (λ e. RefusesPush e (unsent_of own line n) (size_of line Ping)) }
+        ensures unchanged { OnErr result (self.new ≡ self.old) }
+    {
+        let Some(sent) = self.sent.checked_add(1) else {
+            return Err(PushFault::OutOfMemory);
+        };
+        let number = (sent % 65536) as u16;
+        self.written = queue_ping(&mut self.queue, self.written, number)?;
         self.sent = sent;
         Ok(())
     }

@@ -2,7 +2,7 @@
 
 ghost use Rattle.std.specs.Prelude.{◌≡◌, ◌+◌, ◌-◌, ◌^◌, ◌<◌, ◌≤◌, ℕ, [], ◌++◌, length, min, IfOk, OnOk, IfErr, OnErr};
 ghost use Rattle.zre_values.specs.declared.limits.TheConstants.{UNSENT_OCTETS};
-ghost use Rattle.zre_msg.specs.declared.message.Body.TheVariants.{Shout};
+ghost use Rattle.zre_msg.specs.declared.message.Body.TheVariants.{Ping, Shout};
 ghost use Rattle.zre_msg.specs.Spelling.{Fits, FitsString, octets as octets_of};
 ghost use Rattle.zre_link.specs.Link.{RefusesPush};
 
@@ -71,6 +71,22 @@ pub fn queue_message(
     }
     spelled.clear();
     spell(queue, spelled, message)?;
+    Ok(all)
+}
+
+/// Queues a PING in the same way. All of its octets but the number are the same in each.
+pub fn queue_ping(queue: &mut Queue, written: u64, sequence: u16) -> Result<u64, PushFault>
+    requires some { 0 < written }
+    ensures ok { let m = octets_of (record { sequence = sequence; body = Ping }) in
+        IfOk result (λ all. (queue.new ≡ queue.old ++ m) × (all ≡ written + length m)
+        × (length queue.old + length m ≤ UNSENT_OCTETS)) }
+    ensures refused { let m = octets_of (record { sequence = sequence; body = Ping }) in
+        IfErr result (λ e. RefusesPush e (length queue.old) (length m)) }
+    ensures unchanged { OnErr result (queue.new ≡ queue.old) }
+{
+    let all = with_more(queue, written, 8)?;
+    let [high, low] = sequence.to_be_bytes();
+    queue.append(&[0, 6, 0xaa, 0xa1, 6, 2, high, low])?;
     Ok(all)
 }
 

@@ -187,8 +187,14 @@ fn active_of(peer: &Peer) -> u64
     peer.active
 }
 
-// The moments of these links, brought up to date with their rows.
-fn update(rows: &BTreeMap<u64, Peer>, heard: &mut Timers, links: &[u64]) -> Result<(), OutOfMemory>
+// The moments of these links, brought up to date with the rows of those that have shown after `latest` that they are
+// there. The others are due, and stay so.
+fn update(
+    rows: &BTreeMap<u64, Peer>,
+    heard: &mut Timers,
+    links: &[u64],
+    latest: u64,
+) -> Result<(), OutOfMemory>
     ensures { (r : Bool) → AreHeard rows.now.entries heard.old r → AreHeard rows.now.entries heard.new r }
 {
     for link in links {
@@ -196,7 +202,7 @@ fn update(rows: &BTreeMap<u64, Peer>, heard: &mut Timers, links: &[u64]) -> Resu
             continue;
         };
         let active = active_of(peer);
-        if heard.moment(*link) != Some(active) {
+        if active > latest {
             heard.touch(*link, active)?;
         }
     }
@@ -283,7 +289,8 @@ impl Peers {
         };
         let back = u64::MAX - latest;
         let due = self.heard.due(u64::MAX, back, back)?;
-        update(&self.rows, &mut self.heard, due.expired.as_slice())?;
+        let links = due.expired.as_slice();
+        update(&self.rows, &mut self.heard, links, latest)?;
         Ok(due.expired)
     }
 

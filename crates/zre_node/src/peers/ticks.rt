@@ -14,7 +14,6 @@ ghost use Rattle.zre_node.specs.Ticks.{probes, IsEntered, AreEntered, AreIdle};
 use crate::effects::{Effects, name_of};
 use crate::tables::Tables;
 use zre_beacon::Beacon;
-use zre_msg::Body;
 use zre_outside::Act;
 use zre_peer::{Cause, CloseWhy, Event};
 use zre_values::OutOfMemory;
@@ -41,7 +40,7 @@ impl Tables {
             OnOk result (Did g (probes g link K) K self.new out.old out.new) }
     {
         self.tell_evasive(out, link)?;
-        self.push(out, link, &mut Body::Ping)
+        self.push_ping(out, link)
     }
 
     // The entered peers of these links are evasive: they are probed one after the other.

@@ -10,5 +10,5 @@ pub returns : goal.returns
 returns c = λ g K h k.
     let l = c.args.link in
     let first = c.in_ok-tell_evasive.ensures g K h k in
-    on_ok c.push.result (c.push.ensures.did g (IsEvasive l ∷ K) first.holds k.0) (λ second.
-    did_then g (IsEvasive l ∷ []) (push g l body.Ping K) K c.args.self.now c.push.new.self c.args.out.now c.tell_evasive.new.out c.push.new.out first second)
+    on_ok c.push_ping.result (c.push_ping.ensures g (IsEvasive l ∷ K) first.holds k.0) (λ second.
+    did_then g (IsEvasive l ∷ []) (push g l body.Ping K) K c.args.self.now c.push_ping.new.self c.args.out.now c.tell_evasive.new.out c.push_ping.new.out first second)
