@@ -41,7 +41,6 @@ pub fn chair_at(
     pass: CallerPass,
 ) -> Result<Chair, OutOfMemory>
     ensures pipes { IfOk result (λ chair. arc_value chair.pipes ≡ arc_value pipes.now) }
-    ensures over { IfOk result (λ chair. arc_value chair.over ≡ arc_value over.now) }
     ensures pass { IfOk result (λ chair. chair.pass ≡ pass) }
 {
     Ok(Chair {

@@ -252,8 +252,8 @@ where
     B: Known + Send + 'static,
     requires laid { IsLaid (length clients.items) table }
     requires begun { keep ≡ true → R.begun rec ≡ true }
-    requires hall { B.hall ≡ Some (hall_of (arc_value table.others.pipes) limit (map chair_number table.others.chairs.items)
-        (map (row C.left C.taken C.faults) clients.items)) }
+    requires hall { B.hall ≡ Some (hall_of (arc_value table.others.pipes) limit
+        (map chair_number table.others.chairs.items) (map (row C.left C.taken C.faults) clients.items)) }
     ensures gate { (g : ConfigValue) (start : StartValue) (name : Option (List ℕ)) (s : Seen) (before after : ℕ)
         → StandsFor g [] table.seat.node →
         Prepared g start name keep s (seen_beside (W.told world) (W.faults world) (O.written out.old) (O.faults out.old)

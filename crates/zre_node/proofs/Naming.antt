@@ -1,20 +1,11 @@
--- The name that a peer has told.
+-- The endpoint that a first message names.
 use Rattle.std.proofs.Common.{◌≡◌, ℕ, List, [], ◌∷◌, None, refl, sym, ap}
 use Rattle.zre_msg.specs.declared.message.Body.{Body}
 use Rattle.zre_msg.specs.declared.message.Body.TheVariants as body
 use Rattle.zre_values.specs.Endpoint.{endpoint_in}
 use Rattle.zre_peer.specs.Views.{after, blank}
 use Rattle.zre_msg.specs.declared.message.Message.{Message}
-use Rattle.zre_peer.specs.Runs.{shown}
 use Rattle.zre_peer.specs.Views.{view_of}
-
--- none before HELLO
-pub no_name : (ms : List Message) → None ≡ shown ms → [] ≡ (view_of ms).name
-unfolding view_of
-no_name [] e = refl
-no_name (m ∷ ms) e = absurd cc
-
--- ---- the endpoint that a first message names
 
 pub hello_endpoint : (m : Message) (endpoint : List ℕ) (groups : List (List ℕ)) (status : ℕ) (name : List ℕ) (headers : List (List ℕ × List ℕ)) → m.body ≡ body.Hello endpoint groups status name headers → (view_of (m ∷ [])).endpoint ≡ endpoint
 unfolding view_of

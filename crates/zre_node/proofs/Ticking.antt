@@ -1,5 +1,5 @@
 -- A tick, at the tables.
-use Rattle.std.proofs.Common.{◌≡◌, ℕ, ◌+◌, ◌<◌, zero, suc, Bool, true, false, cond, eqb, ltb, List, [], ◌∷◌, ◌++◌, map, filter, take, length, get_or, Option, Some, None, IsSome, is_some, refl, sym, ap, ◌∙◌, arith, nat_cmp, append_assoc, eqb-true, subst}
+use Rattle.std.proofs.Common.{◌≡◌, ℕ, ◌+◌, ◌<◌, zero, suc, Bool, true, false, cond, eqb, ltb, List, [], ◌∷◌, ◌++◌, map, filter, take, length, get_or, Option, Some, None, IsSome, is_some, refl, sym, ap, ◌∙◌, arith, nat_cmp, append_assoc, append-nil, eqb-true, subst}
 use Rattle.std.specs.List.{AllByRecursion}
 use Rattle.std.specs.BTreeMap.{is_at}
 use Rattle.std.specs.Map.{lookup}
@@ -14,6 +14,7 @@ use Rattle.zre_peer.specs.declared.causes.Cause.{Cause}
 use Rattle.zre_peer.specs.declared.causes.Cause.TheVariants as cause
 use Rattle.zre_peer.specs.declared.causes.CloseWhy.{CloseWhy}
 use Rattle.zre_peer.specs.declared.causes.CloseWhy.TheVariants as close
+use Rattle.zre_peer.specs.declared.event.Event.{Event}
 use Rattle.zre_peer.specs.declared.event.Event.TheVariants as event
 use Rattle.zre_peer.specs.Runs.{shown}
 use Rattle.zre_peer.specs.Standing.{view_in}
@@ -39,13 +40,14 @@ use Rattle.zre_node.specs.declared.effects.Effects.{Effects}
 use Rattle.zre_tables.specs.declared.peer.Peer.{Peer}
 use Rattle.zre_tables.specs.declared.peer.Running.{Running}
 use Rattle.zre_node.specs.declared.tables.Tables.{Tables}
+use Rattle.zre_tables.specs.Probing.{IsTold}
 use Rattle.zre_tables.specs.Rows.{numbers_of}
 use Rattle.zre_tables.specs.Searches.{row_silent, row_evasive, row_stale}
 use Rattle.zre_node.specs.Ticks.{probes, IsEntered, AreEntered, AreIdle}
 use Rattle.zre_tables.specs.Runs.{HasRun}
 use Rattle.zre_node.specs.Stands.{Holds, Did, IsPeer, IsConn, AreKnown, is_quiet}
 use Rattle.zre_tables.proofs.Finding.{numbers_are}
-use Rattle.zre_node.proofs.Many.{did_as, did_then}
+use Rattle.zre_node.proofs.Many.{did_as, did_by, did_then}
 use Rattle.zre_node.proofs.Opening.{with_conns}
 use Rattle.zre_node.proofs.Parting.{its_row, shows}
 use Rattle.zre_node.proofs.Pushing.{Alike, alike_after}
@@ -124,6 +126,18 @@ has_run g K t h l k was r e =
     let here : l ≡ its.0.link = eqb-true l its.0.link (found_passes (λ (u : Life). eqb l u.link) (lives K) its.0 its.1) in
     let none : false ≡ is_some (runner l K) = ap is_some (sym e) ∙ enters (runner its.0.link K) its.0.id (counted its.0.link K) k.run its.2.run_is ∙ ap (λ n. is_some (runner n K)) (sym here) in
     let z : false ≡ true = none ∙ r in absurd cc
+
+-- EVASIVE was told of an entered peer
+pub told_so : (g : Config) (K : List Mark) (t : Tables) → Holds g K t → (l : ℕ) (k : Peer) → Some k ≡ lookup (is_at (nat_cmp l)) t.peers → is_some (runner l K) ≡ true
+    → (a : Effects) (es : List Event) → IsTold k a.events es → Did g (IsEvasive l ∷ []) K t a (record a { events = es })
+told_so g K t h l k was r a es is = by k.run refl
+  where
+    by : (o : Option Running) → k.run ≡ o → Did g (IsEvasive l ∷ []) K t a (record a { events = es })
+    by None e = has_run g K t h l k was r e
+    by (Some x) e =
+        let w = wavers g K t h l k was x e in
+        did_by g (IsEvasive l ∷ []) K t a (record a { events = es }) (holds_probes g K t h l)
+        (is.entered x (counted l K) e w.its_view ∙ ap (λ (fs : List Event). a.events ++ fs) (sym w.tells)) (sym (append-nil a.acts)) refl (λ n. refl)
 
 -- ---- one after the other
 

@@ -1,6 +1,6 @@
 //! What a step gives.
 
-ghost use Rattle.std.specs.Prelude.{◌≡◌, ◌∷◌, [], ◌++◌, List, IfOk, OnOk};
+ghost use Rattle.std.specs.Prelude.{◌≡◌, ◌∷◌, [], ◌++◌, List, OnOk};
 ghost use Rattle.zre_peer.specs.declared.event.Event.{Event as EventValue};
 ghost use Rattle.zre_outside.specs.declared.act.Act.{Act as ActValue};
 ghost use Rattle.zre_journal.specs.Done.{close_link as closing};
@@ -13,6 +13,7 @@ use std::alloc::Global;
 use std::mem;
 use zre_outside::{Act, Acts};
 use zre_peer::{Cause, CloseWhy, Event, Events, IgnoreWhy, Run};
+use zre_tables::name_of;
 use zre_values::{Keys, Octets, OutOfMemory, PeerId};
 
 /// What one entry brought about: what the user is told, and what the node asks of the outside.
@@ -144,15 +145,5 @@ impl Effects {
             Cause::Link => Ok(()),
             _ => self.act(Act::CloseLink { link }),
         }
-    }
-}
-
-/// The name that a peer has told, and none before its HELLO.
-pub fn name_of(alloc: Global, run: &Run) -> Result<Octets, OutOfMemory>
-    ensures { (ms : List Message) → view_in run.now ≡ shown ms → IfOk result (λ name. name ≡ (view_of ms).name) }
-{
-    match run.view() {
-        Some(view) => Octets::copy(alloc, view.name()),
-        None => Ok(Octets::new(alloc)),
     }
 }

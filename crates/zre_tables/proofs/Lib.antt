@@ -7,5 +7,7 @@ pub mod Finding
 pub mod Hearings
 pub mod Indexed
 pub mod Listing
+pub mod Naming
 pub mod Offering
 pub mod Resting
+pub mod Walking

@@ -1,6 +1,7 @@
 pub mod Agreement
 pub mod Holding
 pub mod Indexing
+pub mod Probing
 pub mod Resting
 pub mod Rows
 pub mod Runs

@@ -1,6 +1,6 @@
 -- Searches among rows.
-use Rattle.std.specs.Prelude.{ℕ, ◌-◌, Bool, not, ◌&&◌, List, [], ◌∷◌, Option, Some, None, if◌then◌else◌, nat_eq, nat_le}
-use Rattle.std.specs.Prelude.{is_some, is_none}
+use Rattle.std.specs.Prelude.{ℕ, ◌-◌, Bool, false, not, ◌&&◌, List, [], ◌∷◌, Option, Some, None, if◌then◌else◌}
+use Rattle.std.specs.Prelude.{is_some, is_none, nat_eq, nat_le, nat_lt}
 use Rattle.std.specs.List.{list_any}
 use Rattle.std.specs.Str.{bytes_eq}
 use Rattle.zre_values.specs.declared.peer_id.PeerId.{PeerId}
@@ -43,3 +43,13 @@ offered_among pushed [] = []
 offered_among pushed (e ∷ es) =
     if list_any (nat_eq e.0) pushed && has_front e.1.link then act.Offer e.0 ∷ offered_among pushed es
     else offered_among pushed es
+
+-- links from the first on that isn't below another
+abbrev pub since_link : ℕ → List ℕ → List ℕ
+since_link n [] = []
+since_link n (l ∷ ls) = if nat_lt l n then since_link n ls else l ∷ ls
+
+-- links begin with another
+abbrev pub begins_with : ℕ → List ℕ → Bool
+begins_with n [] = false
+begins_with n (l ∷ ls) = nat_eq n l

@@ -2,14 +2,17 @@
 
 ghost use Rattle.std.specs.Prelude.{◌≡◌, ◌++◌, nat_eq, map, true, IfOk, OnOk};
 ghost use Rattle.std.specs.List.{filter, list_any};
-ghost use Rattle.std.specs.List.Sorted.{IsStrictlyIncreasing};
+ghost use Rattle.std.specs.List.Sorted.{IsStrictlyIncreasing, IsStrictlySortedBy};
+ghost use Rattle.std.specs.Map.{keys_of};
+ghost use Rattle.std.specs.Ordering.{nat_cmp};
 ghost use Rattle.zre_outside.specs.declared.act.Act.TheVariants.{Offer};
 ghost use Rattle.zre_values.specs.Keys.{IsRisingListOf};
 ghost use Rattle.zre_tables.specs.Rows.{passes_at};
-ghost use Rattle.zre_tables.specs.Searches.{offered_among, row_offered};
+ghost use Rattle.zre_tables.specs.Searches.{begins_with, offered_among, row_offered, since_link};
 
 use crate::peer::Peer;
 use crate::peers::Peers;
+use crate::searches::are_many;
 use std::alloc::Global;
 use std::collections::BTreeMap;
 use zre_outside::{Act, Acts};
@@ -53,6 +56,58 @@ fn offer_each(rows: &BTreeMap<u64, Peer>, links: &[u64], acts: &mut Acts) -> Res
     Ok(())
 }
 
+// These links from the first on that isn't below another.
+fn not_below(links: &[u64], link: u64) -> &[u64]
+    ensures { result.now ≡ since_link link links.now }
+{
+    let mut rest = links;
+    while !rest.is_empty() && rest[0] < link {
+        rest = &rest[1..];
+    }
+    rest
+}
+
+// Whether these links begin with another.
+fn is_next(links: &[u64], link: u64) -> bool
+    ensures { result ≡ begins_with link links.now }
+{
+    !links.is_empty() && links[0] == link
+}
+
+// The rows on whose links something was put are offered where they have something to send, by a walk over all rows.
+// The links rise.
+fn offer_rows(rows: &BTreeMap<u64, Peer>, links: &[u64], acts: &mut Acts) -> Result<(), OutOfMemory>
+    requires rising { IsStrictlyIncreasing links.now }
+    requires sorted { IsStrictlySortedBy nat_cmp (keys_of rows.now.entries) }
+    ensures { OnOk result (acts.new ≡ acts.old ++ offered_among links.now rows.now.entries) }
+{
+    let mut rest = links;
+    for (link, peer) in rows {
+        rest = not_below(rest, *link);
+        if is_next(rest, *link) && peer.link.is_offered() {
+            acts.push(Act::Offer { link: *link })?;
+        }
+    }
+    Ok(())
+}
+
+// The same in the cheaper way.
+fn offer_rising(
+    rows: &BTreeMap<u64, Peer>,
+    links: &[u64],
+    acts: &mut Acts,
+) -> Result<(), OutOfMemory>
+    requires rising { IsStrictlyIncreasing links.now }
+    requires sorted { IsStrictlySortedBy nat_cmp (keys_of rows.now.entries) }
+    ensures { OnOk result (acts.new ≡ acts.old ++ offered_among links.now rows.now.entries) }
+{
+    if are_many(links, rows) {
+        offer_rows(rows, links, acts)
+    } else {
+        offer_each(rows, links, acts)
+    }
+}
+
 impl Peers {
     /// The links on which something was put, and that have something to send, are offered. It looks at these alone, and
     /// takes memory only where they don't rise.
@@ -61,7 +116,7 @@ impl Peers {
     {
         let links = pushed.as_slice();
         if is_rising(links) {
-            return offer_each(&self.rows, links, acts);
+            return offer_rising(&self.rows, links, acts);
         }
         let rising = rising_of(self.alloc, links)?;
         offer_each(&self.rows, rising.as_slice(), acts)

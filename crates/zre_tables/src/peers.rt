@@ -6,7 +6,7 @@ ghost use Rattle.std.specs.BTreeMap.{insert_entry, IsOrdered, Updates};
 ghost use Rattle.std.specs.Ordering.{nat_cmp};
 ghost use Rattle.zre_values.specs.declared.limits.TheConstants.{UNSENT_OCTETS};
 ghost use Rattle.zre_values.specs.declared.peer_id.PeerId.{PeerId as PeerIdValue};
-ghost use Rattle.zre_msg.specs.declared.message.Body.TheVariants.{Ping, Shout};
+ghost use Rattle.zre_msg.specs.declared.message.Body.TheVariants.{Shout};
 ghost use Rattle.zre_msg.specs.Spelling.{FitsBody, FitsString};
 ghost use Rattle.zre_link.specs.Link.{link_after, taken_by, unsent_of, RefusesPush};
 ghost use Rattle.zre_link.specs.Text.{Member, Says, size_of};
@@ -233,25 +233,6 @@ impl Peers {
             return Ok(());
         };
         peer.link.push(body)
-    }
-
-    /// Puts a PING on this link in the same way.
-    pub fn push_ping(&mut self, link: u64) -> Result<(), PushFault>
-        ensures ok { (x : PeerValue) (own : PeerIdValue) (line : List Member) (linked : Bool) (o : List ℕ) (n : ℕ)
-            → row_at link self.old ≡ Some x → x.link ≡ link_after own line linked o n →
-            OnOk result ((unsent_of own line n + size_of line Ping ≤ UNSENT_OCTETS)
-            × (self.new ≡ with_row link
-            (record x { link = link_after own (line ++ Says Ping ∷ []) linked o n }) self.old)) }
-        ensures refused { (x : PeerValue) (own : PeerIdValue) (line : List Member) (linked : Bool) (o : List ℕ) (n : ℕ)
-            → row_at link self.old ≡ Some x → x.link ≡ link_after own line linked o n →
-            IfErr result (λ e. RefusesPush e (unsent_of own line n) (size_of line Ping)) }
-        ensures unchanged { OnErr result (self.new ≡ self.old) }
-        ensures missing { row_at link self.old ≡ None → (self.new ≡ self.old) × (result ≡ Ok tt) }
-    {
-        let Some(peer) = self.rows.get_mut(&link) else {
-            return Ok(());
-        };
-        peer.link.push_ping()
     }
 
     /// Puts a SHOUT to this group on this link in the same way: its content is that of the tail.

@@ -3,8 +3,9 @@
 ghost use Rattle.std.specs.Prelude.{◌≡◌, ◌-◌, nat_le, option_copied, IfOk, MatchOption};
 ghost use Rattle.std.specs.Prelude.{ℕ, ◌≤◌, ◌^◌, ◌==◌, Bool, true, false, Some};
 ghost use Rattle.std.specs.List.{filter, list_any};
-ghost use Rattle.std.specs.List.Sorted.{IsStrictlyIncreasing};
+ghost use Rattle.std.specs.List.Sorted.{IsStrictlyIncreasing, IsStrictlySortedBy};
 ghost use Rattle.std.specs.Map.{keys_of};
+ghost use Rattle.std.specs.Ordering.{nat_cmp};
 ghost use Rattle.zre_journal.specs.Connections.{is_same as same_peer};
 ghost use Rattle.zre_tables.specs.Agreement.{AreHeard};
 ghost use Rattle.zre_tables.specs.Resting.{AllRestFrom, RestsFrom};
@@ -179,6 +180,30 @@ fn evasive_among(
     Ok(found)
 }
 
+// The links of all that are entered and evasive now, rising, by a walk over the rows.
+fn evasive_rows(
+    alloc: Global,
+    rows: &BTreeMap<u64, Peer>,
+    evasive: u64,
+    expired: u64,
+    now: u64,
+) -> Result<Keys, OutOfMemory>
+    ensures { IfOk result (λ found. found ≡ numbers_of (row_evasive evasive expired now) rows.now.entries) }
+{
+    let mut found = Keys::new(alloc);
+    for (link, peer) in rows {
+        if is_evasive(peer, evasive, expired, now) {
+            found.push(*link)?;
+        }
+    }
+    Ok(found)
+}
+
+// Whether so many of the rows are due that a walk over all of them costs less than a look-up for each that is due.
+pub(crate) fn are_many(due: &[u64], rows: &BTreeMap<u64, Peer>) -> bool {
+    due.len() > rows.len() / 8
+}
+
 // When a peer last showed that it is there.
 fn active_of(peer: &Peer) -> u64
     ensures active { result ≡ peer.now.active }
@@ -189,7 +214,7 @@ fn active_of(peer: &Peer) -> u64
 
 // The moments of these links, brought up to date with the rows of those that have shown after `latest` that they are
 // there. The others are due, and stay so.
-fn update(
+fn update_each(
     rows: &BTreeMap<u64, Peer>,
     heard: &mut Timers,
     links: &[u64],
@@ -207,6 +232,46 @@ fn update(
         }
     }
     Ok(())
+}
+
+// The same by a walk over the rows, for links that rise.
+fn update_rows(
+    rows: &BTreeMap<u64, Peer>,
+    heard: &mut Timers,
+    links: &[u64],
+    latest: u64,
+) -> Result<(), OutOfMemory>
+    requires { IsStrictlySortedBy nat_cmp (keys_of rows.now.entries) }
+    ensures { (r : Bool) → AreHeard rows.now.entries heard.old r → AreHeard rows.now.entries heard.new r }
+{
+    let mut next = 0;
+    for (link, peer) in rows {
+        if next < links.len() && links[next] == *link {
+            next += 1;
+            let active = active_of(peer);
+            if active > latest {
+                heard.touch(*link, active)?;
+            }
+        }
+    }
+    Ok(())
+}
+
+// The same in the cheaper way.
+fn update(
+    rows: &BTreeMap<u64, Peer>,
+    heard: &mut Timers,
+    links: &[u64],
+    latest: u64,
+) -> Result<(), OutOfMemory>
+    requires { IsStrictlySortedBy nat_cmp (keys_of rows.now.entries) }
+    ensures { (r : Bool) → AreHeard rows.now.entries heard.old r → AreHeard rows.now.entries heard.new r }
+{
+    if are_many(links, rows) {
+        update_rows(rows, heard, links, latest)
+    } else {
+        update_each(rows, heard, links, latest)
+    }
 }
 
 // The last moment at which a peer that has been silent for so long may have shown that it is there. None where that
@@ -310,6 +375,9 @@ impl Peers {
         ensures rows { self.new ≡ self.old }
     {
         let links = self.rested(evasive, now)?;
+        if are_many(links.as_slice(), &self.rows) {
+            return evasive_rows(self.alloc, &self.rows, evasive, expired, now);
+        }
         evasive_among(
             self.alloc,
             &self.rows,

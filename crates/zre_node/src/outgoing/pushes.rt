@@ -5,7 +5,7 @@ ghost use Rattle.zre_journal.specs.declared.config.Config.{Config};
 ghost use Rattle.zre_journal.specs.Chronicle.{Mark};
 ghost use Rattle.zre_journal.specs.Peers.{life};
 ghost use Rattle.zre_journal.specs.Pushes.{push as pushing};
-ghost use Rattle.zre_msg.specs.declared.message.Body.TheVariants.{Ping, Shout};
+ghost use Rattle.zre_msg.specs.declared.message.Body.TheVariants.{Shout};
 ghost use Rattle.zre_msg.specs.Spelling.{FitsBody, FitsString};
 ghost use Rattle.zre_node.specs.Stands.{Holds, Did};
 
@@ -29,22 +29,6 @@ impl Tables {
             Ok(()) => out.pushed.push(link),
             Err(PushFault::Slow { unsent, size }) => {
                 self.end(out, link, Cause::Slow { unsent, size })
-            }
-            Err(PushFault::OutOfMemory) => Err(OutOfMemory),
-        }
-    }
-
-    /// A PING, in the same way.
-    #[inline(never)]
-    pub fn push_ping(&mut self, out: &mut Effects, link: u64) -> Result<(), OutOfMemory>
-        ensures { (g : Config) (K : List Mark) → Holds g K self.old → IsSome (life link K) →
-            OnOk result (Did g (pushing g link Ping K) K self.new out.old out.new) }
-    {
-        match self.peers.push_ping(link) {
-            Ok(()) => out.pushed.push(link),
-            Err(PushFault::Slow { unsent, size }) => {
-                let slow = Cause::Slow { unsent, size };
-                self.end(out, link, slow)
             }
             Err(PushFault::OutOfMemory) => Err(OutOfMemory),
         }

@@ -5,42 +5,34 @@ ghost use Rattle.zre_outside.specs.declared.entry.Entry.{Entry as EntryValue};
 ghost use Rattle.zre_outside.specs.declared.entry.Input.TheVariants as given;
 ghost use Rattle.zre_peer.specs.declared.causes.CloseWhy.TheVariants as closing;
 ghost use Rattle.zre_journal.specs.declared.config.Config.{Config};
-ghost use Rattle.zre_journal.specs.Chronicle.{Mark, SendsBeacon, Closes, IsEvasive, in_turn};
+ghost use Rattle.zre_journal.specs.Chronicle.{Mark, SendsBeacon, Closes, in_turn};
 ghost use Rattle.zre_journal.specs.Ticks.{at_tick};
 ghost use Rattle.zre_node.specs.Journal.{Took};
 ghost use Rattle.zre_node.specs.Stands.{Holds, Did};
 ghost use Rattle.zre_node.specs.Ticks.{probes, IsEntered, AreEntered, AreIdle};
 
-use crate::effects::{Effects, name_of};
+use crate::effects::Effects;
 use crate::tables::Tables;
 use zre_beacon::Beacon;
+use zre_link::PushFault;
 use zre_outside::Act;
-use zre_peer::{Cause, CloseWhy, Event};
+use zre_peer::{Cause, CloseWhy};
 use zre_values::OutOfMemory;
 
 impl Tables {
-    // The user is told that an entered peer is evasive.
-    fn tell_evasive(&self, out: &mut Effects, link: u64) -> Result<(), OutOfMemory>
-        ensures { (g : Config) (K : List Mark) → Holds g K self.now → IsEntered link K →
-            OnOk result (Did g (IsEvasive link ∷ []) K self.now out.old out.new) }
-    {
-        let Some(peer) = self.peers.get(link) else {
-            return Ok(());
-        };
-        let Some(running) = &peer.run else {
-            return Ok(());
-        };
-        let name = name_of(self.alloc, &running.run)?;
-        out.tell(Event::Evasive { id: peer.id, name })
-    }
-
-    // An entered peer is evasive: the user is told, and the peer is sent a PING.
+    // An entered peer is evasive: the user is told, and the peer is sent a PING, or is too slow and ends.
     fn probe(&mut self, out: &mut Effects, link: u64) -> Result<(), OutOfMemory>
         ensures { (g : Config) (K : List Mark) → Holds g K self.old → IsEntered link K →
             OnOk result (Did g (probes g link K) K self.new out.old out.new) }
     {
-        self.tell_evasive(out, link)?;
-        self.push_ping(out, link)
+        match self.peers.probe(link, &mut out.events) {
+            Ok(()) => out.pushed.push(link),
+            Err(PushFault::Slow { unsent, size }) => {
+                let slow = Cause::Slow { unsent, size };
+                self.end(out, link, slow)
+            }
+            Err(PushFault::OutOfMemory) => Err(OutOfMemory),
+        }
     }
 
     // The entered peers of these links are evasive: they are probed one after the other.

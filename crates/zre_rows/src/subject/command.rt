@@ -73,8 +73,8 @@ enum Due {
 
 impl Subject for Commands {
     fn step(&mut self, words: &mut Words<'_>, answer: &mut Text) {
-        steps!(self, words, answer; run, zre, plain, both, words, read, write, limit, fail, turn, look, octets, line, text,
-            input, left, told, kept, file)
+        steps!(self, words, answer; run, zre, plain, both, words, read, write, limit, fail, turn, look, octets, line,
+            text, input, left, told, kept, file)
     }
 }
 

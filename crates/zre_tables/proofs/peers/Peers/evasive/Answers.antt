@@ -15,9 +15,9 @@ returns-clause-found c =
     let i = c.self.inside in
     let test = row_evasive c.args.evasive c.args.expired c.args.now in
     let seen = c.self.view_is ∙ c.in_ok-links.ensures.rows in
-    let rising = subst IsStrictlyIncreasing (sym c.as_slice.ensures) c.in_ok-links.ensures.rising in
+    let rising = subst IsStrictlyIncreasing (sym c.as_slice-2.ensures) c.in_ok-links.ensures.rising in
     IfOk-weaker c.evasive_among.result _ _ (λ found e.
-    e ∙ same_numbers test i.rows.entries c.as_slice.result.now c.self.invariant.rising rising
-    (λ n x at t. ap (λ (xs : List ℕ). list_any (λ k. k == n) xs) c.as_slice.ensures ∙ c.in_ok-links.ensures.all n x (ap (row_at n) (sym seen) ∙ at)
+    e ∙ same_numbers test i.rows.entries c.as_slice-2.result.now c.self.invariant.rising rising
+    (λ n x at t. ap (λ (xs : List ℕ). list_any (λ k. k == n) xs) c.as_slice-2.ensures ∙ c.in_ok-links.ensures.all n x (ap (row_at n) (sym seen) ∙ at)
     (and_parts (is_some x.run && not (row_silent c.args.expired c.args.now x)) (row_silent c.args.evasive c.args.now x) t).1)
     ∙ ap (λ (es : List (ℕ × Peer)). numbers_of test es) seen) c.evasive_among.ensures

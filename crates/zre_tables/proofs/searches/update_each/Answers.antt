@@ -3,8 +3,8 @@ use Rattle.std.specs.FinMap as map
 use Rattle.zre_timers.specs.Moments.{Moments}
 use Rattle.zre_tables.specs.Agreement.{AreHeard}
 use Rattle.zre_tables.proofs.Agreeing.{touch_heard}
-use Rattle.zre_tables.proofs.searches.update.Goals as goal
-use Rattle.zre_tables.proofs.searches.update.Goals.{then-active-latest+in_ok-touch, else-active-latest}
+use Rattle.zre_tables.proofs.searches.update_each.Goals as goal
+use Rattle.zre_tables.proofs.searches.update_each.Goals.{then-active-latest+in_ok-touch, else-active-latest}
 
 pub loop-link-preserved : goal.loop-link-preserved
 loop-link-preserved c = λ r a.

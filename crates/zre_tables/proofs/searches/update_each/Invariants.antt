@@ -1,6 +1,6 @@
 use Rattle.std.proofs.Common.{Bool}
 use Rattle.zre_tables.specs.Agreement.{AreHeard}
-use Rattle.zre_tables.proofs.searches.update.Given as goal
+use Rattle.zre_tables.proofs.searches.update_each.Given as goal
 
 -- the moments agree with the rows still
 abbrev pub invariant-loop-link : goal.invariant-loop-link

@@ -6,8 +6,9 @@ use Rattle.zre_link.specs.Link.{Sending, link_after}
 use Rattle.zre_link.specs.Text.{Says}
 use Rattle.zre_tables.specs.declared.peer.Peer.{Peer}
 use Rattle.zre_tables.proofs.Agreeing.{still_agrees}
+use Rattle.zre_tables.proofs.Carrying.{on_err}
 use Rattle.zre_tables.proofs.Changing.{same, put_back, put_same, relink}
-use Rattle.zre_tables.proofs.peers.Peers.push_ping.Goals as goal
+use Rattle.zre_tables.proofs.peers.Peers.probe.Goals as goal
 
 pub returns-clause-ok : goal.returns-clause-ok
 returns-clause-ok c = λ x own line linked o n at is.
@@ -39,3 +40,8 @@ invariant_of-self-2 c =
     let w = record k { link = c.push_ping.new.self } in
     let held = c.get_mut.follows.holds w in
     still_agrees i.rows.entries (c.get_mut.follows.lender w).entries i.groups i.heard i.rewound c.args.link k w c.in-Some.ensures.value held.4 (held.3 (sym (ap is_some c.in-Some.ensures.value))).0 refl refl c.self.invariant
+
+pub returns-in_err-tell_evasive-clause-unchanged : goal.returns-in_err-tell_evasive-clause-unchanged
+returns-in_err-tell_evasive-clause-unchanged c =
+    let k = c.in-Some.peer.now in
+    on_err c.from_residual.result (put_same c.args.link c.self.inside.rows.entries c.args.self.now c.self.view_is k c.in-Some.ensures.value k _ (c.get_mut.follows.holds k).0 refl)
