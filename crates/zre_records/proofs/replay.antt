@@ -1,4 +1,5 @@
 pub mod Feeding
 pub mod HeadFeeding
+pub mod Kept
 pub mod Pieces
 pub mod Telling

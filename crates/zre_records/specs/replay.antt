@@ -6,3 +6,4 @@ pub mod Replay
 pub mod Replayer
 pub mod State
 pub mod Taken
+pub mod Telling

@@ -6,6 +6,7 @@ mod lives;
 pub(crate) mod reading;
 mod replayer;
 mod taking;
+mod teller;
 pub(crate) mod waiting;
 
 pub use head_replayer::HeadReplayer;

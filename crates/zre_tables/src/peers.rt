@@ -45,6 +45,8 @@ pub struct Peers {
     pub(crate) heard: Timers,
     // Whether a reading went back, so that the moments say nothing.
     pub(crate) rewound: bool,
+    // Whether many were found to be evasive the last time, so that the next search goes over all rows at once.
+    pub(crate) many: bool,
     pub(crate) alloc: Global,
 }
 
@@ -92,6 +94,7 @@ impl Peers {
             groups: Index::new(alloc),
             heard: Timers::new(alloc),
             rewound: false,
+            many: false,
             alloc,
         }
     }

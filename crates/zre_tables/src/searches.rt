@@ -369,23 +369,22 @@ impl Peers {
         silent_among(self.alloc, &self.rows, links.as_slice(), limit, now)
     }
 
-    /// The links of those that are entered and evasive now, rising. It looks at the same ones.
+    /// The links of those that are entered and evasive now, rising. It looks at the same ones, and where these are or
+    /// were many, at all.
     pub fn evasive(&mut self, evasive: u64, expired: u64, now: u64) -> Result<Keys, OutOfMemory>
         ensures found { IfOk result (λ links. links ≡ numbers_of (row_evasive evasive expired now) self.old) }
         ensures rows { self.new ≡ self.old }
     {
-        let links = self.rested(evasive, now)?;
-        if are_many(links.as_slice(), &self.rows) {
-            return evasive_rows(self.alloc, &self.rows, evasive, expired, now);
+        if !self.many {
+            let links = self.rested(evasive, now)?;
+            let due = links.as_slice();
+            if !are_many(due, &self.rows) {
+                return evasive_among(self.alloc, &self.rows, due, evasive, expired, now);
+            }
         }
-        evasive_among(
-            self.alloc,
-            &self.rows,
-            links.as_slice(),
-            evasive,
-            expired,
-            now,
-        )
+        let found = evasive_rows(self.alloc, &self.rows, evasive, expired, now)?;
+        self.many = are_many(found.as_slice(), &self.rows);
+        Ok(found)
     }
 }
 

@@ -10,8 +10,12 @@ ghost use Rattle.zre_commands.specs.pump.Turning.{FailsToBegin, Finishes, Told, 
 use crate::pump::machine::{Going, Machine};
 use crate::pump::status::Status;
 use std::alloc::Global;
-use zre_outside::{Failed, NextFault, PIECE, Sink, Source, room_for, write_all, zeros};
+use zre_outside::{Failed, NextFault, Sink, Source, room_for, write_all, zeros};
 use zre_values::{Octets, OutOfMemory};
+
+// The most octets that one read asks for. The text that they add lies whole in memory before it is written, and an
+// octet of input can add a hundred lines.
+const PORTION: usize = 2048;
 
 /// How a turn ended.
 #[derive(Clone, Copy)]
@@ -29,6 +33,16 @@ enum Next {
 struct Turn {
     read: usize,
     next: Next,
+}
+
+// How many octets the next read asks for, where so many may still be taken.
+fn portion(left: u64) -> usize
+    requires { 0 < left }
+    ensures some { 0 < result }
+    ensures most { result ≤ 2048 }
+    ensures within { result ≤ left }
+{
+    room_for(left).min(PORTION)
 }
 
 // Writes the text that comes before any input is read.
@@ -138,7 +152,7 @@ fn pump_through<M: Machine, I: Source, O: Sink>(
     buf: &mut Vec<u8>,
     text: &mut Octets,
 ) -> Status
-    requires room { vec_len buf.old ≡ 8192 }
+    requires room { vec_len buf.old ≡ 2048 }
     requires start { M.fed machine.old [] }
     requires going { (M.says machine.old).is_stopped [] ≡ false }
     ensures pumped { Pumped result limit (M.says machine.old)
@@ -155,7 +169,7 @@ fn pump_through<M: Machine, I: Source, O: Sink>(
     }
     let mut taken: u64 = 0;
     while taken < limit {
-        let room = room_for(limit - taken);
+        let room = portion(limit - taken);
         let turn = take_turn(machine, input, out, &mut buf[..room], text);
         taken += turn.read as u64;
         match turn.next {
@@ -188,7 +202,7 @@ pub fn pump<M: Machine, I: Source, O: Sink>(
     ensures reads { I.faults input.old ≤ I.faults input.new }
     ensures writes { O.faults out.old ≤ O.faults out.new }
 {
-    let mut buf = match zeros(alloc, PIECE) {
+    let mut buf = match zeros(alloc, PORTION) {
         Ok(buf) => buf,
         Err(_) => return Status::OutOfMemory,
     };

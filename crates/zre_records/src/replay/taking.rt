@@ -6,9 +6,9 @@ ghost use Rattle.zre_journal.specs.declared.config.Config.{Config};
 ghost use Rattle.zre_node.specs.Journal.{StandsFor};
 ghost use Rattle.zre_records.specs.replay.Taken.{Took};
 
+use crate::replay::teller::Teller;
 use zre_node::{Node, Step};
 use zre_outside::{Entries, Entry};
-use zre_peer::push_lines;
 use zre_values::{Octets, OutOfMemory};
 
 // The node takes an entry, and the lines of what it tells are appended.
@@ -16,13 +16,14 @@ fn take_entry(
     node: &mut Node,
     entry: Entry,
     step: &mut Step,
+    teller: &mut Teller,
     out: &mut Octets,
 ) -> Result<(), OutOfMemory>
     ensures { (g : Config) (J : List EntryValue) → StandsFor g J node.old →
         OnOk result (Took g J (entry ∷ []) node.new out.old out.new) }
 {
     node.step_into(entry, step)?;
-    push_lines(out, step.events.as_slice())
+    teller.tell_all(step.events.as_slice(), out)
 }
 
 /// The node takes entries, one after the other. The list that is handed back has their memory.
@@ -36,8 +37,9 @@ pub(crate) fn take_entries(
 {
     let mut items = entries.into_vec();
     let mut step = Step::new(*items.allocator());
+    let mut teller = Teller::new(*items.allocator());
     for entry in items.drain(..) {
-        take_entry(node, entry, &mut step, out)?;
+        take_entry(node, entry, &mut step, &mut teller, out)?;
     }
     Ok(Entries::from_vec(items))
 }

@@ -45,7 +45,7 @@ loop-taken-preserved g c =
     record {
       reached = goes_on _ _ (g.M.Machine.says c.args.machine.now) _ _ _ _ _ _ _ _ _ c.loop-taken.taken turn.result.read piece inv.reached len turn.ensures.moved t.1.0 t.1.1 t.1.2;
       same = turn.ensures.same ∙ inv.same;
-      within = omega (arith, turn.ensures.bound, turn.auto.buf, c.room_for-room.ensures.within, length-take c.room_for-room.result c.deref_mut.result.now, c.loop-taken-test.true);
+      within = omega (arith, turn.ensures.bound, turn.auto.buf, c.portion-room.ensures.within, length-take c.portion-room.result c.deref_mut.result.now, c.loop-taken-test.true);
       room = inv.room;
       reads = omega (arith, inv.reads, turn.ensures.reads);
       writes = omega (arith, inv.writes, turn.ensures.writes);
@@ -64,7 +64,7 @@ returns-in-Stop-clause-pumped g c =
     record {
       octets = o;
       moved = Moves-trans _ _ _ _ _ _ inv.reached.octets piece inv.reached.moved turn.ensures.moved;
-      within = omega (arith, count, turn.ensures.bound, turn.auto.buf, c.room_for-room.ensures.within, length-take c.room_for-room.result c.deref_mut.result.now, c.loop-taken-test.true);
+      within = omega (arith, count, turn.ensures.bound, turn.auto.buf, c.portion-room.ensures.within, length-take c.portion-room.result c.deref_mut.result.now, c.loop-taken-test.true);
       outcome = finished c.finish.result c.args.limit (g.M.Machine.says c.args.machine.now) o _ _ _ _ _ _ _
           (λ r. Rose-since _ _ _ (omega (arith, inv.writes, turn.ensures.writes)) r) (written_more (g.M.Machine.says c.args.machine.now) inv.reached.octets piece _ _ _ inv.reached.appended t.3) (inl (t.1, t.2)) f;
     }
@@ -113,7 +113,7 @@ returns-in-WriteFault-clause-pumped g c =
     record {
       octets = inv.reached.octets ++ piece;
       moved = Moves-trans _ _ _ _ _ _ inv.reached.octets piece inv.reached.moved turn.ensures.moved;
-      within = omega (arith, counted_more inv.reached.octets piece c.loop-taken.taken turn.result.read inv.reached.counted len, turn.ensures.bound, turn.auto.buf, c.room_for-room.ensures.within, length-take c.room_for-room.result c.deref_mut.result.now, c.loop-taken-test.true);
+      within = omega (arith, counted_more inv.reached.octets piece c.loop-taken.taken turn.result.read inv.reached.counted len, turn.ensures.bound, turn.auto.buf, c.portion-room.ensures.within, length-take c.portion-room.result c.deref_mut.result.now, c.loop-taken-test.true);
       outcome = (Rose-since _ _ _ inv.writes t.0, front_of_more (g.M.Machine.says c.args.machine.now) inv.reached.octets piece _ _ _ inv.reached.appended t.1);
     }
 
@@ -127,7 +127,7 @@ returns-in-OutOfMemory-clause-pumped g c =
     record {
       octets = inv.reached.octets ++ piece;
       moved = Moves-trans _ _ _ _ _ _ inv.reached.octets piece inv.reached.moved turn.ensures.moved;
-      within = omega (arith, counted_more inv.reached.octets piece c.loop-taken.taken turn.result.read inv.reached.counted len, turn.ensures.bound, turn.auto.buf, c.room_for-room.ensures.within, length-take c.room_for-room.result c.deref_mut.result.now, c.loop-taken-test.true);
+      within = omega (arith, counted_more inv.reached.octets piece c.loop-taken.taken turn.result.read inv.reached.counted len, turn.ensures.bound, turn.auto.buf, c.portion-room.ensures.within, length-take c.portion-room.result c.deref_mut.result.now, c.loop-taken-test.true);
       outcome = front_of_more (g.M.Machine.says c.args.machine.now) inv.reached.octets piece _ _ _ inv.reached.appended t;
     }
 

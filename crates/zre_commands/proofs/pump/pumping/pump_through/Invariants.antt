@@ -7,7 +7,7 @@ invariant-loop-taken g l = record {
   reached : Reached (g.M.Machine.fed l.machine) (g.M.Machine.says l.fn.machine) (g.I.Source.left l.fn.input) (g.I.Source.left l.input) (g.I.Source.taken l.fn.input) (g.I.Source.taken l.input) (g.O.Sink.written l.fn.out) (g.O.Sink.written l.out) l.taken;
   same : g.M.Machine.says l.machine ≡ g.M.Machine.says l.fn.machine;
   within : l.taken ≤ l.limit;
-  room : vec_len l.buf ≡ 8192;
+  room : vec_len l.buf ≡ 2048;
   reads : g.I.Source.faults l.fn.input ≤ g.I.Source.faults l.input;
   writes : g.O.Sink.faults l.fn.out ≤ g.O.Sink.faults l.out;
 }

@@ -7,7 +7,7 @@ use Rattle.zre_records.proofs.replay.taking.take_entry.Goals as goal
 pub returns : goal.returns
 returns c = λ g J s.
     let step = c.in_ok-step_into.ensures.steps g J s in
-    on_ok c.push_lines.result c.push_lines.ensures (λ p. record {
+    on_ok c.tell_all.result c.tell_all.ensures (λ p. record {
       stands = step.stands;
       told = c.step_into.new.step.events;
       more = step.told;

@@ -10,14 +10,14 @@ use Rattle.zre_tables.specs.Searches.{row_silent, row_evasive}
 use Rattle.zre_tables.proofs.Listing.{same_numbers}
 use Rattle.zre_tables.proofs.peers.Peers.evasive.Goals as goal
 
-pub returns-clause-found : goal.returns-clause-found
-returns-clause-found c =
-    let i = c.self.inside in
+pub returns-then-not-are_many-clause-found : goal.returns-then-not-are_many-clause-found
+returns-then-not-are_many-clause-found c =
+    let i = c.self-then-not-self.inside in
     let test = row_evasive c.args.evasive c.args.expired c.args.now in
-    let seen = c.self.view_is ∙ c.in_ok-links.ensures.rows in
-    let rising = subst IsStrictlyIncreasing (sym c.as_slice-2.ensures) c.in_ok-links.ensures.rising in
+    let seen = c.self-then-not-self.view_is ∙ c.in_ok-links.ensures.rows in
+    let rising = subst IsStrictlyIncreasing (sym c.as_slice-due.ensures) c.in_ok-links.ensures.rising in
     IfOk-weaker c.evasive_among.result _ _ (λ found e.
-    e ∙ same_numbers test i.rows.entries c.as_slice-2.result.now c.self.invariant.rising rising
-    (λ n x at t. ap (λ (xs : List ℕ). list_any (λ k. k == n) xs) c.as_slice-2.ensures ∙ c.in_ok-links.ensures.all n x (ap (row_at n) (sym seen) ∙ at)
+    e ∙ same_numbers test i.rows.entries c.as_slice-due.result.now c.self-then-not-self.invariant.rising rising
+    (λ n x at t. ap (λ (xs : List ℕ). list_any (λ k. k == n) xs) c.as_slice-due.ensures ∙ c.in_ok-links.ensures.all n x (ap (row_at n) (sym seen) ∙ at)
     (and_parts (is_some x.run && not (row_silent c.args.expired c.args.now x)) (row_silent c.args.evasive c.args.now x) t).1)
     ∙ ap (λ (es : List (ℕ × Peer)). numbers_of test es) seen) c.evasive_among.ensures
