@@ -21,8 +21,8 @@ pub(crate) struct EvasiveLine {
     line: Octets,
 }
 
-/// Appends the lines of events. It keeps those of EVASIVE, in the order in which they were told, which is that of the
-/// next tick: so the line that comes next is mostly the one after the last.
+/// Appends the lines of events. It keeps those of EVASIVE in the order in which they were told, which is that of the
+/// next tick: so the line that comes next is mostly the one after the last, and after all of them the first.
 #[derive(Drop)]
 pub(crate) struct Teller {
     kept: Vec<EvasiveLine>,
@@ -93,55 +93,39 @@ impl Teller {
         Ok(true)
     }
 
-    // Appends the line of EVASIVE of a peer where it is kept as the next one or as the first, and goes on after it.
-    fn tell_again(
-        &mut self,
-        id: PeerId,
-        name: &Octets,
-        out: &mut Octets,
-    ) -> Result<bool, OutOfMemory>
-        ensures { IfOk result (λ told. TellsWhere told (line (Evasive id name.now)) out.old out.new) }
-    {
-        let next = self.next;
-        if self.tell_kept(next, id, name, out)? {
-            self.next = next.saturating_add(1);
-            return Ok(true);
-        }
-        if self.tell_kept(0, id, name, out)? {
-            self.next = 1;
-            return Ok(true);
-        }
-        Ok(false)
-    }
-
-    // Where a further line is kept: in place of the next one, or after the last, or where there are enough, as the
-    // first.
-    fn place(&self) -> usize {
-        let len = self.kept.len();
-        if self.next < len {
-            self.next
-        } else if len < MOST {
-            len
-        } else {
-            0
-        }
-    }
-
-    // Keeps a line.
+    // Keeps a line as the next one and the last. Those that were kept from there on are let go: they come in another
+    // order now.
     fn keep(&mut self, line: EvasiveLine) -> Result<(), OutOfMemory>
         requires { Kept line }
     {
-        let place = self.place();
-        self.next = place.saturating_add(1);
-        if place < self.kept.len() {
-            self.kept[place] = line;
-            return Ok(());
+        if self.next < MOST {
+            self.kept.truncate(self.next);
+        } else {
+            self.kept.clear();
         }
         self.kept.push(line)?;
+        self.next = self.kept.len();
         Ok(())
     }
 
-    // EVASIVE of a peer.
+    // EVASIVE of a peer, whose line isn't kept where it comes.
+    #[inline(never)]
+    fn tell_anew(
+        &mut self,
+        id: PeerId,
+        name: &Octets,
+        event: &Event,
+        out: &mut Octets,
+    ) -> Result<(), OutOfMemory>
+        requires { event.now ≡ Evasive id name.now }
+        ensures { OnOk result (out.new ≡ out.old ++ line event.now) }
+    {
+        let line = line_of(self.alloc, id, name, event)?;
+        out.append(line.line.as_slice())?;
+        self.keep(line)
+    }
+
+    // EVASIVE of a peer: its line is kept as the next one, or after the last comes the first again, or it is made.
     fn tell_evasive(
         &mut self,
         id: PeerId,
@@ -152,12 +136,16 @@ impl Teller {
         requires { event.now ≡ Evasive id name.now }
         ensures { OnOk result (out.new ≡ out.old ++ line event.now) }
     {
-        if self.tell_again(id, name, out)? {
+        let place = if self.next < self.kept.len() {
+            self.next
+        } else {
+            0
+        };
+        if self.tell_kept(place, id, name, out)? {
+            self.next = place.saturating_add(1);
             return Ok(());
         }
-        let line = line_of(self.alloc, id, name, event)?;
-        out.append(line.line.as_slice())?;
-        self.keep(line)
+        self.tell_anew(id, name, event, out)
     }
 
     // The line of an event.
