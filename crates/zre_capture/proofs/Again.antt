@@ -27,25 +27,12 @@ use Rattle.zre_capture.proofs.Visible.{visible, decimal-visible, address-visible
 again_command_word : (w : CommandWord) → command_word_of (command_word_text w) ≡ Some w
 unfolding command_word_of
 again_command_word order.Join = refl
-again_command_word order.Leave = refl
-again_command_word order.Whisper = refl
-again_command_word order.Shout = refl
-again_command_word order.Bad = refl
-again_command_word order.Quit = refl
+again_command_word _ = refl
 
 again_input_word : (w : InputWord) → input_word_of (input_word_text w) ≡ Some w
 unfolding input_word_of
 again_input_word word.Datagram = refl
-again_input_word word.Opened = refl
-again_input_word word.Piece = refl
-again_input_word word.Shut = refl
-again_input_word word.Linked = refl
-again_input_word word.Reply = refl
-again_input_word word.Unlinked = refl
-again_input_word word.Took = refl
-again_input_word word.Tick = refl
-again_input_word word.Do = refl
-again_input_word word.End = refl
+again_input_word _ = refl
 
 again_command_fields : (c : Command) → IsCommand c → command_from (command_word c) (command_fields c) ≡ Some c
 unfolding one_number one_group id_and_frames group_and_frames
@@ -90,24 +77,11 @@ again_fields f before e fits is = rw (again_reading f before e.at fits is.at, ag
 
 command_words-visible : (w : CommandWord) → visible (command_word_text w) ≡ true
 command_words-visible order.Join = refl
-command_words-visible order.Leave = refl
-command_words-visible order.Whisper = refl
-command_words-visible order.Shout = refl
-command_words-visible order.Bad = refl
-command_words-visible order.Quit = refl
+command_words-visible _ = refl
 
 input_words-visible : (w : InputWord) → visible (input_word_text w) ≡ true
 input_words-visible word.Datagram = refl
-input_words-visible word.Opened = refl
-input_words-visible word.Piece = refl
-input_words-visible word.Shut = refl
-input_words-visible word.Linked = refl
-input_words-visible word.Reply = refl
-input_words-visible word.Unlinked = refl
-input_words-visible word.Took = refl
-input_words-visible word.Tick = refl
-input_words-visible word.Do = refl
-input_words-visible word.End = refl
+input_words-visible _ = refl
 
 alone-visible : (f : List ℕ) → visible f ≡ true → list_all visible (f ∷ []) ≡ true
 alone-visible f p = and_from (visible f) true p refl

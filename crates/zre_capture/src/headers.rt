@@ -7,6 +7,7 @@ ghost use Rattle.zre_capture.specs.Headers.{header_of, headers_in, name_in, have
 ghost use Rattle.zre_capture.specs.Headers.{headers_of};
 ghost use Rattle.zre_capture.specs.Parts.{between};
 
+use crate::pairs::both;
 use crate::read::two_parts;
 use crate::split::split_once;
 use crate::value::{is_short, short};
@@ -124,17 +125,7 @@ fn header(alloc: Global, member: &[u8]) -> Result<Option<(Octets, Octets)>, OutO
     let Some(name) = short(alloc, NAME_OCTETS, name)? else {
         return Ok(None);
     };
-    match short(alloc, VALUE_OCTETS, value) {
-        Ok(Some(value)) => Ok(Some((name, value))),
-        Ok(None) => {
-            drop(name);
-            Ok(None)
-        }
-        Err(OutOfMemory) => {
-            drop(name);
-            Err(OutOfMemory)
-        }
-    }
+    both(name, short(alloc, VALUE_OCTETS, value))
 }
 
 // Reads one more.

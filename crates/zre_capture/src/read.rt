@@ -10,6 +10,7 @@ ghost use Rattle.zre_capture.specs.Values.{number_of, reading_of, address_of, id
 use crate::format::Format;
 use crate::hexadecimal::hex;
 use crate::list::frames;
+use crate::pairs::both;
 use crate::split::split_once;
 use crate::value::{address, group, id, number, reading};
 use crate::word::{CommandWord, InputWord, command_word, input_word};
@@ -90,10 +91,7 @@ pub fn number_and_hex(alloc: Global, text: &[u8]) -> Result<Option<(u64, Octets)
     let Some(n) = number(first) else {
         return Ok(None);
     };
-    match hex(alloc, second)? {
-        Some(bytes) => Ok(Some((n, bytes))),
-        None => Ok(None),
-    }
+    both(n, hex(alloc, second))
 }
 
 #[tactic(auto, unfolding(crate::specs::Reading::address_and_hex))]
@@ -106,10 +104,7 @@ fn address_and_hex(alloc: Global, text: &[u8]) -> Result<Option<([u8; 4], Octets
     let Some(host) = address(first) else {
         return Ok(None);
     };
-    match hex(alloc, second)? {
-        Some(bytes) => Ok(Some((host, bytes))),
-        None => Ok(None),
-    }
+    both(host, hex(alloc, second))
 }
 
 #[tactic(auto, unfolding(crate::specs::Reading::id_and_frames))]
@@ -122,10 +117,7 @@ fn id_and_frames(alloc: Global, text: &[u8]) -> Result<Option<(PeerId, Frames)>,
     let Some(peer) = id(first) else {
         return Ok(None);
     };
-    match frames(alloc, second)? {
-        Some(content) => Ok(Some((peer, content))),
-        None => Ok(None),
-    }
+    both(peer, frames(alloc, second))
 }
 
 #[tactic(auto, unfolding(crate::specs::Reading::group_and_frames))]
@@ -138,17 +130,7 @@ fn group_and_frames(alloc: Global, text: &[u8]) -> Result<Option<(Octets, Frames
     let Some(name) = group(alloc, first)? else {
         return Ok(None);
     };
-    match frames(alloc, second) {
-        Ok(Some(content)) => Ok(Some((name, content))),
-        Ok(None) => {
-            drop(name);
-            Ok(None)
-        }
-        Err(OutOfMemory) => {
-            drop(name);
-            Err(OutOfMemory)
-        }
-    }
+    both(name, frames(alloc, second))
 }
 
 // The command of a word and the fields after it, of which there is one at least.
