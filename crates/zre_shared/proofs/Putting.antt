@@ -1,14 +1,14 @@
 -- What a further write does to a table.
-use Rattle.std.proofs.Common.{◌≡◌, ◌≤◌, max, inl, inr, true, false, cond, List, [], ◌∷◌, refl, sym, ap, ◌∙◌, arith}
+use Rattle.std.proofs.Common.{◌≡◌, ◌≤◌, max, inl, inr, true, false, cond, List, [], ◌∷◌, refl, ap, ◌∙◌, subst, arith}
 use Rattle.std.specs.List.{AllByRecursion}
 use Rattle.std.specs.Cmp.{tied_itself, tied_back}
 use Rattle.std.specs.Ordering.{match_ordering, is_lt, is_gt}
 use Rattle.std.specs.declared.cmp.Ordering.TheVariants.{Less, Equal, Greater}
 use Rattle.zre_shared.specs.declared.write.Write.{Write}
-use Rattle.zre_shared.specs.Tables.{by_key, by_age, greater, put}
+use Rattle.zre_shared.specs.Tables.{by_key, by_age, greater, put, IsCovered}
 use Rattle.zre_shared.specs.Replicas.{greatest_count}
 use Rattle.zre_shared.proofs.Ages.{key_total, not_above, below, itself, over, key_back, count_up, count_down}
-use Rattle.zre_shared.proofs.Members.{In, Rising, rising-head, rising-tail, rising-nil, rising-cons, all_members}
+use Rattle.zre_shared.proofs.Members.{In, in-from, contains-from, Rising, rising-head, rising-tail, rising-nil, rising-cons, all_members}
 
 -- the greater of two is one of them
 pub greater-one : (P : Write → Type 0) (w v : Write) → P w → P v → P (greater w v)
@@ -43,17 +43,10 @@ put-rising w (v ∷ vs) r =
       | Greater ↦ λ e. rising-cons v (put w vs) (put-all (λ y. by_key v y ≡ Less) w vs (key_back w v e) (rising-head v vs r)) (put-rising w vs (rising-tail v vs r))
     ] refl
 
--- a member of the table with the key of a write, that isn't less
-pub record Covered (t : List Write) (w : Write) : Type 0 where
-  pub by : Write
-  pub there : In t by
-  pub same_key : by_key w by ≡ Equal
-  pub not_less : is_gt (by_age w by) ≡ false
+pub covered-itself : (t : List Write) (w : Write) → In t w → IsCovered t w
+covered-itself t w i = record { by = w; there = contains-from t w i; same_key = tied_itself key_total w; not_less = itself w }
 
-pub covered-itself : (t : List Write) (w : Write) → In t w → Covered t w
-covered-itself t w i = record { by = w; there = i; same_key = tied_itself key_total w; not_less = itself w }
-
-pub covered-over : (t : List Write) (v w : Write) → by_key v w ≡ Equal → is_gt (by_age v w) ≡ false → Covered t w → Covered t v
+pub covered-over : (t : List Write) (v w : Write) → by_key v w ≡ Equal → is_gt (by_age v w) ≡ false → IsCovered t w → IsCovered t v
 covered-over t v w key age c = record {
   by = c.by;
   there = c.there;
@@ -61,59 +54,51 @@ covered-over t v w key age c = record {
   not_less = over v w c.by age c.not_less;
 }
 
-later : (t : List Write) (v w : Write) → Covered t w → Covered (v ∷ t) w
-later t v w c = record { by = c.by; there = inr c.there; same_key = c.same_key; not_less = c.not_less }
+later : (t : List Write) (v w : Write) → IsCovered t w → IsCovered (v ∷ t) w
+later t v w c = record { by = c.by; there = contains-from (v ∷ t) c.by (inr (in-from t c.by c.there)); same_key = c.same_key; not_less = c.not_less }
 
 -- the greater of two covers both
-greater-first : (w v : Write) (vs : List Write) → by_key w v ≡ Equal → Covered (greater w v ∷ vs) w
+greater-first : (w v : Write) (vs : List Write) → by_key w v ≡ Equal → IsCovered (greater w v ∷ vs) w
 greater-first w v vs e =
-    elim (is_lt (by_age v w)) as (λ b. is_lt (by_age v w) ≡ b → Covered (cond b w v ∷ vs) w) [
+    elim (is_lt (by_age v w)) as (λ b. is_lt (by_age v w) ≡ b → IsCovered (cond b w v ∷ vs) w) [
       | true ↦ λ lt. covered-itself (w ∷ vs) w (inl refl)
-      | false ↦ λ lt. record { by = v; there = inl refl; same_key = e; not_less = not_above v w lt }
+      | false ↦ λ lt. record { by = v; there = contains-from (v ∷ vs) v (inl refl); same_key = e; not_less = not_above v w lt }
     ] refl
 
-greater-second : (w v : Write) (vs : List Write) → by_key w v ≡ Equal → Covered (greater w v ∷ vs) v
+greater-second : (w v : Write) (vs : List Write) → by_key w v ≡ Equal → IsCovered (greater w v ∷ vs) v
 greater-second w v vs e =
-    elim (is_lt (by_age v w)) as (λ b. is_lt (by_age v w) ≡ b → Covered (cond b w v ∷ vs) v) [
-      | true ↦ λ lt. record { by = w; there = inl refl; same_key = tied_back key_total w v e; not_less = below v w lt }
+    elim (is_lt (by_age v w)) as (λ b. is_lt (by_age v w) ≡ b → IsCovered (cond b w v ∷ vs) v) [
+      | true ↦ λ lt. record { by = w; there = contains-from (w ∷ vs) w (inl refl); same_key = tied_back key_total w v e; not_less = below v w lt }
       | false ↦ λ lt. covered-itself (v ∷ vs) v (inl refl)
     ] refl
 
-pub put-covers : (w : Write) (t : List Write) → Covered (put w t) w
+pub put-covers : (w : Write) (t : List Write) → IsCovered (put w t) w
 put-covers w [] = covered-itself (w ∷ []) w (inl refl)
 put-covers w (v ∷ vs) =
-    elim (by_key w v) as (λ o. by_key w v ≡ o → Covered (match_ordering o (w ∷ v ∷ vs) (greater w v ∷ vs) (v ∷ put w vs)) w) [
+    elim (by_key w v) as (λ o. by_key w v ≡ o → IsCovered (match_ordering o (w ∷ v ∷ vs) (greater w v ∷ vs) (v ∷ put w vs)) w) [
       | Less ↦ λ e. covered-itself (w ∷ v ∷ vs) w (inl refl)
       | Equal ↦ λ e. greater-first w v vs e
       | Greater ↦ λ e. later (put w vs) v w (put-covers w vs)
     ] refl
 
 -- a member stays, or a greater one of its key has its place
-put-member : (w : Write) (t : List Write) (x : Write) → In t x → Covered (put w t) x
+put-member : (w : Write) (t : List Write) (x : Write) → In t x → IsCovered (put w t) x
 put-member w [] x i = absurd i
 put-member w (v ∷ vs) x (inl same) =
-    elim (by_key w v) as (λ o. by_key w v ≡ o → Covered (match_ordering o (w ∷ v ∷ vs) (greater w v ∷ vs) (v ∷ put w vs)) x) [
+    elim (by_key w v) as (λ o. by_key w v ≡ o → IsCovered (match_ordering o (w ∷ v ∷ vs) (greater w v ∷ vs) (v ∷ put w vs)) x) [
       | Less ↦ λ e. covered-itself (w ∷ v ∷ vs) x (inr (inl same))
-      | Equal ↦ λ e. let c : Covered (greater w v ∷ vs) v = greater-second w v vs e in moved (greater w v ∷ vs) v x same c
+      | Equal ↦ λ e. subst (IsCovered (greater w v ∷ vs)) same (greater-second w v vs e)
       | Greater ↦ λ e. covered-itself (v ∷ put w vs) x (inl same)
     ] refl
-  where
-    moved : (t : List Write) (v x : Write) → v ≡ x → Covered t v → Covered t x
-    moved t v x same c = record {
-      by = c.by;
-      there = c.there;
-      same_key = ap (λ (y : Write). by_key y c.by) (sym same) ∙ c.same_key;
-      not_less = ap (λ (y : Write). is_gt (by_age y c.by)) (sym same) ∙ c.not_less;
-    }
 put-member w (v ∷ vs) x (inr i) =
-    elim (by_key w v) as (λ o. Covered (match_ordering o (w ∷ v ∷ vs) (greater w v ∷ vs) (v ∷ put w vs)) x) [
+    elim (by_key w v) as (λ o. IsCovered (match_ordering o (w ∷ v ∷ vs) (greater w v ∷ vs) (v ∷ put w vs)) x) [
       | Less ↦ covered-itself (w ∷ v ∷ vs) x (inr (inr i))
       | Equal ↦ covered-itself (greater w v ∷ vs) x (inr i)
       | Greater ↦ later (put w vs) v x (put-member w vs x i)
     ]
 
-pub put-keeps : (w : Write) (t : List Write) (x : Write) → Covered t x → Covered (put w t) x
-put-keeps w t x c = covered-over (put w t) x c.by c.same_key c.not_less (put-member w t c.by c.there)
+pub put-keeps : (w : Write) (t : List Write) (x : Write) → IsCovered t x → IsCovered (put w t) x
+put-keeps w t x c = covered-over (put w t) x c.by c.same_key c.not_less (put-member w t c.by (in-from t c.by c.there))
 
 -- ---- counts
 

@@ -8,33 +8,27 @@ use Rattle.std.specs.Ordering.{is_gt}
 use Rattle.zre_shared.specs.Tables.{by_key, by_age, put, table, IsCovered, IsTableOf, HaveSameMembers}
 use Rattle.zre_shared.proofs.Ages.{key_total, same_write, alike}
 use Rattle.zre_shared.proofs.Members.{In, in-from, contains-from, at_member, all_members, in-left, in-right, in-cases, Rising, rising-nil, one_of_key, same_list}
-use Rattle.zre_shared.proofs.Putting.{put-all, put-rising, Covered, covered-itself, covered-over, put-covers, put-keeps}
+use Rattle.zre_shared.proofs.Putting.{put-all, put-rising, covered-itself, covered-over, put-covers, put-keeps}
 
 -- the same as IsTableOf, by members
 pub record Tables (ws t : List Write) : Type 0 where
   pub rising : Rising t
   pub among : (x : Write) → In t x → In ws x
-  pub greatest : (x : Write) → In ws x → Covered t x
+  pub greatest : (x : Write) → In ws x → IsCovered t x
 
 pub public-from : (ws t : List Write) → Tables ws t → IsTableOf ws t
 public-from ws t h = record {
   rising = h.rising;
   among = All-from_recursion (Contains ws) t (all_members (Contains ws) t (λ x i. contains-from ws x (h.among x i)));
-  greatest = All-from_recursion (IsCovered t) ws (all_members (IsCovered t) ws (λ x i. covered (h.greatest x i)));
+  greatest = All-from_recursion (IsCovered t) ws (all_members (IsCovered t) ws h.greatest);
 }
-  where
-    covered : {x : Write} → Covered t x → IsCovered t x
-    covered c = record { by = c.by; there = contains-from t c.by c.there; same_key = c.same_key; not_less = c.not_less }
 
 pub from-public : (ws t : List Write) → IsTableOf ws t → Tables ws t
 from-public ws t h = record {
   rising = h.rising;
   among = λ x i. in-from ws x (at_member (Contains ws) t x (recursion_from_All (Contains ws) t h.among) i);
-  greatest = λ x i. covered (at_member (IsCovered t) ws x (recursion_from_All (IsCovered t) ws h.greatest) i);
+  greatest = λ x i. at_member (IsCovered t) ws x (recursion_from_All (IsCovered t) ws h.greatest) i;
 }
-  where
-    covered : {x : Write} → IsCovered t x → Covered t x
-    covered c = record { by = c.by; there = in-from t c.by c.there; same_key = c.same_key; not_less = c.not_less }
 
 pub tables : (ws : List Write) → Tables ws (table ws)
 unfolding table
@@ -48,20 +42,20 @@ tables (w ∷ ws) =
       greatest = λ x i. first w ws h x i;
     }
   where
-    first : (w : Write) (ws : List Write) → Tables ws (table ws) → (x : Write) → In (w ∷ ws) x → Covered (put w (table ws)) x
-    first w ws h x (inl same) = subst (λ (y : Write). Covered (put w (table ws)) y) same (put-covers w (table ws))
+    first : (w : Write) (ws : List Write) → Tables ws (table ws) → (x : Write) → In (w ∷ ws) x → IsCovered (put w (table ws)) x
+    first w ws h x (inl same) = subst (λ (y : Write). IsCovered (put w (table ws)) y) same (put-covers w (table ws))
     first w ws h x (inr later) = put-keeps w (table ws) x (h.greatest x later)
 
 -- a member of one table is one of another of the same writes
 in_other : (ws s t : List Write) → Tables ws s → Tables ws t → (x : Write) → In s x → In t x
 in_other ws s t hs ht x i =
     let b = ht.greatest x (hs.among x i) in
-    let c = hs.greatest b.by (ht.among b.by b.there) in
+    let c = hs.greatest b.by (ht.among b.by (in-from t b.by b.there)) in
     let key : by_key x c.by ≡ Equal = key_total.congr x b.by c.by b.same_key ∙ c.same_key in
-    let back : x ≡ c.by = one_of_key s hs.rising x c.by i c.there key in
+    let back : x ≡ c.by = one_of_key s hs.rising x c.by i (in-from s c.by c.there) key in
     let no_less = subst (λ (y : Write). is_gt (by_age b.by y) ≡ false) (sym back) c.not_less in
     let same : x ≡ b.by = same_write x b.by b.same_key (alike x b.by b.not_less no_less) in
-    subst (In t) (sym same) b.there
+    subst (In t) (sym same) (in-from t b.by b.there)
 
 pub one_table : (ws s t : List Write) → Tables ws s → Tables ws t → s ≡ t
 one_table ws s t hs ht = same_list s t hs.rising ht.rising (in_other ws s t hs ht) (in_other ws t s ht hs)
@@ -99,7 +93,7 @@ table-left xs ys =
       greatest = λ x i. elim (in-cases xs ys x i) [
         | inl left ↦
             (let c = h.greatest x left in
-            covered-over (table (table xs ++ ys)) x c.by c.same_key c.not_less (k.greatest c.by (in-left (table xs) ys c.by c.there)))
+            covered-over (table (table xs ++ ys)) x c.by c.same_key c.not_less (k.greatest c.by (in-left (table xs) ys c.by (in-from (table xs) c.by c.there))))
         | inr right ↦ k.greatest x (in-right (table xs) ys x right)
       ];
     })
