@@ -1,4 +1,5 @@
 pub mod Settings
+pub mod Stream
 pub mod pump
 pub mod follow
 pub mod show

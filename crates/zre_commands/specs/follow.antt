@@ -1,6 +1,5 @@
 pub mod Follow
 pub mod Follower
 pub mod Messages
-pub mod Piece
 pub mod Runs
 pub mod Taken

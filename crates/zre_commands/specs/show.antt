@@ -1,4 +1,3 @@
 pub mod Lines
 pub mod Lister
-pub mod Piece
 pub mod Show

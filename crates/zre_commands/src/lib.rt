@@ -5,6 +5,8 @@
 
 pub mod exercise;
 pub mod follow;
+mod frames;
 pub mod pump;
 pub mod settings;
 pub mod show;
+mod stream;

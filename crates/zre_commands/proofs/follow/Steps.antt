@@ -1,20 +1,26 @@
 -- Taking messages one after the other.
-use Rattle.std.proofs.Common.{◌≡◌, ℕ, ◌+◌, ◌<◌, Bool, true, false, not, cond, Result, Ok, Err, List, [], ◌∷◌, ◌++◌, length, take, drop, get_or, refl, sym, ap, ◌∙◌, subst, append_assoc}
+use Rattle.std.proofs.Common.{◌≡◌, ◌≢◌, ℕ, ◌+◌, ◌<◌, true, false, cond, Ok, Err, List, [], ◌∷◌, ◌++◌, length, take, drop, get_or, Option, refl, sym, ap, ◌∙◌, subst, append_assoc, true≢false}
+use Rattle.std.specs.List.{cons_option}
 use Rattle.std.proofs.lemmas.List.{append-nil, take-append-drop, take_more}
 use Rattle.std.proofs.lemmas.List.Concat.{flat_map-append}
-use Rattle.std.specs.Prelude.{IfOk, OnOk}
 use Rattle.zre_values.specs.declared.memory.OutOfMemory.{OutOfMemory}
 use Rattle.zre_values.specs.declared.peer_id.PeerId.{PeerId}
 use Rattle.zre_msg.specs.declared.message.Message.{Message}
 use Rattle.zre_peer.specs.Lines.{line, lines}
-use Rattle.zre_peer.specs.Runs.{may_follow}
-use Rattle.zre_peer.specs.Standing.{Stands, is_spent}
+use Rattle.zre_peer.specs.Runs.{events_of, fault_of, shown}
+use Rattle.zre_peer.specs.Standing.{Stands, id_of, is_spent, view_in}
+use Rattle.zre_peer.specs.Views.{view_of}
 use Rattle.zre_peer.specs.declared.event.Event.{Event}
 use Rattle.zre_peer.specs.declared.peer_run.Run.{Run}
+use Rattle.zre_peer.specs.declared.peer_run.RunFault.{RunFault}
+use Rattle.zre_peer.specs.declared.peer_run.RunFault.TheVariants as faults
+use Rattle.zre_peer.specs.declared.view.View.{View}
 use Rattle.zre_zmtp.specs.declared.item.Item.{Item}
-use Rattle.zre_commands.specs.follow.Messages.{messages_in}
-use Rattle.zre_commands.specs.follow.Runs.{told, events_after, is_over}
-use Rattle.zre_commands.specs.follow.Taken.{TookOne, Took}
+use Rattle.zre_zmtp.specs.declared.item.What.{What}
+use Rattle.zre_zmtp.specs.declared.item.What.TheVariants as says
+use Rattle.zre_commands.specs.follow.Messages.{meant, messages_in}
+use Rattle.zre_commands.specs.follow.Runs.{end_of, events_after, is_over}
+use Rattle.zre_commands.specs.follow.Taken.{Handed, Takes, Took}
 use Rattle.zre_commands.proofs.follow.Growing.{events_more, over_more, messages_in-append}
 
 -- no message was taken
@@ -26,26 +32,63 @@ took_none id ms run out s going = record {
   stands = λ _. subst (Stands run) (sym (append-nil ms)) s;
 }
 
-one_line : (b : Bool) (es : List Event) → lines (es ++ cond b [] []) ≡ lines es
-one_line true es = ap lines (append-nil es)
-one_line false es = ap lines (append-nil es)
-
-over_one : (b : Bool) → cond b false true ≡ not b
-over_one true = refl
-over_one false = refl
-
-not_false : (b : Bool) → not b ≡ false → b ≡ true
-not_false true e = refl
-not_false false e = absurd cc
-
--- one message was taken
-pub took_one : (id : PeerId) (ms : List Message) (m : Message) (on : Bool) (run : Run) (out out' : List ℕ) → TookOne id ms m on run out out' → is_spent run ≡ not on → Took id ms (m ∷ []) run out out'
+-- the run took the message that it was handed
+pub goes_on : (was now : Run) (m : Message) (out out' : List ℕ) → Handed (Ok tt) was now m out out' → Takes (Ok true) was now (m ∷ []) out out'
 unfolding events_after is_over
-took_one id ms m on run out out' t spent = record {
-  lines_of = t.lines_of ∙ ap (λ (r : List ℕ). out ++ r) (sym (one_line (may_follow ms m) (told id ms m)));
-  over = spent ∙ ap not t.may ∙ sym (over_one (may_follow ms m));
-  stands = λ going. t.stands (not_false on (sym spent ∙ going));
+goes_on was now m out out' h = record {
+  took = λ ms s.
+      let t = h.told ms s in
+      record {
+        lines_of = rw t.0 (t.2 ∙ ap (λ es. out ++ lines es) (sym (append-nil (events_of (id_of was) (view_of ms) m.body))));
+        over = rw t.0 h.going;
+        stands = λ _. t.1;
+      };
+  spent = h.going;
+  same = h.same;
 }
+
+line_alone : (e : Event) → line e ≡ lines (e ∷ [])
+line_alone e = sym (append-nil (line e))
+
+-- it refused it, and the line of its end was appended
+pub ends_so : (was now : Run) (m : Message) (fault : RunFault) (out out' next : List ℕ) → fault ≢ faults.OutOfMemory → Handed (Err fault) was now m out out' → next ≡ out' ++ line (end_of (id_of now) (view_in now) fault)
+    → Takes (Ok false) was now (m ∷ []) out next
+unfolding events_after is_over
+ends_so was now m fault out out' next memory h e = record {
+  took = λ ms s.
+      let r = h.refused ms s memory in
+      record {
+        lines_of = rw r.0
+            (e ∙ ap (λ (o : List ℕ). o ++ line (end_of (id_of now) (view_in now) fault)) r.2
+            ∙ ap (λ (id : PeerId). out ++ line (end_of id (view_in now) fault)) h.same
+            ∙ ap (λ (v : Option View). out ++ line (end_of (id_of was) v fault)) ((h.spent memory).1 ∙ s.view)
+            ∙ ap (λ (f : RunFault). out ++ line (end_of (id_of was) (shown ms) f)) r.1
+            ∙ ap (λ (o : List ℕ). out ++ o) (line_alone (end_of (id_of was) (shown ms) (fault_of ms m))));
+        over = rw r.0 (h.spent memory).0;
+        stands = λ g. absurd (true≢false (sym (h.spent memory).0 ∙ g));
+      };
+  spent = (h.spent memory).0;
+  same = h.same;
+}
+
+-- no memory was left
+pub takes_lost : (e : OutOfMemory) (was now : Run) (ns : List Message) (out out' : List ℕ) → id_of now ≡ id_of was → Takes (Err e) was now ns out out'
+takes_lost e was now ns out out' same = record { took = λ _ _. tt; spent = tt; same = same }
+
+-- there was no message
+pub takes_none : (run : Run) (out : List ℕ) (ns : List Message) → is_spent run ≡ false → ns ≡ [] → Takes (Ok true) run run ns out out
+takes_none run out ns going none = record {
+  took = λ ms s. subst (λ ks. Took (id_of run) ms ks run out out) (sym none) (took_none (id_of run) ms run out s going);
+  spent = going;
+  same = refl;
+}
+
+-- an item that is no message means none
+pub not_meant : (w : What) → ((frames : List (List ℕ)) → w ≡ says.Message frames → ⊥) → cons_option (meant w) [] ≡ []
+not_meant (says.Greeting major minor) other = refl
+not_meant (says.Ready size socket identity) other = refl
+not_meant (says.Command size name body) other = refl
+not_meant (says.Message frames) other = absurd (other frames refl)
 
 -- more messages were taken after those
 pub took_more : (id : PeerId) (ms ns ks : List Message) (run run' : Run) (out now next : List ℕ) → Took id ms ns run out now → is_spent run ≡ false → Took id (ms ++ ns) ks run' now next → Took id ms (ns ++ ks) run' out next
@@ -62,10 +105,6 @@ took_more id ms ns ks run run' out now next t going u =
       stands = λ g. subst (Stands run') (append_assoc ms ns ks) (u.stands g);
     }
 
-both_ways : {A : Type 0} (b : Bool) → b ≡ true → b ≡ false → A
-both_ways true e f = absurd cc
-both_ways false e f = absurd cc
-
 -- after the end of the run no more are taken
 pub took_enough : (id : PeerId) (ms ns ks : List Message) (run : Run) (out now : List ℕ) → Took id ms ns run out now → is_spent run ≡ true → Took id ms (ns ++ ks) run out now
 took_enough id ms ns ks run out now t ended =
@@ -76,7 +115,7 @@ took_enough id ms ns ks run out now t ended =
           ∙ ap (λ b. out ++ lines (events_after id ms ns ++ cond b [] (events_after id (ms ++ ns) ks))) (sym over)
           ∙ ap (λ es. out ++ lines es) (sym (events_more id ms ns ks));
       over = ended ∙ ap (λ b. cond b true (is_over (ms ++ ns) ks)) (sym over) ∙ sym (over_more ms ns ks);
-      stands = λ going. both_ways (is_spent run) ended going;
+      stands = λ going. absurd (true≢false (sym ended ∙ going));
     }
 
 -- the messages up to the next item
@@ -86,11 +125,6 @@ up_to items i item e = ap messages_in e ∙ messages_in-append (take i items) (i
 -- and those after it
 pub all_of : (items : List Item) (i : ℕ) → messages_in items ≡ messages_in (take i items) ++ messages_in (drop i items)
 all_of items i = ap messages_in (sym (take-append-drop i items)) ∙ messages_in-append (take i items) (drop i items)
-
--- the result of taking one message, whichever it is
-pub took_by : (id : PeerId) (ms : List Message) (m : Message) (result : Result Bool OutOfMemory) (run : Run) (out out' : List ℕ) → IfOk result (λ on. TookOne id ms m on run out out') → IfOk result (λ on. is_spent run ≡ not on) → OnOk result (Took id ms (m ∷ []) run out out')
-took_by id ms m (Ok on) run out out' t spent = took_one id ms m on run out out' t spent
-took_by id ms m (Err e) run out out' t spent = tt
 
 pub take_next : (items : List Item) (i : ℕ) (item : Item) → i < length items → item ≡ get_or items i item → take (i + 1) items ≡ take i items ++ item ∷ []
 take_next items i item lt is = take_more items i item lt ∙ ap (λ x. take i items ++ x ∷ []) (sym is)

@@ -1,17 +1,17 @@
 -- How far a pump has come: the octets taken so far, whose text is written.
-use Rattle.std.proofs.Common.{◌≡◌, ℕ, ◌+◌, ◌<◌, ◌≤◌, Bool, true, false, List, [], ◌++◌, ◌⊎◌, length, Option, refl, sym, ap, ◌∙◌, subst, append_assoc, arith, inl, inr}
+use Rattle.std.proofs.Common.{◌≡◌, ℕ, ◌+◌, ◌<◌, ◌≤◌, true, false, List, [], ◌++◌, ◌⊎◌, length, Option, refl, sym, ap, ◌∙◌, subst, append_assoc, append-nil, arith, inl, inr, true≢false}
 use Rattle.std.specs.Io.KnownBytes.{Appends, IsAtEnd}
-use Rattle.std.proofs.KnownBytes.{Appends-nil, Appends-trans, Consumes-nil, Consumes-trans}
+use Rattle.std.proofs.KnownBytes.{Appends-nil, Appends-trans, Appends-kept, Consumes-nil, Consumes-trans}
 use Rattle.std.proofs.lemmas.List.{length-append}
 use Rattle.zre_outside.specs.Causes.{Rose}
 use Rattle.zre_outside.specs.Told.{Moves, AppendsFront}
 use Rattle.zre_commands.specs.declared.pump.status.Status.{Status}
 use Rattle.zre_commands.specs.declared.pump.status.Status.TheVariants as statuses
 use Rattle.zre_commands.specs.pump.Meaning.{Meaning, whole_text}
-use Rattle.zre_commands.specs.pump.Outcome.{Outcome}
+use Rattle.zre_commands.specs.pump.Outcome.{Outcome, Pumped}
 use Rattle.zre_commands.specs.declared.pump.pumping.Next.{Next}
 use Rattle.zre_commands.specs.declared.pump.pumping.Next.TheVariants as nexts
-use Rattle.zre_commands.specs.pump.Turning.{WritesText, WritesFront, Told, Turned, Finishes}
+use Rattle.zre_commands.specs.pump.Turning.{WritesText, WritesFront, Refuses, Told, Turned, Finishes}
 
 -- some octets were taken, so many; the machine was fed them, they aren't stopped, and their text was written
 pub record Reached (fed : List ℕ → Type 0) (m : Meaning) (left left' taken taken' written written' : Option (List ℕ)) (count : ℕ) : Type 0 where
@@ -25,11 +25,8 @@ pub record Reached (fed : List ℕ → Type 0) (m : Meaning) (left left' taken t
 -- a piece that isn't empty was told: so went the turn
 pub turned : (next : Next) (fed : List ℕ → Type 0) (m : Meaning) (o piece : List ℕ) (left w w' : Option (List ℕ)) (read write : Type 0) → 0 < length piece → Told next fed m o piece w w' write → Turned next fed m o piece left w w' read write
 turned nexts.Go fed m o piece left w w' read write some t = (some, t)
-turned nexts.Stop fed m o piece left w w' read write some t = t
-turned nexts.WriteFault fed m o piece left w w' read write some t = t
-turned nexts.OutOfMemory fed m o piece left w w' read write some t = t
-turned nexts.End fed m o piece left w w' read write some t = absurd t
-turned nexts.ReadFault fed m o piece left w w' read write some t = absurd t
+turned nexts.Finish fed m o piece left w w' read write some t = inl t
+turned (nexts.Fail status) fed m o piece left w w' read write some t = inl t
 
 pub Moves-nil : (a b : Option (List ℕ)) → Moves a a b b []
 Moves-nil a b = record { consumed = Consumes-nil a; recorded = Appends-nil b }
@@ -85,16 +82,26 @@ front_of_more m o piece w w' w'' p f =
 abbrev pub Ends : (limit : ℕ) (m : Meaning) (o : List ℕ) (left : Option (List ℕ)) → Type 0
 Ends limit m o left = ((m.is_stopped o ≡ true) × (m.is_bad o ≡ true)) ⊎ (IsAtEnd left × (length o < limit))
 
-both_ways : {A : Type 0} (b : Bool) → b ≡ true → b ≡ false → A
-both_ways true e f = absurd cc
-both_ways false e f = absurd cc
-
 -- what is stopped has no good end
 good_end : (limit : ℕ) (m : Meaning) (o : List ℕ) (left : Option (List ℕ)) → Ends limit m o left → m.is_bad o ≡ false → IsAtEnd left × (length o < limit)
-good_end limit m o left ends good = elim ends [ inl s ↦ both_ways (m.is_bad o) s.1 good | inr e ↦ e ]
+good_end limit m o left ends good = elim ends [ inl s ↦ absurd (true≢false (sym s.1 ∙ good)) | inr e ↦ e ]
 
 bad_end : (limit : ℕ) (m : Meaning) (o : List ℕ) (left : Option (List ℕ)) → Ends limit m o left → (m.is_stopped o ≡ true) ⊎ (IsAtEnd left × (length o < limit))
 bad_end limit m o left ends = elim ends [ inl s ↦ inl s.0 | inr e ↦ inr e ]
+
+-- a command ends by a refusal, where a front of its text was written
+pub refused : (status : Status) (limit : ℕ) (m : Meaning) (o : List ℕ) (left w w' : Option (List ℕ)) (read write write' front : Type 0)
+    → (write' → write) → (front → AppendsFront w w' (whole_text m o)) → Refuses status write' front → Outcome status limit m o left w w' read write
+refused statuses.WriteFault limit m o left w w' read write write' front rises written f = (rises f.0, written f.1)
+refused statuses.OutOfMemory limit m o left w w' read write write' front rises written f = written f
+refused statuses.Done limit m o left w w' read write write' front rises written f = absurd f
+refused statuses.BadInput limit m o left w w' read write write' front rises written f = absurd f
+refused statuses.Usage limit m o left w w' read write write' front rises written f = absurd f
+refused statuses.ReadFault limit m o left w w' read write write' front rises written f = absurd f
+refused statuses.WorldFault limit m o left w w' read write write' front rises written f = absurd f
+refused statuses.NoThread limit m o left w w' read write write' front rises written f = absurd f
+refused statuses.TooLong limit m o left w w' read write write' front rises written f = absurd f
+refused statuses.DeskFault limit m o left w w' read write write' front rises written f = absurd f
 
 -- after the text for o, the end of the input
 pub finished : (status : Status) (limit : ℕ) (m : Meaning) (o : List ℕ) (left w w' w'' : Option (List ℕ)) (read write write' : Type 0)
@@ -110,3 +117,40 @@ finished statuses.WorldFault limit m o left w w' w'' read write write' rises p e
 finished statuses.NoThread limit m o left w w' w'' read write write' rises p ends f = absurd f
 finished statuses.TooLong limit m o left w w' w'' read write write' rises p ends f = absurd f
 finished statuses.DeskFault limit m o left w w' w'' read write write' rises p ends f = absurd f
+
+nothing_more : (o piece : List ℕ) → piece ≡ [] → o ++ piece ≡ o
+nothing_more o piece none = ap (λ (x : List ℕ). o ++ x) none ∙ append-nil o
+
+-- a turn after which no more octets are read: the machine was fed the octets so far, which end, and their text was written
+pub ended : (fed : List ℕ → Type 0) (m : Meaning) (limit : ℕ) (o piece : List ℕ) (left w w' w'' : Option (List ℕ))
+    → length o < limit → Appends w w' (m.text o) → Turned nexts.Finish fed m o piece left w' w'' (Unit {0}) (Unit {0})
+    → fed (o ++ piece) × Ends limit m (o ++ piece) left × Appends w w'' (m.text (o ++ piece))
+ended fed m limit o piece left w w' w'' below p t = elim t [
+  | inl s ↦ (s.0, inl (s.1, s.2), written_more m o piece w w' w'' p s.3)
+  | inr e ↦
+      let same = sym (nothing_more o piece e.1) in
+      (subst fed same e.0, inr (e.2, subst (λ (x : List ℕ). length x < limit) same below), subst (λ (x : List ℕ). Appends w w'' (m.text x)) same (Appends-kept w w' w'' (m.text o) p e.3))
+]
+
+-- a turn that fails: this is how the pump ends
+pub failed : (status : Status) (m : Meaning) (limit : ℕ) (o piece : List ℕ) (left w w' w'' : Option (List ℕ)) (read write read' write' : Type 0)
+    → (read' → read) → (write' → write) → length o < limit → m.is_stopped o ≡ false → Appends w w' (m.text o) → Turned (nexts.Fail status) (λ _. Unit {0}) m o piece left w' w'' read' write'
+    → Outcome status limit m (o ++ piece) left w w'' read write
+failed status m limit o piece left w w' w'' read write read' write' reads writes below going p t = elim t [
+  | inl s ↦ refused status limit m (o ++ piece) left w w'' read write write' (WritesFront m o piece w' w'') writes (front_of_more m o piece w w' w'' p) s
+  | inr e ↦
+      let same = sym (nothing_more o piece e.1) in
+      subst (λ (s : Status). Outcome s limit m (o ++ piece) left w w'' read write) (sym e.0)
+      (subst (λ (x : List ℕ). Outcome statuses.ReadFault limit m x left w w'' read write) same (reads e.2, going, below, Appends-kept w w' w'' (m.text o) p e.3))
+]
+
+-- the pump ends after a piece more
+pub pumped_on : (status : Status) (fed : List ℕ → Type 0) (m : Meaning) (limit count read : ℕ) (l l' l'' t t' t'' w w' w'' : Option (List ℕ)) (reads writes : Type 0) (piece : List ℕ)
+    → (r : Reached fed m l l' t t' w w' count) → length piece ≡ read → count + read ≤ limit → Moves l' l'' t' t'' piece → Outcome status limit m (r.octets ++ piece) l'' w w'' reads writes
+    → Pumped status limit m l l'' t t'' w w'' reads writes
+pumped_on status fed m limit count read l l' l'' t t' t'' w w' w'' reads writes piece r len fits moves outcome = record {
+  octets = r.octets ++ piece;
+  moved = Moves-trans l l' l'' t t' t'' r.octets piece r.moved moves;
+  within = omega (arith, counted_more r.octets piece count read r.counted len, fits);
+  outcome = outcome;
+}

@@ -1,8 +1,9 @@
 //! Counts of what a node tells.
 
-ghost use Rattle.std.specs.Prelude.{◌≡◌, ◌+◌, ℕ, List, length, sum_by, IfOk, OnOk, ◌++◌};
+ghost use Rattle.std.specs.Prelude.{◌≡◌, ◌+◌, ℕ, List, length, sum_by, OnOk, ◌++◌};
 ghost use Rattle.zre_peer.specs.declared.event.Event.{Event as EventValue};
 
+use crate::frames::octets_of;
 use zre_peer::Event;
 use zre_values::{Frames, OutOfMemory};
 
@@ -26,17 +27,6 @@ fn raise(count: &mut u64, by: u64) -> Result<(), OutOfMemory>
 {
     *count = count.checked_add(by).ok_or(OutOfMemory)?;
     Ok(())
-}
-
-fn octets_of(content: &Frames) -> Result<u64, OutOfMemory>
-    ensures { IfOk result (λ octets. octets ≡ sum_by length content.now) }
-{
-    let octets = content.total();
-    if octets == u64::MAX {
-        Err(OutOfMemory)
-    } else {
-        Ok(octets)
-    }
 }
 
 // One more event of a kind with content, and its octets.

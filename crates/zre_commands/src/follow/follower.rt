@@ -1,16 +1,12 @@
-ghost use Rattle.std.specs.Prelude.{◌≡◌, ℕ, List, [], false, not, ◌&&◌, is_some, IfOk};
-ghost use Rattle.zre_zmtp.specs.Reading.{Reads};
-ghost use Rattle.zre_zmtp.specs.Stream.{Traffic};
-ghost use Rattle.zre_zmtp.specs.declared.want.Want.TheVariants.{Any};
-ghost use Rattle.zre_commands.specs.pump.Meaning.{is_stop};
-ghost use Rattle.zre_commands.specs.follow.Piece.{ReadPiece};
+ghost use Rattle.std.specs.Prelude.{◌≡◌, [], false};
 
 use crate::follow::taking::take_items;
-use crate::pump::{Going, Machine, push_bad_line};
+use crate::pump::{Going, Machine};
+use crate::stream::{going_after, push_end, read_piece};
 use std::alloc::Global;
 use zre_peer::Teller;
 use zre_values::{Octets, OutOfMemory, PeerId};
-use zre_zmtp::{FeedFault, Items, Reader, ZmtpFault};
+use zre_zmtp::{Items, Reader, ZmtpFault};
 
 /// The machine of `follow`: the traffic of one connection, after its handshake, of a peer that is known. It keeps
 /// the octets of an unfinished message, and reads no more once the run has ended.
@@ -56,33 +52,6 @@ impl Follower {
     }
 }
 
-// Reads a piece of traffic. Gives the fault that is found, if one is.
-fn read_piece(
-    reader: &mut Reader,
-    piece: &[u8],
-    items: &mut Items,
-) -> Result<Option<ZmtpFault>, OutOfMemory>
-    requires { reader.old.spent ≡ false }
-    ensures { (o : List ℕ) → Reads Any Traffic o reader.old →
-        IfOk result (λ found. ReadPiece o piece.now found reader.new items.old items.new) }
-{
-    match reader.feed(piece, items) {
-        Ok(()) => Ok(None),
-        Err(FeedFault::Zmtp(fault)) => Ok(Some(fault)),
-        Err(FeedFault::OutOfMemory) => Err(OutOfMemory),
-    }
-}
-
-fn going_after(fault: &Option<ZmtpFault>, is_over: bool) -> Going
-    ensures { is_stop result ≡ (not is_over && is_some fault.now) }
-{
-    if is_over || fault.is_none() {
-        Going::On
-    } else {
-        Going::Stop
-    }
-}
-
 impl Machine for Follower {
     ghost use Rattle.zre_commands.specs.follow.Follow.{follow};
     ghost use Rattle.zre_commands.specs.follow.Follower.{Fed, peer_of};
@@ -114,11 +83,6 @@ impl Machine for Follower {
         if self.run.spent() {
             return Ok(false);
         }
-        match self.fault {
-            Some(fault) => push_bad_line(out, fault.place)?,
-            None if self.reader.at_rest() => return Ok(false),
-            None => push_bad_line(out, taken)?,
-        }
-        Ok(true)
+        push_end(&self.reader, self.fault, taken, out)
     }
 }

@@ -1,60 +1,31 @@
 //! Takes the messages of items.
 
-ghost use Rattle.std.specs.Prelude.{◌≡◌, ◌∷◌, [], List, true, false, not, is_some, IfOk, OnOk};
+ghost use Rattle.std.specs.Prelude.{◌≡◌, ◌∷◌, [], ℕ, List, false, OnOk};
 ghost use Rattle.zre_msg.specs.declared.message.Message.{Message};
-ghost use Rattle.zre_peer.specs.Standing.{Stands, id_of, is_spent, view_in};
-ghost use Rattle.std.specs.List.{cons_option};
-ghost use Rattle.std.specs.Result.{result_ok};
-ghost use Rattle.zre_msg.specs.Lent.{message_of};
-ghost use Rattle.zre_msg.specs.Reading.{read_frames};
-ghost use Rattle.zre_commands.specs.follow.Messages.{messages_in};
-ghost use Rattle.zre_commands.specs.follow.Taken.{TookOne, Took};
+ghost use Rattle.zre_peer.specs.Standing.{Stands, id_of, is_spent};
+ghost use Rattle.zre_peer.specs.declared.peer_run.Run.{Run};
+ghost use Rattle.zre_commands.specs.follow.Messages.{meant_by, messages_in};
+ghost use Rattle.zre_commands.specs.follow.Taken.{Handed, Takes, Took};
 
 use crate::follow::ends::push_end;
 use std::alloc::Global;
-use zre_msg::{LentMessage, Message, ReadFault};
+use zre_msg::{Message, ReadFault};
 use zre_peer::{RunFault, Teller};
 use zre_values::{Frames, Octets, OutOfMemory};
 use zre_zmtp::{Item, What};
 
-// Takes a message and appends its lines. Says whether the run goes on.
-fn take_message(
+// What comes of a message that the run was handed: where the message is refused, the line of the run's end is appended.
+// Says whether the run goes on.
+fn go_on(
     alloc: Global,
-    message: Message,
-    run: &mut Teller,
+    taken: Result<(), RunFault>,
+    run: &Teller,
     out: &mut Octets,
 ) -> Result<bool, OutOfMemory>
-    requires { is_spent run.old ≡ false }
-    ensures took { (ms : List Message) → Stands run.old ms →
-        IfOk result (λ on. TookOne (id_of run.old) ms message on run.new out.old out.new) }
-    ensures spent { IfOk result (λ on. is_spent run.new ≡ not on) }
-    ensures id { id_of run.new ≡ id_of run.old }
+    ensures { (was : Run) (m : Message) (before : List ℕ) → Handed taken was run.now m before out.old →
+        Takes result was run.now (m ∷ []) before out.new }
 {
-    match run.take(message, out) {
-        Ok(()) => Ok(true),
-        Err(RunFault::OutOfMemory) => Err(OutOfMemory),
-        Err(fault) => {
-            push_end(alloc, run.run(), fault, out)?;
-            Ok(false)
-        }
-    }
-}
-
-// The same of a message after HELLO that lies in its frames.
-fn take_lent(
-    alloc: Global,
-    lent: &LentMessage<'_>,
-    run: &mut Teller,
-    out: &mut Octets,
-) -> Result<bool, OutOfMemory>
-    requires going { is_spent run.old ≡ false }
-    requires later { is_some (view_in run.old) ≡ true }
-    ensures took { (ms : List Message) → Stands run.old ms →
-        IfOk result (λ on. TookOne (id_of run.old) ms (message_of lent.now) on run.new out.old out.new) }
-    ensures spent { IfOk result (λ on. is_spent run.new ≡ not on) }
-    ensures id { id_of run.new ≡ id_of run.old }
-{
-    match run.take_lent(lent, out) {
+    match taken {
         Ok(()) => Ok(true),
         Err(RunFault::OutOfMemory) => Err(OutOfMemory),
         Err(fault) => {
@@ -75,43 +46,19 @@ fn take_whole(
     out: &mut Octets,
 ) -> Result<bool, OutOfMemory>
     requires { is_spent run.old ≡ false }
-    ensures took { (ms : List Message) → Stands run.old ms →
-        OnOk result (Took (id_of run.old) ms (cons_option (result_ok (read_frames frames.now)) [])
-        run.new out.old out.new) }
-    ensures spent { IfOk result (λ on. is_spent run.new ≡ not on) }
-    ensures id { id_of run.new ≡ id_of run.old }
+    ensures { Takes result run.old run.new (meant_by frames.now) out.old out.new }
 {
     match Message::read(alloc, frames) {
-        Ok(message) => take_message(alloc, message, run, out),
+        Ok(message) => {
+            let taken = run.take(message, out);
+            go_on(alloc, taken, run, out)
+        }
         Err(ReadFault::Bad(_)) => Ok(true),
         Err(ReadFault::OutOfMemory) => Err(OutOfMemory),
     }
 }
 
-// The same after HELLO, with the message looked at where it lies: a further HELLO alone is made.
-fn take_later_frames(
-    alloc: Global,
-    frames: &Frames,
-    run: &mut Teller,
-    out: &mut Octets,
-) -> Result<bool, OutOfMemory>
-    requires going { is_spent run.old ≡ false }
-    requires later { is_some (view_in run.old) ≡ true }
-    ensures took { (ms : List Message) → Stands run.old ms →
-        OnOk result (Took (id_of run.old) ms (cons_option (result_ok (read_frames frames.now)) [])
-        run.new out.old out.new) }
-    ensures spent { IfOk result (λ on. is_spent run.new ≡ not on) }
-    ensures id { id_of run.new ≡ id_of run.old }
-{
-    match Message::see(frames) {
-        Ok(Some(lent)) => take_lent(alloc, &lent, run, out),
-        Ok(None) => take_whole(alloc, frames, run, out),
-        Err(ReadFault::Bad(_)) => Ok(true),
-        Err(ReadFault::OutOfMemory) => Err(OutOfMemory),
-    }
-}
-
-// Takes the message that frames mean, if they mean one. Says whether the run goes on.
+// The same. After HELLO the message is looked at where it lies: a further HELLO alone is made.
 fn take_frames(
     alloc: Global,
     frames: &Frames,
@@ -119,16 +66,20 @@ fn take_frames(
     out: &mut Octets,
 ) -> Result<bool, OutOfMemory>
     requires { is_spent run.old ≡ false }
-    ensures took { (ms : List Message) → Stands run.old ms →
-        OnOk result (Took (id_of run.old) ms (cons_option (result_ok (read_frames frames.now)) [])
-        run.new out.old out.new) }
-    ensures spent { IfOk result (λ on. is_spent run.new ≡ not on) }
-    ensures id { id_of run.new ≡ id_of run.old }
+    ensures { Takes result run.old run.new (meant_by frames.now) out.old out.new }
 {
-    if run.is_after() {
-        return take_later_frames(alloc, frames, run, out);
+    if !run.is_after() {
+        return take_whole(alloc, frames, run, out);
     }
-    take_whole(alloc, frames, run, out)
+    match Message::see(frames) {
+        Ok(Some(lent)) => {
+            let taken = run.take_lent(&lent, out);
+            go_on(alloc, taken, run, out)
+        }
+        Ok(None) => take_whole(alloc, frames, run, out),
+        Err(ReadFault::Bad(_)) => Ok(true),
+        Err(ReadFault::OutOfMemory) => Err(OutOfMemory),
+    }
 }
 
 // Takes the message that an item means, if it means one. Says whether the run goes on.
@@ -139,16 +90,11 @@ fn take_item(
     out: &mut Octets,
 ) -> Result<bool, OutOfMemory>
     requires { is_spent run.old ≡ false }
-    ensures took { (ms : List Message) → Stands run.old ms →
-        OnOk result (Took (id_of run.old) ms (messages_in (item.now ∷ [])) run.new out.old out.new) }
-    ensures spent { IfOk result (λ on. is_spent run.new ≡ not on) }
-    ensures id { id_of run.new ≡ id_of run.old }
+    ensures { Takes result run.old run.new (messages_in (item.now ∷ [])) out.old out.new }
 {
     match &item.what {
         What::Message(frames) => take_frames(alloc, frames, run, out),
-        What::Greeting { .. } => Ok(true),
-        What::Ready { .. } => Ok(true),
-        What::Command { .. } => Ok(true),
+        _ => Ok(true),
     }
 }
 

@@ -1,11 +1,11 @@
 //! Reads a source in pieces, feeds a machine, and writes its text.
 
-ghost use Rattle.std.specs.Prelude.{◌≡◌, ◌<◌, ◌≤◌, ◌+◌, ◌++◌, ℕ, List, [], false, length, take, vec_len, OnOk, IfErr};
+ghost use Rattle.std.specs.Prelude.{◌≡◌, ◌<◌, ◌≤◌, ◌+◌, ℕ, List, [], false, length, take, vec_len, OnOk, IfErr};
 ghost use Rattle.std.specs.Io.KnownBytes.{Appends};
 ghost use Rattle.zre_outside.specs.Causes.{Rose};
-ghost use Rattle.zre_outside.specs.Told.{Moves};
+ghost use Rattle.zre_outside.specs.Told.{AppendsFront, Moves};
 ghost use Rattle.zre_commands.specs.pump.Outcome.{Pumped};
-ghost use Rattle.zre_commands.specs.pump.Turning.{FailsToBegin, Finishes, Told, Turned};
+ghost use Rattle.zre_commands.specs.pump.Turning.{Finishes, Refuses, Told, Turned};
 
 use crate::pump::machine::{Going, Machine};
 use crate::pump::status::Status;
@@ -13,19 +13,19 @@ use std::alloc::Global;
 use zre_outside::{Failed, NextFault, Sink, Source, room_for, write_all, zeros};
 use zre_values::{Octets, OutOfMemory};
 
-// The most octets that one read asks for. The text that they add lies whole in memory before it is written, and an
-// octet of input can add a hundred lines.
+// The most octets that one read asks for. The text that they add lies whole in memory before it is written, and it can
+// be long: a tick of seven to ten octets tells up to 256 lines of EVASIVE, which are some 25 to 36 for each octet.
 const PORTION: usize = 2048;
 
 /// How a turn ended.
 #[derive(Clone, Copy)]
 enum Next {
+    // More octets are read.
     Go,
-    Stop,
-    End,
-    ReadFault,
-    WriteFault,
-    OutOfMemory,
+    // No more are: there are none, or those so far are refused.
+    Finish,
+    // The source or the sink failed, or no memory was left.
+    Fail(Status),
 }
 
 /// One turn: how many octets it read, and how it ended.
@@ -45,20 +45,34 @@ fn portion(left: u64) -> usize
     room_for(left).min(PORTION)
 }
 
+// Writes octets. A refusal is told as the status with which a command ends by it.
+fn write_text<O: Sink>(out: &mut O, octets: &[u8]) -> Result<(), Status>
+    ensures written { OnOk result (Appends (O.written out.old) (O.written out.new) octets.now) }
+    ensures refused { IfErr result (λ status. Refuses status (Rose (O.faults out.old) (O.faults out.new))
+        (AppendsFront (O.written out.old) (O.written out.new) octets.now)) }
+    ensures writes { O.faults out.old ≤ O.faults out.new }
+{
+    match write_all(out, octets) {
+        Ok(()) => Ok(()),
+        Err(NextFault::Failed) => Err(Status::WriteFault),
+        Err(NextFault::OutOfMemory) => Err(Status::OutOfMemory),
+    }
+}
+
 // Writes the text that comes before any input is read.
-fn begin<M: Machine, O: Sink>(machine: &M, out: &mut O, text: &mut Octets) -> Result<(), NextFault>
+fn begin<M: Machine, O: Sink>(machine: &M, out: &mut O, text: &mut Octets) -> Result<(), Status>
     ensures begun { M.fed machine.now [] →
         OnOk result (Appends (O.written out.old) (O.written out.new) ((M.says machine.now).text [])) }
-    ensures failed { M.fed machine.now [] →
-        IfErr result (λ fault. FailsToBegin fault (M.says machine.now) (O.written out.old) (O.written out.new)
-        (Rose (O.faults out.old) (O.faults out.new))) }
+    ensures refused { M.fed machine.now [] →
+        IfErr result (λ status. Refuses status (Rose (O.faults out.old) (O.faults out.new))
+        (AppendsFront (O.written out.old) (O.written out.new) ((M.says machine.now).text []))) }
     ensures writes { O.faults out.old ≤ O.faults out.new }
 {
     text.clear();
     let Ok(()) = machine.begin(text) else {
-        return Err(NextFault::OutOfMemory);
+        return Err(Status::OutOfMemory);
     };
-    write_all(out, text.as_slice())
+    write_text(out, text.as_slice())
 }
 
 // Feeds a piece and writes its text.
@@ -71,16 +85,15 @@ fn tell<M: Machine, O: Sink>(machine: &mut M, piece: &[u8], out: &mut O, text: &
 {
     text.clear();
     let Ok(going) = machine.feed(piece, text) else {
-        return Next::OutOfMemory;
+        return Next::Fail(Status::OutOfMemory);
     };
-    match write_all(out, text.as_slice()) {
+    match write_text(out, text.as_slice()) {
         Ok(()) => {}
-        Err(NextFault::Failed) => return Next::WriteFault,
-        Err(NextFault::OutOfMemory) => return Next::OutOfMemory,
+        Err(status) => return Next::Fail(status),
     }
     match going {
         Going::On => Next::Go,
-        Going::Stop => Next::Stop,
+        Going::Stop => Next::Finish,
     }
 }
 
@@ -109,14 +122,14 @@ fn take_turn<M: Machine, I: Source, O: Sink>(
         Err(Failed) => {
             return Turn {
                 read: 0,
-                next: Next::ReadFault,
+                next: Next::Fail(Status::ReadFault),
             };
         }
     };
     if read == 0 {
         return Turn {
             read,
-            next: Next::End,
+            next: Next::Finish,
         };
     }
     let next = tell(machine, &buf[..read], out, text);
@@ -135,11 +148,10 @@ fn finish<M: Machine, O: Sink>(machine: &M, taken: u64, out: &mut O, text: &mut 
         Ok(is_bad) => is_bad,
         Err(OutOfMemory) => return Status::OutOfMemory,
     };
-    match write_all(out, text.as_slice()) {
+    match write_text(out, text.as_slice()) {
         Ok(()) if is_bad => Status::BadInput,
         Ok(()) => Status::Done,
-        Err(NextFault::Failed) => Status::WriteFault,
-        Err(NextFault::OutOfMemory) => Status::OutOfMemory,
+        Err(status) => status,
     }
 }
 
@@ -164,8 +176,7 @@ fn pump_through<M: Machine, I: Source, O: Sink>(
 {
     match begin(machine, out, text) {
         Ok(()) => {}
-        Err(NextFault::Failed) => return Status::WriteFault,
-        Err(NextFault::OutOfMemory) => return Status::OutOfMemory,
+        Err(status) => return status,
     }
     let mut taken: u64 = 0;
     while taken < limit {
@@ -174,11 +185,8 @@ fn pump_through<M: Machine, I: Source, O: Sink>(
         taken += turn.read as u64;
         match turn.next {
             Next::Go => {}
-            Next::Stop => return finish(machine, taken, out, text),
-            Next::End => return finish(machine, taken, out, text),
-            Next::ReadFault => return Status::ReadFault,
-            Next::WriteFault => return Status::WriteFault,
-            Next::OutOfMemory => return Status::OutOfMemory,
+            Next::Finish => return finish(machine, taken, out, text),
+            Next::Fail(status) => return status,
         }
     }
     Status::TooLong

@@ -1,8 +1,9 @@
 //! The lines of items.
 
-ghost use Rattle.std.specs.Prelude.{◌≡◌, ◌++◌, length, sum_by, IfOk, OnOk};
+ghost use Rattle.std.specs.Prelude.{◌≡◌, ◌++◌, OnOk};
 ghost use Rattle.zre_commands.specs.show.Lines.{greeting_line, command_line, message_line, line, lines};
 
+use crate::frames::octets_of;
 use crate::show::meaning::push_meaning;
 use std::alloc::Global;
 use zre_values::{Frames, Octets, OutOfMemory, push_decimal, push_quoted};
@@ -26,17 +27,6 @@ fn push_command(out: &mut Octets, name: &[u8], size: u64) -> Result<(), OutOfMem
     out.push(b' ')?;
     push_decimal(out, size)?;
     out.push(b'\n')
-}
-
-// How many octets the frames have. A number that no u64 holds is told as OutOfMemory.
-fn octets_of(frames: &Frames) -> Result<u64, OutOfMemory>
-    ensures { IfOk result (λ n. n ≡ sum_by length frames.now) }
-{
-    let octets = frames.total();
-    if octets == u64::MAX {
-        return Err(OutOfMemory);
-    }
-    Ok(octets)
 }
 
 fn push_message(alloc: Global, out: &mut Octets, frames: &Frames) -> Result<(), OutOfMemory>

@@ -1,15 +1,11 @@
-ghost use Rattle.std.specs.Prelude.{◌≡◌, ℕ, List, [], false, is_some, IfOk};
-ghost use Rattle.zre_zmtp.specs.Reading.{Reads};
-ghost use Rattle.zre_zmtp.specs.Stream.{Whole};
-ghost use Rattle.zre_zmtp.specs.declared.want.Want.TheVariants.{Any};
-ghost use Rattle.zre_commands.specs.pump.Meaning.{is_stop};
-ghost use Rattle.zre_commands.specs.show.Piece.{ReadPiece};
+ghost use Rattle.std.specs.Prelude.{◌≡◌, [], false};
 
-use crate::pump::{Going, Machine, push_bad_line};
+use crate::pump::{Going, Machine};
 use crate::show::lines::push_lines;
+use crate::stream::{going_after, push_end, read_piece};
 use std::alloc::Global;
 use zre_values::{Octets, OutOfMemory};
-use zre_zmtp::{FeedFault, Items, Reader, ZmtpFault};
+use zre_zmtp::{Items, Reader, ZmtpFault};
 
 /// The machine of `show`: a whole stream, from the greeting on. It keeps the octets of an unfinished message, and the
 /// items of the last piece.
@@ -51,33 +47,6 @@ impl Lister {
     }
 }
 
-// Reads a piece of a stream. Gives the fault that is found, if one is.
-fn read_piece(
-    reader: &mut Reader,
-    piece: &[u8],
-    items: &mut Items,
-) -> Result<Option<ZmtpFault>, OutOfMemory>
-    requires { reader.old.spent ≡ false }
-    ensures { (o : List ℕ) → Reads Any Whole o reader.old →
-        IfOk result (λ found. ReadPiece o piece.now found reader.new items.old items.new) }
-{
-    match reader.feed(piece, items) {
-        Ok(()) => Ok(None),
-        Err(FeedFault::Zmtp(fault)) => Ok(Some(fault)),
-        Err(FeedFault::OutOfMemory) => Err(OutOfMemory),
-    }
-}
-
-fn going_after(fault: &Option<ZmtpFault>) -> Going
-    ensures { is_stop result ≡ is_some fault.now }
-{
-    if fault.is_none() {
-        Going::On
-    } else {
-        Going::Stop
-    }
-}
-
 impl Machine for Lister {
     ghost use Rattle.zre_commands.specs.show.Show.{show};
     ghost use Rattle.zre_commands.specs.show.Lister.{Fed};
@@ -99,15 +68,10 @@ impl Machine for Lister {
         let fault = read_piece(&mut self.reader, piece, &mut self.items)?;
         push_lines(self.alloc, out, self.items.as_slice())?;
         self.fault = fault;
-        Ok(going_after(&self.fault))
+        Ok(going_after(&self.fault, false))
     }
 
     fn finish(&self, taken: u64, out: &mut Octets) -> Result<bool, OutOfMemory> {
-        match self.fault {
-            Some(fault) => push_bad_line(out, fault.place)?,
-            None if self.reader.at_rest() => return Ok(false),
-            None => push_bad_line(out, taken)?,
-        }
-        Ok(true)
+        push_end(&self.reader, self.fault, taken, out)
     }
 }

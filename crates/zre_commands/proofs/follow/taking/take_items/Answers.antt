@@ -25,5 +25,5 @@ loop-item-preserved c =
           let u = rw inv.same at (c.in_ok-take_item.ensures.took _ (t.stands inv.going)) in
           took_next _ ms c.args.items.now c.loop-item.item-index c.item-item.result c.loop-item.run c.take_item.new.run _ c.loop-item.out c.take_item.new.out (take_next c.args.items.now c.loop-item.item-index c.item-item.result c.loop-item-test.true c.item-item.is) t inv.going u;
       going = c.in_ok-take_item.ensures.spent ∙ ap not c.if-not-branch.false;
-      same = c.in_ok-take_item.ensures.id ∙ inv.same;
+      same = c.in_ok-take_item.ensures.same ∙ inv.same;
     }

@@ -1,19 +1,24 @@
-use Rattle.std.proofs.Common.{sym, ap, subst, [], List}
-use Rattle.std.specs.Prelude.{OnOk}
+use Rattle.std.proofs.Common.{refl, ap, sym, subst, [], List}
 use Rattle.std.specs.List.{cons_option}
 use Rattle.std.specs.Result.{result_ok}
 use Rattle.zre_msg.specs.declared.message.Message.{Message}
-use Rattle.zre_commands.proofs.follow.Steps.{took_none, took_by}
-use Rattle.zre_commands.specs.follow.Taken.{Took}
-use Rattle.zre_peer.specs.Standing.{id_of}
+use Rattle.zre_commands.specs.follow.Taken.{Takes}
+use Rattle.zre_commands.proofs.follow.Steps.{takes_lost, takes_none}
 use Rattle.zre_commands.proofs.follow.taking.take_whole.Goals as goal
 
-pub returns-in-Ok-clause-took : goal.returns-in-Ok-clause-took
-returns-in-Ok-clause-took c = λ ms s.
-    let P : List Message → _ = λ ns. OnOk c.take_message.result (Took (id_of c.args.run.now) ms ns c.take_message.new.run c.args.out.now c.take_message.new.out) in
-    subst P (sym (ap (λ r. cons_option (result_ok r) []) c.in-Ok.ensures.exact)) (took_by _ ms c.in-Ok.message c.take_message.result c.take_message.new.run c.args.out.now c.take_message.new.out (c.take_message.ensures.took ms s) c.take_message.ensures.spent)
+pub returns-in-Ok : goal.returns-in-Ok
+returns-in-Ok c =
+    subst (λ (ns : List Message). Takes c.go_on.result c.args.run.now c.take-taken.new.self ns c.args.out.now c.go_on.new.out) (sym (ap (λ r. cons_option (result_ok r) []) c.in-Ok.ensures.exact))
+    (c.go_on.ensures c.args.run.now c.in-Ok.message c.args.out.now (record {
+      told = c.take-taken.ensures.ok;
+      going = c.take-taken.ensures.going;
+      refused = c.take-taken.ensures.refused;
+      spent = c.take-taken.ensures.spent;
+      same = c.take-taken.ensures.id;
+    }))
 
-pub returns-in-Err-Bad-clause-took : goal.returns-in-Err-Bad-clause-took
-returns-in-Err-Bad-clause-took c = λ ms s.
-    let P : List Message → _ = λ ns. Took (id_of c.args.run.now) ms ns c.args.run.now c.args.out.now c.args.out.now in
-    subst P (sym (ap (λ r. cons_option (result_ok r) []) (rw c.in-Err-Bad.field-0-is at c.in-Err-Bad.ensures.exact))) (took_none _ ms c.args.run.now c.args.out.now s c.requires)
+pub returns-in-Err-Bad : goal.returns-in-Err-Bad
+returns-in-Err-Bad c = takes_none c.args.run.now c.args.out.now _ c.requires (ap (λ r. cons_option (result_ok r) []) (rw c.in-Err-Bad.field-0-is at c.in-Err-Bad.ensures.exact))
+
+pub returns-in-Err-OutOfMemory : goal.returns-in-Err-OutOfMemory
+returns-in-Err-OutOfMemory c = takes_lost _ c.args.run.now c.args.run.now _ c.args.out.now c.args.out.now refl

@@ -1,8 +1,6 @@
-use Rattle.std.proofs.Common.{◌≡◌, [], ◌++◌, length, take, refl, sym, ap, ◌∙◌, subst, arith, inl, inr}
-use Rattle.std.proofs.lemmas.List.{length-take, length-take-le, append-nil}
-use Rattle.std.proofs.KnownBytes.{Appends-kept}
-use Rattle.zre_outside.specs.Told.{Moves}
-use Rattle.zre_commands.proofs.pump.Reach.{Moves-nil, Moves-trans, front_longer, starts, goes_on, written_more, counted_more, Rose-since, finished, front_of_more}
+use Rattle.std.proofs.Common.{[], ◌++◌, take, refl, ap, ◌∙◌, arith}
+use Rattle.std.proofs.lemmas.List.{length-take, length-take-le}
+use Rattle.zre_commands.proofs.pump.Reach.{Moves-nil, front_longer, starts, goes_on, counted_more, Rose-since, refused, finished, ended, failed, pumped_on}
 use Rattle.zre_commands.proofs.pump.pumping.pump_through.Goals as goal
 
 pub loop-taken-init : goal.loop-taken-init
@@ -15,24 +13,14 @@ loop-taken-init g c = record {
   writes = c.begin.ensures.writes;
 }
 
-pub returns-in-Err-Failed-clause-pumped : goal.returns-in-Err-Failed-clause-pumped
-returns-in-Err-Failed-clause-pumped g c =
-    let f = rw c.in-Err-Failed.field-0-is at (c.in-Err-Failed.ensures.failed c.requires.start) in
+pub returns-in-Err-clause-pumped : goal.returns-in-Err-clause-pumped
+returns-in-Err-clause-pumped g c =
+    let m = g.M.Machine.says c.args.machine.now in
     record {
       octets = [];
       moved = Moves-nil _ _;
       within = omega arith;
-      outcome = (f.0, front_longer _ _ ((g.M.Machine.says c.args.machine.now).text []) ((g.M.Machine.says c.args.machine.now).ending []) f.1);
-    }
-
-pub returns-in-Err-OutOfMemory-clause-pumped : goal.returns-in-Err-OutOfMemory-clause-pumped
-returns-in-Err-OutOfMemory-clause-pumped g c =
-    let f = rw c.in-Err-OutOfMemory.field-0-is at (c.in-Err-OutOfMemory.ensures.failed c.requires.start) in
-    record {
-      octets = [];
-      moved = Moves-nil _ _;
-      within = omega arith;
-      outcome = front_longer _ _ ((g.M.Machine.says c.args.machine.now).text []) ((g.M.Machine.says c.args.machine.now).ending []) f;
+      outcome = refused c.in-Err.status c.args.limit m [] _ _ _ _ _ _ _ (λ r. r) (front_longer _ _ (m.text []) (m.ending [])) (c.in-Err.ensures.refused c.requires.start);
     }
 
 pub loop-taken-preserved : goal.loop-taken-preserved
@@ -51,85 +39,33 @@ loop-taken-preserved g c =
       writes = omega (arith, inv.writes, turn.ensures.writes);
     }
 
-pub returns-in-Stop-clause-pumped : goal.returns-in-Stop-clause-pumped
-returns-in-Stop-clause-pumped g c =
+pub returns-in-Finish-clause-pumped : goal.returns-in-Finish-clause-pumped
+returns-in-Finish-clause-pumped g c =
     let inv = c.loop-taken.invariant in
     let turn = c.take_turn-turn in
-    let piece = take turn.result.read turn.new.buf in
-    let len = length-take-le turn.result.read turn.new.buf turn.ensures.bound in
-    let t = rw (inv.same, c.in-Stop.is) at (turn.ensures.turned inv.reached.octets inv.reached.known (ap (λ m. m.is_stopped inv.reached.octets) inv.same ∙ inv.reached.going)) in
-    let o = inv.reached.octets ++ piece in
-    let count = counted_more inv.reached.octets piece c.loop-taken.taken turn.result.read inv.reached.counted len in
-    let f = rw (turn.ensures.same, inv.same) at (c.finish.ensures.finishes o t.0 count) in
-    record {
-      octets = o;
-      moved = Moves-trans _ _ _ _ _ _ inv.reached.octets piece inv.reached.moved turn.ensures.moved;
-      within = omega (arith, count, turn.ensures.bound, turn.auto.buf, c.portion-room.ensures.within, length-take c.portion-room.result c.deref_mut.result.now, c.loop-taken-test.true);
-      outcome = finished c.finish.result c.args.limit (g.M.Machine.says c.args.machine.now) o _ _ _ _ _ _ _
-          (λ r. Rose-since _ _ _ (omega (arith, inv.writes, turn.ensures.writes)) r) (written_more (g.M.Machine.says c.args.machine.now) inv.reached.octets piece _ _ _ inv.reached.appended t.3) (inl (t.1, t.2)) f;
-    }
-
-pub returns-in-End-clause-pumped : goal.returns-in-End-clause-pumped
-returns-in-End-clause-pumped g c =
-    let inv = c.loop-taken.invariant in
-    let turn = c.take_turn-turn in
-    let piece = take turn.result.read turn.new.buf in
-    let len = length-take-le turn.result.read turn.new.buf turn.ensures.bound in
+    let m = g.M.Machine.says c.args.machine.now in
     let o = inv.reached.octets in
-    let t = rw (inv.same, c.in-End.is) at (turn.ensures.turned o inv.reached.known (ap (λ m. m.is_stopped o) inv.same ∙ inv.reached.going)) in
-    let nothing : turn.result.read ≡ 0 = sym len ∙ ap length t.1 in
-    let f = rw (turn.ensures.same, inv.same) at (c.finish-in-End.ensures.finishes o t.0 (inv.reached.counted ∙ omega arith)) in
-    let all : o ++ piece ≡ o = ap (λ r. o ++ r) t.1 ∙ append-nil o in
-    record {
-      octets = o;
-      moved = subst (Moves (g.I.Source.left c.args.input.now) (g.I.Source.left turn.new.input) (g.I.Source.taken c.args.input.now) (g.I.Source.taken turn.new.input)) all (Moves-trans _ _ _ _ _ _ o piece inv.reached.moved turn.ensures.moved);
-      within = omega (arith, inv.reached.counted, inv.within);
-      outcome = finished c.finish-in-End.result c.args.limit (g.M.Machine.says c.args.machine.now) o _ _ _ _ _ _ _
-          (λ r. Rose-since _ _ _ (omega (arith, inv.writes, turn.ensures.writes)) r) (Appends-kept _ _ _ _ inv.reached.appended t.3) (inr (t.2, omega (arith, inv.reached.counted, c.loop-taken-test.true))) f;
-    }
+    let piece = take turn.result.read turn.new.buf in
+    let len = length-take-le turn.result.read turn.new.buf turn.ensures.bound in
+    let t = rw (inv.same, c.in-Finish.is) at (turn.ensures.turned o inv.reached.known (ap (λ m. m.is_stopped o) inv.same ∙ inv.reached.going)) in
+    let e = ended (g.M.Machine.fed turn.new.machine) m c.args.limit o piece _ _ _ _ (omega (arith, inv.reached.counted, c.loop-taken-test.true)) inv.reached.appended t in
+    let f = rw (turn.ensures.same, inv.same) at (c.finish.ensures.finishes (o ++ piece) e.0 (counted_more o piece c.loop-taken.taken turn.result.read inv.reached.counted len)) in
+    pumped_on c.finish.result _ m c.args.limit c.loop-taken.taken turn.result.read _ _ _ _ _ _ _ _ _ _ _ piece inv.reached len
+    (omega (arith, turn.ensures.bound, turn.auto.buf, c.portion-room.ensures.within, length-take c.portion-room.result c.deref_mut.result.now, c.loop-taken-test.true)) turn.ensures.moved
+    (finished c.finish.result c.args.limit m (o ++ piece) _ _ _ _ _ _ _ (Rose-since _ _ _ (omega (arith, inv.writes, turn.ensures.writes))) e.2 e.1 f)
 
-pub returns-in-ReadFault-clause-pumped : goal.returns-in-ReadFault-clause-pumped
-returns-in-ReadFault-clause-pumped g c =
+pub returns-in-Fail-clause-pumped : goal.returns-in-Fail-clause-pumped
+returns-in-Fail-clause-pumped g c =
     let inv = c.loop-taken.invariant in
     let turn = c.take_turn-turn in
-    let piece = take turn.result.read turn.new.buf in
+    let m = g.M.Machine.says c.args.machine.now in
     let o = inv.reached.octets in
-    let t = rw (inv.same, c.in-ReadFault.is) at (turn.ensures.turned o inv.reached.known (ap (λ m. m.is_stopped o) inv.same ∙ inv.reached.going)) in
-    let all : o ++ piece ≡ o = ap (λ r. o ++ r) t.0 ∙ append-nil o in
-    record {
-      octets = o;
-      moved = subst (Moves (g.I.Source.left c.args.input.now) (g.I.Source.left turn.new.input) (g.I.Source.taken c.args.input.now) (g.I.Source.taken turn.new.input)) all (Moves-trans _ _ _ _ _ _ o piece inv.reached.moved turn.ensures.moved);
-      within = omega (arith, inv.reached.counted, inv.within);
-      outcome = (Rose-since _ _ _ inv.reads t.1, inv.reached.going, omega (arith, inv.reached.counted, c.loop-taken-test.true), Appends-kept _ _ _ _ inv.reached.appended t.2);
-    }
-
-pub returns-in-WriteFault-clause-pumped : goal.returns-in-WriteFault-clause-pumped
-returns-in-WriteFault-clause-pumped g c =
-    let inv = c.loop-taken.invariant in
-    let turn = c.take_turn-turn in
     let piece = take turn.result.read turn.new.buf in
     let len = length-take-le turn.result.read turn.new.buf turn.ensures.bound in
-    let t = rw (inv.same, c.in-WriteFault.is) at (turn.ensures.turned inv.reached.octets inv.reached.known (ap (λ m. m.is_stopped inv.reached.octets) inv.same ∙ inv.reached.going)) in
-    record {
-      octets = inv.reached.octets ++ piece;
-      moved = Moves-trans _ _ _ _ _ _ inv.reached.octets piece inv.reached.moved turn.ensures.moved;
-      within = omega (arith, counted_more inv.reached.octets piece c.loop-taken.taken turn.result.read inv.reached.counted len, turn.ensures.bound, turn.auto.buf, c.portion-room.ensures.within, length-take c.portion-room.result c.deref_mut.result.now, c.loop-taken-test.true);
-      outcome = (Rose-since _ _ _ inv.writes t.0, front_of_more (g.M.Machine.says c.args.machine.now) inv.reached.octets piece _ _ _ inv.reached.appended t.1);
-    }
-
-pub returns-in-OutOfMemory-clause-pumped : goal.returns-in-OutOfMemory-clause-pumped
-returns-in-OutOfMemory-clause-pumped g c =
-    let inv = c.loop-taken.invariant in
-    let turn = c.take_turn-turn in
-    let piece = take turn.result.read turn.new.buf in
-    let len = length-take-le turn.result.read turn.new.buf turn.ensures.bound in
-    let t = rw (inv.same, c.in-OutOfMemory.is) at (turn.ensures.turned inv.reached.octets inv.reached.known (ap (λ m. m.is_stopped inv.reached.octets) inv.same ∙ inv.reached.going)) in
-    record {
-      octets = inv.reached.octets ++ piece;
-      moved = Moves-trans _ _ _ _ _ _ inv.reached.octets piece inv.reached.moved turn.ensures.moved;
-      within = omega (arith, counted_more inv.reached.octets piece c.loop-taken.taken turn.result.read inv.reached.counted len, turn.ensures.bound, turn.auto.buf, c.portion-room.ensures.within, length-take c.portion-room.result c.deref_mut.result.now, c.loop-taken-test.true);
-      outcome = front_of_more (g.M.Machine.says c.args.machine.now) inv.reached.octets piece _ _ _ inv.reached.appended t;
-    }
+    let t = rw (inv.same, c.in-Fail.is) at (turn.ensures.turned o inv.reached.known (ap (λ m. m.is_stopped o) inv.same ∙ inv.reached.going)) in
+    pumped_on c.in-Fail.status _ m c.args.limit c.loop-taken.taken turn.result.read _ _ _ _ _ _ _ _ _ _ _ piece inv.reached len
+    (omega (arith, turn.ensures.bound, turn.auto.buf, c.portion-room.ensures.within, length-take c.portion-room.result c.deref_mut.result.now, c.loop-taken-test.true)) turn.ensures.moved
+    (failed c.in-Fail.status m c.args.limit o piece _ _ _ _ _ _ _ _ (Rose-since _ _ _ inv.reads) (Rose-since _ _ _ inv.writes) (omega (arith, inv.reached.counted, c.loop-taken-test.true)) inv.reached.going inv.reached.appended t)
 
 pub returns-clause-pumped : goal.returns-clause-pumped
 returns-clause-pumped g c =

@@ -7,8 +7,7 @@ pub returns-clause-fed : goal.returns-clause-fed
 returns-clause-fed c = record {
   spent = c.new.ensures.stands.going ∙ sym nothing_over;
   stands = λ _. subst (Stands c.new.result) (sym no_messages) c.new.ensures.stands;
-  faulty = λ _. sym no_fault;
-  reads = λ _ _. c.traffic.ensures;
+  read = λ _. record { faulty = sym no_fault; reads = λ _. c.traffic.ensures };
 }
 
 pub returns-clause-going : goal.returns-clause-going
