@@ -3,7 +3,7 @@ use Rattle.std.proofs.Common.{◌≡◌, ◌⊎◌, ℕ, ◌+◌, ◌^◌, ◌�
 use Rattle.std.specs.Prelude.{flat_map}
 use Rattle.std.specs.Option.{option_map_or}
 use Rattle.std.specs.List.{filter_map, AllByRecursion}
-use Rattle.std.proofs.lemmas.Bool.{le-leb}
+use Rattle.std.proofs.lemmas.Bool.{le-leb, ne_eqb}
 use Rattle.zre_values.specs.Address.{IsAddress}
 use Rattle.zre_values.specs.declared.peer_id.PeerId.{PeerId}
 use Rattle.zre_outside.specs.declared.act.Act.{Act}
@@ -29,8 +29,9 @@ use Rattle.zre_net.specs.Lists.{nth}
 use Rattle.zre_net.specs.Numbers.{Route, Conn, acts_of, route_in, routes, conns, queued_on}
 use Rattle.zre_net.proofs.Grows.{links_grow}
 use Rattle.zre_net.proofs.Journals.{length-last, as_many_starts, same_who, other_journal, chronicle_now, other_chronicle}
-use Rattle.zre_net.proofs.Listing.{some_one, nth_reach, nth_more, nth_last, nth_cases, all_more, all_map}
+use Rattle.zre_net.proofs.Listing.{some_one, nth_reach, nth_more, nth_last, nth_cases, all_more, all_map, past_all}
 use Rattle.zre_net.proofs.Opened.{IsOld, bytes_now, still_old, opened_now, opened_same}
+use Rattle.zre_net.proofs.Staying.{starting, after_start, known_started, number_is, starting_known}
 
 -- ---- what is so of connections
 
@@ -101,13 +102,6 @@ not_of x input.Tick e = refl
 not_of x (input.Do c) e = refl
 not_of x input.End e = refl
 
-pub differ : (a b : ℕ) → (a ≡ b → ⊥) → eqb a b ≡ false
-differ a b f = by (eqb a b) refl
-  where
-    by : (t : Bool) → eqb a b ≡ t → t ≡ false
-    by true e = absurd (f (eqb-true a b e))
-    by false e = refl
-
 -- ---- an entry comes
 
 module _ (H : List Happening) (s : Carries H) (m : Move) (a : Incarnation) (at : ℕ) (i : Input) (known : IsKnown H a) where
@@ -158,7 +152,7 @@ module _ (H : List Happening) (s : Carries H) (m : Move) (a : Incarnation) (at :
         k = s.each x c e
 
         foreign : (b : Incarnation) → eqb b.number c.to.number ≡ false → a ≡ b → is_of x i ≡ false
-        foreign b far z = not_its x c e (differ c.to.number a.number (λ y. true≢false (sym (eq-eqb b.number c.to.number (ap (λ (d : Incarnation). d.number) (sym z) ∙ sym y)) ∙ far)))
+        foreign b far z = not_its x c e (ne_eqb c.to.number a.number (λ y. true≢false (sym (eq-eqb b.number c.to.number (ap (λ (d : Incarnation). d.number) (sym z) ∙ sym y)) ∙ far)))
 
         same : streamed c.along N (carried x N) ≡ streamed c.along H (carried x H)
         same = ap (streamed c.along N) (brought x) ∙ same_stream (Happens m (Some T)) H c (carried x H) k.sayable
@@ -195,8 +189,7 @@ module _ (H : List Happening) (s : Carries H) (m : Move) (a : Incarnation) (at :
     pub silent_on : (b : Incarnation) → length (incarnations N) < b.number → journal b N ≡ []
     silent_on b z =
         let n = ap (λ xs. length xs) still in
-        let r = nth_reach a.number (incarnations H) a known in
-        other_journal H m a at i b (differ b.number a.number (λ y. omega (arith, y, z, n, r))) ∙ s.silent b (omega (arith, z, n))
+        other_journal H m a at i b (past_all a.number (incarnations H) a known b.number (omega (arith, z, n))) ∙ s.silent b (omega (arith, z, n))
 
     -- where no connection opens
     pub comes_on : ((n : ℕ) (b : Incarnation) → running n N ≡ Some b → running n H ≡ Some b) → conns N ≡ conns H → ((x : ℕ) → nth x (conns H) ≡ None → is_of x i ≡ false) → Carries N
@@ -263,19 +256,13 @@ valid_settings id name host port short some = let n : leb (length name) 255 ≡ 
 
 module _ (H : List Happening) (s : Carries H) (n at : ℕ) (id : PeerId) (name host : List ℕ) (port : ℕ) (f : HasFields id.0 name host port) (some : ltb 0 port ≡ true) where
   abbrev new : Incarnation
-  new = record { number = starts H + 1; node = n; since = at; settings = settings_of id name host port }
+  new = starting H n at id name host port
 
   abbrev S : List Happening
-  S = Happens (move.Start n at id name host port) None ∷ H
+  S = after_start H n at id name host port
 
   known_later : (b : Incarnation) → IsKnown H b → IsKnown S b
-  known_later b k = nth_more b.number (incarnations H) (new ∷ []) b k
-
-  number_is : length (incarnations H) + 1 ≡ starts H + 1
-  number_is = let e = as_many_starts H in omega (arith, e)
-
-  new_known : IsKnown S new
-  new_known = ap (λ k. nth k (incarnations S)) (sym number_is) ∙ nth_last (incarnations H) new
+  known_later = known_started H n at id name host port
 
   before : (P : Incarnation → Type 0) (b : Incarnation) → IsKnown S b → (IsKnown H b → P b) → P new → P b
   before P b k p q = by (nth_cases b.number (incarnations H) new b k)
@@ -288,7 +275,7 @@ module _ (H : List Happening) (s : Carries H) (n at : ℕ) (id : PeerId) (name h
   can_start = record { valid = valid_settings id name host port f.short some; sixteen = f.sixteen; host_is = f.address; port_fits = f.fits }
 
   never_opened : (x : ℕ) → was_opened x (chronicle_of new H) ≡ false
-  never_opened x = ap (λ J. was_opened x (chronicle new.settings J)) (s.silent new (let e = number_is in omega (arith, e)))
+  never_opened x = ap (λ J. was_opened x (chronicle new.settings J)) (s.silent new (let e = number_is H n at id name host port in omega (arith, e)))
 
   pub starts_on : Carries S
   starts_on = record {
@@ -302,7 +289,7 @@ module _ (H : List Happening) (s : Carries H) (n at : ℕ) (id : PeerId) (name h
   }
     where
       by : (k : ℕ) (b : Incarnation) (t : Bool) → eqb k n ≡ t → cond t (Some new) (running k H) ≡ Some b → IsKnown S b
-      by k b true e r = subst (IsKnown S) (some_one r) new_known
+      by k b true e r = subst (IsKnown S) (some_one r) (starting_known H n at id name host port)
       by k b false e r = known_later b (s.runs k b r)
 
       one : (x : ℕ) (c : Conn) → IsCarried H x c → IsCarried S x c

@@ -19,6 +19,7 @@ use Rattle.zre_net.proofs.Hearing.{fits_still, no_piece}
 use Rattle.zre_net.proofs.Opened.{bytes_same}
 use Rattle.zre_net.proofs.Listing.{some_one}
 use Rattle.zre_net.proofs.Journals.{same_who, chronicle_now, other_chronicle}
+use Rattle.zre_net.proofs.Staying.{conn_stays}
 
 module _ (H : List Happening) (m : Move) (still : IsStill m) (a : Incarnation) (at : ℕ) (i : Input) (a_known : IsKnown H a) where
   abbrev T : Turn
@@ -51,28 +52,18 @@ module _ (H : List Happening) (m : Move) (still : IsStill m) (a : Incarnation) (
       b (known_before b k) (s b (known_before b k))
 
   -- a connection to which nothing comes
-  pub conn_still : (c : Conn) (y : Carrier) → piece_of c.number i ≡ [] → pending c.number N ≡ pending c.number H → IsConn H c y → IsConn N c y
-  conn_still c y p w r = record {
-    to = r.to;
-    to_known = known_later c.to r.to_known;
-    along = r.along;
-    along_known = known_later c.along.from r.along_known;
-    waits = r.waits ∙ sym w;
-    fits = fits_other c.number y.ear p c.to r.to_known r.fits;
-  }
+  pub conn_still : (x : ℕ) (c : Conn) (xs ys : List Carrier) → ((y : Carrier) → nth x xs ≡ Some y → nth x ys ≡ Some y) → piece_of c.number i ≡ [] → pending c.number N ≡ pending c.number H → HasConn H x c xs → HasConn N x c ys
+  conn_still x c xs ys t p w h = conn_stays H N known_later x c xs ys t (sym w) (λ y k f. fits_other c.number y.ear p c.to k f) h
 
   pub conns_more : IsKept m → IsSilent i → (ys : List Carrier) → AreConns H ys → AreConns N ys
   conns_more kept quiet ys s = record {
     count = s.count ∙ ap (λ xs. length xs) (sym stay);
-    each = λ x c e. one x c (s.each x c (ap (nth x) (sym stay) ∙ e));
+    each = λ x c e. conn_still x c ys ys (λ y t. t) (no_piece c.number i quiet) (kept.pending_stay (Some T) H c.number) (s.each x c (ap (nth x) (sym stay) ∙ e));
     silent = λ b k x z. silent_more x (no_piece x i quiet) (λ d l. s.silent d l x (let n = ap (λ xs. length xs) stay in omega (arith, n, z))) b k;
   }
     where
       stay : conns N ≡ conns H
       stay = kept.conns_stay (Some T) H
-
-      one : (x : ℕ) (c : Conn) → HasConn H x c ys → HasConn N x c ys
-      one x c h = record { number = h.number; row = h.row; there = h.there; is = conn_still c h.row (no_piece c.number i quiet) (kept.pending_stay (Some T) H c.number) h.is }
 
   pub stands_more : IsKept m → IsSilent i → (net new : Network) → StandsAfter H net → AreNodes N new → new.conns ≡ net.conns → new.pending ≡ net.pending → StandsAfter N new
   stands_more kept quiet net new s nodes c p = record {

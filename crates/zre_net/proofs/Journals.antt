@@ -26,18 +26,7 @@ as_many_starts (Happens m t ∷ H) = by m (as_many_starts H)
     by (move.Start n at id name host port) r =
         let l = length-last (incarnations H) (record { number = starts H + 1; node = n; since = at; settings = settings_of id name host port }) in
         omega (arith, r, l)
-    by (move.Crash n) r = r
-    by (move.Tick n at) r = r
-    by (move.Do n at c) r = r
-    by (move.Beacon k n at) r = r
-    by (move.Open g n at) r = r
-    by (move.Carry x p) r = r
-    by (move.Piece x count at) r = r
-    by (move.Shut x at) r = r
-    by (move.Linked g at) r = r
-    by (move.Unlinked g at) r = r
-    by (move.Reply g at o) r = r
-    by (move.Took g count at) r = r
+    by _ r = r
 
 pub same_who : (H : List Happening) (a b : Incarnation) → IsKnown H a → IsKnown H b → a.number ≡ b.number → a ≡ b
 same_who H a b p q e = some_one (sym p ∙ ap (λ n. nth n (incarnations H)) e ∙ q)

@@ -31,4 +31,5 @@ mod Sending
 mod Sent
 mod Short
 mod Starting
+mod Staying
 mod Stepping

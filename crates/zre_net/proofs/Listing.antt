@@ -5,6 +5,7 @@ use Rattle.std.specs.List.{sum_by, AllByRecursion}
 use Rattle.std.specs.Option.{option_map}
 use Rattle.std.proofs.lemmas.List.Sums.{sum_by-cons}
 use Rattle.zre_net.specs.Lists.{nth}
+use Rattle.std.proofs.lemmas.Bool.{ne_eqb}
 
 pub some_one : {A : Type 0} {a b : A} → Some a ≡ Some b → a ≡ b
 some_one e = cc
@@ -54,6 +55,10 @@ set_back (x ∷ xs) (suc i) v e = ap (λ ys. x ∷ ys) (set_back xs i v e)
 pub nth_reach : {A : Type 0} (k : ℕ) (xs : List A) (x : A) → nth k xs ≡ Some x → k ≤ length xs
 nth_reach zero xs x e = omega arith
 nth_reach (suc k) xs x e = let r = in_reach xs k x e in omega (arith, r)
+
+-- a number after the last is that of none
+pub past_all : {A : Type 0} (k : ℕ) (xs : List A) (x : A) → nth k xs ≡ Some x → (j : ℕ) → length xs < j → eqb j k ≡ false
+past_all k xs x e j z = ne_eqb j k (λ s. let r = nth_reach k xs x e in omega (arith, s, r, z))
 
 pub nth_first : {A : Type 0} (k : ℕ) (xs : List A) (x : A) → nth k xs ≡ Some x → 1 ≤ k
 nth_first zero xs x e = absurd cc

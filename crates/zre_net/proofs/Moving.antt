@@ -3,7 +3,7 @@ use Rattle.std.proofs.Common.{◌≡◌, ◌⊎◌, ℕ, zero, suc, ◌+◌, Boo
 use Rattle.std.specs.Prelude.{option_map}
 use Rattle.std.specs.Option.{option_map_or}
 use Rattle.std.specs.List.{list_all, AllByRecursion}
-use Rattle.std.proofs.lemmas.Bool.{and_parts}
+use Rattle.std.proofs.lemmas.Bool.{and_parts, ne_eqb}
 use Rattle.std.proofs.lemmas.List.{take-append-drop}
 use Rattle.zre_outside.specs.declared.entry.Input.{Input}
 use Rattle.zre_outside.specs.declared.entry.Input.TheVariants as input
@@ -25,7 +25,7 @@ use Rattle.zre_net.proofs.Journals.{chronicle_now, other_chronicle}
 use Rattle.zre_net.proofs.Listing.{some_one, nth_past, nth_more, nth_last, nth_cases, all_at}
 use Rattle.zre_net.proofs.Opened.{IsOld, bytes_same, new_old}
 use Rattle.zre_net.proofs.Pending.{no_pending}
-use Rattle.zre_net.proofs.Carrying.{streamed, streamed_last, all_sayable, same_stream, not_of, differ, IsCarried, Carries, carried_on, unopened_on, owners_on, silent_on, comes_on, nothing_comes, MayStart, starts_on}
+use Rattle.zre_net.proofs.Carrying.{streamed, streamed_last, all_sayable, same_stream, not_of, IsCarried, Carries, carried_on, unopened_on, owners_on, silent_on, comes_on, nothing_comes, MayStart, starts_on}
 
 -- ---- a connection is made to carry one part more
 
@@ -144,7 +144,7 @@ module _ (H : List Happening) (s : Carries H) (g n at : ℕ) (a : Incarnation) (
   none_there = nth_past x0 (conns H) (omega arith)
 
   not_before : (x : ℕ) (c : Conn) → nth x (conns H) ≡ Some c → is_of x i0 ≡ false
-  not_before x c e = differ x x0 (λ z. let w : None ≡ Some c = sym none_there ∙ ap (λ j. nth j (conns H)) (sym z) ∙ e in cc)
+  not_before x c e = ne_eqb x x0 (λ z. let w : None ≡ Some c = sym none_there ∙ ap (λ j. nth j (conns H)) (sym z) ∙ e in cc)
 
   to_it : (x : ℕ) (c : Conn) → nth x (conns H) ≡ Some c → is_of x i0 ≡ true → c.to ≡ a
   to_it x c e z = absurd (true≢false (sym z ∙ not_before x c e))
@@ -183,7 +183,7 @@ module _ (H : List Happening) (s : Carries H) (g n at : ℕ) (a : Incarnation) (
       by x c (inr z) = subst (λ y. IsCarried O y c) (sym z.0) (subst (IsCarried O x0) (sym z.1) new_carried)
 
       fewer : (x : ℕ) → nth x (conns O) ≡ None → (nth x (conns H) ≡ None) × (is_of x i0 ≡ false)
-      fewer x e = (none (nth x (conns H)) refl, differ x x0 (λ z. let w : None ≡ Some c0 = sym e ∙ ap (λ j. nth j (conns O)) z ∙ ap (nth x0) opened ∙ nth_last (conns H) c0 in cc))
+      fewer x e = (none (nth x (conns H)) refl, ne_eqb x x0 (λ z. let w : None ≡ Some c0 = sym e ∙ ap (λ j. nth j (conns O)) z ∙ ap (nth x0) opened ∙ nth_last (conns H) c0 in cc))
         where
           none : (o : Option Conn) → nth x (conns H) ≡ o → o ≡ None
           none None z = refl
@@ -199,7 +199,7 @@ module _ (H : List Happening) (s : Carries H) (y count at : ℕ) (d : Conn) (the
   pieces_on = comes_on H s (move.Piece y count at) d.to at ip ((s.each y d there).to_known) refl (λ x. refl)
       (λ x c e z. ap (λ (k : Conn). k.to) (some_one (sym e ∙ ap (λ j. nth j (conns H)) (eqb-true x y z) ∙ there)))
       (λ x c e. left x (eqb x y) refl) (λ n b r. r) refl
-      (λ x e. differ x y (λ z. let w : None ≡ Some d = sym e ∙ ap (λ j. nth j (conns H)) z ∙ there in cc))
+      (λ x e. ne_eqb x y (λ z. let w : None ≡ Some d = sym e ∙ ap (λ j. nth j (conns H)) z ∙ there in cc))
     where
       left : (x : ℕ) (t : Bool) → eqb x y ≡ t → cond t (take count (pending y H)) [] ++ cond t (drop count (pending x H)) (pending x H) ≡ pending x H
       left x true z = ap (λ j. take count (pending j H) ++ drop count (pending x H)) (sym (eqb-true x y z)) ∙ take-append-drop count (pending x H)

@@ -29,10 +29,10 @@ use Rattle.zre_journal.proofs.Quiet.{Quiet, AreQuiet, is_of}
 
 -- ---- no mark of an entry is an entry
 
-abbrev AreInner : List Mark → Type 0
+abbrev pub AreInner : List Mark → Type 0
 AreInner hs = AllByRecursion (λ h. is_entry h ≡ false) hs
 
-inner_of : (g : Config) (hs K : List Mark) → AreSound g hs K → AreInner hs
+pub inner_of : (g : Config) (hs K : List Mark) → AreSound g hs K → AreInner hs
 inner_of g [] K s = tt
 inner_of g (h ∷ hs) K s = (one h s.0, inner_of g hs (h ∷ K) s.1)
   where

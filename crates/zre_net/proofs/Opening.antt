@@ -59,8 +59,7 @@ module _ (H : List Happening) (g n at : ℕ) (net new : Network) (s : StandsAfte
       where
         by : (nth k (conns H) ≡ Some d) ⊎ ((k ≡ length (conns H) + 1) × (d ≡ c)) → HasConn N k d new.conns.items
         by (inl z) =
-            let h = s.conns_are.each k d z in
-            record { number = h.number; row = h.row; there = ap (nth k) rows ∙ nth_more k net.conns.items (y ∷ []) h.row h.there; is = conn_still H (move.Open g n at) (open_still g n at) a at (input.Opened x) known d h.row refl refl h.is }
+            conn_still H (move.Open g n at) (open_still g n at) a at (input.Opened x) known k d net.conns.items new.conns.items (λ w t. ap (nth k) rows ∙ nth_more k net.conns.items (y ∷ []) w t) refl refl (s.conns_are.each k d z)
         by (inr z) = record {
           number = ap (λ (w : Conn). w.number) z.1 ∙ sym z.0;
           row = y;

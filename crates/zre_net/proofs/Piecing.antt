@@ -2,8 +2,8 @@
 use Rattle.std.proofs.Common.{◌≡◌, ◌⊎◌, ℕ, zero, suc, ◌+◌, ◌-◌, ◌≤◌, ◌<◌, max, Bool, true, false, cond, not, ◌&&◌, eqb, ltb, leb, List, [], ◌∷◌, ◌++◌, length, map, take, drop, filter, Option, Some, None, refl, sym, ap, ◌∙◌, subst, arith, eqb-true, eq-eqb, ltb-true, ltb-false, leb-true, leb-false, append_assoc, append-nil, true≢false}
 use Rattle.std.specs.Prelude.{slice_get, slice_set, sum_by, option_map}
 use Rattle.std.specs.List.{filter_map, AllByRecursion}
-use Rattle.std.proofs.lemmas.List.{append_cancel_left, length-drop}
-use Rattle.std.proofs.lemmas.List.Elements.{filter-append}
+use Rattle.std.proofs.lemmas.List.{append_cancel_left, length-drop, map-append}
+use Rattle.std.proofs.lemmas.List.Elements.{filter-append, filter_map-append}
 use Rattle.zre_outside.specs.declared.act.Act.{Act}
 use Rattle.zre_outside.specs.declared.act.Act.TheVariants as act
 use Rattle.zre_outside.specs.declared.entry.Entry.{Entry}
@@ -41,11 +41,11 @@ use Rattle.zre_net.specs.Sending.{HasSent}
 use Rattle.zre_net.proofs.Connecting.{known_later, conn_still, silent_more}
 use Rattle.zre_net.proofs.Cut.{has_sent_whole}
 use Rattle.zre_net.proofs.Hearing.{fits_piece, completes_few}
-use Rattle.zre_net.proofs.Listing.{some_one, in_reach, nth_at, nth_reach, nth_same, nth_other, set_length, sum_set, all_map}
+use Rattle.zre_net.proofs.Listing.{some_one, in_reach, nth_at, nth_reach, nth_same, nth_other, set_length, sum_set, all_map, past_all}
 use Rattle.zre_net.proofs.Plays.{piece_still, played, not_received, received, IsReceived}
 use Rattle.zre_net.proofs.Same.{by_marks, ever_but, new_but, sim, Sim}
-use Rattle.zre_net.proofs.Stepping.{filter_map-both}
 use Rattle.zre_net.proofs.Journals.{chronicle_now, other_chronicle, same_who}
+use Rattle.zre_net.proofs.Staying.{start_stays, conn_stays, finds_stays}
 
 -- ---- some octets come
 
@@ -106,13 +106,9 @@ module _ (H : List Happening) (x place most at : ℕ) (net : Network) (s : Stand
               });
             }
         by false z =
-            let far : eqb d.number x ≡ false = ap (λ j. eqb j x) h.number ∙ z in record {
-              number = h.number;
-              row = h.row;
-              there = ap (nth y) rows ∙ nth_other x place y net.conns.items now under z ∙ h.there;
-              is = conn_still H (move.Piece x (length b) at) (piece_still x (length b) at) c.to at (input.Piece x b) is.to_known d h.row (not_its d.number far)
-                  (ap (λ t. cond t (drop (length b) (pending d.number H)) (pending d.number H)) far) h.is;
-            }
+            let far : eqb d.number x ≡ false = ap (λ j. eqb j x) h.number ∙ z in
+            conn_still H (move.Piece x (length b) at) (piece_still x (length b) at) c.to at (input.Piece x b) is.to_known y d net.conns.items new.conns.items
+            (λ r t. ap (nth y) rows ∙ nth_other x place y net.conns.items now under z ∙ t) (not_its d.number far) (ap (λ t. cond t (drop (length b) (pending d.number H)) (pending d.number H)) far) h
 
     piece_stands : StandsAfter N new
     piece_stands = record {
@@ -120,7 +116,7 @@ module _ (H : List Happening) (x place most at : ℕ) (net : Network) (s : Stand
       conns_are = record {
         count = ap (λ xs. length xs) rows ∙ set_length net.conns.items place now ∙ s.conns_are.count;
         each = conns_now;
-        silent = λ d k y z. silent_more H (move.Piece x (length b) at) (piece_still x (length b) at) c.to at (input.Piece x b) is.to_known y (not_its y (beyond y z)) (λ w l. s.conns_are.silent w l y z) d k;
+        silent = λ d k y z. silent_more H (move.Piece x (length b) at) (piece_still x (length b) at) c.to at (input.Piece x b) is.to_known y (not_its y (past_all x (conns H) c there y z)) (λ w l. s.conns_are.silent w l y z) d k;
       };
       pending_is =
           let f = sum_set (λ (y : Carrier). length y.waiting) net.conns.items place was now before in
@@ -135,13 +131,6 @@ module _ (H : List Happening) (x place most at : ℕ) (net : Network) (s : Stand
         few zero o = omega arith
         few (suc k) [] = omega arith
         few (suc k) (z ∷ o) = let r = few k o in omega (arith, r)
-
-        beyond : (y : ℕ) → length (conns H) < y → eqb y x ≡ false
-        beyond y z = by (eqb y x) refl
-          where
-            by : (t : Bool) → eqb y x ≡ t → t ≡ false
-            by false q = refl
-            by true q = absurd (let e = eqb-true y x q in let r = nth_reach x (conns H) c there in omega (arith, e, r, z))
 
     pub hand_stands : StandsAfter (with_move (move.Piece x (length b) at) H) new
     hand_stands = subst (λ Z. StandsAfter Z new) (sym comes_so) piece_stands
@@ -170,10 +159,6 @@ but_connects a (act.Connect l to ∷ xs) = ap (λ ys. record { from = a; link = 
 but_connects a (act.CloseLink l ∷ xs) = but_connects a xs
 but_connects a (act.CloseConn k ∷ xs) = but_connects a xs
 but_connects a (act.Answer k o ∷ xs) = but_connects a xs
-
-map-two : {A B : Type 0} (f : A → B) (xs ys : List A) → map f (xs ++ ys) ≡ map f xs ++ map f ys
-map-two f [] ys = refl
-map-two f (x ∷ xs) ys = ap (λ zs. f x ∷ zs) (map-two f xs ys)
 
 module _ (g : Config) (J : List Entry) (at x : ℕ) (a b : List ℕ) where
   abbrev K : List Mark
@@ -276,7 +261,7 @@ module _ (H : List Happening) (x i j at : ℕ) (w : Incarnation) (known : IsKnow
     said_same =
         ap (λ K. (said_in H ++ map (λ e. (w.node, e)) (events_at G (piece t x a) (chronicle_of w H))) ++ map (λ e. (w.node, e)) (events_at G (piece t x b) K)) chronicle_one
         ∙ append_assoc (said_in H) (map (λ e. (w.node, e)) (events_at G (piece t x a) (chronicle_of w H))) (map (λ e. (w.node, e)) (events_at G (piece t x b) (with_entry G (piece t x a) (chronicle_of w H))))
-        ∙ ap (λ es. said_in H ++ es) (sym (map-two (λ (e : Event). (w.node, e)) (events_at G (piece t x a) (chronicle_of w H)) (events_at G (piece t x b) (with_entry G (piece t x a) (chronicle_of w H)))) ∙ ap (λ es. map (λ (e : Event). (w.node, e)) es) (twice G I t x a b))
+        ∙ ap (λ es. said_in H ++ es) (sym (map-append (λ (e : Event). (w.node, e)) (events_at G (piece t x a) (chronicle_of w H)) (events_at G (piece t x b) (with_entry G (piece t x a) (chronicle_of w H)))) ∙ ap (λ es. map (λ (e : Event). (w.node, e)) es) (twice G I t x a b))
 
     acts_same : {C : Type 0} (f : Act → Option C) (base : List C) → ((xs : List Act) → filter_map f (but_offers xs) ≡ filter_map f xs)
         → (base ++ filter_map f (acts_at G (piece t x a) (chronicle_of w H))) ++ filter_map f (acts_at G (piece t x b) (chronicle_of w H1)) ≡ base ++ filter_map f (acts_at G (piece t x (a ++ b)) (chronicle_of w H))
@@ -285,7 +270,7 @@ module _ (H : List Happening) (x i j at : ℕ) (w : Incarnation) (known : IsKnow
         let ys = acts_at G (piece t x b) (with_entry G (piece t x a) (chronicle_of w H)) in
         ap (λ K. (base ++ filter_map f xs) ++ filter_map f (acts_at G (piece t x b) K)) chronicle_one
         ∙ append_assoc base (filter_map f xs) (filter_map f ys)
-        ∙ ap (λ zs. base ++ zs) (sym (filter_map-both f xs ys) ∙ sym (but (xs ++ ys)) ∙ ap (filter_map f) (both_done G I t x a b) ∙ but (acts_at G (piece t x (a ++ b)) (chronicle_of w H)))
+        ∙ ap (λ zs. base ++ zs) (sym (filter_map-append f xs ys) ∙ sym (but (xs ++ ys)) ∙ ap (filter_map f) (both_done G I t x a b) ∙ but (acts_at G (piece t x (a ++ b)) (chronicle_of w H)))
 
     broadcasts_same : broadcasts H2 ≡ broadcasts W
     broadcasts_same = acts_same (broadcast_in w) (broadcasts H) (but_sends w)
@@ -297,28 +282,11 @@ module _ (H : List Happening) (x i j at : ℕ) (w : Incarnation) (known : IsKnow
     started_same = record { count = st.nodes.started.count; each = λ k v e. one_row k v e (st.nodes.started.each k v e); none_yet = λ v z. none v z (st.nodes.started.none_yet v z) }
       where
         one_row : (k : ℕ) (v : Incarnation) → nth k (incarnations H) ≡ Some v → HasStarted H2 k v net.started.items → HasStarted W k v net.started.items
-        one_row k v e h = record {
-          number = h.number;
-          row = h.row;
-          there = h.there;
-          is = record {
-            node = h.is.node;
-            since = h.is.since;
-            id = h.is.id;
-            host = h.is.host;
-            sent = for_all (λ u Z. HasSent u.settings Z h.row.sender) (λ u Z. HasSent u.settings Z h.row.sender) (has_sent_whole G I t x a b h.row.sender) (λ u Z q. q) v (ap (λ n. nth n (incarnations H)) h.number ∙ e) h.is.sent;
-          };
-        }
+        one_row k v e h = start_stays H2 W (λ u q. q) k v net.started.items net.started.items (λ r t. t)
+            (λ r q. for_all (λ u Z. HasSent u.settings Z r.sender) (λ u Z. HasSent u.settings Z r.sender) (has_sent_whole G I t x a b r.sender) (λ u Z p. p) v (ap (λ n. nth n (incarnations H)) h.number ∙ e) q) h
 
         none : (v : Incarnation) → length (incarnations H) < v.number → journal v H2 ≡ [] → journal v W ≡ []
-        none v z q = sym (other_two v far) ∙ q
-          where
-            far : eqb v.number w.number ≡ false
-            far = by (eqb v.number w.number) refl
-              where
-                by : (u : Bool) → eqb v.number w.number ≡ u → u ≡ false
-                by false y = refl
-                by true y = absurd (let e = eqb-true v.number w.number y in let r = nth_reach w.number (incarnations H) w known in omega (arith, e, r, z))
+        none v z q = sym (other_two v (past_all w.number (incarnations H) w known v.number z)) ∙ q
 
     drop-twice : (n m : ℕ) (o : List ℕ) → drop m (drop n o) ≡ drop (n + m) o
     drop-twice zero m o = let e : m ≡ 0 + m = omega arith in ap (λ k. drop k o) e
@@ -337,7 +305,7 @@ module _ (H : List Happening) (x i j at : ℕ) (w : Incarnation) (known : IsKnow
       nodes = record {
         said = st.nodes.said ∙ said_same;
         started = started_same;
-        runs = λ n. finds n (running n H) (running_at n net.running.items) (st.nodes.runs n);
+        runs = λ n. finds_stays H2 W (λ v k. k) n (running n H) (running_at n net.running.items) (st.nodes.runs n);
         owners = st.nodes.owners;
         beacons = st.nodes.beacons ∙ ap (λ xs. map sent_of xs) broadcasts_same;
         links = st.nodes.links ∙ ap (λ xs. map way_of xs) routes_same;
@@ -348,24 +316,9 @@ module _ (H : List Happening) (x i j at : ℕ) (w : Incarnation) (known : IsKnow
       pending_is = st.pending_is;
     }
       where
-        finds : (n : ℕ) (o : Option Incarnation) (f : Option ℕ) → Finds H2 n o f → Finds W n o f
-        finds n None f z = z
-        finds n (Some v) f z = (z.0, z.1, z.2)
-
         one_conn : (y : ℕ) (d : Conn) → HasConn H2 y d net.conns.items → HasConn W y d net.conns.items
-        one_conn y d h = record {
-          number = h.number;
-          row = h.row;
-          there = h.there;
-          is = record {
-            to = h.is.to;
-            to_known = h.is.to_known;
-            along = h.is.along;
-            along_known = h.is.along_known;
-            waits = h.is.waits ∙ pending_same d.number;
-            fits = for_all (λ u Z. Fits u.settings d.number (chronicle u.settings Z) h.row.ear) (λ u Z. Fits u.settings d.number (chronicle u.settings Z) h.row.ear) (fits_whole d.number h.row.ear) (λ u Z q. q) d.to h.is.to_known h.is.fits;
-          };
-        }
+        one_conn y d h = conn_stays H2 W (λ u q. q) y d net.conns.items net.conns.items (λ r t. t) (pending_same d.number)
+            (λ r k q. for_all (λ u Z. Fits u.settings d.number (chronicle u.settings Z) r.ear) (λ u Z. Fits u.settings d.number (chronicle u.settings Z) r.ear) (fits_whole d.number r.ear) (λ u Z p. p) d.to k q) h
 
         silent : (v : Incarnation) → IsKnown W v → (y : ℕ) → length (conns W) < y → bytes y (chronicle_of v W) ≡ []
         silent v l y z = for_all (λ u Z. bytes y (chronicle u.settings Z) ≡ []) (λ u Z. bytes y (chronicle u.settings Z) ≡ []) (λ q. sym ((same_cut G I t x a b).octets_are y) ∙ q) (λ u Z q. q) v l (st.conns_are.silent v l y z)

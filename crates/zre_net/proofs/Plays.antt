@@ -19,6 +19,7 @@ use Rattle.zre_net.specs.Numbers.{Broadcast, Route, Conn, broadcasts, routes, co
 use Rattle.zre_net.specs.Rows.{running_at, is_at, same_number}
 use Rattle.zre_net.specs.Running.{Finds, AreNodes, HasStarted, IsConn, HasConn, StandsAfter, IsStill, IsKept, IsPlayed, Receives, Sends, sent_of, way_of}
 use Rattle.zre_net.proofs.Listing.{some_one, nth_map, nth_reach, nth_first, nth_there, all_at}
+use Rattle.zre_journal.proofs.Listed.{eqb-comm}
 
 -- ---- moves that start and end no node, and that do nothing with connections
 
@@ -128,16 +129,7 @@ module _ (H : List Happening) (net : Network) (nodes : AreNodes H net) (a : Inca
 
   there_by : (o : Option Incarnation) (f : Option ℕ) → Finds H a.node o f → same_number a.number f ≡ passes (λ (b : Incarnation). eqb a.number b.number) o
   there_by None f z = ap (same_number a.number) z
-  there_by (Some b) f z = ap (same_number a.number) z.0 ∙ turned b.number a.number
-    where
-      turned : (p q : ℕ) → eqb p q ≡ eqb q p
-      turned p q = by (eqb p q) refl (eqb q p) refl
-        where
-          by : (s : Bool) → eqb p q ≡ s → (t : Bool) → eqb q p ≡ t → s ≡ t
-          by true x true y = refl
-          by false x false y = refl
-          by true x false y = absurd (true≢false (sym (eq-eqb q p (sym (eqb-true p q x))) ∙ y))
-          by false x true y = absurd (true≢false (sym (eq-eqb p q (sym (eqb-true q p y))) ∙ x))
+  there_by (Some b) f z = ap (same_number a.number) z.0 ∙ eqb-comm b.number a.number
 
   pub there_same : is_at a.number (nth a.number net.started.items) net.running.items ≡ is_there H a
   there_same = ap (λ o. is_at a.number o net.running.items) row.there ∙ ap (λ n. same_number a.number (running_at n net.running.items)) row.is.node ∙ there_by (running a.node H) (running_at a.node net.running.items) (nodes.runs a.node)

@@ -26,6 +26,7 @@ use Rattle.zre_net.specs.Running.{IsStarted, HasStarted, AreStarted, Finds, AreN
 use Rattle.zre_net.specs.Sender.{spelled}
 use Rattle.zre_net.proofs.Plays.{played, not_running, runs_there, Runs, conn_found, conn_missing, IsFound}
 use Rattle.zre_net.proofs.Listing.{some_one, in_reach, nth_at, nth_same, nth_other, nth_map, set_length, sum_set, all_map}
+use Rattle.zre_net.proofs.Staying.{start_stays, conn_stays, finds_stays}
 
 -- ---- a node is gone
 
@@ -52,23 +53,14 @@ module _ (H : List Happening) (n k place : ℕ) (net new : Network) (s : StandsA
             there = ap (nth j) rows ∙ nth_same j place net.started.items now at (in_reach net.started.items place was before);
             is = record { node = gone.node ∙ o.node; since = gone.since ∙ o.since; id = gone.id ∙ o.id; host = gone.host ∙ o.host; sent = gone.sent b.settings (journal b H) o.sent };
           }
-      by false z = record {
-        number = h.number;
-        row = h.row;
-        there = ap (nth j) rows ∙ nth_other k place j net.started.items now under z ∙ h.there;
-        is = record { node = h.is.node; since = h.is.since; id = h.is.id; host = h.is.host; sent = h.is.sent };
-      }
+      by false z = start_stays H N (λ c k. k) j b net.started.items new.started.items (λ x t. ap (nth j) rows ∙ nth_other k place j net.started.items now under z ∙ t) (λ x q. q) h
 
   finds : (j : ℕ) → Finds N j (running j N) (running_at j new.running.items)
   finds j = subst (λ f. Finds N j (running j N) f) (sym (runs j)) (by (eqb j n))
     where
-      later : (o : Option Incarnation) (f : Option ℕ) → Finds H j o f → Finds N j o f
-      later None f z = z
-      later (Some b) f z = (z.0, z.1, z.2)
-
       by : (t : Bool) → Finds N j (cond t None (running j H)) (cond t None (running_at j net.running.items))
       by true = refl
-      by false = later (running j H) (running_at j net.running.items) (s.nodes.runs j)
+      by false = finds_stays H N (λ c k. k) j (running j H) (running_at j net.running.items) (s.nodes.runs j)
 
   nodes : AreNodes N new
   nodes = record {
@@ -89,17 +81,9 @@ module _ (H : List Happening) (n k place : ℕ) (net new : Network) (s : StandsA
   pub crash_stands : StandsAfter N new
   crash_stands = record {
     nodes = nodes;
-    conns_are = subst (λ ys. AreConns N ys.items) (sym conns_stay) (record { count = s.conns_are.count; each = λ x c e. one x c (s.conns_are.each x c e); silent = λ b l x z. s.conns_are.silent b l x z });
+    conns_are = subst (λ ys. AreConns N ys.items) (sym conns_stay) (record { count = s.conns_are.count; each = λ x c e. conn_stays H N (λ b k. k) x c net.conns.items net.conns.items (λ y t. t) refl (λ y k f. f) (s.conns_are.each x c e); silent = λ b l x z. s.conns_are.silent b l x z });
     pending_is = pending_stay ∙ s.pending_is ∙ ap (λ ys. sum_by (λ (y : Carrier). length y.waiting) ys.items) (sym conns_stay);
   }
-    where
-      one : (x : ℕ) (c : Conn) → HasConn H x c net.conns.items → HasConn N x c net.conns.items
-      one x c h = record {
-        number = h.number;
-        row = h.row;
-        there = h.there;
-        is = record { to = h.is.to; to_known = h.is.to_known; along = h.is.along; along_known = h.is.along_known; waits = h.is.waits; fits = h.is.fits };
-      }
 
 -- ---- parts
 
@@ -136,23 +120,14 @@ module _ (H : List Happening) (x place : ℕ) (p : Part) (net new : Network) (s 
   same_nodes : AreNodes M new
   same_nodes = record {
     said = said ∙ s.nodes.said;
-    started = subst (λ xs. AreStarted M xs.items) (sym started) (record { count = s.nodes.started.count; each = one; none_yet = λ b z. s.nodes.started.none_yet b z });
-    runs = λ n. subst (λ r. Finds M n (running n H) (running_at n r.items)) (sym runs) (later n (running n H) (running_at n net.running.items) (s.nodes.runs n));
+    started = subst (λ xs. AreStarted M xs.items) (sym started) (record { count = s.nodes.started.count; each = λ k a e. start_stays H M (λ b q. q) k a net.started.items net.started.items (λ x t. t) (λ x q. q) (s.nodes.started.each k a e); none_yet = λ b z. s.nodes.started.none_yet b z });
+    runs = λ n. subst (λ r. Finds M n (running n H) (running_at n r.items)) (sym runs) (finds_stays H M (λ b k. k) n (running n H) (running_at n net.running.items) (s.nodes.runs n));
     owners = owners ∙ s.nodes.owners;
     beacons = beacons ∙ s.nodes.beacons;
     links = links ∙ s.nodes.links;
     known = all_map (λ (r : Route). IsKnown H r.from) (λ (r : Route). IsKnown M r.from) (λ r z. z) (routes H) s.nodes.known;
     queued = queued ∙ s.nodes.queued ∙ ap (λ xs. sum_by (λ (y : Started). octets_in y.sender.lines) xs.items) (sym started);
   }
-    where
-      one : (k : ℕ) (a : Incarnation) → nth k (incarnations H) ≡ Some a → HasStarted M k a net.started.items
-      one k a e =
-          let h = s.nodes.started.each k a e in
-          record { number = h.number; row = h.row; there = h.there; is = record { node = h.is.node; since = h.is.since; id = h.is.id; host = h.is.host; sent = h.is.sent } }
-
-      later : (n : ℕ) (a : Option Incarnation) (f : Option ℕ) → Finds H n a f → Finds M n a f
-      later n None f z = z
-      later n (Some b) f z = (z.0, z.1, z.2)
 
   append-none : (a : Bool) (q r : List ℕ) → a ≡ false → cond a (q ++ r) q ≡ q
   append-none a q r e = ap (λ b. cond b (q ++ r) q) e
@@ -183,19 +158,8 @@ module _ (H : List Happening) (x place : ℕ) (p : Part) (net new : Network) (s 
               fits = subst (λ w. Fits d.to.settings d.number (chronicle_of d.to H) w) (sym loaded.ear) r.fits;
             };
           }
-      by false z = record {
-        number = h.number;
-        row = h.row;
-        there = ap (nth y) rows ∙ nth_other x place y net.conns.items now under z ∙ h.there;
-        is = record {
-          to = h.is.to;
-          to_known = h.is.to_known;
-          along = h.is.along;
-          along_known = h.is.along_known;
-          waits = h.is.waits ∙ sym (append-none (eqb d.number x) (pending d.number H) (appended d.number p H) (ap (λ j. eqb j x) h.number ∙ z));
-          fits = h.is.fits;
-        };
-      }
+      by false z = conn_stays H M (λ b k. k) y d net.conns.items new.conns.items (λ r t. ap (nth y) rows ∙ nth_other x place y net.conns.items now under z ∙ t)
+          (sym (append-none (eqb d.number x) (pending d.number H) (appended d.number p H) (ap (λ j. eqb j x) h.number ∙ z))) (λ r k f. f) h
 
   pub carry_stands : StandsAfter M new
   carry_stands = record {

@@ -22,19 +22,9 @@ use Rattle.zre_journal.proofs.Joined.{continues, after-append}
 use Rattle.zre_journal.proofs.Says.{input_sound}
 use Rattle.zre_journal.proofs.Silent.{Comes-proper}
 use Rattle.zre_journal.proofs.Sound.{Sound, AreSound}
+use Rattle.zre_net.proofs.Opened.{AreInner, inner_of}
 
 -- ---- marks that are no entries
-
-abbrev AreInner : List Mark → Type 0
-AreInner hs = AllByRecursion (λ h. is_entry h ≡ false) hs
-
-inner_of : (g : Config) (hs K : List Mark) → AreSound g hs K → AreInner hs
-inner_of g [] K s = tt
-inner_of g (h ∷ hs) K s = (one h s.0, inner_of g hs (h ∷ K) s.1)
-  where
-    one : (h : Mark) → Sound g h K → is_entry h ≡ false
-    one (Comes e) z = absurd z
-    one _ z = refl
 
 -- those of a piece are such
 piece_inner : (g : Config) (J : List Entry) (at c : ℕ) (o : List ℕ) → AreInner (marks g (piece at c o) (chronicle g J))

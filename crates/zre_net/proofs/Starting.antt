@@ -26,31 +26,21 @@ use Rattle.zre_net.specs.Running.{IsStarted, HasStarted, AreStarted, Finds, owne
 use Rattle.zre_net.specs.Sending.{HasSent}
 use Rattle.zre_net.proofs.Listing.{some_one, in_reach, nth_at, nth_same, nth_other, nth_more, nth_last, nth_cases, set_length, sum_set, all_map}
 use Rattle.zre_net.proofs.Journals.{length-last, as_many_starts}
-
-map-last : {A B : Type 0} (f : A → B) (xs : List A) (x : A) → map f (xs ++ x ∷ []) ≡ map f xs ++ f x ∷ []
-map-last f [] x = refl
-map-last f (y ∷ xs) x = ap (λ ys. f y ∷ ys) (map-last f xs x)
+use Rattle.zre_journal.proofs.Listed.{eqb-comm}
+use Rattle.std.proofs.lemmas.List.{map-append}
+use Rattle.zre_net.proofs.Staying.{start_stays, conn_stays, finds_stays, starting, after_start, known_started, number_is, starting_known}
 
 -- ---- whose IDs the numbers have
 
 fits_same : (n : ℕ) (id : PeerId) (a : Incarnation) → fits_owner n id (owner_of a) ≡ agrees n id a
-fits_same n id a = ap (λ b. cond b (bytes_eq a.settings.id.0 id.0) (not (bytes_eq a.settings.id.0 id.0))) (turned a.node n)
+fits_same n id a = ap (λ b. cond b (bytes_eq a.settings.id.0 id.0) (not (bytes_eq a.settings.id.0 id.0))) (eqb-comm a.node n)
     ∙ ap (λ b. cond (eqb n a.node) b (not b)) (bytes-turned a.settings.id.0 id.0)
   where
-    turned : (p q : ℕ) → eqb p q ≡ eqb q p
-    turned p q = by (eqb p q) refl (eqb q p) refl
-      where
-        by : (s : Bool) → eqb p q ≡ s → (t : Bool) → eqb q p ≡ t → s ≡ t
-        by true x true y = refl
-        by false x false y = refl
-        by true x false y = absurd (true≢false (sym (eq-eqb q p (sym (eqb-true p q x))) ∙ y))
-        by false x true y = absurd (true≢false (sym (eq-eqb p q (sym (eqb-true q p y))) ∙ x))
-
     bytes-turned : (xs ys : List ℕ) → bytes_eq xs ys ≡ bytes_eq ys xs
     bytes-turned [] [] = refl
     bytes-turned [] (y ∷ ys) = refl
     bytes-turned (x ∷ xs) [] = refl
-    bytes-turned (x ∷ xs) (y ∷ ys) = ap (λ b. b && bytes_eq xs ys) (turned x y) ∙ ap (λ b. eqb y x && b) (bytes-turned xs ys)
+    bytes-turned (x ∷ xs) (y ∷ ys) = ap (λ b. b && bytes_eq xs ys) (eqb-comm x y) ∙ ap (λ b. eqb y x && b) (bytes-turned xs ys)
 
 pub owners_same : (n : ℕ) (id : PeerId) (as_ : List Incarnation) → list_all (fits_owner n id) (map owner_of as_) ≡ list_all (agrees n id) as_
 owners_same n id [] = refl
@@ -64,22 +54,16 @@ none_put (l ∷ ls) z = absurd (omega (arith, z))
 
 module _ (H : List Happening) (n at : ℕ) (id : PeerId) (name host : List ℕ) (port : ℕ) (net new : Network) (s : StandsAfter H net) where
   abbrev a : Incarnation
-  a = record { number = starts H + 1; node = n; since = at; settings = settings_of id name host port }
+  a = starting H n at id name host port
 
   abbrev N : List Happening
-  N = Happens (move.Start n at id name host port) None ∷ H
+  N = after_start H n at id name host port
 
   known_later : (b : Incarnation) → IsKnown H b → IsKnown N b
-  known_later b k = nth_more b.number (incarnations H) (a ∷ []) b k
-
-  last : nth (length (incarnations H) + 1) (incarnations N) ≡ Some a
-  last = nth_last (incarnations H) a
+  known_later = known_started H n at id name host port
 
   its_number : length (incarnations H) + 1 ≡ starts H + 1
-  its_number = let e = as_many_starts H in omega (arith, e)
-
-  a_known : IsKnown N a
-  a_known = ap (λ k. nth k (incarnations N)) (sym its_number) ∙ last
+  its_number = number_is H n at id name host port
 
   none_yet : journal a N ≡ []
   none_yet = s.nodes.started.none_yet a (let e = as_many_starts H in omega (arith, e))
@@ -98,8 +82,7 @@ module _ (H : List Happening) (n at : ℕ) (id : PeerId) (name host : List ℕ) 
       where
         by : (nth k (incarnations H) ≡ Some b) ⊎ ((k ≡ length (incarnations H) + 1) × (b ≡ a)) → HasStarted N k b new.started.items
         by (inl z) =
-            let h = s.nodes.started.each k b z in
-            record { number = h.number; row = h.row; there = ap (nth k) rows ∙ nth_more k net.started.items (x ∷ []) h.row h.there; is = record { node = h.is.node; since = h.is.since; id = h.is.id; host = h.is.host; sent = h.is.sent } }
+            start_stays H N known_later k b net.started.items new.started.items (λ r t. ap (nth k) rows ∙ nth_more k net.started.items (x ∷ []) r t) (λ r q. q) (s.nodes.started.each k b z)
         by (inr z) = record {
           number = ap (λ (c : Incarnation). c.number) z.1 ∙ sym its_number ∙ sym z.0;
           row = x;
@@ -110,13 +93,9 @@ module _ (H : List Happening) (n at : ℕ) (id : PeerId) (name host : List ℕ) 
     finds : (k : ℕ) → Finds N k (running k N) (running_at k new.running.items)
     finds k = subst (λ f. Finds N k (running k N) f) (sym (runs k)) (by (eqb k n) refl)
       where
-        later : (o : Option Incarnation) (f : Option ℕ) → Finds H k o f → Finds N k o f
-        later None f z = z
-        later (Some b) f z = (z.0, known_later b z.1, z.2)
-
         by : (t : Bool) → eqb k n ≡ t → Finds N k (cond t (Some a) (running k H)) (cond t (Some (length new.started.items)) (running_at k net.running.items))
-        by true e = (ap (λ m. Some m) (count ∙ its_number), a_known, sym (eqb-true k n e))
-        by false e = later (running k H) (running_at k net.running.items) (s.nodes.runs k)
+        by true e = (ap (λ m. Some m) (count ∙ its_number), starting_known H n at id name host port, sym (eqb-true k n e))
+        by false e = finds_stays H N known_later k (running k H) (running_at k net.running.items) (s.nodes.runs k)
 
     nodes : AreNodes N new
     nodes = record {
@@ -127,7 +106,7 @@ module _ (H : List Happening) (n at : ℕ) (id : PeerId) (name host : List ℕ) 
         none_yet = λ b z. s.nodes.started.none_yet b (let l = length-last (incarnations H) a in omega (arith, l, z));
       };
       runs = finds;
-      owners = owners ∙ ap (λ xs. xs ++ record { node = n; id = id } ∷ []) s.nodes.owners ∙ sym (map-last owner_of (incarnations H) a);
+      owners = owners ∙ ap (λ xs. xs ++ record { node = n; id = id } ∷ []) s.nodes.owners ∙ sym (map-append owner_of (incarnations H) (a ∷ []));
       beacons = beacons ∙ s.nodes.beacons;
       links = links ∙ s.nodes.links;
       known = all_map (λ (r : Route). IsKnown H r.from) (λ (r : Route). IsKnown N r.from) (λ r z. known_later r.from z) (routes H) s.nodes.known;
@@ -143,18 +122,10 @@ module _ (H : List Happening) (n at : ℕ) (id : PeerId) (name host : List ℕ) 
     pub starts_stand : StandsAfter N new
     starts_stand = record {
       nodes = nodes;
-      conns_are = subst (λ ys. AreConns N ys.items) (sym conns_stay) (record { count = s.conns_are.count; each = λ x c e. one x c (s.conns_are.each x c e); silent = silent });
+      conns_are = subst (λ ys. AreConns N ys.items) (sym conns_stay) (record { count = s.conns_are.count; each = λ x c e. conn_stays H N known_later x c net.conns.items net.conns.items (λ y t. t) refl (λ y k f. f) (s.conns_are.each x c e); silent = silent });
       pending_is = pending_stay ∙ s.pending_is ∙ ap (λ ys. sum_by (λ (y : Carrier). length y.waiting) ys.items) (sym conns_stay);
     }
       where
-        one : (x : ℕ) (c : Conn) → HasConn H x c net.conns.items → HasConn N x c net.conns.items
-        one x c h = record {
-          number = h.number;
-          row = h.row;
-          there = h.there;
-          is = record { to = h.is.to; to_known = known_later c.to h.is.to_known; along = h.is.along; along_known = known_later c.along.from h.is.along_known; waits = h.is.waits; fits = h.is.fits };
-        }
-
         silent : (b : Incarnation) → IsKnown N b → (x : ℕ) → length (conns H) < x → bytes x (chronicle_of b N) ≡ []
         silent b k x z = by (nth_cases b.number (incarnations H) a b k)
           where

@@ -2,7 +2,7 @@
 use Rattle.std.proofs.Common.{◌≡◌, ℕ, ◌+◌, ◌<◌, max, Bool, true, false, cond, eqb, List, [], ◌∷◌, ◌++◌, length, map, Option, Some, None, refl, sym, ap, ◌∙◌, subst, arith, eqb-true, eq-eqb, append_assoc}
 use Rattle.std.specs.Prelude.{slice_get, slice_set, sum_by, get_or, take}
 use Rattle.std.specs.List.{cons_option}
-use Rattle.std.proofs.lemmas.List.{take_more}
+use Rattle.std.proofs.lemmas.List.{take_more, map-append}
 use Rattle.std.specs.List.{filter_map, AllByRecursion}
 use Rattle.zre_outside.specs.declared.act.Act.{Act}
 use Rattle.zre_outside.specs.declared.act.Act.TheVariants as act
@@ -28,30 +28,20 @@ use Rattle.zre_net.specs.Running.{IsStarted, HasStarted, AreStarted, Finds, AreN
 use Rattle.zre_net.specs.Said.{said_in, said_at}
 use Rattle.zre_net.specs.Sender.{is_slight}
 use Rattle.zre_net.specs.Sending.{HasSent}
-use Rattle.zre_net.proofs.Listing.{some_one, in_reach, nth_at, nth_reach, nth_same, nth_other, set_length, sum_set, all_more, all_map}
+use Rattle.zre_net.proofs.Listing.{some_one, in_reach, nth_at, nth_reach, nth_same, nth_other, set_length, sum_set, all_more, all_map, past_all}
 use Rattle.zre_net.proofs.Journals.{journal_now, other_journal, chronicle_now, other_chronicle}
-
-map-both : {A B : Type 0} (f : A → B) (xs ys : List A) → map f (xs ++ ys) ≡ map f xs ++ map f ys
-map-both f [] ys = refl
-map-both f (x ∷ xs) ys = ap (λ zs. f x ∷ zs) (map-both f xs ys)
-
-one_first : {B : Type 0} (o : Option B) (xs ys : List B) → cons_option o (xs ++ ys) ≡ cons_option o xs ++ ys
-one_first None xs ys = refl
-one_first (Some z) xs ys = refl
-
-pub filter_map-both : {A B : Type 0} (f : A → Option B) (xs ys : List A) → filter_map f (xs ++ ys) ≡ filter_map f xs ++ filter_map f ys
-filter_map-both f [] ys = refl
-filter_map-both f (x ∷ xs) ys = ap (cons_option (f x)) (filter_map-both f xs ys) ∙ one_first (f x) (filter_map f xs) (filter_map f ys)
+use Rattle.std.proofs.lemmas.List.Elements.{filter_map-append}
+use Rattle.zre_net.proofs.Staying.{start_stays, finds_stays}
 
 -- what one act more brings
 pub one_more : {B : Type 0} (f : Act → Option B) (xs ys zs : List B) (acts : List Act) (i : ℕ) (a : Act) → i < length acts → a ≡ get_or acts i a → ys ≡ xs ++ filter_map f (take i acts) → zs ≡ ys ++ filter_map f (a ∷ []) → zs ≡ xs ++ filter_map f (take (i + 1) acts)
 one_more f xs ys zs acts i a lt is e q =
     q ∙ ap (λ ws. ws ++ filter_map f (a ∷ [])) e ∙ append_assoc xs (filter_map f (take i acts)) (filter_map f (a ∷ []))
-    ∙ ap (λ ws. xs ++ ws) (sym (filter_map-both f (take i acts) (a ∷ [])) ∙ ap (filter_map f) (sym (take_more acts i a lt ∙ ap (λ x. take i acts ++ x ∷ []) (sym is))))
+    ∙ ap (λ ws. xs ++ ws) (sym (filter_map-append f (take i acts) (a ∷ [])) ∙ ap (filter_map f) (sym (take_more acts i a lt ∙ ap (λ x. take i acts ++ x ∷ []) (sym is))))
 
 -- what one event more tells
 pub tell_more : (n : ℕ) (xs ys zs : List (ℕ × Event)) (es : List Event) (e : Event) → ys ≡ xs ++ map (λ x. (n, x)) es → zs ≡ ys ++ (n, e) ∷ [] → zs ≡ xs ++ map (λ x. (n, x)) (es ++ e ∷ [])
-tell_more n xs ys zs es e p q = q ∙ ap (λ ws. ws ++ (n, e) ∷ []) p ∙ append_assoc xs (map (λ x. (n, x)) es) ((n, e) ∷ []) ∙ ap (λ ws. xs ++ ws) (sym (map-both (λ (x : Event). (n, x)) es (e ∷ [])))
+tell_more n xs ys zs es e p q = q ∙ ap (λ ws. ws ++ (n, e) ∷ []) p ∙ append_assoc xs (map (λ x. (n, x)) es) ((n, e) ∷ []) ∙ ap (λ ws. xs ++ ws) (sym (map-append (λ (x : Event). (n, x)) es (e ∷ [])))
 
 -- ---- acts
 
@@ -158,18 +148,8 @@ module _ (H : List Happening) (m : Move) (still : IsStill m) (a : Incarnation) (
               there = ap (nth j) s.written ∙ nth_same j s.place net.started.items s.now (same ∙ s.under) reach;
               is = subst (λ c. IsStarted N' c s.now) who new_row;
             }
-        by false z = record {
-          number = o.number;
-          row = o.row;
-          there = ap (nth j) s.written ∙ nth_other k s.place j net.started.items s.now s.under z ∙ o.there;
-          is = record {
-            node = o.is.node;
-            since = o.is.since;
-            id = o.is.id;
-            host = o.is.host;
-            sent = subst (λ Z. HasSent b.settings Z o.row.sender) (sym (other_journal H m a at i b (ap (λ n. eqb n a.number) o.number ∙ ap (eqb j) is_number ∙ z))) o.is.sent;
-          };
-        }
+        by false z = start_stays H N' known_too j b net.started.items new.started.items (λ x t. ap (nth j) s.written ∙ nth_other k s.place j net.started.items s.now s.under z ∙ t)
+            (λ x q. subst (λ Z. HasSent b.settings Z x.sender) (sym (other_journal H m a at i b (ap (λ n. eqb n a.number) o.number ∙ ap (eqb j) is_number ∙ z))) q) o
 
     started : AreStarted N' new.started.items
     started = record {
@@ -179,22 +159,10 @@ module _ (H : List Happening) (m : Move) (still : IsStill m) (a : Incarnation) (
     }
       where
         later : (b : Incarnation) → length (incarnations N') < b.number → journal b N' ≡ []
-        later b z = other_journal H m a at i b far ∙ nodes.started.none_yet b (let c = ap (λ xs. length xs) stay in omega (arith, c, z))
-          where
-            far : eqb b.number a.number ≡ false
-            far = by (eqb b.number a.number) refl
-              where
-                by : (t : Bool) → eqb b.number a.number ≡ t → t ≡ false
-                by false q = refl
-                by true q =
-                    let same = eqb-true b.number a.number q in
-                    let r = nth_reach k (incarnations H) a there in
-                    let c = ap (λ xs. length xs) stay in
-                    absurd (omega (arith, same, r, c, z, is_number))
-
-    finds : (n : ℕ) (o : Option Incarnation) (f : Option ℕ) → Finds H n o f → Finds N' n o f
-    finds n None f z = z
-    finds n (Some b) f z = (z.0, known_too b z.1, z.2)
+        later b z =
+            let c = ap (λ xs. length xs) stay in
+            let past : length (incarnations H) < b.number = omega (arith, c, z) in
+            other_journal H m a at i b (past_all a.number (incarnations H) a a_known b.number past) ∙ nodes.started.none_yet b past
 
     done_is : s.took.step.acts ≡ acts_of T' H
     done_is = turned.stepped.done
@@ -206,16 +174,16 @@ module _ (H : List Happening) (m : Move) (still : IsStill m) (a : Incarnation) (
     nodes_more = record {
       said = s.said ∙ ap (λ xs. xs ++ map (λ e. (s.took.node, e)) s.took.step.events) nodes.said ∙ ap (λ xs. said_in H ++ xs) told_is;
       started = started;
-      runs = λ n. finds n (running n N') (running_at n new.running.items) (subst (λ o. Finds H n o (running_at n new.running.items)) (sym (still.running_stay (Some T') H n)) (subst (λ r. Finds H n (running n H) (running_at n r.items)) (sym s.running) (nodes.runs n)));
+      runs = λ n. finds_stays H N' known_too n (running n N') (running_at n new.running.items) (subst (λ o. Finds H n o (running_at n new.running.items)) (sym (still.running_stay (Some T') H n)) (subst (λ r. Finds H n (running n H) (running_at n r.items)) (sym s.running) (nodes.runs n)));
       owners = s.owners ∙ nodes.owners ∙ ap (λ xs. map owner_of xs) (sym stay);
       beacons = s.beacons ∙ ap (λ xs. xs ++ filter_map (sent_in s.took.host) s.took.step.acts) nodes.beacons
           ∙ ap (λ h. map sent_of (broadcasts H) ++ filter_map (sent_in h) s.took.step.acts) (s.stays.told_host ∙ old.host)
           ∙ ap (λ xs. map sent_of (broadcasts H) ++ filter_map (sent_in a.settings.host) xs) done_is
-          ∙ ap (λ xs. map sent_of (broadcasts H) ++ xs) (sym (sent_same a (acts_of T' H))) ∙ sym (map-both sent_of (broadcasts H) (filter_map (broadcast_in a) (acts_of T' H)));
+          ∙ ap (λ xs. map sent_of (broadcasts H) ++ xs) (sym (sent_same a (acts_of T' H))) ∙ sym (map-append sent_of (broadcasts H) (filter_map (broadcast_in a) (acts_of T' H)));
       links = s.links ∙ ap (λ xs. xs ++ filter_map (way_in k) s.took.step.acts) nodes.links
           ∙ ap (λ n. map way_of (routes H) ++ filter_map (way_in n) s.took.step.acts) (sym is_number)
           ∙ ap (λ xs. map way_of (routes H) ++ filter_map (way_in a.number) xs) done_is
-          ∙ ap (λ xs. map way_of (routes H) ++ xs) (sym (ways_same a (acts_of T' H))) ∙ sym (map-both way_of (routes H) (filter_map (route_in a) (acts_of T' H)));
+          ∙ ap (λ xs. map way_of (routes H) ++ xs) (sym (ways_same a (acts_of T' H))) ∙ sym (map-append way_of (routes H) (filter_map (route_in a) (acts_of T' H)));
       known = all_more (λ (r : Route). IsKnown N' r.from) (routes H) (filter_map (route_in a) (acts_of T' H))
           (all_map (λ (r : Route). IsKnown H r.from) (λ (r : Route). IsKnown N' r.from) (λ r z. known_too r.from z) (routes H) nodes.known)
           (from_it (λ b. IsKnown N' b) a (known_too a a_known) (acts_of T' H));
