@@ -12,22 +12,23 @@ use Rattle.zre_console.specs.lines.Typing.{unfinished}
 use Rattle.zre_console.specs.reader.Putting.{IsShort}
 use Rattle.zre_console.proofs.lines.Unfinished.{ended-more, ended-last}
 
--- one command more at the front
-with_step : (c : Command) (b r : Bool) (all some : List Command) → (b || r) ≡ true → (r ≡ true → all ≡ some) → c ∷ cond b [] all ≡ c ∷ cond b [] some
-with_step c true r all some is same = refl
-with_step c false r all some is same = ap (λ (cs : List Command). c ∷ cs) (same is)
+-- what holds of no commands, of a quit and what comes after it, and of one more that is no quit, holds of all
+along : (P : List Command → Type 0) → P [] → ((cs : List Command) → P (Quit ∷ cs)) → ((c : Command) (cs : List Command) → is_quit c ≡ false → P cs → P (c ∷ cs)) → (cs : List Command) → P cs
+along P none quit more [] = none
+along P none quit more (Join group ∷ cs) = more (Join group) cs refl (along P none quit more cs)
+along P none quit more (Leave group ∷ cs) = more (Leave group) cs refl (along P none quit more cs)
+along P none quit more (Whisper peer content ∷ cs) = more (Whisper peer content) cs refl (along P none quit more cs)
+along P none quit more (Shout group content ∷ cs) = more (Shout group content) cs refl (along P none quit more cs)
+along P none quit more (Bad line ∷ cs) = more (Bad line) cs refl (along P none quit more cs)
+along P none quit more (Quit ∷ cs) = quit cs
 
 with_quit : (cs ds : List Command) → list_any is_quit cs ≡ true → through_quit (cs ++ ds) ≡ through_quit cs
-with_quit [] ds is = absurd cc
-with_quit (c ∷ cs) ds is = with_step c (is_quit c) (list_any is_quit cs) (through_quit (cs ++ ds)) (through_quit cs) is (λ rest. with_quit cs ds rest)
-
-without_step : (c : Command) (b r : Bool) (all some : List Command) → (b || r) ≡ false → (r ≡ false → all ≡ some) → c ∷ cond b [] all ≡ c ∷ some
-without_step c true r all some isnt same = absurd cc
-without_step c false r all some isnt same = ap (λ (cs : List Command). c ∷ cs) (same isnt)
+with_quit cs ds = along (λ (l : List Command). list_any is_quit l ≡ true → through_quit (l ++ ds) ≡ through_quit l) (λ is. absurd cc) (λ l is. refl)
+    (λ c l plain so is. rw plain (ap (λ (r : List Command). c ∷ r) (so (rw plain at is)))) cs
 
 without_quit : (cs ds : List Command) → list_any is_quit cs ≡ false → through_quit (cs ++ ds) ≡ cs ++ through_quit ds
-without_quit [] ds isnt = refl
-without_quit (c ∷ cs) ds isnt = without_step c (is_quit c) (list_any is_quit cs) (through_quit (cs ++ ds)) (cs ++ through_quit ds) isnt (λ rest. without_quit cs ds rest)
+without_quit cs ds = along (λ (l : List Command). list_any is_quit l ≡ false → through_quit (l ++ ds) ≡ l ++ through_quit ds) (λ none. refl) (λ l none. absurd cc)
+    (λ c l plain so none. rw plain (ap (λ (r : List Command). c ∷ r) (so (rw plain at none)))) cs
 
 -- the orders of a longer text
 orders-more : (o x : List ℕ) → orders (o ++ x) ≡ through_quit (typed o ++ (orders_from (length (lines_in o)) (ended_lines (lines_in (unfinished o ++ x))) ++ Quit ∷ []))
@@ -46,22 +47,10 @@ commands-are_orders o x isnt = orders-more o x ∙ without_quit (typed o) _ isnt
 
 -- a quit after them all comes to be the last
 pub quit-last : (cs : List Command) → through_quit (cs ++ Quit ∷ []) ≡ before_quit cs ++ Quit ∷ []
-quit-last [] = refl
-quit-last (Join group ∷ cs) = ap (λ (r : List Command). Join group ∷ r) (quit-last cs)
-quit-last (Leave group ∷ cs) = ap (λ (r : List Command). Leave group ∷ r) (quit-last cs)
-quit-last (Whisper peer content ∷ cs) = ap (λ (r : List Command). Whisper peer content ∷ r) (quit-last cs)
-quit-last (Shout group content ∷ cs) = ap (λ (r : List Command). Shout group content ∷ r) (quit-last cs)
-quit-last (Bad line ∷ cs) = ap (λ (r : List Command). Bad line ∷ r) (quit-last cs)
-quit-last (Quit ∷ cs) = refl
+quit-last = along (λ (l : List Command). through_quit (l ++ Quit ∷ []) ≡ before_quit l ++ Quit ∷ []) refl (λ l. refl) (λ c l plain so. rw plain (ap (λ (r : List Command). c ∷ r) so))
 
 pub none-before : (cs : List Command) → list_any is_quit (before_quit cs) ≡ false
-none-before [] = refl
-none-before (Join group ∷ cs) = none-before cs
-none-before (Leave group ∷ cs) = none-before cs
-none-before (Whisper peer content ∷ cs) = none-before cs
-none-before (Shout group content ∷ cs) = none-before cs
-none-before (Bad line ∷ cs) = none-before cs
-none-before (Quit ∷ cs) = refl
+none-before = along (λ (l : List Command). list_any is_quit (before_quit l) ≡ false) refl (λ l. refl) (λ c l plain so. rw (plain, plain) so)
 
 pub orders-begin : (o : List ℕ) (front others : List Command) → orders_from 1 (ended_lines (lines_in o)) ≡ front ++ others → list_any is_quit front ≡ false → Begins front o
 orders-begin o front others e none = record {
@@ -119,35 +108,18 @@ last-quits o front c e none is =
 
 -- ---- without the quit
 
-right-false : (a b : Bool) → (a || b) ≡ false → b ≡ false
-right-false true b e = absurd cc
-right-false false b e = e
-
 -- what stands before a quit that is the first
 pub before-one : (front : List Command) (c : Command) (others : List Command) → list_any is_quit front ≡ false → is_quit c ≡ true → before_quit (front ++ (c ∷ others)) ≡ front
-before-one [] c others none is = ap (λ (b : Bool). cond b [] (c ∷ before_quit others)) is
-before-one (d ∷ ds) c others none is =
-    ap (λ (b : Bool). cond b [] (d ∷ before_quit (ds ++ (c ∷ others)))) (left-false (is_quit d) (list_any is_quit ds) none)
-    ∙ ap (λ (cs : List Command). d ∷ cs) (before-one ds c others (right-false (is_quit d) (list_any is_quit ds) none) is)
+before-one front c others none is = along (λ (l : List Command). list_any is_quit l ≡ false → before_quit (l ++ (c ∷ others)) ≡ l) (λ _. ap (λ (b : Bool). cond b [] (c ∷ before_quit others)) is) (λ l some. absurd cc)
+    (λ d l plain so rest. rw plain (ap (λ (r : List Command). d ∷ r) (so (rw plain at rest)))) front none
 
 pub before-through : (cs : List Command) → before_quit (through_quit cs) ≡ before_quit cs
-before-through [] = refl
-before-through (Join group ∷ cs) = ap (λ (r : List Command). Join group ∷ r) (before-through cs)
-before-through (Leave group ∷ cs) = ap (λ (r : List Command). Leave group ∷ r) (before-through cs)
-before-through (Whisper peer content ∷ cs) = ap (λ (r : List Command). Whisper peer content ∷ r) (before-through cs)
-before-through (Shout group content ∷ cs) = ap (λ (r : List Command). Shout group content ∷ r) (before-through cs)
-before-through (Bad line ∷ cs) = ap (λ (r : List Command). Bad line ∷ r) (before-through cs)
-before-through (Quit ∷ cs) = refl
+before-through = along (λ (l : List Command). before_quit (through_quit l) ≡ before_quit l) refl (λ l. refl) (λ c l plain so. rw plain (ap (λ (r : List Command). c ∷ r) so))
 
 -- what is before a quit is fewer
 pub quit-short : (cs : List Command) → list_any is_quit cs ≡ true → IsShort (before_quit cs) cs
-quit-short [] is = absurd cc
-quit-short (Join group ∷ cs) is = let r = quit-short cs is in (r.0, r.1, ap (λ (l : List Command). Join group ∷ l) r.2)
-quit-short (Leave group ∷ cs) is = let r = quit-short cs is in (r.0, r.1, ap (λ (l : List Command). Leave group ∷ l) r.2)
-quit-short (Whisper peer content ∷ cs) is = let r = quit-short cs is in (r.0, r.1, ap (λ (l : List Command). Whisper peer content ∷ l) r.2)
-quit-short (Shout group content ∷ cs) is = let r = quit-short cs is in (r.0, r.1, ap (λ (l : List Command). Shout group content ∷ l) r.2)
-quit-short (Bad line ∷ cs) is = let r = quit-short cs is in (r.0, r.1, ap (λ (l : List Command). Bad line ∷ l) r.2)
-quit-short (Quit ∷ cs) is = (Quit, cs, refl)
+quit-short = along (λ (l : List Command). list_any is_quit l ≡ true → IsShort (before_quit l) l) (λ is. absurd cc) (λ l is. (Quit, l, refl))
+    (λ c l plain so is. let r = so (rw plain at is) in rw plain (r.0, r.1, ap (λ (m : List Command). c ∷ m) r.2))
 
 -- what is asked for, and the quit
 pub asked-quits : (o : List ℕ) → orders o ≡ asked false o ++ Quit ∷ []
@@ -165,7 +137,5 @@ asked-typed o is = ap before_quit (ap orders (sym (append-nil o)) ∙ quit-ends 
 
 -- where no line is a quit, all that was typed is asked for
 pub before-none : (cs : List Command) → list_any is_quit cs ≡ false → before_quit cs ≡ cs
-before-none [] none = refl
-before-none (c ∷ cs) none =
-    ap (λ (b : Bool). cond b [] (c ∷ before_quit cs)) (left-false (is_quit c) (list_any is_quit cs) none)
-    ∙ ap (λ (l : List Command). c ∷ l) (before-none cs (right-false (is_quit c) (list_any is_quit cs) none))
+before-none = along (λ (l : List Command). list_any is_quit l ≡ false → before_quit l ≡ l) (λ none. refl) (λ l none. absurd cc)
+    (λ c l plain so none. rw plain (ap (λ (r : List Command). c ∷ r) (so (rw plain at none))))

@@ -1,5 +1,5 @@
 -- What is put of one piece, and of the end.
-use Rattle.std.proofs.Common.{◌≡◌, ℕ, ◌<◌, true, false, List, [], ◌∷◌, ◌++◌, length, Option, refl, sym, ap, ◌∙◌, append_assoc}
+use Rattle.std.proofs.Common.{◌≡◌, ℕ, ◌<◌, true, false, List, [], ◌∷◌, ◌++◌, length, Option, refl, sym, ap, ◌∙◌, subst, append_assoc}
 use Rattle.std.specs.Prelude.{Result, Ok, Err, OnOk, OnErr}
 use Rattle.std.specs.List.{list_any}
 use Rattle.std.proofs.lemmas.List.{append-nil}
@@ -7,9 +7,10 @@ use Rattle.zre_outside.specs.declared.entry.Command.{Command}
 use Rattle.zre_outside.specs.declared.entry.Command.TheVariants.{Quit}
 use Rattle.zre_capture.specs.Journal.{lines_in}
 use Rattle.zre_actor.specs.declared.passes.CallerPass.{CallerPass}
-use Rattle.zre_console.specs.lines.Orders.{is_quit, typed, asked, before_quit, orders_from, ended_lines, Begins}
+use Rattle.zre_console.specs.lines.Orders.{is_quit, typed, before_quit, orders_from, ended_lines, Begins}
 use Rattle.zre_console.specs.lines.Typing.{Typing, Typed, Adds, AddsFront}
 use Rattle.zre_console.proofs.lines.Quits.{quit-found, typed-begin, end-quits, last-quits, before-one}
+use Rattle.zre_console.specs.declared.reader.ending.InputEnd.TheVariants as ends
 use Rattle.zre_console.specs.declared.reader.reading.Next.{Next}
 use Rattle.zre_console.specs.declared.reader.reading.Next.TheVariants as nexts
 use Rattle.zre_console.specs.reader.Putting.{Puts, PutsQuit, PutsFront}
@@ -18,14 +19,14 @@ use Rattle.zre_console.proofs.reader.Puts.{puts-none, none-append, none-one}
 
 -- ---- a piece
 
-pub front-fed : {T E : Type 0} (A : Type 0) (r : Result T E) (o piece : List ℕ) (old new : List Command) → OnOk r (A × Adds o piece old new) → OnErr r (AddsFront o piece old new) → AddsFront o piece old new
-front-fed A (Ok value) o piece old new p q = record {
+fed-front : {T E : Type 0} (A : Type 0) (r : Result T E) (o piece : List ℕ) (old new : List Command) → OnOk r (A × Adds o piece old new) → OnErr r (AddsFront o piece old new) → AddsFront o piece old new
+fed-front A (Ok value) o piece old new p q = record {
   commands = p.1.commands;
   others = [];
   added = p.1.added;
   more = p.1.more ∙ ap (λ (cs : List Command). typed o ++ cs) (sym (append-nil p.1.commands));
 }
-front-fed A (Err e) o piece old new p q = q
+fed-front A (Err e) o piece old new p q = q
 
 regroup : (a front rest others : List Command) → a ++ ((front ++ rest) ++ others) ≡ (a ++ front) ++ (rest ++ others)
 regroup a front rest others = ap (λ (l : List Command). a ++ l) (append_assoc front rest others) ∙ sym (append_assoc a front (rest ++ others))
@@ -35,37 +36,38 @@ split : (o piece : List ℕ) (commands front rest : List Command) → (f : AddsF
 split o piece commands front rest f e =
     f.more ∙ ap (λ (cs : List Command). typed o ++ (cs ++ f.others)) (sym f.added ∙ e) ∙ regroup (typed o) front rest f.others
 
-pub took-quit : (o piece : List ℕ) (commands : List Command) (a b : CallerPass) → AddsFront o piece [] commands → list_any is_quit (typed o) ≡ false → PutsQuit a b commands
-    → (list_any is_quit (typed (o ++ piece)) ≡ true) × PutsAsked a b o (o ++ piece)
-took-quit o piece commands a b f none q =
-    let plain = none-append (typed o) q.front none q.none in
-    let found = quit-found (o ++ piece) (typed o ++ q.front) q.last (q.rest ++ f.others) (split o piece commands q.front (q.last ∷ q.rest) f q.parts) plain q.quits in
-    (found.0, (q.front, q.puts, sym (ap before_quit found.1 ∙ before-one (typed o ++ q.front) q.last [] plain q.quits)))
+-- a front of the commands that a piece finishes was put, after those that stood before
+module _ {T E : Type 0} (A : Type 0) (r : Result T E) (o piece : List ℕ) (old commands : List Command) (ok : OnOk r (A × Adds o piece old commands)) (err : OnErr r (AddsFront o piece old commands)) (first : old ≡ [])
+    (none : list_any is_quit (typed o) ≡ false) (a b : CallerPass) where
+  f : AddsFront o piece [] commands
+  f = subst (λ (l : List Command). AddsFront o piece l commands) first (fed-front A r o piece old commands ok err)
 
--- a front of its commands, after those that stood before, begins the orders
-part-begins : (o piece : List ℕ) (commands front rest : List Command) → AddsFront o piece [] commands → list_any is_quit (typed o) ≡ false → commands ≡ front ++ rest → list_any is_quit front ≡ false
-    → Begins (typed o ++ front) (o ++ piece)
-part-begins o piece commands front rest f none e plain =
-    typed-begin (o ++ piece) (typed o ++ front) (rest ++ f.others) (split o piece commands front rest f e) (none-append (typed o) front none plain)
+  -- it begins the orders
+  part-begins : (front rest : List Command) → commands ≡ front ++ rest → list_any is_quit front ≡ false → Begins (typed o ++ front) (o ++ piece)
+  part-begins front rest e plain = typed-begin (o ++ piece) (typed o ++ front) (rest ++ f.others) (split o piece commands front rest f e) (none-append (typed o) front none plain)
 
-pub took-front : (o piece : List ℕ) (commands : List Command) (a b : CallerPass) → AddsFront o piece [] commands → list_any is_quit (typed o) ≡ false → PutsFront a b commands
-    → PutsShort a b o (o ++ piece)
-took-front o piece commands a b f none q = (
-  q.front,
-  q.puts,
-  part-begins o piece commands q.front (q.next ∷ q.rest) f none q.parts q.none,
-  (q.next, q.rest ++ f.others, split o piece commands q.front (q.next ∷ q.rest) f q.parts),
-)
+  pub took-quit : PutsQuit a b commands → (list_any is_quit (typed (o ++ piece)) ≡ true) × PutsAsked a b o (o ++ piece)
+  took-quit (q, quits) =
+      let plain = none-append (typed o) q.front none q.none in
+      let found = quit-found (o ++ piece) (typed o ++ q.front) q.next (q.rest ++ f.others) (split o piece commands q.front (q.next ∷ q.rest) f q.parts) plain quits in
+      (found.0, (q.front, q.puts, sym (ap before_quit found.1 ∙ before-one (typed o ++ q.front) q.next [] plain quits)))
 
--- all of them were put
-pub took-some : (o piece : List ℕ) (commands : List Command) (a b : CallerPass) → AddsFront o piece [] commands → list_any is_quit (typed o) ≡ false → Puts a b commands
-    → list_any is_quit commands ≡ false → PutsPart a b o (o ++ piece)
-took-some o piece commands a b f none p plain = (
-  commands,
-  p,
-  part-begins o piece commands commands [] f none (sym (append-nil commands)) plain,
-  (f.others, sym (split o piece commands commands [] f (sym (append-nil commands)))),
-)
+  pub took-front : PutsFront a b commands → PutsShort a b o (o ++ piece)
+  took-front q = (
+    q.front,
+    q.puts,
+    part-begins q.front (q.next ∷ q.rest) q.parts q.none,
+    (q.next, q.rest ++ f.others, split o piece commands q.front (q.next ∷ q.rest) f q.parts),
+  )
+
+  -- all of them were put
+  pub took-some : Puts a b commands × (list_any is_quit commands ≡ false) → PutsPart a b o (o ++ piece)
+  took-some (p, plain) = (
+    commands,
+    p,
+    part-begins commands [] (sym (append-nil commands)) plain,
+    (f.others, sym (split o piece commands commands [] f (sym (append-nil commands)))),
+  )
 
 pub took-all_of : (o piece : List ℕ) (t : Typing) (commands : List Command) (a b : CallerPass) → Typed (o ++ piece) t × Adds o piece [] commands → list_any is_quit (typed o) ≡ false → Puts a b commands
     → list_any is_quit commands ≡ false → Typed (o ++ piece) t × (list_any is_quit (typed (o ++ piece)) ≡ false) × PutsTyped a b o (o ++ piece)
@@ -76,11 +78,13 @@ took-all_of o piece t commands a b fed none p q =
 -- a piece that was read is a turn
 pub turned : (next : Next) (t : Typing) (o piece : List ℕ) (left : Option (List ℕ)) (a b : CallerPass) (read : Type 0) → 0 < length piece → Took next t o piece a b → Turned next t o piece left a b read
 turned nexts.Go t o piece left a b read some took = (some, took)
-turned nexts.Quit t o piece left a b read some took = took
-turned nexts.Over t o piece left a b read some took = took
-turned nexts.OutOfMemory t o piece left a b read some took = took
-turned nexts.End t o piece left a b read some took = absurd took
-turned nexts.ReadFault t o piece left a b read some took = absurd took
+turned nexts.Finish t o piece left a b read some took = absurd took
+turned (nexts.End ends.Quit) t o piece left a b read some took = took
+turned (nexts.End ends.Over) t o piece left a b read some took = took
+turned (nexts.End ends.OutOfMemory) t o piece left a b read some took = took
+turned (nexts.End ends.AtEnd) t o piece left a b read some took = absurd took
+turned (nexts.End ends.ReadFault) t o piece left a b read some took = absurd took
+turned (nexts.End ends.TooLong) t o piece left a b read some took = absurd took
 
 -- ---- the end
 

@@ -47,20 +47,7 @@ none-append xs ys e f = list_any-append is_quit xs ys ∙ or-false (list_any is_
 pub none-one : (c : Command) → is_quit c ≡ false → list_any is_quit (c ∷ []) ≡ false
 none-one c e = or-false (is_quit c) false e refl
 
--- a quit came after others, and isn't put
-pub put-quit : (a b c : CallerPass) (all front rest : List Command) (last : Command) → all ≡ front ++ (last ∷ rest) → list_any is_quit front ≡ false
-    → Puts a b front → Puts b c [] → is_quit last ≡ true → PutsQuit a c all
-put-quit a b c all front rest last e none p q is = record {
-  front = front;
-  last = last;
-  rest = rest;
-  parts = e;
-  none = none;
-  quits = is;
-  puts = let all_put : Puts a c (front ++ []) = puts-then a b c front [] p q in rw (append-nil front) at all_put;
-}
-
--- nothing was put after them, though there are more
+-- nothing was put after these, though there are more
 pub put-front : (a b c : CallerPass) (all front rest : List Command) (next : Command) → all ≡ front ++ (next ∷ rest) → list_any is_quit front ≡ false → Puts a b front → Puts b c [] → PutsFront a c all
 put-front a b c all front rest next e none p q = record {
   front = front;
@@ -70,6 +57,12 @@ put-front a b c all front rest next e none p q = record {
   none = none;
   puts = let all_put : Puts a c (front ++ []) = puts-then a b c front [] p q in rw (append-nil front) at all_put;
 }
+
+-- for the next is a quit, which isn't put
+pub put-quit : (a b c : CallerPass) (all front rest : List Command) (last : Command) → all ≡ front ++ (last ∷ rest) → list_any is_quit front ≡ false
+    → Puts a b front → Puts b c [] → is_quit last ≡ true → PutsQuit a c all
+unfolding put-front
+put-quit a b c all front rest last e none p q is = (put-front a b c all front rest last e none p q, is)
 
 pub took-all : (given taken left : List Command) (n : ℕ) → given ≡ taken ++ left → n ≡ length left → n ≡ 0 → taken ≡ given
 took-all given taken [] n is long none = sym (append-nil taken) ∙ sym is

@@ -1,5 +1,5 @@
 -- How far a reader has come.
-use Rattle.std.proofs.Common.{◌≡◌, ◌⊎◌, ℕ, ◌+◌, ◌<◌, ◌≤◌, true, false, List, [], ◌∷◌, ◌++◌, length, Option, refl, sym, ap, ◌∙◌, subst, arith}
+use Rattle.std.proofs.Common.{◌≡◌, ◌⊎◌, ℕ, ◌+◌, ◌<◌, ◌≤◌, false, List, [], ◌∷◌, ◌++◌, length, Option, refl, sym, ap, ◌∙◌, subst, arith}
 use Rattle.std.specs.List.{list_any}
 use mathlib.Core.Logic.{inl, inr}
 use Rattle.std.specs.Io.KnownBytes.{IsAtEnd}
@@ -7,16 +7,17 @@ use Rattle.std.proofs.lemmas.List.{append-nil}
 use Rattle.zre_outside.specs.declared.entry.Command.{Command}
 use Rattle.zre_outside.specs.Told.{Moves}
 use Rattle.zre_actor.specs.declared.passes.CallerPass.{CallerPass}
-use Rattle.zre_console.specs.lines.Orders.{is_quit, typed, orders, asked, before_quit, Begins}
+use Rattle.zre_console.specs.lines.Orders.{is_quit, typed, orders, asked, Begins}
 use Rattle.zre_console.specs.lines.Typing.{Typing, Typed}
 use Rattle.zre_commands.proofs.pump.Reach.{Moves-nil, Moves-trans, counted_more}
 use Rattle.zre_console.proofs.lines.Quits.{typed-begin, asked-quits, asked-begins, asked-typed, quit-short}
 use Rattle.zre_console.specs.declared.reader.ending.InputEnd.{InputEnd}
 use Rattle.zre_console.specs.declared.reader.ending.InputEnd.TheVariants as ends
+use Rattle.zre_console.specs.declared.reader.reading.Next.TheVariants as nexts
 use Rattle.zre_outside.specs.declared.entry.Command.TheVariants.{Quit}
 use Rattle.zre_console.specs.reader.Putting.{Puts, Closes, IsShort}
 use Rattle.zre_console.specs.reader.Reading.{BreaksOff, HasRead, HasReadLines, Outcome, LinesOutcome}
-use Rattle.zre_console.specs.reader.Turning.{PutsTyped, PutsAsked, PutsShort, PutsPart, Finishes, Quits, Closing}
+use Rattle.zre_console.specs.reader.Turning.{PutsTyped, Turned, Finishes, Closing}
 use Rattle.zre_console.proofs.reader.Puts.{puts-none, puts-then}
 
 -- some octets were taken, so many; they were typed, no line is a quit, and their commands were put
@@ -56,108 +57,64 @@ goes-on s t a b c l l' l'' k k' k'' count read piece r long moves took = record 
 
 module _ (t : Typing) (a b : CallerPass) (l l' k k' : Option (List ℕ)) (count : ℕ) (r : Reached t a b l l' k k' count) (limit : ℕ) where
   -- nothing was put since
-  pub over-now : (read : Type 0) → count < limit → HasReadLines ends.Over limit a b l l' k k' read
-  over-now read within = record {
+  stays : (end : InputEnd) (l'' k'' : Option (List ℕ)) (read : Type 0) → Moves l l'' k k'' r.octets → count ≤ limit → LinesOutcome end limit (typed r.octets) r.octets l'' read → HasReadLines end limit a b l l'' k k'' read
+  stays end l'' k'' read moves within is = record {
     octets = r.octets;
-    moved = r.moved;
+    moved = moves;
     within = omega (arith, r.counted, within);
     commands = typed r.octets;
     puts = r.puts;
-    outcome = (typed-begin r.octets (typed r.octets) [] (sym (append-nil (typed r.octets))) r.going, ([], append-nil (typed r.octets)), inr (inl (omega (arith, r.counted, within))));
+    outcome = is;
   }
+
+  pub over-now : (read : Type 0) → count < limit → HasReadLines ends.Over limit a b l l' k k' read
+  over-now read within = stays ends.Over l' k' read r.moved (omega (arith, within))
+      (typed-begin r.octets (typed r.octets) [] (sym (append-nil (typed r.octets))) r.going, ([], append-nil (typed r.octets)), inr (inl (omega (arith, r.counted, within))))
 
   pub too-long : (read : Type 0) → count ≡ limit → HasReadLines ends.TooLong limit a b l l' k k' read
-  too-long read all = record {
-    octets = r.octets;
-    moved = r.moved;
-    within = omega (arith, r.counted, all);
-    commands = typed r.octets;
-    puts = r.puts;
-    outcome = (r.counted ∙ all, r.going, refl);
-  }
+  too-long read all = stays ends.TooLong l' k' read r.moved (omega (arith, all)) (r.counted ∙ all, r.going, refl)
 
-  -- the source told no more octets
-  module _ (l'' k'' : Option (List ℕ)) (piece : List ℕ) (moves : Moves l' l'' k' k'' piece) where
+  module _ (l'' k'' : Option (List ℕ)) (piece : List ℕ) (moves : Moves l' l'' k' k'' piece) (c : CallerPass) (read : Type 0) where
+    moved : Moves l l'' k k'' (r.octets ++ piece)
+    moved = Moves-trans l l' l'' k k' k'' r.octets piece r.moved moves
+
+    -- the source told no more octets
     moved-same : piece ≡ [] → Moves l l'' k k'' r.octets
-    moved-same none = subst (Moves l l'' k k'') (ap (λ (p : List ℕ). r.octets ++ p) none ∙ append-nil r.octets) (Moves-trans l l' l'' k k' k'' r.octets piece r.moved moves)
+    moved-same none = subst (Moves l l'' k k'') (ap (λ (p : List ℕ). r.octets ++ p) none ∙ append-nil r.octets) moved
 
-    pub read-failed : (c : CallerPass) (read : Type 0) → piece ≡ [] → read → count < limit → c ≡ b → HasReadLines ends.ReadFault limit a c l l'' k k'' read
-    read-failed c read none fault within same = record {
-      octets = r.octets;
-      moved = moved-same none;
-      within = omega (arith, r.counted, within);
-      commands = typed r.octets;
-      puts = subst (λ (p : CallerPass). Puts a p (typed r.octets)) (sym same) r.puts;
-      outcome = (fault, omega (arith, r.counted, within), r.going, refl);
+    -- more was put
+    puts-more : (end : InputEnd) (octets : List ℕ) (tail : List Command) → Moves l l'' k k'' octets → length octets ≤ limit → Puts b c tail → LinesOutcome end limit (typed r.octets ++ tail) octets l'' read → HasReadLines end limit a c l l'' k k'' read
+    puts-more end octets tail moves within p is = record {
+      octets = octets;
+      moved = moves;
+      within = within;
+      commands = typed r.octets ++ tail;
+      puts = puts-then a b c (typed r.octets) tail r.puts p;
+      outcome = is;
     }
 
-    pub finished : (end : InputEnd) (c : CallerPass) (read : Type 0) → piece ≡ [] → IsAtEnd l'' → count < limit → Finishes end r.octets b c → HasReadLines end limit a c l l'' k k'' read
-    finished ends.AtEnd c read none at within f = record {
-      octets = r.octets;
-      moved = moved-same none;
-      within = omega (arith, r.counted, within);
-      commands = typed r.octets ++ f.0;
-      puts = puts-then a b c (typed r.octets) f.0 r.puts f.1;
-      outcome = (at, omega (arith, r.counted, within), f.2);
-    }
-    finished ends.Over c read none at within f = record {
-      octets = r.octets;
-      moved = moved-same none;
-      within = omega (arith, r.counted, within);
-      commands = typed r.octets ++ f.0;
-      puts = puts-then a b c (typed r.octets) f.0 r.puts f.1;
-      outcome = (f.2, f.3, inr (inl (omega (arith, r.counted, within))));
-    }
-    finished ends.OutOfMemory c read none at within f = record {
-      octets = r.octets;
-      moved = moved-same none;
-      within = omega (arith, r.counted, within);
-      commands = typed r.octets ++ f.0;
-      puts = puts-then a b c (typed r.octets) f.0 r.puts f.1;
-      outcome = (f.2, f.3);
-    }
-    finished ends.Quit c read none at within f = absurd f
-    finished ends.ReadFault c read none at within f = absurd f
-    finished ends.TooLong c read none at within f = absurd f
-
-    -- a piece more was taken
-    moved-more : Moves l l'' k k'' (r.octets ++ piece)
-    moved-more = Moves-trans l l' l'' k k' k'' r.octets piece r.moved moves
+    pub finished : (end : InputEnd) → piece ≡ [] → IsAtEnd l'' → count < limit → Finishes end r.octets b c → HasReadLines end limit a c l l'' k k'' read
+    finished ends.AtEnd none at less f = puts-more ends.AtEnd r.octets f.0 (moved-same none) (omega (arith, r.counted, less)) f.1 (at, omega (arith, r.counted, less), f.2)
+    finished ends.Over none at less f = puts-more ends.Over r.octets f.0 (moved-same none) (omega (arith, r.counted, less)) f.1 (f.2, f.3, inr (inl (omega (arith, r.counted, less))))
+    finished ends.OutOfMemory none at less f = puts-more ends.OutOfMemory r.octets f.0 (moved-same none) (omega (arith, r.counted, less)) f.1 (f.2, f.3)
+    finished ends.Quit none at less f = absurd f
+    finished ends.ReadFault none at less f = absurd f
+    finished ends.TooLong none at less f = absurd f
 
     within-more : (size : ℕ) → length piece ≡ size → count + size ≤ limit → length (r.octets ++ piece) ≤ limit
     within-more size long within = omega (arith, counted_more r.octets piece count size r.counted long, within)
 
-    pub quit-now : (c : CallerPass) (read : Type 0) (size : ℕ) → length piece ≡ size → count + size ≤ limit
-        → (list_any is_quit (typed (r.octets ++ piece)) ≡ true) × PutsAsked b c r.octets (r.octets ++ piece) → HasReadLines ends.Quit limit a c l l'' k k'' read
-    quit-now c read size long within took = record {
-      octets = r.octets ++ piece;
-      moved = moved-more;
-      within = within-more size long within;
-      commands = typed r.octets ++ took.1.0;
-      puts = puts-then a b c (typed r.octets) took.1.0 r.puts took.1.1;
-      outcome = (took.0, took.1.2);
-    }
-
-    pub over-amid : (c : CallerPass) (read : Type 0) (size : ℕ) → length piece ≡ size → count + size ≤ limit → PutsShort b c r.octets (r.octets ++ piece) → HasReadLines ends.Over limit a c l l'' k k'' read
-    over-amid c read size long within took = record {
-      octets = r.octets ++ piece;
-      moved = moved-more;
-      within = within-more size long within;
-      commands = typed r.octets ++ took.0;
-      puts = puts-then a b c (typed r.octets) took.0 r.puts took.1;
-      outcome = (took.2, (took.3.0 ∷ took.3.1, sym took.3.2), inr (inr took.3));
-    }
-
-    pub memory-amid : (c : CallerPass) (read : Type 0) (size : ℕ) → length piece ≡ size → count + size ≤ limit → PutsPart b c r.octets (r.octets ++ piece)
-        → HasReadLines ends.OutOfMemory limit a c l l'' k k'' read
-    memory-amid c read size long within took = record {
-      octets = r.octets ++ piece;
-      moved = moved-more;
-      within = within-more size long within;
-      commands = typed r.octets ++ took.0;
-      puts = puts-then a b c (typed r.octets) took.0 r.puts took.1;
-      outcome = (took.2, took.3);
-    }
+    -- a turn was the last; what is known of its read is known of the whole
+    pub ended-turn : (end : InputEnd) (s : Typing) (now : Type 0) (size : ℕ) → (now → read) → length piece ≡ size → count + size ≤ limit → count < limit → Turned (nexts.End end) s r.octets piece l'' b c now → HasReadLines end limit a c l l'' k k'' read
+    ended-turn ends.Quit s now size known long within less took = puts-more ends.Quit (r.octets ++ piece) took.1.0 moved (within-more size long within) took.1.1 (took.0, took.1.2)
+    ended-turn ends.Over s now size known long within less took =
+        puts-more ends.Over (r.octets ++ piece) took.0 moved (within-more size long within) took.1 (took.2, (took.3.0 ∷ took.3.1, sym took.3.2), inr (inr took.3))
+    ended-turn ends.OutOfMemory s now size known long within less took = puts-more ends.OutOfMemory (r.octets ++ piece) took.0 moved (within-more size long within) took.1 (took.2, took.3)
+    ended-turn ends.ReadFault s now size known long within less took =
+        subst (λ (p : CallerPass). HasReadLines ends.ReadFault limit a p l l'' k k'' read) (sym took.2)
+        (stays ends.ReadFault l'' k'' read (moved-same took.0) (omega (arith, less)) (known took.1, omega (arith, r.counted, less), r.going, refl))
+    ended-turn ends.AtEnd s now size known long within less took = absurd took
+    ended-turn ends.TooLong s now size known long within less took = absurd took
 
 -- memory ran out at the start
 pub memory-first : (a : CallerPass) (l k : Option (List ℕ)) (limit : ℕ) (read : Type 0) → HasReadLines ends.OutOfMemory limit a a l l k k read

@@ -34,16 +34,6 @@ Sends sents.On old new command = Puts old new (command ∷ []) × (is_quit comma
 Sends sents.Quit old new command = Puts old new [] × (is_quit command ≡ true)
 Sends sents.Over old new command = Puts old new []
 
--- commands were put up to the first quit, and without it
-pub record PutsQuit (old new : CallerPass) (commands : List Command) : Type 0 where
-  pub front : List Command
-  pub last : Command
-  pub rest : List Command
-  pub parts : commands ≡ front ++ (last ∷ rest)
-  pub none : list_any is_quit front ≡ false
-  pub quits : is_quit last ≡ true
-  pub puts : Puts old new front
-
 -- some commands were put, but not all of them, and no quit
 pub record PutsFront (old new : CallerPass) (commands : List Command) : Type 0 where
   pub front : List Command
@@ -52,6 +42,10 @@ pub record PutsFront (old new : CallerPass) (commands : List Command) : Type 0 w
   pub parts : commands ≡ front ++ (next ∷ rest)
   pub none : list_any is_quit front ≡ false
   pub puts : Puts old new front
+
+-- commands were put up to the first quit, and without it
+abbrev pub PutsQuit : CallerPass → CallerPass → List Command → Type 0
+PutsQuit old new commands = (f : PutsFront old new commands) × (is_quit f.next ≡ true)
 
 -- what became of some commands
 abbrev pub SendsAll : Sent → CallerPass → CallerPass → List Command → Type 0

@@ -39,21 +39,22 @@ PutsShort old new o longer =
 abbrev pub Took : Next → (t : Typing) (o piece : List ℕ) (old new : CallerPass) → Type 0
 Took nexts.Go t o piece old new =
     Typed (o ++ piece) t × (list_any is_quit (typed (o ++ piece)) ≡ false) × PutsTyped old new o (o ++ piece)
-Took nexts.Quit t o piece old new = (list_any is_quit (typed (o ++ piece)) ≡ true) × PutsAsked old new o (o ++ piece)
-Took nexts.Over t o piece old new = PutsShort old new o (o ++ piece)
-Took nexts.OutOfMemory t o piece old new = PutsPart old new o (o ++ piece)
-Took nexts.End t o piece old new = ⊥
-Took nexts.ReadFault t o piece old new = ⊥
+Took nexts.Finish t o piece old new = ⊥
+Took (nexts.End ends.Quit) t o piece old new =
+    (list_any is_quit (typed (o ++ piece)) ≡ true) × PutsAsked old new o (o ++ piece)
+Took (nexts.End ends.Over) t o piece old new = PutsShort old new o (o ++ piece)
+Took (nexts.End ends.OutOfMemory) t o piece old new = PutsPart old new o (o ++ piece)
+Took (nexts.End ends.AtEnd) t o piece old new = ⊥
+Took (nexts.End ends.ReadFault) t o piece old new = ⊥
+Took (nexts.End ends.TooLong) t o piece old new = ⊥
 
--- one turn after o, in which a piece was read
+-- one turn after o: a piece was read, the input was at its end, or the source failed
 abbrev pub Turned : Next
     → (t : Typing) (o piece : List ℕ) (left : Option (List ℕ)) (old new : CallerPass) (read : Type 0) → Type 0
 Turned nexts.Go t o piece left old new read = (0 < length piece) × Took nexts.Go t o piece old new
-Turned nexts.Quit t o piece left old new read = Took nexts.Quit t o piece old new
-Turned nexts.Over t o piece left old new read = Took nexts.Over t o piece old new
-Turned nexts.OutOfMemory t o piece left old new read = Took nexts.OutOfMemory t o piece old new
-Turned nexts.End t o piece left old new read = Typed o t × (piece ≡ []) × IsAtEnd left × (new ≡ old)
-Turned nexts.ReadFault t o piece left old new read = (piece ≡ []) × read × (new ≡ old)
+Turned nexts.Finish t o piece left old new read = Typed o t × (piece ≡ []) × IsAtEnd left × (new ≡ old)
+Turned (nexts.End ends.ReadFault) t o piece left old new read = (piece ≡ []) × read × (new ≡ old)
+Turned (nexts.End end) t o piece left old new read = Took (nexts.End end) t o piece old new
 
 -- the end of the input o, whose typed commands were put
 abbrev pub Finishes : InputEnd → (o : List ℕ) (old new : CallerPass) → Type 0

@@ -4,7 +4,7 @@ ghost use Rattle.std.specs.Arc.{arc_value};
 ghost use Rattle.zre_actor.specs.Passes.{IsCallerOf};
 
 use crate::reader::InputEnd;
-use crate::reader::reading::read_all;
+use crate::reader::reading::{end_reading, read_lines};
 use std::alloc::Global;
 use std::sync::atomic::AtomicBool;
 use std::sync::{Arc, Wait};
@@ -68,7 +68,8 @@ impl<T: Wait + Copy, I: Source + Send + Drop + 'static> Job<T> for ReaderJob<I> 
             mut input,
             limit,
         } = self;
-        let (pass, end) = read_all(rt, alloc, &pipes, &over, pass, &mut input, limit);
+        let (pass, end) = read_lines(rt, alloc, &pipes, &over, pass, &mut input, limit);
+        let (pass, end) = end_reading(rt, &pipes, &over, pass, end);
         ReaderDone { input, pass, end }
     }
 }

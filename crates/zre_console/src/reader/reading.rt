@@ -7,7 +7,7 @@ ghost use Rattle.zre_outside.specs.Told.{Moves};
 ghost use Rattle.zre_actor.specs.Passes.{IsCallerOf};
 ghost use Rattle.zre_console.specs.lines.Orders.{is_quit, typed};
 ghost use Rattle.zre_console.specs.lines.Typing.{Typed};
-ghost use Rattle.zre_console.specs.reader.Reading.{HasRead, HasReadLines};
+ghost use Rattle.zre_console.specs.reader.Reading.{HasReadLines};
 ghost use Rattle.zre_console.specs.reader.Turning.{Took, Turned, Finishes, Closing};
 
 use crate::lines::Typist;
@@ -19,18 +19,18 @@ use std::sync::atomic::{AtomicBool, Ordering};
 use zre_actor::{CallerPass, Pipes};
 use zre_outside::{Failed, PIECE, Source, room_for, zeros};
 
-/// How a turn ended.
+/// What comes after a turn.
 #[derive(Clone, Copy)]
 enum Next {
+    /// The next one.
     Go,
-    Quit,
-    End,
-    Over,
-    ReadFault,
-    OutOfMemory,
+    /// The end of the input.
+    Finish,
+    /// Nothing, for this reason.
+    End(InputEnd),
 }
 
-/// One turn: how many octets it read, and how it ended.
+/// One turn: how many octets it read, and what comes after it.
 #[derive(Drop)]
 struct Turn {
     read: usize,
@@ -57,11 +57,11 @@ fn take_piece<R: Wait + Copy>(
     let fed = typist.feed(piece, &mut commands);
     let (pass, sent) = put_all(rt, pipes, over, pass, commands);
     match sent {
-        Sent::Quit => (pass, Next::Quit),
-        Sent::Over => (pass, Next::Over),
+        Sent::Quit => (pass, Next::End(InputEnd::Quit)),
+        Sent::Over => (pass, Next::End(InputEnd::Over)),
         Sent::On => match fed {
             Ok(()) => (pass, Next::Go),
-            Err(_) => (pass, Next::OutOfMemory),
+            Err(_) => (pass, Next::End(InputEnd::OutOfMemory)),
         },
     }
 }
@@ -94,7 +94,7 @@ fn take_turn<R: Wait + Copy, I: Source>(
             return Turn {
                 read: 0,
                 pass,
-                next: Next::ReadFault,
+                next: Next::End(InputEnd::ReadFault),
             };
         }
     };
@@ -102,7 +102,7 @@ fn take_turn<R: Wait + Copy, I: Source>(
         return Turn {
             read,
             pass,
-            next: Next::End,
+            next: Next::Finish,
         };
     }
     let (pass, next) = take_piece(rt, alloc, pipes, over, typist, pass, &buf[..read]);
@@ -173,18 +173,15 @@ pub fn read_lines<R: Wait + Copy, I: Source>(
         taken += read as u64;
         match next {
             Next::Go => pass = back,
-            Next::Quit => return (back, InputEnd::Quit),
-            Next::End => return finish(rt, pipes, over, &typist, back),
-            Next::Over => return (back, InputEnd::Over),
-            Next::ReadFault => return (back, InputEnd::ReadFault),
-            Next::OutOfMemory => return (back, InputEnd::OutOfMemory),
+            Next::Finish => return finish(rt, pipes, over, &typist, back),
+            Next::End(end) => return (back, end),
         }
     }
     (pass, InputEnd::TooLong)
 }
 
 // Puts the quit at the end of what was read, unless the chat was over.
-fn end_reading<R: Wait + Copy>(
+pub(crate) fn end_reading<R: Wait + Copy>(
     rt: R,
     pipes: &Pipes,
     over: &AtomicBool,
@@ -202,24 +199,4 @@ fn end_reading<R: Wait + Copy>(
             (close(rt, pipes, over, pass), end)
         }
     }
-}
-
-// Reads the source and puts the commands of its lines, up to a limit of octets, and then a quit.
-pub(crate) fn read_all<R: Wait + Copy, I: Source>(
-    rt: R,
-    alloc: Global,
-    pipes: &Pipes,
-    over: &AtomicBool,
-    pass: CallerPass,
-    input: &mut I,
-    limit: u64,
-) -> (CallerPass, InputEnd)
-    requires { IsCallerOf pipes.now pass }
-    ensures pipes { IsCallerOf pipes.now result.0 }
-    ensures read { HasRead result.1 limit pass result.0 (I.left input.old) (I.left input.new) (I.taken input.old)
-        (I.taken input.new) (Rose (I.faults input.old) (I.faults input.new)) }
-    ensures later { I.faults input.old ≤ I.faults input.new }
-{
-    let (pass, end) = read_lines(rt, alloc, pipes, over, pass, input, limit);
-    end_reading(rt, pipes, over, pass, end)
 }

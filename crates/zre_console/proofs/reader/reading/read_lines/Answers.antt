@@ -2,8 +2,7 @@ use Rattle.std.proofs.Common.{◌≡◌, ◌+◌, ◌≤◌, take, subst, arith}
 use Rattle.std.proofs.lemmas.List.{length-take, length-take-le}
 use Rattle.zre_console.specs.reader.Turning.{Finishes}
 use Rattle.zre_commands.proofs.pump.Reach.{Rose-since}
-use Rattle.zre_console.proofs.reader.Reach.{over-now, too-long, read-failed, finished, quit-now, over-amid}
-use Rattle.zre_console.proofs.reader.Reach.{memory-amid, memory-first}
+use Rattle.zre_console.proofs.reader.Reach.{over-now, too-long, finished, ended-turn, memory-first}
 use Rattle.zre_console.proofs.reader.reading.read_lines.Goals as goal
 
 pub returns-in_default-clause-read : goal.returns-in_default-clause-read
@@ -12,51 +11,24 @@ returns-in_default-clause-read g c = memory-first c.args.pass _ _ c.args.limit _
 pub returns-then-load-clause-read : goal.returns-then-load-clause-read
 returns-then-load-clause-read g c = over-now _ _ _ _ _ _ _ _ c.loop-taken.invariant.reached c.args.limit _ c.loop-taken-test.true
 
+pub returns-in-Finish-clause-read : goal.returns-in-Finish-clause-read
+returns-in-Finish-clause-read g c =
+    let reached = c.loop-taken.invariant.reached in
+    let turn = c.take_turn-read in
+    let o = reached.octets in
+    let t = rw c.in-Finish.is at (turn.ensures.turned o reached.known reached.going) in
+    finished _ _ _ _ _ _ _ _ reached c.args.limit _ _ (take turn.result.read turn.new.buf) turn.ensures.moved c.finish.result.0 _ c.finish.result.1 t.1 t.2 c.loop-taken-test.true
+    (subst (λ p. Finishes c.finish.result.1 o p c.finish.result.0) t.3 (c.finish.ensures.finishes o t.0 reached.going))
+
 pub returns-in-End-clause-read : goal.returns-in-End-clause-read
 returns-in-End-clause-read g c =
     let reached = c.loop-taken.invariant.reached in
     let turn = c.take_turn-read in
-    let o = reached.octets in
-    let t = rw c.in-End.is at (turn.ensures.turned o reached.known reached.going) in
-    finished _ _ _ _ _ _ _ _ reached c.args.limit _ _ (take turn.result.read turn.new.buf) turn.ensures.moved c.finish.result.1 c.finish.result.0 _ t.1 t.2 c.loop-taken-test.true
-    (subst (λ p. Finishes c.finish.result.1 o p c.finish.result.0) t.3 (c.finish.ensures.finishes o t.0 reached.going))
-
-pub returns-in-Quit-clause-read : goal.returns-in-Quit-clause-read
-returns-in-Quit-clause-read g c =
-    let reached = c.loop-taken.invariant.reached in
-    let turn = c.take_turn-read in
-    let t = rw c.in-Quit.is at (turn.ensures.turned reached.octets reached.known reached.going) in
+    let t = rw c.in-End.is at (turn.ensures.turned reached.octets reached.known reached.going) in
     let within : c.loop-taken.taken + turn.result.read ≤ c.args.limit =
     omega (arith, turn.ensures.bound, turn.auto.buf, c.room_for-room.ensures.within, length-take c.room_for-room.result c.deref_mut.result.now, c.loop-taken-test.true) in
-    quit-now _ _ _ _ _ _ _ _ reached c.args.limit _ _ (take turn.result.read turn.new.buf) turn.ensures.moved turn.result.pass _ turn.result.read
-    (length-take-le turn.result.read turn.new.buf turn.ensures.bound) within t
-
-pub returns-in-Over-clause-read : goal.returns-in-Over-clause-read
-returns-in-Over-clause-read g c =
-    let reached = c.loop-taken.invariant.reached in
-    let turn = c.take_turn-read in
-    let t = rw c.in-Over.is at (turn.ensures.turned reached.octets reached.known reached.going) in
-    let within : c.loop-taken.taken + turn.result.read ≤ c.args.limit =
-    omega (arith, turn.ensures.bound, turn.auto.buf, c.room_for-room.ensures.within, length-take c.room_for-room.result c.deref_mut.result.now, c.loop-taken-test.true) in
-    over-amid _ _ _ _ _ _ _ _ reached c.args.limit _ _ (take turn.result.read turn.new.buf) turn.ensures.moved turn.result.pass _ turn.result.read
-    (length-take-le turn.result.read turn.new.buf turn.ensures.bound) within t
-
-pub returns-in-ReadFault-clause-read : goal.returns-in-ReadFault-clause-read
-returns-in-ReadFault-clause-read g c =
-    let reached = c.loop-taken.invariant.reached in
-    let turn = c.take_turn-read in
-    let t = rw c.in-ReadFault.is at (turn.ensures.turned reached.octets reached.known reached.going) in
-    read-failed _ _ _ _ _ _ _ _ reached c.args.limit _ _ (take turn.result.read turn.new.buf) turn.ensures.moved turn.result.pass _ t.0 (Rose-since _ _ _ c.loop-taken.invariant.later t.1) c.loop-taken-test.true t.2
-
-pub returns-in-OutOfMemory-clause-read : goal.returns-in-OutOfMemory-clause-read
-returns-in-OutOfMemory-clause-read g c =
-    let reached = c.loop-taken.invariant.reached in
-    let turn = c.take_turn-read in
-    let t = rw c.in-OutOfMemory.is at (turn.ensures.turned reached.octets reached.known reached.going) in
-    let within : c.loop-taken.taken + turn.result.read ≤ c.args.limit =
-    omega (arith, turn.ensures.bound, turn.auto.buf, c.room_for-room.ensures.within, length-take c.room_for-room.result c.deref_mut.result.now, c.loop-taken-test.true) in
-    memory-amid _ _ _ _ _ _ _ _ reached c.args.limit _ _ (take turn.result.read turn.new.buf) turn.ensures.moved turn.result.pass _ turn.result.read
-    (length-take-le turn.result.read turn.new.buf turn.ensures.bound) within t
+    ended-turn _ _ _ _ _ _ _ _ reached c.args.limit _ _ (take turn.result.read turn.new.buf) turn.ensures.moved turn.result.pass _ c.in-End.end _ _ turn.result.read
+    (Rose-since _ _ _ c.loop-taken.invariant.later) (length-take-le turn.result.read turn.new.buf turn.ensures.bound) within c.loop-taken-test.true t
 
 pub returns-clause-read : goal.returns-clause-read
 returns-clause-read g c =
