@@ -1,10 +1,13 @@
 -- Taking messages one after the other.
-use Rattle.std.proofs.Common.{◌≡◌, ◌≢◌, ℕ, ◌+◌, ◌<◌, true, false, cond, Ok, Err, List, [], ◌∷◌, ◌++◌, length, take, drop, get_or, Option, refl, sym, ap, ◌∙◌, subst, append_assoc, true≢false}
+use Rattle.std.proofs.Common.{◌≡◌, ◌≢◌, ℕ, ◌+◌, ◌<◌, Bool, true, false, cond, Result, Ok, Err, List, [], ◌∷◌, ◌++◌, length, take, drop, get_or, Option, refl, sym, ap, ◌∙◌, subst, append_assoc, true≢false}
 use Rattle.std.specs.List.{cons_option}
+use Rattle.std.specs.Result.{result_ok}
 use Rattle.std.proofs.lemmas.List.{append-nil, take-append-drop, take_more}
 use Rattle.std.proofs.lemmas.List.Concat.{flat_map-append}
 use Rattle.zre_values.specs.declared.memory.OutOfMemory.{OutOfMemory}
 use Rattle.zre_values.specs.declared.peer_id.PeerId.{PeerId}
+use Rattle.zre_msg.specs.Reading.{read_frames}
+use Rattle.zre_msg.specs.declared.message.Bad.{Bad}
 use Rattle.zre_msg.specs.declared.message.Message.{Message}
 use Rattle.zre_peer.specs.Lines.{line, lines}
 use Rattle.zre_peer.specs.Runs.{events_of, fault_of, shown}
@@ -18,7 +21,7 @@ use Rattle.zre_peer.specs.declared.view.View.{View}
 use Rattle.zre_zmtp.specs.declared.item.Item.{Item}
 use Rattle.zre_zmtp.specs.declared.item.What.{What}
 use Rattle.zre_zmtp.specs.declared.item.What.TheVariants as says
-use Rattle.zre_commands.specs.follow.Messages.{meant, messages_in}
+use Rattle.zre_commands.specs.follow.Messages.{meant, meant_by, messages_in}
 use Rattle.zre_commands.specs.follow.Runs.{end_of, events_after, is_over}
 use Rattle.zre_commands.specs.follow.Taken.{Handed, Takes, Took}
 use Rattle.zre_commands.proofs.follow.Growing.{events_more, over_more, messages_in-append}
@@ -75,6 +78,10 @@ ends_so was now m fault out out' next memory h e = record {
 pub takes_lost : (e : OutOfMemory) (was now : Run) (ns : List Message) (out out' : List ℕ) → id_of now ≡ id_of was → Takes (Err e) was now ns out out'
 takes_lost e was now ns out out' same = record { took = λ _ _. tt; spent = tt; same = same }
 
+-- the frames mean the message that was taken
+pub takes_meant : (answer : Result Bool OutOfMemory) (was now : Run) (frames : List (List ℕ)) (m : Message) (out out' : List ℕ) → read_frames frames ≡ Ok m → Takes answer was now (m ∷ []) out out' → Takes answer was now (meant_by frames) out out'
+takes_meant answer was now frames m out out' means t = subst (λ (r : Result Message Bad). Takes answer was now (cons_option (result_ok r) []) out out') (sym means) t
+
 -- there was no message
 pub takes_none : (run : Run) (out : List ℕ) (ns : List Message) → is_spent run ≡ false → ns ≡ [] → Takes (Ok true) run run ns out out
 takes_none run out ns going none = record {
@@ -82,6 +89,9 @@ takes_none run out ns going none = record {
   spent = going;
   same = refl;
 }
+
+pub bad_means_none : (frames : List (List ℕ)) (bad : Bad) → read_frames frames ≡ Err bad → meant_by frames ≡ []
+bad_means_none frames bad is = ap (λ (r : Result Message Bad). cons_option (result_ok r) []) is
 
 -- an item that is no message means none
 pub not_meant : (w : What) → ((frames : List (List ℕ)) → w ≡ says.Message frames → ⊥) → cons_option (meant w) [] ≡ []

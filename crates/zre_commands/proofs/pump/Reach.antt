@@ -1,8 +1,8 @@
 -- How far a pump has come: the octets taken so far, whose text is written.
-use Rattle.std.proofs.Common.{◌≡◌, ℕ, ◌+◌, ◌<◌, ◌≤◌, true, false, List, [], ◌++◌, ◌⊎◌, length, Option, refl, sym, ap, ◌∙◌, subst, append_assoc, append-nil, arith, inl, inr, true≢false}
+use Rattle.std.proofs.Common.{◌≡◌, ℕ, ◌+◌, ◌<◌, ◌≤◌, true, false, List, [], ◌++◌, ◌⊎◌, length, take, Option, refl, sym, ap, ◌∙◌, subst, append_assoc, append-nil, arith, inl, inr, true≢false}
 use Rattle.std.specs.Io.KnownBytes.{Appends, IsAtEnd}
 use Rattle.std.proofs.KnownBytes.{Appends-nil, Appends-trans, Appends-kept, Consumes-nil, Consumes-trans}
-use Rattle.std.proofs.lemmas.List.{length-append}
+use Rattle.std.proofs.lemmas.List.{length-append, length-take-le}
 use Rattle.zre_outside.specs.Causes.{Rose}
 use Rattle.zre_outside.specs.Told.{Moves, AppendsFront}
 use Rattle.zre_commands.specs.declared.pump.status.Status.{Status}
@@ -104,7 +104,7 @@ refused statuses.TooLong limit m o left w w' read write write' front rises writt
 refused statuses.DeskFault limit m o left w w' read write write' front rises written f = absurd f
 
 -- after the text for o, the end of the input
-pub finished : (status : Status) (limit : ℕ) (m : Meaning) (o : List ℕ) (left w w' w'' : Option (List ℕ)) (read write write' : Type 0)
+finished : (status : Status) (limit : ℕ) (m : Meaning) (o : List ℕ) (left w w' w'' : Option (List ℕ)) (read write write' : Type 0)
     → (write' → write) → Appends w w' (m.text o) → Ends limit m o left → Finishes status m o w' w'' write' → Outcome status limit m o left w w'' read write
 finished statuses.Done limit m o left w w' w'' read write write' rises p ends f =
     let e = good_end limit m o left ends f.0 in (f.0, e.0, e.1, Appends-trans w w' w'' (m.text o) (m.ending o) p f.1)
@@ -122,7 +122,7 @@ nothing_more : (o piece : List ℕ) → piece ≡ [] → o ++ piece ≡ o
 nothing_more o piece none = ap (λ (x : List ℕ). o ++ x) none ∙ append-nil o
 
 -- a turn after which no more octets are read: the machine was fed the octets so far, which end, and their text was written
-pub ended : (fed : List ℕ → Type 0) (m : Meaning) (limit : ℕ) (o piece : List ℕ) (left w w' w'' : Option (List ℕ))
+ended : (fed : List ℕ → Type 0) (m : Meaning) (limit : ℕ) (o piece : List ℕ) (left w w' w'' : Option (List ℕ))
     → length o < limit → Appends w w' (m.text o) → Turned nexts.Finish fed m o piece left w' w'' (Unit {0}) (Unit {0})
     → fed (o ++ piece) × Ends limit m (o ++ piece) left × Appends w w'' (m.text (o ++ piece))
 ended fed m limit o piece left w w' w'' below p t = elim t [
@@ -133,7 +133,7 @@ ended fed m limit o piece left w w' w'' below p t = elim t [
 ]
 
 -- a turn that fails: this is how the pump ends
-pub failed : (status : Status) (m : Meaning) (limit : ℕ) (o piece : List ℕ) (left w w' w'' : Option (List ℕ)) (read write read' write' : Type 0)
+failed : (status : Status) (m : Meaning) (limit : ℕ) (o piece : List ℕ) (left w w' w'' : Option (List ℕ)) (read write read' write' : Type 0)
     → (read' → read) → (write' → write) → length o < limit → m.is_stopped o ≡ false → Appends w w' (m.text o) → Turned (nexts.Fail status) (λ _. Unit {0}) m o piece left w' w'' read' write'
     → Outcome status limit m (o ++ piece) left w w'' read write
 failed status m limit o piece left w w' w'' read write read' write' reads writes below going p t = elim t [
@@ -144,13 +144,31 @@ failed status m limit o piece left w w' w'' read write read' write' reads writes
       (subst (λ (x : List ℕ). Outcome statuses.ReadFault limit m x left w w'' read write) same (reads e.2, going, below, Appends-kept w w' w'' (m.text o) p e.3))
 ]
 
--- the pump ends after a piece more
-pub pumped_on : (status : Status) (fed : List ℕ → Type 0) (m : Meaning) (limit count read : ℕ) (l l' l'' t t' t'' w w' w'' : Option (List ℕ)) (reads writes : Type 0) (piece : List ℕ)
-    → (r : Reached fed m l l' t t' w w' count) → length piece ≡ read → count + read ≤ limit → Moves l' l'' t' t'' piece → Outcome status limit m (r.octets ++ piece) l'' w w'' reads writes
+-- the pump ends after a piece more, the front of a buffer
+pumped_on : (status : Status) (fed : List ℕ → Type 0) (m : Meaning) (limit count read : ℕ) (buf : List ℕ) (l l' l'' t t' t'' w w' w'' : Option (List ℕ)) (reads writes : Type 0)
+    → (r : Reached fed m l l' t t' w w' count) → read ≤ length buf → count + read ≤ limit → Moves l' l'' t' t'' (take read buf) → Outcome status limit m (r.octets ++ take read buf) l'' w w'' reads writes
     → Pumped status limit m l l'' t t'' w w'' reads writes
-pumped_on status fed m limit count read l l' l'' t t' t'' w w' w'' reads writes piece r len fits moves outcome = record {
-  octets = r.octets ++ piece;
-  moved = Moves-trans l l' l'' t t' t'' r.octets piece r.moved moves;
-  within = omega (arith, counted_more r.octets piece count read r.counted len, fits);
+pumped_on status fed m limit count read buf l l' l'' t t' t'' w w' w'' reads writes r bound fits moves outcome = record {
+  octets = r.octets ++ take read buf;
+  moved = Moves-trans l l' l'' t t' t'' r.octets (take read buf) r.moved moves;
+  within = omega (arith, counted_more r.octets (take read buf) count read r.counted (length-take-le read buf bound), fits);
   outcome = outcome;
 }
+
+-- by a turn that fails
+pub fails_on : (status : Status) (fed : List ℕ → Type 0) (m : Meaning) (limit count read : ℕ) (buf : List ℕ) (l l' l'' t t' t'' w w' w'' : Option (List ℕ)) (reads writes reads' writes' : Type 0)
+    → (r : Reached fed m l l' t t' w w' count) → read ≤ length buf → count + read ≤ limit → count < limit → Moves l' l'' t' t'' (take read buf) → (reads' → reads) → (writes' → writes)
+    → Turned (nexts.Fail status) (λ _. Unit {0}) m r.octets (take read buf) l'' w' w'' reads' writes' → Pumped status limit m l l'' t t'' w w'' reads writes
+fails_on status fed m limit count read buf l l' l'' t t' t'' w w' w'' reads writes reads' writes' r bound fits below moves rises rises' turn =
+    pumped_on status fed m limit count read buf l l' l'' t t' t'' w w' w'' reads writes r bound fits moves
+    (failed status m limit r.octets (take read buf) l'' w w' w'' reads writes reads' writes' rises rises' (omega (arith, r.counted, below)) r.going r.appended turn)
+
+-- by a turn after which no more octets are read, and what the end of the input does then
+pub finishes_on : (status : Status) (fed fed' : List ℕ → Type 0) (m : Meaning) (limit count read : ℕ) (buf : List ℕ) (l l' l'' t t' t'' w w' w'' last : Option (List ℕ)) (reads writes writes' : Type 0)
+    → (r : Reached fed m l l' t t' w w' count) → read ≤ length buf → count + read ≤ limit → count < limit → Moves l' l'' t' t'' (take read buf) → (writes' → writes)
+    → Turned nexts.Finish fed' m r.octets (take read buf) l'' w' w'' (Unit {0}) (Unit {0}) → ((o : List ℕ) → fed' o → length o ≡ count + read → Finishes status m o w'' last writes') → Pumped status limit m l l'' t t'' w last reads writes
+finishes_on status fed fed' m limit count read buf l l' l'' t t' t'' w w' w'' last reads writes writes' r bound fits below moves rises turn finish =
+    let o = r.octets ++ take read buf in
+    let e = ended fed' m limit r.octets (take read buf) l'' w w' w'' (omega (arith, r.counted, below)) r.appended turn in
+    pumped_on status fed m limit count read buf l l' l'' t t' t'' w w' last reads writes r bound fits moves
+    (finished status limit m o l'' w w'' last reads writes writes' rises e.2 e.1 (finish o e.0 (counted_more r.octets (take read buf) count read r.counted (length-take-le read buf bound))))

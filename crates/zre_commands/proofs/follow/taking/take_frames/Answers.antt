@@ -1,25 +1,17 @@
-use Rattle.std.proofs.Common.{refl, ap, sym, subst, [], List}
-use Rattle.std.specs.List.{cons_option}
-use Rattle.std.specs.Result.{result_ok}
+use Rattle.std.proofs.Common.{refl}
 use Rattle.zre_msg.specs.Lent.{message_of}
-use Rattle.zre_msg.specs.declared.message.Message.{Message}
-use Rattle.zre_commands.specs.follow.Taken.{Takes}
-use Rattle.zre_commands.proofs.follow.Steps.{takes_lost, takes_none}
+use Rattle.zre_commands.proofs.follow.Steps.{takes_lost, takes_meant, takes_none, bad_means_none}
 use Rattle.zre_commands.proofs.follow.taking.take_frames.Goals as goal
 
 pub returns-in-Ok-Some : goal.returns-in-Ok-Some
 returns-in-Ok-Some c =
-    subst (λ (ns : List Message). Takes c.go_on.result c.args.run.now c.take_lent-taken.new.self ns c.args.out.now c.go_on.new.out) (sym (ap (λ r. cons_option (result_ok r) []) (rw c.in-Ok-Some.field-0-is at c.in-Ok-Some.ensures)))
-    (c.go_on.ensures c.args.run.now (message_of c.in-Ok-Some.lent) c.args.out.now (record {
-      told = c.take_lent-taken.ensures.ok;
-      going = c.take_lent-taken.ensures.going;
-      refused = c.take_lent-taken.ensures.refused;
-      spent = c.take_lent-taken.ensures.spent;
-      same = c.take_lent-taken.ensures.id;
-    }))
+    let e = c.take_lent-taken.ensures in
+    let m = message_of c.in-Ok-Some.lent in
+    takes_meant c.go_on.result c.args.run.now c.take_lent-taken.new.self c.args.frames.now m c.args.out.now c.go_on.new.out (rw c.in-Ok-Some.field-0-is at c.in-Ok-Some.ensures)
+    (c.go_on.ensures c.args.run.now m c.args.out.now (record { told = e.ok; going = e.going; refused = e.refused; spent = e.spent; same = e.id }))
 
 pub returns-in-Err-Bad : goal.returns-in-Err-Bad
-returns-in-Err-Bad c = takes_none c.args.run.now c.args.out.now _ c.requires (ap (λ r. cons_option (result_ok r) []) (rw c.in-Err-Bad.field-0-is at c.in-Err-Bad.ensures))
+returns-in-Err-Bad c = takes_none c.args.run.now c.args.out.now _ c.requires (bad_means_none c.args.frames.now _ (rw c.in-Err-Bad.field-0-is at c.in-Err-Bad.ensures))
 
 pub returns-in-Err-OutOfMemory : goal.returns-in-Err-OutOfMemory
 returns-in-Err-OutOfMemory c = takes_lost _ c.args.run.now c.args.run.now _ c.args.out.now c.args.out.now refl

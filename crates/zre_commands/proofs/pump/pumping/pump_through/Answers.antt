@@ -1,6 +1,6 @@
-use Rattle.std.proofs.Common.{[], ◌++◌, take, refl, ap, ◌∙◌, arith}
+use Rattle.std.proofs.Common.{[], take, refl, ap, ◌∙◌, arith}
 use Rattle.std.proofs.lemmas.List.{length-take, length-take-le}
-use Rattle.zre_commands.proofs.pump.Reach.{Moves-nil, front_longer, starts, goes_on, counted_more, Rose-since, refused, finished, ended, failed, pumped_on}
+use Rattle.zre_commands.proofs.pump.Reach.{Moves-nil, front_longer, starts, goes_on, Rose-since, refused, finishes_on, fails_on}
 use Rattle.zre_commands.proofs.pump.pumping.pump_through.Goals as goal
 
 pub loop-taken-init : goal.loop-taken-init
@@ -43,29 +43,20 @@ pub returns-in-Finish-clause-pumped : goal.returns-in-Finish-clause-pumped
 returns-in-Finish-clause-pumped g c =
     let inv = c.loop-taken.invariant in
     let turn = c.take_turn-turn in
-    let m = g.M.Machine.says c.args.machine.now in
-    let o = inv.reached.octets in
-    let piece = take turn.result.read turn.new.buf in
-    let len = length-take-le turn.result.read turn.new.buf turn.ensures.bound in
-    let t = rw (inv.same, c.in-Finish.is) at (turn.ensures.turned o inv.reached.known (ap (λ m. m.is_stopped o) inv.same ∙ inv.reached.going)) in
-    let e = ended (g.M.Machine.fed turn.new.machine) m c.args.limit o piece _ _ _ _ (omega (arith, inv.reached.counted, c.loop-taken-test.true)) inv.reached.appended t in
-    let f = rw (turn.ensures.same, inv.same) at (c.finish.ensures.finishes (o ++ piece) e.0 (counted_more o piece c.loop-taken.taken turn.result.read inv.reached.counted len)) in
-    pumped_on c.finish.result _ m c.args.limit c.loop-taken.taken turn.result.read _ _ _ _ _ _ _ _ _ _ _ piece inv.reached len
-    (omega (arith, turn.ensures.bound, turn.auto.buf, c.portion-room.ensures.within, length-take c.portion-room.result c.deref_mut.result.now, c.loop-taken-test.true)) turn.ensures.moved
-    (finished c.finish.result c.args.limit m (o ++ piece) _ _ _ _ _ _ _ (Rose-since _ _ _ (omega (arith, inv.writes, turn.ensures.writes))) e.2 e.1 f)
+    finishes_on c.finish.result _ (g.M.Machine.fed turn.new.machine) (g.M.Machine.says c.args.machine.now) c.args.limit c.loop-taken.taken turn.result.read turn.new.buf _ _ _ _ _ _ _ _ _ _ _ _ _ inv.reached turn.ensures.bound
+    (omega (arith, turn.ensures.bound, turn.auto.buf, c.portion-room.ensures.within, length-take c.portion-room.result c.deref_mut.result.now, c.loop-taken-test.true)) c.loop-taken-test.true turn.ensures.moved
+    (Rose-since _ _ _ (omega (arith, inv.writes, turn.ensures.writes)))
+    (rw (inv.same, c.in-Finish.is) at (turn.ensures.turned inv.reached.octets inv.reached.known (ap (λ m. m.is_stopped inv.reached.octets) inv.same ∙ inv.reached.going)))
+    (λ o fed e. rw (turn.ensures.same, inv.same) at (c.finish.ensures.finishes o fed e))
 
 pub returns-in-Fail-clause-pumped : goal.returns-in-Fail-clause-pumped
 returns-in-Fail-clause-pumped g c =
     let inv = c.loop-taken.invariant in
     let turn = c.take_turn-turn in
-    let m = g.M.Machine.says c.args.machine.now in
-    let o = inv.reached.octets in
-    let piece = take turn.result.read turn.new.buf in
-    let len = length-take-le turn.result.read turn.new.buf turn.ensures.bound in
-    let t = rw (inv.same, c.in-Fail.is) at (turn.ensures.turned o inv.reached.known (ap (λ m. m.is_stopped o) inv.same ∙ inv.reached.going)) in
-    pumped_on c.in-Fail.status _ m c.args.limit c.loop-taken.taken turn.result.read _ _ _ _ _ _ _ _ _ _ _ piece inv.reached len
-    (omega (arith, turn.ensures.bound, turn.auto.buf, c.portion-room.ensures.within, length-take c.portion-room.result c.deref_mut.result.now, c.loop-taken-test.true)) turn.ensures.moved
-    (failed c.in-Fail.status m c.args.limit o piece _ _ _ _ _ _ _ _ (Rose-since _ _ _ inv.reads) (Rose-since _ _ _ inv.writes) (omega (arith, inv.reached.counted, c.loop-taken-test.true)) inv.reached.going inv.reached.appended t)
+    fails_on c.in-Fail.status _ (g.M.Machine.says c.args.machine.now) c.args.limit c.loop-taken.taken turn.result.read turn.new.buf _ _ _ _ _ _ _ _ _ _ _ _ _ inv.reached turn.ensures.bound
+    (omega (arith, turn.ensures.bound, turn.auto.buf, c.portion-room.ensures.within, length-take c.portion-room.result c.deref_mut.result.now, c.loop-taken-test.true)) c.loop-taken-test.true turn.ensures.moved
+    (Rose-since _ _ _ inv.reads) (Rose-since _ _ _ inv.writes)
+    (rw (inv.same, c.in-Fail.is) at (turn.ensures.turned inv.reached.octets inv.reached.known (ap (λ m. m.is_stopped inv.reached.octets) inv.same ∙ inv.reached.going)))
 
 pub returns-clause-pumped : goal.returns-clause-pumped
 returns-clause-pumped g c =
