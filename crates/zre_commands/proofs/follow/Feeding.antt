@@ -18,8 +18,8 @@ use Rattle.zre_commands.specs.follow.Follower.{Fed, peer_of}
 use Rattle.zre_commands.specs.follow.Messages.{messages, messages_in}
 use Rattle.zre_commands.specs.follow.Runs.{events_after}
 use Rattle.zre_commands.specs.follow.Taken.{Took}
-use Rattle.zre_commands.specs.Stream.{HasRead}
-use Rattle.zre_commands.proofs.Pieces.{going_reads as stands_after, not_spent as is_unspent}
+use Rattle.zre_commands.specs.Stream.{HasRead, ReadPiece}
+use Rattle.zre_commands.proofs.Pieces.{going_reads as stands_after, not_spent as is_unspent, items_are}
 use Rattle.zre_commands.proofs.follow.Growing.{newly, messages_more, over_stays, over_later, text_over, text_later}
 
 -- ---- after the end of the run
@@ -46,7 +46,7 @@ faultless : (f : Follower) (o : List ℕ) → is_spent f.run ≡ false → Fed f
 faultless f o e h going = sym (ap (λ b. not b && is_some (fault Any Traffic o)) (sym h.spent ∙ e)) ∙ going
 
 -- so its reader stands after it
-pub going_reads : (f : Follower) (o : List ℕ) → is_spent f.run ≡ false → Fed f o → is_stopped o ≡ false → Reads Any Traffic o f.reader
+going_reads : (f : Follower) (o : List ℕ) → is_spent f.run ≡ false → Fed f o → is_stopped o ≡ false → Reads Any Traffic o f.reader
 going_reads f o e h going = stands_after Traffic o f.fault f.reader (h.read (sym h.spent ∙ e)) (faultless f o e h going)
 
 -- a reader that is spent is of no octets that go on
@@ -60,10 +60,8 @@ pub record Fed-more (id : PeerId) (o x : List ℕ) (run : Run) (out out' : List 
   pub text : Grows (follow id) o x out out'
 
 -- the items were the new ones, and their messages were taken
-pub feeds_more : (f : Follower) (o x : List ℕ) (items : List Item) (run : Run) (out out' : List ℕ) → is_spent f.run ≡ false → Fed f o → items ≡ new_items Any Traffic o x → Took (peer_of f) (messages o) (messages_in items) run out out'
-    → Fed-more (peer_of f) o x run out out'
-feeds_more f o x items run out out' e h are taken =
-    let on : over o ≡ false = sym h.spent ∙ e in
+feeds_more : (f : Follower) (o x : List ℕ) (items : List Item) (run : Run) (out out' : List ℕ) → over o ≡ false → items ≡ new_items Any Traffic o x → Took (peer_of f) (messages o) (messages_in items) run out out' → Fed-more (peer_of f) o x run out out'
+feeds_more f o x items run out out' on are taken =
     let P : List Item → Type 0 = λ is. Took (peer_of f) (messages o) (messages_in is) run out out' in
     let t = subst P are taken in
     record {
@@ -72,8 +70,13 @@ feeds_more f o x items run out out' e h are taken =
       text = record { added = lines (events_after (peer_of f) (messages o) (newly o x)); longer = text_later (peer_of f) o x on; appended = t.lines_of };
     }
 
-pub stands_on : (f : Follower) (o : List ℕ) → is_spent f.run ≡ false → Fed f o → Stands f.run (messages o)
-stands_on f o e h = h.stands (sym h.spent ∙ e)
+-- the piece was read into a list that had no items, and their messages were taken out of it
+pub piece_taken : (f : Follower) (o x : List ℕ) (found : Option ZmtpFault) (reader : Reading) (before read items : List Item) (run : Run) (out out' : List ℕ) → is_spent f.run ≡ false → Fed f o → is_stopped o ≡ false → before ≡ [] → items ≡ read
+    → (Reads Any Traffic o f.reader → ReadPiece Traffic o x found reader before read) → (Stands f.run (messages o) → Took (peer_of f) (messages o) (messages_in items) run out out') → HasRead Traffic (o ++ x) found reader × Fed-more (peer_of f) o x run out out'
+piece_taken f o x found reader before read items run out out' e h going none same reads takes =
+    let on : over o ≡ false = sym h.spent ∙ e in
+    let p = reads (going_reads f o e h going) in
+    (p.read, feeds_more f o x items run out out' on (same ∙ items_are Traffic o x found reader before read none p) (takes (h.stands on)))
 
 -- what the machine knows after the piece
 pub feeds_on : (id : PeerId) (g : Follower) (o x out out' : List ℕ) → HasRead Traffic (o ++ x) g.fault g.reader → Fed-more id o x g.run out out' → Fed g (o ++ x)

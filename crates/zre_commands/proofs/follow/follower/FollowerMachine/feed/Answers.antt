@@ -3,8 +3,7 @@ use Rattle.std.specs.Prelude.{is_some}
 use Rattle.zre_zmtp.specs.Stream.{Traffic}
 use Rattle.zre_commands.specs.follow.Follower.{peer_of}
 use Rattle.zre_commands.specs.follow.Messages.{messages}
-use Rattle.zre_commands.proofs.Pieces.{items_are}
-use Rattle.zre_commands.proofs.follow.Feeding.{over_fed, over_grows, over_goes, going_reads, not_spent, feeds_more, feeds_on, stop_on, stands_on}
+use Rattle.zre_commands.proofs.follow.Feeding.{over_fed, over_grows, over_goes, not_spent, piece_taken, feeds_on, stop_on}
 use Rattle.zre_commands.proofs.follow.follower.FollowerMachine.feed.Goals as goal
 
 pub returns-then-spent-clause-fed : goal.returns-then-spent-clause-fed
@@ -27,25 +26,15 @@ returns-then-spent-2-clause-stop c = λ o h going. not_spent c.args.self.now o (
 
 pub returns-clause-fed : goal.returns-clause-fed
 returns-clause-fed c = λ o h going.
-    let e = sym c.spent.ensures ∙ c.if-spent.false in
-    let p = c.in_ok-fault.ensures Traffic o (going_reads c.args.self.now o e h going) in
-    let are = c.as_slice.ensures ∙ items_are Traffic o c.args.piece.now c.in_ok-fault.fault c.read_piece.new.reader c.clear.new.self c.read_piece.new.items c.clear.ensures p in
-    let k = feeds_more c.args.self.now o c.args.piece.now c.as_slice.result.now c.take_items.new.run c.args.out.now c.take_items.new.out e h are (c.in_ok-take_items.ensures.took (messages o) (stands_on c.args.self.now o e h)) in
-    feeds_on (peer_of c.args.self.now) _ o c.args.piece.now c.args.out.now c.take_items.new.out p.read k
+    let k = piece_taken c.args.self.now o c.args.piece.now _ _ _ _ _ _ _ _ (sym c.spent.ensures ∙ c.if-spent.false) h going c.clear.ensures c.as_slice.ensures (c.in_ok-fault.ensures Traffic o) (c.in_ok-take_items.ensures.took (messages o)) in
+    feeds_on (peer_of c.args.self.now) _ o c.args.piece.now c.args.out.now c.take_items.new.out k.0 k.1
 
 pub returns-clause-text : goal.returns-clause-text
 returns-clause-text c = λ o h going.
-    let e = sym c.spent.ensures ∙ c.if-spent.false in
-    let p = c.in_ok-fault.ensures Traffic o (going_reads c.args.self.now o e h going) in
-    let are = c.as_slice.ensures ∙ items_are Traffic o c.args.piece.now c.in_ok-fault.fault c.read_piece.new.reader c.clear.new.self c.read_piece.new.items c.clear.ensures p in
-    let k = feeds_more c.args.self.now o c.args.piece.now c.as_slice.result.now c.take_items.new.run c.args.out.now c.take_items.new.out e h are (c.in_ok-take_items.ensures.took (messages o) (stands_on c.args.self.now o e h)) in
-    k.text
+    (piece_taken c.args.self.now o c.args.piece.now _ _ _ _ _ _ _ _ (sym c.spent.ensures ∙ c.if-spent.false) h going c.clear.ensures c.as_slice.ensures (c.in_ok-fault.ensures Traffic o) (c.in_ok-take_items.ensures.took (messages o))).1.text
 
 pub returns-clause-stop : goal.returns-clause-stop
 returns-clause-stop c = λ o h going.
-    let e = sym c.spent.ensures ∙ c.if-spent.false in
-    let p = c.in_ok-fault.ensures Traffic o (going_reads c.args.self.now o e h going) in
-    let are = c.as_slice.ensures ∙ items_are Traffic o c.args.piece.now c.in_ok-fault.fault c.read_piece.new.reader c.clear.new.self c.read_piece.new.items c.clear.ensures p in
-    let k = feeds_more c.args.self.now o c.args.piece.now c.as_slice.result.now c.take_items.new.run c.args.out.now c.take_items.new.out e h are (c.in_ok-take_items.ensures.took (messages o) (stands_on c.args.self.now o e h)) in
+    let k = piece_taken c.args.self.now o c.args.piece.now _ _ _ _ _ _ _ _ (sym c.spent.ensures ∙ c.if-spent.false) h going c.clear.ensures c.as_slice.ensures (c.in_ok-fault.ensures Traffic o) (c.in_ok-take_items.ensures.took (messages o)) in
     c.going_after.ensures ∙ ap (λ b. not b && is_some c.in_ok-fault.fault) c.spent-3.ensures
-    ∙ stop_on (peer_of c.args.self.now) o c.args.piece.now c.take_items.new.run c.args.out.now c.take_items.new.out c.in_ok-fault.fault c.read_piece.new.reader p.read k
+    ∙ stop_on (peer_of c.args.self.now) o c.args.piece.now c.take_items.new.run c.args.out.now c.take_items.new.out c.in_ok-fault.fault c.read_piece.new.reader k.0 k.1
