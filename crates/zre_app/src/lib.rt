@@ -2,7 +2,6 @@
 //! source and a sink, and for `chat` over a world, a recorder and a spawner.
 #![tactic(auto)]
 
-mod chat;
 mod chat_words;
 mod command;
 mod gate_call;

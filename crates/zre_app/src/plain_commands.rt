@@ -1,11 +1,12 @@
 //! The commands that read a source and write to a sink, and have to do with nothing else.
 
-ghost use Rattle.std.specs.Prelude.{◌≡◌, ◌≤◌, true, false, Some, IfSome};
+ghost use Rattle.std.specs.Prelude.{◌≡◌, ◌≤◌, [], true, false, Some, IfSome};
 ghost use Rattle.zre_outside.specs.Causes.{Rose};
 ghost use Rattle.zre_journal.specs.Config.{is_valid};
 ghost use Rattle.zre_commands.specs.exercise.Exercise.{text as exercise_text};
-ghost use Rattle.zre_app.specs.Does.{DidPlain};
-ghost use Rattle.zre_app.specs.Given.{stream_views};
+ghost use Rattle.zre_app.specs.Does.{DidPlain, DoesWork};
+ghost use Rattle.zre_app.specs.Does.Work.{Reads};
+ghost use Rattle.zre_app.specs.Given.{stream_views, streams};
 ghost use Rattle.zre_app.specs.PlainWords.{plain_of, CanDo};
 ghost use Rattle.zre_app.specs.Usage.{UsageOutcome, WritesText};
 ghost use Rattle.zre_app.specs.Words.{is_chat};
@@ -14,7 +15,7 @@ use crate::plain_words::{Plain, plain_of};
 use std::alloc::Global;
 use zre_commands::exercise::push_summary;
 use zre_commands::follow::Follower;
-use zre_commands::pump::{Status, pump};
+use zre_commands::pump::{Machine, Status, pump};
 use zre_commands::settings::as_settings;
 use zre_commands::show::Lister;
 use zre_journal::Config;
@@ -24,7 +25,7 @@ use zre_records::replay::{HeadReplayer, Replayer};
 use zre_records::simulate::Simulator;
 use zre_records::table::Tabulator;
 use zre_records::upgrade::Upgrader;
-use zre_values::{Frames, Octets, OutOfMemory, PeerId};
+use zre_values::{Frames, Octets, OutOfMemory};
 
 /// How a call ended, and the source that was handed in.
 #[derive(Debug, Drop)]
@@ -45,25 +46,22 @@ pub(crate) fn usage<O: Sink>(out: &mut O) -> Status
     }
 }
 
-fn follow<I: Source, O: Sink>(
+// Reads the source by a machine that has read nothing.
+fn reads<M: Machine + Drop, I: Source, O: Sink>(
     alloc: Global,
-    id: PeerId,
+    mut machine: M,
     input: &mut I,
     out: &mut O,
     limit: u64,
 ) -> Status
-    ensures does { DidPlain (stream_views I.left I.taken I.faults O.written O.faults)
-        (Some (Plain.Follow id)) limit result input.old input.new out.old out.new }
+    requires start { M.fed machine [] }
+    requires going { (M.says machine).is_stopped [] ≡ false }
+    ensures does { DoesWork (Reads (M.says machine)) limit result
+        (streams (stream_views I.left I.taken I.faults O.written O.faults) input.old out.old)
+        (streams (stream_views I.left I.taken I.faults O.written O.faults) input.new out.new) }
+    ensures reads { I.faults input.old ≤ I.faults input.new }
+    ensures writes { O.faults out.old ≤ O.faults out.new }
 {
-    let mut machine = Follower::new(alloc, id);
-    pump(alloc, &mut machine, input, out, limit)
-}
-
-fn show<I: Source, O: Sink>(alloc: Global, input: &mut I, out: &mut O, limit: u64) -> Status
-    ensures does { DidPlain (stream_views I.left I.taken I.faults O.written O.faults)
-        (Some Plain.Show) limit result input.old input.new out.old out.new }
-{
-    let mut machine = Lister::new(alloc);
     pump(alloc, &mut machine, input, out, limit)
 }
 
@@ -79,61 +77,9 @@ fn replay<I: Source, O: Sink>(
         (Some (Plain.Replay config)) limit result input.old input.new out.old out.new }
 {
     match Replayer::new(alloc, config) {
-        Ok(mut machine) => pump(alloc, &mut machine, input, out, limit),
+        Ok(machine) => reads(alloc, machine, input, out, limit),
         Err(OutOfMemory) => Status::OutOfMemory,
     }
-}
-
-fn replay_told<I: Source, O: Sink>(alloc: Global, input: &mut I, out: &mut O, limit: u64) -> Status
-    ensures does { DidPlain (stream_views I.left I.taken I.faults O.written O.faults)
-        (Some Plain.ReplayTold) limit result input.old input.new out.old out.new }
-{
-    let mut machine = HeadReplayer::new(alloc);
-    pump(alloc, &mut machine, input, out, limit)
-}
-
-fn upgrade<I: Source, O: Sink>(
-    alloc: Global,
-    config: Config,
-    input: &mut I,
-    out: &mut O,
-    limit: u64,
-) -> Status
-    ensures does { DidPlain (stream_views I.left I.taken I.faults O.written O.faults)
-        (Some (Plain.Upgrade config)) limit result input.old input.new out.old out.new }
-{
-    let mut machine = Upgrader::new(alloc, as_settings(config));
-    pump(alloc, &mut machine, input, out, limit)
-}
-
-fn table<I: Source, O: Sink>(
-    alloc: Global,
-    group: Octets,
-    input: &mut I,
-    out: &mut O,
-    limit: u64,
-) -> Status
-    ensures does { DidPlain (stream_views I.left I.taken I.faults O.written O.faults)
-        (Some (Plain.Table group)) limit result input.old input.new out.old out.new }
-{
-    let mut machine = Tabulator::new(alloc, group);
-    pump(alloc, &mut machine, input, out, limit)
-}
-
-fn audit<I: Source, O: Sink>(alloc: Global, input: &mut I, out: &mut O, limit: u64) -> Status
-    ensures does { DidPlain (stream_views I.left I.taken I.faults O.written O.faults)
-        (Some Plain.Audit) limit result input.old input.new out.old out.new }
-{
-    let mut machine = Auditor::new(alloc);
-    pump(alloc, &mut machine, input, out, limit)
-}
-
-fn simulate<I: Source, O: Sink>(alloc: Global, input: &mut I, out: &mut O, limit: u64) -> Status
-    ensures does { DidPlain (stream_views I.left I.taken I.faults O.written O.faults)
-        (Some Plain.Simulate) limit result input.old input.new out.old out.new }
-{
-    let mut machine = Simulator::new(alloc);
-    pump(alloc, &mut machine, input, out, limit)
 }
 
 fn write_text<O: Sink>(text: &[u8], out: &mut O) -> Status
@@ -177,14 +123,28 @@ fn obey<I: Source, O: Sink>(
 {
     match command {
         None => usage(out),
-        Some(Plain::Follow { id }) => follow(alloc, id, input, out, limit),
-        Some(Plain::Show) => show(alloc, input, out, limit),
+        Some(Plain::Follow { id }) => reads(alloc, Follower::new(alloc, id), input, out, limit),
+        Some(Plain::Show) => reads(alloc, Lister::new(alloc), input, out, limit),
         Some(Plain::Replay { config }) => replay(alloc, config, input, out, limit),
-        Some(Plain::ReplayTold) => replay_told(alloc, input, out, limit),
-        Some(Plain::Upgrade { config }) => upgrade(alloc, config, input, out, limit),
-        Some(Plain::Table { group }) => table(alloc, group, input, out, limit),
-        Some(Plain::Audit) => audit(alloc, input, out, limit),
-        Some(Plain::Simulate) => simulate(alloc, input, out, limit),
+        Some(Plain::ReplayTold) => reads(alloc, HeadReplayer::new(alloc), input, out, limit),
+        Some(Plain::Upgrade { config }) => {
+            reads(
+                alloc,
+                Upgrader::new(alloc, as_settings(config)),
+                input,
+                out,
+                limit,
+            )
+        }
+        Some(Plain::Table { group }) => reads(
+            alloc,
+            Tabulator::new(alloc, group),
+            input,
+            out,
+            limit,
+        ),
+        Some(Plain::Audit) => reads(alloc, Auditor::new(alloc), input, out, limit),
+        Some(Plain::Simulate) => reads(alloc, Simulator::new(alloc), input, out, limit),
         Some(
             Plain::Exercise {
                 seed,

@@ -6,7 +6,6 @@ ghost use Rattle.zre_app.specs.Does.{Did, KeepsItsLedgers};
 ghost use Rattle.zre_app.specs.Given.{handed, seen_of, stream_views, views};
 ghost use Rattle.zre_app.specs.Words.{command_of};
 
-use crate::chat::chat;
 use crate::chat_words::chat_of;
 use crate::command::is_chat;
 use crate::plain_commands::{PlainEnded, plain, usage};
@@ -93,7 +92,7 @@ fn dispatch<
         };
     }
     match chat_of(alloc, words) {
-        Ok(Some(asked)) => chat(rt, alloc, asked, input, world, out, rec, spawner, limit),
+        Ok(Some(asked)) => asked.run(rt, alloc, input, world, out, rec, spawner, limit),
         Ok(None) => Ended {
             status: usage(out),
             input,
