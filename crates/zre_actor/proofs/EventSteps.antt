@@ -41,47 +41,38 @@ queued_last : (last : Option Ending) (rest : List Event) (items : List Told) (x 
 queued_last None rest items x q = ap (λ l. l ++ told.Last x ∷ []) q
 queued_last (Some y) rest items x q = absurd q
 
+-- a pass that raises went on to w: this was raised then
+raised_on : (port : ℕ) (v w : Hearing) (items items' : List Told) (views : List Hearing) (h : EventRule items views) → get_elem? views port ≡ some v → v.raises ≡ true
+    → (raised : List Event) (ended_by : Option Ending) (rest : List Event) → raised ≡ h.4 ++ rest → Queued ended_by h.5 rest items' → Fits h.0 raised ended_by h.3 h.4 h.5 port w → EventRule items' (set views port w)
+raised_on port v w items items' views h at may raised ended_by rest parts queued fits = (
+  h.0,
+  raised,
+  ended_by,
+  h.3,
+  h.4,
+  h.5,
+  rest,
+  parts,
+  queued,
+  all_set (Fits h.0 raised ended_by h.3 h.4 h.5) views port w fits (λ j u other there. ((λ p. absurd (other (((h.9 j u there).0 p).0 ∙ sym ((h.9 port v at).0 may).0))), (h.9 j u there).1)),
+)
+
 pub sends : (n port : ℕ) (v : Hearing) (m : Told) → v.raises ≡ true → v.ended_by ≡ None → Pushes EventRule n port v m (λ w. w ≡ sent v m)
 sends n port v (told.Event e) may open_ items views _ h at =
-    let actor = h.0 in let raised = h.1 in let taker = h.3 in let taken = h.4 in let last = h.5 in let rest = h.6 in let all = h.9 in
-    let mine = all port v at in let w : Hearing = sent v (told.Event e) in
+    let raised = h.1 in let last = h.5 in let rest = h.6 in let mine = h.9 port v at in let m = told.Event e in
     let none = sym ((mine.0 may).2) ∙ open_ in (
-      w,
-      (
-        actor,
-        raised ++ e ∷ [],
-        h.2,
-        taker,
-        taken,
-        last,
-        rest ++ e ∷ [],
-        ap (λ l. l ++ e ∷ []) h.7 ∙ append_assoc taken rest (e ∷ []),
-        subst (λ o. Queued o last (rest ++ e ∷ []) (items ++ told.Event e ∷ [])) (sym none) (queued_more last rest items e (subst (λ o. Queued o last rest items) none h.8)),
-        all_set (Fits actor (raised ++ e ∷ []) h.2 taker taken last) views port w
-            ((λ _. ((mine.0 may).0, ap (λ l. l ++ e ∷ []) (mine.0 may).1, (mine.0 may).2)), mine.1)
-            (λ j u other there. ((λ p. absurd (other (((all j u there).0 p).0 ∙ sym (mine.0 may).0))), (all j u there).1)),
-      ),
+      sent v m,
+      raised_on port v (sent v m) items (items ++ m ∷ []) views h at may (raised ++ e ∷ []) h.2 (rest ++ e ∷ []) (ap (λ l. l ++ e ∷ []) h.7 ∙ append_assoc h.4 rest (e ∷ []))
+          (subst (λ o. Queued o last (rest ++ e ∷ []) (items ++ m ∷ [])) (sym none) (queued_more last rest items e (subst (λ o. Queued o last rest items) none h.8)))
+          ((λ _. ((mine.0 may).0, ap (λ l. l ++ e ∷ []) (mine.0 may).1, (mine.0 may).2)), mine.1),
       refl,
     )
 sends n port v (told.Last x) may open_ items views _ h at =
-    let actor = h.0 in let raised = h.1 in let taker = h.3 in let taken = h.4 in let last = h.5 in let rest = h.6 in let all = h.9 in
-    let mine = all port v at in let w : Hearing = sent v (told.Last x) in
+    let last = h.5 in let rest = h.6 in let mine = h.9 port v at in let m = told.Last x in
     let none = sym ((mine.0 may).2) ∙ open_ in (
-      w,
-      (
-        actor,
-        raised,
-        Some x,
-        taker,
-        taken,
-        last,
-        rest,
-        h.7,
-        queued_last last rest items x (subst (λ o. Queued o last rest items) none h.8),
-        all_set (Fits actor raised (Some x) taker taken last) views port w
-            ((λ _. ((mine.0 may).0, (mine.0 may).1, refl)), mine.1)
-            (λ j u other there. ((λ p. absurd (other (((all j u there).0 p).0 ∙ sym (mine.0 may).0))), (all j u there).1)),
-      ),
+      sent v m,
+      raised_on port v (sent v m) items (items ++ m ∷ []) views h at may h.1 (Some x) rest h.7 (queued_last last rest items x (subst (λ o. Queued o last rest items) none h.8))
+          ((λ _. ((mine.0 may).0, (mine.0 may).1, refl)), mine.1),
       refl,
     )
 
@@ -104,47 +95,36 @@ next_last (Some z) None [] x items q = (refl, refl, ((cc), refl, (cc)))
 next_last (Some z) None (r ∷ rs) x items q = absurd (cc)
 next_last (Some z) (Some y) rest x items q = let no = q.2 in absurd (cc)
 
+-- a pass that takes went on to w: this was taken then
+taken_on : (port : ℕ) (v w : Hearing) (items items' : List Told) (views : List Hearing) (h : EventRule items views) → get_elem? views port ≡ some v → v.takes ≡ true
+    → (taken : List Event) (last : Option Ending) (rest : List Event) → h.1 ≡ taken ++ rest → Queued h.2 last rest items' → Fits h.0 h.1 h.2 h.3 taken last port w → EventRule items' (set views port w)
+taken_on port v w items items' views h at may taken last rest parts queued fits = (
+  h.0,
+  h.1,
+  h.2,
+  h.3,
+  taken,
+  last,
+  rest,
+  parts,
+  queued,
+  all_set (Fits h.0 h.1 h.2 h.3 taken last) views port w fits (λ j u other there. ((h.9 j u there).0, λ p. absurd (other (((h.9 j u there).1 p).0 ∙ sym ((h.9 port v at).1 may).0)))),
+)
+
 pub receives : (port : ℕ) (v : Hearing) → v.takes ≡ true → Pops EventRule port v (λ m w. (v.last ≡ None) × (w ≡ heard v m))
 receives port v may (told.Event e) items views h at =
-    let actor = h.0 in let raised = h.1 in let ended_by = h.2 in let taker = h.3 in let taken = h.4 in let all = h.9 in
-    let mine = all port v at in let w : Hearing = heard v (told.Event e) in let t = next_event ended_by h.5 h.6 e items h.8 in
+    let taken = h.4 in let mine = h.9 port v at in let m = told.Event e in let t = next_event h.2 h.5 h.6 e items h.8 in
     let none : v.last ≡ None = (mine.1 may).2 ∙ t.2 in (
-      w,
-      (
-        actor,
-        raised,
-        ended_by,
-        taker,
-        taken ++ e ∷ [],
-        None,
-        t.0,
-        h.7 ∙ ap (λ l. taken ++ l) t.1 ∙ sym (append_assoc taken (e ∷ []) t.0),
-        t.3,
-        all_set (Fits actor raised ended_by taker (taken ++ e ∷ []) None) views port w
-            (mine.0, λ _. ((mine.1 may).0, ap (λ l. l ++ e ∷ []) (mine.1 may).1, none))
-            (λ j u other there. ((all j u there).0, λ p. absurd (other (((all j u there).1 p).0 ∙ sym (mine.1 may).0)))),
-      ),
+      heard v m,
+      taken_on port v (heard v m) (m ∷ items) items views h at may (taken ++ e ∷ []) None t.0 (h.7 ∙ ap (λ l. taken ++ l) t.1 ∙ sym (append_assoc taken (e ∷ []) t.0)) t.3
+          (mine.0, λ _. ((mine.1 may).0, ap (λ l. l ++ e ∷ []) (mine.1 may).1, none)),
       (none, refl),
     )
 receives port v may (told.Last x) items views h at =
-    let actor = h.0 in let raised = h.1 in let ended_by = h.2 in let taker = h.3 in let taken = h.4 in let all = h.9 in
-    let mine = all port v at in let w : Hearing = heard v (told.Last x) in let t = next_last ended_by h.5 h.6 x items h.8 in
+    let mine = h.9 port v at in let m = told.Last x in let t = next_last h.2 h.5 h.6 x items h.8 in
     let none : v.last ≡ None = (mine.1 may).2 ∙ t.1 in (
-      w,
-      (
-        actor,
-        raised,
-        ended_by,
-        taker,
-        taken,
-        Some x,
-        [],
-        h.7 ∙ ap (λ l. taken ++ l) t.0,
-        t.2,
-        all_set (Fits actor raised ended_by taker taken (Some x)) views port w
-            (mine.0, λ _. ((mine.1 may).0, (mine.1 may).1, refl))
-            (λ j u other there. ((all j u there).0, λ p. absurd (other (((all j u there).1 p).0 ∙ sym (mine.1 may).0)))),
-      ),
+      heard v m,
+      taken_on port v (heard v m) (m ∷ items) items views h at may h.4 (Some x) [] (h.7 ∙ ap (λ l. h.4 ++ l) t.0) t.2 (mine.0, λ _. ((mine.1 may).0, (mine.1 may).1, refl)),
       (none, refl),
     )
 

@@ -101,9 +101,13 @@ module _ (v : View) (ps : List CallerPass) (items : List Command) (nothing : v.p
       sym (append-nil (under n v.popped)) ∙ ap (λ l. under n v.popped ++ l) (sym (closed_after before last known.queued n closed here)) ∙ sym (under-append n v.popped known.queued) ∙ all_put n
 
 -- the loop took in every pass
-pub took_all : (given taken left : List CallerPass) (n : ℕ) → given ≡ taken ++ left → n ≡ length left → n ≡ 0 → taken ≡ given
+took_all : (given taken left : List CallerPass) (n : ℕ) → given ≡ taken ++ left → n ≡ length left → n ≡ 0 → taken ≡ given
 took_all given taken [] n is long none = sym (append-nil taken) ∙ sym is
 took_all given taken (p ∷ ps) n is long none = absurd (omega arith)
+
+-- so it knows what they know
+pub gathered_all : (v w : View) (given taken left : List CallerPass) (n : ℕ) → given ≡ taken ++ left → n ≡ length left → n ≡ 0 → w ≡ gathered v taken → w ≡ gathered v given
+gathered_all v w given taken left n is long none known = known ∙ ap (gathered v) (took_all given taken left n is long none)
 
 pub has_all : (v : View) (ps : List CallerPass) → IsActor v → length v.unused + how_many ps ≡ 16 → HasAll (gathered v ps)
 has_all v ps a back = let own : length v.own ≡ 0 = ap length a.1 in let gone : length v.ended ≡ 0 = ap length a.2 in

@@ -204,30 +204,28 @@ module _ (g : Config) (K : List Entry) (keep : Bool) (limit : ℕ) (s : Scene) w
     no_command None is = refl
     no_command (Some c) is = absurd is
 
-    abbrev looks_again : (u : Scene) (found : Option Command) → u.told ≡ option_map (after_turn command turn.Look) t.told → Pops t found u → late turns limit t.looked ≡ 0 → late (turns + 1) limit u.looked ≡ 0
-        → map command_of k.goes.popped ≡ k.goes.handed ++ [] → Goes (turns + 1) limit s u k.entries k.deeds (option_to_list found)
-    looks_again u None new popped now later hands = let h = k.goes in record {
+    -- one look more was answered, and these commands were popped up to then
+    abbrev goes_look : (u : Scene) (popped : List Placed) (pending : List Command) → u.told ≡ option_map (after_turn command turn.Look) t.told → u.popped ≡ s.popped ++ popped
+        → map command_of popped ≡ k.goes.handed ++ pending → (k.goes.looks + 1) + s.empties ≡ length popped + u.empties + late (turns + 1) limit u.looked → Goes (turns + 1) limit s u k.entries k.deeds pending
+    goes_look u popped pending new are hands finds = let h = k.goes in record {
       looks = h.looks + 1;
       handed = h.handed;
       is_told = after_look s.told t.told u.told command k.entries h.looks h.handed k.deeds h.is_told new;
       counted = omega (arith, h.counted);
-      popped = h.popped;
-      is_popped = popped.0 ∙ h.is_popped;
+      popped = popped;
+      is_popped = are;
       are_handed = hands;
       are_done = h.are_done;
-      are_looks = omega (arith, h.are_looks, popped.1);
+      are_looks = finds;
     }
-    looks_again u (Some c) new popped now later hands = let h = k.goes in let e = popped.0.0 in record {
-      looks = h.looks + 1;
-      handed = h.handed;
-      is_told = after_look s.told t.told u.told command k.entries h.looks h.handed k.deeds h.is_told new;
-      counted = omega (arith, h.counted);
-      popped = h.popped ++ e ∷ [];
-      is_popped = popped.0.2 ∙ ap (λ l. l ++ e ∷ []) h.is_popped ∙ append_assoc s.popped h.popped (e ∷ []);
-      are_handed = map-append command_of h.popped (e ∷ []) ∙ ap (λ l. l ++ e.command ∷ []) (hands ∙ append-nil h.handed) ∙ ap (λ x. h.handed ++ x ∷ []) popped.0.1;
-      are_done = h.are_done;
-      are_looks = omega (arith, h.are_looks, popped.1, length-append h.popped (e ∷ []));
-    }
+
+    abbrev looks_again : (u : Scene) (found : Option Command) → u.told ≡ option_map (after_turn command turn.Look) t.told → Pops t found u → late turns limit t.looked ≡ 0 → late (turns + 1) limit u.looked ≡ 0
+        → map command_of k.goes.popped ≡ k.goes.handed ++ [] → Goes (turns + 1) limit s u k.entries k.deeds (option_to_list found)
+    looks_again u None new popped now later hands = let h = k.goes in goes_look u h.popped [] new (popped.0 ∙ h.is_popped) hands (omega (arith, h.are_looks, popped.1))
+    looks_again u (Some c) new popped now later hands = let h = k.goes in let e = popped.0.0 in goes_look u (h.popped ++ e ∷ []) (c ∷ []) new
+        (popped.0.2 ∙ ap (λ l. l ++ e ∷ []) h.is_popped ∙ append_assoc s.popped h.popped (e ∷ []))
+        (map-append command_of h.popped (e ∷ []) ∙ ap (λ l. l ++ e.command ∷ []) (hands ∙ append-nil h.handed) ∙ ap (λ x. h.handed ++ x ∷ []) popped.0.1)
+        (omega (arith, h.are_looks, popped.1, length-append h.popped (e ∷ [])))
 
     -- a look was answered, and the rest stands as it stood
     pub record Looks (u : Scene) : Type 0 where
@@ -250,6 +248,31 @@ module _ (g : Config) (K : List Entry) (keep : Bool) (limit : ℕ) (s : Scene) w
     look_handed u None told popped now later hands = refl
     look_handed u (Some c) told popped now later hands = refl
 
+    -- no entry was given since, and nothing raised or kept
+    abbrev stays : (turns' : ℕ) (u : Scene) (command' : Option Command) (goes : Goes turns' limit s u k.entries k.deeds (option_to_list command')) → turns' ≤ limit → u.raised ≡ t.raised → u.kept ≡ t.kept
+        → ((c : Command) → command' ≡ Some c → has_stopped (chronicle g (K ++ k.entries)) ≡ false) → (has_stopped (chronicle g (K ++ k.entries)) ≡ false → NoQuit goes.handed) → QuitsLast (map command_of goes.popped)
+        → t.world_faults ≤ u.world_faults → u.record_faults ≡ t.record_faults → Running turns' u n command' before
+    stays turns' u command' goes most raised kept busy unquit quits later same = record {
+      entries = k.entries;
+      deeds = k.deeds;
+      goes = goes;
+      most = most;
+      all_go = k.all_go;
+      are_values = k.are_values;
+      node = k.node;
+      are_deeds = k.are_deeds;
+      told = k.told;
+      are_events = k.are_events;
+      are_raised = raised ∙ k.are_raised;
+      are_kept = λ i. subst (λ x. Appends s.kept x (lines Second 0 k.entries)) (sym kept) (k.are_kept i);
+      is_before = k.is_before;
+      busy = busy;
+      unquit = unquit;
+      quits_last = quits;
+      world_later = omega (arith, k.world_later, later);
+      record_later = omega (arith, k.record_later, same);
+    }
+
     -- a look, and then a pop
     pub looked_again : (u : Scene) (found : Option Command) → Looks u → Pops t found u → turns + 1 < limit → IsTurn command turn.Look → has_stopped (chronicle g (K ++ k.entries)) ≡ false → Running (turns + 1) u n found before
     looked_again u found w popped more is going =
@@ -257,26 +280,8 @@ module _ (g : Config) (K : List Entry) (keep : Bool) (limit : ℕ) (s : Scene) w
         let now : late turns limit t.looked ≡ 0 = not_late turns limit t.looked (λ e. omega arith) in
         let later : late (turns + 1) limit u.looked ≡ 0 = not_late (turns + 1) limit u.looked (λ e. omega arith) in
         let hands : map command_of h.popped ≡ h.handed ++ [] = h.are_handed ∙ ap (λ l. h.handed ++ l) (no_command command is) in
-        record {
-          entries = k.entries;
-          deeds = k.deeds;
-          goes = looks_again u found w.told popped now later hands;
-          most = omega (arith, more);
-          all_go = k.all_go;
-          are_values = k.are_values;
-          node = k.node;
-          are_deeds = k.are_deeds;
-          told = k.told;
-          are_events = k.are_events;
-          are_raised = w.raised ∙ k.are_raised;
-          are_kept = λ i. subst (λ x. Appends s.kept x (lines Second 0 k.entries)) (sym w.kept) (k.are_kept i);
-          is_before = k.is_before;
-          busy = λ c is. going;
-          unquit = λ on. subst NoQuit (sym (look_handed u found w.told popped now later hands)) (k.unquit going);
-          quits_last = look_quits u found w.told popped now later hands (k.unquit going);
-          world_later = omega (arith, k.world_later, w.world_later);
-          record_later = omega (arith, k.record_later, w.record_same);
-        }
+        stays (turns + 1) u found (looks_again u found w.told popped now later hands) (omega (arith, more)) w.raised w.kept (λ c is. going)
+        (λ on. subst NoQuit (sym (look_handed u found w.told popped now later hands)) (k.unquit going)) (look_quits u found w.told popped now later hands (k.unquit going)) w.world_later w.record_same
 
     -- a look in the last turn, after which nothing is popped
     pub looked_last : (u : Scene) → Looks u → u.popped ≡ t.popped → u.empties ≡ t.empties → turns + 1 ≡ limit → IsTurn command turn.Look → Running (turns + 1) u n None before
@@ -284,36 +289,8 @@ module _ (g : Config) (K : List Entry) (keep : Bool) (limit : ℕ) (s : Scene) w
         let h = k.goes in
         let now : late turns limit t.looked ≡ 0 = not_late turns limit t.looked (λ e. omega arith) in
         let later : late (turns + 1) limit u.looked ≡ 1 = ap (late (turns + 1) limit) w.looked ∙ is_late (turns + 1) limit last (omega arith) in
-        record {
-          entries = k.entries;
-          deeds = k.deeds;
-          goes = record {
-            looks = h.looks + 1;
-            handed = h.handed;
-            is_told = after_look s.told t.told u.told command k.entries h.looks h.handed k.deeds h.is_told w.told;
-            counted = omega (arith, h.counted);
-            popped = h.popped;
-            is_popped = popped ∙ h.is_popped;
-            are_handed = h.are_handed ∙ ap (λ l. h.handed ++ l) (no_command command is);
-            are_done = h.are_done;
-            are_looks = omega (arith, h.are_looks);
-          };
-          most = omega (arith, last);
-          all_go = k.all_go;
-          are_values = k.are_values;
-          node = k.node;
-          are_deeds = k.are_deeds;
-          told = k.told;
-          are_events = k.are_events;
-          are_raised = w.raised ∙ k.are_raised;
-          are_kept = λ i. subst (λ x. Appends s.kept x (lines Second 0 k.entries)) (sym w.kept) (k.are_kept i);
-          is_before = k.is_before;
-          busy = λ c is. absurd (cc);
-          unquit = k.unquit;
-          quits_last = k.quits_last;
-          world_later = omega (arith, k.world_later, w.world_later);
-          record_later = omega (arith, k.record_later, w.record_same);
-        }
+        stays (turns + 1) u None (goes_look u h.popped [] w.told (popped ∙ h.is_popped) (h.are_handed ∙ ap (λ l. h.handed ++ l) (no_command command is)) (omega (arith, h.are_looks))) (omega (arith, last)) w.raised w.kept
+        (λ c is. absurd (cc)) k.unquit k.quits_last w.world_later w.record_same
 
     -- an entry was given, and the rest of the scene stands as it stood but for the events that are raised
     pub record Gives (e : Entry) (told : Option Log) (u : Scene) : Type 0 where
@@ -434,8 +411,8 @@ module _ (g : Config) (K : List Entry) (keep : Bool) (limit : ℕ) (s : Scene) w
       pub record_same : u.record_faults ≡ t.record_faults
 
     -- the scene went on, and nothing of it but counts of faults, and what is kept
-    abbrev pub same_goes : (u : Scene) (more : List Entry) → u.told ≡ t.told → u.looked ≡ t.looked → u.popped ≡ t.popped → u.empties ≡ t.empties → Goes turns limit s u k.entries k.deeds (option_to_list command)
-    same_goes u more told looked popped empties = let h = k.goes in let same : late turns limit u.looked ≡ late turns limit t.looked = ap (late turns limit) looked in record {
+    abbrev pub same_goes : (u : Scene) → u.told ≡ t.told → u.looked ≡ t.looked → u.popped ≡ t.popped → u.empties ≡ t.empties → Goes turns limit s u k.entries k.deeds (option_to_list command)
+    same_goes u told looked popped empties = let h = k.goes in let same : late turns limit u.looked ≡ late turns limit t.looked = ap (late turns limit) looked in record {
       looks = h.looks;
       handed = h.handed;
       is_told = told ∙ h.is_told;
@@ -448,26 +425,7 @@ module _ (g : Config) (K : List Entry) (keep : Bool) (limit : ℕ) (s : Scene) w
     }
 
     abbrev pub refused : (f : NextFault) (u : Scene) → Refuses f u → Running turns u n command before
-    refused f u w = record {
-      entries = k.entries;
-      deeds = k.deeds;
-      goes = same_goes u [] w.told w.looked w.popped w.empties;
-      most = k.most;
-      all_go = k.all_go;
-      are_values = k.are_values;
-      node = k.node;
-      are_deeds = k.are_deeds;
-      told = k.told;
-      are_events = k.are_events;
-      are_raised = w.raised ∙ k.are_raised;
-      are_kept = λ i. subst (λ x. Appends s.kept x (lines Second 0 k.entries)) (sym w.kept) (k.are_kept i);
-      is_before = k.is_before;
-      busy = k.busy;
-      unquit = k.unquit;
-      quits_last = k.quits_last;
-      world_later = omega (arith, k.world_later, w.world_later);
-      record_later = omega (arith, k.record_later, w.record_same);
-    }
+    refused f u w = stays turns u command (same_goes u w.told w.looked w.popped w.empties) k.most w.raised w.kept k.busy k.unquit k.quits_last w.world_later w.record_same
 
     -- ---- an entry that broke off
 

@@ -11,9 +11,9 @@ ghost use Rattle.zre_actor.specs.declared.ending.Ending.TheVariants as ending;
 ghost use Rattle.zre_actor.specs.Passes.{IsActorOf, popped_by, raised_by, unused_by, ending_of};
 ghost use Rattle.zre_actor.specs.Work.{IsWork, scene, world_ending};
 
-use crate::Ending;
 use crate::doing::take_entry;
 use crate::passes::{ActorPass, Pipes};
+use crate::{Ending, Told};
 use std::sync::Wait;
 use zre_node::Node;
 use zre_outside::{NextFault, Recorder, Turn, World};
@@ -116,7 +116,7 @@ impl Pipes {
         ensures pass { (popped_by result.pass ≡ popped_by pass) × (raised_by result.pass ≡ raised_by pass)
             × (result.pass.empties ≡ pass.empties) }
     {
-        let pass = self.end(rt, pass, ending);
+        let pass = self.push(rt, pass, Told::Last(ending));
         Worked {
             world,
             node,
@@ -136,7 +136,7 @@ impl Pipes {
         ensures commands { (popped_by result ≡ popped_by pass) × (result.empties ≡ pass.empties) }
     {
         for event in events.into_vec() {
-            pass = self.raise(rt, pass, event);
+            pass = self.push(rt, pass, Told::Event(event));
         }
         pass
     }

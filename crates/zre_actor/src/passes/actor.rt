@@ -1,13 +1,14 @@
 //! What the actor does with the pipes.
-ghost use Rattle.std.specs.Prelude.{◌≡◌, ◌++◌, ◌∷◌, [], None, Some};
+ghost use Rattle.std.specs.Prelude.{◌≡◌, None};
+ghost use Rattle.crossbeam_channel.specs.Claims as channel;
+ghost use Rattle.zre_actor.specs.Events.{sent};
 ghost use Rattle.zre_actor.specs.Passes.{IsActorOf, popped_by, unused_by, raised_by, ending_of, IsPopped};
 
 use super::{ActorPass, Pipes};
+use crate::Told;
 use crate::rules::Pops;
-use crate::{Ending, Told};
 use std::sync::Wait;
 use zre_outside::Command;
-use zre_peer::Event;
 
 impl Pipes {
     // A command, or nothing where the pipe was empty at one moment of the call.
@@ -35,13 +36,12 @@ impl Pipes {
         (pass, found)
     }
 
-    // Pushes an event.
-    pub(crate) fn raise<R: Wait + Copy>(&self, rt: R, pass: ActorPass, event: Event) -> ActorPass
+    // Pushes an event, or Last.
+    pub(crate) fn push<R: Wait + Copy>(&self, rt: R, pass: ActorPass, message: Told) -> ActorPass
         requires pipes { IsActorOf self.now pass }
         requires open { ending_of pass ≡ None }
         ensures pipes { IsActorOf self.now result }
-        ensures raised { raised_by result ≡ raised_by pass ++ event ∷ [] }
-        ensures open { ending_of result ≡ None }
+        ensures told { channel.view result.events ≡ sent (channel.view pass.events) message }
         ensures commands { (popped_by result ≡ popped_by pass) × (result.empties ≡ pass.empties)
             × (unused_by result ≡ unused_by pass) }
     {
@@ -50,30 +50,7 @@ impl Pipes {
             mut events,
             empties,
         } = pass;
-        self.tell(rt, &mut events, Told::Event(event));
-        ActorPass {
-            commands,
-            events,
-            empties,
-        }
-    }
-
-    // Pushes Last.
-    pub(crate) fn end<R: Wait + Copy>(&self, rt: R, pass: ActorPass, ending: Ending) -> ActorPass
-        requires pipes { IsActorOf self.now pass }
-        requires open { ending_of pass ≡ None }
-        ensures pipes { IsActorOf self.now result }
-        ensures raised { raised_by result ≡ raised_by pass }
-        ensures ended { ending_of result ≡ Some ending }
-        ensures commands { (popped_by result ≡ popped_by pass) × (result.empties ≡ pass.empties)
-            × (unused_by result ≡ unused_by pass) }
-    {
-        let ActorPass {
-            commands,
-            mut events,
-            empties,
-        } = pass;
-        self.tell(rt, &mut events, Told::Last(ending));
+        self.tell(rt, &mut events, message);
         ActorPass {
             commands,
             events,

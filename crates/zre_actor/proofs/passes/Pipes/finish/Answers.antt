@@ -1,4 +1,4 @@
-use Rattle.std.proofs.Common.{◌+◌, ◌++◌, ◌∷◌, [], length, sym, ap, ◌∙◌, subst, append_assoc}
+use Rattle.std.proofs.Common.{◌+◌, ◌++◌, ◌∷◌, [], length, sym, ap, ◌∙◌, subst, append_assoc, rules}
 use Rattle.crossbeam_queue.specs.Passes.{view}
 use Rattle.crossbeam_channel.specs.Claims as channel
 use Rattle.std.specs.Vec.Iter.{into_iter_items}
@@ -7,7 +7,7 @@ use Rattle.zre_actor.specs.Passes.{caller}
 use Rattle.zre_actor.proofs.Steps.{merges}
 use Rattle.zre_actor.proofs.EventSteps.{meets, learns_met}
 use Rattle.std.proofs.lemmas.List.{length-map}
-use Rattle.zre_actor.proofs.Finishing.{took_all, learns_all_put, gathered, gathered-snoc, fronts, each_prefix, all_left, all_ended}
+use Rattle.zre_actor.proofs.Finishing.{gathered_all, learns_all_put, gathered, gathered-snoc, fronts, each_prefix, all_left, all_ended}
 use Rattle.zre_actor.proofs.passes.Pipes.finish.Goals as goal
 
 pub absorb-requires-clause-rule : goal.absorb-requires-clause-rule
@@ -21,40 +21,26 @@ loop-pass-preserved g c = let h = c.loop-pass.invariant in let p = c.in-Some.pas
 }
 
 pub len_as-left-requires-clause-rule : goal.len_as-left-requires-clause-rule
-len_as-left-requires-clause-rule g c = let h = c.loop-pass.invariant in
-    let all = took_all c.args.callers.given.items c.loop-pass.yielded (into_iter_items c.loop-pass.pass-iterator) c.loop-pass.pass-iterator.rest.len h.rest c.loop-pass.pass-iterator.rest.ok.0 c.in-None.ensures.steps.0 in
-    learns_all_put _ _ (view c.args.actor.commands) c.args.callers.given.items (h.view_is ∙ ap (gathered (view c.args.actor.commands)) all) c.args.actor.is_actor c.requires.back
+len_as-left-requires-clause-rule g c = let l = c.loop-pass in let v = view c.args.actor.commands in let ps = c.args.callers.given.items in
+    let all = gathered_all v (view l.commands) ps l.yielded (into_iter_items l.pass-iterator) l.pass-iterator.rest.len l.invariant.rest l.pass-iterator.rest.ok.0 c.in-None.ensures.steps.0 l.invariant.view_is in
+    learns_all_put _ _ v ps all c.args.actor.is_actor c.requires.back
 
 pub absorb-requires-2-clause-rule : goal.absorb-requires-2-clause-rule
 absorb-requires-2-clause-rule g c = meets _ _ _ _ c.args.actor.raises c.args.taker.takes
 
-pub returns-clause-put : goal.returns-clause-put
-returns-clause-put g c = let h = c.loop-pass.invariant in let v = view c.args.actor.commands in let ps = c.args.callers.given.items in
-    let all = took_all c.args.callers.given.items c.loop-pass.yielded (into_iter_items c.loop-pass.pass-iterator) c.loop-pass.pass-iterator.rest.len h.rest c.loop-pass.pass-iterator.rest.ok.0 c.in-None.ensures.steps.0 in
-    let held = c.len_as-left.ensures.rule.1 in
-    let known : Accounts (gathered v ps) held.0 = subst (λ u. Accounts u held.0) (h.view_is ∙ ap (gathered v) all) held.2 in
-    each_prefix v ps held.0 c.args.actor.is_actor.3 known
-
-pub returns-clause-fronts : goal.returns-clause-fronts
-returns-clause-fronts g c = let h = c.loop-pass.invariant in let v = view c.args.actor.commands in let ps = c.args.callers.given.items in
-    let all = took_all c.args.callers.given.items c.loop-pass.yielded (into_iter_items c.loop-pass.pass-iterator) c.loop-pass.pass-iterator.rest.len h.rest c.loop-pass.pass-iterator.rest.ok.0 c.in-None.ensures.steps.0 in
-    let held = c.len_as-left.ensures.rule.1 in
-    let known : Accounts (gathered v ps) held.0 = subst (λ u. Accounts u held.0) (h.view_is ∙ ap (gathered v) all) held.2 in
-    fronts v ps held.0 c.args.actor.is_actor.3 known
-
-pub returns-clause-left : goal.returns-clause-left
-returns-clause-left g c = let h = c.loop-pass.invariant in let v = view c.args.actor.commands in let ps = c.args.callers.given.items in
-    let all = took_all c.args.callers.given.items c.loop-pass.yielded (into_iter_items c.loop-pass.pass-iterator) c.loop-pass.pass-iterator.rest.len h.rest c.loop-pass.pass-iterator.rest.ok.0 c.in-None.ensures.steps.0 in
-    let held = c.len_as-left.ensures.rule.1 in
-    let known : Accounts (gathered v ps) held.0 = subst (λ u. Accounts u held.0) (h.view_is ∙ ap (gathered v) all) held.2 in
-    ap (λ n. n + length v.popped) (sym held.1 ∙ sym (ap length known.are_queued) ∙ length-map known.queued command_of) ∙ all_left v ps held.0 c.args.actor.is_actor.3 known
-
-pub returns-clause-ended : goal.returns-clause-ended
-returns-clause-ended g c = let h = c.loop-pass.invariant in let v = view c.args.actor.commands in let ps = c.args.callers.given.items in
-    let all = took_all c.args.callers.given.items c.loop-pass.yielded (into_iter_items c.loop-pass.pass-iterator) c.loop-pass.pass-iterator.rest.len h.rest c.loop-pass.pass-iterator.rest.ok.0 c.in-None.ensures.steps.0 in
-    let held = c.len_as-left.ensures.rule.1 in
-    let known : Accounts (gathered v ps) held.0 = subst (λ u. Accounts u held.0) (h.view_is ∙ ap (gathered v) all) held.2 in
-    all_ended v ps held.0 c.args.actor.is_actor.3 known
-
 pub learn_as-requires-clause-rule : goal.learn_as-requires-clause-rule
 learn_as-requires-clause-rule g c = learns_met _ _ (channel.view c.args.actor.events) (channel.view c.args.taker.events) c.absorb-2.ensures.rule c.requires.last
+
+pub returns : goal.returns
+returns g c = let l = c.loop-pass in let v = view c.args.actor.commands in let ps = c.args.callers.given.items in
+    let all = gathered_all v (view l.commands) ps l.yielded (into_iter_items l.pass-iterator) l.pass-iterator.rest.len l.invariant.rest l.pass-iterator.rest.ok.0 c.in-None.ensures.steps.0 l.invariant.view_is in
+    let held = c.len_as-left.ensures.rule.1 in
+    let known : Accounts (gathered v ps) held.0 = subst (λ u. Accounts u held.0) all held.2 in
+    let nothing = c.args.actor.is_actor.3 in
+    record {
+      put = each_prefix v ps held.0 nothing known;
+      fronts = fronts v ps held.0 nothing known;
+      left = ap (λ n. n + length v.popped) (sym held.1 ∙ sym (ap length known.are_queued) ∙ length-map known.queued command_of) ∙ all_left v ps held.0 nothing known;
+      ended = all_ended v ps held.0 nothing known;
+      taken = search rules;
+    }
