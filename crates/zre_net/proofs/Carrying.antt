@@ -24,12 +24,12 @@ use Rattle.zre_net.specs.Agreement.{carried}
 use Rattle.zre_net.specs.Carried.{spelling, pending}
 use Rattle.zre_net.specs.Comes.{turn_of}
 use Rattle.zre_net.specs.Grammar.{can_carry}
-use Rattle.zre_net.specs.History.{Incarnation, Turn, Happening, Happens, IsKnown, starts, incarnations, running, journal, chronicle_of, settings_of}
+use Rattle.zre_net.specs.History.{Incarnation, Turn, Happening, Happens, IsKnown, incarnations, running, journal, chronicle_of, settings_of}
 use Rattle.zre_net.specs.Lists.{nth}
 use Rattle.zre_net.specs.Numbers.{Route, Conn, acts_of, route_in, routes, conns, queued_on}
 use Rattle.zre_net.proofs.Grows.{links_grow}
-use Rattle.zre_net.proofs.Journals.{length-last, as_many_starts, same_who, other_journal, chronicle_now, other_chronicle}
-use Rattle.zre_net.proofs.Listing.{some_one, nth_reach, nth_more, nth_last, nth_cases, all_more, all_map, past_all}
+use Rattle.zre_net.proofs.Journals.{length-last, same_who, other_journal, chronicle_now, other_chronicle}
+use Rattle.zre_net.proofs.Listing.{some_one, nth_more, nth_cases, all_more, all_map, past_all}
 use Rattle.zre_net.proofs.Opened.{IsOld, bytes_now, still_old, opened_now, opened_same}
 use Rattle.zre_net.proofs.Staying.{starting, after_start, known_started, number_is, starting_known}
 

@@ -10,14 +10,13 @@ use Rattle.zre_net.specs.declared.running.network.Network.{Network}
 use Rattle.zre_net.specs.declared.running.rows.Carrier.{Carrier}
 use Rattle.zre_net.specs.Carried.{pending}
 use Rattle.zre_net.specs.Comes.{turn_of}
-use Rattle.zre_net.specs.History.{Incarnation, Turn, Happening, Happens, IsKnown, incarnations, journal, chronicle_of}
+use Rattle.zre_net.specs.History.{Incarnation, Turn, Happening, Happens, IsKnown, journal, chronicle_of}
 use Rattle.zre_net.specs.Lists.{nth}
 use Rattle.zre_net.specs.Numbers.{Conn, conns}
 use Rattle.zre_net.specs.Rows.{Fits}
-use Rattle.zre_net.specs.Running.{AreNodes, IsConn, HasConn, AreConns, StandsAfter, IsStill, IsKept, IsSilent}
+use Rattle.zre_net.specs.Running.{AreNodes, HasConn, AreConns, StandsAfter, IsStill, IsKept, IsSilent}
 use Rattle.zre_net.proofs.Hearing.{fits_still, no_piece}
 use Rattle.zre_net.proofs.Opened.{bytes_same}
-use Rattle.zre_net.proofs.Listing.{some_one}
 use Rattle.zre_net.proofs.Journals.{same_who, chronicle_now, other_chronicle}
 use Rattle.zre_net.proofs.Staying.{conn_stays}
 

@@ -5,7 +5,7 @@ use Rattle.std.specs.Option.{option_map}
 use Rattle.zre_values.specs.Address.{IsAddress}
 use Rattle.zre_values.specs.declared.peer_id.PeerId.{PeerId}
 use Rattle.zre_capture.specs.Parts.{◌>>=◌, two}
-use Rattle.zre_capture.specs.Reading.{one_number, two_numbers, number_and_hex, command_in}
+use Rattle.zre_capture.specs.Reading.{two_numbers, number_and_hex, command_in}
 use Rattle.zre_capture.specs.Values.{number_of, address_of, group_of, id_of}
 use Rattle.zre_capture.proofs.Spelled.{id_of-some, address_of-some}
 use Rattle.zre_net.specs.declared.limits.TheConstants.{NAME_OCTETS}
@@ -13,7 +13,6 @@ use Rattle.zre_net.specs.declared.word.MoveWord.{MoveWord}
 use Rattle.zre_net.specs.declared.word.MoveWord.TheVariants as word
 use Rattle.zre_net.specs.declared.moves.Move.{Move}
 use Rattle.zre_net.specs.declared.moves.Move.TheVariants as move
-use Rattle.zre_net.specs.declared.moves.Part.{Part}
 use Rattle.zre_net.specs.Fields.{cut, port_in, short_name, name_of, node_then, number_then, one_node, node_and_number, number_and_node, three_numbers, host_and_port, name_and_place, who_and_place, part_of, start_in, do_in, carry_in, reply_in, move_word_of, move_from, move_in, move_of}
 use Rattle.zre_net.specs.Reading.{with_first, moves_in, moves_of}
 use Rattle.zre_net.proofs.Carrying.{HasFields, MayStart}

@@ -1,15 +1,15 @@
 -- The ear of a connection, after an entry of its node.
-use Rattle.std.proofs.Common.{◌≡◌, ◌⊎◌, ℕ, ◌+◌, ◌≤◌, ◌<◌, Bool, true, false, cond, not, ◌&&◌, eqb, ltb, List, [], ◌∷◌, ◌++◌, length, map, drop, refl, subst, ltb-true, sym, ap, ◌∙◌, inl, inr, arith, append_assoc, append-nil, true≢false, eqb-true, eq-eqb}
+use Rattle.std.proofs.Common.{◌≡◌, ℕ, ◌≤◌, Bool, true, false, cond, List, [], ◌∷◌, ◌++◌, length, drop, refl, sym, ap, ◌∙◌, arith, append-nil, eq-eqb}
 use Rattle.zre_outside.specs.declared.entry.Entry.{Entry}
 use Rattle.zre_outside.specs.declared.entry.Input.{Input}
 use Rattle.zre_outside.specs.declared.entry.Input.TheVariants as input
 use Rattle.zre_mailbox.specs.Conn.{conn_after}
 use Rattle.zre_mailbox.specs.Talk.{talk, completed}
 use Rattle.zre_journal.specs.declared.config.Config.{Config}
-use Rattle.zre_journal.specs.Chronicle.{Mark, Comes, Opens, TurnsAway, Ends, ClosesAtStop, SendsBeacon, Stops, after}
+use Rattle.zre_journal.specs.Chronicle.{Mark, Comes}
 use Rattle.zre_journal.specs.Events.{chronicle}
-use Rattle.zre_journal.specs.Happens.{has_stopped, at_input, marks, with_entry}
-use Rattle.zre_journal.specs.Heard.{bytes, was_opened, piece_of, opens, newly_completed}
+use Rattle.zre_journal.specs.Happens.{with_entry}
+use Rattle.zre_journal.specs.Heard.{bytes, was_opened, piece_of, newly_completed}
 use Rattle.zre_net.specs.declared.running.ear.Ear.{Ear}
 use Rattle.zre_net.specs.Running.{IsSilent}
 use Rattle.zre_net.specs.Rows.{Fits}

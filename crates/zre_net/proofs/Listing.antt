@@ -1,5 +1,5 @@
 -- Lists that are counted from 1: what stands in longer ones, and in ones that were written; and sums over them.
-use Rattle.std.proofs.Common.{◌≡◌, ◌⊎◌, ℕ, zero, suc, ◌+◌, ◌≤◌, ◌<◌, true, false, eqb, List, [], ◌∷◌, ◌++◌, length, map, Some, None, refl, sym, ap, ◌∙◌, subst, inl, inr, arith, eq-eqb, true≢false}
+use Rattle.std.proofs.Common.{◌≡◌, ◌⊎◌, ℕ, zero, suc, ◌+◌, ◌≤◌, ◌<◌, false, eqb, List, [], ◌∷◌, ◌++◌, length, map, Some, None, refl, sym, ap, ◌∙◌, subst, inl, inr, arith, eq-eqb, true≢false}
 use Rattle.std.specs.Prelude.{slice_get, slice_set, get_or}
 use Rattle.std.specs.List.{sum_by, AllByRecursion}
 use Rattle.std.specs.Option.{option_map}

@@ -1,11 +1,9 @@
 -- Whether a connection was opened at a node, and what octets of it came there, after an entry.
-use Rattle.std.proofs.Common.{◌≡◌, ◌⊎◌, ℕ, ◌+◌, ◌≤◌, ◌<◌, Bool, true, false, cond, not, ◌&&◌, eqb, ltb, List, [], ◌∷◌, ◌++◌, length, map, drop, refl, subst, ltb-true, sym, ap, ◌∙◌, inl, inr, arith, append_assoc, append-nil, true≢false, eqb-true, eq-eqb}
+use Rattle.std.proofs.Common.{◌≡◌, ◌⊎◌, ℕ, Bool, true, false, cond, ◌&&◌, eqb, ltb, List, [], ◌∷◌, ◌++◌, length, map, refl, subst, ltb-true, sym, ap, ◌∙◌, inl, inr, arith, append_assoc, append-nil, true≢false, eqb-true}
 use Rattle.zre_outside.specs.declared.entry.Entry.{Entry}
-use Rattle.zre_outside.specs.declared.entry.Input.{Input}
 use Rattle.zre_outside.specs.declared.entry.Input.TheVariants as input
 use Rattle.zre_values.specs.declared.limits.TheConstants.{CONNECTIONS}
 use Rattle.zre_journal.specs.declared.config.Config.{Config}
-use Rattle.zre_journal.specs.Arrivals.{at_opened}
 use Rattle.zre_journal.specs.Commands.{at_stop}
 use Rattle.zre_journal.specs.Cutting.{is_entry}
 use Rattle.zre_journal.specs.Peers.{Life, lives}
@@ -16,8 +14,8 @@ use Rattle.zre_journal.specs.Chronicle.{Mark, Comes, Opens, TurnsAway, Ends, Clo
 use Rattle.zre_journal.specs.Connections.{is_new, open_ones}
 use Rattle.zre_journal.specs.Endings.{is_end}
 use Rattle.zre_journal.specs.Events.{chronicle}
-use Rattle.zre_journal.specs.Happens.{has_stopped, at_input, marks, with_entry}
-use Rattle.zre_journal.specs.Heard.{bytes, was_opened, piece_of, opens, newly_completed}
+use Rattle.zre_journal.specs.Happens.{has_stopped, at_input, with_entry}
+use Rattle.zre_journal.specs.Heard.{bytes, was_opened, piece_of}
 use Rattle.zre_journal.specs.Proper.{IsProper}
 use Rattle.zre_journal.proofs.Always.{is_proper}
 use Rattle.zre_journal.proofs.Going.{are_others}

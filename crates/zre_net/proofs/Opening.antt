@@ -1,31 +1,26 @@
 -- A connection opens.
-use Rattle.std.proofs.Common.{◌≡◌, ◌⊎◌, ℕ, zero, suc, ◌+◌, ◌≤◌, ◌<◌, Bool, true, false, cond, ◌&&◌, is_some, eqb, List, [], ◌∷◌, ◌++◌, length, drop, Option, Some, None, refl, sym, ap, ◌∙◌, subst, inl, inr, arith, eqb-true, append-nil}
+use Rattle.std.proofs.Common.{◌≡◌, ◌⊎◌, ℕ, ◌+◌, Bool, true, false, ◌&&◌, is_some, List, [], ◌∷◌, ◌++◌, length, Some, None, refl, sym, ap, ◌∙◌, subst, inl, inr, arith}
 use Rattle.std.specs.Prelude.{sum_by, option_map}
-use Rattle.std.specs.Option.{option_map_or}
 use Rattle.std.proofs.lemmas.List.Sums.{sum_by_push}
 use Rattle.zre_outside.specs.declared.entry.Input.TheVariants as input
 use Rattle.zre_mailbox.specs.Conn.{conn_after}
-use Rattle.zre_journal.specs.Chronicle.{Mark, followed}
-use Rattle.zre_journal.specs.Heard.{bytes}
-use Rattle.zre_net.specs.declared.moves.Move.{Move}
+use Rattle.zre_journal.specs.Chronicle.{followed}
 use Rattle.zre_net.specs.declared.moves.Move.TheVariants as move
-use Rattle.zre_net.specs.declared.moves.Part.{Part}
 use Rattle.zre_net.specs.declared.running.network.Network.{Network}
 use Rattle.zre_net.specs.declared.running.rows.Carrier.{Carrier}
 use Rattle.zre_net.specs.declared.running.rows.Started.{Started}
 use Rattle.zre_net.specs.declared.running.rows.Way.{Way}
-use Rattle.zre_net.specs.Carried.{spelling, appended, pending}
 use Rattle.zre_net.specs.Comes.{turn_of, turn}
-use Rattle.zre_net.specs.History.{Incarnation, Turn, Happening, Happens, IsKnown, incarnations, running as running_in, journal, chronicle_of}
+use Rattle.zre_net.specs.History.{Incarnation, Happening, Happens, IsKnown, incarnations, running as running_in, journal}
 use Rattle.zre_net.specs.Lists.{nth}
 use Rattle.zre_net.specs.Numbers.{Route, Conn, routes, conns, conn_of}
 use Rattle.zre_net.specs.Grammar.{may_come}
 use Rattle.zre_net.specs.Lines.{octets_in}
 use Rattle.zre_net.specs.Rows.{Fits, running_at}
-use Rattle.zre_net.specs.Running.{AreNodes, IsConn, HasConn, AreConns, StandsAfter, AreStarted, Finds, IsPlayed, way_of}
+use Rattle.zre_net.specs.Running.{AreNodes, IsConn, HasConn, StandsAfter, AreStarted, Finds, IsPlayed, way_of}
 use Rattle.zre_net.proofs.Connecting.{known_later, conn_still, silent_more}
 use Rattle.zre_net.proofs.Hearing.{fits_new}
-use Rattle.zre_net.proofs.Listing.{some_one, nth_past, nth_more, nth_last, nth_cases}
+use Rattle.zre_net.proofs.Listing.{some_one, nth_more, nth_last, nth_cases}
 use Rattle.zre_net.proofs.Plays.{open_still, played, runs_there, Runs, not_running, link_found, IsLinkFound, no_link}
 use Rattle.zre_net.proofs.Journals.{chronicle_now, length-last}
 use Rattle.zre_net.proofs.Pending.{no_pending}

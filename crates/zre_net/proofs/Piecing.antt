@@ -1,5 +1,5 @@
 -- Octets of a connection come, part by part.
-use Rattle.std.proofs.Common.{◌≡◌, ◌⊎◌, ℕ, zero, suc, ◌+◌, ◌-◌, ◌≤◌, ◌<◌, max, Bool, true, false, cond, not, ◌&&◌, eqb, ltb, leb, List, [], ◌∷◌, ◌++◌, length, map, take, drop, filter, Option, Some, None, refl, sym, ap, ◌∙◌, subst, arith, eqb-true, eq-eqb, ltb-true, ltb-false, leb-true, leb-false, append_assoc, append-nil, true≢false}
+use Rattle.std.proofs.Common.{◌≡◌, ◌⊎◌, ℕ, zero, suc, ◌+◌, ◌-◌, ◌≤◌, ◌<◌, max, Bool, true, false, cond, not, ◌&&◌, eqb, ltb, leb, List, [], ◌∷◌, ◌++◌, length, map, take, drop, Option, Some, None, refl, sym, ap, ◌∙◌, subst, arith, eqb-true, eq-eqb, ltb-true, ltb-false, leb-true, leb-false, append_assoc, append-nil}
 use Rattle.std.specs.Prelude.{slice_get, slice_set, sum_by, option_map}
 use Rattle.std.specs.List.{filter_map, AllByRecursion}
 use Rattle.std.proofs.lemmas.List.{append_cancel_left, length-drop, map-append}
@@ -10,7 +10,6 @@ use Rattle.zre_outside.specs.declared.entry.Entry.{Entry}
 use Rattle.zre_outside.specs.declared.entry.Input.TheVariants as input
 use Rattle.zre_peer.specs.declared.event.Event.{Event}
 use Rattle.zre_mailbox.specs.Conn.{conn_after}
-use Rattle.zre_mailbox.specs.Talk.{completed}
 use Rattle.zre_journal.specs.declared.config.Config.{Config}
 use Rattle.zre_journal.specs.Chronicle.{Mark, Comes, followed}
 use Rattle.zre_journal.specs.Connections.{is_new}
@@ -24,27 +23,25 @@ use Rattle.zre_journal.proofs.Joined.{continues}
 use Rattle.zre_net.specs.declared.moves.Move.TheVariants as move
 use Rattle.zre_net.specs.declared.running.ear.Ear.{Ear}
 use Rattle.zre_net.specs.declared.running.network.Network.{Network}
-use Rattle.zre_net.specs.declared.running.rows.Started.{Started}
 use Rattle.zre_net.specs.declared.running.rows.Carrier.{Carrier}
 use Rattle.zre_net.specs.Carried.{pending}
-use Rattle.zre_net.specs.Comes.{turn_of, with_move, at_conn}
+use Rattle.zre_net.specs.Comes.{turn_of, with_move}
 use Rattle.zre_net.specs.Grammar.{may_come, passes, is_there}
 use Rattle.zre_net.specs.History.{Incarnation, Turn, Happening, Happens, IsKnown, incarnations, running, journal, chronicle_of}
-use Rattle.zre_net.specs.Lines.{octets_in}
 use Rattle.zre_net.specs.Lists.{nth}
-use Rattle.zre_net.specs.Numbers.{Route, Broadcast, Conn, routes, route_in, broadcasts, broadcast_in, conns}
+use Rattle.zre_net.specs.Numbers.{Route, Conn, routes, route_in, broadcasts, broadcast_in, conns}
 use Rattle.zre_net.specs.Rows.{running_at, Fits, IsHeard}
-use Rattle.zre_net.specs.Running.{IsStarted, HasStarted, AreStarted, Finds, AreNodes, IsConn, HasConn, AreConns, StandsAfter, IsPlayed, Receives, sent_of, way_of}
+use Rattle.zre_net.specs.Running.{HasStarted, AreStarted, AreNodes, IsConn, HasConn, StandsAfter, IsPlayed, Receives, sent_of, way_of}
 use Rattle.zre_net.specs.Said.{said_in}
 use Rattle.zre_net.specs.Sender.{is_slight}
 use Rattle.zre_net.specs.Sending.{HasSent}
 use Rattle.zre_net.proofs.Connecting.{known_later, conn_still, silent_more}
 use Rattle.zre_net.proofs.Cut.{has_sent_whole}
 use Rattle.zre_net.proofs.Hearing.{fits_piece, completes_few}
-use Rattle.zre_net.proofs.Listing.{some_one, in_reach, nth_at, nth_reach, nth_same, nth_other, set_length, sum_set, all_map, past_all}
-use Rattle.zre_net.proofs.Plays.{piece_still, played, not_received, received, IsReceived}
+use Rattle.zre_net.proofs.Listing.{some_one, in_reach, nth_at, nth_same, nth_other, set_length, sum_set, all_map, past_all}
+use Rattle.zre_net.proofs.Plays.{piece_still, played, not_received, received}
 use Rattle.zre_net.proofs.Same.{by_marks, ever_but, new_but, sim, Sim}
-use Rattle.zre_net.proofs.Journals.{chronicle_now, other_chronicle, same_who}
+use Rattle.zre_net.proofs.Journals.{chronicle_now, same_who}
 use Rattle.zre_net.proofs.Staying.{start_stays, conn_stays, finds_stays}
 
 -- ---- some octets come

@@ -1,23 +1,22 @@
 -- Moves that bring an entry to a node: what they find, and what stands after them.
-use Rattle.std.proofs.Common.{◌≡◌, ℕ, ◌+◌, Bool, true, false, cond, ◌&&◌, eqb, List, [], ◌∷◌, length, map, Option, Some, None, is_some, refl, sym, ap, ◌∙◌, subst, true≢false, eqb-true, eq-eqb, arith}
-use Rattle.std.specs.Prelude.{option_map, slice_get}
+use Rattle.std.proofs.Common.{◌≡◌, ℕ, Bool, true, false, cond, ◌&&◌, eqb, List, ◌∷◌, map, Option, Some, None, is_some, refl, sym, ap, ◌∙◌, subst, true≢false, arith}
+use Rattle.std.specs.Prelude.{option_map}
 use Rattle.zre_outside.specs.declared.entry.Command.{Command}
 use Rattle.zre_outside.specs.declared.entry.Input.{Input}
 use Rattle.zre_outside.specs.declared.entry.Input.TheVariants as input
 use Rattle.zre_net.specs.declared.moves.Move.{Move}
 use Rattle.zre_net.specs.declared.moves.Move.TheVariants as move
 use Rattle.zre_net.specs.declared.running.network.Network.{Network}
-use Rattle.zre_net.specs.declared.running.rows.Started.{Started}
 use Rattle.zre_net.specs.declared.running.rows.Carrier.{Carrier}
 use Rattle.zre_net.specs.declared.running.rows.Sent.{Sent}
 use Rattle.zre_net.specs.declared.running.rows.Way.{Way}
 use Rattle.zre_net.specs.Comes.{turn_of, turn, with_move, at_broadcast}
 use Rattle.zre_net.specs.Grammar.{may_come, is_there, passes}
-use Rattle.zre_net.specs.History.{Incarnation, Turn, Happening, Happens, IsKnown, incarnations, running}
+use Rattle.zre_net.specs.History.{Incarnation, Happening, Happens, IsKnown, incarnations, running}
 use Rattle.zre_net.specs.Lists.{nth}
 use Rattle.zre_net.specs.Numbers.{Broadcast, Route, Conn, broadcasts, routes, conns}
 use Rattle.zre_net.specs.Rows.{running_at, is_at, same_number}
-use Rattle.zre_net.specs.Running.{Finds, AreNodes, HasStarted, IsConn, HasConn, StandsAfter, IsStill, IsKept, IsPlayed, Receives, Sends, sent_of, way_of}
+use Rattle.zre_net.specs.Running.{Finds, AreNodes, HasStarted, IsConn, StandsAfter, IsStill, IsKept, IsPlayed, Receives, Sends, sent_of, way_of}
 use Rattle.zre_net.proofs.Listing.{some_one, nth_map, nth_reach, nth_first, nth_there, all_at}
 use Rattle.zre_journal.proofs.Listed.{eqb-comm}
 

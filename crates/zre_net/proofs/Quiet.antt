@@ -1,13 +1,11 @@
 -- Moves that bring no entry: a node is gone, and a connection is made to carry more.
-use Rattle.std.proofs.Common.{◌≡◌, ℕ, ◌+◌, ◌<◌, Bool, true, false, cond, eqb, List, [], ◌∷◌, ◌++◌, length, map, Option, Some, None, is_some, refl, sym, ap, ◌∙◌, subst, arith, eqb-true, eq-eqb, length-append, true≢false}
+use Rattle.std.proofs.Common.{◌≡◌, ℕ, ◌+◌, Bool, true, false, cond, eqb, List, [], ◌∷◌, ◌++◌, length, Option, Some, None, is_some, refl, sym, ap, ◌∙◌, subst, arith, eqb-true, eq-eqb, length-append}
 use Rattle.std.specs.Prelude.{slice_get, slice_set, sum_by}
-use Rattle.std.specs.List.{AllByRecursion}
 use Rattle.std.specs.Option.{option_map, option_map_or}
 use Rattle.zre_zmtp.specs.declared.writing.SocketType.TheVariants as socket
 use Rattle.zre_zmtp.specs.Written.{ready_frame}
 use Rattle.zre_msg.specs.Spelling.{octets}
 use Rattle.zre_msg.specs.declared.message.Message.{Message}
-use Rattle.zre_net.specs.declared.moves.Move.{Move}
 use Rattle.zre_net.specs.declared.moves.Move.TheVariants as move
 use Rattle.zre_net.specs.declared.moves.Part.{Part}
 use Rattle.zre_net.specs.declared.moves.Part.TheVariants as part
@@ -18,13 +16,12 @@ use Rattle.zre_net.specs.declared.running.rows.Way.{Way}
 use Rattle.zre_net.specs.Carried.{spelling, appended, pending}
 use Rattle.zre_net.specs.Grammar.{can_carry, may_come, passes}
 use Rattle.zre_net.specs.History.{Incarnation, Happening, Happens, IsKnown, incarnations, running, journal, chronicle_of}
-use Rattle.zre_net.specs.Lines.{octets_in, messages_at}
+use Rattle.zre_net.specs.Lines.{octets_in}
 use Rattle.zre_net.specs.Lists.{nth}
 use Rattle.zre_net.specs.Numbers.{Route, Conn, routes, conns, queued_on}
 use Rattle.zre_net.specs.Rows.{running_at, with_running, HasStopped, part_octets, IsSpelledAt, IsLoaded, Fits}
 use Rattle.zre_net.specs.Running.{IsStarted, HasStarted, AreStarted, Finds, AreNodes, IsConn, HasConn, AreConns, StandsAfter, IsPlayed}
-use Rattle.zre_net.specs.Sender.{spelled}
-use Rattle.zre_net.proofs.Plays.{played, not_running, runs_there, Runs, conn_found, conn_missing, IsFound}
+use Rattle.zre_net.proofs.Plays.{played, not_running, runs_there, conn_found, conn_missing, IsFound}
 use Rattle.zre_net.proofs.Listing.{some_one, in_reach, nth_at, nth_same, nth_other, nth_map, set_length, sum_set, all_map}
 use Rattle.zre_net.proofs.Staying.{start_stays, conn_stays, finds_stays}
 

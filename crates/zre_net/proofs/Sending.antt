@@ -1,5 +1,5 @@
 -- The table of a node's links, after an entry.
-use Rattle.std.proofs.Common.{◌≡◌, ◌⊎◌, ℕ, zero, suc, ◌+◌, ◌-◌, ◌≤◌, ◌<◌, Bool, true, false, cond, not, eqb, List, [], ◌∷◌, ◌++◌, length, drop, map, filter, replicate, Option, Some, None, IsSome, is_some, find, refl, sym, ap, ◌∙◌, inl, inr, arith, append_assoc, append-nil, length-append, eqb-true}
+use Rattle.std.proofs.Common.{◌≡◌, ◌⊎◌, ℕ, zero, suc, ◌+◌, ◌≤◌, ◌<◌, Bool, true, false, cond, not, eqb, List, [], ◌∷◌, ◌++◌, length, drop, map, filter, replicate, Option, Some, None, IsSome, is_some, find, refl, sym, ap, ◌∙◌, inl, inr, arith, append_assoc, append-nil, length-append, eqb-true}
 use Rattle.std.proofs.lemmas.List.{length-drop, take_more}
 use Rattle.std.specs.Prelude.{slice_get, get_or, take}
 use Rattle.std.specs.Option.{option_map_or}
@@ -11,7 +11,6 @@ use Rattle.zre_outside.specs.declared.entry.Entry.{Entry}
 use Rattle.zre_link.specs.Text.{text_of}
 use Rattle.zre_journal.specs.declared.config.Config.{Config}
 use Rattle.zre_journal.specs.Chronicle.{Mark, Comes, Born, Ends, after}
-use Rattle.zre_journal.specs.Connections.{others}
 use Rattle.zre_journal.specs.Done.{done, done_at, close_link, offers, is_offered, acts_at}
 use Rattle.zre_journal.specs.Events.{chronicle}
 use Rattle.zre_journal.specs.Happens.{has_stopped, at_input, with_entry}

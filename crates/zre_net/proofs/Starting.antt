@@ -1,30 +1,26 @@
 -- A node starts, or is gone.
-use Rattle.std.proofs.Common.{◌≡◌, ◌⊎◌, ℕ, ◌+◌, ◌≤◌, ◌<◌, Bool, true, false, cond, not, ◌&&◌, eqb, ltb, List, [], ◌∷◌, ◌++◌, length, map, Option, Some, None, is_some, is_none, refl, sym, ap, ◌∙◌, subst, inl, inr, arith, eqb-true, eq-eqb, true≢false}
-use Rattle.std.specs.Prelude.{slice_get, slice_set, sum_by}
-use Rattle.std.specs.List.{AllByRecursion, list_all}
+use Rattle.std.proofs.Common.{◌≡◌, ◌⊎◌, ℕ, ◌+◌, ◌<◌, Bool, true, false, cond, not, ◌&&◌, eqb, ltb, List, [], ◌∷◌, ◌++◌, length, map, Option, Some, None, is_none, refl, sym, ap, ◌∙◌, subst, inl, inr, arith, eqb-true}
+use Rattle.std.specs.Prelude.{sum_by}
+use Rattle.std.specs.List.{list_all}
 use Rattle.std.specs.Str.{bytes_eq}
 use Rattle.std.proofs.lemmas.List.Sums.{sum_by_push}
 use Rattle.zre_values.specs.declared.peer_id.PeerId.{PeerId}
-use Rattle.zre_journal.specs.Chronicle.{followed}
 use Rattle.zre_journal.specs.Events.{chronicle}
 use Rattle.zre_journal.specs.Heard.{bytes}
-use Rattle.zre_net.specs.declared.moves.Move.{Move}
 use Rattle.zre_net.specs.declared.moves.Move.TheVariants as move
 use Rattle.zre_net.specs.declared.running.lines.Line.{Line}
 use Rattle.zre_net.specs.declared.running.network.Network.{Network}
 use Rattle.zre_net.specs.declared.running.rows.Started.{Started}
 use Rattle.zre_net.specs.declared.running.rows.Carrier.{Carrier}
-use Rattle.zre_net.specs.declared.running.rows.Owner.{Owner}
-use Rattle.zre_net.specs.Comes.{with_move}
 use Rattle.zre_net.specs.Grammar.{may_come, agrees}
-use Rattle.zre_net.specs.History.{Incarnation, Happening, Happens, IsKnown, started, starts, incarnations, running, journal, chronicle_of, settings_of}
+use Rattle.zre_net.specs.History.{Incarnation, Happening, IsKnown, starts, incarnations, running, journal, chronicle_of, settings_of}
 use Rattle.zre_net.specs.Lines.{octets_in}
 use Rattle.zre_net.specs.Lists.{nth}
-use Rattle.zre_net.specs.Numbers.{Route, Conn, routes, conns}
+use Rattle.zre_net.specs.Numbers.{Route, routes, conns}
 use Rattle.zre_net.specs.Rows.{running_at, with_running, fits_owner, IsBegun}
-use Rattle.zre_net.specs.Running.{IsStarted, HasStarted, AreStarted, Finds, owner_of, AreNodes, IsConn, HasConn, AreConns, StandsAfter}
+use Rattle.zre_net.specs.Running.{IsStarted, HasStarted, Finds, owner_of, AreNodes, AreConns, StandsAfter}
 use Rattle.zre_net.specs.Sending.{HasSent}
-use Rattle.zre_net.proofs.Listing.{some_one, in_reach, nth_at, nth_same, nth_other, nth_more, nth_last, nth_cases, set_length, sum_set, all_map}
+use Rattle.zre_net.proofs.Listing.{nth_more, nth_last, nth_cases, all_map}
 use Rattle.zre_net.proofs.Journals.{length-last, as_many_starts}
 use Rattle.zre_journal.proofs.Listed.{eqb-comm}
 use Rattle.std.proofs.lemmas.List.{map-append}

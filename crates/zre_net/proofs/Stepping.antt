@@ -1,7 +1,6 @@
 -- The nodes of a network, after an entry of one of them.
-use Rattle.std.proofs.Common.{◌≡◌, ℕ, ◌+◌, ◌<◌, max, Bool, true, false, cond, eqb, List, [], ◌∷◌, ◌++◌, length, map, Option, Some, None, refl, sym, ap, ◌∙◌, subst, arith, eqb-true, eq-eqb, append_assoc}
+use Rattle.std.proofs.Common.{◌≡◌, ℕ, ◌+◌, ◌<◌, max, Bool, true, false, eqb, List, [], ◌∷◌, ◌++◌, length, map, Option, Some, refl, sym, ap, ◌∙◌, subst, arith, eqb-true, append_assoc}
 use Rattle.std.specs.Prelude.{slice_get, slice_set, sum_by, get_or, take}
-use Rattle.std.specs.List.{cons_option}
 use Rattle.std.proofs.lemmas.List.{take_more, map-append}
 use Rattle.std.specs.List.{filter_map, AllByRecursion}
 use Rattle.zre_outside.specs.declared.act.Act.{Act}
@@ -10,10 +9,8 @@ use Rattle.zre_outside.specs.declared.entry.Entry.{Entry}
 use Rattle.zre_outside.specs.declared.entry.Input.{Input}
 use Rattle.zre_peer.specs.declared.event.Event.{Event}
 use Rattle.zre_journal.specs.declared.config.Config.{Config}
-use Rattle.zre_journal.specs.Chronicle.{Comes, followed}
+use Rattle.zre_journal.specs.Chronicle.{Comes}
 use Rattle.zre_journal.specs.Events.{chronicle, events_at}
-use Rattle.zre_journal.specs.Happens.{with_entry}
-use Rattle.zre_journal.proofs.Joined.{continues}
 use Rattle.zre_net.specs.declared.moves.Move.{Move}
 use Rattle.zre_net.specs.declared.running.network.Network.{Network}
 use Rattle.zre_net.specs.declared.running.rows.Started.{Started}
@@ -28,8 +25,8 @@ use Rattle.zre_net.specs.Running.{IsStarted, HasStarted, AreStarted, Finds, AreN
 use Rattle.zre_net.specs.Said.{said_in, said_at}
 use Rattle.zre_net.specs.Sender.{is_slight}
 use Rattle.zre_net.specs.Sending.{HasSent}
-use Rattle.zre_net.proofs.Listing.{some_one, in_reach, nth_at, nth_reach, nth_same, nth_other, set_length, sum_set, all_more, all_map, past_all}
-use Rattle.zre_net.proofs.Journals.{journal_now, other_journal, chronicle_now, other_chronicle}
+use Rattle.zre_net.proofs.Listing.{some_one, in_reach, nth_at, nth_same, nth_other, set_length, sum_set, all_more, all_map, past_all}
+use Rattle.zre_net.proofs.Journals.{journal_now, other_journal}
 use Rattle.std.proofs.lemmas.List.Elements.{filter_map-append}
 use Rattle.zre_net.proofs.Staying.{start_stays, finds_stays}
 

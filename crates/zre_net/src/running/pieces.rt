@@ -11,7 +11,7 @@ ghost use Rattle.zre_net.specs.Rows.{IsHeard};
 ghost use Rattle.zre_net.specs.Running.{StandsAfter, IsPlayed};
 
 use crate::running::network::Network;
-use crate::running::nth::nth;
+use crate::running::nth::{nth, place_of};
 use crate::running::rows::Carrier;
 use bytes::Bytes;
 use zre_outside::Input;
@@ -37,13 +37,7 @@ impl Network {
             to ≡ c.to.number →
             IfOk result (λ count. StandsAfter (with_move (MoveValue.Piece conn count at) H) self.new) }
     {
-        let Some(place) = conn.checked_sub(1) else {
-            return Err(OutOfMemory);
-        };
-        let place = place as usize;
-        if place >= self.conns.len() {
-            return Err(OutOfMemory);
-        }
+        let place = place_of(conn, self.conns.len())?;
         let octets = hear(&mut self.conns[place], most)?;
         let count = octets.len() as u64;
         let Some(pending) = self.pending.checked_sub(count) else {

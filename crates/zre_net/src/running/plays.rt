@@ -11,7 +11,7 @@ ghost use Rattle.zre_net.specs.Running.{StandsAfter, IsPlayed};
 use crate::moves::Part;
 use crate::running::ear::Ear;
 use crate::running::network::{Network, may_have, set_running};
-use crate::running::nth::nth;
+use crate::running::nth::{nth, place_of};
 use crate::running::rows::{Carrier, Owner, Started, Way};
 use crate::running::sender::Sender;
 use crate::running::waiting::Waiting;
@@ -156,13 +156,7 @@ impl Network {
         let Some(start) = self.runner(node) else {
             return Ok(false);
         };
-        let Some(place) = start.checked_sub(1) else {
-            return Err(OutOfMemory);
-        };
-        let place = place as usize;
-        if place >= self.started.len() {
-            return Err(OutOfMemory);
-        }
+        let place = place_of(start, self.started.len())?;
         stop(&mut self.started[place]);
         set_running(&mut self.running, node, None)?;
         Ok(true)
@@ -256,13 +250,7 @@ impl Network {
             return Ok(false);
         };
         let along = carrier.along;
-        let Some(place) = conn.checked_sub(1) else {
-            return Err(OutOfMemory);
-        };
-        let place = place as usize;
-        if place >= self.conns.len() {
-            return Err(OutOfMemory);
-        }
+        let place = place_of(conn, self.conns.len())?;
         let Some(octets) = self.spelled(along, part)? else {
             return Ok(false);
         };

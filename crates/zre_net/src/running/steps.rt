@@ -17,6 +17,7 @@ ghost use Rattle.zre_net.specs.Rows.{sent_in, way_in, entry_at, Turned, StaysAt}
 ghost use Rattle.zre_net.specs.Running.{AreNodes, StandsAfter, IsStill, IsKept, IsSilent};
 
 use crate::running::network::Network;
+use crate::running::nth::place_of;
 use crate::running::rows::{Sent, Started, Way};
 use crate::running::said::Said;
 use zre_node::Step;
@@ -129,15 +130,10 @@ impl Network {
         ensures conns { OnOk result (self.new.conns ≡ self.old.conns) }
         ensures pending { OnOk result (self.new.pending ≡ self.old.pending) }
     {
-        let Some(place) = start.checked_sub(1) else {
+        let Ok(place) = place_of(start, self.started.len()) else {
             drop(input);
             return Err(OutOfMemory);
         };
-        let place = place as usize;
-        if place >= self.started.len() {
-            drop(input);
-            return Err(OutOfMemory);
-        }
         let turn = take_turn(&mut self.started[place], at, input)?;
         let Ok(queued) = changed(self.queued, turn.before, turn.after) else {
             drop(turn);

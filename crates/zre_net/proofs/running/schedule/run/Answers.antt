@@ -1,4 +1,4 @@
-use Rattle.std.proofs.Common.{◌+◌, ◌++◌, ◌∷◌, [], ◌∙◌, Bool, true, false, Some, None, ap, sym, subst, append_assoc, ℕ}
+use Rattle.std.proofs.Common.{◌++◌, ◌∷◌, [], ◌∙◌, Bool, ap, sym, subst, append_assoc, ℕ}
 use Rattle.std.specs.Vec.Iter.{into_iter_items}
 use Rattle.zre_net.specs.Answer.{bad_move}
 use Rattle.zre_net.specs.Comes.{history}
