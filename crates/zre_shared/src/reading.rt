@@ -6,7 +6,7 @@ ghost use Rattle.zre_shared.specs.Writes.{short_of, pair_of, said_by as said, wr
 
 use crate::write::{KEY_OCTETS, VALUE_OCTETS, Write};
 use std::alloc::Global;
-use zre_capture::{group, id, number, split_once};
+use zre_capture::{both, group, id, number, split_once};
 use zre_values::{Octets, OutOfMemory};
 
 /// What stands after the word `zre-set`, between single spaces.
@@ -71,17 +71,7 @@ fn pair(alloc: Global, key: &[u8], value: &[u8]) -> Result<Option<(Octets, Octet
     let Some(key) = short(alloc, key, KEY_OCTETS)? else {
         return Ok(None);
     };
-    match short(alloc, value, VALUE_OCTETS) {
-        Ok(Some(value)) => Ok(Some((key, value))),
-        Ok(None) => {
-            drop(key);
-            Ok(None)
-        }
-        Err(OutOfMemory) => {
-            drop(key);
-            Err(OutOfMemory)
-        }
-    }
+    both(key, short(alloc, value, VALUE_OCTETS))
 }
 
 /// The write of these fields, if each has the form of its own.
