@@ -1,3 +1,4 @@
+pub mod Endings
 pub mod Refusing
 pub mod Replayed
 mod Simulated

@@ -2,7 +2,7 @@
 
 mod head_replayer;
 pub(crate) mod headed;
-mod lives;
+pub(crate) mod lives;
 pub(crate) mod reading;
 mod replayer;
 mod taking;

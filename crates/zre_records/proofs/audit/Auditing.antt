@@ -1,7 +1,7 @@
 -- The machine of `audit` at the end of its input, and what it refuses.
 use Rattle.std.proofs.Common.{◌≡◌, ℕ, Bool, true, false, cond, nat_eq, List, [], ◌∷◌, ◌++◌, Option, Some, None, option_map, inl, inr, refl, sym, ap, ◌∙◌, subst, true≢false, append-nil}
 use Rattle.std.specs.Prelude.{is_some}
-use Rattle.std.specs.Option.{option_map_or, option_or}
+use Rattle.std.specs.Option.{option_or}
 use Rattle.std.proofs.lemmas.Bool.{and_parts, and_from, or_cases}
 use Rattle.zre_audit.specs.Prefixes.{begins}
 use Rattle.zre_capture.specs.Journal.{settings, bad, bad_at_end}
@@ -9,28 +9,17 @@ use Rattle.zre_capture.specs.declared.fault.BadCapture.{BadCapture}
 use Rattle.zre_capture.specs.declared.format.Format.TheVariants.{Second}
 use Rattle.zre_capture.specs.declared.settings.Settings.{Settings}
 use Rattle.zre_capture.proofs.Staying.{bad_stays}
-use Rattle.zre_records.specs.audit.Audit.{earlier, own_front, is_again, later_bad, later_bad_at_end, moved, place, verdict, audit}
+use Rattle.zre_records.specs.audit.Audit.{earlier, own_front, is_again, later_bad, later_bad_at_end, moved, audit}
 use Rattle.zre_records.specs.audit.Cut.{mark, lines_of}
 use Rattle.zre_records.specs.audit.Seam.{after, parted, before_seam, from_seam}
-use Rattle.zre_commands.specs.pump.Lines.{bad_line_at}
 use Rattle.zre_commands.specs.pump.Meaning.{Grows, KeepsRefusing}
 use Rattle.zre_records.proofs.audit.Cutting.{parted_later, parted_on, all_before}
-use Rattle.zre_records.proofs.replay.HeadFeeding.{not_bad}
+use Rattle.zre_records.proofs.replay.Pieces.{nothing_stopped}
 use Rattle.zre_records.proofs.audit.Placing.{is_earlier, stopped_first, stopped_both, place_both}
 
 -- nothing is written before the end
 pub nothing_written : (o x out : List ℕ) → Grows audit o x out out
 nothing_written o x out = record { added = []; longer = refl; appended = sym (append-nil out) }
-
--- ---- what is written at the end
-
-pub good_end : (o out out' : List ℕ) (b : Option BadCapture) → b ≡ place o → b ≡ None → out' ≡ out ++ verdict o → out' ≡ out ++ audit.ending o
-good_end o out out' b is none e =
-    e ∙ ap (λ (x : Option BadCapture). out ++ option_map_or (λ (y : BadCapture). bad_line_at y.line y.column) x (verdict o)) (sym none ∙ is)
-
-pub bad_end : (o out out' : List ℕ) (b : Option BadCapture) (at : BadCapture) → b ≡ place o → b ≡ Some at → out' ≡ out ++ bad_line_at at.line at.column → out' ≡ out ++ audit.ending o
-bad_end o out out' b at is some e =
-    e ∙ ap (λ (x : Option BadCapture). out ++ option_map_or (λ (y : BadCapture). bad_line_at y.line y.column) x (verdict o)) (sym some ∙ is)
 
 -- ---- what is refused however it goes on is refused with whatever follows
 
@@ -112,4 +101,4 @@ stopped_bad o e = ap audit.is_bad (sym (append-nil o)) ∙ audit_refuses o [] e
 
 -- before any octet
 pub start_going : audit.is_stopped [] ≡ false
-start_going = stopped_first [] refl ∙ ap is_some not_bad
+start_going = stopped_first [] refl ∙ nothing_stopped Second

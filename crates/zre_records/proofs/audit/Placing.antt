@@ -14,7 +14,7 @@ use Rattle.zre_records.proofs.audit.Cutting.{Cutting, IsCut, cutting}
 use Rattle.zre_records.proofs.audit.Cutting.Cutting.{Cut, Alone}
 use Rattle.zre_records.proofs.audit.Lining.{settings_with_mark, journal_with_mark, bad_with_mark, bad_at_line_feed, mark_good, mark_at_end, nothing_at_end}
 use Rattle.zre_records.proofs.audit.Seeking.{lines_more}
-use Rattle.zre_records.proofs.replay.HeadFeeding.{not_bad}
+use Rattle.zre_records.proofs.replay.Pieces.{not_bad}
 
 -- ---- the first capture
 
@@ -117,7 +117,7 @@ pub mark_not_bad : (told : Option Settings) → later_bad told mark ≡ None
 mark_not_bad told = unless (is_again told mark) _ (bad Second mark) (mark_not_again told) ∙ mark_good
 
 pub nothing_not_bad : (told : Option Settings) → later_bad told [] ≡ None
-nothing_not_bad told = unless (is_again told []) _ (bad Second []) (not_again told) ∙ not_bad
+nothing_not_bad told = unless (is_again told []) _ (bad Second []) (not_again told) ∙ not_bad Second
 
 mark_end : (told : Option Settings) → later_bad_at_end told mark ≡ Some (record { line = 1; column = 12 })
 mark_end told = unless (is_again told mark) _ (bad_at_end Second mark) (mark_not_again told) ∙ mark_at_end
@@ -151,32 +151,32 @@ stopped_both o b t e =
 
 -- ---- the place
 
+-- by what of the first is bad, and by what of the second
+place_by : (o : List ℕ) (first last : Option BadCapture) → bad_at_end Second (earlier o) ≡ first → later_bad_at_end (settings Second (earlier o)) (later o) ≡ last
+    → place o ≡ option_or first (option_map (moved (lines_of (before_seam o))) last)
+place_by o first last e l =
+    ap (λ (x : Option BadCapture). option_or x (option_map (moved (lines_of (earlier o))) (later_bad_at_end (settings Second (earlier o)) (later o)))) e
+    ∙ ap (λ (n : ℕ). option_or first (option_map (moved n) (later_bad_at_end (settings Second (earlier o)) (later o)))) (is_earlier o).lines_is
+    ∙ ap (λ (x : Option BadCapture). option_or first (option_map (moved (lines_of (before_seam o))) x)) l
+
 pub place_both : (o : List ℕ) (b : ℕ) (t : List ℕ) → from_seam o ≡ b ∷ t
     → place o ≡ option_or (bad Second (before_seam o)) (option_map (moved (lines_of (before_seam o))) (later_bad_at_end (settings Second (before_seam o)) (mark ++ b ∷ t)))
 place_both o b t e =
     let k = is_begun o b t e in
-    ap (λ (x : Option BadCapture). option_or x (option_map (moved (lines_of (earlier o))) (later_bad_at_end (settings Second (earlier o)) (later o)))) k.end_is
-    ∙ ap (λ (n : ℕ). option_or (bad Second (before_seam o)) (option_map (moved n) (later_bad_at_end (settings Second (earlier o)) (later o)))) (is_earlier o).lines_is
-    ∙ ap (λ (s : Option Settings). option_or (bad Second (before_seam o)) (option_map (moved (lines_of (before_seam o))) (later_bad_at_end s (later o)))) (is_earlier o).settings_is
-    ∙ ap (λ (x : List ℕ). option_or (bad Second (before_seam o)) (option_map (moved (lines_of (before_seam o))) (later_bad_at_end (settings Second (before_seam o)) x))) k.later_is
+    place_by o _ _ k.end_is
+    (ap (λ (s : Option Settings). later_bad_at_end s (later o)) (is_earlier o).settings_is ∙ ap (later_bad_at_end (settings Second (before_seam o))) k.later_is)
 
 pub place_marked : (o : List ℕ) → from_seam o ≡ [] → is_whole (after None (before_seam o)) ≡ true
     → place o ≡ option_or (bad Second (before_seam o)) (option_map (moved (lines_of (before_seam o))) (Some (record { line = 1; column = 12 })))
 place_marked o e w =
     let k = is_marked o e w in
-    ap (λ (x : Option BadCapture). option_or x (option_map (moved (lines_of (earlier o))) (later_bad_at_end (settings Second (earlier o)) (later o)))) k.end_is
-    ∙ ap (λ (n : ℕ). option_or (bad Second (before_seam o)) (option_map (moved n) (later_bad_at_end (settings Second (earlier o)) (later o)))) (is_earlier o).lines_is
-    ∙ ap (λ (x : Option BadCapture). option_or (bad Second (before_seam o)) (option_map (moved (lines_of (before_seam o))) x))
-    (ap (later_bad_at_end (settings Second (earlier o))) k.later_is ∙ mark_end (settings Second (earlier o)))
+    place_by o _ _ k.end_is (ap (later_bad_at_end (settings Second (earlier o))) k.later_is ∙ mark_end (settings Second (earlier o)))
 
 pub place_none : (o : List ℕ) → from_seam o ≡ [] → is_whole (after None (before_seam o)) ≡ false
     → place o ≡ option_or (bad_at_end Second (before_seam o)) (option_map (moved (lines_of (before_seam o))) (Some (record { line = 1; column = 1 })))
 place_none o e w =
     let k = is_none o e w in
-    ap (λ (x : Option BadCapture). option_or x (option_map (moved (lines_of (earlier o))) (later_bad_at_end (settings Second (earlier o)) (later o)))) k.end_is
-    ∙ ap (λ (n : ℕ). option_or (bad_at_end Second (before_seam o)) (option_map (moved n) (later_bad_at_end (settings Second (earlier o)) (later o)))) (is_earlier o).lines_is
-    ∙ ap (λ (x : Option BadCapture). option_or (bad_at_end Second (before_seam o)) (option_map (moved (lines_of (before_seam o))) x))
-    (ap (later_bad_at_end (settings Second (earlier o))) k.later_is ∙ nothing_end (settings Second (earlier o)))
+    place_by o _ _ k.end_is (ap (later_bad_at_end (settings Second (earlier o))) k.later_is ∙ nothing_end (settings Second (earlier o)))
 
 -- ---- the verdict
 

@@ -1,35 +1,12 @@
 -- A watch that lives only once its settings are told.
-use Rattle.std.proofs.Common.{◌≡◌, true, false, Option, Some, None, List, [], ◌++◌, ◌∷◌, sym, subst, append_assoc, append-nil}
-use Rattle.std.specs.Prelude.{is_some}
+use Rattle.std.proofs.Common.{◌≡◌, Option, Some, None, List, [], ◌++◌, ◌∷◌, sym, subst, append_assoc, append-nil}
 use Rattle.zre_audit.specs.Watching.{Watches}
 use Rattle.zre_audit.specs.declared.watch.Watch.{Watch}
-use Rattle.zre_capture.specs.Heads.{are_valid}
 use Rattle.zre_capture.specs.declared.settings.Settings.{Settings}
 use Rattle.zre_journal.specs.declared.config.Config.{Config}
 use Rattle.zre_outside.specs.declared.entry.Entry.{Entry}
 use Rattle.zre_commands.specs.Settings.{as_config}
 use Rattle.zre_records.specs.audit.Watched.{IsWatched}
-use Rattle.zre_records.specs.replay.Lives.{Tells}
-
--- there still
-pub watched_still : (before : Option Settings) (J : List Entry) (told : Option Settings) (w : Option Watch) → is_some w ≡ true → IsWatched before J w → Tells before J told → IsWatched told J w
-watched_still None J told None e l t = absurd cc
-watched_still (Some s) J told None e l t = absurd l
-watched_still None J told (Some w) e l t = absurd l
-watched_still (Some s) J told (Some w) e l t = subst (λ (u : Option Settings). IsWatched u J (Some w)) (sym t.still) l
-
--- made where there was none
-pub watched_first : (before : Option Settings) (J : List Entry) (s : Settings) (v w : Option Watch) → is_some v ≡ false → IsWatched before J v → Tells before J (Some s) → (are_valid s ≡ true → IsWatched (Some s) [] w) → IsWatched (Some s) J w
-watched_first None J s None w e l t h = subst (λ (K : List Entry). IsWatched (Some s) K w) (sym t.still) (h t.valid)
-watched_first (Some u) J s None w e l t h = absurd l
-watched_first None J s (Some v) w e l t h = absurd l
-watched_first (Some u) J s (Some v) w e l t h = absurd cc
-
--- not there yet
-pub watched_later : (before : Option Settings) (J : List Entry) (w : Option Watch) → IsWatched before J w → Tells before J None → IsWatched None J w
-watched_later None J None l t = tt
-watched_later None J (Some w) l t = absurd l
-watched_later (Some s) J w l t = let z : None ≡ Some s = t.still in absurd cc
 
 -- ---- entries, one after the other
 

@@ -1,26 +1,20 @@
 -- The machine of `replay`, fed one more piece: the text of more octets begins with that of fewer.
-use Rattle.std.proofs.Common.{◌≡◌, ℕ, false, None, List, [], ◌++◌, refl, sym, ap, ◌∙◌, subst}
-use Rattle.std.specs.Prelude.{is_some}
+use Rattle.std.proofs.Common.{◌≡◌, ℕ, List, [], ◌++◌, ap, ◌∙◌}
 use Rattle.std.proofs.lemmas.List.Concat.{flat_map-append}
-use Rattle.zre_capture.specs.Journal.{journal, bad, bad_from, entries_from, format_of, Reads}
+use Rattle.zre_capture.specs.Journal.{journal}
 use Rattle.zre_capture.specs.declared.format.Format.TheVariants.{First}
 use Rattle.zre_capture.proofs.Growing.{journal_grows}
 use Rattle.zre_journal.specs.declared.config.Config.{Config}
 use Rattle.zre_journal.specs.Events.{events}
 use Rattle.zre_journal.proofs.Joined.{continues}
 use Rattle.zre_node.specs.declared.node.Node.{Node}
-use Rattle.zre_node.specs.Journal.{StandsFor}
 use Rattle.zre_outside.specs.declared.entry.Entry.{Entry}
 use Rattle.zre_peer.specs.Lines.{line, lines}
 use Rattle.zre_peer.specs.declared.event.Event.{Event}
-use Rattle.zre_records.specs.declared.replay.reading.State.TheVariants.{Going}
-use Rattle.zre_records.specs.declared.replay.replayer.Replayer.{Replayer}
-use Rattle.zre_records.specs.declared.replay.waiting.Waiting.{Waiting}
 use Rattle.zre_commands.specs.pump.Meaning.{Grows}
 use Rattle.zre_records.specs.replay.Replay.{text, replay}
-use Rattle.zre_records.specs.replay.Replayer.{Fed}
-use Rattle.zre_records.specs.replay.State.{IsState}
 use Rattle.zre_records.specs.replay.Taken.{Took}
+use Rattle.zre_records.proofs.replay.Pieces.{no_entries}
 
 -- more events have more lines
 pub lines_more : (g : Config) (J K : List Entry) (told : List Event) → events g (J ++ K) ≡ events g J ++ told → lines (events g (J ++ K)) ≡ lines (events g J) ++ lines told
@@ -32,32 +26,13 @@ text_by g o x es told j e = ap (λ J. lines (events g J)) j ∙ lines_more g (jo
 pub text_grows : (g : Config) (o x : List ℕ) → (added : List ℕ) × (text g (o ++ x) ≡ text g o ++ added)
 text_grows g o x = let more = journal_grows First o x in (_, text_by g o x more.0 _ more.1 (continues g (journal First o) more.0).told)
 
-no_entries : journal First [] ≡ []
-unfolding entries_from
-no_entries = refl
-
 pub text_nothing : (g : Config) → text g [] ≡ []
 text_nothing g = ap (λ J. lines (events g J)) no_entries
 
 -- the entries of a piece were told to the node
-pub text_on : (g : Config) (o x : List ℕ) (given es : List Entry) (n : Node) (out out' : List ℕ) → given ≡ es → Took g (journal First o) given n out out' → journal First (o ++ x) ≡ journal First o ++ es
-    → Grows (replay g) o x out out'
-text_on g o x given es n out out' same t j = record {
+pub text_on : (g : Config) (o x : List ℕ) (es : List Entry) (n : Node) (out out' : List ℕ) → Took g (journal First o) es n out out' → journal First (o ++ x) ≡ journal First o ++ es → Grows (replay g) o x out out'
+text_on g o x es n out out' t j = record {
   added = lines t.told;
-  longer = text_by g o x given t.told (j ∙ ap (λ (fs : List Entry). journal First o ++ fs) (sym same)) t.more;
+  longer = text_by g o x es t.told j t.more;
   appended = t.appended;
-}
-
-not_bad : bad First [] ≡ None
-unfolding bad_from
-not_bad = refl
-
-pub nothing_stopped : is_some (bad First []) ≡ false
-nothing_stopped = ap is_some not_bad
-
--- the machine before any octet
-pub nothing_fed : (r : Replayer) (w : Waiting) → r.state ≡ Going w → Reads [] w.reader → format_of w.reader ≡ First → StandsFor r.config [] r.node → Fed r []
-nothing_fed r w e reads format stands = record {
-  reads = subst (λ s. IsState First s []) (sym e) (not_bad, reads, format);
-  stands = subst (λ J. StandsFor r.config J r.node) (sym no_entries) stands;
 }

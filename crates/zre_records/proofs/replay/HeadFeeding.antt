@@ -4,7 +4,7 @@ use Rattle.std.proofs.Common.{◌≡◌, ℕ, Bool, true, false, cond, Option, S
 use Rattle.std.specs.Prelude.{is_some, IfSome, nat_lt}
 use Rattle.zre_capture.specs.Formats.{longest}
 use Rattle.zre_capture.specs.Heads.{are_valid}
-use Rattle.zre_capture.specs.Journal.{journal, settings, settings_in, bad, bad_from, lines_in, said, start, entries_from}
+use Rattle.zre_capture.specs.Journal.{journal, settings, settings_in, lines_in, said, start, entries_from}
 use Rattle.zre_capture.specs.Reading.{settings_of}
 use Rattle.zre_capture.specs.declared.format.Format.TheVariants.{Second}
 use Rattle.zre_capture.specs.declared.settings.Settings.{Settings}
@@ -19,26 +19,15 @@ use Rattle.zre_outside.specs.declared.entry.Entry.{Entry}
 use Rattle.zre_peer.specs.Lines.{lines}
 use Rattle.zre_peer.specs.declared.event.Event.{Event}
 use Rattle.zre_commands.specs.Settings.{as_config}
-use Rattle.zre_records.specs.declared.replay.headed.Headed.{Headed}
-use Rattle.zre_records.specs.declared.replay.reading.State.{State}
 use Rattle.zre_commands.specs.pump.Meaning.{Grows}
-use Rattle.zre_records.specs.replay.Headed.{Follows, HasRead}
 use Rattle.zre_records.specs.replay.Lives.{Lives, AreStill, Tells, TookIfAny}
 use Rattle.zre_records.specs.replay.Replay.{told_text, told_replay}
-use Rattle.zre_records.specs.replay.State.{IsState}
 use Rattle.zre_records.proofs.replay.Feeding.{lines_more}
 
 -- ---- before any octet
 
 pub no_settings : settings Second [] ≡ None
 no_settings = refl
-
-pub not_bad : bad Second [] ≡ None
-unfolding bad_from
-not_bad = refl
-
-pub nothing_stopped : is_some (bad Second []) ≡ false
-nothing_stopped = ap is_some not_bad
 
 pub text_nothing : told_text [] ≡ []
 text_nothing = refl
@@ -97,26 +86,6 @@ none_before o x e = by (settings Second o) refl
 
 -- ---- a node that lives
 
--- there still
-pub lives_still : (before : Option Settings) (J : List Entry) (told : Option Settings) (n : Option Node) → is_some n ≡ true → Lives before J n → Tells before J told → Lives told J n
-lives_still None J told None e l t = absurd cc
-lives_still (Some s) J told None e l t = absurd l
-lives_still None J told (Some n) e l t = absurd l
-lives_still (Some s) J told (Some n) e l t = subst (λ u. Lives u J (Some n)) (sym t.still) l
-
--- made where there was none
-pub lives_first : (before : Option Settings) (J : List Entry) (s : Settings) (m n : Option Node) → is_some m ≡ false → Lives before J m → Tells before J (Some s) → (are_valid s ≡ true → Lives (Some s) [] n) → Lives (Some s) J n
-lives_first None J s None n e l t h = subst (λ K. Lives (Some s) K n) (sym t.still) (h t.valid)
-lives_first (Some u) J s None n e l t h = absurd l
-lives_first None J s (Some m) n e l t h = absurd l
-lives_first (Some u) J s (Some m) n e l t h = absurd cc
-
--- not there yet
-pub lives_later : (before : Option Settings) (J : List Entry) (n : Option Node) → Lives before J n → Tells before J None → Lives None J n
-lives_later None J None l t = tt
-lives_later None J (Some n) l t = absurd l
-lives_later (Some s) J n l t = let z : None ≡ Some s = t.still in absurd cc
-
 pub lives_on : (told : Option Settings) (J es K : List Entry) (n : Option Node) (out out' : List ℕ) → TookIfAny told J es n out out' → K ≡ J ++ es → Lives told K n
 lives_on None J es K None out out' t e = tt
 lives_on None J es K (Some n) out out' t e = absurd t
@@ -161,22 +130,13 @@ text_grows o x = by (settings Second (o ++ x)) refl
         (_, grown o x s more.0 _ e more.1 (continues (as_config s) (journal Second o) more.0).told)
 
 -- the entries of a piece were told to the node of the settings
-pub text_on : (o x : List ℕ) (told : Option Settings) (given es : List Entry) (n : Option Node) (out out' : List ℕ) → told ≡ settings Second (o ++ x) → given ≡ es
-    → TookIfAny told (journal Second o) given n out out' → journal Second (o ++ x) ≡ journal Second o ++ es → Grows told_replay o x out out'
-text_on o x None given es None out out' e same t j = record { added = []; longer = silent o x (sym e); appended = t ∙ sym (append-nil out) }
-text_on o x None given es (Some n) out out' e same t j = absurd t
-text_on o x (Some s) given es None out out' e same t j = absurd t
-text_on o x (Some s) given es (Some n) out out' e same t j = record {
+pub text_on : (o x : List ℕ) (told : Option Settings) (es : List Entry) (n : Option Node) (out out' : List ℕ) → told ≡ settings Second (o ++ x) → TookIfAny told (journal Second o) es n out out' → journal Second (o ++ x) ≡ journal Second o ++ es
+    → Grows told_replay o x out out'
+text_on o x None es None out out' e t j = record { added = []; longer = silent o x (sym e); appended = t ∙ sym (append-nil out) }
+text_on o x None es (Some n) out out' e t j = absurd t
+text_on o x (Some s) es None out out' e t j = absurd t
+text_on o x (Some s) es (Some n) out out' e t j = record {
   added = lines t.told;
-  longer = grown o x s given t.told (sym e) (j ∙ ap (λ (fs : List Entry). journal Second o ++ fs) (sym same)) t.more;
+  longer = grown o x s es t.told (sym e) j t.more;
   appended = t.appended;
-}
-
--- and what is known after them, once the list was given back
-pub follows_on : (o x : List ℕ) (es : List Entry) (h m : Headed) (n : Option Node) (out out' : List ℕ) → HasRead o x es h → m.state ≡ h.state → m.node ≡ n
-    → TookIfAny (settings Second (o ++ x)) (journal Second o) es n out out' → Follows m (o ++ x)
-follows_on o x es h m n out out' r state node t = record {
-  reads = subst (λ (s : State). IsState Second s (o ++ x)) (sym state) r.reads;
-  lives = subst (λ (u : Option Node). Lives (settings Second (o ++ x)) (journal Second (o ++ x)) u) (sym node)
-      (lives_on (settings Second (o ++ x)) (journal Second o) es (journal Second (o ++ x)) n out out' t r.more);
 }

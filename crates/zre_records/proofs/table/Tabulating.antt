@@ -1,8 +1,7 @@
 -- The machine of `table`, fed one more piece, and at the end of its input.
-use Rattle.std.proofs.Common.{◌≡◌, ℕ, Option, Some, None, List, [], ◌++◌, refl, sym, ap, ◌∙◌, subst, append-nil}
+use Rattle.std.proofs.Common.{◌≡◌, ℕ, Option, Some, None, List, [], ◌++◌, refl, sym, ap, subst, append-nil}
 use Rattle.std.specs.Option.{option_map_or}
-use Rattle.zre_capture.specs.Journal.{journal, settings, bad_at_end}
-use Rattle.zre_capture.specs.declared.fault.BadCapture.{BadCapture}
+use Rattle.zre_capture.specs.Journal.{journal, settings}
 use Rattle.zre_capture.specs.declared.format.Format.TheVariants.{Second}
 use Rattle.zre_capture.specs.declared.settings.Settings.{Settings}
 use Rattle.zre_node.specs.declared.node.Node.{Node}
@@ -13,11 +12,8 @@ use Rattle.zre_shared.specs.Tables.{table as table_of}
 use Rattle.zre_commands.specs.Settings.{as_config}
 use Rattle.zre_records.specs.declared.replay.headed.Headed.{Headed}
 use Rattle.zre_records.specs.declared.table.tabulator.Tabulator.{Tabulator}
-use Rattle.zre_commands.specs.pump.Lines.{bad_line_at}
 use Rattle.zre_commands.specs.pump.Meaning.{Grows}
 use Rattle.zre_records.specs.replay.Headed.{Follows, HasRead}
-use Rattle.zre_records.specs.declared.replay.reading.State.{State}
-use Rattle.zre_records.specs.replay.State.{IsState}
 use Rattle.zre_records.specs.replay.Lives.{Lives, AreStill}
 use Rattle.zre_records.specs.table.Kept.{GatheredIfAny, Keeps}
 use Rattle.zre_records.specs.table.Table.{text, table}
@@ -60,7 +56,7 @@ gathered_before group J None told (Some n) m h k still l = absurd k
 gathered_before group J (Some s) told None m h k still l = absurd k
 gathered_before group J (Some s) told (Some n) m h k still l = living_still group J s told m h still l k.keeps
 
-lives_with : (group : List ℕ) (J : List Entry) (told : Option Settings) (n : Option Node) (h : Held) → GatheredIfAny told group J n h → Lives told J n
+pub lives_with : (group : List ℕ) (J : List Entry) (told : Option Settings) (n : Option Node) (h : Held) → GatheredIfAny told group J n h → Lives told J n
 lives_with group J None None h k = tt
 lives_with group J None (Some n) h k = absurd k
 lives_with group J (Some s) None h k = absurd k
@@ -71,27 +67,12 @@ piece_before : (t : Tabulator) (o x : List ℕ) (es : List Entry) (h : Headed) �
 piece_before t o x es h f r =
     gathered_before t.group (journal Second o) (settings Second o) (settings Second (o ++ x)) t.headed.node h.node t.replica f.gathered (tells o x (settings Second (o ++ x)) refl).still r.lives
 
--- and after its entries were taken by this node, and the list was given back
-piece_after : (group : List ℕ) (o x : List ℕ) (es : List Entry) (h m : Headed) (n : Option Node) (held : Held) → HasRead o x es h → m.state ≡ h.state → m.node ≡ n
-    → GatheredIfAny (settings Second (o ++ x)) group (journal Second o ++ es) n held
-    → Follows m (o ++ x) × GatheredIfAny (settings Second (o ++ x)) group (journal Second (o ++ x)) m.node held
-piece_after group o x es h m n held r state node k =
-    let there : GatheredIfAny (settings Second (o ++ x)) group (journal Second (o ++ x)) m.node held =
-    subst (λ (u : Option Node). GatheredIfAny (settings Second (o ++ x)) group (journal Second (o ++ x)) u held) (sym node)
-    (subst (λ (K : List Entry). GatheredIfAny (settings Second (o ++ x)) group K n held) (sym r.more) k) in (
-      record {
-        reads = subst (λ (s : State). IsState Second s (o ++ x)) (sym state) r.reads;
-        lives = lives_with group (journal Second (o ++ x)) (settings Second (o ++ x)) m.node held there;
-      },
-      there,
-    )
-
--- so the machine was fed the piece: q is its group, where it was lent
-pub piece_taken : (t : Tabulator) (o x : List ℕ) (es : List Entry) (h m : Headed) (n : Option Node) (held : Held) (q : List ℕ) → Fed t o → HasRead o x es h → q ≡ t.group
+-- so the machine was fed the piece, once its entries were taken by this node: q is its group, where it was lent
+pub piece_taken : (t : Tabulator) (o x : List ℕ) (es : List Entry) (h : Headed) (n : Option Node) (held : Held) (q : List ℕ) → Fed t o → HasRead o x es h → q ≡ t.group
     → (GatheredIfAny (settings Second (o ++ x)) q (journal Second o) h.node t.replica → GatheredIfAny (settings Second (o ++ x)) q (journal Second o ++ es) n held)
-    → m.state ≡ h.state → m.node ≡ n → Follows m (o ++ x) × GatheredIfAny (settings Second (o ++ x)) t.group (journal Second (o ++ x)) m.node held
-piece_taken t o x es h m n held q f r lent taken state node =
-    piece_after t.group o x es h m n held r state node
+    → GatheredIfAny (settings Second (o ++ x)) t.group (journal Second (o ++ x)) n held
+piece_taken t o x es h n held q f r lent taken =
+    subst (λ (K : List Entry). GatheredIfAny (settings Second (o ++ x)) t.group K n held) (sym r.more)
     (subst (λ (p : List ℕ). GatheredIfAny (settings Second (o ++ x)) p (journal Second o ++ es) n held) lent
     (taken (subst (λ (p : List ℕ). GatheredIfAny (settings Second (o ++ x)) p (journal Second o) h.node t.replica) (sym lent) (piece_before t o x es h f r))))
 
@@ -106,15 +87,3 @@ text_is t o f = by (settings Second o) t.headed.node f.gathered
     by None (Some n) k = absurd k
     by (Some s) None k = absurd k
     by (Some s) (Some n) k = ap lines k.keeps
-
--- what is written at the end: of a good capture, and of a bad one
-pub good_end : (t : Tabulator) (o out out' : List ℕ) (bad : Option BadCapture) → Fed t o → bad ≡ bad_at_end Second o → bad ≡ None → out' ≡ out ++ lines t.replica.writes
-    → out' ≡ out ++ (table t.group).ending o
-good_end t o out out' bad f is none e =
-    e ∙ ap (λ (l : List ℕ). out ++ l) (text_is t o f)
-    ∙ ap (λ (b : Option BadCapture). out ++ option_map_or (λ (x : BadCapture). bad_line_at x.line x.column) b (text t.group o)) (sym none ∙ is)
-
-pub bad_end : (t : Tabulator) (o out out' : List ℕ) (bad : Option BadCapture) (b : BadCapture) → bad ≡ bad_at_end Second o → bad ≡ Some b → out' ≡ out ++ bad_line_at b.line b.column
-    → out' ≡ out ++ (table t.group).ending o
-bad_end t o out out' bad b is some e =
-    e ∙ ap (λ (x : Option BadCapture). out ++ option_map_or (λ (y : BadCapture). bad_line_at y.line y.column) x (text t.group o)) (sym some ∙ is)

@@ -1,31 +1,17 @@
 -- The machine of `upgrade`, fed one more piece: the text of more octets begins with that of fewer.
-use Rattle.std.proofs.Common.{◌≡◌, ℕ, false, None, List, [], ◌++◌, refl, sym, ap, ◌∙◌, append_assoc, append-nil}
-use Rattle.std.specs.Prelude.{is_some}
+use Rattle.std.proofs.Common.{◌≡◌, ℕ, List, [], ◌++◌, sym, ap, ◌∙◌, append_assoc, append-nil}
 use Rattle.zre_outside.specs.declared.entry.Entry.{Entry}
 use Rattle.zre_capture.specs.Heads.{head}
-use Rattle.zre_capture.specs.Journal.{journal, bad, bad_from, entries_from, last_reading}
+use Rattle.zre_capture.specs.Journal.{journal}
 use Rattle.zre_capture.specs.Lines.{lines}
 use Rattle.zre_capture.specs.declared.format.Format.TheVariants.{First, Second}
 use Rattle.zre_capture.specs.declared.settings.Settings.{Settings}
 use Rattle.zre_capture.proofs.After.{lines-append}
 use Rattle.zre_capture.proofs.Growing.{journal_grows}
-use Rattle.zre_records.specs.declared.upgrade.upgrader.Upgrader.{Upgrader}
 use Rattle.zre_commands.specs.pump.Meaning.{Grows}
 use Rattle.zre_records.specs.upgrade.Upgrade.{text, upgrade}
-use Rattle.zre_records.specs.upgrade.Upgrader.{Fed}
 use Rattle.zre_records.specs.upgrade.Written.{Wrote}
-use Rattle.zre_records.specs.replay.State.{IsState}
-
-pub no_entries : journal First [] ≡ []
-unfolding entries_from
-no_entries = refl
-
-pub not_bad : bad First [] ≡ None
-unfolding bad_from
-not_bad = refl
-
-pub nothing_stopped : is_some (bad First []) ≡ false
-nothing_stopped = ap is_some not_bad
+use Rattle.zre_records.proofs.replay.Pieces.{no_entries}
 
 pub text_nothing : (s : Settings) → text s [] ≡ head Second s
 unfolding text
@@ -45,8 +31,3 @@ text_grows s o x =
 -- the lines of the entries of a piece were written
 pub text_on : (s : Settings) (o x : List ℕ) (es : List Entry) (at : ℕ) (out out' : List ℕ) → journal First (o ++ x) ≡ journal First o ++ es → Wrote (journal First o) es at out out' → Grows (upgrade s) o x out out'
 text_on s o x es at out out' j w = record { added = w.added; longer = text_by s o x es w.added j w.more; appended = w.appended }
-
--- what the machine knows after it
-pub feeds_on : (u : Upgrader) (o x : List ℕ) (es : List Entry) (at : ℕ) (out out' : List ℕ) → IsState First u.state (o ++ x) → journal First (o ++ x) ≡ journal First o ++ es
-    → Wrote (journal First o) es at out out' → u.before ≡ at → Fed u (o ++ x)
-feeds_on u o x es at out out' is j w e = record { reads = is; before = e ∙ w.last ∙ ap (last_reading 0) (sym j) }

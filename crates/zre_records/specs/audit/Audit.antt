@@ -1,7 +1,7 @@
 -- What `audit` makes of the octets of two captures of format 2, one after the other.
 use Rattle.std.specs.Prelude.{ℕ, ◌+◌, Bool, false, ◌||◌, if◌then◌else◌, List, [], ◌++◌, Option, Some, None, option_map}
 use Rattle.std.specs.Prelude.{is_some, nat_eq, codes}
-use Rattle.std.specs.Option.{option_map_or, option_or}
+use Rattle.std.specs.Option.{option_or}
 use Rattle.zre_values.specs.Text.{id_text}
 use Rattle.zre_capture.specs.Journal.{journal, settings, bad, bad_at_end}
 use Rattle.zre_capture.specs.declared.fault.BadCapture.{BadCapture}
@@ -13,7 +13,7 @@ use Rattle.zre_audit.specs.Prefixes.{begins}
 use Rattle.zre_outside.specs.declared.entry.Entry.{Entry}
 use Rattle.zre_commands.specs.Settings.{as_config}
 use Rattle.zre_records.specs.audit.Cut.{cut, lines_of}
-use Rattle.zre_commands.specs.pump.Lines.{bad_line_at}
+use Rattle.zre_records.specs.replay.Capture.{refusal_or}
 use Rattle.zre_commands.specs.pump.Meaning.{Meaning}
 
 -- the octets of each capture: none of the second before it has begun
@@ -73,5 +73,5 @@ audit = record {
   is_stopped = λ o. is_some (bad Second (earlier o))
       || is_some (later_bad (settings Second (earlier o)) (later o));
   is_bad = λ o. is_some (place o);
-  ending = λ o. option_map_or (λ b. bad_line_at b.line b.column) (place o) (verdict o);
+  ending = λ o. refusal_or (place o) (verdict o);
 }

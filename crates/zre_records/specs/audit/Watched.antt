@@ -1,23 +1,20 @@
 -- A capture of format 2 that is read in pieces, and the watch of its node.
-use Rattle.std.specs.Prelude.{ℕ, List, Option, Some, None}
+use Rattle.std.specs.Prelude.{ℕ, List, Option}
 use Rattle.zre_capture.specs.Journal.{journal, settings}
 use Rattle.zre_capture.specs.declared.format.Format.TheVariants.{Second}
 use Rattle.zre_capture.specs.declared.settings.Settings.{Settings}
 use Rattle.zre_audit.specs.Watching.{Watches}
 use Rattle.zre_audit.specs.declared.watch.Watch.{Watch}
 use Rattle.zre_outside.specs.declared.entry.Entry.{Entry}
-use Rattle.zre_commands.specs.Settings.{as_config}
 use Rattle.zre_records.specs.declared.audit.watched.Watched.{Watched}
+use Rattle.zre_records.specs.replay.Lives.{Made}
 use Rattle.zre_records.specs.replay.State.{IsState}
 
 -- the watch of the settings that are told stands for this journal; there is none before they are
 abbrev pub IsWatched : Option Settings → List Entry → Option Watch → Type 0
-IsWatched None J None = Unit {0}
-IsWatched None J (Some w) = ⊥
-IsWatched (Some s) J None = ⊥
-IsWatched (Some s) J (Some w) = Watches (as_config s) J w
+IsWatched told J w = Made (λ g K v. Watches g K v) told J w
 
 -- these octets were read, and the watch took their journal
 pub record Follows (w : Watched) (o : List ℕ) : Type 0 where
-  pub reads : IsState Second w.state o
+  pub reads : IsState Second w.pieces.state o
   pub watched : IsWatched (settings Second o) (journal Second o) w.watch

@@ -9,12 +9,12 @@ use Rattle.zre_records.specs.replay.State.{IsState}
 
 -- these octets were read, and the node took their journal
 pub record Follows (h : Headed) (o : List ℕ) : Type 0 where
-  pub reads : IsState Second h.state o
+  pub reads : IsState Second h.pieces.state o
   pub lives : Lives (settings Second o) (journal Second o) h.node
 
 -- a piece after the octets o was read: the node lives with the settings that are told by now, and these entries are the
 -- next for it
 pub record HasRead (o piece : List ℕ) (entries : List Entry) (h : Headed) : Type 0 where
-  pub reads : IsState Second h.state (o ++ piece)
+  pub reads : IsState Second h.pieces.state (o ++ piece)
   pub lives : Lives (settings Second (o ++ piece)) (journal Second o) h.node
   pub more : journal Second (o ++ piece) ≡ journal Second o ++ entries

@@ -1,19 +1,37 @@
--- A node that lives only once its settings are told.
-use Rattle.std.specs.Prelude.{◌≡◌, ℕ, true, List, [], Option, Some, None, IfSome}
+-- What lives only once its settings are told.
+use Rattle.std.specs.Prelude.{◌≡◌, ℕ, Bool, true, false, List, [], Option, Some, None, IfSome, if◌then◌else◌}
 use Rattle.zre_capture.specs.Heads.{are_valid}
 use Rattle.zre_capture.specs.declared.settings.Settings.{Settings}
+use Rattle.zre_journal.specs.declared.config.Config.{Config}
 use Rattle.zre_node.specs.declared.node.Node.{Node}
 use Rattle.zre_node.specs.Journal.{StandsFor}
 use Rattle.zre_outside.specs.declared.entry.Entry.{Entry}
 use Rattle.zre_commands.specs.Settings.{as_config}
 use Rattle.zre_records.specs.replay.Taken.{Took}
 
--- the node of the settings that are told stands for this journal; there is none before they are
+-- there is something exactly where settings are told: then this holds of it with them, and else that
+abbrev pub IfTold : {N : Type 0} → (Settings → N → Type 0) → (nothing : Type 0) → Option Settings → Option N → Type 0
+IfTold holds nothing None None = nothing
+IfTold holds nothing None (Some n) = ⊥
+IfTold holds nothing (Some s) None = ⊥
+IfTold holds nothing (Some s) (Some n) = holds s n
+
+-- what is made of the settings that are told stands for this journal; there is none before they are
+abbrev pub Made : {N : Type 0} → (Config → List Entry → N → Type 0) → Option Settings → List Entry → Option N → Type 0
+Made stands told J n = IfTold (λ s m. stands (as_config s) J m) (Unit {0}) told n
+
+-- so a node is
 abbrev pub Lives : Option Settings → List Entry → Option Node → Type 0
-Lives None J None = Unit {0}
-Lives None J (Some n) = ⊥
-Lives (Some s) J None = ⊥
-Lives (Some s) J (Some n) = StandsFor (as_config s) J n
+Lives told J n = Made (λ g K m. StandsFor g K m) told J n
+
+-- the settings of what isn't made yet, where valid ones are told
+abbrev pub due_of : Option Settings → Option Config
+due_of None = None
+due_of (Some s) = if are_valid s then Some (as_config s) else None
+
+abbrev pub due : (is_made : Bool) → Option Settings → Option Config
+due true told = None
+due false told = due_of told
 
 -- settings that were told are told still, and before them there was no journal
 abbrev pub AreStill : Option Settings → List Entry → Option Settings → Type 0
@@ -27,7 +45,4 @@ pub record Tells (before : Option Settings) (J : List Entry) (told : Option Sett
 
 -- it took entries after a journal, and the lines of what it tells were appended; where there is none, nothing was
 abbrev pub TookIfAny : Option Settings → (J es : List Entry) → Option Node → (out out' : List ℕ) → Type 0
-TookIfAny None J es None out out' = out' ≡ out
-TookIfAny None J es (Some n) out out' = ⊥
-TookIfAny (Some s) J es None out out' = ⊥
-TookIfAny (Some s) J es (Some n) out out' = Took (as_config s) J es n out out'
+TookIfAny told J es n out out' = IfTold (λ s m. Took (as_config s) J es m out out') (out' ≡ out) told n

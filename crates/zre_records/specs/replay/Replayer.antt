@@ -13,5 +13,5 @@ config_of r = r.config
 
 -- the machine was fed these octets: its reader stands after them, and its node after their journal
 pub record Fed (r : Replayer) (o : List ℕ) : Type 0 where
-  pub reads : IsState First r.state o
+  pub reads : IsState First r.pieces.state o
   pub stands : StandsFor r.config (journal First o) r.node

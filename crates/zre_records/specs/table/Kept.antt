@@ -1,5 +1,5 @@
 -- A replica that took the writes of a journal.
-use Rattle.std.specs.Prelude.{◌≡◌, ℕ, List, Option, Some, None, filter_map, []}
+use Rattle.std.specs.Prelude.{◌≡◌, ℕ, List, Option, filter_map, []}
 use Rattle.zre_capture.specs.declared.settings.Settings.{Settings}
 use Rattle.zre_journal.specs.declared.config.Config.{Config}
 use Rattle.zre_node.specs.declared.node.Node.{Node}
@@ -9,6 +9,7 @@ use Rattle.zre_shared.specs.Replicas.{Held}
 use Rattle.zre_shared.specs.Tables.{table}
 use Rattle.zre_shared.specs.Writes.{write_of}
 use Rattle.zre_commands.specs.Settings.{as_config}
+use Rattle.zre_records.specs.replay.Lives.{IfTold}
 use Rattle.zre_records.specs.table.Writes.{frames}
 
 -- it holds the table of the writes among these frames
@@ -22,7 +23,4 @@ pub record Gathered (g : Config) (group : List ℕ) (J : List Entry) (node : Nod
 
 -- so it is with the node of the settings that are told; before that there is none, and the replica is empty
 abbrev pub GatheredIfAny : Option Settings → (group : List ℕ) → List Entry → Option Node → Held → Type 0
-GatheredIfAny None group J None held = Keeps [] held
-GatheredIfAny None group J (Some n) held = ⊥
-GatheredIfAny (Some s) group J None held = ⊥
-GatheredIfAny (Some s) group J (Some n) held = Gathered (as_config s) group J n held
+GatheredIfAny told group J n held = IfTold (λ s m. Gathered (as_config s) group J m held) (Keeps [] held) told n

@@ -6,7 +6,7 @@ use Rattle.zre_capture.specs.declared.format.Format.TheVariants.{Second}
 use Rattle.zre_shared.specs.Lines.{lines}
 use Rattle.zre_shared.specs.Tables.{table as table_of}
 use Rattle.zre_commands.specs.Settings.{as_config}
-use Rattle.zre_commands.specs.pump.Lines.{bad_line_at}
+use Rattle.zre_records.specs.replay.Capture.{refusal_or}
 use Rattle.zre_commands.specs.pump.Meaning.{Meaning}
 use Rattle.zre_records.specs.table.Writes.{writes}
 
@@ -22,5 +22,5 @@ table group = record {
   text = λ o. [];
   is_stopped = λ o. is_some (bad Second o);
   is_bad = λ o. is_some (bad_at_end Second o);
-  ending = λ o. option_map_or (λ b. bad_line_at b.line b.column) (bad_at_end Second o) (text group o);
+  ending = λ o. refusal_or (bad_at_end Second o) (text group o);
 }

@@ -12,5 +12,5 @@ settings_of u = u.settings
 
 -- the machine was fed these octets: its reader stands after them, and it knows the last reading in their journal
 pub record Fed (u : Upgrader) (o : List ℕ) : Type 0 where
-  pub reads : IsState First u.state o
+  pub reads : IsState First u.pieces.state o
   pub before : u.before ≡ last_reading 0 (journal First o)

@@ -14,10 +14,11 @@ ghost use Rattle.zre_commands.specs.pump.Meaning.{is_stop};
 use crate::audit::later::Later;
 use crate::audit::seam::Seam;
 use crate::audit::watched::Watched;
+use crate::replay::reading::push_refusal;
 use std::alloc::Global;
 use zre_audit::{Watch, verdict};
 use zre_capture::BadCapture;
-use zre_commands::pump::{Going, Machine, push_bad_line_at};
+use zre_commands::pump::{Going, Machine};
 use zre_values::{Octets, OutOfMemory};
 
 /// The machine of `audit`: two captures of format 2, one after the other, each read as it comes and told to the watch
@@ -96,7 +97,7 @@ impl Auditor {
             None => self.first.take(piece),
             Some(place) => {
                 self.first.take(&piece[..place])?;
-                let mut second = Later::new(self.alloc, self.first.settings())?;
+                let mut second = Later::new(self.alloc, self.first.pieces.settings())?;
                 second.take(&piece[place..])?;
                 self.second = Some(second);
                 Ok(())
@@ -128,7 +129,7 @@ impl Auditor {
     fn is_stopped(&self) -> bool
         ensures { (o : List ℕ) → Fed self.now o → result ≡ audit.is_stopped o }
     {
-        self.first.is_bad() || self.is_second_bad()
+        self.first.pieces.is_bad() || self.is_second_bad()
     }
 
     fn going(&self) -> Going
@@ -147,9 +148,9 @@ impl Auditor {
             → IfOk result (λ bad. bad ≡ bad_at_end Second (earlier o)) }
     {
         if self.seam.is_whole() {
-            self.first.bad()
+            self.first.pieces.bad()
         } else {
-            self.first.bad_at_end()
+            self.first.pieces.bad_at_end()
         }
     }
 
@@ -180,7 +181,7 @@ impl Auditor {
         let Some(second) = &self.second else {
             return self.bad_alone();
         };
-        match self.first.bad()? {
+        match self.first.pieces.bad()? {
             Some(bad) => Ok(Some(bad)),
             None => move_by(second.bad_at_end()?, self.seam.lines()),
         }
@@ -216,15 +217,10 @@ impl Machine for Auditor {
     }
 
     fn finish(&self, _taken: u64, out: &mut Octets) -> Result<bool, OutOfMemory> {
-        match self.bad_at_end()? {
-            Some(bad) => {
-                push_bad_line_at(out, bad.line, bad.column)?;
-                Ok(true)
-            }
-            None => {
-                self.judge(out)?;
-                Ok(false)
-            }
+        if push_refusal(out, self.bad_at_end()?)? {
+            return Ok(true);
         }
+        self.judge(out)?;
+        Ok(false)
     }
 }

@@ -56,7 +56,7 @@ impl Later {
         ensures { (told : Option SettingsValue) (o : List ℕ) → IsLater told o self.now
             → result ≡ is_some (later_bad told o) }
     {
-        is_same(&self.again) || self.capture.is_bad()
+        is_same(&self.again) || self.capture.pieces.is_bad()
     }
 
     /// Where it is bad, if nothing follows. Its lines are counted from 1.
@@ -70,6 +70,6 @@ impl Later {
                 column: 15,
             }));
         }
-        self.capture.bad_at_end()
+        self.capture.pieces.bad_at_end()
     }
 }

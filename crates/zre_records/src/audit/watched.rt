@@ -1,35 +1,29 @@
 //! A capture of format 2 that is read in pieces, and the watch of its node.
 
-ghost use Rattle.std.specs.Prelude.{◌≡◌, ℕ, List, [], ◌∷◌, ◌++◌, true, false, is_some, Option, Some, option_map};
-ghost use Rattle.std.specs.Prelude.{IfOk, OnOk};
+ghost use Rattle.std.specs.Prelude.{◌≡◌, ℕ, List, [], ◌++◌, false, is_some, Option, option_map, OnOk};
 ghost use Rattle.zre_outside.specs.declared.entry.Entry.{Entry as EntryValue};
 ghost use Rattle.zre_journal.specs.declared.config.Config.{Config};
-ghost use Rattle.zre_capture.specs.Heads.{are_valid};
-ghost use Rattle.zre_capture.specs.Journal.{settings, bad, bad_at_end as bad_then};
+ghost use Rattle.zre_capture.specs.Journal.{bad};
 ghost use Rattle.zre_capture.specs.declared.format.Format.TheVariants.{Second};
 ghost use Rattle.zre_capture.specs.declared.settings.Settings.{Settings as SettingsValue};
 ghost use Rattle.zre_audit.specs.Watching.{Watches};
 ghost use Rattle.zre_records.specs.audit.Watched.{Follows, IsWatched};
 ghost use Rattle.zre_records.specs.replay.Lives.{Tells};
 
-use crate::replay::reading::{State, bad_at_end, read_piece, settings_told};
-use crate::replay::waiting::Waiting;
+use crate::replay::lives::config_due;
+use crate::replay::reading::Pieces;
 use std::alloc::Global;
-use std::mem;
 use zre_audit::Watch;
-use zre_capture::{BadCapture, CaptureReader, Settings};
-use zre_commands::settings::as_config;
+use zre_capture::{CaptureReader, Settings};
 use zre_outside::Entries;
 use zre_values::OutOfMemory;
 
 /// How far a capture is read, and the watch of the node with the settings that its head says.
 pub(crate) struct Watched {
     alloc: Global,
-    state: State,
+    pub pieces: Pieces,
     /// None until the head is whole, and where it is bad.
     pub watch: Option<Watch>,
-    // Used again for the entries of each piece.
-    entries: Entries,
 }
 
 // By hand: docs/DECISIONS.md says why, at "Drops by hand".
@@ -37,22 +31,10 @@ impl Drop for Watched {
     fn drop(self) {
         let Watched {
             alloc: _,
-            state: _state,
+            pieces: _pieces,
             watch: _watch,
-            entries: _entries,
         } = self;
     }
-}
-
-// The watch of these settings, before any entry: there is one, since settings that are told are valid.
-fn watch_of(alloc: Global, settings: &Settings) -> Result<Option<Watch>, OutOfMemory>
-    ensures { are_valid settings.now ≡ true → IfOk result (λ watch. IsWatched (Some settings.now) [] watch) }
-{
-    if !settings.valid() {
-        return Ok(None);
-    }
-    let config = as_config(alloc, settings)?;
-    Ok(Some(Watch::new(alloc, config)?))
 }
 
 // Makes the watch once the settings are told.
@@ -65,12 +47,10 @@ fn make_watch(
         → Tells before J (option_map (λ s. s.now) told.entry)
         → OnOk result (IsWatched (option_map (λ s. s.now) told.entry) J watch.new) }
 {
-    if watch.is_some() {
-        return Ok(());
-    }
-    match told {
-        Some(settings) => {
-            *watch = watch_of(alloc, settings)?;
+    match config_due(alloc, watch.is_some(), told)? {
+        Some(config) => {
+            let made = Watch::new(alloc, config)?;
+            *watch = Some(made);
             Ok(())
         }
         None => Ok(()),
@@ -108,9 +88,8 @@ impl Watched {
         let reader = CaptureReader::second(alloc);
         Watched {
             alloc,
-            state: State::Going(Waiting { reader }),
+            pieces: Pieces::new(alloc, reader),
             watch: None,
-            entries: Entries::new(alloc),
         }
     }
 
@@ -119,54 +98,10 @@ impl Watched {
         ensures { (o : List ℕ) → Follows self.old o → is_some (bad Second o) ≡ false
             → OnOk result (Follows self.new (o ++ piece.now)) }
     {
-        let waiting = match mem::replace(&mut self.state, State::Lost) {
-            State::Going(waiting) => waiting,
-            refused => {
-                self.state = refused;
-                return Ok(());
-            }
-        };
-        self.entries.clear();
-        let state = read_piece(waiting, piece, &mut self.entries)?;
-        make_watch(self.alloc, &mut self.watch, settings_told(&state))?;
-        let entries = mem::replace(&mut self.entries, Entries::new(self.alloc));
-        self.entries = watch_if_any(&mut self.watch, entries)?;
-        self.state = state;
+        let entries = self.pieces.read(piece)?;
+        make_watch(self.alloc, &mut self.watch, self.pieces.settings())?;
+        let emptied = watch_if_any(&mut self.watch, entries)?;
+        self.pieces.give_back(emptied);
         Ok(())
-    }
-
-    /// The settings that its head said, if it is whole and says some.
-    pub fn settings(&self) -> Option<&Settings>
-        ensures { (o : List ℕ) → Follows self.now o → option_map (λ s. s.now) result ≡ settings Second o }
-    {
-        settings_told(&self.state)
-    }
-
-    /// Whether it is bad, whatever follows.
-    pub fn is_bad(&self) -> bool
-        ensures { (o : List ℕ) → Follows self.now o → result ≡ is_some (bad Second o) }
-    {
-        match self.state {
-            State::Going(_) => false,
-            _ => true,
-        }
-    }
-
-    /// Where it is bad, whatever follows.
-    pub fn bad(&self) -> Result<Option<BadCapture>, OutOfMemory>
-        ensures { (o : List ℕ) → Follows self.now o → IfOk result (λ b. b ≡ bad Second o) }
-    {
-        match &self.state {
-            State::Going(_) => Ok(None),
-            State::Bad(refused) => Ok(Some(refused.bad)),
-            State::Lost => Err(OutOfMemory),
-        }
-    }
-
-    /// Where it is bad, if nothing follows.
-    pub fn bad_at_end(&self) -> Result<Option<BadCapture>, OutOfMemory>
-        ensures { (o : List ℕ) → Follows self.now o → IfOk result (λ b. b ≡ bad_then Second o) }
-    {
-        bad_at_end(&self.state)
     }
 }

@@ -3,7 +3,7 @@ ghost use Rattle.std.specs.Prelude.{◌≡◌, [], false};
 use crate::replay::headed::Headed;
 use crate::replay::lives::take_if_any;
 use std::alloc::Global;
-use zre_commands::pump::{Going, Machine, push_bad_line_at};
+use zre_commands::pump::{Going, Machine};
 use zre_values::{Octets, OutOfMemory};
 
 /// The machine of `replay` without words: a node with the settings that the head of a capture of format 2 says, to
@@ -51,17 +51,11 @@ impl Machine for HeadReplayer {
     fn feed(&mut self, piece: &[u8], out: &mut Octets) -> Result<Going, OutOfMemory> {
         let entries = self.headed.read(piece)?;
         let emptied = take_if_any(&mut self.headed.node, entries, out)?;
-        self.headed.give_back(emptied);
-        Ok(self.headed.going())
+        self.headed.pieces.give_back(emptied);
+        Ok(self.headed.pieces.going())
     }
 
     fn finish(&self, _taken: u64, out: &mut Octets) -> Result<bool, OutOfMemory> {
-        match self.headed.bad_at_end()? {
-            Some(bad) => {
-                push_bad_line_at(out, bad.line, bad.column)?;
-                Ok(true)
-            }
-            None => Ok(false),
-        }
+        self.headed.pieces.finish(out)
     }
 }

@@ -1,28 +1,39 @@
-//! A node that lives only once its settings are told.
+//! What lives only once its settings are told: a node, or the watch of one.
 
-ghost use Rattle.std.specs.Prelude.{◌≡◌, List, [], true, Option, Some, option_map, IfOk, OnOk};
+ghost use Rattle.std.specs.Prelude.{◌≡◌, List, true, Option, option_map, IfOk, IfSome, OnOk};
 ghost use Rattle.zre_outside.specs.declared.entry.Entry.{Entry as EntryValue};
-ghost use Rattle.zre_capture.specs.Heads.{are_valid};
 ghost use Rattle.zre_capture.specs.declared.settings.Settings.{Settings as SettingsValue};
-ghost use Rattle.zre_records.specs.replay.Lives.{Lives, Tells, TookIfAny};
+ghost use Rattle.zre_journal.specs.Config.{is_valid};
+ghost use Rattle.zre_records.specs.replay.Lives.{Lives, Tells, TookIfAny, due};
 
 use crate::replay::taking::take_entries;
 use std::alloc::Global;
 use zre_capture::Settings;
 use zre_commands::settings::as_config;
+use zre_journal::Config;
 use zre_node::Node;
 use zre_outside::Entries;
 use zre_values::{Octets, OutOfMemory};
 
-// The node of these settings, before any entry: there is one, since settings that are told are valid.
-fn node_of(alloc: Global, settings: &Settings) -> Result<Option<Node>, OutOfMemory>
-    ensures { are_valid settings.now ≡ true → IfOk result (λ node. Lives (Some settings.now) [] node) }
+/// The settings of what isn't made yet, where they are told and valid.
+pub(crate) fn config_due(
+    alloc: Global,
+    is_made: bool,
+    told: Option<&Settings>,
+) -> Result<Option<Config>, OutOfMemory>
+    ensures due { IfOk result (λ config. config ≡ due is_made (option_map (λ s. s.now) told.entry)) }
+    ensures valid { IfOk result (λ config. IfSome config (λ g. is_valid g ≡ true)) }
 {
+    if is_made {
+        return Ok(None);
+    }
+    let Some(settings) = told else {
+        return Ok(None);
+    };
     if !settings.valid() {
         return Ok(None);
     }
-    let config = as_config(alloc, settings)?;
-    Ok(Some(Node::new(alloc, config)?))
+    Ok(Some(as_config(alloc, settings)?))
 }
 
 /// Makes the node once its settings are told.
@@ -35,12 +46,10 @@ pub(crate) fn make_node(
         → Tells before J (option_map (λ s. s.now) told.entry)
         → OnOk result (Lives (option_map (λ s. s.now) told.entry) J node.new) }
 {
-    if node.is_some() {
-        return Ok(());
-    }
-    match told {
-        Some(settings) => {
-            *node = node_of(alloc, settings)?;
+    match config_due(alloc, node.is_some(), told)? {
+        Some(config) => {
+            let made = Node::new(alloc, config)?;
+            *node = Some(made);
             Ok(())
         }
         None => Ok(()),

@@ -4,7 +4,7 @@ ghost use Rattle.zre_records.specs.table.Tabulator.{Fed, group_of};
 use crate::replay::headed::Headed;
 use crate::table::gathering::gather_if_any;
 use std::alloc::Global;
-use zre_commands::pump::{Going, Machine, push_bad_line_at};
+use zre_commands::pump::{Going, Machine};
 use zre_shared::Replica;
 use zre_values::{Octets, OutOfMemory, PeerId};
 
@@ -69,20 +69,15 @@ impl Machine for Tabulator {
             self.group.as_slice(),
             entries,
         )?;
-        self.headed.give_back(emptied);
-        Ok(self.headed.going())
+        self.headed.pieces.give_back(emptied);
+        Ok(self.headed.pieces.going())
     }
 
     fn finish(&self, _taken: u64, out: &mut Octets) -> Result<bool, OutOfMemory> {
-        match self.headed.bad_at_end()? {
-            Some(bad) => {
-                push_bad_line_at(out, bad.line, bad.column)?;
-                Ok(true)
-            }
-            None => {
-                self.replica.push_lines(out)?;
-                Ok(false)
-            }
+        if self.headed.pieces.finish(out)? {
+            return Ok(true);
         }
+        self.replica.push_lines(out)?;
+        Ok(false)
     }
 }

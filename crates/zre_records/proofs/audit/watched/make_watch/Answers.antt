@@ -1,13 +1,16 @@
-use Rattle.std.proofs.Common.{sym, ◌∙◌}
-use Rattle.zre_records.proofs.audit.Telling.{watched_still, watched_first, watched_later}
+use Rattle.std.proofs.Common.{sym, ap, ◌∙◌}
+use Rattle.std.specs.Prelude.{option_map}
+use Rattle.zre_audit.specs.Watching.{Watches}
+use Rattle.zre_records.specs.replay.Lives.{due}
+use Rattle.zre_records.proofs.replay.Made.{made_now, made_still}
 use Rattle.zre_records.proofs.audit.watched.make_watch.Goals as goal
 
-pub returns-then-is_some : goal.returns-then-is_some
-returns-then-is_some c = λ before J l t. watched_still before J _ c.args.watch.now (sym c.is_some.ensures ∙ c.if-is_some.true) l t
-
-pub returns-in_ok-watch-in-Some : goal.returns-in_ok-watch-in-Some
-returns-in_ok-watch-in-Some c = λ before J l t.
-    rw c.in-Some.is (watched_first before J c.in-Some.settings.now c.args.watch.now c.in_ok-watch-in-Some.field-0 (sym c.is_some.ensures ∙ c.if-is_some.false) l (rw c.in-Some.is at t) c.in_ok-watch-in-Some.ensures)
+pub returns-in_ok-made-in-Some : goal.returns-in_ok-made-in-Some
+returns-in_ok-made-in-Some c = λ before J l t.
+    made_now (λ g K m. Watches g K m) before _ J c.args.watch.now c.in-Some.config c.in_ok-made-in-Some.made l t
+    (sym c.in-Some.is ∙ c.in_ok-config.ensures.due ∙ ap (λ b. due b (option_map (λ s. s.now) c.args.told)) c.is_some.ensures) c.in_ok-made-in-Some.ensures
 
 pub returns-in-None : goal.returns-in-None
-returns-in-None c = λ before J l t. rw c.in-None.is (watched_later before J c.args.watch.now l (rw c.in-None.is at t))
+returns-in-None c = λ before J l t.
+    made_still (λ g K m. Watches g K m) before _ J c.args.watch.now l t
+    (sym c.in-None.is ∙ c.in_ok-config.ensures.due ∙ ap (λ b. due b (option_map (λ s. s.now) c.args.told)) c.is_some.ensures)

@@ -1,13 +1,16 @@
-use Rattle.std.proofs.Common.{sym, ◌∙◌}
-use Rattle.zre_records.proofs.replay.HeadFeeding.{lives_still, lives_first, lives_later}
+use Rattle.std.proofs.Common.{sym, ap, ◌∙◌}
+use Rattle.std.specs.Prelude.{option_map}
+use Rattle.zre_node.specs.Journal.{StandsFor}
+use Rattle.zre_records.specs.replay.Lives.{due}
+use Rattle.zre_records.proofs.replay.Made.{made_now, made_still}
 use Rattle.zre_records.proofs.replay.lives.make_node.Goals as goal
 
-pub returns-then-is_some : goal.returns-then-is_some
-returns-then-is_some c = λ before J l t. lives_still before J _ c.args.node.now (sym c.is_some.ensures ∙ c.if-is_some.true) l t
-
-pub returns-in_ok-node-in-Some : goal.returns-in_ok-node-in-Some
-returns-in_ok-node-in-Some c = λ before J l t.
-    rw c.in-Some.is (lives_first before J c.in-Some.settings.now c.args.node.now c.in_ok-node-in-Some.field-0 (sym c.is_some.ensures ∙ c.if-is_some.false) l (rw c.in-Some.is at t) c.in_ok-node-in-Some.ensures)
+pub returns-in_ok-made-in-Some : goal.returns-in_ok-made-in-Some
+returns-in_ok-made-in-Some c = λ before J l t.
+    made_now (λ g K m. StandsFor g K m) before _ J c.args.node.now c.in-Some.config c.in_ok-made-in-Some.made l t
+    (sym c.in-Some.is ∙ c.in_ok-config.ensures.due ∙ ap (λ b. due b (option_map (λ s. s.now) c.args.told)) c.is_some.ensures) c.in_ok-made-in-Some.ensures
 
 pub returns-in-None : goal.returns-in-None
-returns-in-None c = λ before J l t. rw c.in-None.is (lives_later before J c.args.node.now l (rw c.in-None.is at t))
+returns-in-None c = λ before J l t.
+    made_still (λ g K m. StandsFor g K m) before _ J c.args.node.now l t
+    (sym c.in-None.is ∙ c.in_ok-config.ensures.due ∙ ap (λ b. due b (option_map (λ s. s.now) c.args.told)) c.is_some.ensures)

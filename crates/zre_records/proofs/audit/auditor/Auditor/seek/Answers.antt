@@ -22,7 +22,7 @@ returns-in_ok-take-in-Some-2 c = λ o f e going.
     let u = subst (λ (n : Option ℕ). MatchOption n (IsUnparted c.args.self.now.seam c.args.piece.now c.find.new.self) (λ place. IsParted c.args.self.now.seam c.args.piece.now place c.find.new.self)) c.in-Some.is c.in_ok-find.ensures in
     let first = c.in_ok-take-in-Some.ensures o k.first going in
     let front = o ++ take c.in-Some.place c.args.piece.now in
-    let told = c.settings.ensures front first in
+    let told = c.settings.ensures Second front first.reads in
     let begun = subst (λ (s : Option Settings). IsLater s mark c.in_ok-second-in-Some.second) told c.in_ok-second-in-Some.ensures in
     let later = subst (λ (x : List ℕ). IsLater (settings Second front) (mark ++ x) c.take-in-Some-2.new.self) (rest_is c.in-Some.place c.args.piece.now) (c.in_ok-take-in-Some-2.ensures (settings Second front) mark begun (mark_going (settings Second front))) in
     piece_parted c.args.self.now _ o c.args.piece.now c.in-Some.place c.take-in-Some-2.new.self k u first later refl

@@ -1,6 +1,7 @@
 use Rattle.std.proofs.Common.{ap}
 use Rattle.zre_shared.specs.Replicas.{Held}
-use Rattle.zre_records.proofs.replay.HeadFeeding.{nothing_stopped}
+use Rattle.zre_capture.specs.declared.format.Format.TheVariants.{Second}
+use Rattle.zre_records.proofs.replay.Pieces.{nothing_stopped}
 use Rattle.zre_records.proofs.table.Tabulating.{nothing_gathered}
 use Rattle.zre_records.proofs.table.tabulator.Tabulator.new.Goals as goal
 
@@ -11,4 +12,4 @@ returns-clause-fed c = record {
 }
 
 pub returns-clause-going : goal.returns-clause-going
-returns-clause-going c = nothing_stopped
+returns-clause-going c = nothing_stopped Second

@@ -1,18 +1,22 @@
-use Rattle.std.proofs.Common.{sym, ap, ◌∙◌}
-use Rattle.std.specs.Prelude.{is_some}
-use Rattle.zre_records.proofs.table.Tabulating.{good_end, bad_end}
+use Rattle.std.proofs.Common.{sym, ◌∙◌}
+use Rattle.zre_capture.specs.Journal.{bad_at_end}
+use Rattle.zre_capture.specs.declared.format.Format.TheVariants.{Second}
+use Rattle.zre_records.specs.table.Table.{text}
+use Rattle.zre_records.proofs.Endings.{good_end, bad_end}
+use Rattle.zre_records.proofs.table.Tabulating.{text_is}
 use Rattle.zre_records.proofs.table.tabulator.TabulatorMachine.finish.Goals as goal
 
-pub returns-in_ok-push_bad_line_at-in-Some-clause-bad : goal.returns-in_ok-push_bad_line_at-in-Some-clause-bad
-returns-in_ok-push_bad_line_at-in-Some-clause-bad c = λ o f l. ap is_some (sym c.in-Some.is ∙ c.in_ok-bad.ensures o f.follows)
+pub returns-then-branch-clause-bad : goal.returns-then-branch-clause-bad
+returns-then-branch-clause-bad c = λ o f l. sym c.if-branch.true ∙ c.in_ok-finish.ensures.bad Second o f.follows.reads
 
-pub returns-in_ok-push_bad_line_at-in-Some-clause-ending : goal.returns-in_ok-push_bad_line_at-in-Some-clause-ending
-returns-in_ok-push_bad_line_at-in-Some-clause-ending c = λ o f l.
-    bad_end c.args.self.now o c.args.out.now c.push_bad_line_at.new.out c.in_ok-bad.field-0 c.in-Some.bad (c.in_ok-bad.ensures o f.follows) c.in-Some.is c.in_ok-push_bad_line_at-in-Some.ensures
+pub returns-then-branch-clause-ending : goal.returns-then-branch-clause-ending
+returns-then-branch-clause-ending c = λ o f l.
+    bad_end (bad_at_end Second o) (text c.args.self.now.group o) c.args.out.now c.finish.new.out (sym c.if-branch.true ∙ c.in_ok-finish.ensures.bad Second o f.follows.reads) (c.in_ok-finish.ensures.refused Second o f.follows.reads)
 
-pub returns-in_ok-push_lines-in-None-clause-bad : goal.returns-in_ok-push_lines-in-None-clause-bad
-returns-in_ok-push_lines-in-None-clause-bad c = λ o f l. ap is_some (sym c.in-None.is ∙ c.in_ok-bad.ensures o f.follows)
+pub returns-clause-bad : goal.returns-clause-bad
+returns-clause-bad c = λ o f l. sym c.if-branch.false ∙ c.in_ok-finish.ensures.bad Second o f.follows.reads
 
-pub returns-in_ok-push_lines-in-None-clause-ending : goal.returns-in_ok-push_lines-in-None-clause-ending
-returns-in_ok-push_lines-in-None-clause-ending c = λ o f l.
-    good_end c.args.self.now o c.args.out.now c.push_lines.new.out c.in_ok-bad.field-0 f (c.in_ok-bad.ensures o f.follows) c.in-None.is c.in_ok-push_lines-in-None.ensures
+pub returns-clause-ending : goal.returns-clause-ending
+returns-clause-ending c = λ o f l.
+    good_end (bad_at_end Second o) (text c.args.self.now.group o) _ c.args.out.now c.finish.new.out c.push_lines.new.out (sym c.if-branch.false ∙ c.in_ok-finish.ensures.bad Second o f.follows.reads) (c.in_ok-finish.ensures.refused Second o f.follows.reads)
+    c.in_ok-push_lines.ensures (text_is c.args.self.now o f)
