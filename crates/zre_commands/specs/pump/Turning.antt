@@ -6,7 +6,8 @@ use Rattle.zre_commands.specs.pump.Meaning.{Meaning}
 use Rattle.zre_commands.specs.declared.pump.pumping.Next.{Next}
 use Rattle.zre_commands.specs.declared.pump.pumping.Next.TheVariants as nexts
 use Rattle.zre_commands.specs.declared.pump.status.Status.{Status}
-use Rattle.zre_commands.specs.declared.pump.status.Status.TheVariants.{Done, BadInput, ReadFault, WriteFault, OutOfMemory}
+use Rattle.zre_commands.specs.declared.pump.status.Status.TheVariants.{Done, BadInput, ReadFault}
+use Rattle.zre_commands.specs.declared.pump.status.Status.TheVariants.{WriteFault, OutOfMemory}
 
 -- the text of a piece after o was written
 pub record WritesText (m : Meaning) (o piece : List ℕ) (written written' : Option (List ℕ)) : Type 0 where
@@ -35,7 +36,8 @@ Told nexts.Go fed m o piece written written' write =
 Told nexts.Finish fed m o piece written written' write =
     fed (o ++ piece) × (m.is_stopped (o ++ piece) ≡ true) × (m.is_bad (o ++ piece) ≡ true)
     × WritesText m o piece written written'
-Told (nexts.Fail status) fed m o piece written written' write = Refuses status write (WritesFront m o piece written written')
+Told (nexts.Fail status) fed m o piece written written' write =
+    Refuses status write (WritesFront m o piece written written')
 
 -- one turn after the octets o, in which a piece was read: at the end of the input it is empty, and where the source
 -- failed
