@@ -1,10 +1,11 @@
 -- What a client came to, from how its thread ended.
 use Rattle.std.proofs.Common.{◌≡◌, ℕ, ◌<◌, Bool, true, false, true≢false, cond, List, [], ◌∷◌, ◌++◌, length, Option, refl, sym, ap, ◌∙◌, subst, arith, append_assoc, append-nil}
-use Rattle.std.specs.Prelude.{◌⊎◌, ◌||◌}
+use Rattle.std.specs.Prelude.{◌⊎◌}
 use mathlib.Core.Logic.{inl, inr}
 use mathlib.Core.List.{IsPrefix}
 use Rattle.std.specs.List.{list_any}
 use Rattle.std.specs.Io.KnownBytes.{IsAtEnd}
+use Rattle.std.proofs.lemmas.Bool.{or_parts}
 use Rattle.std.proofs.lemmas.List.{append_cancel_right}
 use Rattle.zre_outside.specs.declared.entry.Command.{Command}
 use Rattle.zre_outside.specs.declared.entry.Command.TheVariants.{Quit}
@@ -22,19 +23,11 @@ use Rattle.zre_gate.specs.Gate.{Client, IsClient, IsWhole, IsFree, IsLong}
 
 -- ---- fronts of what is asked for
 
-left_false : (a b : Bool) → (a || b) ≡ false → a ≡ false
-left_false true b e = absurd (true≢false e)
-left_false false b e = refl
-
-right_false : (a b : Bool) → (a || b) ≡ false → b ≡ false
-right_false true b e = absurd (true≢false e)
-right_false false b e = e
-
 before_front : (cs rest : List Command) → list_any is_quit cs ≡ false → before_quit (cs ++ rest) ≡ cs ++ before_quit rest
 before_front [] rest none = refl
 before_front (c ∷ cs) rest none =
-    ap (λ b. cond b [] (c ∷ before_quit (cs ++ rest))) (left_false (is_quit c) (list_any is_quit cs) none)
-    ∙ ap (λ l. c ∷ l) (before_front cs rest (right_false (is_quit c) (list_any is_quit cs) none))
+    ap (λ b. cond b [] (c ∷ before_quit (cs ++ rest))) (or_parts (is_quit c) (list_any is_quit cs) none).0
+    ∙ ap (λ l. c ∷ l) (before_front cs rest (or_parts (is_quit c) (list_any is_quit cs) none).1)
 
 -- a front of lines without a quit is one of those before it
 front_before : (cs ts : List Command) → IsPrefix cs ts → list_any is_quit cs ≡ false → IsPrefix cs (before_quit ts)

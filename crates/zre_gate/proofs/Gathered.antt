@@ -2,6 +2,7 @@
 use Rattle.std.proofs.Common.{◌≡◌, ℕ, ◌+◌, Bool, true, false, true≢false, List, [], ◌∷◌, ◌++◌, map, take, length, Option, Some, None, refl, sym, ap, ◌∙◌, subst, append_assoc, append-nil}
 use Rattle.std.specs.Prelude.{◌⊎◌, ◌||◌, Contains}
 use mathlib.Core.Logic.{inl, inr}
+use Rattle.std.proofs.lemmas.Bool.{or_parts}
 use Rattle.std.proofs.lemmas.List.{map-append, length-map}
 use Rattle.std.proofs.lemmas.List.Elements.{All-nil, All-push, Contains-append_left, Contains-push}
 use Rattle.std.proofs.lemmas.Grind.{flat_map-append}
@@ -93,14 +94,6 @@ none_gathered limit p = record {
   own_ends = λ _. All-nil IsOwnEnd;
 }
 
-left_false : (a b : Bool) → (a || b) ≡ false → a ≡ false
-left_false true b e = absurd (true≢false e)
-left_false false b e = refl
-
-right_false : (a b : Bool) → (a || b) ≡ false → b ≡ false
-right_false true b e = absurd (true≢false e)
-right_false false b e = e
-
 pub one_gathered : (limit : ℕ) (guests : List Guest) (x : Guest) (afters : List Row) (r : Row) (p q q' o : CallerPass) (status status' : Status) (over over' : Bool)
     → Gathers limit guests afters p q status over → (s : Served) → guest_of s ≡ x → s.after ≡ r → IsServed limit s → number o ≡ s.number → ended o ≡ [] → put_by o ≡ put_for s
     → number q' ≡ number q → ended q' ≡ ended q ++ number o ∷ ended o → put_by q' ≡ put_by q ++ put_by o
@@ -120,7 +113,7 @@ one_gathered limit guests x afters r p q q' o status status' over over' g s is a
       ∙ ap (λ l. put_by p ++ (put_for_all g.served ++ l)) (put ∙ sym (append-nil (put_for s)))
       ∙ ap (λ l. put_by p ++ l) (sym (flat_map-append put_for g.served (s ∷ [])));
   ends = one_end g.served s status status' g.ends status_is;
-  own_ends = λ no. All-push IsOwnEnd g.served s (g.own_ends (left_false over (is_over s.end) (sym over_is ∙ no))) (right_false over (is_over s.end) (sym over_is ∙ no));
+  own_ends = λ no. All-push IsOwnEnd g.served s (g.own_ends (or_parts over (is_over s.end) (sym over_is ∙ no)).0) (or_parts over (is_over s.end) (sym over_is ∙ no)).1;
 }
 
 -- ---- the quit

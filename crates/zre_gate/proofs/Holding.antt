@@ -78,14 +78,9 @@ unmapped P f (x ∷ xs) a = All-cons (λ x. P (f x)) x xs (All-head P (f x) (map
 contains_mapped : {X Y : Type 0} (f : X → Y) (xs : List X) (x : X) → Contains xs x → Contains (map f xs) (f x)
 contains_mapped f xs x there = All-contains (λ y. Contains (map f xs) (f y)) xs x (unmapped (Contains (map f xs)) f xs (All-contains_itself (map f xs))) there
 
-pub none_wished : (asker : CallerPass) (refused : Bool) → HasAsked asker (asker_of asker refused)
+none_wished : (asker : CallerPass) (refused : Bool) → HasAsked asker (asker_of asker refused)
 none_wished asker true = puts-none asker
 none_wished asker false = puts-none asker
-
--- the one that asks the node to stop absorbs nothing
-pub asker_ended : (asker : CallerPass) (refused : Bool) (taker taker' : TakerPass) (asker' : CallerPass) (broke : Option NextFault) (written written' : Option (List ℕ))
-    → HasPrinted (asker_of asker refused) taker taker' asker' broke written written' → ended asker' ≡ ended asker
-asker_ended asker refused taker taker' asker' broke written written' d = ap ended (sym d.is_last) ∙ (d.asked asker (none_wished asker refused)).same_ended
 
 module _ (g : Config) (start : Start) (name : Option (List ℕ)) (keep : Bool) (limit many : ℕ) (s u t : Seen) (p : Prepared g start name keep s u)
     (n : Node) (how : Ending) (looked looked' : Bool) (actor actor' : ActorPass)

@@ -4,6 +4,7 @@ use Rattle.std.specs.Prelude.{◌⊎◌, ◌||◌, All}
 use mathlib.Core.Logic.{inl, inr}
 use mathlib.Core.List.{IsPrefix}
 use Rattle.std.specs.List.{list_any}
+use Rattle.std.proofs.lemmas.Bool.{or_parts, or_from}
 use Rattle.std.proofs.lemmas.List.{map-append}
 use Rattle.std.proofs.lemmas.List.Folds.{list_any-append}
 use Rattle.std.proofs.lemmas.List.Elements.{All-nil, All-cons, All-head, All-tail, All-append, All-weaker, All-same}
@@ -104,22 +105,10 @@ own_under (x ∷ xs) apart = All-cons (IsOwn (x ∷ xs)) x xs first
 abbrev pub IsPlain : Served → Type 0
 IsPlain x = list_any is_quit x.commands ≡ false
 
-left_false : (a b : Bool) → (a || b) ≡ false → a ≡ false
-left_false true b e = absurd (true≢false e)
-left_false false b e = refl
-
-right_false : (a b : Bool) → (a || b) ≡ false → b ≡ false
-right_false true b e = absurd (true≢false e)
-right_false false b e = e
-
-or_false : (a b : Bool) → a ≡ false → b ≡ false → (a || b) ≡ false
-or_false true b e f = e
-or_false false b e f = f
-
 module _ (P : Placed → Type 0) (n : ℕ) (ended : List ℕ) (each : (c : Command) → is_quit c ≡ false → P (placed n ended c)) where
   all_placed : (cs : List Command) → list_any is_quit cs ≡ false → All P (all_under n ended cs)
   all_placed [] none = All-nil P
-  all_placed (c ∷ cs) none = All-cons P (placed n ended c) (all_under n ended cs) (each c (left_false (is_quit c) (list_any is_quit cs) none)) (all_placed cs (right_false (is_quit c) (list_any is_quit cs) none))
+  all_placed (c ∷ cs) none = All-cons P (placed n ended c) (all_under n ended cs) (each c (or_parts (is_quit c) (list_any is_quit cs) none).0) (all_placed cs (or_parts (is_quit c) (list_any is_quit cs) none).1)
 
 module _ (P : Placed → Type 0) (T : Served → Type 0) (each : (x : Served) → T x → (c : Command) → is_quit c ≡ false → P (placed x.number [] c)) where
   all_for : (xs : List Served) → All IsPlain xs → All T xs → All P (put_for_all xs)
@@ -146,8 +135,8 @@ quit_split (e ∷ es) q = by (is_quit e.command) refl (quit_split es q.1)
         → (list_any is_quit (map command_of es) ≡ false) ⊎ ((b : List Placed) × (l : Placed) × (es ≡ b ++ l ∷ []) × (l.command ≡ Quit) × (list_any is_quit (map command_of b) ≡ false))
         → (list_any is_quit (map command_of (e ∷ es)) ≡ false) ⊎ ((b : List Placed) × (l : Placed) × (e ∷ es ≡ b ++ l ∷ []) × (l.command ≡ Quit) × (list_any is_quit (map command_of b) ≡ false))
     by true is rest = (let quit = quit_is e.command is in inr ([], e, ap (λ l. e ∷ l) (nothing_mapped es (q.0 quit)), quit, refl))
-    by false isnt (inl none) = inl (or_false (is_quit e.command) (list_any is_quit (map command_of es)) isnt none)
-    by false isnt (inr (b, l, is, quit, none)) = inr (e ∷ b, l, ap (λ x. e ∷ x) is, quit, or_false (is_quit e.command) (list_any is_quit (map command_of b)) isnt none)
+    by false isnt (inl none) = inl (or_from (is_quit e.command) (list_any is_quit (map command_of es)) isnt none)
+    by false isnt (inr (b, l, is, quit, none)) = inr (e ∷ b, l, ap (λ x. e ∷ x) is, quit, or_from (is_quit e.command) (list_any is_quit (map command_of b)) isnt none)
 
 nothing_left : (xs ys : List Command) → xs ++ ys ≡ [] → xs ≡ []
 nothing_left [] ys is = refl
@@ -262,11 +251,11 @@ module _ (S : List Served) (c a : ℕ) (ea : List ℕ) (tail asks : List Command
 
     names_known : (bs : List Placed) → All IsGood bs → list_any is_quit (map command_of bs) ≡ false → All (λ (x : ℕ × Command). 1 ≤ times x.0 ns) (map by_name bs)
     names_known [] g plainly = All-nil (λ (x : ℕ × Command). 1 ≤ times x.0 ns)
-    names_known (e ∷ bs) g plainly = All-cons (λ (x : ℕ × Command). 1 ≤ times x.0 ns) (by_name e) (map by_name bs) (by (All-head IsGood e bs g)) (names_known bs (All-tail IsGood e bs g) (right_false (is_quit e.command) (list_any is_quit (map command_of bs)) plainly))
+    names_known (e ∷ bs) g plainly = All-cons (λ (x : ℕ × Command). 1 ≤ times x.0 ns) (by_name e) (map by_name bs) (by (All-head IsGood e bs g)) (names_known bs (All-tail IsGood e bs g) (or_parts (is_quit e.command) (list_any is_quit (map command_of bs)) plainly).1)
       where
         by : IsGood e → 1 ≤ times e.number ns
         by (inl h) = h.1
-        by (inr quit) = absurd (true≢false (sym (ap is_quit quit) ∙ left_false (is_quit e.command) (list_any is_quit (map command_of bs)) plainly))
+        by (inr quit) = absurd (true≢false (sym (ap is_quit quit) ∙ (or_parts (is_quit e.command) (list_any is_quit (map command_of bs)) plainly).0))
 
     pub is_interleaved : IsInterleaving (map (its_named b) S) (map command_of b)
     is_interleaved = record {

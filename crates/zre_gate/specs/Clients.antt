@@ -9,7 +9,8 @@ use Rattle.zre_console.specs.declared.reader.ending.InputEnd.{InputEnd}
 use Rattle.zre_console.specs.declared.reader.ending.InputEnd.TheVariants as end
 use Rattle.zre_console.specs.reader.Reading.{LinesOutcome}
 use Rattle.zre_commands.specs.declared.pump.status.Status.{Status}
-use Rattle.zre_commands.specs.declared.pump.status.Status.TheVariants.{Done, TooLong, OutOfMemory}
+use Rattle.zre_commands.specs.declared.pump.status.Status.TheVariants.{Done}
+use Rattle.zre_chat.specs.Statuses.{of_read}
 
 -- what a client tells that is left and that was taken, and how often it failed
 pub record Row : Type 0 where
@@ -43,29 +44,15 @@ put_for x = map (placed x.number []) x.commands
 abbrev pub put_for_all : List Served → List Placed
 put_for_all xs = flat_map put_for xs
 
-abbrev pub number_of : Served → ℕ
-number_of x = x.number
-
-abbrev pub before_of : Served → Row
-before_of x = x.before
-
 abbrev pub after_of : Served → Row
 after_of x = x.after
 
 -- it ended because the gate was over
 abbrev pub is_over : InputEnd → Bool
 is_over end.Over = true
-is_over end.Quit = false
-is_over end.AtEnd = false
-is_over end.ReadFault = false
-is_over end.TooLong = false
-is_over end.OutOfMemory = false
+is_over e = false
 
 -- what that comes to: a client that failed ends alone
 abbrev pub of_client : InputEnd → Status
-of_client end.Over = Done
-of_client end.Quit = Done
-of_client end.AtEnd = Done
 of_client end.ReadFault = Done
-of_client end.TooLong = TooLong
-of_client end.OutOfMemory = OutOfMemory
+of_client e = of_read e

@@ -17,6 +17,7 @@ use crate::arrivals::attend;
 use crate::table::Table;
 use crate::threads::{Served, serve, unserved};
 use std::alloc::Global;
+use std::marker::Brand;
 use std::sync::Wait;
 use std::thread::Threads;
 use zre_chat::Chat;
@@ -112,7 +113,7 @@ impl Gate {
         match opened {
             Ok(table) => {
                 let keep = capture.is_some();
-                let served = serve(
+                let served = serve::<D::Client, W, O, R, P, T, Brand>(
                     rt, alloc, table, clients, world, out, rec, keep, spawner, limit,
                 );
                 ended(desk, served)

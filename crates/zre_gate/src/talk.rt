@@ -1,8 +1,9 @@
 //! The closer is started, and the node's events are printed meanwhile.
 
-ghost use Rattle.std.specs.Prelude.{◌≡◌, ◌≤◌, ◌⊎◌, true, None, Some, IsSome, map};
+ghost use Rattle.std.specs.Prelude.{◌≡◌, ◌≤◌, ◌⊎◌, true, None, Some, IsSome, OnErr, MatchResult, map};
 ghost use Rattle.std.specs.Arc.{arc_value};
 ghost use Rattle.zre_outside.specs.Causes.{Rose};
+ghost use Rattle.zre_outside.specs.Spawners.{job_of};
 ghost use Rattle.zre_outside.specs.declared.sink.NextFault.TheVariants.{Failed};
 ghost use Rattle.zre_actor.specs.Passes.{IsCallerOf, IsTakerOf, last_of};
 ghost use Rattle.zre_console.specs.printer.Printing.{HasPrinted};
@@ -18,7 +19,7 @@ use std::sync::atomic::{AtomicBool, Ordering};
 use std::thread::Threads;
 use zre_actor::{CallerPass, Pipes, TakerPass};
 use zre_console::printer::{Asker, Printed, Wish, print_all};
-use zre_outside::{Refused, Sink, Source, Spawner};
+use zre_outside::{Job, Refused, Running, Sink, Source, Spawner};
 
 /// What is left after Last, and whether a thread was refused.
 #[derive(Drop)]
@@ -28,43 +29,35 @@ pub(crate) struct Talk<C> {
     pub refused: bool,
 }
 
-// Without a closer: asks the node to stop at once, prints until Last, and then waits for the clients.
-fn hold_alone<C, B, O: Sink, T: Wait + Threads + Copy>(
-    rt: T,
-    alloc: Global,
-    pipes: &Pipes,
-    over: &AtomicBool,
-    job: CloserJob<C, B>,
-    asker: CallerPass,
-    taker: TakerPass,
-    out: &mut O,
-) -> Talk<C>
-where
-    C: Source + Send + Drop + 'static,
-    B: Known + Send + 'static,
-    requires pipes { IsTakerOf pipes.now taker × IsCallerOf pipes.now asker }
-    requires open { last_of taker ≡ None }
-    ensures pipes { IsTakerOf pipes.now result.printed.taker × IsCallerOf pipes.now result.printed.pass
-        × IsCallerOf (arc_value job.pipes) result.closed.pass }
-    ensures last { IsSome (last_of result.printed.taker) }
-    ensures closed { ClosesAll B.hall (map (row C.left C.taken C.faults) result.closed.clients.items) job.pass
-        result.closed.pass result.closed.status }
-    ensures printed { HasPrinted (asker_of asker true) taker result.printed.taker result.printed.pass
-        result.printed.fault (O.written out.old) (O.written out.new) }
-    ensures failed { result.printed.fault ≡ Some Failed → Rose (O.faults out.old) (O.faults out.new) }
-    ensures refused { result.refused ≡ true }
-    ensures writes { O.faults out.old ≤ O.faults out.new }
+// Starts the closer, unless a thread was refused before.
+fn start<J: Job<P::Runtime>, P: Spawner>(
+    spawner: &mut P,
+    job: J,
+    refused: bool,
+) -> Result<Running<J>, J>
+    ensures started { MatchResult result (λ running. job_of running ≡ job) (λ back. back ≡ job) }
+    ensures refused { OnErr result ((refused ≡ true) ⊎ Rose (P.faults spawner.old) (P.faults spawner.new)) }
+    ensures later { P.faults spawner.old ≤ P.faults spawner.new }
 {
-    let asker = Asker {
-        pass: asker,
-        wish: Wish::Due,
-    };
-    let printed = print_all(rt, alloc, pipes, taker, asker, out);
-    over.store(true, Ordering::SeqCst);
-    Talk {
-        closed: close_here(rt, job),
-        printed,
-        refused: true,
+    if refused {
+        return Err(job);
+    }
+    match spawner.start(job) {
+        Ok(running) => Ok(running),
+        Err(refused) => {
+            let Refused { job } = refused;
+            Err(job)
+        }
+    }
+}
+
+// Who asks the node to stop: at once, where a thread was refused.
+fn asker_at(pass: CallerPass, refused: bool) -> Asker
+    ensures { result ≡ asker_of pass refused }
+{
+    Asker {
+        pass,
+        wish: if refused { Wish::Due } else { Wish::No },
     }
 }
 
@@ -100,26 +93,20 @@ where
     ensures writes { O.faults out.old ≤ O.faults out.new }
     ensures starts { P.faults spawner.old ≤ P.faults spawner.new }
 {
-    if refused {
-        return hold_alone(rt, alloc, pipes, over, job, asker, taker, out);
-    }
-    match spawner.start(job) {
-        Ok(running) => {
-            let asker = Asker {
-                pass: asker,
-                wish: Wish::No,
-            };
-            let printed = print_all(rt, alloc, pipes, taker, asker, out);
-            over.store(true, Ordering::SeqCst);
-            Talk {
-                closed: running.join(rt),
-                printed,
-                refused: false,
-            }
-        }
-        Err(refused) => {
-            let Refused { job } = refused;
-            hold_alone(rt, alloc, pipes, over, job, asker, taker, out)
-        }
+    let started = start(spawner, job, refused);
+    let asker = asker_at(asker, started.is_err());
+    let printed = print_all(rt, alloc, pipes, taker, asker, out);
+    over.store(true, Ordering::SeqCst);
+    match started {
+        Ok(running) => Talk {
+            closed: running.join(rt),
+            printed,
+            refused: false,
+        },
+        Err(job) => Talk {
+            closed: close_here(rt, job),
+            printed,
+            refused: true,
+        },
     }
 }

@@ -30,7 +30,6 @@ use crate::talk::{Talk, hold_talk};
 use crossbeam_channel::{Receiver, Sender, bounded};
 use std::alloc::Global;
 use std::collections::VecDeque;
-use std::marker::Brand;
 use std::sync::Wait;
 use std::thread::Threads;
 use zre_actor::{CallerPasses, Ending, Pipes, Worked};
@@ -192,45 +191,7 @@ fn join_all<J: Task, T: Threads + Copy>(rt: T, running: Vec<Running<J>>) {
 }
 
 /// Starts the node's thread, one for each client and the closer's, prints, and waits for all of them.
-pub(crate) fn serve<C, W, O, R, P, T>(
-    rt: T,
-    alloc: Global,
-    table: Table<C>,
-    clients: Vec<C>,
-    world: W,
-    out: &mut O,
-    rec: R,
-    keep: bool,
-    spawner: &mut P,
-    limit: u64,
-) -> Served<C, W, R>
-where
-    C: Source + Send + Drop + 'static,
-    W: World + Send + Drop + 'static,
-    O: Sink,
-    R: Recorder + Send + Drop + 'static,
-    P: Spawner,
-    T: Wait + Threads + Copy,
-    requires laid { IsLaid (length clients.items) table }
-    requires begun { keep ≡ true → R.begun rec ≡ true }
-    ensures gate { (g : ConfigValue) (start : StartValue) (name : Option (List ℕ)) (s : Seen) (before after : ℕ)
-        → StandsFor g [] table.seat.node →
-        Prepared g start name keep s (seen_beside (W.told world) (W.faults world) (O.written out.old) (O.faults out.old)
-        (R.kept rec) (R.named rec) (R.faults rec) (P.faults spawner.old)) →
-        IsGate g start name limit (length clients.items) s
-        (seen_beside (W.told result.world) (W.faults result.world) (O.written out.new) (O.faults out.new)
-        (R.kept result.rec) (R.named result.rec) (R.faults result.rec) (P.faults spawner.new))
-        (Rose before after) (map (row C.left C.taken C.faults) clients.items)
-        (map (row C.left C.taken C.faults) result.clients.items) result.status }
-    ensures unkept { keep ≡ false → result.rec ≡ rec }
-    ensures later { (O.faults out.old ≤ O.faults out.new) × (P.faults spawner.old ≤ P.faults spawner.new) }
-{
-    serve_known::<C, W, O, R, P, T, Brand>(
-        rt, alloc, table, clients, world, out, rec, keep, spawner, limit,
-    )
-}
-
-fn serve_known<C, W, O, R, P, T, B>(
+pub(crate) fn serve<C, W, O, R, P, T, B>(
     rt: T,
     alloc: Global,
     table: Table<C>,

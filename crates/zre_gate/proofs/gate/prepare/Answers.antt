@@ -1,23 +1,25 @@
-use Rattle.std.proofs.Common.{◌≡◌, ◌∙◌, false, true, refl, sym, ap, subst}
+use Rattle.std.proofs.Common.{◌≡◌, ◌∙◌, false, true, [], List, Option, refl, sym, ap, subst}
 use Rattle.std.specs.Prelude.{Err, option_map}
 use Rattle.zre_outside.specs.declared.sink.NextFault.{NextFault}
 use Rattle.zre_outside.specs.declared.sink.NextFault.TheVariants as fault
+use Rattle.zre_values.specs.declared.endpoint.Endpoint.{Endpoint}
 use Rattle.zre_outside.specs.Causes.{Rose}
+use Rattle.zre_outside.specs.Desks.{Register}
 use Rattle.zre_commands.specs.declared.pump.status.Status.TheVariants.{WriteFault, WorldFault}
 use Rattle.zre_chat.specs.Statuses.{of_fault}
 use Rattle.zre_chat.proofs.Whole.{none_started, only_failed}
 use Rattle.zre_gate.specs.Gate.{attended}
-use Rattle.zre_gate.specs.Stages.{IsEarly}
+use Rattle.zre_gate.specs.Stages.{Attends, IsEarly}
 use Rattle.zre_gate.proofs.Attended.{not_attended}
 use Rattle.zre_gate.proofs.gate.prepare.Goals as goal
 
+-- no client came yet
+none_came : {C : Type 0} (place : Endpoint) (told : Option (Register C)) (given : List C) → given ≡ [] → Attends place told told given
+none_came place told given none = record { begun = false; is_told = subst (λ xs. told ≡ option_map (attended false place xs) told) (sym none) (not_attended place told) }
+
 -- no memory for the clients
 pub returns-then-is_err-clause-attends : goal.returns-then-is_err-clause-attends
-returns-then-is_err-clause-attends g c =
-    let t = g.D.Desk.told c.args.desk.now in let place = c.args.local in record {
-      begun = false;
-      is_told = subst (λ xs. t ≡ option_map (attended false place xs) t) (sym (c.reserve.ensures.items ∙ c.requires.none)) (not_attended place t);
-    }
+returns-then-is_err-clause-attends g c = none_came _ _ _ (c.reserve.ensures.items ∙ c.requires.none)
 
 pub returns-then-is_err-clause-refused : goal.returns-then-is_err-clause-refused
 returns-then-is_err-clause-refused g c = record {
@@ -28,11 +30,7 @@ returns-then-is_err-clause-refused g c = record {
 }
 
 pub returns-in-Err-clause-attends : goal.returns-in-Err-clause-attends
-returns-in-Err-clause-attends g c =
-    let t = g.D.Desk.told c.args.desk.now in let place = c.args.local in record {
-      begun = false;
-      is_told = subst (λ xs. t ≡ option_map (attended false place xs) t) (sym (c.reserve.ensures.items ∙ c.requires.none)) (not_attended place t);
-    }
+returns-in-Err-clause-attends g c = none_came _ _ _ (c.reserve.ensures.items ∙ c.requires.none)
 
 pub returns-in-Err-clause-refused : goal.returns-in-Err-clause-refused
 returns-in-Err-clause-refused g c =

@@ -13,18 +13,19 @@ use Rattle.zre_commands.specs.declared.pump.status.Status.{Status}
 use Rattle.zre_commands.specs.declared.pump.status.Status.TheVariants.{NoThread, OutOfMemory}
 use Rattle.zre_chat.specs.Chat.{Seen}
 use Rattle.zre_chat.proofs.Rows.{memory_isnt, thread_isnt}
+use Rattle.zre_chat.proofs.Talked.{asker_ended}
 use Rattle.zre_chat.proofs.Whole.{head_only}
 use Rattle.zre_gate.specs.Clients.{Row, row}
 use Rattle.zre_gate.specs.Gate.{IsGate, seen_beside}
 use Rattle.zre_gate.specs.Halls.{hall_of, guests_of}
 use Rattle.zre_gate.specs.Tables.{chair_number}
-use Rattle.zre_gate.proofs.Holding.{gated, asker_ended}
+use Rattle.zre_gate.proofs.Holding.{gated}
 use Rattle.zre_gate.proofs.Places.{guests_before, guests_length, guests_numbers}
 use Rattle.zre_gate.proofs.Answering.{nat_prop}
 use Rattle.zre_gate.proofs.Gathered.{closed_ended, same_hall}
 use Rattle.zre_gate.proofs.Seating.{how_back}
 use Rattle.zre_gate.proofs.Unopened.{unopened}
-use Rattle.zre_gate.proofs.threads.serve_known.Goals as goal
+use Rattle.zre_gate.proofs.threads.serve.Goals as goal
 
 -- no memory for the channels
 pub returns-in_default-clause-gate : goal.returns-in_default-clause-gate
