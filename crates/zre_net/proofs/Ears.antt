@@ -1,5 +1,5 @@
 -- What more octets of a connection complete.
-use Rattle.std.proofs.Common.{◌≡◌, ℕ, ◌+◌, Bool, true, false, ◌||◌, List, [], ◌∷◌, ◌++◌, length, map, Option, Some, None, refl, sym, ap, ◌∙◌, arith, length-append, append-nil, true≢false}
+use Rattle.std.proofs.Common.{◌≡◌, ℕ, Bool, true, false, ◌||◌, List, [], ◌∷◌, ◌++◌, length, map, Option, Some, None, refl, sym, ap, ◌∙◌, arith, append-nil, true≢false}
 use Rattle.zre_values.specs.declared.peer_id.PeerId.{PeerId}
 use Rattle.zre_zmtp.specs.Reading.{IsOver}
 use Rattle.zre_zmtp.specs.Stream.{Whole}
@@ -56,11 +56,3 @@ pub heard : (own : PeerId) (o more : List ℕ) (now : Hearing) (out out' : List 
 heard own o more now out out' e n h =
     ap (λ as_. length as_) (h.appended ∙ ap (λ as_. as_ ++ new_arrivals own o more) e) ∙ sym (mapped (new_arrivals own o more))
     ∙ ap (λ xs. length xs) (sym (h.completes ∙ ap (λ f. map (λ a. Arrived a) (new_arrivals own o more) ++ fault_said f) n ∙ append-nil (map (λ a. Arrived a) (new_arrivals own o more))))
-
-pub heard_fault : (own : PeerId) (o more : List ℕ) (now : Hearing) (out out' : List Arrival) (f : ZmtpFault) → out ≡ [] → fault_in own (o ++ more) ≡ Some f → Hears own o more now out out' → length out' + 1 ≡ length (completed own o more)
-heard_fault own o more now out out' f e n h =
-    let a = ap (λ as_. length as_) (h.appended ∙ ap (λ as_. as_ ++ new_arrivals own o more) e) in
-    let b = mapped (new_arrivals own o more) in
-    let c = ap (λ xs. length xs) (h.completes ∙ ap (λ x. map (λ a. Arrived a) (new_arrivals own o more) ++ fault_said x) n) in
-    let d = length-append (map (λ a. Arrived a) (new_arrivals own o more)) (fault_said (Some f)) in
-    omega (arith, a, b, c, d)
