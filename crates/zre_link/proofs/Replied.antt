@@ -4,23 +4,48 @@ use Rattle.zre_values.specs.declared.peer_id.PeerId.{PeerId}
 use Rattle.zre_zmtp.specs.declared.fault.ZmtpFault.{ZmtpFault}
 use Rattle.zre_link.specs.declared.fault.ReplyFault.{ReplyFault}
 use Rattle.zre_link.specs.declared.fault.ReplyFault.TheVariants as answer
+use Rattle.zre_zmtp.specs.declared.item.Item.{Item}
 use Rattle.zre_zmtp.specs.Looks.{IsPaid, IsPaidOnRefusal}
-use Rattle.zre_link.specs.Heard.{Heard, heard_after, kept_of}
-use Rattle.zre_link.specs.Link.{Sending, link_after, RefusesReply}
+use Rattle.zre_zmtp.specs.Ping.{contexts_in}
+use Rattle.zre_link.specs.Heard.{Heard, heard_after, new_pings, kept_of}
+use Rattle.zre_link.specs.Link.{Sending, link_after, unsent_of, slow_at, answering, slow_in, link_answering, RefusesReply}
 use Rattle.zre_link.specs.Text.{Member}
 
+-- the same link, with other replies
+abbrev pub with_heard : Sending → Heard → Sending
+with_heard s heard = record { queue = s.queue; sent = s.sent; written = s.written; taken = s.taken; linked = s.linked; replies = heard }
+
 -- it was read, and nothing was answered yet
-pub read : (own : PeerId) (line : List Member) (linked : Bool) (o p : List ℕ) (n : ℕ) (was : Sending) (heard : Heard) → was ≡ link_after own line linked o n → heard ≡ heard_after (o ++ p)
-    → let now : Sending = record { queue = was.queue; sent = was.sent; written = was.written; taken = was.taken; linked = was.linked; replies = heard } in now ≡ link_after own line linked (o ++ p) n
-read own line linked o p n was heard e is =
-    let make : Sending → Heard → Sending = λ s h. record { queue = s.queue; sent = s.sent; written = s.written; taken = s.taken; linked = s.linked; replies = h } in
-    ap (λ h. make was h) is ∙ ap (λ s. make s (heard_after (o ++ p))) e
+read : (own : PeerId) (line : List Member) (linked : Bool) (o p : List ℕ) (n : ℕ) (was : Sending) (heard : Heard) → was ≡ link_after own line linked o n → heard ≡ heard_after (o ++ p)
+    → with_heard was heard ≡ link_after own line linked (o ++ p) n
+read own line linked o p n was heard e is = ap (λ h. with_heard was h) is ∙ ap (λ s. with_heard s (heard_after (o ++ p))) e
 
 -- PINGs were answered up to a refusal, whatever the fault of the replies is
 pub answers_refused : {P Q : Type 0} (e : ReplyFault) (slow slow' : Option (ℕ × ℕ)) (fault : Option ZmtpFault) → slow ≡ slow' → (P → Q) → RefusesReply e slow None P → RefusesReply e slow' fault Q
 answers_refused (answer.Slow unsent size) slow slow' fault same f r = (sym same ∙ r.0, f r.1)
 answers_refused (answer.Zmtp x) slow slow' fault same f r = absurd (let z : None ≡ Some x = r.1 in cc)
 answers_refused answer.OutOfMemory slow slow' fault same f r = tt
+
+-- a piece was read, and all of its PINGs were answered
+pub all_answered : (own : PeerId) (line : List Member) (linked : Bool) (o p : List ℕ) (n : ℕ) (was : Sending) (heard : Heard) (now : Sending) (items items' : List Item)
+    → was ≡ link_after own line linked o n → (heard ≡ heard_after (o ++ p)) × (contexts_in items ≡ new_pings o p) → items' ≡ items
+    → ((own : PeerId) (line : List Member) (linked : Bool) (o : List ℕ) (n : ℕ) → with_heard was heard ≡ link_after own line linked o n
+    → (slow_at (unsent_of own line n) (contexts_in items') ≡ None) × (now ≡ link_after own (answering own line n (contexts_in items')) linked o n))
+    → (slow_in own line o n p ≡ None) × (now ≡ link_answering own line linked o n p)
+all_answered own line linked o p n was heard now items items' e fed same h =
+    subst (λ (cs : List (List ℕ)). (slow_at (unsent_of own line n) cs ≡ None) × (now ≡ link_after own (answering own line n cs) linked (o ++ p) n)) (ap contexts_in same ∙ fed.1)
+    (h own line linked (o ++ p) n (read own line linked o p n was heard e fed.0))
+
+-- or those before the one that has no room
+pub some_answered : (own : PeerId) (line : List Member) (linked : Bool) (o p : List ℕ) (n : ℕ) (was : Sending) (heard : Heard) (now : Sending) (items items' : List Item) (f : ReplyFault) (fault : Option ZmtpFault)
+    → was ≡ link_after own line linked o n → (heard ≡ heard_after (o ++ p)) × (contexts_in items ≡ new_pings o p) → items' ≡ items
+    → ((own : PeerId) (line : List Member) (linked : Bool) (o : List ℕ) (n : ℕ) → with_heard was heard ≡ link_after own line linked o n
+    → RefusesReply f (slow_at (unsent_of own line n) (contexts_in items')) None (now ≡ link_after own (answering own line n (contexts_in items')) linked o n))
+    → RefusesReply f (slow_in own line o n p) fault (now ≡ link_answering own line linked o n p)
+some_answered own line linked o p n was heard now items items' f fault e fed same h =
+    let is = ap contexts_in same ∙ fed.1 in
+    answers_refused f _ _ fault (ap (slow_at (unsent_of own line n)) is)
+    (λ q. subst (λ (cs : List (List ℕ)). now ≡ link_after own (answering own line n cs) linked (o ++ p) n) is q) (h own line linked (o ++ p) n (read own line linked o p n was heard e fed.0))
 
 -- what is so of an answer, made into something else
 pub on_ok : {P Q : Type 0} (r : Result (Unit {0}) ReplyFault) → (P → Q) → OnOk r P → OnOk r Q

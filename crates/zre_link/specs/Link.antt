@@ -1,6 +1,6 @@
 -- What a link keeps, as a function of its line, of what came back and of what went out.
-use Rattle.std.specs.Prelude.{◌≡◌, ℕ, ◌+◌, ◌-◌, ◌<◌, min, nat_lt, Bool, if◌then◌else◌, List, [], ◌∷◌, ◌++◌, length}
-use Rattle.std.specs.Prelude.{take, drop, map, Option, Some, None}
+use Rattle.std.specs.Prelude.{◌≡◌, ℕ, ◌+◌, ◌-◌, ◌<◌, ◌≤◌, min, nat_lt, Bool, if◌then◌else◌, List, [], ◌∷◌, ◌++◌, length}
+use Rattle.std.specs.Prelude.{take, drop, map, Option, Some, None, Result, OnOk, IfErr}
 use Rattle.zre_values.specs.declared.limits.TheConstants.{UNSENT_OCTETS}
 use Rattle.zre_values.specs.declared.peer_id.PeerId.{PeerId}
 use Rattle.zre_zmtp.specs.Written.{pong_frame}
@@ -11,8 +11,9 @@ use Rattle.zre_link.specs.declared.fault.PushFault.{PushFault}
 use Rattle.zre_link.specs.declared.fault.PushFault.TheVariants.{Slow, OutOfMemory}
 use Rattle.zre_link.specs.declared.fault.ReplyFault.{ReplyFault}
 use Rattle.zre_link.specs.declared.fault.ReplyFault.TheVariants as answer
-use Rattle.zre_link.specs.Text.{Member, Pongs, bodies_in, text_of}
-use Rattle.zre_link.specs.Heard.{awaited, new_pings, Heard, heard_after}
+use Rattle.zre_msg.specs.declared.message.Body.{Body}
+use Rattle.zre_link.specs.Text.{Member, Says, Pongs, bodies_in, text_of, size_of}
+use Rattle.zre_link.specs.Heard.{reply_fault, awaited, new_pings, Heard, heard_after}
 
 -- ---- what contracts see of a link
 
@@ -84,6 +85,21 @@ abbrev pub RefusesPush : PushFault → ℕ → ℕ → Type 0
 RefusesPush (Slow unsent size) waiting takes = IsSlow waiting takes unsent size
 RefusesPush OutOfMemory waiting takes = Unit {0}
 
+-- The body was put, whatever the link was before: it stands at the end of the line, and no more wait than may.
+abbrev pub Puts : Result (Unit {0}) PushFault → Sending → Sending → Body → Type 0
+Puts result was now body =
+    (own : PeerId) (line : List Member) (linked : Bool) (o : List ℕ) (n : ℕ) →
+    was ≡ link_after own line linked o n →
+    OnOk result ((unsent_of own line n + size_of line body ≤ UNSENT_OCTETS)
+    × (now ≡ link_after own (line ++ Says body ∷ []) linked o n))
+
+-- It was not, and the refusal says why.
+abbrev pub RefusesToPut : Result (Unit {0}) PushFault → Sending → Body → Type 0
+RefusesToPut result was body =
+    (own : PeerId) (line : List Member) (linked : Bool) (o : List ℕ) (n : ℕ) →
+    was ≡ link_after own line linked o n →
+    IfErr result (λ e. RefusesPush e (unsent_of own line n) (size_of line body))
+
 -- ---- PINGs that are answered
 
 -- of the contexts of PINGs, one after another, where so many octets wait: those before the first whose PONG would make
@@ -120,3 +136,23 @@ abbrev pub RefusesReply : ReplyFault → Option (ℕ × ℕ) → Option ZmtpFaul
 RefusesReply (answer.Slow unsent size) slow fault P = (slow ≡ Some (unsent, size)) × P
 RefusesReply (answer.Zmtp f) slow fault P = (slow ≡ None) × (fault ≡ Some f) × P
 RefusesReply answer.OutOfMemory slow fault P = Unit {0}
+
+-- A piece of replies was read, whatever the link was before: it has no fault, and each PING in it is answered.
+abbrev pub Answers : Result (Unit {0}) ReplyFault → Sending → Sending → List ℕ → Type 0
+Answers result was now piece =
+    (own : PeerId) (line : List Member) (linked : Bool) (o : List ℕ) (n : ℕ) →
+    was ≡ link_after own line linked o n →
+    OnOk result ((slow_in own line o n piece ≡ None) × (reply_fault (o ++ piece) ≡ None)
+    × (now ≡ link_answering own line linked o n piece))
+
+-- It was refused: the refusal says why, and the PINGs before that are answered.
+abbrev pub RefusesToAnswer : Result (Unit {0}) ReplyFault → Sending → Sending → List ℕ → Type 0
+RefusesToAnswer result was now piece =
+    (own : PeerId) (line : List Member) (linked : Bool) (o : List ℕ) (n : ℕ) →
+    was ≡ link_after own line linked o n →
+    IfErr result (λ e. RefusesReply e (slow_in own line o n piece) (reply_fault (o ++ piece))
+    (now ≡ link_answering own line linked o n piece))
+
+-- No body was put, nothing went out, and the link stands as it did.
+abbrev pub IsOnlyAnswered : Sending → Sending → Type 0
+IsOnlyAnswered was now = (now.sent ≡ was.sent) × (now.taken ≡ was.taken) × (now.linked ≡ was.linked)

@@ -1,6 +1,6 @@
 //! One outgoing connection.
 
-ghost use Rattle.std.specs.Prelude.{◌≡◌, ◌≢◌, ℕ, ◌+◌, ◌-◌, ◌<◌, ◌≤◌, ◌∷◌, Bool, true, false, List, [], ◌++◌};
+ghost use Rattle.std.specs.Prelude.{◌≡◌, ◌≢◌, ℕ, ◌+◌, ◌-◌, ◌<◌, ◌≤◌, Bool, true, false, List, [], ◌++◌};
 ghost use Rattle.std.specs.Prelude.{length, drop, None, IfOk, OnOk, IfErr, OnErr};
 ghost use Rattle.zre_values.specs.declared.limits.TheConstants.{MESSAGE_OCTETS, COMMAND_OCTETS, UNSENT_OCTETS};
 ghost use Rattle.zre_values.specs.declared.peer_id.PeerId.{PeerId as PeerIdValue};
@@ -11,10 +11,11 @@ ghost use Rattle.zre_zmtp.specs.Ping.{contexts_in};
 ghost use Rattle.zre_msg.specs.declared.message.Body.TheVariants.{Ping, Shout};
 ghost use Rattle.zre_msg.specs.Spelling.{FitsBody, FitsString};
 ghost use Rattle.zre_link.specs.Front.{IsFront};
-ghost use Rattle.zre_link.specs.Text.{Member, Says, bodies_in, text_of, size_of};
-ghost use Rattle.zre_link.specs.Heard.{reply_fault, heard_after, kept_of};
-ghost use Rattle.zre_link.specs.Link.{link_after, gate_at, has_front, front_of, taken_by, unsent_of, RefusesPush};
-ghost use Rattle.zre_link.specs.Link.{slow_at, answering, link_answering, slow_in, RefusesReply};
+ghost use Rattle.zre_link.specs.Text.{Member, bodies_in, text_of};
+ghost use Rattle.zre_link.specs.Heard.{heard_after, kept_of};
+ghost use Rattle.zre_link.specs.Link.{link_after, gate_at, has_front, front_of, taken_by, unsent_of, slow_at};
+ghost use Rattle.zre_link.specs.Link.{answering, Puts, RefusesToPut, Answers, RefusesToAnswer, RefusesReply};
+ghost use Rattle.zre_link.specs.Link.{IsOnlyAnswered};
 
 use crate::answers::answer_all;
 use crate::awaits::Awaits;
@@ -115,13 +116,8 @@ impl Link {
     /// wait then. The body is lent, and handed back as it was.
     pub fn push(&mut self, body: &mut Body) -> Result<(), PushFault>
         requires { FitsBody body.old }
-        ensures ok { (own : PeerIdValue) (line : List Member) (linked : Bool) (o : List ℕ) (n : ℕ) →
-            self.old ≡ link_after own line linked o n →
-            OnOk result ((unsent_of own line n + size_of line body.old ≤ UNSENT_OCTETS)
-            × (self.new ≡ link_after own (line ++ Says body.old ∷ []) linked o n)) }
-        ensures refused { (own : PeerIdValue) (line : List Member) (linked : Bool) (o : List ℕ) (n : ℕ) →
-            self.old ≡ link_after own line linked o n →
-            IfErr result (λ e. RefusesPush e (unsent_of own line n) (size_of line body.old)) }
+        ensures ok { Puts result self.old self.new body.old }
+        ensures refused { RefusesToPut result self.old body.old }
         ensures unchanged { OnErr result (self.new ≡ self.old) }
         ensures lent { body.new ≡ body.old }
     {
@@ -149,13 +145,8 @@ impl Link {
 
     /// Puts a PING in the same way: what `push` does for it.
     pub fn push_ping(&mut self) -> Result<(), PushFault>
-        ensures ok { (own : PeerIdValue) (line : List Member) (linked : Bool) (o : List ℕ) (n : ℕ) →
-            self.old ≡ link_after own line linked o n →
-            OnOk result ((unsent_of own line n + size_of line Ping ≤ UNSENT_OCTETS)
-            × (self.new ≡ link_after own (line ++ Says Ping ∷ []) linked o n)) }
-        ensures refused { (own : PeerIdValue) (line : List Member) (linked : Bool) (o : List ℕ) (n : ℕ) →
-            self.old ≡ link_after own line linked o n →
-            IfErr result (λ e. RefusesPush e (unsent_of own line n) (size_of line Ping)) }
+        ensures ok { Puts result self.old self.new Ping }
+        ensures refused { RefusesToPut result self.old Ping }
         ensures unchanged { OnErr result (self.new ≡ self.old) }
     {
         let Some(sent) = self.sent.checked_add(1) else {
@@ -170,13 +161,8 @@ impl Link {
     /// Puts a SHOUT to this group in the same way: what `push` does for it with the content of the tail.
     pub fn push_shout(&mut self, group: &[u8], tail: &Tail) -> Result<(), PushFault>
         requires { FitsString group.now }
-        ensures ok { (own : PeerIdValue) (line : List Member) (linked : Bool) (o : List ℕ) (n : ℕ) →
-            self.old ≡ link_after own line linked o n → let body = Shout group.now tail.now in
-            OnOk result ((unsent_of own line n + size_of line body ≤ UNSENT_OCTETS)
-            × (self.new ≡ link_after own (line ++ Says body ∷ []) linked o n)) }
-        ensures refused { (own : PeerIdValue) (line : List Member) (linked : Bool) (o : List ℕ) (n : ℕ) →
-            self.old ≡ link_after own line linked o n →
-            IfErr result (λ e. RefusesPush e (unsent_of own line n) (size_of line (Shout group.now tail.now))) }
+        ensures ok { Puts result self.old self.new (Shout group.now tail.now) }
+        ensures refused { RefusesToPut result self.old (Shout group.now tail.now) }
         ensures unchanged { OnErr result (self.new ≡ self.old) }
     {
         let Some(sent) = self.sent.checked_add(1) else {
@@ -217,16 +203,9 @@ impl Link {
     /// how many PONGs were put, is left open.
     pub fn reply(&mut self, piece: &[u8]) -> Result<(), ReplyFault>
         requires { self.old.linked ≡ true }
-        ensures ok { (own : PeerIdValue) (line : List Member) (linked : Bool) (o : List ℕ) (n : ℕ) →
-            self.old ≡ link_after own line linked o n →
-            OnOk result ((slow_in own line o n piece.now ≡ None) × (reply_fault (o ++ piece.now) ≡ None)
-            × (self.new ≡ link_answering own line linked o n piece.now)) }
-        ensures refused { (own : PeerIdValue) (line : List Member) (linked : Bool) (o : List ℕ) (n : ℕ) →
-            self.old ≡ link_after own line linked o n →
-            IfErr result (λ e. RefusesReply e (slow_in own line o n piece.now) (reply_fault (o ++ piece.now))
-            (self.new ≡ link_answering own line linked o n piece.now)) }
-        ensures rest { (self.new.sent ≡ self.old.sent) × (self.new.taken ≡ self.old.taken)
-            × (self.new.linked ≡ self.old.linked) }
+        ensures ok { Answers result self.old self.new piece.now }
+        ensures refused { RefusesToAnswer result self.old self.new piece.now }
+        ensures rest { IsOnlyAnswered self.old self.new }
     {
         self.reply_from::<Brand>(piece, Blank::new(1))
     }
@@ -238,16 +217,9 @@ impl Link {
         steps: &mut Steps<L>,
     ) -> Result<(), ReplyFault>
         requires { self.old.linked ≡ true }
-        ensures ok { (own : PeerIdValue) (line : List Member) (linked : Bool) (o : List ℕ) (n : ℕ) →
-            self.old ≡ link_after own line linked o n →
-            OnOk result ((slow_in own line o n piece.now ≡ None) × (reply_fault (o ++ piece.now) ≡ None)
-            × (self.new ≡ link_answering own line linked o n piece.now)) }
-        ensures refused { (own : PeerIdValue) (line : List Member) (linked : Bool) (o : List ℕ) (n : ℕ) →
-            self.old ≡ link_after own line linked o n →
-            IfErr result (λ e. RefusesReply e (slow_in own line o n piece.now) (reply_fault (o ++ piece.now))
-            (self.new ≡ link_answering own line linked o n piece.now)) }
-        ensures rest { (self.new.sent ≡ self.old.sent) × (self.new.taken ≡ self.old.taken)
-            × (self.new.linked ≡ self.old.linked) }
+        ensures ok { Answers result self.old self.new piece.now }
+        ensures refused { RefusesToAnswer result self.old self.new piece.now }
+        ensures rest { IsOnlyAnswered self.old self.new }
         ensures looks { Looks steps.old steps.new (kept_of self.old.replies) (kept_of self.new.replies)
             (length piece.now) result }
         ensures paid { IfErr result (λ e. e ≢ ReplyFault.OutOfMemory
@@ -274,16 +246,9 @@ impl Link {
         requires parts { blank.parts ≡ L.parts }
         requires some { 0 < blank.parts }
         requires linked { self.old.linked ≡ true }
-        ensures ok { (own : PeerIdValue) (line : List Member) (linked : Bool) (o : List ℕ) (n : ℕ) →
-            self.old ≡ link_after own line linked o n →
-            OnOk result ((slow_in own line o n piece.now ≡ None) × (reply_fault (o ++ piece.now) ≡ None)
-            × (self.new ≡ link_answering own line linked o n piece.now)) }
-        ensures refused { (own : PeerIdValue) (line : List Member) (linked : Bool) (o : List ℕ) (n : ℕ) →
-            self.old ≡ link_after own line linked o n →
-            IfErr result (λ e. RefusesReply e (slow_in own line o n piece.now) (reply_fault (o ++ piece.now))
-            (self.new ≡ link_answering own line linked o n piece.now)) }
-        ensures rest { (self.new.sent ≡ self.old.sent) × (self.new.taken ≡ self.old.taken)
-            × (self.new.linked ≡ self.old.linked) }
+        ensures ok { Answers result self.old self.new piece.now }
+        ensures refused { RefusesToAnswer result self.old self.new piece.now }
+        ensures rest { IsOnlyAnswered self.old self.new }
     {
         let mut steps = Steps::<L>::new(blank);
         self.reply_counted(piece, &mut steps)

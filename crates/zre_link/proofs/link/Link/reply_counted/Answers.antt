@@ -1,59 +1,35 @@
-use Rattle.std.proofs.Common.{◌≡◌, ℕ, List, ◌++◌, None, length, refl, ap, subst, ◌∙◌}
-use Rattle.zre_zmtp.specs.Ping.{contexts_in}
-use Rattle.zre_link.specs.Heard.{reply_fault}
-use Rattle.zre_link.specs.Link.{Sending, link_after, unsent_of, slow_at, answering}
-use Rattle.zre_link.proofs.Replied.{read, answers_refused, still_paid, paid_by, refusal_paid, emptied_paid}
+use Rattle.std.proofs.Common.{length, refl, ap, ◌∙◌}
+use Rattle.zre_link.specs.Link.{Sending}
+use Rattle.zre_link.proofs.Replied.{all_answered, some_answered, still_paid, paid_by, refusal_paid, emptied_paid}
 use Rattle.zre_link.proofs.link.Link.reply_counted.Goals as goal
 
 pub returns-in-Ok-answer-clause-ok : goal.returns-in-Ok-answer-clause-ok
 returns-in-Ok-answer-clause-ok g c = λ own line linked o n e.
-    let i = c.self.inside in
-    let p = c.args.piece.now in
-    let was : Sending = record { queue = i.queue; sent = i.sent; written = i.written; taken = i.taken; linked = i.linked; replies = i.replies } in
     let is = c.self.view_is ∙ e in
     let fed = c.in-Ok.ensures.ok o (ap (λ (s : Sending). s.replies) is) in
-    let now = read own line linked o p n was c.feed.new.self is fed.1 in
-    let r = c.in-Ok-answer.ensures.ok own line linked (o ++ p) n now in
-    let all = subst (λ (cs : List (List ℕ)). (slow_at (unsent_of own line n) cs ≡ None) × (c.answer.new.self ≡ link_after own (answering own line n cs) linked (o ++ p) n)) (ap contexts_in c.as_slice.ensures ∙ fed.2) r in
+    let all = all_answered own line linked o c.args.piece.now n _ c.feed.new.self c.answer.new.self _ _ is (fed.1, fed.2) c.as_slice.ensures c.in-Ok-answer.ensures.ok in
     (all.0, fed.0, all.1)
 
 pub returns-in-Ok-clause-refused : goal.returns-in-Ok-clause-refused
 returns-in-Ok-clause-refused g c = λ own line linked o n e.
-    let i = c.self.inside in
-    let p = c.args.piece.now in
-    let was : Sending = record { queue = i.queue; sent = i.sent; written = i.written; taken = i.taken; linked = i.linked; replies = i.replies } in
     let is = c.self.view_is ∙ e in
     let fed = c.in-Ok.ensures.ok o (ap (λ (s : Sending). s.replies) is) in
-    let now = read own line linked o p n was c.feed.new.self is fed.1 in
-    let same = ap contexts_in c.as_slice.ensures ∙ fed.2 in
-    answers_refused c.in-Err.slow _ _ (reply_fault (o ++ p)) (ap (slow_at (unsent_of own line n)) same)
-    (λ q. subst (λ (cs : List (List ℕ)). c.answer.new.self ≡ link_after own (answering own line n cs) linked (o ++ p) n) same q) (c.in-Err.ensures.refused own line linked (o ++ p) n now)
+    some_answered own line linked o c.args.piece.now n _ c.feed.new.self c.answer.new.self _ _ c.in-Err.slow _ is (fed.1, fed.2) c.as_slice.ensures c.in-Err.ensures.refused
 
 pub returns-in-Ok-answer-2-clause-refused : goal.returns-in-Ok-answer-2-clause-refused
 returns-in-Ok-answer-2-clause-refused g c = λ own line linked o n e.
-    let i = c.self.inside in
-    let p = c.args.piece.now in
-    let was : Sending = record { queue = i.queue; sent = i.sent; written = i.written; taken = i.taken; linked = i.linked; replies = i.replies } in
     let is = c.self.view_is ∙ e in
     let refuses = rw c.in-Err-Zmtp.field-0-is at c.in-Err-Zmtp.ensures.refused in
     let fed = refuses o (ap (λ (s : Sending). s.replies) is) in
-    let now = read own line linked o p n was c.feed.new.self is fed.1.0 in
-    let r = c.in-Ok-answer-2.ensures.ok own line linked (o ++ p) n now in
-    let all = subst (λ (cs : List (List ℕ)). (slow_at (unsent_of own line n) cs ≡ None) × (c.answer-in-Err-Zmtp.new.self ≡ link_after own (answering own line n cs) linked (o ++ p) n)) (ap contexts_in c.as_slice-in-Err-Zmtp.ensures ∙ fed.1.1) r in
+    let all = all_answered own line linked o c.args.piece.now n _ c.feed.new.self c.answer-in-Err-Zmtp.new.self _ _ is fed.1 c.as_slice-in-Err-Zmtp.ensures c.in-Ok-answer-2.ensures.ok in
     (all.0, fed.0, all.1)
 
 pub returns-in-Err-Zmtp-clause-refused : goal.returns-in-Err-Zmtp-clause-refused
 returns-in-Err-Zmtp-clause-refused g c = λ own line linked o n e.
-    let i = c.self.inside in
-    let p = c.args.piece.now in
-    let was : Sending = record { queue = i.queue; sent = i.sent; written = i.written; taken = i.taken; linked = i.linked; replies = i.replies } in
     let is = c.self.view_is ∙ e in
     let refuses = rw c.in-Err-Zmtp.field-0-is at c.in-Err-Zmtp.ensures.refused in
     let fed = refuses o (ap (λ (s : Sending). s.replies) is) in
-    let now = read own line linked o p n was c.feed.new.self is fed.1.0 in
-    let same = ap contexts_in c.as_slice-in-Err-Zmtp.ensures ∙ fed.1.1 in
-    answers_refused c.in-Err-answer.slow _ _ (reply_fault (o ++ p)) (ap (slow_at (unsent_of own line n)) same)
-    (λ q. subst (λ (cs : List (List ℕ)). c.answer-in-Err-Zmtp.new.self ≡ link_after own (answering own line n cs) linked (o ++ p) n) same q) (c.in-Err-answer.ensures.refused own line linked (o ++ p) n now)
+    some_answered own line linked o c.args.piece.now n _ c.feed.new.self c.answer-in-Err-Zmtp.new.self _ _ c.in-Err-answer.slow _ is fed.1 c.as_slice-in-Err-Zmtp.ensures c.in-Err-answer.ensures.refused
 
 pub returns-in-Ok-answer-clause-looks : goal.returns-in-Ok-answer-clause-looks
 returns-in-Ok-answer-clause-looks g c = (still_paid c.args.steps.now c.feed.new.steps (length c.args.piece.now) c.self.inside.replies c.feed.new.self c.args.self.now.replies c.answer.new.self.replies (ap (λ (s : Sending). s.replies) c.self.view_is) c.answer.ensures.rest.3 c.in-Ok.ensures.looks.0, tt)
