@@ -1,12 +1,14 @@
 -- What an incoming connection keeps, as a function of the octets that it was fed.
-use Rattle.std.specs.Prelude.{◌≡◌, ℕ, Bool, true, false, List, [], ◌∷◌, ◌++◌, Option, Some, None, map}
+use Rattle.std.specs.Prelude.{◌≡◌, ℕ, Bool, true, false, List, [], ◌∷◌, ◌++◌, Option, Some, None, map, Result, OnOk}
+use Rattle.std.specs.Prelude.{IfErr}
 use Rattle.std.specs.Option.{option_or}
 use Rattle.zre_values.specs.declared.peer_id.PeerId.{PeerId}
 use Rattle.zre_zmtp.specs.Stream.{Kind, Whole, before, split}
 use Rattle.zre_zmtp.specs.declared.want.Want.{Want}
-use Rattle.zre_zmtp.specs.Reading.{Reading, Adds, kept}
+use Rattle.zre_zmtp.specs.Reading.{Reading, Adds, Refuses, kept}
 use Rattle.zre_zmtp.specs.declared.want.Want.TheVariants.{Dealer}
 use Rattle.zre_zmtp.specs.declared.fault.ZmtpFault.{ZmtpFault}
+use Rattle.zre_zmtp.specs.declared.fault.FeedFault.{FeedFault}
 use Rattle.zre_zmtp.specs.declared.item.Item.{Item}
 use Rattle.zre_mailbox.specs.declared.arrival.Arrival.{Arrival}
 use Rattle.zre_mailbox.specs.declared.arrival.Arrival.TheVariants.{Greeted, Shaken, Ping, Message}
@@ -100,3 +102,16 @@ pub record Hears (own : PeerId) (o piece : List ℕ) (now : Hearing) (out out' :
   pub arrived : arrivals own (o ++ piece) ≡ arrivals own o ++ new_arrivals own o piece
   pub completes : completed own o piece ≡ map (λ a. Arrived a) (new_arrivals own o piece)
       ++ fault_said (fault_in own (o ++ piece))
+
+-- The piece was read, whatever the connection was before, and has no fault.
+abbrev pub HearsOn : Result (Unit {0}) FeedFault → Hearing → Hearing → List ℕ → List Arrival → List Arrival → Type 0
+HearsOn result was now piece out out' =
+    (own : PeerId) (o : List ℕ) → was ≡ conn_after own o →
+    OnOk result ((fault_in own (o ++ piece) ≡ None) × Hears own o piece now out out')
+
+-- It was refused: the refusal names the fault that is there, and what comes before it arrived.
+abbrev pub RefusesToHear : Result (Unit {0}) FeedFault → Hearing → Hearing → List ℕ → List Arrival → List Arrival
+    → Type 0
+RefusesToHear result was now piece out out' =
+    (own : PeerId) (o : List ℕ) → was ≡ conn_after own o →
+    IfErr result (λ e. Refuses e (fault_in own (o ++ piece)) (Hears own o piece now out out'))

@@ -10,6 +10,7 @@ ghost use Rattle.zre_zmtp.specs.Stream.{Whole};
 ghost use Rattle.zre_zmtp.specs.declared.want.Want.TheVariants.{Dealer};
 ghost use Rattle.zre_mailbox.specs.Talk.{arrivals_in, fault_in};
 ghost use Rattle.zre_mailbox.specs.Conn.{conn_after, ignoring, is_ignored, is_spent, kept_of, Brings, Hears};
+ghost use Rattle.zre_mailbox.specs.Conn.{HearsOn, RefusesToHear};
 ghost use Rattle.zre_mailbox.specs.declared.phase.Phase.TheVariants.{Spent as SpentPhase};
 
 use crate::arrival::Arrivals;
@@ -94,11 +95,8 @@ impl Conn {
     pub fn feed(&mut self, piece: &[u8], out: &mut Arrivals) -> Result<(), FeedFault>
         requires heard { is_ignored self.old ≡ false }
         requires unspent { is_spent self.old ≡ false }
-        ensures ok { (own : PeerIdValue) (o : List ℕ) → self.old ≡ conn_after own o →
-            OnOk result ((fault_in own (o ++ piece.now) ≡ None) × Hears own o piece.now self.new out.old out.new) }
-        ensures refused { (own : PeerIdValue) (o : List ℕ) → self.old ≡ conn_after own o →
-            IfErr result (λ e.
-            Refuses e (fault_in own (o ++ piece.now)) (Hears own o piece.now self.new out.old out.new)) }
+        ensures ok { HearsOn result self.old self.new piece.now out.old out.new }
+        ensures refused { RefusesToHear result self.old self.new piece.now out.old out.new }
         ensures spent { is_spent self.new ≡ is_err result }
         ensures heard { is_ignored self.new ≡ false }
     {
@@ -114,11 +112,8 @@ impl Conn {
     ) -> Result<(), FeedFault>
         requires heard { is_ignored self.old ≡ false }
         requires unspent { is_spent self.old ≡ false }
-        ensures ok { (own : PeerIdValue) (o : List ℕ) → self.old ≡ conn_after own o →
-            OnOk result ((fault_in own (o ++ piece.now) ≡ None) × Hears own o piece.now self.new out.old out.new) }
-        ensures refused { (own : PeerIdValue) (o : List ℕ) → self.old ≡ conn_after own o →
-            IfErr result (λ e.
-            Refuses e (fault_in own (o ++ piece.now)) (Hears own o piece.now self.new out.old out.new)) }
+        ensures ok { HearsOn result self.old self.new piece.now out.old out.new }
+        ensures refused { RefusesToHear result self.old self.new piece.now out.old out.new }
         ensures spent { is_spent self.new ≡ is_err result }
         ensures heard { is_ignored self.new ≡ false }
         ensures looks { Looks steps.old steps.new (kept_of self.old) (kept_of self.new) (length piece.now) result }
@@ -188,11 +183,8 @@ impl Conn {
         requires some { 0 < blank.parts }
         requires heard { is_ignored self.old ≡ false }
         requires unspent { is_spent self.old ≡ false }
-        ensures ok { (own : PeerIdValue) (o : List ℕ) → self.old ≡ conn_after own o →
-            OnOk result ((fault_in own (o ++ piece.now) ≡ None) × Hears own o piece.now self.new out.old out.new) }
-        ensures refused { (own : PeerIdValue) (o : List ℕ) → self.old ≡ conn_after own o →
-            IfErr result (λ e.
-            Refuses e (fault_in own (o ++ piece.now)) (Hears own o piece.now self.new out.old out.new)) }
+        ensures ok { HearsOn result self.old self.new piece.now out.old out.new }
+        ensures refused { RefusesToHear result self.old self.new piece.now out.old out.new }
         ensures spent { is_spent self.new ≡ is_err result }
         ensures heard { is_ignored self.new ≡ false }
     {
