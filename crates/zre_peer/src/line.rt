@@ -9,7 +9,7 @@ use crate::causes::{Cause, CloseWhy, IgnoreWhy, RefuseWhy};
 use crate::event::Event;
 use std::alloc::Global;
 use zre_values::{
-    Frames, Octets, OutOfMemory, Pairs, PeerId, push_decimal, push_quoted, push_quoted_list,
+    Octets, OutOfMemory, Pairs, PeerId, push_decimal, push_quoted, push_quoted_list,
     push_quoted_pairs,
 };
 
@@ -69,19 +69,6 @@ fn push_enter_end(out: &mut Octets, endpoint: &Octets, headers: &Pairs) -> Resul
     out.push(b'\n')
 }
 
-fn push_enter(
-    out: &mut Octets,
-    id: PeerId,
-    name: &Octets,
-    endpoint: &Octets,
-    headers: &Pairs,
-) -> Result<(), OutOfMemory>
-    ensures { OnOk result (out.new ≡ out.old ++ line (kinds.Enter id name.now endpoint.now headers.now)) }
-{
-    push_head(out, b"ENTER ", id, name)?;
-    push_enter_end(out, endpoint, headers)
-}
-
 // JOIN or LEAVE.
 fn push_change(
     out: &mut Octets,
@@ -94,31 +81,6 @@ fn push_change(
 {
     push_head(out, word, id, name)?;
     push_group_end(out, group.as_slice())
-}
-
-fn push_whisper(
-    out: &mut Octets,
-    id: PeerId,
-    name: &Octets,
-    content: &Frames,
-) -> Result<(), OutOfMemory>
-    ensures { OnOk result (out.new ≡ out.old ++ line (kinds.Whisper id name.now content.now)) }
-{
-    push_head(out, b"WHISPER ", id, name)?;
-    push_content_end(out, content.as_slice())
-}
-
-fn push_shout(
-    out: &mut Octets,
-    id: PeerId,
-    name: &Octets,
-    group: &Octets,
-    content: &Frames,
-) -> Result<(), OutOfMemory>
-    ensures { OnOk result (out.new ≡ out.old ++ line (kinds.Shout id name.now group.now content.now)) }
-{
-    push_head(out, b"SHOUT ", id, name)?;
-    push_shout_end(out, group.as_slice(), content.as_slice())
 }
 
 fn push_evasive(out: &mut Octets, id: PeerId, name: &Octets) -> Result<(), OutOfMemory>
@@ -182,16 +144,25 @@ pub fn push_line(out: &mut Octets, event: &Event) -> Result<(), OutOfMemory>
             name,
             endpoint,
             headers,
-        } => push_enter(out, *id, name, endpoint, headers),
+        } => {
+            push_head(out, b"ENTER ", *id, name)?;
+            push_enter_end(out, endpoint, headers)
+        }
         Event::Join { id, name, group } => push_change(out, b"JOIN ", *id, name, group),
         Event::Leave { id, name, group } => push_change(out, b"LEAVE ", *id, name, group),
-        Event::Whisper { id, name, content } => push_whisper(out, *id, name, content),
+        Event::Whisper { id, name, content } => {
+            push_head(out, b"WHISPER ", *id, name)?;
+            push_content_end(out, content.as_slice())
+        }
         Event::Shout {
             id,
             name,
             group,
             content,
-        } => push_shout(out, *id, name, group, content),
+        } => {
+            push_head(out, b"SHOUT ", *id, name)?;
+            push_shout_end(out, group.as_slice(), content.as_slice())
+        }
         Event::Evasive { id, name } => push_evasive(out, *id, name),
         Event::Exit { id, name, cause } => push_exit(out, *id, name, *cause),
         Event::Stop => out.append(b"STOP\n"),

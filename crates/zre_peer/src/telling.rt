@@ -1,6 +1,6 @@
 //! What a message after HELLO does to the view, with the lines of its events in place of the events.
 
-ghost use Rattle.std.specs.Prelude.{◌≡◌, ◌++◌, true, IfErr, OnOk, OnErr};
+ghost use Rattle.std.specs.Prelude.{◌≡◌, ◌++◌, true, OnOk, OnErr};
 ghost use Rattle.zre_msg.specs.declared.message.Body.TheVariants as bodies;
 ghost use Rattle.zre_msg.specs.Lent.{message_of};
 ghost use Rattle.zre_peer.specs.Changes.{Changes, TellsLines, PassesLimit};
@@ -48,45 +48,6 @@ fn push_shout(
     push_shout_end(out, group, content)
 }
 
-fn tell_join(
-    alloc: Global,
-    view: &mut View,
-    group: &[u8],
-    status: u8,
-    heads: &Heads,
-    out: &mut Octets,
-) -> Result<(), RunFault>
-    requires { is_small view.old ≡ true }
-    ensures ok { OnOk result (Changes view.old view.new (bodies.Join group.now status)) }
-    ensures told { TellsLines result heads.now view.old (bodies.Join group.now status) out.old out.new }
-    ensures kept { OnErr result (view.new ≡ view.old) }
-    ensures refused { PassesLimit result view.old (bodies.Join group.now status) out.old out.new }
-{
-    if !can_join(view, group) {
-        return Err(RunFault::Limit);
-    }
-    push_group(out, &heads.join, group)?;
-    join(alloc, view, group, status)
-}
-
-fn tell_leave(
-    view: &mut View,
-    group: &[u8],
-    status: u8,
-    heads: &Heads,
-    out: &mut Octets,
-) -> Result<(), RunFault>
-    requires { is_small view.old ≡ true }
-    ensures ok { OnOk result (Changes view.old view.new (bodies.Leave group.now status)) }
-    ensures told { TellsLines result heads.now view.old (bodies.Leave group.now status) out.old out.new }
-    ensures kept { OnErr result (view.new ≡ view.old) }
-    ensures refused { IfErr result (λ e. e ≡ RunFault.OutOfMemory) }
-{
-    push_group(out, &heads.leave, group)?;
-    leave(view, group, status);
-    Ok(())
-}
-
 /// Takes a message that is no HELLO: changes the view, and appends the lines of its events, which begin with `heads`.
 /// After an error the view is as it was.
 pub(crate) fn tell_change(
@@ -103,8 +64,18 @@ pub(crate) fn tell_change(
     ensures refused { PassesLimit result view.old (message_of lent.now).body out.old out.new }
 {
     match lent.command {
-        Command::Join { group, status } => tell_join(alloc, view, group, status, heads, out),
-        Command::Leave { group, status } => tell_leave(view, group, status, heads, out),
+        Command::Join { group, status } => {
+            if !can_join(view, group) {
+                return Err(RunFault::Limit);
+            }
+            push_group(out, &heads.join, group)?;
+            join(alloc, view, group, status)
+        }
+        Command::Leave { group, status } => {
+            push_group(out, &heads.leave, group)?;
+            leave(view, group, status);
+            Ok(())
+        }
         Command::Whisper => Ok(push_whisper(out, heads, lent.content)?),
         Command::Shout { group } => Ok(push_shout(out, heads, group, lent.content)?),
         Command::Ping | Command::PingOk => Ok(()),
