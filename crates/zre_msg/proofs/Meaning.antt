@@ -33,8 +33,8 @@ not_named : (number n : ℕ) → 0 < n → n < 8 → (number ≡ 0) ⊎ (8 ≤ n
 not_named number n low high (inl e) = ne_eqb number n (λ q. omega (arith, low, e, q))
 not_named number n low high (inr h) = ne_eqb number n (λ q. omega (arith, high, h, q))
 
-other_at : (number : ℕ) (more : List (List ℕ)) (o : List ℕ) → (number ≡ 0) ⊎ (8 ≤ number) → body_at number more o ≡ Some (Other number o more, [])
-other_at number more o h =
+other_again : (number : ℕ) (rest : List ℕ) (more : List (List ℕ)) → (number ≡ 0) ⊎ (8 ≤ number) → (body_at number more rest ≡ Some (Other number rest more, [])) × ((is_single number && ltb 0 (length more)) ≡ false)
+other_again number rest more h =
     rw (
       not_named number 1 (omega arith) (omega arith) h,
       not_named number 2 (omega arith) (omega arith) h,
@@ -43,17 +43,8 @@ other_at number more o h =
       not_named number 5 (omega arith) (omega arith) h,
       not_named number 6 (omega arith) (omega arith) h,
       not_named number 7 (omega arith) (omega arith) h,
-    ) refl
-
-other_is_not_single : (number : ℕ) (more : Bool) → (number ≡ 0) ⊎ (8 ≤ number) → (is_single number && more) ≡ false
-other_is_not_single number more h =
-    rw (
-      not_named number 1 (omega arith) (omega arith) h,
-      not_named number 4 (omega arith) (omega arith) h,
-      not_named number 5 (omega arith) (omega arith) h,
-      not_named number 6 (omega arith) (omega arith) h,
-      not_named number 7 (omega arith) (omega arith) h,
-    ) refl
+    )
+    (refl, refl)
 
 body_again : (b : Body) → FitsBody b → (body_at (number_of b) (further b) (fields b) ≡ Some (b, [])) × ((is_single (number_of b) && ltb 0 (length (further b))) ≡ false)
 body_again (Hello endpoint groups status name headers) fits = (hello_again endpoint groups status name headers fits, refl)
@@ -63,7 +54,7 @@ body_again (Join group status) fits = (join_again group status, refl)
 body_again (Leave group status) fits = (leave_again group status, refl)
 body_again Ping fits = (refl, refl)
 body_again PingOk fits = (refl, refl)
-body_again (Other number rest more) fits = (other_at number more rest fits, other_is_not_single number (ltb 0 (length more)) fits)
+body_again (Other number rest more) fits = other_again number rest more fits
 
 -- what is spelled is read as the message that was spelled
 pub read-spell : (m : Message) → m.sequence < 2 ^ 16 → Fits m → read_frames (spell m) ≡ Ok m

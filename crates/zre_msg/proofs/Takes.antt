@@ -13,7 +13,7 @@ use Rattle.zre_msg.specs.declared.message.Message.{Message}
 use Rattle.zre_msg.specs.declared.message.Body.{Body}
 use Rattle.zre_msg.specs.declared.message.Body.TheVariants.{Hello, Whisper, Shout, Join, Leave, Ping, PingOk, Other}
 use Rattle.zre_msg.specs.Spelling.{string, long_string, strings, pair, dictionary, number_of, fields, further, head, spell, FitsString, FitsLong, FitsPair, FitsBody, Means}
-use Rattle.zre_msg.specs.Reading.{◌>>=◌, octet_at, count_at, octets_at, string_at, long_string_at, pair_at, each_at, strings_at, dictionary_at, hello_at, join_at, leave_at, shout_at, body_at, command_of, read_of, bad_rows, bad_of, first_row, left_over, is_single, is_other, unless, no_command}
+use Rattle.zre_msg.specs.Reading.{◌>>=◌, octet_at, count_at, octets_at, string_at, long_string_at, pair_at, each_at, strings_at, dictionary_at, hello_at, change_at, join_at, leave_at, shout_at, body_at, command_of, read_of, bad_rows, bad_of, first_row, left_over, is_single, is_other, unless, no_command}
 
 abbrev pub IsBytes : List ℕ → Type 0
 IsBytes bytes = (i : ℕ) → get_or bytes i 0 < 256
@@ -177,7 +177,7 @@ hello_takes o more x fits e =
 
 -- a group and a status, of which a command is made
 change_takes : (make : List ℕ → ℕ → Body) (o : List ℕ) (x : Body × List ℕ) (P : Body × List ℕ → Type 0) → IsBytes o
-    → (string_at o >>= λ group. octet_at group.1 >>= λ status. Some (make group.0 status.0, status.1)) ≡ Some x
+    → change_at make o ≡ Some x
     → ((group : List ℕ) (status : ℕ) (rest : List ℕ) → Takes o (string group ++ (status ∷ [])) rest → FitsString group → P (make group status, rest)) → P x
 change_takes make o x P fits e made =
     let a = bind_some (string_at o) (λ group. octet_at group.1 >>= λ status. Some (make group.0 status.0, status.1)) x e in

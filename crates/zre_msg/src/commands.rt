@@ -3,7 +3,7 @@
 ghost use Rattle.std.specs.Prelude.{◌≡◌, ◌≢◌, ℕ, List, Result, IfOk};
 ghost use Rattle.zre_msg.specs.declared.message.Bad.{Bad};
 ghost use Rattle.zre_msg.specs.declared.message.Body.TheVariants as bodies;
-ghost use Rattle.zre_msg.specs.Reading.{is_single as single_test, hello_at, named_at, join_at, leave_at, shout_at};
+ghost use Rattle.zre_msg.specs.Reading.{is_single as single_test, hello_at, named_at, change_at, shout_at};
 ghost use Rattle.zre_msg.specs.Reading.{body_at};
 ghost use Rattle.zre_msg.specs.Reading.{Answers};
 ghost use Rattle.zre_msg.specs.Commands.{body_of, Says};
@@ -89,22 +89,13 @@ pub fn read_hello(alloc: Global, octets: &[u8]) -> Result<(Body, &[u8]), Stop>
     }
 }
 
-#[tactic(auto, unfolding(crate::specs::Reading::join_at))]
-fn read_join(octets: &[u8]) -> Result<(Command<'_>, &[u8]), Stop>
-    ensures { (more : List (List ℕ)) → Gives (λ x. (body_of x.0 more, x.1.now)) result (join_at octets.now) }
+// The fields of JOIN and of LEAVE.
+fn read_change(octets: &[u8]) -> Result<(&[u8], u8, &[u8]), Stop>
+    ensures { (make : List ℕ → ℕ → Body) → Gives (λ x. (make x.0.now x.1, x.2.now)) result (change_at make octets.now) }
 {
     let (group, rest) = lent_string_at(octets)?;
     let (status, rest) = octet_at(rest)?;
-    Ok((Command::Join { group, status }, rest))
-}
-
-#[tactic(auto, unfolding(crate::specs::Reading::leave_at))]
-fn read_leave(octets: &[u8]) -> Result<(Command<'_>, &[u8]), Stop>
-    ensures { (more : List (List ℕ)) → Gives (λ x. (body_of x.0 more, x.1.now)) result (leave_at octets.now) }
-{
-    let (group, rest) = lent_string_at(octets)?;
-    let (status, rest) = octet_at(rest)?;
-    Ok((Command::Leave { group, status }, rest))
+    Ok((group, status, rest))
 }
 
 #[tactic(auto, unfolding(crate::specs::Reading::shout_at))]
@@ -116,6 +107,7 @@ fn read_shout(octets: &[u8]) -> Result<(Command<'_>, &[u8]), Stop>
 }
 
 /// The command with this number, which isn't that of HELLO, and the octets that are left over after its fields.
+#[tactic(auto, unfolding(crate::specs::Reading::join_at, crate::specs::Reading::leave_at))]
 pub fn read_command(number: u8, octets: &[u8]) -> Result<(Command<'_>, &[u8]), Stop>
     requires { number ≢ 1 }
     ensures { (more : List (List ℕ))
@@ -124,8 +116,14 @@ pub fn read_command(number: u8, octets: &[u8]) -> Result<(Command<'_>, &[u8]), S
     match number {
         2 => Ok((Command::Whisper, octets)),
         3 => read_shout(octets),
-        4 => read_join(octets),
-        5 => read_leave(octets),
+        4 => {
+            let (group, status, rest) = read_change(octets)?;
+            Ok((Command::Join { group, status }, rest))
+        }
+        5 => {
+            let (group, status, rest) = read_change(octets)?;
+            Ok((Command::Leave { group, status }, rest))
+        }
         6 => Ok((Command::Ping, octets)),
         7 => Ok((Command::PingOk, octets)),
         _ => {
