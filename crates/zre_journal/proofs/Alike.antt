@@ -45,33 +45,33 @@ after_alike (h ∷ hs) K L r = after_alike hs (h ∷ K) (h ∷ L) (ap (λ X. con
 -- ---- what marks say, but for those of entries
 
 module _ {A : Type 0} (f : Mark → Option A) (none : (e : Entry) → f (Comes e) ≡ None) where
-  latest_but : (H : List Mark) → latest f (but_entries H) ≡ latest f H
+  pub latest_but : (H : List Mark) → latest f (but_entries H) ≡ latest f H
   latest_but [] = refl
   latest_but (Comes e ∷ H) = latest_but H ∙ ap (λ o. option_or o (latest f H)) (sym (none e))
   latest_but (h ∷ H) = ap (λ o. option_or (f h) o) (latest_but H)
 
-  each_but : (H : List Mark) → each f (but_entries H) ≡ each f H
+  pub each_but : (H : List Mark) → each f (but_entries H) ≡ each f H
   each_but [] = refl
   each_but (Comes e ∷ H) = each_but H ∙ ap (λ o. followed (each f H) o) (sym (none e))
   each_but (h ∷ H) = ap (λ xs. followed xs (f h)) (each_but H)
 
-ever_but : (t : Mark → Bool) → ((e : Entry) → t (Comes e) ≡ false) → (H : List Mark) → ever t (but_entries H) ≡ ever t H
+pub ever_but : (t : Mark → Bool) → ((e : Entry) → t (Comes e) ≡ false) → (H : List Mark) → ever t (but_entries H) ≡ ever t H
 ever_but t none [] = refl
 ever_but t none (Comes e ∷ H) = ever_but t none H ∙ ap (λ b. cond b true (ever t H)) (sym (none e))
 ever_but t none (h ∷ H) = ap (λ b. cond (t h) true b) (ever_but t none H)
 
-lives_but : (H : List Mark) → lives (but_entries H) ≡ lives H
+pub lives_but : (H : List Mark) → lives (but_entries H) ≡ lives H
 lives_but [] = refl
 lives_but (Born l p to ∷ H) = ap (λ (vs : List Life). vs ++ record { link = l; id = p; endpoint = to } ∷ []) (lives_but H)
 lives_but (Ends l why ∷ H) = ap (other_lives l) (lives_but H)
 lives_but (_ ∷ H) = lives_but H
 
-births_but : (H : List Mark) → births (but_entries H) ≡ births H
+pub births_but : (H : List Mark) → births (but_entries H) ≡ births H
 births_but [] = refl
 births_but (Born l p to ∷ H) = ap (λ n. n + 1) (births_but H)
 births_but (_ ∷ H) = births_but H
 
-open_but : (H : List Mark) → open_ones (but_entries H) ≡ open_ones H
+pub open_but : (H : List Mark) → open_ones (but_entries H) ≡ open_ones H
 open_but [] = refl
 open_but (Opens c ∷ H) = ap (λ cs. cs ++ c ∷ []) (open_but H)
 open_but (Closes c why ∷ H) = ap (others c) (open_but H)
@@ -79,24 +79,24 @@ open_but (IsShut c ∷ H) = ap (others c) (open_but H)
 open_but (ClosesAtStop c ∷ H) = ap (others c) (open_but H)
 open_but (_ ∷ H) = open_but H
 
-groups_but : (H : List Mark) → groups (but_entries H) ≡ groups H
+pub groups_but : (H : List Mark) → groups (but_entries H) ≡ groups H
 groups_but [] = refl
 groups_but (Joins group ∷ H) = ap (λ gs. gs ++ group ∷ []) (groups_but H)
 groups_but (Leaves group ∷ H) = ap (without group) (groups_but H)
 groups_but (_ ∷ H) = groups_but H
 
-status_but : (H : List Mark) → status (but_entries H) ≡ status H
+pub status_but : (H : List Mark) → status (but_entries H) ≡ status H
 status_but [] = refl
 status_but (Joins group ∷ H) = ap (λ n. (n + 1) % 256) (status_but H)
 status_but (Leaves group ∷ H) = ap (λ n. (n + 1) % 256) (status_but H)
 status_but (_ ∷ H) = status_but H
 
-taken_but : (l : ℕ) (H : List Mark) → taken l (but_entries H) ≡ taken l H
+pub taken_but : (l : ℕ) (H : List Mark) → taken l (but_entries H) ≡ taken l H
 taken_but l [] = refl
 taken_but l (Sends k n ∷ H) = ap (λ m. cond (eqb l k) (m + n) m) (taken_but l H)
 taken_but l (_ ∷ H) = taken_but l H
 
-through : {A : Type 0} (O : List Mark → A) → ((H : List Mark) → O (but_entries H) ≡ O H) → (K L : List Mark) → AreAlike K L → O K ≡ O L
+pub through : {A : Type 0} (O : List Mark → A) → ((H : List Mark) → O (but_entries H) ≡ O H) → (K L : List Mark) → AreAlike K L → O K ≡ O L
 through O l K L r = sym (l K) ∙ ap O r ∙ l L
 
 unless_same : (s t : ℕ → Bool) (o : Option ℕ) → ((l : ℕ) → s l ≡ t l) → option_and_then (λ l. cond (s l) None (Some l)) o ≡ option_and_then (λ l. cond (t l) None (Some l)) o
@@ -126,15 +126,17 @@ module _ (K L : List Mark) (r : AreAlike K L) where
   same_started : (c : ℕ) → started c K ≡ started c L
   same_started c = through (started c) (latest_but (start_at c) (λ e. refl)) K L r
 
-  same_runs : (c : ℕ) → runs c K ≡ runs c L
+  pub same_runs : (c : ℕ) → runs c K ≡ runs c L
   same_runs c = ap (option_and_then (λ l. cond (has_ended l K) None (Some l))) (same_started c) ∙ unless_same (λ l. has_ended l K) (λ l. has_ended l L) (started c L) same_ended
 
   same_used : (c : ℕ) → was_used c K ≡ was_used c L
   same_used c = ap (λ b. b || is_some (started c K)) (through (ever (refuses c)) (ever_but (refuses c) (λ e. refl)) K L r) ∙ ap (λ o. ever (refuses c) L || is_some o) (same_started c)
 
+  pub same_ignored : (c : ℕ) → is_ignored c K ≡ is_ignored c L
+  same_ignored c = ap (λ o. is_none o && was_used c K) (same_runs c) ∙ ap (λ b. is_none (runs c L) && b) (same_used c)
+
   same_live : (c : ℕ) → is_live c K ≡ is_live c L
-  same_live c = ap (λ cs. list_any (eqb c) cs && not (is_ignored c K)) same_open
-      ∙ ap (λ o. is_open c L && not (is_none o && was_used c K)) (same_runs c) ∙ ap (λ b. is_open c L && not (is_none (runs c L) && b)) (same_used c)
+  same_live c = ap (λ cs. list_any (eqb c) cs && not (is_ignored c K)) same_open ∙ ap (λ b. is_open c L && not b) (same_ignored c)
 
   same_counted : (l : ℕ) → counted l K ≡ counted l L
   same_counted l = through (counted l) (each_but (message_at l) (λ e. refl)) K L r

@@ -28,13 +28,14 @@ use Rattle.zre_journal.proofs.Kept.{Comes-proper}
 use Rattle.zre_journal.proofs.Listed.{any_has}
 use Rattle.zre_journal.proofs.Sound.{Sound, AreSound, AreOthers}
 use Rattle.zre_journal.proofs.Says.{input_sound}
+use Rattle.zre_journal.proofs.Steps.{all_same}
 
 -- ---- marks that are no entries
 
-abbrev AreInner : List Mark → Type 0
+abbrev pub AreInner : List Mark → Type 0
 AreInner hs = AllByRecursion (λ h. is_entry h ≡ false) hs
 
-inner_of : (g : Config) (hs K : List Mark) → AreSound g hs K → AreInner hs
+pub inner_of : (g : Config) (hs K : List Mark) → AreSound g hs K → AreInner hs
 inner_of g [] K s = tt
 inner_of g (h ∷ hs) K s = (one h s.0, inner_of g hs (h ∷ K) s.1)
   where
@@ -42,21 +43,19 @@ inner_of g (h ∷ hs) K s = (one h s.0, inner_of g hs (h ∷ K) s.1)
     one (Comes e) z = absurd z
     one _ z = refl
 
-inner_clock : (hs K : List Mark) → AreInner hs → clock (after hs K) ≡ clock K
-inner_clock [] K n = refl
-inner_clock (h ∷ hs) K n = inner_clock hs (h ∷ K) n.1 ∙ one h n.0
+pub inner_clock : (hs K : List Mark) → AreInner hs → clock (after hs K) ≡ clock K
+inner_clock hs K n = all_same (λ h. is_entry h ≡ false) clock one hs K n
   where
-    one : (h : Mark) → is_entry h ≡ false → clock (h ∷ K) ≡ clock K
-    one (Comes e) z = absurd (true≢false z)
-    one _ z = refl
+    one : (h : Mark) (H : List Mark) → is_entry h ≡ false → clock (h ∷ H) ≡ clock H
+    one (Comes e) H z = absurd (true≢false z)
+    one _ H z = refl
 
-inner_bytes : (d : ℕ) (hs K : List Mark) → AreInner hs → bytes d (after hs K) ≡ bytes d K
-inner_bytes d [] K n = refl
-inner_bytes d (h ∷ hs) K n = inner_bytes d hs (h ∷ K) n.1 ∙ one h n.0
+pub inner_bytes : (d : ℕ) (hs K : List Mark) → AreInner hs → bytes d (after hs K) ≡ bytes d K
+inner_bytes d hs K n = all_same (λ h. is_entry h ≡ false) (bytes d) one hs K n
   where
-    one : (h : Mark) → is_entry h ≡ false → bytes d (h ∷ K) ≡ bytes d K
-    one (Comes e) z = absurd (true≢false z)
-    one _ z = refl
+    one : (h : Mark) (H : List Mark) → is_entry h ≡ false → bytes d (h ∷ H) ≡ bytes d H
+    one (Comes e) H z = absurd (true≢false z)
+    one _ H z = refl
 
 still_opened : (c : ℕ) (hs K : List Mark) → was_opened c K ≡ true → was_opened c (after hs K) ≡ true
 still_opened c [] K o = o

@@ -1,5 +1,5 @@
 -- The identity that came on a connection is that of the READY that its octets say.
-use Rattle.std.proofs.Common.{◌≡◌, ◌⊎◌, ℕ, ◌+◌, Bool, true, false, cond, not, ◌&&◌, eqb, ltb, List, [], ◌∷◌, ◌++◌, length, map, Option, Some, None, refl, sym, ap, ◌∙◌, subst, eqb-true, eq-eqb, inl, inr, append_assoc, append-nil}
+use Rattle.std.proofs.Common.{◌≡◌, ℕ, ◌+◌, Bool, true, false, cond, not, ◌&&◌, eqb, ltb, List, [], ◌∷◌, ◌++◌, length, map, Option, Some, None, refl, sym, ap, ◌∙◌, subst, eqb-true, eq-eqb, inl, inr, append_assoc}
 use Rattle.std.specs.Option.{option_or}
 use Rattle.std.specs.List.{AllByRecursion}
 use Rattle.zre_values.specs.declared.limits.TheConstants.{PEERS, CONNECTIONS, UNSENT_OCTETS}
@@ -13,7 +13,7 @@ use Rattle.zre_outside.specs.declared.entry.Input.TheVariants as input
 use Rattle.zre_mailbox.specs.declared.arrival.Arrival.{Arrival}
 use Rattle.zre_mailbox.specs.declared.arrival.Arrival.TheVariants as arrival
 use Rattle.zre_mailbox.specs.Conn.{identity_in}
-use Rattle.zre_mailbox.specs.Talk.{Said, Arrived, Fault, arrivals, fault_in, fault_said, talk, is_traffic, AreTraffic, Introduced, IsInOrder}
+use Rattle.zre_mailbox.specs.Talk.{Said, Arrived, Fault, arrivals, fault_in, fault_said, talk, is_traffic, AreTraffic, IsInOrder}
 use Rattle.zre_mailbox.proofs.Growing.{goes}
 use Rattle.zre_mailbox.proofs.Hearing.{identity_kept}
 use Rattle.zre_mailbox.proofs.InOrder.{in_order}
@@ -26,27 +26,26 @@ use Rattle.zre_peer.specs.declared.causes.Cause.TheVariants as cause
 use Rattle.zre_peer.specs.Runs.{is_hello, due}
 use Rattle.zre_peer.specs.Views.{view_of, is_small}
 use Rattle.zre_journal.specs.declared.config.Config.{Config}
-use Rattle.zre_journal.specs.Arrivals.{at_opened, end_of_run, taken_over, start_unknown, start, at_first, answer_to, at_later, at_message, at_shaken, at_said, at_place, at_places}
-use Rattle.zre_journal.specs.Chronicle.{Mark, Comes, Shakes, Counts, Starts, after}
+use Rattle.zre_journal.specs.Arrivals.{at_opened, end_of_run, taken_over, start_unknown, start, at_first, answer_to, at_message, at_shaken, at_said, at_place, at_places}
+use Rattle.zre_journal.specs.Chronicle.{Mark, Comes, Shakes, after}
 use Rattle.zre_journal.specs.Connections.{open_ones, is_new, identity, runs, is_live, other_with}
 use Rattle.zre_journal.specs.Events.{chronicle}
 use Rattle.zre_journal.specs.Happens.{at_input}
-use Rattle.zre_journal.specs.Heard.{bytes, was_opened, piece_of, newly_completed}
+use Rattle.zre_journal.specs.Heard.{bytes, was_opened, piece_of}
 use Rattle.zre_journal.specs.Links.{line, unsent}
-use Rattle.zre_journal.specs.Peers.{Life, lives, life_of, births, counted}
+use Rattle.zre_journal.specs.Peers.{Life, lives, life_of, counted}
 use Rattle.zre_journal.specs.Places.{is_piece, IsEntry, Arrives}
 use Rattle.zre_journal.specs.Proper.{IsProper}
-use Rattle.zre_journal.specs.Pushes.{push, birth}
 use Rattle.zre_journal.proofs.Always.{is_proper}
-use Rattle.zre_journal.proofs.Brings.{all_brought, ground}
+use Rattle.zre_journal.proofs.Brings.{all_brought}
 use Rattle.zre_journal.proofs.Brought.{Ground, Brought, quiet}
 use Rattle.zre_journal.proofs.Joined.{after-append}
 use Rattle.zre_journal.proofs.Places.{IsMoment, its_moment}
 use Rattle.zre_journal.proofs.Quiet.{Quiet, AreQuiet, is_of}
-use Rattle.zre_journal.proofs.Says.{place_outcome, places_outcome, outcome, input_quiet}
+use Rattle.zre_journal.proofs.Says.{place_outcome, places_outcome, input_quiet}
 use Rattle.zre_journal.proofs.Sayings.{MaySay, newly_fine}
 use Rattle.zre_journal.proofs.Silent.{Comes-proper}
-use Rattle.zre_journal.proofs.Steps.{Each, choice}
+use Rattle.zre_journal.proofs.Steps.{Each, all_same, each_same, choice}
 use Rattle.zre_journal.proofs.Walk.{walk}
 
 -- ---- who is introduced by what is said
@@ -109,32 +108,36 @@ record IsSame (c : ℕ) (L K : List Mark) : Type 0 where
   identity_is : identity c L ≡ identity c K
   bytes_are : bytes c L ≡ bytes c K
 
+-- what each of these marks leaves as it is, all of them do
+all_of : (c : ℕ) (P : Mark → Type 0) → ((h : Mark) (H : List Mark) → P h → IsSame c (h ∷ H) H) → (hs K : List Mark) → AllByRecursion P hs → IsSame c (after hs K) K
+all_of c P one hs K u = record {
+  identity_is = all_same P (identity c) (λ h H z. (one h H z).identity_is) hs K u;
+  bytes_are = all_same P (bytes c) (λ h H z. (one h H z).bytes_are) hs K u;
+}
+
 unshaken_same : (c : ℕ) (hs K : List Mark) → AreUnshaken hs → IsSame c (after hs K) K
-unshaken_same c [] K u = record { identity_is = refl; bytes_are = refl }
-unshaken_same c (h ∷ hs) K u = let r = unshaken_same c hs (h ∷ K) u.1 in let s = one h u.0 in record { identity_is = r.identity_is ∙ s.identity_is; bytes_are = r.bytes_are ∙ s.bytes_are }
+unshaken_same c hs K u = all_of c Unshaken one hs K u
   where
-    one : (h : Mark) → Unshaken h → IsSame c (h ∷ K) K
-    one (Comes e) z = absurd z
-    one (Shakes d p) z = absurd z
-    one _ z = record { identity_is = refl; bytes_are = refl }
+    one : (h : Mark) (H : List Mark) → Unshaken h → IsSame c (h ∷ H) H
+    one (Comes e) H z = absurd z
+    one (Shakes d p) H z = absurd z
+    one _ H z = record { identity_is = refl; bytes_are = refl }
 
 quiet_same : (c : ℕ) (hs K : List Mark) → AreQuiet c hs → IsSame c (after hs K) K
-quiet_same c [] K u = record { identity_is = refl; bytes_are = refl }
-quiet_same c (h ∷ hs) K u = let r = quiet_same c hs (h ∷ K) u.1 in let s = one h u.0 in record { identity_is = r.identity_is ∙ s.identity_is; bytes_are = r.bytes_are ∙ s.bytes_are }
+quiet_same c hs K u = all_of c (Quiet c) one hs K u
   where
-    one : (h : Mark) → Quiet c h → IsSame c (h ∷ K) K
-    one (Comes e) z = absurd z
-    one (Shakes d p) z = record { identity_is = ap (λ t. option_or (cond t (Some p) None) (identity c K)) z; bytes_are = refl }
-    one _ z = record { identity_is = refl; bytes_are = refl }
+    one : (h : Mark) (H : List Mark) → Quiet c h → IsSame c (h ∷ H) H
+    one (Comes e) H z = absurd z
+    one (Shakes d p) H z = record { identity_is = ap (λ t. option_or (cond t (Some p) None) (identity c H)) z; bytes_are = refl }
+    one _ H z = record { identity_is = refl; bytes_are = refl }
 
 -- marks that come about bring no octets
 brought_bytes : (g : Config) (w : Ground) (t : Bool) (c : ℕ) (hs K : List Mark) → Each (Brought g w t) hs K → bytes c (after hs K) ≡ bytes c K
-brought_bytes g w t c [] K b = refl
-brought_bytes g w t c (h ∷ hs) K b = brought_bytes g w t c hs (h ∷ K) b.1 ∙ one h b.0
+brought_bytes g w t c hs K b = each_same (Brought g w t) (bytes c) one hs K b
   where
-    one : (h : Mark) → Brought g w t h K → bytes c (h ∷ K) ≡ bytes c K
-    one (Comes e) z = absurd z.1
-    one _ z = refl
+    one : (h : Mark) (H : List Mark) → Brought g w t h H → bytes c (h ∷ H) ≡ bytes c H
+    one (Comes e) H z = absurd z.1
+    one _ H z = refl
 
 module _ (g : Config) (K : List Mark) where
   unshaken_end : (o : Option ℕ) (why : Cause) → AreUnshaken (end_of_run g o why)

@@ -30,24 +30,23 @@ use Rattle.zre_journal.proofs.Quiet.{Quiet, AreQuiet}
 use Rattle.zre_journal.proofs.Sound.{Sound, AreSound}
 use Rattle.zre_journal.proofs.Silent.{Comes-proper, has_started, run_is}
 use Rattle.zre_journal.proofs.Says.{input_quiet, input_sound}
+use Rattle.zre_journal.proofs.Steps.{all_same, each_same}
 use Rattle.zre_journal.proofs.Sayings.{newly_fine}
 
 -- octets come with entries alone
 quiet_bytes : (d : ℕ) (hs K : List Mark) → AreQuiet d hs → bytes d (after hs K) ≡ bytes d K
-quiet_bytes d [] K q = refl
-quiet_bytes d (h ∷ hs) K q = quiet_bytes d hs (h ∷ K) q.1 ∙ one h q.0
+quiet_bytes d hs K q = all_same (Quiet d) (bytes d) one hs K q
   where
-    one : (h : Mark) → Quiet d h → bytes d (h ∷ K) ≡ bytes d K
-    one (Comes e) z = absurd z
-    one _ z = refl
+    one : (h : Mark) (H : List Mark) → Quiet d h → bytes d (h ∷ H) ≡ bytes d H
+    one (Comes e) H z = absurd z
+    one _ H z = refl
 
 sound_bytes : (g : Config) (d : ℕ) (hs K : List Mark) → AreSound g hs K → bytes d (after hs K) ≡ bytes d K
-sound_bytes g d [] K s = refl
-sound_bytes g d (h ∷ hs) K s = sound_bytes g d hs (h ∷ K) s.1 ∙ one h s.0
+sound_bytes g d hs K s = each_same (Sound g) (bytes d) one hs K s
   where
-    one : (h : Mark) → Sound g h K → bytes d (h ∷ K) ≡ bytes d K
-    one (Comes e) z = absurd z
-    one _ z = refl
+    one : (h : Mark) (H : List Mark) → Sound g h H → bytes d (h ∷ H) ≡ bytes d H
+    one (Comes e) H z = absurd z
+    one _ H z = refl
 
 no_more : (d : ℕ) (b : Bool) (o : List ℕ) → o ++ cond b [] [] ≡ o
 no_more d true o = append-nil o

@@ -1,5 +1,6 @@
 -- When each mark may come, that a chronicle stays proper after marks that may, and what each of many marks has.
-use Rattle.std.proofs.Common.{◌≡◌, ℕ, ◌+◌, ◌<◌, ◌≤◌, Bool, true, false, cond, eqb, List, [], ◌∷◌, ◌++◌, length, Some, None, IsSome, is_some, refl, sym, arith, subst}
+use Rattle.std.proofs.Common.{◌≡◌, ℕ, ◌+◌, ◌<◌, ◌≤◌, Bool, true, false, cond, eqb, List, [], ◌∷◌, ◌++◌, length, Some, None, IsSome, is_some, refl, sym, ◌∙◌, arith, subst}
+use Rattle.std.specs.List.{AllByRecursion}
 use Rattle.zre_values.specs.declared.peer_id.PeerId.{PeerId}
 use Rattle.zre_values.specs.declared.limits.TheConstants.{PEERS, CONNECTIONS}
 use Rattle.zre_values.specs.declared.endpoint.Endpoint.{Endpoint}
@@ -73,6 +74,15 @@ May _ H = Unit {0}
 abbrev pub Each : (Mark → List Mark → Type 0) → List Mark → List Mark → Type 0
 Each P [] H = Unit {0}
 Each P (h ∷ hs) H = P h H × Each P hs (h ∷ H)
+
+-- what each mark leaves as it is, all of them do
+pub each_same : {A : Type 0} (P : Mark → List Mark → Type 0) (O : List Mark → A) → ((h : Mark) (H : List Mark) → P h H → O (h ∷ H) ≡ O H) → (hs H : List Mark) → Each P hs H → O (after hs H) ≡ O H
+each_same P O one [] H q = refl
+each_same P O one (h ∷ hs) H q = each_same P O one hs (h ∷ H) q.1 ∙ one h H q.0
+
+pub all_same : {A : Type 0} (P : Mark → Type 0) (O : List Mark → A) → ((h : Mark) (H : List Mark) → P h → O (h ∷ H) ≡ O H) → (hs H : List Mark) → AllByRecursion P hs → O (after hs H) ≡ O H
+all_same P O one [] H q = refl
+all_same P O one (h ∷ hs) H q = all_same P O one hs (h ∷ H) q.1 ∙ one h H q.0
 
 pub both : (P : Mark → List Mark → Type 0) (hs ks H : List Mark) → Each P hs H → Each P ks (after hs H) → Each P (hs ++ ks) H
 both P [] ks H a b = b

@@ -32,6 +32,14 @@ abbrev pub expired : Config → List Mark → List Mark
 expired g K = after (end_all cause.Expired (expiring g K)) K
 
 module _ (g : Config) (K : List Mark) where
+  -- who expires doesn't waver
+  pub excludes : (v : Life) → is_silent g g.expired K v ≡ true → is_evasive g K v ≡ false
+  excludes v e = rw e (by (is_entered K v))
+    where
+      by : (b : Bool) → (b && not true && is_silent g g.evasive K v) ≡ false
+      by true = refl
+      by false = refl
+
   module _ (q : IsProper K) where
     pub expiring_apart : Apart (λ (v : Life). v.link) (expiring g K)
     expiring_apart = Apart-kept (λ (v : Life). v.link) (is_silent g g.expired K) (lives K) q.living.apart
@@ -46,13 +54,6 @@ module _ (g : Config) (K : List Mark) where
     pub wavering_known : AreKnown (expired g K) (wavering g K)
     wavering_known = ends_known cause.Expired (expiring g K) (wavering g K) K (kept_far (is_silent g g.expired K) (is_evasive g K) excludes (lives K) q.living.apart)
         (All-kept (λ (v : Life). IsSome (life v.link K)) (is_evasive g K) (lives K) (each_known K))
-      where
-        excludes : (v : Life) → is_silent g g.expired K v ≡ true → is_evasive g K v ≡ false
-        excludes v e = rw e (by (is_entered K v))
-          where
-            by : (b : Bool) → (b && not true && is_silent g g.evasive K v) ≡ false
-            by true = refl
-            by false = refl
 
   pub expiring_known : AreKnown K (expiring g K)
   expiring_known = All-kept (λ (v : Life). IsSome (life v.link K)) (is_silent g g.expired K) (lives K) (each_known K)

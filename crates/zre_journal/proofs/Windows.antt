@@ -45,20 +45,19 @@ use Rattle.zre_journal.proofs.Places.{IsMoment, its_moment, is_placed}
 use Rattle.zre_journal.proofs.Quiet.{Quiet, AreQuiet, is_of}
 use Rattle.zre_journal.proofs.Says.{unused, place_outcome, input_quiet}
 use Rattle.zre_journal.proofs.Silent.{Comes-proper, run_is}
-use Rattle.zre_journal.proofs.Steps.{choice}
+use Rattle.zre_journal.proofs.Steps.{all_same, choice}
 use Rattle.zre_journal.proofs.Walk.{walk}
 
 -- ---- marks that count nothing on a connection
 
 quiet_same : (d : ℕ) (hs K : List Mark) → AreQuiet d hs → counted_on d (after hs K) ≡ counted_on d K
-quiet_same d [] K q = refl
-quiet_same d (h ∷ hs) K q = quiet_same d hs (h ∷ K) q.1 ∙ one h q.0
+quiet_same d hs K q = all_same (Quiet d) (counted_on d) one hs K q
   where
-    one : (h : Mark) → Quiet d h → counted_on d (h ∷ K) ≡ counted_on d K
-    one (Comes e) z = absurd z
-    one (Starts c l m) z = ap (λ b. followed (counted_on d K) (cond b (Some m) None)) z
-    one (Counts c l m) z = ap (λ b. followed (counted_on d K) (cond b (Some m) None)) z
-    one _ z = refl
+    one : (h : Mark) (H : List Mark) → Quiet d h → counted_on d (h ∷ H) ≡ counted_on d H
+    one (Comes e) H z = absurd z
+    one (Starts c l m) H z = ap (λ b. followed (counted_on d H) (cond b (Some m) None)) z
+    one (Counts c l m) H z = ap (λ b. followed (counted_on d H) (cond b (Some m) None)) z
+    one _ H z = refl
 
 -- marks that count nothing at all
 abbrev Mute : Mark → Type 0
@@ -70,13 +69,12 @@ abbrev AreMute : List Mark → Type 0
 AreMute hs = AllByRecursion Mute hs
 
 mute_same : (d : ℕ) (hs K : List Mark) → AreMute hs → counted_on d (after hs K) ≡ counted_on d K
-mute_same d [] K q = refl
-mute_same d (h ∷ hs) K q = mute_same d hs (h ∷ K) q.1 ∙ one h q.0
+mute_same d hs K q = all_same Mute (counted_on d) one hs K q
   where
-    one : (h : Mark) → Mute h → counted_on d (h ∷ K) ≡ counted_on d K
-    one (Starts c l m) z = absurd z
-    one (Counts c l m) z = absurd z
-    one _ z = refl
+    one : (h : Mark) (H : List Mark) → Mute h → counted_on d (h ∷ H) ≡ counted_on d H
+    one (Starts c l m) H z = absurd z
+    one (Counts c l m) H z = absurd z
+    one _ H z = refl
 
 mute_and : (hs ks : List Mark) → AreMute hs → AreMute ks → AreMute (hs ++ ks)
 mute_and [] ks a b = b
