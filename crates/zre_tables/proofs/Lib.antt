@@ -9,5 +9,6 @@ pub mod Indexed
 pub mod Listing
 pub mod Naming
 pub mod Offering
+pub mod Relinking
 pub mod Resting
 pub mod Walking

@@ -2,6 +2,7 @@
 
 ghost use Rattle.std.specs.Prelude.{◌≡◌, ◌-◌, nat_le, option_copied, IfOk, MatchOption};
 ghost use Rattle.std.specs.Prelude.{ℕ, ◌≤◌, ◌^◌, ◌==◌, Bool, true, false, Some};
+ghost use Rattle.std.specs.Fn.{FnReturnsAt};
 ghost use Rattle.std.specs.List.{filter, list_any};
 ghost use Rattle.std.specs.List.Sorted.{IsStrictlyIncreasing, IsStrictlySortedBy};
 ghost use Rattle.std.specs.Map.{keys_of};
@@ -113,67 +114,23 @@ fn first_rest(rows: &BTreeMap<u64, Connection>) -> u64
     first
 }
 
-// Those of these links whose peers have told that they are in the group, in order.
-fn members_among(
+// Those of these links whose peers pass a test, in order.
+fn among<F: Fn(&Peer) -> bool>(
     alloc: Global,
     rows: &BTreeMap<u64, Peer>,
     links: &[u64],
-    group: &[u8],
+    passes: F,
 ) -> Result<Keys, OutOfMemory>
-    ensures { IfOk result (λ found. found ≡ filter (passes_at (row_in group.now) rows.now.entries) links.now) }
+    requires { F.IsAlwaysCallable passes }
+    ensures { (test : PeerValue → Bool) → ((x : PeerValue) (b : Bool) → FnReturnsAt F.Fn passes x b → b ≡ test x) →
+        IfOk result (λ found. found ≡ filter (passes_at test rows.now.entries) links.now) }
 {
     let mut found = Keys::new(alloc);
     for link in links {
         let Some(peer) = rows.get(link) else {
             continue;
         };
-        if is_in(peer, group) {
-            found.push(*link)?;
-        }
-    }
-    Ok(found)
-}
-
-// Those of these links whose peers were silent for so long, in order.
-fn silent_among(
-    alloc: Global,
-    rows: &BTreeMap<u64, Peer>,
-    links: &[u64],
-    limit: u64,
-    now: u64,
-) -> Result<Keys, OutOfMemory>
-    ensures { IfOk result (λ found. found ≡ filter (passes_at (row_silent limit now) rows.now.entries) links.now) }
-{
-    let mut found = Keys::new(alloc);
-    for link in links {
-        let Some(peer) = rows.get(link) else {
-            continue;
-        };
-        if is_silent(peer, limit, now) {
-            found.push(*link)?;
-        }
-    }
-    Ok(found)
-}
-
-// Those of these links whose peers are entered and evasive now, in order.
-fn evasive_among(
-    alloc: Global,
-    rows: &BTreeMap<u64, Peer>,
-    links: &[u64],
-    evasive: u64,
-    expired: u64,
-    now: u64,
-) -> Result<Keys, OutOfMemory>
-    ensures { IfOk result (λ found. found
-        ≡ filter (passes_at (row_evasive evasive expired now) rows.now.entries) links.now) }
-{
-    let mut found = Keys::new(alloc);
-    for link in links {
-        let Some(peer) = rows.get(link) else {
-            continue;
-        };
-        if is_evasive(peer, evasive, expired, now) {
+        if passes(peer) {
             found.push(*link)?;
         }
     }
@@ -336,7 +293,12 @@ impl Peers {
         ensures { IfOk result (λ links. links ≡ numbers_of (row_in group.now) self.now) }
     {
         let links = self.groups.members(group)?;
-        members_among(self.alloc, &self.rows, links.as_slice(), group)
+        among(
+            self.alloc,
+            &self.rows,
+            links.as_slice(),
+            |peer| is_in(peer, group),
+        )
     }
 
     // The links of those whose moments lie so long back, which are brought up to date.
@@ -366,7 +328,12 @@ impl Peers {
         ensures rows { self.new ≡ self.old }
     {
         let links = self.rested(limit, now)?;
-        silent_among(self.alloc, &self.rows, links.as_slice(), limit, now)
+        among(
+            self.alloc,
+            &self.rows,
+            links.as_slice(),
+            |peer| is_silent(peer, limit, now),
+        )
     }
 
     /// The links of those that are entered and evasive now, rising. It looks at the same ones, and where these are or
@@ -379,7 +346,9 @@ impl Peers {
             let links = self.rested(evasive, now)?;
             let due = links.as_slice();
             if !are_many(due, &self.rows) {
-                return evasive_among(self.alloc, &self.rows, due, evasive, expired, now);
+                return among(self.alloc, &self.rows, due, |peer| {
+                    is_evasive(peer, evasive, expired, now)
+                });
             }
         }
         let found = evasive_rows(self.alloc, &self.rows, evasive, expired, now)?;

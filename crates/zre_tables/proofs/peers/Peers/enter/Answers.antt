@@ -1,19 +1,15 @@
-use Rattle.std.proofs.Common.{ℕ, List, Some, is_some, refl, sym, ap, subst}
+use Rattle.std.proofs.Common.{Some, is_some, refl, sym, ap, subst}
 use Rattle.zre_tables.specs.declared.peer.Peer.{Peer}
-use Rattle.zre_tables.specs.Agreement.{Agree, IsRun}
-use Rattle.zre_tables.proofs.Agreeing.{grown_all, renewed_agrees, some_is}
+use Rattle.zre_tables.specs.Agreement.{IsRun}
+use Rattle.zre_tables.proofs.Agreeing.{renewed_agrees, some_is}
 use Rattle.zre_tables.proofs.Carrying.{on_err}
 use Rattle.zre_tables.proofs.Changing.{put_same}
+use Rattle.zre_tables.proofs.Relinking.{grown_same}
 use Rattle.zre_tables.proofs.peers.Peers.enter.Goals as goal
 
--- no memory for its groups: the row stands as before
+-- no memory for its groups
 pub invariant_of-self-in_err-index_groups : goal.invariant_of-self-in_err-index_groups
-invariant_of-self-in_err-index_groups c =
-    let i = c.self.inside in
-    let k = c.in-Some.peer.now in
-    subst (λ (es : List (ℕ × Peer)). Agree es c.index_groups.new.groups i.heard i.rewound)
-    (sym (put_same c.args.link i.rows.entries i.rows.entries refl k c.in-Some.ensures.value k _ (c.get_mut.follows.holds k).0 refl))
-    (grown_all i.rows.entries i.groups c.index_groups.new.groups i.heard i.rewound c.index_groups.ensures.grows c.self.invariant)
+invariant_of-self-in_err-index_groups c = grown_same c.args.link c.self.inside.rows c.in-Some.peer.now c.in-Some.ensures.value c.get_mut.follows.lender c.get_mut.follows.holds _ _ _ _ c.index_groups.ensures.grows c.self.invariant
 
 pub returns-in_err-index_groups-clause-err : goal.returns-in_err-index_groups-clause-err
 returns-in_err-index_groups-clause-err c =

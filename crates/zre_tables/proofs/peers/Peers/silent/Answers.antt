@@ -1,4 +1,4 @@
-use Rattle.std.proofs.Common.{ℕ, ◌==◌, List, ap, sym, ◌∙◌, subst}
+use Rattle.std.proofs.Common.{ℕ, ◌==◌, List, ap, sym, ◌∙◌, subst, rules}
 use Rattle.std.proofs.lemmas.Result.{IfOk-weaker}
 use Rattle.std.specs.List.{list_any}
 use Rattle.std.specs.List.Sorted.{IsStrictlyIncreasing}
@@ -14,7 +14,7 @@ returns-clause-found c =
     let test = row_silent c.args.limit c.args.now in
     let seen = c.self.view_is ∙ c.in_ok-links.ensures.rows in
     let rising = subst IsStrictlyIncreasing (sym c.as_slice.ensures) c.in_ok-links.ensures.rising in
-    IfOk-weaker c.silent_among.result _ _ (λ found e.
+    IfOk-weaker c.among.result _ _ (λ found e.
     e ∙ same_numbers test i.rows.entries c.as_slice.result.now c.self.invariant.rising rising
     (λ n x at t. ap (λ (xs : List ℕ). list_any (λ k. k == n) xs) c.as_slice.ensures ∙ c.in_ok-links.ensures.all n x (ap (row_at n) (sym seen) ∙ at) t)
-    ∙ ap (λ (es : List (ℕ × Peer)). numbers_of test es) seen) c.silent_among.ensures
+    ∙ ap (λ (es : List (ℕ × Peer)). numbers_of test es) seen) (c.among.ensures test (λ x b r. search rules))
