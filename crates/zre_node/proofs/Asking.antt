@@ -1,5 +1,6 @@
 -- What is read off the rows is what the definitions ask, of a node that goes on and of one that rests.
-use Rattle.std.proofs.Common.{◌≡◌, ℕ, Bool, true, false, cond, List, [], ◌∷◌, map, filter, find, Option, Some, None, is_some, option_and_then, refl, ap, ◌∙◌, bytes_eq}
+use Rattle.std.proofs.Common.{◌≡◌, ℕ, Bool, true, false, cond, eqb, List, [], ◌∷◌, map, filter, find, Option, Some, None, is_some, option_and_then, refl, sym, ap, ◌∙◌, bytes_eq, eqb-true}
+use Rattle.std.specs.Prelude.{option_map}
 use Rattle.zre_values.specs.declared.peer_id.PeerId.{PeerId}
 use Rattle.zre_msg.specs.declared.message.Message.{Message}
 use Rattle.zre_peer.specs.Runs.{shown}
@@ -8,15 +9,18 @@ use Rattle.zre_journal.specs.Asked.{view_if_entered}
 use Rattle.zre_journal.specs.declared.config.Config.{Config}
 use Rattle.zre_journal.specs.Chronicle.{Mark}
 use Rattle.zre_journal.specs.Happens.{has_stopped}
-use Rattle.zre_journal.specs.Peers.{Life, lives, runner, counted, is_entered}
+use Rattle.zre_journal.specs.Peers.{Life, life, lives, runner, counted, is_entered}
 use Rattle.zre_journal.proofs.Entered.{unheard_idle}
+use Rattle.zre_journal.proofs.Listed.{found_passes}
+use Rattle.zre_tables.specs.Rows.{row_at}
 use Rattle.zre_tables.specs.Views.{view_of_row, view_among, ids_entered}
 use Rattle.zre_tables.specs.declared.peer.Peer.{Peer}
 use Rattle.zre_node.specs.declared.tables.Tables.{Tables}
 use Rattle.zre_node.specs.Journal.{StandsIn}
 use Rattle.zre_tables.specs.Tabled.{Tabled}
 use Rattle.zre_tables.specs.Runs.{HasRun}
-use Rattle.zre_node.specs.Stands.{IsPeer}
+use Rattle.zre_node.specs.Stands.{IsPeer, link_of_life}
+use Rattle.zre_node.proofs.Parting.{its_row, no_row}
 
 -- the rows are those of the known peers
 pub rows : (g : Config) (H : List Mark) (t : Tables) → StandsIn g H t → Tabled (λ (v : Life). v.link) (IsPeer g H) (lives H) t.peers
@@ -25,6 +29,21 @@ rows g H t s = by (has_stopped H) refl
     by : (b : Bool) → has_stopped H ≡ b → Tabled (λ (v : Life). v.link) (IsPeer g H) (lives H) t.peers
     by true z = let r = s.resting z in rw (r.none_known, r.no_peers) tt
     by false z = (s.going z).peers
+
+-- the row of a link is that of a known peer, and keeps what is to be kept of it
+pub asked : (g : Config) (H : List Mark) (t : Tables) → StandsIn g H t → (l : ℕ) (k : Peer) → Some k ≡ row_at l t.peers → (v : Life) × (life l H ≡ Some v) × (l ≡ v.link) × (k.link ≡ link_of_life g H v.link)
+asked g H t s l k e =
+    let it = its_row (IsPeer g H) H t.peers (rows g H t s) l k e in
+    (it.0, it.1, eqb-true l it.0.link (found_passes (λ (u : Life). eqb l u.link) (lives H) it.0 it.1), it.2.link_is)
+
+pub unasked : (g : Config) (H : List Mark) (t : Tables) → StandsIn g H t → (l : ℕ) → None ≡ row_at l t.peers → life l H ≡ None
+unasked g H t s l e = no_row (IsPeer g H) H t.peers (rows g H t s) l e
+
+-- what is told of it is told of the peer
+pub answered : {A : Type 0} (g : Config) (H : List Mark) (t : Tables) → StandsIn g H t → (l : ℕ) (k : Peer) → Some k ≡ row_at l t.peers → (f : Life → A) (x : A) → ((v : Life) → k.link ≡ link_of_life g H v.link → x ≡ f v) → Some x ≡ option_map f (life l H)
+answered g H t s l k e f x says =
+    let it = asked g H t s l k e in
+    ap (λ y. Some y) (says it.0 it.3) ∙ ap (option_map f) (sym it.1)
 
 -- ---- views
 

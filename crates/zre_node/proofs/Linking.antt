@@ -24,9 +24,10 @@ use Rattle.zre_journal.proofs.Listed.{eqb-comm}
 use Rattle.zre_node.specs.declared.effects.Effects.{Effects}
 use Rattle.zre_tables.specs.declared.peer.Peer.{Peer}
 use Rattle.zre_node.specs.declared.tables.Tables.{Tables}
-use Rattle.zre_node.specs.Links.{is_about_link, Notes}
+use Rattle.zre_node.specs.Kinds.{is_about_link}
+use Rattle.zre_node.specs.Links.{Notes}
 use Rattle.zre_tables.specs.Tabled.{Tabled}
-use Rattle.zre_node.specs.Stands.{Holds, Keeps, Did, IsPeer, IsConn, is_quiet}
+use Rattle.zre_node.specs.Stands.{Holds, Keeps, Did, IsPeer, IsConn, is_quiet, link_of_life}
 use Rattle.zre_tables.proofs.Entries.{Agree, changed}
 use Rattle.zre_node.proofs.Many.{or-nil, idle_did, silent_did}
 use Rattle.zre_node.proofs.Parting.{PeerRow, Found, Missing, peer_row, its_row}
@@ -92,6 +93,14 @@ module _ (g : Config) (K : List Mark) (t : Tables) (h : Holds g K t) (l : ℕ) (
   pub took_holds : (n : ℕ) (o : Sending) (P : List (ℕ × Peer)) → o ≡ link_after g.id (line l K) (is_linked l K) (replies l K) (taken_by g.id (line l K) (is_linked l K) (replies l K) (taken l K) n)
       → P ≡ set_value (is_at (nat_cmp l)) t.peers (record k { link = o }) → Holds g (after (at_took g l n (life l K) K) K) (record t { peers = P })
   took_holds n o P new put = subst (λ (x : Option Life). Holds g (after (at_took g l n x K) K) (record t { peers = P })) (sym its.1) (takes_now (min n (gate g l K - taken l K)) o P new put)
+
+-- a link has the row of a known peer, or none
+pub at_link : {C : Type 0} (g : Config) (K : List Mark) (t : Tables) → Holds g K t → (l : ℕ) → ((k : Peer) → lookup (is_at (nat_cmp l)) t.peers ≡ Some k → k.link ≡ link_of_life g K l → C) → (life l K ≡ None → lookup (is_at (nat_cmp l)) t.peers ≡ None → C) → C
+at_link {C} g K t h l found missing = by (peer_row (IsPeer g K) K t.peers h.peers l)
+  where
+    by : PeerRow (IsPeer g K) K l (lookup (is_at (nat_cmp l)) t.peers) → C
+    by (Found v k f o p) = found k o (row_link g K t h l k (sym o))
+    by (Missing f o) = missing f o
 
 -- no mark comes about on a link of no known peer
 pub unlinked_holds : (g : Config) (K : List Mark) (t : Tables) (l : ℕ) → Holds g K t → life l K ≡ None → Holds g (after (at_linked g l (life l K) K) K) t
@@ -161,12 +170,6 @@ unnamed (input.Linked l) a b c j = absurd (a l refl)
 unnamed (input.Reply l o) a b c j = absurd (b l o refl)
 unnamed (input.Took l n) a b c j = absurd (c l n refl)
 unnamed _ a b c j = refl
-
-pub about_quiet : (i : Input) → is_about_link i ≡ true → is_quiet i ≡ true
-about_quiet (input.Linked l) e = refl
-about_quiet (input.Unlinked l) e = refl
-about_quiet (input.Took l n) e = refl
-about_quiet _ e = absurd cc
 
 pub other_input : {C : Type 0} (i : Input) → ((l : ℕ) → i ≡ input.Linked l → ⊥) → ((l : ℕ) → i ≡ input.Unlinked l → ⊥) → ((l n : ℕ) → i ≡ input.Took l n → ⊥) → is_about_link i ≡ true → C
 other_input (input.Linked l) a b c e = absurd (a l refl)

@@ -21,7 +21,7 @@ use Rattle.zre_journal.specs.Told.{told}
 use Rattle.zre_node.specs.declared.effects.Effects.{Effects}
 use Rattle.zre_node.specs.declared.tables.Tables.{Tables}
 use Rattle.zre_journal.proofs.Stopping.{at_end}
-use Rattle.zre_node.specs.Kinds.{is_incoming}
+use Rattle.zre_node.specs.Kinds.{is_about_link, is_incoming}
 use Rattle.zre_node.specs.Journal.{StandsIn, Took}
 use Rattle.zre_node.specs.Links.{Notes}
 use Rattle.zre_node.specs.Offers.{offered}
@@ -110,11 +110,14 @@ took_stop g e H t a c going is s =
 
 -- ---- entries
 
-pub unnamed_incoming : (i : Input) → is_incoming i ≡ true → ((l : ℕ) → names l i ≡ false) × (is_quiet i ≡ true)
-unnamed_incoming (input.Datagram from o) e = (λ l. refl, refl)
-unnamed_incoming (input.Opened c) e = (λ l. refl, refl)
-unnamed_incoming (input.Shut c) e = (λ l. refl, refl)
-unnamed_incoming _ e = absurd cc
+pub quiet_incoming : (i : Input) → is_incoming i ≡ true → is_quiet i ≡ true
+quiet_incoming (input.Datagram from o) e = refl
+quiet_incoming (input.Opened c) e = refl
+quiet_incoming (input.Shut c) e = refl
+quiet_incoming (input.Linked l) e = refl
+quiet_incoming (input.Unlinked l) e = refl
+quiet_incoming (input.Took l n) e = refl
+quiet_incoming _ e = absurd cc
 
 quiet_end : (i : Input) → is_end i ≡ true → is_quiet i ≡ true
 quiet_end input.End e = refl
@@ -130,8 +133,8 @@ unnamed_piece e c o is l = rw is refl
 pub piece_marks : (g : Config) (e : Entry) (H : List Mark) (c : ℕ) (o : List ℕ) → e.input ≡ input.Piece c o → at_input g e.input H (Comes e ∷ H) ≡ at_places g c (newly_completed g.id c H (Comes e ∷ H)) (Comes e ∷ H)
 piece_marks g e H c o is = ap (λ i. at_input g i H (Comes e ∷ H)) is
 
-pub other_input : {C : Type 0} (i : Input) → ((from o : List ℕ) → i ≡ input.Datagram from o → ⊥) → ((c : ℕ) → i ≡ input.Opened c → ⊥) → ((c : ℕ) → i ≡ input.Shut c → ⊥) → is_incoming i ≡ true → C
-other_input (input.Datagram from o) d p s e = absurd (d from o refl)
-other_input (input.Opened c) d p s e = absurd (p c refl)
-other_input (input.Shut c) d p s e = absurd (s c refl)
-other_input _ d p s e = absurd cc
+pub others_about_links : (i : Input) → ((from o : List ℕ) → i ≡ input.Datagram from o → ⊥) → ((c : ℕ) → i ≡ input.Opened c → ⊥) → ((c : ℕ) → i ≡ input.Shut c → ⊥) → is_incoming i ≡ true → is_about_link i ≡ true
+others_about_links (input.Datagram from o) d p s e = absurd (d from o refl)
+others_about_links (input.Opened c) d p s e = absurd (p c refl)
+others_about_links (input.Shut c) d p s e = absurd (s c refl)
+others_about_links i d p s e = e

@@ -3,12 +3,19 @@ use Rattle.std.specs.Prelude.{Bool, true, false}
 use Rattle.zre_outside.specs.declared.entry.Input.{Input}
 use Rattle.zre_outside.specs.declared.entry.Input.TheVariants as input
 
--- a datagram, or a connection that comes or goes
+-- a link stands, breaks, or has taken octets
+abbrev pub is_about_link : Input → Bool
+is_about_link (input.Linked l) = true
+is_about_link (input.Unlinked l) = true
+is_about_link (input.Took l n) = true
+is_about_link _ = false
+
+-- a datagram, a connection that comes or goes, or one of these
 abbrev pub is_incoming : Input → Bool
 is_incoming (input.Datagram from o) = true
 is_incoming (input.Opened c) = true
 is_incoming (input.Shut c) = true
-is_incoming _ = false
+is_incoming i = is_about_link i
 
 -- octets of a connection
 abbrev pub is_piece : Input → Bool

@@ -1,9 +1,8 @@
 -- Entries about links.
-use Rattle.std.specs.Prelude.{◌≡◌, ℕ, Bool, true, false, ◌||◌, nat_eq, List, ◌∷◌, ◌++◌, map, Option, IfSome, IsSome}
+use Rattle.std.specs.Prelude.{◌≡◌, ℕ, ◌||◌, nat_eq, List, ◌∷◌, ◌++◌, map, Option, IfSome, IsSome}
 use Rattle.std.specs.List.{list_any}
 use Rattle.zre_outside.specs.declared.entry.Entry.{Entry}
 use Rattle.zre_outside.specs.declared.entry.Input.{Input}
-use Rattle.zre_outside.specs.declared.entry.Input.TheVariants as input
 use Rattle.zre_peer.specs.declared.causes.Cause.{Cause}
 use Rattle.zre_journal.specs.declared.config.Config.{Config}
 use Rattle.zre_journal.specs.Chronicle.{Mark, Comes, PutsPong, after}
@@ -13,13 +12,6 @@ use Rattle.zre_journal.specs.Peers.{life}
 use Rattle.zre_node.specs.Stands.{Holds}
 use Rattle.zre_node.specs.declared.tables.Tables.{Tables}
 use Rattle.zre_node.specs.declared.effects.Effects.{Effects}
-
--- a link stands, breaks, or has taken octets
-abbrev pub is_about_link : Input → Bool
-is_about_link (input.Linked l) = true
-is_about_link (input.Unlinked l) = true
-is_about_link (input.Took l n) = true
-is_about_link _ = false
 
 -- the link that an entry names is among those that are to be offered
 pub record Notes (i : Input) (before now : Effects) : Type 0 where

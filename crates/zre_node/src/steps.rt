@@ -16,6 +16,7 @@ ghost use Rattle.zre_node.specs.Kinds.{is_incoming, is_piece};
 ghost use Rattle.zre_node.specs.Stands.{Holds, Did};
 
 use crate::effects::Effects;
+use crate::outgoing::links::note;
 use crate::tables::Tables;
 use std::mem;
 use std::sync::ledger::Ledger;
@@ -24,7 +25,7 @@ use zre_values::OutOfMemory;
 use zre_zmtp::{Items, Steps};
 
 impl Tables {
-    // What a datagram, or a connection that comes or goes, brings.
+    // What a datagram, a connection that comes or goes, or an entry about a link but for replies brings.
     fn bring(&mut self, out: &mut Effects, input: Input) -> Result<(), OutOfMemory>
         ensures { (g : Config) (H K : List Mark) → is_incoming input ≡ true → Holds g K self.old →
             OnOk result (Did g (at_input g input H K) K self.new out.old out.new) }
@@ -33,11 +34,11 @@ impl Tables {
             Input::Datagram { from, bytes } => self.datagram(out, from, bytes.as_slice()),
             Input::Opened { conn } => self.opened(out, conn),
             Input::Shut { conn } => self.shut(out, conn),
-            _ => Ok(()),
+            other => self.bring_link(out, other),
         }
     }
 
-    /// A datagram comes, or a connection comes or goes.
+    /// A datagram comes, a connection comes or goes, or a link stands, breaks, or has taken octets.
     #[inline(never)]
     pub fn take_incoming(
         &mut self,
@@ -49,6 +50,7 @@ impl Tables {
             → is_incoming input ≡ true →
             out.old.pushed ≡ [] → Holds g H self.old → OnOk result (Took g e H self.new out.old out.new) }
     {
+        note(out, &input)?;
         self.come(at);
         self.bring(out, input)?;
         self.offer(out)
@@ -107,9 +109,6 @@ impl Tables {
         let Entry { at, input } = entry;
         match input {
             Input::Reply { link, bytes } => self.take_reply(out, at, link, bytes.as_slice(), steps),
-            Input::Linked { link } => self.take_link(out, at, Input::Linked { link }),
-            Input::Unlinked { link } => self.take_link(out, at, Input::Unlinked { link }),
-            Input::Took { link, count } => self.take_link(out, at, Input::Took { link, count }),
             Input::Tick => self.take_tick(out, at),
             Input::Do(Command::Quit) => self.take_stop(out, at),
             Input::Do(command) => self.take_command(out, at, command),

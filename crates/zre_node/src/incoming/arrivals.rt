@@ -156,27 +156,6 @@ impl Tables {
         }
     }
 
-    // What arrives on a live connection.
-    fn arrive_live(
-        &mut self,
-        out: &mut Effects,
-        conn: u64,
-        standing: Standing,
-        arrival: Arrival,
-    ) -> Result<(), OutOfMemory>
-        ensures { (g : Config) (H : List Mark) → Holds g H self.old → is_live conn H ≡ true
-            → standing.run ≡ runs conn H →
-            standing.identity ≡ identity conn H →
-            OnOk result (Did g (at_arrival g conn arrival H) H self.new out.old out.new) }
-    {
-        match arrival {
-            Arrival::Greeted => self.greeted(out, conn),
-            Arrival::Shaken(peer) => self.arrive_shaken(out, conn, standing, peer),
-            Arrival::Ping(context) => self.pinged(out, conn, context.as_slice()),
-            Arrival::Message(message) => self.arrive_message(out, conn, standing, message),
-        }
-    }
-
     // What is whole on a live connection, with copies of what it holds.
     #[inline(never)]
     fn arrive_copied(
@@ -192,39 +171,27 @@ impl Tables {
             OnOk result (Did g (at_item g conn (arrival_of what.now) H) H self.new out.old out.new) }
     {
         match arrival_of(self.alloc, what)? {
-            Some(arrival) => self.arrive_live(out, conn, standing, arrival),
+            Some(Arrival::Greeted) => self.greeted(out, conn),
+            Some(Arrival::Shaken(peer)) => self.arrive_shaken(out, conn, standing, peer),
+            Some(Arrival::Ping(context)) => self.pinged(out, conn, context.as_slice()),
+            Some(Arrival::Message(message)) => self.arrive_message(out, conn, standing, message),
             None => Ok(()),
         }
     }
 
-    // What is whole on a live connection. A message after the first is taken where it lies.
-    fn arrive_lent(
-        &mut self,
-        out: &mut Effects,
-        conn: u64,
-        standing: Standing,
-        what: &What,
-    ) -> Result<(), OutOfMemory>
-        ensures { (g : Config) (H : List Mark) → Holds g H self.old → is_live conn H ≡ true
-            → standing.run ≡ runs conn H →
-            standing.identity ≡ identity conn H →
-            OnOk result (Did g (at_item g conn (arrival_of what.now) H) H self.new out.old out.new) }
-    {
-        match (what, standing.run) {
-            (What::Message(frames), Some(link)) => self.later_in(out, conn, link, frames),
-            _ => self.arrive_copied(out, conn, standing, what),
-        }
-    }
-
-    // What is whole on a connection. Where it isn't live, it has no effect.
+    // What is whole on a connection. Where it isn't live, it has no effect. A message after the first is taken where it
+    // lies.
     fn arrive(&mut self, out: &mut Effects, conn: u64, what: &What) -> Result<(), OutOfMemory>
         ensures { (g : Config) (H : List Mark) → Holds g H self.old →
             OnOk result (Did g (if is_live conn H then at_item g conn (arrival_of what.now) H else []) H self.new
             out.old out.new) }
     {
-        match self.standing(conn) {
-            Some(standing) => self.arrive_lent(out, conn, standing, what),
-            None => Ok(()),
+        let Some(standing) = self.standing(conn) else {
+            return Ok(());
+        };
+        match (what, standing.run) {
+            (What::Message(frames), Some(link)) => self.later_in(out, conn, link, frames),
+            _ => self.arrive_copied(out, conn, standing, what),
         }
     }
 

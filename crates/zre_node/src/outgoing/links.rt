@@ -13,7 +13,8 @@ ghost use Rattle.zre_journal.specs.Happens.{at_input, with_entry};
 ghost use Rattle.zre_journal.specs.Held.{kept};
 ghost use Rattle.zre_journal.specs.LinkEntries.{at_linked, at_reply, at_unlinked, at_took, end_by};
 ghost use Rattle.zre_node.specs.Journal.{Took};
-ghost use Rattle.zre_node.specs.Links.{is_about_link, Notes, IsReplied};
+ghost use Rattle.zre_node.specs.Kinds.{is_about_link};
+ghost use Rattle.zre_node.specs.Links.{Notes, IsReplied};
 ghost use Rattle.zre_node.specs.Stands.{Holds, Did};
 
 use crate::effects::Effects;
@@ -24,8 +25,8 @@ use zre_peer::Cause;
 use zre_values::OutOfMemory;
 use zre_zmtp::Steps;
 
-// The link that an entry names is noted, so that what it has to send is offered.
-fn note(out: &mut Effects, input: &Input) -> Result<(), OutOfMemory>
+/// The link that an entry names is noted, so that what it has to send is offered.
+pub fn note(out: &mut Effects, input: &Input) -> Result<(), OutOfMemory>
     ensures { OnOk result (Notes input.now out.old out.new) }
 {
     match input {
@@ -83,8 +84,8 @@ impl Tables {
         self.peers.reply(link, bytes, steps)
     }
 
-    // What an entry about a link brings, but for replies.
-    fn bring_link(&mut self, out: &mut Effects, input: Input) -> Result<(), OutOfMemory>
+    /// What an entry about a link brings, but for replies.
+    pub fn bring_link(&mut self, out: &mut Effects, input: Input) -> Result<(), OutOfMemory>
         ensures { (g : Config) (H K : List Mark) → is_about_link input ≡ true → Holds g K self.old →
             OnOk result (Did g (at_input g input H K) K self.new out.old out.new) }
     {
@@ -100,19 +101,6 @@ impl Tables {
             }
             _ => Ok(()),
         }
-    }
-
-    /// A link stands, breaks, or has taken octets.
-    #[inline(never)]
-    pub fn take_link(&mut self, out: &mut Effects, at: u64, input: Input) -> Result<(), OutOfMemory>
-        ensures { (g : Config) (H : List Mark) (e : EntryValue) → e.at ≡ at → e.input ≡ input
-            → is_about_link input ≡ true →
-            out.old.pushed ≡ [] → Holds g H self.old → OnOk result (Took g e H self.new out.old out.new) }
-    {
-        note(out, &input)?;
-        self.come(at);
-        self.bring_link(out, input)?;
-        self.offer(out)
     }
 
     /// A reply comes on a link: its PINGs are answered. Where a PONG has no room, and else where the replies are no

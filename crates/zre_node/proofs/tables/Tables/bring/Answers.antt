@@ -1,5 +1,5 @@
-use Rattle.zre_node.proofs.Taking.{other_input}
+use Rattle.zre_node.proofs.Taking.{others_about_links}
 use Rattle.zre_node.proofs.tables.Tables.bring.Goals as goal
 
-pub returns : goal.returns
-returns c = λ g H K covered h. other_input c.args.input c.in_default.not-Datagram c.in_default.not-Opened c.in_default.not-Shut covered
+pub returns-in_default : goal.returns-in_default
+returns-in_default c = λ g H K covered h. c.bring_link.ensures g H K (others_about_links c.args.input c.in_default.not-Datagram c.in_default.not-Opened c.in_default.not-Shut covered) h

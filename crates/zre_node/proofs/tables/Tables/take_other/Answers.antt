@@ -13,15 +13,6 @@ returns-in-Reply-clause-looks over c = λ g H h.
     let is : e.input ≡ input.Reply c.in-Reply.link c.as_slice.result.now = c.in-Reply.is ∙ ap (λ o. input.Reply c.in-Reply.link o) (sym c.as_slice.ensures) in
     subst (λ n. Looks c.args.steps.now c.take_reply.new.steps (kept g H) (kept g (with_entry g e H)) n c.take_reply.result) (sym (ap octets_of is)) (c.take_reply.ensures.looks g H e is h)
 
-pub returns-in-Linked-clause-looks : goal.returns-in-Linked-clause-looks
-returns-in-Linked-clause-looks over c = λ g H h. quiet_looks g c.args.entry H c.args.self.now h (input.Linked c.in-Linked.link) c.in-Linked.is refl c.take_link.result c.args.steps.now
-
-pub returns-in-Unlinked-clause-looks : goal.returns-in-Unlinked-clause-looks
-returns-in-Unlinked-clause-looks over c = λ g H h. quiet_looks g c.args.entry H c.args.self.now h (input.Unlinked c.in-Unlinked.link) c.in-Unlinked.is refl c.take_link-in-Unlinked.result c.args.steps.now
-
-pub returns-in-Took-clause-looks : goal.returns-in-Took-clause-looks
-returns-in-Took-clause-looks over c = λ g H h. quiet_looks g c.args.entry H c.args.self.now h (input.Took c.in-Took.link c.in-Took.count) c.in-Took.is refl c.take_link-in-Took.result c.args.steps.now
-
 pub returns-in-Tick-clause-looks : goal.returns-in-Tick-clause-looks
 returns-in-Tick-clause-looks over c = λ g H h. quiet_looks g c.args.entry H c.args.self.now h input.Tick c.in-Tick.is refl c.take_tick.result c.args.steps.now
 
