@@ -22,8 +22,9 @@ use Rattle.zre_journal.specs.Links.{groups, status, line, put_on, links, is_link
 use Rattle.zre_journal.specs.Peers.{Life, life, lives, births, runner, runner_at, counted, message_at, active}
 use Rattle.zre_journal.specs.Proper.{IsProper}
 use Rattle.zre_journal.proofs.Always.{is_proper}
+use Rattle.zre_journal.proofs.Alike.{through, same_runs, same_ignored, latest_but, each_but, ever_but, lives_but, births_but, open_but, groups_but, status_but, taken_but}
 use Rattle.zre_journal.proofs.Cutting.{same_cut}
-use Rattle.zre_net.proofs.Same.{Sim, by_marks, same_runs, same_ignored, latest_but, each_but, ever_but, lives_but, births_but, open_but, new_but, groups_but, status_but, taken_but, sim}
+use Rattle.zre_net.proofs.Same.{Sim, new_but, sim}
 use Rattle.zre_node.specs.Journal.{StandsIn, StandsFor}
 use Rattle.zre_node.specs.Stands.{Holds, Rests, IsKept, IsPeer, IsConn, kept_conn, heard_by, link_of_life}
 use Rattle.zre_tables.specs.declared.connection.Connection.{Connection}
@@ -42,28 +43,28 @@ module _ (g : Config) (K L : List Mark) (s : Sim K L) (octets : (c : ℕ) → by
   same_conn : (c : ℕ) → kept_conn g K c ≡ kept_conn g L c
   same_conn c =
       ap (λ n. conn_with n (identity c K) (runs c K) (heard_by (is_ignored c K) g.id (bytes c K))) (s.sinces c)
-      ∙ ap (λ i. conn_with (since c L) i (runs c K) (heard_by (is_ignored c K) g.id (bytes c K))) (by_marks K L s.alike (identity c) (latest_but (identity_at c) (λ e. refl)))
+      ∙ ap (λ i. conn_with (since c L) i (runs c K) (heard_by (is_ignored c K) g.id (bytes c K))) (through (identity c) (latest_but (identity_at c) (λ e. refl)) K L s.alike)
       ∙ ap (λ r. conn_with (since c L) (identity c L) r (heard_by (is_ignored c K) g.id (bytes c K))) (same_runs K L s.alike c)
       ∙ ap (λ b. conn_with (since c L) (identity c L) (runs c L) (heard_by b g.id (bytes c K))) (same_ignored K L s.alike c)
       ∙ ap (λ o. conn_with (since c L) (identity c L) (runs c L) (heard_by (is_ignored c L) g.id o)) (octets c)
 
   same_link : (l : ℕ) → link_of_life g K l ≡ link_of_life g L l
   same_link l =
-      ap (λ ms. link_after g.id ms (is_linked l K) (replies l K) (taken l K)) (by_marks K L s.alike (line l) (each_but (put_on l) (λ e. refl)))
-      ∙ ap (λ b. link_after g.id (line l L) b (replies l K) (taken l K)) (by_marks K L s.alike (is_linked l) (ever_but (links l) (λ e. refl)))
+      ap (λ ms. link_after g.id ms (is_linked l K) (replies l K) (taken l K)) (through (line l) (each_but (put_on l) (λ e. refl)) K L s.alike)
+      ∙ ap (λ b. link_after g.id (line l L) b (replies l K) (taken l K)) (through (is_linked l) (ever_but (links l) (λ e. refl)) K L s.alike)
       ∙ ap (λ o. link_after g.id (line l L) (is_linked l L) o (taken l K)) (s.replied l)
-      ∙ ap (λ n. link_after g.id (line l L) (is_linked l L) (replies l L) n) (by_marks K L s.alike (taken l) (taken_but l))
+      ∙ ap (λ n. link_after g.id (line l L) (is_linked l L) (replies l L) n) (through (taken l) (taken_but l) K L s.alike)
 
   same_peer : (v : Life) (k : Peer) → IsPeer g K v k → IsPeer g L v k
   same_peer v k p =
       let l = v.link in
       subst (λ x. IsKept v.id (active l L) (runner l L) (counted l L) x k) (same_link l)
-      (subst (λ ms. IsKept v.id (active l L) (runner l L) ms (link_of_life g K l) k) (by_marks K L s.alike (counted l) (each_but (message_at l) (λ e. refl)))
-      (subst (λ o. IsKept v.id (active l L) o (counted l K) (link_of_life g K l) k) (by_marks K L s.alike (runner l) (latest_but (runner_at l) (λ e. refl)))
+      (subst (λ ms. IsKept v.id (active l L) (runner l L) ms (link_of_life g K l) k) (through (counted l) (each_but (message_at l) (λ e. refl)) K L s.alike)
+      (subst (λ o. IsKept v.id (active l L) o (counted l K) (link_of_life g K l) k) (through (runner l) (latest_but (runner_at l) (λ e. refl)) K L s.alike)
       (subst (λ n. IsKept v.id n (runner l K) (counted l K) (link_of_life g K l) k) (s.actives l) p)))
 
   stopped_too : has_stopped K ≡ has_stopped L
-  stopped_too = by_marks K L s.alike has_stopped (ever_but is_stop (λ e. refl))
+  stopped_too = through has_stopped (ever_but is_stop (λ e. refl)) K L s.alike
 
   holds : (t : Tables) → IsProper L → Holds g K t → Holds g L t
   holds t proper h = record {
@@ -75,15 +76,15 @@ module _ (g : Config) (K L : List Mark) (s : Sim K L) (octets : (c : ℕ) → by
       config = h.keeps.config;
       mailbox = h.keeps.mailbox;
       clock_is = h.keeps.clock_is ∙ s.clocks;
-      births_is = h.keeps.births_is ∙ by_marks K L s.alike births births_but;
-      last_is = λ c. sym (by_marks K L s.alike (is_new c) (new_but c)) ∙ h.keeps.last_is c;
-      groups_fit = subst (λ gs. AllByRecursion (λ (group : List ℕ). length group ≤ 255) gs) (by_marks K L s.alike groups groups_but) h.keeps.groups_fit;
-      own = h.keeps.own ∙ ap (λ gs. record { groups = gs; status = status K }) (by_marks K L s.alike groups groups_but)
-          ∙ ap (λ n. record { groups = groups L; status = n }) (by_marks K L s.alike status status_but);
-      conns = subst (λ cs. Tabled (λ (c : ℕ). c) (IsConn g L) cs t.conns) (by_marks K L s.alike open_ones open_but)
+      births_is = h.keeps.births_is ∙ through births births_but K L s.alike;
+      last_is = λ c. sym (through (is_new c) (new_but c) K L s.alike) ∙ h.keeps.last_is c;
+      groups_fit = subst (λ gs. AllByRecursion (λ (group : List ℕ). length group ≤ 255) gs) (through groups groups_but K L s.alike) h.keeps.groups_fit;
+      own = h.keeps.own ∙ ap (λ gs. record { groups = gs; status = status K }) (through groups groups_but K L s.alike)
+          ∙ ap (λ n. record { groups = groups L; status = n }) (through status status_but K L s.alike);
+      conns = subst (λ cs. Tabled (λ (c : ℕ). c) (IsConn g L) cs t.conns) (through open_ones open_but K L s.alike)
           (retold (λ (c : ℕ). c) (IsConn g K) (IsConn g L) (λ c k e. e ∙ same_conn c) (open_ones K) t.conns h.keeps.conns);
     };
-    peers = subst (λ vs. Tabled (λ (v : Life). v.link) (IsPeer g L) vs t.peers) (by_marks K L s.alike lives lives_but)
+    peers = subst (λ vs. Tabled (λ (v : Life). v.link) (IsPeer g L) vs t.peers) (through lives lives_but K L s.alike)
         (retold (λ (v : Life). v.link) (IsPeer g K) (IsPeer g L) same_peer (lives K) t.peers h.peers);
   }
 
@@ -93,11 +94,11 @@ module _ (g : Config) (K L : List Mark) (s : Sim K L) (octets : (c : ℕ) → by
     stopped = sym stopped_too ∙ r.stopped;
     asleep = r.asleep;
     config = r.config;
-    own = r.own ∙ ap (λ gs. record { groups = gs; status = status K }) (by_marks K L s.alike groups groups_but)
-        ∙ ap (λ n. record { groups = groups L; status = n }) (by_marks K L s.alike status status_but);
-    none_known = sym (by_marks K L s.alike lives lives_but) ∙ r.none_known;
+    own = r.own ∙ ap (λ gs. record { groups = gs; status = status K }) (through groups groups_but K L s.alike)
+        ∙ ap (λ n. record { groups = groups L; status = n }) (through status status_but K L s.alike);
+    none_known = sym (through lives lives_but K L s.alike) ∙ r.none_known;
     no_peers = r.no_peers;
-    none_open = sym (by_marks K L s.alike open_ones open_but) ∙ r.none_open;
+    none_open = sym (through open_ones open_but K L s.alike) ∙ r.none_open;
     no_conns = r.no_conns;
   }
 
@@ -121,17 +122,17 @@ stands_for_whole g J at c a b n s = record {
 
 module _ (g : Config) (K L : List Mark) (s : Sim K L) (h : ℕ) (lines : List Line) (k : Keeps g K h lines) where
   same_line : (l : ℕ) → line l K ≡ line l L
-  same_line l = by_marks K L s.alike (line l) (each_but (put_on l) (λ e. refl))
+  same_line l = through (line l) (each_but (put_on l) (λ e. refl)) K L s.alike
 
   same_taken : (l : ℕ) → taken l K ≡ taken l L
-  same_taken l = by_marks K L s.alike (taken l) (taken_but l)
+  same_taken l = through (taken l) (taken_but l) K L s.alike
 
   same_life : (l : ℕ) → life l K ≡ life l L
-  same_life l = ap (λ (vs : List Life). find (λ (v : Life). eqb l v.link) vs) (by_marks K L s.alike lives lives_but)
+  same_life l = ap (λ (vs : List Life). find (λ (v : Life). eqb l v.link) vs) (through lives lives_but K L s.alike)
 
   pub keeps_too : Keeps g L h lines
   keeps_too = record {
-    count = k.count ∙ by_marks K L s.alike births births_but;
+    count = k.count ∙ through births births_but K L s.alike;
     messages_are = λ l. k.messages_are l ∙ ap (λ ms. map octets (numbered_from 1 (bodies_in ms))) (same_line l);
     waits = λ l z. k.waits l (subst IsSome (sym (same_life l)) z) ∙ ap (λ ms. length (text_of g.id ms) - taken l K) (same_line l) ∙ ap (λ n. length (text g l L) - n) (same_taken l);
     within = λ l z. subst (λ ms. taken l L ≤ length (text_of g.id ms)) (same_line l) (subst (λ n. n ≤ length (text g l K)) (same_taken l) (k.within l (subst IsSome (sym (same_life l)) z)));

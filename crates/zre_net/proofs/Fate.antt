@@ -37,9 +37,10 @@ use Rattle.zre_journal.specs.Arrivals.{at_opened, end_of_run, at_shut, taken_ove
 use Rattle.zre_journal.specs.Happens.{is_welcome, at_beacon, at_datagram, at_input}
 use Rattle.zre_journal.specs.Heard.{newly_completed}
 use Rattle.zre_journal.specs.LinkEntries.{at_linked, cause_by_reply, end_by, at_reply, at_unlinked, at_took}
-use Rattle.zre_journal.specs.Ticks.{is_silent, is_evasive, is_stale, probe, at_tick}
+use Rattle.zre_journal.specs.Ticks.{is_silent, is_evasive, probe, at_tick}
 use Rattle.zre_journal.specs.Commands.{has_group, at_join, at_leave, is_too_big, at_whisper, is_member, at_shout, at_stop, at_command}
 use Rattle.zre_journal.proofs.Listed.{All-kept, Apart-kept}
+use Rattle.zre_journal.proofs.Ticks.{expiring, wavering, stale, wavering_apart, excludes}
 use Rattle.zre_journal.proofs.Steps.{choice}
 use Rattle.zre_net.specs.Sender.{is_slight}
 
@@ -169,34 +170,21 @@ module _ (l : ℕ) where
     ends_far why (v ∷ vs) n = ((refl, n.0, refl), ends_far why vs n.1)
 
     module _ (K : List Mark) (q : IsProper K) where
-      abbrev E : List Life
-      E = filter (is_silent g g.expired K) (lives K)
-
-      abbrev W : List Life
-      W = filter (is_evasive g K) (lives K)
-
-      excludes : (v : Life) → is_silent g g.expired K v ≡ true → is_evasive g K v ≡ false
-      excludes v e = rw e (by (is_entered K v))
-        where
-          by : (b : Bool) → (b && not true && is_silent g g.evasive K v) ≡ false
-          by true = refl
-          by false = refl
-
       abbrev gone : List Mark
-      gone = map (λ (v : Life). Ends v.link cause.Expired) E
+      gone = map (λ (v : Life). Ends v.link cause.Expired) (expiring g K)
 
       abbrev shut : List Mark
-      shut = map (λ c. Closes c close.Timeout) (filter (is_stale g K) (open_ones K))
+      shut = map (λ c. Closes c close.Timeout) (stale g K)
 
       shut_far : IsFar l shut
-      shut_far = far_map (λ c. Closes c close.Timeout) (λ c. (refl, refl, refl)) (filter (is_stale g K) (open_ones K))
+      shut_far = far_map (λ c. Closes c close.Timeout) (λ c. (refl, refl, refl)) (stale g K)
 
       tick_fate : Fate l (at_tick g K)
-      tick_fate = behind l (gone ++ probe g W K ++ shut) (SendsBeacon g.port ∷ []) (behind l (gone ++ probe g W K) shut (by (one_far (is_silent g g.expired K) (is_evasive g K) excludes (lives K) q.living.apart)) shut_far) ((refl, refl, refl), tt)
+      tick_fate = behind l (gone ++ probe g (wavering g K) K ++ shut) (SendsBeacon g.port ∷ []) (behind l (gone ++ probe g (wavering g K) K) shut (by (one_far (is_silent g g.expired K) (is_evasive g K) (excludes g K) (lives K) q.living.apart)) shut_far) ((refl, refl, refl), tt)
         where
-          by : AllFar E ⊎ AllFar W → Fate l (gone ++ probe g W K)
-          by (inl f) = before l gone (probe g W K) (ends_far cause.Expired E f) (probes_fate W K (Apart-kept (λ (v : Life). v.link) (is_evasive g K) (lives K) q.living.apart))
-          by (inr f) = behind l gone (probe g W K) (inl (quiet_map (λ (v : Life). Ends v.link cause.Expired) (λ v. refl) E)) (probes_far W K f)
+          by : AllFar (expiring g K) ⊎ AllFar (wavering g K) → Fate l (gone ++ probe g (wavering g K) K)
+          by (inl f) = before l gone (probe g (wavering g K) K) (ends_far cause.Expired (expiring g K) f) (probes_fate (wavering g K) K (wavering_apart g K q))
+          by (inr f) = behind l gone (probe g (wavering g K) K) (inl (quiet_map (λ (v : Life). Ends v.link cause.Expired) (λ v. refl) (expiring g K))) (probes_far (wavering g K) K f)
 
       -- ---- commands
 

@@ -9,7 +9,6 @@ use Rattle.zre_journal.specs.Cutting.{is_entry}
 use Rattle.zre_journal.specs.Peers.{Life, lives}
 use Rattle.zre_journal.proofs.Stopping.{at_end}
 use Rattle.zre_peer.specs.declared.causes.Cause.TheVariants as cause
-use Rattle.std.specs.List.{AllByRecursion}
 use Rattle.zre_journal.specs.Chronicle.{Mark, Comes, Opens, TurnsAway, Ends, ClosesAtStop, SendsBeacon, Stops, after}
 use Rattle.zre_journal.specs.Connections.{is_new, open_ones}
 use Rattle.zre_journal.specs.Endings.{is_end}
@@ -18,25 +17,14 @@ use Rattle.zre_journal.specs.Happens.{has_stopped, at_input, with_entry}
 use Rattle.zre_journal.specs.Heard.{bytes, was_opened, piece_of}
 use Rattle.zre_journal.specs.Proper.{IsProper}
 use Rattle.zre_journal.proofs.Always.{is_proper}
+use Rattle.zre_journal.proofs.Cutting.{AreInner, inner_of, inner_bytes}
 use Rattle.zre_journal.proofs.Going.{are_others}
 use Rattle.zre_journal.proofs.Says.{input_sound, input_allowed, input_quiet}
 use Rattle.zre_journal.proofs.Silent.{Comes-proper}
-use Rattle.zre_journal.proofs.Sound.{Sound, AreSound}
-use Rattle.zre_journal.proofs.Steps.{May, Allowed}
-use Rattle.zre_journal.proofs.Quiet.{Quiet, AreQuiet, is_of}
+use Rattle.zre_journal.proofs.Steps.{May, Allowed, all_same}
+use Rattle.zre_journal.proofs.Quiet.{Quiet, is_of}
 
 -- ---- no mark of an entry is an entry
-
-abbrev pub AreInner : List Mark → Type 0
-AreInner hs = AllByRecursion (λ h. is_entry h ≡ false) hs
-
-pub inner_of : (g : Config) (hs K : List Mark) → AreSound g hs K → AreInner hs
-inner_of g [] K s = tt
-inner_of g (h ∷ hs) K s = (one h s.0, inner_of g hs (h ∷ K) s.1)
-  where
-    one : (h : Mark) → Sound g h K → is_entry h ≡ false
-    one (Comes e) z = absurd z
-    one _ z = refl
 
 inner_map : {A : Type 0} (f : A → Mark) → ((x : A) → is_entry (f x) ≡ false) → (xs : List A) (hs : List Mark) → AreInner hs → AreInner (map f xs ++ hs)
 inner_map f n [] hs a = a
@@ -49,14 +37,6 @@ inner_stop g K =
     subst AreInner (sym (append_assoc xs ys (SendsBeacon 0 ∷ Stops ∷ [])))
     (inner_map (λ (v : Life). Ends v.link cause.Stop) (λ v. refl) (lives K) (ys ++ SendsBeacon 0 ∷ Stops ∷ [])
     (inner_map (λ c. ClosesAtStop c) (λ c. refl) (open_ones K) (SendsBeacon 0 ∷ Stops ∷ []) (refl, (refl, tt))))
-
-bytes_after : (d : ℕ) (hs K : List Mark) → AreInner hs → bytes d (after hs K) ≡ bytes d K
-bytes_after d [] K n = refl
-bytes_after d (h ∷ hs) K n = bytes_after d hs (h ∷ K) n.1 ∙ one h n.0
-  where
-    one : (h : Mark) → is_entry h ≡ false → bytes d (h ∷ K) ≡ bytes d K
-    one (Comes e) z = absurd (true≢false z)
-    one _ z = refl
 
 and_false : (b c : Bool) → c ≡ false → (b && c) ≡ false
 and_false true c e = e
@@ -120,7 +100,7 @@ module _ (g : Config) (J : List Entry) (e : Entry) where
 
   pub bytes_now : (x : ℕ) → bytes x N ≡ bytes x K ++ cond (was_opened x K) (piece_of x e.input) []
   bytes_now x = by_stop (λ Z. bytes x Z ≡ bytes x K ++ cond (was_opened x K) (piece_of x e.input) []) (λ s. refl)
-      (λ t. bytes_after x (at_input g e.input K M) M inner_marks)
+      (λ t. inner_bytes x (at_input g e.input K M) M inner_marks)
 
   none : (b : Bool) → cond {A = List ℕ} b [] [] ≡ []
   none true = refl
@@ -155,13 +135,10 @@ module _ (g : Config) (J : List Entry) (e : Entry) where
 
   -- and an entry that isn't about it leaves whether it was opened
   pub opened_same : (x : ℕ) → is_of x e.input ≡ false → was_opened x N ≡ was_opened x K
-  opened_same x far = by_stop (λ Z. was_opened x Z ≡ was_opened x K) (λ s. refl) (λ t. quiet_opened (at_input g e.input K M) M (input_quiet g e.input K M q x far))
+  opened_same x far = by_stop (λ Z. was_opened x Z ≡ was_opened x K) (λ s. refl)
+      (λ t. all_same (Quiet x) (was_opened x) one (at_input g e.input K M) M (input_quiet g e.input K M q x far))
     where
-      quiet_opened : (hs L : List Mark) → AreQuiet x hs → was_opened x (after hs L) ≡ was_opened x L
-      quiet_opened [] L a = refl
-      quiet_opened (h ∷ hs) L a = quiet_opened hs (h ∷ L) a.1 ∙ one h a.0
-        where
-          one : (h : Mark) → Quiet x h → was_opened x (h ∷ L) ≡ was_opened x L
-          one (Comes d) z = absurd z
-          one (Opens d) z = ap (λ b. cond b true (was_opened x L)) z
-          one _ z = refl
+      one : (h : Mark) (H : List Mark) → Quiet x h → was_opened x (h ∷ H) ≡ was_opened x H
+      one (Comes d) H z = absurd z
+      one (Opens d) H z = ap (λ b. cond b true (was_opened x H)) z
+      one _ H z = refl

@@ -18,6 +18,7 @@ use Rattle.zre_journal.specs.Done.{acts_at}
 use Rattle.zre_journal.specs.Events.{chronicle, events, acts, events_at}
 use Rattle.zre_journal.specs.Happens.{has_stopped, is_stop, with_entry}
 use Rattle.zre_journal.specs.Heard.{bytes, was_opened, opens, piece_of}
+use Rattle.zre_journal.proofs.Alike.{through, ever_but}
 use Rattle.zre_journal.proofs.Cutting.{same_cut}
 use Rattle.zre_journal.proofs.Joined.{continues}
 use Rattle.zre_net.specs.declared.moves.Move.TheVariants as move
@@ -40,7 +41,7 @@ use Rattle.zre_net.proofs.Cut.{has_sent_whole}
 use Rattle.zre_net.proofs.Hearing.{fits_piece, completes_few}
 use Rattle.zre_net.proofs.Listing.{some_one, in_reach, nth_at, nth_same, nth_other, set_length, sum_set, all_map, past_all}
 use Rattle.zre_net.proofs.Plays.{piece_still, played, not_received, received}
-use Rattle.zre_net.proofs.Same.{by_marks, ever_but, new_but, sim, Sim}
+use Rattle.zre_net.proofs.Same.{new_but, sim, Sim}
 use Rattle.zre_net.proofs.Journals.{chronicle_now, same_who}
 use Rattle.zre_net.proofs.Staying.{start_stays, conn_stays, finds_stays}
 
@@ -246,8 +247,8 @@ module _ (H : List Happening) (x i j at : ℕ) (w : Incarnation) (known : IsKnow
 
   fits_whole : (y : ℕ) (ear : Ear) → Fits G y (chronicle G (I ++ piece t x a ∷ piece t x b ∷ [])) ear → Fits G y (chronicle G (I ++ piece t x (a ++ b) ∷ [])) ear
   fits_whole y ear f = record {
-    heard = λ o. f.heard (by_marks A B s.alike (was_opened y) (ever_but (opens y) (λ e. refl)) ∙ o) ∙ ap (λ o. conn_after G.id o) ((same_cut G I t x a b).octets_are y);
-    old = subst (λ n. (n ≡ false) ⊎ (has_stopped B ≡ true)) (by_marks A B s.alike (is_new y) (new_but y)) (subst (λ n. (is_new y A ≡ false) ⊎ (n ≡ true)) (by_marks A B s.alike has_stopped (ever_but is_stop (λ e. refl))) f.old);
+    heard = λ o. f.heard (through (was_opened y) (ever_but (opens y) (λ e. refl)) A B s.alike ∙ o) ∙ ap (λ o. conn_after G.id o) ((same_cut G I t x a b).octets_are y);
+    old = subst (λ n. (n ≡ false) ⊎ (has_stopped B ≡ true)) (through (is_new y) (new_but y) A B s.alike) (subst (λ n. (is_new y A ≡ false) ⊎ (n ≡ true)) (through has_stopped (ever_but is_stop (λ e. refl)) A B s.alike) f.old);
   }
 
   chronicle_one : chronicle_of w H1 ≡ with_entry G (piece t x a) (chronicle_of w H)

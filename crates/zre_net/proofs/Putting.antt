@@ -21,7 +21,7 @@ use Rattle.zre_journal.proofs.Known.{life_stays}
 use Rattle.zre_journal.proofs.Listed.{eqb-comm}
 use Rattle.zre_journal.proofs.Says.{input_allowed}
 use Rattle.zre_journal.proofs.Silent.{Comes-proper}
-use Rattle.zre_journal.proofs.Steps.{May, Allowed}
+use Rattle.zre_journal.proofs.Steps.{May, Allowed, all_same}
 use Rattle.zre_net.specs.Sender.{spelled, is_slight}
 use Rattle.zre_net.proofs.Fate.{Fate, IsQuiet, GoesOn, pongs, input_fate}
 
@@ -34,26 +34,25 @@ module _ (l : ℕ) where
   -- ---- from marks
 
   quiet_bodies : (hs H : List Mark) → IsQuiet l hs → bodies l (after hs H) ≡ bodies l H
-  quiet_bodies [] H q = refl
-  quiet_bodies (h ∷ hs) H q = quiet_bodies hs (h ∷ H) q.1 ∙ one h q.0
+  quiet_bodies hs H q = all_same (λ h. puts l h ≡ false) (bodies l) one hs H q
     where
       with_pongs : (ms : List Member) (t : List ℕ) → bodies_in (ms ++ Pongs t ∷ []) ≡ bodies_in ms
       with_pongs [] t = refl
       with_pongs (Says b ∷ ms) t = ap (λ bs. b ∷ bs) (with_pongs ms t)
       with_pongs (Pongs u ∷ ms) t = with_pongs ms t
 
-      maybe : (b : Bool) (t : List ℕ) → bodies_in (followed (line l H) (cond b (Some (Pongs t)) None)) ≡ bodies l H
-      maybe true t = with_pongs (line l H) t
-      maybe false t = refl
+      maybe : (K : List Mark) (b : Bool) (t : List ℕ) → bodies_in (followed (line l K) (cond b (Some (Pongs t)) None)) ≡ bodies l K
+      maybe K true t = with_pongs (line l K) t
+      maybe K false t = refl
 
-      none : (b : Bool) (x : Body) → b ≡ false → bodies_in (followed (line l H) (cond b (Some (Says x)) None)) ≡ bodies l H
-      none true x e = absurd (true≢false e)
-      none false x e = refl
+      none : (K : List Mark) (b : Bool) (x : Body) → b ≡ false → bodies_in (followed (line l K) (cond b (Some (Says x)) None)) ≡ bodies l K
+      none K true x e = absurd (true≢false e)
+      none K false x e = refl
 
-      one : (h : Mark) → puts l h ≡ false → bodies l (h ∷ H) ≡ bodies l H
-      one (Puts k b) e = none (eqb l k) b e
-      one (PutsPong k t) e = maybe (eqb l k) t
-      one _ e = refl
+      one : (h : Mark) (K : List Mark) → puts l h ≡ false → bodies l (h ∷ K) ≡ bodies l K
+      one (Puts k b) K e = none K (eqb l k) b e
+      one (PutsPong k t) K e = maybe K (eqb l k) t
+      one _ K e = refl
 
   life_kept : (h : Mark) (H : List Mark) → ends l h ≡ false → IsSome (life l H) → IsSome (life l (h ∷ H))
   life_kept (Ends k why) H e s = subst IsSome (sym (life_stays H k l why (eqb-comm k l ∙ e))) s

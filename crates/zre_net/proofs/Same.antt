@@ -1,26 +1,25 @@
 -- Octets that come in two pieces at one reading, or in one: the same came about at the same times.
-use Rattle.std.proofs.Common.{◌≡◌, ℕ, ◌+◌, ◌%◌, ◌≤◌, Bool, true, false, cond, not, ◌&&◌, ◌||◌, eqb, ltb, List, [], ◌∷◌, ◌++◌, reverse, Option, Some, None, is_some, is_none, refl, sym, ap, ◌∙◌, subst, arith, append_assoc, append-nil, true≢false}
+use Rattle.std.proofs.Common.{◌≡◌, ℕ, ◌+◌, ◌≤◌, Bool, true, false, cond, not, ◌&&◌, eqb, ltb, List, [], ◌∷◌, ◌++◌, reverse, refl, sym, ap, ◌∙◌, subst, arith, append_assoc, append-nil, true≢false}
 use Rattle.std.proofs.lemmas.List.{reverse-append, reverse-reverse, append_cancel_right}
-use Rattle.std.specs.Option.{option_and_then, option_or, option_map_or}
-use Rattle.zre_values.specs.Lists.{without}
+use Rattle.std.specs.Option.{option_map_or}
 use Rattle.zre_outside.specs.declared.entry.Entry.{Entry}
 use Rattle.zre_outside.specs.declared.entry.Input.TheVariants as input
 use Rattle.zre_journal.specs.declared.config.Config.{Config}
-use Rattle.zre_journal.specs.Chronicle.{Mark, Comes, Opens, TurnsAway, Closes, IsShut, ClosesAtStop, Born, Ends, Sends, Joins, Leaves, after, latest, followed, each, ever}
-use Rattle.zre_journal.specs.Connections.{open_ones, is_new, started, start_at, ends, has_ended, runs, refuses, was_used, is_ignored, turns, since, others}
+use Rattle.zre_journal.specs.Chronicle.{Mark, Comes, Opens, TurnsAway, Ends, after}
+use Rattle.zre_journal.specs.Connections.{is_new, turns, since}
 use Rattle.zre_journal.specs.Cutting.{is_entry, but_entries, piece}
 use Rattle.zre_journal.specs.Events.{chronicle}
 use Rattle.zre_journal.specs.Happens.{has_stopped, at_input, marks, with_entry}
 use Rattle.zre_journal.specs.Heard.{clock}
-use Rattle.zre_journal.specs.Links.{groups, status, is_linked, replies, taken}
-use Rattle.zre_journal.specs.Peers.{Life, lives, other_lives, births, refreshes, active}
+use Rattle.zre_journal.specs.Links.{is_linked, replies}
+use Rattle.zre_journal.specs.Peers.{refreshes, active}
 use Rattle.zre_journal.proofs.Always.{is_proper}
-use Rattle.zre_journal.proofs.Cutting.{same_cut}
+use Rattle.zre_journal.proofs.Alike.{same_runs}
+use Rattle.zre_journal.proofs.Cutting.{AreInner, inner_of, inner_clock, same_cut}
 use Rattle.zre_journal.proofs.Going.{are_others}
 use Rattle.zre_journal.proofs.Joined.{continues, after-append}
 use Rattle.zre_journal.proofs.Says.{input_sound}
 use Rattle.zre_journal.proofs.Silent.{Comes-proper}
-use Rattle.zre_net.proofs.Opened.{AreInner, inner_of}
 
 -- ---- marks that are no entries
 
@@ -52,69 +51,13 @@ same_marks hs ks B e =
     ∙ ap reverse (append_cancel_right (reverse hs) (reverse ks) B (sym (onto hs B) ∙ e ∙ onto ks B))
     ∙ reverse-reverse ks
 
--- ---- what marks say, but for those of entries
-
-module _ {A : Type 0} (f : Mark → Option A) (none : (e : Entry) → f (Comes e) ≡ None) where
-  pub latest_but : (H : List Mark) → latest f (but_entries H) ≡ latest f H
-  latest_but [] = refl
-  latest_but (Comes e ∷ H) = latest_but H ∙ ap (λ o. option_or o (latest f H)) (sym (none e))
-  latest_but (h ∷ H) = ap (λ o. option_or (f h) o) (latest_but H)
-
-  pub each_but : (H : List Mark) → each f (but_entries H) ≡ each f H
-  each_but [] = refl
-  each_but (Comes e ∷ H) = each_but H ∙ ap (λ o. followed (each f H) o) (sym (none e))
-  each_but (h ∷ H) = ap (λ xs. followed xs (f h)) (each_but H)
-
-pub ever_but : (t : Mark → Bool) → ((e : Entry) → t (Comes e) ≡ false) → (H : List Mark) → ever t (but_entries H) ≡ ever t H
-ever_but t none [] = refl
-ever_but t none (Comes e ∷ H) = ever_but t none H ∙ ap (λ b. cond b true (ever t H)) (sym (none e))
-ever_but t none (h ∷ H) = ap (λ b. cond (t h) true b) (ever_but t none H)
-
-pub lives_but : (H : List Mark) → lives (but_entries H) ≡ lives H
-lives_but [] = refl
-lives_but (Born l p to ∷ H) = ap (λ (vs : List Life). vs ++ record { link = l; id = p; endpoint = to } ∷ []) (lives_but H)
-lives_but (Ends l why ∷ H) = ap (other_lives l) (lives_but H)
-lives_but (_ ∷ H) = lives_but H
-
-pub births_but : (H : List Mark) → births (but_entries H) ≡ births H
-births_but [] = refl
-births_but (Born l p to ∷ H) = ap (λ n. n + 1) (births_but H)
-births_but (_ ∷ H) = births_but H
-
-pub open_but : (H : List Mark) → open_ones (but_entries H) ≡ open_ones H
-open_but [] = refl
-open_but (Opens c ∷ H) = ap (λ cs. cs ++ c ∷ []) (open_but H)
-open_but (Closes c why ∷ H) = ap (others c) (open_but H)
-open_but (IsShut c ∷ H) = ap (others c) (open_but H)
-open_but (ClosesAtStop c ∷ H) = ap (others c) (open_but H)
-open_but (_ ∷ H) = open_but H
+-- ---- connections that are new, but for the marks of entries
 
 pub new_but : (c : ℕ) (H : List Mark) → is_new c (but_entries H) ≡ is_new c H
 new_but c [] = refl
 new_but c (Opens d ∷ H) = ap (λ b. ltb d c && b) (new_but c H)
 new_but c (TurnsAway d ∷ H) = ap (λ b. ltb d c && b) (new_but c H)
 new_but c (_ ∷ H) = new_but c H
-
-pub groups_but : (H : List Mark) → groups (but_entries H) ≡ groups H
-groups_but [] = refl
-groups_but (Joins group ∷ H) = ap (λ gs. gs ++ group ∷ []) (groups_but H)
-groups_but (Leaves group ∷ H) = ap (without group) (groups_but H)
-groups_but (_ ∷ H) = groups_but H
-
-pub status_but : (H : List Mark) → status (but_entries H) ≡ status H
-status_but [] = refl
-status_but (Joins group ∷ H) = ap (λ n. (n + 1) % 256) (status_but H)
-status_but (Leaves group ∷ H) = ap (λ n. (n + 1) % 256) (status_but H)
-status_but (_ ∷ H) = status_but H
-
-pub taken_but : (l : ℕ) (H : List Mark) → taken l (but_entries H) ≡ taken l H
-taken_but l [] = refl
-taken_but l (Sends k n ∷ H) = ap (λ m. cond (eqb l k) (m + n) m) (taken_but l H)
-taken_but l (_ ∷ H) = taken_but l H
-
-unless_same : (s t : ℕ → Bool) (o : Option ℕ) → ((l : ℕ) → s l ≡ t l) → option_and_then (λ l. cond (s l) None (Some l)) o ≡ option_and_then (λ l. cond (t l) None (Some l)) o
-unless_same s t None e = refl
-unless_same s t (Some l) e = ap (λ b. cond b None (Some l)) (e l)
 
 -- ---- chronicles in which the same came about at the same times
 
@@ -125,25 +68,9 @@ pub record Sim (K L : List Mark) : Type 0 where
   pub sinces : (c : ℕ) → since c K ≡ since c L
   pub replied : (l : ℕ) → replies l K ≡ replies l L
 
-module _ (K L : List Mark) (alike : but_entries K ≡ but_entries L) where
-  pub by_marks : {A : Type 0} (O : List Mark → A) → ((H : List Mark) → O (but_entries H) ≡ O H) → O K ≡ O L
-  by_marks O l = sym (l K) ∙ ap O alike ∙ l L
-
-  same_started : (c : ℕ) → started c K ≡ started c L
-  same_started c = by_marks (started c) (latest_but (start_at c) (λ e. refl))
-
-  pub same_runs : (c : ℕ) → runs c K ≡ runs c L
-  same_runs c = ap (option_and_then (λ l. cond (has_ended l K) None (Some l))) (same_started c)
-      ∙ unless_same (λ l. has_ended l K) (λ l. has_ended l L) (started c L) (λ l. by_marks (has_ended l) (ever_but (ends l) (λ e. refl)))
-
-  pub same_ignored : (c : ℕ) → is_ignored c K ≡ is_ignored c L
-  same_ignored c = ap (λ o. is_none o && was_used c K) (same_runs c)
-      ∙ ap (λ b. is_none (runs c L) && (b || is_some (started c K))) (by_marks (ever (refuses c)) (ever_but (refuses c) (λ e. refl)))
-      ∙ ap (λ o. is_none (runs c L) && (ever (refuses c) L || is_some o)) (same_started c)
-
-  same_turns : (c : ℕ) (h : Mark) → turns c K h ≡ turns c L h
-  same_turns c (Ends l why) = ap (λ o. option_map_or (eqb l) o false) (same_runs c)
-  same_turns c _ = refl
+same_turns : (K L : List Mark) → but_entries K ≡ but_entries L → (c : ℕ) (h : Mark) → turns c K h ≡ turns c L h
+same_turns K L alike c (Ends l why) = ap (λ o. option_map_or (eqb l) o false) (same_runs K L alike c)
+same_turns K L alike c _ = refl
 
 -- one mark more, which is no entry
 one_more : (h : Mark) (K L : List Mark) → is_entry h ≡ false → Sim K L → Sim (h ∷ K) (h ∷ L)
@@ -184,14 +111,6 @@ once_more K L at c b low s = record {
     nothing : (t : Bool) → cond {A = List ℕ} t [] [] ≡ []
     nothing true = refl
     nothing false = refl
-
-inner_clock : (hs K : List Mark) → AreInner hs → clock (after hs K) ≡ clock K
-inner_clock [] K n = refl
-inner_clock (h ∷ hs) K n = inner_clock hs (h ∷ K) n.1 ∙ one h n.0
-  where
-    one : (h : Mark) → is_entry h ≡ false → clock (h ∷ K) ≡ clock K
-    one (Comes e) z = absurd (true≢false z)
-    one _ z = refl
 
 -- ---- a piece that is cut
 

@@ -15,6 +15,12 @@ use Rattle.zre_net.specs.History.{Incarnation, Turn, Happening, Happens, running
 abbrev pub acts_of : Turn → List Happening → List Act
 acts_of t H = acts_at t.who.settings t.entry (chronicle_of t.who H)
 
+-- what the acts of all turns so far come to, in order
+abbrev pub all_of : {T : Type 0} → (Incarnation → Act → Option T) → List Happening → List T
+all_of f [] = []
+all_of f (Happens m None ∷ H) = all_of f H
+all_of f (Happens m (Some t) ∷ H) = all_of f H ++ filter_map (f t.who) (acts_of t H)
+
 -- ---- beacons
 
 -- a beacon, and who sent it
@@ -28,9 +34,7 @@ broadcast_in a _ = None
 
 -- all beacons so far, in order
 abbrev pub broadcasts : List Happening → List Broadcast
-broadcasts [] = []
-broadcasts (Happens m None ∷ H) = broadcasts H
-broadcasts (Happens m (Some t) ∷ H) = broadcasts H ++ filter_map (broadcast_in t.who) (acts_of t H)
+broadcasts H = all_of broadcast_in H
 
 -- ---- links
 
@@ -45,9 +49,7 @@ route_in a _ = None
 
 -- all links so far, in order
 abbrev pub routes : List Happening → List Route
-routes [] = []
-routes (Happens m None ∷ H) = routes H
-routes (Happens m (Some t) ∷ H) = routes H ++ filter_map (route_in t.who) (acts_of t H)
+routes H = all_of route_in H
 
 -- the messages that were put on a link
 abbrev pub queued_on : Route → List Happening → List Message
