@@ -10,25 +10,13 @@ use zre_zmtp::{Items, Reader, ZmtpFault};
 
 /// The machine of `follow`: the traffic of one connection, after its handshake, of a peer that is known. It keeps
 /// the octets of an unfinished message, and reads no more once the run has ended.
+#[derive(Drop)]
 pub struct Follower {
     alloc: Global,
     reader: Reader,
     fault: Option<ZmtpFault>,
     run: Teller,
     items: Items,
-}
-
-// By hand: docs/DECISIONS.md says why, at "Drops by hand".
-impl Drop for Follower {
-    fn drop(self) {
-        let Follower {
-            alloc: _,
-            reader: _reader,
-            fault: _fault,
-            run: _run,
-            items: _items,
-        } = self;
-    }
 }
 
 impl Follower {

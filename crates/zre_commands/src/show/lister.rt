@@ -9,23 +9,12 @@ use zre_zmtp::{Items, Reader, ZmtpFault};
 
 /// The machine of `show`: a whole stream, from the greeting on. It keeps the octets of an unfinished message, and the
 /// items of the last piece.
+#[derive(Drop)]
 pub struct Lister {
     alloc: Global,
     reader: Reader,
     fault: Option<ZmtpFault>,
     items: Items,
-}
-
-// By hand: docs/DECISIONS.md says why, at "Drops by hand".
-impl Drop for Lister {
-    fn drop(self) {
-        let Lister {
-            alloc: _,
-            reader: _reader,
-            fault: _fault,
-            items: _items,
-        } = self;
-    }
 }
 
 impl Lister {

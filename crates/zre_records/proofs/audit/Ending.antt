@@ -12,7 +12,7 @@ use Rattle.zre_records.specs.audit.Auditor.{Fed}
 use Rattle.zre_records.specs.audit.Cut.{mark, lines_of}
 use Rattle.zre_records.specs.audit.Later.{IsLater}
 use Rattle.zre_records.specs.audit.Seam.{is_whole, after, before_seam}
-use Rattle.zre_records.specs.audit.Watched.{Follows, IsWatched}
+use Rattle.zre_records.specs.audit.Watched.{Watched, IsWatched}
 use Rattle.zre_records.specs.declared.audit.auditor.Auditor.{Auditor}
 use Rattle.zre_records.specs.declared.audit.later.Later.{Later}
 use Rattle.zre_records.proofs.audit.Feeding.{HasSeen, has_seen, not_begun}
@@ -24,7 +24,7 @@ lines_are a o f = omega (arith, f.seam.lines)
 
 -- ---- refused however it goes on
 
-pub first_is : (a : Auditor) (o : List ℕ) (b : Bool) → Fed a o → ((u : List ℕ) → Follows a.first u → b ≡ is_some (bad Second u)) → b ≡ is_some (bad Second (earlier o))
+pub first_is : (a : Auditor) (o : List ℕ) (b : Bool) → Fed a o → ((u : List ℕ) → Watched a.first u → b ≡ is_some (bad Second u)) → b ≡ is_some (bad Second (earlier o))
 first_is a o b f h = h (before_seam o) f.first ∙ sym (ap is_some (is_earlier o).bad_is)
 
 pub second_none : (a : Auditor) (o : List ℕ) → Fed a o → a.second ≡ None → false ≡ is_some (later_bad (settings Second (earlier o)) (later o))
@@ -76,7 +76,7 @@ place_alone a o b found n column f e is none c lines found_is =
 
 -- ---- since
 
-pub place_before : (a : Auditor) (o : List ℕ) (l : Later) (b : Option BadCapture) (at : BadCapture) → Fed a o → a.second ≡ Some l → ((u : List ℕ) → Follows a.first u → b ≡ bad Second u) → b ≡ Some at → Some at ≡ place o
+pub place_before : (a : Auditor) (o : List ℕ) (l : Later) (b : Option BadCapture) (at : BadCapture) → Fed a o → a.second ≡ Some l → ((u : List ℕ) → Watched a.first u → b ≡ bad Second u) → b ≡ Some at → Some at ≡ place o
 place_before a o l b at f e is some = by (has_seen a o l f e)
   where
     by : HasSeen a o l → Some at ≡ place o
@@ -84,7 +84,7 @@ place_before a o l b at f e is some = by (has_seen a o l f e)
         sym (place_both o c t q
         ∙ ap (λ (x : Option BadCapture). option_or x (option_map (moved (lines_of (before_seam o))) (later_bad_at_end (settings Second (before_seam o)) (mark ++ c ∷ t)))) (sym (is (before_seam o) f.first) ∙ some))
 
-pub place_later : (a : Auditor) (o : List ℕ) (l : Later) (b last found : Option BadCapture) (n : ℕ) → Fed a o → a.second ≡ Some l → ((u : List ℕ) → Follows a.first u → b ≡ bad Second u) → b ≡ None
+pub place_later : (a : Auditor) (o : List ℕ) (l : Later) (b last found : Option BadCapture) (n : ℕ) → Fed a o → a.second ≡ Some l → ((u : List ℕ) → Watched a.first u → b ≡ bad Second u) → b ≡ None
     → ((told : Option Settings) (y : List ℕ) → IsLater told y l → last ≡ later_bad_at_end told y) → n ≡ a.seam.lines → found ≡ option_map (moved n) last → found ≡ place o
 place_later a o l b last found n f e is none last_is lines found_is = by (has_seen a o l f e)
   where
@@ -101,13 +101,13 @@ pub judged_none : (a : Auditor) (o out : List ℕ) → Fed a o → a.second ≡ 
 judged_none a o out f e = sym (ap (λ (x : List ℕ). out ++ x) (no_verdict o (not_begun a o f e)) ∙ append-nil out)
 
 pub judged_both : {E : Type 0} (r : Result Unit E) (a : Auditor) (o : List ℕ) (l : Later) (out out' : List ℕ) → Fed a o → a.second ≡ Some l
-    → ((s t : Option Settings) (J K : List Entry) → IsWatched s J a.first.watch → IsWatched t K l.capture.watch → OnOk r (out' ≡ out ++ judgement s t J K)) → OnOk r (out' ≡ out ++ verdict o)
+    → ((s t : Option Settings) (J K : List Entry) → IsWatched s J a.first.made → IsWatched t K l.capture.made → OnOk r (out' ≡ out ++ judgement s t J K)) → OnOk r (out' ≡ out ++ verdict o)
 judged_both r a o l out out' f e h = by (has_seen a o l f e)
   where
     by : HasSeen a o l → OnOk r (out' ≡ out ++ verdict o)
     by (Seen c t q k) =
         subst (λ (x : List ℕ). OnOk r (out' ≡ out ++ x)) (sym (verdict_both o c t q))
-        (h (settings Second (before_seam o)) (settings Second (mark ++ c ∷ t)) (journal Second (before_seam o)) (journal Second (mark ++ c ∷ t)) f.first.watched k.follows.watched)
+        (h (settings Second (before_seam o)) (settings Second (mark ++ c ∷ t)) (journal Second (before_seam o)) (journal Second (mark ++ c ∷ t)) f.first.lives k.follows.lives)
 
 -- what holds of an answer, where another thing follows from it
 pub if_ok : {T E : Type 0} (r : Result T E) (P Q : T → Type 0) → IfOk r P → ((x : T) → P x → Q x) → IfOk r Q

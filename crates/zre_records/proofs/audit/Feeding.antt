@@ -4,6 +4,7 @@ use Rattle.std.specs.Prelude.{is_some}
 use Rattle.std.proofs.lemmas.Bool.{or_parts}
 use Rattle.std.proofs.lemmas.List.{drop_more}
 use Rattle.zre_values.proofs.Answered.{on_ok}
+use Rattle.zre_audit.specs.declared.watch.Watch.{Watch}
 use Rattle.zre_capture.specs.Journal.{settings, bad}
 use Rattle.zre_capture.specs.declared.format.Format.TheVariants.{Second}
 use Rattle.zre_capture.specs.declared.settings.Settings.{Settings}
@@ -12,16 +13,16 @@ use Rattle.zre_records.specs.audit.Auditor.{unseen, HasBegun, Fed}
 use Rattle.zre_records.specs.audit.Cut.{mark}
 use Rattle.zre_records.specs.audit.Later.{IsLater}
 use Rattle.zre_records.specs.audit.Seam.{Seeking, parted, before_seam, from_seam, HasPassed, IsUnparted, IsParted}
-use Rattle.zre_records.specs.audit.Watched.{Follows}
+use Rattle.zre_records.specs.audit.Watched.{Watched}
 use Rattle.zre_records.specs.declared.audit.auditor.Auditor.{Auditor}
 use Rattle.zre_records.specs.declared.audit.later.Later.{Later}
-use Rattle.zre_records.specs.declared.audit.watched.Watched.{Watched}
+use Rattle.zre_records.specs.declared.replay.headed.Headed.{Headed}
 use Rattle.zre_records.proofs.audit.Cutting.{parted_later, parted_on, all_before}
 use Rattle.zre_records.proofs.audit.Placing.{stopped_first, stopped_both, mark_not_bad}
 use Rattle.zre_records.proofs.audit.Seeking.{passed_more}
 
 -- before any octet
-pub nothing_fed : (a : Auditor) → a.seam.awaited ≡ None → a.seam.lines ≡ 0 → Follows a.first [] → a.second ≡ None → Fed a []
+pub nothing_fed : (a : Auditor) → a.seam.awaited ≡ None → a.seam.lines ≡ 0 → Watched a.first [] → a.second ≡ None → Fed a []
 nothing_fed a m n f s = record {
   seam = record { awaited = m; lines = n };
   first = f;
@@ -43,7 +44,7 @@ pub record IsFirst (a : Auditor) (o : List ℕ) : Type 0 where
   pub rest : from_seam o ≡ []
   pub all : before_seam o ≡ o
   pub seam : HasPassed unseen o a.seam
-  pub first : Follows a.first o
+  pub first : Watched a.first o
 
 pub is_first : (a : Auditor) (o : List ℕ) → Fed a o → a.second ≡ None → IsFirst a o
 is_first a o f e =
@@ -53,14 +54,14 @@ is_first a o f e =
       rest = n;
       all = all;
       seam = subst (λ (u : List ℕ). HasPassed unseen u a.seam) all f.seam;
-      first = subst (λ (u : List ℕ). Follows a.first u) all f.first;
+      first = subst (λ (u : List ℕ). Watched a.first u) all f.first;
     }
 
 pub first_going : (o : List ℕ) → from_seam o ≡ [] → before_seam o ≡ o → audit.is_stopped o ≡ false → is_some (bad Second o) ≡ false
 first_going o n all going = ap (λ (u : List ℕ). is_some (bad Second u)) (sym all) ∙ sym (stopped_first o n) ∙ going
 
 -- a piece without the octet that shows it
-pub piece_unparted : (a b : Auditor) (o x : List ℕ) → IsFirst a o → IsUnparted a.seam x b.seam → Follows b.first (o ++ x) → b.second ≡ None → Fed b (o ++ x)
+pub piece_unparted : (a b : Auditor) (o x : List ℕ) → IsFirst a o → IsUnparted a.seam x b.seam → Watched b.first (o ++ x) → b.second ≡ None → Fed b (o ++ x)
 piece_unparted a b o x k u f s =
     let parts : parted None (o ++ x) ≡ (o ++ x, []) =
     parted_on None o x k.rest
@@ -70,7 +71,7 @@ piece_unparted a b o x k u f s =
     let rest : from_seam (o ++ x) ≡ [] = ap (λ (c : List ℕ × List ℕ). c.1) parts in
     record {
       seam = subst (λ (v : List ℕ). HasPassed unseen v b.seam) (sym front) (passed_more unseen a.seam b.seam o x k.seam u.passed);
-      first = subst (λ (v : List ℕ). Follows b.first v) (sym front) f;
+      first = subst (λ (v : List ℕ). Watched b.first v) (sym front) f;
       second = subst (λ (t : List ℕ). HasBegun (settings Second (before_seam (o ++ x))) t b.second) (sym rest)
           (subst (λ (l : Option Later). HasBegun (settings Second (before_seam (o ++ x))) [] l) (sym s) tt);
     }
@@ -81,7 +82,7 @@ begun_with told x i l lt k =
     subst (λ (t : List ℕ). HasBegun told t (Some l)) (sym some) (subst (λ (t : List ℕ). IsLater told (mark ++ t) l) some k)
 
 -- and one with it
-pub piece_parted : (a b : Auditor) (o x : List ℕ) (i : ℕ) (l : Later) → IsFirst a o → IsParted a.seam x i b.seam → Follows b.first (o ++ take i x)
+pub piece_parted : (a b : Auditor) (o x : List ℕ) (i : ℕ) (l : Later) → IsFirst a o → IsParted a.seam x i b.seam → Watched b.first (o ++ take i x)
     → IsLater (settings Second (o ++ take i x)) (mark ++ drop i x) l → b.second ≡ Some l → Fed b (o ++ x)
 piece_parted a b o x i l k u f later s =
     let parts : parted None (o ++ x) ≡ (o ++ take i x, drop i x) =
@@ -92,7 +93,7 @@ piece_parted a b o x i l k u f later s =
     let rest : from_seam (o ++ x) ≡ drop i x = ap (λ (c : List ℕ × List ℕ). c.1) parts in
     record {
       seam = subst (λ (v : List ℕ). HasPassed unseen v b.seam) (sym front) (passed_more unseen a.seam b.seam o (take i x) k.seam u.passed);
-      first = subst (λ (v : List ℕ). Follows b.first v) (sym front) f;
+      first = subst (λ (v : List ℕ). Watched b.first v) (sym front) f;
       second = subst (λ (v : List ℕ). HasBegun (settings Second v) (from_seam (o ++ x)) b.second) (sym front)
           (subst (λ (t : List ℕ). HasBegun (settings Second (o ++ take i x)) t b.second) (sym rest)
           (subst (λ (n : Option Later). HasBegun (settings Second (o ++ take i x)) (drop i x) n) (sym s) (begun_with (settings Second (o ++ take i x)) x i l u.within later)));
@@ -133,7 +134,7 @@ piece_later r a b o x l m f e going taken seam first second = by (has_seen a o l
         let rest : from_seam (o ++ x) ≡ c ∷ (t ++ x) = ap (λ (p : List ℕ × List ℕ). p.1) parts ∙ ap (λ (y : List ℕ). y ++ x) q in
         record {
           seam = subst (λ (v : List ℕ). HasPassed unseen v b.seam) (sym front) (subst (λ (s : Seeking). HasPassed unseen (before_seam o) s) (sym seam) f.seam);
-          first = subst (λ (v : List ℕ). Follows b.first v) (sym front) (subst (λ (w : Watched). Follows w (before_seam o)) (sym first) f.first);
+          first = subst (λ (v : List ℕ). Watched b.first v) (sym front) (subst (λ (w : Headed Watch). Watched w (before_seam o)) (sym first) f.first);
           second = subst (λ (v : List ℕ). HasBegun (settings Second v) (from_seam (o ++ x)) b.second) (sym front)
               (subst (λ (y : List ℕ). HasBegun (settings Second (before_seam o)) y b.second) (sym rest)
               (subst (λ (n : Option Later). HasBegun (settings Second (before_seam o)) (c ∷ (t ++ x)) n) (sym second) more));

@@ -4,6 +4,7 @@ use Rattle.std.specs.Option.{option_map_or}
 use Rattle.zre_capture.specs.Journal.{journal, settings}
 use Rattle.zre_capture.specs.declared.format.Format.TheVariants.{Second}
 use Rattle.zre_capture.specs.declared.settings.Settings.{Settings}
+use Rattle.zre_node.specs.Journal.{StandsFor}
 use Rattle.zre_node.specs.declared.node.Node.{Node}
 use Rattle.zre_outside.specs.declared.entry.Entry.{Entry}
 use Rattle.zre_shared.specs.Lines.{lines}
@@ -44,9 +45,9 @@ living_first group J None (Some m) h e l k = absurd l
 living_first group J (Some s) m h e l k = living group J s m h l (subst (λ (K : List Entry). Keeps (frames (as_config s) group K) h) (sym e) k)
 
 -- before any octet
-pub nothing_gathered : (group : List ℕ) (h : Headed) (held : Held) → Follows h [] → held.writes ≡ [] → GatheredIfAny (settings Second []) group (journal Second []) h.node held
+pub nothing_gathered : (group : List ℕ) (h : Headed Node) (held : Held) → Follows (λ g J n. StandsFor g J n) h [] → held.writes ≡ [] → GatheredIfAny (settings Second []) group (journal Second []) h.made held
 nothing_gathered group h held f e =
-    living_first group (journal Second []) (settings Second []) h.node held (no_journal [] no_settings) f.lives (nothing_kept held e)
+    living_first group (journal Second []) (settings Second []) h.made held (no_journal [] no_settings) f.lives (nothing_kept held e)
 
 -- what is told by now, before the node took more
 pub gathered_before : (group : List ℕ) (J : List Entry) (before told : Option Settings) (n m : Option Node) (h : Held) → GatheredIfAny before group J n h → AreStill before J told → Lives told J m
@@ -63,23 +64,23 @@ lives_with group J (Some s) None h k = absurd k
 lives_with group J (Some s) (Some n) h k = k.stands
 
 -- what the machine knew, of the node that lives after a piece was read
-piece_before : (t : Tabulator) (o x : List ℕ) (es : List Entry) (h : Headed) → Fed t o → HasRead o x es h → GatheredIfAny (settings Second (o ++ x)) t.group (journal Second o) h.node t.replica
+piece_before : (t : Tabulator) (o x : List ℕ) (es : List Entry) (h : Headed Node) → Fed t o → HasRead (λ g J n. StandsFor g J n) o x es h → GatheredIfAny (settings Second (o ++ x)) t.group (journal Second o) h.made t.replica
 piece_before t o x es h f r =
-    gathered_before t.group (journal Second o) (settings Second o) (settings Second (o ++ x)) t.headed.node h.node t.replica f.gathered (tells o x (settings Second (o ++ x)) refl).still r.lives
+    gathered_before t.group (journal Second o) (settings Second o) (settings Second (o ++ x)) t.headed.made h.made t.replica f.gathered (tells o x (settings Second (o ++ x)) refl).still r.lives
 
 -- so the machine was fed the piece, once its entries were taken by this node: q is its group, where it was lent
-pub piece_taken : (t : Tabulator) (o x : List ℕ) (es : List Entry) (h : Headed) (n : Option Node) (held : Held) (q : List ℕ) → Fed t o → HasRead o x es h → q ≡ t.group
-    → (GatheredIfAny (settings Second (o ++ x)) q (journal Second o) h.node t.replica → GatheredIfAny (settings Second (o ++ x)) q (journal Second o ++ es) n held)
+pub piece_taken : (t : Tabulator) (o x : List ℕ) (es : List Entry) (h : Headed Node) (n : Option Node) (held : Held) (q : List ℕ) → Fed t o → HasRead (λ g J n. StandsFor g J n) o x es h → q ≡ t.group
+    → (GatheredIfAny (settings Second (o ++ x)) q (journal Second o) h.made t.replica → GatheredIfAny (settings Second (o ++ x)) q (journal Second o ++ es) n held)
     → GatheredIfAny (settings Second (o ++ x)) t.group (journal Second (o ++ x)) n held
 piece_taken t o x es h n held q f r lent taken =
     subst (λ (K : List Entry). GatheredIfAny (settings Second (o ++ x)) t.group K n held) (sym r.more)
     (subst (λ (p : List ℕ). GatheredIfAny (settings Second (o ++ x)) p (journal Second o ++ es) n held) lent
-    (taken (subst (λ (p : List ℕ). GatheredIfAny (settings Second (o ++ x)) p (journal Second o) h.node t.replica) (sym lent) (piece_before t o x es h f r))))
+    (taken (subst (λ (p : List ℕ). GatheredIfAny (settings Second (o ++ x)) p (journal Second o) h.made t.replica) (sym lent) (piece_before t o x es h f r))))
 
 -- the lines of what is held then
 pub text_is : (t : Tabulator) (o : List ℕ) → Fed t o → lines t.replica.writes ≡ text t.group o
 unfolding table_of
-text_is t o f = by (settings Second o) t.headed.node f.gathered
+text_is t o f = by (settings Second o) t.headed.made f.gathered
   where
     by : (told : Option Settings) (n : Option Node) → GatheredIfAny told t.group (journal Second o) n t.replica
         → lines t.replica.writes ≡ option_map_or (λ (s : Settings). lines (table_of (writes (as_config s) t.group (journal Second o)))) told []

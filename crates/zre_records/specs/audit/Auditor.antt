@@ -6,7 +6,7 @@ use Rattle.zre_capture.specs.declared.settings.Settings.{Settings}
 use Rattle.zre_records.specs.audit.Cut.{mark}
 use Rattle.zre_records.specs.audit.Later.{IsLater}
 use Rattle.zre_records.specs.audit.Seam.{Seeking, HasPassed, before_seam, from_seam}
-use Rattle.zre_records.specs.audit.Watched.{Follows}
+use Rattle.zre_records.specs.audit.Watched.{Watched}
 use Rattle.zre_records.specs.declared.audit.auditor.Auditor.{Auditor}
 use Rattle.zre_records.specs.declared.audit.later.Later.{Later}
 
@@ -25,5 +25,5 @@ HasBegun told (b ∷ o) (Some l) = IsLater told (mark ++ b ∷ o) l
 -- tells nothing.
 pub record Fed (a : Auditor) (o : List ℕ) : Type 0 where
   pub seam : HasPassed unseen (before_seam o) a.seam
-  pub first : Follows a.first (before_seam o)
+  pub first : Watched a.first (before_seam o)
   pub second : HasBegun (settings Second (before_seam o)) (from_seam o) a.second

@@ -13,7 +13,8 @@ ghost use Rattle.zre_commands.specs.pump.Meaning.{is_stop};
 
 use crate::audit::later::Later;
 use crate::audit::seam::Seam;
-use crate::audit::watched::Watched;
+use crate::audit::watched::take;
+use crate::replay::headed::Headed;
 use crate::replay::reading::push_refusal;
 use std::alloc::Global;
 use zre_audit::{Watch, verdict};
@@ -23,24 +24,13 @@ use zre_values::{Octets, OutOfMemory};
 
 /// The machine of `audit`: two captures of format 2, one after the other, each read as it comes and told to the watch
 /// of its node. It keeps the octets of an unfinished line, and what was said by both nodes. The journals aren't kept.
+#[derive(Drop)]
 pub struct Auditor {
     alloc: Global,
     seam: Seam,
-    first: Watched,
+    first: Headed<Watch>,
     // None until it has begun.
     second: Option<Later>,
-}
-
-// By hand: docs/DECISIONS.md says why, at "Drops by hand".
-impl Drop for Auditor {
-    fn drop(self) {
-        let Auditor {
-            alloc: _,
-            seam: _seam,
-            first: _first,
-            second: _second,
-        } = self;
-    }
 }
 
 // The same place, counted from the first of some lines before it.
@@ -83,7 +73,7 @@ impl Auditor {
         Auditor {
             alloc,
             seam: Seam::new(),
-            first: Watched::new(alloc),
+            first: Headed::new(alloc),
             second: None,
         }
     }
@@ -94,9 +84,9 @@ impl Auditor {
             → OnOk result (Fed self.new (o ++ piece.now)) }
     {
         match self.seam.find(piece)? {
-            None => self.first.take(piece),
+            None => take(&mut self.first, piece),
             Some(place) => {
-                self.first.take(&piece[..place])?;
+                take(&mut self.first, &piece[..place])?;
                 let mut second = Later::new(self.alloc, self.first.pieces.settings())?;
                 second.take(&piece[place..])?;
                 self.second = Some(second);
@@ -192,7 +182,7 @@ impl Auditor {
         ensures { (o : List ℕ) → Fed self.now o → OnOk result (out.new ≡ out.old ++ verdict_of o) }
     {
         match &self.second {
-            Some(second) => push_judgement(&self.first.watch, &second.capture.watch, out),
+            Some(second) => push_judgement(&self.first.made, &second.capture.made, out),
             None => Ok(()),
         }
     }

@@ -8,14 +8,16 @@ ghost use Rattle.zre_records.specs.audit.Later.{IsLater};
 
 use crate::audit::again::{Again, is_same, see, unseen};
 use crate::audit::seam::MARK;
-use crate::audit::watched::Watched;
+use crate::audit::watched::take;
+use crate::replay::headed::Headed;
 use std::alloc::Global;
+use zre_audit::Watch;
 use zre_capture::{BadCapture, Settings};
 use zre_values::OutOfMemory;
 
 /// The second capture as it is read, and whether it is of the node of the first.
 pub(crate) struct Later {
-    pub capture: Watched,
+    pub capture: Headed<Watch>,
     again: Option<Again>,
 }
 
@@ -36,7 +38,7 @@ impl Later {
     {
         let mut later = Later {
             again: unseen(alloc, told)?,
-            capture: Watched::new(alloc),
+            capture: Headed::new(alloc),
         };
         later.take(&MARK)?;
         Ok(later)
@@ -48,7 +50,7 @@ impl Later {
             → is_some (later_bad told o) ≡ false → OnOk result (IsLater told (o ++ piece.now) self.new) }
     {
         see(&mut self.again, piece)?;
-        self.capture.take(piece)
+        take(&mut self.capture, piece)
     }
 
     /// Whether it is bad, whatever follows.

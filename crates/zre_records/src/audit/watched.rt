@@ -1,65 +1,33 @@
 //! A capture of format 2 that is read in pieces, and the watch of its node.
 
-ghost use Rattle.std.specs.Prelude.{◌≡◌, ℕ, List, [], ◌++◌, false, is_some, Option, option_map, OnOk};
+ghost use Rattle.std.specs.Prelude.{◌≡◌, ℕ, List, [], ◌++◌, true, false, is_some, Option, IfOk, OnOk};
 ghost use Rattle.zre_outside.specs.declared.entry.Entry.{Entry as EntryValue};
-ghost use Rattle.zre_journal.specs.declared.config.Config.{Config};
+ghost use Rattle.zre_journal.specs.declared.config.Config.{Config as ConfigValue};
 ghost use Rattle.zre_capture.specs.Journal.{bad};
 ghost use Rattle.zre_capture.specs.declared.format.Format.TheVariants.{Second};
 ghost use Rattle.zre_capture.specs.declared.settings.Settings.{Settings as SettingsValue};
 ghost use Rattle.zre_audit.specs.Watching.{Watches};
-ghost use Rattle.zre_records.specs.audit.Watched.{Follows, IsWatched};
-ghost use Rattle.zre_records.specs.replay.Lives.{Tells};
+ghost use Rattle.zre_records.specs.audit.Watched.{Watched, IsWatched};
 
-use crate::replay::lives::config_due;
-use crate::replay::reading::Pieces;
+use crate::replay::headed::Headed;
+use crate::replay::lives::Lived;
 use std::alloc::Global;
 use zre_audit::Watch;
-use zre_capture::{CaptureReader, Settings};
+use zre_journal::Config;
 use zre_outside::Entries;
 use zre_values::OutOfMemory;
 
-/// How far a capture is read, and the watch of the node with the settings that its head says.
-pub(crate) struct Watched {
-    alloc: Global,
-    pub pieces: Pieces,
-    /// None until the head is whole, and where it is bad.
-    pub watch: Option<Watch>,
-}
+impl Lived for Watch {
+    ghost stands = { λ g J w. Watches g J w };
 
-// By hand: docs/DECISIONS.md says why, at "Drops by hand".
-impl Drop for Watched {
-    fn drop(self) {
-        let Watched {
-            alloc: _,
-            pieces: _pieces,
-            watch: _watch,
-        } = self;
-    }
-}
-
-// Makes the watch once the settings are told.
-fn make_watch(
-    alloc: Global,
-    watch: &mut Option<Watch>,
-    told: Option<&Settings>,
-) -> Result<(), OutOfMemory>
-    ensures { (before : Option SettingsValue) (J : List EntryValue) → IsWatched before J watch.old
-        → Tells before J (option_map (λ s. s.now) told.entry)
-        → OnOk result (IsWatched (option_map (λ s. s.now) told.entry) J watch.new) }
-{
-    match config_due(alloc, watch.is_some(), told)? {
-        Some(config) => {
-            let made = Watch::new(alloc, config)?;
-            *watch = Some(made);
-            Ok(())
-        }
-        None => Ok(()),
+    fn begin(alloc: Global, config: Config) -> Result<Watch, OutOfMemory> {
+        Watch::new(alloc, config)
     }
 }
 
 // The watch takes entries, one after the other. The list that is handed back has their memory.
 fn watch_entries(watch: &mut Watch, entries: Entries) -> Result<Entries, OutOfMemory>
-    ensures { (g : Config) (J : List EntryValue) → Watches g J watch.old
+    ensures { (g : ConfigValue) (J : List EntryValue) → Watches g J watch.old
         → OnOk result (Watches g (J ++ entries) watch.new) }
 {
     let mut items = entries.into_vec();
@@ -80,28 +48,13 @@ fn watch_if_any(watch: &mut Option<Watch>, entries: Entries) -> Result<Entries, 
     }
 }
 
-impl Watched {
-    /// Expects the head, of which no octet has come yet.
-    pub fn new(alloc: Global) -> Watched
-        ensures { Follows result [] }
-    {
-        let reader = CaptureReader::second(alloc);
-        Watched {
-            alloc,
-            pieces: Pieces::new(alloc, reader),
-            watch: None,
-        }
-    }
-
-    /// Reads a piece, and tells the watch the entries of the lines that are whole by it.
-    pub fn take(&mut self, piece: &[u8]) -> Result<(), OutOfMemory>
-        ensures { (o : List ℕ) → Follows self.old o → is_some (bad Second o) ≡ false
-            → OnOk result (Follows self.new (o ++ piece.now)) }
-    {
-        let entries = self.pieces.read(piece)?;
-        make_watch(self.alloc, &mut self.watch, self.pieces.settings())?;
-        let emptied = watch_if_any(&mut self.watch, entries)?;
-        self.pieces.give_back(emptied);
-        Ok(())
-    }
+/// Reads a piece, and tells the watch the entries of the lines that are whole by it.
+pub(crate) fn take(watched: &mut Headed<Watch>, piece: &[u8]) -> Result<(), OutOfMemory>
+    ensures { (o : List ℕ) → Watched watched.old o → is_some (bad Second o) ≡ false
+        → OnOk result (Watched watched.new (o ++ piece.now)) }
+{
+    let entries = watched.read(piece)?;
+    let emptied = watch_if_any(&mut watched.made, entries)?;
+    watched.pieces.give_back(emptied);
+    Ok(())
 }

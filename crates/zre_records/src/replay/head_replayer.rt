@@ -4,20 +4,15 @@ use crate::replay::headed::Headed;
 use crate::replay::lives::take_if_any;
 use std::alloc::Global;
 use zre_commands::pump::{Going, Machine};
+use zre_node::Node;
 use zre_values::{Octets, OutOfMemory};
 
 /// The machine of `replay` without words: a node with the settings that the head of a capture of format 2 says, to
 /// which its entries are told as they come. It keeps the octets of an unfinished line, and a list that is used again
 /// for the entries of each piece. The journal isn't kept.
+#[derive(Drop)]
 pub struct HeadReplayer {
-    headed: Headed,
-}
-
-// By hand: docs/DECISIONS.md says why, at "Drops by hand".
-impl Drop for HeadReplayer {
-    fn drop(self) {
-        let HeadReplayer { headed: _headed } = self;
-    }
+    headed: Headed<Node>,
 }
 
 impl HeadReplayer {
@@ -50,7 +45,7 @@ impl Machine for HeadReplayer {
     #[tactic(auto, using(crate::proofs::replay::HeadFeeding::text_grows))]
     fn feed(&mut self, piece: &[u8], out: &mut Octets) -> Result<Going, OutOfMemory> {
         let entries = self.headed.read(piece)?;
-        let emptied = take_if_any(&mut self.headed.node, entries, out)?;
+        let emptied = take_if_any(&mut self.headed.made, entries, out)?;
         self.headed.pieces.give_back(emptied);
         Ok(self.headed.pieces.going())
     }

@@ -71,22 +71,12 @@ pub(crate) fn push_refusal(out: &mut Octets, bad: Option<BadCapture>) -> Result<
 }
 
 /// A capture that is read in pieces.
+#[derive(Drop)]
 pub(crate) struct Pieces {
     alloc: Global,
     state: State,
     // Used again for the entries of each piece.
     entries: Entries,
-}
-
-// By hand: docs/DECISIONS.md says why, at "Drops by hand".
-impl Drop for Pieces {
-    fn drop(self) {
-        let Pieces {
-            alloc: _,
-            state: _state,
-            entries: _entries,
-        } = self;
-    }
 }
 
 impl Pieces {

@@ -12,22 +12,12 @@ use zre_values::{Octets, OutOfMemory};
 
 /// The machine of `replay`: a node to which the entries of a capture are told as they come. It keeps the octets of an
 /// unfinished line, and a list that is used again for the entries of each piece. The journal isn't kept.
+#[derive(Drop)]
 pub struct Replayer {
     // The node has its own. What the machine says of octets rests on these, which OutOfMemory leaves as they are.
     config: Config,
     pieces: Pieces,
     node: Node,
-}
-
-// By hand: docs/DECISIONS.md says why, at "Drops by hand".
-impl Drop for Replayer {
-    fn drop(self) {
-        let Replayer {
-            config: _config,
-            pieces: _pieces,
-            node: _node,
-        } = self;
-    }
 }
 
 impl Replayer {

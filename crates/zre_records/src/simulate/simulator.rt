@@ -9,19 +9,10 @@ use zre_values::{Octets, OutOfMemory};
 
 /// The machine of `simulate`. A schedule is read whole before anything is written, so it keeps the text: as many octets
 /// as a schedule may have, and one.
+#[derive(Drop)]
 pub struct Simulator {
     alloc: Global,
     kept: Octets,
-}
-
-// By hand: docs/DECISIONS.md says why, at "Drops by hand".
-impl Drop for Simulator {
-    fn drop(self) {
-        let Simulator {
-            alloc: _,
-            kept: _kept,
-        } = self;
-    }
 }
 
 impl Simulator {

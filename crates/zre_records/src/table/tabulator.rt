@@ -5,30 +5,20 @@ use crate::replay::headed::Headed;
 use crate::table::gathering::gather_if_any;
 use std::alloc::Global;
 use zre_commands::pump::{Going, Machine};
+use zre_node::Node;
 use zre_shared::Replica;
 use zre_values::{Octets, OutOfMemory, PeerId};
 
 /// The machine of `table`: a node with the settings that the head of a capture of format 2 says, and the replica that
 /// takes what its entries bring to the table of a group. It keeps the octets of an unfinished line, a list that is used
 /// again for the entries of each piece, and the table. The journal isn't kept.
+#[derive(Drop)]
 pub struct Tabulator {
     alloc: Global,
     group: Octets,
-    headed: Headed,
+    headed: Headed<Node>,
     // It makes no writes, so whose it is doesn't matter.
     replica: Replica,
-}
-
-// By hand: docs/DECISIONS.md says why, at "Drops by hand".
-impl Drop for Tabulator {
-    fn drop(self) {
-        let Tabulator {
-            alloc: _,
-            group: _group,
-            headed: _headed,
-            replica: _replica,
-        } = self;
-    }
 }
 
 impl Tabulator {
@@ -64,7 +54,7 @@ impl Machine for Tabulator {
         let entries = self.headed.read(piece)?;
         let emptied = gather_if_any(
             self.alloc,
-            &mut self.headed.node,
+            &mut self.headed.made,
             &mut self.replica,
             self.group.as_slice(),
             entries,

@@ -12,22 +12,12 @@ use zre_values::{Octets, OutOfMemory};
 /// The machine of `upgrade`: the entries of a capture of format 1 are written as they come, in format 2, after a head
 /// with the settings that it is handed. It keeps the octets of an unfinished line, and a list that is used again for
 /// the entries of each piece.
+#[derive(Drop)]
 pub struct Upgrader {
     settings: Settings,
     pieces: Pieces,
     // The reading of the entry that was written last.
     before: u64,
-}
-
-// By hand: docs/DECISIONS.md says why, at "Drops by hand".
-impl Drop for Upgrader {
-    fn drop(self) {
-        let Upgrader {
-            settings: _settings,
-            pieces: _pieces,
-            before: _,
-        } = self;
-    }
 }
 
 impl Upgrader {

@@ -2,16 +2,17 @@ use Rattle.std.proofs.Common.{◌++◌, Option, subst}
 use Rattle.zre_capture.specs.Journal.{journal, settings}
 use Rattle.zre_capture.specs.declared.format.Format.TheVariants.{Second}
 use Rattle.zre_capture.specs.declared.settings.Settings.{Settings}
-use Rattle.zre_records.specs.replay.Lives.{Lives}
+use Rattle.zre_records.specs.replay.Lives.{Made}
 use Rattle.zre_records.proofs.replay.HeadFeeding.{tells}
 use Rattle.zre_records.proofs.replay.headed.Headed.read.Goals as goal
 
 pub returns : goal.returns
-returns c = λ o h going.
+returns g c = λ o h going.
     let r = c.in_ok-entries.ensures Second o h.reads going in
     let told = c.settings.ensures Second (o ++ c.args.piece.now) r.is in
     record {
       reads = r.is;
-      lives = subst (λ (u : Option Settings). Lives u (journal Second o) c.make_node.new.node) told (c.in_ok-make_node.ensures (settings Second o) (journal Second o) h.lives (tells o c.args.piece.now _ told));
+      lives = subst (λ (u : Option Settings). Made g.N.Lived.stands u (journal Second o) c.make.new.made) told
+          (c.in_ok-make.ensures (settings Second o) (journal Second o) h.lives (tells o c.args.piece.now _ told));
       more = r.more;
     }

@@ -1,8 +1,0 @@
-use Rattle.zre_capture.specs.declared.format.Format.TheVariants.{Second}
-use Rattle.zre_records.proofs.audit.watched.Watched.new.Goals as goal
-
-pub returns : goal.returns
-returns c = record {
-  reads = c.new.ensures Second c.second-reader.ensures.reads c.second-reader.ensures.format;
-  watched = tt;
-}
