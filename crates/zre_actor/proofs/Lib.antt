@@ -7,5 +7,6 @@ pub mod Rows
 pub mod Finishing
 pub mod Deeds
 pub mod Taking
+pub mod Quits
 pub mod Working
 pub mod Given

@@ -1,5 +1,5 @@
 -- Counts over the passes, and the commands under a number.
-use Rattle.std.proofs.Common.{◌≡◌, ◌≢◌, ℕ, zero, suc, ◌+◌, ◌≤◌, ◌==◌, true, false, cond, List, [], ◌∷◌, ◌++◌, take, drop, set, refl, sym, ap, ◌∙◌, arith, ne_eqb}
+use Rattle.std.proofs.Common.{◌≡◌, ◌≢◌, ℕ, zero, suc, ◌+◌, ◌≤◌, ◌==◌, true, false, cond, List, [], ◌∷◌, ◌++◌, take, drop, set, refl, sym, ap, ◌∙◌, arith, eq-eqb, ne_eqb}
 use mathlib.Core.Option.{some, some-injective, some-ne-none}
 use lib.ListN.{get_elem?}
 use Rattle.zre_actor.specs.declared.views.Placed.{Placed}
@@ -13,6 +13,16 @@ times-append n (x ∷ xs) ys = omega (arith, times-append n xs ys)
 pub times_cut : (n : ℕ) (xs : List ℕ) → times n (take 1 xs) + times n (drop 1 xs) ≡ times n xs
 times_cut n [] = refl
 times_cut n (x ∷ xs) = omega arith
+
+-- a number that stands in a list once at most isn't its first one and a later one
+pub other_number : (n m : ℕ) (ns : List ℕ) → times m (n ∷ ns) ≤ 1 → 1 ≤ times m ns → n ≢ m
+other_number n m ns most there same = (let one : ◌≡◌ {A = ℕ} (cond (n == m) 1 0) 1 = ap (λ b. cond b 1 0) (eq-eqb n m same) in absurd (omega (arith, one, most, there)))
+
+pub is_first : (n : ℕ) (ns : List ℕ) → times n (n ∷ ns) ≡ 1 + times n ns
+is_first n ns = (let one : ◌≡◌ {A = ℕ} (cond (n == n) 1 0) 1 = ap (λ b. cond b 1 0) (eq-eqb n n refl) in omega (arith, one))
+
+pub not_first : (n m : ℕ) (ns : List ℕ) → times m (n ∷ ns) ≡ 0 → n ≢ m
+not_first n m ns none same = (let one : ◌≡◌ {A = ℕ} (cond (n == m) 1 0) 1 = ap (λ b. cond b 1 0) (eq-eqb n m same) in absurd (omega (arith, one, none)))
 
 pub under-append : (n : ℕ) (xs ys : List Placed) → under n (xs ++ ys) ≡ under n xs ++ under n ys
 under-append n [] ys = refl

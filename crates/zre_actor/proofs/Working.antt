@@ -3,7 +3,7 @@ use Rattle.std.proofs.Common.{◌≡◌, ◌≢◌, ℕ, zero, suc, ◌+◌, ◌
 use mathlib.Core.Logic.{inl, inr}
 use mathlib.Core.List.{Sublist, nil-sublist}
 use mathlib.Core.List.Sublist as sublists
-use Rattle.std.specs.Prelude.{◌⊎◌, ⊤, All, option_map, option_to_list, IsTrue}
+use Rattle.std.specs.Prelude.{◌⊎◌, All, option_map, option_to_list, IsTrue}
 use Rattle.std.specs.Io.KnownBytes.{Appends}
 use Rattle.std.proofs.KnownBytes.{Appends-nil, Appends-trans}
 use Rattle.std.proofs.lemmas.List.{map-append}
@@ -12,9 +12,7 @@ use Rattle.std.proofs.lemmas.Grind.{flat_map-append}
 use Rattle.std.proofs.lemmas.Bool.Decides.{nat_tests}
 use Rattle.zre_outside.specs.declared.deed.Deed.{Deed}
 use Rattle.zre_outside.specs.declared.entry.Entry.{Entry}
-use Rattle.zre_outside.specs.declared.entry.Input.TheVariants as input
 use Rattle.zre_outside.specs.declared.entry.Command.{Command}
-use Rattle.zre_outside.specs.declared.entry.Command.TheVariants as ask
 use Rattle.zre_outside.specs.declared.turn.Turn.TheVariants as turn
 use Rattle.zre_outside.specs.declared.sink.NextFault.{NextFault}
 use Rattle.zre_outside.specs.declared.sink.NextFault.TheVariants as fault
@@ -22,12 +20,8 @@ use Rattle.zre_outside.specs.Causes.{Rose, raised}
 use Rattle.zre_outside.specs.Worlds.{Log, IsTurn, after_turn}
 use Rattle.zre_peer.specs.declared.event.Event.{Event}
 use Rattle.zre_journal.specs.declared.config.Config.{Config}
-use Rattle.zre_journal.specs.Chronicle.{Comes, after}
 use Rattle.zre_journal.specs.Events.{chronicle, events}
-use Rattle.zre_journal.specs.Happens.{has_stopped, at_input, with_entry}
-use Rattle.zre_journal.specs.Laws.{Continues}
-use Rattle.zre_journal.proofs.Joined.{continues}
-use Rattle.zre_journal.proofs.Stopping.{stopped, stop-is}
+use Rattle.zre_journal.specs.Happens.{has_stopped}
 use Rattle.zre_node.specs.declared.node.Node.{Node}
 use Rattle.zre_node.specs.Journal.{StandsFor, is_spent}
 use Rattle.zre_capture.specs.Lines.{line, lines, IsEntry}
@@ -41,6 +35,7 @@ use Rattle.zre_actor.specs.declared.passes.ActorPass.{ActorPass}
 use Rattle.zre_actor.specs.Commands.{command_of}
 use Rattle.zre_actor.specs.Passes.{IsPopped}
 use Rattle.zre_actor.specs.Work.{Scene, scene, went, AreDeeds, acts_of, late, command_in, done_by, Goes, world_ending, Ends, KeptLines, QuitsLast, AllGo, IsWork, Went, IsRefusal, IsUnput, IsUnstepped, IsUndone, Broke}
+use Rattle.zre_actor.proofs.Quits.{NoQuit, quits_snoc, no_quit_more, no_quit}
 use Rattle.zre_actor.proofs.Deeds.{went-none, after_look, after_entry, AreDeeds-append, acts_of-snoc}
 
 not_late : (turns limit : ℕ) (looked : Bool) → turns ≢ limit → late turns limit looked ≡ 0
@@ -96,34 +91,6 @@ go_more : (g : Config) (J es : List Entry) (e : Entry) → AllGo g J es → has_
 go_more g J [] e go on = (subst (λ l. has_stopped (chronicle g l) ≡ false) (append-nil J) on, tt)
 go_more g J (x ∷ es) e go on = (go.0, go_more g (J ++ x ∷ []) es e go.1 (subst (λ l. has_stopped (chronicle g l) ≡ false) (sym (append_assoc J (x ∷ []) es)) on))
 
--- none of these commands is a Quit
-abbrev pub NoQuit : List Command → Type 0
-NoQuit [] = ⊤
-NoQuit (c ∷ cs) = (c ≢ ask.Quit) × NoQuit cs
-
--- so one more may be
-quits_snoc : (cs : List Command) (c : Command) → NoQuit cs → QuitsLast (cs ++ c ∷ [])
-quits_snoc [] c none = (λ _. refl, tt)
-quits_snoc (d ∷ cs) c none = (λ is. absurd (none.0 is), quits_snoc cs c none.1)
-
-no_quit_more : (cs ds : List Command) → NoQuit cs → NoQuit ds → NoQuit (cs ++ ds)
-no_quit_more [] ds a b = b
-no_quit_more (c ∷ cs) ds a b = (a.0, no_quit_more cs ds a.1 b)
-
--- the entry to do a Quit stops the node
-quit_stops : (g : Config) (J : List Entry) (e : Entry) → e.input ≡ input.Do ask.Quit → has_stopped (chronicle g J) ≡ false → has_stopped (chronicle g (J ++ e ∷ [])) ≡ true
-quit_stops g J e is going =
-    let H = chronicle g J in let M = Comes e ∷ H in
-    let c : Continues g J (e ∷ []) = continues g J (e ∷ []) in
-    let stops : with_entry g e H ≡ stopped g M =
-    ap (λ b. after (cond b [] (at_input g e.input H M)) M) going ∙ ap (λ i. after (at_input g i H M) M) is ∙ stop-is g M in
-    ap has_stopped (c.happened ∙ stops)
-
--- so a command that is handed to a node that goes on after it is none Quit
-no_quit : (g : Config) (J : List Entry) (e : Entry) (command : Option Command) → IsTurn command (turn.Entry e) → has_stopped (chronicle g J) ≡ false → has_stopped (chronicle g (J ++ e ∷ [])) ≡ false → NoQuit (option_to_list command)
-no_quit g J e None is going on = tt
-no_quit g J e (Some c) is going on = (λ q. true≢false (sym (quit_stops g J e (is ∙ ap input.Do q) going) ∙ on), tt)
-
 module _ (g : Config) (K : List Entry) (keep : Bool) (limit : ℕ) (s : Scene) where
   -- after so many turns: the node took all that was given, its acts are done, its events raised and its lines kept
   pub record Running (turns : ℕ) (t : Scene) (n : Node) (command : Option Command) (before : ℕ) : Type 0 where
@@ -148,18 +115,19 @@ module _ (g : Config) (K : List Entry) (keep : Bool) (limit : ℕ) (s : Scene) w
     pub world_later : s.world_faults ≤ t.world_faults
     pub record_later : s.record_faults ≤ t.record_faults
 
-  -- the same with lists that are the same
-  abbrev going_same : (es es' : List Entry) (ds ds' : List Deed) (turns : ℕ) (t : Scene) (pending : List Command) → Goes turns limit s t es ds pending → es ≡ es' → ds ≡ ds' → Goes turns limit s t es' ds' pending
-  going_same es es' ds ds' turns t pending h e d = record {
+  -- the same, of lists and of a scene that are the same
+  abbrev goes_as : (es es' : List Entry) (ds ds' : List Deed) (turns : ℕ) (t u : Scene) (pending : List Command) → Goes turns limit s t es ds pending → es ≡ es' → ds ≡ ds'
+      → u.told ≡ t.told → u.looked ≡ t.looked → u.popped ≡ t.popped → u.empties ≡ t.empties → Goes turns limit s u es' ds' pending
+  goes_as es es' ds ds' turns t u pending h e d told looked popped empties = let same : late turns limit u.looked ≡ late turns limit t.looked = ap (late turns limit) looked in record {
     looks = h.looks;
     handed = h.handed;
-    is_told = h.is_told ∙ ap (λ (x : List Entry × List Deed). option_map (went x.0 h.looks h.handed x.1) s.told) (λ i. (e i, d i));
+    is_told = told ∙ h.is_told ∙ ap (λ (x : List Entry × List Deed). option_map (went x.0 h.looks h.handed x.1) s.told) (λ i. (e i, d i));
     counted = ap (λ l. length l + h.looks) (sym e) ∙ h.counted;
     popped = h.popped;
-    is_popped = h.is_popped;
+    is_popped = popped ∙ h.is_popped;
     are_handed = h.are_handed;
     are_done = subst (λ l. Sublist h.handed (done_by l)) e h.are_done;
-    are_looks = h.are_looks;
+    are_looks = omega (arith, h.are_looks, empties, same);
   }
 
   pub running_start : (n : Node) → StandsFor g K n → Running 0 s n None 0
@@ -227,14 +195,18 @@ module _ (g : Config) (K : List Entry) (keep : Bool) (limit : ℕ) (s : Scene) w
         (map-append command_of h.popped (e ∷ []) ∙ ap (λ l. l ++ e.command ∷ []) (hands ∙ append-nil h.handed) ∙ ap (λ x. h.handed ++ x ∷ []) popped.0.1)
         (omega (arith, h.are_looks, popped.1, length-append h.popped (e ∷ [])))
 
-    -- a look was answered, and the rest stands as it stood
-    pub record Looks (u : Scene) : Type 0 where
-      pub told : u.told ≡ option_map (after_turn command turn.Look) t.told
-      pub looked : u.looked ≡ true
+    -- nothing was raised or kept, and nothing failed but the world
+    pub record IsCalm (u : Scene) : Type 0 where
       pub raised : u.raised ≡ t.raised
       pub kept : u.kept ≡ t.kept
       pub world_later : t.world_faults ≤ u.world_faults
       pub record_same : u.record_faults ≡ t.record_faults
+
+    -- a look was answered, and the rest stands as it stood
+    pub record Looks (u : Scene) : Type 0 where
+      pub told : u.told ≡ option_map (after_turn command turn.Look) t.told
+      pub looked : u.looked ≡ true
+      pub calm : IsCalm u
 
     -- what is popped after a look stands after commands that are no Quit
     look_quits : (u : Scene) (found : Option Command) (told : u.told ≡ option_map (after_turn command turn.Look) t.told) (popped : Pops t found u) (now : late turns limit t.looked ≡ 0) (later : late (turns + 1) limit u.looked ≡ 0)
@@ -249,10 +221,10 @@ module _ (g : Config) (K : List Entry) (keep : Bool) (limit : ℕ) (s : Scene) w
     look_handed u (Some c) told popped now later hands = refl
 
     -- no entry was given since, and nothing raised or kept
-    abbrev stays : (turns' : ℕ) (u : Scene) (command' : Option Command) (goes : Goes turns' limit s u k.entries k.deeds (option_to_list command')) → turns' ≤ limit → u.raised ≡ t.raised → u.kept ≡ t.kept
+    abbrev stays : (turns' : ℕ) (u : Scene) (command' : Option Command) (goes : Goes turns' limit s u k.entries k.deeds (option_to_list command')) → turns' ≤ limit → IsCalm u
         → ((c : Command) → command' ≡ Some c → has_stopped (chronicle g (K ++ k.entries)) ≡ false) → (has_stopped (chronicle g (K ++ k.entries)) ≡ false → NoQuit goes.handed) → QuitsLast (map command_of goes.popped)
-        → t.world_faults ≤ u.world_faults → u.record_faults ≡ t.record_faults → Running turns' u n command' before
-    stays turns' u command' goes most raised kept busy unquit quits later same = record {
+        → Running turns' u n command' before
+    stays turns' u command' goes most calm busy unquit quits = record {
       entries = k.entries;
       deeds = k.deeds;
       goes = goes;
@@ -263,14 +235,14 @@ module _ (g : Config) (K : List Entry) (keep : Bool) (limit : ℕ) (s : Scene) w
       are_deeds = k.are_deeds;
       told = k.told;
       are_events = k.are_events;
-      are_raised = raised ∙ k.are_raised;
-      are_kept = λ i. subst (λ x. Appends s.kept x (lines Second 0 k.entries)) (sym kept) (k.are_kept i);
+      are_raised = calm.raised ∙ k.are_raised;
+      are_kept = λ i. subst (λ x. Appends s.kept x (lines Second 0 k.entries)) (sym calm.kept) (k.are_kept i);
       is_before = k.is_before;
       busy = busy;
       unquit = unquit;
       quits_last = quits;
-      world_later = omega (arith, k.world_later, later);
-      record_later = omega (arith, k.record_later, same);
+      world_later = omega (arith, k.world_later, calm.world_later);
+      record_later = omega (arith, k.record_later, calm.record_same);
     }
 
     -- a look, and then a pop
@@ -280,8 +252,8 @@ module _ (g : Config) (K : List Entry) (keep : Bool) (limit : ℕ) (s : Scene) w
         let now : late turns limit t.looked ≡ 0 = not_late turns limit t.looked (λ e. omega arith) in
         let later : late (turns + 1) limit u.looked ≡ 0 = not_late (turns + 1) limit u.looked (λ e. omega arith) in
         let hands : map command_of h.popped ≡ h.handed ++ [] = h.are_handed ∙ ap (λ l. h.handed ++ l) (no_command command is) in
-        stays (turns + 1) u found (looks_again u found w.told popped now later hands) (omega (arith, more)) w.raised w.kept (λ c is. going)
-        (λ on. subst NoQuit (sym (look_handed u found w.told popped now later hands)) (k.unquit going)) (look_quits u found w.told popped now later hands (k.unquit going)) w.world_later w.record_same
+        stays (turns + 1) u found (looks_again u found w.told popped now later hands) (omega (arith, more)) w.calm (λ c is. going)
+        (λ on. subst NoQuit (sym (look_handed u found w.told popped now later hands)) (k.unquit going)) (look_quits u found w.told popped now later hands (k.unquit going))
 
     -- a look in the last turn, after which nothing is popped
     pub looked_last : (u : Scene) → Looks u → u.popped ≡ t.popped → u.empties ≡ t.empties → turns + 1 ≡ limit → IsTurn command turn.Look → Running (turns + 1) u n None before
@@ -289,8 +261,8 @@ module _ (g : Config) (K : List Entry) (keep : Bool) (limit : ℕ) (s : Scene) w
         let h = k.goes in
         let now : late turns limit t.looked ≡ 0 = not_late turns limit t.looked (λ e. omega arith) in
         let later : late (turns + 1) limit u.looked ≡ 1 = ap (late (turns + 1) limit) w.looked ∙ is_late (turns + 1) limit last (omega arith) in
-        stays (turns + 1) u None (goes_look u h.popped [] w.told (popped ∙ h.is_popped) (h.are_handed ∙ ap (λ l. h.handed ++ l) (no_command command is)) (omega (arith, h.are_looks))) (omega (arith, last)) w.raised w.kept
-        (λ c is. absurd (cc)) k.unquit k.quits_last w.world_later w.record_same
+        stays (turns + 1) u None (goes_look u h.popped [] w.told (popped ∙ h.is_popped) (h.are_handed ∙ ap (λ l. h.handed ++ l) (no_command command is)) (omega (arith, h.are_looks))) (omega (arith, last)) w.calm
+        (λ c is. absurd (cc)) k.unquit k.quits_last
 
     -- an entry was given, and the rest of the scene stands as it stood but for the events that are raised
     pub record Gives (e : Entry) (told : Option Log) (u : Scene) : Type 0 where
@@ -359,20 +331,22 @@ module _ (g : Config) (K : List Entry) (keep : Bool) (limit : ℕ) (s : Scene) w
     idle None busy stopped = refl
     idle (Some x) busy stopped = absurd (true≢false (sym stopped ∙ busy x refl))
 
-    -- where it stands, with nothing unstepped
-    leaves : (e : Ending) → Ends e (has_stopped (chronicle g (K ++ k.entries))) turns limit keep s t [] (option_to_list command) → IsWork g K keep limit s t n e
-    leaves e ends = record {
-      turns = turns;
+    -- it ends without a step more: these entries weren't stepped, and these commands weren't handed on
+    ends_here : (turns' : ℕ) (u : Scene) (n' : Node) (unstepped : List Entry) (pending : List Command) (e : Ending) (goes : Goes turns' limit s u (k.entries ++ unstepped) k.deeds pending) → turns' ≤ limit → QuitsLast (map command_of goes.popped)
+        → AllGo g K (k.entries ++ unstepped) → All IsEntry (k.entries ++ unstepped) → StandsFor g (K ++ k.entries) n' ⊎ (IsTrue (is_spent n') × (e ≡ ending.OutOfMemory) × (length unstepped ≡ 1)) → u.raised ≡ t.raised
+        → (keep ≡ true → KeptLines s.kept u.kept k.entries unstepped) → Ends e (has_stopped (chronicle g (K ++ k.entries))) turns' limit keep s u unstepped pending → IsWork g K keep limit s u n' e
+    ends_here turns' u n' unstepped pending e goes most quits go values node raised kept ends = record {
+      turns = turns';
       entries = k.entries;
-      unstepped = [];
-      pending = option_to_list command;
+      unstepped = unstepped;
+      pending = pending;
       deeds = k.deeds;
-      goes = going_same k.entries (k.entries ++ []) k.deeds k.deeds turns t (option_to_list command) k.goes (sym (append-nil k.entries)) refl;
-      most = k.most;
-      all_go = subst (AllGo g K) (sym (append-nil k.entries)) k.all_go;
-      are_values = subst (All IsEntry) (sym (append-nil k.entries)) k.are_values;
-      quits_last = k.quits_last;
-      node = inl k.node;
+      goes = goes;
+      most = most;
+      all_go = go;
+      are_values = values;
+      quits_last = quits;
+      node = node;
       did = acts_of g K k.entries;
       undone = [];
       are_acts = sym (append-nil (acts_of g K k.entries));
@@ -381,11 +355,18 @@ module _ (g : Config) (K : List Entry) (keep : Bool) (limit : ℕ) (s : Scene) w
       raised = k.told;
       untold = [];
       are_events = k.are_events ∙ ap (λ l. events g K ++ l) (sym (append-nil k.told));
-      are_raised = k.are_raised;
+      are_raised = raised ∙ k.are_raised;
       all_raised = λ _. refl;
-      are_kept = λ i. record { part = []; rest = []; is_kept = subst (Appends s.kept t.kept) (sym (append-nil (lines Second 0 k.entries))) (k.are_kept i); is_part = refl };
+      are_kept = kept;
       ends = ends;
     }
+
+    -- where it stands, with nothing unstepped
+    leaves : (e : Ending) → Ends e (has_stopped (chronicle g (K ++ k.entries))) turns limit keep s t [] (option_to_list command) → IsWork g K keep limit s t n e
+    leaves e ends = let all : k.entries ≡ k.entries ++ [] = sym (append-nil k.entries) in
+        ends_here turns t n [] (option_to_list command) e (goes_as k.entries (k.entries ++ []) k.deeds k.deeds turns t t (option_to_list command) k.goes all refl refl refl refl refl) k.most k.quits_last
+        (subst (AllGo g K) all k.all_go) (subst (All IsEntry) all k.are_values) (inl k.node) refl
+        (λ i. record { part = []; rest = []; is_kept = subst (Appends s.kept t.kept) (sym (append-nil (lines Second 0 k.entries))) (k.are_kept i); is_part = refl }) ends
 
     pub leaves_stopped : has_stopped (chronicle g (K ++ k.entries)) ≡ true → IsWork g K keep limit s t n ending.Stopped
     leaves_stopped stopped = leaves ending.Stopped (stopped, refl, idle command k.busy stopped)
@@ -403,29 +384,12 @@ module _ (g : Config) (K : List Entry) (keep : Bool) (limit : ℕ) (s : Scene) w
       pub told : u.told ≡ t.told
       pub looked : u.looked ≡ t.looked
       pub popped : u.popped ≡ t.popped
-      pub raised : u.raised ≡ t.raised
       pub empties : u.empties ≡ t.empties
-      pub kept : u.kept ≡ t.kept
+      pub calm : IsCalm u
       pub rose : f ≡ fault.Failed → Rose t.world_faults u.world_faults
-      pub world_later : t.world_faults ≤ u.world_faults
-      pub record_same : u.record_faults ≡ t.record_faults
-
-    -- the scene went on, and nothing of it but counts of faults, and what is kept
-    abbrev pub same_goes : (u : Scene) → u.told ≡ t.told → u.looked ≡ t.looked → u.popped ≡ t.popped → u.empties ≡ t.empties → Goes turns limit s u k.entries k.deeds (option_to_list command)
-    same_goes u told looked popped empties = let h = k.goes in let same : late turns limit u.looked ≡ late turns limit t.looked = ap (late turns limit) looked in record {
-      looks = h.looks;
-      handed = h.handed;
-      is_told = told ∙ h.is_told;
-      counted = h.counted;
-      popped = h.popped;
-      is_popped = popped ∙ h.is_popped;
-      are_handed = h.are_handed;
-      are_done = h.are_done;
-      are_looks = omega (arith, h.are_looks, empties, same);
-    }
 
     abbrev pub refused : (f : NextFault) (u : Scene) → Refuses f u → Running turns u n command before
-    refused f u w = stays turns u command (same_goes u w.told w.looked w.popped w.empties) k.most w.raised w.kept k.busy k.unquit k.quits_last w.world_later w.record_same
+    refused f u w = stays turns u command (goes_as k.entries k.entries k.deeds k.deeds turns t u (option_to_list command) k.goes refl refl w.told w.looked w.popped w.empties) k.most w.calm k.busy k.unquit k.quits_last
 
     -- ---- an entry that broke off
 
@@ -435,31 +399,10 @@ module _ (g : Config) (K : List Entry) (keep : Bool) (limit : ℕ) (s : Scene) w
         → (keep ≡ true → KeptLines s.kept u.kept k.entries (e ∷ []))
         → Ends ended (has_stopped (chronicle g (K ++ k.entries))) (turns + 1) limit keep s u (e ∷ []) []
         → IsWork g K keep limit s u n' ended
-    given_up e told u n' ended w less going same raised node kept ends = record {
-      turns = turns + 1;
-      entries = k.entries;
-      unstepped = e ∷ [];
-      pending = [];
-      deeds = k.deeds;
-      goes = going_same (k.entries ++ e ∷ []) (k.entries ++ e ∷ []) (k.deeds ++ []) k.deeds (turns + 1) u [] (given_goes e told u [] w less (same ∙ went-none told)) refl (append-nil k.deeds);
-      most = omega (arith, less);
-      all_go = go_more g K k.entries e k.all_go going;
-      are_values = All-push IsEntry k.entries e k.are_values w.value;
-      quits_last = k.quits_last;
-      node = node;
-      did = acts_of g K k.entries;
-      undone = [];
-      are_acts = sym (append-nil (acts_of g K k.entries));
-      are_deeds = k.are_deeds;
-      all_done = λ _. refl;
-      raised = k.told;
-      untold = [];
-      are_events = k.are_events ∙ ap (λ l. events g K ++ l) (sym (append-nil k.told));
-      are_raised = raised ∙ k.are_raised;
-      all_raised = λ _. refl;
-      are_kept = kept;
-      ends = ends;
-    }
+    given_up e told u n' ended w less going same raised node kept ends =
+        ends_here (turns + 1) u n' (e ∷ []) [] ended
+        (goes_as (k.entries ++ e ∷ []) (k.entries ++ e ∷ []) (k.deeds ++ []) k.deeds (turns + 1) u u [] (given_goes e told u [] w less (same ∙ went-none told)) refl (append-nil k.deeds) refl refl refl refl)
+        (omega (arith, less)) k.quits_last (go_more g K k.entries e k.all_go going) (All-push IsEntry k.entries e k.are_values w.value) node raised kept ends
 
     one_line : (e : Entry) → lines Second (last_reading 0 k.entries) (e ∷ []) ≡ line Second before e
     one_line e = append-nil (line Second (last_reading 0 k.entries) e) ∙ sym (next_line before k.entries e k.is_before)
@@ -488,7 +431,7 @@ module _ (g : Config) (K : List Entry) (keep : Bool) (limit : ℕ) (s : Scene) w
       unstepped = [];
       pending = [];
       deeds = k.deeds ++ x.deeds;
-      goes = going_same (k.entries ++ e ∷ []) ((k.entries ++ e ∷ []) ++ []) (k.deeds ++ x.deeds) (k.deeds ++ x.deeds) (turns + 1) u [] (given_goes e told u x.deeds w less x.is_told) (sym (append-nil (k.entries ++ e ∷ []))) refl;
+      goes = goes_as (k.entries ++ e ∷ []) ((k.entries ++ e ∷ []) ++ []) (k.deeds ++ x.deeds) (k.deeds ++ x.deeds) (turns + 1) u u [] (given_goes e told u x.deeds w less x.is_told) (sym (append-nil (k.entries ++ e ∷ []))) refl refl refl refl refl;
       most = omega (arith, less);
       all_go = subst (AllGo g K) (sym (append-nil (k.entries ++ e ∷ []))) (go_more g K k.entries e k.all_go going);
       are_values = subst (All IsEntry) (sym (append-nil (k.entries ++ e ∷ []))) (All-push IsEntry k.entries e k.are_values w.value);

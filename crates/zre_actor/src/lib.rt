@@ -9,7 +9,7 @@ mod job;
 mod passes;
 mod rules;
 mod told;
-mod values;
+pub mod values;
 mod views;
 mod work;
 

@@ -1,6 +1,6 @@
-//! An entry's numbers are those that their types can hold. The functions only look: what they ensure is for proofs.
+//! Octets and numbers are values of their types. The functions only look: what they ensure is for proofs.
 
-ghost use Rattle.std.specs.Prelude.{List, All};
+ghost use Rattle.std.specs.Prelude.{All};
 ghost use Rattle.zre_values.specs.Address.{IsAddress};
 ghost use Rattle.zre_values.specs.PlainId.{IsPeerId};
 ghost use Rattle.zre_capture.specs.Lines.{IsOctets, IsCommand, IsInput, IsEntry};
@@ -12,7 +12,8 @@ fn are_bytes(bytes: &[u8])
     ensures { IsOctets bytes.now }
 {}
 
-fn are_octets(octets: &Octets)
+/// Shows that octets are values of their type.
+pub fn are_octets(octets: &Octets)
     ensures { IsOctets octets.now }
 {
     are_bytes(octets.as_slice());
@@ -26,14 +27,16 @@ fn are_frames(frames: &Frames)
     }
 }
 
-fn is_id(id: &PeerId)
+/// Shows that an identity is a value of its type.
+pub fn is_id(id: &PeerId)
     ensures { IsPeerId id.now }
 {
     let PeerId(octets) = *id;
     are_bytes(&octets);
 }
 
-fn is_address(host: &[u8; 4])
+/// Shows that an address is a value of its type.
+pub fn is_address(host: &[u8; 4])
     ensures { IsAddress host.now }
 {
     let octets = *host;
@@ -69,32 +72,28 @@ fn is_input(input: &Input)
             is_address(from);
             are_octets(bytes);
         }
-        Input::Opened { conn } => {
-            let _conn = *conn;
+        Input::Opened { conn: number }
+        | Input::Shut { conn: number }
+        | Input::Linked { link: number }
+        | Input::Unlinked { link: number } => {
+            let _number = *number;
         }
-        Input::Piece { conn, bytes } => {
-            let _conn = *conn;
+        Input::Piece {
+            conn: number,
+            bytes,
+        }
+        | Input::Reply {
+            link: number,
+            bytes,
+        } => {
+            let _number = *number;
             are_octets(bytes);
-        }
-        Input::Shut { conn } => {
-            let _conn = *conn;
-        }
-        Input::Linked { link } => {
-            let _link = *link;
-        }
-        Input::Reply { link, bytes } => {
-            let _link = *link;
-            are_octets(bytes);
-        }
-        Input::Unlinked { link } => {
-            let _link = *link;
         }
         Input::Took { link, count } => {
             let (_link, _count) = (*link, *count);
         }
-        Input::Tick => {}
         Input::Do(command) => is_command(command),
-        Input::End => {}
+        Input::Tick | Input::End => {}
     }
 }
 

@@ -45,12 +45,9 @@ returns-in-Err-clause-work g c = λ f K here. (
       told = c.in-Err.ensures.refused.0;
       looked = c.in-Err.ensures.refused.1;
       popped = refl;
-      raised = refl;
       empties = refl;
-      kept = refl;
+      calm = record { raised = refl; kept = refl; world_later = c.in-Err.ensures.later; record_same = refl };
       rose = λ e. c.in-Err.ensures.failed (ap Err e);
-      world_later = c.in-Err.ensures.later;
-      record_same = refl;
     } in
     working.handed_back f K c.args.keep c.args.limit s u _ l.node _ (world_ending c.in-Err.fault) _
     (working.refused_ends f K c.args.keep c.args.limit s l.turn u l.node l.command l.before (working.refused f K c.args.keep c.args.limit s l.turn t l.node l.command l.before k c.in-Err.fault u refuses) c.in-Err.fault c.loop-turn-test.true
@@ -115,7 +112,7 @@ loop-turn-preserved g c =
             running = λ f K here. (let k = h.running f K here in
                 let u = scene (w.told x) (w.looked x) (w.faults x) (r.kept l.rec) (r.faults l.rec) m.pop.result.0 in
                 let going = sym (c.stopped.ensures f (K ++ k.entries) k.node) ∙ c.if-stopped.false in
-                let looks : working.Looks f K c.args.keep c.args.limit s l.turn t l.node l.command l.before k u = record { told = facts.1; looked = facts.2; raised = m.pop.ensures.events.0; kept = refl; world_later = c.in-Ok.ensures.later; record_same = refl } in
+                let looks : working.Looks f K c.args.keep c.args.limit s l.turn t l.node l.command l.before k u = record { told = facts.1; looked = facts.2; calm = record { raised = m.pop.ensures.events.0; kept = refl; world_later = c.in-Ok.ensures.later; record_same = refl } } in
                 working.looked_again f K c.args.keep c.args.limit s l.turn t l.node l.command l.before k u m.pop.result.1 looks
                 (working.pops l.pass m.pop.result.0 m.pop.result.1 (w.told l.world) (w.told x) (w.looked l.world) (w.looked x) (w.faults l.world) (w.faults x) (r.kept l.rec) (r.faults l.rec)
                 (let rare = working.rare f K c.args.keep c.args.limit s l.turn t l.node l.command l.before k in omega (arith, rare, c.requires.room, c.loop-turn-test.true)) m.pop.ensures.popped)
@@ -133,7 +130,7 @@ loop-turn-preserved g c =
             named = h.named;
             running = λ f K here. (let k = h.running f K here in
                 let u = scene (w.told x) (w.looked x) (w.faults x) (r.kept l.rec) (r.faults l.rec) l.pass in
-                let looks : working.Looks f K c.args.keep c.args.limit s l.turn t l.node l.command l.before k u = record { told = facts.1; looked = facts.2; raised = refl; kept = refl; world_later = c.in-Ok.ensures.later; record_same = refl } in
+                let looks : working.Looks f K c.args.keep c.args.limit s l.turn t l.node l.command l.before k u = record { told = facts.1; looked = facts.2; calm = record { raised = refl; kept = refl; world_later = c.in-Ok.ensures.later; record_same = refl } } in
                 working.looked_last f K c.args.keep c.args.limit s l.turn t l.node l.command l.before k u looks refl refl (omega (arith, m.if-turn-limit.false, c.loop-turn-test.true)) facts.0);
           })
       | in-Entry+in-Ok-take_entry m ↦
