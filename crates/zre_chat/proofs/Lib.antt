@@ -1,6 +1,10 @@
+pub mod Asker
+pub mod Callers
+pub mod Early
 pub mod Fronts
 pub mod Living
 pub mod Merged
+pub mod Parts
 pub mod Rows
 pub mod Talked
 pub mod Whole

@@ -39,13 +39,13 @@ use Rattle.zre_actor.specs.Passes.{popped_by, raised_by, taken_by}
 use Rattle.zre_actor.specs.Work.{Scene, scene, went, IsWork, Ends, KeptLines}
 use Rattle.zre_actor.proofs.Working.{rose_later}
 use Rattle.zre_commands.specs.declared.pump.status.Status.{Status}
-use Rattle.zre_commands.specs.declared.pump.status.Status.TheVariants.{Done, OutOfMemory}
+use Rattle.zre_commands.specs.declared.pump.status.Status.TheVariants.{Done, WriteFault, WorldFault, NoThread, TooLong, OutOfMemory}
 use Rattle.zre_console.specs.declared.printer.asker.Asker.{Asker}
 use Rattle.zre_console.specs.printer.Printing.{HasPrinted}
 use Rattle.zre_chat.specs.Chat.{Seen, IsSpared, Holds, Lived, Wrote, Captured}
 use Rattle.zre_chat.specs.Keeping.{head_of}
 use Rattle.zre_chat.specs.Stages.{Prepared}
-use Rattle.zre_chat.specs.Statuses.{of_work}
+use Rattle.zre_chat.specs.Statuses.{of_print, of_work, of_thread}
 use Rattle.zre_chat.proofs.Rows.{memory_isnt}
 use Rattle.zre_chat.proofs.Whole.{maps}
 
@@ -73,14 +73,14 @@ module _ (g : Config) (start : Start) (name : Option (List ℕ)) (keep : Bool) (
   text = ap lines (w.are_events ∙ ap (λ l. l ++ w.untold) (sym same_events)) ∙ flat_map-append line d.events w.untold
 
   front : AppendsFront s.written t.written (lines (events g w.entries))
-  front = let f = d.front in (f.0, f.1 ++ lines w.untold, text ∙ ap (λ l. l ++ lines w.untold) f.2 ∙ append_assoc f.0 f.1 (lines w.untold), subst (λ x. Appends x t.written f.0) p.same_written f.3)
+  front = let f = d.front in (f.0, f.1 ++ lines w.untold, text ∙ ap (λ l. l ++ lines w.untold) f.2 ∙ append_assoc f.0 f.1 (lines w.untold), subst (λ x. Appends x t.written f.0) (ap (λ x. x.written) p.same) f.3)
 
   unbroken : IsSpared status (Rose s.write_faults t.write_faults) → broke ≡ None
   unbroken spared = ⊎_elim (λ (is : status ≡ Done). (done is).1) (λ (x : (status ≢ OutOfMemory) × ¬ Rose s.write_faults t.write_faults). by x.0 x.1 broke refl) spared
     where
       by : status ≢ OutOfMemory → ¬ Rose s.write_faults t.write_faults → (f : Option NextFault) → broke ≡ f → broke ≡ None
       by isnt still None e = e
-      by isnt still (Some fault.Failed) e = absurd (still (subst (λ k. Rose k t.write_faults) p.same_writes (write_rose e)))
+      by isnt still (Some fault.Failed) e = absurd (still (subst (λ k. Rose k t.write_faults) (ap (λ x. x.write_faults) p.same) (write_rose e)))
       by isnt still (Some fault.OutOfMemory) e = absurd ((memory isnt).1 e)
 
   has_memory : (rose : Type 0) → IsSpared status rose → status ≢ OutOfMemory
@@ -89,7 +89,7 @@ module _ (g : Config) (start : Start) (name : Option (List ℕ)) (keep : Bool) (
   whole : IsSpared status (Rose s.write_faults t.write_faults) → Appends s.written t.written (lines (events g w.entries))
   whole spared =
       let all : lines (events g w.entries) ≡ lines d.events = text ∙ ap (λ l. lines d.events ++ lines l) (w.all_raised (memory (has_memory (Rose s.write_faults t.write_faults) spared)).0) ∙ append-nil (lines d.events) in
-      subst (λ (x : Option (List ℕ) × List ℕ). Appends x.0 t.written x.1) (λ i. (p.same_written i, sym all i)) (d.whole (unbroken spared))
+      subst (λ (x : Option (List ℕ) × List ℕ). Appends x.0 t.written x.1) (λ i. ((p.same i).written, sym all i)) (d.whole (unbroken spared))
 
   -- ---- the entries and the capture
 
@@ -194,3 +194,30 @@ module _ (g : Config) (start : Start) (name : Option (List ℕ)) (keep : Bool) (
 
   pub captured : Captured g name w.entries s t status
   captured = record { are_settings = λ _. p.are_settings; held = held }
+
+  -- ---- the causes of the printing's end, of the work's and of a refusal, as this says what each status needs
+
+  module _ (C : Status → Type 0) (at_done : C Done) (at_memory : C OutOfMemory)
+      (at_write : Rose s.write_faults t.write_faults ⊎ Rose s.record_faults t.record_faults → C WriteFault) (at_world : Rose s.world_faults t.world_faults → C WorldFault)
+      (at_thread : Rose s.refusals t.refusals → C NoThread) (at_end : (w.turns ≡ limit) × (has_stopped (chronicle g w.entries) ≡ false) → C TooLong) where
+    pub print_caused : C (of_print broke)
+    print_caused = by broke refl
+      where
+        by : (f : Option NextFault) → broke ≡ f → C (of_print f)
+        by None e = at_done
+        by (Some fault.Failed) e = at_write (inl (subst (λ k. Rose k t.write_faults) (ap (λ x. x.write_faults) p.same) (write_rose e)))
+        by (Some fault.OutOfMemory) e = at_memory
+
+    pub work_caused : C (of_work how)
+    work_caused = by how w.ends
+      where
+        by : (e : Ending) → Ends e (has_stopped (chronicle g w.entries)) w.turns limit keep (scene u.told looked u.world_faults u.kept u.record_faults actor) (scene t.told looked' t.world_faults t.kept t.record_faults actor') w.unstepped w.pending → C (of_work e)
+        by ending.Stopped h = at_done
+        by ending.WorldFault h = at_world (rose_later s.world_faults u.world_faults t.world_faults p.world_later h.4)
+        by ending.RecordFault h = at_write (inr (record_rose h.4))
+        by ending.TooLong h = at_end (h.3, h.0)
+        by ending.OutOfMemory h = at_memory
+
+    pub thread_caused : (refused : Bool) → (refused ≡ true → Rose u.refusals t.refusals) → C (of_thread refused)
+    thread_caused true rose = at_thread (subst (λ k. Rose k t.refusals) (ap (λ x. x.refusals) p.same) (rose refl))
+    thread_caused false rose = at_done

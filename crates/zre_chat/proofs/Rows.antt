@@ -4,20 +4,12 @@ use Rattle.std.specs.Prelude.{nat_le}
 use Rattle.zre_outside.specs.declared.sink.NextFault.{NextFault}
 use Rattle.zre_outside.specs.declared.sink.NextFault.TheVariants as fault
 use Rattle.zre_commands.specs.declared.pump.status.Status.{Status}
-use Rattle.zre_commands.specs.declared.pump.status.Status.TheVariants.{Done, Usage, BadInput, ReadFault, WriteFault, WorldFault, NoThread, TooLong, OutOfMemory, DeskFault}
+use Rattle.zre_commands.specs.declared.pump.status.Status.TheVariants.{Done, WriteFault, WorldFault, NoThread, OutOfMemory}
 use Rattle.zre_chat.specs.Statuses.{rank, least, of_fault}
 
 pub one_least : (s : Status) → s ≡ least (s ∷ [])
 one_least Done = refl
-one_least Usage = refl
-one_least BadInput = refl
-one_least ReadFault = refl
-one_least WriteFault = refl
-one_least WorldFault = refl
-one_least NoThread = refl
-one_least TooLong = refl
-one_least OutOfMemory = refl
-one_least DeskFault = refl
+one_least s = refl
 
 abbrev pub first_of : Status → Status → Status
 first_of s r = cond (nat_le (rank s) (rank r)) s r
@@ -25,27 +17,11 @@ first_of s r = cond (nat_le (rank s) (rank r)) s r
 -- OutOfMemory is the first
 no_memory : (s : Status) → first_of s OutOfMemory ≡ OutOfMemory
 no_memory Done = refl
-no_memory Usage = refl
-no_memory BadInput = refl
-no_memory ReadFault = refl
-no_memory WriteFault = refl
-no_memory WorldFault = refl
-no_memory NoThread = refl
-no_memory TooLong = refl
-no_memory OutOfMemory = refl
-no_memory DeskFault = refl
+no_memory s = refl
 
 memory_first : (r : Status) → first_of OutOfMemory r ≡ OutOfMemory
 memory_first Done = refl
-memory_first Usage = refl
-memory_first BadInput = refl
-memory_first ReadFault = refl
-memory_first WriteFault = refl
-memory_first WorldFault = refl
-memory_first NoThread = refl
-memory_first TooLong = refl
-memory_first OutOfMemory = refl
-memory_first DeskFault = refl
+memory_first s = refl
 
 -- the first of one and of the first of others
 pub least_nested : (s : Status) (ss : List Status) → least (s ∷ least ss ∷ []) ≡ least (s ∷ ss)
@@ -60,27 +36,11 @@ memory_after s ss is = ap (first_of s) is ∙ no_memory s
 -- every status comes before Done
 before_done : (s : Status) → nat_le (rank s) (rank Done) ≡ true
 before_done Done = refl
-before_done Usage = refl
-before_done BadInput = refl
-before_done ReadFault = refl
-before_done WriteFault = refl
-before_done WorldFault = refl
-before_done NoThread = refl
-before_done TooLong = refl
-before_done OutOfMemory = refl
-before_done DeskFault = refl
+before_done s = refl
 
 last_done : (r : Status) → first_of Done r ≡ r
 last_done Done = refl
-last_done Usage = refl
-last_done BadInput = refl
-last_done ReadFault = refl
-last_done WriteFault = refl
-last_done WorldFault = refl
-last_done NoThread = refl
-last_done TooLong = refl
-last_done OutOfMemory = refl
-last_done DeskFault = refl
+last_done s = refl
 
 -- where the first is Done, so is each
 pub done_here : (s : Status) (ss : List Status) → least (s ∷ ss) ≡ Done → s ≡ Done

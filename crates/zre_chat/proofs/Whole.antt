@@ -1,5 +1,5 @@
 -- What a chat comes to, from what its parts came to.
-use Rattle.std.proofs.Common.{◌≡◌, ◌≢◌, ℕ, ◌==◌, Bool, true, false, true≢false, List, [], ◌∷◌, ◌++◌, map, Option, Some, None, ◌<◌, length, refl, sym, ap, ◌∙◌, subst, arith, append-nil, ⊎_elim}
+use Rattle.std.proofs.Common.{◌≡◌, ◌≢◌, ℕ, ◌==◌, Bool, true, false, true≢false, List, [], ◌∷◌, ◌++◌, map, Option, Some, None, ◌<◌, ◌≤◌, length, refl, sym, ap, ◌∙◌, subst, arith, append-nil, ⊎_elim}
 use Rattle.std.specs.Prelude.{◌⊎◌, option_map, is_some}
 use mathlib.Core.Logic.{inl, inr}
 use mathlib.Core.List.{IsPrefix, nil-sublist}
@@ -10,8 +10,6 @@ use Rattle.std.proofs.lemmas.List.{map-append}
 use Rattle.std.proofs.lemmas.List.Elements.{All-nil}
 use Rattle.zre_outside.specs.declared.entry.Command.{Command}
 use Rattle.zre_outside.specs.declared.entry.Command.TheVariants.{Quit}
-use Rattle.zre_outside.specs.declared.sink.NextFault.{NextFault}
-use Rattle.zre_outside.specs.declared.sink.NextFault.TheVariants as fault
 use Rattle.zre_outside.specs.declared.start.Start.{Start}
 use Rattle.zre_outside.specs.Causes.{Rose}
 use Rattle.zre_outside.specs.Worlds.{Log}
@@ -34,11 +32,11 @@ use Rattle.zre_console.specs.reader.Reading.{Outcome, BreaksOff}
 use Rattle.zre_console.proofs.lines.Quits.{orders-begin}
 use Rattle.zre_commands.specs.Settings.{as_settings}
 use Rattle.zre_commands.specs.declared.pump.status.Status.{Status}
-use Rattle.zre_commands.specs.declared.pump.status.Status.TheVariants.{Done, Usage, BadInput, ReadFault, WriteFault, WorldFault, NoThread, TooLong, OutOfMemory, DeskFault}
+use Rattle.zre_commands.specs.declared.pump.status.Status.TheVariants.{Done, WriteFault, WorldFault, OutOfMemory}
 use Rattle.zre_chat.specs.Chat.{Seen, IsChat, IsCaused, Holds, started, Lived, Wrote, Captured}
 use Rattle.zre_chat.specs.Keeping.{head_of}
-use Rattle.zre_chat.specs.Stages.{IsEarly, Unprepared}
-use Rattle.zre_chat.specs.Statuses.{of_fault, of_read}
+use Rattle.zre_chat.specs.Stages.{IsEarly, HasOpened, Prepared, Unprepared}
+use Rattle.zre_chat.specs.Statuses.{of_read}
 use Rattle.zre_chat.proofs.Fronts.{map-prefix, quits_through, none_before, breaks_front, breaks_plain, orders_break}
 use Rattle.zre_chat.proofs.Merged.{all_under, its_own, no_others, commands_under, prefix_nil, TwoAlone, split, alone}
 use Rattle.zre_chat.proofs.Rows.{write_isnt, world_isnt, memory_isnt, one_least}
@@ -140,29 +138,31 @@ module _ (g : Config) (start : Start) (name : Option (List ℕ)) (limit : ℕ) (
       → IsChat g start name limit s t status
   untalked begun s t status = unstarted g start name limit begun s t status (λ _. settings)
 
-  early : (s t : Seen) (status : Status) → IsEarly status s.world_faults t.world_faults s.record_faults t.record_faults → (status ≢ Done) × IsCaused status limit [] 0 false s t
+  early : (s t : Seen) (status : Status) → IsEarly status ⊥ (Rose s.world_faults t.world_faults) (Rose s.record_faults t.record_faults) → (status ≢ Done) × IsCaused status limit [] 0 false s t
   early s t WriteFault is = (write_isnt, inr is)
   early s t WorldFault is = (world_isnt, is)
   early s t OutOfMemory is = (memory_isnt, tt)
-  early s t Done is = absurd is
-  early s t Usage is = absurd is
-  early s t BadInput is = absurd is
-  early s t ReadFault is = absurd is
-  early s t NoThread is = absurd is
-  early s t TooLong is = absurd is
-  early s t DeskFault is = absurd is
+  early s t status is = absurd is
 
   -- what was begun was refused, or memory ran out
   pub unprepared : (s t : Seen) (status : Status) → t.left ≡ s.left → t.taken ≡ s.taken → t.written ≡ s.written
-      → Unprepared g start name status s.told t.told s.world_faults t.world_faults s.kept t.kept s.named t.named s.record_faults t.record_faults → IsChat g start name limit s t status
+      → Unprepared g start name status s.told t.told s.kept t.kept s.named t.named ⊥ (Rose s.world_faults t.world_faults) (Rose s.record_faults t.record_faults) → IsChat g start name limit s t status
   unprepared s t status left taken written u = let e = early s t status u.cause in
       untalked u.begun s t status left taken written u.is_told e.0 e.1 (λ file is isnt still. (let h = u.holds file is isnt still in (head_only g s.kept t.kept t.kept h.0 refl, h.1)))
 
--- ---- a refusal of the outside
-
-pub only_failed : (f : NextFault) (failed : Status) → of_fault f failed ≢ OutOfMemory → f ≡ fault.Failed
-only_failed fault.Failed failed isnt = refl
-only_failed fault.OutOfMemory failed isnt = absurd (isnt refl)
+  -- all of it came about
+  pub prepared : (keep begun : Bool) (s u : Seen) → u ≡ record s { told = u.told; world_faults = u.world_faults; kept = u.kept; named = u.named; record_faults = u.record_faults }
+      → HasOpened g start name begun s.told u.told s.kept u.kept s.named u.named → (s.world_faults ≤ u.world_faults) × (s.record_faults ≤ u.record_faults) → keep ≡ is_some name → Prepared g start name keep s u
+  prepared keep begun s u same opened later keeps = record {
+    same = same;
+    told = opened.is_told;
+    world_later = later.0;
+    record_later = later.1;
+    keeps = keeps;
+    are_settings = settings;
+    head_kept = λ file is. (opened.begins file is).is_kept;
+    file_named = λ file is. (opened.begins file is).is_named;
+  }
 
 -- a name that is there
 pub there : (name : Option (List ℕ)) → is_some name ≡ true → (file : List ℕ) × (name ≡ Some file)

@@ -1,8 +1,10 @@
 -- The pipes before any step, and what each thread is given.
-use Rattle.std.specs.Prelude.{◌≡◌, ◌≢◌, ℕ, ◌≤◌, ◌+◌, [], None, length}
+use Rattle.std.specs.Prelude.{◌≡◌, ℕ, ◌≤◌, ◌+◌, [], ◌∷◌, None, length, All}
 use Rattle.std.specs.Arc.{arc_value}
 use Rattle.zre_actor.specs.declared.passes.Pipes.{Pipes}
-use Rattle.zre_actor.specs.Passes.{IsActorOf, IsCallerOf, IsTakerOf, IsNew, number, given_of, room_of, unused_by}
+use Rattle.zre_actor.specs.Commands.{times}
+use Rattle.zre_actor.specs.Passes.{IsActorOf, IsCallerOf, IsTakerOf, AreCallersOf, IsNew, number, numbers_of}
+use Rattle.zre_actor.specs.Passes.{fresh_of, given_of, room_of, unused_by}
 use Rattle.zre_actor.specs.Passes.{popped_by, raised_by, ending_of, taken_by, last_of}
 use Rattle.zre_chat.specs.declared.places.Chair.{Chair}
 use Rattle.zre_chat.specs.declared.places.NodeSeat.{NodeSeat}
@@ -27,15 +29,22 @@ pub record IsFree (pipes : Pipes) (callers : ℕ) (s : NodeSeat) : Type 0 where
 abbrev pub parts : {A B C D E F G : Type 0} → A → B → C → D → E → F → G → A × B × C × D × E × F × G
 parts pipes world node pass recorder keep limit = (pipes, world, node, pass, recorder, keep, limit)
 
--- all passes belong to the pipes, and nothing was done with any; the two callers put under two numbers
-pub record IsLaid (t : Table) : Type 0 where
-  pub seat : IsFree (arc_value t.pipes) 2 t.seat
-  pub reader : IsChair (arc_value t.pipes) t.reader
-  pub of_asker : IsCallerOf (arc_value t.pipes) t.asker
-  pub of_taker : IsTakerOf (arc_value t.pipes) t.taker
-  pub apart : number t.reader.pass ≢ number t.asker
-  pub new_asker : IsNew t.asker
-  pub none_given : given_of t.callers ≡ []
-  pub room : 2 ≤ room_of t.callers
-  pub none_taken : taken_by t.taker ≡ []
-  pub no_last : last_of t.taker ≡ None
+-- all passes belong to the pipes, which have so many callers more than these two, and nothing was done with any
+pub record IsLaid (more : ℕ) (t : Table) : Type 0 where
+  pub seat : IsFree (arc_value t.others.pipes) (more + 2) t.seat
+  pub last : IsChair (arc_value t.others.pipes) t.others.last
+  pub of_asker : IsCallerOf (arc_value t.others.pipes) t.others.asker
+  pub of_taker : IsTakerOf (arc_value t.others.pipes) t.others.taker
+  pub new_asker : IsNew t.others.asker
+  pub none_given : given_of t.others.callers ≡ []
+  pub room : 2 ≤ room_of t.others.callers
+  pub none_taken : taken_by t.others.taker ≡ []
+  pub no_last : last_of t.others.taker ≡ None
+
+-- the passes of those callers weren't taken, and all callers put under different numbers
+pub record HasMore (more : ℕ) (t : Table) : Type 0 where
+  pub are_callers : AreCallersOf (arc_value t.others.pipes) (fresh_of t.others.callers)
+  pub are_new : All IsNew (fresh_of t.others.callers)
+  pub are_many : length (fresh_of t.others.callers) ≡ more
+  pub apart : (n : ℕ)
+      → times n (number t.others.last.pass ∷ number t.others.asker ∷ numbers_of (fresh_of t.others.callers)) ≤ 1

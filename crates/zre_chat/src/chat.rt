@@ -1,17 +1,17 @@
 //! The whole call, with its order of starts.
 
-ghost use Rattle.std.specs.Prelude.{◌≡◌, ◌≤◌, ℕ, List, [], true, None, Some, option_map, IfSome, IfOk, IfErr, OnOk};
+ghost use Rattle.std.specs.Prelude.{◌≡◌, ◌≤◌, [], true, None, IfSome, IfOk, IfErr, OnOk};
 ghost use Rattle.std.specs.Str.{is_utf8};
-ghost use Rattle.zre_outside.specs.Worlds.{with_start};
+ghost use Rattle.zre_outside.specs.Causes.{Rose};
 ghost use Rattle.zre_journal.specs.Config.{is_valid};
 ghost use Rattle.zre_node.specs.Journal.{StandsFor};
 ghost use Rattle.zre_chat.specs.Chat.{IsChat, seen};
-ghost use Rattle.zre_chat.specs.Keeping.{head_of, Begins};
-ghost use Rattle.zre_chat.specs.Stages.{Unprepared};
-ghost use Rattle.zre_chat.specs.Tables.{IsLaid};
+ghost use Rattle.zre_chat.specs.Stages.{HasOpened, Unprepared};
+ghost use Rattle.zre_chat.specs.Tables.{IsLaid, HasMore};
 
+use crate::entering::enter;
 use crate::keeping::begin;
-use crate::statuses::of_fault;
+use crate::places::NodeWork;
 use crate::table::Table;
 use crate::threads::converse;
 use crate::values::are_values;
@@ -21,7 +21,7 @@ use std::thread::Threads;
 use zre_commands::pump::Status;
 use zre_journal::Config;
 use zre_outside::{Recorder, Sink, Source, Spawner, Start, World};
-use zre_values::{Octets, OutOfMemory};
+use zre_values::Octets;
 
 /// What a chat is asked for.
 #[derive(Drop)]
@@ -79,19 +79,18 @@ impl Chat {
         ensures later { (I.faults input ≤ I.faults result.input) × (O.faults out.old ≤ O.faults out.new)
             × (P.faults spawner.old ≤ P.faults spawner.new) }
     {
-        let Chat {
-            config,
-            start,
-            capture,
-        } = self;
-        are_values(&config);
+        are_values(&self.config);
+        let keep = self.capture.is_some();
         let (mut world, mut rec) = (world, rec);
-        match prepare(alloc, config, &start, &capture, &mut world, &mut rec) {
+        match prepare(alloc, self, &mut world, &mut rec) {
             Ok(table) => {
-                let keep = capture.is_some();
-                converse(
-                    rt, alloc, table, input, world, out, rec, keep, spawner, limit,
-                )
+                let work = NodeWork {
+                    world,
+                    rec,
+                    keep,
+                    limit,
+                };
+                converse(rt, alloc, table, input, work, out, spawner)
             }
             Err(status) => Ended {
                 status,
@@ -106,33 +105,27 @@ impl Chat {
 // Begins the capture, where one is kept, goes on the network, and makes what the threads need.
 fn prepare<W: World, R: Recorder>(
     alloc: Global,
-    config: Config,
-    start: &Start,
-    capture: &Option<Octets>,
+    chat: Chat,
     world: &mut W,
     rec: &mut R,
 ) -> Result<Table, Status>
-    requires valid { is_valid config ≡ true }
-    requires text { IfSome capture.now (λ name. is_utf8 name ≡ true) }
-    ensures laid { IfOk result (λ table. IsLaid table × StandsFor config [] table.seat.node) }
-    ensures told { OnOk result (W.told world.new ≡ option_map (with_start start.now) (W.told world.old)) }
-    ensures kept { (name : List ℕ) → capture.now ≡ Some name →
-        OnOk result (Begins (head_of config) name (R.begun rec.new) (R.kept rec.old) (R.kept rec.new) (R.named rec.old)
-        (R.named rec.new)) }
-    ensures unkept { capture.now ≡ None → rec.new ≡ rec.old }
+    requires valid { is_valid chat.config ≡ true }
+    requires text { IfSome chat.capture (λ name. is_utf8 name ≡ true) }
+    ensures laid { IfOk result (λ table. IsLaid 0 table × HasMore 0 table) }
+    ensures node { IfOk result (λ table. StandsFor chat.config [] table.seat.node) }
+    ensures opened { OnOk result (HasOpened chat.config chat.start chat.capture (R.begun rec.new)
+        (W.told world.old) (W.told world.new) (R.kept rec.old) (R.kept rec.new) (R.named rec.old) (R.named rec.new)) }
+    ensures unkept { chat.capture ≡ None → rec.new ≡ rec.old }
     ensures later { (W.faults world.old ≤ W.faults world.new) × (R.faults rec.old ≤ R.faults rec.new) }
-    ensures refused { IfErr result (λ status. Unprepared config start.now capture.now status (W.told world.old)
-        (W.told world.new) (W.faults world.old) (W.faults world.new)
-        (R.kept rec.old) (R.kept rec.new) (R.named rec.old) (R.named rec.new) (R.faults rec.old) (R.faults rec.new)) }
+    ensures refused { IfErr result (λ status. Unprepared chat.config chat.start chat.capture status
+        (W.told world.old) (W.told world.new) (R.kept rec.old) (R.kept rec.new) (R.named rec.old) (R.named rec.new)
+        ⊥ (Rose (W.faults world.old) (W.faults world.new)) (Rose (R.faults rec.old) (R.faults rec.new))) }
 {
-    if let Err(fault) = begin(alloc, rec, &config, capture) {
-        return Err(of_fault(fault, Status::WriteFault));
-    }
-    if let Err(fault) = world.start(start) {
-        return Err(of_fault(fault, Status::WorldFault));
-    }
-    match Table::lay(alloc, config) {
-        Ok(table) => Ok(table),
-        Err(OutOfMemory) => Err(Status::OutOfMemory),
-    }
+    let Chat {
+        config,
+        start,
+        capture,
+    } = chat;
+    begin(alloc, rec, &config, &capture)?;
+    enter(alloc, config, &start, world, 0)
 }

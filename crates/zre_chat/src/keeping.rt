@@ -1,13 +1,17 @@
 //! The capture is begun.
 
-ghost use Rattle.std.specs.Prelude.{◌≡◌, ◌≤◌, ℕ, List, Option, None, Some, true, is_ok, IfSome, IfOk, OnOk, IsErrOf};
+ghost use Rattle.std.specs.Prelude.{◌≡◌, ◌≤◌, ℕ, List, Option, None, Some, true, is_ok, IfSome, IfOk, IfErr, OnOk};
+ghost use Rattle.std.specs.Prelude.{IsErrOf};
 ghost use Rattle.std.specs.Str.{is_utf8};
 ghost use Rattle.zre_outside.specs.Causes.{Rose};
 ghost use Rattle.zre_chat.specs.Keeping.{head_of, Begins};
+ghost use Rattle.zre_chat.specs.Stages.{IsEarly};
 
+use crate::statuses::of_fault;
 use std::alloc::Global;
 use std::str;
 use zre_capture::write_head2;
+use zre_commands::pump::Status;
 use zre_commands::settings::as_settings;
 use zre_journal::Config;
 use zre_outside::{NextFault, Recorder};
@@ -40,22 +44,25 @@ pub fn begin<R: Recorder>(
     rec: &mut R,
     config: &Config,
     capture: &Option<Octets>,
-) -> Result<(), NextFault>
+) -> Result<(), Status>
     requires { IfSome capture.now (λ name. is_utf8 name ≡ true) }
     ensures begins { (name : List ℕ) → capture.now ≡ Some name → OnOk result (Begins (head_of config.now) name
         (R.begun rec.new) (R.kept rec.old) (R.kept rec.new) (R.named rec.old) (R.named rec.new)) }
     ensures unkept { capture.now ≡ None → (rec.new ≡ rec.old) × (is_ok result ≡ true) }
     ensures later { R.faults rec.old ≤ R.faults rec.new }
-    ensures failed { IsErrOf result NextFault.Failed → Rose (R.faults rec.old) (R.faults rec.new) }
+    ensures refused { IfErr result (λ status. IsEarly status ⊥ ⊥ (Rose (R.faults rec.old) (R.faults rec.new))) }
 {
     let Some(name) = capture else {
         return Ok(());
     };
     let Ok(head) = head_of(alloc, config) else {
-        return Err(NextFault::OutOfMemory);
+        return Err(Status::OutOfMemory);
     };
-    match str::from_utf8(name.as_slice()) {
-        Ok(name) => begin_named(rec, name, head.as_slice()),
-        Err(_) => unreachable!(),
+    let Ok(name) = str::from_utf8(name.as_slice()) else {
+        unreachable!();
+    };
+    match begin_named(rec, name, head.as_slice()) {
+        Ok(()) => Ok(()),
+        Err(fault) => Err(of_fault(fault, Status::WriteFault)),
     }
 }

@@ -3,13 +3,14 @@
 #![tactic(auto)]
 
 mod chat;
+pub mod entering;
 pub mod finishing;
 pub mod keeping;
 pub mod places;
 pub mod starting;
 pub mod statuses;
-mod table;
-mod talk;
+pub mod table;
+pub mod talk;
 mod threads;
 pub mod values;
 

@@ -23,6 +23,19 @@ pub struct NodeSeat {
     pub pass: ActorPass,
 }
 
+/// What the node works with, and how far.
+#[derive(Drop)]
+pub struct NodeWork<W, R> {
+    /// Where its turns come from and its acts go to.
+    pub world: W,
+    /// Where its entries are kept.
+    pub rec: R,
+    /// Whether they are kept.
+    pub keep: bool,
+    /// The most turns of the world, and the most octets that are read of an input.
+    pub limit: u64,
+}
+
 /// What a thread that puts commands is given.
 #[derive(Drop)]
 pub struct Chair {

@@ -7,19 +7,15 @@ ghost use Rattle.zre_outside.specs.Spawners.{job_of};
 ghost use Rattle.zre_actor.specs.Passes.{IsActorOf, ending_of};
 ghost use Rattle.zre_chat.specs.Tables.{parts};
 
-use crate::places::NodeSeat;
+use crate::places::{NodeSeat, NodeWork};
 use zre_actor::ActorJob;
 use zre_outside::{Recorder, Refused, Running, Spawner, World};
 
-/// Starts the node's thread over this world, or hands the world and the recorder back. A capture is put into the
-/// recorder where `keep` says so, and at most `limit` turns of the world are taken.
+/// Starts the node's thread, or hands the world and the recorder back.
 pub fn start_node<W, R, P>(
     spawner: &mut P,
     seat: NodeSeat,
-    world: W,
-    rec: R,
-    keep: bool,
-    limit: u64,
+    work: NodeWork<W, R>,
 ) -> Result<Running<ActorJob<W, R>>, (W, R)>
 where
     W: World + Send + Drop + 'static,
@@ -28,23 +24,22 @@ where
     requires pipes { IsActorOf (arc_value seat.pipes) seat.pass }
     requires open { ending_of seat.pass ≡ None }
     requires room { seat.pass.empties ≡ 0 }
-    requires begun { keep ≡ true → R.begun rec ≡ true }
+    requires begun { work.keep ≡ true → R.begun work.rec ≡ true }
     ensures started { IfOk result (λ running. let j = job_of running in
         parts j.pipes j.world j.node j.pass j.rec j.keep j.limit
-        ≡ parts seat.pipes world seat.node seat.pass rec keep limit) }
-    ensures refused { IfErr result (λ back. back ≡ (world, rec)) }
+        ≡ parts seat.pipes work.world seat.node seat.pass work.rec work.keep work.limit) }
+    ensures refused { IfErr result (λ back. back ≡ (work.world, work.rec)) }
     ensures later { P.faults spawner.old ≤ P.faults spawner.new }
     ensures failed { OnErr result (Rose (P.faults spawner.old) (P.faults spawner.new)) }
 {
-    let NodeSeat { pipes, node, pass } = seat;
     let job = ActorJob {
-        pipes,
-        world,
-        node,
-        pass,
-        rec,
-        keep,
-        limit,
+        pipes: seat.pipes,
+        world: work.world,
+        node: seat.node,
+        pass: seat.pass,
+        rec: work.rec,
+        keep: work.keep,
+        limit: work.limit,
     };
     match spawner.start(job) {
         Ok(running) => Ok(running),

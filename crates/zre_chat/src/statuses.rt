@@ -36,7 +36,8 @@ pub fn of_fault(fault: NextFault, failed: Status) -> Status
     }
 }
 
-fn of_read(end: InputEnd) -> Status
+// What the end of the input comes to.
+pub(crate) fn of_read(end: InputEnd) -> Status
     ensures { result ≡ of_read end }
 {
     match end {
@@ -47,8 +48,8 @@ fn of_read(end: InputEnd) -> Status
     }
 }
 
-/// What a fault of the printer, if there was one, comes to.
-pub fn of_print(fault: Option<NextFault>) -> Status
+// What a fault of the printer, if there was one, comes to.
+fn of_print(fault: Option<NextFault>) -> Status
     ensures { result ≡ of_print fault }
 {
     match fault {
@@ -57,8 +58,8 @@ pub fn of_print(fault: Option<NextFault>) -> Status
     }
 }
 
-/// What the end of the node's thread comes to.
-pub fn of_work(ending: Ending) -> Status
+// What the end of the node's thread comes to.
+fn of_work(ending: Ending) -> Status
     ensures { result ≡ of_work ending }
 {
     match ending {
@@ -70,8 +71,8 @@ pub fn of_work(ending: Ending) -> Status
     }
 }
 
-/// What the refusal of a thread comes to.
-pub fn of_thread(refused: bool) -> Status
+// What the refusal of a thread comes to.
+fn of_thread(refused: bool) -> Status
     ensures { result ≡ of_thread refused }
 {
     if refused {
@@ -81,15 +82,15 @@ pub fn of_thread(refused: bool) -> Status
     }
 }
 
-/// The status where these are how the parts ended.
+// The status where these are how the reading, the printing, the node's work and the starts ended.
 pub(crate) fn status_of(
-    end: InputEnd,
+    read: Status,
     fault: Option<NextFault>,
     ending: Ending,
     refused: bool,
 ) -> Status
-    ensures { result ≡ least (of_read end ∷ of_print fault ∷ of_work ending ∷ of_thread refused ∷ []) }
+    ensures { result ≡ least (read ∷ of_print fault ∷ of_work ending ∷ of_thread refused ∷ []) }
 {
     let last = first(of_work(ending), of_thread(refused));
-    first(of_read(end), first(of_print(fault), last))
+    first(read, first(of_print(fault), last))
 }

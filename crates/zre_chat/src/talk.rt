@@ -1,111 +1,123 @@
-//! The reader is started, and the node's events are printed meanwhile.
+//! A job is started that puts commands, and the node's events are printed meanwhile.
 
-ghost use Rattle.std.specs.Prelude.{◌≡◌, ◌≤◌, true, None, Some, IsSome};
+ghost use Rattle.std.specs.Prelude.{◌≡◌, ◌≤◌, ◌⊎◌, true, None, Some, IsSome, OnErr, MatchResult};
 ghost use Rattle.std.specs.Arc.{arc_value};
 ghost use Rattle.zre_outside.specs.Causes.{Rose};
+ghost use Rattle.zre_outside.specs.Spawners.{job_of};
 ghost use Rattle.zre_outside.specs.declared.sink.NextFault.TheVariants.{Failed};
 ghost use Rattle.zre_actor.specs.Passes.{IsCallerOf, IsTakerOf, last_of};
-ghost use Rattle.zre_console.specs.reader.Reading.{HasRead};
 ghost use Rattle.zre_console.specs.printer.Printing.{HasPrinted};
 ghost use Rattle.zre_console.specs.printer.Asking.{asker_of};
 
 use std::alloc::Global;
-use std::sync::Wait;
 use std::sync::atomic::{AtomicBool, Ordering};
+use std::sync::{Arc, Wait};
 use std::thread::Threads;
 use zre_actor::{CallerPass, Pipes, TakerPass};
 use zre_console::printer::{Asker, Printed, Wish, print_all};
-use zre_console::reader::{InputEnd, ReaderDone, ReaderJob};
-use zre_outside::{Refused, Sink, Source, Spawner};
+use zre_console::reader::{ReaderDone, ReaderJob};
+use zre_outside::{Job, Refused, Running, Sink, Source, Spawner};
 
-/// What is left after Last, and whether the reader was refused a thread.
-#[derive(Drop)]
-pub(crate) struct Talk<I> {
-    pub read: ReaderDone<I>,
-    pub printed: Printed,
-    pub refused: bool,
+/// A job that has an answer too where no thread is found for it.
+pub trait Excused<R>: Job<R> {
+    /// The answer of a job that wasn't started.
+    fn excuse<T: Wait + Copy>(self, rt: T) -> Self::Out
+        ensures { Self.means self result };
 }
 
-// What comes back of a reader that wasn't started.
-fn unread<I: Source + Send + Drop + 'static>(job: ReaderJob<I>) -> ReaderDone<I>
-    ensures pipes { IsCallerOf (arc_value job.pipes) result.pass }
-    ensures later { I.faults job.input ≤ I.faults result.input }
-    ensures read { HasRead result.end job.limit job.pass result.pass (I.left job.input) (I.left result.input)
-        (I.taken job.input) (I.taken result.input)
-        (Rose (I.faults job.input) (I.faults result.input)) }
-{
-    let ReaderJob {
-        alloc: _,
-        pipes: _,
-        over: _,
-        pass,
-        input,
-        limit: _,
-    } = job;
-    ReaderDone {
-        input,
-        pass,
-        end: InputEnd::Over,
+impl<R: Wait + Copy, I: Source + Send + Drop + 'static> Excused<R> for ReaderJob<I> {
+    fn excuse<T: Wait + Copy>(self, _rt: T) -> ReaderDone<I> {
+        self.leave()
     }
 }
 
-/// Starts the reader, prints until Last, tells the reader that the chat is over, and waits for it. Where it isn't
-/// started, the node is asked to stop at once.
-pub(crate) fn hold_talk<I, O: Sink, P: Spawner, T: Wait + Threads + Copy>(
+/// What is left after Last, and whether a thread was refused.
+#[derive(Drop)]
+pub struct Talk<D> {
+    /// The answer of the job.
+    pub done: D,
+    /// What is left of the printing.
+    pub printed: Printed,
+    /// Whether a thread was refused.
+    pub refused: bool,
+}
+
+/// Starts a job, unless a thread was refused before.
+pub fn start<J: Job<P::Runtime>, P: Spawner>(
+    spawner: &mut P,
+    job: J,
+    refused: bool,
+) -> Result<Running<J>, J>
+    ensures started { MatchResult result (λ running. job_of running ≡ job) (λ back. back ≡ job) }
+    ensures refused { OnErr result ((refused ≡ true) ⊎ Rose (P.faults spawner.old) (P.faults spawner.new)) }
+    ensures later { P.faults spawner.old ≤ P.faults spawner.new }
+{
+    if refused {
+        return Err(job);
+    }
+    match spawner.start(job) {
+        Ok(running) => Ok(running),
+        Err(refused) => {
+            let Refused { job } = refused;
+            Err(job)
+        }
+    }
+}
+
+// Who asks the node to stop: at once, where a thread was refused.
+fn asker_at(pass: CallerPass, refused: bool) -> Asker
+    ensures { result ≡ asker_of pass refused }
+{
+    Asker {
+        pass,
+        wish: if refused { Wish::Due } else { Wish::No },
+    }
+}
+
+/// Starts the job, unless a thread was refused before, prints until Last, tells all who put commands that nothing more
+/// is to be put, and waits for the job. Where a thread was refused, the node is asked to stop at once.
+pub fn hold_talk<J, O: Sink, P: Spawner, T: Wait + Threads + Copy>(
     rt: T,
     alloc: Global,
-    pipes: &Pipes,
+    pipes: &Arc<Pipes, Global>,
     over: &AtomicBool,
-    job: ReaderJob<I>,
+    job: J,
+    refused: bool,
     asker: CallerPass,
     taker: TakerPass,
     out: &mut O,
     spawner: &mut P,
-) -> Talk<I>
+) -> Talk<J::Out>
 where
-    I: Source + Send + Drop + 'static,
-    requires pipes { IsTakerOf pipes.now taker × IsCallerOf pipes.now asker }
+    J: Excused<P::Runtime>,
+    requires pipes { IsTakerOf (arc_value pipes.now) taker × IsCallerOf (arc_value pipes.now) asker }
     requires open { last_of taker ≡ None }
-    ensures pipes { IsTakerOf pipes.now result.printed.taker × IsCallerOf pipes.now result.printed.pass
-        × IsCallerOf (arc_value job.pipes) result.read.pass }
+    ensures pipes { IsTakerOf (arc_value pipes.now) result.printed.taker
+        × IsCallerOf (arc_value pipes.now) result.printed.pass }
     ensures last { IsSome (last_of result.printed.taker) }
-    ensures read { HasRead result.read.end job.limit job.pass result.read.pass (I.left job.input)
-        (I.left result.read.input) (I.taken job.input) (I.taken result.read.input)
-        (Rose (I.faults job.input) (I.faults result.read.input)) }
+    ensures done { J.means job result.done }
     ensures printed { HasPrinted (asker_of asker result.refused) taker result.printed.taker result.printed.pass
         result.printed.fault (O.written out.old) (O.written out.new) }
     ensures failed { result.printed.fault ≡ Some Failed → Rose (O.faults out.old) (O.faults out.new) }
-    ensures refused { result.refused ≡ true → Rose (P.faults spawner.old) (P.faults spawner.new) }
-    ensures reads { I.faults job.input ≤ I.faults result.read.input }
+    ensures refused { result.refused ≡ true
+        → (refused ≡ true) ⊎ Rose (P.faults spawner.old) (P.faults spawner.new) }
     ensures writes { O.faults out.old ≤ O.faults out.new }
     ensures starts { P.faults spawner.old ≤ P.faults spawner.new }
 {
-    match spawner.start(job) {
-        Ok(running) => {
-            let asker = Asker {
-                pass: asker,
-                wish: Wish::No,
-            };
-            let printed = print_all(rt, alloc, pipes, taker, asker, out);
-            over.store(true, Ordering::SeqCst);
-            Talk {
-                read: running.join(rt),
-                printed,
-                refused: false,
-            }
-        }
-        Err(refused) => {
-            let Refused { job } = refused;
-            let asker = Asker {
-                pass: asker,
-                wish: Wish::Due,
-            };
-            let printed = print_all(rt, alloc, pipes, taker, asker, out);
-            Talk {
-                read: unread(job),
-                printed,
-                refused: true,
-            }
-        }
+    let started = start(spawner, job, refused);
+    let asker = asker_at(asker, started.is_err());
+    let printed = print_all(rt, alloc, pipes, taker, asker, out);
+    over.store(true, Ordering::SeqCst);
+    match started {
+        Ok(running) => Talk {
+            done: running.join(rt),
+            printed,
+            refused: false,
+        },
+        Err(job) => Talk {
+            done: job.excuse(rt),
+            printed,
+            refused: true,
+        },
     }
 }

@@ -1,25 +1,13 @@
 //! A node's settings are values of their types. The functions only look: what they ensure is for proofs.
 
 ghost use Rattle.std.specs.Prelude.{◌≡◌, true, All};
-ghost use Rattle.zre_values.specs.Address.{IsAddress};
-ghost use Rattle.zre_values.specs.PlainId.{IsPeerId};
 ghost use Rattle.zre_capture.specs.Heads.{IsHeader, AreSettings};
-ghost use Rattle.zre_capture.specs.Lines.{IsOctets};
 ghost use Rattle.zre_journal.specs.Config.{is_valid};
 ghost use Rattle.zre_commands.specs.Settings.{as_settings};
 
+use zre_actor::values::{are_octets, is_address, is_id};
 use zre_journal::Config;
-use zre_values::{Octets, Pairs, PeerId};
-
-fn are_bytes(bytes: &[u8])
-    ensures { IsOctets bytes.now }
-{}
-
-fn are_octets(octets: &Octets)
-    ensures { IsOctets octets.now }
-{
-    are_bytes(octets.as_slice());
-}
+use zre_values::{Octets, Pairs};
 
 fn is_header(header: &(Octets, Octets))
     ensures { IsHeader header.now }
@@ -34,20 +22,6 @@ fn are_headers(headers: &Pairs)
     for header in headers.as_slice() {
         is_header(header);
     }
-}
-
-fn is_id(id: &PeerId)
-    ensures { IsPeerId id.now }
-{
-    let PeerId(octets) = *id;
-    are_bytes(&octets);
-}
-
-fn is_address(host: &[u8; 4])
-    ensures { IsAddress host.now }
-{
-    let octets = *host;
-    are_bytes(&octets);
 }
 
 /// Shows that valid settings are values of their types.

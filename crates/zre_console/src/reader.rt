@@ -8,4 +8,3 @@ mod reading;
 pub use ending::InputEnd;
 pub use job::{ReaderDone, ReaderJob};
 pub use putting::close;
-pub use reading::read_lines;

@@ -1,7 +1,6 @@
 -- What comes back of a client.
 use Rattle.std.proofs.Common.{◌≡◌, ℕ, ◌≤◌, List, [], ◌++◌, map, length, Option, refl, sym, ap, ◌∙◌, subst, arith}
 use mathlib.Core.Logic.{inl}
-use Rattle.std.proofs.Math.Logic.{∥∥₁_elim}
 use Rattle.std.proofs.Props.{props}
 use Rattle.std.proofs.KnownBytes.{Appends-nil, Consumes-nil}
 use Rattle.zre_outside.specs.Causes.{Rose}
@@ -63,8 +62,3 @@ caller_prop pipes p = hlevel props
 
 pub nat_prop : (a b : ℕ) → IsProp (a ≡ b)
 nat_prop a b = hlevel props
-
--- a client's pass is a caller's of its pipes
-pub guest_caller : (hall : Option Hall) (pipes : Pipes) (limit place : ℕ) (pass : CallerPass) (before : Row) → ∥ IsGuest hall pipes limit place pass before ∥₁ → IsCallerOf pipes pass
-guest_caller hall pipes limit place pass before known =
-    ∥∥₁_elim known (caller_prop pipes pass) (λ k. subst (λ (p : Pipes). IsCallerOf p pass) (sym k.same_pipes) k.of_pipes)

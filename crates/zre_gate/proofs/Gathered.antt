@@ -13,7 +13,7 @@ use Rattle.zre_console.specs.declared.reader.ending.InputEnd.TheVariants as end
 use Rattle.zre_console.specs.reader.Putting as putting
 use Rattle.zre_console.proofs.reader.Puts.{puts-none}
 use Rattle.zre_commands.specs.declared.pump.status.Status.{Status}
-use Rattle.zre_commands.specs.declared.pump.status.Status.TheVariants.{Done, Usage, BadInput, ReadFault, WriteFault, WorldFault, NoThread, TooLong, OutOfMemory, DeskFault}
+use Rattle.zre_commands.specs.declared.pump.status.Status.TheVariants.{Done, TooLong, OutOfMemory}
 use Rattle.zre_chat.specs.Statuses.{least}
 use Rattle.zre_chat.proofs.Rows.{memory_here}
 use Rattle.zre_gate.specs.Clients.{Row, Served, IsServed, put_for, put_for_all, after_of, is_over, of_client}
@@ -26,15 +26,7 @@ use Rattle.std.proofs.Math.Seq.{take-length}
 
 done_first : (r : Status) → least (Done ∷ r ∷ []) ≡ r
 done_first Done = refl
-done_first Usage = refl
-done_first BadInput = refl
-done_first ReadFault = refl
-done_first WriteFault = refl
-done_first WorldFault = refl
-done_first NoThread = refl
-done_first TooLong = refl
-done_first OutOfMemory = refl
-done_first DeskFault = refl
+done_first r = refl
 
 module _ (served : List Served) (s : Served) (status status' : Status) (e : Ends served status) where
   all : List Served

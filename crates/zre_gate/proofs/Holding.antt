@@ -29,23 +29,20 @@ use Rattle.zre_actor.specs.declared.views.Placed.{Placed}
 use Rattle.zre_actor.specs.Commands.{under, times, command_of}
 use Rattle.zre_actor.specs.Passes.{IsNew, number, ended, put_by, puts_of, popped_by, raised_by, taken_by}
 use Rattle.zre_actor.specs.Work.{Scene, scene, IsWork, Ends, QuitsLast}
-use Rattle.zre_actor.proofs.Working.{rose_later}
 use Rattle.zre_console.specs.lines.Orders.{is_quit}
 use Rattle.zre_console.specs.declared.reader.ending.InputEnd.TheVariants as end
-use Rattle.zre_console.proofs.reader.Puts.{puts-none}
 use Rattle.zre_commands.specs.declared.pump.status.Status.{Status}
 use Rattle.zre_commands.specs.declared.pump.status.Status.TheVariants.{Done, TooLong, OutOfMemory, DeskFault}
-use Rattle.zre_console.specs.declared.printer.asker.Wish.{Wish}
-use Rattle.zre_console.specs.declared.printer.asker.Wish.TheVariants.{No, Due, Put}
-use Rattle.zre_console.specs.printer.Asking.{asked, asker_of, HasAsked}
+use Rattle.zre_console.specs.printer.Asking.{asked, asker_of}
 use Rattle.zre_console.specs.printer.Printing.{HasPrinted}
 use Rattle.zre_chat.specs.Chat.{Seen}
 use Rattle.zre_chat.specs.Stages.{Prepared}
 use Rattle.zre_chat.specs.Statuses.{rank, least, of_print, of_work, of_thread}
+use Rattle.zre_chat.proofs.Asker.{asked_few, asker_put}
 use Rattle.zre_chat.proofs.Living as living
 use Rattle.zre_chat.proofs.Merged.{all_under}
-use Rattle.zre_chat.proofs.Rows.{memory_here, memory_after, done_here, done_after}
-use Rattle.zre_gate.specs.Clients.{Row, Served, IsServed, put_for_all, is_over, of_client}
+use Rattle.zre_chat.proofs.Parts as parts
+use Rattle.zre_gate.specs.Clients.{Row, Served, IsServed, put_for_all}
 use Rattle.zre_gate.specs.Clients as clients
 use Rattle.zre_gate.specs.Gate.{Client, IsClient, IsWhole, IsFree, IsLong, IsCaused, Merged, HasServed, IsGate, before_of, after_of, handed_of}
 use Rattle.zre_gate.specs.Gathering.{IsWell, IsOwnEnd, Gathers, Closes}
@@ -78,10 +75,6 @@ unmapped P f (x ∷ xs) a = All-cons (λ x. P (f x)) x xs (All-head P (f x) (map
 contains_mapped : {X Y : Type 0} (f : X → Y) (xs : List X) (x : X) → Contains xs x → Contains (map f xs) (f x)
 contains_mapped f xs x there = All-contains (λ y. Contains (map f xs) (f y)) xs x (unmapped (Contains (map f xs)) f xs (All-contains_itself (map f xs))) there
 
-none_wished : (asker : CallerPass) (refused : Bool) → HasAsked asker (asker_of asker refused)
-none_wished asker true = puts-none asker
-none_wished asker false = puts-none asker
-
 module _ (g : Config) (start : Start) (name : Option (List ℕ)) (keep : Bool) (limit many : ℕ) (s u t : Seen) (p : Prepared g start name keep s u)
     (n : Node) (how : Ending) (looked looked' : Bool) (actor actor' : ActorPass)
     (w : IsWork g [] keep limit (scene u.told looked u.world_faults u.kept u.record_faults actor) (scene t.told looked' t.world_faults t.kept t.record_faults actor') n how)
@@ -95,61 +88,17 @@ module _ (g : Config) (start : Start) (name : Option (List ℕ)) (keep : Bool) (
     (fronts : (m : ℕ) → IsPrefix (under m (popped_by actor')) (under m (puts_of (closer' ∷ asker' ∷ []))))
     (ends : (before : List Placed) (last : Placed) (m : ℕ) → popped_by actor' ≡ before ++ last ∷ [] → 1 ≤ times m last.ended → under m (popped_by actor') ≡ under m (puts_of (closer' ∷ asker' ∷ [])))
     (all_taken : taken_by taker' ≡ raised_by actor') (desk : Type 0) (are_many : length guests ≡ many) where
-  abbrev fourth : List Status
-  fourth = of_thread refused ∷ []
-
-  abbrev third : List Status
-  third = of_work how ∷ fourth
-
-  abbrev second : List Status
-  second = of_print broke ∷ third
-
   abbrev statuses : List Status
-  statuses = close ∷ second
+  statuses = parts.statuses close broke how refused
 
   abbrev status : Status
   status = least statuses
 
-  -- ---- what the status says of the parts
-
-  memory : status ≢ OutOfMemory → how ≢ ending.OutOfMemory
-  memory isnt is = isnt (memory_after close second (memory_after (of_print broke) third (memory_here (of_work how) fourth (ap of_work is))))
-
-  page : status ≢ OutOfMemory → broke ≢ Some fault.OutOfMemory
-  page isnt is = isnt (memory_after close second (memory_here (of_print broke) third (ap of_print is)))
-
-  close_done : status ≡ Done → close ≡ Done
-  close_done is = done_here close second is
-
-  print_done : status ≡ Done → of_print broke ≡ Done
-  print_done is = done_here (of_print broke) third (done_after close second is)
-
-  work_done : status ≡ Done → of_work how ≡ Done
-  work_done is = done_here (of_work how) fourth (done_after (of_print broke) third (done_after close second is))
-
-  thread_done : status ≡ Done → of_thread refused ≡ Done
-  thread_done is = done_here (of_thread refused) [] (done_after (of_work how) fourth (done_after (of_print broke) third (done_after close second is)))
-
-  printed_whole : status ≡ Done → broke ≡ None
-  printed_whole is = by broke refl
-    where
-      by : (f : Option NextFault) → broke ≡ f → broke ≡ None
-      by None e = e
-      by (Some fault.Failed) e = absurd (let x = sym (ap of_print e) ∙ print_done is in cc)
-      by (Some fault.OutOfMemory) e = absurd (let x = sym (ap of_print e) ∙ print_done is in cc)
-
-  has_started : status ≡ Done → refused ≡ false
-  has_started is = by refused refl
-    where
-      by : (b : Bool) → refused ≡ b → refused ≡ false
-      by true e = absurd (let x = sym (ap of_thread e) ∙ thread_done is in cc)
-      by false e = e
-
   both : status ≢ OutOfMemory → (how ≢ ending.OutOfMemory) × (broke ≢ Some fault.OutOfMemory)
-  both isnt = (memory isnt, page isnt)
+  both = parts.both close broke how refused
 
   well : status ≡ Done → (of_work how ≡ Done) × (broke ≡ None)
-  well is = (work_done is, printed_whole is)
+  well = parts.well close broke how refused
 
   -- ---- what the callers put
 
@@ -165,16 +114,11 @@ module _ (g : Config) (start : Start) (name : Option (List ℕ)) (keep : Bool) (
   abbrev wished : List Command
   wished = asked d.last.wish
 
-  few : (x : Wish) → (asked x ≡ []) ⊎ (asked x ≡ Quit ∷ [])
-  few No = inl refl
-  few Due = inl refl
-  few Put = inr refl
-
   calm : status ≡ Done → wished ≡ []
-  calm is = ap asked (d.calm (printed_whole is) (ap (λ b. (asker_of asker b).wish) (has_started is)))
+  calm is = ap asked (d.calm (well is).1 (ap (λ b. (asker_of asker b).wish) (parts.has_started close broke how refused is)))
 
   put_last : put_by asker' ≡ all_under (number asker) (ended asker) wished
-  put_last = (let asks = d.asked asker (none_wished asker refused) in ap put_by (sym d.is_last) ∙ asks.put ∙ ap (λ l. l ++ all_under (number asker) (ended asker) wished) new_asker.1)
+  put_last = asker_put asker refused taker taker' asker' broke u.written t.written d new_asker
 
   some : status ≡ Done → 0 < limit
   some is = living.turned g start name keep limit s u t p n how looked looked' actor actor' w named none_popped none_raised (asker_of asker refused) asker' taker taker' broke d write_rose none_taken all_taken status both well is
@@ -217,7 +161,7 @@ module _ (g : Config) (start : Start) (name : Option (List ℕ)) (keep : Bool) (
     plain = All-weaker (IsServed limit) IsPlain (λ x h. plain_commands x.end limit x.commands x.octets x.after.left (Rose x.before.faults x.after.faults) h.outcome) S gathers.each
 
     ends_well : status ≡ Done → All IsWell S
-    ends_well is = gathers.ends.well (close_done is)
+    ends_well is = gathers.ends.well (parts.read_done close broke how refused is)
 
     -- ---- the clients, where this much was handed in without a quit
 
@@ -227,7 +171,7 @@ module _ (g : Config) (start : Start) (name : Option (List ℕ)) (keep : Bool) (
 
       module _ (r : List Placed) (is_front : popped ≡ b ++ r) (none : list_any is_quit (map command_of b) ≡ false) where
         its_front : All (λ x. IsPrefix (its_named b x) x.commands) S
-        its_front = named_front S (number closer) (number asker) (ended asker) k.tail wished its_apart k.closes (few d.last.wish) plain popped its_fronts b r is_front none
+        its_front = named_front S (number closer) (number asker) (ended asker) k.tail wished its_apart k.closes (asked_few d.last.wish) plain popped its_fronts b r is_front none
 
         each : All (IsClient limit) the_clients
         each = All-map (IsClient limit) (client_for (its_named b)) S
@@ -240,7 +184,7 @@ module _ (g : Config) (start : Start) (name : Option (List ℕ)) (keep : Bool) (
 
         interleaved : IsInterleaving (map handed_of the_clients) (map command_of b)
         interleaved = subst (λ l. IsInterleaving l (map command_of b)) (sym (map_map handed_of (client_for (its_named b)) S))
-            (is_interleaved S (number closer) (number asker) (ended asker) k.tail wished its_apart k.closes (few d.last.wish) plain popped its_fronts b r is_front none)
+            (is_interleaved S (number closer) (number asker) (ended asker) k.tail wished its_apart k.closes (asked_few d.last.wish) plain popped its_fronts b r is_front none)
 
         long : (x : Served) → Contains S x → x.end ≡ end.TooLong → (c : Client) × Contains the_clients c × IsLong limit c
         long x there is = (client_for (its_named b) x, contains_mapped (client_for (its_named b)) S x there, is_long limit (its_named b) x (All-contains (IsServed limit) S x gathers.each there) is)
@@ -253,23 +197,15 @@ module _ (g : Config) (start : Start) (name : Option (List ℕ)) (keep : Bool) (
         close_cause (inr (inl is)) turns stopped = subst (λ (z : Status). IsCaused z limit the_clients turns stopped s t desk) (sym is) tt
         close_cause (inr (inr (is, x, there, too))) turns stopped = subst (λ (z : Status). IsCaused z limit the_clients turns stopped s t desk) (sym is) (inl (long x there too))
 
-        print_cause : (f : Option NextFault) → broke ≡ f → (turns : ℕ) (stopped : Bool) → IsCaused (of_print f) limit the_clients turns stopped s t desk
-        print_cause None e turns stopped = tt
-        print_cause (Some fault.Failed) e turns stopped = inl (subst (λ m. Rose m t.write_faults) p.same_writes (write_rose e))
-        print_cause (Some fault.OutOfMemory) e turns stopped = tt
+        abbrev Needs : Status → Type 0
+        Needs x = IsCaused x limit the_clients w.turns (has_stopped (chronicle g w.entries)) s t desk
 
-        work_cause : (e : Ending) (turns : ℕ) (stopped : Bool) (unstepped : List Entry) (pending : List Command)
-            → Ends e stopped turns limit keep (scene u.told looked u.world_faults u.kept u.record_faults actor) (scene t.told looked' t.world_faults t.kept t.record_faults actor') unstepped pending
-            → IsCaused (of_work e) limit the_clients turns stopped s t desk
-        work_cause ending.Stopped turns stopped unstepped pending h = tt
-        work_cause ending.WorldFault turns stopped unstepped pending h = rose_later s.world_faults u.world_faults t.world_faults p.world_later h.4
-        work_cause ending.RecordFault turns stopped unstepped pending h = inr (rose_later s.record_faults u.record_faults t.record_faults p.record_later h.4)
-        work_cause ending.TooLong turns stopped unstepped pending h = inr (h.3, h.0)
-        work_cause ending.OutOfMemory turns stopped unstepped pending h = tt
-
-        thread_cause : (b : Bool) → refused ≡ b → (turns : ℕ) (stopped : Bool) → IsCaused (of_thread b) limit the_clients turns stopped s t desk
-        thread_cause true e turns stopped = subst (λ m. Rose m t.refusals) p.same_refusals (start_rose e)
-        thread_cause false e turns stopped = tt
+        rest_cause : Needs (of_print broke) × Needs (of_work how) × Needs (of_thread refused)
+        rest_cause = (
+          living.print_caused g start name keep limit s u t p n how looked looked' actor actor' w named none_popped none_raised (asker_of asker refused) asker' taker taker' broke d write_rose none_taken all_taken status both well Needs tt tt (λ h. h) (λ h. h) (λ h. h) (λ h. inr h),
+          living.work_caused g start name keep limit s u t p n how looked looked' actor actor' w named none_popped none_raised (asker_of asker refused) asker' taker taker' broke d write_rose none_taken all_taken status both well Needs tt tt (λ h. h) (λ h. h) (λ h. h) (λ h. inr h),
+          living.thread_caused g start name keep limit s u t p n how looked looked' actor actor' w named none_popped none_raised (asker_of asker refused) asker' taker taker' broke d write_rose none_taken all_taken status both well Needs tt tt (λ h. h) (λ h. h) (λ h. h) (λ h. inr h) refused start_rose,
+        )
 
         has_served : Merged limit the_clients handed status → HasServed limit handed w.turns (has_stopped (chronicle g w.entries)) s t desk (map halls.before_of guests) afters status
         has_served merged = record {
@@ -280,12 +216,13 @@ module _ (g : Config) (start : Start) (name : Option (List ℕ)) (keep : Bool) (
           merged = merged;
           occurred = statuses;
           is_status = refl;
-          caused = (close_cause gathers.ends.cause w.turns (has_stopped (chronicle g w.entries)), (print_cause broke refl w.turns (has_stopped (chronicle g w.entries)), (work_cause how w.turns (has_stopped (chronicle g w.entries)) w.unstepped w.pending w.ends, (thread_cause refused refl w.turns (has_stopped (chronicle g w.entries)), tt))));
+          caused = (close_cause gathers.ends.cause w.turns (has_stopped (chronicle g w.entries)), (rest_cause.0, (rest_cause.1, (rest_cause.2, tt))));
         }
 
     -- none of these is the desk's
     isnt_desk : status ≢ DeskFault
-    isnt_desk = least_isnt close second (closes gathers.ends.cause) (least_isnt (of_print broke) third (prints broke) (least_isnt (of_work how) fourth (works how) (least_isnt (of_thread refused) [] (threads refused) (λ e. cc))))
+    isnt_desk = least_isnt close (of_print broke ∷ of_work how ∷ of_thread refused ∷ []) (closes gathers.ends.cause)
+        (least_isnt (of_print broke) (of_work how ∷ of_thread refused ∷ []) (prints broke) (least_isnt (of_work how) (of_thread refused ∷ []) (works how) (least_isnt (of_thread refused) [] (threads refused) (λ e. cc))))
       where
         closes : (close ≡ Done) ⊎ ((close ≡ OutOfMemory) ⊎ ((close ≡ TooLong) × (x : Served) × Contains S x × (x.end ≡ end.TooLong))) → close ≢ DeskFault
         closes (inl is) e = (let y : Done ≡ DeskFault = sym is ∙ e in cc)
@@ -342,7 +279,7 @@ module _ (g : Config) (start : Start) (name : Option (List ℕ)) (keep : Bool) (
             front = is_all ∙ ap (λ x. x ++ r) is_cut ∙ append_assoc b (l ∷ []) r
 
             last : status ≡ Done → popped ≡ b ++ l ∷ []
-            last is = is_all ∙ ap (λ x. f ++ x) (nothing_mapped r (is_pending ∙ none_pending how _ _ _ w.turns w.unstepped w.pending w.ends (work_done is))) ∙ append-nil f ∙ is_cut
+            last is = is_all ∙ ap (λ x. f ++ x) (nothing_mapped r (is_pending ∙ none_pending how _ _ _ w.turns w.unstepped w.pending w.ends (well is).0)) ∙ append-nil f ∙ is_cut
 
             was_open : status ≡ Done → k.over ≡ false
             was_open is = shut k.over refl
@@ -350,7 +287,7 @@ module _ (g : Config) (start : Start) (name : Option (List ℕ)) (keep : Bool) (
                 shut : (z : Bool) → k.over ≡ z → k.over ≡ false
                 shut false e = e
                 shut true e = absurd (true≢false (sym (ap is_quit quit) ∙ all_last (λ x. is_quit x.command ≡ false) b l (subst (All (λ x. is_quit x.command ≡ false)) (last is)
-                    (none_quit S (number closer) (number asker) (ended asker) k.tail wished its_apart k.closes (few d.last.wish) plain popped its_fronts (k.calm e) (calm is)))))
+                    (none_quit S (number closer) (number asker) (ended asker) k.tail wished its_apart k.closes (asked_few d.last.wish) plain popped its_fronts (k.calm e) (calm is)))))
 
             whole : status ≡ Done → All (IsWhole limit) (the_clients b)
             whole is = All-map (IsWhole limit) (client_for (its_named b)) S
@@ -359,7 +296,7 @@ module _ (g : Config) (start : Start) (name : Option (List ℕ)) (keep : Bool) (
                 (λ i e h. (((gathers.each i e h, ends_well is i e h), gathers.own_ends (was_open is) i e h), all_of i e h)))
               where
                 all_of : All (λ x. its_named b x ≡ x.commands) S
-                all_of = named_all S (number closer) (number asker) (ended asker) k.tail wished its_apart k.closes (few d.last.wish) plain popped its_fronts b l (last is) quit (calm is)
+                all_of = named_all S (number closer) (number asker) (ended asker) k.tail wished its_apart k.closes (asked_few d.last.wish) plain popped its_fronts b l (last is) quit (calm is)
                     (λ m told. (let e = ends b l m (is_popped ∙ last is) told in ap (under m) (sym is_popped) ∙ e ∙ ap (under m) all_puts))
 
   -- the clients are known to be there, and no more

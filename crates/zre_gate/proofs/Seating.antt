@@ -1,21 +1,16 @@
 -- Each client sits on a chair of its own.
-use Rattle.std.proofs.Common.{◌≡◌, ℕ, ◌+◌, ◌≤◌, List, [], ◌∷◌, ◌++◌, map, length, Option, Some, refl, sym, ap, ◌∙◌, subst, arith, length-append}
+use Rattle.std.proofs.Common.{◌≡◌, ℕ, ◌+◌, List, [], ◌∷◌, ◌++◌, map, length, Option, Some, refl, sym, ap, ◌∙◌, subst}
 use Rattle.std.specs.Prelude.{All}
 use Rattle.std.specs.Arc.{arc_value}
 use Rattle.std.proofs.lemmas.List.{map-append, length-map}
 use Rattle.std.proofs.lemmas.List.Elements.{All-head, All-tail}
 use Rattle.zre_actor.specs.declared.passes.Pipes.{Pipes}
-use Rattle.zre_actor.specs.declared.passes.CallerPass.{CallerPass}
-use Rattle.zre_actor.specs.Commands.{times, row as row_of}
-use Rattle.zre_actor.specs.Passes.{caller, number, numbers_of, ended, live_of, how_many}
-use Rattle.zre_actor.proofs.Rows.{length_row}
-use Rattle.zre_actor.proofs.Sums.{times-append}
 use Rattle.zre_chat.specs.declared.places.Chair.{Chair}
 use Rattle.zre_chat.specs.Tables.{IsChair}
 use Rattle.zre_gate.specs.Clients.{Row}
 use Rattle.zre_gate.specs.Halls.{Hall, hall_of, guest_at, guests_of, IsGuest}
 use Rattle.zre_gate.specs.Tables.{chair_number}
-use Rattle.zre_gate.proofs.Places.{guest_there, row_once}
+use Rattle.zre_gate.proofs.Places.{guest_there}
 
 -- one amid others
 amid : {X : Type 0} (P : X → Type 0) (front rest : List X) (x : X) → All P (front ++ x ∷ rest) → P x
@@ -42,30 +37,3 @@ seated_guest look hall pipes limit chairs front rest chair clients before after 
       of_pipes = c.1;
       is_new = c.2;
     }
-
--- ---- the numbers of all callers
-
--- none stands twice
-pub laid_apart : (f : List CallerPass) (a c : CallerPass) (numbers : List ℕ) (k : ℕ) → numbers_of ((f ++ a ∷ []) ++ c ∷ []) ≡ row_of 1 k → ((n : ℕ) → times n numbers ≡ times n (numbers_of f))
-    → (n : ℕ) → times n (number c ∷ number a ∷ numbers) ≤ 1
-laid_apart f a c numbers k are same n =
-    let most : times n (row_of 1 k) ≤ 1 = (row_once k n).0 in
-    let all : times n (numbers_of ((f ++ a ∷ []) ++ c ∷ [])) ≡ times n (row_of 1 k) = ap (times n) are in
-    let one : times n (numbers_of ((f ++ a ∷ []) ++ c ∷ [])) ≡ times n (numbers_of (f ++ a ∷ [])) + times n (number c ∷ []) =
-    ap (times n) (map-append number (f ++ a ∷ []) (c ∷ [])) ∙ times-append n (numbers_of (f ++ a ∷ [])) (number c ∷ []) in
-    let two : times n (numbers_of (f ++ a ∷ [])) ≡ times n (numbers_of f) + times n (number a ∷ []) = ap (times n) (map-append number f (a ∷ [])) ∙ times-append n (numbers_of f) (number a ∷ []) in
-    let left : times n numbers ≡ times n (numbers_of f) = same n in
-    omega (arith, most, all, one, two, left)
-
--- two are the closer's and the other caller's
-pub laid_many : (f : List CallerPass) (a c : CallerPass) (k : ℕ) → numbers_of ((f ++ a ∷ []) ++ c ∷ []) ≡ row_of 1 (k + 2) → length f ≡ k
-laid_many f a c k are =
-    let long : length (numbers_of ((f ++ a ∷ []) ++ c ∷ [])) ≡ length (row_of 1 (k + 2)) = ap length are in
-    omega (arith, long, length_row 1 (k + 2), length-map ((f ++ a ∷ []) ++ c ∷ []) number, length-append (f ++ a ∷ []) (c ∷ []), length-append f (a ∷ []))
-
-live_length : (p : CallerPass) → length (live_of p) ≡ 1 + length (ended p)
-live_length p = omega (arith, length-append (caller p).own (ended p), ap length p.is_caller.1)
-
--- one that absorbed so many, and one that absorbed none
-pub how_back : (p q : CallerPass) (k : ℕ) → length (ended p) ≡ k → ended q ≡ [] → how_many (p ∷ q ∷ []) ≡ k + 2
-how_back p q k many none = omega (arith, live_length p, live_length q, many, ap length none)

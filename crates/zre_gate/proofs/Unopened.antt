@@ -5,27 +5,24 @@ use mathlib.Core.Logic.{inl, inr}
 use Rattle.std.specs.Io.KnownBytes.{Appends}
 use Rattle.std.proofs.KnownBytes.{Appends-nil, Consumes-nil}
 use Rattle.std.proofs.lemmas.List.Elements.{All-nil, All-cons}
-use Rattle.zre_values.specs.declared.endpoint.Endpoint.{Endpoint}
 use Rattle.zre_outside.specs.declared.entry.Command.{Command}
 use Rattle.zre_outside.specs.declared.start.Start.{Start}
 use Rattle.zre_outside.specs.Causes.{Rose}
-use Rattle.zre_outside.specs.Desks.{Register}
 use Rattle.zre_journal.specs.declared.config.Config.{Config}
 use Rattle.zre_capture.specs.Heads.{AreSettings}
 use Rattle.zre_actor.specs.Commands.{times, row as row_of}
+use Rattle.zre_actor.proofs.Rows.{row_once}
 use Rattle.zre_commands.specs.Settings.{as_settings}
 use Rattle.zre_console.specs.lines.Orders.{asked}
 use Rattle.zre_commands.specs.declared.pump.status.Status.{Status}
-use Rattle.zre_commands.specs.declared.pump.status.Status.TheVariants.{Done, Usage, BadInput, ReadFault, WriteFault, WorldFault, NoThread, TooLong, OutOfMemory, DeskFault}
+use Rattle.zre_commands.specs.declared.pump.status.Status.TheVariants.{Done, WriteFault, WorldFault, OutOfMemory, DeskFault}
 use Rattle.zre_chat.specs.Chat.{Seen, Holds, started}
-use Rattle.zre_chat.proofs.Whole.{unlived, unwritten, uncaptured, none_started}
-use Rattle.zre_chat.proofs.Rows.{one_least, memory_isnt}
+use Rattle.zre_chat.specs.Stages.{IsEarly}
+use Rattle.zre_chat.proofs.Whole.{unlived, unwritten, uncaptured}
+use Rattle.zre_chat.proofs.Rows.{one_least}
 use Rattle.zre_gate.specs.Clients.{Row}
-use Rattle.zre_gate.specs.Gate.{Client, IsClient, IsCaused, IsGate, HasGated, before_of, after_of, handed_of}
+use Rattle.zre_gate.specs.Gate.{Client, IsClient, IsCaused, IsGate, before_of, after_of, handed_of}
 use Rattle.zre_gate.specs.Interleaving.{IsInterleaving, of_name}
-use Rattle.zre_gate.specs.Stages.{IsEarly}
-use Rattle.zre_gate.proofs.Attended.{not_attended}
-use Rattle.zre_gate.proofs.Places.{row_once}
 
 -- a client of which nothing was read
 abbrev pub unread : Row → Client
@@ -101,9 +98,4 @@ module _ (g : Config) (start : Start) (name : Option (List ℕ)) (limit many : �
   early WorldFault worlds records v r is = ((λ e. cc), v is)
   early DeskFault worlds records v r is = ((λ e. cc), is)
   early OutOfMemory worlds records v r is = ((λ e. cc), tt)
-  early Done worlds records v r is = absurd is
-  early Usage worlds records v r is = absurd is
-  early BadInput worlds records v r is = absurd is
-  early ReadFault worlds records v r is = absurd is
-  early NoThread worlds records v r is = absurd is
-  early TooLong worlds records v r is = absurd is
+  early status worlds records v r is = absurd is

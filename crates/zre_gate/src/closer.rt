@@ -16,12 +16,14 @@ use std::alloc::Global;
 use std::sync::atomic::AtomicBool;
 use std::sync::{Arc, Wait};
 use zre_actor::{CallerPass, Pipes};
-use zre_commands::pump::Status;
+use zre_chat::finishing::Read;
+use zre_chat::talk::Excused;
 use zre_console::reader::close;
 use zre_outside::{Job, Source, Task};
 
 /// Waits for all clients and absorbs their passes into its own. Then it puts a quit, again while the pipe is full,
-/// unless a client ended because the gate was over. Once `over` is set it ends at its next try.
+/// unless a client ended because the gate was over. Once `over` is set it ends at its next try. What comes back has the
+/// clients, as they were left, and the pass with all that was put under it and under those of the clients.
 #[derive(Drop)]
 pub struct CloserJob<C: Source, B: Known> {
     /// Where the quit is put.
@@ -40,17 +42,6 @@ pub struct CloserJob<C: Source, B: Known> {
     ghost room: { (clients.items ≡ []) × (length lines.items ≤ vec_capacity clients) },
 }
 
-/// What comes back of a [`CloserJob`].
-#[derive(Drop)]
-pub struct Closed<C> {
-    /// The clients, as they were left.
-    pub clients: Vec<C>,
-    /// The pass, with all that was put under it and under those of the clients.
-    pub pass: CallerPass,
-    /// What the ends of the clients come to.
-    pub status: Status,
-}
-
 impl<C: Source + Send + Drop + 'static, B: Known + Send + 'static> Task for CloserJob<C, B> {
     ghost use Rattle.std.specs.Prelude.{map};
     ghost use Rattle.std.specs.Arc.{arc_value};
@@ -58,15 +49,15 @@ impl<C: Source + Send + Drop + 'static, B: Known + Send + 'static> Task for Clos
     ghost use Rattle.zre_gate.specs.Clients.{row};
     ghost use Rattle.zre_gate.specs.Gathering.{ClosesAll};
 
-    type Out = Closed<C>;
+    type Out = Read<Vec<C>>;
 
     ghost means = { λ job out. IsCallerOf (arc_value job.pipes) out.pass
-        × ClosesAll B.hall (map (row C.left C.taken C.faults) out.clients.items) job.pass out.pass out.status };
+        × ClosesAll B.hall (map (row C.left C.taken C.faults) out.input.items) job.pass out.pass out.status };
 }
 
 impl<T: Wait + Copy, C: Source + Send + Drop + 'static, B: Known + Send + 'static> Job<T>
     for CloserJob<C, B> {
-    fn run(self, rt: T) -> Closed<C> {
+    fn run(self, rt: T) -> Read<Vec<C>> {
         let CloserJob {
             pipes,
             over,
@@ -80,7 +71,7 @@ impl<T: Wait + Copy, C: Source + Send + Drop + 'static, B: Known + Send + 'stati
 }
 
 // Puts a quit after all clients, unless one of them ended because the gate was over.
-fn close_after<C, T>(rt: T, pipes: &Pipes, over: &AtomicBool, gathered: Gathered<C>) -> Closed<C>
+fn close_after<C, T>(rt: T, pipes: &Pipes, over: &AtomicBool, gathered: Gathered<C>) -> Read<Vec<C>>
 where
     C: Source + Drop,
     T: Wait + Copy,
@@ -89,7 +80,7 @@ where
     ensures closes { (hall : Option Hall) (first : CallerPassValue)
         → GathersAll hall (map (row C.left C.taken C.faults) gathered.clients.items) first gathered.pass
         gathered.status gathered.over
-        → ClosesAll hall (map (row C.left C.taken C.faults) result.clients.items) first result.pass result.status }
+        → ClosesAll hall (map (row C.left C.taken C.faults) result.input.items) first result.pass result.status }
 {
     let Gathered {
         clients,
@@ -98,45 +89,40 @@ where
         over: was_over,
     } = gathered;
     if was_over {
-        return Closed {
-            clients,
+        return Read {
+            input: clients,
             pass,
             status,
         };
     }
-    Closed {
-        clients,
+    Read {
+        input: clients,
         pass: close(rt, pipes, over, pass),
         status,
     }
 }
 
-/// What comes back of a closer that wasn't started: the clients are waited for here, and no quit is put.
-pub(crate) fn close_here<C, B, T>(rt: T, job: CloserJob<C, B>) -> Closed<C>
-where
-    C: Source + Drop,
-    B: Known,
-    T: Wait + Copy,
-    ensures pipes { IsCallerOf (arc_value job.pipes) result.pass }
-    ensures closes { ClosesAll B.hall (map (row C.left C.taken C.faults) result.clients.items) job.pass result.pass
-        result.status }
-{
-    let CloserJob {
-        pipes,
-        over: _,
-        pass,
-        lines,
-        clients,
-    } = job;
-    let Gathered {
-        clients,
-        pass,
-        status,
-        over: _,
-    } = gather(rt, &pipes, pass, lines, clients);
-    Closed {
-        clients,
-        pass,
-        status,
+// What comes back of a closer that wasn't started: the clients are waited for here, and no quit is put.
+impl<R: Wait + Copy, C: Source + Send + Drop + 'static, B: Known + Send + 'static> Excused<R>
+    for CloserJob<C, B> {
+    fn excuse<T: Wait + Copy>(self, rt: T) -> Read<Vec<C>> {
+        let CloserJob {
+            pipes,
+            over: _,
+            pass,
+            lines,
+            clients,
+        } = self;
+        let Gathered {
+            clients,
+            pass,
+            status,
+            over: _,
+        } = gather(rt, &pipes, pass, lines, clients);
+        Read {
+            input: clients,
+            pass,
+            status,
+        }
     }
 }

@@ -1,33 +1,31 @@
 //! The whole call, with its order of starts.
 
-ghost use Rattle.std.specs.Prelude.{◌≡◌, ◌≤◌, ℕ, List, [], true, None, Some, option_map, IfSome, IfOk, IfErr, OnOk};
-ghost use Rattle.std.specs.Prelude.{length, map};
+ghost use Rattle.std.specs.Prelude.{◌≡◌, ◌≤◌, [], true, None, IfSome, IfOk, IfErr, OnOk};
 ghost use Rattle.std.specs.Str.{is_utf8};
 ghost use Rattle.zre_outside.specs.Causes.{Rose};
-ghost use Rattle.zre_outside.specs.Worlds.{with_start};
 ghost use Rattle.zre_journal.specs.Config.{is_valid};
 ghost use Rattle.zre_node.specs.Journal.{StandsFor};
-ghost use Rattle.zre_chat.specs.Keeping.{head_of, Begins};
+ghost use Rattle.zre_chat.specs.Stages.{HasOpened, Unprepared};
 ghost use Rattle.zre_gate.specs.Clients.{row};
 ghost use Rattle.zre_gate.specs.Gate.{HasGated, seen_beside};
-ghost use Rattle.zre_gate.specs.Stages.{Attends, AttendsAll, Unopened};
+ghost use Rattle.zre_gate.specs.Stages.{Attends, AttendsAll};
 ghost use Rattle.zre_gate.specs.Tables.{IsLaid};
 
 use crate::arrivals::attend;
 use crate::table::Table;
-use crate::threads::{Served, serve, unserved};
+use crate::threads::serve;
 use std::alloc::Global;
 use std::marker::Brand;
 use std::sync::Wait;
 use std::thread::Threads;
-use zre_chat::Chat;
+use zre_chat::entering::enter;
 use zre_chat::keeping::begin;
-use zre_chat::statuses::of_fault;
+use zre_chat::places::NodeWork;
 use zre_chat::values::are_values;
+use zre_chat::{Chat, Ended};
 use zre_commands::pump::Status;
-use zre_journal::Config;
-use zre_outside::{Desk, Failed, Recorder, Sink, Spawner, Start, World};
-use zre_values::{Endpoint, Octets, OutOfMemory};
+use zre_outside::{Desk, Failed, Recorder, Sink, Spawner, World};
+use zre_values::{Endpoint, OutOfMemory};
 
 /// What a gate is asked for.
 #[derive(Drop)]
@@ -90,19 +88,13 @@ impl Gate {
             local,
             clients: many,
         } = self;
-        let Chat {
-            config,
-            start,
-            capture,
-        } = chat;
-        are_values(&config);
+        are_values(&chat.config);
+        let keep = chat.capture.is_some();
         let (mut desk, mut world, mut rec) = (desk, world, rec);
         let mut clients = Vec::new(alloc);
         let opened = prepare(
             alloc,
-            config,
-            &start,
-            &capture,
+            chat,
             local,
             many,
             &mut desk,
@@ -112,23 +104,36 @@ impl Gate {
         );
         match opened {
             Ok(table) => {
-                let keep = capture.is_some();
+                let work = NodeWork {
+                    world,
+                    rec,
+                    keep,
+                    limit,
+                };
                 let served = serve::<D::Client, W, O, R, P, T, Brand>(
-                    rt, alloc, table, clients, world, out, rec, keep, spawner, limit,
+                    rt, alloc, table, clients, work, out, spawner,
                 );
                 ended(desk, served)
             }
-            Err(status) => ended(desk, unserved(status, clients, world, rec)),
+            Err(status) => {
+                let unserved = Ended {
+                    status,
+                    input: clients,
+                    world,
+                    rec,
+                };
+                ended(desk, unserved)
+            }
         }
     }
 }
 
 // How a gate ended, with its desk.
-fn ended<D: Desk, W, R>(desk: D, served: Served<D::Client, W, R>) -> GateEnded<D, W, R>
+fn ended<D: Desk, W, R>(desk: D, served: Ended<Vec<D::Client>, W, R>) -> GateEnded<D, W, R>
     ensures { result ≡ record {
       status = served.status;
       desk = desk;
-      clients = served.clients;
+      clients = served.input;
       world = served.world;
       rec = served.rec;
     } }
@@ -136,7 +141,7 @@ fn ended<D: Desk, W, R>(desk: D, served: Served<D::Client, W, R>) -> GateEnded<D
     GateEnded {
         status: served.status,
         desk,
-        clients: served.clients,
+        clients: served.input,
         world: served.world,
         rec: served.rec,
     }
@@ -145,9 +150,7 @@ fn ended<D: Desk, W, R>(desk: D, served: Served<D::Client, W, R>) -> GateEnded<D
 // Begins the capture, where one is kept, waits for the clients, goes on the network, and makes what the threads need.
 fn prepare<D: Desk, W: World, R: Recorder>(
     alloc: Global,
-    config: Config,
-    start: &Start,
-    capture: &Option<Octets>,
+    chat: Chat,
     local: Endpoint,
     many: u8,
     desk: &mut D,
@@ -155,37 +158,36 @@ fn prepare<D: Desk, W: World, R: Recorder>(
     world: &mut W,
     rec: &mut R,
 ) -> Result<Table<D::Client>, Status>
-    requires valid { is_valid config ≡ true }
-    requires text { IfSome capture.now (λ name. is_utf8 name ≡ true) }
+    requires valid { is_valid chat.config ≡ true }
+    requires text { IfSome chat.capture (λ name. is_utf8 name ≡ true) }
     requires few { (1 ≤ many) × (many ≤ 14) }
     requires none { clients.old.items ≡ [] }
-    ensures laid { IfOk result (λ table. IsLaid many table × StandsFor config [] table.seat.node) }
+    ensures laid { IfOk result (λ table. IsLaid many table × StandsFor chat.config [] table.base.seat.node) }
     ensures attends { Attends local (D.told desk.old) (D.told desk.new) clients.new.items }
     ensures all { OnOk result (AttendsAll local many (D.told desk.old) (D.told desk.new) clients.new.items) }
-    ensures told { OnOk result (W.told world.new ≡ option_map (with_start start.now) (W.told world.old)) }
-    ensures kept { (name : List ℕ) → capture.now ≡ Some name →
-        OnOk result (Begins (head_of config) name (R.begun rec.new) (R.kept rec.old) (R.kept rec.new) (R.named rec.old)
-        (R.named rec.new)) }
-    ensures unkept { capture.now ≡ None → rec.new ≡ rec.old }
+    ensures opened { OnOk result (HasOpened chat.config chat.start chat.capture (R.begun rec.new)
+        (W.told world.old) (W.told world.new) (R.kept rec.old) (R.kept rec.new) (R.named rec.old) (R.named rec.new)) }
+    ensures unkept { chat.capture ≡ None → rec.new ≡ rec.old }
     ensures later { (W.faults world.old ≤ W.faults world.new) × (R.faults rec.old ≤ R.faults rec.new) }
-    ensures refused { IfErr result (λ status. Unopened config start.now capture.now status (W.told world.old)
-        (W.told world.new) (R.kept rec.old) (R.kept rec.new) (R.named rec.old) (R.named rec.new)
+    ensures refused { IfErr result (λ status. Unprepared chat.config chat.start chat.capture status
+        (W.told world.old) (W.told world.new) (R.kept rec.old) (R.kept rec.new) (R.named rec.old) (R.named rec.new)
         (Rose (D.faults desk.old) (D.faults desk.new)) (Rose (W.faults world.old) (W.faults world.new))
         (Rose (R.faults rec.old) (R.faults rec.new))) }
 {
+    let Chat {
+        config,
+        start,
+        capture,
+    } = chat;
     if clients.reserve(usize::from(many)).is_err() {
         return Err(Status::OutOfMemory);
     }
-    if let Err(fault) = begin(alloc, rec, &config, capture) {
-        return Err(of_fault(fault, Status::WriteFault));
-    }
+    begin(alloc, rec, &config, &capture)?;
     if let Err(Failed) = attend(desk, local, many, clients) {
         return Err(Status::DeskFault);
     }
-    if let Err(fault) = world.start(start) {
-        return Err(of_fault(fault, Status::WorldFault));
-    }
-    match Table::lay(alloc, config, many) {
+    let base = enter(alloc, config, &start, world, many)?;
+    match Table::lay(alloc, base, many) {
         Ok(table) => Ok(table),
         Err(OutOfMemory) => Err(Status::OutOfMemory),
     }

@@ -113,9 +113,10 @@ where
         over,
     } = gathered;
     let answer = wait_for(rt, line, place);
-    let end = answer.end;
-    let pass = pipes.absorb(rt, pass, answer.pass);
-    clients.push_reserved(answer.input);
+    let done = answer.done;
+    let end = done.end;
+    let pass = pipes.absorb(rt, pass, done.pass);
+    clients.push_reserved(done.input);
     Gathered {
         clients,
         pass,

@@ -10,10 +10,9 @@ mod gate;
 mod gathering;
 mod known;
 mod table;
-mod talk;
 mod threads;
 
 pub use client::{Answer, ClientJob};
-pub use closer::{Closed, CloserJob};
+pub use closer::CloserJob;
 pub use gate::{Gate, GateEnded};
 pub use known::Known;

@@ -52,22 +52,26 @@ LinesOutcome ReadFault limit commands o left read = read × (length o < limit) �
 LinesOutcome TooLong limit commands o left read = (length o ≡ limit) × IsReadOn o × (commands ≡ typed o)
 LinesOutcome OutOfMemory limit commands o left read = Begins commands o × IsPrefix commands (typed o)
 
--- some octets were taken from the source and the commands of some of its lines put with the pass, but no quit
-pub record HasReadLines (end : InputEnd) (limit : ℕ) (old new : CallerPass)
-    (left left' taken taken' : Option (List ℕ)) (read : Type 0) : Type 0 where
+-- some octets were taken from the source and some commands put with the pass, and the outcome says how they belong
+-- together
+pub record HasTaken (limit : ℕ) (old new : CallerPass) (left left' taken taken' : Option (List ℕ))
+    (outcome_of : List Command → List ℕ → Type 0) : Type 0 where
   pub octets : List ℕ
   pub moved : Moves left left' taken taken' octets
   pub within : length octets ≤ limit
   pub commands : List Command
   pub puts : Puts old new commands
-  pub outcome : LinesOutcome end limit commands octets left' read
+  pub outcome : outcome_of commands octets
 
--- some octets were taken from the source and some commands put with the pass, and the end says how they belong together
-pub record HasRead (end : InputEnd) (limit : ℕ) (old new : CallerPass) (left left' taken taken' : Option (List ℕ))
-    (read : Type 0) : Type 0 where
-  pub octets : List ℕ
-  pub moved : Moves left left' taken taken' octets
-  pub within : length octets ≤ limit
-  pub commands : List Command
-  pub puts : Puts old new commands
-  pub outcome : Outcome end limit commands octets left' read
+-- these are the commands of lines, and no quit
+abbrev pub HasReadLines : InputEnd → (limit : ℕ) (old new : CallerPass) (left left' taken taken' : Option (List ℕ))
+    (read : Type 0) → Type 0
+HasReadLines end limit old new left left' taken taken' read =
+    HasTaken limit old new left left' taken taken'
+    (λ commands octets. LinesOutcome end limit commands octets left' read)
+
+-- and these with the quit at their end
+abbrev pub HasRead : InputEnd → (limit : ℕ) (old new : CallerPass) (left left' taken taken' : Option (List ℕ))
+    (read : Type 0) → Type 0
+HasRead end limit old new left left' taken taken' read =
+    HasTaken limit old new left left' taken taken' (λ commands octets. Outcome end limit commands octets left' read)

@@ -1,10 +1,15 @@
 //! The reader's work, for a thread of its own.
 
+ghost use Rattle.std.specs.Prelude.{◌≡◌, ◌≤◌};
 ghost use Rattle.std.specs.Arc.{arc_value};
+ghost use Rattle.zre_outside.specs.Causes.{Rose};
 ghost use Rattle.zre_actor.specs.Passes.{IsCallerOf};
+ghost use Rattle.zre_console.specs.declared.reader.ending.InputEnd.TheVariants.{Over};
+ghost use Rattle.zre_console.specs.reader.Reading.{HasReadLines};
 
 use crate::reader::InputEnd;
-use crate::reader::reading::{end_reading, read_lines};
+use crate::reader::putting::end_reading;
+use crate::reader::reading::read_lines;
 use std::alloc::Global;
 use std::sync::atomic::AtomicBool;
 use std::sync::{Arc, Wait};
@@ -13,8 +18,8 @@ use zre_outside::{Job, Source, Task};
 
 /// Reads a source, at most so many octets of it, and puts the commands of its lines with the pass, each again while
 /// the pipe is full. A quit is the last: that of a line, or the end of the input. It looks at `over` before each
-/// read, before each command of a line and whenever the pipe is full, and puts nothing more where that is set;
-/// nothing is claimed of when it sees it.
+/// read and whenever it is to put a command, and puts nothing more where that is set; nothing is claimed of when it
+/// sees it.
 #[derive(Drop)]
 pub struct ReaderJob<I: Source> {
     /// Where the pieces and the commands are kept.
@@ -43,6 +48,42 @@ pub struct ReaderDone<I> {
     pub end: InputEnd,
 }
 
+impl<I: Source + Drop> ReaderJob<I> {
+    /// Reads the source and puts the commands of its lines, but no quit. What is needed to put one comes back too.
+    pub fn read<T: Wait + Copy>(
+        self,
+        rt: T,
+    ) -> (ReaderDone<I>, Arc<Pipes, Global>, Arc<AtomicBool, Global>)
+        ensures pipes { (arc_value result.1 ≡ arc_value self.pipes) × IsCallerOf (arc_value self.pipes) result.0.pass }
+        ensures read { HasReadLines result.0.end self.limit self.pass result.0.pass
+            (I.left self.input) (I.left result.0.input) (I.taken self.input) (I.taken result.0.input)
+            (Rose (I.faults self.input) (I.faults result.0.input)) }
+        ensures later { I.faults self.input ≤ I.faults result.0.input }
+    {
+        let ReaderJob {
+            alloc,
+            pipes,
+            over,
+            pass,
+            mut input,
+            limit,
+        } = self;
+        let (pass, end) = read_lines(rt, alloc, &pipes, &over, pass, &mut input, limit);
+        (ReaderDone { input, pass, end }, pipes, over)
+    }
+
+    /// What comes back where it isn't run: nothing is read.
+    pub fn leave(self) -> ReaderDone<I>
+        ensures { result ≡ record { input = self.input; pass = self.pass; end = Over } }
+    {
+        ReaderDone {
+            input: self.input,
+            pass: self.pass,
+            end: InputEnd::Over,
+        }
+    }
+}
+
 impl<I: Source + Send + Drop + 'static> Task for ReaderJob<I> {
     ghost use Rattle.std.specs.Prelude.{◌≤◌};
     ghost use Rattle.std.specs.Arc.{arc_value};
@@ -60,15 +101,8 @@ impl<I: Source + Send + Drop + 'static> Task for ReaderJob<I> {
 
 impl<T: Wait + Copy, I: Source + Send + Drop + 'static> Job<T> for ReaderJob<I> {
     fn run(self, rt: T) -> ReaderDone<I> {
-        let ReaderJob {
-            alloc,
-            pipes,
-            over,
-            pass,
-            mut input,
-            limit,
-        } = self;
-        let (pass, end) = read_lines(rt, alloc, &pipes, &over, pass, &mut input, limit);
+        let (done, pipes, over) = self.read(rt);
+        let ReaderDone { input, pass, end } = done;
         let (pass, end) = end_reading(rt, &pipes, &over, pass, end);
         ReaderDone { input, pass, end }
     }

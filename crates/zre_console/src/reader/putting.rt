@@ -5,7 +5,7 @@ ghost use Rattle.zre_outside.specs.declared.entry.Command.TheVariants.{Quit};
 ghost use Rattle.zre_actor.specs.Passes.{IsCallerOf};
 ghost use Rattle.zre_console.specs.lines.Orders.{is_quit};
 ghost use Rattle.zre_console.specs.reader.Putting.{Puts, Sends, SendsAll, Closes};
-ghost use Rattle.zre_console.specs.reader.Turning.{Quits};
+ghost use Rattle.zre_console.specs.reader.Turning.{Closing};
 
 use crate::reader::InputEnd;
 use std::sync::Wait;
@@ -34,7 +34,7 @@ fn is_quit(command: &Command) -> bool
     }
 }
 
-// Puts a command, and tries again while the pipe is full. False where the chat was over meanwhile.
+// Puts a command, and tries again while the pipe is full. False where the chat was over before it was put.
 fn put_command<R: Wait + Copy>(
     rt: R,
     pipes: &Pipes,
@@ -47,6 +47,10 @@ fn put_command<R: Wait + Copy>(
     ensures put { Puts pass result.0 (cond result.1 (command ∷ []) []) }
 {
     for _ in rt.forever() {
+        if over.load(Ordering::SeqCst) {
+            drop(command);
+            return (pass, false);
+        }
         match pipes.put(rt, pass, command) {
             Ok(done) => return (done, true),
             Err(full) => {
@@ -54,10 +58,6 @@ fn put_command<R: Wait + Copy>(
                     pass: back,
                     command: again,
                 } = full;
-                if over.load(Ordering::SeqCst) {
-                    drop(again);
-                    return (back, false);
-                }
                 pass = back;
                 command = again;
                 yield_now();
@@ -67,7 +67,7 @@ fn put_command<R: Wait + Copy>(
     unreachable!()
 }
 
-/// Puts a quit, again while the pipe is full, unless `over` is set meanwhile.
+/// Puts a quit, again while the pipe is full, unless `over` is set.
 pub fn close<R: Wait + Copy>(
     rt: R,
     pipes: &Pipes,
@@ -82,8 +82,8 @@ pub fn close<R: Wait + Copy>(
     pass
 }
 
-// Puts the quit that a line or the end of the input is, unless the chat is over.
-pub(crate) fn put_quit<R: Wait + Copy>(
+// Puts the quit at the end of what was read, unless the chat is over.
+pub(crate) fn end_reading<R: Wait + Copy>(
     rt: R,
     pipes: &Pipes,
     over: &AtomicBool,
@@ -92,16 +92,17 @@ pub(crate) fn put_quit<R: Wait + Copy>(
 ) -> (CallerPass, InputEnd)
     requires { IsCallerOf pipes.now pass }
     ensures pipes { IsCallerOf pipes.now result.0 }
-    ensures quits { Quits end result.1 pass result.0 }
+    ensures closing { Closing end result.1 pass result.0 }
 {
-    if over.load(Ordering::SeqCst) {
-        return (pass, InputEnd::Over);
-    }
-    let (pass, is_put) = put_command(rt, pipes, over, pass, Command::Quit);
-    if is_put {
-        (pass, end)
-    } else {
-        (pass, InputEnd::Over)
+    match end {
+        InputEnd::Over => (pass, end),
+        InputEnd::Quit | InputEnd::AtEnd => {
+            let (pass, is_put) = put_command(rt, pipes, over, pass, Command::Quit);
+            (pass, if is_put { end } else { InputEnd::Over })
+        }
+        InputEnd::ReadFault | InputEnd::TooLong | InputEnd::OutOfMemory => {
+            (close(rt, pipes, over, pass), end)
+        }
     }
 }
 
@@ -117,20 +118,12 @@ pub(crate) fn put_one<R: Wait + Copy>(
     ensures pipes { IsCallerOf pipes.now result.0 }
     ensures sent { Sends result.1 pass result.0 command }
 {
-    if over.load(Ordering::SeqCst) {
-        drop(command);
-        return (pass, Sent::Over);
-    }
     if is_quit(&command) {
         drop(command);
         return (pass, Sent::Quit);
     }
     let (pass, is_put) = put_command(rt, pipes, over, pass, command);
-    if is_put {
-        (pass, Sent::On)
-    } else {
-        (pass, Sent::Over)
-    }
+    (pass, if is_put { Sent::On } else { Sent::Over })
 }
 
 // Puts the commands before the first quit, unless the chat is over.

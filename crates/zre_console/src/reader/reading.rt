@@ -8,11 +8,11 @@ ghost use Rattle.zre_actor.specs.Passes.{IsCallerOf};
 ghost use Rattle.zre_console.specs.lines.Orders.{is_quit, typed};
 ghost use Rattle.zre_console.specs.lines.Typing.{Typed};
 ghost use Rattle.zre_console.specs.reader.Reading.{HasReadLines};
-ghost use Rattle.zre_console.specs.reader.Turning.{Took, Turned, Finishes, Closing};
+ghost use Rattle.zre_console.specs.reader.Turning.{Took, Turned, Finishes};
 
 use crate::lines::Typist;
 use crate::reader::InputEnd;
-use crate::reader::putting::{Sent, close, put_all, put_one, put_quit};
+use crate::reader::putting::{Sent, put_all, put_one};
 use std::alloc::Global;
 use std::sync::Wait;
 use std::sync::atomic::{AtomicBool, Ordering};
@@ -137,9 +137,9 @@ fn finish<R: Wait + Copy>(
 }
 
 /// Reads a source, at most so many octets of it, and puts the commands of its lines with the pass up to a quit, which
-/// isn't put, each again while the pipe is full. It looks at `over` before each read, before each command of a line and
-/// whenever the pipe is full, and puts nothing more where that is set; nothing is claimed of when it sees it.
-pub fn read_lines<R: Wait + Copy, I: Source>(
+/// isn't put, each again while the pipe is full. It looks at `over` before each read and whenever it is to put a
+/// command, and puts nothing more where that is set; nothing is claimed of when it sees it.
+pub(crate) fn read_lines<R: Wait + Copy, I: Source>(
     rt: R,
     alloc: Global,
     pipes: &Pipes,
@@ -178,25 +178,4 @@ pub fn read_lines<R: Wait + Copy, I: Source>(
         }
     }
     (pass, InputEnd::TooLong)
-}
-
-// Puts the quit at the end of what was read, unless the chat was over.
-pub(crate) fn end_reading<R: Wait + Copy>(
-    rt: R,
-    pipes: &Pipes,
-    over: &AtomicBool,
-    pass: CallerPass,
-    end: InputEnd,
-) -> (CallerPass, InputEnd)
-    requires { IsCallerOf pipes.now pass }
-    ensures pipes { IsCallerOf pipes.now result.0 }
-    ensures closing { Closing end result.1 pass result.0 }
-{
-    match end {
-        InputEnd::Over => (pass, InputEnd::Over),
-        InputEnd::Quit | InputEnd::AtEnd => put_quit(rt, pipes, over, pass, end),
-        InputEnd::ReadFault | InputEnd::TooLong | InputEnd::OutOfMemory => {
-            (close(rt, pipes, over, pass), end)
-        }
-    }
 }

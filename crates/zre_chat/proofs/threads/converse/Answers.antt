@@ -1,18 +1,20 @@
-use Rattle.std.proofs.Common.{◌∙◌, [], true, length, ap, sym, subst, arith}
+use Rattle.std.proofs.Common.{◌≡◌, ◌∙◌, ◌∷◌, [], true, true≢false, length, ap, sym, subst, arith, ⊎_elim}
 use Rattle.std.specs.Prelude.{option_map}
 use Rattle.std.specs.Io.KnownBytes.{Keeps}
 use Rattle.std.specs.Arc.{arc_value}
 use Rattle.zre_outside.specs.Causes.{Rose}
 use Rattle.zre_node.specs.Journal.{StandsFor}
-use Rattle.zre_actor.specs.Passes.{IsActorOf, IsCallerOf, IsTakerOf, unused_by}
+use Rattle.zre_actor.specs.Passes.{IsActorOf, IsCallerOf, unused_by}
 use Rattle.zre_actor.specs.Work.{IsWork, scene}
 use Rattle.zre_actor.proofs.Given.{two_alone}
 use Rattle.zre_actor.proofs.Working.{rose_later}
 use Rattle.zre_commands.specs.declared.pump.status.Status.{Status}
 use Rattle.zre_commands.specs.declared.pump.status.Status.TheVariants.{NoThread}
 use Rattle.zre_chat.specs.Chat.{IsChat, Seen, seen}
+use Rattle.zre_chat.specs.Statuses.{least, of_print, of_work, of_thread}
+use Rattle.zre_chat.proofs.Asker.{asker_ended}
 use Rattle.zre_chat.proofs.Rows.{thread_isnt}
-use Rattle.zre_chat.proofs.Talked.{talked, asker_ended}
+use Rattle.zre_chat.proofs.Talked.{talked}
 use Rattle.zre_chat.proofs.Whole.{untalked, head_only}
 use Rattle.zre_chat.proofs.threads.converse.Goals as goal
 
@@ -23,53 +25,51 @@ returns-in-Err-clause-chat g c = λ f start name s stands p. (
     let world = c.in-Err.world in let rec_ = c.in-Err.rec in
     let kept = ap (λ x. r.kept x.1) back in
     let named = ap (λ x. r.named x.1) back in
-    untalked f start name a.limit p.are_settings true s
+    untalked f start name a.work.limit p.are_settings true s
     (seen (i.left a.input) (i.taken a.input) (i.faults a.input) (w.told world) (w.faults world) (o.written a.out.now) (o.faults a.out.now)
     (r.kept rec_) (r.named rec_) (r.faults rec_) (g.P.Spawner.faults c.start_node.new.spawner))
-    NoThread p.same_left p.same_taken p.same_written (ap (λ x. w.told x.0) back ∙ p.told) thread_isnt
-    (subst (λ k. Rose k (g.P.Spawner.faults c.start_node.new.spawner)) p.same_refusals c.in-Err.ensures.failed)
+    NoThread (ap (λ x. x.left) p.same) (ap (λ x. x.taken) p.same) (ap (λ x. x.written) p.same) (ap (λ x. w.told x.0) back ∙ p.told) thread_isnt
+    (subst (λ k. Rose k (g.P.Spawner.faults c.start_node.new.spawner)) (ap (λ x. x.refusals) p.same) c.in-Err.ensures.failed)
     (λ file is isnt rose. (
-      head_only f s.kept (r.kept a.rec) (r.kept rec_) (p.head_kept file is) kept,
+      head_only f s.kept (r.kept a.work.rec) (r.kept rec_) (p.head_kept file is) kept,
       subst (λ k. Keeps (option_map (λ _. file) s.named) k) (sym named) (p.file_named file is),
     )))
 
 pub returns-clause-chat : goal.returns-clause-chat
 returns-clause-chat g c = λ f start name s stands p. (
-    let i = g.I.Source in let w = g.W.World in let o = g.O.Sink in let r = g.R.Recorder in let a = c.args in let l = c.requires.laid in
-    let told = c.hold_talk-talk in let read = told.result.read in let printed = told.result.printed in
+    let i = g.I.Source in let w = g.W.World in let o = g.O.Sink in let r = g.R.Recorder in let a = c.args in let l = c.requires.laid in let x = a.table.others in
+    let told = c.hold_talk-done in let done = told.result.done in let printed = told.result.printed in
     let out = c.join-worked.result in let means = c.join-worked.ensures in let began = c.in-Ok.ensures.started in let same = c.settle.ensures.same in
-    let u = seen (i.left a.input) (i.taken a.input) (i.faults a.input) (w.told a.world) (w.faults a.world) (o.written a.out.now) (o.faults a.out.now) (r.kept a.rec) (r.named a.rec) (r.faults a.rec) (g.P.Spawner.faults a.spawner.now) in
-    let t = seen (i.left read.input) (i.taken read.input) (i.faults read.input) (w.told out.world) (w.faults out.world) (o.written told.new.out) (o.faults told.new.out) (r.kept out.rec) (r.named out.rec) (r.faults out.rec) (g.P.Spawner.faults told.new.spawner) in
+    let u = seen (i.left a.input) (i.taken a.input) (i.faults a.input) (w.told a.work.world) (w.faults a.work.world) (o.written a.out.now) (o.faults a.out.now) (r.kept a.work.rec) (r.named a.work.rec) (r.faults a.work.rec) (g.P.Spawner.faults a.spawner.now) in
+    let t = seen (i.left done.input) (i.taken done.input) (i.faults done.input) (w.told out.world) (w.faults out.world) (o.written told.new.out) (o.faults told.new.out) (r.kept out.rec) (r.named out.rec) (r.faults out.rec) (g.P.Spawner.faults told.new.spawner) in
     let work = subst (λ j. StandsFor f [] j.2 → IsWork f [] j.5 j.6 (scene (w.told j.1) (w.looked j.1) (w.faults j.1) (r.kept j.4) (r.faults j.4) j.3)
     (scene (w.told out.world) (w.looked out.world) (w.faults out.world) (r.kept out.rec) (r.faults out.rec) out.pass) out.node out.ending) began (means.6 f []) in
-    subst (λ (x : Seen × Status). IsChat f start name a.limit s x.0 x.1)
+    let status = c.settle.ensures.status ∙ ap (λ k. least (k ∷ of_print printed.fault ∷ of_work out.ending ∷ of_thread told.result.refused ∷ [])) c.of_read.ensures in
+    let rose : told.result.refused ≡ true → Rose (g.P.Spawner.faults a.spawner.now) (g.P.Spawner.faults told.new.spawner) = λ is. ⊎_elim (λ e. absurd (true≢false (sym e)))
+    (λ h. rose_later (g.P.Spawner.faults a.spawner.now) (g.P.Spawner.faults c.start_node.new.spawner) (g.P.Spawner.faults told.new.spawner) c.in-Ok.ensures.later h) (told.ensures.refused is) in
+    subst (λ (y : Seen × Status). IsChat f start name a.work.limit s y.0 y.1)
     (λ k. (
       seen (i.left (sym same.0 k)) (i.taken (sym same.0 k)) (i.faults (sym same.0 k)) (w.told (sym same.1 k)) (w.faults (sym same.1 k)) (o.written told.new.out) (o.faults told.new.out) (r.kept (sym same.2 k)) (r.named (sym same.2 k)) (r.faults (sym same.2 k)) (g.P.Spawner.faults told.new.spawner),
-      sym c.settle.ensures.status k,
+      sym status k,
     ))
-    (talked f start name a.keep a.limit s u t p out.node out.ending (w.looked a.world) (w.looked out.world) a.table.seat.pass out.pass (work stands)
+    (talked f start name a.work.keep a.work.limit s u t p out.node out.ending (w.looked a.work.world) (w.looked out.world) a.table.seat.pass out.pass (work stands)
     (subst (λ j. Keeps (r.named j.4) (r.named out.rec)) began means.5) l.seat.none_popped l.seat.none_raised
-    read.end a.table.reader.pass read.pass told.ensures.read a.table.asker printed.pass told.result.refused a.table.taker printed.taker printed.fault told.ensures.printed
-    told.ensures.failed (λ is. rose_later (g.P.Spawner.faults a.spawner.now) (g.P.Spawner.faults c.start_node.new.spawner) (g.P.Spawner.faults told.new.spawner) c.in-Ok.ensures.later (told.ensures.refused is))
-    l.none_taken l.reader.2 l.new_asker l.apart c.settle.ensures.fronts c.settle.ensures.taken))
+    done.end x.last.pass done.pass told.ensures.done.2 x.asker printed.pass told.result.refused x.taker printed.taker printed.fault told.ensures.printed
+    told.ensures.failed rose l.none_taken l.last.2 l.new_asker c.requires.apart c.settle.ensures.fronts c.settle.ensures.taken))
 
 pub settle-requires-clause-pipes : goal.settle-requires-clause-pipes
-settle-requires-clause-pipes g c =
-    let l = c.requires.laid in let told = c.hold_talk-talk in (
-      subst (λ ps. IsActorOf ps c.join-worked.result.pass) (ap (λ j. arc_value j.0) c.in-Ok.ensures.started ∙ l.seat.same ∙ sym c.deref-3.ensures) c.join-worked.ensures.0,
-      subst (λ ps. IsTakerOf ps told.result.printed.taker) (c.deref.ensures ∙ sym c.deref-3.ensures) told.ensures.pipes.0,
-    )
+settle-requires-clause-pipes g c = (
+  subst (λ ps. IsActorOf ps c.join-worked.result.pass) (ap (λ j. arc_value j.0) c.in-Ok.ensures.started ∙ c.requires.laid.seat.same) c.join-worked.ensures.0,
+  c.hold_talk-done.ensures.pipes.0,
+)
 
 pub settle-requires-clause-callers : goal.settle-requires-clause-callers
-settle-requires-clause-callers g c =
-    let l = c.requires.laid in let told = c.hold_talk-talk in (
-      subst (λ ps. IsCallerOf ps told.result.read.pass) (l.reader.0 ∙ sym c.deref-3.ensures) told.ensures.pipes.2,
-      subst (λ ps. IsCallerOf ps told.result.printed.pass) (c.deref.ensures ∙ sym c.deref-3.ensures) told.ensures.pipes.1,
-    )
+settle-requires-clause-callers g c = let told = c.hold_talk-done in
+    (subst (λ ps. IsCallerOf ps told.result.done.pass) c.requires.laid.last.0 told.ensures.done.0, told.ensures.pipes.1)
 
 pub settle-requires-clause-back : goal.settle-requires-clause-back
 settle-requires-clause-back g c =
-    let l = c.requires.laid in let told = c.hold_talk-talk in let read = told.result.read in let printed = told.result.printed in let o = g.O.Sink in
-    let many = two_alone read.pass printed.pass (told.ensures.read.puts.same_ended ∙ l.reader.2.0)
-    (asker_ended c.args.table.asker told.result.refused c.args.table.taker printed.taker printed.pass printed.fault (o.written c.args.out.now) (o.written told.new.out) told.ensures.printed ∙ l.new_asker.0) in
+    let l = c.requires.laid in let told = c.hold_talk-done in let done = told.result.done in let printed = told.result.printed in let o = g.O.Sink in let x = c.args.table.others in
+    let many = two_alone done.pass printed.pass (told.ensures.done.2.puts.same_ended ∙ l.last.2.0)
+    (asker_ended x.asker told.result.refused x.taker printed.taker printed.pass printed.fault (o.written c.args.out.now) (o.written told.new.out) told.ensures.printed ∙ l.new_asker.0) in
     omega (arith, many, ap length (c.join-worked.ensures.1 ∙ ap (λ j. unused_by j.3) c.in-Ok.ensures.started), l.seat.unused)

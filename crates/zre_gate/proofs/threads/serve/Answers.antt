@@ -7,13 +7,14 @@ use Rattle.std.proofs.lemmas.List.{length-map}
 use Rattle.zre_outside.specs.Causes.{Rose}
 use Rattle.zre_node.specs.Journal.{StandsFor}
 use Rattle.zre_actor.specs.Commands.{times}
-use Rattle.zre_actor.specs.Passes.{IsActorOf, IsCallerOf, IsTakerOf, number, unused_by}
+use Rattle.zre_actor.specs.Passes.{IsActorOf, IsCallerOf, number, unused_by}
 use Rattle.zre_actor.specs.Work.{IsWork, scene}
+use Rattle.zre_actor.proofs.Given.{how_back}
 use Rattle.zre_commands.specs.declared.pump.status.Status.{Status}
 use Rattle.zre_commands.specs.declared.pump.status.Status.TheVariants.{NoThread, OutOfMemory}
 use Rattle.zre_chat.specs.Chat.{Seen}
 use Rattle.zre_chat.proofs.Rows.{memory_isnt, thread_isnt}
-use Rattle.zre_chat.proofs.Talked.{asker_ended}
+use Rattle.zre_chat.proofs.Asker.{asker_ended}
 use Rattle.zre_chat.proofs.Whole.{head_only}
 use Rattle.zre_gate.specs.Clients.{Row, row}
 use Rattle.zre_gate.specs.Gate.{IsGate, seen_beside}
@@ -23,7 +24,6 @@ use Rattle.zre_gate.proofs.Holding.{gated}
 use Rattle.zre_gate.proofs.Places.{guests_before, guests_length, guests_numbers}
 use Rattle.zre_gate.proofs.Answering.{nat_prop}
 use Rattle.zre_gate.proofs.Gathered.{closed_ended, same_hall}
-use Rattle.zre_gate.proofs.Seating.{how_back}
 use Rattle.zre_gate.proofs.Unopened.{unopened}
 use Rattle.zre_gate.proofs.threads.serve.Goals as goal
 
@@ -33,9 +33,9 @@ returns-in_default-clause-gate g c = λ f start name s before after stands p. (
     let desk = Rose before after in
     let w = g.W.World in let o = g.O.Sink in let r = g.R.Recorder in let a = c.args in
     let rows = map (row g.C.Source.left g.C.Source.taken g.C.Source.faults) a.clients.items in
-    rw (c.unserved.ensures) (unopened f start name a.limit (length a.clients.items) s
-    (seen_beside (w.told a.world) (w.faults a.world) (o.written a.out.now) (o.faults a.out.now) (r.kept a.rec) (r.named a.rec) (r.faults a.rec) (g.P.Spawner.faults a.spawner.now))
-    desk rows true OutOfMemory (λ _. p.are_settings) p.same_written p.told memory_isnt tt (λ file is isnt still. absurd (isnt refl))))
+    unopened f start name a.work.limit (length a.clients.items) s
+    (seen_beside (w.told a.work.world) (w.faults a.work.world) (o.written a.out.now) (o.faults a.out.now) (r.kept a.work.rec) (r.named a.work.rec) (r.faults a.work.rec) (g.P.Spawner.faults a.spawner.now))
+    desk rows true OutOfMemory (λ _. p.are_settings) (ap (λ x. x.written) p.same) p.told memory_isnt tt (λ file is isnt still. absurd (isnt refl)))
 
 -- no thread for the node
 pub returns-in-Err-clause-gate : goal.returns-in-Err-clause-gate
@@ -47,14 +47,14 @@ returns-in-Err-clause-gate g c = λ f start name s before after stands p. (
     let world = c.in-Err.world in let rec_ = c.in-Err.rec in
     let kept = ap (λ x. r.kept x.1) back in
     let named = ap (λ x. r.named x.1) back in
-    rw (c.unserved-in-Err.ensures) (unopened f start name a.limit (length a.clients.items) s
+    unopened f start name a.work.limit (length a.clients.items) s
     (seen_beside (w.told world) (w.faults world) (o.written a.out.now) (o.faults a.out.now) (r.kept rec_) (r.named rec_) (r.faults rec_) (g.P.Spawner.faults c.start_node.new.spawner))
-    desk rows true NoThread (λ _. p.are_settings) p.same_written (ap (λ x. w.told x.0) back ∙ p.told) thread_isnt
-    (subst (λ k. Rose k (g.P.Spawner.faults c.start_node.new.spawner)) p.same_refusals c.in-Err.ensures.failed)
+    desk rows true NoThread (λ _. p.are_settings) (ap (λ x. x.written) p.same) (ap (λ x. w.told x.0) back ∙ p.told) thread_isnt
+    (subst (λ k. Rose k (g.P.Spawner.faults c.start_node.new.spawner)) (ap (λ x. x.refusals) p.same) c.in-Err.ensures.failed)
     (λ file is isnt still. (
-      head_only f s.kept (r.kept a.rec) (r.kept rec_) (p.head_kept file is) kept,
+      head_only f s.kept (r.kept a.work.rec) (r.kept rec_) (p.head_kept file is) kept,
       subst (λ k. Keeps (option_map (λ _. file) s.named) k) (sym named) (p.file_named file is),
-    ))))
+    )))
 
 pub returns-clause-gate : goal.returns-clause-gate
 returns-clause-gate g c = λ f start name s before after stands p. (
@@ -62,27 +62,27 @@ returns-clause-gate g c = λ f start name s before after stands p. (
     let w = g.W.World in let o = g.O.Sink in let r = g.R.Recorder in let a = c.args in let l = c.requires.laid in
     let look = row g.C.Source.left g.C.Source.taken g.C.Source.faults in
     let rows = map look a.clients.items in
-    let numbers = map chair_number a.table.others.chairs.items in
-    let even = length-map a.table.others.chairs.items chair_number ∙ l.many_chairs ∙ sym (length-map a.clients.items look) in
+    let numbers = map chair_number a.table.chairs.items in
+    let even = length-map a.table.chairs.items chair_number ∙ l.many_chairs ∙ sym (length-map a.clients.items look) in
     let guests = guests_of numbers rows in
-    let told = c.hold_talk-talk in let closed = told.result.closed in let printed = told.result.printed in let seated = c.seat_all-running in
-    let close = told.ensures.closed (hall_of (arc_value a.table.others.pipes) a.limit numbers rows) c.requires.hall in
+    let told = c.hold_talk-talk in let done = told.result.done in let printed = told.result.printed in let seated = c.seat_all-running in
+    let close = told.ensures.done.1 (hall_of (arc_value a.table.base.others.pipes) a.work.limit numbers rows) c.requires.hall in
     let out = c.join-worked.result in let means = c.join-worked.ensures in let began = c.in-Ok-start_node.ensures.started in let same = c.settle.ensures.same in
-    let u = seen_beside (w.told a.world) (w.faults a.world) (o.written a.out.now) (o.faults a.out.now) (r.kept a.rec) (r.named a.rec) (r.faults a.rec) (g.P.Spawner.faults a.spawner.now) in
+    let u = seen_beside (w.told a.work.world) (w.faults a.work.world) (o.written a.out.now) (o.faults a.out.now) (r.kept a.work.rec) (r.named a.work.rec) (r.faults a.work.rec) (g.P.Spawner.faults a.spawner.now) in
     let t = seen_beside (w.told out.world) (w.faults out.world) (o.written told.new.out) (o.faults told.new.out) (r.kept out.rec) (r.named out.rec) (r.faults out.rec) (g.P.Spawner.faults told.new.spawner) in
     let work = subst (λ j. StandsFor f [] j.2 → IsWork f [] j.5 j.6 (scene (w.told j.1) (w.looked j.1) (w.faults j.1) (r.kept j.4) (r.faults j.4) j.3)
     (scene (w.told out.world) (w.looked out.world) (w.faults out.world) (r.kept out.rec) (r.faults out.rec) out.pass) out.node out.ending) began (means.6 f []) in
     let rose : told.result.refused ≡ true → Rose (g.P.Spawner.faults a.spawner.now) (g.P.Spawner.faults told.new.spawner) = λ is. ⊎_elim
     (λ before. (let h = seated.ensures.refused before in omega (arith, h, c.in-Ok-start_node.ensures.later, told.ensures.starts)))
     (λ after. (let h = after in omega (arith, h, c.in-Ok-start_node.ensures.later, seated.ensures.later))) (told.ensures.refused is) in
-    let held = gated f start name a.keep a.limit (length a.clients.items) s u t p out.node out.ending (w.looked a.world) (w.looked out.world) a.table.seat.pass out.pass (work stands)
-    (subst (λ j. Keeps (r.named j.4) (r.named out.rec)) began means.5) l.seat.none_popped l.seat.none_raised
-    guests (map look closed.clients.items) a.table.others.closer.pass closed.pass closed.status
-    a.table.others.asker printed.pass told.result.refused a.table.others.taker printed.taker printed.fault told.ensures.printed
-    told.ensures.failed rose l.none_taken l.closer.2 l.new_asker
-    (λ m. subst (λ ns. times m (number a.table.others.closer.pass ∷ number a.table.others.asker ∷ ns) ≤ 1) (sym (guests_numbers numbers rows even)) (l.apart m))
+    let held = gated f start name a.work.keep a.work.limit (length a.clients.items) s u t p out.node out.ending (w.looked a.work.world) (w.looked out.world) a.table.base.seat.pass out.pass (work stands)
+    (subst (λ j. Keeps (r.named j.4) (r.named out.rec)) began means.5) l.base.seat.none_popped l.base.seat.none_raised
+    guests (map look done.input.items) a.table.base.others.last.pass done.pass done.status
+    a.table.base.others.asker printed.pass told.result.refused a.table.base.others.taker printed.taker printed.fault told.ensures.printed
+    told.ensures.failed rose l.base.none_taken l.base.last.2 l.base.new_asker
+    (λ m. subst (λ ns. times m (number a.table.base.others.last.pass ∷ number a.table.base.others.asker ∷ ns) ≤ 1) (sym (guests_numbers numbers rows even)) (l.apart m))
     c.settle.ensures.fronts c.settle.ensures.ended c.settle.ensures.taken desk (guests_length numbers rows even ∙ length-map a.clients.items look) close in
-    subst (λ (x : Seen × List Row × List Row × Status). IsGate f start name a.limit (length a.clients.items) s x.0 desk x.1 x.2 x.3)
+    subst (λ (x : Seen × List Row × List Row × Status). IsGate f start name a.work.limit (length a.clients.items) s x.0 desk x.1 x.2 x.3)
     (λ k. (
       seen_beside (w.told (sym same.1 k)) (w.faults (sym same.1 k)) (o.written told.new.out) (o.faults told.new.out) (r.kept (sym same.2 k)) (r.named (sym same.2 k)) (r.faults (sym same.2 k)) (g.P.Spawner.faults told.new.spawner),
       guests_before numbers rows even k,
@@ -96,39 +96,35 @@ invariant_of-job g c =
     let l = c.requires.laid in let a = c.args in
     let look = row g.C.Source.left g.C.Source.taken g.C.Source.faults in
     let rows = map look a.clients.items in
-    let numbers = map chair_number a.table.others.chairs.items in
-    let even = length-map a.table.others.chairs.items chair_number ∙ l.many_chairs ∙ sym (length-map a.clients.items look) in record {
-      of_pipes = subst (λ ps. IsCallerOf ps a.table.others.closer.pass) (sym l.closer.0) l.closer.1;
-      hall = ∣ (hall_of (arc_value a.table.others.pipes) a.limit numbers rows, c.requires.hall, sym l.closer.0) ∣₁;
+    let numbers = map chair_number a.table.chairs.items in
+    let even = length-map a.table.chairs.items chair_number ∙ l.many_chairs ∙ sym (length-map a.clients.items look) in record {
+      of_pipes = subst (λ ps. IsCallerOf ps a.table.base.others.last.pass) (sym l.base.last.0) l.base.last.1;
+      hall = ∣ (hall_of (arc_value a.table.base.others.pipes) a.work.limit numbers rows, c.requires.hall, sym l.base.last.0) ∣₁;
       many = λ there known. (
-          let same = same_hall g.B.Known.hall (hall_of (arc_value a.table.others.pipes) a.limit numbers rows) there c.requires.hall known in
+          let same = same_hall g.B.Known.hall (hall_of (arc_value a.table.base.others.pipes) a.work.limit numbers rows) there c.requires.hall known in
           ap (λ h. length h.guests) (sym same) ∙ guests_length numbers rows even ∙ length-map a.clients.items look ∙ omega (arith, c.in-Ok.ensures.lines, c.len.ensures, a.clients.ok));
       room = (l.left_room.0, omega (arith, l.left_room.1, c.in-Ok.ensures.lines, c.len.ensures, a.clients.ok));
     }
 
 pub settle-requires-clause-pipes : goal.settle-requires-clause-pipes
-settle-requires-clause-pipes g c =
-    let l = c.requires.laid in let told = c.hold_talk-talk in (
-      subst (λ ps. IsActorOf ps c.join-worked.result.pass) (ap (λ j. arc_value j.0) c.in-Ok-start_node.ensures.started ∙ l.seat.same ∙ sym c.deref-3.ensures) c.join-worked.ensures.0,
-      subst (λ ps. IsTakerOf ps told.result.printed.taker) (c.deref.ensures ∙ sym c.deref-3.ensures) told.ensures.pipes.0,
-    )
+settle-requires-clause-pipes g c = (
+  subst (λ ps. IsActorOf ps c.join-worked.result.pass) (ap (λ j. arc_value j.0) c.in-Ok-start_node.ensures.started ∙ c.requires.laid.base.seat.same) c.join-worked.ensures.0,
+  c.hold_talk-talk.ensures.pipes.0,
+)
 
 pub settle-requires-clause-callers : goal.settle-requires-clause-callers
-settle-requires-clause-callers g c =
-    let l = c.requires.laid in let told = c.hold_talk-talk in (
-      subst (λ ps. IsCallerOf ps told.result.closed.pass) (l.closer.0 ∙ sym c.deref-3.ensures) told.ensures.pipes.2,
-      subst (λ ps. IsCallerOf ps told.result.printed.pass) (c.deref.ensures ∙ sym c.deref-3.ensures) told.ensures.pipes.1,
-    )
+settle-requires-clause-callers g c = let told = c.hold_talk-talk in
+    (subst (λ ps. IsCallerOf ps told.result.done.pass) c.requires.laid.base.last.0 told.ensures.done.0, told.ensures.pipes.1)
 
 pub settle-requires-clause-back : goal.settle-requires-clause-back
 settle-requires-clause-back g c =
     let l = c.requires.laid in let told = c.hold_talk-talk in let a = c.args in let o = g.O.Sink in
-    let closed = told.result.closed in let printed = told.result.printed in
-    let numbers = map chair_number a.table.others.chairs.items in
+    let done = told.result.done in let printed = told.result.printed in
+    let numbers = map chair_number a.table.chairs.items in
     let rows = map (row g.C.Source.left g.C.Source.taken g.C.Source.faults) a.clients.items in
-    let even = length-map a.table.others.chairs.items chair_number ∙ l.many_chairs ∙ sym (length-map a.clients.items (row g.C.Source.left g.C.Source.taken g.C.Source.faults)) in
-    let close = told.ensures.closed (hall_of (arc_value a.table.others.pipes) a.limit numbers rows) c.requires.hall in
-    let many = how_back closed.pass printed.pass (length a.clients.items)
-    (∥∥₁_elim close (nat_prop _ _) (λ k. closed_ended _ _ _ _ _ _ k l.closer.2.0) ∙ guests_length numbers rows even ∙ length-map a.clients.items (row g.C.Source.left g.C.Source.taken g.C.Source.faults))
-    (asker_ended a.table.others.asker told.result.refused a.table.others.taker printed.taker printed.pass printed.fault (o.written a.out.now) (o.written told.new.out) told.ensures.printed ∙ l.new_asker.0) in
-    omega (arith, many, ap length (c.join-worked.ensures.1 ∙ ap (λ j. unused_by j.3) c.in-Ok-start_node.ensures.started), l.seat.unused)
+    let even = length-map a.table.chairs.items chair_number ∙ l.many_chairs ∙ sym (length-map a.clients.items (row g.C.Source.left g.C.Source.taken g.C.Source.faults)) in
+    let close = told.ensures.done.1 (hall_of (arc_value a.table.base.others.pipes) a.work.limit numbers rows) c.requires.hall in
+    let many = how_back done.pass printed.pass (length a.clients.items)
+    (∥∥₁_elim close (nat_prop _ _) (λ k. closed_ended _ _ _ _ _ _ k l.base.last.2.0) ∙ guests_length numbers rows even ∙ length-map a.clients.items (row g.C.Source.left g.C.Source.taken g.C.Source.faults))
+    (asker_ended a.table.base.others.asker told.result.refused a.table.base.others.taker printed.taker printed.pass printed.fault (o.written a.out.now) (o.written told.new.out) told.ensures.printed ∙ l.base.new_asker.0) in
+    omega (arith, many, ap length (c.join-worked.ensures.1 ∙ ap (λ j. unused_by j.3) c.in-Ok-start_node.ensures.started), l.base.seat.unused)

@@ -1,15 +1,16 @@
 use Rattle.std.proofs.Common.{◌≡◌, ◌+◌, ◌≤◌, take, subst, arith}
 use Rattle.std.proofs.lemmas.List.{length-take, length-take-le}
+use Rattle.zre_outside.specs.Causes.{Rose}
 use Rattle.zre_console.specs.reader.Turning.{Finishes}
 use Rattle.zre_commands.proofs.pump.Reach.{Rose-since}
 use Rattle.zre_console.proofs.reader.Reach.{over-now, too-long, finished, ended-turn, memory-first}
 use Rattle.zre_console.proofs.reader.reading.read_lines.Goals as goal
 
 pub returns-in_default-clause-read : goal.returns-in_default-clause-read
-returns-in_default-clause-read g c = memory-first c.args.pass _ _ c.args.limit _
+returns-in_default-clause-read g c = memory-first c.args.pass _ _ c.args.limit (Rose (g.I.Source.faults c.args.input.now) (g.I.Source.faults c.args.input.now))
 
 pub returns-then-load-clause-read : goal.returns-then-load-clause-read
-returns-then-load-clause-read g c = over-now _ _ _ _ _ _ _ _ c.loop-taken.invariant.reached c.args.limit _ c.loop-taken-test.true
+returns-then-load-clause-read g c = over-now _ _ _ _ _ _ _ _ c.loop-taken.invariant.reached c.args.limit (Rose (g.I.Source.faults c.args.input.now) (g.I.Source.faults c.loop-taken.input)) c.loop-taken-test.true
 
 pub returns-in-Finish-clause-read : goal.returns-in-Finish-clause-read
 returns-in-Finish-clause-read g c =
@@ -33,4 +34,4 @@ returns-in-End-clause-read g c =
 pub returns-clause-read : goal.returns-clause-read
 returns-clause-read g c =
     let all : c.loop-taken.taken ≡ c.args.limit = omega (arith, c.loop-taken.invariant.within, c.loop-taken-test.false) in
-    too-long _ _ _ _ _ _ _ _ c.loop-taken.invariant.reached c.args.limit _ all
+    too-long _ _ _ _ _ _ _ _ c.loop-taken.invariant.reached c.args.limit (Rose (g.I.Source.faults c.args.input.now) (g.I.Source.faults c.loop-taken.input)) all

@@ -1,14 +1,14 @@
 use Rattle.std.proofs.Common.{◌∙◌, true, map, refl, sym, subst}
 use Rattle.zre_outside.specs.Causes.{Rose}
-use Rattle.zre_chat.proofs.Whole.{head_only, there}
+use Rattle.zre_chat.proofs.Whole.{head_only, prepared, there}
 use Rattle.zre_gate.specs.Clients.{row}
 use Rattle.zre_gate.specs.Gate.{IsGate, seen_beside}
 use Rattle.zre_gate.specs.Tables.{IsLaid}
 use Rattle.zre_gate.proofs.Unopened.{unopened, early}
 use Rattle.zre_gate.proofs.gate.Gate.run.Goals as goal
 
-pub returns-clause-gate : goal.returns-clause-gate
-returns-clause-gate g c =
+pub returns-in-Err-clause-gate : goal.returns-in-Err-clause-gate
+returns-in-Err-clause-gate g c =
     let k = g.D.Desk in let w = g.W.World in let o = g.O.Sink in let r = g.R.Recorder in let a = c.args in
     let look = row g.D.Client.Source.left g.D.Client.Source.taken g.D.Client.Source.faults in
     let opened = c.prepare-opened in let n = opened.new.rec in let x = opened.new.world in let d = opened.new.desk in let u = c.in-Err.ensures.refused in let at = opened.ensures.attends in
@@ -16,47 +16,35 @@ returns-clause-gate g c =
     let t = seen_beside (w.told x) (w.faults x) (o.written a.out.now) (o.faults a.out.now) (r.kept n) (r.named n) (r.faults n) (g.P.Spawner.faults a.spawner.now) in
     let desk = Rose (k.faults a.desk) (k.faults d) in
     let rows = map look opened.new.clients.items in
-    let e = early a.self.chat.config a.self.chat.start a.self.chat.capture a.limit a.self.clients s t desk rows c.in-Err.status (Rose (w.faults a.world) (w.faults x)) (Rose (r.faults a.rec) (r.faults n)) (λ h. h) (λ h. h) u.cause in rw (c.ended-in-Err.ensures) (rw (c.unserved.ensures) (record {
+    let e = early a.self.chat.config a.self.chat.start a.self.chat.capture a.limit a.self.clients s t desk rows c.in-Err.status (Rose (w.faults a.world) (w.faults x)) (Rose (r.faults a.rec) (r.faults n)) (λ h. h) (λ h. h) u.cause in rw (c.ended-in-Err.ensures) (record {
       given = opened.new.clients.items;
       begun = at.begun;
       is_told = at.is_told;
       opened = λ is. absurd (e.0 is);
       gate = unopened a.self.chat.config a.self.chat.start a.self.chat.capture a.limit a.self.clients s t desk rows u.begun c.in-Err.status (λ _. c.are_values.ensures) refl u.is_told e.0 e.1
           (λ file is isnt still. (let h = u.holds file is isnt still in (head_only a.self.chat.config s.kept t.kept t.kept h.0 refl, h.1)));
-    }))
+    })
 
 pub serve-served-requires-clause-laid : goal.serve-served-requires-clause-laid
 serve-served-requires-clause-laid g c κs within = subst (λ n. IsLaid n c.in-Ok.table) (sym c.in-Ok.ensures.all.are_many) c.in-Ok.ensures.laid.0
 
 pub serve-served-requires-clause-begun : goal.serve-served-requires-clause-begun
-serve-served-requires-clause-begun g c κs within = λ is. (let name = there c.args.self.chat.capture (sym c.is_some-keep.ensures ∙ is) in (c.in-Ok.ensures.kept name.0 name.1).is_begun)
+serve-served-requires-clause-begun g c κs within = λ is. (let name = there c.args.self.chat.capture (sym c.is_some-keep.ensures ∙ is) in (c.in-Ok.ensures.opened.begins name.0 name.1).is_begun)
 
 pub returns-in-Ok-clause-gate : goal.returns-in-Ok-clause-gate
 returns-in-Ok-clause-gate g c =
-    let k = g.D.Desk in let w = g.W.World in let o = g.O.Sink in let r = g.R.Recorder in let a = c.args in
+    let k = g.D.Desk in let w = g.W.World in let o = g.O.Sink in let r = g.R.Recorder in let a = c.args in let chat = a.self.chat in
     let look = row g.D.Client.Source.left g.D.Client.Source.taken g.D.Client.Source.faults in
-    let opened = c.prepare-opened in let served = c.serve-served in let all = c.in-Ok.ensures.all in
+    let opened = c.prepare-opened in let n = opened.new.rec in let x = opened.new.world in let served = c.serve-served in let all = c.in-Ok.ensures.all in
     let s = seen_beside (w.told a.world) (w.faults a.world) (o.written a.out.now) (o.faults a.out.now) (r.kept a.rec) (r.named a.rec) (r.faults a.rec) (g.P.Spawner.faults a.spawner.now) in
+    let u = seen_beside (w.told x) (w.faults x) (o.written a.out.now) (o.faults a.out.now) (r.kept n) (r.named n) (r.faults n) (g.P.Spawner.faults a.spawner.now) in
     let t = seen_beside (w.told served.result.world) (w.faults served.result.world) (o.written served.new.out) (o.faults served.new.out) (r.kept served.result.rec) (r.named served.result.rec) (r.faults served.result.rec) (g.P.Spawner.faults served.new.spawner) in
     let desk = Rose (k.faults a.desk) (k.faults opened.new.desk) in rw (c.ended.ensures) (record {
       given = opened.new.clients.items;
       begun = true;
       is_told = all.is_told;
       opened = λ _. refl;
-      gate = subst (λ n. IsGate a.self.chat.config a.self.chat.start a.self.chat.capture a.limit n s t desk (map look opened.new.clients.items) (map look served.result.clients.items) served.result.status) all.are_many
-          (served.ensures.gate a.self.chat.config a.self.chat.start a.self.chat.capture s (k.faults a.desk) (k.faults opened.new.desk) c.in-Ok.ensures.laid.1 (record {
-            same_left = refl;
-            same_taken = refl;
-            same_reads = refl;
-            same_written = refl;
-            same_writes = refl;
-            same_refusals = refl;
-            told = c.in-Ok.ensures.told;
-            world_later = opened.ensures.later.0;
-            record_later = opened.ensures.later.1;
-            keeps = c.is_some-keep.ensures;
-            are_settings = c.are_values.ensures;
-            head_kept = λ file is. (c.in-Ok.ensures.kept file is).is_kept;
-            file_named = λ file is. (c.in-Ok.ensures.kept file is).is_named;
-          }));
+      gate = subst (λ m. IsGate chat.config chat.start chat.capture a.limit m s t desk (map look opened.new.clients.items) (map look served.result.input.items) served.result.status) all.are_many
+          (served.ensures.gate chat.config chat.start chat.capture s (k.faults a.desk) (k.faults opened.new.desk) c.in-Ok.ensures.laid.1
+          (prepared chat.config chat.start chat.capture a.limit c.are_values.ensures c.is_some-keep.result (r.begun n) s u refl c.in-Ok.ensures.opened opened.ensures.later c.is_some-keep.ensures));
     })

@@ -1,0 +1,62 @@
+-- What a status says of the parts whose ends it is made of: the reading, the printing, the node's work and the starts.
+use Rattle.std.proofs.Common.{◌≡◌, ◌≢◌, Bool, true, false, List, [], ◌∷◌, Option, Some, None, refl, sym, ap, ◌∙◌}
+use Rattle.zre_outside.specs.declared.sink.NextFault.{NextFault}
+use Rattle.zre_outside.specs.declared.sink.NextFault.TheVariants as fault
+use Rattle.zre_actor.specs.declared.ending.Ending.{Ending}
+use Rattle.zre_actor.specs.declared.ending.Ending.TheVariants as ending
+use Rattle.zre_commands.specs.declared.pump.status.Status.{Status}
+use Rattle.zre_commands.specs.declared.pump.status.Status.TheVariants.{Done, OutOfMemory}
+use Rattle.zre_chat.specs.Statuses.{least, of_print, of_work, of_thread}
+use Rattle.zre_chat.proofs.Rows.{memory_here, memory_after, done_here, done_after}
+
+module _ (read : Status) (broke : Option NextFault) (how : Ending) (refused : Bool) where
+  abbrev fourth : List Status
+  fourth = of_thread refused ∷ []
+
+  abbrev third : List Status
+  third = of_work how ∷ fourth
+
+  abbrev second : List Status
+  second = of_print broke ∷ third
+
+  abbrev pub statuses : List Status
+  statuses = read ∷ second
+
+  memory : least statuses ≢ OutOfMemory → how ≢ ending.OutOfMemory
+  memory isnt is = isnt (memory_after read second (memory_after (of_print broke) third (memory_here (of_work how) fourth (ap of_work is))))
+
+  page : least statuses ≢ OutOfMemory → broke ≢ Some fault.OutOfMemory
+  page isnt is = isnt (memory_after read second (memory_here (of_print broke) third (ap of_print is)))
+
+  pub read_done : least statuses ≡ Done → read ≡ Done
+  read_done is = done_here read second is
+
+  print_done : least statuses ≡ Done → of_print broke ≡ Done
+  print_done is = done_here (of_print broke) third (done_after read second is)
+
+  pub work_done : least statuses ≡ Done → of_work how ≡ Done
+  work_done is = done_here (of_work how) fourth (done_after (of_print broke) third (done_after read second is))
+
+  thread_done : least statuses ≡ Done → of_thread refused ≡ Done
+  thread_done is = done_here (of_thread refused) [] (done_after (of_work how) fourth (done_after (of_print broke) third (done_after read second is)))
+
+  pub printed_whole : least statuses ≡ Done → broke ≡ None
+  printed_whole is = by broke refl
+    where
+      by : (f : Option NextFault) → broke ≡ f → broke ≡ None
+      by None e = e
+      by (Some fault.Failed) e = absurd (let x = sym (ap of_print e) ∙ print_done is in cc)
+      by (Some fault.OutOfMemory) e = absurd (let x = sym (ap of_print e) ∙ print_done is in cc)
+
+  pub has_started : least statuses ≡ Done → refused ≡ false
+  has_started is = by refused refl
+    where
+      by : (b : Bool) → refused ≡ b → refused ≡ false
+      by true e = absurd (let x = sym (ap of_thread e) ∙ thread_done is in cc)
+      by false e = e
+
+  pub both : least statuses ≢ OutOfMemory → (how ≢ ending.OutOfMemory) × (broke ≢ Some fault.OutOfMemory)
+  both isnt = (memory isnt, page isnt)
+
+  pub well : least statuses ≡ Done → (of_work how ≡ Done) × (broke ≡ None)
+  well is = (work_done is, printed_whole is)

@@ -1,0 +1,13 @@
+use Rattle.std.proofs.Common.{◌∙◌, true, false, ap}
+use Rattle.std.specs.Prelude.{Err}
+use Rattle.zre_commands.specs.declared.pump.status.Status.TheVariants.{WorldFault}
+use Rattle.zre_chat.proofs.Early.{refused_early}
+use Rattle.zre_chat.proofs.Whole.{none_started}
+use Rattle.zre_chat.proofs.entering.enter.Goals as goal
+
+pub returns-in-Err-clause-refused : goal.returns-in-Err-clause-refused
+returns-in-Err-clause-refused g c = rw (c.of_fault.ensures)
+    (false, c.in-Err.ensures.refused ∙ none_started (g.W.World.told c.args.world.now), refused_early WorldFault c.in-Err.fault ⊥ _ ⊥ (λ is. c.in-Err.ensures.failed (ap Err is)))
+
+pub returns-in-Err-lay-clause-refused : goal.returns-in-Err-lay-clause-refused
+returns-in-Err-lay-clause-refused g c = (true, c.in_default.ensures.told, tt)

@@ -1,0 +1,43 @@
+//! The node goes on the network.
+
+ghost use Rattle.std.specs.Prelude.{◌≡◌, ◌≤◌, [], true, option_map, IfOk, IfErr, OnOk};
+ghost use Rattle.zre_outside.specs.Causes.{Rose};
+ghost use Rattle.zre_outside.specs.Worlds.{with_start};
+ghost use Rattle.zre_journal.specs.Config.{is_valid};
+ghost use Rattle.zre_node.specs.Journal.{StandsFor};
+ghost use Rattle.zre_chat.specs.Stages.{IsOutside};
+ghost use Rattle.zre_chat.specs.Tables.{IsLaid, HasMore};
+
+use crate::statuses::of_fault;
+use crate::table::Table;
+use std::alloc::Global;
+use zre_commands::pump::Status;
+use zre_journal::Config;
+use zre_outside::{Start, World};
+use zre_values::OutOfMemory;
+
+/// Goes on the network, and makes what the threads need, with passes for so many callers more.
+pub fn enter<W: World>(
+    alloc: Global,
+    config: Config,
+    start: &Start,
+    world: &mut W,
+    more: u8,
+) -> Result<Table, Status>
+    requires valid { is_valid config ≡ true }
+    requires few { more ≤ 14 }
+    ensures laid { IfOk result (λ table. IsLaid more table × HasMore more table) }
+    ensures node { IfOk result (λ table. StandsFor config [] table.seat.node) }
+    ensures told { OnOk result (W.told world.new ≡ option_map (with_start start.now) (W.told world.old)) }
+    ensures later { W.faults world.old ≤ W.faults world.new }
+    ensures refused { IfErr result (λ status. IsOutside start.now status (W.told world.old) (W.told world.new)
+        (Rose (W.faults world.old) (W.faults world.new))) }
+{
+    if let Err(fault) = world.start(start) {
+        return Err(of_fault(fault, Status::WorldFault));
+    }
+    match Table::lay(alloc, config, more) {
+        Ok(table) => Ok(table),
+        Err(OutOfMemory) => Err(Status::OutOfMemory),
+    }
+}
