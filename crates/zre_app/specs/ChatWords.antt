@@ -1,14 +1,14 @@
 -- The words of `chat`: those of a node, and how it goes on the network.
 use Rattle.std.specs.Prelude.{◌≡◌, ◌≤◌, ℕ, true, not, ◌&&◌, ◌==◌, nat_le, List, [], ◌∷◌, ◌++◌, length, Option, Some}
 use Rattle.std.specs.Prelude.{None, IfSome, option_and_then, option_map, codes, if◌then◌else◌}
-use Rattle.std.specs.List.{list_all}
-use Rattle.std.specs.Str.{bytes_eq, is_utf8}
+use Rattle.std.specs.Str.{is_utf8}
 use Rattle.zre_capture.specs.Values.{address_of}
 use Rattle.zre_outside.specs.declared.start.Start.{Start}
 use Rattle.zre_journal.specs.Config.{is_valid}
 use Rattle.zre_journal.specs.declared.config.Config.{Config}
 use Rattle.zre_chat.specs.declared.chat.Chat.{Chat}
 use Rattle.zre_app.specs.Keys.{are_words_of, begins, after, value_of}
+use Rattle.zre_app.specs.Names.{after_name}
 use Rattle.zre_app.specs.NodeWords.{node_keys, number_or, between, config_in}
 use Rattle.zre_app.specs.declared.keys.Often.{Often}
 use Rattle.zre_app.specs.declared.keys.Often.TheVariants.{AtMostOnce, AnyTimes}
@@ -88,11 +88,7 @@ chat_with words = if are_words_of chat_keys words then chat_in words else None
 
 -- the chat that the words are; none where they aren't its name and words of its list, or one isn't text
 abbrev pub chat_of : List (List ℕ) → Option Chat
-chat_of [] = None
-chat_of (name ∷ words) =
-    if not (list_all is_utf8 (name ∷ words)) then None
-    else if bytes_eq name (codes "chat") then chat_with words
-    else None
+chat_of words = option_and_then chat_with (after_name (codes "chat") words)
 
 -- a node can be with the settings and goes on the network where they say, and the file of the capture has a name
 pub record CanChat (c : Chat) : Type 0 where

@@ -1,13 +1,12 @@
 -- The words of `gate`: those of `chat`, how many clients there are, and where they come to.
-use Rattle.std.specs.Prelude.{◌≤◌, ℕ, ◌+◌, not, ◌==◌, Bool, false, List, [], ◌∷◌, ◌++◌, Option, Some, None, take, drop}
+use Rattle.std.specs.Prelude.{◌≤◌, ℕ, ◌+◌, ◌==◌, Bool, List, [], ◌∷◌, ◌++◌, Option, None, take, drop}
 use Rattle.std.specs.Prelude.{position, option_and_then, option_map, codes, if◌then◌else◌}
-use Rattle.std.specs.List.{list_all}
-use Rattle.std.specs.Str.{bytes_eq, is_utf8}
 use Rattle.zre_values.specs.declared.endpoint.Endpoint.{Endpoint}
 use Rattle.zre_capture.specs.Values.{address_of, number_of}
 use Rattle.zre_gate.specs.declared.gate.Gate.{Gate}
 use Rattle.zre_app.specs.ChatWords.{chat_keys, chat_in, CanChat}
 use Rattle.zre_app.specs.Keys.{are_words_of, value_of}
+use Rattle.zre_app.specs.Names.{is_named, after_name}
 use Rattle.zre_app.specs.NodeWords.{between}
 use Rattle.zre_app.specs.declared.keys.Often.{Often}
 use Rattle.zre_app.specs.declared.keys.Often.TheVariants.{Once}
@@ -44,16 +43,11 @@ gate_with words = if are_words_of gate_keys words then gate_in words else None
 
 -- the name of the call is `gate`
 abbrev pub is_gate : List (List ℕ) → Bool
-is_gate [] = false
-is_gate (name ∷ words) = bytes_eq name (codes "gate")
+is_gate words = is_named (codes "gate") words
 
 -- the gate that the words are; none where they aren't its name and words of its list, or one isn't text
 abbrev pub gate_of : List (List ℕ) → Option Gate
-gate_of [] = None
-gate_of (name ∷ words) =
-    if not (list_all is_utf8 (name ∷ words)) then None
-    else if bytes_eq name (codes "gate") then gate_with words
-    else None
+gate_of words = option_and_then gate_with (after_name (codes "gate") words)
 
 -- its chat can be, and there are so many clients
 pub record CanGate (g : Gate) : Type 0 where

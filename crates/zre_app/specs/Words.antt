@@ -1,15 +1,14 @@
 -- The words of the command line.
-use Rattle.std.specs.Prelude.{ℕ, Bool, false, List, [], ◌∷◌, Option, Some, None, option_map, codes, if◌then◌else◌}
-use Rattle.std.specs.Str.{bytes_eq}
+use Rattle.std.specs.Prelude.{ℕ, Bool, List, Option, Some, None, option_map, codes, if◌then◌else◌}
 use Rattle.zre_app.specs.PlainWords.{plain_of, CanDo}
 use Rattle.zre_app.specs.ChatWords.{chat_of, CanChat}
+use Rattle.zre_app.specs.Names.{is_named}
 use Rattle.zre_app.specs.declared.command.Command.{Command}
 use Rattle.zre_app.specs.declared.command.Command.TheVariants.{Plain, Chat}
 
 -- the name of the command is `chat`
 abbrev pub is_chat : List (List ℕ) → Bool
-is_chat [] = false
-is_chat (name ∷ words) = bytes_eq name (codes "chat")
+is_chat words = is_named (codes "chat") words
 
 -- the command that the words are; none where they are in no list of words, or one isn't text
 abbrev pub command_of : List (List ℕ) → Option Command

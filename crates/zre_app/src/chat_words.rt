@@ -3,16 +3,14 @@
 ghost use Rattle.std.specs.Prelude.{◌≡◌, ◌≤◌, ◌∷◌, ℕ, List, [], true, None, if◌then◌else◌, map};
 ghost use Rattle.std.specs.Prelude.{option_and_then, length, IfOk, IfSome};
 ghost use Rattle.std.specs.Str.{is_utf8};
-ghost use Rattle.zre_capture.specs.Values.{address_of};
 ghost use Rattle.zre_app.specs.ChatWords.{addresses_from, address_or, beacon_in, capture_in, file_name_of, interval_in};
-ghost use Rattle.zre_app.specs.ChatWords.{listen_in, start_in, to_in, chat_keys, chat_in, chat_with, chat_of, CanChat};
+ghost use Rattle.zre_app.specs.ChatWords.{listen_in, start_in, to_in, chat_keys, chat_in, chat_of, CanChat};
 ghost use Rattle.zre_app.specs.Keys.{value_of as value_of_key};
 ghost use Rattle.zre_app.specs.NodeWords.{between, number_or as number_or_default};
-ghost use Rattle.zre_journal.specs.Config.{is_valid};
 
 use crate::keys::{Key, Often, after, are_words_of, value_of};
 use crate::node_words::{config_in, node_keys, number_or};
-use crate::words::{are_texts, is_text};
+use crate::words::{after_name, is_text};
 use std::alloc::Global;
 use zre_capture::address;
 use zre_chat::Chat;
@@ -28,7 +26,7 @@ const DAY: u64 = 86400000;
 
 /// The keys of `chat`: those of a node, and five more.
 pub(crate) fn chat_keys() -> [Key<'static>; 12]
-    ensures { map (λ key. (key.name.now, key.often)) result ≡ chat_keys }
+    ensures { map (λ key. (key.0.now, key.1)) result ≡ chat_keys }
 {
     let [id, host, port, name, header, evasive, expired] = node_keys();
     [
@@ -39,26 +37,11 @@ pub(crate) fn chat_keys() -> [Key<'static>; 12]
         header,
         evasive,
         expired,
-        Key {
-            name: b"to=",
-            often: Often::AnyTimes,
-        },
-        Key {
-            name: b"listen=",
-            often: Often::AtMostOnce,
-        },
-        Key {
-            name: b"beacon=",
-            often: Often::AtMostOnce,
-        },
-        Key {
-            name: b"interval=",
-            often: Often::AtMostOnce,
-        },
-        Key {
-            name: b"capture=",
-            often: Often::AtMostOnce,
-        },
+        (b"to=", Often::AnyTimes),
+        (b"listen=", Often::AtMostOnce),
+        (b"beacon=", Often::AtMostOnce),
+        (b"interval=", Often::AtMostOnce),
+        (b"capture=", Often::AtMostOnce),
     ]
 }
 
@@ -226,31 +209,13 @@ pub(crate) fn chat_in(alloc: Global, words: &[Octets]) -> Result<Option<Chat>, O
     }))
 }
 
-// The chat of these words, which stand after its name.
-fn chat_with(alloc: Global, words: &[Octets]) -> Result<Option<Chat>, OutOfMemory>
-    ensures value { IfOk result (λ chat. chat ≡ chat_with words.now) }
-    ensures ready { IfOk result (λ chat. IfSome chat CanChat) }
-{
-    if !are_words_of(&chat_keys(), words) {
-        return Ok(None);
-    }
-    chat_in(alloc, words)
-}
-
 /// The chat that the words are. None where they aren't its name and words of its list, or where one isn't UTF-8.
 pub(crate) fn chat_of(alloc: Global, words: &Frames) -> Result<Option<Chat>, OutOfMemory>
     ensures value { IfOk result (λ chat. chat ≡ chat_of words.now) }
     ensures ready { IfOk result (λ chat. IfSome chat CanChat) }
 {
-    let words = words.as_slice();
-    let Some((name, others)) = words.split_first() else {
-        return Ok(None);
-    };
-    if !are_texts(words) {
-        return Ok(None);
+    match after_name(b"chat", words) {
+        Some(words) if are_words_of(&chat_keys(), words) => chat_in(alloc, words),
+        _ => Ok(None),
     }
-    if name.as_slice() == b"chat".as_slice() {
-        return chat_with(alloc, others);
-    }
-    Ok(None)
 }

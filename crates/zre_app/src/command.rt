@@ -5,6 +5,7 @@ ghost use Rattle.zre_app.specs.Words.{command_of, is_chat, IsReady};
 
 use crate::chat_words::chat_of;
 use crate::plain_words::{Plain, plain_of};
+use crate::words::is_named;
 use std::alloc::Global;
 use zre_chat::Chat;
 use zre_values::{Frames, OutOfMemory};
@@ -22,10 +23,7 @@ pub enum Command {
 pub fn is_chat(words: &Frames) -> bool
     ensures { result ≡ is_chat words.now }
 {
-    match words.as_slice().split_first() {
-        Some((name, _)) => name.as_slice() == b"chat".as_slice(),
-        None => false,
-    }
+    is_named(b"chat", words)
 }
 
 /// The command that the words are: those after the program's name, each as its octets. None where they are in no

@@ -1,12 +1,12 @@
 //! The words of `gate`.
 
 ghost use Rattle.std.specs.Prelude.{◌≡◌, ◌==◌, ◌≤◌, map, position, IfOk, IfSome};
-ghost use Rattle.zre_app.specs.GateWords.{gate_keys, clients_in, port_of_place, place_of, local_in, gate_in, gate_with};
+ghost use Rattle.zre_app.specs.GateWords.{gate_keys, clients_in, port_of_place, place_of, local_in, gate_in};
 ghost use Rattle.zre_app.specs.GateWords.{is_gate, gate_of, CanGate};
 
 use crate::chat_words::{chat_in, chat_keys};
 use crate::keys::{Key, Often, are_words_of, value_of};
-use crate::words::are_texts;
+use crate::words::{after_name, is_named};
 use std::alloc::Global;
 use zre_capture::{address, number};
 use zre_gate::Gate;
@@ -14,7 +14,7 @@ use zre_values::{Endpoint, Frames, Octets, OutOfMemory};
 
 // The keys of `gate`: those of `chat`, and two more.
 fn gate_keys() -> [Key<'static>; 14]
-    ensures { map (λ key. (key.name.now, key.often)) result ≡ gate_keys }
+    ensures { map (λ key. (key.0.now, key.1)) result ≡ gate_keys }
 {
     let [
         id,
@@ -43,14 +43,8 @@ fn gate_keys() -> [Key<'static>; 14]
         beacon,
         interval,
         capture,
-        Key {
-            name: b"clients=",
-            often: Often::Once,
-        },
-        Key {
-            name: b"local=",
-            often: Often::Once,
-        },
+        (b"clients=", Often::Once),
+        (b"local=", Often::Once),
     ]
 }
 
@@ -130,25 +124,11 @@ fn gate_in(alloc: Global, words: &[Octets]) -> Result<Option<Gate>, OutOfMemory>
     }))
 }
 
-// The gate of these words, which stand after its name.
-fn gate_with(alloc: Global, words: &[Octets]) -> Result<Option<Gate>, OutOfMemory>
-    ensures value { IfOk result (λ gate. gate ≡ gate_with words.now) }
-    ensures ready { IfOk result (λ gate. IfSome gate CanGate) }
-{
-    if !are_words_of(&gate_keys(), words) {
-        return Ok(None);
-    }
-    gate_in(alloc, words)
-}
-
 /// Whether the name of the call is `gate`.
 pub fn is_gate(words: &Frames) -> bool
     ensures { result ≡ is_gate words.now }
 {
-    match words.as_slice().split_first() {
-        Some((name, _)) => name.as_slice() == b"gate".as_slice(),
-        None => false,
-    }
+    is_named(b"gate", words)
 }
 
 /// The gate that the words are. None where they aren't its name and words of its list, or where one isn't UTF-8.
@@ -156,15 +136,8 @@ pub fn gate_of(alloc: Global, words: &Frames) -> Result<Option<Gate>, OutOfMemor
     ensures value { IfOk result (λ gate. gate ≡ gate_of words.now) }
     ensures ready { IfOk result (λ gate. IfSome gate CanGate) }
 {
-    let words = words.as_slice();
-    let Some((name, others)) = words.split_first() else {
-        return Ok(None);
-    };
-    if !are_texts(words) {
-        return Ok(None);
+    match after_name(b"gate", words) {
+        Some(words) if are_words_of(&gate_keys(), words) => gate_in(alloc, words),
+        _ => Ok(None),
     }
-    if name.as_slice() == b"gate".as_slice() {
-        return gate_with(alloc, others);
-    }
-    Ok(None)
 }

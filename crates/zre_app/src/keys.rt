@@ -15,11 +15,7 @@ pub(crate) enum Often {
 }
 
 /// A key of a command, with its `=`, and how often it may stand.
-#[derive(Clone, Copy, Debug)]
-pub(crate) struct Key<'a> {
-    pub name: &'a [u8],
-    pub often: Often,
-}
+pub(crate) type Key<'a> = (&'a [u8], Often);
 
 /// What stands after a front, where the word begins with it.
 pub(crate) fn after<'a>(key: &[u8], word: &'a [u8]) -> Option<&'a [u8]>
@@ -48,9 +44,9 @@ pub(crate) fn begins(key: &[u8], word: &[u8]) -> bool
 }
 
 fn is_known(keys: &[Key<'_>], word: &[u8]) -> bool
-    ensures { result ≡ list_any (λ key. begins key.name.now word.now) keys.now }
+    ensures { result ≡ list_any (λ key. begins key.0.now word.now) keys.now }
 {
-    keys.iter().any(|key| begins(key.name, word))
+    keys.iter().any(|key| begins(key.0, word))
 }
 
 fn count_of(key: &[u8], words: &[Octets]) -> usize
@@ -73,21 +69,21 @@ fn may_stand(often: Often, count: usize) -> bool
 }
 
 fn all_known(keys: &[Key<'_>], words: &[Octets]) -> bool
-    ensures { result ≡ list_all (λ word. list_any (λ key. begins key.name.now word) keys.now) words.now }
+    ensures { result ≡ list_all (λ word. list_any (λ key. begins key.0.now word) keys.now) words.now }
 {
     words.iter().all(|word| is_known(keys, word.as_slice()))
 }
 
 fn all_stand(keys: &[Key<'_>], words: &[Octets]) -> bool
-    ensures { result ≡ list_all (λ key. may_stand key.often (count_by (begins key.name.now) words.now)) keys.now }
+    ensures { result ≡ list_all (λ key. may_stand key.1 (count_by (begins key.0.now) words.now)) keys.now }
 {
     keys.iter()
-        .all(|key| may_stand(key.often, count_of(key.name, words)))
+        .all(|key| may_stand(key.1, count_of(key.0, words)))
 }
 
 /// Whether the words are those of a command with these keys.
 pub(crate) fn are_words_of(keys: &[Key<'_>], words: &[Octets]) -> bool
-    ensures { result ≡ are_words_of (map (λ key. (key.name.now, key.often)) keys.now) words.now }
+    ensures { result ≡ are_words_of (map (λ key. (key.0.now, key.1)) keys.now) words.now }
 {
     all_known(keys, words) && all_stand(keys, words)
 }

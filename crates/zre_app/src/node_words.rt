@@ -25,37 +25,16 @@ pub(crate) struct Fixed {
 
 /// The keys of a node.
 pub(crate) fn node_keys() -> [Key<'static>; 7]
-    ensures { map (λ key. (key.name.now, key.often)) result ≡ node_keys }
+    ensures { map (λ key. (key.0.now, key.1)) result ≡ node_keys }
 {
     [
-        Key {
-            name: b"id=",
-            often: Often::Once,
-        },
-        Key {
-            name: b"host=",
-            often: Often::Once,
-        },
-        Key {
-            name: b"port=",
-            often: Often::Once,
-        },
-        Key {
-            name: b"name=",
-            often: Often::AtMostOnce,
-        },
-        Key {
-            name: b"header=",
-            often: Often::AnyTimes,
-        },
-        Key {
-            name: b"evasive=",
-            often: Often::AtMostOnce,
-        },
-        Key {
-            name: b"expired=",
-            often: Often::AtMostOnce,
-        },
+        (b"id=", Often::Once),
+        (b"host=", Often::Once),
+        (b"port=", Often::Once),
+        (b"name=", Often::AtMostOnce),
+        (b"header=", Often::AnyTimes),
+        (b"evasive=", Often::AtMostOnce),
+        (b"expired=", Often::AtMostOnce),
     ]
 }
 

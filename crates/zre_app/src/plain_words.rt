@@ -55,10 +55,7 @@ fn follow_of(words: &[Octets]) -> Option<Plain>
     ensures value { result ≡ follow_of words.now }
     ensures ready { IfSome result CanDo }
 {
-    let keys = [Key {
-        name: b"id=",
-        often: Often::Once,
-    }];
+    let keys: [Key<'_>; 1] = [(b"id=", Often::Once)];
     if !are_words_of(&keys, words) {
         return None;
     }
@@ -130,10 +127,7 @@ fn table_of(alloc: Global, words: &[Octets]) -> Result<Option<Plain>, OutOfMemor
     ensures value { IfOk result (λ plain. plain ≡ table_of words.now) }
     ensures ready { IfOk result (λ plain. IfSome plain CanDo) }
 {
-    let keys = [Key {
-        name: b"group=",
-        often: Often::Once,
-    }];
+    let keys: [Key<'_>; 1] = [(b"group=", Often::Once)];
     if !are_words_of(&keys, words) {
         return Ok(None);
     }
@@ -206,21 +200,12 @@ fn exercise_in(words: &[Octets]) -> Option<Plain>
 
 // The keys of an exercise.
 fn exercise_keys() -> [Key<'static>; 3]
-    ensures { map (λ key. (key.name.now, key.often)) result ≡ exercise_keys }
+    ensures { map (λ key. (key.0.now, key.1)) result ≡ exercise_keys }
 {
     [
-        Key {
-            name: b"seed=",
-            often: Often::Once,
-        },
-        Key {
-            name: b"peers=",
-            often: Often::Once,
-        },
-        Key {
-            name: b"messages=",
-            often: Often::Once,
-        },
+        (b"seed=", Often::Once),
+        (b"peers=", Often::Once),
+        (b"messages=", Often::Once),
     ]
 }
 
