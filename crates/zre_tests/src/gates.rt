@@ -1,7 +1,7 @@
 //! Gates: several clients of one node, with a client whose end comes only after what another client asked for was
 //! written.
 
-use crate::terminal::{Patient, Showing, Sign, sign_of, source_of, words_of};
+use crate::terminal::{Patient, Showing, Sign, sign_of, source_of, words_of, world_of};
 use std::alloc::Global;
 use std::collections::VecDeque;
 use std::sync::Wait;
@@ -9,7 +9,7 @@ use std::test::Fail;
 use std::thread::Threads;
 use zre_app::{GateEnded, Status, gate};
 use zre_outside::{
-    Desk, Failed, MemDesk, MemRecorder, MemSink, PlainSpawner, Script, ScriptWorld, Sink, Turn,
+    Desk, Failed, MemDesk, MemRecorder, MemSink, PlainSpawner, Script, ScriptWorld, Sink,
 };
 use zre_values::{Octets, OutOfMemory};
 
@@ -40,18 +40,10 @@ const STOP: &[u8] = b"STOP\n";
 /// The most turns and octets.
 const LIMIT: u64 = 50000000;
 
-/// So many looks for a command.
-fn looks(alloc: Global, count: u64) -> Result<ScriptWorld, OutOfMemory> {
-    let mut script = Script::new(alloc);
-    for _ in 0..count {
-        script.push(Turn::Look)?;
-    }
-    Ok(ScriptWorld::new(alloc, script, Vec::new(alloc), Vec::new(alloc)))
-}
-
 /// A gate of two clients in memory, and how it ends.
 #[derive(Clone, Copy)]
 struct Case {
+    shows: &'static str,
     /// The word that says how many clients there are.
     clients: &'static [u8],
     /// What the first client sends, and which reads of it fail.
@@ -70,6 +62,7 @@ struct Case {
 }
 
 const PLAIN: Case = Case {
+    shows: "two clients share a node",
     clients: TWO,
     first: WHISPER,
     read_fails: &[],
@@ -100,7 +93,7 @@ fn hold<R: Threads + Wait + Send + Copy + 'static, D: Desk + Drop, O: Sink>(
 ) -> Result<GateEnded<D, ScriptWorld, MemRecorder>, OutOfMemory> {
     let mut words = words_of(alloc, GATE)?;
     words.push(Octets::copy(alloc, case.clients)?)?;
-    let world = looks(alloc, case.looks)?;
+    let world = world_of(alloc, Script::new(alloc), case.looks)?;
     let start_fails = Vec::from_slice(alloc, case.start_fails)?;
     let rec = MemRecorder::new(alloc, Vec::new(alloc), Vec::new(alloc));
     let mut spawner = PlainSpawner::new(rt, alloc, start_fails);
@@ -139,39 +132,24 @@ fn ends<R: Threads + Wait + Send + Copy + 'static>(
     Ok(status == case.status && out.written() == case.text)
 }
 
-#[test]
-fn two_clients_share_a_node(rt: HostRuntime) -> Result<(), Fail> {
-    assert!(rt; ends(rt, rt.alloc(), &PLAIN)?);
-    Ok(())
-}
-
-#[test]
-fn their_order_is_no_matter(rt: HostRuntime) -> Result<(), Fail> {
-    let case = Case {
+const CASES: [Case; 7] = [
+    PLAIN,
+    Case {
+        shows: "their order is no matter",
         first: GROUP,
         second: WHISPER,
         ..PLAIN
-    };
-    assert!(rt; ends(rt, rt.alloc(), &case)?);
-    Ok(())
-}
-
-#[test]
-fn a_client_that_is_not_started_stops_the_node(rt: HostRuntime) -> Result<(), Fail> {
-    let case = Case {
+    },
+    Case {
+        shows: "a client that is not started stops the node",
         start_fails: &[2],
         looks: 1,
         status: Status::NoThread,
         text: STOP,
         ..PLAIN
-    };
-    assert!(rt; ends(rt, rt.alloc(), &case)?);
-    Ok(())
-}
-
-#[test]
-fn a_closer_that_is_not_started_stops_the_node(rt: HostRuntime) -> Result<(), Fail> {
-    let case = Case {
+    },
+    Case {
+        shows: "a closer that is not started stops the node",
         first: b"",
         second: b"",
         start_fails: &[4],
@@ -179,46 +157,40 @@ fn a_closer_that_is_not_started_stops_the_node(rt: HostRuntime) -> Result<(), Fa
         status: Status::NoThread,
         text: STOP,
         ..PLAIN
-    };
-    assert!(rt; ends(rt, rt.alloc(), &case)?);
-    Ok(())
-}
-
-#[test]
-fn a_desk_that_fails_starts_nothing(rt: HostRuntime) -> Result<(), Fail> {
-    let case = Case {
+    },
+    Case {
+        shows: "a desk that fails starts nothing",
         next_fails: &[1],
         status: Status::DeskFault,
         text: b"",
         ..PLAIN
-    };
-    assert!(rt; ends(rt, rt.alloc(), &case)?);
-    Ok(())
-}
-
-#[test]
-fn fifteen_are_too_many(rt: HostRuntime) -> Result<(), Fail> {
-    let case = Case {
+    },
+    Case {
+        shows: "fifteen are too many",
         clients: MANY,
         status: Status::Usage,
         text: b"USAGE\n",
         ..PLAIN
-    };
-    assert!(rt; ends(rt, rt.alloc(), &case)?);
-    Ok(())
-}
-
-/// A client that fails ends alone: its whole lines count, and the line that it didn't finish doesn't.
-#[test]
-fn a_client_that_fails_ends_alone(rt: HostRuntime) -> Result<(), Fail> {
-    let case = Case {
+    },
+    // its whole lines count, and the line that it didn't finish doesn't
+    Case {
+        shows: "a client that fails ends alone",
         first: b"whisper 44444444444444444444444444444444 x\njoin",
         read_fails: &[2],
         second: b"join g\nquit\nleave g\n",
         looks: 3,
         ..PLAIN
-    };
-    assert!(rt; ends(rt, rt.alloc(), &case)?);
+    },
+];
+
+#[test]
+fn gates_end_as_each_case_says(rt: HostRuntime) -> Result<(), Fail> {
+    for case in CASES {
+        assert_eq!(rt;
+            (case.shows, ends(rt, rt.alloc(), &case)?),
+            (case.shows, true)
+        );
+    }
     Ok(())
 }
 

@@ -7,6 +7,8 @@ mod adapters;
 #[cfg(test)]
 mod callers;
 #[cfg(test)]
+mod chats;
+#[cfg(test)]
 mod gates;
 #[cfg(test)]
 mod network;

@@ -1,15 +1,14 @@
 //! A chat that reads, works and prints beside each other: its input holds its last line back until something was
 //! written.
 
-use crate::terminal::{Patient, Showing, sign_of, words_of};
+use crate::chats::{Stand, chat};
+use crate::terminal::{Patient, Showing, sign_of, words_of, world_of};
 use std::alloc::Global;
-use std::sync::Wait;
 use std::test::Fail;
-use std::thread::Threads;
-use zre_app::{Status, run};
+use zre_app::Status;
 use zre_capture::CaptureReader;
-use zre_outside::{Entries, MemRecorder, PlainSpawner, Script, ScriptWorld, Turn};
-use zre_values::{Frames, OutOfMemory};
+use zre_outside::{Entries, PlainSpawner, Script, ScriptWorld, Turn};
+use zre_values::OutOfMemory;
 
 const CHAT: &[&[u8]] = &[
     b"chat",
@@ -68,29 +67,16 @@ EXIT 33333333333333333333333333333333 c stop\n\
 STOP\n";
 
 /// The peers of the script, and after them four looks for a command.
-fn script_of(alloc: Global) -> Result<Script, OutOfMemory> {
+fn world(alloc: Global) -> Result<ScriptWorld, OutOfMemory> {
     let mut entries = Entries::new(alloc);
     let mut reader = CaptureReader::new(alloc);
     let mut script = Script::new(alloc);
-    if reader.feed(SCRIPT, &mut entries).is_err() {
-        return Ok(script);
+    if reader.feed(SCRIPT, &mut entries).is_ok() {
+        for entry in entries.into_vec() {
+            script.push(Turn::Entry(entry))?;
+        }
     }
-    for entry in entries.into_vec() {
-        script.push(Turn::Entry(entry))?;
-    }
-    for _ in 0..4 {
-        script.push(Turn::Look)?;
-    }
-    Ok(script)
-}
-
-/// The words, the world's script, and what stands for the terminal.
-#[derive(Drop)]
-struct Stand {
-    words: Frames,
-    script: Script,
-    input: Patient,
-    out: Showing,
+    world_of(alloc, script, 4)
 }
 
 /// The last line is held back until something was written.
@@ -100,45 +86,17 @@ fn make_stand(alloc: Global) -> Result<Stand, OutOfMemory> {
     input.wait_for(&is_written)?;
     Ok(Stand {
         words: words_of(alloc, CHAT)?,
-        script: script_of(alloc)?,
         input,
         out: Showing::new(alloc, b"", is_written),
     })
 }
 
-/// The status of the chat, and what was written.
-fn chat<R: Threads + Wait + Send + Copy + 'static>(
-    rt: R,
-    alloc: Global,
-    stand: Stand,
-) -> (Status, Showing) {
-    let Stand {
-        words,
-        script,
-        input,
-        mut out,
-    } = stand;
-    let world = ScriptWorld::new(alloc, script, Vec::new(alloc), Vec::new(alloc));
-    let rec = MemRecorder::new(alloc, Vec::new(alloc), Vec::new(alloc));
-    let mut spawner = PlainSpawner::new(rt, alloc, Vec::new(alloc));
-    let ended = run(
-        rt,
-        alloc,
-        &words,
-        input,
-        world,
-        &mut out,
-        rec,
-        &mut spawner,
-        50000000,
-    );
-    (ended.status, out)
-}
-
 #[test]
 fn runs_beside(rt: HostRuntime) -> Result<(), Fail> {
-    let stand = make_stand(rt.alloc())?;
-    let (status, out) = chat(rt, rt.alloc(), stand);
+    let alloc = rt.alloc();
+    let stand = make_stand(alloc)?;
+    let spawner = PlainSpawner::new(rt, alloc, Vec::new(alloc));
+    let (status, out) = chat(rt, alloc, stand, world(alloc)?, spawner, 50000000);
     assert_eq!(rt; status, Status::Done);
     assert_eq!(rt; out.written(), TEXT);
     Ok(())

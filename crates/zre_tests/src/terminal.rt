@@ -5,7 +5,7 @@ use std::alloc::Global;
 use std::sync::Arc;
 use std::sync::atomic::{AtomicBool, Ordering};
 use std::thread::yield_now;
-use zre_outside::{Failed, MemSink, MemSource, NextFault, Sink, Source};
+use zre_outside::{Failed, MemSink, MemSource, NextFault, Script, ScriptWorld, Sink, Source, Turn};
 use zre_values::{Frames, Octets, OutOfMemory};
 
 /// What one thread gives and others look for.
@@ -31,6 +31,14 @@ pub fn words_of(alloc: Global, words: &[&[u8]]) -> Result<Frames, OutOfMemory> {
 /// A source in memory, of which the reads with these numbers fail.
 pub fn source_of(alloc: Global, text: &[u8], fails: &[u64]) -> Result<MemSource, OutOfMemory> {
     Ok(MemSource::new(Octets::copy(alloc, text)?, Vec::from_slice(alloc, fails)?))
+}
+
+/// A world by a script, and after it so many looks for a command.
+pub fn world_of(alloc: Global, mut script: Script, looks: u64) -> Result<ScriptWorld, OutOfMemory> {
+    for _ in 0..looks {
+        script.push(Turn::Look)?;
+    }
+    Ok(ScriptWorld::new(alloc, script, Vec::new(alloc), Vec::new(alloc)))
 }
 
 /// Octets, and after them others that are held back until all signs were given.

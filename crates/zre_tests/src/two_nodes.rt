@@ -1,14 +1,15 @@
 //! Two chats in one process, each over the real network, on the loopback interface.
 
+use crate::chats::{Stand, chat};
 use crate::terminal::{Patient, Showing, Sign, sign_of, words_of};
 use std::alloc::Global;
-use std::sync::{Arc, Wait};
+use std::sync::Arc;
 use std::test::Fail;
-use std::thread::{Threads, join};
-use zre_app::{Status, run};
+use std::thread::join;
+use zre_app::Status;
 use zre_fabric::RealWorld;
-use zre_outside::{MemRecorder, ThreadSpawner, World};
-use zre_values::{Frames, OutOfMemory};
+use zre_outside::ThreadSpawner;
+use zre_values::OutOfMemory;
 
 const ONE: &[&[u8]] = &[
     b"chat",
@@ -37,14 +38,6 @@ const MEETS_TWO: &[u8] = b"ENTER 22222222222222222222222222222222 222222 ";
 
 const MEETS_ONE: &[u8] = b"ENTER 11111111111111111111111111111111 111111 ";
 
-/// A node, and what stands for its terminal.
-#[derive(Drop)]
-struct Stand {
-    words: Frames,
-    input: Patient,
-    out: Showing,
-}
-
 /// A quit is held back until both nodes have met.
 fn make_stand(
     alloc: Global,
@@ -69,43 +62,30 @@ fn make_stands(alloc: Global) -> Result<(Stand, Stand), OutOfMemory> {
     Ok((one, make_stand(alloc, TWO, MEETS_ONE, &second, &first)?))
 }
 
-fn chat<R: Threads + Wait + Send + Copy + 'static, W: World + Send + Drop + 'static>(
-    rt: R,
-    alloc: Global,
-    stand: Stand,
-    world: W,
-) -> Status {
-    let Stand {
-        words,
-        input,
-        mut out,
-    } = stand;
-    let rec = MemRecorder::new(alloc, Vec::new(alloc), Vec::new(alloc));
-    let mut spawner = ThreadSpawner::new(rt, alloc);
-    let ended = run(
-        rt,
-        alloc,
-        &words,
-        input,
-        world,
-        &mut out,
-        rec,
-        &mut spawner,
-        1000,
-    );
-    ended.status
-}
-
 #[test]
 fn two_nodes(rt: HostRuntime) -> Result<(), Fail> {
     let alloc = rt.alloc();
     let (one, two) = make_stands(alloc)?;
     let (left, right) = join(
         &rt,
-        move || chat(rt, alloc, one, RealWorld::new(rt, alloc)),
-        move || chat(rt, alloc, two, RealWorld::new(rt, alloc)),
+        move || chat(
+            rt,
+            alloc,
+            one,
+            RealWorld::new(rt, alloc),
+            ThreadSpawner::new(rt, alloc),
+            1000,
+        ),
+        move || chat(
+            rt,
+            alloc,
+            two,
+            RealWorld::new(rt, alloc),
+            ThreadSpawner::new(rt, alloc),
+            1000,
+        ),
     );
-    assert_eq!(rt; left, Status::Done);
-    assert_eq!(rt; right, Status::Done);
+    assert_eq!(rt; left.0, Status::Done);
+    assert_eq!(rt; right.0, Status::Done);
     Ok(())
 }

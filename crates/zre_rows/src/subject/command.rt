@@ -10,7 +10,7 @@ use crate::subject::{Subject, steps};
 use crate::text::Text;
 use crate::trouble::Trouble;
 use crate::words::Words;
-use calls::{Ran, Stand, call, call_plain, call_zre};
+use calls::{Ran, Stand, call, call_plain};
 use cut::Cut;
 use narrow::Narrow;
 use std::alloc::Global;
@@ -209,13 +209,19 @@ impl Commands {
         let nexts = self.calls_of(alloc, "next", answer);
         let script = script_of(alloc, self.script.as_slice(), answer);
         let inner = ScriptWorld::new(alloc, script, starts, nexts);
-        Telling::new(inner, Text::new(alloc))
+        Telling {
+            inner,
+            told: Text::new(alloc),
+        }
     }
 
     fn recorder(&self, alloc: Global, answer: &mut Text) -> Naming {
         let begins = self.calls_of(alloc, "begin", answer);
         let puts = self.calls_of(alloc, "put", answer);
-        Naming::new(MemRecorder::new(alloc, begins, puts), Text::new(alloc))
+        Naming {
+            inner: MemRecorder::new(alloc, begins, puts),
+            names: Text::new(alloc),
+        }
     }
 
     fn stand(&self, alloc: Global, answer: &mut Text) -> Stand {
@@ -284,8 +290,8 @@ impl Commands {
         self.note_given(input.given);
         self.kept.clear();
         self.kept.put(rec.inner.kept());
-        self.told = world.into_told();
-        self.file = rec.into_names();
+        self.told = world.told;
+        self.file = rec.names;
     }
 }
 
@@ -320,8 +326,8 @@ impl Commands {
             let mut out = self.sink(alloc, answer);
             if self.is_whole(answer) {
                 let ran = match due {
-                    Due::Run(limit) => call(rt, alloc, &self.words, stand, &mut out, limit),
-                    Due::Zre => call_zre(rt, alloc, &self.words, stand, &mut out),
+                    Due::Run(limit) => call(rt, alloc, &self.words, stand, &mut out, Some(limit)),
+                    Due::Zre => call(rt, alloc, &self.words, stand, &mut out, None),
                 };
                 push_outcome(answer, out.written(), ran.status);
                 self.note(ran);

@@ -39,11 +39,21 @@ fn push_fault(out: &mut Text, fault: RunFault) {
     out.end();
 }
 
+// The message of these frames, which have to be those of one.
+fn message_of(alloc: Global, frames: &Frames, text: &mut Text) -> Option<Message> {
+    match Message::read(alloc, frames) {
+        Ok(message) => Some(message),
+        Err(_) => {
+            text.fail(Trouble::BadArgument);
+            None
+        }
+    }
+}
+
 // Appends the lines of the next message's events, or the fault.
 fn tell_events(alloc: Global, run: &mut Run, frames: &Frames, text: &mut Text) {
-    match Message::read(alloc, frames) {
-        Ok(message) => tell_next(run, message, text),
-        Err(_) => text.fail(Trouble::BadArgument),
+    if let Some(message) = message_of(alloc, frames, text) {
+        tell_next(run, message, text);
     }
 }
 
@@ -79,9 +89,8 @@ fn tell_lent(run: &mut Teller, lent: &LentMessage<'_>, text: &mut Text) -> bool 
 }
 
 fn tell_read(alloc: Global, run: &mut Teller, frames: &Frames, text: &mut Text) {
-    match Message::read(alloc, frames) {
-        Ok(message) => tell_given(run, message, text),
-        Err(_) => text.fail(Trouble::BadArgument),
+    if let Some(message) = message_of(alloc, frames, text) {
+        tell_given(run, message, text);
     }
 }
 

@@ -38,14 +38,14 @@ pub fn call_plain(
     Some((status, input.given))
 }
 
-/// Any command, with a limit.
+/// Any command, with a limit, or with that of the program.
 pub fn call<T: Threads + Wait + Copy + Send + 'static>(
     rt: T,
     alloc: Global,
     words: &Frames,
     stand: Stand,
     out: &mut Narrow,
-    limit: u64,
+    limit: Option<u64>,
 ) -> Ran {
     let Stand {
         input,
@@ -54,6 +54,9 @@ pub fn call<T: Threads + Wait + Copy + Send + 'static>(
         threads,
     } = stand;
     let mut spawner = PlainSpawner::new(rt, alloc, threads);
+    let Some(limit) = limit else {
+        return zre(rt, alloc, words, input, world, out, rec, &mut spawner);
+    };
     run(
         rt,
         alloc,
@@ -65,22 +68,4 @@ pub fn call<T: Threads + Wait + Copy + Send + 'static>(
         &mut spawner,
         limit,
     )
-}
-
-/// Any command, with the limit of the program.
-pub fn call_zre<T: Threads + Wait + Copy + Send + 'static>(
-    rt: T,
-    alloc: Global,
-    words: &Frames,
-    stand: Stand,
-    out: &mut Narrow,
-) -> Ran {
-    let Stand {
-        input,
-        world,
-        rec,
-        threads,
-    } = stand;
-    let mut spawner = PlainSpawner::new(rt, alloc, threads);
-    zre(rt, alloc, words, input, world, out, rec, &mut spawner)
 }

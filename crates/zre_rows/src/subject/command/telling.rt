@@ -10,18 +10,8 @@ use zre_values::OutOfMemory;
 /// A script as a world, with the lines of what it was told.
 #[derive(Drop)]
 pub struct Telling {
-    inner: ScriptWorld,
-    told: Text,
-}
-
-impl Telling {
-    pub fn new(inner: ScriptWorld, told: Text) -> Self {
-        Telling { inner, told }
-    }
-
-    pub fn into_told(self) -> Text {
-        self.told
-    }
+    pub inner: ScriptWorld,
+    pub told: Text,
 }
 
 impl World for Telling {
@@ -58,17 +48,7 @@ impl World for Telling {
 #[derive(Drop)]
 pub struct Naming {
     pub inner: MemRecorder,
-    names: Text,
-}
-
-impl Naming {
-    pub fn new(inner: MemRecorder, names: Text) -> Self {
-        Naming { inner, names }
-    }
-
-    pub fn into_names(self) -> Text {
-        self.names
-    }
+    pub names: Text,
 }
 
 impl Recorder for Naming {
