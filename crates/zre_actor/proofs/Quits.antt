@@ -7,7 +7,7 @@ use Rattle.zre_outside.specs.declared.entry.Command.{Command}
 use Rattle.zre_outside.specs.declared.entry.Command.TheVariants as ask
 use Rattle.zre_outside.specs.declared.turn.Turn.TheVariants as turn
 use Rattle.zre_outside.specs.Worlds.{IsTurn}
-use Rattle.zre_journal.specs.declared.config.Config.{Config}
+use Rattle.zre_values.specs.declared.settings.Settings.{Settings as Config}
 use Rattle.zre_journal.specs.Chronicle.{Comes, after}
 use Rattle.zre_journal.specs.Events.{chronicle}
 use Rattle.zre_journal.specs.Happens.{has_stopped, at_input, with_entry}

@@ -17,7 +17,7 @@ use Rattle.zre_outside.specs.declared.sink.NextFault.TheVariants as fault
 use Rattle.zre_outside.specs.Causes.{Rose}
 use Rattle.zre_outside.specs.Worlds.{Log}
 use Rattle.zre_peer.specs.declared.event.Event.{Event}
-use Rattle.zre_journal.specs.declared.config.Config.{Config}
+use Rattle.zre_values.specs.declared.settings.Settings.{Settings as Config}
 use Rattle.zre_journal.specs.Asked.{front_after}
 use Rattle.zre_journal.specs.Events.{chronicle, events, acts_after}
 use Rattle.zre_journal.specs.Happens.{has_stopped}

@@ -9,7 +9,7 @@ ghost use Rattle.zre_outside.specs.Causes.{Rose};
 ghost use Rattle.zre_outside.specs.Told.{AppendsFront};
 ghost use Rattle.zre_outside.specs.Worlds.{with_deed};
 ghost use Rattle.zre_journal.specs.Asked.{AreDue, IsDueAct, IsDue};
-ghost use Rattle.zre_journal.specs.declared.config.Config.{Config};
+ghost use Rattle.zre_values.specs.declared.settings.Settings.{Settings as Config};
 ghost use Rattle.zre_journal.specs.Events.{chronicle};
 ghost use Rattle.zre_node.specs.Journal.{StandsFor};
 ghost use Rattle.zre_capture.specs.Lines.{line, IsEntry};

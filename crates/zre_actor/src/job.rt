@@ -32,7 +32,7 @@ impl<W: World + Send + Drop + 'static, R: Recorder + Send + Drop + 'static> Task
     ghost use Rattle.std.specs.Arc.{arc_value};
     ghost use Rattle.std.specs.Io.KnownBytes.{Keeps};
     ghost use Rattle.zre_outside.specs.declared.entry.Entry.{Entry};
-    ghost use Rattle.zre_journal.specs.declared.config.Config.{Config};
+    ghost use Rattle.zre_values.specs.declared.settings.Settings.{Settings as Config};
     ghost use Rattle.zre_node.specs.Journal.{StandsFor};
     ghost use Rattle.zre_actor.specs.Passes.{IsActorOf, unused_by, ending_of};
     ghost use Rattle.zre_actor.specs.Work.{IsWork, scene};

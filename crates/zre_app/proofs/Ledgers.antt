@@ -2,7 +2,6 @@
 use Rattle.std.specs.Prelude.{Option, Some}
 use Rattle.zre_capture.specs.Journal.{journal}
 use Rattle.zre_capture.specs.declared.format.Format.TheVariants.{First, Second}
-use Rattle.zre_commands.specs.Settings.{as_config}
 use Rattle.zre_journal.proofs.Windows.{keeps_ledgers}
 use Rattle.zre_app.specs.Does.{KeepsItsLedgers}
 use Rattle.zre_app.specs.declared.command.Command.{Command}
@@ -11,6 +10,6 @@ use Rattle.zre_app.specs.declared.plain_words.Plain.TheVariants.{Replay, ReplayT
 
 pub keeps_its_ledgers : (c : Option Command) → KeepsItsLedgers c
 keeps_its_ledgers (Some (commands.Plain (Replay g))) = λ o. keeps_ledgers g (journal First o)
-keeps_its_ledgers (Some (commands.Plain ReplayTold)) = λ o s is. keeps_ledgers (as_config s) (journal Second o)
+keeps_its_ledgers (Some (commands.Plain ReplayTold)) = λ o s is. keeps_ledgers s (journal Second o)
 keeps_its_ledgers (Some (commands.Chat c)) = λ entries. keeps_ledgers c.config entries
 keeps_its_ledgers _ = tt

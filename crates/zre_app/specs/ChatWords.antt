@@ -4,8 +4,8 @@ use Rattle.std.specs.Prelude.{None, IfSome, option_and_then, option_map, codes, 
 use Rattle.std.specs.Str.{is_utf8}
 use Rattle.zre_capture.specs.Values.{address_of}
 use Rattle.zre_outside.specs.declared.start.Start.{Start}
-use Rattle.zre_journal.specs.Config.{is_valid}
-use Rattle.zre_journal.specs.declared.config.Config.{Config}
+use Rattle.zre_values.specs.Settings.{is_valid}
+use Rattle.zre_values.specs.declared.settings.Settings.{Settings as Config}
 use Rattle.zre_chat.specs.declared.chat.Chat.{Chat}
 use Rattle.zre_app.specs.Keys.{are_words_of, begins, after, value_of}
 use Rattle.zre_app.specs.Names.{after_name}

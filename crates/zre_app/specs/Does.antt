@@ -4,11 +4,10 @@ use Rattle.zre_outside.specs.Causes.{Rose}
 use Rattle.zre_outside.specs.declared.entry.Entry.{Entry}
 use Rattle.zre_capture.specs.Journal.{journal, settings}
 use Rattle.zre_capture.specs.declared.format.Format.TheVariants.{First, Second}
-use Rattle.zre_capture.specs.declared.settings.Settings.{Settings}
+use Rattle.zre_values.specs.declared.settings.Settings.{Settings}
 use Rattle.zre_journal.specs.Events.{events}
 use Rattle.zre_journal.specs.Ledger.{KeepsLedgers}
 use Rattle.zre_commands.specs.declared.pump.status.Status.{Status}
-use Rattle.zre_commands.specs.Settings.{as_settings, as_config}
 use Rattle.zre_commands.specs.pump.Meaning.{Meaning}
 use Rattle.zre_commands.specs.pump.Outcome.{Pumped}
 use Rattle.zre_commands.specs.follow.Follow.{follow}
@@ -40,7 +39,7 @@ work_of (Follow id) = Reads (follow id)
 work_of Show = Reads show
 work_of (Replay g) = Reads (replay g)
 work_of ReplayTold = Reads told_replay
-work_of (Upgrade g) = Reads (upgrade (as_settings g))
+work_of (Upgrade g) = Reads (upgrade g)
 work_of (Table group) = Reads (table group)
 work_of Audit = Reads audit
 work_of Simulate = Reads simulate
@@ -72,7 +71,7 @@ KeepsItsLedgers (Some (commands.Plain (Replay g))) =
     (o : List ℕ) → KeepsLedgers g (journal First o) (events g (journal First o))
 KeepsItsLedgers (Some (commands.Plain ReplayTold)) =
     (o : List ℕ) (s : Settings) → settings Second o ≡ Some s
-    → KeepsLedgers (as_config s) (journal Second o) (events (as_config s) (journal Second o))
+    → KeepsLedgers s (journal Second o) (events s (journal Second o))
 KeepsItsLedgers (Some (commands.Chat c)) =
     (entries : List Entry) → KeepsLedgers c.config entries (events c.config entries)
 KeepsItsLedgers _ = Unit {0}

@@ -4,11 +4,10 @@ use Rattle.std.specs.Io.KnownBytes.{Appends}
 use Rattle.zre_outside.specs.Causes.{Rose}
 use Rattle.zre_outside.specs.declared.entry.Entry.{Entry}
 use Rattle.zre_outside.specs.declared.start.Start.{Start}
-use Rattle.zre_journal.specs.declared.config.Config.{Config}
+use Rattle.zre_values.specs.declared.settings.Settings.{Settings as Config}
 use Rattle.zre_capture.specs.Journal.{capture}
 use Rattle.zre_capture.specs.Lines.{AreShort}
 use Rattle.zre_capture.specs.declared.format.Format.TheVariants.{Second}
-use Rattle.zre_commands.specs.Settings.{as_settings}
 use Rattle.zre_commands.specs.pump.Meaning.{whole_text}
 use Rattle.zre_commands.specs.declared.pump.status.Status.{Status}
 use Rattle.zre_records.specs.replay.Replay.{told_replay}
@@ -16,7 +15,7 @@ use Rattle.zre_chat.specs.Chat.{Seen, IsChat, IsSpared, Holds}
 
 -- the capture of a node with these settings and of these entries
 abbrev pub kept_of : Config → List Entry → List ℕ
-kept_of g es = capture Second (as_settings g) es
+kept_of g es = capture Second g es
 
 -- a chat kept a capture, and what it wrote is what a replay of that capture without words writes: the capture isn't
 -- refused

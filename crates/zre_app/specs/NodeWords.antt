@@ -4,8 +4,8 @@ use Rattle.std.specs.Prelude.{position, unwrap_or, option_and_then, option_map, 
 use Rattle.zre_values.specs.Text.{id_text}
 use Rattle.zre_values.specs.declared.peer_id.PeerId.{PeerId}
 use Rattle.zre_capture.specs.Values.{number_of, address_of}
-use Rattle.zre_journal.specs.Config.{is_valid}
-use Rattle.zre_journal.specs.declared.config.Config.{Config}
+use Rattle.zre_values.specs.Settings.{is_valid}
+use Rattle.zre_values.specs.declared.settings.Settings.{Settings as Config}
 use Rattle.zre_app.specs.Keys.{after, begins, value_of, identity}
 use Rattle.zre_app.specs.declared.keys.Often.{Often}
 use Rattle.zre_app.specs.declared.keys.Often.TheVariants.{Once, AtMostOnce, AnyTimes}

@@ -5,8 +5,8 @@ use Rattle.std.specs.List.{list_all}
 use Rattle.std.specs.Str.{bytes_eq, is_utf8}
 use Rattle.zre_capture.specs.Values.{number_of, group_of}
 use Rattle.zre_values.specs.declared.limits.TheConstants.{GROUP_OCTETS}
-use Rattle.zre_journal.specs.Config.{is_valid}
-use Rattle.zre_journal.specs.declared.config.Config.{Config}
+use Rattle.zre_values.specs.Settings.{is_valid}
+use Rattle.zre_values.specs.declared.settings.Settings.{Settings as Config}
 use Rattle.zre_app.specs.Keys.{are_words_of, value_of, identity}
 use Rattle.zre_app.specs.NodeWords.{node_keys, between, config_in}
 use Rattle.zre_app.specs.declared.keys.Often.{Often}

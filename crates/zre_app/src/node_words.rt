@@ -5,7 +5,7 @@ ghost use Rattle.std.specs.Prelude.{option_and_then, position, codes, IfOk, IfSo
 ghost use Rattle.zre_app.specs.NodeWords.{node_keys, number_or, port_of, id_in, host_in, port_in, evasive_in};
 ghost use Rattle.zre_app.specs.NodeWords.{expired_in, fixed_in, name_in, header_of, headers_from, config_in};
 ghost use Rattle.zre_app.specs.Keys.{after as after_key, value_of as value_of_key};
-ghost use Rattle.zre_journal.specs.Config.{is_valid};
+ghost use Rattle.zre_values.specs.Settings.{is_valid};
 
 use crate::keys::{Key, Often, after, begins, identity, value_of};
 use std::alloc::Global;

@@ -2,7 +2,7 @@
 
 ghost use Rattle.std.specs.Prelude.{◌≡◌, ◌≤◌, [], true, false, Some, IfSome};
 ghost use Rattle.zre_outside.specs.Causes.{Rose};
-ghost use Rattle.zre_journal.specs.Config.{is_valid};
+ghost use Rattle.zre_values.specs.Settings.{is_valid};
 ghost use Rattle.zre_commands.specs.exercise.Exercise.{text as exercise_text};
 ghost use Rattle.zre_app.specs.Does.{DidPlain, DoesWork};
 ghost use Rattle.zre_app.specs.Does.Work.{Reads};
@@ -16,7 +16,6 @@ use std::alloc::Global;
 use zre_commands::exercise::push_summary;
 use zre_commands::follow::Follower;
 use zre_commands::pump::{Machine, Status, pump};
-use zre_commands::settings::as_settings;
 use zre_commands::show::Lister;
 use zre_journal::Config;
 use zre_outside::{NextFault, Sink, Source, write_all};
@@ -128,13 +127,7 @@ fn obey<I: Source, O: Sink>(
         Some(Plain::Replay { config }) => replay(alloc, config, input, out, limit),
         Some(Plain::ReplayTold) => reads(alloc, HeadReplayer::new(alloc), input, out, limit),
         Some(Plain::Upgrade { config }) => {
-            reads(
-                alloc,
-                Upgrader::new(alloc, as_settings(config)),
-                input,
-                out,
-                limit,
-            )
+            reads(alloc, Upgrader::new(alloc, config), input, out, limit)
         }
         Some(Plain::Table { group }) => reads(
             alloc,

@@ -1,7 +1,7 @@
 //! The words of the commands but `chat`.
 
 ghost use Rattle.std.specs.Prelude.{◌≡◌, ◌≤◌, true, map, IfOk, IfSome};
-ghost use Rattle.zre_journal.specs.Config.{is_valid};
+ghost use Rattle.zre_values.specs.Settings.{is_valid};
 ghost use Rattle.zre_app.specs.PlainWords.{follow_of, show_of, node_of, replay_of, upgrade_of, group_in, table_of};
 ghost use Rattle.zre_app.specs.PlainWords.{audit_of, simulate_of};
 ghost use Rattle.zre_app.specs.PlainWords.{number_in, exercise_in};

@@ -27,7 +27,7 @@ use Rattle.zre_peer.specs.declared.causes.CloseWhy.TheVariants as close
 use Rattle.zre_peer.specs.declared.event.Event.{Event}
 use Rattle.zre_peer.specs.declared.event.Event.TheVariants as event
 use Rattle.zre_peer.specs.declared.view.View.{View}
-use Rattle.zre_journal.specs.declared.config.Config.{Config}
+use Rattle.zre_values.specs.declared.settings.Settings.{Settings as Config}
 use Rattle.zre_journal.specs.Chronicle.{Mark, Comes, Starts, Counts, Closes, Born, Puts, Ends, IsEvasive, after}
 use Rattle.zre_journal.specs.Arrivals.{end_of_run, start_unknown, start, at_first, at_message, at_said, at_place, at_places}
 use Rattle.zre_journal.specs.Connections.{is_open, is_live, is_ignored, identity, runs, started, start_at, refuses, was_used}

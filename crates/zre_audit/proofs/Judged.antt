@@ -17,7 +17,7 @@ use Rattle.zre_journal.specs.Links.{bodies}
 use Rattle.zre_journal.specs.Peers.{counted}
 use Rattle.zre_audit.specs.Exchanged.{is_said, said, bodies_of, parts_of, is_same_said, runs_of, links_of, heard, put}
 use Rattle.zre_outside.specs.declared.entry.Entry.{Entry}
-use Rattle.zre_journal.specs.declared.config.Config.{Config}
+use Rattle.zre_values.specs.declared.settings.Settings.{Settings as Config}
 use Rattle.zre_audit.specs.Agreement.{Agree, IsTooMany, Judges, judged, too_many, heard_first, heard_second, put_first, put_second}
 use Rattle.zre_audit.specs.Prefixes.{begins, begun, is_short, NoneIsShort, IsFirstShort, first_from, first_short}
 use Rattle.zre_audit.specs.declared.verdicts.Verdict.{Verdict}

@@ -9,7 +9,7 @@ use Rattle.zre_values.specs.declared.peer_id.PeerId.{PeerId}
 use Rattle.zre_outside.specs.declared.entry.Entry.{Entry}
 use Rattle.zre_msg.specs.declared.message.Body.{Body}
 use Rattle.zre_link.specs.Text.{bodies_in}
-use Rattle.zre_journal.specs.declared.config.Config.{Config}
+use Rattle.zre_values.specs.declared.settings.Settings.{Settings as Config}
 use Rattle.zre_journal.specs.Chronicle.{Mark, Born, followed}
 use Rattle.zre_journal.specs.Connections.{is_same}
 use Rattle.zre_journal.specs.Events.{chronicle}

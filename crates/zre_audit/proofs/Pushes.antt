@@ -13,7 +13,7 @@ use Rattle.zre_peer.specs.declared.causes.Cause.TheVariants as cause
 use Rattle.zre_peer.specs.declared.causes.RefuseWhy.{RefuseWhy}
 use Rattle.zre_peer.specs.declared.causes.RefuseWhy.TheVariants as refuse
 use Rattle.zre_link.specs.Text.{size_of}
-use Rattle.zre_journal.specs.declared.config.Config.{Config}
+use Rattle.zre_values.specs.declared.settings.Settings.{Settings as Config}
 use Rattle.zre_journal.specs.Chronicle.{Mark, Comes, Ends, Puts, Refuses, after}
 use Rattle.zre_journal.specs.Commands.{is_too_big, at_whisper, is_member, at_shout}
 use Rattle.zre_journal.specs.Happens.{at_input, has_stopped, with_entry}

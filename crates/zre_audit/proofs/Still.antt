@@ -14,7 +14,7 @@ use Rattle.zre_peer.specs.declared.causes.CloseWhy.TheVariants as close
 use Rattle.zre_link.specs.Heard.{reply_fault}
 use Rattle.zre_link.specs.Link.{answered, slow_at}
 use Rattle.zre_link.specs.Text.{Member, Says, Pongs, bodies_in, size_of}
-use Rattle.zre_journal.specs.declared.config.Config.{Config}
+use Rattle.zre_values.specs.declared.settings.Settings.{Settings as Config}
 use Rattle.zre_journal.specs.Chronicle.{Mark, Shakes, Starts, Closes, IsShut, ClosesAtStop, Born, Ends, IsEvasive, Puts, PutsPong, SendsBeacon, Stops, after, followed}
 use Rattle.zre_journal.specs.Connections.{open_ones, is_new, is_open, runs, other_with}
 use Rattle.zre_journal.specs.Done.{done, done_at, close_link}

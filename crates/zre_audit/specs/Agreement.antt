@@ -2,7 +2,7 @@
 -- link, on another one for each run.
 use Rattle.std.specs.Prelude.{◌≡◌, ◌⊎◌, ℕ, List, Option, Some, None}
 use Rattle.zre_outside.specs.declared.entry.Entry.{Entry}
-use Rattle.zre_journal.specs.declared.config.Config.{Config}
+use Rattle.zre_values.specs.declared.settings.Settings.{Settings as Config}
 use Rattle.zre_journal.specs.Events.{chronicle}
 use Rattle.zre_msg.specs.declared.message.Body.{Body}
 use Rattle.zre_audit.specs.Exchanged.{heard, put, is_same_said}

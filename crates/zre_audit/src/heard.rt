@@ -7,7 +7,7 @@ use crate::coding::{push_shout, push_whisper};
 use std::alloc::Global;
 use std::collections::BTreeMap;
 use zre_peer::Event;
-use zre_values::{Frames, Octets, OutOfMemory, PeerId};
+use zre_values::{Frames, Octets, OutOfMemory, PeerId, take_apart};
 
 /// For each peer its runs in order of start, each as the octets of what was said in it.
 pub(crate) struct Heard {
@@ -17,14 +17,9 @@ pub(crate) struct Heard {
     said: Octets,
 }
 
-// By hand: docs/DECISIONS.md says why, at "Drops by hand".
 impl Drop for Heard {
     fn drop(self) {
-        let Heard {
-            alloc: _,
-            runs: _runs,
-            said: _said,
-        } = self;
+        take_apart!(self, Heard: alloc, runs, said);
     }
 }
 

@@ -2,7 +2,7 @@
 
 ghost use Rattle.std.specs.Prelude.{◌≡◌, ◌↔◌, nat_eq, option_map, IfOk, List as Values};
 ghost use Rattle.zre_outside.specs.declared.entry.Entry.{Entry};
-ghost use Rattle.zre_journal.specs.declared.config.Config.{Config};
+ghost use Rattle.zre_values.specs.declared.settings.Settings.{Settings as Config};
 ghost use Rattle.zre_audit.specs.Agreement.{Agree, Judges, judged};
 ghost use Rattle.zre_audit.specs.Kept.{lines_of};
 ghost use Rattle.zre_audit.specs.Prefixes.{first_short};

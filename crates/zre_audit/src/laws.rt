@@ -3,7 +3,7 @@
 ghost use Rattle.std.specs.Prelude.{◌≡◌, ◌↔◌, ℕ, true, List};
 ghost use Rattle.zre_msg.specs.declared.message.Body.{Body};
 ghost use Rattle.zre_outside.specs.declared.entry.Entry.{Entry};
-ghost use Rattle.zre_journal.specs.declared.config.Config.{Config};
+ghost use Rattle.zre_values.specs.declared.settings.Settings.{Settings as Config};
 ghost use Rattle.zre_audit.specs.Agreement.{Agree, IsTooMany};
 ghost use Rattle.zre_audit.specs.Exchanged.{is_said, is_same_said};
 

@@ -2,7 +2,7 @@
 
 ghost use Rattle.std.specs.Prelude.{◌≡◌, [], ◌∷◌, ◌++◌, length, false, nat_lt, List as Values, IfOk, OnOk};
 ghost use Rattle.std.specs.Option.{option_map_or};
-ghost use Rattle.zre_journal.specs.declared.config.Config.{Config};
+ghost use Rattle.zre_values.specs.declared.settings.Settings.{Settings as Config};
 ghost use Rattle.zre_node.specs.Asked.{sent_after};
 ghost use Rattle.zre_node.specs.Journal.{StandsFor};
 ghost use Rattle.zre_outside.specs.declared.entry.Entry.{Entry};
@@ -11,7 +11,7 @@ ghost use Rattle.zre_audit.specs.Kept.{lines_with, lines_of, counts_after};
 
 use std::alloc::Global;
 use zre_node::Node;
-use zre_values::{Keys, List, Octets, OutOfMemory, PeerId};
+use zre_values::{Keys, List, Octets, OutOfMemory, PeerId, take_apart};
 
 /// How many messages were put on a link.
 #[derive(Clone, Copy)]
@@ -29,10 +29,9 @@ pub(crate) struct Line {
     pub said: Keys,
 }
 
-// By hand: docs/DECISIONS.md says why, at "Drops by hand".
 impl Drop for Line {
     fn drop(self) {
-        let Line { id: _, said: _said } = self;
+        take_apart!(self, Line: id, said);
     }
 }
 
@@ -43,14 +42,9 @@ pub(crate) struct Put {
     lines: Vec<Line>,
 }
 
-// By hand: docs/DECISIONS.md says why, at "Drops by hand".
 impl Drop for Put {
     fn drop(self) {
-        let Put {
-            alloc: _,
-            messages: _messages,
-            lines: _lines,
-        } = self;
+        take_apart!(self, Put: alloc, messages, lines);
     }
 }
 

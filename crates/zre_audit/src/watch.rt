@@ -3,8 +3,8 @@
 ghost use Rattle.std.specs.Prelude.{◌≡◌, [], ◌∷◌, ◌++◌, true, Some, None, List, IfOk, OnOk};
 ghost use Rattle.zre_msg.specs.declared.message.Body.{Body};
 ghost use Rattle.zre_outside.specs.declared.entry.Entry.{Entry as EntryValue};
-ghost use Rattle.zre_journal.specs.declared.config.Config.{Config as ConfigValue};
-ghost use Rattle.zre_journal.specs.Config.{is_valid};
+ghost use Rattle.zre_values.specs.declared.settings.Settings.{Settings as ConfigValue};
+ghost use Rattle.zre_values.specs.Settings.{is_valid};
 ghost use Rattle.zre_audit.specs.Coding.{octets_of};
 ghost use Rattle.zre_audit.specs.Seen.{asked_by};
 ghost use Rattle.zre_audit.specs.Watching.{Watches};
@@ -16,7 +16,7 @@ use std::alloc::Global;
 use zre_journal::Config;
 use zre_node::Node;
 use zre_outside::Entry;
-use zre_values::{Octets, OutOfMemory, PeerId};
+use zre_values::{Octets, OutOfMemory, PeerId, take_apart};
 
 /// A node of which the entries of a journal are told one by one, with what was said by WHISPER and SHOUT in each run of
 /// each peer and on each link. What it keeps grows with what is said: each message is kept once, and on each link that
@@ -29,16 +29,9 @@ pub struct Watch {
     pub(crate) put: Put,
 }
 
-// By hand: docs/DECISIONS.md says why, at "Drops by hand".
 impl Drop for Watch {
     fn drop(self) {
-        let Watch {
-            alloc: _,
-            id: _,
-            node: _node,
-            heard: _heard,
-            put: _put,
-        } = self;
+        take_apart!(self, Watch: alloc, id, node, heard, put);
     }
 }
 

@@ -5,7 +5,7 @@ use Rattle.zre_outside.specs.declared.entry.Entry.{Entry}
 use Rattle.zre_capture.specs.Journal.{line_of, lines_in, next, entries_from, settings_in, start, settings, journal}
 use Rattle.zre_capture.specs.declared.format.Format.{Format}
 use Rattle.zre_capture.specs.declared.place.Place.{Place}
-use Rattle.zre_capture.specs.declared.settings.Settings.{Settings}
+use Rattle.zre_values.specs.declared.settings.Settings.{Settings}
 use Rattle.zre_capture.proofs.Lines.{entries-good, entries-bad}
 
 -- parts after parts: the first of these goes on with the last of those

@@ -10,13 +10,14 @@ use Rattle.zre_values.specs.PlainId.{IsPeerId}
 use Rattle.zre_values.specs.Settings.{are_apart, is_fitting}
 use Rattle.zre_values.specs.Text.{id_text, quoted, quoted_pairs}
 use Rattle.zre_capture.specs.Headers.{headers_of}
-use Rattle.zre_capture.specs.Heads.{are_valid, head_fields, head_text, AreSettings}
+use Rattle.zre_capture.specs.Heads.{head_fields, head_text, AreSettings}
+use Rattle.zre_values.specs.Settings.{is_valid}
 use Rattle.zre_capture.specs.Parts.{one}
 use Rattle.zre_capture.specs.Reading.{fields_in, plain_with, settings_with, settings_in, settings_of}
 use Rattle.zre_capture.specs.Values.{id_of, address_of, number_within, short_of}
 use Rattle.zre_capture.specs.declared.format.Format.TheVariants.{Second}
 use Rattle.zre_capture.specs.declared.head.Plain.{Plain}
-use Rattle.zre_capture.specs.declared.settings.Settings.{Settings}
+use Rattle.zre_values.specs.declared.settings.Settings.{Settings}
 use Rattle.zre_capture.proofs.Back.{stepped}
 use Rattle.zre_capture.proofs.Differences.{within-some, within-decimal}
 use Rattle.zre_capture.proofs.Spelled.{id_of-text, id_of-some, address_of-text, address_of-some}
@@ -62,7 +63,7 @@ pub record AreValid (s : Settings) : Type 0 where
   pub order : s.evasive ≤ s.expired
   pub last : s.expired ≤ 86400000
 
-pub valid : (s : Settings) → are_valid s ≡ true → AreValid s
+pub valid : (s : Settings) → is_valid s ≡ true → AreValid s
 valid s are =
     let name = leb (length s.name) 255 in
     let few = leb (length s.headers) 256 in
@@ -87,7 +88,7 @@ valid s are =
       last = leb-true _ _ p.1;
     }
 
-pub valid-from : (s : Settings) → AreValid s → are_valid s ≡ true
+pub valid-from : (s : Settings) → AreValid s → is_valid s ≡ true
 valid-from s v =
     and_from _ _ (and_from _ _ (and_from _ _ (and_from _ _ (and_from _ _ (and_from _ _ (and_from _ _ v.name v.few_headers) v.fitting) v.apart)
     (lt-ltb 0 s.port v.port)) (le-leb 1 s.evasive v.first)) (le-leb s.evasive s.expired v.order)) (le-leb s.expired 86400000 v.last)
@@ -222,6 +223,11 @@ three a b c y = append_assoc a (32 ∷ (b ++ (32 ∷ c))) y ∙ ap (λ (r : List
 
 parts_joined : (out w n s g : List ℕ) → (((out ++ w) ++ n) ++ s) ++ g ≡ out ++ (w ++ (n ++ (s ++ g)))
 parts_joined out w n s g = append_assoc ((out ++ w) ++ n) s g ∙ append_assoc (out ++ w) n (s ++ g) ∙ append_assoc out w (n ++ (s ++ g))
+
+pub who_joined : (out a b c d : List ℕ) → (((((out ++ a) ++ b) ++ (32 ∷ [])) ++ c) ++ (32 ∷ [])) ++ d ≡ out ++ (a ++ (b ++ (32 ∷ (c ++ (32 ∷ d)))))
+who_joined out a b c d =
+    append_assoc ((((out ++ a) ++ b) ++ (32 ∷ [])) ++ c) (32 ∷ []) d ∙ append_assoc (((out ++ a) ++ b) ++ (32 ∷ [])) c (32 ∷ d)
+    ∙ append_assoc ((out ++ a) ++ b) (32 ∷ []) (c ++ (32 ∷ d)) ∙ append_assoc (out ++ a) b (32 ∷ (c ++ (32 ∷ d))) ∙ append_assoc out a (b ++ (32 ∷ (c ++ (32 ∷ d))))
 
 pub head_joined : (out a b c d e f g : List ℕ) →
     (((out ++ (codes "zre-capture 2 " ++ (a ++ (32 ∷ (b ++ (32 ∷ c)))))) ++ (32 ∷ (d ++ (32 ∷ (e ++ (32 ∷ f)))))) ++ (32 ∷ [])) ++ g

@@ -12,7 +12,7 @@ use Rattle.zre_capture.specs.Journal.{said, settings_said, line_of, lines_in, ne
 use Rattle.zre_capture.specs.declared.format.Format.{Format}
 use Rattle.zre_capture.specs.declared.format.Format.TheVariants.{First, Second}
 use Rattle.zre_capture.specs.declared.place.Place.{Place}
-use Rattle.zre_capture.specs.declared.settings.Settings.{Settings}
+use Rattle.zre_values.specs.declared.settings.Settings.{Settings}
 use Rattle.zre_capture.proofs.Parts.{between-cut, lacks-from_any}
 use Rattle.zre_capture.proofs.Lines.{entries-good, bad-good, end-good, some_lines, head-first}
 use Rattle.zre_capture.proofs.Heads.{head-visible, settings_of-head}

@@ -3,17 +3,13 @@ use Rattle.std.specs.Prelude.{◌≡◌, ℕ, ◌<◌, ◌≤◌, ◌^◌, Bool,
 use Rattle.std.specs.List.{join_with_byte}
 use Rattle.zre_values.specs.Address.{address_text, IsAddress}
 use Rattle.zre_values.specs.PlainId.{IsPeerId}
-use Rattle.zre_values.specs.Settings.{are_settings}
+use Rattle.zre_values.specs.Settings.{is_valid}
 use Rattle.zre_values.specs.Text.{id_text, quoted, quoted_pairs}
 use Rattle.zre_capture.specs.Formats.{longest}
 use Rattle.zre_capture.specs.Lines.{IsOctets}
 use Rattle.zre_capture.specs.declared.format.Format.{Format}
 use Rattle.zre_capture.specs.declared.format.Format.TheVariants.{First, Second}
-use Rattle.zre_capture.specs.declared.settings.Settings.{Settings}
-
--- a node can be with these settings
-abbrev pub are_valid : Settings → Bool
-are_valid s = are_settings s.name s.headers s.port s.evasive s.expired
+use Rattle.zre_values.specs.declared.settings.Settings.{Settings}
 
 -- the fields of the head of format 2
 abbrev pub head_fields : Settings → List (List ℕ)
@@ -41,7 +37,7 @@ pub record AreSettings (s : Settings) : Type 0 where
   pub headers : All IsHeader s.headers
   pub host : IsAddress s.host
   pub port : s.port < 2 ^ 16
-  pub valid : are_valid s ≡ true
+  pub valid : is_valid s ≡ true
 
 -- their head isn't too long to be read
 abbrev pub IsShortHead : Format → Settings → Type 0

@@ -16,7 +16,7 @@ use Rattle.zre_capture.specs.declared.fault.CaptureFault.TheVariants.{Bad, OutOf
 use Rattle.zre_capture.specs.declared.format.Format.{Format}
 use Rattle.zre_capture.specs.declared.format.Format.TheVariants.{First, Second}
 use Rattle.zre_capture.specs.declared.place.Place.{Place}
-use Rattle.zre_capture.specs.declared.settings.Settings.{Settings}
+use Rattle.zre_values.specs.declared.settings.Settings.{Settings}
 
 -- what stands between line feeds
 abbrev pub lines_in : List ℕ → List (List ℕ)

@@ -10,12 +10,11 @@ ghost use Rattle.zre_capture.specs.declared.format.Format.TheVariants.{Second};
 
 use crate::headers::headers;
 use crate::read::{first_field, one_part};
-use crate::settings::Settings;
 use crate::value::{address, id, number_within, short};
 use std::alloc::Global;
 use zre_values::{
-    DAY, NAME_OCTETS, Octets, OutOfMemory, PeerId, push_address, push_decimal, push_quoted,
-    push_quoted_pairs,
+    DAY, NAME_OCTETS, Octets, OutOfMemory, PeerId, Settings, push_address, push_decimal,
+    push_quoted, push_quoted_pairs,
 };
 
 /// The line that a capture of format 1 begins with.

@@ -8,7 +8,7 @@ ghost use Rattle.zre_capture.specs.Reading.{entry_of};
 ghost use Rattle.zre_capture.specs.Journal.{capture, journal, IsCaptureOf};
 ghost use Rattle.zre_capture.specs.declared.format.Format.{Format};
 ghost use Rattle.zre_capture.specs.declared.format.Format.TheVariants.{First, Second};
-ghost use Rattle.zre_capture.specs.declared.settings.Settings.{Settings};
+ghost use Rattle.zre_values.specs.declared.settings.Settings.{Settings};
 
 use crate::head::HEAD;
 

@@ -17,13 +17,12 @@ use crate::fault::{BadCapture, CaptureFault};
 use crate::format::Format;
 use crate::place::Place;
 use crate::read::entry;
-use crate::settings::Settings;
 use crate::split::split_once;
 use crate::{field, head};
 use std::alloc::Global;
 use std::marker::Model;
 use zre_outside::Entries;
-use zre_values::{Octets, OutOfMemory};
+use zre_values::{Octets, OutOfMemory, Settings, take_apart};
 
 // Where a line is bad that isn't one of a capture.
 fn column(place: Place, text: &[u8]) -> u64
@@ -180,15 +179,9 @@ pub struct CaptureReader {
     left: Octets,
 }
 
-// By hand: docs/DECISIONS.md says why, at "Drops by hand".
 impl Drop for CaptureReader {
     fn drop(self) {
-        let CaptureReader {
-            alloc: _,
-            place: _,
-            told: _told,
-            left: _left,
-        } = self;
+        take_apart!(self, CaptureReader: alloc, place, told, left);
     }
 }
 

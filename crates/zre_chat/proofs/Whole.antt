@@ -13,7 +13,7 @@ use Rattle.zre_outside.specs.declared.entry.Command.TheVariants.{Quit}
 use Rattle.zre_outside.specs.declared.start.Start.{Start}
 use Rattle.zre_outside.specs.Causes.{Rose}
 use Rattle.zre_outside.specs.Worlds.{Log}
-use Rattle.zre_journal.specs.declared.config.Config.{Config}
+use Rattle.zre_values.specs.declared.settings.Settings.{Settings as Config}
 use Rattle.zre_capture.specs.Heads.{AreSettings}
 use Rattle.zre_capture.specs.Journal.{capture}
 use Rattle.zre_capture.specs.Lines.{IsEntry}
@@ -30,7 +30,6 @@ use Rattle.zre_console.specs.declared.reader.ending.InputEnd.TheVariants as end
 use Rattle.zre_console.specs.reader.Putting.{IsShort}
 use Rattle.zre_console.specs.reader.Reading.{Outcome, BreaksOff}
 use Rattle.zre_console.proofs.lines.Quits.{orders-begin}
-use Rattle.zre_commands.specs.Settings.{as_settings}
 use Rattle.zre_commands.specs.declared.pump.status.Status.{Status}
 use Rattle.zre_commands.specs.declared.pump.status.Status.TheVariants.{Done, WriteFault, WorldFault, OutOfMemory}
 use Rattle.zre_chat.specs.Chat.{Seen, IsChat, IsCaused, Holds, started, Lived, Wrote, Captured}
@@ -53,7 +52,7 @@ none_started None = refl
 none_started (Some l) = refl
 
 -- a capture of no entries
-pub head_only : (g : Config) (kept u t : Option (List ℕ)) → Appends (option_map (λ _. []) kept) u (head_of g) → t ≡ u → Appends (option_map (λ _. []) kept) t (capture Second (as_settings g) [])
+pub head_only : (g : Config) (kept u t : Option (List ℕ)) → Appends (option_map (λ _. []) kept) u (head_of g) → t ≡ u → Appends (option_map (λ _. []) kept) t (capture Second g [])
 head_only g kept u t is same = subst (λ (x : Option (List ℕ) × List ℕ). Appends (option_map (λ _. []) kept) x.0 x.1) (λ i. (sym same i, sym (append-nil (head_of g)) i)) is
 
 -- no commands begin the orders of any text
@@ -99,7 +98,7 @@ module _ (g : Config) (start : Start) (name : Option (List ℕ)) (limit : ℕ) w
   }
 
   -- and the head at most was kept
-  pub uncaptured : (s t : Seen) (status : Status) → (status ≢ OutOfMemory → AreSettings (as_settings g)) → status ≢ Done
+  pub uncaptured : (s t : Seen) (status : Status) → (status ≢ OutOfMemory → AreSettings g) → status ≢ Done
       → ((file : List ℕ) → name ≡ Some file → status ≢ OutOfMemory → ¬ Rose s.record_faults t.record_faults → Holds g file [] s t)
       → Captured g name [] s t status
   uncaptured s t status settings not_done holds = record {
@@ -108,7 +107,7 @@ module _ (g : Config) (start : Start) (name : Option (List ℕ)) (limit : ℕ) w
   }
 
   -- a chat that ended before the threads were started
-  pub unstarted : (begun : Bool) (s t : Seen) (status : Status) → (status ≢ OutOfMemory → AreSettings (as_settings g)) → t.left ≡ s.left → t.taken ≡ s.taken → t.written ≡ s.written → t.told ≡ option_map (started begun start) s.told
+  pub unstarted : (begun : Bool) (s t : Seen) (status : Status) → (status ≢ OutOfMemory → AreSettings g) → t.left ≡ s.left → t.taken ≡ s.taken → t.written ≡ s.written → t.told ≡ option_map (started begun start) s.told
       → status ≢ Done → IsCaused status limit [] 0 false s t
       → ((file : List ℕ) → name ≡ Some file → status ≢ OutOfMemory → ¬ Rose s.record_faults t.record_faults → Holds g file [] s t)
       → IsChat g start name limit s t status
@@ -130,7 +129,7 @@ module _ (g : Config) (start : Start) (name : Option (List ℕ)) (limit : ℕ) w
     caused = (cause, tt);
   }
 
-module _ (g : Config) (start : Start) (name : Option (List ℕ)) (limit : ℕ) (settings : AreSettings (as_settings g)) where
+module _ (g : Config) (start : Start) (name : Option (List ℕ)) (limit : ℕ) (settings : AreSettings g) where
   -- the same, where its settings are values of their types
   pub untalked : (begun : Bool) (s t : Seen) (status : Status) → t.left ≡ s.left → t.taken ≡ s.taken → t.written ≡ s.written → t.told ≡ option_map (started begun start) s.told
       → status ≢ Done → IsCaused status limit [] 0 false s t

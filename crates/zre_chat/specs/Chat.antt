@@ -13,7 +13,7 @@ use Rattle.zre_outside.specs.Causes.{Rose}
 use Rattle.zre_outside.specs.Told.{Moves, AppendsFront}
 use Rattle.zre_outside.specs.Worlds.{Log, with_start}
 use Rattle.zre_peer.specs.Lines.{lines}
-use Rattle.zre_journal.specs.declared.config.Config.{Config}
+use Rattle.zre_values.specs.declared.settings.Settings.{Settings as Config}
 use Rattle.zre_journal.specs.Endings.{is_end}
 use Rattle.zre_journal.specs.Events.{chronicle, events}
 use Rattle.zre_journal.specs.Happens.{has_stopped}
@@ -25,7 +25,6 @@ use Rattle.zre_actor.specs.Work.{went, AreDeeds, acts_of, done_by, AllGo}
 use Rattle.zre_console.specs.lines.Orders.{is_quit, typed, orders}
 use Rattle.zre_console.specs.reader.Putting.{IsShort}
 use Rattle.zre_console.specs.reader.Reading.{IsReadOn, BreaksOff}
-use Rattle.zre_commands.specs.Settings.{as_settings}
 use Rattle.zre_commands.specs.declared.pump.status.Status.{Status}
 use Rattle.zre_commands.specs.declared.pump.status.Status.TheVariants.{Done, Usage, BadInput, ReadFault, WriteFault}
 use Rattle.zre_commands.specs.declared.pump.status.Status.TheVariants.{WorldFault, NoThread, TooLong, OutOfMemory}
@@ -104,7 +103,7 @@ HasEnded limit octets handed left = (IsAtEnd left × (length octets < limit))
 -- tells what it holds
 abbrev pub Holds : Config → List ℕ → List Entry → Seen → Seen → Type 0
 Holds g name es s t =
-    Appends (option_map (λ _. []) s.kept) t.kept (capture Second (as_settings g) es)
+    Appends (option_map (λ _. []) s.kept) t.kept (capture Second g es)
     × Keeps (option_map (λ _. name) s.named) t.named
 
 -- a world was started, unless the chat ended before
@@ -152,7 +151,7 @@ pub record Wrote (g : Config) (entries : List Entry) (s t : Seen) (status : Stat
 -- types
 pub record Captured (g : Config) (name : Option (List ℕ)) (entries : List Entry) (s t : Seen) (status : Status)
     : Type 0 where
-  pub are_settings : status ≢ OutOfMemory → AreSettings (as_settings g)
+  pub are_settings : status ≢ OutOfMemory → AreSettings g
   pub held : (file : List ℕ) → name ≡ Some file → IsSpared status (Rose s.record_faults t.record_faults)
       → Holds g file entries s t
 

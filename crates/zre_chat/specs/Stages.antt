@@ -3,9 +3,8 @@ use Rattle.std.specs.Prelude.{◌≡◌, ◌≢◌, ◌≤◌, ℕ, Bool, List, 
 use Rattle.std.specs.Io.KnownBytes.{Keeps, Appends}
 use Rattle.zre_outside.specs.declared.start.Start.{Start}
 use Rattle.zre_outside.specs.Worlds.{Log, with_start}
-use Rattle.zre_journal.specs.declared.config.Config.{Config}
+use Rattle.zre_values.specs.declared.settings.Settings.{Settings as Config}
 use Rattle.zre_capture.specs.Heads.{AreSettings}
-use Rattle.zre_commands.specs.Settings.{as_settings}
 use Rattle.zre_commands.specs.declared.pump.status.Status.{Status}
 use Rattle.zre_commands.specs.declared.pump.status.Status.TheVariants.{WriteFault, WorldFault, DeskFault, OutOfMemory}
 use Rattle.zre_chat.specs.Chat.{Seen, started}
@@ -24,7 +23,7 @@ pub record Prepared (g : Config) (start : Start) (name : Option (List ℕ)) (kee
   pub world_later : s.world_faults ≤ u.world_faults
   pub record_later : s.record_faults ≤ u.record_faults
   pub keeps : keep ≡ is_some name
-  pub are_settings : AreSettings (as_settings g)
+  pub are_settings : AreSettings g
   pub head_kept : (file : List ℕ) → name ≡ Some file → Appends (option_map (λ _. []) s.kept) u.kept (head_of g)
   pub file_named : (file : List ℕ) → name ≡ Some file → Keeps (option_map (λ _. file) s.named) u.named
 

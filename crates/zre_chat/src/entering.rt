@@ -3,7 +3,7 @@
 ghost use Rattle.std.specs.Prelude.{◌≡◌, ◌≤◌, [], true, option_map, IfOk, IfErr, OnOk};
 ghost use Rattle.zre_outside.specs.Causes.{Rose};
 ghost use Rattle.zre_outside.specs.Worlds.{with_start};
-ghost use Rattle.zre_journal.specs.Config.{is_valid};
+ghost use Rattle.zre_values.specs.Settings.{is_valid};
 ghost use Rattle.zre_node.specs.Journal.{StandsFor};
 ghost use Rattle.zre_chat.specs.Stages.{IsOutside};
 ghost use Rattle.zre_chat.specs.Tables.{IsLaid, HasMore};

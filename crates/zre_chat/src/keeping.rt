@@ -12,7 +12,6 @@ use std::alloc::Global;
 use std::str;
 use zre_capture::write_head2;
 use zre_commands::pump::Status;
-use zre_commands::settings::as_settings;
 use zre_journal::Config;
 use zre_outside::{NextFault, Recorder};
 use zre_values::{Octets, OutOfMemory};
@@ -21,8 +20,7 @@ use zre_values::{Octets, OutOfMemory};
 fn head_of(alloc: Global, config: &Config) -> Result<Octets, OutOfMemory>
     ensures { IfOk result (λ head. head ≡ head_of config.now) }
 {
-    let settings = as_settings(Config::copy(alloc, config)?);
-    write_head2(alloc, &settings)
+    write_head2(alloc, config)
 }
 
 // Begins a recorder under a name, and puts this head.

@@ -2,7 +2,7 @@
 
 ghost use Rattle.std.specs.Prelude.{◌≡◌, ◌≢◌, ◌≤◌, ℕ, List, [], Option, true, false};
 ghost use Rattle.zre_outside.specs.declared.start.Start.{Start as StartValue};
-ghost use Rattle.zre_journal.specs.declared.config.Config.{Config as ConfigValue};
+ghost use Rattle.zre_values.specs.declared.settings.Settings.{Settings as ConfigValue};
 ghost use Rattle.zre_node.specs.Journal.{StandsFor};
 ghost use Rattle.zre_actor.specs.Passes.{number};
 ghost use Rattle.zre_chat.specs.Chat.{IsChat, Seen, seen};

@@ -2,8 +2,7 @@
 
 ghost use Rattle.std.specs.Prelude.{◌≡◌, true, All};
 ghost use Rattle.zre_capture.specs.Heads.{IsHeader, AreSettings};
-ghost use Rattle.zre_journal.specs.Config.{is_valid};
-ghost use Rattle.zre_commands.specs.Settings.{as_settings};
+ghost use Rattle.zre_values.specs.Settings.{is_valid};
 
 use zre_actor::values::{are_octets, is_address, is_id};
 use zre_journal::Config;
@@ -27,7 +26,7 @@ fn are_headers(headers: &Pairs)
 /// Shows that valid settings are values of their types.
 pub fn are_values(config: &Config)
     requires { is_valid config.now ≡ true }
-    ensures { AreSettings (as_settings config.now) }
+    ensures { AreSettings config.now }
 {
     is_id(&config.id);
     are_octets(&config.name);

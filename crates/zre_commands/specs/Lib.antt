@@ -1,4 +1,3 @@
-pub mod Settings
 pub mod Stream
 pub mod pump
 pub mod follow

@@ -7,6 +7,5 @@ pub mod exercise;
 pub mod follow;
 mod frames;
 pub mod pump;
-pub mod settings;
 pub mod show;
 mod stream;

@@ -10,7 +10,7 @@ use std::alloc::Global;
 use std::io;
 use std::net::{Ipv4Addr, Net, SocketAddr};
 use zre_outside::{Input, Start};
-use zre_values::{Endpoint, Octets};
+use zre_values::{Endpoint, Octets, take_apart};
 
 /// The socket that beacons come to and go out from, and where they go to.
 pub(crate) struct Beacons {
@@ -20,15 +20,9 @@ pub(crate) struct Beacons {
     at: Endpoint,
 }
 
-// By hand: docs/DECISIONS.md says why, at "Drops by hand".
 impl Drop for Beacons {
     fn drop(self) {
-        let Beacons {
-            socket: _socket,
-            is_queued: _,
-            to: _to,
-            at: _,
-        } = self;
+        take_apart!(self, Beacons: socket, is_queued, to, at);
     }
 }
 

@@ -14,7 +14,7 @@ use std::io::{self, ErrorKind};
 use std::net::Net;
 use std::rt::Clock;
 use zre_outside::{Act, Command, Entry, Input, Start, Turn};
-use zre_values::OutOfMemory;
+use zre_values::{OutOfMemory, take_apart};
 
 /// The clock, and the network once it was started.
 pub(crate) struct Fabric<R> {
@@ -26,17 +26,9 @@ pub(crate) struct Fabric<R> {
     network: Option<Network>,
 }
 
-// By hand: docs/DECISIONS.md says why, at "Drops by hand".
 impl<R: Drop> Drop for Fabric<R> {
     fn drop(self) {
-        let Fabric {
-            rt: _rt,
-            alloc: _,
-            stopwatch: _stopwatch,
-            row: _row,
-            bell: _bell,
-            network: _network,
-        } = self;
+        take_apart!(self, Fabric: rt, alloc, stopwatch, row, bell, network);
     }
 }
 

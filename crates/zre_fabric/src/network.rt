@@ -13,7 +13,7 @@ use std::io::{self, ErrorKind};
 use std::net::Net;
 use std::time::Duration;
 use zre_outside::{Act, Input, Start};
-use zre_values::OutOfMemory;
+use zre_values::{OutOfMemory, take_apart};
 
 /// So many events one poll tells at most. The others come with the next.
 const EVENTS: usize = 256;
@@ -28,16 +28,9 @@ pub(crate) struct Network {
     is_due_to_poll: bool,
 }
 
-// By hand: docs/DECISIONS.md says why, at "Drops by hand".
 impl Drop for Network {
     fn drop(self) {
-        let Network {
-            poll: _poll,
-            events: _events,
-            sockets: _sockets,
-            pace: _pace,
-            is_due_to_poll: _,
-        } = self;
+        take_apart!(self, Network: poll, events, sockets, pace, is_due_to_poll);
     }
 }
 

@@ -14,7 +14,7 @@ use std::alloc::Global;
 use std::net::Net;
 use std::rt::Clock;
 use zre_outside::{Act, Command, NextFault, Start, Turn, World};
-use zre_values::OutOfMemory;
+use zre_values::{OutOfMemory, take_apart};
 
 /// The real network. It tells nothing of what it gave, since no contract says what a system answers.
 pub struct RealWorld<R> {
@@ -24,15 +24,9 @@ pub struct RealWorld<R> {
     reason: Option<Reason>,
 }
 
-// By hand: docs/DECISIONS.md says why, at "Drops by hand".
 impl<R: Drop> Drop for RealWorld<R> {
     fn drop(self) {
-        let RealWorld {
-            fabric: _fabric,
-            looked: _,
-            faults: _,
-            reason: _,
-        } = self;
+        take_apart!(self, RealWorld: fabric, looked, faults, reason);
     }
 }
 

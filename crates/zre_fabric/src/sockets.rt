@@ -17,7 +17,7 @@ use std::alloc::Global;
 use std::collections::{BTreeMap, VecDeque};
 use std::net::Net;
 use zre_outside::{Input, Start};
-use zre_values::{Endpoint, OutOfMemory};
+use zre_values::{Endpoint, OutOfMemory, take_apart};
 
 /// A source stands in the queue once, where `is_queued` says so, and keeps its place until a look at it finds
 /// nothing. One that is closed leaves it at its turn. So the queue is no longer than there are sockets, and each has
@@ -34,20 +34,10 @@ pub(crate) struct Sockets {
     buffer: ReadBuffer,
 }
 
-// By hand: docs/DECISIONS.md says why, at "Drops by hand".
 impl Drop for Sockets {
     fn drop(self) {
-        let Sockets {
-            beacons: _beacons,
-            listener: _listener,
-            listens_at: _,
-            listener_is_queued: _,
-            opened: _,
-            conns: _conns,
-            links: _links,
-            queue: _queue,
-            buffer: _buffer,
-        } = self;
+        take_apart!(self, Sockets:
+            beacons, listener, listens_at, listener_is_queued, opened, conns, links, queue, buffer);
     }
 }
 

@@ -8,11 +8,10 @@ use Rattle.std.proofs.lemmas.List.Elements.{All-nil, All-cons}
 use Rattle.zre_outside.specs.declared.entry.Command.{Command}
 use Rattle.zre_outside.specs.declared.start.Start.{Start}
 use Rattle.zre_outside.specs.Causes.{Rose}
-use Rattle.zre_journal.specs.declared.config.Config.{Config}
+use Rattle.zre_values.specs.declared.settings.Settings.{Settings as Config}
 use Rattle.zre_capture.specs.Heads.{AreSettings}
 use Rattle.zre_actor.specs.Commands.{times, row as row_of}
 use Rattle.zre_actor.proofs.Rows.{row_once}
-use Rattle.zre_commands.specs.Settings.{as_settings}
 use Rattle.zre_console.specs.lines.Orders.{asked}
 use Rattle.zre_commands.specs.declared.pump.status.Status.{Status}
 use Rattle.zre_commands.specs.declared.pump.status.Status.TheVariants.{Done, WriteFault, WorldFault, OutOfMemory, DeskFault}
@@ -61,7 +60,7 @@ none_merged rows = record {
     by a (r ∷ rs) = ap (λ l. [] ∷ l) (by (suc a) rs)
 
 module _ (g : Config) (start : Start) (name : Option (List ℕ)) (limit many : ℕ) (s t : Seen) (desk : Type 0) (rows : List Row) where
-  pub unopened : (begun : Bool) (status : Status) → (status ≢ OutOfMemory → AreSettings (as_settings g)) → t.written ≡ s.written → t.told ≡ option_map (started begun start) s.told → status ≢ Done
+  pub unopened : (begun : Bool) (status : Status) → (status ≢ OutOfMemory → AreSettings g) → t.written ≡ s.written → t.told ≡ option_map (started begun start) s.told → status ≢ Done
       → IsCaused status limit (map unread rows) 0 false s t desk
       → ((file : List ℕ) → name ≡ Some file → status ≢ OutOfMemory → ¬ Rose s.record_faults t.record_faults → Holds g file [] s t)
       → IsGate g start name limit many s t desk rows rows status

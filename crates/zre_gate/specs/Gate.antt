@@ -11,7 +11,7 @@ use Rattle.zre_outside.specs.Causes.{Rose}
 use Rattle.zre_outside.specs.Desks.{Register}
 use Rattle.zre_outside.specs.Told.{Moves}
 use Rattle.zre_outside.specs.Worlds.{Log}
-use Rattle.zre_journal.specs.declared.config.Config.{Config}
+use Rattle.zre_values.specs.declared.settings.Settings.{Settings as Config}
 use Rattle.zre_journal.specs.Events.{chronicle}
 use Rattle.zre_journal.specs.Happens.{has_stopped}
 use Rattle.zre_console.specs.lines.Orders.{is_quit, typed, asked}

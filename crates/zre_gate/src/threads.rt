@@ -5,7 +5,7 @@ ghost use Rattle.std.specs.Prelude.{All, IfOk, map, length, vec_len, vec_capacit
 ghost use Rattle.std.specs.Arc.{arc_value};
 ghost use Rattle.zre_outside.specs.declared.start.Start.{Start as StartValue};
 ghost use Rattle.zre_outside.specs.Causes.{Rose};
-ghost use Rattle.zre_journal.specs.declared.config.Config.{Config as ConfigValue};
+ghost use Rattle.zre_values.specs.declared.settings.Settings.{Settings as ConfigValue};
 ghost use Rattle.zre_node.specs.Journal.{StandsFor};
 ghost use Rattle.zre_actor.specs.declared.passes.Pipes.{Pipes as PipesValue};
 ghost use Rattle.zre_chat.specs.Chat.{Seen};

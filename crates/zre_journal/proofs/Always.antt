@@ -1,7 +1,7 @@
 -- The chronicle of every journal is proper, and has what each mark that may come keeps.
 use Rattle.std.proofs.Common.{List, [], ◌∷◌, refl}
 use Rattle.zre_outside.specs.declared.entry.Entry.{Entry}
-use Rattle.zre_journal.specs.declared.config.Config.{Config}
+use Rattle.zre_values.specs.declared.settings.Settings.{Settings as Config}
 use Rattle.zre_journal.specs.Chronicle.{Mark, Comes, after}
 use Rattle.zre_journal.specs.Happens.{has_stopped, marks, with_entry, chronicle_after}
 use Rattle.zre_journal.specs.Events.{chronicle}

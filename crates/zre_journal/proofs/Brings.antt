@@ -12,7 +12,7 @@ use Rattle.zre_msg.specs.declared.message.Body.{Body}
 use Rattle.zre_zmtp.specs.Written.{pong_frame}
 use Rattle.zre_link.specs.Text.{Member, Pongs, text_of, size_of}
 use Rattle.zre_link.specs.Heard.{reply_fault}
-use Rattle.zre_journal.specs.declared.config.Config.{Config}
+use Rattle.zre_values.specs.declared.settings.Settings.{Settings as Config}
 use Rattle.zre_journal.specs.Chronicle.{Mark, Opens, TurnsAway, Closes, IsShut, ClosesAtStop, HearsBeacon, Ends, IsEvasive, Puts, PutsPong, Links, Joins, Leaves, Refuses, SendsBeacon, Stops, after, Starts, Sends, followed}
 use Rattle.zre_journal.specs.Connections.{open_ones, is_open, is_new, runs}
 use Rattle.zre_journal.specs.Peers.{Life, lives, life, life_of, is_entered, births}

@@ -3,7 +3,7 @@ use Rattle.std.proofs.Common.{◌≡◌, ℕ, Bool, true, false, eqb, List, [], 
 use Rattle.std.specs.List.{AllByRecursion}
 use Rattle.zre_msg.specs.declared.message.Body.{Body}
 use Rattle.zre_peer.specs.Runs.{is_hello}
-use Rattle.zre_journal.specs.declared.config.Config.{Config}
+use Rattle.zre_values.specs.declared.settings.Settings.{Settings as Config}
 use Rattle.zre_journal.specs.Chronicle.{Mark, Comes, Opens, TurnsAway, Shakes, Starts, Counts, Closes, IsShut, ClosesAtStop, Born, Puts, PutsPong, Links, Joins, Leaves, Stops, ever}
 use Rattle.zre_journal.specs.Connections.{is_open, is_new, refuses}
 use Rattle.zre_journal.specs.Links.{is_linked}

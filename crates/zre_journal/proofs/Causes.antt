@@ -29,7 +29,7 @@ use Rattle.zre_peer.specs.declared.causes.Cause.{Cause}
 use Rattle.zre_peer.specs.declared.causes.Cause.TheVariants as cause
 use Rattle.zre_peer.specs.declared.causes.CloseWhy.TheVariants as close
 use Rattle.zre_peer.specs.declared.causes.RefuseWhy.TheVariants as refuse
-use Rattle.zre_journal.specs.declared.config.Config.{Config}
+use Rattle.zre_values.specs.declared.settings.Settings.{Settings as Config}
 use Rattle.zre_journal.specs.Arrivals.{at_opened, at_shut, end_of_run, taken_over, start_unknown, start, at_first, answer_to, at_later, at_message, at_shaken, at_said, at_place}
 use Rattle.zre_journal.specs.Causes.{where_so, is_run_by, is_last_beacon, may_join, due_by, slow_by, cause_at, answer_due, cause_of_message, cause_said, end_of, ends_in, EndsByTable}
 use Rattle.zre_journal.specs.Chronicle.{Mark, Comes, Ends, Counts, Closes, ClosesAtStop, IsShut, IsEvasive, Puts, PutsPong, Joins, Leaves, Refuses, HearsBeacon, after, in_turn}

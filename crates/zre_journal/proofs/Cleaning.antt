@@ -13,10 +13,10 @@ use Rattle.zre_peer.specs.declared.causes.Cause.{Cause}
 use Rattle.zre_peer.specs.declared.causes.Cause.TheVariants as cause
 use Rattle.zre_peer.specs.declared.causes.CloseWhy.{CloseWhy}
 use Rattle.zre_peer.specs.declared.causes.CloseWhy.TheVariants as close
-use Rattle.zre_journal.specs.declared.config.Config.{Config}
+use Rattle.zre_values.specs.declared.settings.Settings.{Settings as Config}
 use Rattle.zre_journal.specs.Chronicle.{Mark, Comes, Closes, Ends, IsEvasive, Puts, SendsBeacon, after}
 use Rattle.zre_journal.specs.Cleaning.{IsClean}
-use Rattle.zre_journal.specs.Config.{is_valid}
+use Rattle.zre_values.specs.Settings.{is_valid}
 use Rattle.zre_values.specs.Settings.{is_fitting, are_apart}
 use Rattle.zre_journal.specs.Connections.{open_ones, started, has_ended, runs, since}
 use Rattle.zre_journal.specs.Events.{chronicle}

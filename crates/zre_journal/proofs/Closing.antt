@@ -12,7 +12,7 @@ use Rattle.zre_outside.specs.declared.act.Act.TheVariants as act
 use Rattle.zre_outside.specs.declared.entry.Entry.{Entry}
 use Rattle.zre_peer.specs.declared.causes.Cause.{Cause}
 use Rattle.zre_peer.specs.declared.causes.Cause.TheVariants as cause
-use Rattle.zre_journal.specs.declared.config.Config.{Config}
+use Rattle.zre_values.specs.declared.settings.Settings.{Settings as Config}
 use Rattle.zre_journal.specs.Chronicle.{Mark, Comes, Opens, TurnsAway, Greets, AnswersPing, Closes, IsShut, ClosesAtStop, Born, Ends, SendsBeacon, Stops}
 use Rattle.zre_journal.specs.Closing.{LeavesNothing, connects, closes_link, closes_conn, connected, closed_links, closed_conns, IsPaired, ArePaired, IsNoPeer}
 use Rattle.zre_journal.specs.Connections.{open_ones, is_open, is_new, has_ended, others}

@@ -8,7 +8,7 @@ use Rattle.zre_outside.specs.declared.act.Act.TheVariants as act
 use Rattle.zre_outside.specs.declared.entry.Entry.{Entry}
 use Rattle.zre_peer.specs.declared.causes.Cause.{Cause}
 use Rattle.zre_peer.specs.declared.causes.Cause.TheVariants as cause
-use Rattle.zre_journal.specs.declared.config.Config.{Config}
+use Rattle.zre_values.specs.declared.settings.Settings.{Settings as Config}
 use Rattle.zre_journal.specs.Asked.{AreDue}
 use Rattle.zre_journal.specs.Chronicle.{Mark, Comes, Opens, TurnsAway, Greets, Shakes, AnswersPing, Starts, Counts, Ignores, Closes, IsShut, ClosesAtStop, Born, HearsBeacon, Ends, IsEvasive, Puts, PutsPong, Links, Sends, Joins, Leaves, Refuses, SendsBeacon, Stops}
 use Rattle.zre_journal.specs.Done.{close_link, done_at, done, puts, names, is_offered, offers, acts_at}

@@ -15,7 +15,7 @@ use Rattle.zre_peer.specs.declared.causes.Cause.TheVariants as cause
 use Rattle.zre_peer.specs.declared.causes.CloseWhy.TheVariants as close
 use Rattle.zre_link.specs.Heard.{reply_fault}
 use Rattle.zre_link.specs.Link.{answered, slow_at}
-use Rattle.zre_journal.specs.declared.config.Config.{Config}
+use Rattle.zre_values.specs.declared.settings.Settings.{Settings as Config}
 use Rattle.zre_journal.specs.Chronicle.{Mark, Comes, Opens, Starts, Closes, IsShut, ClosesAtStop, Born, Ends, PutsPong, Stops, after, ever}
 use Rattle.zre_journal.specs.Heard.{opens, bytes, newly_completed}
 use Rattle.zre_journal.specs.Connections.{open_ones, is_open, started, start_at, runs, refuses, was_used, is_ignored, is_live, others}

@@ -6,7 +6,7 @@ use Rattle.zre_values.specs.declared.limits.TheConstants.{PEERS, CONNECTIONS}
 use Rattle.zre_values.proofs.Digits.{bytes_eq-same}
 use Rattle.zre_outside.specs.declared.entry.Entry.{Entry}
 use Rattle.zre_peer.specs.declared.causes.Cause.{Cause}
-use Rattle.zre_journal.specs.declared.config.Config.{Config}
+use Rattle.zre_values.specs.declared.settings.Settings.{Settings as Config}
 use Rattle.zre_journal.specs.Chronicle.{Mark, Opens, Closes, IsShut, ClosesAtStop, Born, Ends}
 use Rattle.zre_journal.specs.Connections.{open_ones, has_ended, others}
 use Rattle.zre_journal.specs.Peers.{Life, lives, life, life_of, other_lives}

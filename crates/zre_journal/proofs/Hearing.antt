@@ -21,7 +21,7 @@ use Rattle.zre_peer.specs.declared.causes.Cause.TheVariants as cause
 use Rattle.zre_peer.specs.declared.causes.CloseWhy.TheVariants as close
 use Rattle.zre_peer.specs.declared.causes.IgnoreWhy.{IgnoreWhy}
 use Rattle.zre_peer.specs.declared.causes.IgnoreWhy.TheVariants as ignore
-use Rattle.zre_journal.specs.declared.config.Config.{Config}
+use Rattle.zre_values.specs.declared.settings.Settings.{Settings as Config}
 use Rattle.zre_journal.specs.Arrivals.{end_of_run, taken_over, start_unknown, start, at_first, answer_to, at_later, at_message, at_shaken, at_said, at_place, at_places}
 use Rattle.zre_journal.specs.Chronicle.{Mark, Comes, Opens, Greets, Shakes, AnswersPing, Starts, Counts, Ignores, Closes, Ends, after, ever, followed}
 use Rattle.zre_journal.specs.Connections.{open_ones, is_open, identity, started, start_at, runs, refuses, was_used, is_ignored, is_live, other_with}

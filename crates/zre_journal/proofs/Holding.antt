@@ -12,7 +12,7 @@ use Rattle.zre_outside.specs.declared.entry.Input.{Input}
 use Rattle.zre_outside.specs.declared.entry.Input.TheVariants as input
 use Rattle.zre_link.specs.Heard.{reply_fault}
 use Rattle.zre_journal.specs.Endings.{is_end}
-use Rattle.zre_journal.specs.declared.config.Config.{Config}
+use Rattle.zre_values.specs.declared.settings.Settings.{Settings as Config}
 use Rattle.zre_journal.specs.Chronicle.{Mark, Comes, after}
 use Rattle.zre_journal.specs.Config.{CanBe}
 use Rattle.zre_values.specs.Settings.{is_fitting}

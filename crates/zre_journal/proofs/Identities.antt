@@ -25,7 +25,7 @@ use Rattle.zre_peer.specs.declared.causes.Cause.{Cause}
 use Rattle.zre_peer.specs.declared.causes.Cause.TheVariants as cause
 use Rattle.zre_peer.specs.Runs.{is_hello, due}
 use Rattle.zre_peer.specs.Views.{view_of, is_small}
-use Rattle.zre_journal.specs.declared.config.Config.{Config}
+use Rattle.zre_values.specs.declared.settings.Settings.{Settings as Config}
 use Rattle.zre_journal.specs.Arrivals.{at_opened, end_of_run, taken_over, start_unknown, start, at_first, answer_to, at_message, at_shaken, at_said, at_place, at_places}
 use Rattle.zre_journal.specs.Chronicle.{Mark, Comes, Shakes, after}
 use Rattle.zre_journal.specs.Connections.{open_ones, is_new, identity, runs, is_live, other_with}

@@ -7,7 +7,7 @@ use Rattle.zre_values.specs.declared.peer_id.PeerId.{PeerId}
 use Rattle.zre_peer.specs.declared.causes.Cause.{Cause}
 use Rattle.zre_peer.specs.declared.causes.Cause.TheVariants as cause
 use Rattle.zre_peer.specs.declared.causes.CloseWhy.TheVariants as close
-use Rattle.zre_journal.specs.declared.config.Config.{Config}
+use Rattle.zre_values.specs.declared.settings.Settings.{Settings as Config}
 use Rattle.zre_journal.specs.Chronicle.{Mark, Closes, Ends, after}
 use Rattle.zre_journal.specs.Connections.{open_ones, is_open, identity, runs, started, start_at, has_ended, ends, is_same, other_with, others}
 use Rattle.zre_journal.specs.Peers.{Life, lives, life}

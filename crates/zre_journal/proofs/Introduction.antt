@@ -19,9 +19,10 @@ use Rattle.zre_msg.specs.declared.message.Body.TheVariants as body
 use Rattle.zre_msg.specs.declared.message.Message.{Message}
 use Rattle.zre_msg.specs.Spelling.{string, long_string, strings, pair, dictionary, fields, first_frame, octets, FitsLong, FitsBody}
 use Rattle.zre_link.specs.Text.{text_of}
-use Rattle.zre_journal.specs.declared.config.Config.{Config}
+use Rattle.zre_values.specs.declared.settings.Settings.{Settings as Config}
 use Rattle.zre_journal.specs.Chronicle.{Mark}
-use Rattle.zre_journal.specs.Config.{is_valid, own_endpoint}
+use Rattle.zre_journal.specs.Config.{own_endpoint}
+use Rattle.zre_values.specs.Settings.{is_valid}
 use Rattle.zre_values.specs.Settings.{is_fitting, are_apart}
 use Rattle.zre_journal.specs.Links.{groups, status}
 use Rattle.zre_journal.specs.Pushes.{hello}

@@ -3,7 +3,7 @@ use Rattle.std.proofs.Common.{◌≡◌, true, cond, List, [], ◌∷◌, ◌++�
 use Rattle.zre_outside.specs.declared.entry.Entry.{Entry}
 use Rattle.zre_outside.specs.declared.act.Act.{Act}
 use Rattle.zre_peer.specs.declared.event.Event.{Event}
-use Rattle.zre_journal.specs.declared.config.Config.{Config}
+use Rattle.zre_values.specs.declared.settings.Settings.{Settings as Config}
 use Rattle.zre_values.specs.declared.peer_id.PeerId.{PeerId}
 use Rattle.zre_journal.specs.Chronicle.{Mark, Comes, after, in_turn}
 use Rattle.zre_journal.specs.Done.{acts_at, done, done_at, offers}

@@ -12,7 +12,7 @@ use Rattle.zre_zmtp.specs.Stream.{cut}
 use Rattle.zre_zmtp.specs.Stream as stream
 use Rattle.zre_mailbox.specs.Conn.{conn_after, kept_of}
 use Rattle.zre_link.specs.Heard.{heard_after, kept_of as kept_of_replies}
-use Rattle.zre_journal.specs.declared.config.Config.{Config}
+use Rattle.zre_values.specs.declared.settings.Settings.{Settings as Config}
 use Rattle.zre_journal.specs.Chronicle.{Mark, Comes, Opens, Starts, Ignores, Closes, IsShut, ClosesAtStop, Born, Ends, after, ever}
 use Rattle.zre_peer.specs.declared.causes.Cause.{Cause}
 use Rattle.zre_peer.specs.declared.causes.IgnoreWhy.{IgnoreWhy}

@@ -11,7 +11,7 @@ use Rattle.zre_msg.specs.declared.message.Message.{Message}
 use Rattle.zre_outside.specs.declared.entry.Entry.{Entry}
 use Rattle.zre_outside.specs.declared.entry.Input.{Input}
 use Rattle.zre_outside.specs.declared.entry.Input.TheVariants as input
-use Rattle.zre_journal.specs.declared.config.Config.{Config}
+use Rattle.zre_values.specs.declared.settings.Settings.{Settings as Config}
 use Rattle.zre_journal.specs.Arrivals.{at_opened, at_places}
 use Rattle.zre_journal.specs.Chronicle.{Mark, Comes, Opens, TurnsAway, after}
 use Rattle.zre_journal.specs.Connections.{open_ones, is_open, is_new, is_ignored, is_live}

@@ -17,7 +17,7 @@ use Rattle.zre_peer.specs.declared.causes.Cause.{Cause}
 use Rattle.zre_peer.specs.declared.view.View.{View}
 use Rattle.zre_peer.specs.declared.event.Event.{Event}
 use Rattle.zre_peer.specs.declared.event.Event.TheVariants as event
-use Rattle.zre_journal.specs.declared.config.Config.{Config}
+use Rattle.zre_values.specs.declared.settings.Settings.{Settings as Config}
 use Rattle.zre_journal.specs.Chronicle.{Mark, Born, Starts, Counts, Ends, IsEvasive}
 use Rattle.zre_journal.specs.Peers.{Life, lives, life, life_of, births, runner, is_entered, counted, view}
 use Rattle.zre_journal.specs.Told.{told_in, told_at, by_message, exit, becoming_evasive}

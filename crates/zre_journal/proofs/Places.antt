@@ -10,7 +10,7 @@ use Rattle.zre_mailbox.specs.Talk.{Said, Arrived, completed as completed_by, tal
 use Rattle.zre_mailbox.proofs.Growing.{goes}
 use Rattle.zre_msg.specs.declared.message.Message.{Message}
 use Rattle.zre_peer.specs.Ledger.{IsPicked, ArePicked}
-use Rattle.zre_journal.specs.declared.config.Config.{Config}
+use Rattle.zre_values.specs.declared.settings.Settings.{Settings as Config}
 use Rattle.zre_journal.specs.Arrivals.{at_said, at_place, at_places, at_message}
 use Rattle.zre_journal.specs.Chronicle.{Mark, Comes, after}
 use Rattle.zre_journal.specs.Connections.{is_open, is_ignored, is_live, runs}

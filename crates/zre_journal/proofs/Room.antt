@@ -13,7 +13,7 @@ use Rattle.zre_link.specs.Text.{Member, Says, Pongs, text_of, next_message, size
 use Rattle.zre_link.proofs.Numbered.{text_more, text_pongs}
 use Rattle.zre_peer.specs.Runs.{is_hello}
 use Rattle.zre_peer.specs.Views.{view_of, is_small}
-use Rattle.zre_journal.specs.declared.config.Config.{Config}
+use Rattle.zre_values.specs.declared.settings.Settings.{Settings as Config}
 use Rattle.zre_journal.specs.Chronicle.{Mark, Comes, Starts, Counts, Puts, PutsPong, Sends, Joins, Leaves, Stops, after, ever, followed}
 use Rattle.zre_journal.specs.Config.{CanBe}
 use Rattle.zre_journal.specs.Connections.{refuses}

@@ -21,7 +21,7 @@ use Rattle.zre_peer.specs.declared.causes.Cause.TheVariants as cause
 use Rattle.zre_peer.specs.declared.causes.CloseWhy.TheVariants as close
 use Rattle.zre_peer.specs.declared.causes.IgnoreWhy.TheVariants as ignore
 use Rattle.zre_peer.specs.declared.causes.RefuseWhy.TheVariants as refuse
-use Rattle.zre_journal.specs.declared.config.Config.{Config}
+use Rattle.zre_values.specs.declared.settings.Settings.{Settings as Config}
 use Rattle.zre_journal.specs.Events.{chronicle, events}
 use Rattle.zre_journal.specs.Links.{bodies, unsent}
 use Rattle.zre_journal.specs.Peers.{Life, lives, view}

@@ -12,7 +12,7 @@ use Rattle.zre_msg.specs.declared.message.Body.{Body}
 use Rattle.zre_msg.specs.declared.message.Message.{Message}
 use Rattle.zre_peer.specs.Runs.{is_hello, due, may_follow}
 use Rattle.zre_peer.specs.Views.{view_of, is_small}
-use Rattle.zre_journal.specs.declared.config.Config.{Config}
+use Rattle.zre_values.specs.declared.settings.Settings.{Settings as Config}
 use Rattle.zre_journal.specs.Chronicle.{Mark, Starts, Counts, Ignores, Closes, Born, Ends, Puts, after, ever, Greets, AnswersPing}
 use Rattle.zre_journal.specs.Connections.{is_open, identity, started, runs, refuses, was_used, is_ignored, is_live, other_with, others}
 use Rattle.zre_journal.specs.Peers.{Life, lives, life, life_of, births, runner, counted}

@@ -3,7 +3,7 @@ use Rattle.std.proofs.Common.{◌≡◌, ℕ, Bool, true, false, cond, eqb, List
 use Rattle.std.specs.Option.{option_or}
 use Rattle.std.specs.Str.{bytes_eq}
 use Rattle.zre_values.specs.declared.peer_id.PeerId.{PeerId}
-use Rattle.zre_journal.specs.declared.config.Config.{Config}
+use Rattle.zre_values.specs.declared.settings.Settings.{Settings as Config}
 use Rattle.zre_journal.specs.Chronicle.{Mark, Comes, TurnsAway, Shakes, Closes, IsShut, ClosesAtStop, Born, Links, Stops, after}
 use Rattle.zre_journal.specs.Connections.{is_open, is_new, identity}
 use Rattle.zre_journal.specs.Links.{is_linked}

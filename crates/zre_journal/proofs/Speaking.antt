@@ -14,7 +14,7 @@ use Rattle.zre_peer.specs.Runs.{is_hello}
 use Rattle.zre_peer.specs.Views.{blank}
 use Rattle.zre_peer.specs.Views.{after as reading}
 use Rattle.zre_peer.specs.declared.view.View.{View}
-use Rattle.zre_journal.specs.declared.config.Config.{Config}
+use Rattle.zre_values.specs.declared.settings.Settings.{Settings as Config}
 use Rattle.zre_journal.specs.Chronicle.{Mark, Comes, Born, Starts, Ends, Puts, Joins, Leaves, after, followed}
 use Rattle.zre_journal.specs.Commands.{has_group}
 use Rattle.zre_journal.specs.Config.{own_endpoint}

@@ -4,7 +4,7 @@ use Rattle.std.specs.List.{list_any}
 use Rattle.zre_values.specs.declared.peer_id.PeerId.{PeerId}
 use Rattle.zre_values.specs.declared.endpoint.Endpoint.{Endpoint}
 use Rattle.zre_outside.specs.declared.entry.Entry.{Entry}
-use Rattle.zre_journal.specs.declared.config.Config.{Config}
+use Rattle.zre_values.specs.declared.settings.Settings.{Settings as Config}
 use Rattle.zre_journal.specs.Chronicle.{Mark, Opens, Closes, IsShut, ClosesAtStop, Born, Ends}
 use Rattle.zre_journal.specs.Connections.{open_ones, is_open, has_ended, others}
 use Rattle.zre_journal.specs.Events.{chronicle}

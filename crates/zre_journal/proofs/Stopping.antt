@@ -8,7 +8,7 @@ use Rattle.zre_outside.specs.declared.entry.Command.TheVariants as command
 use Rattle.zre_peer.specs.declared.causes.Cause.{Cause}
 use Rattle.zre_peer.specs.declared.causes.Cause.TheVariants as cause
 use Rattle.zre_journal.specs.Endings.{is_end}
-use Rattle.zre_journal.specs.declared.config.Config.{Config}
+use Rattle.zre_values.specs.declared.settings.Settings.{Settings as Config}
 use Rattle.zre_journal.specs.Chronicle.{Mark, ClosesAtStop, Ends, SendsBeacon, Stops, after}
 use Rattle.zre_journal.specs.Connections.{open_ones}
 use Rattle.zre_journal.specs.Peers.{Life, lives}

@@ -18,7 +18,7 @@ use Rattle.zre_peer.specs.declared.view.View.{View}
 use Rattle.zre_peer.specs.declared.causes.Cause.{Cause}
 use Rattle.zre_peer.specs.declared.event.Event.{Event}
 use Rattle.zre_peer.specs.declared.event.Event.TheVariants as event
-use Rattle.zre_journal.specs.declared.config.Config.{Config}
+use Rattle.zre_values.specs.declared.settings.Settings.{Settings as Config}
 use Rattle.zre_journal.specs.Chronicle.{Mark, Comes, TurnsAway, Closes, Ignores, Refuses, Stops, Born, Starts, Counts, Ends, IsEvasive, after}
 use Rattle.zre_journal.specs.Peers.{Life, lives, life, life_of, births, runner, is_entered, view}
 use Rattle.zre_journal.specs.Told.{told, told_in, told_at, by_message, exit, becoming_evasive}

@@ -2,7 +2,7 @@
 use Rattle.std.proofs.Common.{◌≡◌, ℕ, ◌-◌, Bool, true, false, not, ◌&&◌, leb, List, Option, Some, None, IsSome, is_none, filter, refl, ◌∙◌, is_some, ap}
 use Rattle.std.proofs.lemmas.Bool.{and_parts}
 use Rattle.std.specs.List.{AllByRecursion}
-use Rattle.zre_journal.specs.declared.config.Config.{Config}
+use Rattle.zre_values.specs.declared.settings.Settings.{Settings as Config}
 use Rattle.zre_journal.specs.Chronicle.{Mark, after}
 use Rattle.zre_journal.specs.Heard.{clock}
 use Rattle.zre_journal.specs.Connections.{open_ones, runs, since}

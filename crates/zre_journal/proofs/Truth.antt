@@ -16,7 +16,7 @@ use Rattle.zre_peer.specs.Views.{blank}
 use Rattle.zre_peer.specs.Views.{after as reading}
 use Rattle.zre_peer.specs.declared.view.View.{View}
 use Rattle.zre_peer.specs.declared.causes.Cause.{Cause}
-use Rattle.zre_journal.specs.declared.config.Config.{Config}
+use Rattle.zre_values.specs.declared.settings.Settings.{Settings as Config}
 use Rattle.zre_journal.specs.Chronicle.{Mark, Comes, Born, Ends, Puts, Joins, Leaves, after, followed}
 use Rattle.zre_journal.specs.Config.{own_endpoint}
 use Rattle.zre_journal.specs.Peers.{Life, lives, life, births}

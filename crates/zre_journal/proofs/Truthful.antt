@@ -5,7 +5,7 @@ use Rattle.zre_msg.specs.declared.message.Body.TheVariants as body
 use Rattle.zre_peer.specs.Members.{first_named}
 use Rattle.zre_peer.specs.Views.{blank, view_of}
 use Rattle.zre_peer.specs.declared.view.View.{View}
-use Rattle.zre_journal.specs.declared.config.Config.{Config}
+use Rattle.zre_values.specs.declared.settings.Settings.{Settings as Config}
 use Rattle.zre_journal.specs.Chronicle.{Mark, Comes, Starts, Joins, Leaves, after}
 use Rattle.zre_journal.specs.Config.{own_endpoint}
 use Rattle.zre_journal.specs.Events.{chronicle}

@@ -24,7 +24,7 @@ use Rattle.zre_peer.specs.Runs.{is_hello, due}
 use Rattle.zre_peer.specs.Views.{view_of, is_small}
 use Rattle.zre_peer.specs.declared.causes.Cause.{Cause}
 use Rattle.zre_peer.specs.declared.causes.Cause.TheVariants as cause
-use Rattle.zre_journal.specs.declared.config.Config.{Config}
+use Rattle.zre_values.specs.declared.settings.Settings.{Settings as Config}
 use Rattle.zre_journal.specs.Arrivals.{at_place}
 use Rattle.zre_journal.specs.Chronicle.{Mark, Comes, Ends}
 use Rattle.zre_journal.specs.Commands.{has_group, is_too_big, is_member}

@@ -1,7 +1,7 @@
 -- What a tick of the clock leaves.
 use Rattle.std.specs.Prelude.{◌≡◌, false, List}
 use Rattle.std.specs.List.{AllByRecursion}
-use Rattle.zre_journal.specs.declared.config.Config.{Config}
+use Rattle.zre_values.specs.declared.settings.Settings.{Settings as Config}
 use Rattle.zre_journal.specs.Chronicle.{Mark}
 use Rattle.zre_journal.specs.Connections.{open_ones}
 use Rattle.zre_journal.specs.Peers.{Life, lives}

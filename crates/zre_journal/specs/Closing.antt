@@ -5,7 +5,7 @@ use Rattle.zre_outside.specs.declared.act.Act.{Act}
 use Rattle.zre_outside.specs.declared.act.Act.TheVariants as act
 use Rattle.zre_peer.specs.declared.event.Event.{Event}
 use Rattle.zre_peer.specs.declared.event.Event.TheVariants as event
-use Rattle.zre_journal.specs.declared.config.Config.{Config}
+use Rattle.zre_values.specs.declared.settings.Settings.{Settings as Config}
 use Rattle.zre_journal.specs.Chronicle.{Mark}
 use Rattle.zre_journal.specs.Connections.{open_ones, identity}
 use Rattle.zre_journal.specs.Peers.{lives, life_of}

@@ -12,7 +12,7 @@ use Rattle.zre_msg.specs.declared.message.Body.{Body}
 use Rattle.zre_msg.specs.declared.message.Body.TheVariants as body
 use Rattle.zre_peer.specs.declared.causes.Cause.TheVariants as cause
 use Rattle.zre_peer.specs.declared.causes.RefuseWhy.TheVariants as refuse
-use Rattle.zre_journal.specs.declared.config.Config.{Config}
+use Rattle.zre_values.specs.declared.settings.Settings.{Settings as Config}
 use Rattle.zre_journal.specs.Chronicle.{Mark, ClosesAtStop, Ends, Joins, Leaves, Refuses, SendsBeacon, Stops}
 use Rattle.zre_journal.specs.Connections.{open_ones}
 use Rattle.zre_journal.specs.Peers.{Life, lives, life_of, is_entered, view}

@@ -2,12 +2,8 @@
 use Rattle.std.specs.Prelude.{◌≡◌, ℕ, ◌<◌, ◌^◌, Bool, true, List, length}
 use Rattle.zre_values.specs.Address.{IsAddress}
 use Rattle.zre_values.specs.Endpoint.{endpoint_text}
-use Rattle.zre_values.specs.Settings.{are_settings}
-use Rattle.zre_journal.specs.declared.config.Config.{Config}
-
--- settings with which a node can be
-abbrev pub is_valid : Config → Bool
-is_valid g = are_settings g.name g.headers g.port g.evasive g.expired
+use Rattle.zre_values.specs.Settings.{is_valid}
+use Rattle.zre_values.specs.declared.settings.Settings.{Settings as Config}
 
 -- where its mailbox is, as its HELLO says it
 abbrev pub own_endpoint : Config → List ℕ

@@ -12,7 +12,7 @@ use Rattle.zre_peer.specs.declared.causes.Cause.{Cause}
 use Rattle.zre_peer.specs.declared.causes.Cause.TheVariants as cause
 use Rattle.zre_outside.specs.declared.act.Act.{Act}
 use Rattle.zre_outside.specs.declared.act.Act.TheVariants as act
-use Rattle.zre_journal.specs.declared.config.Config.{Config}
+use Rattle.zre_values.specs.declared.settings.Settings.{Settings as Config}
 use Rattle.zre_journal.specs.Chronicle.{Mark, Opens, TurnsAway, Greets, AnswersPing, Closes, ClosesAtStop, Born, Ends}
 use Rattle.zre_journal.specs.Chronicle.{Puts, SendsBeacon}
 use Rattle.zre_journal.specs.Peers.{Life, lives}

@@ -9,7 +9,7 @@ use Rattle.zre_outside.specs.declared.entry.Input.TheVariants as input
 use Rattle.zre_values.specs.declared.limits.TheConstants.{PEERS}
 use Rattle.zre_beacon.specs.Beacon.{beacon_in}
 use Rattle.zre_peer.specs.declared.causes.Cause.TheVariants as cause
-use Rattle.zre_journal.specs.declared.config.Config.{Config}
+use Rattle.zre_values.specs.declared.settings.Settings.{Settings as Config}
 use Rattle.zre_journal.specs.Chronicle.{Mark, Comes, HearsBeacon, Ends, Stops, after, ever}
 use Rattle.zre_journal.specs.Heard.{newly_completed}
 use Rattle.zre_journal.specs.Peers.{Life, lives, life_of, life}

@@ -4,7 +4,7 @@ use Rattle.std.specs.List.{filter_map}
 use Rattle.zre_mailbox.specs.declared.arrival.Arrival.TheVariants as arrival
 use Rattle.zre_mailbox.specs.Talk.{Said, Arrived, talk, fault_in}
 use Rattle.zre_msg.specs.declared.message.Message.{Message}
-use Rattle.zre_journal.specs.declared.config.Config.{Config}
+use Rattle.zre_values.specs.declared.settings.Settings.{Settings as Config}
 use Rattle.zre_journal.specs.Chronicle.{Mark}
 use Rattle.zre_journal.specs.Connections.{runs}
 use Rattle.zre_journal.specs.Heard.{bytes}

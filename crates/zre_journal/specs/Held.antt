@@ -7,7 +7,7 @@ use Rattle.zre_zmtp.specs.declared.want.Want.{Want}
 use Rattle.zre_zmtp.specs.declared.want.Want.TheVariants.{Router, Dealer}
 use Rattle.zre_zmtp.specs.Stream.{Whole, opened, split}
 use Rattle.zre_peer.specs.declared.view.View.{View}
-use Rattle.zre_journal.specs.declared.config.Config.{Config}
+use Rattle.zre_values.specs.declared.settings.Settings.{Settings as Config}
 use Rattle.zre_journal.specs.Chronicle.{Mark}
 use Rattle.zre_journal.specs.Heard.{bytes}
 use Rattle.zre_mailbox.specs.Conn.{conn_after, kept_of}

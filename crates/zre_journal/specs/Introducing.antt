@@ -4,7 +4,7 @@ use Rattle.zre_values.specs.declared.limits.TheConstants.{MESSAGE_OCTETS, UNSENT
 use Rattle.zre_msg.specs.Spelling.{octets, FitsBody}
 use Rattle.zre_link.specs.Text.{size_of}
 use Rattle.zre_link.specs.Link.{unsent_of}
-use Rattle.zre_journal.specs.declared.config.Config.{Config}
+use Rattle.zre_values.specs.declared.settings.Settings.{Settings as Config}
 use Rattle.zre_journal.specs.Chronicle.{Mark}
 use Rattle.zre_journal.specs.Pushes.{hello}
 

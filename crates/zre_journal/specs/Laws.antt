@@ -8,7 +8,7 @@ use Rattle.zre_msg.specs.declared.message.Message.{Message}
 use Rattle.zre_peer.specs.Runs.{in_order}
 use Rattle.zre_peer.specs.Views.{view_of}
 use Rattle.zre_outside.specs.declared.entry.Entry.{Entry}
-use Rattle.zre_journal.specs.declared.config.Config.{Config}
+use Rattle.zre_values.specs.declared.settings.Settings.{Settings as Config}
 use Rattle.zre_journal.specs.Chronicle.{Mark, Starts, Counts, each}
 use Rattle.zre_journal.specs.Connections.{open_ones, is_open, identity, runs, ends, has_ended}
 use Rattle.zre_journal.specs.Peers.{Life, lives, life, runner, counted, view}

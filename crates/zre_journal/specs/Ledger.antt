@@ -10,7 +10,7 @@ use Rattle.zre_peer.specs.declared.event.Event.{Event}
 use Rattle.zre_peer.specs.Ledger.{IsNumbered, IsPicked, IsNear, ArePicked, AreNear}
 use Rattle.zre_peer.specs.Runs.{told}
 use Rattle.zre_peer.specs.Views.{view_of, is_small}
-use Rattle.zre_journal.specs.declared.config.Config.{Config}
+use Rattle.zre_values.specs.declared.settings.Settings.{Settings as Config}
 use Rattle.zre_outside.specs.declared.entry.Entry.{Entry}
 use Rattle.zre_mailbox.specs.declared.arrival.Arrival.TheVariants as arrival
 use Rattle.zre_mailbox.specs.Talk.{Arrived}

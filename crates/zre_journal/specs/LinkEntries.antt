@@ -6,7 +6,7 @@ use Rattle.zre_peer.specs.declared.causes.Cause.{Cause}
 use Rattle.zre_peer.specs.declared.causes.Cause.TheVariants as cause
 use Rattle.zre_link.specs.Heard.{reply_fault}
 use Rattle.zre_link.specs.Link.{answered, slow_at}
-use Rattle.zre_journal.specs.declared.config.Config.{Config}
+use Rattle.zre_values.specs.declared.settings.Settings.{Settings as Config}
 use Rattle.zre_journal.specs.Chronicle.{Mark, Ends, PutsPong, Links, Sends}
 use Rattle.zre_journal.specs.Peers.{Life}
 use Rattle.zre_journal.specs.Links.{is_linked, replies, newly_pinged, gate, taken, unsent}

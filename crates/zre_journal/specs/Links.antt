@@ -9,7 +9,7 @@ use Rattle.zre_msg.specs.declared.message.Message.{Message}
 use Rattle.zre_link.specs.Text.{Member, Says, Pongs, bodies_in, numbered_from, text_of}
 use Rattle.zre_link.specs.Heard.{awaited, pings}
 use Rattle.zre_link.specs.Link.{gate_by}
-use Rattle.zre_journal.specs.declared.config.Config.{Config}
+use Rattle.zre_values.specs.declared.settings.Settings.{Settings as Config}
 use Rattle.zre_journal.specs.Chronicle.{Mark, Comes, Puts, PutsPong, Links, Sends, Joins, Leaves, each, ever}
 
 -- the groups that the node has joined and not left since, in order

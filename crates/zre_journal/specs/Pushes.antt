@@ -7,7 +7,7 @@ use Rattle.zre_msg.specs.declared.message.Body.{Body}
 use Rattle.zre_msg.specs.declared.message.Body.TheVariants as body
 use Rattle.zre_peer.specs.declared.causes.Cause.TheVariants as cause
 use Rattle.zre_link.specs.Text.{size_of}
-use Rattle.zre_journal.specs.declared.config.Config.{Config}
+use Rattle.zre_values.specs.declared.settings.Settings.{Settings as Config}
 use Rattle.zre_journal.specs.Chronicle.{Mark, Born, Ends, Puts, in_turn}
 use Rattle.zre_journal.specs.Config.{own_endpoint}
 use Rattle.zre_journal.specs.Peers.{Life, births}

@@ -2,7 +2,7 @@
 use Rattle.std.specs.Prelude.{◌≡◌, ℕ, ◌≤◌, true, List, [], ◌∷◌, length, take, nat_le, if◌then◌else◌}
 use Rattle.zre_peer.specs.Ledger.{IsNumbered}
 use Rattle.zre_peer.specs.Views.{view_of, is_small}
-use Rattle.zre_journal.specs.declared.config.Config.{Config}
+use Rattle.zre_values.specs.declared.settings.Settings.{Settings as Config}
 use Rattle.zre_journal.specs.Chronicle.{Mark}
 use Rattle.zre_journal.specs.Links.{bodies, queued}
 use Rattle.zre_journal.specs.Truth.{own_view}

@@ -5,7 +5,7 @@ use Rattle.std.specs.List.{filter}
 use Rattle.zre_msg.specs.declared.message.Body.TheVariants as body
 use Rattle.zre_peer.specs.declared.causes.Cause.TheVariants as cause
 use Rattle.zre_peer.specs.declared.causes.CloseWhy.TheVariants as close
-use Rattle.zre_journal.specs.declared.config.Config.{Config}
+use Rattle.zre_values.specs.declared.settings.Settings.{Settings as Config}
 use Rattle.zre_journal.specs.Chronicle.{Mark, Closes, Ends, IsEvasive, SendsBeacon, in_turn}
 use Rattle.zre_journal.specs.Heard.{clock}
 use Rattle.zre_journal.specs.Connections.{open_ones, runs, since}

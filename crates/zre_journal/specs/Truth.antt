@@ -6,7 +6,7 @@ use Rattle.zre_peer.specs.Members.{first_named}
 use Rattle.zre_peer.specs.Runs.{is_hello}
 use Rattle.zre_peer.specs.Views.{view_of}
 use Rattle.zre_peer.specs.declared.view.View.{View}
-use Rattle.zre_journal.specs.declared.config.Config.{Config}
+use Rattle.zre_values.specs.declared.settings.Settings.{Settings as Config}
 use Rattle.zre_journal.specs.Chronicle.{Mark}
 use Rattle.zre_journal.specs.Config.{own_endpoint}
 use Rattle.zre_journal.specs.Links.{groups, status, bodies, queued}

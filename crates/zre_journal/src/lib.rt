@@ -1,12 +1,9 @@
 //! What a journal means: which connections are open and which peers are known, what the node tells, and what it asks
-//! of the outside. The definitions stand in `specs/`; [`Config`] is the one type that they speak of and no crate
-//! below has.
+//! of the outside. The definitions stand in `specs/`; a node's [`Config`] is the `Settings` of `zre_values`.
 #![tactic(auto)]
 
-mod config;
 mod laws;
 
-pub use config::Config;
 pub use laws::{
     a_gap_shows_at_once, a_ledger_is_kept, a_node_spoke_truly, a_node_tells_the_truth,
     a_peer_ends_once, a_peer_has_one_run, a_run_is_its_octets, a_stop_is_the_end, a_stop_is_told,
@@ -18,3 +15,4 @@ pub use laws::{
     the_chronicle_keeps_the_journal, the_node_is_no_peer, views_follow_messages,
     what_comes_near_is_counted_near, what_is_held_is_bounded,
 };
+pub use zre_values::Settings as Config;

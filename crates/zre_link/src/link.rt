@@ -29,7 +29,7 @@ use std::marker::{Brand, Model};
 use std::mem;
 use std::sync::ledger::{Blank, Ledger};
 use zre_msg::{Body, Message};
-use zre_values::{Octets, OutOfMemory, PeerId};
+use zre_values::{Octets, OutOfMemory, PeerId, take_apart};
 use zre_zmtp::{FeedFault, Item, Items, SocketType, Steps, greeting, ready};
 
 /// The connection of a node to the mailbox of a peer. The node speaks as a DEALER with the identity 01 and its UUID:
@@ -48,19 +48,9 @@ pub struct Link {
     replies: Replies,
 }
 
-// By hand: docs/DECISIONS.md says why, at "Drops by hand".
 impl Drop for Link {
     fn drop(self) {
-        let Link {
-            alloc: _,
-            queue: _queue,
-            spelled: _spelled,
-            sent: _,
-            written: _,
-            taken: _,
-            linked: _,
-            replies: _replies,
-        } = self;
+        take_apart!(self, Link: alloc, queue, spelled, sent, written, taken, linked, replies);
     }
 }
 

@@ -9,7 +9,7 @@ use bytes::{Bytes, BytesMut};
 use std::alloc::Global;
 use std::collections::VecDeque;
 use std::marker::Model;
-use zre_values::OutOfMemory;
+use zre_values::{OutOfMemory, take_apart};
 
 /// Where the newest part has as many octets, a further text begins a new one; and a text with as many is a part alone.
 const PART: usize = 16 * 1024;
@@ -25,15 +25,9 @@ pub struct Queue {
     count: usize,
 }
 
-// By hand: docs/DECISIONS.md says why, at "Drops by hand".
 impl Drop for Queue {
     fn drop(self) {
-        let Queue {
-            alloc: _,
-            parts: _parts,
-            newest: _newest,
-            count: _,
-        } = self;
+        take_apart!(self, Queue: alloc, parts, newest, count);
     }
 }
 

@@ -14,6 +14,7 @@ use crate::hearing::Hearing;
 use std::alloc::Global;
 use std::marker::Model;
 use std::sync::ledger::Ledger;
+use zre_values::take_apart;
 use zre_zmtp::{FeedFault, Items, Reader, Steps, Want};
 
 /// The replies on a link, read as the stream of a ROUTER.
@@ -22,13 +23,9 @@ pub struct Replies {
     hearing: Hearing,
 }
 
-// By hand: docs/DECISIONS.md says why, at "Drops by hand".
 impl Drop for Replies {
     fn drop(self) {
-        let Replies {
-            awaits: _awaits,
-            hearing: _hearing,
-        } = self;
+        take_apart!(self, Replies: awaits, hearing);
     }
 }
 

@@ -8,7 +8,7 @@ use crate::queue::Queue;
 use bytes::Bytes;
 use std::alloc::Global;
 use std::marker::Model;
-use zre_values::{Frames, Octets, OutOfMemory};
+use zre_values::{Frames, Octets, OutOfMemory, take_apart};
 use zre_zmtp::write_message;
 
 /// Fewer octets are copied onto each link: that costs less than to share them.
@@ -29,10 +29,9 @@ pub struct Tail {
     spelled: Spelled,
 }
 
-// By hand: docs/DECISIONS.md says why, at "Drops by hand".
 impl Drop for Tail {
     fn drop(self) {
-        let Tail { spelled: _spelled } = self;
+        take_apart!(self, Tail: spelled);
     }
 }
 

@@ -19,7 +19,7 @@ use crate::taking::{known_after, take_items};
 use std::alloc::Global;
 use std::marker::{Brand, Model};
 use std::sync::ledger::{Blank, Ledger};
-use zre_values::PeerId;
+use zre_values::{PeerId, take_apart};
 use zre_zmtp::{FeedFault, Items, Reader, Steps, Want};
 
 /// A connection that another node opened, read as a ROUTER: its other end has to be a DEALER whose identity is 01 and
@@ -30,14 +30,9 @@ pub struct Conn {
     identity: Option<PeerId>,
 }
 
-// By hand: docs/DECISIONS.md says why, at "Drops by hand".
 impl Drop for Conn {
     fn drop(self) {
-        let Conn {
-            alloc: _,
-            phase: _phase,
-            identity: _,
-        } = self;
+        take_apart!(self, Conn: alloc, phase, identity);
     }
 }
 

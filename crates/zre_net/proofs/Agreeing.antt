@@ -19,7 +19,7 @@ use Rattle.zre_mailbox.proofs.Utterances.{are_heard}
 use Rattle.zre_peer.specs.Ledger.{IsNumbered, IsPicked, ArePicked}
 use Rattle.zre_peer.specs.Runs.{told}
 use Rattle.zre_peer.specs.Views.{view_of}
-use Rattle.zre_journal.specs.declared.config.Config.{Config}
+use Rattle.zre_values.specs.declared.settings.Settings.{Settings as Config}
 use Rattle.zre_journal.specs.Chronicle.{Mark}
 use Rattle.zre_journal.specs.Connections.{open_ones, started, has_ended, runs}
 use Rattle.zre_journal.specs.Events.{events}

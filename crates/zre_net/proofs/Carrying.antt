@@ -12,7 +12,8 @@ use Rattle.zre_outside.specs.declared.entry.Input.{Input}
 use Rattle.zre_outside.specs.declared.entry.Input.TheVariants as input
 use Rattle.zre_msg.specs.Spelling.{octets}
 use Rattle.zre_journal.specs.Chronicle.{Mark}
-use Rattle.zre_journal.specs.Config.{is_valid, CanBe}
+use Rattle.zre_journal.specs.Config.{CanBe}
+use Rattle.zre_values.specs.Settings.{is_valid}
 use Rattle.zre_journal.specs.Events.{chronicle}
 use Rattle.zre_journal.specs.Heard.{bytes, was_opened, piece_of}
 use Rattle.zre_journal.proofs.Quiet.{is_of}

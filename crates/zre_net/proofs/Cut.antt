@@ -11,7 +11,7 @@ use Rattle.zre_net.specs.declared.running.sender.Sender.{Sender}
 use Rattle.zre_net.specs.Sender.{Keeps}
 use Rattle.zre_net.specs.Sending.{Holds as Keeping, HasSent}
 use Rattle.zre_link.specs.Link.{link_after}
-use Rattle.zre_journal.specs.declared.config.Config.{Config}
+use Rattle.zre_values.specs.declared.settings.Settings.{Settings as Config}
 use Rattle.zre_journal.specs.Chronicle.{Mark}
 use Rattle.zre_journal.specs.Connections.{open_ones, is_new, identity, identity_at, runs, is_ignored, since}
 use Rattle.zre_journal.specs.Cutting.{piece}

@@ -25,7 +25,7 @@ use Rattle.zre_peer.specs.declared.causes.IgnoreWhy.TheVariants as ignore
 use Rattle.zre_link.specs.Heard.{reply_fault}
 use Rattle.zre_link.specs.Link.{answered, slow_at}
 use Rattle.zre_link.specs.Text.{size_of}
-use Rattle.zre_journal.specs.declared.config.Config.{Config}
+use Rattle.zre_values.specs.declared.settings.Settings.{Settings as Config}
 use Rattle.zre_journal.specs.Chronicle.{Mark, Opens, TurnsAway, Greets, Shakes, AnswersPing, Starts, Counts, Ignores, Closes, IsShut, ClosesAtStop, HearsBeacon, Ends, IsEvasive, PutsPong, Links, Sends, Joins, Leaves, Refuses, SendsBeacon, Stops, after}
 use Rattle.zre_journal.specs.Connections.{open_ones, is_new, is_open, is_live, runs, identity, ends, other_with}
 use Rattle.zre_journal.specs.Done.{puts}

@@ -3,7 +3,7 @@ use Rattle.std.proofs.Common.{◌≡◌, ℕ, ◌+◌, ◌%◌, ◌^◌, List, [
 use Rattle.zre_msg.specs.declared.message.Body.{Body}
 use Rattle.zre_outside.specs.declared.entry.Entry.{Entry}
 use Rattle.zre_link.specs.Text.{Member, Says, Pongs, bodies_in, numbered_from}
-use Rattle.zre_journal.specs.declared.config.Config.{Config}
+use Rattle.zre_values.specs.declared.settings.Settings.{Settings as Config}
 use Rattle.zre_journal.specs.Chronicle.{Mark, Comes, after, followed}
 use Rattle.zre_journal.specs.Events.{chronicle}
 use Rattle.zre_journal.specs.Happens.{marks, with_entry}

@@ -4,7 +4,7 @@ use Rattle.std.specs.Prelude.{slice_get, get_or, take}
 use Rattle.std.proofs.lemmas.List.{take_more}
 use Rattle.zre_net.proofs.Listing.{some_one, in_reach, got_same, kept, apart, set_length}
 use Rattle.std.specs.List.{list_any}
-use Rattle.zre_journal.specs.declared.config.Config.{Config}
+use Rattle.zre_values.specs.declared.settings.Settings.{Settings as Config}
 use Rattle.zre_journal.specs.Chronicle.{Mark}
 use Rattle.zre_journal.specs.Events.{chronicle}
 use Rattle.zre_outside.specs.declared.entry.Entry.{Entry}

@@ -10,7 +10,7 @@ use Rattle.zre_outside.specs.declared.entry.Entry.{Entry}
 use Rattle.zre_outside.specs.declared.entry.Input.TheVariants as input
 use Rattle.zre_peer.specs.declared.event.Event.{Event}
 use Rattle.zre_mailbox.specs.Conn.{conn_after}
-use Rattle.zre_journal.specs.declared.config.Config.{Config}
+use Rattle.zre_values.specs.declared.settings.Settings.{Settings as Config}
 use Rattle.zre_journal.specs.Chronicle.{Mark, Comes, followed}
 use Rattle.zre_journal.specs.Connections.{is_new}
 use Rattle.zre_journal.specs.Cutting.{is_offer, but_offers, piece, IsSameCut}

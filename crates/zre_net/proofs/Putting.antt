@@ -6,7 +6,7 @@ use Rattle.zre_msg.specs.declared.message.Body.{Body}
 use Rattle.zre_msg.specs.Spelling.{octets}
 use Rattle.zre_link.specs.Text.{Member, Says, Pongs, bodies_in, numbered_from, text_of, next_message}
 use Rattle.zre_link.proofs.Numbered.{bodies-more, text_more}
-use Rattle.zre_journal.specs.declared.config.Config.{Config}
+use Rattle.zre_values.specs.declared.settings.Settings.{Settings as Config}
 use Rattle.zre_journal.specs.Chronicle.{Mark, Comes, Puts, PutsPong, Sends, Ends, Born, after, followed}
 use Rattle.zre_journal.specs.Connections.{ends}
 use Rattle.zre_journal.specs.Done.{puts}

@@ -9,7 +9,7 @@ use Rattle.zre_outside.specs.declared.act.Act.{Act}
 use Rattle.zre_outside.specs.declared.act.Act.TheVariants as act
 use Rattle.zre_outside.specs.declared.entry.Entry.{Entry}
 use Rattle.zre_link.specs.Text.{text_of}
-use Rattle.zre_journal.specs.declared.config.Config.{Config}
+use Rattle.zre_values.specs.declared.settings.Settings.{Settings as Config}
 use Rattle.zre_journal.specs.Chronicle.{Mark, Comes, Born, Ends, after}
 use Rattle.zre_journal.specs.Done.{done, done_at, close_link, offers, is_offered, acts_at}
 use Rattle.zre_journal.specs.Events.{chronicle}

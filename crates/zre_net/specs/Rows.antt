@@ -12,7 +12,7 @@ use Rattle.zre_outside.specs.declared.entry.Entry.{Entry}
 use Rattle.zre_outside.specs.declared.entry.Input.{Input}
 use Rattle.zre_mailbox.specs.Conn.{conn_after}
 use Rattle.zre_mailbox.specs.Talk.{completed}
-use Rattle.zre_journal.specs.declared.config.Config.{Config}
+use Rattle.zre_values.specs.declared.settings.Settings.{Settings as Config}
 use Rattle.zre_journal.specs.Chronicle.{Mark}
 use Rattle.zre_journal.specs.Connections.{is_new}
 use Rattle.zre_journal.specs.Happens.{has_stopped}

@@ -3,7 +3,7 @@ use Rattle.std.specs.Prelude.{◌≡◌, List, Option, Some, None, length}
 use Rattle.zre_zmtp.specs.Laws.{handshake}
 use Rattle.zre_zmtp.specs.declared.writing.SocketType.TheVariants as socket
 use Rattle.zre_outside.specs.declared.entry.Entry.{Entry}
-use Rattle.zre_journal.specs.declared.config.Config.{Config}
+use Rattle.zre_values.specs.declared.settings.Settings.{Settings as Config}
 use Rattle.zre_journal.specs.Done.{acts_at}
 use Rattle.zre_journal.specs.Events.{chronicle, events_at}
 use Rattle.zre_node.specs.declared.effects.Step.{Step}

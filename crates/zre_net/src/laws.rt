@@ -3,7 +3,7 @@
 ghost use Rattle.std.specs.Prelude.{◌≡◌, ◌≤◌, ◌++◌, ◌∷◌, ℕ, List, [], None, length, take};
 ghost use Rattle.zre_msg.specs.declared.message.Message.{Message};
 ghost use Rattle.zre_outside.specs.declared.entry.Entry.{Entry};
-ghost use Rattle.zre_journal.specs.declared.config.Config.{Config};
+ghost use Rattle.zre_values.specs.declared.settings.Settings.{Settings as Config};
 ghost use Rattle.zre_journal.specs.Cutting.{piece};
 ghost use Rattle.zre_node.specs.declared.node.Node.{Node};
 ghost use Rattle.zre_node.specs.Journal.{StandsFor};

@@ -11,7 +11,7 @@ use Rattle.zre_mailbox.specs.Conn.{reading, phase_by, conn_after, kept_in, kept_
 use Rattle.zre_link.specs.Heard.{reply_fault, heard_after, hearing_by, reading as reply_reading, kept_in as kept_in_replies, kept_of as kept_of_replies}
 use Rattle.zre_link.specs.Link.{Sending}
 use Rattle.zre_link.specs.Text.{text_of}
-use Rattle.zre_journal.specs.declared.config.Config.{Config}
+use Rattle.zre_values.specs.declared.settings.Settings.{Settings as Config}
 use Rattle.zre_journal.specs.Asked.{view_if_entered}
 use Rattle.zre_journal.specs.Chronicle.{Mark, Comes}
 use Rattle.zre_journal.specs.Heard.{bytes}

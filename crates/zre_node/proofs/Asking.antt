@@ -6,7 +6,7 @@ use Rattle.zre_msg.specs.declared.message.Message.{Message}
 use Rattle.zre_peer.specs.Runs.{shown}
 use Rattle.zre_peer.specs.Views.{view_of}
 use Rattle.zre_journal.specs.Asked.{view_if_entered}
-use Rattle.zre_journal.specs.declared.config.Config.{Config}
+use Rattle.zre_values.specs.declared.settings.Settings.{Settings as Config}
 use Rattle.zre_journal.specs.Chronicle.{Mark}
 use Rattle.zre_journal.specs.Happens.{has_stopped}
 use Rattle.zre_journal.specs.Peers.{Life, life, lives, runner, counted, is_entered}

@@ -8,7 +8,7 @@ use Rattle.zre_values.specs.declared.endpoint.Endpoint.{Endpoint}
 use Rattle.zre_outside.specs.declared.act.Act.TheVariants as act
 use Rattle.zre_link.specs.Link.{link_after}
 use Rattle.zre_link.specs.Text.{Says}
-use Rattle.zre_journal.specs.declared.config.Config.{Config}
+use Rattle.zre_values.specs.declared.settings.Settings.{Settings as Config}
 use Rattle.zre_journal.specs.Chronicle.{Mark, HearsBeacon}
 use Rattle.zre_journal.specs.Heard.{clock}
 use Rattle.zre_journal.specs.Peers.{Life, lives, births, counted}

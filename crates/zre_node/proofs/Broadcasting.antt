@@ -8,7 +8,7 @@ use Rattle.zre_peer.specs.declared.causes.Cause.TheVariants as cause
 use Rattle.zre_peer.specs.Runs.{shown}
 use Rattle.zre_peer.specs.Views.{view_of}
 use Rattle.zre_link.specs.Text.{Member, size_of}
-use Rattle.zre_journal.specs.declared.config.Config.{Config}
+use Rattle.zre_values.specs.declared.settings.Settings.{Settings as Config}
 use Rattle.zre_journal.specs.Chronicle.{Mark, Puts, Ends, after, followed, in_turn}
 use Rattle.zre_journal.specs.Peers.{Life, lives, life, runner, counted}
 use Rattle.zre_journal.specs.Links.{line, put_on, taken, unsent}

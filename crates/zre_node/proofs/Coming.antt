@@ -11,7 +11,7 @@ use Rattle.zre_outside.specs.declared.entry.Input.TheVariants as input
 use Rattle.zre_mailbox.specs.Conn.{conn_after}
 use Rattle.zre_mailbox.specs.Talk.{talk, completed}
 use Rattle.zre_link.specs.Link.{link_after}
-use Rattle.zre_journal.specs.declared.config.Config.{Config}
+use Rattle.zre_values.specs.declared.settings.Settings.{Settings as Config}
 use Rattle.zre_journal.specs.Chronicle.{Mark, Comes}
 use Rattle.zre_journal.specs.Heard.{bytes, piece_of, was_opened, newly_completed}
 use Rattle.zre_journal.specs.Connections.{open_ones, is_open, is_live, is_ignored, since, identity, runs}

@@ -16,7 +16,7 @@ use Rattle.zre_outside.specs.declared.entry.Entry.{Entry}
 use Rattle.zre_outside.specs.declared.entry.Input.TheVariants as input
 use Rattle.zre_peer.specs.declared.causes.RefuseWhy.{RefuseWhy}
 use Rattle.zre_peer.specs.declared.causes.RefuseWhy.TheVariants as refuse
-use Rattle.zre_journal.specs.declared.config.Config.{Config}
+use Rattle.zre_values.specs.declared.settings.Settings.{Settings as Config}
 use Rattle.zre_journal.specs.Chronicle.{Mark, Joins, Leaves, Refuses}
 use Rattle.zre_journal.specs.Done.{names}
 use Rattle.zre_journal.specs.Peers.{Life, lives, life, life_of, runner, counted, is_entered}

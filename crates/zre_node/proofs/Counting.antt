@@ -15,7 +15,7 @@ use Rattle.zre_peer.specs.declared.peer_run.RunFault.{RunFault}
 use Rattle.zre_peer.specs.declared.peer_run.RunFault.TheVariants as fault
 use Rattle.zre_peer.specs.Runs.{is_hello, due, may_follow, fault_of, events_of}
 use Rattle.zre_peer.specs.Views.{view_of, is_small}
-use Rattle.zre_journal.specs.declared.config.Config.{Config}
+use Rattle.zre_values.specs.declared.settings.Settings.{Settings as Config}
 use Rattle.zre_journal.specs.Chronicle.{Mark, Starts, Counts, Ends}
 use Rattle.zre_journal.specs.Connections.{runs}
 use Rattle.zre_journal.specs.Peers.{Life, lives, life, runner, counted}

@@ -7,7 +7,7 @@ use Rattle.zre_values.specs.declared.peer_id.PeerId.{PeerId}
 use Rattle.zre_peer.specs.declared.causes.Cause.{Cause}
 use Rattle.zre_peer.specs.declared.event.Event.TheVariants as event
 use Rattle.zre_peer.specs.Views.{view_of}
-use Rattle.zre_journal.specs.declared.config.Config.{Config}
+use Rattle.zre_values.specs.declared.settings.Settings.{Settings as Config}
 use Rattle.zre_journal.specs.Chronicle.{Mark, Ends, ever}
 use Rattle.zre_journal.specs.Heard.{clock, bytes}
 use Rattle.zre_journal.specs.Connections.{runs, open_ones, is_open, has_ended, started, is_ignored, is_live, refuses}

@@ -4,7 +4,7 @@ use Rattle.zre_mailbox.specs.Talk.{Said, Fault}
 use Rattle.zre_zmtp.specs.declared.fault.ZmtpFault.{ZmtpFault}
 use Rattle.zre_peer.specs.declared.causes.Cause.TheVariants as cause
 use Rattle.zre_peer.specs.declared.causes.CloseWhy.TheVariants as close
-use Rattle.zre_journal.specs.declared.config.Config.{Config}
+use Rattle.zre_values.specs.declared.settings.Settings.{Settings as Config}
 use Rattle.zre_journal.specs.Chronicle.{Mark, Closes, in_turn}
 use Rattle.zre_journal.specs.Connections.{is_live, runs}
 use Rattle.zre_journal.specs.Arrivals.{at_place, end_of_run}

@@ -6,7 +6,7 @@ use Rattle.zre_zmtp.specs.declared.item.Item.{Item}
 use Rattle.zre_mailbox.specs.declared.arrival.Arrival.{Arrival}
 use Rattle.zre_mailbox.specs.Talk.{Said, Arrived, arrival_of, arrivals_in}
 use Rattle.zre_mailbox.proofs.Hearing.{arrives_next}
-use Rattle.zre_journal.specs.declared.config.Config.{Config}
+use Rattle.zre_values.specs.declared.settings.Settings.{Settings as Config}
 use Rattle.zre_journal.specs.Chronicle.{Mark, after, in_turn}
 use Rattle.zre_journal.specs.Connections.{is_live}
 use Rattle.zre_journal.specs.Arrivals.{at_place}

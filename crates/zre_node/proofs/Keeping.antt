@@ -1,7 +1,7 @@
 -- What the tables keep, from what they kept before a mark.
 use Rattle.std.proofs.Common.{◌≡◌, ℕ, ◌≤◌, List, length, ◌∙◌}
 use Rattle.std.specs.List.{AllByRecursion}
-use Rattle.zre_journal.specs.declared.config.Config.{Config}
+use Rattle.zre_values.specs.declared.settings.Settings.{Settings as Config}
 use Rattle.zre_journal.specs.Chronicle.{Mark}
 use Rattle.zre_journal.specs.Connections.{open_ones, is_new}
 use Rattle.zre_journal.specs.Happens.{has_stopped}

@@ -9,7 +9,7 @@ use Rattle.zre_outside.specs.declared.entry.Input.{Input}
 use Rattle.zre_outside.specs.declared.entry.Input.TheVariants as input
 use Rattle.zre_peer.specs.declared.causes.Cause.TheVariants as cause
 use Rattle.zre_link.specs.Link.{Sending, link_after, taken_by}
-use Rattle.zre_journal.specs.declared.config.Config.{Config}
+use Rattle.zre_values.specs.declared.settings.Settings.{Settings as Config}
 use Rattle.zre_journal.specs.Chronicle.{Mark, Comes, Ends, Links, Sends, after}
 use Rattle.zre_journal.specs.Connections.{open_ones, is_new}
 use Rattle.zre_journal.specs.Done.{names}

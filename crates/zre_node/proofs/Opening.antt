@@ -7,7 +7,7 @@ use Rattle.zre_peer.specs.declared.causes.Cause.{Cause}
 use Rattle.zre_peer.specs.declared.causes.Cause.TheVariants as cause
 use Rattle.zre_peer.specs.declared.causes.CloseWhy.{CloseWhy}
 use Rattle.zre_mailbox.specs.Conn.{conn_after}
-use Rattle.zre_journal.specs.declared.config.Config.{Config}
+use Rattle.zre_values.specs.declared.settings.Settings.{Settings as Config}
 use Rattle.zre_journal.specs.Chronicle.{Mark, Opens, TurnsAway, Closes, IsShut, ClosesAtStop, after}
 use Rattle.zre_journal.specs.Heard.{clock}
 use Rattle.zre_journal.specs.Connections.{open_ones, is_new, is_open, runs, others}

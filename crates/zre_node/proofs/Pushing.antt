@@ -8,7 +8,7 @@ use Rattle.zre_msg.specs.declared.message.Body.{Body}
 use Rattle.zre_peer.specs.declared.causes.Cause.TheVariants as cause
 use Rattle.zre_link.specs.Link.{Sending, link_after}
 use Rattle.zre_link.specs.Text.{Member, Says, text_of, size_of}
-use Rattle.zre_journal.specs.declared.config.Config.{Config}
+use Rattle.zre_values.specs.declared.settings.Settings.{Settings as Config}
 use Rattle.zre_journal.specs.Chronicle.{Mark, Puts, Sends, Ends, after, followed}
 use Rattle.zre_journal.specs.Peers.{Life, lives, life}
 use Rattle.zre_journal.specs.Links.{line, put_on, is_linked, replies, taken, unsent}

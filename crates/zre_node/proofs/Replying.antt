@@ -13,7 +13,7 @@ use Rattle.zre_peer.specs.declared.causes.Cause.{Cause}
 use Rattle.zre_link.specs.Heard.{reply_fault, pings, new_pings}
 use Rattle.zre_link.specs.Link.{Sending, link_after, link_answering, answered, slow_in}
 use Rattle.zre_link.specs.Text.{Member, Pongs}
-use Rattle.zre_journal.specs.declared.config.Config.{Config}
+use Rattle.zre_values.specs.declared.settings.Settings.{Settings as Config}
 use Rattle.zre_journal.specs.Chronicle.{Mark, Comes, PutsPong, after}
 use Rattle.zre_journal.specs.Connections.{open_ones}
 use Rattle.zre_journal.specs.Done.{done, puts}

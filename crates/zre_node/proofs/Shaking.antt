@@ -3,7 +3,7 @@ use Rattle.std.proofs.Common.{◌≡◌, ℕ, Bool, true, false, cond, not, ◌&
 use Rattle.std.specs.BTreeMap.{is_at}
 use Rattle.std.specs.Map.{set_value}
 use Rattle.zre_values.specs.declared.peer_id.PeerId.{PeerId}
-use Rattle.zre_journal.specs.declared.config.Config.{Config}
+use Rattle.zre_values.specs.declared.settings.Settings.{Settings as Config}
 use Rattle.zre_journal.specs.Chronicle.{Mark, Greets, Shakes, AnswersPing}
 use Rattle.zre_journal.specs.Connections.{open_ones, is_open, identity, is_same, other_with}
 use Rattle.zre_journal.proofs.Kept.{Greets-proper, AnswersPing-proper, Shakes-proper}

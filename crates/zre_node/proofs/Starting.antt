@@ -21,7 +21,7 @@ use Rattle.std.specs.Map.{lookup, set_value}
 use Rattle.zre_values.specs.declared.peer_id.PeerId.{PeerId}
 use Rattle.zre_msg.specs.declared.message.Message.{Message}
 use Rattle.zre_peer.specs.declared.causes.IgnoreWhy.{IgnoreWhy}
-use Rattle.zre_journal.specs.declared.config.Config.{Config}
+use Rattle.zre_values.specs.declared.settings.Settings.{Settings as Config}
 use Rattle.zre_journal.specs.Chronicle.{Mark, Starts, Ignores, after, ever}
 use Rattle.zre_journal.specs.Connections.{open_ones, is_open, is_live, is_ignored, was_used, identity, runs, started, refuses, has_ended}
 use Rattle.zre_journal.specs.Peers.{Life, lives, life, life_of, births, runner, counted}

@@ -7,7 +7,7 @@ use Rattle.zre_outside.specs.declared.entry.Input.TheVariants as input
 use Rattle.zre_outside.specs.declared.entry.Command.TheVariants as command
 use Rattle.zre_outside.specs.declared.act.Act.TheVariants as act
 use Rattle.zre_journal.specs.Endings.{is_end}
-use Rattle.zre_journal.specs.declared.config.Config.{Config}
+use Rattle.zre_values.specs.declared.settings.Settings.{Settings as Config}
 use Rattle.zre_journal.specs.Chronicle.{Mark, Comes, after}
 use Rattle.zre_journal.specs.Done.{acts_at, done, offers, is_offered, names, puts}
 use Rattle.zre_journal.specs.Events.{events_at}

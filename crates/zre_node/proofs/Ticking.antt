@@ -18,7 +18,7 @@ use Rattle.zre_peer.specs.declared.event.Event.{Event}
 use Rattle.zre_peer.specs.declared.event.Event.TheVariants as event
 use Rattle.zre_peer.specs.Runs.{shown}
 use Rattle.zre_peer.specs.Standing.{view_in}
-use Rattle.zre_journal.specs.declared.config.Config.{Config}
+use Rattle.zre_values.specs.declared.settings.Settings.{Settings as Config}
 use Rattle.zre_journal.specs.Chronicle.{Mark, Ends, Closes, IsEvasive, Puts, SendsBeacon, after, in_turn}
 use Rattle.zre_journal.specs.Connections.{open_ones, runs}
 use Rattle.zre_journal.specs.Done.{names}

@@ -1,7 +1,7 @@
 -- What a node is asked of its links.
 use Rattle.std.specs.Prelude.{ℕ, List, Option, option_map, map, drop, length}
 use Rattle.zre_outside.specs.declared.entry.Entry.{Entry}
-use Rattle.zre_journal.specs.declared.config.Config.{Config}
+use Rattle.zre_values.specs.declared.settings.Settings.{Settings as Config}
 use Rattle.zre_journal.specs.Events.{chronicle}
 use Rattle.zre_journal.specs.Links.{bodies, text, taken}
 use Rattle.zre_journal.specs.Peers.{Life, life, lives}

@@ -7,7 +7,7 @@ use Rattle.zre_peer.specs.Runs.{may_follow, fault_of}
 use Rattle.zre_peer.specs.Views.{view_of}
 use Rattle.zre_peer.specs.declared.peer_run.RunFault.{RunFault}
 use Rattle.zre_peer.specs.declared.peer_run.RunFault.TheVariants as fault
-use Rattle.zre_journal.specs.declared.config.Config.{Config}
+use Rattle.zre_values.specs.declared.settings.Settings.{Settings as Config}
 use Rattle.zre_journal.specs.Chronicle.{Mark, Ignores}
 use Rattle.zre_journal.specs.Peers.{Life, lives, life_of}
 use Rattle.zre_journal.specs.Arrivals.{start_unknown}

@@ -4,7 +4,7 @@ use Rattle.std.specs.List.{list_any}
 use Rattle.zre_outside.specs.declared.entry.Entry.{Entry}
 use Rattle.zre_outside.specs.declared.entry.Input.{Input}
 use Rattle.zre_peer.specs.declared.causes.Cause.{Cause}
-use Rattle.zre_journal.specs.declared.config.Config.{Config}
+use Rattle.zre_values.specs.declared.settings.Settings.{Settings as Config}
 use Rattle.zre_journal.specs.Chronicle.{Mark, Comes, PutsPong, after}
 use Rattle.zre_journal.specs.Done.{names}
 use Rattle.zre_journal.specs.LinkEntries.{at_reply, end_by}

@@ -10,7 +10,7 @@ use Rattle.zre_msg.specs.declared.message.Body.{Body}
 use Rattle.zre_msg.specs.declared.message.Body.TheVariants as body
 use Rattle.zre_mailbox.specs.Conn.{Hearing, conn_after}
 use Rattle.zre_link.specs.Link.{Sending, link_after}
-use Rattle.zre_journal.specs.declared.config.Config.{Config}
+use Rattle.zre_values.specs.declared.settings.Settings.{Settings as Config}
 use Rattle.zre_journal.specs.Chronicle.{Mark, after}
 use Rattle.zre_journal.specs.Config.{CanBe, own_endpoint}
 use Rattle.zre_journal.specs.Heard.{clock, bytes}

@@ -5,7 +5,7 @@ ghost use Rattle.std.specs.Prelude.{option_copied, IfOk, IfSome};
 ghost use Rattle.zre_outside.specs.declared.entry.Entry.{Entry as EntryValue};
 ghost use Rattle.zre_journal.specs.Asked.{bound_after, entered_after, front_after, held_after, link_later};
 ghost use Rattle.zre_journal.specs.Asked.{unsent_after, view_after, HasFront, HasSome, IsDue};
-ghost use Rattle.zre_journal.specs.declared.config.Config.{Config as ConfigValue};
+ghost use Rattle.zre_values.specs.declared.settings.Settings.{Settings as ConfigValue};
 ghost use Rattle.zre_journal.specs.Events.{chronicle};
 ghost use Rattle.zre_journal.specs.Happens.{has_stopped};
 ghost use Rattle.zre_journal.specs.Links.{taken, text};

@@ -3,8 +3,8 @@
 ghost use Rattle.std.specs.Prelude.{◌≡◌, ◌↔◌, ◌<◌, List, [], ◌∷◌, ◌++◌, true, IfOk, OnOk, IsErr, IsTrue};
 ghost use Rattle.zre_outside.specs.declared.entry.Entry.{Entry as EntryValue};
 ghost use Rattle.zre_zmtp.specs.Looks.{Looks};
-ghost use Rattle.zre_journal.specs.declared.config.Config.{Config as ConfigValue};
-ghost use Rattle.zre_journal.specs.Config.{is_valid};
+ghost use Rattle.zre_values.specs.declared.settings.Settings.{Settings as ConfigValue};
+ghost use Rattle.zre_values.specs.Settings.{is_valid};
 ghost use Rattle.zre_journal.specs.Events.{chronicle, events};
 ghost use Rattle.zre_journal.specs.Held.{kept};
 ghost use Rattle.zre_journal.specs.Ledger.{KeepsLedgers};
@@ -20,7 +20,7 @@ use zre_group::Own;
 use zre_journal::Config;
 use zre_outside::Entry;
 use zre_tables::{Conns, Peers};
-use zre_values::{Endpoint, OutOfMemory};
+use zre_values::{Endpoint, OutOfMemory, take_apart};
 use zre_zmtp::{Items, Steps as Counter};
 
 /// A node of RFC 36, to which the entries of a journal are told one by one.
@@ -34,12 +34,7 @@ pub struct Node {
 // A derived drop would be inlined, field by field, wherever a node is let go; this one is called there.
 impl Drop for Node {
     fn drop(self) {
-        let Node {
-            tables: _tables,
-            effects: _effects,
-            items: _items,
-            spent: _spent,
-        } = self;
+        take_apart!(self, Node: tables, effects, items, spent);
     }
 }
 

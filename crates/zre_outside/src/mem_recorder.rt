@@ -7,7 +7,7 @@ ghost use Rattle.zre_outside.specs.Told.{AppendsFront};
 use crate::{NextFault, Recorder};
 use std::alloc::Global;
 use std::mem;
-use zre_values::Octets;
+use zre_values::{Octets, take_apart};
 
 /// A capture in memory. The calls of `begin` and of `put` with the numbers of two lists fail, counted from 1.
 #[derive(Debug)]
@@ -23,20 +23,10 @@ pub struct MemRecorder {
     faults: u64,
 }
 
-// By hand: docs/DECISIONS.md says why, at "Drops by hand".
 impl Drop for MemRecorder {
     fn drop(self) {
-        let MemRecorder {
-            alloc: _,
-            bytes: _bytes,
-            file: _file,
-            begun: _,
-            begin_fails: _begin_fails,
-            put_fails: _put_fails,
-            begins: _,
-            puts: _,
-            faults: _,
-        } = self;
+        take_apart!(self, MemRecorder:
+            alloc, bytes, file, begun, begin_fails, put_fails, begins, puts, faults);
     }
 }
 

@@ -10,7 +10,7 @@ ghost use Rattle.zre_outside.specs.Held.{left_in, taken_from};
 use crate::held::Held;
 use crate::{Failed, NextFault, Sink, Source};
 use std::alloc::Global;
-use zre_values::Octets;
+use zre_values::{Octets, take_apart};
 
 /// Octets in memory, read in order. The calls of `read` with the numbers of a list fail, counted from 1.
 #[derive(Debug)]
@@ -21,15 +21,9 @@ pub struct MemSource {
     faults: u64,
 }
 
-// By hand: docs/DECISIONS.md says why, at "Drops by hand".
 impl Drop for MemSource {
     fn drop(self) {
-        let MemSource {
-            held: _held,
-            read_fails: _read_fails,
-            calls: _,
-            faults: _,
-        } = self;
+        take_apart!(self, MemSource: held, read_fails, calls, faults);
     }
 }
 
@@ -97,15 +91,9 @@ pub struct MemSink {
     faults: u64,
 }
 
-// By hand: docs/DECISIONS.md says why, at "Drops by hand".
 impl Drop for MemSink {
     fn drop(self) {
-        let MemSink {
-            bytes: _bytes,
-            write_fails: _write_fails,
-            calls: _,
-            faults: _,
-        } = self;
+        take_apart!(self, MemSink: bytes, write_fails, calls, faults);
     }
 }
 

@@ -9,7 +9,7 @@ ghost use Rattle.zre_outside.specs.Scripts.{first_log, turn_of, left_after, read
 use crate::stage::Stage;
 use crate::{Act, Command, NextFault, Script, Start, Turn, World};
 use std::alloc::Global;
-use zre_values::OutOfMemory;
+use zre_values::{OutOfMemory, take_apart};
 
 /// So many looks in a row a [`ScriptWorld`] answers. A further one fails.
 pub const LOOKS_IN_A_ROW: u64 = 50000000;
@@ -26,18 +26,9 @@ pub struct ScriptWorld {
     faults: u64,
 }
 
-// By hand: docs/DECISIONS.md says why, at "Drops by hand".
 impl Drop for ScriptWorld {
     fn drop(self) {
-        let ScriptWorld {
-            stage: _stage,
-            row: _,
-            start_fails: _start_fails,
-            next_fails: _next_fails,
-            starts: _,
-            nexts: _,
-            faults: _,
-        } = self;
+        take_apart!(self, ScriptWorld: stage, row, start_fails, next_fails, starts, nexts, faults);
     }
 }
 

@@ -8,6 +8,7 @@ use std::alloc::Global;
 use std::marker::PhantomData;
 use std::sync::Wait;
 use std::thread::Threads;
+use zre_values::take_apart;
 
 /// A call of [`Spawner::start`] that is under way. Nothing else can make one, so nothing else can call what takes one.
 pub struct Underway<S> {
@@ -16,7 +17,7 @@ pub struct Underway<S> {
 
 impl<S> Drop for Underway<S> {
     fn drop(self) {
-        let Underway { of: _ } = self;
+        take_apart!(self, Underway: of);
     }
 }
 

@@ -10,7 +10,7 @@ ghost use Rattle.zre_outside.specs.Scripts.{at_look};
 use crate::{Act, Command, Deed, Entry, Input, Script, Start, Turn};
 use std::alloc::Global;
 use std::collections::VecDeque;
-use zre_values::{Octets, OutOfMemory};
+use zre_values::{Octets, OutOfMemory, take_apart};
 
 /// What is left of a script, and what was seen of it.
 pub(crate) struct Stage {
@@ -25,20 +25,9 @@ pub(crate) struct Stage {
     done: Vec<Deed>,
 }
 
-// By hand: docs/DECISIONS.md says why, at "Drops by hand".
 impl Drop for Stage {
     fn drop(self) {
-        let Stage {
-            alloc: _,
-            left: _left,
-            reading: _,
-            looked: _,
-            begun: _begun,
-            given: _given,
-            looks: _,
-            handed: _handed,
-            done: _done,
-        } = self;
+        take_apart!(self, Stage: alloc, left, reading, looked, begun, given, looks, handed, done);
     }
 }
 

@@ -1,4 +1,4 @@
-use zre_values::List;
+use zre_values::{List, take_apart};
 
 /// A list of addresses of IPv4.
 pub type Addresses = List<[u8; 4]>;
@@ -19,16 +19,8 @@ pub struct Start {
     pub interval: u64,
 }
 
-// By hand: docs/DECISIONS.md says why, at "Drops by hand".
 impl Drop for Start {
     fn drop(self) {
-        let Start {
-            host: _host,
-            port: _,
-            listen: _listen,
-            beacon_port: _,
-            to: _to,
-            interval: _,
-        } = self;
+        take_apart!(self, Start: host, port, listen, beacon_port, to, interval);
     }
 }

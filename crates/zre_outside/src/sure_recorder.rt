@@ -2,7 +2,7 @@ ghost use Rattle.std.specs.Prelude.{◌≡◌, false, []};
 
 use crate::{NextFault, Recorder};
 use std::alloc::Global;
-use zre_values::Octets;
+use zre_values::{Octets, take_apart};
 
 /// A capture in memory. Its count of faults is 0, so it fails with OutOfMemory alone.
 #[derive(Debug)]
@@ -13,15 +13,9 @@ pub struct SureRecorder {
     begun: bool,
 }
 
-// By hand: docs/DECISIONS.md says why, at "Drops by hand".
 impl Drop for SureRecorder {
     fn drop(self) {
-        let SureRecorder {
-            alloc: _,
-            bytes: _bytes,
-            file: _file,
-            begun: _,
-        } = self;
+        take_apart!(self, SureRecorder: alloc, bytes, file, begun);
     }
 }
 

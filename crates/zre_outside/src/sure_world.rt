@@ -7,7 +7,7 @@ ghost use Rattle.zre_outside.specs.Scripts.{first_log, turn_of, left_after, read
 use crate::stage::Stage;
 use crate::{Act, Command, NextFault, Script, Start, Turn, World};
 use std::alloc::Global;
-use zre_values::OutOfMemory;
+use zre_values::{OutOfMemory, take_apart};
 
 /// A script as a world. It gives the entries of the script in order, stays at a look until a command is handed in, and
 /// gives End after the last item. Its count of faults is 0, so it fails with OutOfMemory alone.
@@ -15,10 +15,9 @@ pub struct SureWorld {
     stage: Stage,
 }
 
-// By hand: docs/DECISIONS.md says why, at "Drops by hand".
 impl Drop for SureWorld {
     fn drop(self) {
-        let SureWorld { stage: _stage } = self;
+        take_apart!(self, SureWorld: stage);
     }
 }
 

@@ -8,7 +8,7 @@ ghost use Rattle.zre_peer.specs.Members.{with_group};
 use indexmap::IndexSet;
 use std::alloc::Global;
 use std::marker::Model;
-use zre_values::OutOfMemory;
+use zre_values::{OutOfMemory, take_apart};
 
 /// Many groups, each once, in the order of joining. One is found by its hash, with no look at the others.
 #[derive(Debug)]
@@ -16,10 +16,9 @@ pub(crate) struct GroupTable {
     names: IndexSet<Vec<u8>>,
 }
 
-// By hand: docs/DECISIONS.md says why, at "Drops by hand".
 impl Drop for GroupTable {
     fn drop(self) {
-        let GroupTable { names: _names } = self;
+        take_apart!(self, GroupTable: names);
     }
 }
 

@@ -10,7 +10,7 @@ use crate::group_table::GroupTable;
 use std::alloc::Global;
 use std::marker::Model;
 use zre_values::limits::{GROUP_OCTETS, GROUPS};
-use zre_values::{Frames, Octets, OutOfMemory};
+use zre_values::{Frames, Octets, OutOfMemory, take_apart};
 
 /// So many groups are looked through one by one.
 const FEW: usize = 8;
@@ -23,13 +23,9 @@ pub struct Groups {
     more: GroupTable,
 }
 
-// By hand: docs/DECISIONS.md says why, at "Drops by hand".
 impl Drop for Groups {
     fn drop(self) {
-        let Groups {
-            few: _few,
-            more: _more,
-        } = self;
+        take_apart!(self, Groups: few, more);
     }
 }
 

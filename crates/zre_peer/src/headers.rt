@@ -6,7 +6,7 @@ use indexmap::IndexMap;
 use std::alloc::Global;
 use std::marker::Model;
 use zre_values::limits::HEADERS;
-use zre_values::{Octets, OutOfMemory, Pairs};
+use zre_values::{Octets, OutOfMemory, Pairs, take_apart};
 
 /// The headers of a peer in the order in which it told them, of equal names the first. One is found by the hash of its
 /// name, with no look at the others.
@@ -15,10 +15,9 @@ pub struct Headers {
     named: IndexMap<Vec<u8>, Octets>,
 }
 
-// By hand: docs/DECISIONS.md says why, at "Drops by hand".
 impl Drop for Headers {
     fn drop(self) {
-        let Headers { named: _named } = self;
+        take_apart!(self, Headers: named);
     }
 }
 

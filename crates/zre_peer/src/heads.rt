@@ -6,7 +6,7 @@ ghost use Rattle.zre_peer.specs.Heads.{heads_of};
 
 use crate::line::push_who;
 use std::alloc::Global;
-use zre_values::{Octets, OutOfMemory, PeerId};
+use zre_values::{Octets, OutOfMemory, PeerId, take_apart};
 
 /// The words of events with who the peer is after each, ready for the lines that begin with them.
 pub struct Heads {
@@ -20,15 +20,9 @@ pub struct Heads {
     pub shout: Octets,
 }
 
-// By hand: docs/DECISIONS.md says why, at "Drops by hand".
 impl Drop for Heads {
     fn drop(self) {
-        let Heads {
-            join: _join,
-            leave: _leave,
-            whisper: _whisper,
-            shout: _shout,
-        } = self;
+        take_apart!(self, Heads: join, leave, whisper, shout);
     }
 }
 

@@ -18,7 +18,7 @@ use crate::view::View;
 use std::alloc::Global;
 use thiserror::Error;
 use zre_msg::{LentMessage, Message};
-use zre_values::{Octets, OutOfMemory, PeerId};
+use zre_values::{Octets, OutOfMemory, PeerId, take_apart};
 
 /// Why a message doesn't belong to the run. The tests stand in this order.
 #[derive(Clone, Copy, Debug, PartialEq, Eq, Error)]
@@ -63,16 +63,9 @@ pub struct Run {
     ghost within: { ForSome view (λ v. is_small v ≡ true) },
 }
 
-// By hand: docs/DECISIONS.md says why, at "Drops by hand".
 impl Drop for Run {
     fn drop(self) {
-        let Run {
-            alloc: _,
-            id: _,
-            view: _view,
-            count: _,
-            spent: _,
-        } = self;
+        take_apart!(self, Run: alloc, id, view, count, spent);
     }
 }
 

@@ -16,7 +16,7 @@ use crate::peer_run::{Run, RunFault};
 use std::alloc::Global;
 use std::marker::Model;
 use zre_msg::{Body, LentMessage, Message};
-use zre_values::{Octets, OutOfMemory, PeerId};
+use zre_values::{Octets, OutOfMemory, PeerId, take_apart};
 
 /// A run that writes the lines of its events and makes no events: from its HELLO on their beginnings stand ready as
 /// texts.
@@ -28,15 +28,9 @@ pub struct Teller {
     ghost within: { IsReady run heads },
 }
 
-// By hand: docs/DECISIONS.md says why, at "Drops by hand".
 impl Drop for Teller {
     fn drop(self) {
-        let Teller {
-            alloc: _,
-            run: _run,
-            heads: _heads,
-            events: _events,
-        } = self;
+        take_apart!(self, Teller: alloc, run, heads, events);
     }
 }
 

@@ -4,7 +4,7 @@ ghost use Rattle.std.specs.Str.{bytes_eq};
 
 use crate::groups::Groups;
 use crate::headers::Headers;
-use zre_values::Octets;
+use zre_values::{Octets, take_apart};
 
 /// What a peer has told of itself by its HELLO and the messages after it.
 #[derive(Debug)]
@@ -21,16 +21,9 @@ pub struct View {
     pub status: u8,
 }
 
-// By hand: docs/DECISIONS.md says why, at "Drops by hand".
 impl Drop for View {
     fn drop(self) {
-        let View {
-            name: _name,
-            endpoint: _endpoint,
-            headers: _headers,
-            groups: _groups,
-            status: _,
-        } = self;
+        take_apart!(self, View: name, endpoint, headers, groups, status);
     }
 }
 

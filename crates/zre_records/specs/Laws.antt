@@ -4,14 +4,13 @@ use Rattle.zre_capture.specs.Heads.{AreSettings}
 use Rattle.zre_capture.specs.Journal.{capture, journal}
 use Rattle.zre_capture.specs.Lines.{IsEntry, AreShort}
 use Rattle.zre_capture.specs.declared.format.Format.TheVariants.{First, Second}
-use Rattle.zre_capture.specs.declared.settings.Settings.{Settings}
+use Rattle.zre_values.specs.declared.settings.Settings.{Settings}
 use Rattle.zre_journal.specs.Events.{events}
 use Rattle.zre_net.specs.Agreement.{IsAgreed}
 use Rattle.zre_net.specs.Reading.{lines_in, moves_of}
 use Rattle.zre_net.specs.Said.{said}
 use Rattle.zre_outside.specs.declared.entry.Entry.{Entry}
 use Rattle.zre_peer.specs.Lines.{lines}
-use Rattle.zre_commands.specs.Settings.{as_config}
 use Rattle.zre_commands.specs.pump.Meaning.{whole_text}
 use Rattle.zre_records.specs.replay.Replay.{told_replay}
 use Rattle.zre_records.specs.simulate.Simulate.{simulate, told_lines}
@@ -21,7 +20,7 @@ use Rattle.zre_records.specs.upgrade.Upgrade.{upgrade}
 -- of this journal, for the node of these settings
 pub record IsReplayed (s : Settings) (J : List Entry) (o : List ℕ) : Type 0 where
   pub is_good : told_replay.is_bad o ≡ false
-  pub is_written : whole_text told_replay o ≡ lines (events (as_config s) J)
+  pub is_written : whole_text told_replay o ≡ lines (events s J)
 
 -- so is a capture of format 2, where its entries hold values of their types and no line is too long
 abbrev pub CapturesAreReplayed : Type 0

@@ -4,7 +4,7 @@ use crate::text::Text;
 use crate::trouble::Trouble;
 use std::alloc::Global;
 use zre_capture::split_once;
-use zre_values::{Octets, Pairs};
+use zre_values::{Octets, Pairs, take_apart};
 
 /// The texts that names stand for, and the count of a repetition: `{n}` in decimal digits, `{d}` in four of them at
 /// least, `{a}` the octets of these digits in hexadecimal, and `{x}` modulo 65,536 in four hexadecimal digits.
@@ -14,14 +14,9 @@ pub struct Names {
     pub count: u64,
 }
 
-// By hand: docs/DECISIONS.md says why, at "Drops by hand".
 impl Drop for Names {
     fn drop(self) {
-        let Names {
-            alloc: _,
-            texts: _texts,
-            count: _,
-        } = self;
+        take_apart!(self, Names: alloc, texts, count);
     }
 }
 

@@ -3,6 +3,7 @@
 
 use crate::text::Text;
 use std::alloc::Global;
+use zre_values::take_apart;
 
 /// A line of a case file.
 #[derive(Clone, Copy)]
@@ -19,14 +20,9 @@ pub struct Report {
     failed: u64,
 }
 
-// By hand: docs/DECISIONS.md says why, at "Drops by hand".
 impl Drop for Report {
     fn drop(self) {
-        let Report {
-            text: _text,
-            rows: _,
-            failed: _,
-        } = self;
+        take_apart!(self, Report: text, rows, failed);
     }
 }
 

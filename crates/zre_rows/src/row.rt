@@ -3,6 +3,7 @@
 use crate::text::Text;
 use crate::trouble::Trouble;
 use std::alloc::Global;
+use zre_values::take_apart;
 
 /// A row: its title, the step that was done last with what it answered and what it is to answer, and how many lines
 /// are to be answered so far.
@@ -17,18 +18,9 @@ pub struct Row {
     pub has_failed: bool,
 }
 
-// By hand: docs/DECISIONS.md says why, at "Drops by hand".
 impl Drop for Row {
     fn drop(self) {
-        let Row {
-            is_row: _,
-            title: _title,
-            line: _,
-            answer: _answer,
-            due: _due,
-            answers: _,
-            has_failed: _,
-        } = self;
+        take_apart!(self, Row: is_row, title, line, answer, due, answers, has_failed);
     }
 }
 

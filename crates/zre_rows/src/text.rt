@@ -8,7 +8,7 @@ use zre_outside::Entry;
 use zre_peer::{Event, push_lines};
 use zre_values::{
     Frames, Octets, OutOfMemory, Pairs, PeerId, push_address, push_decimal, push_quoted,
-    push_quoted_frames, push_quoted_pairs,
+    push_quoted_frames, push_quoted_pairs, take_apart,
 };
 
 /// A text that keeps its first fault: what can't be written is left out, and whoever reads the text asks for its
@@ -18,13 +18,9 @@ pub struct Text {
     fault: Option<Trouble>,
 }
 
-// By hand: docs/DECISIONS.md says why, at "Drops by hand".
 impl Drop for Text {
     fn drop(self) {
-        let Text {
-            octets: _octets,
-            fault: _fault,
-        } = self;
+        take_apart!(self, Text: octets, fault);
     }
 }
 

@@ -16,7 +16,7 @@ use std::alloc::Global;
 use std::collections::BTreeMap;
 use std::marker::Model;
 use thiserror::Error;
-use zre_values::{Octets, OutOfMemory, PeerId};
+use zre_values::{Octets, OutOfMemory, PeerId, take_apart};
 
 /// What a member holds of the shared table: for each key the greatest of the writes that it took and made. It holds as
 /// many keys as come.
@@ -27,15 +27,9 @@ pub struct Replica {
     alloc: Global,
 }
 
-// By hand: docs/DECISIONS.md says why, at "Drops by hand".
 impl Drop for Replica {
     fn drop(self) {
-        let Replica {
-            writes: _writes,
-            greatest: _,
-            id: _,
-            alloc: _,
-        } = self;
+        take_apart!(self, Replica: writes, greatest, id, alloc);
     }
 }
 

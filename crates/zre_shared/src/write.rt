@@ -8,7 +8,7 @@ ghost use Rattle.zre_shared.specs.Writes.{head_text, IsWrite, write_text, write_
 
 use crate::reading::{Fields, said_by};
 use std::alloc::Global;
-use zre_values::{Octets, OutOfMemory, PeerId, push_decimal, push_quoted};
+use zre_values::{Octets, OutOfMemory, PeerId, push_decimal, push_quoted, take_apart};
 
 /// The most octets of a key.
 pub const KEY_OCTETS: usize = 255;
@@ -29,15 +29,9 @@ pub struct Write {
     pub value: Octets,
 }
 
-// By hand: docs/DECISIONS.md says why, at "Drops by hand".
 impl Drop for Write {
     fn drop(self) {
-        let Write {
-            key: _key,
-            count: _,
-            id: _,
-            value: _value,
-        } = self;
+        take_apart!(self, Write: key, count, id, value);
     }
 }
 

@@ -5,7 +5,7 @@ ghost use Rattle.zre_mailbox.specs.Conn.{conn_after};
 
 use std::alloc::Global;
 use zre_mailbox::Conn;
-use zre_values::PeerId;
+use zre_values::{PeerId, take_apart};
 
 /// An open connection, by its number.
 pub struct Connection {
@@ -19,15 +19,9 @@ pub struct Connection {
     pub conn: Option<Conn>,
 }
 
-// By hand: docs/DECISIONS.md says why, at "Drops by hand".
 impl Drop for Connection {
     fn drop(self) {
-        let Connection {
-            since: _,
-            identity: _identity,
-            run: _,
-            conn: _conn,
-        } = self;
+        take_apart!(self, Connection: since, identity, run, conn);
     }
 }
 

@@ -5,7 +5,7 @@ ghost use Rattle.zre_tables.specs.Views.{view_of_row};
 
 use zre_link::Link;
 use zre_peer::{Run, View};
-use zre_values::PeerId;
+use zre_values::{PeerId, take_apart};
 
 /// The run of an entered peer, and the connection that carries it.
 pub struct Running {
@@ -15,10 +15,9 @@ pub struct Running {
     pub run: Run,
 }
 
-// By hand: docs/DECISIONS.md says why, at "Drops by hand".
 impl Drop for Running {
     fn drop(self) {
-        let Running { conn: _, run: _run } = self;
+        take_apart!(self, Running: conn, run);
     }
 }
 
@@ -34,15 +33,9 @@ pub struct Peer {
     pub link: Link,
 }
 
-// By hand: docs/DECISIONS.md says why, at "Drops by hand".
 impl Drop for Peer {
     fn drop(self) {
-        let Peer {
-            id: _,
-            active: _,
-            run: _run,
-            link: _link,
-        } = self;
+        take_apart!(self, Peer: id, active, run, link);
     }
 }
 

@@ -7,7 +7,7 @@ mod turns;
 use std::alloc::Global;
 use zre_fabric::RealWorld;
 use zre_outside::{Act, Addresses, Input, Start, Turn, World};
-use zre_values::{Endpoint, Octets, OutOfMemory};
+use zre_values::{Endpoint, Octets, OutOfMemory, take_apart};
 
 const MAILBOX_PORT: u16 = 29170;
 
@@ -113,14 +113,9 @@ struct Watched {
     missed: &'static str,
 }
 
-// By hand: docs/DECISIONS.md says why, at "Drops by hand".
 impl Drop for Watched {
     fn drop(self) {
-        let Watched {
-            alloc: _,
-            world: _world,
-            missed: _missed,
-        } = self;
+        take_apart!(self, Watched: alloc, world, missed);
     }
 }
 

@@ -4,7 +4,7 @@ ghost use Rattle.std.specs.List.{list_any};
 ghost use Rattle.std.specs.Str.{bytes_eq};
 ghost use Rattle.zre_values.specs.Lists.{without};
 
-use crate::{Octets, OutOfMemory};
+use crate::{Octets, OutOfMemory, take_apart};
 use smallvec::SmallVec;
 use std::alloc::Global;
 use std::marker::Model;
@@ -16,10 +16,9 @@ pub struct Frames {
     items: SmallVec<Octets, 2>,
 }
 
-// By hand: docs/DECISIONS.md says why, at "Drops by hand".
 impl Drop for Frames {
     fn drop(self) {
-        let Frames { items: _items } = self;
+        take_apart!(self, Frames: items);
     }
 }
 

@@ -2,7 +2,7 @@ ghost use Rattle.std.specs.Prelude.{◌≡◌, ◌<◌, ℕ, List, [], ◌∷◌
 ghost use Rattle.std.specs.List.{list_any};
 ghost use Rattle.std.specs.Str.{bytes_eq};
 
-use crate::{Octets, OutOfMemory};
+use crate::{Octets, OutOfMemory, take_apart};
 use std::alloc::Global;
 use std::marker::Model;
 
@@ -12,10 +12,9 @@ pub struct Pairs {
     items: Vec<(Octets, Octets)>,
 }
 
-// By hand: docs/DECISIONS.md says why, at "Drops by hand".
 impl Drop for Pairs {
     fn drop(self) {
-        let Pairs { items: _items } = self;
+        take_apart!(self, Pairs: items);
     }
 }
 

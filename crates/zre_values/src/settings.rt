@@ -1,12 +1,13 @@
-//! What is required of the settings of a node, whoever keeps them.
+//! The settings of a node, and what is required of them.
 
-ghost use Rattle.std.specs.Prelude.{◌≡◌, ◌&&◌, nat_le, length};
+ghost use Rattle.std.specs.Prelude.{◌≡◌, ◌&&◌, nat_le, length, IfOk};
 ghost use Rattle.std.specs.List.{list_all, list_any};
 ghost use Rattle.std.specs.Str.{bytes_eq};
-ghost use Rattle.zre_values.specs.Settings.{are_apart, is_fitting, are_settings};
+ghost use Rattle.zre_values.specs.Settings.{are_apart, is_fitting, is_valid};
 
 use crate::limits::HEADERS;
-use crate::{Octets, Pairs};
+use crate::{Octets, OutOfMemory, Pairs, PeerId, take_apart};
+use std::alloc::Global;
 
 /// The most octets of the node's name, and of the name of one of its headers.
 pub const NAME_OCTETS: usize = 255;
@@ -55,12 +56,62 @@ fn are_small(name: &[u8], headers: &Pairs) -> bool
         && are_apart(headers.as_slice())
 }
 
-/// Whether a node can be with this name, these headers, this port of its mailbox, and these times in milliseconds of
-/// silence after which a peer is evasive and has expired: the name has at most 255 octets, the headers are at most 256,
-/// of distinct names of at most 255 octets and values of at most 1,024; the port isn't 0; and the times stand in order,
-/// from 1 ms up to a day.
-pub fn are_settings(name: &[u8], headers: &Pairs, port: u16, evasive: u64, expired: u64) -> bool
-    ensures { result ≡ are_settings name.now headers.now port evasive expired }
-{
-    are_small(name, headers) && port > 0 && evasive >= 1 && evasive <= expired && expired <= DAY
+/// Who a node is, and how long it waits for the others.
+#[derive(Debug)]
+pub struct Settings {
+    /// The identity by which other nodes know it.
+    pub id: PeerId,
+    /// The name that its HELLO gives, of at most 255 octets.
+    pub name: Octets,
+    /// The headers that its HELLO gives, of distinct names.
+    pub headers: Pairs,
+    /// Where its mailbox is.
+    pub host: [u8; 4],
+    /// The TCP port of its mailbox, which isn't 0.
+    pub port: u16,
+    /// Milliseconds of silence after which a peer is evasive.
+    pub evasive: u64,
+    /// Milliseconds of silence after which it has expired.
+    pub expired: u64,
+}
+
+impl Drop for Settings {
+    fn drop(self) {
+        take_apart!(self, Settings: id, name, headers, host, port, evasive, expired);
+    }
+}
+
+impl Settings {
+    /// The same settings once more.
+    pub fn copy(alloc: Global, other: &Settings) -> Result<Settings, OutOfMemory>
+        ensures { IfOk result (λ settings. settings ≡ other.now) }
+    {
+        let name = Octets::copy(alloc, other.name.as_slice())?;
+        let Ok(headers) = Pairs::copy(alloc, &other.headers) else {
+            drop(name);
+            return Err(OutOfMemory);
+        };
+        Ok(Settings {
+            id: other.id,
+            name,
+            headers,
+            host: other.host,
+            port: other.port,
+            evasive: other.evasive,
+            expired: other.expired,
+        })
+    }
+
+    /// Whether a node can be with these settings: the name has at most 255 octets, the headers are at most 256, of
+    /// distinct names of at most 255 octets and values of at most 1,024; the port isn't 0; and the times stand in
+    /// order, from 1 ms up to a day.
+    pub fn valid(&self) -> bool
+        ensures { result ≡ is_valid self.now }
+    {
+        are_small(self.name.as_slice(), &self.headers)
+            && self.port > 0
+            && self.evasive >= 1
+            && self.evasive <= self.expired
+            && self.expired <= DAY
+    }
 }

@@ -3,7 +3,7 @@
 ghost use Rattle.std.specs.Prelude.{◌≡◌, [], ◌∷◌, ◌++◌, OnOk};
 
 use std::alloc::Global;
-use zre_values::{Frames, List, Octets, OutOfMemory};
+use zre_values::{Frames, List, Octets, OutOfMemory, take_apart};
 
 /// What is whole, from the place of its first octet to the place after its last. Places count the octets of the
 /// stream before them.
@@ -17,14 +17,9 @@ pub struct Item {
     pub what: What,
 }
 
-// By hand: docs/DECISIONS.md says why, at "Drops by hand".
 impl Drop for Item {
     fn drop(self) {
-        let Item {
-            start: _,
-            end: _,
-            what: _what,
-        } = self;
+        take_apart!(self, Item: start, end, what);
     }
 }
 

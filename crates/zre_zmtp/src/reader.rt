@@ -21,7 +21,7 @@ use crate::want::Want;
 use std::alloc::Global;
 use std::marker::{Brand, Model};
 use std::sync::ledger::{Blank, Ledger};
-use zre_values::Frames;
+use zre_values::{Frames, take_apart};
 
 // Reads octets turn by turn. Each is looked at once.
 fn read<L: Ledger>(
@@ -52,14 +52,9 @@ pub struct Reader {
     spent: bool,
 }
 
-// By hand: docs/DECISIONS.md says why, at "Drops by hand".
 impl Drop for Reader {
     fn drop(self) {
-        let Reader {
-            want: _want,
-            progress: _progress,
-            spent: _,
-        } = self;
+        take_apart!(self, Reader: want, progress, spent);
     }
 }
 

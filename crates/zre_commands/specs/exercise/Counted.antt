@@ -1,6 +1,6 @@
 -- A node that went through a journal, with what was counted.
 use Rattle.std.specs.Prelude.{◌≡◌, List, length}
-use Rattle.zre_journal.specs.declared.config.Config.{Config}
+use Rattle.zre_values.specs.declared.settings.Settings.{Settings as Config}
 use Rattle.zre_journal.specs.Events.{events}
 use Rattle.zre_node.specs.declared.node.Node.{Node}
 use Rattle.zre_node.specs.Journal.{StandsFor}

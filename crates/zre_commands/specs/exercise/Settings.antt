@@ -1,6 +1,6 @@
 -- The node of the exercise.
 use Rattle.std.specs.Prelude.{[], ◌∷◌, replicate, codes}
-use Rattle.zre_journal.specs.declared.config.Config.{Config}
+use Rattle.zre_values.specs.declared.settings.Settings.{Settings as Config}
 
 -- its settings: an id of sixteen octets ff, and the times that nodes have where nothing else is said
 abbrev pub settings : Config

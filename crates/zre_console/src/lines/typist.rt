@@ -13,7 +13,7 @@ use std::alloc::Global;
 use std::marker::Model;
 use zre_capture::split_once;
 use zre_outside::Command;
-use zre_values::{Octets, OutOfMemory};
+use zre_values::{Octets, OutOfMemory, take_apart};
 
 /// What makes commands of the octets that a user types, in any pieces. It keeps at most the octets of one line.
 pub struct Typist {
@@ -23,15 +23,9 @@ pub struct Typist {
     long: bool,
 }
 
-// By hand: docs/DECISIONS.md says why, at "Drops by hand".
 impl Drop for Typist {
     fn drop(self) {
-        let Typist {
-            alloc: _,
-            line: _,
-            left: _left,
-            long: _,
-        } = self;
+        take_apart!(self, Typist: alloc, line, left, long);
     }
 }
 

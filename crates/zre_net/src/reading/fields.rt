@@ -7,10 +7,9 @@ ghost use Rattle.zre_net.specs.Fields.{node_and_number, number_and_node, three_n
 
 use crate::limits::{NAME_OCTETS, NODES};
 use crate::moves::Part;
-use crate::word::is;
 use std::alloc::Global;
 use zre_capture::{address, first_field, group, number, one_number, two_fields, two_numbers};
-use zre_values::{Octets, OutOfMemory};
+use zre_values::{Octets, OutOfMemory, is_word};
 
 /// The first field, and the text of those after it, of which there is one at least.
 pub(crate) fn cut(text: &[u8]) -> Option<(&[u8], &[u8])>
@@ -151,9 +150,9 @@ pub(crate) fn name(alloc: Global, field: &[u8]) -> Result<Option<Octets>, OutOfM
 pub(crate) fn part(field: &[u8]) -> Option<Part>
     ensures { result ≡ part_of field.now }
 {
-    if is(field, b"greeting") {
+    if is_word(field, b"greeting") {
         Some(Part::Greeting)
-    } else if is(field, b"ready") {
+    } else if is_word(field, b"ready") {
         Some(Part::Ready)
     } else {
         number(field).map(|number| Part::Message { number })

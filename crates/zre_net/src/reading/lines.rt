@@ -7,10 +7,9 @@ ghost use Rattle.zre_net.specs.Reading.{says, is_line, bad_line, lines_in, moves
 use crate::limits::{LINES, OCTETS};
 use crate::moves::{Move, Moves};
 use crate::reading::line::read_move;
-use crate::word::is;
 use std::alloc::Global;
 use zre_capture::{LINE_OCTETS, split_once};
-use zre_values::OutOfMemory;
+use zre_values::{OutOfMemory, is_word};
 
 // Whether a line, by its number, is the head or says a move.
 #[tactic(auto, unfolding(crate::specs::Reading::says))]
@@ -18,7 +17,7 @@ fn says(alloc: Global, n: u64, line: &[u8]) -> Result<bool, OutOfMemory>
     ensures { IfOk result (λ is. is ≡ says n line.now) }
 {
     if n == 1 {
-        Ok(is(line, b"zre-schedule 1"))
+        Ok(is_word(line, b"zre-schedule 1"))
     } else {
         let read = read_move(alloc, line)?;
         let is = read.is_some();

@@ -7,7 +7,7 @@ ghost use Rattle.zre_mailbox.specs.Talk.{completed};
 
 use std::alloc::Global;
 use zre_mailbox::{Arrivals, Conn};
-use zre_values::{OutOfMemory, PeerId};
+use zre_values::{OutOfMemory, PeerId, take_apart};
 use zre_zmtp::FeedFault;
 
 /// The octets of a connection so far.
@@ -16,13 +16,9 @@ pub(crate) struct Ear {
     conn: Conn,
 }
 
-// By hand: docs/DECISIONS.md says why, at "Drops by hand".
 impl Drop for Ear {
     fn drop(self) {
-        let Ear {
-            alloc: _,
-            conn: _conn,
-        } = self;
+        take_apart!(self, Ear: alloc, conn);
     }
 }
 

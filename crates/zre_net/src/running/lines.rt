@@ -9,7 +9,7 @@ use bytes::Bytes;
 use std::alloc::Global;
 use std::marker::Model;
 use zre_link::Queue;
-use zre_values::{List, OutOfMemory};
+use zre_values::{List, OutOfMemory, take_apart};
 
 /// A link: the messages that were put on it, as they are spelled, and how many octets waited after the last entry.
 pub(crate) struct Line {
@@ -17,13 +17,9 @@ pub(crate) struct Line {
     pub waited: usize,
 }
 
-// By hand: docs/DECISIONS.md says why, at "Drops by hand".
 impl Drop for Line {
     fn drop(self) {
-        let Line {
-            messages: _messages,
-            waited: _,
-        } = self;
+        take_apart!(self, Line: messages, waited);
     }
 }
 
@@ -35,14 +31,9 @@ pub(crate) struct Lines {
     first: Bytes,
 }
 
-// By hand: docs/DECISIONS.md says why, at "Drops by hand".
 impl Drop for Lines {
     fn drop(self) {
-        let Lines {
-            rows: _rows,
-            octets: _,
-            first: _first,
-        } = self;
+        take_apart!(self, Lines: rows, octets, first);
     }
 }
 

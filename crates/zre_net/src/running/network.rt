@@ -10,7 +10,7 @@ use crate::running::nth::nth;
 use crate::running::rows::{Carrier, Owner, Sent, Started, Way};
 use crate::running::said::Said;
 use std::alloc::Global;
-use zre_values::{List, OutOfMemory, PeerId};
+use zre_values::{List, OutOfMemory, PeerId, take_apart};
 
 /// All that has come about so far.
 pub(crate) struct Network {
@@ -31,21 +31,10 @@ pub(crate) struct Network {
     pub pending: u64,
 }
 
-// By hand: docs/DECISIONS.md says why, at "Drops by hand".
 impl Drop for Network {
     fn drop(self) {
-        let Network {
-            alloc: _,
-            said: _said,
-            started: _started,
-            running: _running,
-            owners: _owners,
-            beacons: _beacons,
-            links: _links,
-            conns: _conns,
-            queued: _,
-            pending: _,
-        } = self;
+        take_apart!(self, Network:
+            alloc, said, started, running, owners, beacons, links, conns, queued, pending);
     }
 }
 

@@ -3,7 +3,7 @@
 use crate::running::ear::Ear;
 use crate::running::sender::Sender;
 use crate::running::waiting::Waiting;
-use zre_values::PeerId;
+use zre_values::{PeerId, take_apart};
 
 /// A node from one start on.
 pub(crate) struct Started {
@@ -14,16 +14,9 @@ pub(crate) struct Started {
     pub sender: Sender,
 }
 
-// By hand: docs/DECISIONS.md says why, at "Drops by hand".
 impl Drop for Started {
     fn drop(self) {
-        let Started {
-            node: _,
-            since: _,
-            id: _,
-            host: _,
-            sender: _sender,
-        } = self;
+        take_apart!(self, Started: node, since, id, host, sender);
     }
 }
 
@@ -49,15 +42,9 @@ pub(crate) struct Carrier {
     pub ear: Ear,
 }
 
-// By hand: docs/DECISIONS.md says why, at "Drops by hand".
 impl Drop for Carrier {
     fn drop(self) {
-        let Carrier {
-            to: _,
-            along: _,
-            waiting: _waiting,
-            ear: _ear,
-        } = self;
+        take_apart!(self, Carrier: to, along, waiting, ear);
     }
 }
 

@@ -4,7 +4,7 @@ ghost use Rattle.std.specs.Prelude.{◌≡◌, ◌++◌, ◌∷◌, [], List, le
 ghost use Rattle.zre_outside.specs.declared.entry.Entry.{Entry as EntryValue};
 ghost use Rattle.zre_zmtp.specs.Laws.{handshake as handshake_of};
 ghost use Rattle.zre_zmtp.specs.declared.writing.SocketType.TheVariants.{Dealer};
-ghost use Rattle.zre_journal.specs.declared.config.Config.{Config};
+ghost use Rattle.zre_values.specs.declared.settings.Settings.{Settings as Config};
 ghost use Rattle.zre_journal.specs.Events.{chronicle};
 ghost use Rattle.zre_journal.specs.Chronicle.{Comes};
 ghost use Rattle.zre_node.specs.Journal.{StandsFor};
@@ -16,7 +16,7 @@ use crate::running::lines::Lines;
 use std::alloc::Global;
 use zre_node::{Node, Step};
 use zre_outside::{Act, Entry};
-use zre_values::OutOfMemory;
+use zre_values::{OutOfMemory, take_apart};
 
 /// A node until it crashes, with all messages that it has put on its links, those of peers that are gone too.
 pub(crate) struct Sender {
@@ -27,15 +27,9 @@ pub(crate) struct Sender {
     pub lines: Lines,
 }
 
-// By hand: docs/DECISIONS.md says why, at "Drops by hand".
 impl Drop for Sender {
     fn drop(self) {
-        let Sender {
-            alloc: _,
-            handshake: _,
-            node: _node,
-            lines: _lines,
-        } = self;
+        take_apart!(self, Sender: alloc, handshake, node, lines);
     }
 }
 

@@ -6,7 +6,7 @@ use bytes::Bytes;
 use std::alloc::Global;
 use std::collections::VecDeque;
 use std::marker::Model;
-use zre_values::OutOfMemory;
+use zre_values::{OutOfMemory, take_apart};
 
 /// Octets that wait: the rest of one part, and the parts after it. Parts are shared with those who hold the same.
 pub(crate) struct Waiting {
@@ -15,14 +15,9 @@ pub(crate) struct Waiting {
     count: u64,
 }
 
-// By hand: docs/DECISIONS.md says why, at "Drops by hand".
 impl Drop for Waiting {
     fn drop(self) {
-        let Waiting {
-            front: _front,
-            parts: _parts,
-            count: _,
-        } = self;
+        take_apart!(self, Waiting: front, parts, count);
     }
 }
 

@@ -6,7 +6,7 @@ ghost use Rattle.zre_mailbox.specs.declared.arrival.Arrival.TheVariants as arriv
 ghost use Rattle.zre_mailbox.specs.Talk.{Arrived, Fault, fault_said, arrival_of, arrivals_in};
 ghost use Rattle.zre_outside.specs.declared.entry.Entry.{Entry as EntryValue};
 ghost use Rattle.zre_outside.specs.declared.entry.Input.TheVariants as input;
-ghost use Rattle.zre_journal.specs.declared.config.Config.{Config};
+ghost use Rattle.zre_values.specs.declared.settings.Settings.{Settings as Config};
 ghost use Rattle.zre_journal.specs.Chronicle.{Mark, Comes, Shakes, Greets, AnswersPing, in_turn};
 ghost use Rattle.zre_journal.specs.Heard.{newly_completed};
 ghost use Rattle.zre_journal.specs.Connections.{is_live, is_open, identity, runs, other_with as other_in};

@@ -2,7 +2,7 @@
 
 ghost use Rattle.std.specs.Prelude.{◌≡◌, List, ◌∷◌, [], ◌++◌, true, false, None, OnOk, IfSome, MatchOption, map};
 ghost use Rattle.std.specs.Option.{option_map};
-ghost use Rattle.zre_journal.specs.declared.config.Config.{Config};
+ghost use Rattle.zre_values.specs.declared.settings.Settings.{Settings as Config};
 ghost use Rattle.zre_journal.specs.Chronicle.{Mark, Closes, ClosesAtStop};
 ghost use Rattle.zre_journal.specs.Connections.{is_open, runs};
 ghost use Rattle.zre_journal.specs.Arrivals.{at_opened, at_shut, end_of_run};

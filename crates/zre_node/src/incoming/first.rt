@@ -9,7 +9,7 @@ ghost use Rattle.zre_msg.specs.declared.message.Message.{Message as MessageValue
 ghost use Rattle.zre_values.specs.Endpoint.{endpoint_in};
 ghost use Rattle.zre_peer.specs.Views.{view_of};
 ghost use Rattle.zre_peer.specs.Standing.{Stands, id_of};
-ghost use Rattle.zre_journal.specs.declared.config.Config.{Config};
+ghost use Rattle.zre_values.specs.declared.settings.Settings.{Settings as Config};
 ghost use Rattle.zre_journal.specs.Chronicle.{Mark, Starts, Ignores};
 ghost use Rattle.zre_journal.specs.Connections.{is_live, is_open, identity, runs};
 ghost use Rattle.zre_journal.specs.Peers.{Life, life};

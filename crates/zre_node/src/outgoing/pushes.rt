@@ -1,7 +1,7 @@
 //! Messages are put on links.
 
 ghost use Rattle.std.specs.Prelude.{◌≡◌, List, ◌∷◌, [], OnOk, IsSome};
-ghost use Rattle.zre_journal.specs.declared.config.Config.{Config};
+ghost use Rattle.zre_values.specs.declared.settings.Settings.{Settings as Config};
 ghost use Rattle.zre_journal.specs.Chronicle.{Mark};
 ghost use Rattle.zre_journal.specs.Peers.{life};
 ghost use Rattle.zre_journal.specs.Pushes.{push as pushing};

@@ -1,7 +1,7 @@
 //! Peers are born, and their beacons are heard.
 
 ghost use Rattle.std.specs.Prelude.{◌≡◌, List, ℕ, ◌∷◌, [], OnOk, IfOk, IsSome, false, length};
-ghost use Rattle.zre_journal.specs.declared.config.Config.{Config};
+ghost use Rattle.zre_values.specs.declared.settings.Settings.{Settings as Config};
 ghost use Rattle.zre_journal.specs.Chronicle.{Mark, Ends, HearsBeacon};
 ghost use Rattle.zre_journal.specs.Peers.{life};
 ghost use Rattle.zre_journal.specs.Pushes.{hello, birth};

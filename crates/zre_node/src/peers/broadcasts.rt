@@ -1,7 +1,7 @@
 //! What several peers are sent.
 
 ghost use Rattle.std.specs.Prelude.{◌≡◌, List, OnOk};
-ghost use Rattle.zre_journal.specs.declared.config.Config.{Config};
+ghost use Rattle.zre_values.specs.declared.settings.Settings.{Settings as Config};
 ghost use Rattle.zre_journal.specs.Chronicle.{Mark, in_turn};
 ghost use Rattle.zre_journal.specs.Peers.{lives};
 ghost use Rattle.zre_journal.specs.Pushes.{push as pushing, push_all as pushing_all};

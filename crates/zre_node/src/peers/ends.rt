@@ -1,7 +1,7 @@
 //! Peers end.
 
 ghost use Rattle.std.specs.Prelude.{◌≡◌, List, ℕ, ◌∷◌, [], None, OnOk, IsSome, Some, map};
-ghost use Rattle.zre_journal.specs.declared.config.Config.{Config};
+ghost use Rattle.zre_values.specs.declared.settings.Settings.{Settings as Config};
 ghost use Rattle.zre_journal.specs.Chronicle.{Mark, Ends};
 ghost use Rattle.zre_journal.specs.Peers.{life};
 ghost use Rattle.zre_node.specs.Stands.{Holds, Nearly, Parted, Did, AreKnown};

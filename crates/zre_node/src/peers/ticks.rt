@@ -4,7 +4,7 @@ ghost use Rattle.std.specs.Prelude.{◌≡◌, ℕ, List, ◌∷◌, [], OnOk, m
 ghost use Rattle.zre_outside.specs.declared.entry.Entry.{Entry as EntryValue};
 ghost use Rattle.zre_outside.specs.declared.entry.Input.TheVariants as given;
 ghost use Rattle.zre_peer.specs.declared.causes.CloseWhy.TheVariants as closing;
-ghost use Rattle.zre_journal.specs.declared.config.Config.{Config};
+ghost use Rattle.zre_values.specs.declared.settings.Settings.{Settings as Config};
 ghost use Rattle.zre_journal.specs.Chronicle.{Mark, SendsBeacon, Closes, in_turn};
 ghost use Rattle.zre_journal.specs.Ticks.{at_tick};
 ghost use Rattle.zre_node.specs.Journal.{Took};

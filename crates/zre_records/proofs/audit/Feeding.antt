@@ -7,7 +7,7 @@ use Rattle.zre_values.proofs.Answered.{on_ok}
 use Rattle.zre_audit.specs.declared.watch.Watch.{Watch}
 use Rattle.zre_capture.specs.Journal.{settings, bad}
 use Rattle.zre_capture.specs.declared.format.Format.TheVariants.{Second}
-use Rattle.zre_capture.specs.declared.settings.Settings.{Settings}
+use Rattle.zre_values.specs.declared.settings.Settings.{Settings}
 use Rattle.zre_records.specs.audit.Audit.{later_bad, audit}
 use Rattle.zre_records.specs.audit.Auditor.{unseen, HasBegun, Fed}
 use Rattle.zre_records.specs.audit.Cut.{mark}

@@ -5,10 +5,8 @@ use Rattle.zre_audit.specs.Lines.{line}
 use Rattle.zre_audit.specs.Watching.{Watches}
 use Rattle.zre_audit.specs.declared.verdicts.Verdict.{Verdict}
 use Rattle.zre_audit.specs.declared.watch.Watch.{Watch}
-use Rattle.zre_capture.specs.declared.settings.Settings.{Settings}
-use Rattle.zre_journal.specs.declared.config.Config.{Config}
+use Rattle.zre_values.specs.declared.settings.Settings.{Settings}
 use Rattle.zre_outside.specs.declared.entry.Entry.{Entry}
-use Rattle.zre_commands.specs.Settings.{as_config}
 use Rattle.zre_records.specs.audit.Audit.{judgement}
 use Rattle.zre_records.specs.audit.Watched.{IsWatched}
 
@@ -26,10 +24,10 @@ second_none (Some s) (Some t) J K (Some w) out e k = absurd cc
 
 -- the line of the verdict where both are there
 pub both : (s t : Option Settings) (J K : List Entry) (v w : Option Watch) (a b : Watch) (x : Verdict) (out out' : List ℕ) → v ≡ Some a → w ≡ Some b → IsWatched s J v → IsWatched t K w
-    → ((g k : Config) (M N : List Entry) → Watches g M a → Watches k N b → x ≡ judged g k M N) → out' ≡ out ++ line x → out' ≡ out ++ judgement s t J K
+    → ((g k : Settings) (M N : List Entry) → Watches g M a → Watches k N b → x ≡ judged g k M N) → out' ≡ out ++ line x → out' ≡ out ++ judgement s t J K
 both s t J K v w a b x out out' e f k l h is = by s t (subst (λ (n : Option Watch). IsWatched s J n) e k) (subst (λ (n : Option Watch). IsWatched t K n) f l)
   where
     by : (p q : Option Settings) → IsWatched p J (Some a) → IsWatched q K (Some b) → out' ≡ out ++ judgement p q J K
     by None q k l = absurd k
     by (Some p) None k l = absurd l
-    by (Some p) (Some q) k l = is ∙ ap (λ (y : Verdict). out ++ line y) (h (as_config p) (as_config q) J K k l)
+    by (Some p) (Some q) k l = is ∙ ap (λ (y : Verdict). out ++ line y) (h p q J K k l)

@@ -5,7 +5,7 @@ use Rattle.std.specs.Option.{option_or}
 use Rattle.zre_capture.specs.Journal.{journal, settings, bad, bad_at_end}
 use Rattle.zre_capture.specs.declared.fault.BadCapture.{BadCapture}
 use Rattle.zre_capture.specs.declared.format.Format.TheVariants.{Second}
-use Rattle.zre_capture.specs.declared.settings.Settings.{Settings}
+use Rattle.zre_values.specs.declared.settings.Settings.{Settings}
 use Rattle.zre_outside.specs.declared.entry.Entry.{Entry}
 use Rattle.zre_records.specs.audit.Audit.{earlier, later, is_again, later_bad, later_bad_at_end, moved, place, judgement, verdict, audit}
 use Rattle.zre_records.specs.audit.Cut.{mark, lines_of}

@@ -2,7 +2,7 @@
 use Rattle.std.proofs.Common.{◌≡◌, ◌⊎◌, inl, inr, ℕ, zero, suc, ◌+◌, ◌-◌, ◌≤◌, false, nat_eq, ◌&&◌, eqb, List, [], ◌∷◌, ◌++◌, length, min, take, take_all, Option, Some, None, refl, sym, ap, ◌∙◌, subst, arith}
 use Rattle.std.proofs.lemmas.Bool.{cases_lt}
 use Rattle.zre_audit.specs.Prefixes.{begins}
-use Rattle.zre_capture.specs.declared.settings.Settings.{Settings}
+use Rattle.zre_values.specs.declared.settings.Settings.{Settings}
 use Rattle.zre_records.specs.audit.Again.{Sees, IsSeen}
 use Rattle.zre_records.specs.audit.Audit.{own_front, is_again}
 use Rattle.zre_records.specs.declared.audit.again.Again.{Again}

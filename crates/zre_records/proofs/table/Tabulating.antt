@@ -3,14 +3,13 @@ use Rattle.std.proofs.Common.{◌≡◌, ℕ, Option, Some, None, List, [], ◌+
 use Rattle.std.specs.Option.{option_map_or}
 use Rattle.zre_capture.specs.Journal.{journal, settings}
 use Rattle.zre_capture.specs.declared.format.Format.TheVariants.{Second}
-use Rattle.zre_capture.specs.declared.settings.Settings.{Settings}
+use Rattle.zre_values.specs.declared.settings.Settings.{Settings}
 use Rattle.zre_node.specs.Journal.{StandsFor}
 use Rattle.zre_node.specs.declared.node.Node.{Node}
 use Rattle.zre_outside.specs.declared.entry.Entry.{Entry}
 use Rattle.zre_shared.specs.Lines.{lines}
 use Rattle.zre_shared.specs.Replicas.{Held}
 use Rattle.zre_shared.specs.Tables.{table as table_of}
-use Rattle.zre_commands.specs.Settings.{as_config}
 use Rattle.zre_records.specs.declared.replay.headed.Headed.{Headed}
 use Rattle.zre_records.specs.declared.table.tabulator.Tabulator.{Tabulator}
 use Rattle.zre_commands.specs.pump.Meaning.{Grows}
@@ -31,18 +30,18 @@ pub nothing_kept : (h : Held) → h.writes ≡ [] → Keeps [] h
 unfolding table_of
 nothing_kept h e = e
 
-living : (group : List ℕ) (J : List Entry) (s : Settings) (m : Option Node) (h : Held) → Lives (Some s) J m → Keeps (frames (as_config s) group J) h → GatheredIfAny (Some s) group J m h
+living : (group : List ℕ) (J : List Entry) (s : Settings) (m : Option Node) (h : Held) → Lives (Some s) J m → Keeps (frames s group J) h → GatheredIfAny (Some s) group J m h
 living group J s None h l k = absurd l
 living group J s (Some m) h l k = record { stands = l; keeps = k }
 
-living_still : (group : List ℕ) (J : List Entry) (s : Settings) (told : Option Settings) (m : Option Node) (h : Held) → told ≡ Some s → Lives told J m → Keeps (frames (as_config s) group J) h
+living_still : (group : List ℕ) (J : List Entry) (s : Settings) (told : Option Settings) (m : Option Node) (h : Held) → told ≡ Some s → Lives told J m → Keeps (frames s group J) h
     → GatheredIfAny told group J m h
 living_still group J s told m h e l k = subst (λ (t : Option Settings). GatheredIfAny t group J m h) (sym e) (living group J s m h (subst (λ (t : Option Settings). Lives t J m) e l) k)
 
 living_first : (group : List ℕ) (J : List Entry) (told : Option Settings) (m : Option Node) (h : Held) → J ≡ [] → Lives told J m → Keeps [] h → GatheredIfAny told group J m h
 living_first group J None None h e l k = k
 living_first group J None (Some m) h e l k = absurd l
-living_first group J (Some s) m h e l k = living group J s m h l (subst (λ (K : List Entry). Keeps (frames (as_config s) group K) h) (sym e) k)
+living_first group J (Some s) m h e l k = living group J s m h l (subst (λ (K : List Entry). Keeps (frames s group K) h) (sym e) k)
 
 -- before any octet
 pub nothing_gathered : (group : List ℕ) (h : Headed Node) (held : Held) → Follows (λ g J n. StandsFor g J n) h [] → held.writes ≡ [] → GatheredIfAny (settings Second []) group (journal Second []) h.made held
@@ -83,7 +82,7 @@ unfolding table_of
 text_is t o f = by (settings Second o) t.headed.made f.gathered
   where
     by : (told : Option Settings) (n : Option Node) → GatheredIfAny told t.group (journal Second o) n t.replica
-        → lines t.replica.writes ≡ option_map_or (λ (s : Settings). lines (table_of (writes (as_config s) t.group (journal Second o)))) told []
+        → lines t.replica.writes ≡ option_map_or (λ (s : Settings). lines (table_of (writes s t.group (journal Second o)))) told []
     by None None k = ap lines k
     by None (Some n) k = absurd k
     by (Some s) None k = absurd k

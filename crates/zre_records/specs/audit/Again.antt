@@ -1,6 +1,6 @@
 -- Whether a second capture is of the same node as the first, seen in pieces.
 use Rattle.std.specs.Prelude.{◌≡◌, ℕ, List, length, take, Option}
-use Rattle.zre_capture.specs.declared.settings.Settings.{Settings}
+use Rattle.zre_values.specs.declared.settings.Settings.{Settings}
 use Rattle.zre_records.specs.audit.Audit.{own_front}
 use Rattle.zre_records.specs.replay.Lives.{IfTold}
 use Rattle.zre_records.specs.declared.audit.again.Again.{Again}

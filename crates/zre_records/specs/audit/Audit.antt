@@ -6,12 +6,11 @@ use Rattle.zre_values.specs.Text.{id_text}
 use Rattle.zre_capture.specs.Journal.{journal, settings, bad, bad_at_end}
 use Rattle.zre_capture.specs.declared.fault.BadCapture.{BadCapture}
 use Rattle.zre_capture.specs.declared.format.Format.TheVariants.{Second}
-use Rattle.zre_capture.specs.declared.settings.Settings.{Settings}
+use Rattle.zre_values.specs.declared.settings.Settings.{Settings}
 use Rattle.zre_audit.specs.Agreement.{judged}
 use Rattle.zre_audit.specs.Lines.{line}
 use Rattle.zre_audit.specs.Prefixes.{begins}
 use Rattle.zre_outside.specs.declared.entry.Entry.{Entry}
-use Rattle.zre_commands.specs.Settings.{as_config}
 use Rattle.zre_records.specs.audit.Cut.{cut, lines_of}
 use Rattle.zre_records.specs.replay.Capture.{refusal_or}
 use Rattle.zre_commands.specs.pump.Meaning.{Meaning}
@@ -58,7 +57,7 @@ place o =
 abbrev pub judgement : Option Settings → Option Settings → List Entry → List Entry → List ℕ
 judgement None told J K = []
 judgement (Some s) None J K = []
-judgement (Some s) (Some t) J K = line (judged (as_config s) (as_config t) J K)
+judgement (Some s) (Some t) J K = line (judged s t J K)
 
 abbrev pub verdict : List ℕ → List ℕ
 verdict o =

@@ -1,6 +1,6 @@
 -- The second of two captures, as it is read.
 use Rattle.std.specs.Prelude.{ℕ, List, Option}
-use Rattle.zre_capture.specs.declared.settings.Settings.{Settings}
+use Rattle.zre_values.specs.declared.settings.Settings.{Settings}
 use Rattle.zre_records.specs.audit.Again.{IsSeen}
 use Rattle.zre_records.specs.audit.Watched.{Watched}
 use Rattle.zre_records.specs.declared.audit.later.Later.{Later}

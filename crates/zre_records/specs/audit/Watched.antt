@@ -1,6 +1,6 @@
 -- A capture of format 2 that is read in pieces, and the watch of its node.
 use Rattle.std.specs.Prelude.{ℕ, List, Option}
-use Rattle.zre_capture.specs.declared.settings.Settings.{Settings}
+use Rattle.zre_values.specs.declared.settings.Settings.{Settings}
 use Rattle.zre_audit.specs.Watching.{Watches}
 use Rattle.zre_audit.specs.declared.watch.Watch.{Watch}
 use Rattle.zre_outside.specs.declared.entry.Entry.{Entry}

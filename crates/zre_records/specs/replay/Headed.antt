@@ -2,7 +2,7 @@
 use Rattle.std.specs.Prelude.{◌≡◌, ℕ, List, ◌++◌}
 use Rattle.zre_capture.specs.Journal.{journal, settings}
 use Rattle.zre_capture.specs.declared.format.Format.TheVariants.{Second}
-use Rattle.zre_journal.specs.declared.config.Config.{Config}
+use Rattle.zre_values.specs.declared.settings.Settings.{Settings as Config}
 use Rattle.zre_outside.specs.declared.entry.Entry.{Entry}
 use Rattle.zre_records.specs.declared.replay.headed.Headed.{Headed}
 use Rattle.zre_records.specs.replay.Lives.{Made}

@@ -2,7 +2,7 @@
 use Rattle.std.specs.Prelude.{ℕ, List}
 use Rattle.zre_capture.specs.Journal.{journal}
 use Rattle.zre_capture.specs.declared.format.Format.TheVariants.{First}
-use Rattle.zre_journal.specs.declared.config.Config.{Config}
+use Rattle.zre_values.specs.declared.settings.Settings.{Settings as Config}
 use Rattle.zre_node.specs.Journal.{StandsFor}
 use Rattle.zre_records.specs.declared.replay.replayer.Replayer.{Replayer}
 use Rattle.zre_records.specs.replay.State.{IsState}

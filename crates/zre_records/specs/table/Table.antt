@@ -5,7 +5,6 @@ use Rattle.zre_capture.specs.Journal.{journal, settings, bad, bad_at_end}
 use Rattle.zre_capture.specs.declared.format.Format.TheVariants.{Second}
 use Rattle.zre_shared.specs.Lines.{lines}
 use Rattle.zre_shared.specs.Tables.{table as table_of}
-use Rattle.zre_commands.specs.Settings.{as_config}
 use Rattle.zre_records.specs.replay.Capture.{refusal_or}
 use Rattle.zre_commands.specs.pump.Meaning.{Meaning}
 use Rattle.zre_records.specs.table.Writes.{writes}
@@ -13,7 +12,7 @@ use Rattle.zre_records.specs.table.Writes.{writes}
 -- the lines of the table of the writes of its journal to the group, for the node of its settings
 abbrev pub text : List ℕ → List ℕ → List ℕ
 text group o =
-    option_map_or (λ s. lines (table_of (writes (as_config s) group (journal Second o)))) (settings Second o) []
+    option_map_or (λ s. lines (table_of (writes s group (journal Second o)))) (settings Second o) []
 
 -- all that `table` makes of octets: nothing is written before their end, and then the table, or else the place of the
 -- first bad line alone

@@ -2,7 +2,7 @@
 use Rattle.std.specs.Prelude.{ℕ, List}
 use Rattle.zre_capture.specs.Journal.{journal, capture}
 use Rattle.zre_capture.specs.declared.format.Format.TheVariants.{First, Second}
-use Rattle.zre_capture.specs.declared.settings.Settings.{Settings}
+use Rattle.zre_values.specs.declared.settings.Settings.{Settings}
 use Rattle.zre_commands.specs.pump.Meaning.{Meaning}
 use Rattle.zre_records.specs.replay.Capture.{of_capture}
 

@@ -2,7 +2,7 @@
 use Rattle.std.specs.Prelude.{◌≡◌, ℕ, List}
 use Rattle.zre_capture.specs.Journal.{journal, last_reading}
 use Rattle.zre_capture.specs.declared.format.Format.TheVariants.{First}
-use Rattle.zre_capture.specs.declared.settings.Settings.{Settings}
+use Rattle.zre_values.specs.declared.settings.Settings.{Settings}
 use Rattle.zre_records.specs.declared.upgrade.upgrader.Upgrader.{Upgrader}
 use Rattle.zre_records.specs.replay.State.{IsState}
 

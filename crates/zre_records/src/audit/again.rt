@@ -1,13 +1,13 @@
 //! Whether a second capture is of the same node as the first, seen in pieces.
 
 ghost use Rattle.std.specs.Prelude.{◌≡◌, ◌++◌, ℕ, List, [], Option, Some, option_map, nat_eq, IfOk, OnOk};
-ghost use Rattle.zre_capture.specs.declared.settings.Settings.{Settings as SettingsValue};
+ghost use Rattle.zre_values.specs.declared.settings.Settings.{Settings as SettingsValue};
 ghost use Rattle.zre_records.specs.audit.Again.{IsSeen};
 ghost use Rattle.zre_records.specs.audit.Audit.{is_again, own_front};
 
 use std::alloc::Global;
 use zre_capture::Settings;
-use zre_values::{Octets, OutOfMemory};
+use zre_values::{Octets, OutOfMemory, take_apart};
 
 /// What the head of a capture of the same node begins with, and as much of what came in its place.
 pub(crate) struct Again {
@@ -15,13 +15,9 @@ pub(crate) struct Again {
     front: Octets,
 }
 
-// By hand: docs/DECISIONS.md says why, at "Drops by hand".
 impl Drop for Again {
     fn drop(self) {
-        let Again {
-            own: _own,
-            front: _front,
-        } = self;
+        take_apart!(self, Again: own, front);
     }
 }
 

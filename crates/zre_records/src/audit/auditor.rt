@@ -3,7 +3,7 @@ ghost use Rattle.std.specs.Prelude.{IfOk, OnOk};
 ghost use Rattle.zre_outside.specs.declared.entry.Entry.{Entry};
 ghost use Rattle.zre_capture.specs.Journal.{settings, bad, bad_at_end};
 ghost use Rattle.zre_capture.specs.declared.format.Format.TheVariants.{Second};
-ghost use Rattle.zre_capture.specs.declared.settings.Settings.{Settings};
+ghost use Rattle.zre_values.specs.declared.settings.Settings.{Settings};
 ghost use Rattle.zre_records.specs.audit.Audit.{audit, place, earlier, later, later_bad, judgement, moved};
 ghost use Rattle.zre_records.specs.audit.Audit.{verdict as verdict_of};
 ghost use Rattle.zre_records.specs.audit.Auditor.{Fed};

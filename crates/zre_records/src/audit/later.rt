@@ -1,7 +1,7 @@
 //! The second of two captures.
 
 ghost use Rattle.std.specs.Prelude.{◌≡◌, ◌++◌, ℕ, List, false, is_some, Option, option_map, IfOk, OnOk};
-ghost use Rattle.zre_capture.specs.declared.settings.Settings.{Settings as SettingsValue};
+ghost use Rattle.zre_values.specs.declared.settings.Settings.{Settings as SettingsValue};
 ghost use Rattle.zre_records.specs.audit.Audit.{later_bad, later_bad_at_end};
 ghost use Rattle.zre_records.specs.audit.Cut.{mark};
 ghost use Rattle.zre_records.specs.audit.Later.{IsLater};
@@ -13,7 +13,7 @@ use crate::replay::headed::Headed;
 use std::alloc::Global;
 use zre_audit::Watch;
 use zre_capture::{BadCapture, Settings};
-use zre_values::OutOfMemory;
+use zre_values::{OutOfMemory, take_apart};
 
 /// The second capture as it is read, and whether it is of the node of the first.
 pub(crate) struct Later {
@@ -21,13 +21,9 @@ pub(crate) struct Later {
     again: Option<Again>,
 }
 
-// By hand: docs/DECISIONS.md says why, at "Drops by hand".
 impl Drop for Later {
     fn drop(self) {
-        let Later {
-            capture: _capture,
-            again: _again,
-        } = self;
+        take_apart!(self, Later: capture, again);
     }
 }
 

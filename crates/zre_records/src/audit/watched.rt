@@ -2,10 +2,9 @@
 
 ghost use Rattle.std.specs.Prelude.{◌≡◌, ℕ, List, [], ◌++◌, true, false, is_some, Option, IfOk, OnOk};
 ghost use Rattle.zre_outside.specs.declared.entry.Entry.{Entry as EntryValue};
-ghost use Rattle.zre_journal.specs.declared.config.Config.{Config as ConfigValue};
+ghost use Rattle.zre_values.specs.declared.settings.Settings.{Settings as ConfigValue};
 ghost use Rattle.zre_capture.specs.Journal.{bad};
 ghost use Rattle.zre_capture.specs.declared.format.Format.TheVariants.{Second};
-ghost use Rattle.zre_capture.specs.declared.settings.Settings.{Settings as SettingsValue};
 ghost use Rattle.zre_audit.specs.Watching.{Watches};
 ghost use Rattle.zre_records.specs.audit.Watched.{Watched, IsWatched};
 
@@ -39,7 +38,7 @@ fn watch_entries(watch: &mut Watch, entries: Entries) -> Result<Entries, OutOfMe
 
 // The same of a watch, if there is one.
 fn watch_if_any(watch: &mut Option<Watch>, entries: Entries) -> Result<Entries, OutOfMemory>
-    ensures { (told : Option SettingsValue) (J : List EntryValue) → IsWatched told J watch.old
+    ensures { (told : Option ConfigValue) (J : List EntryValue) → IsWatched told J watch.old
         → OnOk result (IsWatched told (J ++ entries) watch.new) }
 {
     match watch {

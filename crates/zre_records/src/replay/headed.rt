@@ -3,9 +3,9 @@
 ghost use Rattle.std.specs.Prelude.{◌≡◌, ℕ, List, [], true, false, is_some, Option, option_map, IfOk, IfSome, OnOk};
 ghost use Rattle.zre_capture.specs.Journal.{bad};
 ghost use Rattle.zre_capture.specs.declared.format.Format.TheVariants.{Second};
-ghost use Rattle.zre_capture.specs.declared.settings.Settings.{Settings as SettingsValue};
+ghost use Rattle.zre_values.specs.declared.settings.Settings.{Settings as SettingsValue};
 ghost use Rattle.zre_outside.specs.declared.entry.Entry.{Entry as EntryValue};
-ghost use Rattle.zre_journal.specs.Config.{is_valid};
+ghost use Rattle.zre_values.specs.Settings.{is_valid};
 ghost use Rattle.zre_records.specs.replay.Headed.{Follows, HasRead};
 ghost use Rattle.zre_records.specs.replay.Lives.{Made, Tells, due};
 
@@ -13,7 +13,6 @@ use crate::replay::lives::Lived;
 use crate::replay::reading::Pieces;
 use std::alloc::Global;
 use zre_capture::{CaptureReader, Settings};
-use zre_commands::settings::as_config;
 use zre_journal::Config;
 use zre_outside::Entries;
 use zre_values::OutOfMemory;
@@ -45,7 +44,7 @@ fn config_due(
     if !settings.valid() {
         return Ok(None);
     }
-    Ok(Some(as_config(alloc, settings)?))
+    Ok(Some(Config::copy(alloc, settings)?))
 }
 
 // Makes it once its settings are told.

@@ -2,9 +2,8 @@
 
 ghost use Rattle.std.specs.Prelude.{List, [], true, ◌≡◌, Option, IfOk, OnOk};
 ghost use Rattle.zre_outside.specs.declared.entry.Entry.{Entry as EntryValue};
-ghost use Rattle.zre_capture.specs.declared.settings.Settings.{Settings as SettingsValue};
-ghost use Rattle.zre_journal.specs.Config.{is_valid};
-ghost use Rattle.zre_journal.specs.declared.config.Config.{Config as ConfigValue};
+ghost use Rattle.zre_values.specs.Settings.{is_valid};
+ghost use Rattle.zre_values.specs.declared.settings.Settings.{Settings as ConfigValue};
 ghost use Rattle.zre_node.specs.Journal.{StandsFor};
 ghost use Rattle.zre_records.specs.replay.Lives.{Lives, TookIfAny};
 
@@ -40,7 +39,7 @@ pub(crate) fn take_if_any(
     entries: Entries,
     out: &mut Octets,
 ) -> Result<Entries, OutOfMemory>
-    ensures { (told : Option SettingsValue) (J : List EntryValue) → Lives told J node.old
+    ensures { (told : Option ConfigValue) (J : List EntryValue) → Lives told J node.old
         → OnOk result (TookIfAny told J entries node.new out.old out.new) }
 {
     match node {

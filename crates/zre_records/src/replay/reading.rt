@@ -13,7 +13,7 @@ use std::mem;
 use zre_capture::{BadCapture, CaptureFault, CaptureReader, Settings};
 use zre_commands::pump::{Going, push_bad_line_at};
 use zre_outside::Entries;
-use zre_values::{Octets, OutOfMemory};
+use zre_values::{Octets, OutOfMemory, take_apart};
 
 /// A reader that has refused a line, and where.
 pub(crate) struct Refused {
@@ -21,13 +21,9 @@ pub(crate) struct Refused {
     bad: BadCapture,
 }
 
-// By hand: docs/DECISIONS.md says why, at "Drops by hand".
 impl Drop for Refused {
     fn drop(self) {
-        let Refused {
-            reader: _reader,
-            bad: _bad,
-        } = self;
+        take_apart!(self, Refused: reader, bad);
     }
 }
 

@@ -1,5 +1,5 @@
 ghost use Rattle.std.specs.Prelude.{◌≡◌, [], true, false, IfOk};
-ghost use Rattle.zre_journal.specs.Config.{is_valid};
+ghost use Rattle.zre_values.specs.Settings.{is_valid};
 
 use crate::replay::reading::Pieces;
 use crate::replay::taking::take_entries;

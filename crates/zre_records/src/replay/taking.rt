@@ -2,7 +2,7 @@
 
 ghost use Rattle.std.specs.Prelude.{List, [], ◌∷◌, OnOk};
 ghost use Rattle.zre_outside.specs.declared.entry.Entry.{Entry as EntryValue};
-ghost use Rattle.zre_journal.specs.declared.config.Config.{Config};
+ghost use Rattle.zre_values.specs.declared.settings.Settings.{Settings as Config};
 ghost use Rattle.zre_node.specs.Journal.{StandsFor};
 ghost use Rattle.zre_records.specs.replay.Taken.{Took};
 

@@ -2,8 +2,7 @@
 
 ghost use Rattle.std.specs.Prelude.{List, [], ◌∷◌, ◌++◌, Option, OnOk};
 ghost use Rattle.zre_outside.specs.declared.entry.Entry.{Entry as EntryValue};
-ghost use Rattle.zre_capture.specs.declared.settings.Settings.{Settings};
-ghost use Rattle.zre_journal.specs.declared.config.Config.{Config};
+ghost use Rattle.zre_values.specs.declared.settings.Settings.{Settings};
 ghost use Rattle.zre_records.specs.table.Kept.{Gathered, GatheredIfAny};
 
 use crate::table::taking::{take_events, take_shout};
@@ -23,7 +22,7 @@ fn gather_entry(
     group: &[u8],
     entry: Entry,
 ) -> Result<(), OutOfMemory>
-    ensures { (g : Config) (J : List EntryValue) → Gathered g group.now J node.old replica.old
+    ensures { (g : Settings) (J : List EntryValue) → Gathered g group.now J node.old replica.old
         → OnOk result (Gathered g group.now (J ++ entry ∷ []) node.new replica.new) }
 {
     let shout = shout_of(alloc, group, &entry.input)?;
@@ -42,7 +41,7 @@ fn gather_entries(
     group: &[u8],
     entries: Entries,
 ) -> Result<Entries, OutOfMemory>
-    ensures { (g : Config) (J : List EntryValue) → Gathered g group.now J node.old replica.old
+    ensures { (g : Settings) (J : List EntryValue) → Gathered g group.now J node.old replica.old
         → OnOk result (Gathered g group.now (J ++ entries) node.new replica.new) }
 {
     let mut items = entries.into_vec();

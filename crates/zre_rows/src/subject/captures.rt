@@ -7,7 +7,7 @@ use crate::words::Words;
 use std::alloc::Global;
 use zre_capture::{BadCapture, CaptureFault, CaptureReader};
 use zre_outside::Entries;
-use zre_values::OutOfMemory;
+use zre_values::{OutOfMemory, take_apart};
 
 /// `on capture`: the text of a capture. `line TEXT` appends to it with a line feed, `text TEXT` without one,
 /// `octets HEX` octets, and `many N HEX` the same octets so many times.
@@ -15,10 +15,9 @@ pub struct Captures {
     text: Text,
 }
 
-// By hand: docs/DECISIONS.md says why, at "Drops by hand".
 impl Drop for Captures {
     fn drop(self) {
-        let Captures { text: _text } = self;
+        take_apart!(self, Captures: text);
     }
 }
 

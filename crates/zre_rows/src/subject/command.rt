@@ -20,7 +20,7 @@ use std::thread::Threads;
 use telling::{Naming, Telling};
 use zre_app::Status;
 use zre_outside::{MemRecorder, MemSink, ScriptWorld};
-use zre_values::{Frames, Octets, OutOfMemory};
+use zre_values::{Frames, Octets, OutOfMemory, take_apart};
 
 /// `on command WORD WORD ..`: the words of a command line, as quoted texts, what the command is run over, and what came
 /// of its last run.
@@ -44,23 +44,10 @@ pub struct Commands {
     file: Text,
 }
 
-// By hand: docs/DECISIONS.md says why, at "Drops by hand".
 impl Drop for Commands {
     fn drop(self) {
-        let Commands {
-            words: _words,
-            input: _input,
-            script: _script,
-            fails: _fails,
-            sizes: _sizes,
-            most: _,
-            limit: _,
-            due: _due,
-            left: _,
-            told: _told,
-            kept: _kept,
-            file: _file,
-        } = self;
+        take_apart!(self, Commands:
+            words, input, script, fails, sizes, most, limit, due, left, told, kept, file);
     }
 }
 

@@ -6,19 +6,16 @@ use crate::trouble::Trouble;
 use crate::words::Words;
 use zre_capture::Exercise;
 use zre_outside::Entry;
-use zre_values::OutOfMemory;
+use zre_values::{OutOfMemory, take_apart};
 
 /// `on exercise SEED PEERS MESSAGES`: an exercise whose entries are given one by one.
 pub struct Exercises {
     exercise: Exercise,
 }
 
-// By hand: docs/DECISIONS.md says why, at "Drops by hand".
 impl Drop for Exercises {
     fn drop(self) {
-        let Exercises {
-            exercise: _exercise,
-        } = self;
+        take_apart!(self, Exercises: exercise);
     }
 }
 

@@ -8,7 +8,7 @@ use zre_outside::{
     MemRecorder, MemSink, MemSource, NextFault, Recorder, Sink, Source, SureRecorder, SureSink,
     SureSource, write_all,
 };
-use zre_values::Octets;
+use zre_values::{Octets, take_apart};
 
 /// `on memory HEX NUMBER NUMBER ..`: one of each. The sources hold the octets, and the calls of those with a list fail
 /// at its numbers.
@@ -21,17 +21,9 @@ pub struct Memory {
     sure_recorder: SureRecorder,
 }
 
-// By hand: docs/DECISIONS.md says why, at "Drops by hand".
 impl Drop for Memory {
     fn drop(self) {
-        let Memory {
-            source: _source,
-            sure_source: _sure_source,
-            sink: _sink,
-            sure_sink: _sure_sink,
-            recorder: _recorder,
-            sure_recorder: _sure_recorder,
-        } = self;
+        take_apart!(self, Memory: source, sure_source, sink, sure_sink, recorder, sure_recorder);
     }
 }
 

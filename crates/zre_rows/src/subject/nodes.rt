@@ -12,7 +12,7 @@ use zre_journal::Config;
 use zre_node::{Ids, Node, Step};
 use zre_outside::Entry;
 use zre_peer::View;
-use zre_values::{Frames, Octets, OutOfMemory};
+use zre_values::{Frames, Octets, OutOfMemory, take_apart};
 
 /// `on node id=.. host=.. port=..` and further words of a node, as quoted texts: a node, and the lines of the acts of
 /// its last step.
@@ -21,13 +21,9 @@ pub struct Nodes {
     acts: Text,
 }
 
-// By hand: docs/DECISIONS.md says why, at "Drops by hand".
 impl Drop for Nodes {
     fn drop(self) {
-        let Nodes {
-            node: _node,
-            acts: _acts,
-        } = self;
+        take_apart!(self, Nodes: node, acts);
     }
 }
 

@@ -8,6 +8,7 @@ use crate::words::Words;
 use std::alloc::Global;
 use std::mem;
 use zre_outside::{Act, Command, NextFault, ScriptWorld, SureWorld, Turn, World};
+use zre_values::take_apart;
 
 /// `on world NUMBER NUMBER ..`: a script, and the two worlds that play it from its first turn that is asked for. The
 /// numbers are those of the turns that fail in the world with a list.
@@ -17,14 +18,9 @@ pub struct Worlds {
     played: Option<Played>,
 }
 
-// By hand: docs/DECISIONS.md says why, at "Drops by hand".
 impl Drop for Worlds {
     fn drop(self) {
-        let Worlds {
-            script: _script,
-            fails: _fails,
-            played: _played,
-        } = self;
+        take_apart!(self, Worlds: script, fails, played);
     }
 }
 
@@ -33,13 +29,9 @@ struct Played {
     sure: SureWorld,
 }
 
-// By hand: docs/DECISIONS.md says why, at "Drops by hand".
 impl Drop for Played {
     fn drop(self) {
-        let Played {
-            first: _first,
-            sure: _sure,
-        } = self;
+        take_apart!(self, Played: first, sure);
     }
 }
 

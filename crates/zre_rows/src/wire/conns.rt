@@ -7,7 +7,7 @@ use crate::wire::texts::push_fed;
 use crate::words::Words;
 use std::alloc::Global;
 use zre_mailbox::{Arrival, Arrivals, Conn};
-use zre_values::PeerId;
+use zre_values::{PeerId, take_apart};
 
 /// `on conns ID`: a connection to the node with this identity, and what arrived with the last step.
 pub struct Conns {
@@ -16,14 +16,9 @@ pub struct Conns {
     arrivals: Arrivals,
 }
 
-// By hand: docs/DECISIONS.md says why, at "Drops by hand".
 impl Drop for Conns {
     fn drop(self) {
-        let Conns {
-            own: _,
-            conn: _conn,
-            arrivals: _arrivals,
-        } = self;
+        take_apart!(self, Conns: own, conn, arrivals);
     }
 }
 

@@ -6,17 +6,16 @@ use crate::trouble::Trouble;
 use crate::wire::texts::push_keys;
 use crate::words::Words;
 use zre_group::Index;
-use zre_values::{Keys, OutOfMemory};
+use zre_values::{Keys, OutOfMemory, take_apart};
 
 /// `on index`: an index, from the empty one on.
 pub struct Groups {
     index: Index,
 }
 
-// By hand: docs/DECISIONS.md says why, at "Drops by hand".
 impl Drop for Groups {
     fn drop(self) {
-        let Groups { index: _index } = self;
+        take_apart!(self, Groups: index);
     }
 }
 

@@ -8,7 +8,7 @@ use crate::words::Words;
 use std::alloc::Global;
 use zre_link::{Link, PushFault, ReplyFault, Tail};
 use zre_msg::{Body, Message};
-use zre_values::{Frames, Octets};
+use zre_values::{Frames, Octets, take_apart};
 use zre_zmtp::FeedFault;
 
 /// More octets than this aren't whispered by a step.
@@ -19,10 +19,9 @@ pub struct Links {
     link: Link,
 }
 
-// By hand: docs/DECISIONS.md says why, at "Drops by hand".
 impl Drop for Links {
     fn drop(self) {
-        let Links { link: _link } = self;
+        take_apart!(self, Links: link);
     }
 }
 

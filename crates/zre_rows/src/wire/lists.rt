@@ -5,7 +5,7 @@ use crate::text::Text;
 use crate::trouble::Trouble;
 use crate::wire::texts::push_keys;
 use crate::words::Words;
-use zre_values::{Frames, Keys, Octets, OutOfMemory, Pairs};
+use zre_values::{Frames, Keys, Octets, OutOfMemory, Pairs, take_apart};
 
 /// `on lists`: one of each, from the empty ones on.
 pub struct Lists {
@@ -15,15 +15,9 @@ pub struct Lists {
     keys: Keys,
 }
 
-// By hand: docs/DECISIONS.md says why, at "Drops by hand".
 impl Drop for Lists {
     fn drop(self) {
-        let Lists {
-            text: _text,
-            frames: _frames,
-            pairs: _pairs,
-            keys: _keys,
-        } = self;
+        take_apart!(self, Lists: text, frames, pairs, keys);
     }
 }
 

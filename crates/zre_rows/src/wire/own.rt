@@ -5,16 +5,16 @@ use crate::text::Text;
 use crate::trouble::Trouble;
 use crate::words::Words;
 use zre_group::{JoinFault, NoGroup, Own};
+use zre_values::take_apart;
 
 /// `on own`: the groups, from none on.
 pub struct OwnGroups {
     own: Own,
 }
 
-// By hand: docs/DECISIONS.md says why, at "Drops by hand".
 impl Drop for OwnGroups {
     fn drop(self) {
-        let OwnGroups { own: _own } = self;
+        take_apart!(self, OwnGroups: own);
     }
 }
 

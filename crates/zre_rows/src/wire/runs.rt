@@ -7,7 +7,7 @@ use crate::words::Words;
 use std::alloc::Global;
 use zre_msg::{LentMessage, Message};
 use zre_peer::{Run, RunFault, Teller, View};
-use zre_values::Frames;
+use zre_values::{Frames, take_apart};
 
 /// `on runs ID`: two runs of the same messages, one that gives events, and one that writes their lines at once.
 pub struct Runs {
@@ -15,13 +15,9 @@ pub struct Runs {
     teller: Teller,
 }
 
-// By hand: docs/DECISIONS.md says why, at "Drops by hand".
 impl Drop for Runs {
     fn drop(self) {
-        let Runs {
-            run: _run,
-            teller: _teller,
-        } = self;
+        take_apart!(self, Runs: run, teller);
     }
 }
 

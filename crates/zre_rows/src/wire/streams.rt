@@ -6,7 +6,7 @@ use crate::trouble::Trouble;
 use crate::wire::texts::{push_fault, push_fed};
 use crate::words::Words;
 use std::alloc::Global;
-use zre_values::{Frames, Octets};
+use zre_values::{Frames, Octets, take_apart};
 use zre_zmtp::{Item, Items, Reader, Want, What};
 
 /// `on streams traffic`, `any`, `router` or `dealer ID`, where the identity is the node's own: a reader with the items
@@ -17,14 +17,9 @@ pub struct Streams {
     items: Items,
 }
 
-// By hand: docs/DECISIONS.md says why, at "Drops by hand".
 impl Drop for Streams {
     fn drop(self) {
-        let Streams {
-            want: _want,
-            reader: _reader,
-            items: _items,
-        } = self;
+        take_apart!(self, Streams: want, reader, items);
     }
 }
 

@@ -9,7 +9,7 @@ use crate::wire::texts::push_keys;
 use crate::words::Words;
 use std::alloc::Global;
 use zre_timers::{Due, Timers};
-use zre_values::OutOfMemory;
+use zre_values::{OutOfMemory, take_apart};
 
 // A key whose moment is set, or which is taken out where none is given.
 #[derive(Clone, Copy)]
@@ -24,13 +24,9 @@ pub struct Moments {
     touches: Vec<Touch>,
 }
 
-// By hand: docs/DECISIONS.md says why, at "Drops by hand".
 impl Drop for Moments {
     fn drop(self) {
-        let Moments {
-            alloc: _,
-            touches: _touches,
-        } = self;
+        take_apart!(self, Moments: alloc, touches);
     }
 }
 

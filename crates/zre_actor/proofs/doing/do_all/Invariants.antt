@@ -2,7 +2,7 @@ use Rattle.std.proofs.Common.{◌≡◌, List, [], take}
 use Rattle.std.specs.Prelude.{option_map}
 use Rattle.zre_outside.specs.declared.deed.Deed.{Deed}
 use Rattle.zre_outside.specs.declared.entry.Entry.{Entry}
-use Rattle.zre_journal.specs.declared.config.Config.{Config}
+use Rattle.zre_values.specs.declared.settings.Settings.{Settings as Config}
 use Rattle.zre_journal.specs.Asked.{AreDue}
 use Rattle.zre_journal.specs.Events.{chronicle}
 use Rattle.zre_node.specs.Journal.{StandsFor}

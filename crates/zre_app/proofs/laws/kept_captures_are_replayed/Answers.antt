@@ -3,7 +3,6 @@ use Rattle.std.specs.Prelude.{All}
 use Rattle.std.specs.Io.KnownBytes.{Appends}
 use Rattle.zre_outside.specs.Causes.{Rose}
 use Rattle.zre_capture.specs.Lines.{IsEntry}
-use Rattle.zre_commands.specs.Settings.{as_settings}
 use Rattle.zre_commands.specs.declared.pump.status.Status.{Status}
 use Rattle.zre_commands.specs.declared.pump.status.Status.TheVariants.{Done, OutOfMemory}
 use Rattle.zre_records.proofs.Replayed.{written}
@@ -20,7 +19,7 @@ returns c = λ g start file limit s t status chat whole kept short. (
     let es = chat.lived.entries in
     let values = subst (All IsEntry) (ap (λ l. es ++ l) (chat.lived.all_taken kept) ∙ append-nil es) chat.lived.are_values in
     let settings = chat.captured.are_settings (has_memory status (Rose s.record_faults t.record_faults) kept) in
-    let r = written (as_settings g) es settings values short in record {
+    let r = written g es settings values short in record {
       entries = es;
       is_good = r.is_good;
       is_written = subst (Appends s.written t.written) (sym r.is_written) (chat.wrote.whole whole);

@@ -1,6 +1,6 @@
 use Rattle.std.proofs.Common.{ℕ, List}
 use Rattle.zre_outside.specs.declared.entry.Entry.{Entry}
-use Rattle.zre_journal.specs.declared.config.Config.{Config}
+use Rattle.zre_values.specs.declared.settings.Settings.{Settings as Config}
 use Rattle.zre_audit.specs.Agreement.{Agree, IsTooMany, Judges, judged}
 use Rattle.zre_audit.specs.declared.verdicts.Verdict.{Verdict}
 use Rattle.zre_audit.specs.declared.verdicts.Verdict.TheVariants.{Yes, No}

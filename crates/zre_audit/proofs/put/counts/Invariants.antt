@@ -1,6 +1,6 @@
 use Rattle.std.proofs.Common.{◌≡◌, List, take, map}
 use Rattle.zre_outside.specs.declared.entry.Entry.{Entry}
-use Rattle.zre_journal.specs.declared.config.Config.{Config}
+use Rattle.zre_values.specs.declared.settings.Settings.{Settings as Config}
 use Rattle.zre_node.specs.Journal.{StandsFor}
 use Rattle.zre_audit.proofs.Counted.{count_of}
 use Rattle.zre_audit.proofs.put.counts.Given as goal

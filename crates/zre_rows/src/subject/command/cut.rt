@@ -1,7 +1,7 @@
 //! An input that is cut into pieces.
 
 use zre_outside::{Failed, MemSource, Source};
-use zre_values::Octets;
+use zre_values::{Octets, take_apart};
 
 // The sizes of pieces, and how many were given.
 struct Sizes {
@@ -10,14 +10,9 @@ struct Sizes {
     last: u64,
 }
 
-// By hand: docs/DECISIONS.md says why, at "Drops by hand".
 impl Drop for Sizes {
     fn drop(self) {
-        let Sizes {
-            list: _list,
-            given: _,
-            last: _,
-        } = self;
+        take_apart!(self, Sizes: list, given, last);
     }
 }
 
@@ -41,14 +36,9 @@ pub struct Cut {
     pub given: u64,
 }
 
-// By hand: docs/DECISIONS.md says why, at "Drops by hand".
 impl Drop for Cut {
     fn drop(self) {
-        let Cut {
-            inner: _inner,
-            sizes: _sizes,
-            given: _,
-        } = self;
+        take_apart!(self, Cut: inner, sizes, given);
     }
 }
 

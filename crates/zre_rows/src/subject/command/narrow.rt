@@ -1,6 +1,7 @@
 //! An output that takes few octets at a time.
 
 use zre_outside::{MemSink, NextFault, Sink};
+use zre_values::take_apart;
 
 /// A sink that takes at most so many octets a write, and one at least.
 pub struct Narrow {
@@ -8,13 +9,9 @@ pub struct Narrow {
     most: usize,
 }
 
-// By hand: docs/DECISIONS.md says why, at "Drops by hand".
 impl Drop for Narrow {
     fn drop(self) {
-        let Narrow {
-            inner: _inner,
-            most: _,
-        } = self;
+        take_apart!(self, Narrow: inner, most);
     }
 }
 

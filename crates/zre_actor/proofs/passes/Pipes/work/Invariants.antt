@@ -1,7 +1,7 @@
 use Rattle.std.proofs.Common.{◌≡◌, true, false, None, List, IsSome}
 use Rattle.std.specs.Io.KnownBytes.{Keeps}
 use Rattle.zre_outside.specs.declared.entry.Entry.{Entry}
-use Rattle.zre_journal.specs.declared.config.Config.{Config}
+use Rattle.zre_values.specs.declared.settings.Settings.{Settings as Config}
 use Rattle.zre_node.specs.Journal.{StandsFor}
 use Rattle.zre_actor.specs.Passes.{IsActorOf, unused_by, ending_of}
 use Rattle.zre_actor.specs.Work.{scene}

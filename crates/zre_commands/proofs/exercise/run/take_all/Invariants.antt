@@ -1,7 +1,7 @@
 use Rattle.std.proofs.Common.{List, length}
 use Rattle.zre_outside.specs.declared.entry.Entry.{Entry}
 use Rattle.zre_capture.specs.Left.{left}
-use Rattle.zre_journal.specs.declared.config.Config.{Config}
+use Rattle.zre_values.specs.declared.settings.Settings.{Settings as Config}
 use Rattle.zre_commands.specs.exercise.Counted.{Counted}
 use Rattle.zre_commands.proofs.exercise.Running.{Goes}
 use Rattle.zre_commands.proofs.exercise.run.take_all.Given as goal

@@ -1,6 +1,6 @@
 use Rattle.std.proofs.Common.{List, map, take}
 use Rattle.zre_mailbox.specs.Talk.{Arrived, arrivals_in}
-use Rattle.zre_journal.specs.declared.config.Config.{Config}
+use Rattle.zre_values.specs.declared.settings.Settings.{Settings as Config}
 use Rattle.zre_journal.specs.Chronicle.{Mark, in_turn}
 use Rattle.zre_journal.specs.Arrivals.{at_place}
 use Rattle.zre_node.specs.Stands.{Holds, Did}

@@ -1,7 +1,7 @@
 use Rattle.std.proofs.Common.{◌++◌, ◌∷◌, [], ℕ, List, refl, sym, ap, ◌∙◌, append-nil}
 use Rattle.zre_beacon.specs.Beacon.{beacon_octets}
 use Rattle.zre_outside.specs.declared.act.Act.TheVariants as act
-use Rattle.zre_journal.specs.declared.config.Config.{Config}
+use Rattle.zre_values.specs.declared.settings.Settings.{Settings as Config}
 use Rattle.zre_journal.specs.Chronicle.{SendsBeacon}
 use Rattle.zre_node.specs.declared.effects.Effects.{Effects}
 use Rattle.zre_values.proofs.Answered.{on_ok}

@@ -1,6 +1,6 @@
 use Rattle.std.proofs.Common.{List, map, take}
 use Rattle.zre_peer.specs.declared.causes.CloseWhy.TheVariants as close
-use Rattle.zre_journal.specs.declared.config.Config.{Config}
+use Rattle.zre_values.specs.declared.settings.Settings.{Settings as Config}
 use Rattle.zre_journal.specs.Chronicle.{Mark, Closes}
 use Rattle.zre_node.specs.Stands.{Holds, Did}
 use Rattle.zre_node.specs.Ticks.{AreIdle}

@@ -1,5 +1,5 @@
 use Rattle.std.proofs.Common.{List, map, take}
-use Rattle.zre_journal.specs.declared.config.Config.{Config}
+use Rattle.zre_values.specs.declared.settings.Settings.{Settings as Config}
 use Rattle.zre_journal.specs.Chronicle.{Mark, Ends}
 use Rattle.zre_node.specs.Stands.{Holds, Did, AreKnown}
 use Rattle.zre_node.proofs.tables.Tables.end_all.Given as goal

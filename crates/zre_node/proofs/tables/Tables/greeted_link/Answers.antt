@@ -1,6 +1,6 @@
 use Rattle.std.proofs.Common.{◌≡◌, ◌∙◌, ap, [], ◌∷◌, false}
 use Rattle.zre_msg.specs.declared.message.Body.{Body}
-use Rattle.zre_journal.specs.declared.config.Config.{Config}
+use Rattle.zre_values.specs.declared.settings.Settings.{Settings as Config}
 use Rattle.zre_journal.specs.Pushes.{hello}
 use Rattle.zre_link.specs.Link.{Sending, link_after}
 use Rattle.zre_link.specs.Text.{Says}

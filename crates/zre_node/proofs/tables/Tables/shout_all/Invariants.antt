@@ -1,6 +1,6 @@
 use Rattle.std.proofs.Common.{List, take}
 use Rattle.zre_msg.specs.declared.message.Body.TheVariants.{Shout}
-use Rattle.zre_journal.specs.declared.config.Config.{Config}
+use Rattle.zre_values.specs.declared.settings.Settings.{Settings as Config}
 use Rattle.zre_journal.specs.Chronicle.{Mark, in_turn}
 use Rattle.zre_journal.specs.Pushes.{push}
 use Rattle.zre_node.specs.Stands.{Holds, Did, AreKnown}

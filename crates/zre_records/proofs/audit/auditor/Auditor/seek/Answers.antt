@@ -3,7 +3,7 @@ use Rattle.std.specs.Prelude.{MatchOption}
 use Rattle.zre_values.proofs.Answered.{on_ok}
 use Rattle.zre_capture.specs.Journal.{settings}
 use Rattle.zre_capture.specs.declared.format.Format.TheVariants.{Second}
-use Rattle.zre_capture.specs.declared.settings.Settings.{Settings}
+use Rattle.zre_values.specs.declared.settings.Settings.{Settings}
 use Rattle.zre_records.specs.audit.Cut.{mark}
 use Rattle.zre_records.specs.audit.Later.{IsLater}
 use Rattle.zre_records.specs.audit.Seam.{IsUnparted, IsParted}
