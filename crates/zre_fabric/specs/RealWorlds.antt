@@ -1,5 +1,5 @@
 -- What a world over real sockets tells.
-use Rattle.std.specs.Prelude.{ℕ, Bool, Option, None}
+use Rattle.std.specs.Prelude.{◌≡◌, ℕ, Bool, Option, None}
 use Rattle.zre_outside.specs.Worlds.{Log}
 use Rattle.zre_fabric.specs.declared.real_world.RealWorld.{RealWorld}
 use Rattle.zre_fabric.specs.declared.trouble.Reason.{Reason}
@@ -30,3 +30,8 @@ entries_of w = w.fabric.row.entries
 
 abbrev pub commands_of : {R : Type 0} → RealWorld R → ℕ
 commands_of w = w.fabric.row.commands
+
+-- neither the reading of its clock nor its row changed
+abbrev pub Waits : {R : Type 0} → RealWorld R → RealWorld R → Type 0
+Waits old new =
+    (reading_of new ≡ reading_of old) × (entries_of new ≡ entries_of old) × (commands_of new ≡ commands_of old)

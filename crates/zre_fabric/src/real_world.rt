@@ -98,7 +98,7 @@ fn raise(faults: u64, fault: NextFault) -> u64
 
 impl<R: Net + Clock> World for RealWorld<R> {
     ghost use Rattle.zre_fabric.specs.RealWorlds.{told_of, has_looked, faults_of, reason_of};
-    ghost use Rattle.zre_fabric.specs.RealWorlds.{reading_of, entries_of, commands_of};
+    ghost use Rattle.zre_fabric.specs.RealWorlds.{reading_of, entries_of, commands_of, Waits};
 
     ghost told = { told_of };
 
@@ -167,8 +167,7 @@ impl<R: Net + Clock> World for RealWorld<R> {
         ensures err { OnErr result (told_of self.new ≡ told_of self.old) }
         ensures looked { has_looked self.new ≡ has_looked self.old }
         ensures faults { faults_of self.new ≡ faults_of self.old }
-        ensures clock { reading_of self.new ≡ reading_of self.old }
-        ensures row { (entries_of self.new ≡ entries_of self.old) × (commands_of self.new ≡ commands_of self.old) }
+        ensures row { Waits self.old self.new }
     {
         self.fabric.act(act)
     }
@@ -179,8 +178,7 @@ impl<R: Net + Clock> World for RealWorld<R> {
         ensures err { OnErr result (told_of self.new ≡ told_of self.old) }
         ensures looked { has_looked self.new ≡ has_looked self.old }
         ensures faults { faults_of self.new ≡ faults_of self.old }
-        ensures clock { reading_of self.new ≡ reading_of self.old }
-        ensures row { (entries_of self.new ≡ entries_of self.old) × (commands_of self.new ≡ commands_of self.old) }
+        ensures row { Waits self.old self.new }
     {
         self.fabric.offer(link, bytes)
     }

@@ -241,25 +241,21 @@ impl Sockets {
     }
 
     pub(crate) fn answer(&mut self, number: u64, bytes: &[u8]) -> Result<(), OutOfMemory> {
-        let Some(conn) = self.conns.get_mut(&number) else {
-            return Ok(());
-        };
-        if conn.answer(bytes) {
-            self.rouse(Source::Conn(number))
-        } else {
-            Ok(())
+        if let Some(conn) = self.conns.get_mut(&number) {
+            if conn.answer(bytes) {
+                self.rouse(Source::Conn(number))?;
+            }
         }
+        Ok(())
     }
 
     pub(crate) fn offer(&mut self, number: u64, bytes: &[u8]) -> Result<(), OutOfMemory> {
-        let Some(link) = self.links.get_mut(&number) else {
-            return Ok(());
-        };
-        if link.offer(bytes) {
-            self.rouse(Source::Link(number))
-        } else {
-            Ok(())
+        if let Some(link) = self.links.get_mut(&number) {
+            if link.offer(bytes) {
+                self.rouse(Source::Link(number))?;
+            }
         }
+        Ok(())
     }
 }
 

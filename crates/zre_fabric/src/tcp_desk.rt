@@ -1,20 +1,19 @@
 ghost use Rattle.std.specs.Prelude.{◌≡◌, ◌≤◌, None, option_map, is_err, IsSome, IfOk, OnOk, OnErr};
-ghost use Rattle.zre_outside.specs.Causes.{Rose, raised, counted};
+ghost use Rattle.zre_outside.specs.Causes.{Rose, counted};
 ghost use Rattle.zre_outside.specs.Desks.{with_begun, with_given};
 
 use crate::beacons::address;
 use crate::errors::{ErrorClass, class_of};
 use std::io::{self, ErrorKind};
 use std::net::{Net, TcpListener, TcpStream};
-use zre_outside::{Desk, Failed, StdSource};
+use zre_outside::{Desk, Failed, Faults, StdSource};
 
 /// A TCP listener as a desk. Each connection is a client. It tells nothing of what it gave.
 #[derive(Drop)]
 pub struct TcpDesk<R> {
     rt: R,
     listener: Option<TcpListener>,
-    faults: u64,
-    reason: Option<io::Error>,
+    faults: Faults,
 }
 
 impl<R> TcpDesk<R> {
@@ -28,8 +27,7 @@ impl<R> TcpDesk<R> {
         TcpDesk {
             rt,
             listener: None,
-            faults: 0,
-            reason: None,
+            faults: Faults::none(),
         }
     }
 
@@ -37,18 +35,7 @@ impl<R> TcpDesk<R> {
     pub fn reason(&self) -> Option<io::Error>
         ensures { result ≡ tcp_reason_of self.now }
     {
-        self.reason
-    }
-
-    // A call failed.
-    fn fail(&mut self, reason: io::Error) -> Failed
-        ensures faults { tcp_faults_of self.new ≡ raised (tcp_faults_of self.old) }
-        ensures later { tcp_faults_of self.old ≤ tcp_faults_of self.new }
-        ensures reason { IsSome (tcp_reason_of self.new) }
-    {
-        self.faults = self.faults.saturating_add(1);
-        self.reason = Some(reason);
-        Failed
+        self.faults.reason()
     }
 }
 
@@ -92,7 +79,10 @@ impl<R: Net<Listener = TcpListener, Stream = TcpStream>> Desk for TcpDesk<R> {
                 self.listener = Some(listener);
                 Ok(())
             }
-            Err(reason) => Err(self.fail(reason)),
+            Err(reason) => {
+                self.faults.raise(reason);
+                Err(Failed)
+            }
         }
     }
 
@@ -107,11 +97,15 @@ impl<R: Net<Listener = TcpListener, Stream = TcpStream>> Desk for TcpDesk<R> {
         ensures reason { OnErr result (IsSome (tcp_reason_of self.new)) }
     {
         let Some(listener) = &self.listener else {
-            return Err(self.fail(io::Error::from(ErrorKind::NotConnected)));
+            self.faults.raise(io::Error::from(ErrorKind::NotConnected));
+            return Err(Failed);
         };
         match accept(listener) {
             Ok(stream) => Ok(StdSource::new(stream)),
-            Err(reason) => Err(self.fail(reason)),
+            Err(reason) => {
+                self.faults.raise(reason);
+                Err(Failed)
+            }
         }
     }
 }

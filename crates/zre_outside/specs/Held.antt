@@ -1,11 +1,8 @@
 -- Octets in memory, cut at a place.
-use Rattle.std.specs.Prelude.{ℕ, List, take, drop}
+use Rattle.std.specs.Prelude.{take, drop}
 use Rattle.zre_outside.specs.declared.held.Held.{Held}
+use Rattle.zre_outside.specs.Memory.{Reading}
 
--- what is after the place
-abbrev pub left_in : Held → List ℕ
-left_in h = drop h.at h.all
-
--- what is before it
-abbrev pub taken_from : Held → List ℕ
-taken_from h = take h.at h.all
+-- what is after the place, and what is before it
+abbrev pub reading_of : Held → Reading
+reading_of h = record { left = drop h.at h.all; taken = take h.at h.all }

@@ -7,6 +7,17 @@ use crate::{Act, Addresses, Command, Entry, Input, Start};
 use std::alloc::Global;
 use zre_values::{Frames, Octets, OutOfMemory};
 
+// A variant of which one field is octets, which take memory, and the others are numbers:
+// `with_copy!(alloc, Input::Piece: bytes; conn)`.
+macro_rules! with_copy {
+    ($alloc:expr, $kind:ident::$variant:ident: $octets:ident; $($plain:ident),*) => {
+        Ok($kind::$variant {
+            $octets: Octets::copy($alloc, $octets.as_slice())?,
+            $($plain: *$plain),*
+        })
+    };
+}
+
 fn copy_frames(alloc: Global, frames: &Frames) -> Result<Frames, OutOfMemory>
     ensures { IfOk result (λ copy. copy ≡ frames.now) }
 {
@@ -51,12 +62,8 @@ impl Command {
         ensures { IfOk result (λ copy. copy ≡ self.now) }
     {
         match self {
-            Command::Join { group } => Ok(Command::Join {
-                group: Octets::copy(alloc, group.as_slice())?,
-            }),
-            Command::Leave { group } => Ok(Command::Leave {
-                group: Octets::copy(alloc, group.as_slice())?,
-            }),
+            Command::Join { group } => with_copy!(alloc, Command::Join: group;),
+            Command::Leave { group } => with_copy!(alloc, Command::Leave: group;),
             Command::Whisper { peer, content } => Ok(Command::Whisper {
                 peer: *peer,
                 content: copy_frames(alloc, content)?,
@@ -74,21 +81,12 @@ impl Input {
         ensures { IfOk result (λ copy. copy ≡ self.now) }
     {
         match self {
-            Input::Datagram { from, bytes } => Ok(Input::Datagram {
-                from: *from,
-                bytes: Octets::copy(alloc, bytes.as_slice())?,
-            }),
+            Input::Datagram { from, bytes } => with_copy!(alloc, Input::Datagram: bytes; from),
             Input::Opened { conn } => Ok(Input::Opened { conn: *conn }),
-            Input::Piece { conn, bytes } => Ok(Input::Piece {
-                conn: *conn,
-                bytes: Octets::copy(alloc, bytes.as_slice())?,
-            }),
+            Input::Piece { conn, bytes } => with_copy!(alloc, Input::Piece: bytes; conn),
             Input::Shut { conn } => Ok(Input::Shut { conn: *conn }),
             Input::Linked { link } => Ok(Input::Linked { link: *link }),
-            Input::Reply { link, bytes } => Ok(Input::Reply {
-                link: *link,
-                bytes: Octets::copy(alloc, bytes.as_slice())?,
-            }),
+            Input::Reply { link, bytes } => with_copy!(alloc, Input::Reply: bytes; link),
             Input::Unlinked { link } => Ok(Input::Unlinked { link: *link }),
             Input::Took { link, count } => Ok(Input::Took {
                 link: *link,
@@ -125,10 +123,7 @@ impl Act {
             }),
             Act::CloseLink { link } => Ok(Act::CloseLink { link: *link }),
             Act::CloseConn { conn } => Ok(Act::CloseConn { conn: *conn }),
-            Act::Answer { conn, bytes } => Ok(Act::Answer {
-                conn: *conn,
-                bytes: Octets::copy(alloc, bytes.as_slice())?,
-            }),
+            Act::Answer { conn, bytes } => with_copy!(alloc, Act::Answer: bytes; conn),
             Act::Offer { link } => Ok(Act::Offer { link: *link }),
             Act::Beacon { bytes } => Ok(Act::Beacon { bytes: *bytes }),
         }

@@ -1,9 +1,11 @@
-ghost use Rattle.std.specs.Prelude.{◌≡◌, ◌≤◌, false, true, None, is_ok, IsSome, OnErr, IsErrOf};
-ghost use Rattle.zre_outside.specs.Causes.{Rose, raised, is_failed, counted};
+ghost use Rattle.std.specs.Prelude.{◌≡◌, ◌≤◌, false, true, None, is_ok, is_some, IsSome, OnErr, IsErrOf};
+ghost use Rattle.zre_outside.specs.Causes.{Rose, is_failed, counted};
+ghost use Rattle.zre_outside.specs.Recorders.{FileCapture};
 
-use crate::{NextFault, Recorder};
+use crate::{Faults, NextFault, Recorder};
 use std::fs;
 use std::io::{self, Write};
+use std::marker::Model;
 use std::rt::Files;
 
 /// A file as a recorder. What was in the file of this name before is gone once it is begun. Each put goes to the
@@ -12,64 +14,51 @@ use std::rt::Files;
 pub struct FileRecorder<R: Files> {
     rt: R,
     file: Option<R::File>,
-    faults: u64,
-    reason: Option<io::Error>,
+    faults: Faults,
+}
+
+impl<R: Files> Model for FileRecorder<R> {
+    ghost Value = { FileCapture };
+
+    ghost view = { λ r. record { begun = is_some r.file; faults = r.faults } };
 }
 
 impl<R: Files> FileRecorder<R> {
-    ghost use Rattle.zre_outside.specs.Adapters.{file_is_begun, file_faults_of, file_reason_of};
-
     /// A recorder that isn't begun.
     pub fn new(rt: R) -> Self
-        ensures begun { file_is_begun result ≡ false }
-        ensures faults { file_faults_of result ≡ 0 }
-        ensures reason { file_reason_of result ≡ None }
+        ensures { result ≡ record { begun = false; faults = record { count = 0; reason = None } } }
     {
         FileRecorder {
             rt,
             file: None,
-            faults: 0,
-            reason: None,
+            faults: Faults::none(),
         }
     }
 
     /// Why the last call that failed did, as the system says it.
     pub fn reason(&self) -> Option<io::Error>
-        ensures { result ≡ file_reason_of self.now }
+        ensures { result ≡ self.now.faults.reason }
     {
-        self.reason
-    }
-
-    // A call failed.
-    fn fail(&mut self, reason: io::Error)
-        ensures begun { file_is_begun self.new ≡ file_is_begun self.old }
-        ensures faults { file_faults_of self.new ≡ raised (file_faults_of self.old) }
-        ensures later { file_faults_of self.old ≤ file_faults_of self.new }
-        ensures reason { IsSome (file_reason_of self.new) }
-    {
-        self.faults = self.faults.saturating_add(1);
-        self.reason = Some(reason);
+        self.faults.reason()
     }
 }
 
 impl<R: Files> Recorder for FileRecorder<R> {
-    ghost use Rattle.zre_outside.specs.Adapters.{file_is_begun, file_faults_of, file_reason_of};
-
     ghost kept = { λ _. None };
 
     ghost named = { λ _. None };
 
-    ghost begun = { file_is_begun };
+    ghost begun = { λ r. r.begun };
 
-    ghost faults = { file_faults_of };
+    ghost faults = { λ r. r.faults.count };
 
     fn begin(&mut self, name: &str) -> Result<(), NextFault>
-        ensures begun { file_is_begun self.new ≡ is_ok result }
-        ensures later { file_faults_of self.old ≤ file_faults_of self.new }
-        ensures failed { IsErrOf result NextFault.Failed → Rose (file_faults_of self.old) (file_faults_of self.new) }
+        ensures begun { self.new.begun ≡ is_ok result }
+        ensures later { self.old.faults.count ≤ self.new.faults.count }
+        ensures failed { IsErrOf result NextFault.Failed → Rose self.old.faults.count self.new.faults.count }
         // The count rises where it failed, and nowhere else.
-        ensures counted { file_faults_of self.new ≡ counted (is_failed result) (file_faults_of self.old) }
-        ensures reason { OnErr result (IsSome (file_reason_of self.new)) }
+        ensures counted { self.new.faults.count ≡ counted (is_failed result) self.old.faults.count }
+        ensures reason { OnErr result (IsSome self.new.faults.reason) }
     {
         self.file = None;
         match fs::create(&self.rt, name) {
@@ -78,24 +67,24 @@ impl<R: Files> Recorder for FileRecorder<R> {
                 Ok(())
             }
             Err(reason) => {
-                self.fail(reason);
+                self.faults.raise(reason);
                 Err(NextFault::Failed)
             }
         }
     }
 
     fn put(&mut self, bytes: &[u8]) -> Result<(), NextFault>
-        requires { file_is_begun self.old ≡ true }
-        ensures begun { file_is_begun self.new ≡ file_is_begun self.old }
-        ensures later { file_faults_of self.old ≤ file_faults_of self.new }
-        ensures failed { IsErrOf result NextFault.Failed → Rose (file_faults_of self.old) (file_faults_of self.new) }
-        ensures counted { file_faults_of self.new ≡ counted (is_failed result) (file_faults_of self.old) }
-        ensures reason { OnErr result (IsSome (file_reason_of self.new)) }
+        requires { self.old.begun ≡ true }
+        ensures begun { self.new.begun ≡ self.old.begun }
+        ensures later { self.old.faults.count ≤ self.new.faults.count }
+        ensures failed { IsErrOf result NextFault.Failed → Rose self.old.faults.count self.new.faults.count }
+        ensures counted { self.new.faults.count ≡ counted (is_failed result) self.old.faults.count }
+        ensures reason { OnErr result (IsSome self.new.faults.reason) }
     {
         match self.file.as_mut().unwrap().write_all(bytes) {
             Ok(()) => Ok(()),
             Err(reason) => {
-                self.fail(reason);
+                self.faults.raise(reason);
                 Err(NextFault::Failed)
             }
         }

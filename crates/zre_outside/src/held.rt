@@ -12,20 +12,19 @@ pub(crate) struct Held {
 }
 
 impl Held {
-    ghost use Rattle.zre_outside.specs.Held.{left_in, taken_from};
+    ghost use Rattle.zre_outside.specs.Held.{reading_of};
 
     pub(crate) fn new(all: Octets) -> Self
-        ensures left { left_in result ≡ all }
-        ensures taken { taken_from result ≡ [] }
+        ensures { reading_of result ≡ record { left = all; taken = [] } }
     {
         Held { all, at: 0 }
     }
 
     /// Copies as many octets as there are and as fit into the front of `buf`.
     pub(crate) fn give(&mut self, buf: &mut [u8]) -> usize
-        ensures most { result ≡ min (length (left_in self.old)) (length buf.old) }
-        ensures moved { Moves (Some (left_in self.old)) (Some (left_in self.new))
-            (Some (taken_from self.old)) (Some (taken_from self.new)) (take result buf.new) }
+        ensures most { result ≡ min (length (reading_of self.old).left) (length buf.old) }
+        ensures moved { Moves (Some (reading_of self.old).left) (Some (reading_of self.new).left)
+            (Some (reading_of self.old).taken) (Some (reading_of self.new).taken) (take result buf.new) }
     {
         let rest = &self.all.as_slice()[self.at..];
         let n = rest.len().min(buf.len());

@@ -7,10 +7,12 @@
 mod act;
 mod adapters;
 mod buffer;
+mod calls;
 mod copies;
 mod deed;
 mod desk;
 mod entry;
+mod faults;
 mod file_recorder;
 mod given;
 mod held;
@@ -37,11 +39,12 @@ mod turn;
 mod world;
 
 pub use act::{Act, Acts};
-pub use adapters::{StdSink, StdSource};
+pub use adapters::{Adapter, StdSink, StdSource};
 pub use buffer::{PIECE, room_for, zeros};
 pub use deed::Deed;
 pub use desk::Desk;
 pub use entry::{Command, Entries, Entry, Input};
+pub use faults::Faults;
 pub use file_recorder::FileRecorder;
 pub use job::{Job, Task};
 pub use mem_desk::MemDesk;

@@ -1,58 +1,58 @@
-ghost use Rattle.std.specs.Prelude.{◌≡◌, ◌≤◌, ◌<◌, ◌==◌, ◌+◌, ◌-◌, ◌^◌, ℕ, min, length, take, is_err, IfOk, OnErr};
-ghost use Rattle.std.specs.Prelude.{IsErrOf, Some, []};
-ghost use Rattle.std.specs.List.{list_any};
+ghost use Rattle.std.specs.Prelude.{◌≡◌, ◌≤◌, ◌<◌, length, take, is_err, IfOk, OnErr, IsErrOf, Some, []};
 ghost use Rattle.std.specs.Io.{ReadsAtMost, WritesAtMost};
 ghost use Rattle.std.specs.Io.KnownBytes.{Keeps, Appends, IsAtEnd};
-ghost use Rattle.zre_outside.specs.Causes.{Rose, is_failed, raised, counted};
+ghost use Rattle.zre_outside.specs.Causes.{Rose, is_failed, counted};
 ghost use Rattle.zre_outside.specs.Told.{Moves};
-ghost use Rattle.zre_outside.specs.Held.{left_in, taken_from};
+ghost use Rattle.zre_outside.specs.Held.{reading_of};
+ghost use Rattle.zre_outside.specs.Memory.{FailingReading, FailingWriting};
+ghost use Rattle.zre_outside.specs.Calls.{no_calls, called, next_is_listed};
 
+use crate::calls::Calls;
 use crate::held::Held;
 use crate::{Failed, NextFault, Sink, Source};
 use std::alloc::Global;
+use std::marker::Model;
 use zre_values::{Octets, take_apart};
 
 /// Octets in memory, read in order. The calls of `read` with the numbers of a list fail, counted from 1.
 #[derive(Debug)]
 pub struct MemSource {
     held: Held,
-    read_fails: Vec<u64>,
-    calls: u64,
+    reads: Calls,
     faults: u64,
 }
 
 impl Drop for MemSource {
     fn drop(self) {
-        take_apart!(self, MemSource: held, read_fails, calls, faults);
+        take_apart!(self, MemSource: held, reads, faults);
     }
 }
 
-impl MemSource {
-    ghost use Rattle.zre_outside.specs.Memory.{left_of, taken_of, read_fails_of, read_calls_of, read_faults_of};
+impl Model for MemSource {
+    ghost Value = { FailingReading };
 
+    ghost view = { λ s. record { octets = reading_of s.held; reads = s.reads; faults = s.faults } };
+}
+
+impl MemSource {
     /// A source of which nothing was read.
     pub fn new(left: Octets, read_fails: Vec<u64>) -> Self
-        ensures left { left_of result ≡ left }
-        ensures taken { taken_of result ≡ [] }
-        ensures fails { read_fails_of result ≡ read_fails.items }
-        ensures calls { read_calls_of result ≡ 0 }
-        ensures faults { read_faults_of result ≡ 0 }
+        ensures octets { result.octets ≡ record { left = left; taken = [] } }
+        ensures reads { result.reads ≡ no_calls read_fails.items }
+        ensures faults { result.faults ≡ 0 }
     {
         MemSource {
             held: Held::new(left),
-            read_fails,
-            calls: 0,
+            reads: Calls::new(read_fails),
             faults: 0,
         }
     }
 }
 
 impl Source for MemSource {
-    ghost use Rattle.zre_outside.specs.Memory.{left_of, taken_of, read_fails_of, read_calls_of, read_faults_of};
+    ghost left = { λ s. Some s.octets.left };
 
-    ghost left = { λ s. Some (left_in s.held) };
-
-    ghost taken = { λ s. Some (taken_from s.held) };
+    ghost taken = { λ s. Some s.octets.taken };
 
     ghost faults = { λ s. s.faults };
 
@@ -60,21 +60,19 @@ impl Source for MemSource {
     fn read(&mut self, buf: &mut [u8]) -> Result<usize, Failed>
         requires { 0 < length buf.old }
         ensures bound { ReadsAtMost result buf.new }
-        ensures moved { IfOk result (λ n. Moves (Some (left_of self.old)) (Some (left_of self.new))
-            (Some (taken_of self.old)) (Some (taken_of self.new)) (take n buf.new)) }
-        ensures end { IfOk result (λ n. n ≡ 0 → IsAtEnd (Some (left_of self.new))) }
-        ensures refused_left { OnErr result (Keeps (Some (left_of self.old)) (Some (left_of self.new))) }
-        ensures refused_taken { OnErr result (Keeps (Some (taken_of self.old)) (Some (taken_of self.new))) }
-        ensures later { read_faults_of self.old ≤ read_faults_of self.new }
-        ensures failed { OnErr result (Rose (read_faults_of self.old) (read_faults_of self.new)) }
-        ensures counted { read_faults_of self.new ≡ counted (is_err result) (read_faults_of self.old) }
+        ensures moved { IfOk result (λ n. Moves (Some self.old.octets.left) (Some self.new.octets.left)
+            (Some self.old.octets.taken) (Some self.new.octets.taken) (take n buf.new)) }
+        ensures end { IfOk result (λ n. n ≡ 0 → IsAtEnd (Some self.new.octets.left)) }
+        ensures refused_left { OnErr result (Keeps (Some self.old.octets.left) (Some self.new.octets.left)) }
+        ensures refused_taken { OnErr result (Keeps (Some self.old.octets.taken) (Some self.new.octets.taken)) }
+        ensures later { self.old.faults ≤ self.new.faults }
+        ensures failed { OnErr result (Rose self.old.faults self.new.faults) }
+        ensures counted { self.new.faults ≡ counted (is_err result) self.old.faults }
         // The calls whose numbers are listed fail, and no others.
-        ensures listed { is_err result ≡ list_any (λ n. n == raised (read_calls_of self.old)) (read_fails_of self.old) }
-        ensures calls { read_calls_of self.new ≡ raised (read_calls_of self.old) }
-        ensures fails { read_fails_of self.new ≡ read_fails_of self.old }
+        ensures listed { is_err result ≡ next_is_listed self.old.reads }
+        ensures calls { self.new.reads ≡ called self.old.reads }
     {
-        self.calls = self.calls.saturating_add(1);
-        if self.read_fails.contains(&self.calls) {
+        if self.reads.next_fails() {
             self.faults = self.faults.saturating_add(1);
             return Err(Failed);
         }
@@ -86,47 +84,44 @@ impl Source for MemSource {
 #[derive(Debug)]
 pub struct MemSink {
     bytes: Octets,
-    write_fails: Vec<u64>,
-    calls: u64,
+    writes: Calls,
     faults: u64,
 }
 
 impl Drop for MemSink {
     fn drop(self) {
-        take_apart!(self, MemSink: bytes, write_fails, calls, faults);
+        take_apart!(self, MemSink: bytes, writes, faults);
     }
 }
 
-impl MemSink {
-    ghost use Rattle.zre_outside.specs.Memory.{written_of, write_fails_of, write_calls_of, write_faults_of};
+impl Model for MemSink {
+    ghost Value = { FailingWriting };
 
+    ghost view = { λ s. record { written = s.bytes; writes = s.writes; faults = s.faults } };
+}
+
+impl MemSink {
     /// A sink to which nothing was written.
     pub fn new(alloc: Global, write_fails: Vec<u64>) -> Self
-        ensures written { written_of result ≡ [] }
-        ensures fails { write_fails_of result ≡ write_fails.items }
-        ensures calls { write_calls_of result ≡ 0 }
-        ensures faults { write_faults_of result ≡ 0 }
+        ensures { result ≡ record { written = []; writes = no_calls write_fails.items; faults = 0 } }
     {
         MemSink {
             bytes: Octets::new(alloc),
-            write_fails,
-            calls: 0,
+            writes: Calls::new(write_fails),
             faults: 0,
         }
     }
 
     /// All that was written.
     pub fn written(&self) -> &[u8]
-        ensures { result.now ≡ written_of self.now }
+        ensures { result.now ≡ self.now.written }
     {
         self.bytes.as_slice()
     }
 }
 
 impl Sink for MemSink {
-    ghost use Rattle.zre_outside.specs.Memory.{written_of, write_fails_of, write_calls_of, write_faults_of};
-
-    ghost written = { λ s. Some s.bytes };
+    ghost written = { λ s. Some s.written };
 
     ghost faults = { λ s. s.faults };
 
@@ -134,27 +129,22 @@ impl Sink for MemSink {
     fn write(&mut self, bytes: &[u8]) -> Result<usize, NextFault>
         ensures bound { WritesAtMost result bytes.now }
         ensures some { IfOk result (λ n. 0 < length bytes.now → 0 < n) }
-        ensures appended { IfOk result (λ n. Appends (Some (written_of self.old)) (Some (written_of self.new))
+        ensures appended { IfOk result (λ n. Appends (Some self.old.written) (Some self.new.written)
             (take n bytes.now)) }
-        ensures refused { OnErr result (Keeps (Some (written_of self.old)) (Some (written_of self.new))) }
-        ensures later { write_faults_of self.old ≤ write_faults_of self.new }
-        ensures failed { IsErrOf result NextFault.Failed → Rose (write_faults_of self.old) (write_faults_of self.new) }
-        ensures counted { write_faults_of self.new ≡ counted (is_failed result) (write_faults_of self.old) }
+        ensures refused { OnErr result (Keeps (Some self.old.written) (Some self.new.written)) }
+        ensures later { self.old.faults ≤ self.new.faults }
+        ensures failed { IsErrOf result NextFault.Failed → Rose self.old.faults self.new.faults }
+        ensures counted { self.new.faults ≡ counted (is_failed result) self.old.faults }
         ensures all { IfOk result (λ n. n ≡ length bytes.now) }
         // The calls whose numbers are listed fail, and no others.
-        ensures listed { is_failed result ≡ list_any (λ n. n == raised (write_calls_of self.old))
-            (write_fails_of self.old) }
-        ensures calls { write_calls_of self.new ≡ raised (write_calls_of self.old) }
-        ensures fails { write_fails_of self.new ≡ write_fails_of self.old }
+        ensures listed { is_failed result ≡ next_is_listed self.old.writes }
+        ensures calls { self.new.writes ≡ called self.old.writes }
     {
-        self.calls = self.calls.saturating_add(1);
-        if self.write_fails.contains(&self.calls) {
+        if self.writes.next_fails() {
             self.faults = self.faults.saturating_add(1);
             return Err(NextFault::Failed);
         }
-        match self.bytes.append(bytes) {
-            Ok(()) => Ok(bytes.len()),
-            Err(_) => Err(NextFault::OutOfMemory),
-        }
+        self.bytes.append(bytes)?;
+        Ok(bytes.len())
     }
 }

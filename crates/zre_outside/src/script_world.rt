@@ -1,14 +1,16 @@
-ghost use Rattle.std.specs.Prelude.{◌≡◌, ◌≤◌, ◌==◌, ◌||◌, ◌&&◌, false, true, Some, None, [], option_map, IsSome};
+ghost use Rattle.std.specs.Prelude.{◌≡◌, ◌≤◌, ◌||◌, ◌&&◌, true, Some, option_map, IsSome};
 ghost use Rattle.std.specs.Prelude.{IfOk, OnOk, OnErr, IsErrOf, nat_le};
-ghost use Rattle.std.specs.List.{list_any};
 ghost use Rattle.zre_outside.specs.declared.deed.Deed.{Deed as DeedValue};
-ghost use Rattle.zre_outside.specs.Causes.{Rose, raised, counted, is_failed};
-ghost use Rattle.zre_outside.specs.Worlds.{with_start, IsTurn, is_look, after_turn, with_deed};
-ghost use Rattle.zre_outside.specs.Scripts.{first_log, turn_of, left_after, reading_after, row_later, at_look, Waits};
+ghost use Rattle.zre_outside.specs.Calls.{no_calls, called, next_is_listed};
+ghost use Rattle.zre_outside.specs.Causes.{Rose, counted, is_failed};
+ghost use Rattle.zre_outside.specs.Worlds.{with_start, IsTurn, with_deed};
+ghost use Rattle.zre_outside.specs.Scripts.{FailingScene, first_scene, row_later, at_look, Plays, Waits, WaitsIn};
 
+use crate::calls::Calls;
 use crate::stage::Stage;
 use crate::{Act, Command, NextFault, Script, Start, Turn, World};
 use std::alloc::Global;
+use std::marker::Model;
 use zre_values::{OutOfMemory, take_apart};
 
 /// So many looks in a row a [`ScriptWorld`] answers. A further one fails.
@@ -19,151 +21,125 @@ pub const LOOKS_IN_A_ROW: u64 = 50000000;
 pub struct ScriptWorld {
     stage: Stage,
     row: u64,
-    start_fails: Vec<u64>,
-    next_fails: Vec<u64>,
-    starts: u64,
-    nexts: u64,
+    starts: Calls,
+    nexts: Calls,
     faults: u64,
 }
 
 impl Drop for ScriptWorld {
     fn drop(self) {
-        take_apart!(self, ScriptWorld: stage, row, start_fails, next_fails, starts, nexts, faults);
+        take_apart!(self, ScriptWorld: stage, row, starts, nexts, faults);
     }
 }
 
-impl ScriptWorld {
-    ghost use Rattle.zre_outside.specs.Scripts.{script_left, reading_of, seen_by, has_looked, row_of};
-    ghost use Rattle.zre_outside.specs.Scripts.{start_fails_of, next_fails_of, starts_of, nexts_of};
-    ghost use Rattle.zre_outside.specs.Scripts.{world_faults_of};
+impl Model for ScriptWorld {
+    ghost Value = { FailingScene };
 
+    ghost view = { λ w. record {
+      scene = w.stage;
+      row = w.row;
+      starts = w.starts;
+      nexts = w.nexts;
+      faults = w.faults;
+    } };
+}
+
+impl ScriptWorld {
     /// A world of which no turn was asked.
     pub fn new(alloc: Global, script: Script, start_fails: Vec<u64>, next_fails: Vec<u64>) -> Self
-        ensures left { script_left result ≡ script }
-        ensures reading { reading_of result ≡ 0 }
-        ensures looked { has_looked result ≡ false }
-        ensures told { seen_by result ≡ first_log }
-        ensures row { row_of result ≡ 0 }
-        ensures fails { (start_fails_of result ≡ start_fails.items) × (next_fails_of result ≡ next_fails.items) }
-        ensures calls { (starts_of result ≡ 0) × (nexts_of result ≡ 0) }
-        ensures faults { world_faults_of result ≡ 0 }
+        ensures scene { result.scene ≡ first_scene script }
+        ensures row { result.row ≡ 0 }
+        ensures calls { (result.starts ≡ no_calls start_fails.items) × (result.nexts ≡ no_calls next_fails.items) }
+        ensures faults { result.faults ≡ 0 }
     {
         ScriptWorld {
             stage: Stage::new(alloc, script),
             row: 0,
-            start_fails,
-            next_fails,
-            starts: 0,
-            nexts: 0,
+            starts: Calls::new(start_fails),
+            nexts: Calls::new(next_fails),
             faults: 0,
         }
     }
 
-    // Whether the turn that is counted already is to fail.
-    fn is_to_fail(&self, command: &Option<Command>) -> bool
-        ensures { result ≡ list_any (λ n. n == nexts_of self.now) (next_fails_of self.now)
-            || (at_look (script_left self.now) command.now && nat_le 50000000 (row_of self.now)) }
+    // Whether the next turn is a look after too many others.
+    fn is_stuck(&self, command: &Option<Command>) -> bool
+        ensures { result ≡ at_look self.now.scene.left command.now && nat_le 50000000 self.now.row }
     {
-        self.next_fails.contains(&self.nexts)
-            || (self.stage.is_at_look(command) && self.row >= LOOKS_IN_A_ROW)
+        self.stage.is_at_look(command) && self.row >= LOOKS_IN_A_ROW
     }
 }
 
 impl World for ScriptWorld {
-    ghost use Rattle.zre_outside.specs.Scripts.{script_left, reading_of, seen_by, has_looked, row_of};
-    ghost use Rattle.zre_outside.specs.Scripts.{start_fails_of, next_fails_of, starts_of, nexts_of};
-    ghost use Rattle.zre_outside.specs.Scripts.{world_faults_of};
+    ghost told = { λ w. Some w.scene.told };
 
-    ghost told = { λ w. Some (seen_by w) };
+    ghost looked = { λ w. w.scene.looked };
 
-    ghost looked = { has_looked };
-
-    ghost faults = { world_faults_of };
+    ghost faults = { λ w. w.faults };
 
     /// The calls whose numbers are listed fail, and no others.
     fn start(&mut self, s: &Start) -> Result<(), NextFault>
-        ensures told { OnOk result (Some (seen_by self.new) ≡ option_map (with_start s.now) (Some (seen_by self.old))) }
-        ensures refused { OnErr result (Some (seen_by self.new) ≡ Some (seen_by self.old)) }
-        ensures looked { has_looked self.new ≡ has_looked self.old }
-        ensures later { world_faults_of self.old ≤ world_faults_of self.new }
-        ensures failed { IsErrOf result NextFault.Failed → Rose (world_faults_of self.old) (world_faults_of self.new) }
-        ensures counted { world_faults_of self.new ≡ counted (is_failed result) (world_faults_of self.old) }
-        ensures listed { is_failed result ≡ list_any (λ n. n == raised (starts_of self.old)) (start_fails_of self.old) }
-        ensures calls { (starts_of self.new ≡ raised (starts_of self.old)) × (nexts_of self.new ≡ nexts_of self.old) }
-        ensures fails { (start_fails_of self.new ≡ start_fails_of self.old)
-            × (next_fails_of self.new ≡ next_fails_of self.old) }
-        ensures script { (script_left self.new ≡ script_left self.old) × (reading_of self.new ≡ reading_of self.old)
-            × (row_of self.new ≡ row_of self.old) }
+        ensures told { OnOk result (Some self.new.scene.told ≡ option_map (with_start s.now)
+            (Some self.old.scene.told)) }
+        ensures refused { OnErr result (Some self.new.scene.told ≡ Some self.old.scene.told) }
+        ensures looked { self.new.scene.looked ≡ self.old.scene.looked }
+        ensures later { self.old.faults ≤ self.new.faults }
+        ensures failed { IsErrOf result NextFault.Failed → Rose self.old.faults self.new.faults }
+        ensures counted { self.new.faults ≡ counted (is_failed result) self.old.faults }
+        ensures listed { is_failed result ≡ next_is_listed self.old.starts }
+        ensures calls { (self.new.starts ≡ called self.old.starts) × (self.new.nexts ≡ self.old.nexts) }
+        ensures script { Waits self.old.scene self.new.scene × (self.new.row ≡ self.old.row) }
     {
-        self.starts = self.starts.saturating_add(1);
-        if self.start_fails.contains(&self.starts) {
+        if self.starts.next_fails() {
             self.faults = self.faults.saturating_add(1);
             return Err(NextFault::Failed);
         }
-        match self.stage.start(s) {
-            Ok(()) => Ok(()),
-            Err(OutOfMemory) => Err(NextFault::OutOfMemory),
-        }
+        Ok(self.stage.start(s)?)
     }
 
     /// The turn is the script's. The calls whose numbers are listed fail, and a look after too many others, and no
     /// others.
     fn next(&mut self, command: Option<Command>) -> Result<Turn, NextFault>
-        requires { IsSome command → has_looked self.old ≡ true }
+        requires { IsSome command → self.old.scene.looked ≡ true }
         ensures turn { IfOk result (λ t. IsTurn command t) }
-        ensures told { IfOk result (λ t. Some (seen_by self.new) ≡ option_map (after_turn command t)
-            (Some (seen_by self.old))) }
-        ensures looked { IfOk result (λ t. has_looked self.new ≡ is_look t) }
-        ensures refused { OnErr result ((Some (seen_by self.new) ≡ Some (seen_by self.old))
-            × (has_looked self.new ≡ has_looked self.old)) }
-        ensures later { world_faults_of self.old ≤ world_faults_of self.new }
-        ensures failed { IsErrOf result NextFault.Failed → Rose (world_faults_of self.old) (world_faults_of self.new) }
-        ensures counted { world_faults_of self.new ≡ counted (is_failed result) (world_faults_of self.old) }
-        ensures script { IfOk result (λ t. (t ≡ turn_of (script_left self.old) (reading_of self.old) command)
-            × (script_left self.new ≡ left_after (script_left self.old) command)
-            × (reading_of self.new ≡ reading_after (reading_of self.old) t)) }
-        ensures row { IfOk result (λ t. row_of self.new ≡ row_later (row_of self.old) t) }
-        ensures kept { OnErr result ((script_left self.new ≡ script_left self.old)
-            × (reading_of self.new ≡ reading_of self.old) × (row_of self.new ≡ row_of self.old)) }
-        ensures listed { is_failed result ≡ list_any (λ n. n == raised (nexts_of self.old)) (next_fails_of self.old)
-            || (at_look (script_left self.old) command && nat_le 50000000 (row_of self.old)) }
-        ensures calls { (nexts_of self.new ≡ raised (nexts_of self.old)) × (starts_of self.new ≡ starts_of self.old) }
-        ensures fails { (start_fails_of self.new ≡ start_fails_of self.old)
-            × (next_fails_of self.new ≡ next_fails_of self.old) }
+        ensures script { IfOk result (λ t. Plays command t self.old.scene self.new.scene) }
+        ensures refused { OnErr result (self.new.scene ≡ self.old.scene) }
+        ensures later { self.old.faults ≤ self.new.faults }
+        ensures failed { IsErrOf result NextFault.Failed → Rose self.old.faults self.new.faults }
+        ensures counted { self.new.faults ≡ counted (is_failed result) self.old.faults }
+        ensures row { IfOk result (λ t. self.new.row ≡ row_later self.old.row t) }
+        ensures kept { OnErr result (self.new.row ≡ self.old.row) }
+        ensures listed { is_failed result ≡ next_is_listed self.old.nexts
+            || (at_look self.old.scene.left command && nat_le 50000000 self.old.row) }
+        ensures calls { (self.new.nexts ≡ called self.old.nexts) × (self.new.starts ≡ self.old.starts) }
     {
-        self.nexts = self.nexts.saturating_add(1);
-        if self.is_to_fail(&command) {
+        if self.nexts.next_fails() || self.is_stuck(&command) {
             self.faults = self.faults.saturating_add(1);
             drop(command);
             return Err(NextFault::Failed);
         }
-        match self.stage.next(command) {
-            Ok(turn) => {
-                self.row = row_after(self.row, &turn);
-                Ok(turn)
-            }
-            Err(OutOfMemory) => Err(NextFault::OutOfMemory),
-        }
+        let turn = self.stage.next(command)?;
+        self.row = row_after(self.row, &turn);
+        Ok(turn)
     }
 
     fn act(&mut self, act: &Act) -> Result<(), OutOfMemory>
-        ensures ok { OnOk result (Some (seen_by self.new) ≡ option_map (with_deed (DeedValue.Done act.now))
-            (Some (seen_by self.old))) }
-        ensures err { OnErr result (Some (seen_by self.new) ≡ Some (seen_by self.old)) }
-        ensures looked { has_looked self.new ≡ has_looked self.old }
-        ensures faults { world_faults_of self.new ≡ world_faults_of self.old }
-        ensures script { Waits self.old self.new }
+        ensures ok { OnOk result (Some self.new.scene.told ≡ option_map (with_deed (DeedValue.Done act.now))
+            (Some self.old.scene.told)) }
+        ensures err { OnErr result (Some self.new.scene.told ≡ Some self.old.scene.told) }
+        ensures looked { self.new.scene.looked ≡ self.old.scene.looked }
+        ensures faults { self.new.faults ≡ self.old.faults }
+        ensures script { WaitsIn self.old self.new }
     {
         self.stage.act(act)
     }
 
     fn offer(&mut self, link: u64, bytes: &[u8]) -> Result<(), OutOfMemory>
-        ensures ok { OnOk result (Some (seen_by self.new) ≡ option_map (with_deed (DeedValue.Offered link bytes.now))
-            (Some (seen_by self.old))) }
-        ensures err { OnErr result (Some (seen_by self.new) ≡ Some (seen_by self.old)) }
-        ensures looked { has_looked self.new ≡ has_looked self.old }
-        ensures faults { world_faults_of self.new ≡ world_faults_of self.old }
-        ensures script { Waits self.old self.new }
+        ensures ok { OnOk result (Some self.new.scene.told ≡ option_map (with_deed (DeedValue.Offered link bytes.now))
+            (Some self.old.scene.told)) }
+        ensures err { OnErr result (Some self.new.scene.told ≡ Some self.old.scene.told) }
+        ensures looked { self.new.scene.looked ≡ self.old.scene.looked }
+        ensures faults { self.new.faults ≡ self.old.faults }
+        ensures script { WaitsIn self.old self.new }
     {
         self.stage.offer(link, bytes)
     }

@@ -3,8 +3,10 @@ ghost use Rattle.std.specs.Io.{WritesAtMost};
 ghost use Rattle.std.specs.Io.KnownBytes.{Keeps, Appends};
 ghost use Rattle.zre_outside.specs.Causes.{Rose};
 ghost use Rattle.zre_outside.specs.Told.{AppendsFront};
+ghost use Rattle.zre_outside.specs.declared.sink.NextFault.TheVariants.{OutOfMemory as NoMemory};
 
 use thiserror::Error;
+use zre_values::OutOfMemory;
 
 /// Why the outside refused.
 #[derive(Clone, Copy, Debug, PartialEq, Eq, Error)]
@@ -16,6 +18,14 @@ pub enum NextFault {
     /// No memory was left.
     #[error("out of memory")]
     OutOfMemory,
+}
+
+impl From<OutOfMemory> for NextFault {
+    ghost from_gives = { λ _ e. e ≡ NoMemory };
+
+    fn from(_: OutOfMemory) -> Self {
+        NextFault::OutOfMemory
+    }
 }
 
 /// Where octets go to: a file, a pipe, standard output.

@@ -1,15 +1,15 @@
 //! A script as it is played.
 
-ghost use Rattle.std.specs.Prelude.{◌≡◌, drop, false, [], None, Some, OnOk, OnErr, IfOk};
+ghost use Rattle.std.specs.Prelude.{◌≡◌, drop, false, true, [], None, Some, OnOk, OnErr, IfOk};
 ghost use Rattle.zre_outside.specs.declared.deed.Deed.{Deed as DeedValue};
 ghost use Rattle.zre_outside.specs.Worlds.{with_start, after_turn, with_deed};
 ghost use Rattle.zre_outside.specs.declared.turn.Turn.TheVariants as turns;
-ghost use Rattle.zre_outside.specs.Scripts.{log_of, first_log, left_on, turn_of, Ends, LooksOn, Plays, Sees, Stays};
-ghost use Rattle.zre_outside.specs.Scripts.{at_look};
+ghost use Rattle.zre_outside.specs.Scripts.{Scene, first_scene, turn_of, at_look, seen, Plays};
 
 use crate::{Act, Command, Deed, Entry, Input, Script, Start, Turn};
 use std::alloc::Global;
 use std::collections::VecDeque;
+use std::marker::Model;
 use zre_values::{Octets, OutOfMemory, take_apart};
 
 /// What is left of a script, and what was seen of it.
@@ -31,12 +31,26 @@ impl Drop for Stage {
     }
 }
 
+impl Model for Stage {
+    ghost Value = { Scene };
+
+    ghost view = { λ s. record {
+      left = s.left.items;
+      reading = s.reading;
+      looked = s.looked;
+      told = record {
+        begun = s.begun;
+        given = s.given.items;
+        looks = s.looks;
+        handed = s.handed.items;
+        done = s.done.items;
+      };
+    } };
+}
+
 impl Stage {
     pub(crate) fn new(alloc: Global, script: Script) -> Self
-        ensures left { left_on result ≡ script }
-        ensures reading { result.reading ≡ 0 }
-        ensures looked { result.looked ≡ false }
-        ensures told { log_of result ≡ first_log }
+        ensures { result ≡ first_scene script }
     {
         Stage {
             alloc,
@@ -52,8 +66,8 @@ impl Stage {
     }
 
     pub(crate) fn start(&mut self, s: &Start) -> Result<(), OutOfMemory>
-        ensures ok { OnOk result (Sees (with_start s.now) self.old self.new) }
-        ensures err { OnErr result (Stays self.old self.new) }
+        ensures ok { OnOk result (self.new ≡ seen (with_start s.now) self.old) }
+        ensures err { OnErr result (self.new ≡ self.old) }
     {
         self.begun = Some(s.copy(self.alloc)?);
         Ok(())
@@ -61,7 +75,7 @@ impl Stage {
 
     pub(crate) fn next(&mut self, command: Option<Command>) -> Result<Turn, OutOfMemory>
         ensures ok { IfOk result (λ t. Plays command t self.old self.new) }
-        ensures err { OnErr result (Stays self.old self.new) }
+        ensures err { OnErr result (self.new ≡ self.old) }
     {
         match command {
             Some(command) => self.answer(command),
@@ -71,7 +85,7 @@ impl Stage {
 
     /// Whether the next turn is a look.
     pub(crate) fn is_at_look(&self, command: &Option<Command>) -> bool
-        ensures { result ≡ at_look (left_on self.now) command.now }
+        ensures { result ≡ at_look self.now.left command.now }
     {
         match command {
             Some(_) => false,
@@ -81,9 +95,9 @@ impl Stage {
 
     // Lists a command as handed in, and the entry to do it as given, or neither.
     fn hand(&mut self, command: &Command) -> Result<(), OutOfMemory>
-        ensures ok { OnOk result (Sees (after_turn (Some command.now)
-            (turn_of [] self.old.reading (Some command.now))) self.old self.new) }
-        ensures err { OnErr result (Stays self.old self.new) }
+        ensures ok { OnOk result (self.new ≡ seen (after_turn (Some command.now)
+            (turn_of [] self.old.reading (Some command.now))) self.old) }
+        ensures err { OnErr result (self.new ≡ self.old) }
     {
         self.handed.reserve(1)?;
         self.given.reserve(1)?;
@@ -102,8 +116,7 @@ impl Stage {
 
     // The first item that is left, if one is, is left no more.
     fn skip(&mut self)
-        ensures same { self.new ≡ record self.old { left = self.new.left } }
-        ensures left { left_on self.new ≡ drop 1 (left_on self.old) }
+        ensures { self.new ≡ record self.old { left = drop 1 self.old.left } }
     {
         drop(self.left.pop_front());
     }
@@ -111,7 +124,7 @@ impl Stage {
     // A command is done in place of a look.
     fn answer(&mut self, command: Command) -> Result<Turn, OutOfMemory>
         ensures ok { IfOk result (λ t. Plays (Some command) t self.old self.new) }
-        ensures err { OnErr result (Stays self.old self.new) }
+        ensures err { OnErr result (self.new ≡ self.old) }
     {
         let Ok(()) = self.hand(&command) else {
             drop(command);
@@ -127,8 +140,9 @@ impl Stage {
 
     // A look is answered.
     fn look(&mut self) -> Result<Turn, OutOfMemory>
-        ensures ok { IfOk result (λ t. (t ≡ turns.Look) × LooksOn self.old self.new) }
-        ensures err { OnErr result (Stays self.old self.new) }
+        ensures ok { IfOk result (λ t. (t ≡ turns.Look)
+            × (self.new ≡ record self.old { looked = true; told = after_turn None t self.old.told })) }
+        ensures err { OnErr result (self.new ≡ self.old) }
     {
         self.looks = self.looks.checked_add(1).ok_or(OutOfMemory)?;
         self.looked = true;
@@ -137,8 +151,9 @@ impl Stage {
 
     // End is given.
     fn end(&mut self) -> Result<Turn, OutOfMemory>
-        ensures ok { IfOk result (λ t. (t ≡ turn_of [] self.old.reading None) × Ends self.old self.new) }
-        ensures err { OnErr result (Stays self.old self.new) }
+        ensures ok { IfOk result (λ t. (t ≡ turn_of [] self.old.reading None)
+            × (self.new ≡ record self.old { looked = false; told = after_turn None t self.old.told })) }
+        ensures err { OnErr result (self.new ≡ self.old) }
     {
         let at = self.reading;
         self.given.push(Entry {
@@ -155,7 +170,7 @@ impl Stage {
     // The next item of the script, or End after it.
     fn go_on(&mut self) -> Result<Turn, OutOfMemory>
         ensures ok { IfOk result (λ t. Plays None t self.old self.new) }
-        ensures err { OnErr result (Stays self.old self.new) }
+        ensures err { OnErr result (self.new ≡ self.old) }
     {
         match self.left.front() {
             Some(Turn::Look) => self.look(),
@@ -171,16 +186,16 @@ impl Stage {
     }
 
     pub(crate) fn act(&mut self, act: &Act) -> Result<(), OutOfMemory>
-        ensures ok { OnOk result (Sees (with_deed (DeedValue.Done act.now)) self.old self.new) }
-        ensures err { OnErr result (Stays self.old self.new) }
+        ensures ok { OnOk result (self.new ≡ seen (with_deed (DeedValue.Done act.now)) self.old) }
+        ensures err { OnErr result (self.new ≡ self.old) }
     {
         self.done.push(Deed::Done(act.copy(self.alloc)?))?;
         Ok(())
     }
 
     pub(crate) fn offer(&mut self, link: u64, bytes: &[u8]) -> Result<(), OutOfMemory>
-        ensures ok { OnOk result (Sees (with_deed (DeedValue.Offered link bytes.now)) self.old self.new) }
-        ensures err { OnErr result (Stays self.old self.new) }
+        ensures ok { OnOk result (self.new ≡ seen (with_deed (DeedValue.Offered link bytes.now)) self.old) }
+        ensures err { OnErr result (self.new ≡ self.old) }
     {
         self.done.push(Deed::Offered {
             link,

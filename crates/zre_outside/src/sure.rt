@@ -1,9 +1,11 @@
-ghost use Rattle.std.specs.Prelude.{◌≡◌, Some, []};
-ghost use Rattle.zre_outside.specs.Held.{left_in, taken_from};
+ghost use Rattle.std.specs.Prelude.{◌≡◌, ℕ, List, Some, []};
+ghost use Rattle.zre_outside.specs.Held.{reading_of};
+ghost use Rattle.zre_outside.specs.Memory.{Reading};
 
 use crate::held::Held;
 use crate::{Failed, NextFault, Sink, Source};
 use std::alloc::Global;
+use std::marker::Model;
 use zre_values::Octets;
 
 /// Octets in memory, read in order. Its count of faults is 0, so it never fails.
@@ -12,13 +14,16 @@ pub struct SureSource {
     held: Held,
 }
 
-impl SureSource {
-    ghost use Rattle.zre_outside.specs.Memory.{sure_left_of, sure_taken_of};
+impl Model for SureSource {
+    ghost Value = { Reading };
 
+    ghost view = { λ s. reading_of s.held };
+}
+
+impl SureSource {
     /// A source of which nothing was read.
     pub fn new(left: Octets) -> Self
-        ensures left { sure_left_of result ≡ left }
-        ensures taken { sure_taken_of result ≡ [] }
+        ensures { result ≡ record { left = left; taken = [] } }
     {
         SureSource {
             held: Held::new(left),
@@ -27,9 +32,9 @@ impl SureSource {
 }
 
 impl Source for SureSource {
-    ghost left = { λ s. Some (left_in s.held) };
+    ghost left = { λ s. Some s.left };
 
-    ghost taken = { λ s. Some (taken_from s.held) };
+    ghost taken = { λ s. Some s.taken };
 
     ghost faults = { λ _. 0 };
 
@@ -44,12 +49,16 @@ pub struct SureSink {
     bytes: Octets,
 }
 
-impl SureSink {
-    ghost use Rattle.zre_outside.specs.Memory.{sure_written_of};
+impl Model for SureSink {
+    ghost Value = { List ℕ };
 
+    ghost view = { λ s. s.bytes };
+}
+
+impl SureSink {
     /// A sink to which nothing was written.
     pub fn new(alloc: Global) -> Self
-        ensures { sure_written_of result ≡ [] }
+        ensures { result ≡ [] }
     {
         SureSink {
             bytes: Octets::new(alloc),
@@ -58,21 +67,19 @@ impl SureSink {
 
     /// All that was written.
     pub fn written(&self) -> &[u8]
-        ensures { result.now ≡ sure_written_of self.now }
+        ensures { result.now ≡ self.now }
     {
         self.bytes.as_slice()
     }
 }
 
 impl Sink for SureSink {
-    ghost written = { λ s. Some s.bytes };
+    ghost written = { λ s. Some s };
 
     ghost faults = { λ _. 0 };
 
     fn write(&mut self, bytes: &[u8]) -> Result<usize, NextFault> {
-        match self.bytes.append(bytes) {
-            Ok(()) => Ok(bytes.len()),
-            Err(_) => Err(NextFault::OutOfMemory),
-        }
+        self.bytes.append(bytes)?;
+        Ok(bytes.len())
     }
 }

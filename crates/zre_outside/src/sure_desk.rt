@@ -1,11 +1,14 @@
 ghost use Rattle.std.specs.Prelude.{◌≡◌, Some, option_map, IfOk, OnOk, OnErr};
 ghost use Rattle.zre_outside.specs.Causes.{Rose};
-ghost use Rattle.zre_outside.specs.Desks.{with_begun, with_given, GivesOn};
+ghost use Rattle.zre_outside.specs.Desks.{Queue, first_register, with_begun, with_given, GivesOn};
+ghost use Rattle.zre_outside.specs.Givens.{given_in};
+ghost use Rattle.zre_outside.specs.Memory.{Reading};
 
 use crate::given::Given;
 use crate::{Desk, Failed, SureSource};
 use std::alloc::Global;
 use std::collections::VecDeque;
+use std::marker::Model;
 use zre_values::{Endpoint, Octets};
 
 /// Clients in memory, given in order. Past the last one come clients that send nothing. Its count of faults is 0, so
@@ -18,13 +21,16 @@ pub struct SureDesk {
     given: Given<SureSource>,
 }
 
-impl SureDesk {
-    ghost use Rattle.zre_outside.specs.Desks.{first_register, sure_clients_left, sure_registered_by};
+impl Model for SureDesk {
+    ghost Value = { Queue Reading };
 
+    ghost view = { λ d. record { left = d.left.items; told = record { begun = d.begun; given = given_in d.given } } };
+}
+
+impl SureDesk {
     /// A desk that isn't begun, and that gave none of these clients.
     pub fn new(alloc: Global, clients: Vec<SureSource>) -> Self
-        ensures left { sure_clients_left result ≡ clients.items }
-        ensures told { sure_registered_by result ≡ first_register }
+        ensures { result ≡ record { left = clients.items; told = first_register } }
     {
         SureDesk {
             alloc,
@@ -36,31 +42,29 @@ impl SureDesk {
 }
 
 impl Desk for SureDesk {
-    ghost use Rattle.zre_outside.specs.Desks.{sure_clients_left, sure_registered_by};
-
     type Client = SureSource;
 
-    ghost told = { λ d. Some (sure_registered_by d) };
+    ghost told = { λ d. Some d.told };
 
     ghost faults = { λ _. 0 };
 
     fn begin(&mut self, addr: [u8; 4], port: u16) -> Result<(), Failed>
-        ensures told { OnOk result (Some (sure_registered_by self.new) ≡ option_map (with_begun addr port)
-            (Some (sure_registered_by self.old))) }
-        ensures refused { OnErr result (Some (sure_registered_by self.new) ≡ Some (sure_registered_by self.old)) }
+        ensures told { OnOk result (Some self.new.told ≡ option_map (with_begun addr port)
+            (Some self.old.told)) }
+        ensures refused { OnErr result (Some self.new.told ≡ Some self.old.told) }
         ensures failed { OnErr result (Rose 0 0) }
-        ensures left { sure_clients_left self.new ≡ sure_clients_left self.old }
+        ensures left { self.new.left ≡ self.old.left }
     {
         self.begun = Some(Endpoint { addr, port });
         Ok(())
     }
 
     fn next(&mut self) -> Result<SureSource, Failed>
-        ensures told { IfOk result (λ c. Some (sure_registered_by self.new) ≡ option_map (with_given c)
-            (Some (sure_registered_by self.old))) }
-        ensures refused { OnErr result (Some (sure_registered_by self.new) ≡ Some (sure_registered_by self.old)) }
+        ensures told { IfOk result (λ c. Some self.new.told ≡ option_map (with_given c)
+            (Some self.old.told)) }
+        ensures refused { OnErr result (Some self.new.told ≡ Some self.old.told) }
         ensures failed { OnErr result (Rose 0 0) }
-        ensures first { IfOk result (λ c. GivesOn c (sure_clients_left self.old) (sure_clients_left self.new)) }
+        ensures first { IfOk result (λ c. GivesOn c self.old.left self.new.left) }
     {
         let client = match self.left.pop_front() {
             Some(client) => client,

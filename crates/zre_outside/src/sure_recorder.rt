@@ -1,7 +1,9 @@
 ghost use Rattle.std.specs.Prelude.{◌≡◌, false, []};
+ghost use Rattle.zre_outside.specs.Recorders.{Capture};
 
 use crate::{NextFault, Recorder};
 use std::alloc::Global;
+use std::marker::Model;
 use zre_values::{Octets, take_apart};
 
 /// A capture in memory. Its count of faults is 0, so it fails with OutOfMemory alone.
@@ -19,14 +21,16 @@ impl Drop for SureRecorder {
     }
 }
 
-impl SureRecorder {
-    ghost use Rattle.zre_outside.specs.Recorders.{sure_kept_by, sure_named_by, sure_is_begun};
+impl Model for SureRecorder {
+    ghost Value = { Capture };
 
+    ghost view = { λ r. record { kept = r.bytes; named = r.file; begun = r.begun } };
+}
+
+impl SureRecorder {
     /// A recorder that isn't begun.
     pub fn new(alloc: Global) -> Self
-        ensures kept { sure_kept_by result ≡ [] }
-        ensures named { sure_named_by result ≡ [] }
-        ensures begun { sure_is_begun result ≡ false }
+        ensures { result ≡ record { kept = []; named = []; begun = false } }
     {
         SureRecorder {
             alloc,
@@ -38,7 +42,7 @@ impl SureRecorder {
 
     /// All that it keeps.
     pub fn kept(&self) -> &[u8]
-        ensures { result.now ≡ sure_kept_by self.now }
+        ensures { result.now ≡ self.now.kept }
     {
         self.bytes.as_slice()
     }
@@ -46,31 +50,24 @@ impl SureRecorder {
 
 impl Recorder for SureRecorder {
     ghost use Rattle.std.specs.Prelude.{Some};
-    ghost use Rattle.zre_outside.specs.Recorders.{sure_kept_by, sure_named_by, sure_is_begun};
 
-    ghost kept = { λ r. Some (sure_kept_by r) };
+    ghost kept = { λ r. Some r.kept };
 
-    ghost named = { λ r. Some (sure_named_by r) };
+    ghost named = { λ r. Some r.named };
 
-    ghost begun = { sure_is_begun };
+    ghost begun = { λ r. r.begun };
 
     ghost faults = { λ _. 0 };
 
     fn begin(&mut self, name: &str) -> Result<(), NextFault> {
         self.begun = false;
-        let Ok(file) = Octets::copy(self.alloc, name.as_bytes()) else {
-            return Err(NextFault::OutOfMemory);
-        };
-        self.file = file;
+        self.file = Octets::copy(self.alloc, name.as_bytes())?;
         self.bytes.clear();
         self.begun = true;
         Ok(())
     }
 
     fn put(&mut self, bytes: &[u8]) -> Result<(), NextFault> {
-        match self.bytes.append(bytes) {
-            Ok(()) => Ok(()),
-            Err(_) => Err(NextFault::OutOfMemory),
-        }
+        Ok(self.bytes.append(bytes)?)
     }
 }

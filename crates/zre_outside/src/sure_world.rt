@@ -1,12 +1,13 @@
-ghost use Rattle.std.specs.Prelude.{◌≡◌, false, true, Some, option_map, IsSome, IfOk, OnOk, OnErr, IsErrOf};
+ghost use Rattle.std.specs.Prelude.{◌≡◌, true, Some, option_map, IsSome, IfOk, OnOk, OnErr, IsErrOf};
 ghost use Rattle.zre_outside.specs.declared.deed.Deed.{Deed as DeedValue};
 ghost use Rattle.zre_outside.specs.Causes.{Rose};
-ghost use Rattle.zre_outside.specs.Worlds.{with_start, IsTurn, is_look, after_turn, with_deed};
-ghost use Rattle.zre_outside.specs.Scripts.{first_log, turn_of, left_after, reading_after, SureWaits};
+ghost use Rattle.zre_outside.specs.Worlds.{with_start, IsTurn, with_deed};
+ghost use Rattle.zre_outside.specs.Scripts.{Scene, first_scene, Plays, Waits};
 
 use crate::stage::Stage;
 use crate::{Act, Command, NextFault, Script, Start, Turn, World};
 use std::alloc::Global;
+use std::marker::Model;
 use zre_values::{OutOfMemory, take_apart};
 
 /// A script as a world. It gives the entries of the script in order, stays at a look until a command is handed in, and
@@ -21,15 +22,16 @@ impl Drop for SureWorld {
     }
 }
 
-impl SureWorld {
-    ghost use Rattle.zre_outside.specs.Scripts.{sure_script_left, sure_reading_of, sure_seen_by, sure_has_looked};
+impl Model for SureWorld {
+    ghost Value = { Scene };
 
+    ghost view = { λ w. w.stage };
+}
+
+impl SureWorld {
     /// A world of which no turn was asked.
     pub fn new(alloc: Global, script: Script) -> Self
-        ensures left { sure_script_left result ≡ script }
-        ensures reading { sure_reading_of result ≡ 0 }
-        ensures looked { sure_has_looked result ≡ false }
-        ensures told { sure_seen_by result ≡ first_log }
+        ensures { result ≡ first_scene script }
     {
         SureWorld {
             stage: Stage::new(alloc, script),
@@ -38,65 +40,50 @@ impl SureWorld {
 }
 
 impl World for SureWorld {
-    ghost use Rattle.zre_outside.specs.Scripts.{sure_script_left, sure_reading_of, sure_seen_by, sure_has_looked};
+    ghost told = { λ w. Some w.told };
 
-    ghost told = { λ w. Some (sure_seen_by w) };
-
-    ghost looked = { sure_has_looked };
+    ghost looked = { λ w. w.looked };
 
     ghost faults = { λ _. 0 };
 
     fn start(&mut self, s: &Start) -> Result<(), NextFault>
-        ensures told { OnOk result (Some (sure_seen_by self.new) ≡ option_map (with_start s.now)
-            (Some (sure_seen_by self.old))) }
-        ensures refused { OnErr result (Some (sure_seen_by self.new) ≡ Some (sure_seen_by self.old)) }
-        ensures looked { sure_has_looked self.new ≡ sure_has_looked self.old }
+        ensures told { OnOk result (Some self.new.told ≡ option_map (with_start s.now)
+            (Some self.old.told)) }
+        ensures refused { OnErr result (Some self.new.told ≡ Some self.old.told) }
+        ensures looked { self.new.looked ≡ self.old.looked }
         ensures failed { IsErrOf result NextFault.Failed → Rose 0 0 }
-        ensures script { SureWaits self.old self.new }
+        ensures script { Waits self.old self.new }
     {
-        match self.stage.start(s) {
-            Ok(()) => Ok(()),
-            Err(OutOfMemory) => Err(NextFault::OutOfMemory),
-        }
+        Ok(self.stage.start(s)?)
     }
 
     /// The turn is the script's.
     fn next(&mut self, command: Option<Command>) -> Result<Turn, NextFault>
-        requires { IsSome command → sure_has_looked self.old ≡ true }
+        requires { IsSome command → self.old.looked ≡ true }
         ensures turn { IfOk result (λ t. IsTurn command t) }
-        ensures told { IfOk result (λ t. Some (sure_seen_by self.new) ≡ option_map (after_turn command t)
-            (Some (sure_seen_by self.old))) }
-        ensures looked { IfOk result (λ t. sure_has_looked self.new ≡ is_look t) }
-        ensures refused { OnErr result ((Some (sure_seen_by self.new) ≡ Some (sure_seen_by self.old))
-            × (sure_has_looked self.new ≡ sure_has_looked self.old)) }
+        ensures script { IfOk result (λ t. Plays command t self.old self.new) }
+        ensures refused { OnErr result (self.new ≡ self.old) }
         ensures failed { IsErrOf result NextFault.Failed → Rose 0 0 }
-        ensures script { IfOk result (λ t. (t ≡ turn_of (sure_script_left self.old) (sure_reading_of self.old) command)
-            × (sure_script_left self.new ≡ left_after (sure_script_left self.old) command)
-            × (sure_reading_of self.new ≡ reading_after (sure_reading_of self.old) t)) }
-        ensures kept { OnErr result (SureWaits self.old self.new) }
     {
-        match self.stage.next(command) {
-            Ok(turn) => Ok(turn),
-            Err(OutOfMemory) => Err(NextFault::OutOfMemory),
-        }
+        Ok(self.stage.next(command)?)
     }
 
     fn act(&mut self, act: &Act) -> Result<(), OutOfMemory>
-        ensures ok { OnOk result (Some (sure_seen_by self.new) ≡ option_map (with_deed (DeedValue.Done act.now))
-            (Some (sure_seen_by self.old))) }
-        ensures err { OnErr result (Some (sure_seen_by self.new) ≡ Some (sure_seen_by self.old)) }
-        ensures looked { sure_has_looked self.new ≡ sure_has_looked self.old }
-        ensures script { SureWaits self.old self.new }
+        ensures ok { OnOk result (Some self.new.told ≡ option_map (with_deed (DeedValue.Done act.now))
+            (Some self.old.told)) }
+        ensures err { OnErr result (Some self.new.told ≡ Some self.old.told) }
+        ensures looked { self.new.looked ≡ self.old.looked }
+        ensures script { Waits self.old self.new }
     {
         self.stage.act(act)
     }
 
     fn offer(&mut self, link: u64, bytes: &[u8]) -> Result<(), OutOfMemory>
-        ensures ok { OnOk result (Some (sure_seen_by self.new)
-            ≡ option_map (with_deed (DeedValue.Offered link bytes.now)) (Some (sure_seen_by self.old))) }
-        ensures err { OnErr result (Some (sure_seen_by self.new) ≡ Some (sure_seen_by self.old)) }
-        ensures looked { sure_has_looked self.new ≡ sure_has_looked self.old }
-        ensures script { SureWaits self.old self.new }
+        ensures ok { OnOk result (Some self.new.told
+            ≡ option_map (with_deed (DeedValue.Offered link bytes.now)) (Some self.old.told)) }
+        ensures err { OnErr result (Some self.new.told ≡ Some self.old.told) }
+        ensures looked { self.new.looked ≡ self.old.looked }
+        ensures script { Waits self.old self.new }
     {
         self.stage.offer(link, bytes)
     }

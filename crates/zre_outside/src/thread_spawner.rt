@@ -1,7 +1,9 @@
-ghost use Rattle.std.specs.Prelude.{◌≡◌};
+ghost use Rattle.std.specs.Prelude.{◌≡◌, ◌≤◌, ℕ};
+ghost use Rattle.zre_outside.specs.Causes.{raised};
 
 use crate::{Spawner, Underway};
 use std::alloc::Global;
+use std::marker::Model;
 use std::sync::Wait;
 use std::thread::Threads;
 
@@ -13,12 +15,16 @@ pub struct ThreadSpawner<R> {
     faults: u64,
 }
 
-impl<R> ThreadSpawner<R> {
-    ghost use Rattle.zre_outside.specs.Spawners.{thread_faults_of};
+impl<R> Model for ThreadSpawner<R> {
+    ghost Value = { ℕ };
 
+    ghost view = { λ s. s.faults };
+}
+
+impl<R> ThreadSpawner<R> {
     /// A spawner that refused nothing yet.
     pub fn new(rt: R, alloc: Global) -> Self
-        ensures { thread_faults_of result ≡ 0 }
+        ensures { result ≡ 0 }
     {
         ThreadSpawner {
             rt,
@@ -26,15 +32,22 @@ impl<R> ThreadSpawner<R> {
             faults: 0,
         }
     }
+
+    // A start was refused.
+    pub(crate) fn count_refusal(&mut self)
+        ensures raised { self.new ≡ raised self.old }
+        ensures later { self.old ≤ self.new }
+    {
+        self.faults = self.faults.saturating_add(1);
+    }
 }
 
 impl<R: Threads + Wait + Copy + Send + 'static> Spawner for ThreadSpawner<R> {
     ghost use Rattle.std.specs.Prelude.{None, []};
-    ghost use Rattle.zre_outside.specs.Spawners.{thread_faults_of};
 
     type Runtime = R;
 
-    ghost faults = { thread_faults_of };
+    ghost faults = { λ s. s };
 
     ghost starts = { λ _. None };
 
@@ -45,7 +58,7 @@ impl<R: Threads + Wait + Copy + Send + 'static> Spawner for ThreadSpawner<R> {
     }
 
     fn refuse(&mut self, _call: &Underway<Self>) {
-        self.faults = self.faults.saturating_add(1);
+        self.count_refusal();
     }
 
     fn runtime(&self) -> R {

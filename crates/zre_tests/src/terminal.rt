@@ -137,12 +137,11 @@ impl Showing {
 }
 
 impl Sink for Showing {
-    ghost use Rattle.zre_outside.specs.Memory.{write_faults_of};
     ghost use Rattle.std.specs.Prelude.{None};
 
     ghost written = { λ _. None };
 
-    ghost faults = { λ s. write_faults_of s.inner };
+    ghost faults = { λ s. s.inner.faults };
 
     fn write(&mut self, bytes: &[u8]) -> Result<usize, NextFault> {
         let n = self.inner.write(bytes)?;

@@ -58,13 +58,12 @@ impl Cut {
 
 impl Source for Cut {
     ghost use Rattle.std.specs.Prelude.{None};
-    ghost use Rattle.zre_outside.specs.Memory.{read_faults_of};
 
     ghost left = { λ _. None };
 
     ghost taken = { λ _. None };
 
-    ghost faults = { λ s. read_faults_of s.inner };
+    ghost faults = { λ s. s.inner.faults };
 
     fn read(&mut self, buf: &mut [u8]) -> Result<usize, Failed> {
         let n = buf.len().min(self.sizes.next()).max(1);

@@ -30,11 +30,10 @@ impl Narrow {
 
 impl Sink for Narrow {
     ghost use Rattle.std.specs.Prelude.{None};
-    ghost use Rattle.zre_outside.specs.Memory.{write_faults_of};
 
     ghost written = { λ _. None };
 
-    ghost faults = { λ s. write_faults_of s.inner };
+    ghost faults = { λ s. s.inner.faults };
 
     fn write(&mut self, bytes: &[u8]) -> Result<usize, NextFault> {
         let n = bytes.len().min(self.most.max(1));

@@ -16,13 +16,12 @@ pub struct Telling {
 
 impl World for Telling {
     ghost use Rattle.std.specs.Prelude.{None};
-    ghost use Rattle.zre_outside.specs.Scripts.{has_looked, world_faults_of};
 
     ghost told = { λ _. None };
 
-    ghost looked = { λ w. has_looked w.inner };
+    ghost looked = { λ w. w.inner.scene.looked };
 
-    ghost faults = { λ w. world_faults_of w.inner };
+    ghost faults = { λ w. w.inner.faults };
 
     fn start(&mut self, s: &Start) -> Result<(), NextFault> {
         push_start(&mut self.told, s);
@@ -53,15 +52,14 @@ pub struct Naming {
 
 impl Recorder for Naming {
     ghost use Rattle.std.specs.Prelude.{None};
-    ghost use Rattle.zre_outside.specs.Recorders.{is_begun, recorder_faults_of};
 
     ghost kept = { λ _. None };
 
     ghost named = { λ _. None };
 
-    ghost begun = { λ r. is_begun r.inner };
+    ghost begun = { λ r. r.inner.capture.begun };
 
-    ghost faults = { λ r. recorder_faults_of r.inner };
+    ghost faults = { λ r. r.inner.faults };
 
     fn begin(&mut self, name: &str) -> Result<(), NextFault> {
         let done = self.inner.begin(name);
