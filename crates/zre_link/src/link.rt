@@ -6,7 +6,7 @@ ghost use Rattle.zre_values.specs.declared.limits.TheConstants.{MESSAGE_OCTETS, 
 ghost use Rattle.zre_values.specs.declared.peer_id.PeerId.{PeerId as PeerIdValue};
 ghost use Rattle.zre_zmtp.specs.Laws.{handshake};
 ghost use Rattle.zre_zmtp.specs.declared.writing.SocketType.TheVariants.{Dealer};
-ghost use Rattle.zre_zmtp.specs.Looks.{Looks, IsPaid};
+ghost use Rattle.zre_zmtp.specs.Looks.{Looks, IsPaid, IsOpenTo};
 ghost use Rattle.zre_zmtp.specs.Ping.{contexts_in};
 ghost use Rattle.zre_msg.specs.declared.message.Body.TheVariants.{Ping, Shout};
 ghost use Rattle.zre_msg.specs.Spelling.{FitsBody, FitsString};
@@ -232,9 +232,7 @@ impl Link {
 
     // The same for a caller that counts nothing.
     fn reply_from<L: Ledger>(&mut self, piece: &[u8], blank: Blank) -> Result<(), ReplyFault>
-        requires name { blank.name ≡ L.name }
-        requires parts { blank.parts ≡ L.parts }
-        requires some { 0 < blank.parts }
+        requires blank { IsOpenTo L.name L.parts blank.name blank.parts }
         requires linked { self.old.linked ≡ true }
         ensures ok { Answers result self.old self.new piece.now }
         ensures refused { RefusesToAnswer result self.old self.new piece.now }

@@ -5,7 +5,7 @@ ghost use Rattle.std.specs.Prelude.{is_err};
 ghost use Rattle.zre_values.specs.declared.limits.TheConstants.{MESSAGE_OCTETS, COMMAND_OCTETS};
 ghost use Rattle.zre_values.specs.declared.peer_id.PeerId.{PeerId as PeerIdValue};
 ghost use Rattle.zre_zmtp.specs.Reading.{Reads, Refuses, Adds, kept};
-ghost use Rattle.zre_zmtp.specs.Looks.{Looks};
+ghost use Rattle.zre_zmtp.specs.Looks.{Looks, IsOpenTo};
 ghost use Rattle.zre_zmtp.specs.Stream.{Whole};
 ghost use Rattle.zre_zmtp.specs.declared.want.Want.TheVariants.{Dealer};
 ghost use Rattle.zre_mailbox.specs.Talk.{arrivals_in, fault_in};
@@ -173,9 +173,7 @@ impl Conn {
         out: &mut Arrivals,
         blank: Blank,
     ) -> Result<(), FeedFault>
-        requires name { blank.name ≡ L.name }
-        requires parts { blank.parts ≡ L.parts }
-        requires some { 0 < blank.parts }
+        requires blank { IsOpenTo L.name L.parts blank.name blank.parts }
         requires heard { is_ignored self.old ≡ false }
         requires unspent { is_spent self.old ≡ false }
         ensures ok { HearsOn result self.old self.new piece.now out.old out.new }

@@ -2,7 +2,7 @@
 
 ghost use Rattle.std.specs.Prelude.{◌≡◌, ◌↔◌, ◌<◌, List, [], ◌∷◌, ◌++◌, true, IfOk, OnOk, IsErr, IsTrue};
 ghost use Rattle.zre_outside.specs.declared.entry.Entry.{Entry as EntryValue};
-ghost use Rattle.zre_zmtp.specs.Looks.{Looks};
+ghost use Rattle.zre_zmtp.specs.Looks.{Looks, IsOpenTo};
 ghost use Rattle.zre_values.specs.declared.settings.Settings.{Settings as ConfigValue};
 ghost use Rattle.zre_values.specs.Settings.{is_valid};
 ghost use Rattle.zre_journal.specs.Events.{chronicle, events};
@@ -167,9 +167,7 @@ impl Node {
         step: &mut Step,
         blank: Blank,
     ) -> Result<(), OutOfMemory>
-        requires name { blank.name ≡ L.name }
-        requires parts { blank.parts ≡ L.parts }
-        requires some { 0 < blank.parts }
+        requires blank { IsOpenTo L.name L.parts blank.name blank.parts }
         ensures steps { (g : ConfigValue) (J : List EntryValue) → StandsFor g J self.old →
             OnOk result (Steps g J entry self.new step.new) }
         ensures spent { IsTrue (is_spent self.new) ↔ IsErr result }

@@ -1,5 +1,5 @@
 -- How many looks a call takes that reads a piece of a stream.
-use Rattle.std.specs.Prelude.{ℕ, ◌+◌, ◌*◌, ◌≤◌, Result, OnOk, OnErr}
+use Rattle.std.specs.Prelude.{◌≡◌, ℕ, ◌+◌, ◌*◌, ◌<◌, ◌≤◌, Result, OnOk, OnErr}
 
 -- The looks before and after, how many octets are kept before and after, and how many were read: looks and three times
 -- what is kept rise by at most four for each.
@@ -14,3 +14,7 @@ IsPaidOnRefusal looks looks' kept n = looks' ≤ looks + 3 * kept + 4 * n
 abbrev pub Looks : {A E : Type 0} → ℕ → ℕ → ℕ → ℕ → ℕ → Result A E → Type 0
 Looks looks looks' kept kept' n result =
     OnOk result (IsPaid looks looks' kept kept' n) × OnErr result (IsPaidOnRefusal looks looks' kept n)
+
+-- A ledger of this name and these parts, which is yet to be opened, as its blank says it: a count of looks begins with it.
+abbrev pub IsOpenTo : ℕ → ℕ → ℕ → ℕ → Type 0
+IsOpenTo name parts blank_name blank_parts = (blank_name ≡ name) × (blank_parts ≡ parts) × (0 < blank_parts)

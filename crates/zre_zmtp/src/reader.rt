@@ -7,7 +7,7 @@ ghost use Rattle.zre_zmtp.specs.Stream.{Want as WantValue, Any, Kind, Whole as w
 ghost use Rattle.zre_zmtp.specs.Stream.{IsAtRest};
 ghost use Rattle.zre_zmtp.specs.Shown.{held, StandsAfter, NamesFault};
 ghost use Rattle.zre_zmtp.specs.Reading.{Reads, ReadsOn, RefusesOn, kept};
-ghost use Rattle.zre_zmtp.specs.Looks.{Looks};
+ghost use Rattle.zre_zmtp.specs.Looks.{Looks, IsOpenTo};
 
 use crate::expected::Expected;
 use crate::fault::FeedFault;
@@ -136,9 +136,7 @@ impl Reader {
         out: &mut Items,
         blank: Blank,
     ) -> Result<(), FeedFault>
-        requires name { blank.name ≡ L.name }
-        requires parts { blank.parts ≡ L.parts }
-        requires some { 0 < blank.parts }
+        requires blank { IsOpenTo L.name L.parts blank.name blank.parts }
         requires unspent { self.old.spent ≡ false }
         ensures ok { ReadsOn result self.old self.new piece.now out.old out.new }
         ensures refused { RefusesOn result self.old piece.now out.old out.new }
@@ -185,9 +183,7 @@ impl Reader {
         out: &mut Items,
         blank: Blank,
     ) -> Result<(), FeedFault>
-        requires name { blank.name ≡ L.name }
-        requires parts { blank.parts ≡ L.parts }
-        requires some { 0 < blank.parts }
+        requires blank { IsOpenTo L.name L.parts blank.name blank.parts }
         requires unspent { self.old.spent ≡ false }
         ensures ok { ReadsOn result self.old self.new (concat pieces.now) out.old out.new }
         ensures refused { RefusesOn result self.old (concat pieces.now) out.old out.new }

@@ -1,6 +1,7 @@
 //! A count of looks.
 
 ghost use Rattle.std.specs.Prelude.{◌≡◌, ℕ, ◌+◌, ◌<◌};
+ghost use Rattle.zre_zmtp.specs.Looks.{IsOpenTo};
 
 use std::marker::Model;
 use std::sync::ledger::{Blank, Book, Ledger, Share};
@@ -23,9 +24,7 @@ impl<L: Ledger> Model for Steps<L> {
 impl<L: Ledger> Steps<L> {
     /// No look yet.
     pub fn new(blank: Blank) -> Self
-        requires name { blank.name ≡ L.name }
-        requires parts { blank.parts ≡ L.parts }
-        requires some { 0 < blank.parts }
+        requires { IsOpenTo L.name L.parts blank.name blank.parts }
         ensures { result ≡ 0 }
     {
         let (book, share) = blank.open::<L>();
