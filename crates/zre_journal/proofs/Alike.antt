@@ -117,20 +117,24 @@ module _ (K L : List Mark) (r : AreAlike K L) where
   same_open : open_ones K ≡ open_ones L
   same_open = through open_ones open_but K L r
 
+  -- the latest, and each, of what marks say, where entries say none of it
+  same_latest : {A : Type 0} (f : Mark → Option A) → ((e : Entry) → f (Comes e) ≡ None) → latest f K ≡ latest f L
+  same_latest f none = through (latest f) (latest_but f none) K L r
+
+  same_each : {A : Type 0} (f : Mark → Option A) → ((e : Entry) → f (Comes e) ≡ None) → each f K ≡ each f L
+  same_each f none = through (each f) (each_but f none) K L r
+
+  same_ever : (t : Mark → Bool) → ((e : Entry) → t (Comes e) ≡ false) → ever t K ≡ ever t L
+  same_ever t none = through (ever t) (ever_but t none) K L r
+
   same_identity : (c : ℕ) → identity c K ≡ identity c L
-  same_identity c = through (identity c) (latest_but (identity_at c) (λ e. refl)) K L r
-
-  same_ended : (l : ℕ) → has_ended l K ≡ has_ended l L
-  same_ended l = through (has_ended l) (ever_but (ends l) (λ e. refl)) K L r
-
-  same_started : (c : ℕ) → started c K ≡ started c L
-  same_started c = through (started c) (latest_but (start_at c) (λ e. refl)) K L r
+  same_identity c = same_latest (identity_at c) (λ e. refl)
 
   pub same_runs : (c : ℕ) → runs c K ≡ runs c L
-  same_runs c = ap (option_and_then (λ l. cond (has_ended l K) None (Some l))) (same_started c) ∙ unless_same (λ l. has_ended l K) (λ l. has_ended l L) (started c L) same_ended
+  same_runs c = ap (option_and_then (λ l. cond (has_ended l K) None (Some l))) (same_latest (start_at c) (λ e. refl)) ∙ unless_same (λ l. has_ended l K) (λ l. has_ended l L) (started c L) (λ l. same_ever (ends l) (λ e. refl))
 
   same_used : (c : ℕ) → was_used c K ≡ was_used c L
-  same_used c = ap (λ b. b || is_some (started c K)) (through (ever (refuses c)) (ever_but (refuses c) (λ e. refl)) K L r) ∙ ap (λ o. ever (refuses c) L || is_some o) (same_started c)
+  same_used c = ap (λ b. b || is_some (started c K)) (same_ever (refuses c) (λ e. refl)) ∙ ap (λ o. ever (refuses c) L || is_some o) (same_latest (start_at c) (λ e. refl))
 
   pub same_ignored : (c : ℕ) → is_ignored c K ≡ is_ignored c L
   same_ignored c = ap (λ o. is_none o && was_used c K) (same_runs c) ∙ ap (λ b. is_none (runs c L) && b) (same_used c)
@@ -139,13 +143,7 @@ module _ (K L : List Mark) (r : AreAlike K L) where
   same_live c = ap (λ cs. list_any (eqb c) cs && not (is_ignored c K)) same_open ∙ ap (λ b. is_open c L && not b) (same_ignored c)
 
   same_counted : (l : ℕ) → counted l K ≡ counted l L
-  same_counted l = through (counted l) (each_but (message_at l) (λ e. refl)) K L r
-
-  same_line : (l : ℕ) → line l K ≡ line l L
-  same_line l = through (line l) (each_but (put_on l) (λ e. refl)) K L r
-
-  same_runner : (l : ℕ) → runner l K ≡ runner l L
-  same_runner l = through (runner l) (latest_but (runner_at l) (λ e. refl)) K L r
+  same_counted l = same_each (message_at l) (λ e. refl)
 
   same_other : (p : PeerId) (c : ℕ) → other_with p c K ≡ other_with p c L
   same_other p c = ap (find (λ d. not (eqb c d) && is_same p (identity d K))) same_open
@@ -153,10 +151,10 @@ module _ (K L : List Mark) (r : AreAlike K L) where
 
   module _ (g : Config) where
     same_unsent : (l : ℕ) → unsent g l K ≡ unsent g l L
-    same_unsent l = ap (λ bs. length (text_of g.id bs) - taken l K) (same_line l) ∙ ap (λ n. length (text_of g.id (line l L)) - n) (through (taken l) (taken_but l) K L r)
+    same_unsent l = ap (λ bs. length (text_of g.id bs) - taken l K) (same_each (put_on l) (λ e. refl)) ∙ ap (λ n. length (text_of g.id (line l L)) - n) (through (taken l) (taken_but l) K L r)
 
     same_push : (l : ℕ) (b : Body) → push g l b K ≡ push g l b L
-    same_push l b = ap (λ bs. cond (ltb UNSENT_OCTETS (unsent g l K + size_of bs b)) (Ends l (cause.Slow (unsent g l K) (size_of bs b)) ∷ []) (Puts l b ∷ [])) (same_line l)
+    same_push l b = ap (λ bs. cond (ltb UNSENT_OCTETS (unsent g l K + size_of bs b)) (Ends l (cause.Slow (unsent g l K) (size_of bs b)) ∷ []) (Puts l b ∷ [])) (same_each (put_on l) (λ e. refl))
         ∙ ap (λ n. cond (ltb UNSENT_OCTETS (n + size_of (line l L) b)) (Ends l (cause.Slow n (size_of (line l L) b)) ∷ []) (Puts l b ∷ [])) (same_unsent l)
 
     same_birth : (p : PeerId) (to : Endpoint) → birth g p to K ≡ birth g p to L
@@ -223,7 +221,7 @@ module _ (K L : List Mark) (r : AreAlike K L) where
 
   told_exit : (o : Option Life) (why : Cause) → exit o why K ≡ exit o why L
   told_exit None why = refl
-  told_exit (Some v) why = ap (λ i. cond (is_some i) (event.Exit v.id (view v.link K).name why ∷ []) []) (same_runner v.link) ∙ ap (λ (w : View). cond (is_some (runner v.link L)) (event.Exit v.id w.name why ∷ []) []) (same_view v.link)
+  told_exit (Some v) why = ap (λ i. cond (is_some i) (event.Exit v.id (view v.link K).name why ∷ []) []) (same_latest (runner_at v.link) (λ e. refl)) ∙ ap (λ (w : View). cond (is_some (runner v.link L)) (event.Exit v.id w.name why ∷ []) []) (same_view v.link)
 
   told_probe : (o : Option Life) → becoming_evasive o K ≡ becoming_evasive o L
   told_probe None = refl

@@ -1,5 +1,6 @@
 -- What comes about at a place ends a known peer as the table of causes says.
 use Rattle.std.proofs.Common.{◌≡◌, ℕ, ◌+◌, ◌%◌, Bool, true, false, true≢false, cond, not, ◌&&◌, ◌||◌, eqb, ltb, leb, List, [], ◌∷◌, ◌++◌, length, map, Option, Some, None, find, filter, refl, sym, ap, ◌∙◌, subst, eq-eqb, eqb-true, append-nil}
+use Rattle.std.proofs.Math.Bool.{and-false, and-true}
 use Rattle.std.proofs.lemmas.List.Elements.{filter_map-append}
 use Rattle.std.specs.List.{AllByRecursion, cons_option}
 use Rattle.std.specs.Option.{option_and_then}
@@ -96,14 +97,6 @@ run_ends : (g : Config) (v : Life) (o : Option ℕ) (why : Cause) → ends_in v.
 run_ends g v None why = refl
 run_ends g v (Some k) why = refl
 
-and-false : (x : Bool) → (x && false) ≡ false
-and-false true = refl
-and-false false = refl
-
-and-true : (x : Bool) → (x && true) ≡ x
-and-true true = refl
-and-true false = refl
-
 -- ---- of many lives
 
 abbrev is_at : ℕ → Life → Bool
@@ -128,30 +121,14 @@ dropped t (u ∷ us) v e n a = by (λ f. dropped t us v f n a.1) (is_at v.link u
     by r false q true z f = rw q (r f)
     by r false q false z f = r f
 
+-- the ends of many come in turn
+in_turn_ends : (why : Cause) (us : List Life) (J : List Mark) → end_all why us ≡ in_turn (λ (u : Life) I. Ends u.link why ∷ []) us J
+in_turn_ends why [] J = refl
+in_turn_ends why (u ∷ us) J = ap (λ hs. Ends u.link why ∷ hs) (in_turn_ends why us (Ends u.link why ∷ J))
+
 module _ (v : Life) where
-  -- the ends of many
-  absent_ends : (why : Cause) (us : List Life) → find (is_at v.link) us ≡ None → ends_in v.link (end_all why us) ≡ []
-  absent_ends why [] e = refl
-  absent_ends why (u ∷ us) e = by (absent_ends why us) (is_at v.link u) refl e
-    where
-      by : (find (is_at v.link) us ≡ None → ends_in v.link (end_all why us) ≡ []) → (b : Bool) → is_at v.link u ≡ b → cond b (Some u) (find (is_at v.link) us) ≡ None → ends_in v.link (Ends u.link why ∷ end_all why us) ≡ []
-      by r true q f = cc
-      by r false q f = rw q (r f)
-
-  present_ends : (why : Cause) (us : List Life) → find (is_at v.link) us ≡ Some v → Apart (λ (u : Life). u.link) us → ends_in v.link (end_all why us) ≡ why ∷ []
-  present_ends why [] e a = cc
-  present_ends why (u ∷ us) e a = by (λ f. present_ends why us f a.1) (is_at v.link u) refl e
-    where
-      by : (find (is_at v.link) us ≡ Some v → ends_in v.link (end_all why us) ≡ why ∷ []) → (b : Bool) → is_at v.link u ≡ b → cond b (Some u) (find (is_at v.link) us) ≡ Some v
-          → ends_in v.link (Ends u.link why ∷ end_all why us) ≡ why ∷ []
-      by r true q f =
-          let is : u ≡ v = cc in
-          let far = subst (λ (x : Life). AllByRecursion (λ (w : Life). eqb x.link w.link ≡ false) us) is a.0 in
-          rw q (ap (λ xs. why ∷ xs) (absent_ends why us (none_there v.link us far)))
-      by r false q f = rw q (r f)
-
   -- what is brought for each in turn, where what is brought for others leaves its link as it was
-  module _ (g : Config) (K : List Mark) (b : Body) (f : Life → List Mark → List Mark) (own : (J : List Mark) → unsent g v.link J ≡ unsent g v.link K → line v.link J ≡ line v.link K → ends_in v.link (f v J) ≡ cons_option (slow_by g v.link (Some b) K) [])
+  module _ (g : Config) (K : List Mark) (out : List Cause) (f : Life → List Mark → List Mark) (own : (J : List Mark) → unsent g v.link J ≡ unsent g v.link K → line v.link J ≡ line v.link K → ends_in v.link (f v J) ≡ out)
       (far : (u : Life) (J : List Mark) → eqb v.link u.link ≡ false → ends_in v.link (f u J) ≡ [])
       (stays : (u : Life) (J : List Mark) → eqb v.link u.link ≡ false → (line v.link (after (f u J) J) ≡ line v.link J) × (taken v.link (after (f u J) J) ≡ taken v.link J)) where
     absent_turns : (us : List Life) (J : List Mark) → find (is_at v.link) us ≡ None → ends_in v.link (in_turn f us J) ≡ []
@@ -164,7 +141,7 @@ module _ (v : Life) where
         by r false q e = filter_map-append (end_of v.link) (f u J) (in_turn f us (after (f u J) J)) ∙ ap (λ xs. xs ++ ends_in v.link (in_turn f us (after (f u J) J))) (far u J q) ∙ r e
 
     present_turns : (us : List Life) (J : List Mark) → line v.link J ≡ line v.link K → taken v.link J ≡ taken v.link K → find (is_at v.link) us ≡ Some v → Apart (λ (u : Life). u.link) us
-        → ends_in v.link (in_turn f us J) ≡ cons_option (slow_by g v.link (Some b) K) []
+        → ends_in v.link (in_turn f us J) ≡ out
     present_turns [] J x y e a = cc
     present_turns (u ∷ us) J x y e a = by (λ s z. present_turns us (after (f u J) J) (s.0 ∙ x) (s.1 ∙ y) z a.1) (is_at v.link u) refl e
       where
@@ -174,14 +151,14 @@ module _ (v : Life) where
         same : unsent g v.link J ≡ unsent g v.link K
         same = rw (x, y) refl
 
-        by : ((line v.link M ≡ line v.link J) × (taken v.link M ≡ taken v.link J) → find (is_at v.link) us ≡ Some v → ends_in v.link (in_turn f us M) ≡ cons_option (slow_by g v.link (Some b) K) [])
-            → (t : Bool) → is_at v.link u ≡ t → cond t (Some u) (find (is_at v.link) us) ≡ Some v → ends_in v.link (f u J ++ in_turn f us M) ≡ cons_option (slow_by g v.link (Some b) K) []
+        by : ((line v.link M ≡ line v.link J) × (taken v.link M ≡ taken v.link J) → find (is_at v.link) us ≡ Some v → ends_in v.link (in_turn f us M) ≡ out)
+            → (t : Bool) → is_at v.link u ≡ t → cond t (Some u) (find (is_at v.link) us) ≡ Some v → ends_in v.link (f u J ++ in_turn f us M) ≡ out
         by r true q e =
             let is : u ≡ v = cc in
             let others = subst (λ (w : Life). AllByRecursion (λ (z : Life). eqb w.link z.link ≡ false) us) is a.0 in
             filter_map-append (end_of v.link) (f u J) (in_turn f us M)
             ∙ ap (λ xs. ends_in v.link (f u J) ++ xs) (absent_turns us M (none_there v.link us others)) ∙ append-nil (ends_in v.link (f u J))
-            ∙ subst (λ (w : Life). ends_in v.link (f w J) ≡ cons_option (slow_by g v.link (Some b) K) []) (sym is) (own J same x)
+            ∙ subst (λ (w : Life). ends_in v.link (f w J) ≡ out) (sym is) (own J same x)
         by r false q e =
             filter_map-append (end_of v.link) (f u J) (in_turn f us M) ∙ ap (λ xs. xs ++ ends_in v.link (in_turn f us M)) (far u J q) ∙ r (stays u J q) e
 
@@ -190,6 +167,9 @@ module _ (v : Life) where
 module _ (g : Config) (K : List Mark) (q : IsProper K) (names : AreNamed K) (v : Life) (known : life v.link K ≡ Some v) where
   abbrev l : ℕ
   l = v.link
+
+  me : eqb l l ≡ true
+  me = eq-eqb l l refl
 
   -- a peer that is found by its id is this one, or another one
   data Meets (p : PeerId) (u : Life) : Type 0 where
@@ -225,28 +205,29 @@ module _ (g : Config) (K : List Mark) (q : IsProper K) (names : AreNamed K) (v :
 
   -- ---- the ends of many, and messages to many
 
-  all_end : (why : Cause) → ends_in l (end_all why (lives K)) ≡ why ∷ []
-  all_end why = present_ends v why (lives K) known q.living.apart
-
-  some_end : (t : Life → Bool) (why : Cause) → ends_in l (end_all why (filter t (lives K))) ≡ cons_option (where_so (t v) why) []
-  some_end t why = by (t v) refl
-    where
-      by : (b : Bool) → t v ≡ b → ends_in l (end_all why (filter t (lives K))) ≡ cons_option (where_so b why) []
-      by true z = present_ends v why (filter t (lives K)) (found_kept (is_at l) t (lives K) v known z) (Apart-kept (λ (u : Life). u.link) t (lives K) q.living.apart)
-      by false z = absent_ends v why (filter t (lives K)) (dropped t (lives K) v known z q.living.apart)
-
-  module _ (b : Body) (f : Life → List Mark → List Mark) (own : (J : List Mark) → unsent g l J ≡ unsent g l K → line l J ≡ line l K → ends_in l (f v J) ≡ cons_option (slow_by g l (Some b) K) [])
+  -- of what is brought for each in turn, that for v is told of it, where v is among them
+  module _ (out : Bool → List Cause) (none : out false ≡ []) (f : Life → List Mark → List Mark) (own : (J : List Mark) → unsent g l J ≡ unsent g l K → line l J ≡ line l K → ends_in l (f v J) ≡ out true)
       (far : (u : Life) (J : List Mark) → eqb l u.link ≡ false → ends_in l (f u J) ≡ [])
       (stays : (u : Life) (J : List Mark) → eqb l u.link ≡ false → (line l (after (f u J) J) ≡ line l J) × (taken l (after (f u J) J) ≡ taken l J)) where
-    all_turns : ends_in l (in_turn f (lives K) K) ≡ cons_option (slow_by g l (Some b) K) []
-    all_turns = present_turns v g K b f own far stays (lives K) K refl refl known q.living.apart
+    all_turns : ends_in l (in_turn f (lives K) K) ≡ out true
+    all_turns = present_turns v g K (out true) f own far stays (lives K) K refl refl known q.living.apart
 
-    some_turns : (t : Life → Bool) → ends_in l (in_turn f (filter t (lives K)) K) ≡ cons_option (slow_by g l (where_so (t v) b) K) []
+    some_turns : (t : Life → Bool) → ends_in l (in_turn f (filter t (lives K)) K) ≡ out (t v)
     some_turns t = by (t v) refl
       where
-        by : (d : Bool) → t v ≡ d → ends_in l (in_turn f (filter t (lives K)) K) ≡ cons_option (slow_by g l (where_so d b) K) []
-        by true z = present_turns v g K b f own far stays (filter t (lives K)) K refl refl (found_kept (is_at l) t (lives K) v known z) (Apart-kept (λ (u : Life). u.link) t (lives K) q.living.apart)
-        by false z = absent_turns v g K b f own far stays (filter t (lives K)) K (dropped t (lives K) v known z q.living.apart)
+        by : (d : Bool) → t v ≡ d → ends_in l (in_turn f (filter t (lives K)) K) ≡ out d
+        by true z = present_turns v g K (out true) f own far stays (filter t (lives K)) K refl refl (found_kept (is_at l) t (lives K) v known z) (Apart-kept (λ (u : Life). u.link) t (lives K) q.living.apart)
+        by false z = absent_turns v g K (out true) f own far stays (filter t (lives K)) K (dropped t (lives K) v known z q.living.apart) ∙ sym none
+
+  module _ (why : Cause) where
+    abbrev end_out : Bool → List Cause
+    end_out d = cons_option (where_so d why) []
+
+    all_end : ends_in l (end_all why (lives K)) ≡ why ∷ []
+    all_end = ap (ends_in l) (in_turn_ends why (lives K) K) ∙ all_turns end_out refl (λ u J. Ends u.link why ∷ []) (λ J x y. rw me refl) (λ u J z. rw z refl) (λ u J z. (refl, refl))
+
+    some_end : (t : Life → Bool) → ends_in l (end_all why (filter t (lives K))) ≡ end_out (t v)
+    some_end t = ap (ends_in l) (in_turn_ends why (filter t (lives K)) K) ∙ some_turns end_out refl (λ u J. Ends u.link why ∷ []) (λ J x y. rw me refl) (λ u J z. rw z refl) (λ u J z. (refl, refl)) t
 
   same_push : (b : Body) (J : List Mark) → unsent g l J ≡ unsent g l K → line l J ≡ line l K → ends_in l (push g l b J) ≡ cons_option (slow_by g l (Some b) K) []
   same_push b M x y =
@@ -257,23 +238,23 @@ module _ (g : Config) (K : List Mark) (q : IsProper K) (names : AreNamed K) (v :
   far_stays k b I J far = choice (λ hs. (line l (after hs J) ≡ line l J) × (taken l (after hs J) ≡ taken l J)) (ltb UNSENT_OCTETS (unsent g k I + size_of (line k I) b)) _ _
       (λ z. (refl, refl)) (λ z. (rw far refl, refl))
 
+  abbrev push_out : Body → Bool → List Cause
+  push_out b d = cons_option (slow_by g l (where_so d b) K) []
+
   pushes : (b : Body) → ends_in l (push_all g (lives K) b K) ≡ cons_option (slow_by g l (Some b) K) []
-  pushes b = all_turns b (λ (u : Life) J. push g u.link b J) (same_push b) (λ u J z. far_push l g u.link b J z) (λ u J z. far_stays u.link b J J z)
+  pushes b = all_turns (push_out b) refl (λ (u : Life) J. push g u.link b J) (same_push b) (λ u J z. far_push l g u.link b J z) (λ u J z. far_stays u.link b J J z)
 
   some_pushes : (t : Life → Bool) (b : Body) → ends_in l (push_all g (filter t (lives K)) b K) ≡ cons_option (slow_by g l (where_so (t v) b) K) []
-  some_pushes t b = some_turns b (λ (u : Life) J. push g u.link b J) (same_push b) (λ u J z. far_push l g u.link b J z) (λ u J z. far_stays u.link b J J z) t
+  some_pushes t b = some_turns (push_out b) refl (λ (u : Life) J. push g u.link b J) (same_push b) (λ u J z. far_push l g u.link b J z) (λ u J z. far_stays u.link b J J z) t
 
   probes : (t : Life → Bool) → ends_in l (probe g (filter t (lives K)) K) ≡ cons_option (slow_by g l (where_so (t v) body.Ping) K) []
-  probes t = some_turns body.Ping (λ (u : Life) J. IsEvasive u.link ∷ push g u.link body.Ping J) (same_push body.Ping) (λ u J z. far_push l g u.link body.Ping J z)
+  probes t = some_turns (push_out body.Ping) refl (λ (u : Life) J. IsEvasive u.link ∷ push g u.link body.Ping J) (same_push body.Ping) (λ u J z. far_push l g u.link body.Ping J z)
       (λ u J z. far_stays u.link body.Ping J (IsEvasive u.link ∷ J) z) t
 
   -- ---- entries
 
   abbrev Is : List Mark → Option Cause → Type 0
   Is hs o = ends_in l hs ≡ cons_option o []
-
-  birth_calm : (p : PeerId) (e : Endpoint) → AreCalm (birth g p e K)
-  birth_calm p e = (tt, (tt, tt))
 
   datagram : (from : List ℕ) (b : Option (PeerId × ℕ)) → Is (at_datagram g from b K) (where_so (is_last_beacon v b) cause.Beacon)
   datagram from None = refl
@@ -287,7 +268,7 @@ module _ (g : Config) (K : List Mark) (q : IsProper K) (names : AreNamed K) (v :
 
       by : (o : Option Life) → life_of b.0 K ≡ o → Is (at_beacon g from b.0 b.1 o K) (where_so (bytes_eq b.0.0 v.id.0 && eqb b.1 0) cause.Beacon)
       by (Some u) e = met u (meets b.0 u e) (eqb b.1 0)
-      by None e = rw (nobody b.0 e) (choice (λ hs. ends_in l hs ≡ []) (is_welcome g b.0 b.1 (length (lives K))) (birth g b.0 (record { addr = from; port = b.1 }) K) [] (λ z. calm_none l (birth g b.0 (record { addr = from; port = b.1 }) K) (birth_calm b.0 (record { addr = from; port = b.1 }))) (λ z. refl))
+      by None e = rw (nobody b.0 e) (choice (λ hs. ends_in l hs ≡ []) (is_welcome g b.0 b.1 (length (lives K))) (birth g b.0 (record { addr = from; port = b.1 }) K) [] (λ z. calm_none l (birth g b.0 (record { addr = from; port = b.1 }) K) (tt, (tt, tt))) (λ z. refl))
 
   shut : (c : ℕ) → Is (at_shut g c K) (where_so (is_open c K && is_run_by (runs c K) v) cause.Shut)
   shut c = by (is_open c K)
@@ -327,7 +308,7 @@ module _ (g : Config) (K : List Mark) (q : IsProper K) (names : AreNamed K) (v :
 
   tick : Is (at_tick g K) (cond (is_silent g g.expired K v) (Some cause.Expired) (slow_by g l (where_so (is_evasive g K v) body.Ping) K))
   tick = then_calm l (E ++ F ++ C) _ (tt, tt) ∙ then_calm l (E ++ F) C (calm_map (λ c. Closes c close.Timeout) (λ c. tt) (filter (is_stale g K) (open_ones K)))
-      ∙ filter_map-append (end_of l) E F ∙ ap (λ xs. xs ++ ends_in l F) (some_end (is_silent g g.expired K) cause.Expired) ∙ ap (λ xs. cons_option (where_so (is_silent g g.expired K v) cause.Expired) [] ++ xs) (probes (is_evasive g K))
+      ∙ filter_map-append (end_of l) E F ∙ ap (λ xs. xs ++ ends_in l F) (some_end cause.Expired (is_silent g g.expired K)) ∙ ap (λ xs. cons_option (where_so (is_silent g g.expired K v) cause.Expired) [] ++ xs) (probes (is_evasive g K))
       ∙ by (is_silent g g.expired K v) refl
     where
       E : List Mark
@@ -469,9 +450,6 @@ module _ (g : Config) (K : List Mark) (q : IsProper K) (names : AreNamed K) (v :
     where
       order : Cause
       order = cause.Order (due (counted l K)) m.sequence
-
-      me : eqb l l ≡ true
-      me = eq-eqb l l refl
 
       by : (x y z : Bool) → Is (cond x (Ends l cause.Hello ∷ []) (cond (not y) (Ends l order ∷ []) (cond (not z) (Ends l cause.Limit ∷ []) (Counts c l m ∷ answer_to g l m.body K))))
           (cond x (Some cause.Hello) (cond (not y) (Some order) (cond (not z) (Some cause.Limit) (slow_by g l (answer_due g m.body) K))))

@@ -3,9 +3,7 @@ use Rattle.std.proofs.Common.{◌≡◌, ℕ, ◌+◌, ◌-◌, ◌≤◌, Bool,
 use Rattle.std.specs.Option.{option_and_then}
 use Rattle.std.proofs.lemmas.Bool.{and_parts}
 use Rattle.std.specs.List.{AllByRecursion, list_all, list_any}
-use Rattle.zre_values.specs.declared.limits.TheConstants.{HEADERS, UNSENT_OCTETS}
-use Rattle.zre_link.specs.Text.{size_of}
-use Rattle.zre_msg.specs.declared.message.Body.{Body}
+use Rattle.zre_values.specs.declared.limits.TheConstants.{HEADERS}
 use Rattle.zre_msg.specs.declared.message.Body.TheVariants as body
 use Rattle.zre_outside.specs.declared.entry.Entry.{Entry}
 use Rattle.zre_outside.specs.declared.entry.Input.TheVariants as input
@@ -22,7 +20,6 @@ use Rattle.zre_journal.specs.Connections.{open_ones, started, has_ended, runs, s
 use Rattle.zre_journal.specs.Events.{chronicle}
 use Rattle.zre_journal.specs.Happens.{has_stopped, at_input}
 use Rattle.zre_journal.specs.Heard.{clock}
-use Rattle.zre_journal.specs.Links.{line, unsent}
 use Rattle.zre_journal.specs.Peers.{Life, lives, active}
 use Rattle.zre_journal.specs.Pushes.{push}
 use Rattle.zre_journal.specs.Ticks.{is_silent, is_evasive, probe, is_stale, at_tick}
@@ -30,6 +27,7 @@ use Rattle.zre_journal.proofs.Closing.{leaves_nothing}
 use Rattle.zre_journal.proofs.Joined.{after-append, continues}
 use Rattle.zre_journal.proofs.Known.{end_all}
 use Rattle.zre_journal.proofs.Listed.{eqb-comm, All-kept, All-join, All-map, further}
+use Rattle.zre_journal.proofs.Steps.{all_push}
 
 -- ---- the marks of a tick
 
@@ -45,18 +43,11 @@ abbrev AreCalm : List Mark → Type 0
 AreCalm hs = AllByRecursion Calm hs
 
 module _ (g : Config) where
-  push_calm : (l : ℕ) (b : Body) (I : List Mark) → AreCalm (push g l b I)
-  push_calm l b I = by (ltb UNSENT_OCTETS (unsent g l I + size_of (line l I) b))
-    where
-      by : (t : Bool) → AreCalm (cond t (Ends l (cause.Slow (unsent g l I) (size_of (line l I) b)) ∷ []) (Puts l b ∷ []))
-      by true = (tt, tt)
-      by false = (tt, tt)
-
   probes_calm : (vs : List Life) (I : List Mark) → AreCalm (probe g vs I)
   probes_calm [] I = tt
   probes_calm (v ∷ vs) I =
       let p = push g v.link body.Ping I in
-      (tt, All-join Calm p (probe g vs (after p (IsEvasive v.link ∷ I))) (push_calm v.link body.Ping I) (probes_calm vs (after p (IsEvasive v.link ∷ I))))
+      (tt, All-join Calm p (probe g vs (after p (IsEvasive v.link ∷ I))) (all_push Calm (λ l why. tt) (λ c why. tt) (λ l b. tt) g v.link body.Ping I) (probes_calm vs (after p (IsEvasive v.link ∷ I))))
 
   ends_calm : (why : Cause) (vs : List Life) → AreCalm (end_all why vs)
   ends_calm why [] = tt

@@ -1,6 +1,7 @@
 -- A piece that is cut in two brings about the same.
 use Rattle.std.proofs.Common.{◌≡◌, ℕ, Bool, true, false, true≢false, cond, not, ◌&&◌, eqb, List, [], ◌∷◌, ◌++◌, length, drop, map, filter, refl, sym, ap, ◌∙◌, subst, arith, eqb-true, eq-eqb, append_assoc, append-nil}
 use Rattle.std.specs.Prelude.{max}
+use Rattle.std.proofs.lemmas.List.{append_cancel_left}
 use Rattle.std.proofs.lemmas.List.Elements.{filter-append}
 use Rattle.std.specs.List.{AllByRecursion}
 use Rattle.zre_mailbox.specs.Talk.{Said, talk, completed as completed_by}
@@ -276,3 +277,16 @@ module _ (g : Config) where
         by true s t o = stopped s
         by false s true o = heard s o
         by false s false o = unheard s o
+
+    -- what the two tell and ask for, one after the other, is what the whole does
+    pub events_twice : events_at g one H ++ events_at g two (with_entry g one H) ≡ events_at g whole H
+    events_twice =
+        let p = append_cancel_left (events g J) (events_at g one H ++ (events_at g two (with_entry g one H) ++ [])) (events_at g whole H ++ []) (sym (continues g J (one ∷ two ∷ [])).told ∙ same_cut.told ∙ (continues g J (whole ∷ [])).told) in
+        ap (λ es. events_at g one H ++ es) (sym (append-nil (events_at g two (with_entry g one H)))) ∙ p ∙ append-nil (events_at g whole H)
+
+    pub acts_twice : but_offers (acts_at g one H ++ acts_at g two (with_entry g one H)) ≡ but_offers (acts_at g whole H)
+    acts_twice =
+        let l = ap but_offers (continues g J (one ∷ two ∷ [])).done ∙ filter-append (λ x. not (is_offer x)) (acts g J) (acts_at g one H ++ (acts_at g two (with_entry g one H) ++ [])) in
+        let r = ap but_offers (continues g J (whole ∷ [])).done ∙ filter-append (λ x. not (is_offer x)) (acts g J) (acts_at g whole H ++ []) in
+        let p = append_cancel_left (but_offers (acts g J)) (but_offers (acts_at g one H ++ (acts_at g two (with_entry g one H) ++ []))) (but_offers (acts_at g whole H ++ [])) (sym l ∙ same_cut.done ∙ r) in
+        ap (λ xs. but_offers (acts_at g one H ++ xs)) (sym (append-nil (acts_at g two (with_entry g one H)))) ∙ p ∙ ap but_offers (append-nil (acts_at g whole H))

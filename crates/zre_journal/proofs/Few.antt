@@ -1,5 +1,5 @@
 -- Known peers have ids of their own, and neither they nor the open connections pass their limits.
-use Rattle.std.proofs.Common.{◌≡◌, ℕ, ◌+◌, ◌≤◌, Bool, true, false, cond, not, eqb, List, [], ◌∷◌, ◌++◌, length, Some, None, find, filter, refl, sym, ap, ◌∙◌, arith, subst}
+use Rattle.std.proofs.Common.{◌≡◌, ℕ, ◌+◌, ◌≤◌, Bool, true, false, cond, not, eqb, List, [], ◌∷◌, ◌++◌, length, Some, None, find, filter, refl, sym, ap, ◌∙◌, arith, subst, eq-eqb}
 use Rattle.std.specs.Str.{bytes_eq}
 use Rattle.zre_values.specs.declared.peer_id.PeerId.{PeerId}
 use Rattle.zre_values.specs.declared.limits.TheConstants.{PEERS, CONNECTIONS}
@@ -14,7 +14,7 @@ use Rattle.zre_journal.specs.Events.{chronicle}
 use Rattle.zre_journal.specs.Proper.{IsProper}
 use Rattle.zre_journal.specs.Laws.{AreFew}
 use Rattle.zre_journal.proofs.Always.{always}
-use Rattle.zre_journal.proofs.Known.{life_stays}
+use Rattle.zre_journal.proofs.Known.{same_id, life_stays}
 use Rattle.zre_journal.proofs.Listed.{eqb-comm, found_before}
 use Rattle.zre_journal.proofs.Steps.{May, step}
 use Rattle.zre_journal.proofs.Silent.{known_lives}
@@ -85,6 +85,19 @@ none_end t (x ∷ xs) y e k = by (λ f. none_end t xs y f k) (t x) e
 -- what is found by its link is found by its id
 abbrev pub AreNamed : List Mark → Type 0
 AreNamed H = (l : ℕ) (v : Life) → life l H ≡ Some v → life_of v.id H ≡ Some v
+
+-- peers on two links have two ids
+pub ids_apart : (H : List Mark) → IsProper H → AreNamed H → (l k : ℕ) (v w : Life) → life l H ≡ Some v → life k H ≡ Some w → eqb l k ≡ false → bytes_eq v.id.0 w.id.0 ≡ false
+ids_apart H q n l k v w e f far = by (bytes_eq v.id.0 w.id.0) refl
+  where
+    by : (b : Bool) → bytes_eq v.id.0 w.id.0 ≡ b → b ≡ false
+    by false s = refl
+    by true s =
+        let z : Some v ≡ Some w = sym (n l v e) ∙ ap (λ (i : PeerId). life_of i H) (sym (same_id v.id w.id s)) ∙ n k w f in
+        let same : v ≡ w = cc in
+        let link : l ≡ k = (known_lives H q l v e).2 ∙ ap (λ (x : Life). x.link) same ∙ sym (known_lives H q k w f).2 in
+        let y : true ≡ false = sym (eq-eqb l k link) ∙ far in
+        cc
 
 -- of another link than one that ended
 pub another : (H : List Mark) (l k : ℕ) (why : Cause) (v : Life) → IsProper (Ends l why ∷ H) → life k (Ends l why ∷ H) ≡ Some v → eqb l k ≡ false

@@ -2,7 +2,7 @@
 use Rattle.std.proofs.Common.{◌≡◌, ℕ, ◌+◌, Bool, true, false, cond, not, ◌&&◌, eqb, ltb, List, [], ◌∷◌, ◌++◌, length, map, Option, Some, None, refl, sym, ap, ◌∙◌, subst, eqb-true, eq-eqb, inl, inr, append_assoc}
 use Rattle.std.specs.Option.{option_or}
 use Rattle.std.specs.List.{AllByRecursion}
-use Rattle.zre_values.specs.declared.limits.TheConstants.{PEERS, CONNECTIONS, UNSENT_OCTETS}
+use Rattle.zre_values.specs.declared.limits.TheConstants.{PEERS, CONNECTIONS}
 use Rattle.zre_values.specs.declared.peer_id.PeerId.{PeerId}
 use Rattle.zre_values.specs.declared.endpoint.Endpoint.{Endpoint}
 use Rattle.zre_values.specs.Endpoint.{endpoint_in}
@@ -17,22 +17,17 @@ use Rattle.zre_mailbox.specs.Talk.{Said, Arrived, Fault, arrivals, fault_in, fau
 use Rattle.zre_mailbox.proofs.Growing.{goes}
 use Rattle.zre_mailbox.proofs.Hearing.{identity_kept}
 use Rattle.zre_mailbox.proofs.InOrder.{in_order}
-use Rattle.zre_link.specs.Text.{size_of}
-use Rattle.zre_msg.specs.declared.message.Body.{Body}
-use Rattle.zre_msg.specs.declared.message.Body.TheVariants as body
 use Rattle.zre_msg.specs.declared.message.Message.{Message}
-use Rattle.zre_peer.specs.declared.causes.Cause.{Cause}
 use Rattle.zre_peer.specs.declared.causes.Cause.TheVariants as cause
 use Rattle.zre_peer.specs.Runs.{is_hello, due}
 use Rattle.zre_peer.specs.Views.{view_of, is_small}
 use Rattle.zre_values.specs.declared.settings.Settings.{Settings as Config}
-use Rattle.zre_journal.specs.Arrivals.{at_opened, end_of_run, taken_over, start_unknown, start, at_first, answer_to, at_message, at_shaken, at_said, at_place, at_places}
+use Rattle.zre_journal.specs.Arrivals.{at_opened, end_of_run, taken_over, start_unknown, start, at_first, at_message, at_shaken, at_said, at_place, at_places}
 use Rattle.zre_journal.specs.Chronicle.{Mark, Comes, Shakes, after}
 use Rattle.zre_journal.specs.Connections.{open_ones, is_new, identity, runs, is_live, other_with}
 use Rattle.zre_journal.specs.Events.{chronicle}
 use Rattle.zre_journal.specs.Happens.{at_input}
 use Rattle.zre_journal.specs.Heard.{bytes, was_opened, piece_of}
-use Rattle.zre_journal.specs.Links.{line, unsent}
 use Rattle.zre_journal.specs.Peers.{Life, lives, life_of, counted}
 use Rattle.zre_journal.specs.Places.{is_piece, IsEntry, Arrives}
 use Rattle.zre_journal.specs.Proper.{IsProper}
@@ -40,12 +35,13 @@ use Rattle.zre_journal.proofs.Always.{is_proper}
 use Rattle.zre_journal.proofs.Brings.{all_brought}
 use Rattle.zre_journal.proofs.Brought.{Ground, Brought, quiet}
 use Rattle.zre_journal.proofs.Joined.{after-append}
+use Rattle.zre_journal.proofs.Listed.{All-join}
 use Rattle.zre_journal.proofs.Places.{IsMoment, its_moment}
 use Rattle.zre_journal.proofs.Quiet.{Quiet, AreQuiet, is_of}
 use Rattle.zre_journal.proofs.Says.{place_outcome, places_outcome, input_quiet}
 use Rattle.zre_journal.proofs.Sayings.{MaySay, newly_fine}
 use Rattle.zre_journal.proofs.Silent.{Comes-proper}
-use Rattle.zre_journal.proofs.Steps.{Each, all_same, each_same, choice}
+use Rattle.zre_journal.proofs.Steps.{Each, all_same, each_same, choice, all_end, all_taken, all_answer}
 use Rattle.zre_journal.proofs.Walk.{walk}
 
 -- ---- who is introduced by what is said
@@ -100,10 +96,6 @@ Unshaken _ = Unit {0}
 abbrev AreUnshaken : List Mark → Type 0
 AreUnshaken hs = AllByRecursion Unshaken hs
 
-unshaken_and : (hs ks : List Mark) → AreUnshaken hs → AreUnshaken ks → AreUnshaken (hs ++ ks)
-unshaken_and [] ks a b = b
-unshaken_and (h ∷ hs) ks a b = (a.0, unshaken_and hs ks a.1 b)
-
 record IsSame (c : ℕ) (L K : List Mark) : Type 0 where
   identity_is : identity c L ≡ identity c K
   bytes_are : bytes c L ≡ bytes c K
@@ -140,18 +132,6 @@ brought_bytes g w t c hs K b = each_same (Brought g w t) (bytes c) one hs K b
     one _ H z = refl
 
 module _ (g : Config) (K : List Mark) where
-  unshaken_end : (o : Option ℕ) (why : Cause) → AreUnshaken (end_of_run g o why)
-  unshaken_end None why = tt
-  unshaken_end (Some l) why = (tt, tt)
-
-  unshaken_taken : (o : Option ℕ) → AreUnshaken (taken_over g o K)
-  unshaken_taken None = tt
-  unshaken_taken (Some d) = unshaken_and (end_of_run g (runs d K) cause.Taken) _ (unshaken_end (runs d K) cause.Taken) (tt, tt)
-
-  unshaken_answer : (l : ℕ) (b : Body) → AreUnshaken (answer_to g l b K)
-  unshaken_answer l body.Ping = choice AreUnshaken (ltb UNSENT_OCTETS (unsent g l K + size_of (line l K) body.PingOk)) _ _ (λ z. (tt, tt)) (λ z. (tt, tt))
-  unshaken_answer l _ = tt
-
   unshaken_unknown : (c : ℕ) (p : PeerId) (m : Message) (e : Option Endpoint) → AreUnshaken (start_unknown g c p m e K)
   unshaken_unknown c p m None = (tt, tt)
   unshaken_unknown c p m (Some e) = choice AreUnshaken (ltb (length (lives K)) PEERS) _ _ (λ z. (tt, (tt, (tt, tt)))) (λ z. (tt, tt))
@@ -167,7 +147,7 @@ module _ (g : Config) (K : List Mark) where
   unshaken_message : (c : ℕ) (r : Option ℕ) (m : Message) → AreUnshaken (at_message g c r m K)
   unshaken_message c None m = unshaken_first c (identity c K) m
   unshaken_message c (Some l) m = choice AreUnshaken (is_hello m.body) _ _ (λ z. (tt, tt)) (λ z. choice AreUnshaken (not (eqb m.sequence (due (counted l K)))) _ _ (λ y. (tt, tt))
-      (λ y. choice AreUnshaken (not (is_small (view_of (counted l K ++ m ∷ [])))) _ _ (λ x. (tt, tt)) (λ x. (tt, unshaken_answer l m.body))))
+      (λ y. choice AreUnshaken (not (is_small (view_of (counted l K ++ m ∷ [])))) _ _ (λ x. (tt, tt)) (λ x. (tt, all_answer Unshaken (λ l why. tt) (λ c why. tt) (λ l b. tt) g l m.body K))))
 
   unshaken_opened : (c : ℕ) → AreUnshaken (at_opened g c K)
   unshaken_opened c = choice AreUnshaken (is_new c K) _ _ (λ z. choice AreUnshaken (ltb (length (open_ones K)) CONNECTIONS) _ _ (λ y. (tt, tt)) (λ y. (tt, tt))) (λ z. tt)
@@ -238,7 +218,7 @@ module _ (g : Config) (J : List Entry) where
     shaken p is (Some q) r i = o c r i
     shaken p is None r i =
         let hs = taken_over g (other_with p c K) K in
-        let s = unshaken_same c hs K (unshaken_taken g K (other_with p c K)) in
+        let s = unshaken_same c hs K (all_taken Unshaken (λ l why. tt) (λ c why. tt) (λ l b. tt) g (other_with p c K) K) in
         let now : after (hs ++ Shakes c p ∷ []) K ≡ Shakes c p ∷ after hs K = after-append hs (Shakes c p ∷ []) K in
         let who : Some p ≡ Some r = sym (ap (λ t. option_or (cond t (Some p) None) (identity c (after hs K))) (eq-eqb c c refl)) ∙ ap (identity c) (sym now) ∙ i in
         ap (λ b. identity_in (arrivals g.id b)) (ap (bytes c) now ∙ s.bytes_are)
@@ -250,7 +230,7 @@ module _ (g : Config) (J : List Entry) where
     said (Arrived (arrival.Shaken p)) is = shaken p is (identity c K)
     said (Arrived (arrival.Ping t)) is = plain (at_said g c (Arrived (arrival.Ping t)) K) (tt, tt)
     said (Arrived (arrival.Message m)) is = plain (at_message g c (runs c K) m K) (unshaken_message g K c (runs c K) m)
-    said (Fault f) is = plain (at_said g c (Fault f) K) (unshaken_and (end_of_run g (runs c K) cause.Fault) _ (unshaken_end g K (runs c K) cause.Fault) (tt, tt))
+    said (Fault f) is = plain (at_said g c (Fault f) K) (All-join Unshaken (end_of_run g (runs c K) cause.Fault) _ (all_end Unshaken (λ l why. tt) (λ c why. tt) (λ l b. tt) g (runs c K) cause.Fault) (tt, tt))
 
     own : Q (at_place g c one K)
     own = choice Q (is_live c K) _ _ (λ live. said one refl) (λ dead. o c)

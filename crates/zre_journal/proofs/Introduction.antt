@@ -1,5 +1,5 @@
 -- HELLO of valid settings is short.
-use Rattle.std.proofs.Common.{◌≡◌, ℕ, ◌+◌, ◌*◌, ◌<◌, ◌≤◌, ◌^◌, ◌&&◌, Bool, true, false, cond, ltb, leb, suc, List, [], ◌∷◌, ◌++◌, length, get_or, Some, ap, arith}
+use Rattle.std.proofs.Common.{◌≡◌, ℕ, ◌+◌, ◌*◌, ◌<◌, ◌≤◌, ◌^◌, Bool, true, false, cond, ltb, leb, suc, List, [], ◌∷◌, ◌++◌, length, get_or, Some, ap, arith}
 use Rattle.std.specs.List.{AllByRecursion, flat_map, list_all}
 use Rattle.std.specs.Int.{w64, to_be_bytes}
 use Rattle.std.proofs.lemmas.Bool.{and_parts, leb-true, ltb-true}
@@ -23,7 +23,7 @@ use Rattle.zre_values.specs.declared.settings.Settings.{Settings as Config}
 use Rattle.zre_journal.specs.Chronicle.{Mark}
 use Rattle.zre_journal.specs.Config.{own_endpoint}
 use Rattle.zre_values.specs.Settings.{is_valid}
-use Rattle.zre_values.specs.Settings.{is_fitting, are_apart}
+use Rattle.zre_values.specs.Settings.{is_fitting}
 use Rattle.zre_journal.specs.Links.{groups, status}
 use Rattle.zre_journal.specs.Pushes.{hello}
 use Rattle.zre_journal.specs.Introducing.{Introduces}
@@ -78,19 +78,10 @@ pub record AreSmall (g : Config) : Type 0 where
 
 pub small : (g : Config) → is_valid g ≡ true → AreSmall g
 small g valid =
-    let name = leb (length g.name) 255 in
-    let few = leb (length g.headers) HEADERS in
-    let fit = list_all is_fitting g.headers in
-    let apart = are_apart g.headers in
-    let port = ltb 0 g.port in
-    let p = and_parts (name && few && fit && apart && port && leb 1 g.evasive && leb g.evasive g.expired) (leb g.expired 86400000) valid in
-    let q = and_parts (name && few && fit && apart && port && leb 1 g.evasive) (leb g.evasive g.expired) p.0 in
-    let r = and_parts (name && few && fit && apart && port) (leb 1 g.evasive) q.0 in
-    let s = and_parts (name && few && fit && apart) port r.0 in
-    let t = and_parts (name && few && fit) apart s.0 in
-    let u = and_parts (name && few) fit t.0 in
-    let v = and_parts name few u.0 in
-    record { name = leb-true _ _ v.0; few = leb-true _ _ v.1; fit = u.1; port_is_some = ltb-true _ _ s.1 }
+    let p = and_parts _ _ (and_parts _ _ (and_parts _ _ (and_parts _ _ valid).0).0).0 in
+    let q = and_parts _ _ (and_parts _ _ p.0).0 in
+    let r = and_parts _ _ q.0 in
+    record { name = leb-true _ _ r.0; few = leb-true _ _ r.1; fit = q.1; port_is_some = ltb-true _ _ p.1 }
 
 endpoint-short : (g : Config) → IsAddress g.host → 0 < g.port → g.port < 2 ^ 16 → length (own_endpoint g) ≤ 27
 endpoint-short g addr some fits = endpoint_text-short (record { addr = g.host; port = g.port }) (record { address = addr; port_is_some = some; port_fits = fits })

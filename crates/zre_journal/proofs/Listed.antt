@@ -1,5 +1,5 @@
 -- Lists of numbered things: found by number, taken out by number, put at the end.
-use Rattle.std.proofs.Common.{◌≡◌, ℕ, zero, suc, ◌<◌, Bool, true, false, cond, not, ◌||◌, eqb, List, [], ◌∷◌, ◌++◌, Option, Some, None, IsSome, refl, sym, ap, ◌∙◌, arith, eqb-true, eq-eqb, ne_eqb, subst, find, filter, drop}
+use Rattle.std.proofs.Common.{◌≡◌, ℕ, zero, suc, ◌<◌, Bool, true, false, cond, not, ◌||◌, eqb, List, [], ◌∷◌, ◌++◌, length, Option, Some, None, IsSome, is_some, refl, sym, ap, ◌∙◌, arith, eqb-true, eq-eqb, ne_eqb, subst, find, filter, map, drop, ◌≤◌}
 use Rattle.std.proofs.lemmas.Bool.{eqb-false}
 use Rattle.std.specs.List.{AllByRecursion, list_any}
 use Rattle.std.specs.Str.{bytes_eq}
@@ -97,7 +97,24 @@ All-without P group [] h = tt
 All-without P group (x ∷ gs) h = elim (bytes_eq x group) as (λ b. AllByRecursion P (cond b gs (x ∷ without group gs)))
     [ true ↦ h.1 | false ↦ (h.0, All-without P group gs h.1) ]
 
+pub fewer-without : (group : List ℕ) (gs : List (List ℕ)) → length (without group gs) ≤ length gs
+fewer-without group [] = omega arith
+fewer-without group (x ∷ gs) = by (fewer-without group gs) (bytes_eq x group)
+  where
+    by : length (without group gs) ≤ length gs → (b : Bool) → length (cond b gs (x ∷ without group gs)) ≤ length (x ∷ gs)
+    by r true = omega arith
+    by r false = omega (arith, r)
+
 module _ {A : Type 0} (key : A → ℕ) where
+  -- a number is there where something of that number is found
+  pub any_found : (n : ℕ) (xs : List A) → list_any (eqb n) (map key xs) ≡ is_some (find (λ x. eqb n (key x)) xs)
+  any_found n [] = refl
+  any_found n (x ∷ xs) = by (eqb n (key x)) (any_found n xs)
+    where
+      by : (b : Bool) → list_any (eqb n) (map key xs) ≡ is_some (find (λ y. eqb n (key y)) xs) → (b || list_any (eqb n) (map key xs)) ≡ is_some (cond b (Some x) (find (λ y. eqb n (key y)) xs))
+      by true r = refl
+      by false r = r
+
   -- things stay apart after a new greatest one, and where one is taken out
   pub Apart-append : (y : A) (xs : List A) → AllByRecursion (λ x. key x < key y) xs → Apart key xs → Apart key (xs ++ y ∷ [])
   Apart-append y [] b p = (tt, tt)

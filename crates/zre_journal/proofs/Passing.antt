@@ -1,5 +1,5 @@
 -- What is told of an entered peer is what the messages of its connection tell.
-use Rattle.std.proofs.Common.{◌≡◌, ℕ, ◌+◌, Bool, true, false, cond, eqb, List, [], ◌∷◌, ◌++◌, map, Option, Some, None, refl, sym, ap, ◌∙◌, subst, arith, eqb-true, eq-eqb, append_assoc, append-nil}
+use Rattle.std.proofs.Common.{◌≡◌, ℕ, ◌+◌, Bool, true, false, cond, eqb, List, [], ◌∷◌, ◌++◌, map, Option, Some, None, refl, sym, ap, ◌∙◌, subst, arith, eqb-true, append_assoc, append-nil}
 use Rattle.std.proofs.lemmas.List.Sums.{fold-append}
 use Rattle.std.specs.List.{AllByRecursion, fold}
 use Rattle.std.specs.Str.{bytes_eq}
@@ -19,15 +19,15 @@ use Rattle.zre_peer.specs.declared.event.Event.{Event}
 use Rattle.zre_peer.specs.declared.event.Event.TheVariants as event
 use Rattle.zre_values.specs.declared.settings.Settings.{Settings as Config}
 use Rattle.zre_journal.specs.Chronicle.{Mark, Born, Starts, Counts, Ends, IsEvasive}
-use Rattle.zre_journal.specs.Peers.{Life, lives, life, life_of, births, runner, is_entered, counted, view}
+use Rattle.zre_journal.specs.Peers.{Life, lives, life, births, runner, is_entered, counted, view}
 use Rattle.zre_journal.specs.Told.{told_in, told_at, by_message, exit, becoming_evasive}
 use Rattle.zre_journal.specs.Events.{events, chronicle}
 use Rattle.zre_journal.specs.Proper.{IsProper}
 use Rattle.zre_journal.specs.Spoken.{subject, run_with, run_of, FollowsMessages}
 use Rattle.zre_journal.proofs.Always.{always}
-use Rattle.zre_journal.proofs.Few.{AreNamed, named_more, at_end, AtEnd, Front, Back, another}
+use Rattle.zre_journal.proofs.Few.{AreNamed, named_more, at_end, AtEnd, Front, Back, another, ids_apart}
 use Rattle.zre_journal.proofs.Kept.{known_lives, run_known}
-use Rattle.zre_journal.proofs.Known.{same_id, life_stays}
+use Rattle.zre_journal.proofs.Known.{life_stays}
 use Rattle.zre_journal.proofs.Lawful.{shows_messages}
 use Rattle.zre_journal.proofs.Listed.{some_is, eqb-comm}
 use Rattle.zre_journal.proofs.Steps.{May, step}
@@ -118,19 +118,6 @@ abbrev pub IsPassed : (PeerId → List Event) → List Mark → Type 0
 IsPassed xs H = (c l : ℕ) (v : Life) → life l H ≡ Some v → runner l H ≡ Some c → xs v.id ≡ told v.id (counted l H)
 
 module _ (xs : PeerId → List Event) (H : List Mark) (q : IsProper H) (n : AreNamed H) (o : IsPassed xs H) where
-  -- peers on two links have two ids
-  apart : (l k : ℕ) (v w : Life) → life l H ≡ Some v → life k H ≡ Some w → eqb l k ≡ false → bytes_eq v.id.0 w.id.0 ≡ false
-  apart l k v w e f far = by (bytes_eq v.id.0 w.id.0) refl
-    where
-      by : (b : Bool) → bytes_eq v.id.0 w.id.0 ≡ b → b ≡ false
-      by false s = refl
-      by true s =
-          let z : Some v ≡ Some w = sym (n l v e) ∙ ap (λ (i : PeerId). life_of i H) (sym (same_id v.id w.id s)) ∙ n k w f in
-          let same : v ≡ w = cc in
-          let link : l ≡ k = (known_lives H q l v e).2 ∙ ap (λ (x : Life). x.link) same ∙ sym (known_lives H q k w f).2 in
-          let y : true ≡ false = sym (eq-eqb l k link) ∙ far in
-          cc
-
   start_passes : (c l : ℕ) (m : Message) → May (Starts c l m) H → IsPassed (λ p. fold (run_with p) (xs p) (told_at (Starts c l m) H)) (Starts c l m ∷ H)
   start_passes c l m y d k v e r = subst (λ p. fold (run_with v.id) (xs v.id) (by_message p m H) ≡ told v.id (counted k (Starts c l m ∷ H))) (sym y.known) (by (eqb k l) refl)
     where
@@ -150,7 +137,7 @@ module _ (xs : PeerId → List Event) (H : List Mark) (q : IsProper H) (n : AreN
           ∙ rw (s, empty) (sym (append-nil (events_of v.id (view_of []) m.body)))
       by false s =
           let older : runner k H ≡ Some d = rw s at r in
-          pass_by v.id y.who.id (xs v.id) (events_of y.who.id (view y.who.link H) m.body) (all_of y.who.id (view y.who.link H) m.body) (apart k l v y.who e y.known s)
+          pass_by v.id y.who.id (xs v.id) (events_of y.who.id (view y.who.link H) m.body) (all_of y.who.id (view y.who.link H) m.body) (ids_apart H q n k l v y.who e y.known s)
           ∙ o d k v e older ∙ rw s refl
 
   count_passes : (c l : ℕ) (m : Message) → May (Counts c l m) H → IsPassed (λ p. fold (run_with p) (xs p) (told_at (Counts c l m) H)) (Counts c l m ∷ H)
@@ -171,7 +158,7 @@ module _ (xs : PeerId → List Event) (H : List Mark) (q : IsProper H) (n : AreN
           ∙ sym (told-push v.id [] (counted k H) m)
           ∙ rw s refl
       by w f false s =
-          pass_by v.id w.id (xs v.id) (events_of w.id (view w.link H) m.body) (all_of w.id (view w.link H) m.body) (apart k l v w e f s)
+          pass_by v.id w.id (xs v.id) (events_of w.id (view w.link H) m.body) (all_of w.id (view w.link H) m.body) (ids_apart H q n k l v w e f s)
           ∙ o d k v e r ∙ rw s refl
 
   end_passes : (l : ℕ) (why : Cause) → May (Ends l why) H → IsPassed (λ p. fold (run_with p) (xs p) (told_at (Ends l why) H)) (Ends l why ∷ H)
@@ -180,7 +167,7 @@ module _ (xs : PeerId → List Event) (H : List Mark) (q : IsProper H) (n : AreN
       let far = another H l k why v (step (Ends l why) H q y) e in
       let old : life k H ≡ Some v = sym (life_stays H l k why far) ∙ e in
       subst (λ p. fold (run_with v.id) (xs v.id) (exit p why H) ≡ told v.id (counted k H)) (sym w.1)
-      (by w.0 (apart k l v w.0 old w.1 (eqb-comm k l ∙ far)) (is_entered H w.0) ∙ o d k v old r)
+      (by w.0 (ids_apart H q n k l v w.0 old w.1 (eqb-comm k l ∙ far)) (is_entered H w.0) ∙ o d k v old r)
     where
       by : (w : Life) → bytes_eq v.id.0 w.id.0 ≡ false → (b : Bool) → fold (run_with v.id) (xs v.id) (cond b (event.Exit w.id (view w.link H).name why ∷ []) []) ≡ xs v.id
       by w far true = pass_by v.id w.id (xs v.id) (event.Exit w.id (view w.link H).name why ∷ []) (refl, tt) far

@@ -1,9 +1,7 @@
 -- When marks leave what is kept of groups, links and views within its limits, and that it stays so after marks that do.
 use Rattle.std.proofs.Common.{◌≡◌, ℕ, ◌+◌, ◌-◌, ◌<◌, ◌≤◌, Bool, true, false, cond, ◌&&◌, eqb, List, [], ◌∷◌, ◌++◌, length, Some, None, refl, sym, ap, ◌∙◌, arith, eqb-true, subst, append-nil, length-append}
 use Rattle.std.specs.List.{AllByRecursion}
-use Rattle.std.specs.Str.{bytes_eq}
 use Rattle.std.proofs.lemmas.Bool.{and_parts}
-use Rattle.zre_values.specs.Lists.{without}
 use Rattle.zre_values.specs.declared.limits.TheConstants.{MESSAGE_OCTETS, UNSENT_OCTETS, OWN_GROUPS, GROUP_OCTETS}
 use Rattle.zre_msg.specs.Spelling.{octets}
 use Rattle.zre_msg.specs.declared.message.Body.{Body}
@@ -22,7 +20,7 @@ use Rattle.zre_journal.specs.Links.{groups, line, taken, unsent}
 use Rattle.zre_journal.specs.Proper.{IsProper}
 use Rattle.zre_journal.proofs.Fields.{hello_octets}
 use Rattle.zre_journal.proofs.Introduction.{CanIntroduce, new-short}
-use Rattle.zre_journal.proofs.Listed.{All-append, All-without}
+use Rattle.zre_journal.proofs.Listed.{All-append, All-without, fewer-without}
 use Rattle.zre_journal.proofs.Steps.{May, Allowed, step, Each}
 use Rattle.zre_journal.proofs.Viewed.{IsShortView, blank-short, first-short, later-short}
 
@@ -107,14 +105,6 @@ module _ (g : Config) where
       by true e = later-short (counted k H) m may.later (subst (λ x. is_small (view_of (counted x H ++ m ∷ [])) ≡ true) (sym (eqb-true k l e)) may.small) (was k)
       by false e = was k
 
-  fewer : (group : List ℕ) (gs : List (List ℕ)) → length (without group gs) ≤ length gs
-  fewer group [] = omega arith
-  fewer group (x ∷ gs) = by (fewer group gs) (bytes_eq x group)
-    where
-      by : length (without group gs) ≤ length gs → (b : Bool) → length (cond b gs (x ∷ without group gs)) ≤ length (x ∷ gs)
-      by r true = omega arith
-      by r false = omega (arith, r)
-
   pub room-more : (h : Mark) (H : List Mark) → IsProper H → May h H → Fits h H → HasRoom g H → HasRoom g (h ∷ H)
   room-more (Puts l b) H q m f o = record { unsent_fits = puts l b H f o.unsent_fits; views_fit = o.views_fit; groups_fit = o.groups_fit; few_groups = o.few_groups }
   room-more (PutsPong l t) H q m f o = record { unsent_fits = pongs l t H f o.unsent_fits; views_fit = o.views_fit; groups_fit = o.groups_fit; few_groups = o.few_groups }
@@ -131,7 +121,7 @@ module _ (g : Config) where
     unsent_fits = o.unsent_fits;
     views_fit = o.views_fit;
     groups_fit = All-without (λ x. length x ≤ GROUP_OCTETS) group (groups H) o.groups_fit;
-    few_groups = omega (arith, fewer group (groups H), o.few_groups);
+    few_groups = omega (arith, fewer-without group (groups H), o.few_groups);
   }
   room-more _ H q m f o = record { unsent_fits = o.unsent_fits; views_fit = o.views_fit; groups_fit = o.groups_fit; few_groups = o.few_groups }
 

@@ -13,7 +13,6 @@ use Rattle.zre_values.specs.declared.peer_id.PeerId.{PeerId}
 use Rattle.zre_values.specs.declared.endpoint.Endpoint.{Endpoint}
 use Rattle.zre_values.specs.Endpoint.{endpoint_in}
 use Rattle.zre_values.specs.Framing.{frame}
-use Rattle.zre_values.specs.Lists.{without}
 use Rattle.zre_outside.specs.declared.entry.Command.{Command}
 use Rattle.zre_outside.specs.declared.entry.Command.TheVariants as command
 use Rattle.zre_outside.specs.declared.entry.Entry.{Entry}
@@ -54,7 +53,7 @@ use Rattle.zre_journal.specs.Pushes.{hello, push, push_all, birth}
 use Rattle.zre_journal.specs.Ticks.{is_silent, is_evasive, probe, is_stale, at_tick}
 use Rattle.zre_journal.proofs.Introduction.{CanIntroduce, introduces}
 use Rattle.zre_journal.proofs.Lines.{bodies_on}
-use Rattle.zre_journal.proofs.Listed.{All-append, All-without}
+use Rattle.zre_journal.proofs.Listed.{All-append, All-without, fewer-without}
 use Rattle.zre_journal.proofs.Steps.{Each, both, choice}
 use Rattle.zre_journal.proofs.Walk.{walk}
 
@@ -119,14 +118,6 @@ module _ (g : Config) where
   Keeps (Joins group) H = (length group ≤ GROUP_OCTETS) × (length (groups H) < OWN_GROUPS)
   Keeps _ H = Unit {0}
 
-  fewer : (group : List ℕ) (gs : List (List ℕ)) → length (without group gs) ≤ length gs
-  fewer group [] = omega arith
-  fewer group (x ∷ gs) = by (fewer group gs) (bytes_eq x group)
-    where
-      by : length (without group gs) ≤ length gs → (b : Bool) → length (cond b gs (x ∷ without group gs)) ≤ length (x ∷ gs)
-      by r true = omega arith
-      by r false = omega (arith, r)
-
   kept : (h : Mark) (H : List Mark) → Keeps h H → AreSent H → AreSent (h ∷ H)
   kept (Puts l b) H k o = record { groups_fit = o.groups_fit; few_groups = o.few_groups; sendable = λ j. by j (eqb j l) }
     where
@@ -144,7 +135,7 @@ module _ (g : Config) where
   }
   kept (Leaves group) H k o = record {
     groups_fit = All-without (λ x. length x ≤ GROUP_OCTETS) group (groups H) o.groups_fit;
-    few_groups = omega (arith, fewer group (groups H), o.few_groups);
+    few_groups = omega (arith, fewer-without group (groups H), o.few_groups);
     sendable = o.sendable;
   }
   kept _ H k o = record { groups_fit = o.groups_fit; few_groups = o.few_groups; sendable = o.sendable }

@@ -1,18 +1,28 @@
 -- When each mark may come, that a chronicle stays proper after marks that may, and what each of many marks has.
-use Rattle.std.proofs.Common.{◌≡◌, ℕ, ◌+◌, ◌<◌, ◌≤◌, Bool, true, false, cond, eqb, List, [], ◌∷◌, ◌++◌, length, Some, None, IsSome, is_some, refl, sym, ◌∙◌, arith, subst}
+use Rattle.std.proofs.Common.{◌≡◌, ℕ, ◌+◌, ◌<◌, ◌≤◌, Bool, true, false, cond, eqb, ltb, List, [], ◌∷◌, ◌++◌, length, Option, Some, None, IsSome, is_some, refl, sym, ◌∙◌, arith, subst}
 use Rattle.std.specs.List.{AllByRecursion}
 use Rattle.zre_values.specs.declared.peer_id.PeerId.{PeerId}
-use Rattle.zre_values.specs.declared.limits.TheConstants.{PEERS, CONNECTIONS}
+use Rattle.zre_values.specs.declared.limits.TheConstants.{PEERS, CONNECTIONS, UNSENT_OCTETS}
 use Rattle.zre_values.specs.declared.endpoint.Endpoint.{Endpoint}
 use Rattle.zre_msg.specs.declared.message.Message.{Message}
+use Rattle.zre_msg.specs.declared.message.Body.{Body}
 use Rattle.zre_msg.specs.declared.message.Body.TheVariants as body
+use Rattle.zre_link.specs.Text.{size_of}
 use Rattle.zre_peer.specs.Runs.{may_follow, is_hello, due}
 use Rattle.zre_peer.specs.Views.{view_of, is_small}
+use Rattle.zre_peer.specs.declared.causes.Cause.{Cause}
+use Rattle.zre_peer.specs.declared.causes.Cause.TheVariants as cause
+use Rattle.zre_peer.specs.declared.causes.CloseWhy.{CloseWhy}
+use Rattle.zre_peer.specs.declared.causes.CloseWhy.TheVariants as close
+use Rattle.zre_values.specs.declared.settings.Settings.{Settings as Config}
+use Rattle.zre_journal.specs.Arrivals.{end_of_run, taken_over, answer_to}
 use Rattle.zre_journal.specs.Chronicle.{Mark, Comes, Opens, TurnsAway, Greets, Shakes, AnswersPing, Starts, Counts, Ignores, Closes, IsShut, ClosesAtStop, Born, HearsBeacon, Ends, IsEvasive, Puts, PutsPong, Links, Sends, Joins, Leaves, Refuses, SendsBeacon, Stops, after}
 use Rattle.zre_journal.specs.Connections.{open_ones, is_open, is_new, identity, started, runs, other_with}
+use Rattle.zre_journal.specs.Links.{line, unsent}
+use Rattle.zre_journal.specs.Pushes.{push}
 use Rattle.zre_journal.specs.Peers.{Life, lives, life_of, life, births, runner, counted}
 use Rattle.zre_journal.specs.Proper.{IsProper}
-use Rattle.zre_journal.proofs.Listed.{some_is}
+use Rattle.zre_journal.proofs.Listed.{some_is, All-join}
 use Rattle.zre_journal.proofs.Kept.{Opens-proper, TurnsAway-proper, Shakes-proper, Starts-proper, Counts-proper, Ignores-proper, Closes-proper, IsShut-proper, ClosesAtStop-proper, born-proper, Ends-proper}
 use Rattle.zre_journal.proofs.Silent.{known_lives, Comes-proper, Greets-proper, AnswersPing-proper, HearsBeacon-proper, IsEvasive-proper, Puts-proper, PutsPong-proper, Links-proper, Sends-proper, Joins-proper, Leaves-proper, Refuses-proper, SendsBeacon-proper, Stops-proper}
 
@@ -96,6 +106,25 @@ each_map P Q f (h ∷ hs) H a = (f h H a.0, each_map P Q f hs (h ∷ H) a.1)
 pub choice : (P : List Mark → Type 0) (b : Bool) (hs ks : List Mark) → (b ≡ true → P hs) → (b ≡ false → P ks) → P (cond b hs ks)
 choice P true hs ks f g = f refl
 choice P false hs ks f g = g refl
+
+-- what each end, each close and each body that is put has, these marks have
+module _ (P : Mark → Type 0) (ends : (l : ℕ) (why : Cause) → P (Ends l why)) (closes : (c : ℕ) (why : CloseWhy) → P (Closes c why)) (puts : (l : ℕ) (b : Body) → P (Puts l b)) (g : Config) where
+  pub all_end : (o : Option ℕ) (why : Cause) → AllByRecursion P (end_of_run g o why)
+  all_end None why = tt
+  all_end (Some l) why = (ends l why, tt)
+
+  pub all_taken : (o : Option ℕ) (K : List Mark) → AllByRecursion P (taken_over g o K)
+  all_taken None K = tt
+  all_taken (Some d) K = All-join P (end_of_run g (runs d K) cause.Taken) _ (all_end (runs d K) cause.Taken) (closes d close.Taken, tt)
+
+  pub all_push : (l : ℕ) (b : Body) (K : List Mark) → AllByRecursion P (push g l b K)
+  all_push l b K =
+      let size = size_of (line l K) b in
+      choice (AllByRecursion P) (ltb UNSENT_OCTETS (unsent g l K + size)) _ _ (λ z. (ends l (cause.Slow (unsent g l K) size), tt)) (λ z. (puts l b, tt))
+
+  pub all_answer : (l : ℕ) (b : Body) (K : List Mark) → AllByRecursion P (answer_to g l b K)
+  all_answer l body.Ping K = all_push l body.PingOk K
+  all_answer l _ K = tt
 
 -- whether marks may come after H, each after those before it
 abbrev pub Allowed : List Mark → List Mark → Type 0

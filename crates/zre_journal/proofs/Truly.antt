@@ -1,18 +1,17 @@
 -- What a node has said of itself on its links, message by message: numbered, true as it was said, and within the limits of a view.
 use Rattle.std.proofs.Common.{◌≡◌, ℕ, zero, suc, ◌+◌, ◌%◌, ◌^◌, ◌≤◌, Bool, true, false, cond, not, ◌&&◌, ◌||◌, eqb, leb, List, [], ◌∷◌, ◌++◌, length, take, Some, refl, sym, ap, ◌∙◌, subst, arith, true≢false}
 use Rattle.std.specs.Prelude.{slice_get}
-use Rattle.std.specs.Str.{bytes_eq}
-use Rattle.std.specs.List.{AllByRecursion, list_any, list_all, fold}
+use Rattle.std.specs.List.{AllByRecursion, list_any, list_all}
 use Rattle.std.proofs.lemmas.Bool.{and_parts, and_from, le-leb, ne_eqb}
 use Rattle.std.proofs.lemmas.List.{length-append}
-use Rattle.zre_values.specs.declared.limits.TheConstants.{GROUPS, GROUP_OCTETS, OWN_GROUPS, HEADERS}
+use Rattle.zre_values.specs.declared.limits.TheConstants.{GROUPS, GROUP_OCTETS, HEADERS}
 use Rattle.zre_outside.specs.declared.entry.Entry.{Entry}
 use Rattle.zre_msg.specs.declared.message.Body.{Body}
 use Rattle.zre_msg.specs.declared.message.Message.{Message}
 use Rattle.zre_link.specs.Text.{numbered_from}
 use Rattle.zre_mailbox.specs.Utterances.{IsReadable}
 use Rattle.zre_peer.specs.Ledger.{IsNumbered}
-use Rattle.zre_peer.specs.Members.{with_header, first_named}
+use Rattle.zre_peer.specs.Members.{first_named}
 use Rattle.zre_peer.specs.Runs.{is_hello}
 use Rattle.zre_peer.specs.Views.{blank, view_of, is_small}
 use Rattle.zre_peer.specs.declared.view.View.{View}
@@ -28,6 +27,7 @@ use Rattle.zre_journal.proofs.Lines.{bodies_on, are_bodies}
 use Rattle.zre_journal.proofs.Sendable.{AreSent, are_sent, each_readable}
 use Rattle.zre_journal.proofs.Speaking.{Spoke, both_of}
 use Rattle.zre_journal.proofs.Truth.{told, view_told}
+use Rattle.zre_journal.proofs.Viewed.{fewer}
 
 -- ---- numbers
 
@@ -79,15 +79,6 @@ hello_at (x ∷ bs) (suc i) b h e = let p = and_parts (is_hello x) (not (list_an
 
 -- ---- limits
 
-fewer : (done hs : List (List ℕ × List ℕ)) → length (fold with_header done hs) ≤ length done + length hs
-fewer done [] = omega arith
-fewer done (h ∷ hs) = by (fewer done hs) (fewer (done ++ h ∷ []) hs) (list_any (λ pair. bytes_eq pair.0 h.0) done)
-  where
-    by : length (fold with_header done hs) ≤ length done + length hs → length (fold with_header (done ++ h ∷ []) hs) ≤ length (done ++ h ∷ []) + length hs
-        → (t : Bool) → length (fold with_header (cond t done (done ++ h ∷ [])) hs) ≤ length done + length (h ∷ hs)
-    by r s true = omega (arith, r)
-    by r s false = omega (arith, s, length-append done (h ∷ []))
-
 all_short : (gs : List (List ℕ)) → AllByRecursion (λ x. length x ≤ GROUP_OCTETS) gs → list_all (λ x. leb (length x) GROUP_OCTETS) gs ≡ true
 all_short [] a = refl
 all_short (x ∷ gs) a = and_from (leb (length x) GROUP_OCTETS) _ (le-leb _ _ a.0) (all_short gs a.1)
@@ -98,7 +89,7 @@ own_small g K can o =
     let few = (small g can.valid).few in
     and_from (leb (length (groups K)) GROUPS && list_all (λ x. leb (length x) GROUP_OCTETS) (groups K)) (leb (length (first_named g.headers)) HEADERS)
     (and_from (leb (length (groups K)) GROUPS) (list_all (λ x. leb (length x) GROUP_OCTETS) (groups K)) (le-leb _ _ (let f = o.few_groups in omega (arith, f))) (all_short (groups K) o.groups_fit))
-    (le-leb _ _ (omega (arith, few, fewer [] g.headers)))
+    (le-leb _ _ (omega (arith, few, fewer length length-append [] g.headers)))
 
 is_moment : (l n : ℕ) (H : List Mark) → (later : List Mark) × (H ≡ later ++ moment l n H)
 is_moment l n [] = ([], refl)

@@ -30,18 +30,19 @@ pub record IsShortView (v : View) : Type 0 where
 abbrev pair_octets : List ℕ × List ℕ → ℕ
 pair_octets h = length h.0 + length h.1
 
--- headers without repeats are no more
-fewer : (done hs : List (List ℕ × List ℕ)) → header_octets (fold with_header done hs) ≤ header_octets done + header_octets hs
-fewer done [] = omega arith
-fewer done (h ∷ hs) = by (fewer done hs) (fewer (done ++ h ∷ []) hs) (list_any (λ pair. bytes_eq pair.0 h.0) done)
-  where
-    by : header_octets (fold with_header done hs) ≤ header_octets done + header_octets hs → header_octets (fold with_header (done ++ h ∷ []) hs) ≤ header_octets (done ++ h ∷ []) + header_octets hs
-        → (b : Bool) → header_octets (fold with_header (cond b done (done ++ h ∷ [])) hs) ≤ header_octets done + header_octets (h ∷ hs)
-    by r s true = omega (arith, r, sum_by-cons pair_octets h hs)
-    by r s false = omega (arith, s, sum_by-append pair_octets done (h ∷ []), sum_by-cons pair_octets h [], sum_by-cons pair_octets h hs)
+-- headers without repeats are no more, by any size that adds up
+module _ (size : List (List ℕ × List ℕ) → ℕ) (adds_up : (xs ys : List (List ℕ × List ℕ)) → size (xs ++ ys) ≡ size xs + size ys) where
+  pub fewer : (done hs : List (List ℕ × List ℕ)) → size (fold with_header done hs) ≤ size done + size hs
+  fewer done [] = omega arith
+  fewer done (h ∷ hs) = by (fewer done hs) (fewer (done ++ h ∷ []) hs) (list_any (λ pair. bytes_eq pair.0 h.0) done)
+    where
+      by : size (fold with_header done hs) ≤ size done + size hs → size (fold with_header (done ++ h ∷ []) hs) ≤ size (done ++ h ∷ []) + size hs
+          → (t : Bool) → size (fold with_header (cond t done (done ++ h ∷ [])) hs) ≤ size done + size (h ∷ hs)
+      by r s true = omega (arith, r, adds_up (h ∷ []) hs)
+      by r s false = omega (arith, s, adds_up done (h ∷ []), adds_up (h ∷ []) hs)
 
 hello_gives : (v : View) (b : Body) → is_hello b ≡ true → name_octets (after v b) ≤ hello_octets b
-hello_gives v (Hello endpoint groups status name headers) h = omega (arith, fewer [] headers)
+hello_gives v (Hello endpoint groups status name headers) h = omega (arith, fewer header_octets (sum_by-append pair_octets) [] headers)
 hello_gives v (Whisper content) h = absurd cc
 hello_gives v (Shout group content) h = absurd cc
 hello_gives v (Join group status) h = absurd cc

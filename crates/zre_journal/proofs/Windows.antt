@@ -6,17 +6,14 @@ use Rattle.std.proofs.lemmas.Bool.{and_parts}
 use Rattle.std.proofs.lemmas.List.{length-append}
 use Rattle.zre_values.specs.declared.peer_id.PeerId.{PeerId}
 use Rattle.zre_values.specs.declared.endpoint.Endpoint.{Endpoint}
-use Rattle.zre_values.specs.declared.limits.TheConstants.{PEERS, CONNECTIONS, UNSENT_OCTETS}
+use Rattle.zre_values.specs.declared.limits.TheConstants.{PEERS, CONNECTIONS}
 use Rattle.zre_values.specs.Endpoint.{endpoint_in}
 use Rattle.zre_outside.specs.declared.entry.Entry.{Entry}
 use Rattle.zre_outside.specs.declared.entry.Input.{Input}
 use Rattle.zre_outside.specs.declared.entry.Input.TheVariants as input
 use Rattle.zre_mailbox.specs.declared.arrival.Arrival.TheVariants as arrival
 use Rattle.zre_mailbox.specs.Talk.{Said, Arrived, Fault}
-use Rattle.zre_msg.specs.declared.message.Body.{Body}
-use Rattle.zre_msg.specs.declared.message.Body.TheVariants as body
 use Rattle.zre_msg.specs.declared.message.Message.{Message}
-use Rattle.zre_link.specs.Text.{size_of}
 use Rattle.zre_peer.specs.Ledger.{IsNear, AreNear}
 use Rattle.zre_peer.specs.Runs.{is_hello, due}
 use Rattle.zre_peer.specs.Views.{view_of, is_small}
@@ -32,20 +29,20 @@ use Rattle.zre_journal.specs.Events.{chronicle, events}
 use Rattle.zre_journal.specs.Happens.{at_input}
 use Rattle.zre_journal.specs.Laws.{counted_on}
 use Rattle.zre_journal.specs.Ledger.{Ledger, IsDrawn, IsNearWhereItComes, IsWithinWindow, KeepsLedgers}
-use Rattle.zre_journal.specs.Links.{line, unsent}
 use Rattle.zre_journal.specs.Peers.{Life, lives, life_of, births, counted}
 use Rattle.zre_journal.specs.Places.{is_piece, IsEntry, Arrives}
-use Rattle.zre_journal.specs.Pushes.{push, birth}
+use Rattle.zre_journal.specs.Pushes.{birth}
 use Rattle.zre_journal.proofs.Always.{is_proper}
 use Rattle.zre_journal.proofs.Brings.{all_brought}
 use Rattle.zre_journal.proofs.Brought.{Ground, quiet}
 use Rattle.zre_journal.proofs.Idle.{not_true}
 use Rattle.zre_journal.proofs.Ledgers.{keeps_ledger}
+use Rattle.zre_journal.proofs.Listed.{All-join}
 use Rattle.zre_journal.proofs.Places.{IsMoment, its_moment, is_placed}
 use Rattle.zre_journal.proofs.Quiet.{Quiet, AreQuiet, is_of}
 use Rattle.zre_journal.proofs.Says.{unused, place_outcome, input_quiet}
 use Rattle.zre_journal.proofs.Silent.{Comes-proper, run_is}
-use Rattle.zre_journal.proofs.Steps.{all_same, choice}
+use Rattle.zre_journal.proofs.Steps.{all_same, choice, all_end, all_taken, all_answer}
 use Rattle.zre_journal.proofs.Walk.{walk}
 
 -- ---- marks that count nothing on a connection
@@ -76,28 +73,9 @@ mute_same d hs K q = all_same Mute (counted_on d) one hs K q
     one (Counts c l m) H z = absurd z
     one _ H z = refl
 
-mute_and : (hs ks : List Mark) → AreMute hs → AreMute ks → AreMute (hs ++ ks)
-mute_and [] ks a b = b
-mute_and (h ∷ hs) ks a b = (a.0, mute_and hs ks a.1 b)
-
 module _ (g : Config) (K : List Mark) where
-  mute_end : (o : Option ℕ) (why : Cause) → AreMute (end_of_run g o why)
-  mute_end None why = tt
-  mute_end (Some l) why = (tt, tt)
-
-  mute_taken : (o : Option ℕ) → AreMute (taken_over g o K)
-  mute_taken None = tt
-  mute_taken (Some d) = mute_and (end_of_run g (runs d K) cause.Taken) _ (mute_end (runs d K) cause.Taken) (tt, tt)
-
-  mute_push : (l : ℕ) (b : Body) → AreMute (push g l b K)
-  mute_push l b = choice AreMute (ltb UNSENT_OCTETS (unsent g l K + size_of (line l K) b)) _ _ (λ z. (tt, tt)) (λ z. (tt, tt))
-
-  mute_answer : (l : ℕ) (b : Body) → AreMute (answer_to g l b K)
-  mute_answer l body.Ping = mute_push l body.PingOk
-  mute_answer l _ = tt
-
   mute_shaken : (c : ℕ) (p : PeerId) (o : Option PeerId) → AreMute (at_shaken g c p o K)
-  mute_shaken c p None = mute_and (taken_over g (other_with p c K) K) _ (mute_taken (other_with p c K)) (tt, tt)
+  mute_shaken c p None = All-join Mute (taken_over g (other_with p c K) K) _ (all_taken Mute (λ l why. tt) (λ c why. tt) (λ l b. tt) g (other_with p c K) K) (tt, tt)
   mute_shaken c p (Some q) = tt
 
   mute_opened : (c : ℕ) → AreMute (at_opened g c K)
@@ -150,18 +128,19 @@ module _ (g : Config) (J : List Entry) (b : Ledger) (drawn : IsDrawn g b (chroni
     it : IsMoment g one K
     it = its_moment g J c one K a
 
+    -- what is counted on c after these marks is near
+    abbrev Q : List Mark → Type 0
+    Q hs = AreNear 0 (take (length (counted_on c (after hs K))) (b.picks c))
+
+    mute : (hs : List Mark) → AreMute hs → Q hs
+    mute hs z = kept c K (after hs K) (mute_same c hs K z) p
+
     -- a message of a connection that runs nobody
-    first : (m : Message) → is_live c K ≡ true → runs c K ≡ None → AreNear 0 (take (length (counted_on c (after (at_first g c (identity c K) m K) K))) (b.picks c))
+    first : (m : Message) → is_live c K ≡ true → runs c K ≡ None → Q (at_first g c (identity c K) m K)
     first m live none = by (identity c K)
       where
         empty : counted_on c K ≡ []
         empty = it.told.unbegun c (unused c K (not_true (is_ignored c K) (and_parts (is_open c K) (not (is_ignored c K)) live).1) none).1
-
-        Q : List Mark → Type 0
-        Q hs = AreNear 0 (take (length (counted_on c (after hs K))) (b.picks c))
-
-        mute : (hs : List Mark) → AreMute hs → Q hs
-        mute hs z = kept c K (after hs K) (mute_same c hs K z) p
 
         ignored : (why : IgnoreWhy) → Q (Ignores c why ∷ [])
         ignored why = mute (Ignores c why ∷ []) (tt, tt)
@@ -185,16 +164,10 @@ module _ (g : Config) (J : List Entry) (b : Ledger) (drawn : IsDrawn g b (chroni
             (λ z. choice Q (not (is_small (view_of (m ∷ [])))) _ _ (λ y. ignored ignore.Limit) (λ y. known p (life_of p K)))
 
     -- a message of a connection that runs a peer
-    later : (m : Message) → one ≡ Arrived (arrival.Message m) → (l : ℕ) → runs c K ≡ Some l → AreNear 0 (take (length (counted_on c (after (at_later g c l m K) K))) (b.picks c))
+    later : (m : Message) → one ≡ Arrived (arrival.Message m) → (l : ℕ) → runs c K ≡ Some l → Q (at_later g c l m K)
     later m is l run = choice Q (is_hello m.body) _ _ (λ z. ended cause.Hello) (λ z. choice Q (not (eqb m.sequence (due (counted l K)))) _ _ (λ y. ended (cause.Order (due (counted l K)) m.sequence))
         (λ y. choice Q (not (is_small (view_of (counted l K ++ m ∷ [])))) _ _ (λ x. ended cause.Limit) (λ x. counts)))
       where
-        Q : List Mark → Type 0
-        Q hs = AreNear 0 (take (length (counted_on c (after hs K))) (b.picks c))
-
-        mute : (hs : List Mark) → AreMute hs → Q hs
-        mute hs z = kept c K (after hs K) (mute_same c hs K z) p
-
         ended : (why : Cause) → Q (Ends l why ∷ [])
         ended why = mute (Ends l why ∷ []) (tt, tt)
 
@@ -211,23 +184,23 @@ module _ (g : Config) (J : List Entry) (b : Ledger) (drawn : IsDrawn g b (chroni
             let none : length (counted_on c K) ≡ 0 + length (counted_on c K) = omega arith in
             let more = near_more (b.picks c) 0 (length (counted_on c K)) i.pick (p c) (subst (λ (ms : List Message). slice_get (b.picks c) (length ms) ≡ Some i.pick) same i.at_its_turn)
             (subst (λ k. IsNear k i.pick) none (subst (λ (ms : List Message). IsNear (length ms) i.pick) same n)) in
-            let end : counted_on c (after (Counts c l m ∷ answer_to g l m.body K) K) ≡ counted_on c K ++ m ∷ [] = mute_same c (answer_to g l m.body K) (Counts c l m ∷ K) (mute_answer g K l m.body) ∙ ap (λ t. followed (counted_on c K) (cond t (Some m) None)) (eq-eqb c c refl) in
+            let end : counted_on c (after (Counts c l m ∷ answer_to g l m.body K) K) ≡ counted_on c K ++ m ∷ [] = mute_same c (answer_to g l m.body K) (Counts c l m ∷ K) (all_answer Mute (λ l why. tt) (λ c why. tt) (λ l b. tt) g l m.body K) ∙ ap (λ t. followed (counted_on c K) (cond t (Some m) None)) (eq-eqb c c refl) in
             let longer : length (counted_on c (after (Counts c l m ∷ answer_to g l m.body K) K)) ≡ suc (length (counted_on c K)) = omega (arith, ap (length {A = Message}) end, length-append (counted_on c K) (m ∷ [])) in
             subst (λ k. AreNear 0 (take k (b.picks c))) (sym longer) more
 
-    message : (m : Message) → one ≡ Arrived (arrival.Message m) → is_live c K ≡ true → (o : Option ℕ) → runs c K ≡ o → AreNear 0 (take (length (counted_on c (after (at_message g c o m K) K))) (b.picks c))
+    message : (m : Message) → one ≡ Arrived (arrival.Message m) → is_live c K ≡ true → (o : Option ℕ) → runs c K ≡ o → Q (at_message g c o m K)
     message m is live None none = first m live none
     message m is live (Some l) run = later m is l run
 
-    said : is_live c K ≡ true → (s : Said) → one ≡ s → AreNear 0 (take (length (counted_on c (after (at_said g c s K) K))) (b.picks c))
+    said : is_live c K ≡ true → (s : Said) → one ≡ s → Q (at_said g c s K)
     said live (Arrived arrival.Greeted) is = p c
-    said live (Arrived (arrival.Shaken q)) is = kept c K (after (at_shaken g c q (identity c K) K) K) (mute_same c (at_shaken g c q (identity c K) K) K (mute_shaken g K c q (identity c K))) p
+    said live (Arrived (arrival.Shaken q)) is = mute (at_shaken g c q (identity c K) K) (mute_shaken g K c q (identity c K))
     said live (Arrived (arrival.Ping t)) is = p c
     said live (Arrived (arrival.Message m)) is = message m is live (runs c K) refl
-    said live (Fault f) is = kept c K (after (at_said g c (Fault f) K) K) (mute_same c (at_said g c (Fault f) K) K (mute_and (end_of_run g (runs c K) cause.Fault) _ (mute_end g K (runs c K) cause.Fault) (tt, tt))) p
+    said live (Fault f) is = mute (at_said g c (Fault f) K) (All-join Mute (end_of_run g (runs c K) cause.Fault) _ (all_end Mute (λ l why. tt) (λ c why. tt) (λ l b. tt) g (runs c K) cause.Fault) (tt, tt))
 
-    own : AreNear 0 (take (length (counted_on c (after (at_place g c one K) K))) (b.picks c))
-    own = choice (λ hs. AreNear 0 (take (length (counted_on c (after hs K))) (b.picks c))) (is_live c K) _ _ (λ live. said live one refl) (λ dead. p c)
+    own : Q (at_place g c one K)
+    own = choice Q (is_live c K) _ _ (λ live. said live one refl) (λ dead. p c)
 
     place : P (after (at_place g c one K) K)
     place d = by (eqb d c) refl
