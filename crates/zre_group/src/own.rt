@@ -1,5 +1,5 @@
 ghost use Rattle.std.specs.Prelude.{◌≡◌, ◌<◌, ◌≤◌, ◌↔◌, false, length, Err, Some, IfOk, IfErr, OnOk, OnErr, IsErr};
-ghost use Rattle.std.specs.Prelude.{IsTrue, slice_get};
+ghost use Rattle.std.specs.Prelude.{◌-◌, ◌^◌, IsTrue, min, slice_get, sum_by};
 ghost use Rattle.zre_group.specs.Own.{OwnGroups, none_joined, is_joined, next_status, with_joined, with_left};
 
 use std::alloc::Global;
@@ -87,6 +87,13 @@ impl Own {
         ensures { slice_get self.now.groups i ≡ Some result.now }
     {
         self.groups.get(i)
+    }
+
+    /// How many octets their names have, or the greatest number where they are more.
+    pub fn octets(&self) -> u64
+        ensures { result ≡ min (sum_by length self.now.groups) (2 ^ 64 - 1) }
+    {
+        self.groups.total()
     }
 
     /// Joins a group of at most `GROUP_OCTETS` octets and answers the new status.

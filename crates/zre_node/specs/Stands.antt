@@ -1,7 +1,8 @@
 -- What a node keeps of a chronicle.
 use Rattle.std.specs.Prelude.{◌≡◌, ℕ, ◌≤◌, Bool, true, false, ◌||◌, List, [], ◌∷◌, ◌++◌, Option, Some, None, nat_lt}
-use Rattle.std.specs.Prelude.{nat_eq, IsSome, length}
+use Rattle.std.specs.Prelude.{nat_eq, IsSome, length, Result, OnOk}
 use Rattle.std.specs.List.{AllByRecursion, list_any}
+use Rattle.zre_values.specs.declared.memory.OutOfMemory.{OutOfMemory}
 use Rattle.zre_values.specs.declared.peer_id.PeerId.{PeerId}
 use Rattle.zre_outside.specs.declared.entry.Input.{Input}
 use Rattle.zre_outside.specs.declared.entry.Input.TheVariants as input
@@ -125,6 +126,19 @@ pub record Did (g : Config) (hs H : List Mark) (t : Tables) (before now : Effect
   pub events : now.events ≡ before.events ++ told hs H
   pub acts : now.acts ≡ before.acts ++ done g.id hs
   pub pushed : (l : ℕ) → list_any (nat_eq l) now.pushed ≡ (list_any (nat_eq l) before.pushed || list_any (puts l) hs)
+
+-- whatever the tables t hold, a call leaves marks
+abbrev pub Does : (Config → List Mark → List Mark) → Tables → Tables → Effects → Effects
+    → Result (Unit {0}) OutOfMemory → Type 0
+Does marks t t' before now result =
+    (g : Config) (K : List Mark) → Holds g K t → OnOk result (Did g (marks g K) K t' before now)
+
+-- the same of a call about a connection that runs the peer of link l
+abbrev pub DoesOnRun : ℕ → (Config → List Mark → ℕ → List Mark) → Tables → Tables → Effects → Effects
+    → Result (Unit {0}) OutOfMemory → Type 0
+DoesOnRun l marks t t' before now result =
+    (g : Config) (H : List Mark) (c : ℕ) → Holds g H t → runs c H ≡ Some l →
+    OnOk result (Did g (marks g H c) H t' before now)
 
 -- the node has stopped
 pub record Rests (g : Config) (H : List Mark) (t : Tables) : Type 0 where

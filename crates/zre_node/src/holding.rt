@@ -8,7 +8,6 @@ ghost use Rattle.zre_tables.specs.declared.connection.Connection.{Connection as 
 ghost use Rattle.zre_tables.specs.declared.peer.Peer.{Peer as PeerValue};
 
 use crate::tables::Tables;
-use zre_group::Own;
 use zre_values::Pairs;
 
 // Of the names and the values of the node's own headers.
@@ -24,17 +23,6 @@ fn pairs_octets(headers: &Pairs) -> u64
     sum
 }
 
-// Of the names of the groups that the node is in.
-fn own_groups_octets(own: &Own) -> u64
-    ensures { result ≡ capped (sum_by length own.now.groups) }
-{
-    let mut sum: u64 = 0;
-    for i in 0..own.len() {
-        sum = sum.saturating_add(own.get(i).len() as u64);
-    }
-    sum
-}
-
 impl Tables {
     // Of the node itself.
     fn own_octets(&self) -> u64
@@ -43,7 +31,7 @@ impl Tables {
     {
         (self.config.name.len() as u64)
             .saturating_add(pairs_octets(&self.config.headers))
-            .saturating_add(own_groups_octets(&self.own))
+            .saturating_add(self.own.octets())
     }
 
     /// How many octets the tables hold, or the greatest number where they are more.

@@ -2,14 +2,12 @@
 
 ghost use Rattle.std.specs.Prelude.{◌≡◌, ◌↔◌, ◌<◌, List, [], ◌∷◌, ◌++◌, true, IfOk, OnOk, IsErr, IsTrue};
 ghost use Rattle.zre_outside.specs.declared.entry.Entry.{Entry as EntryValue};
-ghost use Rattle.zre_zmtp.specs.Looks.{Looks, IsOpenTo};
+ghost use Rattle.zre_zmtp.specs.Looks.{IsOpenTo};
 ghost use Rattle.zre_values.specs.declared.settings.Settings.{Settings as ConfigValue};
 ghost use Rattle.zre_values.specs.Settings.{is_valid};
-ghost use Rattle.zre_journal.specs.Events.{chronicle, events};
-ghost use Rattle.zre_journal.specs.Held.{kept};
+ghost use Rattle.zre_journal.specs.Events.{events};
 ghost use Rattle.zre_journal.specs.Ledger.{KeepsLedgers};
-ghost use Rattle.zre_node.specs.Brings.{octets_of};
-ghost use Rattle.zre_node.specs.Journal.{is_spent, StandsFor, Steps};
+ghost use Rattle.zre_node.specs.Journal.{is_spent, StandsFor, Steps, StepsLooks};
 
 use crate::effects::{Effects, Step};
 use crate::tables::Tables;
@@ -115,9 +113,7 @@ impl Node {
             IfOk result (λ s. Steps g J entry self.new s) }
         ensures spent { IsTrue (is_spent self.new) ↔ IsErr result }
         ensures ended { IsTrue (is_spent self.old) → IsErr result }
-        ensures looks { (g : ConfigValue) (J : List EntryValue) → StandsFor g J self.old →
-            Looks steps.old steps.new (kept g (chronicle g J)) (kept g (chronicle g (J ++ entry ∷ [])))
-            (octets_of entry.input) result }
+        ensures looks { StepsLooks self.old entry steps.old steps.new result }
         ensures none { IsTrue (is_spent self.old) → steps.new ≡ steps.old }
     {
         let mut step = Step::new(self.tables.alloc);
@@ -138,9 +134,7 @@ impl Node {
             OnOk result (Steps g J entry self.new step.new) }
         ensures spent { IsTrue (is_spent self.new) ↔ IsErr result }
         ensures ended { IsTrue (is_spent self.old) → IsErr result }
-        ensures looks { (g : ConfigValue) (J : List EntryValue) → StandsFor g J self.old →
-            Looks steps.old steps.new (kept g (chronicle g J)) (kept g (chronicle g (J ++ entry ∷ [])))
-            (octets_of entry.input) result }
+        ensures looks { StepsLooks self.old entry steps.old steps.new result }
         ensures none { IsTrue (is_spent self.old) → steps.new ≡ steps.old }
     {
         if self.spent {

@@ -1,17 +1,13 @@
 //! Whole entries.
 
-ghost use Rattle.std.specs.Prelude.{◌≡◌, List, [], true, false, length, OnOk};
+ghost use Rattle.std.specs.Prelude.{◌≡◌, List, [], true, false, OnOk};
 ghost use Rattle.zre_outside.specs.declared.entry.Entry.{Entry as EntryValue};
-ghost use Rattle.zre_outside.specs.declared.entry.Input.TheVariants as given;
-ghost use Rattle.zre_zmtp.specs.Looks.{Looks};
 ghost use Rattle.zre_journal.specs.Endings.{is_end};
 ghost use Rattle.zre_values.specs.declared.settings.Settings.{Settings as Config};
 ghost use Rattle.zre_journal.specs.Chronicle.{Mark};
-ghost use Rattle.zre_journal.specs.Happens.{at_input, with_entry};
-ghost use Rattle.zre_journal.specs.Held.{kept};
+ghost use Rattle.zre_journal.specs.Happens.{at_input};
 ghost use Rattle.zre_journal.specs.Commands.{at_stop};
-ghost use Rattle.zre_node.specs.Brings.{octets_of};
-ghost use Rattle.zre_node.specs.Journal.{Took};
+ghost use Rattle.zre_node.specs.Journal.{Takes, TakesLooks, Took};
 ghost use Rattle.zre_node.specs.Kinds.{is_incoming, is_piece};
 ghost use Rattle.zre_node.specs.Stands.{Holds, Did};
 
@@ -56,31 +52,6 @@ impl Tables {
         self.offer(out)
     }
 
-    /// A piece of a connection comes. What becomes whole with it lies in the list while it is taken.
-    pub fn take_piece<L: Ledger>(
-        &mut self,
-        out: &mut Effects,
-        items: &mut Items,
-        at: u64,
-        conn: u64,
-        bytes: &[u8],
-        steps: &mut Steps<L>,
-    ) -> Result<(), OutOfMemory>
-        ensures took { (g : Config) (H : List Mark) (e : EntryValue) → e.at ≡ at
-            → e.input ≡ given.Piece conn bytes.now →
-            out.old.pushed ≡ [] → Holds g H self.old → OnOk result (Took g e H self.new out.old out.new) }
-        ensures looks { (g : Config) (H : List Mark) (e : EntryValue) → e.input ≡ given.Piece conn bytes.now
-            → Holds g H self.old →
-            Looks steps.old steps.new (kept g H) (kept g (with_entry g e H)) (length bytes.now) result }
-    {
-        let mut list = mem::replace(items, Items::new(self.alloc));
-        list.clear();
-        let heard = self.come_piece(at, conn, bytes, list, steps)?;
-        self.said(out, conn, &heard)?;
-        *items = heard.emptied();
-        self.offer(out)
-    }
-
     /// The node stops.
     #[inline(never)]
     pub fn take_stop(&mut self, out: &mut Effects, at: u64) -> Result<(), OutOfMemory>
@@ -101,10 +72,8 @@ impl Tables {
         steps: &mut Steps<L>,
     ) -> Result<(), OutOfMemory>
         requires { is_piece entry.input ≡ false }
-        ensures took { (g : Config) (H : List Mark) → out.old.pushed ≡ [] → Holds g H self.old →
-            OnOk result (Took g entry H self.new out.old out.new) }
-        ensures looks { (g : Config) (H : List Mark) → Holds g H self.old →
-            Looks steps.old steps.new (kept g H) (kept g (with_entry g entry H)) (octets_of entry.input) result }
+        ensures took { Takes entry self.old self.new out.old out.new result }
+        ensures looks { TakesLooks entry self.old steps.old steps.new result }
     {
         let Entry { at, input } = entry;
         match input {
@@ -126,15 +95,18 @@ impl Tables {
         entry: Entry,
         steps: &mut Steps<L>,
     ) -> Result<(), OutOfMemory>
-        ensures took { (g : Config) (H : List Mark) → out.old.pushed ≡ [] → Holds g H self.old →
-            OnOk result (Took g entry H self.new out.old out.new) }
-        ensures looks { (g : Config) (H : List Mark) → Holds g H self.old →
-            Looks steps.old steps.new (kept g H) (kept g (with_entry g entry H)) (octets_of entry.input) result }
+        ensures took { Takes entry self.old self.new out.old out.new result }
+        ensures looks { TakesLooks entry self.old steps.old steps.new result }
     {
         let Entry { at, input } = entry;
         match input {
             Input::Piece { conn, bytes } => {
-                self.take_piece(out, items, at, conn, bytes.as_slice(), steps)
+                let mut list = mem::replace(items, Items::new(self.alloc));
+                list.clear();
+                let heard = self.come_piece(at, conn, bytes.as_slice(), list, steps)?;
+                self.said(out, conn, &heard)?;
+                *items = heard.emptied();
+                self.offer(out)
             }
             other => self.take_other(out, Entry { at, input: other }, steps),
         }

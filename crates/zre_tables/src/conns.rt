@@ -3,7 +3,7 @@
 ghost use Rattle.std.specs.Prelude.{◌≡◌, ℕ, List, [], Some, None, length, is_some, option_copied, OnOk, OnErr};
 ghost use Rattle.std.specs.BTreeMap.{insert_entry};
 ghost use Rattle.std.specs.Ordering.{nat_cmp};
-ghost use Rattle.zre_tables.specs.Rows.{row_at, with_row, without_row};
+ghost use Rattle.zre_tables.specs.Rows.{Changes, row_at, without_row};
 ghost use Rattle.zre_tables.specs.declared.connection.Connection.{Connection as ConnectionValue};
 
 use crate::connection::Connection;
@@ -88,38 +88,30 @@ impl Conns {
 
     /// READY introduced this peer on the connection.
     pub fn introduce(&mut self, conn: u64, peer: PeerId)
-        ensures found { (x : ConnectionValue) → row_at conn self.old ≡ Some x →
-            self.new ≡ with_row conn (record x { identity = Some peer }) self.old }
-        ensures missing { row_at conn self.old ≡ None → self.new ≡ self.old }
+        ensures { Changes conn (λ (x : ConnectionValue). record x { identity = Some peer }) self.old self.new }
     {
-        let Some(found) = self.rows.get_mut(&conn) else {
-            return;
-        };
-        found.identity = Some(peer);
+        if let Some(found) = self.rows.get_mut(&conn) {
+            found.identity = Some(peer);
+        }
     }
 
     /// The connection runs the peer of this link.
     pub fn carry(&mut self, conn: u64, link: u64)
-        ensures found { (x : ConnectionValue) → row_at conn self.old ≡ Some x →
-            self.new ≡ with_row conn (record x { run = Some link }) self.old }
-        ensures missing { row_at conn self.old ≡ None → self.new ≡ self.old }
+        ensures { Changes conn (λ (x : ConnectionValue). record x { run = Some link }) self.old self.new }
     {
-        let Some(found) = self.rows.get_mut(&conn) else {
-            return;
-        };
-        found.run = Some(link);
+        if let Some(found) = self.rows.get_mut(&conn) {
+            found.run = Some(link);
+        }
     }
 
     /// The connection is ignored from now on, and runs no peer.
     pub fn ignore(&mut self, conn: u64, now: u64)
-        ensures found { (x : ConnectionValue) → row_at conn self.old ≡ Some x →
-            self.new ≡ with_row conn (record x { since = now; run = None; conn = None }) self.old }
-        ensures missing { row_at conn self.old ≡ None → self.new ≡ self.old }
+        ensures { Changes conn (λ (x : ConnectionValue). record x { since = now; run = None; conn = None })
+            self.old self.new }
     {
-        let Some(found) = self.rows.get_mut(&conn) else {
-            return;
-        };
-        found.put_aside(now);
-        self.first = earlier_rest(found, self.first);
+        if let Some(found) = self.rows.get_mut(&conn) {
+            found.put_aside(now);
+            self.first = earlier_rest(found, self.first);
+        }
     }
 }

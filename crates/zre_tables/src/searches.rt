@@ -1,7 +1,7 @@
 //! Searches among rows.
 
 ghost use Rattle.std.specs.Prelude.{◌≡◌, ◌-◌, nat_le, option_copied, IfOk, MatchOption};
-ghost use Rattle.std.specs.Prelude.{ℕ, ◌≤◌, ◌^◌, ◌==◌, Bool, true, false, Some};
+ghost use Rattle.std.specs.Prelude.{ℕ, ◌≤◌, ◌^◌, ◌==◌, Bool, true, false, List, Some};
 ghost use Rattle.std.specs.Fn.{FnReturnsAt};
 ghost use Rattle.std.specs.List.{filter, list_any};
 ghost use Rattle.std.specs.List.Sorted.{IsStrictlyIncreasing, IsStrictlySortedBy};
@@ -169,52 +169,20 @@ fn active_of(peer: &Peer) -> u64
     peer.active
 }
 
-// The moments of these links, brought up to date with the rows of those that have shown after `latest` that they are
-// there. The others are due, and stay so.
-fn update_each(
-    rows: &BTreeMap<u64, Peer>,
-    heard: &mut Timers,
-    links: &[u64],
-    latest: u64,
-) -> Result<(), OutOfMemory>
-    ensures { (r : Bool) → AreHeard rows.now.entries heard.old r → AreHeard rows.now.entries heard.new r }
+// The moment of a link, brought up to date with the row of its peer, where that has shown after `latest` that it is
+// there. Any other is due, and stays so.
+fn update_one(heard: &mut Timers, link: u64, peer: &Peer, latest: u64) -> Result<(), OutOfMemory>
+    ensures { (rows : List (ℕ × PeerValue)) (r : Bool) → Some peer.now ≡ row_at link rows →
+        AreHeard rows heard.old r → AreHeard rows heard.new r }
 {
-    for link in links {
-        let Some(peer) = rows.get(link) else {
-            continue;
-        };
-        let active = active_of(peer);
-        if active > latest {
-            heard.touch(*link, active)?;
-        }
+    let active = active_of(peer);
+    if active > latest {
+        heard.touch(link, active)?;
     }
     Ok(())
 }
 
-// The same by a walk over the rows, for links that rise.
-fn update_rows(
-    rows: &BTreeMap<u64, Peer>,
-    heard: &mut Timers,
-    links: &[u64],
-    latest: u64,
-) -> Result<(), OutOfMemory>
-    requires { IsStrictlySortedBy nat_cmp (keys_of rows.now.entries) }
-    ensures { (r : Bool) → AreHeard rows.now.entries heard.old r → AreHeard rows.now.entries heard.new r }
-{
-    let mut next = 0;
-    for (link, peer) in rows {
-        if next < links.len() && links[next] == *link {
-            next += 1;
-            let active = active_of(peer);
-            if active > latest {
-                heard.touch(*link, active)?;
-            }
-        }
-    }
-    Ok(())
-}
-
-// The same in the cheaper way.
+// The moments of these links, which rise, brought up to date: of many by a walk over the rows, since that is cheaper.
 fn update(
     rows: &BTreeMap<u64, Peer>,
     heard: &mut Timers,
@@ -224,11 +192,22 @@ fn update(
     requires { IsStrictlySortedBy nat_cmp (keys_of rows.now.entries) }
     ensures { (r : Bool) → AreHeard rows.now.entries heard.old r → AreHeard rows.now.entries heard.new r }
 {
-    if are_many(links, rows) {
-        update_rows(rows, heard, links, latest)
-    } else {
-        update_each(rows, heard, links, latest)
+    if !are_many(links, rows) {
+        for due in links {
+            if let Some(peer) = rows.get(due) {
+                update_one(heard, *due, peer, latest)?;
+            }
+        }
+        return Ok(());
     }
+    let mut next = 0;
+    for (link, peer) in rows {
+        if next < links.len() && links[next] == *link {
+            next += 1;
+            update_one(heard, *link, peer, latest)?;
+        }
+    }
+    Ok(())
 }
 
 // The last moment at which a peer that has been silent for so long may have shown that it is there. None where that

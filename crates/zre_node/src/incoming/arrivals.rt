@@ -111,24 +111,6 @@ impl Tables {
         out.answer(conn, pong)
     }
 
-    // READY of a live connection: a second one says nothing.
-    fn arrive_shaken(
-        &mut self,
-        out: &mut Effects,
-        conn: u64,
-        standing: Standing,
-        peer: PeerId,
-    ) -> Result<(), OutOfMemory>
-        ensures { (g : Config) (H : List Mark) → Holds g H self.old → is_live conn H ≡ true
-            → standing.identity ≡ identity conn H →
-            OnOk result (Did g (at_arrival g conn (arrived.Shaken peer) H) H self.new out.old out.new) }
-    {
-        match standing.identity {
-            None => self.shaken(out, conn, peer),
-            Some(_) => Ok(()),
-        }
-    }
-
     // A message of a live connection, which is dropped where READY didn't come before.
     fn arrive_message(
         &mut self,
@@ -143,7 +125,7 @@ impl Tables {
             OnOk result (Did g (at_arrival g conn (arrived.Message message) H) H self.new out.old out.new) }
     {
         if let Some(link) = standing.run {
-            let taken = self.later_whole(out, conn, link, &message);
+            let taken = self.later_whole(out, link, &message);
             drop(message);
             return taken;
         }
@@ -156,7 +138,7 @@ impl Tables {
         }
     }
 
-    // What is whole on a live connection, with copies of what it holds.
+    // What is whole on a live connection, with copies of what it holds. A second READY says nothing.
     #[inline(never)]
     fn arrive_copied(
         &mut self,
@@ -172,7 +154,10 @@ impl Tables {
     {
         match arrival_of(self.alloc, what)? {
             Some(Arrival::Greeted) => self.greeted(out, conn),
-            Some(Arrival::Shaken(peer)) => self.arrive_shaken(out, conn, standing, peer),
+            Some(Arrival::Shaken(peer)) => match standing.identity {
+                None => self.shaken(out, conn, peer),
+                Some(_) => Ok(()),
+            },
             Some(Arrival::Ping(context)) => self.pinged(out, conn, context.as_slice()),
             Some(Arrival::Message(message)) => self.arrive_message(out, conn, standing, message),
             None => Ok(()),
@@ -190,7 +175,7 @@ impl Tables {
             return Ok(());
         };
         match (what, standing.run) {
-            (What::Message(frames), Some(link)) => self.later_in(out, conn, link, frames),
+            (What::Message(frames), Some(link)) => self.later_in(out, link, frames),
             _ => self.arrive_copied(out, conn, standing, what),
         }
     }

@@ -3,7 +3,6 @@
 ghost use Rattle.std.specs.Prelude.{◌≡◌, ◌≢◌, List, ◌∷◌, [], ◌++◌, None, Some, OnOk, IfOk, IfErr, is_err, true};
 ghost use Rattle.zre_values.specs.declared.peer_id.PeerId.{PeerId as PeerIdValue};
 ghost use Rattle.zre_peer.specs.Runs.{events_of, may_follow};
-ghost use Rattle.zre_node.specs.declared.incoming.first.Place.{Place as PlaceValue};
 ghost use Rattle.zre_node.specs.First.{IsPlace, IsFirstFault};
 ghost use Rattle.zre_msg.specs.declared.message.Message.{Message as MessageValue};
 ghost use Rattle.zre_values.specs.Endpoint.{endpoint_in};
@@ -121,69 +120,6 @@ impl Tables {
         }
     }
 
-    // HELLO of a peer that is known.
-    fn start_known(
-        &mut self,
-        out: &mut Effects,
-        conn: u64,
-        link: u64,
-        peer: PeerId,
-        message: Message,
-    ) -> Result<(), OutOfMemory>
-        ensures { (g : Config) (H : List Mark) → Holds g H self.old → is_live conn H ≡ true → runs conn H ≡ None →
-            identity conn H ≡ Some peer → IsPlace g peer message H (PlaceValue.Known link) →
-            OnOk result (Did g (at_first g conn (Some peer) message H) H self.new out.old out.new) }
-    {
-        match opened(self.alloc, peer, message, &mut out.events) {
-            Ok(run) => self.start(conn, link, run),
-            Err(fault) => self.refuse_by(out, conn, fault),
-        }
-    }
-
-    // HELLO of a peer that becomes known by it.
-    fn start_new(
-        &mut self,
-        out: &mut Effects,
-        conn: u64,
-        to: Endpoint,
-        peer: PeerId,
-        message: Message,
-    ) -> Result<(), OutOfMemory>
-        ensures { (g : Config) (H : List Mark) → Holds g H self.old → is_live conn H ≡ true → runs conn H ≡ None →
-            identity conn H ≡ Some peer → IsPlace g peer message H (PlaceValue.New to) →
-            OnOk result (Did g (at_first g conn (Some peer) message H) H self.new out.old out.new) }
-    {
-        match opened(self.alloc, peer, message, &mut out.events) {
-            Ok(run) => {
-                self.born(out, peer, to)?;
-                self.start(conn, self.births, run)
-            }
-            Err(fault) => self.refuse_by(out, conn, fault),
-        }
-    }
-
-    // HELLO of a peer that can't become known.
-    fn start_nowhere(
-        &mut self,
-        out: &mut Effects,
-        conn: u64,
-        why: IgnoreWhy,
-        peer: PeerId,
-        message: Message,
-    ) -> Result<(), OutOfMemory>
-        ensures { (g : Config) (H : List Mark) → Holds g H self.old → is_live conn H ≡ true → runs conn H ≡ None →
-            identity conn H ≡ Some peer → IsPlace g peer message H (PlaceValue.Nowhere why) →
-            OnOk result (Did g (at_first g conn (Some peer) message H) H self.new out.old out.new) }
-    {
-        match opened(self.alloc, peer, message, &mut Events::new(self.alloc)) {
-            Ok(run) => {
-                drop(run);
-                self.refuse(out, conn, why)
-            }
-            Err(fault) => self.refuse_by(out, conn, fault),
-        }
-    }
-
     /// The first message of a connection on which this peer was introduced.
     #[inline(never)]
     pub fn first(
@@ -198,9 +134,27 @@ impl Tables {
             OnOk result (Did g (at_first g conn (Some peer) message H) H self.new out.old out.new) }
     {
         match self.place(peer, &message) {
-            Place::Known(link) => self.start_known(out, conn, link, peer, message),
-            Place::New(to) => self.start_new(out, conn, to, peer, message),
-            Place::Nowhere(why) => self.start_nowhere(out, conn, why, peer, message),
+            Place::Known(link) => match opened(self.alloc, peer, message, &mut out.events) {
+                Ok(run) => self.start(conn, link, run),
+                Err(fault) => self.refuse_by(out, conn, fault),
+            },
+            Place::New(to) => match opened(self.alloc, peer, message, &mut out.events) {
+                Ok(run) => {
+                    self.born(out, peer, to)?;
+                    self.start(conn, self.births, run)
+                }
+                Err(fault) => self.refuse_by(out, conn, fault),
+            },
+            // Nothing is told of it, but why it is ignored.
+            Place::Nowhere(why) => {
+                match opened(self.alloc, peer, message, &mut Events::new(self.alloc)) {
+                    Ok(run) => {
+                        drop(run);
+                        self.refuse(out, conn, why)
+                    }
+                    Err(fault) => self.refuse_by(out, conn, fault),
+                }
+            }
         }
     }
 }

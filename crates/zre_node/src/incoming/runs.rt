@@ -8,13 +8,12 @@ ghost use Rattle.zre_msg.specs.Lent.{message_of};
 ghost use Rattle.zre_msg.specs.Reading.{read_frames};
 ghost use Rattle.zre_values.specs.declared.settings.Settings.{Settings as Config};
 ghost use Rattle.zre_journal.specs.Chronicle.{Mark};
-ghost use Rattle.zre_journal.specs.Connections.{runs};
 ghost use Rattle.zre_journal.specs.Arrivals.{at_later};
 ghost use Rattle.zre_journal.specs.Pushes.{push as pushing};
 ghost use Rattle.zre_journal.specs.Peers.{life};
 ghost use Rattle.zre_msg.specs.declared.message.Body.TheVariants.{PingOk};
 ghost use Rattle.zre_node.specs.Said.{at_read};
-ghost use Rattle.zre_node.specs.Stands.{Holds, Did, is_ping};
+ghost use Rattle.zre_node.specs.Stands.{Holds, Did, DoesOnRun, is_ping};
 
 use crate::effects::Effects;
 use crate::tables::Tables;
@@ -33,12 +32,11 @@ impl Tables {
     pub fn later(
         &mut self,
         out: &mut Effects,
-        conn: u64,
         link: u64,
         lent: &LentMessage<'_>,
     ) -> Result<(), OutOfMemory>
-        ensures { (g : Config) (H : List Mark) → Holds g H self.old → runs conn H ≡ Some link →
-            OnOk result (Did g (at_later g conn link (message_of lent.now) H) H self.new out.old out.new) }
+        ensures { DoesOnRun link (λ g H conn. at_later g conn link (message_of lent.now) H)
+            self.old self.new out.old out.new result }
     {
         let ping = is_ping(&lent.command);
         match self.peers.take(link, self.clock, lent, &mut out.events) {
@@ -56,15 +54,14 @@ impl Tables {
     pub fn later_whole(
         &mut self,
         out: &mut Effects,
-        conn: u64,
         link: u64,
         message: &Message,
     ) -> Result<(), OutOfMemory>
-        ensures { (g : Config) (H : List Mark) → Holds g H self.old → runs conn H ≡ Some link →
-            OnOk result (Did g (at_later g conn link message.now H) H self.new out.old out.new) }
+        ensures { DoesOnRun link (λ g H conn. at_later g conn link message.now H)
+            self.old self.new out.old out.new result }
     {
         match lent(message) {
-            Some(lent) => self.later(out, conn, link, &lent),
+            Some(lent) => self.later(out, link, &lent),
             None => self.end(out, link, Cause::Hello),
         }
     }
@@ -73,17 +70,15 @@ impl Tables {
     pub fn later_in(
         &mut self,
         out: &mut Effects,
-        conn: u64,
         link: u64,
         frames: &Frames,
     ) -> Result<(), OutOfMemory>
-        ensures { (g : Config) (H : List Mark) → Holds g H self.old → runs conn H ≡ Some link →
-            OnOk result (Did g (at_read g conn link (result_ok (read_frames frames.now)) H) H self.new out.old
-            out.new) }
+        ensures { DoesOnRun link (λ g H conn. at_read g conn link (result_ok (read_frames frames.now)) H)
+            self.old self.new out.old out.new result }
     {
         match Message::see(frames) {
-            Ok(Some(lent)) => self.later(out, conn, link, &lent),
-            Ok(None) => self.later_hello(out, conn, link, frames),
+            Ok(Some(lent)) => self.later(out, link, &lent),
+            Ok(None) => self.hello_in(out, link, frames),
             Err(ReadFault::Bad(_)) => Ok(()),
             Err(ReadFault::OutOfMemory) => Err(OutOfMemory),
         }
@@ -91,19 +86,12 @@ impl Tables {
 
     // The same of frames that begin as HELLO does.
     #[inline(never)]
-    fn later_hello(
-        &mut self,
-        out: &mut Effects,
-        conn: u64,
-        link: u64,
-        frames: &Frames,
-    ) -> Result<(), OutOfMemory>
-        ensures { (g : Config) (H : List Mark) → Holds g H self.old → runs conn H ≡ Some link →
-            OnOk result (Did g (at_read g conn link (result_ok (read_frames frames.now)) H) H self.new out.old
-            out.new) }
+    fn hello_in(&mut self, out: &mut Effects, link: u64, frames: &Frames) -> Result<(), OutOfMemory>
+        ensures { DoesOnRun link (λ g H conn. at_read g conn link (result_ok (read_frames frames.now)) H)
+            self.old self.new out.old out.new result }
     {
         match Message::read(self.alloc, frames) {
-            Ok(message) => self.later_whole(out, conn, link, &message),
+            Ok(message) => self.later_whole(out, link, &message),
             Err(ReadFault::Bad(_)) => Ok(()),
             Err(ReadFault::OutOfMemory) => Err(OutOfMemory),
         }

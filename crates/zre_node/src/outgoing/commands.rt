@@ -10,7 +10,7 @@ ghost use Rattle.zre_journal.specs.Peers.{Life, life_of, is_entered};
 ghost use Rattle.zre_journal.specs.Commands.{at_join, at_leave, at_whisper, at_shout, at_command};
 ghost use Rattle.zre_node.specs.declared.tables.Tables.{Tables as TablesValue};
 ghost use Rattle.zre_node.specs.Journal.{Took};
-ghost use Rattle.zre_node.specs.Stands.{Holds, Did};
+ghost use Rattle.zre_node.specs.Stands.{Holds, Did, Does};
 
 use crate::effects::Effects;
 use crate::tables::Tables;
@@ -33,8 +33,7 @@ fn decline(out: &mut Effects, why: RefuseWhy) -> Result<(), OutOfMemory>
 impl Tables {
     // The node joins a group, and tells all peers so.
     fn join(&mut self, out: &mut Effects, group: Octets) -> Result<(), OutOfMemory>
-        ensures { (g : Config) (K : List Mark) → Holds g K self.old →
-            OnOk result (Did g (at_join g group K) K self.new out.old out.new) }
+        ensures { Does (λ g K. at_join g group K) self.old self.new out.old out.new result }
     {
         if group.len() > GROUP_OCTETS {
             return decline(out, RefuseWhy::TooBig);
@@ -50,8 +49,7 @@ impl Tables {
 
     // The node leaves a group, and tells all peers so. None of its groups has a name that is too long to be joined.
     fn leave(&mut self, out: &mut Effects, group: Octets) -> Result<(), OutOfMemory>
-        ensures { (g : Config) (K : List Mark) → Holds g K self.old →
-            OnOk result (Did g (at_leave g group K) K self.new out.old out.new) }
+        ensures { Does (λ g K. at_leave g group K) self.old self.new out.old out.new result }
     {
         if group.len() > GROUP_OCTETS {
             return decline(out, RefuseWhy::NoGroup(group));
@@ -87,8 +85,7 @@ impl Tables {
         peer: PeerId,
         content: Frames,
     ) -> Result<(), OutOfMemory>
-        ensures { (g : Config) (K : List Mark) → Holds g K self.old →
-            OnOk result (Did g (at_whisper g peer content (life_of peer K) K) K self.new out.old out.new) }
+        ensures { Does (λ g K. at_whisper g peer content (life_of peer K) K) self.old self.new out.old out.new result }
     {
         let Some(link) = self.entered(peer) else {
             return decline(out, RefuseWhy::NoPeer(peer));
@@ -110,8 +107,7 @@ impl Tables {
         group: Octets,
         content: Frames,
     ) -> Result<(), OutOfMemory>
-        ensures { (g : Config) (K : List Mark) → Holds g K self.old →
-            OnOk result (Did g (at_shout g group content K) K self.new out.old out.new) }
+        ensures { Does (λ g K. at_shout g group content K) self.old self.new out.old out.new result }
     {
         if group.len() > GROUP_OCTETS {
             return decline(out, RefuseWhy::TooBig);

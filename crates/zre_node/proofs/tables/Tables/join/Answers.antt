@@ -1,4 +1,4 @@
-use Rattle.std.proofs.Common.{◌≡◌, ℕ, ◌≤◌, List, ◌∷◌, length, sym, ap, ◌∙◌, subst}
+use Rattle.std.proofs.Common.{ℕ, ◌≤◌, List, ◌∷◌, length, sym, ap, ◌∙◌, subst}
 use Rattle.zre_group.specs.Own.{with_joined}
 use Rattle.zre_msg.specs.declared.message.Body.TheVariants as body
 use Rattle.zre_journal.specs.Chronicle.{Joins}
@@ -14,12 +14,11 @@ pub returns-in-Ok : goal.returns-in-Ok
 returns-in-Ok c = λ g K h.
     let t = c.args.self.now in
     let group = c.args.group in
-    let o = c.as_slice.result.now in
-    let is : o ≡ group = c.as_slice.ensures in
+    let is = c.as_slice.ensures in
     let short : length group ≤ 255 = subst (λ (n : ℕ). n ≤ 255) c.len.ensures c.if-len-gt-GROUP_OCTETS.false in
-    let room = had_room g K t h group o is (λ q. let z = c.in-Ok.ensures.same q in cc) (λ q n. let z = c.in-Ok.ensures.limit q n in cc) (subst (λ (n : ℕ). n ≤ 1024) c.len-2.ensures.exact c.len-2.ensures.limit) in
+    let room = had_room g K t h group _ is (λ q. let z = c.in-Ok.ensures.same q in cc) (λ q n. let z = c.in-Ok.ensures.limit q n in cc) (subst (λ (n : ℕ). n ≤ 1024) c.len-2.ensures.exact c.len-2.ensures.limit) in
     let held = joined g K t h group c.join.new.self (c.in-Ok.ensures.ok ∙ ap (λ (x : List ℕ). with_joined t.own x) is) short in
-    let number = c.in-Ok.ensures.status ∙ next_is g K t h group o is in
+    let number = c.in-Ok.ensures.status ∙ next_is g K t h group _ is in
     let m : Tables = record t { own = c.join.new.self } in
     on_ok c.push_everywhere.result (c.push_everywhere.ensures g (Joins group ∷ K) held) (λ second.
     did_as g _ _ K _ _ _ (joins g K group short room.0 room.1 ∙ ap (λ (n : ℕ). Joins group ∷ push_all g (lives K) (body.Join group n) K) (sym number))

@@ -22,11 +22,10 @@ pub returns-in-Ok : goal.returns-in-Ok
 returns-in-Ok c = λ g K h.
     let t = c.args.self.now in
     let group = c.args.group in
-    let o = c.as_slice.result.now in
-    let is : o ≡ group = c.as_slice.ensures in
-    let had = had_group g K t h group o is (λ (q : is_joined t.own o ≡ false). let z = c.in-Ok.ensures.no_group.1 q in cc) in
+    let is = c.as_slice.ensures in
+    let had = had_group g K t h group _ is (λ (q : is_joined t.own c.as_slice.result.now ≡ false). let z = c.in-Ok.ensures.no_group.1 q in cc) in
     let held = left g K t h group c.leave.new.self (c.in-Ok.ensures.ok ∙ ap (λ (x : List ℕ). with_left t.own x) is) in
-    let number = c.in-Ok.ensures.status ∙ next_is g K t h group o is in
+    let number = c.in-Ok.ensures.status ∙ next_is g K t h group _ is in
     let m : Tables = record t { own = c.leave.new.self } in
     on_ok c.push_everywhere.result (c.push_everywhere.ensures g (Leaves group ∷ K) held) (λ second.
     did_as g _ _ K _ _ _ (leaves g K group had ∙ ap (λ (n : ℕ). Leaves group ∷ push_all g (lives K) (body.Leave group n) K) (sym number))

@@ -1,7 +1,0 @@
-use Rattle.std.proofs.Common.{Bool}
-use Rattle.zre_tables.specs.Agreement.{AreHeard}
-use Rattle.zre_tables.proofs.searches.update_each.Given as goal
-
--- the moments agree with the rows still
-abbrev pub invariant-loop-link : goal.invariant-loop-link
-invariant-loop-link l = (r : Bool) → AreHeard l.rows.entries l.fn.heard r → AreHeard l.rows.entries l.heard r
