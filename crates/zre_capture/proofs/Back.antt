@@ -23,7 +23,7 @@ use Rattle.zre_capture.specs.Lines.{hex_text, command_word_text, command_word, c
 use Rattle.zre_capture.specs.declared.format.Format.{Format}
 use Rattle.zre_capture.specs.declared.format.Format.TheVariants.{First, Second}
 use Rattle.zre_capture.specs.Values.{first_of, input_words, command_words, input_word_of, command_word_of, number_of, reading_of, hex_of, address_of, id_of, group_of, frames_of}
-use Rattle.zre_capture.specs.Reading.{fields_in, alone, one_number, one_group, two_numbers, number_and_hex, address_and_hex, id_and_frames, group_and_frames, command_from, command_in, input_from, input_in, entry_in, entry_of}
+use Rattle.zre_capture.specs.Reading.{fields_in, by_word, alone, one_number, one_group, two_numbers, number_and_hex, address_and_hex, id_and_frames, group_and_frames, command_from, command_in, input_from, input_in, entry_in, entry_of}
 use Rattle.zre_capture.proofs.Spelled.{number_of-some, hex_of-some, address_of-some, id_of-some, group_of-some}
 use Rattle.zre_capture.proofs.Differences.{reading_after-some}
 use Rattle.zre_capture.proofs.Members.{frames_of-some}
@@ -140,12 +140,17 @@ pub stepped : {A B : Type 0} (f : A → Option B) (o : Option A) (y : B) (P : Ty
 stepped f (Some x) y P e h = h x refl e
 stepped f None y P e h = absurd cc
 
+-- the word of what was said, and the fields after it
+pub worded : {W V : Type 0} (word_of : List ℕ → Option W) (from : W → List (List ℕ) → Option V) (fs : List (List ℕ)) (v : V) (P : List (List ℕ) → Type 0) → by_word word_of from fs ≡ Some v
+    → ((f : List ℕ) (gs : List (List ℕ)) (w : W) → word_of f ≡ Some w → from w gs ≡ Some v → P (f ∷ gs)) → P fs
+worded word_of from [] v P e h = absurd cc
+worded {W = W} word_of from (f ∷ fs) v P e h = stepped (λ (w : W). from w fs) (word_of f) v (P (f ∷ fs)) e (h f fs)
+
 command_in-back : (fs : List (List ℕ)) (c : Command) → command_in fs ≡ Some c → command_word_text (command_word c) ∷ command_fields c ≡ fs
 unfolding command_in
-command_in-back [] c e = absurd cc
-command_in-back (f ∷ fs) c e =
-    stepped (λ (w : CommandWord). command_from w fs) (command_word_of f) c (command_word_text (command_word c) ∷ command_fields c ≡ f ∷ fs) e
-    (λ w is from. command_from-back w fs c from ∙ ap (λ (g : List ℕ). g ∷ fs) (command_word-back f w is))
+command_in-back fs c e =
+    worded command_word_of command_from fs c (λ gs. command_word_text (command_word c) ∷ command_fields c ≡ gs) e
+    (λ f gs w is from. command_from-back w gs c from ∙ ap (λ (g : List ℕ). g ∷ gs) (command_word-back f w is))
 
 input_from-back : (w : InputWord) (fs : List (List ℕ)) (i : Input) → input_from w fs ≡ Some i → IsInputOf w fs i
 input_from-back word.Datagram fs i e = made (λ (p : List ℕ × List ℕ). got.Datagram p.0 p.1) (address_and_hex fs) i (IsInputOf word.Datagram fs) e (λ p h. after (input_word_text word.Datagram) (address_text p.0 ∷ hex_text p.1 ∷ []) fs (address_and_hex-back fs p h))
@@ -162,10 +167,9 @@ input_from-back word.End fs i e = stood_alone got.End i fs (IsInputOf word.End f
 
 input_in-back : (fs : List (List ℕ)) (i : Input) → input_in fs ≡ Some i → input_word_text (input_word i) ∷ input_fields i ≡ fs
 unfolding input_in
-input_in-back [] i e = absurd cc
-input_in-back (f ∷ fs) i e =
-    stepped (λ (w : InputWord). input_from w fs) (input_word_of f) i (input_word_text (input_word i) ∷ input_fields i ≡ f ∷ fs) e
-    (λ w is from. input_from-back w fs i from ∙ ap (λ (g : List ℕ). g ∷ fs) (input_word-back f w is))
+input_in-back fs i e =
+    worded input_word_of input_from fs i (λ gs. input_word_text (input_word i) ∷ input_fields i ≡ gs) e
+    (λ f gs w is from. input_from-back w gs i from ∙ ap (λ (g : List ℕ). g ∷ gs) (input_word-back f w is))
 
 reading-back : (f : Format) (before : ℕ) (field : List ℕ) (at : ℕ) → reading_of f before field ≡ Some at → reading_text f before at ≡ field
 reading-back First before field at e = (number_of-some field at e).text

@@ -65,18 +65,13 @@ pub record AreValid (s : Settings) : Type 0 where
 
 pub valid : (s : Settings) → is_valid s ≡ true → AreValid s
 valid s are =
-    let name = leb (length s.name) 255 in
-    let few = leb (length s.headers) 256 in
-    let fit = list_all is_fitting s.headers in
-    let apart = are_apart s.headers in
-    let port = ltb 0 s.port in
-    let p = and_parts (name && few && fit && apart && port && leb 1 s.evasive && leb s.evasive s.expired) (leb s.expired 86400000) are in
-    let q = and_parts (name && few && fit && apart && port && leb 1 s.evasive) (leb s.evasive s.expired) p.0 in
-    let r = and_parts (name && few && fit && apart && port) (leb 1 s.evasive) q.0 in
-    let t = and_parts (name && few && fit && apart) port r.0 in
-    let u = and_parts (name && few && fit) apart t.0 in
-    let v = and_parts (name && few) fit u.0 in
-    let w = and_parts name few v.0 in
+    let p = and_parts _ _ are in
+    let q = and_parts _ _ p.0 in
+    let r = and_parts _ _ q.0 in
+    let t = and_parts _ _ r.0 in
+    let u = and_parts _ _ t.0 in
+    let v = and_parts _ _ u.0 in
+    let w = and_parts _ _ v.0 in
     record {
       name = w.0;
       few_headers = w.1;

@@ -1,7 +1,8 @@
 -- Lower-case digits are what their octets are written in.
-use Rattle.std.proofs.Common.{◌≡◌, ℕ, zero, suc, ◌+◌, ◌*◌, ◌/◌, ◌%◌, ◌<◌, ◌^◌, ◌==◌, ◌&&◌, ltb, Bool, true, cond, List, [], ◌∷◌, length, slice_index, Some, Result, Ok, refl, sym, ap, ◌∙◌, arith, All, inl, inr}
-use Rattle.std.specs.Prelude.{unwrap_or, codes}
+use Rattle.std.proofs.Common.{◌≡◌, ℕ, zero, suc, ◌+◌, ◌*◌, ◌/◌, ◌%◌, ◌<◌, ◌^◌, ◌==◌, ◌&&◌, ◌||◌, ltb, Bool, true, cond, List, [], ◌∷◌, length, slice_index, Some, Result, Ok, refl, sym, ap, ◌∙◌, arith, All, inl, inr}
+use Rattle.std.specs.Prelude.{unwrap_or, is_some, codes}
 use Rattle.std.specs.List.{list_all}
+use Rattle.std.specs.Str.{bytes_eq}
 use Rattle.std.specs.Result.{result_unwrap_or}
 use Rattle.std.proofs.lemmas.Bool.{and_parts, and_from, eqb-true, eq-eqb, lt-ltb, ltb-true, cases_lt}
 use Rattle.std.proofs.lemmas.Bool.Decides.{nat_tests}
@@ -12,7 +13,7 @@ use Rattle.hex.proofs.HexLemmas.{length-encode_with, decode_of-even}
 use Rattle.hex.proofs.Pairs.{cons_byte, decode_pairs-ok_pair}
 use Rattle.zre_capture.specs.Lines.{hex_text}
 use Rattle.zre_capture.specs.Values.{is_lower_digit, hex_of, decoded}
-use Rattle.zre_capture.proofs.Spelled.{spelled-one, found, hex_of-some, hex_of-text}
+use Rattle.zre_capture.proofs.Spelled.{spelled-one, found, some_is, text_or_tested, hex_of-some, hex_of-text}
 
 -- the value of a digit, and the octets of pairs of digits
 abbrev pub value : ℕ → ℕ
@@ -162,3 +163,7 @@ some-pairs s v e other = let t = hex_of-some s v e in by_text s v t.is t.text ot
 
 pub hex_of-dash : hex_of (codes "-") ≡ Some []
 hex_of-dash = hex_of-text [] (λ k d lt. absurd (omega (arith, lt)))
+
+-- the test that takes no octets out
+pub is_hex_test : (s : List ℕ) → is_some (hex_of s) ≡ (bytes_eq s (codes "-") || are_pairs s)
+is_hex_test s = text_or_tested hex_of (codes "-") [] (are_pairs s) s hex_of-dash (λ is. some_is (hex_of s) (pair_octets s) (pairs-some s is)) (some-pairs s)

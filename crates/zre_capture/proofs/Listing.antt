@@ -1,6 +1,6 @@
 -- Lists of headers in their texts.
-use Rattle.std.proofs.Common.{◌≡◌, ℕ, ◌+◌, ◌<◌, ◌^◌, ◌==◌, suc, subst, ◌||◌, leb, ltb, Bool, true, false, List, [], ◌∷◌, ◌++◌, length, Option, Some, None, inl, inr, refl, sym, ap, ◌∙◌, arith, All, append_assoc}
-use Rattle.std.specs.Prelude.{codes, flat_map, map, is_some, option_and_then, option_map}
+use Rattle.std.proofs.Common.{◌≡◌, ℕ, ◌+◌, ◌<◌, ◌^◌, ◌==◌, suc, subst, ◌&&◌, leb, ltb, Bool, true, false, List, [], ◌∷◌, ◌++◌, length, Option, Some, None, inl, inr, refl, sym, ap, ◌∙◌, arith, All, append_assoc}
+use Rattle.std.specs.Prelude.{codes, flat_map, map, is_some, option_and_then}
 use Rattle.std.specs.List.{list_all, list_any}
 use Rattle.std.specs.Str.{bytes_eq}
 use Rattle.std.proofs.lemmas.Bool.{and_parts, and_from, false_from_ne_true, cases_Bool}
@@ -12,7 +12,7 @@ use Rattle.std.proofs.lemmas.Option.{same_Some}
 use Rattle.std.proofs.lemmas.Slice.Eq.{bytes_eq-Decides}
 use Rattle.zre_values.specs.Settings.{are_apart, is_fitting}
 use Rattle.zre_values.specs.Text.{quoted, quoted_pair, quoted_pairs}
-use Rattle.zre_capture.specs.Headers.{header_in, header_of, headers_in, first_part, name_in, have_name, are_named_apart, are_listed, headers_of}
+use Rattle.zre_capture.specs.Headers.{header_in, header_of, headers_in, first_part, name_in, have_name, are_named_apart, are_listed, headers_of, with_more}
 use Rattle.zre_capture.specs.Heads.{IsHeader}
 use Rattle.zre_capture.specs.Parts.{between, two}
 use Rattle.zre_capture.specs.Values.{short_of, unquoted}
@@ -53,30 +53,17 @@ pub no_header : (o : Option (List ℕ × List ℕ)) → is_some o ≡ false → 
 no_header None e = refl
 no_header (Some h) e = absurd cc
 
-pub cut_bad : (rest member after : List ℕ) → between 44 rest ≡ member ∷ between 44 after → is_some (header_of member) ≡ false → headers_in (between 44 rest) ≡ None
-cut_bad rest member after cut bad = ap headers_in cut ∙ bad-member member (between 44 after) (no_header (header_of member) bad)
-
-pub cut_good : (rest member after : List ℕ) → between 44 rest ≡ member ∷ between 44 after → is_some (header_of member) ≡ true → is_some (headers_in (between 44 rest)) ≡ is_some (headers_in (between 44 after))
-cut_good rest member after cut ok =
-    let h = header_there (header_of member) ok in
-    ap (λ (ms : List (List ℕ)). is_some (headers_in ms)) cut ∙ ap is_some (good-member member (between 44 after) h.0 h.1) ∙ some_more h.0 (headers_in (between 44 after))
-
-none_in : headers_in [] ≡ Some []
-unfolding headers_in
-none_in = refl
-
-pub last_one : (rest : List ℕ) → between 44 rest ≡ rest ∷ [] → is_some (headers_in (between 44 rest)) ≡ is_some (header_of rest)
-last_one rest whole =
-    elim (cases_Bool (is_some (header_of rest))) [
-      | inl ok ↦
-          let h = header_there (header_of rest) ok in
-          ap (λ (ms : List (List ℕ)). is_some (headers_in ms)) whole ∙ ap is_some (good-member rest [] h.0 h.1) ∙ some_more h.0 (headers_in []) ∙ ap is_some none_in ∙ sym ok
-      | inr bad ↦ ap (λ (ms : List (List ℕ)). is_some (headers_in ms)) whole ∙ ap is_some (bad-member rest [] (no_header (header_of rest) bad)) ∙ sym bad
+-- they are headers where the first is one, and those after it are
+pub some_headers : (m : List ℕ) (ms : List (List ℕ)) → is_some (headers_in (m ∷ ms)) ≡ (is_some (header_of m) && is_some (headers_in ms))
+some_headers m ms =
+    elim (cases_Bool (is_some (header_of m))) [
+      | inl ok ↦ let h = header_there (header_of m) ok in ap is_some (good-member m ms h.0 h.1) ∙ some_more h.0 (headers_in ms) ∙ sym (rw ok refl)
+      | inr bad ↦ ap is_some (bad-member m ms (no_header (header_of m) bad)) ∙ sym (rw bad refl)
     ]
 
--- those that are read, and those after them
-abbrev pub with_more : List (List ℕ × List ℕ) → Option (List (List ℕ × List ℕ)) → Option (List (List ℕ × List ℕ))
-with_more hs more = option_map (λ gs. hs ++ gs) more
+pub none_in : headers_in [] ≡ Some []
+unfolding headers_in
+none_in = refl
 
 one_more : (hs : List (List ℕ × List ℕ)) (h : List ℕ × List ℕ) (o : Option (List (List ℕ × List ℕ))) → with_more hs (option_and_then (λ gs. Some (h ∷ gs)) o) ≡ with_more (hs ++ h ∷ []) o
 one_more hs h None = refl
@@ -86,49 +73,21 @@ pub with_none : (o : Option (List (List ℕ × List ℕ))) → with_more [] o �
 with_none None = refl
 with_none (Some gs) = refl
 
-pub cut_read : (hs new : List (List ℕ × List ℕ)) (rest member after : List ℕ) (h : List ℕ × List ℕ) (all : Option (List (List ℕ × List ℕ))) → between 44 rest ≡ member ∷ between 44 after → header_of member ≡ Some h → new ≡ hs ++ h ∷ []
-    → with_more hs (headers_in (between 44 rest)) ≡ all → with_more new (headers_in (between 44 after)) ≡ all
-cut_read hs new rest member after h all cut is grown so_far =
-    ap (λ (l : List (List ℕ × List ℕ)). with_more l (headers_in (between 44 after))) grown ∙ sym (one_more hs h (headers_in (between 44 after)))
-    ∙ ap (with_more hs) (sym (ap headers_in cut ∙ good-member member (between 44 after) h is)) ∙ so_far
+pub header_pushed : (hs new : List (List ℕ × List ℕ)) (m : List ℕ) (ms : List (List ℕ)) (h : List ℕ × List ℕ) → header_of m ≡ Some h → new ≡ hs ++ h ∷ [] → with_more hs (headers_in (m ∷ ms)) ≡ with_more new (headers_in ms)
+header_pushed hs new m ms h is grown =
+    ap (with_more hs) (good-member m ms h is) ∙ one_more hs h (headers_in ms) ∙ ap (λ (l : List (List ℕ × List ℕ)). with_more l (headers_in ms)) (sym grown)
 
-pub bad_read : (hs : List (List ℕ × List ℕ)) (rest member after : List ℕ) (all : Option (List (List ℕ × List ℕ))) → between 44 rest ≡ member ∷ between 44 after → is_some (header_of member) ≡ false
-    → with_more hs (headers_in (between 44 rest)) ≡ all → None ≡ all
-bad_read hs rest member after all cut bad so_far = ap (with_more hs) (sym (cut_bad rest member after cut bad)) ∙ so_far
+pub no_header_pushed : (hs : List (List ℕ × List ℕ)) (m : List ℕ) (ms : List (List ℕ)) → header_of m ≡ None → with_more hs (headers_in (m ∷ ms)) ≡ None
+no_header_pushed hs m ms none = ap (with_more hs) (bad-member m ms none)
 
-pub last_read : (hs new : List (List ℕ × List ℕ)) (rest : List ℕ) (h : List ℕ × List ℕ) (all : Option (List (List ℕ × List ℕ))) → between 44 rest ≡ rest ∷ [] → header_of rest ≡ Some h → new ≡ hs ++ h ∷ []
-    → with_more hs (headers_in (between 44 rest)) ≡ all → Some new ≡ all
-last_read hs new rest h all whole is grown so_far =
-    ap (λ (l : List (List ℕ × List ℕ)). Some l) grown
-    ∙ ap (with_more hs) (sym (ap headers_in whole ∙ good-member rest [] h is ∙ ap (option_and_then (λ (gs : List (List ℕ × List ℕ)). Some (h ∷ gs))) none_in)) ∙ so_far
-
-pub last_bad : (hs : List (List ℕ × List ℕ)) (rest : List ℕ) (all : Option (List (List ℕ × List ℕ))) → between 44 rest ≡ rest ∷ [] → is_some (header_of rest) ≡ false
-    → with_more hs (headers_in (between 44 rest)) ≡ all → None ≡ all
-last_bad hs rest all whole bad so_far = ap (with_more hs) (sym (ap headers_in whole ∙ bad-member rest [] (no_header (header_of rest) bad))) ∙ so_far
+-- all that were read
+pub all_read : (hs : List (List ℕ × List ℕ)) → with_more hs (headers_in []) ≡ Some hs
+all_read hs = ap (with_more hs) none_in ∙ ap (λ (l : List (List ℕ × List ℕ)). Some l) (append-nil hs)
 
 -- ---- names
 
 pub name_first : (ps : List (List ℕ)) (n : List ℕ) (more : List (List ℕ)) → ps ≡ n ∷ more → n ≡ first_part ps
 name_first ps n more e = sym (ap first_part e)
-
-pub have-first : (name m : List ℕ) (ms : List (List ℕ)) → bytes_eq (name_in m) name ≡ true → true ≡ have_name name (m ∷ ms)
-have-first name m ms e = rw e refl
-
-pub have-other : (name m : List ℕ) (ms : List (List ℕ)) → bytes_eq (name_in m) name ≡ false → have_name name ms ≡ have_name name (m ∷ ms)
-have-other name m ms e = rw e refl
-
-or_false : (b : Bool) → b ≡ (b || false)
-or_false true = refl
-or_false false = refl
-
-pub have-last : (name m : List ℕ) → bytes_eq (name_in m) name ≡ have_name name (m ∷ [])
-have-last name m = or_false (bytes_eq (name_in m) name)
-
-pub apart-bad : (m : List ℕ) (ms : List (List ℕ)) → have_name (name_in m) ms ≡ true → false ≡ are_named_apart (m ∷ ms)
-apart-bad m ms e = rw e refl
-
-pub apart-good : (m : List ℕ) (ms : List (List ℕ)) → have_name (name_in m) ms ≡ false → are_named_apart ms ≡ are_named_apart (m ∷ ms)
-apart-good m ms e = rw e refl
 
 pub few-test : (n m : ℕ) → m ≡ n + 1 → ltb n 256 ≡ leb m 256
 few-test n m e = let same : suc n ≡ m = omega (arith, e) in ap (λ (k : ℕ). leb k 256) same

@@ -1,5 +1,5 @@
 -- Lists of quoted members, and their parts.
-use Rattle.std.proofs.Common.{length, ◌≡◌, ℕ, ◌/◌, ◌%◌, ◌<◌, ◌^◌, ◌==◌, ◌&&◌, Bool, true, false, cond, List, [], ◌∷◌, ◌++◌, Option, Some, None, refl, sym, ap, ◌∙◌, arith, All, append_assoc, get_or}
+use Rattle.std.proofs.Common.{length, ◌≡◌, ℕ, ◌/◌, ◌%◌, ◌<◌, ◌^◌, ◌==◌, ◌||◌, Bool, true, false, cond, List, [], ◌∷◌, ◌++◌, Option, Some, None, refl, sym, ap, ◌∙◌, arith, All, get_or}
 use Rattle.std.specs.Prelude.{is_some, codes, flat_map, map, MatchOption}
 use Rattle.std.specs.List.{list_all, list_any, join_with_byte}
 use Rattle.std.specs.Str.{bytes_eq}
@@ -16,7 +16,7 @@ use Rattle.zre_values.specs.Text.{hex_digit, is_plain, quoted_octet, quoted, quo
 use Rattle.zre_capture.specs.Parts.{between}
 use Rattle.zre_capture.specs.Values.{group_of, frames_of, unquoted, unquoted_list, are_octets, are_groups}
 use Rattle.zre_capture.proofs.Parts.{lacks-from_any}
-use Rattle.zre_capture.proofs.Spelled.{IsTextOf, AreOctets, found, spelled-one, group_of-quoted, octets-from, octets-true, value_there, some_is, none_spec}
+use Rattle.zre_capture.proofs.Spelled.{IsTextOf, AreOctets, found, spelled-one, text_or_tested, group_of-quoted, octets-from, octets-true, value_there, some_is, none_spec}
 use Rattle.zre_capture.proofs.Unquoting.{unquoted-quoted}
 
 -- ---- octets that don't stand in quoted texts
@@ -189,6 +189,11 @@ frames-members field (x ∷ vs) e other =
 pub frames_of-percent : frames_of (codes "%") ≡ Some []
 frames_of-percent = frames_of-list [] (λ k d lt. absurd (omega (arith, lt)))
 
+pub frames_test : (field : List ℕ) → is_some (frames_of field) ≡ (bytes_eq field (codes "%") || are_groups (between 44 field))
+frames_test field =
+    text_or_tested frames_of (codes "%") [] (are_groups (between 44 field)) field frames_of-percent
+    (λ is. some_is (frames_of field) (map unquoted (between 44 field)) (members-frames field is)) (frames-members field)
+
 -- a list with a member that is none, where it isn't `%`
 pub no_frames : (field : List ℕ) → (field ≡ codes "%" → ⊥) → list_all good (between 44 field) ≡ false → frames_of field ≡ None
 no_frames field other isnt =
@@ -197,30 +202,6 @@ no_frames field other isnt =
 pub group_of-unquoted : (field v : List ℕ) → group_of field ≡ Some v → unquoted field ≡ v
 unfolding group_of
 group_of-unquoted field v e = (found quoted _ (unquoted field) field v e).same
-
--- ---- one member after the other
-
-and_true : (b : Bool) → (b && true) ≡ b
-and_true true = refl
-and_true false = refl
-
-pub cut_bad : (rest member after : List ℕ) → between 44 rest ≡ member ∷ between 44 after → good member ≡ false → are_groups (between 44 rest) ≡ false
-cut_bad rest member after cut bad = ap are_groups cut ∙ (rw bad refl)
-
-pub cut_good : (rest member after : List ℕ) → between 44 rest ≡ member ∷ between 44 after → good member ≡ true → are_groups (between 44 rest) ≡ are_groups (between 44 after)
-cut_good rest member after cut ok = ap are_groups cut ∙ (rw ok refl)
-
-pub last_one : (rest : List ℕ) → between 44 rest ≡ rest ∷ [] → are_groups (between 44 rest) ≡ good rest
-last_one rest whole = ap are_groups whole ∙ and_true (good rest)
-
--- one more member is read
-pub cut_read : (frames new all : List (List ℕ)) (rest member after : List ℕ) → between 44 rest ≡ member ∷ between 44 after → new ≡ frames ++ unquoted member ∷ [] → frames ++ map unquoted (between 44 rest) ≡ all → new ++ map unquoted (between 44 after) ≡ all
-cut_read frames new all rest member after cut e so_far =
-    ap (λ (f : List (List ℕ)). f ++ map unquoted (between 44 after)) e ∙ append_assoc frames (unquoted member ∷ []) (map unquoted (between 44 after))
-    ∙ ap (λ (r : List (List ℕ)). frames ++ map unquoted r) (sym cut) ∙ so_far
-
-pub last_read : (frames new all : List (List ℕ)) (rest : List ℕ) → between 44 rest ≡ rest ∷ [] → new ≡ frames ++ unquoted rest ∷ [] → frames ++ map unquoted (between 44 rest) ≡ all → new ≡ all
-last_read frames new all rest whole e so_far = e ∙ ap (λ (r : List (List ℕ)). frames ++ map unquoted r) (sym whole) ∙ so_far
 
 pub members_found : (field : List ℕ) (found : Option (List (List ℕ))) → (field ≡ codes "%" → ⊥)
     → MatchOption found (are_groups (between 44 field) ≡ false) (λ members. (are_groups (between 44 field) ≡ true) × (members ≡ map unquoted (between 44 field)))

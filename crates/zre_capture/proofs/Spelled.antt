@@ -1,12 +1,12 @@
 -- Values of fields and their texts.
-use Rattle.std.proofs.Common.{◌+◌, ◌*◌, ◌⊎◌, inl, zero, suc, subst, Result, length, ◌≡◌, ℕ, ◌<◌, ◌^◌, ◌==◌, ◌&&◌, ltb, Bool, true, false, List, [], ◌∷◌, ◌++◌, Option, Some, None, refl, sym, ap, ◌∙◌, arith, All, get_or}
+use Rattle.std.proofs.Common.{◌+◌, ◌*◌, ◌⊎◌, inl, inr, zero, suc, subst, Result, length, ◌≡◌, ℕ, ◌<◌, ◌^◌, ◌==◌, ◌&&◌, ◌||◌, ltb, Bool, true, false, List, [], ◌∷◌, ◌++◌, Option, Some, None, refl, sym, ap, ◌∙◌, arith, All, get_or}
 use Rattle.std.specs.Prelude.{decimal, IfSome, unwrap_or, is_some, map}
 use Rattle.std.specs.Result.{result_unwrap_or}
 use Rattle.std.specs.List.{list_all, list_any, slice_split}
 use Rattle.std.specs.Str.{bytes_eq}
 use Rattle.std.specs.Str.Parse.{digits_value}
 use Rattle.std.proofs.lemmas.List.Folds.{list_any_at}
-use Rattle.std.proofs.lemmas.Bool.{false_from_ne_true, and_parts, and_from, lt-ltb, ltb-true, eqb-true, eq-eqb}
+use Rattle.std.proofs.lemmas.Bool.{cases_Bool, false_from_ne_true, and_parts, and_from, lt-ltb, ltb-true, eqb-true, eq-eqb}
 use Rattle.std.proofs.lemmas.Fmt.{decimal_is_IsNumeral}
 use Rattle.std.proofs.lemmas.Option.{cond_some}
 use Rattle.std.proofs.lemmas.Slice.Eq.{bytes_eq-Decides}
@@ -214,6 +214,15 @@ pub tested : {V : Type 0} (b : Bool) (o : Option V) → (b ≡ true → is_some 
 tested true o there back = sym (there refl)
 tested false None there back = refl
 tested false (Some v) there back = back v refl
+
+-- a field that has a value is this text, or passes a test
+pub text_or_tested : {V : Type 0} (read : List ℕ → Option V) (text : List ℕ) (value : V) (test : Bool) (field : List ℕ) → read text ≡ Some value → (test ≡ true → is_some (read field) ≡ true)
+    → ((v : V) → read field ≡ Some v → (field ≡ text → ⊥) → test ≡ true) → is_some (read field) ≡ (bytes_eq field text || test)
+text_or_tested read text value test field there passes back =
+    elim (cases_Bool (bytes_eq field text)) [
+      | inl is ↦ rw is (some_is (read field) value (ap read ((bytes_eq-Decides field text).0 is) ∙ there))
+      | inr isnt ↦ rw isnt (sym (tested test (read field) passes (λ v e. back v e (λ same. let yes : bytes_eq field text ≡ true = (bytes_eq-Decides field text).1 same in absurd cc))))
+    ]
 
 -- nothing is found where nothing may be
 pub none_spec : {V : Type 0} (spec : Option V) → ((v : V) → spec ≡ Some v → None ≡ Some v) → None ≡ spec

@@ -26,7 +26,7 @@ use Rattle.zre_capture.specs.declared.word.InputWord.{InputWord}
 use Rattle.zre_capture.specs.declared.word.InputWord.TheVariants as word
 use Rattle.zre_capture.specs.declared.word.CommandWord.{CommandWord}
 use Rattle.zre_capture.specs.declared.word.CommandWord.TheVariants as order
-use Rattle.zre_capture.proofs.Back.{both, made, stood_alone, stepped, text-entry_of}
+use Rattle.zre_capture.proofs.Back.{both, made, stood_alone, stepped, worded, text-entry_of}
 use Rattle.zre_capture.proofs.Differences.{reading_after-some}
 use Rattle.zre_capture.proofs.Lines.{entries-good, entries-bad}
 use Rattle.zre_capture.proofs.Members.{frames_of-some}
@@ -91,8 +91,7 @@ command_from-is order.Quit fs c e = stood_alone ask.Quit c fs IsCommand e (λ h.
 
 command_in-is : (fs : List (List ℕ)) (c : Command) → command_in fs ≡ Some c → IsCommand c
 unfolding command_in
-command_in-is [] c e = absurd cc
-command_in-is (f ∷ fs) c e = stepped (λ (w : CommandWord). command_from w fs) (command_word_of f) c (IsCommand c) e (λ w is from. command_from-is w fs c from)
+command_in-is fs c e = worded command_word_of command_from fs c (λ gs. IsCommand c) e (λ f gs w is from. command_from-is w gs c from)
 
 input_from-is : (w : InputWord) (fs : List (List ℕ)) (i : Input) → input_from w fs ≡ Some i → IsInput i
 input_from-is word.Datagram fs i e = made (λ (p : List ℕ × List ℕ). got.Datagram p.0 p.1) (address_and_hex fs) i IsInput e (λ p h. datagram-is fs p h)
@@ -109,8 +108,7 @@ input_from-is word.End fs i e = stood_alone got.End i fs IsInput e (λ h. tt)
 
 input_in-is : (fs : List (List ℕ)) (i : Input) → input_in fs ≡ Some i → IsInput i
 unfolding input_in
-input_in-is [] i e = absurd cc
-input_in-is (f ∷ fs) i e = stepped (λ (w : InputWord). input_from w fs) (input_word_of f) i (IsInput i) e (λ w is from. input_from-is w fs i from)
+input_in-is fs i e = worded input_word_of input_from fs i (λ gs. IsInput i) e (λ f gs w is from. input_from-is w gs i from)
 
 reading-is : (f : Format) (before : ℕ) (field : List ℕ) (at : ℕ) → reading_of f before field ≡ Some at → IsNumber at
 reading-is First before field at e = (number_of-some field at e).fits

@@ -1,6 +1,6 @@
 -- Headers in their text: members with commas between, each a quoted name and its quoted value with `=` between.
-use Rattle.std.specs.Prelude.{ℕ, Bool, true, not, ◌&&◌, nat_le, if◌then◌else◌, List, [], ◌∷◌, length, codes}
-use Rattle.std.specs.Prelude.{Option, Some, None}
+use Rattle.std.specs.Prelude.{ℕ, Bool, true, not, ◌&&◌, nat_le, if◌then◌else◌, List, [], ◌∷◌, ◌++◌, length, codes}
+use Rattle.std.specs.Prelude.{Option, Some, None, option_map}
 use Rattle.std.specs.List.{list_any}
 use Rattle.std.specs.Str.{bytes_eq}
 use Rattle.zre_values.specs.declared.limits.TheConstants.{HEADERS}
@@ -26,6 +26,10 @@ headers_in (m ∷ ms) = do
   h ← header_of m
   hs ← headers_in ms
   Some (h ∷ hs)
+
+-- headers, and those after them
+abbrev pub with_more : List (List ℕ × List ℕ) → Option (List (List ℕ × List ℕ)) → Option (List (List ℕ × List ℕ))
+with_more hs more = option_map (λ gs. hs ++ gs) more
 
 -- the quoted name of a member
 abbrev pub first_part : List (List ℕ) → List ℕ

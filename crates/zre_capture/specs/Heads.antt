@@ -1,5 +1,5 @@
 -- The head lines of captures. That of format 2 says the settings of the node.
-use Rattle.std.specs.Prelude.{◌≡◌, ℕ, ◌<◌, ◌≤◌, ◌^◌, Bool, true, List, [], ◌∷◌, ◌++◌, length, codes, decimal, All}
+use Rattle.std.specs.Prelude.{◌≡◌, ℕ, ◌<◌, ◌≤◌, ◌^◌, true, List, [], ◌∷◌, ◌++◌, length, codes, decimal, All}
 use Rattle.std.specs.List.{join_with_byte}
 use Rattle.zre_values.specs.Address.{address_text, IsAddress}
 use Rattle.zre_values.specs.PlainId.{IsPeerId}

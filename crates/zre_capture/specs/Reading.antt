@@ -35,14 +35,10 @@ fields_in text = slice_split (λ b. b == 32) text
 
 -- the values of one field alone, or of two
 unfoldable pub one_number : List (List ℕ) → Option ℕ
-one_number fs = do
-  f ← one fs
-  number_of f
+one_number fs = one fs >>= number_of
 
 unfoldable pub one_group : List (List ℕ) → Option (List ℕ)
-one_group fs = do
-  f ← one fs
-  group_of f
+one_group fs = one fs >>= group_of
 
 unfoldable pub two_numbers : List (List ℕ) → Option (ℕ × ℕ)
 two_numbers fs = do
@@ -79,6 +75,13 @@ group_and_frames fs = do
   content ← frames_of p.1
   Some (group, content)
 
+-- what the first of some fields, a word, says with those after it
+abbrev pub by_word : {W V : Type 0} → (List ℕ → Option W) → (W → List (List ℕ) → Option V) → List (List ℕ) → Option V
+by_word word_of from [] = None
+by_word word_of from (f ∷ fs) = do
+  w ← word_of f
+  from w fs
+
 -- a value that no field stands after
 abbrev pub alone : {V : Type 0} → V → List (List ℕ) → Option V
 alone value [] = Some value
@@ -95,10 +98,7 @@ command_from order.Quit fs = alone ask.Quit fs
 
 -- the command of some fields
 unfoldable pub command_in : List (List ℕ) → Option Command
-command_in [] = None
-command_in (w ∷ fs) = do
-  order ← command_word_of w
-  command_from order fs
+command_in fs = by_word command_word_of command_from fs
 
 -- what the word of an entry says with the fields after it
 abbrev pub input_from : InputWord → List (List ℕ) → Option Input
@@ -116,10 +116,7 @@ input_from word.End fs = alone got.End fs
 
 -- what happened, by the fields after the clock's reading
 unfoldable pub input_in : List (List ℕ) → Option Input
-input_in [] = None
-input_in (w ∷ fs) = do
-  what ← input_word_of w
-  input_from what fs
+input_in fs = by_word input_word_of input_from fs
 
 -- the entry of some fields, in this format, after an entry with this reading
 unfoldable pub entry_in : Format → ℕ → List (List ℕ) → Option Entry

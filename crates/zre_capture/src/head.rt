@@ -8,6 +8,7 @@ ghost use Rattle.zre_capture.specs.Heads.{head_text, head};
 ghost use Rattle.zre_capture.specs.Reading.{fields_in, plain_with, settings_in, settings_with, settings_of};
 ghost use Rattle.zre_capture.specs.declared.format.Format.TheVariants.{Second};
 
+use crate::found;
 use crate::headers::headers;
 use crate::read::{first_field, one_part};
 use crate::value::{address, id, number_within, short};
@@ -171,29 +172,18 @@ fn with_texts(
 ) -> Result<Option<Settings>, OutOfMemory>
     ensures { IfOk result (λ found. found ≡ settings_with plain name_field.now headers_field.now) }
 {
-    let Some(name) = short(alloc, NAME_OCTETS, name_field)? else {
-        return Ok(None);
-    };
+    let name = found!(short(alloc, NAME_OCTETS, name_field)?);
+    let headers = found!(headers(alloc, headers_field)?);
     let host = plain.host;
-    match headers(alloc, headers_field) {
-        Ok(Some(headers)) => Ok(Some(Settings {
-            id: plain.id,
-            name,
-            headers,
-            host,
-            port: plain.port,
-            evasive: plain.evasive,
-            expired: plain.expired,
-        })),
-        Ok(None) => {
-            drop(name);
-            Ok(None)
-        }
-        Err(OutOfMemory) => {
-            drop(name);
-            Err(OutOfMemory)
-        }
-    }
+    Ok(Some(Settings {
+        id: plain.id,
+        name,
+        headers,
+        host,
+        port: plain.port,
+        evasive: plain.evasive,
+        expired: plain.expired,
+    }))
 }
 
 /// The settings that a line, without its line feed, says, if it is a head of format 2.
@@ -201,20 +191,16 @@ fn with_texts(
 pub(crate) fn settings(alloc: Global, text: &[u8]) -> Result<Option<Settings>, OutOfMemory>
     ensures { IfOk result (λ found. found ≡ settings_of text.now) }
 {
-    let Some(fields) = head_fields(text) else {
-        return Ok(None);
-    };
+    let fields = found!(head_fields(text));
     if !is_marked(fields.mark, fields.number) {
         return Ok(None);
     }
-    let Some(plain) = read_plain(
+    let plain = found!(read_plain(
         fields.id,
         fields.host,
         fields.port,
         fields.evasive,
         fields.expired,
-    ) else {
-        return Ok(None);
-    };
+    ));
     with_texts(alloc, plain, fields.name, fields.headers)
 }

@@ -1,16 +1,16 @@
 //! Headers in their quoted texts.
 
-ghost use Rattle.std.specs.Prelude.{◌≡◌, ◌==◌, ℕ, ◌++◌, ◌∷◌, List, [], Some, nat_le, is_some, length, IfOk};
-ghost use Rattle.std.specs.Bool.{OnTrue};
+ghost use Rattle.std.specs.Prelude.{◌≡◌, ◌==◌, ℕ, ◌∷◌, List, None, nat_le, is_some, length, if◌then◌else◌, IfOk};
 ghost use Rattle.std.specs.List.{count_by};
 ghost use Rattle.zre_capture.specs.Headers.{header_of, headers_in, name_in, have_name, are_named_apart, are_listed};
-ghost use Rattle.zre_capture.specs.Headers.{headers_of};
+ghost use Rattle.zre_capture.specs.Headers.{headers_of, with_more};
 ghost use Rattle.zre_capture.specs.Parts.{between};
 
 use crate::pairs::both;
 use crate::read::two_parts;
-use crate::split::split_once;
+use crate::split::{first_part, split_once};
 use crate::value::{is_short, short};
+use crate::{for_members, found};
 use std::alloc::Global;
 use zre_values::limits::HEADERS;
 use zre_values::{NAME_OCTETS, Octets, OutOfMemory, Pairs, VALUE_OCTETS};
@@ -19,27 +19,23 @@ use zre_values::{NAME_OCTETS, Octets, OutOfMemory, Pairs, VALUE_OCTETS};
 fn is_header(member: &[u8]) -> bool
     ensures { result ≡ is_some (header_of member.now) }
 {
-    let Some((name, value)) = two_parts(member, b'=') else {
-        return false;
-    };
-    if !is_short(NAME_OCTETS, name) {
-        return false;
+    match two_parts(member, b'=') {
+        Some((name, value)) => is_short(NAME_OCTETS, name) && is_short(VALUE_OCTETS, value),
+        None => false,
     }
-    is_short(VALUE_OCTETS, value)
 }
 
 // Whether headers stand between commas.
+#[tactic(auto, using(crate::proofs::Listing::some_headers, crate::proofs::Listing::none_in))]
 fn are_members(field: &[u8]) -> bool
     ensures { result ≡ is_some (headers_in (between 44 field.now)) }
 {
-    let mut rest = field;
-    'members: while let Some((member, after)) = split_once(rest, b',') {
+    for_members!(member in field => {
         if !is_header(member) {
             return false;
         }
-        rest = after;
-    }
-    is_header(rest)
+    });
+    true
 }
 
 // The quoted name of a header.
@@ -56,14 +52,12 @@ fn name_in(member: &[u8]) -> &[u8]
 fn have_name(name: &[u8], field: &[u8]) -> bool
     ensures { result ≡ have_name name.now (between 44 field.now) }
 {
-    let mut rest = field;
-    'members: while let Some((member, after)) = split_once(rest, b',') {
+    for_members!(member in field => {
         if name_in(member) == name {
             return true;
         }
-        rest = after;
-    }
-    name_in(rest) == name
+    });
+    false
 }
 
 // Whether no two members have one name. There are few of them, so each is compared with all after it.
@@ -71,7 +65,7 @@ fn are_named_apart(field: &[u8]) -> bool
     ensures { result ≡ are_named_apart (between 44 field.now) }
 {
     let mut rest = field;
-    'members: while let Some((member, after)) = split_once(rest, b',') {
+    'members: while let Some((member, after)) = first_part(rest, b',') {
         if have_name(name_in(member), after) {
             return false;
         }
@@ -119,57 +113,36 @@ pub(crate) fn are_headers(field: &[u8]) -> bool
 fn header(alloc: Global, member: &[u8]) -> Result<Option<(Octets, Octets)>, OutOfMemory>
     ensures { IfOk result (λ found. found ≡ header_of member.now) }
 {
-    let Some((name, value)) = two_parts(member, b'=') else {
-        return Ok(None);
-    };
-    let Some(name) = short(alloc, NAME_OCTETS, name)? else {
-        return Ok(None);
-    };
+    let (name, value) = found!(two_parts(member, b'='));
+    let name = found!(short(alloc, NAME_OCTETS, name)?);
     both(name, short(alloc, VALUE_OCTETS, value))
 }
 
 // Reads one more.
+#[tactic(auto, using(crate::proofs::Listing::header_pushed, crate::proofs::Listing::no_header_pushed))]
 fn push_header(alloc: Global, headers: &mut Pairs, member: &[u8]) -> Result<bool, OutOfMemory>
-    ensures test { IfOk result (λ is. is ≡ is_some (header_of member.now)) }
-    ensures pushed { IfOk result (λ is. OnTrue is ((h : List ℕ × List ℕ) × (header_of member.now ≡ Some h)
-        × (headers.new ≡ headers.old ++ h ∷ []))) }
+    ensures { (more : List (List ℕ)) → IfOk result (λ is. with_more headers.old (headers_in (member.now ∷ more))
+        ≡ (if is then with_more headers.new (headers_in more) else None)) }
 {
-    match header(alloc, member)? {
-        Some((name, value)) => {
-            headers.push(name, value)?;
-            Ok(true)
-        }
-        None => Ok(false),
-    }
+    let Some((name, value)) = header(alloc, member)? else {
+        return Ok(false);
+    };
+    headers.push(name, value)?;
+    Ok(true)
 }
 
 // The headers between commas.
+#[tactic(auto, using(crate::proofs::Listing::with_none, crate::proofs::Listing::all_read))]
 fn members(alloc: Global, field: &[u8]) -> Result<Option<Pairs>, OutOfMemory>
     ensures { IfOk result (λ found. found ≡ headers_in (between 44 field.now)) }
 {
     let mut headers = Pairs::new(alloc);
-    let mut rest = field;
-    'members: while let Some((member, after)) = split_once(rest, b',') {
-        let Ok(one) = push_header(alloc, &mut headers, member) else {
-            drop(headers);
-            return Err(OutOfMemory);
-        };
-        if !one {
-            drop(headers);
+    for_members!(member in field => {
+        if !push_header(alloc, &mut headers, member)? {
             return Ok(None);
         }
-        rest = after;
-    }
-    let Ok(last) = push_header(alloc, &mut headers, rest) else {
-        drop(headers);
-        return Err(OutOfMemory);
-    };
-    if last {
-        Ok(Some(headers))
-    } else {
-        drop(headers);
-        Ok(None)
-    }
+    });
+    Ok(Some(headers))
 }
 
 /// The headers of a field. What is read of a field that is none is no more than its limits allow.

@@ -76,6 +76,7 @@ fn are_pairs(field: &[u8]) -> bool
 }
 
 /// Whether the field is octets in hexadecimal digits. It takes no memory.
+#[tactic(auto, using(crate::proofs::HexPairs::is_hex_test))]
 pub fn is_hex(field: &[u8]) -> bool
     ensures { result ≡ is_some (hex_of field.now) }
 {

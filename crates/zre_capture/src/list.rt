@@ -5,7 +5,7 @@ ghost use Rattle.std.specs.Bool.{OnTrue};
 ghost use Rattle.zre_capture.specs.Parts.{between};
 ghost use Rattle.zre_capture.specs.Values.{are_groups, frames_of, group_of, unquoted};
 
-use crate::split::split_once;
+use crate::for_members;
 use crate::value::{group, is_group};
 use std::alloc::Global;
 use zre_values::{Frames, OutOfMemory};
@@ -14,17 +14,16 @@ use zre_values::{Frames, OutOfMemory};
 fn are_members(field: &[u8]) -> bool
     ensures { result ≡ are_groups (between 44 field.now) }
 {
-    let mut rest = field;
-    'members: while let Some((member, after)) = split_once(rest, b',') {
+    for_members!(member in field => {
         if !is_group(member) {
             return false;
         }
-        rest = after;
-    }
-    is_group(rest)
+    });
+    true
 }
 
 /// Whether the field is a list of quoted frames. It takes no memory.
+#[tactic(auto, using(crate::proofs::Members::frames_test))]
 pub fn are_frames(field: &[u8]) -> bool
     ensures { result ≡ is_some (frames_of field.now) }
 {
@@ -49,28 +48,12 @@ fn members(alloc: Global, field: &[u8]) -> Result<Option<Frames>, OutOfMemory>
         (λ members. (are_groups (between 44 field.now) ≡ true) × (members ≡ map unquoted (between 44 field.now)))) }
 {
     let mut frames = Frames::new(alloc);
-    let mut rest = field;
-    'members: while let Some((member, after)) = split_once(rest, b',') {
-        let Ok(one) = push_member(alloc, &mut frames, member) else {
-            drop(frames);
-            return Err(OutOfMemory);
-        };
-        if !one {
-            drop(frames);
+    for_members!(member in field => {
+        if !push_member(alloc, &mut frames, member)? {
             return Ok(None);
         }
-        rest = after;
-    }
-    let Ok(last) = push_member(alloc, &mut frames, rest) else {
-        drop(frames);
-        return Err(OutOfMemory);
-    };
-    if last {
-        Ok(Some(frames))
-    } else {
-        drop(frames);
-        Ok(None)
-    }
+    });
+    Ok(Some(frames))
 }
 
 /// The frames of a field.

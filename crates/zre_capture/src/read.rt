@@ -8,10 +8,11 @@ ghost use Rattle.zre_capture.specs.Reading.{command_in, input_from, input_in, en
 ghost use Rattle.zre_capture.specs.Values.{number_of, reading_of, address_of, id_of, group_of, frames_of, hex_of};
 
 use crate::format::Format;
+use crate::found;
 use crate::hexadecimal::hex;
 use crate::list::frames;
 use crate::pairs::both;
-use crate::split::split_once;
+use crate::split::{first_part, split_once};
 use crate::value::{address, group, id, number, reading};
 use crate::word::{CommandWord, InputWord, command_word, input_word};
 use std::alloc::Global;
@@ -23,8 +24,7 @@ pub fn first_field(text: &[u8]) -> Option<(&[u8], &[u8])>
     ensures { MatchOption result (fields_in text.now ≡ text.now ∷ [])
         (λ p. fields_in text.now ≡ p.0.now ∷ fields_in p.1.now) }
 {
-    let (first, rest) = split_once(text, b' ')?;
-    Some((first, rest))
+    first_part(text, b' ')
 }
 
 /// A part with no other after it, where this octet stands between parts.
@@ -74,10 +74,7 @@ pub fn two_numbers(text: &[u8]) -> Option<(u64, u64)>
 fn one_group(alloc: Global, text: &[u8]) -> Result<Option<Octets>, OutOfMemory>
     ensures { IfOk result (λ found. found ≡ one_group (fields_in text.now)) }
 {
-    let Some(field) = one_part(text, b' ') else {
-        return Ok(None);
-    };
-    group(alloc, field)
+    group(alloc, found!(one_part(text, b' ')))
 }
 
 /// A number, and octets in hexadecimal digits.
@@ -85,52 +82,32 @@ fn one_group(alloc: Global, text: &[u8]) -> Result<Option<Octets>, OutOfMemory>
 pub fn number_and_hex(alloc: Global, text: &[u8]) -> Result<Option<(u64, Octets)>, OutOfMemory>
     ensures { IfOk result (λ found. found ≡ number_and_hex (fields_in text.now)) }
 {
-    let Some((first, second)) = two_parts(text, b' ') else {
-        return Ok(None);
-    };
-    let Some(n) = number(first) else {
-        return Ok(None);
-    };
-    both(n, hex(alloc, second))
+    let (first, second) = found!(two_parts(text, b' '));
+    both(found!(number(first)), hex(alloc, second))
 }
 
 #[tactic(auto, unfolding(crate::specs::Reading::address_and_hex))]
 fn address_and_hex(alloc: Global, text: &[u8]) -> Result<Option<([u8; 4], Octets)>, OutOfMemory>
     ensures { IfOk result (λ found. found ≡ address_and_hex (fields_in text.now)) }
 {
-    let Some((first, second)) = two_parts(text, b' ') else {
-        return Ok(None);
-    };
-    let Some(host) = address(first) else {
-        return Ok(None);
-    };
-    both(host, hex(alloc, second))
+    let (first, second) = found!(two_parts(text, b' '));
+    both(found!(address(first)), hex(alloc, second))
 }
 
 #[tactic(auto, unfolding(crate::specs::Reading::id_and_frames))]
 fn id_and_frames(alloc: Global, text: &[u8]) -> Result<Option<(PeerId, Frames)>, OutOfMemory>
     ensures { IfOk result (λ found. found ≡ id_and_frames (fields_in text.now)) }
 {
-    let Some((first, second)) = two_parts(text, b' ') else {
-        return Ok(None);
-    };
-    let Some(peer) = id(first) else {
-        return Ok(None);
-    };
-    both(peer, frames(alloc, second))
+    let (first, second) = found!(two_parts(text, b' '));
+    both(found!(id(first)), frames(alloc, second))
 }
 
 #[tactic(auto, unfolding(crate::specs::Reading::group_and_frames))]
 fn group_and_frames(alloc: Global, text: &[u8]) -> Result<Option<(Octets, Frames)>, OutOfMemory>
     ensures { IfOk result (λ found. found ≡ group_and_frames (fields_in text.now)) }
 {
-    let Some((first, second)) = two_parts(text, b' ') else {
-        return Ok(None);
-    };
-    let Some(name) = group(alloc, first)? else {
-        return Ok(None);
-    };
-    both(name, frames(alloc, second))
+    let (first, second) = found!(two_parts(text, b' '));
+    both(found!(group(alloc, first)?), frames(alloc, second))
 }
 
 // The command of a word and the fields after it, of which there is one at least.
@@ -173,14 +150,8 @@ pub fn command(alloc: Global, text: &[u8]) -> Result<Option<Command>, OutOfMemor
     ensures { IfOk result (λ found. found ≡ command_in (fields_in text.now)) }
 {
     match first_field(text) {
-        None => match command_word(text) {
-            Some(word) => Ok(command_alone(word)),
-            None => Ok(None),
-        },
-        Some((field, rest)) => match command_word(field) {
-            Some(word) => command_with(alloc, word, rest),
-            None => Ok(None),
-        },
+        None => Ok(command_alone(found!(command_word(text)))),
+        Some((field, rest)) => command_with(alloc, found!(command_word(field)), rest),
     }
 }
 
@@ -226,14 +197,8 @@ fn input(alloc: Global, text: &[u8]) -> Result<Option<Input>, OutOfMemory>
     ensures { IfOk result (λ found. found ≡ input_in (fields_in text.now)) }
 {
     match first_field(text) {
-        None => match input_word(text) {
-            Some(word) => Ok(input_alone(word)),
-            None => Ok(None),
-        },
-        Some((field, rest)) => match input_word(field) {
-            Some(word) => input_with(alloc, word, rest),
-            None => Ok(None),
-        },
+        None => Ok(input_alone(found!(input_word(text)))),
+        Some((field, rest)) => input_with(alloc, found!(input_word(field)), rest),
     }
 }
 
@@ -247,14 +212,8 @@ pub fn entry(
 ) -> Result<Option<Entry>, OutOfMemory>
     ensures { IfOk result (λ found. found ≡ entry_of format before text.now) }
 {
-    let Some((field, rest)) = first_field(text) else {
-        return Ok(None);
-    };
-    let Some(at) = reading(format, before, field) else {
-        return Ok(None);
-    };
-    match input(alloc, rest)? {
-        Some(input) => Ok(Some(Entry { at, input })),
-        None => Ok(None),
-    }
+    let (field, rest) = found!(first_field(text));
+    let at = found!(reading(format, before, field));
+    let input = found!(input(alloc, rest)?);
+    Ok(Some(Entry { at, input }))
 }

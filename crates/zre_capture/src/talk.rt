@@ -59,34 +59,19 @@ fn body(alloc: Global, k: u32, x: u64) -> Result<(Body, u64), OutOfMemory>
     ensures fits { IfOk result (λ said. FitsBody said.0) }
 {
     let kind = k % 4;
-    if kind == 0 {
+    if kind == 0 || kind == 3 {
         let group = group(alloc)?;
-        return Ok((
-            Body::Join {
-                group,
-                status: status(k),
-            },
-            x,
-        ));
-    }
-    if kind == 3 {
-        let group = group(alloc)?;
-        return Ok((
-            Body::Leave {
-                group,
-                status: status(k),
-            },
-            x,
-        ));
+        let status = status(k);
+        if kind == 0 {
+            return Ok((Body::Join { group, status }, x));
+        }
+        return Ok((Body::Leave { group, status }, x));
     }
     let (content, x) = content(alloc, x)?;
     if kind == 2 {
         return Ok((Body::Whisper { content }, x));
     }
-    let Ok(group) = group(alloc) else {
-        drop(content);
-        return Err(OutOfMemory);
-    };
+    let group = group(alloc)?;
     Ok((Body::Shout { group, content }, x))
 }
 

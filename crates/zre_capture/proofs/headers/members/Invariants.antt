@@ -1,7 +1,6 @@
 use Rattle.std.proofs.Common.{◌≡◌, length}
-use Rattle.zre_capture.specs.Headers.{headers_in}
+use Rattle.zre_capture.specs.Headers.{headers_in, with_more}
 use Rattle.zre_capture.specs.Parts.{between}
-use Rattle.zre_capture.proofs.Listing.{with_more}
 use Rattle.zre_capture.proofs.headers.members.Given as goal
 
 abbrev pub invariant-members : goal.invariant-members
