@@ -1,5 +1,5 @@
 -- The lines of links, entry by entry.
-use Rattle.std.proofs.Common.{◌≡◌, ◌⊎◌, ℕ, zero, suc, ◌+◌, ◌<◌, ◌≤◌, Bool, true, false, cond, ◌&&◌, ◌||◌, eqb, ltb, List, [], ◌∷◌, ◌++◌, length, map, filter, Option, Some, None, IsSome, is_some, find, refl, sym, ap, ◌∙◌, subst, inl, inr, arith, append-nil, true≢false, eqb-true, eq-eqb, ne_eqb, ltb-true, lt-ltb, option_map, bytes_eq, slice_get, slice_set, slice_index_or}
+use Rattle.std.proofs.Common.{◌≡◌, ◌⊎◌, ℕ, zero, suc, ◌+◌, ◌<◌, ◌≤◌, Bool, true, false, cond, ◌&&◌, ◌||◌, eqb, ltb, List, [], ◌∷◌, ◌++◌, length, map, filter, Option, Some, None, IsSome, is_some, refl, sym, ap, ◌∙◌, subst, inl, inr, arith, append-nil, true≢false, eqb-true, eq-eqb, ne_eqb, ltb-true, lt-ltb, option_map, bytes_eq, slice_get, slice_set, slice_index_or}
 use Rattle.std.proofs.lemmas.List.{length-append}
 use Rattle.std.proofs.lemmas.List.Concat.{flat_map-cons, flat_map-append}
 use Rattle.std.proofs.lemmas.List.Elements.{filter-append}
@@ -17,7 +17,7 @@ use Rattle.zre_journal.specs.Links.{bodies}
 use Rattle.zre_journal.specs.Peers.{Life, lives, life, births}
 use Rattle.zre_journal.specs.Proper.{IsProper, Apart}
 use Rattle.zre_journal.proofs.Always.{always}
-use Rattle.zre_journal.proofs.Listed.{eqb-comm, some_is}
+use Rattle.zre_journal.proofs.Listed.{eqb-comm, some_is, any_found}
 use Rattle.zre_journal.proofs.Silent.{known_lives}
 use Rattle.zre_journal.proofs.Steps.{May}
 use Rattle.zre_audit.specs.Coding.{octets_of, code}
@@ -182,15 +182,6 @@ module _ (sent : ℕ → Option ℕ) (count : ℕ → ℕ) where
       by false e true f r = ap (λ z. z || list_any (eqb l) rest) e ∙ r
       by false e false f r = r
 
-any_known : (l : ℕ) (vs : List Life) → list_any (eqb l) (map (λ (v : Life). v.link) vs) ≡ is_some (find (λ (v : Life). eqb l v.link) vs)
-any_known l [] = refl
-any_known l (v ∷ vs) = by (eqb l v.link) (any_known l vs)
-  where
-    by : (b : Bool) → list_any (eqb l) (map (λ (u : Life). u.link) vs) ≡ is_some (find (λ (u : Life). eqb l u.link) vs)
-        → (b || list_any (eqb l) (map (λ (u : Life). u.link) vs)) ≡ is_some (cond b (Some v) (find (λ (u : Life). eqb l u.link) vs))
-    by true r = refl
-    by false r = r
-
 -- ---- the lines after an entry
 
 line_stays : (messages : List (List ℕ)) (H K : List Mark) (l : ℕ) (x : Line) → peer_on l K ≡ peer_on l H → code (bodies l K) ≡ code (bodies l H) → IsLine messages H l x → IsLine messages K l x
@@ -243,7 +234,7 @@ module _ (H K : List Mark) (q : IsProper H) (n : IsProper K) (b : Body) (says : 
       by true e = let lt = ltb-true m m e in absurd (omega (arith, lt))
 
   risen_here : (l : ℕ) (t : Bool) → has_risen sent count_of l ≡ t → list_any (eqb l) (risen_of sent count_of (lives H)) ≡ (is_some (life l H) && t)
-  risen_here l t e = risen_any sent count_of l (lives H) ∙ (λ i. any_known l (lives H) i && e i)
+  risen_here l t e = risen_any sent count_of l (lives H) ∙ (λ i. any_found (λ (v : Life). v.link) l (lives H) i && e i)
 
   pub lines_said : (messages : List (List ℕ)) (octets : List ℕ) → octets ≡ octets_of b → (xs : List Line) → ArePut H messages xs
       → ArePut K (messages ++ octets ∷ []) (all_noted (length messages) xs (risen_of sent count_of (lives H)))

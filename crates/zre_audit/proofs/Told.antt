@@ -21,12 +21,12 @@ use Rattle.zre_peer.specs.declared.event.Event.TheVariants as event
 use Rattle.zre_values.specs.declared.settings.Settings.{Settings as Config}
 use Rattle.zre_journal.specs.Chronicle.{Mark, TurnsAway, Starts, Counts, Ignores, Closes, Born, Ends, IsEvasive, Refuses, Stops, each, followed}
 use Rattle.zre_journal.specs.Connections.{is_same}
-use Rattle.zre_journal.specs.Peers.{Life, lives, life, life_of, births, runner, is_entered, counted, view}
+use Rattle.zre_journal.specs.Peers.{Life, lives, life, births, runner, is_entered, counted, view}
 use Rattle.zre_journal.specs.Told.{told_in, told_at, by_message, exit, becoming_evasive}
 use Rattle.zre_journal.specs.Events.{events, chronicle}
 use Rattle.zre_journal.specs.Proper.{IsProper}
 use Rattle.zre_journal.proofs.Always.{always}
-use Rattle.zre_journal.proofs.Few.{AreNamed, named_more, at_end, AtEnd, Front, Back, another}
+use Rattle.zre_journal.proofs.Few.{AreNamed, named_more, at_end, AtEnd, Front, Back, another, ids_apart}
 use Rattle.zre_journal.proofs.Silent.{known_lives, run_known, run_is}
 use Rattle.zre_journal.proofs.Known.{same_id, life_stays}
 use Rattle.zre_journal.proofs.Listed.{some_is, eqb-comm}
@@ -194,18 +194,6 @@ module _ (H : List Mark) (q : IsProper H) (o : IsTold H) where
   of_other : (l : ℕ) (w : Life) (p : PeerId) → life l H ≡ Some w → bytes_eq p.0 w.id.0 ≡ false → Lacks l (runs_of p H)
   of_other l w p e n = lacks-kept l (λ k. is_same p (peer_on k H)) (each run_at H) (ap (is_same p) (o.living l w e) ∙ n)
 
-  -- peers on two links have two ids
-  apart : (l k : ℕ) (v w : Life) → life l H ≡ Some v → life k H ≡ Some w → eqb l k ≡ false → bytes_eq v.id.0 w.id.0 ≡ false
-  apart l k v w e f far = by (bytes_eq v.id.0 w.id.0) refl
-    where
-      by : (b : Bool) → bytes_eq v.id.0 w.id.0 ≡ b → b ≡ false
-      by false s = refl
-      by true s =
-          let z : Some v ≡ Some w = sym (o.are_named l v e) ∙ ap (λ (i : PeerId). life_of i H) (sym (same_id v.id w.id s)) ∙ o.are_named k w f in
-          let same : v ≡ w = cc in
-          let link : l ≡ k = (known_lives H q l v e).2 ∙ ap (λ (x : Life). x.link) same ∙ sym (known_lives H q k w f).2 in
-          absurd (true≢false (sym (eq-eqb l k link) ∙ far))
-
   still : (p : PeerId) (es : List Event) (h : Mark) → told_at h H ≡ es → ((xs : List (List ℕ)) → runs_after p.0 xs es ≡ xs) → runs_after p.0 [] (told_in (h ∷ H)) ≡ rows p H
   still p es h e f = fold-append (runs_with p.0) [] (told_in H) (told_at h H) ∙ ap (λ fs. runs_after p.0 (runs_after p.0 [] (told_in H)) fs) e ∙ f (runs_after p.0 [] (told_in H)) ∙ o.tells p
 
@@ -268,7 +256,7 @@ module _ (H : List Mark) (q : IsProper H) (o : IsTold H) where
         by false s =
             let older : runner k H ≡ Some d = sym (ap (λ t. option_or (cond t (Some c) None) (runner k H)) s) ∙ r in
             let w = o.last d k v e older in
-            let off : bytes_eq v.id.0 y.who.id.0 ≡ false = apart k l v y.who e y.known s in
+            let off : bytes_eq v.id.0 y.who.id.0 ≡ false = ids_apart H q o.are_named k l v y.who e y.known s in
             record {
               others = w.others;
               parts = start_runs v.id ∙ ap (λ t. runs_of v.id H ++ cond t (l ∷ []) []) off ∙ append-nil (runs_of v.id H) ∙ w.parts;

@@ -12,7 +12,7 @@ use Rattle.zre_node.specs.Asked.{sent_after, waiting_after, links_after}
 use Rattle.std.specs.Option.{option_map}
 use Rattle.zre_journal.specs.Links.{bodies, text, taken}
 use Rattle.zre_journal.specs.Peers.{Life, lives, life}
-use Rattle.zre_journal.proofs.Listed.{eqb-comm}
+use Rattle.zre_journal.proofs.Listed.{eqb-comm, any_found}
 use Rattle.zre_net.specs.declared.running.lines.Line.{Line}
 use Rattle.zre_net.specs.Lists.{nth}
 use Rattle.zre_net.specs.Lines.{IsNoted, IsNotedAt}
@@ -115,18 +115,12 @@ module _ (g : Config) (K : List Mark) where
   pub all_looked : (xs ys : List Line) → Progress (map (λ (v : Life). v.link) (lives K)) xs ys → IsLooked g K xs ys
   all_looked xs ys p = record {
     count = p.count;
-    seen = λ l s. p.seen l (same l (lives K) ∙ s);
-    others = λ l n. p.others l (same l (lives K) ∙ ap is_some n);
+    seen = λ l s. p.seen l (known l ∙ s);
+    others = λ l n. p.others l (known l ∙ ap is_some n);
   }
     where
-      same : (l : ℕ) (vs : List Life) → list_any (eqb l) (map (λ (v : Life). v.link) vs) ≡ is_some (find (λ (v : Life). eqb l v.link) vs)
-      same l [] = refl
-      same l (v ∷ vs) = by (eqb l v.link) (same l vs)
-        where
-          by : (b : Bool) → list_any (eqb l) (map (λ (u : Life). u.link) vs) ≡ is_some (find (λ (u : Life). eqb l u.link) vs)
-              → (b || list_any (eqb l) (map (λ (u : Life). u.link) vs)) ≡ is_some (cond b (Some v) (find (λ (u : Life). eqb l u.link) vs))
-          by true r = refl
-          by false r = r
+      known : (l : ℕ) → list_any (eqb l) (map (λ (v : Life). v.link) (lives K)) ≡ is_some (life l K)
+      known l = any_found (λ (v : Life). v.link) l (lives K)
 
 -- ---- what a node answers of a link
 

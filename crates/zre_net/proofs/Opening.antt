@@ -21,7 +21,7 @@ use Rattle.zre_net.specs.Running.{AreNodes, IsConn, HasConn, StandsAfter, AreSta
 use Rattle.zre_net.proofs.Connecting.{known_later, conn_still, silent_more}
 use Rattle.zre_net.proofs.Hearing.{fits_new}
 use Rattle.zre_net.proofs.Listing.{some_one, nth_more, nth_last, nth_cases}
-use Rattle.zre_net.proofs.Plays.{open_still, played, runs_there, Runs, not_running, link_found, IsLinkFound, no_link}
+use Rattle.zre_net.proofs.Plays.{still, played, runs_there, Runs, not_running, link_found, IsLinkFound, no_link}
 use Rattle.zre_net.proofs.Journals.{chronicle_now, length-last}
 use Rattle.zre_net.proofs.Pending.{no_pending}
 
@@ -41,9 +41,9 @@ module _ (H : List Happening) (g n at : ℕ) (net new : Network) (s : StandsAfte
     new_conn : IsConn N c y
     new_conn = record {
       to = to;
-      to_known = known_later H (move.Open g n at) (open_still g n at) a at (input.Opened x) known a known;
+      to_known = known_later H (move.Open g n at) (still (move.Open g n at) tt) a at (input.Opened x) known a known;
       along = along;
-      along_known = known_later H (move.Open g n at) (open_still g n at) a at (input.Opened x) known r.from r_known;
+      along_known = known_later H (move.Open g n at) (still (move.Open g n at) tt) a at (input.Opened x) known r.from r_known;
       waits = waiting ∙ sym (no_pending (length (conns H) + 1) H (omega arith));
       fits = subst (λ K. Fits a.settings (length (conns H) + 1) K y.ear) (sym (chronicle_now H (move.Open g n at) a at (input.Opened x)))
           (fits_new a.settings (journal a H) (turn_of a at (input.Opened x)).entry (length (conns H) + 1) y.ear (ap (λ k. input.Opened k) next) (s.conns_are.silent a known (length (conns H) + 1) (omega arith)) ear);
@@ -54,7 +54,7 @@ module _ (H : List Happening) (g n at : ℕ) (net new : Network) (s : StandsAfte
       where
         by : (nth k (conns H) ≡ Some d) ⊎ ((k ≡ length (conns H) + 1) × (d ≡ c)) → HasConn N k d new.conns.items
         by (inl z) =
-            conn_still H (move.Open g n at) (open_still g n at) a at (input.Opened x) known k d net.conns.items new.conns.items (λ w t. ap (nth k) rows ∙ nth_more k net.conns.items (y ∷ []) w t) refl refl (s.conns_are.each k d z)
+            conn_still H (move.Open g n at) (still (move.Open g n at) tt) a at (input.Opened x) known k d net.conns.items new.conns.items (λ w t. ap (nth k) rows ∙ nth_more k net.conns.items (y ∷ []) w t) refl refl (s.conns_are.each k d z)
         by (inr z) = record {
           number = ap (λ (w : Conn). w.number) z.1 ∙ sym z.0;
           row = y;
@@ -68,7 +68,7 @@ module _ (H : List Happening) (g n at : ℕ) (net new : Network) (s : StandsAfte
       conns_are = record {
         count = let e = ap (λ xs. length xs) rows in let l = length-last net.conns.items y in let f = ap (λ xs. length xs) opened in let m = length-last (conns H) c in let q = s.conns_are.count in omega (arith, e, l, f, m, q);
         each = each;
-        silent = λ b k z q. silent_more H (move.Open g n at) (open_still g n at) a at (input.Opened x) known z refl
+        silent = λ b k z q. silent_more H (move.Open g n at) (still (move.Open g n at) tt) a at (input.Opened x) known z refl
             (λ d l. s.conns_are.silent d l z (let f = ap (λ xs. length xs) opened in let m = length-last (conns H) c in omega (arith, f, m, q))) b k;
       };
       pending_is =

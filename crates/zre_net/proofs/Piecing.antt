@@ -1,9 +1,9 @@
 -- Octets of a connection come, part by part.
-use Rattle.std.proofs.Common.{◌≡◌, ◌⊎◌, ℕ, zero, suc, ◌+◌, ◌-◌, ◌≤◌, ◌<◌, max, Bool, true, false, cond, not, ◌&&◌, eqb, ltb, leb, List, [], ◌∷◌, ◌++◌, length, map, take, drop, Option, Some, None, refl, sym, ap, ◌∙◌, subst, arith, eqb-true, eq-eqb, ltb-true, ltb-false, leb-true, leb-false, append_assoc, append-nil}
+use Rattle.std.proofs.Common.{◌≡◌, ◌⊎◌, ℕ, zero, suc, ◌+◌, ◌-◌, ◌≤◌, ◌<◌, max, Bool, true, false, cond, ◌&&◌, eqb, ltb, leb, List, [], ◌∷◌, ◌++◌, length, map, take, drop, Option, Some, None, refl, sym, ap, ◌∙◌, subst, arith, eqb-true, eq-eqb, ltb-true, ltb-false, leb-true, leb-false, append_assoc}
 use Rattle.std.specs.Prelude.{slice_get, slice_set, sum_by, option_map}
 use Rattle.std.specs.List.{filter_map, AllByRecursion}
-use Rattle.std.proofs.lemmas.List.{append_cancel_left, length-drop, map-append}
-use Rattle.std.proofs.lemmas.List.Elements.{filter-append, filter_map-append}
+use Rattle.std.proofs.lemmas.List.{length-drop, map-append}
+use Rattle.std.proofs.lemmas.List.Elements.{filter_map-append}
 use Rattle.zre_outside.specs.declared.act.Act.{Act}
 use Rattle.zre_outside.specs.declared.act.Act.TheVariants as act
 use Rattle.zre_outside.specs.declared.entry.Entry.{Entry}
@@ -13,13 +13,13 @@ use Rattle.zre_mailbox.specs.Conn.{conn_after}
 use Rattle.zre_values.specs.declared.settings.Settings.{Settings as Config}
 use Rattle.zre_journal.specs.Chronicle.{Mark, Comes, followed}
 use Rattle.zre_journal.specs.Connections.{is_new}
-use Rattle.zre_journal.specs.Cutting.{is_offer, but_offers, piece, IsSameCut}
+use Rattle.zre_journal.specs.Cutting.{but_offers, piece}
 use Rattle.zre_journal.specs.Done.{acts_at}
-use Rattle.zre_journal.specs.Events.{chronicle, events, acts, events_at}
+use Rattle.zre_journal.specs.Events.{chronicle, events_at}
 use Rattle.zre_journal.specs.Happens.{has_stopped, is_stop, with_entry}
 use Rattle.zre_journal.specs.Heard.{bytes, was_opened, opens, piece_of}
 use Rattle.zre_journal.proofs.Alike.{through, ever_but}
-use Rattle.zre_journal.proofs.Cutting.{same_cut}
+use Rattle.zre_journal.proofs.Cutting.{same_cut, events_twice, acts_twice}
 use Rattle.zre_journal.proofs.Joined.{continues}
 use Rattle.zre_net.specs.declared.moves.Move.TheVariants as move
 use Rattle.zre_net.specs.declared.running.ear.Ear.{Ear}
@@ -39,11 +39,11 @@ use Rattle.zre_net.specs.Sending.{HasSent}
 use Rattle.zre_net.proofs.Connecting.{known_later, conn_still, silent_more}
 use Rattle.zre_net.proofs.Cut.{has_sent_whole}
 use Rattle.zre_net.proofs.Hearing.{fits_piece, completes_few}
-use Rattle.zre_net.proofs.Listing.{some_one, in_reach, nth_at, nth_same, nth_other, set_length, sum_set, all_map, past_all}
-use Rattle.zre_net.proofs.Plays.{piece_still, played, not_received, received}
+use Rattle.zre_net.proofs.Listing.{some_one, nth_at, set_length, sum_set, all_map, past_all}
+use Rattle.zre_net.proofs.Plays.{still, played, not_received, received}
 use Rattle.zre_net.proofs.Same.{new_but, sim, Sim}
 use Rattle.zre_net.proofs.Journals.{chronicle_now, same_who}
-use Rattle.zre_net.proofs.Staying.{start_stays, conn_stays, finds_stays}
+use Rattle.zre_net.proofs.Staying.{rows_set, start_stays, conn_stays, finds_stays}
 
 -- ---- some octets come
 
@@ -81,32 +81,23 @@ module _ (H : List Happening) (x place most at : ℕ) (net : Network) (s : Stand
     not_its y z = ap (λ t. cond t b []) z
 
     conns_now : (y : ℕ) (d : Conn) → nth y (conns H) ≡ Some d → HasConn N y d new.conns.items
-    conns_now y d e = by (eqb y x) refl
+    conns_now = rows_set (λ (d : Conn). d.number) (IsConn H) (IsConn N) (conns H) x place net.conns.items new.conns.items was now under before rows (λ d e m r. subst (λ w. IsConn N w now) (some_one (sym there ∙ e)) mine)
+        (λ y d z t h.
+        let far : eqb d.number x ≡ false = ap (λ j. eqb j x) h.number ∙ z in
+        conn_still H (move.Piece x (length b) at) (still (move.Piece x (length b) at) tt) c.to at (input.Piece x b) is.to_known y d net.conns.items new.conns.items t
+        (not_its d.number far) (ap (λ t. cond t (drop (length b) (pending d.number H)) (pending d.number H)) far) h)
+        s.conns_are.each
       where
-        h : HasConn H y d net.conns.items
-        h = s.conns_are.each y d e
-
-        by : (t : Bool) → eqb y x ≡ t → HasConn N y d new.conns.items
-        by true z =
-            let same : x ≡ y = sym (eqb-true y x z) in
-            let who : c ≡ d = some_one (sym there ∙ ap (λ j. nth j (conns H)) same ∙ e) in record {
-              number = h.number;
-              row = now;
-              there = ap (nth y) rows ∙ nth_same y place net.conns.items now (sym same ∙ under) (in_reach net.conns.items place was before);
-              is = subst (λ w. IsConn N w now) who (record {
-                to = heard.to ∙ is.to;
-                to_known = known_later H (move.Piece x (length b) at) (piece_still x (length b) at) c.to at (input.Piece x b) is.to_known c.to is.to_known;
-                along = heard.along ∙ is.along;
-                along_known = known_later H (move.Piece x (length b) at) (piece_still x (length b) at) c.to at (input.Piece x b) is.to_known c.along.from is.along_known;
-                waits = heard.waiting ∙ ap (drop (length b)) is.waits ∙ sym (ap (λ t. cond t (drop (length b) (pending c.number H)) (pending c.number H)) (eq-eqb c.number x its.number));
-                fits = subst (λ K. Fits c.to.settings c.number K now.ear) (sym (chronicle_now H (move.Piece x (length b) at) c.to at (input.Piece x b)))
-                    (fits_piece c.to.settings (journal c.to H) T.entry c.number b was.ear now.ear (ap (λ k. input.Piece k b) (sym its.number)) (λ o e. (heard.ear c.to.settings.id o e).1) is.fits);
-              });
-            }
-        by false z =
-            let far : eqb d.number x ≡ false = ap (λ j. eqb j x) h.number ∙ z in
-            conn_still H (move.Piece x (length b) at) (piece_still x (length b) at) c.to at (input.Piece x b) is.to_known y d net.conns.items new.conns.items
-            (λ r t. ap (nth y) rows ∙ nth_other x place y net.conns.items now under z ∙ t) (not_its d.number far) (ap (λ t. cond t (drop (length b) (pending d.number H)) (pending d.number H)) far) h
+        mine : IsConn N c now
+        mine = record {
+          to = heard.to ∙ is.to;
+          to_known = known_later H (move.Piece x (length b) at) (still (move.Piece x (length b) at) tt) c.to at (input.Piece x b) is.to_known c.to is.to_known;
+          along = heard.along ∙ is.along;
+          along_known = known_later H (move.Piece x (length b) at) (still (move.Piece x (length b) at) tt) c.to at (input.Piece x b) is.to_known c.along.from is.along_known;
+          waits = heard.waiting ∙ ap (drop (length b)) is.waits ∙ sym (ap (λ t. cond t (drop (length b) (pending c.number H)) (pending c.number H)) (eq-eqb c.number x its.number));
+          fits = subst (λ K. Fits c.to.settings c.number K now.ear) (sym (chronicle_now H (move.Piece x (length b) at) c.to at (input.Piece x b)))
+              (fits_piece c.to.settings (journal c.to H) T.entry c.number b was.ear now.ear (ap (λ k. input.Piece k b) (sym its.number)) (λ o e. (heard.ear c.to.settings.id o e).1) is.fits);
+        }
 
     piece_stands : StandsAfter N new
     piece_stands = record {
@@ -114,7 +105,7 @@ module _ (H : List Happening) (x place most at : ℕ) (net : Network) (s : Stand
       conns_are = record {
         count = ap (λ xs. length xs) rows ∙ set_length net.conns.items place now ∙ s.conns_are.count;
         each = conns_now;
-        silent = λ d k y z. silent_more H (move.Piece x (length b) at) (piece_still x (length b) at) c.to at (input.Piece x b) is.to_known y (not_its y (past_all x (conns H) c there y z)) (λ w l. s.conns_are.silent w l y z) d k;
+        silent = λ d k y z. silent_more H (move.Piece x (length b) at) (still (move.Piece x (length b) at) tt) c.to at (input.Piece x b) is.to_known y (not_its y (past_all x (conns H) c there y z)) (λ w l. s.conns_are.silent w l y z) d k;
       };
       pending_is =
           let f = sum_set (λ (y : Carrier). length y.waiting) net.conns.items place was now before in
@@ -157,37 +148,6 @@ but_connects a (act.Connect l to ∷ xs) = ap (λ ys. record { from = a; link = 
 but_connects a (act.CloseLink l ∷ xs) = but_connects a xs
 but_connects a (act.CloseConn k ∷ xs) = but_connects a xs
 but_connects a (act.Answer k o ∷ xs) = but_connects a xs
-
-module _ (g : Config) (J : List Entry) (at x : ℕ) (a b : List ℕ) where
-  abbrev K : List Mark
-  K = chronicle g J
-
-  abbrev one : Entry
-  one = piece at x a
-
-  abbrev two : Entry
-  two = piece at x b
-
-  abbrev whole : Entry
-  whole = piece at x (a ++ b)
-
-  cut : IsSameCut g J at x a b
-  cut = same_cut g J at x a b
-
-  twice : events_at g one K ++ events_at g two (with_entry g one K) ≡ events_at g whole K
-  twice =
-      let p = append_cancel_left (events g J) (events_at g one K ++ (events_at g two (with_entry g one K) ++ [])) (events_at g whole K ++ []) (sym (continues g J (one ∷ two ∷ [])).told ∙ cut.told ∙ (continues g J (whole ∷ [])).told) in
-      ap (λ es. events_at g one K ++ es) (sym (append-nil (events_at g two (with_entry g one K)))) ∙ p ∙ append-nil (events_at g whole K)
-
-  offers-both : (xs ys : List Act) → but_offers (xs ++ ys) ≡ but_offers xs ++ but_offers ys
-  offers-both xs ys = filter-append (λ z. not (is_offer z)) xs ys
-
-  both_done : but_offers (acts_at g one K ++ acts_at g two (with_entry g one K)) ≡ but_offers (acts_at g whole K)
-  both_done =
-      let l = ap but_offers (continues g J (one ∷ two ∷ [])).done ∙ offers-both (acts g J) (acts_at g one K ++ (acts_at g two (with_entry g one K) ++ [])) in
-      let r = ap but_offers (continues g J (whole ∷ [])).done ∙ offers-both (acts g J) (acts_at g whole K ++ []) in
-      let p = append_cancel_left (but_offers (acts g J)) (but_offers (acts_at g one K ++ (acts_at g two (with_entry g one K) ++ []))) (but_offers (acts_at g whole K ++ [])) (sym l ∙ cut.done ∙ r) in
-      ap (λ xs. but_offers (acts_at g one K ++ xs)) (sym (append-nil (acts_at g two (with_entry g one K)))) ∙ p ∙ ap but_offers (append-nil (acts_at g whole K))
 
 module _ (H : List Happening) (x i j at : ℕ) (w : Incarnation) (known : IsKnown H w) (a b : List ℕ) where
   abbrev t : ℕ
@@ -259,7 +219,7 @@ module _ (H : List Happening) (x i j at : ℕ) (w : Incarnation) (known : IsKnow
     said_same =
         ap (λ K. (said_in H ++ map (λ e. (w.node, e)) (events_at G (piece t x a) (chronicle_of w H))) ++ map (λ e. (w.node, e)) (events_at G (piece t x b) K)) chronicle_one
         ∙ append_assoc (said_in H) (map (λ e. (w.node, e)) (events_at G (piece t x a) (chronicle_of w H))) (map (λ e. (w.node, e)) (events_at G (piece t x b) (with_entry G (piece t x a) (chronicle_of w H))))
-        ∙ ap (λ es. said_in H ++ es) (sym (map-append (λ (e : Event). (w.node, e)) (events_at G (piece t x a) (chronicle_of w H)) (events_at G (piece t x b) (with_entry G (piece t x a) (chronicle_of w H)))) ∙ ap (λ es. map (λ (e : Event). (w.node, e)) es) (twice G I t x a b))
+        ∙ ap (λ es. said_in H ++ es) (sym (map-append (λ (e : Event). (w.node, e)) (events_at G (piece t x a) (chronicle_of w H)) (events_at G (piece t x b) (with_entry G (piece t x a) (chronicle_of w H)))) ∙ ap (λ es. map (λ (e : Event). (w.node, e)) es) (events_twice G I t x a b))
 
     acts_same : {C : Type 0} (f : Act → Option C) (base : List C) → ((xs : List Act) → filter_map f (but_offers xs) ≡ filter_map f xs)
         → (base ++ filter_map f (acts_at G (piece t x a) (chronicle_of w H))) ++ filter_map f (acts_at G (piece t x b) (chronicle_of w H1)) ≡ base ++ filter_map f (acts_at G (piece t x (a ++ b)) (chronicle_of w H))
@@ -268,7 +228,7 @@ module _ (H : List Happening) (x i j at : ℕ) (w : Incarnation) (known : IsKnow
         let ys = acts_at G (piece t x b) (with_entry G (piece t x a) (chronicle_of w H)) in
         ap (λ K. (base ++ filter_map f xs) ++ filter_map f (acts_at G (piece t x b) K)) chronicle_one
         ∙ append_assoc base (filter_map f xs) (filter_map f ys)
-        ∙ ap (λ zs. base ++ zs) (sym (filter_map-append f xs ys) ∙ sym (but (xs ++ ys)) ∙ ap (filter_map f) (both_done G I t x a b) ∙ but (acts_at G (piece t x (a ++ b)) (chronicle_of w H)))
+        ∙ ap (λ zs. base ++ zs) (sym (filter_map-append f xs ys) ∙ sym (but (xs ++ ys)) ∙ ap (filter_map f) (acts_twice G I t x a b) ∙ but (acts_at G (piece t x (a ++ b)) (chronicle_of w H)))
 
     broadcasts_same : broadcasts H2 ≡ broadcasts W
     broadcasts_same = acts_same (broadcast_in w) (broadcasts H) (but_sends w)

@@ -1,7 +1,6 @@
 -- Moves that bring an entry to a node: what they find, and what stands after them.
 use Rattle.std.proofs.Common.{◌≡◌, ℕ, Bool, true, false, cond, ◌&&◌, eqb, List, ◌∷◌, map, Option, Some, None, is_some, refl, sym, ap, ◌∙◌, subst, true≢false, arith}
 use Rattle.std.specs.Prelude.{option_map}
-use Rattle.zre_outside.specs.declared.entry.Command.{Command}
 use Rattle.zre_outside.specs.declared.entry.Input.{Input}
 use Rattle.zre_outside.specs.declared.entry.Input.TheVariants as input
 use Rattle.zre_net.specs.declared.moves.Move.{Move}
@@ -16,65 +15,33 @@ use Rattle.zre_net.specs.History.{Incarnation, Happening, Happens, IsKnown, inca
 use Rattle.zre_net.specs.Lists.{nth}
 use Rattle.zre_net.specs.Numbers.{Broadcast, Route, Conn, broadcasts, routes, conns}
 use Rattle.zre_net.specs.Rows.{running_at, is_at, same_number}
-use Rattle.zre_net.specs.Running.{Finds, AreNodes, HasStarted, IsConn, StandsAfter, IsStill, IsKept, IsPlayed, Receives, Sends, sent_of, way_of}
+use Rattle.zre_net.specs.Running.{Finds, AreNodes, HasStarted, IsConn, StandsAfter, IsStill, IsKept, IsPlayed, Names, Receives, Sends, sent_of, way_of}
 use Rattle.zre_net.proofs.Listing.{some_one, nth_map, nth_reach, nth_first, nth_there, all_at}
 use Rattle.zre_journal.proofs.Listed.{eqb-comm}
 
 -- ---- moves that start and end no node, and that do nothing with connections
 
-pub tick_still : (n at : ℕ) → IsStill (move.Tick n at)
-tick_still n at = record { incarnations_stay = λ t H. refl; running_stay = λ t H k. refl }
+abbrev pub LeavesNodes : Move → Type 0
+LeavesNodes (move.Start n at id name host port) = ⊥
+LeavesNodes (move.Crash n) = ⊥
+LeavesNodes _ = Unit {0}
 
-pub tick_kept : (n at : ℕ) → IsKept (move.Tick n at)
-tick_kept n at = record { conns_stay = λ t H. refl; pending_stay = λ t H x. refl }
+pub still : (m : Move) → LeavesNodes m → IsStill m
+still (move.Start n at id name host port) z = absurd z
+still (move.Crash n) z = absurd z
+still _ z = record { incarnations_stay = λ t H. refl; running_stay = λ t H k. refl }
 
-pub do_still : (n at : ℕ) (c : Command) → IsStill (move.Do n at c)
-do_still n at c = record { incarnations_stay = λ t H. refl; running_stay = λ t H k. refl }
+abbrev pub LeavesConns : Move → Type 0
+LeavesConns (move.Open g n at) = ⊥
+LeavesConns (move.Carry x p) = ⊥
+LeavesConns (move.Piece x count at) = ⊥
+LeavesConns _ = Unit {0}
 
-pub do_kept : (n at : ℕ) (c : Command) → IsKept (move.Do n at c)
-do_kept n at c = record { conns_stay = λ t H. refl; pending_stay = λ t H x. refl }
-
-pub beacon_still : (k n at : ℕ) → IsStill (move.Beacon k n at)
-beacon_still k n at = record { incarnations_stay = λ t H. refl; running_stay = λ t H j. refl }
-
-pub beacon_kept : (k n at : ℕ) → IsKept (move.Beacon k n at)
-beacon_kept k n at = record { conns_stay = λ t H. refl; pending_stay = λ t H x. refl }
-
-pub open_still : (g n at : ℕ) → IsStill (move.Open g n at)
-open_still g n at = record { incarnations_stay = λ t H. refl; running_stay = λ t H j. refl }
-
-pub piece_still : (x count at : ℕ) → IsStill (move.Piece x count at)
-piece_still x count at = record { incarnations_stay = λ t H. refl; running_stay = λ t H j. refl }
-
-pub shut_still : (x at : ℕ) → IsStill (move.Shut x at)
-shut_still x at = record { incarnations_stay = λ t H. refl; running_stay = λ t H j. refl }
-
-pub shut_kept : (x at : ℕ) → IsKept (move.Shut x at)
-shut_kept x at = record { conns_stay = λ t H. refl; pending_stay = λ t H y. refl }
-
-pub linked_still : (g at : ℕ) → IsStill (move.Linked g at)
-linked_still g at = record { incarnations_stay = λ t H. refl; running_stay = λ t H j. refl }
-
-pub linked_kept : (g at : ℕ) → IsKept (move.Linked g at)
-linked_kept g at = record { conns_stay = λ t H. refl; pending_stay = λ t H x. refl }
-
-pub unlinked_still : (g at : ℕ) → IsStill (move.Unlinked g at)
-unlinked_still g at = record { incarnations_stay = λ t H. refl; running_stay = λ t H j. refl }
-
-pub unlinked_kept : (g at : ℕ) → IsKept (move.Unlinked g at)
-unlinked_kept g at = record { conns_stay = λ t H. refl; pending_stay = λ t H x. refl }
-
-pub reply_still : (g at : ℕ) (o : List ℕ) → IsStill (move.Reply g at o)
-reply_still g at o = record { incarnations_stay = λ t H. refl; running_stay = λ t H j. refl }
-
-pub reply_kept : (g at : ℕ) (o : List ℕ) → IsKept (move.Reply g at o)
-reply_kept g at o = record { conns_stay = λ t H. refl; pending_stay = λ t H x. refl }
-
-pub took_still : (g count at : ℕ) → IsStill (move.Took g count at)
-took_still g count at = record { incarnations_stay = λ t H. refl; running_stay = λ t H j. refl }
-
-pub took_kept : (g count at : ℕ) → IsKept (move.Took g count at)
-took_kept g count at = record { conns_stay = λ t H. refl; pending_stay = λ t H x. refl }
+pub kept : (m : Move) → LeavesConns m → IsKept m
+kept (move.Open g n at) z = absurd z
+kept (move.Carry x p) z = absurd z
+kept (move.Piece x count at) z = absurd z
+kept _ z = record { conns_stay = λ t H. refl; pending_stay = λ t H x. refl }
 
 -- ---- a move that may not come
 
@@ -133,6 +100,13 @@ module _ (H : List Happening) (net : Network) (nodes : AreNodes H net) (a : Inca
   pub there_same : is_at a.number (nth a.number net.started.items) net.running.items ≡ is_there H a
   there_same = ap (λ o. is_at a.number o net.running.items) row.there ∙ ap (λ n. same_number a.number (running_at n net.running.items)) row.is.node ∙ there_by (running a.node H) (running_at a.node net.running.items) (nodes.runs a.node)
 
+-- ---- what a number names
+
+-- where nothing is found, nothing of a node that runs is named
+not_named : {A B : Type 0} (of : A → Incarnation) (value : A → B) (H : List Happening) (o : Option A) → Names of value H o None → passes (λ x. is_there H (of x)) o ≡ false
+not_named of value H None r = refl
+not_named of value H (Some x) r = sym r.0
+
 -- ---- what a number of a connection names
 
 pub record IsFound (H : List Happening) (x : ℕ) (y : Carrier) : Type 0 where
@@ -180,10 +154,6 @@ receives_gone H net s x y e z = receives_by H net s x y e false z
 pub not_received : (H : List Happening) (test : Conn → Bool) (o : Option Conn) → Receives H o None → passes (λ (c : Conn). is_there H c.to && test c) o ≡ false
 not_received H test None r = refl
 not_received H test (Some c) r = ap (λ b. b && test c) (sym r.0)
-
-pub not_there : (H : List Happening) (o : Option Conn) → Receives H o None → passes (λ (c : Conn). is_there H c.to) o ≡ false
-not_there H None r = refl
-not_there H (Some c) r = sym r.0
 
 pub record IsReceived (H : List Happening) (k : ℕ) (o : Option Conn) : Type 0 where
   pub conn : Conn
@@ -250,10 +220,6 @@ sends_some H net s g w e z = sends_by H net s g w e true z
 pub sends_gone : (H : List Happening) (net : Network) → StandsAfter H net → (g : ℕ) (w : Way) → nth g net.links ≡ Some w → is_at w.start (nth w.start net.started.items) net.running.items ≡ false → Sends H (nth g (routes H)) None
 sends_gone H net s g w e z = sends_by H net s g w e false z
 
-pub not_sent : (H : List Happening) (o : Option Route) → Sends H o None → passes (λ (s : Route). is_there H s.from) o ≡ false
-not_sent H None r = refl
-not_sent H (Some s) r = sym r.0
-
 pub record IsSender (H : List Happening) (w : Way) (o : Option Route) : Type 0 where
   pub route : Route
   pub is : o ≡ Some route
@@ -272,7 +238,7 @@ at_its_link H m i at l new s o e q z = subst (λ r. StandsAfter (Happens m (opti
 -- ---- moves about links
 
 pub link_refused : (m : Move) (H : List Happening) (g : ℕ) (new : Network) → may_come m H ≡ passes (λ (s : Route). is_there H s.from) (nth g (routes H)) → Sends H (nth g (routes H)) None → IsPlayed m H false new
-link_refused m H g new may r = refused m H new (may ∙ not_sent H (nth g (routes H)) r)
+link_refused m H g new may r = refused m H new (may ∙ not_named (λ (s : Route). s.from) way_of H (nth g (routes H)) r)
 
 pub link_played : (H : List Happening) (m : Move) (i : ℕ → Input) (g at : ℕ) (w : Way) (new : Network) → may_come m H ≡ passes (λ (s : Route). is_there H s.from) (nth g (routes H))
     → turn m H ≡ option_map (λ (r : Route). turn_of r.from at (i r.link)) (nth g (routes H)) → Sends H (nth g (routes H)) (Some w)
@@ -316,7 +282,7 @@ hears H net new k n l at w s e q f = by (nth k (broadcasts H)) refl
 -- ---- a connection that closes
 
 pub shut_gone : (H : List Happening) (x at : ℕ) (new : Network) → Receives H (nth x (conns H)) None → IsPlayed (move.Shut x at) H false new
-shut_gone H x at new r = refused (move.Shut x at) H new (not_there H (nth x (conns H)) r)
+shut_gone H x at new r = refused (move.Shut x at) H new (not_named (λ (c : Conn). c.to) (λ (c : Conn). c.to.number) H (nth x (conns H)) r)
 
 pub shut_played : (H : List Happening) (x at k : ℕ) (new : Network) → Receives H (nth x (conns H)) (Some k)
     → ((a : Incarnation) → nth k (incarnations H) ≡ Some a → StandsAfter (Happens (move.Shut x at) (Some (turn_of a at (input.Shut x))) ∷ H) new) → IsPlayed (move.Shut x at) H true new

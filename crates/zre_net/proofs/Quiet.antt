@@ -1,5 +1,5 @@
 -- Moves that bring no entry: a node is gone, and a connection is made to carry more.
-use Rattle.std.proofs.Common.{◌≡◌, ℕ, ◌+◌, Bool, true, false, cond, eqb, List, [], ◌∷◌, ◌++◌, length, Option, Some, None, is_some, refl, sym, ap, ◌∙◌, subst, arith, eqb-true, eq-eqb, length-append}
+use Rattle.std.proofs.Common.{◌≡◌, ℕ, ◌+◌, Bool, true, false, cond, eqb, List, [], ◌∷◌, ◌++◌, length, Option, Some, None, is_some, refl, sym, ap, ◌∙◌, subst, arith, eq-eqb, length-append}
 use Rattle.std.specs.Prelude.{slice_get, slice_set, sum_by}
 use Rattle.std.specs.Option.{option_map, option_map_or}
 use Rattle.zre_zmtp.specs.declared.writing.SocketType.TheVariants as socket
@@ -22,8 +22,8 @@ use Rattle.zre_net.specs.Numbers.{Route, Conn, routes, conns, queued_on}
 use Rattle.zre_net.specs.Rows.{running_at, with_running, HasStopped, part_octets, IsSpelledAt, IsLoaded, Fits}
 use Rattle.zre_net.specs.Running.{IsStarted, HasStarted, AreStarted, Finds, AreNodes, IsConn, HasConn, AreConns, StandsAfter, IsPlayed}
 use Rattle.zre_net.proofs.Plays.{played, not_running, runs_there, conn_found, conn_missing, IsFound}
-use Rattle.zre_net.proofs.Listing.{some_one, in_reach, nth_at, nth_same, nth_other, nth_map, set_length, sum_set, all_map}
-use Rattle.zre_net.proofs.Staying.{start_stays, conn_stays, finds_stays}
+use Rattle.zre_net.proofs.Listing.{some_one, nth_map, set_length, sum_set, all_map}
+use Rattle.zre_net.proofs.Staying.{rows_set, start_stays, conn_stays, finds_stays}
 
 -- ---- a node is gone
 
@@ -35,22 +35,9 @@ module _ (H : List Happening) (n k place : ℕ) (net new : Network) (s : StandsA
   N = Happens (move.Crash n) None ∷ H
 
   each : (j : ℕ) (b : Incarnation) → nth j (incarnations H) ≡ Some b → HasStarted N j b new.started.items
-  each j b e = by (eqb j k) refl
-    where
-      h : HasStarted H j b net.started.items
-      h = s.nodes.started.each j b e
-
-      by : (t : Bool) → eqb j k ≡ t → HasStarted N j b new.started.items
-      by true z =
-          let at : j ≡ place + 1 = eqb-true j k z ∙ under in
-          let same : h.row ≡ was = some_one (sym h.there ∙ nth_at j place net.started.items at ∙ before) in
-          let o : IsStarted H b was = subst (λ x. IsStarted H b x) same h.is in record {
-            number = h.number;
-            row = now;
-            there = ap (nth j) rows ∙ nth_same j place net.started.items now at (in_reach net.started.items place was before);
-            is = record { node = gone.node ∙ o.node; since = gone.since ∙ o.since; id = gone.id ∙ o.id; host = gone.host ∙ o.host; sent = gone.sent b.settings (journal b H) o.sent };
-          }
-      by false z = start_stays H N (λ c k. k) j b net.started.items new.started.items (λ x t. ap (nth j) rows ∙ nth_other k place j net.started.items now under z ∙ t) (λ x q. q) h
+  each = rows_set (λ (a : Incarnation). a.number) (IsStarted H) (IsStarted N) (incarnations H) k place net.started.items new.started.items was now under before rows
+      (λ b e m o. record { node = gone.node ∙ o.node; since = gone.since ∙ o.since; id = gone.id ∙ o.id; host = gone.host ∙ o.host; sent = gone.sent b.settings (journal b H) o.sent })
+      (λ j b z t. start_stays H N (λ c k. k) j b net.started.items new.started.items t (λ x q. q)) s.nodes.started.each
 
   finds : (j : ℕ) → Finds N j (running j N) (running_at j new.running.items)
   finds j = subst (λ f. Finds N j (running j N) f) (sym (runs j)) (by (eqb j n))
@@ -130,33 +117,19 @@ module _ (H : List Happening) (x place : ℕ) (p : Part) (net new : Network) (s 
   append-none a q r e = ap (λ b. cond b (q ++ r) q) e
 
   conns_now : (y : ℕ) (d : Conn) → nth y (conns H) ≡ Some d → HasConn M y d new.conns.items
-  conns_now y d e = by (eqb y x) refl
+  conns_now = rows_set (λ (d : Conn). d.number) (IsConn H) (IsConn M) (conns H) x place net.conns.items new.conns.items was now under before rows mine
+      (λ y d z t h. conn_stays H M (λ b k. k) y d net.conns.items new.conns.items t (sym (append-none (eqb d.number x) (pending d.number H) (appended d.number p H) (ap (λ j. eqb j x) h.number ∙ z))) (λ r k f. f) h) s.conns_are.each
     where
-      h : HasConn H y d net.conns.items
-      h = s.conns_are.each y d e
-
-      by : (t : Bool) → eqb y x ≡ t → HasConn M y d new.conns.items
-      by true z =
-          let at : y ≡ place + 1 = eqb-true y x z ∙ under in
-          let same : h.row ≡ was = some_one (sym h.there ∙ nth_at y place net.conns.items at ∙ before) in
-          let r : IsConn H d was = subst (λ w. IsConn H d w) same h.is in
-          let who : c ≡ d = some_one (sym there ∙ ap (λ j. nth j (conns H)) (sym (eqb-true y x z)) ∙ e) in
-          let mine : eqb d.number x ≡ true = eq-eqb d.number x (h.number ∙ eqb-true y x z) in record {
-            number = h.number;
-            row = now;
-            there = ap (nth y) rows ∙ nth_same y place net.conns.items now at (in_reach net.conns.items place was before);
-            is = record {
-              to = loaded.to ∙ r.to;
-              to_known = r.to_known;
-              along = loaded.along ∙ r.along;
-              along_known = r.along_known;
-              waits = loaded.waiting ∙ ap (λ q. q ++ o) r.waits ∙ ap (λ q. pending d.number H ++ q) (spelled_as ∙ ap (λ w. spelling w.along H p) who ∙ sym (ap (λ q. option_map_or (λ (w : Conn). spelling w.along H p) q []) (ap (λ j. nth j (conns H)) h.number ∙ e)))
-                  ∙ sym (ap (λ b. cond b (pending d.number H ++ appended d.number p H) (pending d.number H)) mine);
-              fits = subst (λ w. Fits d.to.settings d.number (chronicle_of d.to H) w) (sym loaded.ear) r.fits;
-            };
-          }
-      by false z = conn_stays H M (λ b k. k) y d net.conns.items new.conns.items (λ r t. ap (nth y) rows ∙ nth_other x place y net.conns.items now under z ∙ t)
-          (sym (append-none (eqb d.number x) (pending d.number H) (appended d.number p H) (ap (λ j. eqb j x) h.number ∙ z))) (λ r k f. f) h
+      mine : (d : Conn) → nth x (conns H) ≡ Some d → d.number ≡ x → IsConn H d was → IsConn M d now
+      mine d e m r = record {
+        to = loaded.to ∙ r.to;
+        to_known = r.to_known;
+        along = loaded.along ∙ r.along;
+        along_known = r.along_known;
+        waits = loaded.waiting ∙ ap (λ q. q ++ o) r.waits ∙ ap (λ q. pending d.number H ++ q) (spelled_as ∙ ap (λ (w : Conn). spelling w.along H p) (some_one (sym there ∙ e)) ∙ sym (ap (λ q. option_map_or (λ (w : Conn). spelling w.along H p) q []) (ap (λ j. nth j (conns H)) m ∙ e)))
+            ∙ sym (ap (λ b. cond b (pending d.number H ++ appended d.number p H) (pending d.number H)) (eq-eqb d.number x m));
+        fits = subst (λ w. Fits d.to.settings d.number (chronicle_of d.to H) w) (sym loaded.ear) r.fits;
+      }
 
   pub carry_stands : StandsAfter M new
   carry_stands = record {

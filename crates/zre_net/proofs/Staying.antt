@@ -1,5 +1,6 @@
 -- Rows of a network that stand for the same while more happens.
-use Rattle.std.proofs.Common.{◌≡◌, ℕ, ◌+◌, List, [], ◌∷◌, length, Option, Some, None, ap, sym, ◌∙◌, arith}
+use Rattle.std.proofs.Common.{◌≡◌, ℕ, ◌+◌, Bool, true, false, eqb, List, [], ◌∷◌, length, Option, Some, None, refl, ap, sym, ◌∙◌, subst, arith, eqb-true}
+use Rattle.std.specs.Prelude.{slice_get, slice_set}
 use Rattle.zre_values.specs.declared.peer_id.PeerId.{PeerId}
 use Rattle.zre_net.specs.declared.moves.Move.TheVariants as move
 use Rattle.zre_net.specs.declared.running.rows.Started.{Started}
@@ -9,10 +10,31 @@ use Rattle.zre_net.specs.History.{Incarnation, Happening, Happens, IsKnown, star
 use Rattle.zre_net.specs.Lists.{nth}
 use Rattle.zre_net.specs.Numbers.{Conn}
 use Rattle.zre_net.specs.Rows.{Fits}
-use Rattle.zre_net.specs.Running.{HasStarted, Finds, HasConn}
+use Rattle.zre_net.specs.Running.{HasRow, HasStarted, Finds, HasConn}
 use Rattle.zre_net.specs.Sending.{HasSent}
 use Rattle.zre_net.proofs.Journals.{as_many_starts}
-use Rattle.zre_net.proofs.Listing.{nth_more, nth_last}
+use Rattle.zre_net.proofs.Listing.{some_one, in_reach, nth_at, nth_same, nth_other, nth_more, nth_last}
+
+-- where one row is written anew, what has its number stands in it, and all else stands as it did
+pub rows_set : {A B : Type 0} (number_of : A → ℕ) (Was Is : A → B → Type 0) (all : List A) (k place : ℕ) (xs ys : List B) (was now : B) → k ≡ place + 1 → slice_get xs place ≡ Some was → ys ≡ slice_set xs place now
+    → ((a : A) → nth k all ≡ Some a → number_of a ≡ k → Was a was → Is a now)
+    → ((j : ℕ) (a : A) → eqb j k ≡ false → ((x : B) → nth j xs ≡ Some x → nth j ys ≡ Some x) → HasRow number_of Was j a xs → HasRow number_of Is j a ys)
+    → ((j : ℕ) (a : A) → nth j all ≡ Some a → HasRow number_of Was j a xs) → (j : ℕ) (a : A) → nth j all ≡ Some a → HasRow number_of Is j a ys
+rows_set number_of Was Is all k place xs ys was now under before rows mine others each j a e = by (eqb j k) refl
+  where
+    h : HasRow number_of Was j a xs
+    h = each j a e
+
+    by : (t : Bool) → eqb j k ≡ t → HasRow number_of Is j a ys
+    by true z =
+        let same : j ≡ k = eqb-true j k z in
+        record {
+          number = h.number;
+          row = now;
+          there = ap (nth j) rows ∙ nth_same j place xs now (same ∙ under) (in_reach xs place was before);
+          is = mine a (ap (λ n. nth n all) (sym same) ∙ e) (h.number ∙ same) (subst (Was a) (some_one (sym h.there ∙ nth_at j place xs (same ∙ under) ∙ before)) h.is);
+        }
+    by false z = others j a z (λ x t. ap (nth j) rows ∙ nth_other k place j xs now under z ∙ t) h
 
 module _ (H N : List Happening) (later : (b : Incarnation) → IsKnown H b → IsKnown N b) where
   pub start_stays : (k : ℕ) (b : Incarnation) (xs ys : List Started) → ((x : Started) → nth k xs ≡ Some x → nth k ys ≡ Some x)

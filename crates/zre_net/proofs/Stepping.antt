@@ -1,5 +1,5 @@
 -- The nodes of a network, after an entry of one of them.
-use Rattle.std.proofs.Common.{◌≡◌, ℕ, ◌+◌, ◌<◌, max, Bool, true, false, eqb, List, [], ◌∷◌, ◌++◌, length, map, Option, Some, refl, sym, ap, ◌∙◌, subst, arith, eqb-true, append_assoc}
+use Rattle.std.proofs.Common.{◌≡◌, ℕ, ◌+◌, ◌<◌, max, eqb, List, [], ◌∷◌, ◌++◌, length, map, Option, Some, refl, sym, ap, ◌∙◌, subst, arith, append_assoc}
 use Rattle.std.specs.Prelude.{slice_get, slice_set, sum_by, get_or, take}
 use Rattle.std.proofs.lemmas.List.{take_more, map-append}
 use Rattle.std.specs.List.{filter_map, AllByRecursion}
@@ -25,10 +25,10 @@ use Rattle.zre_net.specs.Running.{IsStarted, HasStarted, AreStarted, Finds, AreN
 use Rattle.zre_net.specs.Said.{said_in, said_at}
 use Rattle.zre_net.specs.Sender.{is_slight}
 use Rattle.zre_net.specs.Sending.{HasSent}
-use Rattle.zre_net.proofs.Listing.{some_one, in_reach, nth_at, nth_same, nth_other, set_length, sum_set, all_more, all_map, past_all}
+use Rattle.zre_net.proofs.Listing.{some_one, nth_at, set_length, sum_set, all_more, all_map, past_all}
 use Rattle.zre_net.proofs.Journals.{journal_now, other_journal}
 use Rattle.std.proofs.lemmas.List.Elements.{filter_map-append}
-use Rattle.zre_net.proofs.Staying.{start_stays, finds_stays}
+use Rattle.zre_net.proofs.Staying.{rows_set, start_stays, finds_stays}
 
 -- what one act more brings
 pub one_more : {B : Type 0} (f : Act → Option B) (xs ys zs : List B) (acts : List Act) (i : ℕ) (a : Act) → i < length acts → a ≡ get_or acts i a → ys ≡ xs ++ filter_map f (take i acts) → zs ≡ ys ++ filter_map f (a ∷ []) → zs ≡ xs ++ filter_map f (take (i + 1) acts)
@@ -124,29 +124,12 @@ module _ (H : List Happening) (m : Move) (still : IsStill m) (a : Incarnation) (
       sent = subst (λ Z. HasSent a.settings Z s.now.sender) (sym (journal_now H m a at i a refl)) turned.sent;
     }
 
-    reach : s.place < length net.started.items
-    reach = in_reach net.started.items s.place s.was s.before
-
     each : (j : ℕ) (b : Incarnation) → nth j (incarnations N') ≡ Some b → HasStarted N' j b new.started.items
-    each j b e = by (eqb j k) refl
-      where
-        e' : nth j (incarnations H) ≡ Some b
-        e' = ap (nth j) (sym stay) ∙ e
-
-        o : HasStarted H j b net.started.items
-        o = nodes.started.each j b e'
-
-        by : (z : Bool) → eqb j k ≡ z → HasStarted N' j b new.started.items
-        by true z =
-            let same : j ≡ k = eqb-true j k z in
-            let who : a ≡ b = some_one (sym there ∙ ap (λ n. nth n (incarnations H)) (sym same) ∙ e') in record {
-              number = o.number;
-              row = s.now;
-              there = ap (nth j) s.written ∙ nth_same j s.place net.started.items s.now (same ∙ s.under) reach;
-              is = subst (λ c. IsStarted N' c s.now) who new_row;
-            }
-        by false z = start_stays H N' known_too j b net.started.items new.started.items (λ x t. ap (nth j) s.written ∙ nth_other k s.place j net.started.items s.now s.under z ∙ t)
-            (λ x q. subst (λ Z. HasSent b.settings Z x.sender) (sym (other_journal H m a at i b (ap (λ n. eqb n a.number) o.number ∙ ap (eqb j) is_number ∙ z))) q) o
+    each j b e = rows_set (λ (a : Incarnation). a.number) (IsStarted H) (IsStarted N') (incarnations H) k s.place net.started.items new.started.items s.was s.now s.under s.before s.written
+        (λ d f n o. subst (λ c. IsStarted N' c s.now) (some_one (sym there ∙ f)) new_row)
+        (λ w d z t h. start_stays H N' known_too w d net.started.items new.started.items t
+        (λ x q. subst (λ Z. HasSent d.settings Z x.sender) (sym (other_journal H m a at i d (ap (λ n. eqb n a.number) h.number ∙ ap (eqb w) is_number ∙ z))) q) h)
+        nodes.started.each j b (ap (nth j) (sym stay) ∙ e)
 
     started : AreStarted N' new.started.items
     started = record {

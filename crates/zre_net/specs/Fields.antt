@@ -1,6 +1,7 @@
 -- Lines as they are read: the move of a line.
 use Rattle.std.specs.Prelude.{ℕ, ◌&&◌, nat_le, nat_lt, ◌^◌, List, [], ◌∷◌, length, Option, Some, None, if◌then◌else◌}
 use Rattle.std.specs.Prelude.{option_map, codes}
+use Rattle.std.specs.Map.{lookup}
 use Rattle.std.specs.Str.{bytes_eq}
 use Rattle.zre_values.specs.declared.peer_id.PeerId.{PeerId}
 use Rattle.zre_capture.specs.Parts.{◌>>=◌, two}
@@ -16,23 +17,17 @@ use Rattle.zre_net.specs.declared.moves.Part.TheVariants as part
 
 -- ---- values
 
+-- the words of moves
+abbrev pub move_words : List (List ℕ × MoveWord)
+move_words =
+    (codes "start", word.Start) ∷ (codes "crash", word.Crash) ∷ (codes "tick", word.Tick) ∷ (codes "do", word.Do)
+    ∷ (codes "beacon", word.Beacon) ∷ (codes "open", word.Open) ∷ (codes "carry", word.Carry)
+    ∷ (codes "piece", word.Piece) ∷ (codes "shut", word.Shut) ∷ (codes "linked", word.Linked)
+    ∷ (codes "unlinked", word.Unlinked) ∷ (codes "reply", word.Reply) ∷ (codes "took", word.Took) ∷ []
+
 -- the word of a move
 unfoldable pub move_word_of : List ℕ → Option MoveWord
-move_word_of f =
-    if bytes_eq f (codes "start") then Some word.Start
-    else if bytes_eq f (codes "crash") then Some word.Crash
-    else if bytes_eq f (codes "tick") then Some word.Tick
-    else if bytes_eq f (codes "do") then Some word.Do
-    else if bytes_eq f (codes "beacon") then Some word.Beacon
-    else if bytes_eq f (codes "open") then Some word.Open
-    else if bytes_eq f (codes "carry") then Some word.Carry
-    else if bytes_eq f (codes "piece") then Some word.Piece
-    else if bytes_eq f (codes "shut") then Some word.Shut
-    else if bytes_eq f (codes "linked") then Some word.Linked
-    else if bytes_eq f (codes "unlinked") then Some word.Unlinked
-    else if bytes_eq f (codes "reply") then Some word.Reply
-    else if bytes_eq f (codes "took") then Some word.Took
-    else None
+move_word_of f = lookup (bytes_eq f) move_words
 
 -- the number of a node, from 1 to 16
 abbrev pub node_in : ℕ → Option ℕ
@@ -72,18 +67,17 @@ number_then fs = do
   n ← number_of p.0
   Some (n, p.1)
 
--- a node, and the fields after it
-unfoldable pub node_then : List (List ℕ) → Option (ℕ × List (List ℕ))
-node_then fs = do
+-- a node and a number, and the fields after them
+unfoldable pub node_and_number_then : List (List ℕ) → Option (ℕ × (ℕ × List (List ℕ)))
+node_and_number_then fs = do
   p ← number_then fs
   n ← node_in p.0
-  Some (n, p.1)
+  q ← number_then p.1
+  Some (n, q)
 
 -- a node alone, and a node and a number
 unfoldable pub one_node : List (List ℕ) → Option ℕ
-one_node fs = do
-  n ← one_number fs
-  node_in n
+one_node fs = one_number fs >>= node_in
 
 unfoldable pub node_and_number : List (List ℕ) → Option (ℕ × ℕ)
 node_and_number fs = do
@@ -115,35 +109,27 @@ host_and_port fs = do
   port ← port_in n
   Some (host, port)
 
--- a name, and then those
-unfoldable pub name_and_place : List (List ℕ) → Option (List ℕ × (List ℕ × ℕ))
-name_and_place fs = do
-  p ← cut fs
-  place ← host_and_port p.1
-  name ← name_of p.0
-  Some (name, place)
-
--- an identity, and then those
+-- an identity, a field, and those
 unfoldable pub who_and_place : List (List ℕ) → Option (PeerId × (List ℕ × (List ℕ × ℕ)))
 who_and_place fs = do
   p ← cut fs
   id ← id_of p.0
-  q ← name_and_place p.1
-  Some (id, q)
+  q ← cut p.1
+  place ← host_and_port q.1
+  Some (id, (q.0, place))
 
 unfoldable pub start_in : List (List ℕ) → Option Move
 start_in fs = do
-  n ← node_then fs
-  t ← number_then n.1
-  w ← who_and_place t.1
-  Some (move.Start n.0 t.0 w.0 w.1.0 w.1.1.0 w.1.1.1)
+  n ← node_and_number_then fs
+  w ← who_and_place n.1.1
+  name ← name_of w.1.0
+  Some (move.Start n.0 n.1.0 w.0 name w.1.1.0 w.1.1.1)
 
 unfoldable pub do_in : List (List ℕ) → Option Move
 do_in fs = do
-  n ← node_then fs
-  t ← number_then n.1
-  c ← command_in t.1
-  Some (move.Do n.0 t.0 c)
+  n ← node_and_number_then fs
+  c ← command_in n.1.1
+  Some (move.Do n.0 n.1.0 c)
 
 unfoldable pub carry_in : List (List ℕ) → Option Move
 carry_in fs = do

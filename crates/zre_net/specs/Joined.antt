@@ -1,5 +1,6 @@
 -- An example: a node joins a group, then hears of another and makes a link to it, and joins a second group.
-use Rattle.std.specs.Prelude.{◌≡◌, List, [], ◌∷◌, codes, Some, None, length}
+use Rattle.std.specs.Prelude.{◌≡◌, ℕ, ◌+◌, List, [], ◌∷◌, codes, Some, None, length}
+use Rattle.zre_values.specs.declared.peer_id.PeerId.{PeerId}
 use Rattle.zre_outside.specs.declared.entry.Command.TheVariants as command
 use Rattle.zre_journal.specs.Connections.{runs}
 use Rattle.zre_journal.specs.Links.{groups}
@@ -28,21 +29,20 @@ joined_first =
     ∷ move.Piece 1 168 0
     ∷ []
 
-abbrev pub hears : Incarnation
-hears = record {
-  number = 1;
-  node = 1;
+-- node n, which is the nth that starts
+abbrev pub started_nth : ℕ → PeerId → List ℕ → Incarnation
+started_nth n id name = record {
+  number = n;
+  node = n;
   since = 0;
-  settings = settings_of first_id (codes "a") (10 ∷ 0 ∷ 0 ∷ 1 ∷ []) 5001;
+  settings = settings_of id name (10 ∷ 0 ∷ 0 ∷ n ∷ []) (5000 + n);
 }
 
+abbrev pub hears : Incarnation
+hears = started_nth 1 first_id (codes "a")
+
 abbrev pub says : Incarnation
-says = record {
-  number = 2;
-  node = 2;
-  since = 0;
-  settings = settings_of second_id (codes "b") (10 ∷ 0 ∷ 0 ∷ 2 ∷ []) 5002;
-}
+says = started_nth 2 second_id (codes "b")
 
 -- Node 1 has counted HELLO. It shows the group that node 2 was in as the link was made: neither none, as at the start
 -- of node 2, nor both, as it is now.

@@ -34,11 +34,15 @@ pub record IsStarted (H : List Happening) (a : Incarnation) (x : Started) : Type
   pub host : x.host ≡ a.settings.host
   pub sent : HasSent a.settings (journal a H) x.sender
 
-pub record HasStarted (H : List Happening) (k : ℕ) (a : Incarnation) (xs : List Started) : Type 0 where
-  pub number : a.number ≡ k
-  pub row : Started
-  pub there : nth k xs ≡ Some row
-  pub is : IsStarted H a row
+-- what has number k stands in row k, and is as Is says of both
+pub record HasRow {A B : Type 0} (number_of : A → ℕ) (Is : A → B → Type 0) (k : ℕ) (a : A) (rows : List B) : Type 0 where
+  pub number : number_of a ≡ k
+  pub row : B
+  pub there : nth k rows ≡ Some row
+  pub is : Is a row
+
+abbrev pub HasStarted : List Happening → ℕ → Incarnation → List Started → Type 0
+HasStarted H = HasRow (λ (a : Incarnation). a.number) (IsStarted H)
 
 pub record AreStarted (H : List Happening) (xs : List Started) : Type 0 where
   pub count : length xs ≡ length (incarnations H)
@@ -79,11 +83,8 @@ pub record IsConn (H : List Happening) (c : Conn) (y : Carrier) : Type 0 where
   pub waits : y.waiting ≡ pending c.number H
   pub fits : Fits c.to.settings c.number (chronicle_of c.to H) y.ear
 
-pub record HasConn (H : List Happening) (x : ℕ) (c : Conn) (ys : List Carrier) : Type 0 where
-  pub number : c.number ≡ x
-  pub row : Carrier
-  pub there : nth x ys ≡ Some row
-  pub is : IsConn H c row
+abbrev pub HasConn : List Happening → ℕ → Conn → List Carrier → Type 0
+HasConn H = HasRow (λ (c : Conn). c.number) (IsConn H)
 
 pub record AreConns (H : List Happening) (ys : List Carrier) : Type 0 where
   pub count : length ys ≡ length (conns H)
@@ -127,17 +128,19 @@ pub record IsTaken (m : Move) (H : List Happening) (good : Bool) (net : Network)
 
 -- ---- what numbers of connections and links name
 
--- the start at which a connection opened, where that still runs
-abbrev pub Receives : List Happening → Option Conn → Option ℕ → Type 0
-Receives H None found = found ≡ None
-Receives H (Some c) found = (is_some found ≡ is_there H c.to) ×
-    ((k : ℕ) → found ≡ Some k → k ≡ c.to.number) × IsKnown H c.to
+-- the value of what a number names, where the node that this is of still runs
+abbrev pub Names : {A B : Type 0} → (A → Incarnation) → (A → B) → List Happening → Option A → Option B → Type 0
+Names of value H None found = found ≡ None
+Names of value H (Some x) found = (is_some found ≡ is_there H (of x)) × ((y : _) → found ≡ Some y → y ≡ value x)
+    × IsKnown H (of x)
 
--- the start of the node of a link, where that still runs, and the link's number there
+-- the start at which a connection opened
+abbrev pub Receives : List Happening → Option Conn → Option ℕ → Type 0
+Receives H o found = Names (λ (c : Conn). c.to) (λ (c : Conn). c.to.number) H o found
+
+-- the start of the node of a link, and the link's number there
 abbrev pub Sends : List Happening → Option Route → Option Way → Type 0
-Sends H None found = found ≡ None
-Sends H (Some s) found = (is_some found ≡ is_there H s.from) ×
-    ((w : Way) → found ≡ Some w → w ≡ way_of s) × IsKnown H s.from
+Sends H o found = Names (λ (s : Route). s.from) way_of H o found
 
 -- ---- many moves
 

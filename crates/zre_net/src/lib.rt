@@ -13,7 +13,8 @@ mod word;
 pub use fault::{BadSchedule, ScheduleFault};
 pub use laws::{
     a_cut_piece_is_a_whole_one, a_restart_computes, an_agreement_computes, an_example_computes,
-    links_only_grow, long_texts_are_refused_early, nodes_agree, schedules_are_short,
+    few_messages_are_within_the_window, links_only_grow, long_texts_are_refused_early, nodes_agree,
+    schedules_are_short,
 };
 pub use moves::{Move, Moves, Part};
 pub use reading::{Schedule, read_schedule};

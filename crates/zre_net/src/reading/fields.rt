@@ -2,8 +2,8 @@
 
 ghost use Rattle.std.specs.Prelude.{◌≡◌, [], ◌∷◌, option_map, IfOk};
 ghost use Rattle.zre_capture.specs.Reading.{fields_in};
-ghost use Rattle.zre_net.specs.Fields.{node_in, port_in, name_of, part_of, cut, number_then, node_then, one_node};
-ghost use Rattle.zre_net.specs.Fields.{node_and_number, number_and_node, three_numbers, host_and_port};
+ghost use Rattle.zre_net.specs.Fields.{node_in, port_in, name_of, part_of, cut, number_then, one_node};
+ghost use Rattle.zre_net.specs.Fields.{node_and_number_then, node_and_number, number_and_node, three_numbers, host_and_port};
 
 use crate::limits::{NAME_OCTETS, NODES};
 use crate::moves::Part;
@@ -39,27 +39,17 @@ fn port(n: u64) -> Option<u16>
 pub(crate) fn number_then(text: &[u8]) -> Option<(u64, &[u8])>
     ensures { option_map (λ p. (p.0, fields_in p.1.now)) result ≡ number_then (fields_in text.now) }
 {
-    let Some((first, rest)) = cut(text) else {
-        return None;
-    };
-    let Some(n) = number(first) else {
-        return None;
-    };
-    Some((n, rest))
+    let (first, rest) = cut(text)?;
+    Some((number(first)?, rest))
 }
 
-/// The number of a node, and the text of the fields after it.
-#[tactic(auto, unfolding(crate::specs::Fields::node_then))]
-pub(crate) fn node_then(text: &[u8]) -> Option<(u8, &[u8])>
-    ensures { option_map (λ p. (p.0, fields_in p.1.now)) result ≡ node_then (fields_in text.now) }
+/// The number of a node and another number, and the text of the fields after them.
+#[tactic(auto, unfolding(crate::specs::Fields::node_and_number_then))]
+pub(crate) fn node_and_number_then(text: &[u8]) -> Option<(u8, (u64, &[u8]))>
+    ensures { option_map (λ p. (p.0, (p.1.0, fields_in p.1.1.now))) result ≡ node_and_number_then (fields_in text.now) }
 {
-    let Some((n, rest)) = number_then(text) else {
-        return None;
-    };
-    let Some(node) = node(n) else {
-        return None;
-    };
-    Some((node, rest))
+    let (n, rest) = number_then(text)?;
+    Some((node(n)?, number_then(rest)?))
 }
 
 /// The number of a node, alone.
@@ -67,10 +57,7 @@ pub(crate) fn node_then(text: &[u8]) -> Option<(u8, &[u8])>
 pub(crate) fn one_node(text: &[u8]) -> Option<u8>
     ensures { result ≡ one_node (fields_in text.now) }
 {
-    let Some(n) = one_number(text) else {
-        return None;
-    };
-    node(n)
+    node(one_number(text)?)
 }
 
 /// The number of a node and another number.
@@ -78,13 +65,8 @@ pub(crate) fn one_node(text: &[u8]) -> Option<u8>
 pub(crate) fn node_and_number(text: &[u8]) -> Option<(u8, u64)>
     ensures { result ≡ node_and_number (fields_in text.now) }
 {
-    let Some((n, at)) = two_numbers(text) else {
-        return None;
-    };
-    let Some(node) = node(n) else {
-        return None;
-    };
-    Some((node, at))
+    let (n, at) = two_numbers(text)?;
+    Some((node(n)?, at))
 }
 
 /// A number, and then those.
@@ -92,26 +74,16 @@ pub(crate) fn node_and_number(text: &[u8]) -> Option<(u8, u64)>
 pub(crate) fn number_and_node(text: &[u8]) -> Option<(u64, (u8, u64))>
     ensures { result ≡ number_and_node (fields_in text.now) }
 {
-    let Some((n, rest)) = number_then(text) else {
-        return None;
-    };
-    let Some(after) = node_and_number(rest) else {
-        return None;
-    };
-    Some((n, after))
+    let (n, rest) = number_then(text)?;
+    Some((n, node_and_number(rest)?))
 }
 
 #[tactic(auto, unfolding(crate::specs::Fields::three_numbers))]
 pub(crate) fn three_numbers(text: &[u8]) -> Option<(u64, (u64, u64))>
     ensures { result ≡ three_numbers (fields_in text.now) }
 {
-    let Some((n, rest)) = number_then(text) else {
-        return None;
-    };
-    let Some(after) = two_numbers(rest) else {
-        return None;
-    };
-    Some((n, after))
+    let (n, rest) = number_then(text)?;
+    Some((n, two_numbers(rest)?))
 }
 
 /// An address and a port.
@@ -119,19 +91,8 @@ pub(crate) fn three_numbers(text: &[u8]) -> Option<(u64, (u64, u64))>
 pub(crate) fn host_and_port(text: &[u8]) -> Option<([u8; 4], u16)>
     ensures { result ≡ host_and_port (fields_in text.now) }
 {
-    let Some((first, second)) = two_fields(text) else {
-        return None;
-    };
-    let Some(host) = address(first) else {
-        return None;
-    };
-    let Some(n) = number(second) else {
-        return None;
-    };
-    let Some(port) = port(n) else {
-        return None;
-    };
-    Some((host, port))
+    let (first, second) = two_fields(text)?;
+    Some((address(first)?, port(number(second)?)?))
 }
 
 /// A quoted name of at most 255 octets.

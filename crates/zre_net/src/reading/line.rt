@@ -1,90 +1,51 @@
 //! The moves of lines.
 
-ghost use Rattle.std.specs.Prelude.{◌≡◌, IfOk};
+ghost use Rattle.std.specs.Prelude.{◌≡◌, IfOk, option_map};
 ghost use Rattle.zre_capture.specs.Reading.{fields_in};
-ghost use Rattle.zre_net.specs.declared.moves.Move.TheVariants as MoveValue;
-ghost use Rattle.zre_net.specs.Fields.{name_and_place, who_and_place, start_in, do_in, carry_in, reply_in};
+ghost use Rattle.zre_net.specs.Fields.{who_and_place, start_in, do_in, carry_in, reply_in};
 ghost use Rattle.zre_net.specs.Fields.{move_from, move_of};
 
 use crate::moves::Move;
 use crate::reading::fields::{
-    cut, host_and_port, name, node_and_number, node_then, number_and_node, number_then, one_node,
-    part, three_numbers,
+    cut, host_and_port, name, node_and_number, node_and_number_then, number_and_node, number_then,
+    one_node, part, three_numbers,
 };
 use crate::word::{MoveWord, move_word};
 use std::alloc::Global;
 use zre_capture::{command, id, number, number_and_hex, two_fields, two_numbers};
-use zre_values::{Octets, OutOfMemory, PeerId};
+use zre_values::{OutOfMemory, PeerId};
 
-// A name, and where its node is.
-#[tactic(auto, unfolding(crate::specs::Fields::name_and_place))]
-fn name_and_place(
-    alloc: Global,
-    text: &[u8],
-) -> Result<Option<(Octets, ([u8; 4], u16))>, OutOfMemory>
-    ensures { IfOk result (λ found. found ≡ name_and_place (fields_in text.now)) }
-{
-    let Some((first, rest)) = cut(text) else {
-        return Ok(None);
-    };
-    let Some(place) = host_and_port(rest) else {
-        return Ok(None);
-    };
-    match name(alloc, first) {
-        Ok(Some(name)) => Ok(Some((name, place))),
-        Ok(None) => Ok(None),
-        Err(OutOfMemory) => Err(OutOfMemory),
-    }
-}
-
-// An identity, a name, and where its node is.
+// An identity, the field of a name, and where its node is.
 #[tactic(auto, unfolding(crate::specs::Fields::who_and_place))]
-fn who_and_place(
-    alloc: Global,
-    text: &[u8],
-) -> Result<Option<(PeerId, (Octets, ([u8; 4], u16)))>, OutOfMemory>
-    ensures { IfOk result (λ found. found ≡ who_and_place (fields_in text.now)) }
+fn who_and_place(text: &[u8]) -> Option<(PeerId, (&[u8], ([u8; 4], u16)))>
+    ensures { option_map (λ p. (p.0, (p.1.0.now, p.1.1))) result ≡ who_and_place (fields_in text.now) }
 {
-    let Some((first, rest)) = cut(text) else {
-        return Ok(None);
-    };
-    let Some(id) = id(first) else {
-        return Ok(None);
-    };
-    match name_and_place(alloc, rest) {
-        Ok(Some(place)) => Ok(Some((id, place))),
-        Ok(None) => Ok(None),
-        Err(OutOfMemory) => Err(OutOfMemory),
-    }
-}
-
-// The start of a node.
-fn started(node: u8, at: u64, id: PeerId, name: Octets, place: ([u8; 4], u16)) -> Move
-    ensures { result ≡ MoveValue.Start node at id name place.0 place.1 }
-{
-    let (host, port) = place;
-    Move::Start {
-        node,
-        at,
-        id,
-        name,
-        host,
-        port,
-    }
+    let (first, rest) = cut(text)?;
+    let id = id(first)?;
+    let (second, rest) = cut(rest)?;
+    Some((id, (second, host_and_port(rest)?)))
 }
 
 #[tactic(auto, unfolding(crate::specs::Fields::start_in))]
 fn start(alloc: Global, text: &[u8]) -> Result<Option<Move>, OutOfMemory>
     ensures { IfOk result (λ found. found ≡ start_in (fields_in text.now)) }
 {
-    let Some((node, rest)) = node_then(text) else {
+    let Some((node, (at, rest))) = node_and_number_then(text) else {
         return Ok(None);
     };
-    let Some((at, rest)) = number_then(rest) else {
+    let Some((id, (field, place))) = who_and_place(rest) else {
         return Ok(None);
     };
-    match who_and_place(alloc, rest)? {
-        Some((id, (name, place))) => Ok(Some(started(node, at, id, name, place))),
+    let (host, port) = place;
+    match name(alloc, field)? {
+        Some(name) => Ok(Some(Move::Start {
+            node,
+            at,
+            id,
+            name,
+            host,
+            port,
+        })),
         None => Ok(None),
     }
 }
@@ -93,16 +54,12 @@ fn start(alloc: Global, text: &[u8]) -> Result<Option<Move>, OutOfMemory>
 fn ask(alloc: Global, text: &[u8]) -> Result<Option<Move>, OutOfMemory>
     ensures { IfOk result (λ found. found ≡ do_in (fields_in text.now)) }
 {
-    let Some((node, rest)) = node_then(text) else {
+    let Some((node, (at, rest))) = node_and_number_then(text) else {
         return Ok(None);
     };
-    let Some((at, rest)) = number_then(rest) else {
-        return Ok(None);
-    };
-    match command(alloc, rest) {
-        Ok(Some(command)) => Ok(Some(Move::Do { node, at, command })),
-        Ok(None) => Ok(None),
-        Err(OutOfMemory) => Err(OutOfMemory),
+    match command(alloc, rest)? {
+        Some(command) => Ok(Some(Move::Do { node, at, command })),
+        None => Ok(None),
     }
 }
 
@@ -110,15 +67,9 @@ fn ask(alloc: Global, text: &[u8]) -> Result<Option<Move>, OutOfMemory>
 fn carry(text: &[u8]) -> Option<Move>
     ensures { result ≡ carry_in (fields_in text.now) }
 {
-    let Some((first, second)) = two_fields(text) else {
-        return None;
-    };
-    let Some(conn) = number(first) else {
-        return None;
-    };
-    let Some(part) = part(second) else {
-        return None;
-    };
+    let (first, second) = two_fields(text)?;
+    let conn = number(first)?;
+    let part = part(second)?;
     Some(Move::Carry { conn, part })
 }
 

@@ -23,6 +23,17 @@ use zre_outside::{Command, Input};
 use zre_values::{Octets, OutOfMemory, Pairs, PeerId};
 use zre_zmtp::{SocketType, greeting, ready};
 
+// The node that is found gets an entry; where none is found, the move may not come.
+macro_rules! bring {
+    ($network:expr, $found:expr, $one:pat => $start:expr, $at:expr, $input:expr) => {{
+        let Some($one) = $found else {
+            return Ok(false);
+        };
+        $network.turn($start, $at, $input)?;
+        Ok(true)
+    }};
+}
+
 // The settings of a node of a schedule.
 fn settings(alloc: Global, id: PeerId, name: Octets, host: [u8; 4], port: u16) -> Config
     ensures { result ≡ settings_of id name host port }
@@ -167,11 +178,7 @@ impl Network {
         ensures { (H : List Happening) → StandsAfter H self.old →
             IfOk result (λ may. IsPlayed (MoveValue.Tick node at) H may self.new) }
     {
-        let Some(start) = self.runner(node) else {
-            return Ok(false);
-        };
-        self.turn(start, at, Input::Tick)?;
-        Ok(true)
+        bring!(self, self.runner(node), start => start, at, Input::Tick)
     }
 
     /// The user of a node asks for something.
@@ -268,11 +275,7 @@ impl Network {
         ensures { (H : List Happening) → StandsAfter H self.old →
             IfOk result (λ may. IsPlayed (MoveValue.Shut conn at) H may self.new) }
     {
-        let Some(to) = self.receiver(conn) else {
-            return Ok(false);
-        };
-        self.turn(to, at, Input::Shut { conn })?;
-        Ok(true)
+        bring!(self, self.receiver(conn), to => to, at, Input::Shut { conn })
     }
 
     /// A link stands.
@@ -280,11 +283,7 @@ impl Network {
         ensures { (H : List Happening) → StandsAfter H self.old →
             IfOk result (λ may. IsPlayed (MoveValue.Linked link at) H may self.new) }
     {
-        let Some(Way { start, link }) = self.sender(link) else {
-            return Ok(false);
-        };
-        self.turn(start, at, Input::Linked { link })?;
-        Ok(true)
+        bring!(self, self.sender(link), Way { start, link } => start, at, Input::Linked { link })
     }
 
     /// A link breaks.
@@ -292,11 +291,7 @@ impl Network {
         ensures { (H : List Happening) → StandsAfter H self.old →
             IfOk result (λ may. IsPlayed (MoveValue.Unlinked link at) H may self.new) }
     {
-        let Some(Way { start, link }) = self.sender(link) else {
-            return Ok(false);
-        };
-        self.turn(start, at, Input::Unlinked { link })?;
-        Ok(true)
+        bring!(self, self.sender(link), Way { start, link } => start, at, Input::Unlinked { link })
     }
 
     /// Octets come back on a link.
@@ -304,11 +299,7 @@ impl Network {
         ensures { (H : List Happening) → StandsAfter H self.old →
             IfOk result (λ may. IsPlayed (MoveValue.Reply link at bytes) H may self.new) }
     {
-        let Some(Way { start, link }) = self.sender(link) else {
-            return Ok(false);
-        };
-        self.turn(start, at, Input::Reply { link, bytes })?;
-        Ok(true)
+        bring!(self, self.sender(link), Way { start, link } => start, at, Input::Reply { link, bytes })
     }
 
     /// Octets of a link are sent.
@@ -316,10 +307,6 @@ impl Network {
         ensures { (H : List Happening) → StandsAfter H self.old →
             IfOk result (λ may. IsPlayed (MoveValue.Took link count at) H may self.new) }
     {
-        let Some(Way { start, link }) = self.sender(link) else {
-            return Ok(false);
-        };
-        self.turn(start, at, Input::Took { link, count })?;
-        Ok(true)
+        bring!(self, self.sender(link), Way { start, link } => start, at, Input::Took { link, count })
     }
 }
