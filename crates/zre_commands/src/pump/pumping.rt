@@ -1,6 +1,6 @@
 //! Reads a source in pieces, feeds a machine, and writes its text.
 
-ghost use Rattle.std.specs.Prelude.{◌≡◌, ◌<◌, ◌≤◌, ◌+◌, ℕ, List, [], false, length, take, vec_len, OnOk, IfErr};
+ghost use Rattle.std.specs.Prelude.{◌≡◌, ◌<◌, ◌≤◌, ◌+◌, ℕ, List, [], false, length, take, OnOk, IfErr};
 ghost use Rattle.std.specs.Io.KnownBytes.{Appends};
 ghost use Rattle.zre_outside.specs.Causes.{Rose};
 ghost use Rattle.zre_outside.specs.Told.{AppendsFront, Moves};
@@ -10,7 +10,7 @@ ghost use Rattle.zre_commands.specs.pump.Turning.{Finishes, Refuses, Told, Turne
 use crate::pump::machine::{Going, Machine};
 use crate::pump::status::Status;
 use std::alloc::Global;
-use zre_outside::{Failed, NextFault, Sink, Source, room_for, write_all, zeros};
+use zre_outside::{NextFault, Sink, Source, room_for, write_all, zeros};
 use zre_values::{Octets, OutOfMemory};
 
 // The most octets that one read asks for. The text that they add lies whole in memory before it is written, and it can
@@ -117,14 +117,11 @@ fn take_turn<M: Machine, I: Source, O: Sink>(
     ensures reads { I.faults input.old ≤ I.faults input.new }
     ensures writes { O.faults out.old ≤ O.faults out.new }
 {
-    let read = match input.read(buf) {
-        Ok(read) => read,
-        Err(Failed) => {
-            return Turn {
-                read: 0,
-                next: Next::Fail(Status::ReadFault),
-            };
-        }
+    let Ok(read) = input.read(buf) else {
+        return Turn {
+            read: 0,
+            next: Next::Fail(Status::ReadFault),
+        };
     };
     if read == 0 {
         return Turn {
@@ -155,43 +152,6 @@ fn finish<M: Machine, O: Sink>(machine: &M, taken: u64, out: &mut O, text: &mut 
     }
 }
 
-// The pump, with memory for a piece of the input and for that piece's text.
-fn pump_through<M: Machine, I: Source, O: Sink>(
-    machine: &mut M,
-    input: &mut I,
-    out: &mut O,
-    limit: u64,
-    buf: &mut Vec<u8>,
-    text: &mut Octets,
-) -> Status
-    requires room { vec_len buf.old ≡ 2048 }
-    requires start { M.fed machine.old [] }
-    requires going { (M.says machine.old).is_stopped [] ≡ false }
-    ensures pumped { Pumped result limit (M.says machine.old)
-        (I.left input.old) (I.left input.new) (I.taken input.old) (I.taken input.new)
-        (O.written out.old) (O.written out.new)
-        (Rose (I.faults input.old) (I.faults input.new)) (Rose (O.faults out.old) (O.faults out.new)) }
-    ensures reads { I.faults input.old ≤ I.faults input.new }
-    ensures writes { O.faults out.old ≤ O.faults out.new }
-{
-    match begin(machine, out, text) {
-        Ok(()) => {}
-        Err(status) => return status,
-    }
-    let mut taken: u64 = 0;
-    while taken < limit {
-        let room = portion(limit - taken);
-        let turn = take_turn(machine, input, out, &mut buf[..room], text);
-        taken += turn.read as u64;
-        match turn.next {
-            Next::Go => {}
-            Next::Finish => return finish(machine, taken, out, text),
-            Next::Fail(status) => return status,
-        }
-    }
-    Status::TooLong
-}
-
 /// Writes the text that comes first, reads the source to its end, feeds the machine with it and writes its text, up to
 /// a limit of octets. It keeps one piece of the input and that piece's text, and asks for no octet past the limit.
 pub fn pump<M: Machine, I: Source, O: Sink>(
@@ -210,13 +170,24 @@ pub fn pump<M: Machine, I: Source, O: Sink>(
     ensures reads { I.faults input.old ≤ I.faults input.new }
     ensures writes { O.faults out.old ≤ O.faults out.new }
 {
-    let mut buf = match zeros(alloc, PORTION) {
-        Ok(buf) => buf,
-        Err(_) => return Status::OutOfMemory,
+    let Ok(mut buf) = zeros(alloc, PORTION) else {
+        return Status::OutOfMemory;
     };
     let mut text = Octets::new(alloc);
-    let status = pump_through(machine, input, out, limit, &mut buf, &mut text);
-    drop(text);
-    drop(buf);
-    status
+    match begin(machine, out, &mut text) {
+        Ok(()) => {}
+        Err(status) => return status,
+    }
+    let mut taken: u64 = 0;
+    while taken < limit {
+        let room = portion(limit - taken);
+        let turn = take_turn(machine, input, out, &mut buf[..room], &mut text);
+        taken += turn.read as u64;
+        match turn.next {
+            Next::Go => {}
+            Next::Finish => return finish(machine, taken, out, &mut text),
+            Next::Fail(status) => return status,
+        }
+    }
+    Status::TooLong
 }

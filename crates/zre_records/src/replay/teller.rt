@@ -44,6 +44,7 @@ impl Model for Teller {
 }
 
 // The line of EVASIVE of a peer.
+#[inline(never)]
 fn line_of(
     alloc: Global,
     id: PeerId,
@@ -95,6 +96,7 @@ impl Teller {
 
     // Keeps a line as the next one and the last. Those that were kept from there on are let go: they come in another
     // order now.
+    #[inline(never)]
     fn keep(&mut self, line: EvasiveLine) -> Result<(), OutOfMemory>
         requires { Kept line }
     {
@@ -106,23 +108,6 @@ impl Teller {
         self.kept.push(line)?;
         self.next = self.kept.len();
         Ok(())
-    }
-
-    // EVASIVE of a peer, whose line isn't kept where it comes.
-    #[inline(never)]
-    fn tell_anew(
-        &mut self,
-        id: PeerId,
-        name: &Octets,
-        event: &Event,
-        out: &mut Octets,
-    ) -> Result<(), OutOfMemory>
-        requires { event.now ≡ Evasive id name.now }
-        ensures { OnOk result (out.new ≡ out.old ++ line event.now) }
-    {
-        let line = line_of(self.alloc, id, name, event)?;
-        out.append(line.line.as_slice())?;
-        self.keep(line)
     }
 
     // EVASIVE of a peer: its line is kept as the next one, or after the last comes the first again, or it is made.
@@ -145,7 +130,9 @@ impl Teller {
             self.next = place.saturating_add(1);
             return Ok(());
         }
-        self.tell_anew(id, name, event, out)
+        let line = line_of(self.alloc, id, name, event)?;
+        out.append(line.line.as_slice())?;
+        self.keep(line)
     }
 
     // The line of an event.

@@ -1,6 +1,6 @@
 use Rattle.std.proofs.Common.{◌≡◌, ◌≤◌, ◌-◌, vec_len}
 use Rattle.zre_commands.proofs.pump.Reach.{Reached}
-use Rattle.zre_commands.proofs.pump.pumping.pump_through.Given as goal
+use Rattle.zre_commands.proofs.pump.pumping.pump.Given as goal
 
 abbrev pub invariant-loop-taken : goal.invariant-loop-taken
 invariant-loop-taken g l = record {

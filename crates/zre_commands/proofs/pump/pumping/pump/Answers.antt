@@ -1,14 +1,14 @@
 use Rattle.std.proofs.Common.{[], take, refl, ap, ◌∙◌, arith}
 use Rattle.std.proofs.lemmas.List.{length-take, length-take-le}
 use Rattle.zre_commands.proofs.pump.Reach.{Moves-nil, front_longer, starts, goes_on, Rose-since, refused, finishes_on, fails_on}
-use Rattle.zre_commands.proofs.pump.pumping.pump_through.Goals as goal
+use Rattle.zre_commands.proofs.pump.pumping.pump.Goals as goal
 
 pub loop-taken-init : goal.loop-taken-init
 loop-taken-init g c = record {
-  reached = starts _ _ _ _ _ _ c.requires.start (c.in-Ok.ensures.begun c.requires.start) c.requires.going;
+  reached = starts _ _ _ _ _ _ c.requires.start (c.in-Ok-begin.ensures.begun c.requires.start) c.requires.going;
   same = refl;
   within = omega arith;
-  room = c.requires.room;
+  room = c.in-Ok.ensures;
   reads = omega arith;
   writes = c.begin.ensures.writes;
 }
