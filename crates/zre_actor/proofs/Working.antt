@@ -92,25 +92,29 @@ go_more g J [] e go on = (subst (λ l. has_stopped (chronicle g l) ≡ false) (a
 go_more g J (x ∷ es) e go on = (go.0, go_more g (J ++ x ∷ []) es e go.1 (subst (λ l. has_stopped (chronicle g l) ≡ false) (sym (append_assoc J (x ∷ []) es)) on))
 
 module _ (g : Config) (K : List Entry) (keep : Bool) (limit : ℕ) (s : Scene) where
-  -- after so many turns: the node took all that was given, its acts are done, its events raised and its lines kept
-  pub record Running (turns : ℕ) (t : Scene) (n : Node) (command : Option Command) (before : ℕ) : Type 0 where
+  -- the node took these entries after K: its acts are done, and its events are those that are told here
+  pub record Ran (n : Node) : Type 0 where
     pub entries : List Entry
     pub deeds : List Deed
-    pub goes : Goes turns limit s t entries deeds (option_to_list command)
-    pub most : turns ≤ limit
     pub all_go : AllGo g K entries
     pub are_values : All IsEntry entries
     pub node : StandsFor g (K ++ entries) n
     pub are_deeds : AreDeeds g (acts_of g K entries) deeds
     pub told : List Event
     pub are_events : events g (K ++ entries) ≡ events g K ++ told
-    pub are_raised : t.raised ≡ s.raised ++ told
-    pub are_kept : keep ≡ true → Appends s.kept t.kept (lines Second 0 entries)
+
+  -- after so many turns: the node took all that was given, its acts are done, its events raised and its lines kept
+  pub record Running (turns : ℕ) (t : Scene) (n : Node) (command : Option Command) (before : ℕ) : Type 0 where
+    pub ran : Ran n
+    pub goes : Goes turns limit s t ran.entries ran.deeds (option_to_list command)
+    pub most : turns ≤ limit
+    pub are_raised : t.raised ≡ s.raised ++ ran.told
+    pub are_kept : keep ≡ true → Appends s.kept t.kept (lines Second 0 ran.entries)
     -- the reading of the last entry
-    pub is_before : before ≡ last_reading 0 entries
-    pub busy : (c : Command) → command ≡ Some c → has_stopped (chronicle g (K ++ entries)) ≡ false
+    pub is_before : before ≡ last_reading 0 ran.entries
+    pub busy : (c : Command) → command ≡ Some c → has_stopped (chronicle g (K ++ ran.entries)) ≡ false
     -- no Quit was handed to a node that goes on, and nothing was popped after one
-    pub unquit : has_stopped (chronicle g (K ++ entries)) ≡ false → NoQuit goes.handed
+    pub unquit : has_stopped (chronicle g (K ++ ran.entries)) ≡ false → NoQuit goes.handed
     pub quits_last : QuitsLast (map command_of goes.popped)
     pub world_later : s.world_faults ≤ t.world_faults
     pub record_later : s.record_faults ≤ t.record_faults
@@ -132,8 +136,16 @@ module _ (g : Config) (K : List Entry) (keep : Bool) (limit : ℕ) (s : Scene) w
 
   pub running_start : (n : Node) → StandsFor g K n → Running 0 s n None 0
   running_start n here = record {
-    entries = [];
-    deeds = [];
+    ran = record {
+      entries = [];
+      deeds = [];
+      all_go = tt;
+      are_values = All-nil IsEntry;
+      node = subst (λ J. StandsFor g J n) (sym (append-nil K)) here;
+      are_deeds = tt;
+      told = [];
+      are_events = ap (events g) (append-nil K) ∙ sym (append-nil (events g K));
+    };
     goes = record {
       looks = 0;
       handed = [];
@@ -146,12 +158,6 @@ module _ (g : Config) (K : List Entry) (keep : Bool) (limit : ℕ) (s : Scene) w
       are_looks = (let z : late 0 limit s.looked ≡ 0 = start_late limit s.looked in omega arith);
     };
     most = omega arith;
-    all_go = tt;
-    are_values = All-nil IsEntry;
-    node = subst (λ J. StandsFor g J n) (sym (append-nil K)) here;
-    are_deeds = tt;
-    told = [];
-    are_events = ap (events g) (append-nil K) ∙ sym (append-nil (events g K));
     are_raised = sym (append-nil s.raised);
     are_kept = λ _. Appends-nil s.kept;
     is_before = refl;
@@ -174,11 +180,11 @@ module _ (g : Config) (K : List Entry) (keep : Bool) (limit : ℕ) (s : Scene) w
 
     -- one look more was answered, and these commands were popped up to then
     abbrev goes_look : (u : Scene) (popped : List Placed) (pending : List Command) → u.told ≡ option_map (after_turn command turn.Look) t.told → u.popped ≡ s.popped ++ popped
-        → map command_of popped ≡ k.goes.handed ++ pending → (k.goes.looks + 1) + s.empties ≡ length popped + u.empties + late (turns + 1) limit u.looked → Goes (turns + 1) limit s u k.entries k.deeds pending
+        → map command_of popped ≡ k.goes.handed ++ pending → (k.goes.looks + 1) + s.empties ≡ length popped + u.empties + late (turns + 1) limit u.looked → Goes (turns + 1) limit s u k.ran.entries k.ran.deeds pending
     goes_look u popped pending new are hands finds = let h = k.goes in record {
       looks = h.looks + 1;
       handed = h.handed;
-      is_told = after_look s.told t.told u.told command k.entries h.looks h.handed k.deeds h.is_told new;
+      is_told = after_look s.told t.told u.told command k.ran.entries h.looks h.handed k.ran.deeds h.is_told new;
       counted = omega (arith, h.counted);
       popped = popped;
       is_popped = are;
@@ -188,7 +194,7 @@ module _ (g : Config) (K : List Entry) (keep : Bool) (limit : ℕ) (s : Scene) w
     }
 
     abbrev looks_again : (u : Scene) (found : Option Command) → u.told ≡ option_map (after_turn command turn.Look) t.told → Pops t found u → late turns limit t.looked ≡ 0 → late (turns + 1) limit u.looked ≡ 0
-        → map command_of k.goes.popped ≡ k.goes.handed ++ [] → Goes (turns + 1) limit s u k.entries k.deeds (option_to_list found)
+        → map command_of k.goes.popped ≡ k.goes.handed ++ [] → Goes (turns + 1) limit s u k.ran.entries k.ran.deeds (option_to_list found)
     looks_again u None new popped now later hands = let h = k.goes in goes_look u h.popped [] new (popped.0 ∙ h.is_popped) hands (omega (arith, h.are_looks, popped.1))
     looks_again u (Some c) new popped now later hands = let h = k.goes in let e = popped.0.0 in goes_look u (h.popped ++ e ∷ []) (c ∷ []) new
         (popped.0.2 ∙ ap (λ l. l ++ e ∷ []) h.is_popped ∙ append_assoc s.popped h.popped (e ∷ []))
@@ -221,22 +227,15 @@ module _ (g : Config) (K : List Entry) (keep : Bool) (limit : ℕ) (s : Scene) w
     look_handed u (Some c) told popped now later hands = refl
 
     -- no entry was given since, and nothing raised or kept
-    abbrev stays : (turns' : ℕ) (u : Scene) (command' : Option Command) (goes : Goes turns' limit s u k.entries k.deeds (option_to_list command')) → turns' ≤ limit → IsCalm u
-        → ((c : Command) → command' ≡ Some c → has_stopped (chronicle g (K ++ k.entries)) ≡ false) → (has_stopped (chronicle g (K ++ k.entries)) ≡ false → NoQuit goes.handed) → QuitsLast (map command_of goes.popped)
+    abbrev stays : (turns' : ℕ) (u : Scene) (command' : Option Command) (goes : Goes turns' limit s u k.ran.entries k.ran.deeds (option_to_list command')) → turns' ≤ limit → IsCalm u
+        → ((c : Command) → command' ≡ Some c → has_stopped (chronicle g (K ++ k.ran.entries)) ≡ false) → (has_stopped (chronicle g (K ++ k.ran.entries)) ≡ false → NoQuit goes.handed) → QuitsLast (map command_of goes.popped)
         → Running turns' u n command' before
     stays turns' u command' goes most calm busy unquit quits = record {
-      entries = k.entries;
-      deeds = k.deeds;
+      ran = k.ran;
       goes = goes;
       most = most;
-      all_go = k.all_go;
-      are_values = k.are_values;
-      node = k.node;
-      are_deeds = k.are_deeds;
-      told = k.told;
-      are_events = k.are_events;
       are_raised = calm.raised ∙ k.are_raised;
-      are_kept = λ i. subst (λ x. Appends s.kept x (lines Second 0 k.entries)) (sym calm.kept) (k.are_kept i);
+      are_kept = λ i. subst (λ x. Appends s.kept x (lines Second 0 k.ran.entries)) (sym calm.kept) (k.are_kept i);
       is_before = k.is_before;
       busy = busy;
       unquit = unquit;
@@ -246,7 +245,7 @@ module _ (g : Config) (K : List Entry) (keep : Bool) (limit : ℕ) (s : Scene) w
     }
 
     -- a look, and then a pop
-    pub looked_again : (u : Scene) (found : Option Command) → Looks u → Pops t found u → turns + 1 < limit → IsTurn command turn.Look → has_stopped (chronicle g (K ++ k.entries)) ≡ false → Running (turns + 1) u n found before
+    pub looked_again : (u : Scene) (found : Option Command) → Looks u → Pops t found u → turns + 1 < limit → IsTurn command turn.Look → has_stopped (chronicle g (K ++ k.ran.entries)) ≡ false → Running (turns + 1) u n found before
     looked_again u found w popped more is going =
         let h = k.goes in
         let now : late turns limit t.looked ≡ 0 = not_late turns limit t.looked (λ e. omega arith) in
@@ -280,7 +279,7 @@ module _ (g : Config) (K : List Entry) (keep : Bool) (limit : ℕ) (s : Scene) w
     does None e is = nil-sublist (done_by (e ∷ []))
     does (Some c) e is = subst (λ i. Sublist (c ∷ []) (command_in i ++ [])) (sym is) (sublists.refl (c ∷ []))
 
-    abbrev given_goes : (e : Entry) (told : Option Log) (u : Scene) (more : List Deed) → Gives e told u → turns < limit → u.told ≡ option_map (went [] 0 [] more) told → Goes (turns + 1) limit s u (k.entries ++ e ∷ []) (k.deeds ++ more) []
+    abbrev given_goes : (e : Entry) (told : Option Log) (u : Scene) (more : List Deed) → Gives e told u → turns < limit → u.told ≡ option_map (went [] 0 [] more) told → Goes (turns + 1) limit s u (k.ran.entries ++ e ∷ []) (k.ran.deeds ++ more) []
     given_goes e told u more w less done =
         let h = k.goes in
         let now : late turns limit t.looked ≡ 0 = not_late turns limit t.looked (λ e. omega arith) in
@@ -288,38 +287,40 @@ module _ (g : Config) (K : List Entry) (keep : Bool) (limit : ℕ) (s : Scene) w
         record {
           looks = h.looks;
           handed = h.handed ++ option_to_list command;
-          is_told = after_entry s.told t.told told u.told command e k.entries h.looks h.handed k.deeds more h.is_told w.given done;
-          counted = omega (arith, h.counted, length-append k.entries (e ∷ []));
+          is_told = after_entry s.told t.told told u.told command e k.ran.entries h.looks h.handed k.ran.deeds more h.is_told w.given done;
+          counted = omega (arith, h.counted, length-append k.ran.entries (e ∷ []));
           popped = h.popped;
           is_popped = w.popped ∙ h.is_popped;
           are_handed = h.are_handed ∙ sym (append-nil (h.handed ++ option_to_list command));
-          are_done = subst (Sublist (h.handed ++ option_to_list command)) (sym (flat_map-append (λ x. command_in x.input) k.entries (e ∷ []))) (sublists.append h.are_done (does command e w.is_turn));
+          are_done = subst (Sublist (h.handed ++ option_to_list command)) (sym (flat_map-append (λ x. command_in x.input) k.ran.entries (e ∷ []))) (sublists.append h.are_done (does command e w.is_turn));
           are_looks = omega (arith, h.are_looks, w.empties);
         }
 
-    along : (e : Entry) → (K ++ k.entries) ++ e ∷ [] ≡ K ++ (k.entries ++ e ∷ [])
-    along e = append_assoc K k.entries (e ∷ [])
+    along : (e : Entry) → (K ++ k.ran.entries) ++ e ∷ [] ≡ K ++ (k.ran.entries ++ e ∷ [])
+    along e = append_assoc K k.ran.entries (e ∷ [])
 
     -- an entry was given, put, stepped and done, and its events were raised
-    pub went_on : (e : Entry) (told : Option Log) (u : Scene) (n' : Node) (es : List Event) → Gives e told u → turns < limit → IsTurn command (turn.Entry e) → has_stopped (chronicle g (K ++ k.entries)) ≡ false → Went g (K ++ k.entries) e keep before told u.told t.kept u.kept n' es → u.raised ≡ t.raised ++ es
+    pub went_on : (e : Entry) (told : Option Log) (u : Scene) (n' : Node) (es : List Event) → Gives e told u → turns < limit → IsTurn command (turn.Entry e) → has_stopped (chronicle g (K ++ k.ran.entries)) ≡ false → Went g (K ++ k.ran.entries) e keep before told u.told t.kept u.kept n' es → u.raised ≡ t.raised ++ es
         → Running (turns + 1) u n' None e.at
     went_on e told u n' es w less is going x raised = record {
-      entries = k.entries ++ e ∷ [];
-      deeds = k.deeds ++ x.deeds;
+      ran = record {
+        entries = k.ran.entries ++ e ∷ [];
+        deeds = k.ran.deeds ++ x.deeds;
+        all_go = go_more g K k.ran.entries e k.ran.all_go going;
+        are_values = All-push IsEntry k.ran.entries e k.ran.are_values w.value;
+        node = subst (λ J. StandsFor g J n') (along e) x.stands;
+        are_deeds = subst (λ l. AreDeeds g l (k.ran.deeds ++ x.deeds)) (sym (acts_of-snoc g K k.ran.entries e)) (AreDeeds-append g (acts_of g K k.ran.entries) _ k.ran.deeds x.deeds k.ran.are_deeds x.are_deeds);
+        told = k.ran.told ++ es;
+        are_events = ap (events g) (sym (along e)) ∙ x.are_events ∙ ap (λ l. l ++ es) k.ran.are_events ∙ append_assoc (events g K) k.ran.told es;
+      };
       goes = given_goes e told u x.deeds w less x.is_told;
       most = omega (arith, less);
-      all_go = go_more g K k.entries e k.all_go going;
-      are_values = All-push IsEntry k.entries e k.are_values w.value;
-      node = subst (λ J. StandsFor g J n') (along e) x.stands;
-      are_deeds = subst (λ l. AreDeeds g l (k.deeds ++ x.deeds)) (sym (acts_of-snoc g K k.entries e)) (AreDeeds-append g (acts_of g K k.entries) _ k.deeds x.deeds k.are_deeds x.are_deeds);
-      told = k.told ++ es;
-      are_events = ap (events g) (sym (along e)) ∙ x.are_events ∙ ap (λ l. l ++ es) k.are_events ∙ append_assoc (events g K) k.told es;
-      are_raised = raised ∙ ap (λ l. l ++ es) k.are_raised ∙ append_assoc s.raised k.told es;
-      are_kept = λ i. kept_more s.kept t.kept u.kept before k.entries e k.is_before (k.are_kept i) (x.is_kept i);
-      is_before = sym (last-append 0 k.entries (e ∷ []));
+      are_raised = raised ∙ ap (λ l. l ++ es) k.are_raised ∙ append_assoc s.raised k.ran.told es;
+      are_kept = λ i. kept_more s.kept t.kept u.kept before k.ran.entries e k.is_before (k.are_kept i) (x.is_kept i);
+      is_before = sym (last-append 0 k.ran.entries (e ∷ []));
       busy = λ c is. absurd (cc);
       unquit = λ on. no_quit_more k.goes.handed (option_to_list command) (k.unquit going)
-          (no_quit g (K ++ k.entries) e command is going (subst (λ J. has_stopped (chronicle g J) ≡ false) (sym (along e)) on));
+          (no_quit g (K ++ k.ran.entries) e command is going (subst (λ J. has_stopped (chronicle g J) ≡ false) (sym (along e)) on));
       quits_last = k.quits_last;
       world_later = omega (arith, k.world_later, w.world_later);
       record_later = omega (arith, k.record_later, w.record_later);
@@ -327,34 +328,34 @@ module _ (g : Config) (K : List Entry) (keep : Bool) (limit : ℕ) (s : Scene) w
 
     -- ---- the work ends
 
-    idle : (c : Option Command) → ((x : Command) → c ≡ Some x → has_stopped (chronicle g (K ++ k.entries)) ≡ false) → has_stopped (chronicle g (K ++ k.entries)) ≡ true → option_to_list c ≡ []
+    idle : (c : Option Command) → ((x : Command) → c ≡ Some x → has_stopped (chronicle g (K ++ k.ran.entries)) ≡ false) → has_stopped (chronicle g (K ++ k.ran.entries)) ≡ true → option_to_list c ≡ []
     idle None busy stopped = refl
     idle (Some x) busy stopped = absurd (true≢false (sym stopped ∙ busy x refl))
 
     -- it ends without a step more: these entries weren't stepped, and these commands weren't handed on
-    ends_here : (turns' : ℕ) (u : Scene) (n' : Node) (unstepped : List Entry) (pending : List Command) (e : Ending) (goes : Goes turns' limit s u (k.entries ++ unstepped) k.deeds pending) → turns' ≤ limit → QuitsLast (map command_of goes.popped)
-        → AllGo g K (k.entries ++ unstepped) → All IsEntry (k.entries ++ unstepped) → StandsFor g (K ++ k.entries) n' ⊎ (IsTrue (is_spent n') × (e ≡ ending.OutOfMemory) × (length unstepped ≡ 1)) → u.raised ≡ t.raised
-        → (keep ≡ true → KeptLines s.kept u.kept k.entries unstepped) → Ends e (has_stopped (chronicle g (K ++ k.entries))) turns' limit keep s u unstepped pending → IsWork g K keep limit s u n' e
+    ends_here : (turns' : ℕ) (u : Scene) (n' : Node) (unstepped : List Entry) (pending : List Command) (e : Ending) (goes : Goes turns' limit s u (k.ran.entries ++ unstepped) k.ran.deeds pending) → turns' ≤ limit → QuitsLast (map command_of goes.popped)
+        → AllGo g K (k.ran.entries ++ unstepped) → All IsEntry (k.ran.entries ++ unstepped) → StandsFor g (K ++ k.ran.entries) n' ⊎ (IsTrue (is_spent n') × (e ≡ ending.OutOfMemory) × (length unstepped ≡ 1)) → u.raised ≡ t.raised
+        → (keep ≡ true → KeptLines s.kept u.kept k.ran.entries unstepped) → Ends e (has_stopped (chronicle g (K ++ k.ran.entries))) turns' limit keep s u unstepped pending → IsWork g K keep limit s u n' e
     ends_here turns' u n' unstepped pending e goes most quits go values node raised kept ends = record {
       turns = turns';
-      entries = k.entries;
+      entries = k.ran.entries;
       unstepped = unstepped;
       pending = pending;
-      deeds = k.deeds;
+      deeds = k.ran.deeds;
       goes = goes;
       most = most;
       all_go = go;
       are_values = values;
       quits_last = quits;
       node = node;
-      did = acts_of g K k.entries;
+      did = acts_of g K k.ran.entries;
       undone = [];
-      are_acts = sym (append-nil (acts_of g K k.entries));
-      are_deeds = k.are_deeds;
+      are_acts = sym (append-nil (acts_of g K k.ran.entries));
+      are_deeds = k.ran.are_deeds;
       all_done = λ _. refl;
-      raised = k.told;
+      raised = k.ran.told;
       untold = [];
-      are_events = k.are_events ∙ ap (λ l. events g K ++ l) (sym (append-nil k.told));
+      are_events = k.ran.are_events ∙ ap (λ l. events g K ++ l) (sym (append-nil k.ran.told));
       are_raised = raised ∙ k.are_raised;
       all_raised = λ _. refl;
       are_kept = kept;
@@ -362,22 +363,22 @@ module _ (g : Config) (K : List Entry) (keep : Bool) (limit : ℕ) (s : Scene) w
     }
 
     -- where it stands, with nothing unstepped
-    leaves : (e : Ending) → Ends e (has_stopped (chronicle g (K ++ k.entries))) turns limit keep s t [] (option_to_list command) → IsWork g K keep limit s t n e
-    leaves e ends = let all : k.entries ≡ k.entries ++ [] = sym (append-nil k.entries) in
-        ends_here turns t n [] (option_to_list command) e (goes_as k.entries (k.entries ++ []) k.deeds k.deeds turns t t (option_to_list command) k.goes all refl refl refl refl refl) k.most k.quits_last
-        (subst (AllGo g K) all k.all_go) (subst (All IsEntry) all k.are_values) (inl k.node) refl
-        (λ i. record { part = []; rest = []; is_kept = subst (Appends s.kept t.kept) (sym (append-nil (lines Second 0 k.entries))) (k.are_kept i); is_part = refl }) ends
+    leaves : (e : Ending) → Ends e (has_stopped (chronicle g (K ++ k.ran.entries))) turns limit keep s t [] (option_to_list command) → IsWork g K keep limit s t n e
+    leaves e ends = let all : k.ran.entries ≡ k.ran.entries ++ [] = sym (append-nil k.ran.entries) in
+        ends_here turns t n [] (option_to_list command) e (goes_as k.ran.entries (k.ran.entries ++ []) k.ran.deeds k.ran.deeds turns t t (option_to_list command) k.goes all refl refl refl refl refl) k.most k.quits_last
+        (subst (AllGo g K) all k.ran.all_go) (subst (All IsEntry) all k.ran.are_values) (inl k.ran.node) refl
+        (λ i. record { part = []; rest = []; is_kept = subst (Appends s.kept t.kept) (sym (append-nil (lines Second 0 k.ran.entries))) (k.are_kept i); is_part = refl }) ends
 
-    pub leaves_stopped : has_stopped (chronicle g (K ++ k.entries)) ≡ true → IsWork g K keep limit s t n ending.Stopped
+    pub leaves_stopped : has_stopped (chronicle g (K ++ k.ran.entries)) ≡ true → IsWork g K keep limit s t n ending.Stopped
     leaves_stopped stopped = leaves ending.Stopped (stopped, refl, idle command k.busy stopped)
 
-    late_end : (stopped : Bool) → has_stopped (chronicle g (K ++ k.entries)) ≡ stopped → command ≡ None → turns ≡ limit → IsWork g K keep limit s t n (cond stopped ending.Stopped ending.TooLong)
+    late_end : (stopped : Bool) → has_stopped (chronicle g (K ++ k.ran.entries)) ≡ stopped → command ≡ None → turns ≡ limit → IsWork g K keep limit s t n (cond stopped ending.Stopped ending.TooLong)
     late_end true is none last = leaves_stopped is
     late_end false is none last = leaves ending.TooLong (is, refl, ap option_to_list none, last)
 
     -- all turns were taken
-    pub leaves_at_end : command ≡ None → turns ≡ limit → (e : Ending) → e ≡ cond (has_stopped (chronicle g (K ++ k.entries))) ending.Stopped ending.TooLong → IsWork g K keep limit s t n e
-    leaves_at_end none last e is = subst (IsWork g K keep limit s t n) (sym is) (late_end (has_stopped (chronicle g (K ++ k.entries))) refl none last)
+    pub leaves_at_end : command ≡ None → turns ≡ limit → (e : Ending) → e ≡ cond (has_stopped (chronicle g (K ++ k.ran.entries))) ending.Stopped ending.TooLong → IsWork g K keep limit s t n e
+    leaves_at_end none last e is = subst (IsWork g K keep limit s t n) (sym is) (late_end (has_stopped (chronicle g (K ++ k.ran.entries))) refl none last)
 
     -- the world refused a turn: its count rose, or it had no memory
     pub record Refuses (f : NextFault) (u : Scene) : Type 0 where
@@ -389,90 +390,90 @@ module _ (g : Config) (K : List Entry) (keep : Bool) (limit : ℕ) (s : Scene) w
       pub rose : f ≡ fault.Failed → Rose t.world_faults u.world_faults
 
     abbrev pub refused : (f : NextFault) (u : Scene) → Refuses f u → Running turns u n command before
-    refused f u w = stays turns u command (goes_as k.entries k.entries k.deeds k.deeds turns t u (option_to_list command) k.goes refl refl w.told w.looked w.popped w.empties) k.most w.calm k.busy k.unquit k.quits_last
+    refused f u w = stays turns u command (goes_as k.ran.entries k.ran.entries k.ran.deeds k.ran.deeds turns t u (option_to_list command) k.goes refl refl w.told w.looked w.popped w.empties) k.most w.calm k.busy k.unquit k.quits_last
 
     -- ---- an entry that broke off
 
     -- the node has its entry, or not: one entry was given that it didn't take
-    given_up : (e : Entry) (told : Option Log) (u : Scene) (n' : Node) (ended : Ending) → Gives e told u → turns < limit → has_stopped (chronicle g (K ++ k.entries)) ≡ false → u.told ≡ told → u.raised ≡ t.raised
-        → StandsFor g (K ++ k.entries) n' ⊎ (IsTrue (is_spent n') × (ended ≡ ending.OutOfMemory) × (length (e ∷ []) ≡ 1))
-        → (keep ≡ true → KeptLines s.kept u.kept k.entries (e ∷ []))
-        → Ends ended (has_stopped (chronicle g (K ++ k.entries))) (turns + 1) limit keep s u (e ∷ []) []
+    given_up : (e : Entry) (told : Option Log) (u : Scene) (n' : Node) (ended : Ending) → Gives e told u → turns < limit → has_stopped (chronicle g (K ++ k.ran.entries)) ≡ false → u.told ≡ told → u.raised ≡ t.raised
+        → StandsFor g (K ++ k.ran.entries) n' ⊎ (IsTrue (is_spent n') × (ended ≡ ending.OutOfMemory) × (length (e ∷ []) ≡ 1))
+        → (keep ≡ true → KeptLines s.kept u.kept k.ran.entries (e ∷ []))
+        → Ends ended (has_stopped (chronicle g (K ++ k.ran.entries))) (turns + 1) limit keep s u (e ∷ []) []
         → IsWork g K keep limit s u n' ended
     given_up e told u n' ended w less going same raised node kept ends =
         ends_here (turns + 1) u n' (e ∷ []) [] ended
-        (goes_as (k.entries ++ e ∷ []) (k.entries ++ e ∷ []) (k.deeds ++ []) k.deeds (turns + 1) u u [] (given_goes e told u [] w less (same ∙ went-none told)) refl (append-nil k.deeds) refl refl refl refl)
-        (omega (arith, less)) k.quits_last (go_more g K k.entries e k.all_go going) (All-push IsEntry k.entries e k.are_values w.value) node raised kept ends
+        (goes_as (k.ran.entries ++ e ∷ []) (k.ran.entries ++ e ∷ []) (k.ran.deeds ++ []) k.ran.deeds (turns + 1) u u [] (given_goes e told u [] w less (same ∙ went-none told)) refl (append-nil k.ran.deeds) refl refl refl refl)
+        (omega (arith, less)) k.quits_last (go_more g K k.ran.entries e k.ran.all_go going) (All-push IsEntry k.ran.entries e k.ran.are_values w.value) node raised kept ends
 
-    one_line : (e : Entry) → lines Second (last_reading 0 k.entries) (e ∷ []) ≡ line Second before e
-    one_line e = append-nil (line Second (last_reading 0 k.entries) e) ∙ sym (next_line before k.entries e k.is_before)
+    one_line : (e : Entry) → lines Second (last_reading 0 k.ran.entries) (e ∷ []) ≡ line Second before e
+    one_line e = append-nil (line Second (last_reading 0 k.ran.entries) e) ∙ sym (next_line before k.ran.entries e k.is_before)
 
-    whole_line : (e : Entry) (u : Scene) → (keep ≡ true → Appends t.kept u.kept (line Second before e)) → keep ≡ true → KeptLines s.kept u.kept k.entries (e ∷ [])
+    whole_line : (e : Entry) (u : Scene) → (keep ≡ true → Appends t.kept u.kept (line Second before e)) → keep ≡ true → KeptLines s.kept u.kept k.ran.entries (e ∷ [])
     whole_line e u kept i = record {
       part = line Second before e;
       rest = [];
-      is_kept = Appends-trans s.kept t.kept u.kept (lines Second 0 k.entries) (line Second before e) (k.are_kept i) (kept i);
+      is_kept = Appends-trans s.kept t.kept u.kept (lines Second 0 k.ran.entries) (line Second before e) (k.are_kept i) (kept i);
       is_part = one_line e ∙ sym (append-nil (line Second before e));
     }
 
-    unput_ends : (e : Entry) (u : Scene) (ended : Ending) → IsRefusal t.record_faults u.record_faults ended → keep ≡ true → has_stopped (chronicle g (K ++ k.entries)) ≡ false
-        → Ends ended (has_stopped (chronicle g (K ++ k.entries))) (turns + 1) limit keep s u (e ∷ []) []
+    unput_ends : (e : Entry) (u : Scene) (ended : Ending) → IsRefusal t.record_faults u.record_faults ended → keep ≡ true → has_stopped (chronicle g (K ++ k.ran.entries)) ≡ false
+        → Ends ended (has_stopped (chronicle g (K ++ k.ran.entries))) (turns + 1) limit keep s u (e ∷ []) []
     unput_ends e u ended how keeps going = ⊎_elim
-        (λ (none : ended ≡ ending.OutOfMemory). subst (λ x. Ends x (has_stopped (chronicle g (K ++ k.entries))) (turns + 1) limit keep s u (e ∷ []) []) (sym none) (omega arith))
-        (λ (fails : (ended ≡ ending.RecordFault) × Rose t.record_faults u.record_faults). subst (λ x. Ends x (has_stopped (chronicle g (K ++ k.entries))) (turns + 1) limit keep s u (e ∷ []) []) (sym fails.0)
+        (λ (none : ended ≡ ending.OutOfMemory). subst (λ x. Ends x (has_stopped (chronicle g (K ++ k.ran.entries))) (turns + 1) limit keep s u (e ∷ []) []) (sym none) (omega arith))
+        (λ (fails : (ended ≡ ending.RecordFault) × Rose t.record_faults u.record_faults). subst (λ x. Ends x (has_stopped (chronicle g (K ++ k.ran.entries))) (turns + 1) limit keep s u (e ∷ []) []) (sym fails.0)
         (going, refl, refl, keeps, rose_later s.record_faults t.record_faults u.record_faults k.record_later fails.1))
         how
 
     -- the world found no memory for an act
-    left_undone : (e : Entry) (told : Option Log) (u : Scene) (n' : Node) (ended : Ending) → Gives e told u → turns < limit → has_stopped (chronicle g (K ++ k.entries)) ≡ false → u.raised ≡ t.raised → IsUndone g (K ++ k.entries) e keep before told u.told t.kept u.kept n' ended → IsWork g K keep limit s u n' ended
+    left_undone : (e : Entry) (told : Option Log) (u : Scene) (n' : Node) (ended : Ending) → Gives e told u → turns < limit → has_stopped (chronicle g (K ++ k.ran.entries)) ≡ false → u.raised ≡ t.raised → IsUndone g (K ++ k.ran.entries) e keep before told u.told t.kept u.kept n' ended → IsWork g K keep limit s u n' ended
     left_undone e told u n' ended w less going raised x = record {
       turns = turns + 1;
-      entries = k.entries ++ e ∷ [];
+      entries = k.ran.entries ++ e ∷ [];
       unstepped = [];
       pending = [];
-      deeds = k.deeds ++ x.deeds;
-      goes = goes_as (k.entries ++ e ∷ []) ((k.entries ++ e ∷ []) ++ []) (k.deeds ++ x.deeds) (k.deeds ++ x.deeds) (turns + 1) u u [] (given_goes e told u x.deeds w less x.is_told) (sym (append-nil (k.entries ++ e ∷ []))) refl refl refl refl refl;
+      deeds = k.ran.deeds ++ x.deeds;
+      goes = goes_as (k.ran.entries ++ e ∷ []) ((k.ran.entries ++ e ∷ []) ++ []) (k.ran.deeds ++ x.deeds) (k.ran.deeds ++ x.deeds) (turns + 1) u u [] (given_goes e told u x.deeds w less x.is_told) (sym (append-nil (k.ran.entries ++ e ∷ []))) refl refl refl refl refl;
       most = omega (arith, less);
-      all_go = subst (AllGo g K) (sym (append-nil (k.entries ++ e ∷ []))) (go_more g K k.entries e k.all_go going);
-      are_values = subst (All IsEntry) (sym (append-nil (k.entries ++ e ∷ []))) (All-push IsEntry k.entries e k.are_values w.value);
+      all_go = subst (AllGo g K) (sym (append-nil (k.ran.entries ++ e ∷ []))) (go_more g K k.ran.entries e k.ran.all_go going);
+      are_values = subst (All IsEntry) (sym (append-nil (k.ran.entries ++ e ∷ []))) (All-push IsEntry k.ran.entries e k.ran.are_values w.value);
       quits_last = k.quits_last;
       node = inl (subst (λ J. StandsFor g J n') (along e) x.stands);
-      did = acts_of g K k.entries ++ x.did;
+      did = acts_of g K k.ran.entries ++ x.did;
       undone = x.undone;
-      are_acts = acts_of-snoc g K k.entries e ∙ ap (λ l. acts_of g K k.entries ++ l) x.are_acts ∙ sym (append_assoc (acts_of g K k.entries) x.did x.undone);
-      are_deeds = AreDeeds-append g (acts_of g K k.entries) x.did k.deeds x.deeds k.are_deeds x.are_deeds;
+      are_acts = acts_of-snoc g K k.ran.entries e ∙ ap (λ l. acts_of g K k.ran.entries ++ l) x.are_acts ∙ sym (append_assoc (acts_of g K k.ran.entries) x.did x.undone);
+      are_deeds = AreDeeds-append g (acts_of g K k.ran.entries) x.did k.ran.deeds x.deeds k.ran.are_deeds x.are_deeds;
       all_done = λ other. absurd (other x.ends);
-      raised = k.told;
+      raised = k.ran.told;
       untold = x.untold;
-      are_events = ap (events g) (sym (along e)) ∙ x.are_events ∙ ap (λ l. l ++ x.untold) k.are_events ∙ append_assoc (events g K) k.told x.untold;
+      are_events = ap (events g) (sym (along e)) ∙ x.are_events ∙ ap (λ l. l ++ x.untold) k.ran.are_events ∙ append_assoc (events g K) k.ran.told x.untold;
       are_raised = raised ∙ k.are_raised;
       all_raised = λ other. absurd (other x.ends);
       are_kept = λ i. record {
         part = [];
         rest = [];
-        is_kept = subst (Appends s.kept u.kept) (sym (append-nil (lines Second 0 (k.entries ++ e ∷ [])))) (kept_more s.kept t.kept u.kept before k.entries e k.is_before (k.are_kept i) (x.is_kept i));
+        is_kept = subst (Appends s.kept u.kept) (sym (append-nil (lines Second 0 (k.ran.entries ++ e ∷ [])))) (kept_more s.kept t.kept u.kept before k.ran.entries e k.is_before (k.are_kept i) (x.is_kept i));
         is_part = refl;
       };
-      ends = subst (λ y. Ends y (has_stopped (chronicle g (K ++ (k.entries ++ e ∷ [])))) (turns + 1) limit keep s u [] []) (sym x.ends) (omega arith);
+      ends = subst (λ y. Ends y (has_stopped (chronicle g (K ++ (k.ran.entries ++ e ∷ [])))) (turns + 1) limit keep s u [] []) (sym x.ends) (omega arith);
     }
 
-    pub broke : (e : Entry) (told : Option Log) (u : Scene) (n' : Node) (ended : Ending) → Gives e told u → turns < limit → u.raised ≡ t.raised → has_stopped (chronicle g (K ++ k.entries)) ≡ false
-        → Broke g (K ++ k.entries) e keep before told u.told t.kept u.kept t.record_faults u.record_faults n' ended → IsWork g K keep limit s u n' ended
+    pub broke : (e : Entry) (told : Option Log) (u : Scene) (n' : Node) (ended : Ending) → Gives e told u → turns < limit → u.raised ≡ t.raised → has_stopped (chronicle g (K ++ k.ran.entries)) ≡ false
+        → Broke g (K ++ k.ran.entries) e keep before told u.told t.kept u.kept t.record_faults u.record_faults n' ended → IsWork g K keep limit s u n' ended
     broke e told u n' ended w less raised going how = ⊎_elim
-        (λ (x : IsUnput g (K ++ k.entries) e keep before told u.told t.kept u.kept t.record_faults u.record_faults n' ended).
+        (λ (x : IsUnput g (K ++ k.ran.entries) e keep before told u.told t.kept u.kept t.record_faults u.record_faults n' ended).
         given_up e told u n' ended w less going x.is_told raised (inl x.stands)
-        (λ i. record { part = x.part; rest = x.rest; is_kept = Appends-trans s.kept t.kept u.kept (lines Second 0 k.entries) x.part (k.are_kept i) x.is_kept; is_part = one_line e ∙ x.is_part })
+        (λ i. record { part = x.part; rest = x.rest; is_kept = Appends-trans s.kept t.kept u.kept (lines Second 0 k.ran.entries) x.part (k.are_kept i) x.is_kept; is_part = one_line e ∙ x.is_part })
         (unput_ends e u ended x.ends x.keeps going))
         (λ rest. ⊎_elim
         (λ (x : IsUnstepped e keep before told u.told t.kept u.kept n' ended).
         given_up e told u n' ended w less going x.is_told raised (inr (x.spent, x.ends, refl)) (whole_line e u x.is_kept)
-        (subst (λ y. Ends y (has_stopped (chronicle g (K ++ k.entries))) (turns + 1) limit keep s u (e ∷ []) []) (sym x.ends) (omega arith)))
-        (λ (x : IsUndone g (K ++ k.entries) e keep before told u.told t.kept u.kept n' ended). left_undone e told u n' ended w less going raised x)
+        (subst (λ y. Ends y (has_stopped (chronicle g (K ++ k.ran.entries))) (turns + 1) limit keep s u (e ∷ []) []) (sym x.ends) (omega arith)))
+        (λ (x : IsUndone g (K ++ k.ran.entries) e keep before told u.told t.kept u.kept n' ended). left_undone e told u n' ended w less going raised x)
         rest)
         how
 
     -- the world's refusal is the ending
-    pub refused_ends : (f : NextFault) → turns < limit → (f ≡ fault.Failed → Rose s.world_faults t.world_faults) → has_stopped (chronicle g (K ++ k.entries)) ≡ false → IsWork g K keep limit s t n (world_ending f)
+    pub refused_ends : (f : NextFault) → turns < limit → (f ≡ fault.Failed → Rose s.world_faults t.world_faults) → has_stopped (chronicle g (K ++ k.ran.entries)) ≡ false → IsWork g K keep limit s t n (world_ending f)
     refused_ends fault.Failed less rose going = leaves ending.WorldFault (going, refl, few command, less, rose refl)
     refused_ends fault.OutOfMemory less rose going = leaves ending.OutOfMemory (omega (arith, few command))
 

@@ -28,7 +28,7 @@ returns-then-stopped-clause-work g c = λ f K here. (
     let s = scene (w.told c.args.world) (w.looked c.args.world) (w.faults c.args.world) (r.kept c.args.rec) (r.faults c.args.rec) c.args.pass in
     let t = scene (w.told l.world) (w.looked l.world) (w.faults l.world) (r.kept l.rec) (r.faults l.rec) l.pass in
     let k = l.invariant.running f K here in
-    let stopped = sym (c.stopped.ensures f (K ++ k.entries) k.node) ∙ c.if-stopped.true in
+    let stopped = sym (c.stopped.ensures f (K ++ k.ran.entries) k.ran.node) ∙ c.if-stopped.true in
     working.handed_back f K c.args.keep c.args.limit s t _ l.node _ ending.Stopped _ (working.leaves_stopped f K c.args.keep c.args.limit s l.turn t l.node l.command l.before k stopped)
     (λ i. record { told = w.told (same.0 i); looked = w.looked (same.0 i); world_faults = w.faults (same.0 i); kept = r.kept (same.2 i); record_faults = r.faults (same.2 i); popped = p.0 i; raised = p.1 i; empties = p.2 i })
     same.1 same.3)
@@ -40,7 +40,7 @@ returns-in-Err-clause-work g c = λ f K here. (
     let t = scene (w.told l.world) (w.looked l.world) (w.faults l.world) (r.kept l.rec) (r.faults l.rec) l.pass in
     let u = scene (w.told x) (w.looked x) (w.faults x) (r.kept l.rec) (r.faults l.rec) l.pass in
     let k = l.invariant.running f K here in
-    let going = sym (c.stopped.ensures f (K ++ k.entries) k.node) ∙ c.if-stopped.false in
+    let going = sym (c.stopped.ensures f (K ++ k.ran.entries) k.ran.node) ∙ c.if-stopped.false in
     let refuses : working.Refuses f K c.args.keep c.args.limit s l.turn t l.node l.command l.before k c.in-Err.fault u = record {
       told = c.in-Err.ensures.refused.0;
       looked = c.in-Err.ensures.refused.1;
@@ -63,7 +63,7 @@ returns-in-Err-take_entry-clause-work g c = λ f K here. (
     let t = scene (w.told l.world) (w.looked l.world) (w.faults l.world) (r.kept l.rec) (r.faults l.rec) l.pass in
     let u = scene (w.told z.world) (w.looked z.world) (w.faults z.world) (r.kept z.rec) (r.faults z.rec) l.pass in
     let k = l.invariant.running f K here in
-    let going = sym (c.stopped.ensures f (K ++ k.entries) k.node) ∙ c.if-stopped.false in
+    let going = sym (c.stopped.ensures f (K ++ k.ran.entries) k.ran.node) ∙ c.if-stopped.false in
     let facts = subst (λ (a : Turn). IsTurn l.command a × (w.told x ≡ option_map (after_turn l.command a) (w.told l.world)) × (w.looked x ≡ is_look a)) c.in-Entry.is (c.in-Ok.ensures.turn, c.in-Ok.ensures.told, c.in-Ok.ensures.looked) in
     let gives : working.Gives f K c.args.keep c.args.limit s l.turn t l.node l.command l.before k c.in-Entry.entry (w.told x) u = record {
       is_turn = facts.0;
@@ -77,7 +77,7 @@ returns-in-Err-take_entry-clause-work g c = λ f K here. (
     } in
     working.handed_back f K c.args.keep c.args.limit s u _ z.node _ c.in-Err-take_entry.ending _
     (working.broke f K c.args.keep c.args.limit s l.turn t l.node l.command l.before k c.in-Entry.entry (w.told x) u z.node c.in-Err-take_entry.ending gives c.loop-turn-test.true refl going
-    (c.in-Err-take_entry.ensures.broke f (K ++ k.entries) k.node))
+    (c.in-Err-take_entry.ensures.broke f (K ++ k.ran.entries) k.ran.node))
     (λ i. record { told = w.told (same.0 i); looked = w.looked (same.0 i); world_faults = w.faults (same.0 i); kept = r.kept (same.2 i); record_faults = r.faults (same.2 i); popped = p.0 i; raised = p.1 i; empties = p.2 i })
     same.1 same.3)
 
@@ -89,7 +89,7 @@ returns-clause-work g c = λ f K here. (
     let k = l.invariant.running f K here in
     let last : l.turn ≡ c.args.limit = omega (arith, c.loop-turn-test.false) in
     working.handed_back f K c.args.keep c.args.limit s t _ l.node _ c.last_ending-ending.result _
-    (working.leaves_at_end f K c.args.keep c.args.limit s l.turn t l.node l.command l.before k (l.invariant.last last) last c.last_ending-ending.result (c.last_ending-ending.ensures f (K ++ k.entries) k.node))
+    (working.leaves_at_end f K c.args.keep c.args.limit s l.turn t l.node l.command l.before k (l.invariant.last last) last c.last_ending-ending.result (c.last_ending-ending.ensures f (K ++ k.ran.entries) k.ran.node))
     (λ i. record { told = w.told (same.0 i); looked = w.looked (same.0 i); world_faults = w.faults (same.0 i); kept = r.kept (same.2 i); record_faults = r.faults (same.2 i); popped = p.0 i; raised = p.1 i; empties = p.2 i })
     same.1 same.3)
 
@@ -111,7 +111,7 @@ loop-turn-preserved g c =
             named = h.named;
             running = λ f K here. (let k = h.running f K here in
                 let u = scene (w.told x) (w.looked x) (w.faults x) (r.kept l.rec) (r.faults l.rec) m.pop.result.0 in
-                let going = sym (c.stopped.ensures f (K ++ k.entries) k.node) ∙ c.if-stopped.false in
+                let going = sym (c.stopped.ensures f (K ++ k.ran.entries) k.ran.node) ∙ c.if-stopped.false in
                 let looks : working.Looks f K c.args.keep c.args.limit s l.turn t l.node l.command l.before k u = record { told = facts.1; looked = facts.2; calm = record { raised = m.pop.ensures.events.0; kept = refl; world_later = c.in-Ok.ensures.later; record_same = refl } } in
                 working.looked_again f K c.args.keep c.args.limit s l.turn t l.node l.command l.before k u m.pop.result.1 looks
                 (working.pops l.pass m.pop.result.0 m.pop.result.1 (w.told l.world) (w.told x) (w.looked l.world) (w.looked x) (w.faults l.world) (w.faults x) (r.kept l.rec) (r.faults l.rec)
@@ -157,7 +157,7 @@ loop-turn-preserved g c =
                   record_later = took.later;
                 } in
                 working.went_on f K c.args.keep c.args.limit s l.turn t l.node l.command l.before k m.in-Entry.entry (w.told x) u z.node m.in-Ok-take_entry.events gives c.loop-turn-test.true facts.0
-                (sym (c.stopped.ensures f (K ++ k.entries) k.node) ∙ c.if-stopped.false)
-                (m.in-Ok-take_entry.ensures.ok f (K ++ k.entries) k.node) m.raise_all-pass.ensures.raised);
+                (sym (c.stopped.ensures f (K ++ k.ran.entries) k.ran.node) ∙ c.if-stopped.false)
+                (m.in-Ok-take_entry.ensures.ok f (K ++ k.ran.entries) k.ran.node) m.raise_all-pass.ensures.raised);
           })
     ]
