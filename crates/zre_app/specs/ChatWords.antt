@@ -7,7 +7,7 @@ use Rattle.zre_outside.specs.declared.start.Start.{Start}
 use Rattle.zre_values.specs.Settings.{is_valid}
 use Rattle.zre_values.specs.declared.settings.Settings.{Settings as Config}
 use Rattle.zre_chat.specs.declared.chat.Chat.{Chat}
-use Rattle.zre_app.specs.Keys.{are_words_of, begins, after, value_of}
+use Rattle.zre_app.specs.Keys.{are_words_of, value_of, values_from}
 use Rattle.zre_app.specs.Names.{after_name}
 use Rattle.zre_app.specs.NodeWords.{node_keys, number_or, between, config_in}
 use Rattle.zre_app.specs.declared.keys.Often.{Often}
@@ -22,12 +22,7 @@ chat_keys =
 
 -- these addresses and those of the words, in order; none where one is no address
 abbrev pub addresses_from : List (List ℕ) → List (List ℕ) → Option (List (List ℕ))
-addresses_from done [] = Some done
-addresses_from done (word ∷ words) =
-    if begins (codes "to=") word
-    then option_and_then (λ a. addresses_from (done ++ a ∷ []) words)
-    (option_and_then address_of (after (codes "to=") word))
-    else addresses_from done words
+addresses_from done words = values_from (codes "to=") address_of done words
 
 -- at most 64 addresses
 abbrev pub if_few : List (List ℕ) → Option (List (List ℕ))

@@ -1,6 +1,6 @@
 -- The words of a command after its name: keys with their values in any order.
-use Rattle.std.specs.Prelude.{ℕ, Bool, true, ◌&&◌, ◌==◌, nat_le, List, [], ◌∷◌, Option, Some, None, is_some, option_map}
-use Rattle.std.specs.Prelude.{count_by, if◌then◌else◌}
+use Rattle.std.specs.Prelude.{ℕ, Bool, true, ◌&&◌, ◌==◌, nat_le, List, [], ◌∷◌, ◌++◌, Option, Some, None, is_some}
+use Rattle.std.specs.Prelude.{option_map, option_and_then, count_by, if◌then◌else◌}
 use Rattle.std.specs.List.{list_any, list_all}
 use Rattle.uuid.specs.Text.{parsed}
 use Rattle.zre_values.specs.declared.peer_id.PeerId.{PeerId}
@@ -33,6 +33,14 @@ are_words_of keys words =
 abbrev pub value_of : List ℕ → List (List ℕ) → Option (List ℕ)
 value_of key [] = None
 value_of key (word ∷ words) = if begins key word then after key word else value_of key words
+
+-- these values and those of a key's words, in order; none where one of them has none
+abbrev pub values_from : {V : Type 0} → List ℕ → (List ℕ → Option V) → List V → List (List ℕ) → Option (List V)
+values_from key read done [] = Some done
+values_from key read done (word ∷ words) =
+    if begins key word
+    then option_and_then (λ v. values_from key read (done ++ v ∷ []) words) (option_and_then read (after key word))
+    else values_from key read done words
 
 -- an identity in any text form of a UUID
 abbrev pub identity : List ℕ → Option PeerId

@@ -1,12 +1,12 @@
 -- The words that set up a node.
-use Rattle.std.specs.Prelude.{ℕ, ◌+◌, ◌==◌, ◌&&◌, List, [], ◌∷◌, ◌++◌, Option, Some, None, nat_le, nat_lt, take, drop}
+use Rattle.std.specs.Prelude.{ℕ, ◌+◌, ◌==◌, ◌&&◌, List, [], ◌∷◌, Option, Some, None, nat_le, nat_lt, take, drop}
 use Rattle.std.specs.Prelude.{position, unwrap_or, option_and_then, option_map, codes, if◌then◌else◌}
 use Rattle.zre_values.specs.Text.{id_text}
 use Rattle.zre_values.specs.declared.peer_id.PeerId.{PeerId}
 use Rattle.zre_capture.specs.Values.{number_of, address_of}
 use Rattle.zre_values.specs.Settings.{is_valid}
 use Rattle.zre_values.specs.declared.settings.Settings.{Settings as Config}
-use Rattle.zre_app.specs.Keys.{after, begins, value_of, identity}
+use Rattle.zre_app.specs.Keys.{value_of, values_from, identity}
 use Rattle.zre_app.specs.declared.keys.Often.{Often}
 use Rattle.zre_app.specs.declared.keys.Often.TheVariants.{Once, AtMostOnce, AnyTimes}
 use Rattle.zre_app.specs.declared.node_words.Fixed.{Fixed}
@@ -62,12 +62,7 @@ header_of text = option_map (λ i. (take i text, drop (i + 1) text)) (position (
 
 -- these headers and those of the words, in order; none where one has no `=`
 abbrev pub headers_from : List (List ℕ × List ℕ) → List (List ℕ) → Option (List (List ℕ × List ℕ))
-headers_from done [] = Some done
-headers_from done (word ∷ words) =
-    if begins (codes "header=") word
-    then option_and_then (λ h. headers_from (done ++ h ∷ []) words)
-    (option_and_then header_of (after (codes "header=") word))
-    else headers_from done words
+headers_from done words = values_from (codes "header=") header_of done words
 
 abbrev pub config_by : Fixed → List ℕ → List (List ℕ × List ℕ) → Config
 config_by f name headers = record {

@@ -15,19 +15,20 @@ use Rattle.zre_app.specs.declared.plain_words.Plain.{Plain}
 use Rattle.zre_app.specs.declared.plain_words.Plain.TheVariants.{Follow, Show, Replay, ReplayTold, Upgrade, Table}
 use Rattle.zre_app.specs.declared.plain_words.Plain.TheVariants.{Audit, Simulate, Exercise}
 
--- the keys of `follow`: the identity of the peer
-abbrev pub follow_keys : List (List ℕ × Often)
-follow_keys = (codes "id=", Once) ∷ []
+-- a command that has no words
+abbrev pub alone : Plain → List (List ℕ) → Option Plain
+alone plain words = if are_words_of [] words then Some plain else None
 
-abbrev pub follow_of : List (List ℕ) → Option Plain
-follow_of words =
-    if are_words_of follow_keys words
-    then option_map Follow (option_and_then identity (value_of (codes "id=") words))
+-- a command of one key, by what is read of the key's value
+abbrev pub of_one : {V : Type 0} → (V → Plain) → List ℕ → (List ℕ → Option V) → List (List ℕ) → Option Plain
+of_one made key read words =
+    if are_words_of ((key, Once) ∷ []) words
+    then option_map made (option_and_then read (value_of key words))
     else None
 
--- `show` has no words
-abbrev pub show_of : List (List ℕ) → Option Plain
-show_of words = if are_words_of [] words then Some Show else None
+-- `follow` has the identity of the peer
+abbrev pub follow_of : List (List ℕ) → Option Plain
+follow_of words = of_one Follow (codes "id=") identity words
 
 -- the settings of a node by its words alone
 abbrev pub node_of : List (List ℕ) → Option Config
@@ -47,23 +48,9 @@ abbrev pub group_in : List ℕ → Option (List ℕ)
 group_in text =
     option_and_then (λ name. if nat_le (length name) GROUP_OCTETS then Some name else None) (group_of text)
 
--- the keys of `table`: the group
-abbrev pub table_keys : List (List ℕ × Often)
-table_keys = (codes "group=", Once) ∷ []
-
+-- `table` has the group
 abbrev pub table_of : List (List ℕ) → Option Plain
-table_of words =
-    if are_words_of table_keys words
-    then option_map Table (option_and_then group_in (value_of (codes "group=") words))
-    else None
-
--- `audit` has no words
-abbrev pub audit_of : List (List ℕ) → Option Plain
-audit_of words = if are_words_of [] words then Some Audit else None
-
--- `simulate` has none
-abbrev pub simulate_of : List (List ℕ) → Option Plain
-simulate_of words = if are_words_of [] words then Some Simulate else None
+table_of words = of_one Table (codes "group=") group_in words
 
 -- the keys of `exercise`: the seed, and how many peers and messages there are
 abbrev pub exercise_keys : List (List ℕ × Often)
@@ -86,12 +73,12 @@ exercise_of words = if are_words_of exercise_keys words then exercise_in words e
 abbrev pub plain_named : List ℕ → List (List ℕ) → Option Plain
 plain_named name words =
     if bytes_eq name (codes "follow") then follow_of words
-    else if bytes_eq name (codes "show") then show_of words
+    else if bytes_eq name (codes "show") then alone Show words
     else if bytes_eq name (codes "replay") then replay_of words
     else if bytes_eq name (codes "upgrade") then upgrade_of words
     else if bytes_eq name (codes "table") then table_of words
-    else if bytes_eq name (codes "audit") then audit_of words
-    else if bytes_eq name (codes "simulate") then simulate_of words
+    else if bytes_eq name (codes "audit") then alone Audit words
+    else if bytes_eq name (codes "simulate") then alone Simulate words
     else if bytes_eq name (codes "exercise") then exercise_of words
     else None
 

@@ -9,10 +9,10 @@ ghost use Rattle.zre_app.specs.Keys.{value_of as value_of_key};
 ghost use Rattle.zre_app.specs.NodeWords.{between, number_or as number_or_default};
 
 use crate::keys::{Key, Often, after, are_words_of, value_of};
-use crate::node_words::{config_in, node_keys, number_or};
+use crate::node_words::{config_in, keys_of_node, number_or};
 use crate::words::{after_name, is_text};
 use std::alloc::Global;
-use zre_capture::address;
+use zre_capture::{address, found};
 use zre_chat::Chat;
 use zre_journal::Config;
 use zre_outside::{Addresses, Start};
@@ -24,25 +24,26 @@ const ADDRESSES: usize = 64;
 // The milliseconds of a day, the longest time from one beacon to the next.
 const DAY: u64 = 86400000;
 
-/// The keys of `chat`: those of a node, and five more.
-pub(crate) fn chat_keys() -> [Key<'static>; 12]
+/// An array of the keys of `chat`, those of a node and five more, and of more.
+macro_rules! keys_of_chat {
+    ($($more:expr),*) => {
+        keys_of_node!(
+            (b"to=", Often::AnyTimes),
+            (b"listen=", Often::AtMostOnce),
+            (b"beacon=", Often::AtMostOnce),
+            (b"interval=", Often::AtMostOnce),
+            (b"capture=", Often::AtMostOnce)
+            $(, $more)*
+        )
+    };
+}
+
+pub(crate) use keys_of_chat;
+
+fn chat_keys() -> [Key<'static>; 12]
     ensures { map (λ key. (key.0.now, key.1)) result ≡ chat_keys }
 {
-    let [id, host, port, name, header, evasive, expired] = node_keys();
-    [
-        id,
-        host,
-        port,
-        name,
-        header,
-        evasive,
-        expired,
-        (b"to=", Often::AnyTimes),
-        (b"listen=", Often::AtMostOnce),
-        (b"beacon=", Often::AtMostOnce),
-        (b"interval=", Often::AtMostOnce),
-        (b"capture=", Often::AtMostOnce),
-    ]
+    keys_of_chat!()
 }
 
 // A word's address is appended, if it is the word of one. Says whether it isn't a bad one.
@@ -53,13 +54,11 @@ fn take_address(word: &[u8], to: &mut Addresses) -> Result<bool, OutOfMemory>
     let Some(text) = after(b"to=", word) else {
         return Ok(true);
     };
-    match address(text) {
-        Some(host) => {
-            to.push(host)?;
-            Ok(true)
-        }
-        None => Ok(false),
-    }
+    let Some(host) = address(text) else {
+        return Ok(false);
+    };
+    to.push(host)?;
+    Ok(true)
 }
 
 fn addresses_in(alloc: Global, words: &[Octets]) -> Result<Option<Addresses>, OutOfMemory>
@@ -141,18 +140,10 @@ fn start_in(alloc: Global, config: &Config, words: &[Octets]) -> Result<Option<S
     ensures beacon { IfOk result (λ start. IfSome start (λ s. 1 ≤ s.beacon_port)) }
     ensures interval { IfOk result (λ start. IfSome start (λ s. (1 ≤ s.interval) × (s.interval ≤ 86400000))) }
 {
-    let Some(to) = to_in(alloc, words)? else {
-        return Ok(None);
-    };
-    let Some(listen) = listen_in(words) else {
-        return Ok(None);
-    };
-    let Some(beacon_port) = beacon_in(words) else {
-        return Ok(None);
-    };
-    let Some(interval) = interval_in(words) else {
-        return Ok(None);
-    };
+    let to = found!(to_in(alloc, words)?);
+    let listen = found!(listen_in(words));
+    let beacon_port = found!(beacon_in(words));
+    let interval = found!(interval_in(words));
     Ok(Some(Start {
         host: config.host,
         port: config.port,
@@ -182,10 +173,8 @@ fn capture_in(alloc: Global, words: &[Octets]) -> Result<Option<Option<Octets>>,
     let Some(text) = value_of(b"capture=", words) else {
         return Ok(Some(None));
     };
-    match file_name_of(alloc, text)? {
-        Some(name) => Ok(Some(Some(name))),
-        None => Ok(None),
-    }
+    let name = found!(file_name_of(alloc, text)?);
+    Ok(Some(Some(name)))
 }
 
 /// The chat of these words.
@@ -193,15 +182,9 @@ pub(crate) fn chat_in(alloc: Global, words: &[Octets]) -> Result<Option<Chat>, O
     ensures value { IfOk result (λ chat. chat ≡ chat_in words.now) }
     ensures ready { IfOk result (λ chat. IfSome chat CanChat) }
 {
-    let Some(config) = config_in(alloc, words)? else {
-        return Ok(None);
-    };
-    let Some(start) = start_in(alloc, &config, words)? else {
-        return Ok(None);
-    };
-    let Some(capture) = capture_in(alloc, words)? else {
-        return Ok(None);
-    };
+    let config = found!(config_in(alloc, words)?);
+    let start = found!(start_in(alloc, &config, words)?);
+    let capture = found!(capture_in(alloc, words)?);
     Ok(Some(Chat {
         config,
         start,

@@ -4,11 +4,12 @@ ghost use Rattle.std.specs.Prelude.{◌≡◌, ◌==◌, ◌≤◌, map, positio
 ghost use Rattle.zre_app.specs.GateWords.{gate_keys, clients_in, port_of_place, place_of, local_in, gate_in};
 ghost use Rattle.zre_app.specs.GateWords.{is_gate, gate_of, CanGate};
 
-use crate::chat_words::{chat_in, chat_keys};
+use crate::chat_words::{chat_in, keys_of_chat};
 use crate::keys::{Key, Often, are_words_of, value_of};
+use crate::node_words::keys_of_node;
 use crate::words::{after_name, is_named};
 use std::alloc::Global;
-use zre_capture::{address, number};
+use zre_capture::{address, found, number};
 use zre_gate::Gate;
 use zre_values::{Endpoint, Frames, Octets, OutOfMemory};
 
@@ -16,36 +17,7 @@ use zre_values::{Endpoint, Frames, Octets, OutOfMemory};
 fn gate_keys() -> [Key<'static>; 14]
     ensures { map (λ key. (key.0.now, key.1)) result ≡ gate_keys }
 {
-    let [
-        id,
-        host,
-        port,
-        name,
-        header,
-        evasive,
-        expired,
-        to,
-        listen,
-        beacon,
-        interval,
-        capture,
-    ] = chat_keys();
-    [
-        id,
-        host,
-        port,
-        name,
-        header,
-        evasive,
-        expired,
-        to,
-        listen,
-        beacon,
-        interval,
-        capture,
-        (b"clients=", Often::Once),
-        (b"local=", Often::Once),
-    ]
+    keys_of_chat!((b"clients=", Often::Once), (b"local=", Often::Once))
 }
 
 // How many clients there are.
@@ -80,17 +52,10 @@ fn colon_in(text: &[u8]) -> Option<usize>
 fn place_of(text: &[u8]) -> Option<Endpoint>
     ensures { result ≡ place_of text.now }
 {
-    let Some(i) = colon_in(text) else {
-        return None;
-    };
-    let (front, rest) = text.split_at(i);
+    let (front, rest) = text.split_at(colon_in(text)?);
     let (_, after) = rest.split_at(1);
-    let Some(addr) = address(front) else {
-        return None;
-    };
-    let Some(port) = port_of_place(after) else {
-        return None;
-    };
+    let addr = address(front)?;
+    let port = port_of_place(after)?;
     Some(Endpoint { addr, port })
 }
 
@@ -98,25 +63,16 @@ fn place_of(text: &[u8]) -> Option<Endpoint>
 fn local_in(words: &[Octets]) -> Option<Endpoint>
     ensures { result ≡ local_in words.now }
 {
-    match value_of(b"local=", words) {
-        Some(text) => place_of(text),
-        None => None,
-    }
+    place_of(value_of(b"local=", words)?)
 }
 
 fn gate_in(alloc: Global, words: &[Octets]) -> Result<Option<Gate>, OutOfMemory>
     ensures value { IfOk result (λ gate. gate ≡ gate_in words.now) }
     ensures ready { IfOk result (λ gate. IfSome gate CanGate) }
 {
-    let Some(chat) = chat_in(alloc, words)? else {
-        return Ok(None);
-    };
-    let Some(local) = local_in(words) else {
-        return Ok(None);
-    };
-    let Some(clients) = clients_in(words) else {
-        return Ok(None);
-    };
+    let chat = found!(chat_in(alloc, words)?);
+    let local = found!(local_in(words));
+    let clients = found!(clients_in(words));
     Ok(Some(Gate {
         chat,
         local,

@@ -9,7 +9,7 @@ ghost use Rattle.zre_values.specs.Settings.{is_valid};
 
 use crate::keys::{Key, Often, after, begins, identity, value_of};
 use std::alloc::Global;
-use zre_capture::{address, number};
+use zre_capture::{address, found, number};
 use zre_journal::Config;
 use zre_values::{Octets, OutOfMemory, Pairs, PeerId};
 
@@ -23,19 +23,29 @@ pub(crate) struct Fixed {
     pub expired: u64,
 }
 
+/// An array of the keys of a node, and of more.
+macro_rules! keys_of_node {
+    ($($more:expr),*) => {
+        [
+            (b"id=", Often::Once),
+            (b"host=", Often::Once),
+            (b"port=", Often::Once),
+            (b"name=", Often::AtMostOnce),
+            (b"header=", Often::AnyTimes),
+            (b"evasive=", Often::AtMostOnce),
+            (b"expired=", Often::AtMostOnce),
+            $($more),*
+        ]
+    };
+}
+
+pub(crate) use keys_of_node;
+
 /// The keys of a node.
 pub(crate) fn node_keys() -> [Key<'static>; 7]
     ensures { map (λ key. (key.0.now, key.1)) result ≡ node_keys }
 {
-    [
-        (b"id=", Often::Once),
-        (b"host=", Often::Once),
-        (b"port=", Often::Once),
-        (b"name=", Often::AtMostOnce),
-        (b"header=", Often::AnyTimes),
-        (b"evasive=", Often::AtMostOnce),
-        (b"expired=", Often::AtMostOnce),
-    ]
+    keys_of_node!()
 }
 
 /// The number of a key that may be left out.
@@ -60,28 +70,19 @@ fn port_of(text: &[u8]) -> Option<u16>
 fn id_in(words: &[Octets]) -> Option<PeerId>
     ensures { result ≡ id_in words.now }
 {
-    match value_of(b"id=", words) {
-        Some(text) => identity(text),
-        None => None,
-    }
+    identity(value_of(b"id=", words)?)
 }
 
 fn host_in(words: &[Octets]) -> Option<[u8; 4]>
     ensures { result ≡ host_in words.now }
 {
-    match value_of(b"host=", words) {
-        Some(text) => address(text),
-        None => None,
-    }
+    address(value_of(b"host=", words)?)
 }
 
 fn port_in(words: &[Octets]) -> Option<u16>
     ensures { result ≡ port_in words.now }
 {
-    match value_of(b"port=", words) {
-        Some(text) => port_of(text),
-        None => None,
-    }
+    port_of(value_of(b"port=", words)?)
 }
 
 fn evasive_in(words: &[Octets]) -> Option<u64>
@@ -99,27 +100,13 @@ fn expired_in(words: &[Octets]) -> Option<u64>
 fn fixed_in(words: &[Octets]) -> Option<Fixed>
     ensures { result ≡ fixed_in words.now }
 {
-    let Some(id) = id_in(words) else {
-        return None;
-    };
-    let Some(host) = host_in(words) else {
-        return None;
-    };
-    let Some(port) = port_in(words) else {
-        return None;
-    };
-    let Some(evasive) = evasive_in(words) else {
-        return None;
-    };
-    let Some(expired) = expired_in(words) else {
-        return None;
-    };
+    let host = host_in(words)?;
     Some(Fixed {
-        id,
+        id: id_in(words)?,
         host,
-        port,
-        evasive,
-        expired,
+        port: port_in(words)?,
+        evasive: evasive_in(words)?,
+        expired: expired_in(words)?,
     })
 }
 
@@ -168,13 +155,11 @@ fn take_header(alloc: Global, word: &[u8], headers: &mut Pairs) -> Result<bool, 
     if !begins(b"header=", word) {
         return Ok(true);
     }
-    match header_in(alloc, word)? {
-        Some((name, value)) => {
-            headers.push(name, value)?;
-            Ok(true)
-        }
-        None => Ok(false),
-    }
+    let Some((name, value)) = header_in(alloc, word)? else {
+        return Ok(false);
+    };
+    headers.push(name, value)?;
+    Ok(true)
 }
 
 fn headers_in(alloc: Global, words: &[Octets]) -> Result<Option<Pairs>, OutOfMemory>
@@ -194,12 +179,8 @@ pub(crate) fn config_in(alloc: Global, words: &[Octets]) -> Result<Option<Config
     ensures value { IfOk result (λ config. config ≡ config_in words.now) }
     ensures valid { IfOk result (λ config. IfSome config (λ g. is_valid g ≡ true)) }
 {
-    let Some(fixed) = fixed_in(words) else {
-        return Ok(None);
-    };
-    let Some(headers) = headers_in(alloc, words)? else {
-        return Ok(None);
-    };
+    let fixed = found!(fixed_in(words));
+    let headers = found!(headers_in(alloc, words)?);
     let config = Config {
         id: fixed.id,
         name: name_in(alloc, fixed.id, words)?,

@@ -2,8 +2,7 @@
 
 ghost use Rattle.std.specs.Prelude.{◌≡◌, ◌≤◌, true, map, IfOk, IfSome};
 ghost use Rattle.zre_values.specs.Settings.{is_valid};
-ghost use Rattle.zre_app.specs.PlainWords.{follow_of, show_of, node_of, replay_of, upgrade_of, group_in, table_of};
-ghost use Rattle.zre_app.specs.PlainWords.{audit_of, simulate_of};
+ghost use Rattle.zre_app.specs.PlainWords.{alone, follow_of, node_of, replay_of, upgrade_of, group_in, table_of};
 ghost use Rattle.zre_app.specs.PlainWords.{number_in, exercise_in};
 ghost use Rattle.zre_app.specs.PlainWords.{exercise_keys, exercise_of, plain_named, plain_of, CanDo};
 
@@ -11,7 +10,7 @@ use crate::keys::{Key, Often, are_words_of, identity, value_of};
 use crate::node_words::{config_in, node_keys};
 use crate::words::are_texts;
 use std::alloc::Global;
-use zre_capture::{group, number};
+use zre_capture::{found, group, number};
 use zre_journal::Config;
 use zre_values::limits::GROUP_OCTETS;
 use zre_values::{Frames, Octets, OutOfMemory, PeerId};
@@ -59,21 +58,18 @@ fn follow_of(words: &[Octets]) -> Option<Plain>
     if !are_words_of(&keys, words) {
         return None;
     }
-    match value_of(b"id=", words) {
-        None => None,
-        Some(text) => match identity(text) {
-            None => None,
-            Some(id) => Some(Plain::Follow { id }),
-        },
-    }
+    let id = identity(value_of(b"id=", words)?)?;
+    Some(Plain::Follow { id })
 }
 
-fn show_of(words: &[Octets]) -> Option<Plain>
-    ensures value { result ≡ show_of words.now }
+// A command that has no words.
+fn alone(plain: Plain, words: &[Octets]) -> Option<Plain>
+    requires { CanDo plain }
+    ensures value { result ≡ alone plain words.now }
     ensures ready { IfSome result CanDo }
 {
     if are_words_of(&[], words) {
-        Some(Plain::Show)
+        Some(plain)
     } else {
         None
     }
@@ -97,20 +93,16 @@ fn replay_of(alloc: Global, words: &[Octets]) -> Result<Option<Plain>, OutOfMemo
     if words.is_empty() {
         return Ok(Some(Plain::ReplayTold));
     }
-    match node_of(alloc, words)? {
-        Some(config) => Ok(Some(Plain::Replay { config })),
-        None => Ok(None),
-    }
+    let config = found!(node_of(alloc, words)?);
+    Ok(Some(Plain::Replay { config }))
 }
 
 fn upgrade_of(alloc: Global, words: &[Octets]) -> Result<Option<Plain>, OutOfMemory>
     ensures value { IfOk result (λ plain. plain ≡ upgrade_of words.now) }
     ensures ready { IfOk result (λ plain. IfSome plain CanDo) }
 {
-    match node_of(alloc, words)? {
-        Some(config) => Ok(Some(Plain::Upgrade { config })),
-        None => Ok(None),
-    }
+    let config = found!(node_of(alloc, words)?);
+    Ok(Some(Plain::Upgrade { config }))
 }
 
 // A group by its quoted text, where a group can have this name.
@@ -131,35 +123,9 @@ fn table_of(alloc: Global, words: &[Octets]) -> Result<Option<Plain>, OutOfMemor
     if !are_words_of(&keys, words) {
         return Ok(None);
     }
-    let Some(text) = value_of(b"group=", words) else {
-        return Ok(None);
-    };
-    match group_in(alloc, text)? {
-        Some(group) => Ok(Some(Plain::Table { group })),
-        None => Ok(None),
-    }
-}
-
-fn audit_of(words: &[Octets]) -> Option<Plain>
-    ensures value { result ≡ audit_of words.now }
-    ensures ready { IfSome result CanDo }
-{
-    if are_words_of(&[], words) {
-        Some(Plain::Audit)
-    } else {
-        None
-    }
-}
-
-fn simulate_of(words: &[Octets]) -> Option<Plain>
-    ensures value { result ≡ simulate_of words.now }
-    ensures ready { IfSome result CanDo }
-{
-    if are_words_of(&[], words) {
-        Some(Plain::Simulate)
-    } else {
-        None
-    }
+    let text = found!(value_of(b"group=", words));
+    let group = found!(group_in(alloc, text)?);
+    Ok(Some(Plain::Table { group }))
 }
 
 // The number of a key, where it is between these two.
@@ -168,12 +134,9 @@ fn number_in(key: &[u8], low: u64, high: u64, words: &[Octets]) -> Option<u64>
     ensures above { IfSome result (λ n. low ≤ n) }
     ensures below { IfSome result (λ n. n ≤ high) }
 {
-    match value_of(key, words) {
-        Some(text) => match number(text) {
-            Some(n) if low <= n && n <= high => Some(n),
-            _ => None,
-        },
-        None => None,
+    match number(value_of(key, words)?) {
+        Some(n) if low <= n && n <= high => Some(n),
+        _ => None,
     }
 }
 
@@ -182,15 +145,9 @@ fn exercise_in(words: &[Octets]) -> Option<Plain>
     ensures value { result ≡ exercise_in words.now }
     ensures ready { IfSome result CanDo }
 {
-    let Some(seed) = number_in(b"seed=", 0, u64::MAX, words) else {
-        return None;
-    };
-    let Some(peers) = number_in(b"peers=", 1, 256, words) else {
-        return None;
-    };
-    let Some(messages) = number_in(b"messages=", 0, 1000000, words) else {
-        return None;
-    };
+    let seed = number_in(b"seed=", 0, u64::MAX, words)?;
+    let peers = number_in(b"peers=", 1, 256, words)?;
+    let messages = number_in(b"messages=", 0, 1000000, words)?;
     Some(Plain::Exercise {
         seed,
         peers: peers as u16,
@@ -228,7 +185,7 @@ fn plain_named(alloc: Global, name: &[u8], words: &[Octets]) -> Result<Option<Pl
         return Ok(follow_of(words));
     }
     if name == b"show".as_slice() {
-        return Ok(show_of(words));
+        return Ok(alone(Plain::Show, words));
     }
     if name == b"replay".as_slice() {
         return replay_of(alloc, words);
@@ -240,10 +197,10 @@ fn plain_named(alloc: Global, name: &[u8], words: &[Octets]) -> Result<Option<Pl
         return table_of(alloc, words);
     }
     if name == b"audit".as_slice() {
-        return Ok(audit_of(words));
+        return Ok(alone(Plain::Audit, words));
     }
     if name == b"simulate".as_slice() {
-        return Ok(simulate_of(words));
+        return Ok(alone(Plain::Simulate, words));
     }
     if name == b"exercise".as_slice() {
         return Ok(exercise_of(words));
@@ -257,9 +214,7 @@ pub(crate) fn plain_of(alloc: Global, words: &Frames) -> Result<Option<Plain>, O
     ensures ready { IfOk result (λ plain. IfSome plain CanDo) }
 {
     let words = words.as_slice();
-    let Some((name, others)) = words.split_first() else {
-        return Ok(None);
-    };
+    let (name, others) = found!(words.split_first());
     if !are_texts(words) {
         return Ok(None);
     }
