@@ -1,5 +1,5 @@
 //! The rule of the command pipe, and what each of its steps tells.
-ghost use Rattle.std.specs.Prelude.{◌≡◌, ◌++◌, ◌∷◌, []};
+ghost use Rattle.std.specs.Prelude.{◌≡◌, ◌++◌, ◌∷◌, [], ⊤};
 ghost use Rattle.zre_actor.specs.Commands.{placed, first, without_one, one_caller, joined, nobody, wrote, Reads};
 ghost use Rattle.zre_actor.specs.Commands.{Accounts};
 
@@ -45,8 +45,6 @@ impl Outcome<Command, View> for Puts {
 }
 
 impl Lesson<Command, View> for Puts {
-    ghost use Rattle.std.specs.Prelude.{⊤};
-
     ghost fact = { λ v items. ⊤ };
 }
 
@@ -57,8 +55,6 @@ impl Outcome<Command, View> for Pops {
 }
 
 impl Lesson<Command, View> for Pops {
-    ghost use Rattle.std.specs.Prelude.{⊤};
-
     ghost fact = { λ v items. ⊤ };
 }
 
@@ -110,8 +106,6 @@ impl channel::Outcome<Told, Hearing> for Raises {
 }
 
 impl channel::Lesson<Told, Hearing> for Raises {
-    ghost use Rattle.std.specs.Prelude.{⊤};
-
     ghost fact = { λ v items. ⊤ };
 }
 
@@ -125,8 +119,6 @@ impl channel::Outcome<Told, Hearing> for Hears {
 }
 
 impl channel::Lesson<Told, Hearing> for Hears {
-    ghost use Rattle.std.specs.Prelude.{⊤};
-
     ghost fact = { λ v items. ⊤ };
 }
 

@@ -9,6 +9,7 @@ use crate::subject::memory::Memory;
 use crate::subject::nodes::Nodes;
 use crate::subject::worlds::Worlds;
 use crate::subject::{Missing, Subject, take_line, take_lines};
+use crate::text::Text;
 use crate::trouble::Trouble;
 use crate::wire::beacons::Beacons;
 use crate::wire::conns::Conns;
@@ -26,6 +27,7 @@ use crate::wire::writing::Writing;
 use crate::words::Words;
 use std::sync::Wait;
 use std::thread::Threads;
+use zre_group::{Index, Own};
 
 // Takes the section with its subject, or with none where the arguments are bad.
 fn take<S: Subject>(page: &mut Page, made: Option<S>, words: &Words<'_>, section: Section<'_>) {
@@ -70,7 +72,7 @@ macro_rules! take_by_name {
 
 fn take_upper(page: &mut Page, mut words: Words<'_>, section: Section<'_>) {
     take_by_name!(page, words, section;
-        "capture" Some(Captures::make(&mut words)),
+        "capture" Some(Captures { text: Text::new(words.alloc()) }),
         "exercise" Exercises::make(&mut words, &mut page.row.answer),
         "memory" Some(Memory::make(&mut words)),
         "node" Nodes::make(&mut words, &mut page.row.answer),
@@ -81,13 +83,13 @@ fn take_upper(page: &mut Page, mut words: Words<'_>, section: Section<'_>) {
 fn take_wire(page: &mut Page, mut words: Words<'_>, section: Section<'_>) {
     take_by_name!(page, words, section;
         "conns" Some(Conns::make(&mut words)),
-        "index" Some(Groups::make(&mut words)),
+        "index" Some(Groups { index: Index::new(words.alloc()) }),
         "links" Links::make(&mut words, &mut page.row.answer),
         "lists" Some(Lists::make(&mut words)),
-        "own" Some(OwnGroups::make(&mut words)),
+        "own" Some(OwnGroups { own: Own::new(words.alloc()) }),
         "runs" Some(Runs::make(&mut words)),
         "streams" Streams::make(&mut words, &mut page.row.answer),
-        "timers" Some(Moments::make(&mut words)));
+        "timers" Some(Moments { touches: Vec::new(words.alloc()) }));
     take_plain(page, words, section);
 }
 

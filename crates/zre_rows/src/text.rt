@@ -94,6 +94,24 @@ impl Text {
         }
     }
 
+    /// What was made, where memory sufficed; where it ran out, that is noted.
+    pub fn made<T>(&mut self, made: Result<T, OutOfMemory>) -> Option<T> {
+        match made {
+            Ok(value) => Some(value),
+            Err(OutOfMemory) => {
+                self.fail(Trouble::OutOfMemory);
+                None
+            }
+        }
+    }
+
+    /// Appends a copy of octets to a list.
+    pub fn copy_to(&mut self, alloc: Global, list: &mut Frames, octets: &[u8]) {
+        if let Some(copied) = self.made(Octets::copy(alloc, octets)) {
+            self.note(list.push(copied));
+        }
+    }
+
     /// Appends octets.
     pub fn put(&mut self, octets: &[u8]) {
         let done = self.octets.append(octets);

@@ -5,7 +5,7 @@ ghost use Rattle.zre_actor.specs.Passes.{IsCallerOf, IsTakerOf, AreCallersOf, gi
 ghost use Rattle.zre_actor.specs.Passes.{ended, how_many, last_of};
 
 use std::sync::Wait;
-use zre_actor::{CallerPass, CallerPasses, Ending, Full, Pipes, TakerPass, Told};
+use zre_actor::{CallerPass, CallerPasses, Ending, Pipes, TakerPass, Told};
 use zre_outside::Command;
 use zre_peer::Event;
 use zre_values::Octets;
@@ -25,12 +25,8 @@ pub fn put_again<R: Wait + Copy>(
         match pipes.put(rt, pass, command) {
             Ok(done) => return done,
             Err(full) => {
-                let Full {
-                    pass: back,
-                    command: again,
-                } = full;
-                pass = back;
-                command = again;
+                pass = full.pass;
+                command = full.command;
             }
         }
     }
@@ -70,55 +66,27 @@ pub fn take_all<R: Wait + Copy>(
     unreachable!()
 }
 
-/// The first caller joins and leaves a group, and the second asks to leave the network: each with a pass of its own.
-fn talk_apart<R: Wait + Copy>(
+/// A caller joins a group and leaves another.
+fn regroup<R: Wait + Copy>(
     rt: R,
     pipes: &Pipes,
-    mut callers: CallerPasses,
-    first: CallerPass,
-    second: CallerPass,
+    pass: CallerPass,
     groups: (Octets, Octets),
-) -> CallerPasses
-    requires pipes { IsCallerOf pipes.now first × IsCallerOf pipes.now second }
-    requires new { (ended first ≡ []) × (ended second ≡ []) }
-    requires callers { (given_of callers ≡ []) × (1 < room_of callers) }
-    ensures pipes { AreCallersOf pipes.now (given_of result) }
-    ensures many { how_many (given_of result) ≡ 2 }
+) -> CallerPass
+    requires { IsCallerOf pipes.now pass }
+    ensures pipes { IsCallerOf pipes.now result }
+    ensures ended { ended result ≡ ended pass }
 {
-    let first = put_again(rt, pipes, first, Command::Join { group: groups.0 });
-    let first = put_again(rt, pipes, first, Command::Leave { group: groups.1 });
-    let second = put_again(rt, pipes, second, Command::Quit);
-    callers.give(first);
-    callers.give(second);
-    callers
+    let joined = put_again(rt, pipes, pass, Command::Join { group: groups.0 });
+    put_again(rt, pipes, joined, Command::Leave { group: groups.1 })
 }
 
-/// The same, but the second takes in the first one's pass before it asks.
-fn talk_absorbed<R: Wait + Copy>(
-    rt: R,
-    pipes: &Pipes,
-    mut callers: CallerPasses,
-    first: CallerPass,
-    second: CallerPass,
-    groups: (Octets, Octets),
-) -> CallerPasses
-    requires pipes { IsCallerOf pipes.now first × IsCallerOf pipes.now second }
-    requires new { (ended first ≡ []) × (ended second ≡ []) }
-    requires callers { (given_of callers ≡ []) × (1 < room_of callers) }
-    ensures pipes { AreCallersOf pipes.now (given_of result) }
-    ensures many { how_many (given_of result) ≡ 2 }
-{
-    let first = put_again(rt, pipes, first, Command::Join { group: groups.0 });
-    let first = put_again(rt, pipes, first, Command::Leave { group: groups.1 });
-    let both = pipes.absorb(rt, second, first);
-    callers.give(put_again(rt, pipes, both, Command::Quit));
-    callers
-}
-
+/// The first caller regroups, and the second asks the node to stop: each with a pass of its own, or the second after it
+/// has taken in the first one's pass.
 pub fn talk<R: Wait + Copy>(
     rt: R,
     pipes: &Pipes,
-    callers: CallerPasses,
+    mut callers: CallerPasses,
     first: CallerPass,
     second: CallerPass,
     groups: (Octets, Octets),
@@ -130,9 +98,14 @@ pub fn talk<R: Wait + Copy>(
     ensures pipes { AreCallersOf pipes.now (given_of result) }
     ensures many { how_many (given_of result) ≡ 2 }
 {
+    let first = regroup(rt, pipes, first, groups);
     if absorbs {
-        talk_absorbed(rt, pipes, callers, first, second, groups)
-    } else {
-        talk_apart(rt, pipes, callers, first, second, groups)
+        let both = pipes.absorb(rt, second, first);
+        callers.give(put_again(rt, pipes, both, Command::Quit));
+        return callers;
     }
+    let second = put_again(rt, pipes, second, Command::Quit);
+    callers.give(first);
+    callers.give(second);
+    callers
 }

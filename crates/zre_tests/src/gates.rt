@@ -269,7 +269,7 @@ fn held_beside<R: Threads + Wait + Send + Copy + 'static>(
 fn gate_beside(rt: HostRuntime) -> Result<(), Fail> {
     let (status, out, faults) = held_beside(rt, rt.alloc())?;
     assert_eq!(rt; status, Status::Done);
-    assert_eq!(rt; out.written(), TEXT);
+    assert_eq!(rt; out.inner.written(), TEXT);
     assert_eq!(rt; faults, Some(0));
     Ok(())
 }

@@ -136,21 +136,17 @@ fn one_by_one<R: Wait + Copy>(
     requires { IsReady ready.pipes ready.actor ready.passes.callers ready.passes.first ready.passes.second
         ready.passes.taker }
 {
-    let Ready {
-        pipes,
-        actor,
-        passes,
-    } = ready;
     let Passes {
         callers,
         first,
         second,
         taker,
-    } = passes;
+    } = ready.passes;
+    let pipes = ready.pipes;
     let Stand { work, groups } = stand;
     let Work { node, world, rec } = work;
     let callers = talk(rt, &pipes, callers, first, second, groups, absorbs);
-    let worked = pipes.work(rt, world, node, actor, rec, false, limit);
+    let worked = pipes.work(rt, world, node, ready.actor, rec, false, limit);
     let (taker, stops, ending) = take_all(rt, &pipes, taker);
     let finished = pipes.finish(rt, worked.pass, callers, taker);
     (stops, ending, finished.left)
@@ -281,19 +277,14 @@ fn side_by_side<P: Spawner>(
     requires { IsReady ready.pipes ready.actor ready.passes.callers ready.passes.first ready.passes.second
         ready.passes.taker }
 {
-    let Ready {
-        pipes,
-        actor,
-        passes,
-    } = ready;
     let Stand { work, groups } = stand;
-    let Ok(pipes) = Arc::new(spawner.alloc(), pipes) else {
+    let Ok(pipes) = Arc::new(spawner.alloc(), ready.pipes) else {
         return None;
     };
-    let Some(running) = start_actor(spawner, &pipes, actor, work, limit) else {
+    let Some(running) = start_actor(spawner, &pipes, ready.actor, work, limit) else {
         return None;
     };
-    Some(meet(rt, &pipes, running, passes, groups))
+    Some(meet(rt, &pipes, running, ready.passes, groups))
 }
 
 /// Puts so many commands. How many came back, and the number of the last of them.
@@ -342,29 +333,16 @@ fn a_full_pipe_gives_the_command_back(rt: HostRuntime) {
 /// How long a run may be, and how it ends.
 struct Run {
     limit: u64,
-    absorbs: bool,
     ends: (u64, Ending, u32),
 }
 
-static RUNS: [Run; 4] = [
+static RUNS: [Run; 2] = [
     Run {
         limit: 100,
-        absorbs: false,
-        ends: (1, Ending::Stopped, 0),
-    },
-    Run {
-        limit: 100,
-        absorbs: true,
         ends: (1, Ending::Stopped, 0),
     },
     Run {
         limit: 1,
-        absorbs: false,
-        ends: (0, Ending::TooLong, 3),
-    },
-    Run {
-        limit: 1,
-        absorbs: true,
         ends: (0, Ending::TooLong, 3),
     },
 ];
@@ -374,20 +352,21 @@ fn run_one_by_one<R: Wait + Copy>(
     rt: R,
     alloc: Global,
     ready: Ready,
-    run: &Run,
+    limit: u64,
+    absorbs: bool,
 ) -> Option<(u64, Ending, u32)>
     requires { IsReady ready.pipes ready.actor ready.passes.callers ready.passes.first ready.passes.second
         ready.passes.taker }
 {
     match make_stand(alloc) {
-        Some(stand) => Some(one_by_one(rt, ready, stand, run.limit, run.absorbs)),
+        Some(stand) => Some(one_by_one(rt, ready, stand, limit, absorbs)),
         None => None,
     }
 }
 
-fn ends<R: Wait + Copy>(rt: R, alloc: Global, run: &Run) -> bool {
+fn ends<R: Wait + Copy>(rt: R, alloc: Global, run: &Run, absorbs: bool) -> bool {
     match make_ready(alloc) {
-        Some(ready) => run_one_by_one(rt, alloc, ready, run) == Some(run.ends),
+        Some(ready) => run_one_by_one(rt, alloc, ready, run.limit, absorbs) == Some(run.ends),
         None => false,
     }
 }
@@ -395,7 +374,8 @@ fn ends<R: Wait + Copy>(rt: R, alloc: Global, run: &Run) -> bool {
 #[test]
 fn two_callers_and_the_actor_one_by_one(rt: HostRuntime) {
     for run in &RUNS {
-        assert!(rt; ends(rt, rt.alloc(), run));
+        assert!(rt; ends(rt, rt.alloc(), run, false));
+        assert!(rt; ends(rt, rt.alloc(), run, true));
     }
 }
 

@@ -98,6 +98,6 @@ fn runs_beside(rt: HostRuntime) -> Result<(), Fail> {
     let spawner = PlainSpawner::new(rt, alloc, Vec::new(alloc));
     let (status, out) = chat(rt, alloc, stand, world(alloc)?, spawner, 50000000);
     assert_eq!(rt; status, Status::Done);
-    assert_eq!(rt; out.written(), TEXT);
+    assert_eq!(rt; out.inner.written(), TEXT);
     Ok(())
 }

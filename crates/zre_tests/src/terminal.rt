@@ -120,7 +120,8 @@ impl Source for Patient {
 /// Gives a sign when what was written begins with a text.
 #[derive(Drop)]
 pub struct Showing {
-    inner: MemSink,
+    /// What was written.
+    pub inner: MemSink,
     text: &'static [u8],
     sign: Sign,
 }
@@ -129,10 +130,6 @@ impl Showing {
     pub fn new(alloc: Global, text: &'static [u8], sign: Sign) -> Self {
         let inner = MemSink::new(alloc, Vec::new(alloc));
         Showing { inner, text, sign }
-    }
-
-    pub fn written(&self) -> &[u8] {
-        self.inner.written()
     }
 }
 

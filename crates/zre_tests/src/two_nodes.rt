@@ -62,29 +62,21 @@ fn make_stands(alloc: Global) -> Result<(Stand, Stand), OutOfMemory> {
     Ok((one, make_stand(alloc, TWO, MEETS_ONE, &second, &first)?))
 }
 
+// A node of its own, in a thread of its own.
+macro_rules! lives {
+    ($rt:expr, $alloc:expr, $stand:expr) => {
+        move || {
+            let world = RealWorld::new($rt, $alloc);
+            chat($rt, $alloc, $stand, world, ThreadSpawner::new($rt, $alloc), 1000)
+        }
+    };
+}
+
 #[test]
 fn two_nodes(rt: HostRuntime) -> Result<(), Fail> {
     let alloc = rt.alloc();
     let (one, two) = make_stands(alloc)?;
-    let (left, right) = join(
-        &rt,
-        move || chat(
-            rt,
-            alloc,
-            one,
-            RealWorld::new(rt, alloc),
-            ThreadSpawner::new(rt, alloc),
-            1000,
-        ),
-        move || chat(
-            rt,
-            alloc,
-            two,
-            RealWorld::new(rt, alloc),
-            ThreadSpawner::new(rt, alloc),
-            1000,
-        ),
-    );
+    let (left, right) = join(&rt, lives!(rt, alloc, one), lives!(rt, alloc, two));
     assert_eq!(rt; left.0, Status::Done);
     assert_eq!(rt; right.0, Status::Done);
     Ok(())

@@ -11,7 +11,7 @@ use crate::reader::InputEnd;
 use std::sync::Wait;
 use std::sync::atomic::{AtomicBool, Ordering};
 use std::thread::yield_now;
-use zre_actor::{CallerPass, Full, Pipes};
+use zre_actor::{CallerPass, Pipes};
 use zre_outside::Command;
 
 /// What became of commands that were to be put.
@@ -54,12 +54,8 @@ fn put_command<R: Wait + Copy>(
         match pipes.put(rt, pass, command) {
             Ok(done) => return (done, true),
             Err(full) => {
-                let Full {
-                    pass: back,
-                    command: again,
-                } = full;
-                pass = back;
-                command = again;
+                pass = full.pass;
+                command = full.command;
                 yield_now();
             }
         }

@@ -7,18 +7,13 @@ use crate::words::Words;
 use std::alloc::Global;
 use zre_capture::{BadCapture, CaptureFault, CaptureReader};
 use zre_outside::Entries;
-use zre_values::{OutOfMemory, take_apart};
+use zre_values::OutOfMemory;
 
 /// `on capture`: the text of a capture. `line TEXT` appends to it with a line feed, `text TEXT` without one,
 /// `octets HEX` octets, and `many N HEX` the same octets so many times.
+#[derive(Drop)]
 pub struct Captures {
-    text: Text,
-}
-
-impl Drop for Captures {
-    fn drop(self) {
-        take_apart!(self, Captures: text);
-    }
+    pub text: Text,
 }
 
 impl Subject for Captures {
@@ -28,11 +23,6 @@ impl Subject for Captures {
 }
 
 impl Captures {
-    pub fn make(words: &mut Words<'_>) -> Self {
-        let text = Text::new(words.alloc());
-        Captures { text }
-    }
-
     fn line(&mut self, words: &mut Words<'_>, _answer: &mut Text) {
         self.text.line(words.take_rest());
     }

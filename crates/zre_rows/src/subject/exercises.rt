@@ -5,26 +5,11 @@ use crate::text::Text;
 use crate::trouble::Trouble;
 use crate::words::Words;
 use zre_capture::Exercise;
-use zre_outside::Entry;
-use zre_values::{OutOfMemory, take_apart};
 
 /// `on exercise SEED PEERS MESSAGES`: an exercise whose entries are given one by one.
+#[derive(Drop)]
 pub struct Exercises {
     exercise: Exercise,
-}
-
-impl Drop for Exercises {
-    fn drop(self) {
-        take_apart!(self, Exercises: exercise);
-    }
-}
-
-fn push_next(answer: &mut Text, next: Result<Option<Entry>, OutOfMemory>) {
-    match next {
-        Ok(Some(entry)) => answer.entry(&entry),
-        Ok(None) => answer.line(b"none"),
-        Err(OutOfMemory) => answer.fail(Trouble::OutOfMemory),
-    }
 }
 
 impl Subject for Exercises {
@@ -48,6 +33,10 @@ impl Exercises {
 
     // `next` answers the line of the next entry in a capture, or `none`.
     fn next(&mut self, _words: &mut Words<'_>, answer: &mut Text) {
-        push_next(answer, self.exercise.next());
+        match answer.made(self.exercise.next()) {
+            Some(Some(entry)) => answer.entry(&entry),
+            Some(None) => answer.line(b"none"),
+            None => {}
+        }
     }
 }

@@ -9,10 +9,10 @@ use crate::words::Words;
 use std::alloc::Global;
 use zre_app::{Command, Plain, command_of};
 use zre_journal::Config;
-use zre_node::{Ids, Node, Step};
+use zre_node::{Node, Step};
 use zre_outside::Entry;
 use zre_peer::View;
-use zre_values::{Frames, Octets, OutOfMemory, take_apart};
+use zre_values::{Frames, OutOfMemory, take_apart};
 
 /// `on node id=.. host=.. port=..` and further words of a node, as quoted texts: a node, and the lines of the acts of
 /// its last step.
@@ -24,13 +24,6 @@ pub struct Nodes {
 impl Drop for Nodes {
     fn drop(self) {
         take_apart!(self, Nodes: node, acts);
-    }
-}
-
-fn push_copy(alloc: Global, list: &mut Frames, word: &[u8], answer: &mut Text) {
-    match Octets::copy(alloc, word) {
-        Ok(copied) => answer.note(list.push(copied)),
-        Err(OutOfMemory) => answer.fail(Trouble::OutOfMemory),
     }
 }
 
@@ -76,7 +69,7 @@ impl Nodes {
     pub fn make(words: &mut Words<'_>, answer: &mut Text) -> Option<Self> {
         let alloc = words.alloc();
         let mut list = Frames::new(alloc);
-        push_copy(alloc, &mut list, b"replay", answer);
+        answer.copy_to(alloc, &mut list, b"replay");
         words.push_texts(&mut list);
         let node = node_of(alloc, &list, answer)?;
         Some(Nodes {
@@ -125,7 +118,11 @@ impl Nodes {
 
     // `peers`: the entered peers, a line for each.
     fn peers(&self, _words: &mut Words<'_>, answer: &mut Text) {
-        push_peers(answer, self.node.peers());
+        if let Some(peers) = answer.made(self.node.peers()) {
+            for id in peers.as_slice() {
+                answer.line(&id.write());
+            }
+        }
     }
 
     // `known`, `held`: how many peers and octets. `stopped`: whether it has.
@@ -154,17 +151,6 @@ fn groups_of(view: Option<&View>) -> Option<u64> {
     match view {
         Some(view) => Some(view.groups_len() as u64),
         None => None,
-    }
-}
-
-fn push_peers(out: &mut Text, peers: Result<Ids, OutOfMemory>) {
-    match peers {
-        Ok(peers) => {
-            for id in peers.as_slice() {
-                out.line(&id.write());
-            }
-        }
-        Err(OutOfMemory) => out.fail(Trouble::OutOfMemory),
     }
 }
 

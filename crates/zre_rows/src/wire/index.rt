@@ -2,31 +2,14 @@
 
 use crate::subject::{Subject, steps};
 use crate::text::Text;
-use crate::trouble::Trouble;
 use crate::wire::texts::push_keys;
 use crate::words::Words;
 use zre_group::Index;
-use zre_values::{Keys, OutOfMemory, take_apart};
 
 /// `on index`: an index, from the empty one on.
+#[derive(Drop)]
 pub struct Groups {
-    index: Index,
-}
-
-impl Drop for Groups {
-    fn drop(self) {
-        take_apart!(self, Groups: index);
-    }
-}
-
-fn push_members(answer: &mut Text, keys: Result<Keys, OutOfMemory>) {
-    match keys {
-        Ok(keys) => {
-            answer.put(b"members");
-            push_keys(answer, &keys);
-        }
-        Err(OutOfMemory) => answer.fail(Trouble::OutOfMemory),
-    }
+    pub index: Index,
 }
 
 impl Subject for Groups {
@@ -36,11 +19,6 @@ impl Subject for Groups {
 }
 
 impl Groups {
-    pub fn make(words: &mut Words<'_>) -> Self {
-        let index = Index::new(words.alloc());
-        Groups { index }
-    }
-
     // `add GROUP KEY`, with the group as text, as in each step.
     fn add(&mut self, words: &mut Words<'_>, answer: &mut Text) {
         let group = words.text();
@@ -60,6 +38,9 @@ impl Groups {
 
     // `members GROUP` answers the keys.
     fn members(&self, words: &mut Words<'_>, answer: &mut Text) {
-        push_members(answer, self.index.members(words.text().as_slice()));
+        if let Some(keys) = answer.made(self.index.members(words.text().as_slice())) {
+            answer.put(b"members");
+            push_keys(answer, &keys);
+        }
     }
 }

@@ -8,21 +8,16 @@ use crate::words::Words;
 use std::alloc::Global;
 use zre_link::{Link, PushFault, ReplyFault, Tail};
 use zre_msg::{Body, Message};
-use zre_values::{Frames, Octets, take_apart};
+use zre_values::{Frames, Octets};
 use zre_zmtp::FeedFault;
 
 /// More octets than this aren't whispered by a step.
 const CONTENT: u64 = 2097152;
 
 /// `on links ID`: the link of the node with this identity.
+#[derive(Drop)]
 pub struct Links {
     link: Link,
-}
-
-impl Drop for Links {
-    fn drop(self) {
-        take_apart!(self, Links: link);
-    }
 }
 
 // `slow UNSENT SIZE`

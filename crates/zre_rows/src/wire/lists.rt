@@ -5,7 +5,7 @@ use crate::text::Text;
 use crate::trouble::Trouble;
 use crate::wire::texts::push_keys;
 use crate::words::Words;
-use zre_values::{Frames, Keys, Octets, OutOfMemory, Pairs, take_apart};
+use zre_values::{Frames, Keys, Octets, Pairs, take_apart};
 
 /// `on lists`: one of each, from the empty ones on.
 pub struct Lists {
@@ -114,7 +114,9 @@ impl Lists {
         answer.quoted(self.text.as_slice());
         answer.end();
         self.show_frames(answer);
-        push_pairs(answer, Pairs::copy(words.alloc(), &self.pairs));
+        if let Some(pairs) = answer.made(Pairs::copy(words.alloc(), &self.pairs)) {
+            push_pairs(answer, &pairs);
+        }
         answer.count(b"keys", self.keys.len() as u64);
         push_keys(answer, &self.keys);
     }
@@ -128,14 +130,9 @@ impl Lists {
     }
 }
 
-fn push_pairs(answer: &mut Text, pairs: Result<Pairs, OutOfMemory>) {
-    match pairs {
-        Ok(pairs) => {
-            answer.count(b"pairs", pairs.len() as u64);
-            answer.octet(b' ');
-            answer.pairs(&pairs);
-            answer.end();
-        }
-        Err(OutOfMemory) => answer.fail(Trouble::OutOfMemory),
-    }
+fn push_pairs(answer: &mut Text, pairs: &Pairs) {
+    answer.count(b"pairs", pairs.len() as u64);
+    answer.octet(b' ');
+    answer.pairs(pairs);
+    answer.end();
 }

@@ -105,14 +105,11 @@ fn push_measured(out: &mut Text, octets: &[u8], message: &Message) {
 }
 
 fn push_frames(out: &mut Text, frames: Result<Frames, OutOfMemory>) {
-    match frames {
-        Ok(frames) => {
-            for frame in frames.as_slice() {
-                out.put(b"frame ");
-                out.hex_line(frame.as_slice());
-            }
+    if let Some(frames) = out.made(frames) {
+        for frame in frames.as_slice() {
+            out.put(b"frame ");
+            out.hex_line(frame.as_slice());
         }
-        Err(OutOfMemory) => out.fail(Trouble::OutOfMemory),
     }
 }
 
@@ -173,14 +170,7 @@ fn push_ninth(alloc: Global, answer: &mut Text, body: Body) {
 fn copies_of(alloc: Global, count: u64, octets: &[u8], answer: &mut Text) -> Frames {
     let mut content = Frames::new(alloc);
     for _ in 0..count {
-        push_copy(alloc, &mut content, octets, answer);
+        answer.copy_to(alloc, &mut content, octets);
     }
     content
-}
-
-fn push_copy(alloc: Global, content: &mut Frames, octets: &[u8], answer: &mut Text) {
-    match Octets::copy(alloc, octets) {
-        Ok(copied) => answer.note(content.push(copied)),
-        Err(OutOfMemory) => answer.fail(Trouble::OutOfMemory),
-    }
 }

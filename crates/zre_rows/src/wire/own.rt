@@ -5,17 +5,11 @@ use crate::text::Text;
 use crate::trouble::Trouble;
 use crate::words::Words;
 use zre_group::{JoinFault, NoGroup, Own};
-use zre_values::take_apart;
 
 /// `on own`: the groups, from none on.
+#[derive(Drop)]
 pub struct OwnGroups {
-    own: Own,
-}
-
-impl Drop for OwnGroups {
-    fn drop(self) {
-        take_apart!(self, OwnGroups: own);
-    }
+    pub own: Own,
 }
 
 fn push_joined(answer: &mut Text, joined: Result<u8, JoinFault>) {
@@ -43,11 +37,6 @@ impl Subject for OwnGroups {
 }
 
 impl OwnGroups {
-    pub fn make(words: &mut Words<'_>) -> Self {
-        let own = Own::new(words.alloc());
-        OwnGroups { own }
-    }
-
     // `join HEX` answers the status, `same` or `limit`.
     fn join(&mut self, words: &mut Words<'_>, answer: &mut Text) {
         let group = words.octets();

@@ -19,9 +19,8 @@ impl Subject for Quoting {
 impl Quoting {
     // `quote HEX` answers the text.
     fn quote(&self, words: &mut Words<'_>, answer: &mut Text) {
-        match quote(words.alloc(), words.octets().as_slice()) {
-            Ok(text) => answer.line(text.as_slice()),
-            Err(OutOfMemory) => answer.fail(Trouble::OutOfMemory),
+        if let Some(text) = answer.made(quote(words.alloc(), words.octets().as_slice())) {
+            answer.line(text.as_slice());
         }
     }
 

@@ -1,5 +1,7 @@
 //! The run of a peer's messages.
 
+ghost use Rattle.std.specs.Prelude.{◌≡◌, false, IsSome};
+
 use crate::subject::{Subject, steps};
 use crate::text::Text;
 use crate::trouble::Trouble;
@@ -35,32 +37,26 @@ fn push_fault(out: &mut Text, fault: RunFault) {
     out.end();
 }
 
-// The message of these frames, which have to be those of one.
-fn message_of(alloc: Global, frames: &Frames, text: &mut Text) -> Option<Message> {
-    match Message::read(alloc, frames) {
-        Ok(message) => Some(message),
-        Err(_) => {
-            text.fail(Trouble::BadArgument);
-            None
+// The message of these frames, which have to be those of one, for a run that may go on.
+fn message_of(alloc: Global, frames: &Frames, spent: bool, text: &mut Text) -> Option<Message>
+    ensures { IsSome result → spent ≡ false }
+{
+    if !spent {
+        if let Ok(message) = Message::read(alloc, frames) {
+            return Some(message);
         }
     }
+    text.fail(Trouble::BadArgument);
+    None
 }
 
 // Appends the lines of the next message's events, or the fault.
 fn tell_events(alloc: Global, run: &mut Run, frames: &Frames, text: &mut Text) {
-    if let Some(message) = message_of(alloc, frames, text) {
-        tell_next(run, message, text);
-    }
-}
-
-fn tell_next(run: &mut Run, message: Message, text: &mut Text) {
-    if run.spent() {
-        text.fail(Trouble::BadArgument);
-        return;
-    }
-    match run.next(message) {
-        Ok(events) => text.events(events.as_slice()),
-        Err(fault) => push_fault(text, fault),
+    if let Some(message) = message_of(alloc, frames, run.spent(), text) {
+        match run.next(message) {
+            Ok(events) => text.events(events.as_slice()),
+            Err(fault) => push_fault(text, fault),
+        }
     }
 }
 
@@ -85,18 +81,10 @@ fn tell_lent(run: &mut Teller, lent: &LentMessage<'_>, text: &mut Text) -> bool 
 }
 
 fn tell_read(alloc: Global, run: &mut Teller, frames: &Frames, text: &mut Text) {
-    if let Some(message) = message_of(alloc, frames, text) {
-        tell_given(run, message, text);
+    if let Some(message) = message_of(alloc, frames, run.spent(), text) {
+        let taken = run.take(message, &mut text.octets);
+        push_taken(text, taken);
     }
-}
-
-fn tell_given(run: &mut Teller, message: Message, text: &mut Text) {
-    if run.spent() {
-        text.fail(Trouble::BadArgument);
-        return;
-    }
-    let taken = run.take(message, &mut text.octets);
-    push_taken(text, taken);
 }
 
 fn push_taken(text: &mut Text, taken: Result<(), RunFault>) {

@@ -9,25 +9,19 @@ use crate::wire::texts::push_keys;
 use crate::words::Words;
 use std::alloc::Global;
 use zre_timers::{Due, Timers};
-use zre_values::{OutOfMemory, take_apart};
+use zre_values::OutOfMemory;
 
 // A key whose moment is set, or which is taken out where none is given.
 #[derive(Clone, Copy)]
-struct Touch {
+pub struct Touch {
     key: u64,
     at: Option<u64>,
 }
 
 /// `on timers`: what was done to the keys so far.
+#[derive(Drop)]
 pub struct Moments {
-    alloc: Global,
-    touches: Vec<Touch>,
-}
-
-impl Drop for Moments {
-    fn drop(self) {
-        take_apart!(self, Moments: alloc, touches);
-    }
+    pub touches: Vec<Touch>,
 }
 
 fn change(timers: &mut Timers, now: u64, touch: Touch, answer: &mut Text)
@@ -60,14 +54,11 @@ fn changed(alloc: Global, touches: &[Touch], now: u64, answer: &mut Text) -> Tim
 }
 
 fn push_due(answer: &mut Text, due: Result<Due, OutOfMemory>) {
-    match due {
-        Ok(Due { expired, evasive }) => {
-            answer.put(b"expired");
-            push_keys(answer, &expired);
-            answer.put(b"evasive");
-            push_keys(answer, &evasive);
-        }
-        Err(OutOfMemory) => answer.fail(Trouble::OutOfMemory),
+    if let Some(Due { expired, evasive }) = answer.made(due) {
+        answer.put(b"expired");
+        push_keys(answer, &expired);
+        answer.put(b"evasive");
+        push_keys(answer, &evasive);
     }
 }
 
@@ -78,14 +69,6 @@ impl Subject for Moments {
 }
 
 impl Moments {
-    pub fn make(words: &mut Words<'_>) -> Self {
-        let alloc = words.alloc();
-        Moments {
-            alloc,
-            touches: Vec::new(alloc),
-        }
-    }
-
     fn push(&mut self, touch: Touch, answer: &mut Text) {
         if self.touches.push(touch).is_err() {
             answer.fail(Trouble::OutOfMemory);
@@ -108,7 +91,7 @@ impl Moments {
     // `moment KEY` answers when it was last heard of, or `none`.
     fn moment(&self, words: &mut Words<'_>, answer: &mut Text) {
         let key = words.number();
-        let timers = changed(self.alloc, self.touches.as_slice(), u64::MAX, answer);
+        let timers = changed(words.alloc(), self.touches.as_slice(), u64::MAX, answer);
         answer.number_line(timers.moment(key));
     }
 
@@ -120,7 +103,7 @@ impl Moments {
         if evasive > expired {
             answer.fail(Trouble::BadArgument);
         } else {
-            let timers = changed(self.alloc, self.touches.as_slice(), now, answer);
+            let timers = changed(words.alloc(), self.touches.as_slice(), now, answer);
             push_due(answer, timers.due(now, evasive, expired));
         }
     }

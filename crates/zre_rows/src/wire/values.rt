@@ -2,11 +2,10 @@
 
 use crate::subject::{Subject, steps};
 use crate::text::Text;
-use crate::trouble::Trouble;
 use crate::words::Words;
 use std::alloc::Global;
 use std::str;
-use zre_values::{Endpoint, Octets, OutOfMemory, PeerId, read_address, read_decimal};
+use zre_values::{Endpoint, PeerId, read_address, read_decimal};
 
 // The octets, and their text.
 fn push_id(answer: &mut Text, found: Option<PeerId>) {
@@ -41,18 +40,13 @@ fn push_endpoint(alloc: Global, answer: &mut Text, text: &[u8]) {
             answer.octet(b' ');
             answer.number(u64::from(endpoint.port));
             answer.octet(b' ');
-            push_written(answer, endpoint.write(alloc));
+            if let Some(text) = answer.made(endpoint.write(alloc)) {
+                answer.put(text.as_slice());
+            }
         }
         None => answer.put(b"none"),
     }
     answer.end();
-}
-
-fn push_written(answer: &mut Text, written: Result<Octets, OutOfMemory>) {
-    match written {
-        Ok(text) => answer.put(text.as_slice()),
-        Err(OutOfMemory) => answer.fail(Trouble::OutOfMemory),
-    }
 }
 
 fn id_of(text: &[u8]) -> Option<PeerId> {

@@ -8,9 +8,8 @@ use zre_values::{Octets, OutOfMemory};
 use zre_zmtp::{SocketType, context_of, greeting, pong, ready, write_message};
 
 fn push_written(answer: &mut Text, written: Result<Octets, OutOfMemory>) {
-    match written {
-        Ok(octets) => answer.hex_line(octets.as_slice()),
-        Err(OutOfMemory) => answer.fail(Trouble::OutOfMemory),
+    if let Some(octets) = answer.made(written) {
+        answer.hex_line(octets.as_slice());
     }
 }
 

@@ -1,5 +1,7 @@
 //! A world and a recorder that show what they were told.
 
+ghost use Rattle.std.specs.Prelude.{None};
+
 use crate::acts::{push_act, push_offered, push_start};
 use crate::text::Text;
 use zre_outside::{
@@ -15,8 +17,6 @@ pub struct Telling {
 }
 
 impl World for Telling {
-    ghost use Rattle.std.specs.Prelude.{None};
-
     ghost told = { λ _. None };
 
     ghost looked = { λ w. w.inner.scene.looked };
@@ -51,8 +51,6 @@ pub struct Naming {
 }
 
 impl Recorder for Naming {
-    ghost use Rattle.std.specs.Prelude.{None};
-
     ghost kept = { λ _. None };
 
     ghost named = { λ _. None };
