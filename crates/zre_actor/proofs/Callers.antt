@@ -2,12 +2,12 @@
 use Rattle.std.proofs.Common.{◌≡◌, [], ◌∷◌, ◌++◌, sym, ap, ◌∙◌, arith, append-nil}
 use Rattle.zre_outside.specs.declared.entry.Command.{Command}
 use Rattle.zre_actor.specs.declared.views.Placed.{Placed}
-use Rattle.zre_actor.specs.declared.views.View.{View}
+use Rattle.zre_actor.specs.declared.views.CommandView.{CommandView}
 use Rattle.zre_actor.specs.Commands.{times, under, live, head_or, written, wrote, joined, IsCaller}
 use Rattle.zre_actor.proofs.Sums.{times-append, under-append, under_other}
 use Rattle.zre_actor.proofs.Steps.{counts_live, own_once}
 
-pub caller_wrote : (v : View) (x : Command) → IsCaller v → IsCaller (wrote v x)
+pub caller_wrote : (v : CommandView) (x : Command) → IsCaller v → IsCaller (wrote v x)
 caller_wrote v x c = let e : Placed = written v x in (
   c.0,
   c.1,
@@ -16,7 +16,7 @@ caller_wrote v x c = let e : Placed = written v x in (
       ∙ under_other n e (λ i. let one : times n v.own ≡ 1 = ap (λ j. times j v.own) (sym i) ∙ own_once (head_or v.own) v c.1 in omega (arith, counts_live n v)),
 )
 
-pub caller_joined : (v w : View) → IsCaller v → IsCaller w → IsCaller (joined v w)
+pub caller_joined : (v w : CommandView) → IsCaller v → IsCaller w → IsCaller (joined v w)
 caller_joined v w c d = (
   c.0,
   c.1,

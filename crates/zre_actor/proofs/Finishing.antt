@@ -3,7 +3,7 @@ use Rattle.std.proofs.Common.{◌≡◌, ℕ, zero, suc, ◌+◌, ◌≤◌, ◌
 use mathlib.Core.List.{IsPrefix}
 use Rattle.zre_outside.specs.declared.entry.Command.{Command}
 use Rattle.zre_actor.specs.declared.views.Placed.{Placed}
-use Rattle.zre_actor.specs.declared.views.View.{View}
+use Rattle.zre_actor.specs.declared.views.CommandView.{CommandView}
 use Rattle.zre_actor.specs.declared.passes.CallerPass.{CallerPass}
 use Rattle.zre_actor.specs.Commands.{times, under, Closed, live, numbers, joined, Accounts, IsActor, HasAll, Rule}
 use Rattle.zre_actor.specs.Passes.{caller, put_by, puts_of, live_of, how_many}
@@ -13,23 +13,23 @@ use Rattle.zre_actor.proofs.Steps.{counts, counts_live, accounts}
 use Rattle.zre_actor.proofs.Counting.{same_length}
 
 -- the pass v after it took in the others
-abbrev pub gathered : View → List CallerPass → View
+abbrev pub gathered : CommandView → List CallerPass → CommandView
 gathered v [] = v
 gathered v (p ∷ ps) = gathered (joined v (caller p)) ps
 
-pub gathered-snoc : (v : View) (ps : List CallerPass) (p : CallerPass) → gathered v (ps ++ p ∷ []) ≡ joined (gathered v ps) (caller p)
+pub gathered-snoc : (v : CommandView) (ps : List CallerPass) (p : CallerPass) → gathered v (ps ++ p ∷ []) ≡ joined (gathered v ps) (caller p)
 gathered-snoc v [] p = refl
 gathered-snoc v (q ∷ qs) p = gathered-snoc (joined v (caller q)) qs p
 
-pub gathered_popped : (v : View) (ps : List CallerPass) → (gathered v ps).popped ≡ v.popped
+pub gathered_popped : (v : CommandView) (ps : List CallerPass) → (gathered v ps).popped ≡ v.popped
 gathered_popped v [] = refl
 gathered_popped v (p ∷ ps) = gathered_popped (joined v (caller p)) ps
 
-pub gathered_actor : (v : View) (ps : List CallerPass) → (gathered v ps).actor ≡ v.actor
+pub gathered_actor : (v : CommandView) (ps : List CallerPass) → (gathered v ps).actor ≡ v.actor
 gathered_actor v [] = refl
 gathered_actor v (p ∷ ps) = gathered_actor (joined v (caller p)) ps
 
-pub gathered_put : (v : View) (ps : List CallerPass) → (gathered v ps).put ≡ v.put ++ puts_of ps
+pub gathered_put : (v : CommandView) (ps : List CallerPass) → (gathered v ps).put ≡ v.put ++ puts_of ps
 gathered_put v [] = sym (append-nil v.put)
 gathered_put v (p ∷ ps) = gathered_put (joined v (caller p)) ps ∙ append_assoc v.put (put_by p) (puts_of ps)
 
@@ -38,15 +38,15 @@ among_callers : ℕ → List CallerPass → ℕ
 among_callers n [] = 0
 among_callers n (p ∷ ps) = times n (live_of p) + among_callers n ps
 
-live_joined : (n : ℕ) (v w : View) → times n (live (joined v w)) ≡ times n (live v) + times n (live w)
+live_joined : (n : ℕ) (v w : CommandView) → times n (live (joined v w)) ≡ times n (live v) + times n (live w)
 live_joined n v w = omega (arith, counts_live n (joined v w), counts_live n v, times-append n v.ended (live w))
 
-gathered_live : (n : ℕ) (v : View) (ps : List CallerPass) → times n (live (gathered v ps)) ≡ times n (live v) + among_callers n ps
+gathered_live : (n : ℕ) (v : CommandView) (ps : List CallerPass) → times n (live (gathered v ps)) ≡ times n (live v) + among_callers n ps
 unfolding among_callers
 gathered_live n v [] = omega arith
 gathered_live n v (p ∷ ps) = omega (arith, gathered_live n (joined v (caller p)) ps, live_joined n v (caller p))
 
-pub gathered_numbers : (v : View) (ps : List CallerPass) → length (numbers (gathered v ps)) ≡ length (numbers v) + how_many ps
+pub gathered_numbers : (v : CommandView) (ps : List CallerPass) → length (numbers (gathered v ps)) ≡ length (numbers v) + how_many ps
 gathered_numbers v [] = omega arith
 gathered_numbers v (p ∷ ps) = let w = caller p in
     let none : length w.unused ≡ 0 = ap length p.is_caller.2 in
@@ -74,7 +74,7 @@ closed_after : (before : List Placed) (last : Placed) (later : List Placed) (n :
 closed_after [] last later n c h = c.0 n h
 closed_after (e ∷ es) last later n c h = closed_after es last later n c.1 h
 
-module _ (v : View) (ps : List CallerPass) (items : List Command) (nothing : v.put ≡ []) (known : Accounts (gathered v ps) items) where
+module _ (v : CommandView) (ps : List CallerPass) (items : List Command) (nothing : v.put ≡ []) (known : Accounts (gathered v ps) items) where
   history : List Placed
   history = v.popped ++ known.queued
 
@@ -106,13 +106,13 @@ took_all given taken [] n is long none = sym (append-nil taken) ∙ sym is
 took_all given taken (p ∷ ps) n is long none = absurd (omega arith)
 
 -- so it knows what they know
-pub gathered_all : (v w : View) (given taken left : List CallerPass) (n : ℕ) → given ≡ taken ++ left → n ≡ length left → n ≡ 0 → w ≡ gathered v taken → w ≡ gathered v given
+pub gathered_all : (v w : CommandView) (given taken left : List CallerPass) (n : ℕ) → given ≡ taken ++ left → n ≡ length left → n ≡ 0 → w ≡ gathered v taken → w ≡ gathered v given
 gathered_all v w given taken left n is long none known = known ∙ ap (gathered v) (took_all given taken left n is long none)
 
-pub has_all : (v : View) (ps : List CallerPass) → IsActor v → length v.unused + how_many ps ≡ 16 → HasAll (gathered v ps)
+pub has_all : (v : CommandView) (ps : List CallerPass) → IsActor v → length v.unused + how_many ps ≡ 16 → HasAll (gathered v ps)
 has_all v ps a back = let own : length v.own ≡ 0 = ap length a.1 in let gone : length v.ended ≡ 0 = ap length a.2 in
     omega (arith, gathered_numbers v ps, length-append (live v) v.unused, length-append v.own v.ended)
 
 -- what a pass with this view is to know
-pub learns_all_put : (port : ℕ) (u v : View) (ps : List CallerPass) → u ≡ gathered v ps → IsActor v → length v.unused + how_many ps ≡ 16 → Learns Rule port u (Accounts u)
-learns_all_put port u v ps is a back = accounts port u (ap (λ (x : View). x.actor) is ∙ gathered_actor v ps ∙ a.0) (subst HasAll (sym is) (has_all v ps a back))
+pub learns_all_put : (port : ℕ) (u v : CommandView) (ps : List CallerPass) → u ≡ gathered v ps → IsActor v → length v.unused + how_many ps ≡ 16 → Learns Rule port u (Accounts u)
+learns_all_put port u v ps is a back = accounts port u (ap (λ (x : CommandView). x.actor) is ∙ gathered_actor v ps ∙ a.0) (subst HasAll (sym is) (has_all v ps a back))

@@ -3,7 +3,7 @@ use Rattle.std.proofs.Common.{◌≡◌, ◌≢◌, ℕ, zero, suc, ◌+◌, ◌
 use mathlib.Core.Option.{some, some-injective, some-ne-none}
 use lib.ListN.{get_elem?}
 use Rattle.zre_actor.specs.declared.views.Placed.{Placed}
-use Rattle.zre_actor.specs.declared.views.View.{View}
+use Rattle.zre_actor.specs.declared.views.CommandView.{CommandView}
 use Rattle.zre_actor.specs.Commands.{times, under, naming, Closed, total}
 
 pub times-append : (n : ℕ) (xs ys : List ℕ) → times n (xs ++ ys) ≡ times n xs + times n ys
@@ -47,32 +47,32 @@ Closed-snoc (e ∷ es) x c none = (
   Closed-snoc es x c.1 (omega arith),
 )
 
-module _ (f : View → ℕ) where
-  pub total_set : (views : List View) (p : ℕ) (v w : View) → get_elem? views p ≡ some v → total f (set views p w) + f v ≡ total f views + f w
+module _ (f : CommandView → ℕ) where
+  pub total_set : (views : List CommandView) (p : ℕ) (v w : CommandView) → get_elem? views p ≡ some v → total f (set views p w) + f v ≡ total f views + f w
   total_set [] p v w at = absurd (some-ne-none v (sym at))
   total_set (u ∷ us) zero v w at = let e : f u ≡ f v = ap f (some-injective u v at) in omega arith
   total_set (u ∷ us) (suc p) v w at = omega (arith, total_set us p v w at)
 
-  pub total_snoc : (views : List View) (v : View) → total f (views ++ v ∷ []) ≡ total f views + f v
+  pub total_snoc : (views : List CommandView) (v : CommandView) → total f (views ++ v ∷ []) ≡ total f views + f v
   total_snoc [] v = omega arith
   total_snoc (u ∷ us) v = omega (arith, total_snoc us v)
 
-  pub total_one : (views : List View) (p : ℕ) (v : View) → get_elem? views p ≡ some v → f v ≤ total f views
+  pub total_one : (views : List CommandView) (p : ℕ) (v : CommandView) → get_elem? views p ≡ some v → f v ≤ total f views
   total_one [] p v at = absurd (some-ne-none v (sym at))
   total_one (u ∷ us) zero v at = let e : f u ≡ f v = ap f (some-injective u v at) in omega arith
   total_one (u ∷ us) (suc p) v at = omega (arith, total_one us p v at)
 
-  pub total_two : (views : List View) (p q : ℕ) (v w : View) → q ≢ p → get_elem? views p ≡ some v → get_elem? views q ≡ some w → f v + f w ≤ total f views
+  pub total_two : (views : List CommandView) (p q : ℕ) (v w : CommandView) → q ≢ p → get_elem? views p ≡ some v → get_elem? views q ≡ some w → f v + f w ≤ total f views
   total_two [] p q v w other at at' = absurd (some-ne-none v (sym at))
   total_two (u ∷ us) zero zero v w other at at' = absurd (other refl)
   total_two (u ∷ us) zero (suc q) v w other at at' = let e : f u ≡ f v = ap f (some-injective u v at) in omega (arith, total_one us q w at')
   total_two (u ∷ us) (suc p) zero v w other at at' = let e : f u ≡ f w = ap f (some-injective u w at') in omega (arith, total_one us p v at)
   total_two (u ∷ us) (suc p) (suc q) v w other at at' = omega (arith, total_two us p q v w (λ e. other (ap suc e)) at at')
 
-pub total_sum : (f g h : View → ℕ) → ((v : View) → h v ≡ f v + g v) → (views : List View) → total h views ≡ total f views + total g views
+pub total_sum : (f g h : CommandView → ℕ) → ((v : CommandView) → h v ≡ f v + g v) → (views : List CommandView) → total h views ≡ total f views + total g views
 total_sum f g h is [] = refl
 total_sum f g h is (v ∷ vs) = omega (arith, is v, total_sum f g h is vs)
 
-pub total_same : (f g : View → ℕ) → ((v : View) → f v ≡ g v) → (views : List View) → total f views ≡ total g views
+pub total_same : (f g : CommandView → ℕ) → ((v : CommandView) → f v ≡ g v) → (views : List CommandView) → total f views ≡ total g views
 total_same f g is [] = refl
 total_same f g is (v ∷ vs) = omega (arith, is v, total_same f g is vs)

@@ -12,14 +12,14 @@ use Rattle.zre_journal.proofs.Due.{entry_due}
 use Rattle.zre_journal.proofs.Joined.{continues}
 use Rattle.zre_node.specs.declared.node.Node.{Node}
 use Rattle.zre_node.specs.declared.effects.Step.{Step}
-use Rattle.zre_node.specs.Journal.{Steps}
+use Rattle.zre_node.specs.Journal.{IsStep}
 use Rattle.zre_capture.specs.Lines.{line}
 use Rattle.zre_capture.specs.declared.format.Format.TheVariants.{Second}
 use Rattle.zre_actor.specs.declared.ending.Ending.TheVariants as ending
 use Rattle.zre_actor.specs.Work.{AreDeeds, beside, DoesAll, Went, IsUndone}
 use Rattle.zre_actor.proofs.Deeds.{beside-append}
 
-module _ (g : Config) (J : List Entry) (e : Entry) (keep : Bool) (before : ℕ) (told told' : Option Log) (kept kept' : Option (List ℕ)) (n : Node) (s : Step) (st : Steps g J e n s) (k : keep ≡ true → Appends kept kept' (line Second before e)) where
+module _ (g : Config) (J : List Entry) (e : Entry) (keep : Bool) (before : ℕ) (told told' : Option Log) (kept kept' : Option (List ℕ)) (n : Node) (s : Step) (st : IsStep g J e n s) (k : keep ≡ true → Appends kept kept' (line Second before e)) where
   -- the acts of a step are those of its entry
   its_acts : acts_after g (e ∷ []) (chronicle g J) ≡ s.acts
   its_acts = append_cancel_left (acts g J) (acts_after g (e ∷ []) (chronicle g J)) s.acts (let c : Continues g J (e ∷ []) = continues g J (e ∷ []) in sym c.done ∙ st.done)

@@ -34,7 +34,7 @@ use Rattle.zre_actor.specs.declared.views.Placed.{Placed}
 use Rattle.zre_actor.specs.declared.passes.ActorPass.{ActorPass}
 use Rattle.zre_actor.specs.Commands.{command_of}
 use Rattle.zre_actor.specs.Passes.{IsPopped}
-use Rattle.zre_actor.specs.Work.{Scene, scene, went, AreDeeds, acts_of, late, command_in, done_by, Goes, world_ending, Ends, KeptLines, QuitsLast, AllGo, IsWork, Went, IsRefusal, IsUnput, IsUnstepped, IsUndone, Broke}
+use Rattle.zre_actor.specs.Work.{WorkScene, scene, went, AreDeeds, acts_of, late, command_in, done_by, Goes, world_ending, Ends, KeptLines, QuitsLast, AllGo, IsWork, Went, IsRefusal, IsUnput, IsUnstepped, IsUndone, Broke}
 use Rattle.zre_actor.proofs.Quits.{NoQuit, quits_snoc, no_quit_more, no_quit}
 use Rattle.zre_actor.proofs.Deeds.{went-none, after_look, after_entry, AreDeeds-append, acts_of-snoc}
 
@@ -76,7 +76,7 @@ few None = omega arith
 few (Some c) = omega arith
 
 -- what the actor popped: nothing, and one find of an empty pipe more, or a command
-abbrev pub Pops : Scene → Option Command → Scene → Type 0
+abbrev pub Pops : WorkScene → Option Command → WorkScene → Type 0
 Pops t None u = (u.popped ≡ t.popped) × (u.empties ≡ t.empties + 1)
 Pops t (Some c) u = ((e : Placed) × (e.command ≡ c) × (u.popped ≡ t.popped ++ e ∷ [])) × (u.empties ≡ t.empties)
 
@@ -91,7 +91,7 @@ go_more : (g : Config) (J es : List Entry) (e : Entry) → AllGo g J es → has_
 go_more g J [] e go on = (subst (λ l. has_stopped (chronicle g l) ≡ false) (append-nil J) on, tt)
 go_more g J (x ∷ es) e go on = (go.0, go_more g (J ++ x ∷ []) es e go.1 (subst (λ l. has_stopped (chronicle g l) ≡ false) (sym (append_assoc J (x ∷ []) es)) on))
 
-module _ (g : Config) (K : List Entry) (keep : Bool) (limit : ℕ) (s : Scene) where
+module _ (g : Config) (K : List Entry) (keep : Bool) (limit : ℕ) (s : WorkScene) where
   -- the node took these entries after K: its acts are done, and its events are those that are told here
   pub record Ran (n : Node) : Type 0 where
     pub entries : List Entry
@@ -104,7 +104,7 @@ module _ (g : Config) (K : List Entry) (keep : Bool) (limit : ℕ) (s : Scene) w
     pub are_events : events g (K ++ entries) ≡ events g K ++ told
 
   -- after so many turns: the node took all that was given, its acts are done, its events raised and its lines kept
-  pub record Running (turns : ℕ) (t : Scene) (n : Node) (command : Option Command) (before : ℕ) : Type 0 where
+  pub record Running (turns : ℕ) (t : WorkScene) (n : Node) (command : Option Command) (before : ℕ) : Type 0 where
     pub ran : Ran n
     pub goes : Goes turns limit s t ran.entries ran.deeds (option_to_list command)
     pub most : turns ≤ limit
@@ -120,7 +120,7 @@ module _ (g : Config) (K : List Entry) (keep : Bool) (limit : ℕ) (s : Scene) w
     pub record_later : s.record_faults ≤ t.record_faults
 
   -- the same, of lists and of a scene that are the same
-  abbrev goes_as : (es es' : List Entry) (ds ds' : List Deed) (turns : ℕ) (t u : Scene) (pending : List Command) → Goes turns limit s t es ds pending → es ≡ es' → ds ≡ ds'
+  abbrev goes_as : (es es' : List Entry) (ds ds' : List Deed) (turns : ℕ) (t u : WorkScene) (pending : List Command) → Goes turns limit s t es ds pending → es ≡ es' → ds ≡ ds'
       → u.told ≡ t.told → u.looked ≡ t.looked → u.popped ≡ t.popped → u.empties ≡ t.empties → Goes turns limit s u es' ds' pending
   goes_as es es' ds ds' turns t u pending h e d told looked popped empties = let same : late turns limit u.looked ≡ late turns limit t.looked = ap (late turns limit) looked in record {
     looks = h.looks;
@@ -168,7 +168,7 @@ module _ (g : Config) (K : List Entry) (keep : Bool) (limit : ℕ) (s : Scene) w
     record_later = omega arith;
   }
 
-  module _ (turns : ℕ) (t : Scene) (n : Node) (command : Option Command) (before : ℕ) (k : Running turns t n command before) where
+  module _ (turns : ℕ) (t : WorkScene) (n : Node) (command : Option Command) (before : ℕ) (k : Running turns t n command before) where
     -- the pipe was not found empty more often than there were turns
     pub rare : t.empties ≤ s.empties + turns
     rare = let h = k.goes in omega (arith, h.counted, h.are_looks)
@@ -179,7 +179,7 @@ module _ (g : Config) (K : List Entry) (keep : Bool) (limit : ℕ) (s : Scene) w
     no_command (Some c) is = absurd is
 
     -- one look more was answered, and these commands were popped up to then
-    abbrev goes_look : (u : Scene) (popped : List Placed) (pending : List Command) → u.told ≡ option_map (after_turn command turn.Look) t.told → u.popped ≡ s.popped ++ popped
+    abbrev goes_look : (u : WorkScene) (popped : List Placed) (pending : List Command) → u.told ≡ option_map (after_turn command turn.Look) t.told → u.popped ≡ s.popped ++ popped
         → map command_of popped ≡ k.goes.handed ++ pending → (k.goes.looks + 1) + s.empties ≡ length popped + u.empties + late (turns + 1) limit u.looked → Goes (turns + 1) limit s u k.ran.entries k.ran.deeds pending
     goes_look u popped pending new are hands finds = let h = k.goes in record {
       looks = h.looks + 1;
@@ -193,7 +193,7 @@ module _ (g : Config) (K : List Entry) (keep : Bool) (limit : ℕ) (s : Scene) w
       are_looks = finds;
     }
 
-    abbrev looks_again : (u : Scene) (found : Option Command) → u.told ≡ option_map (after_turn command turn.Look) t.told → Pops t found u → late turns limit t.looked ≡ 0 → late (turns + 1) limit u.looked ≡ 0
+    abbrev looks_again : (u : WorkScene) (found : Option Command) → u.told ≡ option_map (after_turn command turn.Look) t.told → Pops t found u → late turns limit t.looked ≡ 0 → late (turns + 1) limit u.looked ≡ 0
         → map command_of k.goes.popped ≡ k.goes.handed ++ [] → Goes (turns + 1) limit s u k.ran.entries k.ran.deeds (option_to_list found)
     looks_again u None new popped now later hands = let h = k.goes in goes_look u h.popped [] new (popped.0 ∙ h.is_popped) hands (omega (arith, h.are_looks, popped.1))
     looks_again u (Some c) new popped now later hands = let h = k.goes in let e = popped.0.0 in goes_look u (h.popped ++ e ∷ []) (c ∷ []) new
@@ -202,32 +202,32 @@ module _ (g : Config) (K : List Entry) (keep : Bool) (limit : ℕ) (s : Scene) w
         (omega (arith, h.are_looks, popped.1, length-append h.popped (e ∷ [])))
 
     -- nothing was raised or kept, and nothing failed but the world
-    pub record IsCalm (u : Scene) : Type 0 where
+    pub record IsCalm (u : WorkScene) : Type 0 where
       pub raised : u.raised ≡ t.raised
       pub kept : u.kept ≡ t.kept
       pub world_later : t.world_faults ≤ u.world_faults
       pub record_same : u.record_faults ≡ t.record_faults
 
     -- a look was answered, and the rest stands as it stood
-    pub record Looks (u : Scene) : Type 0 where
+    pub record Looks (u : WorkScene) : Type 0 where
       pub told : u.told ≡ option_map (after_turn command turn.Look) t.told
       pub looked : u.looked ≡ true
       pub calm : IsCalm u
 
     -- what is popped after a look stands after commands that are no Quit
-    look_quits : (u : Scene) (found : Option Command) (told : u.told ≡ option_map (after_turn command turn.Look) t.told) (popped : Pops t found u) (now : late turns limit t.looked ≡ 0) (later : late (turns + 1) limit u.looked ≡ 0)
+    look_quits : (u : WorkScene) (found : Option Command) (told : u.told ≡ option_map (after_turn command turn.Look) t.told) (popped : Pops t found u) (now : late turns limit t.looked ≡ 0) (later : late (turns + 1) limit u.looked ≡ 0)
         (hands : map command_of k.goes.popped ≡ k.goes.handed ++ []) → NoQuit k.goes.handed → QuitsLast (map command_of (looks_again u found told popped now later hands).popped)
     look_quits u None told popped now later hands none = k.quits_last
     look_quits u (Some c) told popped now later hands none = let h = k.goes in let e = popped.0.0 in
         subst QuitsLast (sym (map-append command_of h.popped (e ∷ []) ∙ ap (λ l. l ++ e.command ∷ []) (hands ∙ append-nil h.handed))) (quits_snoc h.handed e.command none)
 
-    look_handed : (u : Scene) (found : Option Command) (told : u.told ≡ option_map (after_turn command turn.Look) t.told) (popped : Pops t found u) (now : late turns limit t.looked ≡ 0) (later : late (turns + 1) limit u.looked ≡ 0)
+    look_handed : (u : WorkScene) (found : Option Command) (told : u.told ≡ option_map (after_turn command turn.Look) t.told) (popped : Pops t found u) (now : late turns limit t.looked ≡ 0) (later : late (turns + 1) limit u.looked ≡ 0)
         (hands : map command_of k.goes.popped ≡ k.goes.handed ++ []) → (looks_again u found told popped now later hands).handed ≡ k.goes.handed
     look_handed u None told popped now later hands = refl
     look_handed u (Some c) told popped now later hands = refl
 
     -- no entry was given since, and nothing raised or kept
-    abbrev stays : (turns' : ℕ) (u : Scene) (command' : Option Command) (goes : Goes turns' limit s u k.ran.entries k.ran.deeds (option_to_list command')) → turns' ≤ limit → IsCalm u
+    abbrev stays : (turns' : ℕ) (u : WorkScene) (command' : Option Command) (goes : Goes turns' limit s u k.ran.entries k.ran.deeds (option_to_list command')) → turns' ≤ limit → IsCalm u
         → ((c : Command) → command' ≡ Some c → has_stopped (chronicle g (K ++ k.ran.entries)) ≡ false) → (has_stopped (chronicle g (K ++ k.ran.entries)) ≡ false → NoQuit goes.handed) → QuitsLast (map command_of goes.popped)
         → Running turns' u n command' before
     stays turns' u command' goes most calm busy unquit quits = record {
@@ -245,7 +245,7 @@ module _ (g : Config) (K : List Entry) (keep : Bool) (limit : ℕ) (s : Scene) w
     }
 
     -- a look, and then a pop
-    pub looked_again : (u : Scene) (found : Option Command) → Looks u → Pops t found u → turns + 1 < limit → IsTurn command turn.Look → has_stopped (chronicle g (K ++ k.ran.entries)) ≡ false → Running (turns + 1) u n found before
+    pub looked_again : (u : WorkScene) (found : Option Command) → Looks u → Pops t found u → turns + 1 < limit → IsTurn command turn.Look → has_stopped (chronicle g (K ++ k.ran.entries)) ≡ false → Running (turns + 1) u n found before
     looked_again u found w popped more is going =
         let h = k.goes in
         let now : late turns limit t.looked ≡ 0 = not_late turns limit t.looked (λ e. omega arith) in
@@ -255,7 +255,7 @@ module _ (g : Config) (K : List Entry) (keep : Bool) (limit : ℕ) (s : Scene) w
         (λ on. subst NoQuit (sym (look_handed u found w.told popped now later hands)) (k.unquit going)) (look_quits u found w.told popped now later hands (k.unquit going))
 
     -- a look in the last turn, after which nothing is popped
-    pub looked_last : (u : Scene) → Looks u → u.popped ≡ t.popped → u.empties ≡ t.empties → turns + 1 ≡ limit → IsTurn command turn.Look → Running (turns + 1) u n None before
+    pub looked_last : (u : WorkScene) → Looks u → u.popped ≡ t.popped → u.empties ≡ t.empties → turns + 1 ≡ limit → IsTurn command turn.Look → Running (turns + 1) u n None before
     looked_last u w popped empties last is =
         let h = k.goes in
         let now : late turns limit t.looked ≡ 0 = not_late turns limit t.looked (λ e. omega arith) in
@@ -264,7 +264,7 @@ module _ (g : Config) (K : List Entry) (keep : Bool) (limit : ℕ) (s : Scene) w
         (λ c is. absurd (cc)) k.unquit k.quits_last
 
     -- an entry was given, and the rest of the scene stands as it stood but for the events that are raised
-    pub record Gives (e : Entry) (told : Option Log) (u : Scene) : Type 0 where
+    pub record Gives (e : Entry) (told : Option Log) (u : WorkScene) : Type 0 where
       pub is_turn : IsTurn command (turn.Entry e)
       pub given : told ≡ option_map (after_turn command (turn.Entry e)) t.told
       pub value : IsEntry e
@@ -279,7 +279,7 @@ module _ (g : Config) (K : List Entry) (keep : Bool) (limit : ℕ) (s : Scene) w
     does None e is = nil-sublist (done_by (e ∷ []))
     does (Some c) e is = subst (λ i. Sublist (c ∷ []) (command_in i ++ [])) (sym is) (sublists.refl (c ∷ []))
 
-    abbrev given_goes : (e : Entry) (told : Option Log) (u : Scene) (more : List Deed) → Gives e told u → turns < limit → u.told ≡ option_map (went [] 0 [] more) told → Goes (turns + 1) limit s u (k.ran.entries ++ e ∷ []) (k.ran.deeds ++ more) []
+    abbrev given_goes : (e : Entry) (told : Option Log) (u : WorkScene) (more : List Deed) → Gives e told u → turns < limit → u.told ≡ option_map (went [] 0 [] more) told → Goes (turns + 1) limit s u (k.ran.entries ++ e ∷ []) (k.ran.deeds ++ more) []
     given_goes e told u more w less done =
         let h = k.goes in
         let now : late turns limit t.looked ≡ 0 = not_late turns limit t.looked (λ e. omega arith) in
@@ -300,7 +300,7 @@ module _ (g : Config) (K : List Entry) (keep : Bool) (limit : ℕ) (s : Scene) w
     along e = append_assoc K k.ran.entries (e ∷ [])
 
     -- an entry was given, put, stepped and done, and its events were raised
-    pub went_on : (e : Entry) (told : Option Log) (u : Scene) (n' : Node) (es : List Event) → Gives e told u → turns < limit → IsTurn command (turn.Entry e) → has_stopped (chronicle g (K ++ k.ran.entries)) ≡ false → Went g (K ++ k.ran.entries) e keep before told u.told t.kept u.kept n' es → u.raised ≡ t.raised ++ es
+    pub went_on : (e : Entry) (told : Option Log) (u : WorkScene) (n' : Node) (es : List Event) → Gives e told u → turns < limit → IsTurn command (turn.Entry e) → has_stopped (chronicle g (K ++ k.ran.entries)) ≡ false → Went g (K ++ k.ran.entries) e keep before told u.told t.kept u.kept n' es → u.raised ≡ t.raised ++ es
         → Running (turns + 1) u n' None e.at
     went_on e told u n' es w less is going x raised = record {
       ran = record {
@@ -333,7 +333,7 @@ module _ (g : Config) (K : List Entry) (keep : Bool) (limit : ℕ) (s : Scene) w
     idle (Some x) busy stopped = absurd (true≢false (sym stopped ∙ busy x refl))
 
     -- it ends without a step more: these entries weren't stepped, and these commands weren't handed on
-    ends_here : (turns' : ℕ) (u : Scene) (n' : Node) (unstepped : List Entry) (pending : List Command) (e : Ending) (goes : Goes turns' limit s u (k.ran.entries ++ unstepped) k.ran.deeds pending) → turns' ≤ limit → QuitsLast (map command_of goes.popped)
+    ends_here : (turns' : ℕ) (u : WorkScene) (n' : Node) (unstepped : List Entry) (pending : List Command) (e : Ending) (goes : Goes turns' limit s u (k.ran.entries ++ unstepped) k.ran.deeds pending) → turns' ≤ limit → QuitsLast (map command_of goes.popped)
         → AllGo g K (k.ran.entries ++ unstepped) → All IsEntry (k.ran.entries ++ unstepped) → StandsFor g (K ++ k.ran.entries) n' ⊎ (IsTrue (is_spent n') × (e ≡ ending.OutOfMemory) × (length unstepped ≡ 1)) → u.raised ≡ t.raised
         → (keep ≡ true → KeptLines s.kept u.kept k.ran.entries unstepped) → Ends e (has_stopped (chronicle g (K ++ k.ran.entries))) turns' limit keep s u unstepped pending → IsWork g K keep limit s u n' e
     ends_here turns' u n' unstepped pending e goes most quits go values node raised kept ends = record {
@@ -381,7 +381,7 @@ module _ (g : Config) (K : List Entry) (keep : Bool) (limit : ℕ) (s : Scene) w
     leaves_at_end none last e is = subst (IsWork g K keep limit s t n) (sym is) (late_end (has_stopped (chronicle g (K ++ k.ran.entries))) refl none last)
 
     -- the world refused a turn: its count rose, or it had no memory
-    pub record Refuses (f : NextFault) (u : Scene) : Type 0 where
+    pub record Refuses (f : NextFault) (u : WorkScene) : Type 0 where
       pub told : u.told ≡ t.told
       pub looked : u.looked ≡ t.looked
       pub popped : u.popped ≡ t.popped
@@ -389,13 +389,13 @@ module _ (g : Config) (K : List Entry) (keep : Bool) (limit : ℕ) (s : Scene) w
       pub calm : IsCalm u
       pub rose : f ≡ fault.Failed → Rose t.world_faults u.world_faults
 
-    abbrev pub refused : (f : NextFault) (u : Scene) → Refuses f u → Running turns u n command before
+    abbrev pub refused : (f : NextFault) (u : WorkScene) → Refuses f u → Running turns u n command before
     refused f u w = stays turns u command (goes_as k.ran.entries k.ran.entries k.ran.deeds k.ran.deeds turns t u (option_to_list command) k.goes refl refl w.told w.looked w.popped w.empties) k.most w.calm k.busy k.unquit k.quits_last
 
     -- ---- an entry that broke off
 
     -- the node has its entry, or not: one entry was given that it didn't take
-    given_up : (e : Entry) (told : Option Log) (u : Scene) (n' : Node) (ended : Ending) → Gives e told u → turns < limit → has_stopped (chronicle g (K ++ k.ran.entries)) ≡ false → u.told ≡ told → u.raised ≡ t.raised
+    given_up : (e : Entry) (told : Option Log) (u : WorkScene) (n' : Node) (ended : Ending) → Gives e told u → turns < limit → has_stopped (chronicle g (K ++ k.ran.entries)) ≡ false → u.told ≡ told → u.raised ≡ t.raised
         → StandsFor g (K ++ k.ran.entries) n' ⊎ (IsTrue (is_spent n') × (ended ≡ ending.OutOfMemory) × (length (e ∷ []) ≡ 1))
         → (keep ≡ true → KeptLines s.kept u.kept k.ran.entries (e ∷ []))
         → Ends ended (has_stopped (chronicle g (K ++ k.ran.entries))) (turns + 1) limit keep s u (e ∷ []) []
@@ -408,7 +408,7 @@ module _ (g : Config) (K : List Entry) (keep : Bool) (limit : ℕ) (s : Scene) w
     one_line : (e : Entry) → lines Second (last_reading 0 k.ran.entries) (e ∷ []) ≡ line Second before e
     one_line e = append-nil (line Second (last_reading 0 k.ran.entries) e) ∙ sym (next_line before k.ran.entries e k.is_before)
 
-    whole_line : (e : Entry) (u : Scene) → (keep ≡ true → Appends t.kept u.kept (line Second before e)) → keep ≡ true → KeptLines s.kept u.kept k.ran.entries (e ∷ [])
+    whole_line : (e : Entry) (u : WorkScene) → (keep ≡ true → Appends t.kept u.kept (line Second before e)) → keep ≡ true → KeptLines s.kept u.kept k.ran.entries (e ∷ [])
     whole_line e u kept i = record {
       part = line Second before e;
       rest = [];
@@ -416,7 +416,7 @@ module _ (g : Config) (K : List Entry) (keep : Bool) (limit : ℕ) (s : Scene) w
       is_part = one_line e ∙ sym (append-nil (line Second before e));
     }
 
-    unput_ends : (e : Entry) (u : Scene) (ended : Ending) → IsRefusal t.record_faults u.record_faults ended → keep ≡ true → has_stopped (chronicle g (K ++ k.ran.entries)) ≡ false
+    unput_ends : (e : Entry) (u : WorkScene) (ended : Ending) → IsRefusal t.record_faults u.record_faults ended → keep ≡ true → has_stopped (chronicle g (K ++ k.ran.entries)) ≡ false
         → Ends ended (has_stopped (chronicle g (K ++ k.ran.entries))) (turns + 1) limit keep s u (e ∷ []) []
     unput_ends e u ended how keeps going = ⊎_elim
         (λ (none : ended ≡ ending.OutOfMemory). subst (λ x. Ends x (has_stopped (chronicle g (K ++ k.ran.entries))) (turns + 1) limit keep s u (e ∷ []) []) (sym none) (omega arith))
@@ -425,7 +425,7 @@ module _ (g : Config) (K : List Entry) (keep : Bool) (limit : ℕ) (s : Scene) w
         how
 
     -- the world found no memory for an act
-    left_undone : (e : Entry) (told : Option Log) (u : Scene) (n' : Node) (ended : Ending) → Gives e told u → turns < limit → has_stopped (chronicle g (K ++ k.ran.entries)) ≡ false → u.raised ≡ t.raised → IsUndone g (K ++ k.ran.entries) e keep before told u.told t.kept u.kept n' ended → IsWork g K keep limit s u n' ended
+    left_undone : (e : Entry) (told : Option Log) (u : WorkScene) (n' : Node) (ended : Ending) → Gives e told u → turns < limit → has_stopped (chronicle g (K ++ k.ran.entries)) ≡ false → u.raised ≡ t.raised → IsUndone g (K ++ k.ran.entries) e keep before told u.told t.kept u.kept n' ended → IsWork g K keep limit s u n' ended
     left_undone e told u n' ended w less going raised x = record {
       turns = turns + 1;
       entries = k.ran.entries ++ e ∷ [];
@@ -457,7 +457,7 @@ module _ (g : Config) (K : List Entry) (keep : Bool) (limit : ℕ) (s : Scene) w
       ends = subst (λ y. Ends y (has_stopped (chronicle g (K ++ (k.ran.entries ++ e ∷ [])))) (turns + 1) limit keep s u [] []) (sym x.ends) (omega arith);
     }
 
-    pub broke : (e : Entry) (told : Option Log) (u : Scene) (n' : Node) (ended : Ending) → Gives e told u → turns < limit → u.raised ≡ t.raised → has_stopped (chronicle g (K ++ k.ran.entries)) ≡ false
+    pub broke : (e : Entry) (told : Option Log) (u : WorkScene) (n' : Node) (ended : Ending) → Gives e told u → turns < limit → u.raised ≡ t.raised → has_stopped (chronicle g (K ++ k.ran.entries)) ≡ false
         → Broke g (K ++ k.ran.entries) e keep before told u.told t.kept u.kept t.record_faults u.record_faults n' ended → IsWork g K keep limit s u n' ended
     broke e told u n' ended w less raised going how = ⊎_elim
         (λ (x : IsUnput g (K ++ k.ran.entries) e keep before told u.told t.kept u.kept t.record_faults u.record_faults n' ended).
@@ -478,5 +478,5 @@ module _ (g : Config) (K : List Entry) (keep : Bool) (limit : ℕ) (s : Scene) w
     refused_ends fault.OutOfMemory less rose going = leaves ending.OutOfMemory (omega (arith, few command))
 
   -- Last was pushed, and what the work came to is handed back
-  pub handed_back : (t t' : Scene) (n n' : Node) (e e' : Ending) → IsWork g K keep limit s t n e → t' ≡ t → n' ≡ n → e' ≡ e → IsWork g K keep limit s t' n' e'
-  handed_back t t' n n' e e' w is_t is_n is_e = subst (λ (x : Scene × Node × Ending). IsWork g K keep limit s x.0 x.1 x.2) (λ i. (sym is_t i, sym is_n i, sym is_e i)) w
+  pub handed_back : (t t' : WorkScene) (n n' : Node) (e e' : Ending) → IsWork g K keep limit s t n e → t' ≡ t → n' ≡ n → e' ≡ e → IsWork g K keep limit s t' n' e'
+  handed_back t t' n n' e e' w is_t is_n is_e = subst (λ (x : WorkScene × Node × Ending). IsWork g K keep limit s x.0 x.1 x.2) (λ i. (sym is_t i, sym is_n i, sym is_e i)) w

@@ -6,12 +6,12 @@ use mathlib.Core.Option.{some}
 use lib.ListN.{get_elem?}
 use Rattle.zre_outside.specs.declared.entry.Command.{Command}
 use Rattle.zre_actor.specs.declared.views.Placed.{Placed}
-use Rattle.zre_actor.specs.declared.views.View.{View}
+use Rattle.zre_actor.specs.declared.views.CommandView.{CommandView}
 
 abbrev pub placed : ℕ → List ℕ → Command → Placed
 placed n ended c = record { number = n; ended = ended; command = c }
 
-abbrev pub view : Bool → List Placed → List ℕ → List ℕ → List ℕ → List Placed → View
+abbrev pub view : Bool → List Placed → List ℕ → List ℕ → List ℕ → List Placed → CommandView
 view actor popped own ended unused put =
     record { actor = actor; popped = popped; own = own; ended = ended; unused = unused; put = put }
 
@@ -36,27 +36,27 @@ Closed [] = Unit {0}
 Closed (e ∷ es) = ((n : ℕ) → 1 ≤ times n e.ended → under n es ≡ []) × Closed es
 
 -- f of each pass, added up
-abbrev pub total : (View → ℕ) → List View → ℕ
+abbrev pub total : (CommandView → ℕ) → List CommandView → ℕ
 total f [] = 0
 total f (v ∷ vs) = f v + total f vs
 
 -- how often n stands in these numbers of the passes
-abbrev pub among : (View → List ℕ) → ℕ → List View → ℕ
+abbrev pub among : (CommandView → List ℕ) → ℕ → List CommandView → ℕ
 among f n views = total (λ v. times n (f v)) views
 
 -- a caller's own number and those that it absorbed
-abbrev pub live : View → List ℕ
+abbrev pub live : CommandView → List ℕ
 live v = v.own ++ v.ended
 
 -- these, and the unused ones
-abbrev pub numbers : View → List ℕ
+abbrev pub numbers : CommandView → List ℕ
 numbers v = live v ++ v.unused
 
 -- F holds of each pass
-abbrev pub Each : List View → (View → Type 0) → Type 0
-Each views F = (pass : ℕ) (v : View) → get_elem? views pass ≡ some v → F v
+abbrev pub Each : List CommandView → (CommandView → Type 0) → Type 0
+Each views F = (pass : ℕ) (v : CommandView) → get_elem? views pass ≡ some v → F v
 
-pub record Kept (out history : List Placed) (views : List View) : Type 0 where
+pub record Kept (out history : List Placed) (views : List CommandView) : Type 0 where
   -- exactly one pass is the actor's, and every other has popped nothing
   pub actor : total (λ v. cond v.actor 1 0) views ≡ 1
   pub popped : Each views (λ v. v.popped ≡ cond v.actor out [])
@@ -76,7 +76,7 @@ pub record Kept (out history : List Placed) (views : List View) : Type 0 where
 abbrev pub command_of : Placed → Command
 command_of e = e.command
 
-abbrev pub Rule : List Command → List View → Type 0
+abbrev pub Rule : List Command → List CommandView → Type 0
 Rule items views =
     (popped : List Placed) × (queued : List Placed) × (map command_of queued ≡ items)
     × Kept popped (popped ++ queued) views
@@ -87,21 +87,21 @@ row a zero = []
 row a (suc k) = a ∷ row (suc a) k
 
 -- the first pass is the actor's and has all numbers
-abbrev pub first : View
+abbrev pub first : CommandView
 first = view true [] [] [] (row 1 16) []
 
 -- a split gives the first unused number to a new caller
-abbrev pub without_one : View → View
+abbrev pub without_one : CommandView → CommandView
 without_one v = view v.actor v.popped v.own v.ended (drop 1 v.unused) v.put
 
-abbrev pub one_caller : View → View
+abbrev pub one_caller : CommandView → CommandView
 one_caller v = view false [] (take 1 v.unused) [] [] []
 
 -- a join keeps what both put, and the other's numbers have ended
-abbrev pub joined : View → View → View
+abbrev pub joined : CommandView → CommandView → CommandView
 joined v w = view v.actor v.popped v.own (v.ended ++ live w) (v.unused ++ w.unused) (v.put ++ w.put)
 
-abbrev pub nobody : View
+abbrev pub nobody : CommandView
 nobody = view false [] [] [] [] []
 
 -- a push adds the command under the caller's own number
@@ -109,18 +109,18 @@ abbrev pub head_or : List ℕ → ℕ
 head_or [] = 0
 head_or (n ∷ ns) = n
 
-abbrev pub written : View → Command → Placed
+abbrev pub written : CommandView → Command → Placed
 written v c = placed (head_or v.own) v.ended c
 
-abbrev pub wrote : View → Command → View
+abbrev pub wrote : CommandView → Command → CommandView
 wrote v c = view v.actor v.popped v.own v.ended v.unused (v.put ++ written v c ∷ [])
 
 -- a pop adds the command to what the actor popped
-abbrev pub Reads : View → Command → View → Type 0
+abbrev pub Reads : CommandView → Command → CommandView → Type 0
 Reads v c w = (e : Placed) × (e.command ≡ c) × (w ≡ view v.actor (v.popped ++ e ∷ []) v.own v.ended v.unused v.put)
 
 -- what the actor's pass learns once it has every number: all that was put was popped or is queued
-pub record Accounts (v : View) (items : List Command) : Type 0 where
+pub record Accounts (v : CommandView) (items : List Command) : Type 0 where
   pub queued : List Placed
   pub are_queued : map command_of queued ≡ items
   pub all_put : (n : ℕ) → under n (v.popped ++ queued) ≡ under n v.put
@@ -129,15 +129,15 @@ pub record Accounts (v : View) (items : List Command) : Type 0 where
   pub apart : (n : ℕ) → times n (numbers v) ≤ 1
 
 -- the pass has every number
-abbrev pub HasAll : View → Type 0
+abbrev pub HasAll : CommandView → Type 0
 HasAll v = length (numbers v) ≡ 16
 
 -- a caller has one number, and put nothing under other numbers than its own and the ended ones
-abbrev pub IsCaller : View → Type 0
+abbrev pub IsCaller : CommandView → Type 0
 IsCaller v =
     (v.actor ≡ false) × (v.own ≡ head_or v.own ∷ []) × (v.unused ≡ [])
     × ((n : ℕ) → times n (live v) ≡ 0 → under n v.put ≡ [])
 
 -- the actor puts nothing
-abbrev pub IsActor : View → Type 0
+abbrev pub IsActor : CommandView → Type 0
 IsActor v = (v.actor ≡ true) × (v.own ≡ []) × (v.ended ≡ []) × (v.put ≡ [])

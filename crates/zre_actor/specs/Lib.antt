@@ -1,4 +1,4 @@
-pub mod Commands
+pub mod CommandQueue
 pub mod Events
 pub mod Passes
 pub mod Work

@@ -5,7 +5,7 @@ use Rattle.crossbeam_queue.specs.Passes as queue
 use Rattle.crossbeam_channel.specs.Claims as channel
 use Rattle.crossbeam_channel.specs.Ends.{sends_on}
 use Rattle.zre_actor.specs.declared.views.Placed.{Placed}
-use Rattle.zre_actor.specs.declared.views.View.{View}
+use Rattle.zre_actor.specs.declared.views.CommandView.{CommandView}
 use Rattle.zre_actor.specs.declared.passes.Pipes.{Pipes}
 use Rattle.zre_actor.specs.declared.passes.CallerPass.{CallerPass}
 use Rattle.zre_actor.specs.declared.passes.CallerPasses.{CallerPasses}
@@ -21,7 +21,7 @@ use Rattle.zre_actor.specs.Commands.{head_or, live}
 abbrev pub IsCallerOf : Pipes → CallerPass → Type 0
 IsCallerOf pipes p = queue.IsPassOf pipes.commands p.commands
 
-abbrev pub caller : CallerPass → View
+abbrev pub caller : CallerPass → CommandView
 caller p = queue.view p.commands
 
 -- under which number it puts
@@ -61,7 +61,7 @@ IsActorOf pipes p = queue.IsPassOf pipes.commands p.commands × channel.IsSeatAt
 abbrev pub IsTakerOf : Pipes → TakerPass → Type 0
 IsTakerOf pipes p = channel.IsSeatAt (sends_on pipes.events_in) p.events
 
-abbrev pub actor : ActorPass → View
+abbrev pub actor : ActorPass → CommandView
 actor p = queue.view p.commands
 
 -- what the actor popped

@@ -34,7 +34,7 @@ use Rattle.zre_actor.specs.Commands.{command_of}
 use Rattle.zre_actor.specs.Passes.{popped_by, raised_by}
 
 -- what is seen at one moment of the work
-pub record Scene : Type 0 where
+pub record WorkScene : Type 0 where
   -- what the world tells, whether it looked last, and how often it failed
   pub told : Option Log
   pub looked : Bool
@@ -47,7 +47,7 @@ pub record Scene : Type 0 where
   pub raised : List Event
   pub empties : ℕ
 
-abbrev pub scene : Option Log → Bool → ℕ → Option (List ℕ) → ℕ → ActorPass → Scene
+abbrev pub scene : Option Log → Bool → ℕ → Option (List ℕ) → ℕ → ActorPass → WorkScene
 scene told looked wf kept rf pass =
     record {
       told = told;
@@ -114,7 +114,7 @@ late turns limit looked = cond (nat_lt 0 limit && (turns == limit) && looked) 1 
 
 -- so many turns were answered: these entries were given and these deeds done, and the pending commands were popped
 -- and not handed on
-pub record Goes (turns limit : ℕ) (s t : Scene) (given : List Entry) (deeds : List Deed) (pending : List Command)
+pub record Goes (turns limit : ℕ) (s t : WorkScene) (given : List Entry) (deeds : List Deed) (pending : List Command)
     : Type 0 where
   pub looks : ℕ
   pub handed : List Command
@@ -138,7 +138,7 @@ world_ending fault.OutOfMemory = ending.OutOfMemory
 
 -- what each ending says: whether the node stopped, how many turns were answered, whose count rose, which entry wasn't
 -- stepped, which command wasn't handed on
-abbrev pub Ends : Ending → Bool → ℕ → ℕ → Bool → Scene → Scene → List Entry → List Command → Type 0
+abbrev pub Ends : Ending → Bool → ℕ → ℕ → Bool → WorkScene → WorkScene → List Entry → List Command → Type 0
 Ends ending.Stopped stopped turns limit keep s t unstepped pending =
     (stopped ≡ true) × (unstepped ≡ []) × (pending ≡ [])
 Ends ending.WorldFault stopped turns limit keep s t unstepped pending =
@@ -168,7 +168,7 @@ AllGo g J [] = Unit {0}
 AllGo g J (e ∷ es) = (has_stopped (chronicle g J) ≡ false) × AllGo g (J ++ e ∷ []) es
 
 -- the work of a node that stood for K
-pub record IsWork (g : Config) (K : List Entry) (keep : Bool) (limit : ℕ) (s t : Scene) (n : Node) (ended : Ending)
+pub record IsWork (g : Config) (K : List Entry) (keep : Bool) (limit : ℕ) (s t : WorkScene) (n : Node) (ended : Ending)
     : Type 0 where
   pub turns : ℕ
   -- what the world gave: the entries that the node took, and at most one that it didn't

@@ -5,8 +5,8 @@ ghost use Rattle.crossbeam_channel.specs.Claims as channel;
 ghost use Rattle.crossbeam_channel.specs.Ends.{sends_on, receives_on};
 ghost use Rattle.zre_actor.specs.Commands.{IsActor, IsCaller};
 
-use crate::rules::{Commands, Heard, Sends, Takes};
-use crate::views::View;
+use crate::rules::{CommandQueue, EventPass, EventReceiver, EventSender};
+use crate::views::CommandView;
 use crossbeam_queue::Pass;
 use std::alloc::Global;
 use zre_outside::Command;
@@ -24,9 +24,9 @@ pub use finish::Finished;
 #[derive(Drop)]
 pub struct Pipes {
     pub(crate) alloc: Global,
-    commands: Commands,
-    events_in: Sends,
-    events_out: Takes,
+    commands: CommandQueue,
+    events_in: EventSender,
+    events_out: EventReceiver,
     ghost one_channel: { receives_on events_out ≡ sends_on events_in },
     ghost room: { ruled_capacity commands ≡ 1024 },
 }
@@ -34,7 +34,7 @@ pub struct Pipes {
 /// The right to put commands under a number.
 #[derive(Drop)]
 pub struct CallerPass {
-    commands: Pass<Command, View>,
+    commands: Pass<Command, CommandView>,
     fulls: u64,
     ghost is_caller: { IsCaller (view commands) },
 }
@@ -42,8 +42,8 @@ pub struct CallerPass {
 /// The right to pop commands and to raise events.
 #[derive(Drop)]
 pub struct ActorPass {
-    commands: Pass<Command, View>,
-    events: Heard,
+    commands: Pass<Command, CommandView>,
+    events: EventPass,
     empties: u64,
     ghost is_actor: { IsActor (view commands) },
     ghost raises: { (channel.view events).raises ≡ true },
@@ -52,7 +52,7 @@ pub struct ActorPass {
 /// The right to take events.
 #[derive(Drop)]
 pub struct TakerPass {
-    events: Heard,
+    events: EventPass,
     ghost takes: { (channel.view events).takes ≡ true },
 }
 

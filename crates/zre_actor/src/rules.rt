@@ -4,7 +4,7 @@ ghost use Rattle.zre_actor.specs.Commands.{placed, first, without_one, one_calle
 ghost use Rattle.zre_actor.specs.Commands.{Accounts};
 
 use crate::Told;
-use crate::views::{Hearing, Placed, View};
+use crate::views::{CommandView, EventView, Placed};
 use crossbeam_channel::{RuledReceiver, RuledSender, protocol as channel};
 use crossbeam_queue::RuledArrayQueue;
 use crossbeam_queue::protocol::{Join, Lesson, Outcome, Protocol, Split};
@@ -12,7 +12,7 @@ use zre_outside::Command;
 
 pub(crate) struct InOrder;
 
-impl Protocol<Command, View> for InOrder {
+impl Protocol<Command, CommandView> for InOrder {
     ghost use Rattle.zre_actor.specs.Commands.{first, Rule};
 
     ghost holds = { Rule };
@@ -21,9 +21,9 @@ impl Protocol<Command, View> for InOrder {
 }
 
 /// A caller of its own is made of an unused number.
-pub(crate) struct Cut;
+pub(crate) struct SplitOff;
 
-impl Split<View> for Cut {
+impl Split<CommandView> for SplitOff {
     ghost left = { without_one };
 
     ghost right = { one_caller };
@@ -32,44 +32,44 @@ impl Split<View> for Cut {
 /// A pass takes in what another's callers put.
 pub(crate) struct TakeIn;
 
-impl Join<View> for TakeIn {
+impl Join<CommandView> for TakeIn {
     ghost both = { joined };
 
     ghost spent = { nobody };
 }
 
-pub(crate) struct Puts;
+pub(crate) struct PutsCommand;
 
-impl Outcome<Command, View> for Puts {
+impl Outcome<Command, CommandView> for PutsCommand {
     ghost then = { λ v x w. w ≡ wrote v x };
 }
 
-impl Lesson<Command, View> for Puts {
+impl Lesson<Command, CommandView> for PutsCommand {
     ghost fact = { λ v items. ⊤ };
 }
 
-pub(crate) struct Pops;
+pub(crate) struct PopsCommand;
 
-impl Outcome<Command, View> for Pops {
+impl Outcome<Command, CommandView> for PopsCommand {
     ghost then = { Reads };
 }
 
-impl Lesson<Command, View> for Pops {
+impl Lesson<Command, CommandView> for PopsCommand {
     ghost fact = { λ v items. ⊤ };
 }
 
 /// What a pass with every number learns.
 pub(crate) struct Total;
 
-impl Lesson<Command, View> for Total {
+impl Lesson<Command, CommandView> for Total {
     ghost fact = { Accounts };
 }
 
-pub(crate) type Commands = RuledArrayQueue<Command, View, InOrder>;
+pub(crate) type CommandQueue = RuledArrayQueue<Command, CommandView, InOrder>;
 
 pub(crate) struct EventsInOrder;
 
-impl channel::Protocol<Told, Hearing> for EventsInOrder {
+impl channel::Protocol<Told, EventView> for EventsInOrder {
     ghost use Rattle.zre_actor.specs.Events.{first_hearing, EventRule};
 
     ghost holds = { EventRule };
@@ -78,9 +78,9 @@ impl channel::Protocol<Told, Hearing> for EventsInOrder {
 }
 
 /// The taker's pass is cut from the actor's.
-pub(crate) struct Ends;
+pub(crate) struct TwoEnds;
 
-impl channel::Split<Hearing> for Ends {
+impl channel::Split<EventView> for TwoEnds {
     ghost use Rattle.zre_actor.specs.Events.{actors, takers};
 
     ghost left = { actors };
@@ -88,7 +88,7 @@ impl channel::Split<Hearing> for Ends {
     ghost right = { takers };
 }
 
-impl channel::Join<Hearing> for Ends {
+impl channel::Join<EventView> for TwoEnds {
     ghost use Rattle.zre_actor.specs.Events.{met, deaf};
 
     ghost both = { met };
@@ -98,41 +98,41 @@ impl channel::Join<Hearing> for Ends {
 
 pub(crate) struct Raises;
 
-impl channel::Outcome<Told, Hearing> for Raises {
+impl channel::Outcome<Told, EventView> for Raises {
     ghost use Rattle.std.specs.Prelude.{◌≡◌};
     ghost use Rattle.zre_actor.specs.Events.{sent};
 
     ghost then = { λ v m w. w ≡ sent v m };
 }
 
-impl channel::Lesson<Told, Hearing> for Raises {
+impl channel::Lesson<Told, EventView> for Raises {
     ghost fact = { λ v items. ⊤ };
 }
 
-pub(crate) struct Hears;
+pub(crate) struct HearsEvent;
 
-impl channel::Outcome<Told, Hearing> for Hears {
+impl channel::Outcome<Told, EventView> for HearsEvent {
     ghost use Rattle.std.specs.Prelude.{◌≡◌, None};
     ghost use Rattle.zre_actor.specs.Events.{heard};
 
     ghost then = { λ v m w. (v.last ≡ None) × (w ≡ heard v m) };
 }
 
-impl channel::Lesson<Told, Hearing> for Hears {
+impl channel::Lesson<Told, EventView> for HearsEvent {
     ghost fact = { λ v items. ⊤ };
 }
 
 /// What the two ends learn, once Last was taken.
 pub(crate) struct AllTaken;
 
-impl channel::Lesson<Told, Hearing> for AllTaken {
+impl channel::Lesson<Told, EventView> for AllTaken {
     ghost use Rattle.zre_actor.specs.Events.{AllHeard};
 
     ghost fact = { λ v items. AllHeard v };
 }
 
-pub(crate) type Heard = crossbeam_channel::Pass<Told, Hearing>;
+pub(crate) type EventPass = crossbeam_channel::Pass<Told, EventView>;
 
-pub(crate) type Sends = RuledSender<Told, Hearing, EventsInOrder>;
+pub(crate) type EventSender = RuledSender<Told, EventView, EventsInOrder>;
 
-pub(crate) type Takes = RuledReceiver<Told, Hearing, EventsInOrder>;
+pub(crate) type EventReceiver = RuledReceiver<Told, EventView, EventsInOrder>;

@@ -12,7 +12,7 @@ pub struct Placed {
 }
 
 /// What a pass of the command pipe knows.
-pub struct View {
+pub struct CommandView {
     /// Whether it is the actor's.
     pub actor: bool,
     /// What the actor popped.
@@ -28,7 +28,7 @@ pub struct View {
 }
 
 /// What a pass of the event pipe knows.
-pub struct Hearing {
+pub struct EventView {
     /// Whether it is the actor's.
     pub raises: bool,
     pub raised: LinkedList<Event>,

@@ -1,6 +1,6 @@
 -- Where nothing but clients fails, a gate does all that it is asked for, unless memory runs out.
-use Rattle.std.proofs.Common.{◌≡◌, ◌⊎◌, ℕ, ◌<◌, Bool, false, List, [], ◌∷◌, map, length, Option, Some, None, inl, inr, refl, sym, subst, arith}
-use Rattle.std.specs.Prelude.{nat_le, All, Contains}
+use Rattle.std.proofs.Common.{◌≡◌, ℕ, ◌<◌, Bool, false, List, [], ◌∷◌, map, Option, Some, None, inl, inr, refl, sym, subst, arith}
+use Rattle.std.specs.Prelude.{nat_le, All}
 use Rattle.std.proofs.KnownBytes.{Appends-nil}
 use Rattle.std.proofs.lemmas.List.Elements.{All-contains}
 use Rattle.zre_outside.specs.Desks.{Register}
@@ -10,12 +10,12 @@ use Rattle.zre_chat.specs.Chat.{Seen}
 use Rattle.zre_chat.specs.Statuses.{rank, least}
 use Rattle.zre_chat.proofs.Rows.{memory_isnt}
 use Rattle.zre_chat.proofs.Whole.{none_started}
-use Rattle.zre_gate.specs.Clients.{Row}
+use Rattle.zre_gate.specs.Clients.{ClientRow}
 use Rattle.zre_gate.specs.Gate.{Client, IsCaused, AreCaused, IsGate}
 use Rattle.zre_gate.specs.declared.gate.Gate.{Gate}
 use Rattle.zre_gate.proofs.Attended.{not_attended}
 use Rattle.zre_gate.proofs.Unopened.{unopened}
-use Rattle.zre_app.specs.Complete.{WellOrShort, NoneRose, IsBelow, CompletesGate}
+use Rattle.zre_app.specs.Complete.{NoneRose, IsBelow, CompletesGate}
 use Rattle.zre_app.specs.DoesGate.{DoesGate}
 use Rattle.zre_app.specs.Usage.{usage_line}
 use Rattle.zre_app.proofs.Complete.{Spares, either_spares, well_or_short}
@@ -48,7 +48,7 @@ gate_completes (Some g) limit status s t desk = λ before after gate served none
     (λ done. gate.wrote.whole (inl done))
 
 -- a call that found no memory at its start
-pub nothing_gated : {C : Type 0} (look : C → Row) (g : Option Gate) (limit : ℕ) (told : Option (Register C)) (s : Seen) (desk : Type 0) (returned : List C) → returned ≡ [] → DoesGate look g limit OutOfMemory told told s s desk returned
+pub nothing_gated : {C : Type 0} (look : C → ClientRow) (g : Option Gate) (limit : ℕ) (told : Option (Register C)) (s : Seen) (desk : Type 0) (returned : List C) → returned ≡ [] → DoesGate look g limit OutOfMemory told told s s desk returned
 nothing_gated look None limit told s desk returned none = ([], usage_line, refl, Appends-nil s.written)
 nothing_gated look (Some g) limit told s desk returned none = record {
   given = [];

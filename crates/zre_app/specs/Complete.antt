@@ -9,7 +9,7 @@ use Rattle.zre_commands.specs.declared.pump.status.Status.{Status}
 use Rattle.zre_commands.specs.declared.pump.status.Status.TheVariants.{Done, OutOfMemory}
 use Rattle.zre_commands.specs.pump.Meaning.{whole_text}
 use Rattle.zre_chat.specs.Chat.{Seen, IsChat}
-use Rattle.zre_gate.specs.Clients.{Row}
+use Rattle.zre_gate.specs.Clients.{ClientRow}
 use Rattle.zre_gate.specs.Gate.{Client, HasServed, IsGate}
 use Rattle.zre_gate.specs.declared.gate.Gate.{Gate}
 use Rattle.zre_app.specs.declared.command.Command.{Command}
@@ -60,7 +60,7 @@ IsBelow limit c = length c.octets < limit
 abbrev pub CompletesGate : Option Gate → (limit : ℕ) → Status → Seen → Seen → (desk : Type 0) → Type 0
 CompletesGate None limit status s t desk = ⊤
 CompletesGate (Some g) limit status s t desk =
-    (before after : List Row)
+    (before after : List ClientRow)
     (gate : IsGate g.chat.config g.chat.start g.chat.capture limit g.clients s t desk before after status)
     (served : HasServed limit gate.lived.handed gate.lived.turns
     (has_stopped (chronicle g.chat.config gate.lived.entries)) s t desk before after status)

@@ -24,7 +24,7 @@ use Rattle.zre_audit.specs.Coding.{octets_of, code}
 use Rattle.zre_audit.specs.Exchanged.{said, peer_on, links_of, put}
 use Rattle.zre_audit.specs.Kept.{octets_at, with_place, with_place_at, noted, all_noted, risen, lines_with, lines_of, IsLine, ArePut}
 use Rattle.zre_audit.specs.declared.put.Count.{Count}
-use Rattle.zre_audit.specs.declared.put.Line.{Line}
+use Rattle.zre_audit.specs.declared.put.PutLine.{PutLine}
 use Rattle.zre_audit.proofs.Births.{Added, NoneIs, OneIs}
 use Rattle.zre_audit.proofs.Pushes.{PutOn, Nothing, Once, Says}
 use Rattle.zre_audit.proofs.Told.{Lacks, same-kept, same_as, code-said, code-last}
@@ -90,25 +90,25 @@ above-zero i = ne_eqb (suc i) zero (λ z. omega (arith, z))
 below-suc : (m : ℕ) → eqb zero (suc m) ≡ false
 below-suc m = ne_eqb zero (suc m) (λ z. omega (arith, z))
 
-abbrev either : ℕ → Bool → Line → Line
+abbrev either : ℕ → Bool → PutLine → PutLine
 either place b x = cond b (with_place place x) x
 
-same_option : (place : ℕ) (o : Option Line) → o ≡ option_map (λ x. either place false x) o
+same_option : (place : ℕ) (o : Option PutLine) → o ≡ option_map (λ x. either place false x) o
 same_option place None = refl
 same_option place (Some x) = refl
 
-placed_get : (place : ℕ) (xs : List Line) (m i : ℕ) → slice_get (with_place_at place xs m) i ≡ option_map (λ x. either place (eqb i m) x) (slice_get xs i)
+placed_get : (place : ℕ) (xs : List PutLine) (m i : ℕ) → slice_get (with_place_at place xs m) i ≡ option_map (λ x. either place (eqb i m) x) (slice_get xs i)
 placed_get place [] m i = refl
 placed_get place (x ∷ xs) zero zero = refl
 placed_get place (x ∷ xs) zero (suc i) = same_option place (slice_get xs i) ∙ ap (λ b. option_map (λ y. either place b y) (slice_get xs i)) (sym (above-zero i))
 placed_get place (x ∷ xs) (suc m) zero = ap (λ b. Some (either place b x)) (sym (below-suc m))
 placed_get place (x ∷ xs) (suc m) (suc i) = placed_get place xs m i ∙ ap (λ b. option_map (λ y. either place b y) (slice_get xs i)) (sym (eqb-suc i m))
 
-noted_get : (place : ℕ) (xs : List Line) (l i : ℕ) → slice_get (noted place xs l) i ≡ option_map (λ x. either place (eqb (suc i) l) x) (slice_get xs i)
+noted_get : (place : ℕ) (xs : List PutLine) (l i : ℕ) → slice_get (noted place xs l) i ≡ option_map (λ x. either place (eqb (suc i) l) x) (slice_get xs i)
 noted_get place xs zero i = same_option place (slice_get xs i) ∙ ap (λ b. option_map (λ y. either place b y) (slice_get xs i)) (sym (above-zero i))
 noted_get place xs (suc m) i = placed_get place xs m i ∙ ap (λ b. option_map (λ y. either place b y) (slice_get xs i)) (sym (eqb-suc i m))
 
-all_noted_get : (place : ℕ) (links : List ℕ) → Apart (λ (k : ℕ). k) links → (xs : List Line) (i : ℕ) → slice_get (all_noted place xs links) i ≡ option_map (λ x. either place (list_any (eqb (suc i)) links) x) (slice_get xs i)
+all_noted_get : (place : ℕ) (links : List ℕ) → Apart (λ (k : ℕ). k) links → (xs : List PutLine) (i : ℕ) → slice_get (all_noted place xs links) i ≡ option_map (λ x. either place (list_any (eqb (suc i)) links) x) (slice_get xs i)
 all_noted_get place [] a xs i = same_option place (slice_get xs i)
 all_noted_get place (l ∷ links) a xs i =
     all_noted_get place links a.1 (noted place xs l) i
@@ -119,18 +119,18 @@ all_noted_get place (l ∷ links) a xs i =
     absent [] n e = refl
     absent (k ∷ ls) n e = ap (λ b. b || list_any (eqb (suc i)) ls) (ap (λ j. eqb j k) e ∙ n.0) ∙ absent ls n.1 e
 
-    by : (b : Bool) → eqb (suc i) l ≡ b → (o : Option Line) → option_map (λ x. either place (list_any (eqb (suc i)) links) x) (option_map (λ x. either place b x) o) ≡ option_map (λ x. either place (b || list_any (eqb (suc i)) links) x) o
+    by : (b : Bool) → eqb (suc i) l ≡ b → (o : Option PutLine) → option_map (λ x. either place (list_any (eqb (suc i)) links) x) (option_map (λ x. either place b x) o) ≡ option_map (λ x. either place (b || list_any (eqb (suc i)) links) x) o
     by true e None = refl
     by true e (Some x) = ap (λ b. Some (either place b (with_place place x))) (absent links a.0 (eqb-true (suc i) l e))
     by false e None = refl
     by false e (Some x) = refl
 
-placed_length : (place : ℕ) (xs : List Line) (m : ℕ) → length (with_place_at place xs m) ≡ length xs
+placed_length : (place : ℕ) (xs : List PutLine) (m : ℕ) → length (with_place_at place xs m) ≡ length xs
 placed_length place [] m = refl
 placed_length place (x ∷ xs) zero = refl
 placed_length place (x ∷ xs) (suc m) = let r = placed_length place xs m in omega (arith, r)
 
-all_noted_length : (place : ℕ) (links : List ℕ) (xs : List Line) → length (all_noted place xs links) ≡ length xs
+all_noted_length : (place : ℕ) (links : List ℕ) (xs : List PutLine) → length (all_noted place xs links) ≡ length xs
 all_noted_length place [] xs = refl
 all_noted_length place (zero ∷ links) xs = all_noted_length place links xs
 all_noted_length place (suc l ∷ links) xs = all_noted_length place links (with_place_at place xs l) ∙ placed_length place xs l
@@ -184,11 +184,11 @@ module _ (sent : ℕ → Option ℕ) (count : ℕ → ℕ) where
 
 -- ---- the lines after an entry
 
-line_stays : (messages : List (List ℕ)) (H K : List Mark) (l : ℕ) (x : Line) → peer_on l K ≡ peer_on l H → code (bodies l K) ≡ code (bodies l H) → IsLine messages H l x → IsLine messages K l x
+line_stays : (messages : List (List ℕ)) (H K : List Mark) (l : ℕ) (x : PutLine) → peer_on l K ≡ peer_on l H → code (bodies l K) ≡ code (bodies l H) → IsLine messages H l x → IsLine messages K l x
 line_stays messages H K l x p c r = record { of = p ∙ r.of; said_is = r.said_is ∙ sym c; within = r.within }
 
 -- where nobody asks for anything to be said
-pub lines_added : (H K : List Mark) → IsProper H → (b : Option PeerId) → Added H K b → (messages : List (List ℕ)) (xs : List Line) → ArePut H messages xs → ArePut K messages (lines_with xs b)
+pub lines_added : (H K : List Mark) → IsProper H → (b : Option PeerId) → Added H K b → (messages : List (List ℕ)) (xs : List PutLine) → ArePut H messages xs → ArePut K messages (lines_with xs b)
 lines_added H K q b (NoneIs z l s) messages xs r = subst (λ c. ArePut K messages (lines_with xs c)) (sym z) (record {
   count = r.count ∙ sym l.same_births;
   lines_are = λ i x e. line_stays messages H K (i + 1) x (l.same_peers (i + 1)) (s (i + 1)) (r.lines_are i x e);
@@ -198,13 +198,13 @@ lines_added H K q b (OneIs p z c o w s) messages xs r = subst (λ d. ArePut K me
   lines_are = λ i x e. by i x (got_last xs new x i e);
 })
   where
-    new : Line
+    new : PutLine
     new = record { id = p; said = [] }
 
     fresh : code (bodies (births H + 1) K) ≡ []
     fresh = s (births H + 1) ∙ ap (λ ms. code (bodies_in ms)) (q.living.fresh (births H + 1) (omega arith)).no_member
 
-    by : (i : ℕ) (x : Line) → (slice_get xs i ≡ Some x) × (i < length xs) ⊎ ((i ≡ length xs) × (new ≡ x)) → IsLine messages K (i + 1) x
+    by : (i : ℕ) (x : PutLine) → (slice_get xs i ≡ Some x) × (i < length xs) ⊎ ((i ≡ length xs) × (new ≡ x)) → IsLine messages K (i + 1) x
     by i x (inl t) =
         let m = r.count in
         let lt = t.1 in
@@ -236,7 +236,7 @@ module _ (H K : List Mark) (q : IsProper H) (n : IsProper K) (b : Body) (says : 
   risen_here : (l : ℕ) (t : Bool) → has_risen sent count_of l ≡ t → list_any (eqb l) (risen_of sent count_of (lives H)) ≡ (is_some (life l H) && t)
   risen_here l t e = risen_any sent count_of l (lives H) ∙ (λ i. any_found (λ (v : Life). v.link) l (lives H) i && e i)
 
-  pub lines_said : (messages : List (List ℕ)) (octets : List ℕ) → octets ≡ octets_of b → (xs : List Line) → ArePut H messages xs
+  pub lines_said : (messages : List (List ℕ)) (octets : List ℕ) → octets ≡ octets_of b → (xs : List PutLine) → ArePut H messages xs
       → ArePut K (messages ++ octets ∷ []) (all_noted (length messages) xs (risen_of sent count_of (lives H)))
   lines_said messages octets o xs r = record {
     count = all_noted_length (length messages) links xs ∙ r.count ∙ sym says.leaves.same_births;
@@ -249,14 +249,14 @@ module _ (H K : List Mark) (q : IsProper H) (n : IsProper K) (b : Body) (says : 
       long : length (messages ++ octets ∷ []) ≡ length messages + 1
       long = length-append messages (octets ∷ [])
 
-      unchanged : (l : ℕ) (x : Line) → IsLine messages H l x → bodies l K ≡ bodies l H → IsLine (messages ++ octets ∷ []) K l x
+      unchanged : (l : ℕ) (x : PutLine) → IsLine messages H l x → bodies l K ≡ bodies l H → IsLine (messages ++ octets ∷ []) K l x
       unchanged l x s same = record {
         of = says.leaves.same_peers l ∙ s.of;
         said_is = kept_octets messages octets x.said s.within ∙ s.said_is ∙ sym (ap code same);
         within = subst (λ m. AllByRecursion (λ i. i < m) x.said) (sym long) (wider (length messages) x.said s.within);
       }
 
-      changed : (l : ℕ) (x : Line) → IsLine messages H l x → bodies l K ≡ bodies l H ++ b ∷ [] → IsLine (messages ++ octets ∷ []) K l (with_place (length messages) x)
+      changed : (l : ℕ) (x : PutLine) → IsLine messages H l x → bodies l K ≡ bodies l H ++ b ∷ [] → IsLine (messages ++ octets ∷ []) K l (with_place (length messages) x)
       changed l x s more = record {
         of = says.leaves.same_peers l ∙ s.of;
         said_is = more_octets messages octets x.said s.within ∙ (λ i. s.said_is i ++ o i) ∙ sym (ap code more ∙ code-last (bodies l H) b);
@@ -273,7 +273,7 @@ module _ (H K : List Mark) (q : IsProper H) (n : IsProper K) (b : Body) (says : 
           let m = length-append (bodies l H) (b ∷ []) in
           by_now l (Some v.0) v.1 ∙ ap (λ bs. ltb (count_of l) (length bs)) more ∙ lt-ltb (count_of l) (length (bodies l H ++ b ∷ [])) (omega (arith, m))
 
-      is_put : (i : ℕ) (x : Line) → IsLine messages H (i + 1) x → PutOn b (i + 1) H K → IsLine (messages ++ octets ∷ []) K (i + 1) (either (length messages) (list_any (eqb (suc i)) links) x)
+      is_put : (i : ℕ) (x : PutLine) → IsLine messages H (i + 1) x → PutOn b (i + 1) H K → IsLine (messages ++ octets ∷ []) K (i + 1) (either (length messages) (list_any (eqb (suc i)) links) x)
       is_put i x s (Nothing same) =
           let here : suc i ≡ i + 1 = omega arith in
           let none : list_any (eqb (suc i)) links ≡ false = ap (λ n. list_any (eqb n) links) here ∙ risen_here (i + 1) false (none_risen (i + 1) same (life (i + 1) K) refl) ∙ off (is_some (life (i + 1) H)) in
@@ -290,10 +290,10 @@ module _ (H K : List Mark) (q : IsProper H) (n : IsProper K) (b : Body) (says : 
           on : (z : Bool) → z ≡ true → (z && true) ≡ true
           on z e = ap (λ y. y && true) e
 
-      at_place : (i : ℕ) (y : Line) → option_map (λ x. either (length messages) (list_any (eqb (suc i)) links) x) (slice_get xs i) ≡ Some y → IsLine (messages ++ octets ∷ []) K (i + 1) y
+      at_place : (i : ℕ) (y : PutLine) → option_map (λ x. either (length messages) (list_any (eqb (suc i)) links) x) (slice_get xs i) ≡ Some y → IsLine (messages ++ octets ∷ []) K (i + 1) y
       at_place i y e = by (slice_get xs i) refl e
         where
-          by : (p : Option Line) → slice_get xs i ≡ p → option_map (λ x. either (length messages) (list_any (eqb (suc i)) links) x) p ≡ Some y → IsLine (messages ++ octets ∷ []) K (i + 1) y
+          by : (p : Option PutLine) → slice_get xs i ≡ p → option_map (λ x. either (length messages) (list_any (eqb (suc i)) links) x) p ≡ Some y → IsLine (messages ++ octets ∷ []) K (i + 1) y
           by None f z = absurd (let w : None ≡ Some y = z in cc)
           by (Some x) f z =
               let same : either (length messages) (list_any (eqb (suc i)) links) x ≡ y = cc in
@@ -343,7 +343,7 @@ links_more _ H q y o p = o p
 pub are_links : (g : Config) (journal : List Entry) → AreLinks (chronicle g journal)
 are_links g journal = always g AreLinks links_more (λ p. refl) journal
 
-pub lines_put : (g : Config) (journal : List Entry) (messages : List (List ℕ)) (xs : List Line) → ArePut (chronicle g journal) messages xs → (p : PeerId) → lines_of messages xs p ≡ map code (put p (chronicle g journal))
+pub lines_put : (g : Config) (journal : List Entry) (messages : List (List ℕ)) (xs : List PutLine) → ArePut (chronicle g journal) messages xs → (p : PeerId) → lines_of messages xs p ≡ map code (put p (chronicle g journal))
 lines_put g journal messages xs r p = by xs 1 (λ i x e. let same : i + 1 ≡ 1 + i = omega arith in subst (λ n. IsLine messages H n x) same (r.lines_are i x e)) ∙ ap (λ n. map code (map spoken (filter mine (range_with_len 1 n)))) r.count ∙ ap (λ ks. map code (map spoken ks)) (sym (are_links g journal p))
   where
     H : List Mark
@@ -355,7 +355,7 @@ lines_put g journal messages xs r p = by xs 1 (λ i x e. let same : i + 1 ≡ 1 
     spoken : ℕ → List Body
     spoken l = said (bodies l H)
 
-    by : (ys : List Line) (k : ℕ) → ((i : ℕ) (x : Line) → slice_get ys i ≡ Some x → IsLine messages H (k + i) x) → lines_of messages ys p ≡ map code (map spoken (filter mine (range_with_len k (length ys))))
+    by : (ys : List PutLine) (k : ℕ) → ((i : ℕ) (x : PutLine) → slice_get ys i ≡ Some x → IsLine messages H (k + i) x) → lines_of messages ys p ≡ map code (map spoken (filter mine (range_with_len k (length ys))))
     by [] k f = refl
     by (y ∷ ys) k f = one (bytes_eq y.id.0 p.0) refl (by ys (k + 1) (λ i x e. let same : k + suc i ≡ (k + 1) + i = omega arith in subst (λ n. IsLine messages H n x) same (f (suc i) x e)))
       where
@@ -366,22 +366,22 @@ lines_put g journal messages xs r p = by xs 1 (λ i x e. let same : i + 1 ≡ 1 
         is_mine = ap (is_same p) s.of ∙ same_as p y.id
 
         one : (b : Bool) → bytes_eq y.id.0 p.0 ≡ b → lines_of messages ys p ≡ map code (map spoken (filter mine (range_with_len (k + 1) (length ys))))
-            → map (λ (x : Line). octets_at messages x.said) (cond b (y ∷ filter (λ (x : Line). bytes_eq x.id.0 p.0) ys) (filter (λ (x : Line). bytes_eq x.id.0 p.0) ys))
+            → map (λ (x : PutLine). octets_at messages x.said) (cond b (y ∷ filter (λ (x : PutLine). bytes_eq x.id.0 p.0) ys) (filter (λ (x : PutLine). bytes_eq x.id.0 p.0) ys))
             ≡ map code (map spoken (cond (mine k) (k ∷ filter mine (range_with_len (k + 1) (length ys))) (filter mine (range_with_len (k + 1) (length ys)))))
         one true e r = (λ i. (s.said_is ∙ sym (code-said (bodies k H))) i ∷ r i) ∙ ap (λ b. map code (map spoken (cond b (k ∷ filter mine (range_with_len (k + 1) (length ys))) (filter mine (range_with_len (k + 1) (length ys)))))) (sym (is_mine ∙ e))
         one false e r = r ∙ ap (λ b. map code (map spoken (cond b (k ∷ filter mine (range_with_len (k + 1) (length ys))) (filter mine (range_with_len (k + 1) (length ys)))))) (sym (is_mine ∙ e))
 
 -- ---- one line that is noted
 
-pub placed_set : (place : ℕ) (xs : List Line) (i : ℕ) (x : Line) → x ≡ slice_index_or xs i x → i < length xs → slice_set xs i (with_place place x) ≡ with_place_at place xs i
+pub placed_set : (place : ℕ) (xs : List PutLine) (i : ℕ) (x : PutLine) → x ≡ slice_index_or xs i x → i < length xs → slice_set xs i (with_place place x) ≡ with_place_at place xs i
 placed_set place [] i x e lt = absurd (omega (arith, lt))
 placed_set place (y ∷ xs) zero x e lt = ap (λ z. with_place place z ∷ xs) e
 placed_set place (y ∷ xs) (suc i) x e lt = ap (λ zs. y ∷ zs) (placed_set place xs i x e (omega (arith, lt)))
 
-pub placed_none : (place : ℕ) (xs : List Line) (i : ℕ) → length xs ≤ i → xs ≡ with_place_at place xs i
+pub placed_none : (place : ℕ) (xs : List PutLine) (i : ℕ) → length xs ≤ i → xs ≡ with_place_at place xs i
 placed_none place [] i le = refl
 placed_none place (x ∷ xs) zero le = absurd (omega (arith, le))
 placed_none place (x ∷ xs) (suc i) le = ap (λ ys. x ∷ ys) (placed_none place xs i (omega (arith, le)))
 
-pub noted_at : (place : ℕ) (xs : List Line) (l i : ℕ) → l ≡ i + 1 → noted place xs l ≡ with_place_at place xs i
+pub noted_at : (place : ℕ) (xs : List PutLine) (l i : ℕ) → l ≡ i + 1 → noted place xs l ≡ with_place_at place xs i
 noted_at place xs l i e = let same : l ≡ suc i = omega (arith, e) in ap (noted place xs) same

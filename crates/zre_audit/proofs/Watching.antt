@@ -12,7 +12,7 @@ use Rattle.zre_journal.specs.Happens.{with_entry}
 use Rattle.zre_journal.proofs.Always.{is_proper}
 use Rattle.zre_journal.proofs.Joined.{continues}
 use Rattle.zre_node.specs.Asked.{sent_after}
-use Rattle.zre_node.specs.Journal.{Steps}
+use Rattle.zre_node.specs.Journal.{IsStep}
 use Rattle.zre_node.specs.declared.effects.Step.{Step}
 use Rattle.zre_node.specs.declared.node.Node.{Node}
 use Rattle.zre_audit.specs.Agreement.{heard_first, heard_second, put_first, put_second, too_many, judged, Judges}
@@ -26,7 +26,7 @@ use Rattle.zre_audit.specs.declared.watch.Watch.{Watch}
 use Rattle.zre_audit.specs.Kept.{ArePut, lines_of, lines_with, all_noted, risen, counts_after}
 use Rattle.zre_audit.specs.Seen.{asked_by, announced_by, born_with}
 use Rattle.zre_audit.specs.Told.{Runs, runs_in, runs_with, runs_after}
-use Rattle.zre_audit.specs.declared.put.Line.{Line}
+use Rattle.zre_audit.specs.declared.put.PutLine.{PutLine}
 use Rattle.zre_audit.proofs.Births.{entry_adds}
 use Rattle.zre_audit.proofs.Judged.{first-code, heard-said, put-said, judged_right}
 use Rattle.zre_audit.proofs.Lines.{lines_added, lines_said, lines_put}
@@ -37,7 +37,7 @@ same_rest : {A : Type 0} (xs ys zs : List A) → xs ++ ys ≡ xs ++ zs → ys �
 same_rest [] ys zs e = e
 same_rest (x ∷ xs) ys zs e = same_rest xs ys zs (ap (drop 1) e)
 
-module _ (g : Config) (J : List Entry) (e : Entry) (n : Node) (s : Step) (t : Steps g J e n s) where
+module _ (g : Config) (J : List Entry) (e : Entry) (n : Node) (s : Step) (t : IsStep g J e n s) where
   abbrev H : List Mark
   H = chronicle g J
 
@@ -58,7 +58,7 @@ module _ (g : Config) (J : List Entry) (e : Entry) (n : Node) (s : Step) (t : St
       ∙ ap (runs_after p.0 []) (sym t.told) ∙ hears g (J ++ e ∷ []) p
 
   -- what was put, where nothing is asked to be said
-  pub put_then : asked_by e.input ≡ None → (messages new_messages : List (List ℕ)) (xs ys : List Line) → ArePut H messages xs → new_messages ≡ messages
+  pub put_then : asked_by e.input ≡ None → (messages new_messages : List (List ℕ)) (xs ys : List PutLine) → ArePut H messages xs → new_messages ≡ messages
       → ys ≡ lines_with xs (born_with (announced_by e.input) s.acts s.events) → ArePut (chronicle g (J ++ e ∷ [])) new_messages ys
   put_then none messages new_messages xs ys was same lines =
       let born : born_with (announced_by e.input) s.acts s.events ≡ born_with (announced_by e.input) (acts_at g e H) (events_at g e H) = λ i. born_with (announced_by e.input) (acts_are i) (events_are i) in
@@ -68,7 +68,7 @@ module _ (g : Config) (J : List Entry) (e : Entry) (n : Node) (s : Step) (t : St
       (lines_added H (with_entry g e H) (is_proper g J) (born_with (announced_by e.input) (acts_at g e H) (events_at g e H)) (entry_adds g e H (is_proper g J) none) messages xs was)))
 
   -- what was put, where this is
-  pub said_then : (b : Body) → asked_by e.input ≡ Some b → (octets : List ℕ) → octets ≡ octets_of b → (messages new_messages : List (List ℕ)) (xs ys : List Line) → ArePut H messages xs
+  pub said_then : (b : Body) → asked_by e.input ≡ Some b → (octets : List ℕ) → octets ≡ octets_of b → (messages new_messages : List (List ℕ)) (xs ys : List PutLine) → ArePut H messages xs
       → new_messages ≡ messages ++ octets ∷ [] → ys ≡ all_noted (length messages) xs (risen (sent_after g (J ++ e ∷ [])) (counts_after g J)) → ArePut (chronicle g (J ++ e ∷ [])) new_messages ys
   said_then b asked octets o messages new_messages xs ys was more lines =
       subst (λ ms. ArePut (chronicle g (J ++ e ∷ [])) ms ys) (sym more)

@@ -12,7 +12,7 @@ use Rattle.zre_journal.specs.Links.{bodies}
 use Rattle.zre_journal.specs.Peers.{Life, lives, births}
 use Rattle.zre_audit.specs.Coding.{code}
 use Rattle.zre_audit.specs.Exchanged.{peer_on}
-use Rattle.zre_audit.specs.declared.put.Line.{Line}
+use Rattle.zre_audit.specs.declared.put.PutLine.{PutLine}
 use Rattle.zre_audit.specs.declared.put.Put.{Put}
 use Rattle.zre_audit.specs.declared.put.Count.{Count}
 
@@ -20,21 +20,21 @@ use Rattle.zre_audit.specs.declared.put.Count.{Count}
 abbrev pub octets_at : List (List ℕ) → List ℕ → List ℕ
 octets_at messages places = flat_map (λ i. slice_index_or messages i []) places
 
-abbrev pub with_place : ℕ → Line → Line
+abbrev pub with_place : ℕ → PutLine → PutLine
 with_place place x = record { id = x.id; said = x.said ++ place ∷ [] }
 
-abbrev pub with_place_at : ℕ → List Line → ℕ → List Line
+abbrev pub with_place_at : ℕ → List PutLine → ℕ → List PutLine
 with_place_at place [] i = []
 with_place_at place (x ∷ xs) zero = with_place place x ∷ xs
 with_place_at place (x ∷ xs) (suc i) = x ∷ with_place_at place xs i
 
 -- the message at a place was put on link l, where links are counted from 1
-abbrev pub noted : ℕ → List Line → ℕ → List Line
+abbrev pub noted : ℕ → List PutLine → ℕ → List PutLine
 noted place xs zero = xs
 noted place xs (suc l) = with_place_at place xs l
 
 -- and on all of these
-abbrev pub all_noted : ℕ → List Line → List ℕ → List Line
+abbrev pub all_noted : ℕ → List PutLine → List ℕ → List PutLine
 all_noted place lines links = fold (noted place) lines links
 
 -- the links on which more was put by then
@@ -43,14 +43,14 @@ risen sent counts = map (λ (s : Count). s.link)
     (filter (λ (s : Count). option_map_or (nat_lt s.count) (sent s.link) false) counts)
 
 -- a link of a peer that is born
-abbrev pub lines_with : List Line → Option PeerId → List Line
+abbrev pub lines_with : List PutLine → Option PeerId → List PutLine
 lines_with lines None = lines
 lines_with lines (Some p) = lines ++ record { id = p; said = [] } ∷ []
 
 -- what was said on the links of p
-abbrev pub lines_of : List (List ℕ) → List Line → PeerId → List (List ℕ)
+abbrev pub lines_of : List (List ℕ) → List PutLine → PeerId → List (List ℕ)
 lines_of messages lines p =
-    map (λ (x : Line). octets_at messages x.said) (filter (λ (x : Line). bytes_eq x.id.0 p.0) lines)
+    map (λ (x : PutLine). octets_at messages x.said) (filter (λ (x : PutLine). bytes_eq x.id.0 p.0) lines)
 
 -- how many messages were put on the links of the known peers
 abbrev pub counts_after : Config → List Entry → List Count
@@ -58,15 +58,15 @@ counts_after g J =
     map (λ (v : Life). record { link = v.link; count = length (bodies v.link (chronicle g J)) }) (lives (chronicle g J))
 
 -- a line is that of link l
-pub record IsLine (messages : List (List ℕ)) (H : List Mark) (l : ℕ) (x : Line) : Type 0 where
+pub record IsLine (messages : List (List ℕ)) (H : List Mark) (l : ℕ) (x : PutLine) : Type 0 where
   pub of : peer_on l H ≡ Some x.id
   pub said_is : octets_at messages x.said ≡ code (bodies l H)
   pub within : AllByRecursion (λ i. i < length messages) x.said
 
 -- the lines are those of all links that were made, in their order
-pub record ArePut (H : List Mark) (messages : List (List ℕ)) (lines : List Line) : Type 0 where
+pub record ArePut (H : List Mark) (messages : List (List ℕ)) (lines : List PutLine) : Type 0 where
   pub count : length lines ≡ births H
-  pub lines_are : (i : ℕ) (x : Line) → slice_get lines i ≡ Some x → IsLine messages H (i + 1) x
+  pub lines_are : (i : ℕ) (x : PutLine) → slice_get lines i ≡ Some x → IsLine messages H (i + 1) x
 
 abbrev pub HasPut : List Mark → Put → Type 0
 HasPut H put = ArePut H put.messages put.lines.items

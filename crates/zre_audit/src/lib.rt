@@ -5,9 +5,9 @@
 mod coding;
 mod counting;
 mod excess;
-mod heard;
 mod judging;
 pub mod laws;
+mod peer_runs;
 mod put;
 mod seen;
 mod verdicts;

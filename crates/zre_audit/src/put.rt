@@ -21,17 +21,17 @@ pub(crate) struct Count {
 }
 
 /// A list of them.
-pub(crate) type Counts = List<Count>;
+pub(crate) type PutCounts = List<Count>;
 
 /// A link: whose it is, and the places of the messages that were said on it.
-pub(crate) struct Line {
+pub(crate) struct PutLine {
     pub id: PeerId,
     pub said: Keys,
 }
 
-impl Drop for Line {
+impl Drop for PutLine {
     fn drop(self) {
-        take_apart!(self, Line: id, said);
+        take_apart!(self, PutLine: id, said);
     }
 }
 
@@ -39,7 +39,7 @@ impl Drop for Line {
 pub(crate) struct Put {
     alloc: Global,
     messages: List<Octets>,
-    lines: Vec<Line>,
+    lines: Vec<PutLine>,
 }
 
 impl Drop for Put {
@@ -49,12 +49,12 @@ impl Drop for Put {
 }
 
 /// How many messages were put on the links of the known peers.
-pub(crate) fn counts(alloc: Global, node: &Node) -> Result<Counts, OutOfMemory>
+pub(crate) fn counts(alloc: Global, node: &Node) -> Result<PutCounts, OutOfMemory>
     ensures { (g : Config) (J : Values Entry) → StandsFor g J node.now
         → IfOk result (λ counts. counts ≡ counts_after g J) }
 {
     let links = node.links()?;
-    let mut counts = Counts::new(alloc);
+    let mut counts = PutCounts::new(alloc);
     for link in links.as_slice() {
         let count = node.sent(*link).unwrap_or(0);
         counts.push(Count { link: *link, count })?;
@@ -87,14 +87,14 @@ fn risen(alloc: Global, node: &Node, before: &[Count]) -> Result<Keys, OutOfMemo
     Ok(links)
 }
 
-fn note(line: &mut Line, place: u64) -> Result<(), OutOfMemory>
+fn note(line: &mut PutLine, place: u64) -> Result<(), OutOfMemory>
     ensures { OnOk result (line.new ≡ with_place place line.old) }
 {
     line.said.push(place)
 }
 
 // The message at this place was put on a link.
-fn note_at(lines: &mut Vec<Line>, link: u64, place: u64) -> Result<(), OutOfMemory>
+fn note_at(lines: &mut Vec<PutLine>, link: u64, place: u64) -> Result<(), OutOfMemory>
     ensures { OnOk result (lines.new.items ≡ noted place lines.old.items link) }
 {
     let Some(at) = link.checked_sub(1) else {
@@ -108,7 +108,7 @@ fn note_at(lines: &mut Vec<Line>, link: u64, place: u64) -> Result<(), OutOfMemo
     Ok(())
 }
 
-fn note_all(lines: &mut Vec<Line>, links: &[u64], place: u64) -> Result<(), OutOfMemory>
+fn note_all(lines: &mut Vec<PutLine>, links: &[u64], place: u64) -> Result<(), OutOfMemory>
     ensures { OnOk result (lines.new.items ≡ all_noted place lines.old.items links.now) }
 {
     for link in links {
@@ -150,7 +150,7 @@ impl Put {
     {
         if let Some(id) = born {
             let said = Keys::new(self.alloc);
-            self.lines.push(Line { id, said })?;
+            self.lines.push(PutLine { id, said })?;
         }
         Ok(())
     }

@@ -9,7 +9,7 @@ ghost use Rattle.zre_audit.specs.Coding.{octets_of};
 ghost use Rattle.zre_audit.specs.Seen.{asked_by};
 ghost use Rattle.zre_audit.specs.Watching.{Watches};
 
-use crate::heard::Heard;
+use crate::peer_runs::PeerRuns;
 use crate::put::{Put, counts};
 use crate::seen::{announced, asked, born};
 use std::alloc::Global;
@@ -25,7 +25,7 @@ pub struct Watch {
     pub(crate) alloc: Global,
     pub(crate) id: PeerId,
     node: Node,
-    pub(crate) heard: Heard,
+    pub(crate) heard: PeerRuns,
     pub(crate) put: Put,
 }
 
@@ -45,7 +45,7 @@ impl Watch {
             alloc,
             id: config.id,
             node: Node::new(alloc, config)?,
-            heard: Heard::new(alloc),
+            heard: PeerRuns::new(alloc),
             put: Put::new(alloc),
         })
     }

@@ -4,7 +4,7 @@ use Rattle.std.specs.List.{onto_first}
 use Rattle.zre_outside.specs.declared.entry.Entry.{Entry}
 use Rattle.zre_capture.specs.Journal.{line_of, lines_in, next, entries_from, settings_in, start, settings, journal}
 use Rattle.zre_capture.specs.declared.format.Format.{Format}
-use Rattle.zre_capture.specs.declared.place.Place.{Place}
+use Rattle.zre_capture.specs.declared.line_start.LineStart.{LineStart}
 use Rattle.zre_values.specs.declared.settings.Settings.{Settings}
 use Rattle.zre_capture.proofs.Lines.{entries-good, entries-bad}
 
@@ -52,7 +52,7 @@ some_joined u [] (m ∷ ms) = omega arith
 some_joined u (v ∷ ls) ms = omega arith
 
 -- the entries of parts after parts begin with those of the first
-grows_by : (p : Place) (ls ms : List (List ℕ)) → (more : List Entry) × (entries_from p (joined ls ms) ≡ entries_from p ls ++ more)
+grows_by : (p : LineStart) (ls ms : List (List ℕ)) → (more : List Entry) × (entries_from p (joined ls ms) ≡ entries_from p ls ++ more)
 unfolding entries_from
 grows_by p [] ms = (entries_from p ms, refl)
 grows_by p (t ∷ []) ms = (entries_from p (joined (t ∷ []) ms), refl)

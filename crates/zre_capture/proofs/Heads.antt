@@ -16,7 +16,7 @@ use Rattle.zre_capture.specs.Parts.{one}
 use Rattle.zre_capture.specs.Reading.{fields_in, plain_with, settings_with, settings_in, settings_of}
 use Rattle.zre_capture.specs.Values.{id_of, address_of, number_within, short_of}
 use Rattle.zre_capture.specs.declared.format.Format.TheVariants.{Second}
-use Rattle.zre_capture.specs.declared.head.Plain.{Plain}
+use Rattle.zre_capture.specs.declared.head.PlainSettings.{PlainSettings}
 use Rattle.zre_values.specs.declared.settings.Settings.{Settings}
 use Rattle.zre_capture.proofs.Back.{stepped}
 use Rattle.zre_capture.proofs.Differences.{within-some, within-decimal}
@@ -146,7 +146,7 @@ settings_of-head s are =
 
 -- ---- what is read is valid
 
-record IsPlain (p : Plain) : Type 0 where
+record IsPlain (p : PlainSettings) : Type 0 where
   id : IsPeerId p.id
   host : IsAddress p.host
   some : 1 ≤ p.port
@@ -155,7 +155,7 @@ record IsPlain (p : Plain) : Type 0 where
   order : p.evasive ≤ p.expired
   last : p.expired ≤ 86400000
 
-plain-some : (id host port evasive expired : List ℕ) (p : Plain) → plain_with id host port evasive expired ≡ Some p → IsPlain p
+plain-some : (id host port evasive expired : List ℕ) (p : PlainSettings) → plain_with id host port evasive expired ≡ Some p → IsPlain p
 unfolding plain_with
 plain-some id host port evasive expired p e =
     stepped _ (id_of id) p (IsPlain p) e (λ peer is-id e1.
@@ -169,7 +169,7 @@ plain-some id host port evasive expired p e =
     subst IsPlain (same_Some (record { id = peer; host = address; port = number; evasive = silent; expired = gone }) p e5)
     (record { id = (id_of-some id peer is-id).is; host = (address_of-some host address is-address).is; some = n.above; port = n.below; first = t.above; order = u.above; last = u.below }))))))
 
-with-some : (p : Plain) (name headers : List ℕ) (s : Settings) → IsPlain p → settings_with p name headers ≡ Some s → AreSettings s
+with-some : (p : PlainSettings) (name headers : List ℕ) (s : Settings) → IsPlain p → settings_with p name headers ≡ Some s → AreSettings s
 with-some p name headers s is e =
     stepped _ (short_of 255 name) s (AreSettings s) e (λ called is-name e1.
     stepped _ (headers_of headers) s (AreSettings s) e1 (λ pairs are-headers e2.

@@ -4,7 +4,7 @@ use Rattle.zre_outside.specs.declared.entry.Entry.{Entry}
 use Rattle.zre_capture.specs.Exercise.{heard, opened, introduced, peers_from, first_piece, second_piece, after, comes, quits, messages_from, exercise}
 use Rattle.zre_capture.specs.Left.{left, left_at, messages_left}
 use Rattle.zre_capture.specs.declared.exercise.Exercise.{Exercise}
-use Rattle.zre_capture.specs.declared.stage.Stage.TheVariants.{Messages}
+use Rattle.zre_capture.specs.declared.stage.ExerciseStage.TheVariants.{Messages}
 
 no_peers : (i : ℕ) → peers_from i 0 ≡ []
 unfolding peers_from

@@ -11,13 +11,13 @@ use Rattle.zre_outside.specs.declared.entry.Entry.{Entry}
 use Rattle.zre_capture.specs.Formats.{longest}
 use Rattle.zre_capture.specs.Parts.{Lacks}
 use Rattle.zre_capture.specs.Reading.{bad_field, but_last, fields_in, settings_of, column, long_column, bad_column}
-use Rattle.zre_capture.specs.Journal.{settings_said, is_head, said, line_of, bad_line, next, told_after, lines_in, entries_from, bad_from, end_from, settings_in, start, settings, journal, bad, bad_at_end, Reading, format_of, after_line, Waits, settings_ahead, Reads, Adds, AddsFront, Refuses}
+use Rattle.zre_capture.specs.Journal.{settings_said, is_head, said, line_of, bad_line, next, told_after, lines_in, entries_from, bad_from, end_from, settings_in, start, settings, journal, bad, bad_at_end, CaptureReading, format_of, after_line, Waits, settings_ahead, Reads, Adds, AddsFront, Refuses}
 use Rattle.zre_capture.specs.declared.fault.CaptureFault.{CaptureFault}
 use Rattle.zre_capture.specs.declared.fault.CaptureFault.TheVariants.{Bad, OutOfMemory}
 use Rattle.zre_capture.specs.declared.fault.BadCapture.{BadCapture}
 use Rattle.zre_capture.specs.declared.format.Format.{Format}
 use Rattle.zre_capture.specs.declared.format.Format.TheVariants.{First, Second}
-use Rattle.zre_capture.specs.declared.place.Place.{Place}
+use Rattle.zre_capture.specs.declared.line_start.LineStart.{LineStart}
 use Rattle.zre_values.specs.declared.settings.Settings.{Settings}
 use Rattle.zre_capture.proofs.Parts.{between-cut, between-whole}
 
@@ -28,10 +28,10 @@ long-front most left text front short e =
     let sum : most + 1 ≡ length left + (most - length left + 1) = omega (arith, short) in
     ap (λ (n : ℕ). take n (left ++ text)) sum ∙ take-append-add left text (most - length left + 1) ∙ sym e
 
-bad_long : (p : Place) (t : List ℕ) → longest p.format < length t → bad_column p t ≡ long_column p t
+bad_long : (p : LineStart) (t : List ℕ) → longest p.format < length t → bad_column p t ≡ long_column p t
 bad_long p t long = rw (lt-ltb (longest p.format) (length t) long) refl
 
-pub long-place : (p : Place) (left text front : List ℕ) → length left ≤ longest p.format → longest p.format < length (left ++ text) → front ≡ left ++ take (longest p.format - length left + 1) text
+pub long-place : (p : LineStart) (left text front : List ℕ) → length left ≤ longest p.format → longest p.format < length (left ++ text) → front ≡ left ++ take (longest p.format - length left + 1) text
     → record { line = p.line; column = unwrap_or (bad_field p (but_last (fields_in front))) (longest p.format + 1) } ≡ bad_line p (left ++ text)
 long-place p left text front short long e =
     let same = long-front (longest p.format) left text front short e in
@@ -44,42 +44,42 @@ pub some_lines : (o : List ℕ) → 0 < length (lines_in o)
 some_lines o = omega (arith, length-slice_split (λ b. b == 10) o)
 
 -- a line that says entries, with others after it
-pub entries-good : (p : Place) (t : List ℕ) (es : List Entry) (ls : List (List ℕ)) → 0 < length ls → line_of p t ≡ Some es → entries_from p (t ∷ ls) ≡ es ++ entries_from (next p es) ls
+pub entries-good : (p : LineStart) (t : List ℕ) (es : List Entry) (ls : List (List ℕ)) → 0 < length ls → line_of p t ≡ Some es → entries_from p (t ∷ ls) ≡ es ++ entries_from (next p es) ls
 unfolding entries_from
 entries-good p t es [] some e = absurd (omega (arith, some))
 entries-good p t es (u ∷ more) some e = ap (λ (o : Option (List Entry)). option_map_or (λ (fs : List Entry). fs ++ entries_from (next p fs) (u ∷ more)) o []) e
 
-pub bad-good : (p : Place) (t : List ℕ) (es : List Entry) (ls : List (List ℕ)) → 0 < length ls → line_of p t ≡ Some es → bad_from p (t ∷ ls) ≡ bad_from (next p es) ls
+pub bad-good : (p : LineStart) (t : List ℕ) (es : List Entry) (ls : List (List ℕ)) → 0 < length ls → line_of p t ≡ Some es → bad_from p (t ∷ ls) ≡ bad_from (next p es) ls
 unfolding bad_from
 bad-good p t es [] some e = absurd (omega (arith, some))
 bad-good p t es (u ∷ more) some e = ap (λ (o : Option (List Entry)). option_map_or (λ (fs : List Entry). bad_from (next p fs) (u ∷ more)) o (Some (bad_line p t))) e
 
-pub end-good : (p : Place) (t : List ℕ) (es : List Entry) (ls : List (List ℕ)) → 0 < length ls → line_of p t ≡ Some es → end_from p (t ∷ ls) ≡ end_from (next p es) ls
+pub end-good : (p : LineStart) (t : List ℕ) (es : List Entry) (ls : List (List ℕ)) → 0 < length ls → line_of p t ≡ Some es → end_from p (t ∷ ls) ≡ end_from (next p es) ls
 unfolding end_from
 end-good p t es [] some e = absurd (omega (arith, some))
 end-good p t es (u ∷ more) some e = ap (λ (o : Option (List Entry)). option_map_or (λ (fs : List Entry). end_from (next p fs) (u ∷ more)) o None) e
 
 -- a bad line, with others after it
-pub entries-bad : (p : Place) (t : List ℕ) (ls : List (List ℕ)) → 0 < length ls → line_of p t ≡ None → entries_from p (t ∷ ls) ≡ []
+pub entries-bad : (p : LineStart) (t : List ℕ) (ls : List (List ℕ)) → 0 < length ls → line_of p t ≡ None → entries_from p (t ∷ ls) ≡ []
 unfolding entries_from
 entries-bad p t [] some e = absurd (omega (arith, some))
 entries-bad p t (u ∷ more) some e = ap (λ (o : Option (List Entry)). option_map_or (λ (fs : List Entry). fs ++ entries_from (next p fs) (u ∷ more)) o []) e
 
-bad-bad : (p : Place) (t : List ℕ) (ls : List (List ℕ)) → 0 < length ls → line_of p t ≡ None → bad_from p (t ∷ ls) ≡ Some (bad_line p t)
+bad-bad : (p : LineStart) (t : List ℕ) (ls : List (List ℕ)) → 0 < length ls → line_of p t ≡ None → bad_from p (t ∷ ls) ≡ Some (bad_line p t)
 unfolding bad_from
 bad-bad p t [] some e = absurd (omega (arith, some))
 bad-bad p t (u ∷ more) some e = ap (λ (o : Option (List Entry)). option_map_or (λ (fs : List Entry). bad_from (next p fs) (u ∷ more)) o (Some (bad_line p t))) e
 
 -- a last line
-pub entries-last : (p : Place) (t : List ℕ) → Lacks 10 t → entries_from p (lines_in t) ≡ []
+pub entries-last : (p : LineStart) (t : List ℕ) → Lacks 10 t → entries_from p (lines_in t) ≡ []
 unfolding entries_from
 entries-last p t none = ap (entries_from p) (between-whole 10 t none)
 
-pub bad-last_short : (p : Place) (t : List ℕ) → Lacks 10 t → length t ≤ longest p.format → bad_from p (lines_in t) ≡ None
+pub bad-last_short : (p : LineStart) (t : List ℕ) → Lacks 10 t → length t ≤ longest p.format → bad_from p (lines_in t) ≡ None
 unfolding bad_from
 bad-last_short p t none short = ap (bad_from p) (between-whole 10 t none) ∙ (rw (le-ltb (longest p.format) (length t) short) refl)
 
-pub bad-last_long : (p : Place) (t : List ℕ) → Lacks 10 t → longest p.format < length t → bad_from p (lines_in t) ≡ Some (bad_line p t)
+pub bad-last_long : (p : LineStart) (t : List ℕ) → Lacks 10 t → longest p.format < length t → bad_from p (lines_in t) ≡ Some (bad_line p t)
 unfolding bad_from
 bad-last_long p t none long = ap (bad_from p) (between-whole 10 t none) ∙ (rw (lt-ltb (longest p.format) (length t) long) refl)
 
@@ -105,17 +105,17 @@ no_entries : (b : Bool) → cond b (Some no_more_entries) None ≡ None → b �
 no_entries true e = absurd cc
 no_entries false e = refl
 
-said-head : (p : Place) (t : List ℕ) → p.line ≡ 1 → said p t ≡ cond (is_head p.format t) (Some []) None
+said-head : (p : LineStart) (t : List ℕ) → p.line ≡ 1 → said p t ≡ cond (is_head p.format t) (Some []) None
 unfolding said
 said-head p t first = rw (eq-eqb p.line 1 first) refl
 
 -- a first line that is bad says no settings
-bad-says_none : (p : Place) (t : List ℕ) (b : Bool) → ltb (longest p.format) (length t) ≡ b → p.line ≡ 1 → cond b None (said p t) ≡ None → cond b None (settings_said p.format t) ≡ None
+bad-says_none : (p : LineStart) (t : List ℕ) (b : Bool) → ltb (longest p.format) (length t) ≡ b → p.line ≡ 1 → cond b None (said p t) ≡ None → cond b None (settings_said p.format t) ≡ None
 bad-says_none p t true long first e = refl
 bad-says_none p t false long first e = not_head p.format t (no_entries (is_head p.format t) (sym (said-head p t first) ∙ e))
 
 -- a line that is good isn't too long
-good-short : (p : Place) (t : List ℕ) (es : List Entry) (b : Bool) → ltb (longest p.format) (length t) ≡ b → line_of p t ≡ Some es → b ≡ false
+good-short : (p : LineStart) (t : List ℕ) (es : List Entry) (b : Bool) → ltb (longest p.format) (length t) ≡ b → line_of p t ≡ Some es → b ≡ false
 good-short p t es true long e = let none : line_of p t ≡ None = rw long refl in absurd cc
 good-short p t es false long e = refl
 
@@ -123,10 +123,10 @@ or-none : (o : Option Settings) → option_or o None ≡ o
 or-none None = refl
 or-none (Some s) = refl
 
-ahead-first : (r : Reading) (o : List ℕ) → r.place.line ≡ 1 → settings_ahead r o ≡ settings_in (format_of r) (lines_in o)
+ahead-first : (r : CaptureReading) (o : List ℕ) → r.place.line ≡ 1 → settings_ahead r o ≡ settings_in (format_of r) (lines_in o)
 ahead-first r o first = rw (eq-eqb r.place.line 1 first) refl
 
-ahead-later : (r : Reading) (o : List ℕ) → (r.place.line == 1) ≡ false → settings_ahead r o ≡ r.told
+ahead-later : (r : CaptureReading) (o : List ℕ) → (r.place.line == 1) ≡ false → settings_ahead r o ≡ r.told
 ahead-later r o later = rw later refl
 
 line_is_first : (n : ℕ) → (n == 1) ≡ true → n ≡ 1
@@ -135,11 +135,11 @@ line_is_first n e = eqb-true n 1 e
 later_line : (n : ℕ) → 1 ≤ n → ((n + 1) == 1) ≡ false
 later_line n some = ne_eqb (n + 1) 1 (λ same. omega (arith, some, same))
 
-told-first : (p : Place) (t : List ℕ) (told : Option Settings) → p.line ≡ 1 → told ≡ None → told_after p t told ≡ settings_said p.format t
+told-first : (p : LineStart) (t : List ℕ) (told : Option Settings) → p.line ≡ 1 → told ≡ None → told_after p t told ≡ settings_said p.format t
 told-first p t told first none = rw (eq-eqb p.line 1 first, none) (or-none (settings_said p.format t))
 
 -- what is known after a good line
-heads-good : (r : Reading) (t x after : List ℕ) (es : List Entry) (ls : List (List ℕ)) → Waits r → lines_in x ≡ (r.left ++ t) ∷ ls → 0 < length ls → line_of r.place (r.left ++ t) ≡ Some es → settings_ahead r x ≡ settings_ahead (after_line r t es) after
+heads-good : (r : CaptureReading) (t x after : List ℕ) (es : List Entry) (ls : List (List ℕ)) → Waits r → lines_in x ≡ (r.left ++ t) ∷ ls → 0 < length ls → line_of r.place (r.left ++ t) ≡ Some es → settings_ahead r x ≡ settings_ahead (after_line r t es) after
 heads-good r t x after es ls w cut some says =
     let later : settings_ahead (after_line r t es) after ≡ told_after r.place (r.left ++ t) r.told = ahead-later (after_line r t es) after (later_line r.place.line w.numbered) in
     elim (cases_Bool (r.place.line == 1)) [
@@ -154,7 +154,7 @@ heads-good r t x after es ls w cut some says =
     ]
 
 -- and with a bad line
-heads-bad : (r : Reading) (t x : List ℕ) (ls : List (List ℕ)) → Waits r → lines_in x ≡ t ∷ ls → 0 < length ls → line_of r.place t ≡ None → settings_ahead r x ≡ r.told
+heads-bad : (r : CaptureReading) (t x : List ℕ) (ls : List (List ℕ)) → Waits r → lines_in x ≡ t ∷ ls → 0 < length ls → line_of r.place t ≡ None → settings_ahead r x ≡ r.told
 heads-bad r t x ls w cut some isnt =
     elim (cases_Bool (r.place.line == 1)) [
       | inl is ↦
@@ -165,7 +165,7 @@ heads-bad r t x ls w cut some isnt =
     ]
 
 -- and with one that isn't finished
-heads-last : (r : Reading) (x : List ℕ) → Waits r → Lacks 10 x → settings_ahead r x ≡ r.told
+heads-last : (r : CaptureReading) (x : List ℕ) → Waits r → Lacks 10 x → settings_ahead r x ≡ r.told
 heads-last r x w none =
     elim (cases_Bool (r.place.line == 1)) [
       | inl is ↦
@@ -188,7 +188,7 @@ first_line left text after x rest e p q =
     between-cut 10 (left ++ (rest ++ x)) (left ++ text) (after ++ x) regrouped (lacks-append 10 left text p q)
 
 -- what was read of a piece, and what is left of it
-pub record IsAmid (first : Reading) (piece : List ℕ) (old new : List Entry) (r : Reading) (rest : List ℕ) : Type 0 where
+pub record IsAmid (first : CaptureReading) (piece : List ℕ) (old new : List Entry) (r : CaptureReading) (rest : List ℕ) : Type 0 where
   pub entries : List Entry
   pub added : new ≡ old ++ entries
   pub format : format_of r ≡ format_of first
@@ -198,15 +198,15 @@ pub record IsAmid (first : Reading) (piece : List ℕ) (old new : List Entry) (r
   pub heads : (x : List ℕ) → settings_ahead first (first.left ++ (piece ++ x)) ≡ settings_ahead r (r.left ++ (rest ++ x))
   pub waits : Waits r
 
-pub amid-start : (r : Reading) (piece : List ℕ) (old : List Entry) → Waits r → IsAmid r piece old old r piece
+pub amid-start : (r : CaptureReading) (piece : List ℕ) (old : List Entry) → Waits r → IsAmid r piece old old r piece
 amid-start r piece old w = record { entries = []; added = sym (append-nil old); format = refl; more = λ x. refl; faults = λ x. refl; ends = λ x. refl; heads = λ x. refl; waits = w }
 
-after_line-waits : (r : Reading) (text : List ℕ) (es : List Entry) → Waits r → Waits (after_line r text es)
+after_line-waits : (r : CaptureReading) (text : List ℕ) (es : List Entry) → Waits r → Waits (after_line r text es)
 after_line-waits r text es w =
     let some = w.numbered in
     record { unfinished = λ k d lt. absurd (omega (arith, lt)); short = omega arith; numbered = omega (arith, some); fresh = λ same. absurd (omega (arith, some, same)) }
 
-pub amid-line : (first : Reading) (piece : List ℕ) (old now new es : List Entry) (r : Reading) (rest text after : List ℕ) → IsAmid first piece old now r rest
+pub amid-line : (first : CaptureReading) (piece : List ℕ) (old now new es : List Entry) (r : CaptureReading) (rest text after : List ℕ) → IsAmid first piece old now r rest
     → rest ≡ text ++ (10 ∷ after) → Lacks 10 text → line_of r.place (r.left ++ text) ≡ Some es → new ≡ now ++ es
     → IsAmid first piece old new (after_line r text es) after
 amid-line first piece old now new es r rest text after amid e none says grown =
@@ -231,19 +231,19 @@ unfolding entries_from
 reads-start f = record { entries = λ x. refl; faults = λ x. refl; ends = λ x. refl; heads = λ x. refl; known = refl }
 
 -- what a reader has read so far isn't bad
-pub faultless : (o : List ℕ) (r : Reading) → Reads o r → Waits r → bad (format_of r) o ≡ None
+pub faultless : (o : List ℕ) (r : CaptureReading) → Reads o r → Waits r → bad (format_of r) o ≡ None
 faultless o r reads w =
     ap (bad (format_of r)) (sym (append-nil o)) ∙ reads.faults [] ∙ ap (λ (l : List ℕ). bad_from r.place (lines_in l)) (append-nil r.left) ∙ bad-last_short r.place r.left w.unfinished w.short
 
 -- what the end makes of a line that isn't finished
-abbrev ended : Place → List ℕ → Option BadCapture
+abbrev ended : LineStart → List ℕ → Option BadCapture
 ended p last = cond ((length last == 0) && not (p.line == 1)) None (Some (record { line = p.line; column = column p last }))
 
-end-last : (p : Place) (last : List ℕ) → Lacks 10 last → end_from p (lines_in last) ≡ ended p last
+end-last : (p : LineStart) (last : List ℕ) → Lacks 10 last → end_from p (lines_in last) ≡ ended p last
 unfolding end_from
 end-last p last none = ap (end_from p) (between-whole 10 last none)
 
-pub at_end : (o : List ℕ) (r : Reading) → Reads o r → Waits r → bad_at_end (format_of r) o ≡ cond ((length r.left == 0) && not (r.place.line == 1)) None (Some (record { line = r.place.line; column = column r.place r.left }))
+pub at_end : (o : List ℕ) (r : CaptureReading) → Reads o r → Waits r → bad_at_end (format_of r) o ≡ cond ((length r.left == 0) && not (r.place.line == 1)) None (Some (record { line = r.place.line; column = column r.place r.left }))
 at_end o r reads w =
     let ends : end_from (start (format_of r)) (lines_in o) ≡ ended r.place r.left =
     ap (λ (l : List ℕ). end_from (start (format_of r)) (lines_in l)) (sym (append-nil o)) ∙ reads.ends [] ∙ ap (λ (l : List ℕ). end_from r.place (lines_in l)) (append-nil r.left) ∙ end-last r.place r.left w.unfinished in
@@ -251,7 +251,7 @@ at_end o r reads w =
 
 -- ---- a piece after some octets
 
-module _ (o piece : List ℕ) (first r : Reading) (old now : List Entry) (rest : List ℕ) (reads : Reads o first) (amid : IsAmid first piece old now r rest) where
+module _ (o piece : List ℕ) (first r : CaptureReading) (old now : List Entry) (rest : List ℕ) (reads : Reads o first) (amid : IsAmid first piece old now r rest) where
   abbrev f : Format
   f = format_of first
 
@@ -336,8 +336,8 @@ refuses-weaker (Bad b) P Q f p = f b p
 refuses-weaker OutOfMemory P Q f p = tt
 
 -- the same list under another name
-pub amid-out : (first : Reading) (piece : List ℕ) (old now new : List Entry) (r : Reading) (rest : List ℕ) → IsAmid first piece old now r rest → new ≡ now → IsAmid first piece old new r rest
+pub amid-out : (first : CaptureReading) (piece : List ℕ) (old now new : List Entry) (r : CaptureReading) (rest : List ℕ) → IsAmid first piece old now r rest → new ≡ now → IsAmid first piece old new r rest
 amid-out first piece old now new r rest amid e = subst (λ (l : List Entry). IsAmid first piece old l r rest) (sym e) amid
 
-pub amid-at : (first : Reading) (piece : List ℕ) (old now : List Entry) (r s : Reading) (rest : List ℕ) → IsAmid first piece old now r rest → s ≡ r → IsAmid first piece old now s rest
-amid-at first piece old now r s rest amid e = subst (λ (q : Reading). IsAmid first piece old now q rest) (sym e) amid
+pub amid-at : (first : CaptureReading) (piece : List ℕ) (old now : List Entry) (r s : CaptureReading) (rest : List ℕ) → IsAmid first piece old now r rest → s ≡ r → IsAmid first piece old now s rest
+amid-at first piece old now r s rest amid e = subst (λ (q : CaptureReading). IsAmid first piece old now q rest) (sym e) amid

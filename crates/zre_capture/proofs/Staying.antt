@@ -9,7 +9,7 @@ use Rattle.zre_capture.specs.Formats.{longest}
 use Rattle.zre_capture.specs.Journal.{lines_in, line_of, bad_line, next, bad_from, bad, start}
 use Rattle.zre_capture.specs.declared.fault.BadCapture.{BadCapture}
 use Rattle.zre_capture.specs.declared.format.Format.{Format}
-use Rattle.zre_capture.specs.declared.place.Place.{Place}
+use Rattle.zre_capture.specs.declared.line_start.LineStart.{LineStart}
 use Rattle.zre_capture.proofs.Lines.{some_lines}
 
 -- the lines of a text that begins another: all but the last are lines of that one too, and the last begins one
@@ -46,7 +46,7 @@ begins [] x = any_begins (lines_in x) (some_lines x)
 begins (c ∷ o) x = either_begins (c == 10) c (lines_in o) (lines_in (o ++ x)) (begins o x)
 
 -- a last line that is too long already is bad, whatever follows
-long_stays : (p : Place) (l m : List ℕ) (ms : List (List ℕ)) (h : List ℕ) → m ≡ l ++ h
+long_stays : (p : LineStart) (l m : List ℕ) (ms : List (List ℕ)) (h : List ℕ) → m ≡ l ++ h
     → ltb (longest p.format) (length l) ≡ true → is_some (bad_from p (m ∷ ms)) ≡ true
 unfolding bad_from
 long_stays p l m [] h e long =
@@ -70,7 +70,7 @@ none_begins : (k : List ℕ) (ls : List (List ℕ)) → Begins (k ∷ ls) [] →
 none_begins k [] b = b
 none_begins k (j ∷ ls) b = b
 
-stays : (p : Place) (ls ms : List (List ℕ)) → Begins ls ms → is_some (bad_from p ls) ≡ true → is_some (bad_from p ms) ≡ true
+stays : (p : LineStart) (ls ms : List (List ℕ)) → Begins ls ms → is_some (bad_from p ls) ≡ true → is_some (bad_from p ms) ≡ true
 unfolding bad_from
 stays p [] ms b e = absurd b
 stays p (l ∷ []) [] b e = absurd b

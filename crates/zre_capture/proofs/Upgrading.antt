@@ -21,7 +21,7 @@ use Rattle.zre_capture.specs.Reading.{one_number, one_group, two_numbers, number
 use Rattle.zre_capture.specs.Values.{number_of, hex_of, address_of, id_of, group_of, frames_of, reading_of, command_word_of, input_word_of}
 use Rattle.zre_capture.specs.declared.format.Format.{Format}
 use Rattle.zre_capture.specs.declared.format.Format.TheVariants.{First, Second}
-use Rattle.zre_capture.specs.declared.place.Place.{Place}
+use Rattle.zre_capture.specs.declared.line_start.LineStart.{LineStart}
 use Rattle.zre_capture.specs.declared.word.InputWord.{InputWord}
 use Rattle.zre_capture.specs.declared.word.InputWord.TheVariants as word
 use Rattle.zre_capture.specs.declared.word.CommandWord.{CommandWord}
@@ -190,7 +190,7 @@ written-from line before (t ∷ []) after fits = none_written after [] refl
 written-from line before (t ∷ u ∷ ls) after fits =
     by (λ (es : List Entry). written-from (line + 1) (last_reading before es) (u ∷ ls)) (line_of p t) refl
   where
-    p : Place
+    p : LineStart
     p = record { format = First; line = line; before = before }
 
     by : ((es : List Entry) (at : ℕ) → IsNumber at → AreWritable at (entries_from (next p es) (u ∷ ls))) → (o : Option (List Entry)) → line_of p t ≡ o → AreWritable after (entries_from p (t ∷ u ∷ ls))

@@ -11,7 +11,7 @@ use Rattle.zre_capture.specs.Parts.{Lacks}
 use Rattle.zre_capture.specs.Journal.{said, settings_said, line_of, lines_in, next, entries_from, bad_from, end_from, settings_in, start, bad, capture, told_settings, IsCaptureOf}
 use Rattle.zre_capture.specs.declared.format.Format.{Format}
 use Rattle.zre_capture.specs.declared.format.Format.TheVariants.{First, Second}
-use Rattle.zre_capture.specs.declared.place.Place.{Place}
+use Rattle.zre_capture.specs.declared.line_start.LineStart.{LineStart}
 use Rattle.zre_values.specs.declared.settings.Settings.{Settings}
 use Rattle.zre_capture.proofs.Parts.{between-cut, lacks-from_any}
 use Rattle.zre_capture.proofs.Lines.{entries-good, bad-good, end-good, some_lines, head-first}
@@ -46,7 +46,7 @@ head_tells f s ls are short some =
 
 -- ---- the lines of entries
 
-text_says : (p : Place) (e : Entry) → 1 < p.line → IsNumber p.before → IsEntry e → length (text p.format p.before e) ≤ longest p.format → line_of p (text p.format p.before e) ≡ Some (e ∷ [])
+text_says : (p : LineStart) (e : Entry) → 1 < p.line → IsNumber p.before → IsEntry e → length (text p.format p.before e) ≤ longest p.format → line_of p (text p.format p.before e) ≡ Some (e ∷ [])
 unfolding said
 text_says p e more fits is short =
     rw (le-ltb (longest p.format) (length (text p.format p.before e)) short, ne_eqb p.line 1 (λ same. omega (arith, same, more)), entry_of-text p.format p.before e fits is) refl
@@ -56,16 +56,16 @@ line_cut f before e es fits is =
     between-cut 10 (lines f before (e ∷ es)) (text f before e) (lines f e.at es) (append_assoc (text f before e) (10 ∷ []) (lines f e.at es)) (no_line_feed (fields f before e) (fields-visible f before e fits is))
 
 -- what lines after the head say
-record Said (p : Place) (es : List Entry) : Type 0 where
+record Said (p : LineStart) (es : List Entry) : Type 0 where
   entries : entries_from p (lines_in (lines p.format p.before es)) ≡ es
   faultless : bad_from p (lines_in (lines p.format p.before es)) ≡ None
   whole : end_from p (lines_in (lines p.format p.before es)) ≡ None
 
-nothing_said : (p : Place) → 1 < p.line → Said p []
+nothing_said : (p : LineStart) → 1 < p.line → Said p []
 unfolding entries_from bad_from end_from
 nothing_said p more = record { entries = refl; faultless = rw (le-ltb (longest p.format) 0 (omega arith)) refl; whole = rw (ne_eqb p.line 1 (λ same. omega (arith, same, more))) refl }
 
-one_said : (p : Place) (e : Entry) (es : List Entry) → 1 < p.line → IsNumber p.before → IsEntry e → length (text p.format p.before e) ≤ longest p.format → Said (next p (e ∷ [])) es → Said p (e ∷ es)
+one_said : (p : LineStart) (e : Entry) (es : List Entry) → 1 < p.line → IsNumber p.before → IsEntry e → length (text p.format p.before e) ≤ longest p.format → Said (next p (e ∷ [])) es → Said p (e ∷ es)
 one_said p e es more fits is short rest =
     let cut = line_cut p.format p.before e es fits is in
     let says = text_says p e more fits is short in
@@ -76,7 +76,7 @@ one_said p e es more fits is short rest =
       whole = ap (end_from p) cut ∙ end-good p (text p.format p.before e) (e ∷ []) (lines_in (lines p.format e.at es)) others says ∙ rest.whole;
     }
 
-all_said : (p : Place) (es : List Entry) → 1 < p.line → IsNumber p.before → All IsEntry es → AreShort p.format p.before es → Said p es
+all_said : (p : LineStart) (es : List Entry) → 1 < p.line → IsNumber p.before → All IsEntry es → AreShort p.format p.before es → Said p es
 all_said p [] more fits are short = nothing_said p more
 all_said p (e ∷ es) more fits are short =
     one_said p e es more fits (All-head IsEntry e es are) short.0

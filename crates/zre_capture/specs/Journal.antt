@@ -15,7 +15,7 @@ use Rattle.zre_capture.specs.declared.fault.CaptureFault.{CaptureFault}
 use Rattle.zre_capture.specs.declared.fault.CaptureFault.TheVariants.{Bad, OutOfMemory}
 use Rattle.zre_capture.specs.declared.format.Format.{Format}
 use Rattle.zre_capture.specs.declared.format.Format.TheVariants.{First, Second}
-use Rattle.zre_capture.specs.declared.place.Place.{Place}
+use Rattle.zre_capture.specs.declared.line_start.LineStart.{LineStart}
 use Rattle.zre_values.specs.declared.settings.Settings.{Settings}
 
 -- what stands between line feeds
@@ -35,17 +35,17 @@ is_head First text = bytes_eq text (codes "zre-capture 1")
 is_head Second text = is_some (settings_of text)
 
 -- what a line that isn't too long says, by its place: the head no entry, another line one. A bad line says nothing.
-unfoldable pub said : Place → List ℕ → Option (List Entry)
+unfoldable pub said : LineStart → List ℕ → Option (List Entry)
 said p text =
     if p.line == 1 then (if is_head p.format text then Some [] else None)
     else option_map (λ e. e ∷ []) (entry_of p.format p.before text)
 
 -- what a line says
-abbrev pub line_of : Place → List ℕ → Option (List Entry)
+abbrev pub line_of : LineStart → List ℕ → Option (List Entry)
 line_of p text = if nat_lt (longest p.format) (length text) then None else said p text
 
 -- where a bad line is bad
-abbrev pub bad_line : Place → List ℕ → BadCapture
+abbrev pub bad_line : LineStart → List ℕ → BadCapture
 bad_line p text = record { line = p.line; column = bad_column p text }
 
 -- ---- all lines
@@ -56,29 +56,29 @@ last_reading before [] = before
 last_reading before (e ∷ es) = last_reading e.at es
 
 -- the place after a line that says these entries
-abbrev pub next : Place → List Entry → Place
+abbrev pub next : LineStart → List Entry → LineStart
 next p es = record { format = p.format; line = p.line + 1; before = last_reading p.before es }
 
 -- the settings that are known after it
-abbrev pub told_after : Place → List ℕ → Option Settings → Option Settings
+abbrev pub told_after : LineStart → List ℕ → Option Settings → Option Settings
 told_after p text told = if p.line == 1 then option_or (settings_said p.format text) told else told
 
 -- the entries of lines, the first of which is at this place, up to the first bad line; the last isn't finished
-unfoldable pub entries_from : Place → List (List ℕ) → List Entry
+unfoldable pub entries_from : LineStart → List (List ℕ) → List Entry
 entries_from p [] = []
 entries_from p (last ∷ []) = []
 entries_from p (text ∷ after ∷ more) =
     option_map_or (λ es. es ++ entries_from (next p es) (after ∷ more)) (line_of p text) []
 
 -- the first bad line of these; the last isn't finished, and is bad only where it is too long already
-unfoldable pub bad_from : Place → List (List ℕ) → Option BadCapture
+unfoldable pub bad_from : LineStart → List (List ℕ) → Option BadCapture
 bad_from p [] = None
 bad_from p (last ∷ []) = if nat_lt (longest p.format) (length last) then Some (bad_line p last) else None
 bad_from p (text ∷ after ∷ more) =
     option_map_or (λ es. bad_from (next p es) (after ∷ more)) (line_of p text) (Some (bad_line p text))
 
 -- what the end of the input makes bad: a last line without a line feed, and nothing at all in place of the head
-unfoldable pub end_from : Place → List (List ℕ) → Option BadCapture
+unfoldable pub end_from : LineStart → List (List ℕ) → Option BadCapture
 end_from p [] = None
 end_from p (last ∷ []) =
     if (length last == 0) && not (p.line == 1) then None else Some (record { line = p.line; column = column p last })
@@ -93,7 +93,7 @@ settings_in f (text ∷ after ∷ more) = if nat_lt (longest f) (length text) th
 -- ---- captures
 
 -- before the head
-abbrev pub start : Format → Place
+abbrev pub start : Format → LineStart
 start f = record { format = f; line = 1; before = 0 }
 
 -- the settings of a capture, of which this much has come
@@ -132,17 +132,17 @@ pub record IsCaptureOf (f : Format) (s : Settings) (es : List Entry) (o : List �
 
 -- what a reader keeps: the place of the line that it reads, the settings that the head said, and what has come of that
 -- line
-pub record Reading : Type 0 where
-  pub place : Place
+pub record CaptureReading : Type 0 where
+  pub place : LineStart
   pub told : Option Settings
   pub left : List ℕ
 
 -- the format that is read
-abbrev pub format_of : Reading → Format
+abbrev pub format_of : CaptureReading → Format
 format_of r = r.place.format
 
 -- what it keeps after a line feed that ends such a line
-abbrev pub after_line : Reading → List ℕ → List Entry → Reading
+abbrev pub after_line : CaptureReading → List ℕ → List Entry → CaptureReading
 after_line r text es = record {
   place = next r.place es;
   told = told_after r.place (r.left ++ text) r.told;
@@ -150,18 +150,18 @@ after_line r text es = record {
 }
 
 -- it has refused nothing
-pub record Waits (r : Reading) : Type 0 where
+pub record Waits (r : CaptureReading) : Type 0 where
   pub unfinished : Lacks 10 r.left
   pub short : length r.left ≤ longest (format_of r)
   pub numbered : 1 ≤ r.place.line
   pub fresh : r.place.line ≡ 1 → r.told ≡ None
 
 -- the settings that it will know, with what it keeps and what follows it
-abbrev pub settings_ahead : Reading → List ℕ → Option Settings
+abbrev pub settings_ahead : CaptureReading → List ℕ → Option Settings
 settings_ahead r o = if r.place.line == 1 then settings_in (format_of r) (lines_in o) else r.told
 
 -- it has read these octets: what it keeps tells what those that follow say
-pub record Reads (o : List ℕ) (r : Reading) : Type 0 where
+pub record Reads (o : List ℕ) (r : CaptureReading) : Type 0 where
   pub entries : (x : List ℕ) → journal (format_of r) (o ++ x)
       ≡ journal (format_of r) o ++ entries_from r.place (lines_in (r.left ++ x))
   pub faults : (x : List ℕ) → bad (format_of r) (o ++ x) ≡ bad_from r.place (lines_in (r.left ++ x))

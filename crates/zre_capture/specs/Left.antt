@@ -3,8 +3,9 @@ use Rattle.std.specs.Prelude.{◌≡◌, ℕ, ◌+◌, ◌-◌, List, [], ◌∷
 use Rattle.zre_outside.specs.declared.entry.Entry.{Entry}
 use Rattle.zre_capture.specs.Exercise.{heard, opened, introduced, peers_from, comes, messages_from}
 use Rattle.zre_capture.specs.declared.exercise.Exercise.{Exercise}
-use Rattle.zre_capture.specs.declared.stage.Stage.{Stage}
-use Rattle.zre_capture.specs.declared.stage.Stage.TheVariants.{Beacon, Opened, Introduction, Messages, Second, Done}
+use Rattle.zre_capture.specs.declared.stage.ExerciseStage.{ExerciseStage}
+use Rattle.zre_capture.specs.declared.stage.ExerciseStage.TheVariants.{Beacon, Opened, Introduction}
+use Rattle.zre_capture.specs.declared.stage.ExerciseStage.TheVariants.{Messages, Second, Done}
 
 -- the messages that were not begun, and the end
 abbrev pub messages_left : Exercise → List Entry
@@ -15,7 +16,7 @@ abbrev pub after_peer : ℕ → Exercise → List Entry
 after_peer i e = peers_from (i + 1) (e.peers - (i + 1)) ++ messages_left e
 
 -- what is left at a stage
-abbrev pub left_at : Stage → Exercise → List Entry
+abbrev pub left_at : ExerciseStage → Exercise → List Entry
 left_at (Beacon i) e = heard i ∷ opened i ∷ introduced i ∷ after_peer i e
 left_at (Opened i) e = opened i ∷ introduced i ∷ after_peer i e
 left_at (Introduction i) e = introduced i ∷ after_peer i e

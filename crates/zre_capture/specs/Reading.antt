@@ -17,8 +17,8 @@ use Rattle.zre_capture.specs.Values.{number_of, number_within, reading_after, re
 use Rattle.zre_capture.specs.Values.{short_of, frames_of, id_of, input_word_of, command_word_of}
 use Rattle.zre_capture.specs.declared.format.Format.{Format}
 use Rattle.zre_capture.specs.declared.format.Format.TheVariants.{First, Second}
-use Rattle.zre_capture.specs.declared.head.Plain.{Plain}
-use Rattle.zre_capture.specs.declared.place.Place.{Place}
+use Rattle.zre_capture.specs.declared.head.PlainSettings.{PlainSettings}
+use Rattle.zre_capture.specs.declared.line_start.LineStart.{LineStart}
 use Rattle.zre_values.specs.declared.settings.Settings.{Settings}
 use Rattle.zre_capture.specs.declared.word.InputWord.{InputWord}
 use Rattle.zre_capture.specs.declared.word.InputWord.TheVariants as word
@@ -137,7 +137,7 @@ abbrev pub time_from : ℕ → List ℕ → Option ℕ
 time_from least field = number_within least 86400000 field
 
 -- the settings that are no texts
-unfoldable pub plain_with : (id host port evasive expired : List ℕ) → Option Plain
+unfoldable pub plain_with : (id host port evasive expired : List ℕ) → Option PlainSettings
 plain_with id host port evasive expired = do
   peer ← id_of id
   address ← address_of host
@@ -147,7 +147,7 @@ plain_with id host port evasive expired = do
   Some (record { id = peer; host = address; port = number; evasive = silent; expired = gone })
 
 -- those and the two texts
-abbrev pub settings_with : Plain → (name headers : List ℕ) → Option Settings
+abbrev pub settings_with : PlainSettings → (name headers : List ℕ) → Option Settings
 settings_with plain name headers = do
   called ← short_of 255 name
   pairs ← headers_of headers
@@ -290,7 +290,7 @@ entry_form First = field.Number ∷ field.Input ∷ []
 entry_form Second = field.Difference ∷ field.Input ∷ []
 
 -- the fields that the line at a place begins with
-abbrev pub form : Place → List Field
+abbrev pub form : LineStart → List Field
 form p = if p.line == 1 then head_form p.format else entry_form p.format
 
 -- all but the last
@@ -300,19 +300,19 @@ but_last (f ∷ []) = []
 but_last (f ∷ g ∷ fs) = f ∷ but_last (g ∷ fs)
 
 -- the first bad field of a line, or of some of its fields
-abbrev pub bad_field : Place → List (List ℕ) → Option ℕ
+abbrev pub bad_field : LineStart → List (List ℕ) → Option ℕ
 bad_field p fs = first_bad p.before (form p) fs 1
 
 -- where a line that isn't too long is bad: at its first bad field, or after its end
-abbrev pub column : Place → List ℕ → ℕ
+abbrev pub column : LineStart → List ℕ → ℕ
 column p text = unwrap_or (bad_field p (fields_in text)) (length text + 1)
 
 -- the same of one that is too long: of its fields those count that lie whole before the column of the first octet too
 -- many
-abbrev pub long_column : Place → List ℕ → ℕ
+abbrev pub long_column : LineStart → List ℕ → ℕ
 long_column p text =
     unwrap_or (bad_field p (but_last (fields_in (take (longest p.format + 1) text)))) (longest p.format + 1)
 
 -- where a bad line is bad
-abbrev pub bad_column : Place → List ℕ → ℕ
+abbrev pub bad_column : LineStart → List ℕ → ℕ
 bad_column p text = if nat_lt (longest p.format) (length text) then long_column p text else column p text

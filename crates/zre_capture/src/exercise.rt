@@ -1,11 +1,11 @@
 //! The journal of the exercise, entry by entry.
 
 ghost use Rattle.std.specs.Prelude.{◌≡◌, ◌≤◌, ◌∷◌, IfOk, OnErr};
-ghost use Rattle.zre_capture.specs.declared.stage.Stage.TheVariants.{Messages};
+ghost use Rattle.zre_capture.specs.declared.stage.ExerciseStage.TheVariants.{Messages};
 
 use crate::introduction::{beacon, host, introduction};
-use crate::stage::Stage;
-use crate::talk::{Pieces, talk};
+use crate::stage::ExerciseStage;
+use crate::talk::{SplitMessage, talk};
 use std::alloc::Global;
 use std::mem;
 use zre_outside::{Command, Entry, Input};
@@ -18,7 +18,7 @@ pub struct Exercise {
     alloc: Global,
     /// Where the draws stand.
     x: u64,
-    stage: Stage,
+    stage: ExerciseStage,
     peers: u16,
     messages: u32,
     /// The number of the next message.
@@ -45,7 +45,7 @@ impl Exercise {
         Exercise {
             alloc,
             x: seed,
-            stage: Stage::Beacon(0),
+            stage: ExerciseStage::Beacon(0),
             peers,
             messages,
             message: 0,
@@ -55,13 +55,13 @@ impl Exercise {
     }
 
     // The stage after a peer.
-    fn after(&self, peer: u8) -> Stage
+    fn after(&self, peer: u8) -> ExerciseStage
         ensures { left_at result self.now ≡ after_peer peer self.now }
     {
         if (peer as u16) + 1 < self.peers {
-            Stage::Beacon(peer + 1)
+            ExerciseStage::Beacon(peer + 1)
         } else {
-            Stage::Messages
+            ExerciseStage::Messages
         }
     }
 
@@ -84,13 +84,13 @@ impl Exercise {
     {
         let message = self.message;
         if message >= self.messages {
-            self.stage = Stage::Done;
+            self.stage = ExerciseStage::Done;
             return Ok(Entry {
                 at: message as u64,
                 input: Input::Do(Command::Quit),
             });
         }
-        let Pieces { first, second, x } = talk(
+        let SplitMessage { first, second, x } = talk(
             self.alloc,
             &mut self.spelled,
             message / self.peers as u32,
@@ -98,7 +98,7 @@ impl Exercise {
         )?;
         self.x = x;
         self.second = second;
-        self.stage = Stage::Second(message);
+        self.stage = ExerciseStage::Second(message);
         self.message = message + 1;
         Ok(self.comes(message, first))
     }
@@ -110,9 +110,9 @@ impl Exercise {
     {
         let alloc = self.alloc;
         let entry = match self.stage {
-            Stage::Beacon(peer) => {
+            ExerciseStage::Beacon(peer) => {
                 let bytes = beacon(alloc, peer)?;
-                self.stage = Stage::Opened(peer);
+                self.stage = ExerciseStage::Opened(peer);
                 Entry {
                     at: 0,
                     input: Input::Datagram {
@@ -121,8 +121,8 @@ impl Exercise {
                     },
                 }
             }
-            Stage::Opened(peer) => {
-                self.stage = Stage::Introduction(peer);
+            ExerciseStage::Opened(peer) => {
+                self.stage = ExerciseStage::Introduction(peer);
                 Entry {
                     at: 0,
                     input: Input::Opened {
@@ -130,7 +130,7 @@ impl Exercise {
                     },
                 }
             }
-            Stage::Introduction(peer) => {
+            ExerciseStage::Introduction(peer) => {
                 let bytes = introduction(alloc, peer)?;
                 self.stage = self.after(peer);
                 Entry {
@@ -141,13 +141,13 @@ impl Exercise {
                     },
                 }
             }
-            Stage::Messages => self.begin()?,
-            Stage::Second(message) => {
-                self.stage = Stage::Messages;
+            ExerciseStage::Messages => self.begin()?,
+            ExerciseStage::Second(message) => {
+                self.stage = ExerciseStage::Messages;
                 let second = mem::replace(&mut self.second, Octets::new(alloc));
                 self.comes(message, second)
             }
-            Stage::Done => return Ok(None),
+            ExerciseStage::Done => return Ok(None),
         };
         Ok(Some(entry))
     }

@@ -8,8 +8,8 @@ ghost use Rattle.zre_capture.specs.Reading.{but_last, fields_in};
 use crate::format::Format;
 use crate::headers::are_headers;
 use crate::hexadecimal::is_hex;
+use crate::line_start::LineStart;
 use crate::list::are_frames;
-use crate::place::Place;
 use crate::split::split_once;
 use crate::value::{address, id, is_group, is_short, number, number_within, reading_after};
 use crate::word::{CommandWord, InputWord, command_word, input_word};
@@ -138,7 +138,7 @@ fn entry_form(format: Format) -> &'static [Field]
 }
 
 // The fields that a line begins with.
-fn form(place: Place) -> &'static [Field]
+fn form(place: LineStart) -> &'static [Field]
     ensures { result.now ≡ form place }
 {
     if place.line == 1 {
@@ -232,7 +232,7 @@ fn after(required: &'static [Field], text: &[u8]) -> &'static [Field]
 
 /// The column, from 1, of the first field of a line that isn't as required. The last field, after the last space, is
 /// looked at only where it is whole.
-pub fn first_bad(place: Place, text: &[u8], whole: bool) -> Option<u64>
+pub fn first_bad(place: LineStart, text: &[u8], whole: bool) -> Option<u64>
     requires { length text.now < 2 ^ 32 }
     ensures { result ≡ bad_field place (if whole then fields_in text.now else but_last (fields_in text.now)) }
 {

@@ -131,7 +131,7 @@ fn is_marked(mark: &[u8], number: &[u8]) -> bool
 
 /// The settings of a node but for its name and its headers.
 #[derive(Clone, Copy)]
-pub(crate) struct Plain {
+pub(crate) struct PlainSettings {
     pub id: PeerId,
     pub host: [u8; 4],
     pub port: u16,
@@ -146,7 +146,7 @@ fn read_plain(
     port_field: &[u8],
     evasive_field: &[u8],
     expired_field: &[u8],
-) -> Option<Plain>
+) -> Option<PlainSettings>
     ensures { result ≡ plain_with id_field.now host_field.now port_field.now evasive_field.now expired_field.now }
 {
     let id = id(id_field)?;
@@ -154,7 +154,7 @@ fn read_plain(
     let port = number_within(1, 65535, port_field)?;
     let evasive = number_within(1, DAY, evasive_field)?;
     let expired = number_within(evasive, DAY, expired_field)?;
-    Some(Plain {
+    Some(PlainSettings {
         id,
         host,
         port: port as u16,
@@ -166,7 +166,7 @@ fn read_plain(
 // The settings, where the plain ones are there.
 fn with_texts(
     alloc: Global,
-    plain: Plain,
+    plain: PlainSettings,
     name_field: &[u8],
     headers_field: &[u8],
 ) -> Result<Option<Settings>, OutOfMemory>

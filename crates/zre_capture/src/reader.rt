@@ -15,7 +15,7 @@ ghost use Rattle.zre_capture.specs.declared.format.Format.TheVariants.{First, Se
 
 use crate::fault::{BadCapture, CaptureFault};
 use crate::format::Format;
-use crate::place::Place;
+use crate::line_start::LineStart;
 use crate::read::entry;
 use crate::split::split_once;
 use crate::{field, head};
@@ -25,7 +25,7 @@ use zre_outside::Entries;
 use zre_values::{Octets, OutOfMemory, Settings, take_apart};
 
 // Where a line is bad that isn't one of a capture.
-fn column(place: Place, text: &[u8]) -> u64
+fn column(place: LineStart, text: &[u8]) -> u64
     requires { length text.now ≤ longest place.format }
     ensures { result ≡ column place text.now }
 {
@@ -33,7 +33,7 @@ fn column(place: Place, text: &[u8]) -> u64
 }
 
 // Where a line is bad that is too long, by its octets up to the first too many.
-fn long_column(place: Place, front: &[u8]) -> u64
+fn long_column(place: LineStart, front: &[u8]) -> u64
     requires { length front.now ≤ longest place.format + 1 }
     ensures { result ≡ unwrap_or (bad_field place (but_last (fields_in front.now))) (longest place.format + 1) }
 {
@@ -67,7 +67,7 @@ fn read_head(
 // Reads the line of an entry, and gives the reading of that.
 fn read_entry(
     alloc: Global,
-    place: Place,
+    place: LineStart,
     text: &[u8],
     out: &mut Entries,
 ) -> Result<Option<u64>, OutOfMemory>
@@ -91,7 +91,7 @@ fn read_entry(
 #[tactic(auto, unfolding(crate::specs::Journal::said))]
 fn read_line(
     alloc: Global,
-    place: Place,
+    place: LineStart,
     told: &mut Option<Settings>,
     text: &[u8],
     out: &mut Entries,
@@ -111,7 +111,7 @@ fn read_line(
 }
 
 // Refuses a line that is too long, by its octets up to the first too many.
-fn too_long(place: Place, front: &[u8]) -> CaptureFault
+fn too_long(place: LineStart, front: &[u8]) -> CaptureFault
     requires { length front.now ≤ longest place.format + 1 }
     ensures { result ≡ CaptureFault.Bad (record {
       line = place.line;
@@ -127,7 +127,7 @@ fn too_long(place: Place, front: &[u8]) -> CaptureFault
 // Reads a whole line of any length. Gives the reading of its entry, or that before it.
 fn read_whole(
     alloc: Global,
-    place: Place,
+    place: LineStart,
     told: &mut Option<Settings>,
     text: &[u8],
     out: &mut Entries,
@@ -154,7 +154,7 @@ fn read_whole(
 }
 
 // Keeps more octets of a line, unless it gets too long by them.
-fn gather(left: &mut Octets, place: Place, text: &[u8]) -> Result<(), CaptureFault>
+fn gather(left: &mut Octets, place: LineStart, text: &[u8]) -> Result<(), CaptureFault>
     requires { length left.old ≤ longest place.format }
     ensures ok { OnOk result ((left.new ≡ left.old ++ text.now)
         × (length (left.old ++ text.now) ≤ longest place.format)) }
@@ -174,7 +174,7 @@ fn gather(left: &mut Octets, place: Place, text: &[u8]) -> Result<(), CaptureFau
 /// reads a line that lies whole in a piece where it lies.
 pub struct CaptureReader {
     alloc: Global,
-    place: Place,
+    place: LineStart,
     told: Option<Settings>,
     left: Octets,
 }
@@ -186,9 +186,9 @@ impl Drop for CaptureReader {
 }
 
 impl Model for CaptureReader {
-    ghost use Rattle.zre_capture.specs.Journal.{Reading};
+    ghost use Rattle.zre_capture.specs.Journal.{CaptureReading};
 
-    ghost Value = { Reading };
+    ghost Value = { CaptureReading };
 
     ghost view = { λ r. record { place = r.place; told = r.told; left = r.left } };
 }
@@ -201,7 +201,7 @@ impl CaptureReader {
     {
         CaptureReader {
             alloc,
-            place: Place {
+            place: LineStart {
                 format,
                 line: 1,
                 before: 0,
@@ -279,7 +279,7 @@ impl CaptureReader {
         let line = place.line.checked_add(1).ok_or(OutOfMemory)?;
         let before = self.read_end(text, out)?;
         self.left.clear();
-        self.place = Place {
+        self.place = LineStart {
             format: place.format,
             line,
             before,

@@ -1,6 +1,6 @@
 /// What a generator of the exercise gives next.
 #[derive(Clone, Copy)]
-pub(crate) enum Stage {
+pub(crate) enum ExerciseStage {
     /// The beacon of a peer.
     Beacon(u8),
     /// The connection of a peer.

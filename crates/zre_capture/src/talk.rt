@@ -12,7 +12,7 @@ use zre_msg::{Body, Message};
 use zre_values::{Frames, Octets, OutOfMemory};
 
 /// A message in two pieces, and where the draws stand after it.
-pub(crate) struct Pieces {
+pub(crate) struct SplitMessage {
     pub first: Octets,
     pub second: Octets,
     pub x: u64,
@@ -114,7 +114,7 @@ pub(crate) fn talk(
     buffer: &mut Octets,
     k: u32,
     x: u64,
-) -> Result<Pieces, OutOfMemory>
+) -> Result<SplitMessage, OutOfMemory>
     ensures { IfOk result (λ t. (t.first ≡ first_piece k x) × (t.second ≡ second_piece k x) × (t.x ≡ after k x)) }
 {
     let x = drawn(spell(alloc, buffer, k, x)?);
@@ -125,5 +125,5 @@ pub(crate) fn talk(
         drop(first);
         return Err(OutOfMemory);
     };
-    Ok(Pieces { first, second, x })
+    Ok(SplitMessage { first, second, x })
 }

@@ -36,7 +36,7 @@ use Rattle.zre_actor.specs.declared.passes.TakerPass.{TakerPass}
 use Rattle.zre_actor.specs.declared.views.Placed.{Placed}
 use Rattle.zre_actor.specs.Commands.{command_of}
 use Rattle.zre_actor.specs.Passes.{popped_by, raised_by, taken_by}
-use Rattle.zre_actor.specs.Work.{Scene, scene, went, IsWork, Ends, KeptLines}
+use Rattle.zre_actor.specs.Work.{WorkScene, scene, went, IsWork, Ends, KeptLines}
 use Rattle.zre_actor.proofs.Working.{rose_later}
 use Rattle.zre_commands.specs.declared.pump.status.Status.{Status}
 use Rattle.zre_commands.specs.declared.pump.status.Status.TheVariants.{Done, WriteFault, WorldFault, NoThread, TooLong, OutOfMemory}
@@ -96,7 +96,7 @@ module _ (g : Config) (start : Start) (name : Option (List ℕ)) (keep : Bool) (
   pub record_rose : Rose u.record_faults t.record_faults → Rose s.record_faults t.record_faults
   record_rose x = rose_later s.record_faults u.record_faults t.record_faults p.record_later x
 
-  module _ (x y : Scene) (stopped : Bool) (turns : ℕ) (unstepped : List Entry) (pending : List Command) where
+  module _ (x y : WorkScene) (stopped : Bool) (turns : ℕ) (unstepped : List Entry) (pending : List Command) where
     pub one : (e : Ending) → Ends e stopped turns limit keep x y unstepped pending → length unstepped ≤ 1
     one ending.Stopped h = (let z : length unstepped ≡ 0 = ap length h.1 in omega arith)
     one ending.WorldFault h = (let z : length unstepped ≡ 0 = ap length h.1 in omega arith)

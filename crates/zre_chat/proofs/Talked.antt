@@ -10,7 +10,7 @@ use Rattle.zre_outside.specs.declared.sink.NextFault.{NextFault}
 use Rattle.zre_outside.specs.declared.sink.NextFault.TheVariants as fault
 use Rattle.zre_outside.specs.declared.start.Start.{Start}
 use Rattle.zre_outside.specs.Causes.{Rose}
-use Rattle.zre_outside.specs.Told.{Moves}
+use Rattle.zre_outside.specs.Told.{MovesOn}
 use Rattle.zre_values.specs.declared.settings.Settings.{Settings as Config}
 use Rattle.zre_journal.specs.Events.{chronicle}
 use Rattle.zre_journal.specs.Happens.{has_stopped}
@@ -147,7 +147,7 @@ module _ (g : Config) (start : Start) (name : Option (List ℕ)) (keep : Bool) (
   pub talked : IsChat g start name limit s t status
   talked = record {
     octets = r.octets;
-    are_taken = subst (λ (x : Option (List ℕ) × Option (List ℕ)). Moves x.0 t.left x.1 t.taken r.octets) (λ i. ((p.same i).left, (p.same i).taken)) r.moved;
+    are_taken = subst (λ (x : Option (List ℕ) × Option (List ℕ)). MovesOn x.0 t.left x.1 t.taken r.octets) (λ i. ((p.same i).left, (p.same i).taken)) r.moved;
     within = r.within;
     lived = living.lived g start name keep limit s u t p n how looked looked' actor actor' w named none_popped none_raised (asker_of asker refused) asker' taker taker' broke d write_rose none_taken all_taken status both well;
     wrote = living.wrote g start name keep limit s u t p n how looked looked' actor actor' w named none_popped none_raised (asker_of asker refused) asker' taker taker' broke d write_rose none_taken all_taken status both well;

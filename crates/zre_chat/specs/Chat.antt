@@ -10,7 +10,7 @@ use Rattle.zre_outside.specs.declared.entry.Entry.{Entry}
 use Rattle.zre_outside.specs.declared.entry.Command.{Command}
 use Rattle.zre_outside.specs.declared.start.Start.{Start}
 use Rattle.zre_outside.specs.Causes.{Rose}
-use Rattle.zre_outside.specs.Told.{Moves, AppendsFront}
+use Rattle.zre_outside.specs.Told.{MovesOn, AppendsFront}
 use Rattle.zre_outside.specs.Worlds.{Log, with_start}
 use Rattle.zre_peer.specs.Lines.{lines}
 use Rattle.zre_values.specs.declared.settings.Settings.{Settings as Config}
@@ -169,7 +169,7 @@ pub record IsChat (g : Config) (start : Start) (name : Option (List ℕ)) (limit
     : Type 0 where
   -- what was taken of the input
   pub octets : List ℕ
-  pub are_taken : Moves s.left t.left s.taken t.taken octets
+  pub are_taken : MovesOn s.left t.left s.taken t.taken octets
   pub within : length octets ≤ limit
   pub lived : Lived g start limit s t status
   pub wrote : Wrote g lived.entries s t status

@@ -4,7 +4,7 @@ use std::fmt::{self, Display, Formatter};
 use std::io::{self, Eprint, ErrorKind};
 use std::net::{Ipv4Addr, SocketAddr};
 use std::str;
-use zre_fabric::{Part, Reason};
+use zre_fabric::{Reason, SystemPart};
 use zre_values::{Endpoint, Frames};
 
 // The system's reason, in words.
@@ -54,10 +54,13 @@ pub(crate) fn of_world<R: Eprint>(rt: &R, reason: Option<Reason>) {
     };
     let why = Why(error);
     let _ = match part {
-        Part::Clock => eprintln!(rt; "zre: cannot read the clock: {why}"),
-        Part::Poll => eprintln!(rt; "zre: cannot wait for the network: {why}"),
-        Part::Beacons(at) => eprintln!(rt; "zre: cannot hear beacons on {}: {why}", address(at)),
-        Part::Mailbox(at) => eprintln!(rt; "zre: cannot listen on {}: {why}", address(at)),
+        SystemPart::Clock => eprintln!(rt; "zre: cannot read the clock: {why}"),
+        SystemPart::Poll => eprintln!(rt; "zre: cannot wait for the network: {why}"),
+        SystemPart::Beacons(at) => eprintln!(rt;
+            "zre: cannot hear beacons on {}: {why}",
+            address(at)
+        ),
+        SystemPart::Mailbox(at) => eprintln!(rt; "zre: cannot listen on {}: {why}", address(at)),
     };
 }
 

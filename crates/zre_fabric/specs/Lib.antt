@@ -2,7 +2,7 @@ pub mod Bells
 pub mod Pieces
 pub mod Readings
 pub mod RealWorlds
-pub mod Rows
+pub mod Looking
 pub mod TcpDesks
 pub mod Tokens
-pub mod Troubles
+pub mod NetworkFaults

@@ -4,10 +4,10 @@ use Rattle.zre_outside.specs.declared.entry.Input.{Input}
 use Rattle.zre_outside.specs.declared.entry.Input.TheVariants as input
 use Rattle.zre_outside.specs.declared.turn.Turn.{Turn}
 use Rattle.zre_outside.specs.declared.turn.Turn.TheVariants as turn
-use Rattle.zre_fabric.specs.declared.step.Step.{Step}
-use Rattle.zre_fabric.specs.declared.step.Step.TheVariants as step
-use Rattle.zre_fabric.specs.declared.read_buffer.Heard.{Heard as HeardValue}
-use Rattle.zre_fabric.specs.declared.read_buffer.Heard.TheVariants as heard
+use Rattle.zre_fabric.specs.declared.polled.Polled.{Polled}
+use Rattle.zre_fabric.specs.declared.polled.Polled.TheVariants as step
+use Rattle.zre_fabric.specs.declared.read_buffer.StreamRead.{StreamRead as HeardValue}
+use Rattle.zre_fabric.specs.declared.read_buffer.StreamRead.TheVariants as heard
 
 -- what an input brings from a socket has at most 65,536 octets
 abbrev pub IsShort : Input → Type 0
@@ -25,7 +25,7 @@ abbrev pub HeardIsShort : HeardValue → Type 0
 HeardIsShort (heard.Octets bytes) = length bytes ≤ 65536
 HeardIsShort _ = ⊤
 
-abbrev pub StepIsShort : Step → Type 0
+abbrev pub StepIsShort : Polled → Type 0
 StepIsShort (step.More i) = IsShort i
 StepIsShort (step.Last i) = IsShort i
 StepIsShort _ = ⊤

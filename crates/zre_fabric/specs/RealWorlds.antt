@@ -2,7 +2,7 @@
 use Rattle.std.specs.Prelude.{◌≡◌, ℕ, Bool, Option, None}
 use Rattle.zre_outside.specs.Worlds.{Log}
 use Rattle.zre_fabric.specs.declared.real_world.RealWorld.{RealWorld}
-use Rattle.zre_fabric.specs.declared.trouble.Reason.{Reason}
+use Rattle.zre_fabric.specs.declared.network_fault.Reason.{Reason}
 
 -- it tells nothing of what it gave
 abbrev pub told_of : {R : Type 0} → RealWorld R → Option Log

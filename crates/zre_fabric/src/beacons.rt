@@ -2,9 +2,9 @@ ghost use Rattle.std.specs.Prelude.{◌≤◌, length, IfOk};
 ghost use Rattle.zre_fabric.specs.Pieces.{StepIsShort};
 
 use crate::errors::{ErrorClass, class_of};
+use crate::network_fault::{NetworkFault, SystemPart, failed};
+use crate::polled::Polled;
 use crate::read_buffer::ReadBuffer;
-use crate::step::Step;
-use crate::trouble::{Part, Trouble, failed};
 use mio::net::UdpSocket;
 use std::alloc::Global;
 use std::io;
@@ -13,16 +13,16 @@ use zre_outside::{Input, Start};
 use zre_values::{Endpoint, Octets, take_apart};
 
 /// The socket that beacons come to and go out from, and where they go to.
-pub(crate) struct Beacons {
+pub(crate) struct BeaconSocket {
     pub(crate) socket: UdpSocket,
     pub(crate) is_queued: bool,
     to: Vec<[u8; 4]>,
     at: Endpoint,
 }
 
-impl Drop for Beacons {
+impl Drop for BeaconSocket {
     fn drop(self) {
-        take_apart!(self, Beacons: socket, is_queued, to, at);
+        take_apart!(self, BeaconSocket: socket, is_queued, to, at);
     }
 }
 
@@ -41,21 +41,21 @@ fn bind<R: Net>(rt: &R, s: &Start) -> io::Result<UdpSocket> {
     }
 }
 
-impl Beacons {
-    pub(crate) fn open<R: Net>(rt: &R, alloc: Global, s: &Start) -> Result<Self, Trouble> {
+impl BeaconSocket {
+    pub(crate) fn open<R: Net>(rt: &R, alloc: Global, s: &Start) -> Result<Self, NetworkFault> {
         let at = Endpoint {
             addr: s.listen,
             port: s.beacon_port,
         };
         let socket = match bind(rt, s) {
             Ok(socket) => socket,
-            Err(error) => return Err(failed(Part::Beacons(at), error)),
+            Err(error) => return Err(failed(SystemPart::Beacons(at), error)),
         };
         let Ok(to) = Vec::from_slice(alloc, s.to.as_slice()) else {
             drop(socket);
-            return Err(Trouble::OutOfMemory);
+            return Err(NetworkFault::OutOfMemory);
         };
-        Ok(Beacons {
+        Ok(BeaconSocket {
             socket,
             is_queued: false,
             to,
@@ -70,34 +70,34 @@ impl Beacons {
         }
     }
 
-    pub(crate) fn step(&mut self, buffer: &mut ReadBuffer) -> Result<Step, Trouble>
+    pub(crate) fn step(&mut self, buffer: &mut ReadBuffer) -> Result<Polled, NetworkFault>
         ensures { IfOk result (λ step. StepIsShort step) }
     {
         let Ok(datagram) = buffer.receive(&self.socket) else {
-            return Err(Trouble::OutOfMemory);
+            return Err(NetworkFault::OutOfMemory);
         };
         match datagram {
             Ok(datagram) => Ok(entry_of(datagram)),
             Err(error) => match class_of(&error) {
-                ErrorClass::NotReady => Ok(Step::Rest),
-                ErrorClass::Transient => Ok(Step::Again),
-                ErrorClass::Fatal => Err(failed(Part::Beacons(self.at), error)),
+                ErrorClass::NotReady => Ok(Polled::Rest),
+                ErrorClass::Transient => Ok(Polled::Again),
+                ErrorClass::Fatal => Err(failed(SystemPart::Beacons(self.at), error)),
             },
         }
     }
 }
 
 // The socket is bound to an address of IPv4, so that no others send to it.
-fn entry_of(datagram: (Octets, SocketAddr)) -> Step
+fn entry_of(datagram: (Octets, SocketAddr)) -> Polled
     requires { length datagram.0 ≤ 65536 }
     ensures { StepIsShort result }
 {
     let (bytes, from) = datagram;
     match from {
-        SocketAddr::V4(from) => Step::More(Input::Datagram {
+        SocketAddr::V4(from) => Polled::More(Input::Datagram {
             from: from.ip().octets(),
             bytes,
         }),
-        SocketAddr::V6(_) => Step::Again,
+        SocketAddr::V6(_) => Polled::Again,
     }
 }

@@ -1,8 +1,8 @@
 ghost use Rattle.std.specs.Prelude.{IfOk};
 ghost use Rattle.zre_fabric.specs.Pieces.{StepIsShort};
 
-use crate::read_buffer::{Heard, ReadBuffer};
-use crate::step::Step;
+use crate::polled::Polled;
+use crate::read_buffer::{ReadBuffer, StreamRead};
 use mio::net::TcpStream;
 use std::io::Write;
 use zre_outside::Input;
@@ -10,14 +10,14 @@ use zre_values::OutOfMemory;
 
 /// A connection that another node opened. It has no stream any more where an answer broke it.
 #[derive(Drop)]
-pub(crate) struct Conn {
+pub(crate) struct TcpConn {
     stream: Option<TcpStream>,
     pub(crate) is_queued: bool,
 }
 
-impl Conn {
+impl TcpConn {
     pub(crate) fn new(stream: TcpStream) -> Self {
-        Conn {
+        TcpConn {
             stream: Some(stream),
             is_queued: false,
         }
@@ -39,16 +39,16 @@ impl Conn {
         !is_whole
     }
 
-    pub(crate) fn step(&mut self, conn: u64, buffer: &mut ReadBuffer) -> Result<Step, OutOfMemory>
+    pub(crate) fn step(&mut self, conn: u64, buffer: &mut ReadBuffer) -> Result<Polled, OutOfMemory>
         ensures { IfOk result (λ step. StepIsShort step) }
     {
         let Some(stream) = &mut self.stream else {
-            return Ok(Step::Last(Input::Shut { conn }));
+            return Ok(Polled::Last(Input::Shut { conn }));
         };
         match buffer.read(stream)? {
-            Heard::Octets(bytes) => Ok(Step::More(Input::Piece { conn, bytes })),
-            Heard::End => Ok(Step::Last(Input::Shut { conn })),
-            Heard::Nothing => Ok(Step::Rest),
+            StreamRead::Octets(bytes) => Ok(Polled::More(Input::Piece { conn, bytes })),
+            StreamRead::End => Ok(Polled::Last(Input::Shut { conn })),
+            StreamRead::Nothing => Ok(Polled::Rest),
         }
     }
 }

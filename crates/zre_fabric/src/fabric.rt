@@ -2,13 +2,13 @@ ghost use Rattle.std.specs.Prelude.{◌≡◌, ◌≤◌, true, None, Some, IfOk
 ghost use Rattle.zre_outside.specs.Worlds.{IsTurn, is_look};
 ghost use Rattle.zre_fabric.specs.Pieces.{TurnIsShort};
 ghost use Rattle.zre_fabric.specs.Readings.{IsReadAt};
-ghost use Rattle.zre_fabric.specs.Rows.{is_full, entries_after, commands_after};
+ghost use Rattle.zre_fabric.specs.Looking.{is_full, entries_after, commands_after};
 
 use crate::bell::Bell;
-use crate::network::Network;
-use crate::row::Row;
+use crate::network_fault::{NetworkFault, SystemPart, failed};
+use crate::polled_sockets::PolledSockets;
+use crate::since_look::SinceLook;
 use crate::stopwatch::Stopwatch;
-use crate::trouble::{Part, Trouble, failed};
 use std::alloc::Global;
 use std::io::{self, ErrorKind};
 use std::net::Net;
@@ -21,9 +21,9 @@ pub(crate) struct Fabric<R> {
     rt: R,
     alloc: Global,
     stopwatch: Stopwatch,
-    row: Row,
+    row: SinceLook,
     bell: Option<Bell>,
-    network: Option<Network>,
+    network: Option<PolledSockets>,
 }
 
 impl<R: Drop> Drop for Fabric<R> {
@@ -41,7 +41,7 @@ impl<R> Fabric<R> {
             rt,
             alloc,
             stopwatch: Stopwatch::new(),
-            row: Row::new(),
+            row: SinceLook::new(),
             bell,
             network: None,
         }
@@ -50,19 +50,19 @@ impl<R> Fabric<R> {
 
 impl<R: Net + Clock> Fabric<R> {
     /// What was open before is closed first, since the same ports may be asked for.
-    pub(crate) fn start(&mut self, s: &Start) -> Result<(), Trouble>
+    pub(crate) fn start(&mut self, s: &Start) -> Result<(), NetworkFault>
         ensures later { self.old.stopwatch.last ≤ self.new.stopwatch.last }
         ensures row { (self.new.row.entries ≡ 0) × (self.new.row.commands ≡ 0) }
     {
         drop(self.network.take());
-        self.row = Row::new();
+        self.row = SinceLook::new();
         let at = self.stopwatch.read(&self.rt)?;
-        let network = Network::open(&self.rt, self.alloc, s, at, &mut self.bell)?;
+        let network = PolledSockets::open(&self.rt, self.alloc, s, at, &mut self.bell)?;
         drop(self.network.replace(network));
         Ok(())
     }
 
-    pub(crate) fn next(&mut self, command: Option<Command>) -> Result<Turn, Trouble>
+    pub(crate) fn next(&mut self, command: Option<Command>) -> Result<Turn, NetworkFault>
         ensures turn { IfOk result (λ t. IsTurn command t) }
         ensures short { IfOk result (λ t. TurnIsShort t) }
         ensures reading { IfOk result (λ t. IsReadAt self.new.stopwatch.last t) }
@@ -93,7 +93,7 @@ impl<R: Net + Clock> Fabric<R> {
         }
     }
 
-    fn obey(&mut self, command: Command) -> Result<Turn, Trouble>
+    fn obey(&mut self, command: Command) -> Result<Turn, NetworkFault>
         ensures turn { IfOk result (λ t. IsTurn (Some command) t) }
         ensures short { IfOk result (λ t. TurnIsShort t) }
         ensures reading { IfOk result (λ t. IsReadAt self.new.stopwatch.last t) }
@@ -120,7 +120,7 @@ impl<R: Net + Clock> Fabric<R> {
     }
 
     // A look where one is due, or an entry that is there, or else one that comes within the wait, or else a look.
-    fn go_on(&mut self) -> Result<Turn, Trouble>
+    fn go_on(&mut self) -> Result<Turn, NetworkFault>
         ensures short { IfOk result (λ t. TurnIsShort t) }
         ensures reading { IfOk result (λ t. IsReadAt self.new.stopwatch.last t) }
         ensures later { self.old.stopwatch.last ≤ self.new.stopwatch.last }
@@ -131,7 +131,7 @@ impl<R: Net + Clock> Fabric<R> {
     {
         let at = self.stopwatch.read(&self.rt)?;
         let Some(network) = &mut self.network else {
-            return Err(failed(Part::Poll, io::Error::from(ErrorKind::NotConnected)));
+            return Err(failed(SystemPart::Poll, io::Error::from(ErrorKind::NotConnected)));
         };
         if self.row.is_full() {
             network.gave_look(at);

@@ -1,8 +1,8 @@
 ghost use Rattle.std.specs.Prelude.{IfOk, IfSome};
 ghost use Rattle.zre_fabric.specs.Pieces.{StepIsShort};
 
-use crate::read_buffer::{Heard, ReadBuffer};
-use crate::step::Step;
+use crate::polled::Polled;
+use crate::read_buffer::{ReadBuffer, StreamRead};
 use mio::net::TcpStream;
 use std::io::{ErrorKind, Write};
 use zre_outside::Input;
@@ -18,7 +18,7 @@ enum Offered {
     Took(u64),
 }
 
-enum Progress {
+enum Connecting {
     Stands,
     Fails,
     GoesOn,
@@ -26,7 +26,7 @@ enum Progress {
 
 /// A link that this node opened, or tried to. It has no stream where not even the try was possible.
 #[derive(Drop)]
-pub(crate) struct Link {
+pub(crate) struct TcpLink {
     stream: Option<TcpStream>,
     pub(crate) is_queued: bool,
     is_linked: bool,
@@ -40,21 +40,21 @@ pub(crate) struct Link {
 }
 
 // When the system tells of a stream that connects: an error is what became of it, and it stands where it has a peer.
-fn progress_of(stream: &TcpStream) -> Progress {
+fn progress_of(stream: &TcpStream) -> Connecting {
     match stream.take_error() {
         Ok(None) => {}
-        _ => return Progress::Fails,
+        _ => return Connecting::Fails,
     }
     match stream.peer_addr() {
-        Ok(_) => Progress::Stands,
-        Err(e) if e.kind() == ErrorKind::NotConnected => Progress::GoesOn,
-        Err(_) => Progress::Fails,
+        Ok(_) => Connecting::Stands,
+        Err(e) if e.kind() == ErrorKind::NotConnected => Connecting::GoesOn,
+        Err(_) => Connecting::Fails,
     }
 }
 
-impl Link {
+impl TcpLink {
     pub(crate) fn new(stream: Option<TcpStream>) -> Self {
-        Link {
+        TcpLink {
             stream,
             is_queued: false,
             is_linked: false,
@@ -94,7 +94,7 @@ impl Link {
         !matches!(self.offered, Offered::Waits)
     }
 
-    pub(crate) fn step(&mut self, link: u64, buffer: &mut ReadBuffer) -> Result<Step, OutOfMemory>
+    pub(crate) fn step(&mut self, link: u64, buffer: &mut ReadBuffer) -> Result<Polled, OutOfMemory>
         ensures { IfOk result (λ step. StepIsShort step) }
     {
         if !self.is_linked {
@@ -107,35 +107,35 @@ impl Link {
         }
         self.has_counted = false;
         match self.read(link, buffer)? {
-            Step::Rest => Ok(self.count(link).unwrap_or(Step::Rest)),
+            Polled::Rest => Ok(self.count(link).unwrap_or(Polled::Rest)),
             step => Ok(step),
         }
     }
 
     // Whether it stands by now.
-    fn settle(&mut self, link: u64) -> Step
+    fn settle(&mut self, link: u64) -> Polled
         ensures { StepIsShort result }
     {
         let Some(stream) = &self.stream else {
-            return Step::Last(Input::Unlinked { link });
+            return Polled::Last(Input::Unlinked { link });
         };
         if !self.is_ready {
-            return Step::Rest;
+            return Polled::Rest;
         }
         match progress_of(stream) {
-            Progress::Stands => {
+            Connecting::Stands => {
                 self.is_linked = true;
-                Step::More(Input::Linked { link })
+                Polled::More(Input::Linked { link })
             }
-            Progress::Fails => Step::Last(Input::Unlinked { link }),
-            Progress::GoesOn => {
+            Connecting::Fails => Polled::Last(Input::Unlinked { link }),
+            Connecting::GoesOn => {
                 self.is_ready = false;
-                Step::Rest
+                Polled::Rest
             }
         }
     }
 
-    fn count(&mut self, link: u64) -> Option<Step>
+    fn count(&mut self, link: u64) -> Option<Polled>
         ensures { IfSome result (λ step. StepIsShort step) }
     {
         let Offered::Took(count) = self.offered else {
@@ -143,25 +143,25 @@ impl Link {
         };
         self.offered = Offered::Nothing;
         self.has_counted = true;
-        Some(Step::More(Input::Took { link, count }))
+        Some(Polled::More(Input::Took { link, count }))
     }
 
-    fn read(&mut self, link: u64, buffer: &mut ReadBuffer) -> Result<Step, OutOfMemory>
+    fn read(&mut self, link: u64, buffer: &mut ReadBuffer) -> Result<Polled, OutOfMemory>
         ensures { IfOk result (λ step. StepIsShort step) }
     {
         let Some(stream) = &mut self.stream else {
-            return Ok(Step::Last(Input::Unlinked { link }));
+            return Ok(Polled::Last(Input::Unlinked { link }));
         };
         if !self.is_ready {
-            return Ok(Step::Rest);
+            return Ok(Polled::Rest);
         }
         match buffer.read(stream)? {
-            Heard::Octets(bytes) => Ok(Step::More(Input::Reply { link, bytes })),
-            Heard::Nothing if !self.is_broken => {
+            StreamRead::Octets(bytes) => Ok(Polled::More(Input::Reply { link, bytes })),
+            StreamRead::Nothing if !self.is_broken => {
                 self.is_ready = false;
-                Ok(Step::Rest)
+                Ok(Polled::Rest)
             }
-            _ => Ok(Step::Last(Input::Unlinked { link })),
+            _ => Ok(Polled::Last(Input::Unlinked { link })),
         }
     }
 }

@@ -20,7 +20,7 @@ pub(crate) struct ReadBuffer {
 
 /// What a read of a stream gave.
 #[derive(Drop)]
-pub(crate) enum Heard {
+pub(crate) enum StreamRead {
     Octets(Octets),
     /// The peer sends no more, or the connection broke.
     End,
@@ -38,14 +38,14 @@ impl ReadBuffer {
         })
     }
 
-    pub(crate) fn read(&mut self, stream: &mut TcpStream) -> Result<Heard, OutOfMemory>
+    pub(crate) fn read(&mut self, stream: &mut TcpStream) -> Result<StreamRead, OutOfMemory>
         ensures { IfOk result (λ heard. HeardIsShort heard) }
     {
         match stream.read(&mut self.octets) {
-            Ok(0) => Ok(Heard::End),
-            Ok(n) => Ok(Heard::Octets(Octets::copy(self.alloc, &self.octets[..n])?)),
-            Err(e) if e.kind() == ErrorKind::WouldBlock => Ok(Heard::Nothing),
-            Err(_) => Ok(Heard::End),
+            Ok(0) => Ok(StreamRead::End),
+            Ok(n) => Ok(StreamRead::Octets(Octets::copy(self.alloc, &self.octets[..n])?)),
+            Err(e) if e.kind() == ErrorKind::WouldBlock => Ok(StreamRead::Nothing),
+            Err(_) => Ok(StreamRead::End),
         }
     }
 

@@ -4,12 +4,12 @@ ghost use Rattle.zre_outside.specs.Causes.{Rose, raised, counted, is_failed};
 ghost use Rattle.zre_outside.specs.Worlds.{with_start, IsTurn, is_look, after_turn, with_deed};
 ghost use Rattle.zre_fabric.specs.Pieces.{TurnIsShort};
 ghost use Rattle.zre_fabric.specs.Readings.{IsReadAt};
-ghost use Rattle.zre_fabric.specs.Rows.{is_full, entries_after, commands_after};
-ghost use Rattle.zre_fabric.specs.Troubles.{fault_of};
+ghost use Rattle.zre_fabric.specs.Looking.{is_full, entries_after, commands_after};
+ghost use Rattle.zre_fabric.specs.NetworkFaults.{fault_of};
 
 use crate::bell::Bell;
 use crate::fabric::Fabric;
-use crate::trouble::{Reason, Trouble};
+use crate::network_fault::{NetworkFault, Reason};
 use std::alloc::Global;
 use std::net::Net;
 use std::rt::Clock;
@@ -67,7 +67,7 @@ impl<R> RealWorld<R> {
     }
 
     // A call ended early.
-    fn note(&mut self, trouble: Trouble) -> NextFault
+    fn note(&mut self, trouble: NetworkFault) -> NextFault
         ensures fault { result ≡ fault_of trouble }
         ensures later { faults_of self.old ≤ faults_of self.new }
         ensures failed { result ≡ NextFault.Failed → Rose (faults_of self.old) (faults_of self.new) }

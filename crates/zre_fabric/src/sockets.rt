@@ -3,14 +3,14 @@
 ghost use Rattle.std.specs.Prelude.{IfOk, IfSome};
 ghost use Rattle.zre_fabric.specs.Pieces.{IsShort, StepIsShort};
 
-use crate::beacons::{Beacons, address};
-use crate::conn::Conn;
+use crate::beacons::{BeaconSocket, address};
+use crate::conn::TcpConn;
+use crate::entry_source::{EntrySource, token_of};
 use crate::errors::{ErrorClass, class_of};
-use crate::link::Link;
+use crate::link::TcpLink;
+use crate::network_fault::{NetworkFault, SystemPart, failed, no_memory};
+use crate::polled::Polled;
 use crate::read_buffer::ReadBuffer;
-use crate::source::{Source, token_of};
-use crate::step::Step;
-use crate::trouble::{Part, Trouble, failed, no_memory};
 use mio::net::{TcpListener, TcpStream};
 use mio::{Interest, Registry, Token};
 use std::alloc::Global;
@@ -23,14 +23,14 @@ use zre_values::{Endpoint, OutOfMemory, take_apart};
 /// nothing. One that is closed leaves it at its turn. So the queue is no longer than there are sockets, and each has
 /// its turn.
 pub(crate) struct Sockets {
-    pub(crate) beacons: Beacons,
+    pub(crate) beacons: BeaconSocket,
     pub(crate) listener: TcpListener,
     listens_at: Endpoint,
     listener_is_queued: bool,
     opened: u64,
-    conns: BTreeMap<u64, Conn>,
-    links: BTreeMap<u64, Link>,
-    queue: VecDeque<Source>,
+    conns: BTreeMap<u64, TcpConn>,
+    links: BTreeMap<u64, TcpLink>,
+    queue: VecDeque<EntrySource>,
     buffer: ReadBuffer,
 }
 
@@ -43,8 +43,8 @@ impl Drop for Sockets {
 
 impl Sockets {
     /// Binds the socket for beacons and the listener.
-    pub(crate) fn open<R: Net>(rt: &R, alloc: Global, s: &Start) -> Result<Self, Trouble> {
-        let beacons = Beacons::open(rt, alloc, s)?;
+    pub(crate) fn open<R: Net>(rt: &R, alloc: Global, s: &Start) -> Result<Self, NetworkFault> {
+        let beacons = BeaconSocket::open(rt, alloc, s)?;
         let listens_at = Endpoint {
             addr: s.host,
             port: s.port,
@@ -59,7 +59,7 @@ impl Sockets {
         let Ok(buffer) = ReadBuffer::new(alloc) else {
             drop(beacons);
             drop(listener);
-            return Err(Trouble::OutOfMemory);
+            return Err(NetworkFault::OutOfMemory);
         };
         Ok(Sockets {
             beacons,
@@ -75,8 +75,12 @@ impl Sockets {
     }
 
     /// The poll told of a source. One that is gone by now is left out.
-    pub(crate) fn hear(&mut self, source: Source, is_writable: bool) -> Result<(), OutOfMemory> {
-        if let Source::Link(link) = source {
+    pub(crate) fn hear(
+        &mut self,
+        source: EntrySource,
+        is_writable: bool,
+    ) -> Result<(), OutOfMemory> {
+        if let EntrySource::Link(link) = source {
             if let Some(link) = self.links.get_mut(&link) {
                 link.hear(is_writable);
             }
@@ -85,17 +89,17 @@ impl Sockets {
     }
 
     // The mark of a source that is there.
-    fn mark_of(&mut self, source: Source) -> Option<&mut bool> {
+    fn mark_of(&mut self, source: EntrySource) -> Option<&mut bool> {
         match source {
-            Source::Beacons => Some(&mut self.beacons.is_queued),
-            Source::Mailbox => Some(&mut self.listener_is_queued),
-            Source::Bell => None,
-            Source::Conn(conn) => Some(&mut self.conns.get_mut(&conn)?.is_queued),
-            Source::Link(link) => Some(&mut self.links.get_mut(&link)?.is_queued),
+            EntrySource::Beacons => Some(&mut self.beacons.is_queued),
+            EntrySource::Mailbox => Some(&mut self.listener_is_queued),
+            EntrySource::Bell => None,
+            EntrySource::Conn(conn) => Some(&mut self.conns.get_mut(&conn)?.is_queued),
+            EntrySource::Link(link) => Some(&mut self.links.get_mut(&link)?.is_queued),
         }
     }
 
-    fn rouse(&mut self, source: Source) -> Result<(), OutOfMemory> {
+    fn rouse(&mut self, source: EntrySource) -> Result<(), OutOfMemory> {
         self.queue.reserve(1)?;
         match self.mark_of(source) {
             Some(is_queued) if !*is_queued => *is_queued = true,
@@ -106,7 +110,7 @@ impl Sockets {
     }
 
     /// The next entry of a source that may have one. Each is looked at once.
-    pub(crate) fn next(&mut self, registry: &Registry) -> Result<Option<Input>, Trouble>
+    pub(crate) fn next(&mut self, registry: &Registry) -> Result<Option<Input>, NetworkFault>
         ensures { IfOk result (λ input. IfSome input (λ i. IsShort i)) }
     {
         for _ in 0..self.queue.len() {
@@ -120,26 +124,30 @@ impl Sockets {
         Ok(None)
     }
 
-    fn look_at(&mut self, source: Source, registry: &Registry) -> Result<Option<Input>, Trouble>
+    fn look_at(
+        &mut self,
+        source: EntrySource,
+        registry: &Registry,
+    ) -> Result<Option<Input>, NetworkFault>
         ensures { IfOk result (λ input. IfSome input (λ i. IsShort i)) }
     {
         match self.step(source, registry)? {
-            Step::More(input) => match self.keep(source) {
+            Polled::More(input) => match self.keep(source) {
                 Ok(()) => Ok(Some(input)),
                 Err(trouble) => {
                     drop(input);
                     Err(trouble)
                 }
             },
-            Step::Last(input) => {
+            Polled::Last(input) => {
                 self.close(source);
                 Ok(Some(input))
             }
-            Step::Again => {
+            Polled::Again => {
                 self.keep(source)?;
                 Ok(None)
             }
-            Step::Rest => {
+            Polled::Rest => {
                 if let Some(is_queued) = self.mark_of(source) {
                     *is_queued = false;
                 }
@@ -148,49 +156,49 @@ impl Sockets {
         }
     }
 
-    fn keep(&mut self, source: Source) -> Result<(), Trouble> {
+    fn keep(&mut self, source: EntrySource) -> Result<(), NetworkFault> {
         match self.queue.push_back(source) {
             Ok(()) => Ok(()),
-            Err(_) => Err(Trouble::OutOfMemory),
+            Err(_) => Err(NetworkFault::OutOfMemory),
         }
     }
 
     /// Closes a connection or a link, and forgets it.
-    pub(crate) fn close(&mut self, source: Source) {
+    pub(crate) fn close(&mut self, source: EntrySource) {
         match source {
-            Source::Conn(conn) => drop(self.conns.remove(&conn)),
-            Source::Link(link) => drop(self.links.remove(&link)),
-            Source::Beacons | Source::Mailbox | Source::Bell => {}
+            EntrySource::Conn(conn) => drop(self.conns.remove(&conn)),
+            EntrySource::Link(link) => drop(self.links.remove(&link)),
+            EntrySource::Beacons | EntrySource::Mailbox | EntrySource::Bell => {}
         }
     }
 
-    fn step(&mut self, source: Source, registry: &Registry) -> Result<Step, Trouble>
+    fn step(&mut self, source: EntrySource, registry: &Registry) -> Result<Polled, NetworkFault>
         ensures { IfOk result (λ step. StepIsShort step) }
     {
         match source {
-            Source::Beacons => self.beacons.step(&mut self.buffer),
-            Source::Mailbox => self.accept(registry),
-            Source::Bell => Ok(Step::Rest),
-            Source::Conn(number) => match self.conns.get_mut(&number) {
+            EntrySource::Beacons => self.beacons.step(&mut self.buffer),
+            EntrySource::Mailbox => self.accept(registry),
+            EntrySource::Bell => Ok(Polled::Rest),
+            EntrySource::Conn(number) => match self.conns.get_mut(&number) {
                 Some(conn) => conn.step(number, &mut self.buffer).map_err(no_memory),
-                None => Ok(Step::Rest),
+                None => Ok(Polled::Rest),
             },
-            Source::Link(number) => match self.links.get_mut(&number) {
+            EntrySource::Link(number) => match self.links.get_mut(&number) {
                 Some(link) => link.step(number, &mut self.buffer).map_err(no_memory),
-                None => Ok(Step::Rest),
+                None => Ok(Polled::Rest),
             },
         }
     }
 
-    fn accept(&mut self, registry: &Registry) -> Result<Step, Trouble>
+    fn accept(&mut self, registry: &Registry) -> Result<Polled, NetworkFault>
         ensures { IfOk result (λ step. StepIsShort step) }
     {
         match self.listener.accept() {
             Ok((stream, _)) => self.admit(stream, registry).map_err(no_memory),
             Err(error) => match class_of(&error) {
-                ErrorClass::NotReady => Ok(Step::Rest),
-                ErrorClass::Transient => Ok(Step::Again),
-                ErrorClass::Fatal => Err(failed(Part::Mailbox(self.listens_at), error)),
+                ErrorClass::NotReady => Ok(Polled::Rest),
+                ErrorClass::Transient => Ok(Polled::Again),
+                ErrorClass::Fatal => Err(failed(SystemPart::Mailbox(self.listens_at), error)),
             },
         }
     }
@@ -198,11 +206,11 @@ impl Sockets {
     // The number of the next connection, and its token.
     fn next_conn(&self) -> Option<(u64, Token)> {
         let conn = self.opened.checked_add(1)?;
-        Some((conn, token_of(Source::Conn(conn))?))
+        Some((conn, token_of(EntrySource::Conn(conn))?))
     }
 
     // A connection that the poll has no place for is closed.
-    fn admit(&mut self, mut stream: TcpStream, registry: &Registry) -> Result<Step, OutOfMemory>
+    fn admit(&mut self, mut stream: TcpStream, registry: &Registry) -> Result<Polled, OutOfMemory>
         ensures { IfOk result (λ step. StepIsShort step) }
     {
         let Some((conn, token)) = self.next_conn() else {
@@ -215,11 +223,11 @@ impl Sockets {
             .is_err()
         {
             drop(stream);
-            return Ok(Step::Again);
+            return Ok(Polled::Again);
         }
-        drop(self.conns.insert(conn, Conn::new(stream))?);
+        drop(self.conns.insert(conn, TcpConn::new(stream))?);
         self.opened = conn;
-        Ok(Step::More(Input::Opened { conn }))
+        Ok(Polled::More(Input::Opened { conn }))
     }
 
     /// Begins to open a link. Where that fails at once, the link says so when it is looked at.
@@ -230,10 +238,10 @@ impl Sockets {
         link: u64,
         to: Endpoint,
     ) -> Result<(), OutOfMemory> {
-        let source = Source::Link(link);
+        let source = EntrySource::Link(link);
         let stream = dial(rt, registry, source, to);
         let is_tried = stream.is_some();
-        drop(self.links.insert(link, Link::new(stream))?);
+        drop(self.links.insert(link, TcpLink::new(stream))?);
         if is_tried {
             return Ok(());
         }
@@ -243,7 +251,7 @@ impl Sockets {
     pub(crate) fn answer(&mut self, number: u64, bytes: &[u8]) -> Result<(), OutOfMemory> {
         if let Some(conn) = self.conns.get_mut(&number) {
             if conn.answer(bytes) {
-                self.rouse(Source::Conn(number))?;
+                self.rouse(EntrySource::Conn(number))?;
             }
         }
         Ok(())
@@ -252,21 +260,26 @@ impl Sockets {
     pub(crate) fn offer(&mut self, number: u64, bytes: &[u8]) -> Result<(), OutOfMemory> {
         if let Some(link) = self.links.get_mut(&number) {
             if link.offer(bytes) {
-                self.rouse(Source::Link(number))?;
+                self.rouse(EntrySource::Link(number))?;
             }
         }
         Ok(())
     }
 }
 
-fn listen<R: Net>(rt: &R, at: Endpoint) -> Result<TcpListener, Trouble> {
+fn listen<R: Net>(rt: &R, at: Endpoint) -> Result<TcpListener, NetworkFault> {
     match TcpListener::bind(rt, address(at.addr, at.port)) {
         Ok(listener) => Ok(listener),
-        Err(error) => Err(failed(Part::Mailbox(at), error)),
+        Err(error) => Err(failed(SystemPart::Mailbox(at), error)),
     }
 }
 
-fn dial<R: Net>(rt: &R, registry: &Registry, source: Source, to: Endpoint) -> Option<TcpStream> {
+fn dial<R: Net>(
+    rt: &R,
+    registry: &Registry,
+    source: EntrySource,
+    to: Endpoint,
+) -> Option<TcpStream> {
     let token = token_of(source)?;
     let Ok(mut stream) = TcpStream::connect(rt, address(to.addr, to.port)) else {
         return None;

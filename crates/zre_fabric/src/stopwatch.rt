@@ -1,6 +1,6 @@
 ghost use Rattle.std.specs.Prelude.{◌≡◌, ◌≤◌, IfOk};
 
-use crate::trouble::{Part, Trouble, failed};
+use crate::network_fault::{NetworkFault, SystemPart, failed};
 use std::rt::Clock;
 use std::time::Duration;
 
@@ -22,13 +22,13 @@ impl Stopwatch {
     }
 
     /// A reading, which is never below an earlier one. It fails where the clock can't be read.
-    pub(crate) fn read<R: Clock>(&mut self, rt: &R) -> Result<u64, Trouble>
+    pub(crate) fn read<R: Clock>(&mut self, rt: &R) -> Result<u64, NetworkFault>
         ensures now { IfOk result (λ at. at ≡ self.new.last) }
         ensures later { self.old.last ≤ self.new.last }
     {
         let reading = match rt.monotonic() {
             Ok(reading) => reading,
-            Err(error) => return Err(failed(Part::Clock, error)),
+            Err(error) => return Err(failed(SystemPart::Clock, error)),
         };
         let begun = *self.begun.get_or_insert(reading);
         let passed = reading.saturating_sub(begun).as_millis();

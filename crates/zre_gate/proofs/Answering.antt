@@ -15,11 +15,11 @@ use Rattle.zre_console.specs.declared.reader.ending.InputEnd.TheVariants as end
 use Rattle.zre_console.specs.reader.Reading.{LinesOutcome, HasReadLines}
 use Rattle.zre_console.proofs.lines.Quits.{typed-begin}
 use Rattle.zre_console.proofs.reader.Puts.{puts-none}
-use Rattle.zre_gate.specs.Clients.{Row}
+use Rattle.zre_gate.specs.Clients.{ClientRow}
 use Rattle.zre_gate.specs.Halls.{Hall, IsGuest, IsAnswer}
 
 -- what was read of a client of a hall is its answer
-pub answered : (hall : Option Hall) (pipes : Pipes) (limit place : ℕ) (pass pass' : CallerPass) (before after : Row) (e : InputEnd)
+pub answered : (hall : Option Hall) (pipes : Pipes) (limit place : ℕ) (pass pass' : CallerPass) (before after : ClientRow) (e : InputEnd)
     → IsGuest hall pipes limit place pass before → IsCallerOf pipes pass'
     → HasReadLines e limit pass pass' before.left after.left before.taken after.taken (Rose before.faults after.faults)
     → before.faults ≤ after.faults → IsAnswer hall place after pass' e
@@ -44,7 +44,7 @@ answered hall pipes limit place pass pass' before after e k of_pipes h later = r
 }
 
 -- of one that wasn't started nothing was read
-pub left_alone : (hall : Option Hall) (pipes : Pipes) (limit place : ℕ) (pass : CallerPass) (before : Row)
+pub left_alone : (hall : Option Hall) (pipes : Pipes) (limit place : ℕ) (pass : CallerPass) (before : ClientRow)
     → IsGuest hall pipes limit place pass before → IsAnswer hall place before pass end.Over
 left_alone hall pipes limit place pass before k =
     answered hall pipes limit place pass pass before before end.Over k (subst (λ (p : Pipes). IsCallerOf p pass) (sym k.same_pipes) k.of_pipes) (record {

@@ -16,7 +16,7 @@ use Rattle.zre_commands.specs.declared.pump.status.Status.{Status}
 use Rattle.zre_commands.specs.declared.pump.status.Status.TheVariants.{Done, TooLong, OutOfMemory}
 use Rattle.zre_chat.specs.Statuses.{least}
 use Rattle.zre_chat.proofs.Rows.{memory_here}
-use Rattle.zre_gate.specs.Clients.{Row, Served, IsServed, put_for, put_for_all, after_of, is_over, of_client}
+use Rattle.zre_gate.specs.Clients.{ClientRow, Served, IsServed, put_for, put_for_all, after_of, is_over, of_client}
 use Rattle.zre_gate.specs.Gathering.{IsOwnEnd, IsWell, Ends, Gathers, Closes}
 use Rattle.zre_gate.specs.Halls.{Hall, Guest, IsAnswer, number_of, guest_at, guest_of}
 use Rattle.zre_gate.proofs.Places.{guest_taken}
@@ -86,7 +86,7 @@ none_gathered limit p = record {
   own_ends = λ _. All-nil IsOwnEnd;
 }
 
-pub one_gathered : (limit : ℕ) (guests : List Guest) (x : Guest) (afters : List Row) (r : Row) (p q q' o : CallerPass) (status status' : Status) (over over' : Bool)
+pub one_gathered : (limit : ℕ) (guests : List Guest) (x : Guest) (afters : List ClientRow) (r : ClientRow) (p q q' o : CallerPass) (status status' : Status) (over over' : Bool)
     → Gathers limit guests afters p q status over → (s : Served) → guest_of s ≡ x → s.after ≡ r → IsServed limit s → number o ≡ s.number → ended o ≡ [] → put_by o ≡ put_for s
     → number q' ≡ number q → ended q' ≡ ended q ++ number o ∷ ended o → put_by q' ≡ put_by q ++ put_by o
     → status' ≡ least (of_client s.end ∷ status ∷ []) → over' ≡ (over || is_over s.end)
@@ -110,7 +110,7 @@ one_gathered limit guests x afters r p q q' o status status' over over' g s is a
 
 -- ---- the quit
 
-module _ (limit : ℕ) (guests : List Guest) (afters : List Row) (old mid : CallerPass) (status : Status) (over : Bool) (g : Gathers limit guests afters old mid status over) where
+module _ (limit : ℕ) (guests : List Guest) (afters : List ClientRow) (old mid : CallerPass) (status : Status) (over : Bool) (g : Gathers limit guests afters old mid status over) where
   pub not_closed : Closes limit guests afters old mid status
   not_closed = record { mid = mid; over = over; gathers = g; tail = []; closes = inl refl; puts = puts-none mid; calm = λ _. refl }
 
@@ -126,7 +126,7 @@ module _ (limit : ℕ) (guests : List Guest) (afters : List Row) (old mid : Call
   }
 
 -- so many passes were absorbed
-pub closed_ended : (limit : ℕ) (guests : List Guest) (afters : List Row) (old new : CallerPass) (status : Status) → Closes limit guests afters old new status → ended old ≡ [] → length (ended new) ≡ length guests
+pub closed_ended : (limit : ℕ) (guests : List Guest) (afters : List ClientRow) (old new : CallerPass) (status : Status) → Closes limit guests afters old new status → ended old ≡ [] → length (ended new) ≡ length guests
 closed_ended limit guests afters old new status k none =
     ap length (k.puts.same_ended ∙ k.gathers.absorbed ∙ ap (λ l. l ++ map number_of guests) none) ∙ length-map guests number_of
 
@@ -139,7 +139,7 @@ or_this d (Some h) = h
 pub same_hall : (hall : Option Hall) (a b : Hall) → hall ≡ Some a → hall ≡ Some b → a ≡ b
 same_hall hall a b is also = ap (or_this a) (sym is ∙ also)
 
-pub next_gathered : (hall : Option Hall) (there : Hall) (first q q' o : CallerPass) (place : ℕ) (afters : List Row) (r : Row) (status status' : Status) (over over' : Bool) (end : InputEnd)
+pub next_gathered : (hall : Option Hall) (there : Hall) (first q q' o : CallerPass) (place : ℕ) (afters : List ClientRow) (r : ClientRow) (status status' : Status) (over over' : Bool) (end : InputEnd)
     → IsAnswer hall place r o end → hall ≡ Some there → Gathers there.limit (take place there.guests) afters first q status over
     → number q' ≡ number q → ended q' ≡ ended q ++ number o ∷ ended o → put_by q' ≡ put_by q ++ put_by o
     → status' ≡ least (of_client end ∷ status ∷ []) → over' ≡ (over || is_over end)
@@ -153,7 +153,7 @@ next_gathered hall there first q q' o place afters r status status' over over' h
     (st ∙ ap (λ x. least (of_client x ∷ status ∷ [])) (sym a.is_end)) (ov ∙ ap (λ x. over || is_over x) (sym a.is_end)))
 
 -- all of them
-pub all_gathered : (there : Hall) (first q : CallerPass) (place : ℕ) (afters : List Row) (status : Status) (over : Bool) → length there.guests ≡ place
+pub all_gathered : (there : Hall) (first q : CallerPass) (place : ℕ) (afters : List ClientRow) (status : Status) (over : Bool) → length there.guests ≡ place
     → Gathers there.limit (take place there.guests) afters first q status over → Gathers there.limit there.guests afters first q status over
 all_gathered there first q place afters status over all g =
     subst (λ l. Gathers there.limit l afters first q status over) (ap (λ n. take n there.guests) (sym all) ∙ take-length there.guests) g

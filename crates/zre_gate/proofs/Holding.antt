@@ -28,7 +28,7 @@ use Rattle.zre_actor.specs.declared.passes.TakerPass.{TakerPass}
 use Rattle.zre_actor.specs.declared.views.Placed.{Placed}
 use Rattle.zre_actor.specs.Commands.{under, times, command_of}
 use Rattle.zre_actor.specs.Passes.{IsNew, number, ended, put_by, puts_of, popped_by, raised_by, taken_by}
-use Rattle.zre_actor.specs.Work.{Scene, scene, IsWork, Ends, QuitsLast}
+use Rattle.zre_actor.specs.Work.{WorkScene, scene, IsWork, Ends, QuitsLast}
 use Rattle.zre_console.specs.lines.Orders.{is_quit}
 use Rattle.zre_console.specs.declared.reader.ending.InputEnd.TheVariants as end
 use Rattle.zre_commands.specs.declared.pump.status.Status.{Status}
@@ -42,7 +42,7 @@ use Rattle.zre_chat.proofs.Asker.{asked_few, asker_put}
 use Rattle.zre_chat.proofs.Living as living
 use Rattle.zre_chat.proofs.Merged.{all_under}
 use Rattle.zre_chat.proofs.Parts as parts
-use Rattle.zre_gate.specs.Clients.{Row, Served, IsServed, put_for_all}
+use Rattle.zre_gate.specs.Clients.{ClientRow, Served, IsServed, put_for_all}
 use Rattle.zre_gate.specs.Clients as clients
 use Rattle.zre_gate.specs.Gate.{Client, IsClient, IsWhole, IsFree, IsLong, IsCaused, Merged, HasServed, IsGate, before_of, after_of, handed_of}
 use Rattle.zre_gate.specs.Gathering.{IsWell, IsOwnEnd, Gathers, Closes}
@@ -79,7 +79,7 @@ module _ (g : Config) (start : Start) (name : Option (List ℕ)) (keep : Bool) (
     (n : Node) (how : Ending) (looked looked' : Bool) (actor actor' : ActorPass)
     (w : IsWork g [] keep limit (scene u.told looked u.world_faults u.kept u.record_faults actor) (scene t.told looked' t.world_faults t.kept t.record_faults actor') n how)
     (named : Keeps u.named t.named) (none_popped : popped_by actor ≡ []) (none_raised : raised_by actor ≡ [])
-    (guests : List Guest) (afters : List Row) (closer closer' : CallerPass) (close : Status)
+    (guests : List Guest) (afters : List ClientRow) (closer closer' : CallerPass) (close : Status)
     (asker asker' : CallerPass) (refused : Bool) (taker taker' : TakerPass) (broke : Option NextFault)
     (d : HasPrinted (asker_of asker refused) taker taker' asker' broke u.written t.written)
     (write_rose : broke ≡ Some fault.Failed → Rose u.write_faults t.write_faults) (start_rose : refused ≡ true → Rose u.refusals t.refusals)
@@ -123,7 +123,7 @@ module _ (g : Config) (start : Start) (name : Option (List ℕ)) (keep : Bool) (
   some : status ≡ Done → 0 < limit
   some is = living.turned g start name keep limit s u t p n how looked looked' actor actor' w named none_popped none_raised (asker_of asker refused) asker' taker taker' broke d write_rose none_taken all_taken status both well is
 
-  none_pending : (e : Ending) (x y : Scene) (stopped : Bool) (turns : ℕ) (unstepped : List Entry) (pending : List Command) → Ends e stopped turns limit keep x y unstepped pending → of_work e ≡ Done → pending ≡ []
+  none_pending : (e : Ending) (x y : WorkScene) (stopped : Bool) (turns : ℕ) (unstepped : List Entry) (pending : List Command) → Ends e stopped turns limit keep x y unstepped pending → of_work e ≡ Done → pending ≡ []
   none_pending ending.Stopped x y stopped turns unstepped pending h is = h.2
   none_pending ending.WorldFault x y stopped turns unstepped pending h is = absurd (cc)
   none_pending ending.RecordFault x y stopped turns unstepped pending h is = absurd (cc)

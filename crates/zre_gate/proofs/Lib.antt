@@ -1,7 +1,7 @@
 pub mod Answering
 pub mod Attended
 pub mod Clients
-pub mod Gathered
+pub mod GatheredClients
 pub mod Holding
 pub mod Merged
 pub mod Places

@@ -4,7 +4,7 @@ use Rattle.std.specs.Prelude.{All}
 use Rattle.std.proofs.lemmas.List.Elements.{All-nil, All-cons, All-weaker}
 use Rattle.zre_actor.specs.Commands.{times}
 use Rattle.zre_actor.proofs.Sums.{is_first}
-use Rattle.zre_gate.specs.Clients.{Row}
+use Rattle.zre_gate.specs.Clients.{ClientRow}
 use Rattle.zre_gate.specs.Halls.{Guest, guest, guest_at, guests_of, number_of, before_of}
 
 abbrev or_else : Guest → Option Guest → Guest
@@ -20,25 +20,25 @@ guest_taken (y ∷ ys) (suc k) x at =
     ap (λ n. take n (y ∷ ys)) e ∙ ap (λ l. y ∷ l) (guest_taken ys k x at)
 
 -- each has its number and what it tells
-pub guest_there : (ns ms : List ℕ) (rs ss : List Row) (n : ℕ) (r : Row) → length ns ≡ length rs → guest_at (guests_of (ns ++ n ∷ ms) (rs ++ r ∷ ss)) (length ns) ≡ Some (guest n r)
+pub guest_there : (ns ms : List ℕ) (rs ss : List ClientRow) (n : ℕ) (r : ClientRow) → length ns ≡ length rs → guest_at (guests_of (ns ++ n ∷ ms) (rs ++ r ∷ ss)) (length ns) ≡ Some (guest n r)
 guest_there [] ms [] ss n r same = refl
 guest_there [] ms (q ∷ rs) ss n r same = absurd (omega (arith, same))
 guest_there (m ∷ ns) ms [] ss n r same = absurd (omega (arith, same))
 guest_there (m ∷ ns) ms (q ∷ rs) ss n r same = guest_there ns ms rs ss n r (omega (arith, same))
 
-pub guests_length : (ns : List ℕ) (rs : List Row) → length ns ≡ length rs → length (guests_of ns rs) ≡ length rs
+pub guests_length : (ns : List ℕ) (rs : List ClientRow) → length ns ≡ length rs → length (guests_of ns rs) ≡ length rs
 guests_length [] [] same = refl
 guests_length [] (r ∷ rs) same = absurd (omega (arith, same))
 guests_length (n ∷ ns) [] same = absurd (omega (arith, same))
 guests_length (n ∷ ns) (r ∷ rs) same = ap suc (guests_length ns rs (omega (arith, same)))
 
-pub guests_numbers : (ns : List ℕ) (rs : List Row) → length ns ≡ length rs → map number_of (guests_of ns rs) ≡ ns
+pub guests_numbers : (ns : List ℕ) (rs : List ClientRow) → length ns ≡ length rs → map number_of (guests_of ns rs) ≡ ns
 guests_numbers [] [] same = refl
 guests_numbers [] (r ∷ rs) same = refl
 guests_numbers (n ∷ ns) [] same = absurd (omega (arith, same))
 guests_numbers (n ∷ ns) (r ∷ rs) same = ap (λ l. n ∷ l) (guests_numbers ns rs (omega (arith, same)))
 
-pub guests_before : (ns : List ℕ) (rs : List Row) → length ns ≡ length rs → map before_of (guests_of ns rs) ≡ rs
+pub guests_before : (ns : List ℕ) (rs : List ClientRow) → length ns ≡ length rs → map before_of (guests_of ns rs) ≡ rs
 guests_before [] [] same = refl
 guests_before [] (r ∷ rs) same = absurd (omega (arith, same))
 guests_before (n ∷ ns) [] same = absurd (omega (arith, same))

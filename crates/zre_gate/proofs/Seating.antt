@@ -7,7 +7,7 @@ use Rattle.std.proofs.lemmas.List.Elements.{All-head, All-tail}
 use Rattle.zre_actor.specs.declared.passes.Pipes.{Pipes}
 use Rattle.zre_chat.specs.declared.places.Chair.{Chair}
 use Rattle.zre_chat.specs.Tables.{IsChair}
-use Rattle.zre_gate.specs.Clients.{Row}
+use Rattle.zre_gate.specs.Clients.{ClientRow}
 use Rattle.zre_gate.specs.Halls.{Hall, hall_of, guest_at, guests_of, IsGuest}
 use Rattle.zre_gate.specs.Tables.{chair_number}
 use Rattle.zre_gate.proofs.Places.{guest_there}
@@ -18,7 +18,7 @@ amid P [] rest x a = All-head P x rest a
 amid P (y ∷ front) rest x a = amid P front rest x (All-tail P y (front ++ x ∷ rest) a)
 
 -- the client at a place is a guest of the hall
-pub seated_guest : {C : Type 0} (look : C → Row) (hall : Option Hall) (pipes : Pipes) (limit : ℕ) (chairs front rest : List Chair) (chair : Chair) (clients before after : List C) (x : C) (place : ℕ)
+pub seated_guest : {C : Type 0} (look : C → ClientRow) (hall : Option Hall) (pipes : Pipes) (limit : ℕ) (chairs front rest : List Chair) (chair : Chair) (clients before after : List C) (x : C) (place : ℕ)
     → All (IsChair pipes) chairs → hall ≡ Some (hall_of pipes limit (map chair_number chairs) (map look clients))
     → chairs ≡ front ++ chair ∷ rest → clients ≡ before ++ x ∷ after → length front ≡ place → length before ≡ place
     → IsGuest hall (arc_value chair.pipes) limit place chair.pass (look x)

@@ -2,7 +2,7 @@
 use Rattle.std.specs.Prelude.{ℕ, ◌≤◌, Bool, true, false, List, [], map, flat_map, length, Option}
 use Rattle.zre_outside.specs.declared.entry.Command.{Command}
 use Rattle.zre_outside.specs.Causes.{Rose}
-use Rattle.zre_outside.specs.Told.{Moves}
+use Rattle.zre_outside.specs.Told.{MovesOn}
 use Rattle.zre_actor.specs.declared.views.Placed.{Placed}
 use Rattle.zre_actor.specs.Commands.{placed}
 use Rattle.zre_console.specs.declared.reader.ending.InputEnd.{InputEnd}
@@ -13,26 +13,26 @@ use Rattle.zre_commands.specs.declared.pump.status.Status.TheVariants.{Done}
 use Rattle.zre_chat.specs.Statuses.{of_read}
 
 -- what a client tells that is left and that was taken, and how often it failed
-pub record Row : Type 0 where
+pub record ClientRow : Type 0 where
   pub left : Option (List ℕ)
   pub taken : Option (List ℕ)
   pub faults : ℕ
 
-abbrev pub row : {C : Type 0} (left taken : C → Option (List ℕ)) (faults : C → ℕ) → C → Row
+abbrev pub row : {C : Type 0} (left taken : C → Option (List ℕ)) (faults : C → ℕ) → C → ClientRow
 row left taken faults c = record { left = left c; taken = taken c; faults = faults c }
 
 -- a client that was waited for: under which number its commands were put, what it told before and after, what was
 -- taken of it and put, and why no more was
 pub record Served : Type 0 where
   pub number : ℕ
-  pub before : Row
-  pub after : Row
+  pub before : ClientRow
+  pub after : ClientRow
   pub octets : List ℕ
   pub commands : List Command
   pub end : InputEnd
 
 pub record IsServed (limit : ℕ) (x : Served) : Type 0 where
-  pub moved : Moves x.before.left x.after.left x.before.taken x.after.taken x.octets
+  pub moved : MovesOn x.before.left x.after.left x.before.taken x.after.taken x.octets
   pub within : length x.octets ≤ limit
   pub later : x.before.faults ≤ x.after.faults
   pub outcome : LinesOutcome x.end limit x.commands x.octets x.after.left (Rose x.before.faults x.after.faults)
@@ -44,7 +44,7 @@ put_for x = map (placed x.number []) x.commands
 abbrev pub put_for_all : List Served → List Placed
 put_for_all xs = flat_map put_for xs
 
-abbrev pub after_of : Served → Row
+abbrev pub after_of : Served → ClientRow
 after_of x = x.after
 
 -- it ended because the gate was over

@@ -9,7 +9,7 @@ use Rattle.zre_outside.specs.declared.entry.Command.{Command}
 use Rattle.zre_outside.specs.declared.start.Start.{Start}
 use Rattle.zre_outside.specs.Causes.{Rose}
 use Rattle.zre_outside.specs.Desks.{Register}
-use Rattle.zre_outside.specs.Told.{Moves}
+use Rattle.zre_outside.specs.Told.{MovesOn}
 use Rattle.zre_outside.specs.Worlds.{Log}
 use Rattle.zre_values.specs.declared.settings.Settings.{Settings as Config}
 use Rattle.zre_journal.specs.Events.{chronicle}
@@ -23,7 +23,7 @@ use Rattle.zre_commands.specs.declared.pump.status.Status.TheVariants.{WorldFaul
 use Rattle.zre_commands.specs.declared.pump.status.Status.TheVariants.{DeskFault}
 use Rattle.zre_chat.specs.Chat.{Seen, seen, Lived, Wrote, Captured}
 use Rattle.zre_chat.specs.Statuses.{least}
-use Rattle.zre_gate.specs.Clients.{Row}
+use Rattle.zre_gate.specs.Clients.{ClientRow}
 use Rattle.zre_gate.specs.Interleaving.{IsInterleaving}
 
 -- what is seen of all that a gate works with but the clients and the desk, at one moment
@@ -34,15 +34,15 @@ seen_beside told worlds written writes kept named records refusals =
 
 -- a client: what it told before and after, the octets that were taken of it, and its commands that were handed in
 pub record Client : Type 0 where
-  pub before : Row
-  pub after : Row
+  pub before : ClientRow
+  pub after : ClientRow
   pub octets : List ℕ
   pub handed : List Command
 
-abbrev pub before_of : Client → Row
+abbrev pub before_of : Client → ClientRow
 before_of c = c.before
 
-abbrev pub after_of : Client → Row
+abbrev pub after_of : Client → ClientRow
 after_of c = c.after
 
 abbrev pub handed_of : Client → List Command
@@ -51,7 +51,7 @@ handed_of c = c.handed
 -- the commands that were handed in begin those that the client asked for; a last line without a line feed counts only
 -- where the client was found at its end, before the limit
 pub record IsClient (limit : ℕ) (c : Client) : Type 0 where
-  pub moved : Moves c.before.left c.after.left c.before.taken c.after.taken c.octets
+  pub moved : MovesOn c.before.left c.after.left c.before.taken c.after.taken c.octets
   pub within : length c.octets ≤ limit
   pub later : c.before.faults ≤ c.after.faults
   pub in_order : IsPrefix c.handed (asked false c.octets)
@@ -112,7 +112,7 @@ pub record Merged (limit : ℕ) (clients : List Client) (handed : List Command) 
 -- there are such clients, so many where all went well, and the status is the first of what occurred, each with its
 -- cause. The rows are those of the clients that the desk gave
 pub record HasServed (limit : ℕ) (handed : List Command) (turns : ℕ) (stopped : Bool) (s t : Seen) (desk : Type 0)
-    (before after : List Row) (status : Status) : Type 0 where
+    (before after : List ClientRow) (status : Status) : Type 0 where
   pub clients : List Client
   pub are_before : map before_of clients ≡ before
   pub are_after : map after_of clients ≡ after
@@ -126,7 +126,7 @@ pub record HasServed (limit : ℕ) (handed : List Command) (turns : ℕ) (stoppe
 -- clients; desk says that the desk's count of faults rose. What was taken of a client may be told by nothing that is
 -- seen, so of the clients it says that they are there
 pub record IsGate (g : Config) (start : Start) (name : Option (List ℕ)) (limit many : ℕ) (s t : Seen) (desk : Type 0)
-    (before after : List Row) (status : Status) : Type 0 where
+    (before after : List ClientRow) (status : Status) : Type 0 where
   pub lived : Lived g start limit s t status
   pub wrote : Wrote g lived.entries s t status
   pub captured : Captured g name lived.entries s t status
@@ -144,8 +144,8 @@ attended begun place given r = record {
 }
 
 -- the same, with the clients that the desk gave and what it tells
-pub record HasGated {C : Type 0} (look : C → Row) (place : Endpoint) (told told' : Option (Register C)) (g : Config)
-    (start : Start) (name : Option (List ℕ)) (limit many : ℕ) (s t : Seen) (desk : Type 0) (returned : List C)
+pub record HasGated {C : Type 0} (look : C → ClientRow) (place : Endpoint) (told told' : Option (Register C))
+    (g : Config) (start : Start) (name : Option (List ℕ)) (limit many : ℕ) (s t : Seen) (desk : Type 0) (returned : List C)
     (status : Status) : Type 0 where
   pub given : List C
   pub begun : Bool

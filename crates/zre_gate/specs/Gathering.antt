@@ -9,7 +9,7 @@ use Rattle.zre_console.specs.declared.reader.ending.InputEnd.TheVariants as end
 use Rattle.zre_console.specs.reader.Putting.{Puts, IsClose}
 use Rattle.zre_commands.specs.declared.pump.status.Status.{Status}
 use Rattle.zre_commands.specs.declared.pump.status.Status.TheVariants.{Done, TooLong, OutOfMemory}
-use Rattle.zre_gate.specs.Clients.{Row, Served, IsServed, put_for_all, after_of, is_over, of_client}
+use Rattle.zre_gate.specs.Clients.{ClientRow, Served, IsServed, put_for_all, after_of, is_over, of_client}
 use Rattle.zre_gate.specs.Halls.{Hall, Guest, number_of, guest_of}
 
 -- it ended otherwise than because the gate was over
@@ -26,7 +26,7 @@ pub record Ends (served : List Served) (status : Status) : Type 0 where
       ⊎ ((status ≡ TooLong) × (x : Served) × Contains served x × (x.end ≡ end.TooLong)))
 
 -- these clients were waited for, and a pass absorbed theirs
-pub record Gathers (limit : ℕ) (guests : List Guest) (afters : List Row) (old new : CallerPass) (status : Status)
+pub record Gathers (limit : ℕ) (guests : List Guest) (afters : List ClientRow) (old new : CallerPass) (status : Status)
     (over : Bool) : Type 0 where
   pub served : List Served
   pub are_guests : map guest_of served ≡ guests
@@ -39,7 +39,7 @@ pub record Gathers (limit : ℕ) (guests : List Guest) (afters : List Row) (old 
   pub own_ends : over ≡ false → All IsOwnEnd served
 
 -- and then a quit was put or nothing, and nothing where one ended because the gate was over
-pub record Closes (limit : ℕ) (guests : List Guest) (afters : List Row) (old new : CallerPass) (status : Status)
+pub record Closes (limit : ℕ) (guests : List Guest) (afters : List ClientRow) (old new : CallerPass) (status : Status)
     : Type 0 where
   pub mid : CallerPass
   pub over : Bool
@@ -58,10 +58,10 @@ abbrev pub IsFull : Option Hall → ℕ → Type 0
 IsFull hall many = (there : Hall) → hall ≡ Some there → length there.guests ≡ many
 
 -- all clients of the hall that is known
-abbrev pub GathersAll : Option Hall → List Row → (old new : CallerPass) → Status → Bool → Type 0
+abbrev pub GathersAll : Option Hall → List ClientRow → (old new : CallerPass) → Status → Bool → Type 0
 GathersAll hall afters old new status over =
     (there : Hall) → hall ≡ Some there → ∥ Gathers there.limit there.guests afters old new status over ∥₁
 
-abbrev pub ClosesAll : Option Hall → List Row → (old new : CallerPass) → Status → Type 0
+abbrev pub ClosesAll : Option Hall → List ClientRow → (old new : CallerPass) → Status → Type 0
 ClosesAll hall afters old new status =
     (there : Hall) → hall ≡ Some there → ∥ Closes there.limit there.guests afters old new status ∥₁

@@ -4,20 +4,20 @@ use Rattle.zre_actor.specs.declared.passes.Pipes.{Pipes}
 use Rattle.zre_actor.specs.declared.passes.CallerPass.{CallerPass}
 use Rattle.zre_actor.specs.Passes.{IsCallerOf, IsNew, number, ended, put_by}
 use Rattle.zre_console.specs.declared.reader.ending.InputEnd.{InputEnd}
-use Rattle.zre_gate.specs.Clients.{Row, Served, IsServed, put_for}
+use Rattle.zre_gate.specs.Clients.{ClientRow, Served, IsServed, put_for}
 
 -- a client before anything was read of it: under which number its commands are put, and what it tells
 pub record Guest : Type 0 where
   pub number : ℕ
-  pub before : Row
+  pub before : ClientRow
 
-abbrev pub guest : ℕ → Row → Guest
+abbrev pub guest : ℕ → ClientRow → Guest
 guest number before = record { number = number; before = before }
 
 abbrev pub number_of : Guest → ℕ
 number_of x = x.number
 
-abbrev pub before_of : Guest → Row
+abbrev pub before_of : Guest → ClientRow
 before_of x = x.before
 
 -- all clients, the pipes into which their commands are put, and the most octets that are read of each
@@ -33,12 +33,12 @@ guest_at (x ∷ xs) zero = Some x
 guest_at (x ∷ xs) (suc place) = guest_at xs place
 
 -- these numbers, each for the client beside it
-abbrev pub guests_of : List ℕ → List Row → List Guest
+abbrev pub guests_of : List ℕ → List ClientRow → List Guest
 guests_of [] rows = []
 guests_of (n ∷ ns) [] = []
 guests_of (n ∷ ns) (r ∷ rs) = guest n r ∷ guests_of ns rs
 
-abbrev pub hall_of : Pipes → ℕ → List ℕ → List Row → Hall
+abbrev pub hall_of : Pipes → ℕ → List ℕ → List ClientRow → Hall
 hall_of pipes limit numbers rows = record { pipes = pipes; limit = limit; guests = guests_of numbers rows }
 
 -- as it came
@@ -46,7 +46,7 @@ abbrev pub guest_of : Served → Guest
 guest_of x = guest x.number x.before
 
 -- a client at a place of a hall, with a pass under which nothing was put
-pub record IsGuest (hall : Option Hall) (pipes : Pipes) (limit place : ℕ) (pass : CallerPass) (before : Row)
+pub record IsGuest (hall : Option Hall) (pipes : Pipes) (limit place : ℕ) (pass : CallerPass) (before : ClientRow)
     : Type 0 where
   pub there : Hall
   pub is_hall : hall ≡ Some there
@@ -57,7 +57,8 @@ pub record IsGuest (hall : Option Hall) (pipes : Pipes) (limit place : ℕ) (pas
   pub is_new : IsNew pass
 
 -- the client at a place of a hall was read, and this pass has what was put for it
-pub record IsAnswer (hall : Option Hall) (place : ℕ) (after : Row) (pass : CallerPass) (end : InputEnd) : Type 0 where
+pub record IsAnswer (hall : Option Hall) (place : ℕ) (after : ClientRow) (pass : CallerPass) (end : InputEnd)
+    : Type 0 where
   pub there : Hall
   pub is_hall : hall ≡ Some there
   pub served : Served

@@ -5,14 +5,14 @@ use Rattle.zre_actor.specs.Commands.{times}
 use Rattle.zre_actor.specs.Passes.{number}
 use Rattle.zre_chat.specs.declared.places.Chair.{Chair}
 use Rattle.zre_chat.specs.Tables.{IsChair, IsLaid as IsBase}
-use Rattle.zre_gate.specs.declared.table.Table.{Table}
+use Rattle.zre_gate.specs.declared.table.GateTable.{GateTable}
 
 abbrev pub chair_number : Chair → ℕ
 chair_number c = number c.pass
 
 -- all passes belong to the pipes, and nothing was done with any; the callers put under different numbers, and there is
 -- room for so many clients
-pub record IsLaid {C : Type 0} (many : ℕ) (t : Table C) : Type 0 where
+pub record IsLaid {C : Type 0} (many : ℕ) (t : GateTable C) : Type 0 where
   pub base : IsBase many t.base
   pub are_chairs : All (IsChair (arc_value t.base.others.pipes)) t.chairs.items
   pub many_chairs : length t.chairs.items ≡ many

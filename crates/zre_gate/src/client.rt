@@ -4,7 +4,7 @@ ghost use Rattle.std.specs.Arc.{arc_value};
 ghost use Rattle.zre_gate.specs.Clients.{row};
 ghost use Rattle.zre_gate.specs.Halls.{IsGuest, IsAnswer};
 
-use crate::known::Known;
+use crate::gate_name::GateName;
 use crossbeam_channel::Sender;
 use std::marker::PhantomData;
 use std::sync::Wait;
@@ -14,7 +14,7 @@ use zre_outside::{Job, Source, Task};
 
 /// What comes back of a client.
 #[derive(Drop)]
-pub struct Answer<C: Source, B: Known> {
+pub struct Answer<C: Source, B: GateName> {
     /// The client's place among the others, counted from 0.
     pub place: u64,
     /// The client, as it was left, and its pass.
@@ -27,7 +27,7 @@ pub struct Answer<C: Source, B: Known> {
 /// Reads a client and puts the commands of its lines, as a [`ReaderJob`] does, but for the quit, which isn't put. The
 /// answer says whether it ended because nothing more was to be put.
 #[derive(Drop)]
-pub struct ClientJob<C: Source, B: Known> {
+pub struct ClientJob<C: Source, B: GateName> {
     /// The client, what is read of it and where its commands go.
     pub reading: ReaderJob<C>,
     /// The client's place among the others, counted from 0.
@@ -38,7 +38,7 @@ pub struct ClientJob<C: Source, B: Known> {
         (row C.left C.taken C.faults reading.input) ∥₁ },
 }
 
-impl<C: Source + Send + Drop + 'static, B: Known + Send + 'static> Task for ClientJob<C, B> {
+impl<C: Source + Send + Drop + 'static, B: GateName + Send + 'static> Task for ClientJob<C, B> {
     ghost use Rattle.std.specs.Prelude.{⊤};
 
     type Out = ();
@@ -46,7 +46,7 @@ impl<C: Source + Send + Drop + 'static, B: Known + Send + 'static> Task for Clie
     ghost means = { λ job out. ⊤ };
 }
 
-impl<T: Wait + Copy, C: Source + Send + Drop + 'static, B: Known + Send + 'static> Job<T>
+impl<T: Wait + Copy, C: Source + Send + Drop + 'static, B: GateName + Send + 'static> Job<T>
     for ClientJob<C, B> {
     fn run(self, rt: T) -> () {
         let (line, answer) = read_client(rt, self);
@@ -54,7 +54,7 @@ impl<T: Wait + Copy, C: Source + Send + Drop + 'static, B: Known + Send + 'stati
     }
 }
 
-impl<R: Wait + Copy, C: Source + Send + Drop + 'static, B: Known + Send + 'static> Excused<R>
+impl<R: Wait + Copy, C: Source + Send + Drop + 'static, B: GateName + Send + 'static> Excused<R>
     for ClientJob<C, B> {
     fn excuse<T: Wait + Copy>(self, rt: T) -> () {
         let (line, answer) = leave_client(self);
@@ -66,7 +66,7 @@ impl<R: Wait + Copy, C: Source + Send + Drop + 'static, B: Known + Send + 'stati
 fn read_client<C, B, T>(rt: T, job: ClientJob<C, B>) -> (Sender<Answer<C, B>>, Answer<C, B>)
 where
     C: Source + Drop,
-    B: Known,
+    B: GateName,
     T: Wait + Copy,
 {
     let ClientJob {
@@ -87,7 +87,7 @@ where
 fn leave_client<C, B>(job: ClientJob<C, B>) -> (Sender<Answer<C, B>>, Answer<C, B>)
 where
     C: Source + Drop,
-    B: Known,
+    B: GateName,
 {
     let ClientJob {
         reading,
@@ -104,7 +104,7 @@ where
 }
 
 // Hands an answer on. The channel has room for it.
-fn send<C: Source + Drop, B: Known, T: Wait + Copy>(
+fn send<C: Source + Drop, B: GateName, T: Wait + Copy>(
     rt: T,
     line: &Sender<Answer<C, B>>,
     answer: Answer<C, B>,

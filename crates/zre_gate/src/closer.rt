@@ -9,8 +9,8 @@ ghost use Rattle.zre_gate.specs.Gathering.{IsHall, IsFull, GathersAll, ClosesAll
 ghost use Rattle.zre_gate.specs.Halls.{Hall};
 
 use crate::client::Answer;
-use crate::gathering::{Gathered, gather};
-use crate::known::Known;
+use crate::gate_name::GateName;
+use crate::gathering::{GatheredClients, gather};
 use crossbeam_channel::Receiver;
 use std::alloc::Global;
 use std::sync::atomic::AtomicBool;
@@ -25,7 +25,7 @@ use zre_outside::{Job, Source, Task};
 /// unless a client ended because the gate was over. Once `over` is set it ends at its next try. What comes back has the
 /// clients, as they were left, and the pass with all that was put under it and under those of the clients.
 #[derive(Drop)]
-pub struct CloserJob<C: Source, B: Known> {
+pub struct CloserJob<C: Source, B: GateName> {
     /// Where the quit is put.
     pub pipes: Arc<Pipes, Global>,
     /// Whether nothing more is to be put.
@@ -42,7 +42,7 @@ pub struct CloserJob<C: Source, B: Known> {
     ghost room: { (clients.items ≡ []) × (length lines.items ≤ vec_capacity clients) },
 }
 
-impl<C: Source + Send + Drop + 'static, B: Known + Send + 'static> Task for CloserJob<C, B> {
+impl<C: Source + Send + Drop + 'static, B: GateName + Send + 'static> Task for CloserJob<C, B> {
     ghost use Rattle.std.specs.Prelude.{map};
     ghost use Rattle.std.specs.Arc.{arc_value};
     ghost use Rattle.zre_actor.specs.Passes.{IsCallerOf};
@@ -55,7 +55,7 @@ impl<C: Source + Send + Drop + 'static, B: Known + Send + 'static> Task for Clos
         × ClosesAll B.hall (map (row C.left C.taken C.faults) out.input.items) job.pass out.pass out.status };
 }
 
-impl<T: Wait + Copy, C: Source + Send + Drop + 'static, B: Known + Send + 'static> Job<T>
+impl<T: Wait + Copy, C: Source + Send + Drop + 'static, B: GateName + Send + 'static> Job<T>
     for CloserJob<C, B> {
     fn run(self, rt: T) -> Read<Vec<C>> {
         let CloserJob {
@@ -71,7 +71,12 @@ impl<T: Wait + Copy, C: Source + Send + Drop + 'static, B: Known + Send + 'stati
 }
 
 // Puts a quit after all clients, unless one of them ended because the gate was over.
-fn close_after<C, T>(rt: T, pipes: &Pipes, over: &AtomicBool, gathered: Gathered<C>) -> Read<Vec<C>>
+fn close_after<C, T>(
+    rt: T,
+    pipes: &Pipes,
+    over: &AtomicBool,
+    gathered: GatheredClients<C>,
+) -> Read<Vec<C>>
 where
     C: Source + Drop,
     T: Wait + Copy,
@@ -82,7 +87,7 @@ where
         gathered.status gathered.over
         → ClosesAll hall (map (row C.left C.taken C.faults) result.input.items) first result.pass result.status }
 {
-    let Gathered {
+    let GatheredClients {
         clients,
         pass,
         status,
@@ -103,7 +108,7 @@ where
 }
 
 // What comes back of a closer that wasn't started: the clients are waited for here, and no quit is put.
-impl<R: Wait + Copy, C: Source + Send + Drop + 'static, B: Known + Send + 'static> Excused<R>
+impl<R: Wait + Copy, C: Source + Send + Drop + 'static, B: GateName + Send + 'static> Excused<R>
     for CloserJob<C, B> {
     fn excuse<T: Wait + Copy>(self, rt: T) -> Read<Vec<C>> {
         let CloserJob {
@@ -113,7 +118,7 @@ impl<R: Wait + Copy, C: Source + Send + Drop + 'static, B: Known + Send + 'stati
             lines,
             clients,
         } = self;
-        let Gathered {
+        let GatheredClients {
             clients,
             pass,
             status,

@@ -12,7 +12,7 @@ ghost use Rattle.zre_gate.specs.Stages.{Attends, AttendsAll};
 ghost use Rattle.zre_gate.specs.Tables.{IsLaid};
 
 use crate::arrivals::attend;
-use crate::table::Table;
+use crate::table::GateTable;
 use crate::threads::serve;
 use std::alloc::Global;
 use std::marker::Brand;
@@ -157,7 +157,7 @@ fn prepare<D: Desk, W: World, R: Recorder>(
     clients: &mut Vec<D::Client>,
     world: &mut W,
     rec: &mut R,
-) -> Result<Table<D::Client>, Status>
+) -> Result<GateTable<D::Client>, Status>
     requires valid { is_valid chat.config ≡ true }
     requires text { IfSome chat.capture (λ name. is_utf8 name ≡ true) }
     requires few { (1 ≤ many) × (many ≤ 14) }
@@ -187,7 +187,7 @@ fn prepare<D: Desk, W: World, R: Recorder>(
         return Err(Status::DeskFault);
     }
     let base = enter(alloc, config, &start, world, many)?;
-    match Table::lay(alloc, base, many) {
+    match GateTable::lay(alloc, base, many) {
         Ok(table) => Ok(table),
         Err(OutOfMemory) => Err(Status::OutOfMemory),
     }

@@ -9,7 +9,7 @@ ghost use Rattle.zre_gate.specs.Gathering.{Gathers, IsHall, IsFull, GathersAll};
 ghost use Rattle.zre_gate.specs.Halls.{Hall};
 
 use crate::client::Answer;
-use crate::known::Known;
+use crate::gate_name::GateName;
 use crossbeam_channel::Receiver;
 use std::sync::Wait;
 use zre_actor::{CallerPass, Pipes};
@@ -20,7 +20,7 @@ use zre_outside::Source;
 
 /// What is left of clients that were waited for.
 #[derive(Drop)]
-pub(crate) struct Gathered<C> {
+pub(crate) struct GatheredClients<C> {
     /// The clients, as they were left.
     pub clients: Vec<C>,
     /// The pass that absorbed theirs.
@@ -62,7 +62,7 @@ fn with_client(status: Status, end: InputEnd) -> Status
 fn wait_for<C, B, T>(rt: T, line: &Receiver<Answer<C, B>>, place: u64) -> Answer<C, B>
 where
     C: Source + Drop,
-    B: Known,
+    B: GateName,
     T: Wait + Copy,
     ensures { result.place ≡ place }
 {
@@ -86,13 +86,13 @@ fn either(a: bool, b: bool) -> bool
 fn gather_one<C, B, T>(
     rt: T,
     pipes: &Pipes,
-    gathered: Gathered<C>,
+    gathered: GatheredClients<C>,
     line: &Receiver<Answer<C, B>>,
     place: u64,
-) -> Gathered<C>
+) -> GatheredClients<C>
 where
     C: Source + Drop,
-    B: Known,
+    B: GateName,
     T: Wait + Copy,
     requires pipes { IsCallerOf pipes.now gathered.pass }
     requires hall { ∥ IsHall B.hall pipes.now ∥₁ }
@@ -106,7 +106,7 @@ where
         → ∥ Gathers there.limit (take (place + 1) there.guests) (map (row C.left C.taken C.faults) result.clients.items)
         first result.pass result.status result.over ∥₁ }
 {
-    let Gathered {
+    let GatheredClients {
         mut clients,
         pass,
         status,
@@ -117,7 +117,7 @@ where
     let end = done.end;
     let pass = pipes.absorb(rt, pass, done.pass);
     clients.push_reserved(done.input);
-    Gathered {
+    GatheredClients {
         clients,
         pass,
         status: with_client(status, end),
@@ -132,10 +132,10 @@ pub(crate) fn gather<C, B, T>(
     pass: CallerPass,
     lines: Vec<Receiver<Answer<C, B>>>,
     clients: Vec<C>,
-) -> Gathered<C>
+) -> GatheredClients<C>
 where
     C: Source + Drop,
-    B: Known,
+    B: GateName,
     T: Wait + Copy,
     requires pipes { IsCallerOf pipes.now pass }
     requires hall { ∥ IsHall B.hall pipes.now ∥₁ }
@@ -145,7 +145,7 @@ where
     ensures gathers { GathersAll B.hall (map (row C.left C.taken C.faults) result.clients.items) pass result.pass
         result.status result.over }
 {
-    let mut gathered = Gathered {
+    let mut gathered = GatheredClients {
         clients,
         pass,
         status: Status::Done,

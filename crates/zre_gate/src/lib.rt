@@ -7,12 +7,12 @@ mod arrivals;
 mod client;
 mod closer;
 mod gate;
+mod gate_name;
 mod gathering;
-mod known;
 mod table;
 mod threads;
 
 pub use client::{Answer, ClientJob};
 pub use closer::CloserJob;
 pub use gate::{Gate, GateEnded};
-pub use known::Known;
+pub use gate_name::GateName;

@@ -18,7 +18,7 @@ use zre_values::OutOfMemory;
 
 /// What a chat's threads need too, a chair for each client, and room for the clients.
 #[derive(Drop)]
-pub(crate) struct Table<C> {
+pub(crate) struct GateTable<C> {
     pub base: Base,
     pub chairs: VecDeque<Chair>,
     pub left: Vec<C>,
@@ -51,9 +51,9 @@ fn chairs_for(
     Ok(chairs)
 }
 
-impl<C: Drop> Table<C> {
+impl<C: Drop> GateTable<C> {
     /// Gives each of so many clients a chair.
-    pub fn lay(alloc: Global, mut base: Base, many: u8) -> Result<Table<C>, OutOfMemory>
+    pub fn lay(alloc: Global, mut base: Base, many: u8) -> Result<GateTable<C>, OutOfMemory>
         requires laid { IsBase many base }
         requires more { HasMore many base }
         ensures laid { IfOk result (IsLaid many) }
@@ -67,6 +67,6 @@ impl<C: Drop> Table<C> {
             &mut base.others.callers,
             many,
         )?;
-        Ok(Table { base, chairs, left })
+        Ok(GateTable { base, chairs, left })
     }
 }

@@ -18,8 +18,8 @@ ghost use Rattle.zre_gate.specs.Tables.{IsLaid, chair_number};
 
 use crate::client::{Answer, ClientJob};
 use crate::closer::CloserJob;
-use crate::known::Known;
-use crate::table::Table;
+use crate::gate_name::GateName;
+use crate::table::GateTable;
 use crossbeam_channel::{Receiver, Sender, bounded};
 use std::alloc::Global;
 use std::collections::VecDeque;
@@ -38,12 +38,12 @@ use zre_values::OutOfMemory;
 
 // The ends of a channel for each client.
 #[derive(Drop)]
-struct Lines<C: Source, B: Known> {
+struct AnswerLines<C: Source, B: GateName> {
     ins: VecDeque<Sender<Answer<C, B>>>,
     outs: Vec<Receiver<Answer<C, B>>>,
 }
 
-impl<C: Source + Send + Drop + 'static, B: Known + Send + 'static> Lines<C, B> {
+impl<C: Source + Send + Drop + 'static, B: GateName + Send + 'static> AnswerLines<C, B> {
     // A channel with room for one answer for each of so many clients.
     fn lay(alloc: Global, many: u64) -> Result<Self, OutOfMemory>
         ensures { IfOk result (λ lines. (length lines.ins.items ≡ many) × (length lines.outs.items ≡ many)) }
@@ -55,7 +55,7 @@ impl<C: Source + Send + Drop + 'static, B: Known + Send + 'static> Lines<C, B> {
             ins.push_back(sender)?;
             outs.push(receiver)?;
         }
-        Ok(Lines { ins, outs })
+        Ok(AnswerLines { ins, outs })
     }
 }
 
@@ -75,7 +75,7 @@ fn seat_one<C, B, P, T>(
 )
 where
     C: Source + Send + Drop + 'static,
-    B: Known + Send + 'static,
+    B: GateName + Send + 'static,
     P: Spawner,
     T: Wait + Copy,
     requires room { vec_len seated.old.running < vec_capacity seated.old.running }
@@ -105,7 +105,7 @@ fn job_for<C, B>(
 ) -> ClientJob<C, B>
 where
     C: Source + Send + Drop + 'static,
-    B: Known + Send + 'static,
+    B: GateName + Send + 'static,
     requires { IsGuest B.hall (arc_value chair.pipes) limit place chair.pass (row C.left C.taken C.faults input) }
 {
     let reading = ReaderJob {
@@ -136,7 +136,7 @@ fn seat_all<C, B, P, T>(
 ) -> Seated<ClientJob<C, B>>
 where
     C: Source + Send + Drop + 'static,
-    B: Known + Send + 'static,
+    B: GateName + Send + 'static,
     P: Spawner,
     T: Wait + Copy,
     requires many { (length chairs.items ≡ length clients.items) × (length ins.items ≡ length clients.items) }
@@ -177,7 +177,7 @@ fn join_all<J: Task, T: Threads + Copy>(rt: T, running: Vec<Running<J>>) {
 pub(crate) fn serve<C, W, O, R, P, T, B>(
     rt: T,
     alloc: Global,
-    table: Table<C>,
+    table: GateTable<C>,
     clients: Vec<C>,
     work: NodeWork<W, R>,
     out: &mut O,
@@ -190,7 +190,7 @@ where
     R: Recorder + Send + Drop + 'static,
     P: Spawner,
     T: Wait + Threads + Copy,
-    B: Known + Send + 'static,
+    B: GateName + Send + 'static,
     requires laid { IsLaid (length clients.items) table }
     requires begun { work.keep ≡ true → R.begun work.rec ≡ true }
     requires hall { B.hall ≡ Some (hall_of (arc_value table.base.others.pipes) work.limit
@@ -217,7 +217,7 @@ where
             rec: work.rec,
         };
     };
-    let Table { base, chairs, left } = table;
+    let GateTable { base, chairs, left } = table;
     let Base { seat, others } = base;
     let limit = work.limit;
     let working = match start_node(spawner, seat, work) {
@@ -235,7 +235,7 @@ where
             };
         }
     };
-    let (Lines { ins, outs }, running) = room;
+    let (AnswerLines { ins, outs }, running) = room;
     let Seated { running, refused } = seat_all(
         rt, alloc, clients, chairs, ins, limit, running, spawner,
     );
@@ -268,14 +268,14 @@ where
 fn room_for<C, B>(
     alloc: Global,
     many: u64,
-) -> Result<(Lines<C, B>, Vec<Running<ClientJob<C, B>>>), OutOfMemory>
+) -> Result<(AnswerLines<C, B>, Vec<Running<ClientJob<C, B>>>), OutOfMemory>
 where
     C: Source + Send + Drop + 'static,
-    B: Known + Send + 'static,
+    B: GateName + Send + 'static,
     ensures lines { IfOk result (λ room. (length room.0.ins.items ≡ many) × (length room.0.outs.items ≡ many)) }
     ensures threads { IfOk result (λ room. (room.1.items ≡ []) × (many ≤ vec_capacity room.1)) }
 {
-    let lines = Lines::lay(alloc, many)?;
+    let lines = AnswerLines::lay(alloc, many)?;
     let running = Vec::with_capacity(alloc, many as usize)?;
     Ok((lines, running))
 }

@@ -18,7 +18,7 @@ use Rattle.zre_mailbox.specs.declared.arrival.Arrival.{Arrival}
 use Rattle.zre_mailbox.specs.declared.phase.Phase.{Phase}
 use Rattle.zre_mailbox.specs.declared.phase.Phase.TheVariants.{Live, Spent}
 use Rattle.zre_mailbox.specs.Talk.{arrival_of, arrivals_in, arrivals, fault_in, new_arrivals}
-use Rattle.zre_mailbox.specs.Conn.{introduced, identity_in, Hearing, reading, phase_by, conn_after, Brings, Hears}
+use Rattle.zre_mailbox.specs.Conn.{introduced, identity_in, ConnHearing, reading, phase_by, conn_after, Brings, Hears}
 use Rattle.zre_mailbox.proofs.Growing.{arrivals_in-append, new_arrivals-items, arrivals_grow, goes}
 
 -- ---- whom arrivals introduce
@@ -84,29 +84,29 @@ live_by None r0 r e = (refl, cc)
 live_by (Some x) r0 r e = absurd cc
 
 -- its reader stands after the octets
-pub live_reads : (own : PeerId) (o : List ℕ) (h : Hearing) (r : Reading) → h ≡ conn_after own o → h.phase ≡ Live r → Reads (Dealer own) Whole o r
+pub live_reads : (own : PeerId) (o : List ℕ) (h : ConnHearing) (r : Reading) → h ≡ conn_after own o → h.phase ≡ Live r → Reads (Dealer own) Whole o r
 live_reads own o h r e live =
-    let p = live_by (fault_in own o) (reading (Dealer own) Whole o) r (sym (ap (λ (x : Hearing). x.phase) e) ∙ live) in
+    let p = live_by (fault_in own o) (reading (Dealer own) Whole o) r (sym (ap (λ (x : ConnHearing). x.phase) e) ∙ live) in
     subst (λ (x : Reading). Reads (Dealer own) Whole o x) (sym p.1) (reads_reading (Dealer own) Whole o p.0)
 
-same_hearing : (p q : Phase) (i j : Option PeerId) → p ≡ q → i ≡ j → let a : Hearing = record { phase = p; identity = i } in let b : Hearing = record { phase = q; identity = j } in a ≡ b
-same_hearing p q i j e f = let make : Phase → Option PeerId → Hearing = λ x y. record { phase = x; identity = y } in ap (λ x. make x i) e ∙ ap (λ y. make q y) f
+same_hearing : (p q : Phase) (i j : Option PeerId) → p ≡ q → i ≡ j → let a : ConnHearing = record { phase = p; identity = i } in let b : ConnHearing = record { phase = q; identity = j } in a ≡ b
+same_hearing p q i j e f = let make : Phase → Option PeerId → ConnHearing = λ x y. record { phase = x; identity = y } in ap (λ x. make x i) e ∙ ap (λ y. make q y) f
 
 -- a reader that stands after them makes the connection
-pub is_live : (own : PeerId) (o : List ℕ) (r : Reading) (i : Option PeerId) → Reads (Dealer own) Whole o r → i ≡ identity_in (arrivals own o) → let h : Hearing = record { phase = Live r; identity = i } in h ≡ conn_after own o
+pub is_live : (own : PeerId) (o : List ℕ) (r : Reading) (i : Option PeerId) → Reads (Dealer own) Whole o r → i ≡ identity_in (arrivals own o) → let h : ConnHearing = record { phase = Live r; identity = i } in h ≡ conn_after own o
 is_live own o r i h e =
     same_hearing _ _ _ _ (ap (λ x. Live x) (reads_is (Dealer own) Whole o r h) ∙ sym (ap (λ f. phase_by f (reading (Dealer own) Whole o)) h.faultless)) e
 
 -- and a fault makes it spent
 is_spent_by : (own : PeerId) (o : List ℕ) (f : ZmtpFault) (phase : Phase) (i : Option PeerId) → phase ≡ Spent → fault_in own o ≡ Some f → i ≡ identity_in (arrivals own o)
-    → let h : Hearing = record { phase = phase; identity = i } in h ≡ conn_after own o
+    → let h : ConnHearing = record { phase = phase; identity = i } in h ≡ conn_after own o
 is_spent_by own o f phase i ended some e = same_hearing _ _ _ _ (ended ∙ sym (ap (λ x. phase_by x (reading (Dealer own) Whole o)) some)) e
 
 no_arrivals : (own : PeerId) → identity_in (arrivals own []) ≡ None
 unfolding cut greeting_fault
 no_arrivals own = refl
 
-pub accepted : (own : PeerId) (r : Reading) → Reads (Dealer own) Whole [] r → let h : Hearing = record { phase = Live r; identity = None } in h ≡ conn_after own []
+pub accepted : (own : PeerId) (r : Reading) → Reads (Dealer own) Whole [] r → let h : ConnHearing = record { phase = Live r; identity = None } in h ≡ conn_after own []
 accepted own r h = is_live own [] r None h (sym (no_arrivals own))
 
 -- ---- a piece
@@ -121,25 +121,25 @@ brings_refused own o piece (Zmtp x) start items known known' is a = (a.0, record
 brings_refused own o piece OutOfMemory start items known known' is a = tt
 
 -- whom all of the octets introduce
-known_by : (own : PeerId) (o piece : List ℕ) (h : Hearing) (known : Option PeerId) (start items : List Item) → h ≡ conn_after own o → start ≡ [] → Brings own o piece h.identity known start items → known ≡ identity_in (arrivals own (o ++ piece))
+known_by : (own : PeerId) (o piece : List ℕ) (h : ConnHearing) (known : Option PeerId) (start items : List Item) → h ≡ conn_after own o → start ≡ [] → Brings own o piece h.identity known start items → known ≡ identity_in (arrivals own (o ++ piece))
 known_by own o piece h known start items e none b =
     b.identity ∙ ap (λ (l : List Arrival). option_or h.identity (identity_in l)) (new_of own o piece start items none b.added)
-    ∙ ap (λ (x : Hearing). option_or x.identity (identity_in (new_arrivals own o piece))) e
+    ∙ ap (λ (x : ConnHearing). option_or x.identity (identity_in (new_arrivals own o piece))) e
     ∙ sym (identity_in-append (arrivals own o) (new_arrivals own o piece)) ∙ ap identity_in (sym (arrivals_grow own o piece))
 
-hears : (own : PeerId) (o piece : List ℕ) (now : Hearing) (start items : List Item) → fault_in own o ≡ None → start ≡ [] → Adds (Dealer own) Whole o piece start items → now ≡ conn_after own (o ++ piece) → Hears own o piece now [] (arrivals_in items)
+hears : (own : PeerId) (o piece : List ℕ) (now : ConnHearing) (start items : List Item) → fault_in own o ≡ None → start ≡ [] → Adds (Dealer own) Whole o piece start items → now ≡ conn_after own (o ++ piece) → Hears own o piece now [] (arrivals_in items)
 hears own o piece now start items fine none a e = record { now_is = e; appended = new_of own o piece start items none a; arrived = arrivals_grow own o piece; completes = (goes own o piece).faultless fine }
 
-pub heard : (own : PeerId) (o piece : List ℕ) (h : Hearing) (r new : Reading) (known : Option PeerId) (start items : List Item) → h ≡ conn_after own o → h.phase ≡ Live r → start ≡ []
+pub heard : (own : PeerId) (o piece : List ℕ) (h : ConnHearing) (r new : Reading) (known : Option PeerId) (start items : List Item) → h ≡ conn_after own o → h.phase ≡ Live r → start ≡ []
     → Reads (Dealer own) Whole (o ++ piece) new × Brings own o piece h.identity known start items
-    → let now : Hearing = record { phase = Live new; identity = known } in (fault_in own (o ++ piece) ≡ None) × Adds (Dealer own) Whole o piece start items × Hears own o piece now [] (arrivals_in items)
+    → let now : ConnHearing = record { phase = Live new; identity = known } in (fault_in own (o ++ piece) ≡ None) × Adds (Dealer own) Whole o piece start items × Hears own o piece now [] (arrivals_in items)
 heard own o piece h r new known start items e live none a =
     let fine = (live_reads own o h r e live).faultless in
     (a.0.faultless, a.1.added, hears own o piece _ start items fine none a.1.added (is_live own (o ++ piece) new known a.0 (known_by own o piece h known start items e none a.1)))
 
-pub refused : (own : PeerId) (o piece : List ℕ) (h : Hearing) (r : Reading) (fault : FeedFault) (phase : Phase) (known : Option PeerId) (start items : List Item) → h ≡ conn_after own o → h.phase ≡ Live r → start ≡ []
+pub refused : (own : PeerId) (o piece : List ℕ) (h : ConnHearing) (r : Reading) (fault : FeedFault) (phase : Phase) (known : Option PeerId) (start items : List Item) → h ≡ conn_after own o → h.phase ≡ Live r → start ≡ []
     → phase ≡ Spent → Refuses fault (fault_in own (o ++ piece)) (Brings own o piece h.identity known start items)
-    → let now : Hearing = record { phase = phase; identity = known } in Refuses fault (fault_in own (o ++ piece)) (Adds (Dealer own) Whole o piece start items × Hears own o piece now [] (arrivals_in items))
+    → let now : ConnHearing = record { phase = phase; identity = known } in Refuses fault (fault_in own (o ++ piece)) (Adds (Dealer own) Whole o piece start items × Hears own o piece now [] (arrivals_in items))
 refused own o piece h r (Zmtp x) phase known start items e live none ended a =
     let fine = (live_reads own o h r e live).faultless in
     (a.0, (a.1.added, hears own o piece _ start items fine none a.1.added (is_spent_by own (o ++ piece) x phase known ended a.0 (known_by own o piece h known start items e none a.1))))
@@ -147,14 +147,14 @@ refused own o piece h r OutOfMemory phase known start items e live none ended a 
 
 -- ---- arrivals in place of items
 
-onto : (own : PeerId) (o piece : List ℕ) (now : Hearing) (came out out' : List Arrival) → out' ≡ out ++ came → Hears own o piece now [] came → Hears own o piece now out out'
+onto : (own : PeerId) (o piece : List ℕ) (now : ConnHearing) (came out out' : List Arrival) → out' ≡ out ++ came → Hears own o piece now [] came → Hears own o piece now out out'
 onto own o piece now came out out' a h = record { now_is = h.now_is; appended = a ∙ ap (λ (l : List Arrival). out ++ l) h.appended; arrived = h.arrived; completes = h.completes }
 
-pub heard_onto : (own : PeerId) (o piece : List ℕ) (now : Hearing) (start items : List Item) (out out' : List Arrival) → out' ≡ out ++ arrivals_in items
+pub heard_onto : (own : PeerId) (o piece : List ℕ) (now : ConnHearing) (start items : List Item) (out out' : List Arrival) → out' ≡ out ++ arrivals_in items
     → (fault_in own (o ++ piece) ≡ None) × Adds (Dealer own) Whole o piece start items × Hears own o piece now [] (arrivals_in items) → (fault_in own (o ++ piece) ≡ None) × Hears own o piece now out out'
 heard_onto own o piece now start items out out' a h = (h.0, onto own o piece now (arrivals_in items) out out' a h.2)
 
-pub refused_onto : (own : PeerId) (o piece : List ℕ) (now : Hearing) (fault : FeedFault) (start items : List Item) (out out' : List Arrival) → out' ≡ out ++ arrivals_in items
+pub refused_onto : (own : PeerId) (o piece : List ℕ) (now : ConnHearing) (fault : FeedFault) (start items : List Item) (out out' : List Arrival) → out' ≡ out ++ arrivals_in items
     → Refuses fault (fault_in own (o ++ piece)) (Adds (Dealer own) Whole o piece start items × Hears own o piece now [] (arrivals_in items)) → Refuses fault (fault_in own (o ++ piece)) (Hears own o piece now out out')
 refused_onto own o piece now (Zmtp x) start items out out' a h = (h.0, onto own o piece now (arrivals_in items) out out' a h.1.1)
 refused_onto own o piece now OutOfMemory start items out out' a h = tt

@@ -33,7 +33,7 @@ identity_in (a ∷ rest) = option_or (introduced a) (identity_in rest)
 -- ---- what contracts see of a connection
 
 -- what it does with octets, and whom it shook hands with
-pub record Hearing : Type 0 where
+pub record ConnHearing : Type 0 where
   pub phase : Phase
   pub identity : Option PeerId
 
@@ -48,12 +48,12 @@ phase_by None r = Live r
 phase_by (Some f) r = Spent
 
 -- the connection after the octets o, which came in whichever pieces
-abbrev pub conn_after : PeerId → List ℕ → Hearing
+abbrev pub conn_after : PeerId → List ℕ → ConnHearing
 conn_after own o =
     record { phase = phase_by (fault_in own o) (reading (Dealer own) Whole o); identity = identity_in (arrivals own o) }
 
 -- the same connection, ignored from now on
-abbrev pub ignoring : Hearing → Hearing
+abbrev pub ignoring : ConnHearing → ConnHearing
 ignoring h = record { phase = Ignored; identity = h.identity }
 
 -- it is ignored, by its phase
@@ -63,7 +63,7 @@ is_ignored_in Spent = false
 is_ignored_in Ignored = true
 
 -- it is ignored
-abbrev pub is_ignored : Hearing → Bool
+abbrev pub is_ignored : ConnHearing → Bool
 is_ignored h = is_ignored_in h.phase
 
 -- a piece was refused, by its phase
@@ -73,7 +73,7 @@ is_spent_in Spent = true
 is_spent_in Ignored = false
 
 -- a piece was refused
-abbrev pub is_spent : Hearing → Bool
+abbrev pub is_spent : ConnHearing → Bool
 is_spent h = is_spent_in h.phase
 
 -- how many octets are kept, by its phase
@@ -83,7 +83,7 @@ kept_in Spent = 0
 kept_in Ignored = 0
 
 -- how many octets are kept
-abbrev pub kept_of : Hearing → ℕ
+abbrev pub kept_of : ConnHearing → ℕ
 kept_of h = kept_in h.phase
 
 -- ---- what a piece does
@@ -96,7 +96,7 @@ pub record Brings (own : PeerId) (o piece : List ℕ) (known known' : Option Pee
 
 -- After the octets o a piece was read: what it completes of all that is said is what was appended, and the fault,
 -- where there is one.
-pub record Hears (own : PeerId) (o piece : List ℕ) (now : Hearing) (out out' : List Arrival) : Type 0 where
+pub record Hears (own : PeerId) (o piece : List ℕ) (now : ConnHearing) (out out' : List Arrival) : Type 0 where
   pub now_is : now ≡ conn_after own (o ++ piece)
   pub appended : out' ≡ out ++ new_arrivals own o piece
   pub arrived : arrivals own (o ++ piece) ≡ arrivals own o ++ new_arrivals own o piece
@@ -104,14 +104,15 @@ pub record Hears (own : PeerId) (o piece : List ℕ) (now : Hearing) (out out' :
       ++ fault_said (fault_in own (o ++ piece))
 
 -- The piece was read, whatever the connection was before, and has no fault.
-abbrev pub HearsOn : Result (Unit {0}) FeedFault → Hearing → Hearing → List ℕ → List Arrival → List Arrival → Type 0
+abbrev pub HearsOn : Result (Unit {0}) FeedFault → ConnHearing → ConnHearing → List ℕ → List Arrival → List Arrival
+    → Type 0
 HearsOn result was now piece out out' =
     (own : PeerId) (o : List ℕ) → was ≡ conn_after own o →
     OnOk result ((fault_in own (o ++ piece) ≡ None) × Hears own o piece now out out')
 
 -- It was refused: the refusal names the fault that is there, and what comes before it arrived.
-abbrev pub RefusesToHear : Result (Unit {0}) FeedFault → Hearing → Hearing → List ℕ → List Arrival → List Arrival
-    → Type 0
+abbrev pub RefusesToHear : Result (Unit {0}) FeedFault → ConnHearing → ConnHearing → List ℕ → List Arrival
+    → List Arrival → Type 0
 RefusesToHear result was now piece out out' =
     (own : PeerId) (o : List ℕ) → was ≡ conn_after own o →
     IfErr result (λ e. Refuses e (fault_in own (o ++ piece)) (Hears own o piece now out out'))

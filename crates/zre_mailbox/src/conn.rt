@@ -37,9 +37,9 @@ impl Drop for Conn {
 }
 
 impl Model for Conn {
-    ghost use Rattle.zre_mailbox.specs.Conn.{Hearing};
+    ghost use Rattle.zre_mailbox.specs.Conn.{ConnHearing};
 
-    ghost Value = { Hearing };
+    ghost Value = { ConnHearing };
 
     ghost view = { λ c. record { phase = c.phase; identity = c.identity } };
 }

@@ -1,7 +1,7 @@
 -- Commands whose fields are lent, as the messages that they are of.
 use Rattle.std.specs.Prelude.{◌≡◌, ℕ, List, Result, Ok, Err}
-use Rattle.zre_msg.specs.declared.commands.Command.{Command}
-use Rattle.zre_msg.specs.declared.commands.Command.TheVariants as lent
+use Rattle.zre_msg.specs.declared.commands.LentBody.{LentBody}
+use Rattle.zre_msg.specs.declared.commands.LentBody.TheVariants as lent
 use Rattle.zre_msg.specs.declared.message.Body.{Body}
 use Rattle.zre_msg.specs.declared.message.Body.TheVariants.{Whisper, Shout, Join, Leave, Ping, PingOk, Other}
 use Rattle.zre_msg.specs.declared.message.Message.{Message}
@@ -9,7 +9,7 @@ use Rattle.zre_msg.specs.declared.message.ReadFault.{ReadFault}
 use Rattle.zre_msg.specs.declared.message.ReadFault.TheVariants as read
 
 -- the body of the message, with the frames after the first
-abbrev pub body_of : Command → List (List ℕ) → Body
+abbrev pub body_of : LentBody → List (List ℕ) → Body
 body_of lent.Whisper more = Whisper more
 body_of (lent.Shout group) more = Shout group.now more
 body_of (lent.Join group status) more = Join group.now status

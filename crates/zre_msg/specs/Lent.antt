@@ -1,7 +1,7 @@
 -- Messages that lie in their frames, as the messages that they are.
 use Rattle.std.specs.Prelude.{◌≡◌, ◌≤◌, ℕ, List, [], length, slice_index, slice_index_or, Option, Some, None, Result}
 use Rattle.std.specs.Prelude.{Ok, Err}
-use Rattle.zre_msg.specs.declared.commands.Command.{Command}
+use Rattle.zre_msg.specs.declared.commands.LentBody.{LentBody}
 use Rattle.zre_msg.specs.declared.lent.LentMessage.{LentMessage}
 use Rattle.zre_msg.specs.declared.message.Message.{Message}
 use Rattle.zre_msg.specs.declared.message.ReadFault.{ReadFault}
@@ -20,7 +20,7 @@ pub record OpensHello (first : List ℕ) : Type 0 where
 
 -- a call gave the sequence and the command of a first frame with those after it, or nothing of HELLO, or answered with
 -- what is wrong with them
-abbrev pub Opens : Result (Option (ℕ × Command)) ReadFault → List ℕ → List (List ℕ) → Type 0
+abbrev pub Opens : Result (Option (ℕ × LentBody)) ReadFault → List ℕ → List (List ℕ) → Type 0
 Opens (Ok (Some x)) first more = read_of first more ≡ Ok (record { sequence = x.0; body = body_of x.1 more })
 Opens (Ok None) first more = OpensHello first
 Opens (Err e) first more = Answers (Err e) (read_of first more)

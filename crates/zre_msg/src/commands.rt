@@ -18,7 +18,7 @@ use zre_values::{Octets, OutOfMemory, Pairs};
 
 /// A command other than HELLO, with the fields that its frame lends: those of `Body`, but for the content.
 #[derive(Clone, Copy)]
-pub enum Command<'a> {
+pub enum LentBody<'a> {
     /// WHISPER, number 2.
     Whisper,
     /// SHOUT, number 3, to this group.
@@ -99,36 +99,36 @@ fn read_change(octets: &[u8]) -> Result<(&[u8], u8, &[u8]), Stop>
 }
 
 #[tactic(auto, unfolding(crate::specs::Reading::shout_at))]
-fn read_shout(octets: &[u8]) -> Result<(Command<'_>, &[u8]), Stop>
+fn read_shout(octets: &[u8]) -> Result<(LentBody<'_>, &[u8]), Stop>
     ensures { (more : List (List ℕ)) → Gives (λ x. (body_of x.0 more, x.1.now)) result (shout_at more octets.now) }
 {
     let (group, rest) = lent_string_at(octets)?;
-    Ok((Command::Shout { group }, rest))
+    Ok((LentBody::Shout { group }, rest))
 }
 
 /// The command with this number, which isn't that of HELLO, and the octets that are left over after its fields.
 #[tactic(auto, unfolding(crate::specs::Reading::join_at, crate::specs::Reading::leave_at))]
-pub fn read_command(number: u8, octets: &[u8]) -> Result<(Command<'_>, &[u8]), Stop>
+pub fn read_command(number: u8, octets: &[u8]) -> Result<(LentBody<'_>, &[u8]), Stop>
     requires { number ≢ 1 }
     ensures { (more : List (List ℕ))
         → Gives (λ x. (body_of x.0 more, x.1.now)) result (body_at number more octets.now) }
 {
     match number {
-        2 => Ok((Command::Whisper, octets)),
+        2 => Ok((LentBody::Whisper, octets)),
         3 => read_shout(octets),
         4 => {
             let (group, status, rest) = read_change(octets)?;
-            Ok((Command::Join { group, status }, rest))
+            Ok((LentBody::Join { group, status }, rest))
         }
         5 => {
             let (group, status, rest) = read_change(octets)?;
-            Ok((Command::Leave { group, status }, rest))
+            Ok((LentBody::Leave { group, status }, rest))
         }
-        6 => Ok((Command::Ping, octets)),
-        7 => Ok((Command::PingOk, octets)),
+        6 => Ok((LentBody::Ping, octets)),
+        7 => Ok((LentBody::PingOk, octets)),
         _ => {
             let (rest, end) = octets.split_at(octets.len());
-            Ok((Command::Other { number, rest }, end))
+            Ok((LentBody::Other { number, rest }, end))
         }
     }
 }
@@ -180,31 +180,31 @@ fn other(alloc: Global, number: u8, rest: &[u8], further: Further<'_>) -> Result
     }
 }
 
-impl<'a> Command<'a> {
+impl<'a> LentBody<'a> {
     // The body of the message. Its content is the frames after the first.
     fn body(self, alloc: Global, further: Further<'_>) -> Result<Body, OutOfMemory>
         ensures { IfOk result (λ body. body ≡ body_of self.entry (frames_of further.entry)) }
     {
         match self {
-            Command::Whisper => whisper(alloc, further),
-            Command::Shout { group } => shout(alloc, group, further),
-            Command::Join { group, status } => {
+            LentBody::Whisper => whisper(alloc, further),
+            LentBody::Shout { group } => shout(alloc, group, further),
+            LentBody::Join { group, status } => {
                 drop(further);
                 join(alloc, group, status)
             }
-            Command::Leave { group, status } => {
+            LentBody::Leave { group, status } => {
                 drop(further);
                 leave(alloc, group, status)
             }
-            Command::Ping => {
+            LentBody::Ping => {
                 drop(further);
                 Ok(Body::Ping)
             }
-            Command::PingOk => {
+            LentBody::PingOk => {
                 drop(further);
                 Ok(Body::PingOk)
             }
-            Command::Other { number, rest } => other(alloc, number, rest, further),
+            LentBody::Other { number, rest } => other(alloc, number, rest, further),
         }
     }
 

@@ -9,7 +9,7 @@ ghost use Rattle.zre_msg.specs.Lent.{Opens, Sees};
 ghost use Rattle.zre_msg.specs.Spelling.{Means};
 ghost use Rattle.zre_msg.specs.declared.message.Message.{Message as MessageValue};
 
-use crate::commands::{Command, is_single, read_command, read_hello};
+use crate::commands::{LentBody, is_single, read_command, read_hello};
 use crate::fields::Stop;
 use crate::further::Further;
 use crate::lent::LentMessage;
@@ -121,7 +121,7 @@ fn read_hello_frame(
 fn read_first<'a>(
     first: &'a [u8],
     further: &Further<'_>,
-) -> Result<Option<(u16, Command<'a>)>, ReadFault>
+) -> Result<Option<(u16, LentBody<'a>)>, ReadFault>
     requires { length first.now < 2 ^ 32 }
     ensures { Opens result first.now (frames_of further.now) }
 {

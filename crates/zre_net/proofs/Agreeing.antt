@@ -46,7 +46,7 @@ use Rattle.zre_net.specs.Carried.{spelling, pending}
 use Rattle.zre_net.specs.Grammar.{can_carry}
 use Rattle.zre_net.specs.History.{Incarnation, Happening, IsKnown, journal, chronicle_of}
 use Rattle.zre_net.specs.Lists.{nth}
-use Rattle.zre_net.specs.Numbers.{Route, Conn, conns, queued_on}
+use Rattle.zre_net.specs.Numbers.{Route, CarriedConn, conns, queued_on}
 use Rattle.zre_net.proofs.Carrying.{streamed, Carries}
 use Rattle.zre_net.proofs.Journals.{same_who}
 use Rattle.zre_net.proofs.Listing.{some_one, all_at}
@@ -149,7 +149,7 @@ uttered s H part.Greeting = Greeting
 uttered s H part.Ready = Ready
 uttered s H (part.Message k) = utter (nth k (queued_on s H))
 
-module _ (H : List Happening) (c : Conn) (readable : AllByRecursion IsReadable (queued_on c.along H)) where
+module _ (H : List Happening) (c : CarriedConn) (readable : AllByRecursion IsReadable (queued_on c.along H)) where
   abbrev said : List Part → List Utterance
   said ps = map (uttered c.along H) ps
 
@@ -206,17 +206,17 @@ module _ (H : List Happening) (s : Carries H) (near : IsWithinWindow H) (b : Inc
   abbrev L : Ledger
   L = ledger_of H
 
-  readable : (x : ℕ) (c : Conn) → nth x (conns H) ≡ Some c → AllByRecursion IsReadable (queued_on c.along H)
+  readable : (x : ℕ) (c : CarriedConn) → nth x (conns H) ≡ Some c → AllByRecursion IsReadable (queued_on c.along H)
   readable x c e = are_readable c.along.from.settings (journal c.along.from H) (s.can c.along.from ((s.each x c e).from_known)) c.along.link
 
-  abbrev us : (x : ℕ) (c : Conn) → nth x (conns H) ≡ Some c → List Utterance
+  abbrev us : (x : ℕ) (c : CarriedConn) → nth x (conns H) ≡ Some c → List Utterance
   us x c e = said H c (readable x c e) (carried x H)
 
-  abbrev who : Conn → PeerId
+  abbrev who : CarriedConn → PeerId
   who c = c.along.from.settings.id
 
   -- what came of a connection that opened here
-  come : (x : ℕ) (c : Conn) (e : nth x (conns H) ≡ Some c) → c.to ≡ b → was_opened x A ≡ true → arrivals g.id (bytes x A ++ pending x H) ≡ heard_of g.id (who c) (us x c e)
+  come : (x : ℕ) (c : CarriedConn) (e : nth x (conns H) ≡ Some c) → c.to ≡ b → was_opened x A ≡ true → arrivals g.id (bytes x A ++ pending x H) ≡ heard_of g.id (who c) (us x c e)
   come x c e here o =
       let k = s.each x c e in
       ap (arrivals g.id) (subst (λ d. was_opened x (chronicle_of d H) ≡ true → bytes x (chronicle_of d H) ++ pending x H ≡ streamed c.along H (carried x H)) here k.octets o ∙ same_octets H c (readable x c e) (carried x H) k.sayable)
@@ -228,7 +228,7 @@ module _ (H : List Happening) (s : Carries H) (near : IsWithinWindow H) (b : Inc
   none_picked : (sent : List Message) (picks : List ℕ) (x : ℕ) → was_opened x A ≡ false → ArePicked sent picks (heard_on g x A)
   none_picked sent picks x o = subst (ArePicked sent picks) (sym (quiet x o)) tt
 
-  here_picked : (x : ℕ) (c : Conn) (e : nth x (conns H) ≡ Some c) → c.to ≡ b → was_opened x A ≡ true → ArePicked (queued_on c.along H) (filter_map number_in (carried x H)) (heard_on g x A)
+  here_picked : (x : ℕ) (c : CarriedConn) (e : nth x (conns H) ≡ Some c) → c.to ≡ b → was_opened x A ≡ true → ArePicked (queued_on c.along H) (filter_map number_in (carried x H)) (heard_on g x A)
   here_picked x c e here o =
       let k = s.each x c e in
       let grown = (goes g.id (bytes x A) (pending x H)).arrived in
@@ -237,7 +237,7 @@ module _ (H : List Happening) (s : Carries H) (near : IsWithinWindow H) (b : Inc
       let p = front_picked (queued_on c.along H) (filter_map number_in (carried x H)) _ f.0 (subst (ArePicked (queued_on c.along H) (filter_map number_in (carried x H))) all (picked H c (readable x c e) (carried x H) k.sayable)) in
       subst (ArePicked (queued_on c.along H) (filter_map number_in (carried x H))) (sym (heard_arrived (fault_in g.id (bytes x A)) (arrivals g.id (bytes x A)))) (front_picked (queued_on c.along H) (filter_map number_in (carried x H)) (arrived (arrivals g.id (bytes x A))) _ p)
 
-  one_picked : (x : ℕ) (o : Option Conn) → nth x (conns H) ≡ o → ArePicked (option_map_or (λ (c : Conn). queued_on c.along H) o []) (filter_map number_in (carried x H)) (heard_on g x A)
+  one_picked : (x : ℕ) (o : Option CarriedConn) → nth x (conns H) ≡ o → ArePicked (option_map_or (λ (c : CarriedConn). queued_on c.along H) o []) (filter_map number_in (carried x H)) (heard_on g x A)
   one_picked x None e = none_picked [] (filter_map number_in (carried x H)) x (s.unopened x e b known)
   one_picked x (Some c) e = by (eqb b.number c.to.number) refl (was_opened x A) refl
     where
@@ -246,7 +246,7 @@ module _ (H : List Happening) (s : Carries H) (near : IsWithinWindow H) (b : Inc
       by true z false w = none_picked (queued_on c.along H) (filter_map number_in (carried x H)) x w
       by true z true w = here_picked x c e (same_who H c.to b ((s.each x c e).to_known) known (sym (eqb-true b.number c.to.number z))) w
 
-  one_numbered : (x : ℕ) (o : Option Conn) → nth x (conns H) ≡ o → IsNumbered (option_map_or (λ (c : Conn). queued_on c.along H) o [])
+  one_numbered : (x : ℕ) (o : Option CarriedConn) → nth x (conns H) ≡ o → IsNumbered (option_map_or (λ (c : CarriedConn). queued_on c.along H) o [])
   one_numbered x None e = λ i m z. absurd (let w : None ≡ Some m = z in cc)
   one_numbered x (Some c) e = (spoke_truly c.along.from.settings (journal c.along.from H) (s.can c.along.from ((s.each x c e).from_known))).are_numbered c.along.link
 
@@ -279,14 +279,14 @@ module _ (H : List Happening) (s : Carries H) (near : IsWithinWindow H) (b : Inc
     opened = ap (was_opened x) at ∙ still_opened x later K (any_has (λ y. was_opened y K ≡ true) x (open_ones K) now.proper.opening.were_opened (now.proper.running.is_heard x v.link is_run start.1))
 
     record IsFound : Type 0 where
-      c : Conn
+      c : CarriedConn
       there : nth x (conns H) ≡ Some c
       here : c.to ≡ b
 
     found : IsFound
     found = by (nth x (conns H)) refl
       where
-        by : (o : Option Conn) → nth x (conns H) ≡ o → IsFound
+        by : (o : Option CarriedConn) → nth x (conns H) ≡ o → IsFound
         by None e = absurd (true≢false (sym opened ∙ s.unopened x e b known))
         by (Some c) e = at_b (eqb b.number c.to.number) refl
           where
@@ -294,7 +294,7 @@ module _ (H : List Happening) (s : Carries H) (near : IsWithinWindow H) (b : Inc
             at_b true z = record { c = c; there = e; here = same_who H c.to b ((s.each x c e).to_known) known (sym (eqb-true b.number c.to.number z)) }
             at_b false z = absurd (true≢false (sym opened ∙ (s.each x c e).elsewhere b known z))
 
-    abbrev c : Conn
+    abbrev c : CarriedConn
     c = found.c
 
     abbrev sent : List Message
@@ -309,7 +309,7 @@ module _ (H : List Happening) (s : Carries H) (near : IsWithinWindow H) (b : Inc
     first : counted v.link K ≡ take n sent
     first =
         let more = each_grows (message_on x) later K in
-        let all : counted_on x K ++ more.0 ≡ take (length (counted_on x A)) sent = sym (ap (counted_on x) at ∙ more.1) ∙ kept.are_first x ∙ ap (λ o. take (length (counted_on x A)) (option_map_or (λ (d : Conn). queued_on d.along H) o [])) found.there in
+        let all : counted_on x K ++ more.0 ≡ take (length (counted_on x A)) sent = sym (ap (counted_on x) at ∙ more.1) ∙ kept.are_first x ∙ ap (λ o. take (length (counted_on x A)) (option_map_or (λ (d : CarriedConn). queued_on d.along H) o [])) found.there in
         same ∙ take_front (length (counted_on x A)) (counted_on x K) sent more.0 all ∙ ap (λ (ms : List Message). take (length ms) sent) (sym same)
 
     some : 1 ≤ n

@@ -25,9 +25,9 @@ use Rattle.zre_net.specs.Agreement.{carried}
 use Rattle.zre_net.specs.Carried.{spelling, pending}
 use Rattle.zre_net.specs.Comes.{turn_of}
 use Rattle.zre_net.specs.Grammar.{can_carry}
-use Rattle.zre_net.specs.History.{Incarnation, Turn, Happening, Happens, IsKnown, incarnations, running, journal, chronicle_of, settings_of}
+use Rattle.zre_net.specs.History.{Incarnation, NodeTurn, Happening, Happens, IsKnown, incarnations, running, journal, chronicle_of, settings_of}
 use Rattle.zre_net.specs.Lists.{nth}
-use Rattle.zre_net.specs.Numbers.{Route, Conn, acts_of, route_in, routes, conns, queued_on}
+use Rattle.zre_net.specs.Numbers.{Route, CarriedConn, acts_of, route_in, routes, conns, queued_on}
 use Rattle.zre_net.proofs.Grows.{links_grow}
 use Rattle.zre_net.proofs.Journals.{length-last, same_who, other_journal, chronicle_now, other_chronicle}
 use Rattle.zre_net.proofs.Listing.{some_one, nth_more, nth_cases, all_more, all_map, past_all}
@@ -40,7 +40,7 @@ use Rattle.zre_net.proofs.Staying.{starting, after_start, known_started, number_
 abbrev pub streamed : Route → List Happening → List Part → List ℕ
 streamed s H ps = flat_map (spelling s H) ps
 
-pub record IsCarried (H : List Happening) (x : ℕ) (c : Conn) : Type 0 where
+pub record IsCarried (H : List Happening) (x : ℕ) (c : CarriedConn) : Type 0 where
   pub number : c.number ≡ x
   pub to_known : IsKnown H c.to
   pub from_known : IsKnown H c.along.from
@@ -54,7 +54,7 @@ pub record Carries (H : List Happening) : Type 0 where
   pub runs : (n : ℕ) (a : Incarnation) → running n H ≡ Some a → IsKnown H a
   pub owners : AllByRecursion (λ (s : Route). IsKnown H s.from) (routes H)
   pub silent : (a : Incarnation) → length (incarnations H) < a.number → journal a H ≡ []
-  pub each : (x : ℕ) (c : Conn) → nth x (conns H) ≡ Some c → IsCarried H x c
+  pub each : (x : ℕ) (c : CarriedConn) → nth x (conns H) ≡ Some c → IsCarried H x c
   pub none_yet : (x : ℕ) → nth x (conns H) ≡ None → carried x H ≡ []
   pub unopened : (x : ℕ) → nth x (conns H) ≡ None → (b : Incarnation) → IsKnown H b → was_opened x (chronicle_of b H) ≡ false
 
@@ -68,21 +68,21 @@ module _ (h : Happening) (H : List Happening) where
   message_stays : (s : Route) (k : ℕ) → is_some (nth k (queued_on s H)) ≡ true → nth k (queued_on s (h ∷ H)) ≡ nth k (queued_on s H)
   message_stays s k some = let g = links_grow s h H in ap (nth k) g.1 ∙ some_more (nth k (queued_on s H)) (queued_on s H) g.0 k refl some
 
-  still_sayable : (c : Conn) (p : Part) → can_carry H p c ≡ true → can_carry (h ∷ H) p c ≡ true
+  still_sayable : (c : CarriedConn) (p : Part) → can_carry H p c ≡ true → can_carry (h ∷ H) p c ≡ true
   still_sayable c part.Greeting e = refl
   still_sayable c part.Ready e = refl
   still_sayable c (part.Message k) e = ap (λ o. is_some o) (message_stays c.along k e) ∙ e
 
-  pub all_sayable : (c : Conn) (ps : List Part) → AllByRecursion (λ p. can_carry H p c ≡ true) ps → AllByRecursion (λ p. can_carry (h ∷ H) p c ≡ true) ps
+  pub all_sayable : (c : CarriedConn) (ps : List Part) → AllByRecursion (λ p. can_carry H p c ≡ true) ps → AllByRecursion (λ p. can_carry (h ∷ H) p c ≡ true) ps
   all_sayable c [] a = tt
   all_sayable c (p ∷ ps) a = (still_sayable c p a.0, all_sayable c ps a.1)
 
-  same_spelling : (c : Conn) (p : Part) → can_carry H p c ≡ true → spelling c.along (h ∷ H) p ≡ spelling c.along H p
+  same_spelling : (c : CarriedConn) (p : Part) → can_carry H p c ≡ true → spelling c.along (h ∷ H) p ≡ spelling c.along H p
   same_spelling c part.Greeting e = refl
   same_spelling c part.Ready e = refl
   same_spelling c (part.Message k) e = ap (λ o. option_map_or octets o []) (message_stays c.along k e)
 
-  pub same_stream : (c : Conn) (ps : List Part) → AllByRecursion (λ p. can_carry H p c ≡ true) ps → streamed c.along (h ∷ H) ps ≡ streamed c.along H ps
+  pub same_stream : (c : CarriedConn) (ps : List Part) → AllByRecursion (λ p. can_carry H p c ≡ true) ps → streamed c.along (h ∷ H) ps ≡ streamed c.along H ps
   same_stream c [] a = refl
   same_stream c (p ∷ ps) a = ap (λ o. o ++ streamed c.along (h ∷ H) ps) (same_spelling c p a.0) ∙ ap (λ o. spelling c.along H p ++ o) (same_stream c ps a.1)
 
@@ -106,15 +106,15 @@ not_of x input.End e = refl
 -- ---- an entry comes
 
 module _ (H : List Happening) (s : Carries H) (m : Move) (a : Incarnation) (at : ℕ) (i : Input) (known : IsKnown H a) where
-  abbrev T : Turn
+  abbrev T : NodeTurn
   T = turn_of a at i
 
   abbrev N : List Happening
   N = Happens m (Some T) ∷ H
 
   module _ (still : incarnations N ≡ incarnations H) (brought : (x : ℕ) → carried x N ≡ carried x H)
-      (to_it : (x : ℕ) (c : Conn) → nth x (conns H) ≡ Some c → is_of x i ≡ true → c.to ≡ a)
-      (left : (x : ℕ) (c : Conn) → nth x (conns H) ≡ Some c → piece_of x i ++ pending x N ≡ pending x H) where
+      (to_it : (x : ℕ) (c : CarriedConn) → nth x (conns H) ≡ Some c → is_of x i ≡ true → c.to ≡ a)
+      (left : (x : ℕ) (c : CarriedConn) → nth x (conns H) ≡ Some c → piece_of x i ++ pending x N ≡ pending x H) where
     pub known_now : (b : Incarnation) → IsKnown H b → IsKnown N b
     known_now b e = ap (nth b.number) still ∙ e
 
@@ -130,14 +130,14 @@ module _ (H : List Happening) (s : Carries H) (m : Move) (a : Incarnation) (at :
         by false z = subst (P b) (sym (other_chronicle H m a at i b z)) (q z)
 
     -- it isn't about connections of others
-    not_its : (x : ℕ) (c : Conn) → nth x (conns H) ≡ Some c → eqb c.to.number a.number ≡ false → is_of x i ≡ false
+    not_its : (x : ℕ) (c : CarriedConn) → nth x (conns H) ≡ Some c → eqb c.to.number a.number ≡ false → is_of x i ≡ false
     not_its x c e far = by (is_of x i) refl
       where
         by : (t : Bool) → is_of x i ≡ t → t ≡ false
         by true z = absurd (true≢false (sym (eq-eqb c.to.number a.number (ap (λ (b : Incarnation). b.number) (to_it x c e z))) ∙ far))
         by false z = refl
 
-    pub carried_on : (x : ℕ) (c : Conn) → nth x (conns H) ≡ Some c → IsCarried N x c
+    pub carried_on : (x : ℕ) (c : CarriedConn) → nth x (conns H) ≡ Some c → IsCarried N x c
     carried_on x c e = record {
       number = k.number;
       to_known = known_now c.to k.to_known;
@@ -228,7 +228,7 @@ nothing_comes H s m p = record {
     then : (b : Incarnation) → IsKnown (Happens m None ∷ H) b → IsKnown H b
     then b e = ap (nth b.number) (sym p.0) ∙ e
 
-    one : (x : ℕ) (c : Conn) → IsCarried H x c → IsCarried (Happens m None ∷ H) x c
+    one : (x : ℕ) (c : CarriedConn) → IsCarried H x c → IsCarried (Happens m None ∷ H) x c
     one x c k = record {
       number = k.number;
       to_known = now c.to k.to_known;
@@ -293,7 +293,7 @@ module _ (H : List Happening) (s : Carries H) (n at : ℕ) (id : PeerId) (name h
       by k b true e r = subst (IsKnown S) (some_one r) (starting_known H n at id name host port)
       by k b false e r = known_later b (s.runs k b r)
 
-      one : (x : ℕ) (c : Conn) → IsCarried H x c → IsCarried S x c
+      one : (x : ℕ) (c : CarriedConn) → IsCarried H x c → IsCarried S x c
       one x c k = record {
         number = k.number;
         to_known = known_later c.to k.to_known;

@@ -10,9 +10,9 @@ use Rattle.zre_net.specs.declared.running.network.Network.{Network}
 use Rattle.zre_net.specs.declared.running.rows.Carrier.{Carrier}
 use Rattle.zre_net.specs.Carried.{pending}
 use Rattle.zre_net.specs.Comes.{turn_of}
-use Rattle.zre_net.specs.History.{Incarnation, Turn, Happening, Happens, IsKnown, journal, chronicle_of}
+use Rattle.zre_net.specs.History.{Incarnation, NodeTurn, Happening, Happens, IsKnown, journal, chronicle_of}
 use Rattle.zre_net.specs.Lists.{nth}
-use Rattle.zre_net.specs.Numbers.{Conn, conns}
+use Rattle.zre_net.specs.Numbers.{CarriedConn, conns}
 use Rattle.zre_net.specs.Rows.{Fits}
 use Rattle.zre_net.specs.Running.{AreNodes, HasConn, AreConns, StandsAfter, IsStill, IsKept, IsSilent}
 use Rattle.zre_net.proofs.Hearing.{fits_still, no_piece}
@@ -21,7 +21,7 @@ use Rattle.zre_net.proofs.Journals.{same_who, chronicle_now, other_chronicle}
 use Rattle.zre_net.proofs.Staying.{conn_stays}
 
 module _ (H : List Happening) (m : Move) (still : IsStill m) (a : Incarnation) (at : ℕ) (i : Input) (a_known : IsKnown H a) where
-  abbrev T : Turn
+  abbrev T : NodeTurn
   T = turn_of a at i
 
   abbrev N : List Happening
@@ -51,7 +51,7 @@ module _ (H : List Happening) (m : Move) (still : IsStill m) (a : Incarnation) (
       b (known_before b k) (s b (known_before b k))
 
   -- a connection to which nothing comes
-  pub conn_still : (x : ℕ) (c : Conn) (xs ys : List Carrier) → ((y : Carrier) → nth x xs ≡ Some y → nth x ys ≡ Some y) → piece_of c.number i ≡ [] → pending c.number N ≡ pending c.number H → HasConn H x c xs → HasConn N x c ys
+  pub conn_still : (x : ℕ) (c : CarriedConn) (xs ys : List Carrier) → ((y : Carrier) → nth x xs ≡ Some y → nth x ys ≡ Some y) → piece_of c.number i ≡ [] → pending c.number N ≡ pending c.number H → HasConn H x c xs → HasConn N x c ys
   conn_still x c xs ys t p w h = conn_stays H N known_later x c xs ys t (sym w) (λ y k f. fits_other c.number y.ear p c.to k f) h
 
   pub conns_more : IsKept m → IsSilent i → (ys : List Carrier) → AreConns H ys → AreConns N ys

@@ -3,7 +3,7 @@ use Rattle.std.proofs.Common.{◌≡◌, ℕ, ◌-◌, ◌≤◌, eqb, List, [],
 use Rattle.std.specs.List.{AllByRecursion}
 use Rattle.zre_values.specs.declared.peer_id.PeerId.{PeerId}
 use Rattle.zre_outside.specs.declared.entry.Entry.{Entry}
-use Rattle.zre_mailbox.specs.Conn.{Hearing}
+use Rattle.zre_mailbox.specs.Conn.{ConnHearing}
 use Rattle.zre_msg.specs.Spelling.{octets}
 use Rattle.zre_link.specs.Text.{bodies_in, numbered_from, text_of}
 use Rattle.zre_net.specs.declared.running.lines.Line.{Line}
@@ -36,7 +36,7 @@ use Rattle.zre_tables.proofs.Entries.{retold}
 
 -- ---- the tables of a node hold in either
 
-abbrev conn_with : ℕ → Option PeerId → Option ℕ → Option Hearing → Connection
+abbrev conn_with : ℕ → Option PeerId → Option ℕ → Option ConnHearing → Connection
 conn_with n i r h = record { since = n; identity = i; run = r; conn = h }
 
 module _ (g : Config) (K L : List Mark) (s : Sim K L) (octets : (c : ℕ) → bytes c K ≡ bytes c L) where

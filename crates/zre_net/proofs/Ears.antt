@@ -6,7 +6,7 @@ use Rattle.zre_zmtp.specs.Stream.{Whole}
 use Rattle.zre_zmtp.specs.declared.want.Want.TheVariants.{Dealer}
 use Rattle.zre_zmtp.specs.declared.fault.ZmtpFault.{ZmtpFault}
 use Rattle.zre_zmtp.proofs.Feeding.{is_over}
-use Rattle.zre_mailbox.specs.Conn.{Hearing, conn_after, phase_by, reading, identity_in, is_spent, is_ignored, is_spent_in, is_ignored_in, Hears}
+use Rattle.zre_mailbox.specs.Conn.{ConnHearing, conn_after, phase_by, reading, identity_in, is_spent, is_ignored, is_spent_in, is_ignored_in, Hears}
 use Rattle.zre_mailbox.specs.Talk.{Arrived, arrivals, arrivals_in, fault_in, fault_said, new_arrivals, completed}
 use Rattle.zre_mailbox.specs.declared.arrival.Arrival.{Arrival}
 use Rattle.zre_mailbox.proofs.Growing.{goes}
@@ -40,7 +40,7 @@ ended own o more f e =
     }
 
 -- nothing comes after a fault
-pub deaf : (own : PeerId) (o more : List ℕ) (h : Hearing) (b c : Bool) → h ≡ conn_after own o → b ≡ is_ignored h → c ≡ is_spent h → (b || c) ≡ true → (0 ≡ length (completed own o more)) × (h ≡ conn_after own (o ++ more))
+pub deaf : (own : PeerId) (o more : List ℕ) (h : ConnHearing) (b c : Bool) → h ≡ conn_after own o → b ≡ is_ignored h → c ≡ is_spent h → (b || c) ≡ true → (0 ≡ length (completed own o more)) × (h ≡ conn_after own (o ++ more))
 deaf own o more h true c e i s z = absurd (true≢false (i ∙ ap is_ignored e ∙ never_ignored own o))
 deaf own o more h false true e i s z =
     let f = spent_fault own o (sym (s ∙ ap is_spent e)) in
@@ -52,7 +52,7 @@ mapped : (as_ : List Arrival) → length (map (λ a. Arrived a) as_) ≡ length 
 mapped [] = refl
 mapped (a ∷ as_) = let r = mapped as_ in omega (arith, r)
 
-pub heard : (own : PeerId) (o more : List ℕ) (now : Hearing) (out out' : List Arrival) → out ≡ [] → fault_in own (o ++ more) ≡ None → Hears own o more now out out' → length out' ≡ length (completed own o more)
+pub heard : (own : PeerId) (o more : List ℕ) (now : ConnHearing) (out out' : List Arrival) → out ≡ [] → fault_in own (o ++ more) ≡ None → Hears own o more now out out' → length out' ≡ length (completed own o more)
 heard own o more now out out' e n h =
     ap (λ as_. length as_) (h.appended ∙ ap (λ as_. as_ ++ new_arrivals own o more) e) ∙ sym (mapped (new_arrivals own o more))
     ∙ ap (λ xs. length xs) (sym (h.completes ∙ ap (λ f. map (λ a. Arrived a) (new_arrivals own o more) ++ fault_said f) n ∙ append-nil (map (λ a. Arrived a) (new_arrivals own o more))))

@@ -9,7 +9,7 @@ use Rattle.zre_journal.proofs.Joined.{continues}
 use Rattle.zre_net.specs.declared.moves.Move.{Move}
 use Rattle.zre_net.specs.declared.moves.Move.TheVariants as move
 use Rattle.zre_net.specs.Comes.{turn_of}
-use Rattle.zre_net.specs.History.{Incarnation, Turn, Happening, Happens, IsKnown, starts, incarnations, journal, chronicle_of, settings_of}
+use Rattle.zre_net.specs.History.{Incarnation, NodeTurn, Happening, Happens, IsKnown, starts, incarnations, journal, chronicle_of, settings_of}
 use Rattle.zre_net.specs.Lists.{nth}
 use Rattle.zre_net.proofs.Listing.{some_one}
 
@@ -34,7 +34,7 @@ same_who H a b p q e = some_one (sym p ∙ ap (λ n. nth n (incarnations H)) e �
 -- ---- journals
 
 module _ (H : List Happening) (m : Move) (a : Incarnation) (at : ℕ) (i : Input) where
-  abbrev T : Turn
+  abbrev T : NodeTurn
   T = turn_of a at i
 
   abbrev N : List Happening

@@ -28,7 +28,7 @@ mod Rooms
 mod Runs
 mod Same
 mod Sending
-mod Sent
+mod SentBeacon
 mod Short
 mod Starting
 mod Staying

@@ -18,9 +18,9 @@ use Rattle.zre_net.specs.Agreement.{carried}
 use Rattle.zre_net.specs.Carried.{spelling, appended, pending}
 use Rattle.zre_net.specs.Comes.{turn_of, with_move, at_broadcast}
 use Rattle.zre_net.specs.Grammar.{agrees, can_carry, is_there, may_come, passes}
-use Rattle.zre_net.specs.History.{Incarnation, Turn, Happening, Happens, IsKnown, incarnations, running, journal, chronicle_of}
+use Rattle.zre_net.specs.History.{Incarnation, NodeTurn, Happening, Happens, IsKnown, incarnations, running, journal, chronicle_of}
 use Rattle.zre_net.specs.Lists.{nth}
-use Rattle.zre_net.specs.Numbers.{Broadcast, Route, Conn, routes, broadcasts, conns, conn_of}
+use Rattle.zre_net.specs.Numbers.{Broadcast, Route, CarriedConn, routes, broadcasts, conns, conn_of}
 use Rattle.zre_net.proofs.Journals.{chronicle_now, other_chronicle}
 use Rattle.zre_net.proofs.Listing.{some_one, nth_past, nth_more, nth_last, nth_cases, all_at}
 use Rattle.zre_net.proofs.Opened.{IsOld, bytes_same, new_old}
@@ -34,14 +34,14 @@ module _ (H : List Happening) (s : Carries H) (x : ℕ) (p : Part) (may : may_co
   C = Happens (move.Carry x p) None ∷ H
 
   record IsFit : Type 0 where
-    c : Conn
+    c : CarriedConn
     there : nth x (conns H) ≡ Some c
     fits : can_carry H p c ≡ true
 
   its : IsFit
   its = by (nth x (conns H)) refl may
     where
-      by : (o : Option Conn) → nth x (conns H) ≡ o → passes (can_carry H p) o ≡ true → IsFit
+      by : (o : Option CarriedConn) → nth x (conns H) ≡ o → passes (can_carry H p) o ≡ true → IsFit
       by None e z = absurd (true≢false (sym z))
       by (Some c) e z = record { c = c; there = e; fits = z }
 
@@ -58,11 +58,11 @@ module _ (H : List Happening) (s : Carries H) (x : ℕ) (p : Part) (may : may_co
       by true z = absurd (let w : None ≡ Some its.c = sym e ∙ ap (λ j. nth j (conns H)) (eqb-true y x z) ∙ its.there in cc)
       by false z = refl
 
-  all_last : (c : Conn) (ps : List Part) → AllByRecursion (λ q. can_carry C q c ≡ true) ps → can_carry C p c ≡ true → AllByRecursion (λ q. can_carry C q c ≡ true) (ps ++ p ∷ [])
+  all_last : (c : CarriedConn) (ps : List Part) → AllByRecursion (λ q. can_carry C q c ≡ true) ps → can_carry C p c ≡ true → AllByRecursion (λ q. can_carry C q c ≡ true) (ps ++ p ∷ [])
   all_last c [] a e = (e, tt)
   all_last c (q ∷ ps) a e = (a.0, all_last c ps a.1 e)
 
-  more_carried : (y : ℕ) (d : Conn) → nth y (conns H) ≡ Some d → IsCarried C y d
+  more_carried : (y : ℕ) (d : CarriedConn) → nth y (conns H) ≡ Some d → IsCarried C y d
   more_carried y d e = by (eqb y x) refl
     where
       k : IsCarried H y d
@@ -79,7 +79,7 @@ module _ (H : List Happening) (s : Carries H) (x : ℕ) (p : Part) (may : may_co
           let same : d ≡ its.c = some_one (sym e ∙ ap (λ j. nth j (conns H)) (eqb-true y x z) ∙ its.there) in
           let fits : can_carry H p d ≡ true = ap (can_carry H p) same ∙ its.fits in
           let now : can_carry C p d ≡ true = (all_sayable (Happens (move.Carry x p) None) H d (p ∷ []) (fits, tt)).0 in
-          let adds : appended x p H ≡ spelling d.along H p = ap (λ o. option_map_or (λ (c : Conn). spelling c.along H p) o []) its.there ∙ ap (λ (c : Conn). spelling c.along H p) (sym same) in
+          let adds : appended x p H ≡ spelling d.along H p = ap (λ o. option_map_or (λ (c : CarriedConn). spelling c.along H p) o []) its.there ∙ ap (λ (c : CarriedConn). spelling c.along H p) (sym same) in
           let spells : spelling d.along C p ≡ spelling d.along H p = sym (append-nil (spelling d.along C p)) ∙ same_stream (Happens (move.Carry x p) None) H d (p ∷ []) (fits, tt) ∙ append-nil (spelling d.along H p) in
           record {
             number = k.number;
@@ -128,7 +128,7 @@ module _ (H : List Happening) (s : Carries H) (g n at : ℕ) (a : Incarnation) (
   abbrev O : List Happening
   O = Happens (move.Open g n at) (Some (turn_of a at i0)) ∷ H
 
-  abbrev c0 : Conn
+  abbrev c0 : CarriedConn
   c0 = record { number = x0; along = r; to = a }
 
   opened : conns O ≡ conns H ++ c0 ∷ []
@@ -143,10 +143,10 @@ module _ (H : List Happening) (s : Carries H) (g n at : ℕ) (a : Incarnation) (
   none_there : nth x0 (conns H) ≡ None
   none_there = nth_past x0 (conns H) (omega arith)
 
-  not_before : (x : ℕ) (c : Conn) → nth x (conns H) ≡ Some c → is_of x i0 ≡ false
+  not_before : (x : ℕ) (c : CarriedConn) → nth x (conns H) ≡ Some c → is_of x i0 ≡ false
   not_before x c e = ne_eqb x x0 (λ z. let w : None ≡ Some c = sym none_there ∙ ap (λ j. nth j (conns H)) (sym z) ∙ e in cc)
 
-  to_it : (x : ℕ) (c : Conn) → nth x (conns H) ≡ Some c → is_of x i0 ≡ true → c.to ≡ a
+  to_it : (x : ℕ) (c : CarriedConn) → nth x (conns H) ≡ Some c → is_of x i0 ≡ true → c.to ≡ a
   to_it x c e z = absurd (true≢false (sym z ∙ not_before x c e))
 
   new_carried : IsCarried O x0 c0
@@ -178,26 +178,26 @@ module _ (H : List Happening) (s : Carries H) (g n at : ℕ) (a : Incarnation) (
     unopened = λ x e. unopened_on H s (move.Open g n at) a at i0 a_known refl (λ y. refl) to_it (λ y c z. refl) x (fewer x e).0 (fewer x e).1;
   }
     where
-      by : (x : ℕ) (c : Conn) → (nth x (conns H) ≡ Some c) ⊎ ((x ≡ x0) × (c ≡ c0)) → IsCarried O x c
+      by : (x : ℕ) (c : CarriedConn) → (nth x (conns H) ≡ Some c) ⊎ ((x ≡ x0) × (c ≡ c0)) → IsCarried O x c
       by x c (inl z) = carried_on H s (move.Open g n at) a at i0 a_known refl (λ y. refl) to_it (λ y d e. refl) x c z
       by x c (inr z) = subst (λ y. IsCarried O y c) (sym z.0) (subst (IsCarried O x0) (sym z.1) new_carried)
 
       fewer : (x : ℕ) → nth x (conns O) ≡ None → (nth x (conns H) ≡ None) × (is_of x i0 ≡ false)
       fewer x e = (none (nth x (conns H)) refl, ne_eqb x x0 (λ z. let w : None ≡ Some c0 = sym e ∙ ap (λ j. nth j (conns O)) z ∙ ap (nth x0) opened ∙ nth_last (conns H) c0 in cc))
         where
-          none : (o : Option Conn) → nth x (conns H) ≡ o → o ≡ None
+          none : (o : Option CarriedConn) → nth x (conns H) ≡ o → o ≡ None
           none None z = refl
           none (Some c) z = absurd (let w : None ≡ Some c = sym e ∙ ap (nth x) opened ∙ nth_more x (conns H) (c0 ∷ []) c z in cc)
 
 -- ---- octets come
 
-module _ (H : List Happening) (s : Carries H) (y count at : ℕ) (d : Conn) (there : nth y (conns H) ≡ Some d) where
+module _ (H : List Happening) (s : Carries H) (y count at : ℕ) (d : CarriedConn) (there : nth y (conns H) ≡ Some d) where
   abbrev ip : Input
   ip = input.Piece y (take count (pending y H))
 
   pieces_on : Carries (Happens (move.Piece y count at) (Some (turn_of d.to at ip)) ∷ H)
   pieces_on = comes_on H s (move.Piece y count at) d.to at ip ((s.each y d there).to_known) refl (λ x. refl)
-      (λ x c e z. ap (λ (k : Conn). k.to) (some_one (sym e ∙ ap (λ j. nth j (conns H)) (eqb-true x y z) ∙ there)))
+      (λ x c e z. ap (λ (k : CarriedConn). k.to) (some_one (sym e ∙ ap (λ j. nth j (conns H)) (eqb-true x y z) ∙ there)))
       (λ x c e. left x (eqb x y) refl) (λ n b r. r) refl
       (λ x e. ne_eqb x y (λ z. let w : None ≡ Some d = sym e ∙ ap (λ j. nth j (conns H)) z ∙ there in cc))
     where
@@ -209,11 +209,11 @@ module _ (H : List Happening) (s : Carries H) (y count at : ℕ) (d : Conn) (the
 
 -- a move that starts, ends and opens nothing, and carries nothing
 record IsPlain (m : Move) : Type 0 where
-  incarnations_stay : (t : Option Turn) (H : List Happening) → incarnations (Happens m t ∷ H) ≡ incarnations H
-  running_stays : (t : Option Turn) (H : List Happening) (n : ℕ) (b : Incarnation) → running n (Happens m t ∷ H) ≡ Some b → running n H ≡ Some b
-  conns_stay : (t : Option Turn) (H : List Happening) → conns (Happens m t ∷ H) ≡ conns H
-  carried_stays : (t : Option Turn) (H : List Happening) (x : ℕ) → carried x (Happens m t ∷ H) ≡ carried x H
-  pending_stays : (t : Option Turn) (H : List Happening) (x : ℕ) → pending x (Happens m t ∷ H) ≡ pending x H
+  incarnations_stay : (t : Option NodeTurn) (H : List Happening) → incarnations (Happens m t ∷ H) ≡ incarnations H
+  running_stays : (t : Option NodeTurn) (H : List Happening) (n : ℕ) (b : Incarnation) → running n (Happens m t ∷ H) ≡ Some b → running n H ≡ Some b
+  conns_stay : (t : Option NodeTurn) (H : List Happening) → conns (Happens m t ∷ H) ≡ conns H
+  carried_stays : (t : Option NodeTurn) (H : List Happening) (x : ℕ) → carried x (Happens m t ∷ H) ≡ carried x H
+  pending_stays : (t : Option NodeTurn) (H : List Happening) (x : ℕ) → pending x (Happens m t ∷ H) ≡ pending x H
 
 module _ (H : List Happening) (s : Carries H) (m : Move) (p : IsPlain m) where
   none_comes : Carries (Happens m None ∷ H)
@@ -262,7 +262,7 @@ step (move.Open g n at) H s may f = by (running n H) refl (nth g (routes H)) ref
 step (move.Carry x p) H s may f = carries_on H s x p may
 step (move.Piece x count at) H s may f = by (nth x (conns H)) refl may
   where
-    by : (o : Option Conn) → nth x (conns H) ≡ o → passes (λ (c : Conn). is_there H c.to && leb count (length (pending x H))) o ≡ true → Carries (Happens (move.Piece x count at) (option_map (λ (c : Conn). turn_of c.to at (input.Piece x (take count (pending x H)))) o) ∷ H)
+    by : (o : Option CarriedConn) → nth x (conns H) ≡ o → passes (λ (c : CarriedConn). is_there H c.to && leb count (length (pending x H))) o ≡ true → Carries (Happens (move.Piece x count at) (option_map (λ (c : CarriedConn). turn_of c.to at (input.Piece x (take count (pending x H)))) o) ∷ H)
     by None e z = absurd (true≢false (sym z))
     by (Some c) e z = pieces_on H s x count at c e
 step (move.Shut x at) H s may f = by (nth x (conns H)) refl
@@ -270,7 +270,7 @@ step (move.Shut x at) H s may f = by (nth x (conns H)) refl
     p : IsPlain (move.Shut x at)
     p = record { incarnations_stay = λ t K. refl; running_stays = λ t K k b r. r; conns_stay = λ t K. refl; carried_stays = λ t K x. refl; pending_stays = λ t K x. refl }
 
-    by : (o : Option Conn) → nth x (conns H) ≡ o → Carries (Happens (move.Shut x at) (option_map (λ (c : Conn). turn_of c.to at (input.Shut x)) o) ∷ H)
+    by : (o : Option CarriedConn) → nth x (conns H) ≡ o → Carries (Happens (move.Shut x at) (option_map (λ (c : CarriedConn). turn_of c.to at (input.Shut x)) o) ∷ H)
     by None e = none_comes H s (move.Shut x at) p
     by (Some c) e = one_comes H s (move.Shut x at) p (input.Shut x) (λ y. refl) at c.to ((s.each x c e).to_known)
 step (move.Linked g at) H s may f = comes_on_link H s (move.Linked g at) (record { incarnations_stay = λ t K. refl; running_stays = λ t K k b r. r; conns_stay = λ t K. refl; carried_stays = λ t K x. refl; pending_stays = λ t K x. refl }) (λ l. input.Linked l) (λ l x. refl) g at (nth g (routes H)) refl

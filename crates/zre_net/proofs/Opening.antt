@@ -13,7 +13,7 @@ use Rattle.zre_net.specs.declared.running.rows.Way.{Way}
 use Rattle.zre_net.specs.Comes.{turn_of, turn}
 use Rattle.zre_net.specs.History.{Incarnation, Happening, Happens, IsKnown, incarnations, running as running_in, journal}
 use Rattle.zre_net.specs.Lists.{nth}
-use Rattle.zre_net.specs.Numbers.{Route, Conn, routes, conns, conn_of}
+use Rattle.zre_net.specs.Numbers.{Route, CarriedConn, routes, conns, conn_of}
 use Rattle.zre_net.specs.Grammar.{may_come}
 use Rattle.zre_net.specs.Lines.{octets_in}
 use Rattle.zre_net.specs.Rows.{Fits, running_at}
@@ -31,7 +31,7 @@ module _ (H : List Happening) (g n at : ℕ) (net new : Network) (s : StandsAfte
   abbrev N : List Happening
   N = Happens (move.Open g n at) (Some (turn_of a at (input.Opened x))) ∷ H
 
-  abbrev c : Conn
+  abbrev c : CarriedConn
   c = record { number = length (conns H) + 1; along = r; to = a }
 
   opened : conns N ≡ conns H ++ c ∷ []
@@ -49,14 +49,14 @@ module _ (H : List Happening) (g n at : ℕ) (net new : Network) (s : StandsAfte
           (fits_new a.settings (journal a H) (turn_of a at (input.Opened x)).entry (length (conns H) + 1) y.ear (ap (λ k. input.Opened k) next) (s.conns_are.silent a known (length (conns H) + 1) (omega arith)) ear);
     }
 
-    each : (k : ℕ) (d : Conn) → nth k (conns N) ≡ Some d → HasConn N k d new.conns.items
+    each : (k : ℕ) (d : CarriedConn) → nth k (conns N) ≡ Some d → HasConn N k d new.conns.items
     each k d e = by (nth_cases k (conns H) c d (ap (nth k) (sym opened) ∙ e))
       where
         by : (nth k (conns H) ≡ Some d) ⊎ ((k ≡ length (conns H) + 1) × (d ≡ c)) → HasConn N k d new.conns.items
         by (inl z) =
             conn_still H (move.Open g n at) (still (move.Open g n at) tt) a at (input.Opened x) known k d net.conns.items new.conns.items (λ w t. ap (nth k) rows ∙ nth_more k net.conns.items (y ∷ []) w t) refl refl (s.conns_are.each k d z)
         by (inr z) = record {
-          number = ap (λ (w : Conn). w.number) z.1 ∙ sym z.0;
+          number = ap (λ (w : CarriedConn). w.number) z.1 ∙ sym z.0;
           row = y;
           there = ap (nth k) rows ∙ ap (λ j. nth j (net.conns.items ++ y ∷ [])) (z.0 ∙ ap (λ l. l + 1) (sym s.conns_are.count)) ∙ nth_last net.conns.items y;
           is = subst (λ w. IsConn N w y) (sym z.1) new_conn;

@@ -7,7 +7,7 @@ use Rattle.zre_net.specs.declared.moves.Move.TheVariants as move
 use Rattle.zre_net.specs.Carried.{spelling, appended, pending}
 use Rattle.zre_net.specs.History.{Happening, Happens, running as running_in}
 use Rattle.zre_net.specs.Lists.{nth}
-use Rattle.zre_net.specs.Numbers.{Conn, routes, conns, conn_of}
+use Rattle.zre_net.specs.Numbers.{CarriedConn, routes, conns, conn_of}
 use Rattle.zre_net.proofs.Journals.{length-last}
 use Rattle.zre_net.proofs.Listing.{nth_past}
 
@@ -24,7 +24,7 @@ no_pending x (Happens m t ∷ H) z = by m z (λ l. no_pending x H l)
     same true o q e f = e
     same false o q e f = f
 
-    grows : (o : Option Conn) → length (conns H) ≤ length (followed (conns H) o)
+    grows : (o : Option CarriedConn) → length (conns H) ≤ length (followed (conns H) o)
     grows None = omega arith
     grows (Some c) = let l = length-last (conns H) c in omega (arith, l)
 
@@ -32,7 +32,7 @@ no_pending x (Happens m t ∷ H) z = by m z (λ l. no_pending x H l)
     by (move.Open g n at) z f = f (let q = grows (conn_of (length (conns H) + 1) (nth g (routes H)) (running_in n H)) in omega (arith, q, z))
     by (move.Carry y p) z f =
         let r = f z in
-        same (eqb x y) (pending x H ++ appended x p H) (pending x H) (ap (λ q. q ++ appended x p H) r ∙ ap (λ o. option_map_or (λ (c : Conn). spelling c.along H p) o []) (nth_past x (conns H) z)) r
+        same (eqb x y) (pending x H ++ appended x p H) (pending x H) (ap (λ q. q ++ appended x p H) r ∙ ap (λ o. option_map_or (λ (c : CarriedConn). spelling c.along H p) o []) (nth_past x (conns H) z)) r
     by (move.Piece y count at) z f =
         let r = f z in
         same (eqb x y) (drop count (pending x H)) (pending x H) (drop-none count (pending x H) r) r

@@ -28,9 +28,9 @@ use Rattle.zre_net.specs.declared.running.rows.Carrier.{Carrier}
 use Rattle.zre_net.specs.Carried.{pending}
 use Rattle.zre_net.specs.Comes.{turn_of, with_move}
 use Rattle.zre_net.specs.Grammar.{may_come, passes, is_there}
-use Rattle.zre_net.specs.History.{Incarnation, Turn, Happening, Happens, IsKnown, incarnations, running, journal, chronicle_of}
+use Rattle.zre_net.specs.History.{Incarnation, NodeTurn, Happening, Happens, IsKnown, incarnations, running, journal, chronicle_of}
 use Rattle.zre_net.specs.Lists.{nth}
-use Rattle.zre_net.specs.Numbers.{Route, Conn, routes, route_in, broadcasts, broadcast_in, conns}
+use Rattle.zre_net.specs.Numbers.{Route, CarriedConn, routes, route_in, broadcasts, broadcast_in, conns}
 use Rattle.zre_net.specs.Rows.{running_at, Fits, IsHeard}
 use Rattle.zre_net.specs.Running.{HasStarted, AreStarted, AreNodes, IsConn, HasConn, StandsAfter, IsPlayed, Receives, sent_of, way_of}
 use Rattle.zre_net.specs.Said.{said_in}
@@ -47,14 +47,14 @@ use Rattle.zre_net.proofs.Staying.{rows_set, start_stays, conn_stays, finds_stay
 
 -- ---- some octets come
 
-module _ (H : List Happening) (x place most at : ℕ) (net : Network) (s : StandsAfter H net) (c : Conn) (there : nth x (conns H) ≡ Some c) (was now : Carrier) (under : x ≡ place + 1) (before : slice_get net.conns.items place ≡ Some was) (b : List ℕ) (heard : IsHeard was most b now) where
+module _ (H : List Happening) (x place most at : ℕ) (net : Network) (s : StandsAfter H net) (c : CarriedConn) (there : nth x (conns H) ≡ Some c) (was now : Carrier) (under : x ≡ place + 1) (before : slice_get net.conns.items place ≡ Some was) (b : List ℕ) (heard : IsHeard was most b now) where
   its : HasConn H x c net.conns.items
   its = s.conns_are.each x c there
 
   is : IsConn H c was
   is = subst (λ w. IsConn H c w) (some_one (sym its.there ∙ nth_at x place net.conns.items under ∙ before)) its.is
 
-  abbrev T : Turn
+  abbrev T : NodeTurn
   T = turn_of c.to at (input.Piece x b)
 
   abbrev N : List Happening
@@ -73,15 +73,15 @@ module _ (H : List Happening) (x place most at : ℕ) (net : Network) (s : Stand
   next_octets = heard.next ∙ ap (take (length b)) waits
 
   pub comes_so : with_move (move.Piece x (length b) at) H ≡ N
-  comes_so = ap (λ o. Happens (move.Piece x (length b) at) (option_map (λ (d : Conn). turn_of d.to at (input.Piece x (take (length b) (pending x H)))) o) ∷ H) there
+  comes_so = ap (λ o. Happens (move.Piece x (length b) at) (option_map (λ (d : CarriedConn). turn_of d.to at (input.Piece x (take (length b) (pending x H)))) o) ∷ H) there
       ∙ ap (λ o. Happens (move.Piece x (length b) at) (Some (turn_of c.to at (input.Piece x o))) ∷ H) (sym next_octets)
 
   module _ (new : Network) (nodes : AreNodes N new) (rows : new.conns.items ≡ slice_set net.conns.items place now) (pending_now : new.pending + length b ≡ net.pending) where
     not_its : (y : ℕ) → eqb y x ≡ false → piece_of y (input.Piece x b) ≡ []
     not_its y z = ap (λ t. cond t b []) z
 
-    conns_now : (y : ℕ) (d : Conn) → nth y (conns H) ≡ Some d → HasConn N y d new.conns.items
-    conns_now = rows_set (λ (d : Conn). d.number) (IsConn H) (IsConn N) (conns H) x place net.conns.items new.conns.items was now under before rows (λ d e m r. subst (λ w. IsConn N w now) (some_one (sym there ∙ e)) mine)
+    conns_now : (y : ℕ) (d : CarriedConn) → nth y (conns H) ≡ Some d → HasConn N y d new.conns.items
+    conns_now = rows_set (λ (d : CarriedConn). d.number) (IsConn H) (IsConn N) (conns H) x place net.conns.items new.conns.items was now under before rows (λ d e m r. subst (λ w. IsConn N w now) (some_one (sym there ∙ e)) mine)
         (λ y d z t h.
         let far : eqb d.number x ≡ false = ap (λ j. eqb j x) h.number ∙ z in
         conn_still H (move.Piece x (length b) at) (still (move.Piece x (length b) at) tt) c.to at (input.Piece x b) is.to_known y d net.conns.items new.conns.items t
@@ -274,7 +274,7 @@ module _ (H : List Happening) (x i j at : ℕ) (w : Incarnation) (known : IsKnow
       pending_is = st.pending_is;
     }
       where
-        one_conn : (y : ℕ) (d : Conn) → HasConn H2 y d net.conns.items → HasConn W y d net.conns.items
+        one_conn : (y : ℕ) (d : CarriedConn) → HasConn H2 y d net.conns.items → HasConn W y d net.conns.items
         one_conn y d h = conn_stays H2 W (λ u q. q) y d net.conns.items net.conns.items (λ r t. t) (pending_same d.number)
             (λ r k q. for_all (λ u Z. Fits u.settings d.number (chronicle u.settings Z) r.ear) (λ u Z. Fits u.settings d.number (chronicle u.settings Z) r.ear) (fits_whole d.number r.ear) (λ u Z p. p) d.to k q) h
 
@@ -292,7 +292,7 @@ take-more (suc i) j [] = taken-none j [] refl ∙ sym (taken-none (suc i + j) []
 take-more (suc i) j (z ∷ o) = ap (λ q. z ∷ q) (take-more i j o) ∙ (let e : suc (i + j) ≡ suc i + j = omega arith in ap (λ k. take k (z ∷ o)) e)
 
 -- octets that come one after the other
-pub pieces_join : (H : List Happening) (x i j at : ℕ) (c : Conn) (net : Network) → nth x (conns H) ≡ Some c → IsKnown H c.to
+pub pieces_join : (H : List Happening) (x i j at : ℕ) (c : CarriedConn) (net : Network) → nth x (conns H) ≡ Some c → IsKnown H c.to
     → StandsAfter (with_move (move.Piece x j at) (with_move (move.Piece x i at) H)) net → StandsAfter (with_move (move.Piece x (i + j) at) H) net
 pieces_join H x i j at c net there known s =
     subst (λ Z. StandsAfter Z net) (sym (once (i + j) H there (take (i + j) (pending x H)) refl))
@@ -302,12 +302,12 @@ pieces_join H x i j at c net there known s =
   where
     once : (n : ℕ) (Z : List Happening) → nth x (conns Z) ≡ Some c → (o : List ℕ) → o ≡ take n (pending x Z) → with_move (move.Piece x n at) Z ≡ Happens (move.Piece x n at) (Some (turn_of c.to at (input.Piece x o))) ∷ Z
     once n Z t o e =
-        ap (λ d. Happens (move.Piece x n at) (option_map (λ (w : Conn). turn_of w.to at (input.Piece x (take n (pending x Z)))) d) ∷ Z) t
+        ap (λ d. Happens (move.Piece x n at) (option_map (λ (w : CarriedConn). turn_of w.to at (input.Piece x (take n (pending x Z)))) d) ∷ Z) t
         ∙ ap (λ q. Happens (move.Piece x n at) (Some (turn_of c.to at (input.Piece x q))) ∷ Z) (sym e)
 
 -- ---- as a move
 
-pub hand_on : (H : List Happening) (x count left came at : ℕ) (c : Conn) (net new : Network) → StandsAfter H net → nth x (conns H) ≡ Some c → left ≤ count → came ≤ left
+pub hand_on : (H : List Happening) (x count left came at : ℕ) (c : CarriedConn) (net new : Network) → StandsAfter H net → nth x (conns H) ≡ Some c → left ≤ count → came ≤ left
     → StandsAfter (with_move (move.Piece x came at) (with_move (move.Piece x (count - left) at) H)) new → StandsAfter (with_move (move.Piece x (count - (left - came)) at) H) new
 hand_on H x count left came at c net new s there a b t =
     let same : count - left + came ≡ count - (left - came) = omega (arith, a, b) in
@@ -316,20 +316,20 @@ hand_on H x count left came at c net new s there a b t =
 pub piece_gone : (H : List Happening) (x count at : ℕ) → Receives H (nth x (conns H)) None → may_come (move.Piece x count at) H ≡ false
 piece_gone H x count at r = not_received H (λ c. leb count (length (pending x H))) (nth x (conns H)) r
 
-pub piece_refused : (H : List Happening) (x count at k : ℕ) (net : Network) (w : ℕ) → Receives H (nth x (conns H)) (Some k) → ((c : Conn) → nth x (conns H) ≡ Some c → w ≡ length (pending x H)) → ltb w count ≡ true → may_come (move.Piece x count at) H ≡ false
+pub piece_refused : (H : List Happening) (x count at k : ℕ) (net : Network) (w : ℕ) → Receives H (nth x (conns H)) (Some k) → ((c : CarriedConn) → nth x (conns H) ≡ Some c → w ≡ length (pending x H)) → ltb w count ≡ true → may_come (move.Piece x count at) H ≡ false
 piece_refused H x count at k net w r f z =
     let q = received H k (nth x (conns H)) r in
-    ap (passes (λ (c : Conn). is_there H c.to && leb count (length (pending x H)))) q.is ∙ ap (λ b. b && leb count (length (pending x H))) q.runs ∙ too_many (leb count (length (pending x H))) refl (f q.conn q.is)
+    ap (passes (λ (c : CarriedConn). is_there H c.to && leb count (length (pending x H)))) q.is ∙ ap (λ b. b && leb count (length (pending x H))) q.runs ∙ too_many (leb count (length (pending x H))) refl (f q.conn q.is)
   where
     too_many : (b : Bool) → leb count (length (pending x H)) ≡ b → w ≡ length (pending x H) → b ≡ false
     too_many false e l = refl
     too_many true e l = let p = leb-true count (length (pending x H)) e in let q = ltb-true w count z in absurd (omega (arith, p, q, l))
 
-pub piece_played : (H : List Happening) (x count at k : ℕ) (net new : Network) (w : ℕ) → Receives H (nth x (conns H)) (Some k) → ((c : Conn) → nth x (conns H) ≡ Some c → w ≡ length (pending x H)) → ltb w count ≡ false
-    → ((c : Conn) → nth x (conns H) ≡ Some c → k ≡ c.to.number → StandsAfter (with_move (move.Piece x count at) H) new) → IsPlayed (move.Piece x count at) H true new
+pub piece_played : (H : List Happening) (x count at k : ℕ) (net new : Network) (w : ℕ) → Receives H (nth x (conns H)) (Some k) → ((c : CarriedConn) → nth x (conns H) ≡ Some c → w ≡ length (pending x H)) → ltb w count ≡ false
+    → ((c : CarriedConn) → nth x (conns H) ≡ Some c → k ≡ c.to.number → StandsAfter (with_move (move.Piece x count at) H) new) → IsPlayed (move.Piece x count at) H true new
 piece_played H x count at k net new w r f z t =
     let q = received H k (nth x (conns H)) r in
-    played (move.Piece x count at) H new (ap (passes (λ (c : Conn). is_there H c.to && leb count (length (pending x H)))) q.is ∙ ap (λ b. b && leb count (length (pending x H))) q.runs ∙ few (leb count (length (pending x H))) refl (f q.conn q.is)) (t q.conn q.is q.number)
+    played (move.Piece x count at) H new (ap (passes (λ (c : CarriedConn). is_there H c.to && leb count (length (pending x H)))) q.is ∙ ap (λ b. b && leb count (length (pending x H))) q.runs ∙ few (leb count (length (pending x H))) refl (f q.conn q.is)) (t q.conn q.is q.number)
   where
     few : (b : Bool) → leb count (length (pending x H)) ≡ b → w ≡ length (pending x H) → b ≡ true
     few true e l = refl
@@ -337,10 +337,10 @@ piece_played H x count at k net new w r f z t =
 
 -- ---- how much waits
 
-pub waits_for : (H : List Happening) (net : Network) (s : StandsAfter H net) (x : ℕ) (c : Conn) (y : Carrier) → nth x (conns H) ≡ Some c → nth x net.conns.items ≡ Some y → length y.waiting ≡ length (pending x H)
+pub waits_for : (H : List Happening) (net : Network) (s : StandsAfter H net) (x : ℕ) (c : CarriedConn) (y : Carrier) → nth x (conns H) ≡ Some c → nth x net.conns.items ≡ Some y → length y.waiting ≡ length (pending x H)
 waits_for H net s x c y t e =
     let h = s.conns_are.each x c t in
     ap (λ (r : Carrier). length r.waiting) (some_one (sym e ∙ h.there)) ∙ ap (λ o. length o) h.is.waits ∙ ap (λ k. length (pending k H)) h.number
 
-pub waits_not : (H : List Happening) (net : Network) (s : StandsAfter H net) (x : ℕ) (c : Conn) → nth x (conns H) ≡ Some c → nth x net.conns.items ≡ None → 0 ≡ length (pending x H)
+pub waits_not : (H : List Happening) (net : Network) (s : StandsAfter H net) (x : ℕ) (c : CarriedConn) → nth x (conns H) ≡ Some c → nth x net.conns.items ≡ None → 0 ≡ length (pending x H)
 waits_not H net s x c t e = absurd (let h = (s.conns_are.each x c t).there in cc)

@@ -7,13 +7,13 @@ use Rattle.zre_net.specs.declared.moves.Move.{Move}
 use Rattle.zre_net.specs.declared.moves.Move.TheVariants as move
 use Rattle.zre_net.specs.declared.running.network.Network.{Network}
 use Rattle.zre_net.specs.declared.running.rows.Carrier.{Carrier}
-use Rattle.zre_net.specs.declared.running.rows.Sent.{Sent}
+use Rattle.zre_net.specs.declared.running.rows.SentBeacon.{SentBeacon}
 use Rattle.zre_net.specs.declared.running.rows.Way.{Way}
 use Rattle.zre_net.specs.Comes.{turn_of, turn, with_move, at_broadcast}
 use Rattle.zre_net.specs.Grammar.{may_come, is_there, passes}
 use Rattle.zre_net.specs.History.{Incarnation, Happening, Happens, IsKnown, incarnations, running}
 use Rattle.zre_net.specs.Lists.{nth}
-use Rattle.zre_net.specs.Numbers.{Broadcast, Route, Conn, broadcasts, routes, conns}
+use Rattle.zre_net.specs.Numbers.{Broadcast, Route, CarriedConn, broadcasts, routes, conns}
 use Rattle.zre_net.specs.Rows.{running_at, is_at, same_number}
 use Rattle.zre_net.specs.Running.{Finds, AreNodes, HasStarted, IsConn, StandsAfter, IsStill, IsKept, IsPlayed, Names, Receives, Sends, sent_of, way_of}
 use Rattle.zre_net.proofs.Listing.{some_one, nth_map, nth_reach, nth_first, nth_there, all_at}
@@ -110,7 +110,7 @@ not_named of value H (Some x) r = sym r.0
 -- ---- what a number of a connection names
 
 pub record IsFound (H : List Happening) (x : ℕ) (y : Carrier) : Type 0 where
-  pub conn : Conn
+  pub conn : CarriedConn
   pub there : nth x (conns H) ≡ Some conn
   pub number : conn.number ≡ x
   pub is : IsConn H conn y
@@ -126,7 +126,7 @@ conn_found H net s x y e =
 pub conn_missing : (H : List Happening) (net : Network) (s : StandsAfter H net) (x : ℕ) → nth x net.conns.items ≡ None → nth x (conns H) ≡ None
 conn_missing H net s x e = by (nth x (conns H)) refl
   where
-    by : (o : Option Conn) → nth x (conns H) ≡ o → o ≡ None
+    by : (o : Option CarriedConn) → nth x (conns H) ≡ o → o ≡ None
     by None z = refl
     by (Some c) z = absurd (let t = (s.conns_are.each x c z).there in cc)
 
@@ -151,24 +151,24 @@ receives_some H net s x y e z = receives_by H net s x y e true z
 pub receives_gone : (H : List Happening) (net : Network) → StandsAfter H net → (x : ℕ) (y : Carrier) → nth x net.conns.items ≡ Some y → is_at y.to (nth y.to net.started.items) net.running.items ≡ false → Receives H (nth x (conns H)) None
 receives_gone H net s x y e z = receives_by H net s x y e false z
 
-pub not_received : (H : List Happening) (test : Conn → Bool) (o : Option Conn) → Receives H o None → passes (λ (c : Conn). is_there H c.to && test c) o ≡ false
+pub not_received : (H : List Happening) (test : CarriedConn → Bool) (o : Option CarriedConn) → Receives H o None → passes (λ (c : CarriedConn). is_there H c.to && test c) o ≡ false
 not_received H test None r = refl
 not_received H test (Some c) r = ap (λ b. b && test c) (sym r.0)
 
-pub record IsReceived (H : List Happening) (k : ℕ) (o : Option Conn) : Type 0 where
-  pub conn : Conn
+pub record IsReceived (H : List Happening) (k : ℕ) (o : Option CarriedConn) : Type 0 where
+  pub conn : CarriedConn
   pub is : o ≡ Some conn
   pub number : k ≡ conn.to.number
   pub runs : is_there H conn.to ≡ true
   pub there : nth k (incarnations H) ≡ Some conn.to
 
-pub received : (H : List Happening) (k : ℕ) (o : Option Conn) → Receives H o (Some k) → IsReceived H k o
+pub received : (H : List Happening) (k : ℕ) (o : Option CarriedConn) → Receives H o (Some k) → IsReceived H k o
 received H k None r = absurd cc
 received H k (Some c) r = let e = r.1 k refl in record { conn = c; is = refl; number = e; runs = sym r.0; there = ap (λ n. nth n (incarnations H)) e ∙ r.2 }
 
-pub at_its_conn : (H : List Happening) (m : Move) (i : Conn → Input) (at : ℕ) (new : Network) (c : Conn) (o : Option Conn) → o ≡ Some c
-    → StandsAfter (Happens m (Some (turn_of c.to at (i c))) ∷ H) new → StandsAfter (Happens m (option_map (λ (d : Conn). turn_of d.to at (i d)) o) ∷ H) new
-at_its_conn H m i at new c o e s = subst (λ z. StandsAfter (Happens m (option_map (λ (d : Conn). turn_of d.to at (i d)) z) ∷ H) new) (sym e) s
+pub at_its_conn : (H : List Happening) (m : Move) (i : CarriedConn → Input) (at : ℕ) (new : Network) (c : CarriedConn) (o : Option CarriedConn) → o ≡ Some c
+    → StandsAfter (Happens m (Some (turn_of c.to at (i c))) ∷ H) new → StandsAfter (Happens m (option_map (λ (d : CarriedConn). turn_of d.to at (i d)) o) ∷ H) new
+at_its_conn H m i at new c o e s = subst (λ z. StandsAfter (Happens m (option_map (λ (d : CarriedConn). turn_of d.to at (i d)) z) ∷ H) new) (sym e) s
 
 -- ---- what a number of a link names
 
@@ -260,7 +260,7 @@ no_beacon H net k n at s e = by (nth k (broadcasts H)) refl
     by None z = and_none (is_some (running n H))
     by (Some b) z = absurd (let q = e ∙ ap (nth k) s.nodes.beacons ∙ nth_map sent_of k (broadcasts H) ∙ ap (option_map sent_of) z in cc)
 
-pub hears : (H : List Happening) (net new : Network) (k n l at : ℕ) (w : Sent) → StandsAfter H net → Some l ≡ running_at n net.running.items → Some w ≡ nth k net.beacons
+pub hears : (H : List Happening) (net new : Network) (k n l at : ℕ) (w : SentBeacon) → StandsAfter H net → Some l ≡ running_at n net.running.items → Some w ≡ nth k net.beacons
     → ((a : Incarnation) → nth l (incarnations H) ≡ Some a → StandsAfter (Happens (move.Beacon k n at) (Some (turn_of a at (input.Datagram w.from w.octets))) ∷ H) new) → IsPlayed (move.Beacon k n at) H true new
 hears H net new k n l at w s e q f = by (nth k (broadcasts H)) refl
   where
@@ -275,17 +275,17 @@ hears H net new k n l at w s e q f = by (nth k (broadcasts H)) refl
     by (Some b) z =
         let same : w ≡ sent_of b = some_one (p ∙ ap (option_map sent_of) z) in
         let brings : turn (move.Beacon k n at) H ≡ Some (turn_of r.who at (input.Datagram w.from w.octets)) =
-        ap (at_broadcast n at H) z ∙ ap (option_map (λ a. turn_of a at (input.Datagram b.from.settings.host b.octets))) r.is ∙ ap (λ (v : Sent). Some (turn_of r.who at (input.Datagram v.from v.octets))) (sym same) in
+        ap (at_broadcast n at H) z ∙ ap (option_map (λ a. turn_of a at (input.Datagram b.from.settings.host b.octets))) r.is ∙ ap (λ (v : SentBeacon). Some (turn_of r.who at (input.Datagram v.from v.octets))) (sym same) in
         played (move.Beacon k n at) H new (ap (λ o. is_some o && is_some (nth k (broadcasts H))) r.is ∙ ap (λ o. is_some o) z)
         (subst (λ t. StandsAfter (Happens (move.Beacon k n at) t ∷ H) new) (sym brings) (f r.who r.there))
 
 -- ---- a connection that closes
 
 pub shut_gone : (H : List Happening) (x at : ℕ) (new : Network) → Receives H (nth x (conns H)) None → IsPlayed (move.Shut x at) H false new
-shut_gone H x at new r = refused (move.Shut x at) H new (not_named (λ (c : Conn). c.to) (λ (c : Conn). c.to.number) H (nth x (conns H)) r)
+shut_gone H x at new r = refused (move.Shut x at) H new (not_named (λ (c : CarriedConn). c.to) (λ (c : CarriedConn). c.to.number) H (nth x (conns H)) r)
 
 pub shut_played : (H : List Happening) (x at k : ℕ) (new : Network) → Receives H (nth x (conns H)) (Some k)
     → ((a : Incarnation) → nth k (incarnations H) ≡ Some a → StandsAfter (Happens (move.Shut x at) (Some (turn_of a at (input.Shut x))) ∷ H) new) → IsPlayed (move.Shut x at) H true new
 shut_played H x at k new r f =
     let q = received H k (nth x (conns H)) r in
-    played (move.Shut x at) H new (ap (passes (λ (c : Conn). is_there H c.to)) q.is ∙ q.runs) (at_its_conn H (move.Shut x at) (λ c. input.Shut x) at new q.conn (nth x (conns H)) q.is (f q.conn.to q.there))
+    played (move.Shut x at) H new (ap (passes (λ (c : CarriedConn). is_there H c.to)) q.is ∙ q.runs) (at_its_conn H (move.Shut x at) (λ c. input.Shut x) at new q.conn (nth x (conns H)) q.is (f q.conn.to q.there))

@@ -18,7 +18,7 @@ use Rattle.zre_net.specs.Grammar.{can_carry, may_come, passes}
 use Rattle.zre_net.specs.History.{Incarnation, Happening, Happens, IsKnown, incarnations, running, journal, chronicle_of}
 use Rattle.zre_net.specs.Lines.{octets_in}
 use Rattle.zre_net.specs.Lists.{nth}
-use Rattle.zre_net.specs.Numbers.{Route, Conn, routes, conns, queued_on}
+use Rattle.zre_net.specs.Numbers.{Route, CarriedConn, routes, conns, queued_on}
 use Rattle.zre_net.specs.Rows.{running_at, with_running, HasStopped, part_octets, IsSpelledAt, IsLoaded, Fits}
 use Rattle.zre_net.specs.Running.{IsStarted, HasStarted, AreStarted, Finds, AreNodes, IsConn, HasConn, AreConns, StandsAfter, IsPlayed}
 use Rattle.zre_net.proofs.Plays.{played, not_running, runs_there, conn_found, conn_missing, IsFound}
@@ -75,7 +75,7 @@ module _ (H : List Happening) (s : Route) (x : Started) (is : IsStarted H s.from
   message_is : (k : ℕ) → part_octets x s.link (part.Message k) ≡ option_map octets (nth k (queued_on s H))
   message_is k = ap (nth k) (is.sent.keeps.messages_are s.link) ∙ nth_map octets k (queued_on s H)
 
-  pub part_there : (p : Part) (c : Conn) → c.along ≡ s → (o : List ℕ) → part_octets x s.link p ≡ Some o → (can_carry H p c ≡ true) × (o ≡ spelling s H p)
+  pub part_there : (p : Part) (c : CarriedConn) → c.along ≡ s → (o : List ℕ) → part_octets x s.link p ≡ Some o → (can_carry H p c ≡ true) × (o ≡ spelling s H p)
   part_there part.Greeting c a o e = (refl, sym (some_one e))
   part_there part.Ready c a o e = (refl, sym (some_one e) ∙ ap (λ i. ready_frame socket.Dealer (Some i)) is.id)
   part_there (part.Message k) c a o e = by (nth k (queued_on s H)) (sym (message_is k) ∙ e) (ap (λ r. is_some (nth k (queued_on r H))) a)
@@ -84,7 +84,7 @@ module _ (H : List Happening) (s : Route) (x : Started) (is : IsStarted H s.from
       by None z q = absurd cc
       by (Some m) z q = (q, sym (some_one z))
 
-  pub part_missing : (p : Part) (c : Conn) → c.along ≡ s → part_octets x s.link p ≡ None → can_carry H p c ≡ false
+  pub part_missing : (p : Part) (c : CarriedConn) → c.along ≡ s → part_octets x s.link p ≡ None → can_carry H p c ≡ false
   part_missing part.Greeting c a e = absurd cc
   part_missing part.Ready c a e = absurd cc
   part_missing (part.Message k) c a e = by (nth k (queued_on s H)) (sym (message_is k) ∙ e) (ap (λ r. is_some (nth k (queued_on r H))) a)
@@ -95,7 +95,7 @@ module _ (H : List Happening) (s : Route) (x : Started) (is : IsStarted H s.from
 
 -- ---- a connection carries more
 
-module _ (H : List Happening) (x place : ℕ) (p : Part) (net new : Network) (s : StandsAfter H net) (c : Conn) (there : nth x (conns H) ≡ Some c) (was now : Carrier) (under : x ≡ place + 1) (before : slice_get net.conns.items place ≡ Some was)
+module _ (H : List Happening) (x place : ℕ) (p : Part) (net new : Network) (s : StandsAfter H net) (c : CarriedConn) (there : nth x (conns H) ≡ Some c) (was now : Carrier) (under : x ≡ place + 1) (before : slice_get net.conns.items place ≡ Some was)
     (o : List ℕ) (spelled_as : o ≡ spelling c.along H p) (loaded : IsLoaded was o now) (rows : new.conns.items ≡ slice_set net.conns.items place now) (pending_now : new.pending ≡ net.pending + length o)
     (started : new.started ≡ net.started) (runs : new.running ≡ net.running) (owners : new.owners ≡ net.owners) (said : new.said ≡ net.said) (beacons : new.beacons ≡ net.beacons) (links : new.links ≡ net.links) (queued : new.queued ≡ net.queued) where
   abbrev M : List Happening
@@ -116,17 +116,17 @@ module _ (H : List Happening) (x place : ℕ) (p : Part) (net new : Network) (s 
   append-none : (a : Bool) (q r : List ℕ) → a ≡ false → cond a (q ++ r) q ≡ q
   append-none a q r e = ap (λ b. cond b (q ++ r) q) e
 
-  conns_now : (y : ℕ) (d : Conn) → nth y (conns H) ≡ Some d → HasConn M y d new.conns.items
-  conns_now = rows_set (λ (d : Conn). d.number) (IsConn H) (IsConn M) (conns H) x place net.conns.items new.conns.items was now under before rows mine
+  conns_now : (y : ℕ) (d : CarriedConn) → nth y (conns H) ≡ Some d → HasConn M y d new.conns.items
+  conns_now = rows_set (λ (d : CarriedConn). d.number) (IsConn H) (IsConn M) (conns H) x place net.conns.items new.conns.items was now under before rows mine
       (λ y d z t h. conn_stays H M (λ b k. k) y d net.conns.items new.conns.items t (sym (append-none (eqb d.number x) (pending d.number H) (appended d.number p H) (ap (λ j. eqb j x) h.number ∙ z))) (λ r k f. f) h) s.conns_are.each
     where
-      mine : (d : Conn) → nth x (conns H) ≡ Some d → d.number ≡ x → IsConn H d was → IsConn M d now
+      mine : (d : CarriedConn) → nth x (conns H) ≡ Some d → d.number ≡ x → IsConn H d was → IsConn M d now
       mine d e m r = record {
         to = loaded.to ∙ r.to;
         to_known = r.to_known;
         along = loaded.along ∙ r.along;
         along_known = r.along_known;
-        waits = loaded.waiting ∙ ap (λ q. q ++ o) r.waits ∙ ap (λ q. pending d.number H ++ q) (spelled_as ∙ ap (λ (w : Conn). spelling w.along H p) (some_one (sym there ∙ e)) ∙ sym (ap (λ q. option_map_or (λ (w : Conn). spelling w.along H p) q []) (ap (λ j. nth j (conns H)) m ∙ e)))
+        waits = loaded.waiting ∙ ap (λ q. q ++ o) r.waits ∙ ap (λ q. pending d.number H ++ q) (spelled_as ∙ ap (λ (w : CarriedConn). spelling w.along H p) (some_one (sym there ∙ e)) ∙ sym (ap (λ q. option_map_or (λ (w : CarriedConn). spelling w.along H p) q []) (ap (λ j. nth j (conns H)) m ∙ e)))
             ∙ sym (ap (λ b. cond b (pending d.number H ++ appended d.number p H) (pending d.number H)) (eq-eqb d.number x m));
         fits = subst (λ w. Fits d.to.settings d.number (chronicle_of d.to H) w) (sym loaded.ear) r.fits;
       }

@@ -19,7 +19,7 @@ use Rattle.zre_net.specs.Grammar.{octets_on, octets_put, queued_octets, pending_
 use Rattle.zre_net.specs.History.{Incarnation, Happening, incarnations, chronicle_of}
 use Rattle.zre_net.specs.Lines.{message_octets, octets_in}
 use Rattle.zre_net.specs.Lists.{nth, numbers_from}
-use Rattle.zre_net.specs.Numbers.{Conn, conns}
+use Rattle.zre_net.specs.Numbers.{CarriedConn, conns}
 use Rattle.zre_net.specs.Running.{StandsAfter}
 use Rattle.zre_net.specs.Sender.{Keeps, spelled}
 use Rattle.zre_net.proofs.Listing.{sum_same}
@@ -66,9 +66,9 @@ module _ (H : List Happening) (net : Network) (s : StandsAfter H net) where
           (h.row, h.there, sym (kept_octets a.settings (chronicle_of a H) h.row.sender.handshake h.row.sender.lines h.is.sent.keeps))
 
   pub pending_same : net.pending ≡ pending_octets H
-  pending_same = s.pending_is ∙ sym (sum_same (λ (c : Conn). length (pending c.number H)) (λ (y : Carrier). length y.waiting) (conns H) net.conns.items s.conns_are.count at)
+  pending_same = s.pending_is ∙ sym (sum_same (λ (c : CarriedConn). length (pending c.number H)) (λ (y : Carrier). length y.waiting) (conns H) net.conns.items s.conns_are.count at)
     where
-      at : (x : ℕ) (c : Conn) → nth x (conns H) ≡ Some c → (y : Carrier) × (nth x net.conns.items ≡ Some y) × (length (pending c.number H) ≡ length y.waiting)
+      at : (x : ℕ) (c : CarriedConn) → nth x (conns H) ≡ Some c → (y : Carrier) × (nth x net.conns.items ≡ Some y) × (length (pending c.number H) ≡ length y.waiting)
       at x c e =
           let h = s.conns_are.each x c e in
           (h.row, h.there, ap (λ o. length o) (sym h.is.waits))

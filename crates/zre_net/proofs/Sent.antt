@@ -13,7 +13,7 @@ use Rattle.zre_journal.specs.Happens.{with_entry}
 use Rattle.zre_journal.proofs.Joined.{continues}
 use Rattle.zre_node.specs.declared.effects.Step.{Step}
 use Rattle.zre_node.specs.declared.node.Node.{Node}
-use Rattle.zre_node.specs.Journal.{StandsFor, Steps}
+use Rattle.zre_node.specs.Journal.{StandsFor, IsStep}
 use Rattle.zre_net.specs.declared.running.lines.Line.{Line}
 use Rattle.zre_net.specs.Lines.{connects, fresh}
 use Rattle.zre_net.specs.Sender.{is_slight, Keeps, IsLooked}
@@ -24,7 +24,7 @@ pub if_ok : {T E : Type 0} (P Q : T → Type 0) (r : Result T E) → IfOk r P �
 if_ok P Q (Ok x) p f = f x p
 if_ok P Q (Err e) p f = tt
 
-module _ (g : Config) (J : List Entry) (e : Entry) (n : Node) (s : Step) (st : Steps g J e n s) where
+module _ (g : Config) (J : List Entry) (e : Entry) (n : Node) (s : Step) (st : IsStep g J e n s) where
   pub step_told : Stepped g J e s
   step_told = record {
     told = append_cancel_left (events g J) s.events (events_at g e (chronicle g J)) (sym st.told ∙ (continues g J (e ∷ [])).told ∙ ap (λ es. events g J ++ es) (append-nil (events_at g e (chronicle g J))));

@@ -8,7 +8,7 @@ use Rattle.zre_net.specs.declared.running.rows.Carrier.{Carrier}
 use Rattle.zre_net.specs.Carried.{pending}
 use Rattle.zre_net.specs.History.{Incarnation, Happening, Happens, IsKnown, starts, incarnations, journal, chronicle_of, settings_of}
 use Rattle.zre_net.specs.Lists.{nth}
-use Rattle.zre_net.specs.Numbers.{Conn}
+use Rattle.zre_net.specs.Numbers.{CarriedConn}
 use Rattle.zre_net.specs.Rows.{Fits}
 use Rattle.zre_net.specs.Running.{HasRow, HasStarted, Finds, HasConn}
 use Rattle.zre_net.specs.Sending.{HasSent}
@@ -46,7 +46,7 @@ module _ (H N : List Happening) (later : (b : Incarnation) → IsKnown H b → I
     is = record { node = h.is.node; since = h.is.since; id = h.is.id; host = h.is.host; sent = f h.row h.is.sent };
   }
 
-  pub conn_stays : (x : ℕ) (c : Conn) (xs ys : List Carrier) → ((y : Carrier) → nth x xs ≡ Some y → nth x ys ≡ Some y) → pending c.number H ≡ pending c.number N
+  pub conn_stays : (x : ℕ) (c : CarriedConn) (xs ys : List Carrier) → ((y : Carrier) → nth x xs ≡ Some y → nth x ys ≡ Some y) → pending c.number H ≡ pending c.number N
       → ((y : Carrier) → IsKnown H c.to → Fits c.to.settings c.number (chronicle_of c.to H) y.ear → Fits c.to.settings c.number (chronicle_of c.to N) y.ear) → HasConn H x c xs → HasConn N x c ys
   conn_stays x c xs ys t w f h = record {
     number = h.number;

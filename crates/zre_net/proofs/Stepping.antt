@@ -14,9 +14,9 @@ use Rattle.zre_journal.specs.Events.{chronicle, events_at}
 use Rattle.zre_net.specs.declared.moves.Move.{Move}
 use Rattle.zre_net.specs.declared.running.network.Network.{Network}
 use Rattle.zre_net.specs.declared.running.rows.Started.{Started}
-use Rattle.zre_net.specs.declared.running.steps.Turn.{Turn as Took}
+use Rattle.zre_net.specs.declared.running.steps.EntryTurn.{EntryTurn as Took}
 use Rattle.zre_net.specs.Comes.{turn_of}
-use Rattle.zre_net.specs.History.{Incarnation, Turn, Happening, Happens, IsKnown, incarnations, running, journal, chronicle_of}
+use Rattle.zre_net.specs.History.{Incarnation, NodeTurn, Happening, Happens, IsKnown, incarnations, running, journal, chronicle_of}
 use Rattle.zre_net.specs.Lines.{octets_in}
 use Rattle.zre_net.specs.Lists.{nth}
 use Rattle.zre_net.specs.Numbers.{Route, acts_of, route_in, routes, broadcast_in, broadcasts}
@@ -77,7 +77,7 @@ pub record HasStepped (k at : ℕ) (i : Input) (net new : Network) : Type 0 wher
   pub owners : new.owners ≡ net.owners
 
 module _ (H : List Happening) (m : Move) (still : IsStill m) (a : Incarnation) (k at : ℕ) (i : Input) (net new : Network) (nodes : AreNodes H net) (there : nth k (incarnations H) ≡ Some a) where
-  abbrev T' : Turn
+  abbrev T' : NodeTurn
   T' = turn_of a at i
 
   abbrev N' : List Happening

@@ -18,7 +18,7 @@ use Rattle.zre_net.specs.declared.moves.Part.{Part}
 use Rattle.zre_net.specs.declared.moves.Part.TheVariants as part
 use Rattle.zre_net.specs.Lists.{nth}
 use Rattle.zre_net.specs.History.{Incarnation, Happening, Happens, IsKnown, gathered, journal, chronicle_of}
-use Rattle.zre_net.specs.Numbers.{Conn, conns, queued_on}
+use Rattle.zre_net.specs.Numbers.{CarriedConn, conns, queued_on}
 use Rattle.zre_net.specs.Comes.{history}
 
 -- ---- the window
@@ -39,7 +39,7 @@ number_in _ = None
 -- one after another, the ones that it was made to carry.
 abbrev pub ledger_of : List Happening → Ledger
 ledger_of H = record {
-  sent = λ x. option_map_or (λ (c : Conn). queued_on c.along H) (nth x (conns H)) [];
+  sent = λ x. option_map_or (λ (c : CarriedConn). queued_on c.along H) (nth x (conns H)) [];
   picks = λ x. filter_map number_in (carried x H);
 }
 
@@ -69,7 +69,7 @@ pub record IsShown (H : List Happening) (b : Incarnation) (x : ℕ) (K : List Ma
 -- it in this run, but for EVASIVE, is what these messages tell, in order, and they are no fewer than at any earlier
 -- moment of the run.
 pub record Agrees (H : List Happening) (b : Incarnation) (x : ℕ) (K : List Mark) (v : Life) : Type 0 where
-  pub c : Conn
+  pub c : CarriedConn
   pub is_conn : nth x (conns H) ≡ Some c
   pub is_here : c.to ≡ b
   pub is_its_peer : v.id ≡ c.along.from.settings.id

@@ -9,7 +9,7 @@ use Rattle.zre_net.specs.declared.moves.Part.{Part}
 use Rattle.zre_net.specs.declared.moves.Part.TheVariants as part
 use Rattle.zre_net.specs.Lists.{nth}
 use Rattle.zre_net.specs.History.{Happening, Happens}
-use Rattle.zre_net.specs.Numbers.{Route, Conn, conns, queued_on}
+use Rattle.zre_net.specs.Numbers.{Route, CarriedConn, conns, queued_on}
 
 -- the octets of a part: the greeting and READY of the link's node, or a message of the link
 abbrev pub spelling : Route → List Happening → Part → List ℕ
@@ -19,7 +19,7 @@ spelling s H (part.Message k) = option_map_or octets (nth k (queued_on s H)) []
 
 -- those of a part of the link that connection x carries
 abbrev pub appended : ℕ → Part → List Happening → List ℕ
-appended x p H = option_map_or (λ (c : Conn). spelling c.along H p) (nth x (conns H)) []
+appended x p H = option_map_or (λ (c : CarriedConn). spelling c.along H p) (nth x (conns H)) []
 
 -- the octets that connection x has yet to hand in: those of each part that it was made to carry, but for those that
 -- have come

@@ -5,31 +5,31 @@ use Rattle.zre_outside.specs.declared.entry.Input.TheVariants as input
 use Rattle.zre_net.specs.declared.moves.Move.{Move}
 use Rattle.zre_net.specs.declared.moves.Move.TheVariants as move
 use Rattle.zre_net.specs.Lists.{nth}
-use Rattle.zre_net.specs.History.{Incarnation, Turn, Happening, Happens, running}
-use Rattle.zre_net.specs.Numbers.{Broadcast, Route, Conn, broadcasts, routes, conns}
+use Rattle.zre_net.specs.History.{Incarnation, NodeTurn, Happening, Happens, running}
+use Rattle.zre_net.specs.Numbers.{Broadcast, Route, CarriedConn, broadcasts, routes, conns}
 use Rattle.zre_net.specs.Carried.{pending}
 
 -- an entry of a. No reading is before its start
-abbrev pub turn_of : Incarnation → ℕ → Input → Turn
+abbrev pub turn_of : Incarnation → ℕ → Input → NodeTurn
 turn_of a at i = record { who = a; entry = record { at = max at a.since; input = i } }
 
 -- an entry at the node n; of the node of the link g; at the node of the connection x
-abbrev pub at_node : ℕ → ℕ → Input → List Happening → Option Turn
+abbrev pub at_node : ℕ → ℕ → Input → List Happening → Option NodeTurn
 at_node n at i H = option_map (λ a. turn_of a at i) (running n H)
 
-abbrev pub at_link : ℕ → ℕ → (ℕ → Input) → List Happening → Option Turn
+abbrev pub at_link : ℕ → ℕ → (ℕ → Input) → List Happening → Option NodeTurn
 at_link g at i H = option_map (λ (s : Route). turn_of s.from at (i s.link)) (nth g (routes H))
 
-abbrev pub at_conn : ℕ → ℕ → (Conn → Input) → List Happening → Option Turn
-at_conn x at i H = option_map (λ (c : Conn). turn_of c.to at (i c)) (nth x (conns H))
+abbrev pub at_conn : ℕ → ℕ → (CarriedConn → Input) → List Happening → Option NodeTurn
+at_conn x at i H = option_map (λ (c : CarriedConn). turn_of c.to at (i c)) (nth x (conns H))
 
 -- a beacon comes from the host that its sender had as it sent it
-abbrev pub at_broadcast : ℕ → ℕ → List Happening → Option Broadcast → Option Turn
+abbrev pub at_broadcast : ℕ → ℕ → List Happening → Option Broadcast → Option NodeTurn
 at_broadcast n at H None = None
 at_broadcast n at H (Some b) = at_node n at (input.Datagram b.from.settings.host b.octets) H
 
 -- the turn that a move gives, after H
-abbrev pub turn : Move → List Happening → Option Turn
+abbrev pub turn : Move → List Happening → Option NodeTurn
 turn (move.Start n at id name host port) H = None
 turn (move.Crash n) H = None
 turn (move.Tick n at) H = at_node n at input.Tick H

@@ -15,7 +15,7 @@ use Rattle.zre_journal.specs.Links.{queued}
 use Rattle.zre_journal.specs.Peers.{births}
 use Rattle.zre_net.specs.Lists.{nth, numbers_from}
 use Rattle.zre_net.specs.History.{Incarnation, Happening, incarnations, running, chronicle_of}
-use Rattle.zre_net.specs.Numbers.{Route, Conn, broadcasts, routes, conns, queued_on}
+use Rattle.zre_net.specs.Numbers.{Route, CarriedConn, broadcasts, routes, conns, queued_on}
 use Rattle.zre_net.specs.Carried.{pending}
 use Rattle.zre_net.specs.Comes.{with_move}
 
@@ -33,7 +33,7 @@ abbrev pub agrees : ℕ → PeerId → Incarnation → Bool
 agrees n id a = if nat_eq n a.node then bytes_eq id.0 a.settings.id.0 else not (bytes_eq id.0 a.settings.id.0)
 
 -- the greeting and READY may always be carried, a message once it is queued
-abbrev pub can_carry : List Happening → Part → Conn → Bool
+abbrev pub can_carry : List Happening → Part → CarriedConn → Bool
 can_carry H (part.Message k) c = is_some (nth k (queued_on c.along H))
 can_carry H _ c = true
 
@@ -48,8 +48,8 @@ may_come (move.Beacon k n at) H = is_some (running n H) && is_some (nth k (broad
 may_come (move.Open g n at) H = is_some (running n H) && is_some (nth g (routes H))
 may_come (move.Carry x p) H = passes (can_carry H p) (nth x (conns H))
 may_come (move.Piece x count at) H =
-    passes (λ (c : Conn). is_there H c.to && nat_le count (length (pending x H))) (nth x (conns H))
-may_come (move.Shut x at) H = passes (λ (c : Conn). is_there H c.to) (nth x (conns H))
+    passes (λ (c : CarriedConn). is_there H c.to && nat_le count (length (pending x H))) (nth x (conns H))
+may_come (move.Shut x at) H = passes (λ (c : CarriedConn). is_there H c.to) (nth x (conns H))
 may_come (move.Linked g at) H = passes (λ (s : Route). is_there H s.from) (nth g (routes H))
 may_come (move.Unlinked g at) H = passes (λ (s : Route). is_there H s.from) (nth g (routes H))
 may_come (move.Reply g at o) H = passes (λ (s : Route). is_there H s.from) (nth g (routes H))
@@ -67,7 +67,7 @@ abbrev pub queued_octets : List Happening → ℕ
 queued_octets H = sum_by (λ a. octets_put (chronicle_of a H)) (incarnations H)
 
 abbrev pub pending_octets : List Happening → ℕ
-pending_octets H = sum_by (λ (c : Conn). length (pending c.number H)) (conns H)
+pending_octets H = sum_by (λ (c : CarriedConn). length (pending c.number H)) (conns H)
 
 -- there is room for both
 abbrev pub has_room : List Happening → Bool

@@ -18,13 +18,13 @@ pub record Incarnation : Type 0 where
   pub settings : Config
 
 -- an entry comes in the journal of an incarnation
-pub record Turn : Type 0 where
+pub record NodeTurn : Type 0 where
   pub who : Incarnation
   pub entry : Entry
 
 -- a move, and the turn that it gives, if it gives one
 pub data Happening : Type 0 where
-  Happens : (m : Move) → (brings : Option Turn) → Happening
+  Happens : (m : Move) → (brings : Option NodeTurn) → Happening
 
 -- what all of it says, the oldest first
 abbrev pub gathered : {A : Type 0} → (Happening → Option A) → List Happening → List A

@@ -9,10 +9,10 @@ use Rattle.zre_journal.specs.Done.{acts_at}
 use Rattle.zre_journal.specs.Links.{queued}
 use Rattle.zre_net.specs.declared.moves.Move.TheVariants as move
 use Rattle.zre_net.specs.Lists.{nth}
-use Rattle.zre_net.specs.History.{Incarnation, Turn, Happening, Happens, running, chronicle_of}
+use Rattle.zre_net.specs.History.{Incarnation, NodeTurn, Happening, Happens, running, chronicle_of}
 
 -- the acts of a turn, after H
-abbrev pub acts_of : Turn → List Happening → List Act
+abbrev pub acts_of : NodeTurn → List Happening → List Act
 acts_of t H = acts_at t.who.settings t.entry (chronicle_of t.who H)
 
 -- what the acts of all turns so far come to, in order
@@ -58,17 +58,17 @@ queued_on s H = queued s.link (chronicle_of s.from H)
 -- ---- connections
 
 -- a connection: its number, the link that it carries, and the incarnation at which it opened
-pub record Conn : Type 0 where
+pub record CarriedConn : Type 0 where
   pub number : ℕ
   pub along : Route
   pub to : Incarnation
 
-abbrev pub conn_of : ℕ → Option Route → Option Incarnation → Option Conn
+abbrev pub conn_of : ℕ → Option Route → Option Incarnation → Option CarriedConn
 conn_of x None b = None
 conn_of x (Some s) b = option_map (λ r. record { number = x; along = s; to = r }) b
 
 -- all connections so far, in order
-abbrev pub conns : List Happening → List Conn
+abbrev pub conns : List Happening → List CarriedConn
 conns [] = []
 conns (Happens (move.Open g n at) t ∷ H) =
     followed (conns H) (conn_of (length (conns H) + 1) (nth g (routes H)) (running n H))

@@ -22,10 +22,10 @@ use Rattle.zre_net.specs.declared.moves.Part.TheVariants as part
 use Rattle.zre_net.specs.declared.running.ear.Ear.{Ear}
 use Rattle.zre_net.specs.declared.running.rows.Carrier.{Carrier}
 use Rattle.zre_net.specs.declared.running.rows.Owner.{Owner}
-use Rattle.zre_net.specs.declared.running.rows.Sent.{Sent}
+use Rattle.zre_net.specs.declared.running.rows.SentBeacon.{SentBeacon}
 use Rattle.zre_net.specs.declared.running.rows.Started.{Started}
 use Rattle.zre_net.specs.declared.running.rows.Way.{Way}
-use Rattle.zre_net.specs.declared.running.steps.Turn.{Turn}
+use Rattle.zre_net.specs.declared.running.steps.EntryTurn.{EntryTurn}
 use Rattle.zre_net.specs.Lines.{messages_at, octets_in}
 use Rattle.zre_net.specs.Lists.{nth}
 use Rattle.zre_net.specs.Sending.{HasSent, Stepped}
@@ -75,12 +75,12 @@ abbrev pub entry_at : Started → ℕ → Input → Entry
 entry_at x at i = record { at = max at x.since; input = i }
 
 -- an entry has come
-pub record Turned (g : Config) (J : List Entry) (e : Entry) (t : Turn) (x : Started) : Type 0 where
+pub record Turned (g : Config) (J : List Entry) (e : Entry) (t : EntryTurn) (x : Started) : Type 0 where
   pub stepped : Stepped g J e t.step
   pub sent : HasSent g (J ++ e ∷ []) x.sender
 
 -- and the rest of the row is as before
-pub record StaysAt (t : Turn) (x y : Started) : Type 0 where
+pub record StaysAt (t : EntryTurn) (x y : Started) : Type 0 where
   pub node : y.node ≡ x.node
   pub since : y.since ≡ x.since
   pub id : y.id ≡ x.id
@@ -90,7 +90,7 @@ pub record StaysAt (t : Turn) (x y : Started) : Type 0 where
   pub before : t.before ≡ octets_in x.sender.lines
   pub after : t.after ≡ octets_in y.sender.lines
 
-abbrev pub sent_in : List ℕ → Act → Option Sent
+abbrev pub sent_in : List ℕ → Act → Option SentBeacon
 sent_in host (act.Beacon o) = Some (record { from = host; octets = o })
 sent_in host _ = None
 

@@ -9,16 +9,16 @@ use Rattle.zre_net.specs.declared.moves.Move.{Move}
 use Rattle.zre_net.specs.declared.running.network.Network.{Network}
 use Rattle.zre_net.specs.declared.running.rows.Carrier.{Carrier}
 use Rattle.zre_net.specs.declared.running.rows.Owner.{Owner}
-use Rattle.zre_net.specs.declared.running.rows.Sent.{Sent}
+use Rattle.zre_net.specs.declared.running.rows.SentBeacon.{SentBeacon}
 use Rattle.zre_net.specs.declared.running.rows.Started.{Started}
 use Rattle.zre_net.specs.declared.running.rows.Way.{Way}
 use Rattle.zre_net.specs.Lists.{nth}
 use Rattle.zre_net.specs.Lines.{octets_in}
 use Rattle.zre_net.specs.Sending.{HasSent}
 use Rattle.zre_net.specs.Rows.{running_at, Fits}
-use Rattle.zre_net.specs.History.{Incarnation, Turn, Happening, Happens, IsKnown, incarnations, running, journal}
+use Rattle.zre_net.specs.History.{Incarnation, NodeTurn, Happening, Happens, IsKnown, incarnations, running, journal}
 use Rattle.zre_net.specs.History.{chronicle_of}
-use Rattle.zre_net.specs.Numbers.{Broadcast, Route, Conn, broadcasts, routes, conns}
+use Rattle.zre_net.specs.Numbers.{Broadcast, Route, CarriedConn, broadcasts, routes, conns}
 use Rattle.zre_net.specs.Carried.{pending}
 use Rattle.zre_net.specs.Answer.{bad_move}
 use Rattle.zre_net.specs.Comes.{with_move, history}
@@ -35,7 +35,8 @@ pub record IsStarted (H : List Happening) (a : Incarnation) (x : Started) : Type
   pub sent : HasSent a.settings (journal a H) x.sender
 
 -- what has number k stands in row k, and is as Is says of both
-pub record HasRow {A B : Type 0} (number_of : A → ℕ) (Is : A → B → Type 0) (k : ℕ) (a : A) (rows : List B) : Type 0 where
+pub record HasRow {A B : Type 0} (number_of : A → ℕ) (Is : A → B → Type 0) (k : ℕ) (a : A) (rows : List B)
+    : Type 0 where
   pub number : number_of a ≡ k
   pub row : B
   pub there : nth k rows ≡ Some row
@@ -57,7 +58,7 @@ Finds H n (Some a) found = (found ≡ Some a.number) × IsKnown H a × (a.node �
 abbrev pub owner_of : Incarnation → Owner
 owner_of a = record { node = a.node; id = a.settings.id }
 
-abbrev pub sent_of : Broadcast → Sent
+abbrev pub sent_of : Broadcast → SentBeacon
 sent_of b = record { from = b.from.settings.host; octets = b.octets }
 
 abbrev pub way_of : Route → Way
@@ -75,7 +76,7 @@ pub record AreNodes (H : List Happening) (net : Network) : Type 0 where
 
 -- ---- connections
 
-pub record IsConn (H : List Happening) (c : Conn) (y : Carrier) : Type 0 where
+pub record IsConn (H : List Happening) (c : CarriedConn) (y : Carrier) : Type 0 where
   pub to : y.to ≡ c.to.number
   pub to_known : IsKnown H c.to
   pub along : y.along ≡ way_of c.along
@@ -83,12 +84,12 @@ pub record IsConn (H : List Happening) (c : Conn) (y : Carrier) : Type 0 where
   pub waits : y.waiting ≡ pending c.number H
   pub fits : Fits c.to.settings c.number (chronicle_of c.to H) y.ear
 
-abbrev pub HasConn : List Happening → ℕ → Conn → List Carrier → Type 0
-HasConn H = HasRow (λ (c : Conn). c.number) (IsConn H)
+abbrev pub HasConn : List Happening → ℕ → CarriedConn → List Carrier → Type 0
+HasConn H = HasRow (λ (c : CarriedConn). c.number) (IsConn H)
 
 pub record AreConns (H : List Happening) (ys : List Carrier) : Type 0 where
   pub count : length ys ≡ length (conns H)
-  pub each : (x : ℕ) (c : Conn) → nth x (conns H) ≡ Some c → HasConn H x c ys
+  pub each : (x : ℕ) (c : CarriedConn) → nth x (conns H) ≡ Some c → HasConn H x c ys
   pub silent : (a : Incarnation) → IsKnown H a → (x : ℕ) → length (conns H) < x → bytes x (chronicle_of a H) ≡ []
 
 -- ---- all
@@ -102,13 +103,13 @@ pub record StandsAfter (H : List Happening) (net : Network) : Type 0 where
 
 -- a move that starts and ends no node
 pub record IsStill (m : Move) : Type 0 where
-  pub incarnations_stay : (t : Option Turn) (H : List Happening) → incarnations (Happens m t ∷ H) ≡ incarnations H
-  pub running_stay : (t : Option Turn) (H : List Happening) (n : ℕ) → running n (Happens m t ∷ H) ≡ running n H
+  pub incarnations_stay : (t : Option NodeTurn) (H : List Happening) → incarnations (Happens m t ∷ H) ≡ incarnations H
+  pub running_stay : (t : Option NodeTurn) (H : List Happening) (n : ℕ) → running n (Happens m t ∷ H) ≡ running n H
 
 -- one that does nothing with connections but to bring an entry about them
 pub record IsKept (m : Move) : Type 0 where
-  pub conns_stay : (t : Option Turn) (H : List Happening) → conns (Happens m t ∷ H) ≡ conns H
-  pub pending_stay : (t : Option Turn) (H : List Happening) (x : ℕ) → pending x (Happens m t ∷ H) ≡ pending x H
+  pub conns_stay : (t : Option NodeTurn) (H : List Happening) → conns (Happens m t ∷ H) ≡ conns H
+  pub pending_stay : (t : Option NodeTurn) (H : List Happening) (x : ℕ) → pending x (Happens m t ∷ H) ≡ pending x H
 
 -- an entry that is neither about the opening of a connection nor a piece of one
 abbrev pub IsSilent : Input → Type 0
@@ -135,8 +136,8 @@ Names of value H (Some x) found = (is_some found ≡ is_there H (of x)) × ((y :
     × IsKnown H (of x)
 
 -- the start at which a connection opened
-abbrev pub Receives : List Happening → Option Conn → Option ℕ → Type 0
-Receives H o found = Names (λ (c : Conn). c.to) (λ (c : Conn). c.to.number) H o found
+abbrev pub Receives : List Happening → Option CarriedConn → Option ℕ → Type 0
+Receives H o found = Names (λ (c : CarriedConn). c.to) (λ (c : CarriedConn). c.to.number) H o found
 
 -- the start of the node of a link, and the link's number there
 abbrev pub Sends : List Happening → Option Route → Option Way → Type 0

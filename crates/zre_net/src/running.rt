@@ -14,5 +14,5 @@ mod sender;
 mod steps;
 mod waiting;
 
-pub use said::Said;
+pub use said::SaidEvents;
 pub use schedule::run_schedule;

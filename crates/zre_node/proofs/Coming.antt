@@ -21,7 +21,7 @@ use Rattle.zre_journal.specs.Arrivals.{at_places}
 use Rattle.zre_journal.proofs.Kept.{Comes-proper}
 use Rattle.zre_journal.proofs.Listed.{eqb-comm, found_passes, any_has}
 use Rattle.zre_tables.specs.declared.connection.Connection.{Connection}
-use Rattle.zre_node.specs.declared.incoming.arrivals.Heard.{Heard}
+use Rattle.zre_node.specs.declared.incoming.arrivals.Completed.{Completed}
 use Rattle.zre_node.specs.declared.tables.Tables.{Tables}
 use Rattle.zre_node.specs.Said.{said_in}
 use Rattle.zre_tables.specs.Holding.{reader_at}
@@ -103,7 +103,7 @@ module _ (g : Config) (H : List Mark) (t : Tables) (h : Holds g H t) (e : Entry)
   not_heard shut = comes g H t h e t.conns no_reply
       (retold_of (λ (d : ℕ). d) (λ d. eqb c d ≡ false) (IsConn g H) (IsConn g (Comes e ∷ H)) (λ d k far q. q ∙ another d far) (open_ones H) t.conns (none_is c (open_ones H) shut) h.keeps.conns)
 
-  pub silent : (heard : Heard) → is_live c H ≡ false → at_places g c (said_in heard) (Comes e ∷ H) ≡ at_places g c (newly_completed g.id c H (Comes e ∷ H)) (Comes e ∷ H)
+  pub silent : (heard : Completed) → is_live c H ≡ false → at_places g c (said_in heard) (Comes e ∷ H) ≡ at_places g c (newly_completed g.id c H (Comes e ∷ H)) (Comes e ∷ H)
   silent heard dead = dead_places g c (Comes e ∷ H) dead (said_in heard) ∙ sym (dead_places g c (Comes e ∷ H) dead (newly_completed g.id c H (Comes e ∷ H)))
 
   -- it is open, and its row is this one now
@@ -135,7 +135,7 @@ module _ (g : Config) (H : List Mark) (t : Tables) (h : Holds g H t) (e : Entry)
   hears there q = reads false q there
 
   -- what was heard of it
-  pub heard_it : (C : List (ℕ × Connection)) (heard : Heard)
+  pub heard_it : (C : List (ℕ × Connection)) (heard : Completed)
       → ((x : Connection) (own : PeerId) (q : List ℕ) → row_at c t.conns ≡ Some x → x.conn ≡ Some (conn_after own q) → (C ≡ with_row c (record x { conn = Some (conn_after own (q ++ o)) }) t.conns) × (said_in heard ≡ completed own q o))
       → (reader_at c t.conns ≡ None → C ≡ t.conns)
       → Holds g (Comes e ∷ H) (record t { clock = max e.at t.clock; conns = C }) × (at_places g c (said_in heard) (Comes e ∷ H) ≡ at_places g c (newly_completed g.id c H (Comes e ∷ H)) (Comes e ∷ H))

@@ -17,7 +17,7 @@ use Rattle.zre_journal.specs.Done.{close_link}
 use Rattle.zre_journal.proofs.Kept.{known_lives, run_is, Ends-proper}
 use Rattle.zre_journal.proofs.Listed.{eqb-comm, found_any, none_any, found_passes}
 use Rattle.zre_tables.specs.declared.peer.Peer.{Peer}
-use Rattle.zre_tables.specs.declared.peer.Running.{Running}
+use Rattle.zre_tables.specs.declared.peer.CarriedRun.{CarriedRun}
 use Rattle.zre_msg.specs.declared.message.Message.{Message}
 use Rattle.zre_peer.specs.Runs.{shown}
 use Rattle.zre_peer.specs.Standing.{view_in}
@@ -83,12 +83,12 @@ module _ (g : Config) (H : List Mark) (l : ℕ) (why : Cause) (alive : has_ended
 
 -- ---- a peer that was taken out of its table
 
-had_some : (o : Option ℕ) (ms : List Message) (r : Option Running) (x : Running) → HadRun o ms r → r ≡ Some x → (o ≡ Some x.conn) × (view_in x.run ≡ shown ms)
+had_some : (o : Option ℕ) (ms : List Message) (r : Option CarriedRun) (x : CarriedRun) → HadRun o ms r → r ≡ Some x → (o ≡ Some x.conn) × (view_in x.run ≡ shown ms)
 had_some None ms r x h e = let z : None ≡ Some x = sym h ∙ e in cc
 had_some (Some c) ms r x h e = let z : Some h.0 ≡ Some x = sym h.1 ∙ e in let same : h.0 ≡ x = cc in
-    (ap (λ n. Some n) (sym h.2) ∙ ap (λ (y : Running). Some y.conn) same, ap (λ (y : Running). view_in y.run) (sym same) ∙ h.3)
+    (ap (λ n. Some n) (sym h.2) ∙ ap (λ (y : CarriedRun). Some y.conn) same, ap (λ (y : CarriedRun). view_in y.run) (sym same) ∙ h.3)
 
-had_none : (o : Option ℕ) (ms : List Message) (r : Option Running) → HadRun o ms r → r ≡ None → o ≡ None
+had_none : (o : Option ℕ) (ms : List Message) (r : Option CarriedRun) → HadRun o ms r → r ≡ None → o ≡ None
 had_none None ms r h e = refl
 had_none (Some c) ms r h e = let z : Some h.0 ≡ None = sym h.1 ∙ e in cc
 
@@ -119,11 +119,11 @@ module _ (g : Config) (H : List Mark) (l : ℕ) (k : Peer) (t : Tables) (p : Par
   }
 
   -- it was entered: its run, and what it shows
-  pub entered : (x : Running) → k.run ≡ Some x → (runner l H ≡ Some x.conn) × (view_in x.run ≡ shown (counted l H))
+  pub entered : (x : CarriedRun) → k.run ≡ Some x → (runner l H ≡ Some x.conn) × (view_in x.run ≡ shown (counted l H))
   entered x e = let h = had_some (runner p.gone.link H) (counted p.gone.link H) k.run x p.leaving.run_is e in
       (ap (λ m. runner m H) known.2 ∙ h.0, h.1 ∙ ap (λ m. shown (counted m H)) (sym known.2))
 
-  pub with_run : (x : Running) → k.run ≡ Some x → (C : List (ℕ × Connection))
+  pub with_run : (x : CarriedRun) → k.run ≡ Some x → (C : List (ℕ × Connection))
       → ((y : Connection) → lookup (is_at (nat_cmp x.conn)) t.conns ≡ Some y → C ≡ set_value (is_at (nat_cmp x.conn)) t.conns (record y { since = t.clock; run = None; conn = None }))
       → (a s : Effects) → s.events ≡ a.events ++ event.Exit k.id (view_of (counted l H)).name why ∷ [] → s.acts ≡ a.acts ++ close_link l why → s.pushed ≡ a.pushed
       → Did g (Ends l why ∷ []) H (record t { conns = C }) a s

@@ -10,7 +10,7 @@ use Rattle.zre_values.specs.declared.settings.Settings.{Settings as Config}
 use Rattle.zre_journal.specs.Chronicle.{Mark}
 use Rattle.zre_journal.specs.Peers.{Life, lives, life, runner, counted, other_lives}
 use Rattle.zre_tables.specs.declared.peer.Peer.{Peer}
-use Rattle.zre_tables.specs.declared.peer.Running.{Running}
+use Rattle.zre_tables.specs.declared.peer.CarriedRun.{CarriedRun}
 use Rattle.zre_node.specs.declared.tables.Tables.{Tables}
 use Rattle.zre_tables.specs.Tabled.{Tabled}
 use Rattle.zre_tables.specs.Runs.{IsRunning, HadRun, HasRun}
@@ -63,10 +63,10 @@ known_row P H es t l s = by (peer_row P H es t l)
 -- ---- a peer that ends
 
 -- a run shows its view
-pub shows : (x : Running) (c : ℕ) (id : PeerId) (ms : List Message) → IsRunning c id ms x → (x.conn ≡ c) × (view_in x.run ≡ shown ms)
+pub shows : (x : CarriedRun) (c : ℕ) (id : PeerId) (ms : List Message) → IsRunning c id ms x → (x.conn ≡ c) × (view_in x.run ≡ shown ms)
 shows x c id ms r = (r.conn, r.stands.view)
 
-had : (o : Option ℕ) (id : PeerId) (ms : List Message) (r : Option Running) → HasRun o id ms r → HadRun o ms r
+had : (o : Option ℕ) (id : PeerId) (ms : List Message) (r : Option CarriedRun) → HasRun o id ms r → HadRun o ms r
 had None id ms r h = h
 had (Some c) id ms r h = (h.0, h.1, h.2.conn, h.2.stands.view)
 

@@ -13,7 +13,7 @@ use Rattle.zre_journal.proofs.Joined.{continues}
 use Rattle.zre_node.specs.declared.effects.Effects.{Effects}
 use Rattle.zre_node.specs.declared.node.Node.{Node}
 use Rattle.zre_node.specs.declared.tables.Tables.{Tables}
-use Rattle.zre_node.specs.Journal.{StandsIn, Took, Steps}
+use Rattle.zre_node.specs.Journal.{StandsIn, Took, IsStep}
 
 -- an entry after a stop changes nothing
 pub took_nothing : (g : Config) (e : Entry) (H : List Mark) (t : Tables) (a : Effects) → has_stopped H ≡ true → StandsIn g H t → Took g e H t a a
@@ -31,7 +31,7 @@ took_nothing g e H t a z s =
     }
 
 -- what was taken is a step
-pub steps : (g : Config) (J : List Entry) (e : Entry) (n : Node) (a s : Effects) → n.spent ≡ false → a.events ≡ [] → a.acts ≡ [] → Took g e (chronicle g J) n.tables a s → Steps g J e n (record { events = s.events; acts = s.acts })
+pub steps : (g : Config) (J : List Entry) (e : Entry) (n : Node) (a s : Effects) → n.spent ≡ false → a.events ≡ [] → a.acts ≡ [] → Took g e (chronicle g J) n.tables a s → IsStep g J e n (record { events = s.events; acts = s.acts })
 steps g J e n a s whole ev ac w =
     let c = continues g J (e ∷ []) in
     record {

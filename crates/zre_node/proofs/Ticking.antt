@@ -38,7 +38,7 @@ use Rattle.zre_journal.proofs.Ticks.{expiring, wavering, stale, expired, expirin
 use Rattle.zre_tables.specs.declared.connection.Connection.{Connection}
 use Rattle.zre_node.specs.declared.effects.Effects.{Effects}
 use Rattle.zre_tables.specs.declared.peer.Peer.{Peer}
-use Rattle.zre_tables.specs.declared.peer.Running.{Running}
+use Rattle.zre_tables.specs.declared.peer.CarriedRun.{CarriedRun}
 use Rattle.zre_node.specs.declared.tables.Tables.{Tables}
 use Rattle.zre_tables.specs.Probing.{IsTold}
 use Rattle.zre_tables.specs.Rows.{numbers_of}
@@ -56,7 +56,7 @@ use Rattle.zre_node.proofs.Stopping.{link_list, map-map, apart_links, known_from
 -- ---- which rows pass
 
 -- a peer is entered where its row has a run
-pub enters : (o : Option ℕ) (id : PeerId) (ms : List Message) (r : Option Running) → HasRun o id ms r → is_some r ≡ is_some o
+pub enters : (o : Option ℕ) (id : PeerId) (ms : List Message) (r : Option CarriedRun) → HasRun o id ms r → is_some r ≡ is_some o
 enters None id ms r h = ap is_some h
 enters (Some c) id ms r h = ap is_some h.1
 
@@ -97,16 +97,16 @@ module _ (g : Config) (K : List Mark) (t : Tables) (h : Holds g K t) where
   pub holds_calls : (port : ℕ) → Holds g (SendsBeacon port ∷ K) t
   holds_calls port = with_conns g K (SendsBeacon port ∷ K) t t.last t.conns h (SendsBeacon-proper K h.keeps.proper port) refl refl refl h.peers refl refl refl h.keeps.last_is h.keeps.conns
 
-run_shows : (o : Option ℕ) (id : PeerId) (ms : List Message) (r : Option Running) (x : Running) → HasRun o id ms r → r ≡ Some x → view_in x.run ≡ shown ms
+run_shows : (o : Option ℕ) (id : PeerId) (ms : List Message) (r : Option CarriedRun) (x : CarriedRun) → HasRun o id ms r → r ≡ Some x → view_in x.run ≡ shown ms
 run_shows None id ms r x h e = let z : None ≡ Some x = sym h ∙ e in absurd cc
-run_shows (Some c) id ms r x h e = let z : Some h.0 ≡ Some x = sym h.1 ∙ e in let same : h.0 ≡ x = cc in subst (λ (y : Running). view_in y.run ≡ shown ms) same (shows h.0 c id ms h.2).1
+run_shows (Some c) id ms r x h e = let z : Some h.0 ≡ Some x = sym h.1 ∙ e in let same : h.0 ≡ x = cc in subst (λ (y : CarriedRun). view_in y.run ≡ shown ms) same (shows h.0 c id ms h.2).1
 
 -- what is told of an entered peer that is evasive, by its row
-pub record Wavers (g : Config) (K : List Mark) (l : ℕ) (k : Peer) (x : Running) : Type 0 where
+pub record Wavers (g : Config) (K : List Mark) (l : ℕ) (k : Peer) (x : CarriedRun) : Type 0 where
   pub its_view : view_in x.run ≡ shown (counted l K)
   pub tells : told (IsEvasive l ∷ []) K ≡ event.Evasive k.id (view l K).name ∷ []
 
-pub wavers : (g : Config) (K : List Mark) (t : Tables) → Holds g K t → (l : ℕ) (k : Peer) → Some k ≡ lookup (is_at (nat_cmp l)) t.peers → (x : Running) → k.run ≡ Some x → Wavers g K l k x
+pub wavers : (g : Config) (K : List Mark) (t : Tables) → Holds g K t → (l : ℕ) (k : Peer) → Some k ≡ lookup (is_at (nat_cmp l)) t.peers → (x : CarriedRun) → k.run ≡ Some x → Wavers g K l k x
 wavers g K t h l k was x e =
     let its = its_row (IsPeer g K) K t.peers h.peers l k was in
     let here : l ≡ its.0.link = found_link its.0 its.1 in
@@ -132,7 +132,7 @@ pub told_so : (g : Config) (K : List Mark) (t : Tables) → Holds g K t → (l :
     → (a : Effects) (es : List Event) → IsTold k a.events es → Did g (IsEvasive l ∷ []) K t a (record a { events = es })
 told_so g K t h l k was r a es is = by k.run refl
   where
-    by : (o : Option Running) → k.run ≡ o → Did g (IsEvasive l ∷ []) K t a (record a { events = es })
+    by : (o : Option CarriedRun) → k.run ≡ o → Did g (IsEvasive l ∷ []) K t a (record a { events = es })
     by None e = has_run g K t h l k was r e
     by (Some x) e =
         let w = wavers g K t h l k was x e in

@@ -11,11 +11,11 @@ use Rattle.zre_values.specs.declared.settings.Settings.{Settings as Config}
 use Rattle.zre_journal.specs.Chronicle.{Mark, Ignores}
 use Rattle.zre_journal.specs.Peers.{Life, lives, life_of}
 use Rattle.zre_journal.specs.Arrivals.{start_unknown}
-use Rattle.zre_node.specs.declared.incoming.first.Place.{Place}
-use Rattle.zre_node.specs.declared.incoming.first.Place.TheVariants.{Known, New, Nowhere}
+use Rattle.zre_node.specs.declared.incoming.first.Reach.{Reach}
+use Rattle.zre_node.specs.declared.incoming.first.Reach.TheVariants.{Known, New, Nowhere}
 
 -- where the peer of a first message is to be reached
-abbrev pub IsPlace : Config → PeerId → Message → List Mark → Place → Type 0
+abbrev pub IsPlace : Config → PeerId → Message → List Mark → Reach → Type 0
 IsPlace g p m H (Known l) = (v : Life) × (life_of p H ≡ Some v) × (v.link ≡ l)
 IsPlace g p m H (New e) =
     (life_of p H ≡ None) × (endpoint_in (view_of (m ∷ [])).endpoint ≡ Some e) × (length (lives H) < 256)

@@ -49,7 +49,7 @@ pub record StandsFor (g : Config) (J : List Entry) (n : Node) : Type 0 where
   pub whole : is_spent n ≡ false
 
 -- from J to J and one entry, with what it tells and asks for
-pub record Steps (g : Config) (J : List Entry) (e : Entry) (n : Node) (s : Step) : Type 0 where
+pub record IsStep (g : Config) (J : List Entry) (e : Entry) (n : Node) (s : Step) : Type 0 where
   pub stands : StandsFor g (J ++ e ∷ []) n
   pub told : events g (J ++ e ∷ []) ≡ events g J ++ s.events
   pub done : acts g (J ++ e ∷ []) ≡ acts g J ++ s.acts

@@ -6,9 +6,9 @@ use Rattle.zre_mailbox.specs.Talk.{Said, Arrived, arrivals_in, fault_said}
 use Rattle.zre_values.specs.declared.settings.Settings.{Settings as Config}
 use Rattle.zre_journal.specs.Chronicle.{Mark}
 use Rattle.zre_journal.specs.Arrivals.{at_arrival, at_later}
-use Rattle.zre_node.specs.declared.incoming.arrivals.Heard.{Heard}
+use Rattle.zre_node.specs.declared.incoming.arrivals.Completed.{Completed}
 
-abbrev pub said_in : Heard → List Said
+abbrev pub said_in : Completed → List Said
 said_in h = map (λ a. Arrived a) (arrivals_in h.items) ++ fault_said h.fault
 
 -- at what arrives with an item on a live connection, if anything does

@@ -9,7 +9,7 @@ use Rattle.zre_outside.specs.declared.entry.Input.TheVariants as input
 use Rattle.zre_msg.specs.declared.message.Message.{Message}
 use Rattle.zre_msg.specs.declared.message.Body.{Body}
 use Rattle.zre_msg.specs.declared.message.Body.TheVariants as body
-use Rattle.zre_mailbox.specs.Conn.{Hearing, conn_after}
+use Rattle.zre_mailbox.specs.Conn.{ConnHearing, conn_after}
 use Rattle.zre_link.specs.Link.{Sending, link_after}
 use Rattle.zre_values.specs.declared.settings.Settings.{Settings as Config}
 use Rattle.zre_journal.specs.Chronicle.{Mark, after}
@@ -50,7 +50,7 @@ IsPeer g H v k = IsKept v.id (active v.link H) (runner v.link H) (counted v.link
 -- ---- an open connection
 
 -- what reads it: nothing, where it is ignored
-abbrev pub heard_by : Bool → PeerId → List ℕ → Option Hearing
+abbrev pub heard_by : Bool → PeerId → List ℕ → Option ConnHearing
 heard_by true own o = None
 heard_by false own o = Some (conn_after own o)
 

@@ -7,7 +7,7 @@ ghost use Rattle.zre_values.specs.declared.settings.Settings.{Settings as Config
 ghost use Rattle.zre_values.specs.Settings.{is_valid};
 ghost use Rattle.zre_journal.specs.Events.{events};
 ghost use Rattle.zre_journal.specs.Ledger.{KeepsLedgers};
-ghost use Rattle.zre_node.specs.Journal.{is_spent, StandsFor, Steps, StepsLooks};
+ghost use Rattle.zre_node.specs.Journal.{is_spent, StandsFor, IsStep, StepsLooks};
 
 use crate::effects::{Effects, Step};
 use crate::tables::Tables;
@@ -77,7 +77,7 @@ impl Node {
     /// a limit of the view forbids it.
     pub fn step(&mut self, entry: Entry) -> Result<Step, OutOfMemory>
         ensures steps { (g : ConfigValue) (J : List EntryValue) → StandsFor g J self.old →
-            IfOk result (λ s. Steps g J entry self.new s) }
+            IfOk result (λ s. IsStep g J entry self.new s) }
         ensures ledgers { (g : ConfigValue) (J : List EntryValue) → StandsFor g J self.old →
             IfOk result (λ s. KeepsLedgers g (J ++ entry ∷ []) (events g J ++ s.events)) }
         ensures spent { IsTrue (is_spent self.new) ↔ IsErr result }
@@ -93,7 +93,7 @@ impl Node {
     /// The same, with what it tells and asks for in place of what stands in a step, whose lists serve again and again.
     pub fn step_into(&mut self, entry: Entry, step: &mut Step) -> Result<(), OutOfMemory>
         ensures steps { (g : ConfigValue) (J : List EntryValue) → StandsFor g J self.old →
-            OnOk result (Steps g J entry self.new step.new) }
+            OnOk result (IsStep g J entry self.new step.new) }
         ensures ledgers { (g : ConfigValue) (J : List EntryValue) → StandsFor g J self.old →
             OnOk result (KeepsLedgers g (J ++ entry ∷ []) (events g J ++ step.new.events)) }
         ensures spent { IsTrue (is_spent self.new) ↔ IsErr result }
@@ -110,7 +110,7 @@ impl Node {
         steps: &mut Counter<L>,
     ) -> Result<Step, OutOfMemory>
         ensures steps { (g : ConfigValue) (J : List EntryValue) → StandsFor g J self.old →
-            IfOk result (λ s. Steps g J entry self.new s) }
+            IfOk result (λ s. IsStep g J entry self.new s) }
         ensures spent { IsTrue (is_spent self.new) ↔ IsErr result }
         ensures ended { IsTrue (is_spent self.old) → IsErr result }
         ensures looks { StepsLooks self.old entry steps.old steps.new result }
@@ -131,7 +131,7 @@ impl Node {
         steps: &mut Counter<L>,
     ) -> Result<(), OutOfMemory>
         ensures steps { (g : ConfigValue) (J : List EntryValue) → StandsFor g J self.old →
-            OnOk result (Steps g J entry self.new step.new) }
+            OnOk result (IsStep g J entry self.new step.new) }
         ensures spent { IsTrue (is_spent self.new) ↔ IsErr result }
         ensures ended { IsTrue (is_spent self.old) → IsErr result }
         ensures looks { StepsLooks self.old entry steps.old steps.new result }
@@ -163,7 +163,7 @@ impl Node {
     ) -> Result<(), OutOfMemory>
         requires blank { IsOpenTo L.name L.parts blank.name blank.parts }
         ensures steps { (g : ConfigValue) (J : List EntryValue) → StandsFor g J self.old →
-            OnOk result (Steps g J entry self.new step.new) }
+            OnOk result (IsStep g J entry self.new step.new) }
         ensures spent { IsTrue (is_spent self.new) ↔ IsErr result }
         ensures ended { IsTrue (is_spent self.old) → IsErr result }
     {

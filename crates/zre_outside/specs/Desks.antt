@@ -2,7 +2,7 @@
 use Rattle.std.specs.Prelude.{◌≡◌, ℕ, List, [], ◌∷◌, ◌++◌, Option, Some, None}
 use Rattle.zre_values.specs.declared.endpoint.Endpoint.{Endpoint}
 use Rattle.zre_outside.specs.Calls.{Calls}
-use Rattle.zre_outside.specs.Memory.{Reading}
+use Rattle.zre_outside.specs.Memory.{SourceReading}
 
 pub record Register (Client : Type 0) : Type 0 where
   -- where it was last begun
@@ -23,18 +23,18 @@ abbrev pub first_register : {Client : Type 0} → Register Client
 first_register = record { begun = None; given = [] }
 
 -- the clients that a desk in memory has left to give, and what it did
-pub record Queue (Client : Type 0) : Type 0 where
+pub record ClientQueue (Client : Type 0) : Type 0 where
   pub left : List Client
   pub told : Register Client
 
 -- the same where some calls are to fail
 pub record FailingQueue (Client : Type 0) : Type 0 where
-  pub queue : Queue Client
+  pub queue : ClientQueue Client
   pub begins : Calls
   pub nexts : Calls
   pub faults : ℕ
 
 -- the client that comes is the first that is left, and past the last one it has nothing to send
-abbrev pub GivesOn : Reading → List Reading → List Reading → Type 0
+abbrev pub GivesOn : SourceReading → List SourceReading → List SourceReading → Type 0
 GivesOn c [] later = (c.left ≡ []) × (c.taken ≡ []) × (later ≡ [])
 GivesOn c (first ∷ rest) later = (c ≡ first) × (later ≡ rest)

@@ -3,13 +3,13 @@ use Rattle.std.specs.Prelude.{ℕ, List}
 use Rattle.zre_outside.specs.Calls.{Calls}
 
 -- octets that are read in order
-pub record Reading : Type 0 where
+pub record SourceReading : Type 0 where
   pub left : List ℕ
   pub taken : List ℕ
 
 -- the same where some reads are to fail
 pub record FailingReading : Type 0 where
-  pub octets : Reading
+  pub octets : SourceReading
   pub reads : Calls
   pub faults : ℕ
 

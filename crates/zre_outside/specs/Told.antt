@@ -3,7 +3,7 @@ use Rattle.std.specs.Prelude.{◌≡◌, ℕ, List, ◌++◌, Option}
 use Rattle.std.specs.Io.KnownBytes.{Appends, Consumes}
 
 -- a call moved some octets: they are gone from the front of what was left, and stand after what was taken
-pub record Moves (left left' taken taken' : Option (List ℕ)) (octets : List ℕ) : Type 0 where
+pub record MovesOn (left left' taken taken' : Option (List ℕ)) (octets : List ℕ) : Type 0 where
   pub consumed : Consumes left left' octets
   pub recorded : Appends taken taken' octets
 

@@ -2,7 +2,7 @@ ghost use Rattle.std.specs.Prelude.{◌≡◌, ◌≤◌, ◌<◌, None, length,
 ghost use Rattle.std.specs.Io.{ReadsAtMost, WritesAtMost};
 ghost use Rattle.std.specs.Io.KnownBytes.{Keeps, Appends, IsAtEnd};
 ghost use Rattle.zre_outside.specs.Causes.{Rose, is_failed, counted};
-ghost use Rattle.zre_outside.specs.Told.{Moves};
+ghost use Rattle.zre_outside.specs.Told.{MovesOn};
 
 use crate::{Failed, Faults, NextFault, Sink, Source};
 use std::io::{self, ErrorKind, Read, Write};
@@ -56,7 +56,7 @@ impl<T: Read> Source for Adapter<T> {
     fn read(&mut self, buf: &mut [u8]) -> Result<usize, Failed>
         requires { 0 < length buf.old }
         ensures bound { ReadsAtMost result buf.new }
-        ensures moved { IfOk result (λ n. Moves (T.remaining (inner_of self.old))
+        ensures moved { IfOk result (λ n. MovesOn (T.remaining (inner_of self.old))
             (T.remaining (inner_of self.new)) None None (take n buf.new)) }
         ensures end { IfOk result (λ n. n ≡ 0 → IsAtEnd (T.remaining (inner_of self.new))) }
         ensures refused_left { OnErr result (Keeps (T.remaining (inner_of self.old))

@@ -1,5 +1,5 @@
 ghost use Rattle.std.specs.Prelude.{◌≡◌, ◌<◌, ◌≤◌, length, min, take, Some, []};
-ghost use Rattle.zre_outside.specs.Told.{Moves};
+ghost use Rattle.zre_outside.specs.Told.{MovesOn};
 
 use zre_values::Octets;
 
@@ -23,7 +23,7 @@ impl Held {
     /// Copies as many octets as there are and as fit into the front of `buf`.
     pub(crate) fn give(&mut self, buf: &mut [u8]) -> usize
         ensures most { result ≡ min (length (reading_of self.old).left) (length buf.old) }
-        ensures moved { Moves (Some (reading_of self.old).left) (Some (reading_of self.new).left)
+        ensures moved { MovesOn (Some (reading_of self.old).left) (Some (reading_of self.new).left)
             (Some (reading_of self.old).taken) (Some (reading_of self.new).taken) (take result buf.new) }
     {
         let rest = &self.all.as_slice()[self.at..];

@@ -2,7 +2,7 @@ ghost use Rattle.std.specs.Prelude.{◌≡◌, ◌≤◌, ◌<◌, length, take,
 ghost use Rattle.std.specs.Io.{ReadsAtMost, WritesAtMost};
 ghost use Rattle.std.specs.Io.KnownBytes.{Keeps, Appends, IsAtEnd};
 ghost use Rattle.zre_outside.specs.Causes.{Rose, is_failed, counted};
-ghost use Rattle.zre_outside.specs.Told.{Moves};
+ghost use Rattle.zre_outside.specs.Told.{MovesOn};
 ghost use Rattle.zre_outside.specs.Held.{reading_of};
 ghost use Rattle.zre_outside.specs.Memory.{FailingReading, FailingWriting};
 ghost use Rattle.zre_outside.specs.Calls.{no_calls, called, next_is_listed};
@@ -60,7 +60,7 @@ impl Source for MemSource {
     fn read(&mut self, buf: &mut [u8]) -> Result<usize, Failed>
         requires { 0 < length buf.old }
         ensures bound { ReadsAtMost result buf.new }
-        ensures moved { IfOk result (λ n. Moves (Some self.old.octets.left) (Some self.new.octets.left)
+        ensures moved { IfOk result (λ n. MovesOn (Some self.old.octets.left) (Some self.new.octets.left)
             (Some self.old.octets.taken) (Some self.new.octets.taken) (take n buf.new)) }
         ensures end { IfOk result (λ n. n ≡ 0 → IsAtEnd (Some self.new.octets.left)) }
         ensures refused_left { OnErr result (Keeps (Some self.old.octets.left) (Some self.new.octets.left)) }

@@ -2,7 +2,7 @@ ghost use Rattle.std.specs.Prelude.{◌≡◌, ◌<◌, ◌≤◌, ℕ, List, Op
 ghost use Rattle.std.specs.Io.{ReadsAtMost};
 ghost use Rattle.std.specs.Io.KnownBytes.{Keeps, IsAtEnd};
 ghost use Rattle.zre_outside.specs.Causes.{Rose};
-ghost use Rattle.zre_outside.specs.Told.{Moves};
+ghost use Rattle.zre_outside.specs.Told.{MovesOn};
 
 use thiserror::Error;
 
@@ -26,7 +26,7 @@ pub trait Source {
     fn read(&mut self, buf: &mut [u8]) -> Result<usize, Failed>
         requires { 0 < length buf.old }
         ensures bound { ReadsAtMost result buf.new }
-        ensures moved { IfOk result (λ n. Moves (left self.old) (left self.new) (taken self.old) (taken self.new)
+        ensures moved { IfOk result (λ n. MovesOn (left self.old) (left self.new) (taken self.old) (taken self.new)
             (take n buf.new)) }
         ensures end { IfOk result (λ n. n ≡ 0 → IsAtEnd (left self.new)) }
         ensures refused_left { OnErr result (Keeps (left self.old) (left self.new)) }

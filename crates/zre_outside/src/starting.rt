@@ -14,17 +14,17 @@ use std::thread;
 use std::thread::Threads;
 
 /// The job that goes through a channel.
-pub(crate) trait Known<J> {
+pub(crate) trait JobName<J> {
     ghost the: { Option J };
 }
 
-impl<J> Known<J> for Brand {
+impl<J> JobName<J> for Brand {
     ghost the = { None };
 }
 
 /// A job on its way.
 #[derive(Drop)]
-pub(crate) struct Sent<J: Drop, B: Known<J>> {
+pub(crate) struct SentJob<J: Drop, B: JobName<J>> {
     job: J,
     of: PhantomData<B>,
     ghost known: { B.the ≡ Some job },
@@ -41,15 +41,15 @@ pub(crate) fn start_job<R: Threads + Wait + Copy + Send + 'static, J: Job<R>>(
     start_known::<R, J, Brand>(rt, alloc, job)
 }
 
-fn start_known<R: Threads + Wait + Copy + Send + 'static, J: Job<R>, B: Known<J> + Send + 'static>(
-    rt: R,
-    alloc: Global,
-    job: J,
-) -> Result<Running<J>, J>
+fn start_known<
+    R: Threads + Wait + Copy + Send + 'static,
+    J: Job<R>,
+    B: JobName<J> + Send + 'static,
+>(rt: R, alloc: Global, job: J) -> Result<Running<J>, J>
     requires { B.the ≡ Some job }
     ensures { MatchResult result (λ r. job_of r ≡ job) (λ j. j ≡ job) }
 {
-    let Ok((sender, receiver)) = bounded::<Sent<J, B>, Global>(alloc, 1) else {
+    let Ok((sender, receiver)) = bounded::<SentJob<J, B>, Global>(alloc, 1) else {
         return Err(job);
     };
     let works = Works::of(&job);
@@ -62,7 +62,7 @@ fn start_known<R: Threads + Wait + Copy + Send + 'static, J: Job<R>, B: Known<J>
     ) else {
         return Err(job);
     };
-    let sent = Sent {
+    let sent = SentJob {
         job,
         of: PhantomData,
     };
@@ -73,9 +73,9 @@ fn start_known<R: Threads + Wait + Copy + Send + 'static, J: Job<R>, B: Known<J>
 }
 
 // Runs the job that comes.
-fn run_sent<R: Threads + Wait + Copy + Send + 'static, J: Job<R>, B: Known<J>>(
+fn run_sent<R: Threads + Wait + Copy + Send + 'static, J: Job<R>, B: JobName<J>>(
     rt: R,
-    receiver: Receiver<Sent<J, B>>,
+    receiver: Receiver<SentJob<J, B>>,
 ) -> J::Out
     ensures { IfSome B.the (λ other. J.means other result) }
 {

@@ -1,6 +1,6 @@
 ghost use Rattle.std.specs.Prelude.{◌≡◌, ℕ, List, Some, []};
 ghost use Rattle.zre_outside.specs.Held.{reading_of};
-ghost use Rattle.zre_outside.specs.Memory.{Reading};
+ghost use Rattle.zre_outside.specs.Memory.{SourceReading};
 
 use crate::held::Held;
 use crate::{Failed, NextFault, Sink, Source};
@@ -15,7 +15,7 @@ pub struct SureSource {
 }
 
 impl Model for SureSource {
-    ghost Value = { Reading };
+    ghost Value = { SourceReading };
 
     ghost view = { λ s. reading_of s.held };
 }

@@ -1,8 +1,8 @@
 ghost use Rattle.std.specs.Prelude.{◌≡◌, Some, option_map, IfOk, OnOk, OnErr};
 ghost use Rattle.zre_outside.specs.Causes.{Rose};
-ghost use Rattle.zre_outside.specs.Desks.{Queue, first_register, with_begun, with_given, GivesOn};
+ghost use Rattle.zre_outside.specs.Desks.{ClientQueue, first_register, with_begun, with_given, GivesOn};
 ghost use Rattle.zre_outside.specs.Givens.{given_in};
-ghost use Rattle.zre_outside.specs.Memory.{Reading};
+ghost use Rattle.zre_outside.specs.Memory.{SourceReading};
 
 use crate::given::Given;
 use crate::{Desk, Failed, SureSource};
@@ -22,7 +22,7 @@ pub struct SureDesk {
 }
 
 impl Model for SureDesk {
-    ghost Value = { Queue Reading };
+    ghost Value = { ClientQueue SourceReading };
 
     ghost view = { λ d. record { left = d.left.items; told = record { begun = d.begun; given = given_in d.given } } };
 }

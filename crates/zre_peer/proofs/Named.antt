@@ -8,8 +8,8 @@ use Rattle.zre_msg.specs.declared.message.Body.{Body}
 use Rattle.zre_msg.specs.declared.message.Body.TheVariants.{Hello, Whisper, Shout, Join, Leave, Ping, PingOk, Other}
 use Rattle.zre_msg.specs.Commands.{body_of}
 use Rattle.zre_msg.specs.Lent.{message_of}
-use Rattle.zre_msg.specs.declared.commands.Command.{Command}
-use Rattle.zre_msg.specs.declared.commands.Command.TheVariants as lent
+use Rattle.zre_msg.specs.declared.commands.LentBody.{LentBody}
+use Rattle.zre_msg.specs.declared.commands.LentBody.TheVariants as lent
 use Rattle.zre_msg.specs.declared.lent.LentMessage.{LentMessage}
 use Rattle.zre_peer.specs.Runs.{is_hello}
 use Rattle.zre_peer.specs.Heads.{heads_of}
@@ -67,7 +67,7 @@ pub passed_on : (P : RunFault → Type 0) (result : Result (Unit {0}) RunFault) 
 passed_on P (Ok x) fault is p = tt
 passed_on P (Err e) fault is p = subst P (sym is) p
 
-command_is_later : (c : Command) (more : List (List ℕ)) → is_hello (body_of c more) ≡ false
+command_is_later : (c : LentBody) (more : List (List ℕ)) → is_hello (body_of c more) ≡ false
 command_is_later lent.Whisper more = refl
 command_is_later (lent.Shout group) more = refl
 command_is_later (lent.Join group status) more = refl

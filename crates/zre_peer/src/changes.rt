@@ -12,7 +12,7 @@ use crate::peer_run::RunFault;
 use crate::view::View;
 use std::alloc::Global;
 use std::mem;
-use zre_msg::{Body, Command, LentMessage};
+use zre_msg::{Body, LentBody, LentMessage};
 use zre_values::{Frames, Octets, PeerId};
 
 // Whether the view stays within the limits with one more group.
@@ -194,18 +194,18 @@ pub(crate) fn change_by_lent(
     ensures refused { PassesLimit result view.old (message_of lent.now).body events.old events.new }
 {
     match lent.command {
-        Command::Join { group, status } => joined(alloc, id, view, group, status, events),
-        Command::Leave { group, status } => left(alloc, id, view, group, status, events),
-        Command::Whisper => {
+        LentBody::Join { group, status } => joined(alloc, id, view, group, status, events),
+        LentBody::Leave { group, status } => left(alloc, id, view, group, status, events),
+        LentBody::Whisper => {
             let content = Frames::copy(alloc, lent.content)?;
             whispered(alloc, id, view, content, events)
         }
-        Command::Shout { group } => {
+        LentBody::Shout { group } => {
             let group = Octets::copy(alloc, group)?;
             let content = Frames::copy(alloc, lent.content)?;
             shouted(alloc, id, view, group, content, events)
         }
-        Command::Ping | Command::PingOk => Ok(()),
-        Command::Other { .. } => Ok(()),
+        LentBody::Ping | LentBody::PingOk => Ok(()),
+        LentBody::Other { .. } => Ok(()),
     }
 }

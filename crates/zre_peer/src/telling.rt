@@ -16,7 +16,7 @@ use crate::line::{push_content_end, push_group_end, push_shout_end};
 use crate::peer_run::RunFault;
 use crate::view::View;
 use std::alloc::Global;
-use zre_msg::{Command, LentMessage};
+use zre_msg::{LentBody, LentMessage};
 use zre_values::{Octets, OutOfMemory};
 
 // The beginning of a line, and a group.
@@ -64,21 +64,21 @@ pub(crate) fn tell_change(
     ensures refused { PassesLimit result view.old (message_of lent.now).body out.old out.new }
 {
     match lent.command {
-        Command::Join { group, status } => {
+        LentBody::Join { group, status } => {
             if !can_join(view, group) {
                 return Err(RunFault::Limit);
             }
             push_group(out, &heads.join, group)?;
             join(alloc, view, group, status)
         }
-        Command::Leave { group, status } => {
+        LentBody::Leave { group, status } => {
             push_group(out, &heads.leave, group)?;
             leave(view, group, status);
             Ok(())
         }
-        Command::Whisper => Ok(push_whisper(out, heads, lent.content)?),
-        Command::Shout { group } => Ok(push_shout(out, heads, group, lent.content)?),
-        Command::Ping | Command::PingOk => Ok(()),
-        Command::Other { .. } => Ok(()),
+        LentBody::Whisper => Ok(push_whisper(out, heads, lent.content)?),
+        LentBody::Shout { group } => Ok(push_shout(out, heads, group, lent.content)?),
+        LentBody::Ping | LentBody::PingOk => Ok(()),
+        LentBody::Other { .. } => Ok(()),
     }
 }

@@ -1,19 +1,19 @@
 //! A case file, section by section. A section begins with a row, or with the line that names its subject.
 
+use crate::case_file::CaseFile;
 use crate::opening::open;
-use crate::page::Page;
 use crate::report::Place;
-use crate::section::{Line, Section};
-use crate::subject::{Missing, take_lines};
+use crate::section::{CaseLine, Section};
+use crate::subject::{MissingSubject, take_lines};
 use crate::words::Words;
 use std::alloc::{AllocError, Global};
 use std::sync::Wait;
 use std::thread::Threads;
 
-fn line_of<'a>(alloc: Global, place: Place<'a>, text: &'a [u8]) -> Line<'a> {
+fn line_of<'a>(alloc: Global, place: Place<'a>, text: &'a [u8]) -> CaseLine<'a> {
     let words = Words::of_line(alloc, text);
     let is_head = words.is("row") || words.is("on");
-    Line {
+    CaseLine {
         place,
         text,
         is_head,
@@ -25,7 +25,7 @@ fn lines_of<'a>(
     alloc: Global,
     file: &'a [u8],
     text: &'a [u8],
-) -> Result<Vec<Line<'a>>, AllocError> {
+) -> Result<Vec<CaseLine<'a>>, AllocError> {
     let mut lines = Vec::new(alloc);
     let mut line: u64 = 0;
     for part in text.split(|octet| *octet == b'\n') {
@@ -40,7 +40,7 @@ fn lines_of<'a>(
 // `row TITLE`, with no subject after it, or `on NAME ARGUMENTS`.
 fn take_section<T: Threads + Wait + AllocGlobal + Copy + Send + 'static>(
     rt: T,
-    page: &mut Page,
+    page: &mut CaseFile,
     section: Section<'_>,
 ) {
     page.take(section.head);
@@ -49,14 +49,14 @@ fn take_section<T: Threads + Wait + AllocGlobal + Copy + Send + 'static>(
         open(rt, page, words.rest(), section);
     } else {
         page.settle_line(section.head.place);
-        take_lines(page, &mut Missing, section.lines);
+        take_lines(page, &mut MissingSubject, section.lines);
     }
 }
 
 fn take_sections<T: Threads + Wait + AllocGlobal + Copy + Send + 'static>(
     rt: T,
-    page: &mut Page,
-    lines: &[Line<'_>],
+    page: &mut CaseFile,
+    lines: &[CaseLine<'_>],
 ) {
     for i in 0..lines.len() {
         let head = lines[i];
@@ -70,14 +70,14 @@ fn take_sections<T: Threads + Wait + AllocGlobal + Copy + Send + 'static>(
 /// Goes over a case file.
 pub fn go_over<T: Threads + Wait + AllocGlobal + Copy + Send + 'static>(
     rt: T,
-    page: &mut Page,
+    page: &mut CaseFile,
     file: &[u8],
     text: &[u8],
 ) {
     page.begin();
     match lines_of(page.alloc, file, text) {
         Ok(lines) => {
-            take_lines(page, &mut Missing, lines.as_slice());
+            take_lines(page, &mut MissingSubject, lines.as_slice());
             take_sections(rt, page, lines.as_slice());
         }
         Err(_) => page.fail(Place { file, line: 0 }, b"out of memory"),

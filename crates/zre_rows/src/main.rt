@@ -5,11 +5,11 @@
 #![tactic(auto)]
 
 mod acts;
+mod case_file;
 mod cases;
 mod journal;
 mod names;
 mod opening;
-mod page;
 mod report;
 mod row;
 mod section;
@@ -19,8 +19,8 @@ mod trouble;
 mod wire;
 mod words;
 
+use case_file::CaseFile;
 use cases::go_over;
-use page::Page;
 use report::{Place, Report};
 use std::io::Write;
 use std::process::ExitCode;
@@ -47,7 +47,7 @@ fn case_files<R: Files + AllocGlobal + Clone + Drop>(rt: &R) -> io::Result<Vec<S
 fn take_file<R: Files + Threads + Wait + AllocGlobal + Copy + Send + 'static>(
     rt: R,
     name: &str,
-    page: &mut Page,
+    page: &mut CaseFile,
 ) {
     let file = name.as_bytes();
     match fs::read(&rt, name) {
@@ -63,7 +63,7 @@ fn take_files<R: Files + Threads + Wait + AllocGlobal + Copy + Send + 'static>(
     rt: R,
     names: &[String],
 ) -> Report {
-    let mut page = Page::new(rt.alloc());
+    let mut page = CaseFile::new(rt.alloc());
     for name in names {
         take_file(rt, name.as_str(), &mut page);
     }

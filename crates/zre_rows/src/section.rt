@@ -4,7 +4,7 @@ use crate::report::Place;
 
 /// A line that is neither empty nor a comment.
 #[derive(Clone, Copy)]
-pub struct Line<'a> {
+pub struct CaseLine<'a> {
     pub place: Place<'a>,
     pub text: &'a [u8],
     /// Whether a section begins with it: it is `row TITLE` or `on NAME ARGUMENTS`.
@@ -14,6 +14,6 @@ pub struct Line<'a> {
 /// The first line of a section, and all lines after it. The section ends before the next first line.
 #[derive(Clone, Copy)]
 pub struct Section<'a> {
-    pub head: Line<'a>,
-    pub lines: &'a [Line<'a>],
+    pub head: CaseLine<'a>,
+    pub lines: &'a [CaseLine<'a>],
 }

@@ -7,8 +7,8 @@ pub mod memory;
 pub mod nodes;
 pub mod worlds;
 
-use crate::page::Page;
-use crate::section::Line;
+use crate::case_file::CaseFile;
+use crate::section::CaseLine;
 use crate::text::Text;
 use crate::trouble::Trouble;
 use crate::words::Words;
@@ -22,9 +22,9 @@ pub trait Subject: Drop {
 
 /// No line has named one yet, or its arguments were bad.
 #[derive(Drop)]
-pub struct Missing;
+pub struct MissingSubject;
 
-impl Subject for Missing {
+impl Subject for MissingSubject {
     fn step(&mut self, _words: &mut Words<'_>, answer: &mut Text) {
         answer.fail(Trouble::UnknownKey);
     }
@@ -42,7 +42,7 @@ macro_rules! steps {
 
 pub(crate) use steps;
 
-fn step<S: Subject>(page: &mut Page, subject: &mut S, words: Words<'_>) {
+fn step<S: Subject>(page: &mut CaseFile, subject: &mut S, words: Words<'_>) {
     let text = page.expanded(words.rest());
     if text.is_whole(&mut page.row.answer) {
         let mut words = words.with_rest(text.as_slice());
@@ -52,7 +52,7 @@ fn step<S: Subject>(page: &mut Page, subject: &mut S, words: Words<'_>) {
 }
 
 // `repeat FROM TO KEY ARGUMENTS`: the step once for each number. What all of them answer is the answer.
-fn repeat<S: Subject>(page: &mut Page, subject: &mut S, mut words: Words<'_>) {
+fn repeat<S: Subject>(page: &mut CaseFile, subject: &mut S, mut words: Words<'_>) {
     let from = words.number();
     let to = words.number();
     if words.are_good(&mut page.row.answer) {
@@ -65,7 +65,7 @@ fn repeat<S: Subject>(page: &mut Page, subject: &mut S, mut words: Words<'_>) {
 }
 
 /// Does what a line says, but for what it answers.
-pub fn take_line<S: Subject>(page: &mut Page, subject: &mut S, line: Line<'_>) {
+pub fn take_line<S: Subject>(page: &mut CaseFile, subject: &mut S, line: CaseLine<'_>) {
     if page.take(line) {
         let words = Words::of_line(page.alloc, line.text);
         if words.is("repeat") {
@@ -77,7 +77,7 @@ pub fn take_line<S: Subject>(page: &mut Page, subject: &mut S, line: Line<'_>) {
 }
 
 /// Takes lines up to the next section.
-pub fn take_lines<S: Subject>(page: &mut Page, subject: &mut S, lines: &[Line<'_>]) {
+pub fn take_lines<S: Subject>(page: &mut CaseFile, subject: &mut S, lines: &[CaseLine<'_>]) {
     for line in lines {
         if line.is_head {
             return;

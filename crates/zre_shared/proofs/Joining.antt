@@ -6,14 +6,14 @@ use Rattle.std.proofs.lemmas.List.{append-nil}
 use Rattle.std.proofs.lemmas.List.Elements.{recursion_from_All}
 use Rattle.zre_values.specs.declared.peer_id.PeerId.{PeerId}
 use Rattle.zre_shared.specs.declared.write.Write.{Write}
-use Rattle.zre_shared.specs.Replicas.{Held, with_write, with_frames}
+use Rattle.zre_shared.specs.Replicas.{HeldWrites, with_write, with_frames}
 use Rattle.zre_shared.specs.Tables.{table}
 use Rattle.zre_shared.specs.Writes.{IsWrite, write_of, write_text}
 use Rattle.zre_shared.proofs.Forms.{write_of-text}
 use Rattle.zre_shared.proofs.Members.{at_member, all_members}
 use Rattle.zre_shared.proofs.Tabling.{tables, table-left, table-right}
 
-abbrev holding : PeerId → List Write → Held
+abbrev holding : PeerId → List Write → HeldWrites
 holding id ws = record { id = id; writes = table ws }
 
 pub taken : (id : PeerId) (ws : List Write) (frames : List (List ℕ)) → with_frames (holding id ws) frames ≡ holding id (ws ++ filter_map write_of frames)

@@ -18,7 +18,7 @@ use Rattle.std.proofs.lemmas.Map.Lookups.{exact_bytes}
 use Rattle.zre_values.specs.declared.peer_id.PeerId.{PeerId}
 use Rattle.zre_shared.specs.declared.write.Write.{Write}
 use Rattle.zre_shared.specs.Kept.{Name, Map, by_name, IsAtKey, IsKept}
-use Rattle.zre_shared.specs.Replicas.{Held, with_write, greatest_count, next_write}
+use Rattle.zre_shared.specs.Replicas.{HeldWrites, with_write, greatest_count, next_write}
 use Rattle.zre_shared.specs.Tables.{by_key, by_age, greater, put}
 use Rattle.zre_shared.specs.Writes.{IsWrite}
 use Rattle.zre_shared.proofs.Ages.{by_count}
@@ -180,14 +180,14 @@ put-kept m n g count id w h is e =
       id_fits = h.id_fits;
     }
 
-pub put-held : (m n : Map) (g : ℕ) (id : PeerId) (w : Write) (held : Held) → IsKept m g id → IsPut m n w → record { id = id; writes = values_of m.entries } ≡ held → record { id = id; writes = values_of n.entries } ≡ with_write held w
+pub put-held : (m n : Map) (g : ℕ) (id : PeerId) (w : Write) (held : HeldWrites) → IsKept m g id → IsPut m n w → record { id = id; writes = values_of m.entries } ≡ held → record { id = id; writes = values_of n.entries } ≡ with_write held w
 put-held m n g id w held h is view =
     ap (λ (vs : List Write). record { id = id; writes = vs }) (is.values ∙ put-table w (values_of m.entries) (rising m g id h))
-    ∙ ap (λ (x : Held). with_write x w) view
+    ∙ ap (λ (x : HeldWrites). with_write x w) view
 
 -- ---- a write of its own
 
-pub next-greater : (held : Held) (key value : List ℕ) → All (λ v. by_age v (next_write held key value) ≡ Less) held.writes
+pub next-greater : (held : HeldWrites) (key value : List ℕ) → All (λ v. by_age v (next_write held key value) ≡ Less) held.writes
 next-greater held key value =
     All-from_recursion (λ v. by_age v (next_write held key value) ≡ Less) held.writes
     (all_members (λ v. by_age v (next_write held key value) ≡ Less) held.writes

@@ -4,7 +4,7 @@ use Rattle.std.specs.List.{AllByRecursion}
 use Rattle.std.proofs.lemmas.List.{append-nil}
 use Rattle.zre_values.specs.declared.peer_id.PeerId.{PeerId}
 use Rattle.zre_outside.specs.declared.entry.Command.{Command}
-use Rattle.zre_shared.specs.declared.gathered.Gathered.{Gathered}
+use Rattle.zre_shared.specs.declared.gathered.GatheredWhispers.{GatheredWhispers}
 use Rattle.zre_shared.specs.declared.write.Write.{Write}
 use Rattle.zre_shared.specs.Gathering.{frames_of, IsGathered, IsPushed, AreAll}
 use Rattle.zre_shared.specs.Welcome.{IsWhisper, IsWelcome}
@@ -12,13 +12,13 @@ use Rattle.zre_shared.specs.Writes.{IsWrite, write_of, write_text}
 use Rattle.zre_shared.proofs.Joining.{again}
 
 -- the frames of the writes before those that are left are gathered
-pub record Welcoming (peer : PeerId) (all left : List Write) (g : Gathered) : Type 0 where
+pub record Welcoming (peer : PeerId) (all left : List Write) (g : GatheredWhispers) : Type 0 where
   pub gathered : IsGathered g
   pub peer_is : g.peer ≡ peer
   pub frames : frames_of g ++ map write_text left ≡ map write_text all
   pub fits : AllByRecursion IsWrite left
 
-pub started : (peer : PeerId) (all left : List Write) (g : Gathered) → IsGathered g → g.peer ≡ peer → frames_of g ≡ [] → left ≡ all → AllByRecursion IsWrite all → Welcoming peer all left g
+pub started : (peer : PeerId) (all left : List Write) (g : GatheredWhispers) → IsGathered g → g.peer ≡ peer → frames_of g ≡ [] → left ≡ all → AllByRecursion IsWrite all → Welcoming peer all left g
 started peer all left g is same none whole fits = record {
   gathered = is;
   peer_is = same;
@@ -27,7 +27,7 @@ started peer all left g is same none whole fits = record {
 }
 
 -- one more
-pub stepped : (peer : PeerId) (all left rest : List Write) (w : Write) (g h : Gathered) (frame : List ℕ) → Welcoming peer all left g → left ≡ w ∷ rest → frame ≡ write_text w → IsPushed g h frame → Welcoming peer all rest h
+pub stepped : (peer : PeerId) (all left rest : List Write) (w : Write) (g h : GatheredWhispers) (frame : List ℕ) → Welcoming peer all left g → left ≡ w ∷ rest → frame ≡ write_text w → IsPushed g h frame → Welcoming peer all rest h
 stepped peer all left rest w g h frame was e f p =
     let fits : AllByRecursion IsWrite (w ∷ rest) = subst (AllByRecursion IsWrite) e was.fits in
     record {
@@ -40,11 +40,11 @@ stepped peer all left rest w g h frame was e f p =
       fits = fits.1;
     }
 
-pub fits-next : (peer : PeerId) (all left rest : List Write) (w : Write) (g : Gathered) → Welcoming peer all left g → left ≡ w ∷ rest → IsWrite w
+pub fits-next : (peer : PeerId) (all left rest : List Write) (w : Write) (g : GatheredWhispers) → Welcoming peer all left g → left ≡ w ∷ rest → IsWrite w
 fits-next peer all left rest w g was e = (let fits : AllByRecursion IsWrite (w ∷ rest) = subst (AllByRecursion IsWrite) e was.fits in fits.0)
 
 -- all of them
-pub welcomed : (peer : PeerId) (all left : List Write) (g : Gathered) (commands : List Command) → Welcoming peer all left g → left ≡ [] → AllByRecursion IsWrite all → AreAll g commands → IsWelcome peer all commands
+pub welcomed : (peer : PeerId) (all left : List Write) (g : GatheredWhispers) (commands : List Command) → Welcoming peer all left g → left ≡ [] → AllByRecursion IsWrite all → AreAll g commands → IsWelcome peer all commands
 welcomed peer all left g commands was none fits are =
     let whole : frames_of g ≡ map write_text all =
     sym (append-nil (frames_of g)) ∙ ap (λ (ws : List Write). frames_of g ++ map write_text ws) (sym none) ∙ was.frames in

@@ -7,23 +7,23 @@ use Rattle.zre_shared.specs.Writes.{write_of}
 use Rattle.zre_shared.specs.declared.write.Write.{Write}
 
 -- whose writes it makes, and the writes that it holds
-pub record Held : Type 0 where
+pub record HeldWrites : Type 0 where
   pub id : PeerId
   pub writes : List Write
 
-abbrev pub none_held : PeerId → Held
+abbrev pub none_held : PeerId → HeldWrites
 none_held id = record { id = id; writes = [] }
 
 -- the table with a write
-abbrev pub with_write : Held → Write → Held
+abbrev pub with_write : HeldWrites → Write → HeldWrites
 with_write held w = record { id = held.id; writes = table (held.writes ++ w ∷ []) }
 
 -- the table with what a frame says
-abbrev pub with_frame : Held → List ℕ → Held
+abbrev pub with_frame : HeldWrites → List ℕ → HeldWrites
 with_frame held frame = option_map_or (with_write held) (write_of frame) held
 
 -- what is held after some frames, taken one after the other
-abbrev pub with_frames : Held → List (List ℕ) → Held
+abbrev pub with_frames : HeldWrites → List (List ℕ) → HeldWrites
 with_frames held [] = held
 with_frames held (frame ∷ frames) = with_frames (with_frame held frame) frames
 
@@ -33,6 +33,6 @@ greatest_count [] = 0
 greatest_count (w ∷ ws) = max w.count (greatest_count ws)
 
 -- the write that a member makes of a key and a value
-abbrev pub next_write : Held → (key value : List ℕ) → Write
+abbrev pub next_write : HeldWrites → (key value : List ℕ) → Write
 next_write held key value =
     record { key = key; count = greatest_count held.writes + 1; id = held.id; value = value }

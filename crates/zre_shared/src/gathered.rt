@@ -19,7 +19,7 @@ const OCTETS: usize = MESSAGE_OCTETS - 6;
 
 /// Whispers to a peer, and the content of the next one.
 #[derive(Drop)]
-pub(crate) struct Gathered {
+pub(crate) struct GatheredWhispers {
     peer: PeerId,
     commands: Commands,
     content: Frames,
@@ -27,14 +27,14 @@ pub(crate) struct Gathered {
     alloc: Global,
 }
 
-impl Gathered {
+impl GatheredWhispers {
     /// No frames, which take no memory.
-    pub(crate) fn new(alloc: Global, peer: PeerId) -> Gathered
+    pub(crate) fn new(alloc: Global, peer: PeerId) -> GatheredWhispers
         ensures peer { result.peer ≡ peer }
         ensures none { frames_of result ≡ [] }
         ensures gathered { IsGathered result }
     {
-        Gathered {
+        GatheredWhispers {
             peer,
             commands: Commands::new(alloc),
             content: Frames::new(alloc),

@@ -10,7 +10,7 @@ ghost use Rattle.zre_shared.specs.Writes.{IsWrite, write_of, write_text};
 ghost use Rattle.zre_shared.specs.Welcome.{IsWelcome};
 
 use crate::age::replace;
-use crate::gathered::{Commands, Gathered};
+use crate::gathered::{Commands, GatheredWhispers};
 use crate::write::{KEY_OCTETS, VALUE_OCTETS, Write};
 use std::alloc::Global;
 use std::collections::BTreeMap;
@@ -35,10 +35,10 @@ impl Drop for Replica {
 
 impl Model for Replica {
     ghost use Rattle.std.specs.Map.{values_of};
-    ghost use Rattle.zre_shared.specs.Replicas.{Held};
+    ghost use Rattle.zre_shared.specs.Replicas.{HeldWrites};
     ghost use Rattle.zre_shared.specs.Kept.{IsKept};
 
-    ghost Value = { Held };
+    ghost Value = { HeldWrites };
 
     ghost view = { λ replica. record { id = replica.id; writes = values_of replica.writes.entries } };
 
@@ -202,7 +202,7 @@ impl Replica {
     pub fn welcome(&self, peer: PeerId) -> Result<Commands, OutOfMemory>
         ensures { IfOk result (IsWelcome peer self.now.writes) }
     {
-        let mut gathered = Gathered::new(self.alloc, peer);
+        let mut gathered = GatheredWhispers::new(self.alloc, peer);
         for write in self.writes.values() {
             let Ok(frame) = write.write(self.alloc) else {
                 drop(gathered);

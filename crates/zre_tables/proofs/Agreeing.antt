@@ -18,7 +18,7 @@ use Rattle.zre_tables.specs.Indexing.{IsGrown, IsShrunk}
 use Rattle.zre_tables.specs.Rows.{row_at}
 use Rattle.zre_tables.specs.Views.{row_in}
 use Rattle.zre_tables.specs.declared.peer.Peer.{Peer}
-use Rattle.zre_tables.specs.declared.peer.Running.{Running}
+use Rattle.zre_tables.specs.declared.peer.CarriedRun.{CarriedRun}
 use Rattle.zre_tables.proofs.Entries.{at-eqb}
 
 -- the rows have o at n, and what they had before elsewhere
@@ -84,7 +84,7 @@ pub still_agrees : (old new : List (ℕ × Peer)) (groups : Memberships) (heard 
 still_agrees old new groups heard r n k w found up put run active a =
     let i = a.indexed n k (sym found) in
     put_agrees old new groups groups heard r r n k w found up put (λ g q e. e) (record {
-      groups_in = λ group e. i.groups_in group (sym (ap (λ (o : Option Running). row_in group (record k { run = o })) run) ∙ e);
+      groups_in = λ group e. i.groups_in group (sym (ap (λ (o : Option CarriedRun). row_in group (record k { run = o })) run) ∙ e);
       run_is = λ x e. i.run_is x (sym run ∙ e);
     })
     (λ z. z) (λ z. omega (arith, active)) a
@@ -103,7 +103,7 @@ renewed_agrees old new groups now heard r r' n t k w found up put g it active ba
 -- the run as before
 pub same_indexed : (groups : Memberships) (n : ℕ) (k w : Peer) → w.run ≡ k.run → IsIndexed groups n k → IsIndexed groups n w
 same_indexed groups n k w run i = record {
-  groups_in = λ group e. i.groups_in group (sym (ap (λ (o : Option Running). row_in group (record k { run = o })) run) ∙ e);
+  groups_in = λ group e. i.groups_in group (sym (ap (λ (o : Option CarriedRun). row_in group (record k { run = o })) run) ∙ e);
   run_is = λ x e. i.run_is x (sym run ∙ e);
 }
 
@@ -125,7 +125,7 @@ pub insert_agrees : (old new : List (ℕ × Peer)) (groups : Memberships) (heard
 insert_agrees old new groups heard now r n w none touched up put a = record {
   rising = up;
   indexed = each_put old new n (Some w) put (IsIndexed groups) (IsIndexed groups) a.indexed (λ q x far i. i)
-      (λ x e. subst (IsIndexed groups n) (some_is w x e) (record { groups_in = λ group e. let z : false ≡ true = sym (ap (λ (o : Option Running). row_in group (record w { run = o })) none) ∙ e in absurd cc; run_is = λ y e. let z : None ≡ Some y = sym none ∙ e in absurd cc }));
+      (λ x e. subst (IsIndexed groups n) (some_is w x e) (record { groups_in = λ group e. let z : false ≡ true = sym (ap (λ (o : Option CarriedRun). row_in group (record w { run = o })) none) ∙ e in absurd cc; run_is = λ y e. let z : None ≡ Some y = sym none ∙ e in absurd cc }));
   times = record {
     timed = λ q. ap is_some (ap (λ m. moment_of m q) touched ∙ moment_of-insert heard n 0 q) ∙ by q (eqb n q) refl;
     moments = λ z. each_put old new n (Some w) put (λ q x. IfSome (moment_of heard q) (λ m. m ≤ x.active)) (λ q x. IfSome (moment_of now q) (λ m. m ≤ x.active)) (a.times.moments z)

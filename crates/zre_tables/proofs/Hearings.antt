@@ -6,7 +6,7 @@ use Rattle.zre_zmtp.specs.declared.want.Want.TheVariants.{Dealer}
 use Rattle.zre_zmtp.specs.declared.fault.ZmtpFault.{ZmtpFault}
 use Rattle.zre_zmtp.specs.Reading.{IsOver}
 use Rattle.zre_zmtp.proofs.Feeding.{is_over}
-use Rattle.zre_mailbox.specs.Conn.{Hearing, conn_after, is_ignored, is_spent, identity_in, reading, phase_by, kept_in, kept_of}
+use Rattle.zre_mailbox.specs.Conn.{ConnHearing, conn_after, is_ignored, is_spent, identity_in, reading, phase_by, kept_in, kept_of}
 use Rattle.zre_mailbox.specs.declared.phase.Phase.TheVariants.{Spent}
 use Rattle.zre_zmtp.specs.declared.item.Item.{Item}
 use Rattle.zre_zmtp.specs.Reading.{Adds}
@@ -35,13 +35,13 @@ spent_stays own o more s = by (fault_in own o) refl
         (rw (later, e) (ap (λ (i : Option PeerId). record { phase = Spent; identity = i }) same), ((goes own o more).over f e).1)
 
 -- after a fault nothing is kept
-pub kept_refused : (own : PeerId) (o : List ℕ) (f : ZmtpFault) (h : Hearing) → h ≡ conn_after own o → fault_in own o ≡ Some f → kept_of h ≡ 0
+pub kept_refused : (own : PeerId) (o : List ℕ) (f : ZmtpFault) (h : ConnHearing) → h ≡ conn_after own o → fault_in own o ≡ Some f → kept_of h ≡ 0
 kept_refused own o f h is e = ap kept_of is ∙ ap (λ x. kept_in (phase_by x (reading (Dealer own) Whole o))) e
 
 -- ---- items
 
 -- what a piece without a fault completes
-pub said_fine : (own : PeerId) (o piece : List ℕ) (now : Hearing) (start items : List Item) → (fault_in own (o ++ piece) ≡ None) × Adds (Dealer own) Whole o piece start items × Hears own o piece now [] (arrivals_in items)
+pub said_fine : (own : PeerId) (o piece : List ℕ) (now : ConnHearing) (start items : List Item) → (fault_in own (o ++ piece) ≡ None) × Adds (Dealer own) Whole o piece start items × Hears own o piece now [] (arrivals_in items)
     → (now ≡ conn_after own (o ++ piece)) × (map (λ (a : Arrival). Arrived a) (arrivals_in items) ++ fault_said None ≡ completed own o piece)
 said_fine own o piece now start items h = (
   h.2.now_is,
@@ -50,7 +50,7 @@ said_fine own o piece now start items h = (
 )
 
 -- and one with a fault
-pub said_faulty : (own : PeerId) (o piece : List ℕ) (now : Hearing) (start items : List Item) (f : ZmtpFault) → (fault_in own (o ++ piece) ≡ Some f) × (Adds (Dealer own) Whole o piece start items × Hears own o piece now [] (arrivals_in items))
+pub said_faulty : (own : PeerId) (o piece : List ℕ) (now : ConnHearing) (start items : List Item) (f : ZmtpFault) → (fault_in own (o ++ piece) ≡ Some f) × (Adds (Dealer own) Whole o piece start items × Hears own o piece now [] (arrivals_in items))
     → (now ≡ conn_after own (o ++ piece)) × (map (λ (a : Arrival). Arrived a) (arrivals_in items) ++ fault_said (Some f) ≡ completed own o piece)
 said_faulty own o piece now start items f h = (
   h.1.1.now_is,

@@ -10,8 +10,8 @@ use Rattle.std.specs.Str.{bytes_eq}
 use Rattle.zre_values.specs.Lists.{without}
 use Rattle.zre_values.specs.declared.memory.OutOfMemory.{OutOfMemory}
 use Rattle.zre_msg.specs.Commands.{body_of}
-use Rattle.zre_msg.specs.declared.commands.Command.{Command}
-use Rattle.zre_msg.specs.declared.commands.Command.TheVariants as lent
+use Rattle.zre_msg.specs.declared.commands.LentBody.{LentBody}
+use Rattle.zre_msg.specs.declared.commands.LentBody.TheVariants as lent
 use Rattle.zre_msg.specs.declared.message.Message.{Message}
 use Rattle.zre_peer.specs.Members.{with_group}
 use Rattle.zre_peer.specs.Runs.{shown}
@@ -22,7 +22,7 @@ use Rattle.zre_journal.specs.Commands.{has_group}
 use Rattle.zre_group.specs.Index.{Memberships, is_member}
 use Rattle.zre_group.specs.Membership.{is_member-insert}
 use Rattle.zre_tables.specs.declared.peer.Peer.{Peer}
-use Rattle.zre_tables.specs.declared.peer.Running.{Running}
+use Rattle.zre_tables.specs.declared.peer.CarriedRun.{CarriedRun}
 use Rattle.zre_timers.specs.Moments.{Moments}
 use Rattle.zre_tables.specs.Agreement.{IsRun, IsIndexed, Agree}
 use Rattle.zre_tables.specs.Indexing.{IsGrown, joins}
@@ -79,7 +79,7 @@ in_with g group groups h = by (list_any (λ x. bytes_eq x g) groups) h
         last false true z = refl
         last false false z = z
 
-groups_after : (v : View) (c : Command) (more : List (List ℕ)) (group : List ℕ) → has_group group (after v (body_of c more)).groups ≡ true → (has_group group v.groups || joins c group) ≡ true
+groups_after : (v : View) (c : LentBody) (more : List (List ℕ)) (group : List ℕ) → has_group group (after v (body_of c more)).groups ≡ true → (has_group group v.groups || joins c group) ≡ true
 groups_after v lent.Whisper more group h = or_left (has_group group v.groups) false h
 groups_after v (lent.Shout g) more group h = or_left (has_group group v.groups) false h
 groups_after v (lent.Join g status) more group h = in_with g.now group v.groups h
@@ -89,7 +89,7 @@ groups_after v lent.PingOk more group h = or_left (has_group group v.groups) fal
 groups_after v (lent.Other number rest) more group h = or_left (has_group group v.groups) false h
 
 -- the same of what a run shows
-pub shows_after : (ms : List Message) (m : Message) (c : Command) (more : List (List ℕ)) (before now : Option View) → is_some before ≡ true → before ≡ shown ms → now ≡ shown (ms ++ m ∷ []) → m.body ≡ body_of c more → (group : List ℕ)
+pub shows_after : (ms : List Message) (m : Message) (c : LentBody) (more : List (List ℕ)) (before now : Option View) → is_some before ≡ true → before ≡ shown ms → now ≡ shown (ms ++ m ∷ []) → m.body ≡ body_of c more → (group : List ℕ)
     → lists_group group now ≡ true → (lists_group group before || joins c group) ≡ true
 shows_after ms m c more before now some was is body group h =
     ap (λ o. lists_group group o || joins c group) (was ∙ first ms (ap is_some (sym was) ∙ some))
@@ -99,18 +99,18 @@ shows_after ms m c more before now some was is body group h =
     first [] e = absurd cc
     first (x ∷ xs) e = refl
 
-pub shows_same : (c : Command) (before now : Option View) → now ≡ before → (group : List ℕ) → lists_group group now ≡ true → (lists_group group before || joins c group) ≡ true
+pub shows_same : (c : LentBody) (before now : Option View) → now ≡ before → (group : List ℕ) → lists_group group now ≡ true → (lists_group group before || joins c group) ≡ true
 shows_same c before now e group h = or_left (lists_group group before) (joins c group) (ap (lists_group group) (sym e) ∙ h)
 
 -- of a run that has taken some messages, and was handed one more
-pub goes_on_in : {A E : Type 0} (r : Result A E) (ms : List Message) (m : Message) (c : Command) (more : List (List ℕ)) (before now : Option View) → is_some before ≡ true → before ≡ shown ms → m.body ≡ body_of c more
+pub goes_on_in : {A E : Type 0} (r : Result A E) (ms : List Message) (m : Message) (c : LentBody) (more : List (List ℕ)) (before now : Option View) → is_some before ≡ true → before ≡ shown ms → m.body ≡ body_of c more
     → OnOk r (now ≡ shown (ms ++ m ∷ [])) → OnErr r (now ≡ before) → (group : List ℕ) → lists_group group now ≡ true → (lists_group group before || joins c group) ≡ true
 goes_on_in (Ok x) ms m c more before now some was body ok err group h = shows_after ms m c more before now some was ok body group h
 goes_on_in (Err e) ms m c more before now some was body ok err group h = shows_same c before now err group h
 
 -- what the index has of a peer that has taken one more message
-pub taken_indexed : (groups now : Memberships) (n : ℕ) (k w : Peer) (c : Command) → IsGrown groups now → IsIndexed groups n k → ((group : List ℕ) → joins c group ≡ true → is_member now group n ≡ true)
-    → ((x : Running) → w.run ≡ Some x → IsRun x) → ((group : List ℕ) → row_in group w ≡ true → (row_in group k || joins c group) ≡ true) → IsIndexed now n w
+pub taken_indexed : (groups now : Memberships) (n : ℕ) (k w : Peer) (c : LentBody) → IsGrown groups now → IsIndexed groups n k → ((group : List ℕ) → joins c group ≡ true → is_member now group n ≡ true)
+    → ((x : CarriedRun) → w.run ≡ Some x → IsRun x) → ((group : List ℕ) → row_in group w ≡ true → (row_in group k || joins c group) ≡ true) → IsIndexed now n w
 taken_indexed groups now n k w c g i joined run shows = record { groups_in = λ group e. by group (row_in group k) refl (shows group e); run_is = run }
   where
     by : (group : List ℕ) (b : Bool) → row_in group k ≡ b → (row_in group k || joins c group) ≡ true → is_member now group n ≡ true
@@ -118,10 +118,10 @@ taken_indexed groups now n k w c g i joined run shows = record { groups_in = λ 
     by group false q z = joined group (rw q at z)
 
 -- the row of a peer that has taken one more message: k before, p with the time, w with the run
-pub taken_agrees : (old new : List (ℕ × Peer)) (groups now : Memberships) (heard : Moments) (r r' : Bool) (n t : ℕ) (k p w : Peer) (c : Command) → Some k ≡ row_at n old → IsStrictlySortedBy nat_cmp (keys_of new) → PutAt n (Some w) old new
+pub taken_agrees : (old new : List (ℕ × Peer)) (groups now : Memberships) (heard : Moments) (r r' : Bool) (n t : ℕ) (k p w : Peer) (c : LentBody) → Some k ≡ row_at n old → IsStrictlySortedBy nat_cmp (keys_of new) → PutAt n (Some w) old new
     → IsGrown groups now → p ≡ record k { active = t } → w ≡ record p { run = w.run } → r' ≡ (r || ltb t k.active) → ((group : List ℕ) → joins c group ≡ true → is_member now group n ≡ true)
-    → (((x : Running) → p.run ≡ Some x → IsRun x) → (x : Running) → w.run ≡ Some x → IsRun x)
-    → (((x : Running) → p.run ≡ Some x → IsRun x) → (group : List ℕ) → row_in group w ≡ true → (row_in group p || joins c group) ≡ true)
+    → (((x : CarriedRun) → p.run ≡ Some x → IsRun x) → (x : CarriedRun) → w.run ≡ Some x → IsRun x)
+    → (((x : CarriedRun) → p.run ≡ Some x → IsRun x) → (group : List ℕ) → row_in group w ≡ true → (row_in group p || joins c group) ≡ true)
     → Agree old groups heard r → Agree new now heard r'
 taken_agrees old new groups now heard r r' n t k p w c found up put g timed ran back joined run shows a =
     renewed_agrees old new groups now heard r r' n t k w found up put g
@@ -131,5 +131,5 @@ taken_agrees old new groups now heard r r' n t k p w c found up put g timed ran 
     its : IsIndexed groups n k
     its = a.indexed n k (sym found)
 
-    runs : (x : Running) → p.run ≡ Some x → IsRun x
+    runs : (x : CarriedRun) → p.run ≡ Some x → IsRun x
     runs x e = its.run_is x (sym (ap (λ (y : Peer). y.run) timed) ∙ e)

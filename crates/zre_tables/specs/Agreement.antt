@@ -8,18 +8,18 @@ use Rattle.zre_peer.specs.Standing.{Stands, is_spent}
 use Rattle.zre_group.specs.Index.{Memberships, is_member}
 use Rattle.zre_timers.specs.Moments.{Moments, NoneAfter, moment_of}
 use Rattle.zre_tables.specs.declared.peer.Peer.{Peer}
-use Rattle.zre_tables.specs.declared.peer.Running.{Running}
+use Rattle.zre_tables.specs.declared.peer.CarriedRun.{CarriedRun}
 use Rattle.zre_tables.specs.Rows.{row_at}
 use Rattle.zre_tables.specs.Views.{row_in}
 
 -- a run has taken some messages, or has refused one
-abbrev pub IsRun : Running → Type 0
+abbrev pub IsRun : CarriedRun → Type 0
 IsRun x = is_spent x.run ≡ false → (messages : List Message) × Stands x.run messages
 
 -- the groups that the peer of a link has told are in the index, and its run is one
 pub record IsIndexed (groups : Memberships) (link : ℕ) (x : Peer) : Type 0 where
   pub groups_in : (group : List ℕ) → row_in group x ≡ true → is_member groups group link ≡ true
-  pub run_is : (r : Running) → x.run ≡ Some r → IsRun r
+  pub run_is : (r : CarriedRun) → x.run ≡ Some r → IsRun r
 
 -- each known peer has a moment, and no other link has one. Unless a reading went back, the peer has shown at or after
 -- its moment that it is there

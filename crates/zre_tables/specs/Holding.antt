@@ -1,7 +1,7 @@
 -- How many octets the rows of the tables hold, and up to the greatest number that is told.
 use Rattle.std.specs.Prelude.{◌≡◌, ℕ, ◌+◌, ◌-◌, ◌^◌, min, Bool, List, length, Option, Some, None, option_and_then}
 use Rattle.zre_values.specs.declared.peer_id.PeerId.{PeerId}
-use Rattle.zre_mailbox.specs.Conn.{Hearing, conn_after, kept_of}
+use Rattle.zre_mailbox.specs.Conn.{ConnHearing, conn_after, kept_of}
 use Rattle.zre_link.specs.Heard.{kept_of as kept_of_replies}
 use Rattle.zre_link.specs.Link.{link_after}
 use Rattle.zre_link.specs.Text.{Member}
@@ -17,7 +17,7 @@ abbrev pub capped : ℕ → ℕ
 capped n = min n (2 ^ 64 - 1)
 
 -- of what reads a connection, where something does
-abbrev pub reader_octets : Option Hearing → ℕ
+abbrev pub reader_octets : Option ConnHearing → ℕ
 reader_octets None = 0
 reader_octets (Some h) = kept_of h
 
@@ -26,11 +26,11 @@ abbrev pub conn_row_octets : Connection → ℕ
 conn_row_octets k = reader_octets k.conn
 
 -- what reads the connection of a number, where it is open and something does
-abbrev pub reader_at : ℕ → List (ℕ × Connection) → Option Hearing
+abbrev pub reader_at : ℕ → List (ℕ × Connection) → Option ConnHearing
 reader_at n es = option_and_then (λ (k : Connection). k.conn) (row_at n es)
 
 -- nothing reads it, or it stands after octets that came
-abbrev pub IsReading : Option Hearing → Type 0
+abbrev pub IsReading : Option ConnHearing → Type 0
 IsReading None = Unit {0}
 IsReading (Some h) = (own : PeerId) × (o : List ℕ) × (h ≡ conn_after own o)
 

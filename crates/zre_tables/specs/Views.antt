@@ -7,11 +7,11 @@ use Rattle.zre_journal.specs.Commands.{has_group}
 use Rattle.zre_peer.specs.Standing.{view_in}
 use Rattle.zre_peer.specs.declared.view.View.{View}
 use Rattle.zre_tables.specs.declared.peer.Peer.{Peer}
-use Rattle.zre_tables.specs.declared.peer.Running.{Running}
+use Rattle.zre_tables.specs.declared.peer.CarriedRun.{CarriedRun}
 
 -- the view of a row
 abbrev pub view_of_row : Peer → Option View
-view_of_row k = option_and_then (λ (x : Running). view_in x.run) k.run
+view_of_row k = option_and_then (λ (x : CarriedRun). view_in x.run) k.run
 
 -- the view of the first row with this id
 abbrev pub view_among : PeerId → List (ℕ × Peer) → Option View

@@ -10,7 +10,7 @@ ghost use Rattle.zre_tables.specs.Views.{lists_group, row_in};
 use crate::peer::Peer;
 use crate::searches::is_in;
 use zre_group::Index;
-use zre_msg::Command;
+use zre_msg::LentBody;
 use zre_peer::{Run, View};
 use zre_values::OutOfMemory;
 
@@ -42,23 +42,23 @@ pub(crate) fn index_groups(groups: &mut Index, link: u64, run: &Run) -> Result<(
 pub(crate) fn index_join(
     groups: &mut Index,
     link: u64,
-    command: &Command<'_>,
+    command: &LentBody<'_>,
 ) -> Result<(), OutOfMemory>
     ensures grows { IsGrown groups.old groups.new }
     ensures ok { OnOk result ((group : List ℕ) → joins command.now group ≡ true
         → is_member groups.new group link ≡ true) }
 {
     match command {
-        Command::Join { group, .. } => groups.add(group, link),
+        LentBody::Join { group, .. } => groups.add(group, link),
         _ => Ok(()),
     }
 }
 
 // The group that LEAVE names, where the peer isn't in it.
-fn left_by<'a>(peer: &Peer, command: &Command<'a>) -> Option<&'a [u8]>
+fn left_by<'a>(peer: &Peer, command: &LentBody<'a>) -> Option<&'a [u8]>
     ensures { IfSome result (λ group. row_in group.now peer.now ≡ false) }
 {
-    let Command::Leave { group, .. } = *command else {
+    let LentBody::Leave { group, .. } = *command else {
         return None;
     };
     if is_in(peer, group) {
@@ -68,7 +68,7 @@ fn left_by<'a>(peer: &Peer, command: &Command<'a>) -> Option<&'a [u8]>
 }
 
 // The group that LEAVE names goes out of the index for this link, where its peer isn't in it.
-pub(crate) fn index_leave(groups: &mut Index, link: u64, peer: &Peer, command: &Command<'_>)
+pub(crate) fn index_leave(groups: &mut Index, link: u64, peer: &Peer, command: &LentBody<'_>)
     ensures { IsShrunk link peer.now groups.old groups.new }
 {
     if let Some(group) = left_by(peer, command) {

@@ -16,6 +16,6 @@ mod searches;
 
 pub use connection::Connection;
 pub use conns::Conns;
-pub use peer::{Peer, Running};
+pub use peer::{CarriedRun, Peer};
 pub use peers::{Ids, Links, Peers};
 pub use probing::name_of;

@@ -8,16 +8,16 @@ use zre_peer::{Run, View};
 use zre_values::{PeerId, take_apart};
 
 /// The run of an entered peer, and the connection that carries it.
-pub struct Running {
+pub struct CarriedRun {
     /// The number of the connection.
     pub conn: u64,
     /// The messages that came on it.
     pub run: Run,
 }
 
-impl Drop for Running {
+impl Drop for CarriedRun {
     fn drop(self) {
-        take_apart!(self, Running: conn, run);
+        take_apart!(self, CarriedRun: conn, run);
     }
 }
 
@@ -28,7 +28,7 @@ pub struct Peer {
     /// When it last showed that it is there.
     pub active: u64,
     /// There where it is entered.
-    pub run: Option<Running>,
+    pub run: Option<CarriedRun>,
     /// What is sent to it.
     pub link: Link,
 }

@@ -15,7 +15,7 @@ ghost use Rattle.zre_tables.specs.Rows.{row_at, with_row, without_row};
 ghost use Rattle.zre_tables.specs.declared.peer.Peer.{Peer as PeerValue};
 
 use crate::indexing::index_groups;
-use crate::peer::{Peer, Running};
+use crate::peer::{CarriedRun, Peer};
 use std::alloc::Global;
 use std::collections::BTreeMap;
 use std::marker::Model;
@@ -172,7 +172,7 @@ impl Peers {
     }
 
     /// The peer of this link has a run, which shows that it is there.
-    pub fn enter(&mut self, link: u64, running: Running, now: u64) -> Result<(), OutOfMemory>
+    pub fn enter(&mut self, link: u64, running: CarriedRun, now: u64) -> Result<(), OutOfMemory>
         requires { IsRun running }
         ensures ok { (x : PeerValue) → row_at link self.old ≡ Some x →
             OnOk result (self.new ≡ with_row link (record x { run = Some running; active = now }) self.old) }

@@ -14,16 +14,20 @@ ghost use Rattle.zre_tables.specs.Rows.{row_at};
 ghost use Rattle.zre_tables.specs.Runs.{HasRun, HadRun, IsRunning, IsTaken};
 ghost use Rattle.zre_tables.specs.Views.{lists_group, row_in};
 ghost use Rattle.zre_tables.specs.declared.peer.Peer.{Peer as PeerValue};
-ghost use Rattle.zre_tables.specs.declared.peer.Running.{Running as RunningValue};
+ghost use Rattle.zre_tables.specs.declared.peer.CarriedRun.{CarriedRun as RunningValue};
 
 use crate::indexing::{index_join, index_leave};
-use crate::peer::{Peer, Running};
+use crate::peer::{CarriedRun, Peer};
 use crate::peers::{Peers, renew};
 use zre_msg::LentMessage;
 use zre_peer::{Events, RunFault};
 
 // A run takes one more message.
-fn go_on(running: &mut Running, lent: &LentMessage<'_>, events: &mut Events) -> Result<(), RunFault>
+fn go_on(
+    running: &mut CarriedRun,
+    lent: &LentMessage<'_>,
+    events: &mut Events,
+) -> Result<(), RunFault>
     ensures ok { (c : ℕ) (id : PeerIdValue) (ms : List MessageValue) → IsRunning c id ms running.old →
         OnOk result ((may_follow ms (message_of lent.now) ≡ true)
         × IsRunning c id (ms ++ message_of lent.now ∷ []) running.new

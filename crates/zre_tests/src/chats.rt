@@ -10,7 +10,7 @@ use zre_values::Frames;
 
 /// The words of a node, and what stands for its terminal.
 #[derive(Drop)]
-pub struct Stand {
+pub struct Terminal {
     pub words: Frames,
     pub input: Patient,
     pub out: Showing,
@@ -20,7 +20,7 @@ pub struct Stand {
 pub fn chat<R, W, P>(
     rt: R,
     alloc: Global,
-    stand: Stand,
+    stand: Terminal,
     world: W,
     mut spawner: P,
     limit: u64,
@@ -30,7 +30,7 @@ where
     W: World + Send + Drop + 'static,
     P: Spawner + Drop,
 {
-    let Stand {
+    let Terminal {
         words,
         input,
         mut out,

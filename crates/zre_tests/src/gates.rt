@@ -212,12 +212,12 @@ fn a_client_may_be_too_long(rt: HostRuntime) -> Result<(), Fail> {
 
 /// A desk of patient clients.
 #[derive(Drop)]
-struct Hall {
+struct PatientDesk {
     clients: VecDeque<Patient>,
     faults: u64,
 }
 
-impl Desk for Hall {
+impl Desk for PatientDesk {
     ghost use Rattle.std.specs.Prelude.{None};
 
     type Client = Patient;
@@ -242,13 +242,13 @@ impl Desk for Hall {
 }
 
 /// A client without a line, whose end waits for the sign, and one that whispers.
-fn hall_of(alloc: Global, sign: &Sign) -> Result<Hall, OutOfMemory> {
+fn hall_of(alloc: Global, sign: &Sign) -> Result<PatientDesk, OutOfMemory> {
     let mut silent = Patient::new(alloc, b"", b"")?;
     silent.wait_for(sign)?;
     let mut clients = VecDeque::new(alloc);
     clients.push_back(silent)?;
     clients.push_back(Patient::new(alloc, WHISPER, b"")?)?;
-    Ok(Hall { clients, faults: 0 })
+    Ok(PatientDesk { clients, faults: 0 })
 }
 
 /// How such a gate ended, what was written, and how often a client failed at most.

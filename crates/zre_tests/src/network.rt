@@ -19,22 +19,22 @@ const TURNS: u32 = 1000;
 /// An entry: its kind, the number of its connection or link, or the last octet of its sender's address, and its
 /// octets, or the count of what was taken.
 #[derive(Drop)]
-struct Seen {
+struct SeenEntry {
     kind: &'static str,
     number: u64,
     count: u64,
     bytes: Octets,
 }
 
-impl Seen {
+impl SeenEntry {
     fn is(&self, kind: &str, number: u64, count: u64, bytes: &[u8]) -> bool {
         let is_such = self.kind == kind && self.number == number && self.count == count;
         is_such && self.bytes.as_slice() == bytes
     }
 }
 
-fn with_bytes(kind: &'static str, number: u64, bytes: Octets) -> Seen {
-    Seen {
+fn with_bytes(kind: &'static str, number: u64, bytes: Octets) -> SeenEntry {
+    SeenEntry {
         kind,
         number,
         count: 0,
@@ -42,8 +42,8 @@ fn with_bytes(kind: &'static str, number: u64, bytes: Octets) -> Seen {
     }
 }
 
-fn with_count(alloc: Global, kind: &'static str, number: u64, count: u64) -> Seen {
-    Seen {
+fn with_count(alloc: Global, kind: &'static str, number: u64, count: u64) -> SeenEntry {
+    SeenEntry {
         kind,
         number,
         count,
@@ -51,7 +51,7 @@ fn with_count(alloc: Global, kind: &'static str, number: u64, count: u64) -> See
     }
 }
 
-fn see(alloc: Global, input: Input) -> Seen {
+fn see(alloc: Global, input: Input) -> SeenEntry {
     match input {
         Input::Datagram { from, bytes } => with_bytes("Datagram", u64::from(from[3]), bytes),
         Input::Opened { conn } => with_count(alloc, "Opened", conn, 0),
@@ -170,7 +170,7 @@ impl Watched {
     }
 
     // The entry of the next turn. None where it is a look.
-    fn turn(&mut self) -> Option<Seen> {
+    fn turn(&mut self) -> Option<SeenEntry> {
         match self.world.next(None) {
             Ok(Turn::Entry(entry)) => Some(see(self.alloc, entry.input)),
             Ok(Turn::Look) => None,
@@ -182,7 +182,7 @@ impl Watched {
     }
 
     // The next entry but Ticks, or none within the turns.
-    fn entry(&mut self) -> Option<Seen> {
+    fn entry(&mut self) -> Option<SeenEntry> {
         for _ in 0..TURNS {
             if let Some(seen) = self.turn() {
                 if seen.kind != "Tick" {

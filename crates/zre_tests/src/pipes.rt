@@ -94,7 +94,7 @@ fn make_ready(alloc: Global) -> Option<Ready>
 
 /// What an actor works with: a node, and a world of three looks.
 #[derive(Drop)]
-struct Work {
+struct ActorWork {
     node: Node,
     world: SureWorld,
     rec: SureRecorder,
@@ -103,7 +103,7 @@ struct Work {
 /// What an actor works with, and the groups that the callers name.
 #[derive(Drop)]
 struct Stand {
-    work: Work,
+    work: ActorWork,
     groups: (Octets, Octets),
 }
 
@@ -112,7 +112,7 @@ fn stand_of(alloc: Global, node: Node) -> Result<Stand, OutOfMemory> {
     let groups = (Octets::copy(alloc, b"g")?, Octets::copy(alloc, b"g")?);
     let rec = SureRecorder::new(alloc);
     Ok(Stand {
-        work: Work { node, world, rec },
+        work: ActorWork { node, world, rec },
         groups,
     })
 }
@@ -144,7 +144,7 @@ fn one_by_one<R: Wait + Copy>(
     } = ready.passes;
     let pipes = ready.pipes;
     let Stand { work, groups } = stand;
-    let Work { node, world, rec } = work;
+    let ActorWork { node, world, rec } = work;
     let callers = talk(rt, &pipes, callers, first, second, groups, absorbs);
     let worked = pipes.work(rt, world, node, ready.actor, rec, false, limit);
     let (taker, stops, ending) = take_all(rt, &pipes, taker);
@@ -214,7 +214,7 @@ fn start_actor<P: Spawner>(
     spawner: &mut P,
     pipes: &Arc<Pipes>,
     actor: ActorPass,
-    work: Work,
+    work: ActorWork,
     limit: u64,
 ) -> Option<Running<ActorJob<SureWorld, SureRecorder>>>
     requires actor { IsActorOf (arc_value pipes.now) actor }
@@ -225,7 +225,7 @@ fn start_actor<P: Spawner>(
     let Ok(pipes) = Arc::try_clone(pipes) else {
         return None;
     };
-    let Work { node, world, rec } = work;
+    let ActorWork { node, world, rec } = work;
     let job = ActorJob {
         pipes,
         world,
@@ -331,17 +331,17 @@ fn a_full_pipe_gives_the_command_back(rt: HostRuntime) {
 }
 
 /// How long a run may be, and how it ends.
-struct Run {
+struct NodeRun {
     limit: u64,
     ends: (u64, Ending, u32),
 }
 
-static RUNS: [Run; 2] = [
-    Run {
+static RUNS: [NodeRun; 2] = [
+    NodeRun {
         limit: 100,
         ends: (1, Ending::Stopped, 0),
     },
-    Run {
+    NodeRun {
         limit: 1,
         ends: (0, Ending::TooLong, 3),
     },
@@ -364,7 +364,7 @@ fn run_one_by_one<R: Wait + Copy>(
     }
 }
 
-fn ends<R: Wait + Copy>(rt: R, alloc: Global, run: &Run, absorbs: bool) -> bool {
+fn ends<R: Wait + Copy>(rt: R, alloc: Global, run: &NodeRun, absorbs: bool) -> bool {
     match make_ready(alloc) {
         Some(ready) => run_one_by_one(rt, alloc, ready, run.limit, absorbs) == Some(run.ends),
         None => false,

@@ -1,7 +1,7 @@
 //! A chat that reads, works and prints beside each other: its input holds its last line back until something was
 //! written.
 
-use crate::chats::{Stand, chat};
+use crate::chats::{Terminal, chat};
 use crate::terminal::{Patient, Showing, sign_of, words_of, world_of};
 use std::alloc::Global;
 use std::test::Fail;
@@ -80,11 +80,11 @@ fn world(alloc: Global) -> Result<ScriptWorld, OutOfMemory> {
 }
 
 /// The last line is held back until something was written.
-fn make_stand(alloc: Global) -> Result<Stand, OutOfMemory> {
+fn make_stand(alloc: Global) -> Result<Terminal, OutOfMemory> {
     let is_written = sign_of(alloc)?;
     let mut input = Patient::new(alloc, LINES, QUIT)?;
     input.wait_for(&is_written)?;
-    Ok(Stand {
+    Ok(Terminal {
         words: words_of(alloc, CHAT)?,
         input,
         out: Showing::new(alloc, b"", is_written),

@@ -1,6 +1,6 @@
 //! Two chats in one process, each over the real network, on the loopback interface.
 
-use crate::chats::{Stand, chat};
+use crate::chats::{Terminal, chat};
 use crate::terminal::{Patient, Showing, Sign, sign_of, words_of};
 use std::alloc::Global;
 use std::sync::Arc;
@@ -45,18 +45,18 @@ fn make_stand(
     other: &'static [u8],
     own: &Sign,
     its: &Sign,
-) -> Result<Stand, OutOfMemory> {
+) -> Result<Terminal, OutOfMemory> {
     let mut input = Patient::new(alloc, b"", b"quit\n")?;
     input.wait_for(own)?;
     input.wait_for(its)?;
-    Ok(Stand {
+    Ok(Terminal {
         words: words_of(alloc, words)?,
         input,
         out: Showing::new(alloc, other, Arc::try_clone(own)?),
     })
 }
 
-fn make_stands(alloc: Global) -> Result<(Stand, Stand), OutOfMemory> {
+fn make_stands(alloc: Global) -> Result<(Terminal, Terminal), OutOfMemory> {
     let (first, second) = (sign_of(alloc)?, sign_of(alloc)?);
     let one = make_stand(alloc, ONE, MEETS_TWO, &first, &second)?;
     Ok((one, make_stand(alloc, TWO, MEETS_ONE, &second, &first)?))

@@ -1,5 +1,5 @@
-//! The small values of a ZRE node: octets and lists of them, the identity of a peer, the texts in which
-//! they are printed, and the limits of this node.
+//! The small values of a ZRE node: octets and lists of them, the identity of a peer, the settings of a node, the texts
+//! in which they are printed, and the limits of this node.
 #![tactic(auto)]
 
 mod decimals;

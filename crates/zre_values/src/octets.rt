@@ -7,7 +7,7 @@ use std::default::MadeWith;
 use std::marker::Model;
 
 #[derive(Debug, Drop)]
-enum Store {
+enum Buffer {
     Inline(Short),
     Heap(Vec<u8>),
 }
@@ -16,7 +16,7 @@ enum Store {
 /// value itself, and take none.
 #[derive(Debug, Drop)]
 pub struct Octets {
-    store: Store,
+    store: Buffer,
     alloc: Global,
 }
 
@@ -37,7 +37,7 @@ impl Octets {
         ensures { result ≡ [] }
     {
         Octets {
-            store: Store::Inline(Short::new()),
+            store: Buffer::Inline(Short::new()),
             alloc,
         }
     }
@@ -49,14 +49,14 @@ impl Octets {
     {
         if bytes.len() > INLINE {
             return Ok(Octets {
-                store: Store::Heap(Vec::from_slice(alloc, bytes)?),
+                store: Buffer::Heap(Vec::from_slice(alloc, bytes)?),
                 alloc,
             });
         }
         let mut short = Short::new();
         short.append(bytes);
         Ok(Octets {
-            store: Store::Inline(short),
+            store: Buffer::Inline(short),
             alloc,
         })
     }
@@ -68,14 +68,14 @@ impl Octets {
         let alloc = *items.allocator();
         if items.len() > INLINE {
             return Octets {
-                store: Store::Heap(items),
+                store: Buffer::Heap(items),
                 alloc,
             };
         }
         let mut short = Short::new();
         short.append(items.as_slice());
         Octets {
-            store: Store::Inline(short),
+            store: Buffer::Inline(short),
             alloc,
         }
     }
@@ -86,8 +86,8 @@ impl Octets {
         ensures { result.now ≡ self.now }
     {
         match &self.store {
-            Store::Inline(short) => short.as_slice(),
-            Store::Heap(items) => items.as_slice(),
+            Buffer::Inline(short) => short.as_slice(),
+            Buffer::Heap(items) => items.as_slice(),
         }
     }
 
@@ -97,8 +97,8 @@ impl Octets {
         ensures { result ≡ length self.now }
     {
         match &self.store {
-            Store::Inline(short) => short.len(),
-            Store::Heap(items) => items.len(),
+            Buffer::Inline(short) => short.len(),
+            Buffer::Heap(items) => items.len(),
         }
     }
 
@@ -126,13 +126,13 @@ impl Octets {
         ensures err { OnErr result (self.new ≡ self.old) }
     {
         match &mut self.store {
-            Store::Inline(short) => {
+            Buffer::Inline(short) => {
                 if short.has_room(1) {
                     short.push(octet);
                     return Ok(());
                 }
             }
-            Store::Heap(items) => {
+            Buffer::Heap(items) => {
                 items.push(octet)?;
                 return Ok(());
             }
@@ -147,13 +147,13 @@ impl Octets {
         ensures err { OnErr result (self.new ≡ self.old) }
     {
         match &mut self.store {
-            Store::Inline(short) => {
+            Buffer::Inline(short) => {
                 if short.has_room(bytes.len()) {
                     short.append(bytes);
                     return Ok(());
                 }
             }
-            Store::Heap(items) => {
+            Buffer::Heap(items) => {
                 items.extend_from_slice(bytes)?;
                 return Ok(());
             }
@@ -169,7 +169,7 @@ impl Octets {
         ensures err { OnErr result (self.new ≡ self.old) }
     {
         let items = with_both(self.alloc, self.as_slice(), bytes)?;
-        self.store = Store::Heap(items);
+        self.store = Buffer::Heap(items);
         Ok(())
     }
 
@@ -179,8 +179,8 @@ impl Octets {
         ensures { self.new ≡ [] }
     {
         match &mut self.store {
-            Store::Inline(short) => short.clear(),
-            Store::Heap(items) => items.clear(),
+            Buffer::Inline(short) => short.clear(),
+            Buffer::Heap(items) => items.clear(),
         }
     }
 }

@@ -15,6 +15,7 @@ abbrev pub Looks : {A E : Type 0} → ℕ → ℕ → ℕ → ℕ → ℕ → Re
 Looks looks looks' kept kept' n result =
     OnOk result (IsPaid looks looks' kept kept' n) × OnErr result (IsPaidOnRefusal looks looks' kept n)
 
--- A ledger of this name and these parts, which is yet to be opened, as its blank says it: a count of looks begins with it.
+-- A ledger of this name and these parts, which is yet to be opened, as its blank says it: a count of looks begins with
+-- it.
 abbrev pub IsOpenTo : ℕ → ℕ → ℕ → ℕ → Type 0
 IsOpenTo name parts blank_name blank_parts = (blank_name ≡ name) × (blank_parts ≡ parts) × (0 < blank_parts)

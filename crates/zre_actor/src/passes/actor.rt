@@ -6,7 +6,7 @@ ghost use Rattle.zre_actor.specs.Passes.{IsActorOf, popped_by, unused_by, raised
 
 use super::{ActorPass, Pipes};
 use crate::Told;
-use crate::rules::Pops;
+use crate::rules::PopsCommand;
 use std::sync::Wait;
 use zre_outside::Command;
 
@@ -24,7 +24,7 @@ impl Pipes {
             events,
             mut empties,
         } = pass;
-        let found = self.commands.pop_as::<Pops, R>(&rt, &mut commands);
+        let found = self.commands.pop_as::<PopsCommand, R>(&rt, &mut commands);
         if found.is_none() {
             empties = empties.saturating_add(1);
         }

@@ -7,7 +7,7 @@ ghost use Rattle.zre_actor.specs.Passes.{IsTakerOf, taken_by, last_of, IsTold};
 
 use super::{Pipes, TakerPass};
 use crate::Told;
-use crate::rules::{Heard, Hears, Raises};
+use crate::rules::{EventPass, HearsEvent, Raises};
 use std::sync::Wait;
 
 impl Pipes {
@@ -20,7 +20,7 @@ impl Pipes {
     {
         let TakerPass { mut events } = pass;
         for _ in rt.forever() {
-            if let Ok(told) = self.events_out.recv_as::<Hears, R>(&rt, &mut events) {
+            if let Ok(told) = self.events_out.recv_as::<HearsEvent, R>(&rt, &mut events) {
                 return (TakerPass { events }, told);
             }
         }
@@ -39,13 +39,13 @@ impl Pipes {
         let TakerPass { mut events } = pass;
         let told = self
             .events_out
-            .try_recv_as::<Hears, R>(&rt, &mut events)
+            .try_recv_as::<HearsEvent, R>(&rt, &mut events)
             .ok();
         (TakerPass { events }, told)
     }
 
     // Pushes an event, or Last. It waits while the pipe is full.
-    pub(super) fn tell<R: Wait + Copy>(&self, rt: R, events: &mut Heard, message: Told)
+    pub(super) fn tell<R: Wait + Copy>(&self, rt: R, events: &mut EventPass, message: Told)
         requires pipes { IsSeatAt (sends_on self.now.events_in) events.old }
         requires open { ((view events.old).raises ≡ true) × ((view events.old).ended_by ≡ None) }
         ensures pipes { IsSeatAt (sends_on self.now.events_in) events.new }

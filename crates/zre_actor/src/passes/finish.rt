@@ -7,7 +7,7 @@ ghost use Rattle.zre_actor.specs.Passes.{IsActorOf, IsTakerOf, AreCallersOf, giv
 ghost use Rattle.zre_actor.specs.Passes.{ending_of, taken_by, last_of, put_by, puts_of, live_of, AllBack};
 
 use super::{ActorPass, CallerPass, CallerPasses, Pipes, TakerPass};
-use crate::rules::{AllTaken, Ends, TakeIn, Total};
+use crate::rules::{AllTaken, TakeIn, Total, TwoEnds};
 use std::sync::Wait;
 
 /// What is left in the command pipe.
@@ -52,7 +52,7 @@ impl Pipes {
         }
         let left = self.commands.len_as::<Total, R>(&rt, &mut commands);
         let TakerPass { events: others } = taker;
-        self.events_in.absorb::<Ends>(&mut events, others);
+        self.events_in.absorb::<TwoEnds>(&mut events, others);
         self.events_in.learn_as::<AllTaken>(&mut events);
         Finished { left: left as u32 }
     }

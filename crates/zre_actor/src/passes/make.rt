@@ -8,8 +8,8 @@ ghost use Rattle.zre_actor.specs.Commands.{view as known, first, row, without_on
 
 use super::{ActorPass, CallerPass, CallerPasses, Made, Pipes, TakerPass};
 use crate::Told;
-use crate::rules::{Commands, Cut, Ends, EventsInOrder};
-use crate::views::{Hearing, View};
+use crate::rules::{CommandQueue, EventsInOrder, SplitOff, TwoEnds};
+use crate::views::{CommandView, EventView};
 use crossbeam_channel::bounded_with;
 use crossbeam_queue::Pass;
 use std::alloc::Global;
@@ -33,7 +33,7 @@ impl Pipes {
         ensures events { IfOk result (λ m. (raised_by m.actor ≡ []) × (ending_of m.actor ≡ None)
             × (taken_by m.taker ≡ []) × (last_of m.taker ≡ None)) }
     {
-        let (commands, mut actor) = Commands::ruled(alloc, ROOM)?;
+        let (commands, mut actor) = CommandQueue::ruled(alloc, ROOM)?;
         let Ok(callers) = new_callers(alloc, callers, &commands, &mut actor) else {
             drop(actor);
             drop(commands);
@@ -41,7 +41,7 @@ impl Pipes {
         };
         let Ok((events_in, events_out, mut events)) = bounded_with::<
             Told,
-            Hearing,
+            EventView,
             EventsInOrder,
             Global,
         >(alloc, ROOM) else {
@@ -50,7 +50,7 @@ impl Pipes {
             drop(commands);
             return Err(OutOfMemory);
         };
-        let taker = events_in.another::<Ends>(&mut events);
+        let taker = events_in.another::<TwoEnds>(&mut events);
         Ok(Made {
             pipes: Pipes {
                 alloc,
@@ -73,8 +73,8 @@ impl Pipes {
 fn new_callers(
     alloc: Global,
     count: u8,
-    commands: &Commands,
-    actor: &mut Pass<Command, View>,
+    commands: &CommandQueue,
+    actor: &mut Pass<Command, CommandView>,
 ) -> Result<CallerPasses, OutOfMemory>
     requires few { count ≤ 16 }
     requires queue { IsPassOf commands.now actor.old }
@@ -99,7 +99,7 @@ fn new_callers(
 }
 
 // A caller with the first unused number.
-fn new_caller(commands: &Commands, actor: &mut Pass<Command, View>) -> CallerPass
+fn new_caller(commands: &CommandQueue, actor: &mut Pass<Command, CommandView>) -> CallerPass
     requires queue { IsPassOf commands.now actor.old }
     requires unused { 1 ≤ length (view actor.old).unused }
     ensures queue { IsSamePass actor.old actor.new × IsPassOf commands.now result.commands }
@@ -107,7 +107,7 @@ fn new_caller(commands: &Commands, actor: &mut Pass<Command, View>) -> CallerPas
     ensures caller { view result.commands ≡ one_caller (view actor.old) }
     ensures fulls { result.fulls ≡ 0 }
 {
-    let caller = commands.another::<Cut>(actor);
+    let caller = commands.another::<SplitOff>(actor);
     CallerPass {
         commands: caller,
         fulls: 0,

@@ -4,7 +4,7 @@ ghost use Rattle.zre_actor.specs.Commands.{placed};
 ghost use Rattle.zre_actor.specs.Passes.{IsCallerOf, number, ended, put_by, Raised};
 
 use super::{CallerPass, Full, Pipes};
-use crate::rules::{Puts, TakeIn};
+use crate::rules::{PutsCommand, TakeIn};
 use std::sync::Wait;
 use zre_outside::Command;
 
@@ -32,7 +32,7 @@ impl Pipes {
         } = pass;
         match self
             .commands
-            .push_as::<Puts, R>(&rt, &mut commands, command)
+            .push_as::<PutsCommand, R>(&rt, &mut commands, command)
         {
             Ok(()) => Ok(CallerPass { commands, fulls }),
             Err(command) => Err(Full {

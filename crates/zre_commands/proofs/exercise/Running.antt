@@ -6,7 +6,7 @@ use Rattle.zre_values.specs.declared.settings.Settings.{Settings as Config}
 use Rattle.zre_journal.specs.Events.{events}
 use Rattle.zre_node.specs.declared.node.Node.{Node}
 use Rattle.zre_node.specs.declared.effects.Step.{Step}
-use Rattle.zre_node.specs.Journal.{StandsFor, Steps}
+use Rattle.zre_node.specs.Journal.{StandsFor, IsStep}
 use Rattle.zre_outside.specs.declared.entry.Entry.{Entry}
 use Rattle.zre_commands.specs.declared.exercise.counts.Counts.{Counts}
 use Rattle.zre_commands.specs.exercise.Counts.{nothing, with_entry, tally}
@@ -25,7 +25,7 @@ pub entry_counted : (g : Config) (J : List Entry) (e : Entry) (n : Node) (c d : 
 entry_counted g J e n c d counted one = one ∙ ap with_entry counted.counts ∙ ap (λ k. tally k (events g J)) (one_longer J e)
 
 -- an entry was taken, and its events were counted after it
-pub steps_on : (g : Config) (J : List Entry) (e : Entry) (m : Node) (s : Step) (c : Counts) → Steps g J e m s →
+pub steps_on : (g : Config) (J : List Entry) (e : Entry) (m : Node) (s : Step) (c : Counts) → IsStep g J e m s →
     c ≡ tally (length (J ++ e ∷ [])) (events g J ++ s.events) → Counted g (J ++ e ∷ []) m c
 steps_on g J e m s c steps counts = record {
   stands = steps.stands;

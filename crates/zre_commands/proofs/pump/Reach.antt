@@ -4,40 +4,40 @@ use Rattle.std.specs.Io.KnownBytes.{Appends, IsAtEnd}
 use Rattle.std.proofs.KnownBytes.{Appends-nil, Appends-trans, Appends-kept, Consumes-nil, Consumes-trans}
 use Rattle.std.proofs.lemmas.List.{length-append, length-take-le}
 use Rattle.zre_outside.specs.Causes.{Rose}
-use Rattle.zre_outside.specs.Told.{Moves, AppendsFront}
+use Rattle.zre_outside.specs.Told.{MovesOn, AppendsFront}
 use Rattle.zre_commands.specs.declared.pump.status.Status.{Status}
 use Rattle.zre_commands.specs.declared.pump.status.Status.TheVariants as statuses
 use Rattle.zre_commands.specs.pump.Meaning.{Meaning, whole_text}
 use Rattle.zre_commands.specs.pump.Outcome.{Outcome, Pumped}
-use Rattle.zre_commands.specs.declared.pump.pumping.Next.{Next}
-use Rattle.zre_commands.specs.declared.pump.pumping.Next.TheVariants as nexts
+use Rattle.zre_commands.specs.declared.pump.pumping.Onward.{Onward}
+use Rattle.zre_commands.specs.declared.pump.pumping.Onward.TheVariants as nexts
 use Rattle.zre_commands.specs.pump.Turning.{WritesText, WritesFront, Refuses, Told, Turned, Finishes}
 
 -- some octets were taken, so many; the machine was fed them, they aren't stopped, and their text was written
 pub record Reached (fed : List ℕ → Type 0) (m : Meaning) (left left' taken taken' written written' : Option (List ℕ)) (count : ℕ) : Type 0 where
   pub octets : List ℕ
-  pub moved : Moves left left' taken taken' octets
+  pub moved : MovesOn left left' taken taken' octets
   pub counted : length octets ≡ count
   pub known : fed octets
   pub going : m.is_stopped octets ≡ false
   pub appended : Appends written written' (m.text octets)
 
 -- a piece that isn't empty was told: so went the turn
-pub turned : (next : Next) (fed : List ℕ → Type 0) (m : Meaning) (o piece : List ℕ) (left w w' : Option (List ℕ)) (read write : Type 0) → 0 < length piece → Told next fed m o piece w w' write → Turned next fed m o piece left w w' read write
+pub turned : (next : Onward) (fed : List ℕ → Type 0) (m : Meaning) (o piece : List ℕ) (left w w' : Option (List ℕ)) (read write : Type 0) → 0 < length piece → Told next fed m o piece w w' write → Turned next fed m o piece left w w' read write
 turned nexts.Go fed m o piece left w w' read write some t = (some, t)
 turned nexts.Finish fed m o piece left w w' read write some t = inl t
 turned (nexts.Fail status) fed m o piece left w w' read write some t = inl t
 
-pub Moves-nil : (a b : Option (List ℕ)) → Moves a a b b []
-Moves-nil a b = record { consumed = Consumes-nil a; recorded = Appends-nil b }
+pub MovesOn-nil : (a b : Option (List ℕ)) → MovesOn a a b b []
+MovesOn-nil a b = record { consumed = Consumes-nil a; recorded = Appends-nil b }
 
-pub Moves-trans : (a b c d e f : Option (List ℕ)) (x y : List ℕ) → Moves a b d e x → Moves b c e f y → Moves a c d f (x ++ y)
-Moves-trans a b c d e f x y p q = record { consumed = Consumes-trans a b c x y p.consumed q.consumed; recorded = Appends-trans d e f x y p.recorded q.recorded }
+pub MovesOn-trans : (a b c d e f : Option (List ℕ)) (x y : List ℕ) → MovesOn a b d e x → MovesOn b c e f y → MovesOn a c d f (x ++ y)
+MovesOn-trans a b c d e f x y p q = record { consumed = Consumes-trans a b c x y p.consumed q.consumed; recorded = Appends-trans d e f x y p.recorded q.recorded }
 
 pub starts : (fed : List ℕ → Type 0) (m : Meaning) (left taken w w' : Option (List ℕ)) → fed [] → Appends w w' (m.text []) → m.is_stopped [] ≡ false → Reached fed m left left taken taken w w' 0
 starts fed m left taken w w' h e s = record {
   octets = [];
-  moved = Moves-nil left taken;
+  moved = MovesOn-nil left taken;
   counted = refl;
   known = h;
   going = s;
@@ -53,11 +53,11 @@ counted_more o piece count read e f = omega (arith, length-append o piece, e, f)
 
 -- a piece more was read, fed and written
 pub goes_on : (fed fed' : List ℕ → Type 0) (m : Meaning) (l l' l'' t t' t'' w w' w'' : Option (List ℕ)) (count read : ℕ) (piece : List ℕ)
-    → (r : Reached fed m l l' t t' w w' count) → length piece ≡ read → Moves l' l'' t' t'' piece → fed' (r.octets ++ piece) → m.is_stopped (r.octets ++ piece) ≡ false → WritesText m r.octets piece w' w''
+    → (r : Reached fed m l l' t t' w w' count) → length piece ≡ read → MovesOn l' l'' t' t'' piece → fed' (r.octets ++ piece) → m.is_stopped (r.octets ++ piece) ≡ false → WritesText m r.octets piece w' w''
     → Reached fed' m l l'' t t'' w w'' (count + read)
 goes_on fed fed' m l l' l'' t t' t'' w w' w'' count read piece r len moves h s wt = record {
   octets = r.octets ++ piece;
-  moved = Moves-trans l l' l'' t t' t'' r.octets piece r.moved moves;
+  moved = MovesOn-trans l l' l'' t t' t'' r.octets piece r.moved moves;
   counted = counted_more r.octets piece count read r.counted len;
   known = h;
   going = s;
@@ -146,18 +146,18 @@ failed status m limit o piece left w w' w'' read write read' write' reads writes
 
 -- the pump ends after a piece more, the front of a buffer
 pumped_on : (status : Status) (fed : List ℕ → Type 0) (m : Meaning) (limit count read : ℕ) (buf : List ℕ) (l l' l'' t t' t'' w w' w'' : Option (List ℕ)) (reads writes : Type 0)
-    → (r : Reached fed m l l' t t' w w' count) → read ≤ length buf → count + read ≤ limit → Moves l' l'' t' t'' (take read buf) → Outcome status limit m (r.octets ++ take read buf) l'' w w'' reads writes
+    → (r : Reached fed m l l' t t' w w' count) → read ≤ length buf → count + read ≤ limit → MovesOn l' l'' t' t'' (take read buf) → Outcome status limit m (r.octets ++ take read buf) l'' w w'' reads writes
     → Pumped status limit m l l'' t t'' w w'' reads writes
 pumped_on status fed m limit count read buf l l' l'' t t' t'' w w' w'' reads writes r bound fits moves outcome = record {
   octets = r.octets ++ take read buf;
-  moved = Moves-trans l l' l'' t t' t'' r.octets (take read buf) r.moved moves;
+  moved = MovesOn-trans l l' l'' t t' t'' r.octets (take read buf) r.moved moves;
   within = omega (arith, counted_more r.octets (take read buf) count read r.counted (length-take-le read buf bound), fits);
   outcome = outcome;
 }
 
 -- by a turn that fails
 pub fails_on : (status : Status) (fed : List ℕ → Type 0) (m : Meaning) (limit count read : ℕ) (buf : List ℕ) (l l' l'' t t' t'' w w' w'' : Option (List ℕ)) (reads writes reads' writes' : Type 0)
-    → (r : Reached fed m l l' t t' w w' count) → read ≤ length buf → count + read ≤ limit → count < limit → Moves l' l'' t' t'' (take read buf) → (reads' → reads) → (writes' → writes)
+    → (r : Reached fed m l l' t t' w w' count) → read ≤ length buf → count + read ≤ limit → count < limit → MovesOn l' l'' t' t'' (take read buf) → (reads' → reads) → (writes' → writes)
     → Turned (nexts.Fail status) (λ _. Unit {0}) m r.octets (take read buf) l'' w' w'' reads' writes' → Pumped status limit m l l'' t t'' w w'' reads writes
 fails_on status fed m limit count read buf l l' l'' t t' t'' w w' w'' reads writes reads' writes' r bound fits below moves rises rises' turn =
     pumped_on status fed m limit count read buf l l' l'' t t' t'' w w' w'' reads writes r bound fits moves
@@ -165,7 +165,7 @@ fails_on status fed m limit count read buf l l' l'' t t' t'' w w' w'' reads writ
 
 -- by a turn after which no more octets are read, and what the end of the input does then
 pub finishes_on : (status : Status) (fed fed' : List ℕ → Type 0) (m : Meaning) (limit count read : ℕ) (buf : List ℕ) (l l' l'' t t' t'' w w' w'' last : Option (List ℕ)) (reads writes writes' : Type 0)
-    → (r : Reached fed m l l' t t' w w' count) → read ≤ length buf → count + read ≤ limit → count < limit → Moves l' l'' t' t'' (take read buf) → (writes' → writes)
+    → (r : Reached fed m l l' t t' w w' count) → read ≤ length buf → count + read ≤ limit → count < limit → MovesOn l' l'' t' t'' (take read buf) → (writes' → writes)
     → Turned nexts.Finish fed' m r.octets (take read buf) l'' w' w'' (Unit {0}) (Unit {0}) → ((o : List ℕ) → fed' o → length o ≡ count + read → Finishes status m o w'' last writes') → Pumped status limit m l l'' t t'' w last reads writes
 finishes_on status fed fed' m limit count read buf l l' l'' t t' t'' w w' w'' last reads writes writes' r bound fits below moves rises turn finish =
     let o = r.octets ++ take read buf in

@@ -1,7 +1,7 @@
 -- What a status says of a command that reads its input.
 use Rattle.std.specs.Prelude.{◌≡◌, ℕ, ◌<◌, ◌≤◌, true, false, List, ◌⊎◌, length, Option}
 use Rattle.std.specs.Io.KnownBytes.{Appends, IsAtEnd}
-use Rattle.zre_outside.specs.Told.{Moves, AppendsFront}
+use Rattle.zre_outside.specs.Told.{MovesOn, AppendsFront}
 use Rattle.zre_commands.specs.pump.Meaning.{Meaning, whole_text}
 use Rattle.zre_commands.specs.declared.pump.status.Status.{Status}
 use Rattle.zre_commands.specs.declared.pump.status.Status.TheVariants.{Done, Usage, BadInput, ReadFault, WriteFault}
@@ -37,6 +37,6 @@ Outcome DeskFault limit m o left written written' read write = ⊥
 pub record Pumped (status : Status) (limit : ℕ) (m : Meaning)
     (left left' taken taken' written written' : Option (List ℕ)) (read write : Type 0) : Type 0 where
   pub octets : List ℕ
-  pub moved : Moves left left' taken taken' octets
+  pub moved : MovesOn left left' taken taken' octets
   pub within : length octets ≤ limit
   pub outcome : Outcome status limit m octets left' written written' read write

@@ -3,8 +3,8 @@ use Rattle.std.specs.Prelude.{◌≡◌, ℕ, ◌<◌, true, false, List, [], �
 use Rattle.std.specs.Io.KnownBytes.{Appends, IsAtEnd, Keeps}
 use Rattle.zre_outside.specs.Told.{AppendsFront}
 use Rattle.zre_commands.specs.pump.Meaning.{Meaning}
-use Rattle.zre_commands.specs.declared.pump.pumping.Next.{Next}
-use Rattle.zre_commands.specs.declared.pump.pumping.Next.TheVariants as nexts
+use Rattle.zre_commands.specs.declared.pump.pumping.Onward.{Onward}
+use Rattle.zre_commands.specs.declared.pump.pumping.Onward.TheVariants as nexts
 use Rattle.zre_commands.specs.declared.pump.status.Status.{Status}
 use Rattle.zre_commands.specs.declared.pump.status.Status.TheVariants.{Done, BadInput, ReadFault}
 use Rattle.zre_commands.specs.declared.pump.status.Status.TheVariants.{WriteFault, OutOfMemory}
@@ -28,7 +28,7 @@ Refuses OutOfMemory write front = front
 Refuses _ write front = ⊥
 
 -- a piece after the octets o was fed and its text written
-abbrev pub Told : Next
+abbrev pub Told : Onward
     → (fed : List ℕ → Type 0) (m : Meaning) (o piece : List ℕ) (written written' : Option (List ℕ)) (write : Type 0)
     → Type 0
 Told nexts.Go fed m o piece written written' write =
@@ -41,7 +41,7 @@ Told (nexts.Fail status) fed m o piece written written' write =
 
 -- one turn after the octets o, in which a piece was read: at the end of the input it is empty, and where the source
 -- failed
-abbrev pub Turned : Next
+abbrev pub Turned : Onward
     → (fed : List ℕ → Type 0) (m : Meaning) (o piece : List ℕ) (left written written' : Option (List ℕ))
     (read write : Type 0) → Type 0
 Turned nexts.Go fed m o piece left written written' read write =

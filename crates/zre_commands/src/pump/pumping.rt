@@ -3,7 +3,7 @@
 ghost use Rattle.std.specs.Prelude.{◌≡◌, ◌<◌, ◌≤◌, ◌+◌, ℕ, List, [], false, length, take, OnOk, IfErr};
 ghost use Rattle.std.specs.Io.KnownBytes.{Appends};
 ghost use Rattle.zre_outside.specs.Causes.{Rose};
-ghost use Rattle.zre_outside.specs.Told.{AppendsFront, Moves};
+ghost use Rattle.zre_outside.specs.Told.{AppendsFront, MovesOn};
 ghost use Rattle.zre_commands.specs.pump.Outcome.{Pumped};
 ghost use Rattle.zre_commands.specs.pump.Turning.{Finishes, Refuses, Told, Turned};
 
@@ -19,7 +19,7 @@ const PORTION: usize = 2048;
 
 /// How a turn ended.
 #[derive(Clone, Copy)]
-enum Next {
+enum Onward {
     // More octets are read.
     Go,
     // No more are: there are none, or those so far are refused.
@@ -30,9 +30,9 @@ enum Next {
 
 /// One turn: how many octets it read, and how it ended.
 #[derive(Clone, Copy)]
-struct Turn {
+struct PumpTurn {
     read: usize,
-    next: Next,
+    next: Onward,
 }
 
 // How many octets the next read asks for, where so many may still be taken.
@@ -76,7 +76,12 @@ fn begin<M: Machine, O: Sink>(machine: &M, out: &mut O, text: &mut Octets) -> Re
 }
 
 // Feeds a piece and writes its text.
-fn tell<M: Machine, O: Sink>(machine: &mut M, piece: &[u8], out: &mut O, text: &mut Octets) -> Next
+fn tell<M: Machine, O: Sink>(
+    machine: &mut M,
+    piece: &[u8],
+    out: &mut O,
+    text: &mut Octets,
+) -> Onward
     ensures told { (o : List ℕ) → M.fed machine.old o → (M.says machine.old).is_stopped o ≡ false →
         Told result (M.fed machine.new) (M.says machine.old) o piece.now (O.written out.old) (O.written out.new)
         (Rose (O.faults out.old) (O.faults out.new)) }
@@ -85,15 +90,15 @@ fn tell<M: Machine, O: Sink>(machine: &mut M, piece: &[u8], out: &mut O, text: &
 {
     text.clear();
     let Ok(going) = machine.feed(piece, text) else {
-        return Next::Fail(Status::OutOfMemory);
+        return Onward::Fail(Status::OutOfMemory);
     };
     match write_text(out, text.as_slice()) {
         Ok(()) => {}
-        Err(status) => return Next::Fail(status),
+        Err(status) => return Onward::Fail(status),
     }
     match going {
-        Going::On => Next::Go,
-        Going::Stop => Next::Finish,
+        Going::On => Onward::Go,
+        Going::Stop => Onward::Finish,
     }
 }
 
@@ -104,10 +109,10 @@ fn take_turn<M: Machine, I: Source, O: Sink>(
     out: &mut O,
     buf: &mut [u8],
     text: &mut Octets,
-) -> Turn
+) -> PumpTurn
     requires { 0 < length buf.old }
     ensures bound { result.read ≤ length buf.new }
-    ensures moved { Moves (I.left input.old) (I.left input.new) (I.taken input.old) (I.taken input.new)
+    ensures moved { MovesOn (I.left input.old) (I.left input.new) (I.taken input.old) (I.taken input.new)
         (take result.read buf.new) }
     ensures turned { (o : List ℕ) → M.fed machine.old o → (M.says machine.old).is_stopped o ≡ false →
         Turned result.next (M.fed machine.new) (M.says machine.old) o (take result.read buf.new)
@@ -118,19 +123,19 @@ fn take_turn<M: Machine, I: Source, O: Sink>(
     ensures writes { O.faults out.old ≤ O.faults out.new }
 {
     let Ok(read) = input.read(buf) else {
-        return Turn {
+        return PumpTurn {
             read: 0,
-            next: Next::Fail(Status::ReadFault),
+            next: Onward::Fail(Status::ReadFault),
         };
     };
     if read == 0 {
-        return Turn {
+        return PumpTurn {
             read,
-            next: Next::Finish,
+            next: Onward::Finish,
         };
     }
     let next = tell(machine, &buf[..read], out, text);
-    Turn { read, next }
+    PumpTurn { read, next }
 }
 
 // Takes the end of the input, of which so many octets were taken, and writes the last text.
@@ -184,9 +189,9 @@ pub fn pump<M: Machine, I: Source, O: Sink>(
         let turn = take_turn(machine, input, out, &mut buf[..room], &mut text);
         taken += turn.read as u64;
         match turn.next {
-            Next::Go => {}
-            Next::Finish => return finish(machine, taken, out, &mut text),
-            Next::Fail(status) => return status,
+            Onward::Go => {}
+            Onward::Finish => return finish(machine, taken, out, &mut text),
+            Onward::Fail(status) => return status,
         }
     }
     Status::TooLong

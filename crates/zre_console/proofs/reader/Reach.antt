@@ -5,7 +5,7 @@ use mathlib.Core.Logic.{inl, inr}
 use Rattle.std.specs.Io.KnownBytes.{IsAtEnd}
 use Rattle.std.proofs.lemmas.List.{append-nil}
 use Rattle.zre_outside.specs.declared.entry.Command.{Command}
-use Rattle.zre_outside.specs.Told.{Moves}
+use Rattle.zre_outside.specs.Told.{MovesOn}
 use Rattle.zre_actor.specs.declared.passes.CallerPass.{CallerPass}
 use Rattle.zre_console.specs.lines.Orders.{is_quit, typed, orders, asked, Begins}
 use Rattle.zre_console.specs.lines.Typing.{Typing, Typed}
@@ -23,7 +23,7 @@ use Rattle.zre_console.proofs.reader.Puts.{puts-none, puts-then}
 -- some octets were taken, so many; they were typed, no line is a quit, and their commands were put
 pub record Reached (t : Typing) (a b : CallerPass) (left left' taken taken' : Option (List ℕ)) (count : ℕ) : Type 0 where
   pub octets : List ℕ
-  pub moved : Moves left left' taken taken' octets
+  pub moved : MovesOn left left' taken taken' octets
   pub counted : length octets ≡ count
   pub known : Typed octets t
   pub going : list_any is_quit (typed octets) ≡ false
@@ -32,7 +32,7 @@ pub record Reached (t : Typing) (a b : CallerPass) (left left' taken taken' : Op
 pub starts : (t : Typing) (a : CallerPass) (left taken : Option (List ℕ)) → Typed [] t → Reached t a a left left taken taken 0
 starts t a left taken known = record {
   octets = [];
-  moved = Moves-nil left taken;
+  moved = MovesOn-nil left taken;
   counted = refl;
   known = known;
   going = refl;
@@ -41,12 +41,12 @@ starts t a left taken known = record {
 
 -- a piece more was read and its commands put
 pub goes-on : (s t : Typing) (a b c : CallerPass) (l l' l'' k k' k'' : Option (List ℕ)) (count read : ℕ) (piece : List ℕ)
-    → (r : Reached s a b l l' k k' count) → length piece ≡ read → Moves l' l'' k' k'' piece
+    → (r : Reached s a b l l' k k' count) → length piece ≡ read → MovesOn l' l'' k' k'' piece
     → Typed (r.octets ++ piece) t × (list_any is_quit (typed (r.octets ++ piece)) ≡ false) × PutsTyped b c r.octets (r.octets ++ piece)
     → Reached t a c l l'' k k'' (count + read)
 goes-on s t a b c l l' l'' k k' k'' count read piece r long moves took = record {
   octets = r.octets ++ piece;
-  moved = Moves-trans l l' l'' k k' k'' r.octets piece r.moved moves;
+  moved = MovesOn-trans l l' l'' k k' k'' r.octets piece r.moved moves;
   counted = counted_more r.octets piece count read r.counted long;
   known = took.0;
   going = took.1;
@@ -57,7 +57,7 @@ goes-on s t a b c l l' l'' k k' k'' count read piece r long moves took = record 
 
 module _ (t : Typing) (a b : CallerPass) (l l' k k' : Option (List ℕ)) (count : ℕ) (r : Reached t a b l l' k k' count) (limit : ℕ) where
   -- nothing was put since
-  stays : (end : InputEnd) (l'' k'' : Option (List ℕ)) (read : Type 0) → Moves l l'' k k'' r.octets → count ≤ limit → LinesOutcome end limit (typed r.octets) r.octets l'' read → HasReadLines end limit a b l l'' k k'' read
+  stays : (end : InputEnd) (l'' k'' : Option (List ℕ)) (read : Type 0) → MovesOn l l'' k k'' r.octets → count ≤ limit → LinesOutcome end limit (typed r.octets) r.octets l'' read → HasReadLines end limit a b l l'' k k'' read
   stays end l'' k'' read moves within is = record {
     octets = r.octets;
     moved = moves;
@@ -74,16 +74,16 @@ module _ (t : Typing) (a b : CallerPass) (l l' k k' : Option (List ℕ)) (count 
   pub too-long : (read : Type 0) → count ≡ limit → HasReadLines ends.TooLong limit a b l l' k k' read
   too-long read all = stays ends.TooLong l' k' read r.moved (omega (arith, all)) (r.counted ∙ all, r.going, refl)
 
-  module _ (l'' k'' : Option (List ℕ)) (piece : List ℕ) (moves : Moves l' l'' k' k'' piece) (c : CallerPass) (read : Type 0) where
-    moved : Moves l l'' k k'' (r.octets ++ piece)
-    moved = Moves-trans l l' l'' k k' k'' r.octets piece r.moved moves
+  module _ (l'' k'' : Option (List ℕ)) (piece : List ℕ) (moves : MovesOn l' l'' k' k'' piece) (c : CallerPass) (read : Type 0) where
+    moved : MovesOn l l'' k k'' (r.octets ++ piece)
+    moved = MovesOn-trans l l' l'' k k' k'' r.octets piece r.moved moves
 
     -- the source told no more octets
-    moved-same : piece ≡ [] → Moves l l'' k k'' r.octets
-    moved-same none = subst (Moves l l'' k k'') (ap (λ (p : List ℕ). r.octets ++ p) none ∙ append-nil r.octets) moved
+    moved-same : piece ≡ [] → MovesOn l l'' k k'' r.octets
+    moved-same none = subst (MovesOn l l'' k k'') (ap (λ (p : List ℕ). r.octets ++ p) none ∙ append-nil r.octets) moved
 
     -- more was put
-    puts-more : (end : InputEnd) (octets : List ℕ) (tail : List Command) → Moves l l'' k k'' octets → length octets ≤ limit → Puts b c tail → LinesOutcome end limit (typed r.octets ++ tail) octets l'' read → HasReadLines end limit a c l l'' k k'' read
+    puts-more : (end : InputEnd) (octets : List ℕ) (tail : List Command) → MovesOn l l'' k k'' octets → length octets ≤ limit → Puts b c tail → LinesOutcome end limit (typed r.octets ++ tail) octets l'' read → HasReadLines end limit a c l l'' k k'' read
     puts-more end octets tail moves within p is = record {
       octets = octets;
       moved = moves;
@@ -120,7 +120,7 @@ module _ (t : Typing) (a b : CallerPass) (l l' k k' : Option (List ℕ)) (count 
 pub memory-first : (a : CallerPass) (l k : Option (List ℕ)) (limit : ℕ) (read : Type 0) → HasReadLines ends.OutOfMemory limit a a l l k k read
 memory-first a l k limit read = record {
   octets = [];
-  moved = Moves-nil l k;
+  moved = MovesOn-nil l k;
   within = omega arith;
   commands = [];
   puts = puts-none a;

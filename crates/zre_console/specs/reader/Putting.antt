@@ -7,8 +7,8 @@ use Rattle.zre_actor.specs.declared.passes.CallerPass.{CallerPass}
 use Rattle.zre_actor.specs.Commands.{placed}
 use Rattle.zre_actor.specs.Passes.{number, ended, put_by}
 use Rattle.zre_console.specs.lines.Orders.{is_quit}
-use Rattle.zre_console.specs.declared.reader.putting.Sent.{Sent}
-use Rattle.zre_console.specs.declared.reader.putting.Sent.TheVariants as sents
+use Rattle.zre_console.specs.declared.reader.putting.PutOutcome.{PutOutcome}
+use Rattle.zre_console.specs.declared.reader.putting.PutOutcome.TheVariants as sents
 
 -- these commands were put with a pass, under its number and with those that it absorbed
 pub record Puts (old new : CallerPass) (commands : List Command) : Type 0 where
@@ -29,7 +29,7 @@ abbrev pub IsShort : List Command → List Command → Type 0
 IsShort front all = (next : Command) × (rest : List Command) × (all ≡ front ++ (next ∷ rest))
 
 -- what became of a command: a quit isn't put
-abbrev pub Sends : Sent → CallerPass → CallerPass → Command → Type 0
+abbrev pub Sends : PutOutcome → CallerPass → CallerPass → Command → Type 0
 Sends sents.On old new command = Puts old new (command ∷ []) × (is_quit command ≡ false)
 Sends sents.Quit old new command = Puts old new [] × (is_quit command ≡ true)
 Sends sents.Over old new command = Puts old new []
@@ -48,7 +48,7 @@ abbrev pub PutsQuit : CallerPass → CallerPass → List Command → Type 0
 PutsQuit old new commands = (f : PutsFront old new commands) × (is_quit f.next ≡ true)
 
 -- what became of some commands
-abbrev pub SendsAll : Sent → CallerPass → CallerPass → List Command → Type 0
+abbrev pub SendsAll : PutOutcome → CallerPass → CallerPass → List Command → Type 0
 SendsAll sents.On old new commands = Puts old new commands × (list_any is_quit commands ≡ false)
 SendsAll sents.Quit old new commands = PutsQuit old new commands
 SendsAll sents.Over old new commands = PutsFront old new commands

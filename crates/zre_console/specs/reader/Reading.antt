@@ -4,7 +4,7 @@ use mathlib.Core.List.{IsPrefix}
 use Rattle.std.specs.List.{list_any}
 use Rattle.std.specs.Io.KnownBytes.{IsAtEnd}
 use Rattle.zre_outside.specs.declared.entry.Command.{Command}
-use Rattle.zre_outside.specs.Told.{Moves}
+use Rattle.zre_outside.specs.Told.{MovesOn}
 use Rattle.zre_actor.specs.declared.passes.CallerPass.{CallerPass}
 use Rattle.zre_console.specs.lines.Orders.{is_quit, typed, orders, asked, Begins}
 use Rattle.zre_console.specs.declared.reader.ending.InputEnd.{InputEnd}
@@ -57,7 +57,7 @@ LinesOutcome OutOfMemory limit commands o left read = Begins commands o × IsPre
 pub record HasTaken (limit : ℕ) (old new : CallerPass) (left left' taken taken' : Option (List ℕ))
     (outcome_of : List Command → List ℕ → Type 0) : Type 0 where
   pub octets : List ℕ
-  pub moved : Moves left left' taken taken' octets
+  pub moved : MovesOn left left' taken taken' octets
   pub within : length octets ≤ limit
   pub commands : List Command
   pub puts : Puts old new commands

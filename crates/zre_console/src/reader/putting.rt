@@ -16,7 +16,7 @@ use zre_outside::Command;
 
 /// What became of commands that were to be put.
 #[derive(Clone, Copy)]
-pub(crate) enum Sent {
+pub(crate) enum PutOutcome {
     /// They were put, and none of them is a quit.
     On,
     /// They were put up to the first quit, which isn't put.
@@ -109,17 +109,24 @@ pub(crate) fn put_one<R: Wait + Copy>(
     over: &AtomicBool,
     pass: CallerPass,
     command: Command,
-) -> (CallerPass, Sent)
+) -> (CallerPass, PutOutcome)
     requires { IsCallerOf pipes.now pass }
     ensures pipes { IsCallerOf pipes.now result.0 }
     ensures sent { Sends result.1 pass result.0 command }
 {
     if is_quit(&command) {
         drop(command);
-        return (pass, Sent::Quit);
+        return (pass, PutOutcome::Quit);
     }
     let (pass, is_put) = put_command(rt, pipes, over, pass, command);
-    (pass, if is_put { Sent::On } else { Sent::Over })
+    (
+        pass,
+        if is_put {
+            PutOutcome::On
+        } else {
+            PutOutcome::Over
+        },
+    )
 }
 
 // Puts the commands before the first quit, unless the chat is over.
@@ -129,7 +136,7 @@ pub(crate) fn put_all<R: Wait + Copy>(
     over: &AtomicBool,
     mut pass: CallerPass,
     commands: Vec<Command>,
-) -> (CallerPass, Sent)
+) -> (CallerPass, PutOutcome)
     requires { IsCallerOf pipes.now pass }
     ensures pipes { IsCallerOf pipes.now result.0 }
     ensures sent { SendsAll result.1 pass result.0 commands.items }
@@ -137,10 +144,10 @@ pub(crate) fn put_all<R: Wait + Copy>(
     for command in commands {
         let (back, sent) = put_one(rt, pipes, over, pass, command);
         match sent {
-            Sent::On => pass = back,
-            Sent::Quit => return (back, Sent::Quit),
-            Sent::Over => return (back, Sent::Over),
+            PutOutcome::On => pass = back,
+            PutOutcome::Quit => return (back, PutOutcome::Quit),
+            PutOutcome::Over => return (back, PutOutcome::Over),
         }
     }
-    (pass, Sent::On)
+    (pass, PutOutcome::On)
 }

@@ -3,7 +3,7 @@
 ghost use Rattle.std.specs.Prelude.{◌≡◌, ◌<◌, ◌≤◌, ℕ, List, false, length, take};
 ghost use Rattle.std.specs.List.{list_any};
 ghost use Rattle.zre_outside.specs.Causes.{Rose};
-ghost use Rattle.zre_outside.specs.Told.{Moves};
+ghost use Rattle.zre_outside.specs.Told.{MovesOn};
 ghost use Rattle.zre_actor.specs.Passes.{IsCallerOf};
 ghost use Rattle.zre_console.specs.lines.Orders.{is_quit, typed};
 ghost use Rattle.zre_console.specs.lines.Typing.{Typed};
@@ -12,7 +12,7 @@ ghost use Rattle.zre_console.specs.reader.Turning.{Took, Turned, Finishes};
 
 use crate::lines::Typist;
 use crate::reader::InputEnd;
-use crate::reader::putting::{Sent, put_all, put_one};
+use crate::reader::putting::{PutOutcome, put_all, put_one};
 use std::alloc::Global;
 use std::sync::Wait;
 use std::sync::atomic::{AtomicBool, Ordering};
@@ -32,7 +32,7 @@ enum Next {
 
 /// One turn: how many octets it read, and what comes after it.
 #[derive(Drop)]
-struct Turn {
+struct ReaderTurn {
     read: usize,
     pass: CallerPass,
     next: Next,
@@ -57,9 +57,9 @@ fn take_piece<R: Wait + Copy>(
     let fed = typist.feed(piece, &mut commands);
     let (pass, sent) = put_all(rt, pipes, over, pass, commands);
     match sent {
-        Sent::Quit => (pass, Next::End(InputEnd::Quit)),
-        Sent::Over => (pass, Next::End(InputEnd::Over)),
-        Sent::On => match fed {
+        PutOutcome::Quit => (pass, Next::End(InputEnd::Quit)),
+        PutOutcome::Over => (pass, Next::End(InputEnd::Over)),
+        PutOutcome::On => match fed {
             Ok(()) => (pass, Next::Go),
             Err(_) => (pass, Next::End(InputEnd::OutOfMemory)),
         },
@@ -76,12 +76,12 @@ fn take_turn<R: Wait + Copy, I: Source>(
     pass: CallerPass,
     input: &mut I,
     buf: &mut [u8],
-) -> Turn
+) -> ReaderTurn
     requires some { 0 < length buf.old }
     requires pipes { IsCallerOf pipes.now pass }
     ensures bound { result.read ≤ length buf.new }
     ensures pipes { IsCallerOf pipes.now result.pass }
-    ensures moved { Moves (I.left input.old) (I.left input.new) (I.taken input.old) (I.taken input.new)
+    ensures moved { MovesOn (I.left input.old) (I.left input.new) (I.taken input.old) (I.taken input.new)
         (take result.read buf.new) }
     ensures turned { (o : List ℕ) → Typed o typist.old → list_any is_quit (typed o) ≡ false →
         Turned result.next typist.new o (take result.read buf.new) (I.left input.new) pass result.pass
@@ -91,7 +91,7 @@ fn take_turn<R: Wait + Copy, I: Source>(
     let read = match input.read(buf) {
         Ok(read) => read,
         Err(Failed) => {
-            return Turn {
+            return ReaderTurn {
                 read: 0,
                 pass,
                 next: Next::End(InputEnd::ReadFault),
@@ -99,14 +99,14 @@ fn take_turn<R: Wait + Copy, I: Source>(
         }
     };
     if read == 0 {
-        return Turn {
+        return ReaderTurn {
             read,
             pass,
             next: Next::Finish,
         };
     }
     let (pass, next) = take_piece(rt, alloc, pipes, over, typist, pass, &buf[..read]);
-    Turn { read, pass, next }
+    ReaderTurn { read, pass, next }
 }
 
 // Takes the end of the input: the line that isn't finished counts.
@@ -130,9 +130,9 @@ fn finish<R: Wait + Copy>(
     };
     let (pass, sent) = put_one(rt, pipes, over, pass, command);
     match sent {
-        Sent::On => (pass, InputEnd::AtEnd),
-        Sent::Quit => (pass, InputEnd::AtEnd),
-        Sent::Over => (pass, InputEnd::Over),
+        PutOutcome::On => (pass, InputEnd::AtEnd),
+        PutOutcome::Quit => (pass, InputEnd::AtEnd),
+        PutOutcome::Over => (pass, InputEnd::Over),
     }
 }
 
@@ -165,7 +165,7 @@ pub(crate) fn read_lines<R: Wait + Copy, I: Source>(
         }
         let room = room_for(limit - taken);
         let piece = &mut buf[..room];
-        let Turn {
+        let ReaderTurn {
             read,
             pass: back,
             next,

@@ -3,7 +3,8 @@
 ghost use Rattle.std.specs.Prelude.{◌≡◌, [], ◌∷◌, option_map, IfOk};
 ghost use Rattle.zre_capture.specs.Reading.{fields_in};
 ghost use Rattle.zre_net.specs.Fields.{node_in, port_in, name_of, part_of, cut, number_then, one_node};
-ghost use Rattle.zre_net.specs.Fields.{node_and_number_then, node_and_number, number_and_node, three_numbers, host_and_port};
+ghost use Rattle.zre_net.specs.Fields.{node_and_number_then, node_and_number, number_and_node};
+ghost use Rattle.zre_net.specs.Fields.{three_numbers, host_and_port};
 
 use crate::limits::{NAME_OCTETS, NODES};
 use crate::moves::Part;

@@ -7,8 +7,8 @@ ghost use Rattle.zre_net.specs.Rows.{running_at, fits_owner, is_at, with_running
 ghost use Rattle.zre_net.specs.Running.{StandsAfter, Receives, Sends};
 
 use crate::running::nth::nth;
-use crate::running::rows::{Carrier, Owner, Sent, Started, Way};
-use crate::running::said::Said;
+use crate::running::rows::{Carrier, Owner, SentBeacon, Started, Way};
+use crate::running::said::SaidEvents;
 use std::alloc::Global;
 use zre_values::{List, OutOfMemory, PeerId, take_apart};
 
@@ -16,14 +16,14 @@ use zre_values::{List, OutOfMemory, PeerId, take_apart};
 pub(crate) struct Network {
     pub alloc: Global,
     /// What the nodes have told.
-    pub said: Said,
+    pub said: SaidEvents,
     /// The starts, and which of them runs at each node.
     pub started: Vec<Started>,
     pub running: Vec<Option<u64>>,
     /// Whose IDs the numbers of nodes have.
     pub owners: List<Owner>,
     /// Beacons, links and connections.
-    pub beacons: List<Sent>,
+    pub beacons: List<SentBeacon>,
     pub links: List<Way>,
     pub conns: Vec<Carrier>,
     /// The octets of all messages, and those that connections have yet to hand in.
@@ -79,7 +79,7 @@ impl Network {
         let running = Vec::from_array(alloc, [None; 17])?;
         Ok(Network {
             alloc,
-            said: Said::new(alloc),
+            said: SaidEvents::new(alloc),
             started: Vec::new(alloc),
             running,
             owners: List::new(alloc),

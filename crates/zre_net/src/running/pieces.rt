@@ -5,7 +5,7 @@ ghost use Rattle.zre_net.specs.declared.moves.Move.TheVariants as MoveValue;
 ghost use Rattle.zre_net.specs.Comes.{with_move};
 ghost use Rattle.zre_net.specs.History.{Happening};
 ghost use Rattle.zre_net.specs.Lists.{nth as nth_of};
-ghost use Rattle.zre_net.specs.Numbers.{Conn, conns};
+ghost use Rattle.zre_net.specs.Numbers.{CarriedConn, conns};
 ghost use Rattle.zre_net.specs.Carried.{pending};
 ghost use Rattle.zre_net.specs.Rows.{IsHeard};
 ghost use Rattle.zre_net.specs.Running.{StandsAfter, IsPlayed};
@@ -33,7 +33,8 @@ impl Network {
     // part, so that no more than one part is copied, and no more than one message comes. Gives how many came.
     fn hand(&mut self, to: u64, conn: u64, most: u64, at: u64) -> Result<u64, OutOfMemory>
         ensures few { IfOk result (λ count. count ≤ most) }
-        ensures come { (H : List Happening) (c : Conn) → StandsAfter H self.old → nth_of conn (conns H) ≡ Some c →
+        ensures come { (H : List Happening) (c : CarriedConn) →
+            StandsAfter H self.old → nth_of conn (conns H) ≡ Some c →
             to ≡ c.to.number →
             IfOk result (λ count. StandsAfter (with_move (MoveValue.Piece conn count at) H) self.new) }
     {
@@ -51,7 +52,7 @@ impl Network {
 
     // So many octets come, part by part: cut or not, a piece brings about the same.
     fn hand_all(&mut self, to: u64, conn: u64, count: u64, at: u64) -> Result<(), OutOfMemory>
-        ensures { (H : List Happening) (c : Conn) → StandsAfter H self.old → nth_of conn (conns H) ≡ Some c →
+        ensures { (H : List Happening) (c : CarriedConn) → StandsAfter H self.old → nth_of conn (conns H) ≡ Some c →
             to ≡ c.to.number → OnOk result (StandsAfter (with_move (MoveValue.Piece conn count at) H) self.new) }
     {
         let mut left = count - self.hand(to, conn, count, at)?;
@@ -67,7 +68,7 @@ impl Network {
 
     // How many octets a connection has yet to hand in.
     fn waits(&self, conn: u64) -> u64
-        ensures { (H : List Happening) (c : Conn) → StandsAfter H self.now → nth_of conn (conns H) ≡ Some c →
+        ensures { (H : List Happening) (c : CarriedConn) → StandsAfter H self.now → nth_of conn (conns H) ≡ Some c →
             result ≡ length (pending conn H) }
     {
         match nth(self.conns.as_slice(), conn) {

@@ -22,7 +22,7 @@ impl Drop for Started {
 
 /// A beacon, and the host from which it was sent.
 #[derive(Clone, Copy)]
-pub(crate) struct Sent {
+pub(crate) struct SentBeacon {
     pub from: [u8; 4],
     pub octets: [u8; 22],
 }

@@ -8,12 +8,12 @@ use crate::fault::{BadSchedule, ScheduleFault};
 use crate::moves::Moves;
 use crate::reading::Schedule;
 use crate::running::network::Network;
-use crate::running::said::Said;
+use crate::running::said::SaidEvents;
 use std::alloc::Global;
 use std::mem;
 
 // Runs moves.
-fn run(alloc: Global, moves: Moves) -> Result<Said, ScheduleFault>
+fn run(alloc: Global, moves: Moves) -> Result<SaidEvents, ScheduleFault>
     ensures told { IfOk result (λ said. (bad_move moves ≡ None) × (said ≡ said_by moves)) }
     ensures refused { IfErr result (λ fault. Refuses fault (λ number. bad_move moves ≡ Some number)) }
 {
@@ -28,13 +28,13 @@ fn run(alloc: Global, moves: Moves) -> Result<Said, ScheduleFault>
         };
         line = next;
     }
-    Ok(mem::replace(&mut network.said, Said::new(alloc)))
+    Ok(mem::replace(&mut network.said, SaidEvents::new(alloc)))
 }
 
 /// Runs a schedule: what its nodes tell. It refuses the first move that is outside the grammar. Where it does not, its
 /// nodes agree: over losses, repeats, reorderings, crashes and restarts within the window, what one shows of an entered
 /// other is what that one was as it queued the last message that was processed.
-pub fn run_schedule(alloc: Global, schedule: &Schedule) -> Result<Said, ScheduleFault>
+pub fn run_schedule(alloc: Global, schedule: &Schedule) -> Result<SaidEvents, ScheduleFault>
     ensures told { IfOk result (λ said. (bad_move (moves_of schedule.now) ≡ None)
         × (said ≡ said_by (moves_of schedule.now))) }
     ensures refused { IfErr result (λ fault. Refuses fault (λ number. bad_move (moves_of schedule.now) ≡ Some number)) }

@@ -18,8 +18,8 @@ ghost use Rattle.zre_net.specs.Running.{AreNodes, StandsAfter, IsStill, IsKept, 
 
 use crate::running::network::Network;
 use crate::running::nth::place_of;
-use crate::running::rows::{Sent, Started, Way};
-use crate::running::said::Said;
+use crate::running::rows::{SentBeacon, Started, Way};
+use crate::running::said::SaidEvents;
 use zre_node::Step;
 use zre_outside::{Act, Entry, Input};
 use zre_peer::Events;
@@ -27,7 +27,7 @@ use zre_values::{List, OutOfMemory};
 
 /// What an entry brought about at a start, and how many octets its messages had before and have now.
 #[derive(Drop)]
-pub(crate) struct Turn {
+pub(crate) struct EntryTurn {
     pub step: Step,
     pub before: u64,
     pub after: u64,
@@ -36,7 +36,7 @@ pub(crate) struct Turn {
 }
 
 // An entry comes.
-fn take_turn(started: &mut Started, at: u64, input: Input) -> Result<Turn, OutOfMemory>
+fn take_turn(started: &mut Started, at: u64, input: Input) -> Result<EntryTurn, OutOfMemory>
     ensures turned { (g : Config) (J : List EntryValue) → HasSent g J started.old.sender →
         is_slight g input (chronicle g J) (Comes (entry_at started.old at input) ∷ chronicle g J) →
         IfOk result (λ t. Turned g J (entry_at started.old at input) t started.new) }
@@ -45,7 +45,7 @@ fn take_turn(started: &mut Started, at: u64, input: Input) -> Result<Turn, OutOf
     let before = started.sender.lines.octets();
     let at = at.max(started.since);
     let step = started.sender.step(Entry { at, input })?;
-    Ok(Turn {
+    Ok(EntryTurn {
         step,
         before,
         after: started.sender.lines.octets(),
@@ -55,7 +55,7 @@ fn take_turn(started: &mut Started, at: u64, input: Input) -> Result<Turn, OutOf
 }
 
 // The events of a node are told.
-fn tell(said: &mut Said, node: u8, events: Events) -> Result<(), OutOfMemory>
+fn tell(said: &mut SaidEvents, node: u8, events: Events) -> Result<(), OutOfMemory>
     ensures { OnOk result (said.new ≡ said.old ++ map (λ e. (node, e)) events) }
 {
     for event in events.into_vec() {
@@ -65,11 +65,11 @@ fn tell(said: &mut Said, node: u8, events: Events) -> Result<(), OutOfMemory>
 }
 
 // The beacon of an act, where it sends one.
-fn send(beacons: &mut List<Sent>, host: [u8; 4], act: &Act) -> Result<(), OutOfMemory>
+fn send(beacons: &mut List<SentBeacon>, host: [u8; 4], act: &Act) -> Result<(), OutOfMemory>
     ensures { OnOk result (beacons.new ≡ beacons.old ++ filter_map (sent_in host) (act.now ∷ [])) }
 {
     if let Act::Beacon { bytes } = act {
-        beacons.push(Sent {
+        beacons.push(SentBeacon {
             from: host,
             octets: *bytes,
         })?;
@@ -78,7 +78,7 @@ fn send(beacons: &mut List<Sent>, host: [u8; 4], act: &Act) -> Result<(), OutOfM
 }
 
 // The beacons of acts.
-fn send_all(beacons: &mut List<Sent>, host: [u8; 4], acts: &[Act]) -> Result<(), OutOfMemory>
+fn send_all(beacons: &mut List<SentBeacon>, host: [u8; 4], acts: &[Act]) -> Result<(), OutOfMemory>
     ensures { OnOk result (beacons.new ≡ beacons.old ++ filter_map (sent_in host) acts.now) }
 {
     for act in acts {

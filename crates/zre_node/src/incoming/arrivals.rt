@@ -33,7 +33,7 @@ pub struct Standing {
 
 /// What a piece completes of what its connection says.
 #[derive(Drop)]
-pub struct Heard {
+pub struct Completed {
     /// What is whole, in order.
     pub items: Items,
     /// The fault that ends it, if there is one.
@@ -218,7 +218,12 @@ impl Tables {
     }
 
     /// All that a piece completed of what its connection says.
-    pub fn said(&mut self, out: &mut Effects, conn: u64, heard: &Heard) -> Result<(), OutOfMemory>
+    pub fn said(
+        &mut self,
+        out: &mut Effects,
+        conn: u64,
+        heard: &Completed,
+    ) -> Result<(), OutOfMemory>
         ensures { (g : Config) (K : List Mark) → Holds g K self.old →
             OnOk result (Did g (at_places g conn (said_in heard.now) K) K self.new out.old out.new) }
     {

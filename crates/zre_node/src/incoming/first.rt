@@ -20,12 +20,12 @@ use crate::tables::Tables;
 use std::alloc::Global;
 use zre_msg::{Body, Message};
 use zre_peer::{Events, IgnoreWhy, Run, RunFault};
-use zre_tables::Running;
+use zre_tables::CarriedRun;
 use zre_values::limits::PEERS;
 use zre_values::{Endpoint, OutOfMemory, PeerId};
 
 // Where a peer that says HELLO is to be reached.
-enum Place {
+enum Reach {
     // It is known, by this link.
     Known(u64),
     // It becomes known, with this endpoint.
@@ -83,20 +83,20 @@ impl Tables {
             OnOk result (Holds g (Starts conn link m ∷ H) self.new) }
     {
         self.conns.carry(conn, link);
-        self.peers.enter(link, Running { conn, run }, self.clock)
+        self.peers.enter(link, CarriedRun { conn, run }, self.clock)
     }
 
     // Where the peer of a first message is to be reached.
-    fn place(&self, peer: PeerId, message: &Message) -> Place
+    fn place(&self, peer: PeerId, message: &Message) -> Reach
         ensures { (g : Config) (H : List Mark) → Holds g H self.now → IsPlace g peer message.now H result }
     {
         if let Some(link) = self.peers.link_of(peer) {
-            return Place::Known(link);
+            return Reach::Known(link);
         }
         match mailbox_of(message) {
-            Some(to) if self.peers.len() < PEERS => Place::New(to),
-            Some(_) => Place::Nowhere(IgnoreWhy::Full),
-            None => Place::Nowhere(IgnoreWhy::NoEndpoint),
+            Some(to) if self.peers.len() < PEERS => Reach::New(to),
+            Some(_) => Reach::Nowhere(IgnoreWhy::Full),
+            None => Reach::Nowhere(IgnoreWhy::NoEndpoint),
         }
     }
 
@@ -134,11 +134,11 @@ impl Tables {
             OnOk result (Did g (at_first g conn (Some peer) message H) H self.new out.old out.new) }
     {
         match self.place(peer, &message) {
-            Place::Known(link) => match opened(self.alloc, peer, message, &mut out.events) {
+            Reach::Known(link) => match opened(self.alloc, peer, message, &mut out.events) {
                 Ok(run) => self.start(conn, link, run),
                 Err(fault) => self.refuse_by(out, conn, fault),
             },
-            Place::New(to) => match opened(self.alloc, peer, message, &mut out.events) {
+            Reach::New(to) => match opened(self.alloc, peer, message, &mut out.events) {
                 Ok(run) => {
                     self.born(out, peer, to)?;
                     self.start(conn, self.births, run)
@@ -146,7 +146,7 @@ impl Tables {
                 Err(fault) => self.refuse_by(out, conn, fault),
             },
             // Nothing is told of it, but why it is ignored.
-            Place::Nowhere(why) => {
+            Reach::Nowhere(why) => {
                 match opened(self.alloc, peer, message, &mut Events::new(self.alloc)) {
                     Ok(run) => {
                         drop(run);

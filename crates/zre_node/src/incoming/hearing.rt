@@ -12,18 +12,18 @@ ghost use Rattle.zre_journal.specs.Arrivals.{at_places};
 ghost use Rattle.zre_node.specs.Said.{said_in};
 ghost use Rattle.zre_node.specs.Stands.{Holds, is_quiet};
 
-use crate::incoming::arrivals::Heard;
+use crate::incoming::arrivals::Completed;
 use crate::tables::Tables;
 use std::sync::ledger::Ledger;
 use zre_values::OutOfMemory;
 use zre_zmtp::{Items, Steps};
 
-impl Heard {
+impl Completed {
     /// The list again, emptied.
     pub fn emptied(self) -> Items
         ensures { result ≡ [] }
     {
-        let Heard { mut items, .. } = self;
+        let Completed { mut items, .. } = self;
         items.clear();
         items
     }
@@ -47,7 +47,7 @@ impl Tables {
         bytes: &[u8],
         mut items: Items,
         steps: &mut Steps<L>,
-    ) -> Result<Heard, OutOfMemory>
+    ) -> Result<Completed, OutOfMemory>
         requires { items ≡ [] }
         ensures came { (g : Config) (H : List Mark) (e : Entry) → e.at ≡ at → e.input ≡ input.Piece conn bytes.now
             → Holds g H self.old →
@@ -60,7 +60,7 @@ impl Tables {
     {
         self.clock = at.max(self.clock);
         match self.conns.feed(conn, bytes, &mut items, steps) {
-            Ok(fault) => Ok(Heard { items, fault }),
+            Ok(fault) => Ok(Completed { items, fault }),
             Err(none) => Err(none),
         }
     }

@@ -17,14 +17,14 @@ ghost use Rattle.zre_node.specs.Stands.{Holds, Did, DoesOnRun, is_ping};
 
 use crate::effects::Effects;
 use crate::tables::Tables;
-use zre_msg::{Body, Command, LentMessage, Message, ReadFault};
+use zre_msg::{Body, LentBody, LentMessage, Message, ReadFault};
 use zre_peer::{Cause, RunFault, lent};
 use zre_values::{Frames, OutOfMemory};
 
-fn is_ping(command: &Command<'_>) -> bool
+fn is_ping(command: &LentBody<'_>) -> bool
     ensures { (more : List (List ℕ)) → result ≡ is_ping (body_of command.now more) }
 {
-    matches!(command, Command::Ping)
+    matches!(command, LentBody::Ping)
 }
 
 impl Tables {

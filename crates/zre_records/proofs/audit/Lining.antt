@@ -10,7 +10,7 @@ use Rattle.zre_capture.specs.Journal.{journal, settings, settings_in, bad, bad_f
 use Rattle.zre_capture.specs.declared.fault.BadCapture.{BadCapture}
 use Rattle.zre_capture.specs.declared.format.Format.{Format}
 use Rattle.zre_capture.specs.declared.format.Format.TheVariants.{Second}
-use Rattle.zre_capture.specs.declared.place.Place.{Place}
+use Rattle.zre_capture.specs.declared.line_start.LineStart.{LineStart}
 use Rattle.zre_capture.proofs.Lines.{some_lines}
 use Rattle.zre_records.specs.audit.Cut.{mark}
 
@@ -36,7 +36,7 @@ settings_same f [] a b some = absurd (omega (arith, some))
 settings_same f (t ∷ []) a b some = refl
 settings_same f (t ∷ u ∷ ls) a b some = refl
 
-entries_same : (p : Place) (ls : List (List ℕ)) (a b : List ℕ) → entries_from p (ls ++ a ∷ []) ≡ entries_from p (ls ++ b ∷ [])
+entries_same : (p : LineStart) (ls : List (List ℕ)) (a b : List ℕ) → entries_from p (ls ++ a ∷ []) ≡ entries_from p (ls ++ b ∷ [])
 unfolding entries_from
 entries_same p [] a b = refl
 entries_same p (t ∷ []) a b = refl
@@ -54,7 +54,7 @@ short_is n m le = by (nat_lt n m) refl
     by false e = refl
     by true e = absurd (omega (arith, ltb-true n m e, le))
 
-bad_same : (p : Place) (ls : List (List ℕ)) (a b : List ℕ) → length a ≤ longest p.format → length b ≤ longest p.format → bad_from p (ls ++ a ∷ []) ≡ bad_from p (ls ++ b ∷ [])
+bad_same : (p : LineStart) (ls : List (List ℕ)) (a b : List ℕ) → length a ≤ longest p.format → length b ≤ longest p.format → bad_from p (ls ++ a ∷ []) ≡ bad_from p (ls ++ b ∷ [])
 unfolding bad_from
 bad_same p [] a b s t = rw (short_is (longest p.format) (length a) s, short_is (longest p.format) (length b) t) refl
 bad_same p (l ∷ []) a b s t = by (line_of p l) (λ es. bad_same (next p es) [] a b s t)
@@ -71,7 +71,7 @@ bad_same p (l ∷ u ∷ ls) a b s t = by (line_of p l) (λ es. bad_same (next p 
     by (Some es) r = r es
 
 -- what ends with a line feed has no end that is bad
-end_later : (p : Place) (ls : List (List ℕ)) → (p.line == 1) ≡ false → 1 ≤ p.line → end_from p (ls ++ [] ∷ []) ≡ None
+end_later : (p : LineStart) (ls : List (List ℕ)) → (p.line == 1) ≡ false → 1 ≤ p.line → end_from p (ls ++ [] ∷ []) ≡ None
 unfolding end_from
 end_later p [] e le = rw e refl
 end_later p (l ∷ []) e le = by (line_of p l) (λ es. end_later (next p es) [] (later p.line le) (omega arith))

@@ -4,7 +4,7 @@ use Rattle.std.specs.List.{AllByRecursion}
 use Rattle.zre_values.specs.declared.peer_id.PeerId.{PeerId}
 use Rattle.zre_peer.specs.Lines.{line}
 use Rattle.zre_peer.specs.declared.event.Event.TheVariants.{Evasive}
-use Rattle.zre_records.specs.declared.replay.teller.EvasiveLine.{EvasiveLine}
+use Rattle.zre_records.specs.declared.replay.event_lines.EvasiveLine.{EvasiveLine}
 use Rattle.zre_records.specs.replay.Telling.{Kept}
 
 -- one of some lines that are kept is kept

@@ -7,7 +7,7 @@ use Rattle.zre_capture.specs.declared.format.Format.TheVariants.{First, Second}
 use Rattle.zre_outside.specs.declared.entry.Entry.{Entry}
 use Rattle.zre_records.specs.declared.replay.reading.State.{State}
 use Rattle.zre_records.specs.declared.replay.reading.State.TheVariants.{Going, Bad, Lost}
-use Rattle.zre_records.specs.declared.replay.waiting.Waiting.{Waiting}
+use Rattle.zre_records.specs.declared.replay.waiting.WaitingReader.{WaitingReader}
 use Rattle.zre_records.specs.replay.State.{IsState, IsRead}
 
 -- ---- before any octet
@@ -33,7 +33,7 @@ goes_on f (Bad r) o h e no_reader = let z : true ≡ false = sym (ap is_some h.0
 goes_on f Lost o h e no_reader = absurd h
 
 -- a piece was read, where its reader stood after o and had no entries in its list
-pub piece_read : (f : Format) (o x : List ℕ) (before taken now : State) (w : Waiting) (old new : List Entry) → IsState f before o → taken ≡ before → taken ≡ Going w
+pub piece_read : (f : Format) (o x : List ℕ) (before taken now : State) (w : WaitingReader) (old new : List Entry) → IsState f before o → taken ≡ before → taken ≡ Going w
     → ((p : List ℕ) → Reads p w.reader → IsState (format_of w.reader) now (p ++ x) × Adds (format_of w.reader) p x old new) → old ≡ [] → IsRead f o x now new
 piece_read f o x before taken now w old new h same is read none =
     let w_is = subst (λ s. IsState f s o) (sym same ∙ is) h in

@@ -9,10 +9,10 @@ use Rattle.zre_journal.specs.Happens.{has_stopped, with_entry, chronicle_after}
 use Rattle.zre_journal.proofs.Joined.{continues}
 use Rattle.zre_node.specs.declared.node.Node.{Node}
 use Rattle.zre_node.specs.declared.effects.Step.{Step}
-use Rattle.zre_node.specs.Journal.{Steps}
+use Rattle.zre_node.specs.Journal.{IsStep}
 use Rattle.zre_outside.specs.declared.entry.Entry.{Entry}
 use Rattle.zre_peer.specs.declared.event.Event.{Event}
-use Rattle.zre_shared.specs.Replicas.{Held}
+use Rattle.zre_shared.specs.Replicas.{HeldWrites}
 use Rattle.zre_records.specs.table.Kept.{Gathered, Keeps}
 use Rattle.zre_records.specs.table.Writes.{frames_told, frames_shouted, is_refusal, frames_at, frames_after, frames}
 use Rattle.zre_records.proofs.table.Keeping.{keeps_same}
@@ -28,7 +28,7 @@ frames_on g group J e =
     frames-append g group J (e ∷ []) [] ∙ ap (λ (r : List (List ℕ)). frames g group J ++ r) (append-nil (frames_at g group e (chronicle g J)))
 
 -- what a step tells are the events of its entry
-its_events : (g : Config) (J : List Entry) (e : Entry) (n : Node) (s : Step) → Steps g J e n s → s.events ≡ events_at g e (chronicle g J)
+its_events : (g : Config) (J : List Entry) (e : Entry) (n : Node) (s : Step) → IsStep g J e n s → s.events ≡ events_at g e (chronicle g J)
 its_events g J e n s st =
     append_cancel_left (events g J) s.events (events_at g e (chronicle g J))
     (sym st.told ∙ (continues g J (e ∷ [])).told ∙ ap (λ (r : List Event). events g J ++ r) (append-nil (events_at g e (chronicle g J))))
@@ -37,7 +37,7 @@ its_events g J e n s st =
 abbrev pub brought : List ℕ → (stopped : Bool) → List Event → (shouted : List (List ℕ)) → List (List ℕ)
 brought group stopped es shouted = flat_map (frames_told group) es ++ cond (not stopped && not (list_any is_refusal es)) shouted []
 
-its_frames : (g : Config) (group : List ℕ) (J : List Entry) (e : Entry) (n : Node) (s : Step) (stopped : Bool) (shouted : List (List ℕ)) → Steps g J e n s
+its_frames : (g : Config) (group : List ℕ) (J : List Entry) (e : Entry) (n : Node) (s : Step) (stopped : Bool) (shouted : List (List ℕ)) → IsStep g J e n s
     → stopped ≡ has_stopped (chronicle g J) → shouted ≡ frames_shouted group e.input → brought group stopped s.events shouted ≡ frames_at g group e (chronicle g J)
 its_frames g group J e n s stopped shouted st is asked =
     ap (λ (es : List Event). brought group stopped es shouted) (its_events g J e n s st)
@@ -45,7 +45,7 @@ its_frames g group J e n s stopped shouted st is asked =
     ∙ ap (λ (fs : List (List ℕ)). brought group (has_stopped (chronicle g J)) (events_at g e (chronicle g J)) fs) asked
 
 -- an entry was taken, and then the frames that it brought
-pub gathered_on : (g : Config) (group : List ℕ) (J : List Entry) (e : Entry) (n : Node) (s : Step) (stopped done : Bool) (shouted : List (List ℕ)) (h : Held) → Steps g J e n s
+pub gathered_on : (g : Config) (group : List ℕ) (J : List Entry) (e : Entry) (n : Node) (s : Step) (stopped done : Bool) (shouted : List (List ℕ)) (h : HeldWrites) → IsStep g J e n s
     → stopped ≡ has_stopped (chronicle g J) → shouted ≡ frames_shouted group e.input → done ≡ (not stopped && not (list_any is_refusal s.events))
     → Keeps ((frames g group J ++ flat_map (frames_told group) s.events) ++ cond done shouted []) h → Gathered g group (J ++ e ∷ []) n h
 gathered_on g group J e n s stopped done shouted h st is asked when keeps = record {
@@ -59,8 +59,8 @@ gathered_on g group J e n s stopped done shouted h st is asked when keeps = reco
 
 -- ---- entries, one after the other
 
-pub gathered_none : (g : Config) (group : List ℕ) (J : List Entry) (n : Node) (h : Held) → Gathered g group J n h → Gathered g group (J ++ []) n h
+pub gathered_none : (g : Config) (group : List ℕ) (J : List Entry) (n : Node) (h : HeldWrites) → Gathered g group J n h → Gathered g group (J ++ []) n h
 gathered_none g group J n h k = subst (λ (K : List Entry). Gathered g group K n h) (sym (append-nil J)) k
 
-pub gathered_more : (g : Config) (group : List ℕ) (J es : List Entry) (e : Entry) (n : Node) (h : Held) → Gathered g group ((J ++ es) ++ e ∷ []) n h → Gathered g group (J ++ (es ++ e ∷ [])) n h
+pub gathered_more : (g : Config) (group : List ℕ) (J es : List Entry) (e : Entry) (n : Node) (h : HeldWrites) → Gathered g group ((J ++ es) ++ e ∷ []) n h → Gathered g group (J ++ (es ++ e ∷ [])) n h
 gathered_more g group J es e n h k = subst (λ (K : List Entry). Gathered g group K n h) (append_assoc J es (e ∷ [])) k

@@ -8,7 +8,7 @@ use Rattle.zre_node.specs.Journal.{StandsFor}
 use Rattle.zre_node.specs.declared.node.Node.{Node}
 use Rattle.zre_outside.specs.declared.entry.Entry.{Entry}
 use Rattle.zre_shared.specs.Lines.{lines}
-use Rattle.zre_shared.specs.Replicas.{Held}
+use Rattle.zre_shared.specs.Replicas.{HeldWrites}
 use Rattle.zre_shared.specs.Tables.{table as table_of}
 use Rattle.zre_records.specs.declared.replay.headed.Headed.{Headed}
 use Rattle.zre_records.specs.declared.table.tabulator.Tabulator.{Tabulator}
@@ -26,37 +26,37 @@ pub nothing_written : (group : List ℕ) (o x out : List ℕ) → Grows (table g
 nothing_written group o x out = record { added = []; longer = refl; appended = sym (append-nil out) }
 
 -- before any frame
-pub nothing_kept : (h : Held) → h.writes ≡ [] → Keeps [] h
+pub nothing_kept : (h : HeldWrites) → h.writes ≡ [] → Keeps [] h
 unfolding table_of
 nothing_kept h e = e
 
-living : (group : List ℕ) (J : List Entry) (s : Settings) (m : Option Node) (h : Held) → Lives (Some s) J m → Keeps (frames s group J) h → GatheredIfAny (Some s) group J m h
+living : (group : List ℕ) (J : List Entry) (s : Settings) (m : Option Node) (h : HeldWrites) → Lives (Some s) J m → Keeps (frames s group J) h → GatheredIfAny (Some s) group J m h
 living group J s None h l k = absurd l
 living group J s (Some m) h l k = record { stands = l; keeps = k }
 
-living_still : (group : List ℕ) (J : List Entry) (s : Settings) (told : Option Settings) (m : Option Node) (h : Held) → told ≡ Some s → Lives told J m → Keeps (frames s group J) h
+living_still : (group : List ℕ) (J : List Entry) (s : Settings) (told : Option Settings) (m : Option Node) (h : HeldWrites) → told ≡ Some s → Lives told J m → Keeps (frames s group J) h
     → GatheredIfAny told group J m h
 living_still group J s told m h e l k = subst (λ (t : Option Settings). GatheredIfAny t group J m h) (sym e) (living group J s m h (subst (λ (t : Option Settings). Lives t J m) e l) k)
 
-living_first : (group : List ℕ) (J : List Entry) (told : Option Settings) (m : Option Node) (h : Held) → J ≡ [] → Lives told J m → Keeps [] h → GatheredIfAny told group J m h
+living_first : (group : List ℕ) (J : List Entry) (told : Option Settings) (m : Option Node) (h : HeldWrites) → J ≡ [] → Lives told J m → Keeps [] h → GatheredIfAny told group J m h
 living_first group J None None h e l k = k
 living_first group J None (Some m) h e l k = absurd l
 living_first group J (Some s) m h e l k = living group J s m h l (subst (λ (K : List Entry). Keeps (frames s group K) h) (sym e) k)
 
 -- before any octet
-pub nothing_gathered : (group : List ℕ) (h : Headed Node) (held : Held) → Follows (λ g J n. StandsFor g J n) h [] → held.writes ≡ [] → GatheredIfAny (settings Second []) group (journal Second []) h.made held
+pub nothing_gathered : (group : List ℕ) (h : Headed Node) (held : HeldWrites) → Follows (λ g J n. StandsFor g J n) h [] → held.writes ≡ [] → GatheredIfAny (settings Second []) group (journal Second []) h.made held
 nothing_gathered group h held f e =
     living_first group (journal Second []) (settings Second []) h.made held (no_journal [] no_settings) f.lives (nothing_kept held e)
 
 -- what is told by now, before the node took more
-pub gathered_before : (group : List ℕ) (J : List Entry) (before told : Option Settings) (n m : Option Node) (h : Held) → GatheredIfAny before group J n h → AreStill before J told → Lives told J m
+pub gathered_before : (group : List ℕ) (J : List Entry) (before told : Option Settings) (n m : Option Node) (h : HeldWrites) → GatheredIfAny before group J n h → AreStill before J told → Lives told J m
     → GatheredIfAny told group J m h
 gathered_before group J None told None m h k still l = living_first group J told m h still l k
 gathered_before group J None told (Some n) m h k still l = absurd k
 gathered_before group J (Some s) told None m h k still l = absurd k
 gathered_before group J (Some s) told (Some n) m h k still l = living_still group J s told m h still l k.keeps
 
-pub lives_with : (group : List ℕ) (J : List Entry) (told : Option Settings) (n : Option Node) (h : Held) → GatheredIfAny told group J n h → Lives told J n
+pub lives_with : (group : List ℕ) (J : List Entry) (told : Option Settings) (n : Option Node) (h : HeldWrites) → GatheredIfAny told group J n h → Lives told J n
 lives_with group J None None h k = tt
 lives_with group J None (Some n) h k = absurd k
 lives_with group J (Some s) None h k = absurd k
@@ -68,7 +68,7 @@ piece_before t o x es h f r =
     gathered_before t.group (journal Second o) (settings Second o) (settings Second (o ++ x)) t.headed.made h.made t.replica f.gathered (tells o x (settings Second (o ++ x)) refl).still r.lives
 
 -- so the machine was fed the piece, once its entries were taken by this node: q is its group, where it was lent
-pub piece_taken : (t : Tabulator) (o x : List ℕ) (es : List Entry) (h : Headed Node) (n : Option Node) (held : Held) (q : List ℕ) → Fed t o → HasRead (λ g J n. StandsFor g J n) o x es h → q ≡ t.group
+pub piece_taken : (t : Tabulator) (o x : List ℕ) (es : List Entry) (h : Headed Node) (n : Option Node) (held : HeldWrites) (q : List ℕ) → Fed t o → HasRead (λ g J n. StandsFor g J n) o x es h → q ≡ t.group
     → (GatheredIfAny (settings Second (o ++ x)) q (journal Second o) h.made t.replica → GatheredIfAny (settings Second (o ++ x)) q (journal Second o ++ es) n held)
     → GatheredIfAny (settings Second (o ++ x)) t.group (journal Second (o ++ x)) n held
 piece_taken t o x es h n held q f r lent taken =

@@ -2,7 +2,7 @@
 use Rattle.std.specs.Prelude.{◌≡◌, ℕ, Bool, true, false, List, ◌++◌}
 use Rattle.zre_peer.specs.Lines.{line}
 use Rattle.zre_peer.specs.declared.event.Event.TheVariants.{Evasive}
-use Rattle.zre_records.specs.declared.replay.teller.EvasiveLine.{EvasiveLine}
+use Rattle.zre_records.specs.declared.replay.event_lines.EvasiveLine.{EvasiveLine}
 
 -- a line that is kept is that of EVASIVE of its peer
 abbrev pub Kept : EvasiveLine → Type 0

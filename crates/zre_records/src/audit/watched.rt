@@ -9,14 +9,14 @@ ghost use Rattle.zre_audit.specs.Watching.{Watches};
 ghost use Rattle.zre_records.specs.audit.Watched.{Watched, IsWatched};
 
 use crate::replay::headed::Headed;
-use crate::replay::lives::Lived;
+use crate::replay::lives::LivedNode;
 use std::alloc::Global;
 use zre_audit::Watch;
 use zre_journal::Config;
 use zre_outside::Entries;
 use zre_values::OutOfMemory;
 
-impl Lived for Watch {
+impl LivedNode for Watch {
     ghost stands = { λ g J w. Watches g J w };
 
     fn begin(alloc: Global, config: Config) -> Result<Watch, OutOfMemory> {

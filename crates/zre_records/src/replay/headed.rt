@@ -9,7 +9,7 @@ ghost use Rattle.zre_values.specs.Settings.{is_valid};
 ghost use Rattle.zre_records.specs.replay.Headed.{Follows, HasRead};
 ghost use Rattle.zre_records.specs.replay.Lives.{Made, Tells, due};
 
-use crate::replay::lives::Lived;
+use crate::replay::lives::LivedNode;
 use crate::replay::reading::Pieces;
 use std::alloc::Global;
 use zre_capture::{CaptureReader, Settings};
@@ -48,7 +48,7 @@ fn config_due(
 }
 
 // Makes it once its settings are told.
-fn make<N: Lived>(
+fn make<N: LivedNode>(
     alloc: Global,
     made: &mut Option<N>,
     told: Option<&Settings>,
@@ -67,7 +67,7 @@ fn make<N: Lived>(
     }
 }
 
-impl<N: Lived> Headed<N> {
+impl<N: LivedNode> Headed<N> {
     /// Expects the head, of which no octet has come yet.
     pub fn new(alloc: Global) -> Headed<N>
         ensures { Follows N.stands result [] }

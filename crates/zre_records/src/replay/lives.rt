@@ -15,7 +15,7 @@ use zre_outside::Entries;
 use zre_values::{Octets, OutOfMemory};
 
 /// What is made of settings, and stands for a journal then.
-pub(crate) trait Lived: Sized + Drop {
+pub(crate) trait LivedNode: Sized + Drop {
     /// It stands for this journal of a node with these settings.
     ghost stands: { ConfigValue → List EntryValue → Self → Type 0 };
 
@@ -25,7 +25,7 @@ pub(crate) trait Lived: Sized + Drop {
         ensures { IfOk result (stands config []) };
 }
 
-impl Lived for Node {
+impl LivedNode for Node {
     ghost stands = { λ g J n. StandsFor g J n };
 
     fn begin(alloc: Global, config: Config) -> Result<Node, OutOfMemory> {

@@ -7,7 +7,7 @@ ghost use Rattle.zre_commands.specs.pump.Lines.{refusal};
 ghost use Rattle.zre_commands.specs.pump.Meaning.{is_stop};
 ghost use Rattle.zre_records.specs.replay.State.{IsState, IsRead};
 
-use crate::replay::waiting::Waiting;
+use crate::replay::waiting::WaitingReader;
 use std::alloc::Global;
 use std::mem;
 use zre_capture::{BadCapture, CaptureFault, CaptureReader, Settings};
@@ -16,14 +16,14 @@ use zre_outside::Entries;
 use zre_values::{Octets, OutOfMemory, take_apart};
 
 /// A reader that has refused a line, and where.
-pub(crate) struct Refused {
+pub(crate) struct RefusedReader {
     reader: CaptureReader,
     bad: BadCapture,
 }
 
-impl Drop for Refused {
+impl Drop for RefusedReader {
     fn drop(self) {
-        take_apart!(self, Refused: reader, bad);
+        take_apart!(self, RefusedReader: reader, bad);
     }
 }
 
@@ -31,23 +31,27 @@ impl Drop for Refused {
 #[derive(Drop)]
 pub(crate) enum State {
     /// So far nothing in it is bad.
-    Going(Waiting),
+    Going(WaitingReader),
     /// A line is bad, however it goes on.
-    Bad(Refused),
+    Bad(RefusedReader),
     /// There was no memory for a piece.
     Lost,
 }
 
 // Reads a piece: the entries of the lines that are whole by it are appended.
-fn read_piece(waiting: Waiting, piece: &[u8], entries: &mut Entries) -> Result<State, OutOfMemory>
+fn read_piece(
+    waiting: WaitingReader,
+    piece: &[u8],
+    entries: &mut Entries,
+) -> Result<State, OutOfMemory>
     ensures { (o : List ℕ) → Reads o waiting.reader →
         IfOk result (λ state. IsState (format_of waiting.reader) state (o ++ piece.now)
         × Adds (format_of waiting.reader) o piece.now entries.old entries.new) }
 {
-    let Waiting { mut reader } = waiting;
+    let WaitingReader { mut reader } = waiting;
     match reader.feed(piece, entries) {
-        Ok(()) => Ok(State::Going(Waiting { reader })),
-        Err(CaptureFault::Bad(bad)) => Ok(State::Bad(Refused { reader, bad })),
+        Ok(()) => Ok(State::Going(WaitingReader { reader })),
+        Err(CaptureFault::Bad(bad)) => Ok(State::Bad(RefusedReader { reader, bad })),
         Err(CaptureFault::OutOfMemory) => Err(OutOfMemory),
     }
 }
@@ -83,7 +87,7 @@ impl Pieces {
     {
         Pieces {
             alloc,
-            state: State::Going(Waiting { reader }),
+            state: State::Going(WaitingReader { reader }),
             entries: Entries::new(alloc),
         }
     }

@@ -6,7 +6,7 @@ ghost use Rattle.zre_values.specs.declared.settings.Settings.{Settings as Config
 ghost use Rattle.zre_node.specs.Journal.{StandsFor};
 ghost use Rattle.zre_records.specs.replay.Taken.{Took};
 
-use crate::replay::teller::Teller;
+use crate::replay::event_lines::EventLines;
 use zre_node::{Node, Step};
 use zre_outside::{Entries, Entry};
 use zre_values::{Octets, OutOfMemory};
@@ -16,7 +16,7 @@ fn take_entry(
     node: &mut Node,
     entry: Entry,
     step: &mut Step,
-    teller: &mut Teller,
+    teller: &mut EventLines,
     out: &mut Octets,
 ) -> Result<(), OutOfMemory>
     ensures { (g : Config) (J : List EntryValue) → StandsFor g J node.old →
@@ -37,7 +37,7 @@ pub(crate) fn take_entries(
 {
     let mut items = entries.into_vec();
     let mut step = Step::new(*items.allocator());
-    let mut teller = Teller::new(*items.allocator());
+    let mut teller = EventLines::new(*items.allocator());
     for entry in items.drain(..) {
         take_entry(node, entry, &mut step, &mut teller, out)?;
     }

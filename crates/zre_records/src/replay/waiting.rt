@@ -4,7 +4,7 @@ use zre_capture::CaptureReader;
 
 /// A reader that has refused nothing.
 #[derive(Drop)]
-pub(crate) struct Waiting {
+pub(crate) struct WaitingReader {
     pub reader: CaptureReader,
     ghost waits: { Waits reader },
 }

@@ -7,7 +7,7 @@ ghost use Rattle.zre_records.specs.simulate.Simulate.{told_line, told_lines, ans
 
 use std::alloc::Global;
 use zre_commands::pump::push_bad_line;
-use zre_net::{Said, Schedule, ScheduleFault, read_schedule, run_schedule};
+use zre_net::{SaidEvents, Schedule, ScheduleFault, read_schedule, run_schedule};
 use zre_peer::{Event, push_line};
 use zre_values::{Octets, OutOfMemory, push_decimal};
 

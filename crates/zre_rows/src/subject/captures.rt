@@ -12,17 +12,17 @@ use zre_values::OutOfMemory;
 /// `on capture`: the text of a capture. `line TEXT` appends to it with a line feed, `text TEXT` without one,
 /// `octets HEX` octets, and `many N HEX` the same octets so many times.
 #[derive(Drop)]
-pub struct Captures {
+pub struct CaptureSubject {
     pub text: Text,
 }
 
-impl Subject for Captures {
+impl Subject for CaptureSubject {
     fn step(&mut self, words: &mut Words<'_>, answer: &mut Text) {
         steps!(self, words, answer; read, place, line, text, octets, many)
     }
 }
 
-impl Captures {
+impl CaptureSubject {
     fn line(&mut self, words: &mut Words<'_>, _answer: &mut Text) {
         self.text.line(words.take_rest());
     }

@@ -24,7 +24,7 @@ use zre_values::{Frames, Octets, OutOfMemory, take_apart};
 
 /// `on command WORD WORD ..`: the words of a command line, as quoted texts, what the command is run over, and what came
 /// of its last run.
-pub struct Commands {
+pub struct CommandSubject {
     words: Frames,
     input: Text,
     /// The script of the world, a line for each turn.
@@ -37,28 +37,28 @@ pub struct Commands {
     most: u64,
     limit: u64,
     /// The run that a line asked for.
-    due: Option<Due>,
+    due: Option<DueRun>,
     left: u64,
     told: Text,
     kept: Text,
     file: Text,
 }
 
-impl Drop for Commands {
+impl Drop for CommandSubject {
     fn drop(self) {
-        take_apart!(self, Commands:
+        take_apart!(self, CommandSubject:
             words, input, script, fails, sizes, most, limit, due, left, told, kept, file);
     }
 }
 
 /// A run of any command: with a limit, or with that of the program.
 #[derive(Clone, Copy)]
-enum Due {
+enum DueRun {
     Run(u64),
     Zre,
 }
 
-impl Subject for Commands {
+impl Subject for CommandSubject {
     fn step(&mut self, words: &mut Words<'_>, answer: &mut Text) {
         steps!(self, words, answer; run, zre, plain, both, words, read, write, limit, fail, turn, look, octets, line,
             text, input, left, told, kept, file)
@@ -66,10 +66,10 @@ impl Subject for Commands {
 }
 
 // What it is run over.
-impl Commands {
+impl CommandSubject {
     pub fn new(words: &mut Words<'_>) -> Self {
         let alloc = words.alloc();
-        Commands {
+        CommandSubject {
             words: words.texts(),
             input: Text::new(alloc),
             script: Text::new(alloc),
@@ -283,18 +283,18 @@ impl Commands {
 }
 
 // Runs of any command.
-impl Commands {
+impl CommandSubject {
     // `run`, with the limit. A line can ask for one run.
     fn run(&mut self, _words: &mut Words<'_>, answer: &mut Text) {
-        self.ask(Due::Run(self.limit), answer);
+        self.ask(DueRun::Run(self.limit), answer);
     }
 
     // `zre`, which has none.
     fn zre(&mut self, _words: &mut Words<'_>, answer: &mut Text) {
-        self.ask(Due::Zre, answer);
+        self.ask(DueRun::Zre, answer);
     }
 
-    fn ask(&mut self, due: Due, answer: &mut Text) {
+    fn ask(&mut self, due: DueRun, answer: &mut Text) {
         if self.due.is_some() {
             answer.fail(Trouble::BadArgument);
         }
@@ -313,8 +313,15 @@ impl Commands {
             let mut out = self.sink(alloc, answer);
             if self.is_whole(answer) {
                 let ran = match due {
-                    Due::Run(limit) => call(rt, alloc, &self.words, stand, &mut out, Some(limit)),
-                    Due::Zre => call(rt, alloc, &self.words, stand, &mut out, None),
+                    DueRun::Run(limit) => call(
+                        rt,
+                        alloc,
+                        &self.words,
+                        stand,
+                        &mut out,
+                        Some(limit),
+                    ),
+                    DueRun::Zre => call(rt, alloc, &self.words, stand, &mut out, None),
                 };
                 push_outcome(answer, out.written(), ran.status);
                 self.note(ran);

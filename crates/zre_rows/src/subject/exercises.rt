@@ -8,17 +8,17 @@ use zre_capture::Exercise;
 
 /// `on exercise SEED PEERS MESSAGES`: an exercise whose entries are given one by one.
 #[derive(Drop)]
-pub struct Exercises {
+pub struct ExerciseSubject {
     exercise: Exercise,
 }
 
-impl Subject for Exercises {
+impl Subject for ExerciseSubject {
     fn step(&mut self, words: &mut Words<'_>, answer: &mut Text) {
         steps!(self, words, answer; next)
     }
 }
 
-impl Exercises {
+impl ExerciseSubject {
     pub fn make(words: &mut Words<'_>, answer: &mut Text) -> Option<Self> {
         let seed = words.number();
         let peers = words.number();
@@ -27,7 +27,7 @@ impl Exercises {
             answer.refuse(Trouble::BadArgument)
         } else {
             let exercise = Exercise::new(words.alloc(), seed, peers as u16, messages as u32);
-            Some(Exercises { exercise })
+            Some(ExerciseSubject { exercise })
         }
     }
 

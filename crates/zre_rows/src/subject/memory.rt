@@ -12,7 +12,7 @@ use zre_values::{Octets, take_apart};
 
 /// `on memory HEX NUMBER NUMBER ..`: one of each. The sources hold the octets, and the calls of those with a list fail
 /// at its numbers.
-pub struct Memory {
+pub struct MemorySubject {
     source: MemSource,
     sure_source: SureSource,
     sink: MemSink,
@@ -21,9 +21,9 @@ pub struct Memory {
     sure_recorder: SureRecorder,
 }
 
-impl Drop for Memory {
+impl Drop for MemorySubject {
     fn drop(self) {
-        take_apart!(self, Memory: source, sure_source, sink, sure_sink, recorder, sure_recorder);
+        take_apart!(self, MemorySubject: source, sure_source, sink, sure_sink, recorder, sure_recorder);
     }
 }
 
@@ -40,18 +40,18 @@ fn fails_of(words: &Words<'_>) -> Vec<u64> {
     words.numbers()
 }
 
-impl Subject for Memory {
+impl Subject for MemorySubject {
     fn step(&mut self, words: &mut Words<'_>, answer: &mut Text) {
         steps!(self, words, answer; read, write, record, held)
     }
 }
 
-impl Memory {
+impl MemorySubject {
     pub fn make(words: &mut Words<'_>) -> Self {
         let alloc = words.alloc();
         let all = *words;
         drop(words.octets());
-        Memory {
+        MemorySubject {
             source: MemSource::new(octets_of(&all), words.numbers()),
             sure_source: SureSource::new(octets_of(&all)),
             sink: MemSink::new(alloc, fails_of(&all)),

@@ -16,14 +16,14 @@ use zre_values::{Frames, OutOfMemory, take_apart};
 
 /// `on node id=.. host=.. port=..` and further words of a node, as quoted texts: a node, and the lines of the acts of
 /// its last step.
-pub struct Nodes {
+pub struct NodeSubject {
     node: Node,
     acts: Text,
 }
 
-impl Drop for Nodes {
+impl Drop for NodeSubject {
     fn drop(self) {
-        take_apart!(self, Nodes: node, acts);
+        take_apart!(self, NodeSubject: node, acts);
     }
 }
 
@@ -59,20 +59,20 @@ fn next(node: &mut Node, entry: Entry) -> Option<Step> {
     node.step(entry).ok()
 }
 
-impl Subject for Nodes {
+impl Subject for NodeSubject {
     fn step(&mut self, words: &mut Words<'_>, answer: &mut Text) {
         steps!(self, words, answer; entry, acts, peer, groups, link_of, unsent, front, peers, known, held, stopped)
     }
 }
 
-impl Nodes {
+impl NodeSubject {
     pub fn make(words: &mut Words<'_>, answer: &mut Text) -> Option<Self> {
         let alloc = words.alloc();
         let mut list = Frames::new(alloc);
         answer.copy_to(alloc, &mut list, b"replay");
         words.push_texts(&mut list);
         let node = node_of(alloc, &list, answer)?;
-        Some(Nodes {
+        Some(NodeSubject {
             node,
             acts: Text::new(alloc),
         })

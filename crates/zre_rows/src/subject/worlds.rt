@@ -12,15 +12,15 @@ use zre_values::take_apart;
 
 /// `on world NUMBER NUMBER ..`: a script, and the two worlds that play it from its first turn that is asked for. The
 /// numbers are those of the turns that fail in the world with a list.
-pub struct Worlds {
+pub struct WorldSubject {
     script: Text,
     fails: Vec<u64>,
     played: Option<Played>,
 }
 
-impl Drop for Worlds {
+impl Drop for WorldSubject {
     fn drop(self) {
-        take_apart!(self, Worlds: script, fails, played);
+        take_apart!(self, WorldSubject: script, fails, played);
     }
 }
 
@@ -35,15 +35,15 @@ impl Drop for Played {
     }
 }
 
-impl Subject for Worlds {
+impl Subject for WorldSubject {
     fn step(&mut self, words: &mut Words<'_>, answer: &mut Text) {
         steps!(self, words, answer; turn, look, next, quit)
     }
 }
 
-impl Worlds {
+impl WorldSubject {
     pub fn make(words: &mut Words<'_>) -> Self {
-        Worlds {
+        WorldSubject {
             script: Text::new(words.alloc()),
             fails: words.numbers(),
             played: None,

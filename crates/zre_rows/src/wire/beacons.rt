@@ -7,15 +7,15 @@ use zre_beacon::Beacon;
 
 /// `on beacons`: datagrams, read and written.
 #[derive(Drop)]
-pub struct Beacons;
+pub struct BeaconSubject;
 
-impl Subject for Beacons {
+impl Subject for BeaconSubject {
     fn step(&mut self, words: &mut Words<'_>, answer: &mut Text) {
         steps!(self, words, answer; read, write)
     }
 }
 
-impl Beacons {
+impl BeaconSubject {
     // `read HEX` answers `ID PORT`, or `none`.
     fn read(&self, words: &mut Words<'_>, answer: &mut Text) {
         match Beacon::read(words.octets().as_slice()) {

@@ -10,15 +10,15 @@ use zre_mailbox::{Arrival, Arrivals, Conn};
 use zre_values::{PeerId, take_apart};
 
 /// `on conns ID`: a connection to the node with this identity, and what arrived with the last step.
-pub struct Conns {
+pub struct ConnSubject {
     own: PeerId,
     conn: Conn,
     arrivals: Arrivals,
 }
 
-impl Drop for Conns {
+impl Drop for ConnSubject {
     fn drop(self) {
-        take_apart!(self, Conns: own, conn, arrivals);
+        take_apart!(self, ConnSubject: own, conn, arrivals);
     }
 }
 
@@ -40,19 +40,19 @@ fn push_arrivals(out: &mut Text, arrivals: &Arrivals) {
     }
 }
 
-impl Subject for Conns {
+impl Subject for ConnSubject {
     fn step(&mut self, words: &mut Words<'_>, answer: &mut Text) {
         steps!(self, words, answer; feed, ignore, state, cuts)
     }
 }
 
-impl Conns {
+impl ConnSubject {
     pub fn make(words: &mut Words<'_>) -> Self {
-        Conns::new(words.alloc(), words.id())
+        ConnSubject::new(words.alloc(), words.id())
     }
 
     fn new(alloc: Global, own: PeerId) -> Self {
-        Conns {
+        ConnSubject {
             own,
             conn: Conn::accept(alloc, own),
             arrivals: Arrivals::new(alloc),
@@ -105,7 +105,7 @@ impl Conns {
     // ignored.
     fn text_of(&self, alloc: Global, octets: &[u8], most: usize) -> Text {
         let mut text = Text::new(alloc);
-        let mut conns = Conns::new(alloc, self.own);
+        let mut conns = ConnSubject::new(alloc, self.own);
         for piece in octets.chunks(most.max(1)) {
             conns.take(piece, &mut text);
         }

@@ -8,17 +8,17 @@ use zre_group::Index;
 
 /// `on index`: an index, from the empty one on.
 #[derive(Drop)]
-pub struct Groups {
+pub struct GroupSubject {
     pub index: Index,
 }
 
-impl Subject for Groups {
+impl Subject for GroupSubject {
     fn step(&mut self, words: &mut Words<'_>, answer: &mut Text) {
         steps!(self, words, answer; add, remove, forget, members)
     }
 }
 
-impl Groups {
+impl GroupSubject {
     // `add GROUP KEY`, with the group as text, as in each step.
     fn add(&mut self, words: &mut Words<'_>, answer: &mut Text) {
         let group = words.text();

@@ -16,7 +16,7 @@ const CONTENT: u64 = 2097152;
 
 /// `on links ID`: the link of the node with this identity.
 #[derive(Drop)]
-pub struct Links {
+pub struct LinkSubject {
     link: Link,
 }
 
@@ -89,16 +89,16 @@ fn whisper_of(alloc: Global, frame: Octets) -> Message {
     }
 }
 
-impl Subject for Links {
+impl Subject for LinkSubject {
     fn step(&mut self, words: &mut Words<'_>, answer: &mut Text) {
         steps!(self, words, answer; push, whisper, shout, linked, reply, took, talk, counts)
     }
 }
 
-impl Links {
+impl LinkSubject {
     pub fn make(words: &mut Words<'_>, answer: &mut Text) -> Option<Self> {
         match Link::new(words.alloc(), words.id()) {
-            Ok(link) => Some(Links { link }),
+            Ok(link) => Some(LinkSubject { link }),
             Err(_) => answer.refuse(Trouble::OutOfMemory),
         }
     }

@@ -8,30 +8,30 @@ use crate::words::Words;
 use zre_values::{Frames, Keys, Octets, Pairs, take_apart};
 
 /// `on lists`: one of each, from the empty ones on.
-pub struct Lists {
+pub struct ListSubject {
     text: Octets,
     frames: Frames,
     pairs: Pairs,
     keys: Keys,
 }
 
-impl Drop for Lists {
+impl Drop for ListSubject {
     fn drop(self) {
-        take_apart!(self, Lists: text, frames, pairs, keys);
+        take_apart!(self, ListSubject: text, frames, pairs, keys);
     }
 }
 
-impl Subject for Lists {
+impl Subject for ListSubject {
     fn step(&mut self, words: &mut Words<'_>, answer: &mut Text) {
         steps!(self, words, answer;
             show, clear, text, octet, pair, key, frame, longer, remove, place, without)
     }
 }
 
-impl Lists {
+impl ListSubject {
     pub fn make(words: &mut Words<'_>) -> Self {
         let alloc = words.alloc();
-        Lists {
+        ListSubject {
             text: Octets::new(alloc),
             frames: Frames::new(alloc),
             pairs: Pairs::new(alloc),

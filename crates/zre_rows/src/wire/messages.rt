@@ -6,7 +6,7 @@ use crate::trouble::Trouble;
 use crate::wire::body::push_body;
 use crate::words::Words;
 use std::alloc::Global;
-use zre_msg::{Bad, BadWhy, Body, Command, LentMessage, Message, ReadFault};
+use zre_msg::{Bad, BadWhy, Body, LentBody, LentMessage, Message, ReadFault};
 use zre_values::{Frames, Octets, OutOfMemory};
 
 fn why_text(why: BadWhy) -> &'static [u8] {
@@ -57,18 +57,18 @@ fn push_group(out: &mut Text, word: &[u8], group: &[u8], status: u8) {
     out.count(b"", u64::from(status));
 }
 
-fn push_command(out: &mut Text, command: &Command<'_>) {
+fn push_command(out: &mut Text, command: &LentBody<'_>) {
     match command {
-        Command::Whisper => out.put(b" whisper"),
-        Command::Shout { group } => {
+        LentBody::Whisper => out.put(b" whisper"),
+        LentBody::Shout { group } => {
             out.put(b" shout ");
             out.hex(group);
         }
-        Command::Join { group, status } => push_group(out, b" join ", group, *status),
-        Command::Leave { group, status } => push_group(out, b" leave ", group, *status),
-        Command::Ping => out.put(b" ping"),
-        Command::PingOk => out.put(b" ping-ok"),
-        Command::Other { number, rest } => {
+        LentBody::Join { group, status } => push_group(out, b" join ", group, *status),
+        LentBody::Leave { group, status } => push_group(out, b" leave ", group, *status),
+        LentBody::Ping => out.put(b" ping"),
+        LentBody::PingOk => out.put(b" ping-ok"),
+        LentBody::Other { number, rest } => {
             out.count(b" other", u64::from(*number));
             out.octet(b' ');
             out.hex(rest);
@@ -115,15 +115,15 @@ fn push_frames(out: &mut Text, frames: Result<Frames, OutOfMemory>) {
 
 /// `on messages`: each step is of one message.
 #[derive(Drop)]
-pub struct Messages;
+pub struct MessageSubject;
 
-impl Subject for Messages {
+impl Subject for MessageSubject {
     fn step(&mut self, words: &mut Words<'_>, answer: &mut Text) {
         steps!(self, words, answer; read, spell, join, whisper)
     }
 }
 
-impl Messages {
+impl MessageSubject {
     // `read HEX ..` answers what the frames mean; it has to be the same whether they are lent or given. Then what lies
     // in them.
     fn read(&self, words: &mut Words<'_>, answer: &mut Text) {

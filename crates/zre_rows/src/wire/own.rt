@@ -8,7 +8,7 @@ use zre_group::{JoinFault, NoGroup, Own};
 
 /// `on own`: the groups, from none on.
 #[derive(Drop)]
-pub struct OwnGroups {
+pub struct OwnGroupSubject {
     pub own: Own,
 }
 
@@ -30,13 +30,13 @@ fn push_left(answer: &mut Text, left: Result<u8, NoGroup>) {
     answer.end();
 }
 
-impl Subject for OwnGroups {
+impl Subject for OwnGroupSubject {
     fn step(&mut self, words: &mut Words<'_>, answer: &mut Text) {
         steps!(self, words, answer; join, leave, list)
     }
 }
 
-impl OwnGroups {
+impl OwnGroupSubject {
     // `join HEX` answers the status, `same` or `limit`.
     fn join(&mut self, words: &mut Words<'_>, answer: &mut Text) {
         let group = words.octets();

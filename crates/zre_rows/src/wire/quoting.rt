@@ -8,15 +8,15 @@ use zre_values::{Octets, OutOfMemory, is_quoted, quote, unquote};
 
 /// `on quoting`: both ways, of one text at a time.
 #[derive(Drop)]
-pub struct Quoting;
+pub struct QuotingSubject;
 
-impl Subject for Quoting {
+impl Subject for QuotingSubject {
     fn step(&mut self, words: &mut Words<'_>, answer: &mut Text) {
         steps!(self, words, answer; quote, unquote)
     }
 }
 
-impl Quoting {
+impl QuotingSubject {
     // `quote HEX` answers the text.
     fn quote(&self, words: &mut Words<'_>, answer: &mut Text) {
         if let Some(text) = answer.made(quote(words.alloc(), words.octets().as_slice())) {

@@ -12,14 +12,14 @@ use zre_peer::{Run, RunFault, Teller, View};
 use zre_values::{Frames, take_apart};
 
 /// `on runs ID`: two runs of the same messages, one that gives events, and one that writes their lines at once.
-pub struct Runs {
+pub struct RunSubject {
     run: Run,
     teller: Teller,
 }
 
-impl Drop for Runs {
+impl Drop for RunSubject {
     fn drop(self) {
-        take_apart!(self, Runs: run, teller);
+        take_apart!(self, RunSubject: run, teller);
     }
 }
 
@@ -123,16 +123,16 @@ fn push_headers(out: &mut Text, view: &View) {
     }
 }
 
-impl Subject for Runs {
+impl Subject for RunSubject {
     fn step(&mut self, words: &mut Words<'_>, answer: &mut Text) {
         steps!(self, words, answer; message, view)
     }
 }
 
-impl Runs {
+impl RunSubject {
     pub fn make(words: &mut Words<'_>) -> Self {
         let id = words.id();
-        Runs {
+        RunSubject {
             run: Run::new(words.alloc(), id),
             teller: Teller::new(words.alloc(), id),
         }

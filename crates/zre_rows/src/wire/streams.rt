@@ -11,15 +11,15 @@ use zre_zmtp::{Item, Items, Reader, Want, What};
 
 /// `on streams traffic`, `any`, `router` or `dealer ID`, where the identity is the node's own: a reader with the items
 /// of the last step, and what it wants; traffic alone where it wants nothing.
-pub struct Streams {
+pub struct StreamSubject {
     want: Option<Want>,
     reader: Reader,
     items: Items,
 }
 
-impl Drop for Streams {
+impl Drop for StreamSubject {
     fn drop(self) {
-        take_apart!(self, Streams: want, reader, items);
+        take_apart!(self, StreamSubject: want, reader, items);
     }
 }
 
@@ -101,13 +101,13 @@ fn want_of(kind: &[u8], words: &mut Words<'_>, answer: &mut Text) -> Option<Want
     }
 }
 
-impl Subject for Streams {
+impl Subject for StreamSubject {
     fn step(&mut self, words: &mut Words<'_>, answer: &mut Text) {
         steps!(self, words, answer; feed, contents, rest, cuts, octets)
     }
 }
 
-impl Streams {
+impl StreamSubject {
     pub fn make(words: &mut Words<'_>, answer: &mut Text) -> Option<Self> {
         let kind = words.field();
         let want = if kind == b"traffic".as_slice() {
@@ -115,11 +115,11 @@ impl Streams {
         } else {
             want_of(kind, words, answer)
         };
-        Some(Streams::new(words.alloc(), want))
+        Some(StreamSubject::new(words.alloc(), want))
     }
 
     fn new(alloc: Global, want: Option<Want>) -> Self {
-        Streams {
+        StreamSubject {
             want,
             reader: reader_of(alloc, want),
             items: Items::new(alloc),
@@ -188,7 +188,7 @@ impl Streams {
     // What comes of a piece, and of others of at most so many octets after it.
     fn text_of(&self, alloc: Global, front: &[u8], later: &[u8], most: usize) -> Text {
         let mut text = Text::new(alloc);
-        let mut streams = Streams::new(alloc, self.want);
+        let mut streams = StreamSubject::new(alloc, self.want);
         streams.feed_piece(front, &mut text);
         for piece in later.chunks(most.max(1)) {
             streams.feed_piece(piece, &mut text);

@@ -20,7 +20,7 @@ pub struct Touch {
 
 /// `on timers`: what was done to the keys so far.
 #[derive(Drop)]
-pub struct Moments {
+pub struct TimerSubject {
     pub touches: Vec<Touch>,
 }
 
@@ -62,13 +62,13 @@ fn push_due(answer: &mut Text, due: Result<Due, OutOfMemory>) {
     }
 }
 
-impl Subject for Moments {
+impl Subject for TimerSubject {
     fn step(&mut self, words: &mut Words<'_>, answer: &mut Text) {
         steps!(self, words, answer; touch, forget, moment, due)
     }
 }
 
-impl Moments {
+impl TimerSubject {
     fn push(&mut self, touch: Touch, answer: &mut Text) {
         if self.touches.push(touch).is_err() {
             answer.fail(Trouble::OutOfMemory);

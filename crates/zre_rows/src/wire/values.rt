@@ -58,15 +58,15 @@ fn id_of(text: &[u8]) -> Option<PeerId> {
 
 /// `on values`: each step takes a quoted text, and answers what it says, or `none`.
 #[derive(Drop)]
-pub struct Values;
+pub struct ValueSubject;
 
-impl Subject for Values {
+impl Subject for ValueSubject {
     fn step(&mut self, words: &mut Words<'_>, answer: &mut Text) {
         steps!(self, words, answer; number, id, plain, address, endpoint)
     }
 }
 
-impl Values {
+impl ValueSubject {
     fn number(&self, words: &mut Words<'_>, answer: &mut Text) {
         answer.number_line(read_decimal(words.text().as_slice()));
     }

@@ -15,15 +15,15 @@ fn push_written(answer: &mut Text, written: Result<Octets, OutOfMemory>) {
 
 /// `on writing`: the greeting, READY, PONG, and the frames of messages.
 #[derive(Drop)]
-pub struct Writing;
+pub struct WritingSubject;
 
-impl Subject for Writing {
+impl Subject for WritingSubject {
     fn step(&mut self, words: &mut Words<'_>, answer: &mut Text) {
         steps!(self, words, answer; greeting, router, dealer, pong, context, message)
     }
 }
 
-impl Writing {
+impl WritingSubject {
     // `greeting`
     fn greeting(&self, _words: &mut Words<'_>, answer: &mut Text) {
         answer.hex_line(&greeting());

@@ -16,7 +16,7 @@ use Rattle.zre_chat.specs.Chat.{Seen}
 use Rattle.zre_chat.proofs.Rows.{memory_isnt, thread_isnt}
 use Rattle.zre_chat.proofs.Asker.{asker_ended}
 use Rattle.zre_chat.proofs.Whole.{head_only}
-use Rattle.zre_gate.specs.Clients.{Row, row}
+use Rattle.zre_gate.specs.Clients.{ClientRow, row}
 use Rattle.zre_gate.specs.Gate.{IsGate, seen_beside}
 use Rattle.zre_gate.specs.Halls.{hall_of, guests_of}
 use Rattle.zre_gate.specs.Tables.{chair_number}
@@ -82,7 +82,7 @@ returns-clause-gate g c = λ f start name s before after stands p. (
     told.ensures.failed rose l.base.none_taken l.base.last.2 l.base.new_asker
     (λ m. subst (λ ns. times m (number a.table.base.others.last.pass ∷ number a.table.base.others.asker ∷ ns) ≤ 1) (sym (guests_numbers numbers rows even)) (l.apart m))
     c.settle.ensures.fronts c.settle.ensures.ended c.settle.ensures.taken desk (guests_length numbers rows even ∙ length-map a.clients.items look) close in
-    subst (λ (x : Seen × List Row × List Row × Status). IsGate f start name a.work.limit (length a.clients.items) s x.0 desk x.1 x.2 x.3)
+    subst (λ (x : Seen × List ClientRow × List ClientRow × Status). IsGate f start name a.work.limit (length a.clients.items) s x.0 desk x.1 x.2 x.3)
     (λ k. (
       seen_beside (w.told (sym same.1 k)) (w.faults (sym same.1 k)) (o.written told.new.out) (o.faults told.new.out) (r.kept (sym same.2 k)) (r.named (sym same.2 k)) (r.faults (sym same.2 k)) (g.P.Spawner.faults told.new.spawner),
       guests_before numbers rows even k,

@@ -1,5 +1,5 @@
 use Rattle.std.proofs.Common.{◌≡◌, List, [], ◌++◌, map, true, false, sym, ap, ◌∙◌, arith}
-use Rattle.zre_mailbox.specs.Conn.{Hearing, is_ignored, is_spent}
+use Rattle.zre_mailbox.specs.Conn.{ConnHearing, is_ignored, is_spent}
 use Rattle.zre_mailbox.specs.Talk.{Arrived, arrivals_in}
 use Rattle.zre_zmtp.specs.declared.item.Item.{Item}
 use Rattle.zre_tables.proofs.Hearings.{never_ignored, spent_stays, kept_refused, said_fine, said_faulty}
@@ -7,14 +7,14 @@ use Rattle.zre_tables.proofs.feeding.read.Goals as goal
 
 pub returns-then-ignored-clause-heard : goal.returns-then-ignored-clause-heard
 returns-then-ignored-clause-heard over c = λ own o e.
-    let z : true ≡ false = sym c.if-ignored.true ∙ c.ignored.ensures ∙ ap (λ (h : Hearing). is_ignored h) e ∙ never_ignored own o in absurd cc
+    let z : true ≡ false = sym c.if-ignored.true ∙ c.ignored.ensures ∙ ap (λ (h : ConnHearing). is_ignored h) e ∙ never_ignored own o in absurd cc
 
 pub returns-then-ignored-clause-looks : goal.returns-then-ignored-clause-looks
 returns-then-ignored-clause-looks over c = λ own o e. (omega arith, tt)
 
 pub returns-then-spent-clause-heard : goal.returns-then-spent-clause-heard
 returns-then-spent-clause-heard over c = λ own o e.
-    let s = ap (λ (h : Hearing). is_spent h) (sym e) ∙ sym c.spent.ensures ∙ c.if-spent.true in
+    let s = ap (λ (h : ConnHearing). is_spent h) (sym e) ∙ sym c.spent.ensures ∙ c.if-spent.true in
     let q = spent_stays own o c.args.bytes.now s in
     (e ∙ sym q.0, ap (λ (is : List Item). map (λ a. Arrived a) (arrivals_in is) ++ []) c.requires ∙ sym q.1)
 

@@ -1,6 +1,6 @@
 use Rattle.std.proofs.Common.{◌≡◌, ◌+◌, ◌-◌, ℕ, length, ap, ◌∙◌, arith}
 use Rattle.crossbeam_queue.specs.Passes.{view}
-use Rattle.zre_actor.specs.declared.views.View.{View}
+use Rattle.zre_actor.specs.declared.views.CommandView.{CommandView}
 use Rattle.zre_actor.proofs.Steps.{begins}
 use Rattle.zre_actor.proofs.EventSteps.{hearing_begins, cuts}
 use Rattle.zre_actor.proofs.Rows.{length_row}
@@ -17,4 +17,4 @@ another-taker-requires-clause-rule c = cuts _ _ (ap (λ v. v.raises) c.in-Ok-bou
 
 pub returns-clause-unused : goal.returns-clause-unused
 returns-clause-unused c = let n : ℕ = c.args.callers in
-    let e : length (view c.new_callers.new.actor).unused ≡ 16 - n = ap (λ (v : View). length v.unused) c.in-Ok.ensures.actor ∙ length_row (1 + n) (16 - n) in omega (arith, c.requires.1)
+    let e : length (view c.new_callers.new.actor).unused ≡ 16 - n = ap (λ (v : CommandView). length v.unused) c.in-Ok.ensures.actor ∙ length_row (1 + n) (16 - n) in omega (arith, c.requires.1)

@@ -1,7 +1,7 @@
 use Rattle.std.proofs.Common.{◌++◌, List, ℕ, Some, sym, ap, ◌∙◌, subst}
 use Rattle.std.proofs.lemmas.Result.{err_from_is_err_and}
 use Rattle.zre_capture.specs.declared.fault.BadCapture.{BadCapture}
-use Rattle.zre_capture.specs.Journal.{Reading, Reads}
+use Rattle.zre_capture.specs.Journal.{CaptureReading, Reads}
 use Rattle.zre_capture.proofs.Lines.{amid-line, amid-out, amid-at, adds-front, refused-line, refused-end, read-all, refuses-weaker}
 use Rattle.zre_capture.proofs.reader.CaptureReader.feed.Goals as goal
 
@@ -29,7 +29,7 @@ lines-preserved c =
 pub returns-in_err-gather-clause-refused : goal.returns-in_err-gather-clause-refused
 returns-in_err-gather-clause-refused c = λ o reads.
     let p = err_from_is_err_and c.from_residual-in_err-gather.result c.from_residual-in_err-gather.ensures.1 in
-    let now : Reading = record { place = c.self.inside.place; told = c.self.inside.told; left = c.self.inside.left } in
+    let now : CaptureReading = record { place = c.self.inside.place; told = c.self.inside.told; left = c.self.inside.left } in
     let amid = amid-at c.args.self.now c.args.piece.now c.args.out.now c.lines.out c.lines.self now c.lines.rest.now c.lines.invariant c.self.view_is in
     rw (p.1, p.2) (refuses-weaker c.in_err-gather.field-0.0 _ _
     (λ b f. let w = refused-end o c.args.piece.now c.args.self.now now c.args.out.now c.lines.out c.lines.rest.now reads amid c.in_default.ensures.none f.0 in
@@ -43,7 +43,7 @@ returns-in_err-gather-clause-front c = λ o reads.
 pub returns-clause-ok : goal.returns-clause-ok
 returns-clause-ok c = λ o reads.
     let g = c.in_ok-gather.ensures.ok in
-    let now : Reading = record { place = c.self.inside.place; told = c.self.inside.told; left = c.self.inside.left } in
+    let now : CaptureReading = record { place = c.self.inside.place; told = c.self.inside.told; left = c.self.inside.left } in
     let amid = amid-at c.args.self.now c.args.piece.now c.args.out.now c.lines.out c.lines.self now c.lines.rest.now c.lines.invariant c.self.view_is in
     let w = read-all o c.args.piece.now c.args.self.now now c.args.out.now c.lines.out c.lines.rest.now reads amid c.in_default.ensures.none g.1 in
     (subst (λ (l : List ℕ). Reads (o ++ c.args.piece.now) (record { place = c.self.inside.place; told = c.self.inside.told; left = l })) (sym g.0) w.0, w.1, w.2)

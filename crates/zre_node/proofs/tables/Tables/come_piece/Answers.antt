@@ -1,7 +1,7 @@
 use Rattle.std.proofs.Common.{ℕ, Option, Ok, Err, ◌∷◌, max, ap, sym, ◌∙◌, subst}
 use Rattle.zre_journal.specs.Chronicle.{Comes}
 use Rattle.zre_zmtp.specs.declared.fault.ZmtpFault.{ZmtpFault}
-use Rattle.zre_node.specs.declared.incoming.arrivals.Heard.{Heard}
+use Rattle.zre_node.specs.declared.incoming.arrivals.Completed.{Completed}
 use Rattle.zre_node.specs.Stands.{Holds}
 use Rattle.zre_node.proofs.Coming.{heard_it}
 use Rattle.zre_node.proofs.Looking.{heard_looks}
@@ -21,4 +21,4 @@ returns-in-Ok-clause-looks over c = λ g H e is h.
 
 pub returns-in-Err-clause-looks : goal.returns-in-Err-clause-looks
 returns-in-Err-clause-looks over c = λ g H e is h.
-    heard_looks g H c.args.self.now h e c.args.conn c.args.bytes.now is {A = Heard} (Err c.in-Err.none) c.args.steps.now c.feed.new.steps c.in-Err.ensures.looks (λ none. (c.in-Err.ensures.silent none).3)
+    heard_looks g H c.args.self.now h e c.args.conn c.args.bytes.now is {A = Completed} (Err c.in-Err.none) c.args.steps.now c.feed.new.steps c.in-Err.ensures.looks (λ none. (c.in-Err.ensures.silent none).3)

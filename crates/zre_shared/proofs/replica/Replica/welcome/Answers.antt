@@ -2,7 +2,7 @@ use Rattle.std.proofs.Common.{◌≡◌, ℕ, ap, ◌∙◌, length, subst, arit
 use Rattle.std.specs.List.{AllByRecursion}
 use Rattle.std.specs.Map.{values_of}
 use Rattle.std.proofs.lemmas.Result.{IfOk-weaker}
-use Rattle.zre_shared.specs.Replicas.{Held}
+use Rattle.zre_shared.specs.Replicas.{HeldWrites}
 use Rattle.zre_shared.specs.Writes.{IsWrite}
 use Rattle.zre_shared.proofs.Keeping.{held-fits}
 use Rattle.zre_shared.proofs.Lengths.{frame-short}
@@ -11,7 +11,7 @@ use Rattle.zre_shared.proofs.replica.Replica.welcome.Goals as goal
 
 pub loop-write-init : goal.loop-write-init
 loop-write-init c =
-    let held : values_of c.self.inside.writes.entries ≡ c.args.self.now.writes = ap (λ (h : Held). h.writes) c.self.view_is in
+    let held : values_of c.self.inside.writes.entries ≡ c.args.self.now.writes = ap (λ (h : HeldWrites). h.writes) c.self.view_is in
     started c.args.peer c.args.self.now.writes c.into_iter-write-iterator.result c.new-gathered.result c.new-gathered.ensures.gathered c.new-gathered.ensures.peer c.new-gathered.ensures.none
     (c.into_iter-write-iterator.ensures.into_iter_gives ∙ c.values-write-items.ensures.rest ∙ held)
     (subst (AllByRecursion IsWrite) held (held-fits c.self.inside.writes c.self.inside.greatest c.self.inside.id c.self.invariant))
@@ -42,6 +42,6 @@ finish-requires c = c.loop-write.invariant.gathered
 
 pub returns : goal.returns
 returns c =
-    let held : values_of c.self.inside.writes.entries ≡ c.args.self.now.writes = ap (λ (h : Held). h.writes) c.self.view_is in
+    let held : values_of c.self.inside.writes.entries ≡ c.args.self.now.writes = ap (λ (h : HeldWrites). h.writes) c.self.view_is in
     IfOk-weaker c.finish.result _ _ (λ commands are. welcomed c.args.peer c.args.self.now.writes c.loop-write.write-iterator c.loop-write.gathered commands c.loop-write.invariant c.in-None.ensures.steps.0
     (subst (AllByRecursion IsWrite) held (held-fits c.self.inside.writes c.self.inside.greatest c.self.inside.id c.self.invariant)) are) c.finish.ensures

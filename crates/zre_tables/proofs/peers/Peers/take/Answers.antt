@@ -1,7 +1,7 @@
 use Rattle.std.proofs.Common.{Option, Some, is_some, sym, ap, subst}
 use Rattle.zre_values.proofs.Answered.{on_ok}
 use Rattle.zre_tables.specs.Runs.{HasRun}
-use Rattle.zre_tables.specs.declared.peer.Running.{Running}
+use Rattle.zre_tables.specs.declared.peer.CarriedRun.{CarriedRun}
 use Rattle.zre_tables.proofs.Agreeing.{left_agrees}
 use Rattle.zre_tables.proofs.Carrying.{of_err}
 use Rattle.zre_tables.proofs.Indexed.{taken_agrees}
@@ -27,11 +27,11 @@ invariant_of-self-2 c =
 pub returns-clause-ok : goal.returns-clause-ok
 returns-clause-ok c = λ x n id ms at runs.
     let ran = reran c.args.link c.self.inside.rows c.in-Some.peer.now c.in-Some.ensures.value c.get_mut.follows.lender c.get_mut.follows.holds c.args.self.now c.self.view_is _ c.take-taken.new.peer x c.args.now c.renew-self-inside.ensures.only c.take-taken.ensures.only at in
-    on_ok c.take-taken.result (c.take-taken.ensures.ok n id ms (subst (λ (o : Option Running). HasRun (Some n) id ms o) (sym ran.0) runs)) (λ a. (a.0, a.2, record { run = c.take-taken.new.peer.run; its_run = a.1; rows = ran.1 }))
+    on_ok c.take-taken.result (c.take-taken.ensures.ok n id ms (subst (λ (o : Option CarriedRun). HasRun (Some n) id ms o) (sym ran.0) runs)) (λ a. (a.0, a.2, record { run = c.take-taken.new.peer.run; its_run = a.1; rows = ran.1 }))
 
 pub returns-clause-refused : goal.returns-clause-refused
 returns-clause-refused c = λ x n id ms at runs.
     let ran = reran c.args.link c.self.inside.rows c.in-Some.peer.now c.in-Some.ensures.value c.get_mut.follows.lender c.get_mut.follows.holds c.args.self.now c.self.view_is _ c.take-taken.new.peer x c.args.now c.renew-self-inside.ensures.only c.take-taken.ensures.only at in
-    of_err c.take-taken.result (c.take-taken.ensures.refused n id ms (subst (λ (o : Option Running). HasRun (Some n) id ms o) (sym ran.0) runs)) (λ f a other.
+    of_err c.take-taken.result (c.take-taken.ensures.refused n id ms (subst (λ (o : Option CarriedRun). HasRun (Some n) id ms o) (sym ran.0) runs)) (λ f a other.
     let b = a other in
     (b.0, b.1, b.3, record { run = c.take-taken.new.peer.run; its_run = b.2; rows = ran.1 }))

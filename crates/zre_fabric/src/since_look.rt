@@ -1,0 +1,68 @@
+//! When a look comes before any other turn.
+
+ghost use Rattle.std.specs.Prelude.{◌≡◌, ◌==◌};
+ghost use Rattle.zre_outside.specs.Causes.{raised};
+ghost use Rattle.zre_fabric.specs.Looking.{is_full};
+
+/// A look comes after so many entries at most.
+const ENTRIES: u64 = 64;
+
+/// So many commands in a row are each followed by a look at once. After them the sockets have their turn.
+const COMMANDS: u64 = 64;
+
+/// How many entries were given since the last look, and how many commands since the last entry that isn't one.
+#[derive(Drop)]
+pub(crate) struct SinceLook {
+    entries: u64,
+    commands: u64,
+}
+
+impl SinceLook {
+    pub(crate) fn new() -> Self
+        ensures entries { result.entries ≡ 0 }
+        ensures commands { result.commands ≡ 0 }
+    {
+        SinceLook {
+            entries: 0,
+            commands: 0,
+        }
+    }
+
+    /// Whether a look comes before any other turn. Where there are both entries and commands, the last turn was a
+    /// command.
+    pub(crate) fn is_full(&self) -> bool
+        ensures { result ≡ is_full self.now.entries self.now.commands }
+    {
+        self.entries >= ENTRIES || self.entries > 0 && self.commands > 0 && self.commands < COMMANDS
+    }
+
+    /// Whether no entry was given since the last look.
+    pub(crate) fn has_looked(&self) -> bool
+        ensures { result ≡ (self.now.entries == 0) }
+    {
+        self.entries == 0
+    }
+
+    pub(crate) fn gave_look(&mut self)
+        ensures entries { self.new.entries ≡ 0 }
+        ensures commands { self.new.commands ≡ self.old.commands }
+    {
+        self.entries = 0;
+    }
+
+    pub(crate) fn gave_command(&mut self)
+        ensures entries { self.new.entries ≡ raised self.old.entries }
+        ensures commands { self.new.commands ≡ raised self.old.commands }
+    {
+        self.entries = self.entries.saturating_add(1);
+        self.commands = self.commands.saturating_add(1);
+    }
+
+    pub(crate) fn gave_entry(&mut self)
+        ensures entries { self.new.entries ≡ raised self.old.entries }
+        ensures commands { self.new.commands ≡ 0 }
+    {
+        self.entries = self.entries.saturating_add(1);
+        self.commands = 0;
+    }
+}
