@@ -16,32 +16,33 @@ use crate::looks::{Steps, Store};
 use crate::opened::Opened;
 use crate::partial::Partial;
 use crate::progress::Progress;
-use crate::turns::take_turn;
 use crate::want::Want;
 use std::alloc::Global;
 use std::marker::{Brand, Model};
 use std::sync::ledger::{Blank, Ledger};
 use zre_values::{Frames, take_apart};
 
-// Reads octets turn by turn. Each is looked at once.
-fn read<L: Ledger>(
-    want: &Want,
-    progress: &mut Progress,
-    octets: &[u8],
-    out: &mut Items,
-    steps: &mut Steps<L>,
-) -> Result<(), FeedFault>
-    ensures ok { StandsAfter result want.now progress.old progress.new octets.now out.old out.new }
-    ensures refused { NamesFault result want.now progress.old octets.now out.old out.new }
-    ensures looks { Looks steps.old steps.new (held progress.old) (held progress.new) (length octets.now) result }
-{
-    let mut rest = octets;
-    while !rest.is_empty() {
-        let len = take_turn(want, progress, rest, out, steps)?;
-        let (_, later) = rest.split_at(len);
-        rest = later;
+impl Progress {
+    // Reads octets turn by turn. Each is looked at once.
+    fn read<L: Ledger>(
+        &mut self,
+        want: &Want,
+        octets: &[u8],
+        out: &mut Items,
+        steps: &mut Steps<L>,
+    ) -> Result<(), FeedFault>
+        ensures ok { StandsAfter result want.now self.old self.new octets.now out.old out.new }
+        ensures refused { NamesFault result want.now self.old octets.now out.old out.new }
+        ensures looks { Looks steps.old steps.new (held self.old) (held self.new) (length octets.now) result }
+    {
+        let mut rest = octets;
+        while !rest.is_empty() {
+            let len = self.take_turn(want, rest, out, steps)?;
+            let (_, later) = rest.split_at(len);
+            rest = later;
+        }
+        Ok(())
     }
-    Ok(())
 }
 
 /// A reader of a stream, or of traffic alone, that is handed the octets in any pieces. It keeps the octets of the
@@ -124,7 +125,7 @@ impl Reader {
         ensures looks { Looks steps.old steps.new (kept self.old) (kept self.new) (length piece.now) result }
     {
         self.spent = true;
-        read(&self.want, &mut self.progress, piece, out, steps)?;
+        self.progress.read(&self.want, piece, out, steps)?;
         self.spent = false;
         Ok(())
     }

@@ -18,5 +18,5 @@ returns-in_err-read-clause-refused g c =
 pub returns-clause-ok : goal.returns-clause-ok
 returns-clause-ok g c =
     λ want kind o h.
-    let read = subst (λ (r : Reading). Waits r.wanted r.before r.left → Advances r.wanted r.before (r.left ++ c.args.piece.now) c.args.out.now c.read.new.out (before_of c.read.new.progress) (left_of c.read.new.progress)) c.self.view_is c.in_ok-read.ensures.ok in
+    let read = subst (λ (r : Reading). Waits r.wanted r.before r.left → Advances r.wanted r.before (r.left ++ c.args.piece.now) c.args.out.now c.read.new.out (before_of c.read.new.self) (left_of c.read.new.self)) c.self.view_is c.in_ok-read.ensures.ok in
     fed want kind o c.args.piece.now c.args.self.now _ c.args.out.now c.read.new.out h (read (waits_reader want kind o c.args.self.now h)) refl (ap (λ (r : Reading). r.wanted) c.self.view_is)

@@ -10,7 +10,7 @@ use Rattle.zre_zmtp.proofs.Stay.{fault_of-stays}
 use Rattle.zre_zmtp.proofs.Framed.{head_of, header-refused, is_framed, left-nothing}
 use Rattle.zre_zmtp.proofs.Looked.{frame_kept}
 use Rattle.zre_zmtp.proofs.Turning.{begins, joined, waits_from, no_part, no_octets, turn_refused, refused_turn, frame_taken}
-use Rattle.zre_zmtp.proofs.turns.take_whole.Goals as goal
+use Rattle.zre_zmtp.proofs.progress.Progress.take_whole.Goals as goal
 
 -- a header, a body and what stands after them
 parted : (o head later body rest : List ℕ) → o ≡ head ++ later → later ≡ body ++ rest → o ≡ (head ++ body) ++ rest
@@ -24,8 +24,8 @@ front_of o head body rest is =
     ∙ take_all (length (head ++ body)) (head ++ body) (omega arith)
 
 pub returns-in-Some-clause-refused : goal.returns-in-Some-clause-refused
-returns-in-Some-clause-refused g c =
-    let b = before_of c.args.progress.now in
+returns-in-Some-clause-refused c =
+    let b = before_of c.args.self.now in
     let o = c.args.octets.now in
     let at = head_of c.args.header o c.split_at.result.0.now c.split_at.result.1.now c.requires.header
     (c.split_at.ensures.front ∙ ap (λ n. take n o) c.header_len.ensures) (c.split_at.ensures.back ∙ ap (λ n. drop n o) c.header_len.ensures) in
@@ -35,38 +35,39 @@ returns-in-Some-clause-refused g c =
     ∙ fault_of-stays c.args.want.now b c.split_at.result.0.now c.split_at.result.1.now _ (header-refused c.args.want.now b c.split_at.result.0.now c.in-Some.why c.requires.frame bad)) refl
 
 pub returns-in_err-take_frame-clause-refused : goal.returns-in_err-take_frame-clause-refused
-returns-in_err-take_frame-clause-refused g c =
+returns-in_err-take_frame-clause-refused c =
     let p = err_from_is_err_and c.from_residual-in_err-take_frame.result c.from_residual-in_err-take_frame.ensures.1 in
-    let b = before_of c.args.progress.now in
+    let b = before_of c.args.self.now in
     let o = c.args.octets.now in
     let out = c.args.out.now in
-    let head = c.split_at.result.0.now in
+    let head = c.of-head.result in
     let at = head_of c.args.header o head c.split_at.result.1.now c.requires.header
-    (c.split_at.ensures.front ∙ ap (λ n. take n o) c.header_len.ensures) (c.split_at.ensures.back ∙ ap (λ n. drop n o) c.header_len.ensures) in
-    let fine : header_fault b head ≡ None = sym c.fault_of_header.ensures ∙ c.in_default.is in
+    (c.of-head.ensures ∙ c.split_at.ensures.front ∙ ap (λ n. take n o) c.header_len.ensures) (c.split_at.ensures.back ∙ ap (λ n. drop n o) c.header_len.ensures) in
+    let fine : header_fault b head ≡ None = ap (λ (x : List ℕ). header_fault b x) c.of-head.ensures ∙ sym c.fault_of_header.ensures ∙ c.in_default.is in
     let whole = parted o head c.split_at.result.1.now c.in_ok-body.body _ at.whole
     (joined _ c.split_at.result.1.now c.in_ok-body.body (c.in_ok-body.ensures ∙ c.split_at-2.ensures.front)) in
     rw (p.1, p.2) (refused_turn c.args.want.now out out c.take_frame.new.out (run_all c.args.want.now b o) b [] (head ++ c.in_ok-body.body) _ o c.in_err-take_frame.field-0.0 whole
     (begins c.args.want.now b [] o out (waits_from c.args.want.now b [] (no_part c.args.want.now b) (no_octets c.args.want.now b.expected b))) (c.in_err-take_frame.ensures.refused fine))
 
 pub returns-clause-ok : goal.returns-clause-ok
-returns-clause-ok g c =
-    let b = before_of c.args.progress.now in
+returns-clause-ok c =
+    let b = before_of c.args.self.now in
     let o = c.args.octets.now in
-    let head = c.split_at.result.0.now in
+    let head = c.of-head.result in
     let at = head_of c.args.header o head c.split_at.result.1.now c.requires.header
-    (c.split_at.ensures.front ∙ ap (λ n. take n o) c.header_len.ensures) (c.split_at.ensures.back ∙ ap (λ n. drop n o) c.header_len.ensures) in
-    let fine : header_fault b head ≡ None = sym c.fault_of_header.ensures ∙ c.in_default.is in
+    (c.of-head.ensures ∙ c.split_at.ensures.front ∙ ap (λ n. take n o) c.header_len.ensures) (c.split_at.ensures.back ∙ ap (λ n. drop n o) c.header_len.ensures) in
+    let fine : header_fault b head ≡ None = ap (λ (x : List ℕ). header_fault b x) c.of-head.ensures ∙ sym c.fault_of_header.ensures ∙ c.in_default.is in
     let same : c.in_ok-body.body ≡ c.split_at-2.result.0.now = c.in_ok-body.ensures in
     let whole = parted o head c.split_at.result.1.now c.in_ok-body.body _ at.whole
     (joined _ c.split_at.result.1.now c.in_ok-body.body (same ∙ c.split_at-2.ensures.front)) in
-    let front : take (length head + length c.split_at-2.result.0.now) o ≡ head ++ c.in_ok-body.body =
-    ap (λ (x : List ℕ). take (length head + length x) o) (sym same) ∙ front_of o head c.in_ok-body.body _ whole in
+    let front : take (length c.split_at.result.0.now + length c.split_at-2.result.0.now) o ≡ head ++ c.in_ok-body.body =
+    ap (λ (x : List ℕ). take (length x + length c.split_at-2.result.0.now) o) (sym c.of-head.ensures)
+    ∙ ap (λ (x : List ℕ). take (length head + length x) o) (sym same) ∙ front_of o head c.in_ok-body.body _ whole in
     rw front (c.in_ok-take_frame.ensures.ok fine)
 
 pub returns-then-is_content-clause-ok : goal.returns-then-is_content-clause-ok
-returns-then-is_content-clause-ok g c =
-    let b = before_of c.args.progress.now in
+returns-then-is_content-clause-ok c =
+    let b = before_of c.args.self.now in
     let o = c.args.octets.now in
     let head = c.split_at.result.0.now in
     let body = c.split_at-2.result.0.now in
@@ -76,7 +77,7 @@ returns-then-is_content-clause-ok g c =
     let whole = parted o head c.split_at.result.1.now body _ at.whole (joined _ c.split_at.result.1.now body c.split_at-2.ensures.front) in
     let m : is_content b.expected c.args.header.flags ≡ true = sym c.is_content.ensures ∙ c.if-is_content.true in
     let e = c.in_ok-take_content.ensures in
-    let now = c.take_content.new.progress in
+    let now = c.take_content.new.self in
     let none : now.partial.head ≡ [] = ap (λ (p : Partial). p.head) e.partial ∙ c.requires.no_head in
     let none' : now.partial.body ≡ [] = ap (λ (p : Partial). p.body) e.partial ∙ c.requires.no_body in
     rw (front_of o head body _ whole)
@@ -85,14 +86,14 @@ returns-then-is_content-clause-ok g c =
     (content_is_faultless c.args.want.now b c.args.header.flags body m) refl e.given e.after
     (left-nothing now.expected now.greeting now.partial.head now.partial.body (ap (λ (x : Before). x.expected) e.after) none none'))
 
-pub returns-then-is_content-clause-looks : goal.returns-then-is_content-clause-looks
-returns-then-is_content-clause-looks g c =
-    let b = before_of c.args.progress.now in
+pub returns-then-is_content-clause-kept : goal.returns-then-is_content-clause-kept
+returns-then-is_content-clause-kept c =
+    let b = before_of c.args.self.now in
     let body = c.split_at-2.result.0.now in
     let e = c.in_ok-take_content.ensures in
-    let now = c.take_content.new.progress in
+    let now = c.take_content.new.self in
     let none : now.partial.head ≡ [] = ap (λ (p : Partial). p.head) e.partial ∙ c.requires.no_head in
     let none' : now.partial.body ≡ [] = ap (λ (p : Partial). p.body) e.partial ∙ c.requires.no_body in
     let kept = frame_kept b c.args.header body _ (before_of now) (left_of now) e.after
     (left-nothing now.expected now.greeting now.partial.head now.partial.body (ap (λ (x : Before). x.expected) e.after) none none') in
-    omega (arith, kept, c.take.ensures)
+    omega (arith, kept, c.split_at-2.ensures.front_len)

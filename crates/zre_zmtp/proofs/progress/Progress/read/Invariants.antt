@@ -3,13 +3,13 @@ use Rattle.zre_zmtp.specs.Run.{run_all}
 use Rattle.zre_zmtp.specs.Shown.{before_of, left_of, held, Waits}
 use Rattle.zre_zmtp.proofs.Turning.{IsAmid}
 use Rattle.zre_zmtp.proofs.Looked.{IsPaidSoFar}
-use Rattle.zre_zmtp.proofs.reader.read.Given as goal
+use Rattle.zre_zmtp.proofs.progress.Progress.read.Given as goal
 
 abbrev pub invariant-loop-rest : goal.invariant-loop-rest
 invariant-loop-rest g l =
-    (Waits l.want (before_of l.fn.progress) (left_of l.fn.progress)
-    → IsAmid l.want l.fn.out l.out (run_all l.want (before_of l.fn.progress) (left_of l.fn.progress ++ l.octets)) (before_of l.progress) (left_of l.progress) l.rest)
-    × IsPaidSoFar l.fn.steps l.steps (held l.fn.progress) (held l.progress) (length l.octets) (length l.rest)
+    (Waits l.want (before_of l.fn.self) (left_of l.fn.self)
+    → IsAmid l.want l.fn.out l.out (run_all l.want (before_of l.fn.self) (left_of l.fn.self ++ l.octets)) (before_of l.self) (left_of l.self) l.rest)
+    × IsPaidSoFar l.fn.steps l.steps (held l.fn.self) (held l.self) (length l.octets) (length l.rest)
 
 abbrev pub decreases-loop-rest : goal.decreases-loop-rest
 decreases-loop-rest g l = length l.rest

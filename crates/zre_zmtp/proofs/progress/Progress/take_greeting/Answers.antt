@@ -2,18 +2,18 @@ use Rattle.std.proofs.Common.{◌≡◌, ◌<◌, ◌≤◌, ◌∙◌, ◌∷�
 use Rattle.zre_zmtp.specs.Shown.{before_of, left_of}
 use Rattle.zre_zmtp.proofs.Framed.{left-greeting}
 use Rattle.zre_zmtp.proofs.Turning.{greeting_refused, greeting_waits, greeting_whole}
-use Rattle.zre_zmtp.proofs.turns.take_greeting.Goals as goal
+use Rattle.zre_zmtp.proofs.progress.Progress.take_greeting.Goals as goal
 
 pub returns-in-Some-clause-refused : goal.returns-in-Some-clause-refused
 returns-in-Some-clause-refused g c =
-    let p = c.args.progress.now in
+    let p = c.args.self.now in
     let left : left_of p ≡ p.greeting = left-greeting p.expected p.greeting _ _ c.requires in
     λ want w. greeting_refused want (before_of p) (left_of p) c.args.octet c.len-i.result c.in-Some.why c.args.out.now c.requires w (c.len-i.ensures ∙ ap length (sym left)) (sym c.fault_of_octet.ensures ∙ c.in-Some.is)
 
 pub returns-then-len-lt-GREETING_OCTETS-clause-ok :
     goal.returns-then-len-lt-GREETING_OCTETS-clause-ok
 returns-then-len-lt-GREETING_OCTETS-clause-ok g c =
-    let p = c.args.progress.now in
+    let p = c.args.self.now in
     let left : left_of p ≡ p.greeting = left-greeting p.expected p.greeting _ _ c.requires in
     let now : left_of (record p { greeting = c.add.new.self }) ≡ c.add.new.self = left-greeting p.expected c.add.new.self _ _ c.requires in
     let more : c.add.new.self ≡ left_of p ++ c.args.octet ∷ [] = c.in_ok-add.ensures.ok ∙ ap (λ (o : List ℕ). o ++ c.args.octet ∷ []) (sym left) in
@@ -23,7 +23,7 @@ returns-then-len-lt-GREETING_OCTETS-clause-ok g c =
 
 pub returns-clause-ok : goal.returns-clause-ok
 returns-clause-ok g c =
-    let p = c.args.progress.now in
+    let p = c.args.self.now in
     let left : left_of p ≡ p.greeting = left-greeting p.expected p.greeting _ _ c.requires in
     let more : c.add.new.self ≡ left_of p ++ c.args.octet ∷ [] = c.in_ok-add.ensures.ok ∙ ap (λ (o : List ℕ). o ++ c.args.octet ∷ []) (sym left) in
     let many : 64 ≤ length c.add.new.self = omega (arith, c.len.ensures, c.if-len-lt-GREETING_OCTETS.false) in
