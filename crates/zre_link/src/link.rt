@@ -20,7 +20,7 @@ ghost use Rattle.zre_link.specs.Link.{IsOnlyAnswered};
 use crate::answers::answer_all;
 use crate::awaits::Awaits;
 use crate::fault::{PushFault, ReplyFault};
-use crate::putting::{queue_message, queue_ping, queue_shout};
+use crate::putting::{NumberedShout, queue_message, queue_ping, queue_shout};
 use crate::queue::Queue;
 use crate::replies::Replies;
 use crate::tail::Tail;
@@ -159,14 +159,12 @@ impl Link {
             return Err(PushFault::OutOfMemory);
         };
         let number = (sent % 65536) as u16;
-        self.written = queue_shout(
-            &mut self.queue,
-            &mut self.spelled,
-            self.written,
-            number,
+        let shout = NumberedShout {
+            sequence: number,
             group,
             tail,
-        )?;
+        };
+        self.written = queue_shout(&mut self.queue, &mut self.spelled, self.written, &shout)?;
         self.sent = sent;
         Ok(())
     }

@@ -90,29 +90,40 @@ pub fn queue_ping(queue: &mut Queue, written: u64, sequence: u16) -> Result<u64,
     Ok(all)
 }
 
+/// A SHOUT with its number.
+#[derive(Clone, Copy)]
+pub struct NumberedShout<'a> {
+    /// The number of the message.
+    pub sequence: u16,
+    /// The group that it is for.
+    pub group: &'a [u8],
+    /// The frames after the first.
+    pub tail: &'a Tail,
+}
+
 /// Queues a SHOUT in the same way: its first frame, spelled in `head`, and then the octets of its content, which are
 /// shared where they are many.
 pub fn queue_shout(
     queue: &mut Queue,
     head: &mut Octets,
     written: u64,
-    sequence: u16,
-    group: &[u8],
-    tail: &Tail,
+    shout: &NumberedShout<'_>,
 ) -> Result<u64, PushFault>
-    requires fits { FitsString group.now }
+    requires fits { FitsString shout.now.group.now }
     requires some { 0 < written }
-    ensures ok { let m = octets_of (record { sequence = sequence; body = Shout group.now tail.now }) in
+    ensures ok { let body = Shout shout.now.group.now shout.now.tail.now in
+        let m = octets_of (record { sequence = shout.now.sequence; body = body }) in
         IfOk result (λ all. (queue.new ≡ queue.old ++ m) × (all ≡ written + length m)
         × (length queue.old + length m ≤ UNSENT_OCTETS)) }
-    ensures refused { let m = octets_of (record { sequence = sequence; body = Shout group.now tail.now }) in
+    ensures refused { let body = Shout shout.now.group.now shout.now.tail.now in
+        let m = octets_of (record { sequence = shout.now.sequence; body = body }) in
         IfErr result (λ e. RefusesPush e (length queue.old) (length m)) }
     ensures unchanged { OnErr result (queue.new ≡ queue.old) }
 {
     head.clear();
-    push_shout_head(head, sequence, group, !tail.is_empty())?;
-    let size = (head.len() as u64).saturating_add(tail.len() as u64);
+    push_shout_head(head, shout.sequence, shout.group, !shout.tail.is_empty())?;
+    let size = (head.len() as u64).saturating_add(shout.tail.len() as u64);
     let all = with_more(queue, written, size)?;
-    tail.put_after(queue, head)?;
+    shout.tail.put_after(queue, head)?;
     Ok(all)
 }

@@ -37,32 +37,34 @@ impl Model for Replies {
     ghost view = { λ r. record { awaits = expected_of r.awaits; hearing = r.hearing } };
 }
 
-// Reads a piece into an empty list, and notes what is awaited after it.
-fn read_piece<L: Ledger>(
-    reader: &mut Reader,
-    piece: &[u8],
-    awaits: &mut Awaits,
-    out: &mut Items,
-    steps: &mut Steps<L>,
-) -> Result<(), FeedFault>
-    requires { out.old ≡ [] }
-    ensures ok { (o : List ℕ) → IsAfter Router Whole o reader.old → expected_of awaits.old ≡ awaited o →
-        OnOk result (IsAfter Router Whole (o ++ piece.now) reader.new
-        × (expected_of awaits.new ≡ awaited (o ++ piece.now))
-        × (contexts_in out.new ≡ new_pings o piece.now)) }
-    ensures refused { (o : List ℕ) → IsAfter Router Whole o reader.old → expected_of awaits.old ≡ awaited o →
-        IfErr result (λ e. Refuses e (reply_fault (o ++ piece.now)) ((expected_of awaits.new ≡ awaited (o ++ piece.now))
-        × (contexts_in out.new ≡ new_pings o piece.now))) }
-    ensures looks { Looks steps.old steps.new (kept reader.old) (kept reader.new) (length piece.now) result }
-{
-    if reader.spent() {
-        return Err(FeedFault::OutOfMemory);
-    }
-    let fed = reader.feed_counted(piece, out, steps);
-    *awaits = awaits.after(out.len());
-    match fed {
-        Ok(()) => Ok(()),
-        Err(fault) => Err(fault),
+impl Awaits {
+    // Reads a piece into an empty list, and notes what is awaited after it.
+    fn read_piece<L: Ledger>(
+        &mut self,
+        reader: &mut Reader,
+        piece: &[u8],
+        out: &mut Items,
+        steps: &mut Steps<L>,
+    ) -> Result<(), FeedFault>
+        requires { out.old ≡ [] }
+        ensures ok { (o : List ℕ) → IsAfter Router Whole o reader.old → expected_of self.old ≡ awaited o →
+            OnOk result (IsAfter Router Whole (o ++ piece.now) reader.new
+            × (expected_of self.new ≡ awaited (o ++ piece.now))
+            × (contexts_in out.new ≡ new_pings o piece.now)) }
+        ensures refused { (o : List ℕ) → IsAfter Router Whole o reader.old → expected_of self.old ≡ awaited o →
+            IfErr result (λ e. Refuses e (reply_fault (o ++ piece.now))
+            ((expected_of self.new ≡ awaited (o ++ piece.now)) × (contexts_in out.new ≡ new_pings o piece.now))) }
+        ensures looks { Looks steps.old steps.new (kept reader.old) (kept reader.new) (length piece.now) result }
+    {
+        if reader.spent() {
+            return Err(FeedFault::OutOfMemory);
+        }
+        let fed = reader.feed_counted(piece, out, steps);
+        *self = self.after(out.len());
+        match fed {
+            Ok(()) => Ok(()),
+            Err(fault) => Err(fault),
+        }
     }
 }
 
@@ -98,7 +100,7 @@ impl Replies {
             Hearing::Reads(reader) => reader,
             Hearing::Refused(fault) => return Err(*fault),
         };
-        match read_piece(reader, piece, &mut self.awaits, out, steps) {
+        match self.awaits.read_piece(reader, piece, out, steps) {
             Ok(()) => Ok(()),
             Err(fault) => {
                 self.hearing = Hearing::Refused(fault);

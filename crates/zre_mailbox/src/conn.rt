@@ -4,12 +4,12 @@ ghost use Rattle.std.specs.Prelude.{◌≡◌, ℕ, ◌+◌, ◌≤◌, ◌<◌,
 ghost use Rattle.std.specs.Prelude.{is_err};
 ghost use Rattle.zre_values.specs.declared.limits.TheConstants.{MESSAGE_OCTETS, COMMAND_OCTETS};
 ghost use Rattle.zre_values.specs.declared.peer_id.PeerId.{PeerId as PeerIdValue};
-ghost use Rattle.zre_zmtp.specs.Reading.{Reads, Refuses, Adds, kept};
+ghost use Rattle.zre_zmtp.specs.Reading.{Refuses, Adds};
 ghost use Rattle.zre_zmtp.specs.Looks.{Looks, IsOpenTo};
 ghost use Rattle.zre_zmtp.specs.Stream.{Whole};
 ghost use Rattle.zre_zmtp.specs.declared.want.Want.TheVariants.{Dealer};
 ghost use Rattle.zre_mailbox.specs.Talk.{arrivals_in, fault_in};
-ghost use Rattle.zre_mailbox.specs.Conn.{conn_after, ignoring, is_ignored, is_spent, kept_of, Brings, Hears};
+ghost use Rattle.zre_mailbox.specs.Conn.{conn_after, ignoring, is_ignored, is_spent, kept_of, Hears};
 ghost use Rattle.zre_mailbox.specs.Conn.{HearsOn, RefusesToHear};
 ghost use Rattle.zre_mailbox.specs.declared.phase.Phase.TheVariants.{Spent as SpentPhase};
 
@@ -42,33 +42,6 @@ impl Model for Conn {
     ghost Value = { ConnHearing };
 
     ghost view = { λ c. record { phase = c.phase; identity = c.identity } };
-}
-
-// Reads a piece into an empty list, and notes whom it introduces, unless somebody was introduced before.
-fn read_piece<L: Ledger>(
-    reader: &mut Reader,
-    piece: &[u8],
-    identity: &mut Option<PeerId>,
-    items: &mut Items,
-    steps: &mut Steps<L>,
-) -> Result<(), FeedFault>
-    requires unspent { reader.old.spent ≡ false }
-    requires empty { items.old ≡ [] }
-    ensures ok { (own : PeerIdValue) (o : List ℕ) → Reads (Dealer own) Whole o reader.old →
-        OnOk result (Reads (Dealer own) Whole (o ++ piece.now) reader.new
-        × Brings own o piece.now identity.old identity.new items.old items.new) }
-    ensures refused { (own : PeerIdValue) (o : List ℕ) → Reads (Dealer own) Whole o reader.old →
-        IfErr result (λ e. Refuses e (fault_in own (o ++ piece.now))
-        (Brings own o piece.now identity.old identity.new items.old items.new)) }
-    ensures unspent { OnOk result (reader.new.spent ≡ false) }
-    ensures looks { Looks steps.old steps.new (kept reader.old) (kept reader.new) (length piece.now) result }
-{
-    let fed = reader.feed_counted(piece, items, steps);
-    *identity = known_after(*identity, items.as_slice());
-    match fed {
-        Ok(()) => Ok(()),
-        Err(fault) => Err(fault),
-    }
 }
 
 impl Conn {
@@ -150,7 +123,9 @@ impl Conn {
         let Phase::Live(reader) = &mut self.phase else {
             return Err(FeedFault::OutOfMemory);
         };
-        match read_piece(reader, piece, &mut self.identity, items, steps) {
+        let fed = reader.feed_counted(piece, items, steps);
+        self.identity = known_after(self.identity, items.as_slice());
+        match fed {
             Ok(()) => Ok(()),
             Err(fault) => {
                 self.give_up();

@@ -12,6 +12,7 @@ ghost use Rattle.zre_node.specs.Kinds.{is_incoming, is_piece};
 ghost use Rattle.zre_node.specs.Stands.{Holds, Did};
 
 use crate::effects::Effects;
+use crate::incoming::hearing::Piece;
 use crate::outgoing::links::note;
 use crate::tables::Tables;
 use std::mem;
@@ -77,7 +78,14 @@ impl Tables {
     {
         let Entry { at, input } = entry;
         match input {
-            Input::Reply { link, bytes } => self.take_reply(out, at, link, bytes.as_slice(), steps),
+            Input::Reply { link, bytes } => {
+                let reply = Piece {
+                    at,
+                    from: link,
+                    bytes: bytes.as_slice(),
+                };
+                self.take_reply(out, &reply, steps)
+            }
             Input::Tick => self.take_tick(out, at),
             Input::Do(Command::Quit) => self.take_stop(out, at),
             Input::Do(command) => self.take_command(out, at, command),
@@ -103,7 +111,12 @@ impl Tables {
             Input::Piece { conn, bytes } => {
                 let mut list = mem::replace(items, Items::new(self.alloc));
                 list.clear();
-                let heard = self.come_piece(at, conn, bytes.as_slice(), list, steps)?;
+                let piece = Piece {
+                    at,
+                    from: conn,
+                    bytes: bytes.as_slice(),
+                };
+                let heard = self.come_piece(&piece, list, steps)?;
                 self.said(out, conn, &heard)?;
                 *items = heard.emptied();
                 self.offer(out)

@@ -69,20 +69,6 @@ fn push_enter_end(out: &mut Octets, endpoint: &Octets, headers: &Pairs) -> Resul
     out.push(b'\n')
 }
 
-// JOIN or LEAVE.
-fn push_change(
-    out: &mut Octets,
-    word: &[u8],
-    id: PeerId,
-    name: &Octets,
-    group: &Octets,
-) -> Result<(), OutOfMemory>
-    ensures { OnOk result (out.new ≡ out.old ++ word.now ++ who_text id name.now ++ group_end group.now) }
-{
-    push_head(out, word, id, name)?;
-    push_group_end(out, group.as_slice())
-}
-
 fn push_evasive(out: &mut Octets, id: PeerId, name: &Octets) -> Result<(), OutOfMemory>
     ensures { OnOk result (out.new ≡ out.old ++ line (kinds.Evasive id name.now)) }
 {
@@ -148,8 +134,14 @@ pub fn push_line(out: &mut Octets, event: &Event) -> Result<(), OutOfMemory>
             push_head(out, b"ENTER ", *id, name)?;
             push_enter_end(out, endpoint, headers)
         }
-        Event::Join { id, name, group } => push_change(out, b"JOIN ", *id, name, group),
-        Event::Leave { id, name, group } => push_change(out, b"LEAVE ", *id, name, group),
+        Event::Join { id, name, group } => {
+            push_head(out, b"JOIN ", *id, name)?;
+            push_group_end(out, group.as_slice())
+        }
+        Event::Leave { id, name, group } => {
+            push_head(out, b"LEAVE ", *id, name)?;
+            push_group_end(out, group.as_slice())
+        }
         Event::Whisper { id, name, content } => {
             push_head(out, b"WHISPER ", *id, name)?;
             push_content_end(out, content.as_slice())

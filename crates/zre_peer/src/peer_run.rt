@@ -9,11 +9,9 @@ ghost use Rattle.zre_peer.specs.Later.{goes_on, later_fault, RefusesLater};
 ghost use Rattle.zre_peer.specs.Runs.{events_of, may_follow, fault_of, in_order, is_hello};
 ghost use Rattle.zre_peer.specs.Views.{after, blank, is_small, view_of};
 
-use crate::changes::{change, change_by_lent};
 use crate::event::Events;
 use crate::heads::Heads;
 use crate::hello::{is_hello, opened, tell_hello};
-use crate::telling::tell_change;
 use crate::view::View;
 use std::alloc::Global;
 use thiserror::Error;
@@ -123,68 +121,70 @@ fn expect(due: u16, message: &Message) -> Result<(), RunFault>
     expect_number(due, message.sequence)
 }
 
-// A message after the first.
-fn later(
-    alloc: Global,
-    id: PeerId,
-    view: &mut View,
-    due: u16,
-    message: &mut Message,
-    events: &mut Events,
-) -> Result<(), RunFault>
-    requires { is_small view.old ≡ true }
-    ensures ok { OnOk result ((goes_on view.old due message.old ≡ true)
-        × (view.new ≡ after view.old message.old.body)
-        × (events.new ≡ events.old ++ events_of id view.old message.old.body)) }
-    ensures kept { OnErr result (view.new ≡ view.old) }
-    ensures refused { RefusesLater result view.old due message.old events.old events.new }
-{
-    expect(due, message)?;
-    change(alloc, id, view, &mut message.body, events)
-}
+impl View {
+    // A message after the first.
+    fn later(
+        &mut self,
+        alloc: Global,
+        id: PeerId,
+        due: u16,
+        message: &mut Message,
+        events: &mut Events,
+    ) -> Result<(), RunFault>
+        requires { is_small self.old ≡ true }
+        ensures ok { OnOk result ((goes_on self.old due message.old ≡ true)
+            × (self.new ≡ after self.old message.old.body)
+            × (events.new ≡ events.old ++ events_of id self.old message.old.body)) }
+        ensures kept { OnErr result (self.new ≡ self.old) }
+        ensures refused { RefusesLater result self.old due message.old events.old events.new }
+    {
+        expect(due, message)?;
+        self.change(alloc, id, &mut message.body, events)
+    }
 
-// The same of a message that lies in its frames.
-#[tactic(auto, using(crate::proofs::Named::lent_is_later))]
-fn later_lent(
-    alloc: Global,
-    id: PeerId,
-    view: &mut View,
-    due: u16,
-    lent: &LentMessage<'_>,
-    events: &mut Events,
-) -> Result<(), RunFault>
-    requires { is_small view.old ≡ true }
-    ensures ok { OnOk result ((goes_on view.old due (message_of lent.now) ≡ true)
-        × (view.new ≡ after view.old (message_of lent.now).body)
-        × (events.new ≡ events.old ++ events_of id view.old (message_of lent.now).body)) }
-    ensures kept { OnErr result (view.new ≡ view.old) }
-    ensures refused { RefusesLater result view.old due (message_of lent.now) events.old events.new }
-{
-    expect_number(due, lent.sequence)?;
-    change_by_lent(alloc, id, view, lent, events)
-}
+    // The same of a message that lies in its frames.
+    #[tactic(auto, using(crate::proofs::Named::lent_is_later))]
+    fn later_lent(
+        &mut self,
+        alloc: Global,
+        id: PeerId,
+        due: u16,
+        lent: &LentMessage<'_>,
+        events: &mut Events,
+    ) -> Result<(), RunFault>
+        requires { is_small self.old ≡ true }
+        ensures ok { OnOk result ((goes_on self.old due (message_of lent.now) ≡ true)
+            × (self.new ≡ after self.old (message_of lent.now).body)
+            × (events.new ≡ events.old ++ events_of id self.old (message_of lent.now).body)) }
+        ensures kept { OnErr result (self.new ≡ self.old) }
+        ensures refused { RefusesLater result self.old due (message_of lent.now) events.old events.new }
+    {
+        expect_number(due, lent.sequence)?;
+        self.change_by_lent(alloc, id, lent, events)
+    }
 
-// The same, with the lines of the events, which begin with `heads`.
-#[tactic(auto, using(crate::proofs::Named::lent_is_later))]
-fn tell_later(
-    alloc: Global,
-    view: &mut View,
-    due: u16,
-    lent: &LentMessage<'_>,
-    heads: &Heads,
-    out: &mut Octets,
-) -> Result<(), RunFault>
-    requires { is_small view.old ≡ true }
-    ensures ok { OnOk result ((goes_on view.old due (message_of lent.now) ≡ true)
-        × (view.new ≡ after view.old (message_of lent.now).body)) }
-    ensures told { TellsLines result heads.now view.old (message_of lent.now).body out.old out.new }
-    ensures name { view.new.name ≡ view.old.name }
-    ensures small { is_small view.new ≡ true }
-    ensures kept { OnErr result (view.new ≡ view.old) }
-    ensures refused { RefusesLater result view.old due (message_of lent.now) out.old out.new }
-{
-    expect_number(due, lent.sequence)?;
-    tell_change(alloc, view, lent, heads, out)
+    // The same, with the lines of the events, which begin with `heads`.
+    #[tactic(auto, using(crate::proofs::Named::lent_is_later))]
+    fn tell_later(
+        &mut self,
+        alloc: Global,
+        due: u16,
+        lent: &LentMessage<'_>,
+        heads: &Heads,
+        out: &mut Octets,
+    ) -> Result<(), RunFault>
+        requires { is_small self.old ≡ true }
+        ensures ok { OnOk result ((goes_on self.old due (message_of lent.now) ≡ true)
+            × (self.new ≡ after self.old (message_of lent.now).body)) }
+        ensures told { TellsLines result heads.now self.old (message_of lent.now).body out.old out.new }
+        ensures name { self.new.name ≡ self.old.name }
+        ensures small { is_small self.new ≡ true }
+        ensures kept { OnErr result (self.new ≡ self.old) }
+        ensures refused { RefusesLater result self.old due (message_of lent.now) out.old out.new }
+    {
+        expect_number(due, lent.sequence)?;
+        self.tell_change(alloc, lent, heads, out)
+    }
 }
 
 impl Run {
@@ -307,7 +307,7 @@ impl Run {
                     Err(fault)
                 }
             },
-            Some(view) => match later(self.alloc, self.id, view, next, message, events) {
+            Some(view) => match view.later(self.alloc, self.id, next, message, events) {
                 Ok(()) => {
                     self.count = next;
                     Ok(())
@@ -341,7 +341,7 @@ impl Run {
         let Some(view) = &mut self.view else {
             return Err(RunFault::NotHello);
         };
-        match later_lent(self.alloc, self.id, view, next, lent, events) {
+        match view.later_lent(self.alloc, self.id, next, lent, events) {
             Ok(()) => {
                 self.count = next;
                 Ok(())
@@ -376,7 +376,7 @@ impl Run {
         let Some(view) = &mut self.view else {
             return Err(RunFault::NotHello);
         };
-        match tell_later(self.alloc, view, next, lent, heads, out) {
+        match view.tell_later(self.alloc, next, lent, heads, out) {
             Ok(()) => {
                 self.count = next;
                 Ok(())

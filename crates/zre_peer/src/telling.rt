@@ -10,7 +10,6 @@ ghost use Rattle.zre_peer.specs.Runs.{events_of};
 ghost use Rattle.zre_peer.specs.Views.{is_small};
 ghost use Rattle.zre_values.specs.declared.peer_id.PeerId.{PeerId};
 
-use crate::changes::{can_join, join, leave};
 use crate::heads::Heads;
 use crate::line::{push_content_end, push_group_end, push_shout_end};
 use crate::peer_run::RunFault;
@@ -48,37 +47,39 @@ fn push_shout(
     push_shout_end(out, group, content)
 }
 
-/// Takes a message that is no HELLO: changes the view, and appends the lines of its events, which begin with `heads`.
-/// After an error the view is as it was.
-pub(crate) fn tell_change(
-    alloc: Global,
-    view: &mut View,
-    lent: &LentMessage<'_>,
-    heads: &Heads,
-    out: &mut Octets,
-) -> Result<(), RunFault>
-    requires { is_small view.old ≡ true }
-    ensures ok { OnOk result (Changes view.old view.new (message_of lent.now).body) }
-    ensures told { TellsLines result heads.now view.old (message_of lent.now).body out.old out.new }
-    ensures kept { OnErr result (view.new ≡ view.old) }
-    ensures refused { PassesLimit result view.old (message_of lent.now).body out.old out.new }
-{
-    match lent.command {
-        LentBody::Join { group, status } => {
-            if !can_join(view, group) {
-                return Err(RunFault::Limit);
+impl View {
+    /// Takes a message that is no HELLO: changes the view, and appends the lines of its events, which begin with
+    /// `heads`. After an error the view is as it was.
+    pub(crate) fn tell_change(
+        &mut self,
+        alloc: Global,
+        lent: &LentMessage<'_>,
+        heads: &Heads,
+        out: &mut Octets,
+    ) -> Result<(), RunFault>
+        requires { is_small self.old ≡ true }
+        ensures ok { OnOk result (Changes self.old self.new (message_of lent.now).body) }
+        ensures told { TellsLines result heads.now self.old (message_of lent.now).body out.old out.new }
+        ensures kept { OnErr result (self.new ≡ self.old) }
+        ensures refused { PassesLimit result self.old (message_of lent.now).body out.old out.new }
+    {
+        match lent.command {
+            LentBody::Join { group, status } => {
+                if !self.can_join(group) {
+                    return Err(RunFault::Limit);
+                }
+                push_group(out, &heads.join, group)?;
+                self.join(alloc, group, status)
             }
-            push_group(out, &heads.join, group)?;
-            join(alloc, view, group, status)
+            LentBody::Leave { group, status } => {
+                push_group(out, &heads.leave, group)?;
+                self.leave(group, status);
+                Ok(())
+            }
+            LentBody::Whisper => Ok(push_whisper(out, heads, lent.content)?),
+            LentBody::Shout { group } => Ok(push_shout(out, heads, group, lent.content)?),
+            LentBody::Ping | LentBody::PingOk => Ok(()),
+            LentBody::Other { .. } => Ok(()),
         }
-        LentBody::Leave { group, status } => {
-            push_group(out, &heads.leave, group)?;
-            leave(view, group, status);
-            Ok(())
-        }
-        LentBody::Whisper => Ok(push_whisper(out, heads, lent.content)?),
-        LentBody::Shout { group } => Ok(push_shout(out, heads, group, lent.content)?),
-        LentBody::Ping | LentBody::PingOk => Ok(()),
-        LentBody::Other { .. } => Ok(()),
     }
 }

@@ -18,6 +18,17 @@ use std::sync::ledger::Ledger;
 use zre_values::OutOfMemory;
 use zre_zmtp::{Items, Steps};
 
+/// A piece that comes.
+#[derive(Clone, Copy)]
+pub struct Piece<'a> {
+    /// The reading of the clock with it.
+    pub at: u64,
+    /// The connection that it is of, or the link that it is a reply on.
+    pub from: u64,
+    /// Its octets.
+    pub bytes: &'a [u8],
+}
+
 impl Completed {
     /// The list again, emptied.
     pub fn emptied(self) -> Items
@@ -42,24 +53,22 @@ impl Tables {
     /// handed over empty.
     pub fn come_piece<L: Ledger>(
         &mut self,
-        at: u64,
-        conn: u64,
-        bytes: &[u8],
+        piece: &Piece<'_>,
         mut items: Items,
         steps: &mut Steps<L>,
     ) -> Result<Completed, OutOfMemory>
         requires { items ≡ [] }
-        ensures came { (g : Config) (H : List Mark) (e : Entry) → e.at ≡ at → e.input ≡ input.Piece conn bytes.now
-            → Holds g H self.old →
+        ensures came { (g : Config) (H : List Mark) (e : Entry) → e.at ≡ piece.now.at
+            → e.input ≡ input.Piece piece.now.from piece.now.bytes.now → Holds g H self.old →
             IfOk result (λ heard. Holds g (Comes e ∷ H) self.new
-            × (at_places g conn (said_in heard) (Comes e ∷ H)
-            ≡ at_places g conn (newly_completed g.id conn H (Comes e ∷ H)) (Comes e ∷ H))) }
-        ensures looks { (g : Config) (H : List Mark) (e : Entry) → e.input ≡ input.Piece conn bytes.now
-            → Holds g H self.old →
-            Looks steps.old steps.new (kept g H) (kept g (Comes e ∷ H)) (length bytes.now) result }
+            × (at_places g piece.now.from (said_in heard) (Comes e ∷ H)
+            ≡ at_places g piece.now.from (newly_completed g.id piece.now.from H (Comes e ∷ H)) (Comes e ∷ H))) }
+        ensures looks { (g : Config) (H : List Mark) (e : Entry) →
+            e.input ≡ input.Piece piece.now.from piece.now.bytes.now → Holds g H self.old →
+            Looks steps.old steps.new (kept g H) (kept g (Comes e ∷ H)) (length piece.now.bytes.now) result }
     {
-        self.clock = at.max(self.clock);
-        match self.conns.feed(conn, bytes, &mut items, steps) {
+        self.clock = piece.at.max(self.clock);
+        match self.conns.feed(piece.from, piece.bytes, &mut items, steps) {
             Ok(fault) => Ok(Completed { items, fault }),
             Err(none) => Err(none),
         }

@@ -18,6 +18,7 @@ ghost use Rattle.zre_node.specs.Links.{Notes, IsReplied};
 ghost use Rattle.zre_node.specs.Stands.{Holds, Did};
 
 use crate::effects::Effects;
+use crate::incoming::hearing::Piece;
 use crate::tables::Tables;
 use std::sync::ledger::Ledger;
 use zre_outside::Input;
@@ -69,19 +70,18 @@ impl Tables {
     // its peer, if it does.
     fn come_reply<L: Ledger>(
         &mut self,
-        at: u64,
-        link: u64,
-        bytes: &[u8],
+        reply: &Piece<'_>,
         steps: &mut Steps<L>,
     ) -> Result<Option<Cause>, OutOfMemory>
-        ensures came { (g : Config) (H : List Mark) (e : EntryValue) → e.at ≡ at → e.input ≡ given.Reply link bytes.now
-            → Holds g H self.old → IfOk result (λ why. IsReplied g H e link why self.new) }
-        ensures looks { (g : Config) (H : List Mark) (e : EntryValue) → e.input ≡ given.Reply link bytes.now
-            → Holds g H self.old →
-            Looks steps.old steps.new (kept g H) (kept g (Comes e ∷ H)) (length bytes.now) result }
+        ensures came { (g : Config) (H : List Mark) (e : EntryValue) → e.at ≡ reply.now.at
+            → e.input ≡ given.Reply reply.now.from reply.now.bytes.now → Holds g H self.old →
+            IfOk result (λ why. IsReplied g H e reply.now.from why self.new) }
+        ensures looks { (g : Config) (H : List Mark) (e : EntryValue) →
+            e.input ≡ given.Reply reply.now.from reply.now.bytes.now → Holds g H self.old →
+            Looks steps.old steps.new (kept g H) (kept g (Comes e ∷ H)) (length reply.now.bytes.now) result }
     {
-        self.clock = at.max(self.clock);
-        self.peers.reply(link, bytes, steps)
+        self.clock = reply.at.max(self.clock);
+        self.peers.reply(reply.from, reply.bytes, steps)
     }
 
     /// What an entry about a link brings, but for replies.
@@ -109,21 +109,19 @@ impl Tables {
     pub fn take_reply<L: Ledger>(
         &mut self,
         out: &mut Effects,
-        at: u64,
-        link: u64,
-        bytes: &[u8],
+        reply: &Piece<'_>,
         steps: &mut Steps<L>,
     ) -> Result<(), OutOfMemory>
-        ensures took { (g : Config) (H : List Mark) (e : EntryValue) → e.at ≡ at
-            → e.input ≡ given.Reply link bytes.now →
+        ensures took { (g : Config) (H : List Mark) (e : EntryValue) → e.at ≡ reply.now.at
+            → e.input ≡ given.Reply reply.now.from reply.now.bytes.now →
             out.old.pushed ≡ [] → Holds g H self.old → OnOk result (Took g e H self.new out.old out.new) }
-        ensures looks { (g : Config) (H : List Mark) (e : EntryValue) → e.input ≡ given.Reply link bytes.now
-            → Holds g H self.old →
-            Looks steps.old steps.new (kept g H) (kept g (with_entry g e H)) (length bytes.now) result }
+        ensures looks { (g : Config) (H : List Mark) (e : EntryValue) →
+            e.input ≡ given.Reply reply.now.from reply.now.bytes.now → Holds g H self.old →
+            Looks steps.old steps.new (kept g H) (kept g (with_entry g e H)) (length reply.now.bytes.now) result }
     {
-        out.pushed.push(link)?;
-        let why = self.come_reply(at, link, bytes, steps)?;
-        self.end_by_reply(out, link, why)?;
+        out.pushed.push(reply.from)?;
+        let why = self.come_reply(reply, steps)?;
+        self.end_by_reply(out, reply.from, why)?;
         self.offer(out)
     }
 

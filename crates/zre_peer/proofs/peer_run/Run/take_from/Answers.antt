@@ -7,7 +7,7 @@ pub returns-in-Ok-later-clause-ok : goal.returns-in-Ok-later-clause-ok
 returns-in-Ok-later-clause-ok c = λ ms s.
     let m = c.args.message.now in
     let v = c.in-Some.view in
-    let t = taken_later c.args.self.now ms v c.later.new.view m _ s c.in-Some.is c.due-next.ensures c.in-Ok-later.ensures.ok.0 c.in-Ok-later.ensures.ok.1 in
+    let t = taken_later c.args.self.now ms v c.later.new.self m _ s c.in-Some.is c.due-next.ensures c.in-Ok-later.ensures.ok.0 c.in-Ok-later.ensures.ok.1 in
     (t.may, record { ordered = t.ordered; going = s.going; view = t.view; count = t.count }, c.in-Ok-later.ensures.ok.2 ∙ ap (λ x. c.args.events.now ++ events_of c.args.self.now.id x m.body) (view_of_run c.args.self.now ms v s c.in-Some.is))
 
 pub returns-in-Err-later-clause-refused : goal.returns-in-Err-later-clause-refused

@@ -8,7 +8,7 @@ pub returns-in-Ok-clause-ok : goal.returns-in-Ok-clause-ok
 returns-in-Ok-clause-ok c = λ ms s.
     let m = message_of c.args.lent.now in
     let v = c.in-Some.view in
-    let t = taken_later c.args.self.now ms v c.later_lent.new.view m _ s c.in-Some.is c.due-next.ensures c.in-Ok.ensures.ok.0 c.in-Ok.ensures.ok.1 in
+    let t = taken_later c.args.self.now ms v c.later_lent.new.self m _ s c.in-Some.is c.due-next.ensures c.in-Ok.ensures.ok.0 c.in-Ok.ensures.ok.1 in
     (t.may, record { ordered = t.ordered; going = s.going; view = t.view; count = t.count }, c.in-Ok.ensures.ok.2 ∙ ap (λ x. c.args.events.now ++ events_of c.args.self.now.id x m.body) (view_of_run c.args.self.now ms v s c.in-Some.is))
 
 pub returns-in-Err-clause-refused : goal.returns-in-Err-clause-refused
