@@ -123,12 +123,6 @@ fn head_fields(text: &[u8]) -> Option<HeadFields<'_>>
     })
 }
 
-fn is_marked(mark: &[u8], number: &[u8]) -> bool
-    ensures { result ≡ (bytes_eq mark.now (codes "zre-capture") && bytes_eq number.now (codes "2")) }
-{
-    mark == b"zre-capture".as_slice() && number == b"2".as_slice()
-}
-
 /// The settings of a node but for its name and its headers.
 #[derive(Clone, Copy)]
 pub(crate) struct PlainSettings {
@@ -139,28 +133,32 @@ pub(crate) struct PlainSettings {
     pub expired: u64,
 }
 
-#[tactic(auto, unfolding(crate::specs::Reading::plain_with))]
-fn read_plain(
-    id_field: &[u8],
-    host_field: &[u8],
-    port_field: &[u8],
-    evasive_field: &[u8],
-    expired_field: &[u8],
-) -> Option<PlainSettings>
-    ensures { result ≡ plain_with id_field.now host_field.now port_field.now evasive_field.now expired_field.now }
-{
-    let id = id(id_field)?;
-    let host = address(host_field)?;
-    let port = number_within(1, 65535, port_field)?;
-    let evasive = number_within(1, DAY, evasive_field)?;
-    let expired = number_within(evasive, DAY, expired_field)?;
-    Some(PlainSettings {
-        id,
-        host,
-        port: port as u16,
-        evasive,
-        expired,
-    })
+impl HeadFields<'_> {
+    fn is_marked(&self) -> bool
+        ensures { result ≡ (bytes_eq self.now.mark.now (codes "zre-capture")
+            && bytes_eq self.now.number.now (codes "2")) }
+    {
+        self.mark == b"zre-capture".as_slice() && self.number == b"2".as_slice()
+    }
+
+    #[tactic(auto, unfolding(crate::specs::Reading::plain_with))]
+    fn read_plain(&self) -> Option<PlainSettings>
+        ensures { result ≡ plain_with self.now.id.now self.now.host.now self.now.port.now self.now.evasive.now
+            self.now.expired.now }
+    {
+        let id = id(self.id)?;
+        let host = address(self.host)?;
+        let port = number_within(1, 65535, self.port)?;
+        let evasive = number_within(1, DAY, self.evasive)?;
+        let expired = number_within(evasive, DAY, self.expired)?;
+        Some(PlainSettings {
+            id,
+            host,
+            port: port as u16,
+            evasive,
+            expired,
+        })
+    }
 }
 
 // The settings, where the plain ones are there.
@@ -192,15 +190,9 @@ pub(crate) fn settings(alloc: Global, text: &[u8]) -> Result<Option<Settings>, O
     ensures { IfOk result (λ found. found ≡ settings_of text.now) }
 {
     let fields = found!(head_fields(text));
-    if !is_marked(fields.mark, fields.number) {
+    if !fields.is_marked() {
         return Ok(None);
     }
-    let plain = found!(read_plain(
-        fields.id,
-        fields.host,
-        fields.port,
-        fields.evasive,
-        fields.expired,
-    ));
+    let plain = found!(fields.read_plain());
     with_texts(alloc, plain, fields.name, fields.headers)
 }

@@ -14,6 +14,6 @@ pub mod Reading
 pub mod Restart
 pub mod Rows
 pub mod Running
-pub mod SaidEvents
+pub mod Said
 pub mod Sender
 pub mod Sending

@@ -19,15 +19,14 @@ use Rattle.zre_zmtp.specs.declared.item.What.TheVariants as says
 abbrev pub head_text : List ℕ → ℕ → List ℕ
 head_text word sequence = word ++ codes " " ++ decimal sequence
 
--- who sends HELLO: its name, and all headers, also those whose name stood before
-abbrev pub sender_text : List ℕ → List (List ℕ × List ℕ) → List ℕ
-sender_text name headers = quoted name ++ codes " " ++ quoted_pairs headers
+-- where the sender of HELLO is reached, its groups and its status
+abbrev pub place_text : List ℕ → List (List ℕ) → ℕ → List ℕ
+place_text endpoint groups status =
+    codes " " ++ quoted endpoint ++ codes " " ++ quoted_list groups ++ codes " " ++ decimal status
 
--- the fields of HELLO
-abbrev pub hello_text : ℕ → List ℕ → List (List ℕ) → ℕ → List ℕ → List (List ℕ × List ℕ) → List ℕ
-hello_text sequence endpoint groups status name headers =
-    head_text (codes "HELLO") sequence ++ codes " " ++ quoted endpoint ++ codes " " ++ quoted_list groups ++ codes " "
-    ++ decimal status ++ codes " " ++ sender_text name headers
+-- its name, and all headers, also those whose name stood before
+abbrev pub sender_text : List ℕ → List (List ℕ × List ℕ) → List ℕ
+sender_text name headers = codes " " ++ quoted name ++ codes " " ++ quoted_pairs headers
 
 abbrev pub whisper_text : ℕ → List (List ℕ) → List ℕ
 whisper_text sequence content = head_text (codes "WHISPER") sequence ++ codes " " ++ quoted_list content
@@ -36,21 +35,21 @@ abbrev pub shout_text : ℕ → List ℕ → List (List ℕ) → List ℕ
 shout_text sequence group content =
     head_text (codes "SHOUT") sequence ++ codes " " ++ quoted group ++ codes " " ++ quoted_list content
 
--- a change of groups, by its word
-abbrev pub group_text : List ℕ → ℕ → List ℕ → ℕ → List ℕ
-group_text word sequence group status =
-    head_text word sequence ++ codes " " ++ quoted group ++ codes " " ++ decimal status
+-- the group and the status of a change
+abbrev pub change_text : List ℕ → ℕ → List ℕ
+change_text group status = codes " " ++ quoted group ++ codes " " ++ decimal status
 
 -- a command that has no name
 abbrev pub other_text : ℕ → ℕ → List ℕ
 other_text sequence number = head_text (codes "OTHER") sequence ++ codes " " ++ decimal number
 
 abbrev pub body_text : ℕ → Body → List ℕ
-body_text sequence (Hello endpoint groups status name headers) = hello_text sequence endpoint groups status name headers
+body_text sequence (Hello endpoint groups status name headers) =
+    head_text (codes "HELLO") sequence ++ place_text endpoint groups status ++ sender_text name headers
 body_text sequence (Whisper content) = whisper_text sequence content
 body_text sequence (Shout group content) = shout_text sequence group content
-body_text sequence (Join group status) = group_text (codes "JOIN") sequence group status
-body_text sequence (Leave group status) = group_text (codes "LEAVE") sequence group status
+body_text sequence (Join group status) = head_text (codes "JOIN") sequence ++ change_text group status
+body_text sequence (Leave group status) = head_text (codes "LEAVE") sequence ++ change_text group status
 body_text sequence Ping = head_text (codes "PING") sequence
 body_text sequence PingOk = head_text (codes "PING-OK") sequence
 body_text sequence (Other number rest more) = other_text sequence number

@@ -59,101 +59,104 @@ fn write_text<O: Sink>(out: &mut O, octets: &[u8]) -> Result<(), Status>
     }
 }
 
-// Writes the text that comes before any input is read.
-fn begin<M: Machine, O: Sink>(machine: &M, out: &mut O, text: &mut Octets) -> Result<(), Status>
-    ensures begun { M.fed machine.now [] →
-        OnOk result (Appends (O.written out.old) (O.written out.new) ((M.says machine.now).text [])) }
-    ensures refused { M.fed machine.now [] →
-        IfErr result (λ status. Refuses status (Rose (O.faults out.old) (O.faults out.new))
-        (AppendsFront (O.written out.old) (O.written out.new) ((M.says machine.now).text []))) }
-    ensures writes { O.faults out.old ≤ O.faults out.new }
-{
-    text.clear();
-    let Ok(()) = machine.begin(text) else {
-        return Err(Status::OutOfMemory);
-    };
-    write_text(out, text.as_slice())
+/// The text that a machine adds, before it is written. Its room is used again for each piece.
+#[derive(Drop)]
+struct PumpText {
+    room: Octets,
 }
 
-// Feeds a piece and writes its text.
-fn tell<M: Machine, O: Sink>(
-    machine: &mut M,
-    piece: &[u8],
-    out: &mut O,
-    text: &mut Octets,
-) -> Onward
-    ensures told { (o : List ℕ) → M.fed machine.old o → (M.says machine.old).is_stopped o ≡ false →
-        Told result (M.fed machine.new) (M.says machine.old) o piece.now (O.written out.old) (O.written out.new)
-        (Rose (O.faults out.old) (O.faults out.new)) }
-    ensures same { M.says machine.new ≡ M.says machine.old }
-    ensures writes { O.faults out.old ≤ O.faults out.new }
-{
-    text.clear();
-    let Ok(going) = machine.feed(piece, text) else {
-        return Onward::Fail(Status::OutOfMemory);
-    };
-    match write_text(out, text.as_slice()) {
-        Ok(()) => {}
-        Err(status) => return Onward::Fail(status),
-    }
-    match going {
-        Going::On => Onward::Go,
-        Going::Stop => Onward::Finish,
-    }
-}
-
-// Reads one piece, feeds it and writes its text.
-fn take_turn<M: Machine, I: Source, O: Sink>(
-    machine: &mut M,
-    input: &mut I,
-    out: &mut O,
-    buf: &mut [u8],
-    text: &mut Octets,
-) -> PumpTurn
-    requires { 0 < length buf.old }
-    ensures bound { result.read ≤ length buf.new }
-    ensures moved { MovesOn (I.left input.old) (I.left input.new) (I.taken input.old) (I.taken input.new)
-        (take result.read buf.new) }
-    ensures turned { (o : List ℕ) → M.fed machine.old o → (M.says machine.old).is_stopped o ≡ false →
-        Turned result.next (M.fed machine.new) (M.says machine.old) o (take result.read buf.new)
-        (I.left input.new) (O.written out.old) (O.written out.new)
-        (Rose (I.faults input.old) (I.faults input.new)) (Rose (O.faults out.old) (O.faults out.new)) }
-    ensures same { M.says machine.new ≡ M.says machine.old }
-    ensures reads { I.faults input.old ≤ I.faults input.new }
-    ensures writes { O.faults out.old ≤ O.faults out.new }
-{
-    let Ok(read) = input.read(buf) else {
-        return PumpTurn {
-            read: 0,
-            next: Onward::Fail(Status::ReadFault),
+impl PumpText {
+    // Writes the text that comes before any input is read.
+    fn begin<M: Machine, O: Sink>(&mut self, machine: &M, out: &mut O) -> Result<(), Status>
+        ensures begun { M.fed machine.now [] →
+            OnOk result (Appends (O.written out.old) (O.written out.new) ((M.says machine.now).text [])) }
+        ensures refused { M.fed machine.now [] →
+            IfErr result (λ status. Refuses status (Rose (O.faults out.old) (O.faults out.new))
+            (AppendsFront (O.written out.old) (O.written out.new) ((M.says machine.now).text []))) }
+        ensures writes { O.faults out.old ≤ O.faults out.new }
+    {
+        self.room.clear();
+        let Ok(()) = machine.begin(&mut self.room) else {
+            return Err(Status::OutOfMemory);
         };
-    };
-    if read == 0 {
-        return PumpTurn {
-            read,
-            next: Onward::Finish,
-        };
+        write_text(out, self.room.as_slice())
     }
-    let next = tell(machine, &buf[..read], out, text);
-    PumpTurn { read, next }
-}
 
-// Takes the end of the input, of which so many octets were taken, and writes the last text.
-fn finish<M: Machine, O: Sink>(machine: &M, taken: u64, out: &mut O, text: &mut Octets) -> Status
-    ensures finishes { (o : List ℕ) → M.fed machine.now o → length o ≡ taken →
-        Finishes result (M.says machine.now) o (O.written out.old) (O.written out.new)
-        (Rose (O.faults out.old) (O.faults out.new)) }
-    ensures writes { O.faults out.old ≤ O.faults out.new }
-{
-    text.clear();
-    let is_bad = match machine.finish(taken, text) {
-        Ok(is_bad) => is_bad,
-        Err(OutOfMemory) => return Status::OutOfMemory,
-    };
-    match write_text(out, text.as_slice()) {
-        Ok(()) if is_bad => Status::BadInput,
-        Ok(()) => Status::Done,
-        Err(status) => status,
+    // Feeds a piece and writes its text.
+    fn tell<M: Machine, O: Sink>(&mut self, machine: &mut M, piece: &[u8], out: &mut O) -> Onward
+        ensures told { (o : List ℕ) → M.fed machine.old o → (M.says machine.old).is_stopped o ≡ false →
+            Told result (M.fed machine.new) (M.says machine.old) o piece.now (O.written out.old) (O.written out.new)
+            (Rose (O.faults out.old) (O.faults out.new)) }
+        ensures same { M.says machine.new ≡ M.says machine.old }
+        ensures writes { O.faults out.old ≤ O.faults out.new }
+    {
+        self.room.clear();
+        let Ok(going) = machine.feed(piece, &mut self.room) else {
+            return Onward::Fail(Status::OutOfMemory);
+        };
+        match write_text(out, self.room.as_slice()) {
+            Ok(()) => {}
+            Err(status) => return Onward::Fail(status),
+        }
+        match going {
+            Going::On => Onward::Go,
+            Going::Stop => Onward::Finish,
+        }
+    }
+
+    // Reads one piece, feeds it and writes its text.
+    fn take_turn<M: Machine, I: Source, O: Sink>(
+        &mut self,
+        machine: &mut M,
+        input: &mut I,
+        out: &mut O,
+        buf: &mut [u8],
+    ) -> PumpTurn
+        requires { 0 < length buf.old }
+        ensures bound { result.read ≤ length buf.new }
+        ensures moved { MovesOn (I.left input.old) (I.left input.new) (I.taken input.old) (I.taken input.new)
+            (take result.read buf.new) }
+        ensures turned { (o : List ℕ) → M.fed machine.old o → (M.says machine.old).is_stopped o ≡ false →
+            Turned result.next (M.fed machine.new) (M.says machine.old) o (take result.read buf.new)
+            (I.left input.new) (O.written out.old) (O.written out.new)
+            (Rose (I.faults input.old) (I.faults input.new)) (Rose (O.faults out.old) (O.faults out.new)) }
+        ensures same { M.says machine.new ≡ M.says machine.old }
+        ensures reads { I.faults input.old ≤ I.faults input.new }
+        ensures writes { O.faults out.old ≤ O.faults out.new }
+    {
+        let Ok(read) = input.read(buf) else {
+            return PumpTurn {
+                read: 0,
+                next: Onward::Fail(Status::ReadFault),
+            };
+        };
+        if read == 0 {
+            return PumpTurn {
+                read,
+                next: Onward::Finish,
+            };
+        }
+        let next = self.tell(machine, &buf[..read], out);
+        PumpTurn { read, next }
+    }
+
+    // Takes the end of the input, of which so many octets were taken, and writes the last text.
+    fn finish<M: Machine, O: Sink>(&mut self, machine: &M, taken: u64, out: &mut O) -> Status
+        ensures finishes { (o : List ℕ) → M.fed machine.now o → length o ≡ taken →
+            Finishes result (M.says machine.now) o (O.written out.old) (O.written out.new)
+            (Rose (O.faults out.old) (O.faults out.new)) }
+        ensures writes { O.faults out.old ≤ O.faults out.new }
+    {
+        self.room.clear();
+        let is_bad = match machine.finish(taken, &mut self.room) {
+            Ok(is_bad) => is_bad,
+            Err(OutOfMemory) => return Status::OutOfMemory,
+        };
+        match write_text(out, self.room.as_slice()) {
+            Ok(()) if is_bad => Status::BadInput,
+            Ok(()) => Status::Done,
+            Err(status) => status,
+        }
     }
 }
 
@@ -178,19 +181,21 @@ pub fn pump<M: Machine, I: Source, O: Sink>(
     let Ok(mut buf) = zeros(alloc, PORTION) else {
         return Status::OutOfMemory;
     };
-    let mut text = Octets::new(alloc);
-    match begin(machine, out, &mut text) {
+    let mut text = PumpText {
+        room: Octets::new(alloc),
+    };
+    match text.begin(machine, out) {
         Ok(()) => {}
         Err(status) => return status,
     }
     let mut taken: u64 = 0;
     while taken < limit {
         let room = portion(limit - taken);
-        let turn = take_turn(machine, input, out, &mut buf[..room], &mut text);
+        let turn = text.take_turn(machine, input, out, &mut buf[..room]);
         taken += turn.read as u64;
         match turn.next {
             Onward::Go => {}
-            Onward::Finish => return finish(machine, taken, out, &mut text),
+            Onward::Finish => return text.finish(machine, taken, out),
             Onward::Fail(status) => return status,
         }
     }

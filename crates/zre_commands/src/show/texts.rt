@@ -1,8 +1,8 @@
 //! The texts of what messages mean.
 
 ghost use Rattle.std.specs.Prelude.{◌≡◌, ◌++◌, OnOk};
-ghost use Rattle.zre_commands.specs.show.Lines.{head_text, sender_text, hello_text, whisper_text, shout_text};
-ghost use Rattle.zre_commands.specs.show.Lines.{group_text, other_text, body_text, why_text, bad_text};
+ghost use Rattle.zre_commands.specs.show.Lines.{head_text, place_text, sender_text, whisper_text, shout_text};
+ghost use Rattle.zre_commands.specs.show.Lines.{change_text, other_text, body_text, why_text, bad_text};
 
 use zre_msg::{Bad, BadWhy, Body};
 use zre_values::{
@@ -21,32 +21,27 @@ fn push_head(out: &mut Octets, word: &[u8], sequence: u16) -> Result<(), OutOfMe
 fn push_sender(out: &mut Octets, name: &Octets, headers: &Pairs) -> Result<(), OutOfMemory>
     ensures { OnOk result (out.new ≡ out.old ++ sender_text name.now headers.now) }
 {
+    out.push(b' ')?;
     push_quoted(out, name.as_slice())?;
     out.push(b' ')?;
     push_quoted_pairs(out, headers)
 }
 
-fn push_hello(
+// Where the sender of HELLO is reached, its groups and its status, after the head.
+fn push_place(
     out: &mut Octets,
-    sequence: u16,
     endpoint: &Octets,
     groups: &Frames,
     status: u8,
-    name: &Octets,
-    headers: &Pairs,
 ) -> Result<(), OutOfMemory>
-    ensures { OnOk result (out.new ≡ out.old
-        ++ hello_text sequence endpoint.now groups.now status name.now headers.now) }
+    ensures { OnOk result (out.new ≡ out.old ++ place_text endpoint.now groups.now status) }
 {
-    push_head(out, b"HELLO", sequence)?;
     out.push(b' ')?;
     push_quoted(out, endpoint.as_slice())?;
     out.push(b' ')?;
     push_quoted_frames(out, groups)?;
     out.push(b' ')?;
-    push_decimal(out, u64::from(status))?;
-    out.push(b' ')?;
-    push_sender(out, name, headers)
+    push_decimal(out, u64::from(status))
 }
 
 /// Appends the text of a WHISPER. After an error a front of it may stand there, as after every call of this module.
@@ -78,16 +73,10 @@ pub(crate) fn push_shout(
     push_quoted_list(out, content)
 }
 
-fn push_group(
-    out: &mut Octets,
-    word: &[u8],
-    sequence: u16,
-    group: &Octets,
-    status: u8,
-) -> Result<(), OutOfMemory>
-    ensures { OnOk result (out.new ≡ out.old ++ group_text word.now sequence group.now status) }
+// The group and the status of a change, after the head.
+fn push_change(out: &mut Octets, group: &Octets, status: u8) -> Result<(), OutOfMemory>
+    ensures { OnOk result (out.new ≡ out.old ++ change_text group.now status) }
 {
-    push_head(out, word, sequence)?;
     out.push(b' ')?;
     push_quoted(out, group.as_slice())?;
     out.push(b' ')?;
@@ -113,11 +102,21 @@ pub(crate) fn push_body(out: &mut Octets, sequence: u16, body: &Body) -> Result<
             status,
             name,
             headers,
-        } => push_hello(out, sequence, endpoint, groups, *status, name, headers),
+        } => {
+            push_head(out, b"HELLO", sequence)?;
+            push_place(out, endpoint, groups, *status)?;
+            push_sender(out, name, headers)
+        }
         Body::Whisper { content } => push_whisper(out, sequence, content.as_slice()),
         Body::Shout { group, content } => push_shout(out, sequence, group, content.as_slice()),
-        Body::Join { group, status } => push_group(out, b"JOIN", sequence, group, *status),
-        Body::Leave { group, status } => push_group(out, b"LEAVE", sequence, group, *status),
+        Body::Join { group, status } => {
+            push_head(out, b"JOIN", sequence)?;
+            push_change(out, group, *status)
+        }
+        Body::Leave { group, status } => {
+            push_head(out, b"LEAVE", sequence)?;
+            push_change(out, group, *status)
+        }
         Body::Ping => push_head(out, b"PING", sequence),
         Body::PingOk => push_head(out, b"PING-OK", sequence),
         Body::Other { number, .. } => push_other(out, sequence, *number),

@@ -67,39 +67,41 @@ fn keep_first(first: &mut Bytes, count: u64, message: &Bytes) -> Result<(), OutO
     Ok(())
 }
 
-// So many messages were put on a link, and this waits on it: at most one message more than before. Gives how many
-// octets all messages have, where they had so many before.
-fn note(
-    line: &mut Line,
-    first: &mut Bytes,
-    octets: u64,
-    sent: u64,
-    waits: &Queue,
-) -> Result<u64, OutOfMemory>
-    ensures noted { OnOk result (IsNoted sent waits.now line.old line.new) }
-    ensures octets { IfOk result (λ all. all + message_octets line.old ≡ octets + message_octets line.new) }
-    ensures unchanged { OnErr result (line.new ≡ line.old) }
-{
-    let count = line.messages.len() as u64;
-    if sent == count {
-        line.waited = waits.len();
-        return Ok(octets);
+impl Line {
+    // So many messages were put on it, and this waits on it: at most one message more than before. Gives how many
+    // octets all messages have, where they had so many before.
+    fn note(
+        &mut self,
+        first: &mut Bytes,
+        octets: u64,
+        sent: u64,
+        waits: &Queue,
+    ) -> Result<u64, OutOfMemory>
+        ensures noted { OnOk result (IsNoted sent waits.now self.old self.new) }
+        ensures octets { IfOk result (λ all. all + message_octets self.old ≡ octets + message_octets self.new) }
+        ensures unchanged { OnErr result (self.new ≡ self.old) }
+    {
+        let count = self.messages.len() as u64;
+        if sent == count {
+            self.waited = waits.len();
+            return Ok(octets);
+        }
+        if sent != count.saturating_add(1) || waits.len() < self.waited {
+            return Err(OutOfMemory);
+        }
+        let message = shared(first, waits.last(waits.len() - self.waited)?)?;
+        let Some(all) = octets.checked_add(message.len() as u64) else {
+            drop(message);
+            return Err(OutOfMemory);
+        };
+        let Ok(()) = keep_first(first, count, &message) else {
+            drop(message);
+            return Err(OutOfMemory);
+        };
+        self.messages.push(message)?;
+        self.waited = waits.len();
+        Ok(all)
     }
-    if sent != count.saturating_add(1) || waits.len() < line.waited {
-        return Err(OutOfMemory);
-    }
-    let message = shared(first, waits.last(waits.len() - line.waited)?)?;
-    let Some(all) = octets.checked_add(message.len() as u64) else {
-        drop(message);
-        return Err(OutOfMemory);
-    };
-    let Ok(()) = keep_first(first, count, &message) else {
-        drop(message);
-        return Err(OutOfMemory);
-    };
-    line.messages.push(message)?;
-    line.waited = waits.len();
-    Ok(all)
 }
 
 impl Lines {
@@ -148,7 +150,7 @@ impl Lines {
             return Err(OutOfMemory);
         }
         let line = &mut self.rows[place];
-        self.octets = note(line, &mut self.first, self.octets, sent, waits)?;
+        self.octets = line.note(&mut self.first, self.octets, sent, waits)?;
         Ok(())
     }
 }

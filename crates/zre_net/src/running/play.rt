@@ -8,7 +8,8 @@ ghost use Rattle.zre_net.specs.Running.{StandsAfter, IsPlayed, IsTaken};
 use crate::limits::{PENDING_OCTETS, QUEUED_OCTETS};
 use crate::moves::Move;
 use crate::running::network::Network;
-use zre_values::OutOfMemory;
+use zre_journal::Config;
+use zre_values::{OutOfMemory, Pairs};
 
 impl Network {
     // A move comes. Answers whether it may, but for the octets.
@@ -23,7 +24,18 @@ impl Network {
                 name,
                 host,
                 port,
-            } => self.start(node, at, id, name, host, port),
+            } => {
+                let config = Config {
+                    id,
+                    name,
+                    headers: Pairs::new(self.alloc),
+                    host,
+                    port,
+                    evasive: 5000,
+                    expired: 30000,
+                };
+                self.start(node, at, config)
+            }
             Move::Crash { node } => self.crash(node),
             Move::Tick { node, at } => self.tick(node, at),
             Move::Do { node, at, command } => self.ask(node, at, command),

@@ -20,7 +20,7 @@ use std::alloc::Global;
 use zre_journal::Config;
 use zre_node::Node;
 use zre_outside::{Command, Input};
-use zre_values::{Octets, OutOfMemory, Pairs, PeerId};
+use zre_values::{Octets, OutOfMemory, PeerId};
 use zre_zmtp::{SocketType, greeting, ready};
 
 // The node that is found gets an entry; where none is found, the move may not come.
@@ -32,21 +32,6 @@ macro_rules! bring {
         $network.turn($start, $at, $input)?;
         Ok(true)
     }};
-}
-
-// The settings of a node of a schedule.
-fn settings(alloc: Global, id: PeerId, name: Octets, host: [u8; 4], port: u16) -> Config
-    ensures { result ≡ settings_of id name host port }
-{
-    Config {
-        id,
-        name,
-        headers: Pairs::new(alloc),
-        host,
-        port,
-        evasive: 5000,
-        expired: 30000,
-    }
 }
 
 // Whether none runs.
@@ -131,28 +116,17 @@ impl Network {
         )
     }
 
-    /// A node starts.
-    pub fn start(
-        &mut self,
-        node: u8,
-        at: u64,
-        id: PeerId,
-        name: Octets,
-        host: [u8; 4],
-        port: u16,
-    ) -> Result<bool, OutOfMemory>
-        ensures { (H : List Happening) → StandsAfter H self.old →
-            IfOk result (λ may. IsPlayed (MoveValue.Start node at id name host port) H may self.new) }
+    /// A node starts with the settings of a schedule.
+    pub fn start(&mut self, node: u8, at: u64, config: Config) -> Result<bool, OutOfMemory>
+        requires { config ≡ settings_of config.id config.name config.host config.port }
+        ensures { (H : List Happening) → StandsAfter H self.old → IfOk result (λ may.
+            IsPlayed (MoveValue.Start node at config.id config.name config.host config.port) H may self.new) }
     {
-        if !self.may_start(node, id, port) {
+        let id = config.id;
+        if !self.may_start(node, id, config.port) {
             return Ok(false);
         }
-        let started = begin(
-            self.alloc,
-            node,
-            at,
-            settings(self.alloc, id, name, host, port),
-        )?;
+        let started = begin(self.alloc, node, at, config)?;
         self.started.push(started)?;
         self.owners.push(Owner { node, id })?;
         set_running(&mut self.running, node, Some(self.started.len() as u64))?;

@@ -1,6 +1,6 @@
 use Rattle.std.proofs.Common.{[], take, refl, ap, ◌∙◌, arith}
 use Rattle.std.proofs.lemmas.List.{length-take, length-take-le}
-use Rattle.zre_commands.proofs.pump.Reach.{Moves-nil, front_longer, starts, goes_on, Rose-since, refused, finishes_on, fails_on}
+use Rattle.zre_commands.proofs.pump.Reach.{MovesOn-nil, front_longer, starts, goes_on, Rose-since, refused, finishes_on, fails_on}
 use Rattle.zre_commands.proofs.pump.pumping.pump.Goals as goal
 
 pub loop-taken-init : goal.loop-taken-init
@@ -18,7 +18,7 @@ returns-in-Err-clause-pumped g c =
     let m = g.M.Machine.says c.args.machine.now in
     record {
       octets = [];
-      moved = Moves-nil _ _;
+      moved = MovesOn-nil _ _;
       within = omega arith;
       outcome = refused c.in-Err.status c.args.limit m [] _ _ _ _ _ _ _ (λ r. r) (front_longer _ _ (m.text []) (m.ending [])) (c.in-Err.ensures.refused c.requires.start);
     }

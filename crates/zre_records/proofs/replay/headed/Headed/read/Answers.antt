@@ -12,7 +12,7 @@ returns g c = λ o h going.
     let told = c.settings.ensures Second (o ++ c.args.piece.now) r.is in
     record {
       reads = r.is;
-      lives = subst (λ (u : Option Settings). Made g.N.Lived.stands u (journal Second o) c.make.new.made) told
+      lives = subst (λ (u : Option Settings). Made g.N.LivedNode.stands u (journal Second o) c.make.new.made) told
           (c.in_ok-make.ensures (settings Second o) (journal Second o) h.lives (tells o c.args.piece.now _ told));
       more = r.more;
     }

@@ -1,6 +1,6 @@
 use Rattle.std.proofs.Common.{[], refl}
 use Rattle.std.proofs.KnownBytes.{Appends-nil}
-use Rattle.zre_commands.proofs.pump.pumping.tell.Goals as goal
+use Rattle.zre_commands.proofs.pump.pumping.PumpText.tell.Goals as goal
 
 pub returns-in_default-clause-told : goal.returns-in_default-clause-told
 returns-in_default-clause-told g c = λ o h going.
