@@ -1,4 +1,4 @@
-pub mod CommandQueue
+pub mod Commands
 pub mod Events
 pub mod Passes
 pub mod Work

@@ -24,75 +24,89 @@ use zre_outside::{Act, Entry, NextFault, Recorder, World};
 use zre_peer::Events;
 use zre_values::{Octets, OutOfMemory};
 
-/// Puts an entry to the recorder, where that is wanted, after an entry with the reading `before`, which is this entry's
-/// from then on, steps the node with it, and has the world do the acts. What is to be told comes back. The line that
-/// is put is made in the buffer, whatever stood there.
-pub(crate) fn take_entry<W: World, R: Recorder>(
-    world: &mut W,
-    node: &mut Node,
-    rec: &mut R,
-    buffer: &mut Octets,
-    keep: bool,
-    before: &mut u64,
-    entry: Entry,
-) -> Result<Events, Ending>
-    requires { keep ≡ true → R.begun rec.old ≡ true }
-    ensures ok { (g : Config) (J : List EntryValue) → StandsFor g J node.old
-        → IfOk result (λ es. Went g J entry keep before.old (W.told world.old) (W.told world.new) (R.kept rec.old)
-        (R.kept rec.new) node.new es) }
-    ensures next { OnOk result (before.new ≡ entry.at) }
-    ensures broke { (g : Config) (J : List EntryValue) → StandsFor g J node.old
-        → IfErr result (λ x. Broke g J entry keep before.old (W.told world.old) (W.told world.new) (R.kept rec.old)
-        (R.kept rec.new) (R.faults rec.old) (R.faults rec.new) node.new x) }
-    ensures world { (W.looked world.new ≡ W.looked world.old) × (W.faults world.new ≡ W.faults world.old) }
-    ensures unkept { keep ≡ false → rec.new ≡ rec.old }
-    ensures begun { R.begun rec.new ≡ R.begun rec.old }
-    ensures named { Keeps (R.named rec.old) (R.named rec.new) }
-    ensures later { R.faults rec.old ≤ R.faults rec.new }
-    ensures value { IsEntry entry }
-{
-    is_value(&entry);
-    if let Err(ending) = keep_line(rec, buffer, keep, *before, &entry) {
-        drop(entry);
-        return Err(ending);
-    }
-    *before = entry.at;
-    let Ok(Step { events, acts }) = node.step(entry) else {
-        return Err(Ending::OutOfMemory);
-    };
-    if do_all(world, node, acts.as_slice()) {
-        drop(acts);
-        Ok(events)
-    } else {
-        drop(acts);
-        drop(events);
-        Err(Ending::OutOfMemory)
+/// Where a node's entries are put as lines.
+pub(crate) struct Recording<R> {
+    /// What takes the lines.
+    pub rec: R,
+    /// Whether any are put.
+    pub keep: bool,
+    /// The reading of the entry before.
+    pub before: u64,
+    /// Where a line is made, whatever stood there.
+    pub buffer: Octets,
+}
+
+/// A node at work: it is in a world, and its entries are recorded.
+pub(crate) struct Actor<W, R> {
+    pub world: W,
+    pub node: Node,
+    pub recording: Recording<R>,
+}
+
+impl<W: World, R: Recorder> Actor<W, R> {
+    /// Puts the line of an entry to the recorder, where that is wanted, steps the node with the entry, and has the
+    /// world do the acts. What is to be told comes back.
+    pub(crate) fn take_entry(&mut self, entry: Entry) -> Result<Events, Ending>
+        requires { self.old.recording.keep ≡ true → R.begun self.old.recording.rec ≡ true }
+        ensures ok { (g : Config) (J : List EntryValue) → StandsFor g J self.old.node
+            → IfOk result (λ es. Went g J entry self.old.recording.keep self.old.recording.before
+            (W.told self.old.world) (W.told self.new.world)
+            (R.kept self.old.recording.rec) (R.kept self.new.recording.rec) self.new.node es) }
+        ensures next { OnOk result (self.new.recording.before ≡ entry.at) }
+        ensures broke { (g : Config) (J : List EntryValue) → StandsFor g J self.old.node
+            → IfErr result (λ x. Broke g J entry self.old.recording.keep self.old.recording.before
+            (W.told self.old.world) (W.told self.new.world)
+            (R.kept self.old.recording.rec) (R.kept self.new.recording.rec)
+            (R.faults self.old.recording.rec) (R.faults self.new.recording.rec) self.new.node x) }
+        ensures world { (W.looked self.new.world ≡ W.looked self.old.world)
+            × (W.faults self.new.world ≡ W.faults self.old.world) }
+        ensures keep { self.new.recording.keep ≡ self.old.recording.keep }
+        ensures unkept { self.old.recording.keep ≡ false → self.new.recording.rec ≡ self.old.recording.rec }
+        ensures begun { R.begun self.new.recording.rec ≡ R.begun self.old.recording.rec }
+        ensures named { Keeps (R.named self.old.recording.rec) (R.named self.new.recording.rec) }
+        ensures later { R.faults self.old.recording.rec ≤ R.faults self.new.recording.rec }
+        ensures value { IsEntry entry }
+    {
+        is_value(&entry);
+        if let Err(ending) = self.recording.keep_line(&entry) {
+            drop(entry);
+            return Err(ending);
+        }
+        self.recording.before = entry.at;
+        let Ok(Step { events, acts }) = self.node.step(entry) else {
+            return Err(Ending::OutOfMemory);
+        };
+        if do_all(&mut self.world, &self.node, acts.as_slice()) {
+            drop(acts);
+            Ok(events)
+        } else {
+            drop(acts);
+            drop(events);
+            Err(Ending::OutOfMemory)
+        }
     }
 }
 
-// Puts the line of an entry after this reading, where that is wanted.
-fn keep_line<R: Recorder>(
-    rec: &mut R,
-    buffer: &mut Octets,
-    keep: bool,
-    before: u64,
-    entry: &Entry,
-) -> Result<(), Ending>
-    requires { keep ≡ true → R.begun rec.old ≡ true }
-    ensures kept { OnOk result (keep ≡ true
-        → Appends (R.kept rec.old) (R.kept rec.new) (line Second before entry.now)) }
-    ensures broke { IfErr result (λ x. (keep ≡ true)
-        × AppendsFront (R.kept rec.old) (R.kept rec.new) (line Second before entry.now)
-        × IsRefusal (R.faults rec.old) (R.faults rec.new) x) }
-    ensures unkept { keep ≡ false → rec.new ≡ rec.old }
-    ensures begun { R.begun rec.new ≡ R.begun rec.old }
-    ensures named { Keeps (R.named rec.old) (R.named rec.new) }
-    ensures later { R.faults rec.old ≤ R.faults rec.new }
-{
-    if keep {
-        put_line(rec, buffer, before, entry)
-    } else {
-        Ok(())
+impl<R: Recorder> Recording<R> {
+    // Puts the line of an entry, where that is wanted.
+    fn keep_line(&mut self, entry: &Entry) -> Result<(), Ending>
+        requires { self.old.keep ≡ true → R.begun self.old.rec ≡ true }
+        ensures kept { OnOk result (self.old.keep ≡ true
+            → Appends (R.kept self.old.rec) (R.kept self.new.rec) (line Second self.old.before entry.now)) }
+        ensures broke { IfErr result (λ x. (self.old.keep ≡ true)
+            × AppendsFront (R.kept self.old.rec) (R.kept self.new.rec) (line Second self.old.before entry.now)
+            × IsRefusal (R.faults self.old.rec) (R.faults self.new.rec) x) }
+        ensures keep { self.new.keep ≡ self.old.keep }
+        ensures unkept { self.old.keep ≡ false → self.new.rec ≡ self.old.rec }
+        ensures begun { R.begun self.new.rec ≡ R.begun self.old.rec }
+        ensures named { Keeps (R.named self.old.rec) (R.named self.new.rec) }
+        ensures later { R.faults self.old.rec ≤ R.faults self.new.rec }
+    {
+        if self.keep {
+            put_line(&mut self.rec, &mut self.buffer, self.before, entry)
+        } else {
+            Ok(())
+        }
     }
 }
 

@@ -11,7 +11,7 @@ ghost use Rattle.zre_actor.specs.declared.ending.Ending.TheVariants as ending;
 ghost use Rattle.zre_actor.specs.Passes.{IsActorOf, popped_by, raised_by, unused_by, ending_of};
 ghost use Rattle.zre_actor.specs.Work.{IsWork, scene, world_ending};
 
-use crate::doing::take_entry;
+use crate::doing::{Actor, Recording};
 use crate::passes::{ActorPass, Pipes};
 use crate::{Ending, Told};
 use std::sync::Wait;
@@ -39,10 +39,10 @@ impl Pipes {
     pub fn work<W: World, R: Recorder, T: Wait + Copy>(
         &self,
         rt: T,
-        mut world: W,
-        mut node: Node,
+        world: W,
+        node: Node,
         mut pass: ActorPass,
-        mut rec: R,
+        rec: R,
         keep: bool,
         limit: u64,
     ) -> Worked<W, R>
@@ -61,61 +61,69 @@ impl Pipes {
             (R.kept result.rec) (R.faults result.rec) result.pass)
             result.node result.ending }
     {
-        let mut buffer = Octets::new(self.alloc);
-        let mut before = 0;
+        let mut actor = Actor {
+            world,
+            node,
+            recording: Recording {
+                rec,
+                keep,
+                before: 0,
+                buffer: Octets::new(self.alloc),
+            },
+        };
         let mut command = None;
         for turn in 0..limit {
-            if node.stopped() {
+            if actor.node.stopped() {
                 drop(command);
-                return self.leave(rt, world, node, rec, pass, Ending::Stopped);
+                return self.leave(rt, actor, pass, Ending::Stopped);
             }
-            let answer = match world.next(command) {
+            let answer = match actor.world.next(command) {
                 Ok(answer) => answer,
-                Err(fault) => return self.leave(rt, world, node, rec, pass, ending_by(fault)),
+                Err(fault) => return self.leave(rt, actor, pass, ending_by(fault)),
             };
             command = None;
             match answer {
                 Turn::Look if turn + 1 < limit => (pass, command) = self.pop(rt, pass),
                 Turn::Look => {}
-                Turn::Entry(entry) => {
-                    match take_entry(
-                        &mut world,
-                        &mut node,
-                        &mut rec,
-                        &mut buffer,
-                        keep,
-                        &mut before,
-                        entry,
-                    ) {
-                        Ok(events) => pass = self.raise_all(rt, pass, events),
-                        Err(ending) => return self.leave(rt, world, node, rec, pass, ending),
-                    }
-                }
+                Turn::Entry(entry) => match actor.take_entry(entry) {
+                    Ok(events) => pass = self.raise_all(rt, pass, events),
+                    Err(ending) => return self.leave(rt, actor, pass, ending),
+                },
             }
         }
         drop(command);
-        let ending = last_ending(&node);
-        self.leave(rt, world, node, rec, pass, ending)
+        let ending = last_ending(&actor.node);
+        self.leave(rt, actor, pass, ending)
     }
 
     // Pushes Last.
     fn leave<W, R, T: Wait + Copy>(
         &self,
         rt: T,
-        world: W,
-        node: Node,
-        rec: R,
+        actor: Actor<W, R>,
         pass: ActorPass,
         ending: Ending,
     ) -> Worked<W, R>
         requires pipes { IsActorOf self.now pass }
         requires open { ending_of pass ≡ None }
         ensures pipes { IsActorOf self.now result.pass × (unused_by result.pass ≡ unused_by pass) }
-        ensures same { (result.world ≡ world) × (result.node ≡ node) × (result.rec ≡ rec) × (result.ending ≡ ending) }
+        ensures same { (result.world ≡ actor.world) × (result.node ≡ actor.node)
+            × (result.rec ≡ actor.recording.rec) × (result.ending ≡ ending) }
         ensures ending { ending_of result.pass ≡ Some ending }
         ensures pass { (popped_by result.pass ≡ popped_by pass) × (raised_by result.pass ≡ raised_by pass)
             × (result.pass.empties ≡ pass.empties) }
     {
+        let Actor {
+            world,
+            node,
+            recording: Recording {
+                rec,
+                keep: _,
+                before: _,
+                buffer,
+            },
+        } = actor;
+        drop(buffer);
         let pass = self.push(rt, pass, Told::Last(ending));
         Worked {
             world,

@@ -9,7 +9,7 @@ use Rattle.zre_outside.specs.Told.{MovesOn}
 use Rattle.zre_actor.specs.declared.passes.CallerPass.{CallerPass}
 use Rattle.zre_console.specs.lines.Orders.{is_quit, typed, orders, asked, Begins}
 use Rattle.zre_console.specs.lines.Typing.{Typing, Typed}
-use Rattle.zre_commands.proofs.pump.Reach.{Moves-nil, Moves-trans, counted_more}
+use Rattle.zre_commands.proofs.pump.Reach.{MovesOn-nil, MovesOn-trans, counted_more}
 use Rattle.zre_console.proofs.lines.Quits.{typed-begin, asked-quits, asked-begins, asked-typed, quit-short}
 use Rattle.zre_console.specs.declared.reader.ending.InputEnd.{InputEnd}
 use Rattle.zre_console.specs.declared.reader.ending.InputEnd.TheVariants as ends

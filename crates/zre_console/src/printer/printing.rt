@@ -29,78 +29,80 @@ pub struct Printed {
     pub fault: Option<NextFault>,
 }
 
-// The next event, or Last. Before it waits, the page is written; while a Quit is still to be put it doesn't wait.
-fn next_told<O: Sink, T: Wait + Copy>(
-    rt: T,
-    pipes: &Pipes,
-    taker: TakerPass,
-    page: &mut Page,
-    out: &mut O,
-    wish: Wish,
-) -> (TakerPass, Option<Told>)
-    requires pipes { IsTakerOf pipes.now taker }
-    requires open { last_of taker ≡ None }
-    ensures pipes { IsTakerOf pipes.now result.0 }
-    ensures told { MatchOption result.1 ((taken_by result.0 ≡ taken_by taker) × (last_of result.0 ≡ last_of taker))
-        (λ told. IsTold taker told result.0) }
-    ensures shows { (w : Option (List ℕ)) (es : List EventValue) → Shows page.old w (O.written out.old) es
-        → Shows page.new w (O.written out.new) es }
-    ensures later { O.faults out.old ≤ O.faults out.new }
-    ensures failed { page.new.fault ≡ Some Failed → (page.old.fault ≡ Some Failed)
-        ⊎ Rose (O.faults out.old) (O.faults out.new) }
-    ensures stays { IsSome page.old.fault → page.new.fault ≡ page.old.fault }
-{
-    let (taker, found) = pipes.try_take(rt, taker);
-    if found.is_some() {
-        return (taker, found);
-    }
-    drop(found);
-    page.write(out);
-    if wish == Wish::Due || (wish == Wish::No && page.fault.is_some()) {
-        return (taker, None);
-    }
-    let (taker, told) = pipes.take(rt, taker);
-    (taker, Some(told))
-}
-
-// Takes what is next and prints it, if anything is. True after Last, where all is written that can be.
-fn print_next<O: Sink, T: Wait + Copy>(
-    rt: T,
-    pipes: &Pipes,
-    taker: TakerPass,
-    asker: Asker,
-    page: &mut Page,
-    out: &mut O,
-) -> (TakerPass, Asker, bool)
-    requires pipes { IsTakerOf pipes.now taker × IsCallerOf pipes.now asker.pass }
-    requires open { last_of taker ≡ None }
-    ensures pipes { IsTakerOf pipes.now result.0 × IsCallerOf pipes.now result.1.pass }
-    ensures last { IsLast result.2 (last_of result.0) }
-    ensures written { result.2 ≡ true → page.new.fault ≡ None → page.new.text ≡ [] }
-    ensures prints { (first : AskerValue) (start : TakerPassValue) (w : Option (List ℕ))
-        → Prints first start w asker taker page.old (O.written out.old) →
-        Prints first start w result.1 result.0 page.new (O.written out.new) }
-    ensures later { O.faults out.old ≤ O.faults out.new }
-    ensures failed { page.new.fault ≡ Some Failed → (page.old.fault ≡ Some Failed)
-        ⊎ Rose (O.faults out.old) (O.faults out.new) }
-{
-    let asker = asker.ask(rt, pipes, page.fault.is_some());
-    let (taker, found) = next_told(rt, pipes, taker, page, out, asker.wish);
-    match found {
-        None => {
-            yield_now();
-            (taker, asker, false)
+impl Page {
+    // The next event, or Last. Before it waits, the page is written; while a Quit is still to be put it doesn't wait.
+    fn next_told<O: Sink, T: Wait + Copy>(
+        &mut self,
+        rt: T,
+        pipes: &Pipes,
+        taker: TakerPass,
+        out: &mut O,
+        wish: Wish,
+    ) -> (TakerPass, Option<Told>)
+        requires pipes { IsTakerOf pipes.now taker }
+        requires open { last_of taker ≡ None }
+        ensures pipes { IsTakerOf pipes.now result.0 }
+        ensures told { MatchOption result.1 ((taken_by result.0 ≡ taken_by taker) × (last_of result.0 ≡ last_of taker))
+            (λ told. IsTold taker told result.0) }
+        ensures shows { (w : Option (List ℕ)) (es : List EventValue) → Shows self.old w (O.written out.old) es
+            → Shows self.new w (O.written out.new) es }
+        ensures later { O.faults out.old ≤ O.faults out.new }
+        ensures failed { self.new.fault ≡ Some Failed → (self.old.fault ≡ Some Failed)
+            ⊎ Rose (O.faults out.old) (O.faults out.new) }
+        ensures stays { IsSome self.old.fault → self.new.fault ≡ self.old.fault }
+    {
+        let (taker, found) = pipes.try_take(rt, taker);
+        if found.is_some() {
+            return (taker, found);
         }
-        Some(told) => match told {
-            Told::Event(event) => {
-                page.print(&event, out);
+        drop(found);
+        self.write(out);
+        if wish == Wish::Due || (wish == Wish::No && self.fault.is_some()) {
+            return (taker, None);
+        }
+        let (taker, told) = pipes.take(rt, taker);
+        (taker, Some(told))
+    }
+
+    // Takes what is next and prints it, if anything is. True after Last, where all is written that can be.
+    fn print_next<O: Sink, T: Wait + Copy>(
+        &mut self,
+        rt: T,
+        pipes: &Pipes,
+        taker: TakerPass,
+        asker: Asker,
+        out: &mut O,
+    ) -> (TakerPass, Asker, bool)
+        requires pipes { IsTakerOf pipes.now taker × IsCallerOf pipes.now asker.pass }
+        requires open { last_of taker ≡ None }
+        ensures pipes { IsTakerOf pipes.now result.0 × IsCallerOf pipes.now result.1.pass }
+        ensures last { IsLast result.2 (last_of result.0) }
+        ensures written { result.2 ≡ true → self.new.fault ≡ None → self.new.text ≡ [] }
+        ensures prints { (first : AskerValue) (start : TakerPassValue) (w : Option (List ℕ))
+            → Prints first start w asker taker self.old (O.written out.old) →
+            Prints first start w result.1 result.0 self.new (O.written out.new) }
+        ensures later { O.faults out.old ≤ O.faults out.new }
+        ensures failed { self.new.fault ≡ Some Failed → (self.old.fault ≡ Some Failed)
+            ⊎ Rose (O.faults out.old) (O.faults out.new) }
+    {
+        let asker = asker.ask(rt, pipes, self.fault.is_some());
+        let (taker, found) = self.next_told(rt, pipes, taker, out, asker.wish);
+        match found {
+            None => {
+                yield_now();
                 (taker, asker, false)
             }
-            Told::Last(_) => {
-                page.write(out);
-                (taker, asker, true)
-            }
-        },
+            Some(told) => match told {
+                Told::Event(event) => {
+                    self.print(&event, out);
+                    (taker, asker, false)
+                }
+                Told::Last(_) => {
+                    self.write(out);
+                    (taker, asker, true)
+                }
+            },
+        }
     }
 }
 
@@ -125,7 +127,7 @@ pub fn print_all<O: Sink, T: Wait + Copy>(
 {
     let mut page = Page::new(alloc);
     for _ in rt.forever() {
-        let (pass, caller, is_last) = print_next(rt, pipes, taker, asker, &mut page, out);
+        let (pass, caller, is_last) = page.print_next(rt, pipes, taker, asker, out);
         taker = pass;
         asker = caller;
         if is_last {

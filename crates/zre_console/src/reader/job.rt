@@ -8,8 +8,7 @@ ghost use Rattle.zre_console.specs.declared.reader.ending.InputEnd.TheVariants.{
 ghost use Rattle.zre_console.specs.reader.Reading.{HasReadLines};
 
 use crate::reader::InputEnd;
-use crate::reader::putting::end_reading;
-use crate::reader::reading::read_lines;
+use crate::reader::putting::{ChatPipes, end_reading};
 use std::alloc::Global;
 use std::sync::atomic::AtomicBool;
 use std::sync::{Arc, Wait};
@@ -68,7 +67,11 @@ impl<I: Source + Drop> ReaderJob<I> {
             mut input,
             limit,
         } = self;
-        let (pass, end) = read_lines(rt, alloc, &pipes, &over, pass, &mut input, limit);
+        let chat = ChatPipes {
+            pipes: &pipes,
+            over: &over,
+        };
+        let (pass, end) = chat.read_lines(rt, alloc, pass, &mut input, limit);
         (ReaderDone { input, pass, end }, pipes, over)
     }
 

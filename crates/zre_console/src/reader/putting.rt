@@ -25,6 +25,13 @@ pub(crate) enum PutOutcome {
     Over,
 }
 
+/// Where commands are put: the pipes of a chat, and whether the chat is over.
+#[derive(Clone, Copy)]
+pub(crate) struct ChatPipes<'a> {
+    pub pipes: &'a Pipes,
+    pub over: &'a AtomicBool,
+}
+
 fn is_quit(command: &Command) -> bool
     ensures { result ≡ is_quit command.now }
 {
@@ -34,33 +41,82 @@ fn is_quit(command: &Command) -> bool
     }
 }
 
-// Puts a command, and tries again while the pipe is full. False where the chat was over before it was put.
-fn put_command<R: Wait + Copy>(
-    rt: R,
-    pipes: &Pipes,
-    over: &AtomicBool,
-    mut pass: CallerPass,
-    mut command: Command,
-) -> (CallerPass, bool)
-    requires { IsCallerOf pipes.now pass }
-    ensures pipes { IsCallerOf pipes.now result.0 }
-    ensures put { Puts pass result.0 (cond result.1 (command ∷ []) []) }
-{
-    for _ in rt.forever() {
-        if over.load(Ordering::SeqCst) {
-            drop(command);
-            return (pass, false);
-        }
-        match pipes.put(rt, pass, command) {
-            Ok(done) => return (done, true),
-            Err(full) => {
-                pass = full.pass;
-                command = full.command;
-                yield_now();
+impl ChatPipes<'_> {
+    // Puts a command, and tries again while the pipe is full. False where the chat was over before it was put.
+    fn put_command<R: Wait + Copy>(
+        &self,
+        rt: R,
+        mut pass: CallerPass,
+        mut command: Command,
+    ) -> (CallerPass, bool)
+        requires { IsCallerOf self.now.pipes.now pass }
+        ensures pipes { IsCallerOf self.now.pipes.now result.0 }
+        ensures put { Puts pass result.0 (cond result.1 (command ∷ []) []) }
+    {
+        for _ in rt.forever() {
+            if self.over.load(Ordering::SeqCst) {
+                drop(command);
+                return (pass, false);
+            }
+            match self.pipes.put(rt, pass, command) {
+                Ok(done) => return (done, true),
+                Err(full) => {
+                    pass = full.pass;
+                    command = full.command;
+                    yield_now();
+                }
             }
         }
+        unreachable!()
     }
-    unreachable!()
+
+    // Puts a command that isn't a quit, unless the chat is over.
+    pub(crate) fn put_one<R: Wait + Copy>(
+        &self,
+        rt: R,
+        pass: CallerPass,
+        command: Command,
+    ) -> (CallerPass, PutOutcome)
+        requires { IsCallerOf self.now.pipes.now pass }
+        ensures pipes { IsCallerOf self.now.pipes.now result.0 }
+        ensures sent { Sends result.1 pass result.0 command }
+    {
+        if is_quit(&command) {
+            drop(command);
+            return (pass, PutOutcome::Quit);
+        }
+        let (pass, is_put) = self.put_command(rt, pass, command);
+        (
+            pass,
+            if is_put {
+                PutOutcome::On
+            } else {
+                PutOutcome::Over
+            },
+        )
+    }
+
+    // Puts the commands before the first quit, unless the chat is over.
+    pub(crate) fn put_all<R: Wait + Copy>(
+        &self,
+        rt: R,
+        mut pass: CallerPass,
+        commands: Vec<Command>,
+    ) -> (CallerPass, PutOutcome)
+        requires { IsCallerOf self.now.pipes.now pass }
+        ensures pipes { IsCallerOf self.now.pipes.now result.0 }
+        ensures sent { SendsAll result.1 pass result.0 commands.items }
+    {
+        for command in commands {
+            let (back, sent) = self.put_one(rt, pass, command);
+            match sent {
+                PutOutcome::On => pass = back,
+                PutOutcome::Quit => return (back, PutOutcome::Quit),
+                PutOutcome::Over => return (back, PutOutcome::Over),
+            }
+        }
+        (pass, PutOutcome::On)
+    }
 }
 
 /// Puts a quit, again while the pipe is full, unless `over` is set.
@@ -74,7 +130,7 @@ pub fn close<R: Wait + Copy>(
     ensures pipes { IsCallerOf pipes.now result }
     ensures closes { Closes pass result }
 {
-    let (pass, _) = put_command(rt, pipes, over, pass, Command::Quit);
+    let (pass, _) = ChatPipes { pipes, over }.put_command(rt, pass, Command::Quit);
     pass
 }
 
@@ -93,61 +149,11 @@ pub(crate) fn end_reading<R: Wait + Copy>(
     match end {
         InputEnd::Over => (pass, end),
         InputEnd::Quit | InputEnd::AtEnd => {
-            let (pass, is_put) = put_command(rt, pipes, over, pass, Command::Quit);
+            let (pass, is_put) = ChatPipes { pipes, over }.put_command(rt, pass, Command::Quit);
             (pass, if is_put { end } else { InputEnd::Over })
         }
         InputEnd::ReadFault | InputEnd::TooLong | InputEnd::OutOfMemory => {
             (close(rt, pipes, over, pass), end)
         }
     }
-}
-
-// Puts a command that isn't a quit, unless the chat is over.
-pub(crate) fn put_one<R: Wait + Copy>(
-    rt: R,
-    pipes: &Pipes,
-    over: &AtomicBool,
-    pass: CallerPass,
-    command: Command,
-) -> (CallerPass, PutOutcome)
-    requires { IsCallerOf pipes.now pass }
-    ensures pipes { IsCallerOf pipes.now result.0 }
-    ensures sent { Sends result.1 pass result.0 command }
-{
-    if is_quit(&command) {
-        drop(command);
-        return (pass, PutOutcome::Quit);
-    }
-    let (pass, is_put) = put_command(rt, pipes, over, pass, command);
-    (
-        pass,
-        if is_put {
-            PutOutcome::On
-        } else {
-            PutOutcome::Over
-        },
-    )
-}
-
-// Puts the commands before the first quit, unless the chat is over.
-pub(crate) fn put_all<R: Wait + Copy>(
-    rt: R,
-    pipes: &Pipes,
-    over: &AtomicBool,
-    mut pass: CallerPass,
-    commands: Vec<Command>,
-) -> (CallerPass, PutOutcome)
-    requires { IsCallerOf pipes.now pass }
-    ensures pipes { IsCallerOf pipes.now result.0 }
-    ensures sent { SendsAll result.1 pass result.0 commands.items }
-{
-    for command in commands {
-        let (back, sent) = put_one(rt, pipes, over, pass, command);
-        match sent {
-            PutOutcome::On => pass = back,
-            PutOutcome::Quit => return (back, PutOutcome::Quit),
-            PutOutcome::Over => return (back, PutOutcome::Over),
-        }
-    }
-    (pass, PutOutcome::On)
 }

@@ -12,11 +12,11 @@ ghost use Rattle.zre_console.specs.reader.Turning.{Took, Turned, Finishes};
 
 use crate::lines::Typist;
 use crate::reader::InputEnd;
-use crate::reader::putting::{PutOutcome, put_all, put_one};
+use crate::reader::putting::{ChatPipes, PutOutcome};
 use std::alloc::Global;
 use std::sync::Wait;
-use std::sync::atomic::{AtomicBool, Ordering};
-use zre_actor::{CallerPass, Pipes};
+use std::sync::atomic::Ordering;
+use zre_actor::CallerPass;
 use zre_outside::{Failed, PIECE, Source, room_for, zeros};
 
 /// What comes after a turn.
@@ -38,144 +38,142 @@ struct ReaderTurn {
     next: Next,
 }
 
-// Feeds a piece, and puts the commands of the lines that it ends.
-fn take_piece<R: Wait + Copy>(
-    rt: R,
-    alloc: Global,
-    pipes: &Pipes,
-    over: &AtomicBool,
-    typist: &mut Typist,
-    pass: CallerPass,
-    piece: &[u8],
-) -> (CallerPass, Next)
-    requires { IsCallerOf pipes.now pass }
-    ensures pipes { IsCallerOf pipes.now result.0 }
-    ensures took { (o : List ℕ) → Typed o typist.old → list_any is_quit (typed o) ≡ false →
-        Took result.1 typist.new o piece.now pass result.0 }
-{
-    let mut commands = Vec::new(alloc);
-    let fed = typist.feed(piece, &mut commands);
-    let (pass, sent) = put_all(rt, pipes, over, pass, commands);
-    match sent {
-        PutOutcome::Quit => (pass, Next::End(InputEnd::Quit)),
-        PutOutcome::Over => (pass, Next::End(InputEnd::Over)),
-        PutOutcome::On => match fed {
-            Ok(()) => (pass, Next::Go),
-            Err(_) => (pass, Next::End(InputEnd::OutOfMemory)),
-        },
+impl ChatPipes<'_> {
+    // Feeds a piece, and puts the commands of the lines that it ends.
+    fn take_piece<R: Wait + Copy>(
+        &self,
+        rt: R,
+        alloc: Global,
+        typist: &mut Typist,
+        pass: CallerPass,
+        piece: &[u8],
+    ) -> (CallerPass, Next)
+        requires { IsCallerOf self.now.pipes.now pass }
+        ensures pipes { IsCallerOf self.now.pipes.now result.0 }
+        ensures took { (o : List ℕ) → Typed o typist.old → list_any is_quit (typed o) ≡ false →
+            Took result.1 typist.new o piece.now pass result.0 }
+    {
+        let mut commands = Vec::new(alloc);
+        let fed = typist.feed(piece, &mut commands);
+        let (pass, sent) = self.put_all(rt, pass, commands);
+        match sent {
+            PutOutcome::Quit => (pass, Next::End(InputEnd::Quit)),
+            PutOutcome::Over => (pass, Next::End(InputEnd::Over)),
+            PutOutcome::On => match fed {
+                Ok(()) => (pass, Next::Go),
+                Err(_) => (pass, Next::End(InputEnd::OutOfMemory)),
+            },
+        }
     }
-}
 
-// Reads one piece, and puts the commands of the lines that it ends.
-fn take_turn<R: Wait + Copy, I: Source>(
-    rt: R,
-    alloc: Global,
-    pipes: &Pipes,
-    over: &AtomicBool,
-    typist: &mut Typist,
-    pass: CallerPass,
-    input: &mut I,
-    buf: &mut [u8],
-) -> ReaderTurn
-    requires some { 0 < length buf.old }
-    requires pipes { IsCallerOf pipes.now pass }
-    ensures bound { result.read ≤ length buf.new }
-    ensures pipes { IsCallerOf pipes.now result.pass }
-    ensures moved { MovesOn (I.left input.old) (I.left input.new) (I.taken input.old) (I.taken input.new)
-        (take result.read buf.new) }
-    ensures turned { (o : List ℕ) → Typed o typist.old → list_any is_quit (typed o) ≡ false →
-        Turned result.next typist.new o (take result.read buf.new) (I.left input.new) pass result.pass
-        (Rose (I.faults input.old) (I.faults input.new)) }
-    ensures later { I.faults input.old ≤ I.faults input.new }
-{
-    let read = match input.read(buf) {
-        Ok(read) => read,
-        Err(Failed) => {
+    // Reads one piece, and puts the commands of the lines that it ends.
+    fn take_turn<R: Wait + Copy, I: Source>(
+        &self,
+        rt: R,
+        alloc: Global,
+        typist: &mut Typist,
+        pass: CallerPass,
+        input: &mut I,
+        buf: &mut [u8],
+    ) -> ReaderTurn
+        requires some { 0 < length buf.old }
+        requires pipes { IsCallerOf self.now.pipes.now pass }
+        ensures bound { result.read ≤ length buf.new }
+        ensures pipes { IsCallerOf self.now.pipes.now result.pass }
+        ensures moved { MovesOn (I.left input.old) (I.left input.new) (I.taken input.old) (I.taken input.new)
+            (take result.read buf.new) }
+        ensures turned { (o : List ℕ) → Typed o typist.old → list_any is_quit (typed o) ≡ false →
+            Turned result.next typist.new o (take result.read buf.new) (I.left input.new) pass result.pass
+            (Rose (I.faults input.old) (I.faults input.new)) }
+        ensures later { I.faults input.old ≤ I.faults input.new }
+    {
+        let read = match input.read(buf) {
+            Ok(read) => read,
+            Err(Failed) => {
+                return ReaderTurn {
+                    read: 0,
+                    pass,
+                    next: Next::End(InputEnd::ReadFault),
+                };
+            }
+        };
+        if read == 0 {
             return ReaderTurn {
-                read: 0,
+                read,
                 pass,
-                next: Next::End(InputEnd::ReadFault),
+                next: Next::Finish,
             };
         }
-    };
-    if read == 0 {
-        return ReaderTurn {
-            read,
-            pass,
-            next: Next::Finish,
+        let (pass, next) = self.take_piece(rt, alloc, typist, pass, &buf[..read]);
+        ReaderTurn { read, pass, next }
+    }
+
+    // Takes the end of the input: the line that isn't finished counts.
+    fn finish<R: Wait + Copy>(
+        &self,
+        rt: R,
+        typist: &Typist,
+        pass: CallerPass,
+    ) -> (CallerPass, InputEnd)
+        requires { IsCallerOf self.now.pipes.now pass }
+        ensures pipes { IsCallerOf self.now.pipes.now result.0 }
+        ensures finishes { (o : List ℕ) → Typed o typist.now → list_any is_quit (typed o) ≡ false →
+            Finishes result.1 o pass result.0 }
+    {
+        let Ok(last) = typist.finish() else {
+            return (pass, InputEnd::OutOfMemory);
         };
-    }
-    let (pass, next) = take_piece(rt, alloc, pipes, over, typist, pass, &buf[..read]);
-    ReaderTurn { read, pass, next }
-}
-
-// Takes the end of the input: the line that isn't finished counts.
-fn finish<R: Wait + Copy>(
-    rt: R,
-    pipes: &Pipes,
-    over: &AtomicBool,
-    typist: &Typist,
-    pass: CallerPass,
-) -> (CallerPass, InputEnd)
-    requires { IsCallerOf pipes.now pass }
-    ensures pipes { IsCallerOf pipes.now result.0 }
-    ensures finishes { (o : List ℕ) → Typed o typist.now → list_any is_quit (typed o) ≡ false →
-        Finishes result.1 o pass result.0 }
-{
-    let Ok(last) = typist.finish() else {
-        return (pass, InputEnd::OutOfMemory);
-    };
-    let Some(command) = last else {
-        return (pass, InputEnd::AtEnd);
-    };
-    let (pass, sent) = put_one(rt, pipes, over, pass, command);
-    match sent {
-        PutOutcome::On => (pass, InputEnd::AtEnd),
-        PutOutcome::Quit => (pass, InputEnd::AtEnd),
-        PutOutcome::Over => (pass, InputEnd::Over),
-    }
-}
-
-/// Reads a source, at most so many octets of it, and puts the commands of its lines with the pass up to a quit, which
-/// isn't put, each again while the pipe is full. It looks at `over` before each read and whenever it is to put a
-/// command, and puts nothing more where that is set; nothing is claimed of when it sees it.
-pub(crate) fn read_lines<R: Wait + Copy, I: Source>(
-    rt: R,
-    alloc: Global,
-    pipes: &Pipes,
-    over: &AtomicBool,
-    mut pass: CallerPass,
-    input: &mut I,
-    limit: u64,
-) -> (CallerPass, InputEnd)
-    requires { IsCallerOf pipes.now pass }
-    ensures pipes { IsCallerOf pipes.now result.0 }
-    ensures read { HasReadLines result.1 limit pass result.0 (I.left input.old) (I.left input.new) (I.taken input.old)
-        (I.taken input.new) (Rose (I.faults input.old) (I.faults input.new)) }
-    ensures later { I.faults input.old ≤ I.faults input.new }
-{
-    let Ok(mut buf) = zeros(alloc, PIECE) else {
-        return (pass, InputEnd::OutOfMemory);
-    };
-    let mut typist = Typist::new(alloc);
-    let mut taken: u64 = 0;
-    while taken < limit {
-        if over.load(Ordering::SeqCst) {
-            return (pass, InputEnd::Over);
-        }
-        let room = room_for(limit - taken);
-        let piece = &mut buf[..room];
-        let ReaderTurn {
-            read,
-            pass: back,
-            next,
-        } = take_turn(rt, alloc, pipes, over, &mut typist, pass, input, piece);
-        taken += read as u64;
-        match next {
-            Next::Go => pass = back,
-            Next::Finish => return finish(rt, pipes, over, &typist, back),
-            Next::End(end) => return (back, end),
+        let Some(command) = last else {
+            return (pass, InputEnd::AtEnd);
+        };
+        let (pass, sent) = self.put_one(rt, pass, command);
+        match sent {
+            PutOutcome::On => (pass, InputEnd::AtEnd),
+            PutOutcome::Quit => (pass, InputEnd::AtEnd),
+            PutOutcome::Over => (pass, InputEnd::Over),
         }
     }
-    (pass, InputEnd::TooLong)
+
+    /// Reads a source, at most so many octets of it, and puts the commands of its lines with the pass up to a quit,
+    /// which isn't put, each again while the pipe is full. It looks at `over` before each read and whenever it is to
+    /// put a command, and puts nothing more where that is set; nothing is claimed of when it sees it.
+    pub(crate) fn read_lines<R: Wait + Copy, I: Source>(
+        &self,
+        rt: R,
+        alloc: Global,
+        mut pass: CallerPass,
+        input: &mut I,
+        limit: u64,
+    ) -> (CallerPass, InputEnd)
+        requires { IsCallerOf self.now.pipes.now pass }
+        ensures pipes { IsCallerOf self.now.pipes.now result.0 }
+        ensures read { HasReadLines result.1 limit pass result.0 (I.left input.old) (I.left input.new)
+            (I.taken input.old) (I.taken input.new) (Rose (I.faults input.old) (I.faults input.new)) }
+        ensures later { I.faults input.old ≤ I.faults input.new }
+    {
+        let Ok(mut buf) = zeros(alloc, PIECE) else {
+            return (pass, InputEnd::OutOfMemory);
+        };
+        let mut typist = Typist::new(alloc);
+        let mut taken: u64 = 0;
+        while taken < limit {
+            if self.over.load(Ordering::SeqCst) {
+                return (pass, InputEnd::Over);
+            }
+            let room = room_for(limit - taken);
+            let piece = &mut buf[..room];
+            let ReaderTurn {
+                read,
+                pass: back,
+                next,
+            } = self.take_turn(rt, alloc, &mut typist, pass, input, piece);
+            taken += read as u64;
+            match next {
+                Next::Go => pass = back,
+                Next::Finish => return self.finish(rt, &typist, back),
+                Next::End(end) => return (back, end),
+            }
+        }
+        (pass, InputEnd::TooLong)
+    }
 }

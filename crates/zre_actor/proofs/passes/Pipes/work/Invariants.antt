@@ -12,12 +12,13 @@ abbrev pub invariant-loop-turn : goal.invariant-loop-turn
 invariant-loop-turn g l = record {
   pipes : IsActorOf l.self l.pass × (unused_by l.pass ≡ unused_by l.fn.pass);
   open_ : ending_of l.pass ≡ None;
-  looked : IsSome l.command → g.W.World.looked l.world ≡ true;
+  looked : IsSome l.command → g.W.World.looked l.actor.world ≡ true;
   last : l.turn ≡ l.limit → l.command ≡ None;
-  unkept : l.keep ≡ false → l.rec ≡ l.fn.rec;
-  begun : g.R.Recorder.begun l.rec ≡ g.R.Recorder.begun l.fn.rec;
-  named : Keeps (g.R.Recorder.named l.fn.rec) (g.R.Recorder.named l.rec);
+  keep : l.actor.recording.keep ≡ l.keep;
+  unkept : l.keep ≡ false → l.actor.recording.rec ≡ l.fn.rec;
+  begun : g.R.Recorder.begun l.actor.recording.rec ≡ g.R.Recorder.begun l.fn.rec;
+  named : Keeps (g.R.Recorder.named l.fn.rec) (g.R.Recorder.named l.actor.recording.rec);
   running : (c : Config) (K : List Entry) → StandsFor c K l.fn.node → Running c K l.keep l.limit
       (scene (g.W.World.told l.fn.world) (g.W.World.looked l.fn.world) (g.W.World.faults l.fn.world) (g.R.Recorder.kept l.fn.rec) (g.R.Recorder.faults l.fn.rec) l.fn.pass)
-      l.turn (scene (g.W.World.told l.world) (g.W.World.looked l.world) (g.W.World.faults l.world) (g.R.Recorder.kept l.rec) (g.R.Recorder.faults l.rec) l.pass) l.node l.command l.before;
+      l.turn (scene (g.W.World.told l.actor.world) (g.W.World.looked l.actor.world) (g.W.World.faults l.actor.world) (g.R.Recorder.kept l.actor.recording.rec) (g.R.Recorder.faults l.actor.recording.rec) l.pass) l.actor.node l.command l.actor.recording.before;
 }

@@ -39,7 +39,7 @@ loop-preserved g c = let o = g.O.Sink in let h = c.loop.invariant in let n = c.p
 
 pub returns-then-is_last-clause-printed : goal.returns-then-is_last-clause-printed
 returns-then-is_last-clause-printed g c = let o = g.O.Sink in let h = c.loop.invariant in let n = c.print_next-pass in
-    has_printed c.args.asker c.args.taker (o.written c.args.out.now) n.result.1 n.result.0 n.new.page (o.written n.new.out)
+    has_printed c.args.asker c.args.taker (o.written c.args.out.now) n.result.1 n.result.0 n.new.self (o.written n.new.out)
     (n.ensures.prints c.args.asker c.args.taker (o.written c.args.out.now) h.prints) (n.ensures.written c.if-is_last.true)
 
 pub returns-then-is_last-clause-failed : goal.returns-then-is_last-clause-failed

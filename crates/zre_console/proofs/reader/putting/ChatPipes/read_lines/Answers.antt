@@ -4,7 +4,7 @@ use Rattle.zre_outside.specs.Causes.{Rose}
 use Rattle.zre_console.specs.reader.Turning.{Finishes}
 use Rattle.zre_commands.proofs.pump.Reach.{Rose-since}
 use Rattle.zre_console.proofs.reader.Reach.{over-now, too-long, finished, ended-turn, memory-first}
-use Rattle.zre_console.proofs.reader.reading.read_lines.Goals as goal
+use Rattle.zre_console.proofs.reader.putting.ChatPipes.read_lines.Goals as goal
 
 pub returns-in_default-clause-read : goal.returns-in_default-clause-read
 returns-in_default-clause-read g c = memory-first c.args.pass _ _ c.args.limit (Rose (g.I.Source.faults c.args.input.now) (g.I.Source.faults c.args.input.now))

@@ -1,11 +1,11 @@
 use Rattle.std.proofs.Common.{◌≡◌, []}
 use Rattle.zre_actor.specs.Passes.{IsCallerOf}
 use Rattle.zre_console.specs.reader.Putting.{Puts}
-use Rattle.zre_console.proofs.reader.putting.put_command.Given as goal
+use Rattle.zre_console.proofs.reader.putting.ChatPipes.put_command.Given as goal
 
 abbrev pub invariant-loop : goal.invariant-loop
 invariant-loop g l = record {
-  pipes : IsCallerOf l.pipes l.pass;
+  pipes : IsCallerOf l.self.pipes.now l.pass;
   puts : Puts l.fn.pass l.pass [];
   same : l.command ≡ l.fn.command;
 }

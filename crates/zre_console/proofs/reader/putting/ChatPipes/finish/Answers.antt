@@ -1,5 +1,5 @@
 use Rattle.zre_console.proofs.reader.Pieces.{end-none, end-put, end-quit, end-over, end-memory}
-use Rattle.zre_console.proofs.reader.reading.finish.Goals as goal
+use Rattle.zre_console.proofs.reader.putting.ChatPipes.finish.Goals as goal
 
 pub returns-in_default-clause-finishes : goal.returns-in_default-clause-finishes
 returns-in_default-clause-finishes g c = λ o known none. end-memory o c.args.pass none

@@ -1,5 +1,5 @@
 use Rattle.zre_console.proofs.reader.Pieces.{took-quit, took-front, took-some}
-use Rattle.zre_console.proofs.reader.reading.take_piece.Goals as goal
+use Rattle.zre_console.proofs.reader.putting.ChatPipes.take_piece.Goals as goal
 
 pub returns-in-Quit-clause-took : goal.returns-in-Quit-clause-took
 returns-in-Quit-clause-took g c = λ o known none.

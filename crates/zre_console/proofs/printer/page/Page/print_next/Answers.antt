@@ -6,7 +6,7 @@ use Rattle.zre_actor.specs.declared.passes.TakerPass.{TakerPass}
 use Rattle.zre_actor.specs.Passes.{IsTold, taken_by, last_of}
 use Rattle.zre_console.specs.declared.printer.page.Page.{Page}
 use Rattle.zre_console.proofs.printer.Writing.{none_before, asked_more, printed_same, printed_more}
-use Rattle.zre_console.proofs.printer.printing.print_next.Goals as goal
+use Rattle.zre_console.proofs.printer.page.Page.print_next.Goals as goal
 
 abbrev Found : TakerPass → TakerPass → Option Told → Type 0
 Found old new found = MatchOption found ((taken_by new ≡ taken_by old) × (last_of new ≡ last_of old)) (λ told. IsTold old told new)
@@ -17,25 +17,25 @@ stays_too p q h is = ap (λ (x : Page). x.fault) (h is)
 pub returns-in-None-clause-prints : goal.returns-in-None-clause-prints
 returns-in-None-clause-prints g c = λ first start w p. (
     let o = g.O.Sink in let n = c.next_told-taker in let a = c.args in
-    let q = asked_more first start w a.asker a.taker a.page.now (o.written a.out.now) p c.ask-asker.result c.ask-asker.ensures.asked (λ none. c.ask-asker.ensures.calm (c.is_some.ensures ∙ ap is_some none)) in
+    let q = asked_more first start w a.asker a.taker a.self.now (o.written a.out.now) p c.ask-asker.result c.ask-asker.ensures.asked (λ none. c.ask-asker.ensures.calm (c.is_some.ensures ∙ ap is_some none)) in
     let t : Found a.taker n.result.0 None = subst (Found a.taker n.result.0) c.in-None.is n.ensures.told in
-    printed_same first start w c.ask-asker.result a.taker a.page.now (o.written a.out.now) q n.result.0 n.new.page (o.written n.new.out) t.0
-    n.ensures.shows (none_before a.page.now.fault n.new.page.fault n.ensures.stays))
+    printed_same first start w c.ask-asker.result a.taker a.self.now (o.written a.out.now) q n.result.0 n.new.self (o.written n.new.out) t.0
+    n.ensures.shows (none_before a.self.now.fault n.new.self.fault n.ensures.stays))
 
 pub returns-in-Event-clause-prints : goal.returns-in-Event-clause-prints
 returns-in-Event-clause-prints g c = λ first start w p. (
     let o = g.O.Sink in let n = c.next_told-taker in let a = c.args in let e = c.in-Event.event in
-    let q = asked_more first start w a.asker a.taker a.page.now (o.written a.out.now) p c.ask-asker.result c.ask-asker.ensures.asked (λ none. c.ask-asker.ensures.calm (c.is_some.ensures ∙ ap is_some none)) in
+    let q = asked_more first start w a.asker a.taker a.self.now (o.written a.out.now) p c.ask-asker.result c.ask-asker.ensures.asked (λ none. c.ask-asker.ensures.calm (c.is_some.ensures ∙ ap is_some none)) in
     let t : Found a.taker n.result.0 (Some (told.Event e)) = subst (Found a.taker n.result.0) (c.in-Some.is ∙ ap Some c.in-Event.is) n.ensures.told in
-    printed_more first start w c.ask-asker.result a.taker a.page.now (o.written a.out.now) q n.result.0 c.print.new.self (o.written c.print.new.out) (e ∷ []) t.0
+    printed_more first start w c.ask-asker.result a.taker a.self.now (o.written a.out.now) q n.result.0 c.print.new.self (o.written c.print.new.out) (e ∷ []) t.0
     (λ v os h. c.print.ensures.shows v os (n.ensures.shows v os h))
-    (λ is. none_before a.page.now.fault n.new.page.fault n.ensures.stays (none_before n.new.page.fault c.print.new.self.fault (stays_too n.new.page c.print.new.self c.print.ensures.stays) is)))
+    (λ is. none_before a.self.now.fault n.new.self.fault n.ensures.stays (none_before n.new.self.fault c.print.new.self.fault (stays_too n.new.self c.print.new.self c.print.ensures.stays) is)))
 
 pub returns-in-Last-clause-prints : goal.returns-in-Last-clause-prints
 returns-in-Last-clause-prints g c = λ first start w p. (
     let o = g.O.Sink in let n = c.next_told-taker in let a = c.args in
-    let q = asked_more first start w a.asker a.taker a.page.now (o.written a.out.now) p c.ask-asker.result c.ask-asker.ensures.asked (λ none. c.ask-asker.ensures.calm (c.is_some.ensures ∙ ap is_some none)) in
+    let q = asked_more first start w a.asker a.taker a.self.now (o.written a.out.now) p c.ask-asker.result c.ask-asker.ensures.asked (λ none. c.ask-asker.ensures.calm (c.is_some.ensures ∙ ap is_some none)) in
     let t : Found a.taker n.result.0 (Some (told.Last c.in-Last.field-0)) = subst (Found a.taker n.result.0) (c.in-Some.is ∙ ap Some c.in-Last.is) n.ensures.told in
-    printed_same first start w c.ask-asker.result a.taker a.page.now (o.written a.out.now) q n.result.0 c.write.new.self (o.written c.write.new.out) t.0
+    printed_same first start w c.ask-asker.result a.taker a.self.now (o.written a.out.now) q n.result.0 c.write.new.self (o.written c.write.new.out) t.0
     (λ v os h. c.write.ensures.shows v os (n.ensures.shows v os h))
-    (λ is. none_before a.page.now.fault n.new.page.fault n.ensures.stays (none_before n.new.page.fault c.write.new.self.fault (stays_too n.new.page c.write.new.self c.write.ensures.stays) is)))
+    (λ is. none_before a.self.now.fault n.new.self.fault n.ensures.stays (none_before n.new.self.fault c.write.new.self.fault (stays_too n.new.self c.write.new.self c.write.ensures.stays) is)))

@@ -1,7 +1,7 @@
 use Rattle.std.proofs.Common.{◌++◌, ap, ◌∙◌}
 use Rattle.std.specs.Vec.Iter.{into_iter_items}
 use Rattle.zre_console.proofs.reader.Puts.{put-quit}
-use Rattle.zre_console.proofs.reader.putting.put_all.Goals as goal
+use Rattle.zre_console.proofs.reader.putting.ChatPipes.put_all.Goals as goal
 
 pub returns-in-Quit-clause-sent : goal.returns-in-Quit-clause-sent
 returns-in-Quit-clause-sent g c = let l = c.loop-command in let sent = rw c.in-Quit.is at c.put_one-back.ensures.sent in
