@@ -26,6 +26,6 @@ laid_many f a c k are =
     omega (arith, long, length_row 1 (k + 2), length-map ((f ++ a ∷ []) ++ c ∷ []) number, length-append (f ++ a ∷ []) (c ∷ []), length-append f (a ∷ []))
 
 -- these two put under two numbers
-pub two_apart : (more : ℕ) (t : Table) → HasMore more t → number t.others.last.pass ≢ number t.others.asker
-two_apart more t h = let asker = number t.others.asker in let rest = numbers_of t.others.callers.fresh.items in
+pub two_apart : (more : ℕ) (t : Table) → HasMore more t → number t.others.last.pass ≢ number t.others.printer.asker
+two_apart more t h = let asker = number t.others.printer.asker in let rest = numbers_of t.others.callers.fresh.items in
     other_number (number t.others.last.pass) asker (asker ∷ rest) (h.apart asker) (let e = is_first asker rest in omega (arith, e))

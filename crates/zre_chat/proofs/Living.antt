@@ -33,7 +33,6 @@ use Rattle.zre_actor.specs.declared.ending.Ending.TheVariants as ending
 use Rattle.zre_actor.specs.declared.passes.ActorPass.{ActorPass}
 use Rattle.zre_actor.specs.declared.passes.CallerPass.{CallerPass}
 use Rattle.zre_actor.specs.declared.passes.TakerPass.{TakerPass}
-use Rattle.zre_actor.specs.declared.views.Placed.{Placed}
 use Rattle.zre_actor.specs.Commands.{command_of}
 use Rattle.zre_actor.specs.Passes.{popped_by, raised_by, taken_by}
 use Rattle.zre_actor.specs.Work.{WorkScene, scene, went, IsWork, Ends, KeptLines}

@@ -31,20 +31,20 @@ parts pipes world node pass recorder keep limit = (pipes, world, node, pass, rec
 
 -- all passes belong to the pipes, which have so many callers more than these two, and nothing was done with any
 pub record IsLaid (more : ℕ) (t : Table) : Type 0 where
-  pub seat : IsFree (arc_value t.others.pipes) (more + 2) t.seat
-  pub last : IsChair (arc_value t.others.pipes) t.others.last
-  pub of_asker : IsCallerOf (arc_value t.others.pipes) t.others.asker
-  pub of_taker : IsTakerOf (arc_value t.others.pipes) t.others.taker
-  pub new_asker : IsNew t.others.asker
+  pub seat : IsFree (arc_value t.others.printer.pipes) (more + 2) t.seat
+  pub last : IsChair (arc_value t.others.printer.pipes) t.others.last
+  pub of_asker : IsCallerOf (arc_value t.others.printer.pipes) t.others.printer.asker
+  pub of_taker : IsTakerOf (arc_value t.others.printer.pipes) t.others.printer.taker
+  pub new_asker : IsNew t.others.printer.asker
   pub none_given : given_of t.others.callers ≡ []
   pub room : 2 ≤ room_of t.others.callers
-  pub none_taken : taken_by t.others.taker ≡ []
-  pub no_last : last_of t.others.taker ≡ None
+  pub none_taken : taken_by t.others.printer.taker ≡ []
+  pub no_last : last_of t.others.printer.taker ≡ None
 
 -- the passes of those callers weren't taken, and all callers put under different numbers
 pub record HasMore (more : ℕ) (t : Table) : Type 0 where
-  pub are_callers : AreCallersOf (arc_value t.others.pipes) (fresh_of t.others.callers)
+  pub are_callers : AreCallersOf (arc_value t.others.printer.pipes) (fresh_of t.others.callers)
   pub are_new : All IsNew (fresh_of t.others.callers)
   pub are_many : length (fresh_of t.others.callers) ≡ more
   pub apart : (n : ℕ)
-      → times n (number t.others.last.pass ∷ number t.others.asker ∷ numbers_of (fresh_of t.others.callers)) ≤ 1
+      → times n (number t.others.last.pass ∷ number t.others.printer.asker ∷ numbers_of (fresh_of t.others.callers)) ≤ 1

@@ -13,7 +13,6 @@ use crate::entering::enter;
 use crate::keeping::begin;
 use crate::places::NodeWork;
 use crate::table::Table;
-use crate::threads::converse;
 use crate::values::are_values;
 use std::alloc::Global;
 use std::sync::Wait;
@@ -90,7 +89,7 @@ impl Chat {
                     keep,
                     limit,
                 };
-                converse(rt, alloc, table, input, work, out, spawner)
+                table.converse(rt, alloc, input, work, out, spawner)
             }
             Err(status) => Ended {
                 status,

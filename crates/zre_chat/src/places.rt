@@ -8,7 +8,7 @@ ghost use Rattle.zre_actor.specs.Passes.{AreCallersOf, IsCallerOf, IsNew, fresh_
 use std::alloc::Global;
 use std::sync::Arc;
 use std::sync::atomic::AtomicBool;
-use zre_actor::{ActorPass, CallerPass, CallerPasses, Pipes};
+use zre_actor::{ActorPass, CallerPass, CallerPasses, Pipes, TakerPass};
 use zre_node::Node;
 use zre_values::OutOfMemory;
 
@@ -34,6 +34,19 @@ pub struct NodeWork<W, R> {
     pub keep: bool,
     /// The most turns of the world, and the most octets that are read of an input.
     pub limit: u64,
+}
+
+/// What the caller's own thread is given: it prints, and asks the node to stop where it has to.
+#[derive(Drop)]
+pub struct PrinterSeat {
+    /// Where it takes events, and puts a quit.
+    pub pipes: Arc<Pipes, Global>,
+    /// Whether nothing more is to be put.
+    pub over: Arc<AtomicBool, Global>,
+    /// By which it asks the node to stop, under a number of its own.
+    pub asker: CallerPass,
+    /// By which it takes events.
+    pub taker: TakerPass,
 }
 
 /// What a thread that puts commands is given.

@@ -5,11 +5,9 @@ ghost use Rattle.zre_values.specs.Settings.{is_valid};
 ghost use Rattle.zre_node.specs.Journal.{StandsFor};
 ghost use Rattle.zre_chat.specs.Tables.{IsLaid, HasMore};
 
-use crate::places::{Chair, NodeSeat, Shares, chair_at, share, take_two};
+use crate::places::{Chair, NodeSeat, PrinterSeat, Shares, chair_at, share, take_two};
 use std::alloc::Global;
-use std::sync::Arc;
-use std::sync::atomic::AtomicBool;
-use zre_actor::{CallerPass, CallerPasses, Made, Pipes, TakerPass};
+use zre_actor::{CallerPasses, Made, Pipes};
 use zre_journal::Config;
 use zre_node::Node;
 use zre_values::OutOfMemory;
@@ -17,24 +15,20 @@ use zre_values::OutOfMemory;
 /// What all threads but the node's need.
 #[derive(Drop)]
 pub struct Others {
-    /// Of the caller's own thread.
-    pub pipes: Arc<Pipes, Global>,
-    /// Whether nothing more is to be put.
-    pub over: Arc<AtomicBool, Global>,
+    /// Of who prints.
+    pub printer: PrinterSeat,
     /// Of who puts last.
     pub last: Chair,
-    /// Of who asks the node to stop.
-    pub asker: CallerPass,
     /// The passes that weren't taken yet.
     pub callers: CallerPasses,
-    /// Of who prints.
-    pub taker: TakerPass,
 }
 
 /// The pipes with all passes, and the node.
 #[derive(Drop)]
 pub struct Table {
+    /// Of the node's thread.
     pub seat: NodeSeat,
+    /// Of all others.
     pub others: Others,
 }
 
@@ -66,13 +60,16 @@ impl Table {
             node,
             pass: actor,
         };
-        let others = Others {
+        let printer = PrinterSeat {
             pipes,
             over,
-            last,
             asker,
-            callers,
             taker,
+        };
+        let others = Others {
+            printer,
+            last,
+            callers,
         };
         Ok(Table { seat, others })
     }

@@ -9,11 +9,12 @@ ghost use Rattle.zre_actor.specs.Passes.{IsCallerOf, IsTakerOf, last_of};
 ghost use Rattle.zre_console.specs.printer.Printing.{HasPrinted};
 ghost use Rattle.zre_console.specs.printer.Asking.{asker_of};
 
+use crate::places::PrinterSeat;
 use std::alloc::Global;
-use std::sync::atomic::{AtomicBool, Ordering};
+use std::sync::atomic::Ordering;
 use std::sync::{Arc, Wait};
 use std::thread::Threads;
-use zre_actor::{CallerPass, Pipes, TakerPass};
+use zre_actor::{CallerPass, Pipes};
 use zre_console::printer::{Asker, Printed, Wish, print_all};
 use zre_console::reader::{ReaderDone, ReaderJob};
 use zre_outside::{Job, Refused, Running, Sink, Source, Spawner};
@@ -34,6 +35,8 @@ impl<R: Wait + Copy, I: Source + Send + Drop + 'static> Excused<R> for ReaderJob
 /// What is left after Last, and whether a thread was refused.
 #[derive(Drop)]
 pub struct Talk<D> {
+    /// The pipes, as the caller's own thread has them.
+    pub pipes: Arc<Pipes, Global>,
     /// The answer of the job.
     pub done: D,
     /// What is left of the printing.
@@ -74,50 +77,58 @@ fn asker_at(pass: CallerPass, refused: bool) -> Asker
     }
 }
 
-/// Starts the job, unless a thread was refused before, prints until Last, tells all who put commands that nothing more
-/// is to be put, and waits for the job. Where a thread was refused, the node is asked to stop at once.
-pub fn hold_talk<J, O: Sink, P: Spawner, T: Wait + Threads + Copy>(
-    rt: T,
-    alloc: Global,
-    pipes: &Arc<Pipes, Global>,
-    over: &AtomicBool,
-    job: J,
-    refused: bool,
-    asker: CallerPass,
-    taker: TakerPass,
-    out: &mut O,
-    spawner: &mut P,
-) -> Talk<J::Out>
-where
-    J: Excused<P::Runtime>,
-    requires pipes { IsTakerOf (arc_value pipes.now) taker × IsCallerOf (arc_value pipes.now) asker }
-    requires open { last_of taker ≡ None }
-    ensures pipes { IsTakerOf (arc_value pipes.now) result.printed.taker
-        × IsCallerOf (arc_value pipes.now) result.printed.pass }
-    ensures last { IsSome (last_of result.printed.taker) }
-    ensures done { J.means job result.done }
-    ensures printed { HasPrinted (asker_of asker result.refused) taker result.printed.taker result.printed.pass
-        result.printed.fault (O.written out.old) (O.written out.new) }
-    ensures failed { result.printed.fault ≡ Some Failed → Rose (O.faults out.old) (O.faults out.new) }
-    ensures refused { result.refused ≡ true
-        → (refused ≡ true) ⊎ Rose (P.faults spawner.old) (P.faults spawner.new) }
-    ensures writes { O.faults out.old ≤ O.faults out.new }
-    ensures starts { P.faults spawner.old ≤ P.faults spawner.new }
-{
-    let started = start(spawner, job, refused);
-    let asker = asker_at(asker, started.is_err());
-    let printed = print_all(rt, alloc, pipes, taker, asker, out);
-    over.store(true, Ordering::SeqCst);
-    match started {
-        Ok(running) => Talk {
-            done: running.join(rt),
-            printed,
-            refused: false,
-        },
-        Err(job) => Talk {
-            done: job.excuse(rt),
-            printed,
-            refused: true,
-        },
+impl PrinterSeat {
+    /// Starts the job, unless a thread was refused before, prints until Last, tells all who put commands that nothing
+    /// more is to be put, and waits for the job. Where a thread was refused, the node is asked to stop at once.
+    pub fn hold_talk<J, O: Sink, P: Spawner, T: Wait + Threads + Copy>(
+        self,
+        rt: T,
+        alloc: Global,
+        job: J,
+        refused: bool,
+        out: &mut O,
+        spawner: &mut P,
+    ) -> Talk<J::Out>
+    where
+        J: Excused<P::Runtime>,
+        requires pipes { IsTakerOf (arc_value self.pipes) self.taker × IsCallerOf (arc_value self.pipes) self.asker }
+        requires open { last_of self.taker ≡ None }
+        ensures same { result.pipes ≡ self.pipes }
+        ensures pipes { IsTakerOf (arc_value result.pipes) result.printed.taker
+            × IsCallerOf (arc_value result.pipes) result.printed.pass }
+        ensures last { IsSome (last_of result.printed.taker) }
+        ensures done { J.means job result.done }
+        ensures printed { HasPrinted (asker_of self.asker result.refused) self.taker result.printed.taker
+            result.printed.pass result.printed.fault (O.written out.old) (O.written out.new) }
+        ensures failed { result.printed.fault ≡ Some Failed → Rose (O.faults out.old) (O.faults out.new) }
+        ensures refused { result.refused ≡ true
+            → (refused ≡ true) ⊎ Rose (P.faults spawner.old) (P.faults spawner.new) }
+        ensures writes { O.faults out.old ≤ O.faults out.new }
+        ensures starts { P.faults spawner.old ≤ P.faults spawner.new }
+    {
+        let PrinterSeat {
+            pipes,
+            over,
+            asker,
+            taker,
+        } = self;
+        let started = start(spawner, job, refused);
+        let asker = asker_at(asker, started.is_err());
+        let printed = print_all(rt, alloc, &pipes, taker, asker, out);
+        over.store(true, Ordering::SeqCst);
+        match started {
+            Ok(running) => Talk {
+                pipes,
+                done: running.join(rt),
+                printed,
+                refused: false,
+            },
+            Err(job) => Talk {
+                pipes,
+                done: job.excuse(rt),
+                printed,
+                refused: true,
+            },
+        }
     }
 }

@@ -15,7 +15,7 @@ use crate::places::NodeWork;
 use crate::starting::start_node;
 use crate::statuses::of_read;
 use crate::table::Table;
-use crate::talk::{Talk, hold_talk};
+use crate::talk::Talk;
 use std::alloc::Global;
 use std::sync::Wait;
 use std::thread::Threads;
@@ -23,89 +23,78 @@ use zre_commands::pump::Status;
 use zre_console::reader::ReaderJob;
 use zre_outside::{Recorder, Sink, Source, Spawner, World};
 
-/// Starts the node's thread and the reader's, prints, and waits for both.
-pub(crate) fn converse<I, W, O, R, P, T>(
-    rt: T,
-    alloc: Global,
-    table: Table,
-    input: I,
-    work: NodeWork<W, R>,
-    out: &mut O,
-    spawner: &mut P,
-) -> Ended<I, W, R>
-where
-    I: Source + Send + Drop + 'static,
-    W: World + Send + Drop + 'static,
-    O: Sink,
-    R: Recorder + Send + Drop + 'static,
-    P: Spawner,
-    T: Wait + Threads + Copy,
-    requires laid { IsLaid 0 table }
-    requires apart { number table.others.last.pass ≢ number table.others.asker }
-    requires begun { work.keep ≡ true → R.begun work.rec ≡ true }
-    ensures chat { (g : ConfigValue) (start : StartValue) (name : Option (List ℕ)) (s : Seen)
-        → StandsFor g [] table.seat.node →
-        Prepared g start name work.keep s (seen (I.left input) (I.taken input) (I.faults input)
-        (W.told work.world) (W.faults work.world) (O.written out.old) (O.faults out.old)
-        (R.kept work.rec) (R.named work.rec) (R.faults work.rec) (P.faults spawner.old)) →
-        IsChat g start name work.limit s
-        (seen (I.left result.input) (I.taken result.input) (I.faults result.input)
-        (W.told result.world) (W.faults result.world) (O.written out.new) (O.faults out.new)
-        (R.kept result.rec) (R.named result.rec) (R.faults result.rec) (P.faults spawner.new))
-        result.status }
-    ensures unkept { work.keep ≡ false → result.rec ≡ work.rec }
-    ensures later { (I.faults input ≤ I.faults result.input) × (O.faults out.old ≤ O.faults out.new)
-        × (P.faults spawner.old ≤ P.faults spawner.new) }
-{
-    let Table { seat, others } = table;
-    let limit = work.limit;
-    let working = match start_node(spawner, seat, work) {
-        Ok(working) => working,
-        Err((world, rec)) => {
-            drop(others);
-            return Ended {
-                status: Status::NoThread,
-                input,
-                world,
-                rec,
-            };
-        }
-    };
-    let job = ReaderJob {
-        alloc,
-        pipes: others.last.pipes,
-        over: others.last.over,
-        pass: others.last.pass,
-        input,
-        limit,
-    };
-    let (asker, callers, taker) = (others.asker, others.callers, others.taker);
-    let Talk {
-        done,
-        printed,
-        refused,
-    } = hold_talk(
-        rt,
-        alloc,
-        &others.pipes,
-        &others.over,
-        job,
-        false,
-        asker,
-        taker,
-        out,
-        spawner,
-    );
-    let done = Read {
-        input: done.input,
-        pass: done.pass,
-        status: of_read(done.end),
-    };
-    let talk = Talk {
-        done,
-        printed,
-        refused,
-    };
-    let worked = working.join(rt);
-    settle(rt, &others.pipes, callers, talk, worked)
+impl Table {
+    /// Starts the node's thread and the reader's, prints, and waits for both.
+    pub(crate) fn converse<I, W, O, R, P, T>(
+        self,
+        rt: T,
+        alloc: Global,
+        input: I,
+        work: NodeWork<W, R>,
+        out: &mut O,
+        spawner: &mut P,
+    ) -> Ended<I, W, R>
+    where
+        I: Source + Send + Drop + 'static,
+        W: World + Send + Drop + 'static,
+        O: Sink,
+        R: Recorder + Send + Drop + 'static,
+        P: Spawner,
+        T: Wait + Threads + Copy,
+        requires laid { IsLaid 0 self }
+        requires apart { number self.others.last.pass ≢ number self.others.printer.asker }
+        requires begun { work.keep ≡ true → R.begun work.rec ≡ true }
+        ensures chat { (g : ConfigValue) (start : StartValue) (name : Option (List ℕ)) (s : Seen)
+            → StandsFor g [] self.seat.node →
+            Prepared g start name work.keep s (seen (I.left input) (I.taken input) (I.faults input)
+            (W.told work.world) (W.faults work.world) (O.written out.old) (O.faults out.old)
+            (R.kept work.rec) (R.named work.rec) (R.faults work.rec) (P.faults spawner.old)) →
+            IsChat g start name work.limit s
+            (seen (I.left result.input) (I.taken result.input) (I.faults result.input)
+            (W.told result.world) (W.faults result.world) (O.written out.new) (O.faults out.new)
+            (R.kept result.rec) (R.named result.rec) (R.faults result.rec) (P.faults spawner.new))
+            result.status }
+        ensures unkept { work.keep ≡ false → result.rec ≡ work.rec }
+        ensures later { (I.faults input ≤ I.faults result.input) × (O.faults out.old ≤ O.faults out.new)
+            × (P.faults spawner.old ≤ P.faults spawner.new) }
+    {
+        let Table { seat, others } = self;
+        let limit = work.limit;
+        let working = match start_node(spawner, seat, work) {
+            Ok(working) => working,
+            Err((world, rec)) => {
+                drop(others);
+                return Ended {
+                    status: Status::NoThread,
+                    input,
+                    world,
+                    rec,
+                };
+            }
+        };
+        let job = ReaderJob {
+            alloc,
+            pipes: others.last.pipes,
+            over: others.last.over,
+            pass: others.last.pass,
+            input,
+            limit,
+        };
+        let talk = others
+            .printer
+            .hold_talk(rt, alloc, job, false, out, spawner);
+        let done = Read {
+            input: talk.done.input,
+            pass: talk.done.pass,
+            status: of_read(talk.done.end),
+        };
+        let talk = Talk {
+            pipes: talk.pipes,
+            done,
+            printed: talk.printed,
+            refused: talk.refused,
+        };
+        let worked = working.join(rt);
+        settle(rt, others.callers, talk, worked)
+    }
 }

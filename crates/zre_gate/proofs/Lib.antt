@@ -1,7 +1,7 @@
 pub mod Answering
 pub mod Attended
 pub mod Clients
-pub mod GatheredClients
+pub mod Gathered
 pub mod Holding
 pub mod Merged
 pub mod Places

@@ -17,13 +17,17 @@ amid : {X : Type 0} (P : X → Type 0) (front rest : List X) (x : X) → All P (
 amid P [] rest x a = All-head P x rest a
 amid P (y ∷ front) rest x a = amid P front rest x (All-tail P y (front ++ x ∷ rest) a)
 
+-- a chair amid others
+pub chair_among : (pipes : Pipes) (chairs front rest : List Chair) (chair : Chair) → All (IsChair pipes) chairs → chairs ≡ front ++ chair ∷ rest → IsChair pipes chair
+chair_among pipes chairs front rest chair are of_chairs = amid (IsChair pipes) front rest chair (subst (All (IsChair pipes)) of_chairs are)
+
 -- the client at a place is a guest of the hall
 pub seated_guest : {C : Type 0} (look : C → ClientRow) (hall : Option Hall) (pipes : Pipes) (limit : ℕ) (chairs front rest : List Chair) (chair : Chair) (clients before after : List C) (x : C) (place : ℕ)
     → All (IsChair pipes) chairs → hall ≡ Some (hall_of pipes limit (map chair_number chairs) (map look clients))
     → chairs ≡ front ++ chair ∷ rest → clients ≡ before ++ x ∷ after → length front ≡ place → length before ≡ place
     → IsGuest hall (arc_value chair.pipes) limit place chair.pass (look x)
 seated_guest look hall pipes limit chairs front rest chair clients before after x place are known of_chairs of_clients long also =
-    let c = amid (IsChair pipes) front rest chair (subst (All (IsChair pipes)) of_chairs are) in
+    let c = chair_among pipes chairs front rest chair are of_chairs in
     let numbers : map chair_number chairs ≡ map chair_number front ++ chair_number chair ∷ map chair_number rest = ap (map chair_number) of_chairs ∙ map-append chair_number front (chair ∷ rest) in
     let rows : map look clients ≡ map look before ++ look x ∷ map look after = ap (map look) of_clients ∙ map-append look before (x ∷ after) in
     let at : length (map chair_number front) ≡ place = length-map front chair_number ∙ long in

@@ -145,8 +145,8 @@ attended begun place given r = record {
 
 -- the same, with the clients that the desk gave and what it tells
 pub record HasGated {C : Type 0} (look : C → ClientRow) (place : Endpoint) (told told' : Option (Register C))
-    (g : Config) (start : Start) (name : Option (List ℕ)) (limit many : ℕ) (s t : Seen) (desk : Type 0) (returned : List C)
-    (status : Status) : Type 0 where
+    (g : Config) (start : Start) (name : Option (List ℕ)) (limit many : ℕ) (s t : Seen) (desk : Type 0)
+    (returned : List C) (status : Status) : Type 0 where
   pub given : List C
   pub begun : Bool
   pub is_told : told' ≡ option_map (attended begun place given) told

@@ -14,8 +14,8 @@ chair_number c = number c.pass
 -- room for so many clients
 pub record IsLaid {C : Type 0} (many : ℕ) (t : GateTable C) : Type 0 where
   pub base : IsBase many t.base
-  pub are_chairs : All (IsChair (arc_value t.base.others.pipes)) t.chairs.items
+  pub are_chairs : All (IsChair (arc_value t.base.others.printer.pipes)) t.chairs.items
   pub many_chairs : length t.chairs.items ≡ many
-  pub apart : (n : ℕ)
-      → times n (number t.base.others.last.pass ∷ number t.base.others.asker ∷ map chair_number t.chairs.items) ≤ 1
+  pub apart : (n : ℕ) → times n (number t.base.others.last.pass ∷ number t.base.others.printer.asker
+      ∷ map chair_number t.chairs.items) ≤ 1
   pub left_room : (t.left.items ≡ []) × (many ≤ vec_capacity t.left)

@@ -13,7 +13,6 @@ ghost use Rattle.zre_gate.specs.Tables.{IsLaid};
 
 use crate::arrivals::attend;
 use crate::table::GateTable;
-use crate::threads::serve;
 use std::alloc::Global;
 use std::marker::Brand;
 use std::sync::Wait;
@@ -83,26 +82,11 @@ impl Gate {
         ensures unkept { self.chat.capture ≡ None → result.rec ≡ rec }
         ensures later { (O.faults out.old ≤ O.faults out.new) × (P.faults spawner.old ≤ P.faults spawner.new) }
     {
-        let Gate {
-            chat,
-            local,
-            clients: many,
-        } = self;
-        are_values(&chat.config);
-        let keep = chat.capture.is_some();
+        are_values(&self.chat.config);
+        let keep = self.chat.capture.is_some();
         let (mut desk, mut world, mut rec) = (desk, world, rec);
         let mut clients = Vec::new(alloc);
-        let opened = prepare(
-            alloc,
-            chat,
-            local,
-            many,
-            &mut desk,
-            &mut clients,
-            &mut world,
-            &mut rec,
-        );
-        match opened {
+        match self.prepare(alloc, &mut desk, &mut clients, &mut world, &mut rec) {
             Ok(table) => {
                 let work = NodeWork {
                     world,
@@ -110,8 +94,8 @@ impl Gate {
                     keep,
                     limit,
                 };
-                let served = serve::<D::Client, W, O, R, P, T, Brand>(
-                    rt, alloc, table, clients, work, out, spawner,
+                let served = table.serve::<W, O, R, P, T, Brand>(
+                    rt, alloc, clients, work, out, spawner,
                 );
                 ended(desk, served)
             }
@@ -124,6 +108,54 @@ impl Gate {
                 };
                 ended(desk, unserved)
             }
+        }
+    }
+
+    // Begins the capture, where one is kept, waits for the clients, goes on the network, and makes what the threads
+    // need.
+    fn prepare<D: Desk, W: World, R: Recorder>(
+        self,
+        alloc: Global,
+        desk: &mut D,
+        clients: &mut Vec<D::Client>,
+        world: &mut W,
+        rec: &mut R,
+    ) -> Result<GateTable<D::Client>, Status>
+        requires valid { is_valid self.chat.config ≡ true }
+        requires text { IfSome self.chat.capture (λ name. is_utf8 name ≡ true) }
+        requires few { (1 ≤ self.clients) × (self.clients ≤ 14) }
+        requires none { clients.old.items ≡ [] }
+        ensures laid { IfOk result (λ table. IsLaid self.clients table
+            × StandsFor self.chat.config [] table.base.seat.node) }
+        ensures attends { Attends self.local (D.told desk.old) (D.told desk.new) clients.new.items }
+        ensures all { OnOk result
+            (AttendsAll self.local self.clients (D.told desk.old) (D.told desk.new) clients.new.items) }
+        ensures opened { OnOk result (HasOpened self.chat.config self.chat.start self.chat.capture (R.begun rec.new)
+            (W.told world.old) (W.told world.new) (R.kept rec.old) (R.kept rec.new)
+            (R.named rec.old) (R.named rec.new)) }
+        ensures unkept { self.chat.capture ≡ None → rec.new ≡ rec.old }
+        ensures later { (W.faults world.old ≤ W.faults world.new) × (R.faults rec.old ≤ R.faults rec.new) }
+        ensures refused { IfErr result (λ status. Unprepared self.chat.config self.chat.start self.chat.capture status
+            (W.told world.old) (W.told world.new) (R.kept rec.old) (R.kept rec.new) (R.named rec.old) (R.named rec.new)
+            (Rose (D.faults desk.old) (D.faults desk.new)) (Rose (W.faults world.old) (W.faults world.new))
+            (Rose (R.faults rec.old) (R.faults rec.new))) }
+    {
+        let Chat {
+            config,
+            start,
+            capture,
+        } = self.chat;
+        if clients.reserve(usize::from(self.clients)).is_err() {
+            return Err(Status::OutOfMemory);
+        }
+        begin(alloc, rec, &config, &capture)?;
+        if let Err(Failed) = attend(desk, self.local, self.clients, clients) {
+            return Err(Status::DeskFault);
+        }
+        let base = enter(alloc, config, &start, world, self.clients)?;
+        match GateTable::lay(alloc, base, self.clients) {
+            Ok(table) => Ok(table),
+            Err(OutOfMemory) => Err(Status::OutOfMemory),
         }
     }
 }
@@ -144,51 +176,5 @@ fn ended<D: Desk, W, R>(desk: D, served: Ended<Vec<D::Client>, W, R>) -> GateEnd
         clients: served.input,
         world: served.world,
         rec: served.rec,
-    }
-}
-
-// Begins the capture, where one is kept, waits for the clients, goes on the network, and makes what the threads need.
-fn prepare<D: Desk, W: World, R: Recorder>(
-    alloc: Global,
-    chat: Chat,
-    local: Endpoint,
-    many: u8,
-    desk: &mut D,
-    clients: &mut Vec<D::Client>,
-    world: &mut W,
-    rec: &mut R,
-) -> Result<GateTable<D::Client>, Status>
-    requires valid { is_valid chat.config ≡ true }
-    requires text { IfSome chat.capture (λ name. is_utf8 name ≡ true) }
-    requires few { (1 ≤ many) × (many ≤ 14) }
-    requires none { clients.old.items ≡ [] }
-    ensures laid { IfOk result (λ table. IsLaid many table × StandsFor chat.config [] table.base.seat.node) }
-    ensures attends { Attends local (D.told desk.old) (D.told desk.new) clients.new.items }
-    ensures all { OnOk result (AttendsAll local many (D.told desk.old) (D.told desk.new) clients.new.items) }
-    ensures opened { OnOk result (HasOpened chat.config chat.start chat.capture (R.begun rec.new)
-        (W.told world.old) (W.told world.new) (R.kept rec.old) (R.kept rec.new) (R.named rec.old) (R.named rec.new)) }
-    ensures unkept { chat.capture ≡ None → rec.new ≡ rec.old }
-    ensures later { (W.faults world.old ≤ W.faults world.new) × (R.faults rec.old ≤ R.faults rec.new) }
-    ensures refused { IfErr result (λ status. Unprepared chat.config chat.start chat.capture status
-        (W.told world.old) (W.told world.new) (R.kept rec.old) (R.kept rec.new) (R.named rec.old) (R.named rec.new)
-        (Rose (D.faults desk.old) (D.faults desk.new)) (Rose (W.faults world.old) (W.faults world.new))
-        (Rose (R.faults rec.old) (R.faults rec.new))) }
-{
-    let Chat {
-        config,
-        start,
-        capture,
-    } = chat;
-    if clients.reserve(usize::from(many)).is_err() {
-        return Err(Status::OutOfMemory);
-    }
-    begin(alloc, rec, &config, &capture)?;
-    if let Err(Failed) = attend(desk, local, many, clients) {
-        return Err(Status::DeskFault);
-    }
-    let base = enter(alloc, config, &start, world, many)?;
-    match GateTable::lay(alloc, base, many) {
-        Ok(table) => Ok(table),
-        Err(OutOfMemory) => Err(Status::OutOfMemory),
     }
 }

@@ -62,8 +62,8 @@ impl<C: Drop> GateTable<C> {
         let left = Vec::with_capacity(alloc, usize::from(many))?;
         let chairs = chairs_for(
             alloc,
-            &base.others.pipes,
-            &base.others.over,
+            &base.others.printer.pipes,
+            &base.others.printer.over,
             &mut base.others.callers,
             many,
         )?;

@@ -13,7 +13,7 @@ ghost use Rattle.zre_chat.specs.Stages.{Prepared};
 ghost use Rattle.zre_chat.specs.Tables.{IsChair};
 ghost use Rattle.zre_gate.specs.Clients.{row};
 ghost use Rattle.zre_gate.specs.Gate.{IsGate, seen_beside};
-ghost use Rattle.zre_gate.specs.Halls.{hall_of, IsGuest};
+ghost use Rattle.zre_gate.specs.Halls.{hall_of};
 ghost use Rattle.zre_gate.specs.Tables.{IsLaid, chair_number};
 
 use crate::client::{Answer, ClientJob};
@@ -30,7 +30,7 @@ use zre_chat::finishing::settle;
 use zre_chat::places::{Chair, NodeWork};
 use zre_chat::starting::start_node;
 use zre_chat::table::Table as Base;
-use zre_chat::talk::{Excused, hold_talk, start};
+use zre_chat::talk::{Excused, start};
 use zre_commands::pump::Status;
 use zre_console::reader::ReaderJob;
 use zre_outside::{Recorder, Running, Sink, Source, Spawner, Task, World};
@@ -94,76 +94,70 @@ where
     }
 }
 
-// The job of the client at a place.
-fn job_for<C, B>(
-    alloc: Global,
-    chair: Chair,
-    input: C,
+// What the threads of the clients are given, in the order of the clients.
+#[derive(Drop)]
+struct ClientSeats<C: Source, B: GateName> {
+    // A chair for each.
+    chairs: VecDeque<Chair>,
+    // Where the answer of each goes to.
+    ins: VecDeque<Sender<Answer<C, B>>>,
+    // The most octets that are read of each.
     limit: u64,
-    place: u64,
-    line: Sender<Answer<C, B>>,
-) -> ClientJob<C, B>
-where
-    C: Source + Send + Drop + 'static,
-    B: GateName + Send + 'static,
-    requires { IsGuest B.hall (arc_value chair.pipes) limit place chair.pass (row C.left C.taken C.faults input) }
-{
-    let reading = ReaderJob {
-        alloc,
-        pipes: chair.pipes,
-        over: chair.over,
-        pass: chair.pass,
-        input,
-        limit,
-    };
-    ClientJob {
-        reading,
-        place,
-        line,
-    }
 }
 
-// Starts a thread for each client, in order, until one is refused.
-fn seat_all<C, B, P, T>(
-    rt: T,
-    alloc: Global,
-    clients: Vec<C>,
-    mut chairs: VecDeque<Chair>,
-    mut ins: VecDeque<Sender<Answer<C, B>>>,
-    limit: u64,
-    running: Vec<Running<ClientJob<C, B>>>,
-    spawner: &mut P,
-) -> Seated<ClientJob<C, B>>
-where
-    C: Source + Send + Drop + 'static,
-    B: GateName + Send + 'static,
-    P: Spawner,
-    T: Wait + Copy,
-    requires many { (length chairs.items ≡ length clients.items) × (length ins.items ≡ length clients.items) }
-    requires room { (running.items ≡ []) × (length clients.items ≤ vec_capacity running) }
-    requires hall { (pipes : PipesValue) × All (IsChair pipes) chairs.items
-        × (B.hall ≡ Some (hall_of pipes limit (map chair_number chairs.items)
-        (map (row C.left C.taken C.faults) clients.items))) }
-    ensures refused { result.refused ≡ true → Rose (P.faults spawner.old) (P.faults spawner.new) }
-    ensures later { P.faults spawner.old ≤ P.faults spawner.new }
-{
-    let mut seated = Seated {
-        running,
-        refused: false,
-    };
-    let mut place: u64 = 0;
-    for input in clients {
-        let Some(chair) = chairs.pop_front() else {
-            unreachable!();
+impl<C: Source + Send + Drop + 'static, B: GateName + Send + 'static> ClientSeats<C, B> {
+    // Starts a thread for each client, in order, until one is refused.
+    fn seat_all<P, T>(
+        mut self,
+        rt: T,
+        alloc: Global,
+        clients: Vec<C>,
+        running: Vec<Running<ClientJob<C, B>>>,
+        spawner: &mut P,
+    ) -> Seated<ClientJob<C, B>>
+    where
+        P: Spawner,
+        T: Wait + Copy,
+        requires many { (length self.chairs.items ≡ length clients.items)
+            × (length self.ins.items ≡ length clients.items) }
+        requires room { (running.items ≡ []) × (length clients.items ≤ vec_capacity running) }
+        requires hall { (pipes : PipesValue) × All (IsChair pipes) self.chairs.items
+            × (B.hall ≡ Some (hall_of pipes self.limit (map chair_number self.chairs.items)
+            (map (row C.left C.taken C.faults) clients.items))) }
+        ensures refused { result.refused ≡ true → Rose (P.faults spawner.old) (P.faults spawner.new) }
+        ensures later { P.faults spawner.old ≤ P.faults spawner.new }
+    {
+        let mut seated = Seated {
+            running,
+            refused: false,
         };
-        let Some(line) = ins.pop_front() else {
-            unreachable!();
-        };
-        let job = job_for(alloc, chair, input, limit, place, line);
-        seat_one(rt, job, &mut seated, spawner);
-        place += 1;
+        let limit = self.limit;
+        let mut place: u64 = 0;
+        for input in clients {
+            let Some(chair) = self.chairs.pop_front() else {
+                unreachable!();
+            };
+            let Some(line) = self.ins.pop_front() else {
+                unreachable!();
+            };
+            let reading = ReaderJob {
+                alloc,
+                pipes: chair.pipes,
+                over: chair.over,
+                pass: chair.pass,
+                input,
+                limit,
+            };
+            let job = ClientJob {
+                reading,
+                place,
+                line,
+            };
+            seat_one(rt, job, &mut seated, spawner);
+            place += 1;
+        }
+        seated
     }
-    seated
 }
 
 // Waits for threads whose answers came by another way.
@@ -173,95 +167,80 @@ fn join_all<J: Task, T: Threads + Copy>(rt: T, running: Vec<Running<J>>) {
     }
 }
 
-/// Starts the node's thread, one for each client and the closer's, prints, and waits for all of them.
-pub(crate) fn serve<C, W, O, R, P, T, B>(
-    rt: T,
-    alloc: Global,
-    table: GateTable<C>,
-    clients: Vec<C>,
-    work: NodeWork<W, R>,
-    out: &mut O,
-    spawner: &mut P,
-) -> Ended<Vec<C>, W, R>
-where
-    C: Source + Send + Drop + 'static,
-    W: World + Send + Drop + 'static,
-    O: Sink,
-    R: Recorder + Send + Drop + 'static,
-    P: Spawner,
-    T: Wait + Threads + Copy,
-    B: GateName + Send + 'static,
-    requires laid { IsLaid (length clients.items) table }
-    requires begun { work.keep ≡ true → R.begun work.rec ≡ true }
-    requires hall { B.hall ≡ Some (hall_of (arc_value table.base.others.pipes) work.limit
-        (map chair_number table.chairs.items) (map (row C.left C.taken C.faults) clients.items)) }
-    ensures gate { (g : ConfigValue) (start : StartValue) (name : Option (List ℕ)) (s : Seen) (before after : ℕ)
-        → StandsFor g [] table.base.seat.node →
-        Prepared g start name work.keep s (seen_beside (W.told work.world) (W.faults work.world)
-        (O.written out.old) (O.faults out.old) (R.kept work.rec) (R.named work.rec) (R.faults work.rec)
-        (P.faults spawner.old)) →
-        IsGate g start name work.limit (length clients.items) s
-        (seen_beside (W.told result.world) (W.faults result.world) (O.written out.new) (O.faults out.new)
-        (R.kept result.rec) (R.named result.rec) (R.faults result.rec) (P.faults spawner.new))
-        (Rose before after) (map (row C.left C.taken C.faults) clients.items)
-        (map (row C.left C.taken C.faults) result.input.items) result.status }
-    ensures unkept { work.keep ≡ false → result.rec ≡ work.rec }
-    ensures later { (O.faults out.old ≤ O.faults out.new) × (P.faults spawner.old ≤ P.faults spawner.new) }
-{
-    let Ok(room) = room_for::<C, B>(alloc, clients.len() as u64) else {
-        drop(table);
-        return Ended {
-            status: Status::OutOfMemory,
-            input: clients,
-            world: work.world,
-            rec: work.rec,
-        };
-    };
-    let GateTable { base, chairs, left } = table;
-    let Base { seat, others } = base;
-    let limit = work.limit;
-    let working = match start_node(spawner, seat, work) {
-        Ok(working) => working,
-        Err((world, rec)) => {
-            drop(others);
-            drop(chairs);
-            drop(left);
-            drop(room);
+impl<C: Source + Send + Drop + 'static> GateTable<C> {
+    /// Starts the node's thread, one for each client and the closer's, prints, and waits for all of them.
+    pub(crate) fn serve<W, O, R, P, T, B>(
+        self,
+        rt: T,
+        alloc: Global,
+        clients: Vec<C>,
+        work: NodeWork<W, R>,
+        out: &mut O,
+        spawner: &mut P,
+    ) -> Ended<Vec<C>, W, R>
+    where
+        W: World + Send + Drop + 'static,
+        O: Sink,
+        R: Recorder + Send + Drop + 'static,
+        P: Spawner,
+        T: Wait + Threads + Copy,
+        B: GateName + Send + 'static,
+        requires laid { IsLaid (length clients.items) self }
+        requires begun { work.keep ≡ true → R.begun work.rec ≡ true }
+        requires hall { B.hall ≡ Some (hall_of (arc_value self.base.others.printer.pipes) work.limit
+            (map chair_number self.chairs.items) (map (row C.left C.taken C.faults) clients.items)) }
+        ensures gate { (g : ConfigValue) (start : StartValue) (name : Option (List ℕ)) (s : Seen) (before after : ℕ)
+            → StandsFor g [] self.base.seat.node →
+            Prepared g start name work.keep s (seen_beside (W.told work.world) (W.faults work.world)
+            (O.written out.old) (O.faults out.old) (R.kept work.rec) (R.named work.rec) (R.faults work.rec)
+            (P.faults spawner.old)) →
+            IsGate g start name work.limit (length clients.items) s
+            (seen_beside (W.told result.world) (W.faults result.world) (O.written out.new) (O.faults out.new)
+            (R.kept result.rec) (R.named result.rec) (R.faults result.rec) (P.faults spawner.new))
+            (Rose before after) (map (row C.left C.taken C.faults) clients.items)
+            (map (row C.left C.taken C.faults) result.input.items) result.status }
+        ensures unkept { work.keep ≡ false → result.rec ≡ work.rec }
+        ensures later { (O.faults out.old ≤ O.faults out.new) × (P.faults spawner.old ≤ P.faults spawner.new) }
+    {
+        let Ok(room) = room_for::<C, B>(alloc, clients.len() as u64) else {
             return Ended {
-                status: Status::NoThread,
+                status: Status::OutOfMemory,
                 input: clients,
-                world,
-                rec,
+                world: work.world,
+                rec: work.rec,
             };
-        }
-    };
-    let (AnswerLines { ins, outs }, running) = room;
-    let Seated { running, refused } = seat_all(
-        rt, alloc, clients, chairs, ins, limit, running, spawner,
-    );
-    let job = CloserJob {
-        pipes: others.last.pipes,
-        over: others.last.over,
-        pass: others.last.pass,
-        lines: outs,
-        clients: left,
-    };
-    let (asker, callers, taker) = (others.asker, others.callers, others.taker);
-    let talk = hold_talk(
-        rt,
-        alloc,
-        &others.pipes,
-        &others.over,
-        job,
-        refused,
-        asker,
-        taker,
-        out,
-        spawner,
-    );
-    join_all(rt, running);
-    let worked = working.join(rt);
-    settle(rt, &others.pipes, callers, talk, worked)
+        };
+        let GateTable { base, chairs, left } = self;
+        let Base { seat, others } = base;
+        let limit = work.limit;
+        let working = match start_node(spawner, seat, work) {
+            Ok(working) => working,
+            Err((world, rec)) => {
+                return Ended {
+                    status: Status::NoThread,
+                    input: clients,
+                    world,
+                    rec,
+                };
+            }
+        };
+        let (AnswerLines { ins, outs }, running) = room;
+        let seats = ClientSeats { chairs, ins, limit };
+        let seated = seats.seat_all(rt, alloc, clients, running, spawner);
+        let job = CloserJob {
+            pipes: others.last.pipes,
+            over: others.last.over,
+            pass: others.last.pass,
+            lines: outs,
+            clients: left,
+        };
+        let talk = others
+            .printer
+            .hold_talk(rt, alloc, job, seated.refused, out, spawner);
+        join_all(rt, seated.running);
+        let worked = working.join(rt);
+        settle(rt, others.callers, talk, worked)
+    }
 }
 
 // The channels of so many clients, and room for their threads.

@@ -6,7 +6,7 @@ use Rattle.zre_gate.proofs.Gathered.{not_closed}
 use Rattle.zre_gate.proofs.closer.CloserJobExcused.excuse.Goals as goal
 
 pub gather-clients-requires-clause-hall : goal.gather-clients-requires-clause-hall
-gather-clients-requires-clause-hall g c = subst (λ p. ∥ IsHall g.B.Known.hall p ∥₁) (sym c.deref.ensures) c.args.self.hall
+gather-clients-requires-clause-hall g c = subst (λ p. ∥ IsHall g.B.GateName.hall p ∥₁) (sym c.deref.ensures) c.args.self.hall
 
 pub returns : goal.returns
 returns g c = (

@@ -11,7 +11,7 @@ pub returns-in-Err-clause-gate : goal.returns-in-Err-clause-gate
 returns-in-Err-clause-gate g c =
     let k = g.D.Desk in let w = g.W.World in let o = g.O.Sink in let r = g.R.Recorder in let a = c.args in
     let look = row g.D.Client.Source.left g.D.Client.Source.taken g.D.Client.Source.faults in
-    let opened = c.prepare-opened in let n = opened.new.rec in let x = opened.new.world in let d = opened.new.desk in let u = c.in-Err.ensures.refused in let at = opened.ensures.attends in
+    let opened = c.prepare in let n = opened.new.rec in let x = opened.new.world in let d = opened.new.desk in let u = c.in-Err.ensures.refused in let at = opened.ensures.attends in
     let s = seen_beside (w.told a.world) (w.faults a.world) (o.written a.out.now) (o.faults a.out.now) (r.kept a.rec) (r.named a.rec) (r.faults a.rec) (g.P.Spawner.faults a.spawner.now) in
     let t = seen_beside (w.told x) (w.faults x) (o.written a.out.now) (o.faults a.out.now) (r.kept n) (r.named n) (r.faults n) (g.P.Spawner.faults a.spawner.now) in
     let desk = Rose (k.faults a.desk) (k.faults d) in
@@ -35,7 +35,7 @@ pub returns-in-Ok-clause-gate : goal.returns-in-Ok-clause-gate
 returns-in-Ok-clause-gate g c =
     let k = g.D.Desk in let w = g.W.World in let o = g.O.Sink in let r = g.R.Recorder in let a = c.args in let chat = a.self.chat in
     let look = row g.D.Client.Source.left g.D.Client.Source.taken g.D.Client.Source.faults in
-    let opened = c.prepare-opened in let n = opened.new.rec in let x = opened.new.world in let served = c.serve-served in let all = c.in-Ok.ensures.all in
+    let opened = c.prepare in let n = opened.new.rec in let x = opened.new.world in let served = c.serve-served in let all = c.in-Ok.ensures.all in
     let s = seen_beside (w.told a.world) (w.faults a.world) (o.written a.out.now) (o.faults a.out.now) (r.kept a.rec) (r.named a.rec) (r.faults a.rec) (g.P.Spawner.faults a.spawner.now) in
     let u = seen_beside (w.told x) (w.faults x) (o.written a.out.now) (o.faults a.out.now) (r.kept n) (r.named n) (r.faults n) (g.P.Spawner.faults a.spawner.now) in
     let t = seen_beside (w.told served.result.world) (w.faults served.result.world) (o.written served.new.out) (o.faults served.new.out) (r.kept served.result.rec) (r.named served.result.rec) (r.faults served.result.rec) (g.P.Spawner.faults served.new.spawner) in

@@ -7,6 +7,6 @@ use Rattle.zre_gate.proofs.gate.Gate.run.Given as goal
 
 abbrev pub ghosts-serve : goal.ghosts-serve
 ghosts-serve g a = record {
-  hall = Some (hall_of (arc_value a.table.base.others.pipes) a.work.limit (map chair_number a.table.chairs.items)
+  hall = Some (hall_of (arc_value a.self.base.others.printer.pipes) a.work.limit (map chair_number a.self.chairs.items)
       (map (row g.D.Client.Source.left g.D.Client.Source.taken g.D.Client.Source.faults) a.clients.items));
 }

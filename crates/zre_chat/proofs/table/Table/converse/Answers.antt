@@ -16,7 +16,7 @@ use Rattle.zre_chat.proofs.Asker.{asker_ended}
 use Rattle.zre_chat.proofs.Rows.{thread_isnt}
 use Rattle.zre_chat.proofs.Talked.{talked}
 use Rattle.zre_chat.proofs.Whole.{untalked, head_only}
-use Rattle.zre_chat.proofs.threads.converse.Goals as goal
+use Rattle.zre_chat.proofs.table.Table.converse.Goals as goal
 
 pub returns-in-Err-clause-chat : goal.returns-in-Err-clause-chat
 returns-in-Err-clause-chat g c = λ f start name s stands p. (
@@ -37,8 +37,8 @@ returns-in-Err-clause-chat g c = λ f start name s stands p. (
 
 pub returns-clause-chat : goal.returns-clause-chat
 returns-clause-chat g c = λ f start name s stands p. (
-    let i = g.I.Source in let w = g.W.World in let o = g.O.Sink in let r = g.R.Recorder in let a = c.args in let l = c.requires.laid in let x = a.table.others in
-    let told = c.hold_talk-done in let done = told.result.done in let printed = told.result.printed in
+    let i = g.I.Source in let w = g.W.World in let o = g.O.Sink in let r = g.R.Recorder in let a = c.args in let l = c.requires.laid in let x = a.self.others in
+    let told = c.hold_talk-talk in let done = told.result.done in let printed = told.result.printed in
     let out = c.join-worked.result in let means = c.join-worked.ensures in let began = c.in-Ok.ensures.started in let same = c.settle.ensures.same in
     let u = seen (i.left a.input) (i.taken a.input) (i.faults a.input) (w.told a.work.world) (w.faults a.work.world) (o.written a.out.now) (o.faults a.out.now) (r.kept a.work.rec) (r.named a.work.rec) (r.faults a.work.rec) (g.P.Spawner.faults a.spawner.now) in
     let t = seen (i.left done.input) (i.taken done.input) (i.faults done.input) (w.told out.world) (w.faults out.world) (o.written told.new.out) (o.faults told.new.out) (r.kept out.rec) (r.named out.rec) (r.faults out.rec) (g.P.Spawner.faults told.new.spawner) in
@@ -52,24 +52,24 @@ returns-clause-chat g c = λ f start name s stands p. (
       seen (i.left (sym same.0 k)) (i.taken (sym same.0 k)) (i.faults (sym same.0 k)) (w.told (sym same.1 k)) (w.faults (sym same.1 k)) (o.written told.new.out) (o.faults told.new.out) (r.kept (sym same.2 k)) (r.named (sym same.2 k)) (r.faults (sym same.2 k)) (g.P.Spawner.faults told.new.spawner),
       sym status k,
     ))
-    (talked f start name a.work.keep a.work.limit s u t p out.node out.ending (w.looked a.work.world) (w.looked out.world) a.table.seat.pass out.pass (work stands)
+    (talked f start name a.work.keep a.work.limit s u t p out.node out.ending (w.looked a.work.world) (w.looked out.world) a.self.seat.pass out.pass (work stands)
     (subst (λ j. Keeps (r.named j.4) (r.named out.rec)) began means.5) l.seat.none_popped l.seat.none_raised
-    done.end x.last.pass done.pass told.ensures.done.2 x.asker printed.pass told.result.refused x.taker printed.taker printed.fault told.ensures.printed
+    done.end x.last.pass done.pass told.ensures.done.2 x.printer.asker printed.pass told.result.refused x.printer.taker printed.taker printed.fault told.ensures.printed
     told.ensures.failed rose l.none_taken l.last.2 l.new_asker c.requires.apart c.settle.ensures.fronts c.settle.ensures.taken))
 
 pub settle-requires-clause-pipes : goal.settle-requires-clause-pipes
 settle-requires-clause-pipes g c = (
-  subst (λ ps. IsActorOf ps c.join-worked.result.pass) (ap (λ j. arc_value j.0) c.in-Ok.ensures.started ∙ c.requires.laid.seat.same) c.join-worked.ensures.0,
-  c.hold_talk-done.ensures.pipes.0,
+  subst (λ ps. IsActorOf ps c.join-worked.result.pass) (ap (λ j. arc_value j.0) c.in-Ok.ensures.started ∙ c.requires.laid.seat.same ∙ ap (λ p. arc_value p) (sym c.hold_talk-talk.ensures.same)) c.join-worked.ensures.0,
+  c.hold_talk-talk.ensures.pipes.0,
 )
 
 pub settle-requires-clause-callers : goal.settle-requires-clause-callers
-settle-requires-clause-callers g c = let told = c.hold_talk-done in
-    (subst (λ ps. IsCallerOf ps told.result.done.pass) c.requires.laid.last.0 told.ensures.done.0, told.ensures.pipes.1)
+settle-requires-clause-callers g c = let told = c.hold_talk-talk in
+    (subst (λ ps. IsCallerOf ps told.result.done.pass) (c.requires.laid.last.0 ∙ ap (λ p. arc_value p) (sym told.ensures.same)) told.ensures.done.0, told.ensures.pipes.1)
 
 pub settle-requires-clause-back : goal.settle-requires-clause-back
 settle-requires-clause-back g c =
-    let l = c.requires.laid in let told = c.hold_talk-done in let done = told.result.done in let printed = told.result.printed in let o = g.O.Sink in let x = c.args.table.others in
+    let l = c.requires.laid in let told = c.hold_talk-talk in let done = told.result.done in let printed = told.result.printed in let o = g.O.Sink in let x = c.args.self.others in
     let many = two_alone done.pass printed.pass (told.ensures.done.2.puts.same_ended ∙ l.last.2.0)
-    (asker_ended x.asker told.result.refused x.taker printed.taker printed.pass printed.fault (o.written c.args.out.now) (o.written told.new.out) told.ensures.printed ∙ l.new_asker.0) in
+    (asker_ended x.printer.asker told.result.refused x.printer.taker printed.taker printed.pass printed.fault (o.written c.args.out.now) (o.written told.new.out) told.ensures.printed ∙ l.new_asker.0) in
     omega (arith, many, ap length (c.join-worked.ensures.1 ∙ ap (λ j. unused_by j.3) c.in-Ok.ensures.started), l.seat.unused)

@@ -1,17 +1,26 @@
-use Rattle.std.proofs.Common.{◌∙◌, ◌+◌, ◌++◌, ◌∷◌, [], length, length-append, sym, ap, arith, append_assoc, ⊎_elim}
+use Rattle.std.proofs.Common.{◌∙◌, ◌+◌, ◌++◌, ◌∷◌, [], length, length-append, sym, ap, subst, arith, append_assoc, ⊎_elim}
 use Rattle.std.specs.Vec.Iter.{into_iter_items}
+use Rattle.zre_actor.specs.Passes.{IsCallerOf}
 use Rattle.zre_gate.specs.Clients.{row}
-use Rattle.zre_gate.proofs.Seating.{seated_guest}
-use Rattle.zre_gate.proofs.threads.seat_all.Goals as goal
+use Rattle.zre_gate.proofs.Seating.{chair_among, seated_guest}
+use Rattle.zre_gate.proofs.threads.ClientSeats.seat_all.Goals as goal
 
-pub job_for-job-requires-after_bounds : goal.job_for-job-requires-after_bounds
-job_for-job-requires-after_bounds g c κs within =
+pub invariant_of-reading : goal.invariant_of-reading
+invariant_of-reading g c =
+    let i = c.loop-input.invariant in let hall = c.requires.hall in let chair = c.in-Some-pop_front.chair in
+    let at = chair_among hall.0 c.args.self.chairs.items i.chairs.0 c.pop_front.new.self.items chair hall.1 (i.chairs.1 ∙ ap (λ l. i.chairs.0 ++ l) c.in-Some-pop_front.ensures.items) in
+    record { of_pipes = subst (λ p. IsCallerOf p chair.pass) (sym at.0) at.1 }
+
+pub invariant_of-job : goal.invariant_of-job
+invariant_of-job g c =
     let s = g.C.Source in let i = c.loop-input.invariant in let hall = c.requires.hall in let chair = c.in-Some-pop_front.chair in
-    seated_guest (row s.left s.taken s.faults) g.B.Known.hall hall.0 c.args.limit c.args.chairs.items i.chairs.0 c.pop_front.new.self.items chair
-    c.args.clients.items c.loop-input.yielded (into_iter_items c.next.new.self) c.in-Some.input c.loop-input.place hall.1 hall.2
-    (i.chairs.1 ∙ ap (λ l. i.chairs.0 ++ l) c.in-Some-pop_front.ensures.items)
-    (i.rest ∙ ap (λ l. c.loop-input.yielded ++ l) c.in-Some.ensures.steps.0)
-    i.chairs.2 (sym i.place)
+    record {
+      known = ∣ seated_guest (row s.left s.taken s.faults) g.B.GateName.hall hall.0 c.args.self.limit c.args.self.chairs.items i.chairs.0 c.pop_front.new.self.items chair
+          c.args.clients.items c.loop-input.yielded (into_iter_items c.next.new.self) c.in-Some.input c.loop-input.place hall.1 hall.2
+          (i.chairs.1 ∙ ap (λ l. i.chairs.0 ++ l) c.in-Some-pop_front.ensures.items)
+          (i.rest ∙ ap (λ l. c.loop-input.yielded ++ l) c.in-Some.ensures.steps.0)
+          i.chairs.2 (sym i.place) ∣₁;
+    }
 
 pub loop-input-preserved : goal.loop-input-preserved
 loop-input-preserved g c =

@@ -25,7 +25,7 @@ use Rattle.zre_gate.proofs.Places.{guests_before, guests_length, guests_numbers}
 use Rattle.zre_gate.proofs.Answering.{nat_prop}
 use Rattle.zre_gate.proofs.Gathered.{closed_ended, same_hall}
 use Rattle.zre_gate.proofs.Unopened.{unopened}
-use Rattle.zre_gate.proofs.threads.serve.Goals as goal
+use Rattle.zre_gate.proofs.table.GateTable.serve.Goals as goal
 
 -- no memory for the channels
 pub returns-in_default-clause-gate : goal.returns-in_default-clause-gate
@@ -62,11 +62,11 @@ returns-clause-gate g c = λ f start name s before after stands p. (
     let w = g.W.World in let o = g.O.Sink in let r = g.R.Recorder in let a = c.args in let l = c.requires.laid in
     let look = row g.C.Source.left g.C.Source.taken g.C.Source.faults in
     let rows = map look a.clients.items in
-    let numbers = map chair_number a.table.chairs.items in
-    let even = length-map a.table.chairs.items chair_number ∙ l.many_chairs ∙ sym (length-map a.clients.items look) in
+    let numbers = map chair_number a.self.chairs.items in
+    let even = length-map a.self.chairs.items chair_number ∙ l.many_chairs ∙ sym (length-map a.clients.items look) in
     let guests = guests_of numbers rows in
-    let told = c.hold_talk-talk in let done = told.result.done in let printed = told.result.printed in let seated = c.seat_all-running in
-    let close = told.ensures.done.1 (hall_of (arc_value a.table.base.others.pipes) a.work.limit numbers rows) c.requires.hall in
+    let told = c.hold_talk-talk in let done = told.result.done in let printed = told.result.printed in let seated = c.seat_all-seated in
+    let close = told.ensures.done.1 (hall_of (arc_value a.self.base.others.printer.pipes) a.work.limit numbers rows) c.requires.hall in
     let out = c.join-worked.result in let means = c.join-worked.ensures in let began = c.in-Ok-start_node.ensures.started in let same = c.settle.ensures.same in
     let u = seen_beside (w.told a.work.world) (w.faults a.work.world) (o.written a.out.now) (o.faults a.out.now) (r.kept a.work.rec) (r.named a.work.rec) (r.faults a.work.rec) (g.P.Spawner.faults a.spawner.now) in
     let t = seen_beside (w.told out.world) (w.faults out.world) (o.written told.new.out) (o.faults told.new.out) (r.kept out.rec) (r.named out.rec) (r.faults out.rec) (g.P.Spawner.faults told.new.spawner) in
@@ -75,12 +75,12 @@ returns-clause-gate g c = λ f start name s before after stands p. (
     let rose : told.result.refused ≡ true → Rose (g.P.Spawner.faults a.spawner.now) (g.P.Spawner.faults told.new.spawner) = λ is. ⊎_elim
     (λ before. (let h = seated.ensures.refused before in omega (arith, h, c.in-Ok-start_node.ensures.later, told.ensures.starts)))
     (λ after. (let h = after in omega (arith, h, c.in-Ok-start_node.ensures.later, seated.ensures.later))) (told.ensures.refused is) in
-    let held = gated f start name a.work.keep a.work.limit (length a.clients.items) s u t p out.node out.ending (w.looked a.work.world) (w.looked out.world) a.table.base.seat.pass out.pass (work stands)
+    let held = gated f start name a.work.keep a.work.limit (length a.clients.items) s u t p out.node out.ending (w.looked a.work.world) (w.looked out.world) a.self.base.seat.pass out.pass (work stands)
     (subst (λ j. Keeps (r.named j.4) (r.named out.rec)) began means.5) l.base.seat.none_popped l.base.seat.none_raised
-    guests (map look done.input.items) a.table.base.others.last.pass done.pass done.status
-    a.table.base.others.asker printed.pass told.result.refused a.table.base.others.taker printed.taker printed.fault told.ensures.printed
+    guests (map look done.input.items) a.self.base.others.last.pass done.pass done.status
+    a.self.base.others.printer.asker printed.pass told.result.refused a.self.base.others.printer.taker printed.taker printed.fault told.ensures.printed
     told.ensures.failed rose l.base.none_taken l.base.last.2 l.base.new_asker
-    (λ m. subst (λ ns. times m (number a.table.base.others.last.pass ∷ number a.table.base.others.asker ∷ ns) ≤ 1) (sym (guests_numbers numbers rows even)) (l.apart m))
+    (λ m. subst (λ ns. times m (number a.self.base.others.last.pass ∷ number a.self.base.others.printer.asker ∷ ns) ≤ 1) (sym (guests_numbers numbers rows even)) (l.apart m))
     c.settle.ensures.fronts c.settle.ensures.ended c.settle.ensures.taken desk (guests_length numbers rows even ∙ length-map a.clients.items look) close in
     subst (λ (x : Seen × List ClientRow × List ClientRow × Status). IsGate f start name a.work.limit (length a.clients.items) s x.0 desk x.1 x.2 x.3)
     (λ k. (
@@ -96,35 +96,35 @@ invariant_of-job g c =
     let l = c.requires.laid in let a = c.args in
     let look = row g.C.Source.left g.C.Source.taken g.C.Source.faults in
     let rows = map look a.clients.items in
-    let numbers = map chair_number a.table.chairs.items in
-    let even = length-map a.table.chairs.items chair_number ∙ l.many_chairs ∙ sym (length-map a.clients.items look) in record {
-      of_pipes = subst (λ ps. IsCallerOf ps a.table.base.others.last.pass) (sym l.base.last.0) l.base.last.1;
-      hall = ∣ (hall_of (arc_value a.table.base.others.pipes) a.work.limit numbers rows, c.requires.hall, sym l.base.last.0) ∣₁;
+    let numbers = map chair_number a.self.chairs.items in
+    let even = length-map a.self.chairs.items chair_number ∙ l.many_chairs ∙ sym (length-map a.clients.items look) in record {
+      of_pipes = subst (λ ps. IsCallerOf ps a.self.base.others.last.pass) (sym l.base.last.0) l.base.last.1;
+      hall = ∣ (hall_of (arc_value a.self.base.others.printer.pipes) a.work.limit numbers rows, c.requires.hall, sym l.base.last.0) ∣₁;
       many = λ there known. (
-          let same = same_hall g.B.Known.hall (hall_of (arc_value a.table.base.others.pipes) a.work.limit numbers rows) there c.requires.hall known in
+          let same = same_hall g.B.GateName.hall (hall_of (arc_value a.self.base.others.printer.pipes) a.work.limit numbers rows) there c.requires.hall known in
           ap (λ h. length h.guests) (sym same) ∙ guests_length numbers rows even ∙ length-map a.clients.items look ∙ omega (arith, c.in-Ok.ensures.lines, c.len.ensures, a.clients.ok));
       room = (l.left_room.0, omega (arith, l.left_room.1, c.in-Ok.ensures.lines, c.len.ensures, a.clients.ok));
     }
 
 pub settle-requires-clause-pipes : goal.settle-requires-clause-pipes
 settle-requires-clause-pipes g c = (
-  subst (λ ps. IsActorOf ps c.join-worked.result.pass) (ap (λ j. arc_value j.0) c.in-Ok-start_node.ensures.started ∙ c.requires.laid.base.seat.same) c.join-worked.ensures.0,
+  subst (λ ps. IsActorOf ps c.join-worked.result.pass) (ap (λ j. arc_value j.0) c.in-Ok-start_node.ensures.started ∙ c.requires.laid.base.seat.same ∙ ap (λ p. arc_value p) (sym c.hold_talk-talk.ensures.same)) c.join-worked.ensures.0,
   c.hold_talk-talk.ensures.pipes.0,
 )
 
 pub settle-requires-clause-callers : goal.settle-requires-clause-callers
 settle-requires-clause-callers g c = let told = c.hold_talk-talk in
-    (subst (λ ps. IsCallerOf ps told.result.done.pass) c.requires.laid.base.last.0 told.ensures.done.0, told.ensures.pipes.1)
+    (subst (λ ps. IsCallerOf ps told.result.done.pass) (c.requires.laid.base.last.0 ∙ ap (λ p. arc_value p) (sym told.ensures.same)) told.ensures.done.0, told.ensures.pipes.1)
 
 pub settle-requires-clause-back : goal.settle-requires-clause-back
 settle-requires-clause-back g c =
     let l = c.requires.laid in let told = c.hold_talk-talk in let a = c.args in let o = g.O.Sink in
     let done = told.result.done in let printed = told.result.printed in
-    let numbers = map chair_number a.table.chairs.items in
+    let numbers = map chair_number a.self.chairs.items in
     let rows = map (row g.C.Source.left g.C.Source.taken g.C.Source.faults) a.clients.items in
-    let even = length-map a.table.chairs.items chair_number ∙ l.many_chairs ∙ sym (length-map a.clients.items (row g.C.Source.left g.C.Source.taken g.C.Source.faults)) in
-    let close = told.ensures.done.1 (hall_of (arc_value a.table.base.others.pipes) a.work.limit numbers rows) c.requires.hall in
+    let even = length-map a.self.chairs.items chair_number ∙ l.many_chairs ∙ sym (length-map a.clients.items (row g.C.Source.left g.C.Source.taken g.C.Source.faults)) in
+    let close = told.ensures.done.1 (hall_of (arc_value a.self.base.others.printer.pipes) a.work.limit numbers rows) c.requires.hall in
     let many = how_back done.pass printed.pass (length a.clients.items)
     (∥∥₁_elim close (nat_prop _ _) (λ k. closed_ended _ _ _ _ _ _ k l.base.last.2.0) ∙ guests_length numbers rows even ∙ length-map a.clients.items (row g.C.Source.left g.C.Source.taken g.C.Source.faults))
-    (asker_ended a.table.base.others.asker told.result.refused a.table.base.others.taker printed.taker printed.pass printed.fault (o.written a.out.now) (o.written told.new.out) told.ensures.printed ∙ l.base.new_asker.0) in
+    (asker_ended a.self.base.others.printer.asker told.result.refused a.self.base.others.printer.taker printed.taker printed.pass printed.fault (o.written a.out.now) (o.written told.new.out) told.ensures.printed ∙ l.base.new_asker.0) in
     omega (arith, many, ap length (c.join-worked.ensures.1 ∙ ap (λ j. unused_by j.3) c.in-Ok-start_node.ensures.started), l.base.seat.unused)
