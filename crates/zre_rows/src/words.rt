@@ -141,10 +141,10 @@ impl<'a> Words<'a> {
     }
 
     fn unescape(&mut self, octets: &mut Octets, field: &[u8]) {
-        let (front, behind) = split_once(field, b'%').unwrap_or((field, &[]));
+        let (front, parts) = split_once(field, b'%').unwrap_or((field, &[]));
         self.note(octets.append(front));
         if front.len() < field.len() {
-            for part in behind.split(|octet| *octet == b'%') {
+            for part in parts.split(|octet| *octet == b'%') {
                 self.unescape_part(octets, part);
             }
         }

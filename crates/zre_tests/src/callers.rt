@@ -3,6 +3,7 @@
 ghost use Rattle.std.specs.Prelude.{◌≡◌, ◌<◌, [], None, IsSome};
 ghost use Rattle.zre_actor.specs.Passes.{IsCallerOf, IsTakerOf, AreCallersOf, given_of, room_of};
 ghost use Rattle.zre_actor.specs.Passes.{ended, how_many, last_of};
+ghost use Rattle.zre_actor.specs.declared.passes.Pipes.{Pipes};
 
 use std::sync::Wait;
 use zre_actor::{CallerPass, CallerPasses, Ending, Pipes, TakerPass, Told};
@@ -81,31 +82,55 @@ fn regroup<R: Wait + Copy>(
     put_again(rt, pipes, joined, Command::Leave { group: groups.1 })
 }
 
-/// The first caller regroups, and the second asks the node to stop: each with a pass of its own, or the second after it
-/// has taken in the first one's pass.
-pub fn talk<R: Wait + Copy>(
-    rt: R,
-    pipes: &Pipes,
-    mut callers: CallerPasses,
-    first: CallerPass,
-    second: CallerPass,
-    groups: (Octets, Octets),
-    absorbs: bool,
-) -> CallerPasses
-    requires pipes { IsCallerOf pipes.now first × IsCallerOf pipes.now second }
+/// Both passes are given back.
+pub fn given_back(mut back: CallerPasses, first: CallerPass, second: CallerPass) -> CallerPasses
     requires new { (ended first ≡ []) × (ended second ≡ []) }
-    requires callers { (given_of callers ≡ []) × (1 < room_of callers) }
-    ensures pipes { AreCallersOf pipes.now (given_of result) }
+    requires back { (given_of back ≡ []) × (1 < room_of back) }
+    ensures pipes { (pipes : Pipes) → IsCallerOf pipes first → IsCallerOf pipes second →
+        AreCallersOf pipes (given_of result) }
     ensures many { how_many (given_of result) ≡ 2 }
 {
-    let first = regroup(rt, pipes, first, groups);
-    if absorbs {
-        let both = pipes.absorb(rt, second, first);
-        callers.give(put_again(rt, pipes, both, Command::Quit));
-        return callers;
+    back.give(first);
+    back.give(second);
+    back
+}
+
+/// The passes of two callers, and where they are given back.
+#[derive(Drop)]
+pub struct TwoCallers {
+    pub first: CallerPass,
+    pub second: CallerPass,
+    pub back: CallerPasses,
+}
+
+impl TwoCallers {
+    ghost use Rattle.zre_tests.specs.Ready.{AreNew};
+
+    /// The first caller regroups, and the second asks the node to stop: each with a pass of its own, or the second
+    /// after it has taken in the first one's pass.
+    pub fn talk<R: Wait + Copy>(
+        self,
+        rt: R,
+        pipes: &Pipes,
+        groups: (Octets, Octets),
+        absorbs: bool,
+    ) -> CallerPasses
+        requires { AreNew pipes.now self.first self.second self.back }
+        ensures pipes { AreCallersOf pipes.now (given_of result) }
+        ensures many { how_many (given_of result) ≡ 2 }
+    {
+        let TwoCallers {
+            first,
+            second,
+            mut back,
+        } = self;
+        let first = regroup(rt, pipes, first, groups);
+        if absorbs {
+            let both = pipes.absorb(rt, second, first);
+            back.give(put_again(rt, pipes, both, Command::Quit));
+            return back;
+        }
+        let second = put_again(rt, pipes, second, Command::Quit);
+        given_back(back, first, second)
     }
-    let second = put_again(rt, pipes, second, Command::Quit);
-    callers.give(first);
-    callers.give(second);
-    callers
 }

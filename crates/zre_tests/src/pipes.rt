@@ -3,10 +3,11 @@
 ghost use Rattle.std.specs.Arc.{arc_value};
 ghost use Rattle.zre_outside.specs.Spawners.{job_of};
 ghost use Rattle.std.specs.Prelude.{◌≡◌, None, IsSome, IfSome};
-ghost use Rattle.zre_tests.specs.Ready.{IsReady};
-ghost use Rattle.zre_actor.specs.Passes.{IsActorOf, IsCallerOf, IsTakerOf, ending_of, ended, last_of};
+ghost use Rattle.zre_tests.specs.Ready.{AreNew, IsReady};
+ghost use Rattle.zre_actor.specs.Passes.{IsActorOf, IsCallerOf, IsTakerOf, AreCallersOf, ending_of, ended, given_of};
+ghost use Rattle.zre_actor.specs.Passes.{how_many, last_of};
 
-use crate::callers::{put_again, take_all, talk};
+use crate::callers::{TwoCallers, given_back, put_again, take_all};
 use std::alloc::Global;
 use std::sync::{Arc, Wait};
 use std::thread::{Threads, join};
@@ -47,9 +48,7 @@ fn looks(alloc: Global, n: u64) -> Result<SureWorld, OutOfMemory> {
 /// The passes of those beside the actor.
 #[derive(Drop)]
 struct Passes {
-    callers: CallerPasses,
-    first: CallerPass,
-    second: CallerPass,
+    callers: TwoCallers,
     taker: TakerPass,
 }
 
@@ -62,8 +61,8 @@ struct Ready {
 }
 
 fn make_ready(alloc: Global) -> Option<Ready>
-    ensures { IfSome result (λ s. IsReady s.pipes s.actor s.passes.callers s.passes.first s.passes.second
-        s.passes.taker) }
+    ensures { IfSome result (λ s. IsReady s.pipes s.actor s.passes.callers.first s.passes.callers.second
+        s.passes.callers.back s.passes.taker) }
 {
     let Ok(made) = Pipes::make(alloc, 2) else {
         return None;
@@ -71,33 +70,34 @@ fn make_ready(alloc: Global) -> Option<Ready>
     let Made {
         pipes,
         actor,
-        mut callers,
+        callers: mut back,
         taker,
     } = made;
-    let Some(second) = callers.take() else {
+    let Some(second) = back.take() else {
         return None;
     };
-    let Some(first) = callers.take() else {
+    let Some(first) = back.take() else {
         return None;
+    };
+    let callers = TwoCallers {
+        first,
+        second,
+        back,
     };
     Some(Ready {
         pipes,
         actor,
-        passes: Passes {
-            callers,
-            first,
-            second,
-            taker,
-        },
+        passes: Passes { callers, taker },
     })
 }
 
-/// What an actor works with: a node, and a world of three looks.
+/// What an actor works with: a node, and a world of three looks; and how many turns of it the work may take.
 #[derive(Drop)]
 struct ActorWork {
     node: Node,
     world: SureWorld,
     rec: SureRecorder,
+    limit: u64,
 }
 
 /// What an actor works with, and the groups that the callers name.
@@ -107,19 +107,24 @@ struct Stand {
     groups: (Octets, Octets),
 }
 
-fn stand_of(alloc: Global, node: Node) -> Result<Stand, OutOfMemory> {
+fn stand_of(alloc: Global, node: Node, limit: u64) -> Result<Stand, OutOfMemory> {
     let world = looks(alloc, 3)?;
     let groups = (Octets::copy(alloc, b"g")?, Octets::copy(alloc, b"g")?);
     let rec = SureRecorder::new(alloc);
     Ok(Stand {
-        work: ActorWork { node, world, rec },
+        work: ActorWork {
+            node,
+            world,
+            rec,
+            limit,
+        },
         groups,
     })
 }
 
-fn make_stand(alloc: Global) -> Option<Stand> {
+fn make_stand(alloc: Global, limit: u64) -> Option<Stand> {
     match node_of(alloc) {
-        Ok(Some(node)) => stand_of(alloc, node).ok(),
+        Ok(Some(node)) => stand_of(alloc, node, limit).ok(),
         _ => None,
     }
 }
@@ -130,22 +135,21 @@ fn one_by_one<R: Wait + Copy>(
     rt: R,
     ready: Ready,
     stand: Stand,
-    limit: u64,
     absorbs: bool,
 ) -> (u64, Ending, u32)
-    requires { IsReady ready.pipes ready.actor ready.passes.callers ready.passes.first ready.passes.second
-        ready.passes.taker }
+    requires { IsReady ready.pipes ready.actor ready.passes.callers.first
+        ready.passes.callers.second ready.passes.callers.back ready.passes.taker }
 {
-    let Passes {
-        callers,
-        first,
-        second,
-        taker,
-    } = ready.passes;
+    let Passes { callers, taker } = ready.passes;
     let pipes = ready.pipes;
     let Stand { work, groups } = stand;
-    let ActorWork { node, world, rec } = work;
-    let callers = talk(rt, &pipes, callers, first, second, groups, absorbs);
+    let ActorWork {
+        node,
+        world,
+        rec,
+        limit,
+    } = work;
+    let callers = callers.talk(rt, &pipes, groups, absorbs);
     let worked = pipes.work(rt, world, node, ready.actor, rec, false, limit);
     let (taker, stops, ending) = take_all(rt, &pipes, taker);
     let finished = pipes.finish(rt, worked.pass, callers, taker);
@@ -156,15 +160,19 @@ fn one_by_one<R: Wait + Copy>(
 fn both_talk<R: Threads + Wait + Send + Copy>(
     rt: R,
     pipes: &Pipes,
-    first: CallerPass,
-    second: CallerPass,
+    callers: TwoCallers,
     groups: (Octets, Octets),
-) -> (CallerPass, CallerPass)
-    requires pipes { IsCallerOf pipes.now first × IsCallerOf pipes.now second }
-    ensures pipes { IsCallerOf pipes.now result.0 × IsCallerOf pipes.now result.1 }
-    ensures ended { (ended result.0 ≡ ended first) × (ended result.1 ≡ ended second) }
+) -> CallerPasses
+    requires { AreNew pipes.now callers.first callers.second callers.back }
+    ensures pipes { AreCallersOf pipes.now (given_of result) }
+    ensures many { how_many (given_of result) ≡ 2 }
 {
-    join(
+    let TwoCallers {
+        first,
+        second,
+        back,
+    } = callers;
+    let (first, second) = join(
         &rt,
         move ||
             requires { IsCallerOf pipes.now first }
@@ -177,31 +185,30 @@ fn both_talk<R: Threads + Wait + Send + Copy>(
             requires { IsCallerOf pipes.now second }
             ensures { IsCallerOf pipes.entry.now result × (ended result ≡ ended second) }
         { put_again(rt, pipes, second, Command::Quit) },
-    )
+    );
+    given_back(back, first, second)
 }
 
 /// The callers put and the taker takes, side by side, and the passes come back.
 fn talk_and_take<R: Threads + Wait + Send + Copy>(
     rt: R,
     pipes: &Pipes,
-    first: CallerPass,
-    second: CallerPass,
-    taker: TakerPass,
+    passes: Passes,
     groups: (Octets, Octets),
-) -> ((CallerPass, CallerPass), (TakerPass, u64, Ending))
-    requires pipes { IsCallerOf pipes.now first × IsCallerOf pipes.now second × IsTakerOf pipes.now taker }
-    requires open { last_of taker ≡ None }
-    ensures pipes { IsCallerOf pipes.now result.0.0 × IsCallerOf pipes.now result.0.1 × IsTakerOf pipes.now result.1.0 }
-    ensures ended { (ended result.0.0 ≡ ended first) × (ended result.0.1 ≡ ended second) }
+) -> (CallerPasses, (TakerPass, u64, Ending))
+    requires callers { AreNew pipes.now passes.callers.first passes.callers.second passes.callers.back }
+    requires taker { IsTakerOf pipes.now passes.taker × (last_of passes.taker ≡ None) }
+    ensures pipes { AreCallersOf pipes.now (given_of result.0) × IsTakerOf pipes.now result.1.0 }
+    ensures many { how_many (given_of result.0) ≡ 2 }
     ensures last { IsSome (last_of result.1.0) }
 {
+    let Passes { callers, taker } = passes;
     join(
         &rt,
         move ||
-            requires { IsCallerOf pipes.now first × IsCallerOf pipes.now second }
-            ensures { IsCallerOf pipes.entry.now result.0 × IsCallerOf pipes.entry.now result.1
-                × (ended result.0 ≡ ended first) × (ended result.1 ≡ ended second) }
-        { both_talk(rt, pipes, first, second, groups) },
+            requires { AreNew pipes.now callers.first callers.second callers.back }
+            ensures { AreCallersOf pipes.entry.now (given_of result) × (how_many (given_of result) ≡ 2) }
+        { both_talk(rt, pipes, callers, groups) },
         move ||
             requires { IsTakerOf pipes.now taker × (last_of taker ≡ None) }
             ensures { IsTakerOf pipes.entry.now result.0 × IsSome (last_of result.0) }
@@ -215,7 +222,6 @@ fn start_actor<P: Spawner>(
     pipes: &Arc<Pipes>,
     actor: ActorPass,
     work: ActorWork,
-    limit: u64,
 ) -> Option<Running<ActorJob<SureWorld, SureRecorder>>>
     requires actor { IsActorOf (arc_value pipes.now) actor }
     requires open { (ending_of actor ≡ None) × (actor.empties ≡ 0) }
@@ -225,7 +231,12 @@ fn start_actor<P: Spawner>(
     let Ok(pipes) = Arc::try_clone(pipes) else {
         return None;
     };
-    let ActorWork { node, world, rec } = work;
+    let ActorWork {
+        node,
+        world,
+        rec,
+        limit,
+    } = work;
     let job = ActorJob {
         pipes,
         world,
@@ -247,20 +258,11 @@ fn meet<R: Threads + Wait + Send + Copy>(
     groups: (Octets, Octets),
 ) -> (u64, Ending, u32)
     requires same { arc_value (job_of running).pipes ≡ pipes.now }
-    requires ready { IsReady pipes.now (job_of running).pass passes.callers passes.first passes.second passes.taker }
+    requires ready { IsReady pipes.now (job_of running).pass passes.callers.first passes.callers.second
+        passes.callers.back passes.taker }
 {
-    let Passes {
-        mut callers,
-        first,
-        second,
-        taker,
-    } = passes;
-    let ((first, second), (taker, stops, ending)) = talk_and_take(
-        rt, pipes, first, second, taker, groups,
-    );
+    let (callers, (taker, stops, ending)) = talk_and_take(rt, pipes, passes, groups);
     let worked = running.join(rt);
-    callers.give(first);
-    callers.give(second);
     let finished = pipes.finish(rt, worked.pass, callers, taker);
     (stops, ending, finished.left)
 }
@@ -272,16 +274,15 @@ fn side_by_side<P: Spawner>(
     spawner: &mut P,
     ready: Ready,
     stand: Stand,
-    limit: u64,
 ) -> Option<(u64, Ending, u32)>
-    requires { IsReady ready.pipes ready.actor ready.passes.callers ready.passes.first ready.passes.second
-        ready.passes.taker }
+    requires { IsReady ready.pipes ready.actor ready.passes.callers.first
+        ready.passes.callers.second ready.passes.callers.back ready.passes.taker }
 {
     let Stand { work, groups } = stand;
     let Ok(pipes) = Arc::new(spawner.alloc(), ready.pipes) else {
         return None;
     };
-    let Some(running) = start_actor(spawner, &pipes, ready.actor, work, limit) else {
+    let Some(running) = start_actor(spawner, &pipes, ready.actor, work) else {
         return None;
     };
     Some(meet(rt, &pipes, running, ready.passes, groups))
@@ -314,11 +315,11 @@ fn line_of(command: &Command) -> u64 {
 }
 
 fn fill<R: Wait + Copy>(rt: R, ready: Ready) -> (u64, u64)
-    requires { IsReady ready.pipes ready.actor ready.passes.callers ready.passes.first ready.passes.second
-        ready.passes.taker }
+    requires { IsReady ready.pipes ready.actor ready.passes.callers.first
+        ready.passes.callers.second ready.passes.callers.back ready.passes.taker }
 {
     let Ready { pipes, passes, .. } = ready;
-    put_many(rt, &pipes, passes.first, 1025)
+    put_many(rt, &pipes, passes.callers.first, 1025)
 }
 
 #[test]
@@ -355,11 +356,11 @@ fn run_one_by_one<R: Wait + Copy>(
     limit: u64,
     absorbs: bool,
 ) -> Option<(u64, Ending, u32)>
-    requires { IsReady ready.pipes ready.actor ready.passes.callers ready.passes.first ready.passes.second
-        ready.passes.taker }
+    requires { IsReady ready.pipes ready.actor ready.passes.callers.first
+        ready.passes.callers.second ready.passes.callers.back ready.passes.taker }
 {
-    match make_stand(alloc) {
-        Some(stand) => Some(one_by_one(rt, ready, stand, limit, absorbs)),
+    match make_stand(alloc, limit) {
+        Some(stand) => Some(one_by_one(rt, ready, stand, absorbs)),
         None => None,
     }
 }
@@ -385,11 +386,11 @@ fn run_side_by_side<P: Spawner>(
     spawner: &mut P,
     ready: Ready,
 ) -> Option<(u64, Ending, u32)>
-    requires { IsReady ready.pipes ready.actor ready.passes.callers ready.passes.first ready.passes.second
-        ready.passes.taker }
+    requires { IsReady ready.pipes ready.actor ready.passes.callers.first
+        ready.passes.callers.second ready.passes.callers.back ready.passes.taker }
 {
-    match make_stand(spawner.alloc()) {
-        Some(stand) => side_by_side(rt, spawner, ready, stand, 1000000000000),
+    match make_stand(spawner.alloc(), 1000000000000) {
+        Some(stand) => side_by_side(rt, spawner, ready, stand),
         None => None,
     }
 }

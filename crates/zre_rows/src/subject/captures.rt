@@ -13,6 +13,7 @@ use zre_values::OutOfMemory;
 /// `octets HEX` octets, and `many N HEX` the same octets so many times.
 #[derive(Drop)]
 pub struct CaptureSubject {
+    /// The octets of the capture so far.
     pub text: Text,
 }
 

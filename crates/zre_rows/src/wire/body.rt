@@ -4,18 +4,15 @@ use crate::text::Text;
 use zre_msg::Body;
 use zre_values::{Frames, Octets, Pairs};
 
-fn push_hello(
-    out: &mut Text,
-    (endpoint, name): (&Octets, &Octets),
-    groups: &Frames,
-    status: u8,
-    headers: &Pairs,
-) {
+fn push_names(out: &mut Text, endpoint: &Octets, name: &Octets) {
     out.put(b" HELLO ");
     out.quoted(endpoint.as_slice());
     out.octet(b' ');
     out.quoted(name.as_slice());
     out.octet(b' ');
+}
+
+fn push_told(out: &mut Text, groups: &Frames, status: u8, headers: &Pairs) {
     out.frames(groups);
     out.count(b"", u64::from(status));
     out.octet(b' ');
@@ -56,7 +53,10 @@ pub fn push_body(out: &mut Text, sequence: u16, body: &Body) {
             status,
             name,
             headers,
-        } => push_hello(out, (endpoint, name), groups, *status, headers),
+        } => {
+            push_names(out, endpoint, name);
+            push_told(out, groups, *status, headers);
+        }
         Body::Whisper { content } => push_content(out, b" WHISPER ", content),
         Body::Shout { group, content } => push_shout(out, group, content),
         Body::Join { group, status } => push_group(out, b" JOIN ", group, *status),

@@ -9,6 +9,7 @@ use zre_group::Index;
 /// `on index`: an index, from the empty one on.
 #[derive(Drop)]
 pub struct GroupSubject {
+    /// The keys of the groups that its steps named.
     pub index: Index,
 }
 

@@ -9,6 +9,7 @@ use zre_group::{JoinFault, NoGroup, Own};
 /// `on own`: the groups, from none on.
 #[derive(Drop)]
 pub struct OwnGroupSubject {
+    /// The groups that were joined and not left.
     pub own: Own,
 }
 

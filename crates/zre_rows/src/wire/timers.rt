@@ -11,7 +11,7 @@ use std::alloc::Global;
 use zre_timers::{Due, Timers};
 use zre_values::OutOfMemory;
 
-// A key whose moment is set, or which is taken out where none is given.
+/// A key whose moment is set, or which is taken out where none is given.
 #[derive(Clone, Copy)]
 pub struct Touch {
     key: u64,
@@ -21,6 +21,7 @@ pub struct Touch {
 /// `on timers`: what was done to the keys so far.
 #[derive(Drop)]
 pub struct TimerSubject {
+    /// Each touch and each key that was taken out, in order.
     pub touches: Vec<Touch>,
 }
 

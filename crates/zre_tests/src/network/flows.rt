@@ -18,9 +18,8 @@ fn a_beacon_goes_to_each_address_that_takes_it(rt: HostRuntime) {
     assert_eq!(rt; other.missed, "");
 }
 
-// A link and its connection: they open, and octets go both ways.
-fn talk(node: &mut Watched, peer: &mut Watched, conn: u64, link: u64, near: [u8; 4]) {
-    peer.connect(link, near);
+// A link that the peer asked for and its connection: they open, and octets go both ways.
+fn talk(node: &mut Watched, peer: &mut Watched, conn: u64, link: u64) {
     peer.expect("Linked", link, 0, b"");
     node.expect("Opened", conn, 0, b"");
     match Octets::copy(node.alloc, b"hello") {
@@ -39,8 +38,10 @@ fn a_link_and_its_connection_carry_octets_both_ways(rt: HostRuntime) {
     let [near, far, _] = hosts(process::id(rt.process()));
     let mut node = Watched::at(rt, near, &[]);
     let mut peer = Watched::at(rt, far, &[]);
-    talk(&mut node, &mut peer, 1, 7, near);
-    talk(&mut node, &mut peer, 2, 8, near);
+    peer.connect(7, near);
+    talk(&mut node, &mut peer, 1, 7);
+    peer.connect(8, near);
+    talk(&mut node, &mut peer, 2, 8);
     node.act(&Act::CloseConn { conn: 1 });
     peer.expect("Unlinked", 7, 0, b"");
     peer.act(&Act::CloseLink { link: 8 });
