@@ -17,7 +17,7 @@ use Rattle.zre_peer.specs.declared.causes.CloseWhy.TheVariants as close
 use Rattle.zre_peer.specs.declared.causes.IgnoreWhy.TheVariants as ignore
 use Rattle.zre_journal.specs.Chronicle.{Mark, Comes, Opens, Shakes, Starts, Counts, Ignores, Closes, IsShut, ClosesAtStop, Born, Ends, IsEvasive, Puts, Sends, Joins, Leaves, after, latest, followed, each, ever}
 use Rattle.zre_journal.specs.Config.{own_endpoint}
-use Rattle.zre_journal.specs.Connections.{open_ones, is_open, identity, identity_at, started, start_at, ends, has_ended, runs, refuses, was_used, is_ignored, is_live, other_with, is_same, others}
+use Rattle.zre_journal.specs.Connections.{open_ones, is_open, identity, identity_at, started, start_at, is_end_of, has_ended, runs, refuses, was_used, is_ignored, is_live, other_with, is_same, others}
 use Rattle.zre_journal.specs.Cutting.{is_entry, but_entries}
 use Rattle.zre_journal.specs.Peers.{Life, lives, other_lives, life_of, life, runner, runner_at, births, counted, message_at, view}
 use Rattle.zre_journal.specs.Links.{groups, status, line, put_on, taken, unsent}
@@ -131,7 +131,7 @@ module _ (K L : List Mark) (r : AreAlike K L) where
   same_identity c = same_latest (identity_at c) (λ e. refl)
 
   pub same_runs : (c : ℕ) → runs c K ≡ runs c L
-  same_runs c = ap (option_and_then (λ l. cond (has_ended l K) None (Some l))) (same_latest (start_at c) (λ e. refl)) ∙ unless_same (λ l. has_ended l K) (λ l. has_ended l L) (started c L) (λ l. same_ever (ends l) (λ e. refl))
+  same_runs c = ap (option_and_then (λ l. cond (has_ended l K) None (Some l))) (same_latest (start_at c) (λ e. refl)) ∙ unless_same (λ l. has_ended l K) (λ l. has_ended l L) (started c L) (λ l. same_ever (is_end_of l) (λ e. refl))
 
   same_used : (c : ℕ) → was_used c K ≡ was_used c L
   same_used c = ap (λ b. b || is_some (started c K)) (same_ever (refuses c) (λ e. refl)) ∙ ap (λ o. ever (refuses c) L || is_some o) (same_latest (start_at c) (λ e. refl))

@@ -1,6 +1,6 @@
 -- What comes about at an entry, but for what is said on a connection: pushes, births, datagrams, links, the tick, commands and the stop.
 use Rattle.std.proofs.Common.{◌≡◌, ℕ, ◌+◌, ◌-◌, ◌%◌, Bool, true, false, cond, not, ◌&&◌, ◌||◌, eqb, ltb, leb, List, [], ◌∷◌, ◌++◌, length, map, Option, Some, None, IsSome, filter, refl, ◌∙◌, ltb-true, ap, ◌≤◌, sym, arith, subst, true≢false, min}
-use Rattle.std.proofs.lemmas.Bool.{and_parts, ltb-false, leb-false}
+use Rattle.std.proofs.lemmas.Bool.{and_parts, ltb-false, leb-false, not-true}
 use Rattle.std.specs.List.{AllByRecursion, list_any}
 use Rattle.std.specs.Str.{bytes_eq}
 use Rattle.zre_values.specs.declared.peer_id.PeerId.{PeerId}
@@ -37,7 +37,7 @@ use Rattle.zre_msg.specs.declared.message.Body.TheVariants as body
 use Rattle.zre_outside.specs.declared.entry.Input.TheVariants as input
 use Rattle.zre_journal.proofs.Listed.{All-kept, Apart-kept, each_there, left_there}
 use Rattle.zre_journal.proofs.Known.{known_of, AreKnown, each_known, newborn_known, still_known, end_all, ends_keep, ends_open}
-use Rattle.zre_journal.proofs.Idle.{AreNoStarts, none_and_none, ends_start_none, all_idle, not_true, idle_then}
+use Rattle.zre_journal.proofs.Idle.{AreNoStarts, none_and_none, ends_start_none, all_idle, idle_then}
 use Rattle.zre_journal.proofs.Introduction.{introduces}
 use Rattle.zre_journal.proofs.Room.{can_introduce, pong_more}
 use Rattle.zre_journal.proofs.Joined.{after-append}
@@ -278,7 +278,7 @@ module _ (g : Config) (w : Ground) (K : List Mark) (q : IsProper K) where
       by (Some v) e = choice O (eqb b.1 0) _ _ (λ z. one (Ends v.link cause.Beacon) (λ t. (known_link b.0 v e, tt))) (λ z. one (HearsBeacon v.link) (λ t. (tt, tt)))
       by None e = choice O (is_welcome g b.0 b.1 (length (lives K))) _ _ (λ z.
           let p = and_parts (not (bytes_eq b.0.0 g.id.0)) (ltb (length (lives K)) PEERS) (and_parts (not (eqb b.1 0)) (not (bytes_eq b.0.0 g.id.0) && ltb (length (lives K)) PEERS) z).1 in
-          birth_of b.0 (record { addr = from; port = b.1 }) (birth_brought b.0 (record { addr = from; port = b.1 }) e p.1 (λ o. not_true (bytes_eq b.0.0 g.id.0) p.0))) (λ z. nothing)
+          birth_of b.0 (record { addr = from; port = b.1 }) (birth_brought b.0 (record { addr = from; port = b.1 }) e p.1 (λ o. not-true (bytes_eq b.0.0 g.id.0) p.0))) (λ z. nothing)
 
   pub opened_outcome : (c : ℕ) → w.of c ≡ true → O (at_opened g c K)
   opened_outcome c own = choice O (is_new c K) _ _ (λ new. choice O (ltb (length (open_ones K)) CONNECTIONS) _ _

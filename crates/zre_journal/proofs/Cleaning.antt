@@ -1,7 +1,7 @@
 -- After a tick no known peer is silent for long, and no open connection is idle for long.
-use Rattle.std.proofs.Common.{◌≡◌, ℕ, ◌+◌, ◌-◌, ◌≤◌, Bool, true, false, true≢false, cond, not, ◌&&◌, ◌||◌, eqb, ltb, leb, leb-true, List, length, [], ◌∷◌, ◌++◌, map, filter, Option, Some, None, is_none, refl, sym, ap, ◌∙◌, subst, arith, eq-eqb}
+use Rattle.std.proofs.Common.{◌≡◌, ℕ, ◌-◌, ◌≤◌, Bool, true, false, true≢false, cond, not, ◌&&◌, ◌||◌, eqb, ltb, leb, leb-true, List, length, [], ◌∷◌, ◌++◌, map, filter, Option, Some, None, is_none, refl, sym, ap, ◌∙◌, subst, arith, eq-eqb}
 use Rattle.std.specs.Option.{option_and_then}
-use Rattle.std.proofs.lemmas.Bool.{and_parts}
+use Rattle.std.proofs.lemmas.Bool.{and_parts, or_right}
 use Rattle.std.specs.List.{AllByRecursion, list_all, list_any}
 use Rattle.zre_values.specs.declared.limits.TheConstants.{HEADERS}
 use Rattle.zre_msg.specs.declared.message.Body.TheVariants as body
@@ -26,7 +26,7 @@ use Rattle.zre_journal.specs.Ticks.{is_silent, is_evasive, probe, is_stale, at_t
 use Rattle.zre_journal.proofs.Closing.{leaves_nothing}
 use Rattle.zre_journal.proofs.Joined.{after-append, continues}
 use Rattle.zre_journal.proofs.Known.{end_all}
-use Rattle.zre_journal.proofs.Listed.{eqb-comm, All-kept, All-join, All-map, further}
+use Rattle.zre_journal.proofs.Listed.{eqb-comm, All-kept, All-join, All-map}
 use Rattle.zre_journal.proofs.Steps.{all_push}
 
 -- ---- the marks of a tick
@@ -126,7 +126,7 @@ all_among {A} key t (x ∷ xs) = by (all_among key t xs) (t x) refl
     by : AllByRecursion (Among key t (filter t xs)) xs → (b : Bool) → t x ≡ b → Among key t (cond b (x ∷ filter t xs) (filter t xs)) x × AllByRecursion (Among key t (cond b (x ∷ filter t xs) (filter t xs))) xs
     by r true e = (
       λ z. ap (λ c. c || list_any (λ y. eqb (key y) (key x)) (filter t xs)) (eq-eqb (key x) (key x) refl),
-      All-map (Among key t (filter t xs)) (Among key t (x ∷ filter t xs)) (λ y f z. further (eqb (key x) (key y)) (list_any (λ w. eqb (key w) (key y)) (filter t xs)) (f z)) xs r,
+      All-map (Among key t (filter t xs)) (Among key t (x ∷ filter t xs)) (λ y f z. or_right (eqb (key x) (key y)) (list_any (λ w. eqb (key w) (key y)) (filter t xs)) (f z)) xs r,
     )
     by r false e = (λ z. absurd (true≢false (sym z ∙ e)), r)
 

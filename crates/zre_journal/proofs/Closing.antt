@@ -30,6 +30,7 @@ use Rattle.zre_journal.proofs.Standing.{none_open, last_open}
 use Rattle.zre_journal.proofs.Steps.{May}
 use Rattle.zre_journal.proofs.Silent.{known_lives, open_is_old}
 use Rattle.std.proofs.lemmas.List.{length-append}
+use Rattle.std.proofs.lemmas.Bool.{and_right}
 
 -- ---- a stop
 
@@ -86,10 +87,6 @@ not_there n ns f = by (list_any (eqb n) ns) refl
     by : (b : Bool) → list_any (eqb n) ns ≡ b → b ≡ false
     by false e = refl
     by true e = absurd (f e)
-
-and_false : (a b : Bool) → b ≡ false → (a && b) ≡ false
-and_false true b e = e
-and_false false b e = refl
 
 -- ---- acts
 
@@ -263,7 +260,7 @@ module _ (done_ : List Act) (H : List Mark) (q : IsProper H) (o : Paired done_ H
   turns_away : (c : ℕ) → is_new c H ≡ true → Paired (done_ ++ act.CloseConn c ∷ []) (TurnsAway c ∷ H)
   turns_away c n = closing c (TurnsAway c) (λ h. true≢false (sym n ∙ (o.shut c h).1)) refl refl (λ l. refl)
       (with_last (λ d. (is_open d H ≡ false) × ((ltb c d && is_new d H) ≡ false)) c
-      (not_open c n, ap (λ b. b && is_new c H) (itself c)) (λ d h. ((o.shut d h).0, and_false (ltb c d) (is_new d H) (o.shut d h).1)))
+      (not_open c n, ap (λ b. b && is_new c H) (itself c)) (λ d h. ((o.shut d h).0, and_right (ltb c d) (is_new d H) (o.shut d h).1)))
     where
       itself : (c : ℕ) → ltb c c ≡ false
       itself c = by (ltb c c) refl
@@ -279,7 +276,7 @@ module _ (done_ : List Act) (H : List Mark) (q : IsProper H) (o : Paired done_ H
     numbered = o.numbered;
     positive = o.positive;
     ended = o.ended;
-    shut = λ d h. (still d (eqb d c) refl h, and_false (ltb c d) (is_new d H) (o.shut d h).1);
+    shut = λ d h. (still d (eqb d c) refl h, and_right (ltb c d) (is_new d H) (o.shut d h).1);
   }
     where
       still : (d : ℕ) (b : Bool) → eqb d c ≡ b → Has d (closed_conns done_) → list_any (eqb d) (open_ones H ++ c ∷ []) ≡ false

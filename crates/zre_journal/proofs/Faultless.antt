@@ -2,7 +2,7 @@
 use Rattle.std.proofs.Common.{◌≡◌, ℕ, ◌+◌, Bool, true, false, cond, not, ◌&&◌, ◌||◌, eqb, List, [], ◌∷◌, ◌++◌, length, drop, map, Option, Some, None, IsSome, is_some, is_none, find, refl, sym, ap, ◌∙◌, arith, inl, inr, eqb-true, subst}
 use Rattle.std.specs.Option.{option_or}
 use Rattle.std.specs.Prelude.{◌⊎◌}
-use Rattle.std.proofs.lemmas.Bool.{and_parts, and_from}
+use Rattle.std.proofs.lemmas.Bool.{and_parts, and_from, not-true}
 use Rattle.std.specs.List.{list_any}
 use Rattle.zre_values.specs.declared.peer_id.PeerId.{PeerId}
 use Rattle.zre_zmtp.specs.declared.fault.ZmtpFault.{ZmtpFault}
@@ -26,7 +26,7 @@ use Rattle.zre_journal.specs.Happens.{has_stopped, at_input}
 use Rattle.zre_journal.specs.Arrivals.{end_of_run, at_place, at_places}
 use Rattle.zre_journal.specs.LinkEntries.{cause_by_reply, end_by, answers, at_reply}
 use Rattle.zre_journal.proofs.Few.{none_kept, at_end, AtEnd, Front, Back}
-use Rattle.zre_journal.proofs.Idle.{idle_stays, not_true}
+use Rattle.zre_journal.proofs.Idle.{idle_stays}
 use Rattle.zre_journal.proofs.Joined.{after-append, in_turn-append}
 use Rattle.zre_journal.proofs.Listed.{some_is, any_of_append, any_left}
 use Rattle.zre_journal.proofs.Steps.{May, Allowed, step}
@@ -73,15 +73,11 @@ open_before _ H c o = inr o
 pub live_from : (h : Mark) (H : List Mark) (c : ℕ) → start_at c h ≡ None → is_live c (h ∷ H) ≡ true → (opens c h ≡ true) ⊎ (is_live c H ≡ true)
 live_from h H c s v =
     let p = and_parts (is_open c (h ∷ H)) (not (is_ignored c (h ∷ H))) v in
-    let i = heard_before h H c s (not_true (is_ignored c (h ∷ H)) p.1) in
+    let i = heard_before h H c s (not-true (is_ignored c (h ∷ H)) p.1) in
     elim (open_before h H c p.0) [
       | inl o ↦ inl o
       | inr o ↦ inr (and_from (is_open c H) (not (is_ignored c H)) o (ap not i))
     ]
-
--- one that starts a run was live, where it was not refused
-live_starter : (c : ℕ) (H : List Mark) → is_open c H ≡ true → started c H ≡ None → ever (refuses c) H ≡ false → is_live c H ≡ true
-live_starter c H o s r = and_from (is_open c H) (not (is_ignored c H)) o (rw (s, r) refl)
 
 not_some : (o : Option Life) → o ≡ None → IsSome o → ⊥
 not_some None e s = cc
@@ -126,7 +122,7 @@ module _ (g : Config) where
     talks_more (Starts d l s) m f o = λ c n v. by c n v (eqb c d) refl
       where
         by : (c : ℕ) → names_conn c i ≡ false → is_live c (Starts d l s ∷ H) ≡ true → (b : Bool) → eqb c d ≡ b → fault_in g.id (bytes c H) ≡ None
-        by c n v true e = o c n (subst (λ x. is_live x H ≡ true) (sym (eqb-true c d e)) (live_starter d H m.is_there m.idle f.0))
+        by c n v true e = o c n (subst (λ x. is_live x H ≡ true) (sym (eqb-true c d e)) (and_parts (is_live d H) (is_none (runs d H)) m.waits).0)
         by c n v false e =
             elim (live_from (Starts d l s) H c (rw e refl) v) [
               | inl z ↦ absurd cc

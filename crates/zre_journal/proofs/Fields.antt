@@ -9,6 +9,7 @@ use Rattle.zre_msg.specs.declared.message.Body.{Body}
 use Rattle.zre_msg.specs.declared.message.Body.TheVariants.{Hello, Whisper, Shout, Join, Leave, Ping, PingOk, Other}
 use Rattle.zre_msg.specs.declared.message.Message.{Message}
 use Rattle.zre_msg.specs.Reading.{◌>>=◌, octet_at, count_at, octets_at, string_at, long_string_at, pair_at, each_at, strings_at, dictionary_at, hello_at, join_at, leave_at, shout_at, body_at, command_of, read_of, read_frames, bad_of, unless, no_command}
+use Rattle.zre_msg.proofs.Takes.{bind_some, some_is}
 use Rattle.zre_journal.specs.Held.{header_octets}
 
 -- the name, the endpoint and the headers that a body gives
@@ -18,16 +19,9 @@ hello_octets _ = 0
 
 -- ---- steps of a reader
 
-bind_some : {A B : Type 0} (r : Option A) (f : A → Option B) (y : B) → (r >>= f) ≡ Some y → (x : A) × (r ≡ Some x) × (f x ≡ Some y)
-bind_some (Some x) f y e = (x, refl, e)
-bind_some None f y e = absurd cc
-
 guard_some : {A : Type 0} (b : Bool) (x y : A) → cond b None (Some x) ≡ Some y → x ≡ y
 guard_some true x y e = absurd cc
 guard_some false x y e = cc
-
-some_is : {A : Type 0} (x y : A) → Some x ≡ Some y → x ≡ y
-some_is x y e = cc
 
 -- what is read and what is left are no more than what was there
 abbrev IsShorter : {A : Type 0} → (A → ℕ) → (List ℕ → Option (A × List ℕ)) → Type 0

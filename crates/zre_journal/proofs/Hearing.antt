@@ -4,6 +4,7 @@ use Rattle.std.proofs.lemmas.Bool.{and_from}
 use Rattle.std.proofs.lemmas.List.Elements.{filter_map-append}
 use Rattle.std.specs.List.{cons_option, AllByRecursion}
 use Rattle.std.specs.Option.{option_or}
+use Rattle.std.proofs.Math.Bool.{or-true}
 use Rattle.zre_values.specs.declared.peer_id.PeerId.{PeerId}
 use Rattle.zre_values.specs.declared.endpoint.Endpoint.{Endpoint}
 use Rattle.zre_values.specs.declared.limits.TheConstants.{PEERS}
@@ -155,10 +156,6 @@ none : (o : Option PeerId) → o ≡ None → IsSome o → ⊥
 none None e s = absurd cc
 none (Some p) e s = absurd cc
 
-or_true : (b : Bool) → (b || true) ≡ true
-or_true true = refl
-or_true false = refl
-
 dead : (b i : Bool) → i ≡ true → (b && not i) ≡ false
 dead true true e = refl
 dead true false e = cc
@@ -282,7 +279,7 @@ module _ (g : Config) (c : ℕ) (said : List Said) (K : List Mark) where
 
           ended : (why : Cause) → Follows c (more x) (Ends l why ∷ K)
           ended why = gone x (Ends l why ∷ K) (dead (is_open c K) (is_ignored c (Ends l why ∷ K)) (and_from (is_none (runs c (Ends l why ∷ K))) (was_used c (Ends l why ∷ K))
-              (let me : eqb l l ≡ true = eq-eqb l l refl in rw (s, me) refl) (rw s (or_true (ever (refuses c) K))))) refl o
+              (let me : eqb l l ≡ true = eq-eqb l l refl in rw (s, me) refl) (rw s (or-true (ever (refuses c) K))))) refl o
 
       message_follows : IsSome (introduced said) → Follows c (more x) (after (at_message g c (runs c K) m K) K)
       message_follows met = by (runs c K) refl

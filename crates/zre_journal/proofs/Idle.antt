@@ -1,7 +1,7 @@
 -- Connections that run no peer, and the one that gives way to READY on another.
 use Rattle.std.proofs.Common.{◌≡◌, ℕ, Bool, true, false, cond, not, ◌&&◌, ◌||◌, eqb, List, [], ◌∷◌, ◌++◌, Option, Some, None, find, refl, sym, ap, ◌∙◌, eq-eqb}
 use Rattle.std.specs.Option.{option_and_then, option_or}
-use Rattle.std.proofs.lemmas.Bool.{and_parts}
+use Rattle.std.proofs.lemmas.Bool.{and_parts, not-true}
 use Rattle.std.specs.List.{AllByRecursion, list_any}
 use Rattle.zre_values.specs.declared.peer_id.PeerId.{PeerId}
 use Rattle.zre_peer.specs.declared.causes.Cause.{Cause}
@@ -9,7 +9,7 @@ use Rattle.zre_peer.specs.declared.causes.Cause.TheVariants as cause
 use Rattle.zre_peer.specs.declared.causes.CloseWhy.TheVariants as close
 use Rattle.zre_values.specs.declared.settings.Settings.{Settings as Config}
 use Rattle.zre_journal.specs.Chronicle.{Mark, Closes, Ends, after}
-use Rattle.zre_journal.specs.Connections.{open_ones, is_open, identity, runs, started, start_at, has_ended, ends, is_same, other_with, others}
+use Rattle.zre_journal.specs.Connections.{open_ones, is_open, identity, runs, started, start_at, has_ended, is_end_of, is_same, other_with, others}
 use Rattle.zre_journal.specs.Peers.{Life, lives, life}
 use Rattle.zre_journal.specs.Proper.{IsProper}
 use Rattle.zre_journal.specs.Arrivals.{taken_over, end_of_run}
@@ -20,7 +20,7 @@ use Rattle.zre_journal.proofs.Silent.{has_started, run_known}
 -- ---- one that runs no peer runs none after marks that start nothing
 
 stays_ended : (h : Mark) (H : List Mark) (l : ℕ) → has_ended l H ≡ true → has_ended l (h ∷ H) ≡ true
-stays_ended h H l e = by (ends l h)
+stays_ended h H l e = by (is_end_of l h)
   where
     by : (b : Bool) → cond b true (has_ended l H) ≡ true
     by true = refl
@@ -123,14 +123,6 @@ all_that H q p c d f =
     let passes = and_parts (not (eqb c d)) (is_same p (identity d H)) (found_passes t (open_ones H) d f) in
     each_there (λ e. t e ≡ true → e ≡ d) (open_ones H) (λ e o k. q.running.is_sole e d p o (other_open p c d H f) (is_its p e H (and_parts (not (eqb c e)) (is_same p (identity e H)) k).1) (is_its p d H passes.1))
 
-pub not_true : (b : Bool) → not b ≡ true → b ≡ false
-not_true true e = cc
-not_true false e = refl
-
-pub not_false : (b : Bool) → not b ≡ false → b ≡ true
-not_false true e = refl
-not_false false e = cc
-
 -- then there is no other, and c is as before
 pub record GaveWay (p : PeerId) (c : ℕ) (H K : List Mark) : Type 0 where
   pub alone : other_with p c K ≡ None
@@ -145,7 +137,7 @@ gave_way g H q p c (Some d) e is_there = by (runs d H)
     t = λ x. not (eqb c x) && is_same p (identity x H)
 
     far : eqb d c ≡ false
-    far = eqb-comm d c ∙ not_true (eqb c d) (and_parts (not (eqb c d)) (is_same p (identity d H)) (found_passes t (open_ones H) d e)).0
+    far = eqb-comm d c ∙ not-true (eqb c d) (and_parts (not (eqb c d)) (is_same p (identity d H)) (found_passes t (open_ones H) d e)).0
 
     none : find t (others d (open_ones H)) ≡ None
     none = gone t d (open_ones H) (all_that H q p c d e)

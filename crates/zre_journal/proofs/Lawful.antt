@@ -8,7 +8,7 @@ use Rattle.zre_peer.specs.Views.{view_of, is_small}
 use Rattle.zre_peer.proofs.Standing.{in_order-push}
 use Rattle.zre_values.specs.declared.settings.Settings.{Settings as Config}
 use Rattle.zre_journal.specs.Chronicle.{Mark, Starts, Counts, Ends, ever, followed}
-use Rattle.zre_journal.specs.Connections.{ends, has_ended, started}
+use Rattle.zre_journal.specs.Connections.{is_end_of, has_ended, started}
 use Rattle.zre_journal.specs.Peers.{life, runner, counted}
 use Rattle.zre_journal.specs.Events.{chronicle}
 use Rattle.zre_journal.specs.Proper.{IsProper}
@@ -41,7 +41,7 @@ never t (h ∷ H) e = by (never t H) (t h) e
     by r false z = r z
 
 abbrev AtMostOnce : List Mark → Type 0
-AtMostOnce H = (l : ℕ) → length (filter (ends l) H) ≤ 1
+AtMostOnce H = (l : ℕ) → length (filter (is_end_of l) H) ≤ 1
 
 once_more : (h : Mark) (H : List Mark) → IsProper H → May h H → AtMostOnce H → AtMostOnce (h ∷ H)
 once_more (Ends k why) H p m o = λ l. by l (eqb l k) refl
@@ -49,8 +49,8 @@ once_more (Ends k why) H p m o = λ l. by l (eqb l k) refl
     alive : has_ended k H ≡ false
     alive = let v = some_is (life k H) m in (known_lives H p k v.0 v.1).0
 
-    by : (l : ℕ) (b : Bool) → eqb l k ≡ b → length (cond b (Ends k why ∷ filter (ends l) H) (filter (ends l) H)) ≤ 1
-    by l true e = let none : filter (ends l) H ≡ [] = never (ends l) H (ap (λ x. has_ended x H) (eqb-true l k e) ∙ alive) in rw none (omega arith)
+    by : (l : ℕ) (b : Bool) → eqb l k ≡ b → length (cond b (Ends k why ∷ filter (is_end_of l) H) (filter (is_end_of l) H)) ≤ 1
+    by l true e = let none : filter (is_end_of l) H ≡ [] = never (is_end_of l) H (ap (λ x. has_ended x H) (eqb-true l k e) ∙ alive) in rw none (omega arith)
     by l false e = o l
 once_more _ H p m o = o
 

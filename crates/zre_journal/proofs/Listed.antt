@@ -1,6 +1,6 @@
 -- Lists of numbered things: found by number, taken out by number, put at the end.
-use Rattle.std.proofs.Common.{◌≡◌, ℕ, zero, suc, ◌<◌, Bool, true, false, cond, not, ◌||◌, eqb, List, [], ◌∷◌, ◌++◌, length, Option, Some, None, IsSome, is_some, refl, sym, ap, ◌∙◌, arith, eqb-true, eq-eqb, ne_eqb, subst, find, filter, map, drop, ◌≤◌}
-use Rattle.std.proofs.lemmas.Bool.{eqb-false}
+use Rattle.std.proofs.Common.{◌≡◌, ℕ, zero, suc, ◌<◌, Bool, true, false, cond, not, ◌||◌, eqb, List, [], ◌∷◌, ◌++◌, Option, Some, None, IsSome, is_some, refl, sym, ap, ◌∙◌, arith, eqb-true, eq-eqb, ne_eqb, subst, find, filter, map, drop, ◌≤◌}
+use Rattle.std.proofs.lemmas.Bool.{eqb-false, or_right}
 use Rattle.std.specs.List.{AllByRecursion, list_any}
 use Rattle.std.specs.Str.{bytes_eq}
 use Rattle.zre_journal.specs.Proper.{Apart}
@@ -97,14 +97,6 @@ All-without P group [] h = tt
 All-without P group (x ∷ gs) h = elim (bytes_eq x group) as (λ b. AllByRecursion P (cond b gs (x ∷ without group gs)))
     [ true ↦ h.1 | false ↦ (h.0, All-without P group gs h.1) ]
 
-pub fewer-without : (group : List ℕ) (gs : List (List ℕ)) → length (without group gs) ≤ length gs
-fewer-without group [] = omega arith
-fewer-without group (x ∷ gs) = by (fewer-without group gs) (bytes_eq x group)
-  where
-    by : length (without group gs) ≤ length gs → (b : Bool) → length (cond b gs (x ∷ without group gs)) ≤ length (x ∷ gs)
-    by r true = omega arith
-    by r false = omega (arith, r)
-
 module _ {A : Type 0} (key : A → ℕ) where
   -- a number is there where something of that number is found
   pub any_found : (n : ℕ) (xs : List A) → list_any (eqb n) (map key xs) ≡ is_some (find (λ x. eqb n (key x)) xs)
@@ -198,10 +190,6 @@ any_has P c (x ∷ xs) h e = by (any_has P c xs h.1) (eqb c x) refl e
     by r true q k = subst P (sym (eqb-true c x q)) h.0
     by r false q k = r k
 
-pub further : (b c : Bool) → c ≡ true → (b || c) ≡ true
-further true c h = refl
-further false c h = h
-
 -- one that a search finds is there
 pub found_there : (f : ℕ → Bool) (d : ℕ) (cs : List ℕ) → find f cs ≡ Some d → list_any (eqb d) cs ≡ true
 found_there f d [] e = cc
@@ -209,12 +197,12 @@ found_there f d (x ∷ cs) e = by (found_there f d cs) (f x) e
   where
     by : (find f cs ≡ Some d → list_any (eqb d) cs ≡ true) → (b : Bool) → cond b (Some x) (find f cs) ≡ Some d → (eqb d x || list_any (eqb d) cs) ≡ true
     by r true k = let same : x ≡ d = cc in let me : eqb d x ≡ true = eq-eqb d x (sym same) in rw me refl
-    by r false k = further (eqb d x) (list_any (eqb d) cs) (r k)
+    by r false k = or_right (eqb d x) (list_any (eqb d) cs) (r k)
 
 -- what holds of each that is there
 pub each_there : (P : ℕ → Type 0) (xs : List ℕ) → ((c : ℕ) → list_any (eqb c) xs ≡ true → P c) → AllByRecursion P xs
 each_there P [] f = tt
-each_there P (x ∷ xs) f = (f x (let me : eqb x x ≡ true = eq-eqb x x refl in rw me refl), each_there P xs (λ c h. f c (further (eqb c x) (list_any (eqb c) xs) h)))
+each_there P (x ∷ xs) f = (f x (let me : eqb x x ≡ true = eq-eqb x x refl in rw me refl), each_there P xs (λ c h. f c (or_right (eqb c x) (list_any (eqb c) xs) h)))
 
 -- others are there where one is taken out
 pub left_there : (c : ℕ) (cs xs : List ℕ) → AllByRecursion (λ d. eqb c d ≡ false) cs → AllByRecursion (λ d. list_any (eqb d) xs ≡ true) cs → AllByRecursion (λ d. list_any (eqb d) (filter (λ x. not (eqb c x)) xs) ≡ true) cs

@@ -70,7 +70,7 @@ All-front : {A : Type 0} (P : A → Type 0) (xs ys : List A) → AllByRecursion 
 All-front P [] ys a = tt
 All-front P (x ∷ xs) ys a = (a.0, All-front P xs ys a.1)
 
-All-next : {A : Type 0} (P : A → Type 0) (xs : List A) (y : A) (ys : List A) → AllByRecursion P (xs ++ y ∷ ys) → P y
+pub All-next : {A : Type 0} (P : A → Type 0) (xs : List A) (y : A) (ys : List A) → AllByRecursion P (xs ++ y ∷ ys) → P y
 All-next P [] y ys a = a.0
 All-next P (x ∷ xs) y ys a = All-next P xs y ys a.1
 

@@ -11,6 +11,7 @@ use Rattle.zre_link.specs.Text.{Member, Says, Pongs, text_of, next_message, size
 use Rattle.zre_link.proofs.Numbered.{text_more, text_pongs}
 use Rattle.zre_peer.specs.Runs.{is_hello}
 use Rattle.zre_peer.specs.Views.{view_of, is_small}
+use Rattle.zre_peer.proofs.Limits.{length-without}
 use Rattle.zre_values.specs.declared.settings.Settings.{Settings as Config}
 use Rattle.zre_journal.specs.Chronicle.{Mark, Comes, Starts, Counts, Puts, PutsPong, Sends, Joins, Leaves, Stops, after, ever, followed}
 use Rattle.zre_journal.specs.Config.{CanBe}
@@ -20,7 +21,7 @@ use Rattle.zre_journal.specs.Links.{groups, line, taken, unsent}
 use Rattle.zre_journal.specs.Proper.{IsProper}
 use Rattle.zre_journal.proofs.Fields.{hello_octets}
 use Rattle.zre_journal.proofs.Introduction.{CanIntroduce, new-short}
-use Rattle.zre_journal.proofs.Listed.{All-append, All-without, fewer-without}
+use Rattle.zre_journal.proofs.Listed.{All-append, All-without}
 use Rattle.zre_journal.proofs.Steps.{May, Allowed, step, Each}
 use Rattle.zre_journal.proofs.Viewed.{IsShortView, blank-short, first-short, later-short}
 
@@ -121,7 +122,7 @@ module _ (g : Config) where
     unsent_fits = o.unsent_fits;
     views_fit = o.views_fit;
     groups_fit = All-without (λ x. length x ≤ GROUP_OCTETS) group (groups H) o.groups_fit;
-    few_groups = omega (arith, fewer-without group (groups H), o.few_groups);
+    few_groups = omega (arith, length-without group (groups H), o.few_groups);
   }
   room-more _ H q m f o = record { unsent_fits = o.unsent_fits; views_fit = o.views_fit; groups_fit = o.groups_fit; few_groups = o.few_groups }
 

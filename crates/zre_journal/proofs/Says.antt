@@ -1,6 +1,6 @@
 -- What comes about as something is said on a live connection, and at each entry.
 use Rattle.std.proofs.Common.{◌≡◌, ℕ, ◌+◌, Bool, true, false, not, ◌&&◌, ◌||◌, eqb, ltb, List, [], ◌∷◌, ◌++◌, length, Option, Some, None, IsSome, is_some, is_none, refl, sym, ap, ◌∙◌, arith, subst, ◌≤◌, eq-eqb}
-use Rattle.std.proofs.lemmas.Bool.{and_parts}
+use Rattle.std.proofs.lemmas.Bool.{and_parts, not-true, not-false}
 use Rattle.std.specs.List.{AllByRecursion}
 use Rattle.std.specs.Str.{bytes_eq}
 use Rattle.zre_values.specs.declared.peer_id.PeerId.{PeerId}
@@ -14,12 +14,13 @@ use Rattle.zre_peer.specs.Runs.{is_hello, due, may_follow}
 use Rattle.zre_peer.specs.Views.{view_of, is_small}
 use Rattle.zre_values.specs.declared.settings.Settings.{Settings as Config}
 use Rattle.zre_journal.specs.Chronicle.{Mark, Starts, Counts, Ignores, Closes, Born, Ends, Puts, after, ever, Greets, AnswersPing}
-use Rattle.zre_journal.specs.Connections.{is_open, identity, started, runs, refuses, was_used, is_ignored, is_live, other_with, others}
+use Rattle.zre_journal.specs.Connections.{is_open, identity, started, runs, refuses, was_used, is_ignored, is_live, is_waiting, other_with, others}
 use Rattle.zre_journal.specs.Peers.{Life, lives, life, life_of, births, runner, counted}
 use Rattle.zre_journal.specs.Proper.{IsProper}
 use Rattle.zre_journal.specs.Pushes.{hello}
 use Rattle.zre_journal.specs.Arrivals.{taken_over, start_unknown, start, at_first, answer_to, at_later, at_message, at_shaken, at_said, at_place, at_places}
 use Rattle.zre_peer.specs.declared.causes.Cause.{Cause}
+use Rattle.zre_peer.specs.declared.causes.IgnoreWhy.{IgnoreWhy}
 use Rattle.zre_beacon.specs.Beacon.{beacon_in}
 use Rattle.zre_outside.specs.declared.entry.Input.{Input}
 use Rattle.zre_journal.specs.Endings.{is_end}
@@ -34,7 +35,7 @@ use Rattle.zre_peer.specs.declared.causes.IgnoreWhy.TheVariants as ignore
 use Rattle.zre_outside.specs.declared.entry.Input.TheVariants as input
 use Rattle.zre_journal.proofs.Kept.{known_lives, run_known}
 use Rattle.zre_journal.proofs.Known.{known_of, id_of, newborn_known}
-use Rattle.zre_journal.proofs.Idle.{not_true, not_false, gave_way, other_open}
+use Rattle.zre_journal.proofs.Idle.{gave_way, other_open}
 use Rattle.zre_journal.proofs.Steps.{MayStart, Allowed, steps, Each, both, choice}
 use Rattle.zre_journal.proofs.Room.{HasRoom, AllFit}
 use Rattle.zre_journal.proofs.Sound.{AreSound, AreOthers}
@@ -53,6 +54,10 @@ unused c H i r = let u : was_used c H ≡ false = subst (λ (o : Option ℕ). (i
     by false None e = (refl, refl)
     by false (Some l) e = cc
 
+-- an open one that was not refused, and has started none, waits
+unused_waits : (c : ℕ) (H : List Mark) → is_open c H ≡ true → ever (refuses c) H ≡ false → started c H ≡ None → is_waiting c H ≡ true
+unused_waits c H o f s = rw (o, f, s) refl
+
 module _ (g : Config) (w : Ground) (t : Bool) (K : List Mark) (q : IsProper K) where
   pub answer_brought : (l : ℕ) (b : Body) (c : ℕ) (m : Message) → IsSome (life l K) → Each (Brought g w t) (answer_to g l b K) (Counts c l m ∷ K)
   answer_brought l body.Ping c m k = push_brought g w t l body.PingOk K (Counts c l m ∷ K) (λ z. record { leaves = λ v. refl; later = refl }) (record { put = λ j. refl; gone = λ j. refl }) k
@@ -67,6 +72,9 @@ module _ (g : Config) (w : Ground) (K : List Mark) (q : IsProper K) (c : ℕ) (o
   O hs = Outcome g w hs K
 
   -- ---- a first message
+
+  refused : ever (refuses c) K ≡ false → started c K ≡ None → (why : IgnoreWhy) → O (Ignores c why ∷ [])
+  refused free idle why = one g w K q (Ignores c why) (λ t. (unused_waits c K there free idle, tt))
 
   module _ (free : ever (refuses c) K ≡ false) (idle : started c K ≡ None) (p : PeerId) (who : identity c K ≡ Some p) (m : Message) (short : hello_octets m.body ≤ MESSAGE_OCTETS) (first : may_follow [] m ≡ true) where
     -- nothing has run the peer yet, since only this connection has its identity
@@ -83,11 +91,12 @@ module _ (g : Config) (w : Ground) (K : List Mark) (q : IsProper K) (c : ℕ) (o
             let z : Some v.link ≡ None = sym (q.running.its_run d v.link f n) ∙ ap (λ x. started x K) same ∙ idle in cc
 
     by_known : (v : Life) → life_of p K ≡ Some v → MayStart c v.link m K
-    by_known v e = record { who = v; is_there = there; idle = idle; known = known_of K q p v e; its_own = who ∙ ap (λ (i : PeerId). Some i) (sym (id_of K p v e)); free = unrun v e; first = first }
+    by_known v e = record { who = v; waits = unused_waits c K there free idle; is_there = there; idle = idle; known = known_of K q p v e; its_own = who ∙ ap (λ (i : PeerId). Some i) (sym (id_of K p v e)); free = unrun v e; first = first }
 
     by_newborn : (e : Endpoint) → MayStart c (births K + 1) m (Puts (births K + 1) (hello g K) ∷ Born (births K + 1) p e ∷ K)
     by_newborn e = record {
       who = record { link = births K + 1; id = p; endpoint = e };
+      waits = unused_waits c K there free idle;
       is_there = there;
       idle = idle;
       known = newborn_known K q p e;
@@ -100,9 +109,9 @@ module _ (g : Config) (w : Ground) (K : List Mark) (q : IsProper K) (c : ℕ) (o
     start_outcome = by (life_of p K) refl
       where
         unknown : life_of p K ≡ None → (o : Option Endpoint) → O (start_unknown g c p m o K)
-        unknown u None = one g w K q (Ignores c ignore.NoEndpoint) (λ t. (there, tt))
+        unknown u None = refused free idle ignore.NoEndpoint
         unknown u (Some e) = choice O (ltb (length (lives K)) PEERS) _ _
-            (λ z. let b = birth_brought g w K q p e u z (λ others. others c p who) in start_of p e c m (b.0, (b.1.0, ((by_newborn e, (own, free, short)), tt)))) (λ z. one g w K q (Ignores c ignore.Full) (λ t. (there, tt)))
+            (λ z. let b = birth_brought g w K q p e u z (λ others. others c p who) in start_of p e c m (b.0, (b.1.0, ((by_newborn e, (own, free, short)), tt)))) (λ z. refused free idle ignore.Full)
 
         by : (o : Option Life) → life_of p K ≡ o → O (start g c p m o K)
         by (Some v) e = one g w K q (Starts c v.link m) (λ t. (by_known v e, (own, free, short)))
@@ -113,9 +122,9 @@ module _ (g : Config) (w : Ground) (K : List Mark) (q : IsProper K) (c : ℕ) (o
     where
       by : (o : Option PeerId) → identity c K ≡ o → O (at_first g c o m K)
       by None e = nothing g w K q
-      by (Some p) e = choice O (not (is_hello m.body && eqb m.sequence 1)) _ _ (λ z. one g w K q (Ignores c ignore.NotHello) (λ t. (there, tt)))
-          (λ z. choice O (not (is_small (view_of (m ∷ [])))) _ _ (λ y. one g w K q (Ignores c ignore.Limit) (λ t. (there, tt)))
-          (λ y. start_outcome free idle p e m short (let h = and_parts (is_hello m.body) (eqb m.sequence 1) (not_false (is_hello m.body && eqb m.sequence 1) z) in let s = not_false (is_small (view_of (m ∷ []))) y in rw (h.0, h.1, s) refl)))
+      by (Some p) e = choice O (not (is_hello m.body && eqb m.sequence 1)) _ _ (λ z. refused free idle ignore.NotHello)
+          (λ z. choice O (not (is_small (view_of (m ∷ [])))) _ _ (λ y. refused free idle ignore.Limit)
+          (λ y. start_outcome free idle p e m short (let h = and_parts (is_hello m.body) (eqb m.sequence 1) (not-false (is_hello m.body && eqb m.sequence 1) z) in let s = not-false (is_small (view_of (m ∷ []))) y in rw (h.0, h.1, s) refl)))
 
   -- ---- a later one
 
@@ -124,7 +133,7 @@ module _ (g : Config) (w : Ground) (K : List Mark) (q : IsProper K) (c : ℕ) (o
       (λ z. choice O (not (eqb m.sequence (due (counted l K)))) _ _ (λ y. ends (cause.Order (due (counted l K)) m.sequence))
       (λ y. choice O (not (is_small (view_of (counted l K ++ m ∷ [])))) _ _ (λ x. ends cause.Limit)
       (λ x. plainly (λ t. (
-        (record { running = r; later = z; next = not_false (eqb m.sequence (due (counted l K))) y; small = not_false (is_small (view_of (counted l K ++ m ∷ []))) x }, own),
+        (record { running = r; later = z; next = not-false (eqb m.sequence (due (counted l K))) y; small = not-false (is_small (view_of (counted l K ++ m ∷ []))) x }, own),
         answer_brought g w t K q l m.body c m (run_known K q c l r),
       )))))
     where
@@ -159,7 +168,7 @@ module _ (g : Config) (w : Ground) (K : List Mark) (q : IsProper K) (c : ℕ) (o
 module _ (g : Config) (w : Ground) (c : ℕ) (own : w.of c ≡ true) where
   pub place_outcome : (said : Said) → MaySay g.id said → (K : List Mark) → IsProper K → Outcome g w (at_place g c said K) K
   place_outcome said s K q = choice (λ hs. Outcome g w hs K) (is_live c K) _ _
-      (λ e. let p = and_parts (is_open c K) (not (is_ignored c K)) e in said_outcome g w K q c own p.0 (not_true (is_ignored c K) p.1) said s) (λ e. nothing g w K q)
+      (λ e. let p = and_parts (is_open c K) (not (is_ignored c K)) e in said_outcome g w K q c own p.0 (not-true (is_ignored c K) p.1) said s) (λ e. nothing g w K q)
 
   pub places_outcome : (all : List Said) → AllByRecursion (MaySay g.id) all → (K : List Mark) → IsProper K → Outcome g w (at_places g c all K) K
   places_outcome [] s K q = nothing g w K q

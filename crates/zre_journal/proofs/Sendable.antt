@@ -1,10 +1,9 @@
 -- What a node puts on its links is read as it was spelled, and its own groups are within their limits.
-use Rattle.std.proofs.Common.{◌≡◌, ℕ, ◌+◌, ◌%◌, ◌^◌, ◌≤◌, ◌<◌, Bool, true, false, cond, not, ◌&&◌, ◌||◌, eqb, ltb, leb, List, [], ◌∷◌, ◌++◌, length, map, filter, Option, Some, None, refl, sym, ap, ◌∙◌, subst, arith, ltb-false, leb-false, true≢false}
+use Rattle.std.proofs.Common.{◌≡◌, ℕ, ◌+◌, ◌%◌, ◌^◌, ◌≤◌, ◌<◌, Bool, true, false, cond, not, ◌&&◌, ◌||◌, eqb, ltb, leb, List, [], ◌∷◌, ◌++◌, length, map, filter, Option, Some, None, refl, sym, subst, arith, ltb-false, leb-false, true≢false}
 use Rattle.std.specs.Prelude.{sum_by}
-use Rattle.std.specs.Int.{w16, w64, to_be_bytes}
+use Rattle.std.specs.Int.{w64, to_be_bytes}
 use Rattle.std.specs.Str.{bytes_eq}
-use Rattle.std.specs.List.{AllByRecursion, list_any}
-use Rattle.std.proofs.lemmas.Bool.{and_parts}
+use Rattle.std.specs.List.{AllByRecursion}
 use Rattle.std.proofs.lemmas.List.{length-append}
 use Rattle.std.proofs.lemmas.List.Sums.{sum_by-cons}
 use Rattle.std.proofs.lemmas.Slice.Eq.{bytes_eq-Decides}
@@ -23,7 +22,7 @@ use Rattle.zre_zmtp.specs.Laws.{IsWithinLimits}
 use Rattle.zre_msg.specs.declared.message.Body.{Body}
 use Rattle.zre_msg.specs.declared.message.Body.TheVariants as body
 use Rattle.zre_msg.specs.declared.message.Message.{Message}
-use Rattle.zre_msg.specs.Spelling.{FitsBody, fields, further, head, number_of, first_frame, spell, octets, is_big}
+use Rattle.zre_msg.specs.Spelling.{FitsBody, fields, further, head, number_of, first_frame, spell, is_big}
 use Rattle.zre_link.specs.Link.{answered, slow_at}
 use Rattle.zre_link.specs.Heard.{reply_fault}
 use Rattle.zre_link.specs.Text.{numbered_from, size_of}
@@ -37,23 +36,24 @@ use Rattle.zre_peer.specs.declared.causes.CloseWhy.TheVariants as close
 use Rattle.zre_peer.specs.declared.causes.RefuseWhy.TheVariants as refuse
 use Rattle.zre_peer.specs.Runs.{is_hello, due}
 use Rattle.zre_peer.specs.Views.{view_of, is_small}
+use Rattle.zre_peer.proofs.Limits.{length-without}
 use Rattle.zre_values.specs.declared.settings.Settings.{Settings as Config}
-use Rattle.zre_journal.specs.Arrivals.{at_opened, end_of_run, at_shut, taken_over, start_unknown, start, at_first, answer_to, at_later, at_message, at_shaken, at_arrival, at_said, at_place}
-use Rattle.zre_journal.specs.Chronicle.{Mark, Comes, Closes, ClosesAtStop, Ends, IsEvasive, Puts, PutsPong, Joins, Leaves, Starts, Counts, Shakes, Refuses, SendsBeacon, Stops, after, followed}
-use Rattle.zre_journal.specs.Commands.{has_group, at_join, at_leave, is_too_big, at_whisper, is_member, at_shout, at_stop, at_command}
+use Rattle.zre_journal.specs.Arrivals.{at_opened, end_of_run, at_shut, taken_over, start_unknown, start, at_first, answer_to, at_later, at_message, at_shaken, at_said, at_place}
+use Rattle.zre_journal.specs.Chronicle.{Mark, Comes, Closes, ClosesAtStop, Ends, IsEvasive, Puts, PutsPong, Joins, Leaves, Starts, Counts, Shakes, Refuses, after, followed}
+use Rattle.zre_journal.specs.Commands.{has_group, is_too_big, at_whisper, is_member, at_stop, at_command}
 use Rattle.zre_journal.specs.Config.{CanBe}
 use Rattle.zre_journal.specs.Connections.{open_ones, is_open, is_new, identity, runs, is_live, other_with}
 use Rattle.zre_journal.specs.Events.{chronicle}
 use Rattle.zre_journal.specs.Happens.{is_welcome, at_beacon, at_datagram, at_input}
-use Rattle.zre_journal.specs.LinkEntries.{at_linked, cause_by_reply, end_by, answers, at_reply, at_unlinked, at_took}
+use Rattle.zre_journal.specs.LinkEntries.{at_linked, cause_by_reply, end_by, at_reply, at_unlinked, at_took}
 use Rattle.zre_journal.specs.Links.{groups, status, line, unsent, is_linked, replies, newly_pinged}
 use Rattle.zre_journal.specs.Peers.{Life, lives, life, life_of, births, counted, is_entered}
-use Rattle.zre_journal.specs.Places.{is_piece, IsEntry, Arrives}
+use Rattle.zre_journal.specs.Places.{is_piece}
 use Rattle.zre_journal.specs.Pushes.{hello, push, push_all, birth}
 use Rattle.zre_journal.specs.Ticks.{is_silent, is_evasive, probe, is_stale, at_tick}
 use Rattle.zre_journal.proofs.Introduction.{CanIntroduce, introduces}
 use Rattle.zre_journal.proofs.Lines.{bodies_on}
-use Rattle.zre_journal.proofs.Listed.{All-append, All-without, fewer-without}
+use Rattle.zre_journal.proofs.Listed.{All-append, All-without}
 use Rattle.zre_journal.proofs.Steps.{Each, both, choice}
 use Rattle.zre_journal.proofs.Walk.{walk}
 
@@ -135,7 +135,7 @@ module _ (g : Config) where
   }
   kept (Leaves group) H k o = record {
     groups_fit = All-without (λ x. length x ≤ GROUP_OCTETS) group (groups H) o.groups_fit;
-    few_groups = omega (arith, fewer-without group (groups H), o.few_groups);
+    few_groups = omega (arith, length-without group (groups H), o.few_groups);
     sendable = o.sendable;
   }
   kept _ H k o = record { groups_fit = o.groups_fit; few_groups = o.few_groups; sendable = o.sendable }

@@ -1,5 +1,6 @@
 -- When each mark may come, that a chronicle stays proper after marks that may, and what each of many marks has.
-use Rattle.std.proofs.Common.{◌≡◌, ℕ, ◌+◌, ◌<◌, ◌≤◌, Bool, true, false, cond, eqb, ltb, List, [], ◌∷◌, ◌++◌, length, Option, Some, None, IsSome, is_some, refl, sym, ◌∙◌, arith, subst}
+use Rattle.std.proofs.Common.{◌≡◌, ℕ, ◌+◌, ◌<◌, ◌≤◌, Bool, true, false, cond, not, eqb, ltb, List, [], ◌∷◌, ◌++◌, length, Option, Some, None, IsSome, is_some, is_none, refl, sym, ◌∙◌, arith, subst}
+use Rattle.std.proofs.lemmas.Bool.{and_parts}
 use Rattle.std.specs.List.{AllByRecursion}
 use Rattle.zre_values.specs.declared.peer_id.PeerId.{PeerId}
 use Rattle.zre_values.specs.declared.limits.TheConstants.{PEERS, CONNECTIONS, UNSENT_OCTETS}
@@ -17,7 +18,7 @@ use Rattle.zre_peer.specs.declared.causes.CloseWhy.TheVariants as close
 use Rattle.zre_values.specs.declared.settings.Settings.{Settings as Config}
 use Rattle.zre_journal.specs.Arrivals.{end_of_run, taken_over, answer_to}
 use Rattle.zre_journal.specs.Chronicle.{Mark, Comes, Opens, TurnsAway, Greets, Shakes, AnswersPing, Starts, Counts, Ignores, Closes, IsShut, ClosesAtStop, Born, HearsBeacon, Ends, IsEvasive, Puts, PutsPong, Links, Sends, Joins, Leaves, Refuses, SendsBeacon, Stops, after}
-use Rattle.zre_journal.specs.Connections.{open_ones, is_open, is_new, identity, started, runs, other_with}
+use Rattle.zre_journal.specs.Connections.{open_ones, is_open, is_new, identity, started, runs, is_ignored, is_live, is_waiting, other_with}
 use Rattle.zre_journal.specs.Links.{line, unsent}
 use Rattle.zre_journal.specs.Pushes.{push}
 use Rattle.zre_journal.specs.Peers.{Life, lives, life_of, life, births, runner, counted}
@@ -26,9 +27,10 @@ use Rattle.zre_journal.proofs.Listed.{some_is, All-join}
 use Rattle.zre_journal.proofs.Kept.{Opens-proper, TurnsAway-proper, Shakes-proper, Starts-proper, Counts-proper, Ignores-proper, Closes-proper, IsShut-proper, ClosesAtStop-proper, born-proper, Ends-proper}
 use Rattle.zre_journal.proofs.Silent.{known_lives, Comes-proper, Greets-proper, AnswersPing-proper, HearsBeacon-proper, IsEvasive-proper, Puts-proper, PutsPong-proper, Links-proper, Sends-proper, Joins-proper, Leaves-proper, Refuses-proper, SendsBeacon-proper, Stops-proper}
 
--- an open connection that has started nothing begins to run a known peer that nothing has run, its own, by a first message
+-- a waiting connection, which is open and has started nothing, begins to run a known peer that nothing has run, its own, by a first message
 pub record MayStart (c l : ℕ) (m : Message) (H : List Mark) : Type 0 where
   pub who : Life
+  pub waits : is_waiting c H ≡ true
   pub is_there : is_open c H ≡ true
   pub idle : started c H ≡ None
   pub known : life l H ≡ Some who
@@ -65,7 +67,7 @@ May (Opens c) H = MayOpen c H
 May (Shakes c p) H = (is_open c H ≡ true) × (identity c H ≡ None) × (other_with p c H ≡ None)
 May (Starts c l m) H = MayStart c l m H
 May (Counts c l m) H = MayCount c l m H
-May (Ignores c why) H = is_open c H ≡ true
+May (Ignores c why) H = is_waiting c H ≡ true
 May (Closes c why) H = runs c H ≡ None
 May (IsShut c) H = runs c H ≡ None
 May (ClosesAtStop c) H = runs c H ≡ None
@@ -136,6 +138,9 @@ Allowed hs H = Each May hs H
 low : (H : List Mark) → IsProper H → (l : ℕ) → IsSome (life l H) → l ≤ births H
 low H p l k = let v = some_is (life l H) k in (known_lives H p l v.0 v.1).1
 
+waiting_open : (c : ℕ) (H : List Mark) → is_waiting c H ≡ true → is_open c H ≡ true
+waiting_open c H w = (and_parts (is_open c H) (not (is_ignored c H)) (and_parts (is_live c H) (is_none (runs c H)) w).0).0
+
 Born-proper : (H : List Mark) → IsProper H → (p : PeerId) (e : Endpoint) → IsProper (Born (births H + 1) p e ∷ H)
 Born-proper H q p e = let b = born-proper H q p e body.Ping in record {
   living = record { numbered = b.living.numbered; apart = b.living.apart; living = b.living.living; fresh = λ k h. q.living.fresh k (omega arith) };
@@ -152,7 +157,7 @@ step (Shakes c i) H p m = Shakes-proper H p c i m.0 m.1 m.2
 step (AnswersPing c t) H p m = AnswersPing-proper H p c t
 step (Starts c l s) H p m = Starts-proper H p c l s m.who m.is_there m.idle m.known m.its_own m.free
 step (Counts c l s) H p m = Counts-proper H p c l s m.running
-step (Ignores c why) H p m = Ignores-proper H p c why m
+step (Ignores c why) H p m = Ignores-proper H p c why (waiting_open c H m)
 step (Closes c why) H p m = Closes-proper H p c why m
 step (IsShut c) H p m = IsShut-proper H p c m
 step (ClosesAtStop c) H p m = ClosesAtStop-proper H p c m

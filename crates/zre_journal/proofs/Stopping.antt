@@ -2,6 +2,7 @@
 use Rattle.std.proofs.Common.{◌≡◌, ℕ, Bool, true, false, cond, not, ◌||◌, eqb, List, [], ◌∷◌, ◌++◌, map, filter, refl, sym, ap, ◌∙◌, eq-eqb}
 use Rattle.std.specs.List.{AllByRecursion, list_any}
 use Rattle.std.proofs.lemmas.List.{map-id}
+use Rattle.std.proofs.lemmas.Bool.{or_right}
 use Rattle.zre_outside.specs.declared.entry.Input.{Input}
 use Rattle.zre_outside.specs.declared.entry.Input.TheVariants as input
 use Rattle.zre_outside.specs.declared.entry.Command.TheVariants as command
@@ -16,7 +17,7 @@ use Rattle.zre_journal.specs.Happens.{at_input}
 use Rattle.zre_journal.specs.Commands.{at_stop}
 use Rattle.zre_journal.proofs.Joined.{after-append}
 use Rattle.zre_journal.proofs.Known.{end_all, ends_keep, ends_open}
-use Rattle.zre_journal.proofs.Listed.{All-map, further}
+use Rattle.zre_journal.proofs.Listed.{All-map}
 use Rattle.zre_journal.proofs.Room.{HasRoom}
 
 -- what comes about at an entry that stops the node
@@ -53,7 +54,7 @@ all_among : {A : Type 0} (key : A → ℕ) (xs : List A) → AreAmong key (map k
 all_among key [] = tt
 all_among {A} key (x ∷ xs) = (
   let me : eqb (key x) (key x) ≡ true = eq-eqb (key x) (key x) refl in rw me refl,
-  All-map (λ (y : A). list_any (λ n. eqb n (key y)) (map key xs) ≡ true) (λ (y : A). list_any (λ n. eqb n (key y)) (map key (x ∷ xs)) ≡ true) (λ y h. further (eqb (key x) (key y)) (list_any (λ n. eqb n (key y)) (map key xs)) h) xs (all_among key xs),
+  All-map (λ (y : A). list_any (λ n. eqb n (key y)) (map key xs) ≡ true) (λ (y : A). list_any (λ n. eqb n (key y)) (map key (x ∷ xs)) ≡ true) (λ y h. or_right (eqb (key x) (key y)) (list_any (λ n. eqb n (key y)) (map key xs)) h) xs (all_among key xs),
 )
 
 -- ---- all peers end, and all connections are dropped

@@ -14,7 +14,6 @@ use Rattle.zre_peer.specs.Ledger.{IsNumbered}
 use Rattle.zre_peer.specs.Members.{first_named}
 use Rattle.zre_peer.specs.Runs.{is_hello}
 use Rattle.zre_peer.specs.Views.{blank, view_of, is_small}
-use Rattle.zre_peer.specs.declared.view.View.{View}
 use Rattle.zre_values.specs.declared.settings.Settings.{Settings as Config}
 use Rattle.zre_journal.specs.Chronicle.{Mark}
 use Rattle.zre_journal.specs.Config.{CanBe}

@@ -2,7 +2,7 @@
 use Rattle.std.proofs.Common.{◌≡◌, ℕ, zero, suc, ◌+◌, Bool, true, false, cond, not, ◌&&◌, eqb, ltb, List, [], ◌∷◌, ◌++◌, length, take, Option, Some, None, refl, sym, ap, ◌∙◌, arith, subst, eq-eqb, eqb-true}
 use Rattle.std.specs.Prelude.{slice_get}
 use Rattle.std.specs.List.{AllByRecursion}
-use Rattle.std.proofs.lemmas.Bool.{and_parts}
+use Rattle.std.proofs.lemmas.Bool.{and_parts, not-true}
 use Rattle.std.proofs.lemmas.List.{length-append}
 use Rattle.zre_values.specs.declared.peer_id.PeerId.{PeerId}
 use Rattle.zre_values.specs.declared.endpoint.Endpoint.{Endpoint}
@@ -35,7 +35,6 @@ use Rattle.zre_journal.specs.Pushes.{birth}
 use Rattle.zre_journal.proofs.Always.{is_proper}
 use Rattle.zre_journal.proofs.Brings.{all_brought}
 use Rattle.zre_journal.proofs.Brought.{Ground, quiet}
-use Rattle.zre_journal.proofs.Idle.{not_true}
 use Rattle.zre_journal.proofs.Ledgers.{keeps_ledger}
 use Rattle.zre_journal.proofs.Listed.{All-join}
 use Rattle.zre_journal.proofs.Places.{IsMoment, its_moment, is_placed}
@@ -140,7 +139,7 @@ module _ (g : Config) (J : List Entry) (b : Ledger) (drawn : IsDrawn g b (chroni
     first m live none = by (identity c K)
       where
         empty : counted_on c K ≡ []
-        empty = it.told.unbegun c (unused c K (not_true (is_ignored c K) (and_parts (is_open c K) (not (is_ignored c K)) live).1) none).1
+        empty = it.told.unbegun c (unused c K (not-true (is_ignored c K) (and_parts (is_open c K) (not (is_ignored c K)) live).1) none).1
 
         ignored : (why : IgnoreWhy) → Q (Ignores c why ∷ [])
         ignored why = mute (Ignores c why ∷ []) (tt, tt)

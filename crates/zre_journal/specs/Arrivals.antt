@@ -53,6 +53,7 @@ module _ (g : Config) where
   start c p m (Some v) K = Starts c v.link m ∷ []
   start c p m None K = start_unknown c p m (endpoint_in (view_of (m ∷ [])).endpoint) K
 
+  -- it has to be HELLO with the number 1, of a peer that READY introduced (RFC 36, HELLO)
   abbrev pub at_first : ℕ → Option PeerId → Message → List Mark → List Mark
   at_first c None m K = []
   at_first c (Some p) m K =
@@ -60,12 +61,12 @@ module _ (g : Config) where
       else if not (is_small (view_of (m ∷ []))) then Ignores c ignore.Limit ∷ []
       else start c p m (life_of p K) K
 
-  -- PING is answered
+  -- PING is answered by PING-OK (RFC 36, PING and PING-OK)
   abbrev pub answer_to : ℕ → Body → List Mark → List Mark
   answer_to l body.Ping K = push g l body.PingOk K
   answer_to l _ K = []
 
-  -- a message on a connection that runs the peer of link l
+  -- a message on a connection that runs the peer of link l: it has the next number, and is no HELLO (RFC 36)
   abbrev pub at_later : ℕ → ℕ → Message → List Mark → List Mark
   at_later c l m K =
       if is_hello m.body then Ends l cause.Hello ∷ []
@@ -77,7 +78,8 @@ module _ (g : Config) where
   at_message c None m K = at_first c (identity c K) m K
   at_message c (Some l) m K = at_later c l m K
 
-  -- READY introduces the peer p, and takes over from another connection of p; a second READY would have no effect
+  -- READY introduces the peer p (RFC 23, the NULL mechanism), and takes over from another connection of p; a second
+  -- READY would have no effect
   abbrev pub at_shaken : ℕ → PeerId → Option PeerId → List Mark → List Mark
   at_shaken c p None K = taken_over (other_with p c K) K ++ Shakes c p ∷ []
   at_shaken c p (Some q) K = []

@@ -20,11 +20,12 @@ pub data Mark : Type 0 where
   -- a connection opens; is turned away, since too many are open
   Opens : (c : ℕ) → Mark
   TurnsAway : (c : ℕ) → Mark
-  -- its greeting is whole; its READY is, with this identity; a PING with this context is answered
+  -- its greeting is whole; its READY is, with this identity (RFC 23, greeting and the NULL mechanism); a PING with this
+  -- context is answered (RFC 37, heartbeats)
   Greets : (c : ℕ) → Mark
   Shakes : (c : ℕ) → (p : PeerId) → Mark
   AnswersPing : (c : ℕ) → (context : List ℕ) → Mark
-  -- its first message starts a run of the peer on link l; a later one is counted
+  -- its first message, HELLO, starts a run of the peer on link l; a later one is counted (RFC 36, numbers of messages)
   Starts : (c l : ℕ) → (m : Message) → Mark
   Counts : (c l : ℕ) → (m : Message) → Mark
   -- its first message is refused, and it is ignored from then on
@@ -33,11 +34,11 @@ pub data Mark : Type 0 where
   Closes : (c : ℕ) → (why : CloseWhy) → Mark
   IsShut : (c : ℕ) → Mark
   ClosesAtStop : (c : ℕ) → Mark
-  -- a peer is born, and gets the link l; a beacon of it is heard; it ends
+  -- a peer is born, and gets the link l; a beacon of it is heard; it ends (RFC 36, discovery and presence)
   Born : (l : ℕ) → (p : PeerId) → (to : Endpoint) → Mark
   HearsBeacon : (l : ℕ) → Mark
   Ends : (l : ℕ) → (cause : Cause) → Mark
-  -- nothing was heard of it for the time that makes it evasive
+  -- nothing was heard of it for the time that makes it evasive (RFC 36, PING)
   IsEvasive : (l : ℕ) → Mark
   -- a message is put on its link; a PONG is, which answers a PING with this context; the link is up; so many octets of
   -- it have gone out
@@ -45,11 +46,11 @@ pub data Mark : Type 0 where
   PutsPong : (l : ℕ) → (context : List ℕ) → Mark
   Links : (l : ℕ) → Mark
   Sends : (l n : ℕ) → Mark
-  -- the node joins a group; leaves one; a command is refused
+  -- the node joins a group; leaves one (RFC 36, JOIN and LEAVE); a command is refused
   Joins : (group : List ℕ) → Mark
   Leaves : (group : List ℕ) → Mark
   Refuses : (why : RefuseWhy) → Mark
-  -- the node's own beacon goes out
+  -- the node's own beacon goes out (RFC 36, the beacon)
   SendsBeacon : (port : ℕ) → Mark
   -- the node stops
   Stops : Mark

@@ -57,7 +57,8 @@ ArePaired done = (before later : List Act) (a : Act) → done ≡ before ++ a �
 
 -- ---- the node itself
 
--- The node's own identity is that of no known peer, and none has come on a connection that is its own.
+-- The node's own identity is that of no known peer, and none has come on a connection that is its own: it ignores its
+-- own beacon (RFC 36, the beacon), and its READY (RFC 23).
 pub record IsNoPeer (g : Config) (H : List Mark) : Type 0 where
   pub unknown : life_of g.id H ≡ None
   pub never_comes : (c : ℕ) → identity c H ≢ Some g.id

@@ -24,6 +24,7 @@ abbrev pub has_group : List ℕ → List (List ℕ) → Bool
 has_group group joined = list_any (λ x. bytes_eq x group) joined
 
 module _ (g : Config) where
+  -- the status goes with it to all known peers (RFC 36, JOIN)
   abbrev pub at_join : List ℕ → List Mark → List Mark
   at_join group K =
       if nat_lt GROUP_OCTETS (length group) then Refuses refuse.TooBig ∷ []
@@ -31,6 +32,7 @@ module _ (g : Config) where
       else if nat_le OWN_GROUPS (length (groups K)) then Refuses (refuse.Limit group) ∷ []
       else Joins group ∷ push_all g (lives K) (body.Join group ((status K + 1) % 256)) K
 
+  -- the same (RFC 36, LEAVE)
   abbrev pub at_leave : List ℕ → List Mark → List Mark
   at_leave group K =
       if has_group group (groups K) then Leaves group ∷ push_all g (lives K) (body.Leave group ((status K + 1) % 256)) K
@@ -40,6 +42,7 @@ module _ (g : Config) where
   abbrev pub is_too_big : Body → Bool
   is_too_big b = is_big (record { sequence = 0; body = b })
 
+  -- to one peer (RFC 36, WHISPER)
   abbrev pub at_whisper : PeerId → List (List ℕ) → Option Life → List Mark → List Mark
   at_whisper p content None K = Refuses (refuse.NoPeer p) ∷ []
   at_whisper p content (Some v) K =
@@ -50,11 +53,13 @@ module _ (g : Config) where
   abbrev pub is_member : List ℕ → List Mark → Life → Bool
   is_member group K v = is_entered K v && has_group group (view v.link K).groups
 
+  -- to the peers that are in the group, as they told it (RFC 36, SHOUT)
   abbrev pub at_shout : List ℕ → List (List ℕ) → List Mark → List Mark
   at_shout group content K =
       if nat_lt GROUP_OCTETS (length group) || is_too_big (body.Shout group content) then Refuses refuse.TooBig ∷ []
       else push_all g (filter (is_member group K) (lives K)) (body.Shout group content) K
 
+  -- the last beacon has port 0, so that others know that the node leaves (RFC 36, the beacon)
   abbrev pub at_stop : List Mark → List Mark
   at_stop K = map (λ (v : Life). Ends v.link cause.Stop) (lives K) ++ map (λ c. ClosesAtStop c) (open_ones K)
       ++ SendsBeacon 0 ∷ Stops ∷ []

@@ -1,5 +1,5 @@
 -- The settings of a node.
-use Rattle.std.specs.Prelude.{◌≡◌, ℕ, ◌<◌, ◌^◌, Bool, true, List, length}
+use Rattle.std.specs.Prelude.{◌≡◌, ℕ, ◌<◌, ◌^◌, true, List, length}
 use Rattle.zre_values.specs.Address.{IsAddress}
 use Rattle.zre_values.specs.Endpoint.{endpoint_text}
 use Rattle.zre_values.specs.Settings.{is_valid}

@@ -48,12 +48,12 @@ start_at c _ = None
 abbrev pub started : ℕ → List Mark → Option ℕ
 started c H = latest (start_at c) H
 
-abbrev pub ends : ℕ → Mark → Bool
-ends l (Ends k cause) = nat_eq l k
-ends l _ = false
+abbrev pub is_end_of : ℕ → Mark → Bool
+is_end_of l (Ends k cause) = nat_eq l k
+is_end_of l _ = false
 
 abbrev pub has_ended : ℕ → List Mark → Bool
-has_ended l H = ever (ends l) H
+has_ended l H = ever (is_end_of l) H
 
 -- c runs the peer of this link: it started it before, and the peer hasn't ended since
 abbrev pub runs : ℕ → List Mark → Option ℕ
@@ -73,6 +73,10 @@ is_ignored c H = is_none (runs c H) && was_used c H
 
 abbrev pub is_live : ℕ → List Mark → Bool
 is_live c H = is_open c H && not (is_ignored c H)
+
+-- c waits for its first message: it is live, and runs no peer
+abbrev pub is_waiting : ℕ → List Mark → Bool
+is_waiting c H = is_live c H && is_none (runs c H)
 
 -- whether the mark opens c, or makes it ignored; H is what came before
 abbrev pub turns : ℕ → List Mark → Mark → Bool

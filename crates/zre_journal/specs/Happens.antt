@@ -28,10 +28,11 @@ abbrev pub has_stopped : List Mark → Bool
 has_stopped H = ever is_stop H
 
 module _ (g : Config) where
-  -- a beacon that isn't the node's own and has a port, where fewer than 256 peers are known
+  -- a beacon that isn't the node's own and has a port, where fewer than 256 peers are known (RFC 36, the beacon)
   abbrev pub is_welcome : PeerId → ℕ → ℕ → Bool
   is_welcome p port known = not (nat_eq port 0) && (not (bytes_eq p.0 g.id.0) && nat_lt known PEERS)
 
+  -- a known peer is there, or leaves by a beacon with port 0; an unknown one is born (RFC 36, the beacon)
   abbrev pub at_beacon : List ℕ → PeerId → ℕ → Option Life → List Mark → List Mark
   at_beacon from p port (Some v) K = if nat_eq port 0 then Ends v.link cause.Beacon ∷ [] else HearsBeacon v.link ∷ []
   at_beacon from p port None K =

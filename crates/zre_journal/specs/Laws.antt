@@ -1,16 +1,17 @@
 -- What holds of every journal.
-use Rattle.std.specs.Prelude.{◌≡◌, ℕ, ◌≤◌, true, false, List, ◌++◌, Option, Some, None, IsSome, if◌then◌else◌, nat_eq}
-use Rattle.std.specs.Prelude.{length}
+use Rattle.std.specs.Prelude.{◌≡◌, ℕ, ◌≤◌, true, false, List, ◌∷◌, ◌++◌, Option, Some, None, IsSome}
+use Rattle.std.specs.Prelude.{if◌then◌else◌, nat_eq, length}
 use Rattle.std.specs.List.{filter}
 use Rattle.zre_values.specs.declared.limits.TheConstants.{PEERS, CONNECTIONS}
 use Rattle.zre_values.specs.declared.peer_id.PeerId.{PeerId}
 use Rattle.zre_msg.specs.declared.message.Message.{Message}
 use Rattle.zre_peer.specs.Runs.{in_order}
 use Rattle.zre_peer.specs.Views.{view_of}
+use Rattle.zre_peer.specs.declared.causes.IgnoreWhy.{IgnoreWhy}
 use Rattle.zre_outside.specs.declared.entry.Entry.{Entry}
 use Rattle.zre_values.specs.declared.settings.Settings.{Settings as Config}
-use Rattle.zre_journal.specs.Chronicle.{Mark, Starts, Counts, each}
-use Rattle.zre_journal.specs.Connections.{open_ones, is_open, identity, runs, ends, has_ended}
+use Rattle.zre_journal.specs.Chronicle.{Mark, Starts, Counts, Ignores, each}
+use Rattle.zre_journal.specs.Connections.{open_ones, is_open, identity, runs, is_waiting, is_end_of, has_ended}
 use Rattle.zre_journal.specs.Peers.{Life, lives, life, runner, counted, view}
 use Rattle.zre_journal.specs.Happens.{has_stopped, chronicle_after}
 use Rattle.zre_journal.specs.Events.{events_after, acts_after, chronicle, events, acts}
@@ -33,6 +34,14 @@ pub record RunsAlone (H : List Mark) : Type 0 where
   pub is_there : (c l : ℕ) → runs c H ≡ Some l → is_open c H ≡ true
   pub its_own : (c l : ℕ) → runs c H ≡ Some l → (v : Life) × (life l H ≡ Some v) × (identity c H ≡ Some v.id)
 
+-- A connection starts a run, or is refused, only while it waits for its first message: what came before such a mark
+-- left it waiting.
+pub record StartsWhereItWaits (H : List Mark) : Type 0 where
+  pub starts : (later before : List Mark) (c l : ℕ) (m : Message) → H ≡ later ++ Starts c l m ∷ before
+      → is_waiting c before ≡ true
+  pub refused : (later before : List Mark) (c : ℕ) (why : IgnoreWhy) → H ≡ later ++ Ignores c why ∷ before
+      → is_waiting c before ≡ true
+
 -- No two open connections have one identity.
 abbrev pub AreStrangers : List Mark → Type 0
 AreStrangers H =
@@ -47,7 +56,7 @@ pub record AreFew (H : List Mark) : Type 0 where
 
 -- A peer ends at most once, so with one cause, and isn't known from then on.
 pub record EndsOnce (H : List Mark) : Type 0 where
-  pub one_end : (l : ℕ) → length (filter (ends l) H) ≤ 1
+  pub one_end : (l : ℕ) → length (filter (is_end_of l) H) ≤ 1
   pub is_gone : (l : ℕ) → IsSome (life l H) → has_ended l H ≡ false
 
 -- the messages of c: the one that started its run, and those counted

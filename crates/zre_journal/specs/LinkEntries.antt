@@ -27,7 +27,7 @@ module _ (g : Config) where
   end_by l None = []
   end_by l (Some why) = Ends l why ∷ []
 
-  -- PINGs with these contexts are answered in their order, up to the first whose PONG has no room
+  -- PINGs with these contexts are answered in their order, up to the first whose PONG has no room (RFC 37, heartbeats)
   abbrev pub answers : ℕ → List (List ℕ) → Option ZmtpFault → List Mark → List Mark
   answers l ts f K =
       map (λ t. PutsPong l t) (answered (unsent g l K) ts) ++ end_by l (cause_by_reply (slow_at (unsent g l K) ts) f)

@@ -1,14 +1,14 @@
 -- The node's own groups, and what it puts on its links.
-use Rattle.std.specs.Prelude.{ℕ, ◌+◌, ◌-◌, ◌%◌, Bool, false, List, [], ◌∷◌, ◌++◌, Option, Some, None, if◌then◌else◌}
-use Rattle.std.specs.Prelude.{nat_eq, length, drop, take}
+use Rattle.std.specs.Prelude.{ℕ, ◌+◌, ◌%◌, Bool, false, List, [], ◌∷◌, ◌++◌, Option, Some, None, if◌then◌else◌}
+use Rattle.std.specs.Prelude.{nat_eq, length, drop}
 use Rattle.zre_values.specs.Lists.{without}
 use Rattle.zre_outside.specs.declared.entry.Input.{Input}
 use Rattle.zre_outside.specs.declared.entry.Input.TheVariants as input
 use Rattle.zre_msg.specs.declared.message.Body.{Body}
 use Rattle.zre_msg.specs.declared.message.Message.{Message}
 use Rattle.zre_link.specs.Text.{Member, Says, Pongs, bodies_in, numbered_from, text_of}
-use Rattle.zre_link.specs.Heard.{awaited, pings}
-use Rattle.zre_link.specs.Link.{gate_by}
+use Rattle.zre_link.specs.Heard.{pings}
+use Rattle.zre_link.specs.Link.{gate_of, front_of, unsent_of}
 use Rattle.zre_values.specs.declared.settings.Settings.{Settings as Config}
 use Rattle.zre_journal.specs.Chronicle.{Mark, Comes, Puts, PutsPong, Links, Sends, Joins, Leaves, each, ever}
 
@@ -19,7 +19,7 @@ groups (Joins g ∷ H) = groups H ++ g ∷ []
 groups (Leaves g ∷ H) = without g (groups H)
 groups (_ ∷ H) = groups H
 
--- how often it has joined or left one, modulo 256
+-- how often it has joined or left one, modulo 256 (RFC 36, the status of HELLO, JOIN and LEAVE)
 abbrev pub status : List Mark → ℕ
 status [] = 0
 status (Joins g ∷ H) = (status H + 1) % 256
@@ -41,7 +41,7 @@ line l H = each (put_on l) H
 abbrev pub bodies : ℕ → List Mark → List Body
 bodies l H = bodies_in (line l H)
 
--- these messages
+-- these messages, numbered from 1 on in sixteen bits (RFC 36)
 abbrev pub queued : ℕ → List Mark → List Message
 queued l H = numbered_from 1 (bodies l H)
 
@@ -77,7 +77,7 @@ newly_pinged l H K = drop (length (pings (replies l H))) (pings (replies l K))
 
 -- how far the octets of link l may go out
 abbrev pub gate : Config → ℕ → List Mark → ℕ
-gate g l H = if is_linked l H then gate_by (awaited (replies l H)) (length (text g l H)) else 0
+gate g l H = gate_of g.id (line l H) (is_linked l H) (replies l H)
 
 -- how many have gone out
 abbrev pub taken : ℕ → List Mark → ℕ
@@ -87,8 +87,8 @@ taken l (_ ∷ H) = taken l H
 
 -- how many have not
 abbrev pub unsent : Config → ℕ → List Mark → ℕ
-unsent g l H = length (text g l H) - taken l H
+unsent g l H = unsent_of g.id (line l H) (taken l H)
 
 -- the octets that may go out now
 abbrev pub front : Config → ℕ → List Mark → List ℕ
-front g l H = take (gate g l H - taken l H) (drop (taken l H) (text g l H))
+front g l H = front_of g.id (line l H) (is_linked l H) (replies l H) (taken l H)

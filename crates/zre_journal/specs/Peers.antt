@@ -57,10 +57,11 @@ message_at l (Starts c k m) = if nat_eq l k then Some m else None
 message_at l (Counts c k m) = if nat_eq l k then Some m else None
 message_at l _ = None
 
--- the messages of its run: the one that started it, and those counted
+-- the messages of its run: the one that started it, and those counted (RFC 36, numbers of messages)
 abbrev pub counted : ℕ → List Mark → List Message
 counted l H = each (message_at l) H
 
+-- what it has told of itself (RFC 36, HELLO, JOIN and LEAVE)
 abbrev pub view : ℕ → List Mark → View
 view l H = view_of (counted l H)
 

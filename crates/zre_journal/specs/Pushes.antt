@@ -28,6 +28,6 @@ module _ (g : Config) where
   abbrev pub push_all : List Life → Body → List Mark → List Mark
   push_all vs b K = in_turn (λ (v : Life) J. push v.link b J) vs K
 
-  -- p is born with this endpoint. Its link is the number of births
+  -- p is born with this endpoint (RFC 36, discovery and presence). Its link is the number of births
   abbrev pub birth : PeerId → Endpoint → List Mark → List Mark
   birth p e K = Born (births K + 1) p e ∷ Puts (births K + 1) (hello K) ∷ []

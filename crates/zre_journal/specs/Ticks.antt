@@ -16,6 +16,7 @@ module _ (g : Config) where
   abbrev pub is_silent : ℕ → List Mark → Life → Bool
   is_silent limit K v = nat_le limit (clock K - active v.link K)
 
+  -- evasive: silent for a while, and asked by PING whether it is there; silent for longer, it is gone (RFC 36, PING)
   abbrev pub is_evasive : List Mark → Life → Bool
   is_evasive K v = is_entered K v && not (is_silent g.expired K v) && is_silent g.evasive K v
 

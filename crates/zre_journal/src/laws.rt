@@ -30,7 +30,7 @@ ghost use Rattle.zre_journal.specs.Places.{Arrives};
 ghost use Rattle.zre_journal.specs.Peers.{counted};
 ghost use Rattle.zre_journal.specs.Standing.{KnownIsBorn, OpenIsOpened};
 ghost use Rattle.zre_journal.specs.Laws.{Continues, HasEnded, RunsAlone, AreStrangers, AreFew, EndsOnce};
-ghost use Rattle.zre_journal.specs.Laws.{ShowsItsMessages};
+ghost use Rattle.zre_journal.specs.Laws.{ShowsItsMessages, StartsWhereItWaits};
 ghost use Rattle.zre_journal.specs.Proper.{IsProper};
 ghost use Rattle.zre_journal.specs.Links.{queued};
 ghost use Rattle.zre_journal.specs.Speaking.{SpokeTruly};
@@ -65,6 +65,11 @@ pub fn journals_are_proper()
 /// A peer is run by one connection alone, which is open and has introduced itself as that peer.
 pub fn a_peer_has_one_run()
     ensures { (g : Config) (J : List Entry) → RunsAlone (chronicle g J) }
+{}
+
+/// A run starts, and a connection is refused, only where the connection waits for its first message.
+pub fn runs_start_where_a_connection_waits()
+    ensures { (g : Config) (J : List Entry) → StartsWhereItWaits (chronicle g J) }
 {}
 
 /// No two open connections have introduced themselves as one peer.

@@ -12,7 +12,7 @@ pub use laws::{
     hello_fits, identities_are_apart, journals_are_proper, journals_continue,
     known_is_born_and_not_ended, ledgers_are_kept, messages_are_readable, offers_are_due,
     open_is_opened_and_not_closed, peers_and_connections_are_few, peers_end_by_the_table_of_causes,
-    the_chronicle_keeps_the_journal, the_node_is_no_peer, views_follow_messages,
-    what_comes_near_is_counted_near, what_is_held_is_bounded,
+    runs_start_where_a_connection_waits, the_chronicle_keeps_the_journal, the_node_is_no_peer,
+    views_follow_messages, what_comes_near_is_counted_near, what_is_held_is_bounded,
 };
 pub use zre_values::Settings as Config;
