@@ -1,5 +1,5 @@
 -- A stream that is read in pieces.
-use Rattle.std.proofs.Common.{◌≡◌, ℕ, false, true, List, [], ◌++◌, Option, Some, None, refl, sym, ap, ◌∙◌, true≢false}
+use Rattle.std.proofs.Common.{◌≡◌, ℕ, false, true, List, [], ◌++◌, Option, sym, ap, ◌∙◌, true≢false}
 use Rattle.std.specs.Prelude.{is_some}
 use Rattle.zre_zmtp.specs.Reading.{Reading, Reads, new_items}
 use Rattle.zre_zmtp.specs.Stream.{Kind, fault}
@@ -7,14 +7,11 @@ use Rattle.zre_zmtp.specs.declared.want.Want.TheVariants.{Any}
 use Rattle.zre_zmtp.specs.declared.fault.ZmtpFault.{ZmtpFault}
 use Rattle.zre_zmtp.specs.declared.item.Item.{Item}
 use Rattle.zre_commands.specs.Stream.{HasRead, ReadPiece}
-
-pub none_from_test : {X : Type 0} (o : Option X) → is_some o ≡ false → o ≡ None
-none_from_test None e = refl
-none_from_test (Some x) e = absurd cc
+use Rattle.zre_capture.proofs.Lines.{none_is}
 
 -- where no fault was found the reader stands after the octets
 pub going_reads : (kind : Kind) (o : List ℕ) (found : Option ZmtpFault) (reader : Reading) → HasRead kind o found reader → is_some (fault Any kind o) ≡ false → Reads Any kind o reader
-going_reads kind o found reader h going = h.reads (h.faulty ∙ none_from_test (fault Any kind o) going)
+going_reads kind o found reader h going = h.reads (h.faulty ∙ none_is (fault Any kind o) going)
 
 -- and isn't spent
 pub not_spent : {A : Type 0} (kind : Kind) (o : List ℕ) (found : Option ZmtpFault) (reader : Reading) → HasRead kind o found reader → is_some (fault Any kind o) ≡ false → reader.spent ≡ true → A

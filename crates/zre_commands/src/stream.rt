@@ -6,7 +6,7 @@ ghost use Rattle.zre_zmtp.specs.Reading.{Reads};
 ghost use Rattle.zre_zmtp.specs.Stream.{Kind};
 ghost use Rattle.zre_zmtp.specs.declared.want.Want.TheVariants.{Any};
 ghost use Rattle.zre_commands.specs.Stream.{HasRead, ReadPiece, bad_end, is_bad};
-ghost use Rattle.zre_commands.specs.pump.Meaning.{is_stop};
+ghost use Rattle.zre_commands.specs.pump.Meaning.{stops};
 
 use crate::pump::{Going, push_bad_line};
 use zre_values::{Octets, OutOfMemory};
@@ -31,7 +31,7 @@ pub(crate) fn read_piece(
 
 /// Whether more octets may be read: a fault stops the stream, unless what follows isn't examined.
 pub(crate) fn going_after(fault: &Option<ZmtpFault>, is_over: bool) -> Going
-    ensures { is_stop result ≡ (not is_over && is_some fault.now) }
+    ensures { stops result ≡ (not is_over && is_some fault.now) }
 {
     if is_over || fault.is_none() {
         Going::On

@@ -10,3 +10,10 @@ pub record MovesOn (left left' taken taken' : Option (List ℕ)) (octets : List 
 -- the known octets grew by a front of these
 abbrev pub AppendsFront : Option (List ℕ) → Option (List ℕ) → List ℕ → Type 0
 AppendsFront old new octets = (front : List ℕ) × (rest : List ℕ) × (octets ≡ front ++ rest) × Appends old new front
+
+-- text came after what was gathered: a front of both was written, and the rest is gathered
+pub record WritesThrough (gathered gathered' : List ℕ) (written written' : Option (List ℕ)) (text : List ℕ) : Type 0
+  where
+    pub front : List ℕ
+    pub are_all : gathered ++ text ≡ front ++ gathered'
+    pub is_written : Appends written written' front

@@ -1,14 +1,13 @@
 -- What is refused however it goes on is refused with whatever follows.
-use Rattle.std.proofs.Common.{◌≡◌, ℕ, true, is_some, List, ◌++◌, Option, Some, None, refl}
-use Rattle.std.specs.Option.{option_or}
+use Rattle.std.proofs.Common.{◌≡◌, ℕ, true, is_some, List, ◌++◌}
 use Rattle.zre_capture.specs.Journal.{bad, bad_at_end}
-use Rattle.zre_capture.specs.declared.fault.BadCapture.{BadCapture}
 use Rattle.zre_capture.specs.declared.format.Format.{Format}
 use Rattle.zre_capture.proofs.Staying.{bad_stays}
 use Rattle.zre_commands.specs.pump.Meaning.{KeepsRefusing}
 use Rattle.zre_records.specs.audit.Audit as audits
 use Rattle.zre_records.specs.simulate.Simulate as simulates
 use Rattle.zre_records.proofs.audit.Auditing as auditing
+use Rattle.zre_records.proofs.audit.Auditing.{or_there}
 
 -- of two captures
 pub audit_refuses : KeepsRefusing audits.audit
@@ -17,10 +16,6 @@ audit_refuses = auditing.audit_refuses
 -- of a schedule, which is read whole first
 pub simulate_refuses : KeepsRefusing simulates.simulate
 simulate_refuses o x e = absurd cc
-
-or_there : (b e : Option BadCapture) → is_some b ≡ true → is_some (option_or b e) ≡ true
-or_there None e there = absurd cc
-or_there (Some x) e there = refl
 
 -- of a capture with a bad line
 pub capture_refuses : (f : Format) (o x : List ℕ) → is_some (bad f o) ≡ true → is_some (bad_at_end f (o ++ x)) ≡ true

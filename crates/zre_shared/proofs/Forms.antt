@@ -1,5 +1,5 @@
 -- Frames and the writes that they are.
-use Rattle.std.proofs.Common.{◌≡◌, ℕ, ◌<◌, ◌≤◌, ◌==◌, leb, true, false, Bool, List, [], ◌∷◌, ◌++◌, length, Option, Some, None, inl, inr, refl, sym, ap, ◌∙◌, arith}
+use Rattle.std.proofs.Common.{◌≡◌, ℕ, ◌<◌, ◌≤◌, ◌==◌, leb, true, false, Bool, List, [], ◌∷◌, ◌++◌, length, Some, None, inl, inr, refl, sym, ap, ◌∙◌, arith}
 use Rattle.std.specs.Prelude.{codes, decimal, option_and_then}
 use Rattle.std.specs.List.{list_all, join_with_byte}
 use Rattle.std.specs.Str.{bytes_eq}
@@ -14,6 +14,7 @@ use Rattle.zre_capture.specs.Values.{number_of, id_of, group_of}
 use Rattle.zre_capture.proofs.Parts.{between-cut, between-whole}
 use Rattle.zre_capture.proofs.Spelled.{IsTextOf, number_of-decimal, number_of-some, id_of-text, id_of-some, group_of-quoted, group_of-some}
 use Rattle.zre_capture.proofs.Visible.{visible, decimal-visible, id-visible, quoted-visible, fields-joined}
+use Rattle.zre_capture.proofs.Back.{stepped}
 use Rattle.zre_shared.specs.declared.write.Write.{Write}
 use Rattle.zre_shared.specs.declared.write.TheConstants.{KEY_OCTETS, VALUE_OCTETS}
 use Rattle.zre_shared.specs.Writes.{fields, write_text, IsWrite, at_most, short_of, pair_of, said_by, write_in, write_of}
@@ -99,10 +100,6 @@ write_of-text w is =
     ∙ said-text w is
 
 -- ---- a frame that is read is its write's
-
-stepped : {A B : Type 0} (f : A → Option B) (o : Option A) (y : B) (P : Type 0) → option_and_then f o ≡ Some y → ((x : A) → o ≡ Some x → f x ≡ Some y → P) → P
-stepped f (Some x) y P e h = h x refl e
-stepped f None y P e h = absurd cc
 
 record IsShort (most : ℕ) (o field : List ℕ) : Type 0 where
   group : group_of field ≡ Some o

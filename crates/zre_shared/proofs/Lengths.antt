@@ -1,35 +1,20 @@
 -- How long the frames of writes are.
-use Rattle.std.proofs.Common.{◌≡◌, ℕ, ◌+◌, ◌*◌, ◌/◌, ◌%◌, ◌≤◌, ◌<◌, leb, true, false, cond, Option, Some, None, List, [], ◌∷◌, ◌++◌, length, refl, ap, arith}
-use Rattle.std.specs.Prelude.{codes, decimal, flat_map, option_and_then}
-use Rattle.std.proofs.lemmas.Bool.{and_parts, eqb-true, leb-true, false_from_ne_true}
+use Rattle.std.proofs.Common.{◌≡◌, ℕ, ◌+◌, ◌*◌, ◌/◌, ◌%◌, ◌≤◌, ◌<◌, leb, Option, Some, None, List, [], ◌∷◌, ◌++◌, length, refl, ap, arith}
+use Rattle.std.specs.Prelude.{codes, decimal, option_and_then}
+use Rattle.std.proofs.lemmas.Bool.{leb-true, false_from_ne_true}
 use Rattle.std.proofs.lemmas.Fmt.{length-decimal-le}
 use Rattle.std.proofs.lemmas.List.{length-append}
-use Rattle.std.proofs.lemmas.List.Concat.{flat_map-cons}
-use Rattle.zre_values.specs.PlainId.{is_plain_id}
-use Rattle.zre_values.specs.Text.{hex_digit, is_plain, quoted_octet, quoted, id_text}
-use Rattle.zre_values.specs.declared.peer_id.PeerId.{PeerId}
-use Rattle.zre_values.proofs.PlainIds.{text-plain}
+use Rattle.zre_values.specs.Text.{quoted, id_text}
 use Rattle.zre_shared.specs.declared.write.Write.{Write}
 use Rattle.zre_shared.specs.declared.gathered.TheConstants.{OCTETS}
 use Rattle.zre_capture.specs.Values.{group_of}
 use Rattle.zre_capture.proofs.Spelled.{group_of-some}
+use Rattle.zre_capture.proofs.HeadShort.{octets-short, id-short}
 use Rattle.zre_shared.specs.Writes.{write_text, IsWrite, at_most, short_of}
-
-octet-short : (b : ℕ) → length (quoted_octet b) ≤ 3
-octet-short b = elim (is_plain b) as (λ p. length (cond p (b ∷ []) (37 ∷ hex_digit (b / 16) ∷ hex_digit (b % 16) ∷ [])) ≤ 3) [ true ↦ omega arith | false ↦ omega arith ]
-
-pub octets-short : (v : List ℕ) → length (flat_map quoted_octet v) ≤ 3 * length v
-octets-short [] = omega arith
-octets-short (b ∷ v) =
-    omega (arith, ap (length {A = ℕ}) (flat_map-cons quoted_octet b v), length-append (quoted_octet b) (flat_map quoted_octet v), octet-short b, octets-short v)
 
 pub quoted-short : (v : List ℕ) → length (quoted v) ≤ 3 * length v + 1
 quoted-short [] = omega arith
 quoted-short (b ∷ v) = omega (arith, octets-short (b ∷ v))
-
-id-length : (id : PeerId) → length (id_text id) ≡ 32
-unfolding id_text is_plain_id
-id-length id = eqb-true _ _ (and_parts _ _ (text-plain id.0)).0
 
 joined-length : (word c i k v : List ℕ) → length (word ++ (32 ∷ (c ++ (32 ∷ (i ++ (32 ∷ (k ++ (32 ∷ v)))))))) ≡ length word + length c + length i + length k + length v + 4
 joined-length word c i k v =
@@ -39,7 +24,7 @@ joined-length word c i k v =
 pub frame-short : (w : Write) → IsWrite w → length (write_text w) ≤ OCTETS
 frame-short w is =
     let count = length-decimal-le 20 w.count (omega arith) (omega (arith, is.count)) (omega (arith, is.count)) in
-    omega (arith, joined-length (codes "zre-set") (decimal w.count) (id_text w.id) (quoted w.key) (quoted w.value), count, id-length w.id, quoted-short w.key, quoted-short w.value, is.key_fits, is.value_fits)
+    omega (arith, joined-length (codes "zre-set") (decimal w.count) (id_text w.id) (quoted w.key) (quoted w.value), count, id-short w.id, quoted-short w.key, quoted-short w.value, is.key_fits, is.value_fits)
 
 -- ---- a text that is too long
 

@@ -7,3 +7,4 @@ pub mod Members
 pub mod Putting
 pub mod Tabling
 pub mod Welcoming
+pub mod Written

@@ -1,7 +1,9 @@
 ghost use Rattle.std.specs.Prelude.{◌≡◌, ◌<◌, ◌≤◌, ◌-◌, ◌^◌, ◌↔◌, ◌++◌, length, slice_get, is_some, All};
-ghost use Rattle.std.specs.Prelude.{Some, Err, IfOk, OnOk, OnErr};
+ghost use Rattle.std.specs.Prelude.{Some, Err, IfOk, OnOk, OnErr, IsErrOf};
 ghost use Rattle.std.specs.List.Sorted.{IsStrictlySortedBy};
 ghost use Rattle.std.specs.declared.cmp.Ordering.TheVariants.{Less};
+ghost use Rattle.zre_outside.specs.Causes.{Rose};
+ghost use Rattle.zre_outside.specs.Told.{AppendsFront, WritesThrough};
 ghost use Rattle.zre_values.specs.PlainId.{IsPeerId};
 ghost use Rattle.zre_shared.specs.Lines.{lines};
 ghost use Rattle.zre_shared.specs.Replicas.{none_held, with_write, with_frame, greatest_count, next_write};
@@ -16,6 +18,7 @@ use std::alloc::Global;
 use std::collections::BTreeMap;
 use std::marker::Model;
 use thiserror::Error;
+use zre_outside::{NextFault, Sink};
 use zre_values::{Octets, OutOfMemory, PeerId, take_apart};
 
 /// What a member holds of the shared table: for each key the greatest of the writes that it took and made. It holds as
@@ -178,7 +181,7 @@ impl Replica {
     }
 
     /// The write of the key at this place, counted from 0 in the order of the keys' octets. It walks there from the
-    /// first key: for all of them there is [`Replica::push_lines`].
+    /// first key: for all of them there is [`Replica::write_lines`].
     pub fn get(&self, i: usize) -> &Write
         requires { i < length self.now.writes }
         ensures { slice_get self.now.writes i ≡ Some result.now }
@@ -186,13 +189,18 @@ impl Replica {
         self.writes.values().nth(i).unwrap()
     }
 
-    /// Appends the table as text: a line `KEY COUNT ID VALUE` for each key, KEY and VALUE quoted, in the order of the
-    /// keys' octets. After an error a front of it may stand there.
-    pub fn push_lines(&self, out: &mut Octets) -> Result<(), OutOfMemory>
-        ensures { OnOk result (out.new ≡ out.old ++ lines self.now.writes) }
+    /// Writes the table as text: a line `KEY COUNT ID VALUE` for each key, KEY and VALUE quoted, in the order of the
+    /// keys' octets. The text is gathered, and written whenever it is much. After an error a front of it is written.
+    pub fn write_lines<O: Sink>(&self, gathered: &mut Octets, out: &mut O) -> Result<(), NextFault>
+        ensures through { OnOk result (WritesThrough gathered.old gathered.new (O.written out.old) (O.written out.new)
+            (lines self.now.writes)) }
+        ensures front { OnErr result (AppendsFront (O.written out.old) (O.written out.new)
+            (gathered.old ++ lines self.now.writes)) }
+        ensures later { O.faults out.old ≤ O.faults out.new }
+        ensures failed { IsErrOf result NextFault.Failed → Rose (O.faults out.old) (O.faults out.new) }
     {
         for write in self.writes.values() {
-            write.push_line(out)?;
+            write.write_line(gathered, out)?;
         }
         Ok(())
     }

@@ -1,13 +1,16 @@
 //! Writes as frames of content.
 
-ghost use Rattle.std.specs.Prelude.{◌≡◌, ◌≤◌, ◌∷◌, ◌++◌, [], length, decimal, IfOk, OnOk};
+ghost use Rattle.std.specs.Prelude.{◌≡◌, ◌≤◌, ◌∷◌, ◌++◌, [], length, decimal, IfOk, OnOk, OnErr, IsErrOf};
 ghost use Rattle.std.specs.Prelude.{Some};
+ghost use Rattle.zre_outside.specs.Causes.{Rose};
+ghost use Rattle.zre_outside.specs.Told.{AppendsFront, WritesThrough};
 ghost use Rattle.zre_values.specs.Text.{id_text};
 ghost use Rattle.zre_shared.specs.Lines.{line};
 ghost use Rattle.zre_shared.specs.Writes.{head_text, IsWrite, write_text, write_of};
 
 use crate::reading::{Fields, said_by};
 use std::alloc::Global;
+use zre_outside::{NextFault, Sink, write_much};
 use zre_values::{Octets, OutOfMemory, PeerId, push_decimal, push_quoted, take_apart};
 
 /// The most octets of a key.
@@ -107,5 +110,22 @@ impl Write {
         push_stamp(out, self.count, self.id)?;
         push_quoted(out, self.value.as_slice())?;
         out.push(b'\n')
+    }
+
+    // Writes the line of a table, once much is gathered with it.
+    pub(crate) fn write_line<O: Sink>(
+        &self,
+        gathered: &mut Octets,
+        out: &mut O,
+    ) -> Result<(), NextFault>
+        ensures through { OnOk result (WritesThrough gathered.old gathered.new (O.written out.old) (O.written out.new)
+            (line self.now)) }
+        ensures front { OnErr result (AppendsFront (O.written out.old) (O.written out.new)
+            (gathered.old ++ line self.now)) }
+        ensures later { O.faults out.old ≤ O.faults out.new }
+        ensures failed { IsErrOf result NextFault.Failed → Rose (O.faults out.old) (O.faults out.new) }
+    {
+        self.push_line(gathered)?;
+        write_much(gathered, out)
     }
 }

@@ -1,10 +1,10 @@
 -- How far a pump has come: the octets taken so far, whose text is written.
-use Rattle.std.proofs.Common.{◌≡◌, ℕ, ◌+◌, ◌<◌, ◌≤◌, true, false, List, [], ◌++◌, ◌⊎◌, length, take, Option, refl, sym, ap, ◌∙◌, subst, append_assoc, append-nil, arith, inl, inr, true≢false}
+use Rattle.std.proofs.Common.{◌≡◌, ℕ, ◌+◌, ◌<◌, ◌≤◌, true, false, List, [], ◌++◌, ◌⊎◌, length, take, Option, refl, sym, ap, ◌∙◌, subst, append-nil, arith, inl, inr, true≢false}
 use Rattle.std.specs.Io.KnownBytes.{Appends, IsAtEnd}
 use Rattle.std.proofs.KnownBytes.{Appends-nil, Appends-trans, Appends-kept, Consumes-nil, Consumes-trans}
 use Rattle.std.proofs.lemmas.List.{length-append, length-take-le}
-use Rattle.zre_outside.specs.Causes.{Rose}
 use Rattle.zre_outside.specs.Told.{MovesOn, AppendsFront}
+use Rattle.zre_outside.proofs.Through.{front_after, front_longer}
 use Rattle.zre_commands.specs.declared.pump.status.Status.{Status}
 use Rattle.zre_commands.specs.declared.pump.status.Status.TheVariants as statuses
 use Rattle.zre_commands.specs.pump.Meaning.{Meaning, whole_text}
@@ -63,15 +63,6 @@ goes_on fed fed' m l l' l'' t t' t'' w w' w'' count read piece r len moves h s w
   going = s;
   appended = written_more m r.octets piece w w' w'' r.appended wt;
 }
-
-pub Rose-since : (before mid now : ℕ) → before ≤ mid → Rose mid now → Rose before now
-Rose-since before mid now le h = omega (arith, h)
-
-front_after : (a b c : Option (List ℕ)) (x y : List ℕ) → Appends a b x → AppendsFront b c y → AppendsFront a c (x ++ y)
-front_after a b c x y p q = (x ++ q.0, q.1, ap (λ r. x ++ r) q.2 ∙ sym (append_assoc x q.0 q.1), Appends-trans a b c x q.0 p q.3)
-
-pub front_longer : (a c : Option (List ℕ)) (x z : List ℕ) → AppendsFront a c x → AppendsFront a c (x ++ z)
-front_longer a c x z q = (q.0, q.1 ++ z, ap (λ r. r ++ z) q.2 ∙ append_assoc q.0 q.1 z, q.3)
 
 -- a piece was read, and only a front of its text was written
 pub front_of_more : (m : Meaning) (o piece : List ℕ) (w w' w'' : Option (List ℕ)) → Appends w w' (m.text o) → WritesFront m o piece w' w'' → AppendsFront w w'' (whole_text m (o ++ piece))

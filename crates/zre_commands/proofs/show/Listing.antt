@@ -1,7 +1,8 @@
 -- The machine of `show`, fed one more piece: the text of more octets begins with that of fewer.
-use Rattle.std.proofs.Common.{◌≡◌, ℕ, None, Bool, true, false, ◌||◌, List, [], ◌++◌, refl, ap, ◌∙◌}
+use Rattle.std.proofs.Common.{◌≡◌, ℕ, None, true, false, ◌||◌, List, [], ◌++◌, refl, ap, ◌∙◌}
 use Rattle.std.specs.Prelude.{is_some}
 use Rattle.std.proofs.lemmas.List.Concat.{flat_map-append}
+use Rattle.std.proofs.lemmas.Bool.{or_left}
 use Rattle.zre_commands.specs.pump.Meaning.{Grows}
 use Rattle.zre_zmtp.specs.Reading.{new_items}
 use Rattle.zre_zmtp.specs.Stream.{Whole, items, fault, cut, greeting_fault}
@@ -28,13 +29,9 @@ text_nothing = refl
 pub nothing_stopped : is_stopped [] ≡ false
 nothing_stopped = ap is_some no_fault
 
-either_holds : (a b : Bool) → a ≡ true → (a || b) ≡ true
-either_holds true b e = refl
-either_holds false b e = absurd cc
-
 -- what is refused however it goes on is refused as it is
 pub stopped_is_bad : (o : List ℕ) → is_stopped o ≡ true → is_bad o ≡ true
-stopped_is_bad o e = either_holds (is_some (fault Any Whole o)) _ e
+stopped_is_bad o e = or_left (is_some (fault Any Whole o)) _ e
 
 -- the lines of the new items were appended, where no items stood before
 pub text_on : (o x out out' : List ℕ) (items : List Item) → items ≡ new_items Any Whole o x → out' ≡ out ++ lines items → Grows show o x out out'

@@ -27,6 +27,6 @@ pub record Grows (m : Meaning) (o piece out out' : List ℕ) : Type 0 where
 abbrev pub KeepsRefusing : Meaning → Type 0
 KeepsRefusing m = (o x : List ℕ) → m.is_stopped o ≡ true → m.is_bad (o ++ x) ≡ true
 
-abbrev pub is_stop : Going → Bool
-is_stop On = false
-is_stop Stop = true
+abbrev pub stops : Going → Bool
+stops On = false
+stops Stop = true

@@ -4,6 +4,7 @@ use crate::follow::taking::take_items;
 use crate::pump::{Going, Machine};
 use crate::stream::{going_after, push_end, read_piece};
 use std::alloc::Global;
+use zre_outside::{NextFault, Sink};
 use zre_peer::Teller;
 use zre_values::{Octets, OutOfMemory, PeerId};
 use zre_zmtp::{Items, Reader, ZmtpFault};
@@ -67,10 +68,10 @@ impl Machine for Follower {
         Ok(going_after(&self.fault, self.run.spent()))
     }
 
-    fn finish(&self, taken: u64, out: &mut Octets) -> Result<bool, OutOfMemory> {
+    fn finish<O: Sink>(&self, taken: u64, text: &mut Octets, _: &mut O) -> Result<bool, NextFault> {
         if self.run.spent() {
             return Ok(false);
         }
-        push_end(&self.reader, self.fault, taken, out)
+        Ok(push_end(&self.reader, self.fault, taken, text)?)
     }
 }

@@ -1,6 +1,9 @@
-ghost use Rattle.std.specs.Prelude.{◌≡◌, ◌++◌, ℕ, List, [], true, false, length, IfOk, OnOk};
-ghost use Rattle.zre_commands.specs.pump.Meaning.{Meaning, Grows, is_stop};
+ghost use Rattle.std.specs.Prelude.{◌≡◌, ◌≤◌, ◌++◌, ℕ, List, [], true, false, length, IfOk, OnOk, OnErr, IsErrOf};
+ghost use Rattle.zre_outside.specs.Causes.{Rose};
+ghost use Rattle.zre_outside.specs.Told.{AppendsFront, WritesThrough};
+ghost use Rattle.zre_commands.specs.pump.Meaning.{Meaning, Grows, stops};
 
+use zre_outside::{NextFault, Sink};
 use zre_values::{Octets, OutOfMemory};
 
 /// Whether a machine wants more octets.
@@ -34,7 +37,7 @@ pub trait Machine {
         ensures text { (o : List ℕ) → fed self.old o → (says self.old).is_stopped o ≡ false
             → OnOk result (Grows (says self.old) o piece.now out.old out.new) }
         ensures stop { (o : List ℕ) → fed self.old o → (says self.old).is_stopped o ≡ false
-            → IfOk result (λ going. is_stop going ≡ (says self.old).is_stopped (o ++ piece.now)) }
+            → IfOk result (λ going. stops going ≡ (says self.old).is_stopped (o ++ piece.now)) }
         ensures same { says self.new ≡ says self.old }
         // The text of more octets begins with that of fewer, and what is refused however it goes on is refused as it
         // is.
@@ -42,11 +45,16 @@ pub trait Machine {
             × ((says self.old).text (o ++ piece.now) ≡ (says self.old).text o ++ added) }
         ensures stopped { (o : List ℕ) → (says self.old).is_stopped o ≡ true → (says self.old).is_bad o ≡ true };
 
-    /// Takes the end of the input, of which there were so many octets, and appends the last text. Says whether the
+    /// Takes the end of the input, of which there were so many octets, and appends the last text to what `text` has
+    /// gathered. A long one need not lie whole in memory: what is gathered may be written on the way. Says whether the
     /// input is refused.
-    fn finish(&self, taken: u64, out: &mut Octets) -> Result<bool, OutOfMemory>
+    fn finish<O: Sink>(&self, taken: u64, text: &mut Octets, out: &mut O) -> Result<bool, NextFault>
         ensures bad { (o : List ℕ) → fed self.now o → length o ≡ taken
             → IfOk result (λ bad. bad ≡ (says self.now).is_bad o) }
-        ensures ending { (o : List ℕ) → fed self.now o → length o ≡ taken
-            → OnOk result (out.new ≡ out.old ++ (says self.now).ending o) };
+        ensures ending { (o : List ℕ) → fed self.now o → length o ≡ taken → OnOk result
+            (WritesThrough text.old text.new (O.written out.old) (O.written out.new) ((says self.now).ending o)) }
+        ensures front { (o : List ℕ) → fed self.now o → length o ≡ taken → OnErr result
+            (AppendsFront (O.written out.old) (O.written out.new) (text.old ++ (says self.now).ending o)) }
+        ensures later { O.faults out.old ≤ O.faults out.new }
+        ensures failed { IsErrOf result NextFault.Failed → Rose (O.faults out.old) (O.faults out.new) };
 }

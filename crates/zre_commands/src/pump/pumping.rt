@@ -1,6 +1,7 @@
 //! Reads a source in pieces, feeds a machine, and writes its text.
 
-ghost use Rattle.std.specs.Prelude.{◌≡◌, ◌<◌, ◌≤◌, ◌+◌, ℕ, List, [], false, length, take, OnOk, IfErr};
+ghost use Rattle.std.specs.Prelude.{◌≡◌, ◌<◌, ◌≤◌, ◌+◌, ℕ, List, [], false, length, take, IfOk, OnOk, IfErr, OnErr};
+ghost use Rattle.std.specs.Prelude.{IsErrOf};
 ghost use Rattle.std.specs.Io.KnownBytes.{Appends};
 ghost use Rattle.zre_outside.specs.Causes.{Rose};
 ghost use Rattle.zre_outside.specs.Told.{AppendsFront, MovesOn};
@@ -10,8 +11,8 @@ ghost use Rattle.zre_commands.specs.pump.Turning.{Finishes, Refuses, Told, Turne
 use crate::pump::machine::{Going, Machine};
 use crate::pump::status::Status;
 use std::alloc::Global;
-use zre_outside::{NextFault, Sink, Source, room_for, write_all, zeros};
-use zre_values::{Octets, OutOfMemory};
+use zre_outside::{NextFault, Sink, Source, room_for, write_all, write_gathered, zeros};
+use zre_values::Octets;
 
 // The most octets that one read asks for. The text that they add lies whole in memory before it is written, and it can
 // be long: a tick of seven to ten octets tells up to 256 lines of EVASIVE, which are some 25 to 36 for each octet.
@@ -140,6 +141,28 @@ impl PumpText {
         PumpTurn { read, next }
     }
 
+    // Writes the last text of an input of so many octets. Says whether the input is refused.
+    fn write_ending<M: Machine, O: Sink>(
+        &mut self,
+        machine: &M,
+        taken: u64,
+        out: &mut O,
+    ) -> Result<bool, NextFault>
+        ensures bad { (o : List ℕ) → M.fed machine.now o → length o ≡ taken →
+            IfOk result (λ bad. bad ≡ (M.says machine.now).is_bad o) }
+        ensures ending { (o : List ℕ) → M.fed machine.now o → length o ≡ taken →
+            OnOk result (Appends (O.written out.old) (O.written out.new) ((M.says machine.now).ending o)) }
+        ensures front { (o : List ℕ) → M.fed machine.now o → length o ≡ taken →
+            OnErr result (AppendsFront (O.written out.old) (O.written out.new) ((M.says machine.now).ending o)) }
+        ensures writes { O.faults out.old ≤ O.faults out.new }
+        ensures failed { IsErrOf result NextFault.Failed → Rose (O.faults out.old) (O.faults out.new) }
+    {
+        self.room.clear();
+        let is_bad = machine.finish(taken, &mut self.room, out)?;
+        write_gathered(&mut self.room, out)?;
+        Ok(is_bad)
+    }
+
     // Takes the end of the input, of which so many octets were taken, and writes the last text.
     fn finish<M: Machine, O: Sink>(&mut self, machine: &M, taken: u64, out: &mut O) -> Status
         ensures finishes { (o : List ℕ) → M.fed machine.now o → length o ≡ taken →
@@ -147,21 +170,18 @@ impl PumpText {
             (Rose (O.faults out.old) (O.faults out.new)) }
         ensures writes { O.faults out.old ≤ O.faults out.new }
     {
-        self.room.clear();
-        let is_bad = match machine.finish(taken, &mut self.room) {
-            Ok(is_bad) => is_bad,
-            Err(OutOfMemory) => return Status::OutOfMemory,
-        };
-        match write_text(out, self.room.as_slice()) {
-            Ok(()) if is_bad => Status::BadInput,
-            Ok(()) => Status::Done,
-            Err(status) => status,
+        match self.write_ending(machine, taken, out) {
+            Ok(true) => Status::BadInput,
+            Ok(false) => Status::Done,
+            Err(NextFault::Failed) => Status::WriteFault,
+            Err(NextFault::OutOfMemory) => Status::OutOfMemory,
         }
     }
 }
 
 /// Writes the text that comes first, reads the source to its end, feeds the machine with it and writes its text, up to
-/// a limit of octets. It keeps one piece of the input and that piece's text, and asks for no octet past the limit.
+/// a limit of octets. It keeps one piece of the input and that piece's text, of the last text as much as the machine
+/// gathers, and asks for no octet past the limit.
 pub fn pump<M: Machine, I: Source, O: Sink>(
     alloc: Global,
     machine: &mut M,

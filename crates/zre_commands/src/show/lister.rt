@@ -4,6 +4,7 @@ use crate::pump::{Going, Machine};
 use crate::show::lines::push_lines;
 use crate::stream::{going_after, push_end, read_piece};
 use std::alloc::Global;
+use zre_outside::{NextFault, Sink};
 use zre_values::{Octets, OutOfMemory};
 use zre_zmtp::{Items, Reader, ZmtpFault};
 
@@ -60,7 +61,7 @@ impl Machine for Lister {
         Ok(going_after(&self.fault, false))
     }
 
-    fn finish(&self, taken: u64, out: &mut Octets) -> Result<bool, OutOfMemory> {
-        push_end(&self.reader, self.fault, taken, out)
+    fn finish<O: Sink>(&self, taken: u64, text: &mut Octets, _: &mut O) -> Result<bool, NextFault> {
+        Ok(push_end(&self.reader, self.fault, taken, text)?)
     }
 }

@@ -4,6 +4,7 @@ use Rattle.std.specs.Prelude.{◌||◌}
 use Rattle.std.specs.List.{list_any}
 use Rattle.std.proofs.lemmas.List.{append-nil, append_cancel_right}
 use Rattle.std.proofs.lemmas.List.Folds.{list_any-append}
+use Rattle.std.proofs.lemmas.Bool.{or_right, or_left}
 use Rattle.zre_outside.specs.declared.entry.Command.{Command}
 use Rattle.zre_outside.specs.declared.entry.Command.TheVariants.{Join, Leave, Whisper, Shout, Bad, Quit}
 use Rattle.zre_capture.specs.Journal.{lines_in}
@@ -68,14 +69,6 @@ left-false : (a b : Bool) → (a || b) ≡ false → a ≡ false
 left-false true b e = e
 left-false false b e = refl
 
-right-true : (a b : Bool) → b ≡ true → (a || b) ≡ true
-right-true true b e = refl
-right-true false b e = e
-
-left-true : (a b : Bool) → a ≡ true → (a || b) ≡ true
-left-true true b e = refl
-left-true false b e = absurd cc
-
 pub begun-none : (front : List Command) (o : List ℕ) → Begins front o → list_any is_quit front ≡ false
 begun-none front o begins =
     let ended = orders_from 1 (ended_lines (lines_in o)) in
@@ -88,7 +81,7 @@ pub quit-found : (o : List ℕ) (front : List Command) (c : Command) (others : L
 quit-found o front c others e none is =
     let some : list_any is_quit (typed o) ≡ true =
     ap (list_any is_quit) e ∙ list_any-append is_quit front (c ∷ others)
-    ∙ right-true (list_any is_quit front) (list_any is_quit (c ∷ others)) (left-true (is_quit c) (list_any is_quit others) is) in (
+    ∙ or_right (list_any is_quit front) (list_any is_quit (c ∷ others)) (or_left (is_quit c) (list_any is_quit others) is) in (
       some,
       ap orders (sym (append-nil o)) ∙ quit-ends o [] some ∙ ap through_quit e ∙ without_quit front (c ∷ others) none
           ∙ ap (λ (b : Bool). front ++ (c ∷ cond b [] (through_quit others))) is,

@@ -10,14 +10,11 @@ use Rattle.zre_capture.specs.Reading.{but_last}
 use Rattle.zre_capture.specs.Journal.{lines_in}
 use Rattle.zre_capture.proofs.Parts.{between-cut, between-whole}
 use Rattle.zre_capture.proofs.Lines.{some_lines, lacks-append}
+use Rattle.zre_capture.proofs.Columns.{but_last-more}
 use Rattle.zre_console.specs.lines.Orders.{order_of, orders_from, ended_lines, typed}
 use Rattle.zre_console.specs.lines.Typing.{last_of, unfinished, finished}
 
 -- ---- lists of lines
-
-but_last-cons : (l : List ℕ) (ls : List (List ℕ)) → 0 < length ls → but_last (l ∷ ls) ≡ l ∷ but_last ls
-but_last-cons l [] some = absurd (omega (arith, some))
-but_last-cons l (m ∷ ls) some = refl
 
 last_of-cons : (l : List ℕ) (ls : List (List ℕ)) → 0 < length ls → last_of (l ∷ ls) ≡ last_of ls
 last_of-cons l [] some = absurd (omega (arith, some))
@@ -33,7 +30,7 @@ some_append ls ms some = omega (arith, some, length-append ls ms)
 
 but_last-append : (ls ms : List (List ℕ)) → 0 < length ms → but_last (ls ++ ms) ≡ ls ++ but_last ms
 but_last-append [] ms some = refl
-but_last-append (l ∷ ls) ms some = but_last-cons l (ls ++ ms) (some_append ls ms some) ∙ ap (λ (r : List (List ℕ)). l ∷ r) (but_last-append ls ms some)
+but_last-append (l ∷ ls) ms some = but_last-more l (ls ++ ms) (some_append ls ms some) ∙ ap (λ (r : List (List ℕ)). l ∷ r) (but_last-append ls ms some)
 
 last_of-append : (ls ms : List (List ℕ)) → 0 < length ms → last_of (ls ++ ms) ≡ last_of ms
 last_of-append [] ms some = refl

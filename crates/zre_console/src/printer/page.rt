@@ -1,18 +1,18 @@
 //! The text that waits to be written.
 
 ghost use Rattle.std.specs.Prelude.{◌≡◌, ◌≤◌, ◌++◌, ◌∷◌, ℕ, List, [], Option, Some, None, IsSome, ◌⊎◌};
+ghost use Rattle.std.specs.Prelude.{OnOk, OnErr, IsErrOf};
 ghost use Rattle.zre_outside.specs.Causes.{Rose};
+ghost use Rattle.zre_outside.specs.Told.{AppendsFront, WritesThrough};
 ghost use Rattle.zre_outside.specs.declared.sink.NextFault.TheVariants.{Failed};
 ghost use Rattle.zre_peer.specs.declared.event.Event.{Event as EventValue};
+ghost use Rattle.zre_peer.specs.Lines.{line};
 ghost use Rattle.zre_console.specs.printer.Pages.{Shows, fresh};
 
 use std::alloc::Global;
-use zre_outside::{NextFault, Sink, write_all};
+use zre_outside::{NextFault, Sink, write_gathered, write_much};
 use zre_peer::{Event, push_line};
-use zre_values::{Octets, OutOfMemory};
-
-/// How much text is gathered, at most and a line more, before it is written.
-const ROOM: usize = 65536;
+use zre_values::Octets;
 
 /// The lines of events that aren't written yet. After a fault it takes no more.
 #[derive(Drop)]
@@ -34,6 +34,20 @@ impl Page {
         }
     }
 
+    // Appends the line of an event, and writes what has been gathered where that is much.
+    fn put<O: Sink>(&mut self, event: &Event, out: &mut O) -> Result<(), NextFault>
+        ensures through { OnOk result (WritesThrough self.old.text self.new.text (O.written out.old) (O.written out.new)
+            (line event.now)) }
+        ensures front { OnErr result (AppendsFront (O.written out.old) (O.written out.new)
+            (self.old.text ++ line event.now)) }
+        ensures same { self.new.fault ≡ self.old.fault }
+        ensures later { O.faults out.old ≤ O.faults out.new }
+        ensures failed { IsErrOf result NextFault.Failed → Rose (O.faults out.old) (O.faults out.new) }
+    {
+        push_line(&mut self.text, event)?;
+        write_much(&mut self.text, out)
+    }
+
     /// Appends the line of an event, and writes what has been gathered where that is much.
     pub fn print<O: Sink>(&mut self, event: &Event, out: &mut O)
         ensures shows { (w : Option (List ℕ)) (es : List EventValue) → Shows self.old w (O.written out.old) es →
@@ -46,12 +60,8 @@ impl Page {
         if self.fault.is_some() {
             return;
         }
-        if let Err(OutOfMemory) = push_line(&mut self.text, event) {
-            self.fault = Some(NextFault::OutOfMemory);
-            return;
-        }
-        if self.text.len() >= ROOM {
-            self.write(out);
+        if let Err(fault) = self.put(event, out) {
+            self.fault = Some(fault);
         }
     }
 
@@ -68,10 +78,8 @@ impl Page {
         if self.fault.is_some() || self.text.is_empty() {
             return;
         }
-        if let Err(fault) = write_all(out, self.text.as_slice()) {
+        if let Err(fault) = write_gathered(&mut self.text, out) {
             self.fault = Some(fault);
-            return;
         }
-        self.text.clear();
     }
 }

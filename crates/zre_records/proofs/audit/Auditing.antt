@@ -34,9 +34,9 @@ again_stays : (told : Option Settings) (o x : List ℕ) → is_again told o ≡ 
 again_stays None o x e = absurd (true≢false (sym e))
 again_stays (Some s) o x e = begins_longer (own_front s) o x e
 
-some_or : (b e : Option BadCapture) → is_some b ≡ true → is_some (option_or b e) ≡ true
-some_or None e there = absurd (true≢false (sym there))
-some_or (Some b) e there = refl
+pub or_there : (b e : Option BadCapture) → is_some b ≡ true → is_some (option_or b e) ≡ true
+or_there None e there = absurd (true≢false (sym there))
+or_there (Some b) e there = refl
 
 or_some : (b e : Option BadCapture) → is_some e ≡ true → is_some (option_or b e) ≡ true
 or_some None e there = there
@@ -52,7 +52,7 @@ later_stays told o x e = by (is_again told o) refl e
   where
     either : (d : Bool) → is_some (bad Second o) ≡ true → is_some (cond d (Some (record { line = 1; column = 15 })) (bad_at_end Second (o ++ x))) ≡ true
     either true e = refl
-    either false e = some_or (bad Second (o ++ x)) _ (bad_stays Second o x e)
+    either false e = or_there (bad Second (o ++ x)) _ (bad_stays Second o x e)
 
     by : (d : Bool) → is_again told o ≡ d → is_some (cond d (Some (record { line = 1; column = 15 })) (bad Second o)) ≡ true → is_some (later_bad_at_end told (o ++ x)) ≡ true
     by true q e = rw (again_stays told o x q) refl
@@ -84,7 +84,7 @@ first_of o x e =
     let more = longer_by o x in
     let there : is_some (bad Second (earlier (o ++ x))) ≡ true =
     ap is_some ((is_earlier (o ++ x)).bad_is ∙ ap (bad Second) more.1) ∙ bad_stays Second (before_seam o) more.0 e in
-    some_or (bad_at_end Second (earlier (o ++ x))) _ (some_or (bad Second (earlier (o ++ x))) _ there)
+    or_there (bad_at_end Second (earlier (o ++ x))) _ (or_there (bad Second (earlier (o ++ x))) _ there)
 
 pub audit_refuses : KeepsRefusing audit
 audit_refuses o x e = by (from_seam o) refl

@@ -2,6 +2,7 @@
 use Rattle.std.proofs.Common.{◌≡◌, ℕ, Bool, true, false, cond, ◌||◌, List, [], ◌∷◌, ◌++◌, Option, Some, None, option_map, refl, sym, ap, ◌∙◌, subst, true≢false}
 use Rattle.std.specs.Prelude.{is_some}
 use Rattle.std.specs.Option.{option_or}
+use Rattle.std.proofs.Math.Bool.{or-false}
 use Rattle.zre_capture.specs.Journal.{journal, settings, bad, bad_at_end}
 use Rattle.zre_capture.specs.declared.fault.BadCapture.{BadCapture}
 use Rattle.zre_capture.specs.declared.format.Format.TheVariants.{Second}
@@ -134,13 +135,9 @@ either_whole o e = by (is_whole (after None (before_seam o))) refl
     by true w = ap (later_bad (settings Second (earlier o))) (is_marked o e w).later_is ∙ mark_not_bad (settings Second (earlier o))
     by false w = ap (later_bad (settings Second (earlier o))) (is_none o e w).later_is ∙ nothing_not_bad (settings Second (earlier o))
 
-or_false : (a : Bool) → (a || false) ≡ a
-or_false true = refl
-or_false false = refl
-
 pub stopped_first : (o : List ℕ) → from_seam o ≡ [] → audit.is_stopped o ≡ is_some (bad Second (before_seam o))
 stopped_first o e =
-    ap (λ (b : Option BadCapture). is_some (bad Second (earlier o)) || is_some b) (either_whole o e) ∙ or_false (is_some (bad Second (earlier o))) ∙ ap is_some (is_earlier o).bad_is
+    ap (λ (b : Option BadCapture). is_some (bad Second (earlier o)) || is_some b) (either_whole o e) ∙ or-false (is_some (bad Second (earlier o))) ∙ ap is_some (is_earlier o).bad_is
 
 pub stopped_both : (o : List ℕ) (b : ℕ) (t : List ℕ) → from_seam o ≡ b ∷ t
     → audit.is_stopped o ≡ (is_some (bad Second (before_seam o)) || is_some (later_bad (settings Second (before_seam o)) (mark ++ b ∷ t)))

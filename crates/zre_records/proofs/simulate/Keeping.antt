@@ -1,13 +1,11 @@
 -- As much of a text as a schedule may have, and one octet, is refused and answered as the text is.
-use Rattle.std.proofs.Common.{◌≡◌, ℕ, zero, suc, ◌+◌, ◌-◌, ◌≤◌, ◌<◌, min, List, [], ◌∷◌, ◌++◌, length, take, Option, Some, None, refl, sym, ap, ◌∙◌, arith, append_assoc, append-nil}
-use Rattle.std.specs.Prelude.{get_or, Result, Ok, Err, IfOk}
-use Rattle.std.proofs.lemmas.List.{take_more}
-use Rattle.zre_peer.specs.declared.event.Event.{Event}
+use Rattle.std.proofs.Common.{◌≡◌, ℕ, zero, suc, ◌+◌, ◌-◌, ◌≤◌, min, List, [], ◌∷◌, ◌++◌, length, take, Option, Some, None, refl, sym, ap, ◌∙◌, arith, take_all}
+use Rattle.std.specs.Prelude.{Result, Ok, Err, OnErr}
 use Rattle.std.specs.Option.{option_or}
 use Rattle.zre_net.specs.Answer.{bad_in, bad_move}
 use Rattle.zre_net.specs.Reading.{bad_line, lines_in, moves_of}
 use Rattle.zre_net.proofs.Long.{as_short, is_short}
-use Rattle.zre_records.specs.simulate.Simulate.{answer, answer_of, told_line, told_lines}
+use Rattle.zre_records.specs.simulate.Simulate.{answer, answer_of}
 
 -- a front of a text, and what may be kept of the next piece
 pub keeps : (n : ℕ) (o piece : List ℕ) → take n o ++ take (n - length (take n o)) piece ≡ take n (o ++ piece)
@@ -28,14 +26,8 @@ at_most n [] = take-none (min n 0) [] refl ∙ sym (take-none n [] refl)
 at_most zero (b ∷ o) = let e : min 0 (length (b ∷ o)) ≡ 0 = omega arith in ap (λ k. take k (b ∷ o)) e
 at_most (suc n) (b ∷ o) = let e : min (suc n) (length (b ∷ o)) ≡ suc (min n (length o)) = omega arith in ap (λ k. take k (b ∷ o)) e ∙ ap (λ xs. b ∷ xs) (at_most n o)
 
-all_of : (n : ℕ) (o : List ℕ) → length o ≤ n → take n o ≡ o
-all_of zero [] z = refl
-all_of (suc n) [] z = refl
-all_of zero (b ∷ o) z = absurd (omega (arith, z))
-all_of (suc n) (b ∷ o) z = ap (λ xs. b ∷ xs) (all_of n o (omega (arith, z)))
-
 whole : (o : List ℕ) → bad_line (take 16777217 o) ≡ None → take 16777217 o ≡ o
-whole o none = let fits = is_short o (sym (as_short o) ∙ none) in all_of 16777217 o (omega (arith, fits))
+whole o none = let fits = is_short o (sym (as_short o) ∙ none) in take_all 16777217 o (omega (arith, fits))
 
 pub as_kept : (o : List ℕ) → bad_in (take 16777217 o) ≡ bad_in o
 as_kept o = by (bad_line (take 16777217 o)) refl
@@ -59,18 +51,6 @@ fed_on o piece kept front new room k had left most cut more =
     more ∙ ap (λ xs. kept ++ xs) (cut ∙ ap (λ n. take n piece) most ∙ at_most room piece ∙ ap (λ n. take n piece) (left ∙ ap (λ xs. 16777217 - length xs) had))
     ∙ ap (λ xs. xs ++ take (16777217 - length (take 16777217 o)) piece) had ∙ keeps 16777217 o piece
 
--- ---- lines
-
-lines-both : (xs ys : List (ℕ × Event)) → told_lines (xs ++ ys) ≡ told_lines xs ++ told_lines ys
-lines-both [] ys = refl
-lines-both (x ∷ xs) ys = ap (λ zs. told_line x ++ zs) (lines-both xs ys) ∙ sym (append_assoc (told_line x) (told_lines xs) (told_lines ys))
-
-pub told_more : (xs ys zs : List ℕ) (told : List (ℕ × Event)) (i : ℕ) (e : ℕ × Event) → i < length told → e ≡ get_or told i e → ys ≡ xs ++ told_lines (take i told) → zs ≡ ys ++ told_line e → zs ≡ xs ++ told_lines (take (i + 1) told)
-told_more xs ys zs told i e lt is had more =
-    more ∙ ap (λ ws. ws ++ told_line e) had ∙ append_assoc xs (told_lines (take i told)) (told_line e)
-    ∙ ap (λ ws. xs ++ ws) (ap (λ ws. told_lines (take i told) ++ ws) (sym (append-nil (told_line e))) ∙ sym (lines-both (take i told) (e ∷ []))
-    ∙ ap told_lines (sym (take_more told i e lt ∙ ap (λ x. take i told ++ x ∷ []) (sym is))))
-
-pub if_ok : {T E : Type 0} (P Q : T → Type 0) (r : Result T E) → IfOk r P → ((x : T) → P x → Q x) → IfOk r Q
-if_ok P Q (Ok x) p f = f x p
-if_ok P Q (Err e) p f = tt
+pub on_err_too : {T E A C : Type 0} (r : Result T E) → OnErr r A → (A → C) → OnErr r C
+on_err_too (Ok x) a f = tt
+on_err_too (Err e) a f = f a

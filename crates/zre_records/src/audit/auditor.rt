@@ -9,7 +9,7 @@ ghost use Rattle.zre_records.specs.audit.Audit.{verdict as verdict_of};
 ghost use Rattle.zre_records.specs.audit.Auditor.{Fed};
 ghost use Rattle.zre_records.specs.audit.Seam.{is_whole};
 ghost use Rattle.zre_records.specs.audit.Watched.{IsWatched};
-ghost use Rattle.zre_commands.specs.pump.Meaning.{is_stop};
+ghost use Rattle.zre_commands.specs.pump.Meaning.{stops};
 
 use crate::audit::later::Later;
 use crate::audit::seam::Seam;
@@ -20,6 +20,7 @@ use std::alloc::Global;
 use zre_audit::{Watch, verdict};
 use zre_capture::BadCapture;
 use zre_commands::pump::{Going, Machine};
+use zre_outside::{NextFault, Sink};
 use zre_values::{Octets, OutOfMemory};
 
 /// The machine of `audit`: two captures of format 2, one after the other, each read as it comes and told to the watch
@@ -123,7 +124,7 @@ impl Auditor {
     }
 
     fn going(&self) -> Going
-        ensures { (o : List ℕ) → Fed self.now o → is_stop result ≡ audit.is_stopped o }
+        ensures { (o : List ℕ) → Fed self.now o → stops result ≡ audit.is_stopped o }
     {
         if self.is_stopped() {
             Going::Stop
@@ -206,11 +207,11 @@ impl Machine for Auditor {
         Ok(self.going())
     }
 
-    fn finish(&self, _taken: u64, out: &mut Octets) -> Result<bool, OutOfMemory> {
-        if push_refusal(out, self.bad_at_end()?)? {
+    fn finish<O: Sink>(&self, _: u64, text: &mut Octets, _: &mut O) -> Result<bool, NextFault> {
+        if push_refusal(text, self.bad_at_end()?)? {
             return Ok(true);
         }
-        self.judge(out)?;
+        self.judge(text)?;
         Ok(false)
     }
 }

@@ -5,6 +5,7 @@ use crate::replay::lives::take_if_any;
 use std::alloc::Global;
 use zre_commands::pump::{Going, Machine};
 use zre_node::Node;
+use zre_outside::{NextFault, Sink};
 use zre_values::{Octets, OutOfMemory};
 
 /// The machine of `replay` without words: a node with the settings that the head of a capture of format 2 says, to
@@ -50,7 +51,7 @@ impl Machine for HeadReplayer {
         Ok(self.headed.pieces.going())
     }
 
-    fn finish(&self, _taken: u64, out: &mut Octets) -> Result<bool, OutOfMemory> {
-        self.headed.pieces.finish(out)
+    fn finish<O: Sink>(&self, _: u64, text: &mut Octets, _: &mut O) -> Result<bool, NextFault> {
+        Ok(self.headed.pieces.finish(text)?)
     }
 }

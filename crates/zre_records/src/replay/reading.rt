@@ -4,7 +4,7 @@ ghost use Rattle.std.specs.Prelude.{◌≡◌, ℕ, List, [], ◌++◌, false, i
 ghost use Rattle.zre_capture.specs.Journal.{Reads, Waits, Adds, format_of, settings, bad, bad_at_end};
 ghost use Rattle.zre_capture.specs.declared.format.Format.{Format};
 ghost use Rattle.zre_commands.specs.pump.Lines.{refusal};
-ghost use Rattle.zre_commands.specs.pump.Meaning.{is_stop};
+ghost use Rattle.zre_commands.specs.pump.Meaning.{stops};
 ghost use Rattle.zre_records.specs.replay.State.{IsState, IsRead};
 
 use crate::replay::waiting::WaitingReader;
@@ -142,7 +142,7 @@ impl Pieces {
 
     /// Whether more octets may be read.
     pub fn going(&self) -> Going
-        ensures { (f : Format) (o : List ℕ) → IsState f self.now.state o → is_stop result ≡ is_some (bad f o) }
+        ensures { (f : Format) (o : List ℕ) → IsState f self.now.state o → stops result ≡ is_some (bad f o) }
     {
         match self.state {
             State::Going(_) => Going::On,

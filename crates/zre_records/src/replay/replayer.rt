@@ -8,6 +8,7 @@ use zre_capture::CaptureReader;
 use zre_commands::pump::{Going, Machine};
 use zre_journal::Config;
 use zre_node::Node;
+use zre_outside::{NextFault, Sink};
 use zre_values::{Octets, OutOfMemory};
 
 /// The machine of `replay`: a node to which the entries of a capture are told as they come. It keeps the octets of an
@@ -64,7 +65,7 @@ impl Machine for Replayer {
         Ok(self.pieces.going())
     }
 
-    fn finish(&self, _taken: u64, out: &mut Octets) -> Result<bool, OutOfMemory> {
-        self.pieces.finish(out)
+    fn finish<O: Sink>(&self, _: u64, text: &mut Octets, _: &mut O) -> Result<bool, NextFault> {
+        Ok(self.pieces.finish(text)?)
     }
 }

@@ -1,10 +1,11 @@
 ghost use Rattle.std.specs.Prelude.{◌≡◌, List, [], true, false, take, IfOk};
 ghost use Rattle.zre_records.specs.simulate.Simulator.{Fed};
 
-use crate::simulate::answer::push_answer;
+use crate::simulate::answer::write_answer;
 use std::alloc::Global;
 use zre_commands::pump::{Going, Machine};
 use zre_net::limits::OCTETS;
+use zre_outside::{NextFault, Sink};
 use zre_values::{Octets, OutOfMemory};
 
 /// The machine of `simulate`. A schedule is read whole before anything is written, so it keeps the text: as many octets
@@ -49,7 +50,7 @@ impl Machine for Simulator {
         Ok(Going::On)
     }
 
-    fn finish(&self, _taken: u64, out: &mut Octets) -> Result<bool, OutOfMemory> {
-        push_answer(self.alloc, self.kept.as_slice(), out)
+    fn finish<O: Sink>(&self, _: u64, text: &mut Octets, out: &mut O) -> Result<bool, NextFault> {
+        write_answer(self.alloc, self.kept.as_slice(), text, out)
     }
 }

@@ -6,6 +6,7 @@ use crate::table::gathering::gather_if_any;
 use std::alloc::Global;
 use zre_commands::pump::{Going, Machine};
 use zre_node::Node;
+use zre_outside::{NextFault, Sink};
 use zre_shared::Replica;
 use zre_values::{Octets, OutOfMemory, PeerId};
 
@@ -63,11 +64,11 @@ impl Machine for Tabulator {
         Ok(self.headed.pieces.going())
     }
 
-    fn finish(&self, _taken: u64, out: &mut Octets) -> Result<bool, OutOfMemory> {
-        if self.headed.pieces.finish(out)? {
+    fn finish<O: Sink>(&self, _: u64, text: &mut Octets, out: &mut O) -> Result<bool, NextFault> {
+        if self.headed.pieces.finish(text)? {
             return Ok(true);
         }
-        self.replica.push_lines(out)?;
+        self.replica.write_lines(text, out)?;
         Ok(false)
     }
 }

@@ -7,6 +7,7 @@ use crate::upgrade::writing::push_entries;
 use std::alloc::Global;
 use zre_capture::{CaptureReader, Settings, push_head2};
 use zre_commands::pump::{Going, Machine};
+use zre_outside::{NextFault, Sink};
 use zre_values::{Octets, OutOfMemory};
 
 /// The machine of `upgrade`: the entries of a capture of format 1 are written as they come, in format 2, after a head
@@ -54,7 +55,7 @@ impl Machine for Upgrader {
         Ok(self.pieces.going())
     }
 
-    fn finish(&self, _taken: u64, out: &mut Octets) -> Result<bool, OutOfMemory> {
-        self.pieces.finish(out)
+    fn finish<O: Sink>(&self, _: u64, text: &mut Octets, _: &mut O) -> Result<bool, NextFault> {
+        Ok(self.pieces.finish(text)?)
     }
 }

@@ -1,6 +1,8 @@
 use Rattle.std.proofs.Common.{[], take, refl, ap, ◌∙◌, arith}
 use Rattle.std.proofs.lemmas.List.{length-take, length-take-le}
-use Rattle.zre_commands.proofs.pump.Reach.{MovesOn-nil, front_longer, starts, goes_on, Rose-since, refused, finishes_on, fails_on}
+use Rattle.zre_outside.proofs.Through.{front_longer}
+use Rattle.zre_outside.proofs.Rising.{rose_since}
+use Rattle.zre_commands.proofs.pump.Reach.{MovesOn-nil, starts, goes_on, refused, finishes_on, fails_on}
 use Rattle.zre_commands.proofs.pump.pumping.pump.Goals as goal
 
 pub loop-taken-init : goal.loop-taken-init
@@ -45,7 +47,7 @@ returns-in-Finish-clause-pumped g c =
     let turn = c.take_turn-turn in
     finishes_on c.finish.result _ (g.M.Machine.fed turn.new.machine) (g.M.Machine.says c.args.machine.now) c.args.limit c.loop-taken.taken turn.result.read turn.new.buf _ _ _ _ _ _ _ _ _ _ _ _ _ inv.reached turn.ensures.bound
     (omega (arith, turn.ensures.bound, turn.auto.buf, c.portion-room.ensures.within, length-take c.portion-room.result c.deref_mut.result.now, c.loop-taken-test.true)) c.loop-taken-test.true turn.ensures.moved
-    (Rose-since _ _ _ (omega (arith, inv.writes, turn.ensures.writes)))
+    (rose_since _ _ _ (omega (arith, inv.writes, turn.ensures.writes)))
     (rw (inv.same, c.in-Finish.is) at (turn.ensures.turned inv.reached.octets inv.reached.known (ap (λ m. m.is_stopped inv.reached.octets) inv.same ∙ inv.reached.going)))
     (λ o fed e. rw (turn.ensures.same, inv.same) at (c.finish.ensures.finishes o fed e))
 
@@ -55,7 +57,7 @@ returns-in-Fail-clause-pumped g c =
     let turn = c.take_turn-turn in
     fails_on c.in-Fail.status _ (g.M.Machine.says c.args.machine.now) c.args.limit c.loop-taken.taken turn.result.read turn.new.buf _ _ _ _ _ _ _ _ _ _ _ _ _ inv.reached turn.ensures.bound
     (omega (arith, turn.ensures.bound, turn.auto.buf, c.portion-room.ensures.within, length-take c.portion-room.result c.deref_mut.result.now, c.loop-taken-test.true)) c.loop-taken-test.true turn.ensures.moved
-    (Rose-since _ _ _ inv.reads) (Rose-since _ _ _ inv.writes)
+    (rose_since _ _ _ inv.reads) (rose_since _ _ _ inv.writes)
     (rw (inv.same, c.in-Fail.is) at (turn.ensures.turned inv.reached.octets inv.reached.known (ap (λ m. m.is_stopped inv.reached.octets) inv.same ∙ inv.reached.going)))
 
 pub returns-clause-pumped : goal.returns-clause-pumped

@@ -1,15 +1,11 @@
 use Rattle.std.proofs.Common.{ℕ, ◌≤◌, ◌∙◌, [], sym, ap, refl, subst, arith, append-nil}
 use Rattle.std.proofs.KnownBytes.{Appends-nil}
 use Rattle.std.proofs.Common.{⊎_elim}
-use Rattle.zre_actor.proofs.Working.{rose_later}
 use Rattle.zre_actor.specs.Passes.{taken_by, last_of}
-use Rattle.zre_outside.specs.Causes.{Rose}
+use Rattle.zre_outside.proofs.Rising.{rose_since, rose_still}
 use Rattle.zre_console.specs.printer.Printing.{IsLast}
 use Rattle.zre_console.proofs.printer.Writing.{has_printed}
 use Rattle.zre_console.proofs.printer.printing.print_all.Goals as goal
-
-rose_later_now : (a b c : ℕ) → b ≤ c → Rose a b → Rose a c
-rose_later_now a b c le rose = omega (arith, le, rose)
 
 pub loop-init : goal.loop-init
 loop-init g c = let o = g.O.Sink in record {
@@ -34,7 +30,7 @@ loop-preserved g c = let o = g.O.Sink in let h = c.loop.invariant in let n = c.p
   open_ = subst (λ b. IsLast b (last_of n.result.0)) c.if-is_last.false n.ensures.last;
   prints = n.ensures.prints c.args.asker c.args.taker (o.written c.args.out.now) h.prints;
   later = omega (arith, h.later, n.ensures.later);
-  failed = λ is. ⊎_elim (λ was. rose_later_now (o.faults c.args.out.now) (o.faults c.loop.out) (o.faults n.new.out) n.ensures.later (h.failed was)) (λ rose. rose_later (o.faults c.args.out.now) (o.faults c.loop.out) (o.faults n.new.out) h.later rose) (n.ensures.failed is);
+  failed = λ is. ⊎_elim (λ was. rose_still (o.faults c.args.out.now) (o.faults c.loop.out) (o.faults n.new.out) n.ensures.later (h.failed was)) (λ rose. rose_since (o.faults c.args.out.now) (o.faults c.loop.out) (o.faults n.new.out) h.later rose) (n.ensures.failed is);
 }
 
 pub returns-then-is_last-clause-printed : goal.returns-then-is_last-clause-printed
@@ -44,4 +40,4 @@ returns-then-is_last-clause-printed g c = let o = g.O.Sink in let h = c.loop.inv
 
 pub returns-then-is_last-clause-failed : goal.returns-then-is_last-clause-failed
 returns-then-is_last-clause-failed g c = let o = g.O.Sink in let h = c.loop.invariant in let n = c.print_next-pass in
-    λ is. ⊎_elim (λ was. rose_later_now (o.faults c.args.out.now) (o.faults c.loop.out) (o.faults n.new.out) n.ensures.later (h.failed was)) (λ rose. rose_later (o.faults c.args.out.now) (o.faults c.loop.out) (o.faults n.new.out) h.later rose) (n.ensures.failed is)
+    λ is. ⊎_elim (λ was. rose_still (o.faults c.args.out.now) (o.faults c.loop.out) (o.faults n.new.out) n.ensures.later (h.failed was)) (λ rose. rose_since (o.faults c.args.out.now) (o.faults c.loop.out) (o.faults n.new.out) h.later rose) (n.ensures.failed is)

@@ -1,8 +1,8 @@
 use Rattle.std.proofs.Common.{◌≡◌, ◌+◌, ◌≤◌, take, subst, arith}
 use Rattle.std.proofs.lemmas.List.{length-take, length-take-le}
 use Rattle.zre_outside.specs.Causes.{Rose}
+use Rattle.zre_outside.proofs.Rising.{rose_since}
 use Rattle.zre_console.specs.reader.Turning.{Finishes}
-use Rattle.zre_commands.proofs.pump.Reach.{Rose-since}
 use Rattle.zre_console.proofs.reader.Reach.{over-now, too-long, finished, ended-turn, memory-first}
 use Rattle.zre_console.proofs.reader.putting.ChatPipes.read_lines.Goals as goal
 
@@ -29,7 +29,7 @@ returns-in-End-clause-read g c =
     let within : c.loop-taken.taken + turn.result.read ≤ c.args.limit =
     omega (arith, turn.ensures.bound, turn.auto.buf, c.room_for-room.ensures.within, length-take c.room_for-room.result c.deref_mut.result.now, c.loop-taken-test.true) in
     ended-turn _ _ _ _ _ _ _ _ reached c.args.limit _ _ (take turn.result.read turn.new.buf) turn.ensures.moved turn.result.pass _ c.in-End.end _ _ turn.result.read
-    (Rose-since _ _ _ c.loop-taken.invariant.later) (length-take-le turn.result.read turn.new.buf turn.ensures.bound) within c.loop-taken-test.true t
+    (rose_since _ _ _ c.loop-taken.invariant.later) (length-take-le turn.result.read turn.new.buf turn.ensures.bound) within c.loop-taken-test.true t
 
 pub returns-clause-read : goal.returns-clause-read
 returns-clause-read g c =

@@ -1,0 +1,42 @@
+//! Text that is gathered before it is written, so that a long one never lies whole in memory.
+
+ghost use Rattle.std.specs.Prelude.{◌≡◌, ◌≤◌, [], OnOk, OnErr, IsErrOf};
+ghost use Rattle.std.specs.Io.KnownBytes.{Appends};
+ghost use Rattle.zre_outside.specs.Causes.{Rose};
+ghost use Rattle.zre_outside.specs.Told.{AppendsFront, WritesThrough};
+
+use crate::sink::{NextFault, Sink, write_all};
+use zre_values::Octets;
+
+// How many octets are gathered before they are written: with one line more they may be this many.
+const MUCH: usize = 65536;
+
+/// Writes what was gathered, and gathers anew. After a refusal a front of it is written, and all of it stays.
+pub fn write_gathered<O: Sink>(gathered: &mut Octets, out: &mut O) -> Result<(), NextFault>
+    ensures written { OnOk result (Appends (O.written out.old) (O.written out.new) gathered.old) }
+    ensures empty { OnOk result (gathered.new ≡ []) }
+    ensures stays { OnErr result (gathered.new ≡ gathered.old) }
+    ensures front { AppendsFront (O.written out.old) (O.written out.new) gathered.old }
+    ensures later { O.faults out.old ≤ O.faults out.new }
+    ensures failed { IsErrOf result NextFault.Failed → Rose (O.faults out.old) (O.faults out.new) }
+{
+    write_all(out, gathered.as_slice())?;
+    gathered.clear();
+    Ok(())
+}
+
+/// Writes what was gathered once it is 64 KiB, and gathers anew. After a refusal a front of it is written, and all of
+/// it stays.
+pub fn write_much<O: Sink>(gathered: &mut Octets, out: &mut O) -> Result<(), NextFault>
+    ensures through { OnOk result
+        (WritesThrough gathered.old gathered.new (O.written out.old) (O.written out.new) []) }
+    ensures stays { OnErr result (gathered.new ≡ gathered.old) }
+    ensures front { OnErr result (AppendsFront (O.written out.old) (O.written out.new) gathered.old) }
+    ensures later { O.faults out.old ≤ O.faults out.new }
+    ensures failed { IsErrOf result NextFault.Failed → Rose (O.faults out.old) (O.faults out.new) }
+{
+    if gathered.len() < MUCH {
+        return Ok(());
+    }
+    write_gathered(gathered, out)
+}
