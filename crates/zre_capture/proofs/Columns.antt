@@ -12,7 +12,7 @@ bad_here given required f fs at e = rw e refl
 good_here : (given : ℕ) (required : List Field) (f : List ℕ) (fs : List (List ℕ)) (at : ℕ) → meets given required f ≡ true → first_bad given required (f ∷ fs) at ≡ first_bad (given_after given required f) (after required f) fs (at + (length f + 1))
 good_here given required f fs at e = rw e refl
 
-but_last-more : (f : List ℕ) (fs : List (List ℕ)) → 0 < length fs → but_last (f ∷ fs) ≡ f ∷ but_last fs
+pub but_last-more : (f : List ℕ) (fs : List (List ℕ)) → 0 < length fs → but_last (f ∷ fs) ≡ f ∷ but_last fs
 but_last-more f [] some = absurd (omega (arith, some))
 but_last-more f (g ∷ fs) some = refl
 

@@ -23,7 +23,7 @@ octet-short : (plain : Bool) (a b c d : ℕ) → length (cond plain (a ∷ []) (
 octet-short true a b c d = omega arith
 octet-short false a b c d = omega arith
 
-octets-short : (v : List ℕ) → length (flat_map quoted_octet v) ≤ 3 * length v
+pub octets-short : (v : List ℕ) → length (flat_map quoted_octet v) ≤ 3 * length v
 octets-short [] = omega arith
 octets-short (b ∷ v) =
     omega (arith, ap length (flat_map-cons quoted_octet b v), length-append (quoted_octet b) (flat_map quoted_octet v), octets-short v, octet-short (is_plain b) b 37 (hex_digit (b / 16)) (hex_digit (b % 16)))
@@ -52,7 +52,7 @@ pairs-short (h ∷ hs) few fits =
     let p = and_parts (is_fitting h) (list_all is_fitting hs) fits in
     omega (arith, length-append (quoted_pair h) (flat_map joined hs), pair-short h p.0, more-short hs p.1, leb-true (length (h ∷ hs)) 256 few)
 
-id-short : (id : PeerId) → length (id_text id) ≡ 32
+pub id-short : (id : PeerId) → length (id_text id) ≡ 32
 unfolding id_text is_plain_id
 id-short id = eqb-true _ _ (and_parts _ _ (text-plain id.0)).0
 

@@ -90,7 +90,7 @@ pub head-first : (f : Format) (t : List ℕ) (ls : List (List ℕ)) → 0 < leng
 head-first f t [] some = absurd (omega (arith, some))
 head-first f t (u ∷ more) some = refl
 
-none_is : {A : Type 0} (o : Option A) → is_some o ≡ false → o ≡ None
+pub none_is : {A : Type 0} (o : Option A) → is_some o ≡ false → o ≡ None
 none_is None e = refl
 none_is (Some a) e = absurd cc
 

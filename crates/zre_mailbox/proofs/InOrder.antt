@@ -11,7 +11,7 @@ use Rattle.std.proofs.lemmas.Slice.Eq.{bytes_eq-Decides}
 use Rattle.zre_values.specs.declared.peer_id.PeerId.{PeerId}
 use Rattle.zre_zmtp.specs.Frame.{flags, frame_len, body, is_message, has_more}
 use Rattle.zre_zmtp.specs.Ready.{has_name, properties, rest, identity}
-use Rattle.zre_zmtp.specs.Stream.{Before, Whole, Parts, before, cut, split, item, items_of, once, awaits_ready, is_ready, is_error, is_other, has_socket, has_identity, command_fault, body_fault, frame_why, frame_fault, part_len}
+use Rattle.zre_zmtp.specs.Stream.{Before, Whole, Parts, before, cut, split, item, items_of, awaits_ready, is_ready, is_error, is_other, has_socket, has_identity, command_fault, body_fault, frame_why, part_len}
 use Rattle.zre_zmtp.specs.declared.want.Want.{Want}
 use Rattle.zre_zmtp.specs.declared.want.Want.TheVariants.{Dealer}
 use Rattle.zre_zmtp.specs.declared.expected.Expected.{Expected}
@@ -25,10 +25,12 @@ use Rattle.zre_zmtp.proofs.Grow.{IsWhole, is_whole-from, body-more}
 use Rattle.zre_zmtp.proofs.Stay.{is_part, IsPart, frame-len}
 use Rattle.zre_zmtp.proofs.Cuts.{cases_Option, cut-none, cut-some}
 use Rattle.zre_zmtp.proofs.Exact.{exact}
-use Rattle.zre_zmtp.proofs.Later.{head_fine, why_after}
+use Rattle.zre_zmtp.proofs.Later.{head_fine, why_after, once-true}
 use Rattle.zre_msg.specs.Reading.{read_frames}
 use Rattle.zre_msg.specs.declared.message.Message.{Message as MessageValue}
 use Rattle.zre_zmtp.specs.Ping.{context_of}
+use Rattle.zre_zmtp.proofs.Framed.{why_none}
+use Rattle.zre_zmtp.proofs.Kept.{row-off}
 use Rattle.zre_mailbox.specs.declared.arrival.Arrival.{Arrival}
 use Rattle.zre_mailbox.specs.declared.arrival.Arrival.TheVariants.{Greeted, Shaken, Ping, Message}
 use Rattle.zre_mailbox.specs.Talk.{peer_of, arrivals_in, arrivals, AreTraffic, Introduced, IsInOrder, is_ready as is_ready_item, has_ready}
@@ -59,21 +61,6 @@ other_peer own (Some v) e =
       other = λ same. not-true _ p.1 ((bytes_eq-Decides (drop 1 v) own.0).1 same);
       sixteen = omega (arith, len, length-drop 1 v);
     }
-
-row-off : (t : Bool) (w : ZmtpWhy) (rest : Option ZmtpWhy) → cond t (Some w) rest ≡ None → (t ≡ false) × (rest ≡ None)
-row-off true w rest e = absurd (none-some w (sym e))
-row-off false w rest e = (refl, e)
-
-no_fault : (want : Want) (b : Before) (o : List ℕ) → frame_fault want b o ≡ None → frame_why want b o ≡ None
-no_fault want b o e =
-    elim (cases_Option (frame_why want b o)) [
-      | inl n ↦ n
-      | inr p ↦ absurd (none-some (record { why = p.0; place = b.place }) (sym e ∙ ap (λ x. option_map (λ reason. record { why = reason; place = b.place }) x) p.1))
-    ]
-
-once-true : (t : Bool) (a : Option ZmtpWhy) → t ≡ true → once t a ≡ a
-once-true true a e = refl
-once-true false a e = absurd cc
 
 -- a test that isn't made where it would hold
 and-off : (a b : Bool) → (a && b) ≡ false → b ≡ true → a ≡ false
@@ -122,7 +109,7 @@ ready_peer own b o len ready e =
     let want = Dealer own in
     let p : IsPart expect.Ready want b o len = subst (λ (k : Expected). IsPart k want b o len) ready (is_part want b o len e) in
     let w = frame-len o len p.len in
-    let right : frame_why want b o ≡ None = no_fault want b o p.faultless in
+    let right : frame_why want b o ≡ None = why_none want b o p.faultless in
     let fine = head_fine want b o w.0.header right in
     let fault : body_fault want b (flags o) (body o) ≡ None = sym (once-true _ _ (is_whole-from o w.0)) ∙ sym (why_after want b o fine) ∙ right in
     let r1 = row-off _ _ _ fine.flags_fine in

@@ -1,5 +1,5 @@
 -- No message's octets begin another's.
-use Rattle.std.proofs.Common.{◌≡◌, ℕ, suc, ◌^◌, ◌<◌, Bool, true, false, cond, ltb, List, [], ◌∷◌, ◌++◌, length, take, drop, get_or, refl, sym, ap, subst, ◌∙◌, append_assoc, arith}
+use Rattle.std.proofs.Common.{◌≡◌, ℕ, suc, ◌^◌, ◌<◌, Bool, true, false, cond, ltb, List, [], ◌∷◌, ◌++◌, length, take, drop, refl, sym, ap, subst, ◌∙◌, append_assoc, arith}
 use Rattle.std.specs.List.{AllByRecursion}
 use Rattle.std.specs.Int.{w64, from_be_bytes, to_be_bytes}
 use Rattle.std.proofs.lemmas.List.{take_at, drop_at}
@@ -7,6 +7,7 @@ use Rattle.std.proofs.lemmas.Nat.{from_be_bytes-to_be_bytes_8}
 use Rattle.zre_msg.specs.declared.message.Message.{Message}
 use Rattle.std.proofs.lemmas.List.Elements.{recursion_from_All}
 use Rattle.zre_values.specs.Framing.{frame, frames, FitsFrame}
+use Rattle.zre_values.proofs.Quotes.{heads}
 use Rattle.zre_msg.specs.Spelling.{spell, octets, HasOctets, Means}
 use Rattle.zre_msg.proofs.Meaning.{Means-one}
 
@@ -18,9 +19,6 @@ split xs ys a b len e = (
 
 split_eight : (xs ys a b : List ℕ) → length xs ≡ 8 → length ys ≡ 8 → xs ++ a ≡ ys ++ b → (xs ≡ ys) × (a ≡ b)
 split_eight xs ys a b p q e = split xs ys a b (p ∙ sym q) e
-
-heads : (x y : ℕ) (a b : List ℕ) → x ∷ a ≡ y ∷ b → (x ≡ y) × (a ≡ b)
-heads x y a b e = (ap (λ l. get_or l 0 0) e, ap (drop 1) e)
 
 -- the parts of a frame, by whether it is short
 abbrev by_len : Bool → ℕ → List ℕ → List ℕ

@@ -6,6 +6,7 @@ use Rattle.std.proofs.lemmas.Bool.{and_parts, and_from, or_right, leb-true, le-l
 use Rattle.std.proofs.lemmas.List.{length-append}
 use Rattle.std.proofs.lemmas.List.Folds.{list_all-append}
 use Rattle.std.proofs.lemmas.Slice.Eq.{bytes_eq-Decides}
+use Rattle.std.proofs.Math.Bool.{or-false}
 use Rattle.zre_values.specs.Lists.{without}
 use Rattle.zre_peer.specs.declared.view.View.{View}
 use Rattle.zre_msg.specs.declared.message.Body.TheVariants.{Join, Leave}
@@ -30,10 +31,6 @@ parts v e =
 pub and_true : (b : Bool) → (b && true) ≡ b
 and_true true = refl
 and_true false = refl
-
-or_false : (b : Bool) → (b || false) ≡ b
-or_false true = refl
-or_false false = refl
 
 made : (v : View) → Parts v.groups v.headers → is_small v ≡ true
 unfolding is_small
@@ -79,17 +76,17 @@ few_with groups g e =
           ∙ sym (ap are_few (ap (λ b. cond b groups (groups ++ g ∷ [])) t) ∙ e)
       | inr f ↦ rw f (same_tests (is_short g && (ltb (length groups) 1024 || false)) (are_few (groups ++ g ∷ []))
           (λ t. let q = and_parts (is_short g) (ltb (length groups) 1024 || false) t in
-          let lt = ltb-true (length groups) 1024 (sym (or_false (ltb (length groups) 1024)) ∙ q.1) in
+          let lt = ltb-true (length groups) 1024 (sym (or-false (ltb (length groups) 1024)) ∙ q.1) in
           and_from (leb (length (groups ++ g ∷ [])) 1024) (list_all is_short (groups ++ g ∷ [])) (le-leb _ _ (omega (arith, lt, length-append groups (g ∷ []))))
           (list_all-append is_short groups (g ∷ []) ∙ and_from (list_all is_short groups) (list_all is_short (g ∷ [])) p.1 (and_from (is_short g) true q.0 refl)))
           (λ t. let q = and_parts (leb (length (groups ++ g ∷ [])) 1024) (list_all is_short (groups ++ g ∷ [])) t in
           let count = leb-true _ _ q.0 in
           let both = and_parts (list_all is_short groups) (list_all is_short (g ∷ [])) (sym (list_all-append is_short groups (g ∷ [])) ∙ q.1) in
           and_from (is_short g) (ltb (length groups) 1024 || false) (and_parts (is_short g) true both.1).0
-          (or_false (ltb (length groups) 1024) ∙ lt-ltb _ _ (omega (arith, count, length-append groups (g ∷ []))))))
+          (or-false (ltb (length groups) 1024) ∙ lt-ltb _ _ (omega (arith, count, length-append groups (g ∷ []))))))
     ]
 
-length-without : (g : List ℕ) (groups : List (List ℕ)) → length (without g groups) ≤ length groups
+pub length-without : (g : List ℕ) (groups : List (List ℕ)) → length (without g groups) ≤ length groups
 length-without g [] = omega arith
 length-without g (x ∷ xs) =
     elim (cases_Bool (bytes_eq x g)) [

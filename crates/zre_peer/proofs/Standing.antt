@@ -1,8 +1,9 @@
 -- A run that has taken messages, and one more.
-use Rattle.std.proofs.Common.{◌≡◌, ℕ, ◌+◌, ◌%◌, Bool, true, false, ◌&&◌, List, [], ◌∷◌, ◌++◌, length, Some, refl, sym, ap, ◌∙◌, arith}
+use Rattle.std.proofs.Common.{◌≡◌, ℕ, ◌+◌, ◌%◌, true, false, ◌&&◌, List, [], ◌∷◌, ◌++◌, length, Some, refl, sym, ap, ◌∙◌, arith}
 use Rattle.std.proofs.lemmas.List.Sums.{fold_push}
 use Rattle.std.proofs.lemmas.Bool.{and_parts, and_from}
 use Rattle.std.proofs.lemmas.List.{append-nil, append_assoc, length_push}
+use Rattle.std.proofs.Math.Bool.{and-false}
 use Rattle.zre_msg.specs.declared.message.Message.{Message}
 use Rattle.zre_peer.specs.declared.view.View.{View}
 use Rattle.zre_peer.specs.declared.peer_run.Run.{Run}
@@ -11,10 +12,6 @@ use Rattle.zre_peer.specs.Later.{goes_on, later_fault}
 use Rattle.zre_peer.specs.Runs.{due, may_follow, fault_of, shown, in_order, in_order_after}
 use Rattle.zre_peer.specs.Standing.{Stands}
 use Rattle.zre_peer.specs.Views.{view_of, after, blank}
-
-and_false : (b : Bool) → (b && false) ≡ false
-and_false true = refl
-and_false false = refl
 
 pub view_of_more : (ms : List Message) (m : Message) → view_of (ms ++ m ∷ []) ≡ after (view_of ms) m.body
 unfolding view_of
@@ -52,7 +49,7 @@ pub in_order-refused : (done ms : List Message) (m : Message) → may_follow (do
 in_order-refused done [] m f = ap (λ b. b && true) (rw append-nil at f)
 in_order-refused done (n ∷ ms) m f =
     let g : may_follow ((done ++ n ∷ []) ++ ms) m ≡ false = ap (λ x. may_follow x m) (append_assoc done (n ∷ []) ms) ∙ f in
-    ap (λ b. may_follow done n && b) (in_order-refused (done ++ n ∷ []) ms m g) ∙ and_false (may_follow done n)
+    ap (λ b. may_follow done n && b) (in_order-refused (done ++ n ∷ []) ms m g) ∙ and-false (may_follow done n)
 
 -- the count of a run, which wraps, and the number that is due
 pub count_more : (count : ℕ) (ms : List Message) → count ≡ length ms % 65536 → (count + 1) % 65536 ≡ due ms

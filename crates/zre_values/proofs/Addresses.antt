@@ -19,6 +19,15 @@ address_text_four a b c d =
     let second : flat_map dotted (b ∷ c ∷ d ∷ []) ≡ 46 ∷ (decimal b ++ (46 ∷ (decimal c ++ (46 ∷ decimal d)))) = flat_map-cons dotted b (c ∷ d ∷ []) ∙ ap (λ (r : List ℕ). dotted b ++ r) third in
     ap (λ (r : List ℕ). decimal a ++ r) second
 
+-- the text of an address, as its octets stand in an array
+pub address_text_array : (addr : List ℕ) → length addr ≡ 4 → address_text addr ≡ decimal (get_or addr 0 0) ++ (46 ∷ (decimal (get_or addr 1 0) ++ (46 ∷ (decimal (get_or addr 2 0) ++ (46 ∷ decimal (get_or addr 3 0))))))
+address_text_array (a ∷ b ∷ c ∷ d ∷ []) is = address_text_four a b c d
+address_text_array [] is = absurd (omega (arith, is))
+address_text_array (a ∷ []) is = absurd (omega (arith, is))
+address_text_array (a ∷ b ∷ []) is = absurd (omega (arith, is))
+address_text_array (a ∷ b ∷ c ∷ []) is = absurd (omega (arith, is))
+address_text_array (a ∷ b ∷ c ∷ d ∷ e ∷ more) is = absurd (omega (arith, is))
+
 -- the four numbers of an address, each an octet
 pub record Four (addr : List ℕ) : Type 0 where
   pub a : ℕ

@@ -12,7 +12,7 @@ use Rattle.zre_values.specs.Text.{hex_digit, is_plain, quoted_octet, quoted}
 hex_digit-one : (m n : ℕ) → m < 16 → n < 16 → hex_digit m ≡ hex_digit n → m ≡ n
 hex_digit-one m n p q e = grind (arith, nat_tests, e)
 
-heads : (x y : ℕ) (a b : List ℕ) → x ∷ a ≡ y ∷ b → (x ≡ y) × (a ≡ b)
+pub heads : (x y : ℕ) (a b : List ℕ) → x ∷ a ≡ y ∷ b → (x ≡ y) × (a ≡ b)
 heads x y a b e = (ap (λ l. get_or l 0 0) e, ap (drop 1) e)
 
 -- the quoted text of an octet, by whether the octet stands for itself

@@ -79,10 +79,12 @@ pub fn read_address(text: &[u8]) -> Option<[u8; 4]>
     Some([a, b, c, d])
 }
 
-#[tactic(auto, using(crate::proofs::Addresses::address_text_four))]
-fn push_four(out: &mut Octets, a: u8, b: u8, c: u8, d: u8) -> Result<(), OutOfMemory>
-    ensures { OnOk result (out.new ≡ out.old ++ address_text (a ∷ b ∷ c ∷ d ∷ [])) }
+/// Appends an address `a.b.c.d`. After an error a front of it may stand there.
+#[tactic(auto)]
+pub fn push_address(out: &mut Octets, addr: [u8; 4]) -> Result<(), OutOfMemory>
+    ensures { OnOk result (out.new ≡ out.old ++ address_text addr) }
 {
+    let [a, b, c, d] = addr;
     push_decimal(out, a as u64)?;
     out.push(b'.')?;
     push_decimal(out, b as u64)?;
@@ -90,14 +92,6 @@ fn push_four(out: &mut Octets, a: u8, b: u8, c: u8, d: u8) -> Result<(), OutOfMe
     push_decimal(out, c as u64)?;
     out.push(b'.')?;
     push_decimal(out, d as u64)
-}
-
-/// Appends an address `a.b.c.d`. After an error a front of it may stand there.
-pub fn push_address(out: &mut Octets, addr: [u8; 4]) -> Result<(), OutOfMemory>
-    ensures { OnOk result (out.new ≡ out.old ++ address_text addr) }
-{
-    let [a, b, c, d] = addr;
-    push_four(out, a, b, c, d)
 }
 
 fn read_port(text: &[u8]) -> Option<u16>

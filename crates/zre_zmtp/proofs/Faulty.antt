@@ -1,13 +1,14 @@
 -- What is wrong with a header, by what there is of it.
-use Rattle.std.proofs.Common.{◌≡◌, ◌≤◌, Bool, true, false, cond, List, [], ◌∷◌, length, Option, Some, None, refl, sym, ap, ◌∙◌, arith, inl, inr, ℕ}
+use Rattle.std.proofs.Common.{◌≡◌, ◌≤◌, Bool, true, List, [], ◌∷◌, length, Option, Some, None, refl, sym, ap, ◌∙◌, arith, ℕ}
 use Rattle.std.specs.Option.{option_or}
-use Rattle.std.proofs.lemmas.Bool.{le-leb, cases_Bool}
-use Rattle.std.proofs.lemmas.Option.{cond_some, none-some}
+use Rattle.std.proofs.lemmas.Bool.{le-leb}
+use Rattle.std.proofs.lemmas.Option.{cond_some}
 use Rattle.zre_zmtp.specs.declared.fault.ZmtpWhy.{ZmtpWhy}
 use Rattle.zre_zmtp.specs.declared.header.Header.{Header}
 use Rattle.zre_zmtp.specs.Frame.{flags, size, has_header, header_of}
 use Rattle.zre_zmtp.specs.Stream.{Before, once, flags_fault, size_fault}
 use Rattle.zre_zmtp.specs.Shown.{header_fault}
+use Rattle.zre_zmtp.proofs.Framed.{no_header}
 
 -- what is told, by whether the flags octet and all of the header are there, and by what is wrong with each
 abbrev told : Bool → Bool → Option ZmtpWhy → Option ZmtpWhy → Option ZmtpWhy
@@ -36,13 +37,6 @@ size_there b o h r some fine there is =
     ∙ sym (ap (λ (t : Bool). told t (has_header o) x y) (le-leb 1 (length o) some)
     ∙ ap (λ (f : Option ZmtpWhy). told true (has_header o) f y) fine
     ∙ ap (λ (t : Bool). told true t None y) p.0)
-
-no_header : (o : List ℕ) → header_of o ≡ None → has_header o ≡ false
-no_header o e =
-    elim (cases_Bool (has_header o)) [
-      | inr f ↦ f
-      | inl t ↦ (let said : Header = record { flags = flags o; size = size o } in absurd (none-some said (sym e ∙ ap (λ (x : Bool). cond x (Some said) None) t)))
-    ]
 
 -- they are not, and the size isn't there
 pub size_missing : (b : Before) (o : List ℕ) → 1 ≤ length o → flags_fault b (flags o) ≡ None → header_of o ≡ None → None ≡ header_fault b o

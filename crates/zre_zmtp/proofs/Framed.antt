@@ -15,7 +15,7 @@ use Rattle.zre_zmtp.specs.Stream.{Want, Before, once, flags_fault, size_fault, b
 use Rattle.zre_zmtp.specs.Run.{after, next_expected}
 use Rattle.zre_zmtp.specs.Shown.{header_fault, frame_item, frame_after, left_by, left_of, room, Waits}
 use Rattle.zre_zmtp.proofs.Grow.{flags-more, Headed, headed, has_header-from, Headed-more, size-more, header_len-more, IsWhole, is_whole-from}
-use Rattle.zre_zmtp.proofs.Later.{HeadFine, HeadFine-more, head_fine, why_after}
+use Rattle.zre_zmtp.proofs.Later.{HeadFine, HeadFine-more, head_fine, why_after, once-true}
 use Rattle.zre_zmtp.proofs.Cuts.{cases_Option}
 
 -- ---- where a frame is expected
@@ -118,10 +118,6 @@ head_of h o head later e p q =
 
 -- ---- its faults
 
-once-true : (t : Bool) (a : Option ZmtpWhy) → t ≡ true → once t a ≡ a
-once-true true a e = refl
-once-true false a e = absurd cc
-
 both_none : (a c : Option ZmtpWhy) → option_or a c ≡ None → (a ≡ None) × (c ≡ None)
 both_none None c e = (refl, e)
 both_none (Some x) c e = absurd (none-some x (sym e))
@@ -210,7 +206,7 @@ left-none was now no_head no_body same next = left-nothing now.expected now.gree
 
 -- ---- one octet more of a header
 
-no_header : (o : List ℕ) → header_of o ≡ None → has_header o ≡ false
+pub no_header : (o : List ℕ) → header_of o ≡ None → has_header o ≡ false
 no_header o e =
     elim (cases_Bool (has_header o)) [
       | inr f ↦ f
@@ -271,7 +267,7 @@ waits-header want b o h frame fine e within some =
 
 -- ---- octets more of a body
 
-why_none : (want : Want) (b : Before) (o : List ℕ) → frame_fault want b o ≡ None → frame_why want b o ≡ None
+pub why_none : (want : Want) (b : Before) (o : List ℕ) → frame_fault want b o ≡ None → frame_why want b o ≡ None
 why_none want b o e =
     elim (cases_Option (frame_why want b o)) [
       | inl n ↦ n

@@ -1,5 +1,5 @@
 -- How much a reader keeps.
-use Rattle.std.proofs.Common.{◌≡◌, ℕ, zero, suc, ◌+◌, ◌≤◌, ◌<◌, Bool, true, false, cond, not, ◌&&◌, leb, ltb, List, [], ◌∷◌, length, take, drop, Option, Some, None, refl, sym, ap, subst, ◌∙◌, arith, inl, inr, option_map, is_some}
+use Rattle.std.proofs.Common.{◌≡◌, ℕ, zero, suc, ◌+◌, ◌≤◌, ◌<◌, Bool, true, false, cond, not, ◌&&◌, leb, ltb, List, [], ◌∷◌, length, take, drop, Option, Some, None, refl, sym, ap, subst, ◌∙◌, arith, inl, inr, is_some}
 use Rattle.std.specs.Prelude.{sum_by, ◌⊎◌}
 use Rattle.std.proofs.lemmas.Bool.{ltb-false, leb-false, cases_Bool, and_cases, true≢false}
 use Rattle.std.proofs.lemmas.Option.{none-some}
@@ -10,7 +10,7 @@ use Rattle.zre_zmtp.specs.declared.fault.ZmtpWhy.{ZmtpWhy}
 use Rattle.zre_zmtp.specs.declared.fault.ZmtpFault.{ZmtpFault}
 use Rattle.zre_zmtp.specs.declared.expected.Expected.{Expected}
 use Rattle.zre_zmtp.specs.declared.expected.Expected.TheVariants as expect
-use Rattle.zre_zmtp.specs.Stream.{Want, Before, Kind, Parts, before, expected, opened, opened_with, cut, split, fault_at, frame_why, frame_fault, size_fault, whole_len, part_len}
+use Rattle.zre_zmtp.specs.Stream.{Want, Before, Kind, Parts, before, expected, opened, opened_with, cut, split, fault_at, frame_fault, size_fault, whole_len, part_len}
 use Rattle.zre_values.specs.declared.limits.TheConstants.{MESSAGE_OCTETS, COMMAND_OCTETS}
 use Rattle.zre_zmtp.specs.Reading.{Reading, Reads, kept}
 use Rattle.zre_zmtp.proofs.Grow.{headed, IsWhole}
@@ -18,8 +18,9 @@ use Rattle.zre_zmtp.proofs.Stay.{is_part, IsPart, frame-len}
 use Rattle.zre_zmtp.proofs.Cuts.{cases_Option, cut-none, cut-some, cut-ends}
 use Rattle.zre_zmtp.proofs.Later.{HeadFine, head_fine}
 use Rattle.zre_zmtp.proofs.Exact.{IsFrame, exact}
+use Rattle.zre_zmtp.proofs.Framed.{why_none}
 
-row-off : (t : Bool) (w : ZmtpWhy) (rest : Option ZmtpWhy) → cond t (Some w) rest ≡ None → (t ≡ false) × (rest ≡ None)
+pub row-off : (t : Bool) (w : ZmtpWhy) (rest : Option ZmtpWhy) → cond t (Some w) rest ≡ None → (t ≡ false) × (rest ≡ None)
 row-off true w rest e = absurd (none-some w (sym e))
 row-off false w rest e = (refl, e)
 
@@ -31,13 +32,6 @@ room b f n e =
     elim (cases_Bool (is_message f)) [
       | inl t ↦ (let h : ltb MESSAGE_OCTETS (sum_by length b.opened + n) ≡ false = sym (ap (λ x. x && ltb MESSAGE_OCTETS (sum_by length b.opened + n)) t) ∙ r.0 in inl (t, ltb-false _ _ h))
       | inr t ↦ (let h : ltb COMMAND_OCTETS n ≡ false = sym (ap (λ x. not x && ltb COMMAND_OCTETS n) t) ∙ q.0 in inr (t, ltb-false _ _ h))
-    ]
-
-no_fault : (want : Want) (b : Before) (o : List ℕ) → frame_fault want b o ≡ None → frame_why want b o ≡ None
-no_fault want b o e =
-    elim (cases_Option (frame_why want b o)) [
-      | inl n ↦ n
-      | inr p ↦ absurd (none-some (record { why = p.0; place = b.place }) (sym e ∙ ap (λ x. option_map (λ reason. record { why = reason; place = b.place }) x) p.1))
     ]
 
 header_most : (l : Bool) → cond l 9 2 ≤ 9
@@ -58,7 +52,7 @@ frame_kept want b o sum e w =
       | inl f ↦ omega (arith, not_headed o f, sum)
       | inr f ↦ elim (cases_Bool (has_header o)) [
         | inr g ↦ omega (arith, not_headed o g, sum)
-        | inl g ↦ (let fine = head_fine want b o (headed o g) (no_fault want b o e) in
+        | inl g ↦ (let fine = head_fine want b o (headed o g) (why_none want b o e) in
             let short : length o < frame_len o = leb-false _ _ f in
             let h = header_most (is_long (flags o)) in
             elim (room b (flags o) (size o) fine.size_fine) [
@@ -82,7 +76,7 @@ part_kept expect.Traffic want b o sum e w = frame_kept want b o sum e (whole-off
 room_more : (want : Want) (b : Before) (o : List ℕ) (len : ℕ) → b.expected ≡ expect.Traffic → IsPart b.expected want b o len → HeadFine b o
 room_more want b o len e p =
     let q : IsPart expect.Traffic want b o len = subst (λ (k : Expected). IsPart k want b o len) e p in
-    head_fine want b o (frame-len o len q.len).0.header (no_fault want b o q.faultless)
+    head_fine want b o (frame-len o len q.len).0.header (why_none want b o q.faultless)
 
 -- a frame that is taken has the flags and the size that it had
 same_frame : (o : List ℕ) (n : ℕ) → IsWhole o → frame_len o ≡ n → (flags (take n o) ≡ flags o) × (size (take n o) ≡ size o)
@@ -138,7 +132,7 @@ opened_kept want kind (suc n) parts o sum =
       | inr p ↦ rw (cut-some want kind n parts o p.0 p.1) (opened_kept want kind n (take p.0 o ∷ parts) (drop p.0 o) (opened_more want kind parts o p.0 sum p.1))
     ]
 
-part_none : (a : Option ZmtpFault) (l : Option ℕ) → a ≡ None → cond (is_some a) None l ≡ None → l ≡ None
+pub part_none : (a : Option ZmtpFault) (l : Option ℕ) → a ≡ None → cond (is_some a) None l ≡ None → l ≡ None
 part_none None l f e = e
 part_none (Some x) l f e = absurd (none-some x (sym f))
 

@@ -16,7 +16,7 @@ pub record HeadFine (b : Before) (o : List ℕ) : Type 0 where
   pub flags_fine : flags_fault b (flags o) ≡ None
   pub size_fine : size_fault b (flags o) (size o) ≡ None
 
-once-true : (t : Bool) (a : Option ZmtpWhy) → t ≡ true → once t a ≡ a
+pub once-true : (t : Bool) (a : Option ZmtpWhy) → t ≡ true → once t a ≡ a
 once-true true a e = refl
 once-true false a e = absurd cc
 

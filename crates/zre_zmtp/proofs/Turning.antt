@@ -1,5 +1,5 @@
 -- The turns of a reader.
-use Rattle.std.proofs.Common.{◌≡◌, ℕ, zero, suc, ◌+◌, ◌≤◌, ◌<◌, Bool, true, false, cond, List, [], ◌∷◌, ◌++◌, length, take, drop, Option, Some, None, refl, sym, ap, subst, ◌∙◌, arith, inl, inr, append_assoc, is_some, option_map}
+use Rattle.std.proofs.Common.{◌≡◌, ℕ, zero, suc, ◌+◌, ◌≤◌, ◌<◌, Bool, true, false, cond, List, [], ◌∷◌, ◌++◌, length, take, drop, Option, Some, None, refl, sym, ap, subst, ◌∙◌, arith, inl, inr, append_assoc, option_map}
 use Rattle.std.specs.Prelude.{option_to_list, nat_le, if◌then◌else◌}
 use Rattle.std.specs.Option.{option_or}
 use Rattle.std.proofs.lemmas.Bool.{leb-false, le-leb, lt-leb}
@@ -22,6 +22,7 @@ use Rattle.zre_zmtp.proofs.Cuts.{cases_Option, run-none, run-some, shorter, not_
 use Rattle.zre_zmtp.proofs.Later.{greeting_on}
 use Rattle.zre_zmtp.proofs.Framed.{IsFramed}
 use Rattle.zre_zmtp.proofs.Exact.{run-enough, run_all-some, part-none, part-fault}
+use Rattle.zre_zmtp.proofs.Kept.{part_none}
 
 -- ---- what is found in more octets
 
@@ -84,10 +85,6 @@ run-ends want (suc n) b o h =
     ]
 
 -- ---- the outcome of a turn
-
-part_none : (a : Option ZmtpFault) (l : Option ℕ) → a ≡ None → cond (is_some a) None l ≡ None → l ≡ None
-part_none None l f e = e
-part_none (Some x) l f e = absurd (none-some x (sym f))
 
 pub waits_from : (want : Want) (b : Before) (o : List ℕ) → part_len want b o ≡ None → fault_of want b o ≡ None → Waits want b o
 unfolding part_len

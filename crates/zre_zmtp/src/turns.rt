@@ -454,8 +454,8 @@ impl Progress {
         }
     }
 
-    /// Takes octets from the front of these: a whole frame, where one begins there, or all of one that isn't whole but has
-    /// its header, and else octets of the part that isn't whole. It gives how many it took.
+    /// Takes octets from the front of these: a whole frame, where one begins there, or all of one that isn't whole but
+    /// has its header, and else octets of the part that isn't whole. It gives how many it took.
     pub fn take_turn<L: Ledger>(
         &mut self,
         want: &Want,
