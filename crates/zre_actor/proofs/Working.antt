@@ -18,6 +18,7 @@ use Rattle.zre_outside.specs.declared.sink.NextFault.{NextFault}
 use Rattle.zre_outside.specs.declared.sink.NextFault.TheVariants as fault
 use Rattle.zre_outside.specs.Causes.{Rose, raised}
 use Rattle.zre_outside.specs.Worlds.{Log, IsTurn, after_turn}
+use Rattle.zre_outside.proofs.Rising.{rose_since}
 use Rattle.zre_peer.specs.declared.event.Event.{Event}
 use Rattle.zre_values.specs.declared.settings.Settings.{Settings as Config}
 use Rattle.zre_journal.specs.Events.{chronicle, events}
@@ -54,9 +55,6 @@ start_late (suc n) looked = not_late 0 (suc n) looked (λ e. omega arith)
 is_late : (turns limit : ℕ) → turns ≡ limit → 0 < limit → late turns limit true ≡ 1
 is_late turns limit e pos = let same : (turns == limit) ≡ true = eq-eqb turns limit e in let some_ : nat_lt 0 limit ≡ true = grind (arith, nat_tests) in
     ap (λ b. cond (b && (turns == limit) && true) 1 0) some_ ∙ ap (λ b. cond (b && true) 1 0) same
-
-pub rose_later : (a b c : ℕ) → a ≤ b → Rose b c → Rose a c
-rose_later a b c le rose = omega (arith, le, rose)
 
 -- one line more, after the reading of the last entry
 lines-snoc : (es : List Entry) (e : Entry) → lines Second 0 (es ++ e ∷ []) ≡ lines Second 0 es ++ line Second (last_reading 0 es) e
@@ -421,7 +419,7 @@ module _ (g : Config) (K : List Entry) (keep : Bool) (limit : ℕ) (s : WorkScen
     unput_ends e u ended how keeps going = ⊎_elim
         (λ (none : ended ≡ ending.OutOfMemory). subst (λ x. Ends x (has_stopped (chronicle g (K ++ k.ran.entries))) (turns + 1) limit keep s u (e ∷ []) []) (sym none) (omega arith))
         (λ (fails : (ended ≡ ending.RecordFault) × Rose t.record_faults u.record_faults). subst (λ x. Ends x (has_stopped (chronicle g (K ++ k.ran.entries))) (turns + 1) limit keep s u (e ∷ []) []) (sym fails.0)
-        (going, refl, refl, keeps, rose_later s.record_faults t.record_faults u.record_faults k.record_later fails.1))
+        (going, refl, refl, keeps, rose_since s.record_faults t.record_faults u.record_faults k.record_later fails.1))
         how
 
     -- the world found no memory for an act

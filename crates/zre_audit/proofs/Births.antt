@@ -46,6 +46,7 @@ use Rattle.zre_journal.proofs.Says.{input_allowed}
 use Rattle.zre_journal.proofs.Silent.{Comes-proper}
 use Rattle.zre_journal.proofs.Steps.{May, Allowed, Each, steps, choice}
 use Rattle.zre_journal.proofs.Telling.{first_is_hello}
+use Rattle.zre_journal.proofs.Listed.{All-join}
 use Rattle.zre_audit.specs.Exchanged.{peer_on}
 use Rattle.zre_audit.specs.Seen.{asked_by, announced_by, is_connect, entered_by, first_entered, born_with}
 use Rattle.zre_audit.proofs.Still.{BearsNone, SaysNone, IsStill, AreStill, still_both, Leaves, leaves_all, SaysAsMuch, says_all, connects_none, still_run, still_opened, still_shut, still_linked, still_unlinked, still_took, still_reply, still_tick, still_stop, still_join, still_leave, still_shaken, still_later}
@@ -306,10 +307,6 @@ says_none : (hs : List Mark) → AreStill hs → AllByRecursion SaysNone hs
 says_none [] s = tt
 says_none (h ∷ hs) s = (s.0.1, says_none hs s.1)
 
-all_of : {A : Type 0} (P : A → Type 0) (xs ys : List A) → AllByRecursion P xs → AllByRecursion P ys → AllByRecursion P (xs ++ ys)
-all_of P [] ys a b = b
-all_of P (x ∷ xs) ys a b = (a.0, all_of P xs ys a.1 b)
-
 module _ (g : Config) (i : Input) (M : List Mark) (q : IsProper M) (hs : List Mark) (may : Allowed hs M) (vs : List Life) where
   abbrev acts_of : List Act
   acts_of = done g.id hs ++ map (λ (v : Life). act.Offer v.link) vs
@@ -337,10 +334,10 @@ module _ (g : Config) (i : Input) (M : List Mark) (q : IsProper M) (hs : List Ma
   of_runs front back c l m e f b = NoneIs (seen_none (connects_none g.id hs bears)) (leaves_all hs M bears) (says_all hs M says)
     where
       bears : AllByRecursion BearsNone hs
-      bears = subst (AllByRecursion BearsNone) (sym e) (all_of BearsNone front (Starts c l m ∷ back) (bears_none front f) (tt, bears_none back b))
+      bears = subst (AllByRecursion BearsNone) (sym e) (All-join BearsNone front (Starts c l m ∷ back) (bears_none front f) (tt, bears_none back b))
 
       says : AllByRecursion SaysNone hs
-      says = subst (AllByRecursion SaysNone) (sym e) (all_of SaysNone front (Starts c l m ∷ back) (says_none front f) (tt, says_none back b))
+      says = subst (AllByRecursion SaysNone) (sym e) (All-join SaysNone front (Starts c l m ∷ back) (says_none front f) (tt, says_none back b))
 
   -- marks that bear one peer, and nobody else
   of_birth : (front back : List Mark) (p : PeerId) (e : Endpoint) → hs ≡ front ++ (birth g p e (after front M) ++ back) → AreStill front → AllByRecursion BearsNone back → AllByRecursion SaysNone back → seen ≡ Some p → Added M (after hs M) seen
@@ -374,7 +371,7 @@ module _ (g : Config) (i : Input) (M : List Mark) (q : IsProper M) (hs : List Ma
       new = ap (peer_on n) whole ∙ last.same_peers n ∙ ap (λ k. option_or (cond (eqb n (k + 1)) (Some p) None) (peer_on n J)) first.same_births ∙ ap (λ t. option_or (cond t (Some p) None) (peer_on n J)) (eq-eqb n n refl)
 
       says : SaysAsMuch M (after hs M)
-      says = subst (λ K. SaysAsMuch M K) (sym (ap (λ ks. after ks M) h)) (says_all (front ++ (birth g p e J ++ back)) M (all_of SaysNone front (birth g p e J ++ back) (says_none front f) (tt, (refl, s))))
+      says = subst (λ K. SaysAsMuch M K) (sym (ap (λ ks. after ks M) h)) (says_all (front ++ (birth g p e J ++ back)) M (All-join SaysNone front (birth g p e J ++ back) (says_none front f) (tt, (refl, s))))
 
   connects_birth : (front back : List Mark) (p : PeerId) (e : Endpoint) → hs ≡ front ++ (birth g p e (after front M) ++ back) → list_any is_connect (done g.id hs) ≡ true
   connects_birth front back p e h =

@@ -7,16 +7,13 @@ use Rattle.std.proofs.lemmas.List.Sums.{sum_by-cons, sum_by-append}
 use Rattle.std.specs.Cmp.{IsEquivalence}
 use Rattle.std.specs.List.{AllByRecursion}
 use Rattle.zre_audit.specs.Prefixes.{begins, begun, Fits, is_short, NoneIsShort}
+use Rattle.zre_journal.proofs.Places.{All-next}
 
 -- ---- lists
 
 all-without : {X : Type 0} (P : X → Type 0) (front : List X) (x : X) (back : List X) → AllByRecursion P (front ++ x ∷ back) → AllByRecursion P (front ++ back)
 all-without P [] x back a = a.1
 all-without P (y ∷ front) x back a = (a.0, all-without P front x back a.1)
-
-all-at : {X : Type 0} (P : X → Type 0) (front : List X) (x : X) (back : List X) → AllByRecursion P (front ++ x ∷ back) → P x
-all-at P [] x back a = a.0
-all-at P (y ∷ front) x back a = all-at P front x back a.1
 
 all-both : {X : Type 0} (P Q R : X → Type 0) → ((x : X) → P x → Q x → R x) → (xs : List X) → AllByRecursion P xs → AllByRecursion Q xs → AllByRecursion R xs
 all-both P Q R f [] a b = tt
@@ -206,7 +203,7 @@ module _ {A : Type 0} (same : A → A → Bool) (laws : IsEquivalence same) wher
 
       some : 0 < begun same r.top lists
       some =
-          let few = all-at (IsFew (xs ∷ xss) lists) r.front r.top r.back all_parts in
+          let few = All-next (IsFew (xs ∷ xss) lists) r.front r.top r.back all_parts in
           let parts = ap (begun same r.top) r.parts ∙ begun-middle r.top r.top r.front r.back in
           let at : one r.top r.top ≡ 1 = ap (λ b. cond b 1 0) (itself r.top) in
           omega (arith, few, parts, at)

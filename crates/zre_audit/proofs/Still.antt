@@ -26,6 +26,7 @@ use Rattle.zre_journal.specs.LinkEntries.{at_linked, cause_by_reply, end_by, at_
 use Rattle.zre_journal.specs.Ticks.{is_silent, is_evasive, is_stale, probe, at_tick}
 use Rattle.zre_journal.specs.Commands.{has_group, at_join, at_leave, at_stop}
 use Rattle.zre_journal.proofs.Steps.{choice}
+use Rattle.zre_journal.proofs.Listed.{All-join}
 use Rattle.zre_audit.specs.Coding.{octets_of, code}
 use Rattle.zre_audit.specs.Exchanged.{peer_on}
 use Rattle.zre_audit.specs.Seen.{is_connect}
@@ -50,12 +51,8 @@ IsStill h = BearsNone h × SaysNone h × BeginsNone h
 abbrev pub AreStill : List Mark → Type 0
 AreStill hs = AllByRecursion IsStill hs
 
-all_both : {A : Type 0} (P : A → Type 0) (xs ys : List A) → AllByRecursion P xs → AllByRecursion P ys → AllByRecursion P (xs ++ ys)
-all_both P [] ys a b = b
-all_both P (x ∷ xs) ys a b = (a.0, all_both P xs ys a.1 b)
-
 pub still_both : (hs ks : List Mark) → AreStill hs → AreStill ks → AreStill (hs ++ ks)
-still_both = all_both IsStill
+still_both = All-join IsStill
 
 -- ---- what they leave
 

@@ -15,6 +15,7 @@ use Rattle.zre_outside.specs.declared.start.Start.{Start}
 use Rattle.zre_outside.specs.Causes.{Rose}
 use Rattle.zre_outside.specs.Told.{AppendsFront}
 use Rattle.zre_outside.specs.Worlds.{with_start}
+use Rattle.zre_outside.proofs.Rising.{rose_since}
 use Rattle.zre_peer.specs.Lines.{line, lines}
 use Rattle.zre_values.specs.declared.settings.Settings.{Settings as Config}
 use Rattle.zre_journal.specs.Config.{CanBe}
@@ -36,7 +37,6 @@ use Rattle.zre_actor.specs.declared.passes.TakerPass.{TakerPass}
 use Rattle.zre_actor.specs.Commands.{command_of}
 use Rattle.zre_actor.specs.Passes.{popped_by, raised_by, taken_by}
 use Rattle.zre_actor.specs.Work.{WorkScene, scene, went, IsWork, Ends, KeptLines}
-use Rattle.zre_actor.proofs.Working.{rose_later}
 use Rattle.zre_commands.specs.declared.pump.status.Status.{Status}
 use Rattle.zre_commands.specs.declared.pump.status.Status.TheVariants.{Done, WriteFault, WorldFault, NoThread, TooLong, OutOfMemory}
 use Rattle.zre_console.specs.declared.printer.asker.Asker.{Asker}
@@ -93,7 +93,7 @@ module _ (g : Config) (start : Start) (name : Option (List ℕ)) (keep : Bool) (
   -- ---- the entries and the capture
 
   pub record_rose : Rose u.record_faults t.record_faults → Rose s.record_faults t.record_faults
-  record_rose x = rose_later s.record_faults u.record_faults t.record_faults p.record_later x
+  record_rose x = rose_since s.record_faults u.record_faults t.record_faults p.record_later x
 
   module _ (x y : WorkScene) (stopped : Bool) (turns : ℕ) (unstepped : List Entry) (pending : List Command) where
     pub one : (e : Ending) → Ends e stopped turns limit keep x y unstepped pending → length unstepped ≤ 1
@@ -212,7 +212,7 @@ module _ (g : Config) (start : Start) (name : Option (List ℕ)) (keep : Bool) (
       where
         by : (e : Ending) → Ends e (has_stopped (chronicle g w.entries)) w.turns limit keep (scene u.told looked u.world_faults u.kept u.record_faults actor) (scene t.told looked' t.world_faults t.kept t.record_faults actor') w.unstepped w.pending → C (of_work e)
         by ending.Stopped h = at_done
-        by ending.WorldFault h = at_world (rose_later s.world_faults u.world_faults t.world_faults p.world_later h.4)
+        by ending.WorldFault h = at_world (rose_since s.world_faults u.world_faults t.world_faults p.world_later h.4)
         by ending.RecordFault h = at_write (inr (record_rose h.4))
         by ending.TooLong h = at_end (h.3, h.0)
         by ending.OutOfMemory h = at_memory

@@ -32,10 +32,10 @@ prefix_nil [] p = refl
 prefix_nil (x ∷ xs) p = absurd (let e : x ∷ (xs ++ p.0) ≡ [] = p.1 in cc)
 
 -- a command under a number of its own is there
-here : (n : ℕ) (e : Placed) (es : List Placed) → (e.number == n) ≡ true → under n (e ∷ es) ≡ e ∷ under n es
+pub here : (n : ℕ) (e : Placed) (es : List Placed) → (e.number == n) ≡ true → under n (e ∷ es) ≡ e ∷ under n es
 here n e es is = ap (λ b. cond b (e ∷ under n es) (under n es)) is
 
-not_here : (n : ℕ) (e : Placed) (es : List Placed) → (e.number == n) ≡ false → under n (e ∷ es) ≡ under n es
+pub not_here : (n : ℕ) (e : Placed) (es : List Placed) → (e.number == n) ≡ false → under n (e ∷ es) ≡ under n es
 not_here n e es isnt = ap (λ b. cond b (e ∷ under n es) (under n es)) isnt
 
 -- nothing is under other numbers than r and q

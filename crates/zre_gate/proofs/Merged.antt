@@ -17,17 +17,11 @@ use Rattle.zre_actor.proofs.Sums.{under-append, other_number, is_first, not_firs
 use Rattle.zre_console.specs.lines.Orders.{is_quit}
 use Rattle.zre_console.specs.reader.Putting.{IsClose}
 use Rattle.zre_chat.proofs.Fronts.{prefix_trans, map-prefix, quit_is}
-use Rattle.zre_chat.proofs.Merged.{all_under, its_own, no_others, commands_under}
+use Rattle.zre_chat.proofs.Merged.{all_under, its_own, no_others, commands_under, here, not_here}
 use Rattle.zre_gate.specs.Clients.{Served, put_for, put_for_all}
 use Rattle.zre_gate.specs.Interleaving.{of_name, IsInterleaving}
 
 -- ---- lists under numbers
-
-here : (n : ℕ) (e : Placed) (es : List Placed) → (e.number == n) ≡ true → under n (e ∷ es) ≡ e ∷ under n es
-here n e es is = ap (λ b. cond b (e ∷ under n es) (under n es)) is
-
-not_here : (n : ℕ) (e : Placed) (es : List Placed) → (e.number == n) ≡ false → under n (e ∷ es) ≡ under n es
-not_here n e es isnt = ap (λ b. cond b (e ∷ under n es) (under n es)) isnt
 
 module _ (P : Placed → Type 0) where
   all_under_number : (n : ℕ) (es : List Placed) → All P es → All P (under n es)

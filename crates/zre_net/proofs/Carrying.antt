@@ -17,6 +17,7 @@ use Rattle.zre_values.specs.Settings.{is_valid}
 use Rattle.zre_journal.specs.Events.{chronicle}
 use Rattle.zre_journal.specs.Heard.{bytes, was_opened, piece_of}
 use Rattle.zre_journal.proofs.Quiet.{is_of}
+use Rattle.zre_journal.proofs.Listed.{All-join}
 use Rattle.zre_net.specs.declared.moves.Move.{Move}
 use Rattle.zre_net.specs.declared.moves.Move.TheVariants as move
 use Rattle.zre_net.specs.declared.moves.Part.{Part}
@@ -30,7 +31,7 @@ use Rattle.zre_net.specs.Lists.{nth}
 use Rattle.zre_net.specs.Numbers.{Route, CarriedConn, acts_of, route_in, routes, conns, queued_on}
 use Rattle.zre_net.proofs.Grows.{links_grow}
 use Rattle.zre_net.proofs.Journals.{length-last, same_who, other_journal, chronicle_now, other_chronicle}
-use Rattle.zre_net.proofs.Listing.{some_one, nth_more, nth_cases, all_more, all_map, past_all}
+use Rattle.zre_net.proofs.Listing.{some_one, nth_more, nth_cases, all_map, past_all}
 use Rattle.zre_net.proofs.Opened.{IsOld, bytes_now, still_old, opened_now, opened_same}
 use Rattle.zre_net.proofs.Staying.{starting, after_start, known_started, number_is, starting_known}
 
@@ -180,7 +181,7 @@ module _ (H : List Happening) (s : Carries H) (m : Move) (a : Incarnation) (at :
     unopened_on x e far b l = either (λ d K. was_opened x K ≡ false) b (known_then b l) (ap (was_opened x) (chronicle_now H m a at i) ∙ opened_same a.settings (journal a H) T.entry x far ∙ s.unopened x e a known) (λ z. s.unopened x e b (known_then b l))
 
     pub owners_on : AllByRecursion (λ (r : Route). IsKnown N r.from) (routes N)
-    owners_on = all_more (λ (r : Route). IsKnown N r.from) (routes H) (filter_map (route_in a) (acts_of T H)) (all_map (λ (r : Route). IsKnown H r.from) (λ (r : Route). IsKnown N r.from) (λ r z. known_now r.from z) (routes H) s.owners) (from_it (acts_of T H))
+    owners_on = All-join (λ (r : Route). IsKnown N r.from) (routes H) (filter_map (route_in a) (acts_of T H)) (all_map (λ (r : Route). IsKnown H r.from) (λ (r : Route). IsKnown N r.from) (λ r z. known_now r.from z) (routes H) s.owners) (from_it (acts_of T H))
       where
         from_it : (acts : List Act) → AllByRecursion (λ (r : Route). IsKnown N r.from) (filter_map (route_in a) acts)
         from_it [] = tt

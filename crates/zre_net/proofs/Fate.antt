@@ -27,7 +27,7 @@ use Rattle.zre_link.specs.Link.{answered, slow_at}
 use Rattle.zre_link.specs.Text.{size_of}
 use Rattle.zre_values.specs.declared.settings.Settings.{Settings as Config}
 use Rattle.zre_journal.specs.Chronicle.{Mark, Opens, TurnsAway, Greets, Shakes, AnswersPing, Starts, Counts, Ignores, Closes, IsShut, ClosesAtStop, HearsBeacon, Ends, IsEvasive, PutsPong, Links, Sends, Joins, Leaves, Refuses, SendsBeacon, Stops, after}
-use Rattle.zre_journal.specs.Connections.{open_ones, is_new, is_open, is_live, runs, identity, ends, other_with}
+use Rattle.zre_journal.specs.Connections.{open_ones, is_new, is_open, is_live, runs, identity, is_end_of, other_with}
 use Rattle.zre_journal.specs.Done.{puts}
 use Rattle.zre_journal.specs.Peers.{Life, lives, life, life_of, is_entered, counted}
 use Rattle.zre_journal.specs.Links.{line, unsent, is_linked, replies, newly_pinged, gate, taken, groups, status}
@@ -39,7 +39,7 @@ use Rattle.zre_journal.specs.Heard.{newly_completed}
 use Rattle.zre_journal.specs.LinkEntries.{at_linked, cause_by_reply, end_by, at_reply, at_unlinked, at_took}
 use Rattle.zre_journal.specs.Ticks.{is_silent, is_evasive, probe, at_tick}
 use Rattle.zre_journal.specs.Commands.{has_group, at_join, at_leave, is_too_big, at_whisper, is_member, at_shout, at_stop, at_command}
-use Rattle.zre_journal.proofs.Listed.{All-kept, Apart-kept}
+use Rattle.zre_journal.proofs.Listed.{All-kept, Apart-kept, All-join}
 use Rattle.zre_journal.proofs.Ticks.{expiring, wavering, stale, wavering_apart, excludes}
 use Rattle.zre_journal.proofs.Steps.{choice}
 use Rattle.zre_net.specs.Sender.{is_slight}
@@ -55,18 +55,14 @@ IsQuiet l hs = AllByRecursion (λ h. puts l h ≡ false) hs
 
 -- l does not end, gets no PONG, and nothing of it goes out
 abbrev pub GoesOn : ℕ → List Mark → Type 0
-GoesOn l hs = AllByRecursion (λ h. (ends l h ≡ false) × (pongs l h ≡ false)) hs
+GoesOn l hs = AllByRecursion (λ h. (is_end_of l h ≡ false) × (pongs l h ≡ false)) hs
 
 -- neither of all that
 abbrev IsFar : ℕ → List Mark → Type 0
-IsFar l hs = AllByRecursion (λ h. (puts l h ≡ false) × (ends l h ≡ false) × (pongs l h ≡ false)) hs
+IsFar l hs = AllByRecursion (λ h. (puts l h ≡ false) × (is_end_of l h ≡ false) × (pongs l h ≡ false)) hs
 
 abbrev pub Fate : ℕ → List Mark → Type 0
 Fate l hs = IsQuiet l hs ⊎ GoesOn l hs
-
-all_both : {A : Type 0} (P : A → Type 0) (xs ys : List A) → AllByRecursion P xs → AllByRecursion P ys → AllByRecursion P (xs ++ ys)
-all_both P [] ys a b = b
-all_both P (x ∷ xs) ys a b = (a.0, all_both P xs ys a.1 b)
 
 far_quiet : (l : ℕ) (hs : List Mark) → IsFar l hs → IsQuiet l hs
 far_quiet l [] f = tt
@@ -77,12 +73,12 @@ far_goes l [] f = tt
 far_goes l (h ∷ hs) f = ((f.0.1, f.0.2), far_goes l hs f.1)
 
 before : (l : ℕ) (hs ks : List Mark) → IsFar l hs → Fate l ks → Fate l (hs ++ ks)
-before l hs ks f (inl q) = inl (all_both (λ h. puts l h ≡ false) hs ks (far_quiet l hs f) q)
-before l hs ks f (inr g) = inr (all_both (λ h. (ends l h ≡ false) × (pongs l h ≡ false)) hs ks (far_goes l hs f) g)
+before l hs ks f (inl q) = inl (All-join (λ h. puts l h ≡ false) hs ks (far_quiet l hs f) q)
+before l hs ks f (inr g) = inr (All-join (λ h. (is_end_of l h ≡ false) × (pongs l h ≡ false)) hs ks (far_goes l hs f) g)
 
 behind : (l : ℕ) (hs ks : List Mark) → Fate l hs → IsFar l ks → Fate l (hs ++ ks)
-behind l hs ks (inl q) f = inl (all_both (λ h. puts l h ≡ false) hs ks q (far_quiet l ks f))
-behind l hs ks (inr g) f = inr (all_both (λ h. (ends l h ≡ false) × (pongs l h ≡ false)) hs ks g (far_goes l ks f))
+behind l hs ks (inl q) f = inl (All-join (λ h. puts l h ≡ false) hs ks q (far_quiet l ks f))
+behind l hs ks (inr g) f = inr (All-join (λ h. (is_end_of l h ≡ false) × (pongs l h ≡ false)) hs ks g (far_goes l ks f))
 
 module _ (l : ℕ) where
   -- ---- marks that put nothing
@@ -91,7 +87,7 @@ module _ (l : ℕ) where
   quiet_map f n [] = tt
   quiet_map f n (x ∷ xs) = (n x, quiet_map f n xs)
 
-  far_map : {A : Type 0} (f : A → Mark) → ((x : A) → (puts l (f x) ≡ false) × (ends l (f x) ≡ false) × (pongs l (f x) ≡ false)) → (xs : List A) → IsFar l (map f xs)
+  far_map : {A : Type 0} (f : A → Mark) → ((x : A) → (puts l (f x) ≡ false) × (is_end_of l (f x) ≡ false) × (pongs l (f x) ≡ false)) → (xs : List A) → IsFar l (map f xs)
   far_map f n [] = tt
   far_map f n (x ∷ xs) = (n x, far_map f n xs)
 
@@ -100,7 +96,7 @@ module _ (l : ℕ) where
   quiet_run g (Some k) why = (refl, tt)
 
   quiet_both : (hs ks : List Mark) → IsQuiet l hs → IsQuiet l ks → IsQuiet l (hs ++ ks)
-  quiet_both hs ks a b = all_both (λ h. puts l h ≡ false) hs ks a b
+  quiet_both hs ks a b = All-join (λ h. puts l h ≡ false) hs ks a b
 
   abbrev F : List Mark → Type 0
   F hs = Fate l hs
@@ -123,7 +119,7 @@ module _ (l : ℕ) where
 
     pushes_far : (b : Body) (vs : List Life) (I : List Mark) → AllFar vs → IsFar l (push_all g vs b I)
     pushes_far b [] I n = tt
-    pushes_far b (v ∷ vs) I n = let p = push g v.link b I in all_both (λ h. (puts l h ≡ false) × (ends l h ≡ false) × (pongs l h ≡ false)) p (push_all g vs b (after p I)) (push_far v.link b I n.0) (pushes_far b vs (after p I) n.1)
+    pushes_far b (v ∷ vs) I n = let p = push g v.link b I in All-join (λ h. (puts l h ≡ false) × (is_end_of l h ≡ false) × (pongs l h ≡ false)) p (push_all g vs b (after p I)) (push_far v.link b I n.0) (pushes_far b vs (after p I) n.1)
 
     pushes_fate : (b : Body) (vs : List Life) (I : List Mark) → Apart (λ (v : Life). v.link) vs → Fate l (push_all g vs b I)
     pushes_fate b [] I a = inl tt
@@ -136,7 +132,7 @@ module _ (l : ℕ) where
     probes_far : (vs : List Life) (I : List Mark) → AllFar vs → IsFar l (probe g vs I)
     probes_far [] I n = tt
     probes_far (v ∷ vs) I n = let p = IsEvasive v.link ∷ push g v.link body.Ping I in
-        all_both (λ h. (puts l h ≡ false) × (ends l h ≡ false) × (pongs l h ≡ false)) p (probe g vs (after p I)) ((refl, refl, refl), push_far v.link body.Ping I n.0) (probes_far vs (after p I) n.1)
+        All-join (λ h. (puts l h ≡ false) × (is_end_of l h ≡ false) × (pongs l h ≡ false)) p (probe g vs (after p I)) ((refl, refl, refl), push_far v.link body.Ping I n.0) (probes_far vs (after p I) n.1)
 
     probes_fate : (vs : List Life) (I : List Mark) → Apart (λ (v : Life). v.link) vs → Fate l (probe g vs I)
     probes_fate [] I a = inl tt
@@ -191,7 +187,7 @@ module _ (l : ℕ) where
       one : (h : Mark) → puts l h ≡ false → Fate l (h ∷ [])
       one h n = inl (n, tt)
 
-      after_one : (h : Mark) (hs : List Mark) → (puts l h ≡ false) × (ends l h ≡ false) × (pongs l h ≡ false) → Fate l hs → Fate l (h ∷ hs)
+      after_one : (h : Mark) (hs : List Mark) → (puts l h ≡ false) × (is_end_of l h ≡ false) × (pongs l h ≡ false) → Fate l hs → Fate l (h ∷ hs)
       after_one h hs n f = before l (h ∷ []) hs (n, tt) f
 
       stop_fate : Fate l (at_stop g K)

@@ -28,7 +28,7 @@ mod Rooms
 mod Runs
 mod Same
 mod Sending
-mod Sent
+pub mod Sent
 mod Short
 mod Starting
 mod Staying

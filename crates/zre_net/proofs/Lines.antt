@@ -3,6 +3,7 @@ use Rattle.std.proofs.Common.{◌≡◌, ℕ, ◌+◌, ◌<◌, ◌==◌, ◌&&�
 use Rattle.std.proofs.lemmas.List.Splits.{length-slice_split}
 use Rattle.zre_capture.specs.Parts.{Lacks}
 use Rattle.zre_capture.proofs.Parts.{between-cut, between-whole}
+use Rattle.zre_capture.proofs.Columns.{but_last-more}
 use Rattle.zre_net.specs.declared.moves.Move.{Move}
 use Rattle.zre_net.specs.Fields.{move_of}
 use Rattle.zre_net.specs.Reading.{parts_in, but_last, lines_in, is_line, bad_from, with_first, moves_in}
@@ -24,12 +25,8 @@ bad-cut n used text line after e none = ap (bad_from n used) (between-cut 10 tex
 
 -- ---- moves
 
-but_last_of : (line : List ℕ) (ps : List (List ℕ)) → 0 < length ps → but_last (line ∷ ps) ≡ line ∷ but_last ps
-but_last_of line [] some = absurd (omega (arith, some))
-but_last_of line (p ∷ ps) some = refl
-
 pub lines-cut : (text line after : List ℕ) → text ≡ line ++ (10 ∷ after) → Lacks 10 line → lines_in text ≡ line ∷ lines_in after
-lines-cut text line after e none = ap but_last (between-cut 10 text line after e none) ∙ but_last_of line (parts_in after) (some_parts after)
+lines-cut text line after e none = ap but_last (between-cut 10 text line after e none) ∙ but_last-more line (parts_in after) (some_parts after)
 
 pub lines-whole : (text : List ℕ) → Lacks 10 text → lines_in text ≡ []
 lines-whole text none = ap but_last (between-whole 10 text none)

@@ -126,10 +126,6 @@ all_at P (suc k) [] x a e = absurd cc
 all_at P (suc zero) (y ∷ xs) x a e = same_holds P y x e a.0
 all_at P (suc (suc k)) (y ∷ xs) x a e = all_at P (suc k) xs x a.1 e
 
-pub all_more : {A : Type 0} (P : A → Type 0) (xs ys : List A) → AllByRecursion P xs → AllByRecursion P ys → AllByRecursion P (xs ++ ys)
-all_more P [] ys a b = b
-all_more P (x ∷ xs) ys a b = (a.0, all_more P xs ys a.1 b)
-
 pub all_map : {A : Type 0} (P Q : A → Type 0) → ((x : A) → P x → Q x) → (xs : List A) → AllByRecursion P xs → AllByRecursion Q xs
 all_map P Q f [] a = tt
 all_map P Q f (x ∷ xs) a = (f x a.0, all_map P Q f xs a.1)

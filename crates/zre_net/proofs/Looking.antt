@@ -1,5 +1,5 @@
 -- Looks at a node's links, one after the other.
-use Rattle.std.proofs.Common.{◌≡◌, ◌⊎◌, ℕ, zero, suc, ◌+◌, ◌≤◌, ◌<◌, Bool, true, false, cond, ◌||◌, eqb, List, [], ◌∷◌, ◌++◌, length, drop, map, Option, Some, None, is_some, find, refl, sym, ap, ◌∙◌, subst, inl, inr, arith, length-append, true≢false, eqb-true}
+use Rattle.std.proofs.Common.{◌≡◌, ◌⊎◌, ℕ, zero, suc, ◌+◌, ◌≤◌, ◌<◌, Bool, true, false, cond, ◌||◌, eqb, List, [], ◌∷◌, ◌++◌, length, drop, map, Option, Some, None, is_some, find, refl, sym, ap, ◌∙◌, subst, inl, inr, arith, length-append, true≢false, eqb-true, take_all}
 use Rattle.std.specs.Prelude.{slice_get, get_or, take}
 use Rattle.std.proofs.lemmas.List.{take_more}
 use Rattle.zre_net.proofs.Listing.{some_one, in_reach, got_same, kept, apart, set_length}
@@ -152,15 +152,9 @@ look_seen g J l place n w xs ys under sent waits within noted =
     looked_at g (chronicle g J) l place xs ys under
     (subst (λ k. IsNotedAt k (drop (taken l (chronicle g J)) (text g l (chronicle g J))) place xs ys) (sent_is g J l n sent) (subst (λ v. IsNotedAt n v place xs ys) (waiting_is g J l w waits) noted)) within
 
-all_taken : (n : ℕ) (xs : List ℕ) → length xs ≤ n → take n xs ≡ xs
-all_taken zero [] z = refl
-all_taken zero (x ∷ xs) z = absurd (omega (arith, z))
-all_taken (suc n) [] z = refl
-all_taken (suc n) (x ∷ xs) z = ap (λ ys. x ∷ ys) (all_taken n xs (omega (arith, z)))
-
 -- all looks
 pub looks_end : (g : Config) (J : List Entry) (n : ℕ) (items : List ℕ) (xs ys : List Line) → items ≡ links_after g J → length items ≤ n → Progress g (chronicle g J) (take n items) xs ys → IsLooked g (chronicle g J) xs ys
-looks_end g J n items xs ys e z p = all_looked g (chronicle g J) xs ys (subst (λ ls. Progress g (chronicle g J) ls xs ys) (all_taken n items z ∙ e) p)
+looks_end g J n items xs ys e z p = all_looked g (chronicle g J) xs ys (subst (λ ls. Progress g (chronicle g J) ls xs ys) (take_all n items z ∙ e) p)
 
 pub looks_more : (g : Config) (K : List Mark) (n : ℕ) (items : List ℕ) (xs ys zs : List Line) → n < length items → Progress g K (take n items) xs ys → IsLookedAt g K (get_or items n 0) ys zs → Progress g K (take (n + 1) items) xs zs
 looks_more g K n items xs ys zs lt p l = subst (λ ls. Progress g K ls xs zs) (sym (take_more items n 0 lt)) (one_look g K (take n items) (get_or items n 0) xs ys zs p l)

@@ -1,5 +1,6 @@
 -- Whether a connection was opened at a node, and what octets of it came there, after an entry.
 use Rattle.std.proofs.Common.{◌≡◌, ◌⊎◌, ℕ, Bool, true, false, cond, ◌&&◌, eqb, ltb, List, [], ◌∷◌, ◌++◌, length, map, refl, subst, ltb-true, sym, ap, ◌∙◌, inl, inr, arith, append_assoc, append-nil, true≢false, eqb-true}
+use Rattle.std.proofs.lemmas.Bool.{and_right}
 use Rattle.zre_outside.specs.declared.entry.Entry.{Entry}
 use Rattle.zre_outside.specs.declared.entry.Input.TheVariants as input
 use Rattle.zre_values.specs.declared.limits.TheConstants.{CONNECTIONS}
@@ -38,15 +39,11 @@ inner_stop g K =
     (inner_map (λ (v : Life). Ends v.link cause.Stop) (λ v. refl) (lives K) (ys ++ SendsBeacon 0 ∷ Stops ∷ [])
     (inner_map (λ c. ClosesAtStop c) (λ c. refl) (open_ones K) (SendsBeacon 0 ∷ Stops ∷ []) (refl, (refl, tt))))
 
-and_false : (b c : Bool) → c ≡ false → (b && c) ≡ false
-and_false true c e = e
-and_false false c e = refl
-
 module _ (x : ℕ) where
   -- a number that isn't new stays so
   old_one : (h : Mark) (K : List Mark) → is_new x K ≡ false → is_new x (h ∷ K) ≡ false
-  old_one (Opens d) K n = and_false (ltb d x) (is_new x K) n
-  old_one (TurnsAway d) K n = and_false (ltb d x) (is_new x K) n
+  old_one (Opens d) K n = and_right (ltb d x) (is_new x K) n
+  old_one (TurnsAway d) K n = and_right (ltb d x) (is_new x K) n
   old_one _ K n = n
 
   old_after : (hs K : List Mark) → is_new x K ≡ false → is_new x (after hs K) ≡ false

@@ -1,6 +1,7 @@
 -- Moves that bring an entry to a node: what they find, and what stands after them.
 use Rattle.std.proofs.Common.{◌≡◌, ℕ, Bool, true, false, cond, ◌&&◌, eqb, List, ◌∷◌, map, Option, Some, None, is_some, refl, sym, ap, ◌∙◌, subst, true≢false, arith}
 use Rattle.std.specs.Prelude.{option_map}
+use Rattle.std.proofs.Math.Bool.{and-false}
 use Rattle.zre_outside.specs.declared.entry.Input.{Input}
 use Rattle.zre_outside.specs.declared.entry.Input.TheVariants as input
 use Rattle.zre_net.specs.declared.moves.Move.{Move}
@@ -249,15 +250,11 @@ link_played H m i g at w new may brings r f =
 
 -- ---- beacons
 
-and_none : (b : Bool) → (b && false) ≡ false
-and_none true = refl
-and_none false = refl
-
 pub no_beacon : (H : List Happening) (net : Network) (k n at : ℕ) → StandsAfter H net → None ≡ nth k net.beacons → may_come (move.Beacon k n at) H ≡ false
 no_beacon H net k n at s e = by (nth k (broadcasts H)) refl
   where
     by : (o : Option Broadcast) → nth k (broadcasts H) ≡ o → (is_some (running n H) && is_some o) ≡ false
-    by None z = and_none (is_some (running n H))
+    by None z = and-false (is_some (running n H))
     by (Some b) z = absurd (let q = e ∙ ap (nth k) s.nodes.beacons ∙ nth_map sent_of k (broadcasts H) ∙ ap (option_map sent_of) z in cc)
 
 pub hears : (H : List Happening) (net new : Network) (k n l at : ℕ) (w : SentBeacon) → StandsAfter H net → Some l ≡ running_at n net.running.items → Some w ≡ nth k net.beacons

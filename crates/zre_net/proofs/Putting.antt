@@ -8,7 +8,7 @@ use Rattle.zre_link.specs.Text.{Member, Says, Pongs, bodies_in, numbered_from, t
 use Rattle.zre_link.proofs.Numbered.{bodies-more, text_more}
 use Rattle.zre_values.specs.declared.settings.Settings.{Settings as Config}
 use Rattle.zre_journal.specs.Chronicle.{Mark, Comes, Puts, PutsPong, Sends, Ends, Born, after, followed}
-use Rattle.zre_journal.specs.Connections.{ends}
+use Rattle.zre_journal.specs.Connections.{is_end_of}
 use Rattle.zre_journal.specs.Done.{puts}
 use Rattle.zre_journal.specs.Events.{chronicle}
 use Rattle.zre_journal.specs.Happens.{has_stopped, at_input, with_entry}
@@ -22,6 +22,7 @@ use Rattle.zre_journal.proofs.Listed.{eqb-comm}
 use Rattle.zre_journal.proofs.Says.{input_allowed}
 use Rattle.zre_journal.proofs.Silent.{Comes-proper}
 use Rattle.zre_journal.proofs.Steps.{May, Allowed, all_same}
+use Rattle.zre_journal.proofs.Truly.{numbered_length}
 use Rattle.zre_net.specs.Sender.{spelled, is_slight}
 use Rattle.zre_net.proofs.Fate.{Fate, IsQuiet, GoesOn, pongs, input_fate}
 
@@ -54,7 +55,7 @@ module _ (l : ℕ) where
       one (PutsPong k t) K e = maybe K (eqb l k) t
       one _ K e = refl
 
-  life_kept : (h : Mark) (H : List Mark) → ends l h ≡ false → IsSome (life l H) → IsSome (life l (h ∷ H))
+  life_kept : (h : Mark) (H : List Mark) → is_end_of l h ≡ false → IsSome (life l H) → IsSome (life l (h ∷ H))
   life_kept (Ends k why) H e s = subst IsSome (sym (life_stays H k l why (eqb-comm k l ∙ e))) s
   life_kept (Born k p to) H e s = more (lives H) s
     where
@@ -81,7 +82,7 @@ module _ (l : ℕ) where
       W : Mark → List Mark
       W k = after hs (k ∷ H)
 
-      same : (k : Mark) → line l (k ∷ H) ≡ line l H → taken l (k ∷ H) ≡ taken l H → ends l k ≡ false → (bs : List Body) × Going bs (k ∷ H) (after hs (k ∷ H)) → (bs : List Body) × Going bs H (after hs (k ∷ H))
+      same : (k : Mark) → line l (k ∷ H) ≡ line l H → taken l (k ∷ H) ≡ taken l H → is_end_of l k ≡ false → (bs : List Body) × Going bs (k ∷ H) (after hs (k ∷ H)) → (bs : List Body) × Going bs H (after hs (k ∷ H))
       same k e t n r = (
         r.0,
         record {
@@ -110,7 +111,7 @@ module _ (l : ℕ) where
       sent : (k n : ℕ) → eqb l k ≡ false → taken l (Sends k n ∷ H) ≡ taken l H
       sent k n e = ap (λ z. cond z (taken l H + n) (taken l H)) e
 
-      by : (k : Mark) → ends l k ≡ false → pongs l k ≡ false → May k H → (bs : List Body) × Going bs (k ∷ H) (after hs (k ∷ H)) → (bs : List Body) × Going bs H (after hs (k ∷ H))
+      by : (k : Mark) → is_end_of l k ≡ false → pongs l k ≡ false → May k H → (bs : List Body) × Going bs (k ∷ H) (after hs (k ∷ H)) → (bs : List Body) × Going bs H (after hs (k ∷ H))
       by (Puts k x) n p m r = said (eqb l k) k x refl m r
       by (PutsPong k t) n p m r = same (PutsPong k t) (ponged k t p) refl refl r
       by (Sends k c) n p m r = same (Sends k c) refl (sent k c p) refl r
@@ -153,16 +154,12 @@ numbered-more n (x ∷ bs) b =
     let count : length bs + (n + 1) ≡ length (x ∷ bs) + n = omega arith in
     ap (λ ms. record { sequence = n % 2 ^ 16; body = x } ∷ ms) (numbered-more (n + 1) bs b ∙ ap (λ i. numbered_from (n + 1) bs ++ record { sequence = i % 2 ^ 16; body = b } ∷ []) count)
 
-numbered-length : (n : ℕ) (bs : List Body) → length (numbered_from n bs) ≡ length bs
-numbered-length n [] = refl
-numbered-length n (b ∷ bs) = let r = numbered-length (n + 1) bs in omega (arith, r)
-
 map-more : {A B : Type 0} (f : A → B) (xs : List A) (x : A) → map f (xs ++ x ∷ []) ≡ map f xs ++ f x ∷ []
 map-more f [] x = refl
 map-more f (y ∷ xs) x = ap (λ ys. f y ∷ ys) (map-more f xs x)
 
 pub spelled-length : (l : ℕ) (H : List Mark) → length (spelled l H) ≡ length (bodies l H)
-spelled-length l H = mapped octets (queued l H) ∙ numbered-length 1 (bodies l H)
+spelled-length l H = mapped octets (queued l H) ∙ numbered_length 1 (bodies l H)
   where
     mapped : {A B : Type 0} (f : A → B) (xs : List A) → length (map f xs) ≡ length xs
     mapped f [] = refl

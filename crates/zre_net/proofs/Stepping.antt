@@ -11,6 +11,7 @@ use Rattle.zre_peer.specs.declared.event.Event.{Event}
 use Rattle.zre_values.specs.declared.settings.Settings.{Settings as Config}
 use Rattle.zre_journal.specs.Chronicle.{Comes}
 use Rattle.zre_journal.specs.Events.{chronicle, events_at}
+use Rattle.zre_journal.proofs.Listed.{All-join}
 use Rattle.zre_net.specs.declared.moves.Move.{Move}
 use Rattle.zre_net.specs.declared.running.network.Network.{Network}
 use Rattle.zre_net.specs.declared.running.rows.Started.{Started}
@@ -25,7 +26,7 @@ use Rattle.zre_net.specs.Running.{IsStarted, HasStarted, AreStarted, Finds, AreN
 use Rattle.zre_net.specs.Said.{said_in, said_at}
 use Rattle.zre_net.specs.Sender.{is_slight}
 use Rattle.zre_net.specs.Sending.{HasSent}
-use Rattle.zre_net.proofs.Listing.{some_one, nth_at, set_length, sum_set, all_more, all_map, past_all}
+use Rattle.zre_net.proofs.Listing.{some_one, nth_at, set_length, sum_set, all_map, past_all}
 use Rattle.zre_net.proofs.Journals.{journal_now, other_journal}
 use Rattle.std.proofs.lemmas.List.Elements.{filter_map-append}
 use Rattle.zre_net.proofs.Staying.{rows_set, start_stays, finds_stays}
@@ -164,7 +165,7 @@ module _ (H : List Happening) (m : Move) (still : IsStill m) (a : Incarnation) (
           ∙ ap (λ n. map way_of (routes H) ++ filter_map (way_in n) s.took.step.acts) (sym is_number)
           ∙ ap (λ xs. map way_of (routes H) ++ filter_map (way_in a.number) xs) done_is
           ∙ ap (λ xs. map way_of (routes H) ++ xs) (sym (ways_same a (acts_of T' H))) ∙ sym (map-append way_of (routes H) (filter_map (route_in a) (acts_of T' H)));
-      known = all_more (λ (r : Route). IsKnown N' r.from) (routes H) (filter_map (route_in a) (acts_of T' H))
+      known = All-join (λ (r : Route). IsKnown N' r.from) (routes H) (filter_map (route_in a) (acts_of T' H))
           (all_map (λ (r : Route). IsKnown H r.from) (λ (r : Route). IsKnown N' r.from) (λ r z. known_too r.from z) (routes H) nodes.known)
           (from_it (λ b. IsKnown N' b) a (known_too a a_known) (acts_of T' H));
       queued =

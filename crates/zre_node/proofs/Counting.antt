@@ -4,7 +4,7 @@ use Rattle.std.specs.BTreeMap.{is_at}
 use Rattle.std.specs.Map.{lookup, set_value}
 use Rattle.zre_values.specs.declared.peer_id.PeerId.{PeerId}
 use Rattle.zre_msg.specs.declared.message.Message.{Message}
-use Rattle.std.proofs.lemmas.Bool.{and_parts}
+use Rattle.std.proofs.lemmas.Bool.{and_parts, not-true}
 use Rattle.zre_msg.specs.declared.message.Body.{Body}
 use Rattle.zre_msg.specs.declared.message.Body.TheVariants as body
 use Rattle.zre_peer.specs.declared.event.Event.{Event}
@@ -32,7 +32,6 @@ use Rattle.zre_node.specs.Stands.{Holds, Nearly, Did, IsPeer, IsBut, IsLeaving, 
 use Rattle.zre_tables.proofs.Entries.{changed}
 use Rattle.zre_node.proofs.Parting.{its_row, keeps_with, leaves}
 use Rattle.zre_journal.specs.Told.{told}
-use Rattle.zre_journal.proofs.Idle.{not_true}
 use Rattle.zre_node.proofs.Many.{did_by}
 use Rattle.zre_node.proofs.Keeping.{keeps_as}
 
@@ -97,7 +96,7 @@ counts_it g c l m H some e = by (counted l H) some.0 some.1 some.2 e
     by ms d ds q k =
         let all = and_parts (not (is_hello m.body) && eqb m.sequence (due (d ∷ ds))) (is_small (view_of ((d ∷ ds) ++ m ∷ []))) (subst (λ xs. may_follow xs m ≡ true) q k) in
         let two = and_parts (not (is_hello m.body)) (eqb m.sequence (due (d ∷ ds))) all.0 in
-        let x : is_hello m.body ≡ false = not_true (is_hello m.body) two.0 in
+        let x : is_hello m.body ≡ false = not-true (is_hello m.body) two.0 in
         rw (q, x, two.1, all.1) (ap (λ hs. Counts c l m ∷ hs) (answers_it g l m.body H))
 
 -- ---- at the tables

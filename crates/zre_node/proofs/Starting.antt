@@ -1,6 +1,6 @@
 -- The first message of a connection.
 use Rattle.std.proofs.Common.{◌≡◌, ◌≢◌, ℕ, ◌+◌, ◌<◌, ◌≤◌, Bool, true, false, not, ◌&&◌, ◌||◌, eqb, ltb, List, [], ◌∷◌, ◌++◌, length, Option, Some, None, is_some, is_none, find, Result, Ok, Err, OnOk, refl, sym, ap, ◌∙◌, nat_cmp, subst, eq-eqb, ne_eqb, arith, lt-ltb, le-ltb, eqb-true, append-nil}
-use Rattle.std.proofs.lemmas.Bool.{and_parts}
+use Rattle.std.proofs.lemmas.Bool.{and_parts, not-true}
 use Rattle.std.specs.List.{AllByRecursion}
 use Rattle.zre_values.specs.declared.endpoint.Endpoint.{Endpoint}
 use Rattle.zre_peer.specs.declared.causes.IgnoreWhy.TheVariants as ignore
@@ -28,7 +28,6 @@ use Rattle.zre_journal.specs.Peers.{Life, lives, life, life_of, births, runner, 
 use Rattle.zre_journal.specs.Proper.{IsProper}
 use Rattle.zre_journal.proofs.Kept.{known_lives, newborn, runner_runs, Starts-proper, Ignores-proper}
 use Rattle.zre_journal.proofs.Listed.{eqb-comm, found_passes, All-map}
-use Rattle.zre_journal.proofs.Idle.{not_true}
 use Rattle.zre_journal.proofs.Known.{known_of, id_of}
 use Rattle.zre_tables.specs.declared.connection.Connection.{Connection}
 use Rattle.zre_tables.specs.declared.peer.Peer.{Peer}
@@ -55,7 +54,7 @@ pub live_open : (c : ℕ) (H : List Mark) → is_live c H ≡ true → is_open c
 live_open c H e = (and_parts (is_open c H) (not (is_ignored c H)) e).0
 
 pub heard : (c : ℕ) (H : List Mark) → is_live c H ≡ true → is_ignored c H ≡ false
-heard c H e = not_true (is_ignored c H) (and_parts (is_open c H) (not (is_ignored c H)) e).1
+heard c H e = not-true (is_ignored c H) (and_parts (is_open c H) (not (is_ignored c H)) e).1
 
 pub waits : (c : ℕ) (H : List Mark) → is_live c H ≡ true → runs c H ≡ None → (ever (refuses c) H ≡ false) × (started c H ≡ None)
 waits c H live idle =

@@ -15,7 +15,3 @@ run_in c id ms o x h e = let z : Some h.0 ≡ Some x = sym h.1 ∙ e in let same
 pub of_err : {T E : Type 0} {P Q : E → Type 0} (r : Result T E) → IfErr r P → ((e : E) → P e → Q e) → IfErr r Q
 of_err (Ok x) p f = tt
 of_err (Err e) p f = f e p
-
-pub on_err : {T E B : Type 0} (r : Result T E) → B → OnErr r B
-on_err (Ok x) b = tt
-on_err (Err e) b = b

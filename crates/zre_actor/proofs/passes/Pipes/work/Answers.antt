@@ -3,6 +3,7 @@ use Rattle.std.specs.Prelude.{option_map, Err}
 use Rattle.std.proofs.KnownBytes.{Keeps-refl, Keeps-trans}
 use Rattle.zre_outside.specs.declared.turn.Turn.{Turn}
 use Rattle.zre_outside.specs.Worlds.{IsTurn, is_look, after_turn}
+use Rattle.zre_outside.proofs.Rising.{rose_since}
 use Rattle.zre_actor.specs.declared.ending.Ending.TheVariants as ending
 use Rattle.zre_actor.specs.Work.{Broke, Went, scene, world_ending}
 use Rattle.zre_actor.proofs.Working as working
@@ -52,7 +53,7 @@ returns-in-Err-clause-work g c = λ f K here. (
     } in
     working.handed_back f K c.args.keep c.args.limit s u _ n.node _ (world_ending c.in-Err.fault) _
     (working.refused_ends f K c.args.keep c.args.limit s l.turn u n.node l.command d.before (working.refused f K c.args.keep c.args.limit s l.turn t n.node l.command d.before k c.in-Err.fault u refuses) c.in-Err.fault c.loop-turn-test.true
-    (λ e. working.rose_later s.world_faults t.world_faults u.world_faults k.world_later (refuses.rose e)) going)
+    (λ e. rose_since s.world_faults t.world_faults u.world_faults k.world_later (refuses.rose e)) going)
     (λ i. record { told = w.told (same.0 i); looked = w.looked (same.0 i); world_faults = w.faults (same.0 i); kept = r.kept (same.2 i); record_faults = r.faults (same.2 i); popped = p.0 i; raised = p.1 i; empties = p.2 i })
     same.1 (same.3 ∙ c.ending_by.ensures))
 

@@ -3,11 +3,11 @@ use Rattle.std.specs.Prelude.{option_map}
 use Rattle.std.specs.Io.KnownBytes.{Keeps}
 use Rattle.std.specs.Arc.{arc_value}
 use Rattle.zre_outside.specs.Causes.{Rose}
+use Rattle.zre_outside.proofs.Rising.{rose_since}
 use Rattle.zre_node.specs.Journal.{StandsFor}
 use Rattle.zre_actor.specs.Passes.{IsActorOf, IsCallerOf, unused_by}
 use Rattle.zre_actor.specs.Work.{IsWork, scene}
 use Rattle.zre_actor.proofs.Given.{two_alone}
-use Rattle.zre_actor.proofs.Working.{rose_later}
 use Rattle.zre_commands.specs.declared.pump.status.Status.{Status}
 use Rattle.zre_commands.specs.declared.pump.status.Status.TheVariants.{NoThread}
 use Rattle.zre_chat.specs.Chat.{IsChat, Seen, seen}
@@ -46,7 +46,7 @@ returns-clause-chat g c = λ f start name s stands p. (
     (scene (w.told out.world) (w.looked out.world) (w.faults out.world) (r.kept out.rec) (r.faults out.rec) out.pass) out.node out.ending) began (means.6 f []) in
     let status = c.settle.ensures.status ∙ ap (λ k. least (k ∷ of_print printed.fault ∷ of_work out.ending ∷ of_thread told.result.refused ∷ [])) c.of_read.ensures in
     let rose : told.result.refused ≡ true → Rose (g.P.Spawner.faults a.spawner.now) (g.P.Spawner.faults told.new.spawner) = λ is. ⊎_elim (λ e. absurd (true≢false (sym e)))
-    (λ h. rose_later (g.P.Spawner.faults a.spawner.now) (g.P.Spawner.faults c.start_node.new.spawner) (g.P.Spawner.faults told.new.spawner) c.in-Ok.ensures.later h) (told.ensures.refused is) in
+    (λ h. rose_since (g.P.Spawner.faults a.spawner.now) (g.P.Spawner.faults c.start_node.new.spawner) (g.P.Spawner.faults told.new.spawner) c.in-Ok.ensures.later h) (told.ensures.refused is) in
     subst (λ (y : Seen × Status). IsChat f start name a.work.limit s y.0 y.1)
     (λ k. (
       seen (i.left (sym same.0 k)) (i.taken (sym same.0 k)) (i.faults (sym same.0 k)) (w.told (sym same.1 k)) (w.faults (sym same.1 k)) (o.written told.new.out) (o.faults told.new.out) (r.kept (sym same.2 k)) (r.named (sym same.2 k)) (r.faults (sym same.2 k)) (g.P.Spawner.faults told.new.spawner),

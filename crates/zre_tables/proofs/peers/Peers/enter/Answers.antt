@@ -2,7 +2,7 @@ use Rattle.std.proofs.Common.{Some, is_some, refl, sym, ap, subst}
 use Rattle.zre_tables.specs.declared.peer.Peer.{Peer}
 use Rattle.zre_tables.specs.Agreement.{IsRun}
 use Rattle.zre_tables.proofs.Agreeing.{renewed_agrees, some_is}
-use Rattle.zre_tables.proofs.Carrying.{on_err}
+use Rattle.zre_outside.proofs.Errors.{on_err}
 use Rattle.zre_tables.proofs.Changing.{put_same}
 use Rattle.zre_tables.proofs.Relinking.{grown_same}
 use Rattle.zre_tables.proofs.peers.Peers.enter.Goals as goal

@@ -1,6 +1,6 @@
 use Rattle.std.proofs.Common.{refl}
 use Rattle.zre_msg.specs.declared.message.Body.TheVariants.{Ping}
-use Rattle.zre_tables.proofs.Carrying.{on_err}
+use Rattle.zre_outside.proofs.Errors.{on_err}
 use Rattle.zre_tables.proofs.Changing.{put_same}
 use Rattle.zre_tables.proofs.Relinking.{put_or_refused, relinked_agrees}
 use Rattle.zre_tables.proofs.peers.Peers.probe.Goals as goal
