@@ -19,6 +19,8 @@ LINES = 60
 CONNECTIONS = 600
 NODES = {"beset": ("A" * 32, "127.0.0.1"), "second": ("B" * 32, "127.0.0.2"), "third": ("C" * 32, "127.0.0.3")}
 PORT = 49152
+# Where the connections come from in turn, since one address may have a part of them alone.
+STRANGERS = [f"127.0.1.{last}" for last in range(1, 11)]
 
 
 class Node:
@@ -60,8 +62,9 @@ def soon(holds):
     return False
 
 
-def connected():
-    client = socket.create_connection((NODES["beset"][1], PORT), timeout=5)
+def connected(which=0):
+    source = (STRANGERS[which % len(STRANGERS)], 0)
+    client = socket.create_connection((NODES["beset"][1], PORT), timeout=5, source_address=source)
     client.settimeout(5)
     return client
 
@@ -102,9 +105,9 @@ def beset(seed):
     """All of the hostile octets, and then more connections than a node keeps, held open for a moment."""
     chance = random.Random(seed)
     clients = [hand(octets, pause) for octets, pause in hostile_octets(chance)]
-    for _ in range(CONNECTIONS):
+    for which in range(CONNECTIONS):
         try:
-            clients.append(connected())
+            clients.append(connected(which))
         except OSError:
             break
     time.sleep(0.3)

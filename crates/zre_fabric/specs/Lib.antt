@@ -6,3 +6,4 @@ pub mod Looking
 pub mod TcpDesks
 pub mod Tokens
 pub mod NetworkFaults
+pub mod Retries

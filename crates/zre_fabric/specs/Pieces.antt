@@ -9,11 +9,11 @@ use Rattle.zre_fabric.specs.declared.polled.Polled.TheVariants as step
 use Rattle.zre_fabric.specs.declared.read_buffer.StreamRead.{StreamRead as HeardValue}
 use Rattle.zre_fabric.specs.declared.read_buffer.StreamRead.TheVariants as heard
 
--- what an input brings from a socket has at most 65,536 octets
+-- a datagram has at most 65,536 octets, what a connection or a link brings at a time 16,384
 abbrev pub IsShort : Input → Type 0
 IsShort (input.Datagram from bytes) = length bytes ≤ 65536
-IsShort (input.Piece conn bytes) = length bytes ≤ 65536
-IsShort (input.Reply link bytes) = length bytes ≤ 65536
+IsShort (input.Piece conn bytes) = length bytes ≤ 16384
+IsShort (input.Reply link bytes) = length bytes ≤ 16384
 IsShort _ = ⊤
 
 -- the same of an entry, of what a read gave, and of a look at a source
@@ -22,7 +22,7 @@ TurnIsShort turn.Look = ⊤
 TurnIsShort (turn.Entry e) = IsShort e.input
 
 abbrev pub HeardIsShort : HeardValue → Type 0
-HeardIsShort (heard.Octets bytes) = length bytes ≤ 65536
+HeardIsShort (heard.Octets bytes) = length bytes ≤ 16384
 HeardIsShort _ = ⊤
 
 abbrev pub StepIsShort : Polled → Type 0

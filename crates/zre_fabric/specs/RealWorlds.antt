@@ -31,7 +31,12 @@ entries_of w = w.fabric.row.entries
 abbrev pub commands_of : {R : Type 0} → RealWorld R → ℕ
 commands_of w = w.fabric.row.commands
 
+-- the octets of the entries since the last look
+abbrev pub octets_of : {R : Type 0} → RealWorld R → ℕ
+octets_of w = w.fabric.row.octets
+
 -- neither the reading of its clock nor its row changed
 abbrev pub Waits : {R : Type 0} → RealWorld R → RealWorld R → Type 0
 Waits old new =
     (reading_of new ≡ reading_of old) × (entries_of new ≡ entries_of old) × (commands_of new ≡ commands_of old)
+    × (octets_of new ≡ octets_of old)

@@ -5,12 +5,16 @@ use crate::errors::{ErrorClass, class_of};
 use crate::network_fault::{NetworkFault, SystemPart, failed};
 use crate::polled::Polled;
 use crate::read_buffer::ReadBuffer;
+use crate::shares::Shares;
 use mio::net::UdpSocket;
 use std::alloc::Global;
 use std::io;
 use std::net::{Ipv4Addr, Net, SocketAddr};
 use zre_outside::{Input, Start};
 use zre_values::{Endpoint, Octets, take_apart};
+
+/// So many beacons one step drops at most.
+const DROPS: u32 = 32;
 
 /// The socket that beacons come to and go out from, and where they go to.
 pub(crate) struct BeaconSocket {
@@ -70,14 +74,38 @@ impl BeaconSocket {
         }
     }
 
-    pub(crate) fn step(&mut self, buffer: &mut ReadBuffer) -> Result<Polled, NetworkFault>
+    /// The next beacon of an address that has a share left. After some without one the step ends.
+    pub(crate) fn step(
+        &mut self,
+        buffer: &mut ReadBuffer,
+        shares: &mut Shares,
+        at: u64,
+    ) -> Result<Polled, NetworkFault>
+        ensures { IfOk result (λ step. StepIsShort step) }
+    {
+        for _ in 0..DROPS {
+            let step = self.receive(buffer, shares, at)?;
+            if !matches!(&step, Polled::Dropped) {
+                return Ok(step);
+            }
+            drop(step);
+        }
+        Ok(Polled::Dropped)
+    }
+
+    fn receive(
+        &mut self,
+        buffer: &mut ReadBuffer,
+        shares: &mut Shares,
+        at: u64,
+    ) -> Result<Polled, NetworkFault>
         ensures { IfOk result (λ step. StepIsShort step) }
     {
         let Ok(datagram) = buffer.receive(&self.socket) else {
             return Err(NetworkFault::OutOfMemory);
         };
         match datagram {
-            Ok(datagram) => Ok(entry_of(datagram)),
+            Ok(datagram) => Ok(entry_of(datagram, shares, at)),
             Err(error) => match class_of(&error) {
                 ErrorClass::NotReady => Ok(Polled::Rest),
                 ErrorClass::Transient => Ok(Polled::Again),
@@ -88,16 +116,18 @@ impl BeaconSocket {
 }
 
 // The socket is bound to an address of IPv4, so that no others send to it.
-fn entry_of(datagram: (Octets, SocketAddr)) -> Polled
+fn entry_of(datagram: (Octets, SocketAddr), shares: &mut Shares, at: u64) -> Polled
     requires { length datagram.0 ≤ 65536 }
     ensures { StepIsShort result }
 {
     let (bytes, from) = datagram;
-    match from {
-        SocketAddr::V4(from) => Polled::More(Input::Datagram {
-            from: from.ip().octets(),
-            bytes,
-        }),
-        SocketAddr::V6(_) => Polled::Again,
+    let SocketAddr::V4(from) = from else {
+        return Polled::Dropped;
+    };
+    let from = from.ip().octets();
+    if shares.heard(from, at) {
+        Polled::More(Input::Datagram { from, bytes })
+    } else {
+        Polled::Dropped
     }
 }

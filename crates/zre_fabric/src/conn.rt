@@ -13,13 +13,19 @@ use zre_values::OutOfMemory;
 pub(crate) struct TcpConn {
     stream: Option<TcpStream>,
     pub(crate) is_queued: bool,
+    /// The address that it came from.
+    pub(crate) addr: [u8; 4],
+    /// The octets that were read since a read found nothing.
+    pub(crate) used: u64,
 }
 
 impl TcpConn {
-    pub(crate) fn new(stream: TcpStream) -> Self {
+    pub(crate) fn new(stream: TcpStream, addr: [u8; 4]) -> Self {
         TcpConn {
             stream: Some(stream),
             is_queued: false,
+            addr,
+            used: 0,
         }
     }
 

@@ -1,13 +1,14 @@
-ghost use Rattle.std.specs.Prelude.{◌≡◌, ◌≤◌, true, None, Some, IfOk, OnErr};
+ghost use Rattle.std.specs.Prelude.{◌≡◌, ◌≤◌, nat_le, true, None, Some, IfOk, OnErr};
 ghost use Rattle.zre_outside.specs.Worlds.{IsTurn, is_look};
 ghost use Rattle.zre_fabric.specs.Pieces.{TurnIsShort};
 ghost use Rattle.zre_fabric.specs.Readings.{IsReadAt};
-ghost use Rattle.zre_fabric.specs.Looking.{is_full, entries_after, commands_after};
+ghost use Rattle.zre_fabric.specs.Looking.{is_full, entries_after, commands_after, octets_after};
 
 use crate::bell::Bell;
 use crate::network_fault::{NetworkFault, SystemPart, failed};
 use crate::polled_sockets::PolledSockets;
 use crate::since_look::SinceLook;
+use crate::sockets::octets_of;
 use crate::stopwatch::Stopwatch;
 use std::alloc::Global;
 use std::io::{self, ErrorKind};
@@ -36,6 +37,7 @@ impl<R> Fabric<R> {
     pub(crate) fn new(rt: R, alloc: Global, bell: Option<Bell>) -> Self
         ensures clock { result.stopwatch.last ≡ 0 }
         ensures row { (result.row.entries ≡ 0) × (result.row.commands ≡ 0) }
+        ensures octets { result.row.octets ≡ 0 }
     {
         Fabric {
             rt,
@@ -53,6 +55,7 @@ impl<R: Net + Clock> Fabric<R> {
     pub(crate) fn start(&mut self, s: &Start) -> Result<(), NetworkFault>
         ensures later { self.old.stopwatch.last ≤ self.new.stopwatch.last }
         ensures row { (self.new.row.entries ≡ 0) × (self.new.row.commands ≡ 0) }
+        ensures octets { self.new.row.octets ≡ 0 }
     {
         drop(self.network.take());
         self.row = SinceLook::new();
@@ -69,8 +72,10 @@ impl<R: Net + Clock> Fabric<R> {
         ensures later { self.old.stopwatch.last ≤ self.new.stopwatch.last }
         ensures look { command ≡ None → is_full self.old.row.entries self.old.row.commands ≡ true
             → IfOk result (λ t. is_look t ≡ true) }
+        ensures long { command ≡ None → nat_le 65536 self.old.row.octets ≡ true → IfOk result (λ t. is_look t ≡ true) }
         ensures row { IfOk result (λ t. (self.new.row.entries ≡ entries_after self.old.row.entries t)
             × (self.new.row.commands ≡ commands_after self.old.row.commands command t)) }
+        ensures octets { IfOk result (λ t. self.new.row.octets ≡ octets_after self.old.row.octets t) }
         ensures kept { OnErr result (self.new.row ≡ self.old.row) }
     {
         match command {
@@ -100,6 +105,7 @@ impl<R: Net + Clock> Fabric<R> {
         ensures later { self.old.stopwatch.last ≤ self.new.stopwatch.last }
         ensures row { IfOk result (λ t. (self.new.row.entries ≡ entries_after self.old.row.entries t)
             × (self.new.row.commands ≡ commands_after self.old.row.commands (Some command) t)) }
+        ensures octets { IfOk result (λ t. self.new.row.octets ≡ octets_after self.old.row.octets t) }
         ensures kept { OnErr result (self.new.row ≡ self.old.row) }
     {
         let at = match self.stopwatch.read(&self.rt) {
@@ -125,28 +131,30 @@ impl<R: Net + Clock> Fabric<R> {
         ensures reading { IfOk result (λ t. IsReadAt self.new.stopwatch.last t) }
         ensures later { self.old.stopwatch.last ≤ self.new.stopwatch.last }
         ensures look { is_full self.old.row.entries self.old.row.commands ≡ true → IfOk result (λ t. is_look t ≡ true) }
+        ensures long { nat_le 65536 self.old.row.octets ≡ true → IfOk result (λ t. is_look t ≡ true) }
         ensures row { IfOk result (λ t. (self.new.row.entries ≡ entries_after self.old.row.entries t)
             × (self.new.row.commands ≡ commands_after self.old.row.commands None t)) }
+        ensures octets { IfOk result (λ t. self.new.row.octets ≡ octets_after self.old.row.octets t) }
         ensures kept { OnErr result (self.new.row ≡ self.old.row) }
     {
         let at = self.stopwatch.read(&self.rt)?;
         let Some(network) = &mut self.network else {
             return Err(failed(SystemPart::Poll, io::Error::from(ErrorKind::NotConnected)));
         };
-        if self.row.is_full() {
+        if self.row.is_full() || self.row.is_long() {
             network.gave_look(at);
             self.row.gave_look();
             return Ok(Turn::Look);
         }
-        if let Some(input) = network.find(at, &mut self.bell)? {
-            self.row.gave_entry();
+        if let Some(input) = network.find(&self.rt, at, &mut self.bell)? {
+            self.row.gave_entry(octets_of(&input));
             return Ok(Turn::Entry(Entry { at, input }));
         }
-        network.wait(at, &mut self.bell)?;
+        network.wait(&self.rt, at, &mut self.bell)?;
         let at = self.stopwatch.read(&self.rt)?;
-        match network.find(at, &mut self.bell)? {
+        match network.find(&self.rt, at, &mut self.bell)? {
             Some(input) => {
-                self.row.gave_entry();
+                self.row.gave_entry(octets_of(&input));
                 Ok(Turn::Entry(Entry { at, input }))
             }
             None => {

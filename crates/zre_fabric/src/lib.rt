@@ -15,18 +15,26 @@
 //! ```
 //!
 //! - A Tick comes at once and then each `interval` milliseconds; Ticks that were missed aren't made up for.
-//! - A look comes after 20 milliseconds at most in which nothing came, after 64 entries at most, and again at once
-//!   after each command. After 64 commands in a row what the sockets have comes first. With nothing to do the call
-//!   waits in the poll.
+//! - A look comes after 20 milliseconds at most in which nothing came, after 64 entries or 64 KiB at most, and again at
+//!   once after each command. After 64 commands in a row what the sockets have comes first. With nothing to do the call
+//!   waits in the poll, which is asked after each look.
+//! - A connect that fails is tried again after 100 milliseconds, doubling to 2 seconds and up to a quarter less by
+//!   chance, for 30 seconds; then the link has failed and `Unlinked` comes, as it comes at once for a link that stood. An
+//!   endpoint whose link was closed is dialed again after as long. At most 32 links are dialed at the same time.
+//! - Shares: from one address 64 connections are opened at once and then 20 a second; further ones wait, accepted and
+//!   unread, 128 in all, and one address has at most 128, those that wait included. From one address 64 beacons are given
+//!   at once and then 31 a second. One address has at most 128 links, of which 32 are tried again.
+//! - Turns: a connection or a link gives at most 16 KiB at a time. One that gave so much since it last had nothing waits
+//!   behind those that gave less, and has one turn in five while there are such.
 //! - A world with a [`Bell`] looks at once where it is rung. `Ringing::with_bell` makes the bell and a source that
 //!   rings it before each read, when what the last read gave has been put where the looks find it. After much input
 //!   it waits there until a look found nothing, so that who puts commands needn't try again and again.
-//! - Pieces, replies and datagrams have at most 65,536 octets. Connections are numbered from 1 in the order in which
+//! - Pieces and replies have at most 16,384 octets, datagrams 65,536. Connections are numbered from 1 in the order in which
 //!   they came.
 //! - A write to a link or a connection whose peer is gone is an error of that call and no signal: std sends with
 //!   `MSG_NOSIGNAL`. A connection and a link send without delay (`TCP_NODELAY`).
-//! - `Failed` says that the clock, the poll, the UDP socket or the listener failed, or that the world wasn't started.
-//!   `reason` tells which of them, and why.
+//! - `Failed` says that the clock, the poll, the UDP socket or the listener failed, that no two more sockets could be had
+//!   at the start, or that the world wasn't started. `reason` tells which of them, and why.
 //!
 //! # What is proved, and what is tested
 //!
@@ -34,29 +42,37 @@
 //! the last turn was a look, and the count of faults rises in the calls that are answered with `Failed` and in no
 //! others. A look comes again after each command and after 64 entries, as said above (clauses `look` and `row` of
 //! `next`). What a turn says of sockets is told by no clause (`told` is `None`), since no contract says what a system
-//! answers. Proved of the parts: the readings of the clock never fall, a wait is no longer than 20 milliseconds, and
-//! a token of the poll names its source. Nothing is proved of a bell but that a source which rings
+//! answers. Proved of the parts: the readings of the clock never fall, a wait is no longer than 20 milliseconds, a token
+//! of the poll names its source, and when something is tried again, may happen once more, or has its turn. Nothing is proved of a bell but that a source which rings
 //! reads what the one under it gives. Tested over loopback: the rest of the list above, each kind of entry, and that a
 //! failing bind fails at once.
 #![tactic(auto)]
 
+mod arrivals;
 mod beacons;
 mod bell;
+mod bucket;
 mod conn;
 mod entry_source;
 mod errors;
 mod fabric;
 mod link;
+mod links;
 mod network_fault;
 mod pace;
 mod polled;
 mod polled_sockets;
 mod read_buffer;
 mod real_world;
+mod redial;
+mod retry;
+mod shares;
 mod since_look;
 mod sockets;
+mod source_queue;
 mod stopwatch;
 mod tcp_desk;
+mod turns;
 
 pub use bell::{Bell, Ringing};
 pub use errors::{ErrorClass, class_of};

@@ -3,10 +3,11 @@ ghost use Rattle.zre_fabric.specs.Pieces.{StepIsShort};
 
 use crate::polled::Polled;
 use crate::read_buffer::{ReadBuffer, StreamRead};
+use crate::retry::Retry;
 use mio::net::TcpStream;
 use std::io::{ErrorKind, Write};
 use zre_outside::Input;
-use zre_values::OutOfMemory;
+use zre_values::{Endpoint, OutOfMemory};
 
 /// What is still to be said of the last offer.
 #[derive(Clone, Copy)]
@@ -24,12 +25,45 @@ enum Connecting {
     GoesOn,
 }
 
-/// A link that this node opened, or tried to. It has no stream where not even the try was possible.
+/// How far a link has come.
+#[derive(Clone, Copy)]
+enum Stage {
+    /// It is dialed from this reading on.
+    Waits(u64),
+    /// It was dialed at this reading.
+    Dials(u64),
+    Stands,
+    /// It couldn't be made.
+    Failed,
+}
+
+/// What is due for a link that doesn't stand.
+#[derive(Clone, Copy)]
+pub(crate) enum Due {
+    /// Nothing any more: it stands, or has failed.
+    Nothing,
+    /// Nothing yet, and it isn't being dialed.
+    Waits,
+    /// Nothing yet, and it is being dialed.
+    Dials,
+    /// It is to be dialed.
+    Dial,
+    /// The try has taken too long.
+    Cut,
+    /// It has been tried for long enough.
+    GiveUp,
+}
+
+/// A link that this node opened, or tries to.
 #[derive(Drop)]
 pub(crate) struct TcpLink {
     stream: Option<TcpStream>,
+    pub(crate) to: Endpoint,
     pub(crate) is_queued: bool,
-    is_linked: bool,
+    stage: Stage,
+    retry: Retry,
+    // It isn't tried again.
+    is_once: bool,
     // A write failed. What the peer had sent before is still read.
     is_broken: bool,
     // The poll told of it since a read found nothing.
@@ -37,6 +71,8 @@ pub(crate) struct TcpLink {
     // The last entry was a count, so that it is the replies' turn.
     has_counted: bool,
     offered: Offered,
+    /// The octets that were read since a read found nothing.
+    pub(crate) used: u64,
 }
 
 // When the system tells of a stream that connects: an error is what became of it, and it stands where it has a peer.
@@ -53,16 +89,63 @@ fn progress_of(stream: &TcpStream) -> Connecting {
 }
 
 impl TcpLink {
-    pub(crate) fn new(stream: Option<TcpStream>) -> Self {
+    /// A link that is to be dialed from a reading on, once or until it stands.
+    pub(crate) fn new(to: Endpoint, at: u64, due: u64, is_once: bool) -> Self {
         TcpLink {
-            stream,
+            stream: None,
+            to,
             is_queued: false,
-            is_linked: false,
+            stage: Stage::Waits(due),
+            retry: Retry::new(at),
+            is_once,
             is_broken: false,
             is_ready: false,
             has_counted: false,
             offered: Offered::Nothing,
+            used: 0,
         }
+    }
+
+    /// What is due now, where a try may take so many milliseconds.
+    pub(crate) fn due(&self, at: u64, limit: u64) -> Due {
+        let is_over = self.retry.is_over(at);
+        match self.stage {
+            Stage::Stands | Stage::Failed => Due::Nothing,
+            Stage::Waits(_) | Stage::Dials(_) if is_over => Due::GiveUp,
+            Stage::Waits(due) if due > at => Due::Waits,
+            Stage::Waits(_) => Due::Dial,
+            Stage::Dials(since) if at.saturating_sub(since) < limit => Due::Dials,
+            Stage::Dials(_) => Due::Cut,
+        }
+    }
+
+    /// A try has begun.
+    pub(crate) fn dialed(&mut self, stream: TcpStream, at: u64) {
+        self.stream = Some(stream);
+        self.is_ready = false;
+        self.stage = Stage::Dials(at);
+    }
+
+    /// A try has failed. Another is due later, unless it is tried once. The result says whether the link has failed.
+    pub(crate) fn failed(&mut self, at: u64, chance: u64) -> bool {
+        self.stream = None;
+        self.stage = if self.is_once {
+            Stage::Failed
+        } else {
+            Stage::Waits(self.retry.failed(at, chance))
+        };
+        self.is_once
+    }
+
+    /// Whether it stands.
+    pub(crate) fn stands(&self) -> bool {
+        matches!(self.stage, Stage::Stands)
+    }
+
+    /// No more tries: the link has failed.
+    pub(crate) fn give_up(&mut self) {
+        self.stream = None;
+        self.stage = Stage::Failed;
     }
 
     /// The poll told of it.
@@ -77,7 +160,7 @@ impl TcpLink {
     /// says whether the link has something to say at once.
     pub(crate) fn offer(&mut self, bytes: &[u8]) -> bool {
         let is_free = matches!(self.offered, Offered::Nothing);
-        if bytes.is_empty() || !self.is_linked || self.is_broken || !is_free {
+        if bytes.is_empty() || !self.stands() || self.is_broken || !is_free {
             return false;
         }
         let Some(stream) = &mut self.stream else {
@@ -94,11 +177,17 @@ impl TcpLink {
         !matches!(self.offered, Offered::Waits)
     }
 
-    pub(crate) fn step(&mut self, link: u64, buffer: &mut ReadBuffer) -> Result<Polled, OutOfMemory>
+    pub(crate) fn step(
+        &mut self,
+        link: u64,
+        at: u64,
+        chance: u64,
+        buffer: &mut ReadBuffer,
+    ) -> Result<Polled, OutOfMemory>
         ensures { IfOk result (λ step. StepIsShort step) }
     {
-        if !self.is_linked {
-            return Ok(self.settle(link));
+        if !self.stands() {
+            return Ok(self.settle(link, at, chance));
         }
         if !self.has_counted {
             if let Some(step) = self.count(link) {
@@ -113,26 +202,31 @@ impl TcpLink {
     }
 
     // Whether it stands by now.
-    fn settle(&mut self, link: u64) -> Polled
+    fn settle(&mut self, link: u64, at: u64, chance: u64) -> Polled
         ensures { StepIsShort result }
     {
-        let Some(stream) = &self.stream else {
+        if let Stage::Failed = self.stage {
             return Polled::Last(Input::Unlinked { link });
+        }
+        let Some(stream) = &self.stream else {
+            return Polled::Rest;
         };
         if !self.is_ready {
             return Polled::Rest;
         }
         match progress_of(stream) {
             Connecting::Stands => {
-                self.is_linked = true;
-                Polled::More(Input::Linked { link })
+                self.stage = Stage::Stands;
+                return Polled::More(Input::Linked { link });
             }
-            Connecting::Fails => Polled::Last(Input::Unlinked { link }),
-            Connecting::GoesOn => {
-                self.is_ready = false;
-                Polled::Rest
+            Connecting::Fails => {
+                if self.failed(at, chance) {
+                    return Polled::Last(Input::Unlinked { link });
+                }
             }
+            Connecting::GoesOn => self.is_ready = false,
         }
+        Polled::Rest
     }
 
     fn count(&mut self, link: u64) -> Option<Polled>

@@ -8,8 +8,10 @@ pub(crate) enum Polled {
     More(Input),
     /// The last entry of a source that is gone.
     Last(Input),
-    /// No entry, and there may be one at another try.
+    /// No entry, and there may be one at another try, later.
     Again,
+    /// Something was read and isn't given. There may be more.
+    Dropped,
     /// No entry before the poll tells of the source again.
     Rest,
 }

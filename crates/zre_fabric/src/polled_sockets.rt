@@ -114,20 +114,23 @@ impl PolledSockets {
     }
 
     pub(crate) fn gave_command(&mut self, at: u64) {
+        self.sockets.set_time(at);
         self.pace.look_now(at);
     }
 
     /// An entry that is there without waiting. The poll is asked after each look, so that sources which always have
     /// something don't keep the others out.
-    pub(crate) fn find(
+    pub(crate) fn find<R: Net>(
         &mut self,
+        rt: &R,
         at: u64,
         bell: &mut Option<Bell>,
     ) -> Result<Option<Input>, NetworkFault>
         ensures { IfOk result (λ input. IfSome input (λ i. IsShort i)) }
     {
+        self.sockets.set_time(at);
         if self.is_due_to_poll {
-            self.gather(at, Duration::ZERO, bell)?;
+            self.gather(rt, at, Duration::ZERO, bell)?;
         }
         if self.pace.tick(at) {
             return Ok(Some(Input::Tick));
@@ -136,14 +139,24 @@ impl PolledSockets {
     }
 
     /// Waits until something comes, the bell is rung, a Tick is due, or a look is.
-    pub(crate) fn wait(&mut self, at: u64, bell: &mut Option<Bell>) -> Result<(), NetworkFault> {
-        let timeout = self.pace.wait(at);
-        self.gather(at, timeout, bell)
+    pub(crate) fn wait<R: Net>(
+        &mut self,
+        rt: &R,
+        at: u64,
+        bell: &mut Option<Bell>,
+    ) -> Result<(), NetworkFault> {
+        let timeout = if self.sockets.is_busy() {
+            Duration::ZERO
+        } else {
+            self.pace.wait(at)
+        };
+        self.gather(rt, at, timeout, bell)
     }
 
     // After a ring a look is due at once.
-    fn gather(
+    fn gather<R: Net>(
         &mut self,
+        rt: &R,
         at: u64,
         timeout: Duration,
         bell: &mut Option<Bell>,
@@ -165,7 +178,9 @@ impl PolledSockets {
                     .map_err(no_memory)?;
             }
         }
-        Ok(())
+        self.sockets
+            .turn_links(rt, self.poll.registry())
+            .map_err(no_memory)
     }
 
     pub(crate) fn act<R: Net>(&mut self, rt: &R, act: &Act) -> Result<(), OutOfMemory> {

@@ -1,10 +1,10 @@
-ghost use Rattle.std.specs.Prelude.{◌≡◌, ◌≤◌, false, true, None, option_map, IsSome, IfOk, OnOk, OnErr, IsErrOf};
+ghost use Rattle.std.specs.Prelude.{◌≡◌, ◌≤◌, nat_le, false, true, None, option_map, IsSome, IfOk, OnOk, OnErr, IsErrOf};
 ghost use Rattle.zre_outside.specs.declared.deed.Deed.{Deed as DeedValue};
 ghost use Rattle.zre_outside.specs.Causes.{Rose, raised, counted, is_failed};
 ghost use Rattle.zre_outside.specs.Worlds.{with_start, IsTurn, is_look, after_turn, with_deed};
 ghost use Rattle.zre_fabric.specs.Pieces.{TurnIsShort};
 ghost use Rattle.zre_fabric.specs.Readings.{IsReadAt};
-ghost use Rattle.zre_fabric.specs.Looking.{is_full, entries_after, commands_after};
+ghost use Rattle.zre_fabric.specs.Looking.{is_full, entries_after, commands_after, octets_after};
 ghost use Rattle.zre_fabric.specs.NetworkFaults.{fault_of};
 
 use crate::bell::Bell;
@@ -32,7 +32,7 @@ impl<R: Drop> Drop for RealWorld<R> {
 
 impl<R> RealWorld<R> {
     ghost use Rattle.zre_fabric.specs.RealWorlds.{has_looked, faults_of, reason_of, reading_of, entries_of};
-    ghost use Rattle.zre_fabric.specs.RealWorlds.{commands_of};
+    ghost use Rattle.zre_fabric.specs.RealWorlds.{commands_of, octets_of};
 
     /// A world that isn't started yet. It takes no memory and opens nothing.
     pub fn new(rt: R, alloc: Global) -> Self
@@ -40,6 +40,7 @@ impl<R> RealWorld<R> {
         ensures faults { faults_of result ≡ 0 }
         ensures clock { reading_of result ≡ 0 }
         ensures row { (entries_of result ≡ 0) × (commands_of result ≡ 0) }
+        ensures octets { octets_of result ≡ 0 }
     {
         RealWorld::with_bell(rt, alloc, None)
     }
@@ -50,6 +51,7 @@ impl<R> RealWorld<R> {
         ensures faults { faults_of result ≡ 0 }
         ensures clock { reading_of result ≡ 0 }
         ensures row { (entries_of result ≡ 0) × (commands_of result ≡ 0) }
+        ensures octets { octets_of result ≡ 0 }
     {
         RealWorld {
             fabric: Fabric::new(rt, alloc, bell),
@@ -98,7 +100,7 @@ fn raise(faults: u64, fault: NextFault) -> u64
 
 impl<R: Net + Clock> World for RealWorld<R> {
     ghost use Rattle.zre_fabric.specs.RealWorlds.{told_of, has_looked, faults_of, reason_of};
-    ghost use Rattle.zre_fabric.specs.RealWorlds.{reading_of, entries_of, commands_of, Waits};
+    ghost use Rattle.zre_fabric.specs.RealWorlds.{reading_of, entries_of, commands_of, octets_of, Waits};
 
     ghost told = { told_of };
 
@@ -119,6 +121,7 @@ impl<R: Net + Clock> World for RealWorld<R> {
         ensures reason { IsErrOf result NextFault.Failed → IsSome (reason_of self.new) }
         ensures clock { reading_of self.old ≤ reading_of self.new }
         ensures row { (entries_of self.new ≡ 0) × (commands_of self.new ≡ 0) }
+        ensures octets { octets_of self.new ≡ 0 }
     {
         match self.fabric.start(s) {
             Ok(()) => Ok(()),
@@ -143,13 +146,16 @@ impl<R: Net + Clock> World for RealWorld<R> {
         ensures clock { reading_of self.old ≤ reading_of self.new }
         ensures reading { IfOk result (λ t. IsReadAt (reading_of self.new) t) }
         ensures short { IfOk result (λ t. TurnIsShort t) }
-        // A look comes again after each command at once, unless 64 came in a row, and after 64 entries at most.
+        // A look comes again after each command at once, unless 64 came in a row, and after 64 entries or 65,536 octets
+        // at most.
         ensures look { command ≡ None → is_full (entries_of self.old) (commands_of self.old) ≡ true
             → IfOk result (λ t. is_look t ≡ true) }
+        ensures long { command ≡ None → nat_le 65536 (octets_of self.old) ≡ true → IfOk result (λ t. is_look t ≡ true) }
+        ensures octets { IfOk result (λ t. octets_of self.new ≡ octets_after (octets_of self.old) t) }
         ensures row { IfOk result (λ t. (entries_of self.new ≡ entries_after (entries_of self.old) t)
             × (commands_of self.new ≡ commands_after (commands_of self.old) command t)) }
         ensures kept { OnErr result ((entries_of self.new ≡ entries_of self.old)
-            × (commands_of self.new ≡ commands_of self.old)) }
+            × (commands_of self.new ≡ commands_of self.old) × (octets_of self.new ≡ octets_of self.old)) }
     {
         match self.fabric.next(command) {
             Ok(turn) => {

@@ -13,8 +13,8 @@ const MAILBOX_PORT: u16 = 29170;
 
 const BEACON_PORT: u16 = 29171;
 
-/// So many turns a test waits for what is to come: some 20 seconds, where all of them are looks.
-const TURNS: u32 = 1000;
+/// So many turns a test waits for what is to come: some 40 seconds, where all of them are looks.
+const TURNS: u32 = 2000;
 
 /// An entry: its kind, the number of its connection or link, or the last octet of its sender's address, and its
 /// octets, or the count of what was taken.

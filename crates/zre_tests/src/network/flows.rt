@@ -52,16 +52,49 @@ fn a_link_and_its_connection_carry_octets_both_ways(rt: HostRuntime) {
     assert_eq!(rt; peer.missed, "");
 }
 
+// Half a minute is tried at an address where nobody is. A link that the poll has no name for isn't tried.
 #[test]
 fn a_refused_link_is_unlinked_once(rt: HostRuntime) {
     let [near, nobody, _] = hosts(process::id(rt.process()));
     let mut world = Watched::at(rt, near, &[]);
-    for (link, addr) in [(1, nobody), (2, [255; 4]), (u64::MAX, near)] {
-        world.connect(link, addr);
-        world.expect("Unlinked", link, 0, b"");
-        world.expect_quiet();
-    }
+    world.connect(u64::MAX, near);
+    world.expect("Unlinked", u64::MAX, 0, b"");
+    world.connect(1, nobody);
+    world.connect(2, [255; 4]);
+    world.expect_quiet();
+    world.expect("Unlinked", 1, 0, b"");
+    world.expect("Unlinked", 2, 0, b"");
+    world.expect_quiet();
     assert_eq!(rt; world.missed, "");
+}
+
+#[test]
+fn a_link_waits_for_its_peer_to_listen(rt: HostRuntime) {
+    let [near, far, _] = hosts(process::id(rt.process()));
+    let mut peer = Watched::at(rt, far, &[]);
+    peer.connect(7, near);
+    peer.expect_quiet();
+    let mut node = Watched::at(rt, near, &[]);
+    talk(&mut node, &mut peer, 1, 7);
+    assert_eq!(rt; node.missed, "");
+    assert_eq!(rt; peer.missed, "");
+}
+
+#[test]
+fn connections_past_a_burst_come_in_their_order(rt: HostRuntime) {
+    let [near, far, _] = hosts(process::id(rt.process()));
+    let mut node = Watched::at(rt, near, &[]);
+    let mut peer = Watched::at(rt, far, &[]);
+    for link in 1..71 {
+        peer.connect(link, near);
+        peer.expect("Linked", link, 0, b"");
+    }
+    for conn in 1..71 {
+        node.expect("Opened", conn, 0, b"");
+    }
+    node.expect_quiet();
+    assert_eq!(rt; node.missed, "");
+    assert_eq!(rt; peer.missed, "");
 }
 
 // How many octets went out in the next turn.

@@ -1,0 +1,72 @@
+//! Connections that came, before they are given as opened.
+
+use crate::shares::Shares;
+use mio::net::TcpStream;
+use std::alloc::Global;
+use std::collections::VecDeque;
+use zre_values::OutOfMemory;
+
+/// So many connections wait at most. The kernel has more descriptors than these and the node's connections and links.
+const WAITING: usize = 128;
+
+/// A connection and the address that it came from.
+#[derive(Drop)]
+pub(crate) struct Arrival {
+    pub(crate) stream: TcpStream,
+    pub(crate) addr: [u8; 4],
+}
+
+/// Connections that were accepted and not read, in the order in which they came.
+#[derive(Drop)]
+pub(crate) struct Arrivals {
+    waiting: VecDeque<Arrival>,
+}
+
+impl Arrivals {
+    pub(crate) fn new(alloc: Global) -> Self {
+        Arrivals {
+            waiting: VecDeque::new(alloc),
+        }
+    }
+
+    pub(crate) fn is_empty(&self) -> bool {
+        self.waiting.is_empty()
+    }
+
+    /// A connection came. It comes back where it may be given as opened now, and else waits. One too many is closed.
+    pub(crate) fn arrive(
+        &mut self,
+        came: Arrival,
+        shares: &mut Shares,
+        at: u64,
+    ) -> Result<Option<Arrival>, OutOfMemory> {
+        let addr = came.addr;
+        if !shares.enter(addr) {
+            drop(came);
+            return Ok(None);
+        }
+        if shares.opens(addr, at) {
+            return Ok(Some(came));
+        }
+        if self.waiting.len() >= WAITING {
+            shares.leave(addr);
+            drop(came);
+            return Ok(None);
+        }
+        self.waiting.push_back(came)?;
+        Ok(None)
+    }
+
+    /// The first of those that wait which may be given as opened now.
+    pub(crate) fn next(&mut self, shares: &mut Shares, at: u64) -> Option<Arrival> {
+        for i in 0..self.waiting.len() {
+            let Some(arrival) = self.waiting.get(i) else {
+                break;
+            };
+            if shares.opens(arrival.addr, at) {
+                return self.waiting.remove(i);
+            }
+        }
+        None
+    }
+}

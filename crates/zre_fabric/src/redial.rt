@@ -1,0 +1,55 @@
+//! How soon after a link was closed its endpoint is dialed again. The readings are in milliseconds.
+
+ghost use Rattle.std.specs.Prelude.{◌≡◌, ◌+◌};
+ghost use Rattle.zre_fabric.specs.Retries.{delay_of, latest, closings_after};
+
+use crate::retry::delay;
+
+/// Closings that are further apart than this don't count together.
+const CALM: u64 = 10_000;
+
+/// What is known of the links to an endpoint that were closed.
+#[derive(Clone, Copy)]
+pub(crate) struct Redial {
+    // The last closing, and from when on the endpoint may be dialed again. Before the first one both are 0.
+    closed: u64,
+    due: u64,
+    // The closings before the last one that it counts with.
+    closings: u64,
+}
+
+impl Redial {
+    pub(crate) fn new() -> Self
+        ensures due { result.due ≡ 0 }
+    {
+        Redial {
+            closed: 0,
+            due: 0,
+            closings: 0,
+        }
+    }
+
+    /// A link was closed. The first closing lets the next dial wait for some 100 milliseconds, and each that follows
+    /// within 10 seconds for twice as long, up to 2 seconds.
+    pub(crate) fn closed(&mut self, at: u64, chance: u64)
+        ensures closings { self.new.closings ≡ closings_after self.old.due self.old.closed self.old.closings at }
+        ensures due { self.new.due ≡ latest (at + delay_of self.new.closings chance) }
+        ensures closed { self.new.closed ≡ at }
+    {
+        let counts = self.due > 0 && at.saturating_sub(self.closed) < CALM;
+        self.closings = if counts {
+            self.closings.saturating_add(1)
+        } else {
+            0
+        };
+        self.closed = at;
+        self.due = at.saturating_add(delay(self.closings, chance));
+    }
+
+    /// From when on the endpoint may be dialed.
+    pub(crate) fn due(&self) -> u64
+        ensures { result ≡ self.now.due }
+    {
+        self.due
+    }
+}
