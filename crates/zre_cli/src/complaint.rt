@@ -1,5 +1,6 @@
 //! What is said on standard error where a command didn't do what was asked: one line.
 
+use crate::mistake::{Mistake, mistake_of};
 use std::fmt::{self, Display, Formatter};
 use std::io::{self, Eprint, ErrorKind};
 use std::net::{Ipv4Addr, SocketAddr};
@@ -27,11 +28,44 @@ fn address(at: Endpoint) -> SocketAddr {
     SocketAddr::from((Ipv4Addr::from(at.addr), at.port))
 }
 
-/// The words are no command.
-pub(crate) fn of_words<R: Eprint>(rt: &R) {
-    let _ = eprintln!(rt;
-        "zre: every command and word stands in the manual: man zre, or man -l docs/zre.1"
-    );
+// The commands, each with the words that it must have.
+const COMMANDS: &str = "\
+usage: zre chat id=UUID host=ADDRESS port=PORT [WORD]...
+       zre gate clients=N local=ADDRESS:PORT id=UUID host=ADDRESS port=PORT [WORD]...
+       zre replay [id=UUID host=ADDRESS port=PORT [WORD]...] < CAPTURE
+       zre upgrade id=UUID host=ADDRESS port=PORT [WORD]... < CAPTURE
+       zre table group=GROUP < CAPTURE
+       zre audit < CAPTURES
+       zre simulate < SCHEDULE
+       zre follow id=UUID < TRAFFIC
+       zre show < STREAM
+       zre exercise seed=N peers=N messages=N
+WORD is one of name= header= evasive= expired=, and for chat and gate of to= listen= beacon= interval= capture= too.";
+
+/// The words are no command, or ask for help.
+pub(crate) fn of_words<R: Eprint>(rt: &R, words: &Frames) {
+    let mistake = mistake_of(words);
+    let _ = match mistake {
+        Mistake::Help => eprintln!(rt; "{COMMANDS}\nzre: {mistake}"),
+        _ => eprintln!(rt; "zre: {mistake}"),
+    };
+}
+
+/// Standard input is bad at a place: a line and perhaps a column, or an octet of a stream.
+pub(crate) fn of_input<R: Eprint>(rt: &R, words: &Frames, place: &str) {
+    let command = first_of(words);
+    let (line, column) = place.split_once(' ').unwrap_or((place, ""));
+    let _ = match command {
+        "follow" | "show" => eprintln!(rt;
+            "zre: {command}: octet {place} of standard input: no greeting, frame or message goes on like that"
+        ),
+        "simulate" => eprintln!(rt;
+            "zre: {command}: line {line} of standard input: no move, or one that can't be made: SCHEDULES in zre(1)"
+        ),
+        _ => eprintln!(rt;
+            "zre: {command}: line {line}, column {column} of standard input: not as in a capture: CAPTURES in zre(1)"
+        ),
+    };
 }
 
 /// The system, or memory, didn't suffice.
@@ -71,6 +105,14 @@ pub(crate) fn of_desk<R: Eprint>(rt: &R, words: &Frames, reason: Option<io::Erro
         Some(reason) => eprintln!(rt; "zre: cannot listen on {place}: {}", Why(reason)),
         None => eprintln!(rt; "zre: cannot listen on {place}"),
     };
+}
+
+// The name of the command among the words.
+fn first_of(words: &Frames) -> &str {
+    match words.as_slice().first() {
+        Some(word) => str::from_utf8(word.as_slice()).unwrap_or(""),
+        None => "",
+    }
 }
 
 // The value of a key among the words.
