@@ -1,0 +1,134 @@
+"""What `follow`, `show`, `replay`, `upgrade` and `simulate` write, and their exit status."""
+from __future__ import annotations
+
+from typing import List, Tuple
+
+import captures
+import messages
+import network
+import zmtp
+from captures import Capture
+from messages import Run, quote, quote_pairs
+from node import Node, Settings
+
+DONE, BAD_INPUT = 0, 3
+Answer = Tuple[bytes, int]
+
+
+def answer(lines: List[str], *place: int) -> Answer:
+    """The text of these lines and the status, where there is a place with BADINPUT at the end."""
+    if place:
+        lines = [*lines, " ".join(["BADINPUT", *map(str, place)])]
+    return "".join(line + "\n" for line in lines).encode(), BAD_INPUT if place else DONE
+
+
+def show(octets: bytes) -> Answer:
+    """A line for each greeting, command and message of a stream."""
+    stream, lines = zmtp.Stream(zmtp.any_peer), []
+    try:
+        for item in stream.feed(octets):
+            if isinstance(item, zmtp.Greeting):
+                lines.append(f"greeting {item.major}.{item.minor}")
+            elif isinstance(item, zmtp.Command):
+                lines.append(f"command {quote(item.name)} {item.size}")
+            else:
+                lines.append(shown(item.frames))
+    except zmtp.Fault as fault:
+        return answer(lines, fault.place)
+    return answer(lines) if stream.is_at_rest() else answer(lines, len(octets))
+
+
+def shown(frames: List[bytes]) -> str:
+    """The line of a message."""
+    try:
+        text = messages.shown(messages.read(frames))
+    except messages.Bad as bad:
+        text = f"BAD {bad.why} {bad.frame} {bad.place}"
+    return f"message {len(frames)} {sum(map(len, frames))} {text}"
+
+
+def follow(peer: bytes, octets: bytes) -> Answer:
+    """The events of traffic, as connection 1 of a known peer. What follows the end of its run isn't looked at."""
+    stream, run, lines = zmtp.Stream(zmtp.any_peer, is_traffic=True), Run(peer), []
+    try:
+        for item in stream.feed(octets):
+            if not isinstance(item, zmtp.Message):
+                continue
+            try:
+                message = messages.read(item.frames)
+            except messages.Bad:
+                continue
+            if not run.view:
+                why = run.start(message)
+                if why:
+                    return answer([f"IGNORED 1 {why}"])
+            else:
+                cause = run.next(message)
+                if cause:
+                    return answer([*lines, run.line("EXIT", cause)])
+            lines += run.told(message)
+    except zmtp.Fault as fault:
+        return answer(lines, fault.place)
+    return answer(lines) if stream.is_at_rest() else answer(lines, len(octets))
+
+
+def replay(capture: Capture) -> Answer:
+    """The events of the node whose journal was captured."""
+    lines: List[str] = []
+    if capture.settings:
+        node = Node(capture.settings)
+        for entry in capture.entries:
+            node.step(entry.at, entry.form, entry.fields)
+        lines = node.lines
+    return answer(lines, *place_of(capture))
+
+
+def upgrade(settings: Settings, octets: bytes) -> Answer:
+    """A capture of format 1 in format 2, with these settings."""
+    capture = Capture(octets, 1)
+    head = ["zre-capture 2", settings.id.hex().upper(), quote(settings.name), settings.host, str(settings.port),
+            str(settings.evasive), str(settings.expired), quote_pairs(list(settings.headers))]
+    lines, before = [" ".join(head)], 0
+    for entry in capture.entries:
+        lines.append(f"{entry.at - before}{entry.text.decode()}")
+        before = entry.at
+    return answer(lines, *place_of(capture))
+
+
+def simulate(octets: bytes) -> Answer:
+    """The events of the nodes of a schedule, or the first bad line of it alone."""
+    try:
+        return answer(network.simulate(octets))
+    except network.BadSchedule as bad:
+        return answer([], bad.line)
+
+
+def place_of(capture: Capture) -> Tuple[int, ...]:
+    return (capture.bad.line, capture.bad.column) if capture.bad else ()
+
+
+def words_of(words: List[str]) -> Settings:
+    """The settings of a node by the words of a command line, which are as they must be, the identity as 32 digits."""
+    values = dict(word.split("=", 1) for word in words if not word.startswith("header="))
+    pairs = [word.split("=", 2)[1:] for word in words if word.startswith("header=")]
+    own = bytes.fromhex(values["id"])
+    return Settings(own, values.get("name", values["id"][:6].upper()).encode(), values["host"], int(values["port"]),
+                    int(values.get("evasive", 5000)), int(values.get("expired", 30000)),
+                    tuple((pair[0].encode(), pair[1].encode()) for pair in pairs))
+
+
+def run(words: List[str], octets: bytes) -> Answer:
+    """What the command with these words answers to this input."""
+    if words[0] == "show":
+        return show(octets)
+    if words[0] == "simulate":
+        return simulate(octets)
+    if words[0] == "follow":
+        return follow(bytes.fromhex(words[1].split("=")[1]), octets)
+    if words[0] == "upgrade":
+        return upgrade(words_of(words[1:]), octets)
+    if len(words) == 1:
+        return replay(Capture(octets, 2))
+    capture = Capture(octets, 1)
+    capture.settings = words_of(words[1:])
+    return replay(capture)
