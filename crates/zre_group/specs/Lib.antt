@@ -1,6 +1,2 @@
-pub mod Grouping
-pub mod Index
 pub mod JoinFault
-pub mod Joined
-pub mod Membership
 pub mod Own

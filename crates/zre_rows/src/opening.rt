@@ -13,7 +13,6 @@ use crate::text::Text;
 use crate::trouble::Trouble;
 use crate::wire::beacons::BeaconSubject;
 use crate::wire::conns::ConnSubject;
-use crate::wire::index::GroupSubject;
 use crate::wire::links::LinkSubject;
 use crate::wire::lists::ListSubject;
 use crate::wire::messages::MessageSubject;
@@ -27,7 +26,7 @@ use crate::wire::writing::WritingSubject;
 use crate::words::Words;
 use std::sync::Wait;
 use std::thread::Threads;
-use zre_group::{Index, Own};
+use zre_group::Own;
 
 // Takes the section with its subject, or with none where the arguments are bad.
 fn take<S: Subject>(page: &mut CaseFile, made: Option<S>, words: &Words<'_>, section: Section<'_>) {
@@ -83,7 +82,6 @@ fn take_upper(page: &mut CaseFile, mut words: Words<'_>, section: Section<'_>) {
 fn take_wire(page: &mut CaseFile, mut words: Words<'_>, section: Section<'_>) {
     take_by_name!(page, words, section;
         "conns" Some(ConnSubject::make(&mut words)),
-        "index" Some(GroupSubject { index: Index::new(words.alloc()) }),
         "links" LinkSubject::make(&mut words, &mut page.row.answer),
         "lists" Some(ListSubject::make(&mut words)),
         "own" Some(OwnGroupSubject { own: Own::new(words.alloc()) }),

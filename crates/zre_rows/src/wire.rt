@@ -3,7 +3,6 @@
 pub mod beacons;
 mod body;
 pub mod conns;
-pub mod index;
 pub mod links;
 pub mod lists;
 pub mod messages;

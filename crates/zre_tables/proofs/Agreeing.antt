@@ -2,24 +2,17 @@
 use Rattle.std.proofs.Common.{◌≡◌, ℕ, ◌==◌, ◌≤◌, ◌-◌, ◌^◌, ◌&&◌, ◌||◌, not, Bool, true, false, cond, eqb, ltb, nat_le, List, [], Option, Some, None, IfSome, is_some, refl, sym, ap, ◌∙◌, arith, nat_cmp, eqb-true, eq-eqb, subst}
 use Rattle.std.specs.BTreeMap.{is_at}
 use Rattle.std.specs.FinMap as map
-use Rattle.std.specs.FinSet as set
 use Rattle.std.specs.List.Sorted.{IsStrictlySortedBy}
 use Rattle.std.specs.Map.{keys_of}
 use Rattle.std.specs.Option.{option_map_or}
-use Rattle.std.specs.Str.{bytes_eq}
 use Rattle.std.proofs.lemmas.Bool.{ltb-false, le-leb}
-use Rattle.std.proofs.lemmas.Slice.Eq.{bytes_eq-Decides}
 use Rattle.zre_journal.proofs.Listed.{eqb-comm}
-use Rattle.zre_group.specs.Index.{Memberships, is_member, without_key}
-use Rattle.zre_group.specs.Membership.{is_member-remove, is_member-without_key}
 use Rattle.zre_timers.specs.Moments.{Moments, NoneAfter, moment_of, moment_of-empty, moment_of-insert, moment_of-remove, NoneAfter-empty, NoneAfter-insert, NoneAfter-remove}
-use Rattle.zre_tables.specs.Agreement.{IsIndexed, AreHeard, Agree}
-use Rattle.zre_tables.specs.Indexing.{IsGrown, IsShrunk}
-use Rattle.zre_tables.specs.Rows.{row_at}
-use Rattle.zre_tables.specs.Views.{row_in}
+use Rattle.zre_tables.specs.Agreement.{AreHeard, Agree}
+use Rattle.zre_tables.specs.Rows.{row_at, with_row}
 use Rattle.zre_tables.specs.declared.peer.Peer.{Peer}
-use Rattle.zre_tables.specs.declared.peer.CarriedRun.{CarriedRun}
 use Rattle.zre_tables.proofs.Entries.{at-eqb}
+use Rattle.zre_tables.proofs.Placed.{at_set, rising_set}
 
 -- the rows have o at n, and what they had before elsewhere
 abbrev pub PutAt : ℕ → Option Peer → List (ℕ × Peer) → List (ℕ × Peer) → Type 0
@@ -43,13 +36,6 @@ module _ (old new : List (ℕ × Peer)) (n : ℕ) (o : Option Peer) (put : PutAt
       by true same = let m : n ≡ q = eqb-true n q same in subst (λ k. Q k x) m (it x (sym here ∙ ap (λ k. row_at k new) m ∙ e))
       by false far = stays q x far (each q x (sym (elsewhere q far) ∙ e))
 
--- an index that has grown
-pub grown : (groups now : Memberships) (link : ℕ) (x : Peer) → IsGrown groups now → IsIndexed groups link x → IsIndexed now link x
-grown groups now link x g i = record { groups_in = λ group e. g group link (i.groups_in group e); run_is = i.run_is }
-
-pub grown_all : (rows : List (ℕ × Peer)) (groups now : Memberships) (heard : Moments) (r : Bool) → IsGrown groups now → Agree rows groups heard r → Agree rows now heard r
-grown_all rows groups now heard r g a = record { rising = a.rising; indexed = λ q x e. grown groups now q x g (a.indexed q x e); times = a.times }
-
 -- a row that was changed
 pub put_heard : (old new : List (ℕ × Peer)) (heard : Moments) (r r' : Bool) (n : ℕ) (k w : Peer) → Some k ≡ row_at n old → PutAt n (Some w) old new → (r' ≡ false → r ≡ false) → (r' ≡ false → k.active ≤ w.active)
     → AreHeard old heard r → AreHeard new heard r'
@@ -70,48 +56,31 @@ put_heard old new heard r r' n k w found put going later a = record {
     more None l p = tt
     more (Some m) l p = omega (arith, l, p)
 
-pub put_agrees : (old new : List (ℕ × Peer)) (groups now : Memberships) (heard : Moments) (r r' : Bool) (n : ℕ) (k w : Peer) → Some k ≡ row_at n old → IsStrictlySortedBy nat_cmp (keys_of new) → PutAt n (Some w) old new
-    → IsGrown groups now → IsIndexed now n w → (r' ≡ false → r ≡ false) → (r' ≡ false → k.active ≤ w.active) → Agree old groups heard r → Agree new now heard r'
-put_agrees old new groups now heard r r' n k w found up put g it going later a = record {
-  rising = up;
-  indexed = each_put old new n (Some w) put (IsIndexed groups) (IsIndexed now) a.indexed (λ q x far i. grown groups now q x g i) (λ x e. subst (IsIndexed now n) (some_is w x e) it);
-  times = put_heard old new heard r r' n k w found put going later a.times;
+pub put_agrees : (old new : List (ℕ × Peer)) (heard : Moments) (r r' : Bool) (n : ℕ) (k w : Peer) → row_at n old ≡ Some k → new ≡ with_row n w old → (r' ≡ false → r ≡ false) → (r' ≡ false → k.active ≤ w.active)
+    → Agree old heard r → Agree new heard r'
+put_agrees old new heard r r' n k w found put going later a = record {
+  rising = rw put (rising_set n w old a.rising);
+  times = put_heard old new heard r r' n k w (sym found) (λ q. ap (row_at q) put ∙ at_set n q k w old found) going later a.times;
 }
 
--- a row of which neither the run nor the time has changed
-pub still_agrees : (old new : List (ℕ × Peer)) (groups : Memberships) (heard : Moments) (r : Bool) (n : ℕ) (k w : Peer) → Some k ≡ row_at n old → IsStrictlySortedBy nat_cmp (keys_of new) → PutAt n (Some w) old new
-    → w.run ≡ k.run → w.active ≡ k.active → Agree old groups heard r → Agree new groups heard r
-still_agrees old new groups heard r n k w found up put run active a =
-    let i = a.indexed n k (sym found) in
-    put_agrees old new groups groups heard r r n k w found up put (λ g q e. e) (record {
-      groups_in = λ group e. i.groups_in group (sym (ap (λ (o : Option CarriedRun). row_in group (record k { run = o })) run) ∙ e);
-      run_is = λ x e. i.run_is x (sym run ∙ e);
-    })
-    (λ z. z) (λ z. omega (arith, active)) a
+-- a row of which the time hasn't changed
+pub still_agrees : (old new : List (ℕ × Peer)) (heard : Moments) (r : Bool) (n : ℕ) (k w : Peer) → row_at n old ≡ Some k → new ≡ with_row n w old → w.active ≡ k.active → Agree old heard r → Agree new heard r
+still_agrees old new heard r n k w found put active a = put_agrees old new heard r r n k w found put (λ z. z) (λ z. omega (arith, active)) a
 
 or_false : (a b : Bool) → (a || b) ≡ false → (a ≡ false) × (b ≡ false)
 or_false true b e = absurd cc
 or_false false b e = (refl, e)
 
 -- a row that shows that its peer is there
-pub renewed_agrees : (old new : List (ℕ × Peer)) (groups now : Memberships) (heard : Moments) (r r' : Bool) (n t : ℕ) (k w : Peer) → Some k ≡ row_at n old → IsStrictlySortedBy nat_cmp (keys_of new) → PutAt n (Some w) old new
-    → IsGrown groups now → IsIndexed now n w → w.active ≡ t → r' ≡ (r || ltb t k.active) → Agree old groups heard r → Agree new now heard r'
-renewed_agrees old new groups now heard r r' n t k w found up put g it active back a =
-    put_agrees old new groups now heard r r' n k w found up put g it (λ z. (or_false r (ltb t k.active) (sym back ∙ z)).0)
+pub renewed_agrees : (old new : List (ℕ × Peer)) (heard : Moments) (r r' : Bool) (n t : ℕ) (k w : Peer) → row_at n old ≡ Some k → new ≡ with_row n w old → w.active ≡ t → r' ≡ (r || ltb t k.active) → Agree old heard r → Agree new heard r'
+renewed_agrees old new heard r r' n t k w found put active back a =
+    put_agrees old new heard r r' n k w found put (λ z. (or_false r (ltb t k.active) (sym back ∙ z)).0)
     (λ z. omega (arith, active, ltb-false t k.active (or_false r (ltb t k.active) (sym back ∙ z)).1)) a
 
--- the run as before
-pub same_indexed : (groups : Memberships) (n : ℕ) (k w : Peer) → w.run ≡ k.run → IsIndexed groups n k → IsIndexed groups n w
-same_indexed groups n k w run i = record {
-  groups_in = λ group e. i.groups_in group (sym (ap (λ (o : Option CarriedRun). row_in group (record k { run = o })) run) ∙ e);
-  run_is = λ x e. i.run_is x (sym run ∙ e);
-}
-
 -- no rows
-pub none_agree : (rows : List (ℕ × Peer)) (groups : Memberships) (heard : Moments) → rows ≡ [] → heard ≡ map.empty → IsStrictlySortedBy nat_cmp (keys_of rows) → Agree rows groups heard false
-none_agree rows groups heard none quiet up = record {
+pub none_agree : (rows : List (ℕ × Peer)) (heard : Moments) → rows ≡ [] → heard ≡ map.empty → IsStrictlySortedBy nat_cmp (keys_of rows) → Agree rows heard false
+none_agree rows heard none quiet up = record {
   rising = up;
-  indexed = λ q x e. let z : None ≡ Some x = ap (row_at q) (sym none) ∙ e in absurd cc;
   times = record {
     timed = λ q. ap is_some (ap (λ m. moment_of m q) quiet ∙ moment_of-empty q) ∙ ap (λ es. is_some (row_at q es)) (sym none);
     moments = λ z q x e. let f : None ≡ Some x = ap (row_at q) (sym none) ∙ e in absurd cc;
@@ -120,12 +89,10 @@ none_agree rows groups heard none quiet up = record {
 }
 
 -- a new row, with the first of all moments
-pub insert_agrees : (old new : List (ℕ × Peer)) (groups : Memberships) (heard now : Moments) (r : Bool) (n : ℕ) (w : Peer) → w.run ≡ None → now ≡ map.insert heard n 0 → IsStrictlySortedBy nat_cmp (keys_of new) → PutAt n (Some w) old new
-    → Agree old groups heard r → Agree new groups now r
-insert_agrees old new groups heard now r n w none touched up put a = record {
+pub insert_agrees : (old new : List (ℕ × Peer)) (heard now : Moments) (r : Bool) (n : ℕ) (w : Peer) → now ≡ map.insert heard n 0 → IsStrictlySortedBy nat_cmp (keys_of new) → PutAt n (Some w) old new
+    → Agree old heard r → Agree new now r
+insert_agrees old new heard now r n w touched up put a = record {
   rising = up;
-  indexed = each_put old new n (Some w) put (IsIndexed groups) (IsIndexed groups) a.indexed (λ q x far i. i)
-      (λ x e. subst (IsIndexed groups n) (some_is w x e) (record { groups_in = λ group e. let z : false ≡ true = sym (ap (λ (o : Option CarriedRun). row_in group (record w { run = o })) none) ∙ e in absurd cc; run_is = λ y e. let z : None ≡ Some y = sym none ∙ e in absurd cc }));
   times = record {
     timed = λ q. ap is_some (ap (λ m. moment_of m q) touched ∙ moment_of-insert heard n 0 q) ∙ by q (eqb n q) refl;
     moments = λ z. each_put old new n (Some w) put (λ q x. IfSome (moment_of heard q) (λ m. m ≤ x.active)) (λ q x. IfSome (moment_of now q) (λ m. m ≤ x.active)) (a.times.moments z)
@@ -151,10 +118,9 @@ insert_agrees old new groups heard now r n w none touched up put a = record {
     by q false far = ap is_some (off q far) ∙ a.times.timed q ∙ ap is_some (sym (elsewhere old new n (Some w) put q far))
 
 -- no row came, and its moment was taken back
-pub taken_back : (rows : List (ℕ × Peer)) (groups : Memberships) (heard now : Moments) (r : Bool) (n : ℕ) → row_at n rows ≡ None → now ≡ map.remove (map.insert heard n 0) n → Agree rows groups heard r → Agree rows groups now r
-taken_back rows groups heard now r n none back a = record {
+pub taken_back : (rows : List (ℕ × Peer)) (heard now : Moments) (r : Bool) (n : ℕ) → row_at n rows ≡ None → now ≡ map.remove (map.insert heard n 0) n → Agree rows heard r → Agree rows now r
+taken_back rows heard now r n none back a = record {
   rising = a.rising;
-  indexed = a.indexed;
   times = record {
     timed = λ q. ap is_some (same q) ∙ a.times.timed q;
     moments = λ z q x e. subst (λ o. IfSome o (λ m. m ≤ x.active)) (sym (same q)) (a.times.moments z q x e);
@@ -175,16 +141,11 @@ taken_back rows groups heard now r n none back a = record {
         ap (λ m. moment_of m q) back ∙ moment_of-remove (map.insert heard n 0) n q
         ∙ ap (λ o. cond (q == n) None o) (moment_of-insert heard n 0 q) ∙ by q (q == n) refl
 
--- a row that was taken out, with its moment and its groups
-pub remove_agrees : (old new : List (ℕ × Peer)) (groups left : Memberships) (heard now : Moments) (r : Bool) (n : ℕ) → now ≡ map.remove heard n → left ≡ without_key groups n → IsStrictlySortedBy nat_cmp (keys_of new) → PutAt n None old new
-    → Agree old groups heard r → Agree new left now r
-remove_agrees old new groups left heard now r n forgot gone up put a = record {
+-- a row that was taken out, with its moment
+pub remove_agrees : (old new : List (ℕ × Peer)) (heard now : Moments) (r : Bool) (n : ℕ) → now ≡ map.remove heard n → IsStrictlySortedBy nat_cmp (keys_of new) → PutAt n None old new
+    → Agree old heard r → Agree new now r
+remove_agrees old new heard now r n forgot up put a = record {
   rising = up;
-  indexed = each_put old new n None put (IsIndexed groups) (IsIndexed left) a.indexed
-      (λ q x far i. record {
-        groups_in = λ group e. ap (λ v. is_member v group q) gone ∙ is_member-without_key groups n group q ∙ both (is_member groups group q) (q == n) (i.groups_in group e) (eqb-comm q n ∙ far);
-        run_is = i.run_is;
-      }) (λ x e. absurd cc);
   times = record {
     timed = λ q. ap is_some (ap (λ m. moment_of m q) forgot ∙ moment_of-remove heard n q) ∙ by q (eqb n q) refl;
     moments = λ z. each_put old new n None put (λ q x. IfSome (moment_of heard q) (λ m. m ≤ x.active)) (λ q x. IfSome (moment_of now q) (λ m. m ≤ x.active)) (a.times.moments z)
@@ -194,40 +155,11 @@ remove_agrees old new groups left heard now r n forgot gone up put a = record {
   };
 }
   where
-    both : (b c : Bool) → b ≡ true → c ≡ false → (b && not c) ≡ true
-    both b c e f = rw (e, f) refl
-
     by : (q : ℕ) (b : Bool) → eqb n q ≡ b → is_some (cond (q == n) None (moment_of heard q)) ≡ is_some (row_at q new)
     by q true same =
         let m : n ≡ q = eqb-true n q same in
         ap (λ b. is_some (cond b None (moment_of heard q))) (eqb-comm q n ∙ same) ∙ sym (ap is_some (ap (λ j. row_at j new) (sym m) ∙ here old new n None put))
     by q false far = ap (λ b. is_some (cond b None (moment_of heard q))) (eqb-comm q n ∙ far) ∙ a.times.timed q ∙ ap is_some (sym (elsewhere old new n None put q far))
-
--- a group that the peer of a link isn't in was taken out of the index for it
-pub left_out : (groups left : Memberships) (n : ℕ) (k : Peer) (group : List ℕ) → row_in group k ≡ false → left ≡ set.remove groups (group, n) → IsShrunk n k groups left
-left_out groups left n k group out gone g q was its = ap (λ v. is_member v g q) gone ∙ is_member-remove groups group n g q ∙ by (eqb q n) refl
-  where
-    other : row_in g k ≡ true → (b : Bool) → bytes_eq group g ≡ b → (not b && is_member groups g q) ≡ true
-    other i true same_name =
-        let name : group ≡ g = (bytes_eq-Decides group g).0 same_name in
-        let z : false ≡ true = sym out ∙ ap (λ h. row_in h k) name ∙ i in absurd cc
-    other i false far = was
-
-    by : (b : Bool) → eqb q n ≡ b → (not ((q == n) && bytes_eq group g) && is_member groups g q) ≡ true
-    by false far = ap (λ b. not (b && bytes_eq group g) && is_member groups g q) far ∙ was
-    by true same = ap (λ b. not (b && bytes_eq group g) && is_member groups g q) same ∙ other (its (eqb-true q n same)) (bytes_eq group g) refl
-
--- groups that the peer of a link isn't in were taken out
-pub left_agrees : (rows : List (ℕ × Peer)) (groups left : Memberships) (heard : Moments) (r : Bool) (n : ℕ) (k : Peer) → row_at n rows ≡ Some k → IsShrunk n k groups left
-    → Agree rows groups heard r → Agree rows left heard r
-left_agrees rows groups left heard r n k found shrunk a = record {
-  rising = a.rising;
-  indexed = λ q x e. record {
-    groups_in = λ g i. shrunk g q ((a.indexed q x e).groups_in g i) (λ same. ap (λ (y : Peer). row_in g y) (some_is k x (sym found ∙ ap (λ j. row_at j rows) (sym same) ∙ e)) ∙ i);
-    run_is = (a.indexed q x e).run_is;
-  };
-  times = a.times;
-}
 
 -- a moment that was brought up to date
 pub touch_heard : (rows : List (ℕ × Peer)) (heard now : Moments) (r : Bool) (n : ℕ) (x : Peer) → Some x ≡ row_at n rows → x.active ≤ 2 ^ 64 - 1 → now ≡ map.insert heard n x.active → AreHeard rows heard r → AreHeard rows now r

@@ -5,10 +5,10 @@ pub mod Changing
 pub mod Entries
 pub mod Finding
 pub mod Hearings
-pub mod Indexed
 pub mod Listing
 pub mod Naming
 pub mod Offering
+pub mod Placed
 pub mod Relinking
 pub mod Resting
 pub mod Walking

@@ -1,6 +1,5 @@
 pub mod Agreement
 pub mod Holding
-pub mod Indexing
 pub mod Probing
 pub mod Resting
 pub mod Rows

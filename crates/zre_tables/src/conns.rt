@@ -7,9 +7,9 @@ ghost use Rattle.zre_tables.specs.Rows.{Changes, row_at, without_row};
 ghost use Rattle.zre_tables.specs.declared.connection.Connection.{Connection as ConnectionValue};
 
 use crate::connection::Connection;
+use crate::rows::Rows;
 use crate::searches::earlier_rest;
 use std::alloc::Global;
-use std::collections::BTreeMap;
 use std::marker::Model;
 use zre_values::{OutOfMemory, PeerId};
 
@@ -19,21 +19,25 @@ use zre_values::{OutOfMemory, PeerId};
 /// over only where one of them may have rested for too long.
 #[derive(Drop)]
 pub struct Conns {
-    pub(crate) rows: BTreeMap<u64, Connection>,
+    pub(crate) rows: Rows<Connection>,
     pub(crate) first: u64,
     pub(crate) alloc: Global,
 }
 
 impl Model for Conns {
     ghost use Rattle.std.specs.Prelude.{ℕ, List};
+    ghost use Rattle.std.specs.List.Sorted.{IsStrictlySortedBy};
+    ghost use Rattle.std.specs.Map.{keys_of};
+    ghost use Rattle.std.specs.Ordering.{nat_cmp};
     ghost use Rattle.zre_tables.specs.Resting.{AllRestFrom};
     ghost use Rattle.zre_tables.specs.declared.connection.Connection.{Connection as ConnectionValue};
 
     ghost Value = { List (ℕ × ConnectionValue) };
 
-    ghost view = { λ conns. conns.rows.entries };
+    ghost view = { λ conns. conns.rows.all.items };
 
-    ghost invariant = { λ conns. AllRestFrom conns.first conns.rows.entries };
+    ghost invariant = { λ conns. IsStrictlySortedBy nat_cmp (keys_of conns.rows.all.items)
+        × AllRestFrom conns.first conns.rows.all.items };
 }
 
 impl Conns {
@@ -42,7 +46,7 @@ impl Conns {
         ensures { result ≡ [] }
     {
         Conns {
-            rows: BTreeMap::new(alloc),
+            rows: Rows::new(alloc),
             first: u64::MAX,
             alloc,
         }
@@ -52,21 +56,21 @@ impl Conns {
     pub fn len(&self) -> usize
         ensures { result ≡ length self.now }
     {
-        self.rows.len()
+        self.rows.all.len()
     }
 
     /// The connection with this number.
     pub fn get(&self, conn: u64) -> Option<&Connection>
         ensures value { option_copied result ≡ row_at conn self.now }
     {
-        self.rows.get(&conn)
+        self.rows.get(conn)
     }
 
     /// Whether a connection with this number is open.
     pub fn contains(&self, conn: u64) -> bool
         ensures { result ≡ is_some (row_at conn self.now) }
     {
-        self.rows.contains_key(&conn)
+        self.rows.place(conn).is_some()
     }
 
     /// Lists a connection, or changes nothing where no memory is left.
@@ -75,23 +79,22 @@ impl Conns {
         ensures err { OnErr result (self.new ≡ self.old) }
     {
         self.first = earlier_rest(&opened, self.first);
-        self.rows.insert(conn, opened)?;
-        Ok(())
+        self.rows.insert(conn, opened)
     }
 
     /// Takes a connection out, if it is there.
     pub fn remove(&mut self, conn: u64)
         ensures { self.new ≡ without_row conn self.old }
     {
-        self.rows.remove(&conn);
+        self.rows.remove(conn);
     }
 
     /// READY introduced this peer on the connection.
     pub fn introduce(&mut self, conn: u64, peer: PeerId)
         ensures { Changes conn (λ (x : ConnectionValue). record x { identity = Some peer }) self.old self.new }
     {
-        if let Some(found) = self.rows.get_mut(&conn) {
-            found.identity = Some(peer);
+        if let Some(at) = self.rows.place(conn) {
+            self.rows.all[at].1.identity = Some(peer);
         }
     }
 
@@ -99,8 +102,8 @@ impl Conns {
     pub fn carry(&mut self, conn: u64, link: u64)
         ensures { Changes conn (λ (x : ConnectionValue). record x { run = Some link }) self.old self.new }
     {
-        if let Some(found) = self.rows.get_mut(&conn) {
-            found.run = Some(link);
+        if let Some(at) = self.rows.place(conn) {
+            self.rows.all[at].1.run = Some(link);
         }
     }
 
@@ -109,7 +112,8 @@ impl Conns {
         ensures { Changes conn (λ (x : ConnectionValue). record x { since = now; run = None; conn = None })
             self.old self.new }
     {
-        if let Some(found) = self.rows.get_mut(&conn) {
+        if let Some(at) = self.rows.place(conn) {
+            let found = &mut self.rows.all[at].1;
             found.put_aside(now);
             self.first = earlier_rest(found, self.first);
         }

@@ -64,10 +64,10 @@ impl Conns {
         ensures silent { reader_at conn self.old ≡ None →
             (self.new ≡ self.old) × (items.new ≡ []) × (result ≡ Ok None) × (steps.new ≡ steps.old) }
     {
-        let Some(found) = self.rows.get_mut(&conn) else {
+        let Some(at) = self.rows.place(conn) else {
             return Ok(None);
         };
-        let Some(conn) = &mut found.conn else {
+        let Some(conn) = &mut self.rows.all[at].1.conn else {
             return Ok(None);
         };
         read(conn, bytes, items, steps)

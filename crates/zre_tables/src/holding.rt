@@ -87,7 +87,7 @@ impl Peers {
             result ≡ capped (sum_by (λ (e : ℕ × PeerValue). peer_row_octets e.1) self.now) }
     {
         let mut sum: u64 = 0;
-        for (_, peer) in &self.rows {
+        for (_, peer) in &self.rows.all {
             sum = sum.saturating_add(peer_octets(peer));
         }
         sum
@@ -101,7 +101,7 @@ impl Conns {
             result ≡ capped (sum_by (λ (e : ℕ × ConnectionValue). conn_row_octets e.1) self.now) }
     {
         let mut sum: u64 = 0;
-        for (_, conn) in &self.rows {
+        for (_, conn) in &self.rows.all {
             sum = sum.saturating_add(conn_octets(conn));
         }
         sum

@@ -5,12 +5,12 @@ mod connection;
 mod conns;
 mod feeding;
 mod holding;
-mod indexing;
 mod offers;
 mod peer;
 mod peers;
 mod probing;
 mod replies;
+mod rows;
 mod runs;
 mod searches;
 

@@ -12,9 +12,9 @@ ghost use Rattle.zre_tables.specs.Searches.{begins_with, offered_among, row_offe
 
 use crate::peer::Peer;
 use crate::peers::Peers;
+use crate::rows::Rows;
 use crate::searches::are_many;
 use std::alloc::Global;
-use std::collections::BTreeMap;
 use zre_outside::{Act, Acts};
 use zre_values::{Keys, OutOfMemory};
 
@@ -41,12 +41,13 @@ fn rising_of(alloc: Global, links: &[u64]) -> Result<Keys, OutOfMemory>
 }
 
 // Those of these links that have something to send are offered, in order.
-fn offer_each(rows: &BTreeMap<u64, Peer>, links: &[u64], acts: &mut Acts) -> Result<(), OutOfMemory>
+fn offer_each(rows: &Rows<Peer>, links: &[u64], acts: &mut Acts) -> Result<(), OutOfMemory>
+    requires { IsStrictlySortedBy nat_cmp (keys_of rows.now.all.items) }
     ensures { OnOk result (acts.new
-        ≡ acts.old ++ map (λ link. Offer link) (filter (passes_at row_offered rows.now.entries) links.now)) }
+        ≡ acts.old ++ map (λ link. Offer link) (filter (passes_at row_offered rows.now.all.items) links.now)) }
 {
     for link in links {
-        let Some(peer) = rows.get(link) else {
+        let Some(peer) = rows.get(*link) else {
             continue;
         };
         if peer.link.is_offered() {
@@ -76,13 +77,13 @@ fn is_next(links: &[u64], link: u64) -> bool
 
 // The rows on whose links something was put are offered where they have something to send, by a walk over all rows.
 // The links rise.
-fn offer_rows(rows: &BTreeMap<u64, Peer>, links: &[u64], acts: &mut Acts) -> Result<(), OutOfMemory>
+fn offer_rows(rows: &Rows<Peer>, links: &[u64], acts: &mut Acts) -> Result<(), OutOfMemory>
     requires rising { IsStrictlyIncreasing links.now }
-    requires sorted { IsStrictlySortedBy nat_cmp (keys_of rows.now.entries) }
-    ensures { OnOk result (acts.new ≡ acts.old ++ offered_among links.now rows.now.entries) }
+    requires sorted { IsStrictlySortedBy nat_cmp (keys_of rows.now.all.items) }
+    ensures { OnOk result (acts.new ≡ acts.old ++ offered_among links.now rows.now.all.items) }
 {
     let mut rest = links;
-    for (link, peer) in rows {
+    for (link, peer) in &rows.all {
         rest = not_below(rest, *link);
         if is_next(rest, *link) && peer.link.is_offered() {
             acts.push(Act::Offer { link: *link })?;
@@ -93,13 +94,13 @@ fn offer_rows(rows: &BTreeMap<u64, Peer>, links: &[u64], acts: &mut Acts) -> Res
 
 // The same in the cheaper way.
 fn offer_rising(
-    rows: &BTreeMap<u64, Peer>,
+    rows: &Rows<Peer>,
     links: &[u64],
     acts: &mut Acts,
 ) -> Result<(), OutOfMemory>
     requires rising { IsStrictlyIncreasing links.now }
-    requires sorted { IsStrictlySortedBy nat_cmp (keys_of rows.now.entries) }
-    ensures { OnOk result (acts.new ≡ acts.old ++ offered_among links.now rows.now.entries) }
+    requires sorted { IsStrictlySortedBy nat_cmp (keys_of rows.now.all.items) }
+    ensures { OnOk result (acts.new ≡ acts.old ++ offered_among links.now rows.now.all.items) }
 {
     if are_many(links, rows) {
         offer_rows(rows, links, acts)

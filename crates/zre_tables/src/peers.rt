@@ -1,8 +1,8 @@
 //! The known peers.
 
 ghost use Rattle.std.specs.Prelude.{◌≡◌, ◌+◌, ◌≤◌, ℕ, Bool, true, List, [], ◌∷◌, ◌++◌, Some, None, length};
-ghost use Rattle.std.specs.Prelude.{is_some, option_copied, OnOk, OnErr, IfOk, IfErr, Ok, ◌||◌, nat_lt};
-ghost use Rattle.std.specs.BTreeMap.{insert_entry, IsOrdered, Updates};
+ghost use Rattle.std.specs.Prelude.{is_some, option_copied, OnOk, OnErr, IfErr, Ok, ◌||◌, nat_lt};
+ghost use Rattle.std.specs.BTreeMap.{insert_entry};
 ghost use Rattle.std.specs.Ordering.{nat_cmp};
 ghost use Rattle.zre_values.specs.declared.limits.TheConstants.{UNSENT_OCTETS};
 ghost use Rattle.zre_values.specs.declared.peer_id.PeerId.{PeerId as PeerIdValue};
@@ -10,16 +10,13 @@ ghost use Rattle.zre_msg.specs.declared.message.Body.TheVariants.{Shout};
 ghost use Rattle.zre_msg.specs.Spelling.{FitsBody, FitsString};
 ghost use Rattle.zre_link.specs.Link.{link_after, taken_by, unsent_of, RefusesPush};
 ghost use Rattle.zre_link.specs.Text.{Member, Says, size_of};
-ghost use Rattle.zre_tables.specs.Agreement.{IsRun};
 ghost use Rattle.zre_tables.specs.Rows.{row_at, with_row, without_row};
 ghost use Rattle.zre_tables.specs.declared.peer.Peer.{Peer as PeerValue};
 
-use crate::indexing::index_groups;
 use crate::peer::{CarriedRun, Peer};
+use crate::rows::Rows;
 use std::alloc::Global;
-use std::collections::BTreeMap;
 use std::marker::Model;
-use zre_group::Index;
 use zre_link::{Link, PushFault, Tail};
 use zre_msg::Body;
 use zre_timers::Timers;
@@ -33,14 +30,11 @@ pub type Links = List<u64>;
 
 /// The known peers by their links. It is seen as the list of its rows.
 ///
-/// Beside the rows stands an index of the groups that they have told, and a moment for each, so that the members of a
-/// group and the peers that are due are found without a look at the others. A message costs no work at the moments:
-/// they are brought up to date where a search comes to them.
+/// Beside the rows stands a moment for each, so that the peers that are due are found without a look at the others. A
+/// message costs no work at the moments: they are brought up to date where a search comes to them.
 #[derive(Drop)]
 pub struct Peers {
-    pub(crate) rows: BTreeMap<u64, Peer>,
-    // Each group that a peer has told, with its link. There may be more.
-    pub(crate) groups: Index,
+    pub(crate) rows: Rows<Peer>,
     // For each link a moment at or after which its peer has shown that it is there.
     pub(crate) heard: Timers,
     // Whether a reading went back, so that the moments say nothing.
@@ -48,18 +42,6 @@ pub struct Peers {
     // Whether many were found to be evasive the last time, so that the next search goes over all rows at once.
     pub(crate) many: bool,
     pub(crate) alloc: Global,
-}
-
-// A peer is listed, or nothing has changed.
-fn list(rows: &mut BTreeMap<u64, Peer>, number: u64, peer: Peer) -> Result<(), OutOfMemory>
-    ensures updates { OnOk result (Updates nat_cmp rows.old rows.new number (Some peer)) }
-    ensures entries { OnOk result (rows.new.entries ≡ insert_entry nat_cmp rows.old.entries number peer) }
-    ensures rising { IsOrdered nat_cmp rows.new }
-    ensures absent { OnErr result (row_at number rows.old.entries ≡ None) }
-    ensures err { OnErr result (rows.new.entries ≡ rows.old.entries) }
-{
-    rows.insert(number, peer)?;
-    Ok(())
 }
 
 // A peer has shown that it is there: whether a reading has gone back, with this one.
@@ -79,9 +61,9 @@ impl Model for Peers {
 
     ghost Value = { List (ℕ × PeerValue) };
 
-    ghost view = { λ peers. peers.rows.entries };
+    ghost view = { λ peers. peers.rows.all.items };
 
-    ghost invariant = { λ peers. Agree peers.rows.entries peers.groups peers.heard peers.rewound };
+    ghost invariant = { λ peers. Agree peers.rows.all.items peers.heard peers.rewound };
 }
 
 impl Peers {
@@ -90,8 +72,7 @@ impl Peers {
         ensures { result ≡ [] }
     {
         Peers {
-            rows: BTreeMap::new(alloc),
-            groups: Index::new(alloc),
+            rows: Rows::new(alloc),
             heard: Timers::new(alloc),
             rewound: false,
             many: false,
@@ -103,21 +84,21 @@ impl Peers {
     pub fn len(&self) -> usize
         ensures { result ≡ length self.now }
     {
-        self.rows.len()
+        self.rows.all.len()
     }
 
     /// The peer of this link.
     pub fn get(&self, link: u64) -> Option<&Peer>
         ensures value { option_copied result ≡ row_at link self.now }
     {
-        self.rows.get(&link)
+        self.rows.get(link)
     }
 
     /// Whether a peer has this link.
     pub fn contains(&self, link: u64) -> bool
         ensures { result ≡ is_some (row_at link self.now) }
     {
-        self.rows.contains_key(&link)
+        self.rows.place(link).is_some()
     }
 
     /// Lists a peer that isn't entered, with its link, or changes nothing where no memory is left.
@@ -139,7 +120,7 @@ impl Peers {
             run: None,
             link,
         };
-        match list(&mut self.rows, number, peer) {
+        match self.rows.insert(number, peer) {
             Ok(()) => Ok(()),
             Err(none) => {
                 self.heard.forget(number);
@@ -153,10 +134,8 @@ impl Peers {
         ensures value { result ≡ row_at link self.old }
         ensures rows { self.new ≡ without_row link self.old }
     {
-        let found = self.rows.remove(&link);
         self.heard.forget(link);
-        self.groups.forget(link);
-        found
+        self.rows.remove(link)
     }
 
     /// The peer of this link has shown that it is there.
@@ -165,27 +144,24 @@ impl Peers {
             self.new ≡ with_row link (record x { active = now }) self.old }
         ensures missing { row_at link self.old ≡ None → self.new ≡ self.old }
     {
-        let Some(peer) = self.rows.get_mut(&link) else {
+        let Some(at) = self.rows.place(link) else {
             return;
         };
-        self.rewound = renew(peer, now, self.rewound);
+        self.rewound = renew(&mut self.rows.all[at].1, now, self.rewound);
     }
 
     /// The peer of this link has a run, which shows that it is there.
-    pub fn enter(&mut self, link: u64, running: CarriedRun, now: u64) -> Result<(), OutOfMemory>
-        requires { IsRun running }
-        ensures ok { (x : PeerValue) → row_at link self.old ≡ Some x →
-            OnOk result (self.new ≡ with_row link (record x { run = Some running; active = now }) self.old) }
-        ensures err { OnErr result (self.new ≡ self.old) }
-        ensures missing { row_at link self.old ≡ None → (self.new ≡ self.old) × (result ≡ Ok tt) }
+    pub fn enter(&mut self, link: u64, running: CarriedRun, now: u64)
+        ensures found { (x : PeerValue) → row_at link self.old ≡ Some x →
+            self.new ≡ with_row link (record x { run = Some running; active = now }) self.old }
+        ensures missing { row_at link self.old ≡ None → self.new ≡ self.old }
     {
-        let Some(peer) = self.rows.get_mut(&link) else {
-            return Ok(());
+        let Some(at) = self.rows.place(link) else {
+            return;
         };
-        index_groups(&mut self.groups, link, &running.run)?;
+        let peer = &mut self.rows.all[at].1;
         self.rewound = renew(peer, now, self.rewound);
         peer.run = Some(running);
-        Ok(())
     }
 
     /// This link stands from now on.
@@ -195,10 +171,10 @@ impl Peers {
             self.new ≡ with_row link (record x { link = link_after own line true o n }) self.old }
         ensures missing { row_at link self.old ≡ None → self.new ≡ self.old }
     {
-        let Some(peer) = self.rows.get_mut(&link) else {
+        let Some(at) = self.rows.place(link) else {
             return;
         };
-        peer.link.linked();
+        self.rows.all[at].1.link.linked();
     }
 
     /// So many octets of this link have gone out, or as many as might.
@@ -211,10 +187,10 @@ impl Peers {
             }) self.old }
         ensures missing { row_at link self.old ≡ None → self.new ≡ self.old }
     {
-        let Some(peer) = self.rows.get_mut(&link) else {
+        let Some(at) = self.rows.place(link) else {
             return;
         };
-        peer.link.took(count);
+        self.rows.all[at].1.link.took(count);
     }
 
     /// Puts a body on this link. The body is lent, and handed back as it was.
@@ -232,10 +208,10 @@ impl Peers {
         ensures missing { row_at link self.old ≡ None → (self.new ≡ self.old) × (result ≡ Ok tt) }
         ensures lent { body.new ≡ body.old }
     {
-        let Some(peer) = self.rows.get_mut(&link) else {
+        let Some(at) = self.rows.place(link) else {
             return Ok(());
         };
-        peer.link.push(body)
+        self.rows.all[at].1.link.push(body)
     }
 
     /// Puts a SHOUT to this group on this link in the same way: its content is that of the tail.
@@ -253,9 +229,9 @@ impl Peers {
         ensures unchanged { OnErr result (self.new ≡ self.old) }
         ensures missing { row_at link self.old ≡ None → (self.new ≡ self.old) × (result ≡ Ok tt) }
     {
-        let Some(peer) = self.rows.get_mut(&link) else {
+        let Some(at) = self.rows.place(link) else {
             return Ok(());
         };
-        peer.link.push_shout(group, tail)
+        self.rows.all[at].1.link.push_shout(group, tail)
     }
 }

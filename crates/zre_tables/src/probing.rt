@@ -63,9 +63,10 @@ impl Peers {
         ensures missing { row_at link self.old ≡ None →
             (self.new ≡ self.old) × (events.new ≡ events.old) × (result ≡ Ok tt) }
     {
-        let Some(peer) = self.rows.get_mut(&link) else {
+        let Some(at) = self.rows.place(link) else {
             return Ok(());
         };
+        let peer = &mut self.rows.all[at].1;
         tell_evasive(self.alloc, peer, events)?;
         peer.link.push_ping()
     }

@@ -65,9 +65,9 @@ impl Peers {
             Looks steps.old steps.new (kept_of (heard_after o))
             (kept_of (heard_after (if linked then o ++ bytes.now else o))) (length bytes.now) result }
     {
-        let Some(peer) = self.rows.get_mut(&link) else {
+        let Some(at) = self.rows.place(link) else {
             return Ok(None);
         };
-        hear_reply(&mut peer.link, bytes, steps)
+        hear_reply(&mut self.rows.all[at].1.link, bytes, steps)
     }
 }

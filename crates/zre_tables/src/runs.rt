@@ -1,6 +1,6 @@
 //! Messages, and the runs of peers that they make.
 
-ghost use Rattle.std.specs.Prelude.{◌≡◌, ◌≢◌, ℕ, List, ◌∷◌, [], ◌++◌, Some, None, OnOk, Err, IfErr, IfOk, ◌||◌};
+ghost use Rattle.std.specs.Prelude.{◌≡◌, ◌≢◌, ℕ, List, ◌∷◌, [], ◌++◌, Some, None, OnOk, Err, IfErr, IfOk};
 ghost use Rattle.std.specs.Prelude.{true, false};
 ghost use Rattle.zre_msg.specs.Lent.{message_of};
 ghost use Rattle.zre_msg.specs.declared.message.Message.{Message as MessageValue};
@@ -8,15 +8,10 @@ ghost use Rattle.zre_values.specs.declared.peer_id.PeerId.{PeerId as PeerIdValue
 ghost use Rattle.zre_peer.specs.Views.{view_of};
 ghost use Rattle.zre_peer.specs.Runs.{events_of, may_follow, fault_of, shown};
 ghost use Rattle.zre_peer.specs.Standing.{view_in};
-ghost use Rattle.zre_tables.specs.Agreement.{IsRun};
-ghost use Rattle.zre_tables.specs.Indexing.{joins};
 ghost use Rattle.zre_tables.specs.Rows.{row_at};
 ghost use Rattle.zre_tables.specs.Runs.{HasRun, HadRun, IsRunning, IsTaken};
-ghost use Rattle.zre_tables.specs.Views.{lists_group, row_in};
 ghost use Rattle.zre_tables.specs.declared.peer.Peer.{Peer as PeerValue};
-ghost use Rattle.zre_tables.specs.declared.peer.CarriedRun.{CarriedRun as RunningValue};
 
-use crate::indexing::{index_join, index_leave};
 use crate::peer::{CarriedRun, Peer};
 use crate::peers::{Peers, renew};
 use zre_msg::LentMessage;
@@ -36,9 +31,6 @@ fn go_on(
         IfErr result (λ e. e ≢ RunFault.OutOfMemory → (may_follow ms (message_of lent.now) ≡ false)
         × (e ≡ fault_of ms (message_of lent.now))
         × (running.new.conn ≡ c) × (view_in running.new.run ≡ shown ms) × (events.new ≡ events.old)) }
-    ensures run { IsRun running.old → IsRun running.new }
-    ensures groups { IsRun running.old → (group : List ℕ) → lists_group group (view_in running.new.run) ≡ true
-        → (lists_group group (view_in running.old.run) || joins lent.now.command group) ≡ true }
 {
     if running.run.spent() {
         return Err(RunFault::OutOfMemory);
@@ -60,11 +52,6 @@ fn take(peer: &mut Peer, lent: &LentMessage<'_>, events: &mut Events) -> Result<
         × (e ≡ fault_of ms (message_of lent.now))
         × HadRun (Some c) ms peer.new.run × (events.new ≡ events.old)) }
     ensures only { peer.new ≡ record peer.old { run = peer.new.run } }
-    ensures run { ((x : RunningValue) → peer.old.run ≡ Some x → IsRun x)
-        → (x : RunningValue) → peer.new.run ≡ Some x → IsRun x }
-    ensures groups { ((x : RunningValue) → peer.old.run ≡ Some x → IsRun x)
-        → (group : List ℕ) → row_in group peer.new ≡ true
-        → (row_in group peer.old || joins lent.now.command group) ≡ true }
 {
     match &mut peer.run {
         Some(running) => go_on(running, lent, events),
@@ -95,13 +82,11 @@ impl Peers {
         ensures missing { row_at link self.old ≡ None →
             (self.new ≡ self.old) × (events.new ≡ events.old) × (result ≡ Err RunFault.OutOfMemory) }
     {
-        let Some(peer) = self.rows.get_mut(&link) else {
+        let Some(at) = self.rows.place(link) else {
             return Err(RunFault::OutOfMemory);
         };
-        index_join(&mut self.groups, link, &lent.command)?;
+        let peer = &mut self.rows.all[at].1;
         self.rewound = renew(peer, now, self.rewound);
-        let taken = take(peer, lent, events);
-        index_leave(&mut self.groups, link, peer, &lent.command);
-        taken
+        take(peer, lent, events)
     }
 }

@@ -19,8 +19,8 @@ use crate::connection::Connection;
 use crate::conns::Conns;
 use crate::peer::Peer;
 use crate::peers::{Ids, Links, Peers};
+use crate::rows::Rows;
 use std::alloc::Global;
-use std::collections::BTreeMap;
 use zre_peer::View;
 use zre_timers::Timers;
 use zre_values::{Keys, OutOfMemory, PeerId};
@@ -36,7 +36,7 @@ fn is_same(id: PeerId, introduced: Option<PeerId>) -> bool
 }
 
 // Whether a peer has told that it is in the group.
-pub(crate) fn is_in(peer: &Peer, group: &[u8]) -> bool
+fn is_in(peer: &Peer, group: &[u8]) -> bool
     ensures { result ≡ row_in group.now peer.now }
 {
     match peer.view() {
@@ -76,14 +76,14 @@ fn is_stale(conn: &Connection, limit: u64, now: u64) -> bool
 // The numbers of those of these connections that are stale, rising.
 fn stale_among(
     alloc: Global,
-    rows: &BTreeMap<u64, Connection>,
+    rows: &Rows<Connection>,
     limit: u64,
     now: u64,
 ) -> Result<Keys, OutOfMemory>
-    ensures { IfOk result (λ numbers. numbers ≡ numbers_of (row_stale limit now) rows.now.entries) }
+    ensures { IfOk result (λ numbers. numbers ≡ numbers_of (row_stale limit now) rows.now.all.items) }
 {
     let mut numbers = Keys::new(alloc);
-    for (number, conn) in rows {
+    for (number, conn) in &rows.all {
         if is_stale(conn, limit, now) {
             numbers.push(*number)?;
         }
@@ -104,11 +104,11 @@ pub(crate) fn earlier_rest(conn: &Connection, first: u64) -> u64
 }
 
 // A moment before which none of these connections that run no peer began to rest.
-fn first_rest(rows: &BTreeMap<u64, Connection>) -> u64
-    ensures { AllRestFrom result rows.now.entries }
+fn first_rest(rows: &Rows<Connection>) -> u64
+    ensures { AllRestFrom result rows.now.all.items }
 {
     let mut first = u64::MAX;
-    for (_, conn) in rows {
+    for (_, conn) in &rows.all {
         first = earlier_rest(conn, first);
     }
     first
@@ -117,17 +117,18 @@ fn first_rest(rows: &BTreeMap<u64, Connection>) -> u64
 // Those of these links whose peers pass a test, in order.
 fn among<F: Fn(&Peer) -> bool>(
     alloc: Global,
-    rows: &BTreeMap<u64, Peer>,
+    rows: &Rows<Peer>,
     links: &[u64],
     passes: F,
 ) -> Result<Keys, OutOfMemory>
-    requires { F.IsAlwaysCallable passes }
+    requires rising { IsStrictlySortedBy nat_cmp (keys_of rows.now.all.items) }
+    requires call { F.IsAlwaysCallable passes }
     ensures { (test : PeerValue → Bool) → ((x : PeerValue) (b : Bool) → FnReturnsAt F.Fn passes x b → b ≡ test x) →
-        IfOk result (λ found. found ≡ filter (passes_at test rows.now.entries) links.now) }
+        IfOk result (λ found. found ≡ filter (passes_at test rows.now.all.items) links.now) }
 {
     let mut found = Keys::new(alloc);
     for link in links {
-        let Some(peer) = rows.get(link) else {
+        let Some(peer) = rows.get(*link) else {
             continue;
         };
         if passes(peer) {
@@ -140,15 +141,15 @@ fn among<F: Fn(&Peer) -> bool>(
 // The links of all that are entered and evasive now, rising, by a walk over the rows.
 fn evasive_rows(
     alloc: Global,
-    rows: &BTreeMap<u64, Peer>,
+    rows: &Rows<Peer>,
     evasive: u64,
     expired: u64,
     now: u64,
 ) -> Result<Keys, OutOfMemory>
-    ensures { IfOk result (λ found. found ≡ numbers_of (row_evasive evasive expired now) rows.now.entries) }
+    ensures { IfOk result (λ found. found ≡ numbers_of (row_evasive evasive expired now) rows.now.all.items) }
 {
     let mut found = Keys::new(alloc);
-    for (link, peer) in rows {
+    for (link, peer) in &rows.all {
         if is_evasive(peer, evasive, expired, now) {
             found.push(*link)?;
         }
@@ -157,8 +158,8 @@ fn evasive_rows(
 }
 
 // Whether so many of the rows are due that a walk over all of them costs less than a look-up for each that is due.
-pub(crate) fn are_many(due: &[u64], rows: &BTreeMap<u64, Peer>) -> bool {
-    due.len() > rows.len() / 8
+pub(crate) fn are_many(due: &[u64], rows: &Rows<Peer>) -> bool {
+    due.len() > rows.all.len() / 8
 }
 
 // When a peer last showed that it is there.
@@ -184,24 +185,24 @@ fn update_one(heard: &mut Timers, link: u64, peer: &Peer, latest: u64) -> Result
 
 // The moments of these links, which rise, brought up to date: of many by a walk over the rows, since that is cheaper.
 fn update(
-    rows: &BTreeMap<u64, Peer>,
+    rows: &Rows<Peer>,
     heard: &mut Timers,
     links: &[u64],
     latest: u64,
 ) -> Result<(), OutOfMemory>
-    requires { IsStrictlySortedBy nat_cmp (keys_of rows.now.entries) }
-    ensures { (r : Bool) → AreHeard rows.now.entries heard.old r → AreHeard rows.now.entries heard.new r }
+    requires { IsStrictlySortedBy nat_cmp (keys_of rows.now.all.items) }
+    ensures { (r : Bool) → AreHeard rows.now.all.items heard.old r → AreHeard rows.now.all.items heard.new r }
 {
     if !are_many(links, rows) {
         for due in links {
-            if let Some(peer) = rows.get(due) {
+            if let Some(peer) = rows.get(*due) {
                 update_one(heard, *due, peer, latest)?;
             }
         }
         return Ok(());
     }
     let mut next = 0;
-    for (link, peer) in rows {
+    for (link, peer) in &rows.all {
         if next < links.len() && links[next] == *link {
             next += 1;
             update_one(heard, *link, peer, latest)?;
@@ -227,7 +228,7 @@ impl Peers {
     pub fn link_of(&self, id: PeerId) -> Option<u64>
         ensures { result ≡ link_among id self.now }
     {
-        for (link, peer) in &self.rows {
+        for (link, peer) in &self.rows.all {
             if id == peer.id {
                 return Some(*link);
             }
@@ -239,7 +240,7 @@ impl Peers {
     pub fn view_of(&self, id: PeerId) -> Option<&View>
         ensures { option_copied result ≡ view_among id self.now }
     {
-        for (_, peer) in &self.rows {
+        for (_, peer) in &self.rows.all {
             if id == peer.id {
                 return peer.view();
             }
@@ -251,7 +252,7 @@ impl Peers {
     pub fn links(&self) -> Result<Links, OutOfMemory>
         ensures { IfOk result (λ links. links ≡ keys_of self.now) }
     {
-        Ok(Links::from_vec(self.rows.keys().copied().collect(self.alloc)?))
+        Ok(Links::from_vec(self.rows.numbers(self.alloc)?))
     }
 
     /// The ids of those that are entered, by their links.
@@ -259,7 +260,7 @@ impl Peers {
         ensures { IfOk result (λ ids. ids ≡ ids_entered self.now) }
     {
         let mut ids = Ids::new(self.alloc);
-        for (_, peer) in &self.rows {
+        for (_, peer) in &self.rows.all {
             if peer.is_entered() {
                 ids.push(peer.id)?;
             }
@@ -271,13 +272,13 @@ impl Peers {
     pub fn members(&self, group: &[u8]) -> Result<Keys, OutOfMemory>
         ensures { IfOk result (λ links. links ≡ numbers_of (row_in group.now) self.now) }
     {
-        let links = self.groups.members(group)?;
-        among(
-            self.alloc,
-            &self.rows,
-            links.as_slice(),
-            |peer| is_in(peer, group),
-        )
+        let mut found = Keys::new(self.alloc);
+        for (link, peer) in &self.rows.all {
+            if is_in(peer, group) {
+                found.push(*link)?;
+            }
+        }
+        Ok(found)
     }
 
     // The links of those whose moments lie so long back, which are brought up to date.
@@ -341,7 +342,7 @@ impl Conns {
     pub fn other_with(&self, id: PeerId, conn: u64) -> Option<u64>
         ensures { result ≡ other_among id conn self.now }
     {
-        for (number, found) in &self.rows {
+        for (number, found) in &self.rows.all {
             if conn != *number && is_same(id, found.identity) {
                 return Some(*number);
             }
@@ -353,7 +354,7 @@ impl Conns {
     pub fn numbers(&self) -> Result<Keys, OutOfMemory>
         ensures { IfOk result (λ numbers. numbers ≡ keys_of self.now) }
     {
-        Ok(Keys::from_vec(self.rows.keys().copied().collect(self.alloc)?))
+        Ok(Keys::from_vec(self.rows.numbers(self.alloc)?))
     }
 
     /// The numbers of those that run no peer, and have rested for so long, rising. It looks at none of them where none

@@ -74,16 +74,16 @@ impl Tables {
     }
 
     // The connection runs the peer of this link from now on.
-    fn start(&mut self, conn: u64, link: u64, run: Run) -> Result<(), OutOfMemory>
-        requires { (messages : List MessageValue) × Stands run messages }
+    fn start(&mut self, conn: u64, link: u64, run: Run)
         ensures { (g : Config) (H : List Mark) (m : MessageValue) (v : Life) → Holds g H self.old
             → is_live conn H ≡ true →
             runs conn H ≡ None → life link H ≡ Some v → identity conn H ≡ Some v.id → Stands run (m ∷ [])
             → id_of run ≡ v.id →
-            OnOk result (Holds g (Starts conn link m ∷ H) self.new) }
+            Holds g (Starts conn link m ∷ H) self.new }
     {
         self.conns.carry(conn, link);
-        self.peers.enter(link, CarriedRun { conn, run }, self.clock)
+        self.peers
+            .enter(link, CarriedRun { conn, run }, self.clock);
     }
 
     // Where the peer of a first message is to be reached.
@@ -135,13 +135,17 @@ impl Tables {
     {
         match self.place(peer, &message) {
             Reach::Known(link) => match opened(self.alloc, peer, message, &mut out.events) {
-                Ok(run) => self.start(conn, link, run),
+                Ok(run) => {
+                    self.start(conn, link, run);
+                    Ok(())
+                }
                 Err(fault) => self.refuse_by(out, conn, fault),
             },
             Reach::New(to) => match opened(self.alloc, peer, message, &mut out.events) {
                 Ok(run) => {
                     self.born(out, peer, to)?;
-                    self.start(conn, self.births, run)
+                    self.start(conn, self.births, run);
+                    Ok(())
                 }
                 Err(fault) => self.refuse_by(out, conn, fault),
             },

@@ -5,7 +5,6 @@ use Rattle.zre_peer.specs.Runs.{events_of}
 use Rattle.zre_peer.specs.Views.{view_of}
 use Rattle.zre_peer.specs.Standing.{view_in}
 use Rattle.zre_tables.proofs.Carrying.{if_err}
-use Rattle.zre_tables.proofs.Indexed.{goes_on_in}
 use Rattle.zre_values.proofs.Answered.{on_ok}
 use Rattle.zre_tables.proofs.runs.go_on.Goals as goal
 
@@ -23,8 +22,3 @@ returns-clause-refused c = λ n id ms r.
     let f = a other in
     (f.0, f.2, r.conn, kept ∙ r.stands.view, f.3))
 
-pub returns-clause-groups : goal.returns-clause-groups
-returns-clause-groups c = λ is.
-    let some = is (sym c.spent.ensures ∙ c.if-spent.false) in
-    goes_on_in c.take_lent.result some.0 (message_of c.args.lent.now) c.args.lent.now.command c.args.lent.now.content.now (view_in c.args.running.now.run) (view_in c.take_lent.new.self)
-    (sym (ap is_some c.in-Some.ensures)) some.1.view refl (on_ok c.take_lent.result (c.take_lent.ensures.ok some.0 some.1) (λ a. a.1.view)) c.take_lent.ensures.kept

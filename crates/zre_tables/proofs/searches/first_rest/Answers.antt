@@ -1,11 +1,12 @@
-use Rattle.std.proofs.Common.{arith}
-use Rattle.zre_tables.proofs.Resting.{rest_next, none_rest}
+use Rattle.std.proofs.Common.{◌+◌, drop}
+use Rattle.zre_tables.proofs.Placed.{next_of}
+use Rattle.zre_tables.proofs.Resting.{rest_next}
 use Rattle.zre_tables.proofs.searches.first_rest.Goals as goal
 
 pub loop-conn-preserved : goal.loop-conn-preserved
 loop-conn-preserved c = λ m l a.
-    rest_next m c.loop-conn.first c.earlier_rest-first.result c.in-Some.field-0-0.now c.in-Some.conn.now c.loop-conn.conn-iterator c.next.new.self c.args.rows.now.entries
-    c.in-Some.ensures.steps c.earlier_rest-first.ensures.before c.earlier_rest-first.ensures.rests c.loop-conn.invariant l a
-
-pub returns : goal.returns
-returns c = c.loop-conn.invariant c.loop-conn.first (omega arith) (none_rest c.loop-conn.first c.loop-conn.conn-iterator c.in-None.ensures.steps.0)
+    let es = c.args.rows.now.all.items in
+    let i = c.loop-conn.conn-index in
+    let e = c.loop-conn-item.result in
+    let steps = next_of c.deref-conn-items.result.now es i e c.deref-conn-items.ensures.value c.loop-conn-test.true c.loop-conn-item.is in
+    rest_next m c.loop-conn.first c.earlier_rest-first.result e.0 e.1 (drop i es) (drop (i + 1) es) es steps c.earlier_rest-first.ensures.before c.earlier_rest-first.ensures.rests c.loop-conn.invariant l a

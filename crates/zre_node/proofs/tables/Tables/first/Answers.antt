@@ -9,7 +9,6 @@ use Rattle.zre_journal.specs.Peers.{births, life}
 use Rattle.zre_journal.specs.Told.{told}
 use Rattle.zre_journal.proofs.Kept.{newborn}
 use Rattle.zre_node.specs.Stands.{Holds}
-use Rattle.zre_values.proofs.Answered.{on_ok}
 use Rattle.zre_node.proofs.Many.{did_as, did_by}
 use Rattle.zre_node.proofs.Starting.{first_starts, known_starts, new_starts, nowhere_starts, newborn_known, its_own_life, starts_tell, new_did, untold_did, on_did_as}
 use Rattle.zre_node.proofs.tables.Tables.first.Goals as goal
@@ -26,9 +25,9 @@ returns-in-Ok c = λ g H h live idle who.
     let here = subst (λ (l : ℕ). life l H ≡ Some v) place.2 own.0 in
     let mine = who ∙ ap (λ (x : PeerId). Some x) (sym own.1) in
     let tells = starts_tell g H c.args.self.now h n m v p live idle who own.0 own.1 in
-    on_ok c.start.result (c.start.ensures g H m v h live idle here mine it.1 (it.2 ∙ sym own.1)) (λ held.
+    let held = c.start.ensures g H m v h live idle here mine it.1 (it.2 ∙ sym own.1) in
     did_as g _ (Starts n c.in-Known.link m ∷ []) H _ _ _ (first_starts g n p m H it.0 ∙ known_starts g n p m H v place.1 ∙ ap (λ l. Starts n l m ∷ []) place.2)
-    (did_by g (Starts n c.in-Known.link m ∷ []) H c.start.new.self c.args.out.now _ held (it.3 ∙ ap (λ (es : List Event). c.args.out.now.events ++ es) (sym (subst (λ l. told (Starts n l m ∷ []) H ≡ events_of p (view_of []) m.body) place.2 tells))) (sym (append-nil c.args.out.now.acts)) refl (λ l. refl)))
+    (did_by g (Starts n c.in-Known.link m ∷ []) H c.start.new.self c.args.out.now _ held (it.3 ∙ ap (λ (es : List Event). c.args.out.now.events ++ es) (sym (subst (λ l. told (Starts n l m ∷ []) H ≡ events_of p (view_of []) m.body) place.2 tells))) (sym (append-nil c.args.out.now.acts)) refl (λ l. refl))
 
 pub returns-in-Known : goal.returns-in-Known
 returns-in-Known c = λ g H h live idle who.
@@ -47,10 +46,10 @@ returns-in-Ok-opened c = λ g H h live idle who.
     let K = after (birth g p e H) H in
     let number = was_born.holds.keeps.births_is in
     let here = subst (λ (l : ℕ). life l K ≡ Some (newborn (births H + 1) p e)) (sym number) (newborn_known g H h.keeps.proper p e) in
-    on_ok c.start-in-Ok-opened.result (c.start-in-Ok-opened.ensures g K m (newborn (births H + 1) p e) was_born.holds live idle here who it.1 it.2) (λ held.
+    let held = c.start-in-Ok-opened.ensures g K m (newborn (births H + 1) p e) was_born.holds live idle here who it.1 it.2 in
     did_as g _ (birth g p e H ++ Starts n (births H + 1) m ∷ []) H _ _ _ (first_starts g n p m H it.0 ∙ new_starts g n p m H e place.0 place.1 place.2)
     (new_did g H c.args.self.now c.born.new.self c.start-in-Ok-opened.new.self n m p e c.args.out.now c.opened-in-New.new.events c.born.new.out h live idle who it.3 was_born
-    (subst (λ (l : ℕ). Holds g (Starts n l m ∷ K) c.start-in-Ok-opened.new.self) number held)))
+    (subst (λ (l : ℕ). Holds g (Starts n l m ∷ K) c.start-in-Ok-opened.new.self) number held))
 
 pub returns-in-New : goal.returns-in-New
 returns-in-New c = λ g H h live idle who.

@@ -7,4 +7,4 @@ use Rattle.zre_tables.proofs.conns.Conns.stale.Goals as goal
 pub returns-then-not-has_passed-clause-found : goal.returns-then-not-has_passed-clause-found
 returns-then-not-has_passed-clause-found c =
     let i = c.self.inside in
-    c.new.ensures ∙ sym (none_stale c.args.limit c.args.now i.first i.rows.entries (sym c.has_passed.ensures ∙ c.if-not-has_passed.true) c.self.invariant) ∙ ap (numbers_of (row_stale c.args.limit c.args.now)) c.self.view_is
+    c.new.ensures ∙ sym (none_stale c.args.limit c.args.now i.first i.rows.all.items (sym c.has_passed.ensures ∙ c.if-not-has_passed.true) c.self.invariant.1) ∙ ap (numbers_of (row_stale c.args.limit c.args.now)) c.self.view_is

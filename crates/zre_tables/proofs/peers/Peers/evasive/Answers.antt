@@ -17,7 +17,7 @@ returns-then-not-are_many-clause-found c =
     let seen = c.self-then-not-self.view_is ∙ c.in_ok-links.ensures.rows in
     let rising = subst IsStrictlyIncreasing (sym c.as_slice-due.ensures) c.in_ok-links.ensures.rising in
     IfOk-weaker c.among.result _ _ (λ found e.
-    e ∙ same_numbers test i.rows.entries c.as_slice-due.result.now c.self-then-not-self.invariant.rising rising
+    e ∙ same_numbers test i.rows.all.items c.as_slice-due.result.now c.self-then-not-self.invariant.rising rising
     (λ n x at t. ap (λ (xs : List ℕ). list_any (λ k. k == n) xs) c.as_slice-due.ensures ∙ c.in_ok-links.ensures.all n x (ap (row_at n) (sym seen) ∙ at)
     (and_parts (is_some x.run && not (row_silent c.args.expired c.args.now x)) (row_silent c.args.evasive c.args.now x) t).1)
     ∙ ap (λ (es : List (ℕ × Peer)). numbers_of test es) seen) (c.among.ensures test (λ x b r. search rules))

@@ -2,4 +2,4 @@ use Rattle.zre_tables.proofs.Agreeing.{none_agree}
 use Rattle.zre_tables.proofs.peers.Peers.new.Goals as goal
 
 pub invariant_of-result : goal.invariant_of-result
-invariant_of-result c = none_agree c.new.result.entries c.new-2.result c.new-3.result c.new.ensures.empty c.new-3.ensures c.new.ensures.ordered
+invariant_of-result c = none_agree c.new.result.all.items c.new-2.result c.new.ensures.empty c.new-2.ensures c.new.ensures.rising

@@ -18,7 +18,7 @@ pub returns-then-is_rising : goal.returns-then-is_rising
 returns-then-is_rising c =
     let acts = c.args.acts.now in
     on_ok_weaker c.offer_rising.result (λ e.
-    e ∙ ap (λ (ks : List ℕ). acts ++ offered_among ks c.self.inside.rows.entries) c.as_slice-links.ensures
+    e ∙ ap (λ (ks : List ℕ). acts ++ offered_among ks c.self.inside.rows.all.items) c.as_slice-links.ensures
     ∙ ap (λ (es : List (ℕ × Peer)). acts ++ offered_among c.args.pushed.now es) c.self.view_is) c.offer_rising.ensures
 
 pub returns : goal.returns

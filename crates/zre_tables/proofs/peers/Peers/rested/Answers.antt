@@ -13,7 +13,7 @@ use Rattle.zre_tables.proofs.peers.Peers.rested.Goals as goal
 pub returns-then-self-clause-rising : goal.returns-then-self-clause-rising
 returns-then-self-clause-rising c =
     IfOk-weaker c.links.result _ _ (λ links e. subst IsStrictlyIncreasing (sym (e ∙ ap (λ (es : List (ℕ × Peer)). keys_of es) (sym c.self.view_is)))
-    (all_keys (row_silent c.args.span c.args.now) c.self.inside.rows.entries c.self.invariant.rising)) c.links.ensures
+    (all_keys (row_silent c.args.span c.args.now) c.self.inside.rows.all.items c.self.invariant.rising)) c.links.ensures
 
 pub returns-then-self-clause-all : goal.returns-then-self-clause-all
 returns-then-self-clause-all c =

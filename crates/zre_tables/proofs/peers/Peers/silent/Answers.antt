@@ -15,6 +15,6 @@ returns-clause-found c =
     let seen = c.self.view_is ∙ c.in_ok-links.ensures.rows in
     let rising = subst IsStrictlyIncreasing (sym c.as_slice.ensures) c.in_ok-links.ensures.rising in
     IfOk-weaker c.among.result _ _ (λ found e.
-    e ∙ same_numbers test i.rows.entries c.as_slice.result.now c.self.invariant.rising rising
+    e ∙ same_numbers test i.rows.all.items c.as_slice.result.now c.self.invariant.rising rising
     (λ n x at t. ap (λ (xs : List ℕ). list_any (λ k. k == n) xs) c.as_slice.ensures ∙ c.in_ok-links.ensures.all n x (ap (row_at n) (sym seen) ∙ at) t)
     ∙ ap (λ (es : List (ℕ × Peer)). numbers_of test es) seen) (c.among.ensures test (λ x b r. search rules))

@@ -1,15 +1,26 @@
-use Rattle.std.proofs.Common.{is_some, sym, ap}
+use Rattle.std.proofs.Common.{ap, sym, ◌∙◌}
 use Rattle.zre_tables.specs.declared.peer.Peer.{Peer}
-use Rattle.zre_tables.proofs.Agreeing.{renewed_agrees, same_indexed}
+use Rattle.zre_tables.proofs.Agreeing.{renewed_agrees}
+use Rattle.zre_tables.proofs.Changing.{put_back, same, there}
+use Rattle.zre_tables.proofs.Placed.{lies}
 use Rattle.zre_tables.proofs.peers.Peers.touch.Goals as goal
 
-pub invariant_of-self-2 : goal.invariant_of-self-2
-invariant_of-self-2 c =
+pub invariant_of-self : goal.invariant_of-self
+invariant_of-self c =
     let i = c.self.inside in
-    let k = c.in-Some.peer.now in
     let w = c.renew-self-inside.new.peer in
-    let held = c.get_mut.follows.holds w in
-    let only = c.renew-self-inside.ensures.only in
-    renewed_agrees i.rows.entries (c.get_mut.follows.lender w).entries i.groups i.groups i.heard i.rewound c.renew-self-inside.result c.args.link c.args.now k w c.in-Some.ensures.value held.4
-    (held.3 (sym (ap is_some c.in-Some.ensures.value))).0 (λ g q e. e) (same_indexed i.groups c.args.link k w (ap (λ (y : Peer). y.run) only) (c.self.invariant.indexed c.args.link k (sym c.in-Some.ensures.value)))
-    (ap (λ (y : Peer). y.active) only) c.renew-self-inside.ensures.back c.self.invariant
+    let it = lies c.self.inside.rows.all.items c.args.link c.in-Some.at c.index_mut.result.now c.self.invariant.rising c.in-Some.ensures c.index_mut.ensures.value in
+    renewed_agrees i.rows.all.items _ i.heard i.rewound c.renew-self-inside.result c.args.link c.args.now c.index_mut.result.now.1 w it.there_is (it.set w)
+    (ap (λ (y : Peer). y.active) c.renew-self-inside.ensures.only) c.renew-self-inside.ensures.back c.self.invariant
+
+pub returns-clause-found : goal.returns-clause-found
+returns-clause-found c = λ x at.
+    let w = c.renew-self-inside.new.peer in
+    let it = lies c.self.inside.rows.all.items c.args.link c.in-Some.at c.index_mut.result.now c.self.invariant.rising c.in-Some.ensures c.index_mut.ensures.value in
+    let e = same c.args.link c.self.inside.rows.all.items c.args.self.now c.self.view_is c.index_mut.result.now.1 (sym it.there_is) x at in
+    put_back c.args.link c.self.inside.rows.all.items c.args.self.now c.self.view_is c.index_mut.result.now.1 (sym it.there_is) w _ (it.set w) _ (c.renew-self-inside.ensures.only ∙ ap (λ (y : Peer). record y { active = c.args.now }) e)
+
+pub returns-clause-missing : goal.returns-clause-missing
+returns-clause-missing c = λ none.
+    let it = lies c.self.inside.rows.all.items c.args.link c.in-Some.at c.index_mut.result.now c.self.invariant.rising c.in-Some.ensures c.index_mut.ensures.value in
+    there c.args.link c.self.inside.rows.all.items c.args.self.now c.self.view_is c.index_mut.result.now.1 (sym it.there_is) none

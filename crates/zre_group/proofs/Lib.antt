@@ -1,4 +1,0 @@
-pub mod Changing
-pub mod Listing
-pub mod Reading
-pub mod Rising
