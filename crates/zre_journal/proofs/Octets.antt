@@ -34,21 +34,21 @@ use Rattle.zre_journal.proofs.Steps.{all_same, each_same}
 use Rattle.zre_journal.proofs.Sayings.{newly_fine}
 
 -- octets come with entries alone
-quiet_bytes : (d : ℕ) (hs K : List Mark) → AreQuiet d hs → bytes d (after hs K) ≡ bytes d K
+pub quiet_bytes : (d : ℕ) (hs K : List Mark) → AreQuiet d hs → bytes d (after hs K) ≡ bytes d K
 quiet_bytes d hs K q = all_same (Quiet d) (bytes d) one hs K q
   where
     one : (h : Mark) (H : List Mark) → Quiet d h → bytes d (h ∷ H) ≡ bytes d H
     one (Comes e) H z = absurd z
     one _ H z = refl
 
-sound_bytes : (g : Config) (d : ℕ) (hs K : List Mark) → AreSound g hs K → bytes d (after hs K) ≡ bytes d K
+pub sound_bytes : (g : Config) (d : ℕ) (hs K : List Mark) → AreSound g hs K → bytes d (after hs K) ≡ bytes d K
 sound_bytes g d hs K s = each_same (Sound g) (bytes d) one hs K s
   where
     one : (h : Mark) (H : List Mark) → Sound g h H → bytes d (h ∷ H) ≡ bytes d H
     one (Comes e) H z = absurd z
     one _ H z = refl
 
-no_more : (d : ℕ) (b : Bool) (o : List ℕ) → o ++ cond b [] [] ≡ o
+pub no_more : (d : ℕ) (b : Bool) (o : List ℕ) → o ++ cond b [] [] ≡ o
 no_more d true o = append-nil o
 no_more d false o = append-nil o
 

@@ -29,6 +29,13 @@ ghost use Rattle.zre_journal.specs.Ledger.{IsNearWhereItComes, KeepsLedgers};
 ghost use Rattle.zre_journal.specs.Places.{Arrives};
 ghost use Rattle.zre_journal.specs.Peers.{counted};
 ghost use Rattle.zre_journal.specs.Standing.{KnownIsBorn, OpenIsOpened};
+ghost use Rattle.zre_journal.specs.Isolation.{Isolates};
+ghost use Rattle.zre_journal.specs.Leaks.{LeaksNothing};
+ghost use Rattle.zre_journal.specs.Obeying.{Obeys};
+ghost use Rattle.zre_journal.specs.Silence.{TellsSilence};
+ghost use Rattle.zre_journal.specs.Tables.{TellsByTables};
+ghost use Rattle.zre_journal.specs.Answering.{AnswersInTurn};
+ghost use Rattle.zre_journal.specs.Outgoing.{GoesOutInOrder};
 ghost use Rattle.zre_journal.specs.Laws.{Continues, HasEnded, RunsAlone, AreStrangers, AreFew, EndsOnce};
 ghost use Rattle.zre_journal.specs.Laws.{ShowsItsMessages, StartsWhereItWaits};
 ghost use Rattle.zre_journal.specs.Proper.{IsProper};
@@ -237,4 +244,50 @@ pub fn a_node_spoke_truly()
 pub fn messages_are_readable()
     ensures { (g : Config) (J : List Entry) (l : ℕ) → CanBe g
         → AllByRecursion IsReadable (queued l (chronicle g J)) }
+{}
+
+/// Nothing leaks: a link that was connected and had no end since is that of a known peer, and the other way round, and
+/// a connection that was answered as it was opened and had no end since is open, and the other way round. So there are
+/// never more than 256 links and 512 connections without an end.
+pub fn nothing_leaks()
+    ensures { (g : Config) (J : List Entry) → LeaksNothing g J }
+{}
+
+/// What comes on a connection, its opening and its end leave every peer alone but the one that the connection has
+/// introduced itself as: whether and how it is known, its messages and view, when it was active, its link and what is
+/// told of it are as before.
+pub fn connections_are_isolated()
+    ensures { (g : Config) (J : List Entry) → Isolates g J }
+{}
+
+/// A command is refused once, with the first reason that holds, and nothing else comes of it; or it isn't, and then
+/// exactly what it is to send is put on the link of each known peer that it is meant for, once, or ends that peer as
+/// slow, and nothing comes about on another link.
+pub fn commands_are_obeyed()
+    ensures { (g : Config) (J : List Entry) → Obeys g J }
+{}
+
+/// At a tick a peer of which nothing was heard for `expired`, by the journal's readings, is known no more, and told as
+/// gone where it was entered; any other isn't told as gone for that. One that was heard of less than `evasive` before
+/// each tick is never told as evasive.
+pub fn silence_is_told()
+    ensures { (g : Config) (J : List Entry) → TellsSilence g J }
+{}
+
+/// A connection is told as closed at a place of the journal exactly where the table of closings has a reason for it
+/// there, with that reason, and once; it is told as ignored, a peer is born and a known peer turns evasive exactly so.
+pub fn tables_are_told()
+    ensures { (g : Config) (J : List Entry) → TellsByTables g J }
+{}
+
+/// What is answered on a connection is the greeting as it opens, and then READY to its greeting and PONG to each PING
+/// that its octets say, in their order and each once: all of them while it is live, and from then on a front of them.
+pub fn answers_are_in_turn()
+    ensures { (g : Config) (J : List Entry) → AnswersInTurn g J }
+{}
+
+/// What the outside took of what a link had to send, joined, begins the link's text, now and after whatever comes later,
+/// and is as long as the chronicle says: nothing goes out twice, is passed over, or is changed after it went out.
+pub fn what_goes_out_is_the_text()
+    ensures { (g : Config) (J K : List Entry) → CanBe g → GoesOutInOrder g J K }
 {}

@@ -1,0 +1,5 @@
+use Rattle.zre_journal.proofs.Isolation.{isolates}
+use Rattle.zre_journal.proofs.laws.connections_are_isolated.Goals as goal
+
+pub returns : goal.returns
+returns c = λ g J. isolates g J

@@ -1,0 +1,5 @@
+use Rattle.zre_journal.proofs.Tables.{tells_by_tables}
+use Rattle.zre_journal.proofs.laws.tables_are_told.Goals as goal
+
+pub returns : goal.returns
+returns c = λ g J. tells_by_tables g J

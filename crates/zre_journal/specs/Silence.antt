@@ -1,0 +1,59 @@
+-- What is told of a peer of which nothing is heard, as far as ticks come.
+use Rattle.std.specs.Prelude.{◌≡◌, ℕ, ◌-◌, ◌<◌, ◌≤◌, Bool, true, false, List, ◌∷◌, ◌++◌, Some, None}
+use Rattle.std.specs.List.{list_any}
+use Rattle.std.specs.Str.{bytes_eq}
+use Rattle.zre_values.specs.declared.peer_id.PeerId.{PeerId}
+use Rattle.zre_outside.specs.declared.entry.Entry.{Entry}
+use Rattle.zre_outside.specs.declared.entry.Input.TheVariants as input
+use Rattle.zre_peer.specs.declared.causes.Cause.TheVariants as cause
+use Rattle.zre_peer.specs.declared.event.Event.{Event}
+use Rattle.zre_peer.specs.declared.event.Event.TheVariants as event
+use Rattle.zre_values.specs.declared.settings.Settings.{Settings as Config}
+use Rattle.zre_journal.specs.Chronicle.{Mark, Comes}
+use Rattle.zre_journal.specs.Events.{chronicle, events, events_at}
+use Rattle.zre_journal.specs.Happens.{with_entry}
+use Rattle.zre_journal.specs.Heard.{clock}
+use Rattle.zre_journal.specs.Peers.{Life, life, is_entered, view, active}
+use Rattle.zre_journal.specs.Places.{IsEntry}
+
+-- this is among these events
+pub record IsTold (told : Event) (es : List Event) : Type 0 where
+  pub before : List Event
+  pub later : List Event
+  pub there : es ≡ before ++ told ∷ later
+
+-- the event tells that p was silent for long, or for too long
+abbrev pub tells_evasive : PeerId → Event → Bool
+tells_evasive p (event.Evasive id name) = bytes_eq p.0 id.0
+tells_evasive p _ = false
+
+abbrev pub tells_expired : PeerId → Event → Bool
+tells_expired p (event.Exit id name cause.Expired) = bytes_eq p.0 id.0
+tells_expired p _ = false
+
+-- for how long nothing was heard of the peer of link l, by the journal's readings
+abbrev pub silent_for : ℕ → List Mark → ℕ
+silent_for l K = clock K - active l K
+
+-- A place at which the journal has a tick, with the known peer v: K is the chronicle with that entry.
+pub record IsTickOf (g : Config) (J earlier : List Entry) (e : Entry) (later : List Entry) (v : Life) : Type 0 where
+  pub is_entry : IsEntry g J earlier e later
+  pub is_tick : e.input ≡ input.Tick
+  pub is_known : life v.link (Comes e ∷ chronicle g earlier) ≡ Some v
+
+-- At a tick a known peer of which nothing was heard for `expired`, by the journal's readings, is known no more, and
+-- told as gone where it was entered; any other isn't told as gone for that. One that was heard of less than `evasive`
+-- before each tick is never told as evasive.
+pub record TellsSilence (g : Config) (J : List Entry) : Type 0 where
+  pub is_gone : (earlier : List Entry) (e : Entry) (later : List Entry) (v : Life) → IsTickOf g J earlier e later v
+      → let H = chronicle g earlier in let K = Comes e ∷ H in g.expired ≤ silent_for v.link K
+      → life v.link (with_entry g e H) ≡ None
+  pub is_told : (earlier : List Entry) (e : Entry) (later : List Entry) (v : Life) → IsTickOf g J earlier e later v
+      → let H = chronicle g earlier in let K = Comes e ∷ H in g.expired ≤ silent_for v.link K
+      → is_entered K v ≡ true → IsTold (event.Exit v.id (view v.link K).name cause.Expired) (events_at g e H)
+  pub not_sooner : (earlier : List Entry) (e : Entry) (later : List Entry) (v : Life) → IsTickOf g J earlier e later v
+      → let H = chronicle g earlier in let K = Comes e ∷ H in silent_for v.link K < g.expired
+      → list_any (tells_expired v.id) (events_at g e H) ≡ false
+  pub never_evasive : (p : PeerId) → ((earlier : List Entry) (e : Entry) (later : List Entry) (v : Life)
+      → IsTickOf g J earlier e later v → v.id ≡ p → let K = Comes e ∷ chronicle g earlier in
+      silent_for v.link K < g.evasive) → list_any (tells_evasive p) (events g J) ≡ false
