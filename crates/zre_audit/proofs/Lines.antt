@@ -17,7 +17,7 @@ use Rattle.zre_journal.specs.Links.{bodies}
 use Rattle.zre_journal.specs.Peers.{Life, lives, life, births}
 use Rattle.zre_journal.specs.Proper.{IsProper, Apart}
 use Rattle.zre_journal.proofs.Always.{always}
-use Rattle.zre_journal.proofs.Listed.{eqb-comm, some_is, any_found}
+use Rattle.zre_journal.proofs.Listed.{eqb-comm, some_is}
 use Rattle.zre_journal.proofs.Silent.{known_lives}
 use Rattle.zre_journal.proofs.Steps.{May}
 use Rattle.zre_audit.specs.Coding.{octets_of, code}
@@ -215,7 +215,9 @@ lines_added H K q b (OneIs p z c o w s) messages xs r = subst (λ d. ArePut K me
         subst (λ n. IsLine messages K n x) (sym here) (subst (IsLine messages K (births H + 1)) t.1 (record { of = w; said_is = sym fresh; within = tt }))
 
 -- where this message is asked to be said
-module _ (H K : List Mark) (q : IsProper H) (n : IsProper K) (b : Body) (says : Says b H K) (sent : ℕ → Option ℕ) (is_sent : (l : ℕ) → sent l ≡ option_map (λ (v : Life). length (bodies v.link K)) (life l K)) where
+-- on links of these peers alone
+module _ (H K : List Mark) (n : IsProper K) (b : Body) (says : Says b H K) (sent : ℕ → Option ℕ) (is_sent : (l : ℕ) → sent l ≡ option_map (λ (v : Life). length (bodies v.link K)) (life l K))
+    (vs : List Life) (apart : Apart (λ (v : Life). v.link) vs) (only : (l : ℕ) → list_any (eqb l) (map (λ (v : Life). v.link) vs) ≡ false → bodies l K ≡ bodies l H) where
   abbrev count_of : ℕ → ℕ
   count_of l = length (bodies l H)
 
@@ -233,18 +235,28 @@ module _ (H K : List Mark) (q : IsProper H) (n : IsProper K) (b : Body) (says : 
       by false e = refl
       by true e = let lt = ltb-true m m e in absurd (omega (arith, lt))
 
-  risen_here : (l : ℕ) (t : Bool) → has_risen sent count_of l ≡ t → list_any (eqb l) (risen_of sent count_of (lives H)) ≡ (is_some (life l H) && t)
-  risen_here l t e = risen_any sent count_of l (lives H) ∙ (λ i. any_found (λ (v : Life). v.link) l (lives H) i && e i)
+  abbrev is_reached : ℕ → Bool
+  is_reached l = list_any (eqb l) (map (λ (v : Life). v.link) vs)
+
+  risen_here : (l : ℕ) (t : Bool) → has_risen sent count_of l ≡ t → list_any (eqb l) (risen_of sent count_of vs) ≡ (is_reached l && t)
+  risen_here l t e = risen_any sent count_of l vs ∙ ap (λ z. is_reached l && z) e
+
+  reaches : (l : ℕ) → bodies l K ≡ bodies l H ++ b ∷ [] → is_reached l ≡ true
+  reaches l more = by (is_reached l) refl
+    where
+      by : (z : Bool) → is_reached l ≡ z → z ≡ true
+      by true e = refl
+      by false e = absurd (let same = ap (length {A = Body}) (only l e) in let longer = ap (length {A = Body}) more in let m = length-append (bodies l H) (b ∷ []) in omega (arith, same, longer, m))
 
   pub lines_said : (messages : List (List ℕ)) (octets : List ℕ) → octets ≡ octets_of b → (xs : List PutLine) → ArePut H messages xs
-      → ArePut K (messages ++ octets ∷ []) (all_noted (length messages) xs (risen_of sent count_of (lives H)))
+      → ArePut K (messages ++ octets ∷ []) (all_noted (length messages) xs (risen_of sent count_of vs))
   lines_said messages octets o xs r = record {
     count = all_noted_length (length messages) links xs ∙ r.count ∙ sym says.leaves.same_births;
-    lines_are = λ i y e. at_place i y (sym (all_noted_get (length messages) links (risen_apart sent count_of (lives H) q.living.apart) xs i) ∙ e);
+    lines_are = λ i y e. at_place i y (sym (all_noted_get (length messages) links (risen_apart sent count_of vs apart) xs i) ∙ e);
   }
     where
       links : List ℕ
-      links = risen_of sent count_of (lives H)
+      links = risen_of sent count_of vs
 
       long : length (messages ++ octets ∷ []) ≡ length messages + 1
       long = length-append messages (octets ∷ [])
@@ -276,7 +288,7 @@ module _ (H K : List Mark) (q : IsProper H) (n : IsProper K) (b : Body) (says : 
       is_put : (i : ℕ) (x : PutLine) → IsLine messages H (i + 1) x → PutOn b (i + 1) H K → IsLine (messages ++ octets ∷ []) K (i + 1) (either (length messages) (list_any (eqb (suc i)) links) x)
       is_put i x s (Nothing same) =
           let here : suc i ≡ i + 1 = omega arith in
-          let none : list_any (eqb (suc i)) links ≡ false = ap (λ n. list_any (eqb n) links) here ∙ risen_here (i + 1) false (none_risen (i + 1) same (life (i + 1) K) refl) ∙ off (is_some (life (i + 1) H)) in
+          let none : list_any (eqb (suc i)) links ≡ false = ap (λ n. list_any (eqb n) links) here ∙ risen_here (i + 1) false (none_risen (i + 1) same (life (i + 1) K) refl) ∙ off (is_reached (i + 1)) in
           subst (λ t. IsLine (messages ++ octets ∷ []) K (i + 1) (either (length messages) t x)) (sym none) (unchanged (i + 1) x s same)
         where
           off : (z : Bool) → (z && false) ≡ false
@@ -284,7 +296,7 @@ module _ (H K : List Mark) (q : IsProper H) (n : IsProper K) (b : Body) (says : 
           off false = refl
       is_put i x s (Once more old now) =
           let here : suc i ≡ i + 1 = omega arith in
-          let some : list_any (eqb (suc i)) links ≡ true = ap (λ n. list_any (eqb n) links) here ∙ risen_here (i + 1) true (one_risen (i + 1) more now) ∙ on (is_some (life (i + 1) H)) old in
+          let some : list_any (eqb (suc i)) links ≡ true = ap (λ n. list_any (eqb n) links) here ∙ risen_here (i + 1) true (one_risen (i + 1) more now) ∙ on (is_reached (i + 1)) (reaches (i + 1) more) in
           subst (λ t. IsLine (messages ++ octets ∷ []) K (i + 1) (either (length messages) t x)) (sym some) (changed (i + 1) x s more)
         where
           on : (z : Bool) → z ≡ true → (z && true) ≡ true

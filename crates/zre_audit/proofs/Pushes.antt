@@ -1,6 +1,7 @@
 -- What an entry puts on links that asks for a message to be said: on each link that message, or none.
-use Rattle.std.proofs.Common.{◌≡◌, ℕ, ◌+◌, Bool, true, false, cond, not, ◌||◌, eqb, ltb, List, [], ◌∷◌, ◌++◌, length, filter, Option, Some, None, IsSome, refl, sym, ap, ◌∙◌, subst, eqb-true, eq-eqb}
-use Rattle.std.specs.List.{AllByRecursion}
+use Rattle.std.proofs.Common.{◌≡◌, ℕ, ◌+◌, Bool, true, false, cond, not, ◌||◌, eqb, ltb, List, [], ◌∷◌, ◌++◌, length, filter, map, Option, Some, None, IsSome, is_some, refl, sym, ap, ◌∙◌, subst, true≢false, eqb-true, eq-eqb}
+use Rattle.std.specs.Prelude.{option_to_list}
+use Rattle.std.specs.List.{AllByRecursion, list_any}
 use Rattle.zre_values.specs.declared.peer_id.PeerId.{PeerId}
 use Rattle.zre_values.specs.declared.limits.TheConstants.{UNSENT_OCTETS, GROUP_OCTETS}
 use Rattle.zre_outside.specs.declared.entry.Command.TheVariants as command
@@ -23,9 +24,10 @@ use Rattle.zre_journal.specs.Proper.{IsProper, Apart}
 use Rattle.zre_journal.specs.Pushes.{push, push_all}
 use Rattle.zre_journal.proofs.Joined.{after-append}
 use Rattle.zre_journal.proofs.Known.{life_stays, known_of, AreKnown, each_known, still_known}
-use Rattle.zre_journal.proofs.Listed.{All-kept, Apart-kept, eqb-comm}
+use Rattle.zre_journal.proofs.Listed.{All-kept, Apart-kept, eqb-comm, some_is, any_found}
 use Rattle.zre_journal.proofs.Silent.{Comes-proper}
-use Rattle.zre_audit.specs.Seen.{asked_by}
+use Rattle.zre_audit.specs.Kept.{reached}
+use Rattle.zre_audit.specs.Seen.{asked_by, whispered_by}
 use Rattle.zre_audit.proofs.Still.{BearsNone, Leaves, leaves_all, put_bodies}
 
 -- ---- what is put on one link
@@ -157,6 +159,22 @@ module _ (g : Config) (M : List Mark) (q : IsProper M) where
         puts = λ l. pushes_put g b l vs M (Apart-kept (λ (v : Life). v.link) (is_member g group M) (lives M) q.living.apart) (All-kept (λ (v : Life). IsSome (life v.link M)) (is_member g group M) (lives M) (each_known M));
       })
 
+  -- where it is said to one peer, nothing is put on the links of others
+  or_first : (a : Bool) → (a || false) ≡ false → a ≡ false
+  or_first false e = refl
+  or_first true e = e
+
+  either_same : (l : ℕ) (t : Bool) (hs ks : List Mark) → bodies l (after hs M) ≡ bodies l M → bodies l (after ks M) ≡ bodies l M → bodies l (after (cond t hs ks) M) ≡ bodies l M
+  either_same l true hs ks x y = x
+  either_same l false hs ks x y = y
+
+  whisper_far : (p : PeerId) (content : List (List ℕ)) (l : ℕ) (o : Option Life) → list_any (eqb l) (map (λ (v : Life). v.link) (option_to_list o)) ≡ false → bodies l (after (at_whisper g p content o M) M) ≡ bodies l M
+  whisper_far p content l None f = refl
+  whisper_far p content l (Some v) f =
+      let b = body.Whisper content in
+      either_same l (not (is_entered M v)) (Refuses (refuse.NoPeer p) ∷ []) (cond (is_too_big g b) (Refuses refuse.TooBig ∷ []) (push g v.link b M)) refl
+      (either_same l (is_too_big g b) (Refuses refuse.TooBig ∷ []) (push g v.link b M) refl ((push_far g b l v.link M (or_first (eqb l v.link) f)).same_bodies))
+
 module _ (g : Config) (e : Entry) (H : List Mark) (q : IsProper H) (b : Body) where
   abbrev M : List Mark
   M = Comes e ∷ H
@@ -188,3 +206,36 @@ module _ (g : Config) (e : Entry) (H : List Mark) (q : IsProper H) (b : Body) wh
       by : (t : Bool) → Says b M (after (cond t [] (at_input g e.input H M)) M)
       by true = record { leaves = record { same_births = refl; same_peers = λ l. refl }; puts = λ l. Nothing refl }
       by false = asked e.input z
+
+  -- on the links of no other peers
+  only_asked : (i : Input) → asked_by i ≡ Some b → (l : ℕ) → list_any (eqb l) (map (λ (v : Life). v.link) (reached (whispered_by i) H)) ≡ false → bodies l (after (at_input g i H M) M) ≡ bodies l H
+  only_asked (input.Do (command.Whisper p content)) z l f = whisper_far g M (Comes-proper H q e) p content l (life_of p M) f
+  only_asked (input.Do (command.Shout group content)) z l f = by ((asked (input.Do (command.Shout group content)) z).puts l)
+    where
+      none : is_some (life l H) ≡ false
+      none = sym (any_found (λ (v : Life). v.link) l (lives H)) ∙ f
+
+      by : PutOn b l M (after (at_shout g group content M) M) → bodies l (after (at_shout g group content M) M) ≡ bodies l H
+      by (Nothing same) = same
+      by (Once more s t) = absurd (let v = some_is (life l H) s in true≢false (sym (ap (λ o. is_some o) v.1) ∙ none))
+  only_asked (input.Do (command.Join group)) z l f = absurd (let y : None ≡ Some b = z in cc)
+  only_asked (input.Do (command.Leave group)) z l f = absurd (let y : None ≡ Some b = z in cc)
+  only_asked (input.Do (command.Bad n)) z l f = absurd (let y : None ≡ Some b = z in cc)
+  only_asked (input.Do command.Quit) z l f = absurd (let y : None ≡ Some b = z in cc)
+  only_asked _ z l f = absurd (let y : None ≡ Some b = z in cc)
+
+  pub entry_only : asked_by e.input ≡ Some b → (l : ℕ) → list_any (eqb l) (map (λ (v : Life). v.link) (reached (whispered_by e.input) H)) ≡ false → bodies l (with_entry g e H) ≡ bodies l H
+  entry_only z l f = by (has_stopped H)
+    where
+      by : (t : Bool) → bodies l (after (cond t [] (at_input g e.input H M)) M) ≡ bodies l H
+      by true = refl
+      by false = only_asked e.input z l f
+
+-- they have links of their own
+pub reached_apart : (H : List Mark) → IsProper H → (to : Option PeerId) → Apart (λ (v : Life). v.link) (reached to H)
+reached_apart H q None = q.living.apart
+reached_apart H q (Some p) = by (life_of p H)
+  where
+    by : (o : Option Life) → Apart (λ (v : Life). v.link) (option_to_list o)
+    by None = tt
+    by (Some v) = (tt, tt)

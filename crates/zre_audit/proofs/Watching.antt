@@ -9,6 +9,7 @@ use Rattle.zre_journal.specs.Chronicle.{Mark}
 use Rattle.zre_journal.specs.Done.{acts_at}
 use Rattle.zre_journal.specs.Events.{chronicle, events, events_at, acts}
 use Rattle.zre_journal.specs.Happens.{with_entry}
+use Rattle.zre_journal.specs.Links.{bodies}
 use Rattle.zre_journal.proofs.Always.{is_proper}
 use Rattle.zre_journal.proofs.Joined.{continues}
 use Rattle.zre_node.specs.Asked.{sent_after}
@@ -23,14 +24,14 @@ use Rattle.zre_audit.specs.Exchanged.{heard, put, is_same_said}
 use Rattle.zre_audit.specs.Prefixes.{first_short}
 use Rattle.zre_audit.specs.Watching.{Watches}
 use Rattle.zre_audit.specs.declared.watch.Watch.{Watch}
-use Rattle.zre_audit.specs.Kept.{ArePut, lines_of, lines_with, all_noted, risen, counts_after}
-use Rattle.zre_audit.specs.Seen.{asked_by, announced_by, born_with}
+use Rattle.zre_audit.specs.Kept.{ArePut, lines_of, lines_with, all_noted, risen, reached, counts_of}
+use Rattle.zre_audit.specs.Seen.{asked_by, whispered_by, announced_by, born_with}
 use Rattle.zre_audit.specs.Told.{Runs, runs_in, runs_with, runs_after}
 use Rattle.zre_audit.specs.declared.put.PutLine.{PutLine}
 use Rattle.zre_audit.proofs.Births.{entry_adds}
 use Rattle.zre_audit.proofs.Judged.{first-code, heard-said, put-said, judged_right}
 use Rattle.zre_audit.proofs.Lines.{lines_added, lines_said, lines_put}
-use Rattle.zre_audit.proofs.Pushes.{Says, entry_says}
+use Rattle.zre_audit.proofs.Pushes.{Says, entry_says, entry_only, reached_apart}
 use Rattle.zre_audit.proofs.Told.{hears}
 
 same_rest : {A : Type 0} (xs ys zs : List A) → xs ++ ys ≡ xs ++ zs → ys ≡ zs
@@ -69,13 +70,14 @@ module _ (g : Config) (J : List Entry) (e : Entry) (n : Node) (s : Step) (t : Is
 
   -- what was put, where this is
   pub said_then : (b : Body) → asked_by e.input ≡ Some b → (octets : List ℕ) → octets ≡ octets_of b → (messages new_messages : List (List ℕ)) (xs ys : List PutLine) → ArePut H messages xs
-      → new_messages ≡ messages ++ octets ∷ [] → ys ≡ all_noted (length messages) xs (risen (sent_after g (J ++ e ∷ [])) (counts_after g J)) → ArePut (chronicle g (J ++ e ∷ [])) new_messages ys
+      → new_messages ≡ messages ++ octets ∷ [] → ys ≡ all_noted (length messages) xs (risen (sent_after g (J ++ e ∷ [])) (counts_of H (reached (whispered_by e.input) H))) → ArePut (chronicle g (J ++ e ∷ [])) new_messages ys
   said_then b asked octets o messages new_messages xs ys was more lines =
       subst (λ ms. ArePut (chronicle g (J ++ e ∷ [])) ms ys) (sym more)
       (subst (ArePut (chronicle g (J ++ e ∷ [])) (messages ++ octets ∷ [])) (sym lines)
-      (lines_said H (chronicle g (J ++ e ∷ [])) (is_proper g J) (is_proper g (J ++ e ∷ [])) b
+      (lines_said H (chronicle g (J ++ e ∷ [])) (is_proper g (J ++ e ∷ [])) b
       (subst (λ K. Says b H K) (sym happened) (entry_says g e H (is_proper g J) b asked))
-      (sent_after g (J ++ e ∷ [])) (λ l. refl) messages octets o xs was))
+      (sent_after g (J ++ e ∷ [])) (λ l. refl) (reached (whispered_by e.input) H) (reached_apart H (is_proper g J) (whispered_by e.input))
+      (λ l f. ap (bodies l) happened ∙ entry_only g e H (is_proper g J) b asked l f) messages octets o xs was))
 
 -- ---- what watches have of each other
 

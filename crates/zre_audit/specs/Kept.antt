@@ -1,15 +1,15 @@
 -- How links are kept.
 use Rattle.std.specs.Prelude.{◌≡◌, ℕ, zero, suc, ◌+◌, ◌<◌, false, List, [], ◌∷◌, ◌++◌, length, map, flat_map, Option}
-use Rattle.std.specs.Prelude.{Some, None, bytes_eq, nat_lt, slice_get, slice_index_or}
+use Rattle.std.specs.Prelude.{Some, None, option_to_list, bytes_eq, nat_lt, slice_get, slice_index_or}
 use Rattle.std.specs.List.{AllByRecursion, filter, fold}
-use Rattle.std.specs.Option.{option_map_or}
+use Rattle.std.specs.Option.{option_map_or, unwrap_or}
 use Rattle.zre_values.specs.declared.peer_id.PeerId.{PeerId}
 use Rattle.zre_outside.specs.declared.entry.Entry.{Entry}
 use Rattle.zre_values.specs.declared.settings.Settings.{Settings as Config}
-use Rattle.zre_journal.specs.Events.{chronicle}
 use Rattle.zre_journal.specs.Chronicle.{Mark}
 use Rattle.zre_journal.specs.Links.{bodies}
-use Rattle.zre_journal.specs.Peers.{Life, lives, births}
+use Rattle.zre_journal.specs.Peers.{Life, lives, life_of, births}
+use Rattle.zre_node.specs.Asked.{sent_after}
 use Rattle.zre_audit.specs.Coding.{code}
 use Rattle.zre_audit.specs.Exchanged.{peer_on}
 use Rattle.zre_audit.specs.declared.put.PutLine.{PutLine}
@@ -52,10 +52,18 @@ abbrev pub lines_of : List (List ℕ) → List PutLine → PeerId → List (List
 lines_of messages lines p =
     map (λ (x : PutLine). octets_at messages x.said) (filter (λ (x : PutLine). bytes_eq x.id.0 p.0) lines)
 
--- how many messages were put on the links of the known peers
-abbrev pub counts_after : Config → List Entry → List Count
-counts_after g J =
-    map (λ (v : Life). record { link = v.link; count = length (bodies v.link (chronicle g J)) }) (lives (chronicle g J))
+-- the known peers on whose links a message may be put: the one that it is to be said to, where it is one, or all
+abbrev pub reached : Option PeerId → List Mark → List Life
+reached None H = lives H
+reached (Some p) H = option_to_list (life_of p H)
+
+-- how many messages were put on a link, as a node answers it
+abbrev pub count_on : Config → List Entry → ℕ → Count
+count_on g J l = record { link = l; count = unwrap_or (sent_after g J l) 0 }
+
+-- how many messages were put on the links of these peers
+abbrev pub counts_of : List Mark → List Life → List Count
+counts_of H vs = map (λ (v : Life). record { link = v.link; count = length (bodies v.link H) }) vs
 
 -- a line is that of link l
 pub record IsLine (messages : List (List ℕ)) (H : List Mark) (l : ℕ) (x : PutLine) : Type 0 where

@@ -20,6 +20,11 @@ asked_by (Do (command.Whisper p content)) = Some (Whisper content)
 asked_by (Do (command.Shout group content)) = Some (Shout group content)
 asked_by _ = None
 
+-- the peer that it is to be said to, where it is to be said to one
+abbrev pub whispered_by : Input → Option PeerId
+whispered_by (Do (command.Whisper p content)) = Some p
+whispered_by _ = None
+
 -- the peer that a datagram announces
 abbrev pub announced_by : Input → Option PeerId
 announced_by (Datagram from octets) = option_map (λ b. b.0) (beacon_in octets)

@@ -1,13 +1,14 @@
 //! What was said on links. A message that went out on many links is kept once.
 
-ghost use Rattle.std.specs.Prelude.{◌≡◌, [], ◌∷◌, ◌++◌, length, false, nat_lt, List as Values, IfOk, OnOk};
+ghost use Rattle.std.specs.Prelude.{◌≡◌, [], ◌∷◌, ◌++◌, length, false, nat_lt, List as Values, Some, None, IfOk, OnOk};
 ghost use Rattle.std.specs.Option.{option_map_or};
 ghost use Rattle.zre_values.specs.declared.settings.Settings.{Settings as Config};
+ghost use Rattle.zre_journal.specs.Events.{chronicle};
 ghost use Rattle.zre_node.specs.Asked.{sent_after};
 ghost use Rattle.zre_node.specs.Journal.{StandsFor};
 ghost use Rattle.zre_outside.specs.declared.entry.Entry.{Entry};
 ghost use Rattle.zre_audit.specs.Kept.{octets_at, with_place, noted, all_noted, risen as risen_among};
-ghost use Rattle.zre_audit.specs.Kept.{lines_with, lines_of, counts_after};
+ghost use Rattle.zre_audit.specs.Kept.{lines_with, lines_of, reached, count_on, counts_of};
 
 use std::alloc::Global;
 use zre_node::Node;
@@ -48,18 +49,53 @@ impl Drop for Put {
     }
 }
 
-/// How many messages were put on the links of the known peers.
-pub(crate) fn counts(alloc: Global, node: &Node) -> Result<PutCounts, OutOfMemory>
+// How many messages were put on a link.
+fn count_on(node: &Node, link: u64) -> Count
+    ensures { (g : Config) (J : Values Entry) → StandsFor g J node.now → result ≡ count_on g J link }
+{
+    let count = node.sent(link).unwrap_or(0);
+    Count { link, count }
+}
+
+// How many messages were put on the link of a peer, if it is known.
+fn count_to(alloc: Global, node: &Node, id: PeerId) -> Result<PutCounts, OutOfMemory>
     ensures { (g : Config) (J : Values Entry) → StandsFor g J node.now
-        → IfOk result (λ counts. counts ≡ counts_after g J) }
+        → IfOk result (λ counts. counts ≡ counts_of (chronicle g J) (reached (Some id) (chronicle g J))) }
+{
+    let mut counts = PutCounts::new(alloc);
+    if let Some(link) = node.link_of(id) {
+        counts.push(count_on(node, link))?;
+    }
+    Ok(counts)
+}
+
+// How many messages were put on the links of the known peers.
+fn all_counts(alloc: Global, node: &Node) -> Result<PutCounts, OutOfMemory>
+    ensures { (g : Config) (J : Values Entry) → StandsFor g J node.now
+        → IfOk result (λ counts. counts ≡ counts_of (chronicle g J) (reached None (chronicle g J))) }
 {
     let links = node.links()?;
     let mut counts = PutCounts::new(alloc);
     for link in links.as_slice() {
-        let count = node.sent(*link).unwrap_or(0);
-        counts.push(Count { link: *link, count })?;
+        counts.push(count_on(node, *link))?;
     }
     Ok(counts)
+}
+
+/// How many messages were put on the links on which one may be put: on that of the peer that it is to be said to, if it
+/// is one, or on those of all known peers.
+pub(crate) fn counts(
+    alloc: Global,
+    node: &Node,
+    to: Option<PeerId>,
+) -> Result<PutCounts, OutOfMemory>
+    ensures { (g : Config) (J : Values Entry) → StandsFor g J node.now
+        → IfOk result (λ counts. counts ≡ counts_of (chronicle g J) (reached to (chronicle g J))) }
+{
+    match to {
+        Some(id) => count_to(alloc, node, id),
+        None => all_counts(alloc, node),
+    }
 }
 
 // Whether more than this was put on a link by now.

@@ -4,7 +4,7 @@ ghost use Rattle.std.specs.Prelude.{◌≡◌, option_map, IfOk};
 ghost use Rattle.std.specs.List.{list_any};
 ghost use Rattle.zre_msg.specs.declared.message.Body.TheVariants.{Whisper, Shout};
 ghost use Rattle.zre_audit.specs.Coding.{octets_of};
-ghost use Rattle.zre_audit.specs.Seen.{asked_by, announced_by, first_entered as first, born_with, is_connect};
+ghost use Rattle.zre_audit.specs.Seen.{asked_by, whispered_by, announced_by, first_entered as first, born_with, is_connect};
 
 use crate::coding::{push_shout, push_whisper};
 use std::alloc::Global;
@@ -39,6 +39,16 @@ pub(crate) fn asked(alloc: Global, input: &Input) -> Result<Option<Octets>, OutO
             Ok(Some(shout(alloc, group.as_slice(), content)?))
         }
         _ => Ok(None),
+    }
+}
+
+/// The peer that a message is to be said to, where a user asks for one to be said to one peer.
+pub(crate) fn whispered(input: &Input) -> Option<PeerId>
+    ensures { result ≡ whispered_by input.now }
+{
+    match input {
+        Input::Do(Command::Whisper { peer, .. }) => Some(*peer),
+        _ => None,
     }
 }
 

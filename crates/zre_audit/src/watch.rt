@@ -11,7 +11,7 @@ ghost use Rattle.zre_audit.specs.Watching.{Watches};
 
 use crate::peer_runs::PeerRuns;
 use crate::put::{Put, counts};
-use crate::seen::{announced, asked, born};
+use crate::seen::{announced, asked, born, whispered};
 use std::alloc::Global;
 use zre_journal::Config;
 use zre_node::Node;
@@ -69,7 +69,8 @@ impl Watch {
         ensures { (g : ConfigValue) (J : List EntryValue) (b : Body) → asked_by entry.input ≡ Some b
             → octets ≡ octets_of b → Watches g J self.old → OnOk result (Watches g (J ++ entry ∷ []) self.new) }
     {
-        let before = counts(self.alloc, &self.node)?;
+        let to = whispered(&entry.input);
+        let before = counts(self.alloc, &self.node, to)?;
         let step = self.node.step(entry)?;
         self.heard.take_all(step.events.as_slice())?;
         self.put.add_message(octets, before.as_slice(), &self.node)?;

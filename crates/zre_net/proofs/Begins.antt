@@ -1,12 +1,13 @@
 -- A network before any move, and who runs at a node from now on.
-use Rattle.std.proofs.Common.{◌≡◌, ℕ, zero, suc, ◌<◌, Bool, true, false, cond, eqb, List, [], length, replicate, Option, Some, None, refl, sym, ap, ◌∙◌, subst, eqb-true, eq-eqb, true≢false}
+use Rattle.std.proofs.Common.{◌≡◌, ℕ, zero, suc, ◌<◌, Bool, true, false, cond, eqb, List, [], length, drop, replicate, Option, Some, None, refl, sym, ap, ◌∙◌, subst, arith, eqb-true, eq-eqb, true≢false}
 use Rattle.std.specs.Prelude.{slice_set, option_and_then, sum_by}
+use Rattle.std.specs.List.{list_all}
 use Rattle.zre_net.specs.declared.running.network.Network.{Network}
 use Rattle.zre_net.specs.declared.running.rows.Started.{Started}
 use Rattle.zre_net.specs.declared.running.rows.Carrier.{Carrier}
 use Rattle.zre_net.specs.Lines.{octets_in}
 use Rattle.zre_net.specs.Lists.{nth}
-use Rattle.zre_net.specs.Rows.{running_at, with_running}
+use Rattle.zre_net.specs.Rows.{running_at, fits_owner, with_running}
 use Rattle.zre_net.specs.Running.{AreStarted, AreConns, StandsAfter}
 use Rattle.zre_net.proofs.Listing.{got_same, got_other}
 
@@ -15,13 +16,14 @@ none_at zero n = refl
 none_at (suc k) zero = refl
 none_at (suc k) (suc n) = none_at k n
 
-pub begins : (net : Network) → net.said ≡ [] → net.started.items ≡ [] → net.running.items ≡ replicate 17 None → net.owners ≡ [] → net.beacons ≡ [] → net.links ≡ [] → net.conns.items ≡ [] → net.queued ≡ 0 → net.pending ≡ 0 → StandsAfter [] net
-begins net said started running owners beacons links conns queued pending = record {
+pub begins : (net : Network) → net.handed ≡ 0 → net.said ≡ [] → net.started.items ≡ [] → net.running.items ≡ replicate 17 None → net.owners ≡ [] → net.beacons ≡ [] → net.links ≡ [] → net.conns.items ≡ [] → net.queued ≡ 0 → net.pending ≡ 0 → StandsAfter [] net
+begins net handed said started running owners beacons links conns queued pending = record {
   nodes = record {
-    said = said;
+    said = record { few = omega (arith, handed); is = said ∙ ap (λ n. drop n []) (sym handed) };
     started = subst (λ xs. AreStarted [] xs) (sym started) (record { count = refl; each = λ k a e. none k e; none_yet = λ a z. refl });
     runs = λ n. ap (running_at n) running ∙ none_at 17 n;
-    owners = owners;
+    live = λ n k e. nobody k (sym (ap (running_at n) running ∙ none_at 17 n) ∙ e);
+    owners = λ n id. ap (list_all (fits_owner n id)) owners;
     beacons = beacons;
     links = links;
     known = tt;
@@ -31,6 +33,9 @@ begins net said started running owners beacons links conns queued pending = reco
   pending_is = pending ∙ ap (λ xs. sum_by (λ (y : Carrier). length y.waiting) xs) (sym conns);
 }
   where
+    nobody : {B : Type 0} (k : ℕ) → None ≡ Some k → B
+    nobody k e = absurd cc
+
     none : {A B : Type 0} {x : A} (k : ℕ) → nth k [] ≡ Some x → B
     none zero e = absurd cc
     none (suc k) e = absurd cc

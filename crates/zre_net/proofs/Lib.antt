@@ -1,5 +1,7 @@
 pub mod Agreed
 mod Agreeing
+mod Alive
+mod Asked
 mod Begins
 mod Carrying
 mod Computed
@@ -10,6 +12,7 @@ mod Ears
 mod Fate
 pub mod Fielded
 mod Grows
+pub mod Handing
 mod Hearing
 mod Journals
 mod Lines
@@ -24,8 +27,9 @@ mod Piecing
 mod Plays
 mod Putting
 mod Quiet
+mod Rests
 mod Rooms
-mod Runs
+pub mod Runs
 mod Same
 mod Sending
 pub mod Sent
@@ -33,3 +37,4 @@ mod Short
 mod Starting
 mod Staying
 mod Stepping
+mod Texts

@@ -1,6 +1,7 @@
 -- A connection opens.
 use Rattle.std.proofs.Common.{◌≡◌, ◌⊎◌, ℕ, ◌+◌, Bool, true, false, ◌&&◌, is_some, List, [], ◌∷◌, ◌++◌, length, Some, None, refl, sym, ap, ◌∙◌, subst, inl, inr, arith}
 use Rattle.std.specs.Prelude.{sum_by, option_map}
+use Rattle.std.specs.List.{list_all}
 use Rattle.std.proofs.lemmas.List.Sums.{sum_by_push}
 use Rattle.zre_outside.specs.declared.entry.Input.TheVariants as input
 use Rattle.zre_mailbox.specs.Conn.{conn_after}
@@ -16,7 +17,8 @@ use Rattle.zre_net.specs.Lists.{nth}
 use Rattle.zre_net.specs.Numbers.{Route, CarriedConn, routes, conns, conn_of}
 use Rattle.zre_net.specs.Grammar.{may_come}
 use Rattle.zre_net.specs.Lines.{octets_in}
-use Rattle.zre_net.specs.Rows.{Fits, running_at}
+use Rattle.zre_net.specs.Said.{said_in, IsRest}
+use Rattle.zre_net.specs.Rows.{Fits, running_at, has_node, fits_owner}
 use Rattle.zre_net.specs.Running.{AreNodes, IsConn, HasConn, StandsAfter, AreStarted, Finds, IsPlayed, way_of}
 use Rattle.zre_net.proofs.Connecting.{known_later, conn_still, silent_more}
 use Rattle.zre_net.proofs.Hearing.{fits_new}
@@ -80,12 +82,13 @@ module _ (H : List Happening) (g n at : ℕ) (net new : Network) (s : StandsAfte
 
 -- ---- as a move
 
-pub same_fields : (H : List Happening) (net mid : Network) → mid.said ≡ net.said → mid.started ≡ net.started → mid.running ≡ net.running → mid.owners ≡ net.owners → mid.beacons ≡ net.beacons → mid.links ≡ net.links → mid.queued ≡ net.queued → AreNodes H net → AreNodes H mid
+pub same_fields : (H : List Happening) (net mid : Network) → IsRest mid.handed (said_in H) mid.said → mid.started ≡ net.started → mid.running ≡ net.running → mid.owners ≡ net.owners → mid.beacons ≡ net.beacons → mid.links ≡ net.links → mid.queued ≡ net.queued → AreNodes H net → AreNodes H mid
 same_fields H net mid said started running owners beacons links queued n = record {
-  said = said ∙ n.said;
+  said = said;
   started = subst (λ xs. AreStarted H xs.items) (sym started) n.started;
   runs = λ k. subst (λ r. Finds H k (running_in k H) (running_at k r.items)) (sym running) (n.runs k);
-  owners = owners ∙ n.owners;
+  live = λ k j e. ap (λ xs. has_node (nth j xs.items)) started ∙ n.live k j (ap (λ r. running_at k r.items) (sym running) ∙ e);
+  owners = λ k id. ap (list_all (fits_owner k id)) owners ∙ n.owners k id;
   beacons = beacons ∙ n.beacons;
   links = links ∙ n.links;
   known = n.known;

@@ -33,7 +33,7 @@ use Rattle.zre_net.specs.Lists.{nth}
 use Rattle.zre_net.specs.Numbers.{Route, CarriedConn, routes, route_in, broadcasts, broadcast_in, conns}
 use Rattle.zre_net.specs.Rows.{running_at, Fits, IsHeard}
 use Rattle.zre_net.specs.Running.{HasStarted, AreStarted, AreNodes, IsConn, HasConn, StandsAfter, IsPlayed, Receives, sent_of, way_of}
-use Rattle.zre_net.specs.Said.{said_in}
+use Rattle.zre_net.specs.Said.{said_in, IsRest}
 use Rattle.zre_net.specs.Sender.{is_slight}
 use Rattle.zre_net.specs.Sending.{HasSent}
 use Rattle.zre_net.proofs.Connecting.{known_later, conn_still, silent_more}
@@ -261,9 +261,10 @@ module _ (H : List Happening) (x i j at : ℕ) (w : Incarnation) (known : IsKnow
     pub whole_stands : StandsAfter W net
     whole_stands = record {
       nodes = record {
-        said = st.nodes.said ∙ said_same;
+        said = subst (λ es. IsRest net.handed es net.said) said_same st.nodes.said;
         started = started_same;
         runs = λ n. finds_stays H2 W (λ v k. k) n (running n H) (running_at n net.running.items) (st.nodes.runs n);
+        live = st.nodes.live;
         owners = st.nodes.owners;
         beacons = st.nodes.beacons ∙ ap (λ xs. map sent_of xs) broadcasts_same;
         links = st.nodes.links ∙ ap (λ xs. map way_of xs) routes_same;

@@ -1,6 +1,7 @@
 -- Moves that bring no entry: a node is gone, and a connection is made to carry more.
 use Rattle.std.proofs.Common.{◌≡◌, ℕ, ◌+◌, Bool, true, false, cond, eqb, List, [], ◌∷◌, ◌++◌, length, Option, Some, None, is_some, refl, sym, ap, ◌∙◌, subst, arith, eq-eqb, length-append}
 use Rattle.std.specs.Prelude.{slice_get, slice_set, sum_by}
+use Rattle.std.specs.List.{list_all}
 use Rattle.std.specs.Option.{option_map, option_map_or}
 use Rattle.zre_zmtp.specs.declared.writing.SocketType.TheVariants as socket
 use Rattle.zre_zmtp.specs.Written.{ready_frame}
@@ -19,18 +20,20 @@ use Rattle.zre_net.specs.History.{Incarnation, Happening, Happens, IsKnown, inca
 use Rattle.zre_net.specs.Lines.{octets_in}
 use Rattle.zre_net.specs.Lists.{nth}
 use Rattle.zre_net.specs.Numbers.{Route, CarriedConn, routes, conns, queued_on}
-use Rattle.zre_net.specs.Rows.{running_at, with_running, HasStopped, part_octets, IsSpelledAt, IsLoaded, Fits}
+use Rattle.zre_net.specs.Said.{said_in, IsRest}
+use Rattle.zre_net.specs.Rows.{running_at, with_running, has_node, fits_owner, HasStopped, part_octets, IsSpelledAt, IsLoaded, Fits}
 use Rattle.zre_net.specs.Running.{IsStarted, HasStarted, AreStarted, Finds, AreNodes, IsConn, HasConn, AreConns, StandsAfter, IsPlayed}
 use Rattle.zre_net.proofs.Plays.{played, not_running, runs_there, conn_found, conn_missing, IsFound}
-use Rattle.zre_net.proofs.Listing.{some_one, nth_map, set_length, sum_set, all_map}
+use Rattle.zre_net.proofs.Alive.{live_kept}
+use Rattle.zre_net.proofs.Listing.{some_one, apart, nth_map, set_length, sum_set, all_map}
 use Rattle.zre_net.proofs.Staying.{rows_set, start_stays, conn_stays, finds_stays}
 
 -- ---- a node is gone
 
 module _ (H : List Happening) (n k place : ℕ) (net new : Network) (s : StandsAfter H net) (was now : Started) (under : k ≡ place + 1) (before : slice_get net.started.items place ≡ Some was) (gone : HasStopped was now)
     (rows : new.started.items ≡ slice_set net.started.items place now) (runs : with_running n None net.running.items new.running.items)
-    (owners : new.owners ≡ net.owners) (said : new.said ≡ net.said) (beacons : new.beacons ≡ net.beacons) (links : new.links ≡ net.links) (conns_stay : new.conns ≡ net.conns)
-    (queued : new.queued ≡ net.queued) (pending_stay : new.pending ≡ net.pending) where
+    (owners : new.owners ≡ net.owners) (said : IsRest new.handed (said_in H) new.said) (beacons : new.beacons ≡ net.beacons) (links : new.links ≡ net.links) (conns_stay : new.conns ≡ net.conns)
+    (queued : new.queued ≡ net.queued) (pending_stay : new.pending ≡ net.pending) (runner : Some k ≡ running_at n net.running.items) where
   abbrev N : List Happening
   N = Happens (move.Crash n) None ∷ H
 
@@ -46,12 +49,28 @@ module _ (H : List Happening) (n k place : ℕ) (net new : Network) (s : StandsA
       by true = refl
       by false = finds_stays H N (λ c k. k) j (running j H) (running_at j net.running.items) (s.nodes.runs j)
 
+  -- no other node runs by the start that is gone
+  another : (j i : ℕ) → eqb j n ≡ false → running_at j net.running.items ≡ Some i → i ≡ place + 1 → ⊥
+  another j i far e same =
+      let one = runs_there H net j i s (sym e) in
+      let two = runs_there H net n k s runner in
+      let it = some_one (sym one.there ∙ ap (λ m. nth m (incarnations H)) (same ∙ sym under) ∙ two.there) in
+      apart j n far (sym one.node ∙ ap (λ (w : Incarnation). w.node) it ∙ two.node)
+
+  live : (j i : ℕ) → running_at j new.running.items ≡ Some i → has_node (nth i new.started.items) ≡ true
+  live j i e = by (eqb j n) refl (sym (runs j) ∙ e)
+    where
+      by : (t : Bool) → eqb j n ≡ t → cond t None (running_at j net.running.items) ≡ Some i → has_node (nth i new.started.items) ≡ true
+      by true q z = absurd cc
+      by false q z = ap (λ xs. has_node (nth i xs)) rows ∙ live_kept net.started.items place i now (another j i q z) (s.nodes.live j i z)
+
   nodes : AreNodes N new
   nodes = record {
-    said = said ∙ s.nodes.said;
+    said = said;
     started = record { count = ap (λ xs. length xs) rows ∙ set_length net.started.items place now ∙ s.nodes.started.count; each = each; none_yet = λ b z. s.nodes.started.none_yet b z };
     runs = finds;
-    owners = owners ∙ s.nodes.owners;
+    live = live;
+    owners = λ n id. ap (list_all (fits_owner n id)) owners ∙ s.nodes.owners n id;
     beacons = beacons ∙ s.nodes.beacons;
     links = links ∙ s.nodes.links;
     known = all_map (λ (r : Route). IsKnown H r.from) (λ (r : Route). IsKnown N r.from) (λ r z. z) (routes H) s.nodes.known;
@@ -97,16 +116,17 @@ module _ (H : List Happening) (s : Route) (x : Started) (is : IsStarted H s.from
 
 module _ (H : List Happening) (x place : ℕ) (p : Part) (net new : Network) (s : StandsAfter H net) (c : CarriedConn) (there : nth x (conns H) ≡ Some c) (was now : Carrier) (under : x ≡ place + 1) (before : slice_get net.conns.items place ≡ Some was)
     (o : List ℕ) (spelled_as : o ≡ spelling c.along H p) (loaded : IsLoaded was o now) (rows : new.conns.items ≡ slice_set net.conns.items place now) (pending_now : new.pending ≡ net.pending + length o)
-    (started : new.started ≡ net.started) (runs : new.running ≡ net.running) (owners : new.owners ≡ net.owners) (said : new.said ≡ net.said) (beacons : new.beacons ≡ net.beacons) (links : new.links ≡ net.links) (queued : new.queued ≡ net.queued) where
+    (started : new.started ≡ net.started) (runs : new.running ≡ net.running) (owners : new.owners ≡ net.owners) (said : IsRest new.handed (said_in H) new.said) (beacons : new.beacons ≡ net.beacons) (links : new.links ≡ net.links) (queued : new.queued ≡ net.queued) where
   abbrev M : List Happening
   M = Happens (move.Carry x p) None ∷ H
 
   same_nodes : AreNodes M new
   same_nodes = record {
-    said = said ∙ s.nodes.said;
+    said = said;
     started = subst (λ xs. AreStarted M xs.items) (sym started) (record { count = s.nodes.started.count; each = λ k a e. start_stays H M (λ b q. q) k a net.started.items net.started.items (λ x t. t) (λ x q. q) (s.nodes.started.each k a e); none_yet = λ b z. s.nodes.started.none_yet b z });
     runs = λ n. subst (λ r. Finds M n (running n H) (running_at n r.items)) (sym runs) (finds_stays H M (λ b k. k) n (running n H) (running_at n net.running.items) (s.nodes.runs n));
-    owners = owners ∙ s.nodes.owners;
+    live = λ n j e. ap (λ xs. has_node (nth j xs.items)) started ∙ s.nodes.live n j (ap (λ r. running_at n r.items) (sym runs) ∙ e);
+    owners = λ n id. ap (list_all (fits_owner n id)) owners ∙ s.nodes.owners n id;
     beacons = beacons ∙ s.nodes.beacons;
     links = links ∙ s.nodes.links;
     known = all_map (λ (r : Route). IsKnown H r.from) (λ (r : Route). IsKnown M r.from) (λ r z. z) (routes H) s.nodes.known;
@@ -165,7 +185,7 @@ module _ (H : List Happening) (net : Network) (s : StandsAfter H net) (x : ℕ) 
   carry_refused q = ap (passes (can_carry H p)) f.there ∙ part_missing H f.conn.along row_of.row row_of.is p f.conn refl (sym (spelled_row None q))
 
   pub carry_played : (o : List ℕ) → IsSpelledAt (nth y.along.start net.started.items) y.along.link p (Some o) → (place : ℕ) (was now : Carrier) (new : Network) → x ≡ place + 1 → slice_get net.conns.items place ≡ Some was → IsLoaded was o now
-      → new.conns.items ≡ slice_set net.conns.items place now → new.pending ≡ net.pending + length o → new.started ≡ net.started → new.running ≡ net.running → new.owners ≡ net.owners → new.said ≡ net.said → new.beacons ≡ net.beacons → new.links ≡ net.links → new.queued ≡ net.queued
+      → new.conns.items ≡ slice_set net.conns.items place now → new.pending ≡ net.pending + length o → new.started ≡ net.started → new.running ≡ net.running → new.owners ≡ net.owners → IsRest new.handed (said_in H) new.said → new.beacons ≡ net.beacons → new.links ≡ net.links → new.queued ≡ net.queued
       → IsPlayed (move.Carry x p) H true new
   carry_played o q place was now new under before loaded rows pending_now started runs owners said beacons links queued =
       let t = part_there H f.conn.along row_of.row row_of.is p f.conn refl o (sym (spelled_row (Some o) q)) in

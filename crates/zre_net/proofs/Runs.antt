@@ -1,19 +1,19 @@
 -- Moves, one after the other.
-use Rattle.std.proofs.Common.{◌≡◌, ℕ, ◌+◌, Bool, true, false, cond, ◌&&◌, List, [], ◌∷◌, ◌++◌, length, Some, None, refl, sym, ap, ◌∙◌, subst, arith, true≢false, append-nil}
+use Rattle.std.proofs.Common.{◌≡◌, ℕ, ◌+◌, Bool, true, false, cond, ◌&&◌, List, [], ◌∷◌, ◌++◌, length, Some, None, refl, sym, ap, ◌∙◌, arith, true≢false, append-nil}
 use Rattle.zre_net.specs.declared.moves.Move.{Move}
 use Rattle.zre_net.specs.declared.running.network.Network.{Network}
 use Rattle.zre_net.specs.Answer.{bad_move, bad_move_after}
 use Rattle.zre_net.specs.Comes.{with_move, history, history_after}
 use Rattle.zre_net.specs.Grammar.{has_room, is_good}
 use Rattle.zre_net.specs.History.{Happening}
-use Rattle.zre_net.specs.Running.{StandsAfter, IsPlayed, IsTaken, Goes}
+use Rattle.zre_net.specs.Running.{StandsAfter, IsPlayed, IsTaken, HasRun, Goes}
 
 -- a move that may come is within the grammar where there is room
 pub taken : (m : Move) (H : List Happening) (may room : Bool) (net : Network) → IsPlayed m H may net → (StandsAfter (with_move m H) net → room ≡ has_room (with_move m H)) → IsTaken m H (may && room) net
 taken m H true room net p r = record { fits = r (p.stands refl) ∙ ap (λ b. b && has_room (with_move m H)) p.fits; stands = λ z. p.stands refl }
 taken m H false room net p r = record { fits = ap (λ b. b && has_room (with_move m H)) p.fits; stands = λ z. absurd (true≢false (sym z)) }
 
-history_more : (ys : List Move) (m : Move) (H : List Happening) → history_after (ys ++ m ∷ []) H ≡ with_move m (history_after ys H)
+pub history_more : (ys : List Move) (m : Move) (H : List Happening) → history_after (ys ++ m ∷ []) H ≡ with_move m (history_after ys H)
 history_more [] m H = refl
 history_more (y ∷ ys) m H = history_more ys m (with_move y H)
 
@@ -25,25 +25,21 @@ later_bad n (m ∷ ys) zs H e = by (is_good m H) e (λ z. later_bad (n + 1) ys z
     by true z f = f z ∙ (let q : n + 1 + length ys ≡ n + length (m ∷ ys) = omega arith in ap (λ k. bad_move_after k zs (history_after ys (with_move m H))) q)
     by false z f = absurd cc
 
-bad_at : (line : ℕ) (ys zs : List Move) → bad_move ys ≡ None → line ≡ 2 + length ys → bad_move (ys ++ zs) ≡ bad_move_after line zs (history ys)
+pub bad_at : (line : ℕ) (ys zs : List Move) → bad_move ys ≡ None → line ≡ 2 + length ys → bad_move (ys ++ zs) ≡ bad_move_after line zs (history ys)
 bad_at line ys zs e l = later_bad 2 ys zs [] e ∙ ap (λ k. bad_move_after k zs (history ys)) (sym l)
 
-pub goes_first : (net : Network) → StandsAfter [] net → Goes [] 2 net
-goes_first net s = record { stands = s; all_good = refl; line_is = refl }
+pub goes_first : (net : Network) → HasRun [] net → Goes [] 2 net
+goes_first net s = record { runs = s; line_is = refl }
 
-pub goes_on : (ys : List Move) (m : Move) (line : ℕ) (net new : Network) → Goes ys line net → IsTaken m (history ys) true new → Goes (ys ++ m ∷ []) (line + 1) new
-goes_on ys m line net new g t = record {
-  stands = subst (λ H. StandsAfter H new) (sym (history_more ys m [])) (t.stands refl);
-  all_good = bad_at line ys (m ∷ []) g.all_good g.line_is ∙ ap (λ b. cond b None (Some line)) (sym t.fits);
-  line_is = let l = g.line_is in let n = longer ys in omega (arith, l, n);
-}
+pub goes_on : (ys : List Move) (m : Move) (line : ℕ) (net new : Network) → Goes ys line net → HasRun (ys ++ m ∷ []) new → Goes (ys ++ m ∷ []) (line + 1) new
+goes_on ys m line net new g h = record { runs = h; line_is = let l = g.line_is in let n = longer ys in omega (arith, l, n) }
   where
     longer : (xs : List Move) → length (xs ++ m ∷ []) ≡ length xs + 1
     longer [] = refl
     longer (x ∷ xs) = let r = longer xs in omega (arith, r)
 
-pub stops_at : (ys zs : List Move) (m : Move) (line : ℕ) (net new : Network) → Goes ys line net → IsTaken m (history ys) false new → bad_move (ys ++ m ∷ zs) ≡ Some line
-stops_at ys zs m line net new g t = bad_at line ys (m ∷ zs) g.all_good g.line_is ∙ ap (λ b. cond b (bad_move_after (line + 1) zs (with_move m (history ys))) (Some line)) (sym t.fits)
+pub stops_at : (ys zs : List Move) (m : Move) (line : ℕ) (net : Network) → Goes ys line net → false ≡ is_good m (history ys) → bad_move (ys ++ m ∷ zs) ≡ Some line
+stops_at ys zs m line net g bad = bad_at line ys (m ∷ zs) g.runs.all_good g.line_is ∙ ap (λ b. cond b (bad_move_after (line + 1) zs (with_move m (history ys))) (Some line)) (sym bad)
 
 -- all have come
 pub took_all : (given came left : List Move) (n : ℕ) → given ≡ came ++ left → n ≡ length left → n ≡ 0 → came ≡ given

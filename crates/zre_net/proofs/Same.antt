@@ -1,5 +1,5 @@
 -- Octets that come in two pieces at one reading, or in one: the same came about at the same times.
-use Rattle.std.proofs.Common.{◌≡◌, ℕ, ◌+◌, ◌≤◌, Bool, true, false, cond, not, ◌&&◌, eqb, ltb, List, [], ◌∷◌, ◌++◌, reverse, refl, sym, ap, ◌∙◌, subst, arith, append_assoc, append-nil, true≢false}
+use Rattle.std.proofs.Common.{◌≡◌, ℕ, ◌≤◌, Bool, true, false, cond, not, ◌&&◌, eqb, ltb, List, [], ◌∷◌, ◌++◌, reverse, refl, sym, ap, ◌∙◌, subst, arith, append_assoc, append-nil, true≢false}
 use Rattle.std.proofs.lemmas.List.{reverse-append, reverse-reverse, append_cancel_right}
 use Rattle.std.specs.Option.{option_map_or}
 use Rattle.zre_outside.specs.declared.entry.Entry.{Entry}

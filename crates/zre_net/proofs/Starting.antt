@@ -1,8 +1,9 @@
 -- A node starts, or is gone.
-use Rattle.std.proofs.Common.{◌≡◌, ◌⊎◌, ℕ, ◌+◌, ◌<◌, Bool, true, false, cond, not, ◌&&◌, eqb, ltb, List, [], ◌∷◌, ◌++◌, length, map, Option, Some, None, is_none, refl, sym, ap, ◌∙◌, subst, inl, inr, arith, eqb-true}
+use Rattle.std.proofs.Common.{◌≡◌, ◌⊎◌, ℕ, ◌+◌, ◌<◌, Bool, true, false, cond, not, ◌&&◌, ◌||◌, eqb, ltb, List, [], ◌∷◌, ◌++◌, length, Option, Some, None, is_none, refl, sym, ap, ◌∙◌, subst, inl, inr, arith, eqb-true, true≢false}
 use Rattle.std.specs.Prelude.{sum_by}
-use Rattle.std.specs.List.{list_all}
+use Rattle.std.specs.List.{list_all, list_any}
 use Rattle.std.specs.Str.{bytes_eq}
+use Rattle.std.proofs.lemmas.Slice.Eq.{bytes_eq-Decides}
 use Rattle.std.proofs.lemmas.List.Sums.{sum_by_push}
 use Rattle.zre_values.specs.declared.peer_id.PeerId.{PeerId}
 use Rattle.zre_journal.specs.Events.{chronicle}
@@ -17,18 +18,20 @@ use Rattle.zre_net.specs.History.{Incarnation, Happening, IsKnown, starts, incar
 use Rattle.zre_net.specs.Lines.{octets_in}
 use Rattle.zre_net.specs.Lists.{nth}
 use Rattle.zre_net.specs.Numbers.{Route, routes, conns}
-use Rattle.zre_net.specs.Rows.{running_at, with_running, fits_owner, IsBegun}
-use Rattle.zre_net.specs.Running.{IsStarted, HasStarted, Finds, owner_of, AreNodes, AreConns, StandsAfter}
+use Rattle.zre_net.specs.Rows.{running_at, with_running, has_node, fits_owner, is_owner, Owns, IsBegun}
+use Rattle.zre_net.specs.declared.running.rows.Owner.{Owner}
+use Rattle.zre_net.specs.Said.{said_in, IsRest}
+use Rattle.zre_net.specs.Running.{IsStarted, HasStarted, Finds, AreNodes, AreConns, StandsAfter}
 use Rattle.zre_net.specs.Sending.{HasSent}
-use Rattle.zre_net.proofs.Listing.{nth_more, nth_last, nth_cases, all_map}
+use Rattle.zre_net.proofs.Alive.{live_more}
+use Rattle.zre_net.proofs.Listing.{some_one, nth_more, nth_last, nth_cases, all_map}
 use Rattle.zre_net.proofs.Journals.{length-last, as_many_starts}
 use Rattle.zre_journal.proofs.Listed.{eqb-comm}
-use Rattle.std.proofs.lemmas.List.{map-append}
 use Rattle.zre_net.proofs.Staying.{start_stays, conn_stays, finds_stays, starting, after_start, known_started, number_is, starting_known}
 
 -- ---- whose IDs the numbers have
 
-fits_same : (n : ℕ) (id : PeerId) (a : Incarnation) → fits_owner n id (owner_of a) ≡ agrees n id a
+fits_same : (n : ℕ) (id : PeerId) (a : Incarnation) → fits_owner n id (record { node = a.node; id = a.settings.id }) ≡ agrees n id a
 fits_same n id a = ap (λ b. cond b (bytes_eq a.settings.id.0 id.0) (not (bytes_eq a.settings.id.0 id.0))) (eqb-comm a.node n)
     ∙ ap (λ b. cond (eqb n a.node) b (not b)) (bytes-turned a.settings.id.0 id.0)
   where
@@ -38,9 +41,53 @@ fits_same n id a = ap (λ b. cond b (bytes_eq a.settings.id.0 id.0) (not (bytes_
     bytes-turned (x ∷ xs) [] = refl
     bytes-turned (x ∷ xs) (y ∷ ys) = ap (λ b. b && bytes_eq xs ys) (eqb-comm x y) ∙ ap (λ b. eqb y x && b) (bytes-turned xs ys)
 
-pub owners_same : (n : ℕ) (id : PeerId) (as_ : List Incarnation) → list_all (fits_owner n id) (map owner_of as_) ≡ list_all (agrees n id) as_
-owners_same n id [] = refl
-owners_same n id (a ∷ as_) = ap (λ b. b && list_all (fits_owner n id) (map owner_of as_)) (fits_same n id a) ∙ ap (λ b. agrees n id a && b) (owners_same n id as_)
+all_last : {A : Type 0} (f : A → Bool) (xs : List A) (x : A) → list_all f (xs ++ x ∷ []) ≡ (list_all f xs && f x)
+all_last f [] x = by (f x)
+  where
+    by : (b : Bool) → (b && true) ≡ b
+    by true = refl
+    by false = refl
+all_last f (y ∷ xs) x = by (f y) (all_last f xs x)
+  where
+    by : (b : Bool) → list_all f (xs ++ x ∷ []) ≡ (list_all f xs && f x) → (b && list_all f (xs ++ x ∷ [])) ≡ ((b && list_all f xs) && f x)
+    by true e = e
+    by false e = refl
+
+module _ (n : ℕ) (id : PeerId) where
+  abbrev own : Owner
+  own = record { node = n; id = id }
+
+  pub owns_more : (before now : List Owner) → now ≡ before ++ own ∷ [] → Owns before n id now
+  owns_more before now e k p = ap (list_all (fits_owner k p)) e ∙ all_last (fits_owner k p) before own
+
+  fits_too : (k : ℕ) (p : PeerId) (o : Owner) → is_owner n id o ≡ true → fits_owner k p o ≡ fits_owner k p own
+  fits_too k p o e = by (eqb o.node n) refl e
+    where
+      by : (t : Bool) → eqb o.node n ≡ t → cond t (bytes_eq o.id.0 id.0) false ≡ true → fits_owner k p o ≡ fits_owner k p own
+      by false z q = absurd (true≢false (sym q))
+      by true z q =
+          ap (λ m. cond (eqb m k) (bytes_eq o.id.0 p.0) (not (bytes_eq o.id.0 p.0))) (eqb-true o.node n z)
+          ∙ ap (λ (xs : List ℕ). cond (eqb n k) (bytes_eq xs p.0) (not (bytes_eq xs p.0))) ((bytes_eq-Decides o.id.0 id.0).0 q)
+
+  pub owns_already : (os : List Owner) → list_any (is_owner n id) os ≡ true → Owns os n id os
+  owns_already [] e k p = absurd (true≢false (sym e))
+  owns_already (o ∷ os) e k p = by (is_owner n id o) refl e (λ q. owns_already os q k p)
+    where
+      f : Owner → Bool
+      f = fits_owner k p
+
+      mine : (a b : Bool) → (a && b) ≡ ((a && b) && a)
+      mine true true = refl
+      mine true false = refl
+      mine false b = refl
+
+      theirs : (a b c : Bool) → b ≡ (b && c) → (a && b) ≡ ((a && b) && c)
+      theirs true b c z = z
+      theirs false b c z = refl
+
+      by : (t : Bool) → is_owner n id o ≡ t → (t || list_any (is_owner n id) os) ≡ true → (list_any (is_owner n id) os ≡ true → list_all f os ≡ (list_all f os && f own)) → (f o && list_all f os) ≡ ((f o && list_all f os) && f own)
+      by true z q r = mine (f o) (list_all f os) ∙ ap (λ b. (f o && list_all f os) && b) (fits_too k p o z)
+      by false z q r = theirs (f o) (list_all f os) (f own) (r q)
 
 none_put : (ls : List Line) → length ls ≡ 0 → octets_in ls ≡ 0
 none_put [] z = refl
@@ -65,7 +112,7 @@ module _ (H : List Happening) (n at : ℕ) (id : PeerId) (name host : List ℕ) 
   none_yet = s.nodes.started.none_yet a (let e = as_many_starts H in omega (arith, e))
 
   module _ (x : Started) (begun : IsBegun n at (settings_of id name host port) x) (rows : new.started.items ≡ net.started.items ++ x ∷ []) (runs : with_running n (Some (length new.started.items)) net.running.items new.running.items)
-      (owners : new.owners ≡ net.owners ++ record { node = n; id = id } ∷ []) (said : new.said ≡ net.said) (beacons : new.beacons ≡ net.beacons) (links : new.links ≡ net.links) (conns_stay : new.conns ≡ net.conns)
+      (owners : Owns net.owners n id new.owners) (said : IsRest new.handed (said_in H) new.said) (beacons : new.beacons ≡ net.beacons) (links : new.links ≡ net.links) (conns_stay : new.conns ≡ net.conns)
       (queued : new.queued ≡ net.queued) (pending_stay : new.pending ≡ net.pending) where
     new_row : IsStarted N a x
     new_row = record { node = begun.node; since = begun.since_is; id = begun.id; host = begun.host; sent = subst (λ J. HasSent a.settings J x.sender) (sym none_yet) begun.sent }
@@ -93,16 +140,27 @@ module _ (H : List Happening) (n at : ℕ) (id : PeerId) (name host : List ℕ) 
         by true e = (ap (λ m. Some m) (count ∙ its_number), starting_known H n at id name host port, sym (eqb-true k n e))
         by false e = finds_stays H N known_later k (running k H) (running_at k net.running.items) (s.nodes.runs k)
 
+    live : (k j : ℕ) → running_at k new.running.items ≡ Some j → has_node (nth j new.started.items) ≡ true
+    live k j e = by (eqb k n) (sym (runs k) ∙ e)
+      where
+        long : length new.started.items ≡ length net.started.items + 1
+        long = let q = ap (λ xs. length xs) rows in let l = length-last net.started.items x in omega (arith, q, l)
+
+        by : (t : Bool) → cond t (Some (length new.started.items)) (running_at k net.running.items) ≡ Some j → has_node (nth j new.started.items) ≡ true
+        by true z = ap (λ i. has_node (nth i new.started.items)) (sym (some_one z) ∙ long) ∙ ap (λ xs. has_node (nth (length net.started.items + 1) xs)) rows ∙ ap has_node (nth_last net.started.items x) ∙ begun.live
+        by false z = ap (λ xs. has_node (nth j xs)) rows ∙ live_more j net.started.items (x ∷ []) (s.nodes.live k j z)
+
     nodes : AreNodes N new
     nodes = record {
-      said = said ∙ s.nodes.said;
+      said = said;
       started = record {
         count = count ∙ sym (length-last (incarnations H) a);
         each = each;
         none_yet = λ b z. s.nodes.started.none_yet b (let l = length-last (incarnations H) a in omega (arith, l, z));
       };
       runs = finds;
-      owners = owners ∙ ap (λ xs. xs ++ record { node = n; id = id } ∷ []) s.nodes.owners ∙ sym (map-append owner_of (incarnations H) (a ∷ []));
+      live = live;
+      owners = λ k p. owners k p ∙ ap (λ b. b && fits_owner k p (record { node = n; id = id })) (s.nodes.owners k p) ∙ ap (λ b. list_all (agrees k p) (incarnations H) && b) (fits_same k p a) ∙ sym (all_last (agrees k p) (incarnations H) a);
       beacons = beacons ∙ s.nodes.beacons;
       links = links ∙ s.nodes.links;
       known = all_map (λ (r : Route). IsKnown H r.from) (λ (r : Route). IsKnown N r.from) (λ r z. known_later r.from z) (routes H) s.nodes.known;
@@ -139,7 +197,7 @@ pub may_start : (H : List Happening) (net : Network) (n at : ℕ) (id : PeerId) 
     → (is_none (running_at n net.running.items) && (list_all (fits_owner n id) net.owners && ltb 0 port)) ≡ may_come (move.Start n at id name host port) H
 may_start H net n at id name host port s =
     ap (λ b. b && (list_all (fits_owner n id) net.owners && ltb 0 port)) (same_none H n (running n H) (running_at n net.running.items) (s.nodes.runs n))
-    ∙ ap (λ b. is_none (running n H) && (b && ltb 0 port)) (ap (list_all (fits_owner n id)) s.nodes.owners ∙ owners_same n id (incarnations H))
+    ∙ ap (λ b. is_none (running n H) && (b && ltb 0 port)) (s.nodes.owners n id)
     ∙ grouped (is_none (running n H)) (list_all (agrees n id) (incarnations H)) (ltb 0 port)
   where
     grouped : (a b c : Bool) → (a && (b && c)) ≡ (a && b && c)

@@ -2,7 +2,7 @@
 use Rattle.std.proofs.Common.{◌≡◌, ℕ, ◌+◌, ◌<◌, max, eqb, List, [], ◌∷◌, ◌++◌, length, map, Option, Some, refl, sym, ap, ◌∙◌, subst, arith, append_assoc}
 use Rattle.std.specs.Prelude.{slice_get, slice_set, sum_by, get_or, take}
 use Rattle.std.proofs.lemmas.List.{take_more, map-append}
-use Rattle.std.specs.List.{filter_map, AllByRecursion}
+use Rattle.std.specs.List.{filter_map, AllByRecursion, list_all}
 use Rattle.zre_outside.specs.declared.act.Act.{Act}
 use Rattle.zre_outside.specs.declared.act.Act.TheVariants as act
 use Rattle.zre_outside.specs.declared.entry.Entry.{Entry}
@@ -21,14 +21,17 @@ use Rattle.zre_net.specs.History.{Incarnation, NodeTurn, Happening, Happens, IsK
 use Rattle.zre_net.specs.Lines.{octets_in}
 use Rattle.zre_net.specs.Lists.{nth}
 use Rattle.zre_net.specs.Numbers.{Route, acts_of, route_in, routes, broadcast_in, broadcasts}
-use Rattle.zre_net.specs.Rows.{entry_at, Turned, StaysAt, sent_in, way_in, running_at}
-use Rattle.zre_net.specs.Running.{IsStarted, HasStarted, AreStarted, Finds, AreNodes, IsStill, owner_of, sent_of, way_of}
+use Rattle.zre_net.specs.Grammar.{agrees}
+use Rattle.zre_net.specs.Rows.{entry_at, Turned, StaysAt, sent_in, way_in, running_at, has_node, fits_owner}
+use Rattle.zre_net.specs.Running.{IsStarted, HasStarted, AreStarted, Finds, AreNodes, IsStill, sent_of, way_of}
 use Rattle.zre_net.specs.Said.{said_in, said_at}
 use Rattle.zre_net.specs.Sender.{is_slight}
 use Rattle.zre_net.specs.Sending.{HasSent}
+use Rattle.zre_net.proofs.Alive.{live_set}
 use Rattle.zre_net.proofs.Listing.{some_one, nth_at, set_length, sum_set, all_map, past_all}
 use Rattle.zre_net.proofs.Journals.{journal_now, other_journal}
 use Rattle.std.proofs.lemmas.List.Elements.{filter_map-append}
+use Rattle.zre_net.proofs.Rests.{rest_same, rest_more}
 use Rattle.zre_net.proofs.Staying.{rows_set, start_stays, finds_stays}
 
 -- what one act more brings
@@ -74,6 +77,7 @@ pub record HasStepped (k at : ℕ) (i : Input) (net new : Network) : Type 0 wher
   pub beacons : new.beacons ≡ net.beacons ++ filter_map (sent_in took.host) took.step.acts
   pub links : new.links ≡ net.links ++ filter_map (way_in k) took.step.acts
   pub said : new.said ≡ net.said ++ map (λ e. (took.node, e)) took.step.events
+  pub handed : new.handed ≡ net.handed
   pub running : new.running ≡ net.running
   pub owners : new.owners ≡ net.owners
 
@@ -153,10 +157,11 @@ module _ (H : List Happening) (m : Move) (still : IsStill m) (a : Incarnation) (
 
     pub nodes_more : AreNodes N' new
     nodes_more = record {
-      said = s.said ∙ ap (λ xs. xs ++ map (λ e. (s.took.node, e)) s.took.step.events) nodes.said ∙ ap (λ xs. said_in H ++ xs) told_is;
+      said = rest_same net.handed new.handed (said_in H ++ said_at T' H) (net.said ++ said_at T' H) new.said s.handed (s.said ∙ ap (λ xs. net.said ++ xs) told_is) (rest_more net.handed (said_in H) (said_at T' H) net.said nodes.said);
       started = started;
       runs = λ n. finds_stays H N' known_too n (running n N') (running_at n new.running.items) (subst (λ o. Finds H n o (running_at n new.running.items)) (sym (still.running_stay (Some T') H n)) (subst (λ r. Finds H n (running n H) (running_at n r.items)) (sym s.running) (nodes.runs n)));
-      owners = s.owners ∙ nodes.owners ∙ ap (λ xs. map owner_of xs) (sym stay);
+      live = λ n j e. ap (λ xs. has_node (nth j xs)) s.written ∙ live_set net.started.items s.place j s.now s.stays.live (nodes.live n j (ap (λ r. running_at n r.items) (sym s.running) ∙ e));
+      owners = λ n id. ap (list_all (fits_owner n id)) s.owners ∙ nodes.owners n id ∙ ap (list_all (agrees n id)) (sym stay);
       beacons = s.beacons ∙ ap (λ xs. xs ++ filter_map (sent_in s.took.host) s.took.step.acts) nodes.beacons
           ∙ ap (λ h. map sent_of (broadcasts H) ++ filter_map (sent_in h) s.took.step.acts) (s.stays.told_host ∙ old.host)
           ∙ ap (λ xs. map sent_of (broadcasts H) ++ filter_map (sent_in a.settings.host) xs) done_is

@@ -17,3 +17,4 @@ pub mod Running
 pub mod Said
 pub mod Sender
 pub mod Sending
+pub mod Texts

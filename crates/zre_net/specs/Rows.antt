@@ -1,7 +1,8 @@
 -- What a network keeps of starts, beacons, links and connections.
-use Rattle.std.specs.Prelude.{◌≡◌, ◌⊎◌, ℕ, Bool, true, false, not, ◌≤◌, max, List, [], ◌∷◌, ◌++◌, length, take}
+use Rattle.std.specs.List.{list_all}
+use Rattle.std.specs.Prelude.{◌≡◌, ◌⊎◌, ℕ, Bool, true, false, not, ◌&&◌, ◌≤◌, max, List, [], ◌∷◌, ◌++◌, length, take}
 use Rattle.std.specs.Prelude.{drop, Option, Some, None, if◌then◌else◌, nat_eq, option_and_then}
-use Rattle.std.specs.Prelude.{slice_get}
+use Rattle.std.specs.Prelude.{slice_get, is_some}
 use Rattle.std.specs.Str.{bytes_eq}
 use Rattle.zre_values.specs.declared.peer_id.PeerId.{PeerId}
 use Rattle.zre_zmtp.specs.declared.writing.SocketType.TheVariants as socket
@@ -48,9 +49,23 @@ abbrev pub is_at : ℕ → Option Started → List (Option ℕ) → Bool
 is_at k None rows = false
 is_at k (Some x) rows = same_number k (running_at x.node rows)
 
+-- the node of a start is there
+abbrev pub has_node : Option Started → Bool
+has_node None = false
+has_node (Some x) = is_some x.sender.node
+
 -- an ID belongs to one node, and a node has one ID
 abbrev pub fits_owner : ℕ → PeerId → Owner → Bool
 fits_owner n id o = if nat_eq o.node n then bytes_eq o.id.0 id.0 else not (bytes_eq o.id.0 id.0)
+
+-- node n has this ID
+abbrev pub is_owner : ℕ → PeerId → Owner → Bool
+is_owner n id o = if nat_eq o.node n then bytes_eq o.id.0 id.0 else false
+
+-- with that owner these belong to the same, whether or not it was one of them before
+abbrev pub Owns : List Owner → ℕ → PeerId → List Owner → Type 0
+Owns before n id now = (k : ℕ) (p : PeerId)
+    → list_all (fits_owner k p) now ≡ (list_all (fits_owner k p) before && fits_owner k p (record { node = n; id = id }))
 
 -- a node that has started
 pub record IsBegun (n since : ℕ) (g : Config) (x : Started) : Type 0 where
@@ -59,6 +74,7 @@ pub record IsBegun (n since : ℕ) (g : Config) (x : Started) : Type 0 where
   pub id : x.id ≡ g.id
   pub host : x.host ≡ g.host
   pub sent : HasSent g [] x.sender
+  pub live : has_node (Some x) ≡ true
 
 -- a node that is gone
 pub record HasStopped (x y : Started) : Type 0 where
@@ -79,7 +95,7 @@ pub record Turned (g : Config) (J : List Entry) (e : Entry) (t : EntryTurn) (x :
   pub stepped : Stepped g J e t.step
   pub sent : HasSent g (J ++ e ∷ []) x.sender
 
--- and the rest of the row is as before
+-- and the rest of the row is as before, with the node in it
 pub record StaysAt (t : EntryTurn) (x y : Started) : Type 0 where
   pub node : y.node ≡ x.node
   pub since : y.since ≡ x.since
@@ -87,6 +103,7 @@ pub record StaysAt (t : EntryTurn) (x y : Started) : Type 0 where
   pub host : y.host ≡ x.host
   pub told_node : t.node ≡ x.node
   pub told_host : t.host ≡ x.host
+  pub live : has_node (Some y) ≡ true
   pub before : t.before ≡ octets_in x.sender.lines
   pub after : t.after ≡ octets_in y.sender.lines
 

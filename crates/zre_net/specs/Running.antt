@@ -1,29 +1,29 @@
 -- A network that has run a history.
 use Rattle.std.specs.Prelude.{◌≡◌, ℕ, Bool, true, ◌+◌, ◌<◌, List, [], ◌∷◌, length, map, Option, Some, None, is_some}
 use Rattle.std.specs.Prelude.{sum_by}
-use Rattle.std.specs.List.{AllByRecursion}
+use Rattle.std.specs.List.{AllByRecursion, list_all}
+use Rattle.zre_values.specs.declared.peer_id.PeerId.{PeerId}
 use Rattle.zre_outside.specs.declared.entry.Input.{Input}
 use Rattle.zre_outside.specs.declared.entry.Input.TheVariants as input
 use Rattle.zre_journal.specs.Heard.{bytes}
 use Rattle.zre_net.specs.declared.moves.Move.{Move}
 use Rattle.zre_net.specs.declared.running.network.Network.{Network}
 use Rattle.zre_net.specs.declared.running.rows.Carrier.{Carrier}
-use Rattle.zre_net.specs.declared.running.rows.Owner.{Owner}
 use Rattle.zre_net.specs.declared.running.rows.SentBeacon.{SentBeacon}
 use Rattle.zre_net.specs.declared.running.rows.Started.{Started}
 use Rattle.zre_net.specs.declared.running.rows.Way.{Way}
 use Rattle.zre_net.specs.Lists.{nth}
 use Rattle.zre_net.specs.Lines.{octets_in}
 use Rattle.zre_net.specs.Sending.{HasSent}
-use Rattle.zre_net.specs.Rows.{running_at, Fits}
+use Rattle.zre_net.specs.Rows.{running_at, has_node, fits_owner, Fits}
 use Rattle.zre_net.specs.History.{Incarnation, NodeTurn, Happening, Happens, IsKnown, incarnations, running, journal}
 use Rattle.zre_net.specs.History.{chronicle_of}
 use Rattle.zre_net.specs.Numbers.{Broadcast, Route, CarriedConn, broadcasts, routes, conns}
 use Rattle.zre_net.specs.Carried.{pending}
 use Rattle.zre_net.specs.Answer.{bad_move}
 use Rattle.zre_net.specs.Comes.{with_move, history}
-use Rattle.zre_net.specs.Grammar.{may_come, is_good, is_there}
-use Rattle.zre_net.specs.Said.{said_in}
+use Rattle.zre_net.specs.Grammar.{may_come, is_good, is_there, agrees}
+use Rattle.zre_net.specs.Said.{said_in, IsRest}
 
 -- ---- nodes
 
@@ -55,9 +55,6 @@ abbrev pub Finds : List Happening → ℕ → Option Incarnation → Option ℕ 
 Finds H n None found = found ≡ None
 Finds H n (Some a) found = (found ≡ Some a.number) × IsKnown H a × (a.node ≡ n)
 
-abbrev pub owner_of : Incarnation → Owner
-owner_of a = record { node = a.node; id = a.settings.id }
-
 abbrev pub sent_of : Broadcast → SentBeacon
 sent_of b = record { from = b.from.settings.host; octets = b.octets }
 
@@ -65,10 +62,12 @@ abbrev pub way_of : Route → Way
 way_of s = record { start = s.from.number; link = s.link }
 
 pub record AreNodes (H : List Happening) (net : Network) : Type 0 where
-  pub said : net.said ≡ said_in H
+  pub said : IsRest net.handed (said_in H) net.said
   pub started : AreStarted H net.started.items
   pub runs : (n : ℕ) → Finds H n (running n H) (running_at n net.running.items)
-  pub owners : net.owners ≡ map owner_of (incarnations H)
+  pub live : (n start : ℕ) → running_at n net.running.items ≡ Some start
+      → has_node (nth start net.started.items) ≡ true
+  pub owners : (n : ℕ) (id : PeerId) → list_all (fits_owner n id) net.owners ≡ list_all (agrees n id) (incarnations H)
   pub beacons : net.beacons ≡ map sent_of (broadcasts H)
   pub links : net.links ≡ map way_of (routes H)
   pub known : AllByRecursion (λ (s : Route). IsKnown H s.from) (routes H)
@@ -145,8 +144,13 @@ Sends H o found = Names (λ (s : Route). s.from) way_of H o found
 
 -- ---- many moves
 
--- these moves have come, all within the grammar, and this is the line of the next
-pub record Goes (moves : List Move) (line : ℕ) (net : Network) : Type 0 where
+-- these moves have come, all within the grammar, and what was told of them was handed out
+pub record HasRun (moves : List Move) (net : Network) : Type 0 where
   pub stands : StandsAfter (history moves) net
   pub all_good : bad_move moves ≡ None
+  pub none_left : net.said ≡ []
+
+-- and this is the line of the next
+pub record Goes (moves : List Move) (line : ℕ) (net : Network) : Type 0 where
+  pub runs : HasRun moves net
   pub line_is : line ≡ 2 + length moves

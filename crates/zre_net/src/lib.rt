@@ -18,4 +18,4 @@ pub use laws::{
 };
 pub use moves::{Move, Moves, Part};
 pub use reading::{Schedule, read_schedule};
-pub use running::{SaidEvents, run_schedule};
+pub use running::{Network, SaidEvents, run_schedule};

@@ -1,5 +1,6 @@
 //! Schedules run.
 
+mod asked;
 mod ear;
 mod lines;
 mod network;
@@ -12,7 +13,9 @@ mod said;
 mod schedule;
 mod sender;
 mod steps;
+mod texts;
 mod waiting;
 
+pub use network::Network;
 pub use said::SaidEvents;
 pub use schedule::run_schedule;

@@ -9,6 +9,8 @@ mod callers;
 #[cfg(test)]
 mod chats;
 #[cfg(test)]
+mod driven;
+#[cfg(test)]
 mod gates;
 #[cfg(test)]
 mod network;

@@ -27,8 +27,8 @@ impl Model for Schedule {
 }
 
 impl Schedule {
-    /// The moves of its lines.
-    pub(crate) fn moves(&self) -> Result<Moves, OutOfMemory>
+    /// The moves of its lines, to be run one by one.
+    pub fn moves(&self) -> Result<Moves, OutOfMemory>
         ensures { IfOk result (λ moves. moves ≡ moves_of_lines self.now) }
     {
         moves_of(self.alloc, self.text.as_slice())

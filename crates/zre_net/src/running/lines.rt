@@ -1,19 +1,20 @@
 //! The links of a node, and the messages that were put on them.
 
-ghost use Rattle.std.specs.Prelude.{◌≡◌, ◌+◌, ◌++◌, ◌∷◌, [], length, option_map, OnOk, OnErr, IfOk};
+ghost use Rattle.std.specs.Prelude.{◌≡◌, ◌+◌, ◌++◌, ◌∷◌, [], length, OnOk, OnErr, IfOk};
 ghost use Rattle.zre_net.specs.Lists.{nth as nth_of};
 ghost use Rattle.zre_net.specs.Lines.{messages_at, message_octets, octets_in, IsNoted, IsNotedAt};
 
 use crate::running::nth::nth;
+use crate::running::texts::{LONG, Texts};
 use bytes::Bytes;
 use std::alloc::Global;
 use std::marker::Model;
 use zre_link::Queue;
-use zre_values::{List, OutOfMemory, take_apart};
+use zre_values::{OutOfMemory, take_apart};
 
 /// A link: the messages that were put on it, as they are spelled, and how many octets waited after the last entry.
 pub(crate) struct Line {
-    pub messages: List<Bytes>,
+    pub messages: Texts,
     pub waited: usize,
 }
 
@@ -27,13 +28,26 @@ impl Drop for Line {
 pub(crate) struct Lines {
     rows: Vec<Line>,
     octets: u64,
-    /// The newest first message of a link, a HELLO: the next may be the same.
+    /// The newest long messages, to share.
+    newest: Newest,
+}
+
+/// The newest first message of a link, a HELLO, and the newest message of any link, as far as they are long: the next
+/// may be the same, since what goes to many peers is put on their links one after the other.
+struct Newest {
     first: Bytes,
+    last: Bytes,
+}
+
+impl Drop for Newest {
+    fn drop(self) {
+        take_apart!(self, Newest: first, last);
+    }
 }
 
 impl Drop for Lines {
     fn drop(self) {
-        take_apart!(self, Lines: rows, octets, first);
+        take_apart!(self, Lines: rows, octets, newest);
     }
 }
 
@@ -59,12 +73,36 @@ fn shared(before: &Bytes, octets: Bytes) -> Result<Bytes, OutOfMemory>
     Ok(octets)
 }
 
-// The first message of a link, for those that are the same.
-fn keep_first(first: &mut Bytes, count: u64, message: &Bytes) -> Result<(), OutOfMemory> {
-    if count == 0 {
-        *first = message.clone()?;
+impl Newest {
+    // None yet.
+    fn new() -> Newest {
+        Newest {
+            first: Bytes::new(),
+            last: Bytes::new(),
+        }
     }
-    Ok(())
+
+    // These octets, shared with the newest that are the same, if any are.
+    fn shared(&self, octets: Bytes) -> Result<Bytes, OutOfMemory>
+        ensures { IfOk result (λ b. b ≡ octets) }
+    {
+        if octets.len() < LONG {
+            return Ok(octets);
+        }
+        shared(&self.last, shared(&self.first, octets)?)
+    }
+
+    // A message is put on a link after so many others.
+    fn keep(&mut self, count: u64, message: &Bytes) -> Result<(), OutOfMemory> {
+        if message.len() < LONG {
+            return Ok(());
+        }
+        if count == 0 {
+            self.first = message.clone()?;
+        }
+        self.last = message.clone()?;
+        Ok(())
+    }
 }
 
 impl Line {
@@ -72,7 +110,7 @@ impl Line {
     // octets all messages have, where they had so many before.
     fn note(
         &mut self,
-        first: &mut Bytes,
+        newest: &mut Newest,
         octets: u64,
         sent: u64,
         waits: &Queue,
@@ -81,7 +119,7 @@ impl Line {
         ensures octets { IfOk result (λ all. all + message_octets self.old ≡ octets + message_octets self.new) }
         ensures unchanged { OnErr result (self.new ≡ self.old) }
     {
-        let count = self.messages.len() as u64;
+        let count = self.messages.len();
         if sent == count {
             self.waited = waits.len();
             return Ok(octets);
@@ -89,12 +127,12 @@ impl Line {
         if sent != count.saturating_add(1) || waits.len() < self.waited {
             return Err(OutOfMemory);
         }
-        let message = shared(first, waits.last(waits.len() - self.waited)?)?;
+        let message = newest.shared(waits.last(waits.len() - self.waited)?)?;
         let Some(all) = octets.checked_add(message.len() as u64) else {
             drop(message);
             return Err(OutOfMemory);
         };
-        let Ok(()) = keep_first(first, count, &message) else {
+        let Ok(()) = newest.keep(count, &message) else {
             drop(message);
             return Err(OutOfMemory);
         };
@@ -112,7 +150,7 @@ impl Lines {
         Lines {
             rows: Vec::new(alloc),
             octets: 0,
-            first: Bytes::new(),
+            newest: Newest::new(),
         }
     }
 
@@ -124,11 +162,18 @@ impl Lines {
     }
 
     /// A message of a link, by their numbers from 1.
-    pub fn message(&self, link: u64, number: u64) -> Option<&Bytes>
-        ensures { option_map (λ b. b.now) result ≡ nth_of number (messages_at link self.now) }
+    pub fn message(
+        &self,
+        alloc: Global,
+        link: u64,
+        number: u64,
+    ) -> Result<Option<Bytes>, OutOfMemory>
+        ensures { IfOk result (λ text. text ≡ nth_of number (messages_at link self.now)) }
     {
-        let line = nth(self.rows.as_slice(), link)?;
-        nth(line.messages.as_slice(), number)
+        match nth(self.rows.as_slice(), link) {
+            Some(line) => line.messages.get(alloc, number),
+            None => Ok(None),
+        }
     }
 
     /// A link on which nothing was put: its greeting and READY wait.
@@ -136,7 +181,7 @@ impl Lines {
         ensures { OnOk result (self.new ≡ self.old ++ record { messages = []; waited = handshake } ∷ []) }
     {
         self.rows.push(Line {
-            messages: List::new(alloc),
+            messages: Texts::new(alloc),
             waited: handshake,
         })?;
         Ok(())
@@ -150,7 +195,7 @@ impl Lines {
             return Err(OutOfMemory);
         }
         let line = &mut self.rows[place];
-        self.octets = line.note(&mut self.first, self.octets, sent, waits)?;
+        self.octets = line.note(&mut self.newest, self.octets, sent, waits)?;
         Ok(())
     }
 }

@@ -1,10 +1,10 @@
 ghost use Rattle.std.specs.Prelude.{◌≡◌, [], List, Some, option_map, IfOk, OnOk};
-ghost use Rattle.std.specs.List.{list_all};
+ghost use Rattle.std.specs.List.{list_all, list_any};
 ghost use Rattle.zre_net.specs.History.{Happening, Incarnation, incarnations};
 ghost use Rattle.zre_net.specs.Numbers.{conns, routes};
 ghost use Rattle.zre_net.specs.Lists.{nth as nth_of};
-ghost use Rattle.zre_net.specs.Rows.{running_at, fits_owner, is_at, with_running};
-ghost use Rattle.zre_net.specs.Running.{StandsAfter, Receives, Sends};
+ghost use Rattle.zre_net.specs.Rows.{running_at, fits_owner, is_owner, is_at, Owns, with_running};
+ghost use Rattle.zre_net.specs.Running.{HasRun, StandsAfter, Receives, Sends};
 
 use crate::running::nth::nth;
 use crate::running::rows::{Carrier, Owner, SentBeacon, Started, Way};
@@ -12,29 +12,31 @@ use crate::running::said::SaidEvents;
 use std::alloc::Global;
 use zre_values::{List, OutOfMemory, PeerId, take_apart};
 
-/// All that has come about so far.
-pub(crate) struct Network {
-    pub alloc: Global,
-    /// What the nodes have told.
-    pub said: SaidEvents,
+/// Nodes in one process, and what goes between them, move by move ([`Network::take`]). It keeps what a later move may
+/// name: beacons, links with their messages, and connections with what they have yet to hand in.
+pub struct Network {
+    pub(crate) alloc: Global,
+    /// What the nodes have told, but for so many events that were handed out.
+    pub(crate) said: SaidEvents,
+    pub(crate) handed: u64,
     /// The starts, and which of them runs at each node.
-    pub started: Vec<Started>,
-    pub running: Vec<Option<u64>>,
-    /// Whose IDs the numbers of nodes have.
-    pub owners: List<Owner>,
+    pub(crate) started: Vec<Started>,
+    pub(crate) running: Vec<Option<u64>>,
+    /// Whose IDs the numbers of nodes have, each once.
+    pub(crate) owners: List<Owner>,
     /// Beacons, links and connections.
-    pub beacons: List<SentBeacon>,
-    pub links: List<Way>,
-    pub conns: Vec<Carrier>,
+    pub(crate) beacons: List<SentBeacon>,
+    pub(crate) links: List<Way>,
+    pub(crate) conns: Vec<Carrier>,
     /// The octets of all messages, and those that connections have yet to hand in.
-    pub queued: u64,
-    pub pending: u64,
+    pub(crate) queued: u64,
+    pub(crate) pending: u64,
 }
 
 impl Drop for Network {
     fn drop(self) {
         take_apart!(self, Network:
-            alloc, said, started, running, owners, beacons, links, conns, queued, pending);
+            alloc, said, handed, started, running, owners, beacons, links, conns, queued, pending);
     }
 }
 
@@ -47,6 +49,39 @@ fn fits_owner(owner: Owner, node: u8, id: PeerId) -> bool
     } else {
         owner.id != id
     }
+}
+
+// Whether this node has this ID.
+fn is_owner(owner: Owner, node: u8, id: PeerId) -> bool
+    ensures { result ≡ is_owner node id owner }
+{
+    if owner.node == node {
+        owner.id == id
+    } else {
+        false
+    }
+}
+
+// Whether one of these is that owner.
+fn has_owner(owners: &[Owner], node: u8, id: PeerId) -> bool
+    ensures { result ≡ list_any (is_owner node id) owners.now }
+{
+    for owner in owners {
+        if is_owner(*owner, node, id) {
+            return true;
+        }
+    }
+    false
+}
+
+/// From now on this node has this ID. However often it starts, it is one owner.
+pub(crate) fn add_owner(owners: &mut List<Owner>, node: u8, id: PeerId) -> Result<(), OutOfMemory>
+    ensures { OnOk result (Owns owners.old node id owners.new) }
+{
+    if has_owner(owners.as_slice(), node, id) {
+        return Ok(());
+    }
+    owners.push(Owner { node, id })
 }
 
 /// Whether a node may have this ID: it had no other, and no other node had it.
@@ -74,12 +109,13 @@ fn running_at(rows: &[Option<u64>], node: u8) -> Option<u64>
 impl Network {
     /// Nothing has come about.
     pub fn new(alloc: Global) -> Result<Network, OutOfMemory>
-        ensures { IfOk result (StandsAfter []) }
+        ensures { IfOk result (HasRun []) }
     {
         let running = Vec::from_array(alloc, [None; 17])?;
         Ok(Network {
             alloc,
             said: SaidEvents::new(alloc),
+            handed: 0,
             started: Vec::new(alloc),
             running,
             owners: List::new(alloc),
@@ -92,7 +128,7 @@ impl Network {
     }
 
     /// The start that runs at a node.
-    pub fn runner(&self, node: u8) -> Option<u64>
+    pub(crate) fn runner(&self, node: u8) -> Option<u64>
         ensures { result ≡ running_at node self.now.running.items }
     {
         running_at(self.running.as_slice(), node)
@@ -109,7 +145,7 @@ impl Network {
     }
 
     /// The start at which a connection opened, where it still runs.
-    pub fn receiver(&self, conn: u64) -> Option<u64>
+    pub(crate) fn receiver(&self, conn: u64) -> Option<u64>
         ensures { (H : List Happening) → StandsAfter H self.now → Receives H (nth_of conn (conns H)) result }
     {
         let Some(carrier) = nth(self.conns.as_slice(), conn) else {
@@ -123,7 +159,7 @@ impl Network {
     }
 
     /// The start of the node of a link, where it still runs, and the link's number there.
-    pub fn sender(&self, link: u64) -> Option<Way>
+    pub(crate) fn sender(&self, link: u64) -> Option<Way>
         ensures { (H : List Happening) → StandsAfter H self.now → Sends H (nth_of link (routes H)) result }
     {
         let Some(way) = nth(self.links.as_slice(), link) else {

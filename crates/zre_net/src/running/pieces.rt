@@ -78,7 +78,7 @@ impl Network {
     }
 
     /// The next octets of a connection come.
-    pub fn piece(&mut self, conn: u64, count: u64, at: u64) -> Result<bool, OutOfMemory>
+    pub(crate) fn piece(&mut self, conn: u64, count: u64, at: u64) -> Result<bool, OutOfMemory>
         ensures { (H : List Happening) → StandsAfter H self.old →
             IfOk result (λ may. IsPlayed (MoveValue.Piece conn count at) H may self.new) }
     {

@@ -1,13 +1,19 @@
 //! A move, whichever it is.
 
-ghost use Rattle.std.specs.Prelude.{◌≡◌, List, IfOk};
+ghost use Rattle.std.specs.Prelude.{◌≡◌, ◌+◌, ◌++◌, ◌∷◌, [], List, length, IfOk};
+ghost use Rattle.std.specs.Bool.{OnTrue};
 ghost use Rattle.zre_net.specs.History.{Happening};
-ghost use Rattle.zre_net.specs.Grammar.{has_room};
-ghost use Rattle.zre_net.specs.Running.{StandsAfter, IsPlayed, IsTaken};
+ghost use Rattle.zre_net.specs.declared.moves.Move.{Move as MoveValue};
+ghost use Rattle.zre_net.specs.Comes.{history};
+ghost use Rattle.zre_net.specs.Grammar.{has_room, is_good};
+ghost use Rattle.zre_net.specs.Said.{told_by};
+ghost use Rattle.zre_net.specs.Running.{StandsAfter, IsPlayed, IsTaken, HasRun};
 
 use crate::limits::{PENDING_OCTETS, QUEUED_OCTETS};
 use crate::moves::Move;
 use crate::running::network::Network;
+use crate::running::said::SaidEvents;
+use std::mem;
 use zre_journal::Config;
 use zre_values::{OutOfMemory, Pairs};
 
@@ -58,10 +64,46 @@ impl Network {
         self.queued <= QUEUED_OCTETS && self.pending <= PENDING_OCTETS
     }
 
-    /// A move comes. Answers whether it is within the grammar.
-    pub fn take(&mut self, one: Move) -> Result<bool, OutOfMemory>
+    // A move comes. Answers whether it is within the grammar.
+    fn advance(&mut self, one: Move) -> Result<bool, OutOfMemory>
         ensures { (H : List Happening) → StandsAfter H self.old → IfOk result (λ good. IsTaken one H good self.new) }
     {
         Ok(self.play(one)? && self.has_room())
+    }
+
+    // So many events are handed out in place of those that stand there.
+    fn hand_out(&mut self, handed: u64, told: &mut SaidEvents)
+        ensures told { told.new ≡ self.old.said }
+        ensures rest { (H : List Happening) → StandsAfter H self.old → handed ≡ self.old.handed + length self.old.said →
+            StandsAfter H self.new × (self.new.said ≡ []) }
+    {
+        told.clear();
+        mem::swap(&mut self.said, told);
+        self.handed = handed;
+    }
+
+    /// A move comes, and what the nodes tell of it stands in `told` in place of what stood there. Answers whether the
+    /// move is within the grammar of schedules: a node starts that doesn't run, with an identity of its own; what is
+    /// named is there; and the octets of all messages, and those that connections have yet to hand in, are within
+    /// their limits. Where it isn't, or no memory was left, nothing is known of the network any more.
+    pub fn take(&mut self, one: Move, told: &mut SaidEvents) -> Result<bool, OutOfMemory>
+        ensures good { (ms : List MoveValue) → HasRun ms self.old → IfOk result (λ good. good ≡ is_good one (history ms)) }
+        ensures runs { (ms : List MoveValue) → HasRun ms self.old →
+            IfOk result (λ good. OnTrue good (HasRun (ms ++ one ∷ []) self.new)) }
+        ensures told { (ms : List MoveValue) → HasRun ms self.old →
+            IfOk result (λ good. OnTrue good (told.new ≡ told_by one (history ms))) }
+    {
+        let before = self.handed;
+        let good = self.advance(one)?;
+        let Some(handed) = before.checked_add(self.said.len() as u64) else {
+            return Err(OutOfMemory);
+        };
+        // No move hands out events.
+        if self.handed == before {
+            self.hand_out(handed, told);
+            Ok(good)
+        } else {
+            Err(OutOfMemory)
+        }
     }
 }

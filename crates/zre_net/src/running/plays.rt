@@ -10,9 +10,9 @@ ghost use Rattle.zre_net.specs.Running.{StandsAfter, IsPlayed};
 
 use crate::moves::Part;
 use crate::running::ear::Ear;
-use crate::running::network::{Network, may_have, set_running};
+use crate::running::network::{Network, add_owner, may_have, set_running};
 use crate::running::nth::{nth, place_of};
-use crate::running::rows::{Carrier, Owner, Started, Way};
+use crate::running::rows::{Carrier, Started, Way};
 use crate::running::sender::Sender;
 use crate::running::waiting::Waiting;
 use bytes::Bytes;
@@ -89,10 +89,7 @@ fn spelled(
             let octets = ready(alloc, SocketType::Dealer, Some(started.id))?;
             Ok(Some(Bytes::copy_from_slice(alloc, octets.as_slice())?))
         }
-        Part::Message { number } => match started.sender.lines.message(link, number) {
-            Some(octets) => Ok(Some(octets.clone()?)),
-            None => Ok(None),
-        },
+        Part::Message { number } => started.sender.lines.message(alloc, link, number),
     }
 }
 
@@ -117,7 +114,7 @@ impl Network {
     }
 
     /// A node starts with the settings of a schedule.
-    pub fn start(&mut self, node: u8, at: u64, config: Config) -> Result<bool, OutOfMemory>
+    pub(crate) fn start(&mut self, node: u8, at: u64, config: Config) -> Result<bool, OutOfMemory>
         requires { config ≡ settings_of config.id config.name config.host config.port }
         ensures { (H : List Happening) → StandsAfter H self.old → IfOk result (λ may.
             IsPlayed (MoveValue.Start node at config.id config.name config.host config.port) H may self.new) }
@@ -128,13 +125,13 @@ impl Network {
         }
         let started = begin(self.alloc, node, at, config)?;
         self.started.push(started)?;
-        self.owners.push(Owner { node, id })?;
+        add_owner(&mut self.owners, node, id)?;
         set_running(&mut self.running, node, Some(self.started.len() as u64))?;
         Ok(true)
     }
 
     /// A node is gone.
-    pub fn crash(&mut self, node: u8) -> Result<bool, OutOfMemory>
+    pub(crate) fn crash(&mut self, node: u8) -> Result<bool, OutOfMemory>
         ensures { (H : List Happening) → StandsAfter H self.old →
             IfOk result (λ may. IsPlayed (MoveValue.Crash node) H may self.new) }
     {
@@ -148,7 +145,7 @@ impl Network {
     }
 
     /// Time has passed at a node.
-    pub fn tick(&mut self, node: u8, at: u64) -> Result<bool, OutOfMemory>
+    pub(crate) fn tick(&mut self, node: u8, at: u64) -> Result<bool, OutOfMemory>
         ensures { (H : List Happening) → StandsAfter H self.old →
             IfOk result (λ may. IsPlayed (MoveValue.Tick node at) H may self.new) }
     {
@@ -156,7 +153,7 @@ impl Network {
     }
 
     /// The user of a node asks for something.
-    pub fn ask(&mut self, node: u8, at: u64, command: Command) -> Result<bool, OutOfMemory>
+    pub(crate) fn ask(&mut self, node: u8, at: u64, command: Command) -> Result<bool, OutOfMemory>
         ensures { (H : List Happening) → StandsAfter H self.old →
             IfOk result (λ may. IsPlayed (MoveValue.Do node at command) H may self.new) }
     {
@@ -169,7 +166,7 @@ impl Network {
     }
 
     /// A node hears a beacon.
-    pub fn hear(&mut self, beacon: u64, node: u8, at: u64) -> Result<bool, OutOfMemory>
+    pub(crate) fn hear(&mut self, beacon: u64, node: u8, at: u64) -> Result<bool, OutOfMemory>
         ensures { (H : List Happening) → StandsAfter H self.old →
             IfOk result (λ may. IsPlayed (MoveValue.Beacon beacon node at) H may self.new) }
     {
@@ -186,7 +183,7 @@ impl Network {
     }
 
     /// A connection that carries a link opens at a node.
-    pub fn open(&mut self, link: u64, node: u8, at: u64) -> Result<bool, OutOfMemory>
+    pub(crate) fn open(&mut self, link: u64, node: u8, at: u64) -> Result<bool, OutOfMemory>
         ensures { (H : List Happening) → StandsAfter H self.old →
             IfOk result (λ may. IsPlayed (MoveValue.Open link node at) H may self.new) }
     {
@@ -223,7 +220,7 @@ impl Network {
     }
 
     /// A connection is made to carry one part more.
-    pub fn carry(&mut self, conn: u64, part: Part) -> Result<bool, OutOfMemory>
+    pub(crate) fn carry(&mut self, conn: u64, part: Part) -> Result<bool, OutOfMemory>
         ensures { (H : List Happening) → StandsAfter H self.old →
             IfOk result (λ may. IsPlayed (MoveValue.Carry conn part) H may self.new) }
     {
@@ -245,7 +242,7 @@ impl Network {
     }
 
     /// A connection is closed.
-    pub fn shut(&mut self, conn: u64, at: u64) -> Result<bool, OutOfMemory>
+    pub(crate) fn shut(&mut self, conn: u64, at: u64) -> Result<bool, OutOfMemory>
         ensures { (H : List Happening) → StandsAfter H self.old →
             IfOk result (λ may. IsPlayed (MoveValue.Shut conn at) H may self.new) }
     {
@@ -253,7 +250,7 @@ impl Network {
     }
 
     /// A link stands.
-    pub fn linked(&mut self, link: u64, at: u64) -> Result<bool, OutOfMemory>
+    pub(crate) fn linked(&mut self, link: u64, at: u64) -> Result<bool, OutOfMemory>
         ensures { (H : List Happening) → StandsAfter H self.old →
             IfOk result (λ may. IsPlayed (MoveValue.Linked link at) H may self.new) }
     {
@@ -261,7 +258,7 @@ impl Network {
     }
 
     /// A link breaks.
-    pub fn unlinked(&mut self, link: u64, at: u64) -> Result<bool, OutOfMemory>
+    pub(crate) fn unlinked(&mut self, link: u64, at: u64) -> Result<bool, OutOfMemory>
         ensures { (H : List Happening) → StandsAfter H self.old →
             IfOk result (λ may. IsPlayed (MoveValue.Unlinked link at) H may self.new) }
     {
@@ -269,7 +266,7 @@ impl Network {
     }
 
     /// Octets come back on a link.
-    pub fn reply(&mut self, link: u64, at: u64, bytes: Octets) -> Result<bool, OutOfMemory>
+    pub(crate) fn reply(&mut self, link: u64, at: u64, bytes: Octets) -> Result<bool, OutOfMemory>
         ensures { (H : List Happening) → StandsAfter H self.old →
             IfOk result (λ may. IsPlayed (MoveValue.Reply link at bytes) H may self.new) }
     {
@@ -277,7 +274,7 @@ impl Network {
     }
 
     /// Octets of a link are sent.
-    pub fn took(&mut self, link: u64, count: u64, at: u64) -> Result<bool, OutOfMemory>
+    pub(crate) fn took(&mut self, link: u64, count: u64, at: u64) -> Result<bool, OutOfMemory>
         ensures { (H : List Happening) → StandsAfter H self.old →
             IfOk result (λ may. IsPlayed (MoveValue.Took link count at) H may self.new) }
     {

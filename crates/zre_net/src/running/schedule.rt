@@ -1,4 +1,4 @@
-ghost use Rattle.std.specs.Prelude.{◌≡◌, None, Some, IfOk, IfErr, OnOk};
+ghost use Rattle.std.specs.Prelude.{◌≡◌, ◌++◌, None, Some, IfOk, IfErr, OnOk};
 ghost use Rattle.zre_net.specs.Agreement.{IsAgreed};
 ghost use Rattle.zre_net.specs.Answer.{Refuses, bad_move};
 ghost use Rattle.zre_net.specs.Reading.{moves_of};
@@ -11,6 +11,17 @@ use crate::running::network::Network;
 use crate::running::said::SaidEvents;
 use std::alloc::Global;
 use std::mem;
+use zre_values::OutOfMemory;
+
+// Appends events.
+fn append(said: &mut SaidEvents, told: SaidEvents) -> Result<(), OutOfMemory>
+    ensures { OnOk result (said.new ≡ said.old ++ told) }
+{
+    for one in told.into_vec() {
+        said.push(one)?;
+    }
+    Ok(())
+}
 
 // Runs moves.
 fn run(alloc: Global, moves: Moves) -> Result<SaidEvents, ScheduleFault>
@@ -18,17 +29,20 @@ fn run(alloc: Global, moves: Moves) -> Result<SaidEvents, ScheduleFault>
     ensures refused { IfErr result (λ fault. Refuses fault (λ number. bad_move moves ≡ Some number)) }
 {
     let mut network = Network::new(alloc)?;
+    let mut said = SaidEvents::new(alloc);
+    let mut told = SaidEvents::new(alloc);
     let mut line: u64 = 2;
     for one in moves.into_vec() {
-        if !network.take(one)? {
+        if !network.take(one, &mut told)? {
             return Err(ScheduleFault::Bad(BadSchedule { number: line }));
         }
+        append(&mut said, mem::replace(&mut told, SaidEvents::new(alloc)))?;
         let Some(next) = line.checked_add(1) else {
             return Err(ScheduleFault::OutOfMemory);
         };
         line = next;
     }
-    Ok(mem::replace(&mut network.said, SaidEvents::new(alloc)))
+    Ok(said)
 }
 
 /// Runs a schedule: what its nodes tell. It refuses the first move that is outside the grammar. Where it does not, its

@@ -1,6 +1,6 @@
 //! A node, and all messages that it has put on its links.
 
-ghost use Rattle.std.specs.Prelude.{◌≡◌, ◌++◌, ◌∷◌, [], List, length, replicate, OnOk, IfOk};
+ghost use Rattle.std.specs.Prelude.{◌≡◌, ◌++◌, ◌∷◌, [], List, length, replicate, true, is_some, OnOk, IfOk, IfSome};
 ghost use Rattle.zre_outside.specs.declared.entry.Entry.{Entry as EntryValue};
 ghost use Rattle.zre_zmtp.specs.Laws.{handshake as handshake_of};
 ghost use Rattle.zre_zmtp.specs.declared.writing.SocketType.TheVariants.{Dealer};
@@ -121,7 +121,8 @@ fn step(
 impl Sender {
     /// A node that was made now: nothing was put on a link.
     pub fn new(alloc: Global, node: Node) -> Sender
-        ensures { (g : Config) → StandsFor g [] node → HasSent g [] result }
+        ensures sent { (g : Config) → StandsFor g [] node → HasSent g [] result }
+        ensures live { is_some result.node ≡ true }
     {
         Sender {
             alloc,
@@ -133,9 +134,10 @@ impl Sender {
 
     /// One entry of the node, and what it puts on links. At most one message may come with it.
     pub fn step(&mut self, entry: Entry) -> Result<Step, OutOfMemory>
-        ensures { (g : Config) (J : List EntryValue) → HasSent g J self.old →
+        ensures steps { (g : Config) (J : List EntryValue) → HasSent g J self.old →
             is_slight g entry.input (chronicle g J) (Comes entry ∷ chronicle g J) →
             IfOk result (λ s. Stepped g J entry s × HasSent g (J ++ entry ∷ []) self.new) }
+        ensures live { OnOk result (is_some self.new.node ≡ true) }
     {
         match &mut self.node {
             Some(node) => step(self.alloc, node, &mut self.lines, self.handshake, entry),
@@ -144,6 +146,15 @@ impl Sender {
                 Err(OutOfMemory)
             }
         }
+    }
+
+    /// The node, until it crashes.
+    pub fn node(&self) -> Option<&Node>
+        ensures there { is_some result ≡ is_some self.now.node }
+        ensures stands { (g : Config) (J : List EntryValue) → HasSent g J self.now →
+            IfSome result (λ n. StandsFor g J n.now) }
+    {
+        self.node.as_ref()
     }
 
     /// The node is gone. What it had put on its links stays.

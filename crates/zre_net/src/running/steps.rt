@@ -122,7 +122,7 @@ fn changed(total: u64, before: u64, after: u64) -> Result<u64, OutOfMemory>
 
 impl Network {
     /// An entry comes at a start. At most one message may come with it.
-    pub fn step(&mut self, start: u64, at: u64, input: Input) -> Result<(), OutOfMemory>
+    pub(crate) fn step(&mut self, start: u64, at: u64, input: Input) -> Result<(), OutOfMemory>
         ensures nodes { (H : List Happening) (m : Move) (a : Incarnation) → AreNodes H self.old → IsStill m →
             nth_of start (incarnations H) ≡ Some a →
             is_slight a.settings input (chronicle_of a H) (Comes (turn_of a at input).entry ∷ chronicle_of a H) →
@@ -152,7 +152,7 @@ impl Network {
     }
 
     /// An entry that is neither about the opening of a connection nor a piece of one comes at a start.
-    pub fn turn(&mut self, start: u64, at: u64, input: Input) -> Result<(), OutOfMemory>
+    pub(crate) fn turn(&mut self, start: u64, at: u64, input: Input) -> Result<(), OutOfMemory>
         ensures { (H : List Happening) (m : Move) (a : Incarnation) → StandsAfter H self.old → IsStill m → IsKept m →
             IsSilent input → nth_of start (incarnations H) ≡ Some a →
             OnOk result (StandsAfter (Happens m (Some (turn_of a at input)) ∷ H) self.new) }

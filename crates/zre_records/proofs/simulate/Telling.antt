@@ -7,7 +7,7 @@ use Rattle.zre_outside.proofs.Through.{front_none, front_longer, through_none, t
 use Rattle.zre_peer.specs.declared.event.Event.{Event}
 use Rattle.zre_records.specs.simulate.Simulate.{told_line, told_lines}
 
-lines-both : (xs ys : List (ℕ × Event)) → told_lines (xs ++ ys) ≡ told_lines xs ++ told_lines ys
+pub lines-both : (xs ys : List (ℕ × Event)) → told_lines (xs ++ ys) ≡ told_lines xs ++ told_lines ys
 lines-both [] ys = refl
 lines-both (x ∷ xs) ys = ap (λ zs. told_line x ++ zs) (lines-both xs ys) ∙ sym (append_assoc (told_line x) (told_lines xs) (told_lines ys))
 

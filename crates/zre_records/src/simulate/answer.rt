@@ -1,18 +1,24 @@
 //! The text of an answer.
 
-ghost use Rattle.std.specs.Prelude.{◌≡◌, ◌≤◌, ℕ, List, ◌++◌, Some, None, is_some, IfOk, OnOk, OnErr, IsErrOf};
+ghost use Rattle.std.specs.Prelude.{◌≡◌, ◌≤◌, ℕ, List, ◌++◌, Some, None, is_some, IfOk, IfErr, IfSome, OnOk, OnErr};
+ghost use Rattle.std.specs.Prelude.{IsErrOf};
+ghost use Rattle.zre_peer.specs.declared.event.Event.{Event as EventValue};
 ghost use Rattle.zre_outside.specs.Causes.{Rose};
 ghost use Rattle.zre_outside.specs.Told.{AppendsFront, WritesThrough};
-ghost use Rattle.zre_net.specs.Answer.{Refuses, bad_in};
-ghost use Rattle.zre_net.specs.Reading.{bad_line as bad_line_of, lines_in};
+ghost use Rattle.zre_net.specs.Answer.{Refuses, bad_in, bad_move};
+ghost use Rattle.zre_net.specs.Reading.{bad_line as bad_line_of, lines_in, moves_of};
+ghost use Rattle.zre_net.specs.Said.{said};
 ghost use Rattle.zre_records.specs.simulate.Simulate.{told_line, told_lines, answer};
 
 use std::alloc::Global;
 use zre_commands::pump::push_bad_line;
-use zre_net::{SaidEvents, Schedule, ScheduleFault, read_schedule, run_schedule};
+use zre_net::{BadSchedule, Moves, Network, SaidEvents, Schedule, ScheduleFault, read_schedule};
 use zre_outside::{NextFault, Sink, write_much};
 use zre_peer::{Event, push_line};
 use zre_values::{Octets, OutOfMemory, push_decimal};
+
+/// Octets of text that are kept while moves are tried.
+const KEPT_TEXT: usize = 1048576;
 
 // The line of an event, after the number of its node.
 fn push_told(out: &mut Octets, told: &(u8, Event)) -> Result<(), OutOfMemory>
@@ -55,7 +61,117 @@ fn put_told<O: Sink>(told: &[(u8, Event)], text: &mut Octets, out: &mut O) -> Re
     Ok(())
 }
 
-// Writes what a schedule comes to, which was read from a text.
+// Appends the lines of events.
+fn push_all(out: &mut Octets, told: &[(u8, Event)]) -> Result<(), OutOfMemory>
+    ensures { OnOk result (out.new ≡ out.old ++ told_lines told.now) }
+{
+    for one in told {
+        push_told(out, one)?;
+    }
+    Ok(())
+}
+
+// Keeps the lines of events after those of others, as long as all of them are few.
+fn keep_told(kept: &mut Option<Octets>, told: &[(u8, Event)]) -> Result<(), OutOfMemory>
+    ensures { (es : List (ℕ × EventValue)) → IfSome kept.old (λ text. text ≡ told_lines es) →
+        OnOk result (IfSome kept.new (λ text. text ≡ told_lines (es ++ told.now))) }
+{
+    let Some(text) = kept else {
+        return Ok(());
+    };
+    push_all(text, told)?;
+    if KEPT_TEXT < text.len() {
+        *kept = None;
+    }
+    Ok(())
+}
+
+// Runs moves, to find one that can't come. What the nodes tell is kept as text as long as it is short.
+fn try_moves(alloc: Global, moves: Moves) -> Result<Option<Octets>, ScheduleFault>
+    ensures told { IfOk result (λ kept. (bad_move moves ≡ None)
+        × IfSome kept (λ text. text ≡ told_lines (said moves))) }
+    ensures refused { IfErr result (λ fault. Refuses fault (λ number. bad_move moves ≡ Some number)) }
+{
+    let mut network = Network::new(alloc)?;
+    let mut told = SaidEvents::new(alloc);
+    let mut kept = Some(Octets::new(alloc));
+    let mut line: u64 = 2;
+    for one in moves.into_vec() {
+        if !network.take(one, &mut told)? {
+            return Err(ScheduleFault::Bad(BadSchedule { number: line }));
+        }
+        keep_told(&mut kept, told.as_slice())?;
+        let Some(next) = line.checked_add(1) else {
+            return Err(ScheduleFault::OutOfMemory);
+        };
+        line = next;
+    }
+    Ok(kept)
+}
+
+// Runs moves of which each can come, and writes what the nodes tell as they tell it.
+fn write_moves<O: Sink>(
+    alloc: Global,
+    moves: Moves,
+    text: &mut Octets,
+    out: &mut O,
+) -> Result<(), NextFault>
+    ensures through { OnOk result
+        (WritesThrough text.old text.new (O.written out.old) (O.written out.new) (told_lines (said moves))) }
+    ensures front { OnErr result
+        (AppendsFront (O.written out.old) (O.written out.new) (text.old ++ told_lines (said moves))) }
+    ensures later { O.faults out.old ≤ O.faults out.new }
+    ensures failed { IsErrOf result NextFault.Failed → Rose (O.faults out.old) (O.faults out.new) }
+{
+    let mut network = Network::new(alloc)?;
+    let mut told = SaidEvents::new(alloc);
+    for one in moves.into_vec() {
+        if !network.take(one, &mut told)? {
+            return Err(NextFault::OutOfMemory);
+        }
+        put_told(told.as_slice(), text, out)?;
+    }
+    Ok(())
+}
+
+// Writes the lines of events that were kept as text.
+fn write_kept<O: Sink>(kept: &[u8], gathered: &mut Octets, out: &mut O) -> Result<(), NextFault>
+    ensures through { OnOk result
+        (WritesThrough gathered.old gathered.new (O.written out.old) (O.written out.new) kept.now) }
+    ensures front { OnErr result
+        (AppendsFront (O.written out.old) (O.written out.new) (gathered.old ++ kept.now)) }
+    ensures later { O.faults out.old ≤ O.faults out.new }
+    ensures failed { IsErrOf result NextFault.Failed → Rose (O.faults out.old) (O.faults out.new) }
+{
+    gathered.append(kept)?;
+    write_much(gathered, out)
+}
+
+// Writes what the nodes of a schedule tell: as it was kept, or once more as they tell it.
+fn write_told<O: Sink>(
+    alloc: Global,
+    schedule: &Schedule,
+    kept: Option<Octets>,
+    gathered: &mut Octets,
+    out: &mut O,
+) -> Result<(), NextFault>
+    ensures through { IfSome kept (λ text. text ≡ told_lines (said (moves_of schedule.now))) → OnOk result
+        (WritesThrough gathered.old gathered.new (O.written out.old) (O.written out.new)
+        (told_lines (said (moves_of schedule.now)))) }
+    ensures front { IfSome kept (λ text. text ≡ told_lines (said (moves_of schedule.now))) → OnErr result
+        (AppendsFront (O.written out.old) (O.written out.new)
+        (gathered.old ++ told_lines (said (moves_of schedule.now)))) }
+    ensures later { O.faults out.old ≤ O.faults out.new }
+    ensures failed { IsErrOf result NextFault.Failed → Rose (O.faults out.old) (O.faults out.new) }
+{
+    match kept {
+        Some(text) => write_kept(text.as_slice(), gathered, out),
+        None => write_moves(alloc, schedule.moves()?, gathered, out),
+    }
+}
+
+// Writes what a schedule comes to, which was read from a text. Its moves are run to find one that can't come, and once
+// more to write what the nodes tell, unless that was short: so it never lies whole in memory.
 fn write_run<O: Sink>(
     alloc: Global,
     schedule: &Schedule,
@@ -71,9 +187,9 @@ fn write_run<O: Sink>(
     ensures later { O.faults out.old ≤ O.faults out.new }
     ensures failed { IsErrOf result NextFault.Failed → Rose (O.faults out.old) (O.faults out.new) }
 {
-    match run_schedule(alloc, schedule) {
-        Ok(said) => {
-            put_told(said.as_slice(), gathered, out)?;
+    match try_moves(alloc, schedule.moves()?) {
+        Ok(kept) => {
+            write_told(alloc, schedule, kept, gathered, out)?;
             Ok(false)
         }
         Err(fault) => Ok(push_refusal(gathered, fault)?),

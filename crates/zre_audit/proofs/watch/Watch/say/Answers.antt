@@ -1,6 +1,7 @@
 use Rattle.std.proofs.Common.{List, [], ◌∷◌, ◌++◌, ℕ, length, ap, ◌∙◌}
 use Rattle.zre_node.specs.Asked.{sent_after}
-use Rattle.zre_audit.specs.Kept.{all_noted, risen}
+use Rattle.zre_journal.specs.Events.{chronicle}
+use Rattle.zre_audit.specs.Kept.{all_noted, risen, reached, counts_of}
 use Rattle.zre_audit.specs.Told.{runs_in, runs_after}
 use Rattle.zre_audit.proofs.Watching.{heard_then, said_then}
 use Rattle.zre_audit.proofs.watch.Watch.say.Goals as goal
@@ -12,7 +13,8 @@ returns c = λ g J b asked o w.
     let n = c.step.new.self in
     let t = c.in_ok-step.ensures.steps g J w.stands in
     let told = λ (p : List ℕ). c.in_ok-take_all.ensures p ∙ ap (runs_after p (runs_in old.heard.runs p)) c.as_slice.ensures in
-    let before = c.as_slice-2.ensures ∙ c.in_ok-before.ensures g J w.stands in
+    let H = chronicle g J in
+    let before = c.as_slice-2.ensures ∙ c.in_ok-before.ensures g J w.stands ∙ ap (λ to. counts_of H (reached to H)) c.whispered-to.ensures in
     record {
       stands = t.stands;
       id_is = w.id_is;

@@ -25,7 +25,7 @@ returns-clause-come c = λ H d s t e.
     let m = move.Piece c.args.conn (length b) c.args.at in
     let slight = slight_now H c.args.conn c.in_ok-place.place c.args.most c.args.at c.args.self.now s d t c.index_mut.result.now c.hear.new.carrier under was b c.in_ok-octets.ensures in
     let nodes = subst (λ (o : List ℕ). AreNodes (Happens m (Some (turn_of d.to c.args.at (input.Piece c.args.conn o))) ∷ H) c.step.new.self) same
-    (c.in_ok-step.ensures.nodes H m d.to (same_fields H c.args.self.now _ refl refl refl refl refl refl refl s.nodes) (still (move.Piece c.args.conn (length b) c.args.at) tt) known
+    (c.in_ok-step.ensures.nodes H m d.to (same_fields H c.args.self.now _ s.nodes.said refl refl refl refl refl refl s.nodes) (still (move.Piece c.args.conn (length b) c.args.at) tt) known
     (subst (λ (o : List ℕ). is_slight d.to.settings (input.Piece c.args.conn o) (chronicle_of d.to H) (Comes (turn_of d.to c.args.at (input.Piece c.args.conn o)).entry ∷ chronicle_of d.to H)) (sym same) slight)) in
     subst (λ (k : ℕ). StandsAfter (with_move (move.Piece c.args.conn k c.args.at) H) c.step.new.self) (sym n)
     (hand_stands H c.args.conn c.in_ok-place.place c.args.most c.args.at c.args.self.now s d t c.index_mut.result.now c.hear.new.carrier under was b c.in_ok-octets.ensures c.step.new.self nodes (ap (λ v. v.items) c.in_ok-step.ensures.conns)

@@ -13,4 +13,4 @@ returns c = λ H s.
     let count : c.len.result ≡ length c.push.new.self.items = (let e = c.len.ensures in let o = c.push.new.self.ok.0 in omega (arith, e, o)) in
     played (move.Start c.args.node c.args.at c.args.config.id c.args.config.name c.args.config.host c.args.config.port) H _ (sym (c.may_start.ensures H c.args.at c.args.config.name c.args.config.host s) ∙ c.if-not-may_start.false)
     (starts_stand H c.args.node c.args.at c.args.config.id c.args.config.name c.args.config.host c.args.config.port c.args.self.now _ s c.in_ok-started.started (subst (λ g. IsBegun c.args.node c.args.at g c.in_ok-started.started) c.requires c.in_ok-started.ensures)
-    c.in_ok-push.ensures.items (subst (λ k. with_running c.args.node (Some k) c.args.self.now.running.items c.set_running.new.rows.items) count c.in_ok-set_running.ensures) c.in_ok-push-2.ensures.ok refl refl refl refl refl refl)
+    c.in_ok-push.ensures.items (subst (λ k. with_running c.args.node (Some k) c.args.self.now.running.items c.set_running.new.rows.items) count c.in_ok-set_running.ensures) c.in_ok-add_owner.ensures s.nodes.said refl refl refl refl refl)

@@ -22,6 +22,7 @@ returns-clause-nodes c = λ H m a nodes still found slight. on_ok c.tell.result 
       beacons = c.in-Ok-send_all.ensures ∙ ap (λ xs. c.args.self.now.beacons ++ filter_map (sent_in c.in_ok-turn.turn.host) xs) c.as_slice.ensures;
       links = c.in-Ok-connect_all.ensures ∙ ap (λ xs. c.args.self.now.links ++ filter_map (way_in c.args.start) xs) c.as_slice-2.ensures;
       said = said;
+      handed = refl;
       running = refl;
       owners = refl;
     }))

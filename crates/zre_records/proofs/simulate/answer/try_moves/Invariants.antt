@@ -1,0 +1,14 @@
+use Rattle.std.proofs.Common.{◌≡◌, ◌++◌}
+use Rattle.std.specs.Prelude.{IfSome}
+use Rattle.std.specs.Vec.Iter.{into_iter_items}
+use Rattle.zre_net.specs.Running.{Goes}
+use Rattle.zre_net.specs.Said.{said}
+use Rattle.zre_records.specs.simulate.Simulate.{told_lines}
+use Rattle.zre_records.proofs.simulate.answer.try_moves.Given as goal
+
+abbrev pub invariant-loop-one : goal.invariant-loop-one
+invariant-loop-one l = record {
+  goes : Goes l.yielded l.line l.network;
+  kept : IfSome l.kept (λ text. text ≡ told_lines (said l.yielded));
+  rest : l.fn.moves ≡ l.yielded ++ into_iter_items l.one-iterator;
+}
