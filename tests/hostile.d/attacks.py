@@ -2,6 +2,7 @@
 import contextlib
 import multiprocessing
 import os
+import random
 import selectors
 import socket
 import threading
@@ -165,7 +166,7 @@ def storm(program: str, peer: str, cell: Cell, seconds: int) -> Figures:
             time.sleep(1)
         enters = [node.count("ENTER", begun + at, begun + at + 1) for at in range(seconds)]
         time.sleep(3)
-        told = {"entered": True, "enters": sum(enters), "most": max(enters)}
+        told = {"entered": True, "enters": sum(enters), "most": max(enters), "last": sum(enters[-5:])}
         told.update(whispers=(other.count("WHISPER", begun), node.count("WHISPER", begun)), of=seconds)
         stranger.close()
         return told
@@ -267,3 +268,72 @@ def few_descriptors(program: str, cell: Cell, count: int) -> Tuple[Optional[int]
         return node.process.poll(), node.said()
     finally:
         node.end()
+
+
+def _pestered(cell: Cell, seconds: float) -> None:
+    """Strangers at a low rate: garbage, half greetings, connections that stay silent, forged beacons, each some times a second."""
+    chance, out, end = random.Random(1), cell.udp(STRANGERS[0]), time.monotonic() + seconds
+    silent: List[socket.socket] = []
+    number = 0
+    while time.monotonic() < end:
+        number += 1
+        with contextlib.suppress(OSError):
+            own = bytes([0xee, number % 256]) + bytes(14)
+            out.sendto(beacon(own, 40000 + number % 256), (NODE, BEACONS))
+            out.sendto(chance.randbytes(chance.randrange(64)), (NODE, BEACONS))
+            one = cell.connect(STRANGERS[number % len(STRANGERS)], timeout=1)
+            kind = number % 4
+            if kind == 0:
+                one.sendall(chance.randbytes(chance.randrange(1, 500)))
+            elif kind == 1:
+                one.sendall((made.GREETING + made.ready(bytes([0xcc]) + bytes(15)))[:chance.randrange(1, 100)])
+            elif kind == 2:
+                one.sendall(made.GREETING + made.ready(bytes([0xcd, number % 256]) + bytes(14)) + said(2, 1, b"x"))
+            if kind == 3 and len(silent) < 100:
+                silent.append(one)
+            else:
+                one.close()
+        time.sleep(0.2)
+    for one in silent:
+        one.close()
+    out.close()
+
+
+def _missed(node: Program, other: str) -> Tuple[int, int]:
+    """How many whispers of the other came, and how many times the next one wasn't the next number."""
+    beginning, numbers = f"WHISPER {other} ", []
+    for _, line in list(node.lines):
+        if line.startswith(beginning):
+            numbers.append(int(line.split(" ")[3]))
+    return len(numbers), sum(1 for before, after in zip([0, *numbers], numbers) if after != before + 1)
+
+
+def soak(program: str, cell: Cell, seconds: float, rate: float = 20) -> Figures:
+    """Two nodes whisper numbers to each other beside strangers. How many came, and how many weren't the next ones."""
+    nodes = [chat(program, cell, 0), chat(program, cell, 1)]
+    try:
+        if nodes[0].first(f"ENTER {BEN}", 15) is None or nodes[1].first(f"ENTER {ANN}", 15) is None:
+            return {"entered": False}
+        begun, number = time.monotonic(), 0
+        strangers = threading.Thread(target=_pestered, args=(cell, seconds), daemon=True)
+        strangers.start()
+        early = late = nodes[0].memory()
+        while time.monotonic() < begun + seconds:
+            number += 1
+            nodes[0].says(f"whisper {BEN} {number}")
+            nodes[1].says(f"whisper {ANN} {number}")
+            if number == int(60 * rate):
+                early = nodes[0].memory()
+            time.sleep(max(0, begun + number / rate - time.monotonic()))
+        strangers.join(10)
+        time.sleep(2)
+        late = nodes[0].memory()
+        came = [_missed(nodes[0], BEN), _missed(nodes[1], ANN)]
+        exits = nodes[0].count(f"EXIT {BEN}") + nodes[1].count(f"EXIT {ANN}")
+        told = {"entered": True, "sent": 2 * number, "came": came[0][0] + came[1][0], "gaps": came[0][1] + came[1][1]}
+        told.update(exits=exits, early=early, late=late, statuses=[nodes[1].end(), nodes[0].end()])
+        return told
+    finally:
+        for node in nodes:
+            if node.process.poll() is None:
+                node.process.kill()

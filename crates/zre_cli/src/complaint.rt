@@ -107,6 +107,14 @@ pub(crate) fn of_desk<R: Eprint>(rt: &R, words: &Frames, reason: Option<io::Erro
     };
 }
 
+/// A gate waits for one of its clients.
+pub(crate) fn of_client<R: Eprint>(rt: &R, number: u64, clients: u64, place: Option<Endpoint>) {
+    if let Some(place) = place {
+        let at = address(place);
+        let _ = eprintln!(rt; "zre: gate: waits for client {number} of {clients} on {at}");
+    }
+}
+
 // The name of the command among the words.
 fn first_of(words: &Frames) -> &str {
     match words.as_slice().first() {

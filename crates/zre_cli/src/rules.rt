@@ -3,7 +3,7 @@
 use std::fmt::{self, Display, Formatter};
 use std::str;
 use zre_capture::{address, number};
-use zre_values::PeerId;
+use zre_values::{Endpoint, Frames, PeerId};
 
 /// What a value may be.
 #[derive(Clone, Copy)]
@@ -172,4 +172,49 @@ pub(crate) fn reads_input(command: &str) -> bool {
         "replay" | "upgrade" | "table" | "audit" | "simulate" | "follow" | "show" => true,
         _ => false,
     }
+}
+
+// The value of a key among the words, where it stands once.
+fn value_of<'a>(words: &'a Frames, key: &[u8]) -> Option<&'a [u8]> {
+    let mut found = None;
+    for word in words.as_slice() {
+        if let Some(value) = word.as_slice().strip_prefix(key) {
+            if found.is_some() {
+                return None;
+            }
+            found = Some(value);
+        }
+    }
+    found
+}
+
+// An address and a port, with `:` between them.
+fn place_of(host: &[u8], port: &[u8]) -> Option<Endpoint> {
+    let addr = address(host)?;
+    match number(port) {
+        Some(n) if 1 <= n && n <= 65535 => Some(Endpoint {
+            addr,
+            port: n as u16,
+        }),
+        _ => None,
+    }
+}
+
+/// How many clients a gate has; none where the words don't say.
+pub(crate) fn clients_of(words: &Frames) -> u64 {
+    match value_of(words, b"clients=") {
+        Some(value) => number(value).unwrap_or(0),
+        None => 0,
+    }
+}
+
+/// The place of a gate's mailbox, where clients come to another port: one that is taken is told of at its turn.
+pub(crate) fn mailbox_of(words: &Frames) -> Option<Endpoint> {
+    let mailbox = place_of(value_of(words, b"host=")?, value_of(words, b"port=")?)?;
+    let (host, port) = split_at(value_of(words, b"local=")?, b':')?;
+    let local = place_of(host, port)?;
+    if local.port == mailbox.port {
+        return None;
+    }
+    Some(mailbox)
 }

@@ -1,3 +1,4 @@
+pub mod Alarms
 pub mod Bells
 pub mod Pieces
 pub mod Readings

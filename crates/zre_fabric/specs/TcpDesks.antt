@@ -4,10 +4,12 @@ use Rattle.std.specs.declared.io.Error.{Error}
 use Rattle.std.specs.declared.net.TcpStream.{TcpStream}
 use Rattle.zre_outside.specs.declared.adapters.Adapter.{Adapter}
 use Rattle.zre_outside.specs.Desks.{Register}
+use Rattle.zre_fabric.specs.declared.bell.Ringing.{Ringing}
+use Rattle.zre_fabric.specs.declared.heeding.Heeding.{Heeding}
 use Rattle.zre_fabric.specs.declared.tcp_desk.TcpDesk.{TcpDesk}
 
 -- it tells nothing of what it gave
-abbrev pub tcp_told_of : {R : Type 0} → TcpDesk R → Option (Register (Adapter TcpStream))
+abbrev pub tcp_told_of : {R : Type 0} → TcpDesk R → Option (Register (Ringing (Heeding (Adapter TcpStream))))
 tcp_told_of d = None
 
 -- how often it failed, and why the last time

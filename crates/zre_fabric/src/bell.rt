@@ -1,11 +1,13 @@
-//! The bell that the reader of the user's input rings, so that what was typed is looked for at once.
+//! The bell that the readers of users' input ring, so that what was typed is looked for at once.
 
 ghost use Rattle.std.specs.Prelude.{◌≡◌, ◌≤◌, ◌<◌};
 
 use mio::net::UnixStream;
+use std::alloc::Global;
 use std::io::{self, Read, Write};
 use std::net::Net;
 use std::os::unix::net::UnixStream as Line;
+use std::sync::Arc;
 use std::time::Duration;
 use zre_outside::{Failed, Source};
 
@@ -24,12 +26,50 @@ const LOOK: u8 = b'l';
 
 const EMPTY: u8 = b'e';
 
+/// What rings the bell of a world. Several sources may share it.
+#[derive(Drop)]
+pub struct Ringer {
+    line: Option<Arc<Line, Global>>,
+}
+
+impl Ringer {
+    /// One that rings nothing.
+    pub fn silent() -> Self {
+        Ringer { line: None }
+    }
+
+    /// A bell, and what rings it. Where the system has none to give, it rings nothing.
+    pub fn with_bell<R: Net>(rt: &R, alloc: Global) -> (Self, Option<Bell>) {
+        let Ok((line, bell)) = pair(rt) else {
+            return (Ringer::silent(), None);
+        };
+        match Arc::new(alloc, line) {
+            Ok(line) => (Ringer { line: Some(line) }, Some(bell)),
+            Err(_) => {
+                drop(bell);
+                (Ringer::silent(), None)
+            }
+        }
+    }
+
+    /// Another that rings the same bell.
+    pub fn share(&self) -> Self {
+        let Some(line) = &self.line else {
+            return Ringer::silent();
+        };
+        match Arc::try_clone(line) {
+            Ok(line) => Ringer { line: Some(line) },
+            Err(_) => Ringer::silent(),
+        }
+    }
+}
+
 /// A source that rings the bell of a world. A ring comes before a read, after the octets of the read before it were
 /// made commands.
 #[derive(Drop)]
 pub struct Ringing<S> {
     inner: S,
-    line: Option<Line>,
+    ringer: Ringer,
     // The octets since the last ring, and those since the last wait.
     given: usize,
     unasked: usize,
@@ -38,33 +78,16 @@ pub struct Ringing<S> {
 impl<S> Ringing<S> {
     ghost use Rattle.zre_fabric.specs.Bells.{source_under};
 
-    /// A source that reads and doesn't ring.
-    pub fn silent(inner: S) -> Self
+    /// A source that reads what this one gives.
+    pub fn new(inner: S, ringer: Ringer) -> Self
         ensures { source_under result ≡ inner }
     {
         Ringing {
             inner,
-            line: None,
+            ringer,
             given: 0,
             unasked: 0,
         }
-    }
-
-    /// A source that rings, and the bell. Where the system has none to give, the source is silent.
-    pub fn with_bell<R: Net>(rt: &R, inner: S) -> (Self, Option<Bell>)
-        ensures { source_under result.0 ≡ inner }
-    {
-        let (line, bell) = match pair(rt) {
-            Ok((line, bell)) => (Some(line), Some(bell)),
-            Err(_) => (None, None),
-        };
-        let source = Ringing {
-            inner,
-            line,
-            given: 0,
-            unasked: 0,
-        };
-        (source, bell)
     }
 
     /// What it reads from.
@@ -80,7 +103,7 @@ impl<S> Ringing<S> {
         ensures some { 0 < result }
         ensures most { result ≤ len }
     {
-        if self.line.is_some() {
+        if self.ringer.line.is_some() {
             len.min(PIECE)
         } else {
             len
@@ -91,7 +114,7 @@ impl<S> Ringing<S> {
     fn ring(&mut self)
         ensures { source_under self.new ≡ source_under self.old }
     {
-        let Some(line) = &self.line else {
+        let Some(line) = &self.ringer.line else {
             return;
         };
         if self.given == 0 {
@@ -113,10 +136,10 @@ fn say(mut line: &Line, word: u8) -> bool {
     line.write(&[word]).is_ok()
 }
 
-// Waits until the world found no more commands.
+// Waits until the world found no more commands. Each that asks takes one answer.
 fn ask(mut line: &Line) {
     if say(line, EMPTY) {
-        let mut answer = [0u8; 64];
+        let mut answer = [0u8; 1];
         let _ = line.read(&mut answer);
     }
 }
@@ -143,7 +166,8 @@ impl<S: Source> Source for Ringing<S> {
 #[derive(Drop)]
 pub struct Bell {
     pub(crate) stream: UnixStream,
-    is_asked: bool,
+    // How many wait for an answer.
+    asking: usize,
 }
 
 impl Bell {
@@ -151,15 +175,21 @@ impl Bell {
     pub(crate) fn hear(&mut self) {
         let mut words = [0u8; 64];
         if let Ok(count) = self.stream.read(&mut words) {
-            self.is_asked |= words[..count].contains(&EMPTY);
+            for word in &words[..count] {
+                if *word == EMPTY {
+                    self.asking = self.asking.saturating_add(1);
+                }
+            }
         }
     }
 
     /// No command was found.
     pub(crate) fn found_none(&mut self) {
-        if self.is_asked {
-            self.is_asked = false;
-            let _ = self.stream.write(&[EMPTY]);
+        let answers = [EMPTY; 16];
+        let count = self.asking.min(answers.len());
+        if count > 0 {
+            self.asking = 0;
+            let _ = self.stream.write(&answers[..count]);
         }
     }
 }
@@ -173,7 +203,7 @@ fn pair<R: Net>(rt: &R) -> io::Result<(Line, Bell)> {
     }
     let bell = Bell {
         stream: UnixStream::from_std(far),
-        is_asked: false,
+        asking: 0,
     };
     Ok((line, bell))
 }

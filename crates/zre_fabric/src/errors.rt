@@ -60,3 +60,9 @@ fn is_transient(number: Option<i32>) -> bool {
         Some(ENFILE | EMFILE | ENONET | EPROTO | ENOPROTOOPT | EOPNOTSUPP | ENOBUFS | EHOSTDOWN)
     )
 }
+
+/// Whether the process, or the system, is short of what a socket needs: descriptors, buffers or memory.
+pub(crate) fn is_short(e: &io::Error) -> bool {
+    e.kind() == ErrorKind::OutOfMemory
+        || matches!(e.raw_os_error(), Some(ENFILE | EMFILE | ENOBUFS))
+}

@@ -7,6 +7,7 @@ ghost use Rattle.zre_fabric.specs.Looking.{is_full, entries_after, commands_afte
 use crate::bell::Bell;
 use crate::network_fault::{NetworkFault, SystemPart, failed};
 use crate::polled_sockets::PolledSockets;
+use crate::prepared::Prepared;
 use crate::since_look::SinceLook;
 use crate::sockets::octets_of;
 use crate::stopwatch::Stopwatch;
@@ -15,7 +16,7 @@ use std::io::{self, ErrorKind};
 use std::net::Net;
 use std::rt::Clock;
 use zre_outside::{Act, Command, Entry, Input, Start, Turn};
-use zre_values::{OutOfMemory, take_apart};
+use zre_values::{Endpoint, OutOfMemory, take_apart};
 
 /// The clock, and the network once it was started.
 pub(crate) struct Fabric<R> {
@@ -23,13 +24,13 @@ pub(crate) struct Fabric<R> {
     alloc: Global,
     stopwatch: Stopwatch,
     row: SinceLook,
-    bell: Option<Bell>,
+    prepared: Prepared,
     network: Option<PolledSockets>,
 }
 
 impl<R: Drop> Drop for Fabric<R> {
     fn drop(self) {
-        take_apart!(self, Fabric: rt, alloc, stopwatch, row, bell, network);
+        take_apart!(self, Fabric: rt, alloc, stopwatch, row, prepared, network);
     }
 }
 
@@ -44,9 +45,22 @@ impl<R> Fabric<R> {
             alloc,
             stopwatch: Stopwatch::new(),
             row: SinceLook::new(),
-            bell,
+            prepared: Prepared {
+                bell,
+                mailbox: None,
+            },
             network: None,
         }
+    }
+}
+
+impl<R: Net> Fabric<R> {
+    /// Listens from now on at the place that the world is to be started at. Where that can't be done, the start says
+    /// so.
+    pub(crate) fn reserve(&mut self, at: Endpoint)
+        ensures same { self.new ≡ record self.old { prepared = self.new.prepared } }
+    {
+        self.prepared.reserve(&self.rt, at);
     }
 }
 
@@ -60,7 +74,7 @@ impl<R: Net + Clock> Fabric<R> {
         drop(self.network.take());
         self.row = SinceLook::new();
         let at = self.stopwatch.read(&self.rt)?;
-        let network = PolledSockets::open(&self.rt, self.alloc, s, at, &mut self.bell)?;
+        let network = PolledSockets::open(&self.rt, self.alloc, s, at, &mut self.prepared)?;
         drop(self.network.replace(network));
         Ok(())
     }
@@ -89,10 +103,10 @@ impl<R: Net + Clock> Fabric<R> {
 
     // The last turn was a look, after which no command was found: the bell's other end may wait for that.
     fn tell_bell(&mut self)
-        ensures same { self.new ≡ record self.old { bell = self.new.bell } }
+        ensures same { self.new ≡ record self.old { prepared = self.new.prepared } }
     {
         if self.row.has_looked()
-            && let Some(bell) = &mut self.bell
+            && let Some(bell) = &mut self.prepared.bell
         {
             bell.found_none();
         }
@@ -146,13 +160,13 @@ impl<R: Net + Clock> Fabric<R> {
             self.row.gave_look();
             return Ok(Turn::Look);
         }
-        if let Some(input) = network.find(&self.rt, at, &mut self.bell)? {
+        if let Some(input) = network.find(&self.rt, at, &mut self.prepared.bell)? {
             self.row.gave_entry(octets_of(&input));
             return Ok(Turn::Entry(Entry { at, input }));
         }
-        network.wait(&self.rt, at, &mut self.bell)?;
+        network.wait(&self.rt, at, &mut self.prepared.bell)?;
         let at = self.stopwatch.read(&self.rt)?;
-        match network.find(&self.rt, at, &mut self.bell)? {
+        match network.find(&self.rt, at, &mut self.prepared.bell)? {
             Some(input) => {
                 self.row.gave_entry(octets_of(&input));
                 Ok(Turn::Entry(Entry { at, input }))

@@ -5,6 +5,7 @@ use crate::bell::Bell;
 use crate::entry_source::{EntrySource, source_of, token_of};
 use crate::network_fault::{NetworkFault, SystemPart, failed, no_memory};
 use crate::pace::Pace;
+use crate::prepared::Prepared;
 use crate::sockets::Sockets;
 use mio::event::Source as Watched;
 use mio::{Events, Interest, Poll, Registry};
@@ -61,16 +62,16 @@ fn new_poll<R: Net>(rt: &R, alloc: Global) -> Result<(Poll, Events), NetworkFaul
 }
 
 impl PolledSockets {
-    /// Binds both sockets, and has the poll watch them, and the bell.
+    /// Binds both sockets, or takes the listener that was reserved, and has the poll watch them, and the bell.
     pub(crate) fn open<R: Net>(
         rt: &R,
         alloc: Global,
         s: &Start,
         at: u64,
-        bell: &mut Option<Bell>,
+        prepared: &mut Prepared,
     ) -> Result<Self, NetworkFault> {
         let (poll, events) = new_poll(rt, alloc)?;
-        let sockets = match Sockets::open(rt, alloc, s) {
+        let sockets = match Sockets::open(rt, alloc, s, prepared.mailbox.take()) {
             Ok(sockets) => sockets,
             Err(trouble) => {
                 drop(poll);
@@ -85,7 +86,7 @@ impl PolledSockets {
             pace: Pace::new(s.interval, at),
             is_due_to_poll: true,
         };
-        match network.watch_all(bell) {
+        match network.watch_all(&mut prepared.bell) {
             Ok(()) => Ok(network),
             Err(trouble) => {
                 drop(network);

@@ -14,7 +14,7 @@ use std::alloc::Global;
 use std::net::Net;
 use std::rt::Clock;
 use zre_outside::{Act, Command, NextFault, Start, Turn, World};
-use zre_values::{OutOfMemory, take_apart};
+use zre_values::{Endpoint, OutOfMemory, take_apart};
 
 /// The real network. It tells nothing of what it gave, since no contract says what a system answers.
 pub struct RealWorld<R> {
@@ -95,6 +95,21 @@ fn raise(faults: u64, fault: NextFault) -> u64
     match fault {
         NextFault::Failed => faults.saturating_add(1),
         NextFault::OutOfMemory => faults,
+    }
+}
+
+impl<R: Net> RealWorld<R> {
+    ghost use Rattle.zre_fabric.specs.RealWorlds.{has_looked, faults_of, reason_of, Waits};
+
+    /// Listens from now on at the address and the port of the mailbox that the world is to be started with. Where that
+    /// can't be done nothing is said: the start tries again, and fails where it still can't.
+    pub fn reserve(&mut self, at: Endpoint)
+        ensures looked { has_looked self.new ≡ has_looked self.old }
+        ensures faults { faults_of self.new ≡ faults_of self.old }
+        ensures reason { reason_of self.new ≡ reason_of self.old }
+        ensures row { Waits self.old self.new }
+    {
+        self.fabric.reserve(at);
     }
 }
 

@@ -5,13 +5,14 @@ ghost use Rattle.zre_fabric.specs.Looking.{octets_in};
 ghost use Rattle.zre_fabric.specs.Pieces.{IsShort, StepIsShort};
 
 use crate::arrivals::{Arrival, Arrivals};
-use crate::beacons::{BeaconSocket, address};
+use crate::beacons::BeaconSocket;
 use crate::conn::TcpConn;
 use crate::entry_source::{EntrySource, token_of};
 use crate::errors::{ErrorClass, class_of};
 use crate::links::{Links, Times};
 use crate::network_fault::{NetworkFault, SystemPart, failed, no_memory};
 use crate::polled::Polled;
+use crate::prepared::{Reserved, listen};
 use crate::read_buffer::ReadBuffer;
 use crate::shares::Shares;
 use crate::source_queue::SourceQueue;
@@ -69,18 +70,29 @@ pub(crate) fn octets_of(input: &Input) -> u64
 }
 
 impl Sockets {
-    /// Binds the socket for beacons and the listener.
-    pub(crate) fn open<R: Net>(rt: &R, alloc: Global, s: &Start) -> Result<Self, NetworkFault> {
-        let beacons = BeaconSocket::open(rt, alloc, s)?;
+    /// Binds the socket for beacons and the listener, unless that was reserved.
+    pub(crate) fn open<R: Net>(
+        rt: &R,
+        alloc: Global,
+        s: &Start,
+        reserved: Option<Reserved>,
+    ) -> Result<Self, NetworkFault> {
+        let beacons = match BeaconSocket::open(rt, alloc, s) {
+            Ok(beacons) => beacons,
+            Err(trouble) => {
+                drop(reserved);
+                return Err(trouble);
+            }
+        };
         let listens_at = Endpoint {
             addr: s.host,
             port: s.port,
         };
-        let listener = match listen(rt, listens_at) {
+        let listener = match listen(rt, listens_at, reserved) {
             Ok(listener) => listener,
-            Err(trouble) => {
+            Err(error) => {
                 drop(beacons);
-                return Err(trouble);
+                return Err(failed(SystemPart::Mailbox(listens_at), error));
             }
         };
         if let Err(error) = try_two(rt) {
@@ -417,11 +429,4 @@ fn try_two<R: Net>(rt: &R) -> io::Result<()> {
     drop(one);
     drop(other);
     Ok(())
-}
-
-fn listen<R: Net>(rt: &R, at: Endpoint) -> Result<TcpListener, NetworkFault> {
-    match TcpListener::bind(rt, address(at.addr, at.port)) {
-        Ok(listener) => Ok(listener),
-        Err(error) => Err(failed(SystemPart::Mailbox(at), error)),
-    }
 }

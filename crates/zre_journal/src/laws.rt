@@ -286,8 +286,9 @@ pub fn answers_are_in_turn()
     ensures { (g : Config) (J : List Entry) → AnswersInTurn g J }
 {}
 
-/// What the outside took of what a link had to send, joined, begins the link's text, now and after whatever comes later,
-/// and is as long as the chronicle says: nothing goes out twice, is passed over, or is changed after it went out.
+/// What the outside took of what a link had to send, joined, begins the link's text, now and after whatever comes
+/// later, and is as long as the chronicle says: nothing goes out twice, is passed over, or is changed after it went
+/// out.
 pub fn what_goes_out_is_the_text()
     ensures { (g : Config) (J K : List Entry) → CanBe g → GoesOutInOrder g J K }
 {}

@@ -1,5 +1,5 @@
 -- What is kept beside the rows agrees with them after a change.
-use Rattle.std.proofs.Common.{◌≡◌, ℕ, ◌==◌, ◌≤◌, ◌-◌, ◌^◌, ◌&&◌, ◌||◌, not, Bool, true, false, cond, eqb, ltb, nat_le, List, [], Option, Some, None, IfSome, is_some, refl, sym, ap, ◌∙◌, arith, nat_cmp, eqb-true, eq-eqb, subst}
+use Rattle.std.proofs.Common.{◌≡◌, ℕ, ◌==◌, ◌≤◌, ◌-◌, ◌^◌, ◌||◌, Bool, true, false, cond, eqb, ltb, nat_le, List, [], Option, Some, None, IfSome, is_some, refl, sym, ap, ◌∙◌, arith, nat_cmp, eqb-true, eq-eqb, subst}
 use Rattle.std.specs.BTreeMap.{is_at}
 use Rattle.std.specs.FinMap as map
 use Rattle.std.specs.List.Sorted.{IsStrictlySortedBy}

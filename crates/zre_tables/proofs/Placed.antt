@@ -1,5 +1,5 @@
 -- Rows that lie in the order of their numbers: found, changed, taken out and put in by their places.
-use Rattle.std.proofs.Common.{◌≡◌, is_some, ℕ, ◌+◌, ◌<◌, ◌≤◌, Bool, true, false, eqb, ltb, cond, List, [], ◌∷◌, ◌++◌, length, take, drop, map, Option, Some, None, Result, Ok, Err, refl, sym, ap, ◌∙◌, arith, nat_cmp, get_or, subst, ⊎_elim, eqb-true, eq-eqb, ne_eqb, lt-ltb, le-ltb, tests, suc, zero}
+use Rattle.std.proofs.Common.{◌≡◌, is_some, ℕ, ◌+◌, ◌<◌, ◌≤◌, Bool, true, false, cond, List, [], ◌∷◌, length, drop, Option, Some, None, Err, refl, sym, ap, ◌∙◌, arith, nat_cmp, get_or, subst, eqb-true, eq-eqb, ne_eqb, tests, suc, zero}
 use Rattle.std.proofs.lemmas.List.{drop_more, get_or-map, length-map}
 use Rattle.std.proofs.lemmas.Map.Keys.{IsDistinct-from_sorted, non_decreasing_from_sorted}
 use Rattle.std.proofs.lemmas.Map.Lookups.{exact_unsigned}
@@ -10,7 +10,7 @@ use Rattle.std.specs.BTreeMap.{is_at, insert_entry}
 use Rattle.std.specs.Cmp.{ranks, nat_cmp_is}
 use Rattle.std.specs.List.{AllByRecursion, slice_get, slice_set, insert, remove}
 use Rattle.std.specs.List.Sorted.{IsStrictlySortedBy, IsBinarySearchResult}
-use Rattle.std.specs.Map.{keys_of, lookup, remove_entry, set_value}
+use Rattle.std.specs.Map.{keys_of}
 use Rattle.std.specs.Option.{MatchOption}
 use Rattle.std.specs.Ordering.{eq_by_cmp, is_eq, match_ordering, ordering_index}
 use Rattle.std.specs.declared.cmp.Ordering.{Ordering}
@@ -106,10 +106,10 @@ module _ {V : Type 0} where
   pub search_err : (es : List (ℕ × V)) (n i : ℕ) → IsStrictlySortedBy nat_cmp (keys_of es) → IsBinarySearchResult (λ (e : ℕ × V). nat_cmp e.0 n) es (Err i) → Parts es n i
   search_err es n i up h =
       let parted = h (λ a b d le l.
-          let first : get_or (keys_of es) a d.0 ≡ (get_or es a d).0 = get_or-map (λ (e : ℕ × V). e.0) es a d d.0 (omega (arith, le, l)) in
-          let second : get_or (keys_of es) b d.0 ≡ (get_or es b d).0 = get_or-map (λ (e : ℕ × V). e.0) es b d d.0 l in
-          let long : length (keys_of es) ≡ length es = length-map es (λ (e : ℕ × V). e.0) in
-          higher n (get_or es a d).0 (get_or es b d).0 (omega (arith, first, second, non_decreasing_from_sorted (keys_of es) up a b d.0 le (omega (arith, l, long))))) in
+      let first : get_or (keys_of es) a d.0 ≡ (get_or es a d).0 = get_or-map (λ (e : ℕ × V). e.0) es a d d.0 (omega (arith, le, l)) in
+      let second : get_or (keys_of es) b d.0 ≡ (get_or es b d).0 = get_or-map (λ (e : ℕ × V). e.0) es b d d.0 l in
+      let long : length (keys_of es) ≡ length es = length-map es (λ (e : ℕ × V). e.0) in
+      higher n (get_or es a d).0 (get_or es b d).0 (omega (arith, first, second, non_decreasing_from_sorted (keys_of es) up a b d.0 le (omega (arith, l, long))))) in
       record { low = λ k d l. parted.0 k d (omega arith) l; high = λ k d l u. parted.1 k d l u }
 
   -- what was read at a place is the row of its number

@@ -1,5 +1,5 @@
 -- Rows of known peers, of which one was lent and came back changed.
-use Rattle.std.proofs.Common.{◌≡◌, ℕ, ◌+◌, ◌≤◌, ◌++◌, Bool, List, [], ◌∷◌, Some, None, Result, Ok, OnOk, OnErr, IfErr, is_some, nat_cmp, refl, sym, ap, ◌∙◌, subst}
+use Rattle.std.proofs.Common.{◌≡◌, ℕ, ◌+◌, ◌≤◌, ◌++◌, Bool, List, [], ◌∷◌, Some, None, Result, Ok, OnOk, OnErr, IfErr, refl, sym, ap, ◌∙◌}
 use Rattle.std.proofs.lemmas.Result.{on_err_weaker}
 use Rattle.std.specs.List.{slice_set}
 use Rattle.zre_values.specs.declared.limits.TheConstants.{UNSENT_OCTETS}

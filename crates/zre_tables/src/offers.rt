@@ -93,11 +93,7 @@ fn offer_rows(rows: &Rows<Peer>, links: &[u64], acts: &mut Acts) -> Result<(), O
 }
 
 // The same in the cheaper way.
-fn offer_rising(
-    rows: &Rows<Peer>,
-    links: &[u64],
-    acts: &mut Acts,
-) -> Result<(), OutOfMemory>
+fn offer_rising(rows: &Rows<Peer>, links: &[u64], acts: &mut Acts) -> Result<(), OutOfMemory>
     requires rising { IsStrictlyIncreasing links.now }
     requires sorted { IsStrictlySortedBy nat_cmp (keys_of rows.now.all.items) }
     ensures { OnOk result (acts.new ≡ acts.old ++ offered_among links.now rows.now.all.items) }

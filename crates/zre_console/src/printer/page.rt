@@ -82,4 +82,38 @@ impl Page {
             self.fault = Some(fault);
         }
     }
+
+    // Tells the sink by a write of no octets that there is nothing more to come.
+    fn tell_end<O: Sink>(&mut self, out: &mut O)
+        ensures shows { (w : Option (List ℕ)) (es : List EventValue) → Shows self.old w (O.written out.old) es →
+            Shows self.new w (O.written out.new) es }
+        ensures text { self.new.text ≡ self.old.text }
+        ensures calm { self.new.fault ≡ None → self.old.fault ≡ None }
+        ensures stays { IsSome self.old.fault → self.new ≡ self.old }
+        ensures later { O.faults out.old ≤ O.faults out.new }
+        ensures failed { self.new.fault ≡ Some Failed → (self.old.fault ≡ Some Failed)
+            ⊎ Rose (O.faults out.old) (O.faults out.new) }
+    {
+        let told = out.write(&[]);
+        if self.fault.is_some() {
+            return;
+        }
+        if let Err(fault) = told {
+            self.fault = Some(fault);
+        }
+    }
+
+    /// Writes what has been gathered, and tells the sink by a write of no octets that there is nothing more to come.
+    pub fn close<O: Sink>(&mut self, out: &mut O)
+        ensures shows { (w : Option (List ℕ)) (es : List EventValue) → Shows self.old w (O.written out.old) es →
+            Shows self.new w (O.written out.new) es }
+        ensures written { self.new.fault ≡ None → self.new.text ≡ [] }
+        ensures stays { IsSome self.old.fault → self.new ≡ self.old }
+        ensures later { O.faults out.old ≤ O.faults out.new }
+        ensures failed { self.new.fault ≡ Some Failed → (self.old.fault ≡ Some Failed)
+            ⊎ Rose (O.faults out.old) (O.faults out.new) }
+    {
+        self.write(out);
+        self.tell_end(out);
+    }
 }

@@ -98,7 +98,7 @@ impl Page {
                     (taker, asker, false)
                 }
                 Told::Last(_) => {
-                    self.write(out);
+                    self.close(out);
                     (taker, asker, true)
                 }
             },

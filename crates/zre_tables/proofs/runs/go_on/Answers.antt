@@ -1,9 +1,8 @@
-use Rattle.std.proofs.Common.{◌++◌, is_some, refl, sym, ap, ◌∙◌}
+use Rattle.std.proofs.Common.{◌++◌, ap, ◌∙◌}
 use Rattle.zre_values.specs.declared.peer_id.PeerId.{PeerId}
 use Rattle.zre_msg.specs.Lent.{message_of}
 use Rattle.zre_peer.specs.Runs.{events_of}
 use Rattle.zre_peer.specs.Views.{view_of}
-use Rattle.zre_peer.specs.Standing.{view_in}
 use Rattle.zre_tables.proofs.Carrying.{if_err}
 use Rattle.zre_values.proofs.Answered.{on_ok}
 use Rattle.zre_tables.proofs.runs.go_on.Goals as goal
@@ -21,4 +20,3 @@ returns-clause-refused c = λ n id ms r.
     if_err c.take_lent.result (c.take_lent.ensures.refused ms r.stands) c.take_lent.ensures.kept (λ e a kept other.
     let f = a other in
     (f.0, f.2, r.conn, kept ∙ r.stands.view, f.3))
-

@@ -1,4 +1,4 @@
-use Rattle.std.proofs.Common.{ℕ, ◌≤◌, ◌∙◌, [], sym, ap, refl, subst, arith, append-nil}
+use Rattle.std.proofs.Common.{◌∙◌, [], sym, ap, refl, subst, arith, append-nil}
 use Rattle.std.proofs.KnownBytes.{Appends-nil}
 use Rattle.std.proofs.Common.{⊎_elim}
 use Rattle.zre_actor.specs.Passes.{taken_by, last_of}

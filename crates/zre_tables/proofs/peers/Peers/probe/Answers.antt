@@ -1,4 +1,4 @@
-use Rattle.std.proofs.Common.{Result, Ok, Err, OnOk, IfErr, refl, sym, subst}
+use Rattle.std.proofs.Common.{Result, Ok, Err, OnOk, IfErr, sym, subst}
 use Rattle.zre_msg.specs.declared.message.Body.TheVariants.{Ping}
 use Rattle.zre_tables.proofs.Changing.{same, there}
 use Rattle.zre_tables.specs.Probing.{IsTold}

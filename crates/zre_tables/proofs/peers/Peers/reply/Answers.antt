@@ -1,4 +1,4 @@
-use Rattle.std.proofs.Common.{true, refl, ap, ◌∙◌, sym}
+use Rattle.std.proofs.Common.{true, ap, ◌∙◌, sym}
 use Rattle.std.proofs.lemmas.Result.{IfOk-weaker}
 use Rattle.zre_link.specs.Link.{Sending, link_answering}
 use Rattle.zre_tables.specs.declared.peer.Peer.{Peer}

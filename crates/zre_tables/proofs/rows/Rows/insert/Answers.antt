@@ -1,6 +1,4 @@
-use Rattle.std.proofs.Common.{sym, ◌∙◌, subst, nat_cmp, if◌then◌else◌}
-use Rattle.std.specs.List.Sorted.{IsStrictlySortedBy}
-use Rattle.std.specs.Map.{keys_of}
+use Rattle.std.proofs.Common.{◌∙◌}
 use Rattle.zre_tables.proofs.Placed.{lies, replaced, rising_with, rising_set}
 use Rattle.zre_tables.proofs.rows.Rows.insert.Goals as goal
 

@@ -1,4 +1,4 @@
-use Rattle.std.proofs.Common.{ℕ, ◌-◌, List, rules}
+use Rattle.std.proofs.Common.{◌-◌, rules}
 use Rattle.zre_tables.proofs.Placed.{hit}
 use Rattle.zre_tables.proofs.rows.Rows.place.Goals as goal
 

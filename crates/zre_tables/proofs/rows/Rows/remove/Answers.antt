@@ -1,7 +1,5 @@
 use Rattle.std.proofs.Common.{arith, sym, ◌∙◌}
 use Rattle.std.proofs.lemmas.Option.{slice_get_within}
-use Rattle.std.specs.List.Sorted.{IsStrictlySortedBy}
-use Rattle.std.specs.Map.{keys_of}
 use Rattle.zre_tables.proofs.Placed.{lies, rising_without, without_none}
 use Rattle.zre_tables.proofs.rows.Rows.remove.Goals as goal
 

@@ -1,4 +1,4 @@
-use Rattle.std.proofs.Common.{◌≡◌, ℕ, ◌≤◌, List, None, Some, length, nat_cmp, Result, Ok, Err, IfOk, IfErr, sym, subst, rules}
+use Rattle.std.proofs.Common.{◌≡◌, ℕ, ◌≤◌, List, None, Some, length, nat_cmp, Result, Ok, Err, IfOk, IfErr, subst, rules}
 use Rattle.std.proofs.lemmas.List.Sorted.{answers_always}
 use Rattle.std.specs.BTreeMap.{insert_entry}
 use Rattle.std.specs.List.{insert, slice_get}

@@ -36,6 +36,6 @@ returns-in-Last-clause-prints g c = λ first start w p. (
     let o = g.O.Sink in let n = c.next_told-taker in let a = c.args in
     let q = asked_more first start w a.asker a.taker a.self.now (o.written a.out.now) p c.ask-asker.result c.ask-asker.ensures.asked (λ none. c.ask-asker.ensures.calm (c.is_some.ensures ∙ ap is_some none)) in
     let t : Found a.taker n.result.0 (Some (told.Last c.in-Last.field-0)) = subst (Found a.taker n.result.0) (c.in-Some.is ∙ ap Some c.in-Last.is) n.ensures.told in
-    printed_same first start w c.ask-asker.result a.taker a.self.now (o.written a.out.now) q n.result.0 c.write.new.self (o.written c.write.new.out) t.0
-    (λ v os h. c.write.ensures.shows v os (n.ensures.shows v os h))
-    (λ is. none_before a.self.now.fault n.new.self.fault n.ensures.stays (none_before n.new.self.fault c.write.new.self.fault (stays_too n.new.self c.write.new.self c.write.ensures.stays) is)))
+    printed_same first start w c.ask-asker.result a.taker a.self.now (o.written a.out.now) q n.result.0 c.close.new.self (o.written c.close.new.out) t.0
+    (λ v os h. c.close.ensures.shows v os (n.ensures.shows v os h))
+    (λ is. none_before a.self.now.fault n.new.self.fault n.ensures.stays (none_before n.new.self.fault c.close.new.self.fault (stays_too n.new.self c.close.new.self c.close.ensures.stays) is)))

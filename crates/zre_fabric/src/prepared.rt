@@ -1,0 +1,57 @@
+//! What a world has before it is started.
+
+use crate::beacons::address;
+use crate::bell::Bell;
+use mio::net::TcpListener;
+use std::io;
+use std::net::Net;
+use zre_values::{Endpoint, take_apart};
+
+/// A listener that was bound before the world was started.
+#[derive(Drop)]
+pub(crate) struct Reserved {
+    at: Endpoint,
+    listener: TcpListener,
+}
+
+/// The bell, and the mailbox where it was reserved.
+pub(crate) struct Prepared {
+    pub(crate) bell: Option<Bell>,
+    pub(crate) mailbox: Option<Reserved>,
+}
+
+impl Drop for Prepared {
+    fn drop(self) {
+        take_apart!(self, Prepared: bell, mailbox);
+    }
+}
+
+impl Prepared {
+    /// Listens at a place, where that can be done.
+    pub(crate) fn reserve<R: Net>(&mut self, rt: &R, at: Endpoint) {
+        self.mailbox = None;
+        if let Ok(listener) = TcpListener::bind(rt, address(at.addr, at.port)) {
+            self.mailbox = Some(Reserved { at, listener });
+        }
+    }
+}
+
+/// The listener at this place: the one that was reserved there, or a new one. One reserved elsewhere is closed.
+pub(crate) fn listen<R: Net>(
+    rt: &R,
+    at: Endpoint,
+    reserved: Option<Reserved>,
+) -> io::Result<TcpListener> {
+    match reserved {
+        Some(
+            Reserved {
+                at: place,
+                listener,
+            },
+        ) if place == at => Ok(listener),
+        other => {
+            drop(other);
+            TcpListener::bind(rt, address(at.addr, at.port))
+        }
+    }
+}
