@@ -303,7 +303,9 @@ static void hear(const uint8_t *id, struct octets first, const struct octets *co
     struct peer *p = peer_of(id);
     uint32_t due = command == HELLO ? 1 : p && p->is_entered ? (uint16_t)(p->heard + 1) : 0x10000;
     if (c.is_short || signature != 0xaaa1 || version != 2 || sequence != due) {
-        printf("BAD message %u with the number %u, due was %u\n", command, sequence, due);
+        printf("BAD message %u with the number %u, due was %u, of ", command, sequence, due);
+        for (int i = 0; i < 16; i++) printf("%02X", id[i]);
+        putchar('\n');
         return;
     }
     if (command == HELLO) { hear_hello(id, &c); return; }
@@ -344,7 +346,7 @@ static void receive(void)
         if (zmq_msg_recv(&frames[n], mailbox, 0) < 0) give_up("mailbox");
         o[n] = (struct octets){ zmq_msg_data(&frames[n]), zmq_msg_size(&frames[n]) };
     } while (zmq_msg_more(&frames[n++]));
-    if (n < 2 || o[0].len != 17 || o[0].at[0] != 1) puts("BAD identity");
+    if (n < 2 || o[0].len != 17 || o[0].at[0] != 1) printf("BAD identity of %zu octets\n", o[0].len);
     else hear(o[0].at + 1, o[1], o + 2, n - 2);
     while (n > 0) zmq_msg_close(&frames[--n]);
 }

@@ -9,8 +9,11 @@ from messages import quote
 from node import Settings
 
 GREATEST = 2 ** 64 - 1
+GREATEST_DIGITS = 20
 LINE_OCTETS = {1: 4_194_304, 2: 4_194_324}
 LONGEST_TIME = 86_400_000
+NUMBER, DIGITS = re.compile(rb"0|[1-9][0-9]*"), re.compile(rb"(?:[0-9a-f]{2})+")
+IDENTITY = re.compile(rb"[0-9A-F]{32}")
 NAME_OCTETS, VALUE_OCTETS, HEADERS = 255, 1_024, 256
 
 
@@ -36,9 +39,10 @@ class Entry(NamedTuple):
 
 def number(field: bytes, least: int = 0, greatest: int = GREATEST) -> int:
     """A number in decimal without leading zeros."""
-    if not re.fullmatch(rb"0|[1-9][0-9]*", field) or not least <= int(field) <= greatest:
+    value = int(field) if NUMBER.fullmatch(field) and len(field) <= GREATEST_DIGITS else -1
+    if not least <= value <= greatest:
         raise NotAsRequired
-    return int(field)
+    return value
 
 
 def address(field: bytes) -> str:
@@ -52,13 +56,13 @@ def digits(field: bytes) -> bytes:
     """Octets as lower-case digits, two for each, or - for none."""
     if field == b"-":
         return b""
-    if not re.fullmatch(rb"(?:[0-9a-f]{2})+", field):
+    if not DIGITS.fullmatch(field):
         raise NotAsRequired
     return bytes.fromhex(field.decode())
 
 
 def identity(field: bytes) -> bytes:
-    if not re.fullmatch(rb"[0-9A-F]{32}", field):
+    if not IDENTITY.fullmatch(field):
         raise NotAsRequired
     return bytes.fromhex(field.decode())
 

@@ -1,4 +1,4 @@
-"""What `follow`, `show`, `replay`, `upgrade` and `simulate` write, and their exit status."""
+"""What the commands that read one input write, and their exit status."""
 from __future__ import annotations
 
 from typing import List, Tuple
@@ -6,12 +6,14 @@ from typing import List, Tuple
 import captures
 import messages
 import network
+import records
 import zmtp
 from captures import Capture
 from messages import Run, quote, quote_pairs
 from node import Node, Settings
+from words import argument
 
-DONE, BAD_INPUT = 0, 3
+DONE, USAGE, BAD_INPUT = 0, 2, 3
 Answer = Tuple[bytes, int]
 
 
@@ -107,28 +109,23 @@ def place_of(capture: Capture) -> Tuple[int, ...]:
     return (capture.bad.line, capture.bad.column) if capture.bad else ()
 
 
-def words_of(words: List[str]) -> Settings:
-    """The settings of a node by the words of a command line, which are as they must be, the identity as 32 digits."""
-    values = dict(word.split("=", 1) for word in words if not word.startswith("header="))
-    pairs = [word.split("=", 2)[1:] for word in words if word.startswith("header=")]
-    own = bytes.fromhex(values["id"])
-    return Settings(own, values.get("name", values["id"][:6].upper()).encode(), values["host"], int(values["port"]),
-                    int(values.get("evasive", 5000)), int(values.get("expired", 30000)),
-                    tuple((pair[0].encode(), pair[1].encode()) for pair in pairs))
-
-
-def run(words: List[str], octets: bytes) -> Answer:
-    """What the command with these words answers to this input."""
-    if words[0] == "show":
+def run(words: List[bytes], octets: bytes) -> Answer:
+    """What the command with these words answers to this input. It isn't `chat`, `gate` or `exercise`."""
+    are_words, told = argument(words)
+    if not are_words:
+        return b"USAGE\n", USAGE
+    name = words[0]
+    if name == b"show":
         return show(octets)
-    if words[0] == "simulate":
+    if name == b"simulate":
         return simulate(octets)
-    if words[0] == "follow":
-        return follow(bytes.fromhex(words[1].split("=")[1]), octets)
-    if words[0] == "upgrade":
-        return upgrade(words_of(words[1:]), octets)
-    if len(words) == 1:
-        return replay(Capture(octets, 2))
-    capture = Capture(octets, 1)
-    capture.settings = words_of(words[1:])
+    if name == b"follow":
+        return follow(told, octets)
+    if name == b"upgrade":
+        return upgrade(told, octets)
+    if name in (b"audit", b"table"):
+        lines, place = records.audit(octets) if name == b"audit" else records.table(told, octets)
+        return answer(lines, *(place or ()))
+    capture = Capture(octets, 1 if told else 2)
+    capture.settings = told or capture.settings
     return replay(capture)

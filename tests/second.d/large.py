@@ -11,6 +11,7 @@ SHOWN = PEER.hex().upper()
 HEAD = f"zre-capture 2 {OWN.hex().upper()} Me 10.0.0.1 49153 5000 30000 %"
 LINE = {1: 4_194_304, 2: 4_194_324}
 MESSAGE, UNSENT = 1_048_576, 4_194_304
+SCHEDULE, SCHEDULE_LINES = 16_777_216, 262_144
 HELLO = b"\xaa\xa1\x01\x02\x00\x01" + string(b"tcp://10.0.0.2:49152") + bytes(4) + b"\x00" + string(b"Ann") + bytes(4)
 GREETING = journals.SIGNATURE + b"\x03\x01NULL" + bytes(48)
 Row = Tuple[str, List[str], bytes, str]
@@ -100,9 +101,27 @@ def unsent() -> Iterator[Row]:
     yield "room for all again", ["replay"], joined(entries), again
 
 
+def schedules() -> Iterator[Row]:
+    """Schedules of as many octets, lines and octets of a line as they may have, and of one more."""
+    first = f"zre-schedule 1\nstart 1 0 {SHOWN} a 10.0.0.1 49153\n"
+    move, line = "do 1 0 join ", LINE[1]
+    long_one = f"{move}{'g' * (line - len(move))}\n"
+    yield "a schedule with a line as long as may be", ["simulate"], (first + long_one).encode(), "1 REFUSED TOOBIG"
+    yield "a schedule with a line one too long", ["simulate"], f"{first}{long_one[:-1]}g\n".encode(), "BADINPUT 3"
+    left = SCHEDULE - len(first) - 3 * len(long_one)
+    whole = f"{first}{long_one * 3}{move}{'g' * (left - len(move) - 1)}\n"
+    yield "a schedule of 16,777,216 octets", ["simulate"], whole.encode(), "1 REFUSED TOOBIG"
+    yield "a schedule of 16,777,217 octets", ["simulate"], f"{whole[:-1]}g\n".encode(), "BADINPUT 6"
+    yield "a schedule of 16,777,217 octets by a line feed", ["simulate"], f"{whole}\n".encode(), "BADINPUT 7"
+    short = "tick 1 0\n" * (SCHEDULE_LINES - 2)
+    yield "a schedule of 262,144 lines", ["simulate"], f"{first}{short[:-9]}crash 1\n".encode(), ""
+    yield "a schedule of 262,145 lines", ["simulate"], f"{first}{short}crash 1\n".encode(), "BADINPUT 262145"
+
+
 def rows() -> Iterator[Row]:
     """A name, the words of the command, the input, and a line that the text must have."""
     yield from wraps()
     yield from messages()
     yield from lines()
     yield from unsent()
+    yield from schedules()

@@ -32,6 +32,19 @@ class Message(NamedTuple):
     headers: Tuple[Tuple[bytes, bytes], ...] = ()
 
 
+class Said(NamedTuple):
+    """What a WHISPER or a SHOUT says: its command, its group and its content."""
+    command: int
+    group: bytes
+    content: Tuple[bytes, ...]
+
+
+def said_by(message: Message) -> List[Said]:
+    """What a message says to a user or a program, if it does."""
+    is_said = message.command in (WHISPER, SHOUT)
+    return [Said(message.command, message.group, message.content)] if is_said else []
+
+
 class Fields:
     """The fields of a first frame, one after the other."""
 
@@ -179,6 +192,7 @@ class Run:
         self.id = peer.hex().upper()
         self.count = 0
         self.view: Optional[View] = None
+        self.said: List[Said] = []
 
     def start(self, message: Message) -> Optional[str]:
         """Starts the run with its first message, or answers why it can't."""
@@ -201,6 +215,7 @@ class Run:
             return "limit"
         self.view.take(message)
         self.count += 1
+        self.said += said_by(message)
         return None
 
     def line(self, event: str, *fields: str) -> str:

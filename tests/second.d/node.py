@@ -6,7 +6,7 @@ from typing import Dict, List, NamedTuple, Optional, Tuple
 
 import messages
 import zmtp
-from messages import Message, Run, quote
+from messages import Message, Run, Said, quote, said_by
 
 PEERS, CONNECTIONS = 256, 512
 UNSENT = 4_194_304
@@ -38,11 +38,12 @@ class Link:
     """The node's connection to a peer: how many octets were put on it and went out, its messages, of `queued`
     octets, and what is answered there."""
 
-    def __init__(self, number: int) -> None:
-        self.number = number
+    def __init__(self, number: int, peer: bytes) -> None:
+        self.number, self.peer = number, peer
         self.length, self.taken = GREETING + READY, 0
         self.messages: List[bytes] = []
         self.queued = 0
+        self.said: List[Said] = []
         self.replies: Optional[zmtp.Stream] = None
 
     def put(self, size: int) -> Optional[str]:
@@ -60,6 +61,7 @@ class Link:
         if not cause:
             self.messages.append(octets)
             self.queued += len(octets)
+            self.said += said_by(body)
         return cause
 
     def gate(self) -> int:
@@ -108,7 +110,8 @@ class Peer:
 
 
 class Node:
-    """A node after the entries so far. `lines`, `links` and `beacons` are all events, links, and ports of beacons."""
+    """A node after the entries so far. `lines`, `links` and `beacons` are all events, links, and ports of beacons,
+    `runs` all runs of peers, and `brought` what counts for tables."""
 
     def __init__(self, settings: Settings) -> None:
         self.settings = settings
@@ -121,6 +124,8 @@ class Node:
         self.lines: List[str] = []
         self.links: List[Link] = []
         self.beacons: List[int] = []
+        self.runs: List[Run] = []
+        self.brought: List[Said] = []
 
     def step(self, at: int, form: str, fields: Tuple) -> None:
         """Takes an entry: a reading of the clock, the words of its form, and its fields."""
@@ -136,7 +141,7 @@ class Node:
     def born(self, peer: bytes) -> Peer:
         """A birth makes a link and puts HELLO on it."""
         own = self.settings
-        self.links.append(Link(len(self.links) + 1))
+        self.links.append(Link(len(self.links) + 1, peer))
         found = self.peers[peer] = Peer(self.links[-1], self.clock)
         endpoint = f"tcp://{own.host}:{own.port}".encode()
         groups = tuple(self.groups)
@@ -156,6 +161,14 @@ class Node:
         cause = self.peers[peer].link.push(body)
         if cause:
             self.ends(peer, cause)
+
+    def heard(self, peer: bytes) -> List[List[Said]]:
+        """What was said in each run of a peer, in the order of their starts."""
+        return [run.said for run in self.runs if run.id == peer.hex().upper()]
+
+    def put(self, peer: bytes) -> List[List[Said]]:
+        """What was said on the link of each birth of a peer."""
+        return [link.said for link in self.links if link.peer == peer]
 
     def on_link(self, number: int) -> Optional[bytes]:
         """The known peer with the link of this number."""
@@ -285,6 +298,7 @@ class Node:
             return
         peer = self.peers[conn.peer] if known else self.born(conn.peer)
         conn.run, peer.conn, peer.active = run, conn, self.clock
+        self.runs.append(run)
         self.lines += run.told(message)
 
     def later(self, conn: Conn, message: Message) -> None:
@@ -294,6 +308,7 @@ class Node:
             return
         self.peers[conn.peer].active = self.clock
         self.lines += conn.run.told(message)
+        self.brought += said_by(message)
         if message.command == messages.PING:
             self.push(conn.peer, Message(messages.PING_OK, 0))
 
@@ -337,6 +352,7 @@ class Node:
         if len(group) > messages.GROUP_OCTETS or is_big(body):
             self.tell("REFUSED TOOBIG")
             return
+        self.brought += said_by(body)
         for peer in [peer for peer, found in self.peers.items() if found.conn and group in found.conn.run.view.groups]:
             self.push(peer, body)
 

@@ -1,0 +1,89 @@
+"""The words of a command line: those of the commands that read one input."""
+from __future__ import annotations
+
+import re
+from typing import Dict, List, Optional, Tuple
+
+import captures
+from captures import NotAsRequired, number
+from node import Settings
+
+GROUP_OCTETS = 255
+HYPHENATED = "-".join(f"[0-9a-fA-F]{{{count}}}" for count in (8, 4, 4, 4, 12))
+UUID = re.compile(rf"[0-9a-fA-F]{{32}}|{HYPHENATED}|{{{HYPHENATED}}}|urn:uuid:{HYPHENATED}".encode())
+# The keys of each command: those that stand once, those that may be left out, and those that may stand often.
+OF_NODE = ([b"id", b"host", b"port"], [b"name", b"evasive", b"expired"], [b"header"])
+Keys = Tuple[List[bytes], List[bytes], List[bytes]]
+KEYS: Dict[bytes, Keys] = {
+    b"follow": ([b"id"], [], []), b"show": ([], [], []), b"replay": OF_NODE, b"upgrade": OF_NODE,
+    b"table": ([b"group"], [], []), b"audit": ([], [], []), b"simulate": ([], [], []),
+}
+
+
+def values_of(keys: Keys, words: List[bytes]) -> Dict[bytes, List[bytes]]:
+    """The values of each key; raises where a word is another, missing or repeated."""
+    once, maybe, often = keys
+    values: Dict[bytes, List[bytes]] = {key: [] for key in [*once, *maybe, *often]}
+    for word in words:
+        key, equals, value = word.partition(b"=")
+        if key not in values or not equals:
+            raise NotAsRequired
+        values[key].append(value)
+    if any(len(values[key]) != 1 for key in once) or any(len(values[key]) > 1 for key in maybe):
+        raise NotAsRequired
+    return values
+
+
+def uuid(value: bytes) -> bytes:
+    if not UUID.fullmatch(value):
+        raise NotAsRequired
+    return bytes.fromhex(re.sub(r"urn:uuid:|[-{}]", "", value.decode()))
+
+
+def at_most(octets: bytes, limit: int) -> bytes:
+    if len(octets) > limit:
+        raise NotAsRequired
+    return octets
+
+
+def headers(values: List[bytes]) -> Tuple[Tuple[bytes, bytes], ...]:
+    pairs = []
+    for name, equals, value in (value.partition(b"=") for value in values):
+        if not equals:
+            raise NotAsRequired
+        pairs.append((at_most(name, captures.NAME_OCTETS), at_most(value, captures.VALUE_OCTETS)))
+    if len(pairs) > captures.HEADERS or len(dict(pairs)) < len(pairs):
+        raise NotAsRequired
+    return tuple(pairs)
+
+
+def settings(values: Dict[bytes, List[bytes]]) -> Settings:
+    """The settings of a node."""
+    own = uuid(values[b"id"][0])
+    name = at_most((values[b"name"] or [own.hex()[:6].upper().encode()])[0], captures.NAME_OCTETS)
+    host, port = captures.address(values[b"host"][0]), number(values[b"port"][0], 1, 65535)
+    expired = number((values[b"expired"] or [b"30000"])[0], 1, captures.LONGEST_TIME)
+    evasive = number((values[b"evasive"] or [b"5000"])[0], 1, expired)
+    return Settings(own, name, host, port, evasive, expired, headers(values[b"header"]))
+
+
+def argument(words: List[bytes]) -> Tuple[bool, Optional[object]]:
+    """Whether the words are those of a command, and what they say: settings, an identity, a group."""
+    try:
+        for word in words:
+            word.decode()
+        name, *others = words or [b""]
+        if name not in KEYS:
+            return False, None
+        if name == b"replay" and not others:
+            return True, None
+        values = values_of(KEYS[name], others)
+        if name in (b"replay", b"upgrade"):
+            return True, settings(values)
+        if name == b"follow":
+            return True, uuid(values[b"id"][0])
+        if name == b"table":
+            return True, at_most(captures.quoted(values[b"group"][0]), GROUP_OCTETS)
+        return True, None
+    except (NotAsRequired, UnicodeDecodeError):
+        return False, None
