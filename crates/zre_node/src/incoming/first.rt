@@ -82,8 +82,7 @@ impl Tables {
             Holds g (Starts conn link m ∷ H) self.new }
     {
         self.conns.carry(conn, link);
-        self.peers
-            .enter(link, CarriedRun { conn, run }, self.clock);
+        self.peers.enter(link, CarriedRun { conn, run }, self.clock);
     }
 
     // Where the peer of a first message is to be reached.

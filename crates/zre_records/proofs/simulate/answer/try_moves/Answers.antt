@@ -14,7 +14,7 @@ use Rattle.zre_records.proofs.simulate.answer.try_moves.Goals as goal
 pub loop-one-init : goal.loop-one-init
 loop-one-init c = record {
   goes = goes_first c.in_ok-network.network c.in_ok-network.ensures;
-  kept = c.new.ensures;
+  kept = c.new-2.ensures;
   rest = sym (c.into_iter-one-iterator.ensures.into_iter_gives.0 ∙ c.into_vec-one-items.ensures);
 }
 

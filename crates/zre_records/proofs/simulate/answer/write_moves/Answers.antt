@@ -31,7 +31,7 @@ pub returns-clause-through : goal.returns-clause-through
 returns-clause-through g c =
     let i = c.loop-one.invariant in
     let all = took_all c.args.moves c.loop-one.yielded (into_iter_items c.loop-one.one-iterator) c.loop-one.one-iterator.rest.len i.rest c.loop-one.one-iterator.rest.ok.0 c.in-None.ensures.steps.0 in
-    subst (λ ms. CameOf _ _ _ _ ms) all i.came
+    subst (CameOf c.args.text.now c.loop-one.text (g.O.Sink.written c.args.out.now) (g.O.Sink.written c.loop-one.out)) all i.came
 
 pub returns-then-not-branch-clause-front : goal.returns-then-not-branch-clause-front
 returns-then-not-branch-clause-front g c =
