@@ -1,8 +1,10 @@
 -- Links without an end are those of known peers, and connections without an end are the open ones.
-use Rattle.std.proofs.Common.{◌≡◌, ℕ, ◌<◌, ◌≤◌, Bool, true, false, cond, not, ◌||◌, eqb, ltb, List, [], ◌∷◌, ◌++◌, length, map, Option, Some, None, filter, refl, sym, ap, ◌∙◌, subst, arith, eq-eqb, ne_eqb}
+use Rattle.std.proofs.Common.{◌≡◌, ℕ, ◌<◌, ◌≤◌, Bool, true, false, true≢false, cond, not, ◌&&◌, ◌||◌, eqb, ltb, List, [], ◌∷◌, ◌++◌, length, map, Option, Some, None, is_some, filter, find, refl, sym, ap, ◌∙◌, subst, arith, eqb-true, eq-eqb, ne_eqb, ltb-true}
 use Rattle.std.proofs.lemmas.List.{map-append, length-map}
 use Rattle.std.proofs.lemmas.List.Sums.{fold-append}
-use Rattle.std.specs.List.{AllByRecursion, fold, flat_map, list_any}
+use Rattle.std.specs.List.{AllByRecursion, fold, filter_map, list_any}
+use Rattle.std.specs.Prelude.{is_none}
+use Rattle.zre_values.specs.declared.endpoint.Endpoint.{Endpoint}
 use Rattle.zre_values.specs.declared.limits.TheConstants.{PEERS, CONNECTIONS}
 use Rattle.zre_values.specs.declared.peer_id.PeerId.{PeerId}
 use Rattle.zre_outside.specs.declared.act.Act.{Act}
@@ -18,17 +20,19 @@ use Rattle.zre_journal.specs.Chronicle.{Mark, Comes, Opens, TurnsAway, IsShut, B
 use Rattle.zre_journal.specs.Connections.{open_ones, is_open, is_new, runs, others}
 use Rattle.zre_journal.specs.Done.{done, done_at, close_link, offers, acts_at, is_offered}
 use Rattle.zre_journal.specs.Events.{chronicle, acts_after}
-use Rattle.zre_journal.specs.Happens.{has_stopped, at_input, with_entry, chronicle_after}
-use Rattle.zre_journal.specs.Leaks.{Exchange, exchanges_after, links_by, links_but, links_with, answers, conns_by, conns_but, conns_with, LeaksNothing}
+use Rattle.zre_journal.specs.Happens.{has_stopped, at_input, marks, with_entry, chronicle_after}
+use Rattle.zre_journal.specs.Closing.{ArePaired}
+use Rattle.zre_journal.specs.Leaks.{Passage, Came, Did, input_of, act_of, passages_after, passages, ends_link, links_left, ends_conn, is_answered, conns_left, LeaksNothing}
 use Rattle.zre_journal.specs.LinkEntries.{at_unlinked}
 use Rattle.zre_journal.specs.Peers.{Life, lives, life, other_lives}
 use Rattle.zre_journal.specs.Proper.{IsProper}
 use Rattle.zre_journal.proofs.Always.{is_proper}
-use Rattle.zre_journal.proofs.Closing.{leaves_nothing}
+use Rattle.zre_journal.proofs.Closing.{leaves_nothing, are_paired}
 use Rattle.zre_journal.proofs.Few.{are_few}
 use Rattle.zre_journal.proofs.Joined.{continues}
 use Rattle.zre_journal.proofs.Listed.{none_any}
 use Rattle.zre_journal.proofs.Mild.{Mild, AreMild, IsMilder, Kind, kind, mild_input}
+use Rattle.zre_journal.proofs.Passages.{links_by, links_but, links_with, links_acts, left_links, link_left, conns_by, conns_on, conns_acts, left_conns, conn_left}
 use Rattle.zre_journal.proofs.Steps.{choice}
 
 -- ---- lists
@@ -70,9 +74,20 @@ conns_offered : (cs : List ℕ) (vs : List Life) → fold conns_by cs (offered v
 conns_offered cs [] = refl
 conns_offered cs (v ∷ vs) = conns_offered cs vs
 
-none_answered : (c : ℕ) (vs : List Life) → list_any (answers c) (offered vs) ≡ false
+-- the first of these acts answers on c
+abbrev first_answers : ℕ → List Act → Bool
+first_answers c (act.Answer d octets ∷ done) = eqb c d
+first_answers c _ = false
+
+none_answered : (c : ℕ) (vs : List Life) → first_answers c (offered vs) ≡ false
 none_answered c [] = refl
-none_answered c (v ∷ vs) = none_answered c vs
+none_answered c (v ∷ vs) = refl
+
+-- the connections without an end after what came with these acts, where these had none before
+abbrev conns_but : List ℕ → Input → List Act → List ℕ
+conns_but cs (input.Opened c) done = cond (first_answers c done) (cs ++ c ∷ []) cs
+conns_but cs (input.Shut c) done = others c cs
+conns_but cs _ done = cs
 
 -- ---- mark by mark
 
@@ -147,7 +162,7 @@ module _ (g : Config) (H : List Mark) (q : IsProper H) (clean : has_stopped H �
   links_entry (input.Unlinked l) = links_unlinked l (life l M) refl
   links_entry i = by_mild i tt refl
 
-  links_next : links_with ls (record { came = e.input; done = acts_at g e H }) ≡ map key (lives (with_entry g e H))
+  links_next : fold links_by (links_but ls e.input) (acts_at g e H) ≡ map key (lives (with_entry g e H))
   links_next = by (has_stopped H) refl
     where
       by : (b : Bool) → has_stopped H ≡ b → let hs = cond b [] (at_input g e.input H M) in
@@ -181,13 +196,13 @@ module _ (g : Config) (H : List Mark) (q : IsProper H) (clean : has_stopped H �
       (λ new. choice (Shuts_well (input.Opened c)) (ltb (length (open_ones M)) CONNECTIONS) _ _ (λ y. opens) (λ y. away new)) (λ z. nothing)
     where
       nothing : Shuts_well (input.Opened c) []
-      nothing vs = rw (none_answered c vs) (conns_offered cs vs)
+      nothing vs = ap (λ b. fold conns_by (cond b (cs ++ c ∷ []) cs) (offered vs)) (none_answered c vs) ∙ conns_offered cs vs
 
       opens : Shuts_well (input.Opened c) (Opens c ∷ [])
       opens vs = let me : eqb c c ≡ true = eq-eqb c c refl in rw me (conns_offered (cs ++ c ∷ []) vs)
 
       away : is_new c M ≡ true → Shuts_well (input.Opened c) (TurnsAway c ∷ [])
-      away new vs = rw (none_answered c vs) (conns_offered (others c cs) vs ∙ none_out (λ x. x) c cs (below_none c cs (q.opening.open_old c new)))
+      away new vs = conns_offered (others c cs) vs ∙ none_out (λ x. x) c cs (below_none c cs (q.opening.open_old c new))
 
   conns_shut : (c : ℕ) → Shuts_well (input.Shut c) (at_shut g c M)
   conns_shut c = by (is_open c M) refl
@@ -210,7 +225,7 @@ module _ (g : Config) (H : List Mark) (q : IsProper H) (clean : has_stopped H �
   conns_entry (input.Unlinked l) = conns_unlinked l (life l M)
   conns_entry i = λ vs. with_offers cs (at_input g i H M) vs (conns_marks (kind i) g.id (at_input g i H M) M (mild_input g i H M tt))
 
-  conns_next : conns_with cs (record { came = e.input; done = acts_at g e H }) ≡ open_ones (with_entry g e H)
+  conns_next : fold conns_by (conns_but cs e.input (acts_at g e H)) (acts_at g e H) ≡ open_ones (with_entry g e H)
   conns_next = by (has_stopped H) refl
     where
       by : (b : Bool) → has_stopped H ≡ b → let hs = cond b [] (at_input g e.input H M) in
@@ -242,27 +257,202 @@ module _ (g : Config) where
   more : (J : List Entry) (e : Entry) (H : List Mark) → chronicle g J ≡ H → chronicle g (J ++ e ∷ []) ≡ with_entry g e H
   more J e H z = (continues g J (e ∷ [])).happened ∙ ap (with_entry g e) z
 
-  links_on : (es : List Entry) (J : List Entry) (H : List Mark) → chronicle g J ≡ H → fold links_with (map key (lives H)) (exchanges_after g es H) ≡ map key (lives (chronicle_after g es H))
+  links_on : (es : List Entry) (J : List Entry) (H : List Mark) → chronicle g J ≡ H → fold links_with (map key (lives H)) (passages_after g es H) ≡ map key (lives (chronicle_after g es H))
   links_on [] J H z = refl
   links_on (e ∷ es) J H z = let o = of J H z in
-      ap (λ xs. fold links_with xs (exchanges_after g es (with_entry g e H))) (links_next g H o.proper o.clean e)
+      links_acts (acts_at g e H) (links_but (map key (lives H)) e.input) (passages_after g es (with_entry g e H))
+      ∙ ap (λ xs. fold links_with xs (passages_after g es (with_entry g e H))) (links_next g H o.proper o.clean e)
       ∙ links_on es (J ++ e ∷ []) (with_entry g e H) (more J e H z)
 
-  conns_on : (es : List Entry) (J : List Entry) (H : List Mark) → chronicle g J ≡ H → fold conns_with (open_ones H) (exchanges_after g es H) ≡ open_ones (chronicle_after g es H)
-  conns_on [] J H z = refl
-  conns_on (e ∷ es) J H z = let o = of J H z in
-      ap (λ xs. fold conns_with xs (exchanges_after g es (with_entry g e H))) (conns_next g H o.proper o.clean e)
-      ∙ conns_on es (J ++ e ∷ []) (with_entry g e H) (more J e H z)
+  -- what is answered first is answered by the acts of that entry
+  answered_first : (c : ℕ) (done_ : List Act) (es : List Entry) (X : List Mark) → is_answered c (map Did done_ ++ passages_after g es X) ≡ first_answers c done_
+  answered_first c [] [] X = refl
+  answered_first c [] (e ∷ es) X = refl
+  answered_first c (act.Answer d octets ∷ done_) es X = refl
+  answered_first c (_ ∷ done_) es X = refl
 
-  same_acts : (es : List Entry) (H : List Mark) → flat_map (λ (x : Exchange). x.done) (exchanges_after g es H) ≡ acts_after g es H
+  conns_on_entry : (i : Input) (cs : List ℕ) (done_ : List Act) (es : List Entry) (X : List Mark)
+      → conns_on (Came i ∷ (map Did done_ ++ passages_after g es X)) cs ≡ conns_on (passages_after g es X) (fold conns_by (conns_but cs i done_) done_)
+  conns_on_entry (input.Opened c) cs done_ es X =
+      ap (λ b. conns_on (map Did done_ ++ passages_after g es X) (cond b (cs ++ c ∷ []) cs)) (answered_first c done_ es X)
+      ∙ conns_acts done_ (cond (first_answers c done_) (cs ++ c ∷ []) cs) (passages_after g es X)
+  conns_on_entry (input.Shut c) cs done_ es X = conns_acts done_ (others c cs) (passages_after g es X)
+  conns_on_entry _ cs done_ es X = conns_acts done_ cs (passages_after g es X)
+
+  conns_all : (es : List Entry) (J : List Entry) (H : List Mark) → chronicle g J ≡ H → conns_on (passages_after g es H) (open_ones H) ≡ open_ones (chronicle_after g es H)
+  conns_all [] J H z = refl
+  conns_all (e ∷ es) J H z = let o = of J H z in
+      conns_on_entry e.input (open_ones H) (acts_at g e H) es (with_entry g e H)
+      ∙ ap (λ xs. conns_on (passages_after g es (with_entry g e H)) xs) (conns_next g H o.proper o.clean e)
+      ∙ conns_all es (J ++ e ∷ []) (with_entry g e H) (more J e H z)
+
+  -- ---- what passes
+
+  acts_of : (done_ : List Act) (xs : List Passage) → filter_map act_of (map Did done_ ++ xs) ≡ done_ ++ filter_map act_of xs
+  acts_of [] xs = refl
+  acts_of (a ∷ done_) xs = ap (λ ys. a ∷ ys) (acts_of done_ xs)
+
+  same_acts : (es : List Entry) (H : List Mark) → filter_map act_of (passages_after g es H) ≡ acts_after g es H
   same_acts [] H = refl
-  same_acts (e ∷ es) H = ap (λ xs. acts_at g e H ++ xs) (same_acts es (with_entry g e H))
+  same_acts (e ∷ es) H = acts_of (acts_at g e H) (passages_after g es (with_entry g e H)) ∙ ap (λ xs. acts_at g e H ++ xs) (same_acts es (with_entry g e H))
+
+  inputs_of : (done_ : List Act) (xs : List Passage) → filter_map input_of (map Did done_ ++ xs) ≡ filter_map input_of xs
+  inputs_of [] xs = refl
+  inputs_of (a ∷ done_) xs = inputs_of done_ xs
+
+  same_inputs : (es : List Entry) (H : List Mark) → filter_map input_of (passages_after g es H) ≡ map (λ (e : Entry). e.input) es
+  same_inputs [] H = refl
+  same_inputs (e ∷ es) H = ap (λ xs. e.input ∷ xs) (inputs_of (acts_at g e H) (passages_after g es (with_entry g e H)) ∙ same_inputs es (with_entry g e H))
+
+  -- ---- a connection that isn't new
+
+  module _ (c : ℕ) where
+    old_marks : (hs X : List Mark) → is_new c X ≡ false → is_new c (after hs X) ≡ false
+    old_marks [] X e = e
+    old_marks (h ∷ hs) X e = old_marks hs (h ∷ X) (old h)
+      where
+        and_none : (b : Bool) → is_new c X ≡ false → (b && is_new c X) ≡ false
+        and_none true z = z
+        and_none false z = refl
+
+        old : (k : Mark) → is_new c (k ∷ X) ≡ false
+        old (Opens d) = and_none (ltb d c) e
+        old (TurnsAway d) = and_none (ltb d c) e
+        old _ = e
+
+    -- it is answered only where it is new, and then isn't any more
+    abbrev Answers_new : List Mark → List Mark → List Act → Type 0
+    Answers_new H X done_ = first_answers c done_ ≡ true → (is_new c H ≡ true) × (is_new c X ≡ false)
+
+    answers_new : (e : Entry) (H : List Mark) → e.input ≡ input.Opened c → Answers_new H (with_entry g e H) (acts_at g e H)
+    answers_new e H is = by (has_stopped H)
+      where
+        M : List Mark
+        M = Comes e ∷ H
+
+        none : (X : List Mark) (vs : List Life) → Answers_new H X (offered vs)
+        none X vs f = let z : false ≡ true = sym (none_answered c vs) ∙ f in cc
+
+        opened : (hs : List Mark) → hs ≡ at_opened g c M → (vs : List Life) → Answers_new H (after hs M) (done g.id hs ++ offered vs)
+        opened hs z vs = subst (λ ks. Answers_new H (after ks M) (done g.id ks ++ offered vs)) (sym z) (new (is_new c M) refl)
+          where
+            itself : (b : Bool) → ltb c c ≡ b → (b && is_new c M) ≡ false
+            itself false y = refl
+            itself true y = absurd (omega (arith, ltb-true c c y))
+
+            room : (b : Bool) → is_new c M ≡ true → Answers_new H (after (cond b (Opens c ∷ []) (TurnsAway c ∷ [])) M) (done g.id (cond b (Opens c ∷ []) (TurnsAway c ∷ [])) ++ offered vs)
+            room true n f = (n, itself (ltb c c) refl)
+            room false n f = let y : false ≡ true = f in cc
+
+            new : (b : Bool) → is_new c M ≡ b → Answers_new H (after (cond b (cond (ltb (length (open_ones M)) CONNECTIONS) (Opens c ∷ []) (TurnsAway c ∷ [])) []) M) (done g.id (cond b (cond (ltb (length (open_ones M)) CONNECTIONS) (Opens c ∷ []) (TurnsAway c ∷ [])) []) ++ offered vs)
+            new true n = room (ltb (length (open_ones M)) CONNECTIONS) n
+            new false n = none M vs
+
+        by : (b : Bool) → let hs = cond b [] (at_input g e.input H M) in Answers_new H (after hs M) (cond b [] (done g.id hs ++ offers g e hs (after hs M)))
+        by true = λ f. let z : false ≡ true = f in cc
+        by false = let hs = at_input g e.input H M in opened hs (ap (λ i. at_input g i H M) is) (filter (is_offered g e hs (after hs M)) (lives (after hs M)))
+
+    acts_leave : (done_ : List Act) (xs : List Passage) → conns_left (map Did done_ ++ xs) ≡ conns_left xs
+    acts_leave [] xs = refl
+    acts_leave (a ∷ done_) xs = acts_leave done_ xs
+
+    -- one that isn't new isn't answered again
+    old_none : (es : List Entry) (H : List Mark) → is_new c H ≡ false → list_any (eqb c) (conns_left (passages_after g es H)) ≡ false
+    old_none [] H n = refl
+    old_none (e ∷ es) H n = by (rest (old_none es (with_entry g e H) (old_marks (marks g e H) (Comes e ∷ H) n))) e.input refl
+      where
+        X : List Mark
+        X = with_entry g e H
+
+        xs : List Passage
+        xs = map Did (acts_at g e H) ++ passages_after g es X
+
+        rest : list_any (eqb c) (conns_left (passages_after g es X)) ≡ false → list_any (eqb c) (conns_left xs) ≡ false
+        rest r = ap (list_any (eqb c)) (acts_leave (acts_at g e H) (passages_after g es X)) ∙ r
+
+        opened : list_any (eqb c) (conns_left xs) ≡ false → (d : ℕ) → e.input ≡ input.Opened d → (b : Bool) → eqb c d ≡ b → (t : Bool) → is_answered d xs ≡ t
+            → list_any (eqb c) (cond (t && not (list_any (ends_conn d) xs)) (d ∷ conns_left xs) (conns_left xs)) ≡ false
+        opened r d is b z false y = r
+        opened r d is true z true y =
+            let same : d ≡ c = sym (eqb-true c d z) in
+            let first : first_answers c (acts_at g e H) ≡ true = sym (answered_first c (acts_at g e H) es X) ∙ ap (λ k. is_answered k xs) (sym same) ∙ y in
+            absurd (true≢false (sym (answers_new e H (is ∙ ap (λ k. input.Opened k) same) first).0 ∙ n))
+        opened r d is false z true y = at (not (list_any (ends_conn d) xs))
+          where
+            at : (t : Bool) → list_any (eqb c) (cond t (d ∷ conns_left xs) (conns_left xs)) ≡ false
+            at true = rw z r
+            at false = r
+
+        by : list_any (eqb c) (conns_left xs) ≡ false → (i : Input) → e.input ≡ i → list_any (eqb c) (conns_left (Came i ∷ xs)) ≡ false
+        by r (input.Opened d) is = opened r d is (eqb c d) refl (is_answered d xs) refl
+        by r _ is = r
+
+    -- what came, among what passes after some acts, came with a later entry
+    past_acts : (done_ : List Act) (xs before later : List Passage) (i : Input) → map Did done_ ++ xs ≡ before ++ Came i ∷ later → (ys : List Passage) × (xs ≡ ys ++ Came i ∷ later)
+    past_acts [] xs before later i z = (before, z)
+    past_acts (a ∷ done_) xs [] later i z = absurd (let w : Did a ≡ Came i = cc in cc)
+    past_acts (a ∷ done_) xs (y ∷ before) later i z = past_acts done_ xs before later i (let w : map Did done_ ++ xs ≡ before ++ Came i ∷ later = cc in w)
+
+    once : (es : List Entry) (H : List Mark) (before later : List Passage) → passages_after g es H ≡ before ++ Came (input.Opened c) ∷ later → is_answered c later ≡ true → list_any (eqb c) (conns_left later) ≡ false
+    once [] H [] later z a = absurd (let w : [] ≡ Came (input.Opened c) ∷ later = z in cc)
+    once [] H (y ∷ before) later z a = absurd (let w : [] ≡ y ∷ (before ++ Came (input.Opened c) ∷ later) = z in cc)
+    once (e ∷ es) H [] later z a =
+        let came : Came e.input ≡ Came (input.Opened c) = cc in
+        let is : e.input ≡ input.Opened c = cc in
+        let same : map Did (acts_at g e H) ++ passages_after g es (with_entry g e H) ≡ later = cc in
+        let first : first_answers c (acts_at g e H) ≡ true = sym (answered_first c (acts_at g e H) es (with_entry g e H)) ∙ ap (is_answered c) same ∙ a in
+        ap (λ xs. list_any (eqb c) (conns_left xs)) (sym same) ∙ ap (list_any (eqb c)) (acts_leave (acts_at g e H) (passages_after g es (with_entry g e H)))
+        ∙ old_none es (with_entry g e H) (answers_new e H is first).1
+    once (e ∷ es) H (y ∷ before) later z a =
+        let p = past_acts (acts_at g e H) (passages_after g es (with_entry g e H)) before later (input.Opened c) (let w : map Did (acts_at g e H) ++ passages_after g es (with_entry g e H) ≡ before ++ Came (input.Opened c) ∷ later = cc in w) in
+        once es (with_entry g e H) p.0 later p.1 a
+
+  -- ---- all of it
+
+  module _ (J : List Entry) where
+    links_are : links_left (passages g J) ≡ map key (lives (chronicle g J))
+    links_are = sym (left_links (passages g J) []) ∙ links_on J [] [] refl
+
+    conns_are : conns_left (passages g J) ≡ open_ones (chronicle g J)
+    conns_are = sym (left_conns (passages g J) []) ∙ conns_all J [] [] refl
+
+    is_known : (l : ℕ) (vs : List Life) → list_any (eqb l) (map key vs) ≡ is_some (find (λ (v : Life). eqb l v.link) vs)
+    is_known l [] = refl
+    is_known l (v ∷ vs) = by (is_known l vs) (eqb l v.link)
+      where
+        by : list_any (eqb l) (map key vs) ≡ is_some (find (λ (u : Life). eqb l u.link) vs) → (b : Bool) → (b || list_any (eqb l) (map key vs)) ≡ is_some (cond b (Some v) (find (λ (u : Life). eqb l u.link) vs))
+        by r true = refl
+        by r false = r
+
+    turned : (o : Option Life) (b : Bool) → is_some o ≡ not b → b ≡ is_none o
+    turned None true e = refl
+    turned None false e = cc
+    turned (Some v) true e = cc
+    turned (Some v) false e = refl
+
+    flipped : (a b : Bool) → a ≡ not b → b ≡ not a
+    flipped true true e = cc
+    flipped true false e = refl
+    flipped false true e = refl
+    flipped false false e = cc
+
+    each_link : (before later : List Passage) (l : ℕ) (to : Endpoint) → passages g J ≡ before ++ Did (act.Connect l to) ∷ later → list_any (ends_link l) later ≡ is_none (life l (chronicle g J))
+    each_link before later l to z = turned (life l (chronicle g J)) (list_any (ends_link l) later)
+        (sym (is_known l (lives (chronicle g J))) ∙ ap (list_any (eqb l)) (sym (links_on J [] [] refl)) ∙ ap (λ xs. list_any (eqb l) (fold links_with [] xs)) z
+        ∙ link_left before later l to (subst ArePaired (sym (same_acts J []) ∙ ap (filter_map act_of) z) (are_paired g J)))
+
+    each_conn : (before later : List Passage) (c : ℕ) → passages g J ≡ before ++ Came (input.Opened c) ∷ later → is_answered c later ≡ true → list_any (ends_conn c) later ≡ not (is_open c (chronicle g J))
+    each_conn before later c z a = flipped (is_open c (chronicle g J)) (list_any (ends_conn c) later)
+        (ap (list_any (eqb c)) (sym (conns_all J [] [] refl)) ∙ ap (λ xs. list_any (eqb c) (conns_on xs [])) z ∙ conn_left before later c a (once c J [] before later z a))
 
   pub leaks_nothing : (J : List Entry) → LeaksNothing g J
   leaks_nothing J = record {
+    are_inputs = same_inputs J [];
     are_acts = same_acts J [];
-    links_are = links_on J [] [] refl;
-    conns_are = conns_on J [] [] refl;
-    few_links = subst (λ n. n ≤ PEERS) (sym (ap length (links_on J [] [] refl) ∙ length-map (lives (chronicle g J)) key)) (are_few g J).few_peers;
-    few_conns = subst (λ n. n ≤ CONNECTIONS) (sym (ap length (conns_on J [] [] refl))) (are_few g J).few_connections;
+    each_link = λ before later l to z. each_link J before later l to z;
+    each_conn = λ before later c z a. each_conn J before later c z a;
+    links_are = links_are J;
+    conns_are = conns_are J;
+    few_links = subst (λ n. n ≤ PEERS) (sym (ap length (links_are J) ∙ length-map (lives (chronicle g J)) key)) (are_few g J).few_peers;
+    few_conns = subst (λ n. n ≤ CONNECTIONS) (sym (ap length (conns_are J))) (are_few g J).few_connections;
   }

@@ -35,6 +35,7 @@ pub mod Moments
 pub mod Obeying
 pub mod Octets
 pub mod Outgoing
+pub mod Passages
 pub mod Passing
 pub mod Places
 pub mod Quiet

@@ -1,6 +1,9 @@
--- What has no end yet: the links that a node connected and the connections that it answered, as entries and acts say it.
-use Rattle.std.specs.Prelude.{◌≡◌, ℕ, ◌≤◌, Bool, false, List, [], ◌∷◌, ◌++◌, length, map, nat_eq, if◌then◌else◌}
-use Rattle.std.specs.List.{fold, flat_map, list_any}
+-- What has no end yet: the links that a node connected and the connections that it answered, as what passes between
+-- the node and the outside says it.
+use Rattle.std.specs.Prelude.{◌≡◌, ℕ, ◌≤◌, Bool, true, false, not, ◌&&◌, List, [], ◌∷◌, ◌++◌, Option, Some, None, length}
+use Rattle.std.specs.Prelude.{map, nat_eq, is_none, if◌then◌else◌}
+use Rattle.std.specs.List.{filter_map, list_any}
+use Rattle.zre_values.specs.declared.endpoint.Endpoint.{Endpoint}
 use Rattle.zre_values.specs.declared.limits.TheConstants.{PEERS, CONNECTIONS}
 use Rattle.zre_outside.specs.declared.act.Act.{Act}
 use Rattle.zre_outside.specs.declared.act.Act.TheVariants as act
@@ -9,76 +12,84 @@ use Rattle.zre_outside.specs.declared.entry.Input.{Input}
 use Rattle.zre_outside.specs.declared.entry.Input.TheVariants as input
 use Rattle.zre_values.specs.declared.settings.Settings.{Settings as Config}
 use Rattle.zre_journal.specs.Chronicle.{Mark}
-use Rattle.zre_journal.specs.Connections.{others, open_ones}
+use Rattle.zre_journal.specs.Connections.{open_ones, is_open}
 use Rattle.zre_journal.specs.Done.{acts_at}
 use Rattle.zre_journal.specs.Events.{chronicle, acts}
 use Rattle.zre_journal.specs.Happens.{with_entry}
-use Rattle.zre_journal.specs.Peers.{Life, lives}
+use Rattle.zre_journal.specs.Peers.{Life, lives, life}
 
--- what came with an entry, and the acts of that entry
-pub record Exchange : Type 0 where
-  pub came : Input
-  pub done : List Act
+-- one thing that passes between a node and the outside: what comes with an entry, or an act
+pub data Passage : Type 0 where
+  Came : (what : Input) → Passage
+  Did : (what : Act) → Passage
+
+abbrev pub input_of : Passage → Option Input
+input_of (Came i) = Some i
+input_of (Did a) = None
+
+abbrev pub act_of : Passage → Option Act
+act_of (Came i) = None
+act_of (Did a) = Some a
 
 module _ (g : Config) where
-  -- the exchanges of entries that come after H
-  abbrev pub exchanges_after : List Entry → List Mark → List Exchange
-  exchanges_after [] H = []
-  exchanges_after (e ∷ es) H = record { came = e.input; done = acts_at g e H } ∷ exchanges_after es (with_entry g e H)
+  -- what passes with entries that come after H: what comes with each, and then its acts
+  abbrev pub passages_after : List Entry → List Mark → List Passage
+  passages_after [] H = []
+  passages_after (e ∷ es) H = Came e.input ∷ (map Did (acts_at g e H) ++ passages_after es (with_entry g e H))
 
-  -- all that passes between a node and the outside in a journal
-  abbrev pub exchanges : List Entry → List Exchange
-  exchanges journal = exchanges_after journal []
+  -- all that passes in a journal
+  abbrev pub passages : List Entry → List Passage
+  passages journal = passages_after journal []
 
 -- ---- links
 
--- the links without an end after an act, where these had none before it
-abbrev pub links_by : List ℕ → Act → List ℕ
-links_by ls (act.Connect l to) = ls ++ l ∷ []
-links_by ls (act.CloseLink l) = others l ls
-links_by ls _ = ls
+-- with this link l has its end: it is closed, or it broke
+abbrev pub ends_link : ℕ → Passage → Bool
+ends_link l (Did (act.CloseLink k)) = nat_eq l k
+ends_link l (Came (input.Unlinked k)) = nat_eq l k
+ends_link l _ = false
 
--- and after what came: a link that broke has its end
-abbrev pub links_but : List ℕ → Input → List ℕ
-links_but ls (input.Unlinked l) = others l ls
-links_but ls _ = ls
-
-abbrev pub links_with : List ℕ → Exchange → List ℕ
-links_with ls x = fold links_by (links_but ls x.came) x.done
-
--- the links of all CONNECTs after which neither a CLOSELINK of that link nor its UNLINKED comes
-abbrev pub links_left : List Exchange → List ℕ
-links_left xs = fold links_with [] xs
+-- the links of all CONNECTs here after which no end of that link comes, in their order
+abbrev pub links_left : List Passage → List ℕ
+links_left [] = []
+links_left (Did (act.Connect l to) ∷ later) =
+    if list_any (ends_link l) later then links_left later else l ∷ links_left later
+links_left (_ ∷ later) = links_left later
 
 -- ---- connections
 
-abbrev pub answers : ℕ → Act → Bool
-answers c (act.Answer d octets) = nat_eq c d
-answers c _ = false
+-- with this connection c has its end: it is closed, or it is shut
+abbrev pub ends_conn : ℕ → Passage → Bool
+ends_conn c (Did (act.CloseConn d)) = nat_eq c d
+ends_conn c (Came (input.Shut d)) = nat_eq c d
+ends_conn c _ = false
 
-abbrev pub conns_by : List ℕ → Act → List ℕ
-conns_by cs (act.CloseConn c) = others c cs
-conns_by cs _ = cs
+-- what passes next is an answer on c
+abbrev pub is_answered : ℕ → List Passage → Bool
+is_answered c (Did (act.Answer d octets) ∷ later) = nat_eq c d
+is_answered c _ = false
 
--- a connection that is opened and answered begins, and one that is shut has its end
-abbrev pub conns_but : List ℕ → Input → List Act → List ℕ
-conns_but cs (input.Opened c) done = if list_any (answers c) done then cs ++ c ∷ [] else cs
-conns_but cs (input.Shut c) done = others c cs
-conns_but cs _ done = cs
+-- the connections of all OPENEDs here that are answered, and after which no end of that connection comes, in their
+-- order
+abbrev pub conns_left : List Passage → List ℕ
+conns_left [] = []
+conns_left (Came (input.Opened c) ∷ later) =
+    if is_answered c later && not (list_any (ends_conn c) later) then c ∷ conns_left later else conns_left later
+conns_left (_ ∷ later) = conns_left later
 
-abbrev pub conns_with : List ℕ → Exchange → List ℕ
-conns_with cs x = fold conns_by (conns_but cs x.came x.done) x.done
-
--- the connections of all OPENEDs that were answered, after which neither a CLOSECONN of it nor its SHUT comes
-abbrev pub conns_left : List Exchange → List ℕ
-conns_left xs = fold conns_with [] xs
-
--- Nothing leaks: after each CONNECT comes a CLOSELINK or an UNLINKED of that link, or its peer is known, and the other
--- way round; after each OPENED that was answered comes a SHUT or a CLOSECONN, or the connection is open, and the other
--- way round. So never more than 256 links and 512 connections are without an end.
+-- Nothing leaks: each CONNECT is followed by a CLOSELINK or an UNLINKED of its link, or else its peer is known; each
+-- OPENED that is answered is followed by a CLOSECONN or a SHUT of its connection, or else the connection is open; never
+-- both. The links and connections without an end are those of the known peers and the open ones, in this order. So
+-- never more than 256 links and 512 connections are without an end.
 pub record LeaksNothing (g : Config) (J : List Entry) : Type 0 where
-  pub are_acts : flat_map (λ (x : Exchange). x.done) (exchanges g J) ≡ acts g J
-  pub links_are : links_left (exchanges g J) ≡ map (λ (v : Life). v.link) (lives (chronicle g J))
-  pub conns_are : conns_left (exchanges g J) ≡ open_ones (chronicle g J)
-  pub few_links : length (links_left (exchanges g J)) ≤ PEERS
-  pub few_conns : length (conns_left (exchanges g J)) ≤ CONNECTIONS
+  pub are_inputs : filter_map input_of (passages g J) ≡ map (λ (e : Entry). e.input) J
+  pub are_acts : filter_map act_of (passages g J) ≡ acts g J
+  pub each_link : (before later : List Passage) (l : ℕ) (to : Endpoint)
+      → passages g J ≡ before ++ Did (act.Connect l to) ∷ later
+      → list_any (ends_link l) later ≡ is_none (life l (chronicle g J))
+  pub each_conn : (before later : List Passage) (c : ℕ) → passages g J ≡ before ++ Came (input.Opened c) ∷ later
+      → is_answered c later ≡ true → list_any (ends_conn c) later ≡ not (is_open c (chronicle g J))
+  pub links_are : links_left (passages g J) ≡ map (λ (v : Life). v.link) (lives (chronicle g J))
+  pub conns_are : conns_left (passages g J) ≡ open_ones (chronicle g J)
+  pub few_links : length (links_left (passages g J)) ≤ PEERS
+  pub few_conns : length (conns_left (passages g J)) ≤ CONNECTIONS

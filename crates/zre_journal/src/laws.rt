@@ -246,9 +246,9 @@ pub fn messages_are_readable()
         → AllByRecursion IsReadable (queued l (chronicle g J)) }
 {}
 
-/// Nothing leaks: a link that was connected and had no end since is that of a known peer, and the other way round, and
-/// a connection that was answered as it was opened and had no end since is open, and the other way round. So there are
-/// never more than 256 links and 512 connections without an end.
+/// Nothing leaks: each Connect is followed by a CloseLink or an Unlinked of its link, or else its peer is known; each
+/// Opened that is answered is followed by a CloseConn or a Shut of its connection, or else the connection is open; and
+/// never both. So never more than 256 links and 512 connections are without an end.
 pub fn nothing_leaks()
     ensures { (g : Config) (J : List Entry) → LeaksNothing g J }
 {}
