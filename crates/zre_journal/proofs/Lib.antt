@@ -13,6 +13,7 @@ pub mod Entered
 pub mod Faultless
 pub mod Few
 pub mod Fields
+pub mod FirstTicks
 pub mod Going
 pub mod Hearing
 pub mod Holding

@@ -34,7 +34,7 @@ use Rattle.zre_journal.specs.Peers.{Life, lives, life, life_of, is_entered, view
 use Rattle.zre_journal.specs.Places.{is_piece}
 use Rattle.zre_journal.specs.Proper.{IsProper, Apart}
 use Rattle.zre_journal.specs.Pushes.{push}
-use Rattle.zre_journal.specs.Silence.{IsTold, tells_evasive, tells_expired, IsTickOf, silent_for, TellsSilence}
+use Rattle.zre_journal.specs.Silence.{IsTold, tells_evasive, tells_expired, IsTickOf, silent_for}
 use Rattle.zre_journal.specs.Ticks.{is_silent, is_evasive, is_stale, probe, at_tick}
 use Rattle.zre_journal.specs.Told.{told, told_at, exit, by_message, becoming_evasive}
 use Rattle.zre_journal.proofs.Always.{is_proper}
@@ -195,7 +195,7 @@ all_none : (us : List Life) → AllByRecursion (λ (u : Life). ⊥ → ⊥) us
 all_none [] = tt
 all_none (u ∷ us) = (λ z. z, all_none us)
 
-not_long : (limit past now : ℕ) → now - past < limit → leb limit (now - past) ≡ false
+pub not_long : (limit past now : ℕ) → now - past < limit → leb limit (now - past) ≡ false
 not_long limit past now z = by (leb limit (now - past)) refl
   where
     by : (b : Bool) → leb limit (now - past) ≡ b → b ≡ false
@@ -260,7 +260,7 @@ module _ (g : Config) (J earlier : List Entry) (e : Entry) (later : List Entry) 
   expires : g.expired ≤ silent_for v.link K → ends_in v.link (at_tick g K) ≡ cause.Expired ∷ []
   expires z = ends ∙ ap (λ b. cons_option (cond b (Some cause.Expired) (slow_by g v.link (where_so (is_evasive g K v) body.Ping) K)) []) (for_long g.expired (active v.link K) (clock K) z)
 
-  gone : g.expired ≤ silent_for v.link K → life v.link (with_entry g e H) ≡ None
+  pub gone : g.expired ≤ silent_for v.link K → life v.link (with_entry g e H) ≡ None
   gone z = by (life v.link (with_entry g e H)) refl
     where
       all : chronicle g (earlier ++ e ∷ []) ≡ with_entry g e H
@@ -275,10 +275,10 @@ module _ (g : Config) (J earlier : List Entry) (e : Entry) (later : List Entry) 
           let known : IsSome (life v.link (chronicle g (earlier ++ e ∷ []))) = rw (ap (life v.link) all ∙ y) refl in
           absurd (true≢false (sym ended ∙ ap (has_ended v.link) (sym all) ∙ (ends_once g (earlier ++ e ∷ [])).is_gone v.link known))
 
-  told_gone : g.expired ≤ silent_for v.link K → is_entered K v ≡ true → IsTold (event.Exit v.id (view v.link K).name cause.Expired) (events_at g e H)
+  pub told_gone : g.expired ≤ silent_for v.link K → is_entered K v ≡ true → IsTold (event.Exit v.id (view v.link K).name cause.Expired) (events_at g e H)
   told_gone z entered = subst (IsTold (event.Exit v.id (view v.link K).name cause.Expired)) (sym tells) (told_there v cause.Expired (at_tick g K) K (all_tick g K) (expires z) at.is_known entered)
 
-  not_told : silent_for v.link K < g.expired → list_any (tells_expired v.id) (events_at g e H) ≡ false
+  pub not_told : silent_for v.link K < g.expired → list_any (tells_expired v.id) (events_at g e H) ≡ false
   not_told z = ap (list_any (tells_expired v.id)) tells ∙ none_expired v.id (λ k. k ≡ v.link) (at_tick g K) K (all_tick g K) lasting (only_known K q (λ l u y. named g earlier l u y) v.id v (named g earlier v.link v at.is_known))
     where
       slow : ends_in v.link (at_tick g K) ≡ cons_option (slow_by g v.link (where_so (is_evasive g K v) body.Ping) K) []
@@ -290,7 +290,7 @@ module _ (g : Config) (J earlier : List Entry) (e : Entry) (later : List Entry) 
 
 -- ---- other entries
 
-only_tick : (i : Input) → is_tick i ≡ true → i ≡ input.Tick
+pub only_tick : (i : Input) → is_tick i ≡ true → i ≡ input.Tick
 only_tick input.Tick e = refl
 only_tick _ e = let z : false ≡ true = e in cc
 
@@ -400,13 +400,5 @@ module _ (g : Config) (J : List Entry) (p : PeerId)
       ∙ ap (λ b. b || list_any (tells_evasive p) (events_after g later (with_entry g e X))) (subst (λ Y. list_any (tells_evasive p) (events_at g e Y) ≡ false) at (entry_none earlier e later is))
       ∙ on (earlier ++ e ∷ []) later (with_entry g e X) (is ∙ sym (append_assoc earlier (e ∷ []) later)) ((continues g earlier (e ∷ [])).happened ∙ ap (with_entry g e) at)
 
-  none_ever : list_any (tells_evasive p) (events g J) ≡ false
+  pub none_ever : list_any (tells_evasive p) (events g J) ≡ false
   none_ever = on [] J [] refl refl
-
-pub tells_silence : (g : Config) (J : List Entry) → TellsSilence g J
-tells_silence g J = record {
-  is_gone = λ earlier e later v at z. gone g J earlier e later v at z;
-  is_told = λ earlier e later v at z entered. told_gone g J earlier e later v at z entered;
-  not_sooner = λ earlier e later v at z. not_told g J earlier e later v at z;
-  never_evasive = λ p heard. none_ever g J p heard;
-}
