@@ -29,7 +29,7 @@ use Rattle.zre_journal.specs.Connections.{open_ones, is_open, is_new, identity, 
 use Rattle.zre_journal.specs.Events.{chronicle, events_at}
 use Rattle.zre_journal.specs.Happens.{has_stopped, at_input, with_entry}
 use Rattle.zre_journal.specs.Heard.{newly_completed}
-use Rattle.zre_journal.specs.Isolation.{is_about, IsAsBefore, IsLeftAlone, Isolates}
+use Rattle.zre_journal.specs.Isolation.{is_about, IsAsBefore, IsLeftAlone}
 use Rattle.zre_journal.specs.Links.{line, is_linked, replies, unsent}
 use Rattle.zre_journal.specs.Peers.{Life, lives, life, life_of, births, counted}
 use Rattle.zre_journal.specs.Proper.{IsProper}
@@ -59,7 +59,7 @@ identity_on c p (Shakes d r) H m e = by (eqb c d) refl
     by false z = e
 identity_on c p h H m e = e
 
-identity_kept : (c : ℕ) (p : PeerId) (hs H : List Mark) → Allowed hs H → identity c H ≡ Some p → identity c (after hs H) ≡ Some p
+pub identity_kept : (c : ℕ) (p : PeerId) (hs H : List Mark) → Allowed hs H → identity c H ≡ Some p → identity c (after hs H) ≡ Some p
 identity_kept c p [] H a e = e
 identity_kept c p (h ∷ hs) H a e = identity_kept c p hs (h ∷ H) a.1 (identity_on c p h H a.0 e)
 
@@ -294,14 +294,14 @@ module _ (g : Config) (earlier : List Entry) (e : Entry) (c : ℕ) (about : is_a
         spared : AreSpared p (life_of p H) hs
         spared = spared_input g p (identity c (after hs M)) far (life_of p H) H M come refl c e.input about (λ r z. z)
 
-    left_alone : (identity c (with_entry g e H) ≡ Some p → ⊥) → IsLeftAlone g p H (with_entry g e H) (events_at g e H)
+    pub left_alone : (identity c (with_entry g e H) ≡ Some p → ⊥) → IsLeftAlone g p H (with_entry g e H) (events_at g e H)
     left_alone = by (has_stopped H)
       where
         by : (b : Bool) → Then (cond b [] (at_input g e.input H M))
         by true far = record { same_life = refl; same_peer = λ v z. as_before g v.link H M (no_reply c v.link e H about); none_told = refl }
         by false far = going far
 
-  itself_kept : Itself H (with_entry g e H)
+  pub itself_kept : Itself H (with_entry g e H)
   itself_kept = by (has_stopped H) refl
     where
       hs : List Mark
@@ -315,9 +315,3 @@ module _ (g : Config) (earlier : List Entry) (e : Entry) (c : ℕ) (about : is_a
           let spared = spared_input g g.id (identity c (after hs M)) never (life_of g.id H) H M come refl c e.input about (λ r z. z) in
           let k = itself_marks g.id (life_of g.id H) hs M spared in
           record { own_groups = k.own_groups; own_status = k.own_status; stopped = k.stopped }
-
-pub isolates : (g : Config) (J : List Entry) → Isolates g J
-isolates g J = record {
-  peers = λ earlier e later c p in_journal about far. left_alone g earlier e c about p far;
-  itself = λ earlier e later c in_journal about. let k = itself_kept g earlier e c about in (k.own_groups, k.own_status, k.stopped);
-}

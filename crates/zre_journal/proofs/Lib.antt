@@ -8,6 +8,7 @@ pub mod Causes
 pub mod Cleaning
 pub mod Closing
 pub mod Cutting
+pub mod Doings
 pub mod Due
 pub mod Entered
 pub mod Faultless
