@@ -66,3 +66,4 @@ pub mod Truthful
 pub mod Viewed
 pub mod Walk
 pub mod Windows
+mod Worked

@@ -26,10 +26,10 @@ use Rattle.zre_journal.specs.Events.{chronicle, events}
 use Rattle.zre_journal.specs.Links.{bodies, unsent}
 use Rattle.zre_journal.specs.Peers.{Life, lives, view}
 
-abbrev P : PeerId
+abbrev pub P : PeerId
 P = record { 0 = 0 ∷ 1 ∷ 2 ∷ 3 ∷ 4 ∷ 5 ∷ 6 ∷ 7 ∷ 8 ∷ 9 ∷ 10 ∷ 11 ∷ 12 ∷ 13 ∷ 14 ∷ 15 ∷ [] }
 
-abbrev me : Config
+abbrev pub me : Config
 me = record {
   id = record { 0 = 255 ∷ 238 ∷ 221 ∷ 204 ∷ 187 ∷ 170 ∷ 153 ∷ 136 ∷ 119 ∷ 102 ∷ 85 ∷ 68 ∷ 51 ∷ 34 ∷ 17 ∷ 0 ∷ [] };
   name = codes "Me";
@@ -40,63 +40,63 @@ me = record {
   expired = 30000;
 }
 
-abbrev host : List ℕ
+abbrev pub host : List ℕ
 host = 10 ∷ 0 ∷ 0 ∷ 2 ∷ []
 
 -- a beacon of the peer, and its last one
-abbrev B : List ℕ
+abbrev pub B : List ℕ
 B = 90 ∷ 82 ∷ 69 ∷ 1 ∷ 0 ∷ 1 ∷ 2 ∷ 3 ∷ 4 ∷ 5 ∷ 6 ∷ 7 ∷ 8 ∷ 9 ∷ 10 ∷ 11 ∷ 12 ∷ 13 ∷ 14 ∷ 15 ∷ 192 ∷ 0 ∷ []
 
-abbrev B0 : List ℕ
+abbrev pub B0 : List ℕ
 B0 = 90 ∷ 82 ∷ 69 ∷ 1 ∷ 0 ∷ 1 ∷ 2 ∷ 3 ∷ 4 ∷ 5 ∷ 6 ∷ 7 ∷ 8 ∷ 9 ∷ 10 ∷ 11 ∷ 12 ∷ 13 ∷ 14 ∷ 15 ∷ 0 ∷ 0 ∷ []
 
 -- its greeting, READY and HELLO
-abbrev G : List ℕ
+abbrev pub G : List ℕ
 G = 255 ∷ 0 ∷ 0 ∷ 0 ∷ 0 ∷ 0 ∷ 0 ∷ 0 ∷ 0 ∷ 127 ∷ 3 ∷ 0 ∷ 78 ∷ 85 ∷ 76 ∷ 76 ∷ 0 ∷ 0 ∷ 0 ∷ 0 ∷ 0 ∷ 0 ∷ 0 ∷ 0 ∷ 0 ∷ 0 ∷ 0 ∷ 0 ∷ 0 ∷ 0 ∷ 0 ∷ 0 ∷ 0 ∷ 0 ∷ 0 ∷ 0 ∷ 0 ∷ 0 ∷ 0 ∷ 0 ∷ 0 ∷ 0 ∷ 0 ∷ 0 ∷ 0 ∷ 0 ∷ 0 ∷ 0 ∷ 0 ∷ 0 ∷ 0 ∷ 0 ∷ 0 ∷ 0 ∷ 0 ∷ 0 ∷ 0 ∷ 0 ∷ 0 ∷ 0 ∷ 0 ∷ 0 ∷ 0 ∷ 0 ∷ []
 
-abbrev RP : List ℕ
+abbrev pub RP : List ℕ
 RP = 4 ∷ 58 ∷ 5 ∷ 82 ∷ 69 ∷ 65 ∷ 68 ∷ 89 ∷ 11 ∷ 83 ∷ 111 ∷ 99 ∷ 107 ∷ 101 ∷ 116 ∷ 45 ∷ 84 ∷ 121 ∷ 112 ∷ 101 ∷ 0 ∷ 0 ∷ 0 ∷ 6 ∷ 68 ∷ 69 ∷ 65 ∷ 76 ∷ 69 ∷ 82 ∷ 8 ∷ 73 ∷ 100 ∷ 101 ∷ 110 ∷ 116 ∷ 105 ∷ 116 ∷ 121 ∷ 0 ∷ 0 ∷ 0 ∷ 17 ∷ 1 ∷ 0 ∷ 1 ∷ 2 ∷ 3 ∷ 4 ∷ 5 ∷ 6 ∷ 7 ∷ 8 ∷ 9 ∷ 10 ∷ 11 ∷ 12 ∷ 13 ∷ 14 ∷ 15 ∷ []
 
-abbrev H : List ℕ
+abbrev pub H : List ℕ
 H = 0 ∷ 40 ∷ 170 ∷ 161 ∷ 1 ∷ 2 ∷ 0 ∷ 1 ∷ 20 ∷ 116 ∷ 99 ∷ 112 ∷ 58 ∷ 47 ∷ 47 ∷ 49 ∷ 48 ∷ 46 ∷ 48 ∷ 46 ∷ 48 ∷ 46 ∷ 50 ∷ 58 ∷ 52 ∷ 57 ∷ 49 ∷ 53 ∷ 50 ∷ 0 ∷ 0 ∷ 0 ∷ 0 ∷ 0 ∷ 3 ∷ 65 ∷ 110 ∷ 110 ∷ 0 ∷ 0 ∷ 0 ∷ 0 ∷ []
 
 -- its JOIN of `chat` with a number below 256
-abbrev J : ℕ → List ℕ
+abbrev pub J : ℕ → List ℕ
 J n = 0 ∷ 12 ∷ 170 ∷ 161 ∷ 4 ∷ 2 ∷ 0 ∷ n ∷ 4 ∷ 99 ∷ 104 ∷ 97 ∷ 116 ∷ 1 ∷ []
 
 -- READY of a ROUTER
-abbrev RR : List ℕ
+abbrev pub RR : List ℕ
 RR = 4 ∷ 28 ∷ 5 ∷ 82 ∷ 69 ∷ 65 ∷ 68 ∷ 89 ∷ 11 ∷ 83 ∷ 111 ∷ 99 ∷ 107 ∷ 101 ∷ 116 ∷ 45 ∷ 84 ∷ 121 ∷ 112 ∷ 101 ∷ 0 ∷ 0 ∷ 0 ∷ 6 ∷ 82 ∷ 79 ∷ 85 ∷ 84 ∷ 69 ∷ 82 ∷ []
 
-abbrev at : ℕ → Input → Entry
+abbrev pub at : ℕ → Input → Entry
 at n i = record { at = n; input = i }
 
-abbrev beacon : ℕ → List ℕ → Entry
+abbrev pub beacon : ℕ → List ℕ → Entry
 beacon n o = at n (input.Datagram host o)
 
-abbrev opened : ℕ → ℕ → Entry
+abbrev pub opened : ℕ → ℕ → Entry
 opened n c = at n (input.Opened c)
 
-abbrev piece : ℕ → ℕ → List ℕ → Entry
+abbrev pub piece : ℕ → ℕ → List ℕ → Entry
 piece n c o = at n (input.Piece c o)
 
-abbrev tick : ℕ → Entry
+abbrev pub tick : ℕ → Entry
 tick n = at n input.Tick
 
-abbrev asks : Command → Entry
+abbrev pub asks : Command → Entry
 asks c = at 200 (input.Do c)
 
-abbrev ann : List ℕ
+abbrev pub ann : List ℕ
 ann = codes "Ann"
 
-abbrev enter : Event
+abbrev pub enter : Event
 enter = event.Enter P ann (codes "tcp://10.0.0.2:49152") []
 
-abbrev exit : Cause → Event
+abbrev pub exit : Cause → Event
 exit why = event.Exit P ann why
 
 -- a beacon, a connection, and all that it says up to HELLO
-abbrev base : List Entry
+abbrev pub base : List Entry
 base = beacon 0 B ∷ opened 0 1 ∷ piece 100 1 (G ++ RP ++ H) ∷ []
 
 -- the peer enters
@@ -117,7 +117,7 @@ view_begins_anew : map (λ (v : Life). (view v.link (chronicle me taken)).groups
 unfolding digits properties_within greeting_fault frame_why part_len cut item string_at long_string_at pair_at each_at strings_at dictionary_at hello_at join_at leave_at shout_at command_of read_of view_of is_small
 view_begins_anew = refl
 
-abbrev shut : List Entry
+abbrev pub shut : List Entry
 shut = base ++ at 200 (input.Shut 1) ∷ opened 300 2 ∷ piece 300 2 (G ++ RP ++ J 9) ∷ beacon 400 B ∷ []
 
 -- a connection that doesn't begin with HELLO is ignored, and closed in time
@@ -169,7 +169,7 @@ unfolding digits properties_within greeting_fault frame_why part_len cut item st
 reply_of_dealer = refl
 
 -- the greeting of a later minor version in two pieces, and a READY with one more property
-abbrev G1 : List ℕ
+abbrev pub G1 : List ℕ
 G1 = take 11 G ++ 1 ∷ drop 12 G
 
 abbrev RX : List ℕ
