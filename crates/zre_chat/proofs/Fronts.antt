@@ -9,9 +9,10 @@ use mathlib.Core.List.{IsPrefix}
 use Rattle.zre_outside.specs.declared.entry.Command.{Command}
 use Rattle.zre_outside.specs.declared.entry.Command.TheVariants.{Join, Leave, Whisper, Shout, Bad, Quit}
 use Rattle.zre_actor.specs.Work.{QuitsLast}
-use Rattle.zre_console.specs.lines.Orders.{is_quit, through_quit, orders, Begins}
+use Rattle.zre_console.specs.lines.Orders.{is_quit, through_quit, typed, orders, asked, Begins}
 use Rattle.zre_console.specs.reader.Putting.{IsShort, IsClose}
-use Rattle.zre_console.specs.reader.Reading.{BreaksOff}
+use Rattle.zre_console.specs.reader.Reading.{BreaksOff, CutsOff, IsReadOn}
+use Rattle.zre_console.proofs.lines.Quits.{typed-begin, asked-quits, asked-begins, asked-typed, quit-short}
 
 pub prefix_self : {X : Type 0} (xs : List X) → IsPrefix xs xs
 prefix_self xs = ([], append-nil xs)
@@ -123,19 +124,32 @@ close_front (x ∷ y ∷ xs) zs (inl is) p = absurd (let e : x ∷ (y ∷ (xs ++
 close_front (x ∷ y ∷ xs) zs (inr is) p = absurd (let e : x ∷ (y ∷ (xs ++ p.0)) ≡ Quit ∷ [] = p.1 ∙ is in cc)
 
 -- a front of what breaks off breaks off
-pub breaks_front : (xs ys : List Command) (o : List ℕ) → IsPrefix xs ys → BreaksOff ys o → BreaksOff xs o
-breaks_front xs ys o p b = by (front_cut xs b.front b.tail (subst (IsPrefix xs) b.parts p))
+pub breaks_front : (ended : Type 0) (xs ys : List Command) (o : List ℕ) → IsPrefix xs ys → BreaksOff ended ys o → BreaksOff ended xs o
+breaks_front ended xs ys o p b = by (front_cut xs b.front b.tail (subst (IsPrefix xs) b.parts p))
   where
-    by : IsPrefix xs b.front ⊎ ((more : List Command) × (xs ≡ b.front ++ more) × IsPrefix more b.tail) → BreaksOff xs o
-    by (inl q) = record { front = xs; tail = []; parts = sym (append-nil xs); begins = begins_front xs b.front o q b.begins; closes = inl refl }
-    by (inr (more, is, q)) = record { front = b.front; tail = more; parts = is; begins = b.begins; closes = close_front more b.tail b.closes q }
+    fewer : IsPrefix xs b.front → IsPrefix b.front (typed o) ⊎ ended → IsPrefix xs (typed o) ⊎ ended
+    fewer q (inl whole) = inl (prefix_trans xs b.front (typed o) q whole)
+    fewer q (inr is) = inr is
+
+    by : IsPrefix xs b.front ⊎ ((more : List Command) × (xs ≡ b.front ++ more) × IsPrefix more b.tail) → BreaksOff ended xs o
+    by (inl q) = record { front = xs; tail = []; parts = sym (append-nil xs); begins = begins_front xs b.front o q b.begins; are_whole = fewer q b.are_whole; closes = inl refl }
+    by (inr (more, is, q)) = record { front = b.front; tail = more; parts = is; begins = b.begins; are_whole = b.are_whole; closes = close_front more b.tail b.closes q }
+
+-- with more that says that the text has ended
+pub breaks_by : (ended other : Type 0) (xs : List Command) (o : List ℕ) → (ended → other) → BreaksOff ended xs o → BreaksOff other xs o
+breaks_by ended other xs o then b = record { front = b.front; tail = b.tail; parts = b.parts; begins = b.begins; are_whole = by b.are_whole; closes = b.closes }
+  where
+    by : IsPrefix b.front (typed o) ⊎ ended → IsPrefix b.front (typed o) ⊎ other
+    by (inl whole) = inl whole
+    by (inr is) = inr (then is)
 
 -- where no quit is among them they begin the orders
-pub breaks_plain : (xs : List Command) (o : List ℕ) → BreaksOff xs o → list_any is_quit xs ≡ false → Begins xs o
-breaks_plain xs o b none = by b.closes
+pub breaks_plain : (ended : Type 0) (xs : List Command) (o : List ℕ) → BreaksOff ended xs o → list_any is_quit xs ≡ false
+    → Begins xs o × (IsPrefix xs (typed o) ⊎ ended)
+breaks_plain ended xs o b none = by b.closes
   where
-    by : IsClose b.tail → Begins xs o
-    by (inl is) = subst (λ l. Begins l o) (sym (b.parts ∙ ap (λ l. b.front ++ l) is ∙ append-nil b.front)) b.begins
+    by : IsClose b.tail → Begins xs o × (IsPrefix xs (typed o) ⊎ ended)
+    by (inl is) = subst (λ l. Begins l o × (IsPrefix l (typed o) ⊎ ended)) (sym (b.parts ∙ ap (λ l. b.front ++ l) is ∙ append-nil b.front)) (b.begins, b.are_whole)
     by (inr is) = absurd (true≢false (sym quits ∙ none))
       where
         quits : list_any is_quit xs ≡ true
@@ -146,11 +160,27 @@ breaks_plain xs o b none = by b.closes
             or_true false = refl
 
 -- all orders: those before their quit, and the quit
-pub orders_break : (commands : List Command) (o : List ℕ) → Begins [] o → commands ≡ orders o → BreaksOff commands o
-orders_break commands o b is = record {
-  front = b.rest;
+pub orders_break : (ended : Type 0) (commands : List Command) (o : List ℕ) → commands ≡ orders o → IsPrefix (asked false o) (typed o) ⊎ ended → BreaksOff ended commands o
+orders_break ended commands o is whole = record {
+  front = asked false o;
   tail = Quit ∷ [];
-  parts = is ∙ b.parts;
-  begins = record { rest = []; parts = b.parts };
+  parts = is ∙ asked-quits o;
+  begins = asked-begins o;
+  are_whole = whole;
   closes = inr refl;
+}
+
+-- where a line is a quit, those before it are of whole lines
+pub quit_front : (o : List ℕ) → list_any is_quit (typed o) ≡ true → IsPrefix (asked false o) (typed o)
+quit_front o quits = let few = quit-short (typed o) quits in subst (λ l. IsPrefix l (typed o)) (sym (asked-typed o quits)) (few.0 ∷ few.1, sym few.2)
+
+-- the commands of whole lines, but for a quit after them
+pub cut_breaks : (ended : Type 0) (commands : List Command) (o : List ℕ) → IsReadOn o → CutsOff commands o → BreaksOff ended commands o
+cut_breaks ended commands o none c = record {
+  front = typed o;
+  tail = c.tail;
+  parts = c.parts;
+  begins = typed-begin o (typed o) [] (sym (append-nil (typed o))) none;
+  are_whole = inl ([], append-nil (typed o));
+  closes = c.closes;
 }

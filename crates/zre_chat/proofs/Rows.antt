@@ -1,6 +1,7 @@
 -- The first of several statuses.
 use Rattle.std.proofs.Common.{◌≡◌, ◌≢◌, Bool, true, false, true≢false, cond, List, [], ◌∷◌, refl, sym, ap, ◌∙◌}
-use Rattle.std.specs.Prelude.{nat_le}
+use Rattle.std.specs.Prelude.{nat_le, ◌⊎◌}
+use mathlib.Core.Logic.{inl, inr}
 use Rattle.zre_outside.specs.declared.sink.NextFault.{NextFault}
 use Rattle.zre_outside.specs.declared.sink.NextFault.TheVariants as fault
 use Rattle.zre_commands.specs.declared.pump.status.Status.{Status}
@@ -41,6 +42,14 @@ before_done s = refl
 last_done : (r : Status) → first_of Done r ≡ r
 last_done Done = refl
 last_done s = refl
+
+-- the least of some is the first or the least of the others
+pub one_of : (s : Status) (ss : List Status) (x : Status) → least (s ∷ ss) ≡ x → (s ≡ x) ⊎ (least ss ≡ x)
+one_of s ss x is = by (nat_le (rank s) (rank (least ss))) refl
+  where
+    by : (b : Bool) → nat_le (rank s) (rank (least ss)) ≡ b → (s ≡ x) ⊎ (least ss ≡ x)
+    by true e = inl (sym (ap (λ b. cond b s (least ss)) e) ∙ is)
+    by false e = inr (sym (ap (λ b. cond b s (least ss)) e) ∙ is)
 
 -- where the first is Done, so is each
 pub done_here : (s : Status) (ss : List Status) → least (s ∷ ss) ≡ Done → s ≡ Done

@@ -4,7 +4,7 @@ use Rattle.std.specs.Prelude.{◌⊎◌}
 use mathlib.Core.Logic.{inl, inr}
 use mathlib.Core.List.{IsPrefix}
 use Rattle.std.specs.List.{list_any}
-use Rattle.std.specs.Io.KnownBytes.{Keeps}
+use Rattle.std.specs.Io.KnownBytes.{Keeps, IsAtEnd}
 use Rattle.zre_outside.specs.declared.entry.Command.{Command}
 use Rattle.zre_outside.specs.declared.sink.NextFault.{NextFault}
 use Rattle.zre_outside.specs.declared.sink.NextFault.TheVariants as fault
@@ -30,18 +30,19 @@ use Rattle.zre_console.specs.declared.reader.ending.InputEnd.TheVariants as end
 use Rattle.zre_console.specs.reader.Putting.{IsShort}
 use Rattle.zre_console.specs.reader.Reading.{HasRead, Outcome, BreaksOff}
 use Rattle.zre_commands.specs.declared.pump.status.Status.{Status}
-use Rattle.zre_commands.specs.declared.pump.status.Status.TheVariants.{Done, OutOfMemory}
+use Rattle.zre_commands.specs.declared.pump.status.Status.TheVariants.{Done, ReadFault, OutOfMemory}
 use Rattle.zre_console.specs.printer.Asking.{asked, asker_of}
 use Rattle.zre_chat.specs.Chat.{Seen, IsChat, IsCaused, HasEnded}
 use Rattle.zre_console.specs.printer.Printing.{HasPrinted}
 use Rattle.zre_chat.specs.Stages.{Prepared}
 use Rattle.zre_chat.specs.Statuses.{least, of_read, of_print, of_work, of_thread}
-use Rattle.zre_chat.proofs.Fronts.{prefix_trans, quits_through, all_front, none_front, short_front, breaks_front}
+use Rattle.zre_chat.proofs.Fronts.{prefix_trans, quits_through, all_front, none_front, short_front, breaks_front, breaks_by}
 use Rattle.zre_chat.proofs.Merged.{all_under}
 use Rattle.zre_chat.proofs.Asker.{asked_few, asker_put}
 use Rattle.zre_chat.proofs.Living as living
 use Rattle.zre_chat.proofs.Parts as parts
-use Rattle.zre_chat.proofs.Whole.{IsThrough, read_orders, read_front, only, most}
+use Rattle.zre_chat.proofs.Parts.{read_ended}
+use Rattle.zre_chat.proofs.Whole.{IsThrough, HasFound, read_orders, read_front, only, most}
 
 module _ (g : Config) (start : Start) (name : Option (List ℕ)) (keep : Bool) (limit : ℕ) (s u t : Seen) (p : Prepared g start name keep s u)
     (n : Node) (how : Ending) (looked looked' : Bool) (actor actor' : ActorPass)
@@ -89,10 +90,12 @@ module _ (g : Config) (start : Start) (name : Option (List ℕ)) (keep : Bool) (
   handed_first : IsPrefix handed (map command_of popped)
   handed_first = (w.pending, sym w.goes.are_handed)
 
-  in_order : BreaksOff handed r.octets
-  in_order = breaks_front handed (map command_of popped) r.octets handed_first
-      (most (number reader) (number asker) (ended reader) (ended asker) r.commands (asked d.last.wish) apart popped their_fronts (asked_few d.last.wish) w.quits_last r.octets
-      (read_orders stop limit r.commands r.octets t.left (Rose u.read_faults t.read_faults) r.outcome))
+  in_order : BreaksOff ((status ≢ ReadFault) × IsAtEnd t.left × (length r.octets < limit)) handed r.octets
+  in_order = breaks_by (HasFound stop limit r.octets t.left) ((status ≢ ReadFault) × IsAtEnd t.left × (length r.octets < limit)) handed r.octets
+      (λ (found : HasFound stop limit r.octets t.left). ((λ (is : status ≡ ReadFault). found.0 (read_ended stop (parts.read_failed (of_read stop) broke how refused is))), found.1, found.2))
+      (breaks_front (HasFound stop limit r.octets t.left) handed (map command_of popped) r.octets handed_first
+      (most (number reader) (number asker) (ended reader) (ended asker) r.commands (asked d.last.wish) apart popped their_fronts (HasFound stop limit r.octets t.left) (asked_few d.last.wish) w.quits_last r.octets
+      (read_orders stop limit r.commands r.octets t.left (Rose u.read_faults t.read_faults) r.outcome)))
 
   -- where all went well
   calm : status ≡ Done → IsPrefix handed r.commands

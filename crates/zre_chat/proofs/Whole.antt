@@ -36,7 +36,7 @@ use Rattle.zre_chat.specs.Chat.{Seen, IsChat, IsCaused, Holds, started, Lived, W
 use Rattle.zre_chat.specs.Keeping.{head_of}
 use Rattle.zre_chat.specs.Stages.{IsEarly, HasOpened, Prepared, Unprepared}
 use Rattle.zre_chat.specs.Statuses.{of_read}
-use Rattle.zre_chat.proofs.Fronts.{map-prefix, quits_through, none_before, breaks_front, breaks_plain, orders_break}
+use Rattle.zre_chat.proofs.Fronts.{map-prefix, quits_through, none_before, breaks_front, breaks_by, breaks_plain, orders_break, quit_front, cut_breaks}
 use Rattle.zre_chat.proofs.Merged.{all_under, its_own, no_others, commands_under, prefix_nil, TwoAlone, split, alone}
 use Rattle.zre_chat.proofs.Rows.{write_isnt, world_isnt, memory_isnt, one_least}
 
@@ -119,7 +119,7 @@ module _ (g : Config) (start : Start) (name : Option (List ℕ)) (limit : ℕ) w
     wrote = unwritten s t status written;
     captured = uncaptured s t status settings not_done holds;
     ordered = record {
-      in_order = record { front = []; tail = []; parts = refl; begins = nothing_begins []; closes = inl refl };
+      in_order = record { front = []; tail = []; parts = refl; begins = nothing_begins []; are_whole = inl ([], refl); closes = inl refl };
       are_front = λ d. absurd (not_done d);
       all_handed = λ d. absurd (not_done d);
       ended = λ d. absurd (not_done d);
@@ -170,14 +170,28 @@ there (Some file) is = (file, refl)
 
 -- ---- the commands
 
+-- the text of a reader has ended: it was found at its end within the limit
+abbrev pub HasFound : (e : InputEnd) (limit : ℕ) (o : List ℕ) (left : Option (List ℕ)) → Type 0
+HasFound e limit o left = (e ≢ end.ReadFault) × IsAtEnd left × (length o < limit)
+
+found_end : end.AtEnd ≢ end.ReadFault
+found_end is = cc
+
+found_over : end.Over ≢ end.ReadFault
+found_over is = cc
+
 -- those that the reader put break off the orders
-pub read_orders : (e : InputEnd) (limit : ℕ) (commands : List Command) (o : List ℕ) (left : Option (List ℕ)) (read : Type 0) → Outcome e limit commands o left read → BreaksOff commands o
-read_orders end.Quit limit commands o left read x = orders_break commands o (nothing_begins o) x.1
-read_orders end.AtEnd limit commands o left read x = orders_break commands o (nothing_begins o) x.2
-read_orders end.Over limit commands o left read x = record { front = commands; tail = []; parts = sym (append-nil commands); begins = x.0; closes = inl refl }
-read_orders end.ReadFault limit commands o left read x = x.3
-read_orders end.TooLong limit commands o left read x = x.2
-read_orders end.OutOfMemory limit commands o left read x = x
+pub read_orders : (e : InputEnd) (limit : ℕ) (commands : List Command) (o : List ℕ) (left : Option (List ℕ)) (read : Type 0) → Outcome e limit commands o left read → BreaksOff (HasFound e limit o left) commands o
+read_orders end.Quit limit commands o left read x = orders_break (HasFound end.Quit limit o left) commands o x.1 (inl (quit_front o x.0))
+read_orders end.AtEnd limit commands o left read x = orders_break (HasFound end.AtEnd limit o left) commands o x.2 (inr (found_end, x.0, x.1))
+read_orders end.Over limit commands o left read x = record { front = commands; tail = []; parts = sym (append-nil commands); begins = x.0; are_whole = by x.2; closes = inl refl }
+  where
+    by : IsPrefix commands (typed o) ⊎ (IsAtEnd left × (length o < limit)) → IsPrefix commands (typed o) ⊎ HasFound end.Over limit o left
+    by (inl whole) = inl whole
+    by (inr at) = inr (found_over, at.0, at.1)
+read_orders end.ReadFault limit commands o left read x = cut_breaks (HasFound end.ReadFault limit o left) commands o x.2 x.3
+read_orders end.TooLong limit commands o left read x = cut_breaks (HasFound end.TooLong limit o left) commands o x.1 x.2
+read_orders end.OutOfMemory limit commands o left read x = breaks_by ⊥ (HasFound end.OutOfMemory limit o left) commands o (λ none. absurd none) x
 
 -- why nothing more was read, where nothing went wrong
 abbrev pub IsThrough : (limit : ℕ) (commands : List Command) (o : List ℕ) (left : Option (List ℕ)) → Type 0
@@ -237,8 +251,8 @@ module _ (r q : ℕ) (er eq : List ℕ) (cs qs : List Command) (apart : r ≢ q)
               same e = grind (arith, e)
 
   -- where it put at most a quit, they break off the orders that its commands break off
-  pub most : (qs ≡ []) ⊎ (qs ≡ Quit ∷ []) → QuitsLast (map command_of es) → (o : List ℕ) → BreaksOff cs o → BreaksOff (map command_of es) o
-  most asks quits o breaks = by (split r q es apart of_none quits is_quit_there)
+  pub most : (ended : Type 0) → (qs ≡ []) ⊎ (qs ≡ Quit ∷ []) → QuitsLast (map command_of es) → (o : List ℕ) → BreaksOff ended cs o → BreaksOff ended (map command_of es) o
+  most ended asks quits o breaks = by (split r q es apart of_none quits is_quit_there)
     where
       is_quit_there : (e : Placed) (more : List Placed) → under q es ≡ e ∷ more → e.command ≡ Quit
       is_quit_there e more at = from asks
@@ -253,11 +267,11 @@ module _ (r q : ℕ) (er eq : List ℕ) (cs qs : List Command) (apart : r ≢ q)
           from (inl none) = absurd (let x : e ∷ (more ++ a.0) ≡ [] = a.1 ∙ ap (all_under q eq) none in cc)
           from (inr one) = first (more ++ a.0) (a.1 ∙ ap (all_under q eq) one)
 
-      front : BreaksOff (map command_of (under r es)) o
-      front = breaks_front (map command_of (under r es)) cs o its_front breaks
+      front : BreaksOff ended (map command_of (under r es)) o
+      front = breaks_front ended (map command_of (under r es)) cs o its_front breaks
 
-      by : (es ≡ under r es) ⊎ ((last : Placed) × (last.command ≡ Quit) × (es ≡ under r es ++ last ∷ [])) → BreaksOff (map command_of es) o
-      by (inl is) = subst (λ l. BreaksOff (map command_of l) o) (sym is) front
+      by : (es ≡ under r es) ⊎ ((last : Placed) × (last.command ≡ Quit) × (es ≡ under r es ++ last ∷ [])) → BreaksOff ended (map command_of es) o
+      by (inl is) = subst (λ l. BreaksOff ended (map command_of l) o) (sym is) front
       by (inr (last, quit, is)) =
           let same : map command_of es ≡ map command_of (under r es) ++ Quit ∷ [] =
           ap (map command_of) is ∙ map-append command_of (under r es) (last ∷ []) ∙ ap (λ c. map command_of (under r es) ++ c ∷ []) quit in
@@ -265,6 +279,7 @@ module _ (r q : ℕ) (er eq : List ℕ) (cs qs : List Command) (apart : r ≢ q)
             front = map command_of (under r es);
             tail = Quit ∷ [];
             parts = same;
-            begins = breaks_plain (map command_of (under r es)) o front plain;
+            begins = (breaks_plain ended (map command_of (under r es)) o front plain).0;
+            are_whole = (breaks_plain ended (map command_of (under r es)) o front plain).1;
             closes = inr refl;
           }

@@ -156,10 +156,11 @@ pub record Captured (g : Config) (name : Option (List ℕ)) (entries : List Entr
       → Holds g file entries s t
 
 -- the commands that were handed in begin the orders of the octets that were taken, before their quit, but for a quit at
--- their end; where all went well they begin the orders as they stand, and with a quit they are all of them
+-- their end; a last line without its line feed is an order only where the input was at its end within the limit and no
+-- read failed; where all went well they begin the orders as they stand, and with a quit they are all of them
 pub record Ordered (limit : ℕ) (octets : List ℕ) (handed : List Command) (left : Option (List ℕ)) (status : Status)
     : Type 0 where
-  pub in_order : BreaksOff handed octets
+  pub in_order : BreaksOff ((status ≢ ReadFault) × IsAtEnd left × (length octets < limit)) handed octets
   pub are_front : status ≡ Done → IsPrefix handed (orders octets)
   pub all_handed : status ≡ Done → list_any is_quit handed ≡ true → handed ≡ orders octets
   pub ended : status ≡ Done → HasEnded limit octets handed left

@@ -9,7 +9,8 @@ use std::test::Fail;
 use std::thread::Threads;
 use zre_app::{GateEnded, Status, gate};
 use zre_outside::{
-    Desk, Failed, MemDesk, MemRecorder, MemSink, PlainSpawner, Script, ScriptWorld, Sink,
+    Desk, Entry, Failed, Input, MemDesk, MemRecorder, MemSink, PlainSpawner, Script, ScriptWorld,
+    Sink, Turn,
 };
 use zre_values::{Octets, OutOfMemory};
 
@@ -37,6 +38,16 @@ const TEXT: &[u8] = b"REFUSED NOPEER 44444444444444444444444444444444\nSTOP\n";
 
 const STOP: &[u8] = b"STOP\n";
 
+const CAPTURE: &[u8] = b"capture=c";
+
+/// What a capture keeps of a client who joins and leaves a group.
+const KEPT: &[u8] =
+    b"zre-capture 2 FFEEDDCCBBAA99887766554433221100 Me 10.0.0.1 49153 5000 30000 %\n\
+0 do join g\n0 do leave g\n0 do quit\n";
+
+/// What is told of a connection that begins with another octet.
+const CLOSED: &[u8] = b"CLOSED 1 Signature 0\n";
+
 /// The most turns and octets.
 const LIMIT: u64 = 50000000;
 
@@ -56,6 +67,14 @@ struct Case {
     start_fails: &'static [u64],
     /// How often the world lets the node look for a command.
     looks: u64,
+    /// Whether a connection comes before that which isn't one of ZMTP.
+    is_visited: bool,
+    /// Whether a capture is kept.
+    is_kept: bool,
+    /// Which turns of the world, writes to the sink and writes to the capture fail.
+    turn_fails: &'static [u64],
+    write_fails: &'static [u64],
+    put_fails: &'static [u64],
     limit: u64,
     status: Status,
     text: &'static [u8],
@@ -70,6 +89,11 @@ const PLAIN: Case = Case {
     next_fails: &[],
     start_fails: &[],
     looks: 4,
+    is_visited: false,
+    is_kept: false,
+    turn_fails: &[],
+    write_fails: &[],
+    put_fails: &[],
     limit: LIMIT,
     status: Status::Done,
     text: TEXT,
@@ -83,6 +107,23 @@ fn desk_of(alloc: Global, case: &Case) -> Result<MemDesk, OutOfMemory> {
     Ok(MemDesk::new(clients, Vec::new(alloc), next_fails))
 }
 
+/// The world of a case.
+fn world_in(alloc: Global, case: &Case) -> Result<ScriptWorld, OutOfMemory> {
+    let mut script = Script::new(alloc);
+    if case.is_visited {
+        script.push(Turn::Entry(Entry {
+            at: 0,
+            input: Input::Opened { conn: 1 },
+        }))?;
+        let bytes = Octets::copy(alloc, &[0])?;
+        script.push(Turn::Entry(Entry {
+            at: 0,
+            input: Input::Piece { conn: 1, bytes },
+        }))?;
+    }
+    world_of(alloc, script, case.looks, case.turn_fails)
+}
+
 /// How a gate of a desk ended, and what was written.
 fn hold<R: Threads + Wait + Send + Copy + 'static, D: Desk + Drop, O: Sink>(
     rt: R,
@@ -93,9 +134,13 @@ fn hold<R: Threads + Wait + Send + Copy + 'static, D: Desk + Drop, O: Sink>(
 ) -> Result<GateEnded<D, ScriptWorld, MemRecorder>, OutOfMemory> {
     let mut words = words_of(alloc, GATE)?;
     words.push(Octets::copy(alloc, case.clients)?)?;
-    let world = world_of(alloc, Script::new(alloc), case.looks)?;
+    if case.is_kept {
+        words.push(Octets::copy(alloc, CAPTURE)?)?;
+    }
+    let world = world_in(alloc, case)?;
     let start_fails = Vec::from_slice(alloc, case.start_fails)?;
-    let rec = MemRecorder::new(alloc, Vec::new(alloc), Vec::new(alloc));
+    let put_fails = Vec::from_slice(alloc, case.put_fails)?;
+    let rec = MemRecorder::new(alloc, Vec::new(alloc), put_fails);
     let mut spawner = PlainSpawner::new(rt, alloc, start_fails);
     Ok(gate(
         rt,
@@ -117,7 +162,7 @@ fn held<R: Threads + Wait + Send + Copy + 'static>(
     case: &Case,
 ) -> Result<(Status, MemSink), OutOfMemory> {
     let desk = desk_of(alloc, case)?;
-    let mut out = MemSink::new(alloc, Vec::new(alloc));
+    let mut out = MemSink::new(alloc, Vec::from_slice(alloc, case.write_fails)?);
     let ended = hold(rt, alloc, case, desk, &mut out)?;
     Ok((ended.status, out))
 }
@@ -132,7 +177,7 @@ fn ends<R: Threads + Wait + Send + Copy + 'static>(
     Ok(status == case.status && out.written() == case.text)
 }
 
-const CASES: [Case; 7] = [
+const CASES: [Case; 13] = [
     PLAIN,
     Case {
         shows: "their order is no matter",
@@ -181,6 +226,66 @@ const CASES: [Case; 7] = [
         looks: 3,
         ..PLAIN
     },
+    Case {
+        shows: "the world fails",
+        first: b"",
+        second: b"",
+        turn_fails: &[1],
+        status: Status::WorldFault,
+        text: b"",
+        ..PLAIN
+    },
+    Case {
+        shows: "the sink fails, and the node is stopped",
+        first: b"",
+        second: b"",
+        looks: 1,
+        is_visited: true,
+        write_fails: &[1],
+        status: Status::WriteFault,
+        text: b"",
+        ..PLAIN
+    },
+    Case {
+        shows: "of two faults the status is the least",
+        first: b"",
+        second: b"",
+        is_visited: true,
+        turn_fails: &[3],
+        write_fails: &[1],
+        status: Status::WriteFault,
+        text: b"",
+        ..PLAIN
+    },
+    Case {
+        shows: "what was told before the world failed is written",
+        first: b"",
+        second: b"",
+        is_visited: true,
+        turn_fails: &[3],
+        status: Status::WorldFault,
+        text: CLOSED,
+        ..PLAIN
+    },
+    Case {
+        shows: "the head can't be kept",
+        is_kept: true,
+        put_fails: &[1],
+        status: Status::WriteFault,
+        text: b"",
+        ..PLAIN
+    },
+    Case {
+        shows: "an entry that can't be kept isn't taken",
+        first: b"",
+        second: b"",
+        is_visited: true,
+        is_kept: true,
+        put_fails: &[3],
+        status: Status::WriteFault,
+        text: b"",
+        ..PLAIN
+    },
 ];
 
 #[test]
@@ -191,6 +296,33 @@ fn gates_end_as_each_case_says(rt: HostRuntime) -> Result<(), Fail> {
             (case.shows, true)
         );
     }
+    Ok(())
+}
+
+/// What a gate keeps in its capture.
+fn kept_by<R: Threads + Wait + Send + Copy + 'static>(
+    rt: R,
+    alloc: Global,
+    case: &Case,
+) -> Result<(Status, MemRecorder), OutOfMemory> {
+    let desk = desk_of(alloc, case)?;
+    let mut out = MemSink::new(alloc, Vec::new(alloc));
+    let ended = hold(rt, alloc, case, desk, &mut out)?;
+    Ok((ended.status, ended.rec))
+}
+
+#[test]
+fn a_gate_keeps_a_capture(rt: HostRuntime) -> Result<(), Fail> {
+    let case = Case {
+        first: GROUP,
+        second: b"",
+        looks: 3,
+        is_kept: true,
+        ..PLAIN
+    };
+    let (status, rec) = kept_by(rt, rt.alloc(), &case)?;
+    assert_eq!(rt; status, Status::Done);
+    assert_eq!(rt; rec.kept(), KEPT);
     Ok(())
 }
 

@@ -76,7 +76,7 @@ fn world(alloc: Global) -> Result<ScriptWorld, OutOfMemory> {
             script.push(Turn::Entry(entry))?;
         }
     }
-    world_of(alloc, script, 4)
+    world_of(alloc, script, 4, &[])
 }
 
 /// The last line is held back until something was written.

@@ -33,12 +33,18 @@ pub fn source_of(alloc: Global, text: &[u8], fails: &[u64]) -> Result<MemSource,
     Ok(MemSource::new(Octets::copy(alloc, text)?, Vec::from_slice(alloc, fails)?))
 }
 
-/// A world by a script, and after it so many looks for a command.
-pub fn world_of(alloc: Global, mut script: Script, looks: u64) -> Result<ScriptWorld, OutOfMemory> {
+/// A world by a script, and after it so many looks for a command, of which the turns with these numbers fail.
+pub fn world_of(
+    alloc: Global,
+    mut script: Script,
+    looks: u64,
+    fails: &[u64],
+) -> Result<ScriptWorld, OutOfMemory> {
     for _ in 0..looks {
         script.push(Turn::Look)?;
     }
-    Ok(ScriptWorld::new(alloc, script, Vec::new(alloc), Vec::new(alloc)))
+    let fails = Vec::from_slice(alloc, fails)?;
+    Ok(ScriptWorld::new(alloc, script, Vec::new(alloc), fails))
 }
 
 /// Octets, and after them others that are held back until all signs were given.

@@ -2,6 +2,7 @@
 use Rattle.std.proofs.Common.{◌≡◌, ◌⊎◌, ℕ, ◌+◌, ◌<◌, ◌≤◌, false, List, [], ◌∷◌, ◌++◌, length, Option, refl, sym, ap, ◌∙◌, subst, arith}
 use Rattle.std.specs.List.{list_any}
 use mathlib.Core.Logic.{inl, inr}
+use mathlib.Core.List.{IsPrefix}
 use Rattle.std.specs.Io.KnownBytes.{IsAtEnd}
 use Rattle.std.proofs.lemmas.List.{append-nil}
 use Rattle.zre_outside.specs.declared.entry.Command.{Command}
@@ -16,7 +17,7 @@ use Rattle.zre_console.specs.declared.reader.ending.InputEnd.TheVariants as ends
 use Rattle.zre_console.specs.declared.reader.reading.Next.TheVariants as nexts
 use Rattle.zre_outside.specs.declared.entry.Command.TheVariants.{Quit}
 use Rattle.zre_console.specs.reader.Putting.{Puts, Closes, IsShort}
-use Rattle.zre_console.specs.reader.Reading.{BreaksOff, HasRead, HasReadLines, Outcome, LinesOutcome}
+use Rattle.zre_console.specs.reader.Reading.{BreaksOff, CutsOff, HasRead, HasReadLines, Outcome, LinesOutcome}
 use Rattle.zre_console.specs.reader.Turning.{PutsTyped, Turned, Finishes, Closing}
 use Rattle.zre_console.proofs.reader.Puts.{puts-none, puts-then}
 
@@ -141,14 +142,19 @@ module _ (limit : ℕ) (a b c : CallerPass) (l l' k k' : Option (List ℕ)) (rea
   }
 
   over : (end : InputEnd) (h : HasReadLines end limit a b l l' k k' read) → Puts b c [] → Begins h.commands h.octets
-      → (h.octets ≡ []) ⊎ ((length h.octets < limit) ⊎ IsShort h.commands (typed h.octets)) → HasRead ends.Over limit a c l l' k k' read
-  over end h p begins why = more end ends.Over h [] p (rw (append-nil h.commands) (begins, why))
+      → (h.octets ≡ []) ⊎ ((length h.octets < limit) ⊎ IsShort h.commands (typed h.octets))
+      → IsPrefix h.commands (typed h.octets) ⊎ (IsAtEnd l' × (length h.octets < limit)) → HasRead ends.Over limit a c l l' k k' read
+  over end h p begins why whole = more end ends.Over h [] p (rw (append-nil h.commands) (begins, why, whole))
 
-  broken : (commands : List Command) (o : List ℕ) (closes : Closes b c) → Begins commands o → BreaksOff (commands ++ closes.0) o
-  broken commands o closes begins = record { front = commands; tail = closes.0; parts = refl; begins = begins; closes = closes.1 }
+  broken : (commands : List Command) (o : List ℕ) (closes : Closes b c) → Begins commands o → IsPrefix commands (typed o) → BreaksOff ⊥ (commands ++ closes.0) o
+  broken commands o closes begins front = record { front = commands; tail = closes.0; parts = refl; begins = begins; are_whole = inl front; closes = closes.1 }
 
-  plainly : (commands : List Command) (o : List ℕ) → commands ≡ typed o → list_any is_quit (typed o) ≡ false → Begins commands o
-  plainly commands o is none = subst (λ (cs : List Command). Begins cs o) (sym is) (typed-begin o (typed o) [] (sym (append-nil (typed o))) none)
+  cut : (commands : List Command) (o : List ℕ) (closes : Closes b c) → commands ≡ typed o → CutsOff (commands ++ closes.0) o
+  cut commands o closes is = record { tail = closes.0; parts = ap (λ (cs : List Command). cs ++ closes.0) is; closes = closes.1 }
+
+  -- where a line is a quit, what is asked for are whole lines before it
+  short : (commands : List Command) (o : List ℕ) → commands ≡ asked false o → list_any is_quit (typed o) ≡ true → IsShort commands (typed o)
+  short commands o is quits = subst (λ (cs : List Command). IsShort cs (typed o)) (sym (is ∙ asked-typed o quits)) (quit-short (typed o) quits)
 
   quit-put : (commands : List Command) (o : List ℕ) → commands ≡ asked false o → commands ++ Quit ∷ [] ≡ orders o
   quit-put commands o is = ap (λ (cs : List Command). cs ++ Quit ∷ []) is ∙ sym (asked-quits o)
@@ -158,14 +164,14 @@ module _ (limit : ℕ) (a b c : CallerPass) (l l' k k' : Option (List ℕ)) (rea
 
   pub closed : (end final : InputEnd) → HasReadLines end limit a b l l' k k' read → Closing end final b c → HasRead final limit a c l l' k k' read
   closed ends.Quit final h (inl (is, p)) = subst (λ (e : InputEnd). HasRead e limit a c l l' k k' read) (sym is) (more ends.Quit ends.Quit h (Quit ∷ []) p (h.outcome.0, quit-put h.commands h.octets h.outcome.1))
-  closed ends.Quit final h (inr (is, p)) = subst (λ (e : InputEnd). HasRead e limit a c l l' k k' read) (sym is) (over ends.Quit h p (begun h.commands h.octets h.outcome.1)
-      (inr (inr (subst (λ (cs : List Command). IsShort cs (typed h.octets)) (sym (h.outcome.1 ∙ asked-typed h.octets h.outcome.0)) (quit-short (typed h.octets) h.outcome.0)))))
+  closed ends.Quit final h (inr (is, p)) = subst (λ (e : InputEnd). HasRead e limit a c l l' k k' read) (sym is) (let few = short h.commands h.octets h.outcome.1 h.outcome.0 in
+      over ends.Quit h p (begun h.commands h.octets h.outcome.1) (inr (inr few)) (inl (few.0 ∷ few.1, sym few.2)))
   closed ends.AtEnd final h (inl (is, p)) = subst (λ (e : InputEnd). HasRead e limit a c l l' k k' read) (sym is) (more ends.AtEnd ends.AtEnd h (Quit ∷ []) p (h.outcome.0, h.outcome.1, quit-put h.commands h.octets h.outcome.2))
-  closed ends.AtEnd final h (inr (is, p)) = subst (λ (e : InputEnd). HasRead e limit a c l l' k k' read) (sym is) (over ends.AtEnd h p (begun h.commands h.octets h.outcome.2) (inr (inl h.outcome.1)))
-  closed ends.Over final h (is, same) = subst (λ (e : InputEnd). HasRead e limit a c l l' k k' read) (sym is) (over ends.Over h (subst (λ (p : CallerPass). Puts b p []) (sym same) (puts-none b)) h.outcome.0 h.outcome.2)
+  closed ends.AtEnd final h (inr (is, p)) = subst (λ (e : InputEnd). HasRead e limit a c l l' k k' read) (sym is) (over ends.AtEnd h p (begun h.commands h.octets h.outcome.2) (inr (inl h.outcome.1)) (inr (h.outcome.0, h.outcome.1)))
+  closed ends.Over final h (is, same) = subst (λ (e : InputEnd). HasRead e limit a c l l' k k' read) (sym is) (over ends.Over h (subst (λ (p : CallerPass). Puts b p []) (sym same) (puts-none b)) h.outcome.0 h.outcome.2 (inl h.outcome.1))
   closed ends.ReadFault final h (is, p) = subst (λ (e : InputEnd). HasRead e limit a c l l' k k' read) (sym is)
-      (more ends.ReadFault ends.ReadFault h p.0 p.2 (h.outcome.0, h.outcome.1, h.outcome.2, broken h.commands h.octets p (plainly h.commands h.octets h.outcome.3 h.outcome.2)))
+      (more ends.ReadFault ends.ReadFault h p.0 p.2 (h.outcome.0, h.outcome.1, h.outcome.2, cut h.commands h.octets p h.outcome.3))
   closed ends.TooLong final h (is, p) = subst (λ (e : InputEnd). HasRead e limit a c l l' k k' read) (sym is)
-      (more ends.TooLong ends.TooLong h p.0 p.2 (h.outcome.0, h.outcome.1, broken h.commands h.octets p (plainly h.commands h.octets h.outcome.2 h.outcome.1)))
+      (more ends.TooLong ends.TooLong h p.0 p.2 (h.outcome.0, h.outcome.1, cut h.commands h.octets p h.outcome.2))
   closed ends.OutOfMemory final h (is, p) = subst (λ (e : InputEnd). HasRead e limit a c l l' k k' read) (sym is)
-      (more ends.OutOfMemory ends.OutOfMemory h p.0 p.2 (broken h.commands h.octets p h.outcome.0))
+      (more ends.OutOfMemory ends.OutOfMemory h p.0 p.2 (broken h.commands h.octets p h.outcome.0 h.outcome.1))

@@ -12,12 +12,20 @@ use Rattle.zre_console.specs.declared.reader.ending.InputEnd.TheVariants.{Quit, 
 use Rattle.zre_console.specs.declared.reader.ending.InputEnd.TheVariants.{OutOfMemory}
 use Rattle.zre_console.specs.reader.Putting.{Puts, IsClose, IsShort}
 
--- these begin the orders of a text, but for a quit that may stand after them
-pub record BreaksOff (commands : List Command) (o : List ℕ) : Type 0 where
+-- these begin the orders of a text, but for a quit that may stand after them; a last line without its line feed counts
+-- only where the text has ended
+pub record BreaksOff (ended : Type 0) (commands : List Command) (o : List ℕ) : Type 0 where
   pub front : List Command
   pub tail : List Command
   pub parts : commands ≡ front ++ tail
   pub begins : Begins front o
+  pub are_whole : IsPrefix front (typed o) ⊎ ended
+  pub closes : IsClose tail
+
+-- these are the commands of the whole lines of a text, but for a quit that may stand after them
+pub record CutsOff (commands : List Command) (o : List ℕ) : Type 0 where
+  pub tail : List Command
+  pub parts : commands ≡ typed o ++ tail
   pub closes : IsClose tail
 
 -- no line so far is a quit, after which nothing is read
@@ -34,11 +42,12 @@ Outcome AtEnd limit commands o left read = IsAtEnd left × (length o < limit) ×
 -- no quit was put: nothing was read, fewer octets than the limit were taken, or not all commands were put
 Outcome Over limit commands o left read =
     Begins commands o × ((o ≡ []) ⊎ ((length o < limit) ⊎ IsShort commands (typed o)))
+    × (IsPrefix commands (typed o) ⊎ (IsAtEnd left × (length o < limit)))
 -- the source failed where a read was due
-Outcome ReadFault limit commands o left read = read × (length o < limit) × IsReadOn o × BreaksOff commands o
+Outcome ReadFault limit commands o left read = read × (length o < limit) × IsReadOn o × CutsOff commands o
 -- as many octets as the limit were taken and a read was due
-Outcome TooLong limit commands o left read = (length o ≡ limit) × IsReadOn o × BreaksOff commands o
-Outcome OutOfMemory limit commands o left read = BreaksOff commands o
+Outcome TooLong limit commands o left read = (length o ≡ limit) × IsReadOn o × CutsOff commands o
+Outcome OutOfMemory limit commands o left read = BreaksOff ⊥ commands o
 
 -- the same of the lines alone, whose quit isn't put
 abbrev pub LinesOutcome : InputEnd
