@@ -64,8 +64,10 @@ impl Chat {
         R: Recorder + Send + Drop + 'static,
         P: Spawner,
         T: Wait + Threads + Copy,
+        // The settings and the name are valid.
         requires valid { is_valid self.config ≡ true }
         requires text { IfSome self.capture (λ name. is_utf8 name ≡ true) }
+        // What was read, given, done, written and kept, and the status.
         ensures chat { IsChat self.config self.start self.capture limit
             (seen (I.left input) (I.taken input) (I.faults input)
             (W.told world) (W.faults world) (O.written out.old) (O.faults out.old)
@@ -74,6 +76,7 @@ impl Chat {
             (W.told result.world) (W.faults result.world) (O.written out.new) (O.faults out.new)
             (R.kept result.rec) (R.named result.rec) (R.faults result.rec) (P.faults spawner.new))
             result.status }
+        // What isn't used comes back as it was; counts of faults never fall.
         ensures unkept { self.capture ≡ None → result.rec ≡ rec }
         ensures later { (I.faults input ≤ I.faults result.input) × (O.faults out.old ≤ O.faults out.new)
             × (P.faults spawner.old ≤ P.faults spawner.new) }
@@ -108,14 +111,18 @@ fn prepare<W: World, R: Recorder>(
     world: &mut W,
     rec: &mut R,
 ) -> Result<Table, Status>
+    // The settings and the name are valid.
     requires valid { is_valid chat.config ≡ true }
     requires text { IfSome chat.capture (λ name. is_utf8 name ≡ true) }
+    // The pipes are laid, the node is new, the capture is begun and the world started.
     ensures laid { IfOk result (λ table. IsLaid 0 table × HasMore 0 table) }
     ensures node { IfOk result (λ table. StandsFor chat.config [] table.seat.node) }
     ensures opened { OnOk result (HasOpened chat.config chat.start chat.capture (R.begun rec.new)
         (W.told world.old) (W.told world.new) (R.kept rec.old) (R.kept rec.new) (R.named rec.old) (R.named rec.new)) }
+    // What isn't used stays as it was; counts of faults never fall.
     ensures unkept { chat.capture ≡ None → rec.new ≡ rec.old }
     ensures later { (W.faults world.old ≤ W.faults world.new) × (R.faults rec.old ≤ R.faults rec.new) }
+    // Why it did not come that far.
     ensures refused { IfErr result (λ status. Unprepared chat.config chat.start chat.capture status
         (W.told world.old) (W.told world.new) (R.kept rec.old) (R.kept rec.new) (R.named rec.old) (R.named rec.new)
         ⊥ (Rose (W.faults world.old) (W.faults world.new)) (Rose (R.faults rec.old) (R.faults rec.new))) }

@@ -24,11 +24,14 @@ pub fn enter<W: World>(
     world: &mut W,
     more: u8,
 ) -> Result<Table, Status>
+    // The settings are valid, and there are passes for so many more callers.
     requires valid { is_valid config ≡ true }
     requires few { more ≤ 14 }
+    // The pipes are laid, the node is new, and the world is started.
     ensures laid { IfOk result (λ table. IsLaid more table × HasMore more table) }
     ensures node { IfOk result (λ table. StandsFor config [] table.seat.node) }
     ensures told { OnOk result (W.told world.new ≡ option_map (with_start start.now) (W.told world.old)) }
+    // The world's count never falls, and why it did not come that far.
     ensures later { W.faults world.old ≤ W.faults world.new }
     ensures refused { IfErr result (λ status. IsOutside start.now status (W.told world.old) (W.told world.new)
         (Rose (W.faults world.old) (W.faults world.new))) }

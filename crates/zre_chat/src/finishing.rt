@@ -34,6 +34,7 @@ pub fn settle<I, W, R, T: Wait + Copy>(
     talk: Talk<Read<I>>,
     worked: Worked<W, R>,
 ) -> Ended<I, W, R>
+    // All passes are back, Last was taken, and there is room to absorb two.
     requires given { given_of callers ≡ [] }
     requires room { 2 ≤ room_of callers }
     requires pipes { IsActorOf (arc_value talk.pipes) worked.pass
@@ -42,9 +43,11 @@ pub fn settle<I, W, R, T: Wait + Copy>(
         × IsCallerOf (arc_value talk.pipes) talk.printed.pass }
     requires back { AllBack worked.pass (talk.done.pass ∷ talk.printed.pass ∷ []) }
     requires last { IsSome (last_of talk.printed.taker) }
+    // The status, and what comes back.
     ensures status { result.status ≡ least (talk.done.status ∷ of_print talk.printed.fault
         ∷ of_work worked.ending ∷ of_thread talk.refused ∷ []) }
     ensures same { (result.input ≡ talk.done.input) × (result.world ≡ worked.world) × (result.rec ≡ worked.rec) }
+    // What was popped of each caller, and what was taken.
     ensures fronts { (n : ℕ)
         → IsPrefix (under n (popped_by worked.pass)) (under n (puts_of (talk.done.pass ∷ talk.printed.pass ∷ []))) }
     ensures ended { (before : List Placed) (end : Placed) (n : ℕ) → popped_by worked.pass ≡ before ++ end ∷ []

@@ -43,10 +43,13 @@ pub fn begin<R: Recorder>(
     config: &Config,
     capture: &Option<Octets>,
 ) -> Result<(), Status>
+    // The name is a text.
     requires { IfSome capture.now (λ name. is_utf8 name ≡ true) }
+    // The capture has its name and its head, where there is one.
     ensures begins { (name : List ℕ) → capture.now ≡ Some name → OnOk result (Begins (head_of config.now) name
         (R.begun rec.new) (R.kept rec.old) (R.kept rec.new) (R.named rec.old) (R.named rec.new)) }
     ensures unkept { capture.now ≡ None → (rec.new ≡ rec.old) × (is_ok result ≡ true) }
+    // The count never falls, and why it was refused.
     ensures later { R.faults rec.old ≤ R.faults rec.new }
     ensures refused { IfErr result (λ status. IsEarly status ⊥ ⊥ (Rose (R.faults rec.old) (R.faults rec.new))) }
 {

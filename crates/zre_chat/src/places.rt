@@ -103,12 +103,15 @@ pub fn share(alloc: Global, pipes: Pipes) -> Result<Shares, OutOfMemory>
 
 /// Two of the passes that weren't taken yet: of who puts last, and of who asks the node to stop.
 pub fn take_two(callers: &mut CallerPasses) -> (CallerPass, CallerPass)
+    // Two are left.
     requires { 2 ≤ length (fresh_of callers.old) }
+    // The last two are taken, new and of the same pipes.
     ensures taken { fresh_of callers.old ≡ (fresh_of callers.new ++ result.1 ∷ []) ++ result.0 ∷ [] }
     ensures pipes { (pipes : PipesValue) → AreCallersOf pipes (fresh_of callers.old)
         → AreCallersOf pipes (fresh_of callers.new) × IsCallerOf pipes result.0 × IsCallerOf pipes result.1 }
     ensures new { All IsNew (fresh_of callers.old)
         → All IsNew (fresh_of callers.new) × IsNew result.0 × IsNew result.1 }
+    // Nothing else changes.
     ensures given { (given_of callers.new ≡ given_of callers.old) × (room_of callers.new ≡ room_of callers.old) }
 {
     let Some(last) = callers.take() else {

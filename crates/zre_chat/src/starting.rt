@@ -21,14 +21,17 @@ where
     W: World + Send + Drop + 'static,
     R: Recorder + Send + Drop + 'static,
     P: Spawner,
+    // Nothing was done with the pass, and the capture is begun where one is kept.
     requires pipes { IsActorOf (arc_value seat.pipes) seat.pass }
     requires open { ending_of seat.pass ≡ None }
     requires room { seat.pass.empties ≡ 0 }
     requires begun { work.keep ≡ true → R.begun work.rec ≡ true }
+    // What the thread is started with, or all of it back.
     ensures started { IfOk result (λ running. let j = job_of running in
         parts j.pipes j.world j.node j.pass j.rec j.keep j.limit
         ≡ parts seat.pipes work.world seat.node seat.pass work.rec work.keep work.limit) }
     ensures refused { IfErr result (λ back. back ≡ (work.world, work.rec)) }
+    // The spawner's count rises where the start is refused.
     ensures later { P.faults spawner.old ≤ P.faults spawner.new }
     ensures failed { OnErr result (Rose (P.faults spawner.old) (P.faults spawner.new)) }
 {

@@ -35,8 +35,10 @@ pub struct Table {
 impl Table {
     /// Makes all of it, with passes for so many callers more than who puts last and who asks the node to stop.
     pub fn lay(alloc: Global, config: Config, more: u8) -> Result<Table, OutOfMemory>
+        // The settings are valid, and there are passes for so many more callers.
         requires valid { is_valid config ≡ true }
         requires few { more ≤ 14 }
+        // The pipes are laid, and the node is new.
         ensures laid { IfOk result (IsLaid more) }
         ensures more { IfOk result (HasMore more) }
         ensures node { IfOk result (λ t. StandsFor config [] t.seat.node) }

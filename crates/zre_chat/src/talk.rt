@@ -91,15 +91,18 @@ impl PrinterSeat {
     ) -> Talk<J::Out>
     where
         J: Excused<P::Runtime>,
+        // The passes belong to the pipes, before and after, and Last has come.
         requires pipes { IsTakerOf (arc_value self.pipes) self.taker × IsCallerOf (arc_value self.pipes) self.asker }
         requires open { last_of self.taker ≡ None }
         ensures same { result.pipes ≡ self.pipes }
         ensures pipes { IsTakerOf (arc_value result.pipes) result.printed.taker
             × IsCallerOf (arc_value result.pipes) result.printed.pass }
         ensures last { IsSome (last_of result.printed.taker) }
+        // What the other thread did, and what was printed.
         ensures done { J.means job result.done }
         ensures printed { HasPrinted (asker_of self.asker result.refused) self.taker result.printed.taker
             result.printed.pass result.printed.fault (O.written out.old) (O.written out.new) }
+        // Counts rise where the sink failed and where a start was refused.
         ensures failed { result.printed.fault ≡ Some Failed → Rose (O.faults out.old) (O.faults out.new) }
         ensures refused { result.refused ≡ true
             → (refused ≡ true) ⊎ Rose (P.faults spawner.old) (P.faults spawner.new) }

@@ -41,9 +41,11 @@ impl Table {
         R: Recorder + Send + Drop + 'static,
         P: Spawner,
         T: Wait + Threads + Copy,
+        // The pipes are laid, and the capture is begun where one is kept.
         requires laid { IsLaid 0 self }
         requires apart { number self.others.last.pass ≢ number self.others.printer.asker }
         requires begun { work.keep ≡ true → R.begun work.rec ≡ true }
+        // What was read, given, done, written and kept, and the status.
         ensures chat { (g : ConfigValue) (start : StartValue) (name : Option (List ℕ)) (s : Seen)
             → StandsFor g [] self.seat.node →
             Prepared g start name work.keep s (seen (I.left input) (I.taken input) (I.faults input)
@@ -54,6 +56,7 @@ impl Table {
             (W.told result.world) (W.faults result.world) (O.written out.new) (O.faults out.new)
             (R.kept result.rec) (R.named result.rec) (R.faults result.rec) (P.faults spawner.new))
             result.status }
+        // What isn't used comes back as it was; counts of faults never fall.
         ensures unkept { work.keep ≡ false → result.rec ≡ work.rec }
         ensures later { (I.faults input ≤ I.faults result.input) × (O.faults out.old ≤ O.faults out.new)
             × (P.faults spawner.old ≤ P.faults spawner.new) }

@@ -14,9 +14,12 @@ pub(crate) fn attend<D: Desk>(
     many: u8,
     clients: &mut Vec<D::Client>,
 ) -> Result<(), Failed>
+    // The list is empty and has room.
     requires room { (clients.old.items ≡ []) × (many ≤ vec_capacity clients.old) }
+    // Where the desk was begun, and the clients that it gave.
     ensures attends { Attends place (D.told desk.old) (D.told desk.new) clients.new.items }
     ensures all { OnOk result (AttendsAll place many (D.told desk.old) (D.told desk.new) clients.new.items) }
+    // The desk's count rises where it failed.
     ensures failed { OnErr result (Rose (D.faults desk.old) (D.faults desk.new)) }
     ensures later { D.faults desk.old ≤ D.faults desk.new }
 {

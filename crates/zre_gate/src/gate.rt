@@ -69,9 +69,11 @@ impl Gate {
         R: Recorder + Send + Drop + 'static,
         P: Spawner,
         T: Wait + Threads + Copy,
+        // The settings and the name are valid, and there are one to fourteen clients.
         requires valid { is_valid self.chat.config ≡ true }
         requires text { IfSome self.chat.capture (λ name. is_utf8 name ≡ true) }
         requires few { (1 ≤ self.clients) × (self.clients ≤ 14) }
+        // What was read, given, done, written and kept, and the status.
         ensures gate { HasGated (row D.Client.left D.Client.taken D.Client.faults) self.local
             (D.told desk) (D.told result.desk) self.chat.config self.chat.start self.chat.capture limit self.clients
             (seen_beside (W.told world) (W.faults world) (O.written out.old) (O.faults out.old)
@@ -79,6 +81,7 @@ impl Gate {
             (seen_beside (W.told result.world) (W.faults result.world) (O.written out.new) (O.faults out.new)
             (R.kept result.rec) (R.named result.rec) (R.faults result.rec) (P.faults spawner.new))
             (Rose (D.faults desk) (D.faults result.desk)) result.clients.items result.status }
+        // What isn't used comes back as it was; counts of faults never fall.
         ensures unkept { self.chat.capture ≡ None → result.rec ≡ rec }
         ensures later { (O.faults out.old ≤ O.faults out.new) × (P.faults spawner.old ≤ P.faults spawner.new) }
     {
@@ -121,20 +124,25 @@ impl Gate {
         world: &mut W,
         rec: &mut R,
     ) -> Result<GateTable<D::Client>, Status>
+        // The settings and the name are valid, there are one to fourteen clients, and none has come.
         requires valid { is_valid self.chat.config ≡ true }
         requires text { IfSome self.chat.capture (λ name. is_utf8 name ≡ true) }
         requires few { (1 ≤ self.clients) × (self.clients ≤ 14) }
         requires none { clients.old.items ≡ [] }
+        // The pipes are laid, and the node is new.
         ensures laid { IfOk result (λ table. IsLaid self.clients table
             × StandsFor self.chat.config [] table.base.seat.node) }
+        // The clients have come, the capture is begun and the world started.
         ensures attends { Attends self.local (D.told desk.old) (D.told desk.new) clients.new.items }
         ensures all { OnOk result
             (AttendsAll self.local self.clients (D.told desk.old) (D.told desk.new) clients.new.items) }
         ensures opened { OnOk result (HasOpened self.chat.config self.chat.start self.chat.capture (R.begun rec.new)
             (W.told world.old) (W.told world.new) (R.kept rec.old) (R.kept rec.new)
             (R.named rec.old) (R.named rec.new)) }
+        // What isn't used stays as it was; counts of faults never fall.
         ensures unkept { self.chat.capture ≡ None → rec.new ≡ rec.old }
         ensures later { (W.faults world.old ≤ W.faults world.new) × (R.faults rec.old ≤ R.faults rec.new) }
+        // Why it did not come that far.
         ensures refused { IfErr result (λ status. Unprepared self.chat.config self.chat.start self.chat.capture status
             (W.told world.old) (W.told world.new) (R.kept rec.old) (R.kept rec.new) (R.named rec.old) (R.named rec.new)
             (Rose (D.faults desk.old) (D.faults desk.new)) (Rose (W.faults world.old) (W.faults world.new))

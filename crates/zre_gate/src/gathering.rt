@@ -94,12 +94,14 @@ where
     C: Source + Drop,
     B: GateName,
     T: Wait + Copy,
+    // The pass belongs to the pipes, before and after; the list has room for one more.
     requires pipes { IsCallerOf pipes.now gathered.pass }
     requires hall { ∥ IsHall B.hall pipes.now ∥₁ }
     requires room { vec_len gathered.clients < vec_capacity gathered.clients }
     ensures pipes { IsCallerOf pipes.now result.pass }
     ensures room { (vec_len result.clients ≡ vec_len gathered.clients + 1)
         × (vec_capacity result.clients ≡ vec_capacity gathered.clients) }
+    // One client more is gathered.
     ensures gathers { (there : Hall) (first : CallerPassValue) → B.hall ≡ Some there
         → ∥ Gathers there.limit (take place there.guests) (map (row C.left C.taken C.faults) gathered.clients.items)
         first gathered.pass gathered.status gathered.over ∥₁
@@ -137,11 +139,13 @@ where
     C: Source + Drop,
     B: GateName,
     T: Wait + Copy,
+    // The pass belongs to the pipes, before and after; the list has room for all.
     requires pipes { IsCallerOf pipes.now pass }
     requires hall { ∥ IsHall B.hall pipes.now ∥₁ }
     requires many { IsFull B.hall (length lines.items) }
     requires room { (clients.items ≡ []) × (length lines.items ≤ vec_capacity clients) }
     ensures pipes { IsCallerOf pipes.now result.pass }
+    // All clients are gathered.
     ensures gathers { GathersAll B.hall (map (row C.left C.taken C.faults) result.clients.items) pass result.pass
         result.status result.over }
 {

@@ -32,13 +32,16 @@ fn chairs_for(
     callers: &mut CallerPasses,
     many: u8,
 ) -> Result<VecDeque<Chair>, OutOfMemory>
+    // So many callers are new.
     requires many { length (fresh_of callers.old) ≡ many }
     requires pipes { AreCallersOf (arc_value pipes.now) (fresh_of callers.old) }
     requires new { All IsNew (fresh_of callers.old) }
+    // Each has its place, under its own number.
     ensures chairs { IfOk result (λ chairs. All (IsChair (arc_value pipes.now)) chairs.items) }
     ensures many { IfOk result (λ chairs. length chairs.items ≡ many) }
     ensures numbers { (n : ℕ) → IfOk result (λ chairs. times n (map chair_number chairs.items)
         ≡ times n (numbers_of (fresh_of callers.old))) }
+    // Nothing else changes.
     ensures given { (given_of callers.new ≡ given_of callers.old) × (room_of callers.new ≡ room_of callers.old) }
 {
     let mut chairs = VecDeque::with_capacity(alloc, usize::from(many))?;
@@ -54,8 +57,10 @@ fn chairs_for(
 impl<C: Drop> GateTable<C> {
     /// Gives each of so many clients a chair.
     pub fn lay(alloc: Global, mut base: Base, many: u8) -> Result<GateTable<C>, OutOfMemory>
+        // The pipes are laid, with passes for the clients.
         requires laid { IsBase many base }
         requires more { HasMore many base }
+        // Each client has its place; the node's is as it was.
         ensures laid { IfOk result (IsLaid many) }
         ensures seat { IfOk result (λ t. t.base.seat ≡ base.seat) }
     {

@@ -78,9 +78,11 @@ where
     B: GateName + Send + 'static,
     P: Spawner,
     T: Wait + Copy,
+    // There is room for one more.
     requires room { vec_len seated.old.running < vec_capacity seated.old.running }
     ensures room { (vec_len seated.new.running ≤ vec_len seated.old.running + 1)
         × (vec_capacity seated.new.running ≡ vec_capacity seated.old.running) }
+    // Whether a start was refused; the spawner's count rises then.
     ensures refused { seated.new.refused ≡ true
         → (seated.old.refused ≡ true) ⊎ Rose (P.faults spawner.old) (P.faults spawner.new) }
     ensures later { P.faults spawner.old ≤ P.faults spawner.new }
@@ -118,12 +120,14 @@ impl<C: Source + Send + Drop + 'static, B: GateName + Send + 'static> ClientSeat
     where
         P: Spawner,
         T: Wait + Copy,
+        // Each client has its place and its pass, and there is room for all.
         requires many { (length self.chairs.items ≡ length clients.items)
             × (length self.ins.items ≡ length clients.items) }
         requires room { (running.items ≡ []) × (length clients.items ≤ vec_capacity running) }
         requires hall { (pipes : PipesValue) × All (IsChair pipes) self.chairs.items
             × (B.hall ≡ Some (hall_of pipes self.limit (map chair_number self.chairs.items)
             (map (row C.left C.taken C.faults) clients.items))) }
+        // Whether a start was refused; the spawner's count rises then.
         ensures refused { result.refused ≡ true → Rose (P.faults spawner.old) (P.faults spawner.new) }
         ensures later { P.faults spawner.old ≤ P.faults spawner.new }
     {
@@ -185,10 +189,12 @@ impl<C: Source + Send + Drop + 'static> GateTable<C> {
         P: Spawner,
         T: Wait + Threads + Copy,
         B: GateName + Send + 'static,
+        // The pipes are laid, and the capture is begun where one is kept.
         requires laid { IsLaid (length clients.items) self }
         requires begun { work.keep ≡ true → R.begun work.rec ≡ true }
         requires hall { B.hall ≡ Some (hall_of (arc_value self.base.others.printer.pipes) work.limit
             (map chair_number self.chairs.items) (map (row C.left C.taken C.faults) clients.items)) }
+        // What was read, given, done, written and kept, and the status.
         ensures gate { (g : ConfigValue) (start : StartValue) (name : Option (List ℕ)) (s : Seen) (before after : ℕ)
             → StandsFor g [] self.base.seat.node →
             Prepared g start name work.keep s (seen_beside (W.told work.world) (W.faults work.world)
@@ -199,6 +205,7 @@ impl<C: Source + Send + Drop + 'static> GateTable<C> {
             (R.kept result.rec) (R.named result.rec) (R.faults result.rec) (P.faults spawner.new))
             (Rose before after) (map (row C.left C.taken C.faults) clients.items)
             (map (row C.left C.taken C.faults) result.input.items) result.status }
+        // What isn't used comes back as it was; counts of faults never fall.
         ensures unkept { work.keep ≡ false → result.rec ≡ work.rec }
         ensures later { (O.faults out.old ≤ O.faults out.new) × (P.faults spawner.old ≤ P.faults spawner.new) }
     {

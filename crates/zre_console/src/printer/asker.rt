@@ -33,8 +33,10 @@ pub struct Asker {
 impl Asker {
     /// Puts a Quit where it is due, or wanted from now on, and wasn't put yet. Where the pipe is full, it stays due.
     pub fn ask<T: Wait + Copy>(self, rt: T, pipes: &Pipes, wanted: bool) -> Asker
+        // The pass belongs to the pipes, before and after.
         requires { IsCallerOf pipes.now self.pass }
         ensures pipes { IsCallerOf pipes.now result.pass }
+        // What it wishes, and what of it was put.
         ensures asked { (first : Pass) → HasAsked first self → HasAsked first result }
         ensures wished { wanted ≡ true → result.wish ≢ wishes.No }
         ensures full { result.wish ≡ wishes.Due → Raised self.pass.fulls result.pass.fulls }

@@ -36,10 +36,12 @@ impl Page {
 
     // Appends the line of an event, and writes what has been gathered where that is much.
     fn put<O: Sink>(&mut self, event: &Event, out: &mut O) -> Result<(), NextFault>
+        // What was written, and what the page holds.
         ensures through { OnOk result (WritesThrough self.old.text self.new.text (O.written out.old) (O.written out.new)
             (line event.now)) }
         ensures front { OnErr result (AppendsFront (O.written out.old) (O.written out.new)
             (self.old.text ++ line event.now)) }
+        // A fault is noted elsewhere; the count rises where the sink failed.
         ensures same { self.new.fault ≡ self.old.fault }
         ensures later { O.faults out.old ≤ O.faults out.new }
         ensures failed { IsErrOf result NextFault.Failed → Rose (O.faults out.old) (O.faults out.new) }
@@ -50,8 +52,10 @@ impl Page {
 
     /// Appends the line of an event, and writes what has been gathered where that is much.
     pub fn print<O: Sink>(&mut self, event: &Event, out: &mut O)
+        // What was written, and what the page holds.
         ensures shows { (w : Option (List ℕ)) (es : List EventValue) → Shows self.old w (O.written out.old) es →
             Shows self.new w (O.written out.new) (es ++ event.now ∷ []) }
+        // After a fault nothing more is printed; the count rises where the sink failed.
         ensures stays { IsSome self.old.fault → self.new ≡ self.old }
         ensures later { O.faults out.old ≤ O.faults out.new }
         ensures failed { self.new.fault ≡ Some Failed → (self.old.fault ≡ Some Failed)
@@ -67,9 +71,11 @@ impl Page {
 
     /// Writes what has been gathered.
     pub fn write<O: Sink>(&mut self, out: &mut O)
+        // What was written, and what the page holds.
         ensures shows { (w : Option (List ℕ)) (es : List EventValue) → Shows self.old w (O.written out.old) es →
             Shows self.new w (O.written out.new) es }
         ensures written { self.new.fault ≡ None → self.new.text ≡ [] }
+        // After a fault nothing more is written; the count rises where the sink failed.
         ensures stays { IsSome self.old.fault → self.new ≡ self.old }
         ensures later { O.faults out.old ≤ O.faults out.new }
         ensures failed { self.new.fault ≡ Some Failed → (self.old.fault ≡ Some Failed)
@@ -85,9 +91,11 @@ impl Page {
 
     // Tells the sink by a write of no octets that there is nothing more to come.
     fn tell_end<O: Sink>(&mut self, out: &mut O)
+        // No octet is written.
         ensures shows { (w : Option (List ℕ)) (es : List EventValue) → Shows self.old w (O.written out.old) es →
             Shows self.new w (O.written out.new) es }
         ensures text { self.new.text ≡ self.old.text }
+        // A fault stays; the count rises where the sink failed.
         ensures calm { self.new.fault ≡ None → self.old.fault ≡ None }
         ensures stays { IsSome self.old.fault → self.new ≡ self.old }
         ensures later { O.faults out.old ≤ O.faults out.new }
@@ -105,9 +113,11 @@ impl Page {
 
     /// Writes what has been gathered, and tells the sink by a write of no octets that there is nothing more to come.
     pub fn close<O: Sink>(&mut self, out: &mut O)
+        // What was written, and that nothing is left.
         ensures shows { (w : Option (List ℕ)) (es : List EventValue) → Shows self.old w (O.written out.old) es →
             Shows self.new w (O.written out.new) es }
         ensures written { self.new.fault ≡ None → self.new.text ≡ [] }
+        // After a fault nothing more is written; the count rises where the sink failed.
         ensures stays { IsSome self.old.fault → self.new ≡ self.old }
         ensures later { O.faults out.old ≤ O.faults out.new }
         ensures failed { self.new.fault ≡ Some Failed → (self.old.fault ≡ Some Failed)

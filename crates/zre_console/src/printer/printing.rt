@@ -39,13 +39,16 @@ impl Page {
         out: &mut O,
         wish: Wish,
     ) -> (TakerPass, Option<Told>)
+        // The pass belongs to the pipes, before and after, and Last is still to come.
         requires pipes { IsTakerOf pipes.now taker }
         requires open { last_of taker ≡ None }
         ensures pipes { IsTakerOf pipes.now result.0 }
+        // What was taken, and what was written meanwhile.
         ensures told { MatchOption result.1 ((taken_by result.0 ≡ taken_by taker) × (last_of result.0 ≡ last_of taker))
             (λ told. IsTold taker told result.0) }
         ensures shows { (w : Option (List ℕ)) (es : List EventValue) → Shows self.old w (O.written out.old) es
             → Shows self.new w (O.written out.new) es }
+        // The count rises where the sink failed, and a fault stays.
         ensures later { O.faults out.old ≤ O.faults out.new }
         ensures failed { self.new.fault ≡ Some Failed → (self.old.fault ≡ Some Failed)
             ⊎ Rose (O.faults out.old) (O.faults out.new) }
@@ -73,14 +76,17 @@ impl Page {
         asker: Asker,
         out: &mut O,
     ) -> (TakerPass, Asker, bool)
+        // The passes belong to the pipes, before and after, and Last is still to come.
         requires pipes { IsTakerOf pipes.now taker × IsCallerOf pipes.now asker.pass }
         requires open { last_of taker ≡ None }
         ensures pipes { IsTakerOf pipes.now result.0 × IsCallerOf pipes.now result.1.pass }
+        // What was taken, written and asked for.
         ensures last { IsLast result.2 (last_of result.0) }
         ensures written { result.2 ≡ true → self.new.fault ≡ None → self.new.text ≡ [] }
         ensures prints { (first : AskerValue) (start : TakerPassValue) (w : Option (List ℕ))
             → Prints first start w asker taker self.old (O.written out.old) →
             Prints first start w result.1 result.0 self.new (O.written out.new) }
+        // The count rises where the sink failed.
         ensures later { O.faults out.old ≤ O.faults out.new }
         ensures failed { self.new.fault ≡ Some Failed → (self.old.fault ≡ Some Failed)
             ⊎ Rose (O.faults out.old) (O.faults out.new) }
@@ -116,12 +122,15 @@ pub fn print_all<O: Sink, T: Wait + Copy>(
     mut asker: Asker,
     out: &mut O,
 ) -> Printed
+    // The passes belong to the pipes, before and after, and Last has come.
     requires pipes { IsTakerOf pipes.now taker × IsCallerOf pipes.now asker.pass }
     requires open { last_of taker ≡ None }
     ensures pipes { IsTakerOf pipes.now result.taker × IsCallerOf pipes.now result.pass }
     ensures last { IsSome (last_of result.taker) }
+    // What was taken, written and asked for.
     ensures printed { HasPrinted asker taker result.taker result.pass result.fault (O.written out.old)
         (O.written out.new) }
+    // The count rises where the sink failed.
     ensures later { O.faults out.old ≤ O.faults out.new }
     ensures failed { result.fault ≡ Some Failed → Rose (O.faults out.old) (O.faults out.new) }
 {

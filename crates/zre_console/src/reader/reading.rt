@@ -76,15 +76,18 @@ impl ChatPipes<'_> {
         input: &mut I,
         buf: &mut [u8],
     ) -> ReaderTurn
+        // The pass belongs to the pipes, before and after.
         requires some { 0 < length buf.old }
         requires pipes { IsCallerOf self.now.pipes.now pass }
         ensures bound { result.read ≤ length buf.new }
         ensures pipes { IsCallerOf self.now.pipes.now result.pass }
+        // What was read, what was put of it, and what comes next.
         ensures moved { MovesOn (I.left input.old) (I.left input.new) (I.taken input.old) (I.taken input.new)
             (take result.read buf.new) }
         ensures turned { (o : List ℕ) → Typed o typist.old → list_any is_quit (typed o) ≡ false →
             Turned result.next typist.new o (take result.read buf.new) (I.left input.new) pass result.pass
             (Rose (I.faults input.old) (I.faults input.new)) }
+        // The count of faults never falls.
         ensures later { I.faults input.old ≤ I.faults input.new }
     {
         let read = match input.read(buf) {
@@ -145,10 +148,13 @@ impl ChatPipes<'_> {
         input: &mut I,
         limit: u64,
     ) -> (CallerPass, InputEnd)
+        // The pass belongs to the pipes, before and after.
         requires { IsCallerOf self.now.pipes.now pass }
         ensures pipes { IsCallerOf self.now.pipes.now result.0 }
+        // What was read and put, and why no more.
         ensures read { HasReadLines result.1 limit pass result.0 (I.left input.old) (I.left input.new)
             (I.taken input.old) (I.taken input.new) (Rose (I.faults input.old) (I.faults input.new)) }
+        // The count of faults never falls.
         ensures later { I.faults input.old ≤ I.faults input.new }
     {
         let Ok(mut buf) = zeros(alloc, PIECE) else {
