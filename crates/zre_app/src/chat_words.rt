@@ -133,7 +133,9 @@ fn interval_in(words: &[Octets]) -> Option<u64>
 
 // How a node with these settings goes on the network.
 fn start_in(alloc: Global, config: &Config, words: &[Octets]) -> Result<Option<Start>, OutOfMemory>
+    // What the words say.
     ensures value { IfOk result (λ start. start ≡ start_in config.now words.now) }
+    // It is of the node, within the limits.
     ensures host { IfOk result (λ start. IfSome start (λ s. s.host ≡ config.now.host)) }
     ensures port { IfOk result (λ start. IfSome start (λ s. s.port ≡ config.now.port)) }
     ensures few { IfOk result (λ start. IfSome start (λ s. length s.to ≤ 64)) }

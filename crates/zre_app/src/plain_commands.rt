@@ -53,11 +53,14 @@ fn reads<M: Machine + Drop, I: Source, O: Sink>(
     out: &mut O,
     limit: u64,
 ) -> Status
+    // Nothing was fed.
     requires start { M.fed machine [] }
     requires going { (M.says machine).is_stopped [] ≡ false }
+    // What was read and written, and the status.
     ensures does { DoesWork (Reads (M.says machine)) limit result
         (streams (stream_views I.left I.taken I.faults O.written O.faults) input.old out.old)
         (streams (stream_views I.left I.taken I.faults O.written O.faults) input.new out.new) }
+    // Counts of faults never fall.
     ensures reads { I.faults input.old ≤ I.faults input.new }
     ensures writes { O.faults out.old ≤ O.faults out.new }
 {
@@ -94,9 +97,11 @@ fn write_text<O: Sink>(text: &[u8], out: &mut O) -> Status
 }
 
 fn exercise<O: Sink>(alloc: Global, seed: u64, peers: u16, messages: u32, out: &mut O) -> Status
+    // The numbers are within the limits.
     requires some { 1 ≤ peers }
     requires few { peers ≤ 256 }
     requires short { messages ≤ 1000000 }
+    // What was written, and the status.
     ensures written { WritesText result (exercise_text seed peers messages) (O.written out.old) (O.written out.new)
         (Rose (O.faults out.old) (O.faults out.new)) }
     ensures writes { O.faults out.old ≤ O.faults out.new }

@@ -129,8 +129,10 @@ impl Replica {
 
     // The write of a value for a key that comes next.
     fn make(&self, key: &[u8], value: &[u8]) -> Result<Write, SetFault>
+        // The key and the value are short enough.
         requires key { length key.now ≤ KEY_OCTETS }
         requires value { length value.now ≤ VALUE_OCTETS }
+        // The next write, or none is left.
         ensures made { IfOk result (λ write. write ≡ next_write self.now key.now value.now) }
         ensures is { IfOk result (λ write. IsWrite write) }
         ensures spent { (result ≡ Err SetFault.Spent) ↔ (greatest_count self.now.writes ≡ 2 ^ 64 - 1) }
@@ -154,12 +156,16 @@ impl Replica {
     /// Writes a value for a key, with a count above every count that is held, and gives the frame to be shouted to the
     /// group.
     pub fn set(&mut self, key: &[u8], value: &[u8]) -> Result<Octets, SetFault>
+        // The key and the value are short enough.
         requires key { length key.now ≤ KEY_OCTETS }
         requires value { length value.now ≤ VALUE_OCTETS }
+        // The frame of the next write, which is read as that.
         ensures frame { IfOk result (λ frame. frame ≡ write_text (next_write self.old key.now value.now)) }
         ensures again { IfOk result (λ frame. write_of frame ≡ Some (next_write self.old key.now value.now)) }
+        // It is held, and is above every one before.
         ensures ok { OnOk result (self.new ≡ with_write self.old (next_write self.old key.now value.now)) }
         ensures greater { All (λ held. by_age held (next_write self.old key.now value.now) ≡ Less) self.old.writes }
+        // None is left; after an error nothing has changed.
         ensures spent { (result ≡ Err SetFault.Spent) ↔ (greatest_count self.old.writes ≡ 2 ^ 64 - 1) }
         ensures err { OnErr result (self.new ≡ self.old) }
     {
@@ -192,10 +198,12 @@ impl Replica {
     /// Writes the table as text: a line `KEY COUNT ID VALUE` for each key, KEY and VALUE quoted, in the order of the
     /// keys' octets. The text is gathered, and written whenever it is much. After an error a front of it is written.
     pub fn write_lines<O: Sink>(&self, gathered: &mut Octets, out: &mut O) -> Result<(), NextFault>
+        // What was written, and what is gathered; after an error a front of that.
         ensures through { OnOk result (WritesThrough gathered.old gathered.new (O.written out.old) (O.written out.new)
             (lines self.now.writes)) }
         ensures front { OnErr result (AppendsFront (O.written out.old) (O.written out.new)
             (gathered.old ++ lines self.now.writes)) }
+        // The count rises where the sink failed.
         ensures later { O.faults out.old ≤ O.faults out.new }
         ensures failed { IsErrOf result NextFault.Failed → Rose (O.faults out.old) (O.faults out.new) }
     {

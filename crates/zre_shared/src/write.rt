@@ -118,10 +118,12 @@ impl Write {
         gathered: &mut Octets,
         out: &mut O,
     ) -> Result<(), NextFault>
+        // What was written, and what is gathered; after an error a front of that.
         ensures through { OnOk result (WritesThrough gathered.old gathered.new (O.written out.old) (O.written out.new)
             (line self.now)) }
         ensures front { OnErr result (AppendsFront (O.written out.old) (O.written out.new)
             (gathered.old ++ line self.now)) }
+        // The count rises where the sink failed.
         ensures later { O.faults out.old ≤ O.faults out.new }
         ensures failed { IsErrOf result NextFault.Failed → Rose (O.faults out.old) (O.faults out.new) }
     {

@@ -52,15 +52,19 @@ impl Conns {
         items: &mut Items,
         steps: &mut Steps<L>,
     ) -> Result<Option<ZmtpFault>, OutOfMemory>
+        // The list is empty.
         requires { items.old ≡ [] }
+        // What a reader takes, and what it completes.
         ensures live { (x : ConnectionValue) (own : PeerIdValue) (o : List ℕ) → row_at conn self.old ≡ Some x
             → x.conn ≡ Some (conn_after own o) →
             IfOk result (λ fault. (self.new
             ≡ with_row conn (record x { conn = Some (conn_after own (o ++ bytes.now)) }) self.old)
             × (map (λ a. Arrived a) (arrivals_in items.new) ++ fault_said fault ≡ completed own o bytes.now)) }
+        // How many octets are looked at.
         ensures looks { (own : PeerIdValue) (o : List ℕ) → reader_at conn self.old ≡ Some (conn_after own o) →
             Looks steps.old steps.new (kept_of (conn_after own o)) (kept_of (conn_after own (o ++ bytes.now)))
             (length bytes.now) result }
+        // A connection without a reader.
         ensures silent { reader_at conn self.old ≡ None →
             (self.new ≡ self.old) × (items.new ≡ []) × (result ≡ Ok None) × (steps.new ≡ steps.old) }
     {

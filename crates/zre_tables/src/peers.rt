@@ -195,7 +195,9 @@ impl Peers {
 
     /// Puts a body on this link. The body is lent, and handed back as it was.
     pub fn push(&mut self, link: u64, body: &mut Body) -> Result<(), PushFault>
+        // The body fits.
         requires { FitsBody body.old }
+        // It is put on the link, or has no room.
         ensures ok { (x : PeerValue) (own : PeerIdValue) (line : List Member) (linked : Bool) (o : List ℕ) (n : ℕ)
             → row_at link self.old ≡ Some x → x.link ≡ link_after own line linked o n →
             OnOk result ((unsent_of own line n + size_of line body.old ≤ UNSENT_OCTETS)
@@ -204,8 +206,10 @@ impl Peers {
         ensures refused { (x : PeerValue) (own : PeerIdValue) (line : List Member) (linked : Bool) (o : List ℕ) (n : ℕ)
             → row_at link self.old ≡ Some x → x.link ≡ link_after own line linked o n →
             IfErr result (λ e. RefusesPush e (unsent_of own line n) (size_of line body.old)) }
+        // Nothing changes after an error, and where there is no such peer.
         ensures unchanged { OnErr result (self.new ≡ self.old) }
         ensures missing { row_at link self.old ≡ None → (self.new ≡ self.old) × (result ≡ Ok tt) }
+        // The body is as it was.
         ensures lent { body.new ≡ body.old }
     {
         let Some(at) = self.rows.place(link) else {
@@ -216,7 +220,9 @@ impl Peers {
 
     /// Puts a SHOUT to this group on this link in the same way: its content is that of the tail.
     pub fn push_shout(&mut self, link: u64, group: &[u8], tail: &Tail) -> Result<(), PushFault>
+        // The group fits.
         requires { FitsString group.now }
+        // It is put on the link, or has no room.
         ensures ok { (x : PeerValue) (own : PeerIdValue) (line : List Member) (linked : Bool) (o : List ℕ) (n : ℕ)
             → row_at link self.old ≡ Some x → x.link ≡ link_after own line linked o n →
             let body = Shout group.now tail.now in
@@ -226,6 +232,7 @@ impl Peers {
         ensures refused { (x : PeerValue) (own : PeerIdValue) (line : List Member) (linked : Bool) (o : List ℕ) (n : ℕ)
             → row_at link self.old ≡ Some x → x.link ≡ link_after own line linked o n →
             IfErr result (λ e. RefusesPush e (unsent_of own line n) (size_of line (Shout group.now tail.now))) }
+        // Nothing changes after an error, and where there is no such peer.
         ensures unchanged { OnErr result (self.new ≡ self.old) }
         ensures missing { row_at link self.old ≡ None → (self.new ≡ self.old) × (result ≡ Ok tt) }
     {

@@ -48,17 +48,20 @@ impl Peers {
     /// Tells EVASIVE of the peer of this link, where it is entered, and puts a PING on the link as `push` does, by one
     /// look at its row. Where the link takes no PING, EVASIVE was told before.
     pub fn probe(&mut self, link: u64, events: &mut Events) -> Result<(), PushFault>
+        // A PING is put on the link, and EVASIVE told.
         ensures ok { (x : PeerValue) (own : PeerIdValue) (line : List Member) (linked : Bool) (o : List ℕ) (n : ℕ)
             → row_at link self.old ≡ Some x → x.link ≡ link_after own line linked o n →
             OnOk result ((unsent_of own line n + size_of line Ping ≤ UNSENT_OCTETS)
             × (self.new ≡ with_row link
             (record x { link = link_after own (line ++ Says Ping ∷ []) linked o n }) self.old)) }
         ensures told { (x : PeerValue) → row_at link self.old ≡ Some x → OnOk result (IsTold x events.old events.new) }
+        // Where it has no room, EVASIVE was told before.
         ensures refused { (x : PeerValue) (own : PeerIdValue) (line : List Member) (linked : Bool) (o : List ℕ) (n : ℕ)
             → row_at link self.old ≡ Some x → x.link ≡ link_after own line linked o n →
             IfErr result (λ e. RefusesPush e (unsent_of own line n) (size_of line Ping)) }
         ensures told_first { (x : PeerValue) → row_at link self.old ≡ Some x →
             IfErr result (λ e. (unsent size : ℕ) → e ≡ Slow unsent size → IsTold x events.old events.new) }
+        // Nothing changes after an error, and where there is no such peer.
         ensures unchanged { OnErr result (self.new ≡ self.old) }
         ensures missing { row_at link self.old ≡ None →
             (self.new ≡ self.old) × (events.new ≡ events.old) × (result ≡ Ok tt) }

@@ -51,15 +51,18 @@ impl Peers {
         bytes: &[u8],
         steps: &mut Steps<L>,
     ) -> Result<Option<Cause>, OutOfMemory>
+        // What a link takes, and why its peer ends.
         ensures standing { (x : PeerValue) (own : PeerIdValue) (line : List Member) (o : List ℕ) (n : ℕ)
             → row_at link self.old ≡ Some x → x.link ≡ link_after own line true o n →
             IfOk result (λ why. (self.new
             ≡ with_row link (record x { link = link_answering own line true o n bytes.now }) self.old)
             × (why ≡ cause_by_reply (slow_in own line o n bytes.now) (reply_fault (o ++ bytes.now)))) }
+        // A link that doesn't stand, and no link.
         ensures waiting { (x : PeerValue) → row_at link self.old ≡ Some x → x.link.linked ≡ false →
             IfOk result (λ why. (self.new ≡ self.old) × (why ≡ None)) }
         ensures missing { row_at link self.old ≡ None →
             (self.new ≡ self.old) × (result ≡ Ok None) × (steps.new ≡ steps.old) }
+        // How many octets are looked at.
         ensures looks { (x : PeerValue) (own : PeerIdValue) (line : List Member) (linked : Bool) (o : List ℕ) (n : ℕ)
             → row_at link self.old ≡ Some x → x.link ≡ link_after own line linked o n →
             Looks steps.old steps.new (kept_of (heard_after o))

@@ -83,9 +83,11 @@ impl<T: Drop> Rows<T> {
 
     // A row comes, or takes the place of that of its number, or nothing has changed.
     pub(crate) fn insert(&mut self, number: u64, row: T) -> Result<(), OutOfMemory>
+        // The numbers rise, before and after.
         requires { IsStrictlySortedBy nat_cmp (keys_of self.old.all.items) }
         ensures ok { OnOk result (self.new.all.items ≡ insert_entry nat_cmp self.old.all.items number row) }
         ensures rising { IsStrictlySortedBy nat_cmp (keys_of self.new.all.items) }
+        // A number that is there takes no memory; an error changes nothing.
         ensures absent { OnErr result (row_at number self.old.all.items ≡ None) }
         ensures err { OnErr result (self.new.all.items ≡ self.old.all.items) }
     {
@@ -98,7 +100,9 @@ impl<T: Drop> Rows<T> {
 
     // The row of a number goes out.
     pub(crate) fn remove(&mut self, number: u64) -> Option<T>
+        // The numbers rise, before and after.
         requires { IsStrictlySortedBy nat_cmp (keys_of self.old.all.items) }
+        // The row that was there, and the others.
         ensures value { result ≡ row_at number self.old.all.items }
         ensures rows { self.new.all.items ≡ without_row number self.old.all.items }
         ensures rising { IsStrictlySortedBy nat_cmp (keys_of self.new.all.items) }

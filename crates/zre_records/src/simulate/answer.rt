@@ -47,10 +47,12 @@ fn push_refusal(out: &mut Octets, fault: ScheduleFault) -> Result<bool, OutOfMem
 
 // Writes the lines of events, whenever much is gathered.
 fn put_told<O: Sink>(told: &[(u8, Event)], text: &mut Octets, out: &mut O) -> Result<(), NextFault>
+    // What was written, and what is gathered; after an error a front of that.
     ensures through { OnOk result
         (WritesThrough text.old text.new (O.written out.old) (O.written out.new) (told_lines told.now)) }
     ensures front { OnErr result
         (AppendsFront (O.written out.old) (O.written out.new) (text.old ++ told_lines told.now)) }
+    // The count rises where the sink failed.
     ensures later { O.faults out.old ≤ O.faults out.new }
     ensures failed { IsErrOf result NextFault.Failed → Rose (O.faults out.old) (O.faults out.new) }
 {
@@ -116,10 +118,12 @@ fn write_moves<O: Sink>(
     text: &mut Octets,
     out: &mut O,
 ) -> Result<(), NextFault>
+    // What was written, and what is gathered; after an error a front of that.
     ensures through { OnOk result
         (WritesThrough text.old text.new (O.written out.old) (O.written out.new) (told_lines (said moves))) }
     ensures front { OnErr result
         (AppendsFront (O.written out.old) (O.written out.new) (text.old ++ told_lines (said moves))) }
+    // The count rises where the sink failed.
     ensures later { O.faults out.old ≤ O.faults out.new }
     ensures failed { IsErrOf result NextFault.Failed → Rose (O.faults out.old) (O.faults out.new) }
 {
@@ -136,10 +140,12 @@ fn write_moves<O: Sink>(
 
 // Writes the lines of events that were kept as text.
 fn write_kept<O: Sink>(kept: &[u8], gathered: &mut Octets, out: &mut O) -> Result<(), NextFault>
+    // What was written, and what is gathered; after an error a front of that.
     ensures through { OnOk result
         (WritesThrough gathered.old gathered.new (O.written out.old) (O.written out.new) kept.now) }
     ensures front { OnErr result
         (AppendsFront (O.written out.old) (O.written out.new) (gathered.old ++ kept.now)) }
+    // The count rises where the sink failed.
     ensures later { O.faults out.old ≤ O.faults out.new }
     ensures failed { IsErrOf result NextFault.Failed → Rose (O.faults out.old) (O.faults out.new) }
 {
@@ -155,12 +161,14 @@ fn write_told<O: Sink>(
     gathered: &mut Octets,
     out: &mut O,
 ) -> Result<(), NextFault>
+    // What was written, and what is gathered; after an error a front of that.
     ensures through { IfSome kept (λ text. text ≡ told_lines (said (moves_of schedule.now))) → OnOk result
         (WritesThrough gathered.old gathered.new (O.written out.old) (O.written out.new)
         (told_lines (said (moves_of schedule.now)))) }
     ensures front { IfSome kept (λ text. text ≡ told_lines (said (moves_of schedule.now))) → OnErr result
         (AppendsFront (O.written out.old) (O.written out.new)
         (gathered.old ++ told_lines (said (moves_of schedule.now)))) }
+    // The count rises where the sink failed.
     ensures later { O.faults out.old ≤ O.faults out.new }
     ensures failed { IsErrOf result NextFault.Failed → Rose (O.faults out.old) (O.faults out.new) }
 {
@@ -178,12 +186,15 @@ fn write_run<O: Sink>(
     gathered: &mut Octets,
     out: &mut O,
 ) -> Result<bool, NextFault>
+    // Whether a move can't be made.
     ensures bad { (text : List ℕ) → bad_line_of text ≡ None → schedule.now ≡ lines_in text →
         IfOk result (λ bad. bad ≡ is_some (bad_in text)) }
+    // What was written, and what is gathered; after an error a front of that.
     ensures through { (text : List ℕ) → bad_line_of text ≡ None → schedule.now ≡ lines_in text → OnOk result
         (WritesThrough gathered.old gathered.new (O.written out.old) (O.written out.new) (answer text)) }
     ensures front { (text : List ℕ) → bad_line_of text ≡ None → schedule.now ≡ lines_in text → OnErr result
         (AppendsFront (O.written out.old) (O.written out.new) (gathered.old ++ answer text)) }
+    // The count rises where the sink failed.
     ensures later { O.faults out.old ≤ O.faults out.new }
     ensures failed { IsErrOf result NextFault.Failed → Rose (O.faults out.old) (O.faults out.new) }
 {
@@ -204,11 +215,14 @@ pub(crate) fn write_answer<O: Sink>(
     gathered: &mut Octets,
     out: &mut O,
 ) -> Result<bool, NextFault>
+    // Whether a line or a move is bad.
     ensures bad { IfOk result (λ bad. bad ≡ is_some (bad_in text.now)) }
+    // What was written, and what is gathered; after an error a front of that.
     ensures through { OnOk result
         (WritesThrough gathered.old gathered.new (O.written out.old) (O.written out.new) (answer text.now)) }
     ensures front { OnErr result (AppendsFront (O.written out.old) (O.written out.new)
         (gathered.old ++ answer text.now)) }
+    // The count rises where the sink failed.
     ensures later { O.faults out.old ≤ O.faults out.new }
     ensures failed { IsErrOf result NextFault.Failed → Rose (O.faults out.old) (O.faults out.new) }
 {
