@@ -46,6 +46,9 @@ told_later g (e ∷ es) H =
     ∙ ap (λ xs. xs ++ events_after g es (with_entry g e H)) (told_after (marks g e H) (Comes e ∷ H) ∙ ap (λ xs. xs ++ events_at g e H) (append-nil (told_in H)))
     ∙ append_assoc (told_in H) (events_at g e H) (events_after g es (with_entry g e H))
 
+pub told_all : (g : Config) (J : List Entry) → told_in (chronicle g J) ≡ events g J
+told_all g J = told_later g J []
+
 -- ---- events that may come, where b says whether p is in
 
 abbrev AreFit : PeerId → Bool → List Event → Type 0

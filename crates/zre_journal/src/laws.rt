@@ -34,6 +34,7 @@ ghost use Rattle.zre_journal.specs.Leaks.{LeaksNothing};
 ghost use Rattle.zre_journal.specs.Obeying.{Obeys};
 ghost use Rattle.zre_journal.specs.Silence.{TellsSilence};
 ghost use Rattle.zre_journal.specs.Tables.{TellsByTables};
+ghost use Rattle.zre_journal.specs.Told.{told_in};
 ghost use Rattle.zre_journal.specs.Answering.{AnswersInTurn};
 ghost use Rattle.zre_journal.specs.Outgoing.{GoesOutInOrder};
 ghost use Rattle.zre_journal.specs.Laws.{Continues, HasEnded, RunsAlone, AreStrangers, AreFew, EndsOnce};
@@ -46,6 +47,12 @@ ghost use Rattle.zre_journal.specs.Hearing.{RunsOnOctets};
 ghost use Rattle.zre_journal.specs.Cleaning.{IsClean};
 ghost use Rattle.zre_journal.specs.Cutting.{IsSameCut};
 ghost use Rattle.zre_journal.specs.Spoken.{AreInTurn, FollowsMessages};
+
+/// What is told in the chronicle of a journal is just the journal's events, in order: those whose lines `replay`, `chat`
+/// and `simulate` write.
+pub fn what_is_told_are_the_events()
+    ensures { (g : Config) (J : List Entry) → told_in (chronicle g J) ≡ events g J }
+{}
 
 /// The events of a journal begin those of every longer one, and so do its acts.
 pub fn journals_continue()
