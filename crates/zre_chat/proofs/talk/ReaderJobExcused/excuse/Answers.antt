@@ -16,6 +16,6 @@ returns g c = let i = g.I.Source in let job = c.args.self in
         within = omega arith;
         commands = [];
         puts = puts-none job.pass;
-        outcome = (nothing_begins [], inl refl);
+        outcome = (nothing_begins [], inl refl, inl ([], refl));
       },
     )
