@@ -127,11 +127,11 @@ named g journal = always g AreNamed (λ h H q m o. named_more h H q m (step h H 
 
 -- ---- limits
 
-record IsWithin (H : List Mark) : Type 0 where
-  peers : length (lives H) ≤ PEERS
-  connections : length (open_ones H) ≤ CONNECTIONS
+pub record IsWithin (H : List Mark) : Type 0 where
+  pub peers : length (lives H) ≤ PEERS
+  pub connections : length (open_ones H) ≤ CONNECTIONS
 
-within_more : (h : Mark) (H : List Mark) → IsProper H → May h H → IsWithin H → IsWithin (h ∷ H)
+pub within_more : (h : Mark) (H : List Mark) → IsProper H → May h H → IsWithin H → IsWithin (h ∷ H)
 within_more (Born n p e) H q m o = record {
   peers = let r : length (lives H ++ record { link = n; id = p; endpoint = e } ∷ []) ≡ length (lives H) + 1 = length-append (lives H) (record { link = n; id = p; endpoint = e } ∷ []) in omega (arith, r, m.has_room);
   connections = o.connections;

@@ -1,5 +1,5 @@
 -- A silent peer goes at the first tick after the time for which it may be silent, and for that at no tick before.
-use Rattle.std.proofs.Common.{◌≡◌, ℕ, ◌+◌, ◌-◌, ◌<◌, ◌≤◌, Bool, true, false, true≢false, cond, not, ◌||◌, eqb, ltb, leb, length, List, [], ◌∷◌, ◌++◌, map, Option, Some, None, filter, find, refl, sym, ap, ◌∙◌, subst, eqb-true, append_assoc, append-nil}
+use Rattle.std.proofs.Common.{◌≡◌, ℕ, ◌+◌, ◌<◌, ◌≤◌, Bool, true, false, true≢false, cond, not, eqb, ltb, leb, length, List, [], ◌∷◌, ◌++◌, map, Option, Some, None, filter, refl, sym, ap, ◌∙◌, subst, eqb-true, append_assoc, append-nil}
 use Rattle.std.specs.List.{AllByRecursion}
 use Rattle.zre_values.specs.declared.limits.TheConstants.{UNSENT_OCTETS, CONNECTIONS}
 use Rattle.zre_msg.specs.declared.message.Body.{Body}
@@ -11,19 +11,18 @@ use Rattle.zre_outside.specs.declared.entry.Input.TheVariants as input
 use Rattle.zre_peer.specs.declared.causes.Cause.{Cause}
 use Rattle.zre_peer.specs.declared.causes.Cause.TheVariants as cause
 use Rattle.zre_peer.specs.declared.causes.CloseWhy.TheVariants as close
-use Rattle.zre_peer.specs.declared.event.Event.TheVariants as event
 use Rattle.zre_values.specs.declared.settings.Settings.{Settings as Config}
 use Rattle.zre_journal.specs.Arrivals.{end_of_run}
 use Rattle.zre_journal.specs.Chronicle.{Mark, Comes, Closes, IsShut, Ends, IsEvasive, Puts, SendsBeacon, after}
 use Rattle.zre_journal.specs.Connections.{open_ones, is_open, is_new, runs, has_ended}
-use Rattle.zre_journal.specs.Events.{chronicle, events_at}
+use Rattle.zre_journal.specs.Events.{chronicle}
 use Rattle.zre_journal.specs.Happens.{has_stopped, at_input, with_entry, chronicle_after}
 use Rattle.zre_journal.specs.Heard.{clock}
 use Rattle.zre_journal.specs.LinkEntries.{at_unlinked}
 use Rattle.zre_journal.specs.Links.{line, unsent}
-use Rattle.zre_journal.specs.Peers.{Life, lives, life, is_entered, view, active}
+use Rattle.zre_journal.specs.Peers.{Life, lives, life, active}
 use Rattle.zre_journal.specs.Pushes.{push}
-use Rattle.zre_journal.specs.Silence.{IsTold, expires, has_expired, IsTickOf, IsFirstTick, GoesAt, silent_for, TellsSilence}
+use Rattle.zre_journal.specs.Silence.{expires, has_expired, IsTickOf, IsFirstTick, GoesAt, silent_for, TellsSilence}
 use Rattle.zre_journal.specs.Ticks.{is_silent, is_evasive, is_stale, probe, at_tick}
 use Rattle.zre_journal.proofs.Few.{none_kept}
 use Rattle.zre_journal.proofs.Joined.{continues}
@@ -32,7 +31,7 @@ use Rattle.zre_journal.proofs.Listed.{All-join, All-map, found_passes}
 use Rattle.zre_journal.proofs.Mild.{Mild, is_tick, Kind, kind, mild_input}
 use Rattle.zre_journal.proofs.Silence.{gone, told_gone, not_told, none_ever, not_long, only_tick}
 use Rattle.zre_journal.proofs.Steps.{choice}
-use Rattle.zre_journal.proofs.Ticking.{Ticks, AreTicks, E, F, C, all_tick}
+use Rattle.zre_journal.proofs.Ticking.{AreTicks, E, F, C, all_tick}
 
 module _ (g : Config) (l : ℕ) where
   -- a mark that isn't the end of this peer as expired

@@ -1,11 +1,11 @@
 -- Links without an end are those of known peers, and connections without an end are the open ones.
-use Rattle.std.proofs.Common.{◌≡◌, ℕ, ◌<◌, ◌≤◌, Bool, true, false, true≢false, cond, not, ◌&&◌, ◌||◌, eqb, ltb, List, [], ◌∷◌, ◌++◌, length, map, Option, Some, None, is_some, filter, find, refl, sym, ap, ◌∙◌, subst, arith, eqb-true, eq-eqb, ne_eqb, ltb-true}
-use Rattle.std.proofs.lemmas.List.{map-append, length-map}
+use Rattle.std.proofs.Common.{◌≡◌, ℕ, ◌<◌, Bool, true, false, true≢false, cond, not, ◌&&◌, ◌||◌, eqb, ltb, List, [], ◌∷◌, ◌++◌, length, map, Option, Some, None, is_some, filter, find, refl, sym, ap, ◌∙◌, subst, arith, eqb-true, eq-eqb, ne_eqb, ltb-true}
+use Rattle.std.proofs.lemmas.List.{map-append}
 use Rattle.std.proofs.lemmas.List.Sums.{fold-append}
 use Rattle.std.specs.List.{AllByRecursion, fold, filter_map, list_any}
 use Rattle.std.specs.Prelude.{is_none}
 use Rattle.zre_values.specs.declared.endpoint.Endpoint.{Endpoint}
-use Rattle.zre_values.specs.declared.limits.TheConstants.{PEERS, CONNECTIONS}
+use Rattle.zre_values.specs.declared.limits.TheConstants.{CONNECTIONS}
 use Rattle.zre_values.specs.declared.peer_id.PeerId.{PeerId}
 use Rattle.zre_outside.specs.declared.act.Act.{Act}
 use Rattle.zre_outside.specs.declared.act.Act.TheVariants as act
@@ -22,13 +22,12 @@ use Rattle.zre_journal.specs.Done.{done, done_at, close_link, offers, acts_at, i
 use Rattle.zre_journal.specs.Events.{chronicle, acts_after}
 use Rattle.zre_journal.specs.Happens.{has_stopped, at_input, marks, with_entry, chronicle_after}
 use Rattle.zre_journal.specs.Closing.{ArePaired}
-use Rattle.zre_journal.specs.Leaks.{Passage, Came, Did, input_of, act_of, passages_after, passages, ends_link, links_left, ends_conn, is_answered, conns_left, LeaksNothing}
+use Rattle.zre_journal.specs.Leaks.{Passage, Came, Did, input_of, act_of, passages_after, passages, ends_link, links_left, ends_conn, is_answered, conns_left}
 use Rattle.zre_journal.specs.LinkEntries.{at_unlinked}
 use Rattle.zre_journal.specs.Peers.{Life, lives, life, other_lives}
 use Rattle.zre_journal.specs.Proper.{IsProper}
 use Rattle.zre_journal.proofs.Always.{is_proper}
 use Rattle.zre_journal.proofs.Closing.{leaves_nothing, are_paired}
-use Rattle.zre_journal.proofs.Few.{are_few}
 use Rattle.zre_journal.proofs.Joined.{continues}
 use Rattle.zre_journal.proofs.Listed.{none_any}
 use Rattle.zre_journal.proofs.Mild.{Mild, AreMild, IsMilder, Kind, kind, mild_input}
@@ -37,7 +36,7 @@ use Rattle.zre_journal.proofs.Steps.{choice}
 
 -- ---- lists
 
-abbrev key : Life → ℕ
+abbrev pub key : Life → ℕ
 key v = v.link
 
 -- nothing is taken out where nothing has the number
@@ -55,7 +54,7 @@ below_none n [] a = refl
 below_none n (x ∷ xs) a = let less : x < n = a.0 in let far : eqb n x ≡ false = ne_eqb n x (λ q. omega (arith, q, less)) in rw far (below_none n xs a.1)
 
 -- the numbers of the other lives are the other numbers
-others_of : (l : ℕ) (vs : List Life) → others l (map key vs) ≡ map key (other_lives l vs)
+pub others_of : (l : ℕ) (vs : List Life) → others l (map key vs) ≡ map key (other_lives l vs)
 others_of l [] = refl
 others_of l (v ∷ vs) = by (eqb l v.link) (others_of l vs)
   where
@@ -63,7 +62,7 @@ others_of l (v ∷ vs) = by (eqb l v.link) (others_of l vs)
     by true r = r
     by false r = ap (λ ys. v.link ∷ ys) r
 
-abbrev offered : List Life → List Act
+abbrev pub offered : List Life → List Act
 offered vs = map (λ (v : Life). act.Offer v.link) vs
 
 links_offered : (ls : List ℕ) (vs : List Life) → fold links_by ls (offered vs) ≡ ls
@@ -75,7 +74,7 @@ conns_offered cs [] = refl
 conns_offered cs (v ∷ vs) = conns_offered cs vs
 
 -- the first of these acts answers on c
-abbrev first_answers : ℕ → List Act → Bool
+abbrev pub first_answers : ℕ → List Act → Bool
 first_answers c (act.Answer d octets ∷ done) = eqb c d
 first_answers c _ = false
 
@@ -84,7 +83,7 @@ none_answered c [] = refl
 none_answered c (v ∷ vs) = refl
 
 -- the connections without an end after what came with these acts, where these had none before
-abbrev conns_but : List ℕ → Input → List Act → List ℕ
+abbrev pub conns_but : List ℕ → Input → List Act → List ℕ
 conns_but cs (input.Opened c) done = cond (first_answers c done) (cs ++ c ∷ []) cs
 conns_but cs (input.Shut c) done = others c cs
 conns_but cs _ done = cs
@@ -110,7 +109,7 @@ links_marks t own (h ∷ hs) K m =
     fold-append links_by (map key (lives K)) (done_at own h) (done own hs)
     ∙ ap (λ ls. fold links_by ls (done own hs)) (links_mark t own h K m.0) ∙ links_marks t own hs (h ∷ K) m.1
 
-conns_mark : (t : Kind) (own : PeerId) (h : Mark) (K : List Mark) → Mild t h → fold conns_by (open_ones K) (done_at own h) ≡ open_ones (h ∷ K)
+pub conns_mark : (t : Kind) (own : PeerId) (h : Mark) (K : List Mark) → Mild t h → fold conns_by (open_ones K) (done_at own h) ≡ open_ones (h ∷ K)
 conns_mark t own (Comes e) K m = absurd m
 conns_mark t own (Opens c) K m = absurd m
 conns_mark t own (TurnsAway c) K m = absurd m
@@ -162,7 +161,7 @@ module _ (g : Config) (H : List Mark) (q : IsProper H) (clean : has_stopped H �
   links_entry (input.Unlinked l) = links_unlinked l (life l M) refl
   links_entry i = by_mild i tt refl
 
-  links_next : fold links_by (links_but ls e.input) (acts_at g e H) ≡ map key (lives (with_entry g e H))
+  pub links_next : fold links_by (links_but ls e.input) (acts_at g e H) ≡ map key (lives (with_entry g e H))
   links_next = by (has_stopped H) refl
     where
       by : (b : Bool) → has_stopped H ≡ b → let hs = cond b [] (at_input g e.input H M) in
@@ -225,7 +224,7 @@ module _ (g : Config) (H : List Mark) (q : IsProper H) (clean : has_stopped H �
   conns_entry (input.Unlinked l) = conns_unlinked l (life l M)
   conns_entry i = λ vs. with_offers cs (at_input g i H M) vs (conns_marks (kind i) g.id (at_input g i H M) M (mild_input g i H M tt))
 
-  conns_next : fold conns_by (conns_but cs e.input (acts_at g e H)) (acts_at g e H) ≡ open_ones (with_entry g e H)
+  pub conns_next : fold conns_by (conns_but cs e.input (acts_at g e H)) (acts_at g e H) ≡ open_ones (with_entry g e H)
   conns_next = by (has_stopped H) refl
     where
       by : (b : Bool) → has_stopped H ≡ b → let hs = cond b [] (at_input g e.input H M) in
@@ -242,19 +241,19 @@ module _ (g : Config) (H : List Mark) (q : IsProper H) (clean : has_stopped H �
 
 module _ (g : Config) where
   -- what is so of the chronicle of a journal
-  record IsOf (J : List Entry) (H : List Mark) : Type 0 where
-    is : chronicle g J ≡ H
-    proper : IsProper H
-    clean : has_stopped H ≡ true → (lives H ≡ []) × (open_ones H ≡ [])
+  pub record IsOf (J : List Entry) (H : List Mark) : Type 0 where
+    pub is : chronicle g J ≡ H
+    pub proper : IsProper H
+    pub clean : has_stopped H ≡ true → (lives H ≡ []) × (open_ones H ≡ [])
 
-  of : (J : List Entry) (H : List Mark) → chronicle g J ≡ H → IsOf J H
+  pub of : (J : List Entry) (H : List Mark) → chronicle g J ≡ H → IsOf J H
   of J H z = record {
     is = z;
     proper = subst IsProper z (is_proper g J);
     clean = λ s. let n = leaves_nothing g J (ap has_stopped z ∙ s) in (ap lives (sym z) ∙ n.none_known, ap open_ones (sym z) ∙ n.none_open);
   }
 
-  more : (J : List Entry) (e : Entry) (H : List Mark) → chronicle g J ≡ H → chronicle g (J ++ e ∷ []) ≡ with_entry g e H
+  pub more : (J : List Entry) (e : Entry) (H : List Mark) → chronicle g J ≡ H → chronicle g (J ++ e ∷ []) ≡ with_entry g e H
   more J e H z = (continues g J (e ∷ [])).happened ∙ ap (with_entry g e) z
 
   links_on : (es : List Entry) (J : List Entry) (H : List Mark) → chronicle g J ≡ H → fold links_with (map key (lives H)) (passages_after g es H) ≡ map key (lives (chronicle_after g es H))
@@ -265,24 +264,25 @@ module _ (g : Config) where
       ∙ links_on es (J ++ e ∷ []) (with_entry g e H) (more J e H z)
 
   -- what is answered first is answered by the acts of that entry
-  answered_first : (c : ℕ) (done_ : List Act) (es : List Entry) (X : List Mark) → is_answered c (map Did done_ ++ passages_after g es X) ≡ first_answers c done_
+  pub answered_first : (c : ℕ) (done_ : List Act) (es : List Entry) (X : List Mark) → is_answered c (map Did done_ ++ passages_after g es X) ≡ first_answers c done_
   answered_first c [] [] X = refl
   answered_first c [] (e ∷ es) X = refl
   answered_first c (act.Answer d octets ∷ done_) es X = refl
   answered_first c (_ ∷ done_) es X = refl
 
-  conns_on_entry : (i : Input) (cs : List ℕ) (done_ : List Act) (es : List Entry) (X : List Mark)
-      → conns_on (Came i ∷ (map Did done_ ++ passages_after g es X)) cs ≡ conns_on (passages_after g es X) (fold conns_by (conns_but cs i done_) done_)
-  conns_on_entry (input.Opened c) cs done_ es X =
-      ap (λ b. conns_on (map Did done_ ++ passages_after g es X) (cond b (cs ++ c ∷ []) cs)) (answered_first c done_ es X)
-      ∙ conns_acts done_ (cond (first_answers c done_) (cs ++ c ∷ []) cs) (passages_after g es X)
-  conns_on_entry (input.Shut c) cs done_ es X = conns_acts done_ (others c cs) (passages_after g es X)
-  conns_on_entry _ cs done_ es X = conns_acts done_ cs (passages_after g es X)
+  -- what comes with an entry, and its acts, where nothing that passes after them answers first
+  pub conns_on_entry : (i : Input) (cs : List ℕ) (done_ : List Act) (xs : List Passage) → ((c : ℕ) → is_answered c (map Did done_ ++ xs) ≡ first_answers c done_)
+      → conns_on (Came i ∷ (map Did done_ ++ xs)) cs ≡ conns_on xs (fold conns_by (conns_but cs i done_) done_)
+  conns_on_entry (input.Opened c) cs done_ xs first =
+      ap (λ b. conns_on (map Did done_ ++ xs) (cond b (cs ++ c ∷ []) cs)) (first c)
+      ∙ conns_acts done_ (cond (first_answers c done_) (cs ++ c ∷ []) cs) xs
+  conns_on_entry (input.Shut c) cs done_ xs first = conns_acts done_ (others c cs) xs
+  conns_on_entry _ cs done_ xs first = conns_acts done_ cs xs
 
   conns_all : (es : List Entry) (J : List Entry) (H : List Mark) → chronicle g J ≡ H → conns_on (passages_after g es H) (open_ones H) ≡ open_ones (chronicle_after g es H)
   conns_all [] J H z = refl
   conns_all (e ∷ es) J H z = let o = of J H z in
-      conns_on_entry e.input (open_ones H) (acts_at g e H) es (with_entry g e H)
+      conns_on_entry e.input (open_ones H) (acts_at g e H) (passages_after g es (with_entry g e H)) (λ c. answered_first c (acts_at g e H) es (with_entry g e H))
       ∙ ap (λ xs. conns_on (passages_after g es (with_entry g e H)) xs) (conns_next g H o.proper o.clean e)
       ∙ conns_all es (J ++ e ∷ []) (with_entry g e H) (more J e H z)
 
@@ -292,7 +292,7 @@ module _ (g : Config) where
   acts_of [] xs = refl
   acts_of (a ∷ done_) xs = ap (λ ys. a ∷ ys) (acts_of done_ xs)
 
-  same_acts : (es : List Entry) (H : List Mark) → filter_map act_of (passages_after g es H) ≡ acts_after g es H
+  pub same_acts : (es : List Entry) (H : List Mark) → filter_map act_of (passages_after g es H) ≡ acts_after g es H
   same_acts [] H = refl
   same_acts (e ∷ es) H = acts_of (acts_at g e H) (passages_after g es (with_entry g e H)) ∙ ap (λ xs. acts_at g e H ++ xs) (same_acts es (with_entry g e H))
 
@@ -300,7 +300,7 @@ module _ (g : Config) where
   inputs_of [] xs = refl
   inputs_of (a ∷ done_) xs = inputs_of done_ xs
 
-  same_inputs : (es : List Entry) (H : List Mark) → filter_map input_of (passages_after g es H) ≡ map (λ (e : Entry). e.input) es
+  pub same_inputs : (es : List Entry) (H : List Mark) → filter_map input_of (passages_after g es H) ≡ map (λ (e : Entry). e.input) es
   same_inputs [] H = refl
   same_inputs (e ∷ es) H = ap (λ xs. e.input ∷ xs) (inputs_of (acts_at g e H) (passages_after g es (with_entry g e H)) ∙ same_inputs es (with_entry g e H))
 
@@ -410,10 +410,10 @@ module _ (g : Config) where
   -- ---- all of it
 
   module _ (J : List Entry) where
-    links_are : links_left (passages g J) ≡ map key (lives (chronicle g J))
+    pub links_are : links_left (passages g J) ≡ map key (lives (chronicle g J))
     links_are = sym (left_links (passages g J) []) ∙ links_on J [] [] refl
 
-    conns_are : conns_left (passages g J) ≡ open_ones (chronicle g J)
+    pub conns_are : conns_left (passages g J) ≡ open_ones (chronicle g J)
     conns_are = sym (left_conns (passages g J) []) ∙ conns_all J [] [] refl
 
     is_known : (l : ℕ) (vs : List Life) → list_any (eqb l) (map key vs) ≡ is_some (find (λ (v : Life). eqb l v.link) vs)
@@ -436,23 +436,11 @@ module _ (g : Config) where
     flipped false true e = refl
     flipped false false e = cc
 
-    each_link : (before later : List Passage) (l : ℕ) (to : Endpoint) → passages g J ≡ before ++ Did (act.Connect l to) ∷ later → list_any (ends_link l) later ≡ is_none (life l (chronicle g J))
+    pub each_link : (before later : List Passage) (l : ℕ) (to : Endpoint) → passages g J ≡ before ++ Did (act.Connect l to) ∷ later → list_any (ends_link l) later ≡ is_none (life l (chronicle g J))
     each_link before later l to z = turned (life l (chronicle g J)) (list_any (ends_link l) later)
         (sym (is_known l (lives (chronicle g J))) ∙ ap (list_any (eqb l)) (sym (links_on J [] [] refl)) ∙ ap (λ xs. list_any (eqb l) (fold links_with [] xs)) z
         ∙ link_left before later l to (subst ArePaired (sym (same_acts J []) ∙ ap (filter_map act_of) z) (are_paired g J)))
 
-    each_conn : (before later : List Passage) (c : ℕ) → passages g J ≡ before ++ Came (input.Opened c) ∷ later → is_answered c later ≡ true → list_any (ends_conn c) later ≡ not (is_open c (chronicle g J))
+    pub each_conn : (before later : List Passage) (c : ℕ) → passages g J ≡ before ++ Came (input.Opened c) ∷ later → is_answered c later ≡ true → list_any (ends_conn c) later ≡ not (is_open c (chronicle g J))
     each_conn before later c z a = flipped (is_open c (chronicle g J)) (list_any (ends_conn c) later)
         (ap (list_any (eqb c)) (sym (conns_all J [] [] refl)) ∙ ap (λ xs. list_any (eqb c) (conns_on xs [])) z ∙ conn_left before later c a (once c J [] before later z a))
-
-  pub leaks_nothing : (J : List Entry) → LeaksNothing g J
-  leaks_nothing J = record {
-    are_inputs = same_inputs J [];
-    are_acts = same_acts J [];
-    each_link = λ before later l to z. each_link J before later l to z;
-    each_conn = λ before later c z a. each_conn J before later c z a;
-    links_are = links_are J;
-    conns_are = conns_are J;
-    few_links = subst (λ n. n ≤ PEERS) (sym (ap length (links_are J) ∙ length-map (lives (chronicle g J)) key)) (are_few g J).few_peers;
-    few_conns = subst (λ n. n ≤ CONNECTIONS) (sym (ap length (conns_are J))) (are_few g J).few_connections;
-  }

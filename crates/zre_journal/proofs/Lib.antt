@@ -15,6 +15,7 @@ pub mod Faultless
 pub mod Few
 pub mod Fields
 pub mod FirstTicks
+pub mod Fronts
 pub mod Going
 pub mod Hearing
 pub mod Holding

@@ -26,7 +26,7 @@ use Rattle.zre_journal.specs.Events.{chronicle, events}
 use Rattle.zre_journal.specs.Links.{bodies, unsent}
 use Rattle.zre_journal.specs.Peers.{Life, lives, view}
 
-abbrev pub P : PeerId
+abbrev P : PeerId
 P = record { 0 = 0 ∷ 1 ∷ 2 ∷ 3 ∷ 4 ∷ 5 ∷ 6 ∷ 7 ∷ 8 ∷ 9 ∷ 10 ∷ 11 ∷ 12 ∷ 13 ∷ 14 ∷ 15 ∷ [] }
 
 abbrev pub me : Config
@@ -47,17 +47,17 @@ host = 10 ∷ 0 ∷ 0 ∷ 2 ∷ []
 abbrev pub B : List ℕ
 B = 90 ∷ 82 ∷ 69 ∷ 1 ∷ 0 ∷ 1 ∷ 2 ∷ 3 ∷ 4 ∷ 5 ∷ 6 ∷ 7 ∷ 8 ∷ 9 ∷ 10 ∷ 11 ∷ 12 ∷ 13 ∷ 14 ∷ 15 ∷ 192 ∷ 0 ∷ []
 
-abbrev pub B0 : List ℕ
+abbrev B0 : List ℕ
 B0 = 90 ∷ 82 ∷ 69 ∷ 1 ∷ 0 ∷ 1 ∷ 2 ∷ 3 ∷ 4 ∷ 5 ∷ 6 ∷ 7 ∷ 8 ∷ 9 ∷ 10 ∷ 11 ∷ 12 ∷ 13 ∷ 14 ∷ 15 ∷ 0 ∷ 0 ∷ []
 
 -- its greeting, READY and HELLO
 abbrev pub G : List ℕ
 G = 255 ∷ 0 ∷ 0 ∷ 0 ∷ 0 ∷ 0 ∷ 0 ∷ 0 ∷ 0 ∷ 127 ∷ 3 ∷ 0 ∷ 78 ∷ 85 ∷ 76 ∷ 76 ∷ 0 ∷ 0 ∷ 0 ∷ 0 ∷ 0 ∷ 0 ∷ 0 ∷ 0 ∷ 0 ∷ 0 ∷ 0 ∷ 0 ∷ 0 ∷ 0 ∷ 0 ∷ 0 ∷ 0 ∷ 0 ∷ 0 ∷ 0 ∷ 0 ∷ 0 ∷ 0 ∷ 0 ∷ 0 ∷ 0 ∷ 0 ∷ 0 ∷ 0 ∷ 0 ∷ 0 ∷ 0 ∷ 0 ∷ 0 ∷ 0 ∷ 0 ∷ 0 ∷ 0 ∷ 0 ∷ 0 ∷ 0 ∷ 0 ∷ 0 ∷ 0 ∷ 0 ∷ 0 ∷ 0 ∷ 0 ∷ []
 
-abbrev pub RP : List ℕ
+abbrev RP : List ℕ
 RP = 4 ∷ 58 ∷ 5 ∷ 82 ∷ 69 ∷ 65 ∷ 68 ∷ 89 ∷ 11 ∷ 83 ∷ 111 ∷ 99 ∷ 107 ∷ 101 ∷ 116 ∷ 45 ∷ 84 ∷ 121 ∷ 112 ∷ 101 ∷ 0 ∷ 0 ∷ 0 ∷ 6 ∷ 68 ∷ 69 ∷ 65 ∷ 76 ∷ 69 ∷ 82 ∷ 8 ∷ 73 ∷ 100 ∷ 101 ∷ 110 ∷ 116 ∷ 105 ∷ 116 ∷ 121 ∷ 0 ∷ 0 ∷ 0 ∷ 17 ∷ 1 ∷ 0 ∷ 1 ∷ 2 ∷ 3 ∷ 4 ∷ 5 ∷ 6 ∷ 7 ∷ 8 ∷ 9 ∷ 10 ∷ 11 ∷ 12 ∷ 13 ∷ 14 ∷ 15 ∷ []
 
-abbrev pub H : List ℕ
+abbrev H : List ℕ
 H = 0 ∷ 40 ∷ 170 ∷ 161 ∷ 1 ∷ 2 ∷ 0 ∷ 1 ∷ 20 ∷ 116 ∷ 99 ∷ 112 ∷ 58 ∷ 47 ∷ 47 ∷ 49 ∷ 48 ∷ 46 ∷ 48 ∷ 46 ∷ 48 ∷ 46 ∷ 50 ∷ 58 ∷ 52 ∷ 57 ∷ 49 ∷ 53 ∷ 50 ∷ 0 ∷ 0 ∷ 0 ∷ 0 ∷ 0 ∷ 3 ∷ 65 ∷ 110 ∷ 110 ∷ 0 ∷ 0 ∷ 0 ∷ 0 ∷ []
 
 -- its JOIN of `chat` with a number below 256
@@ -86,7 +86,7 @@ tick n = at n input.Tick
 abbrev pub asks : Command → Entry
 asks c = at 200 (input.Do c)
 
-abbrev pub ann : List ℕ
+abbrev ann : List ℕ
 ann = codes "Ann"
 
 abbrev pub enter : Event
@@ -117,7 +117,7 @@ view_begins_anew : map (λ (v : Life). (view v.link (chronicle me taken)).groups
 unfolding digits properties_within greeting_fault frame_why part_len cut item string_at long_string_at pair_at each_at strings_at dictionary_at hello_at join_at leave_at shout_at command_of read_of view_of is_small
 view_begins_anew = refl
 
-abbrev pub shut : List Entry
+abbrev shut : List Entry
 shut = base ++ at 200 (input.Shut 1) ∷ opened 300 2 ∷ piece 300 2 (G ++ RP ++ J 9) ∷ beacon 400 B ∷ []
 
 -- a connection that doesn't begin with HELLO is ignored, and closed in time

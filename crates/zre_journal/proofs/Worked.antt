@@ -3,7 +3,6 @@ use Rattle.std.specs.Prelude.{◌≡◌, ℕ, List, [], ◌∷◌, ◌++◌, cod
 use Rattle.std.proofs.Common.{refl}
 use Rattle.std.specs.Fmt.{digits}
 use Rattle.zre_values.specs.declared.peer_id.PeerId.{PeerId}
-use Rattle.zre_values.specs.declared.endpoint.Endpoint.{Endpoint}
 use Rattle.zre_outside.specs.declared.act.Act.{Act}
 use Rattle.zre_outside.specs.declared.act.Act.TheVariants as act
 use Rattle.zre_outside.specs.declared.entry.Entry.{Entry}
@@ -26,7 +25,7 @@ use Rattle.zre_journal.specs.Leaks.{passages, links_left, conns_left}
 use Rattle.zre_journal.specs.Links.{bodies, taken, unsent}
 use Rattle.zre_journal.specs.Outgoing.{gone}
 use Rattle.zre_journal.specs.Peers.{Life, lives}
-use Rattle.zre_journal.proofs.Rows.{me, B, G, RP, H, J, RR, at, beacon, opened, piece, tick, asks, enter, exit, base, shut, G1}
+use Rattle.zre_journal.proofs.Rows.{me, B, G, J, RR, at, beacon, opened, piece, tick, asks, enter, exit, base, G1}
 
 -- another peer: its READY and HELLO
 abbrev Q : PeerId

@@ -79,8 +79,8 @@ conns_left (_ ∷ later) = conns_left later
 
 -- Nothing leaks: each CONNECT is followed by a CLOSELINK or an UNLINKED of its link, or else its peer is known; each
 -- OPENED that is answered is followed by a CLOSECONN or a SHUT of its connection, or else the connection is open; never
--- both. The links and connections without an end are those of the known peers and the open ones, in this order. So
--- never more than 256 links and 512 connections are without an end.
+-- both. The links and connections without an end are those of the known peers and the open ones, in this order. And at no
+-- moment, also amid the acts of an entry, are more than 256 links or 512 connections without an end.
 pub record LeaksNothing (g : Config) (J : List Entry) : Type 0 where
   pub are_inputs : filter_map input_of (passages g J) ≡ map (λ (e : Entry). e.input) J
   pub are_acts : filter_map act_of (passages g J) ≡ acts g J
@@ -91,5 +91,6 @@ pub record LeaksNothing (g : Config) (J : List Entry) : Type 0 where
       → is_answered c later ≡ true → list_any (ends_conn c) later ≡ not (is_open c (chronicle g J))
   pub links_are : links_left (passages g J) ≡ map (λ (v : Life). v.link) (lives (chronicle g J))
   pub conns_are : conns_left (passages g J) ≡ open_ones (chronicle g J)
-  pub few_links : length (links_left (passages g J)) ≤ PEERS
-  pub few_conns : length (conns_left (passages g J)) ≤ CONNECTIONS
+  pub few_links : (before later : List Passage) → passages g J ≡ before ++ later → length (links_left before) ≤ PEERS
+  pub few_conns : (before later : List Passage) → passages g J ≡ before ++ later
+      → length (conns_left before) ≤ CONNECTIONS
