@@ -6,8 +6,10 @@ pub mod Judged
 pub mod Lines
 pub mod Loops
 pub mod Ordered
+pub mod Pairing
 pub mod Places
 pub mod Pushes
+mod Rows
 pub mod Runs
 pub mod Still
 pub mod Told

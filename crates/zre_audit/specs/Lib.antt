@@ -3,6 +3,7 @@ pub mod Coding
 pub mod Exchanged
 pub mod Kept
 pub mod Lines
+pub mod Pairing
 pub mod Prefixes
 pub mod Seen
 pub mod Sorted
