@@ -1,29 +1,37 @@
 -- A silent peer goes at the first tick after the time for which it may be silent, and for that at no tick before.
-use Rattle.std.proofs.Common.{◌≡◌, ℕ, ◌+◌, ◌<◌, ◌≤◌, Bool, true, false, true≢false, cond, not, eqb, ltb, leb, length, List, [], ◌∷◌, ◌++◌, map, Option, Some, None, filter, refl, sym, ap, ◌∙◌, subst, eqb-true, append_assoc, append-nil}
-use Rattle.std.specs.List.{AllByRecursion}
+use Rattle.std.proofs.Common.{◌≡◌, ℕ, ◌+◌, ◌<◌, ◌≤◌, Bool, true, false, true≢false, cond, not, eqb, ltb, leb, length, List, [], ◌∷◌, ◌++◌, map, Option, Some, None, filter, refl, sym, ap, ◌∙◌, subst, eqb-true, append_assoc, append-nil, ◌≢◌, ◌||◌, eq-eqb}
+use Rattle.std.proofs.lemmas.List.Folds.{list_any-append}
+use Rattle.std.specs.List.{AllByRecursion, list_any}
 use Rattle.zre_values.specs.declared.limits.TheConstants.{UNSENT_OCTETS, CONNECTIONS}
+use Rattle.zre_values.specs.declared.peer_id.PeerId.{PeerId}
+use Rattle.zre_msg.specs.declared.message.Message.{Message}
 use Rattle.zre_msg.specs.declared.message.Body.{Body}
 use Rattle.zre_msg.specs.declared.message.Body.TheVariants as body
 use Rattle.zre_link.specs.Text.{size_of}
 use Rattle.zre_outside.specs.declared.entry.Entry.{Entry}
 use Rattle.zre_outside.specs.declared.entry.Input.{Input}
 use Rattle.zre_outside.specs.declared.entry.Input.TheVariants as input
+use Rattle.zre_peer.specs.Members.{distinct}
+use Rattle.zre_peer.specs.Runs.{events_of}
+use Rattle.zre_peer.specs.declared.view.View.{View}
+use Rattle.zre_peer.specs.declared.event.Event.TheVariants as event
 use Rattle.zre_peer.specs.declared.causes.Cause.{Cause}
 use Rattle.zre_peer.specs.declared.causes.Cause.TheVariants as cause
 use Rattle.zre_peer.specs.declared.causes.CloseWhy.TheVariants as close
 use Rattle.zre_values.specs.declared.settings.Settings.{Settings as Config}
 use Rattle.zre_journal.specs.Arrivals.{end_of_run}
-use Rattle.zre_journal.specs.Chronicle.{Mark, Comes, Closes, IsShut, Ends, IsEvasive, Puts, SendsBeacon, after}
+use Rattle.zre_journal.specs.Chronicle.{Mark, Comes, Starts, Counts, Closes, IsShut, Ends, IsEvasive, Puts, SendsBeacon, after}
 use Rattle.zre_journal.specs.Connections.{open_ones, is_open, is_new, runs, has_ended}
-use Rattle.zre_journal.specs.Events.{chronicle}
+use Rattle.zre_journal.specs.Events.{chronicle, events_at}
 use Rattle.zre_journal.specs.Happens.{has_stopped, at_input, with_entry, chronicle_after}
 use Rattle.zre_journal.specs.Heard.{clock}
 use Rattle.zre_journal.specs.LinkEntries.{at_unlinked}
 use Rattle.zre_journal.specs.Links.{line, unsent}
-use Rattle.zre_journal.specs.Peers.{Life, lives, life, active}
+use Rattle.zre_journal.specs.Peers.{Life, lives, life, is_entered, view, active}
 use Rattle.zre_journal.specs.Pushes.{push}
-use Rattle.zre_journal.specs.Silence.{expires, has_expired, IsTickOf, IsFirstTick, GoesAt, silent_for, TellsSilence}
+use Rattle.zre_journal.specs.Silence.{tells_expired, expires, has_expired, IsTickOf, IsFirstTick, GoesAt, silent_for, TellsSilence}
 use Rattle.zre_journal.specs.Ticks.{is_silent, is_evasive, is_stale, probe, at_tick}
+use Rattle.zre_journal.specs.Told.{told, told_at, exit, by_message, becoming_evasive}
 use Rattle.zre_journal.proofs.Few.{none_kept}
 use Rattle.zre_journal.proofs.Joined.{continues}
 use Rattle.zre_journal.proofs.Lawful.{ends_once}
@@ -140,6 +148,63 @@ module _ (g : Config) (l : ℕ) where
   none_known (SendsBeacon port ∷ hs) X a e = none_known hs (SendsBeacon port ∷ X) a.1 e
   none_known (_ ∷ hs) X a e = absurd a.0
 
+-- ---- what is told
+
+module _ (g : Config) (p : PeerId) where
+  by_body : (r : PeerId) (w : View) (b : Body) → list_any (tells_expired p) (events_of r w b) ≡ false
+  by_body r w (body.Hello endpoint groups status name headers) = all (distinct groups)
+    where
+      all : (gs : List (List ℕ)) → list_any (tells_expired p) (map (λ x. event.Join r name x) gs) ≡ false
+      all [] = refl
+      all (x ∷ xs) = all xs
+  by_body r w (body.Whisper content) = refl
+  by_body r w (body.Shout group content) = refl
+  by_body r w (body.Join group status) = refl
+  by_body r w (body.Leave group status) = refl
+  by_body r w _ = refl
+
+  told_message : (o : Option Life) (m : Message) (X : List Mark) → list_any (tells_expired p) (by_message o m X) ≡ false
+  told_message None m X = refl
+  told_message (Some u) m X = by_body u.id (view u.link X) m.body
+
+  told_mark : (h : Mark) (X : List Mark) → ((l : ℕ) → expires l h ≡ false) → list_any (tells_expired p) (told_at h X) ≡ false
+  told_mark (Starts c k m) X a = told_message (life k X) m X
+  told_mark (Counts c k m) X a = told_message (life k X) m X
+  told_mark (Ends k why) X a = by (life k X)
+    where
+      one : (u : Life) (w : Cause) → ((l : ℕ) → expires l (Ends k w) ≡ false) → list_any (tells_expired p) (event.Exit u.id (view u.link X).name w ∷ []) ≡ false
+      one u cause.Expired n = absurd (true≢false (sym (eq-eqb k k refl) ∙ n k))
+      one u _ n = refl
+
+      at : (u : Life) (b : Bool) → list_any (tells_expired p) (cond b (event.Exit u.id (view u.link X).name why ∷ []) []) ≡ false
+      at u true = one u why a
+      at u false = refl
+
+      by : (o : Option Life) → list_any (tells_expired p) (exit o why X) ≡ false
+      by None = refl
+      by (Some u) = at u (is_entered X u)
+  told_mark (IsEvasive k) X a = by (life k X)
+    where
+      by : (o : Option Life) → list_any (tells_expired p) (becoming_evasive o X) ≡ false
+      by None = refl
+      by (Some u) = refl
+  told_mark _ X a = refl
+
+  told_marks : (hs X : List Mark) → ((l : ℕ) → AllByRecursion (λ h. expires l h ≡ false) hs) → list_any (tells_expired p) (told hs X) ≡ false
+  told_marks [] X a = refl
+  told_marks (h ∷ hs) X a =
+      list_any-append (tells_expired p) (told_at h X) (told hs (h ∷ X)) ∙ ap (λ b. b || list_any (tells_expired p) (told hs (h ∷ X))) (told_mark h X (λ l. (a l).0))
+      ∙ told_marks hs (h ∷ X) (λ l. (a l).1)
+
+  -- where no tick comes nobody is told as gone for that
+  not_told_else : (e : Entry) (H : List Mark) → e.input ≢ input.Tick → list_any (tells_expired p) (events_at g e H) ≡ false
+  not_told_else e H other = by (has_stopped H) (is_tick e.input) refl
+    where
+      by : (b t : Bool) → is_tick e.input ≡ t → list_any (tells_expired p) (told (cond b [] (at_input g e.input H (Comes e ∷ H))) (Comes e ∷ H)) ≡ false
+      by true t z = refl
+      by false true z = absurd (other (only_tick e.input z))
+      by false false z = told_marks (at_input g e.input H (Comes e ∷ H)) (Comes e ∷ H) (λ l. lasting_input g l e.input H (Comes e ∷ H) z)
+
 module _ (g : Config) (J earlier span : List Entry) (e : Entry) (later : List Entry) (v : Life) (at : IsFirstTick g J earlier span e later v) where
   abbrev H : List Mark
   H = chronicle g (earlier ++ span)
@@ -186,6 +251,7 @@ tells_silence g J = record {
   is_gone = λ earlier e later v at z. gone g J earlier e later v at z;
   is_told = λ earlier e later v at z entered. told_gone g J earlier e later v at z entered;
   not_sooner = λ earlier e later v at z. not_told g J earlier e later v at z;
+  only_at_ticks = λ earlier e later p in_journal other. not_told_else g p e (chronicle g earlier) other;
   at_first_tick = λ earlier span e later v at. goes g J earlier span e later v at;
   never_evasive = λ p heard. none_ever g J p heard;
 }

@@ -45,6 +45,8 @@ enter_bob = event.Enter Q bob (codes "tcp://10.0.0.3:49152") []
 
 -- ---- a connection is isolated
 
+-- if READY took over from any other open connection, the first peer would be told as gone
+
 -- another peer comes, breaks its run, and its connection is shut
 abbrev strangers : List Entry
 strangers = base ++ opened 200 2 ∷ piece 200 2 (G ++ RQ ++ HQ) ∷ piece 300 2 (J 3) ∷ at 400 (input.Shut 2) ∷ []
@@ -70,6 +72,8 @@ unfolding digits properties_within greeting_fault frame_why part_len cut item st
 strangers_move_the_clock = refl
 
 -- ---- nothing leaks
+
+-- if a peer that shut its connection ended without CLOSELINK, its link would be left
 
 abbrev connect : Act
 connect = act.Connect 1 (record { addr = 10 ∷ 0 ∷ 0 ∷ 2 ∷ []; port = 49152 })
@@ -116,6 +120,8 @@ no_broken_link_is_left = refl
 
 -- ---- tables are told
 
+-- if the time of an ignored connection were counted from its opening, it would be closed five seconds sooner
+
 -- a connection that is ignored five seconds after it was opened
 abbrev late : List Entry
 late = opened 0 2 ∷ piece 0 2 (G ++ RQ) ∷ piece 5000 2 (J 9) ∷ []
@@ -131,6 +137,8 @@ unfolding digits properties_within greeting_fault frame_why part_len cut item st
 ignored_is_closed = refl
 
 -- ---- commands are obeyed
+
+-- if a shout went to each entered peer, the second one would get it too
 
 abbrev hello : Body
 hello = body.Hello (codes "tcp://10.0.0.1:49153") [] 0 (codes "Me") []
@@ -150,6 +158,8 @@ unfolding digits properties_within greeting_fault frame_why part_len cut item st
 peer_gets_the_whisper = refl
 
 -- ---- what goes out, and what is answered
+
+-- if more were counted as taken than may go out, it would be 110 octets; if PONG had no context, both would be alike
 
 -- the link stands, and more is said to be taken than may go out: the greeting
 abbrev went : List Entry
@@ -171,6 +181,8 @@ unfolding digits properties_within greeting_fault frame_why part_len cut item st
 pings_are_answered = refl
 
 -- ---- silence is told
+
+-- if a peer expired only past `expired`, it would still be known at 30100 in `falls_silent` of `Rows`
 
 -- a peer goes at the first tick after `expired`, and once
 goes_at_the_first_tick : events me (base ++ tick 50000 ∷ tick 60000 ∷ []) ≡ enter ∷ exit cause.Expired ∷ []

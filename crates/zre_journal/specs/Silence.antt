@@ -1,5 +1,5 @@
 -- What is told of a peer of which nothing is heard, as far as ticks come.
-use Rattle.std.specs.Prelude.{◌≡◌, ℕ, ◌-◌, ◌<◌, ◌≤◌, Bool, true, false, List, ◌∷◌, ◌++◌, Some, None, nat_eq}
+use Rattle.std.specs.Prelude.{◌≡◌, ◌≢◌, ℕ, ◌-◌, ◌<◌, ◌≤◌, Bool, true, false, List, ◌∷◌, ◌++◌, Some, None, nat_eq}
 use Rattle.std.specs.List.{list_any}
 use Rattle.std.specs.Str.{bytes_eq}
 use Rattle.zre_values.specs.declared.peer_id.PeerId.{PeerId}
@@ -69,8 +69,8 @@ pub record GoesAt (g : Config) (v : Life) (H : List Mark) (e : Entry) : Type 0 w
       → IsTold (event.Exit v.id (view v.link K).name cause.Expired) (events_at g e H)
 
 -- At a tick a known peer of which nothing was heard for `expired`, by the journal's readings, is known no more, and
--- told as gone where it was entered; any other isn't told as gone for that. So a peer goes at the first such tick, and
--- for that at no tick before. One that was heard of less than `evasive` before each tick is never told as evasive.
+-- told as gone where it was entered; any other isn't told as gone for that, and none is but at a tick. So a peer goes
+-- at the first such tick, and for that at no tick before. One that was heard of less than `evasive` before each tick is never told as evasive.
 pub record TellsSilence (g : Config) (J : List Entry) : Type 0 where
   pub is_gone : (earlier : List Entry) (e : Entry) (later : List Entry) (v : Life) → IsTickOf g J earlier e later v
       → let H = chronicle g earlier in let K = Comes e ∷ H in g.expired ≤ silent_for v.link K
@@ -81,6 +81,8 @@ pub record TellsSilence (g : Config) (J : List Entry) : Type 0 where
   pub not_sooner : (earlier : List Entry) (e : Entry) (later : List Entry) (v : Life) → IsTickOf g J earlier e later v
       → let H = chronicle g earlier in let K = Comes e ∷ H in silent_for v.link K < g.expired
       → list_any (tells_expired v.id) (events_at g e H) ≡ false
+  pub only_at_ticks : (earlier : List Entry) (e : Entry) (later : List Entry) (p : PeerId) → J ≡ earlier ++ e ∷ later
+      → e.input ≢ input.Tick → list_any (tells_expired p) (events_at g e (chronicle g earlier)) ≡ false
   pub at_first_tick : (earlier span : List Entry) (e : Entry) (later : List Entry) (v : Life)
       → IsFirstTick g J earlier span e later v → GoesAt g v (chronicle g (earlier ++ span)) e
   pub never_evasive : (p : PeerId) → ((earlier : List Entry) (e : Entry) (later : List Entry) (v : Life)

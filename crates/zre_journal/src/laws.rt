@@ -277,9 +277,9 @@ pub fn commands_are_obeyed()
 {}
 
 /// At a tick a peer of which nothing was heard for `expired`, by the journal's readings, is known no more, and told as
-/// gone where it was entered; any other isn't told as gone for that. So it goes at the first such tick, unless it went
-/// for another cause before, and as expired at no earlier entry. One that was heard of less than `evasive` before each
-/// tick is never told as evasive.
+/// gone where it was entered; any other isn't told as gone for that, and nobody is but at a tick. So it goes at the
+/// first such tick, unless it went for another cause before, and as expired at no earlier entry. One that was heard of
+/// less than `evasive` before each tick is never told as evasive.
 pub fn silence_is_told()
     ensures { (g : Config) (J : List Entry) → TellsSilence g J }
 {}
