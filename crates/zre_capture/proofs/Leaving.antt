@@ -1,10 +1,12 @@
 -- What is left of the exercise after an entry.
-use Rattle.std.proofs.Common.{◌≡◌, ℕ, suc, ◌+◌, ◌-◌, ◌/◌, ◌<◌, ◌≤◌, List, [], ◌∷◌, ◌++◌, refl, sym, ap, ◌∙◌, arith}
+use Rattle.std.proofs.Common.{◌≡◌, ℕ, suc, ◌+◌, ◌-◌, ◌/◌, ◌%◌, ◌<◌, ◌≤◌, List, [], ◌∷◌, ◌++◌, length, take, drop, refl, sym, ap, ◌∙◌, arith}
 use Rattle.zre_outside.specs.declared.entry.Entry.{Entry}
-use Rattle.zre_capture.specs.Exercise.{heard, opened, introduced, peers_from, first_piece, second_piece, after, comes, quits, messages_from, exercise}
+use Rattle.zre_capture.specs.Exercise.{heard, opened, introduced, peers_from, spelling, after_content, after, cut, first_piece, second_piece, comes, quits, messages_from, exercise}
+use Rattle.zre_capture.specs.Draws.{drawn, upper_half}
 use Rattle.zre_capture.specs.Left.{left, left_at, messages_left}
 use Rattle.zre_capture.specs.declared.exercise.Exercise.{Exercise}
-use Rattle.zre_capture.specs.declared.stage.ExerciseStage.TheVariants.{Messages}
+use Rattle.zre_capture.specs.declared.stage.ExerciseStage.{ExerciseStage}
+use Rattle.zre_capture.specs.declared.stage.ExerciseStage.TheVariants.{Beacon, Opened, Introduction, Messages, First, Second, Done}
 
 no_peers : (i : ℕ) → peers_from i 0 ≡ []
 unfolding peers_from
@@ -44,22 +46,45 @@ one_message : (p x j n : ℕ) → messages_from p x j (suc n) ≡
 unfolding messages_from
 one_message p x j n = refl
 
--- a message comes, in these two pieces
-pub message_comes : (p x j m : ℕ) (first second : List ℕ) (y : ℕ) (entry : Entry) → j < m → entry ≡ comes p j first → first ≡ first_piece (j / p) x → second ≡ second_piece (j / p) x → y ≡ after (j / p) x →
-    messages_from p x j (m - j) ≡ entry ∷ comes p j second ∷ messages_from p y (j + 1) (m - (j + 1))
-message_comes p x j m first second y entry h is f s b =
+-- how many octets come in the first piece
+cut_is : (k x at y d : ℕ) (spelled : List ℕ) → spelled ≡ spelling k x → d ≡ after_content k x → y ≡ drawn d → at ≡ upper_half y % (length spelled + 1) → at ≡ cut k x
+unfolding cut after
+cut_is k x at y d spelled s a b is =
+    is ∙ ap (λ z. upper_half z % (length spelled + 1)) (b ∙ ap drawn a) ∙ ap (λ (o : List ℕ). upper_half (drawn (after_content k x)) % (length o + 1)) s
+
+draws_go_on : (k x y d : ℕ) → d ≡ after_content k x → y ≡ drawn d → y ≡ after k x
+unfolding after
+draws_go_on k x y d a b = b ∙ ap drawn a
+
+-- a message is spelled and cut, and comes in two pieces
+pub message_comes : (p x j m : ℕ) (spelled : List ℕ) (at y d : ℕ) → j < m → spelled ≡ spelling (j / p) x → d ≡ after_content (j / p) x → y ≡ drawn d → at ≡ upper_half y % (length spelled + 1) →
+    messages_from p x j (m - j) ≡ comes p j (take at spelled) ∷ comes p j (drop at spelled) ∷ messages_from p y (j + 1) (m - (j + 1))
+message_comes p x j m spelled at y d h s a b is =
+    let k = j / p in
     let e : m - j ≡ suc (m - (j + 1)) = omega arith in
+    let n = cut_is k x at y d spelled s a b is in
+    let f : first_piece k x ≡ take at spelled = sym (ap (λ i. take i spelled) n ∙ ap (λ (o : List ℕ). take (cut k x) o) s) in
+    let g : second_piece k x ≡ drop at spelled = sym (ap (λ i. drop i spelled) n ∙ ap (λ (o : List ℕ). drop (cut k x) o) s) in
     ap (messages_from p x j) e ∙ one_message p x j (m - (j + 1))
-    ∙ ap (λ o. comes p j o ∷ comes p j (second_piece (j / p) x) ∷ messages_from p (after (j / p) x) (j + 1) (m - (j + 1))) (sym f)
-    ∙ ap (λ o. comes p j first ∷ comes p j o ∷ messages_from p (after (j / p) x) (j + 1) (m - (j + 1))) (sym s)
-    ∙ ap (λ z. comes p j first ∷ comes p j second ∷ messages_from p z (j + 1) (m - (j + 1))) (sym b)
-    ∙ ap (λ e. e ∷ comes p j second ∷ messages_from p y (j + 1) (m - (j + 1))) (sym is)
+    ∙ ap (λ o. comes p j o ∷ comes p j (second_piece k x) ∷ messages_from p (after k x) (j + 1) (m - (j + 1))) f
+    ∙ ap (λ o. comes p j (take at spelled) ∷ comes p j o ∷ messages_from p (after k x) (j + 1) (m - (j + 1))) g
+    ∙ ap (λ z. comes p j (take at spelled) ∷ comes p j (drop at spelled) ∷ messages_from p z (j + 1) (m - (j + 1))) (sym (draws_go_on k x y d a b))
 
 -- the end comes
 pub messages_end : (p x j m : ℕ) → m ≤ j → messages_from p x j (m - j) ≡ quits j ∷ []
 messages_end p x j m h =
     let e : m - j ≡ 0 = omega arith in
     ap (messages_from p x j) e ∙ no_messages p x j
+
+-- what is left at a stage is the same whatever stage stands in the generator
+pub same_left : (t : ExerciseStage) (e f : Exercise) → e.peers ≡ f.peers → e.x ≡ f.x → e.message ≡ f.message → e.messages ≡ f.messages → e.cut ≡ f.cut → e.spelled ≡ f.spelled → left_at t e ≡ left_at t f
+same_left (Beacon i) e f p x j m c s = cc
+same_left (Opened i) e f p x j m c s = cc
+same_left (Introduction i) e f p x j m c s = cc
+same_left Messages e f p x j m c s = cc
+same_left (First i) e f p x j m c s = cc
+same_left (Second i) e f p x j m c s = cc
+same_left Done e f p x j m c s = refl
 
 pub at_messages : (e : Exercise) → e.stage ≡ Messages → left e ≡ messages_left e
 at_messages e is = ap (λ s. left_at s e) is

@@ -1,13 +1,14 @@
 //! The journal of the exercise, entry by entry.
 
-ghost use Rattle.std.specs.Prelude.{◌≡◌, ◌≤◌, ◌∷◌, IfOk, OnErr};
+ghost use Rattle.std.specs.Prelude.{◌≡◌, ◌≢◌, ◌≤◌, ◌+◌, ◌%◌, ◌∷◌, length, IfOk, OnErr, MatchOption};
 ghost use Rattle.zre_capture.specs.declared.stage.ExerciseStage.TheVariants.{Messages};
 
+use crate::draws::{drawn, upper_half};
 use crate::introduction::{beacon, host, introduction};
+use crate::message_octets::MessageOctets;
 use crate::stage::ExerciseStage;
-use crate::talk::{SplitMessage, talk};
+use crate::talk::{cut_by, spell};
 use std::alloc::Global;
-use std::mem;
 use zre_outside::{Command, Entry, Input};
 use zre_values::{Octets, OutOfMemory};
 
@@ -23,17 +24,18 @@ pub struct Exercise {
     messages: u32,
     /// The number of the next message.
     message: u32,
-    /// The octets of the message that was begun last.
-    spelled: Octets,
-    /// Its second piece, until that is given.
-    second: Octets,
+    /// The octets of the message that was spelled last.
+    spelled: MessageOctets,
+    /// How many of them come in the first piece.
+    cut: usize,
     ghost some: { 1 ≤ peers },
     ghost few: { peers ≤ 256 },
+    ghost within: { cut ≤ length spelled },
 }
 
 impl Exercise {
     ghost use Rattle.zre_capture.specs.Exercise.{exercise, comes};
-    ghost use Rattle.zre_capture.specs.Left.{left, left_at, after_peer, Gives};
+    ghost use Rattle.zre_capture.specs.Left.{left, left_at, after_peer, first_of, second_of, Gives};
 
     /// The exercise before its first entry.
     pub fn new(alloc: Global, seed: u64, peers: u16, messages: u32) -> Self
@@ -49,8 +51,8 @@ impl Exercise {
             peers,
             messages,
             message: 0,
-            spelled: Octets::new(alloc),
-            second: Octets::new(alloc),
+            spelled: MessageOctets::new(),
+            cut: 0,
         }
     }
 
@@ -65,42 +67,77 @@ impl Exercise {
         }
     }
 
-    // A piece of a message.
-    fn comes(&self, message: u32, bytes: Octets) -> Entry
-        ensures { result ≡ comes self.now.peers message bytes }
+    /// The next message, whose two pieces are the next entries: its number, which is the reading of the clock too.
+    /// None where another entry comes next, and then [`Exercise::next`] gives it. The pieces lie in the generator until
+    /// the next message.
+    #[inline(always)]
+    pub fn next_message(&mut self) -> Option<u32>
+        ensures given { MatchOption result (self.new ≡ self.old)
+            (λ j. left self.old ≡ comes self.new.peers j (first_of self.new)
+            ∷ comes self.new.peers j (second_of self.new) ∷ left self.new) }
+        ensures stage { MatchOption result (self.old.stage ≡ Messages → self.old.messages ≤ self.old.message)
+            (λ j. self.new.stage ≡ Messages) }
     {
-        let conn = (message % self.peers as u32) as u64 + 1;
-        Entry {
-            at: message as u64,
-            input: Input::Piece { conn, bytes },
+        let ExerciseStage::Messages = self.stage else {
+            return None;
+        };
+        if self.message >= self.messages {
+            return None;
         }
+        let message = self.message;
+        self.x = drawn(spell(&mut self.spelled, message / self.peers as u32, self.x));
+        self.cut = cut_by(upper_half(self.x), self.spelled.len());
+        self.message = message + 1;
+        Some(message)
     }
 
-    // The first piece of the next message, or the end.
-    fn begin(&mut self) -> Result<Entry, OutOfMemory>
-        requires { self.old.stage ≡ Messages }
-        ensures given { IfOk result (λ entry. left self.old ≡ entry ∷ left self.new) }
-        ensures err { OnErr result (left self.new ≡ left self.old) }
+    /// The connection of a message.
+    #[inline(always)]
+    pub fn conn_of(&self, message: u32) -> u64
+        ensures { result ≡ message % self.now.peers + 1 }
     {
-        let message = self.message;
-        if message >= self.messages {
-            self.stage = ExerciseStage::Done;
-            return Ok(Entry {
-                at: message as u64,
-                input: Input::Do(Command::Quit),
-            });
+        (message % self.peers as u32) as u64 + 1
+    }
+
+    /// The first piece of the message that was spelled last.
+    #[inline(always)]
+    pub fn first(&self) -> &[u8]
+        ensures { result.now ≡ first_of self.now }
+    {
+        let (first, _) = self.spelled.as_slice().split_at(self.cut);
+        first
+    }
+
+    /// The second piece of the message that was spelled last.
+    #[inline(always)]
+    pub fn second(&self) -> &[u8]
+        ensures { result.now ≡ second_of self.now }
+    {
+        let (_, second) = self.spelled.as_slice().split_at(self.cut);
+        second
+    }
+
+    // A copy of a piece of a message.
+    fn comes(&self, message: u32, bytes: &[u8]) -> Result<Entry, OutOfMemory>
+        ensures { IfOk result (λ entry. entry ≡ comes self.now.peers message bytes.now) }
+    {
+        Ok(Entry {
+            at: message as u64,
+            input: Input::Piece {
+                conn: self.conn_of(message),
+                bytes: Octets::copy(self.alloc, bytes)?,
+            },
+        })
+    }
+
+    // Where a message comes next, it is spelled.
+    fn begin(&mut self)
+        ensures same { left self.new ≡ left self.old }
+        ensures end { self.new.stage ≡ Messages → self.new.messages ≤ self.new.message }
+    {
+        if let Some(message) = self.next_message() {
+            self.stage = ExerciseStage::First(message);
         }
-        let SplitMessage { first, second, x } = talk(
-            self.alloc,
-            &mut self.spelled,
-            message / self.peers as u32,
-            self.x,
-        )?;
-        self.x = x;
-        self.second = second;
-        self.stage = ExerciseStage::Second(message);
-        self.message = message + 1;
-        Ok(self.comes(message, first))
     }
 
     /// The next entry, or None where all were given. After an error the same entry is still to come.
@@ -108,6 +145,7 @@ impl Exercise {
         ensures given { IfOk result (λ given. Gives given (left self.old) (left self.new)) }
         ensures err { OnErr result (left self.new ≡ left self.old) }
     {
+        self.begin();
         let alloc = self.alloc;
         let entry = match self.stage {
             ExerciseStage::Beacon(peer) => {
@@ -141,11 +179,22 @@ impl Exercise {
                     },
                 }
             }
-            ExerciseStage::Messages => self.begin()?,
+            ExerciseStage::Messages => {
+                self.stage = ExerciseStage::Done;
+                Entry {
+                    at: self.message as u64,
+                    input: Input::Do(Command::Quit),
+                }
+            }
+            ExerciseStage::First(message) => {
+                let entry = self.comes(message, self.first())?;
+                self.stage = ExerciseStage::Second(message);
+                entry
+            }
             ExerciseStage::Second(message) => {
+                let entry = self.comes(message, self.second())?;
                 self.stage = ExerciseStage::Messages;
-                let second = mem::replace(&mut self.second, Octets::new(alloc));
-                self.comes(message, second)
+                entry
             }
             ExerciseStage::Done => return Ok(None),
         };

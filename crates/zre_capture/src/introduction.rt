@@ -5,7 +5,6 @@ ghost use Rattle.zre_values.specs.Endpoint.{endpoint_text};
 ghost use Rattle.zre_msg.specs.Spelling.{Fits, octets};
 ghost use Rattle.zre_capture.specs.Exercise.{identity, host, beacon, hello, introduction, readiness};
 
-use crate::talk::push_message;
 use std::alloc::Global;
 use zre_beacon::Beacon;
 use zre_msg::{Body, Message};
@@ -78,6 +77,16 @@ fn hello(alloc: Global, peer: u8) -> Result<Message, OutOfMemory>
             headers: Pairs::new(alloc),
         },
     })
+}
+
+// Appends the octets of a message.
+fn push_message(out: &mut Octets, message: Message) -> Result<(), OutOfMemory>
+    requires { Fits message }
+    ensures { OnOk result (out.new ≡ out.old ++ octets message) }
+{
+    let pushed = message.push_to(out);
+    drop(message);
+    pushed
 }
 
 // Its READY.

@@ -16,6 +16,7 @@ mod line;
 mod line_start;
 mod list;
 mod macros;
+mod message_octets;
 mod pairs;
 mod read;
 mod reader;

@@ -7,8 +7,10 @@ pub(crate) enum ExerciseStage {
     Opened(u8),
     /// What comes first on the connection of a peer.
     Introduction(u8),
-    /// The first piece of a message, or the end.
+    /// A message that isn't spelled yet, or the end.
     Messages,
+    /// The first piece of a message.
+    First(u32),
     /// The second piece of a message.
     Second(u32),
     /// Nothing.

@@ -1,25 +1,17 @@
 //! The messages of the peers of the exercise.
 
-ghost use Rattle.std.specs.Prelude.{suc, ◌≡◌, ◌≤◌, ◌+◌, ◌++◌, ◌%◌, IfOk, OnOk, codes};
-ghost use Rattle.zre_msg.specs.Spelling.{Fits, FitsBody, octets};
+ghost use Rattle.std.specs.Prelude.{suc, ◌≡◌, ◌≤◌, ◌+◌, [], ◌∷◌, ◌++◌, ◌%◌, length, codes};
+ghost use Rattle.zre_values.specs.Framing.{frame};
+ghost use Rattle.zre_msg.specs.Spelling.{head, string};
 ghost use Rattle.zre_capture.specs.Draws.{after_draws, octets_drawn};
-ghost use Rattle.zre_capture.specs.Exercise.{changes, status, content, body, after_content, after, spelling, cut};
-ghost use Rattle.zre_capture.specs.Exercise.{first_piece, second_piece};
+ghost use Rattle.zre_capture.specs.Exercise.{changes, status, after_content, spelling};
 
-use crate::draws::{drawn, push_drawn, upper_half};
-use std::alloc::Global;
-use zre_msg::{Body, Message};
-use zre_values::{Frames, Octets, OutOfMemory};
-
-/// A message in two pieces, and where the draws stand after it.
-pub(crate) struct SplitMessage {
-    pub first: Octets,
-    pub second: Octets,
-    pub x: u64,
-}
+use crate::draws::push_drawn;
+use crate::message_octets::{MessageOctets, ROOM};
 
 // How many of the first messages of a peer, up to this one, are JOIN or LEAVE.
 #[tactic(auto, using(crate::proofs::Talking::changes_by_leave, crate::proofs::Talking::changes_by_others))]
+#[inline(always)]
 fn changes(k: u32) -> u32
     ensures { result ≡ changes (suc k) }
 {
@@ -31,99 +23,90 @@ fn changes(k: u32) -> u32
 }
 
 #[tactic(auto, unfolding(crate::specs::Exercise::status))]
+#[inline(always)]
 fn status(k: u32) -> u8
     ensures { result ≡ status k }
 {
     (changes(k) % 256) as u8
 }
 
-fn content(alloc: Global, x: u64) -> Result<(Frames, u64), OutOfMemory>
-    ensures { IfOk result (λ drawn. (drawn.0 ≡ content x) × (drawn.1 ≡ after_draws 8 x)) }
+#[inline(always)]
+fn sequence(k: u32) -> u16
+    ensures { result ≡ (2 + k) % 65536 }
 {
-    let mut frame = Octets::new(alloc);
-    let x = push_drawn(&mut frame, 8, x)?;
-    Ok((Frames::of(alloc, frame), x))
+    ((k as u64 + 2) % 65536) as u16
 }
 
-fn group(alloc: Global) -> Result<Octets, OutOfMemory>
-    ensures { IfOk result (λ octets. octets ≡ codes "all") }
-{
-    Octets::copy(alloc, b"all")
-}
-
-// What message k of a peer says, and where the draws stand after it.
-#[tactic(auto, unfolding(crate::specs::Exercise::body, crate::specs::Exercise::after_content))]
-fn body(alloc: Global, k: u32, x: u64) -> Result<(Body, u64), OutOfMemory>
-    ensures said { IfOk result (λ said. said.0 ≡ body k x) }
-    ensures after { IfOk result (λ said. said.1 ≡ after_content k x) }
-    ensures fits { IfOk result (λ said. FitsBody said.0) }
-{
-    let kind = k % 4;
-    if kind == 0 || kind == 3 {
-        let group = group(alloc)?;
-        let status = status(k);
-        if kind == 0 {
-            return Ok((Body::Join { group, status }, x));
-        }
-        return Ok((Body::Leave { group, status }, x));
-    }
-    let (content, x) = content(alloc, x)?;
-    if kind == 2 {
-        return Ok((Body::Whisper { content }, x));
-    }
-    let group = group(alloc)?;
-    Ok((Body::Shout { group, content }, x))
-}
-
-/// Appends the octets of a message.
-pub(crate) fn push_message(out: &mut Octets, message: Message) -> Result<(), OutOfMemory>
-    requires { Fits message }
-    ensures { OnOk result (out.new ≡ out.old ++ octets message) }
-{
-    let pushed = message.push_to(out);
-    drop(message);
-    pushed
-}
-
-// Its octets in place of what stands there, and where the draws stand after its content.
-#[tactic(auto, unfolding(crate::specs::Exercise::spelling))]
-fn spell(alloc: Global, out: &mut Octets, k: u32, x: u64) -> Result<u64, OutOfMemory>
-    ensures octets { OnOk result (out.new ≡ spelling k x) }
-    ensures after { IfOk result (λ after. after ≡ after_content k x) }
+// JOIN or LEAVE of the group, in place of what stands there.
+#[inline(always)]
+fn spell_change(out: &mut MessageOctets, command: u8, k: u32)
+    ensures { out.new ≡ frame 0 (head command ((2 + k) % 65536) ++ (string (codes "all") ++ status k ∷ [])) }
 {
     out.clear();
-    let (body, x) = body(alloc, k, x)?;
-    let sequence = ((k as u64 + 2) % 65536) as u16;
-    push_message(out, Message { sequence, body })?;
-    Ok(x)
+    out.append(&[0, 11, 0xaa, 0xa1, command, 2]);
+    out.append(&sequence(k).to_be_bytes());
+    out.append(&[3, b'a', b'l', b'l', status(k)]);
 }
 
-// How many of so many octets come in the first piece.
-fn cut_by(draw: u32, len: usize) -> usize
+// The first frame of a SHOUT to the group, in place of what stands there.
+#[inline(always)]
+fn spell_shout(out: &mut MessageOctets, k: u32)
+    ensures { out.new ≡ frame 1 (head 3 ((2 + k) % 65536) ++ string (codes "all")) }
+{
+    out.clear();
+    out.append(&[1, 10, 0xaa, 0xa1, 3, 2]);
+    out.append(&sequence(k).to_be_bytes());
+    out.append(&[3, b'a', b'l', b'l']);
+}
+
+// The first frame of a WHISPER, in place of what stands there.
+#[inline(always)]
+fn spell_whisper(out: &mut MessageOctets, k: u32)
+    ensures { out.new ≡ frame 1 (head 2 ((2 + k) % 65536)) }
+{
+    out.clear();
+    out.append(&[1, 6, 0xaa, 0xa1, 2, 2]);
+    out.append(&sequence(k).to_be_bytes());
+}
+
+// Appends the frame of a content whose draws begin at x, and tells where they stand after it.
+#[inline(always)]
+fn push_content(out: &mut MessageOctets, x: u64) -> u64
+    requires { length out.old ≤ 14 }
+    ensures octets { out.new ≡ out.old ++ frame 0 (octets_drawn 8 x) }
+    ensures after { result ≡ after_draws 8 x }
+{
+    out.append(&[0, 32]);
+    push_drawn(out, 8, x)
+}
+
+/// The octets of message k of a peer, whose draws begin at x, in place of what stands there; and where the draws stand
+/// after its content.
+#[inline(always)]
+pub(crate) fn spell(out: &mut MessageOctets, k: u32, x: u64) -> u64
+    ensures octets { out.new ≡ spelling k x }
+    ensures after { result ≡ after_content k x }
+{
+    let kind = k % 4;
+    if kind == 1 {
+        spell_shout(out, k);
+        return push_content(out, x);
+    }
+    if kind == 2 {
+        spell_whisper(out, k);
+        return push_content(out, x);
+    }
+    let command = if kind == 0 { 4 } else { 5 };
+    spell_change(out, command, k);
+    x
+}
+
+/// How many of so many octets come in the first piece.
+#[inline(always)]
+pub(crate) fn cut_by(draw: u32, len: usize) -> usize
+    requires { len ≤ ROOM }
     ensures value { result ≡ draw % (len + 1) }
     ensures within { result ≤ len }
 {
-    let draw = draw as usize;
-    if draw <= len { draw } else { draw % (len + 1) }
-}
-
-/// Message k of a peer, whose draws begin at x. The buffer's octets are of no account before and after it.
-#[tactic(auto, unfolding(crate::specs::Exercise::after, crate::specs::Exercise::cut))]
-pub(crate) fn talk(
-    alloc: Global,
-    buffer: &mut Octets,
-    k: u32,
-    x: u64,
-) -> Result<SplitMessage, OutOfMemory>
-    ensures { IfOk result (λ t. (t.first ≡ first_piece k x) × (t.second ≡ second_piece k x) × (t.x ≡ after k x)) }
-{
-    let x = drawn(spell(alloc, buffer, k, x)?);
-    let octets = buffer.as_slice();
-    let (first, second) = octets.split_at(cut_by(upper_half(x), octets.len()));
-    let first = Octets::copy(alloc, first)?;
-    let Ok(second) = Octets::copy(alloc, second) else {
-        drop(first);
-        return Err(OutOfMemory);
-    };
-    Ok(SplitMessage { first, second, x })
+    (draw % (len as u32 + 1)) as usize
 }
