@@ -9,7 +9,7 @@ use Rattle.zre_outside.specs.declared.entry.Entry.{Entry}
 use Rattle.zre_outside.specs.declared.entry.Input.{Input}
 use Rattle.zre_outside.specs.declared.entry.Input.TheVariants as input
 use Rattle.zre_mailbox.specs.Conn.{conn_after}
-use Rattle.zre_mailbox.specs.Talk.{talk, completed}
+use Rattle.zre_mailbox.specs.Talk.{Said, talk, completed}
 use Rattle.zre_link.specs.Link.{link_after}
 use Rattle.zre_values.specs.declared.settings.Settings.{Settings as Config}
 use Rattle.zre_journal.specs.Chronicle.{Mark, Comes}
@@ -21,9 +21,7 @@ use Rattle.zre_journal.specs.Arrivals.{at_places}
 use Rattle.zre_journal.proofs.Kept.{Comes-proper}
 use Rattle.zre_journal.proofs.Listed.{eqb-comm, found_passes, any_has}
 use Rattle.zre_tables.specs.declared.connection.Connection.{Connection}
-use Rattle.zre_node.specs.declared.incoming.arrivals.Completed.{Completed}
 use Rattle.zre_node.specs.declared.tables.Tables.{Tables}
-use Rattle.zre_node.specs.Said.{said_in}
 use Rattle.zre_tables.specs.Holding.{reader_at}
 use Rattle.zre_tables.specs.Rows.{row_at, with_row}
 use Rattle.zre_tables.specs.Tabled.{Tabled}
@@ -103,8 +101,8 @@ module _ (g : Config) (H : List Mark) (t : Tables) (h : Holds g H t) (e : Entry)
   not_heard shut = comes g H t h e t.conns no_reply
       (retold_of (λ (d : ℕ). d) (λ d. eqb c d ≡ false) (IsConn g H) (IsConn g (Comes e ∷ H)) (λ d k far q. q ∙ another d far) (open_ones H) t.conns (none_is c (open_ones H) shut) h.keeps.conns)
 
-  pub silent : (heard : Completed) → is_live c H ≡ false → at_places g c (said_in heard) (Comes e ∷ H) ≡ at_places g c (newly_completed g.id c H (Comes e ∷ H)) (Comes e ∷ H)
-  silent heard dead = dead_places g c (Comes e ∷ H) dead (said_in heard) ∙ sym (dead_places g c (Comes e ∷ H) dead (newly_completed g.id c H (Comes e ∷ H)))
+  pub silent : (heard : List Said) → is_live c H ≡ false → at_places g c heard (Comes e ∷ H) ≡ at_places g c (newly_completed g.id c H (Comes e ∷ H)) (Comes e ∷ H)
+  silent heard dead = dead_places g c (Comes e ∷ H) dead heard ∙ sym (dead_places g c (Comes e ∷ H) dead (newly_completed g.id c H (Comes e ∷ H)))
 
   -- it is open, and its row is this one now
   with_its : is_open c H ≡ true → (x : Connection) → x ≡ kept_conn g (Comes e ∷ H) c → (C : List (ℕ × Connection)) → C ≡ set_value (is_at (nat_cmp c)) t.conns x → Holds g (Comes e ∷ H) (record t { clock = max e.at t.clock; conns = C })
@@ -135,14 +133,14 @@ module _ (g : Config) (H : List Mark) (t : Tables) (h : Holds g H t) (e : Entry)
   hears there q = reads false q there
 
   -- what was heard of it
-  pub heard_it : (C : List (ℕ × Connection)) (heard : Completed)
-      → ((x : Connection) (own : PeerId) (q : List ℕ) → row_at c t.conns ≡ Some x → x.conn ≡ Some (conn_after own q) → (C ≡ with_row c (record x { conn = Some (conn_after own (q ++ o)) }) t.conns) × (said_in heard ≡ completed own q o))
+  pub heard_it : (C : List (ℕ × Connection)) (heard : List Said)
+      → ((x : Connection) (own : PeerId) (q : List ℕ) → row_at c t.conns ≡ Some x → x.conn ≡ Some (conn_after own q) → (C ≡ with_row c (record x { conn = Some (conn_after own (q ++ o)) }) t.conns) × (heard ≡ completed own q o))
       → (reader_at c t.conns ≡ None → C ≡ t.conns)
-      → Holds g (Comes e ∷ H) (record t { clock = max e.at t.clock; conns = C }) × (at_places g c (said_in heard) (Comes e ∷ H) ≡ at_places g c (newly_completed g.id c H (Comes e ∷ H)) (Comes e ∷ H))
+      → Holds g (Comes e ∷ H) (record t { clock = max e.at t.clock; conns = C }) × (at_places g c heard (Comes e ∷ H) ≡ at_places g c (newly_completed g.id c H (Comes e ∷ H)) (Comes e ∷ H))
   heard_it C heard live dead = by (is_open c H) refl (is_ignored c H) refl
     where
       by : (b : Bool) → is_open c H ≡ b → (d : Bool) → is_ignored c H ≡ d
-          → Holds g (Comes e ∷ H) (record t { clock = max e.at t.clock; conns = C }) × (at_places g c (said_in heard) (Comes e ∷ H) ≡ at_places g c (newly_completed g.id c H (Comes e ∷ H)) (Comes e ∷ H))
+          → Holds g (Comes e ∷ H) (record t { clock = max e.at t.clock; conns = C }) × (at_places g c heard (Comes e ∷ H) ≡ at_places g c (newly_completed g.id c H (Comes e ∷ H)) (Comes e ∷ H))
       by false z d q =
           (subst (λ es. Holds g (Comes e ∷ H) (record t { clock = max e.at t.clock; conns = es })) (sym (dead (unread z))) (not_heard z), silent heard (rw z refl))
       by true z true q =

@@ -11,9 +11,10 @@ use Rattle.zre_journal.specs.Happens.{marks, has_stopped}
 use Rattle.zre_journal.specs.Told.{told}
 use Rattle.zre_journal.proofs.Joined.{continues}
 use Rattle.zre_node.specs.declared.effects.Effects.{Effects}
+use Rattle.zre_node.specs.declared.effects.Step.{Step}
 use Rattle.zre_node.specs.declared.node.Node.{Node}
 use Rattle.zre_node.specs.declared.tables.Tables.{Tables}
-use Rattle.zre_node.specs.Journal.{StandsIn, Took, IsStep}
+use Rattle.zre_node.specs.Journal.{beginning, StandsIn, Took, IsStep}
 
 -- an entry after a stop changes nothing
 pub took_nothing : (g : Config) (e : Entry) (H : List Mark) (t : Tables) (a : Effects) → has_stopped H ≡ true → StandsIn g H t → Took g e H t a a
@@ -39,3 +40,13 @@ steps g J e n a s whole ev ac w =
       told = c.told ∙ ap (λ (xs : List Event). events g J ++ xs) (append-nil (events_at g e (chronicle g J)) ∙ sym (w.events ∙ ap (λ (xs : List Event). xs ++ events_at g e (chronicle g J)) ev));
       done = c.done ∙ ap (λ (xs : List Act). acts g J ++ xs) (append-nil (acts_at g e (chronicle g J)) ∙ sym (w.acts ∙ ap (λ (xs : List Act). xs ++ acts_at g e (chronicle g J)) ac));
     }
+
+-- an entry was taken, and what it tells and asks for was handed over
+pub finished : (g : Config) (J : List Entry) (e : Entry) (n m : Node) (s : Step) (a : Effects) → (m.tables ≡ n.tables) × (m.spent ≡ false)
+    → s ≡ record { events = n.effects.events; acts = n.effects.acts } → a.events ≡ [] → a.acts ≡ [] → Took g e (chronicle g J) n.tables a n.effects → IsStep g J e m s
+finished g J e n m s a kept given ev ac w =
+    subst (IsStep g J e m) (sym given) (steps g J e m a n.effects kept.1 ev ac (subst (λ t. Took g e (chronicle g J) t a n.effects) (sym kept.0) w))
+
+-- a node that begins to take an entry stands as it did
+pub begun : (g : Config) (H : List Mark) (n b : Node) → b ≡ beginning n → StandsIn g H n.tables → StandsIn g H b.tables
+begun g H n b is s = subst (λ (m : Node). StandsIn g H m.tables) (sym is) s

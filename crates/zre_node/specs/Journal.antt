@@ -43,6 +43,10 @@ TakesLooks e t looks looks' result =
 abbrev pub is_spent : Node → Bool
 is_spent n = n.spent
 
+-- the same node while an entry is taken: it tells and asks for nothing yet
+abbrev pub beginning : Node → Node
+beginning n = record n { spent = true; effects = record { events = []; acts = []; pushed = [] } }
+
 -- the node stands for the journal J: its tables hold what follows from it
 pub record StandsFor (g : Config) (J : List Entry) (n : Node) : Type 0 where
   pub stands : StandsIn g (chronicle g J) n.tables

@@ -1,5 +1,6 @@
 -- Kinds of entries.
-use Rattle.std.specs.Prelude.{Bool, true, false}
+use Rattle.std.specs.Prelude.{ℕ, List, Bool, true, false}
+use Rattle.zre_outside.specs.declared.entry.Entry.{Entry}
 use Rattle.zre_outside.specs.declared.entry.Input.{Input}
 use Rattle.zre_outside.specs.declared.entry.Input.TheVariants as input
 
@@ -16,6 +17,10 @@ is_incoming (input.Datagram from o) = true
 is_incoming (input.Opened c) = true
 is_incoming (input.Shut c) = true
 is_incoming i = is_about_link i
+
+-- the entry of these octets of a connection, with a reading of the clock
+abbrev pub piece_entry : ℕ → ℕ → List ℕ → Entry
+piece_entry at c o = record { at = at; input = input.Piece c o }
 
 -- octets of a connection
 abbrev pub is_piece : Input → Bool

@@ -6,10 +6,12 @@ use Rattle.zre_mailbox.specs.Talk.{Said, Arrived, arrivals_in, fault_said}
 use Rattle.zre_values.specs.declared.settings.Settings.{Settings as Config}
 use Rattle.zre_journal.specs.Chronicle.{Mark}
 use Rattle.zre_journal.specs.Arrivals.{at_arrival, at_later}
-use Rattle.zre_node.specs.declared.incoming.arrivals.Completed.{Completed}
+use Rattle.zre_zmtp.specs.declared.fault.ZmtpFault.{ZmtpFault}
+use Rattle.zre_zmtp.specs.declared.item.Item.{Item}
 
-abbrev pub said_in : Completed → List Said
-said_in h = map (λ a. Arrived a) (arrivals_in h.items) ++ fault_said h.fault
+-- the items that became whole, and the fault after them
+abbrev pub said_in : List Item → Option ZmtpFault → List Said
+said_in items fault = map (λ a. Arrived a) (arrivals_in items) ++ fault_said fault
 
 -- at what arrives with an item on a live connection, if anything does
 abbrev pub at_item : Config → ℕ → Option Arrival → List Mark → List Mark

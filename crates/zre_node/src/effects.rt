@@ -14,7 +14,7 @@ use std::mem;
 use zre_outside::{Act, Acts};
 use zre_peer::{Cause, CloseWhy, Event, Events, IgnoreWhy, Run};
 use zre_tables::name_of;
-use zre_values::{Keys, Octets, OutOfMemory, PeerId};
+use zre_values::{Keys, List, Octets, OutOfMemory, PeerId};
 
 /// What one entry brought about: what the user is told, and what the node asks of the outside.
 #[derive(Drop)]
@@ -48,6 +48,17 @@ pub struct Effects {
     pub pushed: Keys,
 }
 
+// Puts a list in place of another, whose memory it takes. Most lists are empty, and then nothing moves.
+#[inline(always)]
+fn hand<T: Drop>(from: &mut List<T>, to: &mut List<T>)
+    ensures { to.new ≡ from.old }
+{
+    if from.len() != 0 || to.len() != 0 {
+        to.clear();
+        mem::swap(from, to);
+    }
+}
+
 impl Effects {
     /// Nothing yet.
     pub fn new(alloc: Global) -> Self
@@ -61,6 +72,7 @@ impl Effects {
     }
 
     /// Nothing again. The lists keep their memory.
+    #[inline(always)]
     pub fn clear(&mut self)
         ensures { self.new ≡ record { events = []; acts = []; pushed = [] } }
     {
@@ -70,13 +82,12 @@ impl Effects {
     }
 
     /// Hands over what was told and asked for, in place of what stands in a step, and takes the lists of that.
+    #[inline(always)]
     pub fn hand_to(&mut self, step: &mut Step)
         ensures { step.new ≡ record { events = self.old.events; acts = self.old.acts } }
     {
-        step.events.clear();
-        step.acts.clear();
-        mem::swap(&mut self.events, &mut step.events);
-        mem::swap(&mut self.acts, &mut step.acts);
+        hand(&mut self.events, &mut step.events);
+        hand(&mut self.acts, &mut step.acts);
     }
 
     /// Asks for one more act.

@@ -1,22 +1,24 @@
 //! A node.
 
-ghost use Rattle.std.specs.Prelude.{◌≡◌, ◌↔◌, ◌<◌, List, [], ◌∷◌, ◌++◌, true, IfOk, OnOk, IsErr, IsTrue};
+ghost use Rattle.std.specs.Prelude.{◌≡◌, ◌↔◌, ◌<◌, List, [], ◌∷◌, ◌++◌, true, false, IfOk, OnOk, OnErr, IsErr, IsTrue};
 ghost use Rattle.zre_outside.specs.declared.entry.Entry.{Entry as EntryValue};
 ghost use Rattle.zre_zmtp.specs.Looks.{IsOpenTo};
 ghost use Rattle.zre_values.specs.declared.settings.Settings.{Settings as ConfigValue};
 ghost use Rattle.zre_values.specs.Settings.{is_valid};
 ghost use Rattle.zre_journal.specs.Events.{events};
 ghost use Rattle.zre_journal.specs.Ledger.{KeepsLedgers};
-ghost use Rattle.zre_node.specs.Journal.{is_spent, StandsFor, IsStep, StepsLooks};
+ghost use Rattle.zre_node.specs.Journal.{is_spent, beginning, StandsFor, IsStep, StepsLooks};
+ghost use Rattle.zre_node.specs.Kinds.{is_piece, piece_entry};
 
 use crate::effects::{Effects, Step};
+use crate::incoming::hearing::Piece;
 use crate::tables::Tables;
 use std::alloc::Global;
 use std::marker::Brand;
 use std::sync::ledger::{Blank, Ledger};
 use zre_group::Own;
 use zre_journal::Config;
-use zre_outside::Entry;
+use zre_outside::{Entry, Input};
 use zre_tables::{Conns, Peers};
 use zre_values::{Endpoint, OutOfMemory, take_apart};
 use zre_zmtp::{Items, Steps as Counter};
@@ -137,21 +139,135 @@ impl Node {
         ensures looks { StepsLooks self.old entry steps.old steps.new result }
         ensures none { IsTrue (is_spent self.old) → steps.new ≡ steps.old }
     {
-        if self.spent {
+        let Entry { at, input } = entry;
+        match input {
+            Input::Piece { conn, bytes } => {
+                let piece = Piece {
+                    at,
+                    from: conn,
+                    bytes: bytes.as_slice(),
+                };
+                self.step_lent(&piece, step, steps)
+            }
+            other => self.step_other(Entry { at, input: other }, step, steps),
+        }
+    }
+
+    // A piece of a connection, with looks counted.
+    fn step_lent<L: Ledger>(
+        &mut self,
+        piece: &Piece<'_>,
+        step: &mut Step,
+        steps: &mut Counter<L>,
+    ) -> Result<(), OutOfMemory>
+        ensures steps { (g : ConfigValue) (J : List EntryValue) → StandsFor g J self.old →
+            OnOk result (IsStep g J (piece_entry piece.now.at piece.now.from piece.now.bytes.now) self.new step.new) }
+        ensures spent { IsTrue (is_spent self.new) ↔ IsErr result }
+        ensures ended { IsTrue (is_spent self.old) → IsErr result }
+        ensures looks { StepsLooks self.old (piece_entry piece.now.at piece.now.from piece.now.bytes.now) steps.old steps.new result }
+        ensures none { IsTrue (is_spent self.old) → steps.new ≡ steps.old }
+    {
+        self.begin()?;
+        if !self.tables.stopped {
+            self.tables
+                .take_piece(&mut self.effects, &mut self.items, piece, steps)?;
+        }
+        self.finish(step);
+        Ok(())
+    }
+
+    // Another entry, with looks counted. It stands apart, since a function begins by making room for all that it may
+    // need, and most entries are pieces.
+    #[inline(never)]
+    fn step_other<L: Ledger>(
+        &mut self,
+        entry: Entry,
+        step: &mut Step,
+        steps: &mut Counter<L>,
+    ) -> Result<(), OutOfMemory>
+        requires { is_piece entry.input ≡ false }
+        ensures steps { (g : ConfigValue) (J : List EntryValue) → StandsFor g J self.old →
+            OnOk result (IsStep g J entry self.new step.new) }
+        ensures spent { IsTrue (is_spent self.new) ↔ IsErr result }
+        ensures ended { IsTrue (is_spent self.old) → IsErr result }
+        ensures looks { StepsLooks self.old entry steps.old steps.new result }
+        ensures none { IsTrue (is_spent self.old) → steps.new ≡ steps.old }
+    {
+        let Ok(()) = self.begin() else {
             let_go(entry);
+            return Err(OutOfMemory);
+        };
+        if self.tables.stopped {
+            let_go(entry);
+        } else {
+            self.tables.take_other(&mut self.effects, entry, steps)?;
+        }
+        self.finish(step);
+        Ok(())
+    }
+
+    // An entry comes. Until it is taken, the node counts as spent.
+    #[inline(always)]
+    fn begin(&mut self) -> Result<(), OutOfMemory>
+        ensures ok { OnOk result ((is_spent self.old ≡ false) × (self.new ≡ beginning self.old)) }
+        ensures err { OnErr result ((is_spent self.old ≡ true) × (self.new ≡ self.old)) }
+    {
+        if self.spent {
             return Err(OutOfMemory);
         }
         self.spent = true;
         self.effects.clear();
-        if self.tables.stopped {
-            let_go(entry);
-        } else {
-            self.tables
-                .take(&mut self.effects, &mut self.items, entry, steps)?;
-        }
+        Ok(())
+    }
+
+    // An entry was taken: what it tells and asks for is handed over.
+    #[inline(always)]
+    fn finish(&mut self, step: &mut Step)
+        ensures node { (self.new.tables ≡ self.old.tables) × (is_spent self.new ≡ false) }
+        ensures step { step.new ≡ record { events = self.old.effects.events; acts = self.old.effects.acts } }
+    {
         self.spent = false;
         self.effects.hand_to(step);
-        Ok(())
+    }
+
+    /// `step_into` with a piece of a connection, which is lent: the same as with the entry that owns its octets.
+    pub fn step_piece(
+        &mut self,
+        at: u64,
+        conn: u64,
+        bytes: &[u8],
+        step: &mut Step,
+    ) -> Result<(), OutOfMemory>
+        ensures steps { (g : ConfigValue) (J : List EntryValue) → StandsFor g J self.old →
+            OnOk result (IsStep g J (piece_entry at conn bytes.now) self.new step.new) }
+        ensures ledgers { (g : ConfigValue) (J : List EntryValue) → StandsFor g J self.old →
+            OnOk result (KeepsLedgers g (J ++ piece_entry at conn bytes.now ∷ []) (events g J ++ step.new.events)) }
+        ensures spent { IsTrue (is_spent self.new) ↔ IsErr result }
+        ensures ended { IsTrue (is_spent self.old) → IsErr result }
+    {
+        let piece = Piece {
+            at,
+            from: conn,
+            bytes,
+        };
+        self.step_lent_from::<Brand>(&piece, step, Blank::new(1))
+    }
+
+    // A lent piece, for a caller that counts nothing.
+    fn step_lent_from<L: Ledger>(
+        &mut self,
+        piece: &Piece<'_>,
+        step: &mut Step,
+        blank: Blank,
+    ) -> Result<(), OutOfMemory>
+        requires blank { IsOpenTo L.name L.parts blank.name blank.parts }
+        ensures steps { (g : ConfigValue) (J : List EntryValue) → StandsFor g J self.old →
+            OnOk result (IsStep g J (piece_entry piece.now.at piece.now.from piece.now.bytes.now) self.new step.new) }
+        ensures spent { IsTrue (is_spent self.new) ↔ IsErr result }
+        ensures ended { IsTrue (is_spent self.old) → IsErr result }
+    {
+        let mut steps = Counter::<L>::new(blank);
+        self.step_lent(piece, step, &mut steps)
     }
 
     // The same for a caller that counts nothing.

@@ -8,14 +8,13 @@ ghost use Rattle.zre_journal.specs.Chronicle.{Mark};
 ghost use Rattle.zre_journal.specs.Happens.{at_input};
 ghost use Rattle.zre_journal.specs.Commands.{at_stop};
 ghost use Rattle.zre_node.specs.Journal.{Takes, TakesLooks, Took};
-ghost use Rattle.zre_node.specs.Kinds.{is_incoming, is_piece};
+ghost use Rattle.zre_node.specs.Kinds.{is_incoming, is_piece, piece_entry};
 ghost use Rattle.zre_node.specs.Stands.{Holds, Did};
 
 use crate::effects::Effects;
 use crate::incoming::hearing::Piece;
 use crate::outgoing::links::note;
 use crate::tables::Tables;
-use std::mem;
 use std::sync::ledger::Ledger;
 use zre_outside::{Command, Entry, Input};
 use zre_values::OutOfMemory;
@@ -63,10 +62,9 @@ impl Tables {
         self.stop(out)
     }
 
-    // What an entry other than a piece brings. It stands apart from `take`, since a function begins by making room for
-    // all that it may need, and most entries are pieces.
+    /// What an entry other than a piece brings, where the node hasn't stopped.
     #[inline(never)]
-    fn take_other<L: Ledger>(
+    pub fn take_other<L: Ledger>(
         &mut self,
         out: &mut Effects,
         entry: Entry,
@@ -94,34 +92,22 @@ impl Tables {
         }
     }
 
-    /// What an entry brings, where the node hasn't stopped. The list is for what becomes whole with a piece, and serves
-    /// again and again.
-    pub fn take<L: Ledger>(
+    /// What a piece of a connection brings, where the node hasn't stopped. The list is for what becomes whole with it,
+    /// and serves again and again.
+    pub fn take_piece<L: Ledger>(
         &mut self,
         out: &mut Effects,
         items: &mut Items,
-        entry: Entry,
+        piece: &Piece<'_>,
         steps: &mut Steps<L>,
     ) -> Result<(), OutOfMemory>
-        ensures took { Takes entry self.old self.new out.old out.new result }
-        ensures looks { TakesLooks entry self.old steps.old steps.new result }
+        ensures took { Takes (piece_entry piece.now.at piece.now.from piece.now.bytes.now) self.old self.new out.old out.new result }
+        ensures looks { TakesLooks (piece_entry piece.now.at piece.now.from piece.now.bytes.now) self.old steps.old steps.new result }
     {
-        let Entry { at, input } = entry;
-        match input {
-            Input::Piece { conn, bytes } => {
-                let mut list = mem::replace(items, Items::new(self.alloc));
-                list.clear();
-                let piece = Piece {
-                    at,
-                    from: conn,
-                    bytes: bytes.as_slice(),
-                };
-                let heard = self.come_piece(&piece, list, steps)?;
-                self.said(out, conn, &heard)?;
-                *items = heard.emptied();
-                self.offer(out)
-            }
-            other => self.take_other(out, Entry { at, input: other }, steps),
-        }
+        items.clear();
+        let fault = self.come_piece(piece, items, steps)?;
+        self.said(out, piece.from, items.as_slice(), fault)?;
+        items.clear();
+        self.offer(out)
     }
 }

@@ -20,7 +20,7 @@ use zre_mailbox::{Arrival, arrival_of};
 use zre_msg::Message;
 use zre_peer::{Cause, CloseWhy};
 use zre_values::{OutOfMemory, PeerId};
-use zre_zmtp::{Item, Items, SocketType, What, ZmtpFault, pong, ready};
+use zre_zmtp::{Item, SocketType, What, ZmtpFault, pong, ready};
 
 /// What a live connection runs, and whom it introduced.
 #[derive(Clone, Copy)]
@@ -29,15 +29,6 @@ pub struct Standing {
     pub run: Option<u64>,
     /// Whom its READY introduced.
     pub identity: Option<PeerId>,
-}
-
-/// What a piece completes of what its connection says.
-#[derive(Drop)]
-pub struct Completed {
-    /// What is whole, in order.
-    pub items: Items,
-    /// The fault that ends it, if there is one.
-    pub fault: Option<ZmtpFault>,
 }
 
 impl Tables {
@@ -217,17 +208,18 @@ impl Tables {
         self.close(out, conn, CloseWhy::Zmtp(fault))
     }
 
-    /// All that a piece completed of what its connection says.
+    /// All that a piece completed of what its connection says: what is whole, in order, and the fault that ends it.
     pub fn said(
         &mut self,
         out: &mut Effects,
         conn: u64,
-        heard: &Completed,
+        items: &[Item],
+        fault: Option<ZmtpFault>,
     ) -> Result<(), OutOfMemory>
         ensures { (g : Config) (K : List Mark) → Holds g K self.old →
-            OnOk result (Did g (at_places g conn (said_in heard.now) K) K self.new out.old out.new) }
+            OnOk result (Did g (at_places g conn (said_in items.now fault) K) K self.new out.old out.new) }
     {
-        self.arrive_all(out, conn, heard.items.as_slice())?;
-        self.fault(out, conn, heard.fault)
+        self.arrive_all(out, conn, items)?;
+        self.fault(out, conn, fault)
     }
 }

@@ -12,11 +12,10 @@ ghost use Rattle.zre_journal.specs.Arrivals.{at_places};
 ghost use Rattle.zre_node.specs.Said.{said_in};
 ghost use Rattle.zre_node.specs.Stands.{Holds, is_quiet};
 
-use crate::incoming::arrivals::Completed;
 use crate::tables::Tables;
 use std::sync::ledger::Ledger;
 use zre_values::OutOfMemory;
-use zre_zmtp::{Items, Steps};
+use zre_zmtp::{Items, Steps, ZmtpFault};
 
 /// A piece that comes.
 #[derive(Clone, Copy)]
@@ -29,17 +28,6 @@ pub struct Piece<'a> {
     pub bytes: &'a [u8],
 }
 
-impl Completed {
-    /// The list again, emptied.
-    pub fn emptied(self) -> Items
-        ensures { result ≡ [] }
-    {
-        let Completed { mut items, .. } = self;
-        items.clear();
-        items
-    }
-}
-
 impl Tables {
     /// The clock goes on to the reading of an entry.
     pub fn come(&mut self, at: u64)
@@ -49,28 +37,25 @@ impl Tables {
         self.clock = at.max(self.clock);
     }
 
-    /// The same, with a piece of a connection: what it completes of what that connection says, in a list that is
-    /// handed over empty.
+    /// The same, with a piece of a connection: what it completes of what that connection says goes into an empty list,
+    /// and the fault that ends it, if there is one, comes back.
     pub fn come_piece<L: Ledger>(
         &mut self,
         piece: &Piece<'_>,
-        mut items: Items,
+        items: &mut Items,
         steps: &mut Steps<L>,
-    ) -> Result<Completed, OutOfMemory>
-        requires { items ≡ [] }
+    ) -> Result<Option<ZmtpFault>, OutOfMemory>
+        requires { items.old ≡ [] }
         ensures came { (g : Config) (H : List Mark) (e : Entry) → e.at ≡ piece.now.at
             → e.input ≡ input.Piece piece.now.from piece.now.bytes.now → Holds g H self.old →
-            IfOk result (λ heard. Holds g (Comes e ∷ H) self.new
-            × (at_places g piece.now.from (said_in heard) (Comes e ∷ H)
+            IfOk result (λ fault. Holds g (Comes e ∷ H) self.new
+            × (at_places g piece.now.from (said_in items.new fault) (Comes e ∷ H)
             ≡ at_places g piece.now.from (newly_completed g.id piece.now.from H (Comes e ∷ H)) (Comes e ∷ H))) }
         ensures looks { (g : Config) (H : List Mark) (e : Entry) →
             e.input ≡ input.Piece piece.now.from piece.now.bytes.now → Holds g H self.old →
             Looks steps.old steps.new (kept g H) (kept g (Comes e ∷ H)) (length piece.now.bytes.now) result }
     {
         self.clock = piece.at.max(self.clock);
-        match self.conns.feed(piece.from, piece.bytes, &mut items, steps) {
-            Ok(fault) => Ok(Completed { items, fault }),
-            Err(none) => Err(none),
-        }
+        self.conns.feed(piece.from, piece.bytes, items, steps)
     }
 }
