@@ -72,7 +72,7 @@ differing-decimal before k lt =
 differing-minus : (before k : ℕ) → k < 2 ^ 64 → differing before (45 ∷ decimal k) ≡ before - k
 differing-minus before k lt = ap (λ (v : ℕ). before - v) (decimal_is_IsNumeral k lt).1
 
-difference-up : (before at : ℕ) → before ≤ at → difference before at ≡ decimal (at - before)
+pub difference-up : (before at : ℕ) → before ≤ at → difference before at ≡ decimal (at - before)
 difference-up before at le = rw (le-leb before at le) refl
 
 difference-down : (before at : ℕ) → leb before at ≡ false → difference before at ≡ 45 ∷ decimal (before - at)

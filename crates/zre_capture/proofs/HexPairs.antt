@@ -13,7 +13,7 @@ use Rattle.hex.proofs.HexLemmas.{length-encode_with, decode_of-even}
 use Rattle.hex.proofs.Pairs.{cons_byte, decode_pairs-ok_pair}
 use Rattle.zre_capture.specs.Lines.{hex_text}
 use Rattle.zre_capture.specs.Values.{is_lower_digit, hex_of, decoded}
-use Rattle.zre_capture.proofs.Spelled.{spelled-one, found, some_is, text_or_tested, hex_of-some, hex_of-text}
+use Rattle.zre_capture.proofs.Spelled.{spelled-one, some_is, text_or_tested, hex_of-some, hex_of-text}
 
 -- the value of a digit, and the octets of pairs of digits
 abbrev pub value : ℕ → ℕ
@@ -27,7 +27,7 @@ pair_octets (a ∷ b ∷ rest) = (value a * 16 + value b) ∷ pair_octets rest
 has_value : (c : ℕ) → is_lower_digit c ≡ true → hex_digit_value c ≡ Some (value c)
 has_value c e = grind (arith, nat_tests, e)
 
-value_below : (c : ℕ) → is_lower_digit c ≡ true → value c < 16
+pub value_below : (c : ℕ) → is_lower_digit c ≡ true → value c < 16
 value_below c e = grind (arith, nat_tests, e)
 
 -- the digit at a place of the table
@@ -136,10 +136,6 @@ pairs-some s h =
     let p = are_pairs-true s h in
     let same : decoded s ≡ pair_octets s = ap (λ (r : Result (List ℕ) FromHexError). result_unwrap_or r []) (decode_of-even s p.even ∙ decode-pairs 0 s p.even p.digits) in
     spelled-one hex_text _ (decoded s) s (pair_octets s) same (ap (list_all (λ b. ltb b 256)) same ∙ pairs-fit s p.digits) (text_of_some s (pair_octets s) p.some (encode-pairs s p.even p.digits))
-
-pub hex_of-decoded : (s v : List ℕ) → hex_of s ≡ Some v → decoded s ≡ v
-unfolding hex_of
-hex_of-decoded s v e = (found hex_text _ (decoded s) s v e).same
 
 pub encoded-lower : (v : List ℕ) → All (λ b. b < 2 ^ 8) v → lower (encode_lower v) ≡ true
 unfolding encode_with

@@ -1,3 +1,4 @@
+pub mod DigitTable
 pub mod Draws
 pub mod Exercise
 pub mod Formats

@@ -1,17 +1,22 @@
 //! Octets in their hexadecimal text.
 
-ghost use Rattle.std.specs.Prelude.{◌≡◌, ◌≤◌, ◌==◌, ◌%◌, ◌&&◌, ◌++◌, nat_lt, length, is_some, IfOk, OnOk};
+ghost use Rattle.std.specs.Prelude.{◌≡◌, ◌<◌, ◌+◌, ◌*◌, ◌≤◌, ◌==◌, ◌%◌, ◌&&◌, ◌++◌, if◌then◌else◌, Some, None, nat_lt, length, is_some, IfOk, OnOk};
 ghost use Rattle.std.specs.List.{list_all};
 ghost use Rattle.hex.specs.Hex.{encode_lower};
+ghost use Rattle.zre_capture.specs.DigitTable.{pair_row};
 ghost use Rattle.zre_capture.specs.Lines.{hex_text};
 ghost use Rattle.zre_capture.specs.Values.{hex_of, is_lower_digit};
 
-use hex::{decode, encode_to_slice};
+use crate::digit_table::digit_row;
+use hex::encode_to_slice;
 use std::alloc::Global;
 use zre_values::{Octets, OutOfMemory};
 
 /// As many octets as are turned into digits in one go.
 const TURN: usize = 256;
+
+/// As many octets as need no memory.
+const FEW: usize = 32;
 
 // Two digits for each of a few octets.
 fn push_turn(out: &mut Octets, bytes: &[u8]) -> Result<(), OutOfMemory>
@@ -22,7 +27,7 @@ fn push_turn(out: &mut Octets, bytes: &[u8]) -> Result<(), OutOfMemory>
     let digits = &mut buffer[..2 * bytes.len()];
     match encode_to_slice(bytes, digits) {
         Ok(()) => out.append(digits),
-        Err(_) => Err(OutOfMemory),
+        Err(_) => unreachable!(),
     }
 }
 
@@ -83,18 +88,84 @@ pub fn is_hex(field: &[u8]) -> bool
     field == b"-".as_slice() || are_pairs(field)
 }
 
-/// The octets of a field, decoded into memory of their own. A field that is none takes no memory.
+// The octet of the pair of digits at this place, or a greater number where they aren't both digits.
+#[inline(always)]
+fn pair(digits: &[u8], i: usize) -> u16
+    requires { 2 * i + 1 < length digits.now }
+    ensures { result ≡ pair_row digits.now i }
+{
+    16 * digit_row(digits[2 * i]) + digit_row(digits[2 * i + 1])
+}
+
+// The octets of pairs of digits. Whether all are digits: the loops go on after another octet, which costs less than to
+// stop at it.
+fn decode(room: &mut [u8], digits: &[u8]) -> bool
+    requires two { length digits.now ≡ 2 * length room.old }
+    requires some { 0 < length room.old }
+    ensures { (if result then Some room.new else None) ≡ hex_of digits.now }
+{
+    let mut all: u16 = 0;
+    let mut i: usize = 0;
+    'fours: while 4 <= room.len() - i {
+        let first = pair(digits, i);
+        let second = pair(digits, i + 1);
+        let third = pair(digits, i + 2);
+        let fourth = pair(digits, i + 3);
+        all = all | first | second | third | fourth;
+        room[i] = (first % 256) as u8;
+        room[i + 1] = (second % 256) as u8;
+        room[i + 2] = (third % 256) as u8;
+        room[i + 3] = (fourth % 256) as u8;
+        i += 4;
+    }
+    'pairs: while i < room.len() {
+        let octet = pair(digits, i);
+        all |= octet;
+        room[i] = (octet % 256) as u8;
+        i += 1;
+    }
+    all < 256
+}
+
+// Of few octets, which need no memory.
+fn decode_few(alloc: Global, digits: &[u8]) -> Result<Option<Octets>, OutOfMemory>
+    requires even { length digits.now % 2 ≡ 0 }
+    requires some { 0 < length digits.now }
+    requires few { length digits.now ≤ 64 }
+    ensures { IfOk result (λ found. found ≡ hex_of digits.now) }
+{
+    let mut room = [0u8; FEW];
+    let octets = &mut room[..digits.len() / 2];
+    if !decode(octets, digits) {
+        return Ok(None);
+    }
+    Ok(Some(Octets::copy(alloc, octets)?))
+}
+
+fn decode_many(alloc: Global, digits: &[u8]) -> Result<Option<Octets>, OutOfMemory>
+    requires even { length digits.now % 2 ≡ 0 }
+    requires some { 0 < length digits.now }
+    ensures { IfOk result (λ found. found ≡ hex_of digits.now) }
+{
+    let mut octets = vec![in alloc; 0u8; digits.len() / 2]?;
+    if !decode(octets.as_mut_slice(), digits) {
+        return Ok(None);
+    }
+    Ok(Some(Octets::from_vec(octets)))
+}
+
+/// The octets of a field. Up to 32 need no memory; more take it before their digits are looked at.
 pub fn hex(alloc: Global, field: &[u8]) -> Result<Option<Octets>, OutOfMemory>
     ensures { IfOk result (λ found. found ≡ hex_of field.now) }
 {
     if field == b"-".as_slice() {
         return Ok(Some(Octets::new(alloc)));
     }
-    if !is_hex(field) {
+    if field.is_empty() || field.len() % 2 != 0 {
         return Ok(None);
     }
-    match decode(alloc, field) {
-        Ok(octets) => Ok(Some(Octets::from_vec(octets))),
-        Err(_) => Err(OutOfMemory),
+    if field.len() <= 2 * FEW {
+        return decode_few(alloc, field);
     }
+    decode_many(alloc, field)
 }

@@ -2,6 +2,8 @@
 //! settings of the node too. Beside them stands the exercise, a large journal that is made from a number.
 #![tactic(auto)]
 
+mod digit_table;
+mod direct;
 mod draws;
 mod exercise;
 mod fault;

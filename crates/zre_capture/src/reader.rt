@@ -13,6 +13,7 @@ ghost use Rattle.zre_capture.specs.Journal.{after_line, bad_line, settings, form
 ghost use Rattle.zre_capture.specs.Journal.{AddsFront, Refuses, bad, bad_at_end};
 ghost use Rattle.zre_capture.specs.declared.format.Format.TheVariants.{First, Second};
 
+use crate::direct::read_direct;
 use crate::fault::{BadCapture, CaptureFault};
 use crate::format::Format;
 use crate::line_start::LineStart;
@@ -41,6 +42,8 @@ fn long_column(place: LineStart, front: &[u8]) -> u64
 }
 
 // Reads the head line. Whether it is one; the settings that it says are kept.
+#[cold]
+#[inline(never)]
 fn read_head(
     alloc: Global,
     format: Format,
@@ -64,7 +67,8 @@ fn read_head(
     }
 }
 
-// Reads the line of an entry, and gives the reading of that.
+// Reads the line of an entry by its fields, and gives the reading of that.
+#[inline(never)]
 fn read_entry(
     alloc: Global,
     place: LineStart,
@@ -106,6 +110,9 @@ fn read_line(
     if place.line == 1 {
         let is_head = read_head(alloc, place.format, told, text)?;
         return Ok(if is_head { Some(place.before) } else { None });
+    }
+    if let Some(at) = read_direct(alloc, place.format, place.before, text, out)? {
+        return Ok(Some(at));
     }
     read_entry(alloc, place, text, out)
 }
