@@ -1,6 +1,7 @@
 //! Octets in their hexadecimal text.
 
-ghost use Rattle.std.specs.Prelude.{◌≡◌, ◌<◌, ◌+◌, ◌*◌, ◌≤◌, ◌==◌, ◌%◌, ◌&&◌, ◌++◌, if◌then◌else◌, Some, None, nat_lt, length, is_some, IfOk, OnOk};
+ghost use Rattle.std.specs.Prelude.{◌≡◌, ◌<◌, ◌+◌, ◌*◌, ◌≤◌, ◌==◌, ◌%◌, ◌&&◌, ◌++◌, if◌then◌else◌};
+ghost use Rattle.std.specs.Prelude.{Some, None, nat_lt, length, is_some, IfOk, OnOk};
 ghost use Rattle.std.specs.List.{list_all};
 ghost use Rattle.hex.specs.Hex.{encode_lower};
 ghost use Rattle.zre_capture.specs.DigitTable.{pair_row};

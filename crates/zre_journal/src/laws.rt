@@ -48,8 +48,8 @@ ghost use Rattle.zre_journal.specs.Cleaning.{IsClean};
 ghost use Rattle.zre_journal.specs.Cutting.{IsSameCut};
 ghost use Rattle.zre_journal.specs.Spoken.{AreInTurn, FollowsMessages};
 
-/// What is told in the chronicle of a journal is just the journal's events, in order: those whose lines `replay`, `chat`
-/// and `simulate` write.
+/// What is told in the chronicle of a journal is just the journal's events, in order: those whose lines `replay`,
+/// `chat` and `simulate` write.
 pub fn what_is_told_are_the_events()
     ensures { (g : Config) (J : List Entry) → told_in (chronicle g J) ≡ events g J }
 {}

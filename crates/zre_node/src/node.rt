@@ -164,7 +164,8 @@ impl Node {
             OnOk result (IsStep g J (piece_entry piece.now.at piece.now.from piece.now.bytes.now) self.new step.new) }
         ensures spent { IsTrue (is_spent self.new) ↔ IsErr result }
         ensures ended { IsTrue (is_spent self.old) → IsErr result }
-        ensures looks { StepsLooks self.old (piece_entry piece.now.at piece.now.from piece.now.bytes.now) steps.old steps.new result }
+        ensures looks { StepsLooks self.old (piece_entry piece.now.at piece.now.from piece.now.bytes.now)
+            steps.old steps.new result }
         ensures none { IsTrue (is_spent self.old) → steps.new ≡ steps.old }
     {
         self.begin()?;

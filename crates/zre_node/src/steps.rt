@@ -101,8 +101,10 @@ impl Tables {
         piece: &Piece<'_>,
         steps: &mut Steps<L>,
     ) -> Result<(), OutOfMemory>
-        ensures took { Takes (piece_entry piece.now.at piece.now.from piece.now.bytes.now) self.old self.new out.old out.new result }
-        ensures looks { TakesLooks (piece_entry piece.now.at piece.now.from piece.now.bytes.now) self.old steps.old steps.new result }
+        ensures took { Takes (piece_entry piece.now.at piece.now.from piece.now.bytes.now)
+            self.old self.new out.old out.new result }
+        ensures looks { TakesLooks (piece_entry piece.now.at piece.now.from piece.now.bytes.now)
+            self.old steps.old steps.new result }
     {
         items.clear();
         let fault = self.come_piece(piece, items, steps)?;
