@@ -8,6 +8,7 @@ use Rattle.zre_values.specs.declared.limits.TheConstants.{PEERS, CONNECTIONS, UN
 use Rattle.zre_values.specs.declared.peer_id.PeerId.{PeerId}
 use Rattle.zre_values.specs.declared.endpoint.Endpoint.{Endpoint}
 use Rattle.zre_values.specs.Endpoint.{endpoint_in}
+use Rattle.zre_values.proofs.Digits.{bytes_eq-same}
 use Rattle.zre_mailbox.specs.declared.arrival.Arrival.TheVariants as arrival
 use Rattle.zre_mailbox.specs.Talk.{Said, Arrived, Fault}
 use Rattle.zre_msg.specs.declared.message.Body.{Body}
@@ -25,7 +26,7 @@ use Rattle.zre_peer.specs.declared.causes.CloseWhy.{CloseWhy}
 use Rattle.zre_peer.specs.declared.causes.CloseWhy.TheVariants as close
 use Rattle.zre_values.specs.declared.settings.Settings.{Settings as Config}
 use Rattle.zre_journal.specs.Arrivals.{end_of_run, taken_over, start_unknown, start, at_first, answer_to, at_later, at_message, at_shaken, at_said, at_place, at_places}
-use Rattle.zre_journal.specs.Chronicle.{Mark, Comes, Opens, TurnsAway, Greets, Shakes, AnswersPing, Starts, Counts, Ignores, Closes, IsShut, Born, Ends, Puts, after, ever}
+use Rattle.zre_journal.specs.Chronicle.{Mark, Comes, Opens, TurnsAway, Greets, Shakes, AnswersPing, Starts, Counts, Ignores, Closes, IsShut, ClosesAtStop, Born, Ends, Puts, after, ever}
 use Rattle.zre_journal.specs.Connections.{open_ones, is_open, is_new, identity, started, refuses, runs, is_live, other_with, is_same, others}
 use Rattle.zre_journal.specs.Events.{chronicle}
 use Rattle.zre_journal.specs.Happens.{has_stopped, at_input, marks, with_entry}
@@ -41,7 +42,7 @@ use Rattle.zre_journal.proofs.Brought.{Ground, allowed}
 use Rattle.zre_journal.proofs.Isolation.{identity_kept, left_alone, itself_kept}
 use Rattle.zre_journal.proofs.Joined.{after-append}
 use Rattle.zre_journal.proofs.Known.{known_of, same_id, id_of, newborn_known}
-use Rattle.zre_journal.proofs.Listed.{eqb-comm, found_passes, some_is}
+use Rattle.zre_journal.proofs.Listed.{eqb-comm, found_passes, some_is, any_left, none_any}
 use Rattle.zre_journal.proofs.Says.{place_outcome, input_allowed}
 use Rattle.zre_journal.proofs.Sayings.{MaySay, newly_fine}
 use Rattle.zre_journal.proofs.Silent.{has_started, run_is, Comes-proper}
@@ -277,6 +278,49 @@ module _ (g : Config) (c : ℕ) (who : Option PeerId) where
         let r = same_marks hs (h ∷ X) a.1 (λ p z y. f p z (sym s.who_ ∙ y)) in
         record { open_ = r.open_ ∙ s.open_; who_ = r.who_ ∙ s.who_; octets_ = r.octets_ ∙ s.octets_; run_ = r.run_ ∙ s.run_; refused_ = r.refused_ ∙ s.refused_ }
 
+    -- ---- taking over
+
+    left_closed : (e : ℕ) (xs : List ℕ) → list_any (eqb d) xs ≡ false → list_any (eqb d) (others e xs) ≡ false
+    left_closed e xs n = by (list_any (eqb d) (others e xs)) refl
+      where
+        by : (b : Bool) → list_any (eqb d) (others e xs) ≡ b → b ≡ false
+        by false z = refl
+        by true z = absurd (true≢false (sym (any_left e d xs z) ∙ n))
+
+    closed_mark : (h : Mark) (X : List Mark) → IsDoneOn c who h X → is_open d X ≡ false → is_open d (h ∷ X) ≡ false
+    closed_mark (Opens e) X a n = among_more e (open_ones X) (not_it e a) ∙ n
+    closed_mark (Closes e why) X a n = left_closed e (open_ones X) n
+    closed_mark (IsShut e) X a n = left_closed e (open_ones X) n
+    closed_mark (ClosesAtStop e) X a n = absurd a
+    closed_mark _ X a n = n
+
+    closed_marks : (hs X : List Mark) → Done hs X → is_open d X ≡ false → is_open d (after hs X) ≡ false
+    closed_marks [] X a n = n
+    closed_marks (h ∷ hs) X a n = closed_marks hs (h ∷ X) a.1 (closed_mark h X a.0 n)
+
+    none_there : (t : ℕ → Bool) (xs : List ℕ) → list_any t xs ≡ false → t d ≡ true → list_any (eqb d) xs ≡ false
+    none_there t [] n z = refl
+    none_there t (x ∷ xs) n z = by (λ f. none_there t xs f z) (eqb d x) refl (t x) refl n
+      where
+        by : (list_any t xs ≡ false → list_any (eqb d) xs ≡ false) → (b : Bool) → eqb d x ≡ b → (s : Bool) → t x ≡ s → (s || list_any t xs) ≡ false → (b || list_any (eqb d) xs) ≡ false
+        by r true q true y f = cc
+        by r true q false y f = absurd (true≢false (sym z ∙ ap t (eqb-true d x q) ∙ y))
+        by r false q true y f = cc
+        by r false q false y f = r f
+
+    -- as c introduces itself as p, no other open connection has that identity
+    gives_way : (p : PeerId) (hs X : List Mark) → Allowed hs X → Done hs X → identity c X ≡ None → identity c (after hs X) ≡ Some p → identity d X ≡ Some p → is_open d (after hs X) ≡ false
+    gives_way p [] X m a none some there = absurd (let n : None ≡ Some p = sym none ∙ some in cc)
+    gives_way p (Shakes e r ∷ hs) X m a none some there =
+        let me : eqb c e ≡ true = eq-eqb c e (sym a.0.0) in
+        let now : identity c (Shakes e r ∷ X) ≡ Some r = rw me refl in
+        let both_ : Some r ≡ Some p = sym (identity_kept c r hs (Shakes e r ∷ X) m.1 now) ∙ some in
+        let same : r ≡ p = cc in
+        let off : eqb e d ≡ false = ne_eqb e d (λ q. other (sym q ∙ a.0.0)) in
+        let test : (not (eqb e d) && is_same r (identity d X)) ≡ true = rw (off, there) (bytes_eq-same r.0 p.0 (ap (λ (i : PeerId). i.0) same)) in
+        closed_marks hs (Shakes e r ∷ X) a.1 (none_there (λ x. not (eqb e x) && is_same r (identity x X)) (open_ones X) (none_any (λ x. not (eqb e x) && is_same r (identity x X)) (open_ones X) m.0.2) test)
+    gives_way p (h ∷ hs) X m a none some there = gives_way p hs (h ∷ X) m.1 a.1 none some there
+
 -- ---- the journal
 
 -- no octets of another connection come with such an entry
@@ -310,10 +354,21 @@ module _ (g : Config) (earlier : List Entry) (e : Entry) (c : ℕ) (about : is_a
       let s = same_marks g c (identity c (with_entry g e H)) d other (marks g e H) M all_done apart in
       record { stands = s.open_; who = s.who_; octets = s.octets_ ∙ no_octets c d e H about other; run = s.run_; refused = s.refused_ }
 
+  gave_way : (d : ℕ) (p : PeerId) → d ≢ c → identity c H ≡ None → identity c (with_entry g e H) ≡ Some p → identity d H ≡ Some p → is_open d (with_entry g e H) ≡ false
+  gave_way d p other none some there = gives_way g c (identity c (with_entry g e H)) d other p (marks g e H) M may all_done none some there
+    where
+      may : Allowed (marks g e H) (Comes e ∷ H)
+      may = by (has_stopped H)
+        where
+          by : (b : Bool) → Allowed (cond b [] (at_input g e.input H (Comes e ∷ H))) (Comes e ∷ H)
+          by true = tt
+          by false = input_allowed g e.input H (Comes e ∷ H) (Comes-proper H (is_proper g earlier) e)
+
 pub isolates : (g : Config) (J : List Entry) → Isolates g J
 isolates g J = record {
   peers = λ earlier e later c p in_journal about far. left_alone g earlier e c about p far;
   conns = λ earlier e later c d in_journal about other apart. left_conn g earlier e c about d other apart;
+  takes_over = λ earlier e later c d p in_journal about other none some there. gave_way g earlier e c about d p other none some there;
   itself = λ earlier e later c in_journal about. let k = itself_kept g earlier e c about in (k.own_groups, k.own_status, k.stopped);
   does = λ earlier e later c front rest h in_journal about is.
       each_at g c (identity c (with_entry g e (chronicle g earlier))) front rest h (Comes e ∷ chronicle g earlier) (subst (λ hs. Each (IsDoneOn c (identity c (with_entry g e (chronicle g earlier)))) hs (Comes e ∷ chronicle g earlier)) is (all_done g earlier e c about));

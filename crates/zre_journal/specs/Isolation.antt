@@ -1,6 +1,6 @@
 -- What comes on one connection, and what it leaves as it is: every peer but the one that the connection introduced
 -- itself as, and every other connection but those of that peer. And all that it can do.
-use Rattle.std.specs.Prelude.{◌≡◌, ◌≢◌, ℕ, ◌+◌, max, Bool, true, false, List, ◌∷◌, ◌++◌, Option, Some, nat_eq}
+use Rattle.std.specs.Prelude.{◌≡◌, ◌≢◌, ℕ, ◌+◌, max, Bool, true, false, List, ◌∷◌, ◌++◌, Option, Some, None, nat_eq}
 use Rattle.std.specs.List.{list_any}
 use Rattle.zre_values.specs.declared.peer_id.PeerId.{PeerId}
 use Rattle.zre_peer.specs.declared.causes.CloseWhy.TheVariants as close
@@ -92,8 +92,9 @@ IsDoneOn c who (Puts l b) K = IsLinkOf who l K
 IsDoneOn c who _ K = ⊥
 
 -- What comes on c, and its end, leaves every peer alone but the one that c has introduced itself as, by then, and every
--- other connection but one of that identity; and the node's own groups and status, and whether it has stopped. All that
--- comes about is its own doing, and the clock goes on to the entry's reading.
+-- other connection but one of that identity, which isn't open any more once c has introduced itself so; and the node's
+-- own groups and status, and whether it has stopped. All that comes about is its own doing, and the clock goes on to the
+-- entry's reading.
 pub record Isolates (g : Config) (J : List Entry) : Type 0 where
   pub peers : (earlier : List Entry) (e : Entry) (later : List Entry) (c : ℕ) (p : PeerId) → J ≡ earlier ++ e ∷ later
       → is_about c e.input ≡ true → let H = chronicle g earlier in identity c (with_entry g e H) ≢ Some p
@@ -101,6 +102,10 @@ pub record Isolates (g : Config) (J : List Entry) : Type 0 where
   pub conns : (earlier : List Entry) (e : Entry) (later : List Entry) (c d : ℕ) → J ≡ earlier ++ e ∷ later
       → is_about c e.input ≡ true → d ≢ c → let H = chronicle g earlier in let K = with_entry g e H in
       ((p : PeerId) → identity c K ≡ Some p → identity d H ≢ Some p) → IsConnAsBefore d H K
+  pub takes_over : (earlier : List Entry) (e : Entry) (later : List Entry) (c d : ℕ) (p : PeerId)
+      → J ≡ earlier ++ e ∷ later → is_about c e.input ≡ true → d ≢ c → let H = chronicle g earlier in
+      let K = with_entry g e H in identity c H ≡ None → identity c K ≡ Some p → identity d H ≡ Some p
+      → is_open d K ≡ false
   pub itself : (earlier : List Entry) (e : Entry) (later : List Entry) (c : ℕ) → J ≡ earlier ++ e ∷ later
       → is_about c e.input ≡ true → let H = chronicle g earlier in let K = with_entry g e H in
       (groups K ≡ groups H) × (status K ≡ status H) × (has_stopped K ≡ has_stopped H)
