@@ -1,10 +1,17 @@
 pub mod Alarms
 pub mod Bells
+pub mod Dials
+pub mod Origins
+pub mod Paces
 pub mod Pieces
+pub mod Places
+pub mod Queues
 pub mod Readings
 pub mod RealWorlds
+pub mod ErrorClasses
 pub mod Looking
 pub mod TcpDesks
 pub mod Tokens
 pub mod NetworkFaults
 pub mod Retries
+pub mod Shares

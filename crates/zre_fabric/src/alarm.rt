@@ -1,6 +1,6 @@
 //! The alarm of a node: who fails raises it, so that nobody waits for more input.
 
-ghost use Rattle.std.specs.Prelude.{◌≡◌};
+ghost use Rattle.std.specs.Prelude.{◌≡◌, is_none, true};
 
 use std::alloc::Global;
 use std::net::{Net, Shutdown};
@@ -24,8 +24,12 @@ pub struct Alarm {
 }
 
 impl Alarm {
+    ghost use Rattle.zre_fabric.specs.Alarms.{is_silent};
+
     /// One that nobody hears.
-    pub fn silent() -> Self {
+    pub fn silent() -> Self
+        ensures { is_silent result ≡ true }
+    {
         Alarm { line: None }
     }
 
@@ -41,7 +45,9 @@ impl Alarm {
     }
 
     /// Another share of it.
-    pub fn share(&self) -> Self {
+    pub fn share(&self) -> Self
+        ensures { is_silent self.now ≡ true → is_silent result ≡ true }
+    {
         let Some(line) = &self.line else {
             return Alarm::silent();
         };
@@ -59,7 +65,9 @@ impl Alarm {
     }
 
     // What is ready to be read once it was raised.
-    pub(crate) fn descriptor(&self) -> Option<RawFd> {
+    pub(crate) fn descriptor(&self) -> Option<RawFd>
+        ensures { is_none result ≡ is_silent self.now }
+    {
         match &self.line {
             Some(line) => Some(line.far.as_raw_fd()),
             None => None,

@@ -9,11 +9,12 @@ use zre_values::OutOfMemory;
 /// So many connections wait at most. The kernel has more descriptors than these and the node's connections and links.
 const WAITING: usize = 128;
 
-/// A connection and the address that it came from.
+/// A connection, the address that it came from, and the reading at which it came.
 #[derive(Drop)]
 pub(crate) struct Arrival {
     pub(crate) stream: TcpStream,
     pub(crate) addr: [u8; 4],
+    pub(crate) at: u64,
 }
 
 /// Connections that were accepted and not read, in the order in which they came.
@@ -45,7 +46,7 @@ impl Arrivals {
             drop(came);
             return Ok(None);
         }
-        if shares.opens(addr, at) {
+        if shares.opens(addr, came.at, at) {
             return Ok(Some(came));
         }
         if self.waiting.len() >= WAITING {
@@ -63,7 +64,7 @@ impl Arrivals {
             let Some(arrival) = self.waiting.get(i) else {
                 break;
             };
-            if shares.opens(arrival.addr, at) {
+            if shares.opens(arrival.addr, arrival.at, at) {
                 return self.waiting.remove(i);
             }
         }

@@ -1,4 +1,5 @@
 ghost use Rattle.std.specs.Prelude.{◌≤◌, length, IfOk};
+ghost use Rattle.zre_fabric.specs.Origins.{IsOfBeacons};
 ghost use Rattle.zre_fabric.specs.Pieces.{StepIsShort};
 
 use crate::errors::{ErrorClass, class_of};
@@ -81,7 +82,8 @@ impl BeaconSocket {
         shares: &mut Shares,
         at: u64,
     ) -> Result<Polled, NetworkFault>
-        ensures { IfOk result (λ step. StepIsShort step) }
+        ensures short { IfOk result (λ step. StepIsShort step) }
+        ensures own { IfOk result (λ step. IsOfBeacons step) }
     {
         for _ in 0..DROPS {
             let step = self.receive(buffer, shares, at)?;
@@ -99,7 +101,8 @@ impl BeaconSocket {
         shares: &mut Shares,
         at: u64,
     ) -> Result<Polled, NetworkFault>
-        ensures { IfOk result (λ step. StepIsShort step) }
+        ensures short { IfOk result (λ step. StepIsShort step) }
+        ensures own { IfOk result (λ step. IsOfBeacons step) }
     {
         let Ok(datagram) = buffer.receive(&self.socket) else {
             return Err(NetworkFault::OutOfMemory);
@@ -118,7 +121,8 @@ impl BeaconSocket {
 // The socket is bound to an address of IPv4, so that no others send to it.
 fn entry_of(datagram: (Octets, SocketAddr), shares: &mut Shares, at: u64) -> Polled
     requires { length datagram.0 ≤ 65536 }
-    ensures { StepIsShort result }
+    ensures short { StepIsShort result }
+    ensures own { IsOfBeacons result }
 {
     let (bytes, from) = datagram;
     let SocketAddr::V4(from) = from else {

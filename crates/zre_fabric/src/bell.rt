@@ -184,7 +184,9 @@ impl Bell {
     }
 
     /// No command was found.
-    pub(crate) fn found_none(&mut self) {
+    pub(crate) fn found_none(&mut self)
+        ensures { self.new.asking ≡ 0 }
+    {
         let answers = [EMPTY; 16];
         let count = self.asking.min(answers.len());
         if count > 0 {

@@ -1,4 +1,5 @@
 ghost use Rattle.std.specs.Prelude.{IfOk};
+ghost use Rattle.zre_fabric.specs.Origins.{IsOfConn};
 ghost use Rattle.zre_fabric.specs.Pieces.{StepIsShort};
 
 use crate::polled::Polled;
@@ -46,7 +47,8 @@ impl TcpConn {
     }
 
     pub(crate) fn step(&mut self, conn: u64, buffer: &mut ReadBuffer) -> Result<Polled, OutOfMemory>
-        ensures { IfOk result (λ step. StepIsShort step) }
+        ensures short { IfOk result (λ step. StepIsShort step) }
+        ensures own { IfOk result (λ step. IsOfConn conn step) }
     {
         let Some(stream) = &mut self.stream else {
             return Ok(Polled::Last(Input::Shut { conn }));

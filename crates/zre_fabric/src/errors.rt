@@ -1,5 +1,9 @@
 //! What an error of the two sockets means that the whole node stands on, the listener and the one for beacons.
 
+ghost use Rattle.std.specs.Prelude.{◌≡◌};
+ghost use Rattle.std.specs.IoError.{error_kind, raw_os_error};
+ghost use Rattle.zre_fabric.specs.ErrorClasses.{class_by, is_passing_number, is_short_by};
+
 use std::io::{self, ErrorKind};
 
 /// What an error of the listener or of the UDP socket means for that socket.
@@ -36,7 +40,9 @@ const EHOSTDOWN: i32 = 112;
 /// ICMP messages bring about, as of a port that nobody listens on, to the next receive. Both concern one peer. A
 /// firewall refuses a connection by `EPERM`. Where the process or the system has no descriptor or no buffer left, the
 /// connection waits on, and is there at another try.
-pub fn class_of(e: &io::Error) -> ErrorClass {
+pub fn class_of(e: &io::Error) -> ErrorClass
+    ensures { result ≡ class_by (error_kind e.now) (raw_os_error e.now) }
+{
     match e.kind() {
         ErrorKind::WouldBlock => ErrorClass::NotReady,
         ErrorKind::Interrupted
@@ -54,7 +60,9 @@ pub fn class_of(e: &io::Error) -> ErrorClass {
     }
 }
 
-fn is_transient(number: Option<i32>) -> bool {
+fn is_transient(number: Option<i32>) -> bool
+    ensures { result ≡ is_passing_number number }
+{
     matches!(
         number,
         Some(ENFILE | EMFILE | ENONET | EPROTO | ENOPROTOOPT | EOPNOTSUPP | ENOBUFS | EHOSTDOWN)
@@ -62,7 +70,9 @@ fn is_transient(number: Option<i32>) -> bool {
 }
 
 /// Whether the process, or the system, is short of what a socket needs: descriptors, buffers or memory.
-pub(crate) fn is_short(e: &io::Error) -> bool {
+pub(crate) fn is_short(e: &io::Error) -> bool
+    ensures { result ≡ is_short_by (error_kind e.now) (raw_os_error e.now) }
+{
     e.kind() == ErrorKind::OutOfMemory
         || matches!(e.raw_os_error(), Some(ENFILE | EMFILE | ENOBUFS))
 }

@@ -1,6 +1,10 @@
 //! A source that waits for its input and for an alarm at the same time.
 
-ghost use Rattle.std.specs.Prelude.{◌≡◌, None};
+ghost use Rattle.std.specs.Prelude.{◌≡◌, ◌≤◌, ◌<◌, None, true, false, length, take, IfOk, OnErr, Ok};
+ghost use Rattle.std.specs.Io.{ReadsAtMost};
+ghost use Rattle.std.specs.Io.KnownBytes.{Keeps, IsAtEnd};
+ghost use Rattle.zre_outside.specs.Causes.{Rose};
+ghost use Rattle.zre_outside.specs.Told.{MovesOn};
 
 use crate::alarm::Alarm;
 use mio::unix::SourceFd;
@@ -45,11 +49,12 @@ impl<S: Drop> Drop for Heeding<S> {
 }
 
 impl<S> Heeding<S> {
-    ghost use Rattle.zre_fabric.specs.Alarms.{heeding_under};
+    ghost use Rattle.zre_fabric.specs.Alarms.{heeding_under, is_over};
 
     /// A source that heeds no alarm.
     pub fn deaf(inner: S) -> Self
-        ensures { heeding_under result ≡ inner }
+        ensures under { heeding_under result ≡ inner }
+        ensures going { is_over result ≡ false }
     {
         Heeding {
             inner,
@@ -61,7 +66,8 @@ impl<S> Heeding<S> {
     /// A source that reads this descriptor, and heeds the alarm. A file isn't waited for: its reads wait for nobody.
     /// Where the alarm is silent, or the system has no place to wait at, it heeds none.
     pub fn new<R: Net>(rt: &R, alloc: Global, inner: S, input: RawFd, alarm: Alarm) -> Self
-        ensures { heeding_under result ≡ inner }
+        ensures under { heeding_under result ≡ inner }
+        ensures going { is_over result ≡ false }
     {
         let watch = match waiting_for(rt, alloc, input, alarm) {
             Ok(watch) => Some(watch),
@@ -83,7 +89,9 @@ impl<S> Heeding<S> {
 
     // Waits until there is something to read, or the alarm is raised. True where it is.
     fn wait(&mut self) -> bool
-        ensures { heeding_under self.new ≡ heeding_under self.old }
+        ensures under { heeding_under self.new ≡ heeding_under self.old }
+        ensures over { is_over self.new ≡ result }
+        ensures stays { is_over self.old ≡ true → result ≡ true }
     {
         if !self.is_over {
             self.is_over = match &mut self.watch {
@@ -155,6 +163,8 @@ impl Watch {
 }
 
 impl<S: Source> Source for Heeding<S> {
+    ghost use Rattle.zre_fabric.specs.Alarms.{heeding_under, is_over};
+
     ghost left = { λ _. None };
 
     ghost taken = { λ _. None };
@@ -162,7 +172,27 @@ impl<S: Source> Source for Heeding<S> {
     ghost faults = { λ s. S.faults s.inner };
 
     /// Reads what the source under it gives, or nothing once the alarm was raised.
-    fn read(&mut self, buf: &mut [u8]) -> Result<usize, Failed> {
+    fn read(&mut self, buf: &mut [u8]) -> Result<usize, Failed>
+        requires { 0 < length buf.old }
+        ensures bound { ReadsAtMost result buf.new }
+        ensures moved { IfOk result (λ n. MovesOn None None None None (take n buf.new)) }
+        ensures end { IfOk result (λ n. n ≡ 0 → IsAtEnd None) }
+        ensures refused_left { OnErr result (Keeps None None) }
+        ensures refused_taken { OnErr result (Keeps None None) }
+        ensures later { S.faults (heeding_under self.old) ≤ S.faults (heeding_under self.new) }
+        ensures failed { OnErr result (Rose (S.faults (heeding_under self.old)) (S.faults (heeding_under self.new))) }
+        // Once it is over it gives nothing any more, and asks the one under it no more.
+        ensures stays { is_over self.old ≡ true → is_over self.new ≡ true }
+        ensures over { is_over self.new ≡ true → (result ≡ Ok 0) × (heeding_under self.new ≡ heeding_under self.old) }
+        // Until then it gives what the one under it gives.
+        ensures given { is_over self.new ≡ false → IfOk result (λ n. MovesOn
+            (S.left (heeding_under self.old)) (S.left (heeding_under self.new))
+            (S.taken (heeding_under self.old)) (S.taken (heeding_under self.new)) (take n buf.new)) }
+        ensures ended { is_over self.new ≡ false → IfOk result (λ n. n ≡ 0 → IsAtEnd
+            (S.left (heeding_under self.new))) }
+        ensures kept { OnErr result (Keeps (S.left (heeding_under self.old)) (S.left (heeding_under self.new))
+            × Keeps (S.taken (heeding_under self.old)) (S.taken (heeding_under self.new))) }
+    {
         if self.wait() {
             return Ok(0);
         }

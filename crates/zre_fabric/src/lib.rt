@@ -25,6 +25,9 @@
 //! - Shares: from one address 64 connections are opened at once and then 20 a second; further ones wait, accepted and
 //!   unread, 128 in all, and one address has at most 128, those that wait included. From one address 64 beacons are
 //!   given at once and then 31 a second. One address has at most 128 links, of which 32 are tried again.
+//! - At the third of closings of links to an endpoint, each within 10 seconds of the one before, connections of its
+//!   address begin to wait, accepted and unread, until a link to it has stood for 200 milliseconds, and 3 seconds at
+//!   most. So a peer that greets anew whenever it is greeted doesn't go on for ever.
 //! - Turns: a connection or a link gives at most 16 KiB at a time. One that gave so much since it last had nothing
 //!   waits behind those that gave less, and has one turn in five while there are such.
 //! - A world with a [`Bell`] looks at once where it is rung. `Ringer::with_bell` makes the bell and what rings it;
@@ -50,11 +53,12 @@
 //! the last turn was a look, and the count of faults rises in the calls that are answered with `Failed` and in no
 //! others. A look comes again after each command and after 64 entries, as said above (clauses `look` and `row` of
 //! `next`). What a turn says of sockets is told by no clause (`told` is `None`), since no contract says what a system
-//! answers. Proved of the parts: the readings of the clock never fall, a wait is no longer than 20 milliseconds, a
-//! token of the poll names its source, and when something is tried again, may happen once more, or has its turn. Of a
-//! bell nothing is proved but that a source which rings reads what the one under it gives; of an alarm, that what
-//! raises it does what the object under it does, and that a source which heeds it counts the faults of the one under
-//! it. Tested over loopback: the rest of the list above, each kind of entry, and that a failing bind fails at once.
+//! answers. Proved of the parts: the readings of the clock never fall, when a Tick is due and how long the poll waits,
+//! a token of the poll names its source, what comes of a connection or a link is an entry of just that one, and when
+//! something is tried again, waits, is counted, may happen once more, or has its turn. Of a bell nothing is proved but
+//! that a source which rings reads what the one under it gives; of an alarm, that what raises it does what the object
+//! under it does, and that a source which heeds it reads what the one under it gives, or has ended for good. Tested
+//! over loopback: the rest of the list above, each kind of entry, and that a failing bind fails at once.
 #![tactic(auto)]
 
 mod alarm;
@@ -67,6 +71,7 @@ mod entry_source;
 mod errors;
 mod fabric;
 mod heeding;
+mod hold;
 mod link;
 mod links;
 mod network_fault;

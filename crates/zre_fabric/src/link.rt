@@ -1,4 +1,6 @@
-ghost use Rattle.std.specs.Prelude.{IfOk, IfSome};
+ghost use Rattle.std.specs.Prelude.{◌≡◌, true, IsNone, IfOk, IfSome};
+ghost use Rattle.zre_fabric.specs.Dials.{is_standing, is_over as is_tried_out, due_at, stage_after_failure, heard};
+ghost use Rattle.zre_fabric.specs.Origins.{IsOfLink};
 ghost use Rattle.zre_fabric.specs.Pieces.{StepIsShort};
 
 use crate::polled::Polled;
@@ -90,7 +92,13 @@ fn progress_of(stream: &TcpStream) -> Connecting {
 
 impl TcpLink {
     /// A link that is to be dialed from a reading on, once or until it stands.
-    pub(crate) fn new(to: Endpoint, at: u64, due: u64, is_once: bool) -> Self {
+    pub(crate) fn new(to: Endpoint, at: u64, due: u64, is_once: bool) -> Self
+        ensures to { result.to ≡ to }
+        ensures stage { result.stage ≡ Stage.Waits due }
+        ensures retry { (result.retry.begun ≡ at) × (result.retry.tries ≡ 0) }
+        ensures once { result.is_once ≡ is_once }
+        ensures offered { result.offered ≡ Offered.Nothing }
+    {
         TcpLink {
             stream: None,
             to,
@@ -107,7 +115,9 @@ impl TcpLink {
     }
 
     /// What is due now, where a try may take so many milliseconds.
-    pub(crate) fn due(&self, at: u64, limit: u64) -> Due {
+    pub(crate) fn due(&self, at: u64, limit: u64) -> Due
+        ensures { result ≡ due_at self.now.stage (is_tried_out self.now at) at limit }
+    {
         let is_over = self.retry.is_over(at);
         match self.stage {
             Stage::Stands | Stage::Failed => Due::Nothing,
@@ -120,14 +130,21 @@ impl TcpLink {
     }
 
     /// A try has begun.
-    pub(crate) fn dialed(&mut self, stream: TcpStream, at: u64) {
+    pub(crate) fn dialed(&mut self, stream: TcpStream, at: u64)
+        ensures stage { self.new.stage ≡ Stage.Dials at }
+        ensures retry { (self.new.retry ≡ self.old.retry) × (self.new.to ≡ self.old.to) }
+    {
         self.stream = Some(stream);
         self.is_ready = false;
         self.stage = Stage::Dials(at);
     }
 
     /// A try has failed. Another is due later, unless it is tried once. The result says whether the link has failed.
-    pub(crate) fn failed(&mut self, at: u64, chance: u64) -> bool {
+    pub(crate) fn failed(&mut self, at: u64, chance: u64) -> bool
+        ensures once { result ≡ self.old.is_once }
+        ensures stage { self.new.stage ≡ stage_after_failure self.old at chance }
+        ensures to { self.new.to ≡ self.old.to }
+    {
         self.stream = None;
         self.stage = if self.is_once {
             Stage::Failed
@@ -138,18 +155,26 @@ impl TcpLink {
     }
 
     /// Whether it stands.
-    pub(crate) fn stands(&self) -> bool {
+    pub(crate) fn stands(&self) -> bool
+        ensures { result ≡ is_standing self.now.stage }
+    {
         matches!(self.stage, Stage::Stands)
     }
 
     /// No more tries: the link has failed.
-    pub(crate) fn give_up(&mut self) {
+    pub(crate) fn give_up(&mut self)
+        ensures { self.new.stage ≡ Stage.Failed }
+    {
         self.stream = None;
         self.stage = Stage::Failed;
     }
 
     /// The poll told of it.
-    pub(crate) fn hear(&mut self, is_writable: bool) {
+    pub(crate) fn hear(&mut self, is_writable: bool)
+        ensures ready { self.new.is_ready ≡ true }
+        ensures offered { self.new.offered ≡ heard self.old.offered is_writable }
+        ensures stage { self.new.stage ≡ self.old.stage }
+    {
         self.is_ready = true;
         if is_writable && matches!(self.offered, Offered::Waits) {
             self.offered = Offered::Took(0);
@@ -184,7 +209,8 @@ impl TcpLink {
         chance: u64,
         buffer: &mut ReadBuffer,
     ) -> Result<Polled, OutOfMemory>
-        ensures { IfOk result (λ step. StepIsShort step) }
+        ensures short { IfOk result (λ step. StepIsShort step) }
+        ensures own { IfOk result (λ step. IsOfLink link step) }
     {
         if !self.stands() {
             return Ok(self.settle(link, at, chance));
@@ -203,7 +229,8 @@ impl TcpLink {
 
     // Whether it stands by now.
     fn settle(&mut self, link: u64, at: u64, chance: u64) -> Polled
-        ensures { StepIsShort result }
+        ensures short { StepIsShort result }
+        ensures own { IsOfLink link result }
     {
         if let Stage::Failed = self.stage {
             return Polled::Last(Input::Unlinked { link });
@@ -230,7 +257,9 @@ impl TcpLink {
     }
 
     fn count(&mut self, link: u64) -> Option<Polled>
-        ensures { IfSome result (λ step. StepIsShort step) }
+        ensures short { IfSome result (λ step. StepIsShort step) }
+        ensures own { IfSome result (λ step. IsOfLink link step) }
+        ensures none { IsNone result → self.new ≡ self.old }
     {
         let Offered::Took(count) = self.offered else {
             return None;
@@ -241,7 +270,8 @@ impl TcpLink {
     }
 
     fn read(&mut self, link: u64, buffer: &mut ReadBuffer) -> Result<Polled, OutOfMemory>
-        ensures { IfOk result (λ step. StepIsShort step) }
+        ensures short { IfOk result (λ step. StepIsShort step) }
+        ensures own { IfOk result (λ step. IsOfLink link step) }
     {
         let Some(stream) = &mut self.stream else {
             return Ok(Polled::Last(Input::Unlinked { link }));

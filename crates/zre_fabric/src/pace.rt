@@ -1,7 +1,9 @@
 //! When the next Tick and the next look are due.
 
-ghost use Rattle.std.specs.Prelude.{◌≡◌, ◌≤◌, ◌<◌, ◌↔◌, ◌^◌, ◌-◌, IsTrue};
+ghost use Rattle.std.specs.Prelude.{◌≡◌, ◌≤◌, ◌<◌, ◌^◌, ◌-◌, ◌+◌, max, nat_le, if◌then◌else◌};
 ghost use Rattle.std.specs.Duration.{as_nanos};
+ghost use Rattle.zre_fabric.specs.Retries.{latest};
+ghost use Rattle.zre_fabric.specs.Paces.{tick_after, wait_of};
 
 use std::time::Duration;
 
@@ -20,7 +22,9 @@ pub(crate) struct Pace {
 impl Pace {
     /// The first Tick is due at once. An interval of 0 is read as 1, so that Ticks leave room for other entries.
     pub(crate) fn new(interval: u64, at: u64) -> Self
-        ensures { result.tick_at ≡ at }
+        ensures interval { result.interval ≡ max interval 1 }
+        ensures tick { result.tick_at ≡ at }
+        ensures look { result.look_at ≡ latest (at + 20) }
     {
         Pace {
             interval: interval.max(1),
@@ -32,8 +36,11 @@ impl Pace {
     /// Whether a Tick is due. It is then given, and the next one is due an interval later: those that were missed
     /// aren't made up for.
     pub(crate) fn tick(&mut self, at: u64) -> bool
-        ensures due { IsTrue result ↔ (self.old.tick_at ≤ at) }
+        ensures due { result ≡ nat_le self.old.tick_at at }
+        ensures tick { self.new.tick_at
+            ≡ (if result then tick_after self.old.interval self.old.tick_at at else self.old.tick_at) }
         ensures next { at < 2 ^ 64 - 1 → at < self.new.tick_at }
+        ensures same { (self.new.interval ≡ self.old.interval) × (self.new.look_at ≡ self.old.look_at) }
     {
         if at < self.tick_at {
             return false;
@@ -47,20 +54,26 @@ impl Pace {
         true
     }
 
-    pub(crate) fn gave_look(&mut self, at: u64) {
+    /// A look was given. The next one is due 20 milliseconds later.
+    pub(crate) fn gave_look(&mut self, at: u64)
+        ensures look { self.new.look_at ≡ latest (at + 20) }
+        ensures same { (self.new.interval ≡ self.old.interval) × (self.new.tick_at ≡ self.old.tick_at) }
+    {
         self.look_at = at.saturating_add(LOOK_MILLIS);
     }
 
     /// There may be a command: the next look is due at once.
     pub(crate) fn look_now(&mut self, at: u64)
-        ensures { self.new.look_at ≡ at }
+        ensures look { self.new.look_at ≡ at }
+        ensures same { (self.new.interval ≡ self.old.interval) × (self.new.tick_at ≡ self.old.tick_at) }
     {
         self.look_at = at;
     }
 
     /// How long to wait for entries.
     pub(crate) fn wait(&self, at: u64) -> Duration
-        ensures { as_nanos result ≤ 20_000_000 }
+        ensures time { as_nanos result ≡ wait_of self.now.look_at self.now.tick_at at }
+        ensures short { as_nanos result ≤ 20_000_000 }
     {
         let due = self.look_at.min(self.tick_at);
         Duration::from_millis(due.saturating_sub(at).min(LOOK_MILLIS))

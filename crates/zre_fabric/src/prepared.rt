@@ -1,5 +1,7 @@
 //! What a world has before it is started.
 
+ghost use Rattle.std.specs.Prelude.{◌≡◌, IfSome, Ok};
+
 use crate::beacons::address;
 use crate::bell::Bell;
 use mio::net::TcpListener;
@@ -28,7 +30,10 @@ impl Drop for Prepared {
 
 impl Prepared {
     /// Listens at a place, where that can be done.
-    pub(crate) fn reserve<R: Net>(&mut self, rt: &R, at: Endpoint) {
+    pub(crate) fn reserve<R: Net>(&mut self, rt: &R, at: Endpoint)
+        ensures place { IfSome self.new.mailbox (λ r. r.at ≡ at) }
+        ensures bell { self.new.bell ≡ self.old.bell }
+    {
         self.mailbox = None;
         if let Ok(listener) = TcpListener::bind(rt, address(at.addr, at.port)) {
             self.mailbox = Some(Reserved { at, listener });
@@ -41,7 +46,9 @@ pub(crate) fn listen<R: Net>(
     rt: &R,
     at: Endpoint,
     reserved: Option<Reserved>,
-) -> io::Result<TcpListener> {
+) -> io::Result<TcpListener>
+    ensures { IfSome reserved (λ r. r.at ≡ at → result ≡ Ok r.listener) }
+{
     match reserved {
         Some(
             Reserved {

@@ -1,12 +1,19 @@
 //! How soon after a link was closed its endpoint is dialed again. The readings are in milliseconds.
 
 ghost use Rattle.std.specs.Prelude.{◌≡◌, ◌+◌};
-ghost use Rattle.zre_fabric.specs.Retries.{delay_of, latest, closings_after};
+ghost use Rattle.zre_fabric.specs.Retries.{delay_of, latest, closings_after, is_again};
 
 use crate::retry::delay;
 
 /// Closings that are further apart than this don't count together.
 const CALM: u64 = 10_000;
+
+/// Of so many closings those from one place on, the first being 0, and before another are to have connections wait.
+const ROUND: u64 = 8;
+
+const FROM: u64 = 2;
+
+const TO: u64 = 6;
 
 /// What is known of the links to an endpoint that were closed.
 #[derive(Clone, Copy)]
@@ -20,7 +27,9 @@ pub(crate) struct Redial {
 
 impl Redial {
     pub(crate) fn new() -> Self
+        ensures closed { result.closed ≡ 0 }
         ensures due { result.due ≡ 0 }
+        ensures closings { result.closings ≡ 0 }
     {
         Redial {
             closed: 0,
@@ -44,6 +53,15 @@ impl Redial {
         };
         self.closed = at;
         self.due = at.saturating_add(delay(self.closings, chance));
+    }
+
+    /// Whether the last closing is to have the connections of the address wait: of each eight that count together the
+    /// third to the sixth are. So where waiting doesn't help, there is as much time without it.
+    pub(crate) fn is_again(&self) -> bool
+        ensures { result ≡ is_again self.now.closings }
+    {
+        let place = self.closings % ROUND;
+        place >= FROM && place < TO
     }
 
     /// From when on the endpoint may be dialed.

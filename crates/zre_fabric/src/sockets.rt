@@ -1,7 +1,8 @@
 //! The open sockets, and those of them that may have something to say.
 
-ghost use Rattle.std.specs.Prelude.{◌≡◌, IfOk, IfSome};
+ghost use Rattle.std.specs.Prelude.{◌≡◌, ◌+◌, IfOk, IfSome, MatchOption};
 ghost use Rattle.zre_fabric.specs.Looking.{octets_in};
+ghost use Rattle.zre_fabric.specs.Origins.{IsOpening, IsOfMailbox, IsOfLink};
 ghost use Rattle.zre_fabric.specs.Pieces.{IsShort, StepIsShort};
 
 use crate::arrivals::{Arrival, Arrivals};
@@ -288,20 +289,30 @@ impl Sockets {
                 Some(conn) => conn.step(number, &mut self.buffer).map_err(no_memory),
                 None => Ok(Polled::Rest),
             },
-            EntrySource::Link(number) => {
-                let chance = self.links.chance(number, self.at);
-                match self.links.get_mut(number) {
-                    Some(link) => link
-                        .step(number, self.at, chance, &mut self.buffer)
-                        .map_err(no_memory),
-                    None => Ok(Polled::Rest),
-                }
-            }
+            EntrySource::Link(number) => self.step_link(number).map_err(no_memory),
         }
     }
 
+    fn step_link(&mut self, number: u64) -> Result<Polled, OutOfMemory>
+        ensures short { IfOk result (λ step. StepIsShort step) }
+        ensures own { IfOk result (λ step. IsOfLink number step) }
+    {
+        let chance = self.links.chance(number, self.at);
+        let Some(link) = self.links.get_mut(number) else {
+            return Ok(Polled::Rest);
+        };
+        let stood = link.stands();
+        let step = link.step(number, self.at, chance, &mut self.buffer)?;
+        if !stood && link.stands() {
+            let addr = link.to.addr;
+            self.shares.stood(addr, self.at);
+        }
+        Ok(step)
+    }
+
     fn accept(&mut self, registry: &Registry) -> Result<Polled, NetworkFault>
-        ensures { IfOk result (λ step. StepIsShort step) }
+        ensures short { IfOk result (λ step. StepIsShort step) }
+        ensures own { IfOk result (λ step. IsOfMailbox self.old.opened self.new.opened step) }
     {
         match self.listener.accept() {
             Ok((stream, from)) => self.arrive(stream, from, registry).map_err(no_memory),
@@ -320,7 +331,8 @@ impl Sockets {
         from: SocketAddr,
         registry: &Registry,
     ) -> Result<Polled, OutOfMemory>
-        ensures { IfOk result (λ step. StepIsShort step) }
+        ensures short { IfOk result (λ step. StepIsShort step) }
+        ensures own { IfOk result (λ step. IsOfMailbox self.old.opened self.new.opened step) }
     {
         let SocketAddr::V4(from) = from else {
             drop(stream);
@@ -329,6 +341,7 @@ impl Sockets {
         let came = Arrival {
             stream,
             addr: from.ip().octets(),
+            at: self.at,
         };
         let Some(came) = self.arrivals.arrive(came, &mut self.shares, self.at)? else {
             return Ok(Polled::Dropped);
@@ -341,7 +354,9 @@ impl Sockets {
 
     // One that waited, where it may be given now.
     fn admit_waiting(&mut self, registry: &Registry) -> Result<Option<Input>, OutOfMemory>
-        ensures { IfOk result (λ input. IfSome input (λ i. IsShort i)) }
+        ensures short { IfOk result (λ input. IfSome input (λ i. IsShort i)) }
+        ensures own { IfOk result (λ input. MatchOption input (self.new.opened ≡ self.old.opened)
+            (λ i. IsOpening self.old.opened i × (self.new.opened ≡ self.old.opened + 1))) }
     {
         match self.arrivals.next(&mut self.shares, self.at) {
             Some(came) => self.admit(came, registry),
@@ -350,20 +365,28 @@ impl Sockets {
     }
 
     // The number of the next connection, and its token.
-    fn next_conn(&self) -> Option<(u64, Token)> {
+    fn next_conn(&self) -> Option<(u64, Token)>
+        ensures { IfSome result (λ next. next.0 ≡ self.now.opened + 1) }
+    {
         let conn = self.opened.checked_add(1)?;
         Some((conn, token_of(EntrySource::Conn(conn))?))
     }
 
     // A connection that the poll has no place for is closed.
     fn admit(&mut self, came: Arrival, registry: &Registry) -> Result<Option<Input>, OutOfMemory>
-        ensures { IfOk result (λ input. IfSome input (λ i. IsShort i)) }
+        ensures short { IfOk result (λ input. IfSome input (λ i. IsShort i)) }
+        ensures own { IfOk result (λ input. MatchOption input (self.new.opened ≡ self.old.opened)
+            (λ i. IsOpening self.old.opened i × (self.new.opened ≡ self.old.opened + 1))) }
     {
         let Some((conn, token)) = self.next_conn() else {
             drop(came);
             return Err(OutOfMemory);
         };
-        let Arrival { mut stream, addr } = came;
+        let Arrival {
+            mut stream,
+            addr,
+            ..
+        } = came;
         let _ = stream.set_nodelay(true);
         if registry
             .register(&mut stream, token, Interest::READABLE)

@@ -1,5 +1,8 @@
 //! The sources that may have something to say.
 
+ghost use Rattle.std.specs.Prelude.{◌≡◌, ◌++◌, ◌∷◌, [], ◌||◌, true, false, is_some, option_to_list, OnOk, OnErr};
+ghost use Rattle.zre_fabric.specs.Queues.{has_some, is_lights, row_after};
+
 use crate::entry_source::EntrySource;
 use crate::turns::Turns;
 use std::alloc::Global;
@@ -15,7 +18,9 @@ pub(crate) struct SourceQueue {
 }
 
 impl SourceQueue {
-    pub(crate) fn new(alloc: Global) -> Self {
+    pub(crate) fn new(alloc: Global) -> Self
+        ensures { (result.light.items ≡ []) × (result.heavy.items ≡ []) }
+    {
         SourceQueue {
             light: VecDeque::new(alloc),
             heavy: VecDeque::new(alloc),
@@ -27,27 +32,50 @@ impl SourceQueue {
         self.light.len().saturating_add(self.heavy.len())
     }
 
-    pub(crate) fn has_light(&self) -> bool {
+    pub(crate) fn has_light(&self) -> bool
+        ensures { result ≡ has_some self.now.light.items }
+    {
         !self.light.is_empty()
     }
 
     /// Room for one more light source.
-    pub(crate) fn reserve(&mut self) -> Result<(), OutOfMemory> {
+    pub(crate) fn reserve(&mut self) -> Result<(), OutOfMemory>
+        ensures { (self.new.light.items ≡ self.old.light.items) × (self.new.heavy ≡ self.old.heavy)
+            × (self.new.turns ≡ self.old.turns) }
+    {
         self.light.reserve(1)?;
         Ok(())
     }
 
-    pub(crate) fn push_light(&mut self, source: EntrySource) -> Result<(), OutOfMemory> {
+    pub(crate) fn push_light(&mut self, source: EntrySource) -> Result<(), OutOfMemory>
+        ensures ok { OnOk result (self.new.light.items ≡ self.old.light.items ++ source ∷ []) }
+        ensures err { OnErr result (self.new.light.items ≡ self.old.light.items) }
+        ensures same { (self.new.heavy ≡ self.old.heavy) × (self.new.turns ≡ self.old.turns) }
+    {
         self.light.push_back(source)?;
         Ok(())
     }
 
-    pub(crate) fn push_heavy(&mut self, source: EntrySource) -> Result<(), OutOfMemory> {
+    pub(crate) fn push_heavy(&mut self, source: EntrySource) -> Result<(), OutOfMemory>
+        ensures ok { OnOk result (self.new.heavy.items ≡ self.old.heavy.items ++ source ∷ []) }
+        ensures err { OnErr result (self.new.heavy.items ≡ self.old.heavy.items) }
+        ensures same { (self.new.light ≡ self.old.light) × (self.new.turns ≡ self.old.turns) }
+    {
         self.heavy.push_back(source)?;
         Ok(())
     }
 
-    pub(crate) fn pop(&mut self) -> Option<EntrySource> {
+    /// The next source in turn: the front one of its queue.
+    pub(crate) fn pop(&mut self) -> Option<EntrySource>
+        ensures light { is_lights self.old ≡ true
+            → (self.old.light.items ≡ option_to_list result ++ self.new.light.items)
+            × (self.new.heavy ≡ self.old.heavy) }
+        ensures heavy { is_lights self.old ≡ false
+            → (self.old.heavy.items ≡ option_to_list result ++ self.new.heavy.items)
+            × (self.new.light ≡ self.old.light) }
+        ensures some { is_some result ≡ (has_some self.old.light.items || has_some self.old.heavy.items) }
+        ensures row { self.new.turns.row ≡ row_after self.old }
+    {
         let (has_light, has_heavy) = (self.has_light(), !self.heavy.is_empty());
         if self.turns.is_firsts(has_light, has_heavy) {
             self.light.pop_front()
