@@ -10,6 +10,7 @@ import time
 from typing import Any, Callable, Dict, List, Optional, Sequence, Tuple
 
 import made
+from greeter import Greeter
 from lab import BEACONS, FRIEND, NODE, PING, PORT, STRANGERS, Cell, Friend, Program, beacon, hello, node_words, pings, said
 
 ANN, BEN = "A" * 32, "B" * 32
@@ -121,8 +122,8 @@ def _flood(cell: Cell, count: int, identities: bool, ready: Any, stop: Any) -> N
         one.close()
 
 
-def flooded(program: str, cell: Cell, count: int, identities: bool, pause: float = 0.02, times: int = 150) -> Figures:
-    """What a friend's PING takes beside so many connections at full speed."""
+def flooded(program: str, cell: Cell, count: int, identities: bool, times: int = 150, most: float = 1000) -> Figures:
+    """What a friend's PING takes beside so many connections at full speed: so many PINGs, in so many seconds at most."""
     node = chat(program, cell, 0, quiet=True)
     context = multiprocessing.get_context("fork")
     ready, stop = context.Event(), context.Event()
@@ -134,11 +135,11 @@ def flooded(program: str, cell: Cell, count: int, identities: bool, pause: float
         friend.greet()
         if not friend.takes(5):
             return {"entered": False}
-        before = pings(friend, 30, pause)
+        before = pings(friend, 30, most)
         child.start()
         ready.wait(60)
         time.sleep(0.5)
-        beside = pings(friend, times, pause)
+        beside = pings(friend, times, most)
         return {"entered": True, "before": before, "beside": beside, "memory": node.memory()}
     finally:
         stop.set()
@@ -167,11 +168,37 @@ def storm(program: str, peer: str, cell: Cell, seconds: int) -> Figures:
         enters = [node.count("ENTER", begun + at, begun + at + 1) for at in range(seconds)]
         time.sleep(3)
         told = {"entered": True, "enters": sum(enters), "most": max(enters), "last": sum(enters[-5:])}
+        told["quiet"] = max([0.0, *(at - begun for at, line in list(node.lines) if at >= begun and line.startswith("ENTER"))])
         told.update(whispers=(other.count("WHISPER", begun), node.count("WHISPER", begun)), of=seconds)
         stranger.close()
         return told
     finally:
         other.end()
+        node.end()
+
+
+def regreeted(program: str, cell: Cell, seconds: float) -> Figures:
+    """The same of a raw peer that greets anew whenever it is greeted: how often the node enters it, and when for the last time."""
+    node = chat(program, cell, 0)
+    peer = Greeter(cell, FRIEND, PORT, bytes.fromhex(BEN))
+    stranger = None
+    try:
+        if node.first(f"ENTER {BEN}", 15) is None:
+            return {"entered": False}
+        time.sleep(1)
+        begun, greetings = time.monotonic(), peer.greetings
+        stranger = cell.connect(STRANGERS[0])
+        stranger.sendall(made.GREETING + made.ready(bytes.fromhex(BEN)) + hello(FRIEND, PORT))
+        time.sleep(seconds)
+        enters = [at - begun for at, line in list(node.lines) if at >= begun and line.startswith("ENTER")]
+        stands = node.count("ENTER", begun) + 1 - node.count("EXIT", begun)
+        told = {"entered": True, "enters": len(enters), "quiet": max([0.0, *enters]), "stands": stands == 1}
+        told["greetings"] = peer.greetings - greetings
+        return told
+    finally:
+        if stranger is not None:
+            stranger.close()
+        peer.close()
         node.end()
 
 

@@ -25,6 +25,8 @@ NODE, FRIEND, BROADCAST, PORT, BEACONS = "10.78.0.1", "10.78.0.2", "10.78.255.25
 STRANGERS = [f"10.78.1.{last}" for last in range(1, 9)]
 CLONE_NEWNET = 0x40000000
 PING, PING_OK = 6, 7
+# The seconds between two PINGs of a friend.
+PAUSE = 0.02
 
 
 class Skipped(Exception):
@@ -290,15 +292,18 @@ def percentile(values: List[float], part: float) -> float:
     return ordered[min(len(ordered) - 1, int(part * len(ordered)))]
 
 
-def pings(friend: Friend, count: int, pause: float) -> Dict[str, float]:
-    """The median, the 95th percentile and the maximum of so many answers, in milliseconds, and how many didn't come."""
-    times, lost = [], 0
-    for _ in range(count):
+def pings(friend: Friend, count: int, most: float) -> Dict[str, float]:
+    """The median, the 95th percentile and the maximum of so many answers, in milliseconds, how many didn't come, and how many
+    were asked for: no further one after so many seconds."""
+    times, lost, end = [], 0, time.monotonic() + most
+    while len(times) + lost < count and time.monotonic() < end:
         took = friend.ping()
         if took is None:
             lost += 1
         else:
             times.append(took)
-        time.sleep(pause)
-    times = times or [float("inf")]
-    return {"median": percentile(times, 0.5), "p95": percentile(times, 0.95), "max": max(times), "lost": lost}
+        time.sleep(PAUSE)
+    seen = times or [float("inf")]
+    told = {"median": percentile(seen, 0.5), "p95": percentile(seen, 0.95), "max": max(seen), "lost": lost}
+    told["count"] = len(times) + lost
+    return told
