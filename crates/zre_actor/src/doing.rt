@@ -1,6 +1,6 @@
 //! One entry on its way: to the recorder, through the node, and what it asks for to the world.
 
-ghost use Rattle.std.specs.Prelude.{◌≡◌, ◌≤◌, ◌++◌, [], List, true, OnOk, IfOk, IfErr, false, option_map};
+ghost use Rattle.std.specs.Prelude.{◌≡◌, ◌≤◌, ◌++◌, [], List, true, OnOk, IfErr, false, option_map};
 ghost use Rattle.std.specs.Io.KnownBytes.{Keeps, Appends};
 ghost use Rattle.zre_outside.specs.declared.deed.Deed.{Deed as DeedValue};
 ghost use Rattle.zre_outside.specs.declared.act.Act.{Act as ActValue};
@@ -21,7 +21,6 @@ use crate::values::is_value;
 use zre_capture::push_entry2;
 use zre_node::{Node, Step};
 use zre_outside::{Act, Entry, NextFault, Recorder, World};
-use zre_peer::Events;
 use zre_values::{Octets, OutOfMemory};
 
 /// Where a node's entries are put as lines.
@@ -41,17 +40,19 @@ pub(crate) struct Actor<W, R> {
     pub world: W,
     pub node: Node,
     pub recording: Recording<R>,
+    /// What the node's last step gives; its lists serve again and again.
+    pub step: Step,
 }
 
 impl<W: World, R: Recorder> Actor<W, R> {
     /// Puts the line of an entry to the recorder, where that is wanted, steps the node with the entry, and has the
-    /// world do the acts. What is to be told comes back.
-    pub(crate) fn take_entry(&mut self, entry: Entry) -> Result<Events, Ending>
+    /// world do the acts. What is to be told stands in the step.
+    pub(crate) fn take_entry(&mut self, entry: Entry) -> Result<(), Ending>
         requires { self.old.recording.keep ≡ true → R.begun self.old.recording.rec ≡ true }
         ensures ok { (g : Config) (J : List EntryValue) → StandsFor g J self.old.node
-            → IfOk result (λ es. Went g J entry self.old.recording.keep self.old.recording.before
+            → OnOk result (Went g J entry self.old.recording.keep self.old.recording.before
             (W.told self.old.world) (W.told self.new.world)
-            (R.kept self.old.recording.rec) (R.kept self.new.recording.rec) self.new.node es) }
+            (R.kept self.old.recording.rec) (R.kept self.new.recording.rec) self.new.node self.new.step.events) }
         ensures next { OnOk result (self.new.recording.before ≡ entry.at) }
         ensures broke { (g : Config) (J : List EntryValue) → StandsFor g J self.old.node
             → IfErr result (λ x. Broke g J entry self.old.recording.keep self.old.recording.before
@@ -73,15 +74,12 @@ impl<W: World, R: Recorder> Actor<W, R> {
             return Err(ending);
         }
         self.recording.before = entry.at;
-        let Ok(Step { events, acts }) = self.node.step(entry) else {
+        let Ok(()) = self.node.step_into(entry, &mut self.step) else {
             return Err(Ending::OutOfMemory);
         };
-        if do_all(&mut self.world, &self.node, acts.as_slice()) {
-            drop(acts);
-            Ok(events)
+        if do_all(&mut self.world, &self.node, self.step.acts.as_slice()) {
+            Ok(())
         } else {
-            drop(acts);
-            drop(events);
             Err(Ending::OutOfMemory)
         }
     }

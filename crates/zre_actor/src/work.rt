@@ -14,8 +14,9 @@ ghost use Rattle.zre_actor.specs.Work.{IsWork, scene, world_ending};
 use crate::doing::{Actor, Recording};
 use crate::passes::{ActorPass, Pipes};
 use crate::{Ending, Told};
+use std::mem;
 use std::sync::Wait;
-use zre_node::Node;
+use zre_node::{Node, Step};
 use zre_outside::{NextFault, Recorder, Turn, World};
 use zre_peer::Events;
 use zre_values::Octets;
@@ -70,6 +71,7 @@ impl Pipes {
                 before: 0,
                 buffer: Octets::new(self.alloc),
             },
+            step: Step::new(self.alloc),
         };
         let mut command = None;
         for turn in 0..limit {
@@ -86,7 +88,7 @@ impl Pipes {
                 Turn::Look if turn + 1 < limit => (pass, command) = self.pop(rt, pass),
                 Turn::Look => {}
                 Turn::Entry(entry) => match actor.take_entry(entry) {
-                    Ok(events) => pass = self.raise_all(rt, pass, events),
+                    Ok(()) => pass = self.raise_all(rt, pass, &mut actor.step.events),
                     Err(ending) => return self.leave(rt, actor, pass, ending),
                 },
             }
@@ -122,8 +124,10 @@ impl Pipes {
                 before: _,
                 buffer,
             },
+            step,
         } = actor;
         drop(buffer);
+        drop(step);
         let pass = self.push(rt, pass, Told::Last(ending));
         Worked {
             world,
@@ -134,18 +138,26 @@ impl Pipes {
         }
     }
 
-    // Pushes these events, in order.
-    fn raise_all<T: Wait + Copy>(&self, rt: T, mut pass: ActorPass, events: Events) -> ActorPass
+    // Pushes these events, in order, and empties their list, which keeps its memory.
+    fn raise_all<T: Wait + Copy>(
+        &self,
+        rt: T,
+        mut pass: ActorPass,
+        events: &mut Events,
+    ) -> ActorPass
         requires pipes { IsActorOf self.now pass }
         requires open { ending_of pass ≡ None }
         ensures pipes { IsActorOf self.now result × (unused_by result ≡ unused_by pass) }
-        ensures raised { raised_by result ≡ raised_by pass ++ events }
+        ensures raised { raised_by result ≡ raised_by pass ++ events.old }
         ensures open { ending_of result ≡ None }
         ensures commands { (popped_by result ≡ popped_by pass) × (result.empties ≡ pass.empties) }
     {
-        for event in events.into_vec() {
+        let mut left = mem::replace(events, Events::new(self.alloc)).into_vec();
+        left.reverse();
+        'events: while let Some(event) = left.pop() {
             pass = self.push(rt, pass, Told::Event(event));
         }
+        *events = Events::from_vec(left);
         pass
     }
 }

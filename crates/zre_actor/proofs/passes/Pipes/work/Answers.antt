@@ -169,8 +169,8 @@ loop-turn-preserved g c =
                   world_later = omega (arith, c.in-Ok.ensures.later, took.world.1);
                   record_later = took.later;
                 } in
-                working.went_on f K c.args.keep c.args.limit s l.turn t n.node l.command d.before k m.in-Entry.entry (w.told x) u z.node m.in-Ok-take_entry.events gives c.loop-turn-test.true facts.0
+                working.went_on f K c.args.keep c.args.limit s l.turn t n.node l.command d.before k m.in-Entry.entry (w.told x) u z.node z.step.events gives c.loop-turn-test.true facts.0
                 (sym (c.stopped.ensures f (K ++ k.ran.entries) k.ran.node) ∙ c.if-stopped.false)
-                (subst (λ (keep : Bool). Went f (K ++ k.ran.entries) m.in-Entry.entry keep d.before (w.told x) u.told t.kept u.kept z.node m.in-Ok-take_entry.events) h.keep (m.in-Ok-take_entry.ensures.ok f (K ++ k.ran.entries) k.ran.node)) m.raise_all-pass.ensures.raised);
+                (subst (λ (keep : Bool). Went f (K ++ k.ran.entries) m.in-Entry.entry keep d.before (w.told x) u.told t.kept u.kept z.node z.step.events) h.keep (m.in-Ok-take_entry.ensures.ok f (K ++ k.ran.entries) k.ran.node)) m.raise_all-pass.ensures.raised);
           })
     ]
