@@ -88,3 +88,7 @@ same_left Done e f p x j m c s = refl
 
 pub at_messages : (e : Exercise) → e.stage ≡ Messages → left e ≡ messages_left e
 at_messages e is = ap (λ s. left_at s e) is
+
+-- two entries are given, and messages go on
+pub given_two : (s n : Exercise) (e f : Entry) → n.stage ≡ Messages → left s ≡ e ∷ f ∷ messages_left n → left s ≡ e ∷ f ∷ left n
+given_two s n e f is given = given ∙ ap (λ es. e ∷ f ∷ es) (sym (at_messages n is))

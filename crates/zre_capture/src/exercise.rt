@@ -4,7 +4,7 @@ ghost use Rattle.std.specs.Prelude.{◌≡◌, ◌≢◌, ◌≤◌, ◌+◌, �
 ghost use Rattle.zre_capture.specs.declared.stage.ExerciseStage.TheVariants.{Messages};
 
 use crate::draws::{drawn, upper_half};
-use crate::introduction::{beacon, host, introduction};
+use crate::introduction::{heard, introduced, opened};
 use crate::message_octets::MessageOctets;
 use crate::stage::ExerciseStage;
 use crate::talk::{cut_by, spell};
@@ -34,7 +34,7 @@ pub struct Exercise {
 }
 
 impl Exercise {
-    ghost use Rattle.zre_capture.specs.Exercise.{exercise, comes};
+    ghost use Rattle.zre_capture.specs.Exercise.{exercise, comes, quits};
     ghost use Rattle.zre_capture.specs.Left.{left, left_at, after_peer, first_of, second_of, Gives};
 
     /// The exercise before its first entry.
@@ -85,7 +85,8 @@ impl Exercise {
             return None;
         }
         let message = self.message;
-        self.x = drawn(spell(&mut self.spelled, message / self.peers as u32, self.x));
+        let after = spell(&mut self.spelled, message / self.peers as u32, self.x);
+        self.x = drawn(after);
         self.cut = cut_by(upper_half(self.x), self.spelled.len());
         self.message = message + 1;
         Some(message)
@@ -130,6 +131,16 @@ impl Exercise {
         })
     }
 
+    // The last entry.
+    fn quits(&self) -> Entry
+        ensures { result ≡ quits self.now.message }
+    {
+        Entry {
+            at: self.message as u64,
+            input: Input::Do(Command::Quit),
+        }
+    }
+
     // Where a message comes next, it is spelled.
     fn begin(&mut self)
         ensures same { left self.new ≡ left self.old }
@@ -146,45 +157,24 @@ impl Exercise {
         ensures err { OnErr result (left self.new ≡ left self.old) }
     {
         self.begin();
-        let alloc = self.alloc;
         let entry = match self.stage {
             ExerciseStage::Beacon(peer) => {
-                let bytes = beacon(alloc, peer)?;
+                let entry = heard(self.alloc, peer)?;
                 self.stage = ExerciseStage::Opened(peer);
-                Entry {
-                    at: 0,
-                    input: Input::Datagram {
-                        from: host(peer),
-                        bytes,
-                    },
-                }
+                entry
             }
             ExerciseStage::Opened(peer) => {
                 self.stage = ExerciseStage::Introduction(peer);
-                Entry {
-                    at: 0,
-                    input: Input::Opened {
-                        conn: peer as u64 + 1,
-                    },
-                }
+                opened(peer)
             }
             ExerciseStage::Introduction(peer) => {
-                let bytes = introduction(alloc, peer)?;
+                let entry = introduced(self.alloc, peer)?;
                 self.stage = self.after(peer);
-                Entry {
-                    at: 0,
-                    input: Input::Piece {
-                        conn: peer as u64 + 1,
-                        bytes,
-                    },
-                }
+                entry
             }
             ExerciseStage::Messages => {
                 self.stage = ExerciseStage::Done;
-                Entry {
-                    at: self.message as u64,
-                    input: Input::Do(Command::Quit),
-                }
+                self.quits()
             }
             ExerciseStage::First(message) => {
                 let entry = self.comes(message, self.first())?;

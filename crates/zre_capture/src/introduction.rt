@@ -4,10 +4,12 @@ ghost use Rattle.std.specs.Prelude.{◌≡◌, ◌++◌, codes, decimal, IfOk, O
 ghost use Rattle.zre_values.specs.Endpoint.{endpoint_text};
 ghost use Rattle.zre_msg.specs.Spelling.{Fits, octets};
 ghost use Rattle.zre_capture.specs.Exercise.{identity, host, beacon, hello, introduction, readiness};
+ghost use Rattle.zre_capture.specs.Exercise.{heard, opened, introduced};
 
 use std::alloc::Global;
 use zre_beacon::Beacon;
 use zre_msg::{Body, Message};
+use zre_outside::{Entry, Input};
 use zre_values::{Endpoint, Frames, Octets, OutOfMemory, Pairs, PeerId, push_decimal};
 use zre_zmtp::{SocketType, greeting, ready};
 
@@ -22,16 +24,16 @@ fn identity(peer: u8) -> PeerId
     PeerId(octets)
 }
 
-/// The address of a peer.
-pub(crate) fn host(peer: u8) -> [u8; 4]
+// The address of a peer.
+fn host(peer: u8) -> [u8; 4]
     ensures { result ≡ host peer }
 {
     [10, 1, 0, peer]
 }
 
-/// The beacon of a peer.
+// The beacon of a peer.
 #[tactic(auto, unfolding(crate::specs::Exercise::beacon))]
-pub(crate) fn beacon(alloc: Global, peer: u8) -> Result<Octets, OutOfMemory>
+fn beacon(alloc: Global, peer: u8) -> Result<Octets, OutOfMemory>
     ensures { IfOk result (λ octets. octets ≡ beacon peer) }
 {
     let beacon = Beacon {
@@ -111,12 +113,52 @@ fn push_rest(alloc: Global, out: &mut Octets, peer: u8) -> Result<(), OutOfMemor
     push_message(out, hello(alloc, peer)?)
 }
 
-/// What comes first on the connection of a peer.
+// What comes first on the connection of a peer.
 #[tactic(auto, unfolding(crate::specs::Exercise::introduction))]
-pub(crate) fn introduction(alloc: Global, peer: u8) -> Result<Octets, OutOfMemory>
+fn introduction(alloc: Global, peer: u8) -> Result<Octets, OutOfMemory>
     ensures { IfOk result (λ octets. octets ≡ introduction peer) }
 {
     let mut octets = Octets::copy(alloc, &greeting())?;
     push_rest(alloc, &mut octets, peer)?;
     Ok(octets)
+}
+
+/// The beacon of a peer is heard.
+pub(crate) fn heard(alloc: Global, peer: u8) -> Result<Entry, OutOfMemory>
+    ensures { IfOk result (λ entry. entry ≡ heard peer) }
+{
+    let bytes = beacon(alloc, peer)?;
+    Ok(Entry {
+        at: 0,
+        input: Input::Datagram {
+            from: host(peer),
+            bytes,
+        },
+    })
+}
+
+/// A peer opens its connection.
+pub(crate) fn opened(peer: u8) -> Entry
+    ensures { result ≡ opened peer }
+{
+    Entry {
+        at: 0,
+        input: Input::Opened {
+            conn: peer as u64 + 1,
+        },
+    }
+}
+
+/// A peer introduces itself.
+pub(crate) fn introduced(alloc: Global, peer: u8) -> Result<Entry, OutOfMemory>
+    ensures { IfOk result (λ entry. entry ≡ introduced peer) }
+{
+    let bytes = introduction(alloc, peer)?;
+    Ok(Entry {
+        at: 0,
+        input: Input::Piece {
+            conn: peer as u64 + 1,
+            bytes,
+        },
+    })
 }

@@ -1,60 +1,60 @@
 -- A node that goes through a journal, entry by entry.
-use Rattle.std.proofs.Common.{◌≡◌, ◌+◌, ◌<◌, Option, Some, None, List, [], ◌∷◌, ◌++◌, length, refl, sym, ap, ◌∙◌, append_assoc, append-nil, subst, arith}
+use Rattle.std.proofs.Common.{◌≡◌, ℕ, ◌+◌, ◌<◌, Option, Some, None, List, [], ◌∷◌, ◌++◌, length, refl, sym, ap, ◌∙◌, append_assoc, append-nil, subst, arith}
 use Rattle.std.proofs.lemmas.List.{length-append}
 use Rattle.zre_capture.specs.Left.{Gives}
 use Rattle.zre_values.specs.declared.settings.Settings.{Settings as Config}
 use Rattle.zre_journal.specs.Events.{events}
-use Rattle.zre_node.specs.declared.node.Node.{Node}
 use Rattle.zre_node.specs.declared.effects.Step.{Step}
 use Rattle.zre_node.specs.Journal.{StandsFor, IsStep}
 use Rattle.zre_outside.specs.declared.entry.Entry.{Entry}
-use Rattle.zre_commands.specs.declared.exercise.counts.Counts.{Counts}
-use Rattle.zre_commands.specs.exercise.Counts.{nothing, with_entry, tally}
-use Rattle.zre_commands.specs.exercise.Counted.{Counted}
-
--- before any entry
-pub starts : (g : Config) (n : Node) (c : Counts) → StandsFor g [] n → c ≡ nothing → Counted g [] n c
-starts g n c s e = record { stands = s; counts = e }
+use Rattle.zre_commands.specs.declared.exercise.run.CountingNode.{CountingNode}
+use Rattle.zre_commands.specs.exercise.Counts.{nothing, tally}
+use Rattle.zre_commands.specs.exercise.Counted.{Counted, Takes}
 
 one_longer : (J : List Entry) (e : Entry) → length J + 1 ≡ length (J ++ e ∷ [])
 one_longer J e = sym (length-append J (e ∷ []))
 
--- the entry is counted, before its events are
-pub entry_counted : (g : Config) (J : List Entry) (e : Entry) (n : Node) (c d : Counts) → Counted g J n c → d ≡ with_entry c →
-    d ≡ tally (length (J ++ e ∷ [])) (events g J)
-entry_counted g J e n c d counted one = one ∙ ap with_entry counted.counts ∙ ap (λ k. tally k (events g J)) (one_longer J e)
-
--- an entry was taken, and its events were counted after it
-pub steps_on : (g : Config) (J : List Entry) (e : Entry) (m : Node) (s : Step) (c : Counts) → IsStep g J e m s →
-    c ≡ tally (length (J ++ e ∷ [])) (events g J ++ s.events) → Counted g (J ++ e ∷ []) m c
-steps_on g J e m s c steps counts = record {
+-- an entry was taken, and its events were counted with it
+pub steps_on : (g : Config) (J : List Entry) (e : Entry) (n : CountingNode) (s : Step) → IsStep g J e n.node s →
+    n.counts ≡ tally (length J + 1) (events g J ++ s.events) → Counted g (J ++ e ∷ []) n
+steps_on g J e n s steps counts = record {
   stands = steps.stands;
-  counts = counts ∙ ap (tally (length (J ++ e ∷ []))) (sym steps.told);
+  counts = counts ∙ ap (λ k. tally k (events g J ++ s.events)) (one_longer J e) ∙ ap (tally (length (J ++ e ∷ []))) (sym steps.told);
 }
 
--- of all entries after J these are left, and the others were taken
-pub record Goes (g : Config) (J all left : List Entry) (n : Node) (c : Counts) : Type 0 where
-  pub taken : List Entry
-  pub split : taken ++ left ≡ J ++ all
-  pub counted : Counted g taken n c
+-- nothing was taken yet
+pub takes_none : (all : List Entry) (n : CountingNode) → Takes all all n n
+takes_none all n = record { taken = []; split = refl; counted = λ g J k. subst (λ K. Counted g K n) (sym (append-nil J)) k }
 
-pub begins : (g : Config) (J all : List Entry) (n : Node) (c : Counts) → Counted g J n c → Goes g J all all n c
-begins g J all n c counted = record { taken = J; split = refl; counted = counted }
-
-pub goes_on : (g : Config) (J all before now : List Entry) (e : Entry) (n m : Node) (c d : Counts) → before ≡ e ∷ now → (so_far : Goes g J all before n c) →
-    Counted g (so_far.taken ++ e ∷ []) m d → Goes g J all now m d
-goes_on g J all before now e n m c d given so_far counted = record {
-  taken = so_far.taken ++ e ∷ [];
-  split = append_assoc so_far.taken (e ∷ []) now ∙ ap (λ es. so_far.taken ++ es) (sym given) ∙ so_far.split;
-  counted = counted;
+-- one more was taken
+pub takes_one : (all before now : List Entry) (e : Entry) (n m o : CountingNode) → before ≡ e ∷ now → Takes all before n m
+    → ((g : Config) (J : List Entry) → Counted g J m → Counted g (J ++ e ∷ []) o) → Takes all now n o
+takes_one all before now e n m o given t step = record {
+  taken = t.taken ++ e ∷ [];
+  split = t.split ∙ ap (λ es. t.taken ++ es) given ∙ sym (append_assoc t.taken (e ∷ []) now);
+  counted = λ g J k. subst (λ K. Counted g K o) (append_assoc J t.taken (e ∷ [])) (step g (J ++ t.taken) (t.counted g J k));
 }
 
-pub ends : (g : Config) (J all left : List Entry) (n : Node) (c : Counts) → left ≡ [] → Goes g J all left n c → Counted g (J ++ all) n c
-ends g J all left n c none so_far =
-    subst (λ K. Counted g K n c) (sym (append-nil so_far.taken) ∙ ap (λ es. so_far.taken ++ es) (sym none) ∙ so_far.split) so_far.counted
+-- more were taken
+pub takes_on : (all before now : List Entry) (n m o : CountingNode) → Takes all before n m → Takes before now m o → Takes all now n o
+takes_on all before now n m o t u = record {
+  taken = t.taken ++ u.taken;
+  split = t.split ∙ ap (λ es. t.taken ++ es) u.split ∙ sym (append_assoc t.taken u.taken now);
+  counted = λ g J k. subst (λ K. Counted g K o) (append_assoc J t.taken u.taken) (u.counted g (J ++ t.taken) (t.counted g J k));
+}
 
-pub less_left : (before now : List Entry) (e : Entry) → before ≡ e ∷ now → length now < length before
-less_left before now e given = subst (λ es. length now < length es) (sym given) (omega arith)
+-- all were taken
+pub takes_all : (g : Config) (J all left : List Entry) (n m : CountingNode) → left ≡ [] → Takes all left n m → Counted g J n → Counted g (J ++ all) m
+takes_all g J all left n m none t k =
+    subst (λ K. Counted g K m) (ap (λ es. J ++ es) (sym (t.split ∙ ap (λ es. t.taken ++ es) none ∙ append-nil t.taken))) (t.counted g J k)
+
+-- fewer are left
+pub less_left : (all before left : List Entry) (e : Entry) (n m : CountingNode) → all ≡ e ∷ before → Takes before left n m → length left < length all
+less_left all before left e n m given t =
+    omega (arith, ap (λ (es : List Entry). length es) given, ap (λ (es : List Entry). length es) t.split, length-append t.taken left)
+
+pub two_less : (all left : List Entry) (e f : Entry) → all ≡ e ∷ f ∷ left → length left < length all
+two_less all left e f given = omega (arith, ap (λ (es : List Entry). length es) given)
 
 -- what a call that gave an entry left
 pub gave : (o : Option Entry) (e : Entry) (before now : List Entry) → o ≡ Some e → Gives o before now → before ≡ e ∷ now
@@ -65,10 +65,10 @@ pub gave_none : (o : Option Entry) (before now : List Entry) → Gives o before 
 gave_none None before now given none = given.0
 gave_none (Some e) before now given none = absurd (none e refl)
 
--- what was counted over a journal
-pub counted_all : (g : Config) (J K : List Entry) (n : Node) (c : Counts) → Counted g J n c → J ≡ K → c ≡ tally (length K) (events g K)
-counted_all g J K n c counted is = counted.counts ∙ ap (λ I. tally (length I) (events g I)) is
+-- before any entry, by settings that are these
+pub starts_with : (g h : Config) (n : CountingNode) → StandsFor g [] n.node → g ≡ h → n.counts ≡ nothing → Counted h [] n
+starts_with g h n s is e = record { stands = subst (λ k. StandsFor k [] n.node) is s; counts = e }
 
--- the same of a node with settings that are these
-pub starts_with : (g h : Config) (n : Node) (c : Counts) → StandsFor g [] n → g ≡ h → c ≡ nothing → Counted h [] n c
-starts_with g h n c s is e = starts h n c (subst (λ k. StandsFor k [] n) is s) e
+-- what was counted over a journal
+pub counted_all : (g : Config) (J K : List Entry) (n : CountingNode) → Counted g J n → J ≡ K → n.counts ≡ tally (length K) (events g K)
+counted_all g J K n counted is = counted.counts ∙ ap (λ I. tally (length I) (events g I)) is

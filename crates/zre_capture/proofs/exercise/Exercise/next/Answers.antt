@@ -4,19 +4,19 @@ use Rattle.zre_capture.specs.Exercise.{introduced}
 use Rattle.zre_capture.specs.Left.{left_at}
 use Rattle.zre_capture.proofs.Leaving.{at_messages, messages_end, same_left}
 use Rattle.zre_capture.proofs.exercise.Exercise.next.Goals as goal
-use Rattle.zre_capture.proofs.exercise.Exercise.next.Goals.{in-Beacon+in_ok-bytes-in-Beacon, in-Opened, in-Introduction+in_ok-bytes-in-Introduction, in-Messages, in-First+in_ok-entry-in-First, in-Second+in_ok-entry-in-Second}
+use Rattle.zre_capture.proofs.exercise.Exercise.next.Goals.{in-Beacon+in_ok-entry-in-Beacon, in-Opened, in-Introduction+in_ok-entry-in-Introduction, in-Messages, in-First+in_ok-entry-in-First, in-Second+in_ok-entry-in-Second}
 
 pub returns-clause-given : goal.returns-clause-given
 returns-clause-given c =
     let s = c.begin.new.self in
     sym c.begin.ensures.same ∙ elim c.match-self.branch [
-      | in-Beacon+in_ok-bytes-in-Beacon w ↦ rw (w.self-is, w.entry-is, w.host.ensures, w.in_ok-bytes-in-Beacon.ensures) (ap (λ t. left_at t s) w.in-Beacon.is)
-      | in-Opened w ↦ rw (w.self-is, w.entry-is) (ap (λ t. left_at t s) w.in-Opened.is)
-      | in-Introduction+in_ok-bytes-in-Introduction w ↦
+      | in-Beacon+in_ok-entry-in-Beacon w ↦ rw (w.self-is, w.entry-is, w.in_ok-entry-in-Beacon.ensures) (ap (λ t. left_at t s) w.in-Beacon.is)
+      | in-Opened w ↦ rw (w.self-is, w.entry-is, w.opened-entry.ensures) (ap (λ t. left_at t s) w.in-Opened.is)
+      | in-Introduction+in_ok-entry-in-Introduction w ↦
           let i = w.in-Introduction.peer in
-          rw (w.self-is, w.entry-is, w.in_ok-bytes-in-Introduction.ensures)
+          rw (w.self-is, w.entry-is, w.in_ok-entry-in-Introduction.ensures)
           (ap (λ t. left_at t s) w.in-Introduction.is ∙ ap (λ (es : List Entry). introduced i ∷ es) (sym w.after-self.ensures ∙ same_left w.after-self.result s _ refl refl refl refl refl refl))
-      | in-Messages w ↦ rw (w.self-is, w.entry-is) (at_messages s w.in-Messages.is ∙ messages_end s.peers s.x s.message s.messages (c.begin.ensures.end w.in-Messages.is))
+      | in-Messages w ↦ rw (w.self-is, w.entry-is, w.quits-entry.ensures) (at_messages s w.in-Messages.is ∙ messages_end s.peers s.x s.message s.messages (c.begin.ensures.end w.in-Messages.is))
       | in-First+in_ok-entry-in-First w ↦ rw (w.self-is, w.entry-is, w.in_ok-entry-in-First.ensures, w.first.ensures) (ap (λ t. left_at t s) w.in-First.is)
       | in-Second+in_ok-entry-in-Second w ↦ rw (w.self-is, w.entry-is, w.in_ok-entry-in-Second.ensures, w.second.ensures) (ap (λ t. left_at t s) w.in-Second.is)
     ]

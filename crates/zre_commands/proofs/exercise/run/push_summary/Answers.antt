@@ -11,8 +11,8 @@ use Rattle.zre_commands.proofs.exercise.run.push_summary.Goals as goal
 
 pub returns-in-Ok : goal.returns-in-Ok
 returns-in-Ok c =
-    let begun = starts_with c.in_ok-settings.field-0 settings c.in_ok-node.node c.new-counts.result c.in_ok-node.ensures c.in_ok-settings.ensures c.new-counts.ensures in
-    let done : Counted settings (left c.new-exercise.result) c.take_all-taken.new.node c.take_all-taken.new.counts = rw c.in-Ok.is at (c.take_all-taken.ensures settings [] begun) in
+    let begun = starts_with c.in_ok-settings.field-0 settings _ c.in_ok-new.ensures c.in_ok-settings.ensures c.new-2.ensures in
+    let done : Counted settings (left c.new-exercise.result) c.take_all-taken.new.self = rw c.in-Ok.is at (c.take_all-taken.ensures settings [] begun) in
     on_ok c.push_counts.result c.push_counts.ensures
     (λ p. p ∙ ap (λ (k : Counts). c.args.out.now ++ summary k)
-    (counted_all settings (left c.new-exercise.result) (exercise c.args.seed c.args.peers c.args.messages) c.take_all-taken.new.node c.take_all-taken.new.counts done c.new-exercise.ensures))
+    (counted_all settings (left c.new-exercise.result) (exercise c.args.seed c.args.peers c.args.messages) c.take_all-taken.new.self done c.new-exercise.ensures))

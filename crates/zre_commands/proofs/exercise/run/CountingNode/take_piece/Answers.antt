@@ -1,0 +1,15 @@
+use Rattle.std.proofs.Common.{length, sym, subst}
+use Rattle.zre_journal.specs.Events.{events}
+use Rattle.zre_node.specs.declared.node.Node.{Node}
+use Rattle.zre_node.specs.Journal.{IsStep}
+use Rattle.zre_node.specs.Kinds.{piece_entry}
+use Rattle.zre_values.proofs.Answered.{on_ok}
+use Rattle.zre_commands.proofs.exercise.Running.{steps_on}
+use Rattle.zre_commands.proofs.exercise.run.CountingNode.take_piece.Goals as goal
+
+pub returns : goal.returns
+returns c = λ g J counted.
+    let e = (piece_entry c.args.at c.args.conn c.args.bytes.now) in
+    let s = c.step_piece.new.step in
+    on_ok c.count.result (c.count.ensures (length J) (events g J) counted.counts)
+    (λ p. steps_on g J e c.count.new.self s (subst (λ (n : Node). IsStep g J e n s) (sym p.1) (c.in_ok-step_piece.ensures.steps g J counted.stands)) p.0)
