@@ -1,4 +1,5 @@
 pub mod Alarms
+pub mod Arriving
 pub mod Bells
 pub mod Dials
 pub mod Origins

@@ -1,5 +1,5 @@
 -- What addresses have and had, and what is counted of them.
-use Rattle.std.specs.Prelude.{ℕ, Bool, ◌≡◌, ◌+◌, ◌-◌, List, min, slice_index_or, slice_set, if◌then◌else◌}
+use Rattle.std.specs.Prelude.{ℕ, Bool, ◌≡◌, ◌+◌, ◌-◌, List, min, slice_index_or, slice_set, if◌then◌else◌, not, ◌&&◌, nat_lt, nat_le}
 use Rattle.zre_values.specs.declared.endpoint.Endpoint.{Endpoint}
 use Rattle.zre_fabric.specs.declared.redial.Redial.{Redial}
 use Rattle.zre_fabric.specs.declared.shares.Share.{Share}
@@ -27,6 +27,16 @@ share_at s place = share_in s.shares.items place
 -- the share at a place has changed so, and no other
 abbrev pub IsChangedBy : (Share → Share) → ℕ → Shares → Shares → Type 0
 IsChangedBy change place old new = new.shares.items ≡ slice_set old.shares.items place (change (share_at old place))
+
+-- an address may have one more connection: at most 128
+abbrev pub may_enter : Share → Bool
+may_enter s = nat_lt s.connections 128
+
+-- a connection that came at one reading may be given as opened at another: its address isn't held, and has a share left
+-- of 64 at once and then 20 a second
+abbrev pub may_open : Share → ℕ → ℕ → Bool
+may_open s came at =
+    not (nat_lt at s.hold.until && nat_lt (at - came) 3000) && nat_le (s.opened.spent - at) 3150
 
 -- a connection came, and has a place or not
 abbrev pub with_one_more : Bool → Share → Share

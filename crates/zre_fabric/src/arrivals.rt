@@ -1,5 +1,10 @@
 //! Connections that came, before they are given as opened.
 
+ghost use Rattle.std.specs.Prelude.{◌≡◌, [], IfOk, OnOk};
+ghost use Rattle.zre_fabric.specs.Arriving.{given_at, waiting_after};
+ghost use Rattle.zre_fabric.specs.Places.{place_of};
+ghost use Rattle.zre_fabric.specs.Shares.{share_at};
+
 use crate::shares::Shares;
 use mio::net::TcpStream;
 use std::alloc::Global;
@@ -24,14 +29,12 @@ pub(crate) struct Arrivals {
 }
 
 impl Arrivals {
-    pub(crate) fn new(alloc: Global) -> Self {
+    pub(crate) fn new(alloc: Global) -> Self
+        ensures { result.waiting.items ≡ [] }
+    {
         Arrivals {
             waiting: VecDeque::new(alloc),
         }
-    }
-
-    pub(crate) fn is_empty(&self) -> bool {
-        self.waiting.is_empty()
     }
 
     /// A connection came. It comes back where it may be given as opened now, and else waits. One too many is closed.
@@ -40,7 +43,12 @@ impl Arrivals {
         came: Arrival,
         shares: &mut Shares,
         at: u64,
-    ) -> Result<Option<Arrival>, OutOfMemory> {
+    ) -> Result<Option<Arrival>, OutOfMemory>
+        ensures given { let share = share_at shares.old (place_of came.addr) in
+            IfOk result (λ given. given ≡ given_at share came at) }
+        ensures waiting { let share = share_at shares.old (place_of came.addr) in
+            OnOk result (self.new.waiting.items ≡ waiting_after share came at self.old.waiting.items) }
+    {
         let addr = came.addr;
         if !shares.enter(addr) {
             drop(came);

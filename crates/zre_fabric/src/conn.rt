@@ -1,4 +1,4 @@
-ghost use Rattle.std.specs.Prelude.{IfOk};
+ghost use Rattle.std.specs.Prelude.{◌≡◌, false, Some, IfOk};
 ghost use Rattle.zre_fabric.specs.Origins.{IsOfConn};
 ghost use Rattle.zre_fabric.specs.Pieces.{StepIsShort};
 
@@ -21,7 +21,11 @@ pub(crate) struct TcpConn {
 }
 
 impl TcpConn {
-    pub(crate) fn new(stream: TcpStream, addr: [u8; 4]) -> Self {
+    pub(crate) fn new(stream: TcpStream, addr: [u8; 4]) -> Self
+        ensures stream { result.stream ≡ Some stream }
+        ensures addr { result.addr ≡ addr }
+        ensures rest { (result.is_queued ≡ false) × (result.used ≡ 0) }
+    {
         TcpConn {
             stream: Some(stream),
             is_queued: false,

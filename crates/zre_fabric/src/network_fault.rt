@@ -62,6 +62,8 @@ pub(crate) fn failed(part: SystemPart, error: io::Error) -> NetworkFault
     NetworkFault::Failed(Reason { part, error })
 }
 
-pub(crate) fn no_memory(_: OutOfMemory) -> NetworkFault {
+pub(crate) fn no_memory(_: OutOfMemory) -> NetworkFault
+    ensures { result ≡ NetworkFault.OutOfMemory }
+{
     NetworkFault::OutOfMemory
 }

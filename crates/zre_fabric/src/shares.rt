@@ -1,7 +1,7 @@
 //! The shares of addresses. A share is found by the last ten bits of its address, so that the memory is bounded: hosts
 //! of one network of at most 1,024 addresses have one each, and addresses further apart may have one together.
 
-ghost use Rattle.std.specs.Prelude.{◌≡◌, ◌<◌, ◌-◌, ◌&&◌, not, nat_lt, nat_le, vec_len, replicate, IfOk};
+ghost use Rattle.std.specs.Prelude.{◌≡◌, ◌<◌, ◌-◌, nat_le, vec_len, replicate, IfOk};
 ghost use Rattle.zre_fabric.specs.Places.{place_of as its_place, place_at as its_place_at};
 
 use crate::bucket::{Bucket, Rate};
@@ -76,8 +76,8 @@ fn place_at(to: Endpoint) -> usize
 }
 
 impl Shares {
-    ghost use Rattle.zre_fabric.specs.Shares.{nothing, share_at, IsChangedBy, with_one_more, with_one_fewer};
-    ghost use Rattle.zre_fabric.specs.Shares.{with_opened, with_beacon, with_link, shares_after_closing};
+    ghost use Rattle.zre_fabric.specs.Shares.{nothing, share_at, may_enter, may_open, IsChangedBy, with_one_more};
+    ghost use Rattle.zre_fabric.specs.Shares.{with_one_fewer, with_opened, with_beacon, with_link, shares_after_closing};
 
     pub(crate) fn new(alloc: Global) -> Result<Self, OutOfMemory>
         ensures { IfOk result (λ s. s.shares.items ≡ replicate 1024 nothing) }
@@ -89,7 +89,7 @@ impl Shares {
 
     /// Whether the address may have one more connection. It is then counted.
     pub(crate) fn enter(&mut self, addr: [u8; 4]) -> bool
-        ensures room { result ≡ nat_lt (share_at self.old (its_place addr)).connections 128 }
+        ensures room { result ≡ may_enter (share_at self.old (its_place addr)) }
         ensures count { IsChangedBy (with_one_more result) (its_place addr) self.old self.new }
     {
         let share = &mut self.shares[place_of(addr)];
@@ -111,9 +111,7 @@ impl Shares {
     /// Whether a connection of the address, which came at an earlier reading, may be given as opened now. It is then
     /// counted.
     pub(crate) fn opens(&mut self, addr: [u8; 4], came: u64, at: u64) -> bool
-        ensures may { result
-            ≡ not (nat_lt at (share_at self.old (its_place addr)).hold.until && nat_lt (at - came) 3000)
-            && nat_le ((share_at self.old (its_place addr)).opened.spent - at) 3150 }
+        ensures may { result ≡ may_open (share_at self.old (its_place addr)) came at }
         ensures count { IsChangedBy (with_opened at result) (its_place addr) self.old self.new }
     {
         let share = &mut self.shares[place_of(addr)];
