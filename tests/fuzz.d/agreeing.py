@@ -1,78 +1,85 @@
-"""Whether the nodes of a schedule agree: random schedules with losses, repeats, reorderings, crashes and restarts, and a small
-model that keeps what each node was as it queued each message.
+"""Whether the nodes of a schedule agree: random schedules with losses, repeats, reorderings, crashes and restarts, and a
+small model that keeps what each node was as it queued each message.
 
     python3 tests/fuzz.d/agreeing.py PROGRAM [COUNT [SEED]]
 
-Of what `simulate` writes only each run of a peer is looked at, from its ENTER on: it must tell what the first messages of one
-link tell, as many as the model has counted, and the groups that it leads to must be those that the peer had as it queued the
-last of them.
+Of what `simulate` writes only each run of a peer is looked at, from its ENTER on: it must tell what the first messages
+of one link tell, as many as the model has counted, and the groups that it leads to must be those that the peer had as
+it queued the last of them.
 """
+from __future__ import annotations
+
 import os
 import random
 import subprocess
 import sys
 import tempfile
+from typing import Callable, Dict, List, Optional, Tuple, Union
 
 GREETING, READY = 64, 60
 GROUPS = ["g", "chat", "x" * 40, "y" * 250]
+# What a connection is to carry: the greeting, READY, or the message of a number.
+Part = Union[str, int]
 
 
 class Message:
     """A message on a link: what it tells, how many octets it has, and the groups that its node had then."""
 
-    def __init__(self, node, kind, size, *told):
+    def __init__(self, node: Node, kind: str, size: int, *told: str) -> None:
         self.kind, self.size, self.told, self.groups = kind, size, told, list(node.groups)
 
 
-def frame(size):
+def frame(size: int) -> int:
     return size + (2 if size < 256 else 9)
 
 
 class Link:
-    def __init__(self, node, peer):
-        self.node, self.peer, self.messages = node, peer, []
+    def __init__(self, node: Node, peer: str) -> None:
+        self.node, self.peer = node, peer
+        self.messages: List[Message] = []
 
-    def put(self, kind, size, *told):
+    def put(self, kind: str, size: int, *told: str) -> None:
         self.messages.append(Message(self.node, kind, size, *told))
 
 
 class Peer:
     """A known peer, with the connection that runs it: which link that carries, and how many messages are counted."""
 
-    def __init__(self, link):
-        self.link, self.conn, self.run = link, None, None
+    def __init__(self, link: Link) -> None:
+        self.link = link
+        self.conn: Optional[Conn] = None
+        self.run: Optional[Run] = None
 
 
 class Run:
-    def __init__(self, link):
+    def __init__(self, link: Link) -> None:
         self.link, self.count = link, 1
 
-    def groups(self):
+    def groups(self) -> List[str]:
         return self.link.messages[self.count - 1].groups
 
 
 class Node:
-    def __init__(self, network, number):
+    def __init__(self, network: Network, number: int) -> None:
         self.network, self.number, self.id, self.name = network, number, f"{number:x}".upper() * 32, f"n{number}"
         self.endpoint = f"tcp://10.0.0.{number}:5000"
-        self.groups, self.peers, self.stopped, self.gone = [], {}, False, False
+        self.groups: List[str] = []
+        self.peers: Dict[str, Peer] = {}
+        self.stopped = self.gone = False
 
-    def runs(self):
-        return self.network.runs.setdefault((self.number, self.id), {})
-
-    def born(self, peer):
+    def born(self, peer: str) -> None:
         link = Link(self, peer)
         self.network.links.append(link)
         self.peers[peer] = Peer(link)
         groups = sum(4 + len(group) for group in self.groups)
         link.put("HELLO", frame(6 + 1 + len(self.endpoint) + 4 + groups + 1 + 1 + len(self.name) + 4))
 
-    def ended(self, peer):
+    def ended(self, peer: str) -> None:
         conn = self.peers.pop(peer).conn
         if conn:
             conn.dead = True
 
-    def hears(self, peer, port):
+    def hears(self, peer: str, port: int) -> None:
         if self.stopped or peer == self.id:
             return
         if peer in self.peers and not port:
@@ -80,7 +87,7 @@ class Node:
         elif peer not in self.peers and port:
             self.born(peer)
 
-    def wishes(self, words):
+    def wishes(self, words: Tuple[str, ...]) -> None:
         if self.stopped:
             return
         if words[0] == "quit":
@@ -106,33 +113,37 @@ class Node:
 class Conn:
     """A connection: what it was made to carry, and what its node makes of what has come."""
 
-    def __init__(self, node, link):
-        self.node, self.link, self.parts, self.at, self.last = node, link, [], 0, 0
-        self.awaits, self.peer, self.dead, self.opened = "greeting", None, False, not node.stopped
+    def __init__(self, node: Node, link: Link) -> None:
+        self.node, self.link, self.at, self.last = node, link, 0, 0
+        self.parts: List[Part] = []
+        self.peer: Optional[str] = None
+        self.awaits, self.dead, self.opened = "greeting", False, not node.stopped
 
-    def size(self, part):
-        return {"greeting": GREETING, "ready": READY}.get(part) or self.link.messages[part - 1].size
+    def size(self, part: Part) -> int:
+        if isinstance(part, int):
+            return self.link.messages[part - 1].size
+        return GREETING if part == "greeting" else READY
 
-    def pending(self):
+    def pending(self) -> int:
         return sum(self.size(part) for part in self.parts) - self.at
 
-    def close(self):
+    def close(self) -> None:
         if self.peer and self.node.peers.get(self.peer) and self.node.peers[self.peer].conn is self:
             self.node.ended(self.peer)
         self.dead, self.peer = True, None
 
-    def comes(self, count):
+    def comes(self, count: int) -> None:
         while count:
             step = min(count, self.size(self.parts[0]) - self.at)
-            begins, self.at, count = self.at == 0, self.at + step, count - step
+            self.at, count = self.at + step, count - step
             whole = self.at == self.size(self.parts[0])
             if self.opened and not self.dead and not self.node.stopped:
-                self.reads(self.parts[0], begins, whole)
+                self.reads(self.parts[0], whole)
             if whole:
                 self.parts.pop(0)
                 self.at = 0
 
-    def reads(self, part, begins, whole):
+    def reads(self, part: Part, whole: bool) -> None:
         right = {"greeting": part == "greeting", "ready": part == "ready", "traffic": part != "greeting"}[self.awaits]
         if not right or (whole and self.awaits == "ready" and self.link.node.id == self.node.id):
             self.close()
@@ -144,59 +155,63 @@ class Conn:
                 if other is not self and other.node is self.node and other.peer == self.link.node.id:
                     other.close()
             self.peer = self.link.node.id
-        elif whole and part != "ready":
-            self.hears(part)
+        elif whole and isinstance(part, int) and self.peer:
+            self.hears(self.peer, part)
 
-    def hears(self, number):
-        peer = self.node.peers.get(self.peer)
-        if peer and peer.conn is self:
+    def hears(self, said_by: str, number: int) -> None:
+        peer = self.node.peers.get(said_by)
+        if peer and peer.run and peer.conn is self:
             if number == peer.run.count + 1:
                 peer.run.count = number
             else:
-                self.node.ended(self.peer)
+                self.node.ended(said_by)
         elif number != 1:
             self.dead = True
         else:
             if not peer:
-                self.node.born(self.peer)
-                peer = self.node.peers[self.peer]
+                self.node.born(said_by)
+                peer = self.node.peers[said_by]
             peer.conn, peer.run = self, Run(self.link)
-            self.node.network.runs.setdefault((self.node.number, self.peer), []).append(peer.run)
+            self.node.network.runs.setdefault((self.node.number, said_by), []).append(peer.run)
 
 
 class Network:
     """A schedule as it is made, move by move, each of them within the grammar."""
 
-    def __init__(self, chance):
+    def __init__(self, chance: random.Random) -> None:
         self.chance, self.lines = chance, ["zre-schedule 1"]
-        self.nodes, self.links, self.beacons, self.conns, self.runs = {}, [], [], [], {}
+        self.nodes: Dict[int, Node] = {}
+        self.links: List[Link] = []
+        self.beacons: List[Tuple[Node, int]] = []
+        self.conns: List[Conn] = []
+        self.runs: Dict[Tuple[int, str], List[Run]] = {}
         for number in range(1, chance.choice([2, 2, 3, 4]) + 1):
             self.start(number)
 
-    def move(self, *words):
+    def move(self, *words: object) -> None:
         self.lines.append(" ".join(str(word) for word in words))
 
-    def start(self, number):
+    def start(self, number: int) -> None:
         node = self.nodes[number] = Node(self, number)
         self.move("start", number, 0, node.id, node.name, f"10.0.0.{number}", 5000)
 
-    def node(self):
+    def node(self) -> Node:
         return self.chance.choice([node for node in self.nodes.values() if not node.gone])
 
-    def tick(self):
+    def tick(self) -> None:
         node = self.node()
         self.move("tick", node.number, 0)
         if not node.stopped:
             self.beacons.append((node, 5000))
 
-    def beacon(self):
+    def beacon(self) -> None:
         if self.beacons:
             number, node = self.chance.randrange(len(self.beacons)), self.node()
             self.move("beacon", number + 1, node.number, 0)
             sender, port = self.beacons[number]
             node.hears(sender.id, port)
 
-    def open(self):
+    def open(self) -> None:
         if not self.links:
             return
         number = self.chance.randrange(len(self.links))
@@ -208,16 +223,17 @@ class Network:
         self.move("open", number + 1, node.number, 0)
         self.conns.append(Conn(node, link))
         if self.chance.random() < 0.9:
-            for part in ("greeting", "ready", 1):
+            parts: Tuple[Part, ...] = ("greeting", "ready", 1)
+            for part in parts:
                 self.carries(len(self.conns), part)
 
-    def carries(self, number, part):
+    def carries(self, number: int, part: Part) -> None:
         self.move("carry", number, part)
         conn = self.conns[number - 1]
         conn.parts.append(part)
-        conn.last = part if part not in ("greeting", "ready") else conn.last
+        conn.last = part if isinstance(part, int) else conn.last
 
-    def carry(self):
+    def carry(self) -> None:
         """Mostly the next messages; now and then one is left out, comes again, or before its turn."""
         if not self.conns:
             return
@@ -225,13 +241,14 @@ class Network:
         number = self.chance.choice(lively if lively and self.chance.random() < 0.95 else range(len(self.conns))) + 1
         conn = self.conns[number - 1]
         for _ in range(self.chance.choice([1, 2, 5])):
-            part = conn.last + 1
+            due = conn.last + 1
+            part: Part = due
             if self.chance.random() < 0.15:
-                part = self.chance.choice(["greeting", "ready", "ready", 1, part + 1, part + 1, part + 1, max(1, part - 1)])
-            if part in ("greeting", "ready") or part <= len(conn.link.messages):
+                part = self.chance.choice(["greeting", "ready", "ready", 1, due + 1, due + 1, due + 1, max(1, due - 1)])
+            if isinstance(part, str) or part <= len(conn.link.messages):
                 self.carries(number, part)
 
-    def piece(self):
+    def piece(self) -> None:
         open_ones = [(at, conn) for at, conn in enumerate(self.conns) if conn.parts and not conn.node.gone]
         if open_ones:
             at, conn = self.chance.choice(open_ones)
@@ -239,15 +256,17 @@ class Network:
             self.move("piece", at + 1, count, 0)
             conn.comes(count)
 
-    def wish(self):
+    def wish(self) -> None:
         node, group = self.node(), self.chance.choice(GROUPS)
         text = "t" * self.chance.choice([1, 5, 300])
         other = self.chance.choice([*node.peers, *(one.id for one in self.nodes.values())])
-        words = self.chance.choice([("join", group), ("join", group), ("leave", group), ("whisper", other, text), ("shout", group, text)])
+        ways: List[Tuple[str, ...]] = [
+            ("join", group), ("join", group), ("leave", group), ("whisper", other, text), ("shout", group, text)]
+        words = self.chance.choice(ways)
         self.move("do", node.number, 0, *words)
         node.wishes(words)
 
-    def end(self):
+    def end(self) -> None:
         kind = self.chance.choice(["crash", "shut", "unlinked", "quit", "beacons"])
         if kind == "crash":
             node = self.node()
@@ -272,14 +291,16 @@ class Network:
                 if link.peer in link.node.peers and link.node.peers[link.peer].link is link:
                     link.node.ended(link.peer)
 
-    def made(self, moves):
-        ways = [self.tick] + [self.beacon, self.open] * 2 + [self.carry, self.piece, self.wish] * 4
+    def made(self, moves: int) -> bytes:
+        ways: List[Callable[[], None]] = [self.tick]
+        ways += [self.beacon, self.open] * 2 + [self.carry, self.piece, self.wish] * 4
         for _ in range(moves):
-            self.end() if self.chance.random() < 0.02 else self.chance.choice(ways)()
+            way = self.end if self.chance.random() < 0.02 else self.chance.choice(ways)
+            way()
         return ("\n".join(self.lines) + "\n").encode()
 
 
-def told(peer, run):
+def told(peer: str, run: Run) -> List[List[str]]:
     """What the messages of a run tell."""
     node = run.link.node
     lines = []
@@ -292,9 +313,9 @@ def told(peer, run):
     return lines
 
 
-def runs_in(text):
+def runs_in(text: bytes) -> Dict[Tuple[int, str], List[List[List[str]]]]:
     """The runs of each peer at each node, each the list of its lines, without EVASIVE and EXIT."""
-    runs = {}
+    runs: Dict[Tuple[int, str], List[List[List[str]]]] = {}
     for line in text.decode().split("\n")[:-1]:
         number, event, *fields = line.split(" ")
         if event == "ENTER":
@@ -304,7 +325,7 @@ def runs_in(text):
     return runs
 
 
-def wrong(network, text):
+def wrong(network: Network, text: bytes) -> Optional[str]:
     """What is wrong with what `simulate` wrote, if anything is."""
     seen = runs_in(text)
     for key in {*seen, *network.runs}:
@@ -314,7 +335,7 @@ def wrong(network, text):
         for run, lines in zip(counted, shown):
             if lines != told(key[1], run):
                 return f"a run of {key[1]} at {key[0]} tells other than its first {run.count} messages"
-            groups = []
+            groups: List[str] = []
             for event, _, _, *rest in lines:
                 if event == "JOIN":
                     groups.append(rest[0])
@@ -325,7 +346,7 @@ def wrong(network, text):
     return None
 
 
-def tried(program, chance, path, moves):
+def tried(program: str, chance: random.Random, path: str, moves: int) -> Optional[str]:
     """Makes a schedule, runs it, and answers what is wrong."""
     network = Network(chance)
     with open(path, "wb") as file:
@@ -337,7 +358,7 @@ def tried(program, chance, path, moves):
     return wrong(network, done.stdout)
 
 
-def main():
+def main() -> int:
     program = os.path.realpath(sys.argv[1])
     count, seed = (int(word) for word in (sys.argv[2:] + ["1000", "36"][len(sys.argv) - 2:])[:2])
     failed = 0

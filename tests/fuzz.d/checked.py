@@ -1,5 +1,8 @@
 """What must hold of every run: the statuses, the form of the text, and what two runs have to do with each other."""
+from __future__ import annotations
+
 import re
+from typing import List, Set, Tuple
 
 # What a peer is called in a line of an event, where it is there for it.
 OF_A_PEER = re.compile(rb"(ENTER|JOIN|LEAVE|WHISPER|SHOUT|EVASIVE|EXIT) ([0-9A-F]{32}) ")
@@ -11,7 +14,7 @@ class Wrong(Exception):
     """Something that must hold doesn't."""
 
 
-def lines_of(text):
+def lines_of(text: bytes) -> List[bytes]:
     """The lines of a text, which is whole lines of plain octets."""
     if text and not text.endswith(b"\n"):
         raise Wrong("the last line isn't whole")
@@ -22,8 +25,8 @@ def lines_of(text):
     return lines
 
 
-def judged(status, text):
-    """The text without the line of a refusal. Input that is read to its end gives 0 or 3, and 3 with that line alone."""
+def judged(status: int, text: bytes) -> bytes:
+    """The text without the line of a refusal. Input that is read to its end gives 0, or 3 with that line alone."""
     lines = lines_of(text)
     refused = [line for line in lines if line.startswith(b"BADINPUT")]
     if status == 0 and not refused:
@@ -33,9 +36,9 @@ def judged(status, text):
     raise Wrong(f"status {status}, and {len(refused)} lines of a refusal")
 
 
-def each_peer_is_there(text):
+def each_peer_is_there(text: bytes) -> None:
     """Nothing is told of a peer but between its ENTER and its EXIT."""
-    there = set()
+    there: Set[bytes] = set()
     for line in lines_of(text):
         found = OF_A_PEER.match(line)
         if not found:
@@ -49,11 +52,11 @@ def each_peer_is_there(text):
             there.remove(peer)
 
 
-def begins(shorter, longer, what):
+def begins(shorter: bytes, longer: bytes, what: str) -> None:
     if not longer.startswith(shorter):
         raise Wrong(f"{what}: the text of the beginning isn't the beginning of the text")
 
 
-def same(one, other, what):
+def same(one: Tuple[int, bytes], other: Tuple[int, bytes], what: str) -> None:
     if one != other:
         raise Wrong(f"{what}: {one[0]} and {len(one[1])} octets, {other[0]} and {len(other[1])} octets of text")

@@ -1,8 +1,10 @@
 """A hostile client beside a chat, in a network namespace of its own, where one can be had.
 
-Two good peers shout numbered lines to the node that is beset, and are shouted at by it. Each must be told every line of each
-other, in order, and the node must end with status 0.
+Two good peers shout numbered lines to the node that is beset, and are shouted at by it. Each must be told every line of
+each other, in order, and the node must end with status 0.
 """
+from __future__ import annotations
+
 import os
 import random
 import re
@@ -11,6 +13,7 @@ import subprocess
 import sys
 import threading
 import time
+from typing import Callable, Iterator, List, Optional, Tuple
 
 import made
 
@@ -26,34 +29,36 @@ STRANGERS = [f"127.0.1.{last}" for last in range(1, 11)]
 class Node:
     """A running chat, with the lines that it has written so far."""
 
-    def __init__(self, program, name):
+    def __init__(self, program: str, name: str) -> None:
         self.name = name
         own, host = NODES[name]
         words = ["chat", f"id={own}", f"host={host}", f"port={PORT}", f"listen={host}", f"name={name}",
                  "interval=100", "evasive=20000", "expired=40000"]
         words += [f"to={at}" for _, at in NODES.values() if at != host]
         self.process = subprocess.Popen([program, *words], stdin=subprocess.PIPE, stdout=subprocess.PIPE)
-        self.lines = []
+        self.lines: List[str] = []
         self.reader = threading.Thread(target=self.read, daemon=True)
         self.reader.start()
 
-    def read(self):
+    def read(self) -> None:
+        assert self.process.stdout is not None
         for line in self.process.stdout:
             self.lines.append(line.decode().rstrip("\n"))
 
-    def types(self, line):
+    def types(self, line: str) -> None:
+        assert self.process.stdin is not None
         self.process.stdin.write(line.encode() + b"\n")
         self.process.stdin.flush()
 
-    def has(self, beginning):
+    def has(self, beginning: str) -> bool:
         return any(line.startswith(beginning) for line in list(self.lines))
 
-    def shouts_of(self, name):
+    def shouts_of(self, name: str) -> List[int]:
         found = (re.fullmatch(rf"SHOUT {NODES[name][0]} {name} g ([0-9]+)", line) for line in list(self.lines))
         return [int(one[1]) for one in found if one]
 
 
-def soon(holds):
+def soon(holds: Callable[[], bool]) -> bool:
     end = time.monotonic() + SOON
     while time.monotonic() < end:
         if holds():
@@ -62,14 +67,14 @@ def soon(holds):
     return False
 
 
-def connected(which=0):
+def connected(which: int = 0) -> socket.socket:
     source = (STRANGERS[which % len(STRANGERS)], 0)
     client = socket.create_connection((NODES["beset"][1], PORT), timeout=5, source_address=source)
     client.settimeout(5)
     return client
 
 
-def hand(octets, pause=None):
+def hand(octets: bytes, pause: Optional[float] = None) -> socket.socket:
     """A connection on which these octets were sent, as far as they could be: at once, or one after the other."""
     client = connected()
     try:
@@ -82,7 +87,7 @@ def hand(octets, pause=None):
     return client
 
 
-def hostile_octets(chance):
+def hostile_octets(chance: random.Random) -> Iterator[Tuple[bytes, Optional[float]]]:
     """What is sent on a connection each, and how slowly."""
     shaken = made.GREETING + made.ready(b"\xdd" * 16)
     yield chance.randbytes(5000), None
@@ -101,7 +106,7 @@ def hostile_octets(chance):
         yield made.mutated(chance, made.stream(chance, b"\xdd" * 16)), None
 
 
-def beset(seed):
+def beset(seed: int) -> int:
     """All of the hostile octets, and then more connections than a node keeps, held open for a moment."""
     chance = random.Random(seed)
     clients = [hand(octets, pause) for octets, pause in hostile_octets(chance)]
@@ -116,7 +121,7 @@ def beset(seed):
     return len(clients)
 
 
-def talk(program):
+def talk(program: str) -> Iterator[Tuple[str, bool]]:
     """Each thing that must hold, with whether it did."""
     nodes = {name: Node(program, name) for name in NODES}
     all_nodes = list(nodes.values())
@@ -142,14 +147,15 @@ def talk(program):
     yield "hostile connections are closed with their reasons", len(refused) > 20
     yield "connections past the limit are closed", any(line.endswith(" TooMany") for line in refused)
     for node in all_nodes:
-        lost = [line for line in node.lines if line.startswith("EXIT ") and any(own in line for own, _ in NODES.values())]
+        ended = [line for line in node.lines if line.startswith("EXIT ")]
+        lost = [line for line in ended if any(own in line for own, _ in NODES.values())]
         yield f"{node.name} loses no good peer", not lost
     for node in all_nodes:
         node.types("quit")
         yield f"{node.name} ends with 0", node.process.wait(SOON) == 0
 
 
-def main(program):
+def main(program: str) -> None:
     passed = failed = 0
     for what, holds in talk(program):
         if holds:
@@ -160,7 +166,7 @@ def main(program):
     print(passed, failed)
 
 
-def try_chat(program):
+def try_chat(program: str) -> Tuple[int, int]:
     """How many checks passed, and how many failed; none where no network namespace can be had."""
     for way in "-n", "-rn":
         room = ["unshare", way, "sh", "-c", 'ip link set lo up && exec "$@"', "room"]
@@ -170,7 +176,8 @@ def try_chat(program):
         print("SKIPPED: no network namespace can be had: a hostile client", flush=True)
         return 0, 0
     words = [*room, "timeout", "-k", "3", "90", sys.executable, os.path.realpath(__file__), program]
-    ended = subprocess.run(words, stdout=subprocess.PIPE, check=False, env={**os.environ, "PYTHONDONTWRITEBYTECODE": "1"})
+    around = {**os.environ, "PYTHONDONTWRITEBYTECODE": "1"}
+    ended = subprocess.run(words, stdout=subprocess.PIPE, check=False, env=around)
     *told, last = ended.stdout.decode().split("\n")[:-1] or ["0 0"]
     for line in told:
         print(line, flush=True)

@@ -1,4 +1,9 @@
-"""Inputs for the fuzzer: streams, traffic, captures and schedules that are mostly well formed, and mutations of them."""
+"""Inputs for the fuzzer: streams, traffic, captures and schedules, mostly well formed, and mutations of them."""
+from __future__ import annotations
+
+import random
+from typing import Callable, Dict, List, Set, Tuple
+
 
 GREETING = bytes.fromhex("ff00000000000000017f03014e554c4c") + bytes(48)
 NAMES = [b"Ann", b"Ben", b"", b"%", b"a b", b"\xc3\xa9", b"n" * 255]
@@ -9,39 +14,39 @@ NUMBERS = [0, 1, 2, 9, 10, 255, 256, 1023, 1024, 65535, 65536, 1048576, 4194304,
 PLAIN = frozenset(range(0x21, 0x7f)) - frozenset(b"%~=,")
 
 
-def string(octets):
+def string(octets: bytes) -> bytes:
     return bytes([len(octets)]) + octets
 
 
-def long_string(octets):
+def long_string(octets: bytes) -> bytes:
     return len(octets).to_bytes(4, "big") + octets
 
 
-def frame(body, flags=0):
+def frame(body: bytes, flags: int = 0) -> bytes:
     """A frame of RFC 23: short where it can be."""
     if len(body) > 255:
         return bytes([flags | 2]) + len(body).to_bytes(8, "big") + body
     return bytes([flags, len(body)]) + body
 
 
-def command(name, rest):
+def command(name: bytes, rest: bytes) -> bytes:
     return frame(string(name) + rest, 4)
 
 
-def metadata(pairs):
+def metadata(pairs: List[Tuple[bytes, bytes]]) -> bytes:
     return b"".join(string(name) + long_string(value) for name, value in pairs)
 
 
-def ready(identity, kind=b"DEALER"):
+def ready(identity: bytes, kind: bytes = b"DEALER") -> bytes:
     return command(b"READY", metadata([(b"Socket-Type", kind), (b"Identity", b"\x01" + identity)]))
 
 
-def message(frames):
+def message(frames: List[bytes]) -> bytes:
     last = len(frames) - 1
     return b"".join(frame(body, 1 if at < last else 0) for at, body in enumerate(frames))
 
 
-def hello(chance, number):
+def hello(chance: random.Random, number: int) -> List[bytes]:
     groups = [chance.choice(GROUPS) for _ in range(chance.choice([0, 0, 1, 2, 5]))]
     headers = [(chance.choice(NAMES), chance.choice(GROUPS)) for _ in range(chance.choice([0, 0, 1, 3]))]
     endpoint = chance.choice([b"tcp://10.0.0.2:49152", b"tcp://10.0.0.2:49152", b"", b"tcp://256.0.0.1:1", b"ipc://x"])
@@ -52,7 +57,7 @@ def hello(chance, number):
     return [body]
 
 
-def said(chance, number):
+def said(chance: random.Random, number: int) -> List[bytes]:
     """The frames of a message that isn't HELLO."""
     kind = chance.choice([2, 3, 3, 4, 4, 5, 6, 7])
     body = b"\xaa\xa1" + bytes([kind, 2]) + number.to_bytes(2, "big")
@@ -64,8 +69,8 @@ def said(chance, number):
     return [body] + (content if kind in (2, 3) else [])
 
 
-def traffic(chance):
-    """Messages of one sender, now and then with one that is lost, repeated or out of place, and PINGs between frames."""
+def traffic(chance: random.Random) -> bytes:
+    """Messages of one sender, now and then with one lost, repeated or out of place, and PINGs between frames."""
     parts = []
     number = 1
     for at in range(chance.randrange(1, 12)):
@@ -77,38 +82,37 @@ def traffic(chance):
     return b"".join(parts)
 
 
-def stream(chance, identity):
+def stream(chance: random.Random, identity: bytes) -> bytes:
     return GREETING + ready(identity, chance.choice([b"DEALER"] * 9 + [b"ROUTER"])) + traffic(chance)
 
 
-def quoted(octets):
+def quoted(octets: bytes) -> str:
     return "".join(chr(o) if o in PLAIN else f"%{o:02X}" for o in octets) or "~"
 
 
-def piece(octets):
+def piece(octets: bytes) -> str:
     return octets.hex() or "-"
 
 
 class Journal:
     """Entries of a journal, line by line, with the identities of three peers."""
 
-    def __init__(self, chance):
+    def __init__(self, chance: random.Random) -> None:
         self.chance = chance
         self.peers = [bytes([0x10 * at + 1]) * 16 for at in range(1, 4)]
-        self.streams = {}
-        self.linked = []
+        self.streams: Dict[int, bytes] = {}
 
-    def datagram(self):
+    def datagram(self) -> str:
         at = self.chance.randrange(3)
         port = self.chance.choice([b"\xc0\x00"] * 5 + [b"\x00\x00"])
         return f"datagram 10.0.0.{at + 2} {(b'ZRE' + bytes([1]) + self.peers[at] + port).hex()}"
 
-    def opened(self):
+    def opened(self) -> str:
         number = self.chance.randrange(1, 6)
         self.streams[number] = stream(self.chance, self.chance.choice(self.peers))
         return f"opened {number}"
 
-    def piece(self):
+    def piece(self) -> str:
         if not self.streams:
             return self.opened()
         number = self.chance.choice(list(self.streams))
@@ -117,10 +121,10 @@ class Journal:
         self.streams[number] = octets[cut:]
         return f"piece {number} {piece(octets[:cut])}"
 
-    def shut(self):
+    def shut(self) -> str:
         return f"shut {self.chance.randrange(1, 6)}"
 
-    def link(self):
+    def link(self) -> str:
         number = self.chance.randrange(1, 5)
         octets = GREETING + ready(b"", b"ROUTER") + command(b"PING", bytes(2) + b"x")
         return self.chance.choice([
@@ -129,24 +133,26 @@ class Journal:
             f"reply {number} {piece(octets[:self.chance.choice([0, 20, 64, len(octets)])])}",
         ])
 
-    def wish(self):
+    def wish(self) -> str:
         group = quoted(self.chance.choice(GROUPS))
         peer = self.chance.choice(self.peers).hex().upper()
         table = quoted(f"zre-set {self.chance.randrange(4)} {peer} k {self.chance.choice('abc')}".encode())
         return "do " + self.chance.choice([
-            f"join {group}", f"leave {group}", f"shout {group} {table}", f"shout {group} x,~,y", f"whisper {peer} {table}",
-            f"bad {self.chance.choice(NUMBERS[:-1])}",
+            f"join {group}", f"leave {group}", f"shout {group} {table}", f"shout {group} x,~,y",
+            f"whisper {peer} {table}", f"bad {self.chance.choice(NUMBERS[:-1])}",
         ])
 
-    def entry(self):
+    def entry(self) -> str:
         chance = self.chance
         if chance.random() < 0.02:
             return chance.choice(["do quit", "end"])
-        ways = [self.datagram, self.opened, self.piece, self.piece, self.piece, self.shut, self.link, self.link, self.wish]
-        return chance.choice(ways + [lambda: "tick"])()
+        ways: List[Callable[[], str]] = [
+            self.datagram, self.opened, self.piece, self.piece, self.piece, self.shut, self.link, self.link, self.wish,
+            lambda: "tick"]
+        return chance.choice(ways)()
 
 
-def captures(chance):
+def captures(chance: random.Random) -> Tuple[bytes, bytes]:
     """The same entries as a capture of format 1 and of format 2."""
     journal = Journal(chance)
     first = ["zre-capture 1"]
@@ -159,10 +165,10 @@ def captures(chance):
         entry = journal.entry()
         first.append(f"{clock} {entry}")
         second.append(f"{step} {entry}")
-    return tuple(("\n".join(lines) + "\n").encode() for lines in (first, second))
+    return "".join(f"{line}\n" for line in first).encode(), "".join(f"{line}\n" for line in second).encode()
 
 
-def two_captures(chance):
+def two_captures(chance: random.Random) -> bytes:
     """Captures of format 2 of two nodes, one after the other; now and then both of one node."""
     other = chance.choice(["E", "E", "E", "F"]) * 32
     return captures(chance)[1] + captures(chance)[1].replace(b"F" * 32, other.encode(), 1)
@@ -171,20 +177,20 @@ def two_captures(chance):
 class Network:
     """Moves of a schedule of three nodes, most of which can be made."""
 
-    def __init__(self, chance):
+    def __init__(self, chance: random.Random) -> None:
         self.chance = chance
-        self.beacons = []
-        self.links = []
-        self.known = set()
+        self.beacons: List[int] = []
+        self.links: List[int] = []
+        self.known: Set[Tuple[int, int]] = set()
         self.conns = 0
         self.moves = [f"start {node} 0 {str(node) * 32} n{node} 10.0.0.{node} 5000" for node in (1, 2, 3)]
 
-    def tick(self):
+    def tick(self) -> str:
         node = self.chance.randrange(1, 4)
         self.beacons.append(node)
         return f"tick {node} {self.chance.choice([0, 0, 100, 5000])}"
 
-    def beacon(self):
+    def beacon(self) -> str:
         if not self.beacons:
             return self.tick()
         number = self.chance.randrange(len(self.beacons)) + 1
@@ -194,20 +200,20 @@ class Network:
             self.links.append(sender)
         return f"beacon {number} {node} 0"
 
-    def open(self):
+    def open(self) -> str:
         if not self.links:
             return self.beacon()
         number = self.chance.randrange(len(self.links)) + 1
         self.conns += 1
         return f"open {number} {self.links[number - 1]} 0"
 
-    def carry(self):
+    def carry(self) -> str:
         if not self.conns:
             return self.open()
         number = self.chance.randrange(self.conns) + 1
         return f"carry {number} {self.chance.choice(['greeting', 'ready', 1, 1, 1, 2, 3])}"
 
-    def handed(self):
+    def handed(self) -> str:
         """A whole beginning of a connection: its greeting, READY and HELLO, in one piece or two."""
         first = self.open()
         if not first.startswith("open"):
@@ -217,49 +223,51 @@ class Network:
         self.moves += [f"piece {self.conns} {cut} 0"] if cut else []
         return f"piece {self.conns} {size - cut} 0"
 
-    def link(self):
+    def link(self) -> str:
         if not self.links:
             return self.beacon()
         number = self.chance.randrange(len(self.links)) + 1
         return self.chance.choice([f"linked {number} 0", f"took {number} {self.chance.randrange(300)} 0",
                                    f"reply {number} 0 {piece(GREETING[:self.chance.choice([0, 9, 64])])}"])
 
-    def wish(self):
+    def wish(self) -> str:
         node, other = self.chance.randrange(1, 4), self.chance.randrange(1, 4)
-        return f"do {node} 0 " + self.chance.choice(["join g", "leave g", "shout g x", f"whisper {str(other) * 32} y", "bad 7"])
+        whisper = f"whisper {str(other) * 32} y"
+        return f"do {node} 0 " + self.chance.choice(["join g", "leave g", "shout g x", whisper, "bad 7"])
 
-    def end(self):
+    def end(self) -> str:
         node = self.chance.randrange(1, 4)
         number = self.chance.randrange(self.conns or 1) + 1
         return self.chance.choice([f"shut {number} 0", f"crash {node}", f"do {node} 0 quit",
                                    f"start {node} 0 {str(node) * 32} n{node} 10.0.0.{node} 5000"])
 
-    def schedule(self):
-        ways = [self.tick, self.beacon, self.beacon, self.handed, self.handed, self.carry, self.link, self.wish, self.wish]
+    def schedule(self) -> bytes:
+        ways = [
+            self.tick, self.beacon, self.beacon, self.handed, self.handed, self.carry, self.link, self.wish, self.wish]
         for _ in range(self.chance.randrange(4, 30)):
             self.moves.append(self.end() if self.chance.random() < 0.04 else self.chance.choice(ways)())
         return ("\n".join(["zre-schedule 1", *self.moves]) + "\n").encode()
 
 
-def mutated(chance, octets):
+def mutated(chance: random.Random, octets: bytes) -> bytes:
     """One to three changes: octets changed, left out, put in, doubled, or a number that is at an edge."""
-    octets = bytearray(octets)
+    changed = bytearray(octets)
     for _ in range(chance.choice([1, 1, 2, 3])):
-        at = chance.randrange(len(octets) + 1)
-        end = min(len(octets), at + chance.choice([1, 1, 2, 8, 40]))
+        at = chance.randrange(len(changed) + 1)
+        end = min(len(changed), at + chance.choice([1, 1, 2, 8, 40]))
         kind = chance.randrange(7)
         if kind == 0:
-            octets[at:end] = chance.randbytes(end - at)
+            changed[at:end] = chance.randbytes(end - at)
         elif kind == 1:
-            del octets[at:end]
+            del changed[at:end]
         elif kind == 2:
-            octets[at:at] = chance.randbytes(chance.choice([1, 2, 9]))
+            changed[at:at] = chance.randbytes(chance.choice([1, 2, 9]))
         elif kind == 3:
-            octets[at:at] = octets[at:end]
+            changed[at:at] = changed[at:end]
         elif kind == 4:
-            octets[at:end] = str(chance.choice(NUMBERS)).encode()
-        elif kind == 5 and at < len(octets):
-            octets[at] ^= 1 << chance.randrange(8)
+            changed[at:end] = str(chance.choice(NUMBERS)).encode()
+        elif kind == 5 and at < len(changed):
+            changed[at] ^= 1 << chance.randrange(8)
         else:
-            del octets[at:]
-    return bytes(octets)
+            del changed[at:]
+    return bytes(changed)

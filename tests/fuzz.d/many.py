@@ -6,6 +6,7 @@ import re
 import struct
 import subprocess
 import time
+from functools import lru_cache
 from typing import Callable, Dict, Iterator, List, NamedTuple, Optional, Tuple
 
 import checked  # beside this file
@@ -17,7 +18,7 @@ Answer = Tuple[int, bytes]
 # the program itself is started for one.
 BATCH, BASES, LIMIT, SAMPLE = 4000, 40, 120, 500
 # After so many cases a line says that they are done.
-TELL = 1_000_000
+TELL = 200_000
 TEXT = re.compile(rb"(?:(?!BADINPUT)[!-~]+(?: [!-~]+)*\n)*")
 REFUSAL = re.compile(rb"BADINPUT [0-9]+(?: [0-9]+)?\n")
 # What these commands write of a beginning of the input isn't a beginning of the text.
@@ -43,10 +44,14 @@ def sized(octets: bytes) -> bytes:
     return struct.pack(">I", len(octets)) + octets
 
 
+@lru_cache
+def packed_words(words: Tuple[bytes, ...]) -> bytes:
+    return bytes([len(words)]) + b"".join(map(sized, words))
+
+
 def packed(case: Case) -> bytes:
     """A case as `zre_cases` reads it."""
-    words = b"".join(map(sized, case.words))
-    return bytes([len(case.words)]) + words + bytes([case.most]) + sized(case.octets)
+    return packed_words(case.words) + bytes([case.most]) + sized(case.octets)
 
 
 def answers(program: str, cases: List[Case]) -> List[Answer]:
@@ -184,10 +189,8 @@ class Many:
                 yield at, f"the program has status {ran.returncode} and {len(ran.stdout)} octets"
 
     def of_second(self, cases: List[Case], told: List[Answer]) -> Iterator[Tuple[int, str]]:
-        """What the second reading says otherwise. It doesn't speak of `exercise`."""
+        """What the second reading says otherwise."""
         for at, case in enumerate(cases):
-            if case.words[:1] == (b"exercise",):
-                continue
             text, status = self.judges.second(list(case.words), case.octets)
             name = case.words[0].decode("ascii", "replace") if status != 2 else "words that are no command"
             self.count(f"{name}, compared with the second reading", 1)

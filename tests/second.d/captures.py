@@ -3,9 +3,10 @@ from __future__ import annotations
 
 import re
 import urllib.parse
+from functools import lru_cache
 from typing import Callable, Dict, List, NamedTuple, Optional, Tuple
 
-from messages import quote
+from messages import KEPT, quote
 from node import Settings
 
 GREATEST = 2 ** 64 - 1
@@ -37,6 +38,7 @@ class Entry(NamedTuple):
     text: bytes
 
 
+@lru_cache(KEPT)
 def number(field: bytes, least: int = 0, greatest: int = GREATEST) -> int:
     """A number in decimal without leading zeros."""
     value = int(field) if NUMBER.fullmatch(field) and len(field) <= GREATEST_DIGITS else -1
@@ -45,6 +47,7 @@ def number(field: bytes, least: int = 0, greatest: int = GREATEST) -> int:
     return value
 
 
+@lru_cache(KEPT)
 def address(field: bytes) -> str:
     parts = field.split(b".")
     if len(parts) != 4:
@@ -52,6 +55,7 @@ def address(field: bytes) -> str:
     return ".".join(str(number(part, 0, 255)) for part in parts)
 
 
+@lru_cache(KEPT)
 def digits(field: bytes) -> bytes:
     """Octets as lower-case digits, two for each, or - for none."""
     if field == b"-":
@@ -61,12 +65,14 @@ def digits(field: bytes) -> bytes:
     return bytes.fromhex(field.decode())
 
 
+@lru_cache(KEPT)
 def identity(field: bytes) -> bytes:
     if not IDENTITY.fullmatch(field):
         raise NotAsRequired
     return bytes.fromhex(field.decode())
 
 
+@lru_cache(KEPT)
 def quoted(field: bytes) -> bytes:
     """Octets that are quoted, each in the one way in which it can be."""
     octets = b"" if field == b"~" else urllib.parse.unquote_to_bytes(field)
@@ -75,6 +81,7 @@ def quoted(field: bytes) -> bytes:
     return octets
 
 
+@lru_cache(KEPT)
 def frames(field: bytes) -> Tuple[bytes, ...]:
     return () if field == b"%" else tuple(map(quoted, field.split(b",")))
 

@@ -1,9 +1,9 @@
-"""What the commands that read one input write, and their exit status."""
+"""What the commands that need no network write, and their exit status."""
 from __future__ import annotations
 
 from typing import List, Tuple
 
-import captures
+import exercise
 import messages
 import network
 import records
@@ -110,7 +110,7 @@ def place_of(capture: Capture) -> Tuple[int, ...]:
 
 
 def run(words: List[bytes], octets: bytes) -> Answer:
-    """What the command with these words answers to this input. It isn't `chat`, `gate` or `exercise`."""
+    """What the command with these words answers to this input. It isn't `chat` or `gate`."""
     are_words, told = argument(words)
     if not are_words:
         return b"USAGE\n", USAGE
@@ -119,6 +119,8 @@ def run(words: List[bytes], octets: bytes) -> Answer:
         return show(octets)
     if name == b"simulate":
         return simulate(octets)
+    if name == b"exercise":
+        return answer(exercise.summary(exercise.Asked(*told)))
     if name == b"follow":
         return follow(told, octets)
     if name == b"upgrade":

@@ -89,6 +89,8 @@ def unsent() -> Iterator[Row]:
     slow = f"EXIT {SHOWN} Ann slow {UNSENT}"
     yield "4,194,304 octets wait, and a message", ["replay"], joined([*full, "0 do join g"]), f"{slow} 11"
     yield "4,194,304 octets wait, and PING at a tick", ["replay"], joined([*full, "5000 tick"]), f"{slow} 8"
+    joins = ["0 piece 1 00" + string(b"\xaa\xa1\x04\x02\x00\x02" + string(b"g") + b"\x01").hex(), "0 do shout g ~"]
+    yield "4,194,304 octets wait, and a shout", ["replay"], joined([*full, *joins]), f"{slow} 12"
     ping = "040704" + b"PING".hex() + "0000"
     yield ("4,194,304 octets wait, and PING and a fault in the replies", ["replay"],
            joined([*full, "0 linked 1", f"0 reply 1 {replies}{ping}ff"]), f"{slow} 7")

@@ -1,8 +1,11 @@
 """Messages of version 2 of RFC 36, what a peer shows by them, and the lines that tell of them."""
 from __future__ import annotations
 
+from functools import lru_cache
 from typing import Dict, List, NamedTuple, Optional, Tuple
 
+# How many of the last answers to the same question are kept, where a question comes often.
+KEPT = 4096
 HELLO, WHISPER, SHOUT, JOIN, LEAVE, PING, PING_OK = range(1, 8)
 NAMES = dict(enumerate("HELLO WHISPER SHOUT JOIN LEAVE PING PING-OK".split(), 1))
 GROUPS, GROUP_OCTETS, HEADERS = 1_024, 255, 256
@@ -128,6 +131,7 @@ def spell(message: Message) -> List[bytes]:
     return [first, *message.content]
 
 
+@lru_cache(KEPT)
 def quote(octets: bytes) -> str:
     """Octets as a field: a visible character stands for itself, but for four of them."""
     return "".join(map(QUOTED.__getitem__, octets)) or "~"

@@ -1,11 +1,13 @@
 """Schedules: the moves of up to sixteen nodes, and what their nodes tell."""
 from __future__ import annotations
 
+from functools import lru_cache
 from typing import Callable, Dict, List, NamedTuple, Tuple
 
 import captures
 import zmtp
 from captures import BadCapture, Line, number
+from messages import KEPT
 from node import Link, Node, Settings
 
 LINES, OCTETS, LINE_OCTETS = 262_144, 16_777_216, 4_194_304
@@ -61,22 +63,24 @@ def read(octets: bytes) -> List[Move]:
         if count > LINES or length > OCTETS or len(text) > LINE_OCTETS or count > len(lines):
             raise BadSchedule(count)
         try:
-            line = Line(text, LINE_OCTETS)
-            if count == 1:
-                line.word(b"zre-schedule")
-                line.word(b"1")
-            else:
-                moves.append(move_of(line))
-            line.ends(True)
+            if count > 1:
+                moves.append(move_of(text))
+            elif text != b"zre-schedule 1":
+                raise BadSchedule(count)
         except BadCapture:
             raise BadSchedule(count) from None
     return moves
 
 
-def move_of(line: Line) -> Move:
+@lru_cache(KEPT)
+def move_of(text: bytes) -> Move:
+    """The move of a line; raises where it has none."""
+    line = Line(text, LINE_OCTETS)
     word = line.word(*MOVES)
     fields = tuple(line.take(judge) for judge in MOVES[word])
-    return Move(word.decode(), fields, captures.command(line)) if word == b"do" else Move(word.decode(), fields)
+    command = captures.command(line) if word == b"do" else ("", ())
+    line.ends(True)
+    return Move(word.decode(), fields, command)
 
 
 class Incarnation(NamedTuple):

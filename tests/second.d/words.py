@@ -1,4 +1,4 @@
-"""The words of a command line: those of the commands that read one input."""
+"""The words of a command line: those of the commands that need no network."""
 from __future__ import annotations
 
 import re
@@ -10,14 +10,16 @@ from node import Settings
 
 GROUP_OCTETS = 255
 HYPHENATED = "-".join(f"[0-9a-fA-F]{{{count}}}" for count in (8, 4, 4, 4, 12))
-UUID = re.compile(rf"[0-9a-fA-F]{{32}}|{HYPHENATED}|{{{HYPHENATED}}}|urn:uuid:{HYPHENATED}".encode())
+UUID = re.compile(rf"[0-9a-fA-F]{{32}}|{HYPHENATED}|{{{HYPHENATED}}}|(?i:urn:uuid:){HYPHENATED}".encode())
 # The keys of each command: those that stand once, those that may be left out, and those that may stand often.
 OF_NODE = ([b"id", b"host", b"port"], [b"name", b"evasive", b"expired"], [b"header"])
 Keys = Tuple[List[bytes], List[bytes], List[bytes]]
 KEYS: Dict[bytes, Keys] = {
     b"follow": ([b"id"], [], []), b"show": ([], [], []), b"replay": OF_NODE, b"upgrade": OF_NODE,
     b"table": ([b"group"], [], []), b"audit": ([], [], []), b"simulate": ([], [], []),
+    b"exercise": ([b"seed", b"peers", b"messages"], [], []),
 }
+MOST_PEERS, MOST_MESSAGES = 256, 1_000_000
 
 
 def values_of(keys: Keys, words: List[bytes]) -> Dict[bytes, List[bytes]]:
@@ -37,7 +39,7 @@ def values_of(keys: Keys, words: List[bytes]) -> Dict[bytes, List[bytes]]:
 def uuid(value: bytes) -> bytes:
     if not UUID.fullmatch(value):
         raise NotAsRequired
-    return bytes.fromhex(re.sub(r"urn:uuid:|[-{}]", "", value.decode()))
+    return bytes.fromhex(re.sub(r"(?i:urn:uuid:)|[-{}]", "", value.decode()))
 
 
 def at_most(octets: bytes, limit: int) -> bytes:
@@ -67,8 +69,12 @@ def settings(values: Dict[bytes, List[bytes]]) -> Settings:
     return Settings(own, name, host, port, evasive, expired, headers(values[b"header"]))
 
 
+def exercise(seed: bytes, peers: bytes, messages: bytes) -> Tuple[int, int, int]:
+    return number(seed), number(peers, 1, MOST_PEERS), number(messages, 0, MOST_MESSAGES)
+
+
 def argument(words: List[bytes]) -> Tuple[bool, Optional[object]]:
-    """Whether the words are those of a command, and what they say: settings, an identity, a group."""
+    """Whether the words are those of a command, and what they say: settings, an identity, a group, three numbers."""
     try:
         for word in words:
             word.decode()
@@ -82,6 +88,8 @@ def argument(words: List[bytes]) -> Tuple[bool, Optional[object]]:
             return True, settings(values)
         if name == b"follow":
             return True, uuid(values[b"id"][0])
+        if name == b"exercise":
+            return True, exercise(*(values[key][0] for key in KEYS[name][0]))
         if name == b"table":
             return True, at_most(captures.quoted(values[b"group"][0]), GROUP_OCTETS)
         return True, None

@@ -1,9 +1,9 @@
 /*
- * Linked into a draft whose blocks are counted (scripts/draft --blocks): at its end it writes which were reached, a line
- * PLACE 0 or PLACE 1 for each, into the file that BLOCKS names.
+ * Linked into a draft whose places are counted (scripts/draft --places): at its end it writes the numbers of those that
+ * were reached, a line for each, into the file that PLACES names.
  *
  * Where REFUSED names a file, the program runs over it once for each of its allocations, which is refused there, and
- * the blocks of all these runs are written. A run that a signal ends is told on standard error.
+ * the places of all these runs are written. A run that a signal ends is told on standard error.
  */
 #include <errno.h>
 #include <fcntl.h>
@@ -15,29 +15,23 @@
 #include <sys/wait.h>
 #include <unistd.h>
 
-extern char __executable_start;
+#define MOST_PLACES 65536
+
 extern void *__libc_malloc(size_t size);
 extern void *__libc_calloc(size_t count, size_t size);
 extern void *__libc_realloc(void *old, size_t size);
 
-/* What all runs share: whether the refused allocation was asked for, and the blocks that were reached. */
-struct shared { uint8_t is_refused, blocks[]; };
+/* What all runs share: whether the refused allocation was asked for, and the places that were reached. */
+struct shared { uint8_t is_refused, places[MOST_PLACES]; };
 
-static uint8_t *begun, *ended;
-static const uintptr_t *places;
 static struct shared *shared;
 static long allocations, refused;
 
-void __sanitizer_cov_8bit_counters_init(uint8_t *first, uint8_t *last)
+/* What each place calls. */
+void zre_hit(uint32_t place)
 {
-    begun = first;
-    ended = last;
-}
-
-void __sanitizer_cov_pcs_init(const uintptr_t *first, const uintptr_t *last)
-{
-    (void)last;
-    places = first;
+    if (place < MOST_PLACES)
+        shared->places[place] = 1;
 }
 
 static int is_refused(void)
@@ -64,19 +58,13 @@ void *realloc(void *old, size_t size)
     return is_refused() ? NULL : __libc_realloc(old, size);
 }
 
-static void gather(void)
+static void write_places(void)
 {
-    for (uint8_t *it = begun; it < ended; it++)
-        shared->blocks[it - begun] |= *it != 0;
-}
-
-static void write_blocks(void)
-{
-    const char *name = getenv("BLOCKS");
+    const char *name = getenv("PLACES");
     FILE *file = name ? fopen(name, "w") : NULL;
-    for (uint8_t *it = begun; file && it < ended; it++)
-        fprintf(file, "%lx %d\n", (unsigned long)(places[2 * (it - begun)] - (uintptr_t)&__executable_start),
-            shared->blocks[it - begun]);
+    for (int place = 0; file && place < MOST_PLACES; place++)
+        if (shared->places[place])
+            fprintf(file, "%d\n", place);
     if (file)
         fclose(file);
 }
@@ -100,7 +88,7 @@ static int goes_on(const char *name, long which)
 __attribute__((constructor)) static void begin(void)
 {
     const char *name = getenv("REFUSED");
-    shared = mmap(NULL, sizeof *shared + (ended - begun), PROT_READ | PROT_WRITE, MAP_SHARED | MAP_ANONYMOUS, -1, 0);
+    shared = mmap(NULL, sizeof *shared, PROT_READ | PROT_WRITE, MAP_SHARED | MAP_ANONYMOUS, -1, 0);
     if (shared == MAP_FAILED)
         abort();
     for (long which = 1; name != NULL; which++) {
@@ -109,15 +97,14 @@ __attribute__((constructor)) static void begin(void)
             return;
         if (shared->is_refused)
             continue;
-        write_blocks();
+        write_places();
         _exit(0);
     }
 }
 
 __attribute__((destructor)) static void end(void)
 {
-    gather();
     if (refused == 0)
-        write_blocks();
+        write_places();
     refused = 0;
 }
