@@ -1,5 +1,11 @@
--- What a source that rings a bell stands on.
+-- What rings a bell, and what a source that does stands on.
+use Rattle.std.specs.Prelude.{Bool, is_none}
+use Rattle.zre_fabric.specs.declared.bell.Ringer.{Ringer}
 use Rattle.zre_fabric.specs.declared.bell.Ringing.{Ringing}
+
+-- it rings nothing
+abbrev pub is_mute : Ringer → Bool
+is_mute r = is_none r.line
 
 -- the source under it
 abbrev pub source_under : {S : Type 0} → Ringing S → S

@@ -1,6 +1,6 @@
 //! The bell that the readers of users' input ring, so that what was typed is looked for at once.
 
-ghost use Rattle.std.specs.Prelude.{◌≡◌, ◌≤◌, ◌<◌};
+ghost use Rattle.std.specs.Prelude.{◌≡◌, ◌≤◌, ◌<◌, true, is_none};
 
 use mio::net::UnixStream;
 use std::alloc::Global;
@@ -33,13 +33,19 @@ pub struct Ringer {
 }
 
 impl Ringer {
+    ghost use Rattle.zre_fabric.specs.Bells.{is_mute};
+
     /// One that rings nothing.
-    pub fn silent() -> Self {
+    pub fn silent() -> Self
+        ensures { is_mute result ≡ true }
+    {
         Ringer { line: None }
     }
 
     /// A bell, and what rings it. Where the system has none to give, it rings nothing.
-    pub fn with_bell<R: Net>(rt: &R, alloc: Global) -> (Self, Option<Bell>) {
+    pub fn with_bell<R: Net>(rt: &R, alloc: Global) -> (Self, Option<Bell>)
+        ensures { is_mute result.0 ≡ is_none result.1 }
+    {
         let Ok((line, bell)) = pair(rt) else {
             return (Ringer::silent(), None);
         };
@@ -53,7 +59,9 @@ impl Ringer {
     }
 
     /// Another that rings the same bell.
-    pub fn share(&self) -> Self {
+    pub fn share(&self) -> Self
+        ensures { is_mute self.now ≡ true → is_mute result ≡ true }
+    {
         let Some(line) = &self.line else {
             return Ringer::silent();
         };
