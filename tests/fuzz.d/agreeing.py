@@ -100,14 +100,14 @@ class Node:
             if (group in self.groups) == (words[0] == "join"):
                 return
             self.groups = self.groups + [group] if words[0] == "join" else [one for one in self.groups if one != group]
-            for peer in self.peers.values():
-                peer.link.put(words[0].upper(), frame(6 + 1 + len(group) + 1), group)
+            for other in self.peers.values():
+                other.link.put(words[0].upper(), frame(6 + 1 + len(group) + 1), group)
         elif words[0] == "whisper" and words[1] in self.peers and self.peers[words[1]].run:
             self.peers[words[1]].link.put("WHISPER", frame(6) + frame(len(words[2])), words[2])
         elif words[0] == "shout":
-            for peer in self.peers.values():
-                if peer.run and words[1] in peer.run.groups():
-                    peer.link.put("SHOUT", frame(6 + 1 + len(words[1])) + frame(len(words[2])), words[1], words[2])
+            for other in self.peers.values():
+                if other.run and words[1] in other.run.groups():
+                    other.link.put("SHOUT", frame(6 + 1 + len(words[1])) + frame(len(words[2])), words[1], words[2])
 
 
 class Conn:
@@ -244,7 +244,8 @@ class Network:
             due = conn.last + 1
             part: Part = due
             if self.chance.random() < 0.15:
-                part = self.chance.choice(["greeting", "ready", "ready", 1, due + 1, due + 1, due + 1, max(1, due - 1)])
+                others: List[Part] = ["greeting", "ready", "ready", 1, due + 1, due + 1, due + 1, max(1, due - 1)]
+                part = self.chance.choice(others)
             if isinstance(part, str) or part <= len(conn.link.messages):
                 self.carries(number, part)
 

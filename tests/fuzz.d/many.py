@@ -24,6 +24,9 @@ REFUSAL = re.compile(rb"BADINPUT [0-9]+(?: [0-9]+)?\n")
 # What these commands write of a beginning of the input isn't a beginning of the text.
 AT_THE_END = (b"table", b"audit", b"simulate")
 
+# The second reading: the text and the status of words over an input.
+Second = Callable[[List[bytes], bytes], Tuple[bytes, int]]
+
 
 class Ended(Exception):
     """The program ended before it answered all cases; at which one, and how."""
@@ -77,7 +80,9 @@ def answers(program: str, cases: List[Case]) -> List[Answer]:
 def unrefused(case: Case, answer: Answer) -> bytes:
     """The text without the line of a refusal. It is whole lines, and the status is that of the text."""
     status, text = answer
-    end = TEXT.match(text).end()
+    lines = TEXT.match(text)
+    assert lines is not None  # no line matches too
+    end = lines.end()
     if status == 0 and end == len(text):
         return text
     if status == 3 and REFUSAL.fullmatch(text, end):
@@ -101,7 +106,7 @@ class Judges(NamedTuple):
     second reading."""
     program: Optional[str] = None
     others: Tuple[str, ...] = ()
-    second: Optional[Callable[[List[bytes], bytes], Tuple[bytes, int]]] = None
+    second: Optional[Second] = None
 
 
 class Many:
@@ -152,9 +157,9 @@ class Many:
             pairs = enumerate(zip(answers(other, whole), told))
             yield from ((at, f"{other} answers otherwise") for at, (one, two) in pairs if one != two)
         if self.judges.program:
-            yield from self.of_program(cases, told)
+            yield from self.of_program(self.judges.program, cases, told)
         if self.judges.second:
-            yield from self.of_second(cases, told)
+            yield from self.of_second(self.judges.second, cases, told)
 
     @staticmethod
     def judge(case: Case, told: Answer, in_pieces: Answer, shorter: Answer) -> None:
@@ -176,10 +181,10 @@ class Many:
             if one != two:
                 yield at, "an upgraded capture is replayed to another text"
 
-    def of_program(self, cases: List[Case], told: List[Answer]) -> Iterator[Tuple[int, str]]:
+    def of_program(self, program: str, cases: List[Case], told: List[Answer]) -> Iterator[Tuple[int, str]]:
         """Some of the cases by the program itself."""
         for at in range(len(cases) % SAMPLE, len(cases), SAMPLE):
-            words = [self.judges.program, *cases[at].words]
+            words = [program.encode(), *cases[at].words]
             if any(b"\0" in word for word in cases[at].words):
                 continue
             self.count("some, compared with the program started for each", 1)
@@ -188,10 +193,10 @@ class Many:
             if (ran.returncode, ran.stdout) != told[at]:
                 yield at, f"the program has status {ran.returncode} and {len(ran.stdout)} octets"
 
-    def of_second(self, cases: List[Case], told: List[Answer]) -> Iterator[Tuple[int, str]]:
+    def of_second(self, second: Second, cases: List[Case], told: List[Answer]) -> Iterator[Tuple[int, str]]:
         """What the second reading says otherwise."""
         for at, case in enumerate(cases):
-            text, status = self.judges.second(list(case.words), case.octets)
+            text, status = second(list(case.words), case.octets)
             name = case.words[0].decode("ascii", "replace") if status != 2 else "words that are no command"
             self.count(f"{name}, compared with the second reading", 1)
             if (status, text) != told[at]:

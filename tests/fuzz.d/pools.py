@@ -5,7 +5,7 @@ import os
 import random
 import re
 import sys
-from typing import Dict, List, NamedTuple, Tuple
+from typing import Dict, List, NamedTuple, Pattern, Tuple
 
 HERE = os.path.dirname(os.path.realpath(__file__))
 sys.path.insert(0, os.path.join(HERE, "..", "second.d"))
@@ -137,7 +137,7 @@ def with_other_octets(chance: random.Random, octets: bytes, other: bytes) -> byt
     return octets[:at] + chance.randbytes(end - at) + octets[end:]
 
 
-def a_span(chance: random.Random, pattern: re.Pattern, octets: bytes) -> Tuple[int, int]:
+def a_span(chance: random.Random, pattern: Pattern[bytes], octets: bytes) -> Tuple[int, int]:
     """One of the places of a pattern; an empty one where there is none."""
     spans = [found.span() for found in pattern.finditer(octets)]
     return spans[int(chance.random() * len(spans))] if spans else (0, 0)
@@ -195,17 +195,17 @@ def changed(chance: random.Random, base: Base, octets: bytes, other: bytes) -> b
 
 def with_other_words(chance: random.Random, words: Tuple[bytes, ...]) -> Tuple[bytes, ...]:
     """Words of which one is left out, doubled, another, or one too many."""
-    words, at, way = list(words), int(chance.random() * len(words)), int(chance.random() * 4)
+    others, at, way = list(words), int(chance.random() * len(words)), int(chance.random() * 4)
     one = chance.choice(KEYS) + chance.choice(VALUES)
     if way == 0:
-        del words[at]
+        del others[at]
     elif way == 1:
-        words.insert(at, words[at])
+        others.insert(at, others[at])
     elif way == 2 and at:
-        words[at] = words[at].split(b"=")[0] + b"=" + chance.choice(VALUES)
+        others[at] = others[at].split(b"=")[0] + b"=" + chance.choice(VALUES)
     else:
-        words.insert(at + 1, one)
-    return tuple(words)
+        others.insert(at + 1, one)
+    return tuple(others)
 
 
 def an_exercise(chance: random.Random) -> Case:

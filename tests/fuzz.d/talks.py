@@ -72,4 +72,4 @@ def talk(chance: random.Random) -> Tuple[bytes, bytes]:
     if chance.random() < 0.2:
         chance.shuffle(heard[0])
     first, second = (capture(chance, which, put[which], heard[1 - which]) for which in (0, 1))
-    return tuple(("\n".join(lines) + "\n").encode() for lines in (first, second))
+    return ("\n".join(first) + "\n").encode(), ("\n".join(second) + "\n").encode()

@@ -4,10 +4,10 @@ from __future__ import annotations
 import re
 import urllib.parse
 from functools import lru_cache
-from typing import Callable, Dict, List, NamedTuple, Optional, Tuple
+from typing import Callable, Dict, List, NamedTuple, Optional, Tuple, TypeVar
 
 from messages import KEPT, quote
-from node import Settings
+from node import Field, Settings
 
 GREATEST = 2 ** 64 - 1
 GREATEST_DIGITS = 20
@@ -16,6 +16,7 @@ LONGEST_TIME = 86_400_000
 NUMBER, DIGITS = re.compile(rb"0|[1-9][0-9]*"), re.compile(rb"(?:[0-9a-f]{2})+")
 IDENTITY = re.compile(rb"[0-9A-F]{32}")
 NAME_OCTETS, VALUE_OCTETS, HEADERS = 255, 1_024, 256
+Value = TypeVar("Value")
 
 
 class NotAsRequired(Exception):
@@ -34,7 +35,7 @@ class Entry(NamedTuple):
     """A reading of the clock, the words of a form, the values of its fields, and the text behind the reading."""
     at: int
     form: str
-    fields: Tuple
+    fields: Tuple[Field, ...]
     text: bytes
 
 
@@ -108,12 +109,12 @@ def name(field: bytes) -> bytes:
     return octets
 
 
-FORMS: Dict[bytes, List[Callable]] = {
+FORMS: Dict[bytes, List[Callable[[bytes], Field]]] = {
     b"datagram": [address, digits], b"opened": [number], b"shut": [number], b"piece": [number, digits],
     b"linked": [number], b"unlinked": [number], b"reply": [number, digits], b"took": [number, number],
     b"tick": [], b"end": [],
 }
-COMMANDS: Dict[bytes, List[Callable]] = {
+COMMANDS: Dict[bytes, List[Callable[[bytes], Field]]] = {
     b"join": [quoted], b"leave": [quoted], b"whisper": [identity, frames], b"shout": [quoted, frames],
     b"bad": [number], b"quit": [],
 }
@@ -131,7 +132,7 @@ class Line:
             self.fields.pop()
         self.at, self.column = 0, 1
 
-    def take(self, judge: Callable) -> object:
+    def take(self, judge: Callable[[bytes], Value]) -> Value:
         """The value of the next field. Raises the column of what is wrong with it."""
         if self.at == len(self.fields):
             raise BadCapture(0, self.end())
@@ -164,7 +165,7 @@ class Line:
             raise BadCapture(0, self.end())
 
 
-def command(line: Line) -> Tuple[str, Tuple]:
+def command(line: Line) -> Tuple[str, Tuple[Field, ...]]:
     """The form and the fields of a command of the user."""
     word = line.word(*COMMANDS)
     return "do " + word.decode(), tuple(line.take(judge) for judge in COMMANDS[word])
@@ -213,7 +214,7 @@ class Capture:
         return Settings(own, called, host, port, evasive, expired, line.take(headers))
 
     def _entry(self, line: Line) -> Entry:
-        at = line.take(number if self.form == 1 else self._later)
+        at = line.take(number) if self.form == 1 else line.take(self._later)
         start = line.column - 2
         word = line.word(b"do", *FORMS)
         if word == b"do":

@@ -51,7 +51,8 @@ def shown(frames: List[bytes]) -> str:
 
 def follow(peer: bytes, octets: bytes) -> Answer:
     """The events of traffic, as connection 1 of a known peer. What follows the end of its run isn't looked at."""
-    stream, run, lines = zmtp.Stream(zmtp.any_peer, is_traffic=True), Run(peer), []
+    stream, run = zmtp.Stream(zmtp.any_peer, is_traffic=True), Run(peer)
+    lines: List[str] = []
     try:
         for item in stream.feed(octets):
             if not isinstance(item, zmtp.Message):
@@ -120,14 +121,22 @@ def run(words: List[bytes], octets: bytes) -> Answer:
     if name == b"simulate":
         return simulate(octets)
     if name == b"exercise":
-        return answer(exercise.summary(exercise.Asked(*told)))
+        assert isinstance(told, exercise.Asked)
+        return answer(exercise.summary(told))
     if name == b"follow":
+        assert isinstance(told, bytes)
         return follow(told, octets)
-    if name == b"upgrade":
-        return upgrade(told, octets)
-    if name in (b"audit", b"table"):
-        lines, place = records.audit(octets) if name == b"audit" else records.table(told, octets)
+    if name == b"audit":
+        lines, place = records.audit(octets)
         return answer(lines, *(place or ()))
+    if name == b"table":
+        assert isinstance(told, bytes)
+        lines, place = records.table(told, octets)
+        return answer(lines, *(place or ()))
+    assert told is None or isinstance(told, Settings)
+    if name == b"upgrade":
+        assert told is not None
+        return upgrade(told, octets)
     capture = Capture(octets, 1 if told else 2)
     capture.settings = told or capture.settings
     return replay(capture)

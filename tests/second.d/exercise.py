@@ -6,7 +6,7 @@ from typing import Iterator, List, NamedTuple, Tuple
 import messages
 import zmtp
 from messages import Message
-from node import Node, Settings
+from node import Field, Node, Settings
 
 FACTOR, ADDEND = 6364136223846793005, 1442695040888963407
 NODE = Settings(b"\xff" * 16, b"node", "10.0.0.1", 49152)
@@ -14,7 +14,7 @@ NODE = Settings(b"\xff" * 16, b"node", "10.0.0.1", 49152)
 TURNS = (messages.JOIN, messages.SHOUT, messages.WHISPER, messages.LEAVE)
 COUNTED = ("ENTER", "JOIN", "LEAVE", "WHISPER", "SHOUT", "EXIT")
 # A reading of the clock, the words of a form, and the values of its fields.
-Given = Tuple[int, str, Tuple]
+Given = Tuple[int, str, Tuple[Field, ...]]
 
 
 class Asked(NamedTuple):

@@ -248,7 +248,8 @@ class Journal:
 def settings(chance: random.Random) -> Tuple[List[str], str]:
     """The words of a node, and the head of format 2 with the same settings."""
     evasive, expired = chance.choice([(5000, 30000), (5000, 30000), (100, 1000), (1, 1), (1000, 1000), (500, 86400000)])
-    headers = chance.choice([[], [], ["X-A=b"], ["X-A=b", "C=d e"]])
+    some: List[List[str]] = [[], [], ["X-A=b"], ["X-A=b", "C=d e"]]
+    headers = chance.choice(some)
     words = [f"id={OWN.hex()}", "host=10.0.0.1", "port=49153", "name=Me", f"evasive={evasive}", f"expired={expired}"]
     shown = ",".join(header.replace(" ", "%20") for header in headers) or "%"
     head = f"zre-capture 2 {OWN.hex().upper()} Me 10.0.0.1 49153 {evasive} {expired} {shown}"

@@ -215,6 +215,7 @@ class Run:
             return "hello"
         if message.number != due:
             return f"order {due} {message.number}"
+        assert self.view is not None
         if not self.view.has_room(message):
             return "limit"
         self.view.take(message)
@@ -222,11 +223,17 @@ class Run:
         self.said += said_by(message)
         return None
 
+    def is_in(self, group: bytes) -> bool:
+        """Whether the peer is in a group."""
+        return self.view is not None and group in self.view.groups
+
     def line(self, event: str, *fields: str) -> str:
+        assert self.view is not None
         return " ".join([event, self.id, quote(self.view.name), *fields])
 
     def told(self, message: Message) -> List[str]:
         """The events of a message that was counted."""
+        assert self.view is not None
         if message.command == HELLO:
             enter = self.line("ENTER", quote(self.view.endpoint), quote_pairs(list(self.view.headers.items())))
             return [enter, *(self.line("JOIN", quote(group)) for group in self.view.groups)]

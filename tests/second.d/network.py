@@ -2,17 +2,20 @@
 from __future__ import annotations
 
 from functools import lru_cache
-from typing import Callable, Dict, List, NamedTuple, Tuple
+from typing import Callable, Dict, List, NamedTuple, Tuple, TypeVar, Union
 
 import captures
 import zmtp
 from captures import BadCapture, Line, number
 from messages import KEPT
-from node import Link, Node, Settings
+from node import Field, Link, Node, Settings
 
 LINES, OCTETS, LINE_OCTETS = 262_144, 16_777_216, 4_194_304
 CARRIED = 1_073_741_824
 EVASIVE, EXPIRED = 5_000, 30_000
+Thing = TypeVar("Thing")
+# The form and the fields of the command of `do`; another move has none.
+Command = Union[Tuple[()], Tuple[str, Tuple[Field, ...]]]
 
 
 class BadSchedule(Exception):
@@ -31,12 +34,12 @@ def port(field: bytes) -> int:
     return number(field, 0, 65535)
 
 
-def part(field: bytes) -> object:
+def part(field: bytes) -> Union[str, int]:
     """What a connection is to carry: the greeting, READY, or a message."""
     return field.decode() if field in (b"greeting", b"ready") else number(field)
 
 
-MOVES: Dict[bytes, List[Callable]] = {
+MOVES: Dict[bytes, List[Callable[[bytes], Field]]] = {
     b"start": [node_number, number, captures.identity, captures.name, captures.address, port], b"crash": [node_number],
     b"tick": [node_number, number], b"do": [node_number, number], b"beacon": [number, node_number, number],
     b"open": [number, node_number, number], b"carry": [number, part], b"piece": [number, number, number],
@@ -49,8 +52,8 @@ MOVES: Dict[bytes, List[Callable]] = {
 class Move(NamedTuple):
     """A move: its word and its fields, and of `do` the form and the fields of the command."""
     word: str
-    fields: Tuple
-    command: Tuple[str, Tuple] = ("", ())
+    fields: Tuple[Field, ...]
+    command: Command = ()
 
 
 def read(octets: bytes) -> List[Move]:
@@ -78,7 +81,7 @@ def move_of(text: bytes) -> Move:
     line = Line(text, LINE_OCTETS)
     word = line.word(*MOVES)
     fields = tuple(line.take(judge) for judge in MOVES[word])
-    command = captures.command(line) if word == b"do" else ("", ())
+    command: Command = captures.command(line) if word == b"do" else ()
     line.ends(True)
     return Move(word.decode(), fields, command)
 
@@ -111,15 +114,11 @@ class Network:
 
     def move(self, move: Move) -> None:
         """Makes a move; raises where it can't be made."""
-        if move.word == "do":
-            which, at = move.fields
-            self.enter(self.node(which), at, *move.command)
-        else:
-            getattr(self, move.word)(*move.fields)
+        getattr(self, move.word)(*move.fields, *move.command)
         if sum(link.queued for _, link in self.links) > CARRIED or sum(len(way.pending) for way in self.ways) > CARRIED:
             raise BadSchedule
 
-    def enter(self, whose: Incarnation, at: int, form: str, fields: Tuple) -> None:
+    def enter(self, whose: Incarnation, at: int, form: str, fields: Tuple[Field, ...]) -> None:
         """An entry at a node, and the events, beacons and links that it brings."""
         node = whose.node
         told, sent, made = len(node.lines), len(node.beacons), len(node.links)
@@ -133,7 +132,7 @@ class Network:
             raise BadSchedule
         return self.running[which]
 
-    def numbered(self, found: list, which: int) -> object:
+    def numbered(self, found: List[Thing], which: int) -> Thing:
         """What has this number, from 1."""
         if not 1 <= which <= len(found):
             raise BadSchedule
@@ -155,6 +154,9 @@ class Network:
         self.node(which)
         del self.running[which]
 
+    def do(self, which: int, at: int, form: str, fields: Tuple[Field, ...]) -> None:
+        self.enter(self.node(which), at, form, fields)
+
     def tick(self, which: int, at: int) -> None:
         self.enter(self.node(which), at, "tick", ())
 
@@ -168,14 +170,14 @@ class Network:
         self.ways.append(Way(whose, *self.numbered(self.links, link)))
         self.enter(whose, at, "opened", (len(self.ways),))
 
-    def carry(self, which: int, part: object) -> None:
+    def carry(self, which: int, part: Union[str, int]) -> None:
         way = self.numbered(self.ways, which)
-        if part == "greeting":
-            way.pending += zmtp.greeting()
-        elif part == "ready":
-            way.pending += zmtp.ready(way.sender.node.settings.id)
-        else:
+        if isinstance(part, int):
             way.pending += self.numbered(way.link.messages, part)
+        elif part == "greeting":
+            way.pending += zmtp.greeting()
+        else:
+            way.pending += zmtp.ready(way.sender.node.settings.id)
 
     def piece(self, which: int, count: int, at: int) -> None:
         way = self.numbered(self.ways, which)
@@ -190,7 +192,7 @@ class Network:
         self.runs(way.at)
         self.enter(way.at, at, "shut", (which,))
 
-    def on_link(self, which: int, at: int, form: str, *fields: object) -> None:
+    def on_link(self, which: int, at: int, form: str, *fields: Field) -> None:
         """An entry about a link at its node, which has a number of its own for it."""
         whose, link = self.numbered(self.links, which)
         self.runs(whose)

@@ -2,7 +2,7 @@
 from __future__ import annotations
 
 import re
-from typing import Dict, List, NamedTuple, Optional, Tuple
+from typing import Dict, List, NamedTuple, Optional, Tuple, Union
 
 import messages
 import zmtp
@@ -12,6 +12,10 @@ PEERS, CONNECTIONS = 256, 512
 UNSENT = 4_194_304
 GREETING, READY = 64, 60
 ENDPOINT = re.compile(rb"tcp://(\d+)\.(\d+)\.(\d+)\.(\d+):(\d+)", re.ASCII)
+
+
+# The value of a field of an entry: a number, an address, octets, or the frames of a content.
+Field = Union[int, str, bytes, Tuple[bytes, ...]]
 
 
 class Settings(NamedTuple):
@@ -127,7 +131,7 @@ class Node:
         self.runs: List[Run] = []
         self.brought: List[Said] = []
 
-    def step(self, at: int, form: str, fields: Tuple) -> None:
+    def step(self, at: int, form: str, fields: Tuple[Field, ...]) -> None:
         """Takes an entry: a reading of the clock, the words of its form, and its fields."""
         if not self.is_stopped:
             self.clock = max(self.clock, at)
@@ -152,6 +156,7 @@ class Node:
         """The end of a known peer. The connection that ran it is ignored from now on."""
         conn = self.peers.pop(peer).conn
         if conn:
+            assert conn.run is not None
             self.lines.append(conn.run.line("EXIT", cause))
             conn.run = None
             self.ignore(conn)
@@ -206,7 +211,7 @@ class Node:
                 if isinstance(item, zmtp.Message):
                     self.message(conn, item.frames)
                 elif isinstance(item, zmtp.Command) and item.shakes:
-                    self.shaken(conn, zmtp.property_of(zmtp.properties(item.rest), b"Identity")[1:])
+                    self.shaken(conn, zmtp.identity_of(item))
                 if conn.is_ignored:
                     return
         except zmtp.Fault as fault:
@@ -229,7 +234,7 @@ class Node:
     def reply(self, number: int, octets: bytes) -> None:
         peer = self.on_link(number)
         cause = self.peers[peer].link.reply(octets) if peer else None
-        if cause:
+        if peer and cause:
             self.ends(peer, cause)
 
     def took(self, number: int, count: int) -> None:
@@ -240,13 +245,13 @@ class Node:
     def tick(self) -> None:
         own = self.settings
         silent = {peer: self.clock - found.active for peer, found in self.peers.items()}
-        entered = [peer for peer, found in self.peers.items() if found.conn]
+        entered = {peer: found.conn.run for peer, found in self.peers.items() if found.conn and found.conn.run}
         evasive = [peer for peer in entered if own.evasive <= silent[peer] < own.expired]
         for peer, passed in silent.items():
             if passed >= own.expired:
                 self.ends(peer, "expired")
         for peer in evasive:
-            self.lines.append(self.peers[peer].conn.run.line("EVASIVE"))
+            self.lines.append(entered[peer].line("EVASIVE"))
             self.push(peer, Message(messages.PING, 0))
         for conn in list(self.conns.values()):
             if not conn.run and self.clock - conn.since >= own.expired:
@@ -261,6 +266,7 @@ class Node:
     def close(self, conn: Conn, cause: str, *why: object) -> None:
         """The peer that it runs ends with the cause; then it is closed, with a line where there is a reason."""
         if conn.run:
+            assert conn.peer is not None
             self.ends(conn.peer, cause)
         conn.is_ignored = True
         del self.conns[conn.number]
@@ -286,6 +292,7 @@ class Node:
 
     def first(self, conn: Conn, message: Message) -> None:
         """The first message of a connection starts a run of its peer, or the connection is ignored."""
+        assert conn.peer is not None
         run, known = Run(conn.peer), conn.peer in self.peers
         why = run.start(message)
         if not why and not known and not is_endpoint(message.endpoint):
@@ -302,6 +309,7 @@ class Node:
         self.lines += run.told(message)
 
     def later(self, conn: Conn, message: Message) -> None:
+        assert conn.run is not None and conn.peer is not None
         cause = conn.run.next(message)
         if cause:
             self.ends(conn.peer, cause)
@@ -353,7 +361,8 @@ class Node:
             self.tell("REFUSED TOOBIG")
             return
         self.brought += said_by(body)
-        for peer in [peer for peer, found in self.peers.items() if found.conn and group in found.conn.run.view.groups]:
+        runs = [(peer, found.conn.run) for peer, found in self.peers.items() if found.conn]
+        for peer in [peer for peer, run in runs if run and run.is_in(group)]:
             self.push(peer, body)
 
     def do_bad(self, number: int) -> None:

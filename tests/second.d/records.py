@@ -16,6 +16,7 @@ Place = Tuple[int, int]
 
 def node_of(capture: Capture) -> Node:
     """The node after the entries of a capture."""
+    assert capture.settings is not None
     node = Node(capture.settings)
     for entry in capture.entries:
         node.step(entry.at, entry.form, entry.fields)
@@ -58,6 +59,7 @@ def audit(octets: bytes) -> Tuple[List[str], Optional[Place]]:
     first, lines = Capture(before, 2), before.count(b"\n")
     if first.bad:
         return [], place_of(first)
+    assert first.settings is not None
     head = b"zre-capture 2 "
     if after.startswith(head + first.settings.id.hex().upper().encode()):
         return [], (lines + 1, len(head) + 1)

@@ -2,10 +2,11 @@
 from __future__ import annotations
 
 import re
-from typing import Dict, List, Optional, Tuple
+from typing import Dict, List, Tuple, Union
 
 import captures
 from captures import NotAsRequired, number
+from exercise import Asked
 from node import Settings
 
 GROUP_OCTETS = 255
@@ -20,6 +21,8 @@ KEYS: Dict[bytes, Keys] = {
     b"exercise": ([b"seed", b"peers", b"messages"], [], []),
 }
 MOST_PEERS, MOST_MESSAGES = 256, 1_000_000
+# What the words of a command say: settings, an identity or a group, or three numbers.
+Argument = Union[None, Settings, bytes, Asked]
 
 
 def values_of(keys: Keys, words: List[bytes]) -> Dict[bytes, List[bytes]]:
@@ -69,12 +72,12 @@ def settings(values: Dict[bytes, List[bytes]]) -> Settings:
     return Settings(own, name, host, port, evasive, expired, headers(values[b"header"]))
 
 
-def exercise(seed: bytes, peers: bytes, messages: bytes) -> Tuple[int, int, int]:
-    return number(seed), number(peers, 1, MOST_PEERS), number(messages, 0, MOST_MESSAGES)
+def exercise(seed: bytes, peers: bytes, messages: bytes) -> Asked:
+    return Asked(number(seed), number(peers, 1, MOST_PEERS), number(messages, 0, MOST_MESSAGES))
 
 
-def argument(words: List[bytes]) -> Tuple[bool, Optional[object]]:
-    """Whether the words are those of a command, and what they say: settings, an identity, a group, three numbers."""
+def argument(words: List[bytes]) -> Tuple[bool, Argument]:
+    """Whether the words are those of a command, and what they say."""
     try:
         for word in words:
             word.decode()

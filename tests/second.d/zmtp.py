@@ -104,6 +104,15 @@ def property_of(pairs: List[Tuple[bytes, bytes]], name: bytes) -> Optional[bytes
     return None
 
 
+def identity_of(command: Command) -> bytes:
+    """The identity of a READY that was wanted."""
+    pairs = properties(command.rest)
+    assert pairs is not None
+    value = property_of(pairs, b"Identity")
+    assert value is not None
+    return value[1:]
+
+
 def any_peer(_pairs: List[Tuple[bytes, bytes]]) -> Optional[str]:
     """Every READY is wanted."""
     return None

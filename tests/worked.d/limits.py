@@ -1,4 +1,5 @@
 """Worked journals for the limits of a node: each at its value and one past it."""
+from typing import Iterable, List, Sequence, Tuple
 
 SIGNATURE = "ff00000000000000007f"
 GREETING = SIGNATURE + "03004e554c4c" + "00" * 48
@@ -12,43 +13,43 @@ ENDPOINT = "147463703a2f2f31302e302e302e323a3439313532"
 NOWHERE = "4" * 32
 
 
-def size_of(octets):
+def size_of(octets: int) -> str:
     return f"{octets:016x}"
 
 
-def long_string(text):
+def long_string(text: str) -> str:
     return f"{len(text) // 2:08x}{text}"
 
 
-def frame(body):
+def frame(body: str) -> str:
     """A frame of the long form."""
     return f"02{size_of(len(body) // 2)}{body}"
 
 
-def hello(groups=(), headers=()):
+def hello(groups: Sequence[str] = (), headers: Sequence[Tuple[str, str]] = ()) -> str:
     body = f"aaa101020001{ENDPOINT}{len(groups):08x}{''.join(map(long_string, groups))}0003416e6e{len(headers):08x}"
     return frame(body + "".join(f"{len(name) // 2:02x}{name}{long_string(value)}" for name, value in headers))
 
 
-def numbered(number):
+def numbered(number: int) -> str:
     return f"{number:04d}".encode().hex()
 
 
-def of_group(kind, number, group):
+def of_group(kind: str, number: int, group: str) -> str:
     return frame(f"aaa1{kind}02{number:04x}{len(group) // 2:02x}{group}01")
 
 
-def entries(*pieces):
+def entries(*pieces: str) -> List[str]:
     """A connection of the peer on which these come after its handshake."""
     return [f"0 {BEACON}", "0 opened 1", f"0 piece 1 {GREETING}{READY}{pieces[0]}",
             *(f"0 piece 1 {piece}" for piece in pieces[1:])]
 
 
-def ends(cause):
+def ends(cause: str) -> str:
     return f"EXIT {ID} Ann {cause}"
 
 
-def joins(numbers):
+def joins(numbers: Iterable[int]) -> List[str]:
     return [f"JOIN {ID} Ann {number:04d}" for number in numbers]
 
 
@@ -62,7 +63,7 @@ LONG_READY = f"06{size_of(65536)}{SOCKET_TYPE}{IDENTITY}0158{65536 - 64:08x}" + 
 LONG_PING = f"06{size_of(65536)}0450494e47" + "00" * (65536 - 5)
 
 # What it shows, the entries, the lines that are written, and the exit status.
-CASES = [
+CASES: List[Tuple[str, List[str], List[str], int]] = [
     ("256 known peers, and one more", [*OTHERS, *entries(hello())], ["IGNORED 1 Full"], 0),
     ("255 known peers, and one more", [*OTHERS[1:], *entries(hello())], [ENTER], 0),
     ("512 connections, and one more",
