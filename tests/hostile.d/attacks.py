@@ -70,17 +70,18 @@ def _answer(mailbox: socket.socket) -> None:
     """Greets whoever connects, as a ROUTER, and reads what comes."""
     ready = made.GREETING + made.command(b"READY", made.metadata([(b"Socket-Type", b"ROUTER")]))
     readers = selectors.DefaultSelector()
-    readers.register(mailbox, selectors.EVENT_READ)
+    readers.register(mailbox, selectors.EVENT_READ, mailbox)
     while True:
         for key, _ in readers.select():
+            one: socket.socket = key.data
             with contextlib.suppress(OSError):
-                if key.fileobj is mailbox:
+                if one is mailbox:
                     link, _ = mailbox.accept()
                     link.sendall(ready)
-                    readers.register(link, selectors.EVENT_READ)
-                elif not key.fileobj.recv(1 << 20):
-                    readers.unregister(key.fileobj)
-                    key.fileobj.close()
+                    readers.register(link, selectors.EVENT_READ, link)
+                elif not one.recv(1 << 20):
+                    readers.unregister(one)
+                    one.close()
 
 
 def _flood(cell: Cell, count: int, identities: bool, ready: Any, stop: Any) -> None:
@@ -106,11 +107,11 @@ def _flood(cell: Cell, count: int, identities: bool, ready: Any, stop: Any) -> N
     numbered = numbered or b"".join(said(2, number, b"x" * 40) for number in range(2, 4000))
     at = {one: 0 for one in sockets}
     for one in sockets:
-        flood.register(one, selectors.EVENT_WRITE)
+        flood.register(one, selectors.EVENT_WRITE, one)
     ready.set()
     while not stop.is_set() and at:
         for key, _ in flood.select(0.2):
-            one = key.fileobj
+            one = key.data
             try:
                 at[one] = (at[one] + one.send(numbered[at[one]:at[one] + 65536])) % len(numbered)
             except BlockingIOError:
@@ -167,7 +168,7 @@ def storm(program: str, peer: str, cell: Cell, seconds: int) -> Figures:
             time.sleep(1)
         enters = [node.count("ENTER", begun + at, begun + at + 1) for at in range(seconds)]
         time.sleep(3)
-        told = {"entered": True, "enters": sum(enters), "most": max(enters), "last": sum(enters[-5:])}
+        told: Figures = {"entered": True, "enters": sum(enters), "most": max(enters), "last": sum(enters[-5:])}
         told["quiet"] = max([0.0, *(at - begun for at, line in list(node.lines) if at >= begun and line.startswith("ENTER"))])
         told.update(whispers=(other.count("WHISPER", begun), node.count("WHISPER", begun)), of=seconds)
         stranger.close()
@@ -357,7 +358,8 @@ def soak(program: str, cell: Cell, seconds: float, rate: float = 20) -> Figures:
         late = nodes[0].memory()
         came = [_missed(nodes[0], BEN), _missed(nodes[1], ANN)]
         exits = nodes[0].count(f"EXIT {BEN}") + nodes[1].count(f"EXIT {ANN}")
-        told = {"entered": True, "sent": 2 * number, "came": came[0][0] + came[1][0], "gaps": came[0][1] + came[1][1]}
+        told: Figures = {"entered": True, "sent": 2 * number, "came": came[0][0] + came[1][0]}
+        told["gaps"] = came[0][1] + came[1][1]
         told.update(exits=exits, early=early, late=late, statuses=[nodes[1].end(), nodes[0].end()])
         return told
     finally:

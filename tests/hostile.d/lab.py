@@ -118,11 +118,13 @@ class Program:
             threading.Thread(target=self._read, daemon=True).start()
 
     def _read(self) -> None:
+        assert self.process.stdout is not None
         for line in self.process.stdout:
             self.lines.append((time.monotonic(), line.decode(errors="replace").rstrip("\n")))
 
     def says(self, line: str) -> None:
         """Types a line."""
+        assert self.process.stdin is not None
         with contextlib.suppress(BrokenPipeError):
             self.process.stdin.write(line.encode() + b"\n")
             self.process.stdin.flush()
@@ -164,6 +166,7 @@ class Program:
             self.process.kill()
             self.process.wait()
             status = None
+        assert self.process.stdin is not None
         with contextlib.suppress(OSError):
             self.process.stdin.close()
         self.error.close()
@@ -261,17 +264,18 @@ class Friend:
     def ping(self, seconds: float = 5) -> Optional[float]:
         """How many milliseconds the node takes to answer; None: it doesn't in time."""
         self.number += 1
-        begun = time.monotonic()
+        begun, dealer, link = time.monotonic(), self.dealer, self.link
+        assert dealer is not None and link is not None
         try:
-            self.dealer.sendall(said(PING, self.number))
+            dealer.sendall(said(PING, self.number))
         except OSError:
             return None
         while PING_OK not in self._kinds():
             left = begun + seconds - time.monotonic()
-            if left <= 0 or not select.select([self.link], [], [], left)[0]:
+            if left <= 0 or not select.select([link], [], [], left)[0]:
                 return None
             try:
-                piece = self.link.recv(65536)
+                piece = link.recv(65536)
             except OSError:
                 return None
             if not piece:
@@ -295,7 +299,8 @@ def percentile(values: List[float], part: float) -> float:
 def pings(friend: Friend, count: int, most: float) -> Dict[str, float]:
     """The median, the 95th percentile and the maximum of so many answers, in milliseconds, how many didn't come, and how many
     were asked for: no further one after so many seconds."""
-    times, lost, end = [], 0, time.monotonic() + most
+    lost, end = 0, time.monotonic() + most
+    times: List[float] = []
     while len(times) + lost < count and time.monotonic() < end:
         took = friend.ping()
         if took is None:

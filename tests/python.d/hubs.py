@@ -1,4 +1,6 @@
 """The hub as a program of its own, and its clients."""
+from __future__ import annotations
+
 import contextlib
 import json
 import os
@@ -10,9 +12,10 @@ import stat
 import subprocess
 import threading
 import time
+from typing import Any, Dict, List, Optional, Pattern, Sequence, Tuple, Union
 
 import zre
-from nodes import ANN, BEN, SOON, due, node
+from nodes import ANN, BEN, SOON, due, node, subject
 from tools import ended, options, tool
 
 SOCKET = os.path.join(os.environ["WORK"], "hub.sock")
@@ -21,16 +24,16 @@ SOCKET = os.path.join(os.environ["WORK"], "hub.sock")
 class Client:
     """A client of the hub: what it sends, and the lines that it hears."""
 
-    def __init__(self, place=None):
+    def __init__(self, place: Optional[Tuple[str, int]] = None) -> None:
         self.socket = socket.socket(socket.AF_UNIX if place is None else socket.AF_INET)
         self.socket.settimeout(SOON)
         self.socket.connect(SOCKET if place is None else place)
         self.unread = b""
 
-    def put(self, *lines):
+    def put(self, *lines: str) -> None:
         self.socket.sendall(b"".join(line.encode() + b"\n" for line in lines))
 
-    def line(self):
+    def line(self) -> Optional[str]:
         while b"\n" not in self.unread:
             piece = self.socket.recv(65536)
             if not piece:
@@ -39,15 +42,21 @@ class Client:
         line, _, self.unread = self.unread.partition(b"\n")
         return line.decode()
 
-    def hears(self, *lines):
+    def told(self) -> Dict[str, Any]:
+        """The next line, which is JSON."""
+        line = self.line()
+        assert line is not None
+        told: Dict[str, Any] = json.loads(line)
+        return told
+
+    def hears(self, *lines: Union[None, str, Pattern[str]]) -> None:
         for line in lines:
             got = self.line()
-            assert (
-                got == line if isinstance(line, str) or line is None else line.fullmatch(got)
-            ), f"{got!r} in place of {line!r}"
+            is_due = got == line if isinstance(line, str) or line is None else got is not None and line.fullmatch(got)
+            assert is_due, f"{got!r} in place of {line!r}"
 
 
-def a_hub_serves_clients():
+def a_hub_serves_clients() -> None:
     ann = f"{ANN.hex.upper()}"
     with tool("hub", SOCKET, f"--id={ann}", "--name=Ann", *options(), wait_for="hub at") as ran:
         assert stat.S_IMODE(os.stat(SOCKET).st_mode) == 0o600
@@ -79,7 +88,7 @@ def a_hub_serves_clients():
         assert ran.wait(SOON) == 0 and not os.path.exists(SOCKET)
 
 
-def a_late_client_hears_who_is_there(head, peer, ben):
+def a_late_client_hears_who_is_there(head: Pattern[str], peer: str, ben: zre.Node) -> None:
     two = Client()
     two.hears(head, f"ENTER {peer} {ben.endpoint()} X=%3Dy", f"JOIN {peer} other")
     two.put("who", "groups", f"whisper {'%032X' % BEN.int} é and more", "quit", "join late")
@@ -91,43 +100,45 @@ def a_late_client_hears_who_is_there(head, peer, ben):
     three.hears(head, f"ENTER {peer} {ben.endpoint()} X=%3Dy", f"JOIN {peer} other")
     three.hears("ERR BADLINE the line has more than 65536 octets", "OK", None)
     events = [ben.recv(SOON) for _ in range(4)]
-    assert [event.word for event in events] == ["ENTER", "JOIN", "WHISPER", "JOIN"], events
-    assert events[2].content == ("é and more".encode(),) and events[3].group == b"last"
+    assert [event and event.word for event in events] == ["ENTER", "JOIN", "WHISPER", "JOIN"], events
+    said, joined = events[2:]
+    assert isinstance(said, zre.Whisper) and said.content == ("é and more".encode(),)
+    assert isinstance(joined, zre.Join) and joined.group == b"last"
 
 
-def a_hub_speaks_json():
+def a_hub_speaks_json() -> None:
     place = ("127.0.0.1", 7700)
     with tool("hub", "127.0.0.1:7700", "--json", "--id=new", "--name=Ann", *options(), wait_for="hub at") as ran:
         one = Client(place)
-        assert json.loads(one.line())["event"] == "NODE"
+        assert one.told()["event"] == "NODE"
         ben = node(b"Ben", BEN, {"X": "y"})
-        entered = json.loads(one.line())
+        entered = one.told()
         assert (entered["event"], entered["name"], entered["headers"]) == (
             "ENTER",
             "Ben",
             [{"name": "X", "value": "y"}],
         )
         one.put('{"do":"join","group":"é"}', '{"do":"join","group":"é"}', "{", '{"do":"groups"}', '{"do":"who"}')
-        answers = [json.loads(one.line()) for _ in range(5)]
+        answers = [one.told() for _ in range(5)]
         assert [answer["answer"] for answer in answers] == ["OK", "ERR", "ERR", "OK", "OK"], answers
         assert answers[1]["reason"] == "SAME %C3%A9" and answers[3]["groups"] == [
             {"group": "é", "peers": 0, "in": True}
         ]
         assert answers[4]["peers"][0]["peer"] == "%032X" % BEN.int
         ben.shout("é", b"\xff")
-        shout = json.loads(one.line())
+        shout = one.told()
         assert shout["content"] == [{"base64": "/w=="}] and shout["group"] == "é", shout
         ran.terminate()
-        assert [json.loads(one.line())["event"] for _ in range(2)] == ["EXIT", "STOP"] and ran.wait(SOON) == 0
+        assert [one.told()["event"] for _ in range(2)] == ["EXIT", "STOP"] and ran.wait(SOON) == 0
     assert "an address of the loopback interface" in ended("hub", "0.0.0.0:7700", status=2)[1]
 
 
-def a_hub_isnt_held_up():
+def a_hub_isnt_held_up() -> None:
     """100 clients: one never reads, one sends without end. The others hear all, and their lines are answered."""
     ben, bound = node("Ben", BEN), 400_000
     words = [f"--bound={bound}", "--id=new", "--name=Ann", *options()]
     with tool("hub", SOCKET, *words, wait_for="hub at") as ran:
-        peer, clients = ben.recv(SOON).peer, [Client() for _ in range(100)]
+        peer, clients = subject(ben.recv(SOON)), [Client() for _ in range(100)]
         deaf, sender, *rest = clients
         deaf.socket.setsockopt(socket.SOL_SOCKET, socket.SO_RCVBUF, 4096)
         threading.Thread(target=sends, args=(sender,), daemon=True).start()
@@ -154,9 +165,9 @@ def a_hub_isnt_held_up():
         assert ran.wait(SOON) == 0
 
 
-def heard(clients, last, number_of_answers):
+def heard(clients: Sequence[Client], last: str, number_of_answers: Sequence[int]) -> List[List[str]]:
     """The lines of all clients, which are read as they come, until each has heard the last and has its answers."""
-    lines = [[] for _ in clients]
+    lines: List[List[str]] = [[] for _ in clients]
     left = dict(enumerate(clients))
     end = time.monotonic() + 2 * SOON
     while left:
@@ -172,19 +183,19 @@ def heard(clients, last, number_of_answers):
     return lines
 
 
-def sends(client):
+def sends(client: Client) -> None:
     with contextlib.suppress(OSError):
         while True:
             client.socket.sendall(b"shout nobody hears\n" * 1000)
 
 
-def reads(client):
+def reads(client: Client) -> None:
     with contextlib.suppress(OSError):
         while client.socket.recv(65536):
             pass
 
 
-def a_hub_ends_with_its_node():
+def a_hub_ends_with_its_node() -> None:
     taken = ended("hub", SOCKET, "--id=new", "--host=127.0.0.41", "--listen=10.9.9.9", "--look=0", status=6)[1]
     assert "zre: cannot hear beacons on 10.9.9.9:5670" in taken and not os.path.exists(SOCKET), taken
     with tool("hub", SOCKET, "--id=new", *options(), wait_for="hub at") as ran:
@@ -196,7 +207,7 @@ def a_hub_ends_with_its_node():
         assert ran.wait(SOON) == 128 + signal.SIGKILL and not os.path.exists(SOCKET)
 
 
-def the_service_ends_as_systemd_ends_it():
+def the_service_ends_as_systemd_ends_it() -> None:
     run = os.path.join(os.path.dirname(os.path.realpath(__file__)), "..", "..", "examples", "service", "run")
     ran = subprocess.run([run], capture_output=True, timeout=20)
     assert ran.returncode == 0, ran

@@ -1,4 +1,6 @@
 """Nodes of the package beside each other, on addresses of the loopback interface."""
+from __future__ import annotations
+
 import asyncio
 import contextlib
 import os
@@ -8,6 +10,7 @@ import subprocess
 import sys
 import time
 import uuid
+from typing import Any, Awaitable, Callable, Dict, List, Optional, Tuple, Type, TypeVar, Union
 
 import zre
 import zre.aio
@@ -18,28 +21,30 @@ HOSTS = {ANN: "127.0.0.41", BEN: "127.0.0.42"}
 # On a busy machine a node may stand still for some seconds.
 TIMES = {"interval": 100, "evasive": 20000, "expired": 30000}
 SOON = 10
-started = []
+started: List[zre.Node] = []
+Given = TypeVar("Given")
+Kind = TypeVar("Kind", bound=BaseException)
 
 
-def words(who, **more):
+def words(who: uuid.UUID, **more: Any) -> Dict[str, Any]:
     return {"uuid": who, "host": HOSTS[who], "listen": HOSTS[who], "to": HOSTS.values(), **TIMES, **more}
 
 
-def node(name, who, headers={}, **more):
+def node(name: Union[str, bytes], who: uuid.UUID, headers: Dict[str, str] = {}, **more: Any) -> zre.Node:
     made = zre.Node(name, headers, **words(who, **more))
     started.append(made)
     made.start()
     return made
 
 
-def pair(**more):
+def pair(**more: Any) -> Tuple[zre.Node, zre.Node]:
     ann, ben = node("Ann", ANN, {"X-LANG": "en"}, **more), node("Bén", BEN, **more)
     due(ann, zre.Enter(BEN, "Bén".encode(), ben.endpoint().encode()))
     due(ben, zre.Enter(ANN, b"Ann", ann.endpoint().encode(), {b"X-LANG": b"en"}))
     return ann, ben
 
 
-def clear():
+def clear() -> None:
     while started:
         one = started.pop()
         if one.pid is not None:
@@ -47,14 +52,26 @@ def clear():
         one.stop(5)
 
 
-def due(one, *events):
+def signals(one: zre.Node, which: signal.Signals) -> None:
+    """Sends a signal to the program of a node that was started."""
+    assert one.pid is not None
+    os.kill(one.pid, which)
+
+
+def subject(event: Optional[zre.Event]) -> uuid.UUID:
+    """The peer that entered."""
+    assert isinstance(event, zre.Enter), event
+    return event.peer
+
+
+def due(one: zre.Node, *events: zre.Event) -> None:
     """These are the next events of a node."""
     for event in events:
         got = one.recv(SOON)
         assert got == event, f"{got} in place of {event}"
 
 
-def fails(kind, call, *given, **named):
+def fails(kind: Type[Kind], call: Callable[..., object], *given: object, **named: object) -> Kind:
     try:
         call(*given, **named)
     except kind as why:
@@ -62,7 +79,7 @@ def fails(kind, call, *given, **named):
     raise AssertionError(f"{call} didn't raise {kind}")
 
 
-def two_nodes_talk():
+def two_nodes_talk() -> None:
     ann, ben = pair()
     name = "Bén".encode()
     ann.join("a group")
@@ -96,7 +113,7 @@ def two_nodes_talk():
     fails(KeyError, ben.peer_name, ANN)
 
 
-def refusals_have_their_line():
+def refusals_have_their_line() -> None:
     ann, ben = pair()
     other = uuid.UUID(int=7)
     ann.join("a b")
@@ -106,12 +123,13 @@ def refusals_have_their_line():
     ann.join("a b")
     ann.leave("none")
     ann.flush()
-    refused = list(ann.recent_events())
+    told = list(ann.recent_events())
+    refused = [event for event in told if isinstance(event, zre.Refused)]
     lines = [f"whisper {other.hex.upper()} lost {number}".encode() for number in range(20)] + [
         b"join a%20b",
         b"leave none",
     ]
-    assert [event.line for event in refused] == lines, refused
+    assert len(refused) == len(told) and [event.line for event in refused] == lines, told
     assert [event.reason for event in refused] == ["NOPEER"] * 20 + ["SAME", "NOGROUP"]
     due(ben, zre.Join(ANN, b"Ann", b"a b"))
     due(ben, *(zre.Whisper(ANN, b"Ann", (b"kept %d" % number,)) for number in range(20)))
@@ -122,7 +140,7 @@ def refusals_have_their_line():
     assert ann.own_groups() == [b"a b"]
 
 
-def packed_contents_are_any_octets():
+def packed_contents_are_any_octets() -> None:
     ann, ben = pair(packed=True)
     ann.whisper(BEN, [b"\n", b"", bytes(range(256))])
     ann.whisper(BEN, b"a\nb")
@@ -131,7 +149,7 @@ def packed_contents_are_any_octets():
     due(ben, *(zre.Whisper(ANN, b"Ann", content) for content in contents))
 
 
-def neither_waits_for_the_other():
+def neither_waits_for_the_other() -> None:
     """One thread sends more than all pipes hold before it receives anything, with a small bound of unread events."""
     ann, ben = pair(unread=10000)
     for one in ann, ben:
@@ -145,7 +163,7 @@ def neither_waits_for_the_other():
         due(one, *(zre.Shout(other, name, b"g", (b"%d %s" % (number, b"x" * 100),)) for number in range(count)))
 
 
-def unread_events_have_a_bound():
+def unread_events_have_a_bound() -> None:
     """While nobody receives, the node is read no further, and nothing is lost."""
     ann, ben = pair(unread=10000)
     ben.join("g")
@@ -158,9 +176,9 @@ def unread_events_have_a_bound():
     due(ben, *(zre.Shout(ANN, b"Ann", b"g", (b"%d %s" % (number, b"x" * 4000),)) for number in range(500)))
 
 
-def a_full_node_is_told():
+def a_full_node_is_told() -> None:
     ann = node("Ann", ANN, patience=0.2)
-    os.kill(ann.pid, signal.SIGSTOP)
+    signals(ann, signal.SIGSTOP)
     given = 0
     try:
         while given < 10000:
@@ -170,12 +188,12 @@ def a_full_node_is_told():
         pass
     assert 50 < given < 10000, given
     assert ann.recv(0.1) is None
-    os.kill(ann.pid, signal.SIGCONT)
+    signals(ann, signal.SIGCONT)
     patiently(ann.join, "still")
     assert patiently(ann.flush, SOON) and ann.own_groups() == [b"still"]
 
 
-def patiently(call, *given):
+def patiently(call: Callable[..., Given], *given: object) -> Given:
     """Calls until the pipe isn't full: on a busy machine it may stay so for longer than the node is patient."""
     for _ in range(50):
         with contextlib.suppress(zre.Full):
@@ -183,11 +201,11 @@ def patiently(call, *given):
     raise AssertionError("the pipe stays full")
 
 
-def a_slow_peer_is_told():
+def a_slow_peer_is_told() -> None:
     ann, ben = pair()
     ben.join("g")
     due(ann, zre.Join(BEN, "Bén".encode(), b"g"))
-    os.kill(ben.pid, signal.SIGSTOP)
+    signals(ben, signal.SIGSTOP)
     for _ in range(300):
         ann.shout("g", b"x" * 60000)
     gone = ann.recv(SOON)
@@ -196,9 +214,9 @@ def a_slow_peer_is_told():
     assert unsent <= 4194304 < unsent + size and str(unsent) in gone.cause.text, gone
 
 
-def a_program_that_dies_is_told():
+def a_program_that_dies_is_told() -> None:
     ann, ben = pair()
-    os.kill(ann.pid, signal.SIGKILL)
+    signals(ann, signal.SIGKILL)
     why = fails(zre.NodeDied, ann.recv, SOON)
     assert why.status == -signal.SIGKILL, why
     assert fails(zre.NodeDied, ann.join, "g").status == -signal.SIGKILL
@@ -214,7 +232,7 @@ def a_program_that_dies_is_told():
         os.environ["ZRE"] = kept
 
 
-def an_idle_node_that_fails_is_told():
+def an_idle_node_that_fails_is_told() -> None:
     """A program whose network failed reads one octet more before it ends: an idle node is given one."""
     fake = os.path.join(os.environ["WORK"], "fails-when-probed")
     with open(fake, "w") as file:
@@ -227,19 +245,19 @@ def an_idle_node_that_fails_is_told():
     assert (why.status, why.error) == (6, "zre: cannot wait"), why
 
 
-def signals_are_not_for_the_program():
+def signals_are_not_for_the_program() -> None:
     ann, ben = pair()
     for one in signal.SIGINT, signal.SIGTERM, signal.SIGHUP:
-        os.kill(ann.pid, one)
+        signals(ann, one)
     ann.whisper(BEN, "still here")
     due(ben, zre.Whisper(ANN, b"Ann", (b"still here",)))
 
 
-def asyncio_has_the_same():
+def asyncio_has_the_same() -> None:
     asyncio.run(asyncio.wait_for(with_asyncio(), 22))
 
 
-async def with_asyncio():
+async def with_asyncio() -> None:
     ann = zre.aio.Node("Ann", {"X-LANG": "en"}, unread=10000, **words(ANN))
     ben = zre.aio.Node("Ben", **words(BEN))
     async with ann, ben:
@@ -248,19 +266,23 @@ async def with_asyncio():
         await ann.join("g")
         assert await ben.recv(SOON) == zre.Join(ANN, b"Ann", b"g")
         await ann.join("g")
-        assert (await ann.recv(SOON)).line == b"join g"
+        refused = await ann.recv(SOON)
+        assert isinstance(refused, zre.Refused) and refused.line == b"join g"
         for number in range(2000):
             await ben.shouts("g", "%d %s", number, "x" * 100)
             await ann.whispers(BEN, "%d", number)
         for number in range(2000):
-            assert (await ann.recv(SOON)).content == (b"%d %s" % (number, b"x" * 100),)
-            assert (await ben.recv(SOON)).content == (b"%d" % number,)
+            shouted, whispered = await ann.recv(SOON), await ben.recv(SOON)
+            assert isinstance(shouted, zre.Shout) and shouted.content == (b"%d %s" % (number, b"x" * 100),)
+            assert isinstance(whispered, zre.Whisper) and whispered.content == (b"%d" % number,)
         assert await ann.recv(0.05) is None and ann.own_groups() == [b"g"] and ben.peers_by_group("g") == [ANN]
         await ann.stop()
         assert [event async for event in ann] == [zre.Exit(BEN, b"Ben", zre.Cause("stop")), zre.Stop()]
         assert isinstance(await ben.recv(SOON), zre.Exit)
+        assert ben.pid is not None
         os.kill(ben.pid, signal.SIGKILL)
-        for call in (lambda: ben.recv(SOON), lambda: ben.join("g")):
+        calls: List[Callable[[], Awaitable[object]]] = [lambda: ben.recv(SOON), lambda: ben.join("g")]
+        for call in calls:
             try:
                 await call()
                 raise AssertionError("it didn't raise NodeDied")
@@ -273,7 +295,7 @@ async def with_asyncio():
         assert why.status == 2
 
 
-def addresses_are_found():
+def addresses_are_found() -> None:
     lo = network.interface("lo")
     assert lo == network.Interface("lo", "127.0.0.1", "127.255.255.255", True) == network.default_interface()
     assert "127.255.255.255" in network.broadcasts() and network.interface_of("127.0.0.1") == lo
@@ -283,7 +305,7 @@ def addresses_are_found():
     fails(OSError, zre.Node, "x", host="10.9.9.9")
 
 
-def a_broadcast_is_enough():
+def a_broadcast_is_enough() -> None:
     """Without any words but a name, a node hears beacons to the broadcast address of the loopback interface."""
     ann = zre.Node("Ann", interval=100)
     started.append(ann)
@@ -291,7 +313,7 @@ def a_broadcast_is_enough():
     hears_a_beacon()
 
 
-def hears_a_beacon():
+def hears_a_beacon() -> None:
     """Sends beacons to the broadcast address, until a node has heard one and comes to the mailbox that it names."""
     port = network.free_port("127.0.0.9")
     with socket.create_server(("127.0.0.9", port)) as mailbox, socket.socket(socket.AF_INET, socket.SOCK_DGRAM) as out:
@@ -306,7 +328,7 @@ def hears_a_beacon():
     raise AssertionError("no node came")
 
 
-def a_session_ends_with_its_program():
+def a_session_ends_with_its_program() -> None:
     """A program that runs a node and ends without stopping it: the node says good-bye."""
     ben = node("Ben", BEN)
     place = f"host='{HOSTS[ANN]}', listen='{HOSTS[ANN]}', to={list(HOSTS.values())}, interval=100"

@@ -1,4 +1,6 @@
 """The terminal client in a terminal, and the examples."""
+from __future__ import annotations
+
 import os
 import pty
 import re
@@ -9,14 +11,14 @@ import sys
 import time
 
 import zre
-from nodes import BEN, SOON, due, hears_a_beacon, node
+from nodes import BEN, SOON, due, hears_a_beacon, node, subject
 from tools import options
 
 HERE = os.path.dirname(os.path.realpath(__file__))
 EXAMPLES = os.path.join(HERE, "..", "..", "examples", "python")
 
 
-def a_person_talks():
+def a_person_talks() -> None:
     """In a terminal: events come above a line that is half typed, which stays as it is."""
     ben = node("Bén édicte", BEN)
     process, terminal = pty.fork()
@@ -25,7 +27,7 @@ def a_person_talks():
         os.environ["COLUMNS"], os.environ["LINES"] = "100", "30"
         os.execv(sys.executable, [sys.executable, "-m", "zre", *words])
     try:
-        peer = ben.recv(SOON).peer
+        peer = subject(ben.recv(SOON))
         due(ben, zre.Join(peer, b"Ann", b"chat"))
         shows(terminal, "Bén édicte is here, at tcp://127.0.0.42:")
         os.write(terminal, "/w B\tpsst é\x1b[D\x1b[D\x7fT \r".encode())
@@ -53,7 +55,7 @@ def a_person_talks():
         os.close(terminal)
 
 
-def shows(terminal, text, seconds=SOON):
+def shows(terminal: int, text: str, seconds: float = SOON) -> None:
     """Waits until a terminal was written this text."""
     seen, end = b"", time.monotonic() + seconds
     while text.encode() not in seen:
@@ -66,30 +68,31 @@ def shows(terminal, text, seconds=SOON):
 # ---- examples ----
 
 
-def example(name, *words):
+def example(name: str, *words: str) -> str:
     command = [sys.executable, os.path.join(EXAMPLES, name), *words]
     ran = subprocess.run(command, capture_output=True, timeout=18, env={**os.environ, "PYTHONPATH": ""})
     assert ran.returncode == 0 and not ran.stderr, ran
     return ran.stdout.decode()
 
 
-def the_registry_finds_services():
+def the_registry_finds_services() -> None:
     assert example("registry.py") == (
         "printers: tcp://10.0.0.7:9100, tcp://10.0.0.8:9100\nclocks: udp://10.0.0.8:123\n"
         "printers, one stopped: tcp://10.0.0.8:9100\n"
     )
 
 
-def a_file_comes_over():
+def a_file_comes_over() -> None:
     for size in 1, 3_000_000:
         assert re.search(
             f"^{size} octets in .* SHA-256 [0-9a-f]{{64}} on both sides$", example("send_file.py", str(size)), re.M
         )
 
 
-def the_first_program_is_there_until_an_interrupt():
+def the_first_program_is_there_until_an_interrupt() -> None:
     command = [sys.executable, os.path.join(EXAMPLES, "hello.py")]
     ran = subprocess.Popen(command, stdout=subprocess.PIPE, env={**os.environ, "PYTHONPATH": ""})
+    assert ran.stdout is not None
     try:
         hears_a_beacon()
         ran.send_signal(signal.SIGINT)

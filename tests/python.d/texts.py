@@ -1,5 +1,7 @@
 """Quoting and lines, by random texts: against the manual's grammar as it is written down here once more, against the
 lines that were recorded, and against the program's own reading."""
+from __future__ import annotations
+
 import glob
 import json
 import os
@@ -7,6 +9,7 @@ import random
 import re
 import subprocess
 import uuid
+from typing import Callable, Dict, List, Optional, Tuple, Type, TypeVar, Union
 
 from zre import events as ev
 from zre import jsonlines, lines, quoting
@@ -31,6 +34,10 @@ A_FEW = [
     b"\x7f",
 ]
 HERE = os.path.dirname(os.path.realpath(__file__))
+Given = TypeVar("Given")
+Value = TypeVar("Value")
+# How values of one kind are made, written and read, and the pattern of their texts.
+Kind = Tuple[Callable[[random.Random], Given], Callable[[Given], bytes], Callable[[bytes], Given], str]
 
 # The grammar of a field, from the manual: ! to ~ stand for themselves but for % ~ = and , and all others are quoted.
 PLAIN = "".join(chr(code) for code in range(0x21, 0x7F) if chr(code) not in "%~=,")
@@ -55,17 +62,17 @@ EVENT = re.compile(
 )
 
 
-def octets(of):
+def octets(of: random.Random) -> bytes:
     if of.random() < 0.4:
         return of.choice(A_FEW)
     return bytes(of.choice((of.randrange(256), of.choice(b"abc~%=, "))) for _ in range(of.randrange(12)))
 
 
-def listed(of):
+def listed(of: random.Random) -> Tuple[bytes, ...]:
     return tuple(octets(of) for _ in range(of.choice((0, 1, 1, 1, 2, 3))))
 
 
-def event(of):
+def event(of: random.Random) -> ev.Event:
     peer, name, number = (
         uuid.UUID(int=of.getrandbits(128)),
         octets(of),
@@ -75,28 +82,27 @@ def event(of):
     word = of.choice(list(lines.CAUSES))
     numbers = tuple(small if most < 2**20 else number for most in lines.CAUSES[word])
     cause = ev.Cause(word, numbers, of.choice(lines.FAULTS) if word == "reply" else "")
-    return of.choice(
-        [
-            lambda: ev.Enter(peer, name, octets(of), dict((octets(of), octets(of)) for _ in range(of.randrange(4)))),
-            lambda: ev.Join(peer, name, octets(of)),
-            lambda: ev.Leave(peer, name, octets(of)),
-            lambda: ev.Whisper(peer, name, listed(of)),
-            lambda: ev.Shout(peer, name, octets(of), listed(of)),
-            lambda: ev.Evasive(peer, name),
-            lambda: ev.Exit(peer, name, cause),
-            lambda: ev.Ignored(number, of.choice(lines.IGNORED)),
-            lambda: ev.Closed(number, of.choice(lines.CLOSED)),
-            lambda: ev.Closed(number, of.choice(lines.FAULTS), number),
-            lambda: ev.Refused("NOPEER", peer=peer),
-            lambda: ev.Refused("TOOBIG"),
-            lambda: ev.Refused(of.choice(("NOGROUP", "SAME", "LIMIT")), group=octets(of)),
-            lambda: ev.Refused("BADLINE", number=number),
-            lambda: ev.Stop(),
-        ]
-    )()
+    makers: List[Callable[[], ev.Event]] = [
+        lambda: ev.Enter(peer, name, octets(of), dict((octets(of), octets(of)) for _ in range(of.randrange(4)))),
+        lambda: ev.Join(peer, name, octets(of)),
+        lambda: ev.Leave(peer, name, octets(of)),
+        lambda: ev.Whisper(peer, name, listed(of)),
+        lambda: ev.Shout(peer, name, octets(of), listed(of)),
+        lambda: ev.Evasive(peer, name),
+        lambda: ev.Exit(peer, name, cause),
+        lambda: ev.Ignored(number, of.choice(lines.IGNORED)),
+        lambda: ev.Closed(number, of.choice(lines.CLOSED)),
+        lambda: ev.Closed(number, of.choice(lines.FAULTS), number),
+        lambda: ev.Refused("NOPEER", peer=peer),
+        lambda: ev.Refused("TOOBIG"),
+        lambda: ev.Refused(of.choice(("NOGROUP", "SAME", "LIMIT")), group=octets(of)),
+        lambda: ev.Refused("BADLINE", number=number),
+        lambda: ev.Stop(),
+    ]
+    return of.choice(makers)()
 
 
-def mutated(of, text):
+def mutated(of: random.Random, text: bytes) -> bytes:
     """The text with one octet more, less or otherwise, or with its fields in another order."""
     at = of.randrange(len(text) + 1)
     put = of.choice((b" ", b"%", b"~", b"=", b",", b"0", b"a", b"F", b"\n", b"\xff", bytes([of.randrange(256)])))
@@ -113,41 +119,46 @@ def mutated(of, text):
     )
 
 
-def is_of(pattern, text):
+def is_of(pattern: Union[str, re.Pattern[str]], text: bytes) -> bool:
     return re.fullmatch(pattern, text.decode("latin-1")) is not None
 
 
-def reads(read, text, fault):
+def reads(read: Callable[[Given], Value], text: Given, fault: Type[Exception]) -> Tuple[bool, Optional[Value]]:
     try:
         return True, read(text)
     except fault:
         return False, None
 
 
-def quoting_is_the_manuals():
+def pairs(of: random.Random) -> List[Tuple[bytes, bytes]]:
+    return list(zip(listed(of), listed(of)))
+
+
+def is_the_manuals(of: random.Random, kind: Kind[Given]) -> None:
+    make, write, read, pattern = kind
+    seen = {True: 0, False: 0}
+    for _ in range(ROUNDS):
+        value = make(of)
+        text = write(value)
+        assert is_of(pattern, text), (value, text)
+        assert read(text) == value, (value, text)
+        other = mutated(of, text)
+        is_read, again = reads(read, other, quoting.BadField)
+        assert is_read == is_of(pattern, other), other
+        assert again is None or write(again) == other, other
+        seen[is_read] += 1
+    assert min(seen.values()) > ROUNDS // 20, seen
+
+
+def quoting_is_the_manuals() -> None:
     of = random.Random(1)
-    kinds = [
-        (octets, quoting.quote, quoting.unquote, FIELD),
-        (listed, quoting.quote_list, quoting.unquote_list, LIST),
-        (lambda of: list(zip(listed(of), listed(of))), quoting.quote_pairs, quoting.unquote_pairs, PAIRS),
-    ]
-    for make, write, read, pattern in kinds:
-        seen = {True: 0, False: 0}
-        for _ in range(ROUNDS):
-            value = make(of)
-            text = write(value)
-            assert is_of(pattern, text), (value, text)
-            assert read(text) == value, (value, text)
-            other = mutated(of, text)
-            is_read, value = reads(read, other, quoting.BadField)
-            assert is_read == is_of(pattern, other), other
-            assert not is_read or write(value) == other, other
-            seen[is_read] += 1
-        assert min(seen.values()) > ROUNDS // 20, seen
+    is_the_manuals(of, (octets, quoting.quote, quoting.unquote, FIELD))
+    is_the_manuals(of, (listed, quoting.quote_list, quoting.unquote_list, LIST))
+    is_the_manuals(of, (pairs, quoting.quote_pairs, quoting.unquote_pairs, PAIRS))
     assert quoting.quote(b"hello, out there") == b"hello%2C%20out%20there"
 
 
-def events_are_the_manuals():
+def events_are_the_manuals() -> None:
     of, seen = random.Random(2), {True: 0, False: 0}
     for _ in range(ROUNDS * 2):
         made = event(of)
@@ -159,7 +170,7 @@ def events_are_the_manuals():
         # what the pattern doesn't say: numbers have a greatest value, and headers differ
         if not is_of(EVENT, other):
             assert not is_read, other
-        elif is_read:
+        elif value is not None:
             assert lines.format_event(value) == other, other
         else:
             assert re.search(rb"[0-9]{5}|=.*=", other), other
@@ -167,7 +178,7 @@ def events_are_the_manuals():
     assert min(seen.values()) > ROUNDS // 20, seen
 
 
-def recorded_lines_are_read():
+def recorded_lines_are_read() -> None:
     count = 0
     for name in glob.glob(os.path.join(HERE, "..", "data", "*.txt")):
         with open(name, "rb") as file:
@@ -187,7 +198,7 @@ def recorded_lines_are_read():
     assert count > 50, count
 
 
-def command(of):
+def command(of: random.Random) -> lines.Command:
     word = of.choice(("join", "leave", "shout", "whisper"))
     text = octets(of).replace(b"\n", b"")
     if word == "whisper":
@@ -195,7 +206,7 @@ def command(of):
     return lines.Command(word, group=octets(of), text=text if word == "shout" else None)
 
 
-def commands_are_read_as_the_program_reads_them():
+def commands_are_read_as_the_program_reads_them() -> None:
     """What is no command here is answered by BADLINE there, and nothing else is."""
     of, typed = random.Random(3), [
         b"x" * 65537,
@@ -221,7 +232,7 @@ def commands_are_read_as_the_program_reads_them():
     assert len(typed) - len(due) > ROUNDS and len(due) > ROUNDS // 20
 
 
-def what_no_line_can_say_is_refused():
+def what_no_line_can_say_is_refused() -> None:
     for made in (
         lines.Command("shout", group=b"g", text=b"a\nb"),
         lines.Command("join", group=b"g" * 256),
@@ -231,8 +242,9 @@ def what_no_line_can_say_is_refused():
     assert lines.format_command(lines.Command("shout", group=b"g", text=b"x" * 65528))
 
 
-def json_has_all_of_an_event():
-    of, seen = random.Random(4), {}
+def json_has_all_of_an_event() -> None:
+    of = random.Random(4)
+    seen: Dict[bytes, ev.Event] = {}
     for _ in range(ROUNDS // 3):
         made = event(of)
         text = jsonlines.dump(jsonlines.from_event(made))

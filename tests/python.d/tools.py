@@ -1,4 +1,6 @@
 """The tool node as a program of its own."""
+from __future__ import annotations
+
 import argparse
 import contextlib
 import io
@@ -8,24 +10,34 @@ import stat
 import subprocess
 import sys
 import time
+import uuid
+from typing import IO, Iterator, List, Optional, Tuple
 
 import zre
 import zre.options
-from nodes import ANN, BEN, HOSTS, SOON, due, fails, node
+from nodes import ANN, BEN, HOSTS, SOON, due, fails, node, subject
+from zre.settings import Settings
 
 
-def options(who=ANN, *more, look="0"):
+class Tool(subprocess.Popen[bytes]):
+    """A tool that runs with three pipes, and what was read of its standard error."""
+    stdin: IO[bytes]
+    stdout: IO[bytes]
+    stderr: IO[bytes]
+    said = ""
+
+
+def options(who: uuid.UUID = ANN, *more: str, look: str = "0") -> List[str]:
     addresses = [f"--to={host}" for host in HOSTS.values()]
     return [f"--host={HOSTS[who]}", f"--listen={HOSTS[who]}", *addresses, "--interval=100", f"--look={look}", *more]
 
 
 @contextlib.contextmanager
-def tool(*words, wait_for=None):
+def tool(*words: str, wait_for: Optional[str] = None) -> Iterator[Tool]:
     """A tool that runs, and is killed in the end where it still does. What it says is read up to this text."""
     pipe = subprocess.PIPE
-    ran = subprocess.Popen([sys.executable, "-m", "zre", *words], stdin=pipe, stdout=pipe, stderr=pipe, bufsize=0)
+    ran = Tool([sys.executable, "-m", "zre", *words], stdin=pipe, stdout=pipe, stderr=pipe, bufsize=0)
     try:
-        ran.said = ""
         while wait_for and wait_for not in ran.said:
             line = ran.stderr.readline().decode()
             assert line, f"it ended with {ran.wait()}: {ran.said}"
@@ -40,7 +52,7 @@ def tool(*words, wait_for=None):
                 stream.close()
 
 
-def ended(*words, status):
+def ended(*words: str, status: int) -> Tuple[str, str]:
     ran = subprocess.run(
         [sys.executable, "-m", "zre", *words], stdin=subprocess.DEVNULL, capture_output=True, timeout=15
     )
@@ -48,14 +60,14 @@ def ended(*words, status):
     return ran.stdout.decode(), ran.stderr.decode()
 
 
-def signals_end_a_node_as_quit_does():
+def signals_end_a_node_as_quit_does() -> None:
     ben = node("Ben", BEN)
     times = []
     for one in signal.SIGINT, signal.SIGTERM, signal.SIGHUP:
         with tool("node", "--id=new", "--name=Ann", *options(), wait_for="beacons to") as ran:
             ran.stdin.write(b"join g\njoin half")  # half a line isn't sent
             entered = ben.recv(SOON)
-            due(ben, zre.Join(entered.peer, b"Ann", b"g"))
+            due(ben, zre.Join(subject(entered), b"Ann", b"g"))
             begun = time.monotonic()
             ran.send_signal(one)
             gone = ben.recv(SOON)
@@ -69,10 +81,10 @@ def signals_end_a_node_as_quit_does():
     print("tests/python: a peer is told of a signal after", *(f"{1000 * one:.0f}" for one in times), "ms")
 
 
-def a_node_passes_its_input_on():
+def a_node_passes_its_input_on() -> None:
     ben = node("Ben", BEN)
     with tool("node", "--id=new", "--name=Ann", *options(), wait_for="beacons to") as ran:
-        peer = ben.recv(SOON).peer
+        peer = subject(ben.recv(SOON))
         ran.stdin.write(b"".join(b"whisper %032X %d\n" % (BEN.int, number) for number in range(3000)) + b"join last")
         ran.stdin.close()
         due(
@@ -84,13 +96,13 @@ def a_node_passes_its_input_on():
     with tool("node", "--id=new", "--name=Ann", "--stay", *options(), wait_for="beacons to") as ran:
         ran.stdin.close()
         assert isinstance(ben.recv(SOON), zre.Exit)
-        peer = ben.recv(SOON).peer
+        assert isinstance(ben.recv(SOON), zre.Enter)
         assert ben.recv(0.5) is None  # it stays
         ran.terminate()
         assert ran.wait(SOON) == 0 and isinstance(ben.recv(SOON), zre.Exit)
 
 
-def settled(*words):
+def settled(*words: str) -> Tuple[Settings, str]:
     """The settings of a node by options, and what is said of them, without starting it."""
     parser = argparse.ArgumentParser()
     zre.options.add_options(parser)
@@ -100,7 +112,7 @@ def settled(*words):
     return made, said.getvalue()
 
 
-def an_identity_is_kept_for_its_name():
+def an_identity_is_kept_for_its_name() -> None:
     (ann, said), (ben, _) = settled("--name=Ann", *options()), settled("--name=Ben", *options())
     line = (
         f"zre: Ann {ann.uuid.hex.upper()} at tcp://127.0.0.41:{ann.port}, beacons to 127.0.0.41:5670, 127.0.0.42:5670\n"
@@ -121,7 +133,7 @@ def an_identity_is_kept_for_its_name():
     assert "Ann.id: 'rubbish' is no identity" in str(fails(zre.options.ToolError, settled, "--name=Ann", *options()))
 
 
-def what_is_odd_is_warned_of():
+def what_is_odd_is_warned_of() -> None:
     for words, warning in (
         (["--to=-"], "it sends no beacons (--to)"),
         (["--host=0.0.0.0", "--to=127.255.255.255"], "peers are told the address 0.0.0.0 (--host)"),
@@ -145,7 +157,7 @@ def what_is_odd_is_warned_of():
     assert "usage" in ended("fly", status=2)[1] and "no interface" in ended("node", "--interface=none0", status=2)[1]
 
 
-def the_same_identity_elsewhere_is_warned_of():
+def the_same_identity_elsewhere_is_warned_of() -> None:
     node("Ann", BEN)
     said = settled(f"--id={BEN}", *options(look="8"))[1]
     assert "warning: a node at 127.0.0.42 has the same identity" in said, said
