@@ -1,9 +1,11 @@
 """A session as lines of text."""
+from typing import List
+
 from .session import PEER_KINDS, Event, Session
 from .words import clock, details, field, labels_of
 
 
-def rest_of(event: Event) -> list:
+def rest_of(event: Event) -> List[str]:
     """The fields of an event behind those of its peer."""
     if event.kind in PEER_KINDS:
         return event.fields[2:]

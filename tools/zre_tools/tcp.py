@@ -1,5 +1,5 @@
 """TCP connections of a recording, each with the octets of both directions put together again."""
-from typing import Dict, List, NamedTuple, Optional, Tuple
+from typing import Dict, FrozenSet, List, NamedTuple, Optional, Tuple
 
 from .pcap import Segment
 
@@ -109,7 +109,7 @@ class Connections:
 
     def __init__(self) -> None:
         self.all: List[Connection] = []
-        self.open: Dict[frozenset, Connection] = {}
+        self.open: Dict[FrozenSet[End], Connection] = {}
 
     def take(self, segment: Segment) -> None:
         """A segment, of a connection that is there or of a new one."""
