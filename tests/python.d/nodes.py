@@ -159,8 +159,10 @@ def neither_waits_for_the_other() -> None:
     for number in range(count):
         ann.shouts("g", "%d %s", number, "x" * 100)
         ben.shouts("g", "%d %s", number, "x" * 100)
-    for one, other, name in (ann, BEN, "Bén".encode()), (ben, ANN, b"Ann"):
-        due(one, *(zre.Shout(other, name, b"g", (b"%d %s" % (number, b"x" * 100),)) for number in range(count)))
+    # in turn, since a node whose events nobody reads stands still, and so does what it was asked
+    for number in range(count):
+        for one, other, name in (ann, BEN, "Bén".encode()), (ben, ANN, b"Ann"):
+            due(one, zre.Shout(other, name, b"g", (b"%d %s" % (number, b"x" * 100),)))
 
 
 def unread_events_have_a_bound() -> None:
