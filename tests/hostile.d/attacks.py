@@ -1,7 +1,6 @@
 """The attacks of tests/hostile and bench/hostile, each a function that tells what it saw as figures."""
 import contextlib
 import multiprocessing
-import os
 import random
 import selectors
 import socket
