@@ -30,7 +30,7 @@ use Rattle.zre_journal.specs.Pushes.{push, push_all}
 use Rattle.zre_journal.specs.Tables.{closed_of, closed_in, ignored_of, born_of, evasive_of, evasive_in}
 use Rattle.zre_journal.specs.Ticks.{is_silent, is_evasive, is_stale, probe, at_tick}
 use Rattle.zre_journal.proofs.Listed.{All-join}
-use Rattle.zre_journal.proofs.Obeying.{none_there}
+use Rattle.zre_journal.proofs.Turns.{none_there}
 use Rattle.zre_journal.proofs.Steps.{choice}
 
 -- ---- marks that stand in no table

@@ -52,6 +52,7 @@ use Rattle.zre_journal.proofs.Listed.{Apart-kept}
 use Rattle.zre_journal.proofs.Places.{its_moment}
 use Rattle.zre_journal.proofs.Silent.{Comes-proper}
 use Rattle.zre_journal.proofs.Steps.{choice}
+use Rattle.zre_journal.proofs.Turns.{same_push, far_stays, all_turns, some_turns, Meets, Same, Other, meets}
 
 -- ---- marks that end nobody
 
@@ -99,68 +100,10 @@ run_ends g v (Some k) why = refl
 
 -- ---- of many lives
 
-abbrev is_at : ℕ → Life → Bool
-is_at l u = eqb l u.link
-
-none_there : (l : ℕ) (us : List Life) → AllByRecursion (λ (w : Life). eqb l w.link ≡ false) us → find (is_at l) us ≡ None
-none_there l [] far = refl
-none_there l (u ∷ us) far = rw far.0 (none_there l us far.1)
-
--- the only one of its link isn't among those that are kept, where it is not kept
-dropped : (t : Life → Bool) (us : List Life) (v : Life) → find (is_at v.link) us ≡ Some v → t v ≡ false → Apart (λ (u : Life). u.link) us → find (is_at v.link) (filter t us) ≡ None
-dropped t [] v e n a = refl
-dropped t (u ∷ us) v e n a = by (λ f. dropped t us v f n a.1) (is_at v.link u) refl (t u) refl e
-  where
-    by : (find (is_at v.link) us ≡ Some v → find (is_at v.link) (filter t us) ≡ None) → (b : Bool) → is_at v.link u ≡ b → (d : Bool) → t u ≡ d → cond b (Some u) (find (is_at v.link) us) ≡ Some v
-        → find (is_at v.link) (cond d (u ∷ filter t us) (filter t us)) ≡ None
-    by r true q d z f = same (let is : u ≡ v = cc in is) d z
-      where
-        same : u ≡ v → (d : Bool) → t u ≡ d → find (is_at v.link) (cond d (u ∷ filter t us) (filter t us)) ≡ None
-        same is true z = let w : true ≡ false = sym z ∙ ap t is ∙ n in cc
-        same is false z = none_kept (is_at v.link) t us (none_there v.link us (subst (λ (x : Life). AllByRecursion (λ (w : Life). eqb x.link w.link ≡ false) us) is a.0))
-    by r false q true z f = rw q (r f)
-    by r false q false z f = r f
-
 -- the ends of many come in turn
 in_turn_ends : (why : Cause) (us : List Life) (J : List Mark) → end_all why us ≡ in_turn (λ (u : Life) I. Ends u.link why ∷ []) us J
 in_turn_ends why [] J = refl
 in_turn_ends why (u ∷ us) J = ap (λ hs. Ends u.link why ∷ hs) (in_turn_ends why us (Ends u.link why ∷ J))
-
-module _ (v : Life) where
-  -- what is brought for each in turn, where what is brought for others leaves its link as it was
-  module _ (g : Config) (K : List Mark) (out : List Cause) (f : Life → List Mark → List Mark) (own : (J : List Mark) → unsent g v.link J ≡ unsent g v.link K → line v.link J ≡ line v.link K → ends_in v.link (f v J) ≡ out)
-      (far : (u : Life) (J : List Mark) → eqb v.link u.link ≡ false → ends_in v.link (f u J) ≡ [])
-      (stays : (u : Life) (J : List Mark) → eqb v.link u.link ≡ false → (line v.link (after (f u J) J) ≡ line v.link J) × (taken v.link (after (f u J) J) ≡ taken v.link J)) where
-    absent_turns : (us : List Life) (J : List Mark) → find (is_at v.link) us ≡ None → ends_in v.link (in_turn f us J) ≡ []
-    absent_turns [] J e = refl
-    absent_turns (u ∷ us) J e = by (absent_turns us (after (f u J) J)) (is_at v.link u) refl e
-      where
-        by : (find (is_at v.link) us ≡ None → ends_in v.link (in_turn f us (after (f u J) J)) ≡ []) → (t : Bool) → is_at v.link u ≡ t → cond t (Some u) (find (is_at v.link) us) ≡ None
-            → ends_in v.link (f u J ++ in_turn f us (after (f u J) J)) ≡ []
-        by r true q e = cc
-        by r false q e = filter_map-append (end_of v.link) (f u J) (in_turn f us (after (f u J) J)) ∙ ap (λ xs. xs ++ ends_in v.link (in_turn f us (after (f u J) J))) (far u J q) ∙ r e
-
-    present_turns : (us : List Life) (J : List Mark) → line v.link J ≡ line v.link K → taken v.link J ≡ taken v.link K → find (is_at v.link) us ≡ Some v → Apart (λ (u : Life). u.link) us
-        → ends_in v.link (in_turn f us J) ≡ out
-    present_turns [] J x y e a = cc
-    present_turns (u ∷ us) J x y e a = by (λ s z. present_turns us (after (f u J) J) (s.0 ∙ x) (s.1 ∙ y) z a.1) (is_at v.link u) refl e
-      where
-        M : List Mark
-        M = after (f u J) J
-
-        same : unsent g v.link J ≡ unsent g v.link K
-        same = rw (x, y) refl
-
-        by : ((line v.link M ≡ line v.link J) × (taken v.link M ≡ taken v.link J) → find (is_at v.link) us ≡ Some v → ends_in v.link (in_turn f us M) ≡ out)
-            → (t : Bool) → is_at v.link u ≡ t → cond t (Some u) (find (is_at v.link) us) ≡ Some v → ends_in v.link (f u J ++ in_turn f us M) ≡ out
-        by r true q e =
-            let is : u ≡ v = cc in
-            let others = subst (λ (w : Life). AllByRecursion (λ (z : Life). eqb w.link z.link ≡ false) us) is a.0 in
-            filter_map-append (end_of v.link) (f u J) (in_turn f us M)
-            ∙ ap (λ xs. ends_in v.link (f u J) ++ xs) (absent_turns us M (none_there v.link us others)) ∙ append-nil (ends_in v.link (f u J))
-            ∙ subst (λ (w : Life). ends_in v.link (f w J) ≡ out) (sym is) (own J same x)
-        by r false q e =
-            filter_map-append (end_of v.link) (f u J) (in_turn f us M) ∙ ap (λ xs. xs ++ ends_in v.link (in_turn f us M)) (far u J q) ∙ r (stays u J q) e
 
 -- ---- one known peer
 
@@ -170,23 +113,6 @@ module _ (g : Config) (K : List Mark) (q : IsProper K) (names : AreNamed K) (v :
 
   me : eqb l l ≡ true
   me = eq-eqb l l refl
-
-  -- a peer that is found by its id is this one, or another one
-  data Meets (p : PeerId) (u : Life) : Type 0 where
-    Same : bytes_eq p.0 v.id.0 ≡ true → u ≡ v → Meets p u
-    Other : bytes_eq p.0 v.id.0 ≡ false → eqb l u.link ≡ false → Meets p u
-
-  meets : (p : PeerId) (u : Life) → life_of p K ≡ Some u → Meets p u
-  meets p u e = by (bytes_eq p.0 v.id.0) refl (eqb l u.link) refl
-    where
-      by : (t : Bool) → bytes_eq p.0 v.id.0 ≡ t → (d : Bool) → eqb l u.link ≡ d → Meets p u
-      by true z d y = Same z (let both : Some u ≡ Some v = sym e ∙ ap (λ i. life_of i K) (sym (same_id p v.id z)) ∙ names l v known in cc)
-      by false z false y = Other z y
-      by false z true y =
-          let one : Some u ≡ Some v = sym (known_of K q p u e) ∙ ap (λ k. life k K) (sym (eqb-true l u.link y)) ∙ known in
-          let is : u ≡ v = cc in
-          let hers : v.id ≡ p = ap (λ (w : Life). w.id) (sym is) ∙ id_of K p u e in
-          absurd (true≢false (sym (bytes_eq-same p.0 v.id.0 (ap (λ (i : PeerId). i.0) (sym hers))) ∙ z))
 
   nobody : (p : PeerId) → life_of p K ≡ None → bytes_eq p.0 v.id.0 ≡ false
   nobody p e = by (bytes_eq p.0 v.id.0) refl
@@ -205,51 +131,41 @@ module _ (g : Config) (K : List Mark) (q : IsProper K) (names : AreNamed K) (v :
 
   -- ---- the ends of many, and messages to many
 
-  -- of what is brought for each in turn, that for v is told of it, where v is among them
-  module _ (out : Bool → List Cause) (none : out false ≡ []) (f : Life → List Mark → List Mark) (own : (J : List Mark) → unsent g l J ≡ unsent g l K → line l J ≡ line l K → ends_in l (f v J) ≡ out true)
-      (far : (u : Life) (J : List Mark) → eqb l u.link ≡ false → ends_in l (f u J) ≡ [])
-      (stays : (u : Life) (J : List Mark) → eqb l u.link ≡ false → (line l (after (f u J) J) ≡ line l J) × (taken l (after (f u J) J) ≡ taken l J)) where
-    all_turns : ends_in l (in_turn f (lives K) K) ≡ out true
-    all_turns = present_turns v g K (out true) f own far stays (lives K) K refl refl known q.living.apart
-
-    some_turns : (t : Life → Bool) → ends_in l (in_turn f (filter t (lives K)) K) ≡ out (t v)
-    some_turns t = by (t v) refl
-      where
-        by : (d : Bool) → t v ≡ d → ends_in l (in_turn f (filter t (lives K)) K) ≡ out d
-        by true z = present_turns v g K (out true) f own far stays (filter t (lives K)) K refl refl (found_kept (is_at l) t (lives K) v known z) (Apart-kept (λ (u : Life). u.link) t (lives K) q.living.apart)
-        by false z = absent_turns v g K (out true) f own far stays (filter t (lives K)) K (dropped t (lives K) v known z q.living.apart) ∙ sym none
+  joins : (hs ks : List Mark) → ends_in l (hs ++ ks) ≡ ends_in l hs ++ ends_in l ks
+  joins hs ks = filter_map-append (end_of l) hs ks
 
   module _ (why : Cause) where
     abbrev end_out : Bool → List Cause
     end_out d = cons_option (where_so d why) []
 
+    abbrev end_each : Life → List Mark → List Mark
+    end_each u J = Ends u.link why ∷ []
+
     all_end : ends_in l (end_all why (lives K)) ≡ why ∷ []
-    all_end = ap (ends_in l) (in_turn_ends why (lives K) K) ∙ all_turns end_out refl (λ u J. Ends u.link why ∷ []) (λ J x y. rw me refl) (λ u J z. rw z refl) (λ u J z. (refl, refl))
+    all_end = ap (ends_in l) (in_turn_ends why (lives K) K) ∙ all_turns (ends_in l) refl joins v K end_out refl end_each (λ u J z. rw z refl) (λ J x y. rw me refl) (λ u J z. (refl, refl)) q.living.apart known
 
     some_end : (t : Life → Bool) → ends_in l (end_all why (filter t (lives K))) ≡ end_out (t v)
-    some_end t = ap (ends_in l) (in_turn_ends why (filter t (lives K)) K) ∙ some_turns end_out refl (λ u J. Ends u.link why ∷ []) (λ J x y. rw me refl) (λ u J z. rw z refl) (λ u J z. (refl, refl)) t
+    some_end t = ap (ends_in l) (in_turn_ends why (filter t (lives K)) K) ∙ some_turns (ends_in l) refl joins v K end_out refl end_each (λ u J z. rw z refl) (λ J x y. rw me refl) (λ u J z. (refl, refl)) q.living.apart known t
 
-  same_push : (b : Body) (J : List Mark) → unsent g l J ≡ unsent g l K → line l J ≡ line l K → ends_in l (push g l b J) ≡ cons_option (slow_by g l (Some b) K) []
-  same_push b M x y =
-      own_push l g b M ∙ ap (λ n. cons_option (where_so (ltb UNSENT_OCTETS (n + size_of (line l M) b)) (cause.Slow n (size_of (line l M) b))) []) x
-      ∙ ap (λ (ms : List Member). cons_option (where_so (ltb UNSENT_OCTETS (unsent g l K + size_of ms b)) (cause.Slow (unsent g l K) (size_of ms b))) []) y
+  module _ (b : Body) where
+    abbrev push_out : Bool → List Cause
+    push_out d = cons_option (slow_by g l (where_so d b) K) []
 
-  far_stays : (k : ℕ) (b : Body) (I J : List Mark) → eqb l k ≡ false → (line l (after (push g k b I) J) ≡ line l J) × (taken l (after (push g k b I) J) ≡ taken l J)
-  far_stays k b I J far = choice (λ hs. (line l (after hs J) ≡ line l J) × (taken l (after hs J) ≡ taken l J)) (ltb UNSENT_OCTETS (unsent g k I + size_of (line k I) b)) _ _
-      (λ z. (refl, refl)) (λ z. (rw far refl, refl))
+    abbrev push_each : Life → List Mark → List Mark
+    push_each u J = push g u.link b J
 
-  abbrev push_out : Body → Bool → List Cause
-  push_out b d = cons_option (slow_by g l (where_so d b) K) []
+    own_out : (J : List Mark) → line l J ≡ line l K → taken l J ≡ taken l K → ends_in l (push g l b J) ≡ push_out true
+    own_out J x y = ap (ends_in l) (same_push g l b J K x y) ∙ own_push l g b K
 
-  pushes : (b : Body) → ends_in l (push_all g (lives K) b K) ≡ cons_option (slow_by g l (Some b) K) []
-  pushes b = all_turns (push_out b) refl (λ (u : Life) J. push g u.link b J) (same_push b) (λ u J z. far_push l g u.link b J z) (λ u J z. far_stays u.link b J J z)
+    pushes : ends_in l (push_all g (lives K) b K) ≡ push_out true
+    pushes = all_turns (ends_in l) refl joins v K push_out refl push_each (λ u J z. far_push l g u.link b J z) own_out (λ u J z. far_stays g l u.link b J J z) q.living.apart known
 
-  some_pushes : (t : Life → Bool) (b : Body) → ends_in l (push_all g (filter t (lives K)) b K) ≡ cons_option (slow_by g l (where_so (t v) b) K) []
-  some_pushes t b = some_turns (push_out b) refl (λ (u : Life) J. push g u.link b J) (same_push b) (λ u J z. far_push l g u.link b J z) (λ u J z. far_stays u.link b J J z) t
+    some_pushes : (t : Life → Bool) → ends_in l (push_all g (filter t (lives K)) b K) ≡ push_out (t v)
+    some_pushes t = some_turns (ends_in l) refl joins v K push_out refl push_each (λ u J z. far_push l g u.link b J z) own_out (λ u J z. far_stays g l u.link b J J z) q.living.apart known t
 
   probes : (t : Life → Bool) → ends_in l (probe g (filter t (lives K)) K) ≡ cons_option (slow_by g l (where_so (t v) body.Ping) K) []
-  probes t = some_turns (push_out body.Ping) refl (λ (u : Life) J. IsEvasive u.link ∷ push g u.link body.Ping J) (same_push body.Ping) (λ u J z. far_push l g u.link body.Ping J z)
-      (λ u J z. far_stays u.link body.Ping J (IsEvasive u.link ∷ J) z) t
+  probes t = some_turns (ends_in l) refl joins v K (push_out body.Ping) refl (λ (u : Life) J. IsEvasive u.link ∷ push g u.link body.Ping J) (λ u J z. far_push l g u.link body.Ping J z) (own_out body.Ping)
+      (λ u J z. far_stays g l u.link body.Ping J (IsEvasive u.link ∷ J) z) q.living.apart known t
 
   -- ---- entries
 
@@ -260,14 +176,14 @@ module _ (g : Config) (K : List Mark) (q : IsProper K) (names : AreNamed K) (v :
   datagram from None = refl
   datagram from (Some b) = by (life_of b.0 K) refl
     where
-      met : (u : Life) → Meets b.0 u → (t : Bool) → Is (cond t (Ends u.link cause.Beacon ∷ []) (HearsBeacon u.link ∷ [])) (where_so (bytes_eq b.0.0 v.id.0 && t) cause.Beacon)
+      met : (u : Life) → Meets v b.0 u → (t : Bool) → Is (cond t (Ends u.link cause.Beacon ∷ []) (HearsBeacon u.link ∷ [])) (where_so (bytes_eq b.0.0 v.id.0 && t) cause.Beacon)
       met u (Same z is) true = rw z (let me : eqb l u.link ≡ true = eq-eqb l u.link (ap (λ (w : Life). w.link) (sym is)) in rw me refl)
       met u (Same z is) false = rw z refl
       met u (Other z far) true = rw (z, far) refl
       met u (Other z far) false = rw z refl
 
       by : (o : Option Life) → life_of b.0 K ≡ o → Is (at_beacon g from b.0 b.1 o K) (where_so (bytes_eq b.0.0 v.id.0 && eqb b.1 0) cause.Beacon)
-      by (Some u) e = met u (meets b.0 u e) (eqb b.1 0)
+      by (Some u) e = met u (meets K q names v known b.0 u e) (eqb b.1 0)
       by None e = rw (nobody b.0 e) (choice (λ hs. ends_in l hs ≡ []) (is_welcome g b.0 b.1 (length (lives K))) (birth g b.0 (record { addr = from; port = b.1 }) K) [] (λ z. calm_none l (birth g b.0 (record { addr = from; port = b.1 }) K) (tt, (tt, tt))) (λ z. refl))
 
   shut : (c : ℕ) → Is (at_shut g c K) (where_so (is_open c K && is_run_by (runs c K) v) cause.Shut)
@@ -373,12 +289,12 @@ module _ (g : Config) (K : List Mark) (q : IsProper K) (names : AreNamed K) (v :
       near true true = refl
       near true false = own_push l g b K
 
-      met : (u : Life) → Meets p u → Is (at_whisper g p content (Some u) K) (slow_by g l (due_by g (command.Whisper p content) K v) K)
+      met : (u : Life) → Meets v p u → Is (at_whisper g p content (Some u) K) (slow_by g l (due_by g (command.Whisper p content) K v) K)
       met u (Same z is) = rw z (subst (λ (w : Life). Is (at_whisper g p content (Some w) K) (slow_by g l (where_so (is_entered K v && not (is_too_big g b)) b) K)) (sym is) (near (is_entered K v) (is_too_big g b)))
       met u (Other z away) = rw z (far u away (not (is_entered K u)) (is_too_big g b))
 
       by : (o : Option Life) → life_of p K ≡ o → Is (at_whisper g p content o K) (slow_by g l (due_by g (command.Whisper p content) K v) K)
-      by (Some u) e = met u (meets p u e)
+      by (Some u) e = met u (meets K q names v known p u e)
       by None e = rw (nobody p e) refl
 
   shout : (group : List ℕ) (content : List (List ℕ)) → Is (at_shout g group content K) (slow_by g l (due_by g (command.Shout group content) K v) K)
@@ -389,7 +305,7 @@ module _ (g : Config) (K : List Mark) (q : IsProper K) (names : AreNamed K) (v :
 
       by : (x : Bool) → Is (cond x (Refuses refuse.TooBig ∷ []) (push_all g (filter (is_member g group K) (lives K)) b K)) (slow_by g l (where_so (not x && is_member g group K v) b) K)
       by true = refl
-      by false = some_pushes (is_member g group K) b
+      by false = some_pushes b (is_member g group K)
 
   command_ends : (c : Command) (H : List Mark) → Is (at_command g c K) (cause_at g (input.Do c) H K v)
   command_ends (command.Join group) H = join group

@@ -64,6 +64,7 @@ pub mod Ticks
 pub mod Truly
 pub mod Truth
 pub mod Truthful
+pub mod Turns
 pub mod Viewed
 pub mod Walk
 pub mod Windows

@@ -36,20 +36,9 @@ use Rattle.zre_journal.proofs.Known.{known_of, same_id, id_of}
 use Rattle.zre_journal.proofs.Listed.{Apart-kept, All-join}
 use Rattle.zre_journal.proofs.Silent.{Comes-proper}
 use Rattle.zre_journal.proofs.Steps.{choice}
+use Rattle.zre_journal.proofs.Turns.{is_at, same_push, far_stays, absent, all_turns, some_turns, Meets, Same, Other, meets}
 
 -- ---- on one link
-
-abbrev is_at : ℕ → Life → Bool
-is_at l u = eqb l u.link
-
--- a body that is put where these stand on the link and so many octets have gone out
-abbrev pushed : Config → ℕ → Body → List Member → ℕ → List Mark
-pushed g l b ms n =
-    let size = size_of ms b in
-    cond (ltb UNSENT_OCTETS (unsent_of g.id ms n + size)) (Ends l (cause.Slow (unsent_of g.id ms n) size) ∷ []) (Puts l b ∷ [])
-
-same_push : (g : Config) (l : ℕ) (b : Body) (J K : List Mark) → line l J ≡ line l K → taken l J ≡ taken l K → push g l b J ≡ push g l b K
-same_push g l b J K x y = ap (λ ms. pushed g l b ms (taken l J)) x ∙ ap (λ n. pushed g l b (line l K) n) y
 
 module _ (g : Config) (l : ℕ) where
   own_push : (b : Body) (I : List Mark) → on_link l (push g l b I) ≡ push g l b I
@@ -60,63 +49,6 @@ module _ (g : Config) (l : ℕ) where
 
   far_push : (k : ℕ) (b : Body) (I : List Mark) → eqb l k ≡ false → on_link l (push g k b I) ≡ []
   far_push k b I far = choice (λ hs. on_link l hs ≡ []) (ltb UNSENT_OCTETS (unsent g k I + size_of (line k I) b)) _ _ (λ z. rw far refl) (λ z. rw far refl)
-
-  -- a push on another link leaves this one as it is
-  far_stays : (k : ℕ) (b : Body) (I J : List Mark) → eqb l k ≡ false → (line l (after (push g k b I) J) ≡ line l J) × (taken l (after (push g k b I) J) ≡ taken l J)
-  far_stays k b I J far = choice (λ hs. (line l (after hs J) ≡ line l J) × (taken l (after hs J) ≡ taken l J)) (ltb UNSENT_OCTETS (unsent g k I + size_of (line k I) b)) _ _ (λ z. (refl, refl)) (λ z. (rw far refl, refl))
-
-pub none_there : (l : ℕ) (us : List Life) → AllByRecursion (λ (w : Life). eqb l w.link ≡ false) us → find (is_at l) us ≡ None
-none_there l [] far = refl
-none_there l (u ∷ us) far = rw far.0 (none_there l us far.1)
-
--- the only one of its link isn't among those that are kept, where it is not kept
-pub dropped : (t : Life → Bool) (us : List Life) (v : Life) → find (is_at v.link) us ≡ Some v → t v ≡ false → Apart (λ (u : Life). u.link) us → find (is_at v.link) (filter t us) ≡ None
-dropped t [] v e n a = refl
-dropped t (u ∷ us) v e n a = by (λ f. dropped t us v f n a.1) (is_at v.link u) refl (t u) refl e
-  where
-    by : (find (is_at v.link) us ≡ Some v → find (is_at v.link) (filter t us) ≡ None) → (b : Bool) → is_at v.link u ≡ b → (d : Bool) → t u ≡ d → cond b (Some u) (find (is_at v.link) us) ≡ Some v
-        → find (is_at v.link) (cond d (u ∷ filter t us) (filter t us)) ≡ None
-    by r true q d z f = same (let is : u ≡ v = cc in is) d z
-      where
-        same : u ≡ v → (d : Bool) → t u ≡ d → find (is_at v.link) (cond d (u ∷ filter t us) (filter t us)) ≡ None
-        same is true z = let w : true ≡ false = sym z ∙ ap t is ∙ n in cc
-        same is false z = none_kept (is_at v.link) t us (none_there v.link us (subst (λ (x : Life). AllByRecursion (λ (w : Life). eqb x.link w.link ≡ false) us) is a.0))
-    by r false q true z f = rw q (r f)
-    by r false q false z f = r f
-
--- ---- what is brought for each in turn, where what is brought for others leaves the link l as it is
-
-module _ (l : ℕ) (K : List Mark) (f : Life → List Mark → List Mark) (far : (u : Life) (J : List Mark) → eqb l u.link ≡ false → on_link l (f u J) ≡ []) where
-  absent : (us : List Life) (J : List Mark) → find (is_at l) us ≡ None → on_link l (in_turn f us J) ≡ []
-  absent [] J e = refl
-  absent (u ∷ us) J e = by (absent us (after (f u J) J)) (is_at l u) refl e
-    where
-      by : (find (is_at l) us ≡ None → on_link l (in_turn f us (after (f u J) J)) ≡ []) → (t : Bool) → is_at l u ≡ t → cond t (Some u) (find (is_at l) us) ≡ None
-          → on_link l (f u J ++ in_turn f us (after (f u J) J)) ≡ []
-      by r true q e = cc
-      by r false q e = filter-append (is_on l) (f u J) (in_turn f us (after (f u J) J)) ∙ ap (λ xs. xs ++ on_link l (in_turn f us (after (f u J) J))) (far u J q) ∙ r e
-
-module _ (v : Life) (K : List Mark) (f : Life → List Mark → List Mark) (out : List Mark) (far : (u : Life) (J : List Mark) → eqb v.link u.link ≡ false → on_link v.link (f u J) ≡ [])
-    (own : (J : List Mark) → line v.link J ≡ line v.link K → taken v.link J ≡ taken v.link K → on_link v.link (f v J) ≡ out)
-    (stays : (u : Life) (J : List Mark) → eqb v.link u.link ≡ false → (line v.link (after (f u J) J) ≡ line v.link J) × (taken v.link (after (f u J) J) ≡ taken v.link J)) where
-  present : (us : List Life) (J : List Mark) → line v.link J ≡ line v.link K → taken v.link J ≡ taken v.link K → find (is_at v.link) us ≡ Some v → Apart (λ (u : Life). u.link) us
-      → on_link v.link (in_turn f us J) ≡ out
-  present [] J x y e a = cc
-  present (u ∷ us) J x y e a = by (λ s z. present us (after (f u J) J) (s.0 ∙ x) (s.1 ∙ y) z a.1) (is_at v.link u) refl e
-    where
-      M : List Mark
-      M = after (f u J) J
-
-      by : ((line v.link M ≡ line v.link J) × (taken v.link M ≡ taken v.link J) → find (is_at v.link) us ≡ Some v → on_link v.link (in_turn f us M) ≡ out)
-          → (t : Bool) → is_at v.link u ≡ t → cond t (Some u) (find (is_at v.link) us) ≡ Some v → on_link v.link (f u J ++ in_turn f us M) ≡ out
-      by r true q e =
-          let is : u ≡ v = cc in
-          let others = subst (λ (w : Life). AllByRecursion (λ (z : Life). eqb w.link z.link ≡ false) us) is a.0 in
-          filter-append (is_on v.link) (f u J) (in_turn f us M)
-          ∙ ap (λ xs. on_link v.link (f u J) ++ xs) (absent v.link K f far us M (none_there v.link us others)) ∙ append-nil (on_link v.link (f u J))
-          ∙ subst (λ (w : Life). on_link v.link (f w J) ≡ out) (sym is) (own J x y)
-      by r false q e =
-          filter-append (is_on v.link) (f u J) (in_turn f us M) ∙ ap (λ xs. xs ++ on_link v.link (in_turn f us M)) (far u J q) ∙ r (stays u J q) e
 
 -- the ends of many come in turn
 ends_in_turn : (us : List Life) (J : List Mark) → map (λ (u : Life). Ends u.link cause.Stop) us ≡ in_turn (λ (u : Life) I. Ends u.link cause.Stop ∷ []) us J
@@ -149,34 +81,21 @@ module _ (g : Config) (K : List Mark) (q : IsProper K) (names : AreNamed K) wher
     me : eqb l l ≡ true
     me = eq-eqb l l refl
 
-    all_pushes : (b : Body) → on_link l (push_all g (lives K) b K) ≡ push g l b K
-    all_pushes b = present v K (λ u J. push g u.link b J) (push g l b K) (λ u J z. far_push g l u.link b J z) (λ J x y. own_push g l b J ∙ same_push g l b J K x y) (λ u J z. far_stays g l u.link b J J z)
-        (lives K) K refl refl known q.living.apart
+    module _ (b : Body) where
+      abbrev push_out : Bool → List Mark
+      push_out d = cond d (push g l b K) []
 
-    some_pushes : (t : Life → Bool) (b : Body) → on_link l (push_all g (filter t (lives K)) b K) ≡ cond (t v) (push g l b K) []
-    some_pushes t b = by (t v) refl
-      where
-        by : (d : Bool) → t v ≡ d → on_link l (push_all g (filter t (lives K)) b K) ≡ cond d (push g l b K) []
-        by true z = present v K (λ u J. push g u.link b J) (push g l b K) (λ u J y. far_push g l u.link b J y) (λ J x y. own_push g l b J ∙ same_push g l b J K x y) (λ u J y. far_stays g l u.link b J J y)
-            (filter t (lives K)) K refl refl (found_kept (is_at l) t (lives K) v known z) (Apart-kept (λ (u : Life). u.link) t (lives K) q.living.apart)
-        by false z = absent l K (λ u J. push g u.link b J) (λ u J y. far_push g l u.link b J y) (filter t (lives K)) K (dropped t (lives K) v known z q.living.apart)
+      abbrev push_each : Life → List Mark → List Mark
+      push_each u J = push g u.link b J
 
-    -- a peer that is found by its id is this one, or another one
-    data Meets (p : PeerId) (u : Life) : Type 0 where
-      Same : bytes_eq p.0 v.id.0 ≡ true → u ≡ v → Meets p u
-      Other : bytes_eq p.0 v.id.0 ≡ false → eqb l u.link ≡ false → Meets p u
+      own_out : (J : List Mark) → line l J ≡ line l K → taken l J ≡ taken l K → on_link l (push g l b J) ≡ push_out true
+      own_out J x y = own_push g l b J ∙ same_push g l b J K x y
 
-    meets : (p : PeerId) (u : Life) → life_of p K ≡ Some u → Meets p u
-    meets p u e = by (bytes_eq p.0 v.id.0) refl (eqb l u.link) refl
-      where
-        by : (t : Bool) → bytes_eq p.0 v.id.0 ≡ t → (d : Bool) → eqb l u.link ≡ d → Meets p u
-        by true z d y = Same z (let both : Some u ≡ Some v = sym e ∙ ap (λ i. life_of i K) (sym (same_id p v.id z)) ∙ names l v known in cc)
-        by false z false y = Other z y
-        by false z true y =
-            let one : Some u ≡ Some v = sym (known_of K q p u e) ∙ ap (λ k. life k K) (sym (eqb-true l u.link y)) ∙ known in
-            let is : u ≡ v = cc in
-            let hers : v.id ≡ p = ap (λ (w : Life). w.id) (sym is) ∙ id_of K p u e in
-            absurd (true≢false (sym (bytes_eq-same p.0 v.id.0 (ap (λ (i : PeerId). i.0) (sym hers))) ∙ z))
+      all_pushes : on_link l (push_all g (lives K) b K) ≡ push g l b K
+      all_pushes = all_turns (on_link l) refl (filter-append (is_on l)) v K push_out refl push_each (λ u J z. far_push g l u.link b J z) own_out (λ u J z. far_stays g l u.link b J J z) q.living.apart known
+
+      some_pushes : (t : Life → Bool) → on_link l (push_all g (filter t (lives K)) b K) ≡ push_out (t v)
+      some_pushes t = some_turns (on_link l) refl (filter-append (is_on l)) v K push_out refl push_each (λ u J z. far_push g l u.link b J z) own_out (λ u J z. far_stays g l u.link b J J z) q.living.apart known t
 
     abbrev Is : Command → List Mark → Option RefuseWhy → Type 0
     Is c hs why = on_link l hs ≡ cond (is_some why) [] (reaches g c K v)
@@ -199,7 +118,7 @@ module _ (g : Config) (K : List Mark) (q : IsProper K) (names : AreNamed K) wher
         away u z true true = refl
         away u z true false = far_push g l u.link b K z
 
-        met : (u : Life) → Meets p u → on_link l (cond (not (is_entered K u)) (Refuses (refuse.NoPeer p) ∷ []) (cond (is_too_big g b) (Refuses refuse.TooBig ∷ []) (push g u.link b K)))
+        met : (u : Life) → Meets v p u → on_link l (cond (not (is_entered K u)) (Refuses (refuse.NoPeer p) ∷ []) (cond (is_too_big g b) (Refuses refuse.TooBig ∷ []) (push g u.link b K)))
             ≡ cond (is_some (cond (not (is_entered K u)) (Some (refuse.NoPeer p)) (cond (is_too_big g b) (Some refuse.TooBig) None))) [] (cond (bytes_eq p.0 v.id.0) (push g l b K) [])
         met u (Same z is) = rw z (subst (λ (w : Life). on_link l (cond (not (is_entered K w)) (Refuses (refuse.NoPeer p) ∷ []) (cond (is_too_big g b) (Refuses refuse.TooBig ∷ []) (push g w.link b K)))
             ≡ cond (is_some (cond (not (is_entered K w)) (Some (refuse.NoPeer p)) (cond (is_too_big g b) (Some refuse.TooBig) None))) [] (push g l b K)) (sym is) (near (is_entered K v) (is_too_big g b)))
@@ -208,7 +127,7 @@ module _ (g : Config) (K : List Mark) (q : IsProper K) (names : AreNamed K) wher
         by : (o : Option Life) → life_of p K ≡ o → on_link l (at_whisper g p content o K)
             ≡ cond (is_some (cond (not (option_map_or (is_entered K) o false)) (Some (refuse.NoPeer p)) (cond (is_too_big g b) (Some refuse.TooBig) None))) [] (cond (bytes_eq p.0 v.id.0) (push g l b K) [])
         by None e = refl
-        by (Some u) e = met u (meets p u e)
+        by (Some u) e = met u (meets K q names v known p u e)
 
     on_known : (c : Command) → Is c (at_command g c K) (refusal g c K)
     on_known (command.Join group) = by (ltb GROUP_OCTETS (length group)) (has_group group (groups K)) (leb OWN_GROUPS (length (groups K)))
@@ -238,18 +157,18 @@ module _ (g : Config) (K : List Mark) (q : IsProper K) (names : AreNamed K) wher
 
         by : (x : Bool) → on_link l (cond x (Refuses refuse.TooBig ∷ []) (push_all g (filter (is_member g group K) (lives K)) b K)) ≡ cond (is_some (cond x (Some refuse.TooBig) None)) [] (cond (is_member g group K v) (push g l b K) [])
         by true = refl
-        by false = some_pushes (is_member g group K) b
+        by false = some_pushes b (is_member g group K)
     on_known (command.Bad n) = refl
-    on_known command.Quit = at_stop_of l ∙ present v K (λ (u : Life) I. Ends u.link cause.Stop ∷ []) (Ends l cause.Stop ∷ []) (λ u J z. rw z refl) (λ J x y. rw me refl) (λ u J z. (refl, refl)) (lives K) K refl refl known q.living.apart
+    on_known command.Quit = at_stop_of l ∙ all_turns (on_link l) refl (filter-append (is_on l)) v K (λ d. cond d (Ends l cause.Stop ∷ []) []) refl (λ (u : Life) I. Ends u.link cause.Stop ∷ []) (λ u J z. rw z refl) (λ J x y. rw me refl) (λ u J z. (refl, refl)) q.living.apart known
 
   -- ---- another link
 
   module _ (l : ℕ) (unknown : life l K ≡ None) where
     other_pushes : (t : Life → Bool) (b : Body) → on_link l (push_all g (filter t (lives K)) b K) ≡ []
-    other_pushes t b = absent l K (λ u J. push g u.link b J) (λ u J z. far_push g l u.link b J z) (filter t (lives K)) K (none_kept (is_at l) t (lives K) unknown)
+    other_pushes t b = absent (on_link l) refl (filter-append (is_on l)) l (λ u J. push g u.link b J) (λ u J z. far_push g l u.link b J z) (filter t (lives K)) K (none_kept (is_at l) t (lives K) unknown)
 
     every_push : (b : Body) → on_link l (push_all g (lives K) b K) ≡ []
-    every_push b = absent l K (λ u J. push g u.link b J) (λ u J z. far_push g l u.link b J z) (lives K) K unknown
+    every_push b = absent (on_link l) refl (filter-append (is_on l)) l (λ u J. push g u.link b J) (λ u J z. far_push g l u.link b J z) (lives K) K unknown
 
     other_whisper : (p : PeerId) (content : List (List ℕ)) → on_link l (at_whisper g p content (life_of p K) K) ≡ []
     other_whisper p content = by (life_of p K) refl
@@ -272,7 +191,7 @@ module _ (g : Config) (K : List Mark) (q : IsProper K) (names : AreNamed K) wher
     on_unknown (command.Whisper p content) = other_whisper p content
     on_unknown (command.Shout group content) = choice (λ hs. on_link l hs ≡ []) (ltb GROUP_OCTETS (length group) || is_too_big g (body.Shout group content)) _ _ (λ z. refl) (λ z. other_pushes (is_member g group K) (body.Shout group content))
     on_unknown (command.Bad n) = refl
-    on_unknown command.Quit = at_stop_of l ∙ absent l K (λ (u : Life) I. Ends u.link cause.Stop ∷ []) (λ u J z. rw z refl) (lives K) K unknown
+    on_unknown command.Quit = at_stop_of l ∙ absent (on_link l) refl (filter-append (is_on l)) l (λ (u : Life) I. Ends u.link cause.Stop ∷ []) (λ u J z. rw z refl) (lives K) K unknown
 
 -- ---- what is told
 
@@ -328,50 +247,52 @@ module _ (g : Config) (K : List Mark) where
   grants_closings [] = tt
   grants_closings (c ∷ cs) = (tt, grants_closings cs)
 
-  abbrev Tells : List Mark → Option RefuseWhy → Type 0
-  Tells hs why = refusals (told hs K) ≡ cons_option why []
+  -- it is refused and brings nothing else, or it isn't and brings what tells no refusal
+  data Outcome : List Mark → Option RefuseWhy → Type 0 where
+    Refused : (why : RefuseWhy) → Outcome (Refuses why ∷ []) (Some why)
+    Granted : (hs : List Mark) → AreGrants hs → Outcome hs None
 
-  tells_whisper : (p : PeerId) (content : List (List ℕ)) (o : Option Life)
-      → Tells (at_whisper g p content o K) (cond (not (option_map_or (is_entered K) o false)) (Some (refuse.NoPeer p)) (cond (is_too_big g (body.Whisper content)) (Some refuse.TooBig) None))
-  tells_whisper p content None = refl
-  tells_whisper p content (Some u) = by (is_entered K u) (is_too_big g (body.Whisper content))
+  at_whisper_out : (p : PeerId) (content : List (List ℕ)) (o : Option Life)
+      → Outcome (at_whisper g p content o K) (cond (not (option_map_or (is_entered K) o false)) (Some (refuse.NoPeer p)) (cond (is_too_big g (body.Whisper content)) (Some refuse.TooBig) None))
+  at_whisper_out p content None = Refused (refuse.NoPeer p)
+  at_whisper_out p content (Some u) = by (is_entered K u) (is_too_big g (body.Whisper content))
     where
-      by : (x y : Bool) → Tells (cond (not x) (Refuses (refuse.NoPeer p) ∷ []) (cond y (Refuses refuse.TooBig ∷ []) (push g u.link (body.Whisper content) K))) (cond (not x) (Some (refuse.NoPeer p)) (cond y (Some refuse.TooBig) None))
-      by false y = refl
-      by true true = refl
-      by true false = granted (push g u.link (body.Whisper content) K) K (grants_push u.link (body.Whisper content) K)
+      by : (x y : Bool) → Outcome (cond (not x) (Refuses (refuse.NoPeer p) ∷ []) (cond y (Refuses refuse.TooBig ∷ []) (push g u.link (body.Whisper content) K))) (cond (not x) (Some (refuse.NoPeer p)) (cond y (Some refuse.TooBig) None))
+      by false y = Refused (refuse.NoPeer p)
+      by true true = Refused refuse.TooBig
+      by true false = Granted _ (grants_push u.link (body.Whisper content) K)
 
-  tells : (c : Command) → Tells (at_command g c K) (refusal g c K)
-  tells (command.Join group) = by (ltb GROUP_OCTETS (length group)) (has_group group (groups K)) (leb OWN_GROUPS (length (groups K)))
+  outcome : (c : Command) → Outcome (at_command g c K) (refusal g c K)
+  outcome (command.Join group) = by (ltb GROUP_OCTETS (length group)) (has_group group (groups K)) (leb OWN_GROUPS (length (groups K)))
     where
       b : Body
       b = body.Join group ((status K + 1) % 256)
 
-      by : (x y z : Bool) → Tells (cond x (Refuses refuse.TooBig ∷ []) (cond y (Refuses (refuse.Same group) ∷ []) (cond z (Refuses (refuse.Limit group) ∷ []) (Joins group ∷ push_all g (lives K) b K))))
+      by : (x y z : Bool) → Outcome (cond x (Refuses refuse.TooBig ∷ []) (cond y (Refuses (refuse.Same group) ∷ []) (cond z (Refuses (refuse.Limit group) ∷ []) (Joins group ∷ push_all g (lives K) b K))))
           (cond x (Some refuse.TooBig) (cond y (Some (refuse.Same group)) (cond z (Some (refuse.Limit group)) None)))
-      by true y z = refl
-      by false true z = refl
-      by false false true = refl
-      by false false false = granted (Joins group ∷ push_all g (lives K) b K) K (tt, grants_pushes (lives K) b K)
-  tells (command.Leave group) = by (has_group group (groups K))
+      by true y z = Refused refuse.TooBig
+      by false true z = Refused (refuse.Same group)
+      by false false true = Refused (refuse.Limit group)
+      by false false false = Granted (Joins group ∷ push_all g (lives K) b K) (tt, grants_pushes (lives K) b K)
+  outcome (command.Leave group) = by (has_group group (groups K))
     where
       b : Body
       b = body.Leave group ((status K + 1) % 256)
 
-      by : (x : Bool) → Tells (cond x (Leaves group ∷ push_all g (lives K) b K) (Refuses (refuse.NoGroup group) ∷ [])) (cond (not x) (Some (refuse.NoGroup group)) None)
-      by true = granted (Leaves group ∷ push_all g (lives K) b K) K (tt, grants_pushes (lives K) b K)
-      by false = refl
-  tells (command.Whisper p content) = tells_whisper p content (life_of p K)
-  tells (command.Shout group content) = by (ltb GROUP_OCTETS (length group) || is_too_big g b)
+      by : (x : Bool) → Outcome (cond x (Leaves group ∷ push_all g (lives K) b K) (Refuses (refuse.NoGroup group) ∷ [])) (cond (not x) (Some (refuse.NoGroup group)) None)
+      by true = Granted (Leaves group ∷ push_all g (lives K) b K) (tt, grants_pushes (lives K) b K)
+      by false = Refused (refuse.NoGroup group)
+  outcome (command.Whisper p content) = at_whisper_out p content (life_of p K)
+  outcome (command.Shout group content) = by (ltb GROUP_OCTETS (length group) || is_too_big g b)
     where
       b : Body
       b = body.Shout group content
 
-      by : (x : Bool) → Tells (cond x (Refuses refuse.TooBig ∷ []) (push_all g (filter (is_member g group K) (lives K)) b K)) (cond x (Some refuse.TooBig) None)
-      by true = refl
-      by false = granted (push_all g (filter (is_member g group K) (lives K)) b K) K (grants_pushes (filter (is_member g group K) (lives K)) b K)
-  tells (command.Bad n) = refl
-  tells command.Quit = granted (at_stop g K) K (All-join Grants (E ++ D) (SendsBeacon 0 ∷ Stops ∷ []) (All-join Grants E D (grants_ends (lives K)) (grants_closings (open_ones K))) (tt, (tt, tt)))
+      by : (x : Bool) → Outcome (cond x (Refuses refuse.TooBig ∷ []) (push_all g (filter (is_member g group K) (lives K)) b K)) (cond x (Some refuse.TooBig) None)
+      by true = Refused refuse.TooBig
+      by false = Granted (push_all g (filter (is_member g group K) (lives K)) b K) (grants_pushes (filter (is_member g group K) (lives K)) b K)
+  outcome (command.Bad n) = Refused (refuse.BadLine n)
+  outcome command.Quit = Granted (at_stop g K) (All-join Grants (E ++ D) (SendsBeacon 0 ∷ Stops ∷ []) (All-join Grants E D (grants_ends (lives K)) (grants_closings (open_ones K))) (tt, (tt, tt)))
     where
       E : List Mark
       E = map (λ (u : Life). Ends u.link cause.Stop) (lives K)
@@ -379,60 +300,26 @@ module _ (g : Config) (K : List Mark) where
       D : List Mark
       D = map (λ c. ClosesAtStop c) (open_ones K)
 
--- a command that is refused brings nothing else
-module _ (g : Config) (K : List Mark) (why : RefuseWhy) where
-  abbrev For : List Mark → Option RefuseWhy → Type 0
-  For hs o = o ≡ Some why → hs ≡ Refuses why ∷ []
+  -- so it is told as refused once, with that reason
+  tells : (hs : List Mark) (o : Option RefuseWhy) → Outcome hs o → refusals (told hs K) ≡ cons_option o []
+  tells _ _ (Refused why) = refl
+  tells _ _ (Granted hs s) = granted hs K s
 
-  this : (w : RefuseWhy) → For (Refuses w ∷ []) (Some w)
-  this w e = let same : w ≡ why = cc in ap (λ x. Refuses x ∷ []) same
-
-  for_whisper : (p : PeerId) (content : List (List ℕ)) (o : Option Life)
-      → For (at_whisper g p content o K) (cond (not (option_map_or (is_entered K) o false)) (Some (refuse.NoPeer p)) (cond (is_too_big g (body.Whisper content)) (Some refuse.TooBig) None))
-  for_whisper p content None = this (refuse.NoPeer p)
-  for_whisper p content (Some u) = by (is_entered K u) (is_too_big g (body.Whisper content))
-    where
-      by : (x y : Bool) → For (cond (not x) (Refuses (refuse.NoPeer p) ∷ []) (cond y (Refuses refuse.TooBig ∷ []) (push g u.link (body.Whisper content) K))) (cond (not x) (Some (refuse.NoPeer p)) (cond y (Some refuse.TooBig) None))
-      by false y = this (refuse.NoPeer p)
-      by true true = this refuse.TooBig
-      by true false = λ e. cc
-
-  alone : (c : Command) → For (at_command g c K) (refusal g c K)
-  alone (command.Join group) = by (ltb GROUP_OCTETS (length group)) (has_group group (groups K)) (leb OWN_GROUPS (length (groups K)))
-    where
-      b : Body
-      b = body.Join group ((status K + 1) % 256)
-
-      by : (x y z : Bool) → For (cond x (Refuses refuse.TooBig ∷ []) (cond y (Refuses (refuse.Same group) ∷ []) (cond z (Refuses (refuse.Limit group) ∷ []) (Joins group ∷ push_all g (lives K) b K))))
-          (cond x (Some refuse.TooBig) (cond y (Some (refuse.Same group)) (cond z (Some (refuse.Limit group)) None)))
-      by true y z = this refuse.TooBig
-      by false true z = this (refuse.Same group)
-      by false false true = this (refuse.Limit group)
-      by false false false = λ e. cc
-  alone (command.Leave group) = by (has_group group (groups K))
-    where
-      by : (x : Bool) → For (cond x (Leaves group ∷ push_all g (lives K) (body.Leave group ((status K + 1) % 256)) K) (Refuses (refuse.NoGroup group) ∷ [])) (cond (not x) (Some (refuse.NoGroup group)) None)
-      by true = λ e. cc
-      by false = this (refuse.NoGroup group)
-  alone (command.Whisper p content) = for_whisper p content (life_of p K)
-  alone (command.Shout group content) = by (ltb GROUP_OCTETS (length group) || is_too_big g (body.Shout group content))
-    where
-      by : (x : Bool) → For (cond x (Refuses refuse.TooBig ∷ []) (push_all g (filter (is_member g group K) (lives K)) (body.Shout group content) K)) (cond x (Some refuse.TooBig) None)
-      by true = this refuse.TooBig
-      by false = λ e. cc
-  alone (command.Bad n) = this (refuse.BadLine n)
-  alone command.Quit = λ e. cc
+  -- and is all that comes about
+  alone : (why : RefuseWhy) (hs : List Mark) (o : Option RefuseWhy) → Outcome hs o → o ≡ Some why → hs ≡ Refuses why ∷ []
+  alone why _ _ (Refused w) e = let same : w ≡ why = cc in ap (λ x. Refuses x ∷ []) same
+  alone why _ _ (Granted hs s) e = cc
 
 pub obeys : (g : Config) (J : List Entry) → Obeys g J
 obeys g J = record {
   refused = λ earlier e later c at is.
       let H = chronicle g earlier in
       let K = Comes e ∷ H in
-      ap (λ b. refusals (told (cond b [] (at_input g e.input H K)) K)) at.going ∙ ap (λ i. refusals (told (at_input g i H K) K)) is ∙ tells g K c;
+      ap (λ b. refusals (told (cond b [] (at_input g e.input H K)) K)) at.going ∙ ap (λ i. refusals (told (at_input g i H K) K)) is ∙ tells g K (at_command g c K) (refusal g c K) (outcome g K c);
   alone = λ earlier e later c why at is because.
       let H = chronicle g earlier in
       let K = Comes e ∷ H in
-      ap (λ i. at_input g i H K) is ∙ alone g K why c because;
+      ap (λ i. at_input g i H K) is ∙ alone g K why (at_command g c K) (refusal g c K) (outcome g K c) because;
   reached = λ earlier e later c v at is known.
       let H = chronicle g earlier in
       let K = Comes e ∷ H in

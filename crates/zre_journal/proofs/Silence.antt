@@ -45,7 +45,7 @@ use Rattle.zre_journal.proofs.Known.{known_of, same_id, id_of}
 use Rattle.zre_journal.proofs.Lawful.{ends_once}
 use Rattle.zre_journal.proofs.Listed.{eqb-comm, All-join, All-kept, All-map, found}
 use Rattle.zre_journal.proofs.Mild.{Mild, is_tick, Kind, kind, mild_input}
-use Rattle.zre_journal.proofs.Obeying.{dropped}
+use Rattle.zre_journal.proofs.Turns.{dropped}
 use Rattle.zre_journal.proofs.Silent.{Comes-proper}
 use Rattle.zre_journal.proofs.Steps.{choice, all_push}
 use Rattle.zre_journal.proofs.Ticking.{Ticks, AreTicks, E, F, C, all_tick, ended_there, told_there}

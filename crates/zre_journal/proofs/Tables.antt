@@ -41,7 +41,7 @@ use Rattle.zre_journal.specs.Ticks.{is_evasive, is_stale, probe, at_tick}
 use Rattle.zre_journal.proofs.Always.{is_proper}
 use Rattle.zre_journal.proofs.Few.{found_kept}
 use Rattle.zre_journal.proofs.Listed.{Apart-kept}
-use Rattle.zre_journal.proofs.Obeying.{dropped}
+use Rattle.zre_journal.proofs.Turns.{dropped}
 use Rattle.zre_journal.proofs.Silent.{Comes-proper}
 use Rattle.zre_journal.proofs.Steps.{choice}
 use Rattle.zre_journal.proofs.Bare.{AreBare, Reads, reads_closed, reads_ignored, reads_born, reads_evasive, bare_none, bare_then, either, bare_push, bare_run, bare_reply, bare_linked, bare_unlinked, bare_took, bare_stop, bare_command, bare_shut, probes_none, closes_none, tick_read, chosen, unshaken, shaken}
