@@ -53,3 +53,7 @@ module _ (g : Config) where
 
   pub is_proper : (journal : List Entry) → IsProper (chronicle g journal)
   is_proper journal = always IsProper (λ h H p m x. step h H p m) empty journal
+
+  -- also where a further entry has come
+  pub comes_proper : (journal : List Entry) (e : Entry) → IsProper (Comes e ∷ chronicle g journal)
+  comes_proper journal e = Comes-proper (chronicle g journal) (is_proper journal) e

@@ -26,25 +26,24 @@ use Rattle.zre_journal.specs.Chronicle.{Mark, Comes, Opens, TurnsAway, Greets, A
 use Rattle.zre_journal.specs.Connections.{open_ones, is_open, is_new, runs, identity, is_ignored, is_live}
 use Rattle.zre_journal.specs.Done.{close_link, done_at}
 use Rattle.zre_journal.specs.Events.{chronicle, acts}
-use Rattle.zre_journal.specs.Happens.{has_stopped, at_input, with_entry, chronicle_after}
+use Rattle.zre_journal.specs.Happens.{has_stopped, at_input, with_entry}
 use Rattle.zre_journal.specs.Heard.{was_opened, opens, bytes, piece_of, newly_completed}
 use Rattle.zre_journal.specs.LinkEntries.{at_unlinked}
 use Rattle.zre_journal.specs.Peers.{Life, life}
 use Rattle.zre_journal.specs.Proper.{IsProper}
-use Rattle.zre_journal.proofs.Always.{is_proper}
+use Rattle.zre_journal.proofs.Always.{is_proper, comes_proper}
 use Rattle.zre_journal.proofs.Brings.{all_brought}
 use Rattle.zre_journal.proofs.Brought.{Ground, allowed}
 use Rattle.zre_journal.proofs.Closing.{leaves_nothing}
 use Rattle.zre_journal.proofs.Faultless.{live_from}
 use Rattle.zre_journal.proofs.Going.{told_and_done, are_others}
-use Rattle.zre_journal.proofs.Joined.{after-append, continues}
+use Rattle.zre_journal.proofs.Joined.{after-append, each_entry}
 use Rattle.zre_journal.proofs.Listed.{All-map, All-join, any_has}
 use Rattle.zre_journal.proofs.Mild.{Mild, AreMild, Kind, kind, is_heard, mild_input, mild_message, mild_shaken, mild_run}
-use Rattle.zre_journal.proofs.Octets.{quiet_bytes, sound_bytes, no_more}
+use Rattle.zre_journal.proofs.Octets.{quiet_bytes, sound_bytes, same_bytes}
 use Rattle.zre_journal.proofs.Quiet.{Quiet, AreQuiet}
 use Rattle.zre_journal.proofs.Says.{place_outcome, input_quiet, input_sound}
 use Rattle.zre_journal.proofs.Sayings.{MaySay, newly_fine}
-use Rattle.zre_journal.proofs.Silent.{Comes-proper}
 use Rattle.zre_journal.proofs.Steps.{choice, steps}
 
 -- ---- what marks answer
@@ -283,14 +282,8 @@ module _ (g : Config) where
     abbrev K : List Mark
     K = Comes e ∷ H
 
-    q : IsProper K
-    q = Comes-proper H (is_proper g J) e
-
-    same : (c : ℕ) → piece_of c e.input ≡ [] → bytes c K ≡ bytes c H
-    same c n = ap (λ x. bytes c H ++ cond (was_opened c H) x []) n ∙ no_more c (was_opened c H) (bytes c H)
-
     as_it_was : (c : ℕ) → piece_of c e.input ≡ [] → Replied c (talk g.id (bytes c K)) K
-    as_it_was c n = subst (λ x. Replied c (talk g.id x) K) (sym (same c n)) (come c (talk g.id (bytes c H)) e H (o c))
+    as_it_was c n = subst (λ x. Replied c (talk g.id x) K) (sym (same_bytes c e H n)) (come c (talk g.id (bytes c H)) e H (o c))
 
     abbrev Goal : ℕ → List Mark → Type 0
     Goal c hs = Replied c (talk g.id (bytes c (after hs K))) (after hs K)
@@ -306,7 +299,7 @@ module _ (g : Config) where
 
         begins : is_new c K ≡ true → Replied c (talk g.id (bytes c K)) (Opens c ∷ K)
         begins new =
-            let u = q.opening.unheard c new in
+            let u = (comes_proper g J e).opening.unheard c new in
             let me : eqb c c ≡ true = eq-eqb c c refl in
             let silent : due (talk g.id (bytes c K)) ≡ [] = ap (λ x. due (talk g.id x)) u.no_octets ∙ ap due (nothing_said g.id) in
             let none : replied c K ≡ [] = empty (replied c K) old.rest (sym silent ∙ old.front) in
@@ -333,7 +326,7 @@ module _ (g : Config) where
         let hs = at_places g c (newly_completed g.id c H K) K in
         let all : talk g.id (bytes c K) ≡ talk g.id (bytes c H) ++ newly_completed g.id c H K = (goes g.id (bytes c H) grown).said in
         subst (λ x. Replied c (talk g.id x) (after hs K)) (sym b) (subst (λ xs. Replied c xs (after hs K)) (sym all)
-        (places_replied g c (newly_completed g.id c H K) (talk g.id (bytes c H)) K (newly_fine g.id c H K) q (come c (talk g.id (bytes c H)) e H (o c))))
+        (places_replied g c (newly_completed g.id c H K) (talk g.id (bytes c H)) K (newly_fine g.id c H K) (comes_proper g J e) (come c (talk g.id (bytes c H)) e H (o c))))
 
     mute_run : (c : ℕ) (r : Option ℕ) (why : Cause) (h : Mark) → Mute c h → AllByRecursion (Mute c) (end_of_run g r why ++ h ∷ [])
     mute_run c None why h m = (m, tt)
@@ -350,18 +343,18 @@ module _ (g : Config) where
         n = ap (piece_of c) z
 
         by : (t : Bool) → eqb c d ≡ t → Goal c (at_opened g d K)
-        by false f = by_quiet c n (at_opened g d K) (input_quiet g (input.Opened d) H K q c f) (choice (AllByRecursion (Mute c)) (is_new d K) _ _ (λ y. choice (AllByRecursion (Mute c)) (ltb (length (open_ones K)) CONNECTIONS) _ _ (λ x. (f, tt)) (λ x. (tt, tt))) (λ y. tt))
+        by false f = by_quiet c n (at_opened g d K) (input_quiet g (input.Opened d) H K (comes_proper g J e) c f) (choice (AllByRecursion (Mute c)) (is_new d K) _ _ (λ y. choice (AllByRecursion (Mute c)) (ltb (length (open_ones K)) CONNECTIONS) _ _ (λ x. (f, tt)) (λ x. (tt, tt))) (λ y. tt))
         by true f = subst (λ x. Goal c (at_opened g x K)) (eqb-true c d f) (opened_here c n)
     on_input (input.Piece d octets) z c = by (eqb c d) refl
       where
         by : (t : Bool) → eqb c d ≡ t → Goal c (at_places g d (newly_completed g.id d H K) K)
-        by false f = by_quiet c (ap (piece_of c) z ∙ ap (λ t. cond t octets []) f) (at_places g d (newly_completed g.id d H K) K) (input_quiet g (input.Piece d octets) H K q c f)
+        by false f = by_quiet c (ap (piece_of c) z ∙ ap (λ t. cond t octets []) f) (at_places g d (newly_completed g.id d H K) K) (input_quiet g (input.Piece d octets) H K (comes_proper g J e) c f)
             (All-map (Mild (kind (input.Piece d octets))) (Mute c) (far_of c (input.Piece d octets) f) (at_places g d (newly_completed g.id d H K) K) (mild_input g (input.Piece d octets) H K tt))
         by true f = subst (λ x. Goal c (at_places g x (newly_completed g.id x H K) K)) (eqb-true c d f)
-            (piece c (sound_bytes g c (at_places g c (newly_completed g.id c H K) K) K (input_sound g (input.Piece c octets) H K q refl (are_others g J))))
-    on_input (input.Shut d) z c = by_quiet c (ap (piece_of c) z) (at_shut g d K) (input_quiet g (input.Shut d) H K q c refl) (choice (AllByRecursion (Mute c)) (is_open d K) _ _ (λ y. mute_run c (runs d K) cause.Shut (IsShut d) tt) (λ y. tt))
-    on_input (input.Unlinked l) z c = by_quiet c (ap (piece_of c) z) (at_unlinked g l (life l K)) (input_quiet g (input.Unlinked l) H K q c refl) (mute_unlinked c l (life l K))
-    on_input i z c = by_quiet c (ap (piece_of c) z) (at_input g i H K) (input_quiet g i H K q c refl) (All-map (Mild (kind i)) (Mute c) (far_of c i refl) (at_input g i H K) (mild_input g i H K tt))
+            (piece c (sound_bytes g c (at_places g c (newly_completed g.id c H K) K) K (input_sound g (input.Piece c octets) H K (comes_proper g J e) refl (are_others g J))))
+    on_input (input.Shut d) z c = by_quiet c (ap (piece_of c) z) (at_shut g d K) (input_quiet g (input.Shut d) H K (comes_proper g J e) c refl) (choice (AllByRecursion (Mute c)) (is_open d K) _ _ (λ y. mute_run c (runs d K) cause.Shut (IsShut d) tt) (λ y. tt))
+    on_input (input.Unlinked l) z c = by_quiet c (ap (piece_of c) z) (at_unlinked g l (life l K)) (input_quiet g (input.Unlinked l) H K (comes_proper g J e) c refl) (mute_unlinked c l (life l K))
+    on_input i z c = by_quiet c (ap (piece_of c) z) (at_input g i H K) (input_quiet g i H K (comes_proper g J e) c refl) (All-map (Mild (kind i)) (Mute c) (far_of c i refl) (at_input g i H K) (mild_input g i H K tt))
 
     next : All (with_entry g e H)
     next = by (has_stopped H) refl
@@ -384,12 +377,6 @@ module _ (g : Config) where
         by true s = idle s
         by false s = λ c. on_input e.input refl c
 
-  later : (es J : List Entry) → All (chronicle g J) → All (chronicle_after g es (chronicle g J))
-  later [] J o = o
-  later (e ∷ es) J o =
-      let c : chronicle g (J ++ e ∷ []) ≡ with_entry g e (chronicle g J) = (continues g J (e ∷ [])).happened in
-      subst (λ X. All (chronicle_after g es X)) c (later es (J ++ e ∷ []) (subst All (sym c) (next J e o)))
-
   first : All []
   first c = record { rest = []; front = ap due (nothing_said g.id); whole = λ v. ap due (nothing_said g.id); begun = λ z. absurd (true≢false (sym z)); unbegun = λ z. refl }
 
@@ -403,4 +390,4 @@ answers_in_turn g J = record {
 }
   where
     all : (c : ℕ) → Replied c (talk g.id (bytes c (chronicle g J))) (chronicle g J)
-    all = later g J [] (first g)
+    all = each_entry g (All g) (next g) (first g) J

@@ -1,11 +1,10 @@
 -- What comes about at a place ends a known peer as the table of causes says.
-use Rattle.std.proofs.Common.{◌≡◌, ℕ, ◌+◌, ◌%◌, Bool, true, false, true≢false, cond, not, ◌&&◌, ◌||◌, eqb, ltb, leb, List, [], ◌∷◌, ◌++◌, length, map, Option, Some, None, find, filter, refl, sym, ap, ◌∙◌, subst, eq-eqb, eqb-true, append-nil}
+use Rattle.std.proofs.Common.{◌≡◌, ℕ, ◌+◌, ◌%◌, Bool, true, false, cond, not, ◌&&◌, ◌||◌, eqb, ltb, leb, List, [], ◌∷◌, ◌++◌, length, map, Option, Some, None, filter, refl, sym, ap, ◌∙◌, subst, eq-eqb, eqb-true, append-nil}
 use Rattle.std.proofs.Math.Bool.{and-false, and-true}
 use Rattle.std.proofs.lemmas.List.Elements.{filter_map-append}
 use Rattle.std.specs.List.{AllByRecursion, cons_option}
 use Rattle.std.specs.Option.{option_and_then}
 use Rattle.std.specs.Str.{bytes_eq}
-use Rattle.zre_values.proofs.Digits.{bytes_eq-same}
 use Rattle.zre_values.specs.declared.limits.TheConstants.{PEERS, CONNECTIONS, UNSENT_OCTETS, OWN_GROUPS, GROUP_OCTETS}
 use Rattle.zre_values.specs.declared.peer_id.PeerId.{PeerId}
 use Rattle.zre_values.specs.declared.endpoint.Endpoint.{Endpoint}
@@ -18,7 +17,7 @@ use Rattle.zre_msg.specs.declared.message.Body.TheVariants as body
 use Rattle.zre_msg.specs.declared.message.Message.{Message}
 use Rattle.zre_link.specs.Heard.{reply_fault}
 use Rattle.zre_link.specs.Link.{answered, slow_at}
-use Rattle.zre_link.specs.Text.{Member, size_of}
+use Rattle.zre_link.specs.Text.{size_of}
 use Rattle.zre_outside.specs.declared.entry.Command.{Command}
 use Rattle.zre_outside.specs.declared.entry.Command.TheVariants as command
 use Rattle.zre_outside.specs.declared.entry.Entry.{Entry}
@@ -33,7 +32,7 @@ use Rattle.zre_peer.specs.declared.causes.RefuseWhy.TheVariants as refuse
 use Rattle.zre_values.specs.declared.settings.Settings.{Settings as Config}
 use Rattle.zre_journal.specs.Arrivals.{at_opened, at_shut, end_of_run, taken_over, start_unknown, start, at_first, answer_to, at_later, at_message, at_shaken, at_said, at_place}
 use Rattle.zre_journal.specs.Causes.{where_so, is_run_by, is_last_beacon, may_join, due_by, slow_by, cause_at, answer_due, cause_of_message, cause_said, end_of, ends_in, EndsByTable}
-use Rattle.zre_journal.specs.Chronicle.{Mark, Comes, Ends, Counts, Closes, ClosesAtStop, IsShut, IsEvasive, Puts, PutsPong, Joins, Leaves, Refuses, HearsBeacon, after, in_turn}
+use Rattle.zre_journal.specs.Chronicle.{Mark, Comes, Ends, Counts, Closes, ClosesAtStop, IsShut, IsEvasive, Puts, PutsPong, Joins, Leaves, Refuses, HearsBeacon, in_turn}
 use Rattle.zre_journal.specs.Commands.{has_group, is_too_big, is_member, at_join, at_leave, at_whisper, at_shout, at_stop, at_command}
 use Rattle.zre_journal.specs.Connections.{open_ones, is_open, is_new, identity, runs, is_live, other_with}
 use Rattle.zre_journal.specs.Events.{chronicle}
@@ -42,17 +41,15 @@ use Rattle.zre_journal.specs.LinkEntries.{cause_by_reply, at_linked, end_by, at_
 use Rattle.zre_journal.specs.Links.{groups, status, line, is_linked, replies, newly_pinged, taken, unsent}
 use Rattle.zre_journal.specs.Peers.{Life, lives, life, life_of, is_entered, counted}
 use Rattle.zre_journal.specs.Places.{is_piece}
-use Rattle.zre_journal.specs.Proper.{IsProper, Apart}
+use Rattle.zre_journal.specs.Proper.{IsProper}
 use Rattle.zre_journal.specs.Pushes.{push, push_all, birth}
 use Rattle.zre_journal.specs.Ticks.{is_silent, is_evasive, is_stale, probe, at_tick}
-use Rattle.zre_journal.proofs.Always.{is_proper}
-use Rattle.zre_journal.proofs.Few.{AreNamed, named, found_kept, none_kept}
-use Rattle.zre_journal.proofs.Known.{end_all, known_of, same_id, id_of}
-use Rattle.zre_journal.proofs.Listed.{Apart-kept}
+use Rattle.zre_journal.proofs.Few.{AreNamed, named}
+use Rattle.zre_journal.proofs.Known.{end_all, same_id}
 use Rattle.zre_journal.proofs.Places.{its_moment}
-use Rattle.zre_journal.proofs.Silent.{Comes-proper}
 use Rattle.zre_journal.proofs.Steps.{choice}
 use Rattle.zre_journal.proofs.Turns.{same_push, far_stays, all_turns, some_turns, Meets, Same, Other, meets}
+use Rattle.zre_journal.proofs.Always.{comes_proper}
 
 -- ---- marks that end nobody
 
@@ -410,6 +407,6 @@ module _ (g : Config) (K : List Mark) (q : IsProper K) (names : AreNamed K) (v :
 
 pub ends_by_table : (g : Config) (J : List Entry) → EndsByTable g J
 ends_by_table g J = record {
-  at_entries = λ earlier e later v at n k. entry g (Comes e ∷ chronicle g earlier) (Comes-proper (chronicle g earlier) (is_proper g earlier) e) (λ l u f. named g earlier l u f) v k e.input (chronicle g earlier) n;
+  at_entries = λ earlier e later v at n k. entry g (Comes e ∷ chronicle g earlier) (comes_proper g earlier e) (λ l u f. named g earlier l u f) v k e.input (chronicle g earlier) n;
   as_said = λ c one K v a k. let it = its_moment g J c one K a in place g K it.proper it.named v k c one;
 }

@@ -22,7 +22,7 @@ use Rattle.zre_journal.specs.Peers.{Life, lives}
 use Rattle.zre_journal.specs.Proper.{IsProper}
 use Rattle.zre_journal.specs.Told.{told}
 use Rattle.zre_journal.proofs.Alike.{AreAlike, after_alike, all_places, all_told}
-use Rattle.zre_journal.proofs.Always.{is_proper}
+use Rattle.zre_journal.proofs.Always.{is_proper, comes_proper}
 use Rattle.zre_journal.proofs.Going.{on, are_others}
 use Rattle.zre_journal.proofs.Joined.{continues, after-append, told-append, done-append, in_turn-append}
 use Rattle.zre_journal.proofs.Kept.{Comes-proper}
@@ -236,7 +236,7 @@ module _ (g : Config) where
         N = at_places g c ys (Comes two ∷ R)
 
         sound : AreSound g M P
-        sound = subst (λ zs. AreSound g (at_places g c zs P) P) (said_now a H o) (input_sound g (input.Piece c a) H P (Comes-proper H (is_proper g J) one) refl (are_others g J))
+        sound = subst (λ zs. AreSound g (at_places g c zs P) P) (said_now a H o) (input_sound g (input.Piece c a) H P (comes_proper g J one) refl (are_others g J))
 
         inner : AreInner M
         inner = inner_of g M P sound

@@ -36,7 +36,6 @@ use Rattle.zre_journal.specs.Links.{line, unsent}
 use Rattle.zre_journal.specs.Peers.{Life, lives, life, life_of, births, counted}
 use Rattle.zre_journal.specs.Proper.{IsProper}
 use Rattle.zre_journal.specs.Pushes.{push}
-use Rattle.zre_journal.proofs.Always.{is_proper}
 use Rattle.zre_journal.proofs.Brings.{all_brought}
 use Rattle.zre_journal.proofs.Brought.{Ground, allowed}
 use Rattle.zre_journal.proofs.Isolation.{identity_kept, left_alone, itself_kept}
@@ -45,8 +44,9 @@ use Rattle.zre_journal.proofs.Known.{known_of, same_id, id_of, newborn_known}
 use Rattle.zre_journal.proofs.Listed.{eqb-comm, found_passes, some_is, any_left, none_any}
 use Rattle.zre_journal.proofs.Says.{place_outcome, input_allowed}
 use Rattle.zre_journal.proofs.Sayings.{MaySay, newly_fine}
-use Rattle.zre_journal.proofs.Silent.{has_started, run_is, Comes-proper}
+use Rattle.zre_journal.proofs.Silent.{has_started, run_is}
 use Rattle.zre_journal.proofs.Steps.{Each, Allowed, both, choice, steps}
+use Rattle.zre_journal.proofs.Always.{comes_proper}
 
 module _ (g : Config) (c : ℕ) (who : Option PeerId) where
   abbrev Done : List Mark → List Mark → Type 0
@@ -347,7 +347,7 @@ module _ (g : Config) (earlier : List Entry) (e : Entry) (c : ℕ) (about : is_a
     where
       by : (b : Bool) → Each (IsDoneOn c (identity c (after (cond b [] (at_input g e.input H M)) M))) (cond b [] (at_input g e.input H M)) M
       by true = tt
-      by false = done_input g c (identity c (after (at_input g e.input H M) M)) H M (Comes-proper H (is_proper g earlier) e) e.input about (λ r z. z)
+      by false = done_input g c (identity c (after (at_input g e.input H M) M)) H M (comes_proper g earlier e) e.input about (λ r z. z)
 
   left_conn : (d : ℕ) → d ≢ c → ((p : PeerId) → identity c (with_entry g e H) ≡ Some p → identity d H ≢ Some p) → IsConnAsBefore d H (with_entry g e H)
   left_conn d other apart =
@@ -362,7 +362,7 @@ module _ (g : Config) (earlier : List Entry) (e : Entry) (c : ℕ) (about : is_a
         where
           by : (b : Bool) → Allowed (cond b [] (at_input g e.input H (Comes e ∷ H))) (Comes e ∷ H)
           by true = tt
-          by false = input_allowed g e.input H (Comes e ∷ H) (Comes-proper H (is_proper g earlier) e)
+          by false = input_allowed g e.input H (Comes e ∷ H) (comes_proper g earlier e)
 
 pub isolates : (g : Config) (J : List Entry) → Isolates g J
 isolates g J = record {

@@ -31,7 +31,7 @@ use Rattle.zre_journal.specs.Heard.{bytes, was_opened, piece_of}
 use Rattle.zre_journal.specs.Peers.{Life, lives, life_of, counted}
 use Rattle.zre_journal.specs.Places.{is_piece, IsEntry, Arrives}
 use Rattle.zre_journal.specs.Proper.{IsProper}
-use Rattle.zre_journal.proofs.Always.{is_proper}
+use Rattle.zre_journal.proofs.Always.{is_proper, comes_proper}
 use Rattle.zre_journal.proofs.Brings.{all_brought}
 use Rattle.zre_journal.proofs.Brought.{Ground, Brought, quiet}
 use Rattle.zre_journal.proofs.Joined.{after-append}
@@ -179,7 +179,7 @@ module _ (g : Config) (J : List Entry) where
       M = Comes e ∷ H
 
       q : IsProper M
-      q = Comes-proper H (is_proper g earlier) e
+      q = comes_proper g earlier e
 
       far : (d : ℕ) (i : Input) → is_of d i ≡ false → IsSame d (after (at_input g i H M) M) M
       far d i z = quiet_same d (at_input g i H M) M (input_quiet g i H M q d z)

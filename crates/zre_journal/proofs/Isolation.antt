@@ -35,7 +35,6 @@ use Rattle.zre_journal.specs.Peers.{Life, lives, life, life_of, births, counted}
 use Rattle.zre_journal.specs.Proper.{IsProper}
 use Rattle.zre_journal.specs.Pushes.{push}
 use Rattle.zre_journal.specs.Told.{told}
-use Rattle.zre_journal.proofs.Always.{is_proper}
 use Rattle.zre_journal.proofs.Brings.{all_brought}
 use Rattle.zre_journal.proofs.Brought.{Ground, allowed}
 use Rattle.zre_journal.proofs.Few.{named}
@@ -45,9 +44,10 @@ use Rattle.zre_journal.proofs.Known.{known_of, same_id, id_of}
 use Rattle.zre_journal.proofs.Listed.{All-join, found_passes}
 use Rattle.zre_journal.proofs.Says.{place_outcome, input_allowed}
 use Rattle.zre_journal.proofs.Sayings.{MaySay, newly_fine}
-use Rattle.zre_journal.proofs.Silent.{known_lives, has_started, run_is, Comes-proper}
+use Rattle.zre_journal.proofs.Silent.{known_lives, has_started, run_is}
 use Rattle.zre_journal.proofs.Steps.{May, Allowed, steps, both, choice}
 use Rattle.zre_journal.proofs.Spared.{IsOff, Spares, AreSpared, IsSame, then_same, marks_left, lives_left, Itself, itself_marks, none_told}
+use Rattle.zre_journal.proofs.Always.{comes_proper}
 
 -- ---- who a connection is stays
 
@@ -274,9 +274,6 @@ module _ (g : Config) (earlier : List Entry) (e : Entry) (c : ℕ) (about : is_a
   abbrev M : List Mark
   M = Comes e ∷ H
 
-  come : IsProper M
-  come = Comes-proper H (is_proper g earlier) e
-
   module _ (p : PeerId) where
     abbrev Then : List Mark → Type 0
     Then hs = (identity c (after hs M) ≡ Some p → ⊥) → IsLeftAlone g p H (after hs M) (told hs M)
@@ -285,14 +282,14 @@ module _ (g : Config) (earlier : List Entry) (e : Entry) (c : ℕ) (about : is_a
     going far = record {
       same_life = lives_left p (life_of p H) hs M spared refl;
       same_peer = λ v z. as_before g v.link H (after hs M) (then_same v.link H M (after hs M) (no_reply c v.link e H about) (marks_left p v hs M (subst (λ u. AreSpared p u hs) z spared)));
-      none_told = none_told p (life_of p H) hs M come (λ l v z. named g earlier l v z) (input_allowed g e.input H M come) refl spared;
+      none_told = none_told p (life_of p H) hs M (comes_proper g earlier e) (λ l v z. named g earlier l v z) (input_allowed g e.input H M (comes_proper g earlier e)) refl spared;
     }
       where
         hs : List Mark
         hs = at_input g e.input H M
 
         spared : AreSpared p (life_of p H) hs
-        spared = spared_input g p (identity c (after hs M)) far (life_of p H) H M come refl c e.input about (λ r z. z)
+        spared = spared_input g p (identity c (after hs M)) far (life_of p H) H M (comes_proper g earlier e) refl c e.input about (λ r z. z)
 
     pub left_alone : (identity c (with_entry g e H) ≡ Some p → ⊥) → IsLeftAlone g p H (with_entry g e H) (events_at g e H)
     left_alone = by (has_stopped H)
@@ -312,6 +309,6 @@ module _ (g : Config) (earlier : List Entry) (e : Entry) (c : ℕ) (about : is_a
       by false s =
           let whole : chronicle g (earlier ++ e ∷ []) ≡ after hs M = (continues g earlier (e ∷ [])).happened ∙ ap (λ b. after (cond b [] hs) M) s in
           let never : identity c (after hs M) ≡ Some g.id → ⊥ = λ z. (no_peer g (earlier ++ e ∷ [])).never_comes c (ap (identity c) whole ∙ z) in
-          let spared = spared_input g g.id (identity c (after hs M)) never (life_of g.id H) H M come refl c e.input about (λ r z. z) in
+          let spared = spared_input g g.id (identity c (after hs M)) never (life_of g.id H) H M (comes_proper g earlier e) refl c e.input about (λ r z. z) in
           let k = itself_marks g.id (life_of g.id H) hs M spared in
           record { own_groups = k.own_groups; own_status = k.own_status; stopped = k.stopped }

@@ -1,5 +1,5 @@
 -- Entries after entries.
-use Rattle.std.proofs.Common.{◌≡◌, true, cond, List, [], ◌∷◌, ◌++◌, refl, sym, ap, ◌∙◌, append_assoc, append-nil}
+use Rattle.std.proofs.Common.{◌≡◌, true, cond, List, [], ◌∷◌, ◌++◌, refl, sym, ap, ◌∙◌, subst, append_assoc, append-nil}
 use Rattle.zre_outside.specs.declared.entry.Entry.{Entry}
 use Rattle.zre_outside.specs.declared.act.Act.{Act}
 use Rattle.zre_peer.specs.declared.event.Event.{Event}
@@ -30,6 +30,16 @@ acts-append g (e ∷ J) K H =
 
 pub continues : (g : Config) (J K : List Entry) → Continues g J K
 continues g J K = record { happened = chronicle-append g J K []; told = events-append g J K []; done = acts-append g J K [] }
+
+-- what holds at first, and is kept by each entry, holds of each journal
+pub each_entry : (g : Config) (P : List Mark → Type 0) → ((J : List Entry) (e : Entry) → P (chronicle g J) → P (with_entry g e (chronicle g J))) → P [] → (journal : List Entry) → P (chronicle g journal)
+each_entry g P keeps first journal = later journal [] first
+  where
+    later : (es J : List Entry) → P (chronicle g J) → P (chronicle_after g es (chronicle g J))
+    later [] J o = o
+    later (e ∷ es) J o =
+        let c : chronicle g (J ++ e ∷ []) ≡ with_entry g e (chronicle g J) = (continues g J (e ∷ [])).happened in
+        subst (λ X. P (chronicle_after g es X)) c (later es (J ++ e ∷ []) (subst P (sym c) (keeps J e o)))
 
 -- ---- after a stop
 

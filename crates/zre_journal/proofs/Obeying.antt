@@ -1,16 +1,14 @@
 -- A command is refused once, or sends what it is to send to those that it is meant for.
-use Rattle.std.proofs.Common.{◌≡◌, ℕ, ◌+◌, ◌%◌, Bool, true, false, true≢false, cond, not, ◌||◌, eqb, ltb, leb, List, [], ◌∷◌, ◌++◌, length, map, Option, Some, None, is_some, filter, find, refl, sym, ap, ◌∙◌, subst, eq-eqb, eqb-true, append-nil}
+use Rattle.std.proofs.Common.{◌≡◌, ℕ, ◌+◌, ◌%◌, Bool, true, false, cond, not, ◌||◌, eqb, ltb, leb, List, [], ◌∷◌, ◌++◌, length, map, Option, Some, None, is_some, filter, refl, sym, ap, ◌∙◌, subst, eq-eqb, eqb-true, append-nil}
 use Rattle.std.proofs.lemmas.List.Elements.{filter-append, filter_map-append}
 use Rattle.std.specs.List.{AllByRecursion, cons_option}
 use Rattle.std.specs.Option.{option_map_or}
 use Rattle.std.specs.Str.{bytes_eq}
-use Rattle.zre_values.proofs.Digits.{bytes_eq-same}
 use Rattle.zre_values.specs.declared.limits.TheConstants.{UNSENT_OCTETS, OWN_GROUPS, GROUP_OCTETS}
 use Rattle.zre_values.specs.declared.peer_id.PeerId.{PeerId}
 use Rattle.zre_msg.specs.declared.message.Body.{Body}
 use Rattle.zre_msg.specs.declared.message.Body.TheVariants as body
-use Rattle.zre_link.specs.Link.{unsent_of}
-use Rattle.zre_link.specs.Text.{Member, size_of}
+use Rattle.zre_link.specs.Text.{size_of}
 use Rattle.zre_outside.specs.declared.entry.Command.{Command}
 use Rattle.zre_outside.specs.declared.entry.Command.TheVariants as command
 use Rattle.zre_outside.specs.declared.entry.Entry.{Entry}
@@ -27,16 +25,15 @@ use Rattle.zre_journal.specs.Happens.{at_input}
 use Rattle.zre_journal.specs.Links.{groups, status, line, taken, unsent}
 use Rattle.zre_journal.specs.Obeying.{refusal, reaches, is_on, on_link, refused_by, refusals, Obeys}
 use Rattle.zre_journal.specs.Peers.{Life, lives, life, life_of, is_entered, view}
-use Rattle.zre_journal.specs.Proper.{IsProper, Apart}
+use Rattle.zre_journal.specs.Proper.{IsProper}
 use Rattle.zre_journal.specs.Pushes.{push, push_all}
 use Rattle.zre_journal.specs.Told.{told, told_at, exit}
-use Rattle.zre_journal.proofs.Always.{is_proper}
-use Rattle.zre_journal.proofs.Few.{AreNamed, named, found_kept, none_kept}
-use Rattle.zre_journal.proofs.Known.{known_of, same_id, id_of}
-use Rattle.zre_journal.proofs.Listed.{Apart-kept, All-join}
-use Rattle.zre_journal.proofs.Silent.{Comes-proper}
+use Rattle.zre_journal.proofs.Few.{AreNamed, named, none_kept}
+use Rattle.zre_journal.proofs.Known.{known_of}
+use Rattle.zre_journal.proofs.Listed.{All-join}
 use Rattle.zre_journal.proofs.Steps.{choice}
 use Rattle.zre_journal.proofs.Turns.{is_at, same_push, far_stays, absent, all_turns, some_turns, Meets, Same, Other, meets}
+use Rattle.zre_journal.proofs.Always.{comes_proper}
 
 -- ---- on one link
 
@@ -323,9 +320,9 @@ obeys g J = record {
   reached = λ earlier e later c v at is known.
       let H = chronicle g earlier in
       let K = Comes e ∷ H in
-      ap (λ i. on_link v.link (at_input g i H K)) is ∙ on_known g K (Comes-proper H (is_proper g earlier) e) (λ l u z. named g earlier l u z) v known c;
+      ap (λ i. on_link v.link (at_input g i H K)) is ∙ on_known g K (comes_proper g earlier e) (λ l u z. named g earlier l u z) v known c;
   nobody_else = λ earlier e later c l at is unknown.
       let H = chronicle g earlier in
       let K = Comes e ∷ H in
-      ap (λ i. on_link l (at_input g i H K)) is ∙ on_unknown g K (Comes-proper H (is_proper g earlier) e) (λ k u z. named g earlier k u z) l unknown c;
+      ap (λ i. on_link l (at_input g i H K)) is ∙ on_unknown g K (comes_proper g earlier e) (λ k u z. named g earlier k u z) l unknown c;
 }

@@ -16,19 +16,19 @@ use Rattle.zre_journal.specs.Arrivals.{at_opened, at_places}
 use Rattle.zre_journal.specs.Chronicle.{Mark, Comes, Opens, TurnsAway, after}
 use Rattle.zre_journal.specs.Connections.{open_ones, is_open, is_new, is_ignored, is_live}
 use Rattle.zre_journal.specs.Events.{chronicle}
-use Rattle.zre_journal.specs.Happens.{has_stopped, at_input, with_entry, chronicle_after}
+use Rattle.zre_journal.specs.Happens.{has_stopped, at_input, with_entry}
 use Rattle.zre_journal.specs.Heard.{bytes, was_opened, piece_of, newly_completed}
 use Rattle.zre_journal.specs.Hearing.{message_in, heard, RunsOnOctets}
 use Rattle.zre_journal.specs.Laws.{counted_on}
 use Rattle.zre_journal.specs.Proper.{IsProper}
-use Rattle.zre_journal.proofs.Always.{is_proper}
+use Rattle.zre_journal.proofs.Always.{is_proper, comes_proper}
 use Rattle.zre_journal.proofs.Closing.{leaves_nothing}
 use Rattle.zre_journal.proofs.Going.{are_others}
 use Rattle.zre_journal.proofs.Hearing.{introduced, has_fault, spoken, Follows, quiet_steps, places_follow}
-use Rattle.zre_journal.proofs.Joined.{continues}
+use Rattle.zre_journal.proofs.Joined.{each_entry}
 use Rattle.zre_journal.proofs.Quiet.{Quiet, AreQuiet}
 use Rattle.zre_journal.proofs.Sound.{Sound, AreSound}
-use Rattle.zre_journal.proofs.Silent.{Comes-proper, has_started, run_is}
+use Rattle.zre_journal.proofs.Silent.{has_started, run_is}
 use Rattle.zre_journal.proofs.Says.{input_quiet, input_sound}
 use Rattle.zre_journal.proofs.Steps.{all_same, each_same}
 use Rattle.zre_journal.proofs.Sayings.{newly_fine}
@@ -48,9 +48,13 @@ sound_bytes g d hs K s = each_same (Sound g) (bytes d) one hs K s
     one (Comes e) H z = absurd z
     one _ H z = refl
 
-pub no_more : (d : ℕ) (b : Bool) (o : List ℕ) → o ++ cond b [] [] ≡ o
+no_more : (d : ℕ) (b : Bool) (o : List ℕ) → o ++ cond b [] [] ≡ o
 no_more d true o = append-nil o
 no_more d false o = append-nil o
+
+-- an entry with no octets of d
+pub same_bytes : (d : ℕ) (e : Entry) (H : List Mark) → piece_of d e.input ≡ [] → bytes d (Comes e ∷ H) ≡ bytes d H
+same_bytes d e H n = ap (λ x. bytes d H ++ cond (was_opened d H) x []) n ∙ no_more d (was_opened d H) (bytes d H)
 
 fault_none : (f : Option ZmtpFault) (xs : List Said) → has_fault (xs ++ fault_said f) ≡ false → f ≡ None
 fault_none None xs e = refl
@@ -102,15 +106,8 @@ module _ (g : Config) where
     abbrev K : List Mark
     K = Comes e ∷ H
 
-    q : IsProper K
-    q = Comes-proper H (is_proper g J) e
-
-    -- an entry with no octets of d
-    same : (d : ℕ) → piece_of d e.input ≡ [] → bytes d K ≡ bytes d H
-    same d n = ap (λ x. bytes d H ++ cond (was_opened d H) x []) n ∙ no_more d (was_opened d H) (bytes d H)
-
     as_it_was : (d : ℕ) → piece_of d e.input ≡ [] → Follows d (talk g.id (bytes d K)) K
-    as_it_was d n = subst (λ x. Follows d (talk g.id x) K) (sym (same d n)) (come d (talk g.id (bytes d H)) e H (o d))
+    as_it_was d n = subst (λ x. Follows d (talk g.id x) K) (sym (same_bytes d e H n)) (come d (talk g.id (bytes d H)) e H (o d))
 
     quietly : (d : ℕ) → piece_of d e.input ≡ [] → (hs : List Mark) → AreQuiet d hs → Follows d (talk g.id (bytes d (after hs K))) (after hs K)
     quietly d n hs a = subst (λ x. Follows d (talk g.id x) (after hs K)) (sym (quiet_bytes d hs K a)) (quiet_steps d (talk g.id (bytes d K)) hs K a (as_it_was d n))
@@ -122,7 +119,7 @@ module _ (g : Config) where
         let hs = at_places g d (newly_completed g.id d H K) K in
         let all : talk g.id (bytes d K) ≡ talk g.id (bytes d H) ++ newly_completed g.id d H K = (goes g.id (bytes d H) more).said in
         subst (λ x. Follows d (talk g.id x) (after hs K)) (sym b) (subst (λ xs. Follows d xs (after hs K)) (sym all)
-        (places_follow g d (newly_completed g.id d H K) (talk g.id (bytes d H)) K (newly_fine g.id d H K) (λ m ys zs z. spoken g.id (bytes d K) ys zs m (all ∙ z)) q (come d (talk g.id (bytes d H)) e H (o d))))
+        (places_follow g d (newly_completed g.id d H K) (talk g.id (bytes d H)) K (newly_fine g.id d H K) (λ m ys zs z. spoken g.id (bytes d K) ys zs m (all ∙ z)) (comes_proper g J e) (come d (talk g.id (bytes d H)) e H (o d))))
 
     opened_here : (d : ℕ) → piece_of d e.input ≡ [] → let hs = at_opened g d K in Follows d (talk g.id (bytes d (after hs K))) (after hs K)
     opened_here d n = by (is_new d K) refl (ltb (length (open_ones K)) CONNECTIONS)
@@ -130,7 +127,7 @@ module _ (g : Config) where
         by : (t : Bool) → is_new d K ≡ t → (r : Bool) → let hs = cond t (cond r (Opens d ∷ []) (TurnsAway d ∷ [])) [] in Follows d (talk g.id (bytes d (after hs K))) (after hs K)
         by false f r = as_it_was d n
         by true f false = quietly d n (TurnsAway d ∷ []) (tt, tt)
-        by true f true = opens d K q f (as_it_was d n)
+        by true f true = opens d K (comes_proper g J e) f (as_it_was d n)
 
     on_input : (i : Input) → e.input ≡ i → (d : ℕ) → let hs = at_input g i H K in Follows d (talk g.id (bytes d (after hs K))) (after hs K)
     on_input (input.Opened c) z d = by (eqb d c) refl
@@ -139,15 +136,15 @@ module _ (g : Config) where
         n = ap (piece_of d) z
 
         by : (t : Bool) → eqb d c ≡ t → let hs = at_opened g c K in Follows d (talk g.id (bytes d (after hs K))) (after hs K)
-        by false f = quietly d n (at_opened g c K) (input_quiet g (input.Opened c) H K q d f)
+        by false f = quietly d n (at_opened g c K) (input_quiet g (input.Opened c) H K (comes_proper g J e) d f)
         by true f = subst (λ x. let hs = at_opened g x K in Follows d (talk g.id (bytes d (after hs K))) (after hs K)) (eqb-true d c f) (opened_here d n)
     on_input (input.Piece c octets) z d = by (eqb d c) refl
       where
         by : (t : Bool) → eqb d c ≡ t → let hs = at_places g c (newly_completed g.id c H K) K in Follows d (talk g.id (bytes d (after hs K))) (after hs K)
-        by false f = quietly d (ap (piece_of d) z ∙ ap (λ t. cond t octets []) f) (at_places g c (newly_completed g.id c H K) K) (input_quiet g (input.Piece c octets) H K q d f)
+        by false f = quietly d (ap (piece_of d) z ∙ ap (λ t. cond t octets []) f) (at_places g c (newly_completed g.id c H K) K) (input_quiet g (input.Piece c octets) H K (comes_proper g J e) d f)
         by true f = subst (λ x. let hs = at_places g x (newly_completed g.id x H K) K in Follows d (talk g.id (bytes d (after hs K))) (after hs K)) (eqb-true d c f)
-            (piece d (sound_bytes g d (at_places g d (newly_completed g.id d H K) K) K (input_sound g (input.Piece d octets) H K q refl (are_others g J))))
-    on_input i z d = quietly d (ap (piece_of d) z) (at_input g i H K) (input_quiet g i H K q d refl)
+            (piece d (sound_bytes g d (at_places g d (newly_completed g.id d H K) K) K (input_sound g (input.Piece d octets) H K (comes_proper g J e) refl (are_others g J))))
+    on_input i z d = quietly d (ap (piece_of d) z) (at_input g i H K) (input_quiet g i H K (comes_proper g J e) d refl)
 
     next : Told (with_entry g e H)
     next = by (has_stopped H) refl
@@ -155,12 +152,6 @@ module _ (g : Config) where
         by : (b : Bool) → has_stopped H ≡ b → Told (after (cond b [] (at_input g e.input H K)) K)
         by true s = λ d. idle d (bytes d H) (cond (was_opened d H) (piece_of d e.input) []) K (ap (λ cs. list_any (eqb d) cs && not (is_ignored d K)) (leaves_nothing g J s).none_open) (come d (talk g.id (bytes d H)) e H (o d))
         by false s = λ d. on_input e.input refl d
-
-  later : (es J : List Entry) → Told (chronicle g J) → Told (chronicle_after g es (chronicle g J))
-  later [] J o = o
-  later (e ∷ es) J o =
-      let c : chronicle g (J ++ e ∷ []) ≡ with_entry g e (chronicle g J) = (continues g J (e ∷ [])).happened in
-      subst (λ X. Told (chronicle_after g es X)) c (later es (J ++ e ∷ []) (subst Told (sym c) (next J e o)))
 
   none_told : Told []
   none_told d = record {
@@ -172,7 +163,7 @@ module _ (g : Config) where
   }
 
   pub follows_octets : (journal : List Entry) → Told (chronicle g journal)
-  follows_octets journal = later journal [] none_told
+  follows_octets journal = each_entry g Told next none_told journal
 
   pub runs_on_octets : (journal : List Entry) → RunsOnOctets g (chronicle g journal)
   runs_on_octets journal = record {

@@ -22,7 +22,7 @@ use Rattle.zre_journal.specs.Ledger.{Ledger, IsDrawn, IsPlaced}
 use Rattle.zre_journal.specs.Peers.{runner, counted}
 use Rattle.zre_journal.specs.Places.{Arrives}
 use Rattle.zre_journal.specs.Proper.{IsProper}
-use Rattle.zre_journal.proofs.Always.{is_proper, after_marks}
+use Rattle.zre_journal.proofs.Always.{is_proper, after_marks, comes_proper}
 use Rattle.zre_journal.proofs.Brings.{all_brought}
 use Rattle.zre_journal.proofs.Brought.{Ground, allowed}
 use Rattle.zre_journal.proofs.Few.{AreNamed, named, named_more}
@@ -33,7 +33,7 @@ use Rattle.zre_journal.proofs.Ledgers.{is_judged}
 use Rattle.zre_journal.proofs.Octets.{come, follows_octets}
 use Rattle.zre_journal.proofs.Says.{places_outcome}
 use Rattle.zre_journal.proofs.Sayings.{MaySay, newly_fine}
-use Rattle.zre_journal.proofs.Silent.{Comes-proper, has_started, run_is}
+use Rattle.zre_journal.proofs.Silent.{has_started, run_is}
 use Rattle.zre_journal.proofs.Steps.{Allowed, step}
 
 -- ---- lists that only grow
@@ -91,7 +91,7 @@ module _ (g : Config) (J : List Entry) (c : ℕ) (one : Said) (K : List Mark) (a
   M = Comes a.entry ∷ H
 
   q : IsProper M
-  q = Comes-proper H (is_proper g a.earlier) a.entry
+  q = comes_proper g a.earlier a.entry
 
   -- all that its octets have said by then
   abbrev before : List Said

@@ -37,7 +37,6 @@ use Rattle.zre_journal.specs.Pushes.{push}
 use Rattle.zre_journal.specs.Silence.{IsTold, tells_evasive, tells_expired, IsTickOf, silent_for}
 use Rattle.zre_journal.specs.Ticks.{is_silent, is_evasive, is_stale, probe, at_tick}
 use Rattle.zre_journal.specs.Told.{told, told_at, exit, by_message, becoming_evasive}
-use Rattle.zre_journal.proofs.Always.{is_proper}
 use Rattle.zre_journal.proofs.Causes.{ends_by_table}
 use Rattle.zre_journal.proofs.Few.{AreNamed, named}
 use Rattle.zre_journal.proofs.Joined.{continues}
@@ -46,9 +45,9 @@ use Rattle.zre_journal.proofs.Lawful.{ends_once}
 use Rattle.zre_journal.proofs.Listed.{eqb-comm, All-join, All-kept, All-map, found}
 use Rattle.zre_journal.proofs.Mild.{Mild, is_tick, Kind, kind, mild_input}
 use Rattle.zre_journal.proofs.Turns.{dropped}
-use Rattle.zre_journal.proofs.Silent.{Comes-proper}
 use Rattle.zre_journal.proofs.Steps.{choice, all_push}
 use Rattle.zre_journal.proofs.Ticking.{Ticks, AreTicks, E, F, C, all_tick, ended_there, told_there}
+use Rattle.zre_journal.proofs.Always.{comes_proper}
 
 -- ---- who isn't
 
@@ -245,9 +244,6 @@ module _ (g : Config) (J earlier : List Entry) (e : Entry) (later : List Entry) 
   abbrev K : List Mark
   K = Comes e ∷ H
 
-  q : IsProper K
-  q = Comes-proper H (is_proper g earlier) e
-
   ends : ends_in v.link (at_tick g K) ≡ cons_option (cond (is_silent g g.expired K v) (Some cause.Expired) (slow_by g v.link (where_so (is_evasive g K v) body.Ping) K)) []
   ends = subst (λ i. ends_in v.link (at_input g i H K) ≡ cons_option (cause_at g i H K v) []) at.is_tick ((ends_by_table g J).at_entries earlier e later v at.is_entry (ap is_piece at.is_tick) at.is_known)
 
@@ -279,7 +275,7 @@ module _ (g : Config) (J earlier : List Entry) (e : Entry) (later : List Entry) 
   told_gone z entered = subst (IsTold (event.Exit v.id (view v.link K).name cause.Expired)) (sym tells) (told_there v cause.Expired (at_tick g K) K (all_tick g K) (expires z) at.is_known entered)
 
   pub not_told : silent_for v.link K < g.expired → list_any (tells_expired v.id) (events_at g e H) ≡ false
-  not_told z = ap (list_any (tells_expired v.id)) tells ∙ none_expired v.id (λ k. k ≡ v.link) (at_tick g K) K (all_tick g K) lasting (only_known K q (λ l u y. named g earlier l u y) v.id v (named g earlier v.link v at.is_known))
+  not_told z = ap (list_any (tells_expired v.id)) tells ∙ none_expired v.id (λ k. k ≡ v.link) (at_tick g K) K (all_tick g K) lasting (only_known K (comes_proper g earlier e) (λ l u y. named g earlier l u y) v.id v (named g earlier v.link v at.is_known))
     where
       slow : ends_in v.link (at_tick g K) ≡ cons_option (slow_by g v.link (where_so (is_evasive g K v) body.Ping) K) []
       slow = ends ∙ ap (λ b. cons_option (cond b (Some cause.Expired) (slow_by g v.link (where_so (is_evasive g K v) body.Ping) K)) []) (not_long g.expired (active v.link K) (clock K) z)
@@ -365,7 +361,7 @@ module _ (g : Config) (J : List Entry) (p : PeerId)
     M = Comes e ∷ B
 
     proper : IsProper M
-    proper = Comes-proper B (is_proper g earlier) e
+    proper = comes_proper g earlier e
 
     at_tick_none : has_stopped B ≡ false → e.input ≡ input.Tick → list_any (tells_evasive p) (told (at_tick g M) M) ≡ false
     at_tick_none going tick = by (life_of p M) refl

@@ -38,13 +38,12 @@ use Rattle.zre_journal.specs.Proper.{IsProper}
 use Rattle.zre_journal.specs.Pushes.{birth, hello}
 use Rattle.zre_journal.specs.Tables.{closed_of, closed_in, closed_at, closed_said, ignored_of, ignored_in, ignored_new, ignored_first, ignored_said, born_of, born_in, born_by, born_at, born_new, born_first, born_said, evasive_of, evasive_in, evasive_at, TellsByTables}
 use Rattle.zre_journal.specs.Ticks.{is_evasive, is_stale, probe, at_tick}
-use Rattle.zre_journal.proofs.Always.{is_proper}
 use Rattle.zre_journal.proofs.Few.{found_kept}
 use Rattle.zre_journal.proofs.Listed.{Apart-kept}
 use Rattle.zre_journal.proofs.Turns.{dropped}
-use Rattle.zre_journal.proofs.Silent.{Comes-proper}
 use Rattle.zre_journal.proofs.Steps.{choice}
 use Rattle.zre_journal.proofs.Bare.{AreBare, Reads, reads_closed, reads_ignored, reads_born, reads_evasive, bare_none, bare_then, either, bare_push, bare_run, bare_reply, bare_linked, bare_unlinked, bare_took, bare_stop, bare_command, bare_shut, probes_none, closes_none, tick_read, chosen, unshaken, shaken}
+use Rattle.zre_journal.proofs.Always.{comes_proper}
 
 -- ---- entries
 
@@ -327,12 +326,12 @@ module _ (g : Config) (K : List Mark) where
 
 pub tells_by_tables : (g : Config) (J : List Entry) → TellsByTables g J
 tells_by_tables g J = record {
-  closed_entries = λ earlier e later c at n. closed_entry g (chronicle g earlier) (Comes e ∷ chronicle g earlier) (Comes-proper (chronicle g earlier) (is_proper g earlier) e) c e.input n;
+  closed_entries = λ earlier e later c at n. closed_entry g (chronicle g earlier) (Comes e ∷ chronicle g earlier) (comes_proper g earlier e) c e.input n;
   closed_places = λ d one K c a. at_live g K (closed_of c) d one (closed_said d one K c) (closed_one g K c d one);
-  ignored_entries = λ earlier e later c at n. ignored_entry g (chronicle g earlier) (Comes e ∷ chronicle g earlier) (Comes-proper (chronicle g earlier) (is_proper g earlier) e) c e.input n;
+  ignored_entries = λ earlier e later c at n. ignored_entry g (chronicle g earlier) (Comes e ∷ chronicle g earlier) (comes_proper g earlier e) c e.input n;
   ignored_places = λ d one K c a. at_live g K (ignored_of c) d one (ignored_said d one K c) (ignored_one g K c d one);
-  born_entries = λ earlier e later p at n. born_entry g (chronicle g earlier) (Comes e ∷ chronicle g earlier) (Comes-proper (chronicle g earlier) (is_proper g earlier) e) p e.input n;
+  born_entries = λ earlier e later p at n. born_entry g (chronicle g earlier) (Comes e ∷ chronicle g earlier) (comes_proper g earlier e) p e.input n;
   born_places = λ d one K p a. at_live g K (born_of p) d one (born_said d one K p) (born_one g K p d one);
-  evasive_entries = λ earlier e later v at n known. evasive_entry g (chronicle g earlier) (Comes e ∷ chronicle g earlier) (Comes-proper (chronicle g earlier) (is_proper g earlier) e) v known e.input n;
+  evasive_entries = λ earlier e later v at n known. evasive_entry g (chronicle g earlier) (Comes e ∷ chronicle g earlier) (comes_proper g earlier e) v known e.input n;
   evasive_places = λ d one K l a. no_live g K l d one;
 }

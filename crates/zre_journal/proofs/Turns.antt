@@ -1,5 +1,5 @@
 -- What is brought for each known peer in turn, as it is read of one of them; and who is found by an id.
-use Rattle.std.proofs.Common.{◌≡◌, ℕ, ◌+◌, Bool, true, false, true≢false, cond, eqb, ltb, List, [], ◌∷◌, ◌++◌, Option, Some, None, find, filter, refl, sym, ap, ◌∙◌, subst, eqb-true, append-nil}
+use Rattle.std.proofs.Common.{◌≡◌, ℕ, ◌+◌, Bool, true, false, true≢false, cond, eqb, ltb, List, [], ◌∷◌, ◌++◌, Some, None, find, filter, refl, sym, ap, ◌∙◌, subst, eqb-true, append-nil}
 use Rattle.std.specs.List.{AllByRecursion}
 use Rattle.std.specs.Str.{bytes_eq}
 use Rattle.zre_values.proofs.Digits.{bytes_eq-same}

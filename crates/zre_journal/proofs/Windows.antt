@@ -32,7 +32,6 @@ use Rattle.zre_journal.specs.Ledger.{Ledger, IsDrawn, IsNearWhereItComes, IsWith
 use Rattle.zre_journal.specs.Peers.{Life, lives, life_of, births, counted}
 use Rattle.zre_journal.specs.Places.{is_piece, IsEntry, Arrives}
 use Rattle.zre_journal.specs.Pushes.{birth}
-use Rattle.zre_journal.proofs.Always.{is_proper}
 use Rattle.zre_journal.proofs.Brings.{all_brought}
 use Rattle.zre_journal.proofs.Brought.{Ground, quiet}
 use Rattle.zre_journal.proofs.Ledgers.{keeps_ledger}
@@ -40,9 +39,10 @@ use Rattle.zre_journal.proofs.Listed.{All-join}
 use Rattle.zre_journal.proofs.Places.{IsMoment, its_moment, is_placed}
 use Rattle.zre_journal.proofs.Quiet.{Quiet, AreQuiet, is_of}
 use Rattle.zre_journal.proofs.Says.{unused, place_outcome, input_quiet}
-use Rattle.zre_journal.proofs.Silent.{Comes-proper, run_is}
+use Rattle.zre_journal.proofs.Silent.{run_is}
 use Rattle.zre_journal.proofs.Steps.{all_same, choice, all_end, all_taken, all_answer}
 use Rattle.zre_journal.proofs.Walk.{walk}
+use Rattle.zre_journal.proofs.Always.{comes_proper}
 
 -- ---- marks that count nothing on a connection
 
@@ -115,7 +115,7 @@ module _ (g : Config) (J : List Entry) (b : Ledger) (drawn : IsDrawn g b (chroni
       M = Comes e ∷ H
 
       far : (d : ℕ) (i : Input) → is_of d i ≡ false → counted_on d (after (at_input g i H M) M) ≡ counted_on d M
-      far d i n = quiet_same d (at_input g i H M) M (input_quiet g i H M (Comes-proper H (is_proper g earlier) e) d n)
+      far d i n = quiet_same d (at_input g i H M) M (input_quiet g i H M (comes_proper g earlier e) d n)
 
       by : (d : ℕ) (i : Input) → is_piece i ≡ false → counted_on d (after (at_input g i H M) M) ≡ counted_on d M
       by d (input.Piece c o) n = absurd (let z : true ≡ false = n in cc)
