@@ -1,45 +1,41 @@
 -- A silent peer goes at the first tick after the time for which it may be silent, and for that at no tick before.
 use Rattle.std.proofs.Common.{◌≡◌, ℕ, ◌+◌, ◌<◌, ◌≤◌, Bool, true, false, true≢false, cond, not, eqb, ltb, leb, length, List, [], ◌∷◌, ◌++◌, map, Option, Some, None, filter, refl, sym, ap, ◌∙◌, subst, eqb-true, append_assoc, append-nil, ◌≢◌, ◌||◌, eq-eqb}
-use Rattle.std.proofs.lemmas.List.Folds.{list_any-append}
 use Rattle.std.specs.List.{AllByRecursion, list_any}
 use Rattle.zre_values.specs.declared.limits.TheConstants.{UNSENT_OCTETS, CONNECTIONS}
 use Rattle.zre_values.specs.declared.peer_id.PeerId.{PeerId}
-use Rattle.zre_msg.specs.declared.message.Message.{Message}
 use Rattle.zre_msg.specs.declared.message.Body.{Body}
 use Rattle.zre_msg.specs.declared.message.Body.TheVariants as body
 use Rattle.zre_link.specs.Text.{size_of}
 use Rattle.zre_outside.specs.declared.entry.Entry.{Entry}
 use Rattle.zre_outside.specs.declared.entry.Input.{Input}
 use Rattle.zre_outside.specs.declared.entry.Input.TheVariants as input
-use Rattle.zre_peer.specs.Members.{distinct}
-use Rattle.zre_peer.specs.Runs.{events_of}
-use Rattle.zre_peer.specs.declared.view.View.{View}
 use Rattle.zre_peer.specs.declared.event.Event.TheVariants as event
 use Rattle.zre_peer.specs.declared.causes.Cause.{Cause}
 use Rattle.zre_peer.specs.declared.causes.Cause.TheVariants as cause
 use Rattle.zre_peer.specs.declared.causes.CloseWhy.TheVariants as close
 use Rattle.zre_values.specs.declared.settings.Settings.{Settings as Config}
 use Rattle.zre_journal.specs.Arrivals.{end_of_run}
-use Rattle.zre_journal.specs.Chronicle.{Mark, Comes, Starts, Counts, Closes, IsShut, Ends, IsEvasive, Puts, SendsBeacon, after}
+use Rattle.zre_journal.specs.Chronicle.{Mark, Comes, Closes, IsShut, Ends, IsEvasive, Puts, SendsBeacon, after}
 use Rattle.zre_journal.specs.Connections.{open_ones, is_open, is_new, runs, has_ended}
 use Rattle.zre_journal.specs.Events.{chronicle, events_at}
 use Rattle.zre_journal.specs.Happens.{has_stopped, at_input, with_entry, chronicle_after}
 use Rattle.zre_journal.specs.Heard.{clock}
 use Rattle.zre_journal.specs.LinkEntries.{at_unlinked}
 use Rattle.zre_journal.specs.Links.{line, unsent}
-use Rattle.zre_journal.specs.Peers.{Life, lives, life, is_entered, view, active}
+use Rattle.zre_journal.specs.Peers.{Life, lives, life, active}
 use Rattle.zre_journal.specs.Pushes.{push}
 use Rattle.zre_journal.specs.Silence.{tells_expired, expires, has_expired, IsTickOf, IsFirstTick, GoesAt, silent_for, TellsSilence}
 use Rattle.zre_journal.specs.Ticks.{is_silent, is_evasive, is_stale, probe, at_tick}
-use Rattle.zre_journal.specs.Told.{told, told_at, exit, by_message, becoming_evasive}
+use Rattle.zre_journal.specs.Told.{told, told_at}
 use Rattle.zre_journal.proofs.Few.{none_kept}
 use Rattle.zre_journal.proofs.Joined.{continues}
 use Rattle.zre_journal.proofs.Lawful.{ends_once}
 use Rattle.zre_journal.proofs.Listed.{All-join, All-map, found_passes}
 use Rattle.zre_journal.proofs.Mild.{Mild, is_tick, Kind, kind, mild_input}
-use Rattle.zre_journal.proofs.Silence.{gone, told_gone, not_told, none_ever, not_long, only_tick}
+use Rattle.zre_journal.proofs.Silence.{gone, told_gone, not_told, none_ever, not_long, only_tick, Lasts, lasting_mark, only_any}
 use Rattle.zre_journal.proofs.Steps.{choice}
 use Rattle.zre_journal.proofs.Ticking.{AreTicks, E, F, C, all_tick}
+use Rattle.zre_journal.proofs.Untold.{none_of_marks}
 
 module _ (g : Config) (l : ℕ) where
   -- a mark that isn't the end of this peer as expired
@@ -151,50 +147,19 @@ module _ (g : Config) (l : ℕ) where
 -- ---- what is told
 
 module _ (g : Config) (p : PeerId) where
-  by_body : (r : PeerId) (w : View) (b : Body) → list_any (tells_expired p) (events_of r w b) ≡ false
-  by_body r w (body.Hello endpoint groups status name headers) = all (distinct groups)
-    where
-      all : (gs : List (List ℕ)) → list_any (tells_expired p) (map (λ x. event.Join r name x) gs) ≡ false
-      all [] = refl
-      all (x ∷ xs) = all xs
-  by_body r w (body.Whisper content) = refl
-  by_body r w (body.Shout group content) = refl
-  by_body r w (body.Join group status) = refl
-  by_body r w (body.Leave group status) = refl
-  by_body r w _ = refl
-
-  told_message : (o : Option Life) (m : Message) (X : List Mark) → list_any (tells_expired p) (by_message o m X) ≡ false
-  told_message None m X = refl
-  told_message (Some u) m X = by_body u.id (view u.link X) m.body
-
   told_mark : (h : Mark) (X : List Mark) → ((l : ℕ) → expires l h ≡ false) → list_any (tells_expired p) (told_at h X) ≡ false
-  told_mark (Starts c k m) X a = told_message (life k X) m X
-  told_mark (Counts c k m) X a = told_message (life k X) m X
-  told_mark (Ends k why) X a = by (life k X)
+  told_mark h X a = lasting_mark p (λ k. Unit {0}) h X (lasts h a) (only_any p X)
     where
-      one : (u : Life) (w : Cause) → ((l : ℕ) → expires l (Ends k w) ≡ false) → list_any (tells_expired p) (event.Exit u.id (view u.link X).name w ∷ []) ≡ false
-      one u cause.Expired n = absurd (true≢false (sym (eq-eqb k k refl) ∙ n k))
-      one u _ n = refl
-
-      at : (u : Life) (b : Bool) → list_any (tells_expired p) (cond b (event.Exit u.id (view u.link X).name why ∷ []) []) ≡ false
-      at u true = one u why a
-      at u false = refl
-
-      by : (o : Option Life) → list_any (tells_expired p) (exit o why X) ≡ false
-      by None = refl
-      by (Some u) = at u (is_entered X u)
-  told_mark (IsEvasive k) X a = by (life k X)
-    where
-      by : (o : Option Life) → list_any (tells_expired p) (becoming_evasive o X) ≡ false
-      by None = refl
-      by (Some u) = refl
-  told_mark _ X a = refl
+      lasts : (k : Mark) → ((l : ℕ) → expires l k ≡ false) → Lasts p (λ j. Unit {0}) k
+      lasts (Ends k cause.Expired) n = absurd (true≢false (sym (eq-eqb k k refl) ∙ n k))
+      lasts _ n = tt
 
   told_marks : (hs X : List Mark) → ((l : ℕ) → AllByRecursion (λ h. expires l h ≡ false) hs) → list_any (tells_expired p) (told hs X) ≡ false
-  told_marks [] X a = refl
-  told_marks (h ∷ hs) X a =
-      list_any-append (tells_expired p) (told_at h X) (told hs (h ∷ X)) ∙ ap (λ b. b || list_any (tells_expired p) (told hs (h ∷ X))) (told_mark h X (λ l. (a l).0))
-      ∙ told_marks hs (h ∷ X) (λ l. (a l).1)
+  told_marks hs X a = none_of_marks (tells_expired p) (λ h. (l : ℕ) → expires l h ≡ false) (λ Y. Unit {0}) (λ h Y n o. told_mark h Y n) (λ h Y n o. tt) hs X (each hs a) tt
+    where
+      each : (ks : List Mark) → ((l : ℕ) → AllByRecursion (λ h. expires l h ≡ false) ks) → AllByRecursion (λ h. (l : ℕ) → expires l h ≡ false) ks
+      each [] n = tt
+      each (k ∷ ks) n = (λ l. (n l).0, each ks (λ l. (n l).1))
 
   -- where no tick comes nobody is told as gone for that
   not_told_else : (e : Entry) (H : List Mark) → e.input ≢ input.Tick → list_any (tells_expired p) (events_at g e H) ≡ false

@@ -2,7 +2,6 @@
 use Rattle.std.proofs.Common.{◌≡◌, ℕ, ◌+◌, Bool, true, false, cond, not, ◌&&◌, eqb, ltb, List, [], ◌∷◌, ◌++◌, length, Option, Some, None, refl, sym, ap, ◌∙◌, subst, arith, eq-eqb, eqb-true, ne_eqb, append-nil}
 use Rattle.std.proofs.lemmas.Bool.{and_parts}
 use Rattle.std.specs.List.{AllByRecursion}
-use Rattle.std.specs.Option.{option_or}
 use Rattle.std.specs.Str.{bytes_eq}
 use Rattle.zre_values.specs.declared.limits.TheConstants.{PEERS, CONNECTIONS, UNSENT_OCTETS}
 use Rattle.zre_values.specs.declared.peer_id.PeerId.{PeerId}
@@ -48,16 +47,9 @@ use Rattle.zre_journal.proofs.Silent.{known_lives, has_started, run_is}
 use Rattle.zre_journal.proofs.Steps.{May, Allowed, steps, both, choice}
 use Rattle.zre_journal.proofs.Spared.{IsOff, Spares, AreSpared, IsSame, then_same, marks_left, lives_left, Itself, itself_marks, none_told}
 use Rattle.zre_journal.proofs.Always.{comes_proper}
+use Rattle.zre_journal.proofs.Moments.{identity_on}
 
 -- ---- who a connection is stays
-
-identity_on : (c : ℕ) (p : PeerId) (h : Mark) (H : List Mark) → May h H → identity c H ≡ Some p → identity c (h ∷ H) ≡ Some p
-identity_on c p (Shakes d r) H m e = by (eqb c d) refl
-  where
-    by : (t : Bool) → eqb c d ≡ t → option_or (cond t (Some r) None) (identity c H) ≡ Some p
-    by true z = absurd (let n : Some p ≡ None = sym e ∙ ap (λ j. identity j H) (eqb-true c d z) ∙ m.1 in cc)
-    by false z = e
-identity_on c p h H m e = e
 
 pub identity_kept : (c : ℕ) (p : PeerId) (hs H : List Mark) → Allowed hs H → identity c H ≡ Some p → identity c (after hs H) ≡ Some p
 identity_kept c p [] H a e = e

@@ -65,6 +65,7 @@ pub mod Truly
 pub mod Truth
 pub mod Truthful
 pub mod Turns
+pub mod Untold
 pub mod Viewed
 pub mod Walk
 pub mod Windows

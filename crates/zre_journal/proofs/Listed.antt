@@ -49,6 +49,10 @@ module _ {A : Type 0} where
   All-map P Q i [] h = tt
   All-map P Q i (x ∷ xs) h = (i x h.0, All-map P Q i xs h.1)
 
+  pub All-both : (P Q : A → Type 0) (xs : List A) → AllByRecursion P xs → AllByRecursion Q xs → AllByRecursion (λ x. P x × Q x) xs
+  All-both P Q [] h k = tt
+  All-both P Q (x ∷ xs) h k = ((h.0, k.0), All-both P Q xs h.1 k.1)
+
   -- what is found has what each has, and passes
   pub found : (P : A → Type 0) (t : A → Bool) (xs : List A) (y : A) → AllByRecursion P xs → find t xs ≡ Some y → P y × (t y ≡ true)
   found P t [] y h e = cc

@@ -51,7 +51,7 @@ still_opened c (h ∷ later) K e = by (opens c h) (still_opened c later K e)
     by false r = r
 
 -- and one that introduced itself is of the same peer from then on
-identity_on : (c : ℕ) (p : PeerId) (h : Mark) (H : List Mark) → May h H → identity c H ≡ Some p → identity c (h ∷ H) ≡ Some p
+pub identity_on : (c : ℕ) (p : PeerId) (h : Mark) (H : List Mark) → May h H → identity c H ≡ Some p → identity c (h ∷ H) ≡ Some p
 identity_on c p (Shakes d q) H m e = by (eqb c d) refl
   where
     by : (t : Bool) → eqb c d ≡ t → option_or (cond t (Some q) None) (identity c H) ≡ Some p

@@ -5,7 +5,6 @@ use Rattle.std.specs.List.{AllByRecursion, list_any, cons_option}
 use Rattle.std.specs.Str.{bytes_eq}
 use Rattle.zre_values.specs.declared.limits.TheConstants.{UNSENT_OCTETS, CONNECTIONS}
 use Rattle.zre_values.specs.declared.peer_id.PeerId.{PeerId}
-use Rattle.zre_msg.specs.declared.message.Message.{Message}
 use Rattle.std.proofs.Math.Bool.{and-false}
 use Rattle.zre_msg.specs.declared.message.Body.{Body}
 use Rattle.zre_msg.specs.declared.message.Body.TheVariants as body
@@ -13,9 +12,6 @@ use Rattle.zre_link.specs.Text.{size_of}
 use Rattle.zre_outside.specs.declared.entry.Entry.{Entry}
 use Rattle.zre_outside.specs.declared.entry.Input.{Input}
 use Rattle.zre_outside.specs.declared.entry.Input.TheVariants as input
-use Rattle.zre_peer.specs.Members.{distinct}
-use Rattle.zre_peer.specs.Runs.{events_of}
-use Rattle.zre_peer.specs.declared.view.View.{View}
 use Rattle.zre_peer.specs.declared.causes.Cause.{Cause}
 use Rattle.zre_peer.specs.declared.causes.Cause.TheVariants as cause
 use Rattle.zre_peer.specs.declared.causes.CloseWhy.TheVariants as close
@@ -36,23 +32,25 @@ use Rattle.zre_journal.specs.Proper.{IsProper, Apart}
 use Rattle.zre_journal.specs.Pushes.{push}
 use Rattle.zre_journal.specs.Silence.{IsTold, tells_evasive, tells_expired, IsTickOf, silent_for}
 use Rattle.zre_journal.specs.Ticks.{is_silent, is_evasive, is_stale, probe, at_tick}
-use Rattle.zre_journal.specs.Told.{told, told_at, exit, by_message, becoming_evasive}
+use Rattle.zre_journal.specs.Told.{told, told_at, exit, becoming_evasive}
 use Rattle.zre_journal.proofs.Causes.{ends_by_table}
 use Rattle.zre_journal.proofs.Few.{AreNamed, named}
 use Rattle.zre_journal.proofs.Joined.{continues}
 use Rattle.zre_journal.proofs.Known.{known_of, same_id, id_of}
 use Rattle.zre_journal.proofs.Lawful.{ends_once}
-use Rattle.zre_journal.proofs.Listed.{eqb-comm, All-join, All-kept, All-map, found}
+use Rattle.zre_journal.proofs.Listed.{eqb-comm, All-join, All-kept, All-map, found, All-both}
 use Rattle.zre_journal.proofs.Mild.{Mild, is_tick, Kind, kind, mild_input}
 use Rattle.zre_journal.proofs.Turns.{dropped}
 use Rattle.zre_journal.proofs.Steps.{choice, all_push}
 use Rattle.zre_journal.proofs.Ticking.{Ticks, AreTicks, E, F, C, all_tick, ended_there, told_there}
 use Rattle.zre_journal.proofs.Always.{comes_proper}
+use Rattle.zre_journal.proofs.Untold.{IsOfMessage, none_of_marks, none_of_message}
+use Rattle.zre_peer.specs.declared.event.Event.{Event}
 
 -- ---- who isn't
 
 -- whom p is among the known ones
-abbrev Only : PeerId → (ℕ → Type 0) → List Mark → Type 0
+abbrev pub Only : PeerId → (ℕ → Type 0) → List Mark → Type 0
 Only p P X = AllByRecursion (λ (w : Life). bytes_eq p.0 w.id.0 ≡ true → P w.link) (lives X)
 
 only_mark : (p : PeerId) (P : ℕ → Type 0) (h : Mark) (X : List Mark) → Ticks h → Only p P X → Only p P (h ∷ X)
@@ -62,6 +60,13 @@ only_mark p P (IsEvasive k) X a o = o
 only_mark p P (Puts k b) X a o = o
 only_mark p P (SendsBeacon port) X a o = o
 only_mark p P _ X a o = absurd a
+
+pub only_any : (p : PeerId) (X : List Mark) → Only p (λ k. Unit {0}) X
+only_any p X = all (lives X)
+  where
+    all : (us : List Life) → AllByRecursion (λ (w : Life). bytes_eq p.0 w.id.0 ≡ true → Unit {0}) us
+    all [] = tt
+    all (u ∷ us) = (λ z. tt, all us)
 
 -- the peer of this link isn't p, where p has no such link
 other_there : (p : PeerId) (P : ℕ → Type 0) (k : ℕ) (X : List Mark) (w : Life) → Only p P X → (P k → ⊥) → life k X ≡ Some w → bytes_eq p.0 w.id.0 ≡ false
@@ -74,18 +79,27 @@ other_there p P k X w o n e = by (bytes_eq p.0 w.id.0) refl
     by false z = refl
     by true z = absurd (n (subst P (sym (eqb-true k w.link f.1)) (f.0 z)))
 
+-- what a message tells is neither
+no_evasive : (p : PeerId) (e : Event) → IsOfMessage e → tells_evasive p e ≡ false
+no_evasive p (event.Evasive id name) m = absurd m
+no_evasive p _ m = refl
+
+no_expired : (p : PeerId) (e : Event) → IsOfMessage e → tells_expired p e ≡ false
+no_expired p (event.Exit id name why) m = absurd m
+no_expired p _ m = refl
+
 module _ (p : PeerId) (P : ℕ → Type 0) where
   -- no peer with such a link turns evasive, or expires
-  abbrev Firm : Mark → Type 0
+  abbrev pub Firm : Mark → Type 0
   Firm (IsEvasive k) = P k → ⊥
   Firm _ = Unit {0}
 
-  abbrev Lasts : Mark → Type 0
+  abbrev pub Lasts : Mark → Type 0
   Lasts (Ends k cause.Expired) = P k → ⊥
   Lasts _ = Unit {0}
 
-  firm_mark : (h : Mark) (X : List Mark) → Ticks h → Firm h → Only p P X → list_any (tells_evasive p) (told_at h X) ≡ false
-  firm_mark (Ends k w) X a f o = by (life k X)
+  pub firm_mark : (h : Mark) (X : List Mark) → Firm h → Only p P X → list_any (tells_evasive p) (told_at h X) ≡ false
+  firm_mark (Ends k w) X f o = by (life k X)
     where
       at : (u : Life) (b : Bool) → list_any (tells_evasive p) (cond b (event.Exit u.id (view u.link X).name w ∷ []) []) ≡ false
       at u true = refl
@@ -94,24 +108,17 @@ module _ (p : PeerId) (P : ℕ → Type 0) where
       by : (u : Option Life) → list_any (tells_evasive p) (exit u w X) ≡ false
       by None = refl
       by (Some u) = at u (is_entered X u)
-  firm_mark (IsEvasive k) X a f o = by (life k X) refl
+  firm_mark (IsEvasive k) X f o = by (life k X) refl
     where
       by : (u : Option Life) → life k X ≡ u → list_any (tells_evasive p) (becoming_evasive u X) ≡ false
       by None e = refl
       by (Some u) e = let far = other_there p P k X u o f e in rw far refl
-  firm_mark (Closes c w) X a f o = refl
-  firm_mark (Puts k b) X a f o = refl
-  firm_mark (SendsBeacon port) X a f o = refl
-  firm_mark _ X a f o = absurd a
+  firm_mark (Starts c k m) X f o = none_of_message (tells_evasive p) (no_evasive p) (life k X) m X
+  firm_mark (Counts c k m) X f o = none_of_message (tells_evasive p) (no_evasive p) (life k X) m X
+  firm_mark _ X f o = refl
 
-  none_evasive : (hs X : List Mark) → AreTicks hs → AllByRecursion Firm hs → Only p P X → list_any (tells_evasive p) (told hs X) ≡ false
-  none_evasive [] X a f o = refl
-  none_evasive (h ∷ hs) X a f o =
-      list_any-append (tells_evasive p) (told_at h X) (told hs (h ∷ X)) ∙ ap (λ b. b || list_any (tells_evasive p) (told hs (h ∷ X))) (firm_mark h X a.0 f.0 o)
-      ∙ none_evasive hs (h ∷ X) a.1 f.1 (only_mark p P h X a.0 o)
-
-  lasting_mark : (h : Mark) (X : List Mark) → Ticks h → Lasts h → Only p P X → list_any (tells_expired p) (told_at h X) ≡ false
-  lasting_mark (Ends k w) X a f o = by (life k X) refl
+  pub lasting_mark : (h : Mark) (X : List Mark) → Lasts h → Only p P X → list_any (tells_expired p) (told_at h X) ≡ false
+  lasting_mark (Ends k w) X f o = by (life k X) refl
     where
       at : (u : Life) → life k X ≡ Some u → (c : Cause) → Lasts (Ends k c) → list_any (tells_expired p) (event.Exit u.id (view u.link X).name c ∷ []) ≡ false
       at u e cause.Expired z = let far = other_there p P k X u o z e in rw far refl
@@ -124,21 +131,19 @@ module _ (p : PeerId) (P : ℕ → Type 0) where
           choice_of : (b : Bool) → list_any (tells_expired p) (cond b (event.Exit u.id (view u.link X).name w ∷ []) []) ≡ false
           choice_of true = at u e w f
           choice_of false = refl
-  lasting_mark (IsEvasive k) X a f o = by (life k X)
+  lasting_mark (IsEvasive k) X f o = by (life k X)
     where
       by : (u : Option Life) → list_any (tells_expired p) (becoming_evasive u X) ≡ false
       by None = refl
       by (Some u) = refl
-  lasting_mark (Closes c w) X a f o = refl
-  lasting_mark (Puts k b) X a f o = refl
-  lasting_mark (SendsBeacon port) X a f o = refl
-  lasting_mark _ X a f o = absurd a
+  lasting_mark (Starts c k m) X f o = none_of_message (tells_expired p) (no_expired p) (life k X) m X
+  lasting_mark (Counts c k m) X f o = none_of_message (tells_expired p) (no_expired p) (life k X) m X
+  lasting_mark _ X f o = refl
 
-  none_expired : (hs X : List Mark) → AreTicks hs → AllByRecursion Lasts hs → Only p P X → list_any (tells_expired p) (told hs X) ≡ false
-  none_expired [] X a f o = refl
-  none_expired (h ∷ hs) X a f o =
-      list_any-append (tells_expired p) (told_at h X) (told hs (h ∷ X)) ∙ ap (λ b. b || list_any (tells_expired p) (told hs (h ∷ X))) (lasting_mark h X a.0 f.0 o)
-      ∙ none_expired hs (h ∷ X) a.1 f.1 (only_mark p P h X a.0 o)
+  -- so the marks of a tick tell none
+  none_at_tick : (t : Event → Bool) (Q : Mark → Type 0) → ((h : Mark) (X : List Mark) → Q h → Only p P X → list_any t (told_at h X) ≡ false)
+      → (hs X : List Mark) → AreTicks hs → AllByRecursion Q hs → Only p P X → list_any t (told hs X) ≡ false
+  none_at_tick t Q one hs X a f o = none_of_marks t (λ h. Ticks h × Q h) (Only p P) (λ h Y b z. one h Y b.1 z) (λ h Y b z. only_mark p P h Y b.0 z) hs X (All-both Ticks Q hs a f) o
 
 -- ---- whom p is
 
@@ -275,7 +280,7 @@ module _ (g : Config) (J earlier : List Entry) (e : Entry) (later : List Entry) 
   told_gone z entered = subst (IsTold (event.Exit v.id (view v.link K).name cause.Expired)) (sym tells) (told_there v cause.Expired (at_tick g K) K (all_tick g K) (expires z) at.is_known entered)
 
   pub not_told : silent_for v.link K < g.expired → list_any (tells_expired v.id) (events_at g e H) ≡ false
-  not_told z = ap (list_any (tells_expired v.id)) tells ∙ none_expired v.id (λ k. k ≡ v.link) (at_tick g K) K (all_tick g K) lasting (only_known K (comes_proper g earlier e) (λ l u y. named g earlier l u y) v.id v (named g earlier v.link v at.is_known))
+  not_told z = ap (list_any (tells_expired v.id)) tells ∙ none_at_tick v.id (λ k. k ≡ v.link) (tells_expired v.id) (Lasts v.id (λ k. k ≡ v.link)) (lasting_mark v.id (λ k. k ≡ v.link)) (at_tick g K) K (all_tick g K) lasting (only_known K (comes_proper g earlier e) (λ l u y. named g earlier l u y) v.id v (named g earlier v.link v at.is_known))
     where
       slow : ends_in v.link (at_tick g K) ≡ cons_option (slow_by g v.link (where_so (is_evasive g K v) body.Ping) K) []
       slow = ends ∙ ap (λ b. cons_option (cond b (Some cause.Expired) (slow_by g v.link (where_so (is_evasive g K v) body.Ping) K)) []) (not_long g.expired (active v.link K) (clock K) z)
@@ -290,6 +295,7 @@ pub only_tick : (i : Input) → is_tick i ≡ true → i ≡ input.Tick
 only_tick input.Tick e = refl
 only_tick _ e = let z : false ≡ true = e in cc
 
+-- a mark by which no peer turns evasive
 abbrev Still : Mark → Type 0
 Still (IsEvasive l) = ⊥
 Still _ = Unit {0}
@@ -298,41 +304,12 @@ still_mild : (t : Kind) → t.ticks ≡ false → (h : Mark) → Mild t h → St
 still_mild t n (IsEvasive l) m = absurd (true≢false (sym m ∙ n))
 still_mild t n _ m = tt
 
-module _ (p : PeerId) where
-  no_evasive_of : (r : PeerId) (w : View) (b : Body) → list_any (tells_evasive p) (events_of r w b) ≡ false
-  no_evasive_of r w (body.Hello endpoint groups status name headers) = all (distinct groups)
-    where
-      all : (gs : List (List ℕ)) → list_any (tells_evasive p) (map (λ x. event.Join r name x) gs) ≡ false
-      all [] = refl
-      all (x ∷ xs) = all xs
-  no_evasive_of r w (body.Whisper content) = refl
-  no_evasive_of r w (body.Shout group content) = refl
-  no_evasive_of r w (body.Join group status) = refl
-  no_evasive_of r w (body.Leave group status) = refl
-  no_evasive_of r w _ = refl
-
-  still_message : (o : Option Life) (m : Message) (X : List Mark) → list_any (tells_evasive p) (by_message o m X) ≡ false
-  still_message None m X = refl
-  still_message (Some u) m X = no_evasive_of u.id (view u.link X) m.body
-
-  still_exit : (o : Option Life) (w : Cause) (X : List Mark) → list_any (tells_evasive p) (exit o w X) ≡ false
-  still_exit None w X = refl
-  still_exit (Some u) w X = at (is_entered X u)
-    where
-      at : (b : Bool) → list_any (tells_evasive p) (cond b (event.Exit u.id (view u.link X).name w ∷ []) []) ≡ false
-      at true = refl
-      at false = refl
-
-  still_mark : (h : Mark) (X : List Mark) → Still h → list_any (tells_evasive p) (told_at h X) ≡ false
-  still_mark (IsEvasive l) X s = absurd s
-  still_mark (Starts c k m) X s = still_message (life k X) m X
-  still_mark (Counts c k m) X s = still_message (life k X) m X
-  still_mark (Ends k w) X s = still_exit (life k X) w X
-  still_mark _ X s = refl
-
-  still_marks : (hs X : List Mark) → AllByRecursion Still hs → list_any (tells_evasive p) (told hs X) ≡ false
-  still_marks [] X s = refl
-  still_marks (h ∷ hs) X s = list_any-append (tells_evasive p) (told_at h X) (told hs (h ∷ X)) ∙ ap (λ b. b || list_any (tells_evasive p) (told hs (h ∷ X))) (still_mark h X s.0) ∙ still_marks hs (h ∷ X) s.1
+still_marks : (p : PeerId) (hs X : List Mark) → AllByRecursion Still hs → list_any (tells_evasive p) (told hs X) ≡ false
+still_marks p hs X s = none_of_marks (tells_evasive p) Still (Only p (λ k. Unit {0})) (λ h Y a o. firm_mark p (λ k. Unit {0}) h Y (firm h a) o) (λ h Y a o. only_any p (h ∷ Y)) hs X s (only_any p X)
+  where
+    firm : (h : Mark) → Still h → Firm p (λ k. Unit {0}) h
+    firm (IsEvasive l) a = λ z. a
+    firm _ a = tt
 
 still_run : (g : Config) (o : Option ℕ) (why : Cause) (h : Mark) → Still h → AllByRecursion Still (end_of_run g o why ++ h ∷ [])
 still_run g None why h s = (s, tt)
@@ -367,12 +344,12 @@ module _ (g : Config) (J : List Entry) (p : PeerId)
     at_tick_none going tick = by (life_of p M) refl
       where
         by : (o : Option Life) → life_of p M ≡ o → list_any (tells_evasive p) (told (at_tick g M) M) ≡ false
-        by None z = none_evasive p (λ k. ⊥) (at_tick g M) M (all_tick g M) (firm_tick g M p (λ k. ⊥) (all_none (filter (is_evasive g M) (lives M)))) (only_unknown M proper (λ l u y. named g earlier l u y) p z)
+        by None z = none_at_tick p (λ k. ⊥) (tells_evasive p) (Firm p (λ k. ⊥)) (firm_mark p (λ k. ⊥)) (at_tick g M) M (all_tick g M) (firm_tick g M p (λ k. ⊥) (all_none (filter (is_evasive g M) (lives M)))) (only_unknown M proper (λ l u y. named g earlier l u y) p z)
         by (Some v) z =
             let known = known_of M proper p v z in
             let soon = heard earlier e later v (record { is_entry = record { in_journal = is; going = going }; is_tick = tick; is_known = known }) (id_of M p v z) in
             let calm : is_evasive g M v ≡ false = ap (λ b. (is_entered M v && not (is_silent g g.expired M v)) && b) (not_long g.evasive (active v.link M) (clock M) soon) ∙ and-false (is_entered M v && not (is_silent g g.expired M v)) in
-            none_evasive p (λ k. k ≡ v.link) (at_tick g M) M (all_tick g M) (firm_tick g M p (λ k. k ≡ v.link) (none_at v.link (filter (is_evasive g M) (lives M)) (dropped (is_evasive g M) (lives M) v known calm proper.living.apart)))
+            none_at_tick p (λ k. k ≡ v.link) (tells_evasive p) (Firm p (λ k. k ≡ v.link)) (firm_mark p (λ k. k ≡ v.link)) (at_tick g M) M (all_tick g M) (firm_tick g M p (λ k. k ≡ v.link) (none_at v.link (filter (is_evasive g M) (lives M)) (dropped (is_evasive g M) (lives M) v known calm proper.living.apart)))
             (only_known M proper (λ l u y. named g earlier l u y) p v z)
 
     entry_none : list_any (tells_evasive p) (events_at g e B) ≡ false
