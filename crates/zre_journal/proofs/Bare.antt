@@ -32,6 +32,7 @@ use Rattle.zre_journal.specs.Ticks.{is_silent, is_evasive, is_stale, probe, at_t
 use Rattle.zre_journal.proofs.Listed.{All-join}
 use Rattle.zre_journal.proofs.Turns.{none_there}
 use Rattle.zre_journal.proofs.Steps.{choice}
+use Rattle.zre_journal.proofs.Ticking.{E, F, C}
 
 -- ---- marks that stand in no table
 
@@ -155,17 +156,8 @@ module _ {A : Type 0} (f : Mark → Option A) (reads : Reads f) (g : Config) whe
 
   -- a tick in its parts
   pub tick_read : (K : List Mark) → filter_map f (at_tick g K) ≡ filter_map f (probe g (filter (is_evasive g K) (lives K)) K) ++ filter_map f (map (λ c. Closes c close.Timeout) (filter (is_stale g K) (open_ones K)))
-  tick_read K = filter_map-append f (E ++ F ++ C) (SendsBeacon g.port ∷ []) ∙ ap (λ xs. filter_map f (E ++ F ++ C) ++ xs) (bare_none f reads (SendsBeacon g.port ∷ []) (tt, tt)) ∙ append-nil (filter_map f (E ++ F ++ C)) ∙ filter_map-append f (E ++ F) C
-      ∙ ap (λ xs. xs ++ filter_map f C) (bare_then f reads E F (bare_map (λ (v : Life). Ends v.link cause.Expired) (λ v. tt) (filter (is_silent g g.expired K) (lives K))))
-    where
-      E : List Mark
-      E = map (λ (v : Life). Ends v.link cause.Expired) (filter (is_silent g g.expired K) (lives K))
-
-      F : List Mark
-      F = probe g (filter (is_evasive g K) (lives K)) K
-
-      C : List Mark
-      C = map (λ c. Closes c close.Timeout) (filter (is_stale g K) (open_ones K))
+  tick_read K = filter_map-append f (E g K ++ F g K ++ C g K) (SendsBeacon g.port ∷ []) ∙ ap (λ xs. filter_map f (E g K ++ F g K ++ C g K) ++ xs) (bare_none f reads (SendsBeacon g.port ∷ []) (tt, tt)) ∙ append-nil (filter_map f (E g K ++ F g K ++ C g K)) ∙ filter_map-append f (E g K ++ F g K) (C g K)
+      ∙ ap (λ xs. xs ++ filter_map f (C g K)) (bare_then f reads (E g K) (F g K) (bare_map (λ (v : Life). Ends v.link cause.Expired) (λ v. tt) (filter (is_silent g g.expired K) (lives K))))
 
 far_any : (c : ℕ) (cs : List ℕ) → AllByRecursion (λ d. eqb c d ≡ false) cs → list_any (eqb c) cs ≡ false
 far_any c [] a = refl

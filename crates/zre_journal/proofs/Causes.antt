@@ -50,6 +50,7 @@ use Rattle.zre_journal.proofs.Places.{its_moment}
 use Rattle.zre_journal.proofs.Steps.{choice}
 use Rattle.zre_journal.proofs.Turns.{same_push, far_stays, all_turns, some_turns, Meets, Same, Other, meets}
 use Rattle.zre_journal.proofs.Always.{comes_proper}
+use Rattle.zre_journal.proofs.Ticking.{E, F, C}
 
 -- ---- marks that end nobody
 
@@ -220,19 +221,10 @@ module _ (g : Config) (K : List Mark) (q : IsProper K) (names : AreNamed K) (v :
       by None e = rw (other_link k e) refl
 
   tick : Is (at_tick g K) (cond (is_silent g g.expired K v) (Some cause.Expired) (slow_by g l (where_so (is_evasive g K v) body.Ping) K))
-  tick = then_calm l (E ++ F ++ C) _ (tt, tt) ∙ then_calm l (E ++ F) C (calm_map (λ c. Closes c close.Timeout) (λ c. tt) (filter (is_stale g K) (open_ones K)))
-      ∙ filter_map-append (end_of l) E F ∙ ap (λ xs. xs ++ ends_in l F) (some_end cause.Expired (is_silent g g.expired K)) ∙ ap (λ xs. cons_option (where_so (is_silent g g.expired K v) cause.Expired) [] ++ xs) (probes (is_evasive g K))
+  tick = then_calm l (E g K ++ F g K ++ C g K) _ (tt, tt) ∙ then_calm l (E g K ++ F g K) (C g K) (calm_map (λ c. Closes c close.Timeout) (λ c. tt) (filter (is_stale g K) (open_ones K)))
+      ∙ filter_map-append (end_of l) (E g K) (F g K) ∙ ap (λ xs. xs ++ ends_in l (F g K)) (some_end cause.Expired (is_silent g g.expired K)) ∙ ap (λ xs. cons_option (where_so (is_silent g g.expired K v) cause.Expired) [] ++ xs) (probes (is_evasive g K))
       ∙ by (is_silent g g.expired K v) refl
     where
-      E : List Mark
-      E = end_all cause.Expired (filter (is_silent g g.expired K) (lives K))
-
-      F : List Mark
-      F = probe g (filter (is_evasive g K) (lives K)) K
-
-      C : List Mark
-      C = map (λ c. Closes c close.Timeout) (filter (is_stale g K) (open_ones K))
-
       spared : (x y : Bool) → (x && not true && y) ≡ false
       spared true y = refl
       spared false y = refl

@@ -21,87 +21,58 @@ use Rattle.zre_journal.specs.Events.{chronicle}
 use Rattle.zre_journal.specs.Happens.{has_stopped, at_input}
 use Rattle.zre_journal.specs.Heard.{clock}
 use Rattle.zre_journal.specs.Peers.{Life, lives, active}
-use Rattle.zre_journal.specs.Pushes.{push}
-use Rattle.zre_journal.specs.Ticks.{is_silent, is_evasive, probe, is_stale, at_tick}
+use Rattle.zre_journal.specs.Ticks.{is_silent, is_evasive, is_stale, at_tick}
 use Rattle.zre_journal.proofs.Closing.{leaves_nothing}
 use Rattle.zre_journal.proofs.Joined.{after-append, continues}
 use Rattle.zre_journal.proofs.Known.{end_all}
-use Rattle.zre_journal.proofs.Listed.{eqb-comm, All-kept, All-join, All-map}
-use Rattle.zre_journal.proofs.Steps.{all_push}
+use Rattle.zre_journal.proofs.Listed.{eqb-comm, All-kept, All-map}
+use Rattle.zre_journal.proofs.Ticking.{Ticks, AreTicks, E, F, C, all_tick, probes_tick, ends_tick, closes_tick}
 
--- ---- the marks of a tick
+-- ---- what the marks of a tick keep
 
-abbrev Calm : Mark → Type 0
-Calm (Closes c why) = Unit {0}
-Calm (Ends l why) = Unit {0}
-Calm (IsEvasive l) = Unit {0}
-Calm (Puts l b) = Unit {0}
-Calm (SendsBeacon port) = Unit {0}
-Calm _ = ⊥
+tick_clock : (h : Mark) (H : List Mark) → Ticks h → clock (h ∷ H) ≡ clock H
+tick_clock (Comes e) H c = absurd c
+tick_clock _ H c = refl
 
-abbrev AreCalm : List Mark → Type 0
-AreCalm hs = AllByRecursion Calm hs
+tick_active : (l : ℕ) (h : Mark) (H : List Mark) → Ticks h → active l (h ∷ H) ≡ active l H
+tick_active l (Closes d why) H c = refl
+tick_active l (Ends k why) H c = refl
+tick_active l (IsEvasive k) H c = refl
+tick_active l (Puts k b) H c = refl
+tick_active l (SendsBeacon port) H c = refl
+tick_active l _ H c = absurd c
 
-module _ (g : Config) where
-  probes_calm : (vs : List Life) (I : List Mark) → AreCalm (probe g vs I)
-  probes_calm [] I = tt
-  probes_calm (v ∷ vs) I =
-      let p = push g v.link body.Ping I in
-      (tt, All-join Calm p (probe g vs (after p (IsEvasive v.link ∷ I))) (all_push Calm (λ l why. tt) (λ c why. tt) (λ l b. tt) g v.link body.Ping I) (probes_calm vs (after p (IsEvasive v.link ∷ I))))
+tick_lives : (P : Life → Type 0) (h : Mark) (H : List Mark) → Ticks h → AllByRecursion P (lives H) → AllByRecursion P (lives (h ∷ H))
+tick_lives P (Closes d why) H c a = a
+tick_lives P (Ends k why) H c a = All-kept P (λ (v : Life). not (eqb k v.link)) (lives H) a
+tick_lives P (IsEvasive k) H c a = a
+tick_lives P (Puts k b) H c a = a
+tick_lives P (SendsBeacon port) H c a = a
+tick_lives P _ H c a = absurd c
 
-  ends_calm : (why : Cause) (vs : List Life) → AreCalm (end_all why vs)
-  ends_calm why [] = tt
-  ends_calm why (v ∷ vs) = (tt, ends_calm why vs)
+tick_open : (P : ℕ → Type 0) (h : Mark) (H : List Mark) → Ticks h → AllByRecursion P (open_ones H) → AllByRecursion P (open_ones (h ∷ H))
+tick_open P (Closes d why) H c a = All-kept P (λ x. not (eqb d x)) (open_ones H) a
+tick_open P (Ends k why) H c a = a
+tick_open P (IsEvasive k) H c a = a
+tick_open P (Puts k b) H c a = a
+tick_open P (SendsBeacon port) H c a = a
+tick_open P _ H c a = absurd c
 
-  closes_calm : (why : CloseWhy) (cs : List ℕ) → AreCalm (map (λ c. Closes c why) cs)
-  closes_calm why [] = tt
-  closes_calm why (c ∷ cs) = (tt, closes_calm why cs)
-
--- ---- what such marks keep
-
-calm_clock : (h : Mark) (H : List Mark) → Calm h → clock (h ∷ H) ≡ clock H
-calm_clock (Comes e) H c = absurd c
-calm_clock _ H c = refl
-
-calm_active : (l : ℕ) (h : Mark) (H : List Mark) → Calm h → active l (h ∷ H) ≡ active l H
-calm_active l (Closes d why) H c = refl
-calm_active l (Ends k why) H c = refl
-calm_active l (IsEvasive k) H c = refl
-calm_active l (Puts k b) H c = refl
-calm_active l (SendsBeacon port) H c = refl
-calm_active l _ H c = absurd c
-
-calm_lives : (P : Life → Type 0) (h : Mark) (H : List Mark) → Calm h → AllByRecursion P (lives H) → AllByRecursion P (lives (h ∷ H))
-calm_lives P (Closes d why) H c a = a
-calm_lives P (Ends k why) H c a = All-kept P (λ (v : Life). not (eqb k v.link)) (lives H) a
-calm_lives P (IsEvasive k) H c a = a
-calm_lives P (Puts k b) H c a = a
-calm_lives P (SendsBeacon port) H c a = a
-calm_lives P _ H c a = absurd c
-
-calm_open : (P : ℕ → Type 0) (h : Mark) (H : List Mark) → Calm h → AllByRecursion P (open_ones H) → AllByRecursion P (open_ones (h ∷ H))
-calm_open P (Closes d why) H c a = All-kept P (λ x. not (eqb d x)) (open_ones H) a
-calm_open P (Ends k why) H c a = a
-calm_open P (IsEvasive k) H c a = a
-calm_open P (Puts k b) H c a = a
-calm_open P (SendsBeacon port) H c a = a
-calm_open P _ H c a = absurd c
-
-all_clock : (hs H : List Mark) → AreCalm hs → clock (after hs H) ≡ clock H
+all_clock : (hs H : List Mark) → AreTicks hs → clock (after hs H) ≡ clock H
 all_clock [] H c = refl
-all_clock (h ∷ hs) H c = all_clock hs (h ∷ H) c.1 ∙ calm_clock h H c.0
+all_clock (h ∷ hs) H c = all_clock hs (h ∷ H) c.1 ∙ tick_clock h H c.0
 
-all_active : (l : ℕ) (hs H : List Mark) → AreCalm hs → active l (after hs H) ≡ active l H
+all_active : (l : ℕ) (hs H : List Mark) → AreTicks hs → active l (after hs H) ≡ active l H
 all_active l [] H c = refl
-all_active l (h ∷ hs) H c = all_active l hs (h ∷ H) c.1 ∙ calm_active l h H c.0
+all_active l (h ∷ hs) H c = all_active l hs (h ∷ H) c.1 ∙ tick_active l h H c.0
 
-all_lives : (P : Life → Type 0) (hs H : List Mark) → AreCalm hs → AllByRecursion P (lives H) → AllByRecursion P (lives (after hs H))
+all_lives : (P : Life → Type 0) (hs H : List Mark) → AreTicks hs → AllByRecursion P (lives H) → AllByRecursion P (lives (after hs H))
 all_lives P [] H c a = a
-all_lives P (h ∷ hs) H c a = all_lives P hs (h ∷ H) c.1 (calm_lives P h H c.0 a)
+all_lives P (h ∷ hs) H c a = all_lives P hs (h ∷ H) c.1 (tick_lives P h H c.0 a)
 
-all_open : (P : ℕ → Type 0) (hs H : List Mark) → AreCalm hs → AllByRecursion P (open_ones H) → AllByRecursion P (open_ones (after hs H))
+all_open : (P : ℕ → Type 0) (hs H : List Mark) → AreTicks hs → AllByRecursion P (open_ones H) → AllByRecursion P (open_ones (after hs H))
 all_open P [] H c a = a
-all_open P (h ∷ hs) H c a = all_open P hs (h ∷ H) c.1 (calm_open P h H c.0 a)
+all_open P (h ∷ hs) H c a = all_open P hs (h ∷ H) c.1 (tick_open P h H c.0 a)
 
 -- ---- those of these numbers go
 
@@ -182,17 +153,17 @@ module _ (g : Config) (waits : 1 ≤ g.expired) where
               let w : Some k ≡ None = sym (ap (option_and_then (λ m. cond (has_ended m (Ends l why ∷ H)) None (Some m))) u.0 ∙ ap (λ b. cond b None (Some k)) still) ∙ n in
               cc
 
-  calm_fresh : (c : ℕ) (h : Mark) (H : List Mark) → Calm h → IsFresh g c H → IsFresh g c (h ∷ H)
-  calm_fresh c (Closes d why) H z f = f
-  calm_fresh c (Ends l why) H z f = ended_fresh c l why H f
-  calm_fresh c (IsEvasive l) H z f = f
-  calm_fresh c (Puts l b) H z f = f
-  calm_fresh c (SendsBeacon port) H z f = f
-  calm_fresh c _ H z f = absurd z
+  tick_fresh : (c : ℕ) (h : Mark) (H : List Mark) → Ticks h → IsFresh g c H → IsFresh g c (h ∷ H)
+  tick_fresh c (Closes d why) H z f = f
+  tick_fresh c (Ends l why) H z f = ended_fresh c l why H f
+  tick_fresh c (IsEvasive l) H z f = f
+  tick_fresh c (Puts l b) H z f = f
+  tick_fresh c (SendsBeacon port) H z f = f
+  tick_fresh c _ H z f = absurd z
 
-  all_fresh : (c : ℕ) (hs H : List Mark) → AreCalm hs → IsFresh g c H → IsFresh g c (after hs H)
+  all_fresh : (c : ℕ) (hs H : List Mark) → AreTicks hs → IsFresh g c H → IsFresh g c (after hs H)
   all_fresh c [] H z f = f
-  all_fresh c (h ∷ hs) H z f = all_fresh c hs (h ∷ H) z.1 (calm_fresh c h H z.0 f)
+  all_fresh c (h ∷ hs) H z f = all_fresh c hs (h ∷ H) z.1 (tick_fresh c h H z.0 f)
 
   fresh_of : (c : ℕ) (H : List Mark) → is_stale g H c ≡ false → IsFresh g c H
   fresh_of c H s n = sym (ap (λ (o : Option ℕ). is_none o && leb g.expired (clock H - since c H)) n) ∙ s
@@ -207,47 +178,35 @@ module _ (g : Config) (waits : 1 ≤ g.expired) where
   -- ---- the tick
 
   module _ (K : List Mark) where
-    abbrev E : List Mark
-    E = end_all cause.Expired (filter (is_silent g g.expired K) (lives K))
-
-    abbrev F : List Mark
-    F = probe g (filter (is_evasive g K) (lives K)) K
-
-    abbrev C : List Mark
-    C = map (λ c. Closes c close.Timeout) (filter (is_stale g K) (open_ones K))
-
     abbrev Z : List Mark
     Z = SendsBeacon g.port ∷ []
 
-    calm : AreCalm (at_tick g K)
-    calm = All-join Calm (E ++ F ++ C) Z (All-join Calm (E ++ F) C (All-join Calm E F (ends_calm g cause.Expired (filter (is_silent g g.expired K) (lives K))) (probes_calm g (filter (is_evasive g K) (lives K)) K)) (closes_calm g close.Timeout (filter (is_stale g K) (open_ones K)))) (tt, tt)
-
-    whole : after (at_tick g K) K ≡ SendsBeacon g.port ∷ after C (after F (after E K))
-    whole = after-append (E ++ F ++ C) Z K ∙ ap (after Z) (after-append (E ++ F) C K ∙ ap (after C) (after-append E F K))
+    whole : after (at_tick g K) K ≡ SendsBeacon g.port ∷ after (C g K) (after (F g K) (after (E g K) K))
+    whole = after-append (E g K ++ F g K ++ C g K) Z K ∙ ap (after Z) (after-append (E g K ++ F g K) (C g K) K ∙ ap (after (C g K)) (after-append (E g K) (F g K) K))
 
     abbrev H : List Mark
     H = after (at_tick g K) K
 
     as_before : (v : Life) → is_silent g g.expired H v ≡ is_silent g g.expired K v
-    as_before v = ap (λ n. leb g.expired (n - active v.link H)) (all_clock (at_tick g K) K calm) ∙ ap (λ n. leb g.expired (clock K - n)) (all_active v.link (at_tick g K) K calm)
+    as_before v = ap (λ n. leb g.expired (n - active v.link H)) (all_clock (at_tick g K) K (all_tick g K)) ∙ ap (λ n. leb g.expired (clock K - n)) (all_active v.link (at_tick g K) K (all_tick g K))
 
     loud : AllByRecursion (λ (v : Life). is_silent g g.expired K v ≡ false) (lives H)
     loud = subst (λ X. AllByRecursion (λ (v : Life). is_silent g g.expired K v ≡ false) (lives X)) (sym whole)
-        (all_lives (λ (v : Life). is_silent g g.expired K v ≡ false) C (after F (after E K)) (closes_calm g close.Timeout (filter (is_stale g K) (open_ones K)))
-        (all_lives (λ (v : Life). is_silent g g.expired K v ≡ false) F (after E K) (probes_calm g (filter (is_evasive g K) (lives K)) K)
+        (all_lives (λ (v : Life). is_silent g g.expired K v ≡ false) (C g K) (after (F g K) (after (E g K) K)) (closes_tick close.Timeout (filter (is_stale g K) (open_ones K)))
+        (all_lives (λ (v : Life). is_silent g g.expired K v ≡ false) (F g K) (after (E g K) K) (probes_tick g (filter (is_evasive g K) (lives K)) K)
         (ends_clear (is_silent g g.expired K) cause.Expired (filter (is_silent g g.expired K) (lives K)) K (all_among (λ (v : Life). v.link) (is_silent g g.expired K) (lives K)))))
 
     kept : AllByRecursion (λ c. is_stale g K c ≡ false) (open_ones H)
     kept = subst (λ X. AllByRecursion (λ c. is_stale g K c ≡ false) (open_ones X)) (sym whole)
-        (closes_clear (is_stale g K) close.Timeout (filter (is_stale g K) (open_ones K)) (after F (after E K))
-        (all_open (Among (λ c. c) (is_stale g K) (filter (is_stale g K) (open_ones K))) F (after E K) (probes_calm g (filter (is_evasive g K) (lives K)) K)
-        (all_open (Among (λ c. c) (is_stale g K) (filter (is_stale g K) (open_ones K))) E K (ends_calm g cause.Expired (filter (is_silent g g.expired K) (lives K)))
+        (closes_clear (is_stale g K) close.Timeout (filter (is_stale g K) (open_ones K)) (after (F g K) (after (E g K) K))
+        (all_open (Among (λ c. c) (is_stale g K) (filter (is_stale g K) (open_ones K))) (F g K) (after (E g K) K) (probes_tick g (filter (is_evasive g K) (lives K)) K)
+        (all_open (Among (λ c. c) (is_stale g K) (filter (is_stale g K) (open_ones K))) (E g K) K (ends_tick cause.Expired (filter (is_silent g g.expired K) (lives K)))
         (all_among (λ c. c) (is_stale g K) (open_ones K)))))
 
     clean : IsClean g H
     clean = record {
       none_silent = All-map (λ (v : Life). is_silent g g.expired K v ≡ false) (λ (v : Life). is_silent g g.expired H v ≡ false) (λ v e. as_before v ∙ e) (lives H) loud;
-      none_stale = All-map (λ c. is_stale g K c ≡ false) (λ c. is_stale g H c ≡ false) (λ c e. not_stale c H (all_fresh c (at_tick g K) K calm (fresh_of c K e))) (open_ones H) kept;
+      none_stale = All-map (λ c. is_stale g K c ≡ false) (λ c. is_stale g H c ≡ false) (λ c e. not_stale c H (all_fresh c (at_tick g K) K (all_tick g K) (fresh_of c K e))) (open_ones H) kept;
     }
 
   pub cleans_up : (J : List Entry) (e : Entry) → e.input ≡ input.Tick → IsClean g (chronicle g (J ++ e ∷ []))

@@ -35,9 +35,10 @@ use Rattle.zre_journal.specs.LinkEntries.{cause_by_reply, at_linked, end_by, ans
 use Rattle.zre_journal.specs.Links.{groups, status, line, is_linked, replies, newly_pinged, unsent}
 use Rattle.zre_journal.specs.Peers.{Life, lives, life, life_of, is_entered, counted}
 use Rattle.zre_journal.specs.Pushes.{push, push_all}
-use Rattle.zre_journal.specs.Ticks.{is_silent, is_evasive, is_stale, probe, at_tick}
+use Rattle.zre_journal.specs.Ticks.{is_silent, is_evasive, is_stale, at_tick}
 use Rattle.zre_journal.proofs.Listed.{All-join}
 use Rattle.zre_journal.proofs.Steps.{choice}
+use Rattle.zre_journal.proofs.Ticking.{E, F, C}
 
 -- whether an entry is a tick, which connection it has octets of, and whether it says that octets of a link went out
 pub record Kind : Type 0 where
@@ -118,18 +119,9 @@ module _ (g : Config) (t : Kind) where
     mild_reply l (Some v) H = either t (is_linked l K) _ _ (mild_answers l (newly_pinged l H K) (reply_fault (replies l K))) tt
 
     mild_tick : t.ticks ≡ true → AreMild t (at_tick g K)
-    mild_tick is = All-join (Mild t) (E ++ F ++ C) _ (All-join (Mild t) (E ++ F) C (All-join (Mild t) E F (mild_map t (λ (v : Life). Ends v.link cause.Expired) (λ v. is) (filter (is_silent g g.expired K) (lives K)))
+    mild_tick is = All-join (Mild t) (E g K ++ F g K ++ C g K) _ (All-join (Mild t) (E g K ++ F g K) (C g K) (All-join (Mild t) (E g K) (F g K) (mild_map t (λ (v : Life). Ends v.link cause.Expired) (λ v. is) (filter (is_silent g g.expired K) (lives K)))
         (mild_turns t (λ (v : Life) J. IsEvasive v.link ∷ push g v.link body.Ping J) (λ v J. (is, mild_push v.link body.Ping J)) (filter (is_evasive g K) (lives K)) K))
         (mild_map t (λ c. Closes c close.Timeout) (λ c. tt) (filter (is_stale g K) (open_ones K)))) (tt, tt)
-      where
-        E : List Mark
-        E = map (λ (v : Life). Ends v.link cause.Expired) (filter (is_silent g g.expired K) (lives K))
-
-        F : List Mark
-        F = probe g (filter (is_evasive g K) (lives K)) K
-
-        C : List Mark
-        C = map (λ c. Closes c close.Timeout) (filter (is_stale g K) (open_ones K))
 
     mild_stop : AreMild t (at_stop g K)
     mild_stop = All-join (Mild t) (map (λ (v : Life). Ends v.link cause.Stop) (lives K) ++ map (λ c. ClosesAtStop c) (open_ones K)) _

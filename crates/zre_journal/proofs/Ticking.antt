@@ -7,6 +7,7 @@ use Rattle.zre_peer.specs.Views.{view_of}
 use Rattle.zre_msg.specs.declared.message.Body.TheVariants as body
 use Rattle.zre_peer.specs.declared.causes.Cause.{Cause}
 use Rattle.zre_peer.specs.declared.causes.Cause.TheVariants as cause
+use Rattle.zre_peer.specs.declared.causes.CloseWhy.{CloseWhy}
 use Rattle.zre_peer.specs.declared.causes.CloseWhy.TheVariants as close
 use Rattle.zre_peer.specs.declared.event.Event.TheVariants as event
 use Rattle.zre_values.specs.declared.settings.Settings.{Settings as Config}
@@ -36,21 +37,21 @@ Ticks _ = ⊥
 abbrev pub AreTicks : List Mark → Type 0
 AreTicks hs = AllByRecursion Ticks hs
 
+pub probes_tick : (g : Config) (vs : List Life) (I : List Mark) → AreTicks (probe g vs I)
+probes_tick g [] I = tt
+probes_tick g (v ∷ vs) I =
+    let p = push g v.link body.Ping I in
+    (tt, All-join Ticks p (probe g vs (after p (IsEvasive v.link ∷ I))) (all_push Ticks (λ l why. tt) (λ c why. tt) (λ l b. tt) g v.link body.Ping I) (probes_tick g vs (after p (IsEvasive v.link ∷ I))))
+
+pub ends_tick : (why : Cause) (vs : List Life) → AreTicks (map (λ (v : Life). Ends v.link why) vs)
+ends_tick why [] = tt
+ends_tick why (v ∷ vs) = (tt, ends_tick why vs)
+
+pub closes_tick : (why : CloseWhy) (cs : List ℕ) → AreTicks (map (λ c. Closes c why) cs)
+closes_tick why [] = tt
+closes_tick why (c ∷ cs) = (tt, closes_tick why cs)
+
 module _ (g : Config) (K : List Mark) where
-  probes_tick : (vs : List Life) (I : List Mark) → AreTicks (probe g vs I)
-  probes_tick [] I = tt
-  probes_tick (v ∷ vs) I =
-      let p = push g v.link body.Ping I in
-      (tt, All-join Ticks p (probe g vs (after p (IsEvasive v.link ∷ I))) (all_push Ticks (λ l why. tt) (λ c why. tt) (λ l b. tt) g v.link body.Ping I) (probes_tick vs (after p (IsEvasive v.link ∷ I))))
-
-  ends_tick : (vs : List Life) → AreTicks (map (λ (v : Life). Ends v.link cause.Expired) vs)
-  ends_tick [] = tt
-  ends_tick (v ∷ vs) = (tt, ends_tick vs)
-
-  closes_tick : (cs : List ℕ) → AreTicks (map (λ c. Closes c close.Timeout) cs)
-  closes_tick [] = tt
-  closes_tick (c ∷ cs) = (tt, closes_tick cs)
-
   abbrev pub E : List Mark
   E = map (λ (v : Life). Ends v.link cause.Expired) (filter (is_silent g g.expired K) (lives K))
 
@@ -61,8 +62,8 @@ module _ (g : Config) (K : List Mark) where
   C = map (λ c. Closes c close.Timeout) (filter (is_stale g K) (open_ones K))
 
   pub all_tick : AreTicks (at_tick g K)
-  all_tick = All-join Ticks (E ++ F ++ C) (SendsBeacon g.port ∷ []) (All-join Ticks (E ++ F) C (All-join Ticks E F (ends_tick (filter (is_silent g g.expired K) (lives K))) (probes_tick (filter (is_evasive g K) (lives K)) K))
-      (closes_tick (filter (is_stale g K) (open_ones K)))) (tt, tt)
+  all_tick = All-join Ticks (E ++ F ++ C) (SendsBeacon g.port ∷ []) (All-join Ticks (E ++ F) C (All-join Ticks E F (ends_tick cause.Expired (filter (is_silent g g.expired K) (lives K))) (probes_tick g (filter (is_evasive g K) (lives K)) K))
+      (closes_tick close.Timeout (filter (is_stale g K) (open_ones K)))) (tt, tt)
 
 -- ---- who is gone
 
