@@ -36,34 +36,28 @@ use Rattle.zre_journal.specs.Links.{line, unsent}
 use Rattle.zre_journal.specs.Peers.{Life, lives, life, life_of, births, counted}
 use Rattle.zre_journal.specs.Proper.{IsProper}
 use Rattle.zre_journal.specs.Pushes.{push}
-use Rattle.zre_journal.proofs.Brings.{all_brought}
-use Rattle.zre_journal.proofs.Brought.{Ground, allowed}
-use Rattle.zre_journal.proofs.Isolation.{identity_kept, left_alone, itself_kept}
+use Rattle.zre_journal.proofs.Isolation.{identity_kept, left_alone, itself_kept, IsOf, each_place}
 use Rattle.zre_journal.proofs.Joined.{after-append}
 use Rattle.zre_journal.proofs.Known.{known_of, same_id, id_of, newborn_known}
 use Rattle.zre_journal.proofs.Listed.{eqb-comm, found_passes, some_is, any_left, none_any}
-use Rattle.zre_journal.proofs.Says.{place_outcome, input_allowed}
+use Rattle.zre_journal.proofs.Says.{input_allowed}
 use Rattle.zre_journal.proofs.Sayings.{MaySay, newly_fine}
 use Rattle.zre_journal.proofs.Silent.{has_started, run_is}
-use Rattle.zre_journal.proofs.Steps.{Each, Allowed, both, choice, steps}
+use Rattle.zre_journal.proofs.Steps.{Each, Allowed, both, choice}
 use Rattle.zre_journal.proofs.Always.{comes_proper}
 
 module _ (g : Config) (c : ℕ) (who : Option PeerId) where
   abbrev Done : List Mark → List Mark → Type 0
   Done hs X = Each (IsDoneOn c who) hs X
 
-  -- d has this identity, where it has one
-  abbrev Is : ℕ → List Mark → Type 0
-  Is d X = (r : PeerId) → identity d X ≡ Some r → who ≡ Some r
-
   module _ (J : List Mark) (q : IsProper J) where
-    own_run : (d k : ℕ) → Is d J → runs d J ≡ Some k → IsLinkOf who k J
+    own_run : (d k : ℕ) → IsOf who d J → runs d J ≡ Some k → IsLinkOf who k J
     own_run d k its run =
         let s = has_started J q d k run in
         let v = some_is (life k J) (q.running.in_life d k s.0 s.1) in
         record { peer = v.0; is_known = v.1; is_its_own = its v.0.id (q.running.is_its_own d k v.0 (run_is J q d k run) s.1 v.1) }
 
-    done_run : (d : ℕ) (why : Cause) → Is d J → Done (end_of_run g (runs d J) why) J
+    done_run : (d : ℕ) (why : Cause) → IsOf who d J → Done (end_of_run g (runs d J) why) J
     done_run d why its = by (runs d J) refl
       where
         by : (r : Option ℕ) → runs d J ≡ r → Done (end_of_run g r why) J
@@ -71,7 +65,7 @@ module _ (g : Config) (c : ℕ) (who : Option PeerId) where
         by (Some k) e = (own_run d k its e, tt)
 
     -- a mark after the end of a run
-    after_run : (d : ℕ) (why : Cause) (h : Mark) → Is d J → IsDoneOn c who h J → ((k : ℕ) → IsDoneOn c who h (Ends k why ∷ J)) → Done (end_of_run g (runs d J) why ++ h ∷ []) J
+    after_run : (d : ℕ) (why : Cause) (h : Mark) → IsOf who d J → IsDoneOn c who h J → ((k : ℕ) → IsDoneOn c who h (Ends k why ∷ J)) → Done (end_of_run g (runs d J) why ++ h ∷ []) J
     after_run d why h its a b = by (runs d J) refl
       where
         by : (r : Option ℕ) → runs d J ≡ r → Done (end_of_run g r why ++ h ∷ []) J
@@ -98,7 +92,7 @@ module _ (g : Config) (c : ℕ) (who : Option PeerId) where
             far : d ≢ c
             far z = true≢false (sym parts.0 ∙ ap not (eq-eqb c d (sym z)))
 
-            its : Is d J
+            its : IsOf who d J
             its i z = mine ∙ (sym theirs ∙ z)
 
     done_push : (k : ℕ) (b : Body) (X : List Mark) → IsLinkOf who k X → Done (push g k b X) X
@@ -115,7 +109,7 @@ module _ (g : Config) (c : ℕ) (who : Option PeerId) where
     done_later k m own = choice (λ hs. Done hs J) (is_hello m.body) _ _ (λ z. (own, tt)) (λ z. choice (λ hs. Done hs J) (not (eqb m.sequence (due (counted k J)))) _ _ (λ y. (own, tt))
         (λ y. choice (λ hs. Done hs J) (not (is_small (view_of (counted k J ++ m ∷ [])))) _ _ (λ x. (own, tt)) (λ x. ((refl, own), done_answer k m m.body own))))
 
-    done_first : (m : Message) → Is c J → Done (at_first g c (identity c J) m J) J
+    done_first : (m : Message) → IsOf who c J → Done (at_first g c (identity c J) m J) J
     done_first m its = by (identity c J) refl
       where
         by : (u : Option PeerId) → identity c J ≡ u → Done (at_first g c u m J) J
@@ -137,7 +131,7 @@ module _ (g : Config) (c : ℕ) (who : Option PeerId) where
             starts (Some w) z = ((refl, record { peer = w; is_known = known_of J q r w z; is_its_own = mine ∙ ap (λ (i : PeerId). Some i) (sym (id_of J r w z)) }), tt)
             starts None z = unknown (endpoint_in (view_of (m ∷ [])).endpoint)
 
-    done_message : (m : Message) → Is c J → Done (at_message g c (runs c J) m J) J
+    done_message : (m : Message) → IsOf who c J → Done (at_message g c (runs c J) m J) J
     done_message m its = by (runs c J) refl
       where
         by : (u : Option ℕ) → runs c J ≡ u → Done (at_message g c u m J) J
@@ -145,54 +139,37 @@ module _ (g : Config) (c : ℕ) (who : Option PeerId) where
         by (Some k) e = done_later k m (own_run c k its e)
 
     -- c has this identity after its READY
-    done_shaken : (r : PeerId) (u : Option PeerId) → identity c J ≡ u → Is c (after (at_shaken g c r u J) J) → Done (at_shaken g c r u J) J
+    done_shaken : (r : PeerId) (u : Option PeerId) → identity c J ≡ u → IsOf who c (after (at_shaken g c r u J) J) → Done (at_shaken g c r u J) J
     done_shaken r (Some i) e its = tt
     done_shaken r None e its = both (IsDoneOn c who) (taken_over g (other_with r c J) J) (Shakes c r ∷ []) J (done_taken r (its r now)) ((refl, its r now), tt)
       where
         now : identity c (after (taken_over g (other_with r c J) J ++ Shakes c r ∷ []) J) ≡ Some r
         now = ap (identity c) (after-append (taken_over g (other_with r c J) J) (Shakes c r ∷ []) J) ∙ (let me : eqb c c ≡ true = eq-eqb c c refl in rw me refl)
 
-    done_said : (one : Said) → Is c J → Is c (after (at_said g c one J) J) → Done (at_said g c one J) J
+    done_said : (one : Said) → IsOf who c J → IsOf who c (after (at_said g c one J) J) → Done (at_said g c one J) J
     done_said (Arrived arrival.Greeted) its then_ = (refl, tt)
     done_said (Arrived (arrival.Shaken r)) its then_ = done_shaken r (identity c J) refl then_
     done_said (Arrived (arrival.Ping t)) its then_ = (refl, tt)
     done_said (Arrived (arrival.Message m)) its then_ = done_message m its
     done_said (Fault f) its then_ = after_run c cause.Fault (Closes c (close.Zmtp f)) its refl (λ k. refl)
 
-    done_place : (one : Said) → Is c J → Is c (after (at_place g c one J) J) → Done (at_place g c one J) J
+    done_place : (one : Said) → IsOf who c J → IsOf who c (after (at_place g c one J) J) → Done (at_place g c one J) J
     done_place one its then_ = by (is_live c J) then_
       where
-        by : (b : Bool) → Is c (after (cond b (at_said g c one J) []) J) → Done (cond b (at_said g c one J) []) J
+        by : (b : Bool) → IsOf who c (after (cond b (at_said g c one J) []) J) → Done (cond b (at_said g c one J) []) J
         by true t = done_said one its t
         by false t = tt
 
-  abbrev w : Ground
-  w = record { of = λ d. true; stops = false }
-
-  rest_allowed : (xs : List Said) → AllByRecursion (MaySay g.id) xs → (X : List Mark) → IsProper X → Allowed (at_places g c xs X) X
-  rest_allowed [] t X x = tt
-  rest_allowed (y ∷ ys) t X x = let hs = at_place g c y X in let m = allowed g w true hs X (all_brought (place_outcome g w c refl y t.0 X x)) in
-      both _ hs (at_places g c ys (after hs X)) X m (rest_allowed ys t.1 (after hs X) (steps hs X x m))
-
-  done_places : (all : List Said) → AllByRecursion (MaySay g.id) all → (J : List Mark) → IsProper J → Is c (after (at_places g c all J) J) → Done (at_places g c all J) J
-  done_places [] s J q its = tt
-  done_places (one ∷ all) s J q its =
-      let hs = at_place g c one J in
-      let a = allowed g w true hs J (all_brought (place_outcome g w c refl one s.0 J q)) in
-      let r = steps hs J q a in
-      let rest = at_places g c all (after hs J) in
-      let b = rest_allowed all s.1 (after hs J) r in
-      let its_then : Is c (after hs J) = λ i z. its i (ap (identity c) (after-append hs rest J) ∙ identity_kept c i rest (after hs J) b z) in
-      both (IsDoneOn c who) hs rest J (done_place J q one (λ i z. its_then i (identity_kept c i hs J a z)) its_then)
-      (done_places all s.1 (after hs J) r (λ i z. its i (ap (identity c) (after-append hs rest J) ∙ z)))
+  done_places : (all : List Said) → AllByRecursion (MaySay g.id) all → (J : List Mark) → IsProper J → IsOf who c (after (at_places g c all J) J) → Done (at_places g c all J) J
+  done_places all s J q its = each_place g c who (λ X. Unit {0}) Done (λ X. tt) (λ hs ks X x y. both (IsDoneOn c who) hs ks X x y) (λ hs X x z. tt) (λ X r u one. done_place X r one) all s J q tt its
 
   -- ---- at an entry about c
 
   module _ (H K : List Mark) (q : IsProper K) where
-    done_input : (i : Input) → is_about c i ≡ true → Is c (after (at_input g i H K) K) → Done (at_input g i H K) K
+    done_input : (i : Input) → is_about c i ≡ true → IsOf who c (after (at_input g i H K) K) → Done (at_input g i H K) K
     done_input (input.Opened d) e its = let same : d ≡ c = sym (eqb-true c d e) in choice (λ hs. Done hs K) (is_new d K) _ _ (λ z. choice (λ hs. Done hs K) (ltb (length (open_ones K)) CONNECTIONS) _ _ (λ y. (same, tt)) (λ y. (same, tt))) (λ z. tt)
     done_input (input.Piece d octets) e its =
-        subst (λ n. Is c (after (at_places g n (newly_completed g.id n H K) K) K) → Done (at_places g n (newly_completed g.id n H K) K) K) (eqb-true c d e)
+        subst (λ n. IsOf who c (after (at_places g n (newly_completed g.id n H K) K) K) → Done (at_places g n (newly_completed g.id n H K) K) K) (eqb-true c d e)
         (λ t. done_places (newly_completed g.id c H K) (newly_fine g.id c H K) K q t) its
     done_input (input.Shut d) e its = choice (λ hs. Done hs K) (is_open d K) _ _
         (λ z. let same : d ≡ c = sym (eqb-true c d e) in after_run K q d cause.Shut (IsShut d) (λ r y. its r (identity_kept c r (at_input g (input.Shut d) H K) K (input_allowed g (input.Shut d) H K q) (ap (λ n. identity n K) (sym same) ∙ y))) same (λ k. same)) (λ z. tt)

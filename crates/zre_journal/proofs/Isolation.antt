@@ -55,13 +55,40 @@ pub identity_kept : (c : ℕ) (p : PeerId) (hs H : List Mark) → Allowed hs H �
 identity_kept c p [] H a e = e
 identity_kept c p (h ∷ hs) H a e = identity_kept c p hs (h ∷ H) a.1 (identity_on c p h H a.0 e)
 
+-- ---- all that octets of a connection say
+
+-- d has this identity, where it has one
+abbrev pub IsOf : Option PeerId → ℕ → List Mark → Type 0
+IsOf who d J = (r : PeerId) → identity d J ≡ Some r → who ≡ Some r
+
+module _ (g : Config) (c : ℕ) (who : Option PeerId) where
+  abbrev w : Ground
+  w = record { of = λ d. true; stops = false }
+
+  all_allowed : (xs : List Said) → AllByRecursion (MaySay g.id) xs → (X : List Mark) → IsProper X → Allowed (at_places g c xs X) X
+  all_allowed [] t X x = tt
+  all_allowed (y ∷ ys) t X x = let m = allowed g w true (at_place g c y X) X (all_brought (place_outcome g w c refl y t.0 X x)) in
+      both May (at_place g c y X) (at_places g c ys (after (at_place g c y X) X)) X m (all_allowed ys t.1 (after (at_place g c y X) X) (steps (at_place g c y X) X x m))
+
+  -- what is so of the marks of each place is so of all, where c has this identity at the end; P is so at each moment
+  module _ (P : List Mark → Type 0) (Q : List Mark → List Mark → Type 0) (none : (J : List Mark) → Q [] J) (joined : (hs ks J : List Mark) → Q hs J → Q ks (after hs J) → Q (hs ++ ks) J)
+      (kept : (hs J : List Mark) → Q hs J → P J → P (after hs J))
+      (place : (J : List Mark) → IsProper J → P J → (one : Said) → IsOf who c J → IsOf who c (after (at_place g c one J) J) → Q (at_place g c one J) J) where
+    pub each_place : (all : List Said) → AllByRecursion (MaySay g.id) all → (J : List Mark) → IsProper J → P J → IsOf who c (after (at_places g c all J) J) → Q (at_places g c all J) J
+    each_place [] s J q is its = none J
+    each_place (one ∷ all) s J q is its =
+        let hs = at_place g c one J in
+        let a = allowed g w true hs J (all_brought (place_outcome g w c refl one s.0 J q)) in
+        let r = steps hs J q a in
+        let rest = at_places g c all (after hs J) in
+        let b = all_allowed all s.1 (after hs J) r in
+        let its_then : IsOf who c (after hs J) = λ i z. its i (ap (identity c) (after-append hs rest J) ∙ identity_kept c i rest (after hs J) b z) in
+        let here = place J q is one (λ i z. its_then i (identity_kept c i hs J a z)) its_then in
+        joined hs rest J here (each_place all s.1 (after hs J) r (kept hs J here is) (λ i z. its i (ap (identity c) (after-append hs rest J) ∙ z)))
+
 -- ---- the marks of a connection that isn't that of p
 
 module _ (g : Config) (p : PeerId) (who : Option PeerId) (another : who ≡ Some p → ⊥) (o : Option Life) where
-  -- d has this identity, where it has one
-  abbrev Is : ℕ → List Mark → Type 0
-  Is d J = (r : PeerId) → identity d J ≡ Some r → who ≡ Some r
-
   other_of : (r : PeerId) → who ≡ Some r → bytes_eq p.0 r.0 ≡ false
   other_of r e = by (bytes_eq p.0 r.0) refl
     where
@@ -71,7 +98,7 @@ module _ (g : Config) (p : PeerId) (who : Option PeerId) (another : who ≡ Some
 
   module _ (J : List Mark) (q : IsProper J) (is : life_of p J ≡ o) where
     -- what one of this identity runs is another peer
-    off_run : (d k : ℕ) → Is d J → runs d J ≡ Some k → IsOff o k
+    off_run : (d k : ℕ) → IsOf who d J → runs d J ≡ Some k → IsOff o k
     off_run d k its run = by o is
       where
         by : (u : Option Life) → life_of p J ≡ u → IsOff u k
@@ -107,7 +134,7 @@ module _ (g : Config) (p : PeerId) (who : Option PeerId) (another : who ≡ Some
                 let ids : p ≡ r = sym (id_of J p v z) ∙ ap (λ (x : Life). x.id) both ∙ id_of J r w e in
                 sym (bytes_eq-same p.0 r.0 (ap (λ (i : PeerId). i.0) ids)) ∙ far
 
-    spared_run : (d : ℕ) (why : Cause) → Is d J → AreSpared p o (end_of_run g (runs d J) why)
+    spared_run : (d : ℕ) (why : Cause) → IsOf who d J → AreSpared p o (end_of_run g (runs d J) why)
     spared_run d why its = by (runs d J) refl
       where
         by : (r : Option ℕ) → runs d J ≡ r → AreSpared p o (end_of_run g r why)
@@ -124,7 +151,7 @@ module _ (g : Config) (p : PeerId) (who : Option PeerId) (another : who ≡ Some
             alike : is_same r (identity d J) ≡ true
             alike = (and_parts (not (eqb c d)) (is_same r (identity d J)) (found_passes (λ x. not (eqb c x) && is_same r (identity x J)) (open_ones J) d e)).1
 
-            its : Is d J
+            its : IsOf who d J
             its i z = mine ∙ ap (λ (x : PeerId). Some x) (sym (same_id r i (sym (ap (is_same r) z) ∙ alike)))
 
     spared_push : (k : ℕ) (b : Body) (X : List Mark) → IsOff o k → AreSpared p o (push g k b X)
@@ -138,7 +165,7 @@ module _ (g : Config) (p : PeerId) (who : Option PeerId) (another : who ≡ Some
     spared_later c k m f = choice (AreSpared p o) (is_hello m.body) _ _ (λ z. (f, tt)) (λ z. choice (AreSpared p o) (not (eqb m.sequence (due (counted k J)))) _ _ (λ y. (f, tt))
         (λ y. choice (AreSpared p o) (not (is_small (view_of (counted k J ++ m ∷ [])))) _ _ (λ x. (f, tt)) (λ x. (f, spared_answer k m.body f))))
 
-    spared_first : (c : ℕ) (m : Message) → Is c J → AreSpared p o (at_first g c (identity c J) m J)
+    spared_first : (c : ℕ) (m : Message) → IsOf who c J → AreSpared p o (at_first g c (identity c J) m J)
     spared_first c m its = by (identity c J) refl
       where
         by : (u : Option PeerId) → identity c J ≡ u → AreSpared p o (at_first g c u m J)
@@ -156,7 +183,7 @@ module _ (g : Config) (p : PeerId) (who : Option PeerId) (another : who ≡ Some
             starts (Some w) z = (off_known r w far z, tt)
             starts None z = unknown (endpoint_in (view_of (m ∷ [])).endpoint)
 
-    spared_message : (c : ℕ) (m : Message) → Is c J → AreSpared p o (at_message g c (runs c J) m J)
+    spared_message : (c : ℕ) (m : Message) → IsOf who c J → AreSpared p o (at_message g c (runs c J) m J)
     spared_message c m its = by (runs c J) refl
       where
         by : (u : Option ℕ) → runs c J ≡ u → AreSpared p o (at_message g c u m J)
@@ -164,54 +191,36 @@ module _ (g : Config) (p : PeerId) (who : Option PeerId) (another : who ≡ Some
         by (Some k) e = spared_later c k m (off_run c k its e)
 
     -- c has this identity after its READY
-    spared_shaken : (c : ℕ) (r : PeerId) (u : Option PeerId) → identity c J ≡ u → Is c (after (at_shaken g c r u J) J) → AreSpared p o (at_shaken g c r u J)
+    spared_shaken : (c : ℕ) (r : PeerId) (u : Option PeerId) → identity c J ≡ u → IsOf who c (after (at_shaken g c r u J) J) → AreSpared p o (at_shaken g c r u J)
     spared_shaken c r (Some i) e its = tt
     spared_shaken c r None e its = All-join (Spares p o) (taken_over g (other_with r c J) J) _ (spared_taken r c (its r now)) (tt, tt)
       where
         now : identity c (after (taken_over g (other_with r c J) J ++ Shakes c r ∷ []) J) ≡ Some r
         now = ap (identity c) (after-append (taken_over g (other_with r c J) J) (Shakes c r ∷ []) J) ∙ (let me : eqb c c ≡ true = eq-eqb c c refl in rw me refl)
 
-    spared_said : (c : ℕ) (one : Said) → Is c J → Is c (after (at_said g c one J) J) → AreSpared p o (at_said g c one J)
+    spared_said : (c : ℕ) (one : Said) → IsOf who c J → IsOf who c (after (at_said g c one J) J) → AreSpared p o (at_said g c one J)
     spared_said c (Arrived arrival.Greeted) its then_ = (tt, tt)
     spared_said c (Arrived (arrival.Shaken r)) its then_ = spared_shaken c r (identity c J) refl then_
     spared_said c (Arrived (arrival.Ping t)) its then_ = (tt, tt)
     spared_said c (Arrived (arrival.Message m)) its then_ = spared_message c m its
     spared_said c (Fault f) its then_ = All-join (Spares p o) (end_of_run g (runs c J) cause.Fault) _ (spared_run c cause.Fault its) (tt, tt)
 
-    spared_place : (c : ℕ) (one : Said) → Is c J → Is c (after (at_place g c one J) J) → AreSpared p o (at_place g c one J)
+    spared_place : (c : ℕ) (one : Said) → IsOf who c J → IsOf who c (after (at_place g c one J) J) → AreSpared p o (at_place g c one J)
     spared_place c one its then_ = by (is_live c J) refl then_
       where
-        by : (b : Bool) → is_live c J ≡ b → Is c (after (cond b (at_said g c one J) []) J) → AreSpared p o (cond b (at_said g c one J) [])
+        by : (b : Bool) → is_live c J ≡ b → IsOf who c (after (cond b (at_said g c one J) []) J) → AreSpared p o (cond b (at_said g c one J) [])
         by true z t = spared_said c one its t
         by false z t = tt
 
-  module _ (c : ℕ) where
-    abbrev w : Ground
-    w = record { of = λ d. true; stops = false }
-
-    spared_places : (all : List Said) → AllByRecursion (MaySay g.id) all → (J : List Mark) → IsProper J → life_of p J ≡ o → Is c (after (at_places g c all J) J) → AreSpared p o (at_places g c all J)
-    spared_places [] s J q is its = tt
-    spared_places (one ∷ all) s J q is its =
-        let hs = at_place g c one J in
-        let a = allowed g w true hs J (all_brought (place_outcome g w c refl one s.0 J q)) in
-        let r = steps hs J q a in
-        let rest = at_places g c all (after hs J) in
-        let b = rest_allowed all s.1 (after hs J) r in
-        let its_then : Is c (after hs J) = λ i z. its i (ap (identity c) (after-append hs rest J) ∙ identity_kept c i rest (after hs J) b z) in
-        let here = spared_place J q is c one (λ i z. its_then i (identity_kept c i hs J a z)) its_then in
-        All-join (Spares p o) hs rest here (spared_places all s.1 (after hs J) r (lives_left p o hs J here is) (λ i z. its i (ap (identity c) (after-append hs rest J) ∙ z)))
-      where
-        rest_allowed : (xs : List Said) → AllByRecursion (MaySay g.id) xs → (X : List Mark) → IsProper X → Allowed (at_places g c xs X) X
-        rest_allowed [] t X x = tt
-        rest_allowed (y ∷ ys) t X x = let m = allowed g w true (at_place g c y X) X (all_brought (place_outcome g w c refl y t.0 X x)) in
-            both May (at_place g c y X) (at_places g c ys (after (at_place g c y X) X)) X m (rest_allowed ys t.1 (after (at_place g c y X) X) (steps (at_place g c y X) X x m))
+  spared_places : (c : ℕ) (all : List Said) → AllByRecursion (MaySay g.id) all → (J : List Mark) → IsProper J → life_of p J ≡ o → IsOf who c (after (at_places g c all J) J) → AreSpared p o (at_places g c all J)
+  spared_places c = each_place g c who (λ J. life_of p J ≡ o) (λ hs J. AreSpared p o hs) (λ J. tt) (λ hs ks J x y. All-join (Spares p o) hs ks x y) (λ hs J x z. lives_left p o hs J x z) (λ J q is one. spared_place J q is c one)
 
   -- ---- at an entry about c
 
   module _ (H K : List Mark) (q : IsProper K) (is : life_of p K ≡ o) where
-    spared_input : (c : ℕ) (i : Input) → is_about c i ≡ true → Is c (after (at_input g i H K) K) → AreSpared p o (at_input g i H K)
+    spared_input : (c : ℕ) (i : Input) → is_about c i ≡ true → IsOf who c (after (at_input g i H K) K) → AreSpared p o (at_input g i H K)
     spared_input c (input.Opened d) e its = choice (AreSpared p o) (is_new d K) _ _ (λ z. choice (AreSpared p o) (ltb (length (open_ones K)) CONNECTIONS) _ _ (λ y. (tt, tt)) (λ y. (tt, tt))) (λ z. tt)
-    spared_input c (input.Piece d octets) e its = spared_places d (newly_completed g.id d H K) (newly_fine g.id d H K) K q is (subst (λ n. Is n (after (at_input g (input.Piece d octets) H K) K)) (eqb-true c d e) its)
+    spared_input c (input.Piece d octets) e its = spared_places d (newly_completed g.id d H K) (newly_fine g.id d H K) K q is (subst (λ n. IsOf who n (after (at_input g (input.Piece d octets) H K) K)) (eqb-true c d e) its)
     spared_input c (input.Shut d) e its = choice (AreSpared p o) (is_open d K) _ _
         (λ z. All-join (Spares p o) (end_of_run g (runs d K) cause.Shut) _ (spared_run K q is d cause.Shut (λ r y. its r (identity_kept c r (at_input g (input.Shut d) H K) K (input_allowed g (input.Shut d) H K q) (ap (λ n. identity n K) (eqb-true c d e) ∙ y)))) (tt, tt)) (λ z. tt)
     spared_input c (input.Datagram from x) e its = let z : true ≡ false = sym e in cc
