@@ -45,6 +45,7 @@ use Rattle.zre_journal.proofs.Sayings.{MaySay, newly_fine}
 use Rattle.zre_journal.proofs.Silent.{has_started, run_is}
 use Rattle.zre_journal.proofs.Steps.{Each, Allowed, both, choice}
 use Rattle.zre_journal.proofs.Always.{comes_proper}
+use Rattle.zre_journal.proofs.Spared.{Itself}
 
 module _ (g : Config) (c : ℕ) (who : Option PeerId) where
   abbrev Done : List Mark → List Mark → Type 0
@@ -346,7 +347,7 @@ isolates g J = record {
   peers = λ earlier e later c p in_journal about far. left_alone g earlier e c about p far;
   conns = λ earlier e later c d in_journal about other apart. left_conn g earlier e c about d other apart;
   takes_over = λ earlier e later c d p in_journal about other none some there. gave_way g earlier e c about d p other none some there;
-  itself = λ earlier e later c in_journal about. let k = itself_kept g earlier e c about in (k.own_groups, k.own_status, k.stopped);
+  itself = λ earlier e later c in_journal about. let k = itself_kept g earlier e c about in (ap (λ (x : Itself). x.0) k, ap (λ (x : Itself). x.1) k, ap (λ (x : Itself). x.2) k);
   does = λ earlier e later c front rest h in_journal about is.
       each_at g c (identity c (with_entry g e (chronicle g earlier))) front rest h (Comes e ∷ chronicle g earlier) (subst (λ hs. Each (IsDoneOn c (identity c (with_entry g e (chronicle g earlier)))) hs (Comes e ∷ chronicle g earlier)) is (all_done g earlier e c about));
   clock_is = λ earlier e later c in_journal about. clock_left g c (identity c (with_entry g e (chronicle g earlier))) (marks g e (chronicle g earlier)) (Comes e ∷ chronicle g earlier) (all_done g earlier e c about);

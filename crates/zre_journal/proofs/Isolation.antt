@@ -29,7 +29,7 @@ use Rattle.zre_journal.specs.Events.{chronicle, events_at}
 use Rattle.zre_journal.specs.Happens.{has_stopped, at_input, with_entry}
 use Rattle.zre_journal.specs.Heard.{newly_completed}
 use Rattle.zre_journal.specs.Isolation.{is_about, IsAsBefore, IsLeftAlone}
-use Rattle.zre_journal.specs.Links.{line, is_linked, replies, unsent}
+use Rattle.zre_journal.specs.Links.{line, is_linked, replies, unsent, taken}
 use Rattle.zre_journal.specs.Peers.{Life, lives, life, life_of, births, counted}
 use Rattle.zre_journal.specs.Proper.{IsProper}
 use Rattle.zre_journal.specs.Pushes.{push}
@@ -45,7 +45,7 @@ use Rattle.zre_journal.proofs.Says.{place_outcome, input_allowed}
 use Rattle.zre_journal.proofs.Sayings.{MaySay, newly_fine}
 use Rattle.zre_journal.proofs.Silent.{known_lives, has_started, run_is}
 use Rattle.zre_journal.proofs.Steps.{May, Allowed, steps, both, choice}
-use Rattle.zre_journal.proofs.Spared.{IsOff, Spares, AreSpared, IsSame, then_same, marks_left, lives_left, Itself, itself_marks, none_told}
+use Rattle.zre_journal.proofs.Spared.{IsOff, Spares, AreSpared, marks_left, lives_left, itself_marks, none_told, Asked, asked_with, asked, itself}
 use Rattle.zre_journal.proofs.Always.{comes_proper}
 use Rattle.zre_journal.proofs.Moments.{identity_on}
 
@@ -233,8 +233,8 @@ module _ (g : Config) (p : PeerId) (who : Option PeerId) (another : who ≡ Some
     spared_input c input.End e its = let z : true ≡ false = sym e in cc
 
 -- no replies come with such an entry
-no_reply : (c l : ℕ) (e : Entry) (H : List Mark) → is_about c e.input ≡ true → IsSame l H (Comes e ∷ H)
-no_reply c l e H a = record { run = refl; messages = refl; activity = refl; put = refl; linked = refl; replied = by e.input a; gone = refl }
+no_reply : (c l : ℕ) (e : Entry) (H : List Mark) → is_about c e.input ≡ true → asked l (Comes e ∷ H) ≡ asked l H
+no_reply c l e H a = ap (asked_with l H) (by e.input a)
   where
     none : (b : Bool) → replies l H ++ cond b [] [] ≡ replies l H
     none true = append-nil (replies l H)
@@ -253,20 +253,25 @@ no_reply c l e H a = record { run = refl; messages = refl; activity = refl; put 
     by (input.Do x) z = let y : true ≡ false = sym z in cc
     by input.End z = let y : true ≡ false = sym z in cc
 
-as_before : (g : Config) (l : ℕ) (H K : List Mark) → IsSame l H K → IsAsBefore g l H K
-as_before g l H K s = record {
-  run = s.run;
-  messages = s.messages;
-  viewed = ap view_of s.messages;
-  activity = s.activity;
-  put = s.put;
-  linked = s.linked;
-  replied = s.replied;
-  gone = s.gone;
-  may_go = rw (s.put, s.linked, s.replied) refl;
-  waits = rw (s.put, s.gone) refl;
-  to_send = rw (s.put, s.linked, s.replied, s.gone) refl;
-}
+as_before : (g : Config) (l : ℕ) (H K : List Mark) → asked l K ≡ asked l H → IsAsBefore g l H K
+as_before g l H K s =
+    let put : line l K ≡ line l H = ap (λ (a : Asked). a.put) s in
+    let linked : is_linked l K ≡ is_linked l H = ap (λ (a : Asked). a.linked) s in
+    let replied : replies l K ≡ replies l H = ap (λ (a : Asked). a.replied) s in
+    let gone : taken l K ≡ taken l H = ap (λ (a : Asked). a.gone) s in
+    record {
+      run = ap (λ (a : Asked). a.run) s;
+      messages = ap (λ (a : Asked). a.messages) s;
+      viewed = ap (λ (a : Asked). view_of a.messages) s;
+      activity = ap (λ (a : Asked). a.activity) s;
+      put = put;
+      linked = linked;
+      replied = replied;
+      gone = gone;
+      may_go = rw (put, linked, replied) refl;
+      waits = rw (put, gone) refl;
+      to_send = rw (put, linked, replied, gone) refl;
+    }
 
 module _ (g : Config) (earlier : List Entry) (e : Entry) (c : ℕ) (about : is_about c e.input ≡ true) where
   abbrev H : List Mark
@@ -282,7 +287,7 @@ module _ (g : Config) (earlier : List Entry) (e : Entry) (c : ℕ) (about : is_a
     going : Then (at_input g e.input H M)
     going far = record {
       same_life = lives_left p (life_of p H) hs M spared refl;
-      same_peer = λ v z. as_before g v.link H (after hs M) (then_same v.link H M (after hs M) (no_reply c v.link e H about) (marks_left p v hs M (subst (λ u. AreSpared p u hs) z spared)));
+      same_peer = λ v z. as_before g v.link H (after hs M) (marks_left p v hs M (subst (λ u. AreSpared p u hs) z spared) ∙ no_reply c v.link e H about);
       none_told = none_told p (life_of p H) hs M (comes_proper g earlier e) (λ l v z. named g earlier l v z) (input_allowed g e.input H M (comes_proper g earlier e)) refl spared;
     }
       where
@@ -299,17 +304,16 @@ module _ (g : Config) (earlier : List Entry) (e : Entry) (c : ℕ) (about : is_a
         by true far = record { same_life = refl; same_peer = λ v z. as_before g v.link H M (no_reply c v.link e H about); none_told = refl }
         by false far = going far
 
-  pub itself_kept : Itself H (with_entry g e H)
+  pub itself_kept : itself (with_entry g e H) ≡ itself H
   itself_kept = by (has_stopped H) refl
     where
       hs : List Mark
       hs = at_input g e.input H M
 
-      by : (b : Bool) → has_stopped H ≡ b → Itself H (after (cond b [] hs) M)
-      by true s = record { own_groups = refl; own_status = refl; stopped = refl }
+      by : (b : Bool) → has_stopped H ≡ b → itself (after (cond b [] hs) M) ≡ itself H
+      by true s = refl
       by false s =
           let whole : chronicle g (earlier ++ e ∷ []) ≡ after hs M = (continues g earlier (e ∷ [])).happened ∙ ap (λ b. after (cond b [] hs) M) s in
           let never : identity c (after hs M) ≡ Some g.id → ⊥ = λ z. (no_peer g (earlier ++ e ∷ [])).never_comes c (ap (identity c) whole ∙ z) in
           let spared = spared_input g g.id (identity c (after hs M)) never (life_of g.id H) H M (comes_proper g earlier e) refl c e.input about (λ r z. z) in
-          let k = itself_marks g.id (life_of g.id H) hs M spared in
-          record { own_groups = k.own_groups; own_status = k.own_status; stopped = k.stopped }
+          itself_marks g.id (life_of g.id H) hs M spared

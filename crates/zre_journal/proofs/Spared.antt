@@ -6,6 +6,7 @@ use Rattle.std.specs.Str.{bytes_eq}
 use Rattle.zre_values.specs.declared.peer_id.PeerId.{PeerId}
 use Rattle.zre_msg.specs.declared.message.Body.{Body}
 use Rattle.zre_msg.specs.declared.message.Body.TheVariants as body
+use Rattle.zre_msg.specs.declared.message.Message.{Message}
 use Rattle.zre_peer.specs.Members.{distinct}
 use Rattle.zre_peer.specs.Runs.{events_of}
 use Rattle.zre_peer.specs.declared.view.View.{View}
@@ -21,6 +22,7 @@ use Rattle.zre_journal.proofs.Few.{AreNamed, named_more, found_kept, none_kept}
 use Rattle.zre_journal.proofs.Known.{same_id}
 use Rattle.zre_journal.proofs.Listed.{found_passes}
 use Rattle.zre_journal.proofs.Steps.{Allowed, step}
+use Rattle.zre_link.specs.Text.{Member}
 
 -- a link that isn't that of this life
 abbrev pub IsOff : Option Life → ℕ → Type 0
@@ -69,86 +71,77 @@ module _ (p : PeerId) (o : Option Life) where
   life_left (Comes x) H s e = absurd s
   life_left _ H s e = e
 
--- what is asked of the link l
-pub record IsSame (l : ℕ) (H K : List Mark) : Type 0 where
-  pub run : runner l K ≡ runner l H
-  pub messages : counted l K ≡ counted l H
-  pub activity : active l K ≡ active l H
-  pub put : line l K ≡ line l H
-  pub linked : is_linked l K ≡ is_linked l H
-  pub replied : replies l K ≡ replies l H
-  pub gone : taken l K ≡ taken l H
+-- what is asked of a link
+pub record Asked : Type 0 where
+  pub run : Option ℕ
+  pub messages : List Message
+  pub activity : ℕ
+  pub put : List Member
+  pub linked : Bool
+  pub replied : List ℕ
+  pub gone : ℕ
 
-same : (l : ℕ) (H : List Mark) → IsSame l H H
-same l H = record { run = refl; messages = refl; activity = refl; put = refl; linked = refl; replied = refl; gone = refl }
+-- that of the link l, with these replies
+abbrev pub asked_with : ℕ → List Mark → List ℕ → Asked
+asked_with l H xs = record { run = runner l H; messages = counted l H; activity = active l H; put = line l H; linked = is_linked l H; replied = xs; gone = taken l H }
 
-pub then_same : (l : ℕ) (H K L : List Mark) → IsSame l H K → IsSame l K L → IsSame l H L
-then_same l H K L a b = record {
-  run = b.run ∙ a.run;
-  messages = b.messages ∙ a.messages;
-  activity = b.activity ∙ a.activity;
-  put = b.put ∙ a.put;
-  linked = b.linked ∙ a.linked;
-  replied = b.replied ∙ a.replied;
-  gone = b.gone ∙ a.gone;
-}
+abbrev pub asked : ℕ → List Mark → Asked
+asked l H = asked_with l H (replies l H)
 
 module _ (p : PeerId) (v : Life) where
   abbrev pub l : ℕ
   l = v.link
 
-  mark_left : (h : Mark) (H : List Mark) → Spares p (Some v) h → IsSame l H (h ∷ H)
-  mark_left (Opens d) H s = record { run = refl; messages = refl; activity = refl; put = refl; linked = refl; replied = refl; gone = refl }
-  mark_left (TurnsAway d) H s = record { run = refl; messages = refl; activity = refl; put = refl; linked = refl; replied = refl; gone = refl }
-  mark_left (Greets d) H s = record { run = refl; messages = refl; activity = refl; put = refl; linked = refl; replied = refl; gone = refl }
-  mark_left (Shakes d r) H s = record { run = refl; messages = refl; activity = refl; put = refl; linked = refl; replied = refl; gone = refl }
-  mark_left (AnswersPing d t) H s = record { run = refl; messages = refl; activity = refl; put = refl; linked = refl; replied = refl; gone = refl }
-  mark_left (Ignores d why) H s = record { run = refl; messages = refl; activity = refl; put = refl; linked = refl; replied = refl; gone = refl }
-  mark_left (Closes d why) H s = record { run = refl; messages = refl; activity = refl; put = refl; linked = refl; replied = refl; gone = refl }
-  mark_left (IsShut d) H s = record { run = refl; messages = refl; activity = refl; put = refl; linked = refl; replied = refl; gone = refl }
-  mark_left (Ends k why) H s = record { run = refl; messages = refl; activity = refl; put = refl; linked = refl; replied = refl; gone = refl }
-  mark_left (Starts d k m) H s = record { run = rw s refl; messages = rw s refl; activity = rw s refl; put = refl; linked = refl; replied = refl; gone = refl }
-  mark_left (Counts d k m) H s = record { run = refl; messages = rw s refl; activity = rw s refl; put = refl; linked = refl; replied = refl; gone = refl }
-  mark_left (Puts k b) H s = record { run = refl; messages = refl; activity = refl; put = rw s refl; linked = refl; replied = refl; gone = refl }
-  mark_left (Born k r to) H s = let far = s.1 in record { run = refl; messages = refl; activity = rw far refl; put = refl; linked = refl; replied = refl; gone = refl }
+  mark_left : (h : Mark) (H : List Mark) → Spares p (Some v) h → asked l (h ∷ H) ≡ asked l H
+  mark_left (Starts d k m) H s = rw s refl
+  mark_left (Counts d k m) H s = rw s refl
+  mark_left (Puts k b) H s = rw s refl
+  mark_left (Born k r to) H s = let far = s.1 in rw far refl
+  mark_left (Opens d) H s = refl
+  mark_left (TurnsAway d) H s = refl
+  mark_left (Greets d) H s = refl
+  mark_left (Shakes d r) H s = refl
+  mark_left (AnswersPing d t) H s = refl
+  mark_left (Ignores d why) H s = refl
+  mark_left (Closes d why) H s = refl
+  mark_left (IsShut d) H s = refl
+  mark_left (Ends k why) H s = refl
   mark_left _ H s = absurd s
 
-  pub marks_left : (hs H : List Mark) → AreSpared p (Some v) hs → IsSame l H (after hs H)
-  marks_left [] H s = same l H
-  marks_left (h ∷ hs) H s = then_same l H (h ∷ H) (after hs (h ∷ H)) (mark_left h H s.0) (marks_left hs (h ∷ H) s.1)
+  pub marks_left : (hs H : List Mark) → AreSpared p (Some v) hs → asked l (after hs H) ≡ asked l H
+  marks_left [] H s = refl
+  marks_left (h ∷ hs) H s = marks_left hs (h ∷ H) s.1 ∙ mark_left h H s.0
 
 pub lives_left : (p : PeerId) (o : Option Life) (hs H : List Mark) → AreSpared p o hs → life_of p H ≡ o → life_of p (after hs H) ≡ o
 lives_left p o [] H s e = e
 lives_left p o (h ∷ hs) H s e = lives_left p o hs (h ∷ H) s.1 (life_left p o h H s.0 e)
 
--- the node itself
-pub record Itself (H K : List Mark) : Type 0 where
-  pub own_groups : groups K ≡ groups H
-  pub own_status : status K ≡ status H
-  pub stopped : has_stopped K ≡ has_stopped H
+-- the node itself: its groups, its status, and whether it has stopped
+abbrev pub Itself : Type 0
+Itself = List (List ℕ) × ℕ × Bool
 
-itself_mark : (p : PeerId) (o : Option Life) (h : Mark) (H : List Mark) → Spares p o h → Itself H (h ∷ H)
-itself_mark p o (Opens d) H s = record { own_groups = refl; own_status = refl; stopped = refl }
-itself_mark p o (TurnsAway d) H s = record { own_groups = refl; own_status = refl; stopped = refl }
-itself_mark p o (Greets d) H s = record { own_groups = refl; own_status = refl; stopped = refl }
-itself_mark p o (Shakes d r) H s = record { own_groups = refl; own_status = refl; stopped = refl }
-itself_mark p o (AnswersPing d t) H s = record { own_groups = refl; own_status = refl; stopped = refl }
-itself_mark p o (Starts d k m) H s = record { own_groups = refl; own_status = refl; stopped = refl }
-itself_mark p o (Counts d k m) H s = record { own_groups = refl; own_status = refl; stopped = refl }
-itself_mark p o (Ignores d why) H s = record { own_groups = refl; own_status = refl; stopped = refl }
-itself_mark p o (Closes d why) H s = record { own_groups = refl; own_status = refl; stopped = refl }
-itself_mark p o (IsShut d) H s = record { own_groups = refl; own_status = refl; stopped = refl }
-itself_mark p o (Born k r to) H s = record { own_groups = refl; own_status = refl; stopped = refl }
-itself_mark p o (Ends k why) H s = record { own_groups = refl; own_status = refl; stopped = refl }
-itself_mark p o (Puts k b) H s = record { own_groups = refl; own_status = refl; stopped = refl }
+abbrev pub itself : List Mark → Itself
+itself H = (groups H, status H, has_stopped H)
+
+itself_mark : (p : PeerId) (o : Option Life) (h : Mark) (H : List Mark) → Spares p o h → itself (h ∷ H) ≡ itself H
+itself_mark p o (Opens d) H s = refl
+itself_mark p o (TurnsAway d) H s = refl
+itself_mark p o (Greets d) H s = refl
+itself_mark p o (Shakes d r) H s = refl
+itself_mark p o (AnswersPing d t) H s = refl
+itself_mark p o (Starts d k m) H s = refl
+itself_mark p o (Counts d k m) H s = refl
+itself_mark p o (Ignores d why) H s = refl
+itself_mark p o (Closes d why) H s = refl
+itself_mark p o (IsShut d) H s = refl
+itself_mark p o (Born k r to) H s = refl
+itself_mark p o (Ends k why) H s = refl
+itself_mark p o (Puts k b) H s = refl
 itself_mark p o _ H s = absurd s
 
-pub itself_marks : (p : PeerId) (o : Option Life) (hs H : List Mark) → AreSpared p o hs → Itself H (after hs H)
-itself_marks p o [] H s = record { own_groups = refl; own_status = refl; stopped = refl }
-itself_marks p o (h ∷ hs) H s =
-    let a = itself_mark p o h H s.0 in
-    let b = itself_marks p o hs (h ∷ H) s.1 in
-    record { own_groups = b.own_groups ∙ a.own_groups; own_status = b.own_status ∙ a.own_status; stopped = b.stopped ∙ a.stopped }
+pub itself_marks : (p : PeerId) (o : Option Life) (hs H : List Mark) → AreSpared p o hs → itself (after hs H) ≡ itself H
+itself_marks p o [] H s = refl
+itself_marks p o (h ∷ hs) H s = itself_marks p o hs (h ∷ H) s.1 ∙ itself_mark p o h H s.0
 
 -- ---- what they tell
 
