@@ -326,12 +326,12 @@ module _ (g : Config) (K : List Mark) where
 
 pub tells_by_tables : (g : Config) (J : List Entry) → TellsByTables g J
 tells_by_tables g J = record {
-  closed_entries = λ earlier e later c at n. closed_entry g (chronicle g earlier) (Comes e ∷ chronicle g earlier) (comes_proper g earlier e) c e.input n;
-  closed_places = λ d one K c a. at_live g K (closed_of c) d one (closed_said d one K c) (closed_one g K c d one);
-  ignored_entries = λ earlier e later c at n. ignored_entry g (chronicle g earlier) (Comes e ∷ chronicle g earlier) (comes_proper g earlier e) c e.input n;
-  ignored_places = λ d one K c a. at_live g K (ignored_of c) d one (ignored_said d one K c) (ignored_one g K c d one);
-  born_entries = λ earlier e later p at n. born_entry g (chronicle g earlier) (Comes e ∷ chronicle g earlier) (comes_proper g earlier e) p e.input n;
-  born_places = λ d one K p a. at_live g K (born_of p) d one (born_said d one K p) (born_one g K p d one);
+  closed_entries = λ c earlier e later at n. closed_entry g (chronicle g earlier) (Comes e ∷ chronicle g earlier) (comes_proper g earlier e) c e.input n;
+  closed_places = λ c d one K a. at_live g K (closed_of c) d one (closed_said d one K c) (closed_one g K c d one);
+  ignored_entries = λ c earlier e later at n. ignored_entry g (chronicle g earlier) (Comes e ∷ chronicle g earlier) (comes_proper g earlier e) c e.input n;
+  ignored_places = λ c d one K a. at_live g K (ignored_of c) d one (ignored_said d one K c) (ignored_one g K c d one);
+  born_entries = λ p earlier e later at n. born_entry g (chronicle g earlier) (Comes e ∷ chronicle g earlier) (comes_proper g earlier e) p e.input n;
+  born_places = λ p d one K a. at_live g K (born_of p) d one (born_said d one K p) (born_one g K p d one);
   evasive_entries = λ earlier e later v at n known. evasive_entry g (chronicle g earlier) (Comes e ∷ chronicle g earlier) (comes_proper g earlier e) v known e.input n;
   evasive_places = λ d one K l a. no_live g K l d one;
 }

@@ -98,15 +98,10 @@ shut_closes_the_link : acts me (base ++ at 200 (input.Shut 1) ∷ []) ≡ connec
 unfolding digits properties_within greeting_fault frame_why part_len cut item string_at long_string_at pair_at each_at strings_at dictionary_at hello_at join_at leave_at shout_at command_of read_of view_of is_small
 shut_closes_the_link = refl
 
--- then no link is left
-no_link_is_left : links_left (passages me (base ++ at 200 (input.Shut 1) ∷ [])) ≡ []
+-- then no link is left, and no connection
+none_is_left : let passed = passages me (base ++ at 200 (input.Shut 1) ∷ []) in (links_left passed ≡ []) × (conns_left passed ≡ [])
 unfolding digits properties_within greeting_fault frame_why part_len cut item string_at long_string_at pair_at each_at strings_at dictionary_at hello_at join_at leave_at shout_at command_of read_of view_of is_small
-no_link_is_left = refl
-
--- and no connection
-no_conn_is_left : conns_left (passages me (base ++ at 200 (input.Shut 1) ∷ [])) ≡ []
-unfolding digits properties_within greeting_fault frame_why part_len cut item string_at long_string_at pair_at each_at strings_at dictionary_at hello_at join_at leave_at shout_at command_of read_of view_of is_small
-no_conn_is_left = refl
+none_is_left = (refl, refl)
 
 -- a link that broke is not closed
 broken_is_not_closed : acts me (base ++ at 200 (input.Unlinked 1) ∷ []) ≡ connect ∷ act.Answer 1 G1 ∷ act.Answer 1 RR ∷ []

@@ -143,24 +143,30 @@ module _ (g : Config) where
   evasive_at input.Tick K v = where_so (is_evasive g K v) v.link
   evasive_at _ K v = None
 
+-- ---- what is told
+
+-- What is read off the marks of an entry is what a table has for it there, and nothing where it has none.
+abbrev pub ReadsAtEntries : {A : Type 0} → Config → List Entry → (List Mark → List A) → (Input → List Mark → Option A)
+    → Type 0
+ReadsAtEntries g J read due = (earlier : List Entry) (e : Entry) (later : List Entry) → IsEntry g J earlier e later
+    → is_piece e.input ≡ false → let H = chronicle g earlier in let K = Comes e ∷ H in
+    read (at_input g e.input H K) ≡ cons_option (due e.input K) []
+
+-- So it is of the marks that come of one thing said on a connection, where that is live.
+abbrev pub ReadsAtPlaces : {A : Type 0} → Config → List Entry → (List Mark → List A)
+    → (ℕ → Said → List Mark → Option A) → Type 0
+ReadsAtPlaces g J read due = (d : ℕ) (one : Said) (K : List Mark) → Arrives g J d one K
+    → read (at_place g d one K) ≡ cons_option (if is_live d K then due d one K else None) []
+
 -- A connection is told as closed at a place exactly where the table has a reason for it, with that reason, and once; a
 -- connection is told as ignored exactly so, a peer is born exactly so, and a known peer is told as evasive exactly so.
 pub record TellsByTables (g : Config) (J : List Entry) : Type 0 where
-  pub closed_entries : (earlier : List Entry) (e : Entry) (later : List Entry) (c : ℕ) → IsEntry g J earlier e later
-      → is_piece e.input ≡ false → let H = chronicle g earlier in let K = Comes e ∷ H in
-      closed_in c (at_input g e.input H K) ≡ cons_option (closed_at g e.input K c) []
-  pub closed_places : (d : ℕ) (one : Said) (K : List Mark) (c : ℕ) → Arrives g J d one K
-      → closed_in c (at_place g d one K) ≡ cons_option (if is_live d K then closed_said d one K c else None) []
-  pub ignored_entries : (earlier : List Entry) (e : Entry) (later : List Entry) (c : ℕ) → IsEntry g J earlier e later
-      → is_piece e.input ≡ false → let H = chronicle g earlier in let K = Comes e ∷ H in
-      ignored_in c (at_input g e.input H K) ≡ []
-  pub ignored_places : (d : ℕ) (one : Said) (K : List Mark) (c : ℕ) → Arrives g J d one K
-      → ignored_in c (at_place g d one K) ≡ cons_option (if is_live d K then ignored_said d one K c else None) []
-  pub born_entries : (earlier : List Entry) (e : Entry) (later : List Entry) (p : PeerId) → IsEntry g J earlier e later
-      → is_piece e.input ≡ false → let H = chronicle g earlier in let K = Comes e ∷ H in
-      born_in p (at_input g e.input H K) ≡ cons_option (born_at g e.input K p) []
-  pub born_places : (d : ℕ) (one : Said) (K : List Mark) (p : PeerId) → Arrives g J d one K
-      → born_in p (at_place g d one K) ≡ cons_option (if is_live d K then born_said d one K p else None) []
+  pub closed_entries : (c : ℕ) → ReadsAtEntries g J (closed_in c) (λ i K. closed_at g i K c)
+  pub closed_places : (c : ℕ) → ReadsAtPlaces g J (closed_in c) (λ d one K. closed_said d one K c)
+  pub ignored_entries : (c : ℕ) → ReadsAtEntries g J (ignored_in c) (λ i K. None)
+  pub ignored_places : (c : ℕ) → ReadsAtPlaces g J (ignored_in c) (λ d one K. ignored_said d one K c)
+  pub born_entries : (p : PeerId) → ReadsAtEntries g J (born_in p) (λ i K. born_at g i K p)
+  pub born_places : (p : PeerId) → ReadsAtPlaces g J (born_in p) (λ d one K. born_said d one K p)
   pub evasive_entries : (earlier : List Entry) (e : Entry) (later : List Entry) (v : Life) → IsEntry g J earlier e later
       → is_piece e.input ≡ false → let H = chronicle g earlier in let K = Comes e ∷ H in life v.link K ≡ Some v
       → evasive_in v.link (at_input g e.input H K) ≡ cons_option (evasive_at g e.input K v) []
