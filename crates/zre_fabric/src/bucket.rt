@@ -13,18 +13,12 @@ pub(crate) struct Rate {
 }
 
 /// What happened, as the reading up to which the steady rate is spent.
-#[derive(Clone, Copy)]
+#[derive(Clone, Copy, Default)]
 pub(crate) struct Bucket {
     spent: u64,
 }
 
 impl Bucket {
-    pub(crate) fn new() -> Self
-        ensures { result.spent ≡ 0 }
-    {
-        Bucket { spent: 0 }
-    }
-
     /// Whether it may happen once more now. It is then counted.
     pub(crate) fn take(&mut self, rate: Rate, at: u64) -> bool
         ensures may { result ≡ nat_le (self.old.spent - at) rate.ahead }

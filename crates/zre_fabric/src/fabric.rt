@@ -44,7 +44,7 @@ impl<R> Fabric<R> {
             rt,
             alloc,
             stopwatch: Stopwatch::new(),
-            row: SinceLook::new(),
+            row: SinceLook::default(),
             prepared: Prepared {
                 bell,
                 mailbox: None,
@@ -72,7 +72,7 @@ impl<R: Net + Clock> Fabric<R> {
         ensures octets { self.new.row.octets ≡ 0 }
     {
         drop(self.network.take());
-        self.row = SinceLook::new();
+        self.row = SinceLook::default();
         let at = self.stopwatch.read(&self.rt)?;
         let network = PolledSockets::open(&self.rt, self.alloc, s, at, &mut self.prepared)?;
         drop(self.network.replace(network));

@@ -10,18 +10,12 @@ const PATIENCE: u64 = 3000;
 const HEAD_START: u64 = 200;
 
 /// Up to when the connections of an address wait.
-#[derive(Clone, Copy)]
+#[derive(Clone, Copy, Default)]
 pub(crate) struct Hold {
     until: u64,
 }
 
 impl Hold {
-    pub(crate) fn new() -> Self
-        ensures { result.until ≡ 0 }
-    {
-        Hold { until: 0 }
-    }
-
     /// Links to the address were closed again and again.
     pub(crate) fn begin(&mut self, at: u64)
         ensures { self.new.until ≡ latest (at + 3000) }

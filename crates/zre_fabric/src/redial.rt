@@ -16,7 +16,7 @@ const FROM: u64 = 2;
 const TO: u64 = 6;
 
 /// What is known of the links to an endpoint that were closed.
-#[derive(Clone, Copy)]
+#[derive(Clone, Copy, Default)]
 pub(crate) struct Redial {
     // The last closing, and from when on the endpoint may be dialed again. Before the first one both are 0.
     closed: u64,
@@ -26,18 +26,6 @@ pub(crate) struct Redial {
 }
 
 impl Redial {
-    pub(crate) fn new() -> Self
-        ensures closed { result.closed ≡ 0 }
-        ensures due { result.due ≡ 0 }
-        ensures closings { result.closings ≡ 0 }
-    {
-        Redial {
-            closed: 0,
-            due: 0,
-            closings: 0,
-        }
-    }
-
     /// A link was closed. The first closing lets the next dial wait for some 100 milliseconds, and each that follows
     /// within 10 seconds for twice as long, up to 2 seconds.
     pub(crate) fn closed(&mut self, at: u64, chance: u64)

@@ -46,10 +46,10 @@ impl Share {
     {
         Share {
             connections: 0,
-            opened: Bucket::new(),
-            beacons: Bucket::new(),
-            redial: Redial::new(),
-            hold: Hold::new(),
+            opened: Bucket::default(),
+            beacons: Bucket::default(),
+            redial: Redial::default(),
+            hold: Hold::default(),
         }
     }
 }

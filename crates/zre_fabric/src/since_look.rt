@@ -15,7 +15,7 @@ const OCTETS: u64 = 65536;
 const COMMANDS: u64 = 64;
 
 /// How many entries were given since the last look, and how many commands since the last entry that isn't one.
-#[derive(Drop)]
+#[derive(Default, Drop)]
 pub(crate) struct SinceLook {
     entries: u64,
     commands: u64,
@@ -24,18 +24,6 @@ pub(crate) struct SinceLook {
 }
 
 impl SinceLook {
-    pub(crate) fn new() -> Self
-        ensures entries { result.entries ≡ 0 }
-        ensures commands { result.commands ≡ 0 }
-        ensures octets { result.octets ≡ 0 }
-    {
-        SinceLook {
-            entries: 0,
-            commands: 0,
-            octets: 0,
-        }
-    }
-
     /// Whether a look comes before any other turn. Where there are both entries and commands, the last turn was a
     /// command.
     pub(crate) fn is_full(&self) -> bool

@@ -24,7 +24,7 @@ impl SourceQueue {
         SourceQueue {
             light: VecDeque::new(alloc),
             heavy: VecDeque::new(alloc),
-            turns: Turns::new(),
+            turns: Turns::default(),
         }
     }
 

@@ -7,18 +7,12 @@ ghost use Rattle.zre_outside.specs.Causes.{raised};
 const FIRST_IN_A_ROW: u64 = 4;
 
 /// How many turns in a row the first queue had while the second waited.
-#[derive(Drop)]
+#[derive(Default, Drop)]
 pub(crate) struct Turns {
     row: u64,
 }
 
 impl Turns {
-    pub(crate) fn new() -> Self
-        ensures { result.row ≡ 0 }
-    {
-        Turns { row: 0 }
-    }
-
     /// Whether the next turn is the first queue's, which is told whether each queue has something.
     pub(crate) fn is_firsts(&mut self, has_first: bool, has_second: bool) -> bool
         ensures turn { result ≡ has_first && (not has_second || nat_lt self.old.row 4) }
