@@ -64,6 +64,16 @@ impl Alarm {
         }
     }
 
+    // What was answered, after an alarm where it is a refusal.
+    fn raised_at<T, E>(&self, answer: Result<T, E>) -> Result<T, E>
+        ensures { result ≡ answer }
+    {
+        if answer.is_err() {
+            self.raise();
+        }
+        answer
+    }
+
     // What is ready to be read once it was raised.
     pub(crate) fn descriptor(&self) -> Option<RawFd>
         ensures { is_none result ≡ is_silent self.now }
@@ -116,11 +126,7 @@ impl<T: Sink> Sink for Alarming<T> {
             self.alarm.raise();
             return Ok(0);
         }
-        let answer = self.inner.write(bytes);
-        if answer.is_err() {
-            self.alarm.raise();
-        }
-        answer
+        self.alarm.raised_at(self.inner.write(bytes))
     }
 }
 
@@ -134,19 +140,11 @@ impl<T: Recorder> Recorder for Alarming<T> {
     ghost faults = { λ a. T.faults a.inner };
 
     fn begin(&mut self, name: &str) -> Result<(), NextFault> {
-        let answer = self.inner.begin(name);
-        if answer.is_err() {
-            self.alarm.raise();
-        }
-        answer
+        self.alarm.raised_at(self.inner.begin(name))
     }
 
     fn put(&mut self, bytes: &[u8]) -> Result<(), NextFault> {
-        let answer = self.inner.put(bytes);
-        if answer.is_err() {
-            self.alarm.raise();
-        }
-        answer
+        self.alarm.raised_at(self.inner.put(bytes))
     }
 }
 
@@ -158,36 +156,18 @@ impl<T: World> World for Alarming<T> {
     ghost faults = { λ a. T.faults a.inner };
 
     fn start(&mut self, s: &Start) -> Result<(), NextFault> {
-        let answer = self.inner.start(s);
-        if answer.is_err() {
-            self.alarm.raise();
-        }
-        answer
+        self.alarm.raised_at(self.inner.start(s))
     }
 
     fn next(&mut self, command: Option<Command>) -> Result<Turn, NextFault> {
-        match self.inner.next(command) {
-            Ok(turn) => Ok(turn),
-            Err(fault) => {
-                self.alarm.raise();
-                Err(fault)
-            }
-        }
+        self.alarm.raised_at(self.inner.next(command))
     }
 
     fn act(&mut self, act: &Act) -> Result<(), OutOfMemory> {
-        let answer = self.inner.act(act);
-        if answer.is_err() {
-            self.alarm.raise();
-        }
-        answer
+        self.alarm.raised_at(self.inner.act(act))
     }
 
     fn offer(&mut self, link: u64, bytes: &[u8]) -> Result<(), OutOfMemory> {
-        let answer = self.inner.offer(link, bytes);
-        if answer.is_err() {
-            self.alarm.raise();
-        }
-        answer
+        self.alarm.raised_at(self.inner.offer(link, bytes))
     }
 }
