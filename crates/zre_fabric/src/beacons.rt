@@ -2,7 +2,7 @@ ghost use Rattle.std.specs.Prelude.{◌≤◌, length, IfOk};
 ghost use Rattle.zre_fabric.specs.Origins.{IsOfBeacons};
 ghost use Rattle.zre_fabric.specs.Pieces.{StepIsShort};
 
-use crate::errors::{ErrorClass, class_of};
+use crate::errors::{ErrorClass, class_of, once_ready};
 use crate::network_fault::{NetworkFault, SystemPart, failed};
 use crate::polled::Polled;
 use crate::read_buffer::ReadBuffer;
@@ -37,13 +37,8 @@ pub(crate) fn address(addr: [u8; 4], port: u16) -> SocketAddr {
 
 fn bind<R: Net>(rt: &R, s: &Start) -> io::Result<UdpSocket> {
     let socket = UdpSocket::bind(rt, address(s.listen, s.beacon_port))?;
-    match socket.set_broadcast(true) {
-        Ok(()) => Ok(socket),
-        Err(error) => {
-            drop(socket);
-            Err(error)
-        }
-    }
+    let broadcasts = socket.set_broadcast(true);
+    once_ready(socket, broadcasts)
 }
 
 impl BeaconSocket {
@@ -86,7 +81,14 @@ impl BeaconSocket {
         ensures own { IfOk result (λ step. IsOfBeacons step) }
     {
         for _ in 0..DROPS {
-            let step = self.receive(buffer, shares, at)?;
+            let Ok(received) = buffer.receive(&self.socket) else {
+                return Err(NetworkFault::OutOfMemory);
+            };
+            let datagram = match received {
+                Ok(datagram) => datagram,
+                Err(error) => return self.refused(error),
+            };
+            let step = entry_of(datagram, shares, at);
             if !matches!(&step, Polled::Dropped) {
                 return Ok(step);
             }
@@ -95,25 +97,14 @@ impl BeaconSocket {
         Ok(Polled::Dropped)
     }
 
-    fn receive(
-        &mut self,
-        buffer: &mut ReadBuffer,
-        shares: &mut Shares,
-        at: u64,
-    ) -> Result<Polled, NetworkFault>
+    fn refused(&self, error: io::Error) -> Result<Polled, NetworkFault>
         ensures short { IfOk result (λ step. StepIsShort step) }
         ensures own { IfOk result (λ step. IsOfBeacons step) }
     {
-        let Ok(datagram) = buffer.receive(&self.socket) else {
-            return Err(NetworkFault::OutOfMemory);
-        };
-        match datagram {
-            Ok(datagram) => Ok(entry_of(datagram, shares, at)),
-            Err(error) => match class_of(&error) {
-                ErrorClass::NotReady => Ok(Polled::Rest),
-                ErrorClass::Transient => Ok(Polled::Again),
-                ErrorClass::Fatal => Err(failed(SystemPart::Beacons(self.at), error)),
-            },
+        match class_of(&error) {
+            ErrorClass::NotReady => Ok(Polled::Rest),
+            ErrorClass::Transient => Ok(Polled::Again),
+            ErrorClass::Fatal => Err(failed(SystemPart::Beacons(self.at), error)),
         }
     }
 }

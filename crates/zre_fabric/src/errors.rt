@@ -1,6 +1,6 @@
 //! What an error of the two sockets means that the whole node stands on, the listener and the one for beacons.
 
-ghost use Rattle.std.specs.Prelude.{◌≡◌};
+ghost use Rattle.std.specs.Prelude.{◌≡◌, is_ok, IfOk};
 ghost use Rattle.std.specs.IoError.{error_kind, raw_os_error};
 ghost use Rattle.zre_fabric.specs.ErrorClasses.{class_by, is_passing_number, is_short_by};
 
@@ -75,4 +75,18 @@ pub(crate) fn is_short(e: &io::Error) -> bool
 {
     e.kind() == ErrorKind::OutOfMemory
         || matches!(e.raw_os_error(), Some(ENFILE | EMFILE | ENOBUFS))
+}
+
+/// What was made, where the rest of its making did not fail.
+pub(crate) fn once_ready<T: Drop>(made: T, rest: io::Result<()>) -> io::Result<T>
+    ensures ok { is_ok result ≡ is_ok rest }
+    ensures made { IfOk result (λ ready. ready ≡ made) }
+{
+    match rest {
+        Ok(()) => Ok(made),
+        Err(error) => {
+            drop(made);
+            Err(error)
+        }
+    }
 }

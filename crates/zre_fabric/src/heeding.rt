@@ -7,6 +7,7 @@ ghost use Rattle.zre_outside.specs.Causes.{Rose};
 ghost use Rattle.zre_outside.specs.Told.{MovesOn};
 
 use crate::alarm::Alarm;
+use crate::errors::once_ready;
 use mio::unix::SourceFd;
 use mio::{Events, Interest, Poll, Token};
 use std::alloc::Global;
@@ -120,13 +121,8 @@ fn waiting_for<R: Net>(rt: &R, alloc: Global, input: RawFd, alarm: Alarm) -> io:
         input,
         alarm,
     };
-    match watch.register(raised) {
-        Ok(()) => Ok(watch),
-        Err(error) => {
-            drop(watch);
-            Err(error)
-        }
-    }
+    let registered = watch.register(raised);
+    once_ready(watch, registered)
 }
 
 impl Watch {
