@@ -1,8 +1,10 @@
 -- A row that was found, and what was put in its place.
-use Rattle.std.proofs.Common.{◌≡◌, ℕ, ◌++◌, Bool, true, false, if◌then◌else◌, List, length, Some, None, Result, Ok, Err, IfOk, sym, ap, ◌∙◌, arith, nat_cmp}
+use Rattle.std.proofs.Common.{◌≡◌, ℕ, ◌++◌, Bool, true, false, if◌then◌else◌, List, length, Some, None, Result, Ok, Err, IfOk, sym, ap, ◌∙◌, arith, nat_cmp, get_or}
 use Rattle.std.proofs.lemmas.Map.Steps.{set_value_same}
 use Rattle.std.specs.BTreeMap.{is_at}
-use Rattle.std.specs.List.{slice_set}
+use Rattle.std.specs.List.{slice_get, slice_set}
+use Rattle.std.specs.List.Sorted.{IsStrictlySortedBy}
+use Rattle.std.specs.Map.{keys_of}
 use Rattle.zre_values.specs.declared.memory.OutOfMemory.{OutOfMemory}
 use Rattle.zre_values.specs.declared.peer_id.PeerId.{PeerId}
 use Rattle.zre_zmtp.specs.Looks.{Looks}
@@ -11,7 +13,7 @@ use Rattle.zre_link.specs.Link.{Sending, link_after, link_answering}
 use Rattle.zre_link.specs.Text.{Member}
 use Rattle.zre_tables.specs.Rows.{Changes, row_at, with_row}
 use Rattle.zre_tables.specs.declared.peer.Peer.{Peer}
-use Rattle.zre_tables.proofs.Placed.{Lies}
+use Rattle.zre_tables.proofs.Placed.{lies}
 
 -- the rows are seen as `now`; k is the row that was found
 module _ {V : Type 0} (n : ℕ) (inside now : List (ℕ × V)) (view_is : inside ≡ now) (k : V) (found : Some k ≡ row_at n inside) where
@@ -31,11 +33,14 @@ pub relink : (k x : Peer) (s t : Sending) → k ≡ x → s ≡ t → record k {
 relink k x s t e f = ap (λ (y : Peer). record y { link = s }) e ∙ ap (λ (z : Sending). record x { link = z }) f
 
 -- a row that lies at a place was changed there
-pub changes : {V : Type 0} (n i : ℕ) (inside now : List (ℕ × V)) (view_is : inside ≡ now) (row : ℕ × V) (it : Lies inside n i row) (change : V → V) (w : V) → w ≡ change row.1 → Changes n change now (slice_set inside i (row.0, w))
-changes n i inside now view_is row it change w is = record {
-  found = λ x at. put_back n inside now view_is row.1 (sym it.there_is) w _ (it.set w) (change x) (is ∙ ap change (same n inside now view_is row.1 (sym it.there_is) x at));
-  missing = λ none. there n inside now view_is row.1 (sym it.there_is) none;
-}
+pub changes : {V : Type 0} (n i : ℕ) (inside now : List (ℕ × V)) (view_is : inside ≡ now) (row : ℕ × V) → IsStrictlySortedBy nat_cmp (keys_of inside) → (x : V) × (slice_get inside i ≡ Some (n, x)) → row ≡ get_or inside i row
+    → (change : V → V) (w : V) → w ≡ change row.1 → Changes n change now (slice_set inside i (row.0, w))
+changes n i inside now view_is row up there_is at change w is =
+    let it = lies inside n i row up there_is at in
+    record {
+      found = λ x seen. put_back n inside now view_is row.1 (sym it.there_is) w _ (it.set w) (change x) (is ∙ ap change (same n inside now view_is row.1 (sym it.there_is) x seen));
+      missing = λ none. there n inside now view_is row.1 (sym it.there_is) none;
+    }
 
 -- what was paid for a reply, by what came before
 pub paid_as : {A : Type 0} (X Y : A → Type 0) (r : Result A OutOfMemory) (own : PeerId) (line : List Member) (linked : Bool) (o : List ℕ) (n : ℕ) (bytes : List ℕ) (s s' : Sending) (looks looks' : ℕ)

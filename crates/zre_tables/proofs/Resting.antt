@@ -1,13 +1,17 @@
 -- Since when connections that run no peer have rested, after a change.
-use Rattle.std.proofs.Common.{◌≡◌, ℕ, ◌-◌, ◌≤◌, Bool, true, false, nat_le, List, [], ◌∷◌, Some, is_none, refl, sym, ap, ◌∙◌, arith, nat_cmp, subst}
+use Rattle.std.proofs.Common.{◌≡◌, ℕ, ◌-◌, ◌≤◌, Bool, true, false, nat_le, List, [], ◌∷◌, Some, is_none, refl, sym, ap, ◌∙◌, arith, nat_cmp, get_or, subst}
 use Rattle.std.proofs.lemmas.Bool.{leb-false, lt-leb}
 use Rattle.std.specs.BTreeMap.{is_at, insert_entry}
+use Rattle.std.specs.List.{slice_get, slice_set}
+use Rattle.std.specs.List.Sorted.{IsStrictlySortedBy}
+use Rattle.std.specs.Map.{keys_of}
 use Rattle.std.specs.declared.cmp.Ordering.{Ordering}
 use Rattle.std.specs.declared.cmp.Ordering.TheVariants.{Less, Equal, Greater}
 use Rattle.zre_tables.specs.declared.connection.Connection.{Connection}
 use Rattle.zre_tables.specs.Resting.{AllRestFrom, RestsFrom}
 use Rattle.zre_tables.specs.Rows.{row_at, with_row, without_row, numbers_of}
 use Rattle.zre_tables.specs.Searches.{row_stale}
+use Rattle.zre_tables.proofs.Placed.{Lies, lies, rising_set}
 
 -- no rows
 pub none_rest : (first : ℕ) (es : List (ℕ × Connection)) → es ≡ [] → AllRestFrom first es
@@ -59,13 +63,32 @@ rest_at first n k (e ∷ es) found a = by (rest_at first n k es) (is_at (nat_cmp
     by more false q = let z : Some k ≡ row_at n es = rw q at found in more z a.1
 
 -- a row that keeps its moment and its run
-pub rest_kept : (first n : ℕ) (k w : Connection) (es new : List (ℕ × Connection)) → Some k ≡ row_at n es → new ≡ with_row n w es → w.run ≡ k.run → w.since ≡ k.since → AllRestFrom first es → AllRestFrom first new
+rest_kept : (first n : ℕ) (k w : Connection) (es new : List (ℕ × Connection)) → Some k ≡ row_at n es → new ≡ with_row n w es → w.run ≡ k.run → w.since ≡ k.since → AllRestFrom first es → AllRestFrom first new
 rest_kept first n k w es new found put run since a =
     subst (AllRestFrom first) (sym put) (rest_put first n w es (λ none. let s = rest_at first n k es found a (sym (ap is_none run) ∙ none) in omega (arith, s, since)) a)
 
 -- a row that runs a peer, or has rested since a moment that is no later
-pub rest_changed : (first first' n : ℕ) (w : Connection) (es new : List (ℕ × Connection)) → new ≡ with_row n w es → first' ≤ first → RestsFrom first' w → AllRestFrom first es → AllRestFrom first' new
+rest_changed : (first first' n : ℕ) (w : Connection) (es new : List (ℕ × Connection)) → new ≡ with_row n w es → first' ≤ first → RestsFrom first' w → AllRestFrom first es → AllRestFrom first' new
 rest_changed first first' n w es new put l r a = subst (AllRestFrom first') (sym put) (rest_put first' n w es r (rest_earlier first' first es l a))
+
+-- a connection that lies at a place is put back: the numbers rise as before
+module _ (first n i : ℕ) (es : List (ℕ × Connection)) (row : ℕ × Connection) (up : IsStrictlySortedBy nat_cmp (keys_of es)) (there : (x : Connection) × (slice_get es i ≡ Some (n, x))) (at : row ≡ get_or es i row) (w : Connection) where
+  abbrev new : List (ℕ × Connection)
+  new = slice_set es i (row.0, w)
+
+  it : Lies es n i row
+  it = lies es n i row up there at
+
+  rises : IsStrictlySortedBy nat_cmp (keys_of new)
+  rises = rw (it.set w) (rising_set n w es up)
+
+  -- it keeps its moment and its run
+  pub put_kept : w.run ≡ row.1.run → w.since ≡ row.1.since → AllRestFrom first es → IsStrictlySortedBy nat_cmp (keys_of new) × AllRestFrom first new
+  put_kept run since a = (rises, rest_kept first n row.1 w es new (sym it.there_is) (it.set w) run since a)
+
+  -- it runs a peer, or rests since a moment that is no later
+  pub put_changed : (first' : ℕ) → first' ≤ first → RestsFrom first' w → AllRestFrom first es → IsStrictlySortedBy nat_cmp (keys_of new) × AllRestFrom first' new
+  put_changed first' l r a = (rises, rest_changed first first' n w es new (it.set w) l r a)
 
 -- a row that was listed, which runs a peer, or has rested since a moment that is no later
 pub rest_listed : (first first' n : ℕ) (w : Connection) (es new : List (ℕ × Connection)) → new ≡ insert_entry nat_cmp es n w → first' ≤ first → RestsFrom first' w → AllRestFrom first es → AllRestFrom first' new

@@ -8,8 +8,8 @@ use Rattle.zre_tables.specs.Holding.{reader_at}
 use Rattle.zre_tables.specs.declared.connection.Connection.{Connection}
 use Rattle.zre_tables.proofs.Agreeing.{some_is}
 use Rattle.zre_tables.proofs.Changing.{same, put_back, put_same}
-use Rattle.zre_tables.proofs.Placed.{lies, rising_set}
-use Rattle.zre_tables.proofs.Resting.{rest_kept}
+use Rattle.zre_tables.proofs.Placed.{lies}
+use Rattle.zre_tables.proofs.Resting.{put_kept}
 use Rattle.zre_tables.proofs.conns.Conns.feed.Goals as goal
 
 -- the same looks, of octets that are kept by another name
@@ -42,13 +42,7 @@ returns-in_default-conn-clause-silent g c = λ none.
     (put_same c.args.conn es c.args.self.now c.self.view_is row.1 (sym it.there_is) row.1 _ (it.set row.1) refl, c.requires, refl, refl)
 
 pub invariant_of-self-2 : goal.invariant_of-self-2
-invariant_of-self-2 g c =
-    let i = c.self.inside in
-    let es = c.self.inside.rows.all.items in
-    let row = c.index_mut.result.now in
-    let it = lies es c.args.conn c.in-Some.at row c.self.invariant.0 c.in-Some.ensures c.index_mut.ensures.value in
-    let w = record row.1 { conn = Some c.read.new.conn } in
-    (rw (it.set w) (rising_set c.args.conn w es c.self.invariant.0), rest_kept i.first c.args.conn row.1 w es _ (sym it.there_is) (it.set w) refl refl c.self.invariant.1)
+invariant_of-self-2 g c = put_kept c.self.inside.first c.args.conn c.in-Some.at c.self.inside.rows.all.items c.index_mut.result.now c.self.invariant.0 c.in-Some.ensures c.index_mut.ensures.value (record c.index_mut.result.now.1 { conn = Some c.read.new.conn }) refl refl c.self.invariant.1
 
 pub returns-clause-live : goal.returns-clause-live
 returns-clause-live g c = λ x own o at is.

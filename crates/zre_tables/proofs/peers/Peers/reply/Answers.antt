@@ -1,43 +1,30 @@
 use Rattle.std.proofs.Common.{true, ap, ◌∙◌, sym}
 use Rattle.std.proofs.lemmas.Result.{IfOk-weaker}
-use Rattle.zre_link.specs.Link.{Sending, link_answering}
+use Rattle.zre_link.specs.Link.{link_after, link_answering}
 use Rattle.zre_tables.specs.declared.peer.Peer.{Peer}
-use Rattle.zre_tables.proofs.Changing.{there, same, put_back, put_same, relink, paid_as}
+use Rattle.zre_tables.proofs.Changing.{there, same, paid_as}
 use Rattle.zre_tables.proofs.Placed.{lies}
-use Rattle.zre_tables.proofs.Relinking.{relinked_agrees}
+use Rattle.zre_tables.proofs.Relinking.{relinked_agrees, relinked, still_linked, its_link}
 use Rattle.zre_tables.proofs.peers.Peers.reply.Goals as goal
 
 pub returns-clause-standing : goal.returns-clause-standing
 returns-clause-standing g c = λ x own line o n at is.
-    let k = c.index_mut.result.now.1 in
-    let es = c.self.inside.rows.all.items in
     let it = lies c.self.inside.rows.all.items c.args.link c.in-Some.at c.index_mut.result.now c.self.invariant.rising c.in-Some.ensures c.index_mut.ensures.value in
-    let e = same c.args.link es c.args.self.now c.self.view_is k (sym it.there_is) x at in
-    let w = record k { link = c.hear_reply.new.link } in
-    IfOk-weaker c.hear_reply.result _ _ (λ why a. (
-      put_back c.args.link es c.args.self.now c.self.view_is k (sym it.there_is) w _ (it.set w) (record x { link = link_answering own line true o n c.args.bytes.now }) (relink k x _ _ e a.0),
-      a.1,
-    )) (c.hear_reply.ensures.standing own line o n (ap (λ (y : Peer). y.link) e ∙ is))
+    IfOk-weaker c.hear_reply.result _ _ (λ why a. (relinked c.args.link c.in-Some.at c.self.inside.rows.all.items c.index_mut.result.now it c.args.self.now c.self.view_is c.hear_reply.new.link x (link_after own line true o n) (link_answering own line true o n c.args.bytes.now) (λ z. a.0) at is, a.1))
+    (c.hear_reply.ensures.standing own line o n (its_link c.args.link c.in-Some.at c.self.inside.rows.all.items c.index_mut.result.now it c.args.self.now c.self.view_is x _ at is))
 
 pub returns-clause-waiting : goal.returns-clause-waiting
 returns-clause-waiting g c = λ x at is.
-    let k = c.index_mut.result.now.1 in
-    let es = c.self.inside.rows.all.items in
     let it = lies c.self.inside.rows.all.items c.args.link c.in-Some.at c.index_mut.result.now c.self.invariant.rising c.in-Some.ensures c.index_mut.ensures.value in
-    let e = same c.args.link es c.args.self.now c.self.view_is k (sym it.there_is) x at in
-    let w = record k { link = c.hear_reply.new.link } in
-    IfOk-weaker c.hear_reply.result _ _ (λ why a. (
-      put_same c.args.link es c.args.self.now c.self.view_is k (sym it.there_is) w _ (it.set w) (ap (λ (s : Sending). record k { link = s }) a.0),
-      a.1,
-    )) (c.hear_reply.ensures.waiting (ap (λ (y : Peer). y.link.linked) e ∙ is))
+    let e = same c.args.link c.self.inside.rows.all.items c.args.self.now c.self.view_is c.index_mut.result.now.1 (sym it.there_is) x at in
+    IfOk-weaker c.hear_reply.result _ _ (λ why a. (still_linked c.args.link c.in-Some.at c.self.inside.rows.all.items c.index_mut.result.now it c.args.self.now c.self.view_is c.hear_reply.new.link a.0, a.1)) (c.hear_reply.ensures.waiting (ap (λ (y : Peer). y.link.linked) e ∙ is))
 
 pub returns-clause-looks : goal.returns-clause-looks
 returns-clause-looks g c = λ x own line linked o n at is.
     let k = c.index_mut.result.now.1 in
     let it = lies c.self.inside.rows.all.items c.args.link c.in-Some.at c.index_mut.result.now c.self.invariant.rising c.in-Some.ensures c.index_mut.ensures.value in
-    let e = same c.args.link c.self.inside.rows.all.items c.args.self.now c.self.view_is k (sym it.there_is) x at in
     paid_as _ _ c.hear_reply.result own line linked o n c.args.bytes.now k.link c.hear_reply.new.link c.args.steps.now c.hear_reply.new.steps
-    (ap (λ (y : Peer). y.link) e ∙ is) (c.hear_reply.ensures.standing own line o n) c.hear_reply.ensures.waiting c.hear_reply.ensures.looks
+    (its_link c.args.link c.in-Some.at c.self.inside.rows.all.items c.index_mut.result.now it c.args.self.now c.self.view_is x _ at is) (c.hear_reply.ensures.standing own line o n) c.hear_reply.ensures.waiting c.hear_reply.ensures.looks
 
 pub invariant_of-self : goal.invariant_of-self
 invariant_of-self g c =

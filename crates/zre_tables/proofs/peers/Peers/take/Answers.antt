@@ -3,11 +3,10 @@ use Rattle.zre_values.proofs.Answered.{on_ok}
 use Rattle.zre_tables.specs.Runs.{HasRun}
 use Rattle.zre_tables.specs.declared.peer.Peer.{Peer}
 use Rattle.zre_tables.specs.declared.peer.CarriedRun.{CarriedRun}
-use Rattle.zre_tables.proofs.Agreeing.{renewed_agrees}
 use Rattle.zre_tables.proofs.Carrying.{of_err}
 use Rattle.zre_tables.proofs.Changing.{there}
 use Rattle.zre_tables.proofs.Placed.{lies}
-use Rattle.zre_tables.proofs.Relinking.{reran}
+use Rattle.zre_tables.proofs.Relinking.{renewed, reran}
 use Rattle.zre_tables.proofs.peers.Peers.take.Goals as goal
 
 pub invariant_of-self : goal.invariant_of-self
@@ -15,8 +14,7 @@ invariant_of-self c =
     let i = c.self.inside in
     let w = c.take.new.peer in
     let it = lies c.self.inside.rows.all.items c.args.link c.in-Some.at c.index_mut.result.now c.self.invariant.rising c.in-Some.ensures c.index_mut.ensures.value in
-    renewed_agrees i.rows.all.items _ i.heard i.rewound c.renew-self-inside.result c.args.link c.args.now c.index_mut.result.now.1 w it.there_is (it.set w)
-    (ap (λ (y : Peer). y.active) c.take.ensures.only ∙ ap (λ (y : Peer). y.active) c.renew-self-inside.ensures.only) c.renew-self-inside.ensures.back c.self.invariant
+    renewed c.args.link c.in-Some.at c.self.inside.rows.all.items c.index_mut.result.now it w i.heard i.rewound c.renew-self-inside.result c.args.now (ap (λ (y : Peer). y.active) c.take.ensures.only ∙ ap (λ (y : Peer). y.active) c.renew-self-inside.ensures.only) c.renew-self-inside.ensures.back c.self.invariant
 
 pub returns-clause-ok : goal.returns-clause-ok
 returns-clause-ok c = λ x n id ms at runs.

@@ -1,8 +1,8 @@
 use Rattle.std.proofs.Common.{ap, sym, ◌∙◌}
 use Rattle.zre_tables.specs.declared.peer.Peer.{Peer}
-use Rattle.zre_tables.proofs.Agreeing.{renewed_agrees}
 use Rattle.zre_tables.proofs.Changing.{put_back, same, there}
 use Rattle.zre_tables.proofs.Placed.{lies}
+use Rattle.zre_tables.proofs.Relinking.{renewed}
 use Rattle.zre_tables.proofs.peers.Peers.touch.Goals as goal
 
 pub invariant_of-self : goal.invariant_of-self
@@ -10,8 +10,7 @@ invariant_of-self c =
     let i = c.self.inside in
     let w = c.renew-self-inside.new.peer in
     let it = lies c.self.inside.rows.all.items c.args.link c.in-Some.at c.index_mut.result.now c.self.invariant.rising c.in-Some.ensures c.index_mut.ensures.value in
-    renewed_agrees i.rows.all.items _ i.heard i.rewound c.renew-self-inside.result c.args.link c.args.now c.index_mut.result.now.1 w it.there_is (it.set w)
-    (ap (λ (y : Peer). y.active) c.renew-self-inside.ensures.only) c.renew-self-inside.ensures.back c.self.invariant
+    renewed c.args.link c.in-Some.at c.self.inside.rows.all.items c.index_mut.result.now it w i.heard i.rewound c.renew-self-inside.result c.args.now (ap (λ (y : Peer). y.active) c.renew-self-inside.ensures.only) c.renew-self-inside.ensures.back c.self.invariant
 
 pub returns-clause-found : goal.returns-clause-found
 returns-clause-found c = λ x at.
