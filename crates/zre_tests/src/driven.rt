@@ -12,15 +12,13 @@ const BOB: PeerId = PeerId([2, 2, 2, 2, 2, 2, 2, 2, 2, 2, 2, 2, 2, 2, 2, 2]);
 
 fn start(alloc: Global, moves: &mut Moves, node: u8, id: PeerId) -> Result<(), OutOfMemory> {
     let name = Octets::copy(alloc, b"n")?;
-    let host = [10, 0, 0, node];
-    let (at, port) = (0, 5000);
     moves.push(Move::Start {
         node,
-        at,
+        at: 0,
         id,
         name,
-        host,
-        port,
+        host: [10, 0, 0, node],
+        port: 5000,
     })
 }
 

@@ -1,7 +1,9 @@
 //! Gates: several clients of one node, with a client whose end comes only after what another client asked for was
 //! written.
 
-use crate::terminal::{Patient, Showing, Sign, sign_of, source_of, words_of, world_of};
+use crate::terminal::{
+    Patient, STOP, Showing, Sign, WHISPER, node_words, sign_of, source_of, world_of,
+};
 use std::alloc::Global;
 use std::collections::VecDeque;
 use std::sync::Wait;
@@ -14,29 +16,17 @@ use zre_outside::{
 };
 use zre_values::{Octets, OutOfMemory};
 
-const GATE: &[&[u8]] = &[
-    b"gate",
-    b"id=ffeeddccbbaa99887766554433221100",
-    b"host=10.0.0.1",
-    b"port=49153",
-    b"name=Me",
-    b"to=10.0.0.9",
-    b"local=127.0.0.1:7000",
-];
+const GATE: &[&[u8]] = &[b"gate", b"name=Me", b"local=127.0.0.1:7000"];
 
 const TWO: &[u8] = b"clients=2";
 
 const MANY: &[u8] = b"clients=15";
-
-const WHISPER: &[u8] = b"whisper 44444444444444444444444444444444 x\n";
 
 const GROUP: &[u8] = b"join g\nleave g\n";
 
 const NO_PEER: &[u8] = b"REFUSED NOPEER 44444444444444444444444444444444\n";
 
 const TEXT: &[u8] = b"REFUSED NOPEER 44444444444444444444444444444444\nSTOP\n";
-
-const STOP: &[u8] = b"STOP\n";
 
 const CAPTURE: &[u8] = b"capture=c";
 
@@ -99,6 +89,9 @@ const PLAIN: Case = Case {
     text: TEXT,
 };
 
+/// How a gate in memory ended.
+type Ended = GateEnded<MemDesk, ScriptWorld, MemRecorder>;
+
 fn desk_of(alloc: Global, case: &Case) -> Result<MemDesk, OutOfMemory> {
     let mut clients = Vec::new(alloc);
     clients.push(source_of(alloc, case.first, case.read_fails)?)?;
@@ -132,7 +125,7 @@ fn hold<R: Threads + Wait + Send + Copy + 'static, D: Desk + Drop, O: Sink>(
     desk: D,
     out: &mut O,
 ) -> Result<GateEnded<D, ScriptWorld, MemRecorder>, OutOfMemory> {
-    let mut words = words_of(alloc, GATE)?;
+    let mut words = node_words(alloc, GATE)?;
     words.push(Octets::copy(alloc, case.clients)?)?;
     if case.is_kept {
         words.push(Octets::copy(alloc, CAPTURE)?)?;
@@ -155,16 +148,16 @@ fn hold<R: Threads + Wait + Send + Copy + 'static, D: Desk + Drop, O: Sink>(
     ))
 }
 
-/// The status of a case, and what was written.
+/// How a case ended, and what was written.
 fn held<R: Threads + Wait + Send + Copy + 'static>(
     rt: R,
     alloc: Global,
     case: &Case,
-) -> Result<(Status, MemSink), OutOfMemory> {
+) -> Result<(Ended, MemSink), OutOfMemory> {
     let desk = desk_of(alloc, case)?;
     let mut out = MemSink::new(alloc, Vec::from_slice(alloc, case.write_fails)?);
     let ended = hold(rt, alloc, case, desk, &mut out)?;
-    Ok((ended.status, out))
+    Ok((ended, out))
 }
 
 /// Whether a case ends as it says.
@@ -173,8 +166,8 @@ fn ends<R: Threads + Wait + Send + Copy + 'static>(
     alloc: Global,
     case: &Case,
 ) -> Result<bool, OutOfMemory> {
-    let (status, out) = held(rt, alloc, case)?;
-    Ok(status == case.status && out.written() == case.text)
+    let (ended, out) = held(rt, alloc, case)?;
+    Ok(ended.status == case.status && out.written() == case.text)
 }
 
 const CASES: [Case; 13] = [
@@ -299,18 +292,6 @@ fn gates_end_as_each_case_says(rt: HostRuntime) -> Result<(), Fail> {
     Ok(())
 }
 
-/// What a gate keeps in its capture.
-fn kept_by<R: Threads + Wait + Send + Copy + 'static>(
-    rt: R,
-    alloc: Global,
-    case: &Case,
-) -> Result<(Status, MemRecorder), OutOfMemory> {
-    let desk = desk_of(alloc, case)?;
-    let mut out = MemSink::new(alloc, Vec::new(alloc));
-    let ended = hold(rt, alloc, case, desk, &mut out)?;
-    Ok((ended.status, ended.rec))
-}
-
 #[test]
 fn a_gate_keeps_a_capture(rt: HostRuntime) -> Result<(), Fail> {
     let case = Case {
@@ -320,9 +301,9 @@ fn a_gate_keeps_a_capture(rt: HostRuntime) -> Result<(), Fail> {
         is_kept: true,
         ..PLAIN
     };
-    let (status, rec) = kept_by(rt, rt.alloc(), &case)?;
-    assert_eq!(rt; status, Status::Done);
-    assert_eq!(rt; rec.kept(), KEPT);
+    let (ended, _) = held(rt, rt.alloc(), &case)?;
+    assert_eq!(rt; ended.status, Status::Done);
+    assert_eq!(rt; ended.rec.kept(), KEPT);
     Ok(())
 }
 
@@ -336,8 +317,8 @@ fn a_client_may_be_too_long(rt: HostRuntime) -> Result<(), Fail> {
         limit: WHISPER.len() as u64,
         ..PLAIN
     };
-    let (status, out) = held(rt, rt.alloc(), &case)?;
-    assert_eq!(rt; status, Status::TooLong);
+    let (ended, out) = held(rt, rt.alloc(), &case)?;
+    assert_eq!(rt; ended.status, Status::TooLong);
     assert!(rt; TEXT.starts_with(out.written()));
     Ok(())
 }

@@ -167,11 +167,7 @@ fn both_talk<R: Threads + Wait + Send + Copy>(
     ensures pipes { AreCallersOf pipes.now (given_of result) }
     ensures many { how_many (given_of result) ≡ 2 }
 {
-    let TwoCallers {
-        first,
-        second,
-        back,
-    } = callers;
+    let (first, second, back) = (callers.first, callers.second, callers.back);
     let (first, second) = join(
         &rt,
         move ||
@@ -231,20 +227,14 @@ fn start_actor<P: Spawner>(
     let Ok(pipes) = Arc::try_clone(pipes) else {
         return None;
     };
-    let ActorWork {
-        node,
-        world,
-        rec,
-        limit,
-    } = work;
     let job = ActorJob {
         pipes,
-        world,
-        node,
+        world: work.world,
+        node: work.node,
         pass: actor,
-        rec,
+        rec: work.rec,
         keep: false,
-        limit,
+        limit: work.limit,
     };
     spawner.start(job).ok()
 }

@@ -2,22 +2,13 @@
 //! written.
 
 use crate::chats::{Terminal, chat};
-use crate::terminal::{Patient, Showing, sign_of, words_of, world_of};
+use crate::terminal::{Patient, Showing, node_words, sign_of, world_of};
 use std::alloc::Global;
 use std::test::Fail;
 use zre_app::Status;
 use zre_capture::CaptureReader;
 use zre_outside::{Entries, PlainSpawner, Script, ScriptWorld, Turn};
 use zre_values::OutOfMemory;
-
-const CHAT: &[&[u8]] = &[
-    b"chat",
-    b"id=ffeeddccbbaa99887766554433221100",
-    b"host=10.0.0.1",
-    b"port=49153",
-    b"name=Me",
-    b"to=10.0.0.9",
-];
 
 /// Three peers come, and two of them join a group.
 const SCRIPT: &[u8] = b"zre-capture 1\n\
@@ -80,12 +71,12 @@ fn world(alloc: Global) -> Result<ScriptWorld, OutOfMemory> {
 }
 
 /// The last line is held back until something was written.
-fn make_stand(alloc: Global) -> Result<Terminal, OutOfMemory> {
+fn make_stand(alloc: Global) -> Result<Terminal<Patient, Showing>, OutOfMemory> {
     let is_written = sign_of(alloc)?;
     let mut input = Patient::new(alloc, LINES, QUIT)?;
     input.wait_for(&is_written)?;
     Ok(Terminal {
-        words: words_of(alloc, CHAT)?,
+        words: node_words(alloc, &[b"chat", b"name=Me"])?,
         input,
         out: Showing::new(alloc, b"", is_written),
     })

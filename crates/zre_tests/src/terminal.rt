@@ -8,6 +8,20 @@ use std::thread::yield_now;
 use zre_outside::{Failed, MemSink, MemSource, NextFault, Script, ScriptWorld, Sink, Source, Turn};
 use zre_values::{Frames, Octets, OutOfMemory};
 
+/// A line that is refused, since nobody has that identity.
+pub const WHISPER: &[u8] = b"whisper 44444444444444444444444444444444 x\n";
+
+/// What a node tells last.
+pub const STOP: &[u8] = b"STOP\n";
+
+/// The words of a node.
+const NODE: &[&[u8]] = &[
+    b"id=ffeeddccbbaa99887766554433221100",
+    b"host=10.0.0.1",
+    b"port=49153",
+    b"to=10.0.0.9",
+];
+
 /// What one thread gives and others look for.
 pub type Sign = Arc<AtomicBool, Global>;
 
@@ -23,6 +37,15 @@ pub fn sign_of(alloc: Global) -> Result<Sign, OutOfMemory> {
 pub fn words_of(alloc: Global, words: &[&[u8]]) -> Result<Frames, OutOfMemory> {
     let mut list = Frames::new(alloc);
     for word in words {
+        list.push(Octets::copy(alloc, word)?)?;
+    }
+    Ok(list)
+}
+
+/// The words of a node's command: its name and others, and then those that each node has.
+pub fn node_words(alloc: Global, words: &[&[u8]]) -> Result<Frames, OutOfMemory> {
+    let mut list = words_of(alloc, words)?;
+    for word in NODE {
         list.push(Octets::copy(alloc, word)?)?;
     }
     Ok(list)

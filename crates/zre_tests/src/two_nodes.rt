@@ -45,7 +45,7 @@ fn make_stand(
     other: &'static [u8],
     own: &Sign,
     its: &Sign,
-) -> Result<Terminal, OutOfMemory> {
+) -> Result<Terminal<Patient, Showing>, OutOfMemory> {
     let mut input = Patient::new(alloc, b"", b"quit\n")?;
     input.wait_for(own)?;
     input.wait_for(its)?;
@@ -56,7 +56,9 @@ fn make_stand(
     })
 }
 
-fn make_stands(alloc: Global) -> Result<(Terminal, Terminal), OutOfMemory> {
+fn make_stands(
+    alloc: Global,
+) -> Result<(Terminal<Patient, Showing>, Terminal<Patient, Showing>), OutOfMemory> {
     let (first, second) = (sign_of(alloc)?, sign_of(alloc)?);
     let one = make_stand(alloc, ONE, MEETS_TWO, &first, &second)?;
     Ok((one, make_stand(alloc, TWO, MEETS_ONE, &second, &first)?))

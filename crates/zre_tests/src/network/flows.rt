@@ -48,8 +48,7 @@ fn a_link_and_its_connection_carry_octets_both_ways(rt: HostRuntime) {
     node.expect("Shut", 2, 0, b"");
     node.expect_quiet();
     peer.expect_quiet();
-    assert_eq!(rt; node.missed, "");
-    assert_eq!(rt; peer.missed, "");
+    assert_eq!(rt; (node.missed, peer.missed), ("", ""));
 }
 
 // Half a minute is tried at an address where nobody is. A link that the poll has no name for isn't tried.
@@ -76,8 +75,7 @@ fn a_link_waits_for_its_peer_to_listen(rt: HostRuntime) {
     peer.expect_quiet();
     let mut node = Watched::at(rt, near, &[]);
     talk(&mut node, &mut peer, 1, 7);
-    assert_eq!(rt; node.missed, "");
-    assert_eq!(rt; peer.missed, "");
+    assert_eq!(rt; (node.missed, peer.missed), ("", ""));
 }
 
 #[test]
@@ -93,8 +91,7 @@ fn connections_past_a_burst_come_in_their_order(rt: HostRuntime) {
         node.expect("Opened", conn, 0, b"");
     }
     node.expect_quiet();
-    assert_eq!(rt; node.missed, "");
-    assert_eq!(rt; peer.missed, "");
+    assert_eq!(rt; (node.missed, peer.missed), ("", ""));
 }
 
 // How many octets went out in the next turn.
@@ -152,8 +149,7 @@ fn what_the_socket_does_not_take_is_offered_again(rt: HostRuntime) -> Result<(),
         pass_on(&mut peer, &mut node, &bytes),
         (8_000_000, 8_000_000)
     );
-    assert_eq!(rt; node.missed, "");
-    assert_eq!(rt; peer.missed, "");
+    assert_eq!(rt; (node.missed, peer.missed), ("", ""));
     Ok(())
 }
 
@@ -167,7 +163,6 @@ fn an_answer_that_the_socket_does_not_take_whole_shuts(rt: HostRuntime) -> Resul
     node.answer(1, bytes);
     node.expect("Shut", 1, 0, b"");
     node.expect_quiet();
-    assert_eq!(rt; node.missed, "");
-    assert_eq!(rt; peer.missed, "");
+    assert_eq!(rt; (node.missed, peer.missed), ("", ""));
     Ok(())
 }
