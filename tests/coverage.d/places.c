@@ -5,9 +5,7 @@
  * Where REFUSED names a file, the program runs over it once for each of its allocations, which is refused there, and
  * the places of all these runs are written. A run that a signal ends is told on standard error.
  */
-#include <errno.h>
 #include <fcntl.h>
-#include <stddef.h>
 #include <stdint.h>
 #include <stdio.h>
 #include <stdlib.h>
@@ -15,11 +13,9 @@
 #include <sys/wait.h>
 #include <unistd.h>
 
-#define MOST_PLACES 65536
+#include "../refuse.d/allocations.h"
 
-extern void *__libc_malloc(size_t size);
-extern void *__libc_calloc(size_t count, size_t size);
-extern void *__libc_realloc(void *old, size_t size);
+#define MOST_PLACES 65536
 
 /* What all runs share: whether the refused allocation was asked for, and the places that were reached. */
 struct shared { uint8_t is_refused, places[MOST_PLACES]; };
@@ -39,23 +35,7 @@ static int is_refused(void)
     if (refused == 0 || ++allocations != refused)
         return 0;
     shared->is_refused = 1;
-    errno = ENOMEM;
     return 1;
-}
-
-void *malloc(size_t size)
-{
-    return is_refused() ? NULL : __libc_malloc(size);
-}
-
-void *calloc(size_t count, size_t size)
-{
-    return is_refused() ? NULL : __libc_calloc(count, size);
-}
-
-void *realloc(void *old, size_t size)
-{
-    return is_refused() ? NULL : __libc_realloc(old, size);
 }
 
 static void write_places(void)

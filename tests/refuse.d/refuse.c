@@ -11,14 +11,11 @@
 #include <errno.h>
 #include <fcntl.h>
 #include <stdatomic.h>
-#include <stddef.h>
 #include <stdlib.h>
 #include <sys/syscall.h>
 #include <unistd.h>
 
-extern void *__libc_malloc(size_t size);
-extern void *__libc_calloc(size_t count, size_t size);
-extern void *__libc_realloc(void *old, size_t size);
+#include "allocations.h"
 
 static atomic_long allocations, reads, writes;
 
@@ -35,23 +32,7 @@ static int is_refused(void)
         return 0;
     if (reached != NULL)
         close(open(reached, O_CREAT | O_WRONLY, 0600));
-    errno = ENOMEM;
     return 1;
-}
-
-void *malloc(size_t size)
-{
-    return is_refused() ? NULL : __libc_malloc(size);
-}
-
-void *calloc(size_t count, size_t size)
-{
-    return is_refused() ? NULL : __libc_calloc(count, size);
-}
-
-void *realloc(void *old, size_t size)
-{
-    return is_refused() ? NULL : __libc_realloc(old, size);
 }
 
 ssize_t read(int file, void *octets, size_t count)
