@@ -123,30 +123,30 @@ fn introduction(alloc: Global, peer: u8) -> Result<Octets, OutOfMemory>
     Ok(octets)
 }
 
+fn at_start(input: Input) -> Entry
+    ensures { result ≡ record { at = 0; input = input } }
+{
+    Entry { at: 0, input }
+}
+
 /// The beacon of a peer is heard.
 pub(crate) fn heard(alloc: Global, peer: u8) -> Result<Entry, OutOfMemory>
     ensures { IfOk result (λ entry. entry ≡ heard peer) }
 {
     let bytes = beacon(alloc, peer)?;
-    Ok(Entry {
-        at: 0,
-        input: Input::Datagram {
-            from: host(peer),
-            bytes,
-        },
-    })
+    Ok(at_start(Input::Datagram {
+        from: host(peer),
+        bytes,
+    }))
 }
 
 /// A peer opens its connection.
 pub(crate) fn opened(peer: u8) -> Entry
     ensures { result ≡ opened peer }
 {
-    Entry {
-        at: 0,
-        input: Input::Opened {
-            conn: peer as u64 + 1,
-        },
-    }
+    at_start(Input::Opened {
+        conn: peer as u64 + 1,
+    })
 }
 
 /// A peer introduces itself.
@@ -154,11 +154,8 @@ pub(crate) fn introduced(alloc: Global, peer: u8) -> Result<Entry, OutOfMemory>
     ensures { IfOk result (λ entry. entry ≡ introduced peer) }
 {
     let bytes = introduction(alloc, peer)?;
-    Ok(Entry {
-        at: 0,
-        input: Input::Piece {
-            conn: peer as u64 + 1,
-            bytes,
-        },
-    })
+    Ok(at_start(Input::Piece {
+        conn: peer as u64 + 1,
+        bytes,
+    }))
 }
