@@ -28,8 +28,8 @@ module _ (H K : List Mark) where
   HaveLinks [] links = Unit {0}
   HaveLinks (run ∷ runs) links = HasLink run links (HaveLinks runs)
 
--- Each run that the journal J of the node g has of the node k has a link of its own among those that k made to g, by its
--- journal K; and the other way round.
+-- Each run that the journal J of the node g has of the node k has a link of its own among those that k made to g, by
+-- its journal K; and the other way round.
 pub record HeardWhatWasPut (g k : Config) (J K : List Entry) : Type 0 where
   pub first : let H = chronicle g J in let I = chronicle k K in HaveLinks H I (runs_of k.id H) (links_of g.id I)
   pub second : let H = chronicle g J in let I = chronicle k K in HaveLinks I H (runs_of g.id I) (links_of k.id H)

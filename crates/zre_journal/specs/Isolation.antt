@@ -93,8 +93,8 @@ IsDoneOn c who _ K = ⊥
 
 -- What comes on c, and its end, leaves every peer alone but the one that c has introduced itself as, by then, and every
 -- other connection but one of that identity, which isn't open any more once c has introduced itself so; and the node's
--- own groups and status, and whether it has stopped. All that comes about is its own doing, and the clock goes on to the
--- entry's reading.
+-- own groups and status, and whether it has stopped. All that comes about is its own doing, and the clock goes on to
+-- the entry's reading.
 pub record Isolates (g : Config) (J : List Entry) : Type 0 where
   pub peers : (earlier : List Entry) (e : Entry) (later : List Entry) (c : ℕ) (p : PeerId) → J ≡ earlier ++ e ∷ later
       → is_about c e.input ≡ true → let H = chronicle g earlier in identity c (with_entry g e H) ≢ Some p

@@ -79,8 +79,8 @@ conns_left (_ ∷ later) = conns_left later
 
 -- Nothing leaks: each CONNECT is followed by a CLOSELINK or an UNLINKED of its link, or else its peer is known; each
 -- OPENED that is answered is followed by a CLOSECONN or a SHUT of its connection, or else the connection is open; never
--- both. The links and connections without an end are those of the known peers and the open ones, in this order. And at no
--- moment, also amid the acts of an entry, are more than 256 links or 512 connections without an end.
+-- both. The links and connections without an end are those of the known peers and the open ones, in this order. And at
+-- no moment, also amid the acts of an entry, are more than 256 links or 512 connections without an end.
 pub record LeaksNothing (g : Config) (J : List Entry) : Type 0 where
   pub are_inputs : filter_map input_of (passages g J) ≡ map (λ (e : Entry). e.input) J
   pub are_acts : filter_map act_of (passages g J) ≡ acts g J

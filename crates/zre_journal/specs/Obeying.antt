@@ -59,7 +59,8 @@ module _ (g : Config) where
   reaches (command.Bad n) K v = []
   reaches command.Quit K v = Ends v.link cause.Stop ∷ []
 
--- whether a mark is about link l: its peer is born, there, evasive, run or gone, or something is put, stands or goes out
+-- whether a mark is about link l: its peer is born, there, evasive, run or gone, or something is put, stands or goes
+-- out
 abbrev pub is_on : ℕ → Mark → Bool
 is_on l (Starts c k m) = nat_eq l k
 is_on l (Counts c k m) = nat_eq l k

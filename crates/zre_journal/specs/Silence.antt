@@ -70,7 +70,8 @@ pub record GoesAt (g : Config) (v : Life) (H : List Mark) (e : Entry) : Type 0 w
 
 -- At a tick a known peer of which nothing was heard for `expired`, by the journal's readings, is known no more, and
 -- told as gone where it was entered; any other isn't told as gone for that, and none is but at a tick. So a peer goes
--- at the first such tick, and for that at no tick before. One that was heard of less than `evasive` before each tick is never told as evasive.
+-- at the first such tick, and for that at no tick before. One that was heard of less than `evasive` before each tick is
+-- never told as evasive.
 pub record TellsSilence (g : Config) (J : List Entry) : Type 0 where
   pub is_gone : (earlier : List Entry) (e : Entry) (later : List Entry) (v : Life) → IsTickOf g J earlier e later v
       → let H = chronicle g earlier in let K = Comes e ∷ H in g.expired ≤ silent_for v.link K

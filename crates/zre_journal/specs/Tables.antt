@@ -1,5 +1,5 @@
--- Tables seen from one connection or one peer: where CLOSED and IGNORED are told of a connection and why, where a peer is
--- born and where, and where it is told as EVASIVE. A row for each kind of place.
+-- Tables seen from one connection or one peer: where CLOSED and IGNORED are told of a connection and why, where a peer
+-- is born and where, and where it is told as EVASIVE. A row for each kind of place.
 use Rattle.std.specs.Prelude.{◌≡◌, ℕ, false, not, ◌&&◌, List, [], ◌∷◌, Option, Some, None}
 use Rattle.std.specs.Prelude.{if◌then◌else◌, nat_eq, nat_lt, length, is_none}
 use Rattle.std.specs.List.{filter_map, cons_option}

@@ -263,8 +263,9 @@ pub fn nothing_leaks()
 /// What comes on a connection, its opening and its end leave every peer alone but the one that the connection has
 /// introduced itself as: whether and how it is known, its messages and view, when it was active, its link and what is
 /// told of it are as before. Every other connection is as before, too, but one of that identity, which gives way once
-/// the connection has introduced itself so. All that can come about is listed: for others it is that a connection of the
-/// same identity gives way, that room is taken, that the next link has a greater number, and that the clock goes on.
+/// the connection has introduced itself so. All that can come about is listed: for others it is that a connection of
+/// the same identity gives way, that room is taken, that the next link has a greater number, and that the clock goes
+/// on.
 pub fn connections_are_isolated()
     ensures { (g : Config) (J : List Entry) → Isolates g J }
 {}
