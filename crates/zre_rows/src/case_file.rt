@@ -5,24 +5,37 @@ use crate::report::{Place, Report};
 use crate::row::Row;
 use crate::section::CaseLine;
 use crate::text::Text;
+use crate::trouble::Trouble;
 use crate::words::Words;
 use std::alloc::Global;
 use std::mem;
-use zre_values::Octets;
+use zre_values::{Octets, Pairs};
 
-/// The file under way: its names, and its row. The report is one of all files.
+/// The file under way: its names, and its row. The report is one of all files, and so are the texts of the files that
+/// they include, by their names.
 #[derive(Drop)]
 pub struct CaseFile {
     pub alloc: Global,
+    included: Pairs,
     names: Names,
     pub row: Row,
     pub report: Report,
+}
+
+fn text_of<'a>(included: &'a Pairs, file: &[u8]) -> Option<&'a [u8]> {
+    for (known, text) in included.as_slice() {
+        if known.as_slice() == file {
+            return Some(text.as_slice());
+        }
+    }
+    None
 }
 
 impl CaseFile {
     pub fn new(alloc: Global) -> Self {
         CaseFile {
             alloc,
+            included: Pairs::new(alloc),
             names: Names::new(alloc),
             row: Row::new(alloc),
             report: Report::new(alloc),
@@ -40,6 +53,16 @@ impl CaseFile {
     pub fn begin(&mut self) {
         drop(mem::replace(&mut self.names, Names::new(self.alloc)));
         self.row.clear();
+    }
+
+    /// Whether the text of a file is there to be included.
+    pub fn has_included(&self, file: &[u8]) -> bool {
+        text_of(&self.included, file).is_some()
+    }
+
+    /// Keeps the text of a file, to be included. Where memory doesn't suffice the file is unknown at its line.
+    pub fn keep_included(&mut self, file: &[u8], text: &[u8]) {
+        let _ = self.included.push_copy(self.alloc, file, text);
     }
 
     /// The text with its names replaced.
@@ -88,6 +111,38 @@ impl CaseFile {
             self.names.expand(text, &mut out);
         }
         out.into_octets(&mut self.row.answer)
+    }
+
+    // `let NAME TEXT` or `series NAME FROM TO TEXT`, if it is one of them.
+    fn take_name(&mut self, words: Words<'_>) -> bool {
+        if words.is("let") {
+            self.define(words);
+            true
+        } else if words.is("series") {
+            self.define_series(words);
+            true
+        } else {
+            false
+        }
+    }
+
+    // `include FILE`: the lines of that file name texts. It includes no other file, and so not itself.
+    fn include(&mut self, file: &[u8]) {
+        let included = mem::replace(&mut self.included, Pairs::new(self.alloc));
+        match text_of(&included, file) {
+            Some(text) => self.take_names(text),
+            None => self.row.answer.fail(Trouble::UnknownFile),
+        }
+        drop(mem::replace(&mut self.included, included));
+    }
+
+    fn take_names(&mut self, text: &[u8]) {
+        for line in text.split(|octet| *octet == b'\n') {
+            let is_line = !line.is_empty() && !line.starts_with(b"#");
+            if is_line && !self.take_name(Words::of_line(self.alloc, line)) {
+                self.row.answer.fail(Trouble::UnknownKey);
+            }
+        }
     }
 
     // `= TEXT`
@@ -170,15 +225,11 @@ impl CaseFile {
             return true;
         }
         self.row.go_on(place.line);
-        if words.is("let") {
-            self.define(words);
-            false
-        } else if words.is("series") {
-            self.define_series(words);
-            false
-        } else {
-            true
+        if words.is("include") {
+            self.include(words.rest());
+            return false;
         }
+        !self.take_name(words)
     }
 
     /// Ends the file.

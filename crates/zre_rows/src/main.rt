@@ -27,7 +27,8 @@ use std::process::ExitCode;
 use std::rt::Files;
 use std::sync::Wait;
 use std::thread::Threads;
-use std::{fs, io};
+use std::{fs, io, str};
+use words::Words;
 
 // The names of the case files, in order.
 fn case_files<R: Files + AllocGlobal + Clone + Drop>(rt: &R) -> io::Result<Vec<String>> {
@@ -43,6 +44,31 @@ fn case_files<R: Files + AllocGlobal + Clone + Drop>(rt: &R) -> io::Result<Vec<S
     Ok(names)
 }
 
+// Reads a file that is included, unless it was read before. One that can't be read is unknown at its line.
+fn read_included<R: Files + AllocGlobal + Clone + Drop>(rt: &R, page: &mut CaseFile, file: &[u8]) {
+    if page.has_included(file) {
+        return;
+    }
+    if let Ok(name) = str::from_utf8(file) {
+        if let Ok(text) = fs::read(rt, name) {
+            page.keep_included(file, text.as_slice());
+        }
+    }
+}
+
+fn read_all_included<R: Files + AllocGlobal + Clone + Drop>(
+    rt: &R,
+    page: &mut CaseFile,
+    text: &[u8],
+) {
+    for line in text.split(|octet| *octet == b'\n') {
+        let words = Words::of_line(page.alloc, line);
+        if words.is("include") {
+            read_included(rt, page, words.rest());
+        }
+    }
+}
+
 // Goes over the file of this name. One that can't be read counts as failed.
 fn take_file<R: Files + Threads + Wait + AllocGlobal + Copy + Send + 'static>(
     rt: R,
@@ -51,7 +77,10 @@ fn take_file<R: Files + Threads + Wait + AllocGlobal + Copy + Send + 'static>(
 ) {
     let file = name.as_bytes();
     match fs::read(&rt, name) {
-        Ok(text) => go_over(rt, page, file, text.as_slice()),
+        Ok(text) => {
+            read_all_included(&rt, page, text.as_slice());
+            go_over(rt, page, file, text.as_slice());
+        }
         Err(_) => {
             page.report.count_failed();
             page.report.tell(Place { file, line: 0 }, b"can't be read");

@@ -7,6 +7,8 @@ pub enum Trouble {
     UnknownKey,
     /// No text has this name.
     UnknownName,
+    /// No file has this name, or it can't be read.
+    UnknownFile,
     /// An argument is missing, or isn't of its kind, or is one too many.
     BadArgument,
     OutOfMemory,
@@ -18,6 +20,7 @@ impl Trouble {
         match self {
             Trouble::UnknownKey => b"unknown key",
             Trouble::UnknownName => b"unknown name",
+            Trouble::UnknownFile => b"unknown file",
             Trouble::BadArgument => b"bad argument",
             Trouble::OutOfMemory => b"out of memory",
         }
