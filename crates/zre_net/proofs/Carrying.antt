@@ -263,9 +263,6 @@ module _ (H : List Happening) (s : Carries H) (n at : ℕ) (id : PeerId) (name h
   abbrev S : List Happening
   S = after_start H n at id name host port
 
-  known_later : (b : Incarnation) → IsKnown H b → IsKnown S b
-  known_later = known_started H n at id name host port
-
   before : (P : Incarnation → Type 0) (b : Incarnation) → IsKnown S b → (IsKnown H b → P b) → P new → P b
   before P b k p q = by (nth_cases b.number (incarnations H) new b k)
     where
@@ -283,7 +280,7 @@ module _ (H : List Happening) (s : Carries H) (n at : ℕ) (id : PeerId) (name h
   starts_on = record {
     can = λ b k. before (λ d. CanBe d.settings) b k (λ z. s.can b z) can_start;
     runs = λ k b r. by k b (eqb k n) refl r;
-    owners = all_map (λ (r : Route). IsKnown H r.from) (λ (r : Route). IsKnown S r.from) (λ r z. known_later r.from z) (routes H) s.owners;
+    owners = all_map (λ (r : Route). IsKnown H r.from) (λ (r : Route). IsKnown S r.from) (λ r z. known_started H n at id name host port r.from z) (routes H) s.owners;
     silent = λ b z. s.silent b (let l = length-last (incarnations H) new in omega (arith, l, z));
     each = λ x c e. one x c (s.each x c e);
     none_yet = s.none_yet;
@@ -292,13 +289,13 @@ module _ (H : List Happening) (s : Carries H) (n at : ℕ) (id : PeerId) (name h
     where
       by : (k : ℕ) (b : Incarnation) (t : Bool) → eqb k n ≡ t → cond t (Some new) (running k H) ≡ Some b → IsKnown S b
       by k b true e r = subst (IsKnown S) (some_one r) (starting_known H n at id name host port)
-      by k b false e r = known_later b (s.runs k b r)
+      by k b false e r = known_started H n at id name host port b (s.runs k b r)
 
       one : (x : ℕ) (c : CarriedConn) → IsCarried H x c → IsCarried S x c
       one x c k = record {
         number = k.number;
-        to_known = known_later c.to k.to_known;
-        from_known = known_later c.along.from k.from_known;
+        to_known = known_started H n at id name host port c.to k.to_known;
+        from_known = known_started H n at id name host port c.along.from k.from_known;
         sayable = all_sayable (Happens (move.Start n at id name host port) None) H c (carried x H) k.sayable;
         old = k.old;
         octets = λ o. k.octets o ∙ sym (same_stream (Happens (move.Start n at id name host port) None) H c (carried x H) k.sayable);
