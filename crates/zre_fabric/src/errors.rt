@@ -1,6 +1,6 @@
 //! What an error of the two sockets means that the whole node stands on, the listener and the one for beacons.
 
-ghost use Rattle.std.specs.Prelude.{◌≡◌, is_ok, IfOk};
+ghost use Rattle.std.specs.Prelude.{◌≡◌, is_ok, IfOk, IfErr, Err};
 ghost use Rattle.std.specs.IoError.{error_kind, raw_os_error};
 ghost use Rattle.zre_fabric.specs.ErrorClasses.{class_by, is_passing_number, is_short_by};
 
@@ -81,6 +81,7 @@ pub(crate) fn is_short(e: &io::Error) -> bool
 pub(crate) fn once_ready<T: Drop>(made: T, rest: io::Result<()>) -> io::Result<T>
     ensures ok { is_ok result ≡ is_ok rest }
     ensures made { IfOk result (λ ready. ready ≡ made) }
+    ensures error { IfErr result (λ error. rest ≡ Err error) }
 {
     match rest {
         Ok(()) => Ok(made),
