@@ -45,7 +45,7 @@ fn case_files<R: Files + AllocGlobal + Clone + Drop>(rt: &R) -> io::Result<Vec<S
 }
 
 // Reads a file that is included, unless it was read before. One that can't be read is unknown at its line.
-fn read_included<R: Files + AllocGlobal + Clone + Drop>(rt: &R, page: &mut CaseFile, file: &[u8]) {
+fn read_included<R: Files + AllocGlobal + Copy>(rt: &R, page: &mut CaseFile, file: &[u8]) {
     if page.has_included(file) {
         return;
     }
@@ -56,11 +56,7 @@ fn read_included<R: Files + AllocGlobal + Clone + Drop>(rt: &R, page: &mut CaseF
     }
 }
 
-fn read_all_included<R: Files + AllocGlobal + Clone + Drop>(
-    rt: &R,
-    page: &mut CaseFile,
-    text: &[u8],
-) {
+fn read_all_included<R: Files + AllocGlobal + Copy>(rt: &R, page: &mut CaseFile, text: &[u8]) {
     for line in text.split(|octet| *octet == b'\n') {
         let words = Words::of_line(page.alloc, line);
         if words.is("include") {
