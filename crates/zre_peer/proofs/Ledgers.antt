@@ -1,13 +1,14 @@
 -- A sender's numbered list, of which some messages come: what a run makes of them.
-use Rattle.std.proofs.Common.{◌≡◌, ◌≢◌, ℕ, ◌+◌, ◌-◌, ◌%◌, ◌<◌, Bool, true, false, cond, not, ◌&&◌, eqb, List, [], ◌∷◌, ◌++◌, length, take, drop, Some, slice_get, refl, sym, ap, ◌∙◌, subst, arith, eq-eqb, eqb-true}
+use Rattle.std.proofs.Common.{◌≡◌, ◌≢◌, ℕ, suc, ◌+◌, ◌-◌, ◌%◌, ◌<◌, Bool, true, false, cond, not, ◌&&◌, eqb, List, [], ◌∷◌, ◌++◌, length, take, drop, Some, Result, Ok, Err, OnOk, IfErr, slice_get, refl, sym, ap, ◌∙◌, subst, arith, eq-eqb, eqb-true}
 use Rattle.std.proofs.lemmas.Bool.{and_parts, eqb-false, ne_eqb}
 use Rattle.std.proofs.lemmas.List.{length-append, drop_more}
 use Rattle.std.proofs.lemmas.Option.{slice_get_within, get_or_from_slice_get}
 use Rattle.std.specs.List.{range_with_len}
 use Rattle.zre_msg.specs.declared.message.Message.{Message}
+use Rattle.zre_peer.specs.declared.peer_run.RunFault.{RunFault}
 use Rattle.zre_peer.specs.declared.peer_run.RunFault.TheVariants as faults
-use Rattle.zre_peer.specs.Ledger.{IsNumbered, IsPicked, IsNear, ArePicked, AreNear, Follows}
-use Rattle.zre_peer.specs.Runs.{due, fault_of, is_hello, may_follow, in_order_after}
+use Rattle.zre_peer.specs.Ledger.{IsNumbered, IsPicked, IsNear, ArePicked, AreNear, Follows, KeepsItsList}
+use Rattle.zre_peer.specs.Runs.{due, fault_of, is_hello, may_follow, in_order, in_order_after}
 use Rattle.zre_peer.specs.Views.{view_of, is_small}
 
 -- two places fewer than 65536 apart have different numbers
@@ -118,4 +119,39 @@ in_turn sent done n (pick ∷ picks) (m ∷ ms) len numbered p near o =
     let rest = in_turn sent (done ++ m ∷ []) (n + 1) picks ms more numbered p.1 near.1 order.1 in (
       ap (λ k. k ∷ take (length ms) picks) is ∙ ap (λ ks. (n + 1) ∷ ks) rest.0,
       ap (take (length (m ∷ ms))) (left_at sent n pick m is p.0) ∙ ap (λ xs. m ∷ xs) rest.1,
+    )
+
+-- the last of some messages is at the place for it
+last_picked : (sent : List Message) (picks : List ℕ) (ms : List Message) (m : Message) (pick : ℕ) → ArePicked sent picks (ms ++ m ∷ []) → slice_get picks (length ms) ≡ Some pick → IsPicked sent pick m
+last_picked sent [] [] m pick p at = absurd p
+last_picked sent (k ∷ picks) [] m pick p at = let is : k ≡ pick = cc in subst (λ j. IsPicked sent j m) is p.0
+last_picked sent [] (n ∷ ms) m pick p at = absurd p
+last_picked sent (k ∷ picks) (n ∷ ms) m pick p at = last_picked sent picks ms m pick p.1 at
+
+-- and near the one that is due
+last_near : (n d : ℕ) (picks : List ℕ) (ms : List Message) (pick : ℕ) → d ≡ n + length ms → AreNear n (take (length ms + 1) picks) → slice_get picks (length ms) ≡ Some pick → 0 < d → IsNear d pick
+last_near n d [] ms pick e near at some = absurd cc
+last_near n d (k ∷ picks) [] pick e near at some =
+    let is : k ≡ pick = cc in
+    let same : n ≡ d = omega (arith, e) in
+    subst (λ j. IsNear d j) is (subst (λ j. IsNear j k) same (near.0 (omega (arith, e, some))))
+last_near n d (k ∷ picks) (m ∷ ms) pick e near at some =
+    let more : length (m ∷ ms) + 1 ≡ suc (length ms + 1) = omega arith in
+    let rest : AreNear n (take (suc (length ms + 1)) (k ∷ picks)) = subst (λ j. AreNear n (take j (k ∷ picks))) more near in
+    last_near (n + 1) d picks ms pick (omega (arith, e)) rest.1 at some
+
+-- what a run answers to a message that comes from a list
+pub keeps_its_list : {A : Type 0} (result : Result A RunFault) (ms : List Message) (m : Message) → OnOk result (in_order (ms ++ m ∷ []) ≡ true) → IfErr result (λ e. e ≢ faults.OutOfMemory → (may_follow ms m ≡ false) × (e ≡ fault_of ms m)) → KeepsItsList result ms m
+keeps_its_list (Ok x) ms m ordered refused = λ sent picks pick numbered picked near at.
+    let all : length (ms ++ m ∷ []) ≡ length ms + 1 = length-append ms (m ∷ []) in
+    let b = in_turn sent [] 0 picks (ms ++ m ∷ []) refl numbered picked (subst (λ k. AreNear 0 (take k picks)) (sym all) near) ordered in
+    (record { places = b.0; messages = b.1 }, tt)
+keeps_its_list (Err e) ms m ordered refused = λ sent picks pick numbered picked near at.
+    let it = follows sent ms pick m numbered (last_picked sent picks ms m pick picked at) (last_near 0 (length ms) picks ms pick (omega arith) near at) in (
+      tt,
+      λ ne. let r = refused ne in record {
+        why = sym it.taken ∙ r.0;
+        another = λ other. r.1 ∙ it.another other;
+        next = λ is. r.1 ∙ it.next is;
+      },
     )

@@ -1,5 +1,5 @@
 -- A run that has taken messages, and one more.
-use Rattle.std.proofs.Common.{◌≡◌, ℕ, ◌+◌, ◌%◌, true, false, ◌&&◌, List, [], ◌∷◌, ◌++◌, length, Some, refl, sym, ap, ◌∙◌, arith}
+use Rattle.std.proofs.Common.{◌≡◌, ◌≢◌, ℕ, ◌+◌, ◌%◌, Bool, true, false, cond, eqb, ◌&&◌, List, [], ◌∷◌, ◌++◌, length, Some, refl, sym, ap, ◌∙◌, arith}
 use Rattle.std.proofs.lemmas.List.Sums.{fold_push}
 use Rattle.std.proofs.lemmas.Bool.{and_parts, and_from}
 use Rattle.std.proofs.lemmas.List.{append-nil, append_assoc, length_push}
@@ -8,8 +8,9 @@ use Rattle.zre_msg.specs.declared.message.Message.{Message}
 use Rattle.zre_peer.specs.declared.view.View.{View}
 use Rattle.zre_peer.specs.declared.peer_run.Run.{Run}
 use Rattle.zre_peer.specs.declared.peer_run.RunFault.{RunFault}
+use Rattle.zre_peer.specs.declared.peer_run.RunFault.TheVariants as faults
 use Rattle.zre_peer.specs.Later.{goes_on, later_fault}
-use Rattle.zre_peer.specs.Runs.{due, may_follow, fault_of, shown, in_order, in_order_after}
+use Rattle.zre_peer.specs.Runs.{due, is_hello, may_follow, fault_of, shown, in_order, in_order_after}
 use Rattle.zre_peer.specs.Standing.{Stands}
 use Rattle.zre_peer.specs.Views.{view_of, after, blank}
 
@@ -91,3 +92,12 @@ refused_later r ms v m next f s is next_is refused why =
 -- the view of a run is that of its messages
 pub view_of_run : (r : Run) (ms : List Message) (v : View) → Stands r ms → r.view ≡ Some v → v ≡ view_of ms
 view_of_run r ms v s is = view_before ms v (sym is ∙ s.view)
+
+-- a message after the first is never refused as a first one
+pub later_never : (number : ℕ) (m : Message) → later_fault number m ≢ faults.NotHello
+later_never number m = by (is_hello m.body) (eqb m.sequence number)
+  where
+    by : (h n : Bool) → cond h faults.SecondHello (cond n faults.Limit (faults.Broken number m.sequence)) ≢ faults.NotHello
+    by true n e = absurd cc
+    by false true e = absurd cc
+    by false false e = absurd cc

@@ -1,6 +1,7 @@
 -- A sender's numbered list of messages, of which some come, each by its place in the list.
 use Rattle.std.specs.Prelude.{◌≡◌, ◌≢◌, ℕ, ◌+◌, ◌-◌, ◌%◌, ◌<◌, ◌≤◌, ◌==◌, ◌&&◌, List, [], ◌∷◌, ◌++◌, length, Some}
-use Rattle.std.specs.Prelude.{slice_get, if◌then◌else◌}
+use Rattle.std.specs.Prelude.{false, slice_get, take, if◌then◌else◌, Result, OnOk, IfErr}
+use Rattle.std.specs.List.{range_with_len}
 use Rattle.zre_msg.specs.declared.message.Message.{Message}
 use Rattle.zre_peer.specs.declared.peer_run.RunFault.{RunFault}
 use Rattle.zre_peer.specs.declared.peer_run.RunFault.TheVariants as faults
@@ -48,3 +49,26 @@ pub record Follows (ms : List Message) (pick : ℕ) (m : Message) : Type 0 where
   pub another : pick ≢ length ms + 1 → fault_of ms m ≡ fault_of_another ms pick
   -- the next one fails by nothing but a limit
   pub next : pick ≡ length ms + 1 → fault_of ms m ≡ faults.Limit
+
+-- ---- a run over such a list
+
+-- these messages are the beginning of the list, and came from its first places, one after another
+pub record IsBeginning (sent : List Message) (picks : List ℕ) (ms : List Message) : Type 0 where
+  pub places : take (length ms) picks ≡ range_with_len 1 (length ms)
+  pub messages : take (length ms) sent ≡ ms
+
+-- why the message at place pick was refused after these: it isn't the next one, or the view after it would pass a limit
+pub record IsRefused (ms : List Message) (pick : ℕ) (m : Message) (e : RunFault) : Type 0 where
+  pub why : ((pick == length ms + 1) && is_small (view_of (ms ++ m ∷ []))) ≡ false
+  pub another : pick ≢ length ms + 1 → e ≡ fault_of_another ms pick
+  pub next : pick ≡ length ms + 1 → e ≡ faults.Limit
+
+-- A run that had taken these was given one more. Whatever numbered list they come from, each near the one that was due:
+-- it took the message, and all that it took is the beginning of the list; or it refused it, and memory isn't why, for
+-- where it stands in the list.
+abbrev pub KeepsItsList : {A : Type 0} → Result A RunFault → List Message → Message → Type 0
+KeepsItsList result ms m =
+    (sent : List Message) (picks : List ℕ) (pick : ℕ) → IsNumbered sent → ArePicked sent picks (ms ++ m ∷ [])
+    → AreNear 0 (take (length ms + 1) picks) → slice_get picks (length ms) ≡ Some pick
+    → OnOk result (IsBeginning sent picks (ms ++ m ∷ []))
+    × IfErr result (λ e. e ≢ faults.OutOfMemory → IsRefused ms pick m e)

@@ -5,6 +5,7 @@ ghost use Rattle.zre_msg.specs.declared.message.Message.{Message};
 ghost use Rattle.zre_msg.specs.Lent.{message_of};
 ghost use Rattle.zre_peer.specs.declared.peer_run.RunFault.TheVariants as faults;
 ghost use Rattle.zre_peer.specs.Changes.{TellsLines};
+ghost use Rattle.zre_peer.specs.Ledger.{KeepsItsList};
 ghost use Rattle.zre_peer.specs.Later.{goes_on, later_fault, RefusesLater};
 ghost use Rattle.zre_peer.specs.Runs.{events_of, may_follow, fault_of, in_order, is_hello};
 ghost use Rattle.zre_peer.specs.Views.{after, blank, is_small, view_of};
@@ -236,12 +237,17 @@ impl Run {
     /// Takes the next message, and gives its events.
     pub fn next(&mut self, message: Message) -> Result<Events, RunFault>
         requires { is_spent self.old ≡ false }
+        // It is the next one: its events.
         ensures ok { (ms : List Message) → Stands self.old ms → IfOk result (λ events.
             Stands self.new (ms ++ message ∷ []) × (events ≡ events_of (id_of self.old) (view_of ms) message.body)) }
         ensures going { OnOk result (is_spent self.new ≡ false) }
+        // It isn't: the fault, and no further message is taken.
         ensures refused { (ms : List Message) → Stands self.old ms → IfErr result (λ e. e ≢ RunFault.OutOfMemory →
             (in_order (ms ++ message ∷ []) ≡ false) × (e ≡ fault_of ms message)) }
         ensures spent { IfErr result (λ e. e ≢ RunFault.OutOfMemory → is_spent self.new ≡ true) }
+        // Of a sender's numbered list, none is missing, repeated or out of order.
+        ensures ledger { (ms : List Message) → Stands self.old ms → KeepsItsList result ms message }
+        // What stays as it was.
         ensures unchanged { result ≡ Err RunFault.OutOfMemory → self.new ≡ self.old }
         ensures kept { OnErr result (view_in self.new ≡ view_in self.old) }
         ensures id { id_of self.new ≡ id_of self.old }
@@ -325,21 +331,25 @@ impl Run {
     pub fn take_lent(&mut self, lent: &LentMessage<'_>, events: &mut Events) -> Result<(), RunFault>
         requires going { is_spent self.old ≡ false }
         requires later { is_some (view_in self.old) ≡ true }
+        // It is the next one: its events.
         ensures ok { (ms : List Message) → Stands self.old ms → OnOk result (
             (may_follow ms (message_of lent.now) ≡ true) × Stands self.new (ms ++ (message_of lent.now) ∷ [])
             × (events.new ≡ events.old ++ events_of (id_of self.old) (view_of ms) (message_of lent.now).body)) }
         ensures going { OnOk result (is_spent self.new ≡ false) }
+        // It isn't: the fault, which isn't that of a first message, and no further message is taken.
         ensures refused { (ms : List Message) → Stands self.old ms → IfErr result (λ e. e ≢ RunFault.OutOfMemory →
             (may_follow ms (message_of lent.now) ≡ false) × (in_order (ms ++ (message_of lent.now) ∷ []) ≡ false)
             × (e ≡ fault_of ms (message_of lent.now)) × (events.new ≡ events.old)) }
+        ensures never { IfErr result (λ e. e ≢ RunFault.NotHello) }
         ensures spent { IfErr result (λ e. e ≢ RunFault.OutOfMemory → is_spent self.new ≡ true) }
+        // What stays as it was.
         ensures unchanged { result ≡ Err RunFault.OutOfMemory → self.new ≡ self.old }
         ensures kept { OnErr result (view_in self.new ≡ view_in self.old) }
         ensures id { id_of self.new ≡ id_of self.old }
     {
         let next = self.due();
         let Some(view) = &mut self.view else {
-            return Err(RunFault::NotHello);
+            unreachable!();
         };
         match view.later_lent(self.alloc, self.id, next, lent, events) {
             Ok(()) => {
@@ -374,7 +384,7 @@ impl Run {
     {
         let next = self.due();
         let Some(view) = &mut self.view else {
-            return Err(RunFault::NotHello);
+            unreachable!();
         };
         match view.tell_later(self.alloc, next, lent, heads, out) {
             Ok(()) => {

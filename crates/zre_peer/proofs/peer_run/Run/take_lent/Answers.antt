@@ -1,7 +1,7 @@
-use Rattle.std.proofs.Common.{◌++◌, [], ap, ◌∙◌}
+use Rattle.std.proofs.Common.{◌++◌, [], ap, sym, ◌∙◌}
 use Rattle.zre_msg.specs.Lent.{message_of}
 use Rattle.zre_peer.specs.Runs.{events_of}
-use Rattle.zre_peer.proofs.Standing.{taken_later, refused_later, in_order-refused, view_of_run}
+use Rattle.zre_peer.proofs.Standing.{taken_later, refused_later, in_order-refused, later_never, view_of_run}
 use Rattle.zre_peer.proofs.peer_run.Run.take_lent.Goals as goal
 
 pub returns-in-Ok-clause-ok : goal.returns-in-Ok-clause-ok
@@ -17,3 +17,8 @@ returns-in-Err-clause-refused c = λ ms s ne.
     let h = c.in-Err.ensures.refused ne in
     let f = refused_later c.args.self.now ms c.in-Some.view m _ _ s c.in-Some.is c.due-next.ensures h.0 h.1 in
     (f.0, in_order-refused [] ms m f.0, f.1, h.2)
+
+pub returns-in-Err-clause-never : goal.returns-in-Err-clause-never
+returns-in-Err-clause-never c = λ is.
+    let h = c.in-Err.ensures.refused (λ z. let w = sym is ∙ z in absurd cc) in
+    later_never _ (message_of c.args.lent.now) (sym h.1 ∙ is)
