@@ -94,10 +94,12 @@ fn read_hello_frame(
     first: &[u8],
     further: &Further<'_>,
 ) -> Result<Message, ReadFault>
+    // The frame begins as HELLO does, and its places have numbers.
     requires places { length first.now < 2 ^ 32 }
     requires long { 6 ≤ length first.now }
     requires hello { slice_index first.now 2 ≡ 1 }
     requires head { first_row (head_rows first.now) ≡ None }
+    // The message, or what is wrong.
     ensures { Answers result (read_of first.now (frames_of further.now)) }
 {
     let (_, fields) = first.split_at(6);

@@ -65,9 +65,12 @@ impl View {
         status: u8,
         events: &mut Events,
     ) -> Result<(), RunFault>
+        // The view is within its limits.
         requires { is_small self.old ≡ true }
+        // The view and the events after it.
         ensures ok { OnOk result (ChangesWithEvents id self.old self.new (bodies.Join group.now status)
             events.old events.new) }
+        // It is refused: nothing changes, and why.
         ensures kept { OnErr result (self.new ≡ self.old) }
         ensures refused { PassesLimit result self.old (bodies.Join group.now status) events.old events.new }
     {
@@ -91,9 +94,12 @@ impl View {
         status: u8,
         events: &mut Events,
     ) -> Result<(), RunFault>
+        // The view is within its limits.
         requires { is_small self.old ≡ true }
+        // The view and the events after it.
         ensures ok { OnOk result (ChangesWithEvents id self.old self.new (bodies.Leave group.now status)
             events.old events.new) }
+        // It is refused: nothing changes, and why.
         ensures kept { OnErr result (self.new ≡ self.old) }
         ensures refused { IfErr result (λ e. e ≡ RunFault.OutOfMemory) }
     {
@@ -157,9 +163,12 @@ impl View {
         body: &mut Body,
         events: &mut Events,
     ) -> Result<(), RunFault>
+        // The view is within its limits, and the message is no HELLO.
         requires within { is_small self.old ≡ true }
         requires no_hello { is_hello body.old ≡ false }
+        // The view and the events after it.
         ensures ok { OnOk result (ChangesWithEvents id self.old self.new body.old events.old events.new) }
+        // It is refused: nothing changes, and why.
         ensures kept { OnErr result (self.new ≡ self.old) }
         ensures refused { PassesLimit result self.old body.old events.old events.new }
     {
@@ -201,9 +210,12 @@ impl View {
         lent: &LentMessage<'_>,
         events: &mut Events,
     ) -> Result<(), RunFault>
+        // The view is within its limits.
         requires { is_small self.old ≡ true }
+        // The view and the events after it.
         ensures ok { OnOk result (ChangesWithEvents id self.old self.new (message_of lent.now).body
             events.old events.new) }
+        // It is refused: nothing changes, and why.
         ensures kept { OnErr result (self.new ≡ self.old) }
         ensures refused { PassesLimit result self.old (message_of lent.now).body events.old events.new }
     {

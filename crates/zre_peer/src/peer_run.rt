@@ -132,10 +132,13 @@ impl View {
         message: &mut Message,
         events: &mut Events,
     ) -> Result<(), RunFault>
+        // The view is within its limits.
         requires { is_small self.old ≡ true }
+        // It is the next one: the view and the events after it.
         ensures ok { OnOk result ((goes_on self.old due message.old ≡ true)
             × (self.new ≡ after self.old message.old.body)
             × (events.new ≡ events.old ++ events_of id self.old message.old.body)) }
+        // It isn't: nothing changes, and why.
         ensures kept { OnErr result (self.new ≡ self.old) }
         ensures refused { RefusesLater result self.old due message.old events.old events.new }
     {
@@ -153,10 +156,13 @@ impl View {
         lent: &LentMessage<'_>,
         events: &mut Events,
     ) -> Result<(), RunFault>
+        // The view is within its limits.
         requires { is_small self.old ≡ true }
+        // It is the next one: the view and the events after it.
         ensures ok { OnOk result ((goes_on self.old due (message_of lent.now) ≡ true)
             × (self.new ≡ after self.old (message_of lent.now).body)
             × (events.new ≡ events.old ++ events_of id self.old (message_of lent.now).body)) }
+        // It isn't: nothing changes, and why.
         ensures kept { OnErr result (self.new ≡ self.old) }
         ensures refused { RefusesLater result self.old due (message_of lent.now) events.old events.new }
     {
@@ -174,12 +180,16 @@ impl View {
         heads: &Heads,
         out: &mut Octets,
     ) -> Result<(), RunFault>
+        // The view is within its limits.
         requires { is_small self.old ≡ true }
+        // It is the next one: the view after it, and the lines.
         ensures ok { OnOk result ((goes_on self.old due (message_of lent.now) ≡ true)
             × (self.new ≡ after self.old (message_of lent.now).body)) }
         ensures told { TellsLines result heads.now self.old (message_of lent.now).body out.old out.new }
+        // What holds of the view in any case.
         ensures name { self.new.name ≡ self.old.name }
         ensures small { is_small self.new ≡ true }
+        // It isn't: nothing changes, and why.
         ensures kept { OnErr result (self.new ≡ self.old) }
         ensures refused { RefusesLater result self.old due (message_of lent.now) out.old out.new }
     {
@@ -260,16 +270,19 @@ impl Run {
     /// The same, with the events appended to a list. After `OutOfMemory` some of them may stand there.
     pub fn take(&mut self, mut message: Message, events: &mut Events) -> Result<(), RunFault>
         requires { is_spent self.old ≡ false }
+        // It is the next one: its events, and the view of a HELLO.
         ensures first { view_in self.old ≡ None → OnOk result (
             (is_hello message.body ≡ true) × (view_in self.new ≡ Some (after blank message.body))) }
         ensures ok { (ms : List Message) → Stands self.old ms → OnOk result (
             (may_follow ms message ≡ true) × Stands self.new (ms ++ message ∷ [])
             × (events.new ≡ events.old ++ events_of (id_of self.old) (view_of ms) message.body)) }
         ensures going { OnOk result (is_spent self.new ≡ false) }
+        // It isn't: the fault, and no further message is taken.
         ensures refused { (ms : List Message) → Stands self.old ms → IfErr result (λ e. e ≢ RunFault.OutOfMemory →
             (may_follow ms message ≡ false) × (in_order (ms ++ message ∷ []) ≡ false) × (e ≡ fault_of ms message)
             × (events.new ≡ events.old)) }
         ensures spent { IfErr result (λ e. e ≢ RunFault.OutOfMemory → is_spent self.new ≡ true) }
+        // What stays as it was.
         ensures unchanged { result ≡ Err RunFault.OutOfMemory → self.new ≡ self.old }
         ensures kept { OnErr result (view_in self.new ≡ view_in self.old) }
         ensures id { id_of self.new ≡ id_of self.old }
@@ -286,16 +299,19 @@ impl Run {
         events: &mut Events,
     ) -> Result<(), RunFault>
         requires { is_spent self.old ≡ false }
+        // It is the next one: its events, and the view of a HELLO.
         ensures first { view_in self.old ≡ None → OnOk result (
             (is_hello message.old.body ≡ true) × (view_in self.new ≡ Some (after blank message.old.body))) }
         ensures ok { (ms : List Message) → Stands self.old ms → OnOk result (
             (may_follow ms message.old ≡ true) × Stands self.new (ms ++ message.old ∷ [])
             × (events.new ≡ events.old ++ events_of (id_of self.old) (view_of ms) message.old.body)) }
         ensures going { OnOk result (is_spent self.new ≡ false) }
+        // It isn't: the fault, and no further message is taken.
         ensures refused { (ms : List Message) → Stands self.old ms → IfErr result (λ e. e ≢ RunFault.OutOfMemory →
             (may_follow ms message.old ≡ false) × (in_order (ms ++ message.old ∷ []) ≡ false)
             × (e ≡ fault_of ms message.old) × (events.new ≡ events.old)) }
         ensures spent { IfErr result (λ e. e ≢ RunFault.OutOfMemory → is_spent self.new ≡ true) }
+        // What stays as it was.
         ensures unchanged { result ≡ Err RunFault.OutOfMemory → self.new ≡ self.old }
         ensures kept { OnErr result (view_in self.new ≡ view_in self.old) }
         ensures id { id_of self.new ≡ id_of self.old }
@@ -371,13 +387,17 @@ impl Run {
         heads: &Heads,
         out: &mut Octets,
     ) -> Result<(), RunFault>
+        // The run has taken HELLO and refused nothing, and these begin its lines.
         requires going { is_spent self.old ≡ false }
         requires later { is_some (view_in self.old) ≡ true }
         requires ready { IsReady self.old heads.now }
+        // It is the next one: its lines.
         ensures ok { Tells result self.old self.new (message_of lent.now) out.old out.new }
         ensures going { OnOk result (is_spent self.new ≡ false) }
+        // It isn't: the fault, and no further message is taken.
         ensures refused { RefusesToTell result self.old (message_of lent.now) out.old out.new }
         ensures spent { IfErr result (λ e. e ≢ RunFault.OutOfMemory → is_spent self.new ≡ true) }
+        // What stays as it was.
         ensures kept { OnErr result (view_in self.new ≡ view_in self.old) }
         ensures ready { IsReady self.new heads.now }
         ensures id { id_of self.new ≡ id_of self.old }
@@ -399,7 +419,9 @@ impl Run {
     }
     /// Refuses a HELLO after the first.
     pub(crate) fn refuse_hello(&mut self) -> RunFault
+        // HELLO was taken.
         requires { is_some (view_in self.old) ≡ true }
+        // The fault, and no further message is taken.
         ensures refused { (ms : List Message) (m : Message) → Stands self.old ms → is_hello m.body ≡ true →
             (may_follow ms m ≡ false) × (result ≡ fault_of ms m) }
         ensures fault { result ≡ RunFault.SecondHello }

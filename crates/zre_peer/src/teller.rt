@@ -91,11 +91,15 @@ impl Teller {
     /// Takes the next message, and appends the lines of its events. After `OutOfMemory` a front of them may stand
     /// there, and nothing is said of the run.
     pub fn take(&mut self, mut message: Message, out: &mut Octets) -> Result<(), RunFault>
+        // Nothing was refused.
         requires { is_spent self.old ≡ false }
+        // It is the next one: its lines.
         ensures ok { Tells result self.old self.new message out.old out.new }
         ensures going { OnOk result (is_spent self.new ≡ false) }
+        // It isn't: the fault, and no further message is taken.
         ensures refused { RefusesToTell result self.old message out.old out.new }
         ensures spent { IsSpentByRefusal result self.old self.new }
+        // The peer stays.
         ensures id { id_of self.new ≡ id_of self.old }
     {
         if self.is_after() {
@@ -117,12 +121,16 @@ impl Teller {
 
     /// The same for a message after HELLO, of which the run keeps nothing.
     pub fn take_later(&mut self, message: &Message, out: &mut Octets) -> Result<(), RunFault>
+        // HELLO was taken, and nothing refused.
         requires going { is_spent self.old ≡ false }
         requires later { is_some (view_in self.old) ≡ true }
+        // It is the next one: its lines.
         ensures ok { Tells result self.old self.new message.now out.old out.new }
         ensures going { OnOk result (is_spent self.new ≡ false) }
+        // It isn't: the fault, and no further message is taken.
         ensures refused { RefusesToTell result self.old message.now out.old out.new }
         ensures spent { IsSpentByRefusal result self.old self.new }
+        // The peer stays.
         ensures id { id_of self.new ≡ id_of self.old }
     {
         match lent(message) {
@@ -133,24 +141,32 @@ impl Teller {
 
     /// The same for a message that lies in its frames.
     pub fn take_lent(&mut self, lent: &LentMessage<'_>, out: &mut Octets) -> Result<(), RunFault>
+        // HELLO was taken, and nothing refused.
         requires going { is_spent self.old ≡ false }
         requires later { is_some (view_in self.old) ≡ true }
+        // It is the next one: its lines.
         ensures ok { Tells result self.old self.new (message_of lent.now) out.old out.new }
         ensures going { OnOk result (is_spent self.new ≡ false) }
+        // It isn't: the fault, and no further message is taken.
         ensures refused { RefusesToTell result self.old (message_of lent.now) out.old out.new }
         ensures spent { IsSpentByRefusal result self.old self.new }
+        // The peer stays.
         ensures id { id_of self.new ≡ id_of self.old }
     {
         self.run.tell(lent, &self.heads, out)
     }
 
     fn take_first(&mut self, message: &mut Message, out: &mut Octets) -> Result<(), RunFault>
+        // Nothing was taken or refused.
         requires going { is_spent self.old ≡ false }
         requires first { is_some (view_in self.old) ≡ false }
+        // It is the next one: its lines.
         ensures ok { Tells result self.old self.new message.old out.old out.new }
         ensures going { OnOk result (is_spent self.new ≡ false) }
+        // It isn't: the fault, and no further message is taken.
         ensures refused { RefusesToTell result self.old message.old out.old out.new }
         ensures spent { IsSpentByRefusal result self.old self.new }
+        // The peer stays.
         ensures id { id_of self.new ≡ id_of self.old }
     {
         let heads = heads_of(self.alloc, self.run.id(), &message.body)?;

@@ -57,9 +57,12 @@ impl View {
         heads: &Heads,
         out: &mut Octets,
     ) -> Result<(), RunFault>
+        // The view is within its limits.
         requires { is_small self.old ≡ true }
+        // The view after it, and the lines of its events.
         ensures ok { OnOk result (Changes self.old self.new (message_of lent.now).body) }
         ensures told { TellsLines result heads.now self.old (message_of lent.now).body out.old out.new }
+        // It is refused: nothing changes, and why.
         ensures kept { OnErr result (self.new ≡ self.old) }
         ensures refused { PassesLimit result self.old (message_of lent.now).body out.old out.new }
     {

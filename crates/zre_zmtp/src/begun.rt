@@ -34,13 +34,16 @@ pub fn begin_frame<L: Ledger>(
     octets: &[u8],
     steps: &mut Steps<L>,
 ) -> Result<(), FeedFault>
+    // The header is there, and not all of the body.
     requires begun { HasHeader progress.old header octets.now }
     requires unfinished { length octets.now < header_len_of octets.now + header.size }
+    // What is kept, or the fault.
     ensures ok { (want : Want) (out : List Item) →
         OnOk result (Advances want (before_of progress.old) octets.now out out
         (before_of progress.new) (left_of progress.new)) }
     ensures refused { (want : Want) (out : List Item) →
         IfErr result (λ e. RefusesAt e want (before_of progress.old) octets.now out out) }
+    // How many octets are looked at.
     ensures looks { Looks steps.old steps.new (held progress.old) (held progress.new) (length octets.now) result }
 {
     let (head, later) = octets.split_at(header_len(octets));
