@@ -20,3 +20,7 @@ called c = record c { made = raised c.made }
 -- the next one is to fail
 abbrev pub next_is_listed : Calls → Bool
 next_is_listed c = list_any (λ n. n == raised c.made) c.fails
+
+-- the last one was to fail
+abbrev pub last_is_listed : Calls → Bool
+last_is_listed c = list_any (λ n. n == c.made) c.fails

@@ -1,6 +1,7 @@
 -- What the objects in memory hold.
 use Rattle.std.specs.Prelude.{ℕ, List}
-use Rattle.zre_outside.specs.Calls.{Calls}
+use Rattle.zre_outside.specs.Calls.{Calls, last_is_listed}
+use Rattle.zre_outside.specs.Refusals.{Refusals}
 
 -- octets that are read in order
 pub record SourceReading : Type 0 where
@@ -12,6 +13,10 @@ pub record FailingReading : Type 0 where
   pub octets : SourceReading
   pub reads : Calls
   pub faults : ℕ
+
+-- the reads that it refused
+abbrev pub refusals_in : FailingReading → Refusals
+refusals_in s = record { count = s.faults; is_last = last_is_listed s.reads }
 
 -- octets that are written in order, where some writes are to fail
 pub record FailingWriting : Type 0 where

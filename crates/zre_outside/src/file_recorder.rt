@@ -1,6 +1,7 @@
-ghost use Rattle.std.specs.Prelude.{◌≡◌, ◌≤◌, false, true, None, is_ok, is_some, IsSome, OnErr, IsErrOf};
+ghost use Rattle.std.specs.Prelude.{◌≡◌, ◌≤◌, false, true, None, Some, is_ok, is_some, IsSome, OnErr, IsErrOf};
 ghost use Rattle.zre_outside.specs.Causes.{Rose, is_failed, counted};
 ghost use Rattle.zre_outside.specs.Recorders.{FileCapture};
+ghost use Rattle.zre_outside.specs.Refusals.{refused_after};
 
 use crate::{Faults, NextFault, Recorder};
 use std::fs;
@@ -52,10 +53,14 @@ impl<R: Files> Recorder for FileRecorder<R> {
 
     ghost faults = { λ r. r.faults.count };
 
+    ghost refused = { λ r. Some r.faults.count };
+
     fn begin(&mut self, name: &str) -> Result<(), NextFault>
         ensures begun { self.new.begun ≡ is_ok result }
         ensures later { self.old.faults.count ≤ self.new.faults.count }
         ensures failed { IsErrOf result NextFault.Failed → Rose self.old.faults.count self.new.faults.count }
+        ensures counts { Some self.new.faults.count
+            ≡ refused_after (is_failed result) (Some self.old.faults.count) }
         // The count rises where it failed, and nowhere else.
         ensures counted { self.new.faults.count ≡ counted (is_failed result) self.old.faults.count }
         ensures reason { OnErr result (IsSome self.new.faults.reason) }
@@ -78,6 +83,8 @@ impl<R: Files> Recorder for FileRecorder<R> {
         ensures begun { self.new.begun ≡ self.old.begun }
         ensures later { self.old.faults.count ≤ self.new.faults.count }
         ensures failed { IsErrOf result NextFault.Failed → Rose self.old.faults.count self.new.faults.count }
+        ensures counts { Some self.new.faults.count
+            ≡ refused_after (is_failed result) (Some self.old.faults.count) }
         ensures counted { self.new.faults.count ≡ counted (is_failed result) self.old.faults.count }
         ensures reason { OnErr result (IsSome self.new.faults.reason) }
     {

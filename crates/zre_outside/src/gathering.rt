@@ -2,7 +2,8 @@
 
 ghost use Rattle.std.specs.Prelude.{◌≡◌, ◌≤◌, [], OnOk, OnErr, IsErrOf};
 ghost use Rattle.std.specs.Io.KnownBytes.{Appends};
-ghost use Rattle.zre_outside.specs.Causes.{Rose};
+ghost use Rattle.zre_outside.specs.Causes.{Rose, is_failed};
+ghost use Rattle.zre_outside.specs.Refusals.{refused_after};
 ghost use Rattle.zre_outside.specs.Told.{AppendsFront, WritesThrough};
 
 use crate::sink::{NextFault, Sink, write_all};
@@ -19,6 +20,7 @@ pub fn write_gathered<O: Sink>(gathered: &mut Octets, out: &mut O) -> Result<(),
     ensures front { AppendsFront (O.written out.old) (O.written out.new) gathered.old }
     ensures later { O.faults out.old ≤ O.faults out.new }
     ensures failed { IsErrOf result NextFault.Failed → Rose (O.faults out.old) (O.faults out.new) }
+    ensures counts { O.refused out.new ≡ refused_after (is_failed result) (O.refused out.old) }
 {
     write_all(out, gathered.as_slice())?;
     gathered.clear();
@@ -34,6 +36,7 @@ pub fn write_much<O: Sink>(gathered: &mut Octets, out: &mut O) -> Result<(), Nex
     ensures front { OnErr result (AppendsFront (O.written out.old) (O.written out.new) gathered.old) }
     ensures later { O.faults out.old ≤ O.faults out.new }
     ensures failed { IsErrOf result NextFault.Failed → Rose (O.faults out.old) (O.faults out.new) }
+    ensures counts { O.refused out.new ≡ refused_after (is_failed result) (O.refused out.old) }
 {
     if gathered.len() < MUCH {
         return Ok(());

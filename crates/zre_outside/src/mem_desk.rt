@@ -4,6 +4,7 @@ ghost use Rattle.zre_outside.specs.Causes.{Rose, counted};
 ghost use Rattle.zre_outside.specs.Desks.{FailingQueue, first_register, with_begun, with_given};
 ghost use Rattle.zre_outside.specs.Givens.{given_in};
 ghost use Rattle.zre_outside.specs.Memory.{FailingReading};
+ghost use Rattle.zre_outside.specs.Refusals.{refused_after};
 
 use crate::calls::Calls;
 use crate::given::Given;
@@ -63,6 +64,8 @@ impl Desk for MemDesk {
 
     ghost faults = { λ d. d.faults };
 
+    ghost refused = { λ d. Some d.faults };
+
     /// The calls whose numbers are listed fail, and no others.
     fn begin(&mut self, addr: [u8; 4], port: u16) -> Result<(), Failed>
         ensures told { OnOk result (Some self.new.queue.told ≡ option_map (with_begun addr port)
@@ -70,6 +73,7 @@ impl Desk for MemDesk {
         ensures refused { OnErr result (Some self.new.queue.told ≡ Some self.old.queue.told) }
         ensures later { self.old.faults ≤ self.new.faults }
         ensures failed { OnErr result (Rose self.old.faults self.new.faults) }
+        ensures counts { Some self.new.faults ≡ refused_after (is_err result) (Some self.old.faults) }
         ensures counted { self.new.faults ≡ counted (is_err result) self.old.faults }
         ensures listed { is_err result ≡ next_is_listed self.old.begins }
         ensures calls { (self.new.begins ≡ called self.old.begins) × (self.new.nexts ≡ self.old.nexts) }
@@ -90,6 +94,7 @@ impl Desk for MemDesk {
         ensures refused { OnErr result (Some self.new.queue.told ≡ Some self.old.queue.told) }
         ensures later { self.old.faults ≤ self.new.faults }
         ensures failed { OnErr result (Rose self.old.faults self.new.faults) }
+        ensures counts { Some self.new.faults ≡ refused_after (is_err result) (Some self.old.faults) }
         ensures counted { self.new.faults ≡ counted (is_err result) self.old.faults }
         ensures listed { is_err result ≡ next_is_listed self.old.nexts || length self.old.queue.left == 0 }
         ensures calls { (self.new.nexts ≡ called self.old.nexts) × (self.new.begins ≡ self.old.begins) }

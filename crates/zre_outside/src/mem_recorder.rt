@@ -3,6 +3,7 @@ ghost use Rattle.std.specs.Io.KnownBytes.{Keeps, Appends};
 ghost use Rattle.zre_outside.specs.Calls.{no_calls, called, next_is_listed};
 ghost use Rattle.zre_outside.specs.Causes.{Rose, counted, is_failed};
 ghost use Rattle.zre_outside.specs.Recorders.{FailingCapture};
+ghost use Rattle.zre_outside.specs.Refusals.{refused_after};
 ghost use Rattle.zre_outside.specs.Told.{AppendsFront};
 
 use crate::calls::Calls;
@@ -76,6 +77,8 @@ impl Recorder for MemRecorder {
 
     ghost faults = { λ r. r.faults };
 
+    ghost refused = { λ r. Some r.faults };
+
     /// The calls whose numbers are listed fail, and no others.
     fn begin(&mut self, name: &str) -> Result<(), NextFault>
         ensures begun { self.new.capture.begun ≡ is_ok result }
@@ -86,6 +89,7 @@ impl Recorder for MemRecorder {
             × Keeps (Some self.old.capture.named) (Some self.new.capture.named)) }
         ensures later { self.old.faults ≤ self.new.faults }
         ensures failed { IsErrOf result NextFault.Failed → Rose self.old.faults self.new.faults }
+        ensures counts { Some self.new.faults ≡ refused_after (is_failed result) (Some self.old.faults) }
         ensures counted { self.new.faults ≡ counted (is_failed result) self.old.faults }
         ensures listed { is_failed result ≡ next_is_listed self.old.begins }
         ensures calls { (self.new.begins ≡ called self.old.begins) × (self.new.puts ≡ self.old.puts) }
@@ -111,6 +115,7 @@ impl Recorder for MemRecorder {
         ensures begun { self.new.capture.begun ≡ self.old.capture.begun }
         ensures later { self.old.faults ≤ self.new.faults }
         ensures failed { IsErrOf result NextFault.Failed → Rose self.old.faults self.new.faults }
+        ensures counts { Some self.new.faults ≡ refused_after (is_failed result) (Some self.old.faults) }
         ensures counted { self.new.faults ≡ counted (is_failed result) self.old.faults }
         ensures refused { OnErr result (Keeps (Some self.old.capture.kept) (Some self.new.capture.kept)) }
         ensures listed { is_failed result ≡ next_is_listed self.old.puts }

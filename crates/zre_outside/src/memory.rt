@@ -1,10 +1,11 @@
-ghost use Rattle.std.specs.Prelude.{◌≡◌, ◌≤◌, ◌<◌, length, take, is_err, IfOk, OnErr, IsErrOf, Some, []};
+ghost use Rattle.std.specs.Prelude.{◌≡◌, ◌≤◌, ◌<◌, length, take, option_map, is_err, IfOk, OnErr, IsErrOf, Some, []};
 ghost use Rattle.std.specs.Io.{ReadsAtMost, WritesAtMost};
 ghost use Rattle.std.specs.Io.KnownBytes.{Keeps, Appends, IsAtEnd};
 ghost use Rattle.zre_outside.specs.Causes.{Rose, is_failed, counted};
 ghost use Rattle.zre_outside.specs.Told.{MovesOn};
 ghost use Rattle.zre_outside.specs.Held.{reading_of};
-ghost use Rattle.zre_outside.specs.Memory.{FailingReading, FailingWriting};
+ghost use Rattle.zre_outside.specs.Memory.{FailingReading, FailingWriting, refusals_in};
+ghost use Rattle.zre_outside.specs.Refusals.{after_read, refused_after};
 ghost use Rattle.zre_outside.specs.Calls.{no_calls, called, next_is_listed};
 
 use crate::calls::Calls;
@@ -56,6 +57,8 @@ impl Source for MemSource {
 
     ghost faults = { λ s. s.faults };
 
+    ghost refused = { λ s. Some (refusals_in s) };
+
     /// It gives as many octets as there are and as fit.
     fn read(&mut self, buf: &mut [u8]) -> Result<usize, Failed>
         requires { 0 < length buf.old }
@@ -67,6 +70,8 @@ impl Source for MemSource {
         ensures refused_taken { OnErr result (Keeps (Some self.old.octets.taken) (Some self.new.octets.taken)) }
         ensures later { self.old.faults ≤ self.new.faults }
         ensures failed { OnErr result (Rose self.old.faults self.new.faults) }
+        ensures counts { Some (refusals_in self.new)
+            ≡ option_map (after_read (is_err result)) (Some (refusals_in self.old)) }
         ensures counted { self.new.faults ≡ counted (is_err result) self.old.faults }
         // The calls whose numbers are listed fail, and no others.
         ensures listed { is_err result ≡ next_is_listed self.old.reads }
@@ -125,6 +130,8 @@ impl Sink for MemSink {
 
     ghost faults = { λ s. s.faults };
 
+    ghost refused = { λ s. Some s.faults };
+
     /// It takes all of `bytes`.
     fn write(&mut self, bytes: &[u8]) -> Result<usize, NextFault>
         ensures bound { WritesAtMost result bytes.now }
@@ -134,6 +141,7 @@ impl Sink for MemSink {
         ensures refused { OnErr result (Keeps (Some self.old.written) (Some self.new.written)) }
         ensures later { self.old.faults ≤ self.new.faults }
         ensures failed { IsErrOf result NextFault.Failed → Rose self.old.faults self.new.faults }
+        ensures counts { Some self.new.faults ≡ refused_after (is_failed result) (Some self.old.faults) }
         ensures counted { self.new.faults ≡ counted (is_failed result) self.old.faults }
         ensures all { IfOk result (λ n. n ≡ length bytes.now) }
         // The calls whose numbers are listed fail, and no others.

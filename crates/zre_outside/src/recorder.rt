@@ -1,6 +1,8 @@
-ghost use Rattle.std.specs.Prelude.{◌≡◌, ◌≤◌, ℕ, Bool, true, List, [], Option, option_map, is_ok, OnOk, OnErr, IsErrOf};
+ghost use Rattle.std.specs.Prelude.{◌≡◌, ◌≤◌, ℕ, Bool, true, List, [], Option, None, option_map, is_ok};
+ghost use Rattle.std.specs.Prelude.{OnOk, OnErr, IsErrOf};
 ghost use Rattle.std.specs.Io.KnownBytes.{Keeps, Appends};
-ghost use Rattle.zre_outside.specs.Causes.{Rose};
+ghost use Rattle.zre_outside.specs.Causes.{Rose, is_failed};
+ghost use Rattle.zre_outside.specs.Refusals.{refused_after};
 ghost use Rattle.zre_outside.specs.Told.{AppendsFront};
 
 use crate::NextFault;
@@ -19,6 +21,9 @@ pub trait Recorder {
     /// How often it failed. At the last value of a u64 the count stands still, and is read as risen.
     ghost faults: { Self → ℕ };
 
+    /// How many calls it refused since it failed, where the object tells that.
+    ghost refused: { Self → Option ℕ } = { λ _. None };
+
     /// Begins anew, under a name and with nothing kept. After a refusal it isn't begun.
     fn begin(&mut self, name: &str) -> Result<(), NextFault>
         ensures begun { begun self.new ≡ is_ok result }
@@ -27,7 +32,8 @@ pub trait Recorder {
         ensures refused { OnErr result (Keeps (kept self.old) (kept self.new)
             × Keeps (named self.old) (named self.new)) }
         ensures later { faults self.old ≤ faults self.new }
-        ensures failed { IsErrOf result NextFault.Failed → Rose (faults self.old) (faults self.new) };
+        ensures failed { IsErrOf result NextFault.Failed → Rose (faults self.old) (faults self.new) }
+        ensures counts { refused self.new ≡ refused_after (is_failed result) (refused self.old) };
 
     /// Appends octets. After a refusal a front of them was appended.
     fn put(&mut self, bytes: &[u8]) -> Result<(), NextFault>
@@ -37,5 +43,6 @@ pub trait Recorder {
         ensures name { Keeps (named self.old) (named self.new) }
         ensures begun { begun self.new ≡ begun self.old }
         ensures later { faults self.old ≤ faults self.new }
-        ensures failed { IsErrOf result NextFault.Failed → Rose (faults self.old) (faults self.new) };
+        ensures failed { IsErrOf result NextFault.Failed → Rose (faults self.old) (faults self.new) }
+        ensures counts { refused self.new ≡ refused_after (is_failed result) (refused self.old) };
 }

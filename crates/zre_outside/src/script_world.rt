@@ -3,6 +3,7 @@ ghost use Rattle.std.specs.Prelude.{IfOk, OnOk, OnErr, IsErrOf, nat_le};
 ghost use Rattle.zre_outside.specs.declared.deed.Deed.{Deed as DeedValue};
 ghost use Rattle.zre_outside.specs.Calls.{no_calls, called, next_is_listed};
 ghost use Rattle.zre_outside.specs.Causes.{Rose, counted, is_failed};
+ghost use Rattle.zre_outside.specs.Refusals.{refused_after};
 ghost use Rattle.zre_outside.specs.Worlds.{with_start, IsTurn, with_deed};
 ghost use Rattle.zre_outside.specs.Scripts.{FailingScene, first_scene, row_later, at_look, Plays, Waits, WaitsIn};
 
@@ -76,6 +77,8 @@ impl World for ScriptWorld {
 
     ghost faults = { λ w. w.faults };
 
+    ghost refused = { λ w. Some w.faults };
+
     /// The calls whose numbers are listed fail, and no others.
     fn start(&mut self, s: &Start) -> Result<(), NextFault>
         ensures told { OnOk result (Some self.new.scene.told ≡ option_map (with_start s.now)
@@ -84,6 +87,7 @@ impl World for ScriptWorld {
         ensures looked { self.new.scene.looked ≡ self.old.scene.looked }
         ensures later { self.old.faults ≤ self.new.faults }
         ensures failed { IsErrOf result NextFault.Failed → Rose self.old.faults self.new.faults }
+        ensures counts { Some self.new.faults ≡ refused_after (is_failed result) (Some self.old.faults) }
         ensures counted { self.new.faults ≡ counted (is_failed result) self.old.faults }
         ensures listed { is_failed result ≡ next_is_listed self.old.starts }
         ensures calls { (self.new.starts ≡ called self.old.starts) × (self.new.nexts ≡ self.old.nexts) }
@@ -105,6 +109,7 @@ impl World for ScriptWorld {
         ensures refused { OnErr result (self.new.scene ≡ self.old.scene) }
         ensures later { self.old.faults ≤ self.new.faults }
         ensures failed { IsErrOf result NextFault.Failed → Rose self.old.faults self.new.faults }
+        ensures counts { Some self.new.faults ≡ refused_after (is_failed result) (Some self.old.faults) }
         ensures counted { self.new.faults ≡ counted (is_failed result) self.old.faults }
         ensures row { IfOk result (λ t. self.new.row ≡ row_later self.old.row t) }
         ensures kept { OnErr result (self.new.row ≡ self.old.row) }
@@ -128,6 +133,7 @@ impl World for ScriptWorld {
         ensures err { OnErr result (Some self.new.scene.told ≡ Some self.old.scene.told) }
         ensures looked { self.new.scene.looked ≡ self.old.scene.looked }
         ensures faults { self.new.faults ≡ self.old.faults }
+        ensures counts { Some self.new.faults ≡ Some self.old.faults }
         ensures script { WaitsIn self.old self.new }
     {
         self.stage.act(act)
@@ -139,6 +145,7 @@ impl World for ScriptWorld {
         ensures err { OnErr result (Some self.new.scene.told ≡ Some self.old.scene.told) }
         ensures looked { self.new.scene.looked ≡ self.old.scene.looked }
         ensures faults { self.new.faults ≡ self.old.faults }
+        ensures counts { Some self.new.faults ≡ Some self.old.faults }
         ensures script { WaitsIn self.old self.new }
     {
         self.stage.offer(link, bytes)

@@ -1,7 +1,8 @@
-ghost use Rattle.std.specs.Prelude.{◌≡◌, ◌<◌, ◌≤◌, ℕ, List, Option, length, take, IfOk, OnOk, OnErr, IsErrOf};
+ghost use Rattle.std.specs.Prelude.{◌≡◌, ◌<◌, ◌≤◌, ℕ, List, Option, None, length, take, IfOk, OnOk, OnErr, IsErrOf};
 ghost use Rattle.std.specs.Io.{WritesAtMost};
 ghost use Rattle.std.specs.Io.KnownBytes.{Keeps, Appends};
-ghost use Rattle.zre_outside.specs.Causes.{Rose};
+ghost use Rattle.zre_outside.specs.Causes.{Rose, is_failed};
+ghost use Rattle.zre_outside.specs.Refusals.{refused_after};
 ghost use Rattle.zre_outside.specs.Told.{AppendsFront};
 ghost use Rattle.zre_outside.specs.declared.sink.NextFault.TheVariants.{OutOfMemory as NoMemory};
 
@@ -36,6 +37,9 @@ pub trait Sink {
     /// How often it failed. At the last value of a u64 the count stands still, and is read as risen.
     ghost faults: { Self → ℕ };
 
+    /// How many calls it refused since it failed, where the object tells that.
+    ghost refused: { Self → Option ℕ } = { λ _. None };
+
     /// Writes a front of `bytes`, of one octet at least where there is one. A refused call writes nothing.
     fn write(&mut self, bytes: &[u8]) -> Result<usize, NextFault>
         ensures bound { WritesAtMost result bytes.now }
@@ -43,7 +47,8 @@ pub trait Sink {
         ensures appended { IfOk result (λ n. Appends (written self.old) (written self.new) (take n bytes.now)) }
         ensures refused { OnErr result (Keeps (written self.old) (written self.new)) }
         ensures later { faults self.old ≤ faults self.new }
-        ensures failed { IsErrOf result NextFault.Failed → Rose (faults self.old) (faults self.new) };
+        ensures failed { IsErrOf result NextFault.Failed → Rose (faults self.old) (faults self.new) }
+        ensures counts { refused self.new ≡ refused_after (is_failed result) (refused self.old) };
 }
 
 /// Writes all of `bytes`, by as many writes as that takes. After a refusal a front of them is written.
@@ -52,6 +57,7 @@ pub fn write_all<S: Sink>(sink: &mut S, bytes: &[u8]) -> Result<(), NextFault>
     ensures front { AppendsFront (S.written sink.old) (S.written sink.new) bytes.now }
     ensures later { S.faults sink.old ≤ S.faults sink.new }
     ensures failed { IsErrOf result NextFault.Failed → Rose (S.faults sink.old) (S.faults sink.new) }
+    ensures counts { S.refused sink.new ≡ refused_after (is_failed result) (S.refused sink.old) }
 {
     let mut rest = bytes;
     while !rest.is_empty() {

@@ -1,6 +1,7 @@
 ghost use Rattle.std.specs.Prelude.{◌≡◌, ℕ, List, Some, []};
 ghost use Rattle.zre_outside.specs.Held.{reading_of};
 ghost use Rattle.zre_outside.specs.Memory.{SourceReading};
+ghost use Rattle.zre_outside.specs.Refusals.{no_refusals};
 
 use crate::held::Held;
 use crate::{Failed, NextFault, Sink, Source};
@@ -37,6 +38,8 @@ impl Source for SureSource {
     ghost taken = { λ s. Some s.taken };
 
     ghost faults = { λ _. 0 };
+
+    ghost refused = { λ _. Some no_refusals };
 
     fn read(&mut self, buf: &mut [u8]) -> Result<usize, Failed> {
         Ok(self.held.give(buf))
@@ -77,6 +80,8 @@ impl Sink for SureSink {
     ghost written = { λ s. Some s };
 
     ghost faults = { λ _. 0 };
+
+    ghost refused = { λ _. Some 0 };
 
     fn write(&mut self, bytes: &[u8]) -> Result<usize, NextFault> {
         self.bytes.append(bytes)?;

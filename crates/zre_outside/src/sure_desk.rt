@@ -1,8 +1,9 @@
-ghost use Rattle.std.specs.Prelude.{◌≡◌, Some, option_map, IfOk, OnOk, OnErr};
+ghost use Rattle.std.specs.Prelude.{◌≡◌, Some, option_map, is_err, IfOk, OnOk, OnErr};
 ghost use Rattle.zre_outside.specs.Causes.{Rose};
 ghost use Rattle.zre_outside.specs.Desks.{ClientQueue, first_register, with_begun, with_given, GivesOn};
 ghost use Rattle.zre_outside.specs.Givens.{given_in};
 ghost use Rattle.zre_outside.specs.Memory.{SourceReading};
+ghost use Rattle.zre_outside.specs.Refusals.{refused_after};
 
 use crate::given::Given;
 use crate::{Desk, Failed, SureSource};
@@ -48,11 +49,14 @@ impl Desk for SureDesk {
 
     ghost faults = { λ _. 0 };
 
+    ghost refused = { λ _. Some 0 };
+
     fn begin(&mut self, addr: [u8; 4], port: u16) -> Result<(), Failed>
         ensures told { OnOk result (Some self.new.told ≡ option_map (with_begun addr port)
             (Some self.old.told)) }
         ensures refused { OnErr result (Some self.new.told ≡ Some self.old.told) }
         ensures failed { OnErr result (Rose 0 0) }
+        ensures counts { Some 0 ≡ refused_after (is_err result) (Some 0) }
         ensures left { self.new.left ≡ self.old.left }
     {
         self.begun = Some(Endpoint { addr, port });
@@ -64,6 +68,7 @@ impl Desk for SureDesk {
             (Some self.old.told)) }
         ensures refused { OnErr result (Some self.new.told ≡ Some self.old.told) }
         ensures failed { OnErr result (Rose 0 0) }
+        ensures counts { Some 0 ≡ refused_after (is_err result) (Some 0) }
         ensures first { IfOk result (λ c. GivesOn c self.old.left self.new.left) }
     {
         let client = match self.left.pop_front() {

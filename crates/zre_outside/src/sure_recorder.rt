@@ -59,6 +59,8 @@ impl Recorder for SureRecorder {
 
     ghost faults = { λ _. 0 };
 
+    ghost refused = { λ _. Some 0 };
+
     fn begin(&mut self, name: &str) -> Result<(), NextFault> {
         self.begun = false;
         self.file = Octets::copy(self.alloc, name.as_bytes())?;

@@ -1,6 +1,7 @@
 ghost use Rattle.std.specs.Prelude.{◌≡◌, true, Some, option_map, IsSome, IfOk, OnOk, OnErr, IsErrOf};
 ghost use Rattle.zre_outside.specs.declared.deed.Deed.{Deed as DeedValue};
-ghost use Rattle.zre_outside.specs.Causes.{Rose};
+ghost use Rattle.zre_outside.specs.Causes.{Rose, is_failed};
+ghost use Rattle.zre_outside.specs.Refusals.{refused_after};
 ghost use Rattle.zre_outside.specs.Worlds.{with_start, IsTurn, with_deed};
 ghost use Rattle.zre_outside.specs.Scripts.{Scene, first_scene, Plays, Waits};
 
@@ -46,12 +47,15 @@ impl World for SureWorld {
 
     ghost faults = { λ _. 0 };
 
+    ghost refused = { λ _. Some 0 };
+
     fn start(&mut self, s: &Start) -> Result<(), NextFault>
         ensures told { OnOk result (Some self.new.told ≡ option_map (with_start s.now)
             (Some self.old.told)) }
         ensures refused { OnErr result (Some self.new.told ≡ Some self.old.told) }
         ensures looked { self.new.looked ≡ self.old.looked }
         ensures failed { IsErrOf result NextFault.Failed → Rose 0 0 }
+        ensures counts { Some 0 ≡ refused_after (is_failed result) (Some 0) }
         ensures script { Waits self.old self.new }
     {
         Ok(self.stage.start(s)?)
@@ -64,6 +68,7 @@ impl World for SureWorld {
         ensures script { IfOk result (λ t. Plays command t self.old self.new) }
         ensures refused { OnErr result (self.new ≡ self.old) }
         ensures failed { IsErrOf result NextFault.Failed → Rose 0 0 }
+        ensures counts { Some 0 ≡ refused_after (is_failed result) (Some 0) }
     {
         Ok(self.stage.next(command)?)
     }
