@@ -1,6 +1,7 @@
 -- What a status says of a command that reads its input.
-use Rattle.std.specs.Prelude.{◌≡◌, ℕ, ◌<◌, ◌≤◌, true, false, List, ◌⊎◌, length, Option}
+use Rattle.std.specs.Prelude.{◌≡◌, ◌≢◌, ℕ, ◌<◌, ◌≤◌, true, false, List, ◌⊎◌, length, Option}
 use Rattle.std.specs.Io.KnownBytes.{Appends, IsAtEnd}
+use Rattle.zre_outside.specs.Refusals.{Refusals, RefusesNone, RefusesLast}
 use Rattle.zre_outside.specs.Told.{MovesOn, AppendsFront}
 use Rattle.zre_commands.specs.pump.Meaning.{Meaning, whole_text}
 use Rattle.zre_commands.specs.declared.pump.status.Status.{Status}
@@ -40,3 +41,9 @@ pub record Pumped (status : Status) (limit : ℕ) (m : Meaning)
   pub moved : MovesOn left left' taken taken' octets
   pub within : length octets ≤ limit
   pub outcome : Outcome status limit m octets left' written written' read write
+
+-- where the source tells the reads that it refused: with ReadFault the last read was refused and no other, and with any
+-- other status none
+abbrev pub IsByRefusal : Status → (refused refused' : Option Refusals) → Type 0
+IsByRefusal status refused refused' =
+    (status ≡ ReadFault → RefusesLast refused refused') × (status ≢ ReadFault → RefusesNone refused refused')

@@ -1,6 +1,7 @@
 -- What one turn of the pump does, and what the end of the input does.
-use Rattle.std.specs.Prelude.{◌≡◌, ℕ, ◌<◌, true, false, List, [], ◌++◌, ◌⊎◌, length, Option}
+use Rattle.std.specs.Prelude.{◌≡◌, ◌≢◌, ℕ, ◌<◌, true, false, List, [], ◌++◌, ◌⊎◌, length, Option}
 use Rattle.std.specs.Io.KnownBytes.{Appends, IsAtEnd, Keeps}
+use Rattle.zre_outside.specs.Refusals.{Refusals, RefusesNone, RefusesLast}
 use Rattle.zre_outside.specs.Told.{AppendsFront}
 use Rattle.zre_commands.specs.pump.Meaning.{Meaning}
 use Rattle.zre_commands.specs.declared.pump.pumping.Onward.{Onward}
@@ -52,6 +53,15 @@ Turned nexts.Finish fed m o piece left written written' read write =
 Turned (nexts.Fail status) fed m o piece left written written' read write =
     Told (nexts.Fail status) fed m o piece written written' write
     ⊎ ((status ≡ ReadFault) × (piece ≡ []) × read × Keeps written written')
+
+-- a turn that ends as the source failed
+abbrev pub no_read : Onward
+no_read = nexts.Fail ReadFault
+
+-- it ends so where its read was refused, and nowhere else
+abbrev pub TurnRefuses : Onward → (refused refused' : Option Refusals) → Type 0
+TurnRefuses next refused refused' =
+    (next ≡ no_read → RefusesLast refused refused') × (next ≢ no_read → RefusesNone refused refused')
 
 -- the end of the input o, after its text
 abbrev pub Finishes : Status → (m : Meaning) (o : List ℕ) (written written' : Option (List ℕ)) (write : Type 0) → Type 0

@@ -1,12 +1,13 @@
 //! Reads a source in pieces, feeds a machine, and writes its text.
 
-ghost use Rattle.std.specs.Prelude.{◌≡◌, ◌<◌, ◌≤◌, ◌+◌, ℕ, List, [], false, length, take, IfOk, OnOk, IfErr, OnErr};
+ghost use Rattle.std.specs.Prelude.{◌≡◌, ◌≢◌, ◌<◌, ◌≤◌, ◌+◌, ℕ, List, [], false, length, take, IfOk, OnOk, IfErr, OnErr};
 ghost use Rattle.std.specs.Prelude.{IsErrOf};
 ghost use Rattle.std.specs.Io.KnownBytes.{Appends};
 ghost use Rattle.zre_outside.specs.Causes.{Rose};
 ghost use Rattle.zre_outside.specs.Told.{AppendsFront, MovesOn};
-ghost use Rattle.zre_commands.specs.pump.Outcome.{Pumped};
-ghost use Rattle.zre_commands.specs.pump.Turning.{Finishes, Refuses, Told, Turned};
+ghost use Rattle.zre_commands.specs.declared.pump.status.Status.TheVariants.{ReadFault};
+ghost use Rattle.zre_commands.specs.pump.Outcome.{Pumped, IsByRefusal};
+ghost use Rattle.zre_commands.specs.pump.Turning.{Finishes, Refuses, Told, Turned, TurnRefuses, no_read};
 
 use crate::pump::machine::{Going, Machine};
 use crate::pump::status::Status;
@@ -51,6 +52,7 @@ fn write_text<O: Sink>(out: &mut O, octets: &[u8]) -> Result<(), Status>
     ensures written { OnOk result (Appends (O.written out.old) (O.written out.new) octets.now) }
     ensures refused { IfErr result (λ status. Refuses status (Rose (O.faults out.old) (O.faults out.new))
         (AppendsFront (O.written out.old) (O.written out.new) octets.now)) }
+    ensures unread { IfErr result (λ status. status ≢ ReadFault) }
     ensures writes { O.faults out.old ≤ O.faults out.new }
 {
     match write_all(out, octets) {
@@ -74,6 +76,7 @@ impl PumpText {
         ensures refused { M.fed machine.now [] →
             IfErr result (λ status. Refuses status (Rose (O.faults out.old) (O.faults out.new))
             (AppendsFront (O.written out.old) (O.written out.new) ((M.says machine.now).text []))) }
+        ensures unread { IfErr result (λ status. status ≢ ReadFault) }
         ensures writes { O.faults out.old ≤ O.faults out.new }
     {
         self.room.clear();
@@ -88,6 +91,7 @@ impl PumpText {
         ensures told { (o : List ℕ) → M.fed machine.old o → (M.says machine.old).is_stopped o ≡ false →
             Told result (M.fed machine.new) (M.says machine.old) o piece.now (O.written out.old) (O.written out.new)
             (Rose (O.faults out.old) (O.faults out.new)) }
+        ensures unread { result ≢ no_read }
         ensures same { M.says machine.new ≡ M.says machine.old }
         ensures writes { O.faults out.old ≤ O.faults out.new }
     {
@@ -121,6 +125,7 @@ impl PumpText {
             Turned result.next (M.fed machine.new) (M.says machine.old) o (take result.read buf.new)
             (I.left input.new) (O.written out.old) (O.written out.new)
             (Rose (I.faults input.old) (I.faults input.new)) (Rose (O.faults out.old) (O.faults out.new)) }
+        ensures refused { TurnRefuses result.next (I.refused input.old) (I.refused input.new) }
         ensures same { M.says machine.new ≡ M.says machine.old }
         ensures reads { I.faults input.old ≤ I.faults input.new }
         ensures writes { O.faults out.old ≤ O.faults out.new }
@@ -168,6 +173,7 @@ impl PumpText {
         ensures finishes { (o : List ℕ) → M.fed machine.now o → length o ≡ taken →
             Finishes result (M.says machine.now) o (O.written out.old) (O.written out.new)
             (Rose (O.faults out.old) (O.faults out.new)) }
+        ensures unread { result ≢ ReadFault }
         ensures writes { O.faults out.old ≤ O.faults out.new }
     {
         match self.write_ending(machine, taken, out) {
@@ -195,6 +201,8 @@ pub fn pump<M: Machine, I: Source, O: Sink>(
         (I.left input.old) (I.left input.new) (I.taken input.old) (I.taken input.new)
         (O.written out.old) (O.written out.new)
         (Rose (I.faults input.old) (I.faults input.new)) (Rose (O.faults out.old) (O.faults out.new)) }
+    // After a refused read nothing more is read.
+    ensures refused { IsByRefusal result (I.refused input.old) (I.refused input.new) }
     ensures reads { I.faults input.old ≤ I.faults input.new }
     ensures writes { O.faults out.old ≤ O.faults out.new }
 {

@@ -1,7 +1,10 @@
-use Rattle.std.proofs.Common.{[], take, refl, ap, ◌∙◌, arith}
+use Rattle.std.proofs.Common.{[], take, refl, sym, ap, ◌∙◌, arith}
 use Rattle.std.proofs.lemmas.List.{length-take, length-take-le}
 use Rattle.zre_outside.proofs.Through.{front_longer}
+use Rattle.zre_outside.proofs.RefusedReads.{none_then, last_then}
 use Rattle.zre_outside.proofs.Rising.{rose_since}
+use Rattle.zre_commands.specs.declared.pump.pumping.Onward.TheVariants as nexts
+use Rattle.zre_commands.proofs.pump.Unread.{failing, goes_on_unfailed, finishes_unfailed, no_memory, too_long}
 use Rattle.zre_commands.proofs.pump.Reach.{MovesOn-nil, starts, goes_on, refused, finishes_on, fails_on}
 use Rattle.zre_commands.proofs.pump.pumping.pump.Goals as goal
 
@@ -12,6 +15,7 @@ loop-taken-init g c = record {
   within = omega arith;
   room = c.in-Ok.ensures;
   reads = omega arith;
+  refused = refl;
   writes = c.begin.ensures.writes;
 }
 
@@ -38,6 +42,7 @@ loop-taken-preserved g c =
       within = omega (arith, turn.ensures.bound, turn.auto.buf, c.portion-room.ensures.within, length-take c.portion-room.result c.deref_mut.result.now, c.loop-taken-test.true);
       room = inv.room;
       reads = omega (arith, inv.reads, turn.ensures.reads);
+      refused = none_then _ _ _ inv.refused (turn.ensures.refused.1 (λ e. goes_on_unfailed (sym c.in-Go.is ∙ e)));
       writes = omega (arith, inv.writes, turn.ensures.writes);
     }
 
@@ -69,3 +74,27 @@ returns-clause-pumped g c =
       within = omega (arith, r.counted, c.loop-taken.invariant.within);
       outcome = (r.counted ∙ omega (arith, c.loop-taken.invariant.within), r.going, r.appended);
     }
+
+-- ---- the reads that were refused
+
+pub returns-in_default-clause-refused : goal.returns-in_default-clause-refused
+returns-in_default-clause-refused g c = (λ e. absurd (no_memory e), λ n. refl)
+
+pub returns-in-Err-clause-refused : goal.returns-in-Err-clause-refused
+returns-in-Err-clause-refused g c = (λ e. absurd (c.in-Err.ensures.unread e), λ n. refl)
+
+pub returns-in-Finish-clause-refused : goal.returns-in-Finish-clause-refused
+returns-in-Finish-clause-refused g c =
+    let none = none_then _ _ _ c.loop-taken.invariant.refused (c.take_turn-turn.ensures.refused.1 (λ e. finishes_unfailed (sym c.in-Finish.is ∙ e))) in
+    (λ e. absurd (c.finish.ensures.unread e), λ n. none)
+
+pub returns-in-Fail-clause-refused : goal.returns-in-Fail-clause-refused
+returns-in-Fail-clause-refused g c =
+    let inv = c.loop-taken.invariant in
+    let turn = c.take_turn-turn in (
+      λ e. last_then _ _ _ inv.refused (turn.ensures.refused.0 (c.in-Fail.is ∙ ap nexts.Fail e)),
+      λ n. none_then _ _ _ inv.refused (turn.ensures.refused.1 (λ e. n (ap failing (sym c.in-Fail.is ∙ e)))),
+    )
+
+pub returns-clause-refused : goal.returns-clause-refused
+returns-clause-refused g c = (λ e. absurd (too_long e), λ n. c.loop-taken.invariant.refused)

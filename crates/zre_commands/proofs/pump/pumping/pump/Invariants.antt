@@ -1,4 +1,5 @@
 use Rattle.std.proofs.Common.{◌≡◌, ◌≤◌, ◌-◌, vec_len}
+use Rattle.zre_outside.specs.Refusals.{RefusesNone}
 use Rattle.zre_commands.proofs.pump.Reach.{Reached}
 use Rattle.zre_commands.proofs.pump.pumping.pump.Given as goal
 
@@ -9,6 +10,7 @@ invariant-loop-taken g l = record {
   within : l.taken ≤ l.limit;
   room : vec_len l.buf ≡ 2048;
   reads : g.I.Source.faults l.fn.input ≤ g.I.Source.faults l.input;
+  refused : RefusesNone (g.I.Source.refused l.fn.input) (g.I.Source.refused l.input);
   writes : g.O.Sink.faults l.fn.out ≤ g.O.Sink.faults l.out;
 }
 
