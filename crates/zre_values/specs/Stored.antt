@@ -5,4 +5,4 @@ use Rattle.zre_values.specs.declared.octets.Buffer.TheVariants.{Inline, Heap}
 
 abbrev pub stored : Buffer → List ℕ
 stored (Inline short) = short
-stored (Heap items) = items.items
+stored (Heap long) = long

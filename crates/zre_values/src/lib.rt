@@ -7,6 +7,7 @@ mod endpoint;
 mod frames;
 pub mod limits;
 mod list;
+mod long;
 mod macros;
 mod memory;
 mod octets;

@@ -1,6 +1,9 @@
-ghost use Rattle.std.specs.Prelude.{◌≡◌, ◌==◌, ◌<◌, [], ◌∷◌, ◌++◌, length, IfOk, OnOk, OnErr, Some, slice_get};
+ghost use Rattle.std.specs.Prelude.{◌≡◌, ◌==◌, ◌<◌, ◌≤◌, [], ◌∷◌, ◌++◌, flat_map, length, IfOk, OnOk, OnErr, Some, slice_get};
+ghost use Rattle.zre_values.specs.Text.{quoted_octet};
 
 use crate::OutOfMemory;
+use crate::long::Long;
+use crate::quoting::CHUNK;
 use crate::short::{INLINE, Short};
 use std::alloc::Global;
 use std::default::MadeWith;
@@ -9,7 +12,7 @@ use std::marker::Model;
 #[derive(Debug, Drop)]
 enum Buffer {
     Inline(Short),
-    Heap(Vec<u8>),
+    Heap(Long),
 }
 
 /// A list of octets that owns its memory: a name, a group, a frame, or a text that grows. Up to 32 octets lie in the
@@ -49,7 +52,7 @@ impl Octets {
     {
         if bytes.len() > INLINE {
             return Ok(Octets {
-                store: Buffer::Heap(Vec::from_slice(alloc, bytes)?),
+                store: Buffer::Heap(Long::new(Vec::from_slice(alloc, bytes)?)),
                 alloc,
             });
         }
@@ -68,7 +71,7 @@ impl Octets {
         let alloc = *items.allocator();
         if items.len() > INLINE {
             return Octets {
-                store: Buffer::Heap(items),
+                store: Buffer::Heap(Long::new(items)),
                 alloc,
             };
         }
@@ -87,7 +90,7 @@ impl Octets {
     {
         match &self.store {
             Buffer::Inline(short) => short.as_slice(),
-            Buffer::Heap(items) => items.as_slice(),
+            Buffer::Heap(long) => long.as_slice(),
         }
     }
 
@@ -98,7 +101,7 @@ impl Octets {
     {
         match &self.store {
             Buffer::Inline(short) => short.len(),
-            Buffer::Heap(items) => items.len(),
+            Buffer::Heap(long) => long.len(),
         }
     }
 
@@ -132,10 +135,7 @@ impl Octets {
                     return Ok(());
                 }
             }
-            Buffer::Heap(items) => {
-                items.push(octet)?;
-                return Ok(());
-            }
+            Buffer::Heap(long) => return long.push(octet),
         }
         self.spill(&[octet])
     }
@@ -153,12 +153,36 @@ impl Octets {
                     return Ok(());
                 }
             }
-            Buffer::Heap(items) => {
-                items.extend_from_slice(bytes)?;
-                return Ok(());
-            }
+            Buffer::Heap(long) => return long.append(bytes),
         }
         self.spill(bytes)
+    }
+
+    // Appends the quoted text of each octet, where it will stand. After an error the list is as it was.
+    #[inline]
+    pub(crate) fn append_quoted(&mut self, bytes: &[u8]) -> Result<(), OutOfMemory>
+        requires { length bytes.now ≤ CHUNK }
+        ensures ok { OnOk result (self.new ≡ self.old ++ flat_map quoted_octet bytes.now) }
+        ensures err { OnErr result (self.new ≡ self.old) }
+    {
+        match &mut self.store {
+            Buffer::Heap(long) => long.append_quoted(bytes),
+            Buffer::Inline(_) => self.spill_quoted(bytes),
+        }
+    }
+
+    // The same where the octets lie in the value: all of them go into memory of their own.
+    #[cold]
+    #[inline(never)]
+    fn spill_quoted(&mut self, bytes: &[u8]) -> Result<(), OutOfMemory>
+        requires { length bytes.now ≤ CHUNK }
+        ensures ok { OnOk result (self.new ≡ self.old ++ flat_map quoted_octet bytes.now) }
+        ensures err { OnErr result (self.new ≡ self.old) }
+    {
+        let mut long = Long::new(with_both(self.alloc, self.as_slice(), &[])?);
+        long.append_quoted(bytes)?;
+        self.store = Buffer::Heap(long);
+        Ok(())
     }
 
     // Appends octets for which the value has no room: all of them go into memory of their own.
@@ -169,7 +193,7 @@ impl Octets {
         ensures err { OnErr result (self.new ≡ self.old) }
     {
         let items = with_both(self.alloc, self.as_slice(), bytes)?;
-        self.store = Buffer::Heap(items);
+        self.store = Buffer::Heap(Long::new(items));
         Ok(())
     }
 
@@ -180,7 +204,7 @@ impl Octets {
     {
         match &mut self.store {
             Buffer::Inline(short) => short.clear(),
-            Buffer::Heap(items) => items.clear(),
+            Buffer::Heap(long) => long.clear(),
         }
     }
 }

@@ -1,6 +1,6 @@
 //! The quoted text of octets, in which every event and every capture is written.
 
-ghost use Rattle.std.specs.Prelude.{◌≡◌, ◌<◌, ◌≤◌, ◌+◌, ◌++◌, flat_map, length, take, IfOk, OnOk};
+ghost use Rattle.std.specs.Prelude.{◌≡◌, ◌<◌, ◌≤◌, ◌+◌, ◌*◌, ◌++◌, flat_map, length, take, IfOk, OnOk};
 ghost use Rattle.std.specs.List.{list_all};
 ghost use Rattle.zre_values.specs.Text.{hex_digit, is_plain, quoted_octet, quoted, quoted_list, quoted_pair};
 ghost use Rattle.zre_values.specs.Text.{quoted_pairs};
@@ -27,19 +27,17 @@ pub(crate) fn are_plain(bytes: &[u8]) -> bool
     bytes.iter().all(|octet| is_plain(*octet))
 }
 
-// How many octets are quoted before their text is appended, and how many octets that text takes at most, with one
-// more that may be written after it.
-const CHUNK: usize = 32;
-
-const CHUNK_TEXT: usize = 97;
+/// How many octets are quoted in one go. Room is made for three times as many.
+pub(crate) const CHUNK: usize = 1_024;
 
 // Writes the text of an octet at a place, and gives the place after it. Four octets are written whichever it is, so
 // that no jump depends on the octet, and in one go.
-#[inline]
-fn write_octet(text: &mut [u8; CHUNK_TEXT], at: usize, octet: u8) -> usize
-    requires { at + 4 ≤ CHUNK_TEXT }
+#[inline(always)]
+fn write_octet(text: &mut [u8], at: usize, octet: u8) -> usize
+    requires { at + 4 ≤ length text.old }
     ensures text { take result text.new ≡ take at text.old ++ quoted_octet octet }
     ensures place { result ≤ at + 3 }
+    ensures size { length text.new ≡ length text.old }
 {
     let row = row_of(octet);
     let room = &mut text[at..at + 4];
@@ -47,27 +45,18 @@ fn write_octet(text: &mut [u8; CHUNK_TEXT], at: usize, octet: u8) -> usize
     at + row[3] as usize
 }
 
-fn push_chunk(out: &mut Octets, bytes: &[u8]) -> Result<(), OutOfMemory>
-    requires { length bytes.now ≤ CHUNK }
-    ensures { OnOk result (out.new ≡ out.old ++ flat_map quoted_octet bytes.now) }
+/// Writes the texts of octets at a place, and gives the place after them.
+#[inline]
+pub(crate) fn write_octets(text: &mut [u8], at: usize, bytes: &[u8]) -> usize
+    requires { at + 3 * length bytes.now + 1 ≤ length text.old }
+    ensures text { take result text.new ≡ take at text.old ++ flat_map quoted_octet bytes.now }
+    ensures place { result ≤ length text.new }
 {
-    let mut text = [0; CHUNK_TEXT];
-    let mut len = 0;
+    let mut end = at;
     for octet in bytes {
-        len = write_octet(&mut text, len, *octet);
+        end = write_octet(text, end, *octet);
     }
-    out.append(&text[..len])
-}
-
-// Appends the text of few octets. Names and groups are mostly plain, so that is looked for first.
-fn push_short(out: &mut Octets, bytes: &[u8]) -> Result<(), OutOfMemory>
-    requires { length bytes.now ≤ CHUNK }
-    ensures { OnOk result (out.new ≡ out.old ++ flat_map quoted_octet bytes.now) }
-{
-    if are_plain(bytes) {
-        return out.append(bytes);
-    }
-    push_chunk(out, bytes)
+    end
 }
 
 /// Appends the quoted text of some octets. After an error a front of it may stand there.
@@ -78,12 +67,12 @@ pub fn push_quoted(out: &mut Octets, bytes: &[u8]) -> Result<(), OutOfMemory>
         return out.push(b'~');
     }
     if bytes.len() <= CHUNK {
-        return push_short(out, bytes);
+        return out.append_quoted(bytes);
     }
     let mut rest = bytes;
     while !rest.is_empty() {
         let (front, later) = rest.split_at(rest.len().min(CHUNK));
-        push_chunk(out, front)?;
+        out.append_quoted(front)?;
         rest = later;
     }
     Ok(())

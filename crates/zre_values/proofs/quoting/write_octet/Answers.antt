@@ -20,4 +20,4 @@ written at k b text row new is same within =
     ∙ ap (λ (o : List ℕ). take at text ++ o) (row_front (is_plain b) b (hex_digit (b / 16)) (hex_digit (b % 16)) (post_of at k text)))
 
 pub returns-clause-text : goal.returns-clause-text
-returns-clause-text c = written c.args.at (c.args.at + 4 - c.args.at) c.args.octet c.args.text.now c.row_of-row.result c.copy_from_slice.new.self c.row_of-row.ensures c.copy_from_slice.ensures.after (omega arith)
+returns-clause-text c = written c.args.at (c.args.at + 4 - c.args.at) c.args.octet c.args.text.now c.row_of-row.result c.copy_from_slice.new.self c.row_of-row.ensures c.copy_from_slice.ensures.after (omega (arith, c.requires))

@@ -1,0 +1,123 @@
+//! Many octets, in memory of their own. Its end is filled with zeros, so texts are written where they will stand.
+
+ghost use Rattle.std.specs.Prelude.{◌≡◌, ◌+◌, ◌≤◌, [], ◌∷◌, ◌++◌, flat_map, length, take, OnOk, OnErr};
+ghost use Rattle.zre_values.specs.Text.{quoted_octet};
+
+use crate::OutOfMemory;
+use crate::quoting::{CHUNK, write_octets};
+use std::marker::Model;
+
+#[derive(Debug, Drop)]
+pub(crate) struct Long {
+    items: Vec<u8>,
+    count: usize,
+}
+
+impl Model for Long {
+    ghost use Rattle.std.specs.Prelude.{◌≤◌, ℕ, List, length, take};
+
+    ghost Value = { List ℕ };
+
+    ghost view = { λ long. take long.count long.items.items };
+
+    ghost invariant = { λ long. long.count ≤ length long.items.items };
+}
+
+// Makes room for so many octets more after so many. The vector is at least twice as long then, so that octets are
+// moved seldom.
+#[cold]
+#[inline(never)]
+fn grow(items: &mut Vec<u8>, count: usize, more: usize) -> Result<(), OutOfMemory>
+    requires { count ≤ length items.old.items }
+    ensures front { take count items.new.items ≡ take count items.old.items }
+    ensures room { OnOk result (count + more ≤ length items.new.items) }
+    ensures kept { count ≤ length items.new.items }
+{
+    let Some(size) = count.checked_add(more) else {
+        return Err(OutOfMemory);
+    };
+    let twice = items.len().saturating_mul(2);
+    items.resize(size.max(twice), 0)?;
+    Ok(())
+}
+
+// The same, where room may be there.
+#[inline(always)]
+fn make_room(items: &mut Vec<u8>, count: usize, more: usize) -> Result<(), OutOfMemory>
+    requires { count ≤ length items.old.items }
+    ensures front { take count items.new.items ≡ take count items.old.items }
+    ensures room { OnOk result (count + more ≤ length items.new.items) }
+    ensures kept { count ≤ length items.new.items }
+{
+    if more <= items.len() - count {
+        return Ok(());
+    }
+    grow(items, count, more)
+}
+
+impl Long {
+    // The octets of a vector, which keeps its memory.
+    #[inline]
+    pub(crate) fn new(items: Vec<u8>) -> Self
+        ensures { result ≡ items.items }
+    {
+        let count = items.len();
+        Long { items, count }
+    }
+
+    #[inline]
+    pub(crate) fn as_slice(&self) -> &[u8]
+        ensures { result.now ≡ self.now }
+    {
+        &self.items[..self.count]
+    }
+
+    #[inline]
+    pub(crate) fn len(&self) -> usize
+        ensures { result ≡ length self.now }
+    {
+        self.count
+    }
+
+    #[inline]
+    pub(crate) fn clear(&mut self)
+        ensures { self.new ≡ [] }
+    {
+        self.count = 0;
+    }
+
+    #[inline]
+    pub(crate) fn push(&mut self, octet: u8) -> Result<(), OutOfMemory>
+        ensures ok { OnOk result (self.new ≡ self.old ++ octet ∷ []) }
+        ensures err { OnErr result (self.new ≡ self.old) }
+    {
+        make_room(&mut self.items, self.count, 1)?;
+        self.items[self.count] = octet;
+        self.count += 1;
+        Ok(())
+    }
+
+    #[inline]
+    pub(crate) fn append(&mut self, bytes: &[u8]) -> Result<(), OutOfMemory>
+        ensures ok { OnOk result (self.new ≡ self.old ++ bytes.now) }
+        ensures err { OnErr result (self.new ≡ self.old) }
+    {
+        make_room(&mut self.items, self.count, bytes.len())?;
+        let end = self.count + bytes.len();
+        let room = &mut self.items[self.count..end];
+        room.copy_from_slice(bytes);
+        self.count = end;
+        Ok(())
+    }
+
+    // Appends the quoted text of each octet, or nothing.
+    pub(crate) fn append_quoted(&mut self, bytes: &[u8]) -> Result<(), OutOfMemory>
+        requires { length bytes.now ≤ CHUNK }
+        ensures ok { OnOk result (self.new ≡ self.old ++ flat_map quoted_octet bytes.now) }
+        ensures err { OnErr result (self.new ≡ self.old) }
+    {
+        make_room(&mut self.items, self.count, 3 * bytes.len() + 1)?;
+        self.count = write_octets(self.items.as_mut_slice(), self.count, bytes);
+        Ok(())
+    }
+}
