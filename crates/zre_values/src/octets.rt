@@ -129,15 +129,9 @@ impl Octets {
         ensures err { OnErr result (self.new ≡ self.old) }
     {
         match &mut self.store {
-            Buffer::Inline(short) => {
-                if short.has_room(1) {
-                    short.push(octet);
-                    return Ok(());
-                }
-            }
-            Buffer::Heap(long) => return long.push(octet),
+            Buffer::Heap(long) => long.push(octet),
+            Buffer::Inline(_) => self.append_inline(&[octet]),
         }
-        self.spill(&[octet])
     }
 
     /// Appends a copy of these octets, or nothing.
@@ -147,13 +141,22 @@ impl Octets {
         ensures err { OnErr result (self.new ≡ self.old) }
     {
         match &mut self.store {
-            Buffer::Inline(short) => {
-                if short.has_room(bytes.len()) {
-                    short.append(bytes);
-                    return Ok(());
-                }
+            Buffer::Heap(long) => long.append(bytes),
+            Buffer::Inline(_) => self.append_inline(bytes),
+        }
+    }
+
+    // The same where the octets lie in the value.
+    #[inline(never)]
+    fn append_inline(&mut self, bytes: &[u8]) -> Result<(), OutOfMemory>
+        ensures ok { OnOk result (self.new ≡ self.old ++ bytes.now) }
+        ensures err { OnErr result (self.new ≡ self.old) }
+    {
+        if let Buffer::Inline(short) = &mut self.store {
+            if short.has_room(bytes.len()) {
+                short.append(bytes);
+                return Ok(());
             }
-            Buffer::Heap(long) => return long.append(bytes),
         }
         self.spill(bytes)
     }

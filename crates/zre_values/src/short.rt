@@ -1,6 +1,6 @@
 //! Few octets, which lie in the value itself.
 
-ghost use Rattle.std.specs.Prelude.{◌≡◌, ◌+◌, ◌≤◌, ◌<◌, [], ◌∷◌, ◌++◌, length, nat_le};
+ghost use Rattle.std.specs.Prelude.{◌≡◌, ◌+◌, ◌≤◌, [], ◌++◌, length, nat_le};
 
 use std::marker::Model;
 
@@ -54,15 +54,6 @@ impl Short {
         ensures { result ≡ nat_le (length self.now + more) INLINE }
     {
         more <= INLINE - self.count as usize
-    }
-
-    #[inline]
-    pub(crate) fn push(&mut self, octet: u8)
-        requires { length self.old < INLINE }
-        ensures { self.new ≡ self.old ++ octet ∷ [] }
-    {
-        self.octets[self.count as usize] = octet;
-        self.count += 1;
     }
 
     // In one go.

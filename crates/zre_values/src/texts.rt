@@ -10,6 +10,9 @@ pub fn push_decimal(out: &mut Octets, n: u64) -> Result<(), OutOfMemory>
     ensures ok { OnOk result (out.new ≡ out.old ++ decimal n) }
     ensures err { OnErr result (out.new ≡ out.old) }
 {
+    if n < 10 {
+        return out.push(b'0' + n as u8);
+    }
     let mut buffer = Buffer::new();
     out.append(buffer.format(n).as_bytes())
 }
