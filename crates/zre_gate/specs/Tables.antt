@@ -1,4 +1,4 @@
--- The pipes before any step, and who sits where.
+-- The pipes before any step, and which thread has which pass.
 use Rattle.std.specs.Prelude.{◌≡◌, ℕ, ◌≤◌, [], ◌∷◌, map, length, All, vec_capacity}
 use Rattle.std.specs.Arc.{arc_value}
 use Rattle.zre_actor.specs.Commands.{times}

@@ -99,9 +99,11 @@ impl Own {
     /// Joins a group of at most `GROUP_OCTETS` octets and answers the new status.
     pub fn join(&mut self, group: &[u8]) -> Result<u8, JoinFault>
         requires { length group.now ≤ GROUP_OCTETS }
+        // What a call that is done gives.
         ensures ok { OnOk result (self.new ≡ with_joined self.old group.now) }
         ensures status { IfOk result (λ status. status ≡ next_status self.old) }
         ensures same { IsTrue (is_joined self.old group.now) → result ≡ Err JoinFault.Same }
+        // What a refusal tells, and what it leaves.
         ensures limit { is_joined self.old group.now ≡ false → length self.old.groups ≡ OWN_GROUPS
             → result ≡ Err JoinFault.Limit }
         ensures cause { IfErr result (IsCause self.old group.now) }
@@ -120,8 +122,10 @@ impl Own {
 
     /// Leaves a group and answers the new status. The others keep their order.
     pub fn leave(&mut self, group: &[u8]) -> Result<u8, NoGroup>
+        // What a call that is done gives.
         ensures ok { OnOk result (self.new ≡ with_left self.old group.now) }
         ensures status { IfOk result (λ status. status ≡ next_status self.old) }
+        // What a refusal tells, and what it leaves.
         ensures no_group { IsErr result ↔ (is_joined self.old group.now ≡ false) }
         ensures err { OnErr result (self.new ≡ self.old) }
     {

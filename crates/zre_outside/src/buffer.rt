@@ -10,6 +10,7 @@ pub const PIECE: usize = 8192;
 /// How many octets the next read asks for, where so many may still be taken.
 pub fn room_for(left: u64) -> usize
     requires { 0 < left }
+    // Some octets, and no more than are allowed.
     ensures some { 0 < result }
     ensures most { result ≤ PIECE }
     ensures within { result ≤ left }

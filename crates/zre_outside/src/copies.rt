@@ -1,4 +1,4 @@
-//! The same values, in memory of their own.
+//! Copies of entries and acts, in memory of their own.
 
 ghost use Rattle.std.specs.Prelude.{◌≡◌, ◌∷◌, ◌++◌, [], IfOk, OnOk};
 ghost use Rattle.zre_outside.specs.declared.entry.Command.{Command as CommandValue};
@@ -57,7 +57,7 @@ fn copy_addresses(alloc: Global, addresses: &Addresses) -> Result<Addresses, Out
 }
 
 impl Command {
-    /// The same command.
+    /// A copy of the command.
     pub fn copy(&self, alloc: Global) -> Result<Command, OutOfMemory>
         ensures { IfOk result (λ copy. copy ≡ self.now) }
     {
@@ -76,7 +76,7 @@ impl Command {
 }
 
 impl Input {
-    /// The same input.
+    /// A copy of the input.
     pub fn copy(&self, alloc: Global) -> Result<Input, OutOfMemory>
         ensures { IfOk result (λ copy. copy ≡ self.now) }
     {
@@ -100,7 +100,7 @@ impl Input {
 }
 
 impl Entry {
-    /// The same entry.
+    /// A copy of the entry.
     pub fn copy(&self, alloc: Global) -> Result<Entry, OutOfMemory>
         ensures { IfOk result (λ copy. copy ≡ self.now) }
     {
@@ -112,7 +112,7 @@ impl Entry {
 }
 
 impl Act {
-    /// The same act.
+    /// A copy of the act.
     pub fn copy(&self, alloc: Global) -> Result<Act, OutOfMemory>
         ensures { IfOk result (λ copy. copy ≡ self.now) }
     {
@@ -131,7 +131,7 @@ impl Act {
 }
 
 impl Start {
-    /// The same settings.
+    /// A copy of the settings.
     pub fn copy(&self, alloc: Global) -> Result<Start, OutOfMemory>
         ensures { IfOk result (λ copy. copy ≡ self.now) }
     {

@@ -80,12 +80,15 @@ impl<R: Files> Recorder for FileRecorder<R> {
 
     fn put(&mut self, bytes: &[u8]) -> Result<(), NextFault>
         requires { self.old.begun ≡ true }
+        // What stays as it was.
         ensures begun { self.new.begun ≡ self.old.begun }
+        // Which counts of faults rise.
         ensures later { self.old.faults.count ≤ self.new.faults.count }
         ensures failed { IsErrOf result NextFault.Failed → Rose self.old.faults.count self.new.faults.count }
         ensures counts { Some self.new.faults.count
             ≡ refused_after (is_failed result) (Some self.old.faults.count) }
         ensures counted { self.new.faults.count ≡ counted (is_failed result) self.old.faults.count }
+        // The reason.
         ensures reason { OnErr result (IsSome self.new.faults.reason) }
     {
         match self.file.as_mut().unwrap().write_all(bytes) {

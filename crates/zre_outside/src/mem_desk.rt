@@ -68,15 +68,19 @@ impl Desk for MemDesk {
 
     /// The calls whose numbers are listed fail, and no others.
     fn begin(&mut self, addr: [u8; 4], port: u16) -> Result<(), Failed>
+        // What it tells.
         ensures told { OnOk result (Some self.new.queue.told ≡ option_map (with_begun addr port)
             (Some self.old.queue.told)) }
         ensures refused { OnErr result (Some self.new.queue.told ≡ Some self.old.queue.told) }
+        // Which counts of faults rise.
         ensures later { self.old.faults ≤ self.new.faults }
         ensures failed { OnErr result (Rose self.old.faults self.new.faults) }
         ensures counts { Some self.new.faults ≡ refused_after (is_err result) (Some self.old.faults) }
         ensures counted { self.new.faults ≡ counted (is_err result) self.old.faults }
+        // The calls that it lists.
         ensures listed { is_err result ≡ next_is_listed self.old.begins }
         ensures calls { (self.new.begins ≡ called self.old.begins) × (self.new.nexts ≡ self.old.nexts) }
+        // What stays as it was.
         ensures left { self.new.queue.left ≡ self.old.queue.left }
     {
         if self.begins.next_fails() {
@@ -89,15 +93,19 @@ impl Desk for MemDesk {
 
     /// The calls whose numbers are listed fail, and those past the last client, and no others.
     fn next(&mut self) -> Result<MemSource, Failed>
+        // What it tells.
         ensures told { IfOk result (λ c. Some self.new.queue.told ≡ option_map (with_given c)
             (Some self.old.queue.told)) }
         ensures refused { OnErr result (Some self.new.queue.told ≡ Some self.old.queue.told) }
+        // Which counts of faults rise.
         ensures later { self.old.faults ≤ self.new.faults }
         ensures failed { OnErr result (Rose self.old.faults self.new.faults) }
         ensures counts { Some self.new.faults ≡ refused_after (is_err result) (Some self.old.faults) }
         ensures counted { self.new.faults ≡ counted (is_err result) self.old.faults }
+        // The calls that it lists.
         ensures listed { is_err result ≡ next_is_listed self.old.nexts || length self.old.queue.left == 0 }
         ensures calls { (self.new.nexts ≡ called self.old.nexts) × (self.new.begins ≡ self.old.begins) }
+        // The client.
         ensures first { IfOk result (λ c. self.old.queue.left ≡ c ∷ self.new.queue.left) }
         ensures kept { OnErr result (self.new.queue.left ≡ self.old.queue.left) }
     {

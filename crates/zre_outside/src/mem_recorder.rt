@@ -81,16 +81,20 @@ impl Recorder for MemRecorder {
 
     /// The calls whose numbers are listed fail, and no others.
     fn begin(&mut self, name: &str) -> Result<(), NextFault>
+        // What is begun.
         ensures begun { self.new.capture.begun ≡ is_ok result }
         ensures kept { OnOk result (Some self.new.capture.kept ≡ option_map (λ _. []) (Some self.old.capture.kept)) }
         ensures named { OnOk result (Some self.new.capture.named
             ≡ option_map (λ _. name.now) (Some self.old.capture.named)) }
+        // A recorder that fails.
         ensures refused { OnErr result (Keeps (Some self.old.capture.kept) (Some self.new.capture.kept)
             × Keeps (Some self.old.capture.named) (Some self.new.capture.named)) }
+        // Which counts of faults rise.
         ensures later { self.old.faults ≤ self.new.faults }
         ensures failed { IsErrOf result NextFault.Failed → Rose self.old.faults self.new.faults }
         ensures counts { Some self.new.faults ≡ refused_after (is_failed result) (Some self.old.faults) }
         ensures counted { self.new.faults ≡ counted (is_failed result) self.old.faults }
+        // The calls that it lists.
         ensures listed { is_failed result ≡ next_is_listed self.old.begins }
         ensures calls { (self.new.begins ≡ called self.old.begins) × (self.new.puts ≡ self.old.puts) }
     {
@@ -109,15 +113,20 @@ impl Recorder for MemRecorder {
     /// It takes all octets or none. The calls whose numbers are listed fail, and no others.
     fn put(&mut self, bytes: &[u8]) -> Result<(), NextFault>
         requires { self.old.capture.begun ≡ true }
+        // What is kept.
         ensures kept { OnOk result (Appends (Some self.old.capture.kept) (Some self.new.capture.kept) bytes.now) }
         ensures front { AppendsFront (Some self.old.capture.kept) (Some self.new.capture.kept) bytes.now }
+        // What stays as it was.
         ensures named { Keeps (Some self.old.capture.named) (Some self.new.capture.named) }
         ensures begun { self.new.capture.begun ≡ self.old.capture.begun }
+        // Which counts of faults rise.
         ensures later { self.old.faults ≤ self.new.faults }
         ensures failed { IsErrOf result NextFault.Failed → Rose self.old.faults self.new.faults }
         ensures counts { Some self.new.faults ≡ refused_after (is_failed result) (Some self.old.faults) }
         ensures counted { self.new.faults ≡ counted (is_failed result) self.old.faults }
+        // A recorder that fails.
         ensures refused { OnErr result (Keeps (Some self.old.capture.kept) (Some self.new.capture.kept)) }
+        // The calls that it lists.
         ensures listed { is_failed result ≡ next_is_listed self.old.puts }
         ensures calls { (self.new.puts ≡ called self.old.puts) × (self.new.begins ≡ self.old.begins) }
     {

@@ -26,9 +26,11 @@ pub trait Recorder {
 
     /// Begins anew, under a name and with nothing kept. After a refusal it isn't begun.
     fn begin(&mut self, name: &str) -> Result<(), NextFault>
+        // What is begun.
         ensures begun { begun self.new ≡ is_ok result }
         ensures kept { OnOk result (kept self.new ≡ option_map (λ _. []) (kept self.old)) }
         ensures name { OnOk result (named self.new ≡ option_map (λ _. name.now) (named self.old)) }
+        // A recorder that fails.
         ensures refused { OnErr result (Keeps (kept self.old) (kept self.new)
             × Keeps (named self.old) (named self.new)) }
         ensures later { faults self.old ≤ faults self.new }
@@ -38,10 +40,13 @@ pub trait Recorder {
     /// Appends octets. After a refusal a front of them was appended.
     fn put(&mut self, bytes: &[u8]) -> Result<(), NextFault>
         requires { begun self.old ≡ true }
+        // What is kept.
         ensures kept { OnOk result (Appends (kept self.old) (kept self.new) bytes.now) }
         ensures front { AppendsFront (kept self.old) (kept self.new) bytes.now }
+        // What stays as it was.
         ensures name { Keeps (named self.old) (named self.new) }
         ensures begun { begun self.new ≡ begun self.old }
+        // No count of faults falls.
         ensures later { faults self.old ≤ faults self.new }
         ensures failed { IsErrOf result NextFault.Failed → Rose (faults self.old) (faults self.new) }
         ensures counts { refused self.new ≡ refused_after (is_failed result) (refused self.old) };

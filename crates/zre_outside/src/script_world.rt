@@ -48,6 +48,7 @@ impl Model for ScriptWorld {
 impl ScriptWorld {
     /// A world of which no turn was asked.
     pub fn new(alloc: Global, script: Script, start_fails: Vec<u64>, next_fails: Vec<u64>) -> Self
+        // Nothing came about yet.
         ensures scene { result.scene ≡ first_scene script }
         ensures row { result.row ≡ 0 }
         ensures calls { (result.starts ≡ no_calls start_fails.items) × (result.nexts ≡ no_calls next_fails.items) }
@@ -81,16 +82,20 @@ impl World for ScriptWorld {
 
     /// The calls whose numbers are listed fail, and no others.
     fn start(&mut self, s: &Start) -> Result<(), NextFault>
+        // What it tells.
         ensures told { OnOk result (Some self.new.scene.told ≡ option_map (with_start s.now)
             (Some self.old.scene.told)) }
         ensures refused { OnErr result (Some self.new.scene.told ≡ Some self.old.scene.told) }
         ensures looked { self.new.scene.looked ≡ self.old.scene.looked }
+        // Which counts of faults rise.
         ensures later { self.old.faults ≤ self.new.faults }
         ensures failed { IsErrOf result NextFault.Failed → Rose self.old.faults self.new.faults }
         ensures counts { Some self.new.faults ≡ refused_after (is_failed result) (Some self.old.faults) }
         ensures counted { self.new.faults ≡ counted (is_failed result) self.old.faults }
+        // The calls that it lists.
         ensures listed { is_failed result ≡ next_is_listed self.old.starts }
         ensures calls { (self.new.starts ≡ called self.old.starts) × (self.new.nexts ≡ self.old.nexts) }
+        // What stays as it was.
         ensures script { Waits self.old.scene self.new.scene × (self.new.row ≡ self.old.row) }
     {
         if self.starts.next_fails() {
@@ -104,15 +109,20 @@ impl World for ScriptWorld {
     /// others.
     fn next(&mut self, command: Option<Command>) -> Result<Turn, NextFault>
         requires { IsSome command → self.old.scene.looked ≡ true }
+        // The turn.
         ensures turn { IfOk result (λ t. IsTurn command t) }
         ensures script { IfOk result (λ t. Plays command t self.old.scene self.new.scene) }
+        // A world that fails.
         ensures refused { OnErr result (self.new.scene ≡ self.old.scene) }
+        // Which counts of faults rise.
         ensures later { self.old.faults ≤ self.new.faults }
         ensures failed { IsErrOf result NextFault.Failed → Rose self.old.faults self.new.faults }
         ensures counts { Some self.new.faults ≡ refused_after (is_failed result) (Some self.old.faults) }
         ensures counted { self.new.faults ≡ counted (is_failed result) self.old.faults }
+        // What stays as it was.
         ensures row { IfOk result (λ t. self.new.row ≡ row_later self.old.row t) }
         ensures kept { OnErr result (self.new.row ≡ self.old.row) }
+        // The calls that it lists.
         ensures listed { is_failed result ≡ next_is_listed self.old.nexts
             || (at_look self.old.scene.left command && nat_le 50000000 self.old.row) }
         ensures calls { (self.new.nexts ≡ called self.old.nexts) × (self.new.starts ≡ self.old.starts) }
@@ -128,9 +138,11 @@ impl World for ScriptWorld {
     }
 
     fn act(&mut self, act: &Act) -> Result<(), OutOfMemory>
+        // What is done.
         ensures ok { OnOk result (Some self.new.scene.told ≡ option_map (with_deed (DeedValue.Done act.now))
             (Some self.old.scene.told)) }
         ensures err { OnErr result (Some self.new.scene.told ≡ Some self.old.scene.told) }
+        // What stays as it was.
         ensures looked { self.new.scene.looked ≡ self.old.scene.looked }
         ensures faults { self.new.faults ≡ self.old.faults }
         ensures counts { Some self.new.faults ≡ Some self.old.faults }
@@ -140,9 +152,11 @@ impl World for ScriptWorld {
     }
 
     fn offer(&mut self, link: u64, bytes: &[u8]) -> Result<(), OutOfMemory>
+        // What is done.
         ensures ok { OnOk result (Some self.new.scene.told ≡ option_map (with_deed (DeedValue.Offered link bytes.now))
             (Some self.old.scene.told)) }
         ensures err { OnErr result (Some self.new.scene.told ≡ Some self.old.scene.told) }
+        // What stays as it was.
         ensures looked { self.new.scene.looked ≡ self.old.scene.looked }
         ensures faults { self.new.faults ≡ self.old.faults }
         ensures counts { Some self.new.faults ≡ Some self.old.faults }

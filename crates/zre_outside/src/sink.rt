@@ -42,9 +42,11 @@ pub trait Sink {
 
     /// Writes a front of `bytes`, of one octet at least where there is one. A refused call writes nothing.
     fn write(&mut self, bytes: &[u8]) -> Result<usize, NextFault>
+        // What is written.
         ensures bound { WritesAtMost result bytes.now }
         ensures some { IfOk result (λ n. 0 < length bytes.now → 0 < n) }
         ensures appended { IfOk result (λ n. Appends (written self.old) (written self.new) (take n bytes.now)) }
+        // A sink that fails.
         ensures refused { OnErr result (Keeps (written self.old) (written self.new)) }
         ensures later { faults self.old ≤ faults self.new }
         ensures failed { IsErrOf result NextFault.Failed → Rose (faults self.old) (faults self.new) }
@@ -53,8 +55,10 @@ pub trait Sink {
 
 /// Writes all of `bytes`, by as many writes as that takes. After a refusal a front of them is written.
 pub fn write_all<S: Sink>(sink: &mut S, bytes: &[u8]) -> Result<(), NextFault>
+    // What is written.
     ensures ok { OnOk result (Appends (S.written sink.old) (S.written sink.new) bytes.now) }
     ensures front { AppendsFront (S.written sink.old) (S.written sink.new) bytes.now }
+    // Which counts of faults rise.
     ensures later { S.faults sink.old ≤ S.faults sink.new }
     ensures failed { IsErrOf result NextFault.Failed → Rose (S.faults sink.old) (S.faults sink.new) }
     ensures counts { S.refused sink.new ≡ refused_after (is_failed result) (S.refused sink.old) }

@@ -29,10 +29,12 @@ pub trait Source {
     /// Reads some octets into the front of `buf`. `Ok(0)` comes at the end of input, and nowhere else.
     fn read(&mut self, buf: &mut [u8]) -> Result<usize, Failed>
         requires { 0 < length buf.old }
+        // What is read.
         ensures bound { ReadsAtMost result buf.new }
         ensures moved { IfOk result (λ n. MovesOn (left self.old) (left self.new) (taken self.old) (taken self.new)
             (take n buf.new)) }
         ensures end { IfOk result (λ n. n ≡ 0 → IsAtEnd (left self.new)) }
+        // A source that fails.
         ensures refused_left { OnErr result (Keeps (left self.old) (left self.new)) }
         ensures refused_taken { OnErr result (Keeps (taken self.old) (taken self.new)) }
         ensures later { faults self.old ≤ faults self.new }

@@ -52,9 +52,11 @@ impl Desk for SureDesk {
     ghost refused = { λ _. Some 0 };
 
     fn begin(&mut self, addr: [u8; 4], port: u16) -> Result<(), Failed>
+        // What it tells.
         ensures told { OnOk result (Some self.new.told ≡ option_map (with_begun addr port)
             (Some self.old.told)) }
         ensures refused { OnErr result (Some self.new.told ≡ Some self.old.told) }
+        // It never fails.
         ensures failed { OnErr result (Rose 0 0) }
         ensures counts { Some 0 ≡ refused_after (is_err result) (Some 0) }
         ensures left { self.new.left ≡ self.old.left }
@@ -64,11 +66,14 @@ impl Desk for SureDesk {
     }
 
     fn next(&mut self) -> Result<SureSource, Failed>
+        // What it tells.
         ensures told { IfOk result (λ c. Some self.new.told ≡ option_map (with_given c)
             (Some self.old.told)) }
         ensures refused { OnErr result (Some self.new.told ≡ Some self.old.told) }
+        // It never fails.
         ensures failed { OnErr result (Rose 0 0) }
         ensures counts { Some 0 ≡ refused_after (is_err result) (Some 0) }
+        // The client.
         ensures first { IfOk result (λ c. GivesOn c self.old.left self.new.left) }
     {
         let client = match self.left.pop_front() {

@@ -50,9 +50,11 @@ impl World for SureWorld {
     ghost refused = { λ _. Some 0 };
 
     fn start(&mut self, s: &Start) -> Result<(), NextFault>
+        // What it tells.
         ensures told { OnOk result (Some self.new.told ≡ option_map (with_start s.now)
             (Some self.old.told)) }
         ensures refused { OnErr result (Some self.new.told ≡ Some self.old.told) }
+        // What stays as it was.
         ensures looked { self.new.looked ≡ self.old.looked }
         ensures failed { IsErrOf result NextFault.Failed → Rose 0 0 }
         ensures counts { Some 0 ≡ refused_after (is_failed result) (Some 0) }
@@ -64,8 +66,10 @@ impl World for SureWorld {
     /// The turn is the script's.
     fn next(&mut self, command: Option<Command>) -> Result<Turn, NextFault>
         requires { IsSome command → self.old.looked ≡ true }
+        // The turn.
         ensures turn { IfOk result (λ t. IsTurn command t) }
         ensures script { IfOk result (λ t. Plays command t self.old self.new) }
+        // It never fails.
         ensures refused { OnErr result (self.new ≡ self.old) }
         ensures failed { IsErrOf result NextFault.Failed → Rose 0 0 }
         ensures counts { Some 0 ≡ refused_after (is_failed result) (Some 0) }
@@ -74,9 +78,11 @@ impl World for SureWorld {
     }
 
     fn act(&mut self, act: &Act) -> Result<(), OutOfMemory>
+        // What is done.
         ensures ok { OnOk result (Some self.new.told ≡ option_map (with_deed (DeedValue.Done act.now))
             (Some self.old.told)) }
         ensures err { OnErr result (Some self.new.told ≡ Some self.old.told) }
+        // What stays as it was.
         ensures looked { self.new.looked ≡ self.old.looked }
         ensures script { Waits self.old self.new }
     {
@@ -84,9 +90,11 @@ impl World for SureWorld {
     }
 
     fn offer(&mut self, link: u64, bytes: &[u8]) -> Result<(), OutOfMemory>
+        // What is done.
         ensures ok { OnOk result (Some self.new.told
             ≡ option_map (with_deed (DeedValue.Offered link bytes.now)) (Some self.old.told)) }
         ensures err { OnErr result (Some self.new.told ≡ Some self.old.told) }
+        // What stays as it was.
         ensures looked { self.new.looked ≡ self.old.looked }
         ensures script { Waits self.old self.new }
     {

@@ -25,8 +25,10 @@ pub trait World {
 
     /// Goes on the network.
     fn start(&mut self, s: &Start) -> Result<(), NextFault>
+        // What it tells.
         ensures told { OnOk result (told self.new ≡ option_map (with_start s.now) (told self.old)) }
         ensures refused { OnErr result (told self.new ≡ told self.old) }
+        // What stays as it was.
         ensures looked { looked self.new ≡ looked self.old }
         ensures later { faults self.old ≤ faults self.new }
         ensures failed { IsErrOf result NextFault.Failed → Rose (faults self.old) (faults self.new) }
@@ -35,9 +37,11 @@ pub trait World {
     /// The next turn. A command may be handed in after a look, and comes back as the entry to do it.
     fn next(&mut self, command: Option<Command>) -> Result<Turn, NextFault>
         requires { IsSome command → looked self.old ≡ true }
+        // The turn, and what the world tells of it.
         ensures turn { IfOk result (λ t. IsTurn command t) }
         ensures told { IfOk result (λ t. told self.new ≡ option_map (after_turn command t) (told self.old)) }
         ensures looked { IfOk result (λ t. looked self.new ≡ is_look t) }
+        // A world that fails.
         ensures refused { OnErr result ((told self.new ≡ told self.old) × (looked self.new ≡ looked self.old)) }
         ensures later { faults self.old ≤ faults self.new }
         ensures failed { IsErrOf result NextFault.Failed → Rose (faults self.old) (faults self.new) }

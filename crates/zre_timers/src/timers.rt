@@ -12,7 +12,7 @@ use zre_values::{Keys, OutOfMemory};
 #[derive(Drop)]
 pub struct Timers {
     moments: BTreeMap<u64, u64>,
-    // The same pairs in the order of their moments, so that the keys that are due are found without a look at the
+    // The pairs of the map in the order of their moments, so that the keys that are due are found without a look at the
     // others.
     queue: BTreeSet<(u64, u64)>,
     alloc: Global,
@@ -91,8 +91,10 @@ impl Timers {
     /// The keys that have been silent: `expired` those whose moment lies at least so long back, `evasive` the others
     /// whose moment lies at least `evasive` back. It looks at these keys alone.
     pub fn due(&self, now: u64, evasive: u64, expired: u64) -> Result<Due, OutOfMemory>
+        // The times of the settings.
         requires order { evasive ≤ expired }
         requires past { NoneAfter now self.now }
+        // The keys that are due.
         ensures expired { IfOk result (λ due. IsRisingListOf (has_rested self.now now expired) due.expired) }
         ensures evasive { IfOk result (λ due. IsRisingListOf
             (λ key. has_rested self.now now evasive key && not (has_rested self.now now expired key)) due.evasive) }

@@ -47,7 +47,7 @@ impl Frames {
         Frames { items }
     }
 
-    /// The same list, in memory of its own.
+    /// A copy of the frames, in memory of their own.
     pub fn copy(alloc: Global, frames: &[Octets]) -> Result<Self, OutOfMemory>
         ensures { IfOk result (λ copied. copied ≡ frames.now) }
     {

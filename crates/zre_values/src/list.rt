@@ -79,6 +79,7 @@ impl<T> List<T> {
 
 impl<T: Drop> List<T> {
     /// Appends a value, or nothing.
+    #[inline(always)]
     pub fn push(&mut self, value: T) -> Result<(), OutOfMemory>
         ensures ok { OnOk result (self.new ≡ self.old ++ value ∷ []) }
         ensures err { OnErr result (self.new ≡ self.old) }

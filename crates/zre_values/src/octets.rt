@@ -45,7 +45,7 @@ impl Octets {
         }
     }
 
-    /// The same list, in memory of its own.
+    /// A copy of the octets, in memory of their own.
     #[inline]
     pub fn copy(alloc: Global, bytes: &[u8]) -> Result<Self, OutOfMemory>
         ensures { IfOk result (λ octets. octets ≡ bytes.now) }

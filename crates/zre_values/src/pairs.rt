@@ -34,7 +34,7 @@ impl Pairs {
         }
     }
 
-    /// The same list, in memory of its own.
+    /// A copy of the list, in memory of its own.
     pub fn copy(alloc: Global, pairs: &Pairs) -> Result<Self, OutOfMemory>
         ensures { IfOk result (λ copied. copied ≡ pairs.now) }
     {

@@ -18,7 +18,7 @@ impl PeerId {
         PeerId::read_octets(text.as_bytes())
     }
 
-    /// The same of octets, which may be no text.
+    /// The identity that octets are the text of, if they are one; they may be no text.
     pub fn read_octets(text: &[u8]) -> Option<PeerId>
         ensures { option_map (λ id. id.0) result ≡ parsed text.now }
     {

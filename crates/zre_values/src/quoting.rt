@@ -93,7 +93,7 @@ pub fn push_quoted_list(out: &mut Octets, list: &[Octets]) -> Result<(), OutOfMe
     Ok(())
 }
 
-/// The same of frames.
+/// Appends the quoted texts of frames.
 pub fn push_quoted_frames(out: &mut Octets, frames: &Frames) -> Result<(), OutOfMemory>
     ensures { OnOk result (out.new ≡ out.old ++ quoted_list frames.now) }
 {

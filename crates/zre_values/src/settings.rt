@@ -82,7 +82,7 @@ impl Drop for Settings {
 }
 
 impl Settings {
-    /// The same settings once more.
+    /// A copy of the settings.
     pub fn copy(alloc: Global, other: &Settings) -> Result<Settings, OutOfMemory>
         ensures { IfOk result (λ settings. settings ≡ other.now) }
     {

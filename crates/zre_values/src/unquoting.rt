@@ -44,9 +44,11 @@ fn octet_after(text: &[u8]) -> Option<(u8, &[u8])>
 
 // The octet whose quoted text stands at the front, and what stands after that.
 fn octet_at(text: &[u8]) -> Option<(u8, &[u8])>
+    // The octet, and what is left.
     ensures octet { IfSome result (λ x. x.0 < 2 ^ 8) }
     ensures value { IfSome result (λ x. text.now ≡ quoted_octet x.0 ++ x.1.now) }
     ensures shorter { IfSome result (λ x. length x.1.now < length text.now) }
+    // Its text.
     ensures back { (b : ℕ) (y : List ℕ) → b < 2 ^ 8 → text.now ≡ quoted_octet b ++ y
         → IsSomeAnd result (λ x. (x.0 ≡ b) × (x.1.now ≡ y)) }
 {
