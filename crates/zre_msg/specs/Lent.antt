@@ -6,11 +6,12 @@ use Rattle.zre_msg.specs.declared.lent.LentMessage.{LentMessage}
 use Rattle.zre_msg.specs.declared.message.Message.{Message}
 use Rattle.zre_msg.specs.declared.message.ReadFault.{ReadFault}
 use Rattle.zre_msg.specs.Commands.{body_of}
+use Rattle.zre_msg.specs.Content.{content_of}
 use Rattle.zre_msg.specs.Reading.{Answers, first_row, head_rows, read_of, read_frames}
 
 -- the message that lies in frames
 abbrev pub message_of : LentMessage → Message
-message_of lent = record { sequence = lent.sequence; body = body_of lent.command lent.content.now }
+message_of lent = record { sequence = lent.sequence; body = body_of lent.command (content_of lent.content) }
 
 -- a first frame with a faultless head and the command of HELLO
 pub record OpensHello (first : List ℕ) : Type 0 where

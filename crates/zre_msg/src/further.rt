@@ -2,6 +2,7 @@
 
 ghost use Rattle.std.specs.Prelude.{◌≡◌, ◌==◌, ◌++◌, length, IfOk, OnOk};
 
+use crate::lent::LentContent;
 use std::alloc::Global;
 use zre_values::{Frames, Octets, OutOfMemory};
 
@@ -10,7 +11,7 @@ use zre_values::{Frames, Octets, OutOfMemory};
 #[derive(Drop)]
 pub enum Further<'a> {
     /// They are copied into the message.
-    Lent(&'a [Octets]),
+    Lent(LentContent<'a>),
     /// They are moved into it.
     Given(Frames),
 }
@@ -23,7 +24,7 @@ impl<'a> Further<'a> {
         ensures { result ≡ (length (frames_of self.now) == 0) }
     {
         match self {
-            Further::Lent(frames) => frames.is_empty(),
+            Further::Lent(content) => content.is_empty(),
             Further::Given(frames) => frames.len() == 0,
         }
     }
@@ -33,11 +34,7 @@ impl<'a> Further<'a> {
         ensures { IfOk result (λ frames. frames ≡ frames_of self.entry) }
     {
         match self {
-            Further::Lent(frames) => {
-                let mut copied = Frames::new(alloc);
-                push_copies(alloc, &mut copied, frames)?;
-                Ok(copied)
-            }
+            Further::Lent(content) => content.copy(alloc),
             Further::Given(frames) => Ok(frames),
         }
     }

@@ -1,7 +1,20 @@
 //! Messages that lie in the frames that they are read from.
 
+ghost use Rattle.std.specs.Prelude.{◌≡◌, ◌==◌, length, IfOk};
+ghost use Rattle.zre_msg.specs.Content.{content_of};
+
 use crate::commands::LentBody;
-use zre_values::Octets;
+use std::alloc::Global;
+use zre_values::{Frames, Octets, OutOfMemory};
+
+/// The frames after the first, where they lie.
+#[derive(Clone, Copy)]
+pub enum LentContent<'a> {
+    /// A list of frames.
+    Frames(&'a [Octets]),
+    /// One frame, or none.
+    One(Option<&'a [u8]>),
+}
 
 /// A message other than HELLO, with fields and content that lie where it was read from.
 #[derive(Clone, Copy)]
@@ -11,5 +24,28 @@ pub struct LentMessage<'a> {
     /// The command with its fields.
     pub command: LentBody<'a>,
     /// The frames after the first.
-    pub content: &'a [Octets],
+    pub content: LentContent<'a>,
+}
+
+impl<'a> LentContent<'a> {
+    /// Whether there are none.
+    pub fn is_empty(&self) -> bool
+        ensures { result ≡ (length (content_of self.now) == 0) }
+    {
+        match self {
+            LentContent::Frames(frames) => frames.is_empty(),
+            LentContent::One(frame) => frame.is_none(),
+        }
+    }
+
+    /// Copies of them.
+    pub fn copy(&self, alloc: Global) -> Result<Frames, OutOfMemory>
+        ensures { IfOk result (λ frames. frames ≡ content_of self.now) }
+    {
+        match self {
+            LentContent::Frames(frames) => Frames::copy(alloc, frames),
+            LentContent::One(None) => Ok(Frames::new(alloc)),
+            LentContent::One(Some(frame)) => Ok(Frames::of(alloc, Octets::copy(alloc, frame)?)),
+        }
+    }
 }

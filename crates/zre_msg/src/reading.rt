@@ -1,9 +1,11 @@
 //! Messages read from their frames.
 
 ghost use Rattle.std.specs.Prelude.{◌≡◌, ◌≤◌, ◌<◌, ◌^◌, [], ◌∷◌, length, take, drop, slice_index, Ok, Err, None, IfOk};
+ghost use Rattle.std.specs.Prelude.{option_to_list, option_copied};
 ghost use Rattle.std.specs.Int.{w16, from_be_bytes};
 ghost use Rattle.zre_msg.specs.Reading.{is_other as other_test, first_row, head_rows, end_rows, read_of};
 ghost use Rattle.zre_msg.specs.Reading.{read_frames, Answers};
+ghost use Rattle.zre_msg.specs.Content.{content_of};
 ghost use Rattle.zre_msg.specs.Further.{frames_of};
 ghost use Rattle.zre_msg.specs.Lent.{Opens, Sees};
 ghost use Rattle.zre_msg.specs.Spelling.{Means};
@@ -12,10 +14,10 @@ ghost use Rattle.zre_msg.specs.declared.message.Message.{Message as MessageValue
 use crate::commands::{LentBody, is_single, read_command, read_hello};
 use crate::fields::Stop;
 use crate::further::Further;
-use crate::lent::LentMessage;
+use crate::lent::{LentContent, LentMessage};
 use crate::message::{Bad, BadWhy, Message, ReadFault};
 use std::alloc::Global;
-use zre_values::{Frames, Octets};
+use zre_values::Frames;
 
 // Whether the octet is there, and is another one.
 fn is_other(octets: &[u8], i: usize, wanted: u8) -> bool
@@ -163,9 +165,9 @@ fn read_parts(alloc: Global, first: &[u8], further: Further<'_>) -> Result<Messa
 // The message that lies in a first frame and those after it.
 fn see_parts<'a>(
     first: &'a [u8],
-    content: &'a [Octets],
+    content: LentContent<'a>,
 ) -> Result<Option<LentMessage<'a>>, ReadFault>
-    ensures { Sees result (first.now ∷ content.now) }
+    ensures { Sees result (first.now ∷ content_of content) }
 {
     if first.len() > u32::MAX as usize {
         return Err(ReadFault::OutOfMemory);
@@ -210,7 +212,10 @@ impl Message {
         ensures exact { Answers result (read_frames frames.now) }
     {
         match frames.as_slice().split_first() {
-            Some((first, further)) => read_from(alloc, first.as_slice(), Further::Lent(further)),
+            Some((first, further)) => {
+                let content = LentContent::Frames(further);
+                read_from(alloc, first.as_slice(), Further::Lent(content))
+            }
             None => Err(no_frames()),
         }
     }
@@ -222,9 +227,20 @@ impl Message {
         ensures { Sees result frames.now }
     {
         match frames.as_slice().split_first() {
-            Some((first, further)) => see_parts(first.as_slice(), further),
+            Some((first, further)) => see_parts(first.as_slice(), LentContent::Frames(further)),
             None => Err(no_frames()),
         }
+    }
+
+    /// The same of one frame or two, which lie where they came.
+    #[inline(always)]
+    pub fn see_in<'a>(
+        first: &'a [u8],
+        second: Option<&'a [u8]>,
+    ) -> Result<Option<LentMessage<'a>>, ReadFault>
+        ensures { Sees result (first.now ∷ option_to_list (option_copied second)) }
+    {
+        see_parts(first, LentContent::One(second))
     }
 
     /// What `read` gives, of frames that are given: content is moved into the message.

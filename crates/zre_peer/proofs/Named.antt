@@ -7,6 +7,7 @@ use Rattle.zre_values.specs.declared.peer_id.PeerId.{PeerId}
 use Rattle.zre_msg.specs.declared.message.Body.{Body}
 use Rattle.zre_msg.specs.declared.message.Body.TheVariants.{Hello, Whisper, Shout, Join, Leave, Ping, PingOk, Other}
 use Rattle.zre_msg.specs.Commands.{body_of}
+use Rattle.zre_msg.specs.Content.{content_of}
 use Rattle.zre_msg.specs.Lent.{message_of}
 use Rattle.zre_msg.specs.declared.commands.LentBody.{LentBody}
 use Rattle.zre_msg.specs.declared.commands.LentBody.TheVariants as lent
@@ -78,4 +79,4 @@ command_is_later (lent.Other number rest) more = refl
 
 -- a message that lies in frames is no HELLO
 pub lent_is_later : (l : LentMessage) → is_hello (message_of l).body ≡ false
-lent_is_later l = command_is_later l.command l.content.now
+lent_is_later l = command_is_later l.command (content_of l.content)

@@ -223,12 +223,12 @@ impl View {
             LentBody::Join { group, status } => self.joined(alloc, id, group, status, events),
             LentBody::Leave { group, status } => self.left(alloc, id, group, status, events),
             LentBody::Whisper => {
-                let content = Frames::copy(alloc, lent.content)?;
+                let content = lent.content.copy(alloc)?;
                 self.whispered(alloc, id, content, events)
             }
             LentBody::Shout { group } => {
                 let group = Octets::copy(alloc, group)?;
-                let content = Frames::copy(alloc, lent.content)?;
+                let content = lent.content.copy(alloc)?;
                 self.shouted(alloc, id, group, content, events)
             }
             LentBody::Ping | LentBody::PingOk => Ok(()),

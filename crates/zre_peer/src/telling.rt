@@ -2,6 +2,7 @@
 
 ghost use Rattle.std.specs.Prelude.{◌≡◌, ◌++◌, true, OnOk, OnErr};
 ghost use Rattle.zre_msg.specs.declared.message.Body.TheVariants as bodies;
+ghost use Rattle.zre_msg.specs.Content.{content_of};
 ghost use Rattle.zre_msg.specs.Lent.{message_of};
 ghost use Rattle.zre_peer.specs.Changes.{Changes, TellsLines, PassesLimit};
 ghost use Rattle.zre_peer.specs.Lines.{content_end, group_end, lines, shout_end};
@@ -11,12 +12,23 @@ ghost use Rattle.zre_peer.specs.Views.{is_small};
 ghost use Rattle.zre_values.specs.declared.peer_id.PeerId.{PeerId};
 
 use crate::heads::Heads;
-use crate::line::{push_content_end, push_group_end, push_shout_end};
+use crate::line::{push_content_end, push_group_end};
 use crate::peer_run::RunFault;
 use crate::view::View;
 use std::alloc::Global;
-use zre_msg::{LentBody, LentMessage};
-use zre_values::{Octets, OutOfMemory};
+use zre_msg::{LentBody, LentContent, LentMessage};
+use zre_values::{Octets, OutOfMemory, push_quoted};
+
+// Appends frames of content that end a line.
+fn push_lent_end(out: &mut Octets, content: LentContent<'_>) -> Result<(), OutOfMemory>
+    ensures { OnOk result (out.new ≡ out.old ++ content_end (content_of content)) }
+{
+    match content {
+        LentContent::One(Some(frame)) => push_group_end(out, frame),
+        LentContent::One(None) => push_content_end(out, &[]),
+        LentContent::Frames(frames) => push_content_end(out, frames),
+    }
+}
 
 // The beginning of a line, and a group.
 fn push_group(out: &mut Octets, head: &Octets, group: &[u8]) -> Result<(), OutOfMemory>
@@ -26,25 +38,27 @@ fn push_group(out: &mut Octets, head: &Octets, group: &[u8]) -> Result<(), OutOf
     push_group_end(out, group)
 }
 
-fn push_whisper(out: &mut Octets, heads: &Heads, content: &[Octets]) -> Result<(), OutOfMemory>
+fn push_whisper(out: &mut Octets, heads: &Heads, content: LentContent<'_>) -> Result<(), OutOfMemory>
     ensures { (id : PeerId) (view : View) → heads.now ≡ heads_of id view.name →
-        OnOk result (out.new ≡ out.old ++ lines (events_of id view (bodies.Whisper content.now))) }
+        OnOk result (out.new ≡ out.old ++ lines (events_of id view (bodies.Whisper (content_of content)))) }
 {
     out.append(heads.whisper.as_slice())?;
-    push_content_end(out, content)
+    push_lent_end(out, content)
 }
 
 fn push_shout(
     out: &mut Octets,
     heads: &Heads,
     group: &[u8],
-    content: &[Octets],
+    content: LentContent<'_>,
 ) -> Result<(), OutOfMemory>
     ensures { (id : PeerId) (view : View) → heads.now ≡ heads_of id view.name →
-        OnOk result (out.new ≡ out.old ++ lines (events_of id view (bodies.Shout group.now content.now))) }
+        OnOk result (out.new ≡ out.old ++ lines (events_of id view (bodies.Shout group.now (content_of content)))) }
 {
     out.append(heads.shout.as_slice())?;
-    push_shout_end(out, group, content)
+    push_quoted(out, group)?;
+    out.push(b' ')?;
+    push_lent_end(out, content)
 }
 
 impl View {

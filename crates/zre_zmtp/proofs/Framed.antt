@@ -129,7 +129,7 @@ header_fine b head o h e =
     HeadFine-more b head o
     (record { header = h; flags_fine = sym (once-true _ _ (le-leb _ _ h.some)) ∙ p.0; size_fine = sym (once-true _ _ (has_header-from head h)) ∙ p.1 })
 
-neither : (t u : Bool) (a c : Option ZmtpWhy) → a ≡ None → c ≡ None → option_or (once t a) (once u c) ≡ None
+pub neither : (t u : Bool) (a c : Option ZmtpWhy) → a ≡ None → c ≡ None → option_or (once t a) (once u c) ≡ None
 neither true true a c p q = rw (p, q) refl
 neither true false a c p q = rw p refl
 neither false true a c p q = q

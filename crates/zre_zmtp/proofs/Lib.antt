@@ -17,3 +17,4 @@ pub mod Spelled
 pub mod Messages
 pub mod Handshakes
 pub mod Written
+pub mod Fronts

@@ -38,7 +38,7 @@ appended-more want kind o p q =
     ∙ append_assoc i (new_items want kind o p) (new_items want kind (o ++ p) q) in
     ap (λ (is : List Item). drop (length i) is) all ∙ drop_at i (new_items want kind o p ++ new_items want kind (o ++ p) q) (length i) refl
 
-adds-more : (want : Want) (kind : Kind) (o p q : List ℕ) (old mid new : List Item) → Adds want kind o p old mid → Adds want kind (o ++ p) q mid new → Adds want kind o (p ++ q) old new
+pub adds-more : (want : Want) (kind : Kind) (o p q : List ℕ) (old mid new : List Item) → Adds want kind o p old mid → Adds want kind (o ++ p) q mid new → Adds want kind o (p ++ q) old new
 adds-more want kind o p q old mid new a b =
     record {
       extended = extends want kind o (p ++ q);

@@ -4,6 +4,7 @@ pub mod Stream
 pub mod Run
 pub mod Shown
 pub mod Reading
+pub mod Front
 pub mod Looks
 pub mod Written
 pub mod Ping

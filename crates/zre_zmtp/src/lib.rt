@@ -7,6 +7,7 @@ mod command;
 mod expected;
 mod fault;
 mod faults;
+mod front;
 mod head;
 mod header;
 mod item;
@@ -22,6 +23,7 @@ mod want;
 mod writing;
 
 pub use fault::{FeedFault, ZmtpFault, ZmtpWhy};
+pub use front::Front;
 pub use item::{Item, Items, What};
 pub use laws::{handshakes_are_read, looks_are_few, messages_are_read};
 pub use looks::{Steps, Store};

@@ -1,16 +1,20 @@
 //! A reader of a stream that comes in pieces.
 
-ghost use Rattle.std.specs.Prelude.{◌≡◌, ℕ, ◌+◌, ◌-◌, ◌^◌, ◌<◌, ◌≤◌, ◌↔◌, min, false, List, [], length, IsErr, IsTrue};
+ghost use Rattle.std.specs.Prelude.{◌≡◌, ℕ, ◌+◌, ◌-◌, ◌^◌, ◌<◌, ◌≤◌, ◌↔◌, min, false, List, [], length, IsErr, IsTrue, IfSome};
+ghost use Rattle.std.specs.Prelude.{None};
 ghost use Rattle.std.specs.List.{concat};
 ghost use Rattle.zre_values.specs.declared.limits.TheConstants.{MESSAGE_OCTETS, COMMAND_OCTETS};
 ghost use Rattle.zre_zmtp.specs.Stream.{Want as WantValue, Any, Kind, Whole as whole_kind, Traffic as traffic_kind};
 ghost use Rattle.zre_zmtp.specs.Stream.{IsAtRest};
 ghost use Rattle.zre_zmtp.specs.Shown.{held, StandsAfter, NamesFault};
+ghost use Rattle.zre_zmtp.specs.Front.{PassesOn};
 ghost use Rattle.zre_zmtp.specs.Reading.{Reads, ReadsOn, RefusesOn, kept};
 ghost use Rattle.zre_zmtp.specs.Looks.{Looks, IsOpenTo};
 
 use crate::expected::Expected;
 use crate::fault::FeedFault;
+use crate::front::{Front, front_of};
+use crate::header::{header_len, read_header};
 use crate::item::Items;
 use crate::looks::{Steps, Store};
 use crate::opened::Opened;
@@ -23,6 +27,30 @@ use std::sync::ledger::{Blank, Ledger};
 use zre_values::{Frames, take_apart};
 
 impl Progress {
+    // Whether a message comes next, or a command, and nothing is unfinished.
+    fn at_rest(&self) -> bool
+        ensures { IsTrue result → (self.now.expected ≡ Expected.Traffic) × (self.now.opened ≡ [])
+            × (self.now.partial.head ≡ []) × (self.now.partial.body ≡ []) }
+    {
+        self.expected == Expected::Traffic && self.opened.len() == 0 && self.partial.head.len() == 0
+    }
+
+    // How many octets come next, where no header is kept whole.
+    fn next_len(&self, octets: &[u8]) -> u64
+        ensures { 0 < length octets.now → 0 < result }
+    {
+        if self.expected == Expected::Greeting || self.partial.head.len() > 0 {
+            return 1;
+        }
+        if self.opened.len() == 0 {
+            return octets.len() as u64;
+        }
+        match read_header(octets) {
+            Some(header) => header.size.saturating_add(header_len(octets) as u64),
+            None => 1,
+        }
+    }
+
     // Reads octets turn by turn. Each is looked at once.
     fn read<L: Ledger>(
         &mut self,
@@ -128,6 +156,38 @@ impl Reader {
         self.progress.read(&self.want, piece, out, steps)?;
         self.spent = false;
         Ok(())
+    }
+
+    /// Moves on over the message at the front of some octets, where the reader is at rest in traffic and a message of
+    /// one or two frames lies there whole, and gives it: what `feed` of its octets does, but for the item. Else nothing
+    /// changes. It copies nothing, so it takes no look.
+    #[inline(always)]
+    pub fn pass<'a>(&mut self, octets: &'a [u8]) -> Option<Front<'a>>
+        ensures passed { IfSome result (λ front. PassesOn self.old self.new front octets.now) }
+        ensures none { result ≡ None → self.new ≡ self.old }
+        ensures kept { IfSome result (λ front. (kept self.old ≡ 0) × (kept self.new ≡ 0)) }
+    {
+        if self.spent || !self.progress.at_rest() {
+            return None;
+        }
+        let front = front_of(octets)?;
+        let end = self.progress.place.checked_add(front.len as u64)?;
+        self.progress.place = end;
+        self.progress.start = end;
+        Some(front)
+    }
+
+    /// How many of some octets to feed before [`pass`](Reader::pass) is asked again: those that the unfinished frame
+    /// misses, or all where nothing is unfinished.
+    pub fn missing(&self, octets: &[u8]) -> usize
+        ensures some { 0 < length octets.now → 0 < result }
+        ensures within { result ≤ length octets.now }
+    {
+        let len = match self.progress.partial.header {
+            Some(header) => header.size - self.progress.partial.body.len() as u64,
+            None => self.progress.next_len(octets),
+        };
+        len.min(octets.len() as u64) as usize
     }
 
     // The same for a caller that counts nothing.

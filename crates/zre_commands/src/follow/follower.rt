@@ -1,6 +1,6 @@
 ghost use Rattle.std.specs.Prelude.{◌≡◌, [], false};
 
-use crate::follow::taking::take_items;
+use crate::follow::taking::{take_front, take_items};
 use crate::pump::{Going, Machine};
 use crate::stream::{going_after, push_end, read_piece};
 use std::alloc::Global;
@@ -41,6 +41,17 @@ impl Follower {
     }
 }
 
+impl Follower {
+    // What the reader doesn't pass at once.
+    fn feed_part(&mut self, part: &[u8], out: &mut Octets) -> Result<bool, OutOfMemory> {
+        self.items.clear();
+        let fault = read_piece(&mut self.reader, part, &mut self.items)?;
+        take_items(self.alloc, self.items.as_slice(), &mut self.run, out)?;
+        self.fault = fault;
+        Ok(self.fault.is_none() && !self.run.spent())
+    }
+}
+
 impl Machine for Follower {
     ghost use Rattle.zre_commands.specs.follow.Follow.{follow};
     ghost use Rattle.zre_commands.specs.follow.Follower.{Fed, peer_of};
@@ -61,11 +72,23 @@ impl Machine for Follower {
         if self.reader.spent() {
             return Ok(Going::Stop);
         }
-        self.items.clear();
-        let fault = read_piece(&mut self.reader, piece, &mut self.items)?;
-        take_items(self.alloc, self.items.as_slice(), &mut self.run, out)?;
-        self.fault = fault;
-        Ok(going_after(&self.fault, self.run.spent()))
+        let mut rest = piece;
+        while !rest.is_empty() {
+            if let Some(front) = self.reader.pass(rest) {
+                let (_, later) = rest.split_at(front.len);
+                if !take_front(self.alloc, &front, &mut self.run, out)? {
+                    return Ok(Going::On);
+                }
+                rest = later;
+            } else {
+                let (unfinished, later) = rest.split_at(self.reader.missing(rest));
+                if !self.feed_part(unfinished, out)? {
+                    return Ok(going_after(&self.fault, self.run.spent()));
+                }
+                rest = later;
+            }
+        }
+        Ok(Going::On)
     }
 
     fn finish<O: Sink>(&self, taken: u64, text: &mut Octets, _: &mut O) -> Result<bool, NextFault> {

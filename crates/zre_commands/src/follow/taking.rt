@@ -12,7 +12,7 @@ use std::alloc::Global;
 use zre_msg::{Message, ReadFault};
 use zre_peer::{RunFault, Teller};
 use zre_values::{Frames, Octets, OutOfMemory};
-use zre_zmtp::{Item, What};
+use zre_zmtp::{Front, Item, What};
 
 // What comes of a message that the run was handed: where the message is refused, the line of the run's end is appended.
 // Says whether the run goes on.
@@ -77,6 +77,54 @@ fn take_frames(
             go_on(alloc, taken, run, out)
         }
         Ok(None) => take_whole(alloc, frames, run, out),
+        Err(ReadFault::Bad(_)) => Ok(true),
+        Err(ReadFault::OutOfMemory) => Err(OutOfMemory),
+    }
+}
+
+// The frames of a message of one or two, in memory of their own.
+#[cold]
+#[inline(never)]
+fn copied(alloc: Global, front: &Front<'_>) -> Result<Frames, OutOfMemory>
+{
+    let mut frames = Frames::of(alloc, Octets::copy(alloc, front.first)?);
+    if let Some(second) = front.second {
+        frames.push(Octets::copy(alloc, second)?)?;
+    }
+    Ok(frames)
+}
+
+// The same with all of it made.
+#[cold]
+#[inline(never)]
+fn take_copied(
+    alloc: Global,
+    front: &Front<'_>,
+    run: &mut Teller,
+    out: &mut Octets,
+) -> Result<bool, OutOfMemory> {
+    let frames = copied(alloc, front)?;
+    take_whole(alloc, &frames, run, out)
+}
+
+/// Takes the message of one or two frames, if they mean one.
+pub(crate) fn take_front(
+    alloc: Global,
+    front: &Front<'_>,
+    run: &mut Teller,
+    out: &mut Octets,
+) -> Result<bool, OutOfMemory>
+    requires { is_spent run.old ≡ false }
+{
+    if !run.is_after() {
+        return take_copied(alloc, front, run, out);
+    }
+    match Message::see_in(front.first, front.second) {
+        Ok(Some(lent)) => {
+            let taken = run.take_lent(&lent, out);
+            go_on(alloc, taken, run, out)
+        }
+        Ok(None) => take_copied(alloc, front, run, out),
         Err(ReadFault::Bad(_)) => Ok(true),
         Err(ReadFault::OutOfMemory) => Err(OutOfMemory),
     }

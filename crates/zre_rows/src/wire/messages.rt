@@ -6,7 +6,7 @@ use crate::trouble::Trouble;
 use crate::wire::body::push_body;
 use crate::words::Words;
 use std::alloc::Global;
-use zre_msg::{Bad, BadWhy, Body, LentBody, LentMessage, Message, ReadFault};
+use zre_msg::{Bad, BadWhy, Body, LentBody, LentContent, LentMessage, Message, ReadFault};
 use zre_values::{Frames, Octets, OutOfMemory};
 
 fn why_text(why: BadWhy) -> &'static [u8] {
@@ -43,10 +43,17 @@ fn push_read(out: &mut Text, read: Result<Message, ReadFault>) {
     }
 }
 
+fn len_of(content: &LentContent<'_>) -> u64 {
+    match content {
+        LentContent::Frames(frames) => frames.len() as u64,
+        LentContent::One(frame) => u64::from(frame.is_some()),
+    }
+}
+
 // The message that lies in frames: `lent`, its number and that of the frames after the first.
 fn push_lent(out: &mut Text, lent: &LentMessage<'_>) {
     out.count(b"lent", u64::from(lent.sequence));
-    out.count(b"", lent.content.len() as u64);
+    out.count(b"", len_of(&lent.content));
     push_command(out, &lent.command);
     out.end();
 }
