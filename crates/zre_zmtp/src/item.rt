@@ -1,8 +1,9 @@
 //! What a stream is made of.
 
-ghost use Rattle.std.specs.Prelude.{◌≡◌, [], ◌∷◌, ◌++◌, OnOk};
+ghost use Rattle.std.specs.Prelude.{◌≡◌, ◌≤◌, ◌+◌, [], ◌∷◌, ◌++◌, length, OnOk};
 
-use std::alloc::Global;
+use crate::looks::Steps;
+use std::sync::ledger::Ledger;
 use zre_values::{Frames, List, Octets, OutOfMemory, take_apart};
 
 /// What is whole, from the place of its first octet to the place after its last. Places count the octets of the
@@ -73,32 +74,38 @@ impl Drop for What {
 /// A list of items.
 pub type Items = List<Item>;
 
-// Appends the octets of the only frame of a message, of which none are there.
-fn append_body(item: &mut Item, body: &[u8]) -> Result<(), OutOfMemory>
+// Appends the octets of the only frame of a message, of which none are there. It is a look at each of them.
+fn append_body<L: Ledger>(
+    item: &mut Item,
+    body: &[u8],
+    steps: &mut Steps<L>,
+) -> Result<(), OutOfMemory>
     requires { item.old.what ≡ What.Message ([] ∷ []) }
-    ensures { OnOk result (item.new ≡ record item.old { what = What.Message (body.now ∷ []) }) }
+    ensures appended { OnOk result (item.new ≡ record item.old { what = What.Message (body.now ∷ []) }) }
+    ensures looks { steps.new ≡ steps.old + length body.now }
 {
     match &mut item.what {
-        What::Message(frames) => frames.append_at(0, body),
+        What::Message(frames) => steps.append_at(frames, 0, body),
         _ => Ok(()),
     }
 }
 
-// Appends a message of one frame, and copies its octets to where the item lies. After an error the item may stand there
-// without them.
-pub(crate) fn push_message(
-    alloc: Global,
-    start: u64,
-    end: u64,
+// Appends a message of one frame, and copies its octets to where the item lies, which is a look at each. After an error
+// the item may stand there without them.
+pub(crate) fn push_message<L: Ledger>(
+    item: Item,
     body: &[u8],
     out: &mut Items,
+    steps: &mut Steps<L>,
 ) -> Result<(), OutOfMemory>
-    ensures { OnOk result (out.new ≡ out.old
-        ++ record { start = start; end = end; what = What.Message (body.now ∷ []) } ∷ []) }
+    requires { item.what ≡ What.Message ([] ∷ []) }
+    ensures given { OnOk result (out.new ≡ out.old
+        ++ record { start = item.start; end = item.end; what = What.Message (body.now ∷ []) } ∷ []) }
+    ensures looks { OnOk result (steps.new ≡ steps.old + length body.now) }
+    ensures looks_most { steps.new ≤ steps.old + length body.now }
 {
-    let what = What::Message(Frames::of(alloc, Octets::new(alloc)));
-    out.push(Item { start, end, what })?;
+    out.push(item)?;
     let last = out.len() - 1;
-    append_body(out.get_mut(last), body)?;
+    append_body(out.get_mut(last), body, steps)?;
     Ok(())
 }

@@ -1,10 +1,12 @@
 //! The message that isn't whole yet.
 
-ghost use Rattle.std.specs.Prelude.{◌≡◌, ◌-◌, ◌^◌, [], ◌∷◌, ◌++◌, length, min, sum_by, IfOk, OnOk, OnErr};
+ghost use Rattle.std.specs.Prelude.{◌≡◌, ◌+◌, ◌-◌, ◌^◌, [], ◌∷◌, ◌++◌, length, min, sum_by, IfOk, OnOk, OnErr};
 
+use crate::looks::Steps;
 use std::alloc::Global;
 use std::marker::Model;
 use std::mem;
+use std::sync::ledger::Ledger;
 use zre_values::{Frames, Octets, OutOfMemory};
 
 /// The bodies of the frames of a message that isn't whole, with the sum of their lengths.
@@ -60,20 +62,33 @@ impl Opened {
         Ok(())
     }
 
-    /// The same with a copy of these octets.
-    pub fn push_copy(&mut self, alloc: Global, body: &[u8]) -> Result<(), OutOfMemory>
+    /// The same with a copy of these octets, which is a look at each of them.
+    pub fn push_copy<L: Ledger>(
+        &mut self,
+        alloc: Global,
+        body: &[u8],
+        steps: &mut Steps<L>,
+    ) -> Result<(), OutOfMemory>
         ensures ok { OnOk result (self.new ≡ self.old ++ body.now ∷ []) }
         ensures err { OnErr result (self.new ≡ self.old) }
+        ensures looks { steps.new ≡ steps.old + length body.now }
     {
-        self.push(Octets::copy(alloc, body)?)
+        self.push(steps.copy(alloc, body)?)
     }
 
-    /// Hands the bodies out with a copy of the last one after them, and has none any more.
-    pub fn close(&mut self, alloc: Global, last: &[u8]) -> Result<Frames, OutOfMemory>
+    /// Hands the bodies out with a copy of the last one after them, and has none any more. The copy is a look at each
+    /// octet.
+    pub fn close<L: Ledger>(
+        &mut self,
+        alloc: Global,
+        last: &[u8],
+        steps: &mut Steps<L>,
+    ) -> Result<Frames, OutOfMemory>
         ensures bodies { IfOk result (λ bodies. bodies ≡ self.old ++ last.now ∷ []) }
         ensures empty { OnOk result (self.new ≡ []) }
+        ensures looks { steps.new ≡ steps.old + length last.now }
     {
-        self.push_copy(alloc, last)?;
+        self.push_copy(alloc, last, steps)?;
         Ok(self.take(alloc))
     }
 

@@ -29,7 +29,7 @@ use crate::want::Want;
 use std::alloc::Global;
 use std::mem;
 use std::sync::ledger::Ledger;
-use zre_values::{Octets, OutOfMemory};
+use zre_values::{Frames, Octets, OutOfMemory};
 
 // A whole frame: what its header says, the octets of that, and its body.
 #[derive(Drop)]
@@ -351,8 +351,15 @@ impl Progress {
         }
     }
 
-    // The last frame of a message. Most messages have no other, and then its body is copied to where the item lies.
-    fn end_message(&mut self, end: u64, body: &[u8], out: &mut Items) -> Result<(), OutOfMemory>
+    // The last frame of a message. Most messages have no other, and then its body is copied to where the item lies. The
+    // copy is a look at each octet.
+    fn end_message<L: Ledger>(
+        &mut self,
+        end: u64,
+        body: &[u8],
+        out: &mut Items,
+        steps: &mut Steps<L>,
+    ) -> Result<(), OutOfMemory>
         ensures given { OnOk result (out.new ≡ out.old
             ++ record {
               start = self.old.start;
@@ -360,22 +367,26 @@ impl Progress {
               what = What.Message (self.old.opened ++ body.now ∷ []);
             } ∷ []) }
         ensures rest { OnOk result (self.new ≡ record self.old { opened = [] }) }
+        ensures looks { OnOk result (steps.new ≡ steps.old + length body.now) }
+        ensures looks_most { steps.new ≤ steps.old + length body.now }
     {
         let start = self.start;
         if self.opened.len() == 0 {
-            return push_message(self.alloc, start, end, body, out);
+            let what = What::Message(Frames::of(self.alloc, Octets::new(self.alloc)));
+            return push_message(Item { start, end, what }, body, out, steps);
         }
-        let what = What::Message(self.opened.close(self.alloc, body)?);
+        let what = What::Message(self.opened.close(self.alloc, body, steps)?);
         out.push(Item { start, end, what })
     }
 
     // A whole frame of a message after READY. Its body is copied once.
-    fn take_content(
+    fn take_content<L: Ledger>(
         &mut self,
         header: Header,
         header_len: usize,
         body: &[u8],
         out: &mut Items,
+        steps: &mut Steps<L>,
     ) -> Result<(), FeedFault>
         requires { is_content_of self.old.expected header.flags ≡ true }
         ensures given { OnOk result (out.new ≡ out.old
@@ -384,28 +395,31 @@ impl Progress {
             (before_of self.new ≡ frame_after (before_of self.old) header body.now (header_len + length body.now)) }
         ensures partial { OnOk result (self.new.partial ≡ self.old.partial) }
         ensures err { IfErr result (λ e. e ≡ FeedFault.OutOfMemory) }
+        ensures looks { OnOk result (steps.new ≡ steps.old + length body.now) }
+        ensures looks_most { steps.new ≤ steps.old + length body.now }
     {
         let Some(end) = end_of(self.place, header_len, body.len()) else {
             return Err(FeedFault::OutOfMemory);
         };
         if has_more(header.flags) {
-            self.opened.push_copy(self.alloc, body)?;
+            self.opened.push_copy(self.alloc, body, steps)?;
             self.place = end;
             return Ok(());
         }
-        self.end_message(end, body, out)?;
+        self.end_message(end, body, out, steps)?;
         self.place = end;
         self.start = end;
         Ok(())
     }
 
     // A whole frame from the octets that it begins. It gives how many octets that frame has. Its body is copied once.
-    fn take_whole(
+    fn take_whole<L: Ledger>(
         &mut self,
         want: &Want,
         header: Header,
         octets: &[u8],
         out: &mut Items,
+        steps: &mut Steps<L>,
     ) -> Result<usize, FeedFault>
         requires { BeginsFrame self.old header octets.now }
         ensures ok { IfOk result (λ len. Advances want.now (before_of self.old) (take len octets.now) out.old out.new
@@ -414,6 +428,8 @@ impl Progress {
             RefusesAt e want.now (before_of self.old) octets.now out.old out.new) }
         ensures within { IfOk result (λ len. header.size < len × len ≤ length octets.now) }
         ensures kept { OnOk result (held self.new ≤ held self.old + header.size) }
+        ensures looks { OnOk result (steps.new ≡ steps.old + header.size) }
+        ensures looks_most { steps.new ≤ steps.old + header.size }
     {
         let (head, later) = octets.split_at(header_len(octets));
         if let Some(why) = fault_of_header(self, head) {
@@ -423,11 +439,11 @@ impl Progress {
         let (body, _) = later.split_at(header.size as usize);
         let len = head.len() + body.len();
         if self.is_content(header) {
-            self.take_content(header, head.len(), body, out)?;
+            self.take_content(header, head.len(), body, out, steps)?;
             return Ok(len);
         }
         let head = Head::of(head);
-        let body = Octets::copy(self.alloc, body)?;
+        let body = steps.copy(self.alloc, body)?;
         self.take_frame(want, WholeFrame { header, head, body }, out)?;
         Ok(len)
     }
@@ -483,8 +499,6 @@ impl Progress {
             begin_frame(self, header, octets, steps)?;
             return Ok(octets.len());
         }
-        // The body is copied, which is a look at each octet.
-        steps.take(header.size as usize);
-        self.take_whole(want, header, octets, out)
+        self.take_whole(want, header, octets, out, steps)
     }
 }

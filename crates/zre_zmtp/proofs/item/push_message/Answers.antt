@@ -19,11 +19,11 @@ last_got xs all x y n is at got =
     ∙ ap (λ k. get_or (xs ++ x ∷ []) k y) (last_place xs all x n is at)
     ∙ get_or-append_seam xs x [] y
 
-pub returns : goal.returns
-returns c =
+pub returns-clause-given : goal.returns-clause-given
+returns-clause-given g c =
     let is = c.in_ok-push.ensures.ok in
     let len = c.len-last.ensures in
     let got = last_got c.args.out.now c.push.new.self _ c.get_mut.result.now c.len-last.result is len c.get_mut.ensures.value in
     last_set c.args.out.now c.push.new.self _ c.append_body.new.item c.len-last.result is len
     ∙ ap (λ (i : Item). c.args.out.now ++ i ∷ [])
-    (c.in_ok-append_body.ensures ∙ ap (λ (i : Item). let x : Item = record { start = i.start; end = i.end; what = Message (c.args.body.now ∷ []) } in x) got)
+    (c.in_ok-append_body.ensures.appended ∙ ap (λ (i : Item). let x : Item = record { start = i.start; end = i.end; what = Message (c.args.body.now ∷ []) } in x) got)

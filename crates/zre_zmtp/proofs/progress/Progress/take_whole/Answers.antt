@@ -24,7 +24,7 @@ front_of o head body rest is =
     ∙ take_all (length (head ++ body)) (head ++ body) (omega arith)
 
 pub returns-in-Some-clause-refused : goal.returns-in-Some-clause-refused
-returns-in-Some-clause-refused c =
+returns-in-Some-clause-refused g c =
     let b = before_of c.args.self.now in
     let o = c.args.octets.now in
     let at = head_of c.args.header o c.split_at.result.0.now c.split_at.result.1.now c.requires.header
@@ -35,7 +35,7 @@ returns-in-Some-clause-refused c =
     ∙ fault_of-stays c.args.want.now b c.split_at.result.0.now c.split_at.result.1.now _ (header-refused c.args.want.now b c.split_at.result.0.now c.in-Some.why c.requires.frame bad)) refl
 
 pub returns-in_err-take_frame-clause-refused : goal.returns-in_err-take_frame-clause-refused
-returns-in_err-take_frame-clause-refused c =
+returns-in_err-take_frame-clause-refused g c =
     let p = err_from_is_err_and c.from_residual-in_err-take_frame.result c.from_residual-in_err-take_frame.ensures.1 in
     let b = before_of c.args.self.now in
     let o = c.args.octets.now in
@@ -45,19 +45,19 @@ returns-in_err-take_frame-clause-refused c =
     (c.of-head.ensures ∙ c.split_at.ensures.front ∙ ap (λ n. take n o) c.header_len.ensures) (c.split_at.ensures.back ∙ ap (λ n. drop n o) c.header_len.ensures) in
     let fine : header_fault b head ≡ None = ap (λ (x : List ℕ). header_fault b x) c.of-head.ensures ∙ sym c.fault_of_header.ensures ∙ c.in_default.is in
     let whole = parted o head c.split_at.result.1.now c.in_ok-body.body _ at.whole
-    (joined _ c.split_at.result.1.now c.in_ok-body.body (c.in_ok-body.ensures ∙ c.split_at-2.ensures.front)) in
+    (joined _ c.split_at.result.1.now c.in_ok-body.body (c.in_ok-body.ensures.copied ∙ c.split_at-2.ensures.front)) in
     rw (p.1, p.2) (refused_turn c.args.want.now out out c.take_frame.new.out (run_all c.args.want.now b o) b [] (head ++ c.in_ok-body.body) _ o c.in_err-take_frame.field-0.0 whole
     (begins c.args.want.now b [] o out (waits_from c.args.want.now b [] (no_part c.args.want.now b) (no_octets c.args.want.now b.expected b))) (c.in_err-take_frame.ensures.refused fine))
 
 pub returns-clause-ok : goal.returns-clause-ok
-returns-clause-ok c =
+returns-clause-ok g c =
     let b = before_of c.args.self.now in
     let o = c.args.octets.now in
     let head = c.of-head.result in
     let at = head_of c.args.header o head c.split_at.result.1.now c.requires.header
     (c.of-head.ensures ∙ c.split_at.ensures.front ∙ ap (λ n. take n o) c.header_len.ensures) (c.split_at.ensures.back ∙ ap (λ n. drop n o) c.header_len.ensures) in
     let fine : header_fault b head ≡ None = ap (λ (x : List ℕ). header_fault b x) c.of-head.ensures ∙ sym c.fault_of_header.ensures ∙ c.in_default.is in
-    let same : c.in_ok-body.body ≡ c.split_at-2.result.0.now = c.in_ok-body.ensures in
+    let same : c.in_ok-body.body ≡ c.split_at-2.result.0.now = c.in_ok-body.ensures.copied in
     let whole = parted o head c.split_at.result.1.now c.in_ok-body.body _ at.whole
     (joined _ c.split_at.result.1.now c.in_ok-body.body (same ∙ c.split_at-2.ensures.front)) in
     let front : take (length c.split_at.result.0.now + length c.split_at-2.result.0.now) o ≡ head ++ c.in_ok-body.body =
@@ -66,7 +66,7 @@ returns-clause-ok c =
     rw front (c.in_ok-take_frame.ensures.ok fine)
 
 pub returns-then-is_content-clause-ok : goal.returns-then-is_content-clause-ok
-returns-then-is_content-clause-ok c =
+returns-then-is_content-clause-ok g c =
     let b = before_of c.args.self.now in
     let o = c.args.octets.now in
     let head = c.split_at.result.0.now in
@@ -87,7 +87,7 @@ returns-then-is_content-clause-ok c =
     (left-nothing now.expected now.greeting now.partial.head now.partial.body (ap (λ (x : Before). x.expected) e.after) none none'))
 
 pub returns-then-is_content-clause-kept : goal.returns-then-is_content-clause-kept
-returns-then-is_content-clause-kept c =
+returns-then-is_content-clause-kept g c =
     let b = before_of c.args.self.now in
     let body = c.split_at-2.result.0.now in
     let e = c.in_ok-take_content.ensures in
