@@ -167,7 +167,7 @@ fn see_parts<'a>(
     first: &'a [u8],
     content: LentContent<'a>,
 ) -> Result<Option<LentMessage<'a>>, ReadFault>
-    ensures { Sees result (first.now ∷ content_of content) }
+    ensures { Sees result (first.now ∷ content_of content.entry) }
 {
     if first.len() > u32::MAX as usize {
         return Err(ReadFault::OutOfMemory);
@@ -238,7 +238,7 @@ impl Message {
         first: &'a [u8],
         second: Option<&'a [u8]>,
     ) -> Result<Option<LentMessage<'a>>, ReadFault>
-        ensures { Sees result (first.now ∷ option_to_list (option_copied second)) }
+        ensures { Sees result (first.now ∷ option_to_list (option_copied second.entry)) }
     {
         see_parts(first, LentContent::One(second))
     }

@@ -14,10 +14,16 @@ fn command_of(body: &Body) -> Option<(LentBody<'_>, LentContent<'_>)>
 {
     match body {
         Body::Hello { .. } => None,
-        Body::Whisper { content } => Some((LentBody::Whisper, LentContent::Frames(content.as_slice()))),
+        Body::Whisper { content } => Some((
+            LentBody::Whisper,
+            LentContent::Frames(content.as_slice()),
+        )),
         Body::Shout { group, content } => {
             let group = group.as_slice();
-            Some((LentBody::Shout { group }, LentContent::Frames(content.as_slice())))
+            Some((
+                LentBody::Shout { group },
+                LentContent::Frames(content.as_slice()),
+            ))
         }
         Body::Join { group, status } => {
             let (group, status) = (group.as_slice(), *status);
@@ -31,7 +37,10 @@ fn command_of(body: &Body) -> Option<(LentBody<'_>, LentContent<'_>)>
         Body::PingOk => Some((LentBody::PingOk, LentContent::One(None))),
         Body::Other { number, rest, more } => {
             let (number, rest) = (*number, rest.as_slice());
-            Some((LentBody::Other { number, rest }, LentContent::Frames(more.as_slice())))
+            Some((
+                LentBody::Other { number, rest },
+                LentContent::Frames(more.as_slice()),
+            ))
         }
     }
 }

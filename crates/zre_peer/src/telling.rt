@@ -21,7 +21,7 @@ use zre_values::{Octets, OutOfMemory, push_quoted};
 
 // Appends frames of content that end a line.
 fn push_lent_end(out: &mut Octets, content: LentContent<'_>) -> Result<(), OutOfMemory>
-    ensures { OnOk result (out.new ≡ out.old ++ content_end (content_of content)) }
+    ensures { OnOk result (out.new ≡ out.old ++ content_end (content_of content.entry)) }
 {
     match content {
         LentContent::One(Some(frame)) => push_group_end(out, frame),
@@ -38,9 +38,13 @@ fn push_group(out: &mut Octets, head: &Octets, group: &[u8]) -> Result<(), OutOf
     push_group_end(out, group)
 }
 
-fn push_whisper(out: &mut Octets, heads: &Heads, content: LentContent<'_>) -> Result<(), OutOfMemory>
+fn push_whisper(
+    out: &mut Octets,
+    heads: &Heads,
+    content: LentContent<'_>,
+) -> Result<(), OutOfMemory>
     ensures { (id : PeerId) (view : View) → heads.now ≡ heads_of id view.name →
-        OnOk result (out.new ≡ out.old ++ lines (events_of id view (bodies.Whisper (content_of content)))) }
+        OnOk result (out.new ≡ out.old ++ lines (events_of id view (bodies.Whisper (content_of content.entry)))) }
 {
     out.append(heads.whisper.as_slice())?;
     push_lent_end(out, content)
@@ -53,7 +57,7 @@ fn push_shout(
     content: LentContent<'_>,
 ) -> Result<(), OutOfMemory>
     ensures { (id : PeerId) (view : View) → heads.now ≡ heads_of id view.name →
-        OnOk result (out.new ≡ out.old ++ lines (events_of id view (bodies.Shout group.now (content_of content)))) }
+        OnOk result (out.new ≡ out.old ++ lines (events_of id view (bodies.Shout group.now (content_of content.entry)))) }
 {
     out.append(heads.shout.as_slice())?;
     push_quoted(out, group)?;

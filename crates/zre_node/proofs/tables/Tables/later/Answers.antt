@@ -1,4 +1,5 @@
 use Rattle.std.proofs.Common.{Bool, ◌++◌, [], ◌∷◌, refl, sym, ap, ◌∙◌, if◌then◌else◌}
+use Rattle.zre_msg.specs.Content.{content_of}
 use Rattle.zre_msg.specs.Lent.{message_of}
 use Rattle.zre_msg.specs.declared.message.Body.TheVariants as body
 use Rattle.zre_msg.specs.Lent.{message_of}
@@ -30,7 +31,7 @@ returns-in-Ok c = λ g H n h r.
     on_ok c.answer_ping.result (c.answer_ping.ensures g (Counts n l m ∷ H) held (run_known H h.keeps.proper n l r)) (λ second.
     did_as g _ _ H _ _ _ (counts_it g n l m H (some_counted g H t h n l r k was) took.0)
     (did_then g (Counts n l m ∷ []) (if is_ping m.body then push g l body.PingOk H else []) H _ c.answer_ping.new.self c.args.out.now (record c.args.out.now { events = c.take.new.events }) c.answer_ping.new.out first
-    (did_as g _ _ (Counts n l m ∷ H) _ _ _ (ap (λ (b : Bool). if b then push g l body.PingOk H else []) (sym (c.is_ping-ping.ensures c.args.lent.now.content.now))) second)))
+    (did_as g _ _ (Counts n l m ∷ H) _ _ _ (ap (λ (b : Bool). if b then push g l body.PingOk H else []) (sym (c.is_ping-ping.ensures (content_of c.args.lent.now.content)))) second)))
 
 pub returns-in-Err-SecondHello : goal.returns-in-Err-SecondHello
 returns-in-Err-SecondHello c = λ g H n h r.
