@@ -46,7 +46,7 @@ faultless : (f : Follower) (o : List ℕ) → is_spent f.run ≡ false → Fed f
 faultless f o e h going = sym (ap (λ b. not b && is_some (fault Any Traffic o)) (sym h.spent ∙ e)) ∙ going
 
 -- so its reader stands after it
-going_reads : (f : Follower) (o : List ℕ) → is_spent f.run ≡ false → Fed f o → is_stopped o ≡ false → Reads Any Traffic o f.reader
+pub going_reads : (f : Follower) (o : List ℕ) → is_spent f.run ≡ false → Fed f o → is_stopped o ≡ false → Reads Any Traffic o f.reader
 going_reads f o e h going = stands_after Traffic o f.fault f.reader (h.read (sym h.spent ∙ e)) (faultless f o e h going)
 
 -- a reader that is spent is of no octets that go on
@@ -60,7 +60,7 @@ pub record Fed-more (id : PeerId) (o x : List ℕ) (run : Run) (out out' : List 
   pub text : Grows (follow id) o x out out'
 
 -- the items were the new ones, and their messages were taken
-feeds_more : (f : Follower) (o x : List ℕ) (items : List Item) (run : Run) (out out' : List ℕ) → over o ≡ false → items ≡ new_items Any Traffic o x → Took (peer_of f) (messages o) (messages_in items) run out out' → Fed-more (peer_of f) o x run out out'
+pub feeds_more : (f : Follower) (o x : List ℕ) (items : List Item) (run : Run) (out out' : List ℕ) → over o ≡ false → items ≡ new_items Any Traffic o x → Took (peer_of f) (messages o) (messages_in items) run out out' → Fed-more (peer_of f) o x run out out'
 feeds_more f o x items run out out' on are taken =
     let P : List Item → Type 0 = λ is. Took (peer_of f) (messages o) (messages_in is) run out out' in
     let t = subst P are taken in

@@ -1,4 +1,5 @@
-ghost use Rattle.std.specs.Prelude.{◌≡◌, [], false};
+ghost use Rattle.std.specs.Prelude.{◌≡◌, ◌<◌, ◌≤◌, [], false, length, IfOk};
+ghost use Rattle.zre_peer.specs.Standing.{is_spent};
 
 use crate::follow::taking::{take_front, take_items};
 use crate::pump::{Going, Machine};
@@ -42,13 +43,36 @@ impl Follower {
 }
 
 impl Follower {
-    // What the reader doesn't pass at once.
-    fn feed_part(&mut self, part: &[u8], out: &mut Octets) -> Result<bool, OutOfMemory> {
+    ghost use Rattle.zre_commands.specs.follow.Follower.{GoesOn, FeedsFront, peer_of};
+
+    // Whether more octets are read.
+    fn goes_on(&self) -> bool
+        ensures { GoesOn result self.now }
+    {
+        !self.run.spent() && !self.reader.spent() && self.fault.is_none()
+    }
+
+    // Takes octets from the front of these, and appends the text that they add: a message that lies there whole is read
+    // where it lies, and else what is unfinished goes on. Gives how many there were.
+    fn feed_front(&mut self, octets: &[u8], out: &mut Octets) -> Result<usize, OutOfMemory>
+        requires some { 0 < length octets.now }
+        requires running { is_spent self.old.run ≡ false }
+        requires reading { self.old.reader.spent ≡ false }
+        ensures fed { FeedsFront result self.old self.new octets.now out.old out.new }
+        ensures same { peer_of self.new ≡ peer_of self.old }
+        ensures within { IfOk result (λ len. (0 < len) × (len ≤ length octets.now)) }
+    {
+        if let Some(front) = self.reader.pass(octets) {
+            take_front(self.alloc, &front, &mut self.run, out)?;
+            return Ok(front.len);
+        }
+        let len = self.reader.missing(octets);
+        let (part, _) = octets.split_at(len);
         self.items.clear();
         let fault = read_piece(&mut self.reader, part, &mut self.items)?;
         take_items(self.alloc, self.items.as_slice(), &mut self.run, out)?;
         self.fault = fault;
-        Ok(self.fault.is_none() && !self.run.spent())
+        Ok(len)
     }
 }
 
@@ -73,22 +97,12 @@ impl Machine for Follower {
             return Ok(Going::Stop);
         }
         let mut rest = piece;
-        while !rest.is_empty() {
-            if let Some(front) = self.reader.pass(rest) {
-                let (_, later) = rest.split_at(front.len);
-                if !take_front(self.alloc, &front, &mut self.run, out)? {
-                    return Ok(Going::On);
-                }
-                rest = later;
-            } else {
-                let (unfinished, later) = rest.split_at(self.reader.missing(rest));
-                if !self.feed_part(unfinished, out)? {
-                    return Ok(going_after(&self.fault, self.run.spent()));
-                }
-                rest = later;
-            }
+        while !rest.is_empty() && self.goes_on() {
+            let len = self.feed_front(rest, out)?;
+            let (_, later) = rest.split_at(len);
+            rest = later;
         }
-        Ok(Going::On)
+        Ok(going_after(&self.fault, self.run.spent()))
     }
 
     fn finish<O: Sink>(&self, taken: u64, text: &mut Octets, _: &mut O) -> Result<bool, NextFault> {

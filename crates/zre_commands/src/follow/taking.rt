@@ -1,9 +1,10 @@
 //! Takes the messages of items.
 
-ghost use Rattle.std.specs.Prelude.{◌≡◌, ◌∷◌, [], ℕ, List, false, OnOk};
+ghost use Rattle.std.specs.Prelude.{◌≡◌, ◌∷◌, [], ℕ, List, false, IfOk, OnOk};
 ghost use Rattle.zre_msg.specs.declared.message.Message.{Message};
 ghost use Rattle.zre_peer.specs.Standing.{Stands, id_of, is_spent};
 ghost use Rattle.zre_peer.specs.declared.peer_run.Run.{Run};
+ghost use Rattle.zre_zmtp.specs.Front.{bodies_of};
 ghost use Rattle.zre_commands.specs.follow.Messages.{meant_by, messages_in};
 ghost use Rattle.zre_commands.specs.follow.Taken.{Handed, Takes, Took};
 
@@ -82,10 +83,9 @@ fn take_frames(
     }
 }
 
-// The frames of a message of one or two, in memory of their own.
-#[cold]
-#[inline(never)]
+// The frames of a message, in memory of their own.
 fn copied(alloc: Global, front: &Front<'_>) -> Result<Frames, OutOfMemory>
+    ensures { IfOk result (λ frames. frames ≡ bodies_of front.now) }
 {
     let mut frames = Frames::of(alloc, Octets::copy(alloc, front.first)?);
     if let Some(second) = front.second {
@@ -94,7 +94,7 @@ fn copied(alloc: Global, front: &Front<'_>) -> Result<Frames, OutOfMemory>
     Ok(frames)
 }
 
-// The same with all of it made.
+// Takes the message of one or two frames, if they mean one, with all of it made.
 #[cold]
 #[inline(never)]
 fn take_copied(
@@ -102,12 +102,17 @@ fn take_copied(
     front: &Front<'_>,
     run: &mut Teller,
     out: &mut Octets,
-) -> Result<bool, OutOfMemory> {
-    let frames = copied(alloc, front)?;
+) -> Result<bool, OutOfMemory>
+    requires { is_spent run.old ≡ false }
+    ensures { Takes result run.old run.new (meant_by (bodies_of front.now)) out.old out.new }
+{
+    let Ok(frames) = copied(alloc, front) else {
+        return Err(OutOfMemory);
+    };
     take_whole(alloc, &frames, run, out)
 }
 
-/// Takes the message of one or two frames, if they mean one.
+/// Takes the message of one or two frames, if they mean one. Says whether the run goes on.
 pub(crate) fn take_front(
     alloc: Global,
     front: &Front<'_>,
@@ -115,6 +120,7 @@ pub(crate) fn take_front(
     out: &mut Octets,
 ) -> Result<bool, OutOfMemory>
     requires { is_spent run.old ≡ false }
+    ensures { Takes result run.old run.new (meant_by (bodies_of front.now)) out.old out.new }
 {
     if !run.is_after() {
         return take_copied(alloc, front, run, out);
