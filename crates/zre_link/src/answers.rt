@@ -19,6 +19,7 @@ fn answer(
     written: &mut u64,
     what: &What,
 ) -> Result<(), ReplyFault>
+    // The PONG is queued, or nothing is.
     ensures ok { let ts = option_to_list (context_in what.now) in
         OnOk result ((slow_at (length queue.old) ts ≡ None) × (queue.new ≡ queue.old ++ flat_map pong_frame ts)
         × (written.new ≡ written.old + length (flat_map pong_frame ts))) }
@@ -26,6 +27,7 @@ fn answer(
         RefusesReply e (slow_at (length queue.old) (option_to_list (context_in what.now))) None
         (queue.new ≡ queue.old)) }
     ensures unchanged { OnErr result ((queue.new ≡ queue.old) × (written.new ≡ written.old)) }
+    // No more wait than may.
     ensures within { length queue.old ≤ UNSENT_OCTETS → length queue.new ≤ UNSENT_OCTETS }
 {
     let Some(context) = what.context() else {
@@ -52,6 +54,7 @@ pub fn answer_all(
     written: &mut u64,
     items: &[Item],
 ) -> Result<(), ReplyFault>
+    // PONGs are queued, up to the one without room.
     ensures ok { let ts = answered (length queue.old) (contexts_in items.now) in
         OnOk result ((slow_at (length queue.old) (contexts_in items.now) ≡ None)
         × (queue.new ≡ queue.old ++ flat_map pong_frame ts)
@@ -60,8 +63,10 @@ pub fn answer_all(
         IfErr result (λ e. RefusesReply e (slow_at (length queue.old) (contexts_in items.now)) None
         ((queue.new ≡ queue.old ++ flat_map pong_frame ts)
         × (written.new ≡ written.old + length (flat_map pong_frame ts)))) }
+    // The count of all octets goes with the queue.
     ensures balanced { length queue.new + written.old ≡ length queue.old + written.new }
     ensures grows { written.old ≤ written.new }
+    // No more wait than may.
     ensures within { length queue.old ≤ UNSENT_OCTETS → length queue.new ≤ UNSENT_OCTETS }
 {
     let mut rest = items;

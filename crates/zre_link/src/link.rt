@@ -38,7 +38,7 @@ use zre_zmtp::{FeedFault, Item, Items, SocketType, Steps, greeting, ready};
 pub struct Link {
     alloc: Global,
     queue: Queue,
-    /// Where messages are spelled before they are queued.
+    /// Where short messages are spelled before they are queued. It's empty between two calls.
     spelled: Octets,
     sent: u64,
     /// All octets so far: those that wait and those that were taken.
@@ -55,7 +55,7 @@ impl Drop for Link {
 }
 
 impl Model for Link {
-    ghost use Rattle.std.specs.Prelude.{◌≡◌, ◌+◌, ◌≤◌, length};
+    ghost use Rattle.std.specs.Prelude.{◌≡◌, ◌+◌, ◌≤◌, [], length};
     ghost use Rattle.zre_values.specs.declared.limits.TheConstants.{UNSENT_OCTETS};
     ghost use Rattle.zre_link.specs.Link.{Sending};
 
@@ -72,7 +72,8 @@ impl Model for Link {
 
     ghost invariant = { λ l. (l.taken + length l.queue ≡ l.written)
         × (124 ≤ l.written)
-        × (length l.queue ≤ UNSENT_OCTETS) };
+        × (length l.queue ≤ UNSENT_OCTETS)
+        × (l.spelled ≡ []) };
 }
 
 // The greeting and READY of a node with this UUID.
@@ -105,10 +106,13 @@ impl Link {
     /// Puts a body: it goes out in a message with the next number. `Slow` comes where more than 4,194,304 octets would
     /// wait then. The body is lent, and handed back as it was.
     pub fn push(&mut self, body: &mut Body) -> Result<(), PushFault>
+        // It has a spelling.
         requires { FitsBody body.old }
+        // It stands at the end of the line, or is refused and nothing changes.
         ensures ok { Puts result self.old self.new body.old }
         ensures refused { RefusesToPut result self.old body.old }
         ensures unchanged { OnErr result (self.new ≡ self.old) }
+        // It is handed back.
         ensures lent { body.new ≡ body.old }
     {
         let Some(sent) = self.sent.checked_add(1) else {
@@ -150,7 +154,9 @@ impl Link {
 
     /// Puts a SHOUT to this group in the same way: what `push` does for it with the content of the tail.
     pub fn push_shout(&mut self, group: &[u8], tail: &Tail) -> Result<(), PushFault>
+        // The group has a spelling.
         requires { FitsString group.now }
+        // It stands at the end of the line, or is refused and nothing changes.
         ensures ok { Puts result self.old self.new (Shout group.now tail.now) }
         ensures refused { RefusesToPut result self.old (Shout group.now tail.now) }
         ensures unchanged { OnErr result (self.new ≡ self.old) }
@@ -190,9 +196,12 @@ impl Link {
     /// told. A fault stays: each further piece is refused with it. After OutOfMemory what is kept of the replies, and
     /// how many PONGs were put, is left open.
     pub fn reply(&mut self, piece: &[u8]) -> Result<(), ReplyFault>
+        // The link stands.
         requires { self.old.linked ≡ true }
+        // What is read, and what is answered.
         ensures ok { Answers result self.old self.new piece.now }
         ensures refused { RefusesToAnswer result self.old self.new piece.now }
+        // What stays.
         ensures rest { IsOnlyAnswered self.old self.new }
     {
         self.reply_from::<Brand>(piece, Blank::new(1))
@@ -204,10 +213,14 @@ impl Link {
         piece: &[u8],
         steps: &mut Steps<L>,
     ) -> Result<(), ReplyFault>
+        // The link stands.
         requires { self.old.linked ≡ true }
+        // What is read, and what is answered.
         ensures ok { Answers result self.old self.new piece.now }
         ensures refused { RefusesToAnswer result self.old self.new piece.now }
+        // What stays.
         ensures rest { IsOnlyAnswered self.old self.new }
+        // How many octets are looked at.
         ensures looks { Looks steps.old steps.new (kept_of self.old.replies) (kept_of self.new.replies)
             (length piece.now) result }
         ensures paid { IfErr result (λ e. e ≢ ReplyFault.OutOfMemory
@@ -230,10 +243,13 @@ impl Link {
 
     // The same for a caller that counts nothing.
     fn reply_from<L: Ledger>(&mut self, piece: &[u8], blank: Blank) -> Result<(), ReplyFault>
+        // A count can begin, and the link stands.
         requires blank { IsOpenTo L.name L.parts blank.name blank.parts }
         requires linked { self.old.linked ≡ true }
+        // What is read, and what is answered.
         ensures ok { Answers result self.old self.new piece.now }
         ensures refused { RefusesToAnswer result self.old self.new piece.now }
+        // What stays.
         ensures rest { IsOnlyAnswered self.old self.new }
     {
         let mut steps = Steps::<L>::new(blank);

@@ -14,8 +14,8 @@ use zre_msg::{Message, push_shout_head};
 use zre_values::limits::UNSENT_OCTETS;
 use zre_values::{Octets, OutOfMemory};
 
-/// Messages with more octets are spelled in memory of their own.
-const SHORT: u64 = 16 * 1024;
+/// Messages with more octets are spelled in memory of their own, which is let go with the call.
+const SHORT: u64 = 512;
 
 // How many octets there are with so many more, unless more would wait then than may.
 fn with_more(queue: &Queue, written: u64, size: u64) -> Result<u64, PushFault>
@@ -35,19 +35,27 @@ fn with_more(queue: &Queue, written: u64, size: u64) -> Result<u64, PushFault>
     Ok(all)
 }
 
-// Appends a message, spelled into an empty list.
+// Appends a message, spelled into an empty list, which is emptied again.
 fn spell(queue: &mut Queue, spelled: &mut Octets, message: &Message) -> Result<(), OutOfMemory>
+    // It has a spelling, and the list is empty.
     requires fits { Fits message.now }
     requires empty { spelled.old ≡ [] }
+    // It is appended, or nothing is.
     ensures ok { OnOk result (queue.new ≡ queue.old ++ octets_of message.now) }
     ensures err { OnErr result (queue.new ≡ queue.old) }
+    // The list is empty again.
+    ensures emptied { spelled.new ≡ [] }
 {
-    message.push_to(spelled)?;
-    queue.append(spelled.as_slice())
+    let put = match message.push_to(spelled) {
+        Ok(()) => queue.append(spelled.as_slice()),
+        Err(fault) => Err(fault),
+    };
+    spelled.clear();
+    put
 }
 
 /// Queues a message after `written` octets, unless it passes the limit, and gives how many there are with it. Short
-/// ones are spelled in `spelled`, whose memory serves again and again.
+/// ones are spelled in `spelled`, whose memory serves again and again; no octet stays in it.
 pub fn queue_message(
     alloc: Global,
     queue: &mut Queue,
@@ -55,13 +63,18 @@ pub fn queue_message(
     written: u64,
     message: &Message,
 ) -> Result<u64, PushFault>
+    // It has a spelling, and the list is empty.
     requires fits { Fits message.now }
     requires some { 0 < written }
+    requires empty { spelled.old ≡ [] }
+    // The message is queued, or nothing is.
     ensures ok { IfOk result (λ all. (queue.new ≡ queue.old ++ octets_of message.now)
         × (all ≡ written + length (octets_of message.now))
         × (length queue.old + length (octets_of message.now) ≤ UNSENT_OCTETS)) }
     ensures refused { IfErr result (λ e. RefusesPush e (length queue.old) (length (octets_of message.now))) }
     ensures unchanged { OnErr result (queue.new ≡ queue.old) }
+    // No octet of it is kept beside the queue.
+    ensures emptied { spelled.new ≡ [] }
 {
     let size = message.octets_len();
     let all = with_more(queue, written, size)?;
@@ -69,14 +82,15 @@ pub fn queue_message(
         spell(queue, &mut Octets::new(alloc), message)?;
         return Ok(all);
     }
-    spelled.clear();
     spell(queue, spelled, message)?;
     Ok(all)
 }
 
 /// Queues a PING in the same way. All of its octets but the number are the same in each.
 pub fn queue_ping(queue: &mut Queue, written: u64, sequence: u16) -> Result<u64, PushFault>
+    // The greeting was queued.
     requires some { 0 < written }
+    // It is queued, or nothing is.
     ensures ok { let m = octets_of (record { sequence = sequence; body = Ping }) in
         IfOk result (λ all. (queue.new ≡ queue.old ++ m) × (all ≡ written + length m)
         × (length queue.old + length m ≤ UNSENT_OCTETS)) }
@@ -101,16 +115,18 @@ pub struct NumberedShout<'a> {
     pub tail: &'a Tail,
 }
 
-/// Queues a SHOUT in the same way: its first frame, spelled in `head`, and then the octets of its content, which are
-/// shared where they are many.
-pub fn queue_shout(
+// Queues a SHOUT; its first frame, and maybe more of it, is left in `head`.
+fn spell_shout(
     queue: &mut Queue,
     head: &mut Octets,
     written: u64,
     shout: &NumberedShout<'_>,
 ) -> Result<u64, PushFault>
+    // It has a spelling, and the list is empty.
     requires fits { FitsString shout.now.group.now }
     requires some { 0 < written }
+    requires empty { head.old ≡ [] }
+    // It is queued, or nothing is.
     ensures ok { let body = Shout shout.now.group.now shout.now.tail.now in
         let m = octets_of (record { sequence = shout.now.sequence; body = body }) in
         IfOk result (λ all. (queue.new ≡ queue.old ++ m) × (all ≡ written + length m)
@@ -120,10 +136,38 @@ pub fn queue_shout(
         IfErr result (λ e. RefusesPush e (length queue.old) (length m)) }
     ensures unchanged { OnErr result (queue.new ≡ queue.old) }
 {
-    head.clear();
     push_shout_head(head, shout.sequence, shout.group, !shout.tail.is_empty())?;
     let size = (head.len() as u64).saturating_add(shout.tail.len() as u64);
     let all = with_more(queue, written, size)?;
     shout.tail.put_after(queue, head)?;
     Ok(all)
+}
+
+/// Queues a SHOUT in the same way: its first frame, spelled in `head`, and then the octets of its content, which are
+/// shared where they are many. No octet stays in `head`.
+pub fn queue_shout(
+    queue: &mut Queue,
+    head: &mut Octets,
+    written: u64,
+    shout: &NumberedShout<'_>,
+) -> Result<u64, PushFault>
+    // It has a spelling, and the list is empty.
+    requires fits { FitsString shout.now.group.now }
+    requires some { 0 < written }
+    requires empty { head.old ≡ [] }
+    // The message is queued, or nothing is.
+    ensures ok { let body = Shout shout.now.group.now shout.now.tail.now in
+        let m = octets_of (record { sequence = shout.now.sequence; body = body }) in
+        IfOk result (λ all. (queue.new ≡ queue.old ++ m) × (all ≡ written + length m)
+        × (length queue.old + length m ≤ UNSENT_OCTETS)) }
+    ensures refused { let body = Shout shout.now.group.now shout.now.tail.now in
+        let m = octets_of (record { sequence = shout.now.sequence; body = body }) in
+        IfErr result (λ e. RefusesPush e (length queue.old) (length m)) }
+    ensures unchanged { OnErr result (queue.new ≡ queue.old) }
+    // No octet of it is kept beside the queue.
+    ensures emptied { head.new ≡ [] }
+{
+    let put = spell_shout(queue, head, written, shout);
+    head.clear();
+    put
 }

@@ -69,7 +69,9 @@ fn put(
     text: &[u8],
     part: Bytes,
 ) -> Result<(), OutOfMemory>
+    // The part has octets.
     requires { HasOctets part }
+    // Both are appended, or nothing is.
     ensures ok { OnOk result ((newest.new.items ≡ [])
         × (concat parts.new.items ≡ ((concat parts.old.items ++ newest.old.items) ++ text.now) ++ part)) }
     ensures some { All HasOctets parts.old.items → All HasOctets parts.new.items }

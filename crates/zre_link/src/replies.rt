@@ -86,14 +86,18 @@ impl Replies {
         out: &mut Items,
         steps: &mut Steps<L>,
     ) -> Result<(), FeedFault>
+        // The list is empty.
         requires { out.old ≡ [] }
+        // What is read, and what becomes whole.
         ensures ok { (o : List ℕ) → self.old ≡ heard_after o →
             OnOk result ((reply_fault (o ++ piece.now) ≡ None) × (self.new ≡ heard_after (o ++ piece.now))
             × (contexts_in out.new ≡ new_pings o piece.now)) }
         ensures refused { (o : List ℕ) → self.old ≡ heard_after o →
             IfErr result (λ e. Refuses e (reply_fault (o ++ piece.now)) ((self.new ≡ heard_after (o ++ piece.now))
             × (contexts_in out.new ≡ new_pings o piece.now))) }
+        // How many octets are looked at.
         ensures looks { Looks steps.old steps.new (kept_of self.old) (kept_of self.new) (length piece.now) result }
+        // A refusal keeps nothing.
         ensures emptied { OnErr result (kept_of self.new ≡ 0) }
     {
         let reader = match &mut self.hearing {

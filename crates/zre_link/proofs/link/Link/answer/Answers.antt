@@ -9,7 +9,7 @@ pub invariant_of-self : goal.invariant_of-self
 invariant_of-self c =
     let i = c.self.invariant in
     let a = c.answer_all.ensures in
-    (omega (arith, i.0, a.balanced), omega (arith, i.1, a.grows), a.within i.2)
+    (omega (arith, i.0, a.balanced), omega (arith, i.1, a.grows), a.within i.2, i.3)
 
 pub returns-clause-ok : goal.returns-clause-ok
 returns-clause-ok c = λ own line linked o n e.
