@@ -121,7 +121,7 @@ impl Conn {
         ensures looks { Looks steps.old steps.new (kept_of self.old) (kept_of self.new) (length piece.now) result }
     {
         let Phase::Live(reader) = &mut self.phase else {
-            return Err(FeedFault::OutOfMemory);
+            unreachable!();
         };
         let fed = reader.feed_counted(piece, items, steps);
         self.identity = known_after(self.identity, items.as_slice());
