@@ -4,7 +4,8 @@ ghost use Rattle.std.specs.Prelude.{◌≡◌, option_map, IfOk};
 ghost use Rattle.std.specs.List.{list_any};
 ghost use Rattle.zre_msg.specs.declared.message.Body.TheVariants.{Whisper, Shout};
 ghost use Rattle.zre_audit.specs.Coding.{octets_of};
-ghost use Rattle.zre_audit.specs.Seen.{asked_by, whispered_by, announced_by, first_entered as first, born_with, is_connect};
+ghost use Rattle.zre_audit.specs.Seen.{asked_by, whispered_by, announced_by};
+ghost use Rattle.zre_audit.specs.Seen.{first_entered as first, born_with, is_connect};
 
 use crate::coding::{push_shout, push_whisper};
 use std::alloc::Global;

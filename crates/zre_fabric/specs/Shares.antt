@@ -1,5 +1,6 @@
 -- What addresses have and had, and what is counted of them.
-use Rattle.std.specs.Prelude.{ℕ, Bool, ◌≡◌, ◌+◌, ◌-◌, List, min, slice_index_or, slice_set, if◌then◌else◌, not, ◌&&◌, nat_lt, nat_le}
+use Rattle.std.specs.Prelude.{ℕ, Bool, ◌≡◌, ◌+◌, ◌-◌, List, min, slice_index_or, slice_set, if◌then◌else◌, not}
+use Rattle.std.specs.Prelude.{◌&&◌, nat_lt, nat_le}
 use Rattle.zre_values.specs.declared.endpoint.Endpoint.{Endpoint}
 use Rattle.zre_fabric.specs.declared.redial.Redial.{Redial}
 use Rattle.zre_fabric.specs.declared.shares.Share.{Share}

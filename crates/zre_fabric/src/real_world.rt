@@ -1,4 +1,5 @@
-ghost use Rattle.std.specs.Prelude.{◌≡◌, ◌≤◌, nat_le, false, true, None, option_map, IsSome, IfOk, OnOk, OnErr, IsErrOf};
+ghost use Rattle.std.specs.Prelude.{◌≡◌, ◌≤◌, nat_le, false, true, None, option_map, IsSome, IfOk};
+ghost use Rattle.std.specs.Prelude.{OnOk, OnErr, IsErrOf};
 ghost use Rattle.zre_outside.specs.declared.deed.Deed.{Deed as DeedValue};
 ghost use Rattle.zre_outside.specs.Causes.{Rose, raised, counted, is_failed};
 ghost use Rattle.zre_outside.specs.Worlds.{with_start, IsTurn, is_look, after_turn, with_deed};

@@ -77,7 +77,8 @@ fn place_at(to: Endpoint) -> usize
 
 impl Shares {
     ghost use Rattle.zre_fabric.specs.Shares.{nothing, share_at, may_enter, may_open, IsChangedBy, with_one_more};
-    ghost use Rattle.zre_fabric.specs.Shares.{with_one_fewer, with_opened, with_beacon, with_link, shares_after_closing};
+    ghost use Rattle.zre_fabric.specs.Shares.{with_one_fewer, with_opened};
+    ghost use Rattle.zre_fabric.specs.Shares.{with_beacon, with_link, shares_after_closing};
 
     pub(crate) fn new(alloc: Global) -> Result<Self, OutOfMemory>
         ensures { IfOk result (λ s. s.shares.items ≡ replicate 1024 nothing) }

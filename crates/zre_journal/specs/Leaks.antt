@@ -1,6 +1,7 @@
 -- What has no end yet: the links that a node connected and the connections that it answered, as what passes between
 -- the node and the outside says it.
-use Rattle.std.specs.Prelude.{◌≡◌, ℕ, ◌≤◌, Bool, true, false, not, ◌&&◌, List, [], ◌∷◌, ◌++◌, Option, Some, None, length}
+use Rattle.std.specs.Prelude.{◌≡◌, ℕ, ◌≤◌, Bool, true, false, not, ◌&&◌, List, [], ◌∷◌, ◌++◌, Option}
+use Rattle.std.specs.Prelude.{Some, None, length}
 use Rattle.std.specs.Prelude.{map, nat_eq, is_none, if◌then◌else◌}
 use Rattle.std.specs.List.{filter_map, list_any}
 use Rattle.zre_values.specs.declared.endpoint.Endpoint.{Endpoint}

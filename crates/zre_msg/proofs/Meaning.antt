@@ -10,7 +10,7 @@ use Rattle.zre_msg.specs.declared.message.Body.{Body}
 use Rattle.zre_msg.specs.declared.message.Body.TheVariants.{Hello, Whisper, Shout, Join, Leave, Ping, PingOk, Other}
 use Rattle.zre_msg.specs.Spelling.{number_of, fields, further, head, spell, FitsBody, Fits, Means}
 use Rattle.zre_msg.specs.Reading.{body_at, command_of, read_of, read_frames, bad, unless, is_single, is_other}
-use Rattle.zre_msg.proofs.Again.{hello_again, join_again, leave_again, shout_again}
+use Rattle.zre_msg.proofs.SpelledIsRead.{hello_again, join_again, leave_again, shout_again}
 
 read-ok : (first : List ℕ) (more : List (List ℕ)) (b : Body) → is_other first 0 170 ≡ false → is_other first 1 161 ≡ false → is_other first 3 2 ≡ false → command_of first more ≡ Some (b, [])
     → (is_single (get_or first 2 0) && ltb 0 (length more)) ≡ false → read_frames (first ∷ more) ≡ Ok (record { sequence = from_be_bytes w16 (take 2 (drop 4 first)); body = b })

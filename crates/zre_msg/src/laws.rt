@@ -11,8 +11,8 @@ pub fn spelled_is_read()
     ensures { (m : MessageValue) → Means (spell m) m → read_frames (spell m) ≡ Ok m }
 {}
 
-/// Frames, the first of them a list of octets, are read as the message that they mean, and where they mean none, none is
-/// read.
+/// Frames, the first of them a list of octets, are read as the message that they mean, and where they mean none, none
+/// is read.
 #[inline]
 pub fn frames_are_read_as_they_mean()
     ensures meant { (frames : List (List ℕ)) (m : MessageValue) → Means frames m → read_frames frames ≡ Ok m }

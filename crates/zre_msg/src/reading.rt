@@ -183,7 +183,7 @@ fn see_parts<'a>(
     }
 }
 
-// The same with the laws of what is read, for a first frame of any length.
+// Reads a first frame of any length with the further ones, and tells the laws of what is read.
 fn read_from(alloc: Global, first: &[u8], further: Further<'_>) -> Result<Message, ReadFault>
     ensures found { IfOk result (λ m. Means (first.now ∷ frames_of further.entry) m) }
     ensures only { (m : MessageValue) → Means (first.now ∷ frames_of further.entry) m → Answers result (Ok m) }

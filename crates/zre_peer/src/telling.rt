@@ -57,7 +57,8 @@ fn push_shout(
     content: LentContent<'_>,
 ) -> Result<(), OutOfMemory>
     ensures { (id : PeerId) (view : View) → heads.now ≡ heads_of id view.name →
-        OnOk result (out.new ≡ out.old ++ lines (events_of id view (bodies.Shout group.now (content_of content.entry)))) }
+        OnOk result (out.new
+        ≡ out.old ++ lines (events_of id view (bodies.Shout group.now (content_of content.entry)))) }
 {
     out.append(heads.shout.as_slice())?;
     push_quoted(out, group)?;

@@ -4,7 +4,7 @@ use Rattle.std.specs.Prelude.{◌⊎◌, option_to_list}
 use Rattle.std.proofs.lemmas.List.{length-drop, take-append-le, drop-append-le, append-nil}
 use Rattle.zre_zmtp.specs.Stream.{Want, Before, Kind, Whole, Traffic, Parts, before, part_len, cut, split, item, items_of}
 use Rattle.zre_zmtp.specs.Run.{after, Found, with_item, run}
-use Rattle.zre_zmtp.proofs.Stay.{part_len-stays, part_len-bounds}
+use Rattle.zre_zmtp.proofs.FaultsStay.{part_len-stays, part_len-bounds}
 
 -- whether there is a value, with the equation
 pub cases_Option : {A : Type 0} (o : Option A) → (o ≡ None) ⊎ ((x : A) × (o ≡ Some x))

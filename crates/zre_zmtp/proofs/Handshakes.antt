@@ -19,8 +19,8 @@ use Rattle.zre_zmtp.specs.Run.{Found, with_item, after, run_all}
 use Rattle.zre_zmtp.specs.Shown.{header_fault}
 use Rattle.zre_zmtp.specs.Written.{own_greeting, ready_body, ready_frame, socket_name}
 use Rattle.zre_zmtp.specs.Laws.{IsWanted, handshake, greeting_item, ReadsHandshake}
-use Rattle.zre_zmtp.proofs.Stay.{part_len-stays}
-use Rattle.zre_zmtp.proofs.Exact.{run_all-some}
+use Rattle.zre_zmtp.proofs.FaultsStay.{part_len-stays}
+use Rattle.zre_zmtp.proofs.WholeFrames.{run_all-some}
 use Rattle.zre_zmtp.proofs.Framed.{is_framed, IsFramed}
 use Rattle.zre_zmtp.proofs.Turning.{turn_whole, no_octets}
 use Rattle.zre_zmtp.proofs.Feeding.{Follows, follows, fault-follows}

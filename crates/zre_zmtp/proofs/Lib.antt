@@ -1,14 +1,14 @@
 mod Examples
-pub mod Grow
-pub mod Stay
+pub mod KnownStays
+pub mod FaultsStay
 pub mod Contents
 pub mod Cuts
 pub mod Properties
-pub mod Exact
-pub mod Later
-pub mod Kept
+pub mod WholeFrames
+pub mod MoreOfOnePart
+pub mod OctetsKept
 pub mod Framed
-pub mod Looked
+pub mod LooksByTurn
 pub mod Turning
 pub mod Faulty
 pub mod Feeding

@@ -7,7 +7,7 @@ use Rattle.zre_zmtp.specs.declared.expected.Expected.TheVariants as expect
 use Rattle.zre_zmtp.specs.Stream.{Want, Before, Kind, Parts, before, place, opened, start, part_len, cut, split}
 use Rattle.zre_zmtp.specs.Run.{Found, with_item, run_all}
 use Rattle.zre_zmtp.specs.Laws.{AwaitsMessage, IsWithinLimits, ReadsMessage}
-use Rattle.zre_zmtp.proofs.Stay.{part_len-bounds}
+use Rattle.zre_zmtp.proofs.FaultsStay.{part_len-bounds}
 use Rattle.zre_zmtp.proofs.Cuts.{cases_Option, cut-none, cut-some}
 use Rattle.zre_zmtp.proofs.Feeding.{Follows, follows, fault-follows}
 use Rattle.zre_zmtp.proofs.Turning.{no_part, no_octets}

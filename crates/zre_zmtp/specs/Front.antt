@@ -1,5 +1,6 @@
 -- A message of one or two frames that lies whole at the front of octets.
-use Rattle.std.specs.Prelude.{◌≡◌, ℕ, ◌+◌, ◌<◌, ◌≤◌, true, false, List, [], ◌∷◌, ◌++◌, length, take, Some, option_copied, option_to_list}
+use Rattle.std.specs.Prelude.{◌≡◌, ℕ, ◌+◌, ◌<◌, ◌≤◌, true, false, List, [], ◌∷◌, ◌++◌, length, take}
+use Rattle.std.specs.Prelude.{Some, option_copied, option_to_list}
 use Rattle.zre_zmtp.specs.declared.front.Front.{Front}
 use Rattle.zre_zmtp.specs.declared.header.Header.{Header}
 use Rattle.zre_zmtp.specs.declared.item.Item.{Item}
@@ -33,14 +34,19 @@ item_of r f = record { start = r.before.start; end = r.before.place + f.len; wha
 -- the reader after it
 abbrev pub passed : Reading → Front → Reading
 passed r f = record {
-  before = record { expected = expect.Traffic; place = r.before.place + f.len; opened = []; start = r.before.place + f.len };
+  before = record {
+    expected = expect.Traffic;
+    place = r.before.place + f.len;
+    opened = [];
+    start = r.before.place + f.len;
+  };
   left = [];
   spent = false;
   wanted = r.wanted;
 }
 
--- The message is the front of the octets o: whatever was read before it by a reader that is at rest, its octets are read
--- as the item that it is.
+-- The message is the front of the octets o: whatever was read before it by a reader that is at rest, its octets are
+-- read as the item that it is.
 pub record IsFront (f : Front) (o : List ℕ) : Type 0 where
   pub some : 0 < f.len
   pub within : f.len ≤ length o

@@ -99,8 +99,10 @@ pub(crate) fn push_message<L: Ledger>(
     steps: &mut Steps<L>,
 ) -> Result<(), OutOfMemory>
     requires { item.what ≡ What.Message ([] ∷ []) }
+    // The message that is appended.
     ensures given { OnOk result (out.new ≡ out.old
         ++ record { start = item.start; end = item.end; what = What.Message (body.now ∷ []) } ∷ []) }
+    // How many octets are looked at.
     ensures looks { OnOk result (steps.new ≡ steps.old + length body.now) }
     ensures looks_most { steps.new ≤ steps.old + length body.now }
 {

@@ -1,6 +1,7 @@
 //! A reader of a stream that comes in pieces.
 
-ghost use Rattle.std.specs.Prelude.{◌≡◌, ℕ, ◌+◌, ◌-◌, ◌^◌, ◌<◌, ◌≤◌, ◌↔◌, min, false, List, [], length, IsErr, IsTrue, IfSome};
+ghost use Rattle.std.specs.Prelude.{◌≡◌, ℕ, ◌+◌, ◌-◌, ◌^◌, ◌<◌, ◌≤◌, ◌↔◌, min, false, List, [], length};
+ghost use Rattle.std.specs.Prelude.{IsErr, IsTrue, IfSome};
 ghost use Rattle.std.specs.Prelude.{None};
 ghost use Rattle.std.specs.List.{concat};
 ghost use Rattle.zre_values.specs.declared.limits.TheConstants.{MESSAGE_OCTETS, COMMAND_OCTETS};
@@ -128,18 +129,20 @@ impl Reader {
     /// After a refusal the reader is spent. OutOfMemory is also told where a place would be above 2^64 - 1.
     pub fn feed(&mut self, piece: &[u8], out: &mut Items) -> Result<(), FeedFault>
         requires { self.old.spent ≡ false }
+        // What the octets add.
         ensures ok { ReadsOn result self.old self.new piece.now out.old out.new }
+        // What a refusal tells, and what it leaves.
         ensures refused { RefusesOn result self.old piece.now out.old out.new }
         ensures spent { IsTrue self.new.spent ↔ IsErr result }
     {
         self.feed_from::<Brand>(piece, out, Blank::new(1))
     }
 
-    /// The same, and looks are counted: one for each octet that is copied out of the piece, and one for each that is
-    /// read again while it is kept as a greeting or body that isn't whole. Octets of a header are kept without a look,
-    /// and what READY and a command say is copied from a body that is whole, which isn't counted. Looks and three
-    /// times what is kept rise by at most four for each octet, so a stream of n octets costs at most 4n looks, however
-    /// it is cut.
+    /// Reads a piece as `feed` does, and counts looks: one for each octet that is copied out of the piece, and one for
+    /// each that is read again while it is kept as a greeting or body that isn't whole. Octets of a header are kept
+    /// without a look, and what READY and a command say is copied from a body that is whole, which isn't counted. Looks
+    /// and three times what is kept rise by at most four for each octet, so a stream of n octets costs at most 4n
+    /// looks, however it is cut.
     pub fn feed_counted<L: Ledger>(
         &mut self,
         piece: &[u8],
@@ -147,9 +150,12 @@ impl Reader {
         steps: &mut Steps<L>,
     ) -> Result<(), FeedFault>
         requires { self.old.spent ≡ false }
+        // What the octets add.
         ensures ok { ReadsOn result self.old self.new piece.now out.old out.new }
+        // What a refusal tells, and what it leaves.
         ensures refused { RefusesOn result self.old piece.now out.old out.new }
         ensures spent { IsTrue self.new.spent ↔ IsErr result }
+        // How many octets are looked at.
         ensures looks { Looks steps.old steps.new (kept self.old) (kept self.new) (length piece.now) result }
     {
         self.spent = true;
@@ -190,16 +196,19 @@ impl Reader {
         len.min(octets.len() as u64) as usize
     }
 
-    // The same for a caller that counts nothing.
+    // The counted call with a counter of its own, for a caller that counts nothing.
     fn feed_from<L: Ledger>(
         &mut self,
         piece: &[u8],
         out: &mut Items,
         blank: Blank,
     ) -> Result<(), FeedFault>
+        // What a caller knows.
         requires blank { IsOpenTo L.name L.parts blank.name blank.parts }
         requires unspent { self.old.spent ≡ false }
+        // What the octets add.
         ensures ok { ReadsOn result self.old self.new piece.now out.old out.new }
+        // What a refusal tells, and what it leaves.
         ensures refused { RefusesOn result self.old piece.now out.old out.new }
         ensures spent { IsTrue self.new.spent ↔ IsErr result }
     {
@@ -211,14 +220,17 @@ impl Reader {
     /// fault come of it.
     pub fn feed_pieces(&mut self, pieces: &Frames, out: &mut Items) -> Result<(), FeedFault>
         requires { self.old.spent ≡ false }
+        // What the octets add.
         ensures ok { ReadsOn result self.old self.new (concat pieces.now) out.old out.new }
+        // What a refusal tells, and what it leaves.
         ensures refused { RefusesOn result self.old (concat pieces.now) out.old out.new }
         ensures spent { IsTrue self.new.spent ↔ IsErr result }
     {
         self.feed_pieces_from::<Brand>(pieces, out, Blank::new(1))
     }
 
-    /// The same, and looks are counted: of n octets there are no more than of one piece with all of them.
+    /// Reads pieces as `feed_pieces` does, and counts looks: of n octets there are no more than of one piece with all
+    /// of them.
     pub fn feed_pieces_counted<L: Ledger>(
         &mut self,
         pieces: &Frames,
@@ -226,9 +238,12 @@ impl Reader {
         steps: &mut Steps<L>,
     ) -> Result<(), FeedFault>
         requires { self.old.spent ≡ false }
+        // What the octets add.
         ensures ok { ReadsOn result self.old self.new (concat pieces.now) out.old out.new }
+        // What a refusal tells, and what it leaves.
         ensures refused { RefusesOn result self.old (concat pieces.now) out.old out.new }
         ensures spent { IsTrue self.new.spent ↔ IsErr result }
+        // How many octets are looked at.
         ensures looks { Looks steps.old steps.new (kept self.old) (kept self.new) (length (concat pieces.now)) result }
     {
         for piece in pieces.as_slice() {
@@ -237,16 +252,19 @@ impl Reader {
         Ok(())
     }
 
-    // The same for a caller that counts nothing.
+    // The counted call with a counter of its own, for a caller that counts nothing.
     fn feed_pieces_from<L: Ledger>(
         &mut self,
         pieces: &Frames,
         out: &mut Items,
         blank: Blank,
     ) -> Result<(), FeedFault>
+        // What a caller knows.
         requires blank { IsOpenTo L.name L.parts blank.name blank.parts }
         requires unspent { self.old.spent ≡ false }
+        // What the octets add.
         ensures ok { ReadsOn result self.old self.new (concat pieces.now) out.old out.new }
+        // What a refusal tells, and what it leaves.
         ensures refused { RefusesOn result self.old (concat pieces.now) out.old out.new }
         ensures spent { IsTrue self.new.spent ↔ IsErr result }
     {

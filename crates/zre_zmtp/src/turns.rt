@@ -94,8 +94,10 @@ impl Progress {
     // What a whole frame says. The message that it belongs to is kept or handed out.
     fn said(&mut self, header: Header, body: Octets) -> Result<Option<What>, OutOfMemory>
         requires { self.old.expected ≢ Expected.Greeting }
+        // What the frame says.
         ensures says { IfOk result (λ what.
             what ≡ said_by self.old.expected self.old.opened header.flags header.size body) }
+        // What is kept of an unfinished message.
         ensures opened { OnOk result
             (self.new.opened ≡ opened_by self.old.expected self.old.opened header.flags body) }
         ensures rest { self.new ≡ record self.old { opened = self.new.opened } }
@@ -122,11 +124,14 @@ impl Progress {
         body: Octets,
     ) -> Result<Option<Item>, FeedFault>
         requires { self.old.expected ≢ Expected.Greeting }
+        // What the frame says.
         ensures says { IfOk result (λ item.
             item ≡ frame_item (before_of self.old) header body (header_len + length body)) }
+        // What is known after it.
         ensures after { OnOk result
             (before_of self.new ≡ frame_after (before_of self.old) header body (header_len + length body)) }
         ensures partial { OnOk result (self.new.partial ≡ self.old.partial) }
+        // A fault.
         ensures faultless { OnOk result
             (body_fault want.now (before_of self.old) header.flags body ≡ None) }
         ensures refused { IfErr result (λ e. Refuses e
@@ -174,18 +179,22 @@ impl Progress {
         frame: WholeFrame,
         out: &mut Items,
     ) -> Result<(), FeedFault>
+        // What a caller knows.
         requires frame { self.old.expected ≢ Expected.Greeting }
         requires no_head { self.old.partial.head ≡ [] }
         requires no_body { self.old.partial.body ≡ [] }
         requires header { header_of frame.head ≡ Some frame.header }
         requires within { length frame.head ≤ header_len_of frame.head }
         requires whole { length frame.body ≡ frame.header.size }
+        // What the octets add.
         ensures ok { header_fault (before_of self.old) frame.head ≡ None →
             OnOk result (Advances want.now (before_of self.old) (frame.head ++ frame.body) out.old out.new
             (before_of self.new) (left_of self.new)) }
+        // What a refusal tells, and what it leaves.
         ensures refused { header_fault (before_of self.old) frame.head ≡ None →
             IfErr result (λ e.
             RefusesAt e want.now (before_of self.old) (frame.head ++ frame.body) out.old out.new) }
+        // How many octets are kept.
         ensures kept { OnOk result (held self.new ≤ sum_by length self.old.opened + length frame.body) }
     {
         let WholeFrame { header, head, body } = frame;
@@ -198,13 +207,17 @@ impl Progress {
     // The item that ends with the greeting, and what is known after it.
     #[tactic(auto, unfolding(crate::specs::Stream::item))]
     fn finish_greeting<L: Ledger>(&mut self, steps: &mut Steps<L>) -> Result<Item, FeedFault>
+        // What a caller knows.
         requires expected { self.old.expected ≡ Expected.Greeting }
         requires some { 12 ≤ length self.old.greeting }
+        // What the greeting says.
         ensures says { IfOk result (λ found. item_of (before_of self.old) self.old.greeting ≡ Some found) }
+        // What is known after it.
         ensures after { OnOk result (before_of self.new ≡ after_of (before_of self.old) self.old.greeting) }
         ensures left { OnOk result (left_of self.new ≡ []) }
         ensures err { IfErr result (λ e. e ≡ FeedFault.OutOfMemory) }
         ensures opened { self.new.opened ≡ self.old.opened }
+        // How many octets are looked at.
         ensures looks { steps.new ≤ steps.old + 2 }
     {
         let start = self.place;
@@ -233,8 +246,11 @@ impl Progress {
         steps: &mut Steps<L>,
     ) -> Result<(), FeedFault>
         requires { self.old.expected ≡ Expected.Greeting }
+        // What the octets add.
         ensures ok { (want : WantValue) → StandsAfter result want self.old self.new (octet ∷ []) out.old out.new }
+        // What a refusal tells, and what it leaves.
         ensures refused { (want : WantValue) → NamesFault result want self.old (octet ∷ []) out.old out.new }
+        // How many octets are looked at.
         ensures looks { Looks steps.old steps.new (held self.old) (held self.new) 1 result }
     {
         let i = self.greeting.len();
@@ -254,15 +270,19 @@ impl Progress {
 
     // What there is of a header, in which nothing is wrong: it is kept, unless a frame without a body ends with it.
     fn begin_body(&mut self, want: &Want, head: Head, out: &mut Items) -> Result<(), FeedFault>
+        // What a caller knows.
         requires frame { self.old.expected ≢ Expected.Greeting }
         requires no_head { self.old.partial.head ≡ [] }
         requires no_body { self.old.partial.body ≡ [] }
         requires within { length head ≤ header_len_of head }
         requires faultless { header_fault (before_of self.old) head ≡ None }
+        // What the octets add.
         ensures ok { OnOk result (Advances want.now (before_of self.old) head out.old out.new
             (before_of self.new) (left_of self.new)) }
+        // What a refusal tells, and what it leaves.
         ensures refused { IfErr result (λ e.
             RefusesAt e want.now (before_of self.old) head out.old out.new) }
+        // How many octets are kept.
         ensures kept { OnOk result (held self.new ≤ sum_by length self.old.opened + length head) }
     {
         let body = Store::new(self.alloc);
@@ -286,10 +306,14 @@ impl Progress {
 
     // One octet more of a header. A frame without a body ends with it.
     fn take_header(&mut self, want: &Want, octet: u8, out: &mut Items) -> Result<(), FeedFault>
+        // What a caller knows.
         requires frame { self.old.expected ≢ Expected.Greeting }
         requires header { self.old.partial.header ≡ None }
+        // What the octets add.
         ensures ok { StandsAfter result want.now self.old self.new (octet ∷ []) out.old out.new }
+        // What a refusal tells, and what it leaves.
         ensures refused { NamesFault result want.now self.old (octet ∷ []) out.old out.new }
+        // How many octets are kept.
         ensures kept { OnOk result (held self.new ≤ held self.old + 1) }
     {
         let none = Partial::new(self.alloc);
@@ -310,12 +334,16 @@ impl Progress {
         out: &mut Items,
         steps: &mut Steps<L>,
     ) -> Result<(), FeedFault>
+        // What a caller knows.
         requires frame { self.old.expected ≢ Expected.Greeting }
         requires header { IsSome self.old.partial.header }
         requires within { ForSome self.old.partial.header (λ header.
             length self.old.partial.body + length octets.now ≤ header.size) }
+        // What the octets add.
         ensures ok { StandsAfter result want.now self.old self.new octets.now out.old out.new }
+        // What a refusal tells, and what it leaves.
         ensures refused { NamesFault result want.now self.old octets.now out.old out.new }
+        // How many octets are looked at.
         ensures looks { Looks steps.old steps.new (held self.old) (held self.new) (length octets.now) result }
     {
         let none = Partial::new(self.alloc);
@@ -389,11 +417,14 @@ impl Progress {
         steps: &mut Steps<L>,
     ) -> Result<(), FeedFault>
         requires { is_content_of self.old.expected header.flags ≡ true }
+        // What the frame says.
         ensures given { OnOk result (out.new ≡ out.old
             ++ option_to_list (frame_item (before_of self.old) header body.now (header_len + length body.now))) }
+        // What is known after it.
         ensures after { OnOk result
             (before_of self.new ≡ frame_after (before_of self.old) header body.now (header_len + length body.now)) }
         ensures partial { OnOk result (self.new.partial ≡ self.old.partial) }
+        // A refusal.
         ensures err { IfErr result (λ e. e ≡ FeedFault.OutOfMemory) }
         ensures looks { OnOk result (steps.new ≡ steps.old + length body.now) }
         ensures looks_most { steps.new ≤ steps.old + length body.now }
@@ -422,10 +453,13 @@ impl Progress {
         steps: &mut Steps<L>,
     ) -> Result<usize, FeedFault>
         requires { BeginsFrame self.old header octets.now }
+        // What the octets add.
         ensures ok { IfOk result (λ len. Advances want.now (before_of self.old) (take len octets.now) out.old out.new
             (before_of self.new) (left_of self.new)) }
+        // What a refusal tells, and what it leaves.
         ensures refused { IfErr result (λ e.
             RefusesAt e want.now (before_of self.old) octets.now out.old out.new) }
+        // How many octets are taken and kept.
         ensures within { IfOk result (λ len. header.size < len × len ≤ length octets.now) }
         ensures kept { OnOk result (held self.new ≤ held self.old + header.size) }
         ensures looks { OnOk result (steps.new ≡ steps.old + header.size) }
@@ -456,11 +490,15 @@ impl Progress {
         out: &mut Items,
         steps: &mut Steps<L>,
     ) -> Result<(), FeedFault>
+        // What a caller knows.
         requires some { 0 < length octets.now }
         requires room { length octets.now
             ≤ room_of self.old.expected self.old.partial.header self.old.partial.body }
+        // What the octets add.
         ensures ok { StandsAfter result want.now self.old self.new octets.now out.old out.new }
+        // What a refusal tells, and what it leaves.
         ensures refused { NamesFault result want.now self.old octets.now out.old out.new }
+        // How many octets are looked at.
         ensures looks { Looks steps.old steps.new (held self.old) (held self.new) (length octets.now) result }
     {
         match (self.expected, self.partial.header) {
@@ -480,10 +518,13 @@ impl Progress {
         steps: &mut Steps<L>,
     ) -> Result<usize, FeedFault>
         requires { 0 < length octets.now }
+        // What the octets add.
         ensures ok { Waits want.now (before_of self.old) (left_of self.old) →
             IfOk result (λ len. Advances want.now (before_of self.old) (left_of self.old ++ take len octets.now)
             out.old out.new (before_of self.new) (left_of self.new)) }
+        // What a refusal tells, and what it leaves.
         ensures refused { NamesFault result want.now self.old octets.now out.old out.new }
+        // How many octets are taken and looked at.
         ensures within { IfOk result (λ len. 0 < len × len ≤ length octets.now) }
         ensures looks { IfOk result (λ len. IsPaid steps.old steps.new (held self.old) (held self.new) len) }
         ensures refused_looks { OnErr result (IsPaidOnRefusal steps.old steps.new (held self.old) (length octets.now)) }

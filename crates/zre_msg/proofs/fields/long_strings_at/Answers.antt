@@ -1,5 +1,5 @@
 use Rattle.zre_msg.specs.Reading.{long_string_at}
-use Rattle.zre_msg.proofs.Loop.{goes_on, ends, is_done}
+use Rattle.zre_msg.proofs.FieldByField.{goes_on, ends, is_done}
 use Rattle.zre_msg.proofs.fields.long_strings_at.Goals as goal
 
 pub returns-in-Err : goal.returns-in-Err

@@ -1,6 +1,6 @@
 use Rattle.std.proofs.lemmas.Result.{err_from_is_err_and}
 use Rattle.zre_msg.specs.Reading.{pair_at}
-use Rattle.zre_msg.proofs.Loop.{goes_on, ends, is_done}
+use Rattle.zre_msg.proofs.FieldByField.{goes_on, ends, is_done}
 use Rattle.zre_msg.proofs.fields.pairs_at.Goals as goal
 
 pub returns-in_err-name : goal.returns-in_err-name

@@ -1,6 +1,6 @@
 use Rattle.std.proofs.Common.{◌≡◌, ◌-◌}
 use Rattle.zre_msg.specs.Reading.{pair_at, each_at}
-use Rattle.zre_msg.proofs.Loop.{with_front}
+use Rattle.zre_msg.proofs.FieldByField.{with_front}
 use Rattle.zre_msg.proofs.fields.pairs_at.Given as goal
 
 abbrev pub invariant-each : goal.invariant-each

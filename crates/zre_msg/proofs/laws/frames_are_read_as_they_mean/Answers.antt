@@ -1,5 +1,5 @@
 use Rattle.zre_msg.proofs.Meaning.{read-means}
-use Rattle.zre_msg.proofs.Read.{read-meant}
+use Rattle.zre_msg.proofs.ReadClauses.{read-meant}
 use Rattle.zre_msg.proofs.laws.frames_are_read_as_they_mean.Goals as goal
 
 pub returns-clause-meant : goal.returns-clause-meant

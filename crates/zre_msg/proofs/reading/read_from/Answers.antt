@@ -1,6 +1,6 @@
 use Rattle.std.proofs.Common.{arith}
 use Rattle.zre_msg.specs.Further.{frames_of}
-use Rattle.zre_msg.proofs.Read.{Answers-found, Answers-only}
+use Rattle.zre_msg.proofs.ReadClauses.{Answers-found, Answers-only}
 use Rattle.zre_msg.proofs.reading.read_from.Goals as goal
 
 pub returns-clause-found : goal.returns-clause-found

@@ -1,5 +1,5 @@
 use Rattle.zre_zmtp.specs.Stream.{Any, Traffic}
-use Rattle.zre_zmtp.proofs.Looked.{nothing_kept, all_paid}
+use Rattle.zre_zmtp.proofs.LooksByTurn.{nothing_kept, all_paid}
 use Rattle.zre_zmtp.proofs.laws.looks_are_few.Goals as goal
 
 pub returns-clause-looks : goal.returns-clause-looks

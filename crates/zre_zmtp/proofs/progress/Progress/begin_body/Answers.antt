@@ -5,7 +5,7 @@ use Rattle.zre_zmtp.specs.declared.progress.Progress.{Progress}
 use Rattle.zre_zmtp.specs.declared.expected.Expected.TheVariants as expect
 use Rattle.zre_zmtp.specs.Shown.{before_of, left_by}
 use Rattle.zre_zmtp.proofs.Framed.{left-frame, waits-no_header, waits-header}
-use Rattle.zre_zmtp.proofs.Looked.{at_most}
+use Rattle.zre_zmtp.proofs.LooksByTurn.{at_most}
 use Rattle.zre_zmtp.proofs.Turning.{turn_waits}
 use Rattle.zre_zmtp.proofs.progress.Progress.begin_body.Goals as goal
 

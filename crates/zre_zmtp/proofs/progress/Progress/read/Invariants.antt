@@ -2,7 +2,7 @@ use Rattle.std.proofs.Common.{length, ◌++◌}
 use Rattle.zre_zmtp.specs.Run.{run_all}
 use Rattle.zre_zmtp.specs.Shown.{before_of, left_of, held, Waits}
 use Rattle.zre_zmtp.proofs.Turning.{IsAmid}
-use Rattle.zre_zmtp.proofs.Looked.{IsPaidSoFar}
+use Rattle.zre_zmtp.proofs.LooksByTurn.{IsPaidSoFar}
 use Rattle.zre_zmtp.proofs.progress.Progress.read.Given as goal
 
 abbrev pub invariant-loop-rest : goal.invariant-loop-rest

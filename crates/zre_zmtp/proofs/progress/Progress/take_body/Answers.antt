@@ -7,7 +7,7 @@ use Rattle.zre_zmtp.specs.declared.expected.Expected.TheVariants as expect
 use Rattle.zre_zmtp.specs.Stream.{Want}
 use Rattle.zre_zmtp.specs.Shown.{before_of, left_of, Waits, header_fault}
 use Rattle.zre_zmtp.proofs.Framed.{IsHeader, is_header, left-frame, left-partial, fine-from_waits, waits-body}
-use Rattle.zre_zmtp.proofs.Looked.{paid}
+use Rattle.zre_zmtp.proofs.LooksByTurn.{paid}
 use Rattle.zre_zmtp.proofs.Turning.{turn_waits}
 use Rattle.zre_zmtp.proofs.progress.Progress.take_body.Goals as goal
 

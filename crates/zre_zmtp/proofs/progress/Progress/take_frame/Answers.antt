@@ -5,7 +5,7 @@ use Rattle.std.proofs.lemmas.Result.{err_from_is_err_and}
 use Rattle.zre_zmtp.specs.Stream.{Before}
 use Rattle.zre_zmtp.specs.Shown.{before_of}
 use Rattle.zre_zmtp.proofs.Framed.{is_framed, left-none}
-use Rattle.zre_zmtp.proofs.Looked.{frame_kept}
+use Rattle.zre_zmtp.proofs.LooksByTurn.{frame_kept}
 use Rattle.zre_zmtp.proofs.Turning.{frame_taken, frame_refused}
 use Rattle.zre_zmtp.proofs.progress.Progress.take_frame.Goals as goal
 

@@ -5,7 +5,7 @@ use Rattle.zre_zmtp.specs.declared.progress.Progress.{Progress}
 use Rattle.zre_zmtp.specs.declared.expected.Expected.TheVariants as expect
 use Rattle.zre_zmtp.specs.Shown.{before_of, left_of, header_fault}
 use Rattle.zre_zmtp.proofs.Framed.{left-partial, header-short, header-within, header-refused}
-use Rattle.zre_zmtp.proofs.Looked.{at_most}
+use Rattle.zre_zmtp.proofs.LooksByTurn.{at_most}
 use Rattle.zre_zmtp.proofs.Turning.{turn_refused}
 use Rattle.zre_zmtp.proofs.progress.Progress.take_header.Goals as goal
 

@@ -1,6 +1,6 @@
 use Rattle.std.proofs.Common.{length, ap, arith}
 use Rattle.zre_zmtp.proofs.Framed.{one_octet, room-greeting, room-header}
-use Rattle.zre_zmtp.proofs.Looked.{paid}
+use Rattle.zre_zmtp.proofs.LooksByTurn.{paid}
 use Rattle.zre_zmtp.proofs.progress.Progress.take_part.Goals as goal
 
 pub returns-in-Greeting-default-clause-ok : goal.returns-in-Greeting-default-clause-ok

@@ -6,9 +6,9 @@ use Rattle.zre_zmtp.specs.Stream.{Before, fault_of}
 use Rattle.zre_zmtp.specs.Run.{run_all}
 use Rattle.zre_zmtp.specs.Shown.{before_of, left_of, header_fault, is_content}
 use Rattle.zre_zmtp.proofs.Contents.{content_is_faultless}
-use Rattle.zre_zmtp.proofs.Stay.{fault_of-stays}
+use Rattle.zre_zmtp.proofs.FaultsStay.{fault_of-stays}
 use Rattle.zre_zmtp.proofs.Framed.{head_of, header-refused, is_framed, left-nothing}
-use Rattle.zre_zmtp.proofs.Looked.{frame_kept}
+use Rattle.zre_zmtp.proofs.LooksByTurn.{frame_kept}
 use Rattle.zre_zmtp.proofs.Turning.{begins, joined, waits_from, no_part, no_octets, turn_refused, refused_turn, frame_taken}
 use Rattle.zre_zmtp.proofs.progress.Progress.take_whole.Goals as goal
 

@@ -13,11 +13,11 @@ use Rattle.zre_zmtp.specs.declared.expected.Expected.TheVariants as expect
 use Rattle.zre_zmtp.specs.Stream.{Want, Before, Kind, Parts, before, expected, opened, opened_with, cut, split, fault_at, frame_fault, size_fault, whole_len, part_len}
 use Rattle.zre_values.specs.declared.limits.TheConstants.{MESSAGE_OCTETS, COMMAND_OCTETS}
 use Rattle.zre_zmtp.specs.Reading.{Reading, Reads, kept}
-use Rattle.zre_zmtp.proofs.Grow.{headed, IsWhole}
-use Rattle.zre_zmtp.proofs.Stay.{is_part, IsPart, frame-len}
+use Rattle.zre_zmtp.proofs.KnownStays.{headed, IsWhole}
+use Rattle.zre_zmtp.proofs.FaultsStay.{is_part, IsPart, frame-len}
 use Rattle.zre_zmtp.proofs.Cuts.{cases_Option, cut-none, cut-some, cut-ends}
-use Rattle.zre_zmtp.proofs.Later.{HeadFine, head_fine}
-use Rattle.zre_zmtp.proofs.Exact.{IsFrame, exact}
+use Rattle.zre_zmtp.proofs.MoreOfOnePart.{HeadFine, head_fine}
+use Rattle.zre_zmtp.proofs.WholeFrames.{IsFrame, exact}
 use Rattle.zre_zmtp.proofs.Framed.{why_none}
 
 pub row-off : (t : Bool) (w : ZmtpWhy) (rest : Option ZmtpWhy) → cond t (Some w) rest ≡ None → (t ≡ false) × (rest ≡ None)

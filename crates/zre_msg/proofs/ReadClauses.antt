@@ -10,7 +10,7 @@ use Rattle.zre_msg.specs.declared.message.ReadFault.{ReadFault}
 use Rattle.zre_msg.specs.Spelling.{Means}
 use Rattle.zre_msg.specs.Reading.{Answers, command_of, read_frames, read_of}
 use Rattle.zre_msg.proofs.Meaning.{read-means}
-use Rattle.zre_msg.proofs.Takes.{IsBytes, read-takes}
+use Rattle.zre_msg.proofs.ReadIsSpelled.{IsBytes, read-takes}
 
 -- a message that was read is spelled by the frames
 pub Answers-found : (first : List ℕ) (more : List (List ℕ)) (r : Result Message ReadFault) → IsBytes first → Answers r (read_of first more) → IfOk r (λ m. Means (first ∷ more) m)
