@@ -301,7 +301,7 @@ fn a_gate_keeps_a_capture(rt: HostRuntime) -> Result<(), Fail> {
         is_kept: true,
         ..PLAIN
     };
-    let (ended, _) = held(rt, rt.alloc(), &case)?;
+    let (ended, _out) = held(rt, rt.alloc(), &case)?;
     assert_eq!(rt; ended.status, Status::Done);
     assert_eq!(rt; ended.rec.kept(), KEPT);
     Ok(())
