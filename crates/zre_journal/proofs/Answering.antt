@@ -31,20 +31,20 @@ use Rattle.zre_journal.specs.Heard.{was_opened, opens, bytes, piece_of, newly_co
 use Rattle.zre_journal.specs.LinkEntries.{at_unlinked}
 use Rattle.zre_journal.specs.Peers.{Life, life}
 use Rattle.zre_journal.specs.Proper.{IsProper}
-use Rattle.zre_journal.proofs.Always.{is_proper, comes_proper}
-use Rattle.zre_journal.proofs.Brings.{all_brought}
-use Rattle.zre_journal.proofs.Brought.{Ground, allowed}
+use Rattle.zre_journal.proofs.ProperChronicles.{is_proper, comes_proper}
+use Rattle.zre_journal.proofs.MarksOfEntries.{all_brought}
+use Rattle.zre_journal.proofs.EachMarkOfEntries.{Ground, allowed}
 use Rattle.zre_journal.proofs.Closing.{leaves_nothing}
 use Rattle.zre_journal.proofs.Faultless.{live_from}
-use Rattle.zre_journal.proofs.Going.{told_and_done, are_others}
-use Rattle.zre_journal.proofs.Joined.{after-append, each_entry}
-use Rattle.zre_journal.proofs.Listed.{All-map, All-join, any_has}
-use Rattle.zre_journal.proofs.Mild.{Mild, AreMild, Kind, kind, is_heard, mild_input, mild_message, mild_shaken, mild_run}
+use Rattle.zre_journal.proofs.MarkByMark.{told_and_done, are_others}
+use Rattle.zre_journal.proofs.JoinedEntries.{after-append, each_entry}
+use Rattle.zre_journal.proofs.NumberedLists.{All-map, All-join, any_has}
+use Rattle.zre_journal.proofs.WhichMarks.{Mild, AreMild, Kind, kind, is_heard, mild_input, mild_message, mild_shaken, mild_run}
 use Rattle.zre_journal.proofs.Octets.{quiet_bytes, sound_bytes, same_bytes}
-use Rattle.zre_journal.proofs.Quiet.{Quiet, AreQuiet}
-use Rattle.zre_journal.proofs.Says.{place_outcome, input_quiet, input_sound}
+use Rattle.zre_journal.proofs.HeardUnchanged.{Quiet, AreQuiet}
+use Rattle.zre_journal.proofs.SaidOnConnections.{place_outcome, input_quiet, input_sound}
 use Rattle.zre_journal.proofs.Sayings.{MaySay, newly_fine}
-use Rattle.zre_journal.proofs.Steps.{choice, steps}
+use Rattle.zre_journal.proofs.WhenMarksCome.{choice, steps}
 
 -- ---- what marks answer
 

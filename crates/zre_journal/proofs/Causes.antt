@@ -44,12 +44,12 @@ use Rattle.zre_journal.specs.Places.{is_piece}
 use Rattle.zre_journal.specs.Proper.{IsProper}
 use Rattle.zre_journal.specs.Pushes.{push, push_all, birth}
 use Rattle.zre_journal.specs.Ticks.{is_silent, is_evasive, is_stale, probe, at_tick}
-use Rattle.zre_journal.proofs.Few.{AreNamed, named}
+use Rattle.zre_journal.proofs.WithinCounts.{AreNamed, named}
 use Rattle.zre_journal.proofs.Known.{end_all, same_id}
 use Rattle.zre_journal.proofs.Places.{its_moment}
-use Rattle.zre_journal.proofs.Steps.{choice}
+use Rattle.zre_journal.proofs.WhenMarksCome.{choice}
 use Rattle.zre_journal.proofs.Turns.{same_push, far_stays, all_turns, some_turns, Meets, Same, Other, meets}
-use Rattle.zre_journal.proofs.Always.{comes_proper}
+use Rattle.zre_journal.proofs.ProperChronicles.{comes_proper}
 use Rattle.zre_journal.proofs.Ticking.{E, F, C}
 
 -- ---- marks that end nobody

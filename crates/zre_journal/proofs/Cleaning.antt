@@ -23,9 +23,9 @@ use Rattle.zre_journal.specs.Heard.{clock}
 use Rattle.zre_journal.specs.Peers.{Life, lives, active}
 use Rattle.zre_journal.specs.Ticks.{is_silent, is_evasive, is_stale, at_tick}
 use Rattle.zre_journal.proofs.Closing.{leaves_nothing}
-use Rattle.zre_journal.proofs.Joined.{after-append, continues}
+use Rattle.zre_journal.proofs.JoinedEntries.{after-append, continues}
 use Rattle.zre_journal.proofs.Known.{end_all}
-use Rattle.zre_journal.proofs.Listed.{eqb-comm, All-kept, All-map}
+use Rattle.zre_journal.proofs.NumberedLists.{eqb-comm, All-kept, All-map}
 use Rattle.zre_journal.proofs.Ticking.{Ticks, AreTicks, E, F, C, all_tick, probes_tick, ends_tick, closes_tick}
 
 -- ---- what the marks of a tick keep

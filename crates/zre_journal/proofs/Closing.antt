@@ -21,14 +21,14 @@ use Rattle.zre_journal.specs.Events.{events, acts, chronicle}
 use Rattle.zre_journal.specs.Happens.{has_stopped}
 use Rattle.zre_journal.specs.Peers.{Life, lives, life, life_of, births}
 use Rattle.zre_journal.specs.Proper.{IsProper}
-use Rattle.zre_journal.proofs.Few.{none_kept}
-use Rattle.zre_journal.proofs.Going.{on, told_and_done, always_sound, are_others}
+use Rattle.zre_journal.proofs.WithinCounts.{none_kept}
+use Rattle.zre_journal.proofs.MarkByMark.{on, told_and_done, always_sound, are_others}
 use Rattle.zre_journal.proofs.Known.{same_id}
-use Rattle.zre_journal.proofs.Listed.{some_is, found, All-append, All-kept, any_append, any_of_append, any_left}
-use Rattle.zre_journal.proofs.Sound.{Sound}
+use Rattle.zre_journal.proofs.NumberedLists.{some_is, found, All-append, All-kept, any_append, any_of_append, any_left}
+use Rattle.zre_journal.proofs.SoundMarks.{Sound}
 use Rattle.zre_journal.proofs.Standing.{none_open, last_open}
-use Rattle.zre_journal.proofs.Steps.{May}
-use Rattle.zre_journal.proofs.Silent.{known_lives, open_is_old}
+use Rattle.zre_journal.proofs.WhenMarksCome.{May}
+use Rattle.zre_journal.proofs.ProperPeers.{known_lives, open_is_old}
 use Rattle.std.proofs.lemmas.List.{length-append}
 use Rattle.std.proofs.lemmas.Bool.{and_right}
 

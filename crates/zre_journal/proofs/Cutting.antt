@@ -21,15 +21,15 @@ use Rattle.zre_journal.specs.Heard.{clock, opens, was_opened, bytes, newly_compl
 use Rattle.zre_journal.specs.Peers.{Life, lives}
 use Rattle.zre_journal.specs.Proper.{IsProper}
 use Rattle.zre_journal.specs.Told.{told}
-use Rattle.zre_journal.proofs.Alike.{AreAlike, after_alike, all_places, all_told}
-use Rattle.zre_journal.proofs.Always.{is_proper, comes_proper}
-use Rattle.zre_journal.proofs.Going.{on, are_others}
-use Rattle.zre_journal.proofs.Joined.{continues, after-append, told-append, done-append, in_turn-append}
-use Rattle.zre_journal.proofs.Kept.{Comes-proper}
-use Rattle.zre_journal.proofs.Listed.{any_has}
-use Rattle.zre_journal.proofs.Sound.{Sound, AreSound, AreOthers}
-use Rattle.zre_journal.proofs.Says.{input_sound}
-use Rattle.zre_journal.proofs.Steps.{all_same}
+use Rattle.zre_journal.proofs.WithoutEntryMarks.{AreAlike, after_alike, all_places, all_told}
+use Rattle.zre_journal.proofs.ProperChronicles.{is_proper, comes_proper}
+use Rattle.zre_journal.proofs.MarkByMark.{on, are_others}
+use Rattle.zre_journal.proofs.JoinedEntries.{continues, after-append, told-append, done-append, in_turn-append}
+use Rattle.zre_journal.proofs.ProperKept.{Comes-proper}
+use Rattle.zre_journal.proofs.NumberedLists.{any_has}
+use Rattle.zre_journal.proofs.SoundMarks.{Sound, AreSound, AreOthers}
+use Rattle.zre_journal.proofs.SaidOnConnections.{input_sound}
+use Rattle.zre_journal.proofs.WhenMarksCome.{all_same}
 
 -- ---- marks that are no entries
 

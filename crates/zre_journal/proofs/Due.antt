@@ -16,7 +16,7 @@ use Rattle.zre_journal.specs.Events.{chronicle, acts_after}
 use Rattle.zre_journal.specs.Happens.{has_stopped, marks, with_entry}
 use Rattle.zre_journal.specs.Links.{gate, taken}
 use Rattle.zre_journal.specs.Peers.{Life, lives}
-use Rattle.zre_journal.proofs.Joined.{continues}
+use Rattle.zre_journal.proofs.JoinedEntries.{continues}
 use Rattle.zre_journal.proofs.Known.{AreKnown, each_known}
 
 module _ (g : Config) (H : List Mark) where

@@ -25,12 +25,12 @@ use Rattle.zre_journal.specs.Proper.{IsProper}
 use Rattle.zre_journal.specs.Happens.{has_stopped, at_input}
 use Rattle.zre_journal.specs.Arrivals.{end_of_run, at_place, at_places}
 use Rattle.zre_journal.specs.LinkEntries.{cause_by_reply, end_by, answers, at_reply}
-use Rattle.zre_journal.proofs.Few.{none_kept, at_end, AtEnd, Front, Back}
+use Rattle.zre_journal.proofs.WithinCounts.{none_kept, at_end, AtEnd, Front, Back}
 use Rattle.zre_journal.proofs.Idle.{idle_stays}
-use Rattle.zre_journal.proofs.Joined.{after-append, in_turn-append}
-use Rattle.zre_journal.proofs.Listed.{some_is, any_of_append, any_left}
-use Rattle.zre_journal.proofs.Steps.{May, Allowed, step}
-use Rattle.zre_journal.proofs.Room.{Fits, AllFit}
+use Rattle.zre_journal.proofs.JoinedEntries.{after-append, in_turn-append}
+use Rattle.zre_journal.proofs.NumberedLists.{some_is, any_of_append, any_left}
+use Rattle.zre_journal.proofs.WhenMarksCome.{May, Allowed, step}
+use Rattle.zre_journal.proofs.WithinLimits.{Fits, AllFit}
 
 -- ---- connections that are live were so before
 

@@ -9,7 +9,7 @@ use Rattle.zre_msg.specs.declared.message.Body.{Body}
 use Rattle.zre_msg.specs.declared.message.Body.TheVariants.{Hello, Whisper, Shout, Join, Leave, Ping, PingOk, Other}
 use Rattle.zre_msg.specs.declared.message.Message.{Message}
 use Rattle.zre_msg.specs.Reading.{◌>>=◌, octet_at, count_at, octets_at, string_at, long_string_at, pair_at, each_at, strings_at, dictionary_at, hello_at, join_at, leave_at, shout_at, body_at, command_of, read_of, read_frames, bad_of, unless, no_command}
-use Rattle.zre_msg.proofs.Takes.{bind_some, some_is}
+use Rattle.zre_msg.proofs.ReadIsSpelled.{bind_some, some_is}
 use Rattle.zre_journal.specs.Held.{header_octets}
 
 -- the name, the endpoint and the headers that a body gives

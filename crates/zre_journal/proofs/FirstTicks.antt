@@ -27,13 +27,13 @@ use Rattle.zre_journal.specs.Pushes.{push}
 use Rattle.zre_journal.specs.Silence.{tells_expired, expires, has_expired, IsTickOf, IsFirstTick, GoesAt, silent_for, TellsSilence}
 use Rattle.zre_journal.specs.Ticks.{is_silent, is_evasive, is_stale, probe, at_tick}
 use Rattle.zre_journal.specs.Told.{told, told_at}
-use Rattle.zre_journal.proofs.Few.{none_kept}
-use Rattle.zre_journal.proofs.Joined.{continues}
+use Rattle.zre_journal.proofs.WithinCounts.{none_kept}
+use Rattle.zre_journal.proofs.JoinedEntries.{continues}
 use Rattle.zre_journal.proofs.Lawful.{ends_once}
-use Rattle.zre_journal.proofs.Listed.{All-join, All-map, found_passes}
-use Rattle.zre_journal.proofs.Mild.{Mild, is_tick, Kind, kind, mild_input}
+use Rattle.zre_journal.proofs.NumberedLists.{All-join, All-map, found_passes}
+use Rattle.zre_journal.proofs.WhichMarks.{Mild, is_tick, Kind, kind, mild_input}
 use Rattle.zre_journal.proofs.Silence.{gone, told_gone, not_told, none_ever, not_long, only_tick, Lasts, lasting_mark, only_any}
-use Rattle.zre_journal.proofs.Steps.{choice}
+use Rattle.zre_journal.proofs.WhenMarksCome.{choice}
 use Rattle.zre_journal.proofs.Ticking.{AreTicks, E, F, C, all_tick}
 use Rattle.zre_journal.proofs.Untold.{none_of_marks}
 

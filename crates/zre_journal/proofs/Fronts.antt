@@ -24,14 +24,14 @@ use Rattle.zre_journal.specs.Leaks.{Passage, Came, Did, passages_after, passages
 use Rattle.zre_journal.specs.LinkEntries.{at_unlinked}
 use Rattle.zre_journal.specs.Peers.{Life, lives, life}
 use Rattle.zre_journal.specs.Proper.{IsProper}
-use Rattle.zre_journal.proofs.Few.{IsWithin, within_more, are_few, kept-length}
+use Rattle.zre_journal.proofs.WithinCounts.{IsWithin, within_more, are_few, kept-length}
 use Rattle.zre_journal.proofs.Leaks.{key, offered, others_of, first_answers, conns_mark, links_next, conns_next, conns_on_entry, IsOf, of, more, same_acts, same_inputs, links_are, conns_are, each_link, each_conn}
-use Rattle.zre_journal.proofs.Listed.{All-map}
-use Rattle.zre_journal.proofs.Mild.{Mild, AreMild, Kind, kind, mild_input}
+use Rattle.zre_journal.proofs.NumberedLists.{All-map}
+use Rattle.zre_journal.proofs.WhichMarks.{Mild, AreMild, Kind, kind, mild_input}
 use Rattle.zre_journal.proofs.Passages.{links_by, links_but, links_with, links_acts, left_links, conns_by, conns_on, left_conns}
-use Rattle.zre_journal.proofs.Says.{input_allowed}
-use Rattle.zre_journal.proofs.Silent.{Comes-proper}
-use Rattle.zre_journal.proofs.Steps.{Each, Allowed, step, choice}
+use Rattle.zre_journal.proofs.SaidOnConnections.{input_allowed}
+use Rattle.zre_journal.proofs.ProperPeers.{Comes-proper}
+use Rattle.zre_journal.proofs.WhenMarksCome.{Each, Allowed, step, choice}
 
 -- a mark does one act at most
 one_act : (own : PeerId) (h : Mark) → (done_at own h ≡ []) ⊎ ((a : Act) × (done_at own h ≡ a ∷ []))

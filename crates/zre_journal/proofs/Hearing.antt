@@ -33,16 +33,16 @@ use Rattle.zre_journal.specs.Peers.{Life, lives, life_of, births, counted}
 use Rattle.zre_journal.specs.Proper.{IsProper}
 use Rattle.zre_journal.specs.Pushes.{birth}
 use Rattle.zre_journal.proofs.Faultless.{live_from}
-use Rattle.zre_journal.proofs.Joined.{after-append}
-use Rattle.zre_journal.proofs.Quiet.{Quiet, AreQuiet}
+use Rattle.zre_journal.proofs.JoinedEntries.{after-append}
+use Rattle.zre_journal.proofs.HeardUnchanged.{Quiet, AreQuiet}
 use Rattle.zre_journal.proofs.Standing.{none_open}
-use Rattle.zre_journal.proofs.Steps.{steps, choice}
-use Rattle.zre_journal.proofs.Silent.{has_started}
+use Rattle.zre_journal.proofs.WhenMarksCome.{steps, choice}
+use Rattle.zre_journal.proofs.ProperPeers.{has_started}
 use Rattle.zre_journal.proofs.Sayings.{MaySay}
-use Rattle.zre_journal.proofs.Brought.{Ground, silence, allowed, quiet}
-use Rattle.zre_journal.proofs.Says.{place_outcome, taken_over_brought, answer_brought}
-use Rattle.zre_journal.proofs.Brings.{all_brought}
-use Rattle.zre_journal.proofs.Kept.{run_known}
+use Rattle.zre_journal.proofs.EachMarkOfEntries.{Ground, silence, allowed, quiet}
+use Rattle.zre_journal.proofs.SaidOnConnections.{place_outcome, taken_over_brought, answer_brought}
+use Rattle.zre_journal.proofs.MarksOfEntries.{all_brought}
+use Rattle.zre_journal.proofs.ProperKept.{run_known}
 
 -- ---- what is said
 

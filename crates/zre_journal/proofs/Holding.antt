@@ -26,19 +26,19 @@ use Rattle.zre_journal.specs.Happens.{has_stopped, at_input, with_entry, chronic
 use Rattle.zre_journal.specs.Commands.{at_stop}
 use Rattle.zre_journal.specs.Events.{chronicle}
 use Rattle.zre_journal.specs.Proper.{IsProper}
-use Rattle.zre_journal.proofs.Always.{empty}
+use Rattle.zre_journal.proofs.ProperChronicles.{empty}
 use Rattle.zre_journal.proofs.Faultless.{names_conn, names_link, AreFaultless, faultless_after, bytes_stay, replies_stay, still_going, not_open, conn_ends, link_ends}
-use Rattle.zre_journal.proofs.Few.{are_few, kept-length}
+use Rattle.zre_journal.proofs.WithinCounts.{are_few, kept-length}
 use Rattle.zre_journal.proofs.Introduction.{small, fitting, introduces}
 use Rattle.zre_journal.proofs.Known.{each_known}
-use Rattle.zre_journal.proofs.Listed.{All-map}
-use Rattle.zre_journal.proofs.Room.{HasRoom, AllFit, room-after, room-empty, can_introduce}
-use Rattle.zre_journal.proofs.Steps.{Allowed, steps}
+use Rattle.zre_journal.proofs.NumberedLists.{All-map}
+use Rattle.zre_journal.proofs.WithinLimits.{HasRoom, AllFit, room-after, room-empty, can_introduce}
+use Rattle.zre_journal.proofs.WhenMarksCome.{Allowed, steps}
 use Rattle.zre_journal.proofs.Stopping.{at_end, stopped, stop-is, none_known, none_open, room-stopped}
 use Rattle.zre_journal.proofs.Streams.{unfinished-most}
-use Rattle.zre_journal.proofs.Viewed.{view-most}
-use Rattle.zre_journal.proofs.Says.{input_allowed, input_fits}
-use Rattle.zre_journal.proofs.Silent.{Comes-proper}
+use Rattle.zre_journal.proofs.ViewOctets.{view-most}
+use Rattle.zre_journal.proofs.SaidOnConnections.{input_allowed, input_fits}
+use Rattle.zre_journal.proofs.ProperPeers.{Comes-proper}
 
 -- what holds after each entry
 record IsSound (g : Config) (H : List Mark) : Type 0 where

@@ -31,18 +31,18 @@ use Rattle.zre_journal.specs.Heard.{bytes, was_opened, piece_of}
 use Rattle.zre_journal.specs.Peers.{Life, lives, life_of, counted}
 use Rattle.zre_journal.specs.Places.{is_piece, IsEntry, Arrives}
 use Rattle.zre_journal.specs.Proper.{IsProper}
-use Rattle.zre_journal.proofs.Always.{is_proper, comes_proper}
-use Rattle.zre_journal.proofs.Brings.{all_brought}
-use Rattle.zre_journal.proofs.Brought.{Ground, Brought, quiet}
-use Rattle.zre_journal.proofs.Joined.{after-append}
-use Rattle.zre_journal.proofs.Listed.{All-join}
+use Rattle.zre_journal.proofs.ProperChronicles.{is_proper, comes_proper}
+use Rattle.zre_journal.proofs.MarksOfEntries.{all_brought}
+use Rattle.zre_journal.proofs.EachMarkOfEntries.{Ground, Brought, quiet}
+use Rattle.zre_journal.proofs.JoinedEntries.{after-append}
+use Rattle.zre_journal.proofs.NumberedLists.{All-join}
 use Rattle.zre_journal.proofs.Places.{IsMoment, its_moment}
-use Rattle.zre_journal.proofs.Quiet.{Quiet, AreQuiet, is_of}
-use Rattle.zre_journal.proofs.Says.{place_outcome, places_outcome, input_quiet}
+use Rattle.zre_journal.proofs.HeardUnchanged.{Quiet, AreQuiet, is_of}
+use Rattle.zre_journal.proofs.SaidOnConnections.{place_outcome, places_outcome, input_quiet}
 use Rattle.zre_journal.proofs.Sayings.{MaySay, newly_fine}
-use Rattle.zre_journal.proofs.Silent.{Comes-proper}
-use Rattle.zre_journal.proofs.Steps.{Each, all_same, each_same, choice, all_end, all_taken, all_answer}
-use Rattle.zre_journal.proofs.Walk.{walk}
+use Rattle.zre_journal.proofs.ProperPeers.{Comes-proper}
+use Rattle.zre_journal.proofs.WhenMarksCome.{Each, all_same, each_same, choice, all_end, all_taken, all_answer}
+use Rattle.zre_journal.proofs.PlaceByPlace.{walk}
 
 -- ---- who is introduced by what is said
 

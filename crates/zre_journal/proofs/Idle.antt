@@ -14,8 +14,8 @@ use Rattle.zre_journal.specs.Peers.{Life, lives, life}
 use Rattle.zre_journal.specs.Proper.{IsProper}
 use Rattle.zre_journal.specs.Arrivals.{taken_over, end_of_run}
 use Rattle.zre_journal.proofs.Known.{end_all, ends_keep, same_id}
-use Rattle.zre_journal.proofs.Listed.{eqb-comm, found_passes, found_any, some_is, any_other, each_there, found_there}
-use Rattle.zre_journal.proofs.Silent.{has_started, run_known}
+use Rattle.zre_journal.proofs.NumberedLists.{eqb-comm, found_passes, found_any, some_is, any_other, each_there, found_there}
+use Rattle.zre_journal.proofs.ProperPeers.{has_started, run_known}
 
 -- ---- one that runs no peer runs none after marks that start nothing
 

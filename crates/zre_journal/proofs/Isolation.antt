@@ -34,19 +34,19 @@ use Rattle.zre_journal.specs.Peers.{Life, lives, life, life_of, births, counted}
 use Rattle.zre_journal.specs.Proper.{IsProper}
 use Rattle.zre_journal.specs.Pushes.{push}
 use Rattle.zre_journal.specs.Told.{told}
-use Rattle.zre_journal.proofs.Brings.{all_brought}
-use Rattle.zre_journal.proofs.Brought.{Ground, allowed}
-use Rattle.zre_journal.proofs.Few.{named}
+use Rattle.zre_journal.proofs.MarksOfEntries.{all_brought}
+use Rattle.zre_journal.proofs.EachMarkOfEntries.{Ground, allowed}
+use Rattle.zre_journal.proofs.WithinCounts.{named}
 use Rattle.zre_journal.proofs.Closing.{no_peer}
-use Rattle.zre_journal.proofs.Joined.{after-append, continues}
+use Rattle.zre_journal.proofs.JoinedEntries.{after-append, continues}
 use Rattle.zre_journal.proofs.Known.{known_of, same_id, id_of}
-use Rattle.zre_journal.proofs.Listed.{All-join, found_passes}
-use Rattle.zre_journal.proofs.Says.{place_outcome, input_allowed}
+use Rattle.zre_journal.proofs.NumberedLists.{All-join, found_passes}
+use Rattle.zre_journal.proofs.SaidOnConnections.{place_outcome, input_allowed}
 use Rattle.zre_journal.proofs.Sayings.{MaySay, newly_fine}
-use Rattle.zre_journal.proofs.Silent.{known_lives, has_started, run_is}
-use Rattle.zre_journal.proofs.Steps.{May, Allowed, steps, both, choice}
-use Rattle.zre_journal.proofs.Spared.{IsOff, Spares, AreSpared, marks_left, lives_left, itself_marks, none_told, Asked, asked_with, asked, itself}
-use Rattle.zre_journal.proofs.Always.{comes_proper}
+use Rattle.zre_journal.proofs.ProperPeers.{known_lives, has_started, run_is}
+use Rattle.zre_journal.proofs.WhenMarksCome.{May, Allowed, steps, both, choice}
+use Rattle.zre_journal.proofs.SparedPeers.{IsOff, Spares, AreSpared, marks_left, lives_left, itself_marks, none_told, Asked, asked_with, asked, itself}
+use Rattle.zre_journal.proofs.ProperChronicles.{comes_proper}
 use Rattle.zre_journal.proofs.Moments.{identity_on}
 
 -- ---- who a connection is stays

@@ -9,9 +9,9 @@ use Rattle.zre_journal.specs.Heard.{clock, opens, was_opened, piece_of, bytes}
 use Rattle.zre_journal.specs.Links.{links, is_linked, reply_of, replies}
 use Rattle.zre_journal.specs.Events.{chronicle}
 use Rattle.zre_journal.specs.Keeping.{entries, greatest, carried, Keeps}
-use Rattle.zre_journal.proofs.Going.{told_and_done}
+use Rattle.zre_journal.proofs.MarkByMark.{told_and_done}
 use Rattle.zre_journal.proofs.Standing.{either_or}
-use Rattle.zre_journal.proofs.Sound.{Sound}
+use Rattle.zre_journal.proofs.SoundMarks.{Sound}
 
 -- ---- the entries
 

@@ -9,7 +9,7 @@ use Rattle.zre_peer.specs.declared.causes.Cause.{Cause}
 use Rattle.zre_journal.specs.Chronicle.{Mark, Ends, Born, after}
 use Rattle.zre_journal.specs.Peers.{Life, lives, life, life_of, births, runner}
 use Rattle.zre_journal.specs.Proper.{IsProper, Apart}
-use Rattle.zre_journal.proofs.Listed.{eqb-comm, All-map, All-kept, others_find, found_passes}
+use Rattle.zre_journal.proofs.NumberedLists.{eqb-comm, All-map, All-kept, others_find, found_passes}
 use Rattle.zre_journal.specs.Connections.{open_ones}
 
 -- ---- lives, by number

@@ -13,10 +13,10 @@ use Rattle.zre_journal.specs.Peers.{life, runner, counted}
 use Rattle.zre_journal.specs.Events.{chronicle}
 use Rattle.zre_journal.specs.Proper.{IsProper}
 use Rattle.zre_journal.specs.Laws.{RunsAlone, AreStrangers, EndsOnce, counted_on, ShowsItsMessages}
-use Rattle.zre_journal.proofs.Always.{always, is_proper}
-use Rattle.zre_journal.proofs.Kept.{known_lives, has_started, run_known, run_is, runner_runs}
-use Rattle.zre_journal.proofs.Listed.{some_is}
-use Rattle.zre_journal.proofs.Steps.{May}
+use Rattle.zre_journal.proofs.ProperChronicles.{always, is_proper}
+use Rattle.zre_journal.proofs.ProperKept.{known_lives, has_started, run_known, run_is, runner_runs}
+use Rattle.zre_journal.proofs.NumberedLists.{some_is}
+use Rattle.zre_journal.proofs.WhenMarksCome.{May}
 
 -- ---- runs and identities
 

@@ -26,13 +26,13 @@ use Rattle.zre_journal.specs.Leaks.{Passage, Came, Did, input_of, act_of, passag
 use Rattle.zre_journal.specs.LinkEntries.{at_unlinked}
 use Rattle.zre_journal.specs.Peers.{Life, lives, life, other_lives}
 use Rattle.zre_journal.specs.Proper.{IsProper}
-use Rattle.zre_journal.proofs.Always.{is_proper}
+use Rattle.zre_journal.proofs.ProperChronicles.{is_proper}
 use Rattle.zre_journal.proofs.Closing.{leaves_nothing, are_paired}
-use Rattle.zre_journal.proofs.Joined.{continues}
-use Rattle.zre_journal.proofs.Listed.{none_any}
-use Rattle.zre_journal.proofs.Mild.{Mild, AreMild, IsMilder, Kind, kind, mild_input}
+use Rattle.zre_journal.proofs.JoinedEntries.{continues}
+use Rattle.zre_journal.proofs.NumberedLists.{none_any}
+use Rattle.zre_journal.proofs.WhichMarks.{Mild, AreMild, IsMilder, Kind, kind, mild_input}
 use Rattle.zre_journal.proofs.Passages.{links_by, links_but, links_with, links_acts, left_links, link_left, conns_by, conns_on, conns_acts, left_conns, conn_left}
-use Rattle.zre_journal.proofs.Steps.{choice}
+use Rattle.zre_journal.proofs.WhenMarksCome.{choice}
 
 -- ---- lists
 

@@ -9,8 +9,8 @@ use Rattle.zre_journal.specs.Connections.{identity}
 use Rattle.zre_journal.specs.Events.{chronicle}
 use Rattle.zre_journal.specs.Heard.{was_opened, opens}
 use Rattle.zre_journal.specs.Proper.{IsProper}
-use Rattle.zre_journal.proofs.Always.{empty, always}
-use Rattle.zre_journal.proofs.Steps.{May, step}
+use Rattle.zre_journal.proofs.ProperChronicles.{empty, always}
+use Rattle.zre_journal.proofs.WhenMarksCome.{May, step}
 
 -- ---- at each moment
 

@@ -28,12 +28,12 @@ use Rattle.zre_journal.specs.Peers.{Life, lives, life, life_of, is_entered, view
 use Rattle.zre_journal.specs.Proper.{IsProper}
 use Rattle.zre_journal.specs.Pushes.{push, push_all}
 use Rattle.zre_journal.specs.Told.{told, told_at, exit}
-use Rattle.zre_journal.proofs.Few.{AreNamed, named, none_kept}
+use Rattle.zre_journal.proofs.WithinCounts.{AreNamed, named, none_kept}
 use Rattle.zre_journal.proofs.Known.{known_of}
-use Rattle.zre_journal.proofs.Listed.{All-join}
-use Rattle.zre_journal.proofs.Steps.{choice}
+use Rattle.zre_journal.proofs.NumberedLists.{All-join}
+use Rattle.zre_journal.proofs.WhenMarksCome.{choice}
 use Rattle.zre_journal.proofs.Turns.{is_at, same_push, far_stays, absent, all_turns, some_turns, Meets, Same, Other, meets}
-use Rattle.zre_journal.proofs.Always.{comes_proper}
+use Rattle.zre_journal.proofs.ProperChronicles.{comes_proper}
 
 -- ---- on one link
 

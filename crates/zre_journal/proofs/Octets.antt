@@ -21,16 +21,16 @@ use Rattle.zre_journal.specs.Heard.{bytes, was_opened, piece_of, newly_completed
 use Rattle.zre_journal.specs.Hearing.{message_in, heard, RunsOnOctets}
 use Rattle.zre_journal.specs.Laws.{counted_on}
 use Rattle.zre_journal.specs.Proper.{IsProper}
-use Rattle.zre_journal.proofs.Always.{is_proper, comes_proper}
+use Rattle.zre_journal.proofs.ProperChronicles.{is_proper, comes_proper}
 use Rattle.zre_journal.proofs.Closing.{leaves_nothing}
-use Rattle.zre_journal.proofs.Going.{are_others}
+use Rattle.zre_journal.proofs.MarkByMark.{are_others}
 use Rattle.zre_journal.proofs.Hearing.{introduced, has_fault, spoken, Follows, quiet_steps, places_follow}
-use Rattle.zre_journal.proofs.Joined.{each_entry}
-use Rattle.zre_journal.proofs.Quiet.{Quiet, AreQuiet}
-use Rattle.zre_journal.proofs.Sound.{Sound, AreSound}
-use Rattle.zre_journal.proofs.Silent.{has_started, run_is}
-use Rattle.zre_journal.proofs.Says.{input_quiet, input_sound}
-use Rattle.zre_journal.proofs.Steps.{all_same, each_same}
+use Rattle.zre_journal.proofs.JoinedEntries.{each_entry}
+use Rattle.zre_journal.proofs.HeardUnchanged.{Quiet, AreQuiet}
+use Rattle.zre_journal.proofs.SoundMarks.{Sound, AreSound}
+use Rattle.zre_journal.proofs.ProperPeers.{has_started, run_is}
+use Rattle.zre_journal.proofs.SaidOnConnections.{input_quiet, input_sound}
+use Rattle.zre_journal.proofs.WhenMarksCome.{all_same, each_same}
 use Rattle.zre_journal.proofs.Sayings.{newly_fine}
 
 -- octets come with entries alone

@@ -33,10 +33,10 @@ use Rattle.zre_journal.specs.Links.{line, taken, gate, front, is_linked, replies
 use Rattle.zre_journal.specs.Outgoing.{text, gone_with, gone_after, gone, GoesOutInOrder}
 use Rattle.zre_journal.specs.Peers.{Life, lives, life}
 use Rattle.zre_journal.proofs.Closing.{leaves_nothing}
-use Rattle.zre_journal.proofs.Joined.{continues}
-use Rattle.zre_journal.proofs.Listed.{All-map}
-use Rattle.zre_journal.proofs.Mild.{Mild, Kind, kind, mild_input}
-use Rattle.zre_journal.proofs.Steps.{choice}
+use Rattle.zre_journal.proofs.JoinedEntries.{continues}
+use Rattle.zre_journal.proofs.NumberedLists.{All-map}
+use Rattle.zre_journal.proofs.WhichMarks.{Mild, Kind, kind, mild_input}
+use Rattle.zre_journal.proofs.WhenMarksCome.{choice}
 
 -- ---- a new link has the greeting and READY
 

@@ -14,7 +14,7 @@ use Rattle.zre_outside.specs.declared.entry.Input.TheVariants as input
 use Rattle.zre_journal.specs.Closing.{connected, ArePaired}
 use Rattle.zre_journal.specs.Connections.{others}
 use Rattle.zre_journal.specs.Leaks.{Passage, Came, Did, act_of, ends_link, links_left, ends_conn, is_answered, conns_left}
-use Rattle.zre_journal.proofs.Listed.{eqb-comm, All-map}
+use Rattle.zre_journal.proofs.NumberedLists.{eqb-comm, All-map}
 
 -- ---- numbers
 

@@ -24,13 +24,13 @@ use Rattle.zre_journal.specs.Told.{told_in, told_at, by_message, exit, becoming_
 use Rattle.zre_journal.specs.Events.{events, chronicle}
 use Rattle.zre_journal.specs.Proper.{IsProper}
 use Rattle.zre_journal.specs.Spoken.{subject, run_with, run_of, FollowsMessages}
-use Rattle.zre_journal.proofs.Always.{always}
-use Rattle.zre_journal.proofs.Few.{AreNamed, named_more, at_end, AtEnd, Front, Back, another, ids_apart}
-use Rattle.zre_journal.proofs.Kept.{known_lives, run_known}
+use Rattle.zre_journal.proofs.ProperChronicles.{always}
+use Rattle.zre_journal.proofs.WithinCounts.{AreNamed, named_more, at_end, AtEnd, Front, Back, another, ids_apart}
+use Rattle.zre_journal.proofs.ProperKept.{known_lives, run_known}
 use Rattle.zre_journal.proofs.Known.{life_stays}
 use Rattle.zre_journal.proofs.Lawful.{shows_messages}
-use Rattle.zre_journal.proofs.Listed.{some_is, eqb-comm}
-use Rattle.zre_journal.proofs.Steps.{May, step}
+use Rattle.zre_journal.proofs.NumberedLists.{some_is, eqb-comm}
+use Rattle.zre_journal.proofs.WhenMarksCome.{May, step}
 use Rattle.zre_journal.proofs.Telling.{events_are, first_is_hello}
 
 -- ---- what messages tell, with one more

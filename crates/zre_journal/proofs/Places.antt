@@ -22,19 +22,19 @@ use Rattle.zre_journal.specs.Ledger.{Ledger, IsDrawn, IsPlaced}
 use Rattle.zre_journal.specs.Peers.{runner, counted}
 use Rattle.zre_journal.specs.Places.{Arrives}
 use Rattle.zre_journal.specs.Proper.{IsProper}
-use Rattle.zre_journal.proofs.Always.{is_proper, after_marks, comes_proper}
-use Rattle.zre_journal.proofs.Brings.{all_brought}
-use Rattle.zre_journal.proofs.Brought.{Ground, allowed}
-use Rattle.zre_journal.proofs.Few.{AreNamed, named, named_more}
+use Rattle.zre_journal.proofs.ProperChronicles.{is_proper, after_marks, comes_proper}
+use Rattle.zre_journal.proofs.MarksOfEntries.{all_brought}
+use Rattle.zre_journal.proofs.EachMarkOfEntries.{Ground, allowed}
+use Rattle.zre_journal.proofs.WithinCounts.{AreNamed, named, named_more}
 use Rattle.zre_journal.proofs.Hearing.{spoken, Follows, places_follow}
-use Rattle.zre_journal.proofs.Joined.{continues, after-append, in_turn-append}
+use Rattle.zre_journal.proofs.JoinedEntries.{continues, after-append, in_turn-append}
 use Rattle.zre_journal.proofs.Lawful.{IsTold, told_more, told_of}
 use Rattle.zre_journal.proofs.Ledgers.{is_judged}
 use Rattle.zre_journal.proofs.Octets.{come, follows_octets}
-use Rattle.zre_journal.proofs.Says.{places_outcome}
+use Rattle.zre_journal.proofs.SaidOnConnections.{places_outcome}
 use Rattle.zre_journal.proofs.Sayings.{MaySay, newly_fine}
-use Rattle.zre_journal.proofs.Silent.{has_started, run_is}
-use Rattle.zre_journal.proofs.Steps.{Allowed, step}
+use Rattle.zre_journal.proofs.ProperPeers.{has_started, run_is}
+use Rattle.zre_journal.proofs.WhenMarksCome.{Allowed, step}
 
 -- ---- lists that only grow
 

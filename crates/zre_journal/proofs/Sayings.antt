@@ -26,7 +26,7 @@ use Rattle.zre_journal.specs.Connections.{identity}
 use Rattle.zre_zmtp.specs.declared.item.What.TheVariants as says
 use Rattle.zre_mailbox.specs.declared.arrival.Arrival.TheVariants as arrival
 use Rattle.zre_journal.proofs.Fields.{hello_octets, frames-short}
-use Rattle.zre_journal.proofs.Listed.{All-join, All-drop}
+use Rattle.zre_journal.proofs.NumberedLists.{All-join, All-drop}
 use Rattle.zre_journal.proofs.Streams.{IsWithin, AreWithin, items-within}
 
 -- ---- messages

@@ -53,9 +53,9 @@ use Rattle.zre_journal.specs.Pushes.{hello, push, push_all, birth}
 use Rattle.zre_journal.specs.Ticks.{is_silent, is_evasive, probe, is_stale, at_tick}
 use Rattle.zre_journal.proofs.Introduction.{CanIntroduce, introduces}
 use Rattle.zre_journal.proofs.Lines.{bodies_on}
-use Rattle.zre_journal.proofs.Listed.{All-append, All-without}
-use Rattle.zre_journal.proofs.Steps.{Each, both, choice}
-use Rattle.zre_journal.proofs.Walk.{walk}
+use Rattle.zre_journal.proofs.NumberedLists.{All-append, All-without}
+use Rattle.zre_journal.proofs.WhenMarksCome.{Each, both, choice}
+use Rattle.zre_journal.proofs.PlaceByPlace.{walk}
 
 -- ---- bodies
 

@@ -34,16 +34,16 @@ use Rattle.zre_journal.specs.Silence.{IsTold, tells_evasive, tells_expired, IsTi
 use Rattle.zre_journal.specs.Ticks.{is_silent, is_evasive, is_stale, probe, at_tick}
 use Rattle.zre_journal.specs.Told.{told, told_at, exit, becoming_evasive}
 use Rattle.zre_journal.proofs.Causes.{ends_by_table}
-use Rattle.zre_journal.proofs.Few.{AreNamed, named}
-use Rattle.zre_journal.proofs.Joined.{continues}
+use Rattle.zre_journal.proofs.WithinCounts.{AreNamed, named}
+use Rattle.zre_journal.proofs.JoinedEntries.{continues}
 use Rattle.zre_journal.proofs.Known.{known_of, same_id, id_of}
 use Rattle.zre_journal.proofs.Lawful.{ends_once}
-use Rattle.zre_journal.proofs.Listed.{eqb-comm, All-join, All-kept, All-map, found, All-both}
-use Rattle.zre_journal.proofs.Mild.{Mild, is_tick, Kind, kind, mild_input}
+use Rattle.zre_journal.proofs.NumberedLists.{eqb-comm, All-join, All-kept, All-map, found, All-both}
+use Rattle.zre_journal.proofs.WhichMarks.{Mild, is_tick, Kind, kind, mild_input}
 use Rattle.zre_journal.proofs.Turns.{dropped}
-use Rattle.zre_journal.proofs.Steps.{choice, all_push}
+use Rattle.zre_journal.proofs.WhenMarksCome.{choice, all_push}
 use Rattle.zre_journal.proofs.Ticking.{Ticks, AreTicks, E, F, C, all_tick, ended_there, told_there}
-use Rattle.zre_journal.proofs.Always.{comes_proper}
+use Rattle.zre_journal.proofs.ProperChronicles.{comes_proper}
 use Rattle.zre_journal.proofs.Untold.{IsOfMessage, none_of_marks, none_of_message}
 use Rattle.zre_peer.specs.declared.event.Event.{Event}
 

@@ -24,17 +24,17 @@ use Rattle.zre_journal.specs.Proper.{IsProper, Apart}
 use Rattle.zre_journal.specs.Pushes.{hello, push, push_all, birth}
 use Rattle.zre_journal.specs.Speaking.{moment}
 use Rattle.zre_journal.specs.Truth.{own_view, only_begins_with_hello}
-use Rattle.zre_journal.proofs.Always.{empty, marks_allowed}
-use Rattle.zre_journal.proofs.Brings.{pushed, Outcome, plainly, birth_of, start_of, joining, leaving, then, all_brought}
-use Rattle.zre_journal.proofs.Brought.{Ground, Plain, ArePlain, allowed, plain}
-use Rattle.zre_journal.proofs.Joined.{after-append}
+use Rattle.zre_journal.proofs.ProperChronicles.{empty, marks_allowed}
+use Rattle.zre_journal.proofs.MarksOfEntries.{pushed, Outcome, plainly, birth_of, start_of, joining, leaving, then, all_brought}
+use Rattle.zre_journal.proofs.EachMarkOfEntries.{Ground, Plain, ArePlain, allowed, plain}
+use Rattle.zre_journal.proofs.JoinedEntries.{after-append}
 use Rattle.zre_journal.proofs.Known.{each_known, newborn_known}
 use Rattle.zre_journal.proofs.Lines.{bodies_on, are_bodies}
-use Rattle.zre_journal.proofs.Listed.{All-map, eqb-comm}
-use Rattle.zre_journal.proofs.Says.{outcome}
-use Rattle.zre_journal.proofs.Silent.{Comes-proper}
-use Rattle.zre_journal.proofs.Steps.{May, Allowed, steps, choice}
-use Rattle.zre_journal.proofs.Truth.{told, once_more, once_less, apart_of, still_begins, told_more, Truth, plain_step, born, changes}
+use Rattle.zre_journal.proofs.NumberedLists.{All-map, eqb-comm}
+use Rattle.zre_journal.proofs.SaidOnConnections.{outcome}
+use Rattle.zre_journal.proofs.ProperPeers.{Comes-proper}
+use Rattle.zre_journal.proofs.WhenMarksCome.{May, Allowed, steps, choice}
+use Rattle.zre_journal.proofs.TrueOnLink.{told, once_more, once_less, apart_of, still_begins, told_more, Truth, plain_step, born, changes}
 
 module _ (g : Config) where
   pub record Spoke (H : List Mark) : Type 0 where

@@ -11,11 +11,11 @@ use Rattle.zre_journal.specs.Events.{chronicle}
 use Rattle.zre_journal.specs.Peers.{Life, lives, life, other_lives, births}
 use Rattle.zre_journal.specs.Proper.{IsProper}
 use Rattle.zre_journal.specs.Standing.{WasBorn, KnownIsBorn, has_closed, WasOpened, OpenIsOpened}
-use Rattle.zre_journal.proofs.Always.{always}
-use Rattle.zre_journal.proofs.Few.{AtEnd, Front, Back, at_end}
+use Rattle.zre_journal.proofs.ProperChronicles.{always}
+use Rattle.zre_journal.proofs.WithinCounts.{AtEnd, Front, Back, at_end}
 use Rattle.zre_journal.proofs.Known.{life_stays, newborn_known}
-use Rattle.zre_journal.proofs.Listed.{eqb-comm, found_before, any_append, any_of_append, any_left, any_other}
-use Rattle.zre_journal.proofs.Steps.{May}
+use Rattle.zre_journal.proofs.NumberedLists.{eqb-comm, found_before, any_append, any_of_append, any_left, any_other}
+use Rattle.zre_journal.proofs.WhenMarksCome.{May}
 
 pub either_or : (b c : Bool) → cond b true c ≡ false → (b ≡ false) × (c ≡ false)
 either_or true c e = cc

@@ -15,10 +15,10 @@ use Rattle.zre_journal.specs.Connections.{open_ones}
 use Rattle.zre_journal.specs.Peers.{Life, lives}
 use Rattle.zre_journal.specs.Happens.{at_input}
 use Rattle.zre_journal.specs.Commands.{at_stop}
-use Rattle.zre_journal.proofs.Joined.{after-append}
+use Rattle.zre_journal.proofs.JoinedEntries.{after-append}
 use Rattle.zre_journal.proofs.Known.{end_all, ends_keep, ends_open}
-use Rattle.zre_journal.proofs.Listed.{All-map}
-use Rattle.zre_journal.proofs.Room.{HasRoom}
+use Rattle.zre_journal.proofs.NumberedLists.{All-map}
+use Rattle.zre_journal.proofs.WithinLimits.{HasRoom}
 
 -- what comes about at an entry that stops the node
 pub at_end : (g : Config) (i : Input) (H K : List Mark) → is_end i ≡ true → at_input g i H K ≡ at_stop g K

@@ -10,12 +10,12 @@ use Rattle.zre_journal.specs.Chronicle.{Mark, Comes, after}
 use Rattle.zre_journal.specs.Events.{chronicle}
 use Rattle.zre_journal.specs.Happens.{has_stopped, at_input, with_entry, chronicle_after}
 use Rattle.zre_journal.specs.Proper.{IsProper}
-use Rattle.zre_journal.proofs.Always.{empty}
+use Rattle.zre_journal.proofs.ProperChronicles.{empty}
 use Rattle.zre_journal.proofs.Faultless.{still_going}
-use Rattle.zre_journal.proofs.Room.{HasRoom, AllFit, room-after, room-empty}
-use Rattle.zre_journal.proofs.Steps.{Allowed, steps}
-use Rattle.zre_journal.proofs.Says.{input_allowed, input_fits}
-use Rattle.zre_journal.proofs.Silent.{Comes-proper}
+use Rattle.zre_journal.proofs.WithinLimits.{HasRoom, AllFit, room-after, room-empty}
+use Rattle.zre_journal.proofs.WhenMarksCome.{Allowed, steps}
+use Rattle.zre_journal.proofs.SaidOnConnections.{input_allowed, input_fits}
+use Rattle.zre_journal.proofs.ProperPeers.{Comes-proper}
 
 module _ (g : Config) (can : CanBe g) where
   -- an entry that doesn't stop it leaves it going

@@ -38,12 +38,12 @@ use Rattle.zre_journal.specs.Proper.{IsProper}
 use Rattle.zre_journal.specs.Pushes.{birth, hello}
 use Rattle.zre_journal.specs.Tables.{closed_of, closed_in, closed_at, closed_said, ignored_of, ignored_in, ignored_new, ignored_first, ignored_said, born_of, born_in, born_by, born_at, born_new, born_first, born_said, evasive_of, evasive_in, evasive_at, TellsByTables}
 use Rattle.zre_journal.specs.Ticks.{is_evasive, is_stale, probe, at_tick}
-use Rattle.zre_journal.proofs.Few.{found_kept}
-use Rattle.zre_journal.proofs.Listed.{Apart-kept}
+use Rattle.zre_journal.proofs.WithinCounts.{found_kept}
+use Rattle.zre_journal.proofs.NumberedLists.{Apart-kept}
 use Rattle.zre_journal.proofs.Turns.{dropped}
-use Rattle.zre_journal.proofs.Steps.{choice}
-use Rattle.zre_journal.proofs.Bare.{AreBare, Reads, reads_closed, reads_ignored, reads_born, reads_evasive, bare_none, bare_then, either, bare_push, bare_run, bare_reply, bare_linked, bare_unlinked, bare_took, bare_stop, bare_command, bare_shut, probes_none, closes_none, tick_read, chosen, unshaken, shaken}
-use Rattle.zre_journal.proofs.Always.{comes_proper}
+use Rattle.zre_journal.proofs.WhenMarksCome.{choice}
+use Rattle.zre_journal.proofs.MarksInNoTable.{AreBare, Reads, reads_closed, reads_ignored, reads_born, reads_evasive, bare_none, bare_then, either, bare_push, bare_run, bare_reply, bare_linked, bare_unlinked, bare_took, bare_stop, bare_command, bare_shut, probes_none, closes_none, tick_read, chosen, unshaken, shaken}
+use Rattle.zre_journal.proofs.ProperChronicles.{comes_proper}
 
 -- ---- entries
 

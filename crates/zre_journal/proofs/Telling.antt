@@ -26,12 +26,12 @@ use Rattle.zre_journal.specs.Happens.{marks, with_entry, chronicle_after}
 use Rattle.zre_journal.specs.Events.{events_at, events_after, events, chronicle}
 use Rattle.zre_journal.specs.Proper.{IsProper}
 use Rattle.zre_journal.specs.Spoken.{subject, is_enter, in_after, is_in, has_entered, AreInTurn}
-use Rattle.zre_journal.proofs.Always.{always}
-use Rattle.zre_journal.proofs.Few.{AreNamed, named_more, found_kept, none_kept, none_end, another}
-use Rattle.zre_journal.proofs.Kept.{known_lives, run_known, run_is}
+use Rattle.zre_journal.proofs.ProperChronicles.{always}
+use Rattle.zre_journal.proofs.WithinCounts.{AreNamed, named_more, found_kept, none_kept, none_end, another}
+use Rattle.zre_journal.proofs.ProperKept.{known_lives, run_known, run_is}
 use Rattle.zre_journal.proofs.Known.{known_of, id_of, same_id, life_stays}
-use Rattle.zre_journal.proofs.Listed.{some_is, found_before, eqb-comm}
-use Rattle.zre_journal.proofs.Steps.{May, step}
+use Rattle.zre_journal.proofs.NumberedLists.{some_is, found_before, eqb-comm}
+use Rattle.zre_journal.proofs.WhenMarksCome.{May, step}
 
 -- ---- the events of a chronicle
 

@@ -19,10 +19,10 @@ use Rattle.zre_journal.specs.Pushes.{push}
 use Rattle.zre_journal.specs.Silence.{IsTold}
 use Rattle.zre_journal.specs.Ticks.{is_silent, is_evasive, is_stale, probe, at_tick}
 use Rattle.zre_journal.specs.Told.{told, exit}
-use Rattle.zre_journal.proofs.Joined.{after-append, told-append}
+use Rattle.zre_journal.proofs.JoinedEntries.{after-append, told-append}
 use Rattle.zre_journal.proofs.Known.{life_stays}
-use Rattle.zre_journal.proofs.Listed.{eqb-comm, All-join}
-use Rattle.zre_journal.proofs.Steps.{all_push}
+use Rattle.zre_journal.proofs.NumberedLists.{eqb-comm, All-join}
+use Rattle.zre_journal.proofs.WhenMarksCome.{all_push}
 
 -- ---- the marks of a tick
 

@@ -10,7 +10,7 @@ use Rattle.zre_journal.specs.Peers.{Life, lives, life, is_entered, runner}
 use Rattle.zre_journal.specs.Proper.{IsProper, Apart}
 use Rattle.zre_journal.specs.Ticks.{is_silent, is_evasive, is_stale}
 use Rattle.zre_peer.specs.declared.causes.Cause.TheVariants as cause
-use Rattle.zre_journal.proofs.Listed.{All-kept, Apart-kept, All-passing}
+use Rattle.zre_journal.proofs.NumberedLists.{All-kept, Apart-kept, All-passing}
 use Rattle.zre_journal.proofs.Known.{AreKnown, each_known, end_all, ends_known, kept_far, ends_run}
 use Rattle.zre_journal.proofs.Idle.{idle_after, AreNoStarts}
 

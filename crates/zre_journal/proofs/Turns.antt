@@ -15,10 +15,10 @@ use Rattle.zre_journal.specs.Links.{line, taken, unsent}
 use Rattle.zre_journal.specs.Peers.{Life, lives, life, life_of}
 use Rattle.zre_journal.specs.Proper.{IsProper, Apart}
 use Rattle.zre_journal.specs.Pushes.{push}
-use Rattle.zre_journal.proofs.Few.{AreNamed, found_kept, none_kept}
+use Rattle.zre_journal.proofs.WithinCounts.{AreNamed, found_kept, none_kept}
 use Rattle.zre_journal.proofs.Known.{known_of, same_id, id_of}
-use Rattle.zre_journal.proofs.Listed.{Apart-kept}
-use Rattle.zre_journal.proofs.Steps.{choice}
+use Rattle.zre_journal.proofs.NumberedLists.{Apart-kept}
+use Rattle.zre_journal.proofs.WhenMarksCome.{choice}
 
 abbrev pub is_at : ℕ → Life → Bool
 is_at l u = eqb l u.link

@@ -32,17 +32,17 @@ use Rattle.zre_journal.specs.Ledger.{Ledger, IsDrawn, IsNearWhereItComes, IsWith
 use Rattle.zre_journal.specs.Peers.{Life, lives, life_of, births, counted}
 use Rattle.zre_journal.specs.Places.{is_piece, IsEntry, Arrives}
 use Rattle.zre_journal.specs.Pushes.{birth}
-use Rattle.zre_journal.proofs.Brings.{all_brought}
-use Rattle.zre_journal.proofs.Brought.{Ground, quiet}
+use Rattle.zre_journal.proofs.MarksOfEntries.{all_brought}
+use Rattle.zre_journal.proofs.EachMarkOfEntries.{Ground, quiet}
 use Rattle.zre_journal.proofs.Ledgers.{keeps_ledger}
-use Rattle.zre_journal.proofs.Listed.{All-join}
+use Rattle.zre_journal.proofs.NumberedLists.{All-join}
 use Rattle.zre_journal.proofs.Places.{IsMoment, its_moment, is_placed}
-use Rattle.zre_journal.proofs.Quiet.{Quiet, AreQuiet, is_of}
-use Rattle.zre_journal.proofs.Says.{unused, place_outcome, input_quiet}
-use Rattle.zre_journal.proofs.Silent.{run_is}
-use Rattle.zre_journal.proofs.Steps.{all_same, choice, all_end, all_taken, all_answer}
-use Rattle.zre_journal.proofs.Walk.{walk}
-use Rattle.zre_journal.proofs.Always.{comes_proper}
+use Rattle.zre_journal.proofs.HeardUnchanged.{Quiet, AreQuiet, is_of}
+use Rattle.zre_journal.proofs.SaidOnConnections.{unused, place_outcome, input_quiet}
+use Rattle.zre_journal.proofs.ProperPeers.{run_is}
+use Rattle.zre_journal.proofs.WhenMarksCome.{all_same, choice, all_end, all_taken, all_answer}
+use Rattle.zre_journal.proofs.PlaceByPlace.{walk}
+use Rattle.zre_journal.proofs.ProperChronicles.{comes_proper}
 
 -- ---- marks that count nothing on a connection
 

@@ -1,4 +1,4 @@
-pub mod After
+pub mod RepliesKept
 pub mod Answering
 pub mod Bodies
 pub mod Fronts

@@ -207,7 +207,7 @@ impl Link {
         self.reply_from::<Brand>(piece, Blank::new(1))
     }
 
-    /// The same, and looks are counted, as a reader counts them.
+    /// Takes a piece of replies as `reply` does, and counts looks as a reader counts them.
     pub fn reply_counted<L: Ledger>(
         &mut self,
         piece: &[u8],
@@ -241,7 +241,7 @@ impl Link {
         }
     }
 
-    // The same for a caller that counts nothing.
+    // `reply_counted` with a counter of its own, for a caller that counts nothing.
     fn reply_from<L: Ledger>(&mut self, piece: &[u8], blank: Blank) -> Result<(), ReplyFault>
         // A count can begin, and the link stands.
         requires blank { IsOpenTo L.name L.parts blank.name blank.parts }

@@ -46,10 +46,12 @@ impl Model for Queue {
 
 // Makes the newest part one of those before it, and room for one more.
 fn close(parts: &mut VecDeque<Bytes>, newest: &mut BytesMut) -> Result<(), OutOfMemory>
+    // What a call that is done gives.
     ensures ok { OnOk result ((newest.new.items ≡ [])
         × (concat parts.new.items ≡ concat parts.old.items ++ newest.old.items)) }
     ensures room { OnOk result (deque_len parts.new < deque_capacity parts.new) }
     ensures some { All HasOctets parts.old.items → All HasOctets parts.new.items }
+    // What a refusal tells, and what it leaves.
     ensures err { OnErr result ((newest.new.items ≡ newest.old.items) × (parts.new.items ≡ parts.old.items)) }
 {
     parts.reserve(2)?;

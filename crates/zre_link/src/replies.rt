@@ -47,13 +47,16 @@ impl Awaits {
         steps: &mut Steps<L>,
     ) -> Result<(), FeedFault>
         requires { out.old ≡ [] }
+        // What the piece brings.
         ensures ok { (o : List ℕ) → IsAfter Router Whole o reader.old → expected_of self.old ≡ awaited o →
             OnOk result (IsAfter Router Whole (o ++ piece.now) reader.new
             × (expected_of self.new ≡ awaited (o ++ piece.now))
             × (contexts_in out.new ≡ new_pings o piece.now)) }
+        // What a refusal tells, and what it leaves.
         ensures refused { (o : List ℕ) → IsAfter Router Whole o reader.old → expected_of self.old ≡ awaited o →
             IfErr result (λ e. Refuses e (reply_fault (o ++ piece.now))
             ((expected_of self.new ≡ awaited (o ++ piece.now)) × (contexts_in out.new ≡ new_pings o piece.now))) }
+        // How many octets are looked at.
         ensures looks { Looks steps.old steps.new (kept reader.old) (kept reader.new) (length piece.now) result }
     {
         if reader.spent() {

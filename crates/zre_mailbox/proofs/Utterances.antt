@@ -30,7 +30,7 @@ use Rattle.zre_zmtp.specs.Shown.{Advances, header_fault, frame_item, frame_after
 use Rattle.zre_zmtp.specs.Stream.{Before, Whole, Parts, before, expected, split, cut, items, items_of, item, fault, fault_of, frame_fault, frame_why, greeting_fault, part_len, once, flags_fault, size_fault, body_fault, command_fault, is_error, is_ready, awaits_ready, has_socket, has_identity, is_value, is_other, opened_by, said, start_of}
 use Rattle.zre_zmtp.specs.Written.{own_greeting, ready_body, ready_frame}
 use Rattle.zre_zmtp.proofs.Cuts.{cut-none, split-more}
-use Rattle.zre_zmtp.proofs.Exact.{part-fault}
+use Rattle.zre_zmtp.proofs.WholeFrames.{part-fault}
 use Rattle.zre_zmtp.proofs.Feeding.{Follows, follows, fault-follows, is_over}
 use Rattle.zre_zmtp.proofs.Framed.{is_framed, IsFramed, fault-frame}
 use Rattle.zre_zmtp.proofs.Handshakes.{IsReadyBody, handshake_is_read}

@@ -61,9 +61,12 @@ impl Conn {
     /// without a good identity is one. After a refusal the connection is spent, and keeps nothing; after OutOfMemory
     /// what was appended is left open.
     pub fn feed(&mut self, piece: &[u8], out: &mut Arrivals) -> Result<(), FeedFault>
+        // What a caller knows.
         requires heard { is_ignored self.old ≡ false }
         requires unspent { is_spent self.old ≡ false }
+        // What the piece brings.
         ensures ok { HearsOn result self.old self.new piece.now out.old out.new }
+        // What a refusal tells, and what it leaves.
         ensures refused { RefusesToHear result self.old self.new piece.now out.old out.new }
         ensures spent { is_spent self.new ≡ is_err result }
         ensures heard { is_ignored self.new ≡ false }
@@ -71,19 +74,23 @@ impl Conn {
         self.feed_from::<Brand>(piece, out, Blank::new(1))
     }
 
-    /// The same, and looks are counted, as a reader counts them.
+    /// Reads a piece as `feed` does, and counts looks as a reader counts them.
     pub fn feed_counted<L: Ledger>(
         &mut self,
         piece: &[u8],
         out: &mut Arrivals,
         steps: &mut Steps<L>,
     ) -> Result<(), FeedFault>
+        // What a caller knows.
         requires heard { is_ignored self.old ≡ false }
         requires unspent { is_spent self.old ≡ false }
+        // What the piece brings.
         ensures ok { HearsOn result self.old self.new piece.now out.old out.new }
+        // What a refusal tells, and what it leaves.
         ensures refused { RefusesToHear result self.old self.new piece.now out.old out.new }
         ensures spent { is_spent self.new ≡ is_err result }
         ensures heard { is_ignored self.new ≡ false }
+        // How many octets are looked at.
         ensures looks { Looks steps.old steps.new (kept_of self.old) (kept_of self.new) (length piece.now) result }
     {
         let mut items = Items::new(self.alloc);
@@ -97,7 +104,7 @@ impl Conn {
         }
     }
 
-    /// The same with the items that become whole in place of what arrives with them, which
+    /// Reads a piece as `feed` does, and gives the items that become whole in place of what arrives with them, which
     /// [`arrival_of`](crate::arrival_of) tells of each. A list that is cleared serves again and again.
     pub fn feed_items<L: Ledger>(
         &mut self,
@@ -105,19 +112,23 @@ impl Conn {
         items: &mut Items,
         steps: &mut Steps<L>,
     ) -> Result<(), FeedFault>
+        // What a caller knows.
         requires heard { is_ignored self.old ≡ false }
         requires unspent { is_spent self.old ≡ false }
         requires empty { items.old ≡ [] }
+        // What the piece brings.
         ensures ok { (own : PeerIdValue) (o : List ℕ) → self.old ≡ conn_after own o →
             OnOk result ((fault_in own (o ++ piece.now) ≡ None)
             × Adds (Dealer own) Whole o piece.now items.old items.new
             × Hears own o piece.now self.new [] (arrivals_in items.new)) }
+        // What a refusal tells, and what it leaves.
         ensures refused { (own : PeerIdValue) (o : List ℕ) → self.old ≡ conn_after own o →
             IfErr result (λ e. Refuses e (fault_in own (o ++ piece.now))
             (Adds (Dealer own) Whole o piece.now items.old items.new
             × Hears own o piece.now self.new [] (arrivals_in items.new))) }
         ensures spent { is_spent self.new ≡ is_err result }
         ensures heard { is_ignored self.new ≡ false }
+        // How many octets are looked at.
         ensures looks { Looks steps.old steps.new (kept_of self.old) (kept_of self.new) (length piece.now) result }
     {
         let Phase::Live(reader) = &mut self.phase else {
@@ -141,17 +152,20 @@ impl Conn {
         self.phase = Phase::Spent;
     }
 
-    // The same for a caller that counts nothing.
+    // `feed_counted` with a counter of its own, for a caller that counts nothing.
     fn feed_from<L: Ledger>(
         &mut self,
         piece: &[u8],
         out: &mut Arrivals,
         blank: Blank,
     ) -> Result<(), FeedFault>
+        // What a caller knows.
         requires blank { IsOpenTo L.name L.parts blank.name blank.parts }
         requires heard { is_ignored self.old ≡ false }
         requires unspent { is_spent self.old ≡ false }
+        // What the piece brings.
         ensures ok { HearsOn result self.old self.new piece.now out.old out.new }
+        // What a refusal tells, and what it leaves.
         ensures refused { RefusesToHear result self.old self.new piece.now out.old out.new }
         ensures spent { is_spent self.new ≡ is_err result }
         ensures heard { is_ignored self.new ≡ false }

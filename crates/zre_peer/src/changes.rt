@@ -202,7 +202,7 @@ impl View {
         }
     }
 
-    /// The same of a message that lies in its frames: its group and its content are copied once, into the event.
+    /// Takes a message after HELLO that lies in its frames: its group and its content are copied once, into the event.
     pub(crate) fn change_by_lent(
         &mut self,
         alloc: Global,

@@ -74,7 +74,7 @@ impl Headers {
         Ok(())
     }
 
-    /// The same list, in memory of its own.
+    /// The headers as pairs, in memory of their own.
     pub fn to_pairs(&self, alloc: Global) -> Result<Pairs, OutOfMemory>
         ensures { IfOk result (λ pairs. pairs ≡ self.now) }
     {

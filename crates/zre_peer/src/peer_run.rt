@@ -146,7 +146,7 @@ impl View {
         self.change(alloc, id, &mut message.body, events)
     }
 
-    // The same of a message that lies in its frames.
+    // A message after HELLO that lies in its frames: it is counted and changes the view, or is refused.
     #[tactic(auto, using(crate::proofs::Named::lent_is_later))]
     fn later_lent(
         &mut self,
@@ -170,7 +170,7 @@ impl View {
         self.change_by_lent(alloc, id, lent, events)
     }
 
-    // The same, with the lines of the events, which begin with `heads`.
+    // A message after HELLO that lies in its frames, with the lines of its events, which begin with `heads`.
     #[tactic(auto, using(crate::proofs::Named::lent_is_later))]
     fn tell_later(
         &mut self,
@@ -267,7 +267,7 @@ impl Run {
         Ok(events)
     }
 
-    /// The same, with the events appended to a list. After `OutOfMemory` some of them may stand there.
+    /// Takes the next message and appends its events to a list. After `OutOfMemory` some of them may stand there.
     pub fn take(&mut self, mut message: Message, events: &mut Events) -> Result<(), RunFault>
         requires { is_spent self.old ≡ false }
         // It is the next one: its events, and the view of a HELLO.
@@ -292,7 +292,7 @@ impl Run {
         taken
     }
 
-    /// The same, with what the message holds taken out of it.
+    /// Takes the next message as `take` does; what the message holds is taken out of it.
     pub(crate) fn take_from(
         &mut self,
         message: &mut Message,
@@ -342,8 +342,7 @@ impl Run {
         }
     }
 
-    /// The same for a message after HELLO that lies in its frames: its fields and its content are copied once, into its
-    /// event.
+    /// Takes a message after HELLO that lies in its frames: its fields and its content are copied once, into its event.
     pub fn take_lent(&mut self, lent: &LentMessage<'_>, events: &mut Events) -> Result<(), RunFault>
         requires going { is_spent self.old ≡ false }
         requires later { is_some (view_in self.old) ≡ true }
@@ -379,8 +378,8 @@ impl Run {
         }
     }
 
-    /// The same, with the lines of its events appended to a text;
-    /// they begin with `heads`. After `OutOfMemory` a front of them may stand there.
+    /// Takes a message after HELLO that lies in its frames, and appends the lines of its events to a text; they begin
+    /// with `heads`. After `OutOfMemory` a front of them may stand there.
     pub(crate) fn tell(
         &mut self,
         lent: &LentMessage<'_>,

@@ -119,7 +119,7 @@ impl Teller {
         self.run.view().is_some()
     }
 
-    /// The same for a message after HELLO, of which the run keeps nothing.
+    /// Takes a message after HELLO, of which the run keeps nothing, and appends the lines of its events.
     pub fn take_later(&mut self, message: &Message, out: &mut Octets) -> Result<(), RunFault>
         // HELLO was taken, and nothing refused.
         requires going { is_spent self.old ≡ false }
@@ -139,7 +139,7 @@ impl Teller {
         }
     }
 
-    /// The same for a message that lies in its frames.
+    /// Takes a message after HELLO that lies in its frames, and appends the lines of its events.
     pub fn take_lent(&mut self, lent: &LentMessage<'_>, out: &mut Octets) -> Result<(), RunFault>
         // HELLO was taken, and nothing refused.
         requires going { is_spent self.old ≡ false }

@@ -1,4 +1,4 @@
-use Rattle.zre_journal.proofs.Truly.{spoke_truly}
+use Rattle.zre_journal.proofs.SaidOnLinks.{spoke_truly}
 use Rattle.zre_journal.proofs.laws.a_node_spoke_truly.Goals as goal
 
 pub returns : goal.returns

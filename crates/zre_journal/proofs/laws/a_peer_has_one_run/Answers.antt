@@ -1,5 +1,5 @@
 use Rattle.zre_journal.specs.Events.{chronicle}
-use Rattle.zre_journal.proofs.Always.{is_proper}
+use Rattle.zre_journal.proofs.ProperChronicles.{is_proper}
 use Rattle.zre_journal.proofs.Lawful.{runs_alone}
 use Rattle.zre_journal.proofs.laws.a_peer_has_one_run.Goals as goal
 

@@ -1,4 +1,4 @@
-use Rattle.zre_journal.proofs.Joined.{ends}
+use Rattle.zre_journal.proofs.JoinedEntries.{ends}
 use Rattle.zre_journal.proofs.laws.a_stop_is_the_end.Goals as goal
 
 pub returns : goal.returns

@@ -1,4 +1,4 @@
-use Rattle.zre_journal.proofs.Always.{is_proper}
+use Rattle.zre_journal.proofs.ProperChronicles.{is_proper}
 use Rattle.zre_journal.proofs.laws.journals_are_proper.Goals as goal
 
 pub returns : goal.returns

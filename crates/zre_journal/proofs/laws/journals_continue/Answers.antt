@@ -1,4 +1,4 @@
-use Rattle.zre_journal.proofs.Joined.{continues}
+use Rattle.zre_journal.proofs.JoinedEntries.{continues}
 use Rattle.zre_journal.proofs.laws.journals_continue.Goals as goal
 
 pub returns : goal.returns

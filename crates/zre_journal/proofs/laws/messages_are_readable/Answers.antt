@@ -1,4 +1,4 @@
-use Rattle.zre_journal.proofs.Truly.{are_readable}
+use Rattle.zre_journal.proofs.SaidOnLinks.{are_readable}
 use Rattle.zre_journal.proofs.laws.messages_are_readable.Goals as goal
 
 pub returns : goal.returns

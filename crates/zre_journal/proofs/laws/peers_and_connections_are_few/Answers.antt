@@ -1,4 +1,4 @@
-use Rattle.zre_journal.proofs.Few.{are_few}
+use Rattle.zre_journal.proofs.WithinCounts.{are_few}
 use Rattle.zre_journal.proofs.laws.peers_and_connections_are_few.Goals as goal
 
 pub returns : goal.returns

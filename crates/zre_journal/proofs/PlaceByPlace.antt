@@ -11,7 +11,7 @@ use Rattle.zre_journal.specs.Events.{chronicle}
 use Rattle.zre_journal.specs.Happens.{has_stopped, at_input, with_entry}
 use Rattle.zre_journal.specs.Heard.{newly_completed}
 use Rattle.zre_journal.specs.Places.{is_piece, IsEntry, Arrives}
-use Rattle.zre_journal.proofs.Joined.{continues, after-append, in_turn-append}
+use Rattle.zre_journal.proofs.JoinedEntries.{continues, after-append, in_turn-append}
 
 module _ (g : Config) (J : List Entry) (P : List Mark → Type 0) (come : (H : List Mark) (e : Entry) → P H → P (Comes e ∷ H))
     (whole : (earlier : List Entry) (e : Entry) (later : List Entry) → IsEntry g J earlier e later → is_piece e.input ≡ false

@@ -18,10 +18,10 @@ use Rattle.zre_journal.specs.Links.{groups, status, line, is_linked, replies, ta
 use Rattle.zre_journal.specs.Peers.{Life, lives, life, life_of, runner, is_entered, counted, view, active}
 use Rattle.zre_journal.specs.Proper.{IsProper}
 use Rattle.zre_journal.specs.Told.{told, told_at, exit, by_message}
-use Rattle.zre_journal.proofs.Few.{AreNamed, named_more, found_kept, none_kept}
+use Rattle.zre_journal.proofs.WithinCounts.{AreNamed, named_more, found_kept, none_kept}
 use Rattle.zre_journal.proofs.Known.{same_id}
-use Rattle.zre_journal.proofs.Listed.{found_passes}
-use Rattle.zre_journal.proofs.Steps.{Allowed, step}
+use Rattle.zre_journal.proofs.NumberedLists.{found_passes}
+use Rattle.zre_journal.proofs.WhenMarksCome.{Allowed, step}
 use Rattle.zre_link.specs.Text.{Member}
 
 -- a link that isn't that of this life

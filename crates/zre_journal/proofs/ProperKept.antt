@@ -16,9 +16,9 @@ use Rattle.zre_journal.specs.Heard.{was_opened}
 use Rattle.zre_journal.specs.Connections.{open_ones, is_open, is_new, identity, started, has_ended, runs, other_with, is_same, others}
 use Rattle.zre_journal.specs.Peers.{Life, lives, births, life, runner, counted, other_lives}
 use Rattle.zre_journal.specs.Proper.{IsProper, AreOpen, AreRuns, IsUnused, IsUnheard}
-use Rattle.zre_journal.proofs.Listed.{eqb-comm, some_is, All-kept, All-append, All-map, found_before, Apart-append, Apart-kept, others_find, any_append, any_of_append, any_left, any_other}
-use Rattle.zre_journal.proofs.Silent.{living_still, opening_still}
-pub use Rattle.zre_journal.proofs.Silent.{known_lives, open_is_old, has_started, run_known, run_is, runner_runs, HearsBeacon-proper, Greets-proper, AnswersPing-proper, IsEvasive-proper, Joins-proper, Leaves-proper, Refuses-proper, SendsBeacon-proper, Stops-proper, Comes-proper, Puts-proper, PutsPong-proper, Links-proper, Sends-proper}
+use Rattle.zre_journal.proofs.NumberedLists.{eqb-comm, some_is, All-kept, All-append, All-map, found_before, Apart-append, Apart-kept, others_find, any_append, any_of_append, any_left, any_other}
+use Rattle.zre_journal.proofs.ProperPeers.{living_still, opening_still}
+pub use Rattle.zre_journal.proofs.ProperPeers.{known_lives, open_is_old, has_started, run_known, run_is, runner_runs, HearsBeacon-proper, Greets-proper, AnswersPing-proper, IsEvasive-proper, Joins-proper, Leaves-proper, Refuses-proper, SendsBeacon-proper, Stops-proper, Comes-proper, Puts-proper, PutsPong-proper, Links-proper, Sends-proper}
 
 -- ---- an end
 

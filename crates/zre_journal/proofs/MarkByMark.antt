@@ -17,16 +17,16 @@ use Rattle.zre_journal.specs.Happens.{has_stopped, at_input, with_entry, chronic
 use Rattle.zre_journal.specs.Peers.{Life, lives}
 use Rattle.zre_journal.specs.Proper.{IsProper}
 use Rattle.zre_journal.specs.Told.{told, told_at}
-use Rattle.zre_journal.proofs.Always.{empty}
-use Rattle.zre_journal.proofs.Joined.{after-append, told-append, done-append}
+use Rattle.zre_journal.proofs.ProperChronicles.{empty}
+use Rattle.zre_journal.proofs.JoinedEntries.{after-append, told-append, done-append}
 use Rattle.zre_journal.proofs.Known.{end_all}
-use Rattle.zre_journal.proofs.Sound.{Sound, AreSound, AreOthers, others_more, others_after}
-use Rattle.zre_journal.proofs.Steps.{May, Allowed, step, steps, Each}
+use Rattle.zre_journal.proofs.SoundMarks.{Sound, AreSound, AreOthers, others_more, others_after}
+use Rattle.zre_journal.proofs.WhenMarksCome.{May, Allowed, step, steps, Each}
 use Rattle.zre_journal.proofs.Stopping.{at_end, none_known, none_open}
-use Rattle.zre_journal.proofs.Says.{input_allowed, input_sound}
-use Rattle.zre_journal.proofs.Silent.{Comes-proper}
-use Rattle.zre_journal.proofs.Brought.{Brought, silence, allowed, sound}
-use Rattle.zre_journal.proofs.Brings.{stop_brought}
+use Rattle.zre_journal.proofs.SaidOnConnections.{input_allowed, input_sound}
+use Rattle.zre_journal.proofs.ProperPeers.{Comes-proper}
+use Rattle.zre_journal.proofs.EachMarkOfEntries.{Brought, silence, allowed, sound}
+use Rattle.zre_journal.proofs.MarksOfEntries.{stop_brought}
 
 -- the marks of a stop, but for the stop itself
 abbrev until_stop : List Mark → List Mark

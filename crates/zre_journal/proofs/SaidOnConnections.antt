@@ -33,16 +33,16 @@ use Rattle.zre_peer.specs.declared.causes.Cause.TheVariants as cause
 use Rattle.zre_peer.specs.declared.causes.CloseWhy.TheVariants as close
 use Rattle.zre_peer.specs.declared.causes.IgnoreWhy.TheVariants as ignore
 use Rattle.zre_outside.specs.declared.entry.Input.TheVariants as input
-use Rattle.zre_journal.proofs.Kept.{known_lives, run_known}
+use Rattle.zre_journal.proofs.ProperKept.{known_lives, run_known}
 use Rattle.zre_journal.proofs.Known.{known_of, id_of, newborn_known}
 use Rattle.zre_journal.proofs.Idle.{gave_way, other_open}
-use Rattle.zre_journal.proofs.Steps.{MayStart, Allowed, steps, Each, both, choice}
-use Rattle.zre_journal.proofs.Room.{HasRoom, AllFit}
-use Rattle.zre_journal.proofs.Sound.{AreSound, AreOthers}
-use Rattle.zre_journal.proofs.Quiet.{AreQuiet, is_of}
+use Rattle.zre_journal.proofs.WhenMarksCome.{MayStart, Allowed, steps, Each, both, choice}
+use Rattle.zre_journal.proofs.WithinLimits.{HasRoom, AllFit}
+use Rattle.zre_journal.proofs.SoundMarks.{AreSound, AreOthers}
+use Rattle.zre_journal.proofs.HeardUnchanged.{AreQuiet, is_of}
 use Rattle.zre_journal.proofs.Fields.{hello_octets}
-use Rattle.zre_journal.proofs.Brought.{Ground, Brought, allowed, sound, fit, quiet}
-use Rattle.zre_journal.proofs.Brings.{push_brought, run_and, tick_brought, Outcome, plainly, start_of, then, all_brought, nothing, one, birth_brought, datagram_outcome, opened_outcome, shut_outcome, linked_outcome, reply_outcome, unlinked_outcome, took_outcome, command_outcome, stop_outcome, ground}
+use Rattle.zre_journal.proofs.EachMarkOfEntries.{Ground, Brought, allowed, sound, fit, quiet}
+use Rattle.zre_journal.proofs.MarksOfEntries.{push_brought, run_and, tick_brought, Outcome, plainly, start_of, then, all_brought, nothing, one, birth_brought, datagram_outcome, opened_outcome, shut_outcome, linked_outcome, reply_outcome, unlinked_outcome, took_outcome, command_outcome, stop_outcome, ground}
 use Rattle.zre_journal.proofs.Sayings.{MaySay, newly_fine}
 
 -- one that runs no peer and isn't ignored was not refused, and has started none

@@ -24,11 +24,11 @@ use Rattle.zre_journal.specs.Peers.{Life, life, lives}
 use Rattle.zre_journal.specs.Links.{replies, reply_of, is_linked}
 use Rattle.zre_journal.specs.Happens.{at_input}
 use Rattle.zre_journal.specs.Proper.{IsProper, Apart}
-use Rattle.zre_journal.proofs.Listed.{eqb-comm}
-use Rattle.zre_journal.proofs.Steps.{step, Each}
-use Rattle.zre_journal.proofs.Brought.{Ground, Brought}
-use Rattle.zre_journal.proofs.Brings.{all_brought, ground}
-use Rattle.zre_journal.proofs.Says.{outcome}
+use Rattle.zre_journal.proofs.NumberedLists.{eqb-comm}
+use Rattle.zre_journal.proofs.WhenMarksCome.{step, Each}
+use Rattle.zre_journal.proofs.EachMarkOfEntries.{Ground, Brought}
+use Rattle.zre_journal.proofs.MarksOfEntries.{all_brought, ground}
+use Rattle.zre_journal.proofs.SaidOnConnections.{outcome}
 
 -- ---- nothing has come
 

@@ -8,7 +8,7 @@ use Rattle.zre_journal.specs.Chronicle.{Mark, Comes, Greets, AnswersPing, HearsB
 use Rattle.zre_journal.specs.Connections.{open_ones, is_open, is_new, started, has_ended, runs}
 use Rattle.zre_journal.specs.Peers.{Life, lives, births, life, runner}
 use Rattle.zre_journal.specs.Proper.{IsProper, AreLives, IsUnused, AreOpen, IsUnheard}
-use Rattle.zre_journal.proofs.Listed.{found, found_passes, any_has}
+use Rattle.zre_journal.proofs.NumberedLists.{found, found_passes, any_has}
 use Rattle.zre_journal.specs.Heard.{was_opened}
 
 -- ---- known peers and connections

@@ -7,7 +7,7 @@ use Rattle.zre_values.specs.declared.settings.Settings.{Settings as Config}
 use Rattle.zre_journal.specs.Chronicle.{Mark, Comes, TurnsAway, Shakes, Closes, IsShut, ClosesAtStop, Born, Links, Stops, after}
 use Rattle.zre_journal.specs.Connections.{is_open, is_new, identity}
 use Rattle.zre_journal.specs.Links.{is_linked}
-use Rattle.zre_journal.proofs.Steps.{Each}
+use Rattle.zre_journal.proofs.WhenMarksCome.{Each}
 
 module _ (g : Config) where
   abbrev pub IsOther : PeerId → Type 0

@@ -21,9 +21,9 @@ use Rattle.zre_journal.specs.Links.{groups, line, taken, unsent}
 use Rattle.zre_journal.specs.Proper.{IsProper}
 use Rattle.zre_journal.proofs.Fields.{hello_octets}
 use Rattle.zre_journal.proofs.Introduction.{CanIntroduce, new-short}
-use Rattle.zre_journal.proofs.Listed.{All-append, All-without}
-use Rattle.zre_journal.proofs.Steps.{May, Allowed, step, Each}
-use Rattle.zre_journal.proofs.Viewed.{IsShortView, blank-short, first-short, later-short}
+use Rattle.zre_journal.proofs.NumberedLists.{All-append, All-without}
+use Rattle.zre_journal.proofs.WhenMarksCome.{May, Allowed, step, Each}
+use Rattle.zre_journal.proofs.ViewOctets.{IsShortView, blank-short, first-short, later-short}
 
 -- what is put and not sent, what is told, and the node's own groups are within their limits
 pub record HasRoom (g : Config) (H : List Mark) : Type 0 where

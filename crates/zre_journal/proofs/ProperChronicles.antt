@@ -6,9 +6,9 @@ use Rattle.zre_journal.specs.Chronicle.{Mark, Comes, after}
 use Rattle.zre_journal.specs.Happens.{has_stopped, marks, with_entry, chronicle_after}
 use Rattle.zre_journal.specs.Events.{chronicle}
 use Rattle.zre_journal.specs.Proper.{IsProper}
-use Rattle.zre_journal.proofs.Steps.{May, Allowed, step, choice}
-use Rattle.zre_journal.proofs.Silent.{Comes-proper}
-use Rattle.zre_journal.proofs.Says.{input_allowed}
+use Rattle.zre_journal.proofs.WhenMarksCome.{May, Allowed, step, choice}
+use Rattle.zre_journal.proofs.ProperPeers.{Comes-proper}
+use Rattle.zre_journal.proofs.SaidOnConnections.{input_allowed}
 
 pub empty : IsProper []
 empty = record {

@@ -13,11 +13,11 @@ use Rattle.zre_journal.specs.Peers.{Life, lives, life, life_of, other_lives}
 use Rattle.zre_journal.specs.Events.{chronicle}
 use Rattle.zre_journal.specs.Proper.{IsProper}
 use Rattle.zre_journal.specs.Laws.{AreFew}
-use Rattle.zre_journal.proofs.Always.{always}
+use Rattle.zre_journal.proofs.ProperChronicles.{always}
 use Rattle.zre_journal.proofs.Known.{same_id, life_stays}
-use Rattle.zre_journal.proofs.Listed.{eqb-comm, found_before}
-use Rattle.zre_journal.proofs.Steps.{May, step}
-use Rattle.zre_journal.proofs.Silent.{known_lives}
+use Rattle.zre_journal.proofs.NumberedLists.{eqb-comm, found_before}
+use Rattle.zre_journal.proofs.WhenMarksCome.{May, step}
+use Rattle.zre_journal.proofs.ProperPeers.{known_lives}
 use Rattle.std.proofs.lemmas.List.{length-append}
 
 -- ---- lists

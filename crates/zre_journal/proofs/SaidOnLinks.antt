@@ -25,8 +25,8 @@ use Rattle.zre_journal.proofs.Introduction.{small}
 use Rattle.zre_journal.proofs.Lines.{bodies_on, are_bodies}
 use Rattle.zre_journal.proofs.Sendable.{AreSent, are_sent, each_readable}
 use Rattle.zre_journal.proofs.Speaking.{Spoke, both_of}
-use Rattle.zre_journal.proofs.Truth.{told, view_told}
-use Rattle.zre_journal.proofs.Viewed.{fewer}
+use Rattle.zre_journal.proofs.TrueOnLink.{told, view_told}
+use Rattle.zre_journal.proofs.ViewOctets.{fewer}
 
 -- ---- numbers
 

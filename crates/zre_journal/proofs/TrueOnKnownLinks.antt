@@ -16,15 +16,15 @@ use Rattle.zre_journal.specs.Pushes.{push_all, birth}
 use Rattle.zre_journal.specs.Happens.{has_stopped, with_entry, chronicle_after, marks}
 use Rattle.zre_journal.specs.Commands.{has_group}
 use Rattle.zre_journal.specs.Truth.{TellsTruth, only_begins_with_hello}
-use Rattle.zre_journal.proofs.Always.{empty, marks_allowed}
-use Rattle.zre_journal.proofs.Joined.{after-append}
+use Rattle.zre_journal.proofs.ProperChronicles.{empty, marks_allowed}
+use Rattle.zre_journal.proofs.JoinedEntries.{after-append}
 use Rattle.zre_journal.proofs.Lines.{are_bodies}
-use Rattle.zre_journal.proofs.Steps.{steps, choice}
-use Rattle.zre_journal.proofs.Truth.{told, once_more, once_less, apart_of, view_told, Truth, plain_step, plain_steps, born, changes}
-use Rattle.zre_journal.proofs.Silent.{Comes-proper}
-use Rattle.zre_journal.proofs.Brought.{Ground, allowed, plain}
-use Rattle.zre_journal.proofs.Brings.{Outcome, plainly, birth_of, start_of, joining, leaving, then, all_brought}
-use Rattle.zre_journal.proofs.Says.{outcome}
+use Rattle.zre_journal.proofs.WhenMarksCome.{steps, choice}
+use Rattle.zre_journal.proofs.TrueOnLink.{told, once_more, once_less, apart_of, view_told, Truth, plain_step, plain_steps, born, changes}
+use Rattle.zre_journal.proofs.ProperPeers.{Comes-proper}
+use Rattle.zre_journal.proofs.EachMarkOfEntries.{Ground, allowed, plain}
+use Rattle.zre_journal.proofs.MarksOfEntries.{Outcome, plainly, birth_of, start_of, joining, leaving, then, all_brought}
+use Rattle.zre_journal.proofs.SaidOnConnections.{outcome}
 
 module _ (g : Config) where
   -- ---- one entry

@@ -13,10 +13,10 @@ use Rattle.zre_journal.specs.Config.{CanBe}
 use Rattle.zre_peer.specs.Views.{after as reading}
 use Rattle.zre_peer.specs.declared.view.View.{View}
 use Rattle.zre_journal.proofs.Fields.{hello_octets}
-use Rattle.zre_journal.proofs.Steps.{May, Allowed, step, Each, each_map}
-use Rattle.zre_journal.proofs.Room.{HasRoom, Fits, AllFit, room-more}
-use Rattle.zre_journal.proofs.Sound.{Sound, AreSound, IsOther, AreOthers, others_more}
-use Rattle.zre_journal.proofs.Quiet.{Quiet, AreQuiet}
+use Rattle.zre_journal.proofs.WhenMarksCome.{May, Allowed, step, Each, each_map}
+use Rattle.zre_journal.proofs.WithinLimits.{HasRoom, Fits, AllFit, room-more}
+use Rattle.zre_journal.proofs.SoundMarks.{Sound, AreSound, IsOther, AreOthers, others_more}
+use Rattle.zre_journal.proofs.HeardUnchanged.{Quiet, AreQuiet}
 
 -- which connections something is said on, and whether the node stops
 pub record Ground : Type 0 where

@@ -36,8 +36,8 @@ use Rattle.zre_journal.specs.Links.{groups, status, line, is_linked, replies, ne
 use Rattle.zre_journal.specs.Peers.{Life, lives, life, life_of, is_entered, counted}
 use Rattle.zre_journal.specs.Pushes.{push, push_all}
 use Rattle.zre_journal.specs.Ticks.{is_silent, is_evasive, is_stale, at_tick}
-use Rattle.zre_journal.proofs.Listed.{All-join}
-use Rattle.zre_journal.proofs.Steps.{choice}
+use Rattle.zre_journal.proofs.NumberedLists.{All-join}
+use Rattle.zre_journal.proofs.WhenMarksCome.{choice}
 use Rattle.zre_journal.proofs.Ticking.{E, F, C}
 
 -- whether an entry is a tick, which connection it has octets of, and whether it says that octets of a link went out

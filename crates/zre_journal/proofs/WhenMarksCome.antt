@@ -23,9 +23,9 @@ use Rattle.zre_journal.specs.Links.{line, unsent}
 use Rattle.zre_journal.specs.Pushes.{push}
 use Rattle.zre_journal.specs.Peers.{Life, lives, life_of, life, births, runner, counted}
 use Rattle.zre_journal.specs.Proper.{IsProper}
-use Rattle.zre_journal.proofs.Listed.{some_is, All-join}
-use Rattle.zre_journal.proofs.Kept.{Opens-proper, TurnsAway-proper, Shakes-proper, Starts-proper, Counts-proper, Ignores-proper, Closes-proper, IsShut-proper, ClosesAtStop-proper, born-proper, Ends-proper}
-use Rattle.zre_journal.proofs.Silent.{known_lives, Comes-proper, Greets-proper, AnswersPing-proper, HearsBeacon-proper, IsEvasive-proper, Puts-proper, PutsPong-proper, Links-proper, Sends-proper, Joins-proper, Leaves-proper, Refuses-proper, SendsBeacon-proper, Stops-proper}
+use Rattle.zre_journal.proofs.NumberedLists.{some_is, All-join}
+use Rattle.zre_journal.proofs.ProperKept.{Opens-proper, TurnsAway-proper, Shakes-proper, Starts-proper, Counts-proper, Ignores-proper, Closes-proper, IsShut-proper, ClosesAtStop-proper, born-proper, Ends-proper}
+use Rattle.zre_journal.proofs.ProperPeers.{known_lives, Comes-proper, Greets-proper, AnswersPing-proper, HearsBeacon-proper, IsEvasive-proper, Puts-proper, PutsPong-proper, Links-proper, Sends-proper, Joins-proper, Leaves-proper, Refuses-proper, SendsBeacon-proper, Stops-proper}
 
 -- a waiting connection, which is open and has started nothing, begins to run a known peer that nothing has run, its own, by a first message
 pub record MayStart (c l : ℕ) (m : Message) (H : List Mark) : Type 0 where

@@ -37,15 +37,15 @@ use Rattle.zre_journal.specs.Peers.{Life, lives, life, life_of, births, counted}
 use Rattle.zre_journal.specs.Proper.{IsProper}
 use Rattle.zre_journal.specs.Pushes.{push}
 use Rattle.zre_journal.proofs.Isolation.{identity_kept, left_alone, itself_kept, IsOf, each_place}
-use Rattle.zre_journal.proofs.Joined.{after-append}
+use Rattle.zre_journal.proofs.JoinedEntries.{after-append}
 use Rattle.zre_journal.proofs.Known.{known_of, same_id, id_of, newborn_known}
-use Rattle.zre_journal.proofs.Listed.{eqb-comm, found_passes, some_is, any_left, none_any}
-use Rattle.zre_journal.proofs.Says.{input_allowed}
+use Rattle.zre_journal.proofs.NumberedLists.{eqb-comm, found_passes, some_is, any_left, none_any}
+use Rattle.zre_journal.proofs.SaidOnConnections.{input_allowed}
 use Rattle.zre_journal.proofs.Sayings.{MaySay, newly_fine}
-use Rattle.zre_journal.proofs.Silent.{has_started, run_is}
-use Rattle.zre_journal.proofs.Steps.{Each, Allowed, both, choice}
-use Rattle.zre_journal.proofs.Always.{comes_proper}
-use Rattle.zre_journal.proofs.Spared.{Itself}
+use Rattle.zre_journal.proofs.ProperPeers.{has_started, run_is}
+use Rattle.zre_journal.proofs.WhenMarksCome.{Each, Allowed, both, choice}
+use Rattle.zre_journal.proofs.ProperChronicles.{comes_proper}
+use Rattle.zre_journal.proofs.SparedPeers.{Itself}
 
 module _ (g : Config) (c : ℕ) (who : Option PeerId) where
   abbrev Done : List Mark → List Mark → Type 0
