@@ -14,6 +14,7 @@ use Rattle.zre_zmtp.specs.declared.front.Front.{Front}
 use Rattle.zre_zmtp.specs.declared.fault.ZmtpFault.{ZmtpFault}
 use Rattle.zre_zmtp.specs.declared.want.Want.TheVariants.{Any}
 use Rattle.zre_zmtp.specs.declared.item.Item.{Item}
+use Rattle.zre_zmtp.proofs.Cuts.{cases_Option}
 use Rattle.zre_zmtp.proofs.Feeding.{is_over as stays_faulty}
 use Rattle.zre_commands.specs.declared.follow.follower.Follower.{Follower}
 use Rattle.zre_commands.specs.follow.Follow.{follow, over, text, is_stopped}
@@ -108,22 +109,18 @@ fault_fed f o x out bad h e there =
       record { added = []; longer = ap (λ ms. lines (events_after (peer_of f) [] ms)) same ∙ sym (append-nil (text (peer_of f) o)); appended = sym (append-nil out) },
     )
 
-cases_fault : (x : Option ZmtpFault) → (is_some x ≡ false) ⊎ ((bad : ZmtpFault) × (x ≡ Some bad))
-cases_fault None = inl refl
-cases_fault (Some bad) = inr (bad, refl)
-
 -- what goes on no more stays as it is
 ended : (f : Follower) (o x out : List ℕ) → Fed f o → GoesOn false f → Fed f (o ++ x) × Grows (follow (peer_of f)) o x out out
 ended f o x out h no =
     elim (cases_Bool (is_spent f.run)) [
       | inl spent ↦ (over_fed f o x spent h, over_grows f o x out spent h)
-      | inr running ↦ elim (cases_fault f.fault) [
+      | inr running ↦ elim (cases_Option f.fault) [
         | inr there ↦ fault_fed f o x out there.0 h running there.1
-        | inl fine ↦ elim no [
+        | inl none ↦ elim no [
           | inl spent ↦ absurd (true≢false (sym spent ∙ running))
           | inr others ↦ elim others [
-            | inl spent ↦ absurd (true≢false (sym spent ∙ (going_reads f o running h (not_stopped f o h running fine)).unspent))
-            | inr there ↦ absurd (true≢false (sym there ∙ fine))
+            | inl spent ↦ absurd (true≢false (sym spent ∙ (going_reads f o running h (not_stopped f o h running (ap is_some none))).unspent))
+            | inr there ↦ absurd (true≢false (sym there ∙ ap is_some none))
           ]
         ]
       ]

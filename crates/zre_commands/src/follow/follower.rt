@@ -49,7 +49,16 @@ impl Follower {
     fn goes_on(&self) -> bool
         ensures { GoesOn result self.now }
     {
-        !self.run.spent() && !self.reader.spent() && self.fault.is_none()
+        if self.run.spent() {
+            return false;
+        }
+        if self.reader.spent() {
+            return false;
+        }
+        if self.fault.is_some() {
+            return false;
+        }
+        true
     }
 
     // Takes octets from the front of these, and appends the text that they add: a message that lies there whole is read
@@ -97,7 +106,10 @@ impl Machine for Follower {
             return Ok(Going::Stop);
         }
         let mut rest = piece;
-        while !rest.is_empty() && self.goes_on() {
+        while !rest.is_empty() {
+            if !self.goes_on() {
+                return Ok(going_after(&self.fault, self.run.spent()));
+            }
             let len = self.feed_front(rest, out)?;
             let (_, later) = rest.split_at(len);
             rest = later;

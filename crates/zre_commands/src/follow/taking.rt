@@ -106,10 +106,10 @@ fn take_copied(
     requires { is_spent run.old ≡ false }
     ensures { Takes result run.old run.new (meant_by (bodies_of front.now)) out.old out.new }
 {
-    let Ok(frames) = copied(alloc, front) else {
-        return Err(OutOfMemory);
-    };
-    take_whole(alloc, &frames, run, out)
+    match copied(alloc, front) {
+        Ok(frames) => take_whole(alloc, &frames, run, out),
+        Err(OutOfMemory) => Err(OutOfMemory),
+    }
 }
 
 /// Takes the message of one or two frames, if they mean one. Says whether the run goes on.

@@ -46,7 +46,8 @@ fn push_read(out: &mut Text, read: Result<Message, ReadFault>) {
 fn len_of(content: &LentContent<'_>) -> u64 {
     match content {
         LentContent::Frames(frames) => frames.len() as u64,
-        LentContent::One(frame) => u64::from(frame.is_some()),
+        LentContent::One(Some(_)) => 1,
+        LentContent::One(None) => 0,
     }
 }
 
