@@ -1,10 +1,12 @@
 //! The texts of what messages mean.
 
-ghost use Rattle.std.specs.Prelude.{◌≡◌, ◌++◌, OnOk};
+ghost use Rattle.std.specs.Prelude.{◌≡◌, ◌++◌, Ok, OnOk};
+ghost use Rattle.zre_msg.specs.Lent.{message_of};
 ghost use Rattle.zre_commands.specs.show.Lines.{head_text, place_text, sender_text, whisper_text, shout_text};
-ghost use Rattle.zre_commands.specs.show.Lines.{change_text, other_text, body_text, why_text, bad_text};
+ghost use Rattle.zre_commands.specs.show.Lines.{change_text, other_text, body_text, meaning_text, why_text};
+ghost use Rattle.zre_commands.specs.show.Lines.{bad_text};
 
-use zre_msg::{Bad, BadWhy, Body};
+use zre_msg::{Bad, BadWhy, Body, LentBody, LentMessage};
 use zre_values::{
     Frames, Octets, OutOfMemory, Pairs, push_decimal, push_quoted, push_quoted_frames,
     push_quoted_list, push_quoted_pairs,
@@ -44,12 +46,7 @@ fn push_place(
     push_decimal(out, u64::from(status))
 }
 
-/// Appends the text of a WHISPER. After an error a front of it may stand there, as after every call of this module.
-pub(crate) fn push_whisper(
-    out: &mut Octets,
-    sequence: u16,
-    content: &[Octets],
-) -> Result<(), OutOfMemory>
+fn push_whisper(out: &mut Octets, sequence: u16, content: &[Octets]) -> Result<(), OutOfMemory>
     ensures { OnOk result (out.new ≡ out.old ++ whisper_text sequence content.now) }
 {
     push_head(out, b"WHISPER", sequence)?;
@@ -57,28 +54,27 @@ pub(crate) fn push_whisper(
     push_quoted_list(out, content)
 }
 
-/// Appends the text of a SHOUT.
-pub(crate) fn push_shout(
+fn push_shout(
     out: &mut Octets,
     sequence: u16,
-    group: &Octets,
+    group: &[u8],
     content: &[Octets],
 ) -> Result<(), OutOfMemory>
     ensures { OnOk result (out.new ≡ out.old ++ shout_text sequence group.now content.now) }
 {
     push_head(out, b"SHOUT", sequence)?;
     out.push(b' ')?;
-    push_quoted(out, group.as_slice())?;
+    push_quoted(out, group)?;
     out.push(b' ')?;
     push_quoted_list(out, content)
 }
 
 // The group and the status of a change, after the head.
-fn push_change(out: &mut Octets, group: &Octets, status: u8) -> Result<(), OutOfMemory>
+fn push_change(out: &mut Octets, group: &[u8], status: u8) -> Result<(), OutOfMemory>
     ensures { OnOk result (out.new ≡ out.old ++ change_text group.now status) }
 {
     out.push(b' ')?;
-    push_quoted(out, group.as_slice())?;
+    push_quoted(out, group)?;
     out.push(b' ')?;
     push_decimal(out, u64::from(status))
 }
@@ -89,6 +85,29 @@ fn push_other(out: &mut Octets, sequence: u16, number: u8) -> Result<(), OutOfMe
     push_head(out, b"OTHER", sequence)?;
     out.push(b' ')?;
     push_decimal(out, u64::from(number))
+}
+
+/// Appends the text of a message that lies in its frames. After an error a front of it may stand there, as after every
+/// call of this module.
+pub(crate) fn push_lent(out: &mut Octets, lent: &LentMessage<'_>) -> Result<(), OutOfMemory>
+    ensures { OnOk result (out.new ≡ out.old ++ meaning_text (Ok (message_of lent.now))) }
+{
+    let sequence = lent.sequence;
+    match lent.command {
+        LentBody::Whisper => push_whisper(out, sequence, lent.content),
+        LentBody::Shout { group } => push_shout(out, sequence, group, lent.content),
+        LentBody::Join { group, status } => {
+            push_head(out, b"JOIN", sequence)?;
+            push_change(out, group, status)
+        }
+        LentBody::Leave { group, status } => {
+            push_head(out, b"LEAVE", sequence)?;
+            push_change(out, group, status)
+        }
+        LentBody::Ping => push_head(out, b"PING", sequence),
+        LentBody::PingOk => push_head(out, b"PING-OK", sequence),
+        LentBody::Other { number, .. } => push_other(out, sequence, number),
+    }
 }
 
 /// Appends the text of a message.
@@ -108,14 +127,19 @@ pub(crate) fn push_body(out: &mut Octets, sequence: u16, body: &Body) -> Result<
             push_sender(out, name, headers)
         }
         Body::Whisper { content } => push_whisper(out, sequence, content.as_slice()),
-        Body::Shout { group, content } => push_shout(out, sequence, group, content.as_slice()),
+        Body::Shout { group, content } => push_shout(
+            out,
+            sequence,
+            group.as_slice(),
+            content.as_slice(),
+        ),
         Body::Join { group, status } => {
             push_head(out, b"JOIN", sequence)?;
-            push_change(out, group, *status)
+            push_change(out, group.as_slice(), *status)
         }
         Body::Leave { group, status } => {
             push_head(out, b"LEAVE", sequence)?;
-            push_change(out, group, *status)
+            push_change(out, group.as_slice(), *status)
         }
         Body::Ping => push_head(out, b"PING", sequence),
         Body::PingOk => push_head(out, b"PING-OK", sequence),
