@@ -8,8 +8,10 @@ use Rattle.zre_journal.specs.Chronicle.{Mark, Comes, after}
 use Rattle.zre_journal.specs.Done.{acts_at}
 use Rattle.zre_journal.specs.Events.{chronicle, events, acts, events_at}
 use Rattle.zre_journal.specs.Happens.{marks, has_stopped}
+use Rattle.zre_journal.specs.Ledger.{KeepsLedgers}
 use Rattle.zre_journal.specs.Told.{told}
 use Rattle.zre_journal.proofs.Joined.{continues}
+use Rattle.zre_journal.proofs.Windows.{keeps_ledgers}
 use Rattle.zre_node.specs.declared.effects.Effects.{Effects}
 use Rattle.zre_node.specs.declared.effects.Step.{Step}
 use Rattle.zre_node.specs.declared.node.Node.{Node}
@@ -50,3 +52,7 @@ finished g J e n m s a kept given ev ac w =
 -- a node that begins to take an entry stands as it did
 pub begun : (g : Config) (H : List Mark) (n b : Node) → b ≡ beginning n → StandsIn g H n.tables → StandsIn g H b.tables
 begun g H n b is s = subst (λ (m : Node). StandsIn g H m.tables) (sym is) s
+
+-- a step keeps the ledgers of its journal
+pub keeps_its_ledgers : (g : Config) (J : List Entry) (e : Entry) (n : Node) (s : Step) → IsStep g J e n s → KeepsLedgers g (J ++ e ∷ []) (events g J ++ s.events)
+keeps_its_ledgers g J e n s w = subst (KeepsLedgers g (J ++ e ∷ [])) w.told (keeps_ledgers g (J ++ e ∷ []))

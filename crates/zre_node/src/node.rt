@@ -78,10 +78,12 @@ impl Node {
     /// repeated or reordered one ends its peer before anything later of it, and the next one is always counted, unless
     /// a limit of the view forbids it.
     pub fn step(&mut self, entry: Entry) -> Result<Step, OutOfMemory>
+        // What the journal has more with the entry, and its ledgers.
         ensures steps { (g : ConfigValue) (J : List EntryValue) → StandsFor g J self.old →
             IfOk result (λ s. IsStep g J entry self.new s) }
         ensures ledgers { (g : ConfigValue) (J : List EntryValue) → StandsFor g J self.old →
             IfOk result (λ s. KeepsLedgers g (J ++ entry ∷ []) (events g J ++ s.events)) }
+        // Without memory it is spent.
         ensures spent { IsTrue (is_spent self.new) ↔ IsErr result }
         ensures ended { IsTrue (is_spent self.old) → IsErr result }
     {
@@ -94,10 +96,12 @@ impl Node {
 
     /// The same, with what it tells and asks for in place of what stands in a step, whose lists serve again and again.
     pub fn step_into(&mut self, entry: Entry, step: &mut Step) -> Result<(), OutOfMemory>
+        // What the journal has more with the entry, and its ledgers.
         ensures steps { (g : ConfigValue) (J : List EntryValue) → StandsFor g J self.old →
             OnOk result (IsStep g J entry self.new step.new) }
         ensures ledgers { (g : ConfigValue) (J : List EntryValue) → StandsFor g J self.old →
             OnOk result (KeepsLedgers g (J ++ entry ∷ []) (events g J ++ step.new.events)) }
+        // Without memory it is spent.
         ensures spent { IsTrue (is_spent self.new) ↔ IsErr result }
         ensures ended { IsTrue (is_spent self.old) → IsErr result }
     {
@@ -111,10 +115,15 @@ impl Node {
         entry: Entry,
         steps: &mut Counter<L>,
     ) -> Result<Step, OutOfMemory>
+        // What the journal has more with the entry, and its ledgers.
         ensures steps { (g : ConfigValue) (J : List EntryValue) → StandsFor g J self.old →
             IfOk result (λ s. IsStep g J entry self.new s) }
+        ensures ledgers { (g : ConfigValue) (J : List EntryValue) → StandsFor g J self.old →
+            IfOk result (λ s. KeepsLedgers g (J ++ entry ∷ []) (events g J ++ s.events)) }
+        // Without memory it is spent.
         ensures spent { IsTrue (is_spent self.new) ↔ IsErr result }
         ensures ended { IsTrue (is_spent self.old) → IsErr result }
+        // Looks are paid for by the octets of the entry.
         ensures looks { StepsLooks self.old entry steps.old steps.new result }
         ensures none { IsTrue (is_spent self.old) → steps.new ≡ steps.old }
     {
@@ -132,10 +141,15 @@ impl Node {
         step: &mut Step,
         steps: &mut Counter<L>,
     ) -> Result<(), OutOfMemory>
+        // What the journal has more with the entry, and its ledgers.
         ensures steps { (g : ConfigValue) (J : List EntryValue) → StandsFor g J self.old →
             OnOk result (IsStep g J entry self.new step.new) }
+        ensures ledgers { (g : ConfigValue) (J : List EntryValue) → StandsFor g J self.old →
+            OnOk result (KeepsLedgers g (J ++ entry ∷ []) (events g J ++ step.new.events)) }
+        // Without memory it is spent.
         ensures spent { IsTrue (is_spent self.new) ↔ IsErr result }
         ensures ended { IsTrue (is_spent self.old) → IsErr result }
+        // Looks are paid for by the octets of the entry.
         ensures looks { StepsLooks self.old entry steps.old steps.new result }
         ensures none { IsTrue (is_spent self.old) → steps.new ≡ steps.old }
     {
@@ -160,10 +174,13 @@ impl Node {
         step: &mut Step,
         steps: &mut Counter<L>,
     ) -> Result<(), OutOfMemory>
+        // What the journal has more with the entry.
         ensures steps { (g : ConfigValue) (J : List EntryValue) → StandsFor g J self.old →
             OnOk result (IsStep g J (piece_entry piece.now.at piece.now.from piece.now.bytes.now) self.new step.new) }
+        // Without memory it is spent.
         ensures spent { IsTrue (is_spent self.new) ↔ IsErr result }
         ensures ended { IsTrue (is_spent self.old) → IsErr result }
+        // Looks are paid for by the octets of the entry.
         ensures looks { StepsLooks self.old (piece_entry piece.now.at piece.now.from piece.now.bytes.now)
             steps.old steps.new result }
         ensures none { IsTrue (is_spent self.old) → steps.new ≡ steps.old }
@@ -186,11 +203,15 @@ impl Node {
         step: &mut Step,
         steps: &mut Counter<L>,
     ) -> Result<(), OutOfMemory>
+        // It is no piece.
         requires { is_piece entry.input ≡ false }
+        // What the journal has more with the entry.
         ensures steps { (g : ConfigValue) (J : List EntryValue) → StandsFor g J self.old →
             OnOk result (IsStep g J entry self.new step.new) }
+        // Without memory it is spent.
         ensures spent { IsTrue (is_spent self.new) ↔ IsErr result }
         ensures ended { IsTrue (is_spent self.old) → IsErr result }
+        // Looks are paid for by the octets of the entry.
         ensures looks { StepsLooks self.old entry steps.old steps.new result }
         ensures none { IsTrue (is_spent self.old) → steps.new ≡ steps.old }
     {
@@ -239,10 +260,12 @@ impl Node {
         bytes: &[u8],
         step: &mut Step,
     ) -> Result<(), OutOfMemory>
+        // What the journal has more with the entry, and its ledgers.
         ensures steps { (g : ConfigValue) (J : List EntryValue) → StandsFor g J self.old →
             OnOk result (IsStep g J (piece_entry at conn bytes.now) self.new step.new) }
         ensures ledgers { (g : ConfigValue) (J : List EntryValue) → StandsFor g J self.old →
             OnOk result (KeepsLedgers g (J ++ piece_entry at conn bytes.now ∷ []) (events g J ++ step.new.events)) }
+        // Without memory it is spent.
         ensures spent { IsTrue (is_spent self.new) ↔ IsErr result }
         ensures ended { IsTrue (is_spent self.old) → IsErr result }
     {
@@ -261,9 +284,12 @@ impl Node {
         step: &mut Step,
         blank: Blank,
     ) -> Result<(), OutOfMemory>
+        // A count can begin.
         requires blank { IsOpenTo L.name L.parts blank.name blank.parts }
+        // What the journal has more with the entry.
         ensures steps { (g : ConfigValue) (J : List EntryValue) → StandsFor g J self.old →
             OnOk result (IsStep g J (piece_entry piece.now.at piece.now.from piece.now.bytes.now) self.new step.new) }
+        // Without memory it is spent.
         ensures spent { IsTrue (is_spent self.new) ↔ IsErr result }
         ensures ended { IsTrue (is_spent self.old) → IsErr result }
     {
@@ -278,9 +304,12 @@ impl Node {
         step: &mut Step,
         blank: Blank,
     ) -> Result<(), OutOfMemory>
+        // A count can begin.
         requires blank { IsOpenTo L.name L.parts blank.name blank.parts }
+        // What the journal has more with the entry.
         ensures steps { (g : ConfigValue) (J : List EntryValue) → StandsFor g J self.old →
             OnOk result (IsStep g J entry self.new step.new) }
+        // Without memory it is spent.
         ensures spent { IsTrue (is_spent self.new) ↔ IsErr result }
         ensures ended { IsTrue (is_spent self.old) → IsErr result }
     {
